@@ -1,2 +1,5 @@
 pub mod Word
 pub mod Record
+pub mod Hash
+pub mod HashRun
+pub mod Running
