@@ -3,7 +3,7 @@
 ghost use Rattle.std.specs.Prelude.{◌≡◌, ℕ, ◌<◌, ◌≤◌, ◌==◌, ◌↔◌, IsTrue, IfOk, IfErr, Some, None};
 ghost use Rattle.tdb_words.specs.Word.{word, bytes_of_word};
 ghost use Rattle.tdb_words.specs.Hash.{h_of};
-ghost use Rattle.tdb_words.specs.Header.{food, order_named, hash_named, header_at, header_fault, HeaderOk, locks_of, header_with, new_header};
+ghost use Rattle.tdb_words.specs.Header.{food, order_named, hash_named, header_at, header_fault, HeaderOk, fault_text, locks_of, header_with, new_header};
 
 use crate::hash::{HashKind, hash_of};
 use crate::record::USED;
@@ -45,28 +45,44 @@ pub struct Header {
 #[derive(Clone, Copy, Debug, PartialEq, Eq, Error)]
 pub enum HeaderFault {
     /// The first ten bytes are another text.
-    #[error("NotTdb")]
+    #[error("{}", self.as_str())]
     NotTdb,
 
     /// The version word is another in both byte orders.
-    #[error("Version")]
+    #[error("{}", self.as_str())]
     Version,
 
     /// The locks word is that of an old format.
-    #[error("OldLocks")]
+    #[error("{}", self.as_str())]
     OldLocks,
 
     /// The file asks for features that aren't known, as mutexes.
-    #[error("Mutexes")]
+    #[error("{}", self.as_str())]
     Mutexes,
 
     /// The two hash words are those of neither hash.
-    #[error("UnknownHash")]
+    #[error("{}", self.as_str())]
     UnknownHash,
 
     /// The file has no chain.
-    #[error("NoBuckets")]
+    #[error("{}", self.as_str())]
     NoBuckets,
+}
+
+impl HeaderFault {
+    /// The word that is printed.
+    pub fn as_str(self) -> &'static str
+        ensures { result.now ≡ fault_text self }
+    {
+        match self {
+            HeaderFault::NotTdb => "NotTdb",
+            HeaderFault::Version => "Version",
+            HeaderFault::OldLocks => "OldLocks",
+            HeaderFault::Mutexes => "Mutexes",
+            HeaderFault::UnknownHash => "UnknownHash",
+            HeaderFault::NoBuckets => "NoBuckets",
+        }
+    }
 }
 
 /// The byte order in which the version word is right.
