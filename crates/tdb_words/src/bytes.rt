@@ -34,7 +34,7 @@ impl Bytes {
         }
     }
 
-    /// A copy of `from`. Fails only for want of memory.
+    /// A copy of `from`, at the cost of its length. Fails only for want of memory.
     pub fn copy(alloc: Global, from: &[u8]) -> Result<Self, AllocError>
         ensures { IfOk result (λ b. b ≡ from.now) }
     {
@@ -52,18 +52,21 @@ impl Bytes {
         Ok(())
     }
 
+    /// The bytes.
     pub fn as_slice(&self) -> &[u8]
         ensures { result.now ≡ self.now }
     {
         self.items.as_slice()
     }
 
+    /// How many bytes there are.
     pub fn len(&self) -> usize
         ensures { result ≡ length self.now }
     {
         self.items.len()
     }
 
+    /// Whether there is no byte.
     pub fn is_empty(&self) -> bool
         ensures { IsTrue result ↔ (self.now ≡ []) }
     {
@@ -79,6 +82,7 @@ impl Bytes {
     }
 }
 
+// Takes no memory.
 impl From<Vec<u8>> for Bytes {
     ghost from_gives = { λ v b. b ≡ v.items };
 

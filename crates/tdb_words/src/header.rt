@@ -125,7 +125,8 @@ fn kind_of(order: Order, first: u32, second: u32) -> Option<HashKind>
     None
 }
 
-/// What the first 168 bytes of a file say, or the first of the six faults that they have.
+/// What the first 168 bytes of a file say, or the first of the six faults that they have. The two
+/// hash words are computed anew in each call.
 #[tactic(auto, unfolding(crate::specs::Header::header_fault, crate::specs::Header::header_order, crate::specs::Header::header_hash))]
 pub fn header_of(bytes: &[u8; 168]) -> Result<Header, HeaderFault>
     ensures header { IfOk result (λ h. HeaderOk bytes.now × (h ≡ header_at bytes.now)) }
@@ -184,7 +185,7 @@ fn header_with(o: Order, hash_size: u32, locks: u32, first: u32, second: u32) ->
     bytes
 }
 
-/// The first 168 bytes of a new file.
+/// The first 168 bytes of a new file, with no undo area and the sequence number 0.
 pub fn header_bytes(hash_size: u32, o: Order, h: HashKind) -> [u8; 168]
     requires { 0 < hash_size }
     ensures bytes { result ≡ new_header hash_size o h }

@@ -40,7 +40,7 @@ impl Mixer {
         }
     }
 
-    /// A line of `mix`. The words change places, so that the next line is on the same ones.
+    /// A line of `mix`. The words then change places, so that the next line begins with `a` again.
     #[inline]
     fn turn(self, by: u32) -> Self
         ensures { result ≡ turned self by }
@@ -107,7 +107,8 @@ impl Mixer {
     }
 }
 
-/// Jenkins' hash of a key that comes in pieces. At most twelve bytes wait: whether they are the last isn't known before more come.
+/// Jenkins' hash of a key that comes in pieces. Up to twelve bytes wait, since whether they are the
+/// last isn't known before more come.
 #[derive(Clone, Copy, Debug)]
 pub(crate) struct JenkinsRun {
     mixer: Mixer,
@@ -136,7 +137,8 @@ impl JenkinsRun {
         requires { self.old.held + length bytes.now ≤ 12 }
         ensures mixer { self.new.mixer ≡ self.old.mixer }
         ensures held { self.new.held ≡ self.old.held + length bytes.now }
-        ensures waiting { take self.new.held self.new.waiting ≡ take self.old.held self.old.waiting ++ bytes.now }
+        ensures waiting { take self.new.held self.new.waiting
+            ≡ take self.old.held self.old.waiting ++ bytes.now }
     {
         let end = self.held + bytes.len();
         self.waiting[self.held..end].copy_from_slice(bytes);
@@ -145,7 +147,8 @@ impl JenkinsRun {
 
     /// Adds the next bytes of the key.
     pub(crate) fn feed(&mut self, piece: &[u8])
-        ensures { (n : ℕ) (bytes : List ℕ) → JenkinsHolds self.old.mixer self.old.waiting self.old.held n bytes
+        ensures { (n : ℕ) (bytes : List ℕ)
+            → JenkinsHolds self.old.mixer self.old.waiting self.old.held n bytes
             → JenkinsHolds self.new.mixer self.new.waiting self.new.held n (bytes ++ piece.now) }
     {
         let room = 12 - self.held;
@@ -163,7 +166,8 @@ impl JenkinsRun {
 
     /// The hash of the bytes so far, if they are as many as was said at the start.
     pub(crate) fn end(self) -> u32
-        ensures { (bytes : List ℕ) → JenkinsHolds self.mixer self.waiting self.held (length bytes) bytes → result ≡ h_jenkins bytes }
+        ensures { (bytes : List ℕ) → JenkinsHolds self.mixer self.waiting self.held (length bytes) bytes
+            → result ≡ h_jenkins bytes }
     {
         if self.held == 0 {
             return self.mixer.c;

@@ -46,7 +46,8 @@ impl OldRun {
 
     /// The hash of the bytes so far, if they are as many as was said at the start.
     pub(crate) fn end(self) -> u32
-        ensures { (bytes : List ℕ) → OldHolds self.value self.shift (length bytes) bytes → result ≡ h_old bytes }
+        ensures { (bytes : List ℕ) → OldHolds self.value self.shift (length bytes) bytes
+            → result ≡ h_old bytes }
     {
         1_103_515_243_u32
             .wrapping_mul(self.value)

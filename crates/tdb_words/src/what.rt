@@ -7,7 +7,8 @@ use std::fmt;
 /// What is wrong with a file, as its check answers it.
 #[derive(Clone, Copy, Debug, PartialEq, Eq)]
 pub enum What {
-    /// The file ends within its header or the heads of its chains, or its length is no multiple of 4.
+    /// The file ends within its header or the heads of its chains, or its length isn't a multiple
+    /// of 4.
     Short,
 
     /// The header has a fault.
