@@ -1,0 +1,5 @@
+pub mod Conflict
+pub mod Cut
+pub mod LockTable
+pub mod Refusal
+pub mod Search
