@@ -1,9 +1,10 @@
 -- A table stays one when pieces shrink, when some go, and when two tables are put one after the other.
-use Rattle.std.proofs.Common.{◌≡◌, ◌≤◌, ◌<◌, ◌==◌, ◌&&◌, ◌++◌, ◌∷◌, [], All, AllPairs, Bool, List, None, Option, Some, if◌then◌else◌, nat_lt, min, max, refl, ℕ, arith, suc, zero}
+use Rattle.std.proofs.Common.{◌≡◌, ◌≤◌, ◌<◌, ◌==◌, ◌&&◌, ◌++◌, ◌∷◌, [], All, AllPairs, Bool, List, None, Option, Some, if◌then◌else◌, nat_lt, min, max, refl, take, drop, ◌+◌, ℕ, arith, suc, zero}
 use Rattle.std.proofs.lemmas.Bool.{and_parts, cond_both, eqb-true, ltb-true}
 use Rattle.std.specs.List.{filter_map, cons_option}
 use Rattle.std.specs.Option.{IfSome}
-use Rattle.std.proofs.lemmas.List.Elements.{All-nil, All-cons, All-head, All-tail, All-append, All-weaker}
+use Rattle.std.proofs.lemmas.List.Elements.{All-nil, All-cons, All-drop, All-head, All-tail, All-take, All-append, All-weaker}
+use Rattle.std.proofs.lemmas.List.{get_or-take, get_or-drop, length-take, length-drop}
 use Rattle.tdb_locks.specs.LockTable.{Follows, IsPiece, IsTable, before, from, part_before, part_from}
 use Rattle.tdb_locks.specs.declared.piece.Piece.{Piece}
 
@@ -168,3 +169,15 @@ IsTable-between n ps piece table =
       (All-append (Follows x) xs (n ∷ from n.owner n.end ps) (IsTable-follows x xs table_x)
         (All-cons (Follows x) n (from n.owner n.end ps) first (All-weaker (Follows n) (Follows x) (λ q. Follows-trans x n q piece first) (from n.owner n.end ps) above)))
       (all_below xs (IsTable-tail x xs table_x) (All-tail (λ q. Follows q n) x xs below) table_y above)
+
+pub IsTable-take : (i : ℕ) (ps : List Piece) → IsTable ps → IsTable (take i ps)
+IsTable-take i ps table = record {
+  pieces = All-take IsPiece i ps table.pieces;
+  sorted = λ j k d j<k k<n. rw (get_or-take i ps j d (omega (arith, length-take i ps)), get_or-take i ps k d (omega (arith, length-take i ps))) (table.sorted j k d j<k (omega (arith, length-take i ps)))
+}
+
+pub IsTable-drop : (i : ℕ) (ps : List Piece) → IsTable ps → IsTable (drop i ps)
+IsTable-drop i ps table = record {
+  pieces = All-drop IsPiece i ps table.pieces;
+  sorted = λ j k d j<k k<n. rw (get_or-drop i ps j d, get_or-drop i ps k d) (table.sorted (i + j) (i + k) d (omega arith) (omega (arith, length-drop i ps)))
+}

@@ -58,16 +58,11 @@ fn right_part(pieces: &[Piece], to: usize, owner: u32, byte: u64) -> Option<Piec
     requires split { IsSplitBy (starts_before owner byte) pieces.now to }
     ensures { from owner byte pieces.now ≡ option_to_list result ++ drop to pieces.now }
 {
-    if to == 0 {
-        return None;
-    }
-    let piece = pieces[to - 1];
-    if piece.owner == owner && byte < piece.end {
-        Some(Piece {
+    match pieces[..to].last() {
+        Some(piece) if piece.owner == owner && byte < piece.end => Some(Piece {
             start: byte,
-            ..piece
-        })
-    } else {
-        None
+            ..*piece
+        }),
+        _ => None,
     }
 }
