@@ -1,9 +1,10 @@
 -- What an owner holds in parts of tables.
-use Rattle.std.proofs.Common.{◌≡◌, ◌≢◌, ◌≤◌, ◌<◌, ◌+◌, ◌^◌, ◌++◌, ◌∷◌, ◌∙◌, [], Bool, List, None, Option, Some, false, true, ℕ, arith, refl, cond, ap, sym, inl, inr}
-use Rattle.std.specs.List.{filter_map, cons_option}
+use Rattle.std.proofs.Common.{◌≡◌, ◌≢◌, ◌≤◌, ◌<◌, ◌+◌, ◌^◌, ◌++◌, ◌∷◌, ◌∙◌, [], Bool, List, None, Option, Some, false, true, ℕ, arith, refl, cond, ap, sym, inl, inr, ◌==◌, not}
+use Rattle.std.specs.List.{cons_option, filter, filter_map}
 use Rattle.std.specs.Option.{option_to_list}
 use Rattle.std.proofs.lemmas.Bool.Decides.{nat_tests}
 use Rattle.std.proofs.lemmas.Bool.{cases_lt}
+use Rattle.tdb_locks.proofs.Tables.{filter-as_filter_map}
 use Rattle.tdb_locks.specs.LockTable.{ChangesRange, before, covers, from, held, part_before, part_from, with_piece, without}
 use Rattle.tdb_locks.specs.declared.kind.Kind.{Kind}
 use Rattle.tdb_locks.specs.declared.piece.Piece.{Piece}
@@ -114,9 +115,9 @@ module _ (old : List Piece) (owner start end : ℕ) (range : start < end) where
     below = λ byte less. rw (three mid owner byte, before-below byte less, middle.below byte less, from-below byte (omega arith)) (or_else-nil (held old owner byte));
     above = λ byte past. rw (three mid owner byte, before-past byte (omega arith), middle.above byte past, from-above byte past);
     others = λ other byte differs. elim (cases_lt other owner) [
-      inl less ↦ rw (three mid other byte, before-earlier other byte less, middle.others other byte differs, from-earlier other byte less) (or_else-nil (held old other byte))
-    | inr past ↦ rw (three mid other byte, before-later other byte (omega arith), middle.others other byte differs, from-later other byte (omega arith))
-    ]
+      | inl less ↦ rw (three mid other byte, before-earlier other byte less, middle.others other byte differs, from-earlier other byte less) (or_else-nil (held old other byte))
+      | inr past ↦ rw (three mid other byte, before-later other byte (omega arith), middle.others other byte differs, from-later other byte (omega arith))
+    ];
   }
 
   pub ChangesRange-without : ChangesRange old (without old owner start end) owner start end None
@@ -127,5 +128,18 @@ module _ (old : List Piece) (owner start end : ℕ) (range : start < end) where
     inside = λ byte low high. grind (arith, nat_tests);
     below = λ byte less. grind (arith, nat_tests);
     above = λ byte past. grind (arith, nat_tests);
-    others = λ other byte differs. grind (arith, nat_tests)
+    others = λ other byte differs. grind (arith, nat_tests);
   })
+
+-- what is held once an owner's pieces are gone
+left_out-none : (owner byte : ℕ) (p : Piece) → held (option_to_list (cond (not (p.owner == owner)) (Some p) None)) owner byte ≡ None
+left_out-none owner byte p = grind (arith, nat_tests)
+
+left_out-same : (owner other byte : ℕ) (p : Piece) → other ≢ owner → held (option_to_list (cond (not (p.owner == owner)) (Some p) None)) other byte ≡ held (p ∷ []) other byte
+left_out-same owner other byte p differs = grind (arith, nat_tests)
+
+pub held-dropped : (owner byte : ℕ) (ps : List Piece) → held (filter (λ p. not (p.owner == owner)) ps) owner byte ≡ None
+held-dropped owner byte ps = rw (filter-as_filter_map (λ p. not (p.owner == owner)) ps) (held-filter_map_none (λ p. cond (not (p.owner == owner)) (Some p) None) owner byte (left_out-none owner byte) ps)
+
+pub held-kept : (owner other byte : ℕ) (ps : List Piece) → other ≢ owner → held (filter (λ p. not (p.owner == owner)) ps) other byte ≡ held ps other byte
+held-kept owner other byte ps differs = rw (filter-as_filter_map (λ p. not (p.owner == owner)) ps) (held-filter_map_same (λ p. cond (not (p.owner == owner)) (Some p) None) other byte (λ p. left_out-same owner other byte p differs) ps)

@@ -18,27 +18,27 @@ pub record Splits (test : Piece → Bool) : Type 0 where
 
 pub IsPartitionedBy-table : (test : Piece → Bool) → Splits test → (ps : List Piece) → IsTable ps → IsPartitionedBy test ps
 IsPartitionedBy-table test splits ps table i j d i≤j j<n passes = elim (cases_lt i j) [
-    inl less ↦ splits.earlier (get_or ps i d) (get_or ps j d) (table.pieces i d (omega arith)) (table.pieces j d j<n) (table.sorted i j d less j<n) passes
+  | inl less ↦ splits.earlier (get_or ps i d) (get_or ps j d) (table.pieces i d (omega arith)) (table.pieces j d j<n) (table.sorted i j d less j<n) passes
   | inr more ↦ let same : i ≡ j = omega arith in rw same passes
-  ]
+]
 
 pub ends_by-splits : (owner byte : ℕ) → Splits (ends_by owner byte)
 ends_by-splits owner byte = record { earlier = λ p q piece_p piece_q follows passes. ends p q piece_q follows.owners follows.apart passes }
   where
-  ends : (p q : Piece) → IsPiece q → p.owner ≤ q.owner → (p.owner ≡ q.owner → p.end ≤ q.start) → ends_by owner byte q ≡ true → ends_by owner byte p ≡ true
-  ends p q piece owners apart passes = grind (arith, nat_tests)
+    ends : (p q : Piece) → IsPiece q → p.owner ≤ q.owner → (p.owner ≡ q.owner → p.end ≤ q.start) → ends_by owner byte q ≡ true → ends_by owner byte p ≡ true
+    ends p q piece owners apart passes = grind (arith, nat_tests)
 
 pub starts_before-splits : (owner byte : ℕ) → Splits (starts_before owner byte)
 starts_before-splits owner byte = record { earlier = λ p q piece_p piece_q follows passes. starts p q piece_p follows.owners follows.apart passes }
   where
-  starts : (p q : Piece) → IsPiece p → p.owner ≤ q.owner → (p.owner ≡ q.owner → p.end ≤ q.start) → starts_before owner byte q ≡ true → starts_before owner byte p ≡ true
-  starts p q piece owners apart passes = grind (arith, nat_tests)
+    starts : (p q : Piece) → IsPiece p → p.owner ≤ q.owner → (p.owner ≡ q.owner → p.end ≤ q.start) → starts_before owner byte q ≡ true → starts_before owner byte p ≡ true
+    starts p q piece owners apart passes = grind (arith, nat_tests)
 
 pub IsSplitBy-point : (test : Piece → Bool) (ps : List Piece) (i : ℕ) → i ≤ length ps → IsPartitionPoint (λ p. test p ≡ true) (λ p. test p ≡ false) ps i → IsSplitBy test ps i
 IsSplitBy-point test ps i within point = record {
   within = within;
   front = λ k d k<n. rw (get_or-take i ps k d (omega (arith, length-take i ps))) (point.0 k d (omega arith) (omega (arith, length-take i ps)));
-  back = λ k d k<n. rw (get_or-drop i ps k d) (point.1 (i + k) d (omega arith) (omega (arith, length-drop i ps)))
+  back = λ k d k<n. rw (get_or-drop i ps k d) (point.1 (i + k) d (omega arith) (omega (arith, length-drop i ps)));
 }
 
 -- a piece that ends by the byte is kept whole by a cut there
@@ -46,11 +46,11 @@ ends_by-kept : (o s : ℕ) (p : Piece) → IsPiece p → ends_by o s p ≡ true 
 ends_by-kept o s p piece ends =
     let same : p.owner ≡ o → min p.end s ≡ p.end = λ owned. grind (arith, nat_tests) in
     elim (cases_lt p.owner o) [
-      inl less ↦ rw (lt-ltb p.owner o less)
-    | inr more ↦
-        let owned : p.owner ≡ o = grind (arith, nat_tests) in
-        let starts : p.start < s = grind (arith, nat_tests) in
-        rw (le-ltb p.owner o more, eq-eqb p.owner o owned, lt-ltb p.start s starts, same owned)
+      | inl less ↦ rw (lt-ltb p.owner o less)
+      | inr more ↦
+          let owned : p.owner ≡ o = grind (arith, nat_tests) in
+          let starts : p.start < s = grind (arith, nat_tests) in
+          rw (le-ltb p.owner o more, eq-eqb p.owner o owned, lt-ltb p.start s starts, same owned)
     ]
 
 -- after a piece that goes past the byte nothing is left before it
@@ -61,11 +61,11 @@ starts_before-kept : (o e : ℕ) (p : Piece) → IsPiece p → starts_before o e
 starts_before-kept o e p piece later =
     let same : p.owner ≡ o → max p.start e ≡ p.start = λ owned. grind (arith, nat_tests) in
     elim (cases_lt o p.owner) [
-      inl more ↦ rw (lt-ltb o p.owner more)
-    | inr less ↦
-        let owned : p.owner ≡ o = grind (arith, nat_tests) in
-        let ends : e < p.end = grind (arith, nat_tests) in
-        rw (le-ltb o p.owner less, eq-eqb p.owner o owned, lt-ltb e p.end ends, same owned)
+      | inl more ↦ rw (lt-ltb o p.owner more)
+      | inr less ↦
+          let owned : p.owner ≡ o = grind (arith, nat_tests) in
+          let ends : e < p.end = grind (arith, nat_tests) in
+          rw (le-ltb o p.owner less, eq-eqb p.owner o owned, lt-ltb e p.end ends, same owned)
     ]
 
 starts_before-nothing : (o e : ℕ) (p q : Piece) → starts_before o e q ≡ true → Follows p q → part_from o e p ≡ None
@@ -127,12 +127,12 @@ module _ (o byte i : ℕ) (ps : List Piece) (table : IsTable ps) where
   before-split : IsSplitBy (ends_by o byte) ps i → before o byte ps ≡ take i ps ++ before o byte (drop i ps)
   before-split split =
       ap (before o byte) (sym (take-append-drop i ps)) ∙ (filter_map-append (part_before o byte) (take i ps) (drop i ps)
-        ∙ ap (λ xs. xs ++ before o byte (drop i ps)) (before-kept o byte (take i ps) (IsTable-take i ps table).pieces split.front))
+      ∙ ap (λ xs. xs ++ before o byte (drop i ps)) (before-kept o byte (take i ps) (IsTable-take i ps table).pieces split.front))
 
-  rest-of : (test : Piece → Bool) (p : Piece) → i < length ps → p ≡ get_or ps i p → drop i ps ≡ p ∷ drop (i + 1) ps
+  pub rest-of : (test : Piece → Bool) (p : Piece) → i < length ps → p ≡ get_or ps i p → drop i ps ≡ p ∷ drop (i + 1) ps
   rest-of test p inside is = drop_more ps i p inside ∙ ap (λ x. x ∷ drop (i + 1) ps) (sym is)
 
-  fails-at : (test : Piece → Bool) (p : Piece) → IsSplitBy test ps i → i < length ps → p ≡ get_or ps i p → test p ≡ false
+  pub fails-at : (test : Piece → Bool) (p : Piece) → IsSplitBy test ps i → i < length ps → p ≡ get_or ps i p → test p ≡ false
   fails-at test p split inside is = All-head (λ q. test q ≡ false) p (drop (i + 1) ps) (rw (rest-of test p inside is) at split.back)
 
   before-at : (p : Piece) → IsSplitBy (ends_by o byte) ps i → i < length ps → p ≡ get_or ps i p → before o byte ps ≡ take i ps ++ option_to_list (part_before o byte p)
@@ -154,7 +154,7 @@ module _ (o byte i : ℕ) (ps : List Piece) (table : IsTable ps) where
   from-split : IsSplitBy (starts_before o byte) ps i → from o byte ps ≡ from o byte (take i ps) ++ drop i ps
   from-split split =
       ap (from o byte) (sym (take-append-drop i ps)) ∙ (filter_map-append (part_from o byte) (take i ps) (drop i ps)
-        ∙ ap (λ xs. from o byte (take i ps) ++ xs) (from-kept o byte (drop i ps) (IsTable-drop i ps table).pieces split.back))
+      ∙ ap (λ xs. from o byte (take i ps) ++ xs) (from-kept o byte (drop i ps) (IsTable-drop i ps table).pieces split.back))
 
   passes-last : (test : Piece → Bool) (p : Piece) → IsSplitBy test ps i → 0 < length (take i ps) → p ≡ get_or (take i ps) (length (take i ps) - 1) p → test p ≡ true
   passes-last test p split some is = rw is (split.front (length (take i ps) - 1) p (omega arith))

@@ -1,9 +1,23 @@
 -- What a range leaves standing of its owner's pieces in a table.
-use Rattle.std.specs.Prelude.{◌≡◌, ◌≤◌, ◌<◌, ◌+◌, ◌++◌, IsSome, List, drop, length, take, ℕ}
+use Rattle.std.specs.Prelude.{◌≡◌, ◌≤◌, ◌<◌, ◌+◌, ◌-◌, ◌++◌, IsSome, List, drop, length, take, ℕ}
+use Rattle.std.specs.List.{HoldsAt}
 use Rattle.std.specs.Option.{option_to_list}
 use Rattle.tdb_locks.specs.LockTable.{IsInsidePiece, before, from}
 use Rattle.tdb_locks.specs.declared.cut.Cut.{Cut}
 use Rattle.tdb_locks.specs.declared.piece.Piece.{Piece}
+
+-- the piece at place i is the owner's and begins before the byte
+pub record BeginsBefore (ps : List Piece) (i owner byte : ℕ) : Type 0 where
+  pub within : i < length ps
+  pub owned : HoldsAt (λ p. p.owner ≡ owner) ps i
+  pub begins : HoldsAt (λ p. p.start < byte) ps i
+
+-- the piece just before place i is the owner's and goes on from the byte
+pub record GoesOn (ps : List Piece) (i owner byte : ℕ) : Type 0 where
+  pub some : 0 < i
+  pub within : i ≤ length ps
+  pub owned : HoldsAt (λ p. p.owner ≡ owner) ps (i - 1)
+  pub goes_on : HoldsAt (λ p. byte < p.end) ps (i - 1)
 
 -- the cut's pieces meet the range: before it stand the pieces up to the first one and what is left of that, and
 -- after it what is left of the last one and the pieces from there on

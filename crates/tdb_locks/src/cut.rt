@@ -1,9 +1,9 @@
 // What a range leaves standing of its owner's pieces.
 ghost use Rattle.std.specs.Option.{option_to_list};
-ghost use Rattle.std.specs.Prelude.{◌≡◌, ◌<◌, ◌++◌, drop, take};
+ghost use Rattle.std.specs.Prelude.{◌≡◌, ◌<◌, ◌++◌, OnSome, drop, take};
 ghost use Rattle.tdb_locks.specs.LockTable.{IsTable, before, from};
 ghost use Rattle.tdb_locks.specs.Search.{IsSplitBy, ends_by, starts_before};
-ghost use Rattle.tdb_locks.specs.Cut.{IsCut};
+ghost use Rattle.tdb_locks.specs.Cut.{BeginsBefore, GoesOn, IsCut};
 
 use crate::piece::Piece;
 use crate::search::{first_from, first_past};
@@ -41,7 +41,8 @@ impl Cut {
 fn left_part(pieces: &[Piece], from: usize, owner: u32, byte: u64) -> Option<Piece>
     requires table { IsTable pieces.now }
     requires split { IsSplitBy (ends_by owner byte) pieces.now from }
-    ensures { before owner byte pieces.now ≡ take from pieces.now ++ option_to_list result }
+    ensures left { before owner byte pieces.now ≡ take from pieces.now ++ option_to_list result }
+    ensures some { OnSome result (BeginsBefore pieces.now from owner byte) }
 {
     match pieces.get(from) {
         Some(piece) if piece.owner == owner && piece.start < byte => Some(Piece {
@@ -56,7 +57,8 @@ fn left_part(pieces: &[Piece], from: usize, owner: u32, byte: u64) -> Option<Pie
 fn right_part(pieces: &[Piece], to: usize, owner: u32, byte: u64) -> Option<Piece>
     requires table { IsTable pieces.now }
     requires split { IsSplitBy (starts_before owner byte) pieces.now to }
-    ensures { from owner byte pieces.now ≡ option_to_list result ++ drop to pieces.now }
+    ensures right { from owner byte pieces.now ≡ option_to_list result ++ drop to pieces.now }
+    ensures some { OnSome result (GoesOn pieces.now to owner byte) }
 {
     match pieces[..to].last() {
         Some(piece) if piece.owner == owner && byte < piece.end => Some(Piece {

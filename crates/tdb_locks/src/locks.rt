@@ -9,7 +9,7 @@ use crate::kind::Kind;
 use crate::len::Len;
 use crate::piece::Piece;
 use crate::replace::replace;
-use crate::search::first_past;
+use crate::search::kind_at;
 use std::alloc::{AllocError, Global};
 use std::marker::Model;
 use thiserror::Error;
@@ -22,6 +22,17 @@ pub enum LockRefusal {
     Conflict { owner: u32, byte: u64, kind: Kind },
     #[error("out of memory")]
     Memory,
+}
+
+impl From<AllocError> for LockRefusal {
+    ghost use Rattle.std.specs.Prelude.{◌≡◌};
+    ghost use Rattle.tdb_locks.specs.declared.locks.LockRefusal.TheVariants.{Memory};
+
+    ghost from_gives = { λ _ e. e ≡ Memory };
+
+    fn from(_: AllocError) -> LockRefusal {
+        LockRefusal::Memory
+    }
 }
 
 /// What each owner holds, as pieces in the order of owners and then of bytes. The pieces of one
@@ -85,7 +96,16 @@ impl Locks {
                 kind: found.kind,
             });
         }
-        put(&mut self.pieces, Piece { owner, start, end, kind }).map_err(|_| LockRefusal::Memory)
+        put(
+            &mut self.pieces,
+            Piece {
+                owner,
+                start,
+                end,
+                kind,
+            },
+        )?;
+        Ok(())
     }
 
     /// Lets go of each byte of the range that `owner` holds. It asks for memory only where the
@@ -100,7 +120,8 @@ impl Locks {
         ensures err { OnErr result (self.new ≡ self.old) }
     {
         let end = len.end_from(start);
-        take_out(&mut self.pieces, owner, start, end).map_err(|_| LockRefusal::Memory)
+        take_out(&mut self.pieces, owner, start, end)?;
+        Ok(())
     }
 
     /// Lets go of all that `owner` holds. Cost: one pass over the pieces.
@@ -116,11 +137,7 @@ impl Locks {
     pub fn kind_of(&self, owner: u32, byte: u64) -> Option<Kind>
         ensures { result ≡ held self.now owner byte }
     {
-        let at = first_past(&self.pieces, owner, byte);
-        match self.pieces.get(at) {
-            Some(piece) if piece.owner == owner && piece.start <= byte => Some(piece.kind),
-            _ => None,
-        }
+        kind_at(&self.pieces, owner, byte)
     }
 
     /// How many pieces the table has.

@@ -1,6 +1,6 @@
 // Where an owner's pieces stand in a sorted table, and which of them a range meets.
-ghost use Rattle.std.specs.Prelude.{◌≡◌, ◌≤◌, All, IfNone, IfSome, IsTrue, MatchOption, drop, length, take, true};
-ghost use Rattle.tdb_locks.specs.LockTable.{IsTable, IsFree, IsFirstConflict};
+ghost use Rattle.std.specs.Prelude.{◌≡◌};
+ghost use Rattle.tdb_locks.specs.LockTable.{IsTable, held};
 ghost use Rattle.tdb_locks.specs.Search.{IsSplitBy, ends_by, starts_before};
 
 use crate::kind::Kind;
@@ -22,4 +22,15 @@ pub(crate) fn first_from(pieces: &[Piece], owner: u32, byte: u64) -> usize
     ensures { IsSplitBy (starts_before owner byte) pieces.now result }
 {
     pieces.partition_point(|p| p.owner < owner || p.owner == owner && p.start < byte)
+}
+
+/// What `owner` holds at the byte. Cost: a binary search.
+pub(crate) fn kind_at(pieces: &[Piece], owner: u32, byte: u64) -> Option<Kind>
+    requires { IsTable pieces.now }
+    ensures { result ≡ held pieces.now owner byte }
+{
+    match pieces.get(first_past(pieces, owner, byte)) {
+        Some(piece) if piece.owner == owner && piece.start <= byte => Some(piece.kind),
+        _ => None,
+    }
 }

@@ -9,4 +9,4 @@ returns c =
     let test = ends_by c.args.owner c.args.byte in
     let parted = IsPartitionedBy-table test (ends_by-splits c.args.owner c.args.byte) c.args.pieces.now c.requires in
     IsSplitBy-point test c.args.pieces.now c.partition_point.result c.partition_point.ensures.bound
-      (IsPartitionPoint-from_clause test _ _ c.partition_point.ensures.partitioned parted (λ a r q k. search rules))
+    (IsPartitionPoint-from_clause test _ _ c.partition_point.ensures.partitioned parted (λ a r q k. search rules))

@@ -1,0 +1,13 @@
+use Rattle.std.proofs.Common.{arith, subst}
+use Rattle.tdb_locks.proofs.Holding.{ChangesRange-without}
+use Rattle.tdb_locks.proofs.Tables.{IsPiece-range, IsTable-without}
+use Rattle.tdb_locks.specs.declared.kind.Kind.TheVariants.{Read}
+use Rattle.tdb_locks.proofs.locks.Locks.unlock.Goals as goal
+
+pub invariant_of-self-2 : goal.invariant_of-self-2
+invariant_of-self-2 c = (rw (c.in_ok-take_out.ensures.ok, c.end_from-end.ensures) (IsTable-without _ _ _ _ c.requires c.self.invariant.0), c.take_out.ensures.count)
+
+pub returns-clause-held : goal.returns-clause-held
+returns-clause-held c =
+    rw (c.in_ok-take_out.ensures.ok, c.end_from-end.ensures, ← c.self.view_is)
+    (ChangesRange-without _ _ _ _ (IsPiece-range c.args.owner c.args.start c.args.len Read c.requires).has_bytes)
