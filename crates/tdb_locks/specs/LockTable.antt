@@ -1,5 +1,5 @@
 -- A lock table as contracts see it: a finite list of pieces. What an owner holds at a byte is a test on that list.
-use Rattle.std.specs.Prelude.{◌≡◌, ◌≢◌, ◌≤◌, ◌<◌, ◌+◌, ◌^◌, ◌==◌, ◌&&◌, ◌++◌, ◌∷◌, ◌⊎◌, [], All, AllPairs, Bool, Contains, List, None, Option, Some, false, if◌then◌else◌, max, min, nat_le, nat_lt, not, true, ℕ}
+use Rattle.std.specs.Prelude.{◌≡◌, ◌≢◌, ◌≤◌, ◌<◌, ◌+◌, ◌^◌, ◌==◌, ◌&&◌, ◌++◌, ◌∷◌, ◌⊎◌, ◌↔◌, [], All, AllPairs, Any, Bool, Contains, List, None, Option, Some, false, if◌then◌else◌, max, min, nat_le, nat_lt, not, true, ℕ}
 use Rattle.std.specs.List.{filter_map}
 use Rattle.tdb_locks.specs.declared.kind.Kind.TheVariants.{Read, Write}
 use Rattle.tdb_locks.specs.declared.kind.Kind.{Kind}
@@ -102,3 +102,13 @@ pub record IsInsidePiece (ps : List Piece) (owner start end : ℕ) (p : Piece) :
   pub owned : p.owner ≡ owner
   pub begins_before : p.start < start
   pub ends_after : end < p.end
+
+-- an owner holds a byte exactly where a piece of it covers the byte, and with that piece's kind
+pub record HeldByPieces (ps : List Piece) : Type 0 where
+  pub holds : (owner byte : ℕ) (kind : Kind) → (held ps owner byte ≡ Some kind) ↔ Any (λ p. (covers p owner byte ≡ true) × (p.kind ≡ kind)) ps
+
+-- the piece is the owner's, and its bytes are those of the range
+pub record IsWhole (p : Piece) (owner start end : ℕ) : Type 0 where
+  pub owned : p.owner ≡ owner
+  pub begins : p.start ≡ start
+  pub ends : p.end ≡ end

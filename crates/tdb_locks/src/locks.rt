@@ -1,6 +1,6 @@
 // The lock table.
-ghost use Rattle.std.specs.Prelude.{◌≡◌, ◌≢◌, ◌<◌, ◌^◌, ◌==◌, [], IfErr, OnErr, OnOk, filter, length, not, slice_get, vec_len, ℕ};
-ghost use Rattle.tdb_locks.specs.LockTable.{ChangesRange, IsFree, IsInsidePiece, IsPiece, IsRange, IsTable, held, stop, with_piece, without};
+ghost use Rattle.std.specs.Prelude.{◌≡◌, ◌≢◌, ◌<◌, ◌^◌, ◌==◌, [], Contains, IfErr, IsOk, OnErr, OnOk, filter, length, not, slice_get, vec_len, ℕ};
+ghost use Rattle.tdb_locks.specs.LockTable.{ChangesRange, HeldByPieces, IsFree, IsInsidePiece, IsPiece, IsRange, IsTable, IsWhole, held, stop, with_piece, without};
 ghost use Rattle.tdb_locks.specs.Refusal.{IsRefusal};
 
 use crate::conflict::{Want, first_conflict};
@@ -116,6 +116,7 @@ impl Locks {
         requires { IsRange start len }
         ensures table { OnOk result (self.new ≡ without self.old owner start (stop start len)) }
         ensures held { OnOk result (ChangesRange self.old self.new owner start (stop start len) None) }
+        ensures whole { (p : Piece) → Contains self.old p → IsWhole p owner start (stop start len) → IsOk result }
         ensures memory { IfErr result (λ e. (e ≡ LockRefusal.Memory) × (p : Piece) × IsInsidePiece self.old owner start (stop start len) p) }
         ensures err { OnErr result (self.new ≡ self.old) }
     {
@@ -144,6 +145,7 @@ impl Locks {
     pub fn piece_count(&self) -> u32
         ensures count { result ≡ length self.now }
         ensures table { IsTable self.now }
+        ensures held { HeldByPieces self.now }
     {
         self.pieces.len() as u32
     }

@@ -1,4 +1,4 @@
-use Rattle.std.proofs.Common.{◌∙◌, arith, rules, sym, take}
+use Rattle.std.proofs.Common.{◌∙◌, sym}
 use Rattle.std.proofs.lemmas.List.{take_all}
 use Rattle.tdb_locks.proofs.Clashing.{Found-more_clash, Found-more_skip, first-found}
 use Rattle.tdb_locks.proofs.conflict.first_conflict.Goals as goal

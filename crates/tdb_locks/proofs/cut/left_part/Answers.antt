@@ -1,4 +1,4 @@
-use Rattle.std.proofs.Common.{arith, rules}
+use Rattle.std.proofs.Common.{rules}
 use Rattle.tdb_locks.proofs.Splitting.{left-end, left-none, left-some}
 use Rattle.tdb_locks.proofs.cut.left_part.Goals as goal
 

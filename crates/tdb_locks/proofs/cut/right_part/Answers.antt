@@ -1,4 +1,4 @@
-use Rattle.std.proofs.Common.{arith, rules}
+use Rattle.std.proofs.Common.{rules}
 use Rattle.tdb_locks.proofs.Splitting.{right-end, right-none, right-some}
 use Rattle.tdb_locks.proofs.cut.right_part.Goals as goal
 

@@ -1,4 +1,4 @@
-use Rattle.std.proofs.Common.{arith, rules, sym}
+use Rattle.std.proofs.Common.{rules, sym}
 use Rattle.tdb_locks.proofs.Finding.{kind_of-end, kind_of-none, kind_of-some}
 use Rattle.tdb_locks.proofs.search.kind_at.Goals as goal
 

@@ -1,4 +1,3 @@
-use Rattle.std.proofs.Common.{arith, subst}
 use Rattle.tdb_locks.proofs.Holding.{ChangesRange-with_piece}
 use Rattle.tdb_locks.proofs.Tables.{IsPiece-range, IsTable-with_piece}
 use Rattle.tdb_locks.proofs.locks.Locks.try_lock.Goals as goal
