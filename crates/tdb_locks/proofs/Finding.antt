@@ -1,13 +1,13 @@
 -- Which piece of a table tells what an owner holds at a byte.
-use Rattle.std.proofs.Common.{◌≡◌, ◌≤◌, ◌<◌, ◌+◌, ◌++◌, ◌∷◌, ◌∙◌, [], All, Any, Bool, List, None, Option, Some, cond, drop, false, get_or, length, refl, ap, sym, take, true, ℕ, arith, suc, zero, inl, inr}
-use Rattle.std.proofs.lemmas.Bool.{cases_Bool}
+use Rattle.std.proofs.Common.{◌≡◌, ◌≤◌, ◌<◌, ◌+◌, ◌++◌, ◌∷◌, ◌∙◌, [], All, Any, Bool, Contains, List, None, Option, Some, cond, drop, false, get_or, length, refl, ap, sym, take, true, ℕ, arith, suc, zero, inl, inr}
+use Rattle.std.proofs.lemmas.Bool.{cases_Bool, cases_order}
 use Rattle.std.proofs.lemmas.Bool.Decides.{nat_tests}
-use Rattle.std.proofs.lemmas.List.{drop_all, take-append-drop}
+use Rattle.std.proofs.lemmas.List.{drop_all, get_or_default, take-append-drop}
 use Rattle.std.proofs.lemmas.List.Elements.{All-head, All-tail}
 use Rattle.tdb_locks.proofs.Holding.{held-append, or_else}
 use Rattle.tdb_locks.proofs.Splitting.{fails-at, rest-of}
 use Rattle.tdb_locks.proofs.Tables.{IsTable-drop, IsTable-follows, IsTable-tail}
-use Rattle.tdb_locks.specs.LockTable.{Follows, IsPiece, IsTable, covers, held}
+use Rattle.tdb_locks.specs.LockTable.{Follows, HeldByPieces, IsInsidePiece, IsPiece, IsTable, IsWhole, covers, held}
 use Rattle.tdb_locks.specs.Search.{IsSplitBy, ends_by}
 use Rattle.tdb_locks.specs.declared.kind.Kind.{Kind}
 use Rattle.tdb_locks.specs.declared.piece.Piece.{Piece}
@@ -70,3 +70,43 @@ covered-held o b k (p ∷ ps) holds = elim (cases_Bool (covers p o b)) [
       let rest = covered-held o b k ps (rw not_there at holds) in
       (suc rest.0, omega (arith, rest.1), λ d. rest.2 d)
 ]
+
+-- some piece, for a place of a list that is known to be there
+any_piece : Kind → Piece
+any_piece kind = record { owner = 0; start = 0; end = 0; kind = kind }
+
+pub HeldByPieces-table : (ps : List Piece) → IsTable ps → HeldByPieces ps
+HeldByPieces-table ps table = record { holds = λ owner byte kind. (to_piece owner byte kind, from_piece owner byte kind) }
+  where
+    to_piece : (owner byte : ℕ) (kind : Kind) → held ps owner byte ≡ Some kind → Any (λ p. (covers p owner byte ≡ true) × (p.kind ≡ kind)) ps
+    to_piece owner byte kind holds =
+        let there = covered-held owner byte kind ps holds in
+        let d = any_piece kind in
+        (there.0, get_or ps there.0 d, there.1, get_or_default ps there.0 (get_or ps there.0 d) d there.1, there.2 d)
+
+    from_piece : (owner byte : ℕ) (kind : Kind) → Any (λ p. (covers p owner byte ≡ true) × (p.kind ≡ kind)) ps → held ps owner byte ≡ Some kind
+    from_piece owner byte kind (i, p, within, is, (there, same)) =
+        held-covered owner byte i p ps table within (rw is there) ∙ ap (λ q. Some q.kind) is ∙ ap (λ k. Some k) same
+
+-- no piece of an owner goes on before and after another one
+pub whole-outside : (ps : List Piece) (owner start end : ℕ) (p q : Piece) → IsTable ps → Contains ps p → IsWhole p owner start end → IsInsidePiece ps owner start end q → ⊥
+whole-outside ps owner start end p q table (i, i_within, p_is) whole inside = apart inside.stands
+  where
+    piece : IsPiece p
+    piece = rw p_is at (table.pieces i p i_within)
+
+    apart : Contains ps q → ⊥
+    apart (j, j_within, q_is) = elim (cases_order i j) [
+      | inl same ↦
+          let one : p ≡ q = sym p_is ∙ (ap (λ n. get_or ps n p) same ∙ (get_or_default ps j p q j_within ∙ q_is)) in
+          let starts : p.start ≡ q.start = ap (λ (x : Piece). x.start) one in
+          omega (arith, whole.begins, inside.begins_before)
+      | inr differs ↦ elim differs [
+        | inl less ↦
+            let follows : Follows p q = rw (p_is, get_or_default ps j p q j_within, q_is) at (table.sorted i j p less j_within) in
+            omega (arith, follows.apart (omega (arith, whole.owned, inside.owned)), whole.begins, inside.begins_before, piece.has_bytes)
+        | inr more ↦
+            let follows : Follows q p = rw (q_is, get_or_default ps i q p i_within, p_is) at (table.sorted j i q more i_within) in
+            omega (arith, follows.apart (omega (arith, whole.owned, inside.owned)), whole.begins, whole.ends, inside.ends_after, piece.has_bytes)
+      ]
+    ]

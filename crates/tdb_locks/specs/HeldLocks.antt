@@ -15,9 +15,13 @@ pub record HeldLocks : Type 0 where
 abbrev pub nothing_held : HeldLocks
 nothing_held = record { chains = []; all = None }
 
+-- the count of the chain in a list of chains with their counts
+abbrev pub count_in : List (ℕ × ℕ) → ℕ → ℕ
+count_in chains chain = unwrap_or (lookup (is_at (nat_cmp chain)) chains) 0
+
 -- how many times the chain is held
 abbrev pub count_of : HeldLocks → ℕ → ℕ
-count_of held chain = unwrap_or (lookup (is_at (nat_cmp chain)) held.chains) 0
+count_of held chain = count_in held.chains chain
 
 -- how many times all records are held
 abbrev pub count_of_all : Option (Kind × ℕ) → ℕ
@@ -47,9 +51,14 @@ pub record SetsAll (old new : HeldLocks) (all : Option (Kind × ℕ)) : Type 0 w
   pub now : new.all ≡ all
   pub chains : new.chains ≡ old.chains
 
--- the counts are of chains in order, each chain and count is below 2 ^ 32, and they add up to the total
-pub record IsCounted (chains : List (ℕ × ℕ)) (total : ℕ) : Type 0 where
+-- the counts are of chains in order, and each chain and each count is below 2 ^ 32
+pub record AreCounts (chains : List (ℕ × ℕ)) : Type 0 where
   pub in_order : IsStrictlySortedBy nat_cmp (keys_of chains)
   pub keys : All (λ chain. chain < 2 ^ 32) (keys_of chains)
   pub counts : All (λ count. count < 2 ^ 32) (values_of chains)
-  pub adds_up : total ≡ sum (values_of chains)
+
+-- the count of this chain is the new one, and the sum has changed by that much; each other count stays
+pub record SetsCount (old new : List (ℕ × ℕ)) (chain count : ℕ) : Type 0 where
+  pub now : count_in new chain ≡ count
+  pub sum : sum (values_of new) + count_in old chain ≡ sum (values_of old) + count
+  pub others : (other : ℕ) → other ≢ chain → count_in new other ≡ count_in old other

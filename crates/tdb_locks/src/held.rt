@@ -1,6 +1,6 @@
 // The locks that an opener has taken explicitly.
-ghost use Rattle.std.specs.Prelude.{◌≡◌, ◌<◌, OnErr, OnOk};
-ghost use Rattle.tdb_locks.specs.HeldLocks.{Lowers, Raises, SetsAll, count_of, nothing_held, total_of};
+ghost use Rattle.std.specs.Prelude.{◌≡◌, ◌<◌, IsOk, OnErr, OnOk};
+ghost use Rattle.tdb_locks.specs.HeldLocks.{AreCounts, Lowers, Raises, SetsAll, SetsCount, count_in, count_of, count_of_all, nothing_held, total_of};
 
 use crate::kind::Kind;
 use std::alloc::{AllocError, Global};
@@ -17,13 +17,15 @@ pub struct Held {
 }
 
 impl Model for Held {
-    ghost use Rattle.tdb_locks.specs.HeldLocks.{HeldLocks, IsCounted};
+    ghost use Rattle.std.specs.Prelude.{◌≡◌, sum};
+    ghost use Rattle.std.specs.Map.{values_of};
+    ghost use Rattle.tdb_locks.specs.HeldLocks.{AreCounts, HeldLocks};
 
     ghost Value = { HeldLocks };
 
     ghost view = { λ a. record { chains = a.chains.entries; all = a.all } };
 
-    ghost invariant = { λ a. IsCounted a.chains.entries a.chain_total };
+    ghost invariant = { λ a. AreCounts a.chains.entries × (a.chain_total ≡ sum (values_of a.chains.entries)) };
 }
 
 impl Held {
@@ -60,7 +62,7 @@ impl Held {
     {
         let count = self.chain_count(chain);
         if count < u32::MAX {
-            self.chains.insert(chain, count + 1)?;
+            set_count(&mut self.chains, chain, count + 1)?;
             self.chain_total += 1;
         }
         Ok(())
@@ -72,13 +74,7 @@ impl Held {
         ensures { Lowers self.old self.new chain }
     {
         let count = self.chain_count(chain);
-        if count > 1 {
-            if let Some(held) = self.chains.get_mut(&chain) {
-                *held = count - 1;
-            }
-        } else {
-            self.chains.remove(&chain);
-        }
+        set_count(&mut self.chains, chain, count - 1).unwrap();
         self.chain_total -= 1;
     }
 
@@ -93,10 +89,30 @@ impl Held {
     pub fn total(&self) -> u64
         ensures { result ≡ total_of self.now }
     {
-        let all = match self.all {
-            Some((_, count)) => count,
-            None => 0,
-        };
-        self.chain_total + u64::from(all)
+        self.chain_total + u64::from(all_count(self.all))
     }
+}
+
+/// How many times all records are held.
+fn all_count(all: Option<(Kind, u32)>) -> u32
+    ensures { result ≡ count_of_all all }
+{
+    all.map_or(0, |(_, count)| count)
+}
+
+/// Puts the count of a chain in place of the one that it had; a count of 0 takes the chain out. A
+/// chain that has a count needs no memory for another one.
+fn set_count(chains: &mut BTreeMap<u32, u32>, chain: u32, count: u32) -> Result<(), AllocError>
+    requires { AreCounts chains.old.entries }
+    ensures ok { OnOk result (SetsCount chains.old.entries chains.new.entries chain count) }
+    ensures counts { AreCounts chains.new.entries }
+    ensures err { OnErr result (chains.new.entries ≡ chains.old.entries) }
+    ensures there { 0 < count_in chains.old.entries chain → IsOk result }
+{
+    if count == 0 {
+        chains.remove(&chain);
+    } else {
+        chains.insert(chain, count)?;
+    }
+    Ok(())
 }

@@ -1,5 +1,5 @@
 // The records on which cursors stand.
-ghost use Rattle.std.specs.Prelude.{◌≡◌, ◌++◌, ◌∷◌, ◌↔◌, [], Contains, IsTrue, OnErr, OnOk};
+ghost use Rattle.std.specs.Prelude.{◌≡◌, ◌==◌, ◌++◌, ◌∷◌, ◌↔◌, [], Contains, IsTrue, OnErr, OnOk, position};
 ghost use Rattle.tdb_locks.specs.Spots.{without_first};
 
 use std::alloc::{AllocError, Global};
@@ -50,8 +50,15 @@ impl Spots {
     pub fn remove(&mut self, off: u32)
         ensures { self.new ≡ without_first off self.old }
     {
-        if let Some(at) = self.offsets.iter().position(|spot| *spot == off) {
+        if let Some(at) = first_place(&self.offsets, off) {
             self.offsets.remove(at);
         }
     }
+}
+
+/// Where the offset first stands.
+fn first_place(offsets: &[u32], off: u32) -> Option<usize>
+    ensures { result ≡ position (λ spot. spot == off) offsets.now }
+{
+    offsets.iter().position(|spot| *spot == off)
 }
