@@ -19,4 +19,6 @@ mod piece;
 mod replace;
 mod search;
 mod spots;
+#[cfg(test)]
+mod tests;
 mod turn;
