@@ -3,6 +3,8 @@ pub mod Counting
 pub mod Cutting
 pub mod Finding
 pub mod Holding
+pub mod Keeping
 pub mod Splitting
 pub mod Standing
+pub mod Strengths
 pub mod Tables
