@@ -1,5 +1,5 @@
 -- The first conflict of a wanted range, found piece by piece.
-use Rattle.std.proofs.Common.{◌≡◌, ◌≢◌, ◌≤◌, ◌<◌, ◌+◌, ◌++◌, ◌∷◌, ◌∙◌, ◌⊎◌, [], All, Any, Bool, List, MatchOption, None, Option, Some, ap, arith, cond, false, get_or, length, max, nat_le, nat_lt, refl, subst, sym, take, true, ℕ, inl, inr}
+use Rattle.std.proofs.Common.{◌≡◌, ◌≢◌, ◌≤◌, ◌<◌, ◌+◌, ◌++◌, ◌∷◌, ◌∙◌, ◌⊎◌, [], All, Any, List, MatchOption, None, Option, Some, ap, arith, false, get_or, length, nat_le, refl, subst, take, true, ℕ, inl, inr}
 use Rattle.std.proofs.lemmas.Bool.{both_ways, cases_lt, cond_both, leb-false, leb-true}
 use Rattle.std.proofs.lemmas.Bool.Decides.{nat_tests}
 use Rattle.std.proofs.lemmas.List.{get_or-take, get_or_append_left, get_or_default, length-take, length_push, take_more}

@@ -1,5 +1,5 @@
 -- How often chains are held: what a new count of one of them changes.
-use Rattle.std.proofs.Common.{◌≡◌, ◌≢◌, ◌≤◌, ◌<◌, ◌+◌, ◌*◌, ◌-◌, ◌^◌, ◌∙◌, All, Bool, List, None, Option, Some, add-zero, ap, arith, false, length, refl, sum, sym, unwrap_or, ℕ}
+use Rattle.std.proofs.Common.{◌≡◌, ◌≢◌, ◌≤◌, ◌<◌, ◌+◌, ◌*◌, ◌^◌, ◌∙◌, Bool, List, None, Option, Some, add-zero, ap, arith, false, length, refl, sum, sym, unwrap_or, ℕ}
 use Rattle.std.specs.Option.{option_map}
 use Rattle.std.specs.Map.{keys_of, lookup, remove_entry, values_of}
 use Rattle.std.specs.BTreeMap.{insert_entry, is_at}

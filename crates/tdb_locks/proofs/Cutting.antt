@@ -1,5 +1,5 @@
 -- The places where a range of an owner begins and ends in a table, put together.
-use Rattle.std.proofs.Common.{◌≡◌, ◌≤◌, ◌<◌, ◌+◌, ◌-◌, ◌++◌, Bool, IsSome, List, None, OnSome, Option, Some, drop, false, get_or, length, take, true, ℕ, arith, ap, inl, inr, sym}
+use Rattle.std.proofs.Common.{◌≡◌, ◌≤◌, ◌<◌, ◌+◌, ◌-◌, ◌++◌, Bool, IsSome, List, None, OnSome, Option, Some, drop, false, get_or, length, take, true, ℕ, arith, ap, inl, inr}
 use Rattle.std.specs.Option.{option_to_list}
 use Rattle.std.proofs.lemmas.Bool.{both_ways, cases_lt, false≢true}
 use Rattle.std.proofs.lemmas.Bool.Decides.{nat_tests}

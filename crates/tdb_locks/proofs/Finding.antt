@@ -1,5 +1,5 @@
 -- Which piece of a table tells what an owner holds at a byte.
-use Rattle.std.proofs.Common.{◌≡◌, ◌≤◌, ◌<◌, ◌+◌, ◌++◌, ◌∷◌, ◌∙◌, [], All, Any, Bool, Contains, List, None, Option, Some, cond, drop, false, get_or, length, refl, ap, sym, take, true, ℕ, arith, suc, zero, inl, inr}
+use Rattle.std.proofs.Common.{◌≡◌, ◌≤◌, ◌<◌, ◌+◌, ◌∷◌, ◌∙◌, [], All, Any, Contains, List, None, Some, cond, drop, false, get_or, length, refl, ap, sym, take, true, ℕ, arith, suc, zero, inl, inr}
 use Rattle.std.proofs.lemmas.Bool.{cases_Bool, cases_order}
 use Rattle.std.proofs.lemmas.Bool.Decides.{nat_tests}
 use Rattle.std.proofs.lemmas.List.{drop_all, get_or_default, take-append-drop}

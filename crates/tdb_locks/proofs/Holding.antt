@@ -1,5 +1,5 @@
 -- What an owner holds in parts of tables.
-use Rattle.std.proofs.Common.{◌≡◌, ◌≢◌, ◌≤◌, ◌<◌, ◌+◌, ◌^◌, ◌++◌, ◌∷◌, ◌∙◌, [], Bool, List, None, Option, Some, false, true, ℕ, arith, refl, cond, ap, sym, inl, inr, ◌==◌, not}
+use Rattle.std.proofs.Common.{◌≡◌, ◌≢◌, ◌≤◌, ◌<◌, ◌++◌, ◌∷◌, [], Bool, List, None, Option, Some, false, true, ℕ, arith, refl, cond, sym, inl, inr, ◌==◌, not}
 use Rattle.std.specs.List.{cons_option, filter, filter_map}
 use Rattle.std.specs.Option.{option_to_list}
 use Rattle.std.proofs.lemmas.Bool.Decides.{nat_tests}

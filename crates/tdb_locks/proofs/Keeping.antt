@@ -1,5 +1,5 @@
 -- A piece stays in a table as it is where a change is of another owner's bytes, or of others of its own.
-use Rattle.std.proofs.Common.{◌≡◌, ◌≢◌, ◌≤◌, ◌<◌, ◌==◌, ◌&&◌, ◌++◌, ◌∷◌, ◌⊎◌, ◌∙◌, [], Contains, List, None, Option, Some, ap, arith, get_or, if◌then◌else◌, length, max, min, nat_lt, not, refl, suc, sym, zero, ℕ, inl, inr}
+use Rattle.std.proofs.Common.{◌≡◌, ◌≢◌, ◌≤◌, ◌==◌, ◌∷◌, ◌⊎◌, [], Contains, List, None, Option, Some, arith, if◌then◌else◌, max, min, not, refl, suc, zero, ℕ, inl, inr}
 use Rattle.std.specs.List.{cons_option, filter, filter_map}
 use Rattle.std.proofs.lemmas.Bool.{cases_lt, eq-eqb, le-ltb, lt-ltb, ne_eqb}
 use Rattle.std.proofs.lemmas.List.Elements.{Contains-append_left, Contains-append_right}
@@ -41,30 +41,30 @@ whole-from owner end p piece owned starts =
 -- so it is whole in one of the two parts round the range
 pub stands-around : (ps : List Piece) (owner start end : ℕ) (p : Piece) → IsPiece p → StandsClear p owner start end → Contains ps p → Contains (before owner start ps) p ⊎ Contains (from owner end ps) p
 stands-around ps owner start end p piece clear stands = elim (cases_lt p.owner owner) [
-    inl less ↦ inl (Contains-filter_map (part_before owner start) ps p (rw (lt-ltb p.owner owner less)) stands)
+  | inl less ↦ inl (Contains-filter_map (part_before owner start) ps p (rw (lt-ltb p.owner owner less)) stands)
   | inr more ↦ elim (cases_lt owner p.owner) [
-      inl later ↦ inr (Contains-filter_map (part_from owner end) ps p (rw (lt-ltb owner p.owner later)) stands)
+    | inl later ↦ inr (Contains-filter_map (part_from owner end) ps p (rw (lt-ltb owner p.owner later)) stands)
     | inr same ↦
         let owned : p.owner ≡ owner = omega arith in
         elim (clear.clear owned) [
-          inl ends ↦ inl (Contains-filter_map (part_before owner start) ps p (whole-before owner start p piece owned ends) stands)
-        | inr starts ↦ inr (Contains-filter_map (part_from owner end) ps p (whole-from owner end p piece owned starts) stands)
+          | inl ends ↦ inl (Contains-filter_map (part_before owner start) ps p (whole-before owner start p piece owned ends) stands)
+          | inr starts ↦ inr (Contains-filter_map (part_from owner end) ps p (whole-from owner end p piece owned starts) stands)
         ]
-    ]
   ]
+]
 
 pub Contains-without : (ps : List Piece) (owner start end : ℕ) (p : Piece) → IsPiece p → StandsClear p owner start end → Contains ps p → Contains (without ps owner start end) p
 Contains-without ps owner start end p piece clear stands = elim (stands-around ps owner start end p piece clear stands) [
-    inl low ↦ Contains-append_left (before owner start ps) (from owner end ps) p low
+  | inl low ↦ Contains-append_left (before owner start ps) (from owner end ps) p low
   | inr high ↦ Contains-append_right (before owner start ps) (from owner end ps) p high
-  ]
+]
 
 pub Contains-with_piece : (ps : List Piece) (owner start end : ℕ) (kind : Kind) (p : Piece) → IsPiece p → StandsClear p owner start end → Contains ps p → Contains (with_piece ps owner start end kind) p
 Contains-with_piece ps owner start end kind p piece clear stands =
     let new : Piece = record { owner = owner; start = start; end = end; kind = kind } in
     elim (stands-around ps owner start end p piece clear stands) [
-      inl low ↦ Contains-append_left (before owner start ps) (new ∷ from owner end ps) p low
-    | inr high ↦ Contains-append_right (before owner start ps) (new ∷ from owner end ps) p (Contains-later new p (from owner end ps) high)
+      | inl low ↦ Contains-append_left (before owner start ps) (new ∷ from owner end ps) p low
+      | inr high ↦ Contains-append_right (before owner start ps) (new ∷ from owner end ps) p (Contains-later new p (from owner end ps) high)
     ]
 
 -- the new piece is in the table
@@ -77,4 +77,4 @@ Contains-new_piece ps owner start end kind =
 pub Contains-dropped : (ps : List Piece) (owner : ℕ) (p : Piece) → p.owner ≢ owner → Contains ps p → Contains (filter (λ q. not (q.owner == owner)) ps) p
 Contains-dropped ps owner p differs stands =
     rw (filter-as_filter_map (λ q. not (q.owner == owner)) ps)
-      (Contains-filter_map (λ q. if not (q.owner == owner) then Some q else None) ps p (rw (ne_eqb p.owner owner differs)) stands)
+    (Contains-filter_map (λ q. if not (q.owner == owner) then Some q else None) ps p (rw (ne_eqb p.owner owner differs)) stands)

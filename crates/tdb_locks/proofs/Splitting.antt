@@ -1,13 +1,13 @@
 -- Where a sorted table is split by an owner and a byte, and what a cut leaves at that place.
-use Rattle.std.proofs.Common.{◌≡◌, ◌≤◌, ◌<◌, ◌+◌, ◌-◌, ◌++◌, ◌∷◌, ◌∙◌, [], All, Bool, List, None, Option, Some, length, take, drop, get_or, slice_get, min, max, nat_lt, nat_le, false, true, refl, ap, sym, subst, inl, inr, ℕ, arith, suc, zero}
-use Rattle.std.specs.List.{AllWithin, cons_option, filter_map}
+use Rattle.std.proofs.Common.{◌≡◌, ◌≤◌, ◌<◌, ◌+◌, ◌-◌, ◌++◌, ◌∷◌, ◌∙◌, [], All, Bool, List, None, Option, Some, length, take, drop, get_or, min, max, false, true, refl, ap, sym, inl, inr, ℕ, arith}
+use Rattle.std.specs.List.{cons_option}
 use Rattle.std.specs.List.Sorted.{IsPartitionedBy, IsPartitionPoint}
 use Rattle.std.specs.Option.{option_to_list}
-use Rattle.std.proofs.lemmas.Bool.{cases_eq, cases_lt, eq-eqb, le-ltb, lt-ltb}
+use Rattle.std.proofs.lemmas.Bool.{cases_lt, eq-eqb, le-ltb, lt-ltb}
 use Rattle.std.proofs.lemmas.Bool.Decides.{nat_tests}
-use Rattle.std.proofs.lemmas.List.{append-nil, drop_all, drop_more, get_or-take, get_or-drop, length-take, length-drop, get_or_default, nil_from_length, take-append-drop, take_all, take_more}
-use Rattle.std.proofs.lemmas.List.Elements.{All-cons, All-head, All-nil, All-tail, filter_map-append}
-use Rattle.tdb_locks.proofs.Tables.{IsTable-drop, IsTable-follows, IsTable-head, IsTable-tail, IsTable-take}
+use Rattle.std.proofs.lemmas.List.{drop_all, drop_more, get_or-take, get_or-drop, length-take, length-drop, get_or_default, nil_from_length, take-append-drop, take_all, take_more}
+use Rattle.std.proofs.lemmas.List.Elements.{All-head, All-tail, filter_map-append}
+use Rattle.tdb_locks.proofs.Tables.{IsTable-drop, IsTable-follows, IsTable-take}
 use Rattle.tdb_locks.specs.LockTable.{Follows, IsPiece, IsTable, before, from, part_before, part_from}
 use Rattle.tdb_locks.specs.Search.{IsSplitBy, ends_by, starts_before}
 use Rattle.tdb_locks.specs.declared.piece.Piece.{Piece}

@@ -1,6 +1,6 @@
 -- The list of spots without the first entry of an offset, by the place of that entry.
 use Rattle.std.proofs.Math.Numerals.{one-add}
-use Rattle.std.proofs.Common.{◌≡◌, ◌≤◌, ◌<◌, ◌==◌, ◌++◌, ◌∷◌, ◌∙◌, [], List, None, Option, Some, ap, arith, cond, drop, length, nat_lt, refl, suc, sym, take, ℕ, inl, inr}
+use Rattle.std.proofs.Common.{◌≡◌, ◌==◌, ◌++◌, ◌∷◌, ◌∙◌, [], List, None, Option, Some, ap, arith, cond, drop, length, refl, suc, sym, ℕ, inl, inr}
 use Rattle.std.specs.List.{position, position_or_len, remove}
 use Rattle.std.proofs.lemmas.Bool.{cases_Bool, cases_lt, le-ltb, lt-ltb}
 use Rattle.std.proofs.lemmas.List.{append-nil, drop_all, take_all}

@@ -1,7 +1,7 @@
 -- Kinds as numbers: two owners may share a byte exactly where their strengths add up to 2 at most.
-use Rattle.std.proofs.Common.{◌≡◌, ◌≢◌, ◌≤◌, ◌<◌, ◌+◌, List, None, Option, Some, arith, false, true, refl, ℕ, inl, inr}
+use Rattle.std.proofs.Common.{◌≡◌, ◌≢◌, ◌≤◌, ◌<◌, ◌+◌, List, None, Option, Some, arith, true, refl, ℕ, inl, inr}
 use Rattle.std.proofs.lemmas.Bool.{cases_lt, false≢true}
-use Rattle.tdb_locks.specs.LockTable.{Conflicts, IsFree, held, kinds_conflict}
+use Rattle.tdb_locks.specs.LockTable.{IsFree, held, kinds_conflict}
 use Rattle.tdb_locks.specs.declared.kind.Kind.TheVariants.{Read, Write}
 use Rattle.tdb_locks.specs.declared.kind.Kind.{Kind}
 use Rattle.tdb_locks.specs.declared.piece.Piece.{Piece}
@@ -33,8 +33,9 @@ strength-kinds_conflict Write Write strong = refl
 pub strength-free : (ps : List Piece) (owner start end : ℕ) (want : Kind) → IsFree ps owner start end want → (other byte : ℕ) → other ≢ owner → start ≤ byte → byte < end → strength (held ps other byte) + strength (Some want) ≤ 2
 strength-free ps owner start end want free other byte differs low high = at (held ps other byte) refl
   where
-  room : (k : Kind) → (kinds_conflict k want ≡ true → ⊥) → strength (Some k) + strength (Some want) ≤ 2
-  room k none = elim (cases_lt 2 (strength (Some k) + strength (Some want))) [ inl strong ↦ absurd (none (strength-kinds_conflict k want strong)) | inr weak ↦ weak ]
-  at : (o : Option Kind) → held ps other byte ≡ o → strength o + strength (Some want) ≤ 2
-  at None holds = omega (arith, strength-le (Some want))
-  at (Some k) holds = room k (λ writes. free.free other byte k (record { other_owner = differs; from_start = low; before_end = high; holds = holds; writes = writes }))
+    room : (k : Kind) → (kinds_conflict k want ≡ true → ⊥) → strength (Some k) + strength (Some want) ≤ 2
+    room k none = elim (cases_lt 2 (strength (Some k) + strength (Some want))) [ inl strong ↦ absurd (none (strength-kinds_conflict k want strong)) | inr weak ↦ weak ]
+
+    at : (o : Option Kind) → held ps other byte ≡ o → strength o + strength (Some want) ≤ 2
+    at None holds = omega (arith, strength-le (Some want))
+    at (Some k) holds = room k (λ writes. free.free other byte k (record { other_owner = differs; from_start = low; before_end = high; holds = holds; writes = writes }))

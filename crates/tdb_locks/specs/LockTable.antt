@@ -1,5 +1,5 @@
 -- A lock table as contracts see it: a finite list of pieces. What an owner holds at a byte is a test on that list.
-use Rattle.std.specs.Prelude.{◌≡◌, ◌≢◌, ◌≤◌, ◌<◌, ◌+◌, ◌^◌, ◌==◌, ◌&&◌, ◌++◌, ◌∷◌, ◌⊎◌, ◌↔◌, [], All, AllPairs, Any, Bool, Contains, List, None, Option, Some, false, if◌then◌else◌, max, min, nat_le, nat_lt, not, true, ℕ}
+use Rattle.std.specs.Prelude.{◌≡◌, ◌≢◌, ◌≤◌, ◌<◌, ◌+◌, ◌^◌, ◌==◌, ◌&&◌, ◌++◌, ◌∷◌, ◌⊎◌, ◌↔◌, [], All, AllPairs, Any, Bool, Contains, List, None, Option, Some, false, if◌then◌else◌, max, min, nat_le, nat_lt, true, ℕ}
 use Rattle.std.specs.List.{filter_map}
 use Rattle.tdb_locks.specs.declared.kind.Kind.TheVariants.{Read, Write}
 use Rattle.tdb_locks.specs.declared.kind.Kind.{Kind}

@@ -1,4 +1,3 @@
-use Rattle.std.proofs.Common.{arith, subst}
 use Rattle.tdb_locks.proofs.Finding.{whole-outside}
 use Rattle.tdb_locks.proofs.Holding.{ChangesRange-without}
 use Rattle.tdb_locks.proofs.Tables.{IsPiece-range, IsTable-without}
