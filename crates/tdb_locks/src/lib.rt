@@ -1,4 +1,4 @@
-// Byte-range locks of many owners on one file, granted exactly where nothing conflicts.
+//! Byte-range locks of many owners on one file, granted exactly where nothing conflicts.
 #![tactic(auto)]
 
 pub use held::Held;

@@ -2,7 +2,7 @@
 use tdb_words::Bytes;
 
 /// What one turn of a command led to.
-#[derive(Debug, Drop)]
+#[derive(Debug, Drop, PartialEq, Eq)]
 pub enum Turn {
     /// The command did a step and has more to do.
     Step,
@@ -14,7 +14,7 @@ pub enum Turn {
 }
 
 /// What a command replies.
-#[derive(Debug, Drop)]
+#[derive(Debug, Drop, PartialEq, Eq)]
 pub enum Reply {
     /// The command did what it says.
     Ok,
