@@ -1,0 +1,10 @@
+pub mod Clashing
+pub mod Counting
+pub mod Cutting
+pub mod Finding
+pub mod Holding
+pub mod Keeping
+pub mod Splitting
+pub mod Standing
+pub mod Strengths
+pub mod Tables
