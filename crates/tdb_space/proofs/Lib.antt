@@ -1,1 +1,4 @@
 pub mod Walks
+pub mod Followed
+pub mod Listed
+pub mod Gathered

@@ -1,8 +1,9 @@
 -- Walks along next words: from an offset there is one list of records, no offset comes twice in it, and it is no longer than a
 -- quarter of the image; so the computed offsets are that list, where there is one.
-use Rattle.std.proofs.Common.{◌≡◌, ℕ, zero, suc, ◌+◌, ◌*◌, ◌<◌, ◌≤◌, ◌⊎◌, List, [], ◌∷◌, length, map, eqb, false, refl, sym, ◌∙◌, ap, subst, inl, inr, arith}
+use Rattle.std.proofs.Common.{◌≡◌, ℕ, zero, suc, ◌+◌, ◌*◌, ◌<◌, ◌≤◌, ◌⊎◌, List, [], ◌∷◌, length, get_or, map, eqb, false, refl, sym, ◌∙◌, ap, subst, inl, inr, arith}
 use Rattle.std.specs.Prelude.{◌/◌}
-use Rattle.std.specs.List.{IsDistinct, AllByRecursion, list_any}
+use Rattle.std.proofs.lemmas.List.Folds.{list_any_at}
+use Rattle.std.specs.List.{All, IsDistinct, AllByRecursion, list_any}
 use Rattle.std.proofs.lemmas.Bool.{eqb-true, eq-eqb, ne_eqb, or_cases, or_left, or_right, false_from_ne_true, or_parts, false≢true}
 use Rattle.std.proofs.lemmas.List.{length-map}
 use Rattle.std.proofs.lemmas.Map.Keys.{IsDistinct-cons}
@@ -115,3 +116,7 @@ walk_turns f M img (suc n) at (x ∷ xs) p h =
 -- where there is a list from an offset, the computed offsets are it
 pub walk_meets : (f : Form) (M : ℕ → Type 0) (img : List ℕ) (at : ℕ) (xs : List ℕ) → Linked f M img at xs → offsets f.order img (length img / 4) at ≡ xs
 walk_meets f M img at xs p = walk_turns f M img (length img / 4) at xs p (linked_short f M img at xs p)
+
+-- the records of a list, place by place, stand whole
+pub linked_each : (f : Form) (M : ℕ → Type 0) (img : List ℕ) (at : ℕ) (xs : List ℕ) → Linked f M img at xs → All (Whole f img) xs
+linked_each f M img at xs p k d below = (linked_whole f M img at xs (get_or xs k d) p (list_any_at (eqb (get_or xs k d)) xs k d below (eq-eqb (get_or xs k d) (get_or xs k d) refl))).0
