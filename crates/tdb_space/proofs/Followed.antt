@@ -15,14 +15,14 @@ pub record Followed (f : Form) (img : List ℕ) (first at : ℕ) (offs : List �
 pub followed_none : (f : Form) (img : List ℕ) (first : ℕ) → Followed f img first first []
 followed_none f img first = record {
   joins = λ rest p. p;
-  only = λ all p. (all, refl, p)
+  only = λ all p. (all, refl, p);
 }
 
 -- one more record
 pub followed_more : (f : Form) (img : List ℕ) (first at : ℕ) (offs : List ℕ) → Followed f img first at offs → IsLink f img at → Followed f img first (word f.order img at) (offs ++ at ∷ [])
 followed_more f img first at offs h link = record {
   joins = λ rest p. subst (Chain f img first) (sym (append_assoc offs (at ∷ []) rest)) (h.joins (at ∷ rest) (refl, link.0, link.1, p));
-  only = λ all p. next all (h.only all p)
+  only = λ all p. next all (h.only all p);
 }
   where
     next : (all : List ℕ) → ((rest : List ℕ) × (all ≡ offs ++ rest) × Chain f img at rest) → (rest : List ℕ) × (all ≡ (offs ++ at ∷ []) ++ rest) × Chain f img (word f.order img at) rest
@@ -48,6 +48,7 @@ followed_long f img first at offs h some long all p = no_rest (h.only all p)
   where
     short : length all ≤ length img / 4
     short = linked_short f IsChained img first all p
+
     no_rest : ((rest : List ℕ) × (all ≡ offs ++ rest) × Chain f img at rest) → ⊥
     no_rest ([], e, q) = some q
     no_rest (x ∷ xs, e, q) = absurd (omega (arith, short, ap length e, length-append offs (x ∷ xs)))

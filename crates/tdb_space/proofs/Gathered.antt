@@ -22,7 +22,7 @@ gathered_more f img n found more offs h chain fit e =
       chains = below_more (λ j. Chain f img (word f.order img (chain_head j)) (chain_of f img j)) n h.chains (subst (Chain f img (word f.order img (chain_head n))) (sym met) chain);
       fit = below_more (λ j. AllFit f.order img (chain_of f img j)) n h.fit (subst (AllFit f.order img) (sym met) fit);
       held = e ∙ ap (λ ps. ps ++ pairs f.order img offs) h.held ∙ ap (λ offs. joined n (λ j. pairs f.order img (chain_of f img j)) ++ pairs f.order img offs) (sym met)
-        ∙ sym (joined_more n (λ j. pairs f.order img (chain_of f img j)))
+          ∙ sym (joined_more n (λ j. pairs f.order img (chain_of f img j)));
     }
 
 -- where a chain's used records don't all fit, the chains' don't

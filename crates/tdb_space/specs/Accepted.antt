@@ -61,7 +61,7 @@ pub record LaidOut (f : Form) (img : List ℕ) (chain : ℕ → List ℕ) (free 
   pub held : AllHandOk f img hands
   pub apart : (i : ℕ) → times (all_extents f img chain free hands) i ≤ 1
   pub stray : (i : ℕ) → data_start f ≤ i → i < length img → times (all_extents f img chain free hands) i ≡ 0
-    → (slice_index img i ≡ 0) ⊎ (slice_index img i ≡ PADDING)
+      → (slice_index img i ≡ 0) ⊎ (slice_index img i ≡ PADDING)
 
 -- an image is accepted with these hands out: it is laid out in its own chains and free list, and in the hands
 abbrev pub AcceptWith : Form → List ℕ → List HandPair → Type 0

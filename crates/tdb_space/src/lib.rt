@@ -2,5 +2,7 @@
 #![tactic(auto)]
 
 mod plain;
+#[cfg(test)]
+mod tests;
 
 pub use crate::plain::{KeyValue, chain_offsets, pairs_in_order, record_at};

@@ -24,7 +24,10 @@ fn word_in(image: &[u8], at: usize, order: Order) -> u32
     requires { at + 4 ≤ length image.now }
     ensures { result ≡ word order image.now at }
 {
-    word_at(&[image[at], image[at + 1], image[at + 2], image[at + 3]], order)
+    word_at(
+        &[image[at], image[at + 1], image[at + 2], image[at + 3]],
+        order,
+    )
 }
 
 // The record header at an offset.
@@ -63,7 +66,11 @@ pub fn record_at(image: &[u8], header: &Header, at: u32) -> Option<Rec>
         return None;
     }
     let tailer = word_in(image, at + 20 + rec_len, header.order) as usize;
-    if tailer == 24 + rec_len { Some(rec) } else { None }
+    if tailer == 24 + rec_len {
+        Some(rec)
+    } else {
+        None
+    }
 }
 
 // The header of the record at an offset, if a record stands whole there and is used or dead.
@@ -71,12 +78,21 @@ fn chained_at(image: &[u8], header: &Header, at: u32) -> Option<Rec>
     ensures { SomeIff result (IsLink (form_in header.now) image.now at) (rec_at header.now.order image.now at) }
 {
     let rec = record_at(image, header, at)?;
-    if rec.magic == USED || rec.magic == DEAD { Some(rec) } else { None }
+    if rec.magic == USED || rec.magic == DEAD {
+        Some(rec)
+    } else {
+        None
+    }
 }
 
 /// The offsets of the chain from the word at `head`, if there is a chain. No more records are followed than a quarter of the
 /// image's length.
-pub fn chain_offsets(alloc: Global, image: &[u8], header: &Header, head: usize) -> Result<Option<Vec<u32>>, AllocError>
+pub fn chain_offsets(
+    alloc: Global,
+    image: &[u8],
+    header: &Header,
+    head: usize,
+) -> Result<Option<Vec<u32>>, AllocError>
     requires { head + 4 ≤ length image.now }
     ensures { let f = form_in header.now in let first = word f.order image.now head in IfOk result
         (λ r. MatchOption r ((offs : List ℕ) → Chain f image.now first offs → ⊥) (λ v. Chain f image.now first v.items)) }
@@ -119,7 +135,12 @@ fn held_at<'a>(image: &'a [u8], header: &Header, at: u32) -> Option<KeyValue<'a>
 }
 
 // Puts the pair of the record at an offset at the end if it is used, unless it doesn't fit in its record.
-fn push_pair<'a>(image: &'a [u8], header: &Header, at: u32, all: &mut Vec<KeyValue<'a>>) -> Result<bool, AllocError>
+fn push_pair<'a>(
+    image: &'a [u8],
+    header: &Header,
+    at: u32,
+    all: &mut Vec<KeyValue<'a>>,
+) -> Result<bool, AllocError>
     requires { Whole (form_in header.now) image.now at }
     ensures { let o = header.now.order in let Fit = magic_of o image.now at ≡ USED → Fits o image.now at in IfOk result
         (λ fit. MatchBool fit (Fit × (map pair_seen all.new.items ≡ map pair_seen all.old.items ++ pair_of o image.now at)) (Fit → ⊥)) }
@@ -137,7 +158,12 @@ fn push_pair<'a>(image: &'a [u8], header: &Header, at: u32, all: &mut Vec<KeyVal
 }
 
 // Puts the pairs of the used records at these offsets at the end, unless one of them doesn't fit in its record.
-fn push_pairs<'a>(image: &'a [u8], header: &Header, offs: &[u32], all: &mut Vec<KeyValue<'a>>) -> Result<bool, AllocError>
+fn push_pairs<'a>(
+    image: &'a [u8],
+    header: &Header,
+    offs: &[u32],
+    all: &mut Vec<KeyValue<'a>>,
+) -> Result<bool, AllocError>
     requires { All (Whole (form_in header.now) image.now) offs.now }
     ensures { let o = header.now.order in IfOk result (λ fit. MatchBool fit
         (AllFit o image.now offs.now × (map pair_seen all.new.items ≡ map pair_seen all.old.items ++ pairs o image.now offs.now))
@@ -153,7 +179,11 @@ fn push_pairs<'a>(image: &'a [u8], header: &Header, offs: &[u32], all: &mut Vec<
 
 /// The pairs of all used records, chain 0 first and each chain from its head on, if each chain head has a chain and each used
 /// record has room for its key and value.
-pub fn pairs_in_order<'a>(alloc: Global, image: &'a [u8], header: &Header) -> Result<Option<Vec<KeyValue<'a>>>, AllocError>
+pub fn pairs_in_order<'a>(
+    alloc: Global,
+    image: &'a [u8],
+    header: &Header,
+) -> Result<Option<Vec<KeyValue<'a>>>, AllocError>
     requires { data_start (form_in header.now) ≤ length image.now }
     ensures { let f = form_in header.now in IfOk result (λ r. MatchOption r (HasPairs f image.now → ⊥)
         (λ v. HasPairs f image.now × (map pair_seen v.items ≡ order_of f image.now))) }

@@ -19,7 +19,7 @@ loop-turn-preserved c =
     let offs : c.loop-turn.offs.items ++ c.loop-turn.at ∷ [] ≡ c.push.new.self.items = sym c.in_ok-push-in-Some.ensures.items in
     record {
       followed = subst (λ at. Followed f c.args.image.now first at c.push.new.self.items) next (subst (λ xs. Followed f c.args.image.now first (word c.args.header.now.order c.args.image.now c.loop-turn.at) xs) offs (followed_more _ _ _ _ _ c.loop-turn.invariant.followed c.in-Some.ensures.0));
-      turns = omega (arith, ap length offs, length-append c.loop-turn.offs.items (c.loop-turn.at ∷ []), c.loop-turn.invariant.turns)
+      turns = omega (arith, ap length offs, length-append c.loop-turn.offs.items (c.loop-turn.at ∷ []), c.loop-turn.invariant.turns);
     }
 
 pub returns-else-at-eq0-2 : goal.returns-else-at-eq0-2

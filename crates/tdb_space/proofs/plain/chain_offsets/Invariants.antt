@@ -8,5 +8,5 @@ use Rattle.tdb_space.proofs.plain.chain_offsets.Given as goal
 abbrev pub invariant-loop-turn : goal.invariant-loop-turn
 invariant-loop-turn l = record {
   followed : Followed (form_in l.header) l.image (word l.header.order l.image l.head) l.at l.offs.items;
-  turns : length l.offs.items ≡ l._turn
+  turns : length l.offs.items ≡ l._turn;
 }

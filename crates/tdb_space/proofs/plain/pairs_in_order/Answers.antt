@@ -35,5 +35,5 @@ loop-chain-preserved c =
     let chain : Chain f img first c.in-Some.offs.items = rw c.in-Some.is at c.in_ok-offs.ensures in
     let pushed = MatchBool-at_true _ _ c.if-not-branch.false c.in_ok-push_pairs.ensures in
     gathered_more f img c.loop-chain.chain (map pair_seen c.loop-chain.all.items) (map pair_seen c.push_pairs.new.all.items) c.in-Some.offs.items c.loop-chain.invariant chain
-      (subst (AllFit f.order img) c.deref.ensures.value pushed.0)
-      (subst (λ xs. map pair_seen c.push_pairs.new.all.items ≡ map pair_seen c.loop-chain.all.items ++ pairs f.order img xs) c.deref.ensures.value pushed.1)
+    (subst (AllFit f.order img) c.deref.ensures.value pushed.0)
+    (subst (λ xs. map pair_seen c.push_pairs.new.all.items ≡ map pair_seen c.loop-chain.all.items ++ pairs f.order img xs) c.deref.ensures.value pushed.1)

@@ -18,6 +18,6 @@ loop-at-preserved c =
     record {
       fit = All-more (λ (x : ℕ). magic_of o img x ≡ USED → Fits o img x) offs i 0 c.loop-at-test.true c.loop-at.invariant.fit here.0;
       held = here.1 ∙ ap (λ ps. ps ++ pair_of o img (get_or offs i 0)) c.loop-at.invariant.held
-        ∙ append_assoc (map pair_seen c.args.all.now.items) (pairs o img (take i offs)) (pair_of o img (get_or offs i 0))
-        ∙ ap (λ ps. map pair_seen c.args.all.now.items ++ ps) (sym (pairs_more o img offs i c.loop-at-test.true))
+          ∙ append_assoc (map pair_seen c.args.all.now.items) (pairs o img (take i offs)) (pair_of o img (get_or offs i 0))
+          ∙ ap (λ ps. map pair_seen c.args.all.now.items ++ ps) (sym (pairs_more o img offs i c.loop-at-test.true));
     }

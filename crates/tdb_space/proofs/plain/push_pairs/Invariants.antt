@@ -7,5 +7,5 @@ use Rattle.tdb_space.proofs.plain.push_pairs.Given as goal
 abbrev pub invariant-loop-at : goal.invariant-loop-at
 invariant-loop-at l = record {
   fit : AllFit l.header.order l.image (take l.at-index l.offs);
-  held : map pair_seen l.all.items ≡ map pair_seen l.initial.all.items ++ pairs l.header.order l.image (take l.at-index l.offs)
+  held : map pair_seen l.all.items ≡ map pair_seen l.initial.all.items ++ pairs l.header.order l.image (take l.at-index l.offs);
 }
