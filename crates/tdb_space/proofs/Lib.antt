@@ -4,3 +4,5 @@ pub mod Listed
 pub mod Gathered
 pub mod Maps
 pub mod Ahead
+pub mod Counts
+pub mod Kept
