@@ -119,3 +119,58 @@ pair_kept f a b x longer whole body fits =
           (λ i. (key_kept f a b x longer whole (fits used) body i, data_kept f a b x longer whole (fits used) body i) ∷ []))
     | inr other ↦ rw (ne_eqb (magic_of f.order b x) USED (λ e. other (sym magic ∙ e))) (rw (ne_eqb (magic_of f.order a x) USED other) refl)
     ]
+
+-- a list of records that stay has the same extents, the same pairs, and is filed and linked as before
+pub extents_kept : (f : Form) (a b : List ℕ) (xs : List ℕ) → Bodies a b f xs → extents f.order b xs ≡ extents f.order a xs
+extents_kept f a b [] bodies = refl
+extents_kept f a b (x ∷ xs) bodies =
+    let len : rec_len_of f.order b x ≡ rec_len_of f.order a x = (words_kept f a b x bodies.0).rec_len in
+    let rest = extents_kept f a b xs bodies.1 in
+    λ i. (x, 24 + len i) ∷ rest i
+
+pub filed_all_kept : (f : Form) (M : ℕ → Type 0) (a b : List ℕ) (j at : ℕ) (xs : List ℕ) → length a ≤ length b → Linked f M a at xs → Bodies a b f xs → AllFiled f a j xs → AllFiled f b j xs
+filed_all_kept f M a b j at [] longer p bodies filed = tt
+filed_all_kept f M a b j at (x ∷ xs) longer p bodies filed = (
+    λ used. filed_kept f a b j x longer p.1 bodies.0 (filed.0 (sym (words_kept f a b x bodies.0).magic ∙ used)),
+    filed_all_kept f M a b j (word f.order a x) xs longer p.3 bodies.1 filed.1
+)
+
+pub pairs_kept : (f : Form) (M : ℕ → Type 0) (a b : List ℕ) (j at : ℕ) (xs : List ℕ) → length a ≤ length b → Linked f M a at xs → Bodies a b f xs → AllFiled f a j xs → pairs f.order b xs ≡ pairs f.order a xs
+pairs_kept f M a b j at [] longer p bodies filed = refl
+pairs_kept f M a b j at (x ∷ xs) longer p bodies filed =
+    let here = pair_kept f a b x longer p.1 bodies.0 (λ used. (filed.0 used).fits) in
+    let rest = pairs_kept f M a b j (word f.order a x) xs longer p.3 bodies.1 filed.1 in
+    λ i. here i ++ rest i
+
+pub linked_kept : (f : Form) (M : ℕ → Type 0) (a b : List ℕ) (at : ℕ) (xs : List ℕ) → length a ≤ length b → Linked f M a at xs → Bodies a b f xs → Nexts a b f xs → Linked f M b at xs
+linked_kept f M a b at [] longer p bodies nexts = p
+linked_kept f M a b at (x ∷ xs) longer p bodies nexts = (
+    p.0,
+    whole_kept f a b x longer p.1 bodies.0,
+    subst M (sym (words_kept f a b x bodies.0).magic) p.2,
+    subst (λ y. Linked f M b y xs) (sym nexts.0) (linked_kept f M a b (word f.order a x) xs longer p.3 bodies.1 nexts.1)
+)
+
+-- where each byte of a list's records stays, the records and what they lead to do
+pub bodies_still : (f : Form) (a b : List ℕ) (xs : List ℕ) → Still a b f xs → Bodies a b f xs
+bodies_still f a b [] still = tt
+bodies_still f a b (x ∷ xs) still = (
+    λ i low high. still i (omega (arith, once_in (extent_at f.order a x) i (omega arith) (omega arith))),
+    bodies_still f a b xs (λ i held. still i (omega (arith, held)))
+)
+
+pub nexts_still : (f : Form) (a b : List ℕ) (xs : List ℕ) → Still a b f xs → Nexts a b f xs
+nexts_still f a b [] still = tt
+nexts_still f a b (x ∷ xs) still = (
+    word_agrees f.order b a x (λ i low high. still i (omega (arith, once_in (extent_at f.order a x) i low (omega arith)))),
+    nexts_still f a b xs (λ i held. still i (omega (arith, held)))
+)
+
+-- a byte that records of a list hold stands behind the heads and within the image
+pub times_within : (f : Form) (M : ℕ → Type 0) (a : List ℕ) (at : ℕ) (xs : List ℕ) (i : ℕ) → Linked f M a at xs → 1 ≤ times (extents f.order a xs) i → (data_start f ≤ i) × (i < length a)
+times_within f M a at [] i p held = absurd (omega (arith, held))
+times_within f M a at (x ∷ xs) i p held =
+    elim (cases_lt 0 (once (extent_at f.order a x) i)) [
+      inl some ↦ let lies = once_lies (extent_at f.order a x) i (omega (arith, some)) in (omega (arith, lies.0, p.1.above), omega (arith, lies.1, p.1.within))
+    | inr none ↦ times_within f M a (word f.order a x) xs i p.3 (omega (arith, held, none))
+    ]

@@ -6,3 +6,4 @@ pub mod Maps
 pub mod Ahead
 pub mod Counts
 pub mod Kept
+pub mod Headers
