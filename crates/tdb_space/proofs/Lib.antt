@@ -7,3 +7,5 @@ pub mod Ahead
 pub mod Counts
 pub mod Kept
 pub mod Headers
+pub mod Laid
+pub mod Swaps
