@@ -9,3 +9,4 @@ pub mod Kept
 pub mod Headers
 pub mod Laid
 pub mod Swaps
+pub mod FreeSwaps

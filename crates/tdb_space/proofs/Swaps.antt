@@ -1,5 +1,5 @@
 -- One chain's records and the hands are exchanged for others: the image stays accepted, and the map changes as the chain does.
-use Rattle.std.proofs.Common.{◌≡◌, ℕ, ◌+◌, ◌<◌, ◌≤◌, ◌⊎◌, List, [], ◌∷◌, ◌++◌, length, cond, Option, Some, None, eqb, refl, sym, ◌∙◌, ap, subst, inl, inr, arith}
+use Rattle.std.proofs.Common.{◌≡◌, ℕ, ◌+◌, ◌<◌, ◌≤◌, ◌⊎◌, List, [], ◌∷◌, ◌++◌, length, cond, Option, Some, None, eqb, false, refl, sym, ◌∙◌, ap, subst, inl, inr, arith}
 use Rattle.std.specs.Prelude.{slice_index, ◌%◌, map, if◌then◌else◌}
 use Rattle.std.specs.Map.{lookup, update}
 use Rattle.std.specs.List.{IsDistinct}
@@ -17,8 +17,8 @@ use Rattle.tdb_space.specs.Exchange.{Exchanged}
 use Rattle.tdb_space.proofs.Counts.{once_in, once_lies, times_all, times_member, times_two, times_swapped}
 use Rattle.tdb_space.proofs.Kept.{Still, bodies_still, nexts_still, linked_kept, extents_kept, filed_all_kept, pairs_kept, times_within, word_kept}
 use Rattle.tdb_space.proofs.Headers.{form_kept, header_kept}
-use Rattle.tdb_space.proofs.Laid.{accepted, order_met, accepted_filed}
-use Rattle.tdb_space.proofs.Maps.{map_home}
+use Rattle.tdb_space.proofs.Laid.{accepted, chains_met, free_met, accepted_filed}
+use Rattle.tdb_space.proofs.Maps.{map_home, home_below, same_key-other}
 
 -- the chains, with others in the place of one
 abbrev pub put : (ℕ → List ℕ) → ℕ → List ℕ → ℕ → List ℕ
@@ -183,3 +183,49 @@ module _ (f : Form) (a b : List ℕ) (j : ℕ) (ys : List ℕ) (hands news : Lis
   -- the image is accepted with the new hands
   pub exchanged : AcceptWith f b news
   exchanged = accepted f b (put (chain_of f a) j ys) (free_of f a) news laid
+
+  -- its chains are the old ones but for the one that was exchanged, and its free list is the old one
+  pub chain_now : chain_of f b j ≡ ys
+  chain_now = chains_met f b (put (chain_of f a) j ys) (free_of f a) news laid j low_j ∙ put_here (chain_of f a) j ys j refl
+
+  pub chain_else : (k : ℕ) → k < f.chains → (k ≡ j → ⊥) → chain_of f b k ≡ chain_of f a k
+  chain_else k low ne = chains_met f b (put (chain_of f a) j ys) (free_of f a) news laid k low ∙ put_other (chain_of f a) j ys k ne
+
+  pub free_else : free_of f b ≡ free_of f a
+  free_else = free_met f b (put (chain_of f a) j ys) (free_of f a) news laid
+
+  -- a key of the chain is looked up in its new records, and another one is found as before
+  pub map_here : (q : List ℕ) → home f q ≡ j → map_of f b q ≡ lookup (same_key q) (pairs f.order b ys)
+  map_here q e =
+      map_home f b q (accepted_filed f b news exchanged) ∙ ap (λ k. lookup (same_key q) (pairs f.order b (chain_of f b k))) e
+      ∙ ap (λ xs. lookup (same_key q) (pairs f.order b xs)) chain_now
+
+  pub map_else : (q : List ℕ) → (home f q ≡ j → ⊥) → map_of f b q ≡ map_of f a q
+  map_else q ne =
+      let low = home_below f q A.some in
+      map_home f b q (accepted_filed f b news exchanged)
+      ∙ ap (λ xs. lookup (same_key q) (pairs f.order b xs)) (chain_else (home f q) low ne)
+      ∙ ap (lookup (same_key q)) (other_pairs (home f q) low ne)
+      ∙ sym (map_home f a q (accepted_filed f a hands A))
+
+  -- so the map stays where the pairs of the chain do
+  pub map_same : ((q : List ℕ) → lookup (same_key q) (pairs f.order b ys) ≡ lookup (same_key q) (pairs f.order a (chain_of f a j))) → (q : List ℕ) → map_of f b q ≡ map_of f a q
+  map_same same q =
+      elim (cases_eq (home f q) j) [
+        inl e ↦
+          map_here q e ∙ same q ∙ ap (λ k. lookup (same_key q) (pairs f.order a (chain_of f a k))) (sym e)
+          ∙ sym (map_home f a q (accepted_filed f a hands A))
+      | inr ne ↦ map_else q ne
+      ]
+
+  -- and changes at one key where the pairs of the chain do
+  pub map_updated : (k : List ℕ) (w : Option (List ℕ)) → home f k ≡ j → ((q : List ℕ) → lookup (same_key q) (pairs f.order b ys) ≡ update same_key (λ p. lookup (same_key p) (pairs f.order a (chain_of f a j))) k w q) → (q : List ℕ) → map_of f b q ≡ update same_key (map_of f a) k w q
+  map_updated k w here changed q =
+      elim (cases_eq (home f q) j) [
+        inl e ↦
+          map_here q e ∙ changed q
+          ∙ ap (λ o. cond (same_key k q) w o) (ap (λ l. lookup (same_key q) (pairs f.order a (chain_of f a l))) (sym e) ∙ sym (map_home f a q (accepted_filed f a hands A)))
+      | inr ne ↦
+          let apart : same_key k q ≡ false = same_key-other k q (λ same. ne (ap (home f) (sym same) ∙ here)) in
+          map_else q ne ∙ sym (rw apart refl)
+      ]
