@@ -10,3 +10,5 @@ pub mod Headers
 pub mod Laid
 pub mod Swaps
 pub mod FreeSwaps
+pub mod Hands
+pub mod Links
