@@ -12,3 +12,5 @@ pub mod Swaps
 pub mod FreeSwaps
 pub mod Hands
 pub mod Links
+pub mod Grown
+pub mod Fresh
