@@ -14,3 +14,5 @@ pub mod Hands
 pub mod Links
 pub mod Grown
 pub mod Fresh
+pub mod Members
+pub mod Unlinks

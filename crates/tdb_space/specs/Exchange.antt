@@ -66,3 +66,9 @@ pub record GrownBy (f : Form) (a b : List ℕ) (rec_len : ℕ) : Type 0 where
   pub aligned : rec_len % 4 ≡ 0
   pub size : length b ≡ length a + 24 + rec_len
   pub others : (i : ℕ) → i < length a → slice_index b i ≡ slice_index a i
+
+-- From image a to image b just one word changes, that at an offset which led to the record y: it leads to what comes after y
+pub record LedPast (f : Form) (a b : List ℕ) (before y : ℕ) : Type 0 where
+  pub size : length b ≡ length a
+  pub next : word f.order b before ≡ next_of f.order a y
+  pub others : (i : ℕ) → (i < before) ⊎ (before + 4 ≤ i) → slice_index b i ≡ slice_index a i
