@@ -16,3 +16,4 @@ pub mod Grown
 pub mod Fresh
 pub mod Members
 pub mod Unlinks
+pub mod Removes
