@@ -17,3 +17,5 @@ pub mod Fresh
 pub mod Members
 pub mod Unlinks
 pub mod Removes
+pub mod Touches
+pub mod Updates

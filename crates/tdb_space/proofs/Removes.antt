@@ -30,7 +30,7 @@ abbrev pub keys_in : List (List ℕ × List ℕ) → List (List ℕ)
 keys_in ps = map (λ (p : List ℕ × List ℕ). p.0) ps
 
 -- each used record's key is among the keys, so what holds of each key holds of it
-key_among : (o : Order) (img xs : List ℕ) (P : List ℕ → Type 0) (y : ℕ) → AllByRecursion P (keys_in (pairs o img xs)) → Member y xs → magic_of o img y ≡ USED → P (key_at o img y)
+pub key_among : (o : Order) (img xs : List ℕ) (P : List ℕ → Type 0) (y : ℕ) → AllByRecursion P (keys_in (pairs o img xs)) → Member y xs → magic_of o img y ≡ USED → P (key_at o img y)
 key_among o img [] P y all m used = absurd (false≢true m)
 key_among o img (x ∷ xs) P y all m used =
     elim (cases_eq (magic_of o img x) USED) [
@@ -83,7 +83,7 @@ all_removed : (P : List ℕ → Type 0) (t : List ℕ → Bool) (ps : List (List
 all_removed P t [] all = tt
 all_removed P t (p ∷ ps) all = elim (cases_Bool (t p.0)) [ inl e ↦ rw e all.1 | inr e ↦ rw e (all.0, all_removed P t ps all.1) ]
 
-distinct_removed : (t : List ℕ → Bool) (ps : List (List ℕ × List ℕ)) → IsDistinct same_key (keys_in ps) → IsDistinct same_key (keys_in (remove_entry t ps))
+pub distinct_removed : (t : List ℕ → Bool) (ps : List (List ℕ × List ℕ)) → IsDistinct same_key (keys_in ps) → IsDistinct same_key (keys_in (remove_entry t ps))
 distinct_removed t [] distinct = distinct
 distinct_removed t (p ∷ ps) distinct =
     let first = IsDistinct-head same_key p.0 (keys_in ps) distinct in
@@ -118,7 +118,7 @@ filed_member f a j (x ∷ xs) y filed m used =
     | inr there ↦ filed_member f a j xs y filed.1 there used
     ]
 
-home_of_member : (f : Form) (a : List ℕ) (j : ℕ) (xs : List ℕ) (y : ℕ) → AllFiled f a j xs → Member y xs → magic_of f.order a y ≡ USED → home f (key_at f.order a y) ≡ j
+pub home_of_member : (f : Form) (a : List ℕ) (j : ℕ) (xs : List ℕ) (y : ℕ) → AllFiled f a j xs → Member y xs → magic_of f.order a y ≡ USED → home f (key_at f.order a y) ≡ j
 home_of_member f a j xs y filed m used =
     let here = filed_member f a j xs y filed m used in
     ap (λ n. n % f.chains) (sym here.hashed) ∙ here.placed
