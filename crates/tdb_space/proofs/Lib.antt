@@ -19,3 +19,5 @@ pub mod Unlinks
 pub mod Removes
 pub mod Touches
 pub mod Updates
+pub mod Trades
+pub mod Frees
