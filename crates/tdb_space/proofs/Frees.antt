@@ -1,10 +1,10 @@
 -- Trades with the free list of an accepted image: it stays accepted, and its pairs and its map stay.
-use Rattle.std.proofs.Common.{◌≡◌, ℕ, ◌+◌, ◌<◌, ◌≤◌, List, [], ◌∷◌, ◌++◌, sym, ◌∙◌, ap, arith}
+use Rattle.std.proofs.Common.{◌≡◌, ℕ, ◌+◌, ◌≤◌, List, [], ◌∷◌, ◌++◌, arith}
 use Rattle.tdb_space.specs.Form.{Form, free_head}
 use Rattle.tdb_space.specs.Record.{IsFree, rec_len_of, magic_of}
 use Rattle.tdb_space.specs.Chain.{chain_of, free_of, Member, Leads, without}
-use Rattle.tdb_space.specs.Pairs.{joined, order_of, map_of}
-use Rattle.tdb_space.specs.Extents.{HandPair, AllHandOk, times, once, extents, hand_extents}
+use Rattle.tdb_space.specs.Pairs.{order_of, map_of}
+use Rattle.tdb_space.specs.Extents.{HandPair, AllHandOk, times, once, extents}
 use Rattle.tdb_space.specs.Accepted.{AcceptWith}
 use Rattle.tdb_space.specs.Exchange.{FreeExchanged, LedPast, PutFree, Touched}
 use Rattle.tdb_space.proofs.Counts.{times_all}

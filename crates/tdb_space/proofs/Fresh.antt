@@ -1,6 +1,6 @@
 -- An image of just a header and zero heads is accepted, and holds no pair.
-use Rattle.std.proofs.Common.{◌≡◌, ℕ, zero, suc, ◌+◌, ◌<◌, ◌≤◌, List, [], ◌∷◌, ◌++◌, length, refl, sym, ◌∙◌, ap, inl, arith}
-use Rattle.std.specs.Prelude.{slice_index, ◌%◌, map}
+use Rattle.std.proofs.Common.{◌≡◌, ℕ, zero, suc, ◌+◌, ◌<◌, ◌≤◌, List, [], ◌++◌, length, refl, ◌∙◌, ap, inl, arith}
+use Rattle.std.specs.Prelude.{slice_index}
 use Rattle.std.specs.List.{IsDistinct}
 use Rattle.std.proofs.lemmas.Bool.{eq-eqb}
 use Rattle.tdb_words.specs.declared.word.Order.{Order}
@@ -8,8 +8,8 @@ use Rattle.tdb_words.specs.declared.word.Order.TheVariants.{Little, Big}
 use Rattle.tdb_words.specs.Word.{word}
 use Rattle.tdb_words.specs.Header.{HeaderOk}
 use Rattle.tdb_space.specs.Form.{Form, form_of, chain_head, free_head, data_start}
-use Rattle.tdb_space.specs.Pairs.{joined, pairs, order_of, same_key}
-use Rattle.tdb_space.specs.Extents.{HandPair, times, area, all_extents, extents}
+use Rattle.tdb_space.specs.Pairs.{joined, order_of, same_key}
+use Rattle.tdb_space.specs.Extents.{times, area, all_extents, extents}
 use Rattle.tdb_space.specs.Accepted.{LaidOut, AcceptWith}
 use Rattle.tdb_space.proofs.Counts.{times_all}
 use Rattle.tdb_space.proofs.Laid.{accepted, order_met}

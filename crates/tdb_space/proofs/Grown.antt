@@ -1,18 +1,18 @@
 -- A file that grows by a hand stays accepted, and holds the same pairs; with the record that is then put in front of its chain,
 -- that is how a key is added at the end of a file.
-use Rattle.std.proofs.Common.{◌≡◌, ℕ, zero, suc, ◌+◌, ◌<◌, ◌≤◌, ◌⊎◌, List, [], ◌∷◌, ◌++◌, length, cond, Some, None, refl, sym, ◌∙◌, ap, subst, inl, inr, arith}
-use Rattle.std.specs.Prelude.{slice_index, ◌%◌, map}
+use Rattle.std.proofs.Common.{◌≡◌, ℕ, zero, suc, ◌+◌, ◌<◌, ◌≤◌, List, ◌∷◌, length, cond, Some, None, sym, ◌∙◌, ap, subst, inl, inr, arith}
+use Rattle.std.specs.Prelude.{slice_index, map}
 use Rattle.std.specs.Map.{lookup, update}
 use Rattle.std.specs.List.{IsDistinct}
 use Rattle.std.proofs.lemmas.Bool.{cases_lt, cases_eq, eq-eqb, ne_eqb}
 use Rattle.tdb_words.specs.Word.{word}
 use Rattle.tdb_words.proofs.Words.{word_agrees}
-use Rattle.tdb_space.specs.Form.{Form, chain_head, free_head, data_start, SameHeader}
+use Rattle.tdb_space.specs.Form.{Form, chain_head, free_head, SameHeader}
 use Rattle.tdb_space.specs.Record.{IsChained, IsFree}
 use Rattle.tdb_space.specs.Chain.{Linked, chain_of, free_of}
 use Rattle.tdb_space.specs.Pairs.{joined, pairs, order_of, map_of, same_key}
-use Rattle.tdb_space.specs.Extents.{Extent, HandPair, times, once, extents, extent_at, area, all_extents, hand_extents}
-use Rattle.tdb_space.specs.Accepted.{AreaOk, Shut, LaidOut, AcceptWith, KeysDiffer}
+use Rattle.tdb_space.specs.Extents.{Extent, HandPair, times, once, extents, extent_at, area, all_extents}
+use Rattle.tdb_space.specs.Accepted.{AreaOk, Shut, LaidOut, AcceptWith}
 use Rattle.tdb_space.specs.Exchange.{GrownBy, PutInFront}
 use Rattle.tdb_space.proofs.Counts.{where_is, once_lies, times-append, times_all, joined_same}
 use Rattle.tdb_space.proofs.Counts.Lies.{lies, below, above}

@@ -21,3 +21,6 @@ pub mod Touches
 pub mod Updates
 pub mod Trades
 pub mod Frees
+pub mod Orders
+pub mod Sorted
+pub mod Sequence

@@ -1,10 +1,10 @@
 -- Single records of a list: what holds of each, and that two of them share no byte that is held once.
-use Rattle.std.proofs.Common.{◌≡◌, ℕ, ◌+◌, ◌<◌, ◌≤◌, ◌⊎◌, List, [], ◌∷◌, length, eqb, refl, sym, ◌∙◌, ap, subst, inl, inr, arith}
+use Rattle.std.proofs.Common.{◌≡◌, ℕ, ◌+◌, ◌≤◌, ◌⊎◌, List, [], ◌∷◌, sym, ◌∙◌, ap, subst, inl, inr, arith}
 use Rattle.std.proofs.lemmas.Bool.{cases_eq, eq-eqb, ne_eqb, false≢true}
 use Rattle.tdb_words.specs.declared.word.Order.{Order}
 use Rattle.tdb_words.specs.Word.{word}
 use Rattle.tdb_space.specs.Form.{Form}
-use Rattle.tdb_space.specs.Chain.{Linked, Member, Leads, without}
+use Rattle.tdb_space.specs.Chain.{Member, Leads, without}
 use Rattle.tdb_space.specs.Extents.{times, once, extents, extent_at}
 use Rattle.tdb_space.proofs.Kept.{Body, Bodies, Nexts}
 use Rattle.tdb_space.proofs.Walks.{member_cases, member_first, member_other}

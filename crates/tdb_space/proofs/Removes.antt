@@ -1,6 +1,6 @@
 -- A record is taken out of its chain and becomes a hand: the image stays accepted, and its map loses the record's key if it was used.
-use Rattle.std.proofs.Common.{◌≡◌, ℕ, ◌+◌, ◌<◌, ◌≤◌, ◌⊎◌, List, [], ◌∷◌, ◌++◌, length, cond, Option, Some, None, false, true, eqb, refl, sym, ◌∙◌, ap, subst, inl, inr, arith}
-use Rattle.std.specs.Prelude.{Bool, slice_index, ◌%◌, map}
+use Rattle.std.proofs.Common.{◌≡◌, ℕ, ◌+◌, ◌<◌, ◌≤◌, List, [], ◌∷◌, ◌++◌, length, None, false, true, refl, sym, ◌∙◌, ap, subst, inl, inr, arith}
+use Rattle.std.specs.Prelude.{Bool, ◌%◌, map}
 use Rattle.std.specs.Map.{lookup, update, remove_entry}
 use Rattle.std.specs.List.{IsDistinct, AllByRecursion}
 use Rattle.std.proofs.lemmas.Bool.{cases_lt, cases_eq, cases_Bool, eq-eqb, ne_eqb, false≢true}
@@ -13,14 +13,14 @@ use Rattle.tdb_words.specs.Word.{word}
 use Rattle.tdb_space.specs.Form.{Form, chain_head, data_start}
 use Rattle.tdb_space.specs.Record.{IsChained, key_at, data_at, rec_len_of, magic_of}
 use Rattle.tdb_space.specs.Chain.{Linked, chain_of, free_of, Member, Leads, without}
-use Rattle.tdb_space.specs.Pairs.{joined, pair_of, pairs, map_of, home, same_key}
-use Rattle.tdb_space.specs.Extents.{HandPair, HandOk, times, extents, hand_extents}
+use Rattle.tdb_space.specs.Pairs.{pair_of, pairs, map_of, home, same_key}
+use Rattle.tdb_space.specs.Extents.{HandPair, HandOk, times, extents}
 use Rattle.tdb_space.specs.Accepted.{Filed, AllFiled, KeysDiffer, AcceptWith}
 use Rattle.tdb_space.specs.Exchange.{Exchanged, LedPast}
 use Rattle.tdb_space.proofs.Counts.{times_all, times_member}
 use Rattle.tdb_space.proofs.Kept.{Bodies, pair_kept, pairs_kept, filed_all_kept}
 use Rattle.tdb_space.proofs.Walks.{member_cases, linked_whole}
-use Rattle.tdb_space.proofs.Maps.{pairs_used, pairs_other, same_key-refl, same_key-eq, same_key-other}
+use Rattle.tdb_space.proofs.Maps.{pairs_used, pairs_other, same_key-refl}
 use Rattle.tdb_space.proofs.Swaps.{exchanged, map_updated, map_same}
 use Rattle.tdb_space.proofs.Members.{led_from}
 use Rattle.tdb_space.proofs.Unlinks.{unlinked, unlinked_count, unlinked_member, unlinked_bodies, changed_word}

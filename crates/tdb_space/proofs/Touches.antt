@@ -1,7 +1,7 @@
 -- One record of a list is changed where it stands.
-use Rattle.std.proofs.Common.{◌≡◌, ℕ, ◌+◌, ◌<◌, ◌≤◌, ◌⊎◌, List, [], ◌∷◌, ◌++◌, length, Bool, true, false, refl, sym, ◌∙◌, ap, subst, inl, inr, arith}
+use Rattle.std.proofs.Common.{◌≡◌, ℕ, ◌+◌, ◌<◌, ◌≤◌, List, [], ◌∷◌, ◌++◌, length, true, false, refl, sym, ◌∙◌, ap, subst, inl, inr, arith}
 use Rattle.std.specs.Prelude.{slice_index}
-use Rattle.std.specs.Map.{remove_entry, set_value}
+use Rattle.std.specs.Map.{set_value}
 use Rattle.std.specs.List.{IsDistinct}
 use Rattle.std.proofs.lemmas.Bool.{cases_lt, cases_eq, eq-eqb, ne_eqb, false≢true}
 use Rattle.std.proofs.lemmas.Cmp.{nat_list_eq_equiv}
@@ -19,7 +19,7 @@ use Rattle.tdb_space.specs.Accepted.{Filed, AllFiled}
 use Rattle.tdb_space.specs.Exchange.{Touched}
 use Rattle.tdb_space.proofs.Counts.{once_in}
 use Rattle.tdb_space.proofs.Kept.{Body, Bodies, words_kept, whole_kept, pair_kept, filed_kept, extents_kept, pairs_kept}
-use Rattle.tdb_space.proofs.Walks.{member_cases, member_first, member_other, linked_whole, linked_apart}
+use Rattle.tdb_space.proofs.Walks.{member_cases, member_first, member_other, linked_apart}
 use Rattle.tdb_space.proofs.Members.{bodies_from, two_members}
 use Rattle.tdb_space.proofs.Maps.{pairs_used, pairs_other, same_key-refl}
 use Rattle.tdb_space.proofs.Removes.{keys_in, key_among}

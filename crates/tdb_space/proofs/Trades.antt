@@ -1,14 +1,13 @@
 -- Trades between the free list and hands: one record is taken out, one is put in front, one is cut where it stands. They need no
 -- accepted image: just a list of free records whose bytes, and those of the hands, are held once.
-use Rattle.std.proofs.Common.{◌≡◌, ℕ, ◌+◌, ◌<◌, ◌≤◌, ◌⊎◌, List, [], ◌∷◌, ◌++◌, length, refl, sym, ◌∙◌, ap, subst, inl, inr, arith}
-use Rattle.std.specs.Prelude.{slice_index, ◌%◌}
-use Rattle.std.proofs.lemmas.Bool.{cases_lt, cases_eq}
+use Rattle.std.proofs.Common.{◌≡◌, ℕ, ◌+◌, ◌≤◌, List, [], ◌∷◌, ◌++◌, refl, sym, ◌∙◌, ap, subst, inl, inr, arith}
+use Rattle.std.proofs.lemmas.Bool.{cases_lt}
 use Rattle.tdb_words.specs.Word.{word}
 use Rattle.tdb_words.proofs.Words.{word_agrees}
 use Rattle.tdb_space.specs.Form.{Form, free_head, data_start}
 use Rattle.tdb_space.specs.Record.{IsFree, rec_len_of, magic_of}
 use Rattle.tdb_space.specs.Chain.{Linked, Free, Member, Leads, without}
-use Rattle.tdb_space.specs.Extents.{HandPair, HandOk, AllHandOk, times, once, extents, extent_at, hand_extents}
+use Rattle.tdb_space.specs.Extents.{HandPair, AllHandOk, times, once, extents, extent_at, hand_extents}
 use Rattle.tdb_space.specs.Exchange.{FreeExchanged, LedPast, PutFree, Touched}
 use Rattle.tdb_space.proofs.Counts.{where_is, once_in, once_joined, times-append}
 use Rattle.tdb_space.proofs.Counts.Lies.{lies, below, above}

@@ -1,6 +1,6 @@
 -- A used record is changed where it stands: it gets another value, or it is marked dead.
-use Rattle.std.proofs.Common.{◌≡◌, ℕ, ◌+◌, ◌<◌, ◌≤◌, ◌⊎◌, List, [], ◌∷◌, ◌++◌, length, Option, Some, None, true, cond, refl, sym, ◌∙◌, ap, subst, inl, inr, arith}
-use Rattle.std.specs.Prelude.{slice_index, ◌%◌, map}
+use Rattle.std.proofs.Common.{◌≡◌, ℕ, ◌+◌, ◌<◌, ◌≤◌, List, [], ◌∷◌, Option, Some, None, true, refl, sym, ◌∙◌, ap, subst, inl, inr, arith}
+use Rattle.std.specs.Prelude.{◌%◌}
 use Rattle.std.specs.Map.{lookup, update, remove_entry, set_value}
 use Rattle.std.specs.List.{IsDistinct}
 use Rattle.std.specs.Option.{IsSome}
@@ -14,9 +14,9 @@ use Rattle.tdb_words.specs.Word.{word}
 use Rattle.tdb_words.proofs.Words.{word_agrees}
 use Rattle.tdb_space.specs.Form.{Form, chain_head, data_start}
 use Rattle.tdb_space.specs.Record.{IsChained, Fits, key_at, data_at, full_hash_of, magic_of, rec_len_of}
-use Rattle.tdb_space.specs.Chain.{Linked, chain_of, free_of, Member, without}
-use Rattle.tdb_space.specs.Pairs.{joined, pairs, map_of, home, same_key}
-use Rattle.tdb_space.specs.Extents.{HandPair, times, once, extents, extent_at, hand_extents}
+use Rattle.tdb_space.specs.Chain.{Linked, chain_of, free_of, Member}
+use Rattle.tdb_space.specs.Pairs.{pairs, map_of, same_key}
+use Rattle.tdb_space.specs.Extents.{HandPair, times, once, extents, extent_at}
 use Rattle.tdb_space.specs.Accepted.{Filed, KeysDiffer, AcceptWith}
 use Rattle.tdb_space.specs.Exchange.{Exchanged, Touched}
 use Rattle.tdb_space.proofs.Counts.{once_in, times_all, times_member}

@@ -91,3 +91,8 @@ pub record PutFree (f : Form) (a b : List ℕ) (hand : HandPair) : Type 0 where
   pub length_kept : rec_len_of f.order b hand.0 ≡ hand.1
   pub next : next_of f.order b hand.0 ≡ word f.order a free_head
   pub head : word f.order b free_head ≡ hand.0
+
+-- two images differ at most in the sequence number, the word at 48
+pub record ButSequence (a b : List ℕ) : Type 0 where
+  pub size : length b ≡ length a
+  pub others : (i : ℕ) → (i < 48) ⊎ (52 ≤ i) → slice_index b i ≡ slice_index a i
