@@ -55,7 +55,7 @@ module _ (f : Form) (a b : List ℕ) (ys : List ℕ) (hands news : List HandPair
   counts : (i : ℕ) → times (all_extents f b (chain_of f a) ys news) i ≡ times (all_extents f a (chain_of f a) (free_of f a) hands) i
   counts i =
       let chains : times (joined f.chains (λ k. extents f.order b (chain_of f a k))) i ≡ times (joined f.chains (λ k. extents f.order a (chain_of f a k))) i =
-          ap (λ es. times es i) (joined_same f.chains (λ k. extents f.order b (chain_of f a k)) (λ k. extents f.order a (chain_of f a k)) (λ k low. extents_kept f a b (chain_of f a k) (bodies_still f a b (chain_of f a k) (chain_still k low)))) in
+      ap (λ es. times es i) (joined_same f.chains (λ k. extents f.order b (chain_of f a k)) (λ k. extents f.order a (chain_of f a k)) (λ k low. extents_kept f a b (chain_of f a k) (bodies_still f a b (chain_of f a k) (chain_still k low)))) in
       let undos : times (area f.order b) i ≡ times (area f.order a) i = ap (λ es. times es i) undo.0 in
       omega (arith, chains, undos, parts i, times_all f b (chain_of f a) ys news i, E.count i)
 
@@ -75,9 +75,9 @@ module _ (f : Form) (a b : List ℕ) (ys : List ℕ) (hands news : List HandPair
     held = hands_kept f a b news longer E.held;
     apart = λ i. omega (arith, counts i, A.apart i);
     stray = λ i above below none.
-      (let nothing : times (all_extents f a (chain_of f a) (free_of f a) hands) i ≡ 0 = sym (counts i) ∙ none in
-       let same : slice_index b i ≡ slice_index a i = E.high i above (omega (arith, nothing, parts i)) in
-       elim (A.stray i above (omega (arith, below, E.size)) nothing) [ inl zero_there ↦ inl (same ∙ zero_there) | inr padding ↦ inr (same ∙ padding) ])
+        (let nothing : times (all_extents f a (chain_of f a) (free_of f a) hands) i ≡ 0 = sym (counts i) ∙ none in
+        let same : slice_index b i ≡ slice_index a i = E.high i above (omega (arith, nothing, parts i)) in
+        elim (A.stray i above (omega (arith, below, E.size)) nothing) [ inl zero_there ↦ inl (same ∙ zero_there) | inr padding ↦ inr (same ∙ padding) ]);
   }
 
   -- the image is accepted with the new hands

@@ -39,9 +39,9 @@ module _ (f : Form) (a b : List ℕ) (h : HandPair) (hs : List HandPair) (k v : 
   still i held =
       P.high i (times_within f IsChained a (word f.order a (chain_head (home f k))) (chain_of f a (home f k)) i (A.chains (home f k) low_j) held).0
       (elim (where_is (h.0, 24 + h.1) i) [
-        lies _ _ one ↦ absurd (omega (arith, one, held, A.apart i, times_all f a (chain_of f a) (free_of f a) (h ∷ hs) i, times_member (λ l. extents f.order a (chain_of f a l)) (home f k) i f.chains low_j))
-      | below under _ ↦ inl under
-      | above over _ ↦ inr (omega (arith, over))
+        | lies _ _ one ↦ absurd (omega (arith, one, held, A.apart i, times_all f a (chain_of f a) (free_of f a) (h ∷ hs) i, times_member (λ l. extents f.order a (chain_of f a l)) (home f k) i f.chains low_j))
+        | below under _ ↦ inl under
+        | above over _ ↦ inr (omega (arith, over))
       ])
 
   bodies : Bodies a b f (chain_of f a (home f k))
@@ -64,30 +64,30 @@ module _ (f : Form) (a b : List ℕ) (h : HandPair) (hs : List HandPair) (k v : 
     size = P.size;
     low = P.low;
     high = λ i above_heads none.
-      P.high i above_heads
-      (elim (where_is (h.0, 24 + h.1) i) [ lies _ _ one ↦ absurd (omega (arith, one, none)) | below under _ ↦ inl under | above over _ ↦ inr (omega (arith, over)) ]);
+        P.high i above_heads
+        (elim (where_is (h.0, 24 + h.1) i) [ lies _ _ one ↦ absurd (omega (arith, one, none)) | below under _ ↦ inl under | above over _ ↦ inr (omega (arith, over)) ]);
     linked = (
       P.head,
       P.filled.whole,
       inl P.filled.used,
       subst (λ at. Linked f IsChained b at (chain_of f a (home f k))) (sym P.next)
-        (linked_kept f IsChained a b (word f.order a (chain_head (home f k))) (chain_of f a (home f k)) longer (A.chains (home f k) low_j) bodies (nexts_still f a b (chain_of f a (home f k)) still))
+          (linked_kept f IsChained a b (word f.order a (chain_head (home f k))) (chain_of f a (home f k)) longer (A.chains (home f k) low_j) bodies (nexts_still f a b (chain_of f a (home f k)) still)),
     );
     filed = (
       λ used. record {
         fits = P.filled.fits;
         hashed = P.filled.hashed ∙ ap (h_of f.hash) (sym P.filled.has_key);
-        placed = ap (λ n. n % f.chains) P.filled.hashed
+        placed = ap (λ n. n % f.chains) P.filled.hashed;
       },
-      filed_all_kept f IsChained a b (home f k) (word f.order a (chain_head (home f k))) (chain_of f a (home f k)) longer (A.chains (home f k) low_j) bodies (A.filed (home f k) low_j)
+      filed_all_kept f IsChained a b (home f k) (word f.order a (chain_head (home f k))) (chain_of f a (home f k)) longer (A.chains (home f k) low_j) bodies (A.filed (home f k) low_j),
     );
     keys = subst (λ ps. IsDistinct same_key (map (λ (p : List ℕ × List ℕ). p.0) ps)) (sym new_pairs)
-      (IsDistinct-cons same_key k (map (λ (p : List ℕ × List ℕ). p.0) (pairs f.order a (chain_of f a (home f k)))) differs (A.keys (home f k) low_j));
+        (IsDistinct-cons same_key k (map (λ (p : List ℕ × List ℕ). p.0) (pairs f.order a (chain_of f a (home f k)))) differs (A.keys (home f k) low_j));
     held = A.held.1;
     count = λ i.
-      (let old : times (extents f.order b (chain_of f a (home f k))) i ≡ times (extents f.order a (chain_of f a (home f k))) i = ap (λ es. times es i) (extents_kept f a b (chain_of f a (home f k)) bodies) in
-       let new : once (h.0, 24 + rec_len_of f.order b h.0) i ≡ once (h.0, 24 + h.1) i = ap (λ n. once (h.0, 24 + n) i) P.filled.length_kept in
-       omega (arith, old, new))
+        (let old : times (extents f.order b (chain_of f a (home f k))) i ≡ times (extents f.order a (chain_of f a (home f k))) i = ap (λ es. times es i) (extents_kept f a b (chain_of f a (home f k)) bodies) in
+        let new : once (h.0, 24 + rec_len_of f.order b h.0) i ≡ once (h.0, 24 + h.1) i = ap (λ n. once (h.0, 24 + n) i) P.filled.length_kept in
+        omega (arith, old, new));
   }
 
   -- the image is accepted without the hand

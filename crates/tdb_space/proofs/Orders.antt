@@ -21,10 +21,10 @@ keys_home f img j [] filed = tt
 keys_home f img j (x ∷ xs) filed =
     let rest = keys_home f img j xs filed.1 in
     elim (cases_eq (magic_of f.order img x) USED) [
-      inl used ↦
-        subst (λ ps. AllByRecursion (λ q. home f q ≡ j) (keys_in ps)) (sym (pairs_used f.order img x xs used))
-        (ap (λ h. h % f.chains) (sym (filed.0 used).hashed) ∙ (filed.0 used).placed, rest)
-    | inr other ↦ subst (λ ps. AllByRecursion (λ q. home f q ≡ j) (keys_in ps)) (sym (pairs_other f.order img x xs other)) rest
+      | inl used ↦
+          subst (λ ps. AllByRecursion (λ q. home f q ≡ j) (keys_in ps)) (sym (pairs_used f.order img x xs used))
+          (ap (λ h. h % f.chains) (sym (filed.0 used).hashed) ∙ (filed.0 used).placed, rest)
+      | inr other ↦ subst (λ ps. AllByRecursion (λ q. home f q ≡ j) (keys_in ps)) (sym (pairs_other f.order img x xs other)) rest
     ]
 
 all_append : (P : List ℕ → Type 0) (xs ys : List (List ℕ)) → AllByRecursion P xs → AllByRecursion P ys → AllByRecursion P (xs ++ ys)
@@ -59,11 +59,11 @@ spread f img (suc n) filed differ =
     let split : keys_in (fronts ++ lasts) ≡ keys_in fronts ++ keys_in lasts = map-append (λ (p : List ℕ × List ℕ). p.0) fronts lasts in
     record {
       below = subst (AllByRecursion (λ q. home f q < suc n)) (sym split)
-        (all_append (λ q. home f q < suc n) (keys_in fronts) (keys_in lasts)
+          (all_append (λ q. home f q < suc n) (keys_in fronts) (keys_in lasts)
           (all_weaker (λ q. home f q < n) (λ q. home f q < suc n) (λ q low. omega (arith, low)) (keys_in fronts) front.below)
           (all_weaker (λ q. home f q ≡ n) (λ q. home f q < suc n) (λ q e. omega (arith, e)) (keys_in lasts) here));
       differ = subst (IsDistinct same_key) (sym split)
-        (distinct_append (λ q. home f q < n) (λ q. home f q ≡ n) (λ x y low e. same_key-other x y (λ same. absurd (omega (arith, low, e, ap (home f) same)))) (keys_in fronts) (keys_in lasts) front.below here front.differ (differ n (omega arith)))
+          (distinct_append (λ q. home f q < n) (λ q. home f q ≡ n) (λ x y low e. same_key-other x y (λ same. absurd (omega (arith, low, e, ap (home f) same)))) (keys_in fronts) (keys_in lasts) front.below here front.differ (differ n (omega arith)));
     }
 
 -- no key comes twice in the order of an accepted image
