@@ -1,7 +1,7 @@
 -- The free list's records and the hands are exchanged for others: the image stays accepted, and its pairs are as before.
 use Rattle.std.proofs.Common.{◌≡◌, ℕ, ◌+◌, ◌<◌, ◌≤◌, ◌⊎◌, List, length, sym, ◌∙◌, ap, subst, inl, inr, arith}
 use Rattle.std.specs.Prelude.{slice_index, ◌%◌, map}
-use Rattle.std.specs.Map.{lookup}
+use Rattle.std.specs.Map.{lookup, keys_of}
 use Rattle.std.specs.List.{IsDistinct}
 use Rattle.tdb_words.specs.Word.{word}
 use Rattle.tdb_words.proofs.Words.{word_agrees}
@@ -71,7 +71,7 @@ module _ (f : Form) (a b : List ℕ) (ys : List ℕ) (hands news : List HandPair
     chains = chain_linked;
     frees = E.linked;
     filed = λ k low. filed_all_kept f IsChained a b k (word f.order a (chain_head k)) (chain_of f a k) longer (A.chains k low) (bodies_still f a b (chain_of f a k) (chain_still k low)) (A.filed k low);
-    keys = λ k low. subst (λ ps. IsDistinct same_key (map (λ (p : List ℕ × List ℕ). p.0) ps)) (sym (chain_pairs k low)) (A.keys k low);
+    keys = λ k low. subst (λ ps. IsDistinct same_key (keys_of ps)) (sym (chain_pairs k low)) (A.keys k low);
     held = hands_kept f a b news longer E.held;
     apart = λ i. omega (arith, counts i, A.apart i);
     stray = λ i above below none.

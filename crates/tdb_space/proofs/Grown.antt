@@ -2,7 +2,7 @@
 -- that is how a key is added at the end of a file.
 use Rattle.std.proofs.Common.{◌≡◌, ℕ, zero, suc, ◌+◌, ◌<◌, ◌≤◌, List, ◌∷◌, length, cond, Some, None, sym, ◌∙◌, ap, subst, inl, inr, arith}
 use Rattle.std.specs.Prelude.{slice_index, map}
-use Rattle.std.specs.Map.{lookup, update}
+use Rattle.std.specs.Map.{lookup, update, keys_of}
 use Rattle.std.specs.List.{IsDistinct}
 use Rattle.std.proofs.lemmas.Bool.{cases_lt, cases_eq, eq-eqb, ne_eqb}
 use Rattle.tdb_words.specs.Word.{word}
@@ -106,7 +106,7 @@ module _ (f : Form) (a b : List ℕ) (n : ℕ) (hands : List HandPair) (A : Acce
     frees = subst (λ at. Linked f IsFree b at (free_of f a)) (sym (old_word free_head (omega (arith, A.long))))
         (linked_kept f IsFree a b (word f.order a free_head) (free_of f a) longer A.frees (bodies_still f a b (free_of f a) free_still) (nexts_still f a b (free_of f a) free_still));
     filed = λ k low. filed_all_kept f IsChained a b k (word f.order a (chain_head k)) (chain_of f a k) longer (A.chains k low) (bodies_still f a b (chain_of f a k) (chain_still k low)) (A.filed k low);
-    keys = λ k low. subst (λ ps. IsDistinct same_key (map (λ (p : List ℕ × List ℕ). p.0) ps)) (sym (chain_pairs k low)) (A.keys k low);
+    keys = λ k low. subst (λ ps. IsDistinct same_key (keys_of ps)) (sym (chain_pairs k low)) (A.keys k low);
     held = (record { aligned = A.sized; len_aligned = G.aligned; above = A.long; within = omega (arith, G.size) }, hands_kept f a b hands longer A.held);
     apart = λ i.
         elim (where_is (length a, 24 + n) i) [

@@ -1,7 +1,7 @@
 -- A hand that holds a record is put in front of its key's chain: the image stays accepted, and its map gains the key.
 use Rattle.std.proofs.Common.{◌≡◌, ℕ, ◌+◌, ◌<◌, ◌≤◌, List, [], ◌∷◌, length, cond, Some, None, false, refl, sym, ◌∙◌, ap, subst, inl, inr, arith}
 use Rattle.std.specs.Prelude.{◌%◌, map}
-use Rattle.std.specs.Map.{lookup, update}
+use Rattle.std.specs.Map.{lookup, update, keys_of}
 use Rattle.std.specs.List.{IsDistinct, AllByRecursion}
 use Rattle.std.proofs.lemmas.Cmp.{nat_list_eq_equiv}
 use Rattle.std.proofs.lemmas.Map.{NonePasses, none_passes_from_lookup}
@@ -23,7 +23,7 @@ use Rattle.tdb_space.proofs.Maps.{map_home, home_below, pairs_used}
 use Rattle.tdb_space.proofs.Swaps.{exchanged, map_updated}
 
 -- where no entry of a list has a key, the key differs from all of its keys
-keys_apart : (k : List ℕ) (ps : List (List ℕ × List ℕ)) → NonePasses (same_key k) ps → AllByRecursion (λ y. same_key k y ≡ false) (map (λ (p : List ℕ × List ℕ). p.0) ps)
+keys_apart : (k : List ℕ) (ps : List (List ℕ × List ℕ)) → NonePasses (same_key k) ps → AllByRecursion (λ y. same_key k y ≡ false) (keys_of ps)
 keys_apart k [] none = tt
 keys_apart k (p ∷ ps) none = (none.0, keys_apart k ps none.1)
 
@@ -54,7 +54,7 @@ module _ (f : Form) (a b : List ℕ) (h : HandPair) (hs : List HandPair) (k v : 
   new_pairs = pairs_used f.order b h.0 (chain_of f a (home f k)) P.filled.used ∙ (λ i. (P.filled.has_key i, P.filled.has_value i) ∷ old_pairs i)
 
   -- no record of the chain has the key
-  differs : AllByRecursion (λ y. same_key k y ≡ false) (map (λ (p : List ℕ × List ℕ). p.0) (pairs f.order a (chain_of f a (home f k))))
+  differs : AllByRecursion (λ y. same_key k y ≡ false) (keys_of (pairs f.order a (chain_of f a (home f k))))
   differs = keys_apart k (pairs f.order a (chain_of f a (home f k)))
       (none_passes_from_lookup (same_key k) (pairs f.order a (chain_of f a (home f k))) (sym (map_home f a k (accepted_filed f a (h ∷ hs) A)) ∙ free_key))
 
@@ -81,8 +81,8 @@ module _ (f : Form) (a b : List ℕ) (h : HandPair) (hs : List HandPair) (k v : 
       },
       filed_all_kept f IsChained a b (home f k) (word f.order a (chain_head (home f k))) (chain_of f a (home f k)) longer (A.chains (home f k) low_j) bodies (A.filed (home f k) low_j),
     );
-    keys = subst (λ ps. IsDistinct same_key (map (λ (p : List ℕ × List ℕ). p.0) ps)) (sym new_pairs)
-        (IsDistinct-cons same_key k (map (λ (p : List ℕ × List ℕ). p.0) (pairs f.order a (chain_of f a (home f k)))) differs (A.keys (home f k) low_j));
+    keys = subst (λ ps. IsDistinct same_key (keys_of ps)) (sym new_pairs)
+        (IsDistinct-cons same_key k (keys_of (pairs f.order a (chain_of f a (home f k)))) differs (A.keys (home f k) low_j));
     held = A.held.1;
     count = λ i.
         (let old : times (extents f.order b (chain_of f a (home f k))) i ≡ times (extents f.order a (chain_of f a (home f k))) i = ap (λ es. times es i) (extents_kept f a b (chain_of f a (home f k)) bodies) in

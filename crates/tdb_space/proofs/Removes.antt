@@ -1,7 +1,7 @@
 -- A record is taken out of its chain and becomes a hand: the image stays accepted, and its map loses the record's key if it was used.
 use Rattle.std.proofs.Common.{◌≡◌, ℕ, ◌+◌, ◌<◌, ◌≤◌, List, [], ◌∷◌, ◌++◌, length, None, false, true, refl, sym, ◌∙◌, ap, subst, inl, inr, arith}
 use Rattle.std.specs.Prelude.{Bool, ◌%◌, map}
-use Rattle.std.specs.Map.{lookup, update, remove_entry}
+use Rattle.std.specs.Map.{lookup, update, remove_entry, keys_of}
 use Rattle.std.specs.List.{IsDistinct, AllByRecursion}
 use Rattle.std.proofs.lemmas.Bool.{cases_lt, cases_eq, cases_Bool, eq-eqb, ne_eqb, false≢true}
 use Rattle.std.proofs.lemmas.Cmp.{nat_list_eq_equiv}
@@ -25,25 +25,21 @@ use Rattle.tdb_space.proofs.Swaps.{exchanged, map_updated, map_same}
 use Rattle.tdb_space.proofs.Members.{led_from}
 use Rattle.tdb_space.proofs.Unlinks.{unlinked, unlinked_count, unlinked_member, unlinked_bodies, changed_word}
 
--- the keys of pairs
-abbrev pub keys_in : List (List ℕ × List ℕ) → List (List ℕ)
-keys_in ps = map (λ (p : List ℕ × List ℕ). p.0) ps
-
 -- each used record's key is among the keys, so what holds of each key holds of it
-pub key_among : (o : Order) (img xs : List ℕ) (P : List ℕ → Type 0) (y : ℕ) → AllByRecursion P (keys_in (pairs o img xs)) → Member y xs → magic_of o img y ≡ USED → P (key_at o img y)
+pub key_among : (o : Order) (img xs : List ℕ) (P : List ℕ → Type 0) (y : ℕ) → AllByRecursion P (keys_of (pairs o img xs)) → Member y xs → magic_of o img y ≡ USED → P (key_at o img y)
 key_among o img [] P y all m used = absurd (false≢true m)
 key_among o img (x ∷ xs) P y all m used =
     elim (cases_eq (magic_of o img x) USED) [
       | inl e ↦
-          let parts : AllByRecursion P (key_at o img x ∷ keys_in (pairs o img xs)) = subst (λ ps. AllByRecursion P (keys_in ps)) (pairs_used o img x xs e) all in
+          let parts : AllByRecursion P (key_at o img x ∷ keys_of (pairs o img xs)) = subst (λ ps. AllByRecursion P (keys_of ps)) (pairs_used o img x xs e) all in
           elim (member_cases y x xs m) [ inl here ↦ subst (λ z. P (key_at o img z)) (sym here) parts.0 | inr there ↦ key_among o img xs P y parts.1 there used ]
       | inr ne ↦
-          let rest : AllByRecursion P (keys_in (pairs o img xs)) = subst (λ ps. AllByRecursion P (keys_in ps)) (pairs_other o img x xs ne) all in
+          let rest : AllByRecursion P (keys_of (pairs o img xs)) = subst (λ ps. AllByRecursion P (keys_of ps)) (pairs_other o img x xs ne) all in
           elim (member_cases y x xs m) [ inl here ↦ absurd (ne (subst (λ z. magic_of o img z ≡ USED) here used)) | inr there ↦ key_among o img xs P y rest there used ]
     ]
 
 -- the pairs without a used record are those without the entry of its key
-pub pairs_without_used : (o : Order) (img xs : List ℕ) (y : ℕ) → IsDistinct same_key (keys_in (pairs o img xs)) → Member y xs → magic_of o img y ≡ USED → pairs o img (without y xs) ≡ remove_entry (same_key (key_at o img y)) (pairs o img xs)
+pub pairs_without_used : (o : Order) (img xs : List ℕ) (y : ℕ) → IsDistinct same_key (keys_of (pairs o img xs)) → Member y xs → magic_of o img y ≡ USED → pairs o img (without y xs) ≡ remove_entry (same_key (key_at o img y)) (pairs o img xs)
 pairs_without_used o img [] y distinct m used = absurd (false≢true m)
 pairs_without_used o img (x ∷ xs) y distinct m used =
     elim (cases_eq x y) [
@@ -56,15 +52,15 @@ pairs_without_used o img (x ∷ xs) y distinct m used =
           let there : Member y xs = elim (member_cases y x xs m) [ inl here ↦ absurd (ne (sym here)) | inr rest ↦ rest ] in
           elim (cases_eq (magic_of o img x) USED) [
             | inl e ↦
-                let spread : IsDistinct same_key (key_at o img x ∷ keys_in (pairs o img xs)) = subst (λ ps. IsDistinct same_key (keys_in ps)) (pairs_used o img x xs e) distinct in
-                let apart : same_key (key_at o img x) (key_at o img y) ≡ false = key_among o img xs (λ q. same_key (key_at o img x) q ≡ false) y (IsDistinct-head same_key (key_at o img x) (keys_in (pairs o img xs)) spread) there used in
+                let spread : IsDistinct same_key (key_at o img x ∷ keys_of (pairs o img xs)) = subst (λ ps. IsDistinct same_key (keys_of ps)) (pairs_used o img x xs e) distinct in
+                let apart : same_key (key_at o img x) (key_at o img y) ≡ false = key_among o img xs (λ q. same_key (key_at o img x) q ≡ false) y (IsDistinct-head same_key (key_at o img x) (keys_of (pairs o img xs)) spread) there used in
                 let passed : same_key (key_at o img y) (key_at o img x) ≡ false = nat_list_eq_equiv.symm (key_at o img y) (key_at o img x) ∙ apart in
-                let rest = pairs_without_used o img xs y (IsDistinct-tail same_key (key_at o img x) (keys_in (pairs o img xs)) spread) there used in
+                let rest = pairs_without_used o img xs y (IsDistinct-tail same_key (key_at o img x) (keys_of (pairs o img xs)) spread) there used in
                 let removed : remove_entry (same_key (key_at o img y)) (pairs o img (x ∷ xs)) ≡ (key_at o img x, data_at o img x) ∷ remove_entry (same_key (key_at o img y)) (pairs o img xs) =
                 ap (remove_entry (same_key (key_at o img y))) (pairs_used o img x xs e) ∙ rw passed refl in
                 rw (ne_eqb x y ne) (pairs_used o img x (without y xs) e ∙ ap (λ ps. (key_at o img x, data_at o img x) ∷ ps) rest ∙ sym removed)
             | inr other ↦
-                let rest = pairs_without_used o img xs y (subst (λ ps. IsDistinct same_key (keys_in ps)) (pairs_other o img x xs other) distinct) there used in
+                let rest = pairs_without_used o img xs y (subst (λ ps. IsDistinct same_key (keys_of ps)) (pairs_other o img x xs other) distinct) there used in
                 rw (ne_eqb x y ne) (pairs_other o img x (without y xs) other ∙ rest ∙ ap (remove_entry (same_key (key_at o img y))) (sym (pairs_other o img x xs other)))
           ]
     ]
@@ -79,18 +75,18 @@ pairs_without_dead o img (x ∷ xs) y dead =
     ]
 
 -- keys that differ still differ without an entry
-all_removed : (P : List ℕ → Type 0) (t : List ℕ → Bool) (ps : List (List ℕ × List ℕ)) → AllByRecursion P (keys_in ps) → AllByRecursion P (keys_in (remove_entry t ps))
+all_removed : (P : List ℕ → Type 0) (t : List ℕ → Bool) (ps : List (List ℕ × List ℕ)) → AllByRecursion P (keys_of ps) → AllByRecursion P (keys_of (remove_entry t ps))
 all_removed P t [] all = tt
 all_removed P t (p ∷ ps) all = elim (cases_Bool (t p.0)) [ inl e ↦ rw e all.1 | inr e ↦ rw e (all.0, all_removed P t ps all.1) ]
 
-pub distinct_removed : (t : List ℕ → Bool) (ps : List (List ℕ × List ℕ)) → IsDistinct same_key (keys_in ps) → IsDistinct same_key (keys_in (remove_entry t ps))
+pub distinct_removed : (t : List ℕ → Bool) (ps : List (List ℕ × List ℕ)) → IsDistinct same_key (keys_of ps) → IsDistinct same_key (keys_of (remove_entry t ps))
 distinct_removed t [] distinct = distinct
 distinct_removed t (p ∷ ps) distinct =
-    let first = IsDistinct-head same_key p.0 (keys_in ps) distinct in
-    let rest = IsDistinct-tail same_key p.0 (keys_in ps) distinct in
+    let first = IsDistinct-head same_key p.0 (keys_of ps) distinct in
+    let rest = IsDistinct-tail same_key p.0 (keys_of ps) distinct in
     elim (cases_Bool (t p.0)) [
       | inl e ↦ rw e rest
-      | inr e ↦ rw e (IsDistinct-cons same_key p.0 (keys_in (remove_entry t ps)) (all_removed (λ q. same_key p.0 q ≡ false) t ps first) (distinct_removed t ps rest))
+      | inr e ↦ rw e (IsDistinct-cons same_key p.0 (keys_of (remove_entry t ps)) (all_removed (λ q. same_key p.0 q ≡ false) t ps first) (distinct_removed t ps rest))
     ]
 
 -- pairs and filing of the records that are left
@@ -147,9 +143,9 @@ module _ (f : Form) (a b : List ℕ) (j : ℕ) (before y : ℕ) (hands : List Ha
   left_keys =
       elim (cases_eq (magic_of f.order a y) USED) [
         | inl used ↦
-            subst (λ ps. IsDistinct same_key (keys_in ps)) (sym (pairs_without_used f.order a (chain_of f a j) y (A.keys j low_j) member used))
+            subst (λ ps. IsDistinct same_key (keys_of ps)) (sym (pairs_without_used f.order a (chain_of f a j) y (A.keys j low_j) member used))
             (distinct_removed (same_key (key_at f.order a y)) (pairs f.order a (chain_of f a j)) (A.keys j low_j))
-        | inr dead ↦ subst (λ ps. IsDistinct same_key (keys_in ps)) (sym (pairs_without_dead f.order a (chain_of f a j) y dead)) (A.keys j low_j)
+        | inr dead ↦ subst (λ ps. IsDistinct same_key (keys_of ps)) (sym (pairs_without_dead f.order a (chain_of f a j) y dead)) (A.keys j low_j)
       ]
 
   hand_ok : HandOk f a (y, rec_len_of f.order a y)
@@ -189,7 +185,7 @@ module _ (f : Form) (a b : List ℕ) (j : ℕ) (before y : ℕ) (hands : List Ha
         ];
     linked = unlinked f IsChained a b (chain_head j) (chain_of f a j) before y (A.chains j low_j) low_head held led L;
     filed = filed_left f b j (chain_of f a j) y (filed_all_kept f IsChained a b j (word f.order a (chain_head j)) (chain_of f a j) longer (A.chains j low_j) bodies (A.filed j low_j));
-    keys = subst (λ ps. IsDistinct same_key (keys_in ps)) (sym left_pairs) left_keys;
+    keys = subst (λ ps. IsDistinct same_key (keys_of ps)) (sym left_pairs) left_keys;
     held = (hand_ok, A.held);
     count = λ i. omega (arith, unlinked_count f IsChained a b (chain_head j) (chain_of f a j) before y (A.chains j low_j) low_head held led L i);
   }

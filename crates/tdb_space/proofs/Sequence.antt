@@ -2,7 +2,7 @@
 -- accepted alike.
 use Rattle.std.proofs.Common.{◌≡◌, ℕ, ◌+◌, ◌<◌, ◌≤◌, ◌⊎◌, List, length, sym, ◌∙◌, ap, subst, inl, inr, arith}
 use Rattle.std.specs.Prelude.{slice_index, ◌%◌, map}
-use Rattle.std.specs.Map.{lookup}
+use Rattle.std.specs.Map.{lookup, keys_of}
 use Rattle.std.specs.List.{IsDistinct}
 use Rattle.tdb_words.specs.Word.{word}
 use Rattle.tdb_words.proofs.Words.{word_agrees}
@@ -63,7 +63,7 @@ module _ (f : Form) (a b : List ℕ) (hands : List HandPair) (A : AcceptWith f a
     frees = subst (λ at. Linked f IsFree b at (free_of f a)) (sym (same_word free_head (inr (omega arith))))
         (list_left f IsFree a b (word f.order a free_head) (free_of f a) longer A.frees free_still);
     filed = λ k low. filed_all_kept f IsChained a b k (word f.order a (chain_head k)) (chain_of f a k) longer (A.chains k low) (bodies_still f a b (chain_of f a k) (chain_still k low)) (A.filed k low);
-    keys = λ k low. subst (λ ps. IsDistinct same_key (map (λ (p : List ℕ × List ℕ). p.0) ps)) (sym (chain_pairs k low)) (A.keys k low);
+    keys = λ k low. subst (λ ps. IsDistinct same_key (keys_of ps)) (sym (chain_pairs k low)) (A.keys k low);
     held = hands_kept f a b hands longer A.held;
     apart = λ i. omega (arith, counts i, A.apart i);
     stray = λ i from to none.

@@ -1,7 +1,7 @@
 -- One chain's records and the hands are exchanged for others: the image stays accepted, and the map changes as the chain does.
 use Rattle.std.proofs.Common.{◌≡◌, ℕ, ◌+◌, ◌<◌, ◌≤◌, ◌⊎◌, List, [], ◌∷◌, length, cond, Option, eqb, false, refl, sym, ◌∙◌, ap, subst, inl, inr, arith}
 use Rattle.std.specs.Prelude.{slice_index, ◌%◌, map, if◌then◌else◌}
-use Rattle.std.specs.Map.{lookup, update}
+use Rattle.std.specs.Map.{lookup, update, keys_of}
 use Rattle.std.specs.List.{IsDistinct}
 use Rattle.std.proofs.lemmas.Bool.{cases_lt, cases_eq, eq-eqb, ne_eqb}
 use Rattle.tdb_words.specs.Word.{word}
@@ -140,7 +140,7 @@ module _ (f : Form) (a b : List ℕ) (j : ℕ) (ys : List ℕ) (hands news : Lis
   other_filed k low ne = filed_all_kept f IsChained a b k (word f.order a (chain_head k)) (chain_of f a k) longer (A.chains k low) (bodies_still f a b (chain_of f a k) (other_still k low ne)) (A.filed k low)
 
   other_keys : (k : ℕ) → k < f.chains → (k ≡ j → ⊥) → KeysDiffer f b (chain_of f a k)
-  other_keys k low ne = subst (λ ps. IsDistinct same_key (map (λ (p : List ℕ × List ℕ). p.0) ps)) (sym (other_pairs k low ne)) (A.keys k low)
+  other_keys k low ne = subst (λ ps. IsDistinct same_key (keys_of ps)) (sym (other_pairs k low ne)) (A.keys k low)
 
   free_linked : Linked f IsFree b (word f.order b free_head) (free_of f a)
   free_linked =

@@ -1,7 +1,7 @@
 -- One record of a list is changed where it stands.
 use Rattle.std.proofs.Common.{◌≡◌, ℕ, ◌+◌, ◌<◌, ◌≤◌, List, [], ◌∷◌, ◌++◌, length, true, false, refl, sym, ◌∙◌, ap, subst, inl, inr, arith}
 use Rattle.std.specs.Prelude.{slice_index}
-use Rattle.std.specs.Map.{set_value}
+use Rattle.std.specs.Map.{set_value, keys_of}
 use Rattle.std.specs.List.{IsDistinct}
 use Rattle.std.proofs.lemmas.Bool.{cases_lt, cases_eq, eq-eqb, ne_eqb, false≢true}
 use Rattle.std.proofs.lemmas.Cmp.{nat_list_eq_equiv}
@@ -22,7 +22,7 @@ use Rattle.tdb_space.proofs.Kept.{Body, Bodies, words_kept, whole_kept, pair_kep
 use Rattle.tdb_space.proofs.Walks.{member_cases, member_first, member_other, linked_apart}
 use Rattle.tdb_space.proofs.Members.{bodies_from, two_members}
 use Rattle.tdb_space.proofs.Maps.{pairs_used, pairs_other, same_key-refl}
-use Rattle.tdb_space.proofs.Removes.{keys_in, key_among}
+use Rattle.tdb_space.proofs.Removes.{key_among}
 
 -- all records of a list but one stay, and each next word does
 pub record Beside (f : Form) (a b : List ℕ) (xs : List ℕ) (y : ℕ) : Type 0 where
@@ -131,7 +131,7 @@ pairs_none : (o : Order) (img : List ℕ) (x : ℕ) → (magic_of o img x ≡ US
 pairs_none o img x other ps = rw (ne_eqb (magic_of o img x) USED other) refl
 
 -- where it has another value for its key, the pairs are those with this value at the key
-pub pairs_set : (f : Form) (M : ℕ → Type 0) (a b : List ℕ) (j at : ℕ) (xs : List ℕ) (y : ℕ) → Linked f M a at xs → Beside f a b xs y → AllFiled f a j xs → IsDistinct same_key (keys_in (pairs f.order a xs)) → Member y xs → magic_of f.order a y ≡ USED → magic_of f.order b y ≡ USED → key_at f.order b y ≡ key_at f.order a y → pairs f.order b xs ≡ set_value (same_key (key_at f.order a y)) (pairs f.order a xs) (data_at f.order b y)
+pub pairs_set : (f : Form) (M : ℕ → Type 0) (a b : List ℕ) (j at : ℕ) (xs : List ℕ) (y : ℕ) → Linked f M a at xs → Beside f a b xs y → AllFiled f a j xs → IsDistinct same_key (keys_of (pairs f.order a xs)) → Member y xs → magic_of f.order a y ≡ USED → magic_of f.order b y ≡ USED → key_at f.order b y ≡ key_at f.order a y → pairs f.order b xs ≡ set_value (same_key (key_at f.order a y)) (pairs f.order a xs) (data_at f.order b y)
 pairs_set f M a b j at [] y list h filed distinct m used_a used_b key = absurd (false≢true m)
 pairs_set f M a b j at (x ∷ xs) y list h filed distinct m used_a used_b key =
     elim (cases_eq x y) [
@@ -149,15 +149,15 @@ pairs_set f M a b j at (x ∷ xs) y list h filed distinct m used_a used_b key =
           let here : pair_of f.order b x ≡ pair_of f.order a x = pair_kept f a b x h.longer list.1 (h.body x (member_first x xs) ne) (λ used. (filed.0 used).fits) in
           elim (cases_eq (magic_of f.order a x) USED) [
             | inl e ↦
-                let spread : IsDistinct same_key (key_at f.order a x ∷ keys_in (pairs f.order a xs)) = subst (λ ps. IsDistinct same_key (keys_in ps)) (pairs_used f.order a x xs e) distinct in
-                let apart : same_key (key_at f.order a x) (key_at f.order a y) ≡ false = key_among f.order a xs (λ q. same_key (key_at f.order a x) q ≡ false) y (IsDistinct-head same_key (key_at f.order a x) (keys_in (pairs f.order a xs)) spread) there used_a in
+                let spread : IsDistinct same_key (key_at f.order a x ∷ keys_of (pairs f.order a xs)) = subst (λ ps. IsDistinct same_key (keys_of ps)) (pairs_used f.order a x xs e) distinct in
+                let apart : same_key (key_at f.order a x) (key_at f.order a y) ≡ false = key_among f.order a xs (λ q. same_key (key_at f.order a x) q ≡ false) y (IsDistinct-head same_key (key_at f.order a x) (keys_of (pairs f.order a xs)) spread) there used_a in
                 let passed : same_key (key_at f.order a y) (key_at f.order a x) ≡ false = nat_list_eq_equiv.symm (key_at f.order a y) (key_at f.order a x) ∙ apart in
-                let rest = pairs_set f M a b j (word f.order a x) xs y list.3 (beside_rest f a b x xs y h) filed.1 (IsDistinct-tail same_key (key_at f.order a x) (keys_in (pairs f.order a xs)) spread) there used_a used_b key in
+                let rest = pairs_set f M a b j (word f.order a x) xs y list.3 (beside_rest f a b x xs y h) filed.1 (IsDistinct-tail same_key (key_at f.order a x) (keys_of (pairs f.order a xs)) spread) there used_a used_b key in
                 let set : set_value (same_key (key_at f.order a y)) (pairs f.order a (x ∷ xs)) (data_at f.order b y) ≡ (key_at f.order a x, data_at f.order a x) ∷ set_value (same_key (key_at f.order a y)) (pairs f.order a xs) (data_at f.order b y) =
                 ap (λ ps. set_value (same_key (key_at f.order a y)) ps (data_at f.order b y)) (pairs_used f.order a x xs e) ∙ rw passed refl in
                 (λ i. here i ++ rest i) ∙ pairs_front f.order a x e (set_value (same_key (key_at f.order a y)) (pairs f.order a xs) (data_at f.order b y)) ∙ sym set
             | inr other ↦
-                let rest = pairs_set f M a b j (word f.order a x) xs y list.3 (beside_rest f a b x xs y h) filed.1 (subst (λ ps. IsDistinct same_key (keys_in ps)) (pairs_other f.order a x xs other) distinct) there used_a used_b key in
+                let rest = pairs_set f M a b j (word f.order a x) xs y list.3 (beside_rest f a b x xs y h) filed.1 (subst (λ ps. IsDistinct same_key (keys_of ps)) (pairs_other f.order a x xs other) distinct) there used_a used_b key in
                 (λ i. here i ++ rest i) ∙ pairs_none f.order a x other (set_value (same_key (key_at f.order a y)) (pairs f.order a xs) (data_at f.order b y))
                 ∙ ap (λ ps. set_value (same_key (key_at f.order a y)) ps (data_at f.order b y)) (sym (pairs_other f.order a x xs other))
           ]

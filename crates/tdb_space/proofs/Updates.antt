@@ -1,7 +1,7 @@
 -- A used record is changed where it stands: it gets another value, or it is marked dead.
 use Rattle.std.proofs.Common.{◌≡◌, ℕ, ◌+◌, ◌<◌, ◌≤◌, List, [], ◌∷◌, Option, Some, None, true, refl, sym, ◌∙◌, ap, subst, inl, inr, arith}
 use Rattle.std.specs.Prelude.{◌%◌}
-use Rattle.std.specs.Map.{lookup, update, remove_entry, set_value}
+use Rattle.std.specs.Map.{lookup, update, remove_entry, set_value, keys_of}
 use Rattle.std.specs.List.{IsDistinct}
 use Rattle.std.specs.Option.{IsSome}
 use Rattle.std.proofs.lemmas.Bool.{cases_lt, cases_eq, cases_Bool, false≢true}
@@ -24,7 +24,7 @@ use Rattle.tdb_space.proofs.Walks.{member_cases, linked_whole}
 use Rattle.tdb_space.proofs.Members.{member_held}
 use Rattle.tdb_space.proofs.Maps.{lookup_met, lookup_passed, same_key-eq, same_key-refl}
 use Rattle.tdb_space.proofs.Swaps.{exchanged, map_updated}
-use Rattle.tdb_space.proofs.Removes.{keys_in, filed_member, home_of_member, pairs_without_used, distinct_removed}
+use Rattle.tdb_space.proofs.Removes.{filed_member, home_of_member, pairs_without_used, distinct_removed}
 use Rattle.tdb_space.proofs.Touches.{Beside, touched_beside, linked_touched, times_touched, filed_touched, pairs_marked, pairs_set}
 
 -- the two magics of chains differ
@@ -101,7 +101,7 @@ module _ (f : Form) (a b : List ℕ) (j y : ℕ) (hands : List HandPair) (low_j 
     update_exchanged =
         touch_exchanged (inl used_now)
         (λ _. record { fits = fits; hashed = same_hash ∙ filed_here.hashed ∙ ap (h_of f.hash) (sym same_key_there); placed = ap (λ n. n % f.chains) same_hash ∙ filed_here.placed })
-        (subst (IsDistinct same_key) (sym (ap keys_in set_pairs ∙ keys-set_value (same_key (key_at f.order a y)) (pairs f.order a (chain_of f a j)) (data_at f.order b y))) (A.keys j low_j))
+        (subst (IsDistinct same_key) (sym (ap keys_of set_pairs ∙ keys-set_value (same_key (key_at f.order a y)) (pairs f.order a (chain_of f a j)) (data_at f.order b y))) (A.keys j low_j))
 
     -- the image stays accepted, and its map has the new value at the key
     pub update_accepted : AcceptWith f b hands
@@ -129,7 +129,7 @@ module _ (f : Form) (a b : List ℕ) (j y : ℕ) (hands : List HandPair) (low_j 
     pub mark_exchanged : Exchanged f a b j (chain_of f a j) (chain_of f a j) hands hands
     mark_exchanged =
         touch_exchanged (inr dead) (λ e. absurd (not_used e))
-        (subst (λ ps. IsDistinct same_key (keys_in ps)) (sym marked_pairs) (distinct_removed (same_key (key_at f.order a y)) (pairs f.order a (chain_of f a j)) (A.keys j low_j)))
+        (subst (λ ps. IsDistinct same_key (keys_of ps)) (sym marked_pairs) (distinct_removed (same_key (key_at f.order a y)) (pairs f.order a (chain_of f a j)) (A.keys j low_j)))
 
     -- the image stays accepted, and its map loses the key
     pub mark_accepted : AcceptWith f b hands
