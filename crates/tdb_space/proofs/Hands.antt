@@ -1,19 +1,20 @@
--- Hands: what is written into them changes nothing else, and they may be joined, cut and put in another order.
-use Rattle.std.proofs.Common.{◌≡◌, ℕ, ◌+◌, ◌<◌, ◌≤◌, List, [], ◌∷◌, length, sym, ◌∙◌, ap, subst, inl, inr, arith}
+-- Hands: where they stand, and that they may be joined, cut and put in another order.
+use Rattle.std.proofs.Common.{◌≡◌, ℕ, ◌+◌, ◌<◌, ◌≤◌, List, [], ◌∷◌, length, sym, ◌∙◌, ap, inl, inr, arith}
 use Rattle.std.specs.Prelude.{◌%◌}
 use Rattle.std.proofs.lemmas.Bool.{cases_lt}
-use Rattle.tdb_words.specs.Word.{word}
-use Rattle.tdb_words.proofs.Words.{word_agrees}
-use Rattle.tdb_space.specs.Form.{Form, free_head, data_start}
-use Rattle.tdb_space.specs.Record.{IsFree}
-use Rattle.tdb_space.specs.Chain.{Linked, chain_of, free_of}
-use Rattle.tdb_space.specs.Pairs.{order_of, map_of}
+use Rattle.tdb_space.specs.Form.{Form, data_start}
+use Rattle.tdb_space.specs.Chain.{chain_of, free_of}
 use Rattle.tdb_space.specs.Extents.{HandPair, AllHandOk, once, times, all_extents, hand_extents}
 use Rattle.tdb_space.specs.Accepted.{AcceptWith}
-use Rattle.tdb_space.specs.Exchange.{FreeExchanged, InHands}
 use Rattle.tdb_space.proofs.Counts.{once_lies, once_joined, times_all}
-use Rattle.tdb_space.proofs.Kept.{Still, bodies_still, nexts_still, linked_kept, extents_kept}
-use Rattle.tdb_space.proofs.FreeSwaps.{free_exchanged, free_order, free_map}
+
+-- hands stay in place in an image that doesn't become shorter
+pub hands_kept : (f : Form) (a b : List ℕ) (hands : List HandPair) → length a ≤ length b → AllHandOk f a hands → AllHandOk f b hands
+hands_kept f a b [] longer held = tt
+hands_kept f a b (h ∷ hs) longer held = (
+  record { aligned = held.0.aligned; len_aligned = held.0.len_aligned; above = held.0.above; within = omega (arith, longer, held.0.within) },
+  hands_kept f a b hs longer held.1,
+)
 
 -- a byte of a hand stands behind the heads and within the image
 pub hands_within : (f : Form) (a : List ℕ) (hands : List HandPair) (i : ℕ) → AllHandOk f a hands → 1 ≤ times (hand_extents hands) i → (data_start f ≤ i) × (i < length a)
@@ -85,28 +86,3 @@ cut_hand f a at m n hs aligned_m aligned_n A =
     let whole : once (at, 24 + (m + 24 + n)) i ≡ once (at, 24 + m + (24 + n)) i = ap (λ l. once (at, l) i) length_there in
     let rest : once (at + 24 + m, 24 + n) i ≡ once (at + (24 + m), 24 + n) i = ap (λ p. once (p, 24 + n) i) place in
     omega (arith, split, whole, rest)))
-
--- what is written into hands leaves the free list, so it is an exchange of nothing
-pub write_exchanged : (f : Form) (a b : List ℕ) (hands : List HandPair) → AcceptWith f a hands → InHands f a b hands → FreeExchanged f a b (free_of f a) (free_of f a) hands hands
-write_exchanged f a b hands A W =
-    let still : Still a b f (free_of f a) = λ i held. W.others i (omega (arith, held, A.apart i, times_all f a (chain_of f a) (free_of f a) hands i)) in
-    let head : word f.order b free_head ≡ word f.order a free_head = word_agrees f.order b a free_head (λ i low high. W.others i (hands_above f a hands i A.held (omega arith))) in
-    record {
-      size = W.size;
-      low = λ i below apart. W.others i (hands_above f a hands i A.held below);
-      high = λ i above none. W.others i (omega (arith, none));
-      linked = subst (λ at. Linked f IsFree b at (free_of f a)) (sym head)
-          (linked_kept f IsFree a b (word f.order a free_head) (free_of f a) (omega (arith, W.size)) A.frees (bodies_still f a b (free_of f a) still) (nexts_still f a b (free_of f a) still));
-      held = A.held;
-      count = λ i. ap (λ es. times es i + times (hand_extents hands) i) (extents_kept f a b (free_of f a) (bodies_still f a b (free_of f a) still));
-    }
-
--- a write into hands keeps an image accepted, and its order and its map
-pub write_accepted : (f : Form) (a b : List ℕ) (hands : List HandPair) → AcceptWith f a hands → InHands f a b hands → AcceptWith f b hands
-write_accepted f a b hands A W = free_exchanged f a b (free_of f a) hands hands A (write_exchanged f a b hands A W)
-
-pub write_order : (f : Form) (a b : List ℕ) (hands : List HandPair) → AcceptWith f a hands → InHands f a b hands → order_of f b ≡ order_of f a
-write_order f a b hands A W = free_order f a b (free_of f a) hands hands A (write_exchanged f a b hands A W)
-
-pub write_map : (f : Form) (a b : List ℕ) (hands : List HandPair) → AcceptWith f a hands → InHands f a b hands → (q : List ℕ) → map_of f b q ≡ map_of f a q
-write_map f a b hands A W = free_map f a b (free_of f a) hands hands A (write_exchanged f a b hands A W)

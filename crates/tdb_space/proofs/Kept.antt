@@ -2,6 +2,8 @@
 -- word at a record's offset, which leads to the next, is told apart from the rest of it.
 use Rattle.std.proofs.Common.{◌≡◌, ℕ, ◌+◌, ◌<◌, ◌≤◌, List, [], ◌∷◌, ◌++◌, length, take, drop, refl, sym, ◌∙◌, ap, subst, inl, inr, arith}
 use Rattle.std.specs.Prelude.{slice_index, ◌%◌}
+use Rattle.std.specs.List.{IsDistinct}
+use Rattle.std.specs.Map.{keys_of}
 use Rattle.std.proofs.lemmas.Bool.{cases_lt, cases_eq, eq-eqb, ne_eqb}
 use Rattle.std.proofs.lemmas.List.{same_lists, get_or_default, length-take-le, length-drop, get_or-drop, get_or-take}
 use Rattle.tdb_words.specs.declared.record.TheConstants.{USED}
@@ -11,11 +13,11 @@ use Rattle.tdb_words.specs.Word.{word}
 use Rattle.tdb_words.specs.Hash.{h_of}
 use Rattle.tdb_words.proofs.Words.{word_agrees}
 use Rattle.tdb_space.specs.Form.{Form, data_start}
-use Rattle.tdb_space.specs.Record.{Whole, Fits, key_at, data_at, rec_len_of, key_len_of, data_len_of, full_hash_of, magic_of}
-use Rattle.tdb_space.specs.Chain.{Linked}
-use Rattle.tdb_space.specs.Pairs.{pair_of, pairs}
+use Rattle.tdb_space.specs.Record.{IsChained, Whole, Fits, key_at, data_at, rec_len_of, key_len_of, data_len_of, full_hash_of, magic_of}
+use Rattle.tdb_space.specs.Chain.{Linked, Chain}
+use Rattle.tdb_space.specs.Pairs.{pair_of, pairs, same_key}
 use Rattle.tdb_space.specs.Extents.{times, once, extents, extent_at}
-use Rattle.tdb_space.specs.Accepted.{Filed, AllFiled}
+use Rattle.tdb_space.specs.Accepted.{Filed, AllFiled, KeysDiffer}
 use Rattle.tdb_space.specs.Exchange.{Agree}
 use Rattle.tdb_space.proofs.Counts.{once_in, once_lies}
 
@@ -189,3 +191,23 @@ record_left f a b x longer whole same =
 -- a change outside all records of a list leaves the list
 pub list_left : (f : Form) (M : ℕ → Type 0) (a b : List ℕ) (at : ℕ) (xs : List ℕ) → length a ≤ length b → Linked f M a at xs → Still a b f xs → Linked f M b at xs
 list_left f M a b at xs longer list still = linked_kept f M a b at xs longer list (bodies_still f a b xs still) (nexts_still f a b xs still)
+
+-- what stays of a chain of which each byte does
+pub record ChainKept (f : Form) (a b : List ℕ) (j at : ℕ) (xs : List ℕ) : Type 0 where
+  pub linked : Chain f b at xs
+  pub same_extents : extents f.order b xs ≡ extents f.order a xs
+  pub same_pairs : pairs f.order b xs ≡ pairs f.order a xs
+  pub filed : AllFiled f b j xs
+  pub keys : KeysDiffer f b xs
+
+pub chain_kept : (f : Form) (a b : List ℕ) (j at : ℕ) (xs : List ℕ) → length a ≤ length b → Chain f a at xs → AllFiled f a j xs → KeysDiffer f a xs → Still a b f xs → ChainKept f a b j at xs
+chain_kept f a b j at xs longer list filed keys still =
+    let bodies = bodies_still f a b xs still in
+    let same = pairs_kept f IsChained a b j at xs longer list bodies filed in
+    record {
+      linked = list_left f IsChained a b at xs longer list still;
+      same_extents = extents_kept f a b xs bodies;
+      same_pairs = same;
+      filed = filed_all_kept f IsChained a b j at xs longer list bodies filed;
+      keys = subst (λ ps. IsDistinct same_key (keys_of ps)) (sym same) keys;
+    }

@@ -8,9 +8,12 @@ pub mod Counts
 pub mod Kept
 pub mod Headers
 pub mod Laid
+pub mod Areas
+pub mod Hands
+pub mod Remains
 pub mod Swaps
 pub mod FreeSwaps
-pub mod Hands
+pub mod Writes
 pub mod Links
 pub mod Grown
 pub mod Fresh

@@ -14,7 +14,7 @@ use Rattle.tdb_space.proofs.Counts.Lies.{lies, below, above}
 use Rattle.tdb_space.proofs.Kept.{Still, bodies_still, nexts_still, linked_kept, extents_kept, times_within}
 use Rattle.tdb_space.proofs.Walks.{linked_whole}
 use Rattle.tdb_space.proofs.Members.{member_held, led_member, led_from}
-use Rattle.tdb_space.proofs.Swaps.{hands_kept}
+use Rattle.tdb_space.proofs.Hands.{hands_kept}
 use Rattle.tdb_space.proofs.Unlinks.{unlinked, unlinked_count, changed_word}
 use Rattle.tdb_space.proofs.Touches.{touched_beside, linked_touched, times_touched}
 
