@@ -27,3 +27,5 @@ pub mod Frees
 pub mod Orders
 pub mod Sorted
 pub mod Sequence
+pub mod Reached
+pub mod Written

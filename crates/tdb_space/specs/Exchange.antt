@@ -1,7 +1,10 @@
 -- What a change of an image exchanges, and what it leaves.
-use Rattle.std.specs.Prelude.{◌≡◌, ℕ, ◌+◌, ◌<◌, ◌≤◌, ◌⊎◌, ◌%◌, List, length, slice_index}
+use Rattle.std.specs.Prelude.{◌≡◌, ℕ, ◌+◌, ◌<◌, ◌≤◌, ◌⊎◌, ◌%◌, List, length, take, drop, slice_index}
 use Rattle.tdb_words.specs.declared.record.TheConstants.{USED}
-use Rattle.tdb_words.specs.Word.{word}
+use Rattle.tdb_words.specs.declared.record.Rec.{Rec}
+use Rattle.tdb_words.specs.declared.word.Order.{Order}
+use Rattle.tdb_words.specs.Word.{word, bytes_of_word}
+use Rattle.tdb_words.specs.Record.{bytes_of_rec}
 use Rattle.tdb_words.specs.Hash.{h_of}
 use Rattle.tdb_space.specs.Form.{Form, data_start, chain_head, free_head}
 use Rattle.tdb_space.specs.Record.{IsChained, IsFree, Whole, Fits, key_at, data_at, next_of, rec_len_of, full_hash_of, magic_of}
@@ -35,6 +38,24 @@ pub record FreeExchanged (f : Form) (a b : List ℕ) (olds news : List ℕ) (bef
   pub linked : Linked f IsFree b (word f.order b free_head) news
   pub held : AllHandOk f a after
   pub count : (i : ℕ) → times (extents f.order b news) i + times (hand_extents after) i ≡ times (extents f.order a olds) i + times (hand_extents before) i
+
+-- the header of a new used record: what is next in its chain, how long it is, and its key and value
+abbrev pub new_record : Form → ℕ → ℕ → List ℕ → List ℕ → Rec
+new_record f next rec_len key value = record {
+  next = next;
+  rec_len = rec_len;
+  key_len = length key;
+  data_len = length value;
+  full_hash = h_of f.hash key;
+  magic = USED;
+}
+
+-- the bytes of a record stand at an offset: its header, its key, its value, and at its end its tailer
+pub record WrittenAt (o : Order) (img : List ℕ) (at : ℕ) (r : Rec) (key value : List ℕ) : Type 0 where
+  pub header : take 24 (drop at img) ≡ bytes_of_rec o r
+  pub key_there : take (length key) (drop (at + 24) img) ≡ key
+  pub value_there : take (length value) (drop (at + 24 + length key) img) ≡ value
+  pub tailer : take 4 (drop (at + 20 + r.rec_len) img) ≡ bytes_of_word o (24 + r.rec_len)
 
 -- A used record with this key and this value stands in what was a hand, and it is filed by the hash of its key
 pub record Filled (f : Form) (img : List ℕ) (hand : HandPair) (key value : List ℕ) : Type 0 where
