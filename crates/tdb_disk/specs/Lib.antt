@@ -1,0 +1,5 @@
+pub mod Count
+pub mod History
+pub mod Image
+pub mod Names
+pub mod Stop
