@@ -4,10 +4,15 @@
 
 mod disk;
 mod files;
+mod pick;
+mod script;
 mod sink;
 mod source;
+mod tape;
 
 pub use disk::{Disk, DiskFault};
 pub use files::{Files, FilesFault, Take, TakeRefusal};
+pub use pick::Pick;
+pub use script::Call;
 pub use sink::{Sink, SinkFault};
 pub use source::{Source, SourceFault};
