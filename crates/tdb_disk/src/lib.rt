@@ -4,6 +4,7 @@
 
 mod disk;
 mod files;
+mod mem_disk;
 mod pick;
 mod script;
 mod sink;
@@ -12,6 +13,7 @@ mod tape;
 
 pub use disk::{Disk, DiskFault};
 pub use files::{Files, FilesFault, Take, TakeRefusal};
+pub use mem_disk::MemDisk;
 pub use pick::Pick;
 pub use script::Call;
 pub use sink::{Sink, SinkFault};
