@@ -2,6 +2,8 @@ pub mod Count
 pub mod History
 pub mod Image
 pub mod MemDisk
+pub mod MemSink
+pub mod MemSource
 pub mod Names
 pub mod Picked
 pub mod Script

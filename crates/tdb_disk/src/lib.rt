@@ -5,6 +5,8 @@
 mod disk;
 mod files;
 mod mem_disk;
+mod mem_sink;
+mod mem_source;
 mod pick;
 mod script;
 mod sink;
@@ -14,6 +16,8 @@ mod tape;
 pub use disk::{Disk, DiskFault};
 pub use files::{Files, FilesFault, Take, TakeRefusal};
 pub use mem_disk::MemDisk;
+pub use mem_sink::MemSink;
+pub use mem_source::MemSource;
 pub use pick::Pick;
 pub use script::Call;
 pub use sink::{Sink, SinkFault};
