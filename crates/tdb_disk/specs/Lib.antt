@@ -2,6 +2,7 @@ pub mod Count
 pub mod History
 pub mod Image
 pub mod MemDisk
+pub mod MemFiles
 pub mod MemSink
 pub mod MemSource
 pub mod Names

@@ -5,6 +5,7 @@
 mod disk;
 mod files;
 mod mem_disk;
+mod mem_files;
 mod mem_sink;
 mod mem_source;
 mod pick;
@@ -16,6 +17,7 @@ mod tape;
 pub use disk::{Disk, DiskFault};
 pub use files::{Files, FilesFault, Take, TakeRefusal};
 pub use mem_disk::MemDisk;
+pub use mem_files::MemFiles;
 pub use mem_sink::MemSink;
 pub use mem_source::MemSource;
 pub use pick::Pick;
