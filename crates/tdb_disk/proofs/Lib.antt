@@ -1,1 +1,2 @@
 pub mod ReadFront
+pub mod SameNames

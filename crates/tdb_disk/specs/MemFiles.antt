@@ -1,5 +1,6 @@
 -- What a contract sees of a set of files in memory.
-use Rattle.std.specs.Prelude.{ℕ, List, [], Bool, true, false, Option, Some, None}
+use Rattle.std.specs.Prelude.{ℕ, List, [], Bool, true, false, Option, Some, None, ◌≡◌, refl}
+use Rattle.std.proofs.lemmas.Bool.{false≢true}
 use Rattle.std.specs.Option.{option_map_or}
 use Rattle.std.specs.HashMap.{get_by_text}
 use Rattle.tdb_disk.specs.History.{History}
@@ -20,6 +21,12 @@ abbrev pub history_at : Option (Option Tape) → Option History
 history_at None = None
 history_at (Some None) = None
 history_at (Some (Some tape)) = Some (tape_history tape)
+
+-- an empty place holds no tape
+pub empty_place_holds_nothing : (place : Option (Option Tape)) → is_empty_place place ≡ true → history_at place ≡ None
+empty_place_holds_nothing None empty = refl
+empty_place_holds_nothing (Some None) empty = refl
+empty_place_holds_nothing (Some (Some tape)) empty = absurd (false≢true empty)
 
 -- whether a name is taken
 abbrev pub name_is_taken : MemFiles → List ℕ → Bool

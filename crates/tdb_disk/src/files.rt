@@ -7,7 +7,7 @@ ghost use Rattle.tdb_disk.specs.declared.files.Take.{Take};
 ghost use Rattle.tdb_disk.specs.declared.files.TakeRefusal.{TakeRefusal};
 
 use crate::disk::Disk;
-use std::alloc::Global;
+use std::alloc::{AllocError, Global};
 use thiserror::Error;
 
 /// How a file is taken.
@@ -32,6 +32,16 @@ pub enum TakeRefusal {
     Failed,
     #[error("out of memory")]
     Memory,
+}
+
+impl From<AllocError> for TakeRefusal {
+    ghost use Rattle.tdb_disk.specs.declared.files.TakeRefusal.TheVariants.{Memory};
+
+    ghost from_gives = { λ _ refusal. refusal ≡ Memory };
+
+    fn from(_error: AllocError) -> TakeRefusal {
+        TakeRefusal::Memory
+    }
 }
 
 /// A call of a set of files that failed.

@@ -24,7 +24,7 @@ pub struct MemDisk {
 }
 
 impl MemDisk {
-    ghost use Rattle.tdb_disk.specs.MemDisk.{memory_history, memory_size, memory_script, memory_faults, memory_starved, memory_syncs, memory_bytes_read};
+    ghost use Rattle.tdb_disk.specs.MemDisk.{memory_history, memory_size, memory_script, memory_faults, memory_starved, memory_syncs, memory_bytes_read, tape_history};
 
     /// A disk with these bytes, synced, no faults and no call that is to fail.
     pub fn new(alloc: Global, bytes: &[u8]) -> Result<MemDisk, AllocError>
@@ -36,15 +36,8 @@ impl MemDisk {
         ensures syncs { IfOk result (λ d. memory_syncs d ≡ 0) }
         ensures bytes_read { IfOk result (λ d. memory_bytes_read d ≡ 0) }
     {
-        Ok(MemDisk {
-            alloc,
-            tape: Tape::new(alloc, bytes)?,
-            script: Script::new(alloc),
-            faults: 0,
-            starved: 0,
-            syncs: 0,
-            bytes_read: 0,
-        })
+        let tape = Tape::new(alloc, bytes)?;
+        Ok(MemDisk::over(alloc, tape, Vec::new(alloc)))
     }
 
     /// The call of this kind with this number, counted from 0 since the disk was made, is to fail.
@@ -83,6 +76,41 @@ impl MemDisk {
         ensures { result ≡ memory_starved self.now }
     {
         self.starved
+    }
+
+    /// A disk over a tape, with these calls that are to fail, no faults and no calls yet.
+    pub(crate) fn over(alloc: Global, tape: Tape, failing: Vec<(Call, u64)>) -> MemDisk
+        ensures history { memory_history result ≡ tape_history tape }
+        ensures failing { (memory_script result).failing.items ≡ failing.items }
+        ensures made { (memory_script result).made ≡ unmade }
+        ensures faults { memory_faults result ≡ 0 }
+        ensures starved { memory_starved result ≡ 0 }
+        ensures syncs { memory_syncs result ≡ 0 }
+        ensures bytes_read { memory_bytes_read result ≡ 0 }
+    {
+        MemDisk {
+            alloc,
+            tape,
+            script: Script::over(failing),
+            faults: 0,
+            starved: 0,
+            syncs: 0,
+            bytes_read: 0,
+        }
+    }
+
+    /// The tape, with all that was done.
+    pub(crate) fn into_tape(self) -> Tape
+        ensures { tape_history result ≡ memory_history self }
+    {
+        self.tape
+    }
+
+    /// How many calls have failed.
+    pub(crate) fn faults(&self) -> u64
+        ensures { result ≡ memory_faults self.now }
+    {
+        self.faults
     }
 
     /// Counts a failed call.

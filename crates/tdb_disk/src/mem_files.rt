@@ -1,12 +1,15 @@
 //! A set of files in memory, which fails where it is told to.
-ghost use Rattle.std.specs.Prelude.{◌≡◌, ◌≢◌, ◌≤◌, ◌<◌, ◌↔◌, [], ◌∷◌, ◌++◌, List, ℕ, Some, None, true, false, IsSome, unwrap_or, option_map, IfOk, OnOk, OnErr, IsErrOf, length, option_copied};
+ghost use Rattle.std.specs.Prelude.{◌≡◌, ◌≢◌, ◌≤◌, ◌<◌, ◌↔◌, ◌⊎◌, [], ◌∷◌, ◌++◌, List, ℕ, Some, None, true, false, IsSome, unwrap_or, option_map, IfOk, OnOk, OnErr, IsErrOf, length, option_copied};
+ghost use Rattle.std.specs.HashMap.{get_by_text};
 ghost use Rattle.tdb_disk.specs.Count.{HasCause, Rose};
 ghost use Rattle.tdb_disk.specs.History.{began, seen};
 ghost use Rattle.tdb_disk.specs.Names.{SameAll, SameBut, moved};
 ghost use Rattle.tdb_disk.specs.Script.{Fails, FailsExactly, unmade, counted, one_more};
 ghost use Rattle.tdb_disk.specs.declared.script.Call.TheVariants as call;
+ghost use Rattle.tdb_disk.specs.declared.files.TakeRefusal.TheVariants as refusal;
+ghost use Rattle.tdb_disk.specs.declared.files.Take.TheVariants as mode;
 ghost use Rattle.tdb_disk.specs.MemDisk.{memory_history, memory_size, memory_script, memory_faults, memory_starved, memory_syncs, memory_bytes_read, tape_history};
-ghost use Rattle.tdb_disk.specs.MemFiles.{name_is_taken, held_at, disk_failing, files_script, files_faults, files_starved};
+ghost use Rattle.tdb_disk.specs.MemFiles.{empty_place_holds_nothing, name_is_taken, held_at, disk_failing, files_script, files_faults, files_starved};
 
 use crate::files::{Files, FilesFault, Take, TakeRefusal};
 use crate::mem_disk::MemDisk;
@@ -97,7 +100,8 @@ impl MemFiles {
     {
         let mut calls = self.calls_of(self.alloc, name)?;
         calls.push((call, nth))?;
-        self.failing.insert(String::from_str(self.alloc, name)?, calls)?;
+        self.failing
+            .insert(String::from_str(self.alloc, name)?, calls)?;
         Ok(())
     }
 
@@ -156,8 +160,51 @@ impl MemFiles {
         }
     }
 
-    /// Makes an empty place for a name that isn't there, and an empty tape.
+    /// Makes an empty place for a name, in which nothing is held any more.
     #[tactic(auto, using(std::proofs::lemmas::Map::Text::text_keys))]
+    fn empty_place(&mut self, name: &str) -> Result<(), AllocError>
+        ensures taken { OnOk result (name_is_taken self.new name.now ≡ true) }
+        ensures held { OnOk result (held_at self.new name.now ≡ None) }
+        ensures taken_others { SameBut name.now (name_is_taken self.old) (name_is_taken self.new) }
+        ensures held_others { SameBut name.now (held_at self.old) (held_at self.new) }
+        ensures kept_taken { OnErr result (SameAll (name_is_taken self.old) (name_is_taken self.new)) }
+        ensures kept_held { OnErr result (SameAll (held_at self.old) (held_at self.new)) }
+        ensures rest { self.new ≡ record self.old { places = self.new.places } }
+    {
+        self.places
+            .insert(String::from_str(self.alloc, name)?, None)?;
+        Ok(())
+    }
+
+    /// Puts a tape into the empty place of a name that is taken.
+    #[tactic(auto, using(std::proofs::lemmas::Map::Text::text_keys))]
+    fn fill_place(&mut self, name: &str, tape: Tape)
+        requires { name_is_taken self.old name.now ≡ true }
+        ensures free { name_is_taken self.new name.now ≡ false }
+        ensures held { held_at self.new name.now ≡ Some (tape_history tape) }
+        ensures taken_others { SameBut name.now (name_is_taken self.old) (name_is_taken self.new) }
+        ensures held_others { SameBut name.now (held_at self.old) (held_at self.new) }
+        ensures rest { self.new ≡ record self.old { places = self.new.places } }
+    {
+        match self.places.get_mut(name) {
+            Some(place) => *place = Some(tape),
+            None => unreachable!(),
+        }
+    }
+
+    /// Removes the place of a name.
+    #[tactic(auto, using(std::proofs::lemmas::Map::Text::text_keys))]
+    fn drop_place(&mut self, name: &str)
+        ensures free { name_is_taken self.new name.now ≡ false }
+        ensures held { held_at self.new name.now ≡ None }
+        ensures taken_others { SameBut name.now (name_is_taken self.old) (name_is_taken self.new) }
+        ensures held_others { SameBut name.now (held_at self.old) (held_at self.new) }
+        ensures rest { self.new ≡ record self.old { places = self.new.places } }
+    {
+        self.places.remove(name);
+    }
+
+    /// Makes an empty place for a name that isn't there, and an empty tape.
     fn make_tape(&mut self, alloc: Global, name: &str) -> Result<Tape, AllocError>
         requires { held_at self.old name.now ≡ None }
         ensures tape { IfOk result (λ tape. tape_history tape ≡ began []) }
@@ -169,7 +216,145 @@ impl MemFiles {
         ensures rest { self.new ≡ record self.old { places = self.new.places } }
     {
         let tape = Tape::new(alloc, &[])?;
-        self.places.insert(String::from_str(self.alloc, name)?, None)?;
+        self.empty_place(name)?;
         Ok(tape)
     }
+
+    /// Moves what is held at one name to another, whose file is replaced where there is one.
+    fn move_place(&mut self, from: &str, to: &str) -> Result<(), AllocError>
+        requires differ { from.now ≢ to.now }
+        requires from_there { IsSome (held_at self.old from.now) }
+        requires from_free { name_is_taken self.old from.now ≡ false }
+        requires to_free { name_is_taken self.old to.now ≡ false }
+        ensures taken { SameAll (name_is_taken self.old) (name_is_taken self.new) }
+        ensures to { OnOk result (held_at self.new to.now ≡ held_at self.old from.now) }
+        ensures from { OnOk result (held_at self.new from.now ≡ None) }
+        ensures others { (other : List ℕ) → other ≢ from.now → other ≢ to.now → held_at self.new other ≡ held_at self.old other }
+        ensures kept { OnErr result (SameAll (held_at self.old) (held_at self.new)) }
+        ensures rest { self.new ≡ record self.old { places = self.new.places } }
+    {
+        self.empty_place(to)?;
+        let tape = self.take_tape(from);
+        self.fill_place(to, tape);
+        self.drop_place(from);
+        Ok(())
+    }
+}
+
+impl Files for MemFiles {
+    type D = MemDisk;
+
+    ghost is_taken = { λ files. name_is_taken files };
+
+    ghost held = { λ files. held_at files };
+
+    ghost faults = { λ files. files_faults files };
+
+    fn take(&mut self, alloc: Global, name: &str, how: Take) -> Result<MemDisk, TakeRefusal>
+        requires { name_is_taken self.old name.now ≡ false }
+        ensures named { Fails (files_script self.old) call.Take → IsErrOf result refusal.Missing ⊎ IsErrOf result refusal.There ⊎ IsErrOf result refusal.Failed }
+        ensures exact { IsErrOf result refusal.Failed → Fails (files_script self.old) call.Take }
+        ensures counted { files_script self.new ≡ counted (files_script self.old) call.Take }
+        ensures starved { files_starved self.new ≡ files_starved self.old }
+        ensures disk_failing { IfOk result (λ d. (memory_script d).failing.items ≡ disk_failing self.old name.now) }
+        ensures disk_made { IfOk result (λ d. (memory_script d).made ≡ unmade) }
+        ensures disk_starved { IfOk result (λ d. memory_starved d ≡ 0) }
+        ensures missing { IsErrOf result refusal.Missing ↔ ((held_at self.old name.now ≡ None) × (how ≢ mode.New)) }
+        ensures there { IsErrOf result refusal.There ↔ (IsSome (held_at self.old name.now) × (how ≡ mode.New)) }
+        ensures missing_how { IsErrOf result refusal.Missing → how ≢ mode.New }
+        ensures there_how { IsErrOf result refusal.There → how ≡ mode.New }
+        ensures failed { IsErrOf result refusal.Failed → Rose (files_faults self.old) (files_faults self.new) }
+        ensures taken { OnOk result (name_is_taken self.new name.now ≡ true) }
+        ensures taken_others { SameBut name.now (name_is_taken self.old) (name_is_taken self.new) }
+        ensures held_others { SameBut name.now (held_at self.old) (held_at self.new) }
+        ensures disk { IfOk result (λ d. memory_history d ≡ unwrap_or (held_at self.old name.now) (began [])) }
+        ensures empty { IfOk result (λ d. how ≡ mode.New → memory_size d ≡ 0) }
+        ensures disk_faults { IfOk result (λ d. memory_faults d ≡ 0) }
+        ensures disk_syncs { IfOk result (λ d. memory_syncs d ≡ 0) }
+        ensures disk_bytes_read { IfOk result (λ d. memory_bytes_read d ≡ 0) }
+        ensures refused_taken { OnErr result (SameAll (name_is_taken self.old) (name_is_taken self.new)) }
+        ensures refused_held { OnErr result (SameAll (held_at self.old) (held_at self.new)) }
+        ensures faults { files_faults self.old ≤ files_faults self.new }
+    {
+        let fails = self.script.fails(Call::Take);
+        let is_there = self.places.contains_key(name);
+        match how {
+            Take::New if is_there => Err(TakeRefusal::There),
+            Take::Existing | Take::ReadOnly if !is_there => Err(TakeRefusal::Missing),
+            _ if fails => {
+                raise(&mut self.faults);
+                Err(TakeRefusal::Failed)
+            }
+            Take::New => {
+                let calls = self.calls_of(alloc, name)?;
+                let tape = self.make_tape(alloc, name)?;
+                Ok(MemDisk::over(alloc, tape, calls))
+            }
+            Take::Existing | Take::ReadOnly => {
+                let calls = self.calls_of(alloc, name)?;
+                Ok(MemDisk::over(alloc, self.take_tape(name), calls))
+            }
+        }
+    }
+
+    fn give(&mut self, name: &str, d: MemDisk)
+        requires { name_is_taken self.old name.now ≡ true }
+        ensures script { files_script self.new ≡ files_script self.old }
+        ensures starved { files_starved self.new ≡ files_starved self.old }
+        ensures free { name_is_taken self.new name.now ≡ false }
+        ensures taken_others { SameBut name.now (name_is_taken self.old) (name_is_taken self.new) }
+        ensures held { held_at self.new name.now ≡ Some (memory_history d) }
+        ensures held_others { SameBut name.now (held_at self.old) (held_at self.new) }
+        ensures sound { memory_faults d ≡ 0 → files_faults self.new ≡ files_faults self.old }
+        ensures faulty { 0 < memory_faults d → Rose (files_faults self.old) (files_faults self.new) }
+        ensures faults { files_faults self.old ≤ files_faults self.new }
+    {
+        if d.faults() > 0 {
+            raise(&mut self.faults);
+        }
+        self.fill_place(name, d.into_tape());
+    }
+
+    fn rename(&mut self, from: &str, to: &str) -> Result<(), FilesFault>
+        requires differ { from.now ≢ to.now }
+        requires from_free { name_is_taken self.old from.now ≡ false }
+        requires to_free { name_is_taken self.old to.now ≡ false }
+        ensures fails { FailsExactly call.Rename (files_script self.old) (files_script self.new) (files_starved self.old) (files_starved self.new) result }
+        ensures taken { SameAll (name_is_taken self.old) (name_is_taken self.new) }
+        ensures to { OnOk result (held_at self.new to.now ≡ moved (held_at self.old from.now) (held_at self.old to.now)) }
+        ensures from { OnOk result (held_at self.new from.now ≡ None) }
+        ensures others { (other : List ℕ) → other ≢ from.now → other ≢ to.now → held_at self.new other ≡ held_at self.old other }
+        ensures kept { OnErr result (SameAll (held_at self.old) (held_at self.new)) }
+        ensures cause { HasCause (files_faults self.old) (files_faults self.new) result }
+    {
+        if self.script.fails(Call::Rename) {
+            return Err(self.fault());
+        }
+        if !self.places.contains_key(from) {
+            return Ok(());
+        }
+        match self.move_place(from, to) {
+            Ok(()) => Ok(()),
+            Err(AllocError) => Err(self.starve()),
+        }
+    }
+
+    fn remove(&mut self, name: &str) -> Result<(), FilesFault>
+        requires { name_is_taken self.old name.now ≡ false }
+        ensures fails { FailsExactly call.Remove (files_script self.old) (files_script self.new) (files_starved self.old) (files_starved self.new) result }
+        ensures starved { files_starved self.new ≡ files_starved self.old }
+        ensures taken { SameAll (name_is_taken self.old) (name_is_taken self.new) }
+        ensures gone { OnOk result (held_at self.new name.now ≡ None) }
+        ensures others { SameBut name.now (held_at self.old) (held_at self.new) }
+        ensures kept { OnErr result (SameAll (held_at self.old) (held_at self.new)) }
+        ensures cause { HasCause (files_faults self.old) (files_faults self.new) result }
+    {
+        if self.script.fails(Call::Remove) {
+            return Err(self.fault());
+        }
+        self.drop_place(name);
+        Ok(())
+    }
+
+    ghost taken_holds_nothing = { λ files name. empty_place_holds_nothing (get_by_text files.places name) };
 }

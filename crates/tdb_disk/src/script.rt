@@ -96,8 +96,16 @@ impl Script {
         ensures failing { result.failing.items ≡ [] }
         ensures made { result.made ≡ unmade }
     {
+        Script::over(Vec::new(alloc))
+    }
+
+    /// These calls are to fail, and none was made.
+    pub(crate) fn over(failing: Vec<(Call, u64)>) -> Script
+        ensures failing { result.failing ≡ failing }
+        ensures made { result.made ≡ unmade }
+    {
         Script {
-            failing: Vec::new(alloc),
+            failing,
             made: Made::new(),
         }
     }
