@@ -1,4 +1,5 @@
 pub mod Count
+pub mod FuseDisk
 pub mod History
 pub mod Image
 pub mod MemDisk

@@ -4,6 +4,7 @@
 
 mod disk;
 mod files;
+mod fuse_disk;
 mod mem_disk;
 mod mem_files;
 mod mem_sink;
@@ -16,6 +17,7 @@ mod tape;
 
 pub use disk::{Disk, DiskFault};
 pub use files::{Files, FilesFault, Take, TakeRefusal};
+pub use fuse_disk::FuseDisk;
 pub use mem_disk::MemDisk;
 pub use mem_files::MemFiles;
 pub use mem_sink::MemSink;

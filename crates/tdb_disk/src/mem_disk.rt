@@ -3,10 +3,13 @@ ghost use Rattle.std.specs.Prelude.{◌≡◌, ◌+◌, ◌%◌, ◌≤◌, ◌�
 ghost use Rattle.std.proofs.Common.{ap, sym};
 ghost use Rattle.tdb_disk.specs.Count.{HasCause, RoseBy, RoseUpTo};
 ghost use Rattle.tdb_disk.specs.History.{wrote, wrote_word, grew, cut, synced, began, called, seen, Tried, TriedOver};
+ghost use Rattle.tdb_disk.specs.Picked.{picked};
+ghost use Rattle.tdb_disk.specs.Stop.{Leaves};
 ghost use Rattle.tdb_disk.specs.Script.{FailsExactly, one_more, unmade};
 ghost use Rattle.tdb_disk.specs.declared.script.Call.TheVariants.{Len, Read, Write, WriteWord, Grow, Cut, Sync};
 
 use crate::disk::{Disk, DiskFault};
+use crate::pick::Pick;
 use crate::script::{Call, Script, raise};
 use crate::tape::Tape;
 use std::alloc::{AllocError, Global};
@@ -76,6 +79,24 @@ impl MemDisk {
         ensures { result ≡ memory_starved self.now }
     {
         self.starved
+    }
+
+    /// A new disk, without pending writes and without faults, whose bytes a stop now may leave.
+    pub fn after_stop(&self, alloc: Global, pick: Pick) -> Result<MemDisk, AllocError>
+        ensures left { Leaves (memory_history self.now) (picked pick (memory_history self.now)) }
+        ensures history { IfOk result (λ d. memory_history d ≡ began (picked pick (memory_history self.now))) }
+        ensures failing { IfOk result (λ d. (memory_script d).failing.items ≡ []) }
+        ensures made { IfOk result (λ d. (memory_script d).made ≡ unmade) }
+        ensures faults { IfOk result (λ d. memory_faults d ≡ 0) }
+        ensures starved { IfOk result (λ d. memory_starved d ≡ 0) }
+        ensures syncs { IfOk result (λ d. memory_syncs d ≡ 0) }
+        ensures bytes_read { IfOk result (λ d. memory_bytes_read d ≡ 0) }
+    {
+        match pick {
+            Pick::Synced => MemDisk::new(alloc, &self.tape.synced),
+            Pick::Read => MemDisk::new(alloc, &self.tape.bytes),
+            Pick::Torn => MemDisk::new(alloc, &self.tape.torn),
+        }
     }
 
     /// A disk over a tape, with these calls that are to fail, no faults and no calls yet.
