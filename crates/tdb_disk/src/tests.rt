@@ -49,11 +49,26 @@ fn rounds(alloc: Global, failing: &[(Call, u64)]) -> Result<String, Fail> {
 fn disk_fails_where_it_is_told(rt: HostRuntime) -> Result<(), Fail> {
     let alloc = rt.alloc();
     assert_eq!(rt; rounds(alloc, &[])?.as_str(), ".....................");
-    assert_eq!(rt; rounds(alloc, &[(Call::Len, 0), (Call::Read, 1)])?.as_str(), "x.......x............");
-    assert_eq!(rt; rounds(alloc, &[(Call::Write, 1), (Call::WriteWord, 2)])?.as_str(), ".........x.......x...");
-    assert_eq!(rt; rounds(alloc, &[(Call::Grow, 0), (Call::Cut, 1)])?.as_str(), "....x.......x........");
-    assert_eq!(rt; rounds(alloc, &[(Call::Sync, 0), (Call::Sync, 2)])?.as_str(), "......x.............x");
-    assert_eq!(rt; rounds(alloc, &[(Call::Sync, 3), (Call::Take, 0)])?.as_str(), ".....................");
+    assert_eq!(rt;
+        rounds(alloc, &[(Call::Len, 0), (Call::Read, 1)])?.as_str(),
+        "x.......x............"
+    );
+    assert_eq!(rt;
+        rounds(alloc, &[(Call::Write, 1), (Call::WriteWord, 2)])?.as_str(),
+        ".........x.......x..."
+    );
+    assert_eq!(rt;
+        rounds(alloc, &[(Call::Grow, 0), (Call::Cut, 1)])?.as_str(),
+        "....x.......x........"
+    );
+    assert_eq!(rt;
+        rounds(alloc, &[(Call::Sync, 0), (Call::Sync, 2)])?.as_str(),
+        "......x.............x"
+    );
+    assert_eq!(rt;
+        rounds(alloc, &[(Call::Sync, 3), (Call::Take, 0)])?.as_str(),
+        "....................."
+    );
     Ok(())
 }
 
@@ -168,13 +183,19 @@ fn files_keep_what_was_given_back(rt: HostRuntime) -> Result<(), Fail> {
     files.put("a", b"one")?;
     files.fail_disk("a", Call::Write, 1)?;
     assert_eq!(rt; files.get("b"), None);
-    assert_eq!(rt; refusal(&mut files, alloc, "a", Take::New), Some(TakeRefusal::There));
+    assert_eq!(rt;
+        refusal(&mut files, alloc, "a", Take::New),
+        Some(TakeRefusal::There)
+    );
     assert_eq!(rt; write_first(&mut files, alloc, "a"), Ok(true));
     assert_eq!(rt; files.get("a"), Some(b"One".as_slice()));
     // What wasn't synced stays so.
     let disk = files.take(alloc, "a", Take::ReadOnly)?;
     assert_eq!(rt; files.get("a"), None);
-    assert_eq!(rt; disk.after_stop(alloc, Pick::Synced)?.as_slice(), b"one".as_slice());
+    assert_eq!(rt;
+        disk.after_stop(alloc, Pick::Synced)?.as_slice(),
+        b"one".as_slice()
+    );
     files.give("a", disk);
     Ok(())
 }
@@ -186,7 +207,10 @@ fn files_are_renamed_and_removed(rt: HostRuntime) -> Result<(), Fail> {
     files.put("a", b"one")?;
     files.put("b", b"two")?;
     files.rename("a", "b")?;
-    assert_eq!(rt; (files.get("a"), files.get("b")), (None, Some(b"one".as_slice())));
+    assert_eq!(rt;
+        (files.get("a"), files.get("b")),
+        (None, Some(b"one".as_slice()))
+    );
     files.rename("a", "b")?;
     files.remove("b")?;
     files.remove("b")?;
@@ -204,9 +228,15 @@ fn taking_fails_where_it_is_told(rt: HostRuntime) -> Result<(), Fail> {
     let missing = Some(TakeRefusal::Missing);
     assert_eq!(rt; refusal(&mut files, alloc, "a", Take::Existing), missing);
     assert_eq!(rt; refusal(&mut files, alloc, "a", Take::New), None);
-    assert_eq!(rt; refusal(&mut files, alloc, "a", Take::ReadOnly), Some(TakeRefusal::Failed));
+    assert_eq!(rt;
+        refusal(&mut files, alloc, "a", Take::ReadOnly),
+        Some(TakeRefusal::Failed)
+    );
     assert_eq!(rt; refusal(&mut files, alloc, "a", Take::ReadOnly), None);
-    assert_eq!(rt; refusal(&mut files, alloc, "a", Take::New), Some(TakeRefusal::There));
+    assert_eq!(rt;
+        refusal(&mut files, alloc, "a", Take::New),
+        Some(TakeRefusal::There)
+    );
     Ok(())
 }
 
