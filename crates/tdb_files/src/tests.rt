@@ -2,10 +2,10 @@
 ghost use Rattle.std.specs.Prelude.{◌≡◌, OnOk};
 
 use crate::{DirFiles, FileSink, InSource, OutSink};
+use std::alloc::Global;
 use std::fs;
 use std::os::unix::fs::{PermissionsExt, symlink};
 use std::test::Fail;
-use std::alloc::Global;
 use tdb_disk::{Disk, DiskFault, Files, Sink, Source, Take, TakeRefusal};
 
 const FOLDER: &str = "tdb_files_test";
@@ -71,7 +71,11 @@ fn each_refusal_is_named(rt: HostRuntime) -> Result<(), Fail> {
     let _ = fs::remove_dir_all(&rt, folder);
     fs::create_dir(&rt, folder)?;
     fs::write(&rt, "tdb_files_refusals/kept", "kept")?;
-    fs::set_permissions(&rt, "tdb_files_refusals/kept", fs::Permissions::from_mode(0o444))?;
+    fs::set_permissions(
+        &rt,
+        "tdb_files_refusals/kept",
+        fs::Permissions::from_mode(0o444),
+    )?;
     symlink(&rt, "nowhere", "tdb_files_refusals/link")?;
     let (missing, there, failed) = (
         Some(TakeRefusal::Missing),
@@ -85,11 +89,22 @@ fn each_refusal_is_named(rt: HostRuntime) -> Result<(), Fail> {
         ("tdb_files_refusals/new", missing, missing, None),
         ("tdb_files_refusals/new", None, None, there),
     ] {
-        assert_eq!(rt; refusal(rt, name, Take::Existing), existing, "existing {name}");
-        assert_eq!(rt; refusal(rt, name, Take::ReadOnly), read_only, "read-only {name}");
+        assert_eq!(rt;
+            refusal(rt, name, Take::Existing),
+            existing,
+            "existing {name}"
+        );
+        assert_eq!(rt;
+            refusal(rt, name, Take::ReadOnly),
+            read_only,
+            "read-only {name}"
+        );
         assert_eq!(rt; refusal(rt, name, Take::New), new, "new {name}");
     }
-    assert_eq!(rt; refusal(rt, "tdb_files_refusals/kept", Take::ReadOnly), None);
+    assert_eq!(rt;
+        refusal(rt, "tdb_files_refusals/kept", Take::ReadOnly),
+        None
+    );
     fs::remove_dir_all(&rt, folder)?;
     Ok(())
 }
