@@ -1,4 +1,4 @@
-// Escapes: how a byte stands in a text.
+//! Escapes: how a byte stands in a text.
 
 ghost use Rattle.std.specs.Prelude.{◌≡◌, ◌++◌, ◌<◌, [], ◌∷◌, IfOk, OnOk, IfSome};
 ghost use Rattle.tdb_dump.specs.Escape.{is_plain, upper_digit, escaped_byte, escaped, hex_value};

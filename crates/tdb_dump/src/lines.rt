@@ -1,4 +1,4 @@
-// The one-line forms of a key and a value.
+//! The one-line forms of a key and a value.
 
 ghost use Rattle.std.specs.Prelude.{◌≡◌, ◌++◌, IfOk, OnOk};
 ghost use Rattle.tdb_dump.specs.Line.{labelled, key_line, data_line};

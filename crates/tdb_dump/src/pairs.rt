@@ -1,4 +1,4 @@
-// Pairs of a key and a value.
+//! Pairs of a key and a value.
 
 ghost use Rattle.std.specs.Prelude.{◌≡◌, ◌==◌, ◌<◌, ◌≤◌, [], ◌∷◌, ◌++◌, length, slice_index_or, MatchOption, OnOk, OnErr};
 

@@ -1,4 +1,4 @@
-// Words of commands: how a key or a value is given on a command line or in a script.
+//! Words of commands: how a key or a value is given on a command line or in a script.
 
 ghost use Rattle.std.specs.Prelude.{◌≡◌, ◌≢◌, ℕ, ◌≤◌, ◌<◌, ◌++◌, [], ◌∷◌, length, take, IfOk, IfErr, MatchOption};
 ghost use Rattle.tdb_dump.specs.Escape.{IsLetter, Letters};
@@ -57,7 +57,8 @@ fn first_letter(word: &[u8]) -> Option<(u8, usize)>
 /// The bytes of a word that isn't `""`.
 fn letters_of(alloc: Global, word: &[u8]) -> Result<Vec<u8>, WordRefusal>
     ensures read { IfOk result (λ bytes. Letters stands_in_word word.now bytes.items) }
-    ensures refused { IfErr result (λ e. (at : ℕ) → e ≡ WordRefusal.BadEscape at → IsBadEscapeAt word.now at) }
+    ensures refused { IfErr result (λ e. (at : ℕ) → e ≡ WordRefusal.BadEscape at →
+        IsBadEscapeAt word.now at) }
 {
     let mut bytes = Vec::with_capacity(alloc, word.len())?;
     let mut at = 0;
@@ -77,7 +78,8 @@ fn letters_of(alloc: Global, word: &[u8]) -> Result<Vec<u8>, WordRefusal>
 /// string, `\` and two hexadecimal digits of either case are one byte, and any other byte is itself.
 pub fn word_bytes_of(alloc: Global, word: &[u8]) -> Result<Bytes, WordRefusal>
     ensures read { IfOk result (λ bytes. IsWord word.now bytes) }
-    ensures refused { IfErr result (λ e. (at : ℕ) → e ≡ WordRefusal.BadEscape at → IsBadEscapeAt word.now at) }
+    ensures refused { IfErr result (λ e. (at : ℕ) → e ≡ WordRefusal.BadEscape at →
+        IsBadEscapeAt word.now at) }
 {
     if word == b"\"\"".as_slice() {
         return Ok(Bytes::new(alloc));

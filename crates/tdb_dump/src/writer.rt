@@ -1,4 +1,4 @@
-// Dump text, as it is written.
+//! Dump text, as it is written.
 
 ghost use Rattle.std.specs.Prelude.{◌≡◌, ◌≤◌, ℕ, ◌++◌, length, take, IsTrue, IfOk, OnOk, OnErr, IsErrOf};
 ghost use Rattle.tdb_disk.specs.Count.{Rose};
@@ -42,11 +42,14 @@ pub fn write_pair<K: Sink>(
     key: &[u8],
     value: &[u8],
 ) -> Result<(), WriteRefusal>
-    ensures ok { OnOk result (IsTrue K.tells → K.written out.new ≡ K.written out.old ++ pair_text key.now value.now) }
-    ensures err { OnErr result (IsTrue K.tells → (n : ℕ) × (n ≤ length (pair_text key.now value.now))
+    ensures ok { OnOk result (IsTrue K.tells →
+        K.written out.new ≡ K.written out.old ++ pair_text key.now value.now) }
+    ensures err { OnErr result (IsTrue K.tells →
+        (n : ℕ) × (n ≤ length (pair_text key.now value.now))
         × (K.written out.new ≡ K.written out.old ++ take n (pair_text key.now value.now))) }
     ensures never_falls { K.faults out.old ≤ K.faults out.new }
-    ensures failed { IsErrOf result WriteRefusal.Failed → Rose (K.faults out.old) (K.faults out.new) }
+    ensures failed { IsErrOf result WriteRefusal.Failed →
+        Rose (K.faults out.old) (K.faults out.new) }
     ensures memory { IsErrOf result WriteRefusal.Memory → out.new ≡ out.old }
 {
     let text = match text_of(alloc, key, value) {
