@@ -1,0 +1,6 @@
+pub mod ExpectedLemmas
+pub mod GrammarLemmas
+pub mod LetterLemmas
+pub mod MoveLemmas
+pub mod ReadingLemmas
+pub mod TakenLemmas
