@@ -1,0 +1,2 @@
+pub mod ReadFront
+pub mod SameNames

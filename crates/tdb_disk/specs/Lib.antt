@@ -1,0 +1,12 @@
+pub mod Count
+pub mod History
+pub mod Image
+pub mod MemDisk
+pub mod MemFiles
+pub mod MemSink
+pub mod MemSource
+pub mod Names
+pub mod Picked
+pub mod Script
+pub mod Stop
+pub mod Tape
