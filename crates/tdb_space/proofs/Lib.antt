@@ -4,3 +4,7 @@ pub mod Listed
 pub mod Gathered
 pub mod Maps
 pub mod Ahead
+pub mod Cleared
+pub mod Passed
+pub mod Faults
+pub mod Agreed
