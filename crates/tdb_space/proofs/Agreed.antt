@@ -1,8 +1,8 @@
 -- An image is accepted exactly where it has no fault.
-use Rattle.std.proofs.Common.{◌≡◌, ◌≢◌, ℕ, ◌+◌, ◌<◌, ◌≤◌, ◌⊎◌, ◌&&◌, ◌||◌, not, Bool, true, false, List, [], ◌∷◌, ◌++◌, length, Option, Some, None, refl, sym, ◌∙◌, ap, subst, inl, inr, arith}
-use Rattle.std.specs.Prelude.{◌%◌, ◌/◌, ◌==◌, nat_eq, nat_lt, is_some, is_none, slice_index, if◌then◌else◌}
+use Rattle.std.proofs.Common.{◌≡◌, ◌≢◌, ℕ, ◌<◌, ◌≤◌, ◌⊎◌, ◌&&◌, ◌||◌, not, Bool, false, List, [], length, Option, Some, None, refl, sym, ◌∙◌, subst, inl, inr, arith}
+use Rattle.std.specs.Prelude.{◌%◌, ◌==◌, nat_eq, nat_lt, is_some, is_none, slice_index, if◌then◌else◌}
 use Rattle.std.specs.List.{starts_with}
-use Rattle.std.proofs.lemmas.Bool.{false≢true, cases_Bool, cases_eq, cases_lt, or_parts, ltb-false, eq-eqb, ne_eqb, eqb-true}
+use Rattle.std.proofs.lemmas.Bool.{false≢true, cases_eq, cases_lt, or_parts, ltb-false, eq-eqb, ne_eqb}
 use Rattle.std.proofs.lemmas.Bool.Decides.{nat_tests}
 use Rattle.tdb_words.specs.declared.record.TheConstants.{GATE_OPEN, GATE_SHUT, PADDING}
 use Rattle.tdb_words.specs.declared.header.HeaderFault.{HeaderFault}
@@ -10,14 +10,14 @@ use Rattle.tdb_words.specs.declared.header.HeaderFault.TheVariants.{NotTdb, Vers
 use Rattle.tdb_words.specs.Word.{word}
 use Rattle.tdb_words.specs.Header.{HeaderOk, header_fault, hash_size_of, header_order, food, order_named, hash_named, jenkins_locks, mutex_locks}
 use Rattle.tdb_space.specs.Form.{Form, form_of, data_start, chain_head, free_head}
-use Rattle.tdb_space.specs.Record.{IsChained, IsFree, rec_len_of, magic_of}
+use Rattle.tdb_space.specs.Record.{IsChained, IsFree, magic_of}
 use Rattle.tdb_space.specs.Chain.{Linked, chain_of, free_of}
 use Rattle.tdb_space.specs.Extents.{times}
-use Rattle.tdb_space.specs.Accepted.{AreaInPlace, AreaOk, Shut, AllFiled, KeysDiffer, LaidOut, Accept}
-use Rattle.tdb_space.specs.FirstFault.{Fault, ListKind, chain_number, free_list, is_short, is_out, is_long, front_fault, area_fault, area_fault_at, Sound, HeadsSound, ChainsSound, ListsSound, NoStray, is_stray, extents_of, HasNoFault}
+use Rattle.tdb_space.specs.Accepted.{AreaInPlace, AreaOk, Shut, AllFiled, KeysDiffer, Accept}
+use Rattle.tdb_space.specs.FirstFault.{chain_number, free_list, is_short, is_out, is_long, front_fault, area_fault, area_fault_at, extents_of, HasNoFault}
 use Rattle.tdb_space.proofs.Walks.{walk_meets}
 use Rattle.tdb_space.proofs.Cleared.{none_parts, none_both, stands_from, stands_to, long_from, long_to, same_from, same_to, below_to, or_none}
-use Rattle.tdb_space.proofs.Passed.{passed_filed, Listed, sound_listed, sound_from, filed_belong, free_belong, free_keys}
+use Rattle.tdb_space.proofs.Passed.{passed_filed, sound_listed, sound_from, filed_belong, free_belong, free_keys}
 
 some_never : {T : Type 0} (o : Option T) → is_some o ≡ false → o ≡ None
 some_never None h = refl

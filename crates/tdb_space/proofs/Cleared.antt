@@ -1,18 +1,16 @@
 -- A record without a fault stands whole and is what its list asks for, and the other way round.
-use Rattle.std.proofs.Common.{◌≡◌, ◌≢◌, ℕ, ◌+◌, ◌<◌, ◌≤◌, ◌⊎◌, ◌&&◌, ◌||◌, not, Bool, true, false, List, [], ◌∷◌, length, map, Option, Some, None, eqb, refl, sym, ◌∙◌, ap, inl, inr, arith}
+use Rattle.std.proofs.Common.{◌≡◌, ℕ, ◌+◌, ◌≤◌, ◌&&◌, ◌||◌, not, Bool, true, false, List, length, Option, Some, None, refl, inl, inr, arith}
 use Rattle.std.specs.Prelude.{◌%◌, ◌==◌, nat_eq, nat_lt, if◌then◌else◌}
 use Rattle.std.specs.List.{list_any}
-use Rattle.std.proofs.lemmas.Bool.{ltb-false, or_parts, eq-eqb, ne_eqb, eqb-true, false≢true, cases_Bool, cases_eq}
+use Rattle.std.proofs.lemmas.Bool.{ltb-false, or_parts, eq-eqb, ne_eqb, false≢true, cases_eq}
 use Rattle.std.proofs.lemmas.Bool.Decides.{nat_tests}
-use Rattle.tdb_words.specs.declared.record.TheConstants.{USED, FREE, DEAD}
-use Rattle.tdb_words.specs.declared.what.What.{What}
+use Rattle.tdb_words.specs.declared.record.TheConstants.{USED}
 use Rattle.tdb_words.specs.Word.{word}
 use Rattle.tdb_words.specs.Hash.{h_of}
 use Rattle.tdb_space.specs.Form.{Form, data_start}
 use Rattle.tdb_space.specs.Record.{Whole, Fits, IsChained, IsFree, rec_len_of, key_len_of, data_len_of, full_hash_of, magic_of, key_at}
-use Rattle.tdb_space.specs.Pairs.{pairs, same_key}
 use Rattle.tdb_space.specs.Accepted.{Filed}
-use Rattle.tdb_space.specs.FirstFault.{Fault, ListKind, chain_number, free_list, is_out, is_long, is_bad, has_magic, has_wrong_tailer, is_misfiled, has_twin, record_fault}
+use Rattle.tdb_space.specs.FirstFault.{ListKind, chain_number, free_list, is_out, is_long, is_bad, has_magic, has_wrong_tailer, is_misfiled, has_twin, record_fault}
 
 -- where the first of two tests finds nothing, the rest finds nothing
 pub none_parts : {T : Type 0} (b : Bool) (e : T) (rest : Option T) → (if b then Some e else rest) ≡ None → (b ≡ false) × (rest ≡ None)

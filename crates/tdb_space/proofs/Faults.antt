@@ -1,12 +1,10 @@
 -- An image has at most one first fault, and none where no stage has one.
-use Rattle.std.proofs.Common.{◌≡◌, ◌≢◌, ℕ, ◌+◌, ◌<◌, ◌≤◌, ◌⊎◌, Bool, true, false, List, [], ◌∷◌, ◌++◌, Option, Some, None, append_assoc, append-nil, refl, sym, ◌∙◌, ap, subst, inl, inr, arith}
+use Rattle.std.proofs.Common.{◌≡◌, ◌≢◌, ℕ, ◌<◌, ◌≤◌, ◌⊎◌, List, [], ◌∷◌, ◌++◌, Option, Some, None, append_assoc, append-nil, refl, sym, ◌∙◌, ap, subst, inl, inr, arith}
 use Rattle.std.proofs.lemmas.Bool.{false≢true, cases_lt}
 use Rattle.tdb_words.specs.Word.{word}
-use Rattle.tdb_words.specs.declared.what.What.{What}
 use Rattle.tdb_words.specs.declared.what.What.TheVariants.{Overlap, Stray}
 use Rattle.tdb_space.specs.Form.{Form, form_of, chain_head, free_head}
-use Rattle.tdb_space.specs.Extents.{times}
-use Rattle.tdb_space.specs.FirstFault.{Fault, ListKind, chain_number, free_list, record_fault, front_fault, area_fault, Passed, Sound, FirstInList, HeadsSound, ChainsSound, ListsSound, NoOverlap, FirstOverlap, NoStray, FirstStray, is_stray, extents_of, HasNoFault, IsFirstFault, at_front, at_area, in_chain, in_free_list, at_overlap, at_stray}
+use Rattle.tdb_space.specs.FirstFault.{Fault, ListKind, chain_number, free_list, record_fault, front_fault, area_fault, Passed, Sound, FirstInList, ChainsSound, NoOverlap, FirstOverlap, FirstStray, HasNoFault, IsFirstFault, at_front, at_area, in_chain, in_free_list, at_overlap, at_stray}
 
 some_none : (e : Fault) (o : Option Fault) → o ≡ Some e → o ≡ None → ⊥
 some_none e o s n = cc

@@ -8,3 +8,4 @@ pub mod Cleared
 pub mod Passed
 pub mod Faults
 pub mod Agreed
+pub mod Pieces

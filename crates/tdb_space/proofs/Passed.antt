@@ -1,26 +1,25 @@
 -- A list is sound exactly where it is linked, each used record is filed in it, and no offset and no key comes twice.
-use Rattle.std.proofs.Common.{◌≡◌, ◌≢◌, ℕ, ◌+◌, ◌<◌, ◌≤◌, ◌&&◌, Bool, true, false, List, [], ◌∷◌, ◌++◌, length, map, eqb, append_assoc, append-nil, refl, sym, ◌∙◌, ap, subst, inl, inr, arith}
-use Rattle.std.specs.Prelude.{◌/◌, ◌==◌}
+use Rattle.std.proofs.Common.{◌≡◌, ℕ, ◌&&◌, Bool, true, false, List, [], ◌∷◌, ◌++◌, map, eqb, append_assoc, append-nil, refl, sym, ◌∙◌, ap, subst, inl, inr, arith}
+use Rattle.std.specs.Prelude.{◌==◌}
 use Rattle.std.specs.Cmp.{IsEquivalence}
 use Rattle.std.specs.List.{IsDistinct, AllByRecursion, list_any}
 use Rattle.std.proofs.lemmas.Bool.{eq-eqb, ne_eqb, cases_eq, false≢true}
 use Rattle.std.proofs.lemmas.Cmp.{nat_eq_equiv, nat_list_eq_equiv}
 use Rattle.std.proofs.lemmas.List.{map-append}
-use Rattle.std.proofs.lemmas.List.Folds.{list_any-append}
 use Rattle.std.proofs.lemmas.Map.Keys.{IsDistinct-push}
-use Rattle.tdb_words.specs.declared.record.TheConstants.{USED, FREE}
+use Rattle.tdb_words.specs.declared.record.TheConstants.{USED}
 use Rattle.tdb_words.specs.declared.word.Order.{Order}
 use Rattle.tdb_words.specs.Word.{word}
 use Rattle.tdb_space.specs.Form.{Form}
-use Rattle.tdb_space.specs.Record.{Fits, IsFree, magic_of, key_at, data_at}
-use Rattle.tdb_space.specs.Chain.{Linked, Member, offsets}
-use Rattle.tdb_space.specs.Pairs.{pairs, pair_of, same_key}
+use Rattle.tdb_space.specs.Record.{Fits, IsFree, magic_of, key_at}
+use Rattle.tdb_space.specs.Chain.{Linked}
+use Rattle.tdb_space.specs.Pairs.{pairs, same_key}
 use Rattle.tdb_space.specs.Accepted.{Filed, AllFiled, KeysDiffer}
 use Rattle.tdb_space.specs.FirstFault.{ListKind, chain_number, free_list, Passed, Sound, has_twin, is_misfiled}
 use Rattle.tdb_space.proofs.Walks.{linked_distinct}
-use Rattle.tdb_space.proofs.Listed.{pairs-append, pairs-push}
+use Rattle.tdb_space.proofs.Listed.{pairs-append}
 use Rattle.tdb_space.proofs.Maps.{pairs_used, pairs_other}
-use Rattle.tdb_space.proofs.Cleared.{Clear, clear_from, clear_to, Good, good_from, good_to, filed_from, filed_to, Marked}
+use Rattle.tdb_space.proofs.Cleared.{Clear, clear_from, clear_to, good_from, good_to, filed_from, filed_to, Marked}
 
 -- what stands in front of an element of a list without two alike is not like it
 each_front : {K : Type 0} {eq : K → K → Bool} → IsEquivalence eq → (x : K) (xs : List K) (b : K) (bs : List K) → AllByRecursion (λ y. eq x y ≡ false) (xs ++ b ∷ bs) → eq b x ≡ false

@@ -2,7 +2,6 @@
 use Rattle.std.specs.Prelude.{◌≡◌, ◌≢◌, ℕ, ◌+◌, ◌%◌, ◌<◌, ◌≤◌, ◌==◌, Bool, true, false, ◌&&◌, ◌||◌, not, nat_eq, nat_lt, if◌then◌else◌, Option, Some, None, is_some, List, [], ◌∷◌, ◌++◌, length, map, slice_index}
 use Rattle.std.specs.List.{list_any}
 use Rattle.tdb_words.specs.declared.record.TheConstants.{USED, FREE, DEAD, GATE_OPEN, GATE_SHUT, PADDING}
-use Rattle.tdb_words.specs.declared.word.Order.{Order}
 use Rattle.tdb_words.specs.declared.what.What.{What}
 use Rattle.tdb_words.specs.declared.what.What.TheVariants.{Short, Header, AreaBad, UndoBad, ChainOut, ChainLoop, BadRecord, Tailer, WrongHash, TwiceKey, FreeOut, FreeLoop, Overlap, Stray}
 use Rattle.tdb_words.specs.Word.{word}

@@ -5,3 +5,4 @@ pub mod Pairs
 pub mod Extents
 pub mod Accepted
 pub mod FirstFault
+pub mod Spare

@@ -1,5 +1,4 @@
 -- The laws are the lemmas.
-use Rattle.tdb_space.specs.Accepted.{Accept}
 use Rattle.tdb_space.proofs.Faults.{one_first, none_first}
 use Rattle.tdb_space.proofs.Agreed.{no_fault_accepted, accepted_no_fault}
 use Rattle.tdb_space.proofs.first_fault.first_fault_law.Goals as goal
