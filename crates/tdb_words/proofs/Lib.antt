@@ -3,3 +3,4 @@ pub mod OldSums
 pub mod Twelves
 pub mod JenkinsPieces
 pub mod NewHeader
+pub mod SameHeader
