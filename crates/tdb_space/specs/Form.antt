@@ -1,5 +1,5 @@
 -- What the header of a file fixes for all that stands behind it, and where the heads of its lists stand.
-use Rattle.std.specs.Prelude.{ℕ, ◌+◌, ◌*◌, List}
+use Rattle.std.specs.Prelude.{◌≡◌, ℕ, ◌+◌, ◌*◌, ◌<◌, ◌≤◌, ◌⊎◌, List, slice_index}
 use Rattle.tdb_words.specs.declared.word.Order.{Order}
 use Rattle.tdb_words.specs.declared.hash.HashKind.{HashKind}
 use Rattle.tdb_words.specs.declared.header.Header.{Header}
@@ -30,3 +30,8 @@ chain_head j = 172 + 4 * j
 -- the offset at which the records begin, behind the last chain head
 abbrev pub data_start : Form → ℕ
 data_start f = 168 + 4 * (f.chains + 1)
+
+-- two images have the same bytes by which a header is known: those below 44, and those from 52 to 63. Between them stand the
+-- offset of the undo area and the sequence number
+abbrev pub SameHeader : List ℕ → List ℕ → Type 0
+SameHeader a b = (i : ℕ) → (i < 44) ⊎ ((52 ≤ i) × (i < 64)) → slice_index b i ≡ slice_index a i

@@ -6,3 +6,4 @@ pub mod Extents
 pub mod Accepted
 pub mod FirstFault
 pub mod Spare
+pub mod Exchange

@@ -5,22 +5,28 @@ use Rattle.tdb_words.specs.declared.word.Order.{Order}
 use Rattle.tdb_words.specs.Word.{word}
 use Rattle.tdb_space.specs.Form.{Form, data_start}
 
--- the words of the record at an offset
+-- The header of a record is six words (`struct tdb_record` of the public TDB 1 format). The first leads to the next record of
+-- its list, or is 0 at the end
 abbrev pub next_of : Order → List ℕ → ℕ → ℕ
 next_of o img at = word o img at
 
+-- how many bytes follow the header, the tailer among them
 abbrev pub rec_len_of : Order → List ℕ → ℕ → ℕ
 rec_len_of o img at = word o img (at + 4)
 
+-- how many bytes the key has
 abbrev pub key_len_of : Order → List ℕ → ℕ → ℕ
 key_len_of o img at = word o img (at + 8)
 
+-- how many bytes the value has
 abbrev pub data_len_of : Order → List ℕ → ℕ → ℕ
 data_len_of o img at = word o img (at + 12)
 
+-- the hash of the key, before it is taken modulo the number of chains
 abbrev pub full_hash_of : Order → List ℕ → ℕ → ℕ
 full_hash_of o img at = word o img (at + 16)
 
+-- what the record is: used, dead or free; of the undo area the same word is its gate
 abbrev pub magic_of : Order → List ℕ → ℕ → ℕ
 magic_of o img at = word o img (at + 20)
 
