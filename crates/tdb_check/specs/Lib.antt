@@ -1,3 +1,3 @@
 pub mod Seen
-pub mod Counted
 pub mod Unchanged
+pub mod Front

@@ -4,20 +4,11 @@ use Rattle.tdb_words.specs.declared.record.Rec.{Rec}
 use Rattle.tdb_words.specs.declared.record.TheConstants.{USED}
 use Rattle.tdb_words.specs.declared.what.What.TheVariants.{BadRecord, Tailer, WrongHash}
 use Rattle.tdb_space.specs.Form.{Form}
-use Rattle.tdb_space.specs.Extents.{Extent as Held}
 use Rattle.tdb_space.specs.FirstFault.{Fault, ListKind as Kind, chain_number, free_list, has_magic, is_bad, has_wrong_tailer, is_misfiled}
-use Rattle.tdb_check.specs.declared.extent.Extent.{Extent}
 use Rattle.tdb_check.specs.declared.list_kind.ListKind.{ListKind}
 use Rattle.tdb_check.specs.declared.list_kind.ListKind.TheVariants.{Chain, Free}
 use Rattle.tdb_check.specs.declared.refusal.CheckRefusal.{CheckRefusal}
 use Rattle.tdb_check.specs.declared.refusal.CheckRefusal.TheVariants.{Corrupt, Io, Memory}
-
--- an extent: its offset, and how many bytes it holds
-abbrev pub extent_seen : Extent → Held
-extent_seen e = (e.off, 24 + e.rec_len)
-
-abbrev pub extents_seen : List Extent → List Held
-extents_seen es = map extent_seen es
 
 -- which list it is
 abbrev pub kind_of : ListKind → Kind

@@ -1,11 +1,12 @@
 //! The check of a file: whether its image is accepted, and what its first fault is.
 #![tactic(auto)]
 
-mod extent;
+mod front;
 mod list_kind;
 mod record;
 mod refusal;
-mod report;
 
+pub use crate::front::{FrontRefusal, read_front};
+pub use crate::list_kind::ListKind;
+pub use crate::record::read_record;
 pub use crate::refusal::CheckRefusal;
-pub use crate::report::Report;

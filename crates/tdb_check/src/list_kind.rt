@@ -8,14 +8,17 @@ use tdb_words::{DEAD, FREE, USED, What};
 
 /// A list of records: the chain of a number, or the free list.
 #[derive(Clone, Copy, Debug)]
-pub(crate) enum ListKind {
+pub enum ListKind {
+    /// The chain of this number.
     Chain(u32),
+
+    /// The free list.
     Free,
 }
 
 impl ListKind {
     /// What a word is that leads to no place of a record.
-    pub(crate) fn leads_out(self) -> What
+    pub fn leads_out(self) -> What
         ensures { result ≡ out_of (kind_of self) }
     {
         match self {
@@ -25,7 +28,7 @@ impl ListKind {
     }
 
     /// What a word is that leads back.
-    pub(crate) fn leads_back(self) -> What
+    pub fn leads_back(self) -> What
         ensures { result ≡ loop_of (kind_of self) }
     {
         match self {
@@ -35,7 +38,7 @@ impl ListKind {
     }
 
     /// Whether a record with this magic may stand in the list.
-    pub(crate) fn takes(self, magic: u32) -> bool
+    pub fn takes(self, magic: u32) -> bool
         ensures { result ≡ has_magic (kind_of self) magic }
     {
         match self {

@@ -126,7 +126,7 @@ fn is_misfiled(kind: ListKind, r: &Rec, own_hash: u32, chains: u32) -> bool
 
 /// The header of the record at an offset where one can stand, or what is wrong with the record by itself. One read serves
 /// where header, key and tailer stand within 512 bytes.
-pub(crate) fn read_record<S: Space>(
+pub fn read_record<S: Space>(
     s: &mut S,
     len: u64,
     kind: ListKind,

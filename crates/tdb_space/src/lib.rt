@@ -10,6 +10,8 @@ mod reads;
 mod space;
 #[cfg(test)]
 mod tests;
+#[cfg(test)]
+mod view_tests;
 
 pub use crate::direct::Direct;
 pub use crate::first_fault::first_fault_law;
