@@ -1,18 +1,18 @@
 -- What the first bytes of an image and its length say of its front.
-use Rattle.std.proofs.Common.{◌≡◌, ℕ, ◌+◌, ◌*◌, ◌<◌, ◌≤◌, Bool, true, false, List, length, take, drop, Some, None, not, refl, sym, ◌∙◌, ap, subst, arith}
-use Rattle.std.specs.Prelude.{◌%◌, ◌==◌, ◌||◌, nat_lt, is_some, slice_index}
+use Rattle.std.proofs.Common.{◌≡◌, ℕ, ◌+◌, ◌<◌, ◌≤◌, Bool, true, false, List, length, take, drop, Some, None, not, refl, sym, ◌∙◌, ap, subst, arith}
+use Rattle.std.specs.Prelude.{◌%◌, ◌==◌, ◌||◌, nat_lt, is_some}
 use Rattle.std.proofs.lemmas.Bool.Decides.{nat_tests}
 use Rattle.tdb_words.specs.declared.word.Order.{Order}
 use Rattle.tdb_words.specs.declared.header.HeaderFault.{HeaderFault}
 use Rattle.tdb_words.specs.declared.what.What.TheVariants.{Short, Header}
 use Rattle.tdb_words.specs.Word.{word}
-use Rattle.tdb_words.specs.Header.{HeaderOk, header_fault, header_at, header_order, header_hash, hash_size_of, recovery_start_of, sequence_of}
+use Rattle.tdb_words.specs.Header.{HeaderOk, header_fault, header_at, header_order, recovery_start_of, sequence_of}
 use Rattle.tdb_words.proofs.Words.{word_of_part}
 use Rattle.tdb_words.proofs.SameHeader.{SameHeader, same_front, same_order, same_hash, same_hash_size, same_fault}
 use Rattle.tdb_space.specs.Form.{form_of, data_start}
 use Rattle.tdb_space.specs.FirstFault.{front_fault, is_short}
 use Rattle.tdb_space.proofs.Cleared.{below_to}
-use Rattle.tdb_space.proofs.Agreed.{FrontOk, front_none}
+use Rattle.tdb_space.proofs.Agreed.{front_none}
 
 lt_true : (a b : ℕ) → a < b → nat_lt a b ≡ true
 lt_true a b h = grind (arith, nat_tests)

@@ -1,5 +1,5 @@
 -- What the tests of a record's header, tailer and hash say of the record itself.
-use Rattle.std.proofs.Common.{◌≡◌, ◌≢◌, ℕ, ◌+◌, Bool, true, false, ◌≤◌, ◌||◌, List, length, take, drop, length-take, Option, Some, None, not, eqb, refl, sym, ◌∙◌, ap, subst, arith}
+use Rattle.std.proofs.Common.{◌≡◌, ◌≢◌, ℕ, ◌+◌, true, false, ◌≤◌, ◌||◌, List, length, take, drop, length-take, Some, None, not, eqb, refl, sym, ◌∙◌, ap, arith}
 use Rattle.std.specs.Prelude.{◌%◌}
 use Rattle.std.proofs.lemmas.Bool.{eq-eqb, ne_eqb}
 use Rattle.tdb_words.specs.declared.record.Rec.{Rec}
@@ -11,8 +11,8 @@ use Rattle.tdb_words.specs.Hash.{h_of}
 use Rattle.tdb_words.specs.Record.{rec_at}
 use Rattle.tdb_words.proofs.Words.{rec_of_part}
 use Rattle.tdb_space.specs.Form.{Form}
-use Rattle.tdb_space.specs.Record.{rec_len_of, key_len_of, full_hash_of, magic_of, key_at}
-use Rattle.tdb_space.specs.FirstFault.{Fault, ListKind, chain_number, free_list, is_bad, has_wrong_tailer, is_misfiled}
+use Rattle.tdb_space.specs.Record.{rec_len_of, magic_of, key_at}
+use Rattle.tdb_space.specs.FirstFault.{ListKind, chain_number, free_list, is_bad, has_wrong_tailer, is_misfiled}
 use Rattle.tdb_check.specs.Seen.{own_fault, is_bad_header, is_misfiled_header}
 
 module _ (f : Form) (kind : ListKind) (img : List ℕ) (at len : ℕ) (r : Rec) (is : r ≡ rec_at f.order img at) (long : length img ≡ len) where

@@ -1,3 +1,5 @@
 pub mod Windows
 pub mod Judged
 pub mod Fronts
+pub mod Swept
+pub mod Areas

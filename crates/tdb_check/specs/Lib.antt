@@ -1,3 +1,5 @@
 pub mod Seen
 pub mod Unchanged
 pub mod Front
+pub mod Extent
+pub mod Area

@@ -1,5 +1,5 @@
 -- What the types of the check stand for among the definitions of images.
-use Rattle.std.specs.Prelude.{◌≡◌, ℕ, ◌+◌, ◌==◌, ◌%◌, ◌||◌, ◌&&◌, not, nat_lt, Bool, false, if◌then◌else◌, List, map, Option, Some, None}
+use Rattle.std.specs.Prelude.{ℕ, ◌+◌, ◌==◌, ◌%◌, ◌||◌, ◌&&◌, not, nat_lt, Bool, false, if◌then◌else◌, List, Option, Some, None}
 use Rattle.tdb_words.specs.declared.record.Rec.{Rec}
 use Rattle.tdb_words.specs.declared.record.TheConstants.{USED}
 use Rattle.tdb_words.specs.declared.what.What.TheVariants.{BadRecord, Tailer, WrongHash}

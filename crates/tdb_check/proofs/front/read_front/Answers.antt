@@ -1,5 +1,5 @@
 -- Each way out, by the bytes that were read.
-use Rattle.std.proofs.Common.{◌≡◌, ◌+◌, ◌≤◌, ◌%◌, length, take, drop, subst, sym, ◌∙◌, ap, arith}
+use Rattle.std.proofs.Common.{◌≡◌, ◌≤◌, ◌%◌, length, take, drop, sym, ◌∙◌, ap, arith}
 use Rattle.tdb_disk.specs.History.{seen}
 use Rattle.tdb_words.specs.Header.{header_at, hash_size_of}
 use Rattle.tdb_space.specs.Form.{form_of, data_start}

@@ -1,5 +1,5 @@
 -- The words of the window's front.
-use Rattle.std.proofs.Common.{◌≡◌, ◌∙◌, ap, take, drop, arith}
+use Rattle.std.proofs.Common.{◌∙◌, ap, arith}
 use Rattle.tdb_words.specs.Record.{rec_at}
 use Rattle.tdb_words.proofs.Words.{rec_of_part}
 use Rattle.tdb_check.proofs.record.header_in.Goals as goal

@@ -1,5 +1,5 @@
 -- By the list and the two hashes.
-use Rattle.std.proofs.Common.{◌≡◌, ap, refl, not, eqb}
+use Rattle.std.proofs.Common.{ap, refl, not, eqb}
 use Rattle.std.proofs.lemmas.Bool.{eq-eqb, ne_eqb}
 use Rattle.tdb_check.proofs.record.is_misfiled.Goals as goal
 

@@ -1,5 +1,5 @@
 -- The key stands in the window.
-use Rattle.std.proofs.Common.{◌≡◌, ◌+◌, ◌-◌, ◌≤◌, length, take, drop, sym, ◌∙◌, ap, arith}
+use Rattle.std.proofs.Common.{◌≡◌, ◌+◌, ◌-◌, ◌≤◌, length, take, drop, ◌∙◌, ap, arith}
 use Rattle.tdb_words.specs.Hash.{h_of}
 use Rattle.tdb_check.proofs.Windows.{window_bytes}
 use Rattle.tdb_check.proofs.record.key_hash.Goals as goal

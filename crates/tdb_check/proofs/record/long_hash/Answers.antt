@@ -1,5 +1,5 @@
 -- One piece more.
-use Rattle.std.proofs.Common.{◌≡◌, ◌+◌, ◌≤◌, ℕ, IsTrue, length, take, drop, length-take, sym, ◌∙◌, ap, subst, arith, rules}
+use Rattle.std.proofs.Common.{◌≡◌, ◌+◌, ◌≤◌, length, take, drop, length-take, ◌∙◌, subst, arith, rules}
 use Rattle.tdb_words.specs.HashRun.{Holds}
 use Rattle.tdb_check.proofs.Windows.{pieces_join}
 use Rattle.tdb_check.proofs.record.long_hash.Goals as goal

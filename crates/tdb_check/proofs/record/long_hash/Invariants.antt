@@ -1,5 +1,5 @@
 -- The run has read the key's bytes so far.
-use Rattle.std.proofs.Common.{◌≡◌, ◌-◌, ◌≤◌, IsTrue, take, drop}
+use Rattle.std.proofs.Common.{◌-◌, ◌≤◌, IsTrue, take, drop}
 use Rattle.tdb_words.specs.HashRun.{Holds}
 use Rattle.tdb_check.specs.Unchanged.{Unchanged}
 use Rattle.tdb_check.proofs.record.long_hash.Given as goal

@@ -1,5 +1,5 @@
 -- The tailer stands in the window, or is read.
-use Rattle.std.proofs.Common.{◌≡◌, ◌+◌, ◌-◌, ℕ, length, take, drop, sym, ◌∙◌, ap, arith}
+use Rattle.std.proofs.Common.{◌≡◌, ◌+◌, ℕ, take, drop, ◌∙◌, ap, arith}
 use Rattle.tdb_words.specs.Word.{word}
 use Rattle.tdb_words.proofs.Words.{word_of_part}
 use Rattle.tdb_check.proofs.Windows.{window_word}
