@@ -4,6 +4,11 @@ pub mod Listed
 pub mod Gathered
 pub mod Maps
 pub mod Ahead
+pub mod Cleared
+pub mod Passed
+pub mod Faults
+pub mod Agreed
+pub mod Pieces
 pub mod Counts
 pub mod Kept
 pub mod Headers

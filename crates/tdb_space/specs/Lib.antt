@@ -4,4 +4,6 @@ pub mod Chain
 pub mod Pairs
 pub mod Extents
 pub mod Accepted
+pub mod FirstFault
+pub mod Spare
 pub mod Exchange

@@ -1,8 +1,22 @@
 //! What the bytes of a tdb file mean: records, chains, the free list, accepted images and the map that a file holds.
 #![tactic(auto)]
 
+mod direct;
+mod first_fault;
+mod hand;
+mod io;
 mod plain;
+mod reads;
+mod space;
 #[cfg(test)]
 mod tests;
+#[cfg(test)]
+mod view_tests;
 
+pub use crate::direct::Direct;
+pub use crate::first_fault::first_fault_law;
+pub use crate::hand::Hand;
+pub use crate::io::Io;
 pub use crate::plain::{KeyValue, chain_offsets, pairs_in_order, record_at};
+pub use crate::reads::{key_equals, read_rec};
+pub use crate::space::Space;

@@ -1,0 +1,13 @@
+-- The laws are the lemmas.
+use Rattle.tdb_space.proofs.Faults.{one_first, none_first}
+use Rattle.tdb_space.proofs.Agreed.{no_fault_accepted, accepted_no_fault}
+use Rattle.tdb_space.proofs.first_fault.first_fault_law.Goals as goal
+
+pub returns-clause-sound : goal.returns-clause-sound
+returns-clause-sound c img = (no_fault_accepted img, accepted_no_fault img)
+
+pub returns-clause-one : goal.returns-clause-one
+returns-clause-one c = one_first
+
+pub returns-clause-none : goal.returns-clause-none
+returns-clause-none c img e first accepted = none_first img e first (accepted_no_fault img accepted)
