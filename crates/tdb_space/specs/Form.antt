@@ -1,0 +1,27 @@
+-- What the header of a file fixes for all that stands behind it, and where the heads of its lists stand.
+use Rattle.std.specs.Prelude.{ℕ, ◌+◌, ◌*◌, List}
+use Rattle.tdb_words.specs.declared.word.Order.{Order}
+use Rattle.tdb_words.specs.declared.header.HashKind.{HashKind}
+use Rattle.tdb_words.specs.Header.{header_order, header_hash, hash_size_of}
+
+-- the byte order of the words, the hash by which keys are filed, and the number of chains
+pub record Form : Type 0 where
+  pub order : Order
+  pub hash : HashKind
+  pub chains : ℕ
+
+-- the form that the header of an image states
+abbrev pub form_of : List ℕ → Form
+form_of img = record { order = header_order img; hash = header_hash img; chains = hash_size_of img }
+
+-- the offset of the word that points at the first record of the free list
+abbrev pub free_head : ℕ
+free_head = 168
+
+-- the offset of the word that points at the first record of chain j; the heads follow the free list's
+abbrev pub chain_head : ℕ → ℕ
+chain_head j = 172 + 4 * j
+
+-- the offset at which the records begin, behind the last chain head
+abbrev pub data_start : Form → ℕ
+data_start f = 168 + 4 * (f.chains + 1)
