@@ -1,0 +1,9 @@
+pub mod Count
+pub mod History
+pub mod Image
+pub mod MemDisk
+pub mod Names
+pub mod Picked
+pub mod Script
+pub mod Stop
+pub mod Tape
