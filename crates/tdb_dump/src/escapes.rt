@@ -1,0 +1,73 @@
+// Escapes: how a byte stands in a text.
+
+ghost use Rattle.std.specs.Prelude.{◌≡◌, ◌++◌, ◌<◌, [], ◌∷◌, IfOk, OnOk, IfSome};
+ghost use Rattle.tdb_dump.specs.Escape.{is_plain, upper_digit, escaped_byte, escaped, hex_value};
+
+use std::alloc::{AllocError, Global};
+use tdb_words::Bytes;
+
+/// Whether a byte stands as it is: 0x20 to 0x7E, other than `"` and `\`.
+#[tactic(auto, unfolding(crate::specs::Escape::is_plain))]
+pub(crate) fn is_plain(byte: u8) -> bool
+    ensures { result ≡ is_plain byte }
+{
+    32 <= byte && byte <= 126 && byte != b'"' && byte != b'\\'
+}
+
+/// A hexadecimal digit in upper case.
+fn upper_digit(value: u8) -> u8
+    requires { value < 16 }
+    ensures { result ≡ upper_digit value }
+{
+    if value < 10 {
+        b'0' + value
+    } else {
+        b'A' - 10 + value
+    }
+}
+
+/// What a hexadecimal digit of either case stands for.
+#[tactic(auto, unfolding(crate::specs::Escape::hex_value))]
+pub(crate) fn hex_value(digit: u8) -> Option<u8>
+    ensures value { result ≡ hex_value digit }
+    ensures small { IfSome result (λ v. v < 16) }
+{
+    match digit {
+        b'0'..=b'9' => Some(digit - b'0'),
+        b'A'..=b'F' => Some(digit - b'A' + 10),
+        b'a'..=b'f' => Some(digit - b'a' + 10),
+        _ => None,
+    }
+}
+
+/// Puts the text of one byte at the end.
+#[tactic(auto, unfolding(crate::specs::Escape::escaped_byte))]
+fn push_escaped(text: &mut Vec<u8>, byte: u8) -> Result<(), AllocError>
+    ensures { OnOk result (text.new.items ≡ text.old.items ++ escaped_byte byte) }
+{
+    if is_plain(byte) {
+        text.push(byte)?;
+    } else {
+        text.extend_from_slice(&[b'\\', upper_digit(byte / 16), upper_digit(byte % 16)])?;
+    }
+    Ok(())
+}
+
+/// Puts the text of the bytes at the end.
+pub(crate) fn push_all_escaped(text: &mut Vec<u8>, bytes: &[u8]) -> Result<(), AllocError>
+    ensures { OnOk result (text.new.items ≡ text.old.items ++ escaped bytes.now) }
+{
+    for byte in bytes {
+        push_escaped(text, *byte)?;
+    }
+    Ok(())
+}
+
+/// The text of the bytes: what isn't plain is `\` and two hexadecimal digits in upper case.
+pub fn escape(alloc: Global, bytes: &[u8]) -> Result<Bytes, AllocError>
+    ensures { IfOk result (λ text. text ≡ escaped bytes.now) }
+{
+    let mut text = Vec::with_capacity(alloc, bytes.len())?;
+    push_all_escaped(&mut text, bytes)?;
+    Ok(Bytes::from(text))
+}

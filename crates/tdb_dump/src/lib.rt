@@ -1,0 +1,10 @@
+// The text in which administrators carry databases: escapes, words of commands, and dump text both ways.
+#![tactic(auto)]
+
+mod escapes;
+mod lines;
+mod words;
+
+pub use crate::escapes::escape;
+pub use crate::lines::{data_line, key_line};
+pub use crate::words::{WordRefusal, word_bytes_of};
