@@ -1,0 +1,8 @@
+//! The top call of the program: command lines are read, and run over a set of files, an input and an output.
+#![tactic(auto)]
+
+mod front;
+mod halt;
+mod line;
+mod record;
+mod walk;
