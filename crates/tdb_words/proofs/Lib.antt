@@ -1,1 +1,4 @@
 pub mod Words
+pub mod OldSums
+pub mod Twelves
+pub mod JenkinsPieces

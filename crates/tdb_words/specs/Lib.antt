@@ -1,2 +1,6 @@
 pub mod Word
 pub mod Record
+pub mod Header
+pub mod Hash
+pub mod HashRun
+pub mod Running

@@ -2,9 +2,15 @@
 #![tactic(auto)]
 
 mod bytes;
+mod hash;
+mod header;
+mod jenkins;
+mod old;
 mod record;
 mod word;
 
 pub use crate::bytes::Bytes;
+pub use crate::hash::{HashKind, HashRun, chain_of, hash_jenkins, hash_of, hash_old};
+pub use crate::header::{Header, HeaderFault, header_of};
 pub use crate::record::{DEAD, FREE, GATE_OPEN, GATE_SHUT, PADDING, Rec, USED, rec_bytes, rec_of};
 pub use crate::word::{Order, word_at, word_bytes};
