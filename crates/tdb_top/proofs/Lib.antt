@@ -1,1 +1,3 @@
 pub mod Lines
+pub mod Usable
+pub mod Pieces

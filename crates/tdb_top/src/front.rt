@@ -63,11 +63,13 @@ impl Front {
         }
         let mut bytes = [0; 168];
         disk.read(0, &mut bytes)?;
-        match header_of(&bytes) {
-            Ok(header) if header.recovery_start == 0 && data_start(&header) <= length => {
-                Ok(Front { header, length })
-            }
-            _ => Err(Halt::Refused),
+        let header = match header_of(&bytes) {
+            Ok(header) => header,
+            Err(_) => return Err(Halt::Refused),
+        };
+        if header.recovery_start != 0 || length < data_start(&header) {
+            return Err(Halt::Refused);
         }
+        Ok(Front { header, length })
     }
 }

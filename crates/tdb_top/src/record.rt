@@ -1,6 +1,6 @@
 // One record of a chain on a disk: its header, tested against the file's length, and its key.
 
-ghost use Rattle.std.specs.Prelude.{◌≡◌, ◌+◌, ◌<◌, ◌≤◌, ◌↔◌, ℕ, length, take, drop, IsTrue, IfOk, IfErr};
+ghost use Rattle.std.specs.Prelude.{◌≡◌, ◌+◌, ◌^◌, ◌<◌, ◌≤◌, ◌↔◌, ℕ, length, take, drop, IsTrue, IfOk, IfErr};
 ghost use Rattle.tdb_disk.specs.History.{seen};
 ghost use Rattle.tdb_disk.specs.Count.{HasCause};
 ghost use Rattle.tdb_words.specs.Record.{rec_at};
@@ -48,7 +48,7 @@ fn is_sound(rec: &Rec, room: u64) -> bool
 }
 
 /// The header of the record at an offset. Where no record of a chain stands whole there, the file is refused.
-pub(crate) fn read_met<D: Disk>(disk: &mut D, front: &Front, at: u64) -> Result<Rec, Halt>
+pub(crate) fn read_met<D: Disk>(disk: &mut D, front: &Front, at: u32) -> Result<Rec, Halt>
     requires { front.now.length ≡ D.size disk.old }
     ensures value { IfOk result (λ r. IsTrue D.tells → r ≡ rec_at front.now.header.order (seen (D.history disk.old)) at) }
     ensures met { IfOk result (λ r. IsTrue D.tells → IsMet (form_in front.now.header) (seen (D.history disk.old)) at) }
@@ -60,6 +60,7 @@ pub(crate) fn read_met<D: Disk>(disk: &mut D, front: &Front, at: u64) -> Result<
     ensures cause { HaltsForCause (D.faults disk.old) (D.faults disk.new) result }
 {
     let order = front.header.order;
+    let at = u64::from(at);
     if at % 4 != 0 || at < data_start(&front.header) || front.length < at + RECORD_HEADER_LEN {
         return Err(Halt::Refused);
     }
@@ -76,9 +77,23 @@ pub(crate) fn read_met<D: Disk>(disk: &mut D, front: &Front, at: u64) -> Result<
     }
 }
 
+/// Whether a piece stands at an offset. `room` takes the bytes that are read.
+fn is_there<D: Disk>(disk: &mut D, at: u64, piece: &[u8], room: &mut [u8]) -> Result<bool, DiskFault>
+    requires within { at + length piece.now ≤ D.size disk.old }
+    requires room { length room.old ≡ length piece.now }
+    ensures same { IfOk result (λ yes. IsTrue D.tells → IsTrue yes ↔ (take (length piece.now) (drop at (seen (D.history disk.old))) ≡ piece.now)) }
+    ensures size { D.size disk.new ≡ D.size disk.old }
+    ensures history { D.history disk.new ≡ D.history disk.old }
+    ensures cause { HasCause (D.faults disk.old) (D.faults disk.new) result }
+{
+    disk.read(at, room)?;
+    Ok(*room == *piece)
+}
+
 /// Whether these bytes stand at an offset. They are compared a piece at a time.
 fn are_there<D: Disk>(disk: &mut D, at: u64, bytes: &[u8]) -> Result<bool, DiskFault>
-    requires { at + length bytes.now ≤ D.size disk.old }
+    requires within { at + length bytes.now ≤ D.size disk.old }
+    requires fits { at + length bytes.now < 2 ^ 64 }
     ensures same { IfOk result (λ yes. IsTrue D.tells → IsTrue yes ↔ (take (length bytes.now) (drop at (seen (D.history disk.old))) ≡ bytes.now)) }
     ensures size { D.size disk.new ≡ D.size disk.old }
     ensures history { D.history disk.new ≡ D.history disk.old }
@@ -88,8 +103,8 @@ fn are_there<D: Disk>(disk: &mut D, at: u64, bytes: &[u8]) -> Result<bool, DiskF
     let mut done = 0;
     while done < bytes.len() {
         let len = PIECE_LEN.min(bytes.len() - done);
-        disk.read(at + done as u64, &mut buffer[..len])?;
-        if buffer[..len] != bytes[done..done + len] {
+        let piece = &bytes[done..done + len];
+        if !is_there(disk, at + done as u64, piece, &mut buffer[..len])? {
             return Ok(false);
         }
         done += len;
@@ -98,7 +113,7 @@ fn are_there<D: Disk>(disk: &mut D, at: u64, bytes: &[u8]) -> Result<bool, DiskF
 }
 
 /// Whether the record at an offset is a used one with this key.
-pub(crate) fn has_key<D: Disk>(disk: &mut D, at: u64, rec: &Rec, key: &[u8]) -> Result<bool, DiskFault>
+pub(crate) fn has_key<D: Disk>(disk: &mut D, at: u32, rec: &Rec, key: &[u8]) -> Result<bool, DiskFault>
     requires within { at + 24 + rec.now.rec_len ≤ D.size disk.old }
     requires sound { IsSound rec.now (D.size disk.old) }
     ensures same { IfOk result (λ yes. IsTrue D.tells → (f : Form) → rec.now ≡ rec_at f.order (seen (D.history disk.old)) at → (IsTrue yes ↔ HasKey f (seen (D.history disk.old)) key.now at)) }
@@ -109,5 +124,5 @@ pub(crate) fn has_key<D: Disk>(disk: &mut D, at: u64, rec: &Rec, key: &[u8]) -> 
     if rec.magic != USED || rec.key_len as usize != key.len() {
         return Ok(false);
     }
-    are_there(disk, at + RECORD_HEADER_LEN, key)
+    are_there(disk, u64::from(at) + RECORD_HEADER_LEN, key)
 }

@@ -2,7 +2,8 @@
 
 ghost use Rattle.std.specs.Prelude.{◌≡◌, ◌+◌, ◌^◌, ◌<◌, ◌≤◌, ℕ, length, IsTrue, IfOk, IfErr, IfSome, Option};
 ghost use Rattle.tdb_disk.specs.History.{seen};
-ghost use Rattle.tdb_space.specs.Form.{form_in};
+ghost use Rattle.tdb_space.specs.Form.{form_in, chain_head};
+ghost use Rattle.tdb_space.specs.Pairs.{home};
 ghost use Rattle.tdb_top.specs.declared.halt.Halt.TheVariants.{Refused};
 ghost use Rattle.tdb_top.specs.Walk.{FindsFault, WalkFault};
 ghost use Rattle.tdb_top.specs.Look.{HaltsForCause, IsFrontOf, Found, Answers, bytes_at};
@@ -44,7 +45,7 @@ fn find<D: Disk>(disk: &mut D, front: &Front, key: &[u8]) -> Result<Option<Place
     ensures history { D.history disk.new ≡ D.history disk.old }
     ensures cause { HaltsForCause (D.faults disk.old) (D.faults disk.new) result }
 {
-    let mut at = u64::from(read_word(disk, head_of(front, key), front.header.order)?);
+    let mut at = read_word(disk, head_of(front, key), front.header.order)?;
     let mut mark = 0;
     for turn in 0..front.length / 4 {
         if at == 0 {
@@ -60,18 +61,17 @@ fn find<D: Disk>(disk: &mut D, front: &Front, key: &[u8]) -> Result<Option<Place
         if turn.is_power_of_two() {
             mark = at;
         }
-        at = u64::from(rec.next);
+        at = rec.next;
     }
     if at == 0 { Ok(None) } else { Err(Halt::Refused) }
 }
 
 /// Where the value of the record at an offset stands: behind its key.
-fn value_place(at: u64, rec: &Rec) -> Place
-    requires { at < 2 ^ 32 }
+fn value_place(at: u32, rec: &Rec) -> Place
     ensures { result ≡ record { at = at + 24 + rec.now.key_len; len = rec.now.data_len } }
 {
     Place {
-        at: at + RECORD_HEADER_LEN + u64::from(rec.key_len),
+        at: u64::from(at) + RECORD_HEADER_LEN + u64::from(rec.key_len),
         len: rec.data_len,
     }
 }

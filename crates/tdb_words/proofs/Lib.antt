@@ -2,3 +2,4 @@ pub mod Words
 pub mod OldSums
 pub mod Twelves
 pub mod JenkinsPieces
+pub mod Fronts
