@@ -1,1 +1,14 @@
 pub mod Walks
+pub mod Followed
+pub mod Listed
+pub mod Gathered
+pub mod Maps
+pub mod Ahead
+pub mod Counts
+pub mod Kept
+pub mod Headers
+pub mod Laid
+pub mod Swaps
+pub mod FreeSwaps
+pub mod Hands
+pub mod Links

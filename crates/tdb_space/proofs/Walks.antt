@@ -1,8 +1,9 @@
 -- Walks along next words: from an offset there is one list of records, no offset comes twice in it, and it is no longer than a
 -- quarter of the image; so the computed offsets are that list, where there is one.
-use Rattle.std.proofs.Common.{◌≡◌, ℕ, zero, suc, ◌+◌, ◌*◌, ◌<◌, ◌≤◌, ◌⊎◌, List, [], ◌∷◌, length, map, eqb, false, refl, sym, ◌∙◌, ap, subst, inl, inr, arith}
+use Rattle.std.proofs.Common.{◌≡◌, ℕ, zero, suc, ◌+◌, ◌*◌, ◌<◌, ◌≤◌, ◌⊎◌, List, [], ◌∷◌, length, get_or, map, eqb, false, refl, sym, ◌∙◌, ap, subst, inl, inr, arith}
 use Rattle.std.specs.Prelude.{◌/◌}
-use Rattle.std.specs.List.{IsDistinct, AllByRecursion, list_any}
+use Rattle.std.proofs.lemmas.List.Folds.{list_any_at}
+use Rattle.std.specs.List.{All, IsDistinct, AllByRecursion, list_any}
 use Rattle.std.proofs.lemmas.Bool.{eqb-true, eq-eqb, ne_eqb, or_cases, or_left, or_right, false_from_ne_true, or_parts, false≢true}
 use Rattle.std.proofs.lemmas.List.{length-map}
 use Rattle.std.proofs.lemmas.Map.Keys.{IsDistinct-cons}
@@ -48,8 +49,8 @@ pub linked_whole : (f : Form) (M : ℕ → Type 0) (img : List ℕ) (at : ℕ) (
 linked_whole f M img at [] z p h = absurd (false≢true h)
 linked_whole f M img at (x ∷ xs) z p h =
     elim (member_cases z x xs h) [
-      inl e ↦ subst (λ y. Whole f img y × M (word f.order img (y + 20))) (sym e) (p.1, p.2)
-    | inr there ↦ linked_whole f M img (word f.order img x) xs z p.3 there
+      | inl e ↦ subst (λ y. Whole f img y × M (word f.order img (y + 20))) (sym e) (p.1, p.2)
+      | inr there ↦ linked_whole f M img (word f.order img x) xs z p.3 there
     ]
 
 -- from each record of a list the rest of it is a list, and it is no longer
@@ -57,8 +58,8 @@ linked_from : (f : Form) (M : ℕ → Type 0) (img : List ℕ) (at : ℕ) (xs : 
 linked_from f M img at [] z p h = absurd (false≢true h)
 linked_from f M img at (x ∷ xs) z p h =
     elim (member_cases z x xs h) [
-      inl e ↦ (x ∷ xs, subst (λ y. Linked f M img y (x ∷ xs)) (p.0 ∙ sym e) p, omega arith)
-    | inr there ↦ let rest = linked_from f M img (word f.order img x) xs z p.3 there in (rest.0, rest.1, omega (arith, rest.2))
+      | inl e ↦ (x ∷ xs, subst (λ y. Linked f M img y (x ∷ xs)) (p.0 ∙ sym e) p, omega arith)
+      | inr there ↦ let rest = linked_from f M img (word f.order img x) xs z p.3 there in (rest.0, rest.1, omega (arith, rest.2))
     ]
 
 -- no offset comes twice in a list
@@ -79,8 +80,8 @@ quarter_met : (f : Form) (M : ℕ → Type 0) (img : List ℕ) (at : ℕ) (xs : 
 quarter_met f M img at [] q p h = absurd (false≢true h)
 quarter_met f M img at (x ∷ xs) q p h =
     elim (member_cases q (x / 4) (map (λ y. y / 4) xs) h) [
-      inl e ↦ or_left (eqb (4 * q) x) (list_any (eqb (4 * q)) xs) (eq-eqb (4 * q) x (omega (arith, p.1.aligned)))
-    | inr there ↦ member_other (4 * q) x xs (quarter_met f M img (word f.order img x) xs q p.3 there)
+      | inl e ↦ or_left (eqb (4 * q) x) (list_any (eqb (4 * q)) xs) (eq-eqb (4 * q) x (omega (arith, p.1.aligned)))
+      | inr there ↦ member_other (4 * q) x xs (quarter_met f M img (word f.order img x) xs q p.3 there)
     ]
 
 quarters_distinct : (f : Form) (M : ℕ → Type 0) (img : List ℕ) (at : ℕ) (xs : List ℕ) → Linked f M img at xs → IsDistinct eqb xs → IsDistinct eqb (map (λ x. x / 4) xs)
@@ -91,6 +92,7 @@ quarters_distinct f M img at (x ∷ xs) p d = distinct_with (x / 4) (map (λ y. 
     among : (z : ℕ) (ys : List ℕ) → AllByRecursion (λ y. eqb x y ≡ false) ys → Member z ys → z ≡ x → ⊥
     among z [] a m e = false≢true m
     among z (y ∷ ys) a m e = elim (member_cases z y ys m) [ inl here ↦ false≢true (sym a.0 ∙ eq-eqb x y (sym e ∙ here)) | inr there ↦ among z ys a.1 there e ]
+
     apart : Member (x / 4) (map (λ y. y / 4) xs) → ⊥
     apart h = among (4 * (x / 4)) xs d.0 (quarter_met f M img (word f.order img x) xs (x / 4) p.3 h) (omega (arith, p.1.aligned))
 
@@ -98,7 +100,7 @@ quarters_distinct f M img at (x ∷ xs) p d = distinct_with (x / 4) (map (λ y. 
 pub linked_short : (f : Form) (M : ℕ → Type 0) (img : List ℕ) (at : ℕ) (xs : List ℕ) → Linked f M img at xs → length xs ≤ length img / 4
 linked_short f M img at xs p =
     let below : (q : ℕ) → Member q (map (λ x. x / 4) xs) → q < length img / 4 = λ q h.
-        (let w = linked_whole f M img at xs (4 * q) p (quarter_met f M img at xs q p h) in omega (arith, w.0.within)) in
+    (let w = linked_whole f M img at xs (4 * q) p (quarter_met f M img at xs q p h) in omega (arith, w.0.within)) in
     let short = length-le_from_distinct_below (map (λ x. x / 4) xs) (length img / 4) (quarters_distinct f M img at xs p (linked_distinct f M img at xs p)) below in
     omega (arith, short, length-map xs (λ (x : ℕ). x / 4))
 
@@ -115,3 +117,7 @@ walk_turns f M img (suc n) at (x ∷ xs) p h =
 -- where there is a list from an offset, the computed offsets are it
 pub walk_meets : (f : Form) (M : ℕ → Type 0) (img : List ℕ) (at : ℕ) (xs : List ℕ) → Linked f M img at xs → offsets f.order img (length img / 4) at ≡ xs
 walk_meets f M img at xs p = walk_turns f M img (length img / 4) at xs p (linked_short f M img at xs p)
+
+-- the records of a list, place by place, stand whole
+pub linked_each : (f : Form) (M : ℕ → Type 0) (img : List ℕ) (at : ℕ) (xs : List ℕ) → Linked f M img at xs → All (Whole f img) xs
+linked_each f M img at xs p k d below = (linked_whole f M img at xs (get_or xs k d) p (list_any_at (eqb (get_or xs k d)) xs k d below (eq-eqb (get_or xs k d) (get_or xs k d) refl))).0

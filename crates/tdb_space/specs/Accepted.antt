@@ -7,7 +7,7 @@ use Rattle.tdb_words.specs.Header.{HeaderOk}
 use Rattle.tdb_words.specs.Hash.{h_of}
 use Rattle.tdb_space.specs.Form.{Form, form_of, data_start, chain_head, free_head}
 use Rattle.tdb_space.specs.Record.{IsChained, IsFree, Fits, key_at, full_hash_of, rec_len_of, magic_of}
-use Rattle.tdb_space.specs.Chain.{Linked, chain_of, free_of}
+use Rattle.tdb_space.specs.Chain.{Linked, chain_of, free_of, HasChains}
 use Rattle.tdb_space.specs.Pairs.{pairs, same_key}
 use Rattle.tdb_space.specs.Extents.{HandPair, times, all_extents, AllHandOk}
 
@@ -42,6 +42,12 @@ AllFiled f img chain (x ∷ xs) = (magic_of f.order img x ≡ USED → Filed f i
 abbrev pub KeysDiffer : Form → List ℕ → List ℕ → Type 0
 KeysDiffer f img offs = IsDistinct same_key (map (λ p. p.0) (pairs f.order img offs))
 
+-- each chain head has its chain, and each used record is filed there by its key's hash; so the map at a key is found in one chain
+pub record IsFiled (f : Form) (img : List ℕ) : Type 0 where
+  pub some : 0 < f.chains
+  pub chains : HasChains f img
+  pub filed : (j : ℕ) → j < f.chains → AllFiled f img j (chain_of f img j)
+
 -- The image is laid out in these chains, this free list, its undo area and these hands:
 -- the header is one of ours; the length is a whole number of words and reaches the data; the undo area is in place and shut;
 -- each chain head has its chain and the free list is one; each used record is filed by its key's hash; no key comes twice in a
@@ -61,7 +67,7 @@ pub record LaidOut (f : Form) (img : List ℕ) (chain : ℕ → List ℕ) (free 
   pub held : AllHandOk f img hands
   pub apart : (i : ℕ) → times (all_extents f img chain free hands) i ≤ 1
   pub stray : (i : ℕ) → data_start f ≤ i → i < length img → times (all_extents f img chain free hands) i ≡ 0
-    → (slice_index img i ≡ 0) ⊎ (slice_index img i ≡ PADDING)
+      → (slice_index img i ≡ 0) ⊎ (slice_index img i ≡ PADDING)
 
 -- an image is accepted with these hands out: it is laid out in its own chains and free list, and in the hands
 abbrev pub AcceptWith : Form → List ℕ → List HandPair → Type 0

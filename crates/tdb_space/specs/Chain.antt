@@ -12,6 +12,10 @@ abbrev pub Linked : Form → (ℕ → Type 0) → List ℕ → ℕ → List ℕ 
 Linked f Mark img at [] = at ≡ 0
 Linked f Mark img at (x ∷ xs) = (at ≡ x) × Whole f img x × Mark (magic_of f.order img x) × Linked f Mark img (next_of f.order img x) xs
 
+-- a record of a chain stands whole at this offset: it is used or dead
+abbrev pub IsLink : Form → List ℕ → ℕ → Type 0
+IsLink f img at = Whole f img at × IsChained (magic_of f.order img at)
+
 -- a chain: a list of records that are used or dead
 abbrev pub Chain : Form → List ℕ → ℕ → List ℕ → Type 0
 Chain f img at offs = Linked f IsChained img at offs

@@ -4,3 +4,4 @@ pub mod Chain
 pub mod Pairs
 pub mod Extents
 pub mod Accepted
+pub mod Exchange

@@ -1,5 +1,5 @@
 -- Records of an image: where one stands whole, what it is, and the key and the value that it holds.
-use Rattle.std.specs.Prelude.{◌≡◌, ℕ, ◌+◌, ◌%◌, ◌≤◌, ◌⊎◌, List, length, take, drop}
+use Rattle.std.specs.Prelude.{◌≡◌, ℕ, ◌+◌, ◌%◌, ◌≤◌, ◌⊎◌, List, All, length, take, drop}
 use Rattle.tdb_words.specs.declared.record.TheConstants.{USED, FREE, DEAD}
 use Rattle.tdb_words.specs.declared.word.Order.{Order}
 use Rattle.tdb_words.specs.Word.{word}
@@ -53,3 +53,7 @@ data_at o img at = take (data_len_of o img at) (drop (at + 24 + key_len_of o img
 -- the key, the value and the tailer of the record at an offset fit into its length
 abbrev pub Fits : Order → List ℕ → ℕ → Type 0
 Fits o img at = key_len_of o img at + data_len_of o img at + 4 ≤ rec_len_of o img at
+
+-- each used record of these has room for what it holds
+abbrev pub AllFit : Order → List ℕ → List ℕ → Type 0
+AllFit o img offs = All (λ x. magic_of o img x ≡ USED → Fits o img x) offs
