@@ -1,7 +1,11 @@
 pub mod Count
+pub mod FuseDisk
 pub mod History
 pub mod Image
 pub mod MemDisk
+pub mod MemFiles
+pub mod MemSink
+pub mod MemSource
 pub mod Names
 pub mod Picked
 pub mod Script

@@ -1,0 +1,5 @@
+pub mod Image
+pub mod ReadFront
+pub mod Runs
+pub mod SameNames
+pub mod Stop
