@@ -1,3 +1,4 @@
+pub mod DumpText
 pub mod Escape
 pub mod Line
 pub mod Word
