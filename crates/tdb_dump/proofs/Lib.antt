@@ -1,1 +1,3 @@
 pub mod LetterLemmas
+pub mod ExpectedLemmas
+pub mod MoveLemmas

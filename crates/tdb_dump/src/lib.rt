@@ -3,6 +3,7 @@
 
 mod escapes;
 mod lines;
+mod partial;
 mod pairs;
 mod words;
 mod writer;
