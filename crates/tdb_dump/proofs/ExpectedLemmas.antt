@@ -13,7 +13,7 @@ use Rattle.tdb_dump.specs.declared.partial.Step.{Step}
 use Rattle.tdb_dump.specs.declared.partial.Step.TheVariants.{Between, Count, Text, Escape, SecondDigit, Close}
 use Rattle.tdb_dump.specs.Escape.{is_plain, hex_value, IsLetter, Letters}
 use Rattle.tdb_dump.specs.Spelled.{field_text, IsRecord, Spelled}
-use Rattle.tdb_dump.specs.Expected.{Behind, CountThen, TextThen, SecondDigitThen, EscapeThen, CloseThen, AfterValue, AfterKey, AfterField, came_of, Next, State, Expected, IsAlive, Leads, Ends, Bars, key_with, value_with, at_step}
+use Rattle.tdb_dump.specs.Expected.{Behind, CountThen, TextThen, SecondDigitThen, EscapeThen, CloseThen, AfterValue, AfterKey, AfterField, came_of, Next, State, Expected, IsAlive, Leads, Ends, Bars, key_more, value_more, at_step}
 
 -- some text with pairs is asked for
 abbrev pub HasSome : (List ℕ → List Pair → Type 0) → Type 0
@@ -22,6 +22,10 @@ HasSome then = (text : List ℕ) × (pairs : List Pair) × then text pairs
 zero_or_some : (n : ℕ) → (n ≡ 0) ⊎ (0 < n)
 zero_or_some zero = inl refl
 zero_or_some (suc n) = inr (omega arith)
+
+pub empty_list : (xs : List ℕ) → length xs ≡ 0 → xs ≡ []
+empty_list [] h = refl
+empty_list (x ∷ xs) h = absurd (omega arith)
 
 pub append_empty : (xs : List ℕ) → xs ≡ xs ++ []
 append_empty [] = refl

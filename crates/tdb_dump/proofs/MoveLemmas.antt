@@ -1,15 +1,16 @@
 -- What each byte does at each step.
-use Rattle.std.proofs.Common.{◌≡◌, ◌≢◌, ℕ, suc, ◌+◌, ◌-◌, ◌*◌, ◌^◌, ◌<◌, ◌≤◌, ◌⊎◌, ⊎_elim, Bool, true, false, Option, Some, None, List, [], ◌∷◌, ◌++◌, refl, sym, ap, ◌∙◌, subst, arith, codes, append_assoc, inl, inr}
+use Rattle.std.proofs.Common.{◌≡◌, ◌≢◌, ℕ, suc, ◌+◌, ◌-◌, ◌*◌, ◌^◌, ◌<◌, ◌≤◌, ◌⊎◌, ⊎_elim, Bool, true, false, Option, Some, None, List, [], ◌∷◌, ◌++◌, refl, sym, ap, ◌∙◌, subst, arith, codes, append_assoc, inl, inr, length, get_or}
 use Rattle.tdb_dump.specs.declared.pairs.Pair.{Pair}
 use Rattle.tdb_dump.specs.declared.partial.Field.{Field}
 use Rattle.tdb_dump.specs.declared.partial.Field.TheVariants.{Key, Data}
+use Rattle.tdb_dump.specs.declared.partial.Taken.TheVariants.{More, Ended, Refused}
 use Rattle.tdb_dump.specs.declared.partial.Step.{Step}
 use Rattle.tdb_dump.specs.declared.partial.Step.TheVariants.{Between, Count, Text, Escape, SecondDigit, Close}
 use Rattle.tdb_dump.specs.declared.partial.Move.{Move}
 use Rattle.tdb_dump.specs.declared.partial.Move.TheVariants.{Refuse, Open, Go, Put, StartText, EndField, Whole}
 use Rattle.tdb_dump.specs.Escape.{is_plain, hex_value, IsLetter, Letters}
 use Rattle.tdb_dump.specs.Spelled.{Spelled}
-use Rattle.tdb_dump.specs.Expected.{Behind, CountThen, TextThen, SecondDigitThen, EscapeThen, CloseThen, AfterValue, AfterKey, AfterField, came_of, Next, State, Expected, IsAlive, Leads, Ends, Bars, key_with, value_with, at_step, after_quote, Moves}
+use Rattle.tdb_dump.specs.Expected.{Behind, CountThen, TextThen, SecondDigitThen, EscapeThen, CloseThen, AfterValue, AfterKey, AfterField, came_of, Next, State, Expected, IsAlive, Leads, Ends, Bars, at_step, after_quote, Moves, key_more, value_more, moved, taken_of, IsSound, TakesByte, LeadsAll}
 use Rattle.tdb_dump.proofs.ExpectedLemmas.{Behind_some, TextThen_some, CountThen_some, CountThen_some_none, AfterKey_some, AfterValue_some, AfterField_some, Behind_on, Behind_same, plain_letters, escape_letters, no_letters, end_letters, append_empty, quote, backslash, CountThen_first, CountThen_first_back, CountThen_no_first, CountThen_more, CountThen_more_back, CountThen_too_large, CountThen_zero, CountThen_no_digit, CountThen_close, CountThen_close_back, Spelled_open, Spelled_open_back, Spelled_no_open}
 
 -- ---- between records, and at the end of one
@@ -187,3 +188,48 @@ second_moves m Data first c high low is_high is_low key value = record {
 pub no_second_moves : (m : ℕ) (field : Field) (first c : ℕ) → (hex_value first ≡ None) ⊎ (hex_value c ≡ None) → Moves (SecondDigit m first) field c Refuse
 no_second_moves m field first c (inl none) key value more pairs (high, low, second, rest, is_high, is_low, whole, k) = absurd (cc)
 no_second_moves m field first c (inr none) key value more pairs (high, low, second, rest, is_high, is_low, whole, k) = let digit : second ≡ c = cc in absurd (cc (ap hex_value digit))
+
+-- ---- states
+
+-- what a move of the step does in the state
+pub takes_move : (next : Move) (step : Step) (field : Field) (key value : List ℕ) (c : ℕ) → Moves step field c next → TakesByte (at_step step field key value) c (moved next (at_step step field key value)) (taken_of next)
+takes_move Refuse step field key value c m = m key value
+takes_move Open step field key value c m = λ sound. m key value
+takes_move (Go next) step field key value c m = λ sound. m key value
+takes_move (Put b next) step field key value c m = λ sound. m key value
+takes_move (StartText n) step field key value c m = λ sound. m key value
+takes_move EndField step field key value c m = λ sound. m key value
+takes_move Whole step field key value c m = (m key value, refl)
+
+-- plain bytes of a field lead on
+plain_all : (run : List ℕ) (m : ℕ) (field : Field) (key value : List ℕ) → ((k : ℕ) → k < length run → is_plain (get_or run k 0) ≡ true)
+    → LeadsAll (at_step (Text (length run + m)) field key value) run (at_step (Text m) field (key_more field key run) (value_more field value run))
+plain_all [] m Key key value plain = let none : m ≡ length {A = ℕ} [] + m = omega arith in ap (λ t. at_step (Text m) Key t value) (sym (append_empty key)) ∙ ap (λ n. at_step (Text n) Key key value) none
+plain_all [] m Data key value plain = let none : m ≡ length {A = ℕ} [] + m = omega arith in ap (λ t. at_step (Text m) Data key t) (sym (append_empty value)) ∙ ap (λ n. at_step (Text n) Data key value) none
+plain_all (c ∷ run) m Key key value plain =
+    (at_step (Text (length run + m)) Key (key ++ c ∷ []) value,
+      subst (λ n. Leads (at_step (Text n) Key key value) c (at_step (Text (length run + m)) Key (key ++ c ∷ []) value)) (omega arith) (plain_moves (length run + m) Key c (plain 0 (omega arith)) key value),
+      subst (λ t. LeadsAll (at_step (Text (length run + m)) Key (key ++ c ∷ []) value) run (at_step (Text m) Key t value)) (append_assoc key (c ∷ []) run)
+        (plain_all run m Key (key ++ c ∷ []) value (λ k h. plain (suc k) (omega arith))))
+plain_all (c ∷ run) m Data key value plain =
+    (at_step (Text (length run + m)) Data key (value ++ c ∷ []),
+      subst (λ n. Leads (at_step (Text n) Data key value) c (at_step (Text (length run + m)) Data key (value ++ c ∷ []))) (omega arith) (plain_moves (length run + m) Data c (plain 0 (omega arith)) key value),
+      subst (λ t. LeadsAll (at_step (Text (length run + m)) Data key (value ++ c ∷ [])) run (at_step (Text m) Data key t)) (append_assoc value (c ∷ []) run)
+        (plain_all run m Data key (value ++ c ∷ []) (λ k h. plain (suc k) (omega arith))))
+
+pub plain_run_leads : (run : List ℕ) (left n : ℕ) (field : Field) (key value : List ℕ) → length run ≡ n → n ≤ left → ((k : ℕ) → k < n → is_plain (get_or run k 0) ≡ true)
+    → LeadsAll (at_step (Text left) field key value) run (at_step (Text (left - n)) field (key_more field key run) (value_more field value run))
+plain_run_leads run left n field key value long few plain =
+    let whole : length run + (left - n) ≡ left = omega arith in
+    subst (λ t. LeadsAll (at_step (Text t) field key value) run (at_step (Text (left - n)) field (key_more field key run) (value_more field value run))) whole
+      (plain_all run (left - n) field key value (λ k h. plain k (omega arith)))
+
+-- fixed bytes
+pub fixed_leads : (c : ℕ) (cs : List ℕ) (step : Step) (field : Field) (key value : List ℕ) → IsSound (record { fixed = c ∷ cs; step = step; field = field; key = key; value = value })
+    → Leads (record { fixed = c ∷ cs; step = step; field = field; key = key; value = value }) c (record { fixed = cs; step = step; field = field; key = key; value = value })
+fixed_leads c cs step field key value sound = record {
+  on = λ more pairs h. Behind_on c cs (Next step field key value) more pairs h;
+  back = λ more pairs h. (more, refl, h);
+  alive = let h = sound.alive in (h.2.0, h.1, h.2.2);
+  inside = λ e. let none = sound.settled e in absurd (cc);
+}

@@ -5,6 +5,8 @@ use Rattle.tdb_dump.specs.declared.partial.Field.{Field}
 use Rattle.tdb_dump.specs.declared.partial.Field.TheVariants.{Key, Data}
 use Rattle.tdb_dump.specs.declared.partial.Step.{Step}
 use Rattle.tdb_dump.specs.declared.partial.Step.TheVariants.{Between, Count, Text, Escape, SecondDigit, Close}
+use Rattle.tdb_dump.specs.declared.partial.Taken.{Taken}
+use Rattle.tdb_dump.specs.declared.partial.Taken.TheVariants.{More, Ended, Refused}
 use Rattle.tdb_dump.specs.declared.partial.Move.{Move}
 use Rattle.tdb_dump.specs.declared.partial.Move.TheVariants.{Refuse, Open, Go, Put, StartText, EndField, Whole}
 use Rattle.tdb_dump.specs.Escape.{is_plain, hex_value, Letters}
@@ -96,14 +98,14 @@ pub record Ends (s : State) (c : ℕ) : Type 0 where
 abbrev pub Bars : State → ℕ → Type 0
 Bars s c = (more : List ℕ) (pairs : List Pair) → Expected s (c ∷ more) pairs → ⊥
 
--- a byte more of the field
-abbrev pub key_with : Field → List ℕ → ℕ → List ℕ
-key_with Key key b = key ++ b ∷ []
-key_with Data key b = key
+-- bytes more of the field
+abbrev pub key_more : Field → List ℕ → List ℕ → List ℕ
+key_more Key key bytes = key ++ bytes
+key_more Data key bytes = key
 
-abbrev pub value_with : Field → List ℕ → ℕ → List ℕ
-value_with Key value b = value
-value_with Data value b = value ++ b ∷ []
+abbrev pub value_more : Field → List ℕ → List ℕ → List ℕ
+value_more Key value bytes = value
+value_more Data value bytes = value ++ bytes
 
 -- a step with no fixed bytes before it
 abbrev pub at_step : Step → Field → List ℕ → List ℕ → State
@@ -119,7 +121,47 @@ abbrev pub Moves : Step → Field → ℕ → Move → Type 0
 Moves step field c Refuse = (key value : List ℕ) → Bars (at_step step field key value) c
 Moves step field c Open = (key value : List ℕ) → Leads (at_step step field key value) c (record { fixed = codes "\nkey("; step = Count None; field = Key; key = []; value = [] })
 Moves step field c (Go next) = (key value : List ℕ) → Leads (at_step step field key value) c (at_step next field key value)
-Moves step field c (Put b next) = (key value : List ℕ) → Leads (at_step step field key value) c (at_step next field (key_with field key b) (value_with field value b))
+Moves step field c (Put b next) = (key value : List ℕ) → Leads (at_step step field key value) c (at_step next field (key_more field key (b ∷ [])) (value_more field value (b ∷ [])))
 Moves step field c (StartText n) = (key value : List ℕ) → Leads (at_step step field key value) c (record { fixed = codes " = \""; step = Text n; field = field; key = key; value = value })
 Moves step field c EndField = (key value : List ℕ) → Leads (at_step step field key value) c (after_quote field key value)
 Moves step field c Whole = (key value : List ℕ) → Ends (at_step step field key value) c
+
+-- bytes lead from one state to another, one after the other
+abbrev pub LeadsAll : State → List ℕ → State → Type 0
+LeadsAll s [] t = t ≡ s
+LeadsAll s (c ∷ cs) t = (middle : State) × Leads s c middle × LeadsAll middle cs t
+
+-- bytes more of the field
+abbrev pub with_bytes : State → List ℕ → State
+with_bytes s bytes = record { fixed = s.fixed; step = s.step; field = s.field; key = key_more s.field s.key bytes; value = value_more s.field s.value bytes }
+
+-- the state that a move makes of one without fixed bytes
+abbrev pub moved : Move → State → State
+moved Refuse s = s
+moved Open s = record { fixed = codes "\nkey("; step = Count None; field = Key; key = []; value = [] }
+moved (Go next) s = record s { step = next }
+moved (Put b next) s = record (with_bytes s (b ∷ [])) { step = next }
+moved (StartText n) s = record s { fixed = codes " = \""; step = Text n }
+moved EndField s = after_quote s.field s.key s.value
+moved Whole s = s
+
+-- what has come of the record when a move was made
+abbrev pub taken_of : Move → Taken
+taken_of Refuse = Refused
+taken_of Open = More
+taken_of (Go next) = More
+taken_of (Put b next) = More
+taken_of (StartText n) = More
+taken_of EndField = More
+taken_of Whole = Ended
+
+-- a state that some text completes, with no fixed bytes between records
+pub record IsSound (s : State) : Type 0 where
+  pub alive : IsAlive s
+  pub settled : s.step ≡ Between → s.fixed ≡ []
+
+-- what a byte does in a state
+abbrev pub TakesByte : State → ℕ → State → Taken → Type 0
+TakesByte s c t More = IsSound s → Leads s c t
+TakesByte s c t Ended = Ends s c × (t ≡ s)
+TakesByte s c t Refused = Bars s c
