@@ -1,2 +1,4 @@
 pub mod LetterLemmas
 pub mod WordLemmas
+pub mod ExpectedLemmas
+pub mod MoveLemmas

@@ -3,8 +3,13 @@
 
 mod escapes;
 mod lines;
+mod partial;
+mod pairs;
 mod words;
+mod writer;
 
 pub use crate::escapes::escape;
 pub use crate::lines::{data_line, key_line};
+pub use crate::pairs::{Pair, Pairs};
 pub use crate::words::{WordRefusal, word_bytes_of};
+pub use crate::writer::{WriteRefusal, write_pair};
