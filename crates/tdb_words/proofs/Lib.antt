@@ -3,3 +3,5 @@ pub mod OldSums
 pub mod Twelves
 pub mod JenkinsPieces
 pub mod Fronts
+pub mod NewHeader
+pub mod SameHeader

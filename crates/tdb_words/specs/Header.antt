@@ -1,5 +1,5 @@
 -- The header of a file: its first 168 bytes.
-use Rattle.std.specs.Prelude.{◌≡◌, ℕ, ◌+◌, ◌*◌, ◌≤◌, ◌==◌, Bool, ◌&&◌, ◌||◌, not, if◌then◌else◌, nat_eq, List, [], ◌∷◌, length, Option, Some, None, is_none, unwrap_or}
+use Rattle.std.specs.Prelude.{◌≡◌, ℕ, ◌+◌, ◌*◌, ◌≤◌, ◌==◌, Bool, ◌&&◌, ◌||◌, not, if◌then◌else◌, nat_eq, List, [], ◌∷◌, length, ◌++◌, replicate, Option, Some, None, is_none, unwrap_or}
 use Rattle.std.specs.List.{starts_with}
 use Rattle.tdb_words.specs.declared.word.Order.{Order}
 use Rattle.tdb_words.specs.declared.word.Order.TheVariants.{Little, Big}
@@ -94,3 +94,19 @@ header_at img = record {
   recovery_start = recovery_start_of img;
   sequence = sequence_of img;
 }
+
+-- the locks word of a new file
+abbrev pub locks_of : HashKind → ℕ
+locks_of Old = 0
+locks_of Jenkins = jenkins_locks
+
+-- a header with these words. Those that aren't named, as at 44 and 48, are 0
+abbrev pub header_with : Order → ℕ → ℕ → ℕ → ℕ → List ℕ
+header_with o size locks first second =
+    food ++ replicate 22 0
+    ++ bytes_of_word o version ++ bytes_of_word o size ++ bytes_of_word o locks ++ replicate 8 0
+    ++ bytes_of_word o first ++ bytes_of_word o second ++ replicate 108 0
+
+-- the header of a new file: its number of chains, and what names its hash
+abbrev pub new_header : ℕ → Order → HashKind → List ℕ
+new_header size o h = header_with o size (locks_of h) (h_of h food) (h_of h (bytes_of_word o USED))

@@ -1,9 +1,9 @@
 // The header of a file: its first 168 bytes.
 
-ghost use Rattle.std.specs.Prelude.{◌≡◌, ℕ, ◌≤◌, ◌==◌, ◌↔◌, IsTrue, IfOk, IfErr, Some, None};
+ghost use Rattle.std.specs.Prelude.{◌≡◌, ℕ, ◌<◌, ◌≤◌, ◌==◌, ◌↔◌, IsTrue, IfOk, IfErr, Some, None};
 ghost use Rattle.tdb_words.specs.Word.{word, bytes_of_word};
 ghost use Rattle.tdb_words.specs.Hash.{h_of};
-ghost use Rattle.tdb_words.specs.Header.{food, order_named, hash_named, header_at, header_fault, HeaderOk};
+ghost use Rattle.tdb_words.specs.Header.{food, order_named, hash_named, header_at, header_fault, HeaderOk, locks_of, header_with, new_header};
 
 use crate::hash::{HashKind, hash_of};
 use crate::record::USED;
@@ -142,4 +142,40 @@ pub fn header_of(bytes: &[u8; 168]) -> Result<Header, HeaderFault>
         recovery_start: word_in(bytes, 44, order),
         sequence: word_in(bytes, 48, order),
     })
+}
+
+/// The locks word of a new file.
+fn locks_for(h: HashKind) -> u32
+    ensures { result ≡ locks_of h }
+{
+    match h {
+        HashKind::Old => 0,
+        HashKind::Jenkins => JENKINS_LOCKS,
+    }
+}
+
+/// A header with these words, and else 0.
+fn header_with(o: Order, hash_size: u32, locks: u32, first: u32, second: u32) -> [u8; 168]
+    ensures { result ≡ header_with o hash_size locks first second }
+{
+    let mut bytes = [0; 168];
+    bytes[..10].copy_from_slice(&FOOD);
+    bytes[32..36].copy_from_slice(&word_bytes(VERSION, o));
+    bytes[36..40].copy_from_slice(&word_bytes(hash_size, o));
+    bytes[40..44].copy_from_slice(&word_bytes(locks, o));
+    bytes[52..56].copy_from_slice(&word_bytes(first, o));
+    bytes[56..60].copy_from_slice(&word_bytes(second, o));
+    bytes
+}
+
+/// The first 168 bytes of a new file.
+pub fn header_bytes(hash_size: u32, o: Order, h: HashKind) -> [u8; 168]
+    requires { 0 < hash_size }
+    ensures bytes { result ≡ new_header hash_size o h }
+    ensures no_fault { header_fault result ≡ None }
+    ensures read_back { header_at result
+        ≡ record { order = o; hash = h; hash_size = hash_size; recovery_start = 0; sequence = 0 } }
+{
+    let (first, second) = hash_words(h, o);
+    header_with(o, hash_size, locks_for(h), first, second)
 }

@@ -7,10 +7,14 @@ mod header;
 mod jenkins;
 mod old;
 mod record;
+#[cfg(test)]
+mod tests;
+mod what;
 mod word;
 
 pub use crate::bytes::Bytes;
 pub use crate::hash::{HashKind, HashRun, chain_of, hash_jenkins, hash_of, hash_old};
-pub use crate::header::{Header, HeaderFault, header_of};
+pub use crate::header::{Header, HeaderFault, header_bytes, header_of};
 pub use crate::record::{DEAD, FREE, GATE_OPEN, GATE_SHUT, PADDING, Rec, USED, rec_bytes, rec_of};
+pub use crate::what::What;
 pub use crate::word::{Order, word_at, word_bytes};
