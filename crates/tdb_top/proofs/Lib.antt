@@ -1,3 +1,4 @@
 pub mod Lines
 pub mod Usable
 pub mod Pieces
+pub mod Paths

@@ -117,6 +117,7 @@ pub(crate) fn has_key<D: Disk>(disk: &mut D, at: u32, rec: &Rec, key: &[u8]) -> 
     requires within { at + 24 + rec.now.rec_len ≤ D.size disk.old }
     requires sound { IsSound rec.now (D.size disk.old) }
     ensures same { IfOk result (λ yes. IsTrue D.tells → (f : Form) → rec.now ≡ rec_at f.order (seen (D.history disk.old)) at → (IsTrue yes ↔ HasKey f (seen (D.history disk.old)) key.now at)) }
+    ensures used { IfOk result (λ yes. IsTrue yes → rec.now.magic ≡ USED) }
     ensures size { D.size disk.new ≡ D.size disk.old }
     ensures history { D.history disk.new ≡ D.history disk.old }
     ensures cause { HasCause (D.faults disk.old) (D.faults disk.new) result }

@@ -2,6 +2,6 @@ pub mod Words
 pub mod OldSums
 pub mod Twelves
 pub mod JenkinsPieces
-pub mod Fronts
+pub mod SomeChain
 pub mod NewHeader
 pub mod SameHeader

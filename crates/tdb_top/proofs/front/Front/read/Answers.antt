@@ -1,7 +1,7 @@
-use Rattle.std.proofs.Common.{◌≡◌, ap, sym, ◌∙◌, length, arith}
+use Rattle.std.proofs.Common.{◌≡◌, ap, sym, ◌∙◌, take, arith}
 use Rattle.std.specs.Prelude.{IsTrue}
 use Rattle.tdb_disk.specs.History.{seen}
-use Rattle.tdb_words.proofs.Fronts.{front, header_some}
+use Rattle.tdb_words.proofs.SomeChain.{header_some}
 use Rattle.tdb_top.proofs.Usable.{header_said, usable_from, usable_no_area, usable_reaches, usable_no_fault}
 use Rattle.tdb_top.proofs.front.Front.read.Goals as goal
 use Rattle.tdb_top.proofs.front.Front.read.Goals.{then-header-ne0-via-then-header-ne0, then-header-ne0-via-else-header-ne0+then-length-data_start}
@@ -19,7 +19,7 @@ pub returns-clause-front : goal.returns-clause-front
 returns-clause-front g c told =
     let img = seen (g.D.Disk.history c.args.disk.now) in
     let ok = c.in-Ok.ensures.header in
-    let read = c.in_ok-read.ensures.bytes told ∙ ap (λ h. front (seen h)) c.in_ok-length.ensures.history in
+    let read = c.in_ok-read.ensures.bytes told ∙ ap (λ h. take 168 (seen h)) c.in_ok-length.ensures.history in
     let long = g.met.D.Disk.told_size c.args.disk.now told in
     let exact = c.in_ok-length.ensures.length in
     record {
@@ -30,14 +30,14 @@ returns-clause-front g c told =
 pub returns-in-Err-clause-refused : goal.returns-in-Err-clause-refused
 returns-in-Err-clause-refused g c is told u =
     let img = seen (g.D.Disk.history c.args.disk.now) in
-    let read = c.in_ok-read.ensures.bytes told ∙ ap (λ h. front (seen h)) c.in_ok-length.ensures.history in
+    let read = c.in_ok-read.ensures.bytes told ∙ ap (λ h. take 168 (seen h)) c.in_ok-length.ensures.history in
     usable_no_fault img c.read.new.buf c.in-Err.field-0 read c.in-Err.ensures.fault u
 
 pub returns-then-header-ne0-clause-refused : goal.returns-then-header-ne0-clause-refused
 returns-then-header-ne0-clause-refused g c is told u =
     let img = seen (g.D.Disk.history c.args.disk.now) in
     let said = c.in-Ok.ensures.header.1 in
-    let read = c.in_ok-read.ensures.bytes told ∙ ap (λ h. front (seen h)) c.in_ok-length.ensures.history in
+    let read = c.in_ok-read.ensures.bytes told ∙ ap (λ h. take 168 (seen h)) c.in_ok-length.ensures.history in
     let long = g.met.D.Disk.told_size c.args.disk.now told in
     let exact = c.in_ok-length.ensures.length in
     elim c.then-header-ne0.branch [
