@@ -4,3 +4,8 @@ pub mod Pieces
 pub mod Paths
 pub mod Held
 pub mod Causes
+pub mod Ends
+pub mod Mapped
+pub mod OneLine
+pub mod OneAnswer
+pub mod Statuses

@@ -6,7 +6,10 @@ mod front;
 mod halt;
 mod line;
 mod record;
+
 mod show;
+mod top;
 mod walk;
 
 pub use ending::Status;
+pub use top::run;
