@@ -1,11 +1,11 @@
 -- A header is known by the bytes below 44 and from 52 to 63: where they stay it has the same form, and no fault as before.
-use Rattle.std.proofs.Common.{◌≡◌, ℕ, ◌+◌, ◌<◌, ◌≤◌, ◌⊎◌, List, length, take, get_or, refl, sym, ◌∙◌, ap, subst, inl, inr, arith}
+use Rattle.std.proofs.Common.{◌≡◌, ℕ, ◌+◌, ◌<◌, ◌≤◌, ◌⊎◌, List, length, take, refl, sym, ◌∙◌, ap, inl, inr, arith}
 use Rattle.std.specs.Prelude.{slice_index}
 use Rattle.std.proofs.lemmas.List.{same_lists, get_or_default, length-take-le, get_or-take}
 use Rattle.tdb_words.specs.declared.word.Order.{Order}
 use Rattle.tdb_words.specs.declared.word.Order.TheVariants.{Little, Big}
 use Rattle.tdb_words.specs.Word.{word}
-use Rattle.tdb_words.specs.Header.{HeaderOk, header_fault, header_order, header_hash, hash_size_of, order_named}
+use Rattle.tdb_words.specs.Header.{HeaderOk, header_fault, header_order, header_hash, hash_size_of}
 use Rattle.tdb_words.proofs.Words.{word_agrees}
 use Rattle.tdb_space.specs.Form.{form_of, SameHeader}
 
@@ -38,8 +38,8 @@ front_kept a b n long_a long_b same =
     let len_b : length (take n b) ≡ n = length-take-le n b long_b in
     let len_a : length (take n a) ≡ n = length-take-le n a long_a in
     same_lists (take n b) (take n a) (len_b ∙ sym len_a) (λ k d below.
-      (let low : k < n = omega (arith, below, len_b) in
-       get_or_default (take n b) k d 0 below ∙ get_or-take n b k 0 low ∙ same k low ∙ sym (get_or-take n a k 0 low) ∙ get_or_default (take n a) k 0 d (omega (arith, low, len_a))))
+    (let low : k < n = omega (arith, below, len_b) in
+    get_or_default (take n b) k d 0 below ∙ get_or-take n b k 0 low ∙ same k low ∙ sym (get_or-take n a k 0 low) ∙ get_or_default (take n a) k 0 d (omega (arith, low, len_a))))
 
 pub fault_kept : (a b : List ℕ) → 168 ≤ length a → 168 ≤ length b → SameHeader a b → header_fault b ≡ header_fault a
 unfolding header_fault
@@ -58,5 +58,5 @@ fault_kept a b long_a long_b same =
 pub header_kept : (a b : List ℕ) → 168 ≤ length b → SameHeader a b → HeaderOk a → HeaderOk b
 header_kept a b long same ok = record {
   long_enough = long;
-  no_fault = fault_kept a b ok.long_enough long same ∙ ok.no_fault
+  no_fault = fault_kept a b ok.long_enough long same ∙ ok.no_fault;
 }

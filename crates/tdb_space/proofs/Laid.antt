@@ -1,5 +1,5 @@
 -- An image that is laid out in some chains and some free list is laid out in its own; and what follows of its bytes.
-use Rattle.std.proofs.Common.{◌≡◌, ℕ, ◌+◌, ◌<◌, ◌≤◌, List, [], ◌∷◌, ◌++◌, refl, sym, ◌∙◌, ap, subst, arith}
+use Rattle.std.proofs.Common.{◌≡◌, ℕ, ◌<◌, List, ◌++◌, sym, ◌∙◌, ap, subst, arith}
 use Rattle.tdb_words.specs.Word.{word}
 use Rattle.tdb_space.specs.Form.{Form, chain_head, free_head}
 use Rattle.tdb_space.specs.Record.{IsChained, IsFree}
@@ -38,7 +38,7 @@ accepted f img chain free hands l =
       keys = λ j low. subst (KeysDiffer f img) (sym (chains j low)) (l.keys j low);
       held = l.held;
       apart = λ i. (let e = ap (λ es. times es i) same in omega (arith, e, l.apart i));
-      stray = λ i above below none. l.stray i above below (sym (ap (λ es. times es i) same) ∙ none)
+      stray = λ i above below none. l.stray i above below (sym (ap (λ es. times es i) same) ∙ none);
     }
 
 -- its order is that of the pairs of the chains in which it is laid out
