@@ -1,3 +1,4 @@
-pub mod LetterLemmas
 pub mod ExpectedLemmas
+pub mod LetterLemmas
 pub mod MoveLemmas
+pub mod ReadingLemmas

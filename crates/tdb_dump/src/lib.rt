@@ -4,6 +4,7 @@
 mod escapes;
 mod lines;
 mod partial;
+mod reader;
 mod pairs;
 mod words;
 mod writer;
@@ -11,5 +12,6 @@ mod writer;
 pub use crate::escapes::escape;
 pub use crate::lines::{data_line, key_line};
 pub use crate::pairs::{Pair, Pairs};
+pub use crate::reader::{ReadRefusal, Reader};
 pub use crate::words::{WordRefusal, word_bytes_of};
 pub use crate::writer::{WriteRefusal, write_pair};
