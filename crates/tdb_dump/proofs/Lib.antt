@@ -2,3 +2,4 @@ pub mod ExpectedLemmas
 pub mod LetterLemmas
 pub mod MoveLemmas
 pub mod ReadingLemmas
+pub mod TakenLemmas

@@ -55,7 +55,7 @@ distinct_none : IsDistinct bytes_eq []
 unfolding IsDistinct
 distinct_none = tt
 
-keys_of-append : (pairs : List Pair) (pair : Pair) → keys_of (pairs ++ pair ∷ []) ≡ keys_of pairs ++ pair.key ∷ []
+pub keys_of-append : (pairs : List Pair) (pair : Pair) → keys_of (pairs ++ pair ∷ []) ≡ keys_of pairs ++ pair.key ∷ []
 keys_of-append [] pair = refl
 keys_of-append (p ∷ pairs) pair = ap (λ t. p.key ∷ t) (keys_of-append pairs pair)
 
@@ -156,6 +156,10 @@ Going_begin = record {
   alive = ([], [], refl);
   settled = inl (refl, refl, refl);
 }
+
+pub Going_begin-front : Going_begin.front ≡ []
+unfolding Going_begin
+Going_begin-front = refl
 
 -- the text behind the bytes of a part
 whole_text : (text front part : List ℕ) (c : ℕ) (tail : List ℕ) → text ≡ front ++ part → text ++ c ∷ tail ≡ front ++ (part ++ c ∷ tail)

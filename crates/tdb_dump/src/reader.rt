@@ -1,6 +1,6 @@
 // Dump text, as it is read in pieces.
 
-ghost use Rattle.std.specs.Prelude.{◌≡◌, ◌≤◌, ◌<◌, ℕ, List, [], ◌∷◌, ◌++◌, length, take, true, IfOk, IfErr, OnOk, Some, None};
+ghost use Rattle.std.specs.Prelude.{◌≡◌, ◌≤◌, ◌<◌, ℕ, List, [], ◌∷◌, ◌++◌, length, take, true, IfOk, IfErr, OnOk, OnErr, Some, None};
 ghost use Rattle.std.specs.Option.{option_to_list};
 ghost use Rattle.tdb_dump.specs.declared.pairs.Pair.{Pair};
 ghost use Rattle.tdb_dump.specs.declared.reader.ReadRefusal.TheVariants.{Malformed, Memory};
@@ -128,9 +128,7 @@ impl Reader {
         let mut at = 0;
         while at < piece.len() {
             let (count, pair) = self.advance(&piece[at..])?;
-            if let Some(pair) = pair {
-                pairs.push(pair)?;
-            }
+            add(pairs, pair)?;
             at += count;
         }
         Ok(())
@@ -176,5 +174,16 @@ impl Reader {
         self.taken = self.taken.saturating_add(1);
         self.start = self.taken;
         Ok(self.partial.finish(self.alloc))
+    }
+}
+
+/// Puts the pair at the end, where there is one.
+fn add(pairs: &mut Pairs, pair: Option<Pair>) -> Result<(), AllocError>
+    ensures ok { OnOk result (pairs.new ≡ pairs.old ++ option_to_list pair) }
+    ensures err { OnErr result (pairs.new ≡ pairs.old) }
+{
+    match pair {
+        Some(pair) => pairs.push(pair),
+        None => Ok(()),
     }
 }
