@@ -1,4 +1,5 @@
 pub mod ExpectedLemmas
+pub mod GrammarLemmas
 pub mod LetterLemmas
 pub mod MoveLemmas
 pub mod ReadingLemmas

@@ -1,5 +1,5 @@
 -- Lemmas on what a reader has taken.
-use Rattle.std.proofs.Common.{◌≡◌, ◌≢◌, ℕ, ◌+◌, ◌-◌, ◌<◌, ◌≤◌, true, false, Option, Some, None, List, [], ◌∷◌, ◌++◌, length, take, drop, get_or, refl, sym, ap, ◌∙◌, subst, arith, length-append}
+use Rattle.std.proofs.Common.{◌≡◌, ◌≢◌, ℕ, ◌+◌, ◌-◌, ◌<◌, ◌≤◌, true, false, Option, Some, None, List, [], ◌∷◌, ◌++◌, length, take, drop, get_or, refl, sym, ap, ◌∙◌, subst, arith, length-append, append_assoc}
 use Rattle.std.proofs.Common.{Bool, cond, not, ◌||◌, Vec, Global}
 use Rattle.std.proofs.lemmas.Cmp.{nat_list_eq_equiv}
 use Rattle.std.proofs.lemmas.List.Recursion.{or_push}
@@ -16,8 +16,10 @@ use Rattle.tdb_dump.specs.declared.reader.Reader.{Reader}
 use Rattle.tdb_dump.specs.Spelled.{keys_of, has_key, Dump}
 use Rattle.tdb_dump.specs.Expected.{LeadsAll, Ends, Bars, at_step}
 use Rattle.tdb_dump.specs.Partial.{state_of}
+use Rattle.tdb_dump.specs.declared.reader.ReadRefusal.TheVariants.{Malformed}
+use Rattle.tdb_dump.specs.BadAt.{BeginsWith}
 use Rattle.tdb_dump.specs.Reading.{Going}
-use Rattle.tdb_dump.specs.Taken.{shown, key_cmp, HasKeysOf, Goes, AddsRecord, RefusedAt, EndsBadlyAt}
+use Rattle.tdb_dump.specs.Taken.{shown, key_cmp, HasKeysOf, Goes, Took, AddsRecord, RefusedAt, EndsBadlyAt}
 use Rattle.tdb_dump.proofs.ReadingLemmas.{keys_of-append, Going_begin, Going_begin-front, Going_leads_all, Going_ends, Repeats_refused, Bars_refused, Dump_going, Unfinished_going}
 
 pub none_of : {A : Type 0} (o : Option A) → ((x : A) → o ≡ Some x → ⊥) → o ≡ None
@@ -118,3 +120,16 @@ Goes_begin r state none start taken =
       start = start ∙ ap (λ t. shown (length t)) (sym begin.1);
       taken = taken;
     }
+
+-- the text begins with the records whose pairs were given, however it goes on
+pub Goes_begins : (text more : List ℕ) (pairs : List Pair) (r : Reader) → Goes text pairs r → BeginsWith (text ++ more) pairs
+Goes_begins text more pairs r goes =
+    let g = goes.going in
+    (g.front, g.part ++ more, ap (λ t. t ++ more) g.whole ∙ append_assoc g.front g.part more, g.records)
+
+pub Took_begin : (r : Reader) → Goes [] [] r → r.refusal ≡ None → Took [] [] r
+Took_begin r goes none = record {
+  begins = Goes_begins [] [] [] r goes;
+  goes = λ _. goes;
+  refused = λ at e. absurd (cc);
+}

@@ -7,6 +7,10 @@ use Rattle.tdb_dump.specs.Spelled.{IsRecord, Spelled, has_key, Dump}
 abbrev pub Begins : List ℕ → Type 0
 Begins text = (more : List ℕ) × (pairs : List Pair) × Spelled (text ++ more) pairs
 
+-- the text begins with the whole records of these pairs, no two of which have one key
+abbrev pub BeginsWith : List ℕ → List Pair → Type 0
+BeginsWith text pairs = (front : List ℕ) × (rest : List ℕ) × (text ≡ front ++ rest) × Dump front pairs
+
 -- the length of the longest front of the text with which a text of the grammar begins
 pub record IsLongest (text : List ℕ) (n : ℕ) : Type 0 where
   pub within : n ≤ length text

@@ -2,6 +2,7 @@ pub mod BadAt
 pub mod DumpText
 pub mod Escape
 pub mod Expected
+pub mod Laws
 pub mod Line
 pub mod Partial
 pub mod Reading

@@ -12,6 +12,7 @@ use Rattle.tdb_dump.specs.declared.reader.ReadRefusal.TheVariants.{Malformed}
 use Rattle.tdb_dump.specs.declared.partial.Field.TheVariants.{Key}
 use Rattle.tdb_dump.specs.declared.partial.Step.TheVariants.{Between}
 use Rattle.tdb_dump.specs.Spelled.{has_key}
+use Rattle.tdb_dump.specs.BadAt.{BeginsWith}
 use Rattle.tdb_dump.specs.Expected.{at_step}
 use Rattle.tdb_dump.specs.Partial.{state_of}
 use Rattle.tdb_dump.specs.Reading.{Going, Refused, EndsBadly}
@@ -54,8 +55,9 @@ RefusedAt text pairs at = (place : ℕ) × (at ≡ shown place) × Refused text 
 abbrev pub EndsBadlyAt : List ℕ → List Pair → ℕ → Type 0
 EndsBadlyAt text pairs at = (place : ℕ) × (at ≡ shown place) × EndsBadly text pairs place
 
--- The reader has taken the text in some pieces, and given these pairs: as long as it refused nothing, the pairs of the
--- whole records; where it refused the text, those before the place that it names.
+-- The reader has taken the text in some pieces, and given these pairs, of whole records that the text begins with: as
+-- long as it refused nothing, of all of them; where it refused the text, of those before the place that it names.
 pub record Took (text : List ℕ) (pairs : List Pair) (r : Reader) : Type 0 where
+  pub begins : BeginsWith text pairs
   pub goes : refusal_of r ≡ None → Goes text pairs r
   pub refused : (at : ℕ) → refusal_of r ≡ Some (Malformed at) → RefusedAt text pairs at

@@ -2,6 +2,7 @@
 #![tactic(auto)]
 
 mod escapes;
+mod laws;
 mod lines;
 mod partial;
 mod reader;
@@ -10,6 +11,7 @@ mod words;
 mod writer;
 
 pub use crate::escapes::escape;
+pub use crate::laws::{spelling_law, word_law};
 pub use crate::lines::{data_line, key_line};
 pub use crate::pairs::{Pair, Pairs};
 pub use crate::reader::{ReadRefusal, Reader};

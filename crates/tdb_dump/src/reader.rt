@@ -4,6 +4,7 @@ ghost use Rattle.std.specs.Prelude.{◌≡◌, ◌≤◌, ◌<◌, ℕ, List, []
 ghost use Rattle.std.specs.Option.{option_to_list};
 ghost use Rattle.tdb_dump.specs.declared.pairs.Pair.{Pair};
 ghost use Rattle.tdb_dump.specs.declared.reader.ReadRefusal.TheVariants.{Malformed, Memory};
+ghost use Rattle.tdb_dump.specs.BadAt.{BeginsWith};
 ghost use Rattle.tdb_dump.specs.Spelled.{Dump, has_key};
 ghost use Rattle.tdb_dump.specs.Partial.{state_of};
 
@@ -123,6 +124,7 @@ impl Reader {
         requires { pairs.old ≡ [] }
         ensures goes { OnOk result ((text : List ℕ) (before : List Pair) → Goes text before self.old → Goes (text ++ piece.now) (before ++ pairs.new) self.new) }
         ensures malformed { (text : List ℕ) (before : List Pair) (at : ℕ) → Goes text before self.old → result ≡ Err (Malformed at) → RefusedAt (text ++ piece.now) (before ++ pairs.new) at }
+        ensures begins { (text : List ℕ) (before : List Pair) → Goes text before self.old → BeginsWith (text ++ piece.now) (before ++ pairs.new) }
         ensures refusal { refusal_of self.new ≡ refusal_of self.old }
     {
         let mut at = 0;

@@ -9,6 +9,7 @@ pub returns-in-Ok-clause-given : goal.returns-in-Ok-clause-given
 returns-in-Ok-clause-given c = λ text before took.
     let none : refusal_of c.args.self.now ≡ None = none_of _ c.in_default.not-Some in
     record {
+      begins = c.in-Ok.ensures.begins text before (took.goes none);
       goes = λ _. c.in-Ok.ensures.goes text before (took.goes none);
       refused = λ at refused. let still : refusal_of c.read.new.self ≡ None = c.in-Ok.ensures.refusal ∙ none in absurd (cc);
     }

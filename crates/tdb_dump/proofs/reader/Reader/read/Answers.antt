@@ -6,7 +6,9 @@ use Rattle.std.specs.Option.{option_to_list}
 use Rattle.tdb_dump.specs.declared.pairs.Pair.{Pair}
 use Rattle.tdb_dump.specs.Taken.{Goes, RefusedAt}
 use Rattle.tdb_dump.proofs.ExpectedLemmas.{append_empty}
-use Rattle.tdb_dump.proofs.TakenLemmas.{append_no_pairs}
+use Rattle.tdb_dump.specs.declared.reader.Reader.{Reader}
+use Rattle.tdb_dump.specs.BadAt.{BeginsWith}
+use Rattle.tdb_dump.proofs.TakenLemmas.{append_no_pairs, Goes_begins}
 use Rattle.tdb_dump.proofs.reader.Reader.read.Goals as goal
 
 pub loop-at-init : goal.loop-at-init
@@ -47,3 +49,19 @@ pub returns-clause-goes : goal.returns-clause-goes
 returns-clause-goes c = λ text before goes.
     let whole : take c.loop-at.at c.args.piece.now ≡ c.args.piece.now = take_all c.loop-at.at c.args.piece.now (omega arith) in
     subst (λ t. Goes (text ++ t) (before ++ c.loop-at.pairs) c.loop-at.self) whole (c.loop-at.invariant.goes text before goes)
+
+-- what the loop had taken before the piece's rest
+begins_so_far : (text piece : List ℕ) (k : ℕ) (pairs : List Pair) (r : Reader) → Goes (text ++ take k piece) pairs r → BeginsWith (text ++ piece) pairs
+begins_so_far text piece k pairs r goes =
+    subst (λ t. BeginsWith t pairs) (append_assoc text (take k piece) (drop k piece) ∙ ap (λ t. text ++ t) (take-append-drop k piece))
+      (Goes_begins (text ++ take k piece) (drop k piece) pairs r goes)
+
+pub returns-in_err-count-clause-begins : goal.returns-in_err-count-clause-begins
+returns-in_err-count-clause-begins c = λ text before goes. begins_so_far text c.args.piece.now c.loop-at.at _ c.loop-at.self (c.loop-at.invariant.goes text before goes)
+
+pub returns-in_err-add-clause-begins : goal.returns-in_err-add-clause-begins
+returns-in_err-add-clause-begins c = λ text before goes.
+    rw c.in_err-add.ensures.err (begins_so_far text c.args.piece.now c.loop-at.at (before ++ c.loop-at.pairs) c.loop-at.self (c.loop-at.invariant.goes text before goes))
+
+pub returns-clause-begins : goal.returns-clause-begins
+returns-clause-begins c = λ text before goes. begins_so_far text c.args.piece.now c.loop-at.at _ c.loop-at.self (c.loop-at.invariant.goes text before goes)
