@@ -1,2 +1,7 @@
 pub mod Word
 pub mod Record
+pub mod Header
+pub mod Hash
+pub mod HashRun
+pub mod Running
+pub mod What

@@ -1,10 +1,10 @@
 // The header of a record: six words, the last of which says what the record is.
 
-ghost use Rattle.std.specs.Prelude.{◌≡◌, ℕ, ◌+◌, ◌≤◌, ◌++◌, length};
+ghost use Rattle.std.specs.Prelude.{◌≡◌, ℕ, ◌++◌};
 ghost use Rattle.tdb_words.specs.Word.{word, bytes_of_word};
 ghost use Rattle.tdb_words.specs.Record.{rec_at, bytes_of_rec, RecordWords};
 
-use crate::word::{Order, word_at, word_bytes};
+use crate::word::{Order, word_bytes, word_in};
 
 /// The magic of a record that holds a key and a value.
 pub const USED: u32 = 0x2601_1999;
@@ -44,15 +44,6 @@ pub struct Rec {
 
     /// What the record is: `USED`, `FREE` or `DEAD`, or the gate word of an undo area.
     pub magic: u32,
-}
-
-// The word at an offset of a record header.
-#[tactic(auto, unfolding(crate::specs::Word::word))]
-fn word_in(bytes: &[u8; 24], at: usize, o: Order) -> u32
-    requires { at + 4 ≤ length bytes.now }
-    ensures { result ≡ word o bytes.now at }
-{
-    word_at(&[bytes[at], bytes[at + 1], bytes[at + 2], bytes[at + 3]], o)
 }
 
 /// The record header that 24 bytes stand for.

@@ -1,6 +1,6 @@
 // The 32-bit words of a file, in the file's byte order.
 
-ghost use Rattle.std.specs.Prelude.{◌≡◌};
+ghost use Rattle.std.specs.Prelude.{◌≡◌, ◌+◌, ◌≤◌, length};
 ghost use Rattle.tdb_words.specs.Word.{word, bytes_of_word};
 
 use byteorder::{BigEndian, ByteOrder, LittleEndian};
@@ -15,7 +15,7 @@ pub enum Order {
     Big,
 }
 
-/// The number that four bytes stand for.
+/// The number that the four bytes of a word stand for.
 #[tactic(auto, unfolding(crate::specs::Word::word))]
 pub fn word_at(bytes: &[u8; 4], o: Order) -> u32
     ensures { result ≡ word o bytes.now 0 }
@@ -38,4 +38,13 @@ pub fn word_bytes(w: u32, o: Order) -> [u8; 4]
         Order::Big => BigEndian::write_u32(&mut bytes, w),
     }
     bytes
+}
+
+/// The word at an offset of some bytes.
+#[tactic(auto, unfolding(crate::specs::Word::word))]
+pub(crate) fn word_in(bytes: &[u8], at: usize, o: Order) -> u32
+    requires { at + 4 ≤ length bytes.now }
+    ensures { result ≡ word o bytes.now at }
+{
+    word_at(&[bytes[at], bytes[at + 1], bytes[at + 2], bytes[at + 3]], o)
 }
