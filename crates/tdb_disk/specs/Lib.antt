@@ -1,9 +1,14 @@
 pub mod Count
+pub mod FuseDisk
 pub mod History
 pub mod Image
 pub mod MemDisk
+pub mod MemFiles
+pub mod MemSink
+pub mod MemSource
 pub mod Names
 pub mod Picked
+pub mod Published
 pub mod Script
 pub mod Stop
 pub mod Tape

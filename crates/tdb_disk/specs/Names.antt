@@ -1,6 +1,10 @@
 -- What a set of files says of names: functions of a name, as a list of bytes.
 use Rattle.std.specs.Prelude.{◌≡◌, ◌≢◌, ℕ, List, Option, Some, None}
 
+-- nothing changed at any name
+abbrev pub SameAll : {X : Type 0} → (List ℕ → X) → (List ℕ → X) → Type 0
+SameAll old new = (name : List ℕ) → new name ≡ old name
+
 -- nothing changed at any other name
 abbrev pub SameBut : {X : Type 0} → List ℕ → (List ℕ → X) → (List ℕ → X) → Type 0
 SameBut name old new = (other : List ℕ) → other ≢ name → new other ≡ old other

@@ -1,6 +1,6 @@
 -- Which calls of a form in memory are to fail.
-use Rattle.std.specs.Prelude.{ℕ, ◌+◌, Contains, min}
-use Rattle.tdb_disk.specs.Count.{last_count}
+use Rattle.std.specs.Prelude.{ℕ, ◌+◌, ◌≡◌, ◌<◌, ◌≤◌, ◌⊎◌, Contains, min, Result, IsErr}
+use Rattle.tdb_disk.specs.Count.{last_count, Rose}
 use Rattle.tdb_disk.specs.declared.script.Call.{Call}
 use Rattle.tdb_disk.specs.declared.script.Call.TheVariants.{Len, Read, Write, WriteWord, Grow, Cut, Sync, Take, Rename, Remove}
 use Rattle.tdb_disk.specs.declared.script.Made.{Made}
@@ -18,6 +18,11 @@ number_of made Sync = made.sync
 number_of made Take = made.take
 number_of made Rename = made.rename
 number_of made Remove = made.remove
+
+-- no call was made
+abbrev pub unmade : Made
+unmade =
+    record { len = 0; read = 0; write = 0; write_word = 0; grow = 0; cut = 0; sync = 0; take = 0; rename = 0; remove = 0 }
 
 -- a count with one more, up to its last value
 abbrev pub one_more : ℕ → ℕ
@@ -43,3 +48,12 @@ counted script call = record script { made = made_more script.made call }
 -- the next call of a kind is one of those that are to fail
 abbrev pub Fails : Script → Call → Type 0
 Fails script call = Contains script.failing.items (call, number_of script.made call)
+
+-- A call fails exactly where the list names it or it found no memory, and it is counted.
+pub record FailsExactly {V F : Type 0} (call : Call) (before now : Script) (starved_before starved_now : ℕ)
+    (answer : Result V F) : Type 0 where
+  pub named : Fails before call → IsErr answer
+  pub starved : starved_before < starved_now → IsErr answer
+  pub only : IsErr answer → Fails before call ⊎ Rose starved_before starved_now
+  pub never_falls : starved_before ≤ starved_now
+  pub counts : now ≡ counted before call

@@ -2,12 +2,12 @@
 ghost use Rattle.std.specs.Prelude.{◌≡◌, ◌≢◌, ◌<◌, ◌≤◌, ◌↔◌, ℕ, List, [], Bool, true, false, Option, Some, None, IsTrue, IsSome, unwrap_or, IfOk, OnOk, OnErr, IsErrOf};
 ghost use Rattle.tdb_disk.specs.Count.{HasCause, Rose};
 ghost use Rattle.tdb_disk.specs.History.{History, began};
-ghost use Rattle.tdb_disk.specs.Names.{SameBut, moved};
+ghost use Rattle.tdb_disk.specs.Names.{SameAll, SameBut, moved};
 ghost use Rattle.tdb_disk.specs.declared.files.Take.{Take};
 ghost use Rattle.tdb_disk.specs.declared.files.TakeRefusal.{TakeRefusal};
 
 use crate::disk::Disk;
-use std::alloc::Global;
+use std::alloc::{AllocError, Global};
 use thiserror::Error;
 
 /// How a file is taken.
@@ -32,6 +32,16 @@ pub enum TakeRefusal {
     Failed,
     #[error("out of memory")]
     Memory,
+}
+
+impl From<AllocError> for TakeRefusal {
+    ghost use Rattle.tdb_disk.specs.declared.files.TakeRefusal.TheVariants.{Memory};
+
+    ghost from_gives = { λ _ refusal. refusal ≡ Memory };
+
+    fn from(_error: AllocError) -> TakeRefusal {
+        TakeRefusal::Memory
+    }
 }
 
 /// A call of a set of files that failed.
@@ -71,8 +81,8 @@ pub trait Files {
         ensures disk_faults { IfOk result (λ d. Self.D.faults d ≡ 0) }
         ensures disk_syncs { IfOk result (λ d. Self.D.syncs d ≡ 0) }
         ensures disk_bytes_read { IfOk result (λ d. Self.D.bytes_read d ≡ 0) }
-        ensures refused_taken { OnErr result (is_taken self.new ≡ is_taken self.old) }
-        ensures refused_held { OnErr result (held self.new ≡ held self.old) }
+        ensures refused_taken { OnErr result (SameAll (is_taken self.old) (is_taken self.new)) }
+        ensures refused_held { OnErr result (SameAll (held self.old) (held self.new)) }
         ensures faults { faults self.old ≤ faults self.new };
 
     /// Gives a disk back, which is then held at the name with all that was done to it. It can't fail and takes no memory.
@@ -93,20 +103,20 @@ pub trait Files {
         requires differ { from.now ≢ to.now }
         requires from_free { is_taken self.old from.now ≡ false }
         requires to_free { is_taken self.old to.now ≡ false }
-        ensures taken { is_taken self.new ≡ is_taken self.old }
+        ensures taken { SameAll (is_taken self.old) (is_taken self.new) }
         ensures to { OnOk result (IsTrue Self.D.tells → held self.new to.now ≡ moved (held self.old from.now) (held self.old to.now)) }
         ensures from { OnOk result (IsTrue Self.D.tells → held self.new from.now ≡ None) }
         ensures others { (other : List ℕ) → other ≢ from.now → other ≢ to.now → held self.new other ≡ held self.old other }
-        ensures kept { OnErr result (held self.new ≡ held self.old) }
+        ensures kept { OnErr result (SameAll (held self.old) (held self.new)) }
         ensures cause { HasCause (faults self.old) (faults self.new) result };
 
     /// Removes the file at a name. A name where there is none is Ok. After a fault all names stay as they were.
     fn remove(&mut self, name: &str) -> Result<(), FilesFault>
         requires { is_taken self.old name.now ≡ false }
-        ensures taken { is_taken self.new ≡ is_taken self.old }
+        ensures taken { SameAll (is_taken self.old) (is_taken self.new) }
         ensures gone { OnOk result (IsTrue Self.D.tells → held self.new name.now ≡ None) }
         ensures others { SameBut name.now (held self.old) (held self.new) }
-        ensures kept { OnErr result (held self.new ≡ held self.old) }
+        ensures kept { OnErr result (SameAll (held self.old) (held self.new)) }
         ensures cause { HasCause (faults self.old) (faults self.new) result };
 
     /// A name that is taken isn't among those at which something is held.

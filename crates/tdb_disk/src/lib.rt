@@ -3,7 +3,13 @@
 #![tactic(auto)]
 
 mod disk;
+pub mod example;
 mod files;
+mod fuse_disk;
+mod mem_disk;
+mod mem_files;
+mod mem_sink;
+mod mem_source;
 mod pick;
 mod script;
 mod sink;
@@ -12,6 +18,11 @@ mod tape;
 
 pub use disk::{Disk, DiskFault};
 pub use files::{Files, FilesFault, Take, TakeRefusal};
+pub use fuse_disk::FuseDisk;
+pub use mem_disk::MemDisk;
+pub use mem_files::MemFiles;
+pub use mem_sink::MemSink;
+pub use mem_source::MemSource;
 pub use pick::Pick;
 pub use script::Call;
 pub use sink::{Sink, SinkFault};

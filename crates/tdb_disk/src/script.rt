@@ -1,6 +1,6 @@
 //! Which calls of a form in memory are to fail, by their kind and number.
-ghost use Rattle.std.specs.Prelude.{◌≡◌, ◌↔◌, [], ◌∷◌, ◌++◌, IsTrue, OnOk, OnErr};
-ghost use Rattle.tdb_disk.specs.Script.{number_of, one_more, made_more, counted, Fails};
+ghost use Rattle.std.specs.Prelude.{◌≡◌, ◌≤◌, ◌↔◌, [], ◌∷◌, ◌++◌, IsTrue, OnOk, OnErr};
+ghost use Rattle.tdb_disk.specs.Script.{number_of, one_more, made_more, unmade, counted, Fails};
 
 use std::alloc::{AllocError, Global};
 
@@ -38,6 +38,7 @@ pub struct Made {
 pub(crate) fn raise(count: &mut u64) -> u64
     ensures before { result ≡ count.old }
     ensures after { count.new ≡ one_more count.old }
+    ensures never_falls { count.old ≤ count.new }
 {
     let before = *count;
     *count = before.saturating_add(1);
@@ -46,7 +47,7 @@ pub(crate) fn raise(count: &mut u64) -> u64
 
 impl Made {
     fn new() -> Made
-        ensures { result ≡ record { len = 0; read = 0; write = 0; write_word = 0; grow = 0; cut = 0; sync = 0; take = 0; rename = 0; remove = 0 } }
+        ensures { result ≡ unmade }
     {
         Made {
             len: 0,
@@ -93,10 +94,18 @@ impl Script {
     /// No call is to fail, and none was made.
     pub(crate) fn new(alloc: Global) -> Script
         ensures failing { result.failing.items ≡ [] }
-        ensures made { result.made ≡ record { len = 0; read = 0; write = 0; write_word = 0; grow = 0; cut = 0; sync = 0; take = 0; rename = 0; remove = 0 } }
+        ensures made { result.made ≡ unmade }
+    {
+        Script::over(Vec::new(alloc))
+    }
+
+    /// These calls are to fail, and none was made.
+    pub(crate) fn over(failing: Vec<(Call, u64)>) -> Script
+        ensures failing { result.failing ≡ failing }
+        ensures made { result.made ≡ unmade }
     {
         Script {
-            failing: Vec::new(alloc),
+            failing,
             made: Made::new(),
         }
     }
