@@ -2,7 +2,6 @@ pub mod LetterLemmas
 pub mod WordLemmas
 pub mod ExpectedLemmas
 pub mod GrammarLemmas
-pub mod LetterLemmas
 pub mod MoveLemmas
 pub mod ReadingLemmas
 pub mod TakenLemmas

@@ -13,3 +13,6 @@ mod walk;
 
 pub use ending::Status;
 pub use top::run;
+
+#[cfg(test)]
+mod tests;
