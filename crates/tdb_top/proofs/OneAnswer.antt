@@ -33,12 +33,12 @@ module _ (m : Met) where
   shown_or_none : (value : List ℕ) → Cause m (shown value) → Cause m no_key → ⊥
   shown_or_none value c d =
       value_not_none (form_of c.1) c.1 c.0 value c.4
-        (subst (λ x. FindsNone (form_of x) x c.0) (sym (asked_image m c.0 c.1 d.0 d.1 c.2 d.2)) (subst (FindsNone (form_of d.1) d.1) (sym (asked_key m c.0 c.1 d.0 d.1 c.2 d.2)) d.4))
+      (subst (λ x. FindsNone (form_of x) x c.0) (sym (asked_image m c.0 c.1 d.0 d.1 c.2 d.2)) (subst (FindsNone (form_of d.1) d.1) (sym (asked_key m c.0 c.1 d.0 d.1 c.2 d.2)) d.4))
 
   shown_one : (x y : List ℕ) → Cause m (shown x) → Cause m (shown y) → x ≡ y
   shown_one x y c d =
       value_one (form_of c.1) c.1 c.0 x y c.4
-        (subst (λ z. FindsValue (form_of z) z c.0 y) (sym (asked_image m c.0 c.1 d.0 d.1 c.2 d.2)) (subst (λ k. FindsValue (form_of d.1) d.1 k y) (sym (asked_key m c.0 c.1 d.0 d.1 c.2 d.2)) d.4))
+      (subst (λ z. FindsValue (form_of z) z c.0 y) (sym (asked_image m c.0 c.1 d.0 d.1 c.2 d.2)) (subst (λ k. FindsValue (form_of d.1) d.1 k y) (sym (asked_key m c.0 c.1 d.0 d.1 c.2 d.2)) d.4))
 
   -- two answers that have their causes are one
   pub answer_one : (x y : Ending) → Cause m x → Cause m y → IsAnswer x → IsAnswer y → x ≡ y

@@ -6,7 +6,6 @@ mod front;
 mod halt;
 mod line;
 mod record;
-
 mod show;
 mod top;
 mod walk;
