@@ -1,13 +1,12 @@
 -- Causes of endings.
-use Rattle.std.proofs.Common.{◌≡◌, ℕ, ◌+◌, ◌≤◌, List, Option, Some, refl, sym, ◌∙◌, ap, subst, arith}
-use Rattle.std.specs.Prelude.{min}
+use Rattle.std.proofs.Common.{◌≡◌, ℕ, ◌≤◌, List, Option, Some, refl, sym, ◌∙◌, ap, subst, arith}
 use Rattle.tdb_disk.specs.Count.{Rose}
 use Rattle.tdb_disk.specs.History.{History, seen}
 use Rattle.tdb_top.specs.declared.halt.Halt.{Halt}
 use Rattle.tdb_top.specs.declared.halt.Halt.TheVariants.{Refused, Device, Memory}
 use Rattle.tdb_top.specs.Walk.{WalkFault}
 use Rattle.tdb_top.specs.CommandLine.{show, IsLine}
-use Rattle.tdb_top.specs.Ending.{Ending, shown, no_key, no_line, refused, device_fault, no_memory, missing, Met, Asked, Cause, ShowCause, ending_of, of_halt}
+use Rattle.tdb_top.specs.Ending.{Ending, shown, no_key, no_line, refused, device_fault, no_memory, missing, Met, Cause, ShowCause, ending_of, of_halt}
 
 -- a look-up that halted has its cause
 pub halted : (held : Option History) (name key : List ℕ) (before after : ℕ) (h : History) (halt : Halt) → held ≡ Some h → (halt ≡ Refused → WalkFault (seen h) key) → (halt ≡ Device → Rose before after) → ShowCause held name key before after (ending_of (of_halt halt))

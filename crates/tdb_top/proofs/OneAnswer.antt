@@ -1,9 +1,8 @@
 -- The causes of the answers exclude each other.
 use Rattle.std.proofs.Common.{◌≡◌, ℕ, List, None, Some, refl, sym, ◌∙◌, ap, subst, inl, inr}
-use Rattle.tdb_disk.specs.History.{History}
 use Rattle.tdb_space.specs.Form.{form_of}
 use Rattle.tdb_top.specs.CommandLine.{show, IsLine}
-use Rattle.tdb_top.specs.Walk.{IsUsable, WalkFault, FindsValue, FindsNone}
+use Rattle.tdb_top.specs.Walk.{WalkFault, FindsValue, FindsNone}
 use Rattle.tdb_top.specs.Ending.{Ending, shown, no_key, no_line, refused, device_fault, no_memory, missing, Met, Asked, Cause, IsAnswer}
 use Rattle.tdb_top.proofs.OneLine.{file_one, asked_key, asked_image}
 use Rattle.tdb_top.proofs.Ends.{value_no_fault, none_no_fault, value_not_none, value_one}

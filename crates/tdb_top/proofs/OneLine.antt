@@ -1,7 +1,7 @@
 -- Words ask for one thing at most.
-use Rattle.std.proofs.Common.{◌≡◌, ℕ, ◌+◌, ◌<◌, ◌≤◌, List, [], ◌∷◌, length, Some, refl, sym, ◌∙◌, ap, subst, arith}
+use Rattle.std.proofs.Common.{◌≡◌, ℕ, ◌≤◌, List, [], ◌∷◌, length, Some, sym, ◌∙◌, ap, subst, arith}
 use Rattle.std.specs.Prelude.{codes, string_bytes}
-use Rattle.tdb_disk.specs.History.{History, seen}
+use Rattle.tdb_disk.specs.History.{seen}
 use Rattle.tdb_dump.specs.Word.{IsWord}
 use Rattle.tdb_dump.proofs.WordLemmas.{word_one, word_short}
 use Rattle.tdb_top.specs.declared.line.TheConstants.{LONGEST_WORD}

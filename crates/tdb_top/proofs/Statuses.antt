@@ -1,10 +1,10 @@
 -- Which status a run ends with, by its ending and by what the output took.
-use Rattle.std.proofs.Common.{◌≡◌, ℕ, ◌<◌, ◌≤◌, ◌⊎◌, List, [], ◌∷◌, ◌++◌, Option, None, Some, refl, sym, ◌∙◌, ap, subst, inl, inr, arith}
-use Rattle.std.specs.Prelude.{IsTrue, Contains}
+use Rattle.std.proofs.Common.{◌≡◌, ℕ, ◌⊎◌, List, [], ◌∷◌, refl, sym, ◌∙◌, ap, subst, inl, inr, arith}
+use Rattle.std.specs.Prelude.{Contains}
 use Rattle.tdb_space.specs.Form.{form_of}
 use Rattle.tdb_space.specs.Pairs.{map_of}
 use Rattle.tdb_space.specs.Accepted.{IsFiled}
-use Rattle.tdb_top.specs.Ending.{Ending, shown, no_key, no_line, refused, device_fault, no_memory, missing, status_of, text_of, Met, Asked, Cause, IsAnswer, Output, Prints, ShowsMap}
+use Rattle.tdb_top.specs.Ending.{Ending, shown, no_key, no_line, refused, device_fault, no_memory, missing, status_of, Met, Asked, Cause, IsAnswer, Output, Prints, ShowsMap}
 use Rattle.tdb_top.proofs.OneLine.{asked_key, asked_image}
 use Rattle.tdb_top.proofs.OneAnswer.{answer_one}
 use Rattle.tdb_top.proofs.Mapped.{value_mapped, none_mapped}

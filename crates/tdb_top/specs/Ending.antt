@@ -1,5 +1,5 @@
 -- How a run ends: its status, the line that it prints, and the cause of each.
-use Rattle.std.specs.Prelude.{◌≡◌, ◌≢◌, ℕ, ◌≤◌, Bool, Option, None, Some, IsTrue, List, [], ◌∷◌, ◌++◌, ◌⊎◌, length, take, map, codes, string_bytes}
+use Rattle.std.specs.Prelude.{◌≡◌, ◌≢◌, ℕ, Bool, Option, None, Some, IsTrue, List, [], ◌∷◌, ◌++◌, ◌⊎◌, take, map, codes, string_bytes}
 use Rattle.std.specs.Prelude.{String}
 use Rattle.std.specs.Global.{Global}
 use Rattle.tdb_disk.specs.Count.{Rose}
@@ -9,7 +9,7 @@ use Rattle.tdb_space.specs.Form.{form_of}
 use Rattle.tdb_top.specs.declared.ending.Ending as C
 use Rattle.tdb_top.specs.declared.halt.Halt.{Halt}
 use Rattle.tdb_top.specs.declared.halt.Halt.TheVariants.{Refused, Device, Memory}
-use Rattle.tdb_top.specs.CommandLine.{Line, show, IsLine, HasNoLine}
+use Rattle.tdb_top.specs.CommandLine.{show, IsLine, HasNoLine}
 use Rattle.tdb_top.specs.Walk.{FindsValue, FindsNone, IsUsable, WalkFault}
 
 -- how a run ends
