@@ -1,0 +1,12 @@
+pub mod Lines
+pub mod Usable
+pub mod Pieces
+pub mod Paths
+pub mod Held
+pub mod Causes
+pub mod Ends
+pub mod Mapped
+pub mod ShortWords
+pub mod OneLine
+pub mod OneAnswer
+pub mod Statuses

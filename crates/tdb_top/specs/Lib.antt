@@ -1,0 +1,4 @@
+pub mod CommandLine
+pub mod Walk
+pub mod Look
+pub mod Ending

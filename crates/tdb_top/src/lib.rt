@@ -1,0 +1,17 @@
+//! The top call of the program: command lines are read, and run over a set of files, an input and an output.
+#![tactic(auto)]
+
+mod ending;
+mod front;
+mod halt;
+mod line;
+mod record;
+mod show;
+mod top;
+mod walk;
+
+pub use ending::Status;
+pub use top::run;
+
+#[cfg(test)]
+mod tests;
