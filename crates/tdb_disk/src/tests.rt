@@ -1,5 +1,5 @@
 //! Tables of calls and failing numbers, and of what a stop leaves.
-ghost use Rattle.std.specs.Prelude.{◌≡◌, ◌≤◌, None, false};
+ghost use Rattle.std.specs.Prelude.{◌≡◌, ◌≤◌, None, IfOk, false};
 ghost use Rattle.tdb_disk.specs.History.{seen};
 ghost use Rattle.tdb_disk.specs.MemDisk.{memory_history, memory_size};
 ghost use Rattle.tdb_disk.specs.MemFiles.{name_is_taken};
@@ -31,21 +31,25 @@ fn each_call<D: Disk>(d: &mut D) -> [u8; 7]
     ]
 }
 
+/// A disk of sixteen bytes with calls of each kind that are to fail.
+fn failing_disk(alloc: Global) -> Result<MemDisk, AllocError>
+    ensures { IfOk result (λ d. memory_size d ≡ 16) }
+{
+    let mut disk = MemDisk::new(alloc, b"0123456789abcdef")?;
+    disk.fail(Call::Len, 0)?;
+    disk.fail(Call::Read, 1)?;
+    disk.fail(Call::Write, 0)?;
+    disk.fail(Call::WriteWord, 1)?;
+    disk.fail(Call::Grow, 0)?;
+    disk.fail(Call::Cut, 1)?;
+    disk.fail(Call::Sync, 0)?;
+    disk.fail(Call::Sync, 1)?;
+    Ok(disk)
+}
+
 #[test]
 fn disk_fails_where_it_is_told(rt: HostRuntime) -> Result<(), Fail> {
-    let mut disk = MemDisk::new(rt.alloc(), b"0123456789abcdef")?;
-    for (call, nth) in [
-        (Call::Len, 0),
-        (Call::Read, 1),
-        (Call::Write, 0),
-        (Call::WriteWord, 1),
-        (Call::Grow, 0),
-        (Call::Cut, 1),
-        (Call::Sync, 0),
-        (Call::Sync, 1),
-    ] {
-        assert!(rt; disk.fail(call, nth).is_ok());
-    }
+    let mut disk = failing_disk(rt.alloc())?;
     let first = each_call(&mut disk);
     let second = each_call(&mut disk);
     let third = each_call(&mut disk);
@@ -193,40 +197,34 @@ fn files_keep_what_was_given_back(rt: HostRuntime) {
     let left = write_first(&mut files, alloc, "a");
     assert!(rt; left.is_some_and(|d| d.as_slice() == b"one".as_slice()));
     assert_eq!(rt; files.get("a"), Some(b"One".as_slice()));
-    assert!(rt; files.rename("a", "b").is_ok());
-    assert_eq!(rt;
-        (files.get("a"), files.get("b")),
-        (None, Some(b"One".as_slice()))
-    );
-    assert!(rt; files.remove("b").is_ok() && files.remove("b").is_ok());
-    assert_eq!(rt; (files.get("b"), files.starved()), (None, 0));
 }
 
 #[test]
-fn files_fail_where_they_are_told(rt: HostRuntime) {
+fn taking_fails_where_it_is_told(rt: HostRuntime) {
     let alloc = rt.alloc();
     let mut files = MemFiles::new(alloc);
-    for (call, nth) in [
-        (Call::Take, 0),
-        (Call::Take, 2),
-        (Call::Rename, 0),
-        (Call::Remove, 1),
-    ] {
-        assert!(rt; files.fail(call, nth).is_ok());
-    }
-    assert_eq!(rt;
-        refusal(&mut files, alloc, "a", Take::Existing),
-        Some(TakeRefusal::Missing)
-    );
-    assert_eq!(rt; refusal(&mut files, alloc, "a", Take::New), None);
-    assert_eq!(rt;
-        refusal(&mut files, alloc, "a", Take::ReadOnly),
-        Some(TakeRefusal::Failed)
-    );
-    assert_eq!(rt; refusal(&mut files, alloc, "a", Take::ReadOnly), None);
-    assert!(rt; files.rename("a", "b").is_err() && files.rename("a", "b").is_ok());
-    assert!(rt; files.remove("a").is_ok() && files.remove("b").is_err());
-    assert_eq!(rt; files.get("b"), Some(b"".as_slice()));
+    assert!(rt; files.fail(Call::Take, 0).is_ok());
+    assert!(rt; files.fail(Call::Take, 2).is_ok());
+    let missing = refusal(&mut files, alloc, "a", Take::Existing);
+    let made = refusal(&mut files, alloc, "a", Take::New);
+    let failed = refusal(&mut files, alloc, "a", Take::ReadOnly);
+    let taken = refusal(&mut files, alloc, "a", Take::ReadOnly);
+    assert_eq!(rt; (missing, made), (Some(TakeRefusal::Missing), None));
+    assert_eq!(rt; (failed, taken), (Some(TakeRefusal::Failed), None));
+}
+
+#[test]
+fn renaming_fails_where_it_is_told(rt: HostRuntime) {
+    let mut files = MemFiles::new(rt.alloc());
+    assert!(rt; files.put("a", b"one").is_ok());
+    assert!(rt; files.fail(Call::Rename, 1).is_ok());
+    assert!(rt; files.fail(Call::Remove, 0).is_ok());
+    assert!(rt; files.rename("a", "b").is_ok());
+    assert!(rt; files.rename("b", "a").is_err());
+    assert!(rt; files.remove("b").is_err());
+    assert_eq!(rt; files.get("b"), Some(b"one".as_slice()));
+    assert!(rt; files.remove("b").is_ok());
+    assert_eq!(rt; (files.get("b"), files.starved()), (None, 0));
 }
 
 #[test]
