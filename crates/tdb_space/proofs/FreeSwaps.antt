@@ -1,16 +1,16 @@
 -- The free list's records and the hands are exchanged for others: the image stays accepted, and its pairs are as before.
-use Rattle.std.proofs.Common.{◌≡◌, ℕ, ◌+◌, ◌<◌, ◌≤◌, ◌⊎◌, List, [], ◌∷◌, ◌++◌, length, refl, sym, ◌∙◌, ap, subst, inl, inr, arith}
+use Rattle.std.proofs.Common.{◌≡◌, ℕ, ◌+◌, ◌<◌, ◌≤◌, ◌⊎◌, List, length, sym, ◌∙◌, ap, subst, inl, inr, arith}
 use Rattle.std.specs.Prelude.{slice_index, ◌%◌, map}
 use Rattle.std.specs.Map.{lookup}
 use Rattle.std.specs.List.{IsDistinct}
 use Rattle.tdb_words.specs.Word.{word}
 use Rattle.tdb_words.proofs.Words.{word_agrees}
 use Rattle.tdb_space.specs.Form.{Form, chain_head, free_head, data_start, SameHeader}
-use Rattle.tdb_space.specs.Record.{IsChained, IsFree}
+use Rattle.tdb_space.specs.Record.{IsChained}
 use Rattle.tdb_space.specs.Chain.{Linked, chain_of, free_of}
 use Rattle.tdb_space.specs.Pairs.{joined, pairs, order_of, map_of, same_key}
 use Rattle.tdb_space.specs.Extents.{HandPair, times, extents, area, all_extents, hand_extents}
-use Rattle.tdb_space.specs.Accepted.{AreaOk, Shut, AllFiled, KeysDiffer, LaidOut, AcceptWith}
+use Rattle.tdb_space.specs.Accepted.{AreaOk, Shut, LaidOut, AcceptWith}
 use Rattle.tdb_space.specs.Exchange.{FreeExchanged}
 use Rattle.tdb_space.proofs.Counts.{times_all, times_member, joined_same}
 use Rattle.tdb_space.proofs.Kept.{Still, bodies_still, nexts_still, linked_kept, extents_kept, filed_all_kept, pairs_kept, times_within}

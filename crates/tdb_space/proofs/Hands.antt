@@ -1,17 +1,17 @@
 -- Hands: what is written into them changes nothing else, and they may be joined, cut and put in another order.
-use Rattle.std.proofs.Common.{◌≡◌, ℕ, ◌+◌, ◌<◌, ◌≤◌, ◌⊎◌, List, [], ◌∷◌, ◌++◌, length, refl, sym, ◌∙◌, ap, subst, inl, inr, arith}
-use Rattle.std.specs.Prelude.{slice_index, ◌%◌}
+use Rattle.std.proofs.Common.{◌≡◌, ℕ, ◌+◌, ◌<◌, ◌≤◌, List, [], ◌∷◌, length, sym, ◌∙◌, ap, subst, inl, inr, arith}
+use Rattle.std.specs.Prelude.{◌%◌}
 use Rattle.std.proofs.lemmas.Bool.{cases_lt}
 use Rattle.tdb_words.specs.Word.{word}
 use Rattle.tdb_words.proofs.Words.{word_agrees}
 use Rattle.tdb_space.specs.Form.{Form, free_head, data_start}
 use Rattle.tdb_space.specs.Record.{IsFree}
 use Rattle.tdb_space.specs.Chain.{Linked, chain_of, free_of}
-use Rattle.tdb_space.specs.Pairs.{joined, order_of, map_of}
-use Rattle.tdb_space.specs.Extents.{HandPair, HandOk, AllHandOk, once, times, extents, area, all_extents, hand_extents}
-use Rattle.tdb_space.specs.Accepted.{LaidOut, AcceptWith}
+use Rattle.tdb_space.specs.Pairs.{order_of, map_of}
+use Rattle.tdb_space.specs.Extents.{HandPair, AllHandOk, once, times, all_extents, hand_extents}
+use Rattle.tdb_space.specs.Accepted.{AcceptWith}
 use Rattle.tdb_space.specs.Exchange.{FreeExchanged, InHands}
-use Rattle.tdb_space.proofs.Counts.{once_in, once_out, once_lies, once_joined, times_all}
+use Rattle.tdb_space.proofs.Counts.{once_lies, once_joined, times_all}
 use Rattle.tdb_space.proofs.Kept.{Still, bodies_still, nexts_still, linked_kept, extents_kept}
 use Rattle.tdb_space.proofs.FreeSwaps.{free_exchanged, free_order, free_map}
 

@@ -1,11 +1,12 @@
 -- What a change of bytes leaves: a record whose bytes stay is the same record, and a list of such records is the same list. The
 -- word at a record's offset, which leads to the next, is told apart from the rest of it.
-use Rattle.std.proofs.Common.{◌≡◌, ℕ, ◌+◌, ◌<◌, ◌≤◌, ◌⊎◌, List, [], ◌∷◌, ◌++◌, length, take, drop, get_or, refl, sym, ◌∙◌, ap, subst, inl, inr, arith}
+use Rattle.std.proofs.Common.{◌≡◌, ℕ, ◌+◌, ◌<◌, ◌≤◌, List, [], ◌∷◌, ◌++◌, length, take, drop, refl, sym, ◌∙◌, ap, subst, inl, inr, arith}
 use Rattle.std.specs.Prelude.{slice_index, ◌%◌}
 use Rattle.std.proofs.lemmas.Bool.{cases_lt, cases_eq, eq-eqb, ne_eqb}
 use Rattle.std.proofs.lemmas.List.{same_lists, get_or_default, length-take-le, length-drop, get_or-drop, get_or-take}
 use Rattle.tdb_words.specs.declared.record.TheConstants.{USED}
 use Rattle.tdb_words.specs.declared.word.Order.{Order}
+use Rattle.tdb_words.specs.Record.{rec_at}
 use Rattle.tdb_words.specs.Word.{word}
 use Rattle.tdb_words.specs.Hash.{h_of}
 use Rattle.tdb_words.proofs.Words.{word_agrees}
@@ -174,3 +175,18 @@ times_within f M a at (x ∷ xs) i p held =
       inl some ↦ let lies = once_lies (extent_at f.order a x) i (omega (arith, some)) in (omega (arith, lies.0, p.1.above), omega (arith, lies.1, p.1.within))
     | inr none ↦ times_within f M a (word f.order a x) xs i p.3 (omega (arith, held, none))
     ]
+
+-- a change outside a record leaves the record: it stands whole, and its six words are the same
+pub record_left : (f : Form) (a b : List ℕ) (x : ℕ) → length a ≤ length b → Whole f a x → Agree a b x (x + 24 + rec_len_of f.order a x) → Whole f b x × (rec_at f.order b x ≡ rec_at f.order a x)
+record_left f a b x longer whole same =
+    let body : Body a b f x = λ i low high. same i (omega arith) high in
+    let w = words_kept f a b x body in
+    let next : word f.order b x ≡ word f.order a x = word_kept f.order a b x x (x + 24 + rec_len_of f.order a x) same (omega arith) (omega arith) in
+    (
+      whole_kept f a b x longer whole body,
+      λ i. record { next = next i; rec_len = w.rec_len i; key_len = w.key_len i; data_len = w.data_len i; full_hash = w.full_hash i; magic = w.magic i }
+    )
+
+-- a change outside all records of a list leaves the list
+pub list_left : (f : Form) (M : ℕ → Type 0) (a b : List ℕ) (at : ℕ) (xs : List ℕ) → length a ≤ length b → Linked f M a at xs → Still a b f xs → Linked f M b at xs
+list_left f M a b at xs longer list still = linked_kept f M a b at xs longer list (bodies_still f a b xs still) (nexts_still f a b xs still)

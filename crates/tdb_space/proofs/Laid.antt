@@ -1,5 +1,5 @@
 -- An image that is laid out in some chains and some free list is laid out in its own; and what follows of its bytes.
-use Rattle.std.proofs.Common.{◌≡◌, ℕ, ◌+◌, ◌<◌, ◌≤◌, List, [], ◌∷◌, ◌++◌, refl, sym, ◌∙◌, ap, subst, arith}
+use Rattle.std.proofs.Common.{◌≡◌, ℕ, ◌<◌, List, ◌++◌, sym, ◌∙◌, ap, subst, arith}
 use Rattle.tdb_words.specs.Word.{word}
 use Rattle.tdb_space.specs.Form.{Form, chain_head, free_head}
 use Rattle.tdb_space.specs.Record.{IsChained, IsFree}

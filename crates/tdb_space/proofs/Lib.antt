@@ -12,3 +12,15 @@ pub mod Swaps
 pub mod FreeSwaps
 pub mod Hands
 pub mod Links
+pub mod Grown
+pub mod Fresh
+pub mod Members
+pub mod Unlinks
+pub mod Removes
+pub mod Touches
+pub mod Updates
+pub mod Trades
+pub mod Frees
+pub mod Orders
+pub mod Sorted
+pub mod Sequence

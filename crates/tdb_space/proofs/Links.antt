@@ -1,22 +1,21 @@
 -- A hand that holds a record is put in front of its key's chain: the image stays accepted, and its map gains the key.
-use Rattle.std.proofs.Common.{◌≡◌, ℕ, ◌+◌, ◌<◌, ◌≤◌, ◌⊎◌, List, [], ◌∷◌, ◌++◌, length, cond, Option, Some, None, false, refl, sym, ◌∙◌, ap, subst, inl, inr, arith}
-use Rattle.std.specs.Prelude.{slice_index, ◌%◌, map}
+use Rattle.std.proofs.Common.{◌≡◌, ℕ, ◌+◌, ◌<◌, ◌≤◌, List, [], ◌∷◌, length, cond, Some, None, false, refl, sym, ◌∙◌, ap, subst, inl, inr, arith}
+use Rattle.std.specs.Prelude.{◌%◌, map}
 use Rattle.std.specs.Map.{lookup, update}
 use Rattle.std.specs.List.{IsDistinct, AllByRecursion}
-use Rattle.std.proofs.lemmas.Bool.{cases_lt}
 use Rattle.std.proofs.lemmas.Cmp.{nat_list_eq_equiv}
 use Rattle.std.proofs.lemmas.Map.{NonePasses, none_passes_from_lookup}
 use Rattle.std.proofs.lemmas.Map.Keys.{IsDistinct-cons}
 use Rattle.tdb_words.specs.Hash.{h_of}
 use Rattle.tdb_words.specs.Word.{word}
 use Rattle.tdb_space.specs.Form.{Form, chain_head}
-use Rattle.tdb_space.specs.Record.{IsChained, key_at, data_at, rec_len_of}
+use Rattle.tdb_space.specs.Record.{IsChained, rec_len_of}
 use Rattle.tdb_space.specs.Chain.{Linked, chain_of, free_of}
-use Rattle.tdb_space.specs.Pairs.{joined, pairs, map_of, home, same_key}
-use Rattle.tdb_space.specs.Extents.{HandPair, times, once, extents, hand_extents}
-use Rattle.tdb_space.specs.Accepted.{AllFiled, KeysDiffer, AcceptWith}
+use Rattle.tdb_space.specs.Pairs.{pairs, map_of, home, same_key}
+use Rattle.tdb_space.specs.Extents.{HandPair, times, once, extents}
+use Rattle.tdb_space.specs.Accepted.{AcceptWith}
 use Rattle.tdb_space.specs.Exchange.{Exchanged, PutInFront}
-use Rattle.tdb_space.proofs.Counts.{where_is, Lies, once_in, times_all, times_member}
+use Rattle.tdb_space.proofs.Counts.{where_is, times_all, times_member}
 use Rattle.tdb_space.proofs.Counts.Lies.{lies, below, above}
 use Rattle.tdb_space.proofs.Kept.{Still, Bodies, bodies_still, nexts_still, linked_kept, extents_kept, filed_all_kept, pairs_kept, times_within}
 use Rattle.tdb_space.proofs.Laid.{accepted_filed}

@@ -1,18 +1,17 @@
 -- One chain's records and the hands are exchanged for others: the image stays accepted, and the map changes as the chain does.
-use Rattle.std.proofs.Common.{◌≡◌, ℕ, ◌+◌, ◌<◌, ◌≤◌, ◌⊎◌, List, [], ◌∷◌, ◌++◌, length, cond, Option, Some, None, eqb, false, refl, sym, ◌∙◌, ap, subst, inl, inr, arith}
+use Rattle.std.proofs.Common.{◌≡◌, ℕ, ◌+◌, ◌<◌, ◌≤◌, ◌⊎◌, List, [], ◌∷◌, length, cond, Option, eqb, false, refl, sym, ◌∙◌, ap, subst, inl, inr, arith}
 use Rattle.std.specs.Prelude.{slice_index, ◌%◌, map, if◌then◌else◌}
 use Rattle.std.specs.Map.{lookup, update}
 use Rattle.std.specs.List.{IsDistinct}
-use Rattle.std.proofs.lemmas.Bool.{cases_lt, cases_eq, cases_Bool, eq-eqb, ne_eqb}
-use Rattle.tdb_words.specs.declared.word.Order.{Order}
+use Rattle.std.proofs.lemmas.Bool.{cases_lt, cases_eq, eq-eqb, ne_eqb}
 use Rattle.tdb_words.specs.Word.{word}
 use Rattle.tdb_words.proofs.Words.{word_agrees}
-use Rattle.tdb_space.specs.Form.{Form, chain_head, free_head, data_start, SameHeader, form_of}
+use Rattle.tdb_space.specs.Form.{Form, chain_head, free_head, data_start, SameHeader}
 use Rattle.tdb_space.specs.Record.{IsChained, IsFree, rec_len_of, magic_of}
 use Rattle.tdb_space.specs.Chain.{Linked, chain_of, free_of}
-use Rattle.tdb_space.specs.Pairs.{joined, pairs, order_of, map_of, home, same_key}
-use Rattle.tdb_space.specs.Extents.{HandPair, HandOk, AllHandOk, once, times, extents, extent_at, area, all_extents, hand_extents}
-use Rattle.tdb_space.specs.Accepted.{AreaInPlace, AreaOk, Shut, AllFiled, KeysDiffer, LaidOut, AcceptWith, IsFiled}
+use Rattle.tdb_space.specs.Pairs.{joined, pairs, map_of, home, same_key}
+use Rattle.tdb_space.specs.Extents.{HandPair, AllHandOk, once, times, extents, extent_at, area, all_extents, hand_extents}
+use Rattle.tdb_space.specs.Accepted.{AreaInPlace, AreaOk, Shut, AllFiled, KeysDiffer, LaidOut, AcceptWith}
 use Rattle.tdb_space.specs.Exchange.{Exchanged}
 use Rattle.tdb_space.proofs.Counts.{once_in, once_lies, times_all, times_member, times_two, times_swapped}
 use Rattle.tdb_space.proofs.Kept.{Still, bodies_still, nexts_still, linked_kept, extents_kept, filed_all_kept, pairs_kept, times_within, word_kept}

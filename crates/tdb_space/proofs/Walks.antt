@@ -62,18 +62,19 @@ linked_from f M img at (x ∷ xs) z p h =
       | inr there ↦ let rest = linked_from f M img (word f.order img x) xs z p.3 there in (rest.0, rest.1, omega (arith, rest.2))
     ]
 
+-- the first record of a list isn't one of the others
+pub linked_apart : (f : Form) (M : ℕ → Type 0) (img : List ℕ) (at x : ℕ) (xs : List ℕ) → Linked f M img at (x ∷ xs) → Member x xs → ⊥
+linked_apart f M img at x xs p h =
+    let rest = linked_from f M img (word f.order img x) xs x p.3 h in
+    let whole : Linked f M img x (x ∷ xs) = subst (λ y. Linked f M img y (x ∷ xs)) p.0 p in
+    let same : rest.0 ≡ x ∷ xs = linked_one f M img x rest.0 (x ∷ xs) rest.1 whole in
+    absurd (omega (arith, ap length same, rest.2))
+
 -- no offset comes twice in a list
 pub linked_distinct : (f : Form) (M : ℕ → Type 0) (img : List ℕ) (at : ℕ) (xs : List ℕ) → Linked f M img at xs → IsDistinct eqb xs
 unfolding IsDistinct
 linked_distinct f M img at [] p = tt
-linked_distinct f M img at (x ∷ xs) p = distinct_with x xs apart (linked_distinct f M img (word f.order img x) xs p.3)
-  where
-    apart : Member x xs → ⊥
-    apart h =
-        let rest = linked_from f M img (word f.order img x) xs x p.3 h in
-        let whole : Linked f M img x (x ∷ xs) = subst (λ y. Linked f M img y (x ∷ xs)) p.0 p in
-        let same : rest.0 ≡ x ∷ xs = linked_one f M img x rest.0 (x ∷ xs) rest.1 whole in
-        absurd (omega (arith, ap length same, rest.2))
+linked_distinct f M img at (x ∷ xs) p = distinct_with x xs (linked_apart f M img at x xs p) (linked_distinct f M img (word f.order img x) xs p.3)
 
 -- a quarter of some record is that of a record of the list
 quarter_met : (f : Form) (M : ℕ → Type 0) (img : List ℕ) (at : ℕ) (xs : List ℕ) (q : ℕ) → Linked f M img at xs → Member q (map (λ x. x / 4) xs) → Member (4 * q) xs

@@ -1,5 +1,5 @@
 -- The lists of records: the chains and the free list.
-use Rattle.std.specs.Prelude.{◌≡◌, ℕ, zero, suc, ◌<◌, ◌/◌, ◌==◌, List, [], ◌∷◌, length, IsTrue, nat_eq, if◌then◌else◌}
+use Rattle.std.specs.Prelude.{◌≡◌, ◌⊎◌, ℕ, zero, suc, ◌<◌, ◌/◌, ◌==◌, List, [], ◌∷◌, length, IsTrue, nat_eq, if◌then◌else◌}
 use Rattle.std.specs.List.{list_any}
 use Rattle.tdb_words.specs.declared.word.Order.{Order}
 use Rattle.tdb_words.specs.Word.{word}
@@ -45,3 +45,14 @@ HasChains f img = (j : ℕ) → j < f.chains → Chain f img (word f.order img (
 -- an offset is one of these
 abbrev pub Member : ℕ → List ℕ → Type 0
 Member x xs = IsTrue (list_any (nat_eq x) xs)
+
+-- the word at this offset leads to y, in the list whose first word stands at the place p: it is the word at p, or the next word of
+-- the record before y
+abbrev pub Leads : ℕ → List ℕ → ℕ → ℕ → Type 0
+Leads p [] before y = ⊥
+Leads p (x ∷ xs) before y = ((p ≡ before) × (x ≡ y)) ⊎ Leads x xs before y
+
+-- the offsets without y, where it comes first
+abbrev pub without : ℕ → List ℕ → List ℕ
+without y [] = []
+without y (x ∷ xs) = if x == y then xs else x ∷ without y xs

@@ -66,3 +66,33 @@ pub record GrownBy (f : Form) (a b : List ℕ) (rec_len : ℕ) : Type 0 where
   pub aligned : rec_len % 4 ≡ 0
   pub size : length b ≡ length a + 24 + rec_len
   pub others : (i : ℕ) → i < length a → slice_index b i ≡ slice_index a i
+
+-- From image a to image b just one word changes, that at an offset which led to the record y: it leads to what comes after y
+pub record LedPast (f : Form) (a b : List ℕ) (before y : ℕ) : Type 0 where
+  pub size : length b ≡ length a
+  pub next : word f.order b before ≡ next_of f.order a y
+  pub others : (i : ℕ) → (i < before) ⊎ (before + 4 ≤ i) → slice_index b i ≡ slice_index a i
+
+-- From image a to image b only the record at an offset changes, within its old extent and not in its next word, and it still
+-- stands whole
+pub record Touched (f : Form) (a b : List ℕ) (at : ℕ) : Type 0 where
+  pub size : length b ≡ length a
+  pub others : (i : ℕ) → (i < at + 4) ⊎ (at + 24 + rec_len_of f.order a at ≤ i) → slice_index b i ≡ slice_index a i
+  pub whole : Whole f b at
+
+-- From image a to image b a hand becomes the first free record: only its bytes and the head of the free list change, it leads
+-- to what was the first, and the head leads to it
+pub record PutFree (f : Form) (a b : List ℕ) (hand : HandPair) : Type 0 where
+  pub size : length b ≡ length a
+  pub low : (i : ℕ) → i < data_start f → (i < free_head) ⊎ (free_head + 4 ≤ i) → slice_index b i ≡ slice_index a i
+  pub high : (i : ℕ) → data_start f ≤ i → (i < hand.0) ⊎ (hand.0 + 24 + hand.1 ≤ i) → slice_index b i ≡ slice_index a i
+  pub whole : Whole f b hand.0
+  pub is_free : IsFree (magic_of f.order b hand.0)
+  pub length_kept : rec_len_of f.order b hand.0 ≡ hand.1
+  pub next : next_of f.order b hand.0 ≡ word f.order a free_head
+  pub head : word f.order b free_head ≡ hand.0
+
+-- two images differ at most in the sequence number, the word at 48
+pub record ButSequence (a b : List ℕ) : Type 0 where
+  pub size : length b ≡ length a
+  pub others : (i : ℕ) → (i < 48) ⊎ (52 ≤ i) → slice_index b i ≡ slice_index a i
