@@ -8,7 +8,7 @@ use Rattle.tdb_words.specs.declared.hash.HashKind.{HashKind}
 use Rattle.tdb_words.specs.declared.hash.HashKind.TheVariants.{Old, Jenkins}
 use Rattle.tdb_words.specs.declared.record.TheConstants.{USED}
 use Rattle.tdb_words.specs.Word.{word, bytes_of_word}
-use Rattle.tdb_words.specs.Hash.{h_of, h_old, h_jenkins, mixed, finished}
+use Rattle.tdb_words.specs.Hash.{h_of, h_old, h_jenkins, mix_of, final_of}
 use Rattle.tdb_words.specs.Header.{food, order_named, hash_named, header_order, header_hash, header_fault, header_at, locks_of, new_header, jenkins_locks, mutex_locks}
 use Rattle.tdb_words.proofs.Words.{word_made}
 
@@ -63,7 +63,7 @@ unfolding h_old
 old_food = refl
 
 jenkins_food : h_jenkins food ≡ 0xD7B694E5
-unfolding h_jenkins mixed finished word
+unfolding h_jenkins mix_of final_of word
 jenkins_food = refl
 
 -- the hashes of the used magic
@@ -73,7 +73,7 @@ old_used Little = omega arith
 old_used Big = omega arith
 
 jenkins_used : (o : Order) → h_jenkins (bytes_of_word o USED) < 2 ^ 32
-unfolding h_jenkins mixed finished word
+unfolding h_jenkins mix_of final_of word
 jenkins_used Little = omega arith
 jenkins_used Big = omega arith
 

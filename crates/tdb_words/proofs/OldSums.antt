@@ -3,7 +3,7 @@ use Rattle.std.proofs.Common.{◌≡◌, ℕ, ◌+◌, ◌*◌, ◌%◌, ◌^◌
 use Rattle.std.specs.List.{enumerate_from}
 use Rattle.std.proofs.lemmas.List.Sums.{sum_by-append}
 use Rattle.std.proofs.lemmas.List.{length_push, take_more}
-use Rattle.tdb_words.specs.Hash.{shifted, shifted_sum}
+use Rattle.tdb_words.specs.Hash.{shifted_byte, shifted_sum}
 use Rattle.tdb_words.specs.Running.{OldHolds}
 
 -- one more byte comes last, with its place
@@ -14,8 +14,8 @@ enumerate_push n (y ∷ xs) x = ap (λ rest. (n, y) ∷ rest) (enumerate_push (n
 -- the sum grows by the byte, shifted by its place
 shifted_sum_push : (xs : List ℕ) (x : ℕ) → shifted_sum (xs ++ x ∷ []) ≡ shifted_sum xs + x * 2 ^ (5 * length xs % 24)
 shifted_sum_push xs x =
-    ap (sum_by shifted) (enumerate_push 0 xs x)
-    ∙ sum_by-append shifted (enumerate_from 0 xs) ((0 + length xs, x) ∷ [])
+    ap (sum_by shifted_byte) (enumerate_push 0 xs x)
+    ∙ sum_by-append shifted_byte (enumerate_from 0 xs) ((0 + length xs, x) ∷ [])
     ∙ ap (λ t. shifted_sum xs + t) (zero-add _ ∙ ap (λ i. x * 2 ^ (5 * i % 24)) (zero-add (length xs)))
 
 -- the running sum and shift after one more byte

@@ -4,20 +4,20 @@ use Rattle.std.specs.Prelude.{slice_index}
 use Rattle.std.proofs.lemmas.List.{get_or-take, take-append-le, drop-append-le, drop-drop, take_all}
 use Rattle.std.proofs.lemmas.List.Sums.{fold_push}
 use Rattle.tdb_words.specs.declared.jenkins.Mixer.{Mixer}
-use Rattle.tdb_words.specs.Hash.{twelves, added, round, mixed}
+use Rattle.tdb_words.specs.Hash.{twelves, words_plus, round, mix_of}
 use Rattle.tdb_words.specs.Word.{word}
 use Rattle.tdb_words.specs.declared.word.Order.TheVariants.{Little}
 use Rattle.tdb_words.proofs.Words.{word_from_bytes}
 
 -- twelve bytes are added alike whatever stands after them
-pub added_alike : (s : Mixer) (xs ys : List ℕ) → ((i : ℕ) → i < 12 → slice_index xs i ≡ slice_index ys i) → added s xs ≡ added s ys
+pub added_alike : (s : Mixer) (xs ys : List ℕ) → ((i : ℕ) → i < 12 → slice_index xs i ≡ slice_index ys i) → words_plus s xs ≡ words_plus s ys
 added_alike s xs ys same =
     let e0 : word Little xs 0 ≡ word Little ys 0 = word_from_bytes Little xs ys 0 0 (λ j low. same (0 + j) (omega arith)) in
     let e1 : word Little xs 4 ≡ word Little ys 4 = word_from_bytes Little xs ys 4 4 (λ j low. same (4 + j) (omega arith)) in
     let e2 : word Little xs 8 ≡ word Little ys 8 = word_from_bytes Little xs ys 8 8 (λ j low. same (8 + j) (omega arith)) in
     λ j. record { a = (s.a + e0 j) % 2 ^ 32; b = (s.b + e1 j) % 2 ^ 32; c = (s.c + e2 j) % 2 ^ 32 }
 
-pub added_front : (s : Mixer) (xs : List ℕ) → added s (take 12 xs) ≡ added s xs
+pub added_front : (s : Mixer) (xs : List ℕ) → words_plus s (take 12 xs) ≡ words_plus s xs
 added_front s xs = added_alike s (take 12 xs) xs (λ i low. get_or-take 12 xs i 0 low)
 
 -- what a slice from a place to the end holds
@@ -51,8 +51,8 @@ twelves_more (suc k) xs =
     rw e (ap (λ r. take 12 xs ∷ r) (twelves_more k (drop 12 xs) ∙ ap (λ d. twelves k (drop 12 xs) ++ take 12 d ∷ []) (drop-drop (12 * k) 12 xs ∙ ap (λ n. drop n xs) at)))
 
 -- one round more
-pub round_more : (s t : Mixer) (k : ℕ) (xs : List ℕ) → s ≡ fold round t (twelves k xs) → mixed (added s (drop (12 * k) xs)) ≡ fold round t (twelves (k + 1) xs)
+pub round_more : (s t : Mixer) (k : ℕ) (xs : List ℕ) → s ≡ fold round t (twelves k xs) → mix_of (words_plus s (drop (12 * k) xs)) ≡ fold round t (twelves (k + 1) xs)
 round_more s t k xs so_far =
-    ap mixed (sym (added_front s (drop (12 * k) xs)) ∙ ap (λ u. added u (take 12 (drop (12 * k) xs))) so_far)
+    ap mix_of (sym (added_front s (drop (12 * k) xs)) ∙ ap (λ u. words_plus u (take 12 (drop (12 * k) xs))) so_far)
     ∙ sym (fold_push round t (twelves k xs) (take 12 (drop (12 * k) xs)))
     ∙ ap (fold round t) (sym (twelves_more k xs))

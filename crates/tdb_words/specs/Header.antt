@@ -1,5 +1,5 @@
 -- The header of a file: its first 168 bytes.
-use Rattle.std.specs.Prelude.{◌≡◌, ℕ, ◌+◌, ◌*◌, ◌≤◌, ◌==◌, Bool, ◌&&◌, ◌||◌, not, if◌then◌else◌, nat_eq, List, [], ◌∷◌, length, ◌++◌, replicate, Option, Some, None, is_none, unwrap_or}
+use Rattle.std.specs.Prelude.{◌≡◌, ℕ, ◌+◌, ◌*◌, ◌≤◌, ◌==◌, Bool, ◌&&◌, ◌||◌, not, if◌then◌else◌, nat_eq, List, [], ◌∷◌, length, ◌++◌, replicate, Option, Some, None, is_none, unwrap_or, codes}
 use Rattle.std.specs.List.{starts_with}
 use Rattle.tdb_words.specs.declared.word.Order.{Order}
 use Rattle.tdb_words.specs.declared.word.Order.TheVariants.{Little, Big}
@@ -79,6 +79,15 @@ header_fault img =
     else if is_none (hash_named o (word o img 52) (word o img 56)) then Some UnknownHash
     else if word o img 36 == 0 then Some NoBuckets
     else None
+
+-- the word that is printed for a fault
+abbrev pub fault_text : HeaderFault → List ℕ
+fault_text NotTdb = codes "NotTdb"
+fault_text Version = codes "Version"
+fault_text OldLocks = codes "OldLocks"
+fault_text Mutexes = codes "Mutexes"
+fault_text UnknownHash = codes "UnknownHash"
+fault_text NoBuckets = codes "NoBuckets"
 
 -- an image has a header without a fault
 pub record HeaderOk (img : List ℕ) : Type 0 where

@@ -4,3 +4,4 @@ pub mod Header
 pub mod Hash
 pub mod HashRun
 pub mod Running
+pub mod What

@@ -1,11 +1,15 @@
 // A byte string: a key, a value, or a part of one.
 
-ghost use Rattle.std.specs.Prelude.{◌≡◌, ◌==◌, ℕ, ◌++◌, ◌↔◌, List, [], length, IsTrue, IfOk, OnOk, OnErr};
-ghost use Rattle.std.specs.Cmp.Lexicographic.{pointwise};
-ghost use Rattle.std.specs.Cmp.Rules.{comparing};
+ghost use Rattle.std.specs.Prelude.{◌≡◌, ◌==◌, ℕ, ◌++◌, ◌↔◌, List, [], length, refl, Some, IsTrue, IfOk, OnOk, OnErr};
+ghost use Rattle.std.specs.Hash as fed;
+ghost use Rattle.std.specs.Ordering.{nat_cmp};
+ghost use Rattle.std.specs.Cmp.Lexicographic.{pointwise, slice_cmp, nat_list_cmp_total, texts_ties, texts_po};
+ghost use Rattle.std.specs.Cmp.Rules.{comparing, hashing};
 ghost use Rattle.std.proofs.Common.{rules};
 
 use std::alloc::{AllocError, Global};
+use std::cmp::Ordering;
+use std::hash::{Hash, Hasher};
 use std::marker::Model;
 
 /// A byte string that owns its bytes. A contract sees it as the list of them.
@@ -30,7 +34,7 @@ impl Bytes {
         }
     }
 
-    /// A copy of `from`. Fails only for want of memory.
+    /// A copy of `from`, at the cost of its length. Fails only for want of memory.
     pub fn copy(alloc: Global, from: &[u8]) -> Result<Self, AllocError>
         ensures { IfOk result (λ b. b ≡ from.now) }
     {
@@ -48,18 +52,21 @@ impl Bytes {
         Ok(())
     }
 
+    /// The bytes.
     pub fn as_slice(&self) -> &[u8]
         ensures { result.now ≡ self.now }
     {
         self.items.as_slice()
     }
 
+    /// How many bytes there are.
     pub fn len(&self) -> usize
         ensures { result ≡ length self.now }
     {
         self.items.len()
     }
 
+    /// Whether there is no byte.
     pub fn is_empty(&self) -> bool
         ensures { IsTrue result ↔ (self.now ≡ []) }
     {
@@ -75,6 +82,7 @@ impl Bytes {
     }
 }
 
+// Takes no memory.
 impl From<Vec<u8>> for Bytes {
     ghost from_gives = { λ v b. b ≡ v.items };
 
@@ -95,4 +103,39 @@ impl PartialEq for Bytes {
 
 impl Eq for Bytes {
     ghost laws = { Prim.search (comparing, rules) };
+}
+
+// The first byte that differs decides, and else the length does.
+impl PartialOrd for Bytes {
+    ghost partial_cmp = { λ a b. Some (slice_cmp nat_cmp a b) };
+
+    ghost laws = { texts_po };
+
+    fn partial_cmp(&self, other: &Bytes) -> Option<Ordering> {
+        Some(self.cmp(other))
+    }
+}
+
+impl Ord for Bytes {
+    ghost cmp = { slice_cmp nat_cmp };
+
+    ghost total = { nat_list_cmp_total };
+
+    ghost matches_partial_cmp = { λ a b. refl };
+
+    ghost matches_eq = { texts_ties };
+
+    fn cmp(&self, other: &Bytes) -> Ordering {
+        self.as_slice().cmp(other.as_slice())
+    }
+}
+
+impl Hash for Bytes {
+    ghost hash_input = { λ b. fed.slice fed.u8 b };
+
+    ghost respects_eq = { Prim.search (hashing, rules) };
+
+    fn hash<H: Hasher>(&self, state: &mut H) {
+        self.as_slice().hash(state);
+    }
 }

@@ -17,7 +17,7 @@ pub enum HashKind {
     Jenkins,
 }
 
-/// The default hash of a key.
+/// The default hash of a key. The cost is that of the key's length, as in the next two.
 pub fn hash_old(key: &[u8]) -> u32
     requires { length key.now < 2 ^ 32 }
     ensures { result ≡ h_old key.now }
@@ -48,7 +48,7 @@ pub fn hash_of(kind: HashKind, key: &[u8]) -> u32
     }
 }
 
-/// The chain that a hash belongs to, of so many.
+/// The chain that a hash belongs to, in a file with so many chains.
 pub fn chain_of(hash: u32, hash_size: u32) -> u32
     requires { 0 < hash_size }
     ensures { result ≡ hash % hash_size }
@@ -56,13 +56,15 @@ pub fn chain_of(hash: u32, hash_size: u32) -> u32
     hash % hash_size
 }
 
+/// The running hash of one kind.
 #[derive(Clone, Copy, Debug)]
 pub(crate) enum Way {
     Old(OldRun),
     Jenkins(JenkinsRun),
 }
 
-/// The hash of a key that comes in pieces, of which none is kept.
+/// The hash of a key that comes in pieces, of which none is kept: at most twelve bytes wait for the
+/// next piece.
 #[derive(Clone, Copy, Debug)]
 pub struct HashRun {
     way: Way,
@@ -81,9 +83,10 @@ impl HashRun {
         }
     }
 
-    /// Adds the next bytes of the key.
+    /// Adds the next bytes of the key. The cost is that of the piece's length.
     pub fn feed(&mut self, piece: &[u8])
-        ensures { (h : HashKind) (n : ℕ) (bytes : List ℕ) → Holds self.old h n bytes → Holds self.new h n (bytes ++ piece.now) }
+        ensures { (h : HashKind) (n : ℕ) (bytes : List ℕ)
+            → Holds self.old h n bytes → Holds self.new h n (bytes ++ piece.now) }
     {
         match &mut self.way {
             Way::Old(run) => run.feed(piece),
@@ -93,7 +96,8 @@ impl HashRun {
 
     /// The hash of the pieces joined, where they have as many bytes as was said at the start.
     pub fn end(self) -> u32
-        ensures { (h : HashKind) (bytes : List ℕ) → Holds self h (length bytes) bytes → result ≡ h_of h bytes }
+        ensures { (h : HashKind) (bytes : List ℕ)
+            → Holds self h (length bytes) bytes → result ≡ h_of h bytes }
     {
         match self.way {
             Way::Old(run) => run.end(),

@@ -3,7 +3,7 @@
 ghost use Rattle.std.specs.Prelude.{◌≡◌, ℕ, ◌<◌, ◌≤◌, ◌==◌, ◌↔◌, IsTrue, IfOk, IfErr, Some, None};
 ghost use Rattle.tdb_words.specs.Word.{word, bytes_of_word};
 ghost use Rattle.tdb_words.specs.Hash.{h_of};
-ghost use Rattle.tdb_words.specs.Header.{food, order_named, hash_named, header_at, header_fault, HeaderOk, locks_of, header_with, new_header};
+ghost use Rattle.tdb_words.specs.Header.{food, order_named, hash_named, header_at, header_fault, HeaderOk, fault_text, locks_of, header_with, new_header};
 
 use crate::hash::{HashKind, hash_of};
 use crate::record::USED;
@@ -45,28 +45,44 @@ pub struct Header {
 #[derive(Clone, Copy, Debug, PartialEq, Eq, Error)]
 pub enum HeaderFault {
     /// The first ten bytes are another text.
-    #[error("NotTdb")]
+    #[error("{}", self.as_str())]
     NotTdb,
 
     /// The version word is another in both byte orders.
-    #[error("Version")]
+    #[error("{}", self.as_str())]
     Version,
 
     /// The locks word is that of an old format.
-    #[error("OldLocks")]
+    #[error("{}", self.as_str())]
     OldLocks,
 
     /// The file asks for features that aren't known, as mutexes.
-    #[error("Mutexes")]
+    #[error("{}", self.as_str())]
     Mutexes,
 
     /// The two hash words are those of neither hash.
-    #[error("UnknownHash")]
+    #[error("{}", self.as_str())]
     UnknownHash,
 
     /// The file has no chain.
-    #[error("NoBuckets")]
+    #[error("{}", self.as_str())]
     NoBuckets,
+}
+
+impl HeaderFault {
+    /// The word that is printed.
+    pub fn as_str(self) -> &'static str
+        ensures { result.now ≡ fault_text self }
+    {
+        match self {
+            HeaderFault::NotTdb => "NotTdb",
+            HeaderFault::Version => "Version",
+            HeaderFault::OldLocks => "OldLocks",
+            HeaderFault::Mutexes => "Mutexes",
+            HeaderFault::UnknownHash => "UnknownHash",
+            HeaderFault::NoBuckets => "NoBuckets",
+        }
+    }
 }
 
 /// The byte order in which the version word is right.
@@ -109,7 +125,8 @@ fn kind_of(order: Order, first: u32, second: u32) -> Option<HashKind>
     None
 }
 
-/// What the first 168 bytes of a file say, or the first of the six faults that they have.
+/// What the first 168 bytes of a file say, or the first of the six faults that they have. The two
+/// hash words are computed anew in each call.
 #[tactic(auto, unfolding(crate::specs::Header::header_fault, crate::specs::Header::header_order, crate::specs::Header::header_hash))]
 pub fn header_of(bytes: &[u8; 168]) -> Result<Header, HeaderFault>
     ensures header { IfOk result (λ h. HeaderOk bytes.now × (h ≡ header_at bytes.now)) }
@@ -168,7 +185,7 @@ fn header_with(o: Order, hash_size: u32, locks: u32, first: u32, second: u32) ->
     bytes
 }
 
-/// The first 168 bytes of a new file.
+/// The first 168 bytes of a new file, with no undo area and the sequence number 0.
 pub fn header_bytes(hash_size: u32, o: Order, h: HashKind) -> [u8; 168]
     requires { 0 < hash_size }
     ensures bytes { result ≡ new_header hash_size o h }

@@ -13,11 +13,11 @@ pub(crate) struct Mixer {
 }
 
 impl Mixer {
-    ghost use Rattle.tdb_words.specs.Hash.{begun, added, turned, mixed, closed, finished, round, twelves};
+    ghost use Rattle.tdb_words.specs.Hash.{start_words, words_plus, mix_line, mix_of, final_line, final_of, round, twelves};
 
     /// The start, for a key of `length` bytes.
     fn new(length: u32) -> Self
-        ensures { result ≡ begun length }
+        ensures { result ≡ start_words length }
     {
         let start = 0xDEAD_BEEF_u32.wrapping_add(length);
         Mixer {
@@ -31,7 +31,7 @@ impl Mixer {
     #[tactic(auto, unfolding(crate::specs::Word::word))]
     fn add(self, piece: &[u8]) -> Self
         requires { 12 ≤ length piece.now }
-        ensures { result ≡ added self piece.now }
+        ensures { result ≡ words_plus self piece.now }
     {
         Mixer {
             a: self.a.wrapping_add(LittleEndian::read_u32(piece)),
@@ -40,10 +40,10 @@ impl Mixer {
         }
     }
 
-    /// A line of `mix`. The words change places, so that the next line is on the same ones.
+    /// A line of `mix`. The words then change places, so that the next line begins with `a` again.
     #[inline]
     fn turn(self, by: u32) -> Self
-        ensures { result ≡ turned self by }
+        ensures { result ≡ mix_line self by }
     {
         Mixer {
             a: self.b,
@@ -54,9 +54,9 @@ impl Mixer {
 
     /// `mix`.
     #[inline]
-    #[tactic(auto, unfolding(crate::specs::Hash::mixed))]
+    #[tactic(auto, unfolding(crate::specs::Hash::mix_of))]
     fn mix(self) -> Self
-        ensures { result ≡ mixed self }
+        ensures { result ≡ mix_of self }
     {
         self.turn(4).turn(6).turn(8).turn(16).turn(19).turn(4)
     }
@@ -64,7 +64,7 @@ impl Mixer {
     /// A line of `final`, in the same way.
     #[inline]
     fn close(self, by: u32) -> Self
-        ensures { result ≡ closed self by }
+        ensures { result ≡ final_line self by }
     {
         Mixer {
             a: self.b,
@@ -74,9 +74,9 @@ impl Mixer {
     }
 
     /// `final`, which gives the hash.
-    #[tactic(auto, unfolding(crate::specs::Hash::finished))]
+    #[tactic(auto, unfolding(crate::specs::Hash::final_of))]
     fn finish(self) -> u32
-        ensures { result ≡ finished self }
+        ensures { result ≡ final_of self }
     {
         let last_first = Mixer {
             a: self.c,
@@ -107,7 +107,8 @@ impl Mixer {
     }
 }
 
-/// Jenkins' hash of a key that comes in pieces. At most twelve bytes wait: whether they are the last isn't known before more come.
+/// Jenkins' hash of a key that comes in pieces. Up to twelve bytes wait, since whether they are the
+/// last isn't known before more come.
 #[derive(Clone, Copy, Debug)]
 pub(crate) struct JenkinsRun {
     mixer: Mixer,
@@ -136,7 +137,8 @@ impl JenkinsRun {
         requires { self.old.held + length bytes.now ≤ 12 }
         ensures mixer { self.new.mixer ≡ self.old.mixer }
         ensures held { self.new.held ≡ self.old.held + length bytes.now }
-        ensures waiting { take self.new.held self.new.waiting ≡ take self.old.held self.old.waiting ++ bytes.now }
+        ensures waiting { take self.new.held self.new.waiting
+            ≡ take self.old.held self.old.waiting ++ bytes.now }
     {
         let end = self.held + bytes.len();
         self.waiting[self.held..end].copy_from_slice(bytes);
@@ -145,7 +147,8 @@ impl JenkinsRun {
 
     /// Adds the next bytes of the key.
     pub(crate) fn feed(&mut self, piece: &[u8])
-        ensures { (n : ℕ) (bytes : List ℕ) → JenkinsHolds self.old.mixer self.old.waiting self.old.held n bytes
+        ensures { (n : ℕ) (bytes : List ℕ)
+            → JenkinsHolds self.old.mixer self.old.waiting self.old.held n bytes
             → JenkinsHolds self.new.mixer self.new.waiting self.new.held n (bytes ++ piece.now) }
     {
         let room = 12 - self.held;
@@ -163,7 +166,8 @@ impl JenkinsRun {
 
     /// The hash of the bytes so far, if they are as many as was said at the start.
     pub(crate) fn end(self) -> u32
-        ensures { (bytes : List ℕ) → JenkinsHolds self.mixer self.waiting self.held (length bytes) bytes → result ≡ h_jenkins bytes }
+        ensures { (bytes : List ℕ) → JenkinsHolds self.mixer self.waiting self.held (length bytes) bytes
+            → result ≡ h_jenkins bytes }
     {
         if self.held == 0 {
             return self.mixer.c;

@@ -1,4 +1,5 @@
-//! The words of a tdb file: bytes, numbers in either byte order, record headers, the file's header and the hashes.
+//! The words of a tdb file: byte strings, numbers in either byte order, record headers, the file's
+//! header, and the hashes of keys.
 #![tactic(auto)]
 
 mod bytes;

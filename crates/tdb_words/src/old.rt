@@ -1,6 +1,15 @@
 // The default hash over pieces of a key.
 
-ghost use Rattle.std.specs.Prelude.{◌≡◌, ℕ, ◌<◌, List, [], ◌++◌, length};
+ghost use Rattle.std.specs.Prelude.{◌≡◌, ℕ, ◌+◌, ◌%◌, ◌<◌, List, [], ◌++◌, length};
+
+/// The shift of the next byte: 5 more, modulo 24, without a division.
+#[inline]
+fn shift_after(shift: u32) -> u32
+    requires { shift < 24 }
+    ensures { result ≡ (shift + 5) % 24 }
+{
+    if shift < 19 { shift + 5 } else { shift - 19 }
+}
 
 /// The default hash of a key that comes in pieces.
 #[derive(Clone, Copy, Debug)]
@@ -31,17 +40,14 @@ impl OldRun {
     {
         for byte in piece {
             self.value = self.value.wrapping_add(u32::from(*byte) << self.shift);
-            self.shift = if self.shift < 19 {
-                self.shift + 5
-            } else {
-                self.shift - 19
-            };
+            self.shift = shift_after(self.shift);
         }
     }
 
     /// The hash of the bytes so far, if they are as many as was said at the start.
     pub(crate) fn end(self) -> u32
-        ensures { (bytes : List ℕ) → OldHolds self.value self.shift (length bytes) bytes → result ≡ h_old bytes }
+        ensures { (bytes : List ℕ) → OldHolds self.value self.shift (length bytes) bytes
+            → result ≡ h_old bytes }
     {
         1_103_515_243_u32
             .wrapping_mul(self.value)

@@ -3,6 +3,7 @@
 ghost use Rattle.std.specs.Prelude.{◌+◌, ◌<◌, ◌≤◌, length};
 
 use super::*;
+use std::collections::HashMap;
 use std::test::Fail;
 
 const FOOD: [u8; 10] = *b"TDB file\n\0";
@@ -114,7 +115,7 @@ fn first_faults(rt: HostRuntime) {
 }
 
 #[test]
-fn texts_and_bytes(rt: HostRuntime) -> Result<(), Fail> {
+fn texts(rt: HostRuntime) -> Result<(), Fail> {
     let alloc = rt.alloc();
     let faults = format!(in alloc;
         "{} {} {} {} {} {}",
@@ -142,9 +143,23 @@ fn texts_and_bytes(rt: HostRuntime) -> Result<(), Fail> {
     ] {
         assert_eq!(rt; format!(in alloc; "{what}")?.as_str(), word);
     }
+    Ok(())
+}
+
+#[test]
+fn byte_strings(rt: HostRuntime) -> Result<(), Fail> {
+    let alloc = rt.alloc();
     let mut bytes = Bytes::copy(alloc, b"ab")?;
+    let shorter = Bytes::copy(alloc, bytes.as_slice())?;
     bytes.push_all(b"c")?;
     assert_eq!(rt; bytes.as_slice(), b"abc".as_slice());
-    assert!(rt; bytes == Bytes::from(bytes.as_slice().to_vec(alloc)?));
+    assert!(rt; shorter < bytes && Bytes::new(alloc) < shorter);
+    let same = Bytes::from(bytes.as_slice().to_vec(alloc)?);
+    assert!(rt; same == bytes);
+    let mut places = HashMap::new(alloc);
+    places.insert(bytes, 7)?;
+    assert_eq!(rt; places.get(&same).copied(), Some(7));
+    assert_eq!(rt; places.get(&shorter).copied(), None);
+    assert_eq!(rt; same.into_vec().as_slice(), b"abc".as_slice());
     Ok(())
 }

@@ -1,11 +1,14 @@
 // What a check finds wrong with a file.
 
+ghost use Rattle.std.specs.Prelude.{◌≡◌};
+
 use std::fmt;
 
 /// What is wrong with a file, as its check answers it.
 #[derive(Clone, Copy, Debug, PartialEq, Eq)]
 pub enum What {
-    /// The file ends within its header or the heads of its chains, or its length is no multiple of 4.
+    /// The file ends within its header or the heads of its chains, or its length isn't a multiple
+    /// of 4.
     Short,
 
     /// The header has a fault.
@@ -48,9 +51,14 @@ pub enum What {
     Stray,
 }
 
-impl fmt::Display for What {
-    fn fmt<W: fmt::Write>(&self, f: &mut fmt::Formatter<W>) -> fmt::Result {
-        f.write_str(match self {
+impl What {
+    ghost use Rattle.tdb_words.specs.What.{what_text};
+
+    /// The word that is printed.
+    pub fn as_str(self) -> &'static str
+        ensures { result.now ≡ what_text self }
+    {
+        match self {
             What::Short => "Short",
             What::Header => "Header",
             What::AreaBad => "AreaBad",
@@ -65,6 +73,12 @@ impl fmt::Display for What {
             What::FreeLoop => "FreeLoop",
             What::Overlap => "Overlap",
             What::Stray => "Stray",
-        })
+        }
+    }
+}
+
+impl fmt::Display for What {
+    fn fmt<W: fmt::Write>(&self, f: &mut fmt::Formatter<W>) -> fmt::Result {
+        f.write_str(self.as_str())
     }
 }

@@ -15,7 +15,7 @@ pub enum Order {
     Big,
 }
 
-/// The number that four bytes stand for.
+/// The number that the four bytes of a word stand for.
 #[tactic(auto, unfolding(crate::specs::Word::word))]
 pub fn word_at(bytes: &[u8; 4], o: Order) -> u32
     ensures { result ≡ word o bytes.now 0 }

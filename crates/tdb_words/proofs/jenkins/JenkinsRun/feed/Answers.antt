@@ -1,6 +1,6 @@
 use Rattle.std.proofs.Common.{◌≡◌, ◌∙◌, ℕ, ◌+◌, ◌-◌, ◌*◌, ◌/◌, ap, arith, rules, subst, List, ◌++◌, take, drop, length, fold, length-drop, append_assoc, zero-add, ◌<◌, ◌≤◌}
 use Rattle.std.proofs.lemmas.List.{take-append-drop, length-take-le}
-use Rattle.tdb_words.specs.Hash.{mixed, added, round, twelves}
+use Rattle.tdb_words.specs.Hash.{mix_of, words_plus, round, twelves}
 use Rattle.tdb_words.specs.Running.{JenkinsHolds}
 use Rattle.tdb_words.proofs.Twelves.{rest_from}
 use Rattle.tdb_words.proofs.JenkinsPieces.{holds_waiting, holds_mixed}
@@ -27,8 +27,8 @@ returns c n bytes held =
     subst (λ h. JenkinsHolds filled.mixer filled.waiting h n (bytes ++ take room piece)) twelve first in
     let last = c.hold-3.new.self in
     let l = c.hold-3.ensures in
-    let mixer : last.mixer ≡ fold round (mixed (added filled.mixer filled.waiting)) (twelves full rest) =
-    l.mixer ∙ c.mix_all-self.ensures ∙ ap (λ s. fold round s (twelves full rest)) (c.mix.ensures ∙ ap mixed c.add.ensures) in
+    let mixer : last.mixer ≡ fold round (mix_of (words_plus filled.mixer filled.waiting)) (twelves full rest) =
+    l.mixer ∙ c.mix_all-self.ensures ∙ ap (λ s. fold round s (twelves full rest)) (c.mix.ensures ∙ ap mix_of c.add.ensures) in
     let wait : take last.held last.waiting ≡ drop (12 * full) rest = l.waiting ∙ rest_from (12 * full) rest in
     let some : 1 ≤ length rest = omega (arith, length-drop room piece, ap length (rest_from room piece), c.if-piece-room.false) in
     let held_last : last.held ≡ length rest - 12 * full = l.held ∙ zero-add _ ∙ ap length (rest_from (12 * full) rest) ∙ length-drop (12 * full) rest in
