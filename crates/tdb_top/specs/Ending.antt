@@ -1,10 +1,10 @@
 -- How a run ends: its status, the line that it prints, and the cause of each.
-use Rattle.std.specs.Prelude.{◌≡◌, ◌≢◌, ℕ, ◌≤◌, Bool, Option, None, Some, IsTrue, List, [], ◌∷◌, ◌++◌, ◌⊎◌, length, take, codes}
+use Rattle.std.specs.Prelude.{◌≡◌, ℕ, Bool, Option, None, Some, IsTrue, List, [], ◌∷◌, ◌++◌, ◌⊎◌, take, codes}
 use Rattle.tdb_disk.specs.Count.{Rose}
 use Rattle.tdb_disk.specs.History.{History, seen}
 use Rattle.tdb_dump.specs.Line.{data_line}
 use Rattle.tdb_space.specs.Form.{form_of}
-use Rattle.tdb_top.specs.CommandLine.{Line, show, IsLine, HasNoLine}
+use Rattle.tdb_top.specs.CommandLine.{show, IsLine, HasNoLine}
 use Rattle.tdb_top.specs.Walk.{FindsValue, FindsNone, IsUsable, WalkFault}
 
 -- how a run ends

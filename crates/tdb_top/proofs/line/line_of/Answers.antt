@@ -1,4 +1,4 @@
-use Rattle.std.proofs.Common.{rules, ◌≡◌, List, ℕ, map, string_bytes, [], ◌∷◌, Err, refl, sym, ap, ◌∙◌, subst, arith}
+use Rattle.std.proofs.Common.{rules, ◌≡◌, map, string_bytes, [], ◌∷◌, Err, sym, ap, ◌∙◌, subst, arith}
 use Rattle.tdb_dump.specs.Word.{IsWord}
 use Rattle.tdb_top.specs.CommandLine.{IsPosition}
 use Rattle.tdb_top.specs.declared.line.LineRefusal.TheVariants.{NoLine}

@@ -1,5 +1,4 @@
-use Rattle.std.proofs.Common.{◌≡◌, ap, sym, ◌∙◌, take, arith}
-use Rattle.std.specs.Prelude.{IsTrue}
+use Rattle.std.proofs.Common.{ap, ◌∙◌, take, arith}
 use Rattle.tdb_disk.specs.History.{seen}
 use Rattle.tdb_words.proofs.SomeChain.{header_some}
 use Rattle.tdb_top.proofs.Usable.{header_said, usable_from, usable_no_area, usable_reaches, usable_no_fault}
