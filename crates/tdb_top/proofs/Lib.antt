@@ -2,3 +2,4 @@ pub mod Lines
 pub mod Usable
 pub mod Pieces
 pub mod Paths
+pub mod AtEnd

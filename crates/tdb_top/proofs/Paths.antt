@@ -1,6 +1,6 @@
 -- Paths of a walk: one more step, and that a path longer than the image has words came to some place twice.
-use Rattle.std.proofs.Common.{◌≡◌, ℕ, suc, ◌+◌, ◌*◌, ◌<◌, ◌⊎◌, List, [], ◌∷◌, ◌++◌, length, length-append, eqb, false, refl, sym, ◌∙◌, ap, subst, inl, inr, arith}
-use Rattle.std.specs.Prelude.{◌/◌, Contains}
+use Rattle.std.proofs.Common.{◌≡◌, ℕ, suc, ◌+◌, ◌*◌, ◌<◌, ◌⊎◌, List, [], ◌∷◌, ◌++◌, length, length-append, eqb, Bool, true, false, refl, sym, ◌∙◌, ap, subst, inl, inr, arith}
+use Rattle.std.specs.Prelude.{◌/◌, ◌↔◌, IsTrue, Contains}
 use Rattle.std.specs.List.{IsDistinct, list_any}
 use Rattle.std.proofs.lemmas.Bool.{cases_Bool, false≢true}
 use Rattle.std.proofs.lemmas.List.Elements.{Contains-append_left, Contains-append_right}
@@ -8,12 +8,12 @@ use Rattle.std.proofs.lemmas.Map.Steps.{length-le_from_distinct_below}
 use Rattle.tdb_words.specs.declared.record.Rec.{Rec}
 use Rattle.tdb_words.specs.Record.{rec_at}
 use Rattle.tdb_space.specs.Form.{Form}
-use Rattle.tdb_space.specs.Record.{next_of}
+use Rattle.tdb_space.specs.Record.{next_of, data_at}
 use Rattle.tdb_space.specs.Chain.{Member}
 use Rattle.tdb_space.proofs.Walks.{member_cases, distinct_with}
-use Rattle.tdb_top.specs.Walk.{IsMet, HasKey, PathBy, FindsValue, FaultBy, first_of}
+use Rattle.tdb_top.specs.Walk.{IsMet, HasKey, LacksKey, PathBy, PathTo, FindsValue, HasValue, FaultBy, first_of}
 use Rattle.tdb_top.specs.declared.walk.Place.{Place}
-use Rattle.tdb_top.specs.Look.{WalkedBy, Walked, bytes_at}
+use Rattle.tdb_top.specs.Look.{WalkedBy, Walked, MetSoFar, bytes_at}
 
 -- the last of a list is an element of it
 contains_last : (xs : List ℕ) (x : ℕ) → Contains (xs ++ x ∷ []) x
@@ -118,3 +118,22 @@ module _ (Passes : ℕ → Type 0) (f : Form) (img : List ℕ) where
 pub walked_found : (f : Form) (img key : List ℕ) (at mark turns : ℕ) (r : Rec) (place : Place) → Walked f img key (first_of f img key) at mark turns → (at ≡ 0 → ⊥) → IsMet f img at → HasKey f img key at → r ≡ rec_at f.order img at → place ≡ record { at = at + 24 + r.key_len; len = r.data_len } → FindsValue f img key (bytes_at img place)
 walked_found f img key at mark turns r place w some met has said there =
     (w.met, at, w.path, some, met, has, ap (bytes_at img) (there ∙ ap (λ (x : Rec). record { at = at + 24 + x.key_len; len = x.data_len }) said))
+
+module _ (f : Form) (img key : List ℕ) (first at : ℕ) (begins : first ≡ first_of f img key) (some : at ≡ 0 → ⊥) (met : IsMet f img at) where
+  -- a walk that came to a record with the key met it
+  pub met_key : MetSoFar f img key first at false → HasKey f img key at → HasValue f img key
+  met_key (before, path) has = (data_at f.order img at, (before, at, subst (λ x. PathTo f img key x before at) begins path, some, met, has, refl))
+
+  -- one that came to another record goes on behind it
+  pub met_other : MetSoFar f img key first at false → LacksKey f img key at → MetSoFar f img key first (next_of f.order img at) false
+  met_other (before, path) other = (before ++ at ∷ [], path_more (LacksKey f img key) f img first at before path some met other)
+
+  -- so it is known behind the record whether the walk met the key
+  pub met_either : (has : Bool) → MetSoFar f img key first at false → (IsTrue has ↔ HasKey f img key at) → MetSoFar f img key first (next_of f.order img at) has
+  met_either true so_far tells = met_key so_far (tells.0 refl)
+  met_either false so_far tells = met_other so_far (λ has. false≢true (tells.1 has))
+
+-- a walk that met the key met it, wherever it goes on
+pub met_still : (f : Form) (img key : List ℕ) (first at next : ℕ) (has : Bool) → has ≡ true → MetSoFar f img key first at has → MetSoFar f img key first next has
+met_still f img key first at next true is so_far = so_far
+met_still f img key first at next false is so_far = absurd (false≢true is)

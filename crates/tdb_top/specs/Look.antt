@@ -1,5 +1,5 @@
 -- What a look at a disk says of its image, and what it leaves.
-use Rattle.std.specs.Prelude.{◌≡◌, ℕ, ◌+◌, ◌%◌, ◌≤◌, ◌⊎◌, Result, IfErr, Option, MatchOption, List, length, take, drop, Contains}
+use Rattle.std.specs.Prelude.{◌≡◌, ℕ, ◌+◌, ◌%◌, ◌≤◌, ◌⊎◌, Result, IfErr, Option, MatchOption, Bool, MatchBool, List, length, take, drop, Contains}
 use Rattle.tdb_disk.specs.Count.{Rose}
 use Rattle.tdb_words.specs.declared.record.TheConstants.{USED}
 use Rattle.tdb_words.specs.declared.record.Rec.{Rec}
@@ -10,7 +10,7 @@ use Rattle.tdb_top.specs.declared.halt.Halt.{Halt}
 use Rattle.tdb_top.specs.declared.halt.Halt.TheVariants.{Device}
 use Rattle.tdb_top.specs.declared.front.Front.{Front}
 use Rattle.tdb_top.specs.declared.walk.Place.{Place}
-use Rattle.tdb_top.specs.Walk.{IsUsable, LacksKey, PathBy, FindsValue, FindsNone}
+use Rattle.tdb_top.specs.Walk.{IsUsable, LacksKey, PathBy, PathTo, FindsValue, FindsNone, HasValue}
 
 -- the count of faults never falls, and rose where the disk is blamed
 pub record HaltsForCause {V : Type 0} (before now : ℕ) (answer : Result V Halt) : Type 0 where
@@ -48,6 +48,11 @@ pub record WalkedBy (Passes : ℕ → Type 0) (f : Form) (img : List ℕ) (first
 -- the same along records without the key
 abbrev pub Walked : Form → List ℕ → List ℕ → ℕ → ℕ → ℕ → ℕ → Type 0
 Walked f img key = WalkedBy (LacksKey f img key) f img
+
+-- A walk led to an offset: it came by a record with the key, or along records without it.
+abbrev pub MetSoFar : Form → List ℕ → List ℕ → ℕ → ℕ → Bool → Type 0
+MetSoFar f img key first at is_there =
+    MatchBool is_there (HasValue f img key) ((met : List ℕ) × PathTo f img key first met at)
 
 -- what a look-up answers: the value of the key, or that there is none
 abbrev pub Answers : List ℕ → List ℕ → Option (List ℕ) → Type 0

@@ -51,6 +51,10 @@ FindsValue f img key value =
     (met : List ℕ) × (at : ℕ) × PathTo f img key (first_of f img key) met at × (at ≢ 0) × IsMet f img at × HasKey f img key at
     × (value ≡ data_at f.order img at)
 
+-- the first record with the key on its chain has some value
+abbrev pub HasValue : Form → List ℕ → List ℕ → Type 0
+HasValue f img key = (value : List ℕ) × FindsValue f img key value
+
 -- the chain of the key ends, and no record of it has the key
 abbrev pub FindsNone : Form → List ℕ → List ℕ → Type 0
 FindsNone f img key = (met : List ℕ) × PathTo f img key (first_of f img key) met 0

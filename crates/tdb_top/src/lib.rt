@@ -3,6 +3,8 @@
 
 mod front;
 mod halt;
+mod insert;
 mod line;
+mod new_record;
 mod record;
 mod walk;
