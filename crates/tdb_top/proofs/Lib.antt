@@ -3,3 +3,4 @@ pub mod Usable
 pub mod Pieces
 pub mod Paths
 pub mod AtEnd
+pub mod Inserts
