@@ -1,4 +1,5 @@
 pub mod Image
+mod Publish
 pub mod ReadFront
 pub mod Runs
 pub mod SameNames

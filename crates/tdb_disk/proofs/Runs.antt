@@ -107,6 +107,16 @@ leaves_sync old new tried =
     leaves_tried old old new synced (Leaves old) (leaves_start old (Leaves old) (λ image left. left))
     (λ image is_seen. subst (Leaves old) (sym is_seen) (leaves_seen old)) tried
 
+-- one more sync, whatever it answered, adds nothing to what a stop may leave
+pub leaves_then_sync : (old mid new : History) (P : List ℕ → Type 0)
+    → LeavesOnly old mid P → Tried synced mid new → LeavesOnly old new P
+leaves_then_sync old mid new P so_far tried =
+    leaves_tried old mid new synced P so_far (λ image is_seen. subst P (sym is_seen) (leaves_seen_now old mid P so_far)) tried
+
+-- a run on a quiet disk begins with what a read gives
+pub leaves_quiet : (h : History) (P : List ℕ → Type 0) → Quiet h → P (seen h) → LeavesOnly h h P
+leaves_quiet h P quiet here = leaves_start h P (λ image left. subst P (sym (quiet image left)) here)
+
 -- a disk that begins is quiet
 pub quiet_began : (bytes : List ℕ) → Quiet (began bytes)
 quiet_began bytes = λ image left. left

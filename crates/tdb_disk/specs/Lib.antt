@@ -8,6 +8,7 @@ pub mod MemSink
 pub mod MemSource
 pub mod Names
 pub mod Picked
+pub mod Published
 pub mod Script
 pub mod Stop
 pub mod Tape

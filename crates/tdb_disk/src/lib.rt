@@ -3,6 +3,7 @@
 #![tactic(auto)]
 
 mod disk;
+pub mod example;
 mod files;
 mod fuse_disk;
 mod mem_disk;

@@ -236,14 +236,14 @@ Behind_elim (c ∷ cs) then text pairs h =
     (deeper.0, h.1 ∙ ap (λ t. c ∷ t) deeper.1, deeper.2)
 
 -- the text of a record behind its bracket, and what comes after it, grouped to the right
-tail_text : List ℕ → List ℕ → List ℕ → List ℕ → List ℕ → List ℕ
+unfoldable pub tail_text : List ℕ → List ℕ → List ℕ → List ℕ → List ℕ → List ℕ
 tail_text count letters size others rest = codes "\nkey(" ++ (count ++ 41 ∷ (codes " = \"" ++ (letters ++ (codes "\"\ndata(" ++ (size ++ 41 ∷ (codes " = \"" ++ (others ++ (codes "\"\n}" ++ 10 ∷ rest))))))))
 
 regroup_parts : (a l p c q ls n l2 s o e rest : List ℕ)
     → (a ++ (l ++ p ++ c ++ q ++ ls ++ n) ++ (l2 ++ p ++ s ++ q ++ o ++ n) ++ e) ++ rest ≡ a ++ (l ++ (p ++ (c ++ (q ++ (ls ++ (n ++ (l2 ++ (p ++ (s ++ (q ++ (o ++ (n ++ (e ++ rest)))))))))))))
 regroup_parts a l p c q ls n l2 s o e rest = simp append_assoc
 
-regroup : (count letters size others rest : List ℕ)
+pub regroup : (count letters size others rest : List ℕ)
     → (codes "{\n" ++ (codes "key" ++ codes "(" ++ count ++ codes ") = \"" ++ letters ++ codes "\"\n") ++ (codes "data" ++ codes "(" ++ size ++ codes ") = \"" ++ others ++ codes "\"\n") ++ codes "}\n") ++ rest ≡ 123 ∷ tail_text count letters size others rest
 unfolding tail_text
 regroup count letters size others rest = regroup_parts (codes "{\n") (codes "key") (codes "(") count (codes ") = \"") letters (codes "\"\n") (codes "data") size others (codes "}\n") rest

@@ -1,5 +1,5 @@
 -- A word has one reading at most, and one with a bad escape has none.
-use Rattle.std.proofs.Common.{◌≡◌, ◌≢◌, ℕ, ◌+◌, ◌*◌, Bool, true, false, List, [], ◌∷◌, ◌++◌, Some, ◌⊎◌, refl, sym, ap, ◌∙◌, append_assoc, inl, inr, subst, arith}
+use Rattle.std.proofs.Common.{◌≡◌, ◌≢◌, ℕ, ◌+◌, ◌*◌, ◌<◌, ◌≤◌, length, length-append, Bool, true, false, List, [], ◌∷◌, ◌++◌, Some, ◌⊎◌, refl, sym, ap, ◌∙◌, append_assoc, inl, inr, subst, arith}
 use Rattle.std.proofs.lemmas.Bool.{false≢true}
 use Rattle.tdb_dump.specs.Escape.{IsEscape, IsLetter, Letters, hex_value}
 use Rattle.tdb_dump.specs.Word.{stands_in_word, IsWord, BeginsBadly, IsBadEscapeAt}
@@ -102,3 +102,20 @@ quotes_no_slash front rest e bad =
 pub bad_escape_no_word : (word : List ℕ) (at : ℕ) (bytes : List ℕ) → IsBadEscapeAt word at → IsWord word bytes → ⊥
 bad_escape_no_word word at bytes bad (inl p) = quotes_no_slash bad.0 bad.1 (sym bad.3 ∙ p.0) bad.6
 bad_escape_no_word word at bytes bad (inr p) = bad_letters bad.0 bad.1 bad.2 bytes bad.5 bad.6 (subst (λ t. Letters stands_in_word t bytes) bad.3 p.1)
+
+-- a reading is no longer than its text
+pub letters_short : (text bytes : List ℕ) → Letters stands_in_word text bytes → length bytes ≤ length text
+letters_short text [] p = omega arith
+letters_short text (b ∷ bytes) p =
+    let rest = letters_short p.1 bytes p.4 in
+    let some : 0 < length p.0 = letter_length p.0 b p.3 in
+    omega (arith, rest, some, ap length p.2, length-append p.0 p.1)
+  where
+    letter_length : (front : List ℕ) (c : ℕ) → IsLetter stands_in_word front c → 0 < length front
+    letter_length front c (inl l) = omega (arith, ap length l.0)
+    letter_length front c (inr l) = omega (arith, ap length l.4)
+
+-- a word's bytes are no more than its own
+pub word_short : (word bytes : List ℕ) → IsWord word bytes → length bytes ≤ length word
+word_short word bytes (inl p) = omega (arith, ap length p.1)
+word_short word bytes (inr p) = letters_short word bytes p.1

@@ -1,7 +1,11 @@
+pub mod BadAt
 pub mod DumpText
 pub mod Escape
 pub mod Expected
+pub mod Laws
 pub mod Line
 pub mod Partial
+pub mod Reading
 pub mod Spelled
+pub mod Taken
 pub mod Word

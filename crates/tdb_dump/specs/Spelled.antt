@@ -1,5 +1,7 @@
 -- The grammar of dump text, apart from the writer and from the reader.
-use Rattle.std.specs.Prelude.{◌≡◌, ℕ, ◌+◌, ◌^◌, ◌<◌, ◌≤◌, List, [], ◌∷◌, ◌++◌, length, take, codes, decimal, ◌⊎◌}
+use Rattle.std.specs.Prelude.{◌≡◌, ℕ, ◌^◌, ◌<◌, Bool, List, [], ◌∷◌, ◌++◌, length, map, codes, decimal}
+use Rattle.std.specs.List.{IsDistinct, list_any}
+use Rattle.std.specs.Str.{bytes_eq}
 use Rattle.tdb_dump.specs.declared.pairs.Pair.{Pair}
 use Rattle.tdb_dump.specs.Escape.{is_plain, Letters}
 
@@ -22,3 +24,16 @@ pub record IsRecord (text : List ℕ) (pair : Pair) : Type 0 where
 abbrev pub Spelled : List ℕ → List Pair → Type 0
 Spelled text [] = text ≡ []
 Spelled text (pair ∷ pairs) = (front : List ℕ) × (rest : List ℕ) × (text ≡ front ++ rest) × IsRecord front pair × Spelled rest pairs
+
+-- the keys, in order
+abbrev pub keys_of : List Pair → List (List ℕ)
+keys_of pairs = map (λ p. p.key) pairs
+
+-- whether some pair has the key
+abbrev pub has_key : List Pair → List ℕ → Bool
+has_key pairs key = list_any (bytes_eq key) (keys_of pairs)
+
+-- dump text: it spells the pairs, and no key stands in two of them
+pub record Dump (text : List ℕ) (pairs : List Pair) : Type 0 where
+  pub spelled : Spelled text pairs
+  pub distinct : IsDistinct bytes_eq (keys_of pairs)

@@ -2,14 +2,18 @@
 #![tactic(auto)]
 
 mod escapes;
+mod laws;
 mod lines;
 mod partial;
+mod reader;
 mod pairs;
 mod words;
 mod writer;
 
 pub use crate::escapes::escape;
+pub use crate::laws::{spelling_law, word_law};
 pub use crate::lines::{data_line, key_line};
 pub use crate::pairs::{Pair, Pairs};
+pub use crate::reader::{ReadRefusal, Reader};
 pub use crate::words::{WordRefusal, word_bytes_of};
 pub use crate::writer::{WriteRefusal, write_pair};

@@ -30,7 +30,7 @@ ahead_start f img k h =
       chain = h.chains (home f k) low;
       filed = h.filed (home f k) low;
       same = map_home f img k h;
-      count = omega (arith, linked_short f IsChained img (word f.order img (chain_head (home f k))) (chain_of f img (home f k)) (h.chains (home f k) low))
+      count = omega (arith, linked_short f IsChained img (word f.order img (chain_head (home f k))) (chain_of f img (home f k)) (h.chains (home f k) low));
     }
 
 -- what is ahead where the offset isn't 0: a record of the chain, filed if it is used; and fewer records were passed than the image has words
@@ -47,7 +47,7 @@ ahead_record f img k passed at h some = from_left h.left h.chain h.filed h.count
     from_left (x ∷ xs) p filed count = record {
       link = subst (IsLink f img) (sym p.0) (p.1, p.2);
       filed = subst (λ y. magic_of f.order img y ≡ USED → Filed f img (home f k) y) (sym p.0) filed.0;
-      room = omega arith
+      room = omega arith;
     }
 
 -- a record that isn't used or has another key is passed
@@ -61,7 +61,7 @@ ahead_more f img k passed at h some lacks = from_left h.left h.chain h.filed h.s
       chain = subst (λ y. Chain f img (word f.order img y) xs) (sym p.0) p.3;
       filed = filed.1;
       same = same ∙ lookup_passed f.order img k x xs (subst (λ y. magic_of f.order img y ≡ USED → key_at f.order img y ≡ k → ⊥) p.0 lacks);
-      count = omega arith
+      count = omega arith;
     }
 
 -- a used record with the key holds the answer

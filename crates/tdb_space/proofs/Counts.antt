@@ -14,12 +14,12 @@ pub data Lies (e : Extent) (i : ℕ) : Type 0 where
 pub where_is : (e : Extent) (i : ℕ) → Lies e i
 where_is e i =
     elim (cases_lt i e.0) [
-      inl low ↦ below low (rw (lt-leb e.0 i low) refl)
-    | inr high ↦
-        elim (cases_lt i (e.0 + e.1)) [
-          inl within ↦ lies high within (rw (le-leb e.0 i high) (rw (lt-ltb i (e.0 + e.1) within) refl))
-        | inr past ↦ above past (rw (le-leb e.0 i high) (rw (le-ltb i (e.0 + e.1) past) refl))
-        ]
+      | inl low ↦ below low (rw (lt-leb e.0 i low) refl)
+      | inr high ↦
+          elim (cases_lt i (e.0 + e.1)) [
+            | inl within ↦ lies high within (rw (le-leb e.0 i high) (rw (lt-ltb i (e.0 + e.1) within) refl))
+            | inr past ↦ above past (rw (le-leb e.0 i high) (rw (le-ltb i (e.0 + e.1) past) refl))
+          ]
     ]
 
 -- a byte of an extent is held once by it
@@ -41,14 +41,14 @@ times-append (e ∷ es) ys i = omega (arith, times-append es ys i)
 pub once_joined : (at m n i : ℕ) → once (at, m + n) i ≡ once (at, m) i + once (at + m, n) i
 once_joined at m n i =
     elim (where_is (at, m) i) [
-      lies high low one ↦ omega (arith, one, once_in (at, m + n) i high (omega arith), once_out (at + m, n) i (inl (omega arith)))
-    | below low none ↦ omega (arith, none, once_out (at, m + n) i (inl low), once_out (at + m, n) i (inl (omega arith)))
-    | above past none ↦
-        elim (where_is (at + m, n) i) [
-          lies high low one ↦ omega (arith, none, one, once_in (at, m + n) i (omega arith) (omega arith))
-        | below low _ ↦ absurd (omega arith)
-        | above far none_there ↦ omega (arith, none, none_there, once_out (at, m + n) i (inr (omega arith)))
-        ]
+      | lies high low one ↦ omega (arith, one, once_in (at, m + n) i high (omega arith), once_out (at + m, n) i (inl (omega arith)))
+      | below low none ↦ omega (arith, none, once_out (at, m + n) i (inl low), once_out (at + m, n) i (inl (omega arith)))
+      | above past none ↦
+          elim (where_is (at + m, n) i) [
+            | lies high low one ↦ omega (arith, none, one, once_in (at, m + n) i (omega arith) (omega arith))
+            | below low _ ↦ absurd (omega arith)
+            | above far none_there ↦ omega (arith, none, none_there, once_out (at, m + n) i (inr (omega arith)))
+          ]
     ]
 
 -- joined lists that are the same, place by place
@@ -63,15 +63,15 @@ times_swapped F G j i (suc n) low same =
     let left = times-append (joined n F) (F n) i in
     let right = times-append (joined n G) (G n) i in
     elim (cases_eq n j) [
-      inl e ↦
-        let front : times (joined n F) i ≡ times (joined n G) i = ap (λ es. times es i) (joined_same n F G (λ k below. same k (omega arith) (λ there. absurd (omega (arith, there, e))))) in
-        let here_F : times (F n) i ≡ times (F j) i = ap (λ k. times (F k) i) e in
-        let here_G : times (G n) i ≡ times (G j) i = ap (λ k. times (G k) i) e in
-        omega (arith, left, right, front, here_F, here_G)
-    | inr ne ↦
-        let front = times_swapped F G j i n (omega (arith, ne, low)) (λ k below apart. same k (omega arith) apart) in
-        let here : times (F n) i ≡ times (G n) i = ap (λ es. times es i) (same n (omega arith) ne) in
-        omega (arith, left, right, front, here)
+      | inl e ↦
+          let front : times (joined n F) i ≡ times (joined n G) i = ap (λ es. times es i) (joined_same n F G (λ k below. same k (omega arith) (λ there. absurd (omega (arith, there, e))))) in
+          let here_F : times (F n) i ≡ times (F j) i = ap (λ k. times (F k) i) e in
+          let here_G : times (G n) i ≡ times (G j) i = ap (λ k. times (G k) i) e in
+          omega (arith, left, right, front, here_F, here_G)
+      | inr ne ↦
+          let front = times_swapped F G j i n (omega (arith, ne, low)) (λ k below apart. same k (omega arith) apart) in
+          let here : times (F n) i ≡ times (G n) i = ap (λ es. times es i) (same n (omega arith) ne) in
+          omega (arith, left, right, front, here)
     ]
 
 -- one list holds a byte no more often than all
@@ -80,8 +80,8 @@ times_member F j i zero low = absurd (omega arith)
 times_member F j i (suc n) low =
     let all = times-append (joined n F) (F n) i in
     elim (cases_eq j n) [
-      inl e ↦ let here : times (F j) i ≡ times (F n) i = ap (λ k. times (F k) i) e in omega (arith, all, here)
-    | inr ne ↦ omega (arith, all, times_member F j i n (omega (arith, ne, low)))
+      | inl e ↦ let here : times (F j) i ≡ times (F n) i = ap (λ k. times (F k) i) e in omega (arith, all, here)
+      | inr ne ↦ omega (arith, all, times_member F j i n (omega (arith, ne, low)))
     ]
 
 -- nor do two lists together
@@ -90,12 +90,12 @@ times_two F j k i zero low_j low_k apart = absurd (omega arith)
 times_two F j k i (suc n) low_j low_k apart =
     let all = times-append (joined n F) (F n) i in
     elim (cases_eq j n) [
-      inl e ↦ let here : times (F j) i ≡ times (F n) i = ap (λ l. times (F l) i) e in omega (arith, all, here, times_member F k i n (omega (arith, apart, e, low_k)))
-    | inr ne ↦
-        elim (cases_eq k n) [
-          inl e ↦ let here : times (F k) i ≡ times (F n) i = ap (λ l. times (F l) i) e in omega (arith, all, here, times_member F j i n (omega (arith, ne, low_j)))
-        | inr other ↦ omega (arith, all, times_two F j k i n (omega (arith, ne, low_j)) (omega (arith, other, low_k)) apart)
-        ]
+      | inl e ↦ let here : times (F j) i ≡ times (F n) i = ap (λ l. times (F l) i) e in omega (arith, all, here, times_member F k i n (omega (arith, apart, e, low_k)))
+      | inr ne ↦
+          elim (cases_eq k n) [
+            | inl e ↦ let here : times (F k) i ≡ times (F n) i = ap (λ l. times (F l) i) e in omega (arith, all, here, times_member F j i n (omega (arith, ne, low_j)))
+            | inr other ↦ omega (arith, all, times_two F j k i n (omega (arith, ne, low_j)) (omega (arith, other, low_k)) apart)
+          ]
     ]
 
 -- the count of all extents is that of the chains, of the free list, of the undo area and of the hands
@@ -106,5 +106,5 @@ times_all f img chain free hands i =
       arith,
       times-append (chains ++ extents f.order img free ++ area f.order img) (hand_extents hands) i,
       times-append (chains ++ extents f.order img free) (area f.order img) i,
-      times-append chains (extents f.order img free) i
+      times-append chains (extents f.order img free) i,
     )

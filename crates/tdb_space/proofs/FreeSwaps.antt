@@ -1,7 +1,7 @@
 -- The free list's records and the hands are exchanged for others: the image stays accepted, and its pairs are as before.
 use Rattle.std.proofs.Common.{◌≡◌, ℕ, ◌+◌, ◌<◌, ◌≤◌, ◌⊎◌, List, length, sym, ◌∙◌, ap, subst, inl, inr, arith}
 use Rattle.std.specs.Prelude.{slice_index, ◌%◌, map}
-use Rattle.std.specs.Map.{lookup}
+use Rattle.std.specs.Map.{lookup, keys_of}
 use Rattle.std.specs.List.{IsDistinct}
 use Rattle.tdb_words.specs.Word.{word}
 use Rattle.tdb_words.proofs.Words.{word_agrees}
@@ -55,7 +55,7 @@ module _ (f : Form) (a b : List ℕ) (ys : List ℕ) (hands news : List HandPair
   counts : (i : ℕ) → times (all_extents f b (chain_of f a) ys news) i ≡ times (all_extents f a (chain_of f a) (free_of f a) hands) i
   counts i =
       let chains : times (joined f.chains (λ k. extents f.order b (chain_of f a k))) i ≡ times (joined f.chains (λ k. extents f.order a (chain_of f a k))) i =
-          ap (λ es. times es i) (joined_same f.chains (λ k. extents f.order b (chain_of f a k)) (λ k. extents f.order a (chain_of f a k)) (λ k low. extents_kept f a b (chain_of f a k) (bodies_still f a b (chain_of f a k) (chain_still k low)))) in
+      ap (λ es. times es i) (joined_same f.chains (λ k. extents f.order b (chain_of f a k)) (λ k. extents f.order a (chain_of f a k)) (λ k low. extents_kept f a b (chain_of f a k) (bodies_still f a b (chain_of f a k) (chain_still k low)))) in
       let undos : times (area f.order b) i ≡ times (area f.order a) i = ap (λ es. times es i) undo.0 in
       omega (arith, chains, undos, parts i, times_all f b (chain_of f a) ys news i, E.count i)
 
@@ -71,13 +71,13 @@ module _ (f : Form) (a b : List ℕ) (ys : List ℕ) (hands news : List HandPair
     chains = chain_linked;
     frees = E.linked;
     filed = λ k low. filed_all_kept f IsChained a b k (word f.order a (chain_head k)) (chain_of f a k) longer (A.chains k low) (bodies_still f a b (chain_of f a k) (chain_still k low)) (A.filed k low);
-    keys = λ k low. subst (λ ps. IsDistinct same_key (map (λ (p : List ℕ × List ℕ). p.0) ps)) (sym (chain_pairs k low)) (A.keys k low);
+    keys = λ k low. subst (λ ps. IsDistinct same_key (keys_of ps)) (sym (chain_pairs k low)) (A.keys k low);
     held = hands_kept f a b news longer E.held;
     apart = λ i. omega (arith, counts i, A.apart i);
     stray = λ i above below none.
-      (let nothing : times (all_extents f a (chain_of f a) (free_of f a) hands) i ≡ 0 = sym (counts i) ∙ none in
-       let same : slice_index b i ≡ slice_index a i = E.high i above (omega (arith, nothing, parts i)) in
-       elim (A.stray i above (omega (arith, below, E.size)) nothing) [ inl zero_there ↦ inl (same ∙ zero_there) | inr padding ↦ inr (same ∙ padding) ])
+        (let nothing : times (all_extents f a (chain_of f a) (free_of f a) hands) i ≡ 0 = sym (counts i) ∙ none in
+        let same : slice_index b i ≡ slice_index a i = E.high i above (omega (arith, nothing, parts i)) in
+        elim (A.stray i above (omega (arith, below, E.size)) nothing) [ inl zero_there ↦ inl (same ∙ zero_there) | inr padding ↦ inr (same ∙ padding) ]);
   }
 
   -- the image is accepted with the new hands

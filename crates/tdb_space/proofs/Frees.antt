@@ -15,7 +15,7 @@ use Rattle.tdb_space.proofs.Trades.{FreeIs, free_taken, free_given, free_cut, fr
 pub free_is : (f : Form) (a : List ℕ) (hands : List HandPair) → AcceptWith f a hands → FreeIs f a (free_of f a)
 free_is f a hands A = record {
   list = A.frees;
-  once_held = λ i. omega (arith, A.apart i, times_all f a (chain_of f a) (free_of f a) hands i)
+  once_held = λ i. omega (arith, A.apart i, times_all f a (chain_of f a) (free_of f a) hands i);
 }
 
 pub free_apart : (f : Form) (a : List ℕ) (h : HandPair) (hs : List HandPair) → AcceptWith f a (h ∷ hs) → (i : ℕ) → times (extents f.order a (free_of f a)) i + once (h.0, 24 + h.1) i ≤ 1

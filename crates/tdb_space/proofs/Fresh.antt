@@ -53,8 +53,9 @@ module _ (f : Form) (img : List ℕ) (ok : HeaderOk img) (form : form_of img ≡
     keys = λ j low. no_keys;
     held = tt;
     apart = λ i. omega (arith, nothing_held i);
-    stray = λ i from to none. absurd (omega (arith, from, to, size))
+    stray = λ i from to none. absurd (omega (arith, from, to, size));
   }
+
   pub fresh_accepted : AcceptWith f img []
   fresh_accepted = accepted f img (λ _. []) [] [] laid
 

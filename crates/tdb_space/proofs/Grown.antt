@@ -2,7 +2,7 @@
 -- that is how a key is added at the end of a file.
 use Rattle.std.proofs.Common.{◌≡◌, ℕ, zero, suc, ◌+◌, ◌<◌, ◌≤◌, List, ◌∷◌, length, cond, Some, None, sym, ◌∙◌, ap, subst, inl, inr, arith}
 use Rattle.std.specs.Prelude.{slice_index, map}
-use Rattle.std.specs.Map.{lookup, update}
+use Rattle.std.specs.Map.{lookup, update, keys_of}
 use Rattle.std.specs.List.{IsDistinct}
 use Rattle.std.proofs.lemmas.Bool.{cases_lt, cases_eq, eq-eqb, ne_eqb}
 use Rattle.tdb_words.specs.Word.{word}
@@ -28,20 +28,20 @@ joined_within : (F : ℕ → List Extent) (n i end : ℕ) → ((j : ℕ) → j <
 joined_within F zero i end each some = absurd (omega (arith, some))
 joined_within F (suc n) i end each some =
     elim (cases_lt 0 (times (F n) i)) [
-      inl here ↦ each n (omega arith) (omega (arith, here))
-    | inr elsewhere ↦ joined_within F n i end (λ j low. each j (omega arith)) (omega (arith, some, elsewhere, times-append (joined n F) (F n) i))
+      | inl here ↦ each n (omega arith) (omega (arith, here))
+      | inr elsewhere ↦ joined_within F n i end (λ j low. each j (omega arith)) (omega (arith, some, elsewhere, times-append (joined n F) (F n) i))
     ]
 
 -- a byte of the undo area stands within the image
 area_end : (f : Form) (a : List ℕ) (i : ℕ) → AreaOk f a → 1 ≤ times (area f.order a) i → i < length a
 area_end f a i ok held =
     elim (cases_eq (word f.order a 44) 0) [
-      inl none ↦ absurd (omega (arith, rw (eq-eqb (word f.order a 44) 0 none) at held))
-    | inr some ↦
-        let x = word f.order a 44 in
-        let held_once : 1 ≤ once (extent_at f.order a x) i + 0 = rw (ne_eqb (word f.order a 44) 0 some) at held in
-        let there = once_lies (extent_at f.order a x) i (omega (arith, held_once)) in
-        elim ok [ inl none ↦ absurd (some none) | inr place ↦ omega (arith, there.1, place.within) ]
+      | inl none ↦ absurd (omega (arith, rw (eq-eqb (word f.order a 44) 0 none) at held))
+      | inr some ↦
+          let x = word f.order a 44 in
+          let held_once : 1 ≤ once (extent_at f.order a x) i + 0 = rw (ne_eqb (word f.order a 44) 0 some) at held in
+          let there = once_lies (extent_at f.order a x) i (omega (arith, held_once)) in
+          elim ok [ inl none ↦ absurd (some none) | inr place ↦ omega (arith, there.1, place.within) ]
     ]
 
 -- a byte that anything holds stands within the image
@@ -49,16 +49,16 @@ pub all_within : (f : Form) (a : List ℕ) (hands : List HandPair) (i : ℕ) →
 all_within f a hands i A some =
     let parts = times_all f a (chain_of f a) (free_of f a) hands i in
     elim (cases_lt 0 (times (joined f.chains (λ j. extents f.order a (chain_of f a j))) i)) [
-      inl chained ↦ joined_within (λ j. extents f.order a (chain_of f a j)) f.chains i (length a) (λ j low held. (times_within f IsChained a (word f.order a (chain_head j)) (chain_of f a j) i (A.chains j low) held).1) (omega (arith, chained))
-    | inr no_chain ↦
-        elim (cases_lt 0 (times (extents f.order a (free_of f a)) i)) [
-          inl listed ↦ (times_within f IsFree a (word f.order a free_head) (free_of f a) i A.frees (omega (arith, listed))).1
-        | inr no_free ↦
-            elim (cases_lt 0 (times (area f.order a) i)) [
-              inl undo ↦ area_end f a i A.area_ok (omega (arith, undo))
-            | inr no_undo ↦ (hands_within f a hands i A.held (omega (arith, some, parts, no_chain, no_free, no_undo))).1
-            ]
-        ]
+      | inl chained ↦ joined_within (λ j. extents f.order a (chain_of f a j)) f.chains i (length a) (λ j low held. (times_within f IsChained a (word f.order a (chain_head j)) (chain_of f a j) i (A.chains j low) held).1) (omega (arith, chained))
+      | inr no_chain ↦
+          elim (cases_lt 0 (times (extents f.order a (free_of f a)) i)) [
+            | inl listed ↦ (times_within f IsFree a (word f.order a free_head) (free_of f a) i A.frees (omega (arith, listed))).1
+            | inr no_free ↦
+                elim (cases_lt 0 (times (area f.order a) i)) [
+                  | inl undo ↦ area_end f a i A.area_ok (omega (arith, undo))
+                  | inr no_undo ↦ (hands_within f a hands i A.held (omega (arith, some, parts, no_chain, no_free, no_undo))).1
+                ]
+          ]
     ]
 
 module _ (f : Form) (a b : List ℕ) (n : ℕ) (hands : List HandPair) (A : AcceptWith f a hands) (G : GrownBy f a b n) where
@@ -87,7 +87,7 @@ module _ (f : Form) (a b : List ℕ) (n : ℕ) (hands : List HandPair) (A : Acce
   counts : (i : ℕ) → times (all_extents f b (chain_of f a) (free_of f a) ((length a, n) ∷ hands)) i ≡ times (all_extents f a (chain_of f a) (free_of f a) hands) i + once (length a, 24 + n) i
   counts i =
       let chains : times (joined f.chains (λ k. extents f.order b (chain_of f a k))) i ≡ times (joined f.chains (λ k. extents f.order a (chain_of f a k))) i =
-          ap (λ es. times es i) (joined_same f.chains (λ k. extents f.order b (chain_of f a k)) (λ k. extents f.order a (chain_of f a k)) (λ k low. extents_kept f a b (chain_of f a k) (bodies_still f a b (chain_of f a k) (chain_still k low)))) in
+      ap (λ es. times es i) (joined_same f.chains (λ k. extents f.order b (chain_of f a k)) (λ k. extents f.order a (chain_of f a k)) (λ k low. extents_kept f a b (chain_of f a k) (bodies_still f a b (chain_of f a k) (chain_still k low)))) in
       let frees : times (extents f.order b (free_of f a)) i ≡ times (extents f.order a (free_of f a)) i = ap (λ es. times es i) (extents_kept f a b (free_of f a) (bodies_still f a b (free_of f a) free_still)) in
       let undos : times (area f.order b) i ≡ times (area f.order a) i = ap (λ es. times es i) undo.0 in
       omega (arith, chains, frees, undos, times_all f a (chain_of f a) (free_of f a) hands i, times_all f b (chain_of f a) (free_of f a) ((length a, n) ∷ hands) i)
@@ -102,27 +102,27 @@ module _ (f : Form) (a b : List ℕ) (n : ℕ) (hands : List HandPair) (A : Acce
     area_ok = undo.1;
     shut = undo.2;
     chains = λ k low. subst (λ at. Linked f IsChained b at (chain_of f a k)) (sym (old_word (chain_head k) (omega (arith, low, A.long))))
-      (linked_kept f IsChained a b (word f.order a (chain_head k)) (chain_of f a k) longer (A.chains k low) (bodies_still f a b (chain_of f a k) (chain_still k low)) (nexts_still f a b (chain_of f a k) (chain_still k low)));
+        (linked_kept f IsChained a b (word f.order a (chain_head k)) (chain_of f a k) longer (A.chains k low) (bodies_still f a b (chain_of f a k) (chain_still k low)) (nexts_still f a b (chain_of f a k) (chain_still k low)));
     frees = subst (λ at. Linked f IsFree b at (free_of f a)) (sym (old_word free_head (omega (arith, A.long))))
-      (linked_kept f IsFree a b (word f.order a free_head) (free_of f a) longer A.frees (bodies_still f a b (free_of f a) free_still) (nexts_still f a b (free_of f a) free_still));
+        (linked_kept f IsFree a b (word f.order a free_head) (free_of f a) longer A.frees (bodies_still f a b (free_of f a) free_still) (nexts_still f a b (free_of f a) free_still));
     filed = λ k low. filed_all_kept f IsChained a b k (word f.order a (chain_head k)) (chain_of f a k) longer (A.chains k low) (bodies_still f a b (chain_of f a k) (chain_still k low)) (A.filed k low);
-    keys = λ k low. subst (λ ps. IsDistinct same_key (map (λ (p : List ℕ × List ℕ). p.0) ps)) (sym (chain_pairs k low)) (A.keys k low);
+    keys = λ k low. subst (λ ps. IsDistinct same_key (keys_of ps)) (sym (chain_pairs k low)) (A.keys k low);
     held = (record { aligned = A.sized; len_aligned = G.aligned; above = A.long; within = omega (arith, G.size) }, hands_kept f a b hands longer A.held);
     apart = λ i.
-      elim (where_is (length a, 24 + n) i) [
-        lies from to one ↦
-          elim (cases_lt 0 (times (all_extents f a (chain_of f a) (free_of f a) hands) i)) [
-            inl some ↦ absurd (omega (arith, from, all_within f a hands i A (omega (arith, some))))
-          | inr none ↦ omega (arith, counts i, one, none)
-          ]
-      | below _ out ↦ omega (arith, counts i, out, A.apart i)
-      | above _ out ↦ omega (arith, counts i, out, A.apart i)
-      ];
+        elim (where_is (length a, 24 + n) i) [
+          | lies from to one ↦
+              elim (cases_lt 0 (times (all_extents f a (chain_of f a) (free_of f a) hands) i)) [
+                | inl some ↦ absurd (omega (arith, from, all_within f a hands i A (omega (arith, some))))
+                | inr none ↦ omega (arith, counts i, one, none)
+              ]
+          | below _ out ↦ omega (arith, counts i, out, A.apart i)
+          | above _ out ↦ omega (arith, counts i, out, A.apart i)
+        ];
     stray = λ i from to none.
-      (let old : times (all_extents f a (chain_of f a) (free_of f a) hands) i ≡ 0 = omega (arith, none, counts i) in
-       let within : i < length a = elim (where_is (length a, 24 + n) i) [ lies _ _ one ↦ absurd (omega (arith, one, none, counts i)) | below under _ ↦ under | above over _ ↦ absurd (omega (arith, over, to, G.size)) ] in
-       let same : slice_index b i ≡ slice_index a i = G.others i within in
-       elim (A.stray i from within old) [ inl zero_there ↦ inl (same ∙ zero_there) | inr padding ↦ inr (same ∙ padding) ])
+        (let old : times (all_extents f a (chain_of f a) (free_of f a) hands) i ≡ 0 = omega (arith, none, counts i) in
+        let within : i < length a = elim (where_is (length a, 24 + n) i) [ lies _ _ one ↦ absurd (omega (arith, one, none, counts i)) | below under _ ↦ under | above over _ ↦ absurd (omega (arith, over, to, G.size)) ] in
+        let same : slice_index b i ≡ slice_index a i = G.others i within in
+        elim (A.stray i from within old) [ inl zero_there ↦ inl (same ∙ zero_there) | inr padding ↦ inr (same ∙ padding) ]);
   }
 
   -- the image is accepted with the new hand more

@@ -20,8 +20,8 @@ pub hands_within : (f : Form) (a : List ℕ) (hands : List HandPair) (i : ℕ) �
 hands_within f a [] i held some = absurd (omega (arith, some))
 hands_within f a (h ∷ hs) i held some =
     elim (cases_lt 0 (once (h.0, 24 + h.1) i)) [
-      inl here ↦ let lies = once_lies (h.0, 24 + h.1) i (omega (arith, here)) in (omega (arith, lies.0, held.0.above), omega (arith, lies.1, held.0.within))
-    | inr elsewhere ↦ hands_within f a hs i held.1 (omega (arith, some, elsewhere))
+      | inl here ↦ let lies = once_lies (h.0, 24 + h.1) i (omega (arith, here)) in (omega (arith, lies.0, held.0.above), omega (arith, lies.1, held.0.within))
+      | inr elsewhere ↦ hands_within f a hs i held.1 (omega (arith, some, elsewhere))
     ]
 
 -- so none holds a byte below the records
@@ -33,7 +33,7 @@ hands_above f a hands i held low =
 pub hands_for : (f : Form) (a : List ℕ) (hands news : List HandPair) → AcceptWith f a hands → AllHandOk f a news → ((i : ℕ) → times (hand_extents news) i ≡ times (hand_extents hands) i) → AcceptWith f a news
 hands_for f a hands news A held same =
     let counts : (i : ℕ) → times (all_extents f a (chain_of f a) (free_of f a) news) i ≡ times (all_extents f a (chain_of f a) (free_of f a) hands) i =
-        λ i. omega (arith, same i, times_all f a (chain_of f a) (free_of f a) news i, times_all f a (chain_of f a) (free_of f a) hands i) in
+    λ i. omega (arith, same i, times_all f a (chain_of f a) (free_of f a) news i, times_all f a (chain_of f a) (free_of f a) hands i) in
     record {
       header = A.header;
       form = A.form;
@@ -48,7 +48,7 @@ hands_for f a hands news A held same =
       keys = A.keys;
       held = held;
       apart = λ i. omega (arith, counts i, A.apart i);
-      stray = λ i above below none. A.stray i above below (sym (counts i) ∙ none)
+      stray = λ i above below none. A.stray i above below (sym (counts i) ∙ none);
     }
 
 -- two hands in the other order
@@ -63,29 +63,28 @@ join_hands f a at m n hs A =
     hands_for f a ((at, m) ∷ (at + 24 + m, n) ∷ hs) ((at, m + 24 + n) ∷ hs) A
     (record { aligned = first.aligned; len_aligned = omega (arith, first.len_aligned, second.len_aligned); above = first.above; within = omega (arith, second.within) }, A.held.1.1)
     (λ i.
-      (let split = once_joined at (24 + m) (24 + n) i in
-       let length_there : 24 + (m + 24 + n) ≡ 24 + m + (24 + n) = omega arith in
-       let place : at + 24 + m ≡ at + (24 + m) = omega arith in
-       let whole : once (at, 24 + (m + 24 + n)) i ≡ once (at, 24 + m + (24 + n)) i = ap (λ l. once (at, l) i) length_there in
-       let rest : once (at + 24 + m, 24 + n) i ≡ once (at + (24 + m), 24 + n) i = ap (λ p. once (p, 24 + n) i) place in
-       omega (arith, split, whole, rest)))
+    (let split = once_joined at (24 + m) (24 + n) i in
+    let length_there : 24 + (m + 24 + n) ≡ 24 + m + (24 + n) = omega arith in
+    let place : at + 24 + m ≡ at + (24 + m) = omega arith in
+    let whole : once (at, 24 + (m + 24 + n)) i ≡ once (at, 24 + m + (24 + n)) i = ap (λ l. once (at, l) i) length_there in
+    let rest : once (at + 24 + m, 24 + n) i ≡ once (at + (24 + m), 24 + n) i = ap (λ p. once (p, 24 + n) i) place in
+    omega (arith, split, whole, rest)))
 
 -- and one hand is two that meet
 pub cut_hand : (f : Form) (a : List ℕ) (at m n : ℕ) (hs : List HandPair) → m % 4 ≡ 0 → n % 4 ≡ 0 → AcceptWith f a ((at, m + 24 + n) ∷ hs) → AcceptWith f a ((at, m) ∷ (at + 24 + m, n) ∷ hs)
 cut_hand f a at m n hs aligned_m aligned_n A =
     let whole_hand = A.held.0 in
-    hands_for f a ((at, m + 24 + n) ∷ hs) ((at, m) ∷ (at + 24 + m, n) ∷ hs) A
-    (
+    hands_for f a ((at, m + 24 + n) ∷ hs) ((at, m) ∷ (at + 24 + m, n) ∷ hs) A (
       record { aligned = whole_hand.aligned; len_aligned = aligned_m; above = whole_hand.above; within = omega (arith, whole_hand.within) },
-      (record { aligned = omega (arith, whole_hand.aligned, aligned_m); len_aligned = aligned_n; above = omega (arith, whole_hand.above); within = omega (arith, whole_hand.within) }, A.held.1)
+      (record { aligned = omega (arith, whole_hand.aligned, aligned_m); len_aligned = aligned_n; above = omega (arith, whole_hand.above); within = omega (arith, whole_hand.within) }, A.held.1),
     )
     (λ i.
-      (let split = once_joined at (24 + m) (24 + n) i in
-       let length_there : 24 + (m + 24 + n) ≡ 24 + m + (24 + n) = omega arith in
-       let place : at + 24 + m ≡ at + (24 + m) = omega arith in
-       let whole : once (at, 24 + (m + 24 + n)) i ≡ once (at, 24 + m + (24 + n)) i = ap (λ l. once (at, l) i) length_there in
-       let rest : once (at + 24 + m, 24 + n) i ≡ once (at + (24 + m), 24 + n) i = ap (λ p. once (p, 24 + n) i) place in
-       omega (arith, split, whole, rest)))
+    (let split = once_joined at (24 + m) (24 + n) i in
+    let length_there : 24 + (m + 24 + n) ≡ 24 + m + (24 + n) = omega arith in
+    let place : at + 24 + m ≡ at + (24 + m) = omega arith in
+    let whole : once (at, 24 + (m + 24 + n)) i ≡ once (at, 24 + m + (24 + n)) i = ap (λ l. once (at, l) i) length_there in
+    let rest : once (at + 24 + m, 24 + n) i ≡ once (at + (24 + m), 24 + n) i = ap (λ p. once (p, 24 + n) i) place in
+    omega (arith, split, whole, rest)))
 
 -- what is written into hands leaves the free list, so it is an exchange of nothing
 pub write_exchanged : (f : Form) (a b : List ℕ) (hands : List HandPair) → AcceptWith f a hands → InHands f a b hands → FreeExchanged f a b (free_of f a) (free_of f a) hands hands
@@ -97,9 +96,9 @@ write_exchanged f a b hands A W =
       low = λ i below apart. W.others i (hands_above f a hands i A.held below);
       high = λ i above none. W.others i (omega (arith, none));
       linked = subst (λ at. Linked f IsFree b at (free_of f a)) (sym head)
-        (linked_kept f IsFree a b (word f.order a free_head) (free_of f a) (omega (arith, W.size)) A.frees (bodies_still f a b (free_of f a) still) (nexts_still f a b (free_of f a) still));
+          (linked_kept f IsFree a b (word f.order a free_head) (free_of f a) (omega (arith, W.size)) A.frees (bodies_still f a b (free_of f a) still) (nexts_still f a b (free_of f a) still));
       held = A.held;
-      count = λ i. ap (λ es. times es i + times (hand_extents hands) i) (extents_kept f a b (free_of f a) (bodies_still f a b (free_of f a) still))
+      count = λ i. ap (λ es. times es i + times (hand_extents hands) i) (extents_kept f a b (free_of f a) (bodies_still f a b (free_of f a) still));
     }
 
 -- a write into hands keeps an image accepted, and its order and its map

@@ -38,8 +38,8 @@ front_kept a b n long_a long_b same =
     let len_b : length (take n b) ≡ n = length-take-le n b long_b in
     let len_a : length (take n a) ≡ n = length-take-le n a long_a in
     same_lists (take n b) (take n a) (len_b ∙ sym len_a) (λ k d below.
-      (let low : k < n = omega (arith, below, len_b) in
-       get_or_default (take n b) k d 0 below ∙ get_or-take n b k 0 low ∙ same k low ∙ sym (get_or-take n a k 0 low) ∙ get_or_default (take n a) k 0 d (omega (arith, low, len_a))))
+    (let low : k < n = omega (arith, below, len_b) in
+    get_or_default (take n b) k d 0 below ∙ get_or-take n b k 0 low ∙ same k low ∙ sym (get_or-take n a k 0 low) ∙ get_or_default (take n a) k 0 d (omega (arith, low, len_a))))
 
 pub fault_kept : (a b : List ℕ) → 168 ≤ length a → 168 ≤ length b → SameHeader a b → header_fault b ≡ header_fault a
 unfolding header_fault
@@ -58,5 +58,5 @@ fault_kept a b long_a long_b same =
 pub header_kept : (a b : List ℕ) → 168 ≤ length b → SameHeader a b → HeaderOk a → HeaderOk b
 header_kept a b long same ok = record {
   long_enough = long;
-  no_fault = fault_kept a b ok.long_enough long same ∙ ok.no_fault
+  no_fault = fault_kept a b ok.long_enough long same ∙ ok.no_fault;
 }

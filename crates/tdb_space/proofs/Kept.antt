@@ -29,9 +29,9 @@ part_kept a b at n within longer same =
     let len_b : length (take n (drop at b)) ≡ n = length-take-le n (drop at b) (omega (arith, length-drop at b)) in
     let len_a : length (take n (drop at a)) ≡ n = length-take-le n (drop at a) (omega (arith, length-drop at a)) in
     same_lists (take n (drop at b)) (take n (drop at a)) (len_b ∙ sym len_a) (λ k d below.
-      (let low : k < n = omega (arith, below, len_b) in
-       get_or_default (take n (drop at b)) k d 0 below ∙ get_or-take n (drop at b) k 0 low ∙ get_or-drop at b k 0 ∙ same (at + k) (omega arith) (omega arith)
-       ∙ sym (get_or-drop at a k 0) ∙ sym (get_or-take n (drop at a) k 0 low) ∙ get_or_default (take n (drop at a)) k 0 d (omega (arith, low, len_a))))
+    (let low : k < n = omega (arith, below, len_b) in
+    get_or_default (take n (drop at b)) k d 0 below ∙ get_or-take n (drop at b) k 0 low ∙ get_or-drop at b k 0 ∙ same (at + k) (omega arith) (omega arith)
+    ∙ sym (get_or-drop at a k 0) ∙ sym (get_or-take n (drop at a) k 0 low) ∙ get_or_default (take n (drop at a)) k 0 d (omega (arith, low, len_a))))
 
 -- all of the record at an offset stays, but for its next word perhaps
 abbrev pub Body : List ℕ → List ℕ → Form → ℕ → Type 0
@@ -65,7 +65,7 @@ words_kept f a b x body = record {
   key_len = word_kept f.order a b (x + 8) (x + 4) (x + 24 + rec_len_of f.order a x) body (omega arith) (omega arith);
   data_len = word_kept f.order a b (x + 12) (x + 4) (x + 24 + rec_len_of f.order a x) body (omega arith) (omega arith);
   full_hash = word_kept f.order a b (x + 16) (x + 4) (x + 24 + rec_len_of f.order a x) body (omega arith) (omega arith);
-  magic = word_kept f.order a b (x + 20) (x + 4) (x + 24 + rec_len_of f.order a x) body (omega arith) (omega arith)
+  magic = word_kept f.order a b (x + 20) (x + 4) (x + 24 + rec_len_of f.order a x) body (omega arith) (omega arith);
 }
 
 -- the record stands whole as before
@@ -80,7 +80,7 @@ whole_kept f a b x longer whole body =
       len_aligned = ap (λ n. n % 4) len ∙ whole.len_aligned;
       len_least = omega (arith, len, whole.len_least);
       within = omega (arith, len, whole.within);
-      tailer = ap (λ n. word f.order b (x + 20 + n)) len ∙ tail ∙ whole.tailer ∙ ap (λ n. 24 + n) (sym len)
+      tailer = ap (λ n. word f.order b (x + 20 + n)) len ∙ tail ∙ whole.tailer ∙ ap (λ n. 24 + n) (sym len);
     }
 
 -- its key and its value, where they fit
@@ -107,7 +107,7 @@ filed_kept f a b j x longer whole body filed =
     record {
       fits = omega (arith, rec_len, key_len, data_len, filed.fits);
       hashed = w.full_hash ∙ filed.hashed ∙ ap (h_of f.hash) (sym (key_kept f a b x longer whole filed.fits body));
-      placed = ap (λ h. h % f.chains) w.full_hash ∙ filed.placed
+      placed = ap (λ h. h % f.chains) w.full_hash ∙ filed.placed;
     }
 
 -- its pair, where it fits if it is used
@@ -115,10 +115,10 @@ pub pair_kept : (f : Form) (a b : List ℕ) (x : ℕ) → length a ≤ length b 
 pair_kept f a b x longer whole body fits =
     let magic : magic_of f.order b x ≡ magic_of f.order a x = (words_kept f a b x body).magic in
     elim (cases_eq (magic_of f.order a x) USED) [
-      inl used ↦
-        rw (eq-eqb (magic_of f.order b x) USED (magic ∙ used)) (rw (eq-eqb (magic_of f.order a x) USED used)
+      | inl used ↦
+          rw (eq-eqb (magic_of f.order b x) USED (magic ∙ used)) (rw (eq-eqb (magic_of f.order a x) USED used)
           (λ i. (key_kept f a b x longer whole (fits used) body i, data_kept f a b x longer whole (fits used) body i) ∷ []))
-    | inr other ↦ rw (ne_eqb (magic_of f.order b x) USED (λ e. other (sym magic ∙ e))) (rw (ne_eqb (magic_of f.order a x) USED other) refl)
+      | inr other ↦ rw (ne_eqb (magic_of f.order b x) USED (λ e. other (sym magic ∙ e))) (rw (ne_eqb (magic_of f.order a x) USED other) refl)
     ]
 
 -- a list of records that stay has the same extents, the same pairs, and is filed and linked as before
@@ -132,8 +132,8 @@ extents_kept f a b (x ∷ xs) bodies =
 pub filed_all_kept : (f : Form) (M : ℕ → Type 0) (a b : List ℕ) (j at : ℕ) (xs : List ℕ) → length a ≤ length b → Linked f M a at xs → Bodies a b f xs → AllFiled f a j xs → AllFiled f b j xs
 filed_all_kept f M a b j at [] longer p bodies filed = tt
 filed_all_kept f M a b j at (x ∷ xs) longer p bodies filed = (
-    λ used. filed_kept f a b j x longer p.1 bodies.0 (filed.0 (sym (words_kept f a b x bodies.0).magic ∙ used)),
-    filed_all_kept f M a b j (word f.order a x) xs longer p.3 bodies.1 filed.1
+  λ used. filed_kept f a b j x longer p.1 bodies.0 (filed.0 (sym (words_kept f a b x bodies.0).magic ∙ used)),
+  filed_all_kept f M a b j (word f.order a x) xs longer p.3 bodies.1 filed.1,
 )
 
 pub pairs_kept : (f : Form) (M : ℕ → Type 0) (a b : List ℕ) (j at : ℕ) (xs : List ℕ) → length a ≤ length b → Linked f M a at xs → Bodies a b f xs → AllFiled f a j xs → pairs f.order b xs ≡ pairs f.order a xs
@@ -146,25 +146,25 @@ pairs_kept f M a b j at (x ∷ xs) longer p bodies filed =
 pub linked_kept : (f : Form) (M : ℕ → Type 0) (a b : List ℕ) (at : ℕ) (xs : List ℕ) → length a ≤ length b → Linked f M a at xs → Bodies a b f xs → Nexts a b f xs → Linked f M b at xs
 linked_kept f M a b at [] longer p bodies nexts = p
 linked_kept f M a b at (x ∷ xs) longer p bodies nexts = (
-    p.0,
-    whole_kept f a b x longer p.1 bodies.0,
-    subst M (sym (words_kept f a b x bodies.0).magic) p.2,
-    subst (λ y. Linked f M b y xs) (sym nexts.0) (linked_kept f M a b (word f.order a x) xs longer p.3 bodies.1 nexts.1)
+  p.0,
+  whole_kept f a b x longer p.1 bodies.0,
+  subst M (sym (words_kept f a b x bodies.0).magic) p.2,
+  subst (λ y. Linked f M b y xs) (sym nexts.0) (linked_kept f M a b (word f.order a x) xs longer p.3 bodies.1 nexts.1),
 )
 
 -- where each byte of a list's records stays, the records and what they lead to do
 pub bodies_still : (f : Form) (a b : List ℕ) (xs : List ℕ) → Still a b f xs → Bodies a b f xs
 bodies_still f a b [] still = tt
 bodies_still f a b (x ∷ xs) still = (
-    λ i low high. still i (omega (arith, once_in (extent_at f.order a x) i (omega arith) (omega arith))),
-    bodies_still f a b xs (λ i held. still i (omega (arith, held)))
+  λ i low high. still i (omega (arith, once_in (extent_at f.order a x) i (omega arith) (omega arith))),
+  bodies_still f a b xs (λ i held. still i (omega (arith, held))),
 )
 
 pub nexts_still : (f : Form) (a b : List ℕ) (xs : List ℕ) → Still a b f xs → Nexts a b f xs
 nexts_still f a b [] still = tt
 nexts_still f a b (x ∷ xs) still = (
-    word_agrees f.order b a x (λ i low high. still i (omega (arith, once_in (extent_at f.order a x) i low (omega arith)))),
-    nexts_still f a b xs (λ i held. still i (omega (arith, held)))
+  word_agrees f.order b a x (λ i low high. still i (omega (arith, once_in (extent_at f.order a x) i low (omega arith)))),
+  nexts_still f a b xs (λ i held. still i (omega (arith, held))),
 )
 
 -- a byte that records of a list hold stands behind the heads and within the image
@@ -172,8 +172,8 @@ pub times_within : (f : Form) (M : ℕ → Type 0) (a : List ℕ) (at : ℕ) (xs
 times_within f M a at [] i p held = absurd (omega (arith, held))
 times_within f M a at (x ∷ xs) i p held =
     elim (cases_lt 0 (once (extent_at f.order a x) i)) [
-      inl some ↦ let lies = once_lies (extent_at f.order a x) i (omega (arith, some)) in (omega (arith, lies.0, p.1.above), omega (arith, lies.1, p.1.within))
-    | inr none ↦ times_within f M a (word f.order a x) xs i p.3 (omega (arith, held, none))
+      | inl some ↦ let lies = once_lies (extent_at f.order a x) i (omega (arith, some)) in (omega (arith, lies.0, p.1.above), omega (arith, lies.1, p.1.within))
+      | inr none ↦ times_within f M a (word f.order a x) xs i p.3 (omega (arith, held, none))
     ]
 
 -- a change outside a record leaves the record: it stands whole, and its six words are the same
@@ -181,10 +181,9 @@ pub record_left : (f : Form) (a b : List ℕ) (x : ℕ) → length a ≤ length 
 record_left f a b x longer whole same =
     let body : Body a b f x = λ i low high. same i (omega arith) high in
     let w = words_kept f a b x body in
-    let next : word f.order b x ≡ word f.order a x = word_kept f.order a b x x (x + 24 + rec_len_of f.order a x) same (omega arith) (omega arith) in
-    (
+    let next : word f.order b x ≡ word f.order a x = word_kept f.order a b x x (x + 24 + rec_len_of f.order a x) same (omega arith) (omega arith) in (
       whole_kept f a b x longer whole body,
-      λ i. record { next = next i; rec_len = w.rec_len i; key_len = w.key_len i; data_len = w.data_len i; full_hash = w.full_hash i; magic = w.magic i }
+      λ i. record { next = next i; rec_len = w.rec_len i; key_len = w.key_len i; data_len = w.data_len i; full_hash = w.full_hash i; magic = w.magic i },
     )
 
 -- a change outside all records of a list leaves the list

@@ -38,7 +38,7 @@ accepted f img chain free hands l =
       keys = λ j low. subst (KeysDiffer f img) (sym (chains j low)) (l.keys j low);
       held = l.held;
       apart = λ i. (let e = ap (λ es. times es i) same in omega (arith, e, l.apart i));
-      stray = λ i above below none. l.stray i above below (sym (ap (λ es. times es i) same) ∙ none)
+      stray = λ i above below none. l.stray i above below (sym (ap (λ es. times es i) same) ∙ none);
     }
 
 -- its order is that of the pairs of the chains in which it is laid out

@@ -29,8 +29,8 @@ pub lookup_append : {K X : Type 0} (t : K → Bool) (xs ys : List (K × X)) → 
 lookup_append t [] ys = refl
 lookup_append t (x ∷ xs) ys =
     elim (cases_Bool (t x.0)) [
-      inl e ↦ rw e refl
-    | inr e ↦ rw e (lookup_append t xs ys)
+      | inl e ↦ rw e refl
+      | inr e ↦ rw e (lookup_append t xs ys)
     ]
 
 pub lookup_absent : {K X : Type 0} (t : K → Bool) (xs ys : List (K × X)) → lookup t xs ≡ None → lookup t (xs ++ ys) ≡ lookup t ys
@@ -47,8 +47,8 @@ pairs_other o img x xs ne = rw (ne_eqb (magic_of o img x) USED ne) refl
 pub lookup_passed : (o : Order) (img k : List ℕ) (x : ℕ) (xs : List ℕ) → (magic_of o img x ≡ USED → key_at o img x ≡ k → ⊥) → lookup (same_key k) (pairs o img (x ∷ xs)) ≡ lookup (same_key k) (pairs o img xs)
 lookup_passed o img k x xs lacks =
     elim (cases_eq (magic_of o img x) USED) [
-      inl e ↦ ap (lookup (same_key k)) (pairs_used o img x xs e) ∙ rw (same_key-other k (key_at o img x) (λ same. lacks e (sym same))) refl
-    | inr ne ↦ ap (lookup (same_key k)) (pairs_other o img x xs ne)
+      | inl e ↦ ap (lookup (same_key k)) (pairs_used o img x xs e) ∙ rw (same_key-other k (key_at o img x) (λ same. lacks e (sym same))) refl
+      | inr ne ↦ ap (lookup (same_key k)) (pairs_other o img x xs ne)
     ]
 
 -- a used record with the key is what a look-up finds
@@ -71,10 +71,10 @@ pub lookup_joined : {K X : Type 0} (t : K → Bool) (i n : ℕ) (F : ℕ → Lis
 lookup_joined t i zero F low others = absurd (omega arith)
 lookup_joined t i (suc n) F low others =
     elim (cases_eq i n) [
-      inl e ↦ lookup_absent t (joined n F) (F n) (lookup_none t n F (λ j below. others j (omega arith) (λ same. absurd (omega (arith, same, e))))) ∙ ap (λ j. lookup t (F j)) (sym e)
-    | inr ne ↦
-        lookup_append t (joined n F) (F n) ∙ ap (option_or (lookup t (joined n F))) (others n (omega arith) ne) ∙ option_or_none (lookup t (joined n F))
-        ∙ lookup_joined t i n F (omega arith) (λ j below apart. others j (omega arith) apart)
+      | inl e ↦ lookup_absent t (joined n F) (F n) (lookup_none t n F (λ j below. others j (omega arith) (λ same. absurd (omega (arith, same, e))))) ∙ ap (λ j. lookup t (F j)) (sym e)
+      | inr ne ↦
+          lookup_append t (joined n F) (F n) ∙ ap (option_or (lookup t (joined n F))) (others n (omega arith) ne) ∙ option_or_none (lookup t (joined n F))
+          ∙ lookup_joined t i n F (omega arith) (λ j below apart. others j (omega arith) apart)
     ]
   where
     option_or_none : {X : Type 0} (o : Option X) → option_or o None ≡ o

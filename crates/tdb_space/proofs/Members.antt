@@ -23,8 +23,8 @@ pub member_held : (o : Order) (a xs : List ℕ) (z i : ℕ) → Member z xs → 
 member_held o a [] z i m = absurd (false≢true m)
 member_held o a (x ∷ xs) z i m =
     elim (member_cases z x xs m) [
-      inl e ↦ let same : once (extent_at o a z) i ≡ once (extent_at o a x) i = ap (λ y. once (extent_at o a y) i) e in omega (arith, same)
-    | inr there ↦ omega (arith, member_held o a xs z i there)
+      | inl e ↦ let same : once (extent_at o a z) i ≡ once (extent_at o a x) i = ap (λ y. once (extent_at o a y) i) e in omega (arith, same)
+      | inr there ↦ omega (arith, member_held o a xs z i there)
     ]
 
 -- and so are those of two records, together
@@ -32,14 +32,14 @@ pub two_members : (o : Order) (a xs : List ℕ) (y z i : ℕ) → Member y xs �
 two_members o a [] y z i m n apart = absurd (false≢true m)
 two_members o a (x ∷ xs) y z i m n apart =
     elim (member_cases y x xs m) [
-      inl e ↦
-        let same : once (extent_at o a y) i ≡ once (extent_at o a x) i = ap (λ w. once (extent_at o a w) i) e in
-        elim (member_cases z x xs n) [ inl e' ↦ absurd (apart (e ∙ sym e')) | inr there ↦ omega (arith, same, member_held o a xs z i there) ]
-    | inr here ↦
-        elim (member_cases z x xs n) [
-          inl e ↦ let same : once (extent_at o a z) i ≡ once (extent_at o a x) i = ap (λ w. once (extent_at o a w) i) e in omega (arith, same, member_held o a xs y i here)
-        | inr there ↦ omega (arith, two_members o a xs y z i here there apart)
-        ]
+      | inl e ↦
+          let same : once (extent_at o a y) i ≡ once (extent_at o a x) i = ap (λ w. once (extent_at o a w) i) e in
+          elim (member_cases z x xs n) [ inl e' ↦ absurd (apart (e ∙ sym e')) | inr there ↦ omega (arith, same, member_held o a xs z i there) ]
+      | inr here ↦
+          elim (member_cases z x xs n) [
+            | inl e ↦ let same : once (extent_at o a z) i ≡ once (extent_at o a x) i = ap (λ w. once (extent_at o a w) i) e in omega (arith, same, member_held o a xs y i here)
+            | inr there ↦ omega (arith, two_members o a xs y z i here there apart)
+          ]
     ]
 
 -- the record that is led to is one of the list, and what leads to it is the first word's place or another record
@@ -59,14 +59,14 @@ pub times_without : (o : Order) (a xs : List ℕ) (y i : ℕ) → Member y xs �
 times_without o a [] y i m = absurd (false≢true m)
 times_without o a (x ∷ xs) y i m =
     elim (cases_eq x y) [
-      inl e ↦
-        let same : once (extent_at o a y) i ≡ once (extent_at o a x) i = ap (λ z. once (extent_at o a z) i) (sym e) in
-        rw (eq-eqb x y e) (omega (arith, same))
-    | inr ne ↦
-        elim (member_cases y x xs m) [
-          inl e ↦ absurd (ne (sym e))
-        | inr there ↦ rw (ne_eqb x y ne) (omega (arith, times_without o a xs y i there))
-        ]
+      | inl e ↦
+          let same : once (extent_at o a y) i ≡ once (extent_at o a x) i = ap (λ z. once (extent_at o a z) i) (sym e) in
+          rw (eq-eqb x y e) (omega (arith, same))
+      | inr ne ↦
+          elim (member_cases y x xs m) [
+            | inl e ↦ absurd (ne (sym e))
+            | inr there ↦ rw (ne_eqb x y ne) (omega (arith, times_without o a xs y i there))
+          ]
     ]
 
 pub bodies_without : (a b : List ℕ) (f : Form) (xs : List ℕ) (y : ℕ) → Bodies a b f xs → Bodies a b f (without y xs)

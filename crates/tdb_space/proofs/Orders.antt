@@ -1,6 +1,7 @@
 -- No key comes twice in the order of an image, so its map is a finite map with as many keys as the order has pairs.
 use Rattle.std.proofs.Common.{◌≡◌, ℕ, zero, suc, ◌<◌, List, [], ◌∷◌, ◌++◌, false, sym, ◌∙◌, ap, subst, inl, inr, arith}
 use Rattle.std.specs.Prelude.{◌%◌}
+use Rattle.std.specs.Map.{keys_of}
 use Rattle.std.specs.List.{IsDistinct, AllByRecursion}
 use Rattle.std.proofs.lemmas.Bool.{cases_eq}
 use Rattle.std.proofs.lemmas.List.{map-append}
@@ -13,18 +14,17 @@ use Rattle.tdb_space.specs.Pairs.{joined, pairs, order_of, home, same_key}
 use Rattle.tdb_space.specs.Extents.{HandPair}
 use Rattle.tdb_space.specs.Accepted.{AllFiled, KeysDiffer, AcceptWith}
 use Rattle.tdb_space.proofs.Maps.{pairs_used, pairs_other, same_key-other}
-use Rattle.tdb_space.proofs.Removes.{keys_in}
 
 -- each key of a chain is filed in it
-keys_home : (f : Form) (img : List ℕ) (j : ℕ) (xs : List ℕ) → AllFiled f img j xs → AllByRecursion (λ q. home f q ≡ j) (keys_in (pairs f.order img xs))
+keys_home : (f : Form) (img : List ℕ) (j : ℕ) (xs : List ℕ) → AllFiled f img j xs → AllByRecursion (λ q. home f q ≡ j) (keys_of (pairs f.order img xs))
 keys_home f img j [] filed = tt
 keys_home f img j (x ∷ xs) filed =
     let rest = keys_home f img j xs filed.1 in
     elim (cases_eq (magic_of f.order img x) USED) [
-      inl used ↦
-        subst (λ ps. AllByRecursion (λ q. home f q ≡ j) (keys_in ps)) (sym (pairs_used f.order img x xs used))
-        (ap (λ h. h % f.chains) (sym (filed.0 used).hashed) ∙ (filed.0 used).placed, rest)
-    | inr other ↦ subst (λ ps. AllByRecursion (λ q. home f q ≡ j) (keys_in ps)) (sym (pairs_other f.order img x xs other)) rest
+      | inl used ↦
+          subst (λ ps. AllByRecursion (λ q. home f q ≡ j) (keys_of ps)) (sym (pairs_used f.order img x xs used))
+          (ap (λ h. h % f.chains) (sym (filed.0 used).hashed) ∙ (filed.0 used).placed, rest)
+      | inr other ↦ subst (λ ps. AllByRecursion (λ q. home f q ≡ j) (keys_of ps)) (sym (pairs_other f.order img x xs other)) rest
     ]
 
 all_append : (P : List ℕ → Type 0) (xs ys : List (List ℕ)) → AllByRecursion P xs → AllByRecursion P ys → AllByRecursion P (xs ++ ys)
@@ -48,7 +48,7 @@ record Spread (f : Form) (keys : List (List ℕ)) (n : ℕ) : Type 0 where
   below : AllByRecursion (λ q. home f q < n) keys
   differ : IsDistinct same_key keys
 
-spread : (f : Form) (img : List ℕ) (n : ℕ) → ((j : ℕ) → j < n → AllFiled f img j (chain_of f img j)) → ((j : ℕ) → j < n → KeysDiffer f img (chain_of f img j)) → Spread f (keys_in (joined n (λ j. pairs f.order img (chain_of f img j)))) n
+spread : (f : Form) (img : List ℕ) (n : ℕ) → ((j : ℕ) → j < n → AllFiled f img j (chain_of f img j)) → ((j : ℕ) → j < n → KeysDiffer f img (chain_of f img j)) → Spread f (keys_of (joined n (λ j. pairs f.order img (chain_of f img j)))) n
 unfolding IsDistinct
 spread f img zero filed differ = record { below = tt; differ = tt }
 spread f img (suc n) filed differ =
@@ -56,16 +56,16 @@ spread f img (suc n) filed differ =
     let here = keys_home f img n (chain_of f img n) (filed n (omega arith)) in
     let fronts = joined n (λ j. pairs f.order img (chain_of f img j)) in
     let lasts = pairs f.order img (chain_of f img n) in
-    let split : keys_in (fronts ++ lasts) ≡ keys_in fronts ++ keys_in lasts = map-append (λ (p : List ℕ × List ℕ). p.0) fronts lasts in
+    let split : keys_of (fronts ++ lasts) ≡ keys_of fronts ++ keys_of lasts = map-append (λ (p : List ℕ × List ℕ). p.0) fronts lasts in
     record {
       below = subst (AllByRecursion (λ q. home f q < suc n)) (sym split)
-        (all_append (λ q. home f q < suc n) (keys_in fronts) (keys_in lasts)
-          (all_weaker (λ q. home f q < n) (λ q. home f q < suc n) (λ q low. omega (arith, low)) (keys_in fronts) front.below)
-          (all_weaker (λ q. home f q ≡ n) (λ q. home f q < suc n) (λ q e. omega (arith, e)) (keys_in lasts) here));
+          (all_append (λ q. home f q < suc n) (keys_of fronts) (keys_of lasts)
+          (all_weaker (λ q. home f q < n) (λ q. home f q < suc n) (λ q low. omega (arith, low)) (keys_of fronts) front.below)
+          (all_weaker (λ q. home f q ≡ n) (λ q. home f q < suc n) (λ q e. omega (arith, e)) (keys_of lasts) here));
       differ = subst (IsDistinct same_key) (sym split)
-        (distinct_append (λ q. home f q < n) (λ q. home f q ≡ n) (λ x y low e. same_key-other x y (λ same. absurd (omega (arith, low, e, ap (home f) same)))) (keys_in fronts) (keys_in lasts) front.below here front.differ (differ n (omega arith)))
+          (distinct_append (λ q. home f q < n) (λ q. home f q ≡ n) (λ x y low e. same_key-other x y (λ same. absurd (omega (arith, low, e, ap (home f) same)))) (keys_of fronts) (keys_of lasts) front.below here front.differ (differ n (omega arith)));
     }
 
 -- no key comes twice in the order of an accepted image
-pub order_distinct : (f : Form) (img : List ℕ) (hands : List HandPair) → AcceptWith f img hands → IsDistinct same_key (keys_in (order_of f img))
+pub order_distinct : (f : Form) (img : List ℕ) (hands : List HandPair) → AcceptWith f img hands → IsDistinct same_key (keys_of (order_of f img))
 order_distinct f img hands A = (spread f img f.chains A.filed A.keys).differ

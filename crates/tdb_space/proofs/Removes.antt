@@ -1,7 +1,7 @@
 -- A record is taken out of its chain and becomes a hand: the image stays accepted, and its map loses the record's key if it was used.
 use Rattle.std.proofs.Common.{◌≡◌, ℕ, ◌+◌, ◌<◌, ◌≤◌, List, [], ◌∷◌, ◌++◌, length, None, false, true, refl, sym, ◌∙◌, ap, subst, inl, inr, arith}
 use Rattle.std.specs.Prelude.{Bool, ◌%◌, map}
-use Rattle.std.specs.Map.{lookup, update, remove_entry}
+use Rattle.std.specs.Map.{lookup, update, remove_entry, keys_of}
 use Rattle.std.specs.List.{IsDistinct, AllByRecursion}
 use Rattle.std.proofs.lemmas.Bool.{cases_lt, cases_eq, cases_Bool, eq-eqb, ne_eqb, false≢true}
 use Rattle.std.proofs.lemmas.Cmp.{nat_list_eq_equiv}
@@ -25,48 +25,44 @@ use Rattle.tdb_space.proofs.Swaps.{exchanged, map_updated, map_same}
 use Rattle.tdb_space.proofs.Members.{led_from}
 use Rattle.tdb_space.proofs.Unlinks.{unlinked, unlinked_count, unlinked_member, unlinked_bodies, changed_word}
 
--- the keys of pairs
-abbrev pub keys_in : List (List ℕ × List ℕ) → List (List ℕ)
-keys_in ps = map (λ (p : List ℕ × List ℕ). p.0) ps
-
 -- each used record's key is among the keys, so what holds of each key holds of it
-pub key_among : (o : Order) (img xs : List ℕ) (P : List ℕ → Type 0) (y : ℕ) → AllByRecursion P (keys_in (pairs o img xs)) → Member y xs → magic_of o img y ≡ USED → P (key_at o img y)
+pub key_among : (o : Order) (img xs : List ℕ) (P : List ℕ → Type 0) (y : ℕ) → AllByRecursion P (keys_of (pairs o img xs)) → Member y xs → magic_of o img y ≡ USED → P (key_at o img y)
 key_among o img [] P y all m used = absurd (false≢true m)
 key_among o img (x ∷ xs) P y all m used =
     elim (cases_eq (magic_of o img x) USED) [
-      inl e ↦
-        let parts : AllByRecursion P (key_at o img x ∷ keys_in (pairs o img xs)) = subst (λ ps. AllByRecursion P (keys_in ps)) (pairs_used o img x xs e) all in
-        elim (member_cases y x xs m) [ inl here ↦ subst (λ z. P (key_at o img z)) (sym here) parts.0 | inr there ↦ key_among o img xs P y parts.1 there used ]
-    | inr ne ↦
-        let rest : AllByRecursion P (keys_in (pairs o img xs)) = subst (λ ps. AllByRecursion P (keys_in ps)) (pairs_other o img x xs ne) all in
-        elim (member_cases y x xs m) [ inl here ↦ absurd (ne (subst (λ z. magic_of o img z ≡ USED) here used)) | inr there ↦ key_among o img xs P y rest there used ]
+      | inl e ↦
+          let parts : AllByRecursion P (key_at o img x ∷ keys_of (pairs o img xs)) = subst (λ ps. AllByRecursion P (keys_of ps)) (pairs_used o img x xs e) all in
+          elim (member_cases y x xs m) [ inl here ↦ subst (λ z. P (key_at o img z)) (sym here) parts.0 | inr there ↦ key_among o img xs P y parts.1 there used ]
+      | inr ne ↦
+          let rest : AllByRecursion P (keys_of (pairs o img xs)) = subst (λ ps. AllByRecursion P (keys_of ps)) (pairs_other o img x xs ne) all in
+          elim (member_cases y x xs m) [ inl here ↦ absurd (ne (subst (λ z. magic_of o img z ≡ USED) here used)) | inr there ↦ key_among o img xs P y rest there used ]
     ]
 
 -- the pairs without a used record are those without the entry of its key
-pub pairs_without_used : (o : Order) (img xs : List ℕ) (y : ℕ) → IsDistinct same_key (keys_in (pairs o img xs)) → Member y xs → magic_of o img y ≡ USED → pairs o img (without y xs) ≡ remove_entry (same_key (key_at o img y)) (pairs o img xs)
+pub pairs_without_used : (o : Order) (img xs : List ℕ) (y : ℕ) → IsDistinct same_key (keys_of (pairs o img xs)) → Member y xs → magic_of o img y ≡ USED → pairs o img (without y xs) ≡ remove_entry (same_key (key_at o img y)) (pairs o img xs)
 pairs_without_used o img [] y distinct m used = absurd (false≢true m)
 pairs_without_used o img (x ∷ xs) y distinct m used =
     elim (cases_eq x y) [
-      inl e ↦
-        let used_x : magic_of o img x ≡ USED = subst (λ z. magic_of o img z ≡ USED) (sym e) used in
-        let met : same_key (key_at o img y) (key_at o img x) ≡ true = subst (λ z. same_key (key_at o img z) (key_at o img x) ≡ true) e (same_key-refl (key_at o img x)) in
-        let removed : remove_entry (same_key (key_at o img y)) (pairs o img (x ∷ xs)) ≡ pairs o img xs = ap (remove_entry (same_key (key_at o img y))) (pairs_used o img x xs used_x) ∙ rw met refl in
-        rw (eq-eqb x y e) (sym removed)
-    | inr ne ↦
-        let there : Member y xs = elim (member_cases y x xs m) [ inl here ↦ absurd (ne (sym here)) | inr rest ↦ rest ] in
-        elim (cases_eq (magic_of o img x) USED) [
-          inl e ↦
-            let spread : IsDistinct same_key (key_at o img x ∷ keys_in (pairs o img xs)) = subst (λ ps. IsDistinct same_key (keys_in ps)) (pairs_used o img x xs e) distinct in
-            let apart : same_key (key_at o img x) (key_at o img y) ≡ false = key_among o img xs (λ q. same_key (key_at o img x) q ≡ false) y (IsDistinct-head same_key (key_at o img x) (keys_in (pairs o img xs)) spread) there used in
-            let passed : same_key (key_at o img y) (key_at o img x) ≡ false = nat_list_eq_equiv.symm (key_at o img y) (key_at o img x) ∙ apart in
-            let rest = pairs_without_used o img xs y (IsDistinct-tail same_key (key_at o img x) (keys_in (pairs o img xs)) spread) there used in
-            let removed : remove_entry (same_key (key_at o img y)) (pairs o img (x ∷ xs)) ≡ (key_at o img x, data_at o img x) ∷ remove_entry (same_key (key_at o img y)) (pairs o img xs) =
+      | inl e ↦
+          let used_x : magic_of o img x ≡ USED = subst (λ z. magic_of o img z ≡ USED) (sym e) used in
+          let met : same_key (key_at o img y) (key_at o img x) ≡ true = subst (λ z. same_key (key_at o img z) (key_at o img x) ≡ true) e (same_key-refl (key_at o img x)) in
+          let removed : remove_entry (same_key (key_at o img y)) (pairs o img (x ∷ xs)) ≡ pairs o img xs = ap (remove_entry (same_key (key_at o img y))) (pairs_used o img x xs used_x) ∙ rw met refl in
+          rw (eq-eqb x y e) (sym removed)
+      | inr ne ↦
+          let there : Member y xs = elim (member_cases y x xs m) [ inl here ↦ absurd (ne (sym here)) | inr rest ↦ rest ] in
+          elim (cases_eq (magic_of o img x) USED) [
+            | inl e ↦
+                let spread : IsDistinct same_key (key_at o img x ∷ keys_of (pairs o img xs)) = subst (λ ps. IsDistinct same_key (keys_of ps)) (pairs_used o img x xs e) distinct in
+                let apart : same_key (key_at o img x) (key_at o img y) ≡ false = key_among o img xs (λ q. same_key (key_at o img x) q ≡ false) y (IsDistinct-head same_key (key_at o img x) (keys_of (pairs o img xs)) spread) there used in
+                let passed : same_key (key_at o img y) (key_at o img x) ≡ false = nat_list_eq_equiv.symm (key_at o img y) (key_at o img x) ∙ apart in
+                let rest = pairs_without_used o img xs y (IsDistinct-tail same_key (key_at o img x) (keys_of (pairs o img xs)) spread) there used in
+                let removed : remove_entry (same_key (key_at o img y)) (pairs o img (x ∷ xs)) ≡ (key_at o img x, data_at o img x) ∷ remove_entry (same_key (key_at o img y)) (pairs o img xs) =
                 ap (remove_entry (same_key (key_at o img y))) (pairs_used o img x xs e) ∙ rw passed refl in
-            rw (ne_eqb x y ne) (pairs_used o img x (without y xs) e ∙ ap (λ ps. (key_at o img x, data_at o img x) ∷ ps) rest ∙ sym removed)
-        | inr other ↦
-            let rest = pairs_without_used o img xs y (subst (λ ps. IsDistinct same_key (keys_in ps)) (pairs_other o img x xs other) distinct) there used in
-            rw (ne_eqb x y ne) (pairs_other o img x (without y xs) other ∙ rest ∙ ap (remove_entry (same_key (key_at o img y))) (sym (pairs_other o img x xs other)))
-        ]
+                rw (ne_eqb x y ne) (pairs_used o img x (without y xs) e ∙ ap (λ ps. (key_at o img x, data_at o img x) ∷ ps) rest ∙ sym removed)
+            | inr other ↦
+                let rest = pairs_without_used o img xs y (subst (λ ps. IsDistinct same_key (keys_of ps)) (pairs_other o img x xs other) distinct) there used in
+                rw (ne_eqb x y ne) (pairs_other o img x (without y xs) other ∙ rest ∙ ap (remove_entry (same_key (key_at o img y))) (sym (pairs_other o img x xs other)))
+          ]
     ]
 
 -- the pairs without a record that isn't used are the same
@@ -74,23 +70,23 @@ pub pairs_without_dead : (o : Order) (img xs : List ℕ) (y : ℕ) → (magic_of
 pairs_without_dead o img [] y dead = refl
 pairs_without_dead o img (x ∷ xs) y dead =
     elim (cases_eq x y) [
-      inl e ↦ rw (eq-eqb x y e) (sym (pairs_other o img x xs (λ used. dead (subst (λ z. magic_of o img z ≡ USED) e used))))
-    | inr ne ↦ rw (ne_eqb x y ne) (ap (λ ps. pair_of o img x ++ ps) (pairs_without_dead o img xs y dead))
+      | inl e ↦ rw (eq-eqb x y e) (sym (pairs_other o img x xs (λ used. dead (subst (λ z. magic_of o img z ≡ USED) e used))))
+      | inr ne ↦ rw (ne_eqb x y ne) (ap (λ ps. pair_of o img x ++ ps) (pairs_without_dead o img xs y dead))
     ]
 
 -- keys that differ still differ without an entry
-all_removed : (P : List ℕ → Type 0) (t : List ℕ → Bool) (ps : List (List ℕ × List ℕ)) → AllByRecursion P (keys_in ps) → AllByRecursion P (keys_in (remove_entry t ps))
+all_removed : (P : List ℕ → Type 0) (t : List ℕ → Bool) (ps : List (List ℕ × List ℕ)) → AllByRecursion P (keys_of ps) → AllByRecursion P (keys_of (remove_entry t ps))
 all_removed P t [] all = tt
 all_removed P t (p ∷ ps) all = elim (cases_Bool (t p.0)) [ inl e ↦ rw e all.1 | inr e ↦ rw e (all.0, all_removed P t ps all.1) ]
 
-pub distinct_removed : (t : List ℕ → Bool) (ps : List (List ℕ × List ℕ)) → IsDistinct same_key (keys_in ps) → IsDistinct same_key (keys_in (remove_entry t ps))
+pub distinct_removed : (t : List ℕ → Bool) (ps : List (List ℕ × List ℕ)) → IsDistinct same_key (keys_of ps) → IsDistinct same_key (keys_of (remove_entry t ps))
 distinct_removed t [] distinct = distinct
 distinct_removed t (p ∷ ps) distinct =
-    let first = IsDistinct-head same_key p.0 (keys_in ps) distinct in
-    let rest = IsDistinct-tail same_key p.0 (keys_in ps) distinct in
+    let first = IsDistinct-head same_key p.0 (keys_of ps) distinct in
+    let rest = IsDistinct-tail same_key p.0 (keys_of ps) distinct in
     elim (cases_Bool (t p.0)) [
-      inl e ↦ rw e rest
-    | inr e ↦ rw e (IsDistinct-cons same_key p.0 (keys_in (remove_entry t ps)) (all_removed (λ q. same_key p.0 q ≡ false) t ps first) (distinct_removed t ps rest))
+      | inl e ↦ rw e rest
+      | inr e ↦ rw e (IsDistinct-cons same_key p.0 (keys_of (remove_entry t ps)) (all_removed (λ q. same_key p.0 q ≡ false) t ps first) (distinct_removed t ps rest))
     ]
 
 -- pairs and filing of the records that are left
@@ -98,11 +94,11 @@ pairs_left : (f : Form) (M : ℕ → Type 0) (a b : List ℕ) (j at : ℕ) (xs :
 pairs_left f M a b j at [] y longer list bodies filed = refl
 pairs_left f M a b j at (x ∷ xs) y longer list bodies filed =
     elim (cases_eq x y) [
-      inl e ↦ rw (eq-eqb x y e) (pairs_kept f M a b j (word f.order a x) xs longer list.3 bodies.1 filed.1)
-    | inr ne ↦
-        let here = pair_kept f a b x longer list.1 bodies.0 (λ used. (filed.0 used).fits) in
-        let rest = pairs_left f M a b j (word f.order a x) xs y longer list.3 bodies.1 filed.1 in
-        rw (ne_eqb x y ne) (λ i. here i ++ rest i)
+      | inl e ↦ rw (eq-eqb x y e) (pairs_kept f M a b j (word f.order a x) xs longer list.3 bodies.1 filed.1)
+      | inr ne ↦
+          let here = pair_kept f a b x longer list.1 bodies.0 (λ used. (filed.0 used).fits) in
+          let rest = pairs_left f M a b j (word f.order a x) xs y longer list.3 bodies.1 filed.1 in
+          rw (ne_eqb x y ne) (λ i. here i ++ rest i)
     ]
 
 filed_left : (f : Form) (b : List ℕ) (j : ℕ) (xs : List ℕ) (y : ℕ) → AllFiled f b j xs → AllFiled f b j (without y xs)
@@ -114,8 +110,8 @@ pub filed_member : (f : Form) (a : List ℕ) (j : ℕ) (xs : List ℕ) (y : ℕ)
 filed_member f a j [] y filed m used = absurd (false≢true m)
 filed_member f a j (x ∷ xs) y filed m used =
     elim (member_cases y x xs m) [
-      inl e ↦ subst (Filed f a j) (sym e) (filed.0 (subst (λ z. magic_of f.order a z ≡ USED) e used))
-    | inr there ↦ filed_member f a j xs y filed.1 there used
+      | inl e ↦ subst (Filed f a j) (sym e) (filed.0 (subst (λ z. magic_of f.order a z ≡ USED) e used))
+      | inr there ↦ filed_member f a j xs y filed.1 there used
     ]
 
 pub home_of_member : (f : Form) (a : List ℕ) (j : ℕ) (xs : List ℕ) (y : ℕ) → AllFiled f a j xs → Member y xs → magic_of f.order a y ≡ USED → home f (key_at f.order a y) ≡ j
@@ -146,10 +142,10 @@ module _ (f : Form) (a b : List ℕ) (j : ℕ) (before y : ℕ) (hands : List Ha
   left_keys : KeysDiffer f a (without y (chain_of f a j))
   left_keys =
       elim (cases_eq (magic_of f.order a y) USED) [
-        inl used ↦
-          subst (λ ps. IsDistinct same_key (keys_in ps)) (sym (pairs_without_used f.order a (chain_of f a j) y (A.keys j low_j) member used))
-          (distinct_removed (same_key (key_at f.order a y)) (pairs f.order a (chain_of f a j)) (A.keys j low_j))
-      | inr dead ↦ subst (λ ps. IsDistinct same_key (keys_in ps)) (sym (pairs_without_dead f.order a (chain_of f a j) y dead)) (A.keys j low_j)
+        | inl used ↦
+            subst (λ ps. IsDistinct same_key (keys_of ps)) (sym (pairs_without_used f.order a (chain_of f a j) y (A.keys j low_j) member used))
+            (distinct_removed (same_key (key_at f.order a y)) (pairs f.order a (chain_of f a j)) (A.keys j low_j))
+        | inr dead ↦ subst (λ ps. IsDistinct same_key (keys_of ps)) (sym (pairs_without_dead f.order a (chain_of f a j) y dead)) (A.keys j low_j)
       ]
 
   hand_ok : HandOk f a (y, rec_len_of f.order a y)
@@ -162,36 +158,36 @@ module _ (f : Form) (a b : List ℕ) (j : ℕ) (before y : ℕ) (hands : List Ha
   unlink_exchanged = record {
     size = L.size;
     low = λ i below apart.
-      elim (cases_lt i before) [
-        inl under ↦ L.others i (inl under)
-      | inr high ↦
-          elim (cases_lt i (before + 4)) [
-            inl within ↦
-              elim (led_from (chain_head j) (chain_of f a j) before y led) [
-                inl e ↦ elim apart [ inl under ↦ absurd (omega (arith, under, high, e)) | inr over ↦ absurd (omega (arith, over, within, e)) ]
-              | inr m ↦ absurd (omega (arith, below, high, (linked_whole f IsChained a (word f.order a (chain_head j)) (chain_of f a j) before (A.chains j low_j) m).0.above))
+        elim (cases_lt i before) [
+          | inl under ↦ L.others i (inl under)
+          | inr high ↦
+              elim (cases_lt i (before + 4)) [
+                | inl within ↦
+                    elim (led_from (chain_head j) (chain_of f a j) before y led) [
+                      | inl e ↦ elim apart [ inl under ↦ absurd (omega (arith, under, high, e)) | inr over ↦ absurd (omega (arith, over, within, e)) ]
+                      | inr m ↦ absurd (omega (arith, below, high, (linked_whole f IsChained a (word f.order a (chain_head j)) (chain_of f a j) before (A.chains j low_j) m).0.above))
+                    ]
+                | inr over ↦ L.others i (inr over)
               ]
-          | inr over ↦ L.others i (inr over)
-          ]
-      ];
+        ];
     high = λ i above none.
-      elim (cases_lt i before) [
-        inl under ↦ L.others i (inl under)
-      | inr high ↦
-          elim (cases_lt i (before + 4)) [
-            inl within ↦
-              elim (changed_word f IsChained a b (chain_head j) (chain_of f a j) before y (A.chains j low_j) low_head held led L i high within) [
-                inl below ↦ absurd (omega (arith, below, above))
-              | inr some ↦ absurd (omega (arith, some, none))
+        elim (cases_lt i before) [
+          | inl under ↦ L.others i (inl under)
+          | inr high ↦
+              elim (cases_lt i (before + 4)) [
+                | inl within ↦
+                    elim (changed_word f IsChained a b (chain_head j) (chain_of f a j) before y (A.chains j low_j) low_head held led L i high within) [
+                      | inl below ↦ absurd (omega (arith, below, above))
+                      | inr some ↦ absurd (omega (arith, some, none))
+                    ]
+                | inr over ↦ L.others i (inr over)
               ]
-          | inr over ↦ L.others i (inr over)
-          ]
-      ];
+        ];
     linked = unlinked f IsChained a b (chain_head j) (chain_of f a j) before y (A.chains j low_j) low_head held led L;
     filed = filed_left f b j (chain_of f a j) y (filed_all_kept f IsChained a b j (word f.order a (chain_head j)) (chain_of f a j) longer (A.chains j low_j) bodies (A.filed j low_j));
-    keys = subst (λ ps. IsDistinct same_key (keys_in ps)) (sym left_pairs) left_keys;
+    keys = subst (λ ps. IsDistinct same_key (keys_of ps)) (sym left_pairs) left_keys;
     held = (hand_ok, A.held);
-    count = λ i. omega (arith, unlinked_count f IsChained a b (chain_head j) (chain_of f a j) before y (A.chains j low_j) low_head held led L i)
+    count = λ i. omega (arith, unlinked_count f IsChained a b (chain_head j) (chain_of f a j) before y (A.chains j low_j) low_head held led L i);
   }
 
   -- the image is accepted with the record as a hand
@@ -203,7 +199,7 @@ module _ (f : Form) (a b : List ℕ) (j : ℕ) (before y : ℕ) (hands : List Ha
   unlink_map used =
       map_updated f a b j (without y (chain_of f a j)) hands ((y, rec_len_of f.order a y) ∷ hands) low_j A unlink_exchanged (key_at f.order a y) None filed_here
       (λ q. ap (lookup (same_key q)) (left_pairs ∙ pairs_without_used f.order a (chain_of f a j) y (A.keys j low_j) member used)
-        ∙ lookup-remove_entry nat_list_eq_equiv (same_key (key_at f.order a y)) (λ x z. nat_list_eq_equiv.congr (key_at f.order a y) x z) q (pairs f.order a (chain_of f a j)) (A.keys j low_j))
+      ∙ lookup-remove_entry nat_list_eq_equiv (same_key (key_at f.order a y)) (λ x z. nat_list_eq_equiv.congr (key_at f.order a y) x z) q (pairs f.order a (chain_of f a j)) (A.keys j low_j))
     where
       filed_here : home f (key_at f.order a y) ≡ j
       filed_here = home_of_member f a j (chain_of f a j) y (A.filed j low_j) member used

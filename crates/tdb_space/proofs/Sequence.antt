@@ -2,7 +2,7 @@
 -- accepted alike.
 use Rattle.std.proofs.Common.{◌≡◌, ℕ, ◌+◌, ◌<◌, ◌≤◌, ◌⊎◌, List, length, sym, ◌∙◌, ap, subst, inl, inr, arith}
 use Rattle.std.specs.Prelude.{slice_index, ◌%◌, map}
-use Rattle.std.specs.Map.{lookup}
+use Rattle.std.specs.Map.{lookup, keys_of}
 use Rattle.std.specs.List.{IsDistinct}
 use Rattle.tdb_words.specs.Word.{word}
 use Rattle.tdb_words.proofs.Words.{word_agrees}
@@ -44,7 +44,7 @@ module _ (f : Form) (a b : List ℕ) (hands : List HandPair) (A : AcceptWith f a
   counts : (i : ℕ) → times (all_extents f b (chain_of f a) (free_of f a) hands) i ≡ times (all_extents f a (chain_of f a) (free_of f a) hands) i
   counts i =
       let chains : times (joined f.chains (λ k. extents f.order b (chain_of f a k))) i ≡ times (joined f.chains (λ k. extents f.order a (chain_of f a k))) i =
-          ap (λ es. times es i) (joined_same f.chains (λ k. extents f.order b (chain_of f a k)) (λ k. extents f.order a (chain_of f a k)) (λ k low. extents_kept f a b (chain_of f a k) (bodies_still f a b (chain_of f a k) (chain_still k low)))) in
+      ap (λ es. times es i) (joined_same f.chains (λ k. extents f.order b (chain_of f a k)) (λ k. extents f.order a (chain_of f a k)) (λ k low. extents_kept f a b (chain_of f a k) (bodies_still f a b (chain_of f a k) (chain_still k low)))) in
       let frees : times (extents f.order b (free_of f a)) i ≡ times (extents f.order a (free_of f a)) i = ap (λ es. times es i) (extents_kept f a b (free_of f a) (bodies_still f a b (free_of f a) free_still)) in
       let undos : times (area f.order b) i ≡ times (area f.order a) i = ap (λ es. times es i) undo.0 in
       omega (arith, chains, frees, undos, times_all f a (chain_of f a) (free_of f a) hands i, times_all f b (chain_of f a) (free_of f a) hands i)
@@ -59,16 +59,16 @@ module _ (f : Form) (a b : List ℕ) (hands : List HandPair) (A : AcceptWith f a
     area_ok = undo.1;
     shut = undo.2;
     chains = λ k low. subst (λ at. Linked f IsChained b at (chain_of f a k)) (sym (same_word (chain_head k) (inr (omega arith))))
-      (list_left f IsChained a b (word f.order a (chain_head k)) (chain_of f a k) longer (A.chains k low) (chain_still k low));
+        (list_left f IsChained a b (word f.order a (chain_head k)) (chain_of f a k) longer (A.chains k low) (chain_still k low));
     frees = subst (λ at. Linked f IsFree b at (free_of f a)) (sym (same_word free_head (inr (omega arith))))
-      (list_left f IsFree a b (word f.order a free_head) (free_of f a) longer A.frees free_still);
+        (list_left f IsFree a b (word f.order a free_head) (free_of f a) longer A.frees free_still);
     filed = λ k low. filed_all_kept f IsChained a b k (word f.order a (chain_head k)) (chain_of f a k) longer (A.chains k low) (bodies_still f a b (chain_of f a k) (chain_still k low)) (A.filed k low);
-    keys = λ k low. subst (λ ps. IsDistinct same_key (map (λ (p : List ℕ × List ℕ). p.0) ps)) (sym (chain_pairs k low)) (A.keys k low);
+    keys = λ k low. subst (λ ps. IsDistinct same_key (keys_of ps)) (sym (chain_pairs k low)) (A.keys k low);
     held = hands_kept f a b hands longer A.held;
     apart = λ i. omega (arith, counts i, A.apart i);
     stray = λ i from to none.
-      (let same : slice_index b i ≡ slice_index a i = S.others i (inr (omega (arith, from))) in
-       elim (A.stray i from (omega (arith, to, S.size)) (sym (counts i) ∙ none)) [ inl zero_there ↦ inl (same ∙ zero_there) | inr padding ↦ inr (same ∙ padding) ])
+        (let same : slice_index b i ≡ slice_index a i = S.others i (inr (omega (arith, from))) in
+        elim (A.stray i from (omega (arith, to, S.size)) (sym (counts i) ∙ none)) [ inl zero_there ↦ inl (same ∙ zero_there) | inr padding ↦ inr (same ∙ padding) ]);
   }
 
   pub sequence_accepted : AcceptWith f b hands

@@ -31,9 +31,9 @@ in_order_below : (n : ℕ) (es : List Extent) (i : ℕ) → BeginsFrom n es → 
 in_order_below n [] i begins ordered low = refl
 in_order_below n (e ∷ es) i begins ordered low =
     elim (where_is e i) [
-      lies high _ _ ↦ absurd (omega (arith, high, begins, low))
-    | below under none ↦ omega (arith, none, in_order_below (e.0 + e.1) es i ordered.0 ordered.1 (omega (arith, under)))
-    | above over none ↦ absurd (omega (arith, over, begins, low))
+      | lies high _ _ ↦ absurd (omega (arith, high, begins, low))
+      | below under none ↦ omega (arith, none, in_order_below (e.0 + e.1) es i ordered.0 ordered.1 (omega (arith, under)))
+      | above over none ↦ absurd (omega (arith, over, begins, low))
     ]
 
 -- none twice
@@ -41,9 +41,9 @@ pub in_order_once : (es : List Extent) (i : ℕ) → InOrder es → times es i �
 in_order_once [] i ordered = omega arith
 in_order_once (e ∷ es) i ordered =
     elim (where_is e i) [
-      lies high low one ↦ omega (arith, one, in_order_below (e.0 + e.1) es i ordered.0 ordered.1 low)
-    | below _ none ↦ omega (arith, none, in_order_once es i ordered.1)
-    | above _ none ↦ omega (arith, none, in_order_once es i ordered.1)
+      | lies high low one ↦ omega (arith, one, in_order_below (e.0 + e.1) es i ordered.0 ordered.1 low)
+      | below _ none ↦ omega (arith, none, in_order_once es i ordered.1)
+      | above _ none ↦ omega (arith, none, in_order_once es i ordered.1)
     ]
 
 -- an extent that reaches into the next holds its first byte too

@@ -1,7 +1,7 @@
 -- One chain's records and the hands are exchanged for others: the image stays accepted, and the map changes as the chain does.
 use Rattle.std.proofs.Common.{◌≡◌, ℕ, ◌+◌, ◌<◌, ◌≤◌, ◌⊎◌, List, [], ◌∷◌, length, cond, Option, eqb, false, refl, sym, ◌∙◌, ap, subst, inl, inr, arith}
 use Rattle.std.specs.Prelude.{slice_index, ◌%◌, map, if◌then◌else◌}
-use Rattle.std.specs.Map.{lookup, update}
+use Rattle.std.specs.Map.{lookup, update, keys_of}
 use Rattle.std.specs.List.{IsDistinct}
 use Rattle.std.proofs.lemmas.Bool.{cases_lt, cases_eq, eq-eqb, ne_eqb}
 use Rattle.tdb_words.specs.Word.{word}
@@ -36,56 +36,55 @@ area_still f a b longer at still (inl none) shut =
     (rw (eq-eqb (word f.order b 44) 0 none_b) (rw (eq-eqb (word f.order a 44) 0 none) refl), inl none_b, inl none_b)
 area_still f a b longer at still (inr place) shut =
     elim (cases_eq (word f.order a 44) 0) [
-      inl none ↦
-        let none_b : word f.order b 44 ≡ 0 = at ∙ none in
-        (rw (eq-eqb (word f.order b 44) 0 none_b) (rw (eq-eqb (word f.order a 44) 0 none) refl), inl none_b, inl none_b)
-    | inr some ↦
-        let some_b : word f.order b 44 ≡ 0 → ⊥ = λ e. some (sym at ∙ e) in
-        let x = word f.order a 44 in
-        let held : (i : ℕ) → x ≤ i → i < x + 24 + rec_len_of f.order a x → slice_index b i ≡ slice_index a i = λ i low high.
+      | inl none ↦
+          let none_b : word f.order b 44 ≡ 0 = at ∙ none in
+          (rw (eq-eqb (word f.order b 44) 0 none_b) (rw (eq-eqb (word f.order a 44) 0 none) refl), inl none_b, inl none_b)
+      | inr some ↦
+          let some_b : word f.order b 44 ≡ 0 → ⊥ = λ e. some (sym at ∙ e) in
+          let x = word f.order a 44 in
+          let held : (i : ℕ) → x ≤ i → i < x + 24 + rec_len_of f.order a x → slice_index b i ≡ slice_index a i = λ i low high.
           still i (rw (ne_eqb (word f.order a 44) 0 some) (omega (arith, once_in (extent_at f.order a x) i low (omega arith)))) in
-        let len : rec_len_of f.order b x ≡ rec_len_of f.order a x = word_kept f.order a b (x + 4) x (x + 24 + rec_len_of f.order a x) held (omega arith) (omega arith) in
-        let gate : magic_of f.order b x ≡ magic_of f.order a x = word_kept f.order a b (x + 20) x (x + 24 + rec_len_of f.order a x) held (omega arith) (omega arith) in
-        let there : AreaInPlace f b x = record {
-          aligned = place.aligned;
-          above = place.above;
-          len_aligned = ap (λ n. n % 4) len ∙ place.len_aligned;
-          within = omega (arith, len, place.within);
-          gate = elim place.gate [ inl is_open ↦ inl (gate ∙ is_open) | inr is_shut ↦ inr (gate ∙ is_shut) ]
-        } in
-        (
-          rw (ne_eqb (word f.order b 44) 0 some_b) (rw (ne_eqb (word f.order a 44) 0 some) (λ i. (at i, 24 + (ap (rec_len_of f.order b) at ∙ len) i) ∷ [])),
-          inr (subst (AreaInPlace f b) (sym at) there),
-          elim shut [ inl none ↦ absurd (some none) | inr is_shut ↦ inr (ap (magic_of f.order b) at ∙ gate ∙ is_shut) ]
-        )
+          let len : rec_len_of f.order b x ≡ rec_len_of f.order a x = word_kept f.order a b (x + 4) x (x + 24 + rec_len_of f.order a x) held (omega arith) (omega arith) in
+          let gate : magic_of f.order b x ≡ magic_of f.order a x = word_kept f.order a b (x + 20) x (x + 24 + rec_len_of f.order a x) held (omega arith) (omega arith) in
+          let there : AreaInPlace f b x = record {
+            aligned = place.aligned;
+            above = place.above;
+            len_aligned = ap (λ n. n % 4) len ∙ place.len_aligned;
+            within = omega (arith, len, place.within);
+            gate = elim place.gate [ inl is_open ↦ inl (gate ∙ is_open) | inr is_shut ↦ inr (gate ∙ is_shut) ];
+          } in (
+            rw (ne_eqb (word f.order b 44) 0 some_b) (rw (ne_eqb (word f.order a 44) 0 some) (λ i. (at i, 24 + (ap (rec_len_of f.order b) at ∙ len) i) ∷ [])),
+            inr (subst (AreaInPlace f b) (sym at) there),
+            elim shut [ inl none ↦ absurd (some none) | inr is_shut ↦ inr (ap (magic_of f.order b) at ∙ gate ∙ is_shut) ],
+          )
     ]
 
 -- hands stay in place in an image that doesn't become shorter
 pub hands_kept : (f : Form) (a b : List ℕ) (hands : List HandPair) → length a ≤ length b → AllHandOk f a hands → AllHandOk f b hands
 hands_kept f a b [] longer held = tt
 hands_kept f a b (h ∷ hs) longer held = (
-    record { aligned = held.0.aligned; len_aligned = held.0.len_aligned; above = held.0.above; within = omega (arith, longer, held.0.within) },
-    hands_kept f a b hs longer held.1
+  record { aligned = held.0.aligned; len_aligned = held.0.len_aligned; above = held.0.above; within = omega (arith, longer, held.0.within) },
+  hands_kept f a b hs longer held.1,
 )
 
 -- a byte of the undo area stands behind the heads
 pub area_within : (f : Form) (a : List ℕ) (i : ℕ) → AreaOk f a → 1 ≤ times (area f.order a) i → data_start f ≤ i
 area_within f a i ok held =
     elim (cases_eq (word f.order a 44) 0) [
-      inl none ↦ absurd (omega (arith, rw (eq-eqb (word f.order a 44) 0 none) at held))
-    | inr some ↦
-        let x = word f.order a 44 in
-        let held_once : 1 ≤ once (extent_at f.order a x) i + 0 = rw (ne_eqb (word f.order a 44) 0 some) at held in
-        let lies = once_lies (extent_at f.order a x) i (omega (arith, held_once)) in
-        elim ok [ inl none ↦ absurd (some none) | inr place ↦ omega (arith, lies.0, place.above) ]
+      | inl none ↦ absurd (omega (arith, rw (eq-eqb (word f.order a 44) 0 none) at held))
+      | inr some ↦
+          let x = word f.order a 44 in
+          let held_once : 1 ≤ once (extent_at f.order a x) i + 0 = rw (ne_eqb (word f.order a 44) 0 some) at held in
+          let lies = once_lies (extent_at f.order a x) i (omega (arith, held_once)) in
+          elim ok [ inl none ↦ absurd (some none) | inr place ↦ omega (arith, lies.0, place.above) ]
     ]
 
 -- what holds of each chain holds after another is put in the place of one
 pub put_each : (P : ℕ → List ℕ → Type 0) (chain : ℕ → List ℕ) (j : ℕ) (ys : List ℕ) (n : ℕ) → P j ys → ((k : ℕ) → k < n → (k ≡ j → ⊥) → P k (chain k)) → (k : ℕ) → k < n → P k (put chain j ys k)
 put_each P chain j ys n here others k low =
     elim (cases_eq k j) [
-      inl e ↦ subst (P k) (sym (put_here chain j ys k e)) (subst (λ l. P l ys) (sym e) here)
-    | inr ne ↦ subst (P k) (sym (put_other chain j ys k ne)) (others k low ne)
+      | inl e ↦ subst (P k) (sym (put_here chain j ys k e)) (subst (λ l. P l ys) (sym e) here)
+      | inr ne ↦ subst (P k) (sym (put_other chain j ys k ne)) (others k low ne)
     ]
 
 module _ (f : Form) (a b : List ℕ) (j : ℕ) (ys : List ℕ) (hands news : List HandPair) (low_j : j < f.chains) (A : AcceptWith f a hands) (E : Exchanged f a b j (chain_of f a j) ys hands news) where
@@ -141,7 +140,7 @@ module _ (f : Form) (a b : List ℕ) (j : ℕ) (ys : List ℕ) (hands news : Lis
   other_filed k low ne = filed_all_kept f IsChained a b k (word f.order a (chain_head k)) (chain_of f a k) longer (A.chains k low) (bodies_still f a b (chain_of f a k) (other_still k low ne)) (A.filed k low)
 
   other_keys : (k : ℕ) → k < f.chains → (k ≡ j → ⊥) → KeysDiffer f b (chain_of f a k)
-  other_keys k low ne = subst (λ ps. IsDistinct same_key (map (λ (p : List ℕ × List ℕ). p.0) ps)) (sym (other_pairs k low ne)) (A.keys k low)
+  other_keys k low ne = subst (λ ps. IsDistinct same_key (keys_of ps)) (sym (other_pairs k low ne)) (A.keys k low)
 
   free_linked : Linked f IsFree b (word f.order b free_head) (free_of f a)
   free_linked =
@@ -152,7 +151,7 @@ module _ (f : Form) (a b : List ℕ) (j : ℕ) (ys : List ℕ) (hands news : Lis
   counts : (i : ℕ) → times (all_extents f b (put (chain_of f a) j ys) (free_of f a) news) i ≡ times (all_extents f a (chain_of f a) (free_of f a) hands) i
   counts i =
       let swapped = times_swapped (λ k. extents f.order b (put (chain_of f a) j ys k)) (λ k. extents f.order a (chain_of f a k)) j i f.chains low_j
-          (λ k low ne. ap (extents f.order b) (put_other (chain_of f a) j ys k ne) ∙ other_bodies k low ne) in
+      (λ k low ne. ap (extents f.order b) (put_other (chain_of f a) j ys k ne) ∙ other_bodies k low ne) in
       let here : times (extents f.order b (put (chain_of f a) j ys j)) i ≡ times (extents f.order b ys) i = ap (λ xs. times (extents f.order b xs) i) (put_here (chain_of f a) j ys j refl) in
       let frees : times (extents f.order b (free_of f a)) i ≡ times (extents f.order a (free_of f a)) i = ap (λ es. times es i) (extents_kept f a b (free_of f a) (bodies_still f a b (free_of f a) free_still)) in
       let undos : times (area f.order b) i ≡ times (area f.order a) i = ap (λ es. times es i) undo.0 in
@@ -174,9 +173,9 @@ module _ (f : Form) (a b : List ℕ) (j : ℕ) (ys : List ℕ) (hands news : Lis
     held = hands_kept f a b news longer E.held;
     apart = λ i. omega (arith, counts i, A.apart i);
     stray = λ i above below none.
-      (let nothing : times (all_extents f a (chain_of f a) (free_of f a) hands) i ≡ 0 = sym (counts i) ∙ none in
-       let same : slice_index b i ≡ slice_index a i = E.high i above (omega (arith, nothing, parts i, times_member (λ l. extents f.order a (chain_of f a l)) j i f.chains low_j)) in
-       elim (A.stray i above (omega (arith, below, E.size)) nothing) [ inl zero_there ↦ inl (same ∙ zero_there) | inr padding ↦ inr (same ∙ padding) ])
+        (let nothing : times (all_extents f a (chain_of f a) (free_of f a) hands) i ≡ 0 = sym (counts i) ∙ none in
+        let same : slice_index b i ≡ slice_index a i = E.high i above (omega (arith, nothing, parts i, times_member (λ l. extents f.order a (chain_of f a l)) j i f.chains low_j)) in
+        elim (A.stray i above (omega (arith, below, E.size)) nothing) [ inl zero_there ↦ inl (same ∙ zero_there) | inr padding ↦ inr (same ∙ padding) ]);
   }
 
   -- the image is accepted with the new hands
@@ -211,20 +210,20 @@ module _ (f : Form) (a b : List ℕ) (j : ℕ) (ys : List ℕ) (hands news : Lis
   pub map_same : ((q : List ℕ) → lookup (same_key q) (pairs f.order b ys) ≡ lookup (same_key q) (pairs f.order a (chain_of f a j))) → (q : List ℕ) → map_of f b q ≡ map_of f a q
   map_same same q =
       elim (cases_eq (home f q) j) [
-        inl e ↦
-          map_here q e ∙ same q ∙ ap (λ k. lookup (same_key q) (pairs f.order a (chain_of f a k))) (sym e)
-          ∙ sym (map_home f a q (accepted_filed f a hands A))
-      | inr ne ↦ map_else q ne
+        | inl e ↦
+            map_here q e ∙ same q ∙ ap (λ k. lookup (same_key q) (pairs f.order a (chain_of f a k))) (sym e)
+            ∙ sym (map_home f a q (accepted_filed f a hands A))
+        | inr ne ↦ map_else q ne
       ]
 
   -- and changes at one key where the pairs of the chain do
   pub map_updated : (k : List ℕ) (w : Option (List ℕ)) → home f k ≡ j → ((q : List ℕ) → lookup (same_key q) (pairs f.order b ys) ≡ update same_key (λ p. lookup (same_key p) (pairs f.order a (chain_of f a j))) k w q) → (q : List ℕ) → map_of f b q ≡ update same_key (map_of f a) k w q
   map_updated k w here changed q =
       elim (cases_eq (home f q) j) [
-        inl e ↦
-          map_here q e ∙ changed q
-          ∙ ap (λ o. cond (same_key k q) w o) (ap (λ l. lookup (same_key q) (pairs f.order a (chain_of f a l))) (sym e) ∙ sym (map_home f a q (accepted_filed f a hands A)))
-      | inr ne ↦
-          let apart : same_key k q ≡ false = same_key-other k q (λ same. ne (ap (home f) (sym same) ∙ here)) in
-          map_else q ne ∙ sym (rw apart refl)
+        | inl e ↦
+            map_here q e ∙ changed q
+            ∙ ap (λ o. cond (same_key k q) w o) (ap (λ l. lookup (same_key q) (pairs f.order a (chain_of f a l))) (sym e) ∙ sym (map_home f a q (accepted_filed f a hands A)))
+        | inr ne ↦
+            let apart : same_key k q ≡ false = same_key-other k q (λ same. ne (ap (home f) (sym same) ∙ here)) in
+            map_else q ne ∙ sym (rw apart refl)
       ]

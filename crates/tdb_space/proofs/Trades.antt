@@ -31,42 +31,42 @@ free_taken f a b xs before y F led L =
     record {
       size = L.size;
       low = λ i under apart.
-        elim (cases_lt i before) [
-          inl less ↦ L.others i (inl less)
-        | inr high ↦
-            elim (cases_lt i (before + 4)) [
-              inl within ↦
-                elim (led_from free_head xs before y led) [
-                  inl e ↦ elim apart [ inl left ↦ absurd (omega (arith, left, high, e)) | inr right ↦ absurd (omega (arith, right, within, e)) ]
-                | inr m ↦ absurd (omega (arith, under, high, (linked_whole f IsFree a (word f.order a free_head) xs before F.list m).0.above))
+          elim (cases_lt i before) [
+            | inl less ↦ L.others i (inl less)
+            | inr high ↦
+                elim (cases_lt i (before + 4)) [
+                  | inl within ↦
+                      elim (led_from free_head xs before y led) [
+                        | inl e ↦ elim apart [ inl left ↦ absurd (omega (arith, left, high, e)) | inr right ↦ absurd (omega (arith, right, within, e)) ]
+                        | inr m ↦ absurd (omega (arith, under, high, (linked_whole f IsFree a (word f.order a free_head) xs before F.list m).0.above))
+                      ]
+                  | inr over ↦ L.others i (inr over)
                 ]
-            | inr over ↦ L.others i (inr over)
-            ]
-        ];
+          ];
       high = λ i from none.
-        elim (cases_lt i before) [
-          inl less ↦ L.others i (inl less)
-        | inr high ↦
-            elim (cases_lt i (before + 4)) [
-              inl within ↦
-                elim (changed_word f IsFree a b free_head xs before y F.list low_head F.once_held led L i high within) [
-                  inl under ↦ absurd (omega (arith, under, from))
-                | inr some ↦ absurd (omega (arith, some, none))
+          elim (cases_lt i before) [
+            | inl less ↦ L.others i (inl less)
+            | inr high ↦
+                elim (cases_lt i (before + 4)) [
+                  | inl within ↦
+                      elim (changed_word f IsFree a b free_head xs before y F.list low_head F.once_held led L i high within) [
+                        | inl under ↦ absurd (omega (arith, under, from))
+                        | inr some ↦ absurd (omega (arith, some, none))
+                      ]
+                  | inr over ↦ L.others i (inr over)
                 ]
-            | inr over ↦ L.others i (inr over)
-            ]
-        ];
+          ];
       linked = unlinked f IsFree a b free_head xs before y F.list low_head F.once_held led L;
       held = (record { aligned = whole.aligned; len_aligned = whole.len_aligned; above = whole.above; within = whole.within }, tt);
-      count = λ i. omega (arith, unlinked_count f IsFree a b free_head xs before y F.list low_head F.once_held led L i)
+      count = λ i. omega (arith, unlinked_count f IsFree a b free_head xs before y F.list low_head F.once_held led L i);
     }
 
 -- a hand is put in front of the free list
 pub free_given : (f : Form) (a b xs : List ℕ) (h : HandPair) → FreeIs f a xs → ((i : ℕ) → times (extents f.order a xs) i + once (h.0, 24 + h.1) i ≤ 1) → PutFree f a b h → FreeExchanged f a b xs (h.0 ∷ xs) (h ∷ []) []
 free_given f a b xs h F apart P =
     let still : Still a b f xs = λ i some.
-      P.high i (times_within f IsFree a (word f.order a free_head) xs i F.list some).0
-      (elim (where_is (h.0, 24 + h.1) i) [ lies _ _ one ↦ absurd (omega (arith, one, some, apart i)) | below under _ ↦ inl under | above over _ ↦ inr (omega (arith, over)) ]) in
+    P.high i (times_within f IsFree a (word f.order a free_head) xs i F.list some).0
+    (elim (where_is (h.0, 24 + h.1) i) [ lies _ _ one ↦ absurd (omega (arith, one, some, apart i)) | below under _ ↦ inl under | above over _ ↦ inr (omega (arith, over)) ]) in
     record {
       size = P.size;
       low = P.low;
@@ -76,13 +76,13 @@ free_given f a b xs h F apart P =
         P.whole,
         P.is_free,
         subst (λ at. Linked f IsFree b at xs) (sym P.next)
-          (linked_kept f IsFree a b (word f.order a free_head) xs (omega (arith, P.size)) F.list (bodies_still f a b xs still) (nexts_still f a b xs still))
+            (linked_kept f IsFree a b (word f.order a free_head) xs (omega (arith, P.size)) F.list (bodies_still f a b xs still) (nexts_still f a b xs still)),
       );
       held = tt;
       count = λ i.
-        (let old : times (extents f.order b xs) i ≡ times (extents f.order a xs) i = ap (λ es. times es i) (extents_kept f a b xs (bodies_still f a b xs still)) in
-         let new : once (h.0, 24 + rec_len_of f.order b h.0) i ≡ once (h.0, 24 + h.1) i = ap (λ n. once (h.0, 24 + n) i) P.length_kept in
-         omega (arith, old, new))
+          (let old : times (extents f.order b xs) i ≡ times (extents f.order a xs) i = ap (λ es. times es i) (extents_kept f a b xs (bodies_still f a b xs still)) in
+          let new : once (h.0, 24 + rec_len_of f.order b h.0) i ≡ once (h.0, 24 + h.1) i = ap (λ n. once (h.0, 24 + n) i) P.length_kept in
+          omega (arith, old, new));
     }
 
 -- a free record is made shorter where it stands, and what is behind it is a hand
@@ -94,33 +94,33 @@ free_cut f a b xs y n m F member T old_len new_len is_free =
       size = T.size;
       low = λ i under apart. T.others i (inl (omega (arith, under, whole.above)));
       high = λ i from none.
-        elim (cases_lt i (y + 4)) [
-          inl under ↦ T.others i (inl under)
-        | inr high ↦
-            elim (cases_lt i (y + 24 + rec_len_of f.order a y)) [
-              inl within ↦ absurd (omega (arith, none, member_held f.order a xs y i member, once_in (extent_at f.order a y) i (omega arith) (omega arith)))
-            | inr over ↦ T.others i (inr over)
-            ]
-        ];
+          elim (cases_lt i (y + 4)) [
+            | inl under ↦ T.others i (inl under)
+            | inr high ↦
+                elim (cases_lt i (y + 24 + rec_len_of f.order a y)) [
+                  | inl within ↦ absurd (omega (arith, none, member_held f.order a xs y i member, once_in (extent_at f.order a y) i (omega arith) (omega arith)))
+                  | inr over ↦ T.others i (inr over)
+                ]
+          ];
       linked = subst (λ at. Linked f IsFree b at xs) (sym (word_agrees f.order b a free_head (λ i from to. T.others i (inl (omega (arith, whole.above))))))
-        (linked_touched f IsFree a b (word f.order a free_head) xs y F.list beside is_free);
+          (linked_touched f IsFree a b (word f.order a free_head) xs y F.list beside is_free);
       held = (
         record {
           aligned = omega (arith, whole.aligned, T.whole.len_aligned, new_len);
           len_aligned = omega (arith, whole.len_aligned, old_len, T.whole.len_aligned, new_len);
           above = omega (arith, whole.above);
-          within = omega (arith, whole.within, old_len)
+          within = omega (arith, whole.within, old_len);
         },
-        tt
+        tt,
       );
       count = λ i.
-        (let split = once_joined y (24 + n) (24 + m) i in
-         let total : 24 + (n + 24 + m) ≡ 24 + n + (24 + m) = omega arith in
-         let place : y + 24 + n ≡ y + (24 + n) = omega arith in
-         let old : once (y, 24 + rec_len_of f.order a y) i ≡ once (y, 24 + n + (24 + m)) i = ap (λ l. once (y, 24 + l) i) old_len ∙ ap (λ l. once (y, l) i) total in
-         let new : once (y, 24 + rec_len_of f.order b y) i ≡ once (y, 24 + n) i = ap (λ l. once (y, 24 + l) i) new_len in
-         let rest : once (y + 24 + n, 24 + m) i ≡ once (y + (24 + n), 24 + m) i = ap (λ p. once (p, 24 + m) i) place in
-         omega (arith, split, old, new, rest, times_touched f IsFree a b (word f.order a free_head) xs y i F.list beside member))
+          (let split = once_joined y (24 + n) (24 + m) i in
+          let total : 24 + (n + 24 + m) ≡ 24 + n + (24 + m) = omega arith in
+          let place : y + 24 + n ≡ y + (24 + n) = omega arith in
+          let old : once (y, 24 + rec_len_of f.order a y) i ≡ once (y, 24 + n + (24 + m)) i = ap (λ l. once (y, 24 + l) i) old_len ∙ ap (λ l. once (y, l) i) total in
+          let new : once (y, 24 + rec_len_of f.order b y) i ≡ once (y, 24 + n) i = ap (λ l. once (y, 24 + l) i) new_len in
+          let rest : once (y + 24 + n, 24 + m) i ≡ once (y + (24 + n), 24 + m) i = ap (λ p. once (p, 24 + m) i) place in
+          omega (arith, split, old, new, rest, times_touched f IsFree a b (word f.order a free_head) xs y i F.list beside member));
     }
 
 -- two trades, one after the other
@@ -131,7 +131,7 @@ free_then f a b c xs ys zs first middle last E G = record {
   high = λ i from none. G.high i from (E.count i ∙ none) ∙ E.high i from none;
   linked = G.linked;
   held = hands_kept f b a last (omega (arith, E.size)) G.held;
-  count = λ i. G.count i ∙ E.count i
+  count = λ i. G.count i ∙ E.count i;
 }
 
 -- the hands that are left may stand as others that hold the same bytes
@@ -142,7 +142,7 @@ free_met_hands f a b xs ys before after others E held same = record {
   high = E.high;
   linked = E.linked;
   held = held;
-  count = λ i. omega (arith, same i, E.count i)
+  count = λ i. omega (arith, same i, E.count i);
 }
 
 -- and so may the hands that there were
@@ -153,7 +153,7 @@ free_had_hands f a b xs ys before others after E same = record {
   high = λ i from none. E.high i from (omega (arith, same i, none));
   linked = E.linked;
   held = E.held;
-  count = λ i. omega (arith, same i, E.count i)
+  count = λ i. omega (arith, same i, E.count i);
 }
 
 -- hands that take no part
@@ -175,5 +175,5 @@ free_more f a b xs ys before after more E held = record {
   high = λ i from none. E.high i from (omega (arith, none, times_both before more i));
   linked = E.linked;
   held = hands_both f a after more E.held held;
-  count = λ i. omega (arith, E.count i, times_both before more i, times_both after more i)
+  count = λ i. omega (arith, E.count i, times_both before more i, times_both after more i);
 }

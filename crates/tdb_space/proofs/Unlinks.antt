@@ -19,13 +19,13 @@ led_past f M a b p [] before y longer list apart led bodies next others = absurd
 led_past f M a b p (x ∷ xs) before y longer list apart (inl here) bodies next others =
     let rest_word : word f.order b p ≡ word f.order a x = ap (word f.order b) here.0 ∙ next ∙ ap (word f.order a) (sym here.1) in
     let still : (z : ℕ) → Member z xs → word f.order b z ≡ word f.order a z = λ z m.
-      others z (member_other z p (x ∷ xs) (member_other z x xs m)) (λ e. apart (subst (λ w. Member w (x ∷ xs)) (e ∙ sym here.0) (member_other z x xs m))) in
+    others z (member_other z p (x ∷ xs) (member_other z x xs m)) (λ e. apart (subst (λ w. Member w (x ∷ xs)) (e ∙ sym here.0) (member_other z x xs m))) in
     rw (eq-eqb x y here.1) (subst (λ at. Linked f M b at xs) (sym rest_word) (linked_kept f M a b (word f.order a x) xs longer list.3 bodies.1 (nexts_from a b f xs still)))
 led_past f M a b p (x ∷ xs) before y longer list apart (inr there) bodies next others =
     let other : x ≡ y → ⊥ = λ e. linked_apart f M a (word f.order a p) x xs list (subst (λ w. Member w xs) (sym e) (led_member x xs before y there)) in
     let passed : p ≡ before → ⊥ = λ e. elim (led_from x xs before y there) [
-      inl same ↦ apart (subst (λ w. Member w (x ∷ xs)) (sym (e ∙ same)) (member_first x xs))
-    | inr m ↦ apart (subst (λ w. Member w (x ∷ xs)) (sym e) (member_other before x xs m))
+      | inl same ↦ apart (subst (λ w. Member w (x ∷ xs)) (sym (e ∙ same)) (member_first x xs))
+      | inr m ↦ apart (subst (λ w. Member w (x ∷ xs)) (sym e) (member_other before x xs m))
     ] in
     let first : word f.order b p ≡ x = others p (member_first p (x ∷ xs)) passed ∙ list.0 in
     let rest = led_past f M a b x xs before y longer list.3 (linked_apart f M a (word f.order a p) x xs list) there bodies.1 next (λ z m. others z (member_other z p (x ∷ xs) m)) in
@@ -43,29 +43,29 @@ module _ (f : Form) (M : ℕ → Type 0) (a b : List ℕ) (p : ℕ) (xs : List �
   pub changed_word : (i : ℕ) → before ≤ i → i < before + 4 → (i < data_start f) ⊎ (1 ≤ times (extents f.order a xs) i)
   changed_word i from to =
       elim (led_from p xs before y led) [
-        inl e ↦ inl (omega (arith, e, low))
-      | inr m ↦ inr (omega (arith, once_in (extent_at f.order a before) i from (omega arith), member_held f.order a xs before i m))
+        | inl e ↦ inl (omega (arith, e, low))
+        | inr m ↦ inr (omega (arith, once_in (extent_at f.order a before) i from (omega arith), member_held f.order a xs before i m))
       ]
 
   -- the body of each record stays
   body_stays : (z : ℕ) → Member z xs → Body a b f z
   body_stays z m i from to =
       elim (cases_lt i before) [
-        inl under ↦ L.others i (inl under)
-      | inr high ↦
-          elim (cases_lt i (before + 4)) [
-            inl within ↦
-              elim (led_from p xs before y led) [
-                inl e ↦ absurd (omega (arith, e, low, (linked_whole f M a (word f.order a p) xs z list m).0.above))
-              | inr n ↦
-                  elim (cases_eq before z) [
-                    inl e ↦ absurd (omega (arith, e))
-                  | inr ne ↦
-                      absurd (omega (arith, held i, two_members f.order a xs before z i n m ne, once_in (extent_at f.order a before) i high (omega arith), once_in (extent_at f.order a z) i (omega arith) (omega arith)))
+        | inl under ↦ L.others i (inl under)
+        | inr high ↦
+            elim (cases_lt i (before + 4)) [
+              | inl within ↦
+                  elim (led_from p xs before y led) [
+                    | inl e ↦ absurd (omega (arith, e, low, (linked_whole f M a (word f.order a p) xs z list m).0.above))
+                    | inr n ↦
+                        elim (cases_eq before z) [
+                          | inl e ↦ absurd (omega (arith, e))
+                          | inr ne ↦
+                              absurd (omega (arith, held i, two_members f.order a xs before z i n m ne, once_in (extent_at f.order a before) i high (omega arith), once_in (extent_at f.order a z) i (omega arith) (omega arith)))
+                        ]
                   ]
-              ]
-          | inr over ↦ L.others i (inr over)
-          ]
+              | inr over ↦ L.others i (inr over)
+            ]
       ]
 
   pub unlinked_bodies : Bodies a b f xs
@@ -75,27 +75,27 @@ module _ (f : Form) (M : ℕ → Type 0) (a b : List ℕ) (p : ℕ) (xs : List �
   next_stays : (z : ℕ) → Member z (p ∷ xs) → (z ≡ before → ⊥) → word f.order b z ≡ word f.order a z
   next_stays z m ne =
       word_agrees f.order b a z (λ i from to.
-        elim (cases_lt i before) [
-          inl under ↦ L.others i (inl under)
+      elim (cases_lt i before) [
+        | inl under ↦ L.others i (inl under)
         | inr high ↦
             elim (cases_lt i (before + 4)) [
-              inl within ↦
-                elim (led_from p xs before y led) [
-                  inl e ↦
-                    elim (member_cases z p xs m) [
-                      inl e' ↦ absurd (ne (e' ∙ sym e))
-                    | inr n ↦ absurd (omega (arith, e, low, (linked_whole f M a (word f.order a p) xs z list n).0.above))
-                    ]
-                | inr n ↦
-                    elim (member_cases z p xs m) [
-                      inl e' ↦ absurd (omega (arith, e', low, (linked_whole f M a (word f.order a p) xs before list n).0.above))
-                    | inr n' ↦
-                        absurd (omega (arith, held i, two_members f.order a xs before z i n n' (λ e. ne (sym e)), once_in (extent_at f.order a before) i high (omega arith), once_in (extent_at f.order a z) i from (omega arith)))
-                    ]
-                ]
-            | inr over ↦ L.others i (inr over)
+              | inl within ↦
+                  elim (led_from p xs before y led) [
+                    | inl e ↦
+                        elim (member_cases z p xs m) [
+                          | inl e' ↦ absurd (ne (e' ∙ sym e))
+                          | inr n ↦ absurd (omega (arith, e, low, (linked_whole f M a (word f.order a p) xs z list n).0.above))
+                        ]
+                    | inr n ↦
+                        elim (member_cases z p xs m) [
+                          | inl e' ↦ absurd (omega (arith, e', low, (linked_whole f M a (word f.order a p) xs before list n).0.above))
+                          | inr n' ↦
+                              absurd (omega (arith, held i, two_members f.order a xs before z i n n' (λ e. ne (sym e)), once_in (extent_at f.order a before) i high (omega arith), once_in (extent_at f.order a z) i from (omega arith)))
+                        ]
+                  ]
+              | inr over ↦ L.others i (inr over)
             ]
-        ])
+      ])
 
   first_below : Member p xs → ⊥
   first_below m = absurd (omega (arith, low, (linked_whole f M a (word f.order a p) xs p list m).0.above))

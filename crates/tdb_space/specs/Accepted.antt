@@ -1,6 +1,7 @@
 -- Accepted images: no byte is lost, and none belongs to two.
-use Rattle.std.specs.Prelude.{◌≡◌, ℕ, ◌+◌, ◌%◌, ◌<◌, ◌≤◌, ◌⊎◌, List, [], ◌∷◌, length, map, slice_index}
+use Rattle.std.specs.Prelude.{◌≡◌, ℕ, ◌+◌, ◌%◌, ◌<◌, ◌≤◌, ◌⊎◌, List, [], ◌∷◌, length, slice_index}
 use Rattle.std.specs.List.{IsDistinct}
+use Rattle.std.specs.Map.{keys_of}
 use Rattle.tdb_words.specs.declared.record.TheConstants.{USED, GATE_OPEN, GATE_SHUT, PADDING}
 use Rattle.tdb_words.specs.Word.{word}
 use Rattle.tdb_words.specs.Header.{HeaderOk}
@@ -20,6 +21,7 @@ pub record AreaInPlace (f : Form) (img : List ℕ) (at : ℕ) : Type 0 where
   pub within : at + 24 + rec_len_of f.order img at ≤ length img
   pub gate : (magic_of f.order img at ≡ GATE_OPEN) ⊎ (magic_of f.order img at ≡ GATE_SHUT)
 
+-- there is no undo area, or it is in place: the word at 44 is 0 or its offset
 abbrev pub AreaOk : Form → List ℕ → Type 0
 AreaOk f img = (word f.order img 44 ≡ 0) ⊎ AreaInPlace f img (word f.order img 44)
 
@@ -40,7 +42,7 @@ AllFiled f img chain (x ∷ xs) = (magic_of f.order img x ≡ USED → Filed f i
 
 -- no two used records of these hold the same key
 abbrev pub KeysDiffer : Form → List ℕ → List ℕ → Type 0
-KeysDiffer f img offs = IsDistinct same_key (map (λ p. p.0) (pairs f.order img offs))
+KeysDiffer f img offs = IsDistinct same_key (keys_of (pairs f.order img offs))
 
 -- each chain head has its chain, and each used record is filed there by its key's hash; so the map at a key is found in one chain
 pub record IsFiled (f : Form) (img : List ℕ) : Type 0 where

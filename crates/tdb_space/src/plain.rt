@@ -1,6 +1,7 @@
 // A plain program over the bytes of a file that computes what the definitions of images say, slowly and simply.
 
-ghost use Rattle.std.specs.Prelude.{◌≡◌, ℕ, ◌+◌, ◌<◌, ◌≤◌, ◌++◌, List, length, map, slice_index, All, IfOk, SomeIff, MatchOption, MatchBool};
+ghost use Rattle.std.specs.Bool.{OnTrue};
+ghost use Rattle.std.specs.Prelude.{◌↔◌, IsTrue, IsSome, IfSome, IfNone, ◌≡◌, ℕ, ◌+◌, ◌<◌, ◌≤◌, ◌++◌, List, length, map, slice_index, All, IfOk, SomeIff, MatchOption, MatchBool};
 ghost use Rattle.tdb_words.specs.Word.{word};
 ghost use Rattle.tdb_words.specs.Record.{rec_at};
 ghost use Rattle.tdb_space.specs.Form.{form_in, data_start, chain_head};
@@ -94,8 +95,10 @@ pub fn chain_offsets(
     head: usize,
 ) -> Result<Option<Vec<u32>>, AllocError>
     requires { head + 4 ≤ length image.now }
-    ensures { let f = form_in header.now in let first = word f.order image.now head in IfOk result
-        (λ r. MatchOption r ((offs : List ℕ) → Chain f image.now first offs → ⊥) (λ v. Chain f image.now first v.items)) }
+    ensures found { let first = word header.now.order image.now head in
+        IfOk result (λ r. IfSome r (λ v. Chain (form_in header.now) image.now first v.items)) }
+    ensures none { let first = word header.now.order image.now head in
+        IfOk result (λ r. IfNone r ((offs : List ℕ) → ¬ Chain (form_in header.now) image.now first offs)) }
 {
     let mut offs = Vec::new(alloc);
     let mut at = word_in(image, head, header.order);
@@ -117,8 +120,9 @@ pub fn chain_offsets(
 // The key and the value of the record at an offset, if they fit in it.
 fn held_at<'a>(image: &'a [u8], header: &Header, at: u32) -> Option<KeyValue<'a>>
     requires { Whole (form_in header.now) image.now at }
-    ensures { let o = header.now.order in MatchOption result (Fits o image.now at → ⊥)
-        (λ p. Fits o image.now at × (pair_seen p ≡ (key_at o image.now at, data_at o image.now at))) }
+    ensures fits { IsSome result ↔ Fits header.now.order image.now at }
+    ensures pair { let o = header.now.order in
+        IfSome result (λ p. pair_seen p ≡ (key_at o image.now at, data_at o image.now at)) }
 {
     let at = at as usize;
     let rec = rec_in(image, at, header.order);
@@ -142,8 +146,10 @@ fn push_pair<'a>(
     all: &mut Vec<KeyValue<'a>>,
 ) -> Result<bool, AllocError>
     requires { Whole (form_in header.now) image.now at }
-    ensures { let o = header.now.order in let Fit = magic_of o image.now at ≡ USED → Fits o image.now at in IfOk result
-        (λ fit. MatchBool fit (Fit × (map pair_seen all.new.items ≡ map pair_seen all.old.items ++ pair_of o image.now at)) (Fit → ⊥)) }
+    ensures fits { let o = header.now.order in
+        IfOk result (λ fits. IsTrue fits ↔ (magic_of o image.now at ≡ USED → Fits o image.now at)) }
+    ensures pair { let olds = map pair_seen all.old.items in let here = pair_of header.now.order image.now at in
+        IfOk result (λ fits. OnTrue fits (map pair_seen all.new.items ≡ olds ++ here)) }
 {
     if rec_in(image, at as usize, header.order).magic != USED {
         return Ok(true);
@@ -165,9 +171,9 @@ fn push_pairs<'a>(
     all: &mut Vec<KeyValue<'a>>,
 ) -> Result<bool, AllocError>
     requires { All (Whole (form_in header.now) image.now) offs.now }
-    ensures { let o = header.now.order in IfOk result (λ fit. MatchBool fit
-        (AllFit o image.now offs.now × (map pair_seen all.new.items ≡ map pair_seen all.old.items ++ pairs o image.now offs.now))
-        (AllFit o image.now offs.now → ⊥)) }
+    ensures fit { IfOk result (λ fit. IsTrue fit ↔ AllFit header.now.order image.now offs.now) }
+    ensures pairs { let olds = map pair_seen all.old.items in let here = pairs header.now.order image.now offs.now in
+        IfOk result (λ fit. OnTrue fit (map pair_seen all.new.items ≡ olds ++ here)) }
 {
     for at in offs {
         if !push_pair(image, header, *at, all)? {
@@ -185,8 +191,9 @@ pub fn pairs_in_order<'a>(
     header: &Header,
 ) -> Result<Option<Vec<KeyValue<'a>>>, AllocError>
     requires { data_start (form_in header.now) ≤ length image.now }
-    ensures { let f = form_in header.now in IfOk result (λ r. MatchOption r (HasPairs f image.now → ⊥)
-        (λ v. HasPairs f image.now × (map pair_seen v.items ≡ order_of f image.now))) }
+    ensures found { IfOk result (λ r. IsSome r ↔ HasPairs (form_in header.now) image.now) }
+    ensures pairs { IfOk result
+        (λ r. IfSome r (λ v. map pair_seen v.items ≡ order_of (form_in header.now) image.now)) }
 {
     let mut all = Vec::new(alloc);
     for chain in 0..header.hash_size {

@@ -4,3 +4,10 @@ pub mod Pieces
 pub mod Paths
 pub mod AtEnd
 pub mod Inserts
+pub mod Held
+pub mod Causes
+pub mod Ends
+pub mod Mapped
+pub mod OneLine
+pub mod OneAnswer
+pub mod Statuses

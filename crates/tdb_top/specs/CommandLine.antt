@@ -13,6 +13,10 @@ pub data Line : Type 0 where
 abbrev pub asked_by : C.Line → Line
 asked_by (C.TheVariants.Show file key) = show (string_bytes file) key
 
+-- the key of a line of the code
+abbrev pub key_in : C.Line → List ℕ
+key_in (C.TheVariants.Show file key) = key
+
 -- a word that isn't an option, and not too long: the first byte isn't `-`
 abbrev pub IsPosition : List ℕ → Type 0
 IsPosition [] = Unit {0}

@@ -1,10 +1,15 @@
 -- How a run ends: its status, the line that it prints, and the cause of each.
-use Rattle.std.specs.Prelude.{◌≡◌, ℕ, Bool, Option, None, Some, IsTrue, List, [], ◌∷◌, ◌++◌, ◌⊎◌, take, codes}
+use Rattle.std.specs.Prelude.{◌≡◌, ◌≢◌, ℕ, ◌≤◌, Bool, Option, None, Some, IsTrue, List, [], ◌∷◌, ◌++◌, ◌⊎◌, length, take, map, codes, string_bytes}
+use Rattle.std.specs.Prelude.{String}
+use Rattle.std.specs.Global.{Global}
 use Rattle.tdb_disk.specs.Count.{Rose}
 use Rattle.tdb_disk.specs.History.{History, seen}
 use Rattle.tdb_dump.specs.Line.{data_line}
 use Rattle.tdb_space.specs.Form.{form_of}
-use Rattle.tdb_top.specs.CommandLine.{show, IsLine, HasNoLine}
+use Rattle.tdb_top.specs.declared.ending.Ending as C
+use Rattle.tdb_top.specs.declared.halt.Halt.{Halt}
+use Rattle.tdb_top.specs.declared.halt.Halt.TheVariants.{Refused, Device, Memory}
+use Rattle.tdb_top.specs.CommandLine.{Line, show, IsLine, HasNoLine}
 use Rattle.tdb_top.specs.Walk.{FindsValue, FindsNone, IsUsable, WalkFault}
 
 -- how a run ends
@@ -44,12 +49,30 @@ line_of device_fault = codes "device fault"
 line_of no_memory = codes "memory"
 line_of (missing name) = codes "missing " ++ name
 
+-- what an ending of the code says
+abbrev pub ending_of : C.Ending → Ending
+ending_of (C.TheVariants.Shown value) = shown value
+ending_of C.TheVariants.NoKey = no_key
+ending_of C.TheVariants.NoLine = no_line
+ending_of C.TheVariants.Refused = refused
+ending_of C.TheVariants.DeviceFault = device_fault
+ending_of C.TheVariants.NoMemory = no_memory
+ending_of (C.TheVariants.Missing name) = missing name
+
+-- the endings that answer the words: neither a fault nor want of memory
+abbrev pub IsAnswer : Ending → Type 0
+IsAnswer e = (e ≢ device_fault) × (e ≢ no_memory)
+
 -- what a run meets: its words, what is held at each name, and how often calls of the files had failed before it and after it
 pub record Met : Type 0 where
   pub words : List (List ℕ)
   pub held : List ℕ → Option History
   pub faults_before : ℕ
   pub faults_after : ℕ
+
+-- what is met by a run on these words, from what the files held and how often they had failed
+abbrev pub met_by : List (String Global) → (List ℕ → Option History) → ℕ → ℕ → Met
+met_by words held before after = record { words = map string_bytes words; held = held; faults_before = before; faults_after = after }
 
 -- the words ask to show the key, and the file of that name has these bytes
 pub record Asked (m : Met) (key img : List ℕ) : Type 0 where
@@ -58,6 +81,18 @@ pub record Asked (m : Met) (key img : List ℕ) : Type 0 where
   pub line : IsLine m.words (show file key)
   pub there : m.held file ≡ Some history
   pub bytes : seen history ≡ img
+
+-- why the show of a key in the file of a name ends so, by what is held there and by how often the files had failed before and after
+abbrev pub ShowCause : Option History → List ℕ → List ℕ → ℕ → ℕ → Ending → Type 0
+ShowCause held name key before after (shown value) =
+    (h : History) × (held ≡ Some h) × IsUsable (seen h) × FindsValue (form_of (seen h)) (seen h) key value
+ShowCause held name key before after no_key =
+    (h : History) × (held ≡ Some h) × IsUsable (seen h) × FindsNone (form_of (seen h)) (seen h) key
+ShowCause held name key before after no_line = ⊥
+ShowCause held name key before after refused = (h : History) × (held ≡ Some h) × WalkFault (seen h) key
+ShowCause held name key before after device_fault = Rose before after
+ShowCause held name key before after no_memory = Unit {0}
+ShowCause held name key before after (missing absent) = (absent ≡ name) × (held ≡ None)
 
 -- why a run ends so
 abbrev pub Cause : Met → Ending → Type 0
@@ -81,6 +116,10 @@ pub record Output : Type 0 where
   pub faults_before : ℕ
   pub faults_after : ℕ
 
+-- what an output took, from what it held before and after
+abbrev pub output_by : Bool → List ℕ → List ℕ → ℕ → ℕ → Output
+output_by tells before after faults_before faults_after = record { tells = tells; before = before; after = after; faults_before = faults_before; faults_after = faults_after }
+
 -- the output took the whole line
 pub record PrintsAll (o : Output) (e : Ending) (status : ℕ) : Type 0 where
   pub exits : status ≡ status_of e
@@ -92,5 +131,17 @@ pub record PrintsPart (o : Output) (e : Ending) (status : ℕ) : Type 0 where
   pub failed : Rose o.faults_before o.faults_after
   pub written : IsTrue o.tells → (n : ℕ) × (o.after ≡ o.before ++ take n (text_of e))
 
+-- the output took the line of an ending, or a part of it
 abbrev pub Prints : Output → Ending → ℕ → Type 0
 Prints o e status = PrintsAll o e status ⊎ PrintsPart o e status
+
+-- What is shown where the map of a file holds this for a key: its value at status 0, and nothing there at status 1
+pub record ShowsMap (held : Option (List ℕ)) (o : Output) (status : ℕ) : Type 0 where
+  pub value : status ≡ 0 → (v : List ℕ) × (held ≡ Some v) × (IsTrue o.tells → o.after ≡ o.before ++ text_of (shown v))
+  pub none : status ≡ 1 → held ≡ None
+
+-- the ending of a look-up that halted
+abbrev pub of_halt : Halt → C.Ending
+of_halt Refused = C.TheVariants.Refused
+of_halt Device = C.TheVariants.DeviceFault
+of_halt Memory = C.TheVariants.NoMemory

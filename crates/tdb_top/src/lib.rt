@@ -1,10 +1,19 @@
 //! The top call of the program: command lines are read, and run over a set of files, an input and an output.
 #![tactic(auto)]
 
+mod ending;
 mod front;
 mod halt;
 mod insert;
 mod line;
 mod new_record;
 mod record;
+mod show;
+mod top;
 mod walk;
+
+pub use ending::Status;
+pub use top::run;
+
+#[cfg(test)]
+mod tests;

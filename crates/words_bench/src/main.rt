@@ -32,7 +32,10 @@ fn noise(alloc: Global, mib: usize) -> Result<Vec<u8>, AllocError>
 fn main(rt: HostRuntime) -> anyhow::Result<()> {
     let asked = env::args(&rt)?.nth(1);
     let mib = match &asked {
-        Some(text) => text.as_str().parse::<usize>().context("the size is no number of MiB")?,
+        Some(text) => text
+            .as_str()
+            .parse::<usize>()
+            .context("the size is no number of MiB")?,
         None => 1,
     };
     if mib > MOST {

@@ -5,11 +5,11 @@ use Rattle.tdb_space.specs.Form.{form_in}
 use Rattle.tdb_space.proofs.Followed.{Followed, followed_more, followed_end, followed_stuck, followed_long}
 use Rattle.tdb_space.proofs.plain.chain_offsets.Goals as goal
 
-pub returns-then-at-eq0 : goal.returns-then-at-eq0
-returns-then-at-eq0 c = followed_end _ _ _ _ _ c.loop-turn.invariant.followed c.if-at-eq0.true
+pub returns-then-at-eq0-clause-found : goal.returns-then-at-eq0-clause-found
+returns-then-at-eq0-clause-found c = followed_end _ _ _ _ _ c.loop-turn.invariant.followed c.if-at-eq0.true
 
-pub returns-in-None : goal.returns-in-None
-returns-in-None c = followed_stuck _ _ _ _ _ c.loop-turn.invariant.followed c.if-at-eq0.false c.in-None.ensures
+pub returns-in-None-clause-none : goal.returns-in-None-clause-none
+returns-in-None-clause-none c = followed_stuck _ _ _ _ _ c.loop-turn.invariant.followed c.if-at-eq0.false c.in-None.ensures
 
 pub loop-turn-preserved : goal.loop-turn-preserved
 loop-turn-preserved c =
@@ -22,8 +22,8 @@ loop-turn-preserved c =
       turns = omega (arith, ap length offs, length-append c.loop-turn.offs.items (c.loop-turn.at ∷ []), c.loop-turn.invariant.turns);
     }
 
-pub returns-else-at-eq0-2 : goal.returns-else-at-eq0-2
-returns-else-at-eq0-2 c = followed_long _ _ _ _ _ c.loop-turn.invariant.followed c.if-at-eq0-2.false (omega (arith, c.loop-turn.invariant.turns))
+pub returns-else-at-eq0-2-clause-none : goal.returns-else-at-eq0-2-clause-none
+returns-else-at-eq0-2-clause-none c = followed_long _ _ _ _ _ c.loop-turn.invariant.followed c.if-at-eq0-2.false (omega (arith, c.loop-turn.invariant.turns))
 
-pub returns-then-at-eq0-2 : goal.returns-then-at-eq0-2
-returns-then-at-eq0-2 c = followed_end _ _ _ _ _ c.loop-turn.invariant.followed c.if-at-eq0-2.true
+pub returns-then-at-eq0-2-clause-found : goal.returns-then-at-eq0-2-clause-found
+returns-then-at-eq0-2-clause-found c = followed_end _ _ _ _ _ c.loop-turn.invariant.followed c.if-at-eq0-2.true

@@ -1,0 +1,5 @@
+pub mod DirFiles
+pub mod FileDisk
+pub mod FileSink
+pub mod InSource
+pub mod OutSink

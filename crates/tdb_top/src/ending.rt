@@ -1,0 +1,111 @@
+// How a run ends: its status and the line that it prints.
+
+ghost use Rattle.std.specs.Prelude.{◌≡◌, ◌⊎◌, IfOk};
+ghost use Rattle.tdb_top.specs.declared.ending.Ending.TheVariants.{DeviceFault, NoMemory, Refused as IsRefused};
+ghost use Rattle.tdb_top.specs.declared.halt.Halt.TheVariants.{Refused, Device, Memory};
+ghost use Rattle.tdb_top.specs.Ending.{Ending as Means, ending_of, no_memory, status_of, text_of, Prints, output_by, of_halt};
+
+use crate::halt::Halt;
+use std::alloc::{AllocError, Global};
+use tdb_disk::Sink;
+use tdb_dump::data_line;
+use tdb_words::Bytes;
+
+/// The status that the program exits with.
+#[derive(Clone, Copy, Debug, PartialEq, Eq)]
+pub struct Status(pub u8);
+
+/// How a run ends.
+#[derive(Debug, Drop)]
+pub(crate) enum Ending {
+    /// The value of the key is shown.
+    Shown(Bytes),
+
+    /// The key isn't there.
+    NoKey,
+
+    /// The words are no command line.
+    NoLine,
+
+    /// The file is refused.
+    Refused,
+
+    /// A call of the files or of a disk failed.
+    DeviceFault,
+    NoMemory,
+
+    /// There is no file of this name.
+    Missing(Bytes),
+}
+
+impl From<Halt> for Ending {
+    ghost from_gives = { λ halt ending. ending ≡ of_halt halt };
+
+    fn from(halt: Halt) -> Self {
+        match halt {
+            Halt::Refused => Ending::Refused,
+            Halt::Device => Ending::DeviceFault,
+            Halt::Memory => Ending::NoMemory,
+        }
+    }
+}
+
+impl Ending {
+    /// The status that tells it.
+    pub(crate) fn status(&self) -> Status
+        ensures { result.0 ≡ status_of (ending_of self.now) }
+    {
+        Status(match self {
+            Ending::Shown(_) => 0,
+            Ending::NoKey => 1,
+            Ending::NoLine => 2,
+            Ending::Refused => 3,
+            Ending::DeviceFault => 4,
+            Ending::NoMemory => 5,
+            Ending::Missing(_) => 9,
+        })
+    }
+
+    /// The line that tells it, with its newline.
+    pub(crate) fn text(&self, alloc: Global) -> Result<Bytes, AllocError>
+        ensures { IfOk result (λ text. text ≡ text_of (ending_of self.now)) }
+    {
+        let mut text = match self {
+            Ending::Shown(value) => data_line(alloc, value.as_slice())?,
+            Ending::NoKey => Bytes::copy(alloc, b"noexist")?,
+            Ending::NoLine => Bytes::copy(alloc, b"usage: tdb COMMAND [OPTIONS] FILE [WORDS]")?,
+            Ending::Refused => Bytes::copy(alloc, b"refused")?,
+            Ending::DeviceFault => Bytes::copy(alloc, b"device fault")?,
+            Ending::NoMemory => Bytes::copy(alloc, b"memory")?,
+            Ending::Missing(name) => {
+                let mut text = Bytes::copy(alloc, b"missing ")?;
+                text.push_all(name.as_slice())?;
+                text
+            }
+        };
+        text.push_all(b"\n")?;
+        Ok(text)
+    }
+}
+
+/// Writes a line to the output, and says the status: this one, or 8 where the output fails.
+fn put<K: Sink>(output: &mut K, text: &[u8], status: Status) -> Status
+    ensures { (e : Means) → text.now ≡ text_of e → status.0 ≡ status_of e
+        → Prints (output_by K.tells (K.written output.old) (K.written output.new) (K.faults output.old) (K.faults output.new)) e result.0 }
+{
+    match output.write(text) {
+        Ok(()) => status,
+        Err(_) => Status(8),
+    }
+}
+
+/// Prints the line of an ending, and says the run's status. Where there is no memory for the line, that is what is told.
+pub(crate) fn print<K: Sink>(alloc: Global, ending: &Ending, output: &mut K) -> Status
+    ensures { (e : Means) × ((e ≡ ending_of ending.now) ⊎ (e ≡ no_memory))
+        × Prints (output_by K.tells (K.written output.old) (K.written output.new) (K.faults output.old) (K.faults output.new)) e result.0 }
+{
+    match ending.text(alloc) {
+        Ok(text) => put(output, text.as_slice(), ending.status()),
+        Err(_) => put(output, b"memory\n", Status(5)),
+    }
+}

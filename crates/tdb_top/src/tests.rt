@@ -1,0 +1,159 @@
+// Whole runs over the forms in memory: what is printed for files of known bytes, and what failing calls give.
+
+use crate::{Status, run};
+use std::alloc::{AllocError, Global};
+use std::test::Fail;
+use tdb_disk::{Call, MemFiles, MemSink, MemSource};
+use tdb_words::{DEAD, Order, USED, word_bytes};
+
+/// The forms of header that files are made with here, with the hash of the key `a`.
+#[derive(Clone, Copy)]
+struct Form {
+    order: Order,
+    locks: u32,
+    first: u32,
+    second: u32,
+    hash: u32,
+}
+
+/// As the stock tool makes a file.
+const LITTLE: Form = Form {
+    order: Order::Little,
+    locks: 0,
+    first: 0xF67D_9F0D,
+    second: 0x3AFE_F920,
+    hash: 0x094A_72E9,
+};
+
+/// As the stock library makes one with the other byte order and Jenkins' hash.
+const BIG: Form = Form {
+    order: Order::Big,
+    locks: 0x0BAD_1A51,
+    first: 0xD7B6_94E5,
+    second: 0x123C_1283,
+    hash: 0x58D6_8708,
+};
+
+/// Writes a word into an image.
+fn set(image: &mut [u8; 1024], at: usize, word: u32, form: &Form)
+    requires { at ≤ 1020 }
+{
+    image[at..at + 4].copy_from_slice(&word_bytes(word, form.order));
+}
+
+/// A record of the chain of `a`: its offset, its next word, its magic, and the bytes of its key and of its value.
+#[derive(Clone, Copy)]
+struct Piece {
+    at: u16,
+    next: u32,
+    magic: u32,
+    key: u8,
+    value: u8,
+}
+
+/// An image of 131 chains, with these records of one byte of key and one of value, of which the first heads the chain of `a`.
+fn image_of(form: &Form, pieces: &[Piece]) -> [u8; 1024] {
+    let mut image = [0; 1024];
+    image[..10].copy_from_slice(b"TDB file\n\0");
+    set(&mut image, 32, 0x2601_196D, form);
+    set(&mut image, 36, 131, form);
+    set(&mut image, 40, form.locks, form);
+    set(&mut image, 52, form.first, form);
+    set(&mut image, 56, form.second, form);
+    if let Some(first) = pieces.first() {
+        set(&mut image, 172 + 4 * (form.hash % 131) as usize, u32::from(first.at), form);
+    }
+    for piece in pieces {
+        let at = usize::from(piece.at).min(900);
+        set(&mut image, at, piece.next, form);
+        set(&mut image, at + 4, 8, form);
+        set(&mut image, at + 8, 1, form);
+        set(&mut image, at + 12, 1, form);
+        set(&mut image, at + 16, form.hash, form);
+        set(&mut image, at + 20, piece.magic, form);
+        image[at + 24] = piece.key;
+        image[at + 25] = piece.value;
+        set(&mut image, at + 28, 32, form);
+    }
+    image
+}
+
+/// Which call of the outside fails.
+#[derive(Clone, Copy, Debug, PartialEq, Eq)]
+enum Failing {
+    Nothing,
+    Take,
+    Read(u64),
+    Write,
+}
+
+/// The status and the bytes of a run on a file `f.tdb`.
+fn answer(alloc: Global, image: &[u8], words: &[&str], failing: Failing) -> Result<(u8, Vec<u8>), AllocError> {
+    let mut files = MemFiles::new(alloc);
+    let mut output = MemSink::new(alloc);
+    let mut input = MemSource::new(alloc, b"")?;
+    files.put("f.tdb", image)?;
+    match failing {
+        Failing::Nothing => {}
+        Failing::Take => files.fail(Call::Take, 0)?,
+        Failing::Read(nth) => files.fail_disk("f.tdb", Call::Read, nth)?,
+        Failing::Write => output.fail(Call::Write, 0)?,
+    }
+    let mut list = Vec::new(alloc);
+    for word in words {
+        list.push(String::from_str(alloc, word)?)?;
+    }
+    let Status(status) = run(alloc, &list, &mut files, &mut input, &mut output);
+    Ok((status, output.as_slice().to_vec(alloc)?))
+}
+
+const USAGE: &[u8] = b"usage: tdb COMMAND [OPTIONS] FILE [WORDS]\n";
+
+#[test]
+fn one_record(rt: HostRuntime) -> Result<(), Fail> {
+    let piece = Piece { at: 696, next: 0, magic: USED, key: b'a', value: b'1' };
+    let shown: &[u8] = b"data(1) = \"1\"\n";
+    for form in [LITTLE, BIG] {
+        let image = image_of(&form, &[piece]);
+        for (words, failing, status, printed) in [
+            (["tool", "f.tdb", "show", "a"], Failing::Nothing, 0, shown),
+            (["tool", "f.tdb", "show", "\\61"], Failing::Nothing, 0, shown),
+            (["tool", "f.tdb", "show", "b"], Failing::Nothing, 1, b"noexist\n".as_slice()),
+            (["tool", "f.tdb", "show", "\"\""], Failing::Nothing, 1, b"noexist\n".as_slice()),
+            (["tool", "f.tdb", "show", "\\6"], Failing::Nothing, 2, USAGE),
+            (["tool", "f.tdb", "shows", "a"], Failing::Nothing, 2, USAGE),
+            (["tool", "-f.tdb", "show", "a"], Failing::Nothing, 2, USAGE),
+            (["tool", "g.tdb", "show", "a"], Failing::Nothing, 9, b"missing g.tdb\n".as_slice()),
+            (["tool", "f.tdb", "show", "a"], Failing::Take, 4, b"device fault\n".as_slice()),
+            (["tool", "f.tdb", "show", "a"], Failing::Read(0), 4, b"device fault\n".as_slice()),
+            (["tool", "f.tdb", "show", "a"], Failing::Read(4), 4, b"device fault\n".as_slice()),
+            (["tool", "f.tdb", "show", "a"], Failing::Write, 8, b"".as_slice()),
+        ] {
+            let (found, bytes) = answer(rt.alloc(), &image, &words, failing)?;
+            assert_eq!(rt; found, status, "{words:?} {failing:?}");
+            assert_eq!(rt; bytes.as_slice(), printed, "{words:?} {failing:?}");
+        }
+        let (found, bytes) = answer(rt.alloc(), &image[..100], &["tool", "f.tdb", "show", "a"], Failing::Nothing)?;
+        assert_eq!(rt; (found, bytes.as_slice()), (3, b"refused\n".as_slice()));
+        assert_eq!(rt; answer(rt.alloc(), &image, &["tool", "f.tdb", "show"], Failing::Nothing)?.0, 2);
+    }
+    Ok(())
+}
+
+#[test]
+fn chains(rt: HostRuntime) -> Result<(), Fail> {
+    let first = Piece { at: 696, next: 728, magic: USED, key: b'b', value: b'1' };
+    let second = Piece { at: 728, next: 760, magic: DEAD, key: b'a', value: b'2' };
+    let third = Piece { at: 760, next: 0, magic: USED, key: b'a', value: b'3' };
+    let to_itself = Piece { next: 760, key: b'c', ..third };
+    let back = Piece { next: 696, key: b'c', ..third };
+    let nowhere = Piece { next: 2000, key: b'c', ..third };
+    let apart = Piece { next: 761, key: b'c', ..third };
+    let no_magic = Piece { magic: 7, ..third };
+    for (last, status) in [(third, 0), (to_itself, 3), (back, 3), (nowhere, 3), (apart, 3), (no_magic, 3)] {
+        let image = image_of(&LITTLE, &[first, second, last]);
+        let (found, _) = answer(rt.alloc(), &image, &["tool", "f.tdb", "show", "a"], Failing::Nothing)?;
+        assert_eq!(rt; found, status);
+    }
+    Ok(())
+}

@@ -1,0 +1,124 @@
+// The top call: it reads the words, answers them over the files and prints one line.
+
+ghost use Rattle.std.specs.Prelude.{◌≡◌, ◌⊎◌, ◌^◌, ◌<◌, ◌≤◌, ℕ, List, String, [], ◌∷◌, ◌++◌, false, map, string_bytes, IsTrue, Contains, length};
+ghost use Rattle.std.specs.Global.{Global};
+ghost use Rattle.tdb_disk.specs.Count.{Rose};
+ghost use Rattle.tdb_space.specs.Form.{form_of};
+ghost use Rattle.tdb_space.specs.Pairs.{map_of};
+ghost use Rattle.tdb_space.specs.Accepted.{IsFiled};
+ghost use Rattle.tdb_top.specs.CommandLine.{key_in, asked_by, IsLine, HasNoLine};
+ghost use Rattle.tdb_top.specs.Walk.{IsUsable};
+ghost use Rattle.tdb_top.specs.Ending.{Ending as Means, shown, no_key, no_line, refused, device_fault, no_memory, missing, ending_of, status_of, text_of, met_by, output_by, Asked, Cause, IsAnswer, Prints, ShowsMap};
+
+use crate::ending::{Ending, Status, print};
+use crate::line::{Line, LineRefusal, line_of};
+use crate::show::show;
+use std::alloc::Global;
+use tdb_disk::{Files, Sink, Source};
+
+/// Answers a command line over the files.
+fn answer_line<F: Files>(alloc: Global, line: &Line, files: &mut F) -> Ending
+    requires short { length (key_in line.now) < 2 ^ 32 }
+    requires free { (name : List ℕ) → F.is_taken files.old name ≡ false }
+    ensures cause { IsTrue F.D.tells → (words : List (String Global)) → IsLine (map string_bytes words) (asked_by line.now)
+        → Cause (met_by words (F.held files.old) (F.faults files.old) (F.faults files.new)) (ending_of result) }
+    ensures no_line { ending_of result ≡ no_line → ⊥ }
+    ensures device { ending_of result ≡ device_fault → Rose (F.faults files.old) (F.faults files.new) }
+    ensures given_back { (name : List ℕ) → F.is_taken files.new name ≡ false }
+    ensures kept { IsTrue F.D.tells → (name : List ℕ) → F.held files.new name ≡ F.held files.old name }
+    ensures faults { F.faults files.old ≤ F.faults files.new }
+{
+    match line {
+        Line::Show { file, key } => show(alloc, file.as_str(), key.as_slice(), files),
+    }
+}
+
+/// Answers the words over the files.
+fn answer<F: Files>(alloc: Global, words: &[String], files: &mut F) -> Ending
+    requires { (name : List ℕ) → F.is_taken files.old name ≡ false }
+    ensures cause { IsTrue F.D.tells → Cause (met_by words.now (F.held files.old) (F.faults files.old) (F.faults files.new)) (ending_of result) }
+    ensures no_line { ending_of result ≡ no_line → HasNoLine (map string_bytes words.now) }
+    ensures no_line_exact { HasNoLine (map string_bytes words.now) → (ending_of result ≡ no_line) ⊎ (ending_of result ≡ no_memory) }
+    ensures device { ending_of result ≡ device_fault → Rose (F.faults files.old) (F.faults files.new) }
+    ensures given_back { (name : List ℕ) → F.is_taken files.new name ≡ false }
+    ensures kept { IsTrue F.D.tells → (name : List ℕ) → F.held files.new name ≡ F.held files.old name }
+    ensures faults { F.faults files.old ≤ F.faults files.new }
+{
+    match line_of(alloc, words) {
+        Ok(line) => answer_line(alloc, &line, files),
+        Err(LineRefusal::NoLine) => Ending::NoLine,
+        Err(LineRefusal::Memory) => Ending::NoMemory,
+    }
+}
+
+/// Runs the command that `words` ask for, those after the program's name, and prints one line to `output`.
+///
+/// | Status | Meaning | Printed |
+/// |---|---|---|
+/// | 0 | the value of the key is shown | `data(N) = "TEXT"` |
+/// | 1 | the key isn't there | `noexist` |
+/// | 2 | the words are no command line | the usage |
+/// | 3 | the file is refused | `refused` |
+/// | 4 | a call of the files or of a disk failed | `device fault` |
+/// | 5 | memory was wanting | `memory` |
+/// | 8 | the output failed | a part of the line that was due |
+/// | 9 | there is no file of this name | `missing NAME` |
+///
+/// The command `tool FILE show KEY` reads the front of the file and then the chain of the key, from its head up to the first
+/// record with the key: at most two reads a record, and the key in pieces.
+pub fn run<F: Files, S: Source, K: Sink>(
+    alloc: Global,
+    words: &[String],
+    files: &mut F,
+    input: &mut S,
+    output: &mut K,
+) -> Status
+    requires { (name : List ℕ) → F.is_taken files.old name ≡ false }
+
+    // The run ends in one way, which has its cause, and prints the line of it.
+    ensures ending { (e : Means)
+        × (IsTrue F.D.tells → Cause (met_by words.now (F.held files.old) (F.faults files.old) (F.faults files.new)) e)
+        × Prints (output_by K.tells (K.written output.old) (K.written output.new) (K.faults output.old) (K.faults output.new)) e result.0 }
+
+    // An answer that has its cause is the one that is given, unless memory was wanting or a device or the output failed.
+    ensures exact { IsTrue F.D.tells → (e : Means) → Cause (met_by words.now (F.held files.old) (F.faults files.old) (F.faults files.new)) e → IsAnswer e
+        → Contains (status_of e ∷ 4 ∷ 5 ∷ 8 ∷ []) result.0 }
+
+    // Where every chain of the file is whole and every record filed, 0 and 1 tell what the file's map holds for the key.
+    ensures map { IsTrue F.D.tells → (key img : List ℕ) → Asked (met_by words.now (F.held files.old) (F.faults files.old) (F.faults files.new)) key img
+        → IsFiled (form_of img) img
+        → ShowsMap (map_of (form_of img) img key) (output_by K.tells (K.written output.old) (K.written output.new) (K.faults output.old) (K.faults output.new)) result.0 }
+
+    // 0: the first record with the key on its chain has the value that is shown.
+    ensures done { result.0 ≡ 0 → IsTrue F.D.tells → (value : List ℕ)
+        × Cause (met_by words.now (F.held files.old) (F.faults files.old) (F.faults files.new)) (shown value)
+        × (IsTrue K.tells → K.written output.new ≡ K.written output.old ++ text_of (shown value)) }
+
+    // 1: the chain of the key ends without it.
+    ensures no_key { result.0 ≡ 1 → IsTrue F.D.tells → Cause (met_by words.now (F.held files.old) (F.faults files.old) (F.faults files.new)) no_key }
+
+    // 2: the words ask for nothing. Such words get no other status but for want of memory and a fault of the output.
+    ensures no_line { result.0 ≡ 2 → HasNoLine (map string_bytes words.now) }
+    ensures no_line_exact { HasNoLine (map string_bytes words.now) → Contains (2 ∷ 5 ∷ 8 ∷ []) result.0 }
+
+    // 3: the front of the file can't be used, or the way to the key is blocked.
+    ensures refused { result.0 ≡ 3 → IsTrue F.D.tells → Cause (met_by words.now (F.held files.old) (F.faults files.old) (F.faults files.new)) refused }
+
+    // 4: a call of the files failed, or one of a disk that was given back.
+    ensures device_fault { result.0 ≡ 4 → Rose (F.faults files.old) (F.faults files.new) }
+
+    // 8: a write of the output failed.
+    ensures output_fault { result.0 ≡ 8 → Rose (K.faults output.old) (K.faults output.new) }
+
+    // 9: there is no file of this name.
+    ensures missing { result.0 ≡ 9 → IsTrue F.D.tells → (name : List ℕ) × Cause (met_by words.now (F.held files.old) (F.faults files.old) (F.faults files.new)) (missing name) }
+    ensures statuses { Contains (0 ∷ 1 ∷ 2 ∷ 3 ∷ 4 ∷ 5 ∷ 8 ∷ 9 ∷ []) result.0 }
+
+    // Every disk that was taken is given back, and each file holds what it held.
+    ensures given_back { (name : List ℕ) → F.is_taken files.new name ≡ false }
+    ensures kept { IsTrue F.D.tells → (name : List ℕ) → F.held files.new name ≡ F.held files.old name }
+    ensures input_untouched { input.new ≡ input.old }
+{
+    let ending = answer(alloc, words, files);
+    print(alloc, &ending, output)
+}
