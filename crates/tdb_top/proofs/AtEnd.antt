@@ -29,7 +29,7 @@ written_behind : (img others bytes : List ℕ) → length others ≡ length byte
 written_behind img others bytes sized = grind (arith, common_steps)
 
 -- what is written within an image stays apart from what stands behind it
-overlay_before : (img more bytes : List ℕ) (at : ℕ) → at + length bytes ≤ length img → overlay (img ++ more) at bytes ≡ overlay img at bytes ++ more
+pub overlay_before : (img more bytes : List ℕ) (at : ℕ) → at + length bytes ≤ length img → overlay (img ++ more) at bytes ≡ overlay img at bytes ++ more
 overlay_before img more bytes at within = grind (arith, common_steps)
 
 module _ (old g : History) (end : ℕ) (bytes : List ℕ) (sized : end ≡ length (seen old)) (is_grown : g ≡ called old (grew (end + length bytes))) where

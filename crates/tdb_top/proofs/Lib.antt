@@ -11,3 +11,4 @@ pub mod Mapped
 pub mod OneLine
 pub mod OneAnswer
 pub mod Statuses
+pub mod Added

@@ -1,5 +1,7 @@
 -- The first change of a file: a key and its value are added at the end, as a record in front of its chain.
 use Rattle.std.specs.Prelude.{◌≡◌, ℕ, ◌+◌, ◌-◌, ◌*◌, ◌/◌, ◌<◌, ◌≤◌, ◌⊎◌, List, ◌++◌, length, replicate}
+use Rattle.std.specs.Prelude.{Some}
+use Rattle.std.specs.Map.{update}
 use Rattle.tdb_disk.specs.History.{History, seen}
 use Rattle.tdb_disk.specs.Image.{overlay}
 use Rattle.tdb_disk.specs.Stop.{Quiet}
@@ -10,7 +12,8 @@ use Rattle.tdb_words.specs.Word.{bytes_of_word}
 use Rattle.tdb_words.specs.Record.{bytes_of_rec}
 use Rattle.tdb_words.specs.Hash.{h_of}
 use Rattle.tdb_space.specs.Form.{Form, form_of, chain_head}
-use Rattle.tdb_space.specs.Pairs.{home}
+use Rattle.tdb_space.specs.Pairs.{home, map_of, same_key}
+use Rattle.tdb_space.specs.Accepted.{Accept}
 use Rattle.tdb_top.specs.declared.insert.Inserted.{Inserted}
 use Rattle.tdb_top.specs.declared.insert.Inserted.TheVariants.{Done, Exists, Full}
 use Rattle.tdb_top.specs.Walk.{first_of, IsUsable, IsFollowed, HasValue, FindsNone, ChainFault}
@@ -82,3 +85,10 @@ InsertFault img key = (IsUsable img → ⊥) ⊎ (IsUsable img × ChainFault (fo
 pub record IsInserted (img key value : List ℕ) (now : History) : Type 0 where
   pub bytes : seen now ≡ inserted (form_of img) img key value
   pub quiet : Quiet now
+
+-- A key was added to an accepted image: the new one is accepted too, with the same form, and its map is the old one with the key
+-- and its value.
+pub record HasAdded (old key value now : List ℕ) : Type 0 where
+  pub accepted : Accept now
+  pub form : form_of now ≡ form_of old
+  pub map : (k : List ℕ) → map_of (form_of now) now k ≡ update same_key (map_of (form_of old) old) key (Some value) k

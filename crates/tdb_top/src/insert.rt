@@ -7,7 +7,9 @@ ghost use Rattle.tdb_disk.specs.Stop.{Quiet};
 ghost use Rattle.tdb_space.specs.Form.{form_in, form_of};
 ghost use Rattle.tdb_top.specs.declared.halt.Halt.TheVariants.{Device, Refused};
 ghost use Rattle.tdb_top.specs.declared.insert.Inserted.TheVariants.{Done as IsDone};
-ghost use Rattle.tdb_top.specs.Insert.{need_for, led_to, inserted, BrokenOff, InsertCause, InsertFault, IsInserted};
+ghost use Rattle.tdb_top.specs.Insert.{need_for, led_to, inserted, BrokenOff, InsertCause, InsertFault, IsInserted, HasAdded};
+ghost use Rattle.tdb_words.specs.Word.{word};
+ghost use Rattle.tdb_space.specs.Accepted.{Accept};
 ghost use Rattle.tdb_top.specs.Look.{HaltsForCause, IsFrontOf};
 ghost use Rattle.tdb_top.specs.Walk.{first_of};
 
@@ -15,7 +17,8 @@ use crate::front::{Front, read_word};
 use crate::halt::Halt;
 use crate::new_record::{new_rec, rec_len_for, record_bytes};
 use crate::record::RECORD_HEADER_LEN;
-use crate::walk::{has_already, head_of};
+use crate::walk::head_of;
+use crate::whole_chain::has_already;
 use std::alloc::Global;
 use tdb_disk::{Disk, DiskFault};
 use tdb_words::{Order, word_bytes};
@@ -100,6 +103,8 @@ pub(crate) fn insert<D: Disk>(
     ensures broken { IfErr result (λ halt. halt ≡ Device → IsTrue D.tells → BrokenOff (seen (D.history disk.old)) (inserted (form_of (seen (D.history disk.old))) (seen (D.history disk.old)) key.now value.now) (need_for key.now value.now) (seen (D.history disk.new))) }
     ensures kept_ok { IfOk result (λ end. end ≢ IsDone → D.history disk.new ≡ D.history disk.old) }
     ensures kept_err { IfErr result (λ halt. halt ≢ Device → D.history disk.new ≡ D.history disk.old) }
+    ensures added { IfOk result (λ end. end ≡ IsDone → IsTrue D.tells → Accept (seen (D.history disk.old)) → HasAdded (seen (D.history disk.old)) key.now value.now (seen (D.history disk.new))) }
+    ensures refused_for_area { IfErr result (λ halt. halt ≡ Refused → IsTrue D.tells → Accept (seen (D.history disk.old)) → word (form_of (seen (D.history disk.old))).order (seen (D.history disk.old)) 44 ≢ 0) }
     ensures cause { HaltsForCause (D.faults disk.old) (D.faults disk.new) result }
 {
     let front = Front::read(disk)?;

@@ -11,6 +11,7 @@ mod record;
 mod show;
 mod top;
 mod walk;
+mod whole_chain;
 
 pub use ending::Status;
 pub use top::run;

@@ -4,7 +4,7 @@ use Rattle.tdb_disk.specs.History.{seen}
 use Rattle.tdb_space.specs.Form.{form_in}
 use Rattle.tdb_top.specs.Walk.{Any}
 use Rattle.tdb_top.specs.Look.{WalkedBy, MetSoFar}
-use Rattle.tdb_top.proofs.walk.has_already.Given as goal
+use Rattle.tdb_top.proofs.whole_chain.has_already.Given as goal
 
 -- the walk came so far, it is known whether it met the key, and the disk is as it was
 abbrev pub invariant-loop-turn : goal.invariant-loop-turn

@@ -7,8 +7,8 @@ use Rattle.tdb_space.specs.Record.{next_of}
 use Rattle.tdb_top.specs.Walk.{Any, IsMet, HasKey, FaultBy}
 use Rattle.tdb_top.specs.Look.{WalkedBy, MetSoFar}
 use Rattle.tdb_top.proofs.Paths.{walked_more, walked_marked, walked_long, met_either, met_still}
-use Rattle.tdb_top.proofs.walk.has_already.Goals as goal
-use Rattle.tdb_top.proofs.walk.has_already.Goals.{then-is_there, else-is_there+in_ok-is_there, then-is_power_of_two, else-is_power_of_two}
+use Rattle.tdb_top.proofs.whole_chain.has_already.Goals as goal
+use Rattle.tdb_top.proofs.whole_chain.has_already.Goals.{then-is_there, else-is_there+in_ok-is_there, then-is_power_of_two, else-is_power_of_two}
 
 -- one step more
 pub loop-turn-preserved : goal.loop-turn-preserved
