@@ -1,7 +1,6 @@
 -- The image with a key added at its end: what its new record is, that it stays accepted, and what its map then holds.
-use Rattle.std.proofs.Common.{append_assoc, ◌≡◌, ℕ, ◌+◌, ◌*◌, ◌-◌, ◌<◌, ◌≤◌, ◌⊎◌, List, [], ◌∷◌, ◌++◌, length, take, drop, replicate, Some, None, refl, sym, ◌∙◌, ap, subst, inl, inr, arith, ◌^◌}
-use Rattle.std.specs.Prelude.{◌/◌, ◌%◌, slice_index, nat_eq}
-use Rattle.std.specs.Map.{update}
+use Rattle.std.proofs.Common.{append_assoc, ◌≡◌, ℕ, ◌+◌, ◌-◌, ◌<◌, ◌≤◌, List, [], ◌∷◌, ◌++◌, length, take, drop, replicate, None, refl, sym, ◌∙◌, ap, subst, inl, inr, arith, ◌^◌}
+use Rattle.std.specs.Prelude.{◌%◌, slice_index}
 use Rattle.std.proofs.lemmas.Grind.{common_steps}
 use Rattle.std.proofs.lemmas.List.{length-replicate, get_or_append_left}
 use Rattle.tdb_disk.specs.Image.{overlay}
@@ -19,15 +18,15 @@ use Rattle.tdb_words.specs.declared.jenkins.Mixer.{Mixer}
 use Rattle.std.proofs.lemmas.Bool.{ne_eqb}
 use Rattle.std.proofs.Math.Seq.{take-append_seam, drop-append_seam, drop-append-add, take-length}
 use Rattle.tdb_words.proofs.Words.{word_agrees, word_from_bytes, word_of_part, word_made, rec_of_part, rec_made}
-use Rattle.tdb_space.specs.Form.{Form, form_of, data_start, chain_head}
-use Rattle.tdb_space.specs.Record.{Whole, IsChained, next_of, rec_len_of, key_len_of, data_len_of, key_at, data_at}
+use Rattle.tdb_space.specs.Form.{Form, form_of, chain_head}
+use Rattle.tdb_space.specs.Record.{Whole, IsChained, next_of, rec_len_of, key_at, data_at}
 use Rattle.tdb_space.specs.Chain.{Linked, chain_of}
-use Rattle.tdb_space.specs.Pairs.{home, map_of, same_key}
+use Rattle.tdb_space.specs.Pairs.{home, map_of}
 use Rattle.tdb_space.specs.Accepted.{AllFiled, AcceptWith, Accept}
 use Rattle.tdb_space.specs.Exchange.{GrownBy, PutInFront, Filled}
 use Rattle.tdb_space.proofs.Maps.{home_below}
 use Rattle.tdb_space.proofs.Grown.{add_accepted, add_map}
-use Rattle.tdb_top.specs.Walk.{Any, PathBy, IsMet, IsUsable, IsFollowed, ChainFault, first_of}
+use Rattle.tdb_top.specs.Walk.{Any, PathBy, first_of}
 use Rattle.tdb_top.specs.Insert.{rec_len_for, need_for, new_rec, record_bytes, inserted, InsertFault, HasAdded}
 use Rattle.tdb_top.proofs.AtEnd.{word_length, overlay_before}
 use Rattle.tdb_top.proofs.Ends.{followed_no_fault}

@@ -1,10 +1,10 @@
 -- A file becomes longer by some bytes, and a word is made to lead to them: what each call leaves.
-use Rattle.std.proofs.Common.{◌≡◌, ℕ, ◌+◌, ◌-◌, ◌≤◌, ◌⊎◌, List, ◌∷◌, ◌++◌, length, take, drop, replicate, refl, sym, ap, ◌∙◌, subst, inl, inr, arith}
+use Rattle.std.proofs.Common.{◌≡◌, ℕ, ◌+◌, ◌-◌, ◌≤◌, List, ◌++◌, length, replicate, refl, sym, ap, ◌∙◌, inl, inr, arith}
 use Rattle.std.specs.Prelude.{Result, Ok, Err, OnOk, OnErr}
 use Rattle.std.proofs.lemmas.Grind.{common_steps}
 use Rattle.std.proofs.lemmas.List.{length-replicate}
 use Rattle.tdb_disk.specs.History.{History, grew, wrote, wrote_word, synced, called, seen, Tried, TriedOver}
-use Rattle.tdb_disk.specs.Image.{overlay, padded}
+use Rattle.tdb_disk.specs.Image.{overlay}
 use Rattle.tdb_words.specs.declared.word.Order.{Order}
 use Rattle.tdb_words.specs.declared.word.Order.TheVariants.{Little, Big}
 use Rattle.tdb_words.specs.Word.{bytes_of_word}

@@ -1,5 +1,5 @@
 -- A walk has one end: paths from one place, along records that may be passed, don't part.
-use Rattle.std.proofs.Common.{◌≡◌, ℕ, zero, suc, ◌+◌, ◌<◌, ◌≤◌, ◌⊎◌, List, [], ◌∷◌, ◌++◌, length, length-append, get_or, refl, sym, ◌∙◌, ap, subst, inl, inr, arith}
+use Rattle.std.proofs.Common.{◌≡◌, ℕ, zero, suc, ◌<◌, ◌≤◌, ◌⊎◌, List, [], ◌∷◌, ◌++◌, length, length-append, refl, sym, ◌∙◌, ap, subst, inl, inr, arith}
 use Rattle.std.specs.Prelude.{Contains}
 use Rattle.std.proofs.lemmas.List.Elements.{Contains-append_cases}
 use Rattle.tdb_space.specs.Form.{Form}
@@ -99,6 +99,14 @@ module _ (f : Form) (img key : List ℕ) where
   -- one value is found
   pub value_one : (x y : List ℕ) → FindsValue f img key x → FindsValue f img key y → x ≡ y
   value_one x y v w = v.6 ∙ ap (data_at f.order img) (end_one (LacksKey f img key) f img (first_of f img key) v.1 w.1 v.0 w.0 v.2 w.2 (stops v.1 v.5) (stops w.1 w.5)) ∙ sym w.6
+
+  -- a chain without the key can be followed to its end
+  pub none_followed : FindsNone f img key → IsFollowed f img key
+  none_followed n = (n.0, any_path (first_of f img key) 0 n.0 n.1)
+    where
+      any_path : (from to : ℕ) (xs : List ℕ) → PathBy (LacksKey f img key) f img from xs to → PathBy Any f img from xs to
+      any_path from to [] p = p
+      any_path from to (x ∷ xs) p = (p.0, p.1, p.2, tt, any_path (next_of f.order img x) to xs p.4)
 
   -- a chain that can be followed to its end has no fault
   pub followed_no_fault : IsFollowed f img key → ChainFault f img key → ⊥

@@ -1,9 +1,9 @@
 -- How an insert ends, from what its steps found.
-use Rattle.std.proofs.Common.{◌≡◌, ℕ, ◌≤◌, Bool, true, false, List, [], append-nil, sym, ap, ◌∙◌, subst, inr, arith}
+use Rattle.std.proofs.Common.{◌≡◌, ℕ, Bool, true, false, List, [], append-nil, sym, ap, ◌∙◌, subst, inr, arith}
 use Rattle.std.specs.Prelude.{Result, Ok, Err, IfErr, MatchBool}
-use Rattle.tdb_space.specs.Form.{Form, form_of, form_in}
+use Rattle.tdb_space.specs.Form.{form_of, form_in}
 use Rattle.tdb_top.specs.declared.front.Front.{Front}
-use Rattle.tdb_top.specs.Walk.{IsUsable, IsFollowed, HasValue, FindsNone, ChainFault}
+use Rattle.tdb_top.specs.Walk.{IsFollowed, HasValue, FindsNone, ChainFault}
 use Rattle.tdb_top.specs.Look.{IsFrontOf}
 use Rattle.tdb_top.specs.Insert.{BrokenOff, CanAdd, HasAlready, InsertFault}
 

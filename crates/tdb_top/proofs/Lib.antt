@@ -12,3 +12,4 @@ pub mod OneLine
 pub mod OneAnswer
 pub mod Statuses
 pub mod Added
+pub mod Leavings

@@ -3,3 +3,4 @@ pub mod Walk
 pub mod Look
 pub mod Insert
 pub mod Ending
+pub mod Left

@@ -1,6 +1,7 @@
 //! The top call of the program: command lines are read, and run over a set of files, an input and an output.
 #![tactic(auto)]
 
+mod add;
 mod ending;
 mod front;
 mod halt;

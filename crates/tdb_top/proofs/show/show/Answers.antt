@@ -1,10 +1,10 @@
-use Rattle.std.proofs.Common.{rules, ◌≡◌, ℕ, List, [], true, ◌<◌, None, Some, sym, ap, ◌∙◌, subst, arith}
-use Rattle.tdb_disk.specs.History.{History, began, seen}
+use Rattle.std.proofs.Common.{◌≡◌, ℕ, List, [], true, ◌<◌, Some, sym, ap, ◌∙◌, subst, arith}
+use Rattle.tdb_disk.specs.History.{began}
 use Rattle.tdb_disk.specs.Count.{Rose}
 use Rattle.tdb_disk.specs.declared.files.Take.TheVariants.{Existing, New}
 use Rattle.tdb_top.specs.declared.halt.Halt.TheVariants.{Device}
 use Rattle.tdb_top.proofs.Causes.{halted, rose_earlier}
-use Rattle.tdb_top.specs.Ending.{ShowCause, ending_of, of_halt}
+use Rattle.tdb_top.specs.Ending.{ShowCause, ending_of}
 use Rattle.tdb_top.proofs.Held.{held_there, held_again}
 use Rattle.tdb_top.proofs.show.show.Goals as goal
 use Rattle.tdb_top.proofs.show.show.Goals.{After-give}
