@@ -1,9 +1,8 @@
 //! The program `tdb`: it runs the words of its command line over the files of the system, and exits with the status.
 #![tactic(auto)]
 
-use std::env;
-use std::io;
 use std::process::ExitCode;
+use std::{env, io};
 use tdb_disk::Sink;
 use tdb_files::{DirFiles, InSource, OutSink};
 use tdb_top::{Status, run};

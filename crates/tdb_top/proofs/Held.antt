@@ -10,9 +10,9 @@ use Rattle.tdb_space.proofs.Maps.{same_key-eq, same_key-refl}
 -- two names are one, or they differ
 pub same_or_other : (a b : List ℕ) → (a ≡ b) ⊎ (a ≡ b → ⊥)
 same_or_other a b = elim (cases_Bool (same_key a b)) [
-    inl same ↦ inl (same_key-eq a b same)
+  | inl same ↦ inl (same_key-eq a b same)
   | inr other ↦ inr (λ e. false≢true (sym other ∙ ap (same_key a) (sym e) ∙ same_key-refl a))
-  ]
+]
 
 -- the file that is there is what is found at its name
 pub held_there : (held : Option History) (fallback h : History) → (held ≡ None → ⊥) → h ≡ unwrap_or held fallback → held ≡ Some h
@@ -22,6 +22,6 @@ held_there (Some x) fallback h there e = ap Some (sym e)
 -- a file that is given back as it was leaves all as it was
 pub held_again : (name other : List ℕ) (old mid new : List ℕ → Option History) (h : History) → SameBut name old mid → SameBut name mid new → old name ≡ Some h → new name ≡ Some h → new other ≡ old other
 held_again name other old mid new h taken given was is = elim (same_or_other other name) [
-    inl same ↦ ap new same ∙ is ∙ sym was ∙ ap old (sym same)
+  | inl same ↦ ap new same ∙ is ∙ sym was ∙ ap old (sym same)
   | inr apart ↦ given other apart ∙ taken other apart
-  ]
+]

@@ -78,7 +78,12 @@ pub(crate) fn read_met<D: Disk>(disk: &mut D, front: &Front, at: u32) -> Result<
 }
 
 /// Whether a piece stands at an offset. `room` takes the bytes that are read.
-fn is_there<D: Disk>(disk: &mut D, at: u64, piece: &[u8], room: &mut [u8]) -> Result<bool, DiskFault>
+fn is_there<D: Disk>(
+    disk: &mut D,
+    at: u64,
+    piece: &[u8],
+    room: &mut [u8],
+) -> Result<bool, DiskFault>
     requires within { at + length piece.now ≤ D.size disk.old }
     requires room { length room.old ≡ length piece.now }
     ensures same { IfOk result (λ yes. IsTrue D.tells → IsTrue yes ↔ (take (length piece.now) (drop at (seen (D.history disk.old))) ≡ piece.now)) }
@@ -113,7 +118,12 @@ fn are_there<D: Disk>(disk: &mut D, at: u64, bytes: &[u8]) -> Result<bool, DiskF
 }
 
 /// Whether the record at an offset is a used one with this key.
-pub(crate) fn has_key<D: Disk>(disk: &mut D, at: u32, rec: &Rec, key: &[u8]) -> Result<bool, DiskFault>
+pub(crate) fn has_key<D: Disk>(
+    disk: &mut D,
+    at: u32,
+    rec: &Rec,
+    key: &[u8],
+) -> Result<bool, DiskFault>
     requires within { at + 24 + rec.now.rec_len ≤ D.size disk.old }
     requires sound { IsSound rec.now (D.size disk.old) }
     ensures same { IfOk result (λ yes. IsTrue D.tells → (f : Form) → rec.now ≡ rec_at f.order (seen (D.history disk.old)) at → (IsTrue yes ↔ HasKey f (seen (D.history disk.old)) key.now at)) }

@@ -1,5 +1,7 @@
 // Whole runs over the forms in memory: what is printed for files of known bytes, and what failing calls give.
 
+ghost use Rattle.std.specs.Prelude.{◌≤◌};
+
 use crate::{Status, run};
 use std::alloc::{AllocError, Global};
 use std::test::Fail;
@@ -61,7 +63,12 @@ fn image_of(form: &Form, pieces: &[Piece]) -> [u8; 1024] {
     set(&mut image, 52, form.first, form);
     set(&mut image, 56, form.second, form);
     if let Some(first) = pieces.first() {
-        set(&mut image, 172 + 4 * (form.hash % 131) as usize, u32::from(first.at), form);
+        set(
+            &mut image,
+            172 + 4 * (form.hash % 131) as usize,
+            u32::from(first.at),
+            form,
+        );
     }
     for piece in pieces {
         let at = usize::from(piece.at).min(900);
@@ -87,8 +94,13 @@ enum Failing {
     Write,
 }
 
-/// The status and the bytes of a run on a file `f.tdb`.
-fn answer(alloc: Global, image: &[u8], words: &[&str], failing: Failing) -> Result<(u8, Vec<u8>), AllocError> {
+/// The status and the bytes of a run on a file `f.tdb`, of words with blanks between them.
+fn answer(
+    alloc: Global,
+    image: &[u8],
+    words: &str,
+    failing: Failing,
+) -> Result<(u8, Vec<u8>), AllocError> {
     let mut files = MemFiles::new(alloc);
     let mut output = MemSink::new(alloc);
     let mut input = MemSource::new(alloc, b"")?;
@@ -100,60 +112,108 @@ fn answer(alloc: Global, image: &[u8], words: &[&str], failing: Failing) -> Resu
         Failing::Write => output.fail(Call::Write, 0)?,
     }
     let mut list = Vec::new(alloc);
-    for word in words {
+    for word in words.split(' ') {
         list.push(String::from_str(alloc, word)?)?;
     }
     let Status(status) = run(alloc, &list, &mut files, &mut input, &mut output);
     Ok((status, output.as_slice().to_vec(alloc)?))
 }
 
-const USAGE: &[u8] = b"usage: tdb COMMAND [OPTIONS] FILE [WORDS]\n";
+const USAGE: &str = "usage: tdb COMMAND [OPTIONS] FILE [WORDS]\n";
 
 #[test]
 fn one_record(rt: HostRuntime) -> Result<(), Fail> {
-    let piece = Piece { at: 696, next: 0, magic: USED, key: b'a', value: b'1' };
-    let shown: &[u8] = b"data(1) = \"1\"\n";
+    let piece = Piece {
+        at: 696,
+        next: 0,
+        magic: USED,
+        key: b'a',
+        value: b'1',
+    };
     for form in [LITTLE, BIG] {
         let image = image_of(&form, &[piece]);
         for (words, failing, status, printed) in [
-            (["tool", "f.tdb", "show", "a"], Failing::Nothing, 0, shown),
-            (["tool", "f.tdb", "show", "\\61"], Failing::Nothing, 0, shown),
-            (["tool", "f.tdb", "show", "b"], Failing::Nothing, 1, b"noexist\n".as_slice()),
-            (["tool", "f.tdb", "show", "\"\""], Failing::Nothing, 1, b"noexist\n".as_slice()),
-            (["tool", "f.tdb", "show", "\\6"], Failing::Nothing, 2, USAGE),
-            (["tool", "f.tdb", "shows", "a"], Failing::Nothing, 2, USAGE),
-            (["tool", "-f.tdb", "show", "a"], Failing::Nothing, 2, USAGE),
-            (["tool", "g.tdb", "show", "a"], Failing::Nothing, 9, b"missing g.tdb\n".as_slice()),
-            (["tool", "f.tdb", "show", "a"], Failing::Take, 4, b"device fault\n".as_slice()),
-            (["tool", "f.tdb", "show", "a"], Failing::Read(0), 4, b"device fault\n".as_slice()),
-            (["tool", "f.tdb", "show", "a"], Failing::Read(4), 4, b"device fault\n".as_slice()),
-            (["tool", "f.tdb", "show", "a"], Failing::Write, 8, b"".as_slice()),
+            (
+                "tool f.tdb show a",
+                Failing::Nothing,
+                0,
+                "data(1) = \"1\"\n",
+            ),
+            (
+                "tool f.tdb show \\61",
+                Failing::Nothing,
+                0,
+                "data(1) = \"1\"\n",
+            ),
+            ("tool f.tdb show b", Failing::Nothing, 1, "noexist\n"),
+            ("tool f.tdb show \"\"", Failing::Nothing, 1, "noexist\n"),
+            ("tool f.tdb show \\6", Failing::Nothing, 2, USAGE),
+            ("tool f.tdb shows a", Failing::Nothing, 2, USAGE),
+            ("tool f.tdb show", Failing::Nothing, 2, USAGE),
+            ("tool -f.tdb show a", Failing::Nothing, 2, USAGE),
+            ("tool g.tdb show a", Failing::Nothing, 9, "missing g.tdb\n"),
+            ("tool f.tdb show a", Failing::Take, 4, "device fault\n"),
+            ("tool f.tdb show a", Failing::Read(0), 4, "device fault\n"),
+            ("tool f.tdb show a", Failing::Read(4), 4, "device fault\n"),
+            ("tool f.tdb show a", Failing::Write, 8, ""),
         ] {
-            let (found, bytes) = answer(rt.alloc(), &image, &words, failing)?;
-            assert_eq!(rt; found, status, "{words:?} {failing:?}");
-            assert_eq!(rt; bytes.as_slice(), printed, "{words:?} {failing:?}");
+            let (found, bytes) = answer(rt.alloc(), &image, words, failing)?;
+            assert_eq!(rt; found, status, "{words} {failing:?}");
+            assert_eq!(rt; bytes.as_slice(), printed.as_bytes(), "{words} {failing:?}");
         }
-        let (found, bytes) = answer(rt.alloc(), &image[..100], &["tool", "f.tdb", "show", "a"], Failing::Nothing)?;
-        assert_eq!(rt; (found, bytes.as_slice()), (3, b"refused\n".as_slice()));
-        assert_eq!(rt; answer(rt.alloc(), &image, &["tool", "f.tdb", "show"], Failing::Nothing)?.0, 2);
     }
     Ok(())
 }
 
 #[test]
-fn chains(rt: HostRuntime) -> Result<(), Fail> {
-    let first = Piece { at: 696, next: 728, magic: USED, key: b'b', value: b'1' };
-    let second = Piece { at: 728, next: 760, magic: DEAD, key: b'a', value: b'2' };
-    let third = Piece { at: 760, next: 0, magic: USED, key: b'a', value: b'3' };
-    let to_itself = Piece { next: 760, key: b'c', ..third };
-    let back = Piece { next: 696, key: b'c', ..third };
-    let nowhere = Piece { next: 2000, key: b'c', ..third };
-    let apart = Piece { next: 761, key: b'c', ..third };
-    let no_magic = Piece { magic: 7, ..third };
-    for (last, status) in [(third, 0), (to_itself, 3), (back, 3), (nowhere, 3), (apart, 3), (no_magic, 3)] {
-        let image = image_of(&LITTLE, &[first, second, last]);
-        let (found, _) = answer(rt.alloc(), &image, &["tool", "f.tdb", "show", "a"], Failing::Nothing)?;
-        assert_eq!(rt; found, status);
+fn short_file_and_chains(rt: HostRuntime) -> Result<(), Fail> {
+    let first = Piece {
+        at: 696,
+        next: 728,
+        magic: USED,
+        key: b'b',
+        value: b'1',
+    };
+    let dead = Piece {
+        at: 728,
+        next: 760,
+        magic: DEAD,
+        key: b'a',
+        value: b'2',
+    };
+    let last = Piece {
+        at: 760,
+        next: 0,
+        magic: USED,
+        key: b'a',
+        value: b'3',
+    };
+    for (next, magic, key, status) in [
+        (0, USED, b'a', 0),
+        (0, USED, b'c', 1),
+        (760, USED, b'c', 3),
+        (696, USED, b'c', 3),
+        (2000, USED, b'c', 3),
+        (761, USED, b'c', 3),
+        (0, 7, b'a', 3),
+    ] {
+        let end = Piece {
+            next,
+            magic,
+            key,
+            ..last
+        };
+        let image = image_of(&LITTLE, &[first, dead, end]);
+        let (found, _) = answer(rt.alloc(), &image, "tool f.tdb show a", Failing::Nothing)?;
+        assert_eq!(rt; found, status, "{next} {magic} {key}");
     }
+    let (found, bytes) = answer(
+        rt.alloc(),
+        b"TDB file\n\0",
+        "tool f.tdb show a",
+        Failing::Nothing,
+    )?;
+    assert_eq!(rt; found, 3);
+    assert_eq!(rt; bytes.as_slice(), b"refused\n".as_slice());
     Ok(())
 }

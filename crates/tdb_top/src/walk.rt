@@ -63,7 +63,11 @@ fn find<D: Disk>(disk: &mut D, front: &Front, key: &[u8]) -> Result<Option<Place
         }
         at = rec.next;
     }
-    if at == 0 { Ok(None) } else { Err(Halt::Refused) }
+    if at == 0 {
+        Ok(None)
+    } else {
+        Err(Halt::Refused)
+    }
 }
 
 /// Where the value of the record at an offset stands: behind its key.
@@ -91,7 +95,11 @@ fn read_value<D: Disk>(alloc: Global, disk: &mut D, place: Place) -> Result<Byte
 }
 
 /// The value that a file holds for a key, if any.
-pub(crate) fn look_up<D: Disk>(alloc: Global, disk: &mut D, key: &[u8]) -> Result<Option<Bytes>, Halt>
+pub(crate) fn look_up<D: Disk>(
+    alloc: Global,
+    disk: &mut D,
+    key: &[u8],
+) -> Result<Option<Bytes>, Halt>
     requires { length key.now < 2 ^ 32 }
     ensures answer { IfOk result (λ answer. IsTrue D.tells → Answers (seen (D.history disk.old)) key.now answer) }
     ensures refused { IfErr result (λ halt. halt ≡ Refused → IsTrue D.tells → WalkFault (seen (D.history disk.old)) key.now) }

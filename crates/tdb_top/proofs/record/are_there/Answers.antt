@@ -10,11 +10,13 @@ returns-then-not-branch-clause-same g c told =
     let len = c.loop-done.done + c.min-len.result - c.loop-done.done in
     let within : c.loop-done.done + len ≤ length c.args.bytes.now = omega (arith, c.min-len.ensures) in
     let img = seen (g.D.Disk.history c.loop-done.disk) in
-    let same = ap seen c.loop-done.invariant.history in
-    (λ f. absurd (false≢true f), λ all.
-        sym c.if-not-branch.true
-        ∙ (c.in_ok-is_there.ensures.same told).1 (piece_there img c.args.bytes.now c.args.at c.loop-done.done len within
-            (subst (λ i. take (length c.args.bytes.now) (drop c.args.at i) ≡ c.args.bytes.now) (sym same) all)))
+    let same = ap seen c.loop-done.invariant.history in (
+      λ f. absurd (false≢true f),
+      λ all.
+          sym c.if-not-branch.true
+          ∙ (c.in_ok-is_there.ensures.same told).1 (piece_there img c.args.bytes.now c.args.at c.loop-done.done len within
+          (subst (λ i. take (length c.args.bytes.now) (drop c.args.at i) ≡ c.args.bytes.now) (sym same) all)),
+    )
 
 -- a piece more is there
 pub loop-done-preserved : goal.loop-done-preserved
@@ -32,5 +34,5 @@ loop-done-preserved g c = record {
       let more = piece_more img c.args.bytes.now c.args.at c.loop-done.done len within so_far ((c.in_ok-is_there.ensures.same told).0 c.if-not-branch.false) in
       let sum : c.loop-done.done + len ≡ c.loop-done.done + c.min-len.result = omega arith in
       subst (λ i. take (c.loop-done.done + c.min-len.result) (drop c.args.at i) ≡ take (c.loop-done.done + c.min-len.result) c.args.bytes.now) same
-        (subst (λ n. take n (drop c.args.at img) ≡ take n c.args.bytes.now) sum more)
+      (subst (λ n. take n (drop c.args.at img) ≡ take n c.args.bytes.now) sum more);
 }

@@ -18,7 +18,7 @@ there g c told = held_there (g.F.Files.held c.args.files.now c.args.name.now) (b
 again : (g : _) (c : After-give g) → g.F.D.Disk.tells ≡ true → (other : List ℕ) → g.F.Files.held c.give.new.self other ≡ g.F.Files.held c.args.files.now other
 again g c told other =
     held_again c.args.name.now other (g.F.Files.held c.args.files.now) (g.F.Files.held c.take.new.self) (g.F.Files.held c.give.new.self) (g.F.D.Disk.history c.in-Ok.disk)
-      c.in-Ok.ensures.held_others c.give.ensures.held_others (there g c told) (c.give.ensures.held told ∙ ap Some c.look_up-found.ensures.history)
+    c.in-Ok.ensures.held_others c.give.ensures.held_others (there g c told) (c.give.ensures.held told ∙ ap Some c.look_up-found.ensures.history)
 
 pub returns-in-Ok-Some-clause-kept : goal.returns-in-Ok-Some-clause-kept
 returns-in-Ok-Some-clause-kept g c = again g ((goal.at.returns-in-Ok-Some-clause-kept g c).After-give)
@@ -38,8 +38,8 @@ returns-in-Err-clause-cause g c told =
     let now = g.F.Files.faults c.give.new.self in
     let refused = c.in-Err.ensures.refused in
     let device : c.in-Err.halt ≡ Device → Rose before now = λ is.
-        (let rose = c.in-Err.ensures.cause.failed is in
-         let some : 0 < g.F.D.Disk.faults c.look_up-found.new.disk = omega (arith, rose, c.in-Ok.ensures.disk_faults) in
-         rose_earlier before (g.F.Files.faults c.take.new.self) now c.in-Ok.ensures.faults (c.give.ensures.faulty some)) in
+    (let rose = c.in-Err.ensures.cause.failed is in
+    let some : 0 < g.F.D.Disk.faults c.look_up-found.new.disk = omega (arith, rose, c.in-Ok.ensures.disk_faults) in
+    rose_earlier before (g.F.Files.faults c.take.new.self) now c.in-Ok.ensures.faults (c.give.ensures.faulty some)) in
     subst (λ e. ShowCause held c.args.name.now c.args.key.now before now (ending_of e)) (sym c.from.ensures)
-      (halted held c.args.name.now c.args.key.now before now (g.F.D.Disk.history c.in-Ok.disk) c.in-Err.halt was (λ is. refused is told) device)
+    (halted held c.args.name.now c.args.key.now before now (g.F.D.Disk.history c.in-Ok.disk) c.in-Err.halt was (λ is. refused is told) device)

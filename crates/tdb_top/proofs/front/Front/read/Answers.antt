@@ -40,7 +40,7 @@ returns-then-header-ne0-clause-refused g c is told u =
     let long = g.met.D.Disk.told_size c.args.disk.now told in
     let exact = c.in_ok-length.ensures.length in
     elim c.then-header-ne0.branch [
-      then-header-ne0-via-then-header-ne0 w ↦ w.if-header-ne0.true (usable_no_area img c.read.new.buf c.in-Ok.header read said u)
-    | then-header-ne0-via-else-header-ne0+then-length-data_start w ↦
-        omega (arith, w.data_start.ensures, w.if-length-data_start.true, usable_reaches img c.read.new.buf c.in-Ok.header read said u)
+      | then-header-ne0-via-then-header-ne0 w ↦ w.if-header-ne0.true (usable_no_area img c.read.new.buf c.in-Ok.header read said u)
+      | then-header-ne0-via-else-header-ne0+then-length-data_start w ↦
+          omega (arith, w.data_start.ensures, w.if-length-data_start.true, usable_reaches img c.read.new.buf c.in-Ok.header read said u)
     ]
