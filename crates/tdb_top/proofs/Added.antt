@@ -93,11 +93,11 @@ linked_first f M img at (x ∷ xs) p = omega (arith, p.0, p.1.within)
 path_linked : (f : Form) (img : List ℕ) (j at : ℕ) (xs : List ℕ) → Linked f IsChained img at xs → AllFiled f img j xs → PathBy Any f img at xs 0
 path_linked f img j at [] p filed = p
 path_linked f img j at (x ∷ xs) p filed = (
-    p.0,
-    (λ e. absurd (omega (arith, e, p.1.above))),
-    record { whole = p.1; chained = p.2; fits = λ used. (filed.0 used).fits },
-    tt,
-    path_linked f img j (next_of f.order img x) xs p.3 filed.1
+  p.0,
+  (λ e. absurd (omega (arith, e, p.1.above))),
+  record { whole = p.1; chained = p.2; fits = λ used. (filed.0 used).fits },
+  tt,
+  path_linked f img j (next_of f.order img x) xs p.3 filed.1,
 )
 
 -- so in an accepted image an insert is refused only where there is an undo area
@@ -147,8 +147,14 @@ module _ (a key value : List ℕ) (A : Accept a) (fits : length a + need_for key
   holds = omega arith
 
   body_length : length body ≡ 24 + n
-  body_length = omega (arith, holds, rec_length f.order r, word_length f.order (24 + n), length-replicate (n - (length key + length value + 4)) PADDING,
-      parts_length (bytes_of_rec f.order r) key value padding tailer)
+  body_length = omega (
+    arith,
+    holds,
+    rec_length f.order r,
+    word_length f.order (24 + n),
+    length-replicate (n - (length key + length value + 4)) PADDING,
+    parts_length (bytes_of_rec f.order r) key value padding tailer,
+  )
 
   front_length : length a ≡ length (overlay a head lead)
   front_length = sym (length-overlay a head lead)
@@ -159,9 +165,9 @@ module _ (a key value : List ℕ) (A : Accept a) (fits : length a + need_for key
       sym (rec_of_part f.order b (length a) 24 (omega arith))
       ∙ ap (λ x. rec_at f.order x 0) (header_part (length a) (overlay a head lead) (bytes_of_rec f.order r) key value padding tailer front_length (rec_length f.order r))
       ∙ rec_made f.order r
-          (word_made f.order (first_of f a key) (omega (arith, first_fits, fits))) (word_made f.order n (omega (arith, fits)))
-          (word_made f.order (length key) (omega (arith, holds, fits))) (word_made f.order (length value) (omega (arith, holds, fits)))
-          (word_made f.order (h_of f.hash key) (hash_fits f.hash key)) (word_made f.order USED (omega arith))
+      (word_made f.order (first_of f a key) (omega (arith, first_fits, fits))) (word_made f.order n (omega (arith, fits)))
+      (word_made f.order (length key) (omega (arith, holds, fits))) (word_made f.order (length value) (omega (arith, holds, fits)))
+      (word_made f.order (h_of f.hash key) (hash_fits f.hash key)) (word_made f.order USED (omega arith))
 
   len_is : rec_len_of f.order b (length a) ≡ n
   len_is = ap (λ x. x.rec_len) rec_is
@@ -186,7 +192,7 @@ module _ (a key value : List ℕ) (A : Accept a) (fits : length a + need_for key
     len_aligned = ap (λ x. x % 4) len_is ∙ (let aligned : n % 4 ≡ 0 = omega arith in aligned);
     len_least = omega (arith, len_is, holds);
     within = omega (arith, len_is, new_length);
-    tailer = ap (λ x. word f.order b (length a + 20 + x)) len_is ∙ tailer_is ∙ ap (λ x. 24 + x) (sym len_is)
+    tailer = ap (λ x. word f.order b (length a + 20 + x)) len_is ∙ tailer_is ∙ ap (λ x. 24 + x) (sym len_is);
   }
 
   key_is : key_at f.order b (length a) ≡ key
@@ -207,14 +213,14 @@ module _ (a key value : List ℕ) (A : Accept a) (fits : length a + need_for key
     fits = omega (arith, holds, len_is, ap (λ x. x.key_len) rec_is, ap (λ x. x.data_len) rec_is);
     has_key = key_is;
     has_value = value_is;
-    hashed = ap (λ x. x.full_hash) rec_is
+    hashed = ap (λ x. x.full_hash) rec_is;
   }
 
   grown_by : GrownBy f a (a ++ body) n
   grown_by = record {
     aligned = omega arith;
     size = omega (arith, body_length, both_length a body);
-    others = λ i below. get_or_append_left a body 0 i below
+    others = λ i below. get_or_append_left a body 0 i below;
   }
     where
       both_length : (x y : List ℕ) → length (x ++ y) ≡ length x + length y
@@ -228,18 +234,18 @@ module _ (a key value : List ℕ) (A : Accept a) (fits : length a + need_for key
   put_in_front = record {
     size = omega (arith, new_length, grown_by.size);
     low = λ i below apart. ap (λ x. slice_index x i) led ∙ elim apart [
-        inl under ↦ overlay_below (a ++ body) head lead i under
+      | inl under ↦ overlay_below (a ++ body) head lead i under
       | inr over ↦ overlay_above (a ++ body) head lead i (omega (arith, over, word_length f.order (length a)))
-      ];
+    ];
     high = λ i above apart. ap (λ x. slice_index x i) led ∙ overlay_above (a ++ body) head lead i (omega (arith, above, low, word_length f.order (length a)));
     filled = filled;
     next = ap (λ x. x.next) rec_is ∙ sym (word_agrees f.order (a ++ body) a head (λ i from to. grown_by.others i (omega (arith, low, A.long, to))));
     head =
-      ap (λ x. word f.order x head) led
-      ∙ word_from_bytes f.order (overlay (a ++ body) head lead) lead head 0 (λ j below.
+        ap (λ x. word f.order x head) led
+        ∙ word_from_bytes f.order (overlay (a ++ body) head lead) lead head 0 (λ j below.
         overlay_in (a ++ body) head lead (head + j) (omega arith) (omega (arith, below, word_length f.order (length a))) (omega (arith, below, low, A.long, grown_by.size))
         ∙ ap (slice_index lead) (let back : head + j - head ≡ 0 + j = omega arith in back))
-      ∙ word_made f.order (length a) (omega (arith, fits))
+        ∙ word_made f.order (length a) (omega (arith, fits));
   }
 
   -- the new image is accepted, and its map has the key more
@@ -249,5 +255,5 @@ module _ (a key value : List ℕ) (A : Accept a) (fits : length a + need_for key
       record {
         accepted = subst (λ x. AcceptWith x b []) (sym accepted.form) accepted;
         form = accepted.form;
-        map = λ k. ap (λ x. map_of x b k) accepted.form ∙ add_map f a (a ++ body) b n [] key value A grown_by put_in_front free_key k
+        map = λ k. ap (λ x. map_of x b k) accepted.form ∙ add_map f a (a ++ body) b n [] key value A grown_by put_in_front free_key k;
       }

@@ -52,9 +52,9 @@ module _ (Passes : ℕ → Type 0) (f : Form) (img : List ℕ) where
   leads_from : (from to x : ℕ) (xs : List ℕ) → PathBy Passes f img from xs to → Contains xs x → Leads x to
   leads_from from to x [] p there = absurd (omega (arith, there.1))
   leads_from from to x (y ∷ ys) p there = elim (Contains-append_cases (y ∷ []) ys x there) [
-      inl first ↦ (y ∷ ys, omega arith, subst (λ z. PathBy Passes f img z (y ∷ ys) to) (p.0 ∙ only first) p)
+    | inl first ↦ (y ∷ ys, omega arith, subst (λ z. PathBy Passes f img z (y ∷ ys) to) (p.0 ∙ only first) p)
     | inr later ↦ leads_from (next_of f.order img y) to x ys p.4 later
-    ]
+  ]
     where
       only : Contains (y ∷ []) x → y ≡ x
       only (zero, low, e) = e
@@ -73,9 +73,9 @@ module _ (Passes : ℕ → Type 0) (f : Form) (img : List ℕ) where
     where
       blamed : ((IsMet f img fault.1 → ⊥) ⊎ Contains fault.0 fault.1) → ⊥
       blamed (inl none) = elim (on_way first a fault.1 xs fault.0 p ea fault.2) [
-          inl met ↦ none met
+        | inl met ↦ none met
         | inr same ↦ none (subst (IsMet f img) (sym same) (sound (λ zero_there. fault.3 (same ∙ zero_there))))
-        ]
+      ]
       blamed (inr there) =
           let long = as_long first fault.1 fault.0 fault.2 (leads_from first fault.1 fault.1 fault.0 fault.2 there) (suc (length xs)) in
           absurd (omega (arith, long.2, no_longer first a fault.1 xs long.0 p ea long.1))

@@ -29,9 +29,16 @@ module _ (img key : List ℕ) (front : Front) (is_front : IsFrontOf front img) w
 
   -- the key is there, or isn't
   pub key_there : (is_there : Bool) → is_there ≡ true → IsFollowed (form_in front.header) img key → MatchBool is_there (HasValue (form_in front.header) img key) (FindsNone (form_in front.header) img key) → HasAlready img key
-  key_there is_there is followed told = (is_front.usable, subst (λ f. IsFollowed f img key) same_form followed, subst (λ f. HasValue f img key) same_form
-      (subst (λ b. MatchBool b (HasValue (form_in front.header) img key) (FindsNone (form_in front.header) img key)) is told))
+  key_there is_there is followed told = (
+    is_front.usable,
+    subst (λ f. IsFollowed f img key) same_form followed,
+    subst (λ f. HasValue f img key) same_form
+        (subst (λ b. MatchBool b (HasValue (form_in front.header) img key) (FindsNone (form_in front.header) img key)) is told),
+  )
 
   pub key_lacking : (is_there : Bool) → is_there ≡ false → MatchBool is_there (HasValue (form_in front.header) img key) (FindsNone (form_in front.header) img key) → CanAdd img key
-  key_lacking is_there is told = (is_front.usable, subst (λ f. FindsNone f img key) same_form
-      (subst (λ b. MatchBool b (HasValue (form_in front.header) img key) (FindsNone (form_in front.header) img key)) is told))
+  key_lacking is_there is told = (
+    is_front.usable,
+    subst (λ f. FindsNone f img key) same_form
+        (subst (λ b. MatchBool b (HasValue (form_in front.header) img key) (FindsNone (form_in front.header) img key)) is told),
+  )

@@ -1,7 +1,7 @@
 -- What a run leaves of the files, from what its parts leave.
-use Rattle.std.proofs.Common.{◌≡◌, ◌≢◌, ◌⊎◌, ℕ, List, Option, None, Some, refl, sym, ◌∙◌, ap, subst, inl, inr, arith}
+use Rattle.std.proofs.Common.{◌≡◌, ◌⊎◌, ℕ, List, Option, None, Some, refl, sym, ◌∙◌, ap, subst, inl, inr, arith}
 use Rattle.tdb_disk.specs.History.{History, seen}
-use Rattle.tdb_disk.specs.Names.{SameAll, SameBut}
+use Rattle.tdb_disk.specs.Names.{SameAll}
 use Rattle.tdb_space.specs.Form.{form_of}
 use Rattle.tdb_space.specs.Accepted.{Accept}
 use Rattle.tdb_top.specs.declared.halt.Halt.{Halt}
@@ -74,9 +74,9 @@ module _ (key value : List ℕ) where
 pub line_kept : (line : Line) (old now : List ℕ → Option History) (e : Ending) → LineLeaves line old e now → Keeps e → SameAll old now
 line_kept (show file key) old now e left keeps = left
 line_kept (insert file key value) old now e left keeps = λ name. elim (same_or_other name file) [
-    inl same ↦ ap now same ∙ name_kept key value (old file) (now file) e left.1 keeps ∙ ap old (sym same)
+  | inl same ↦ ap now same ∙ name_kept key value (old file) (now file) e left.1 keeps ∙ ap old (sym same)
   | inr apart ↦ left.0 name apart
-  ]
+]
 
 -- what a line leaves is what its words leave
 pub words_left : (words : List (List ℕ)) (line : Line) (old now : List ℕ → Option History) (e : Ending) → IsLine words line → LineLeaves line old e now → WordsLeave words old e now

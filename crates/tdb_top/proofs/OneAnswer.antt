@@ -1,14 +1,14 @@
 -- The causes of the answers exclude each other.
-use Rattle.std.proofs.Common.{arith, ◌+◌, ◌<◌, ◌≤◌, ◌≡◌, ℕ, List, None, Some, refl, sym, ◌∙◌, ap, subst, inl, inr}
+use Rattle.std.proofs.Common.{arith, ◌≡◌, ℕ, List, None, Some, refl, sym, ◌∙◌, ap, subst, inl, inr}
 use Rattle.tdb_space.specs.Form.{form_of}
 use Rattle.tdb_top.specs.CommandLine.{Line, show, insert, file_of, IsLine}
 use Rattle.tdb_top.specs.Walk.{WalkFault, FindsValue, FindsNone}
-use Rattle.tdb_top.specs.Ending.{Ending, shown, no_key, insert_ends, no_line, refused, device_fault, no_memory, missing, Met, AskedBy, Asked, AskedInsert, Cause, ShowRefused, InsertRefused, IsAnswer}
+use Rattle.tdb_top.specs.Ending.{Ending, shown, no_key, insert_ends, no_line, refused, device_fault, no_memory, missing, Met, AskedBy, Asked, AskedInsert, Cause, IsAnswer}
 use Rattle.tdb_top.proofs.OneLine.{line_one, show_or_insert, asked_key, asked_image, added_key, added_value, added_image}
 use Rattle.tdb_top.specs.declared.add.TheConstants.{LONGEST_FILE}
 use Rattle.tdb_top.specs.declared.insert.Inserted.{Inserted}
 use Rattle.tdb_top.specs.declared.insert.Inserted.TheVariants.{Done, Exists, Full}
-use Rattle.tdb_top.specs.Insert.{need_for, InsertCause, InsertFault}
+use Rattle.tdb_top.specs.Insert.{InsertCause, InsertFault}
 use Rattle.tdb_top.proofs.Ends.{value_no_fault, none_no_fault, value_not_none, value_one, followed_no_fault, none_followed}
 
 -- the ends of one insert exclude each other, and a refusal
@@ -55,16 +55,16 @@ module _ (m : Met) where
   ends_same : (i j : Inserted) → Cause m (insert_ends i) → Cause m (insert_ends j) → i ≡ j
   ends_same i j c d =
       ends_one c.2 c.0 c.1 i j c.4
-        (subst (λ x. InsertCause x c.0 c.1 LONGEST_FILE j) (sym (added_image m c.0 c.1 c.2 d.0 d.1 d.2 c.3 d.3))
-        (subst (λ k. InsertCause d.2 k c.1 LONGEST_FILE j) (sym (added_key m c.0 c.1 c.2 d.0 d.1 d.2 c.3 d.3))
-        (subst (λ v. InsertCause d.2 d.0 v LONGEST_FILE j) (sym (added_value m c.0 c.1 c.2 d.0 d.1 d.2 c.3 d.3)) d.4)))
+      (subst (λ x. InsertCause x c.0 c.1 LONGEST_FILE j) (sym (added_image m c.0 c.1 c.2 d.0 d.1 d.2 c.3 d.3))
+      (subst (λ k. InsertCause d.2 k c.1 LONGEST_FILE j) (sym (added_key m c.0 c.1 c.2 d.0 d.1 d.2 c.3 d.3))
+      (subst (λ v. InsertCause d.2 d.0 v LONGEST_FILE j) (sym (added_value m c.0 c.1 c.2 d.0 d.1 d.2 c.3 d.3)) d.4)))
 
   ends_or_refused : (i : Inserted) → Cause m (insert_ends i) → Cause m refused → ⊥
   ends_or_refused i c (inl d) = apart d.0 d.1 c.0 c.1 c.2 d.2 c.3
   ends_or_refused i c (inr d) =
       ends_no_fault c.2 c.0 c.1 i c.4
-        (subst (λ x. InsertFault x c.0) (sym (added_image m c.0 c.1 c.2 d.0 d.1 d.2 c.3 d.3))
-        (subst (λ k. InsertFault d.2 k) (sym (added_key m c.0 c.1 c.2 d.0 d.1 d.2 c.3 d.3)) d.4))
+      (subst (λ x. InsertFault x c.0) (sym (added_image m c.0 c.1 c.2 d.0 d.1 d.2 c.3 d.3))
+      (subst (λ k. InsertFault d.2 k) (sym (added_key m c.0 c.1 c.2 d.0 d.1 d.2 c.3 d.3)) d.4))
 
   line_refused : Cause m refused → (l : Line) × IsLine m.words l
   line_refused (inl d) = (show d.2.file d.0, d.2.line)
@@ -91,12 +91,12 @@ module _ (m : Met) where
   shown_or_none : (value : List ℕ) → Cause m (shown value) → Cause m no_key → ⊥
   shown_or_none value c d =
       value_not_none (form_of c.1) c.1 c.0 value c.4
-        (subst (λ x. FindsNone (form_of x) x c.0) (sym (asked_image m c.0 c.1 d.0 d.1 c.2 d.2)) (subst (FindsNone (form_of d.1) d.1) (sym (asked_key m c.0 c.1 d.0 d.1 c.2 d.2)) d.4))
+      (subst (λ x. FindsNone (form_of x) x c.0) (sym (asked_image m c.0 c.1 d.0 d.1 c.2 d.2)) (subst (FindsNone (form_of d.1) d.1) (sym (asked_key m c.0 c.1 d.0 d.1 c.2 d.2)) d.4))
 
   shown_one : (x y : List ℕ) → Cause m (shown x) → Cause m (shown y) → x ≡ y
   shown_one x y c d =
       value_one (form_of c.1) c.1 c.0 x y c.4
-        (subst (λ z. FindsValue (form_of z) z c.0 y) (sym (asked_image m c.0 c.1 d.0 d.1 c.2 d.2)) (subst (λ k. FindsValue (form_of d.1) d.1 k y) (sym (asked_key m c.0 c.1 d.0 d.1 c.2 d.2)) d.4))
+      (subst (λ z. FindsValue (form_of z) z c.0 y) (sym (asked_image m c.0 c.1 d.0 d.1 c.2 d.2)) (subst (λ k. FindsValue (form_of d.1) d.1 k y) (sym (asked_key m c.0 c.1 d.0 d.1 c.2 d.2)) d.4))
 
   -- two answers that have their causes are one
   pub answer_one : (x y : Ending) → Cause m x → Cause m y → IsAnswer x → IsAnswer y → x ≡ y

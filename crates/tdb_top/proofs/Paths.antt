@@ -68,22 +68,23 @@ module _ (Passes : ℕ → Type 0) (f : Form) (img : List ℕ) where
     where
       back : (q : ℕ) → Member q (x / 4 ∷ quarters) → Contains (met ++ x ∷ []) (4 * q)
       back q there = elim (member_cases q (x / 4) quarters there) [
-          inl e ↦ (let same : x ≡ 4 * q = omega (arith, m.whole.aligned, e) in subst (Contains (met ++ x ∷ [])) same (contains_last met x))
+        | inl e ↦ (let same : x ≡ 4 * q = omega (arith, m.whole.aligned, e) in subst (Contains (met ++ x ∷ [])) same (contains_last met x))
         | inr old ↦ Contains-append_left met (x ∷ []) (4 * q) (h.back q old)
-        ]
+      ]
+
       below : (q : ℕ) → Member q (x / 4 ∷ quarters) → (0 < q) × (q < length img / 4)
       below q there = elim (member_cases q (x / 4) quarters there) [
-          inl e ↦ (omega (arith, m.whole.above, e), omega (arith, m.whole.within, e))
+        | inl e ↦ (omega (arith, m.whole.above, e), omega (arith, m.whole.within, e))
         | inr old ↦ h.below q old
-        ]
+      ]
 
   -- a path, behind one that came by no place twice: it comes by a place again, or by none twice
   again_or_apart : (from x at : ℕ) (met more quarters : List ℕ) → PathBy Passes f img from met x → PathBy Passes f img x more at → Quarters met quarters → Again from ⊎ ((all : List ℕ) × (longer : List ℕ) × Quarters all longer × (length all ≡ length met + length more))
   again_or_apart from x at met [] quarters p q h = inr (met, quarters, h, omega arith)
   again_or_apart from x at met (y ∷ more) quarters p q h =
       elim (cases_Bool (list_any (eqb (y / 4)) quarters)) [
-        inl there ↦ inl (met, y, subst (PathBy Passes f img from met) q.0 p, q.1, (let same : 4 * (y / 4) ≡ y = omega (arith, q.2.whole.aligned) in subst (Contains met) same (h.back (y / 4) there)))
-      | inr apart ↦ further (again_or_apart from (next_of f.order img y) at (met ++ y ∷ []) more (y / 4 ∷ quarters)
+        | inl there ↦ inl (met, y, subst (PathBy Passes f img from met) q.0 p, q.1, (let same : 4 * (y / 4) ≡ y = omega (arith, q.2.whole.aligned) in subst (Contains met) same (h.back (y / 4) there)))
+        | inr apart ↦ further (again_or_apart from (next_of f.order img y) at (met ++ y ∷ []) more (y / 4 ∷ quarters)
             (path_more from y met (subst (PathBy Passes f img from met) q.0 p) q.1 q.2 q.3) q.4 (quarter_more met quarters y h q.2 q.1 apart))
       ]
     where
@@ -104,7 +105,7 @@ module _ (Passes : ℕ → Type 0) (f : Form) (img : List ℕ) where
       met_again (inr (all, quarters, h, e)) =
           let no_zero : Member 0 quarters → ⊥ = λ there. absurd (omega (arith, (h.below 0 there).0)) in
           let all_below : (q : ℕ) → Member q (0 ∷ quarters) → q < length img / 4 =
-              λ q there. elim (member_cases q 0 quarters there) [ inl zero_there ↦ omega (arith, zero_there, some) | inr old ↦ (h.below q old).1 ] in
+          λ q there. elim (member_cases q 0 quarters there) [ inl zero_there ↦ omega (arith, zero_there, some) | inr old ↦ (h.below q old).1 ] in
           let short = length-le_from_distinct_below (0 ∷ quarters) (length img / 4) (distinct_with 0 quarters no_zero h.distinct) all_below in
           absurd (omega (arith, short, h.count, e, long))
 

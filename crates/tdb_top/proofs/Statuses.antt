@@ -56,18 +56,18 @@ shows_map m key img o e status asked filed c (inr part) = record { value = λ is
 shows_map m key img o (shown v) status asked filed c (inl all) = record {
   value = λ is.
       (let k : c.0 ≡ key = asked_key m c.0 c.1 key img c.2 asked in
-       let i : c.1 ≡ img = asked_image m c.0 c.1 key img c.2 asked in
-       let there : IsFiled (form_of c.1) c.1 = subst (λ x. IsFiled (form_of x) x) (sym i) filed in
-       (v, sym (ap (map_of (form_of img) img) k) ∙ sym (ap (λ x. map_of (form_of x) x c.0) i) ∙ value_mapped (form_of c.1) c.1 c.0 v there c.4, all.written));
+      let i : c.1 ≡ img = asked_image m c.0 c.1 key img c.2 asked in
+      let there : IsFiled (form_of c.1) c.1 = subst (λ x. IsFiled (form_of x) x) (sym i) filed in
+      (v, sym (ap (map_of (form_of img) img) k) ∙ sym (ap (λ x. map_of (form_of x) x c.0) i) ∙ value_mapped (form_of c.1) c.1 c.0 v there c.4, all.written));
   none = λ is. absurd (omega (arith, is, all.exits));
 }
 shows_map m key img o no_key status asked filed c (inl all) = record {
   value = λ is. absurd (omega (arith, is, all.exits));
   none = λ is.
       (let k : c.0 ≡ key = asked_key m c.0 c.1 key img c.2 asked in
-       let i : c.1 ≡ img = asked_image m c.0 c.1 key img c.2 asked in
-       let there : IsFiled (form_of c.1) c.1 = subst (λ x. IsFiled (form_of x) x) (sym i) filed in
-       sym (ap (map_of (form_of img) img) k) ∙ sym (ap (λ x. map_of (form_of x) x c.0) i) ∙ none_mapped (form_of c.1) c.1 c.0 there c.4);
+      let i : c.1 ≡ img = asked_image m c.0 c.1 key img c.2 asked in
+      let there : IsFiled (form_of c.1) c.1 = subst (λ x. IsFiled (form_of x) x) (sym i) filed in
+      sym (ap (map_of (form_of img) img) k) ∙ sym (ap (λ x. map_of (form_of x) x c.0) i) ∙ none_mapped (form_of c.1) c.1 c.0 there c.4);
 }
 shows_map m key img o (insert_ends i) status asked filed c (inl all) = absurd (show_or_insert m.words asked.file key c.3.file c.0 c.1 asked.line c.3.line)
 shows_map m key img o no_line status asked filed c (inl all) = record { value = λ is. absurd (omega (arith, is, all.exits)); none = λ is. absurd (omega (arith, is, all.exits)) }

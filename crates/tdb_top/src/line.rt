@@ -17,7 +17,10 @@ pub const LONGEST_WORD: usize = 16_777_216;
 #[derive(Debug, Drop)]
 pub(crate) enum Line {
     /// The value that a file holds for a key.
-    Show { file: String, key: Bytes },
+    Show {
+        file: String,
+        key: Bytes,
+    },
 
     /// To add a key with a value to a file.
     Insert {
@@ -88,7 +91,9 @@ fn insert_line(alloc: Global, words: &[String]) -> Result<Line, LineRefusal>
     if tool.as_str() != "tool" || insert.as_str() != "insert" {
         return Err(LineRefusal::NoLine);
     }
-    if !is_position(file.as_str()) || !is_position(first.as_str()) || !is_position(second.as_str())
+    if !is_position(file.as_str())
+        || !is_position(first.as_str())
+        || !is_position(second.as_str())
     {
         return Err(LineRefusal::NoLine);
     }

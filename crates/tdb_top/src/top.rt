@@ -9,7 +9,6 @@ ghost use Rattle.tdb_space.specs.Accepted.{IsFiled};
 ghost use Rattle.tdb_top.specs.CommandLine.{insert, length_in, asked_by, IsLine, HasNoLine};
 ghost use Rattle.tdb_top.specs.Walk.{IsUsable};
 ghost use Rattle.tdb_top.specs.Ending.{Ending as Means, shown, no_key, insert_ends, no_line, refused, device_fault, no_memory, missing, ending_of, status_of, text_of, met_by, output_by, Asked, AskedInsert, Cause, IsAnswer, Prints, ShowsMap};
-
 ghost use Rattle.tdb_disk.specs.Names.{SameAll};
 ghost use Rattle.tdb_top.specs.declared.insert.Inserted.TheVariants.{Done, Exists, Full};
 ghost use Rattle.tdb_top.specs.Left.{LineLeaves, WordsLeave, Keeps, KeepsAll, RunLeaves};
@@ -35,7 +34,13 @@ fn answer_line<F: Files>(alloc: Global, line: &Line, files: &mut F) -> Ending
 {
     match line {
         Line::Show { file, key } => show(alloc, file.as_str(), key.as_slice(), files),
-        Line::Insert { file, key, value } => add_key(alloc, file.as_str(), key.as_slice(), value.as_slice(), files),
+        Line::Insert { file, key, value } => add_key(
+            alloc,
+            file.as_str(),
+            key.as_slice(),
+            value.as_slice(),
+            files,
+        ),
     }
 }
 

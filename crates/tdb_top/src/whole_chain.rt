@@ -46,5 +46,9 @@ pub(crate) fn has_already<D: Disk>(
         }
         at = rec.next;
     }
-    if at == 0 { Ok(is_there) } else { Err(Halt::Refused) }
+    if at == 0 {
+        Ok(is_there)
+    } else {
+        Err(Halt::Refused)
+    }
 }

@@ -1,8 +1,7 @@
-use Rattle.std.proofs.Common.{◌≡◌, ℕ, List, length, map, string_bytes, ◌∙◌, arith}
-use Rattle.std.specs.Prelude.{String}
+use Rattle.std.proofs.Common.{map, string_bytes, arith}
 use Rattle.std.specs.Global.{Global}
 use Rattle.std.proofs.lemmas.List.{length-map}
-use Rattle.tdb_top.specs.CommandLine.{show, insert, IsLine, HasNoLine}
+use Rattle.tdb_top.specs.CommandLine.{show, insert, HasNoLine}
 use Rattle.tdb_top.proofs.Lines.{show_length, insert_length}
 use Rattle.tdb_top.proofs.line.line_of.Goals as goal
 

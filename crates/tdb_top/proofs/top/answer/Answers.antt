@@ -17,7 +17,7 @@ returns-in-Ok-clause-cause g c told = c.answer_line.ensures.cause told c.args.wo
 pub returns-in-Ok-clause-left : goal.returns-in-Ok-clause-left
 returns-in-Ok-clause-left g c told =
     words_left (map string_bytes c.args.words.now) (asked_by c.in-Ok.line) (g.F.Files.held c.args.files.now) (g.F.Files.held c.answer_line.new.files) (ending_of c.answer_line.result)
-      c.in-Ok.ensures.read (c.answer_line.ensures.left told)
+    c.in-Ok.ensures.read (c.answer_line.ensures.left told)
 
 pub returns-in-Ok-clause-kept : goal.returns-in-Ok-clause-kept
 returns-in-Ok-clause-kept g c told keeps =

@@ -14,7 +14,7 @@ returns-in-Insert-clause-cause g c told words reading =
     let name = string_bytes c.in-Insert.file in
     let e = ending_of c.add_key.result in
     add_caused m name c.in-Insert.key c.in-Insert.value e
-      (subst (λ l. IsLine m.words (asked_by l)) c.in-Insert.is reading)
-      (subst (λ n. AddCause (held n) n c.in-Insert.key c.in-Insert.value before now e) c.as_str-in-Insert.ensures.value
-        (subst (λ k. AddCause (held c.as_str-in-Insert.result.now) c.as_str-in-Insert.result.now k c.in-Insert.value before now e) c.as_slice-in-Insert.ensures
-          (subst (λ v. AddCause (held c.as_str-in-Insert.result.now) c.as_str-in-Insert.result.now c.as_slice-in-Insert.result.now v before now e) c.as_slice-in-Insert-2.ensures (c.add_key.ensures.cause told))))
+    (subst (λ l. IsLine m.words (asked_by l)) c.in-Insert.is reading)
+    (subst (λ n. AddCause (held n) n c.in-Insert.key c.in-Insert.value before now e) c.as_str-in-Insert.ensures.value
+    (subst (λ k. AddCause (held c.as_str-in-Insert.result.now) c.as_str-in-Insert.result.now k c.in-Insert.value before now e) c.as_slice-in-Insert.ensures
+    (subst (λ v. AddCause (held c.as_str-in-Insert.result.now) c.as_str-in-Insert.result.now c.as_slice-in-Insert.result.now v before now e) c.as_slice-in-Insert-2.ensures (c.add_key.ensures.cause told))))

@@ -50,11 +50,11 @@ loop-turn-preserved g c = record {
       let said = c.in_ok-rec.ensures.value told ∙ ap (λ i. rec_at f.order i at) same in
       let next : next_of f.order img at ≡ c.in_ok-rec.rec.next = ap (λ r. r.next) (sym said) in
       let other : HasKey f img key at → ⊥ = λ has.
-          false≢true (sym c.if-branch.false ∙ (c.in_ok-has_key.ensures.same told f (said ∙ ap (λ i. rec_at f.order i at) (sym same2))).1 (subst (λ i. HasKey f i key at) (sym same2) has)) in
+      false≢true (sym c.if-branch.false ∙ (c.in_ok-has_key.ensures.same told f (said ∙ ap (λ i. rec_at f.order i at) (sym same2))).1 (subst (λ i. HasKey f i key at) (sym same2) has)) in
       elim c.if-is_power_of_two.branch [
-        then-is_power_of_two w ↦ subst (λ m. Walked f img key first c.in_ok-rec.rec.next m (c.loop-turn.turn + 1)) (sym w.mark-is)
+        | then-is_power_of_two w ↦ subst (λ m. Walked f img key first c.in_ok-rec.rec.next m (c.loop-turn.turn + 1)) (sym w.mark-is)
             (subst (λ x. Walked f img key first x at (c.loop-turn.turn + 1)) next (walked_marked (LacksKey f img key) f img first at c.loop-turn.mark c.loop-turn.turn so_far c.if-at-eq0.false met other))
-      | else-is_power_of_two w ↦ subst (λ m. Walked f img key first c.in_ok-rec.rec.next m (c.loop-turn.turn + 1)) (sym w.mark-is)
+        | else-is_power_of_two w ↦ subst (λ m. Walked f img key first c.in_ok-rec.rec.next m (c.loop-turn.turn + 1)) (sym w.mark-is)
             (subst (λ x. Walked f img key first x c.loop-turn.mark (c.loop-turn.turn + 1)) next (walked_more (LacksKey f img key) f img first at c.loop-turn.mark c.loop-turn.turn so_far c.if-at-eq0.false met other))
       ];
 }
