@@ -26,7 +26,7 @@ pub member_other : (z x : ℕ) (xs : List ℕ) → Member z xs → Member z (x �
 member_other z x xs h = or_right (eqb z x) (list_any (eqb z) xs) h
 
 -- an offset that is no member of a list without two alike can be put in front of it
-distinct_with : (x : ℕ) (xs : List ℕ) → (Member x xs → ⊥) → IsDistinct eqb xs → IsDistinct eqb (x ∷ xs)
+pub distinct_with : (x : ℕ) (xs : List ℕ) → (Member x xs → ⊥) → IsDistinct eqb xs → IsDistinct eqb (x ∷ xs)
 distinct_with x xs apart rest = IsDistinct-cons eqb x xs (each_apart x xs (false_from_ne_true (list_any (eqb x) xs) apart)) rest
   where
     each_apart : (x : ℕ) (xs : List ℕ) → list_any (eqb x) xs ≡ false → AllByRecursion (λ y. eqb x y ≡ false) xs

@@ -2,6 +2,8 @@ pub mod Lines
 pub mod Usable
 pub mod Pieces
 pub mod Paths
+pub mod AtEnd
+pub mod Inserts
 pub mod Held
 pub mod Causes
 pub mod Ends
@@ -10,3 +12,5 @@ pub mod ShortWords
 pub mod OneLine
 pub mod OneAnswer
 pub mod Statuses
+pub mod Added
+pub mod Leavings

@@ -1,5 +1,5 @@
 -- How a run ends: its status, the line that it prints, and the cause of each.
-use Rattle.std.specs.Prelude.{◌≡◌, ◌≢◌, ℕ, Bool, Option, None, Some, IsTrue, List, [], ◌∷◌, ◌++◌, ◌⊎◌, take, map, codes, string_bytes}
+use Rattle.std.specs.Prelude.{◌≡◌, ◌≢◌, ℕ, Bool, Option, None, Some, IsTrue, List, [], ◌∷◌, ◌++◌, ◌⊎◌, take, map, codes, decimal, string_bytes}
 use Rattle.std.specs.Prelude.{String}
 use Rattle.std.specs.Global.{Global}
 use Rattle.tdb_disk.specs.Count.{Rose}
@@ -9,7 +9,11 @@ use Rattle.tdb_space.specs.Form.{form_of}
 use Rattle.tdb_top.specs.declared.ending.Ending as C
 use Rattle.tdb_top.specs.declared.halt.Halt.{Halt}
 use Rattle.tdb_top.specs.declared.halt.Halt.TheVariants.{Refused, Device, Memory}
-use Rattle.tdb_top.specs.CommandLine.{show, IsLine, HasNoLine}
+use Rattle.tdb_top.specs.declared.add.TheConstants.{LONGEST_FILE}
+use Rattle.tdb_top.specs.declared.insert.Inserted.{Inserted}
+use Rattle.tdb_top.specs.declared.insert.Inserted.TheVariants.{Done, Exists, Full}
+use Rattle.tdb_top.specs.CommandLine.{Line, show, insert, file_of, IsLine, HasNoLine}
+use Rattle.tdb_top.specs.Insert.{InsertCause, InsertFault}
 use Rattle.tdb_top.specs.Walk.{FindsValue, FindsNone, IsUsable, WalkFault}
 
 -- how a run ends
@@ -18,6 +22,8 @@ pub data Ending : Type 0 where
   shown : List ℕ → Ending
   -- the key isn't there
   no_key : Ending
+  -- a key was to be added: it was, it is there, or the file would be too long
+  insert_ends : Inserted → Ending
   -- the words are no command line
   no_line : Ending
   -- the file is refused
@@ -33,6 +39,9 @@ pub data Ending : Type 0 where
 abbrev pub status_of : Ending → ℕ
 status_of (shown value) = 0
 status_of no_key = 1
+status_of (insert_ends Done) = 0
+status_of (insert_ends Exists) = 1
+status_of (insert_ends (Full len need)) = 6
 status_of no_line = 2
 status_of refused = 3
 status_of device_fault = 4
@@ -43,6 +52,9 @@ status_of (missing name) = 9
 abbrev pub line_of : Ending → List ℕ
 line_of (shown value) = data_line value
 line_of no_key = codes "noexist"
+line_of (insert_ends Done) = codes "ok"
+line_of (insert_ends Exists) = codes "exists"
+line_of (insert_ends (Full len need)) = codes "full " ++ decimal len ++ codes " " ++ decimal need
 line_of no_line = codes "usage: tdb COMMAND [OPTIONS] FILE [WORDS]"
 line_of refused = codes "refused"
 line_of device_fault = codes "device fault"
@@ -53,6 +65,7 @@ line_of (missing name) = codes "missing " ++ name
 abbrev pub ending_of : C.Ending → Ending
 ending_of (C.TheVariants.Shown value) = shown value
 ending_of C.TheVariants.NoKey = no_key
+ending_of (C.TheVariants.Insert inserted) = insert_ends inserted
 ending_of C.TheVariants.NoLine = no_line
 ending_of C.TheVariants.Refused = refused
 ending_of C.TheVariants.DeviceFault = device_fault
@@ -74,13 +87,20 @@ pub record Met : Type 0 where
 abbrev pub met_by : List (String Global) → (List ℕ → Option History) → ℕ → ℕ → Met
 met_by words held before after = record { words = map string_bytes words; held = held; faults_before = before; faults_after = after }
 
--- the words ask to show the key, and the file of that name has these bytes
-pub record Asked (m : Met) (key img : List ℕ) : Type 0 where
+-- the words ask for a line about some file, and the file of that name has these bytes
+pub record AskedBy (m : Met) (asks : List ℕ → Line) (img : List ℕ) : Type 0 where
   pub file : List ℕ
   pub history : History
-  pub line : IsLine m.words (show file key)
+  pub line : IsLine m.words (asks file)
   pub there : m.held file ≡ Some history
   pub bytes : seen history ≡ img
+
+-- the words ask to show the key, or to add it with a value
+abbrev pub Asked : Met → List ℕ → List ℕ → Type 0
+Asked m key img = AskedBy m (λ file. show file key) img
+
+abbrev pub AskedInsert : Met → List ℕ → List ℕ → List ℕ → Type 0
+AskedInsert m key value img = AskedBy m (λ file. insert file key value) img
 
 -- why the show of a key in the file of a name ends so, by what is held there and by how often the files had failed before and after
 abbrev pub ShowCause : Option History → List ℕ → List ℕ → ℕ → ℕ → Ending → Type 0
@@ -88,21 +108,43 @@ ShowCause held name key before after (shown value) =
     (h : History) × (held ≡ Some h) × IsUsable (seen h) × FindsValue (form_of (seen h)) (seen h) key value
 ShowCause held name key before after no_key =
     (h : History) × (held ≡ Some h) × IsUsable (seen h) × FindsNone (form_of (seen h)) (seen h) key
+ShowCause held name key before after (insert_ends inserted) = ⊥
 ShowCause held name key before after no_line = ⊥
 ShowCause held name key before after refused = (h : History) × (held ≡ Some h) × WalkFault (seen h) key
 ShowCause held name key before after device_fault = Rose before after
 ShowCause held name key before after no_memory = Unit {0}
 ShowCause held name key before after (missing absent) = (absent ≡ name) × (held ≡ None)
 
+-- why adding a key with a value ends so, in the same way
+abbrev pub AddCause : Option History → List ℕ → List ℕ → List ℕ → ℕ → ℕ → Ending → Type 0
+AddCause held name key value before after (shown bytes) = ⊥
+AddCause held name key value before after no_key = ⊥
+AddCause held name key value before after (insert_ends inserted) =
+    (h : History) × (held ≡ Some h) × InsertCause (seen h) key value LONGEST_FILE inserted
+AddCause held name key value before after no_line = ⊥
+AddCause held name key value before after refused = (h : History) × (held ≡ Some h) × InsertFault (seen h) key
+AddCause held name key value before after device_fault = Rose before after
+AddCause held name key value before after no_memory = Unit {0}
+AddCause held name key value before after (missing absent) = (absent ≡ name) × (held ≡ None)
+
+-- why a show is refused, and an insert
+abbrev pub ShowRefused : Met → Type 0
+ShowRefused m = (key : List ℕ) × (img : List ℕ) × Asked m key img × WalkFault img key
+
+abbrev pub InsertRefused : Met → Type 0
+InsertRefused m = (key : List ℕ) × (value : List ℕ) × (img : List ℕ) × AskedInsert m key value img × InsertFault img key
+
 -- why a run ends so
 abbrev pub Cause : Met → Ending → Type 0
 Cause m (shown value) = (key : List ℕ) × (img : List ℕ) × Asked m key img × IsUsable img × FindsValue (form_of img) img key value
 Cause m no_key = (key : List ℕ) × (img : List ℕ) × Asked m key img × IsUsable img × FindsNone (form_of img) img key
+Cause m (insert_ends inserted) =
+    (key : List ℕ) × (value : List ℕ) × (img : List ℕ) × AskedInsert m key value img × InsertCause img key value LONGEST_FILE inserted
 Cause m no_line = HasNoLine m.words
-Cause m refused = (key : List ℕ) × (img : List ℕ) × Asked m key img × WalkFault img key
+Cause m refused = ShowRefused m ⊎ InsertRefused m
 Cause m device_fault = Rose m.faults_before m.faults_after
 Cause m no_memory = Unit {0}
-Cause m (missing name) = (key : List ℕ) × IsLine m.words (show name key) × (m.held name ≡ None)
+Cause m (missing name) = (line : Line) × IsLine m.words line × (file_of line ≡ name) × (m.held name ≡ None)
 
 -- the line and its newline
 abbrev pub text_of : Ending → List ℕ

@@ -1,4 +1,6 @@
 pub mod CommandLine
 pub mod Walk
 pub mod Look
+pub mod Insert
 pub mod Ending
+pub mod Left

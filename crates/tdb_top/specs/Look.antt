@@ -1,5 +1,5 @@
 -- What a look at a disk says of its image, and what it leaves.
-use Rattle.std.specs.Prelude.{◌≡◌, ℕ, ◌+◌, ◌%◌, ◌≤◌, ◌⊎◌, Result, IfErr, Option, MatchOption, List, length, take, drop, Contains}
+use Rattle.std.specs.Prelude.{◌≡◌, ℕ, ◌+◌, ◌%◌, ◌≤◌, ◌⊎◌, Result, IfErr, Option, MatchOption, Bool, MatchBool, List, length, take, drop, Contains}
 use Rattle.tdb_disk.specs.Count.{Rose}
 use Rattle.tdb_words.specs.declared.record.TheConstants.{USED}
 use Rattle.tdb_words.specs.declared.record.Rec.{Rec}
@@ -10,7 +10,7 @@ use Rattle.tdb_top.specs.declared.halt.Halt.{Halt}
 use Rattle.tdb_top.specs.declared.halt.Halt.TheVariants.{Device}
 use Rattle.tdb_top.specs.declared.front.Front.{Front}
 use Rattle.tdb_top.specs.declared.walk.Place.{Place}
-use Rattle.tdb_top.specs.Walk.{IsUsable, PathTo, FindsValue, FindsNone}
+use Rattle.tdb_top.specs.Walk.{IsUsable, LacksKey, PathBy, PathTo, FindsValue, FindsNone, HasValue}
 
 -- the count of faults never falls, and rose where the disk is blamed
 pub record HaltsForCause {V : Type 0} (before now : ℕ) (answer : Result V Halt) : Type 0 where
@@ -38,12 +38,21 @@ bytes_at img place = take place.len (drop place.at img)
 abbrev pub Found : Form → List ℕ → List ℕ → Option Place → Type 0
 Found f img key found = MatchOption found (FindsNone f img key) (λ place. FindsValue f img key (bytes_at img place))
 
--- A walk led along records without the key to an offset, in so many steps. The mark is none yet, or was met.
-pub record Walked (f : Form) (img key : List ℕ) (first at mark turns : ℕ) : Type 0 where
+-- A walk led along records that may be passed to an offset, in so many steps. The mark is none yet, or was met.
+pub record WalkedBy (Passes : ℕ → Type 0) (f : Form) (img : List ℕ) (first at mark turns : ℕ) : Type 0 where
   pub met : List ℕ
-  pub path : PathTo f img key first met at
+  pub path : PathBy Passes f img first met at
   pub count : length met ≡ turns
   pub marked : (mark ≡ 0) ⊎ Contains met mark
+
+-- the same along records without the key
+abbrev pub Walked : Form → List ℕ → List ℕ → ℕ → ℕ → ℕ → ℕ → Type 0
+Walked f img key = WalkedBy (LacksKey f img key) f img
+
+-- A walk led to an offset: it came by a record with the key, or along records without it.
+abbrev pub MetSoFar : Form → List ℕ → List ℕ → ℕ → ℕ → Bool → Type 0
+MetSoFar f img key first at is_there =
+    MatchBool is_there (HasValue f img key) ((met : List ℕ) × PathTo f img key first met at)
 
 -- what a look-up answers: the value of the key, or that there is none
 abbrev pub Answers : List ℕ → List ℕ → Option (List ℕ) → Type 0

@@ -1,11 +1,13 @@
 // How a run ends: its status and the line that it prints.
 
-ghost use Rattle.std.specs.Prelude.{◌≡◌, ◌⊎◌, IfOk};
+ghost use Rattle.std.specs.Prelude.{◌≡◌, ◌⊎◌, ◌++◌, codes, decimal, IfOk};
 ghost use Rattle.tdb_top.specs.declared.ending.Ending.TheVariants.{DeviceFault, NoMemory, Refused as IsRefused};
 ghost use Rattle.tdb_top.specs.declared.halt.Halt.TheVariants.{Refused, Device, Memory};
 ghost use Rattle.tdb_top.specs.Ending.{Ending as Means, ending_of, no_memory, status_of, text_of, Prints, output_by, of_halt};
 
 use crate::halt::Halt;
+use crate::insert::Inserted;
+use itoa::Buffer;
 use std::alloc::{AllocError, Global};
 use tdb_disk::Sink;
 use tdb_dump::data_line;
@@ -23,6 +25,9 @@ pub(crate) enum Ending {
 
     /// The key isn't there.
     NoKey,
+
+    /// A key was to be added.
+    Insert(Inserted),
 
     /// The words are no command line.
     NoLine,
@@ -50,18 +55,31 @@ impl From<Halt> for Ending {
     }
 }
 
+/// What is printed of a file that would be too long.
+fn full_line(alloc: Global, len: u64, need: u64) -> Result<Bytes, AllocError>
+    ensures { IfOk result (λ text. text ≡ codes "full " ++ decimal len ++ codes " " ++ decimal need) }
+{
+    let mut number = Buffer::new();
+    let mut text = Bytes::copy(alloc, b"full ")?;
+    text.push_all(number.format(len).as_bytes())?;
+    text.push_all(b" ")?;
+    text.push_all(number.format(need).as_bytes())?;
+    Ok(text)
+}
+
 impl Ending {
     /// The status that tells it.
     pub(crate) fn status(&self) -> Status
         ensures { result.0 ≡ status_of (ending_of self.now) }
     {
         Status(match self {
-            Ending::Shown(_) => 0,
-            Ending::NoKey => 1,
+            Ending::Shown(_) | Ending::Insert(Inserted::Done) => 0,
+            Ending::NoKey | Ending::Insert(Inserted::Exists) => 1,
             Ending::NoLine => 2,
             Ending::Refused => 3,
             Ending::DeviceFault => 4,
             Ending::NoMemory => 5,
+            Ending::Insert(Inserted::Full { len: _, need: _ }) => 6,
             Ending::Missing(_) => 9,
         })
     }
@@ -73,6 +91,9 @@ impl Ending {
         let mut text = match self {
             Ending::Shown(value) => data_line(alloc, value.as_slice())?,
             Ending::NoKey => Bytes::copy(alloc, b"noexist")?,
+            Ending::Insert(Inserted::Done) => Bytes::copy(alloc, b"ok")?,
+            Ending::Insert(Inserted::Exists) => Bytes::copy(alloc, b"exists")?,
+            Ending::Insert(Inserted::Full { len, need }) => full_line(alloc, *len, *need)?,
             Ending::NoLine => Bytes::copy(alloc, b"usage: tdb COMMAND [OPTIONS] FILE [WORDS]")?,
             Ending::Refused => Bytes::copy(alloc, b"refused")?,
             Ending::DeviceFault => Bytes::copy(alloc, b"device fault")?,

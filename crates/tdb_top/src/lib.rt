@@ -1,14 +1,18 @@
 //! The top call of the program: command lines are read, and run over a set of files, an input and an output.
 #![tactic(auto)]
 
+mod add;
 mod ending;
 mod front;
 mod halt;
+mod insert;
 mod line;
+mod new_record;
 mod record;
 mod show;
 mod top;
 mod walk;
+mod whole_chain;
 
 pub use ending::Status;
 pub use top::run;

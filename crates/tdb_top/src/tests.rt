@@ -1,11 +1,14 @@
 // Whole runs over the forms in memory: what is printed for files of known bytes, and what failing calls give.
 
-ghost use Rattle.std.specs.Prelude.{◌≤◌};
+ghost use Rattle.std.specs.Prelude.{◌≡◌, ◌≤◌, ℕ, List, false};
+ghost use Rattle.tdb_disk.specs.MemFiles.{name_is_taken};
 
+use crate::ending::Ending;
+use crate::insert::{Inserted, insert};
 use crate::{Status, run};
 use std::alloc::{AllocError, Global};
 use std::test::Fail;
-use tdb_disk::{Call, MemFiles, MemSink, MemSource};
+use tdb_disk::{Call, MemDisk, MemFiles, MemSink, MemSource};
 use tdb_words::{DEAD, Order, USED, word_bytes};
 
 /// The forms of header that files are made with here, with the hash of the key `a`.
@@ -94,7 +97,26 @@ enum Failing {
     Write,
 }
 
-/// The status and the bytes of a run on a file `f.tdb`, of words with blanks between them.
+/// The status of a run of words with blanks between them, and what it prints.
+fn run_words(
+    alloc: Global,
+    files: &mut MemFiles,
+    output: &mut MemSink,
+    words: &str,
+) -> Result<(u8, Vec<u8>), AllocError>
+    requires { (name : List ℕ) → name_is_taken files.old name ≡ false }
+    ensures { (name : List ℕ) → name_is_taken files.new name ≡ false }
+{
+    let mut input = MemSource::new(alloc, b"")?;
+    let mut list = Vec::new(alloc);
+    for word in words.split(' ') {
+        list.push(String::from_str(alloc, word)?)?;
+    }
+    let Status(status) = run(alloc, &list, files, &mut input, output);
+    Ok((status, output.as_slice().to_vec(alloc)?))
+}
+
+/// The same on a file `f.tdb`, where a call fails.
 fn answer(
     alloc: Global,
     image: &[u8],
@@ -103,7 +125,6 @@ fn answer(
 ) -> Result<(u8, Vec<u8>), AllocError> {
     let mut files = MemFiles::new(alloc);
     let mut output = MemSink::new(alloc);
-    let mut input = MemSource::new(alloc, b"")?;
     files.put("f.tdb", image)?;
     match failing {
         Failing::Nothing => {}
@@ -111,12 +132,7 @@ fn answer(
         Failing::Read(nth) => files.fail_disk("f.tdb", Call::Read, nth)?,
         Failing::Write => output.fail(Call::Write, 0)?,
     }
-    let mut list = Vec::new(alloc);
-    for word in words.split(' ') {
-        list.push(String::from_str(alloc, word)?)?;
-    }
-    let Status(status) = run(alloc, &list, &mut files, &mut input, &mut output);
-    Ok((status, output.as_slice().to_vec(alloc)?))
+    run_words(alloc, &mut files, &mut output, words)
 }
 
 const USAGE: &str = "usage: tdb COMMAND [OPTIONS] FILE [WORDS]\n";
@@ -215,5 +231,70 @@ fn short_file_and_chains(rt: HostRuntime) -> Result<(), Fail> {
     )?;
     assert_eq!(rt; found, 3);
     assert_eq!(rt; bytes.as_slice(), b"refused\n".as_slice());
+    Ok(())
+}
+
+#[test]
+fn inserts(rt: HostRuntime) -> Result<(), Fail> {
+    let alloc = rt.alloc();
+    let piece = Piece {
+        at: 696,
+        next: 0,
+        magic: USED,
+        key: b'a',
+        value: b'1',
+    };
+    for form in [LITTLE, BIG] {
+        let mut files = MemFiles::new(alloc);
+        files.put("f.tdb", &image_of(&form, &[])[..696])?;
+        for (words, status, printed) in [
+            ("tool f.tdb insert a 1", 0, "ok\n"),
+            ("tool f.tdb insert a 2", 1, "exists\n"),
+            ("tool f.tdb show a", 0, "data(1) = \"1\"\n"),
+            ("tool f.tdb insert a 1 2", 2, USAGE),
+            ("tool f.tdb insert a \\6", 2, USAGE),
+            ("tool g.tdb insert a 1", 9, "missing g.tdb\n"),
+        ] {
+            let mut output = MemSink::new(alloc);
+            let (found, bytes) = run_words(alloc, &mut files, &mut output, words)?;
+            assert_eq!(rt; found, status, "{words}");
+            assert_eq!(rt; bytes.as_slice(), printed.as_bytes(), "{words}");
+        }
+        let mut image = image_of(&form, &[piece]);
+        image[722..724].copy_from_slice(b"BB");
+        assert_eq!(rt; files.get("f.tdb"), Some(&image[..728]));
+    }
+    Ok(())
+}
+
+#[test]
+fn failing_and_full_inserts(rt: HostRuntime) -> Result<(), Fail> {
+    let alloc = rt.alloc();
+    let image = image_of(&LITTLE, &[]);
+    for (call, len) in [
+        (Call::Grow, 696),
+        (Call::Write, 728),
+        (Call::WriteWord, 728),
+        (Call::Sync, 728),
+    ] {
+        let mut files = MemFiles::new(alloc);
+        let mut output = MemSink::new(alloc);
+        files.put("f.tdb", &image[..696])?;
+        files.fail_disk("f.tdb", call, 0)?;
+        let (found, bytes) = run_words(alloc, &mut files, &mut output, "tool f.tdb insert a 1")?;
+        assert_eq!(rt; found, 4, "{call:?}");
+        assert_eq!(rt; bytes.as_slice(), b"device fault\n".as_slice());
+        let left = files.get("f.tdb").unwrap_or(&[]);
+        assert_eq!(rt; left.len(), len, "{call:?}");
+    }
+    for (limit, ends) in [
+        (727, Inserted::Full { len: 696, need: 32 }),
+        (728, Inserted::Done),
+    ] {
+        let mut disk = MemDisk::new(alloc, &image[..696])?;
+        assert_eq!(rt; insert(alloc, &mut disk, b"a", b"1", limit)?, ends);
+    }
+    let full = Ending::Insert(Inserted::Full { len: 696, need: 32 });
+    assert_eq!(rt; full.text(alloc)?.as_slice(), b"full 696 32\n".as_slice());
     Ok(())
 }

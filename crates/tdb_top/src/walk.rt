@@ -23,7 +23,7 @@ pub(crate) struct Place {
 }
 
 /// The offset of the head of the chain of a key.
-fn head_of(front: &Front, key: &[u8]) -> u64
+pub(crate) fn head_of(front: &Front, key: &[u8]) -> u64
     requires { length key.now < 2 ^ 32 }
     ensures within { result + 4 ≤ front.now.length }
     ensures home { result ≡ chain_head (home (form_in front.now.header) key.now) }

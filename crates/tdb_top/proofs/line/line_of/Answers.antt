@@ -1,24 +1,22 @@
-use Rattle.std.proofs.Common.{rules, ◌≡◌, map, string_bytes, [], ◌∷◌, Err, sym, ap, ◌∙◌, subst, arith}
-use Rattle.tdb_dump.specs.Word.{IsWord}
-use Rattle.tdb_top.specs.CommandLine.{IsPosition}
-use Rattle.tdb_top.specs.declared.line.LineRefusal.TheVariants.{NoLine}
+use Rattle.std.proofs.Common.{map, string_bytes, arith}
+use Rattle.std.specs.Global.{Global}
+use Rattle.std.proofs.lemmas.List.{length-map}
+use Rattle.tdb_top.specs.CommandLine.{show, insert, HasNoLine}
+use Rattle.tdb_top.proofs.Lines.{show_length, insert_length}
 use Rattle.tdb_top.proofs.line.line_of.Goals as goal
-use Rattle.tdb_top.proofs.Lines.{four_items, four_mapped, key_of_line}
 
-pub returns-in_err-key-clause-refused : goal.returns-in_err-key-clause-refused
-returns-in_err-key-clause-refused c is line reading =
-    let e = four_items c.args.words.now c.tool-item.result c.file-item.result c.show-item.result c.word-item.result (omega (arith, c.in-len4)) (omega (arith, c.in-len4)) c.tool-item.is c.file-item.is c.show-item.is c.word-item.is in
-    let k = key_of_line (map string_bytes c.args.words.now) (string_bytes c.tool-item.result) (string_bytes c.file-item.result) (string_bytes c.show-item.result) (string_bytes c.word-item.result) line (ap (map string_bytes) e) reading in
-    let same : c.from_residual.result ≡ Err c.in_err-key.field-0.0 = search rules in
-    let both = sym same ∙ is in
-    let none : c.in_err-key.field-0.0 ≡ NoLine = cc in
-    c.in_err-key.ensures.refused (ap Err none) k.0 (subst (λ w. IsWord w k.0) (sym c.as_str-3.ensures.value) k.1)
+-- five words are no show
+pub returns-then-words-eq5-clause-refused : goal.returns-then-words-eq5-clause-refused
+returns-then-words-eq5-clause-refused c is = none
+  where
+    none : HasNoLine (map string_bytes c.args.words.now)
+    none (show file key) reading = absurd (omega (arith, show_length (map string_bytes c.args.words.now) file key reading, length-map c.args.words.now (string_bytes {Z = Global}), c.if-words-eq5.true))
+    none (insert file key value) reading = c.insert_line.ensures.refused is file key value reading
 
-pub returns-in-Ok-clause-read : goal.returns-in-Ok-clause-read
-returns-in-Ok-clause-read c =
-    let e = four_items c.args.words.now c.tool-item.result c.file-item.result c.show-item.result c.word-item.result (omega (arith, c.in-len4)) (omega (arith, c.in-len4)) c.tool-item.is c.file-item.is c.show-item.is c.word-item.is in
-    let tool : string_bytes c.tool-item.result ≡ 116 ∷ 111 ∷ 111 ∷ 108 ∷ [] = search rules in
-    let show : string_bytes c.show-item.result ≡ 115 ∷ 104 ∷ 111 ∷ 119 ∷ [] = search rules in
-    let word : IsPosition (string_bytes c.word-item.result) = search rules in
-    let texts = four_mapped string_bytes c.args.words.now c.tool-item.result c.file-item.result c.show-item.result c.word-item.result (116 ∷ 111 ∷ 111 ∷ 108 ∷ []) (string_bytes c.in-Ok.file) (115 ∷ 104 ∷ 111 ∷ 119 ∷ []) e tool (sym c.in-Ok.ensures.cases) show in
-    (string_bytes c.word-item.result, texts, search rules, word, search rules)
+-- and others no insert
+pub returns-else-words-eq5-clause-refused : goal.returns-else-words-eq5-clause-refused
+returns-else-words-eq5-clause-refused c is = none
+  where
+    none : HasNoLine (map string_bytes c.args.words.now)
+    none (show file key) reading = c.show_line.ensures.refused is file key reading
+    none (insert file key value) reading = c.if-words-eq5.false (omega (arith, insert_length (map string_bytes c.args.words.now) file key value reading, length-map c.args.words.now (string_bytes {Z = Global})))

@@ -1,4 +1,7 @@
 use Rattle.std.proofs.Common.{map, string_bytes, arith}
+use Rattle.tdb_top.specs.CommandLine.{asked_by}
+use Rattle.tdb_top.specs.Ending.{ending_of}
+use Rattle.tdb_top.proofs.Leavings.{words_left, line_kept}
 use Rattle.tdb_top.proofs.OneLine.{line_short}
 use Rattle.tdb_top.proofs.top.answer.Goals as goal
 
@@ -9,3 +12,13 @@ answer_line-requires-clause-short g c = omega (arith, line_short (map string_byt
 -- the words are those of the line
 pub returns-in-Ok-clause-cause : goal.returns-in-Ok-clause-cause
 returns-in-Ok-clause-cause g c told = c.answer_line.ensures.cause told c.args.words.now c.in-Ok.ensures.read
+
+-- what the line leaves
+pub returns-in-Ok-clause-left : goal.returns-in-Ok-clause-left
+returns-in-Ok-clause-left g c told =
+    words_left (map string_bytes c.args.words.now) (asked_by c.in-Ok.line) (g.F.Files.held c.args.files.now) (g.F.Files.held c.answer_line.new.files) (ending_of c.answer_line.result)
+    c.in-Ok.ensures.read (c.answer_line.ensures.left told)
+
+pub returns-in-Ok-clause-kept : goal.returns-in-Ok-clause-kept
+returns-in-Ok-clause-kept g c told keeps =
+    line_kept (asked_by c.in-Ok.line) (g.F.Files.held c.args.files.now) (g.F.Files.held c.answer_line.new.files) (ending_of c.answer_line.result) (c.answer_line.ensures.left told) keeps

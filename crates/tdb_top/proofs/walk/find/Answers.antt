@@ -5,7 +5,7 @@ use Rattle.tdb_disk.specs.History.{seen}
 use Rattle.tdb_words.specs.Record.{rec_at}
 use Rattle.tdb_space.specs.Form.{form_in}
 use Rattle.tdb_space.specs.Record.{next_of}
-use Rattle.tdb_top.specs.Walk.{IsMet, HasKey, first_of}
+use Rattle.tdb_top.specs.Walk.{IsMet, HasKey, LacksKey, first_of}
 use Rattle.tdb_top.specs.Look.{Walked}
 use Rattle.tdb_top.proofs.Paths.{walked_found, walked_more, walked_marked, walked_long}
 use Rattle.tdb_top.proofs.walk.find.Goals as goal
@@ -53,9 +53,9 @@ loop-turn-preserved g c = record {
       false≢true (sym c.if-branch.false ∙ (c.in_ok-has_key.ensures.same told f (said ∙ ap (λ i. rec_at f.order i at) (sym same2))).1 (subst (λ i. HasKey f i key at) (sym same2) has)) in
       elim c.if-is_power_of_two.branch [
         | then-is_power_of_two w ↦ subst (λ m. Walked f img key first c.in_ok-rec.rec.next m (c.loop-turn.turn + 1)) (sym w.mark-is)
-            (subst (λ x. Walked f img key first x at (c.loop-turn.turn + 1)) next (walked_marked f img key first at c.loop-turn.mark c.loop-turn.turn so_far c.if-at-eq0.false met other))
+            (subst (λ x. Walked f img key first x at (c.loop-turn.turn + 1)) next (walked_marked (LacksKey f img key) f img first at c.loop-turn.mark c.loop-turn.turn so_far c.if-at-eq0.false met other))
         | else-is_power_of_two w ↦ subst (λ m. Walked f img key first c.in_ok-rec.rec.next m (c.loop-turn.turn + 1)) (sym w.mark-is)
-            (subst (λ x. Walked f img key first x c.loop-turn.mark (c.loop-turn.turn + 1)) next (walked_more f img key first at c.loop-turn.mark c.loop-turn.turn so_far c.if-at-eq0.false met other))
+            (subst (λ x. Walked f img key first x c.loop-turn.mark (c.loop-turn.turn + 1)) next (walked_more (LacksKey f img key) f img first at c.loop-turn.mark c.loop-turn.turn so_far c.if-at-eq0.false met other))
       ];
 }
 
@@ -67,4 +67,4 @@ returns-else-at-eq0-2-clause-refused g c is told =
     let long = g.met.D.Disk.told_size c.args.disk.now told in
     let reaches = c.args.front.now.reaches in
     let quarter : c.args.front.now.length / 4 ≡ length img / 4 = ap (λ n. n / 4) (c.requires.length ∙ sym long) in
-    walked_long f img c.args.key.now c.loop-turn.at c.loop-turn.mark c.loop-turn.turn (c.loop-turn.invariant.walked told) (omega arith) (omega arith)
+    walked_long (LacksKey f img c.args.key.now) f img (first_of f img c.args.key.now) c.loop-turn.at c.loop-turn.mark c.loop-turn.turn (c.loop-turn.invariant.walked told) (omega arith) (omega arith)

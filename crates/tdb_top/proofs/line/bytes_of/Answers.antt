@@ -1,7 +1,7 @@
 use Rattle.std.proofs.Common.{subst}
 use Rattle.tdb_dump.specs.Word.{IsBadEscapeAt}
 use Rattle.tdb_dump.proofs.GrammarLemmas.{no_word}
-use Rattle.tdb_top.proofs.line.key_of.Goals as goal
+use Rattle.tdb_top.proofs.line.bytes_of.Goals as goal
 
 -- a word with a bad escape has no reading
 pub returns-in-Err-BadEscape-clause-refused : goal.returns-in-Err-BadEscape-clause-refused

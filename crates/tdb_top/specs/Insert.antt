@@ -1,0 +1,94 @@
+-- The first change of a file: a key and its value are added at the end, as a record in front of its chain.
+use Rattle.std.specs.Prelude.{◌≡◌, ℕ, ◌+◌, ◌-◌, ◌*◌, ◌/◌, ◌<◌, ◌≤◌, ◌⊎◌, List, ◌++◌, length, replicate}
+use Rattle.std.specs.Prelude.{Some}
+use Rattle.std.specs.Map.{update}
+use Rattle.tdb_disk.specs.History.{History, seen}
+use Rattle.tdb_disk.specs.Image.{overlay}
+use Rattle.tdb_disk.specs.Stop.{Quiet}
+use Rattle.tdb_words.specs.declared.record.TheConstants.{USED, PADDING}
+use Rattle.tdb_words.specs.declared.record.Rec.{Rec}
+use Rattle.tdb_words.specs.declared.word.Order.{Order}
+use Rattle.tdb_words.specs.Word.{bytes_of_word}
+use Rattle.tdb_words.specs.Record.{bytes_of_rec}
+use Rattle.tdb_words.specs.Hash.{h_of}
+use Rattle.tdb_space.specs.Form.{Form, form_of, chain_head}
+use Rattle.tdb_space.specs.Pairs.{home, map_of, same_key}
+use Rattle.tdb_space.specs.Accepted.{Accept}
+use Rattle.tdb_top.specs.declared.insert.Inserted.{Inserted}
+use Rattle.tdb_top.specs.declared.insert.Inserted.TheVariants.{Done, Exists, Full}
+use Rattle.tdb_top.specs.Walk.{first_of, IsUsable, IsFollowed, HasValue, FindsNone, ChainFault}
+
+-- a number, rounded up to whole words
+abbrev pub whole_words : ℕ → ℕ
+whole_words n = (n + 3) / 4 * 4
+
+-- The rec_len of a new record, from the lengths of its key and its value: room for both, a quarter as much again to grow, and
+-- the tailer, in whole words
+abbrev pub rec_len_for : ℕ → ℕ → ℕ
+rec_len_for key_len value_len = let sum = key_len + value_len in whole_words (sum + sum / 4 + 4)
+
+-- how many bytes a new record takes, with its header
+abbrev pub need_for : List ℕ → List ℕ → ℕ
+need_for key value = 24 + rec_len_for (length key) (length value)
+
+-- the header of a new record: used, filed by the hash of its key, and leading to what was the first of the key's chain
+abbrev pub new_rec : Form → ℕ → List ℕ → List ℕ → Rec
+new_rec f first key value = record {
+  next = first;
+  rec_len = rec_len_for (length key) (length value);
+  key_len = length key;
+  data_len = length value;
+  full_hash = h_of f.hash key;
+  magic = USED;
+}
+
+-- the bytes of a record: its header, the key, the value, padding bytes, and the tailer, which is the length of all of it
+abbrev pub record_bytes : Order → Rec → List ℕ → List ℕ → List ℕ
+record_bytes o r key value =
+    bytes_of_rec o r ++ key ++ value ++ replicate (r.rec_len - (length key + length value + 4)) PADDING ++ bytes_of_word o (24 + r.rec_len)
+
+-- an image with more bytes behind its end, to which the word at this offset leads
+abbrev pub led_to : Order → List ℕ → ℕ → List ℕ → List ℕ
+led_to o img head bytes = overlay img head (bytes_of_word o (length img)) ++ bytes
+
+-- The image with a key and its value added: the new record stands at the old end, and the head of the key's chain leads to it.
+abbrev pub inserted : Form → List ℕ → List ℕ → List ℕ → List ℕ
+inserted f img key value =
+    led_to f.order img (chain_head (home f key)) (record_bytes f.order (new_rec f (first_of f img key) key value) key value)
+
+-- Where a call of the disk failed before the last one was done: the image is already the one that was to be made, or the old one
+-- with some bytes behind its end, no more than were to come.
+abbrev pub BrokenOff : List ℕ → List ℕ → ℕ → List ℕ → Type 0
+BrokenOff old made room now = (now ≡ made) ⊎ ((more : List ℕ) × (length more ≤ room) × (now ≡ old ++ more))
+
+-- the image can be used, and on the whole chain of the key no record has it
+abbrev pub CanAdd : List ℕ → List ℕ → Type 0
+CanAdd img key = IsUsable img × FindsNone (form_of img) img key
+
+-- the image can be used, and the whole chain of the key can be followed and has a used record with it
+abbrev pub HasAlready : List ℕ → List ℕ → Type 0
+HasAlready img key =
+    IsUsable img × IsFollowed (form_of img) img key × HasValue (form_of img) img key
+
+-- why an insert into an image ends so, where the file may have so many bytes
+abbrev pub InsertCause : List ℕ → List ℕ → List ℕ → ℕ → Inserted → Type 0
+InsertCause img key value limit Done = CanAdd img key × (length img + need_for key value ≤ limit)
+InsertCause img key value limit Exists = HasAlready img key
+InsertCause img key value limit (Full len need) =
+    CanAdd img key × (len ≡ length img) × (need ≡ need_for key value) × (limit < len + need)
+
+-- an image is refused at an insert of a key
+abbrev pub InsertFault : List ℕ → List ℕ → Type 0
+InsertFault img key = (IsUsable img → ⊥) ⊎ (IsUsable img × ChainFault (form_of img) img key)
+
+-- the history of the disk after the insert is done: all of it is on the medium
+pub record IsInserted (img key value : List ℕ) (now : History) : Type 0 where
+  pub bytes : seen now ≡ inserted (form_of img) img key value
+  pub quiet : Quiet now
+
+-- A key was added to an accepted image: the new one is accepted too, with the same form, and its map is the old one with the key
+-- and its value.
+pub record HasAdded (old key value now : List ℕ) : Type 0 where
+  pub accepted : Accept now
+  pub form : form_of now ≡ form_of old
+  pub map : (k : List ℕ) → map_of (form_of now) now k ≡ update same_key (map_of (form_of old) old) key (Some value) k

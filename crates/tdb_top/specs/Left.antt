@@ -1,0 +1,64 @@
+-- What a run leaves of the files.
+use Rattle.std.specs.Prelude.{◌≡◌, ◌≢◌, ◌⊎◌, ℕ, Option, None, Some, List}
+use Rattle.tdb_disk.specs.History.{History, seen}
+use Rattle.tdb_disk.specs.Names.{SameAll, SameBut}
+use Rattle.tdb_space.specs.Form.{form_of}
+use Rattle.tdb_space.specs.Accepted.{Accept}
+use Rattle.tdb_top.specs.declared.insert.Inserted.TheVariants.{Done, Exists, Full}
+use Rattle.tdb_top.specs.CommandLine.{Line, show, insert, IsLine}
+use Rattle.tdb_top.specs.Ending.{Ending, shown, no_key, insert_ends, no_line, refused, device_fault, no_memory, missing}
+use Rattle.tdb_top.specs.Insert.{need_for, inserted, BrokenOff, IsInserted, HasAdded}
+
+-- the file holds the key with the value, all of it on the medium, and an image that was accepted still is, its map with the key more
+pub record Gained (key value : List ℕ) (old now : History) : Type 0 where
+  pub exact : IsInserted (seen old) key value now
+  pub added : Accept (seen old) → HasAdded (seen old) key value (seen now)
+
+-- the file is as a call that failed in the midst of the insert left it
+abbrev pub Interrupted : List ℕ → List ℕ → History → History → Type 0
+Interrupted key value old now = BrokenOff (seen old) (inserted (form_of (seen old)) (seen old) key value) (need_for key value) (seen now)
+
+-- What adding a key leaves of its file where it ends so: the key more, or an insert broken off, or the file as it was. It doesn't
+-- end as a show does.
+abbrev pub AddLeaves : List ℕ → List ℕ → History → Ending → History → Type 0
+AddLeaves key value old (insert_ends Done) now = Gained key value old now
+AddLeaves key value old (insert_ends Exists) now = now ≡ old
+AddLeaves key value old (insert_ends (Full len need)) now = now ≡ old
+AddLeaves key value old refused now = now ≡ old
+AddLeaves key value old device_fault now = Interrupted key value old now
+AddLeaves key value old no_memory now = now ≡ old
+AddLeaves key value old (missing name) now = now ≡ old
+AddLeaves key value old (shown bytes) now = ⊥
+AddLeaves key value old no_key now = ⊥
+AddLeaves key value old no_line now = ⊥
+
+-- the same of what is held at the file's name; where no file was, none is
+abbrev pub NameLeft : List ℕ → List ℕ → Option History → Ending → Option History → Type 0
+NameLeft key value None e now = now ≡ None
+NameLeft key value (Some old) e now = (h : History) × (now ≡ Some h) × AddLeaves key value old e h
+
+-- what answering a line leaves of the files: a show changes none, and an insert at most that of its name
+abbrev pub LineLeaves : Line → (List ℕ → Option History) → Ending → (List ℕ → Option History) → Type 0
+LineLeaves (show file key) old e now = SameAll old now
+LineLeaves (insert file key value) old e now = SameBut file old now × NameLeft key value (old file) e (now file)
+
+-- What answering words leaves of the files: words that ask for nothing change none.
+pub record WordsLeave (words : List (List ℕ)) (old : List ℕ → Option History) (e : Ending) (now : List ℕ → Option History) : Type 0 where
+  pub lines : (line : Line) → IsLine words line → LineLeaves line old e now
+  pub others : (name : List ℕ) → ((key value : List ℕ) → IsLine words (insert name key value) → ⊥) → now name ≡ old name
+
+-- an ending after which every file is as before, whatever the words ask for
+abbrev pub Keeps : Ending → Type 0
+Keeps e = (e ≢ insert_ends Done) × (e ≢ device_fault)
+
+-- a status after which every file is as before, whatever the words ask for
+abbrev pub KeepsAll : ℕ → Type 0
+KeepsAll status = (status ≢ 0) × (status ≢ 4) × (status ≢ 5) × (status ≢ 8)
+
+-- A run of an insert that ends with a status leaves its file, which held this, so. After the statuses 5 and 8 it may be any of the
+-- three, since they may tell of the output alone.
+pub record RunLeaves (key value : List ℕ) (old : History) (status : ℕ) (now : Option History) : Type 0 where
+  pub there : (h : History) × (now ≡ Some h) × ((h ≡ old) ⊎ Gained key value old h ⊎ Interrupted key value old h)
+  pub done : status ≡ 0 → (h : History) × (now ≡ Some h) × Gained key value old h
+  pub broken : status ≡ 4 → (h : History) × (now ≡ Some h) × Interrupted key value old h
+  pub kept : KeepsAll status → now ≡ Some old
