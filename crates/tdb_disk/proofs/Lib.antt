@@ -1,5 +1,6 @@
 pub mod Image
 mod Publish
+mod ShortHistories
 pub mod ReadFront
 pub mod Runs
 pub mod SameNames

@@ -10,5 +10,6 @@ pub mod Names
 pub mod Picked
 pub mod Published
 pub mod Script
+pub mod ShortHistories
 pub mod Stop
 pub mod Tape

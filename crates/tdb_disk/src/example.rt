@@ -2,6 +2,7 @@
 ghost use Rattle.std.specs.Prelude.{◌≡◌, ◌≤◌, ◌++◌, IsTrue, OnOk, Some, None};
 ghost use Rattle.tdb_disk.specs.History.{seen};
 ghost use Rattle.tdb_disk.specs.Published.{published, NothingOr};
+ghost use Rattle.tdb_disk.specs.ShortHistories.{ShortHistories};
 ghost use Rattle.tdb_disk.specs.Stop.{LeavesOnly, Quiet};
 
 use crate::disk::{Disk, DiskFault};
@@ -23,3 +24,8 @@ pub fn publish<D: Disk>(d: &mut D, name: [u8; 4], value: [u8; 4]) -> Result<(), 
     d.sync()?;
     Ok(())
 }
+
+/// Says of short histories what a stop may leave of them and what it may not. It does nothing.
+pub fn short_histories()
+    ensures { ShortHistories }
+{}

@@ -32,6 +32,7 @@ impl MemDisk {
     /// A disk with these bytes, synced, no faults and no call that is to fail.
     pub fn new(alloc: Global, bytes: &[u8]) -> Result<MemDisk, AllocError>
         ensures history { IfOk result (λ d. memory_history d ≡ began bytes.now) }
+        ensures size { IfOk result (λ d. memory_size d ≡ length bytes.now) }
         ensures failing { IfOk result (λ d. (memory_script d).failing.items ≡ []) }
         ensures made { IfOk result (λ d. (memory_script d).made ≡ unmade) }
         ensures faults { IfOk result (λ d. memory_faults d ≡ 0) }
@@ -49,6 +50,7 @@ impl MemDisk {
         ensures kept { OnErr result ((memory_script self.new).failing.items ≡ (memory_script self.old).failing.items) }
         ensures rest { self.new ≡ record self.old { script = memory_script self.new } }
         ensures made { (memory_script self.new).made ≡ (memory_script self.old).made }
+        ensures size { memory_size self.new ≡ memory_size self.old }
     {
         self.script.fail(call, nth)
     }
@@ -85,6 +87,7 @@ impl MemDisk {
     pub fn after_stop(&self, alloc: Global, pick: Pick) -> Result<MemDisk, AllocError>
         ensures left { Leaves (memory_history self.now) (picked pick (memory_history self.now)) }
         ensures history { IfOk result (λ d. memory_history d ≡ began (picked pick (memory_history self.now))) }
+        ensures size { IfOk result (λ d. memory_size d ≡ length (picked pick (memory_history self.now))) }
         ensures failing { IfOk result (λ d. (memory_script d).failing.items ≡ []) }
         ensures made { IfOk result (λ d. (memory_script d).made ≡ unmade) }
         ensures faults { IfOk result (λ d. memory_faults d ≡ 0) }
@@ -102,6 +105,7 @@ impl MemDisk {
     /// A disk over a tape, with these calls that are to fail, no faults and no calls yet.
     pub(crate) fn over(alloc: Global, tape: Tape, failing: Vec<(Call, u64)>) -> MemDisk
         ensures history { memory_history result ≡ tape_history tape }
+        ensures size { memory_size result ≡ length tape.bytes.items }
         ensures failing { (memory_script result).failing.items ≡ failing.items }
         ensures made { (memory_script result).made ≡ unmade }
         ensures faults { memory_faults result ≡ 0 }

@@ -6,6 +6,8 @@ mod file_disk;
 mod file_sink;
 mod in_source;
 mod out_sink;
+#[cfg(test)]
+mod tests;
 
 pub use dir_files::DirFiles;
 pub use file_disk::FileDisk;
