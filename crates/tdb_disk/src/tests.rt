@@ -222,9 +222,9 @@ fn renaming_fails_where_it_is_told(rt: HostRuntime) {
     assert!(rt; files.rename("a", "b").is_ok());
     assert!(rt; files.rename("b", "a").is_err());
     assert!(rt; files.remove("b").is_err());
-    assert_eq!(rt; files.get("b"), Some(b"one".as_slice()));
+    assert!(rt; files.get("b").is_some_and(|held| held == b"one".as_slice()));
     assert!(rt; files.remove("b").is_ok());
-    assert_eq!(rt; (files.get("b"), files.starved()), (None, 0));
+    assert!(rt; files.get("b").is_none() && files.starved() == 0);
 }
 
 #[test]
