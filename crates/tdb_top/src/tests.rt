@@ -88,6 +88,13 @@ fn image_of(form: &Form, pieces: &[Piece]) -> [u8; 1024] {
     image
 }
 
+/// The first bytes of an image.
+fn front_of(image: &[u8; 1024], len: usize) -> &[u8]
+    requires { len ≤ 1024 }
+{
+    &image[..len]
+}
+
 /// Which call of the outside fails.
 #[derive(Clone, Copy, Debug, PartialEq, Eq)]
 enum Failing {
@@ -246,7 +253,7 @@ fn inserts(rt: HostRuntime) -> Result<(), Fail> {
     };
     for form in [LITTLE, BIG] {
         let mut files = MemFiles::new(alloc);
-        files.put("f.tdb", &image_of(&form, &[])[..696])?;
+        files.put("f.tdb", front_of(&image_of(&form, &[]), 696))?;
         for (words, status, printed) in [
             ("tool f.tdb insert a 1", 0, "ok\n"),
             ("tool f.tdb insert a 2", 1, "exists\n"),
@@ -262,7 +269,7 @@ fn inserts(rt: HostRuntime) -> Result<(), Fail> {
         }
         let mut image = image_of(&form, &[piece]);
         image[722..724].copy_from_slice(b"BB");
-        assert_eq!(rt; files.get("f.tdb"), Some(&image[..728]));
+        assert_eq!(rt; files.get("f.tdb"), Some(front_of(&image, 728)));
     }
     Ok(())
 }
@@ -279,7 +286,7 @@ fn failing_and_full_inserts(rt: HostRuntime) -> Result<(), Fail> {
     ] {
         let mut files = MemFiles::new(alloc);
         let mut output = MemSink::new(alloc);
-        files.put("f.tdb", &image[..696])?;
+        files.put("f.tdb", front_of(&image, 696))?;
         files.fail_disk("f.tdb", call, 0)?;
         let (found, bytes) = run_words(alloc, &mut files, &mut output, "tool f.tdb insert a 1")?;
         assert_eq!(rt; found, 4, "{call:?}");
@@ -291,7 +298,7 @@ fn failing_and_full_inserts(rt: HostRuntime) -> Result<(), Fail> {
         (727, Inserted::Full { len: 696, need: 32 }),
         (728, Inserted::Done),
     ] {
-        let mut disk = MemDisk::new(alloc, &image[..696])?;
+        let mut disk = MemDisk::new(alloc, front_of(&image, 696))?;
         assert_eq!(rt; insert(alloc, &mut disk, b"a", b"1", limit)?, ends);
     }
     let full = Ending::Insert(Inserted::Full { len: 696, need: 32 });
