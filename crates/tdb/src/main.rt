@@ -34,3 +34,6 @@ fn main(rt: HostRuntime) -> ExitCode {
     let Status(status) = run(alloc, &words, &mut files, &mut input, &mut output);
     ExitCode::from(status)
 }
+
+#[cfg(test)]
+mod tests;
