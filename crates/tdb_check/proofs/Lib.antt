@@ -1,0 +1,6 @@
+pub mod Windows
+pub mod Judged
+pub mod Fronts
+pub mod Swept
+pub mod Areas
+pub mod Following

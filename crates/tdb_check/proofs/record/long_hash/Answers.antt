@@ -1,0 +1,20 @@
+-- One piece more.
+use Rattle.std.proofs.Common.{◌≡◌, ◌+◌, ◌≤◌, length, take, drop, length-take, ◌∙◌, subst, arith, rules}
+use Rattle.tdb_words.specs.HashRun.{Holds}
+use Rattle.tdb_check.proofs.Windows.{pieces_join}
+use Rattle.tdb_check.proofs.record.long_hash.Goals as goal
+
+pub loop-done-preserved : goal.loop-done-preserved
+loop-done-preserved g c =
+    let img = g.S.Space.image c.args.s.now in
+    let within : c.loop-done.done + c.min-count.result ≤ c.args.key_len = omega (arith, c.min-count.ensures) in
+    let count : length (take c.min-count.result c.loop-done.buf) ≡ c.min-count.result = omega (arith, length-take c.min-count.result c.loop-done.buf, c.min-count.ensures, c.min-count.array_long) in
+    record {
+      within = within;
+      held = λ told.
+          (let piece = c.in_ok-read.ensures.bytes told ∙ (λ j. take (count j) (drop (c.args.off + c.loop-done.done) (c.loop-done.invariant.still.same_image j))) in
+          subst (Holds c.feed.new.self (g.S.Space.form c.args.s.now).hash c.args.key_len) (pieces_join img c.args.off c.loop-done.done c.min-count.result c.read.new.buf piece)
+          (c.feed.ensures (g.S.Space.form c.args.s.now).hash c.args.key_len (take c.loop-done.done (drop c.args.off img)) (c.loop-done.invariant.held told)));
+      still = search rules;
+      faults = search rules;
+    }

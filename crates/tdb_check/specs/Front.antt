@@ -1,0 +1,19 @@
+-- Why the front of an image is refused.
+use Rattle.std.specs.Prelude.{◌≡◌, ℕ, ◌≤◌, List, Some, Result, IfErr}
+use Rattle.tdb_disk.specs.Count.{Rose}
+use Rattle.tdb_words.specs.declared.what.What.TheVariants.{Short as TooShort, Header as BadHeader}
+use Rattle.tdb_words.specs.Header.{header_fault}
+use Rattle.tdb_space.specs.FirstFault.{front_fault}
+use Rattle.tdb_check.specs.declared.front.FrontRefusal.{FrontRefusal}
+use Rattle.tdb_check.specs.declared.front.FrontRefusal.TheVariants.{Short, Header, Io}
+
+-- the refusal is the fault of the image's front; of the header it is the first that the header has
+abbrev pub Refuses : List ℕ → FrontRefusal → Type 0
+Refuses img (Short len) = front_fault img ≡ Some (TooShort, len)
+Refuses img (Header fault) = (front_fault img ≡ Some (BadHeader, 0)) × (header_fault img ≡ Some fault)
+Refuses img Io = Unit {0}
+
+-- the count of faults never falls, and rose where the answer is a fault of the disk
+pub record FrontCause {T : Type 0} (before now : ℕ) (answer : Result T FrontRefusal) : Type 0 where
+  pub never_falls : before ≤ now
+  pub failed : IfErr answer (λ e. e ≡ Io → Rose before now)

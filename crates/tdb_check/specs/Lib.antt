@@ -1,0 +1,6 @@
+pub mod Seen
+pub mod Unchanged
+pub mod Front
+pub mod Extent
+pub mod Area
+pub mod Followed

@@ -1,0 +1,95 @@
+// The walk along the free list.
+
+ghost use Rattle.std.specs.Prelude.{◌≡◌, ℕ, ◌+◌, ◌<◌, ◌≤◌, ◌||◌, ◌++◌, [], ◌∷◌, IsTrue, length, nat_eq, OnOk, OnErr, IfErr};
+ghost use Rattle.std.specs.Ordering.{nat_cmp};
+ghost use Rattle.std.specs.BTreeSet.{contains};
+ghost use Rattle.tdb_space.specs.Form.{data_start, free_head};
+ghost use Rattle.tdb_space.specs.FirstFault.{FirstInList, free_list};
+ghost use Rattle.tdb_check.specs.Seen.{Names};
+ghost use Rattle.tdb_check.specs.Followed.{FollowedTo};
+ghost use Rattle.tdb_check.specs.Unchanged.{Unchanged, IoCause};
+
+use crate::area::can_stand;
+use crate::extent::Extent;
+use crate::list_kind::ListKind;
+use crate::record::read_record;
+use crate::refusal::CheckRefusal;
+use std::alloc::{AllocError, Global};
+use std::collections::BTreeSet;
+use tdb_space::Space;
+use tdb_words::{What, word_at};
+
+/// Notes an offset that was met.
+fn note(met: &mut BTreeSet<u32>, at: u32) -> Result<(), AllocError>
+    ensures { OnOk result ((q : ℕ) → contains nat_cmp met.new q ≡ (nat_eq q at || contains nat_cmp met.old q)) }
+{
+    met.insert(at)?;
+    Ok(())
+}
+
+/// Follows the free list to its end, and puts the extents of its records behind those that are there; or answers what is first
+/// wrong with it.
+pub fn follow_free_list<S: Space>(
+    alloc: Global,
+    s: &mut S,
+    len: u64,
+    extents: &mut Vec<Extent>,
+) -> Result<(), CheckRefusal>
+    requires length { len ≡ S.size s.old }
+    requires heads { data_start (S.form s.old) ≤ len }
+    requires chains { 0 < (S.form s.old).chains }
+    ensures sound { OnOk result (IsTrue S.tells → length (S.image s.old) ≡ len → FollowedTo (S.form s.old) free_list (S.image s.old) free_head extents.old.items extents.new.items) }
+    ensures bad { IfErr result (λ e. IsTrue S.tells → length (S.image s.old) ≡ len → Names e (FirstInList (S.form s.old) free_list (S.image s.old) free_head)) }
+    ensures still { Unchanged (S.size s.old) (S.size s.new) (S.image s.old) (S.image s.new) (S.form s.old) (S.form s.new) (S.spare s.old) (S.spare s.new) (S.disk_history s.old) (S.disk_history s.new) (S.under s.old) (S.under s.new) }
+    ensures cause { IoCause (S.faults s.old) (S.faults s.new) result }
+{
+    let mut word = [0u8; 4];
+    s.read(168, &mut word)?;
+    let mut at = word_at(&word, s.order());
+    let mut place = 168u64;
+    let mut met = BTreeSet::new(alloc);
+    for _turn in 0..len {
+        if at == 0 {
+            return Ok(());
+        }
+        if !can_stand(at, len, s.hash_size()) {
+            return Err(CheckRefusal::Corrupt {
+                what: What::FreeOut,
+                at: place,
+            });
+        }
+        if met.contains(&at) {
+            return Err(CheckRefusal::Corrupt {
+                what: What::FreeLoop,
+                at: place,
+            });
+        }
+        let r = match read_record(s, len, ListKind::Free, at) {
+            Ok(r) => r,
+            Err(e) => return Err(e),
+        };
+        note(&mut met, at)?;
+        put(
+            extents,
+            Extent {
+                off: at,
+                rec_len: r.rec_len,
+            },
+        )?;
+        place = at as u64;
+        at = r.next;
+    }
+    Err(CheckRefusal::Corrupt {
+        what: What::FreeLoop,
+        at: place,
+    })
+}
+
+/// Puts an extent at the end.
+fn put(extents: &mut Vec<Extent>, e: Extent) -> Result<(), AllocError>
+    ensures ok { OnOk result (extents.new.items ≡ extents.old.items ++ e ∷ []) }
+    ensures err { OnErr result (extents.new.items ≡ extents.old.items) }
+{
+    extents.push(e)?;
+    Ok(())
+}

@@ -1,0 +1,174 @@
+// One record, read and tested by itself.
+
+ghost use Rattle.std.specs.Prelude.{◌≡◌, ℕ, ◌+◌, ◌≤◌, ◌<◌, ◌^◌, List, IsTrue, length, take, drop, IfOk, IfErr, None, Some, false};
+ghost use Rattle.tdb_disk.specs.Count.{HasCause};
+ghost use Rattle.tdb_words.specs.Word.{word};
+ghost use Rattle.tdb_words.specs.Hash.{h_of};
+ghost use Rattle.tdb_words.specs.Record.{rec_at};
+ghost use Rattle.tdb_check.specs.Seen.{kind_of, is_bad_header, is_misfiled_header, own_fault, Names};
+ghost use Rattle.tdb_check.specs.Unchanged.{Unchanged, IoCause};
+
+use crate::list_kind::ListKind;
+use crate::refusal::CheckRefusal;
+use tdb_space::{Io, Space};
+use tdb_words::{HashRun, Order, Rec, USED, What, chain_of, hash_of, rec_of, word_at};
+
+/// How many bytes are read of a record at once.
+const WINDOW: usize = 512;
+
+/// How many bytes of a long key are read at once.
+const PIECE: usize = 4096;
+
+/// Whether a header makes a record bad.
+fn is_bad(kind: ListKind, r: &Rec, at: u32, len: u64) -> bool
+    requires { at + 24 ≤ len }
+    ensures { result ≡ is_bad_header (kind_of kind) r.now at len }
+{
+    let held = r.key_len as u64 + r.data_len as u64 + 4;
+    let rec_len = r.rec_len as u64;
+    !kind.takes(r.magic)
+        || (rec_len % 4 != 0 || len < at as u64 + 24 + rec_len)
+        || rec_len < 4
+        || (r.magic == USED && rec_len < held)
+}
+
+/// Fills the front of the window with the bytes from an offset on, as far as it and the file reach, and answers how many they are.
+fn fill<S: Space>(s: &mut S, len: u64, at: u32, buf: &mut [u8; 512]) -> Result<usize, Io>
+    requires length { len ≡ S.size s.old }
+    requires within { at + 24 ≤ len }
+    ensures held { IfOk result (λ held. (24 ≤ held) × (held ≤ 512)) }
+    ensures shows { IfOk result (λ held. IsTrue S.tells → take held buf.new ≡ take held (drop at (S.image s.old))) }
+    ensures long { length buf.new ≡ 512 }
+    ensures still { Unchanged (S.size s.old) (S.size s.new) (S.image s.old) (S.image s.new) (S.form s.old) (S.form s.new) (S.spare s.old) (S.spare s.new) (S.disk_history s.old) (S.disk_history s.new) (S.under s.old) (S.under s.new) }
+    ensures cause { HasCause (S.faults s.old) (S.faults s.new) result }
+{
+    let held = (len - at as u64).min(WINDOW as u64) as usize;
+    s.read(at as u64, &mut buf[..held])?;
+    Ok(held)
+}
+
+/// The header that a window begins with.
+fn header_in(window: &[u8], order: Order) -> Rec
+    requires { 24 ≤ length window.now }
+    ensures { result ≡ rec_at order window.now 0 }
+{
+    let mut bytes = [0u8; 24];
+    bytes.copy_from_slice(&window[..24]);
+    rec_of(&bytes, order)
+}
+
+/// The tailer of a record whose first bytes were read.
+fn tailer_of<S: Space>(s: &mut S, at: u32, rec_len: u32, window: &[u8]) -> Result<u32, Io>
+    requires within { at + 24 + rec_len ≤ S.size s.old }
+    requires header { 24 ≤ length window.now }
+    ensures value { IfOk result (λ t. IsTrue S.tells → window.now ≡ take (length window.now) (drop at (S.image s.old))
+        → t ≡ word (S.form s.old).order (S.image s.old) (at + 20 + rec_len)) }
+    ensures still { Unchanged (S.size s.old) (S.size s.new) (S.image s.old) (S.image s.new) (S.form s.old) (S.form s.new) (S.spare s.old) (S.spare s.new) (S.disk_history s.old) (S.disk_history s.new) (S.under s.old) (S.under s.new) }
+    ensures cause { HasCause (S.faults s.old) (S.faults s.new) result }
+{
+    let mut bytes = [0u8; 4];
+    let place = rec_len as usize + 20;
+    if place + 4 <= window.len() {
+        bytes.copy_from_slice(&window[place..place + 4]);
+        return Ok(word_at(&bytes, s.order()));
+    }
+    s.read(at as u64 + 20 + rec_len as u64, &mut bytes)?;
+    Ok(word_at(&bytes, s.order()))
+}
+
+/// The hash of a key that stands at an offset, read in pieces.
+fn long_hash<S: Space>(s: &mut S, off: u64, key_len: u32) -> Result<u32, Io>
+    requires within { off + key_len ≤ S.size s.old }
+    requires small { off + key_len < 2 ^ 64 }
+    ensures value { IfOk result (λ h. IsTrue S.tells → h ≡ h_of (S.form s.old).hash (take key_len (drop off (S.image s.old)))) }
+    ensures still { Unchanged (S.size s.old) (S.size s.new) (S.image s.old) (S.image s.new) (S.form s.old) (S.form s.new) (S.spare s.old) (S.spare s.new) (S.disk_history s.old) (S.disk_history s.new) (S.under s.old) (S.under s.new) }
+    ensures cause { HasCause (S.faults s.old) (S.faults s.new) result }
+{
+    let mut buf = [0u8; PIECE];
+    let mut run = HashRun::new(s.hash(), key_len);
+    let mut done = 0;
+    while done < key_len as usize {
+        let count = PIECE.min(key_len as usize - done);
+        let piece = &mut buf[..count];
+        s.read(off + done as u64, piece)?;
+        run.feed(piece);
+        done += count;
+    }
+    Ok(run.end())
+}
+
+/// The hash of the key of a record whose first bytes were read.
+fn key_hash<S: Space>(s: &mut S, at: u32, key_len: u32, window: &[u8]) -> Result<u32, Io>
+    requires within { at + 24 + key_len ≤ S.size s.old }
+    requires header { 24 ≤ length window.now }
+    ensures value { IfOk result (λ h. IsTrue S.tells → window.now ≡ take (length window.now) (drop at (S.image s.old))
+        → h ≡ h_of (S.form s.old).hash (take key_len (drop (at + 24) (S.image s.old)))) }
+    ensures still { Unchanged (S.size s.old) (S.size s.new) (S.image s.old) (S.image s.new) (S.form s.old) (S.form s.new) (S.spare s.old) (S.spare s.new) (S.disk_history s.old) (S.disk_history s.new) (S.under s.old) (S.under s.new) }
+    ensures cause { HasCause (S.faults s.old) (S.faults s.new) result }
+{
+    let end = key_len as usize + 24;
+    if end <= window.len() {
+        return Ok(hash_of(s.hash(), &window[24..end]));
+    }
+    long_hash(s, at as u64 + 24, key_len)
+}
+
+/// Whether the hash of a used record isn't that of its key, or is that of another chain.
+fn is_misfiled(kind: ListKind, r: &Rec, own_hash: u32, chains: u32) -> bool
+    requires { 0 < chains }
+    ensures { result ≡ is_misfiled_header (kind_of kind) r.now own_hash chains }
+{
+    match kind {
+        ListKind::Chain(j) => r.full_hash != own_hash || chain_of(r.full_hash, chains) != j,
+        ListKind::Free => false,
+    }
+}
+
+/// The header of the record at an offset where one can stand, or what is wrong with the record by itself. One read serves
+/// where header, key and tailer stand within 512 bytes.
+pub fn read_record<S: Space>(
+    s: &mut S,
+    len: u64,
+    kind: ListKind,
+    at: u32,
+) -> Result<Rec, CheckRefusal>
+    requires length { len ≡ S.size s.old }
+    requires within { at + 24 ≤ len }
+    requires chains { 0 < (S.form s.old).chains }
+    ensures good { IfOk result (λ r. IsTrue S.tells → length (S.image s.old) ≡ len
+        → (own_fault (S.form s.old) (kind_of kind) (S.image s.old) at ≡ None) × (r ≡ rec_at (S.form s.old).order (S.image s.old) at)) }
+    ensures fits { IfOk result (λ r. is_bad_header (kind_of kind) r at len ≡ false) }
+    ensures bad { IfErr result (λ e. IsTrue S.tells → length (S.image s.old) ≡ len
+        → Names e (λ fault. own_fault (S.form s.old) (kind_of kind) (S.image s.old) at ≡ Some fault)) }
+    ensures still { Unchanged (S.size s.old) (S.size s.new) (S.image s.old) (S.image s.new) (S.form s.old) (S.form s.new) (S.spare s.old) (S.spare s.new) (S.disk_history s.old) (S.disk_history s.new) (S.under s.old) (S.under s.new) }
+    ensures cause { IoCause (S.faults s.old) (S.faults s.new) result }
+{
+    let mut buf = [0u8; WINDOW];
+    let held = fill(s, len, at, &mut buf)?;
+    let window = &buf[..held];
+    let r = header_in(window, s.order());
+    if is_bad(kind, &r, at, len) {
+        return Err(CheckRefusal::Corrupt {
+            what: What::BadRecord,
+            at: at as u64,
+        });
+    }
+    let tailer = tailer_of(s, at, r.rec_len, window)?;
+    if tailer as u64 != 24 + r.rec_len as u64 {
+        return Err(CheckRefusal::Corrupt {
+            what: What::Tailer,
+            at: at as u64,
+        });
+    }
+    if r.magic != USED {
+        return Ok(r);
+    }
+    let own_hash = key_hash(s, at, r.key_len, window)?;
+    if is_misfiled(kind, &r, own_hash, s.hash_size()) {
+        return Err(CheckRefusal::Corrupt {
+            what: What::WrongHash,
+            at: at as u64,
+        });
+    }
+    Ok(r)
+}
