@@ -12,7 +12,9 @@ const FOLDER: &str = "tdb_files_test";
 
 const FILE: &str = "tdb_files_test/a";
 
-const OTHER: &str = "tdb_files_test/b";
+const RENAMED: &str = "tdb_files_from";
+
+const OTHER: &str = "tdb_files_to";
 
 /// Each call of a disk that is empty at first.
 fn fill<D: Disk>(disk: &mut D) -> Result<(), DiskFault>
@@ -45,11 +47,19 @@ fn a_file_is_made_and_read_again(rt: HostRuntime) -> Result<(), Fail> {
     assert!(rt; disk.grow(16).is_err());
     assert_eq!(rt; disk.len()?, 8);
     files.give(FILE, disk);
-    files.rename(FILE, OTHER)?;
-    files.remove(OTHER)?;
-    files.remove(OTHER)?;
-    assert!(rt; files.rename(FILE, OTHER).is_err());
     fs::remove_dir_all(&rt, FOLDER)?;
+    Ok(())
+}
+
+#[test]
+fn a_file_is_renamed_and_removed(rt: HostRuntime) -> Result<(), Fail> {
+    let mut files = DirFiles::new(rt);
+    fs::write(&rt, RENAMED, "one")?;
+    files.rename(RENAMED, OTHER)?;
+    assert_eq!(rt; fs::read(&rt, OTHER)?.as_slice(), b"one".as_slice());
+    files.remove(OTHER)?;
+    files.remove(OTHER)?;
+    assert!(rt; files.rename(RENAMED, OTHER).is_err());
     Ok(())
 }
 
