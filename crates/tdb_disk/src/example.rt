@@ -1,5 +1,6 @@
 //! An example of a change over several calls, and of the clause that says what a stop at any moment of it leaves.
 ghost use Rattle.std.specs.Prelude.{◌≡◌, ◌≤◌, ◌++◌, IsTrue, OnOk, Some, None};
+ghost use Rattle.tdb_disk.specs.Count.{HasCause};
 ghost use Rattle.tdb_disk.specs.History.{seen};
 ghost use Rattle.tdb_disk.specs.Published.{published, NothingOr};
 ghost use Rattle.tdb_disk.specs.ShortHistories.{ShortHistories};
@@ -16,6 +17,7 @@ pub fn publish<D: Disk>(d: &mut D, name: [u8; 4], value: [u8; 4]) -> Result<(), 
     ensures stops { IsTrue D.tells → LeavesOnly (D.history d.old) (D.history d.new) (NothingOr (name ++ value)) }
     ensures both { OnOk result (IsTrue D.tells → published (seen (D.history d.new)) ≡ Some (name ++ value)) }
     ensures quiet { OnOk result (IsTrue D.tells → Quiet (D.history d.new)) }
+    ensures cause { HasCause (D.faults d.old) (D.faults d.new) result }
 {
     d.write(4, &name)?;
     d.write(8, &value)?;

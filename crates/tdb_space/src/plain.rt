@@ -10,25 +10,13 @@ ghost use Rattle.tdb_space.specs.Chain.{Chain, IsLink};
 ghost use Rattle.tdb_space.specs.Pairs.{pair_seen, pair_of, pairs, order_of, HasPairs};
 
 use std::alloc::{AllocError, Global};
-use tdb_words::{DEAD, Header, Order, Rec, USED, word_at};
+use tdb_words::{DEAD, Header, Order, Rec, USED, word_in};
 
 /// A key and its value, as they stand in an image.
 #[derive(Clone, Copy, Debug, PartialEq, Eq)]
 pub struct KeyValue<'a> {
     pub key: &'a [u8],
     pub value: &'a [u8],
-}
-
-// The word at an offset.
-#[tactic(auto, unfolding(tdb_words::specs::Word::word))]
-fn word_in(image: &[u8], at: usize, order: Order) -> u32
-    requires { at + 4 ≤ length image.now }
-    ensures { result ≡ word order image.now at }
-{
-    word_at(
-        &[image[at], image[at + 1], image[at + 2], image[at + 3]],
-        order,
-    )
 }
 
 // The record header at an offset.

@@ -4,3 +4,4 @@ pub mod Twelves
 pub mod JenkinsPieces
 pub mod NewHeader
 pub mod SameHeader
+pub mod Hashes

@@ -18,4 +18,4 @@ pub use crate::hash::{HashKind, HashRun, chain_of, hash_jenkins, hash_of, hash_o
 pub use crate::header::{Header, HeaderFault, header_bytes, header_of};
 pub use crate::record::{DEAD, FREE, GATE_OPEN, GATE_SHUT, PADDING, Rec, USED, rec_bytes, rec_of};
 pub use crate::what::What;
-pub use crate::word::{Order, word_at, word_bytes};
+pub use crate::word::{Order, word_at, word_bytes, word_in};

@@ -40,9 +40,9 @@ pub fn word_bytes(w: u32, o: Order) -> [u8; 4]
     bytes
 }
 
-/// The word at an offset of some bytes.
+/// The word at an offset of some bytes, of which four stand there.
 #[tactic(auto, unfolding(crate::specs::Word::word))]
-pub(crate) fn word_in(bytes: &[u8], at: usize, o: Order) -> u32
+pub fn word_in(bytes: &[u8], at: usize, o: Order) -> u32
     requires { at + 4 ≤ length bytes.now }
     ensures { result ≡ word o bytes.now at }
 {
