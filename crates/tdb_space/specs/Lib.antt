@@ -7,3 +7,4 @@ pub mod Accepted
 pub mod FirstFault
 pub mod Spare
 pub mod Exchange
+pub mod Opening
