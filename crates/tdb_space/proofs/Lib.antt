@@ -32,5 +32,10 @@ pub mod Frees
 pub mod Orders
 pub mod Sorted
 pub mod Sequence
+pub mod SameRecords
+pub mod SameFront
+pub mod SameLists
+pub mod SameVerdict
+pub mod SameOpening
 pub mod Reached
 pub mod Written

@@ -8,3 +8,4 @@ pub mod FirstFault
 pub mod Spare
 pub mod Exchange
 pub mod Opening
+pub mod Sequence

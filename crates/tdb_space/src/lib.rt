@@ -7,6 +7,7 @@ mod hand;
 mod io;
 mod plain;
 mod reads;
+mod sequence_number;
 mod space;
 #[cfg(test)]
 mod tests;
@@ -19,4 +20,5 @@ pub use crate::hand::Hand;
 pub use crate::io::Io;
 pub use crate::plain::{KeyValue, chain_offsets, pairs_in_order, record_at};
 pub use crate::reads::{key_equals, read_rec};
+pub use crate::sequence_number::sequence_law;
 pub use crate::space::Space;
