@@ -8,6 +8,8 @@ pub mod Cleared
 pub mod Passed
 pub mod Faults
 pub mod Agreed
+pub mod Ends
+pub mod Refused
 pub mod Pieces
 pub mod Counts
 pub mod Kept

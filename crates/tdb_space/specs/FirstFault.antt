@@ -1,5 +1,5 @@
 -- The first fault of an image, in the order in which a check reads it: what is wrong, and the place in the file.
-use Rattle.std.specs.Prelude.{◌≡◌, ◌≢◌, ℕ, ◌+◌, ◌%◌, ◌<◌, ◌≤◌, ◌==◌, Bool, true, false, ◌&&◌, ◌||◌, not, nat_eq, nat_lt, if◌then◌else◌, Option, Some, None, is_some, List, [], ◌∷◌, ◌++◌, length, map, slice_index}
+use Rattle.std.specs.Prelude.{◌≡◌, ◌≢◌, ℕ, ◌+◌, ◌%◌, ◌<◌, ◌≤◌, ◌==◌, ◌⊎◌, Bool, true, false, ◌&&◌, ◌||◌, not, nat_eq, nat_lt, if◌then◌else◌, Option, Some, None, is_some, List, [], ◌∷◌, ◌++◌, length, map, slice_index}
 use Rattle.std.specs.List.{list_any}
 use Rattle.tdb_words.specs.declared.record.TheConstants.{USED, FREE, DEAD, GATE_OPEN, GATE_SHUT, PADDING}
 use Rattle.tdb_words.specs.declared.what.What.{What}
@@ -188,3 +188,7 @@ OneFirstFault = (img : List ℕ) (a b : Fault) → IsFirstFault img a → IsFirs
 -- an accepted image has no first fault
 abbrev pub NoneWhereAccepted : Type 0
 NoneWhereAccepted = (img : List ℕ) (e : Fault) → IsFirstFault img e → Accept img → ⊥
+
+-- an image that isn't accepted has a first fault
+abbrev pub FaultWhereRefused : Type 0
+FaultWhereRefused = (img : List ℕ) → Accept img ⊎ ((e : Fault) × IsFirstFault img e)

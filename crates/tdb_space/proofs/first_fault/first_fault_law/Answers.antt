@@ -1,6 +1,7 @@
 -- The laws are the lemmas.
 use Rattle.tdb_space.proofs.Faults.{one_first, none_first}
 use Rattle.tdb_space.proofs.Agreed.{no_fault_accepted, accepted_no_fault}
+use Rattle.tdb_space.proofs.Refused.{fault_or_accepted}
 use Rattle.tdb_space.proofs.first_fault.first_fault_law.Goals as goal
 
 pub returns-clause-sound : goal.returns-clause-sound
@@ -11,3 +12,6 @@ returns-clause-one c = one_first
 
 pub returns-clause-none : goal.returns-clause-none
 returns-clause-none c img e first accepted = none_first img e first (accepted_no_fault img accepted)
+
+pub returns-clause-some : goal.returns-clause-some
+returns-clause-some c = fault_or_accepted
