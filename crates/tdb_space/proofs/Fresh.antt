@@ -15,7 +15,7 @@ use Rattle.tdb_space.proofs.Counts.{times_all}
 use Rattle.tdb_space.proofs.Laid.{accepted, order_met}
 
 -- four zero bytes are the word 0
-word_zero : (o : Order) (img : List ℕ) (at : ℕ) → ((i : ℕ) → at ≤ i → i < at + 4 → slice_index img i ≡ 0) → word o img at ≡ 0
+pub word_zero : (o : Order) (img : List ℕ) (at : ℕ) → ((i : ℕ) → at ≤ i → i < at + 4 → slice_index img i ≡ 0) → word o img at ≡ 0
 unfolding word
 word_zero Little img at zeros =
     omega (arith, zeros at (omega arith) (omega arith), zeros (at + 1) (omega arith) (omega arith), zeros (at + 2) (omega arith) (omega arith), zeros (at + 3) (omega arith) (omega arith))

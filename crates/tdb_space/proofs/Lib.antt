@@ -34,6 +34,7 @@ pub mod Frees
 pub mod Orders
 pub mod Sorted
 pub mod Sequence
+pub mod Undone
 pub mod SameRecords
 pub mod SameFront
 pub mod SameLists

@@ -4,7 +4,6 @@ use Rattle.std.proofs.Common.{◌≡◌, ℕ, zero, suc, ◌+◌, ◌<◌, ◌�
 use Rattle.std.specs.Prelude.{◌%◌, ◌==◌, nat_lt, nat_le, slice_index, if◌then◌else◌}
 use Rattle.std.proofs.lemmas.Bool.{cases_Bool, cases_lt, and_parts, not-true}
 use Rattle.std.proofs.lemmas.List.{get_or_past}
-use Rattle.std.proofs.lemmas.List.FromFn.{length-map-range_with_len, get_or-map-range_with_len}
 use Rattle.tdb_words.specs.declared.record.TheConstants.{GATE_OPEN}
 use Rattle.tdb_words.specs.declared.what.What.TheVariants.{UndoBad}
 use Rattle.tdb_words.specs.declared.word.Order.{Order}
@@ -19,6 +18,7 @@ use Rattle.tdb_space.specs.Exchange.{ButSequence}
 use Rattle.tdb_space.specs.Opening.{Entry, entry_at, entries_from, entries_end, entries, is_bad_cut, entry_fault, undo_fault_at, undo_fault, Undoable, lies_in, last_covering, given_back, undone_byte, undone, is_open, restored, Opens, own_map, OpensTo, Mild}
 use Rattle.tdb_space.specs.Sequence.{SameOpening}
 use Rattle.tdb_space.proofs.Sequence.{sequence_accepted, sequence_map}
+use Rattle.tdb_space.proofs.Undone.{undone_read, undone_length}
 use Rattle.tdb_space.proofs.SameRecords.{turned, word_past, rest_past, rec_len_past, key_len_past, data_len_past, magic_past}
 use Rattle.tdb_space.proofs.SameFront.{same_form, same_header_fault, same_out, past_out, same_long, same_area_word, same_area_place, same_area_ok, same_shut, same_gate}
 
@@ -28,13 +28,6 @@ own_accepted a b s h = subst (λ f. AcceptWith f b []) (sym (same_form a b s)) (
 
 own_same : (a b : List ℕ) → ButSequence a b → Accept a → (key : List ℕ) → own_map b key ≡ own_map a key
 own_same a b s h key = ap (λ f. map_of f b key) (same_form a b s) ∙ sequence_map (form_of a) a b [] h s key
-
--- a byte of what an undo gives, and how many there are in it
-undone_read : (o : Order) (img : List ℕ) (x : ℕ) (es : List Entry) (i : ℕ) → i < key_len_of o img x → slice_index (undone o img x es) i ≡ undone_byte o img x es i
-undone_read o img x es i low = get_or-map-range_with_len (undone_byte o img x es) 0 (key_len_of o img x) i i 0 low (omega arith)
-
-undone_length : (o : Order) (img : List ℕ) (x : ℕ) (es : List Entry) → length (undone o img x es) ≡ key_len_of o img x
-undone_length o img x es = length-map-range_with_len (undone_byte o img x es) 0 (key_len_of o img x)
 
 -- the entries of an undo area at an offset
 abbrev entries_there : Form → List ℕ → ℕ → List Entry

@@ -143,3 +143,19 @@ pub record OpensTo (img : List ℕ) (m : List ℕ → Option (List ℕ)) : Type 
 pub record Mild (img : List ℕ) : Type 0 where
   pub undoable : Undoable (form_of img) img
   pub header : SameHeader img (restored (form_of img) img)
+
+-- a file with nothing to undo is read as it is
+abbrev pub ReadAsItIs : Type 0
+ReadAsItIs = (f : Form) (img : List ℕ) → Shut f img → restored f img ≡ img
+
+-- one that can be undone is read as what the undo gives
+abbrev pub ReadUndone : Type 0
+ReadUndone = (f : Form) (img : List ℕ) → Undoable f img → restored f img ≡ undone f.order img (word f.order img 44) (entries f img)
+
+-- after an undo the undo area is in place, if there is one, and there is nothing more to undo
+abbrev pub UndoneOnce : Type 0
+UndoneOnce = (f : Form) (img : List ℕ) → Undoable f img → AreaOk f (restored f img) × Shut f (restored f img)
+
+-- an accepted image can be opened, and holds its own map then
+abbrev pub AcceptedOpens : Type 0
+AcceptedOpens = (img : List ℕ) → Accept img → OpensTo img (own_map img)
