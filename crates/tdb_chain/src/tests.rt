@@ -1,6 +1,6 @@
 // Look-ups in a small file of one chain in memory.
 
-ghost use Rattle.std.specs.Prelude.{◌<◌, ◌^◌, length};
+ghost use Rattle.std.specs.Prelude.{◌≡◌, ◌<◌, ◌^◌, length};
 
 use crate::content::value;
 use crate::refusal::ValueRefusal;
@@ -78,6 +78,7 @@ fn look_up<S: Space>(
 ) -> Result<Option<(u32, u32, Bytes)>, ValueRefusal>
     requires short { length key.now < 2 ^ 32 }
     requires chains { 0 < (S.form s.old).chains }
+    ensures { S.form s.new ≡ S.form s.old }
 {
     match find(s, key)? {
         Some(place) => Ok(Some((place.off, place.before, value(alloc, s, &place)?))),
