@@ -4,3 +4,5 @@ pub mod Front
 pub mod Extent
 pub mod Area
 pub mod Followed
+pub mod Chains
+pub mod Report

@@ -2,19 +2,25 @@
 #![tactic(auto)]
 
 mod area;
+mod chains;
 mod extent;
 mod free_list;
 mod front;
 mod list_kind;
 mod record;
 mod refusal;
+mod report;
 #[cfg(test)]
 mod tests;
+mod whole_file;
 
 pub use crate::area::{can_stand, read_area};
+pub use crate::chains::follow_chains;
 pub use crate::extent::{Extent, first_overlap, sort_extents};
 pub use crate::free_list::follow_free_list;
 pub use crate::front::{FrontRefusal, read_front};
 pub use crate::list_kind::ListKind;
 pub use crate::record::read_record;
 pub use crate::refusal::CheckRefusal;
+pub use crate::report::Report;
+pub use crate::whole_file::check;
