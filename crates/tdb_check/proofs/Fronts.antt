@@ -1,18 +1,18 @@
 -- What the first bytes of an image and its length say of its front.
-use Rattle.std.proofs.Common.{◌≡◌, ℕ, ◌+◌, ◌<◌, ◌≤◌, Bool, true, false, List, length, take, drop, Some, None, not, refl, sym, ◌∙◌, ap, subst, arith}
-use Rattle.std.specs.Prelude.{◌%◌, ◌==◌, ◌||◌, nat_lt, is_some}
+use Rattle.std.proofs.Common.{◌≡◌, ℕ, ◌+◌, ◌<◌, ◌≤◌, true, false, List, length, take, drop, Some, None, refl, sym, ◌∙◌, ap, subst, arith}
+use Rattle.std.specs.Prelude.{◌%◌, ◌*◌, nat_lt, is_some}
 use Rattle.std.proofs.lemmas.Bool.Decides.{nat_tests}
 use Rattle.tdb_words.specs.declared.word.Order.{Order}
 use Rattle.tdb_words.specs.declared.header.HeaderFault.{HeaderFault}
 use Rattle.tdb_words.specs.declared.what.What.TheVariants.{Short, Header}
 use Rattle.tdb_words.specs.Word.{word}
-use Rattle.tdb_words.specs.Header.{HeaderOk, header_fault, header_at, header_order, recovery_start_of, sequence_of}
+use Rattle.tdb_words.specs.Header.{HeaderOk, header_fault, header_at, header_order, hash_size_of, recovery_start_of, sequence_of}
 use Rattle.tdb_words.proofs.Words.{word_of_part}
 use Rattle.tdb_words.proofs.SameHeader.{SameHeader, same_front, same_order, same_hash, same_hash_size, same_fault}
-use Rattle.tdb_space.specs.Form.{form_of, data_start}
+use Rattle.tdb_space.specs.Form.{form_of}
 use Rattle.tdb_space.specs.FirstFault.{front_fault, is_short}
 use Rattle.tdb_space.proofs.Cleared.{below_to}
-use Rattle.tdb_space.proofs.Agreed.{front_none}
+use Rattle.tdb_check.specs.Front.{is_short_length}
 
 lt_true : (a b : ℕ) → a < b → nat_lt a b ≡ true
 lt_true a b h = grind (arith, nat_tests)
@@ -56,24 +56,20 @@ header_read img bytes read =
       sequence = sequence j;
     }
 
--- a length that doesn't fit the header
-pub length_short : (img : List ℕ) (len : ℕ) → length img ≡ len → HeaderOk img → is_short (form_of img) img ≡ true → front_fault img ≡ Some (Short, len)
-length_short img len long ok short =
+-- the length is none of a file with this header, or is one
+short_is : (img : List ℕ) (len chains : ℕ) → length img ≡ len → chains ≡ hash_size_of img → is_short (form_of img) img ≡ is_short_length chains len
+short_is img len chains long is = λ j. is_short_length (sym is j) (long j)
+
+pub length_short : (img : List ℕ) (len chains : ℕ) → length img ≡ len → HeaderOk img → chains ≡ hash_size_of img → is_short_length chains len ≡ true → front_fault img ≡ Some (Short, len)
+length_short img len chains long ok is short =
     let none : is_some (header_fault img) ≡ false = rw ok.no_fault refl in
-    rw (below_to (length img) 168 ok.long_enough) (rw none (rw short (λ j. Some (Short, long j))))
+    rw (below_to (length img) 168 ok.long_enough) (rw none (rw (short_is img len chains long is ∙ short) (λ j. Some (Short, long j))))
 
-pub unaligned : (img : List ℕ) (len : ℕ) → length img ≡ len → (len % 4 ≡ 0 → ⊥) → is_short (form_of img) img ≡ true
-unaligned img len long h = ap (λ n. not (n % 4 == 0) || nat_lt n (data_start (form_of img))) long ∙ odd (len % 4) (nat_lt len (data_start (form_of img))) h
-  where
-    odd : (n : ℕ) (b : Bool) → (n ≡ 0 → ⊥) → (not (n == 0) || b) ≡ true
-    odd n b some = grind (arith, nat_tests)
+pub front_sound : (img : List ℕ) (len chains : ℕ) → length img ≡ len → HeaderOk img → chains ≡ hash_size_of img → is_short_length chains len ≡ false → front_fault img ≡ None
+front_sound img len chains long ok is fits =
+    let none : is_some (header_fault img) ≡ false = rw ok.no_fault refl in
+    rw (below_to (length img) 168 ok.long_enough) (rw none (rw (short_is img len chains long is ∙ fits) refl))
 
-pub unreached : (img : List ℕ) (len : ℕ) → length img ≡ len → len < data_start (form_of img) → is_short (form_of img) img ≡ true
-unreached img len long h = ap (λ n. not (n % 4 == 0) || nat_lt n (data_start (form_of img))) long ∙ late (not (len % 4 == 0)) (nat_lt len (data_start (form_of img))) (lt_true len (data_start (form_of img)) h)
-  where
-    late : (a b : Bool) → b ≡ true → (a || b) ≡ true
-    late true b h = refl
-    late false b h = h
-
-pub front_sound : (img : List ℕ) → HeaderOk img → length img % 4 ≡ 0 → data_start (form_of img) ≤ length img → front_fault img ≡ None
-front_sound img ok sized long = front_none img (record { header = ok; sized = sized; long = long })
+-- a length that fits is a whole number of words, and reaches the records
+pub fits_from : (chains len : ℕ) → is_short_length chains len ≡ false → (len % 4 ≡ 0) × (168 + 4 * (chains + 1) ≤ len)
+fits_from chains len h = grind (arith, nat_tests)

@@ -4,3 +4,5 @@ pub mod Fronts
 pub mod Swept
 pub mod Areas
 pub mod Following
+pub mod Contents
+pub mod Gaps

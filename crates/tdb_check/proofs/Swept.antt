@@ -40,7 +40,7 @@ tidy_more es e low reach h from = record {
 }
 
 -- extents that begin behind a byte don't hold it
-behind : (xs : List Extent) (i : ℕ) → ((k : ℕ) (d : Extent) → k < length xs → i < off_of (get_or xs k d)) → times (extents_seen xs) i ≡ 0
+pub behind : (xs : List Extent) (i : ℕ) → ((k : ℕ) (d : Extent) → k < length xs → i < off_of (get_or xs k d)) → times (extents_seen xs) i ≡ 0
 behind [] i h = refl
 behind (x ∷ xs) i h =
     elim (where_is (extent_seen x) i) [
@@ -62,7 +62,7 @@ swept_none xs = record {
   least = λ x h. omega arith;
 }
 
-seen_more : (xs : List Extent) (i : ℕ) (d : Extent) → i < length xs → extents_seen (take (i + 1) xs) ≡ extents_seen (take i xs) ++ extent_seen (get_or xs i d) ∷ []
+pub seen_more : (xs : List Extent) (i : ℕ) (d : Extent) → i < length xs → extents_seen (take (i + 1) xs) ≡ extents_seen (take i xs) ++ extent_seen (get_or xs i d) ∷ []
 seen_more xs i d low = ap extents_seen (take_more xs i d low) ∙ map-append extent_seen (take i xs) (get_or xs i d ∷ [])
 
 pub swept_more : (xs : List Extent) (i reach : ℕ) (d : Extent) → i < length xs → Swept xs i reach → reach ≤ off_of (get_or xs i d) → Swept xs (i + 1) (off_of (get_or xs i d) + 24 + (get_or xs i d).rec_len)

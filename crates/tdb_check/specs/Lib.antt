@@ -6,3 +6,4 @@ pub mod Area
 pub mod Followed
 pub mod Chains
 pub mod Report
+pub mod Stray

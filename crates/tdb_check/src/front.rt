@@ -6,7 +6,7 @@ ghost use Rattle.tdb_disk.specs.History.{seen};
 ghost use Rattle.tdb_words.specs.Header.{header_at};
 ghost use Rattle.tdb_space.specs.Form.{form_in, data_start};
 ghost use Rattle.tdb_space.specs.FirstFault.{front_fault};
-ghost use Rattle.tdb_check.specs.Front.{Refuses, FrontCause};
+ghost use Rattle.tdb_check.specs.Front.{is_short_length, Refuses, FrontCause};
 
 use tdb_disk::{Disk, DiskFault};
 use tdb_words::{Header, HeaderFault, header_of};
@@ -39,6 +39,13 @@ impl From<DiskFault> for FrontRefusal {
     }
 }
 
+/// Whether a file of `len` bytes and of so many chains ends within a word, or before its records begin.
+pub(crate) fn is_short(len: u64, chains: u32) -> bool
+    ensures { result ≡ is_short_length chains len }
+{
+    len % 4 != 0 || len < 168 + 4 * (chains as u64 + 1)
+}
+
 /// What the header of a file says, or what is wrong with its front: the first of too few bytes for a header, a fault of the
 /// header, and a length that is no multiple of 4 or ends before the records begin. It reads 168 bytes and writes nothing.
 pub fn read_front<D: Disk>(d: &mut D) -> Result<Header, FrontRefusal>
@@ -63,7 +70,7 @@ pub fn read_front<D: Disk>(d: &mut D) -> Result<Header, FrontRefusal>
         Ok(header) => header,
         Err(fault) => return Err(FrontRefusal::Header { fault }),
     };
-    if len % 4 != 0 || len < 168 + 4 * (header.hash_size as u64 + 1) {
+    if is_short(len, header.hash_size) {
         return Err(FrontRefusal::Short { len });
     }
     Ok(header)

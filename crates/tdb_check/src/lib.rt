@@ -10,8 +10,10 @@ mod list_kind;
 mod record;
 mod refusal;
 mod report;
+mod stray;
 #[cfg(test)]
 mod tests;
+mod view_front;
 mod whole_file;
 
 pub use crate::area::{can_stand, read_area};
@@ -23,4 +25,6 @@ pub use crate::list_kind::ListKind;
 pub use crate::record::read_record;
 pub use crate::refusal::CheckRefusal;
 pub use crate::report::Report;
+pub use crate::stray::scan;
+pub use crate::view_front::check_front;
 pub use crate::whole_file::check;
