@@ -6,3 +6,7 @@ pub mod Areas
 pub mod Following
 pub mod Contents
 pub mod Gaps
+pub mod Among
+pub mod AllLists
+pub mod Checked
+pub mod Still

@@ -7,3 +7,4 @@ pub mod Followed
 pub mod Chains
 pub mod Report
 pub mod Stray
+pub mod Lists

@@ -50,3 +50,9 @@ FirstOverlapAmong es at = (2 ≤ times es at) × ((i : ℕ) → i < at → times
 pub data FirstAmong (es : List Held) (start : ℕ) (img : List ℕ) : Fault → Type 0 where
   shared : (at : ℕ) → FirstOverlapAmong es at → FirstAmong es start img (Overlap, at)
   stray : (at : ℕ) → NoOverlapAmong es → FirstStrayAmong es start img at → FirstAmong es start img (Stray, at)
+
+-- no two of these extents share a byte, no byte is stray, and so many bytes are held by none
+pub record NoFaultAmong (es : List Held) (start : ℕ) (img : List ℕ) (dead : ℕ) : Type 0 where
+  pub apart : NoOverlapAmong es
+  pub clean : NoStrayAmong es start img
+  pub count : dead ≡ held_by_none es start img

@@ -1,0 +1,31 @@
+-- The first fault of the chains, that of the free list, and what both walks leave.
+use Rattle.std.proofs.Common.{◌∙◌, ap, inl, inr, length, refl, rules}
+use Rattle.std.proofs.lemmas.Result.{err_from_is_err_and}
+use Rattle.tdb_space.specs.Form.{free_head}
+use Rattle.tdb_space.specs.FirstFault.{free_list, FirstInList}
+use Rattle.tdb_check.proofs.AllLists.{lists_followed}
+use Rattle.tdb_check.proofs.Following.{names_then}
+use Rattle.tdb_check.proofs.Still.{still_then}
+use Rattle.tdb_check.proofs.lists.follow_lists.Goals as goal
+
+pub returns-in_err-live-clause-bad : goal.returns-in_err-live-clause-bad
+returns-in_err-live-clause-bad g c =
+    let p = err_from_is_err_and c.from_residual.result c.from_residual.ensures.1 in
+    rw (p.1, p.2) (λ told long. names_then c.in_err-live.field-0.0 _ _ (λ fault h. inl h) (c.in_err-live.ensures.bad told long))
+
+pub returns-in_err-follow_free_list-clause-bad : goal.returns-in_err-follow_free_list-clause-bad
+returns-in_err-follow_free_list-clause-bad g c =
+    let p = err_from_is_err_and c.from_residual-in_err-follow_free_list.result c.from_residual-in_err-follow_free_list.ensures.1 in
+    let still = c.in_ok-live.ensures.still in
+    rw (p.1, p.2)
+    (λ told long.
+    names_then c.in_err-follow_free_list.field-0.0 _ _
+    (λ fault h. inr ((c.in_ok-live.ensures.sound told long).sound, still_then (λ f img. FirstInList f free_list img free_head fault) still.same_form still.same_image h))
+    (c.in_err-follow_free_list.ensures.bad told (ap length still.same_image ∙ long)))
+
+pub returns-clause-sound : goal.returns-clause-sound
+returns-clause-sound g c told long =
+    let still = c.in_ok-live.ensures.still in
+    lists_followed (g.S.Space.form c.args.s.now) (g.S.Space.image c.args.s.now) c.new-extents.result.items _ c.in_ok-live.live c.len-chained.result _ c.new-extents.ensures.items (c.in_ok-live.ensures.sound told long)
+    still.same_form still.same_image (c.in_ok-follow_free_list.ensures.sound told (ap length still.same_image ∙ long))
+    (search rules) refl c.saturating_sub.ensures (search rules)

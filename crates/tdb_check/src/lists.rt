@@ -1,0 +1,57 @@
+// The walks along all lists of a file.
+
+ghost use Rattle.std.specs.Prelude.{◌≡◌, ◌<◌, ◌≤◌, IsTrue, length, IfOk, IfErr};
+ghost use Rattle.tdb_space.specs.Form.{data_start};
+ghost use Rattle.tdb_check.specs.Seen.{Names};
+ghost use Rattle.tdb_check.specs.Lists.{ListsFollowed, FirstInLists};
+ghost use Rattle.tdb_check.specs.Unchanged.{Unchanged, IoCause};
+
+use crate::chains::follow_chains;
+use crate::extent::Extent;
+use crate::free_list::follow_free_list;
+use crate::refusal::CheckRefusal;
+use std::alloc::Global;
+use tdb_space::Space;
+
+/// What the lists of a file hold.
+#[derive(Drop)]
+pub(crate) struct Listed {
+    /// The extents of the records of all chains, and behind them of those of the free list.
+    pub extents: Vec<Extent>,
+
+    /// How many used records there are.
+    pub live: u64,
+
+    /// How many dead records stand in chains.
+    pub dead: u64,
+
+    /// How many records the free list has.
+    pub free: u64,
+}
+
+/// Follows the chains and then the free list of a file of `len` bytes; or answers what is first wrong with one of them.
+pub(crate) fn follow_lists<S: Space>(
+    alloc: Global,
+    s: &mut S,
+    len: u64,
+) -> Result<Listed, CheckRefusal>
+    requires length { len ≡ S.size s.old }
+    requires heads { data_start (S.form s.old) ≤ len }
+    requires chains { 0 < (S.form s.old).chains }
+    ensures sound { IfOk result (λ l. IsTrue S.tells → length (S.image s.old) ≡ len → ListsFollowed (S.form s.old) (S.image s.old) l) }
+    ensures bad { IfErr result (λ e. IsTrue S.tells → length (S.image s.old) ≡ len → Names e (FirstInLists (S.form s.old) (S.image s.old))) }
+    ensures still { Unchanged (S.size s.old) (S.size s.new) (S.image s.old) (S.image s.new) (S.form s.old) (S.form s.new) (S.spare s.old) (S.spare s.new) (S.disk_history s.old) (S.disk_history s.new) (S.under s.old) (S.under s.new) }
+    ensures cause { IoCause (S.faults s.old) (S.faults s.new) result }
+{
+    let mut extents = Vec::new(alloc);
+    let live = follow_chains(alloc, s, len, &mut extents)?;
+    let chained = extents.len() as u64;
+    follow_free_list(alloc, s, len, &mut extents)?;
+    let listed = extents.len() as u64;
+    Ok(Listed {
+        extents,
+        live,
+        dead: chained.saturating_sub(live),
+        free: listed.saturating_sub(chained),
+    })
+}
