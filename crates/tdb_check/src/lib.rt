@@ -17,6 +17,8 @@ mod stray;
 mod tests;
 mod view_front;
 mod whole_file;
+#[cfg(test)]
+mod whole_tests;
 
 pub use crate::area::{can_stand, read_area};
 pub use crate::chains::follow_chains;
