@@ -112,7 +112,7 @@ following_start f kind img head at noted old w none = record {
   count = refl;
 }
 
-any_more : (q at : ℕ) (xs : List ℕ) → (eqb q at || list_any (eqb q) xs) ≡ list_any (eqb q) (xs ++ at ∷ [])
+pub any_more : (q at : ℕ) (xs : List ℕ) → (eqb q at || list_any (eqb q) xs) ≡ list_any (eqb q) (xs ++ at ∷ [])
 any_more q at xs = turned (eqb q at) (list_any (eqb q) xs) ∙ sym (list_any-append (eqb q) xs (at ∷ []))
   where
     turned : (a b : Bool) → (a || b) ≡ (b || (a || false))
@@ -121,7 +121,7 @@ any_more q at xs = turned (eqb q at) (list_any (eqb q) xs) ∙ sym (list_any-app
     turned false true = refl
     turned false false = refl
 
-extents_more : (o : Order) (img xs : List ℕ) (x : ℕ) → extents o img (xs ++ x ∷ []) ≡ extents o img xs ++ extent_at o img x ∷ []
+pub extents_more : (o : Order) (img xs : List ℕ) (x : ℕ) → extents o img (xs ++ x ∷ []) ≡ extents o img xs ++ extent_at o img x ∷ []
 extents_more o img [] x = refl
 extents_more o img (y ∷ ys) x = ap (λ es. extent_at o img y ∷ es) (extents_more o img ys x)
 
@@ -155,7 +155,7 @@ module _ (f : Form) (kind : ListKind) (img : List ℕ) (head : ℕ) (noted : ℕ
   pub following_never : 0 < length img → turn ≡ length img → ⊥
   following_never some long = absurd (omega (arith, h.count, long, passed_short f kind img head h.xs place some h.passed))
 
-  following_next : (noted2 : ℕ → Bool) (next_extents : List Extent) (r : Rec) → at ≢ 0 → record_fault f kind img h.xs place at ≡ None → r ≡ rec_at f.order img at → ((q : ℕ) → noted2 q ≡ (eqb q at || noted q)) → next_extents ≡ new ++ (record { off = at; rec_len = r.rec_len }) ∷ [] → Following f kind img head noted2 old next_extents (turn + 1) at r.next
+  pub following_next : (noted2 : ℕ → Bool) (next_extents : List Extent) (r : Rec) → at ≢ 0 → record_fault f kind img h.xs place at ≡ None → r ≡ rec_at f.order img at → ((q : ℕ) → noted2 q ≡ (eqb q at || noted q)) → next_extents ≡ new ++ (record { off = at; rec_len = r.rec_len }) ∷ [] → Following f kind img head noted2 old next_extents (turn + 1) at r.next
   following_next noted2 next_extents r some none read more put = record {
     xs = h.xs ++ at ∷ [];
     passed = passed_more f kind img [] head h.xs place at h.passed h.next some none;

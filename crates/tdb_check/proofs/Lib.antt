@@ -10,3 +10,8 @@ pub mod Among
 pub mod AllLists
 pub mod Checked
 pub mod Still
+pub mod Firsts
+pub mod Keeping
+pub mod ChainRecords
+pub mod ChainWalks
+pub mod ChainsWalk

@@ -2,7 +2,7 @@
 use Rattle.std.specs.Prelude.{◌≡◌, ◌≢◌, ◌⊎◌, ℕ, ◌<◌, ◌≤◌, List, ◌++◌, length}
 use Rattle.tdb_space.specs.Form.{Form, chain_head}
 use Rattle.tdb_space.specs.Chain.{chain_of}
-use Rattle.tdb_space.specs.Pairs.{joined, order_of}
+use Rattle.tdb_space.specs.Pairs.{joined, pairs, order_of}
 use Rattle.tdb_space.specs.Extents.{Extent as Held, times, extents}
 use Rattle.tdb_space.specs.FirstFault.{Fault, chain_number, Sound, FirstInList}
 use Rattle.tdb_check.specs.declared.extent.Extent.{Extent}
@@ -25,6 +25,12 @@ pub record ChainsFollowed (f : Form) (img : List ℕ) (old new : List Extent) (l
   pub sound : (j : ℕ) → j < f.chains → Sound f (chain_number j) img (chain_head j)
   pub shows : Shows (extents_seen new) (extents_seen old ++ chain_extents f img)
   pub used : live ≡ length (order_of f img)
+
+-- the first n chains are sound, the extents of their records were put behind those before, and so many of the records are used
+pub record ChainsTo (f : Form) (img : List ℕ) (n : ℕ) (old new : List Extent) (live : ℕ) : Type 0 where
+  pub sound : (j : ℕ) → j < n → Sound f (chain_number j) img (chain_head j)
+  pub shows : Shows (extents_seen new) (extents_seen old ++ joined n (λ j. extents f.order img (chain_of f img j)))
+  pub used : live ≡ length (joined n (λ j. pairs f.order img (chain_of f img j)))
 
 -- the first fault of the chains: all chains before its own are sound
 abbrev pub FirstInChains : Form → List ℕ → Fault → Type 0

@@ -8,3 +8,7 @@ pub mod Chains
 pub mod Report
 pub mod Stray
 pub mod Lists
+pub mod Trail
+pub mod FirstOffsets
+pub mod Keys
+pub mod Notes

@@ -1,31 +1,94 @@
 // The walk along all chains.
 
-ghost use Rattle.std.specs.Prelude.{◌≡◌, ◌<◌, ◌≤◌, IsTrue, length, IfOk, IfErr};
-ghost use Rattle.tdb_space.specs.Form.{data_start};
+ghost use Rattle.std.specs.Prelude.{◌≡◌, ℕ, ◌+◌, ◌*◌, ◌^◌, ◌<◌, ◌≤◌, List, IsTrue, length, take, drop, IfOk, IfErr};
+ghost use Rattle.tdb_space.specs.Form.{data_start, chain_head};
 ghost use Rattle.tdb_check.specs.Seen.{Names};
-ghost use Rattle.tdb_check.specs.Chains.{ChainsFollowed, FirstInChains};
+ghost use Rattle.tdb_check.specs.Chains.{ChainsTo, ChainsFollowed, FirstInChains};
 ghost use Rattle.tdb_check.specs.Unchanged.{Unchanged, IoCause};
+ghost use Rattle.tdb_check.specs.declared.extent.Extent.{Extent};
 
+use crate::chain::{Notes, follow_chain};
 use crate::extent::Extent;
 use crate::refusal::CheckRefusal;
 use std::alloc::Global;
 use tdb_space::Space;
+use tdb_words::word_in;
+
+/// How many heads are read at once.
+const HEADS: u32 = 1024;
+
+/// Follows the chains whose heads are the words of a block, from number `first` on, puts the extents of their records behind those
+/// that are there, and answers how many of the records are used; or answers what is first wrong with one of the chains.
+fn follow_block<S: Space>(
+    s: &mut S,
+    len: u64,
+    first: u32,
+    count: u32,
+    heads: &[u8],
+    notes: &mut Notes,
+    extents: &mut Vec<Extent>,
+) -> Result<u64, CheckRefusal>
+    requires length { len ≡ S.size s.old }
+    requires heads { data_start (S.form s.old) ≤ len }
+    requires chains { first + count ≤ (S.form s.old).chains }
+    requires numbers { first + count < 2 ^ 32 }
+    requires block { length heads.now ≡ 4 * count }
+    ensures sound { IfOk result (λ live. IsTrue S.tells → length (S.image s.old) ≡ len → heads.now ≡ take (4 * count) (drop (chain_head first) (S.image s.old))
+        → (before : List Extent) (n : ℕ) → ChainsTo (S.form s.old) (S.image s.old) first before extents.old.items n
+        → ChainsTo (S.form s.old) (S.image s.old) (first + count) before extents.new.items (n + live)) }
+    ensures bad { IfErr result (λ e. IsTrue S.tells → length (S.image s.old) ≡ len → heads.now ≡ take (4 * count) (drop (chain_head first) (S.image s.old))
+        → (before : List Extent) (n : ℕ) → ChainsTo (S.form s.old) (S.image s.old) first before extents.old.items n
+        → Names e (FirstInChains (S.form s.old) (S.image s.old))) }
+    ensures count { IfOk result (λ live. live + length extents.old.items ≤ length extents.new.items) }
+    ensures still { Unchanged (S.size s.old) (S.size s.new) (S.image s.old) (S.image s.new) (S.form s.old) (S.form s.new) (S.spare s.old) (S.spare s.new) (S.disk_history s.old) (S.disk_history s.new) (S.under s.old) (S.under s.new) }
+    ensures cause { IoCause (S.faults s.old) (S.faults s.new) result }
+{
+    let order = s.order();
+    let mut live = 0u64;
+    for i in 0..count {
+        let head = word_in(heads, 4 * i as usize, order);
+        let used = match follow_chain(s, len, first + i, head, notes, extents) {
+            Ok(used) => used,
+            Err(e) => return Err(e),
+        };
+        live += used;
+    }
+    Ok(live)
+}
 
 /// Follows chains 0, 1, 2 and so on to their ends, puts the extents of their records behind those that are there, and answers how
-/// many of the records are used; or answers what is first wrong with a chain.
+/// many of the records are used; or answers what is first wrong with a chain. The heads are read 4096 bytes at a time; a head of 0
+/// costs nothing more. Of each record an extent of 8 bytes is kept, and of the longest chain its offsets and hashes besides; a chain
+/// of n records takes n log n steps. Where two records of a chain have one hash, their keys are read and kept up to its end.
 pub fn follow_chains<S: Space>(
-    _alloc: Global,
-    _s: &mut S,
-    _len: u64,
-    _extents: &mut Vec<Extent>,
+    alloc: Global,
+    s: &mut S,
+    len: u64,
+    extents: &mut Vec<Extent>,
 ) -> Result<u64, CheckRefusal>
-    requires length { _len ≡ S.size _s.old }
-    requires heads { data_start (S.form _s.old) ≤ _len }
-    requires chains { 0 < (S.form _s.old).chains }
-    ensures sound { IfOk result (λ live. IsTrue S.tells → length (S.image _s.old) ≡ _len → ChainsFollowed (S.form _s.old) (S.image _s.old) _extents.old.items _extents.new.items live) }
-    ensures bad { IfErr result (λ e. IsTrue S.tells → length (S.image _s.old) ≡ _len → Names e (FirstInChains (S.form _s.old) (S.image _s.old))) }
-    ensures still { Unchanged (S.size _s.old) (S.size _s.new) (S.image _s.old) (S.image _s.new) (S.form _s.old) (S.form _s.new) (S.spare _s.old) (S.spare _s.new) (S.disk_history _s.old) (S.disk_history _s.new) (S.under _s.old) (S.under _s.new) }
-    ensures cause { IoCause (S.faults _s.old) (S.faults _s.new) result }
+    requires length { len ≡ S.size s.old }
+    requires heads { data_start (S.form s.old) ≤ len }
+    requires chains { 0 < (S.form s.old).chains }
+    ensures sound { IfOk result (λ live. IsTrue S.tells → length (S.image s.old) ≡ len → ChainsFollowed (S.form s.old) (S.image s.old) extents.old.items extents.new.items live) }
+    ensures bad { IfErr result (λ e. IsTrue S.tells → length (S.image s.old) ≡ len → Names e (FirstInChains (S.form s.old) (S.image s.old))) }
+    ensures still { Unchanged (S.size s.old) (S.size s.new) (S.image s.old) (S.image s.new) (S.form s.old) (S.form s.new) (S.spare s.old) (S.spare s.new) (S.disk_history s.old) (S.disk_history s.new) (S.under s.old) (S.under s.new) }
+    ensures cause { IoCause (S.faults s.old) (S.faults s.new) result }
 {
-    Err(CheckRefusal::Memory)
+    let chains = s.hash_size();
+    let mut notes = Notes::new(alloc);
+    let mut block = [0u8; 4096];
+    let mut live = 0u64;
+    let mut first = 0u32;
+    while first < chains {
+        let count = HEADS.min(chains - first);
+        let heads = &mut block[..4 * count as usize];
+        s.read(172 + 4 * first as u64, heads)?;
+        let used = match follow_block(s, len, first, count, heads, &mut notes, extents) {
+            Ok(used) => used,
+            Err(e) => return Err(e),
+        };
+        live += used;
+        first += count;
+    }
+    Ok(live)
 }

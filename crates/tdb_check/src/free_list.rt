@@ -86,7 +86,7 @@ pub fn follow_free_list<S: Space>(
 }
 
 /// Puts an extent at the end.
-fn put(extents: &mut Vec<Extent>, e: Extent) -> Result<(), AllocError>
+pub fn put(extents: &mut Vec<Extent>, e: Extent) -> Result<(), AllocError>
     ensures ok { OnOk result (extents.new.items ≡ extents.old.items ++ e ∷ []) }
     ensures err { OnErr result (extents.new.items ≡ extents.old.items) }
 {

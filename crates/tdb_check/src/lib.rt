@@ -2,11 +2,16 @@
 #![tactic(auto)]
 
 mod area;
+mod chain;
+#[cfg(test)]
+mod chain_tests;
 mod chains;
 mod extent;
+mod first_offsets;
 mod free_list;
 mod front;
 mod judge;
+mod keys;
 mod list_kind;
 mod lists;
 mod record;
@@ -15,6 +20,7 @@ mod report;
 mod stray;
 #[cfg(test)]
 mod tests;
+mod trail;
 mod view_front;
 mod whole_file;
 #[cfg(test)]

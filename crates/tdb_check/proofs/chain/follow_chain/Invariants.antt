@@ -1,0 +1,17 @@
+-- The records so far were passed and noted, and their extents put at the end.
+use Rattle.std.proofs.Common.{◌≡◌, ◌+◌, ◌≤◌, IsTrue, length}
+use Rattle.tdb_words.specs.Word.{word}
+use Rattle.tdb_space.specs.Form.{chain_head}
+use Rattle.tdb_check.specs.Unchanged.{Unchanged}
+use Rattle.tdb_check.proofs.ChainWalks.{ChainGoing}
+use Rattle.tdb_check.proofs.chain.follow_chain.Given as goal
+
+abbrev pub invariant-loop-turn : goal.invariant-loop-turn
+invariant-loop-turn g l = record {
+  going : IsTrue g.S.Space.tells → length (g.S.Space.image l.fn.s) ≡ l.len → word (g.S.Space.form l.fn.s).order (g.S.Space.image l.fn.s) (chain_head l.j) ≡ l.first
+      → ChainGoing (g.S.Space.form l.fn.s) l.j (g.S.Space.image l.fn.s) l.notes l.fn.extents.items l.extents.items l.live l._turn l.place l.at;
+  turns : l.live ≤ l._turn;
+  count : l.live + length l.fn.extents.items ≤ length l.extents.items;
+  still : Unchanged (g.S.Space.size l.fn.s) (g.S.Space.size l.s) (g.S.Space.image l.fn.s) (g.S.Space.image l.s) (g.S.Space.form l.fn.s) (g.S.Space.form l.s) (g.S.Space.spare l.fn.s) (g.S.Space.spare l.s) (g.S.Space.disk_history l.fn.s) (g.S.Space.disk_history l.s) (g.S.Space.under l.fn.s) (g.S.Space.under l.s);
+  faults : g.S.Space.faults l.fn.s ≤ g.S.Space.faults l.s;
+}

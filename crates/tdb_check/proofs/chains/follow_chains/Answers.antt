@@ -1,0 +1,31 @@
+-- One more block of heads, or the first chain with a fault.
+use Rattle.std.proofs.Common.{◌≡◌, ◌+◌, ◌*◌, length, take, drop, length-take, sym, ◌∙◌, ap, arith, rules}
+use Rattle.tdb_space.specs.Form.{chain_head}
+use Rattle.tdb_check.specs.Chains.{ChainsTo}
+use Rattle.tdb_check.proofs.ChainRecords.{same_view}
+use Rattle.tdb_check.proofs.chains.follow_chains.Goals as goal
+
+pub loop-first-preserved : goal.loop-first-preserved
+loop-first-preserved g c =
+    let f = g.S.Space.form c.args.s.now in
+    let img = g.S.Space.image c.args.s.now in
+    let f2 = g.S.Space.form c.read.new.self in
+    let img2 = g.S.Space.image c.read.new.self in
+    let v = c.loop-first.invariant in
+    let form : f2 ≡ f = c.read.ensures.form ∙ v.still.same_form in
+    let image : img2 ≡ img = c.read.ensures.image ∙ v.still.same_image in
+    let size : length (take (4 * c.min-count.result) c.loop-first.block) ≡ 4 * c.min-count.result = omega (arith, length-take (4 * c.min-count.result) c.loop-first.block, c.min-count.ensures, c.min-count.array_long) in
+    record {
+      followed = λ told long.
+          (let again : length img2 ≡ c.args.len = ap length image ∙ long in
+          let read : c.read.new.buf ≡ take (4 * c.min-count.result) (drop (chain_head c.loop-first.first) img2) =
+          c.in_ok-read.ensures.bytes told ∙ (λ k. take (size k) (drop (chain_head c.loop-first.first) (sym c.read.ensures.image k))) in
+          let to : ChainsTo f2 img2 c.loop-first.first c.args.extents.now.items c.loop-first.extents.items c.loop-first.live =
+          same_view (λ k i. ChainsTo k i c.loop-first.first c.args.extents.now.items c.loop-first.extents.items c.loop-first.live) f f2 img img2 form image (v.followed told long) in
+          same_view (λ k i. ChainsTo k i (c.loop-first.first + c.min-count.result) c.args.extents.now.items c.follow_block.new.extents.items (c.loop-first.live + c.in-Ok.used)) f2 f img2 img (sym form) (sym image)
+          (c.in-Ok.ensures.sound told again read c.args.extents.now.items c.loop-first.live to));
+      within = search rules;
+      count = omega (arith, v.count, c.in-Ok.ensures.count);
+      still = search rules;
+      faults = search rules;
+    }

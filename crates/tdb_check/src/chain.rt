@@ -1,0 +1,161 @@
+// The walk along one chain.
+
+ghost use Rattle.std.specs.Prelude.{◌≡◌, ℕ, ◌+◌, ◌<◌, ◌≤◌, ◌==◌, if◌then◌else◌, List, [], IsTrue, length, Some, IfOk, IfErr};
+ghost use Rattle.tdb_words.specs.Word.{word};
+ghost use Rattle.tdb_space.specs.Form.{Form, data_start, chain_head};
+ghost use Rattle.tdb_space.specs.FirstFault.{chain_number, record_fault, FirstInList};
+ghost use Rattle.tdb_check.specs.Seen.{Names};
+ghost use Rattle.tdb_check.specs.Followed.{ChainFollowed};
+ghost use Rattle.tdb_check.specs.Notes.{NotesOf, RecordPassed};
+ghost use Rattle.tdb_check.specs.Unchanged.{Unchanged, IoCause};
+
+use crate::area::can_stand;
+use crate::extent::Extent;
+use crate::free_list::put;
+use crate::keys::Keys;
+use crate::list_kind::ListKind;
+use crate::record::read_record;
+use crate::refusal::CheckRefusal;
+use crate::trail::Trail;
+use std::alloc::Global;
+use tdb_space::Space;
+use tdb_words::{Rec, USED, What};
+
+/// What is noted along one chain. It is cleared for the next one, and then keeps the memory that short chains take.
+#[derive(Drop)]
+pub struct Notes {
+    /// The offsets of the records so far.
+    offsets: Trail,
+
+    /// Their keys.
+    keys: Keys,
+}
+
+impl Notes {
+    /// Notes of no record. They take no memory.
+    pub fn new(alloc: Global) -> Self {
+        Notes {
+            offsets: Trail::new(alloc),
+            keys: Keys::new(alloc),
+        }
+    }
+
+    /// Forgets all records.
+    fn clear(&mut self)
+        ensures { (f : Form) (img : List ℕ) → NotesOf f img [] self.new }
+    {
+        self.offsets.clear();
+        self.keys.clear();
+    }
+}
+
+/// The header of the record that the word at a place of chain `j` leads to, after those noted; or the first that is wrong with it:
+/// it stands out of the file or behind itself, it is bad by itself, or an earlier one has its key.
+fn pass_record<S: Space>(
+    s: &mut S,
+    len: u64,
+    j: u32,
+    place: u64,
+    at: u32,
+    notes: &mut Notes,
+) -> Result<Rec, CheckRefusal>
+    requires length { len ≡ S.size s.old }
+    requires chains { 0 < (S.form s.old).chains }
+    ensures good { IfOk result (λ r. IsTrue S.tells → length (S.image s.old) ≡ len → (xs : List ℕ) → NotesOf (S.form s.old) (S.image s.old) xs notes.old
+        → RecordPassed (S.form s.old) j (S.image s.old) xs place at r notes.new) }
+    ensures bad { IfErr result (λ e. IsTrue S.tells → length (S.image s.old) ≡ len → (xs : List ℕ) → NotesOf (S.form s.old) (S.image s.old) xs notes.old
+        → Names e (λ fault. record_fault (S.form s.old) (chain_number j) (S.image s.old) xs place at ≡ Some fault)) }
+    ensures still { Unchanged (S.size s.old) (S.size s.new) (S.image s.old) (S.image s.new) (S.form s.old) (S.form s.new) (S.spare s.old) (S.spare s.new) (S.disk_history s.old) (S.disk_history s.new) (S.under s.old) (S.under s.new) }
+    ensures cause { IoCause (S.faults s.old) (S.faults s.new) result }
+{
+    if !can_stand(at, len, s.hash_size()) {
+        return Err(CheckRefusal::Corrupt {
+            what: What::ChainOut,
+            at: place,
+        });
+    }
+    if notes.offsets.contains(at) {
+        return Err(CheckRefusal::Corrupt {
+            what: What::ChainLoop,
+            at: place,
+        });
+    }
+    let r = match read_record(s, len, ListKind::Chain(j), at) {
+        Ok(r) => r,
+        Err(e) => return Err(e),
+    };
+    let twin = match notes.keys.is_twin(s, len, at, &r) {
+        Ok(twin) => twin,
+        Err(e) => return Err(e),
+    };
+    if twin {
+        return Err(CheckRefusal::Corrupt {
+            what: What::TwiceKey,
+            at: at as u64,
+        });
+    }
+    notes.offsets.note(at)?;
+    Ok(r)
+}
+
+/// How many used records a record counts for: one or none.
+fn used_count(r: &Rec) -> u64
+    ensures one { result ≡ (if r.now.magic == USED then 1 else 0) }
+    ensures at_most { result ≤ 1 }
+{
+    if r.magic == USED { 1 } else { 0 }
+}
+
+/// Follows chain `j` from the first word that its head holds to its end, and puts the extents of its records behind those that are
+/// there. Answers how many of the records are used, or what is first wrong with the chain.
+pub fn follow_chain<S: Space>(
+    s: &mut S,
+    len: u64,
+    j: u32,
+    first: u32,
+    notes: &mut Notes,
+    extents: &mut Vec<Extent>,
+) -> Result<u64, CheckRefusal>
+    requires length { len ≡ S.size s.old }
+    requires heads { data_start (S.form s.old) ≤ len }
+    requires chains { 0 < (S.form s.old).chains }
+    requires number { j < (S.form s.old).chains }
+    ensures sound { IfOk result (λ live. IsTrue S.tells → length (S.image s.old) ≡ len → word (S.form s.old).order (S.image s.old) (chain_head j) ≡ first
+        → ChainFollowed (S.form s.old) j (S.image s.old) extents.old.items extents.new.items live) }
+    ensures bad { IfErr result (λ e. IsTrue S.tells → length (S.image s.old) ≡ len → word (S.form s.old).order (S.image s.old) (chain_head j) ≡ first
+        → Names e (FirstInList (S.form s.old) (chain_number j) (S.image s.old) (chain_head j))) }
+    ensures count { IfOk result (λ live. live + length extents.old.items ≤ length extents.new.items) }
+    ensures still { Unchanged (S.size s.old) (S.size s.new) (S.image s.old) (S.image s.new) (S.form s.old) (S.form s.new) (S.spare s.old) (S.spare s.new) (S.disk_history s.old) (S.disk_history s.new) (S.under s.old) (S.under s.new) }
+    ensures cause { IoCause (S.faults s.old) (S.faults s.new) result }
+{
+    if first == 0 {
+        return Ok(0);
+    }
+    notes.clear();
+    let mut place = 172 + 4 * j as u64;
+    let mut at = first;
+    let mut live = 0u64;
+    for _turn in 0..len {
+        if at == 0 {
+            return Ok(live);
+        }
+        let r = match pass_record(s, len, j, place, at, notes) {
+            Ok(r) => r,
+            Err(e) => return Err(e),
+        };
+        put(
+            extents,
+            Extent {
+                off: at,
+                rec_len: r.rec_len,
+            },
+        )?;
+        live += used_count(&r);
+        place = at as u64;
+        at = r.next;
+    }
+    Err(CheckRefusal::Corrupt {
+        what: What::ChainLoop,
+        at: place,
+    })
+}
