@@ -17,6 +17,8 @@ mod lists;
 mod record;
 mod refusal;
 mod report;
+#[cfg(test)]
+mod report_tests;
 mod stray;
 #[cfg(test)]
 mod tests;
