@@ -1,15 +1,17 @@
 // The undo area: where a file has one, and whether it can stand there.
 
-ghost use Rattle.std.specs.Prelude.{◌≡◌, ◌+◌, ◌≤◌, not, IsTrue, length, IfOk, IfErr, IfSome, MatchResult, None, Some};
+ghost use Rattle.std.specs.Prelude.{◌≡◌, ◌+◌, ◌≤◌, ◌++◌, not, IsTrue, length, sum_by, OnOk, IfOk, IfErr, None, Some};
 ghost use Rattle.tdb_space.specs.Form.{data_start};
 ghost use Rattle.tdb_space.specs.Extents.{area};
 ghost use Rattle.tdb_space.specs.FirstFault.{area_fault};
 ghost use Rattle.tdb_check.specs.Seen.{Names};
+ghost use Rattle.tdb_check.specs.Extent.{extents_seen};
 ghost use Rattle.tdb_check.specs.Area.{is_out_at, header_area_fault, area_seen};
 ghost use Rattle.tdb_check.specs.Unchanged.{Unchanged, IoCause};
 
 use crate::extent::Extent;
 use crate::refusal::CheckRefusal;
+use std::alloc::AllocError;
 use tdb_space::{Space, read_rec};
 use tdb_words::{GATE_OPEN, GATE_SHUT, Rec, What, word_at};
 
@@ -68,5 +70,25 @@ pub fn read_area<S: Space>(s: &mut S, len: u64) -> Result<Option<Extent>, CheckR
             off: at,
             rec_len: r.rec_len,
         })),
+    }
+}
+
+/// Puts the extent of the undo area at the end, where there is one.
+pub(crate) fn put_area(extents: &mut Vec<Extent>, area: Option<Extent>) -> Result<(), AllocError>
+    ensures { OnOk result (extents_seen extents.new.items ≡ extents_seen extents.old.items ++ area_seen area) }
+{
+    if let Some(e) = area {
+        extents.push(e)?;
+    }
+    Ok(())
+}
+
+/// The length of the undo area with its header, in bytes, or 0 where there is none.
+pub(crate) fn area_len(area: Option<Extent>) -> u64
+    ensures { result ≡ sum_by (λ e. e.1) (area_seen area) }
+{
+    match area {
+        Some(e) => 24 + e.rec_len as u64,
+        None => 0,
     }
 }

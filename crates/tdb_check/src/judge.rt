@@ -1,8 +1,7 @@
 // What is wrong with the extents of a file.
 
-ghost use Rattle.std.specs.Prelude.{◌≡◌, ◌≤◌, ◌++◌, IsTrue, length, OnOk, IfOk, IfErr, sum_by};
+ghost use Rattle.std.specs.Prelude.{◌≡◌, ◌≤◌, IsTrue, length, IfOk, IfErr};
 ghost use Rattle.tdb_space.specs.Form.{data_start};
-ghost use Rattle.tdb_check.specs.Area.{area_seen};
 ghost use Rattle.tdb_check.specs.Seen.{Names};
 ghost use Rattle.tdb_check.specs.Extent.{extents_seen};
 ghost use Rattle.tdb_check.specs.Stray.{FirstAmong, NoFaultAmong};
@@ -11,29 +10,8 @@ ghost use Rattle.tdb_check.specs.Unchanged.{Unchanged, IoCause};
 use crate::extent::{Extent, first_overlap, sort_extents};
 use crate::refusal::CheckRefusal;
 use crate::stray::scan;
-use std::alloc::AllocError;
 use tdb_space::Space;
 use tdb_words::What;
-
-/// Puts the extent of the undo area at the end, where there is one.
-pub(crate) fn put_area(extents: &mut Vec<Extent>, area: Option<Extent>) -> Result<(), AllocError>
-    ensures { OnOk result (extents_seen extents.new.items ≡ extents_seen extents.old.items ++ area_seen area) }
-{
-    if let Some(e) = area {
-        extents.push(e)?;
-    }
-    Ok(())
-}
-
-/// The length of the undo area with its header, in bytes, or 0 where there is none.
-pub(crate) fn area_len(area: Option<Extent>) -> u64
-    ensures { result ≡ sum_by (λ e. e.1) (area_seen area) }
-{
-    match area {
-        Some(e) => 24 + e.rec_len as u64,
-        None => 0,
-    }
-}
 
 /// How many bytes lie in none of the extents of a file of `len` bytes, from where its records begin; or what is first wrong with
 /// the extents: the least byte that two of them share, or else the least byte outside them that is neither 0 nor padding. It

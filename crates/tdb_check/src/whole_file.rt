@@ -7,8 +7,8 @@ ghost use Rattle.tdb_check.specs.Seen.{Names};
 ghost use Rattle.tdb_check.specs.Report.{IsFormOf, Counted};
 ghost use Rattle.tdb_check.specs.Unchanged.{Unchanged, IoCause};
 
-use crate::area::read_area;
-use crate::judge::{area_len, judge_extents, put_area};
+use crate::area::{area_len, put_area, read_area};
+use crate::judge::judge_extents;
 use crate::lists::follow_lists;
 use crate::refusal::CheckRefusal;
 use crate::report::Report;
