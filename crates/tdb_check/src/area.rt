@@ -10,6 +10,7 @@ ghost use Rattle.tdb_check.specs.Area.{is_out_at, header_area_fault, area_seen};
 ghost use Rattle.tdb_check.specs.Unchanged.{Unchanged, IoCause};
 
 use crate::extent::Extent;
+use crate::front::records_start;
 use crate::refusal::CheckRefusal;
 use std::alloc::AllocError;
 use tdb_space::{Space, read_rec};
@@ -19,7 +20,7 @@ use tdb_words::{GATE_OPEN, GATE_SHUT, Rec, What, word_at};
 pub fn can_stand(at: u32, len: u64, chains: u32) -> bool
     ensures { result ≡ not (is_out_at chains len at) }
 {
-    !(at % 4 != 0 || (at as u64) < 168 + 4 * (chains as u64 + 1) || len < at as u64 + 24)
+    !(at % 4 != 0 || (at as u64) < records_start(chains) || len < at as u64 + 24)
 }
 
 /// What is wrong with the undo area that has this header, if anything.

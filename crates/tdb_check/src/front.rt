@@ -1,6 +1,6 @@
 // The front of a file: whether it has a header, and a length that fits the header.
 
-ghost use Rattle.std.specs.Prelude.{◌≡◌, ◌+◌, ◌%◌, ◌<◌, ◌≤◌, IsTrue, IfOk, IfErr, None};
+ghost use Rattle.std.specs.Prelude.{◌≡◌, ◌+◌, ◌*◌, ◌%◌, ◌<◌, ◌≤◌, IsTrue, IfOk, IfErr, None};
 ghost use Rattle.tdb_disk.specs.Count.{RoseUpTo};
 ghost use Rattle.tdb_disk.specs.History.{seen};
 ghost use Rattle.tdb_words.specs.Header.{header_at};
@@ -39,11 +39,18 @@ impl From<DiskFault> for FrontRefusal {
     }
 }
 
+/// The offset at which the records begin in a file of so many chains, behind the head of the free list and those of the chains.
+pub(crate) fn records_start(chains: u32) -> u64
+    ensures { result ≡ 168 + 4 * (chains + 1) }
+{
+    168 + 4 * (chains as u64 + 1)
+}
+
 /// Whether a file of `len` bytes and of so many chains ends within a word, or before its records begin.
 pub(crate) fn is_short(len: u64, chains: u32) -> bool
     ensures { result ≡ is_short_length chains len }
 {
-    len % 4 != 0 || len < 168 + 4 * (chains as u64 + 1)
+    len % 4 != 0 || len < records_start(chains)
 }
 
 /// What the header of a file says, or what is wrong with its front: the first of too few bytes for a header, a fault of the

@@ -10,6 +10,7 @@ ghost use Rattle.tdb_check.specs.Stray.{is_content, NoContent, FirstContent, NoS
 ghost use Rattle.tdb_check.specs.Unchanged.{Unchanged, IoCause};
 
 use crate::extent::Extent;
+use crate::front::records_start;
 use crate::refusal::CheckRefusal;
 use tdb_space::Space;
 use tdb_words::{PADDING, What};
@@ -68,7 +69,7 @@ pub fn scan<S: Space>(s: &mut S, len: u64, extents: &[Extent]) -> Result<u64, Ch
     ensures cause { IoCause (S.faults s.old) (S.faults s.new) result }
 {
     let mut block = [0u8; BLOCK];
-    let mut from = 168 + 4 * (s.hash_size() as u64 + 1);
+    let mut from = records_start(s.hash_size());
     let mut dead = 0u64;
     for e in extents {
         let to = (e.off as u64).min(len);
