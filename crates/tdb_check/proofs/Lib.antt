@@ -15,3 +15,5 @@ pub mod Keeping
 pub mod ChainRecords
 pub mod ChainWalks
 pub mod ChainsWalk
+pub mod DeadTails
+pub mod Showing

@@ -12,3 +12,4 @@ pub mod Trail
 pub mod FirstOffsets
 pub mod Keys
 pub mod Notes
+pub mod Tails

@@ -1,11 +1,14 @@
 // The walk along one chain.
 
-ghost use Rattle.std.specs.Prelude.{◌≡◌, ℕ, ◌+◌, ◌<◌, ◌≤◌, ◌==◌, if◌then◌else◌, List, [], IsTrue, length, Some, IfOk, IfErr};
+ghost use Rattle.std.specs.Prelude.{◌≡◌, ℕ, ◌+◌, ◌<◌, ◌≤◌, ◌==◌, if◌then◌else◌, List, [], ◌∷◌, ◌++◌, IsTrue, length, Some, IfOk, IfErr, OnOk};
 ghost use Rattle.tdb_words.specs.Word.{word};
 ghost use Rattle.tdb_space.specs.Form.{Form, data_start, chain_head};
 ghost use Rattle.tdb_space.specs.FirstFault.{chain_number, record_fault, FirstInList};
 ghost use Rattle.tdb_check.specs.Seen.{Names};
 ghost use Rattle.tdb_check.specs.Followed.{ChainFollowed};
+ghost use Rattle.tdb_space.specs.Extents.{Extent as Held};
+ghost use Rattle.tdb_check.specs.Extent.{extents_seen};
+ghost use Rattle.tdb_check.specs.Tails.{TailsOf};
 ghost use Rattle.tdb_check.specs.Notes.{NotesOf, RecordPassed};
 ghost use Rattle.tdb_check.specs.Unchanged.{Unchanged, IoCause};
 
@@ -16,8 +19,9 @@ use crate::keys::Keys;
 use crate::list_kind::ListKind;
 use crate::record::read_record;
 use crate::refusal::CheckRefusal;
+use crate::tails::Tails;
 use crate::trail::Trail;
-use std::alloc::Global;
+use std::alloc::{AllocError, Global};
 use tdb_space::Space;
 use tdb_words::{Rec, USED, What};
 
@@ -29,24 +33,53 @@ pub struct Notes {
 
     /// Their keys.
     keys: Keys,
+
+    /// The extents of the dead ones behind the last used one.
+    dead: Vec<Extent>,
+
+    /// The dead records at the ends of the chains before.
+    tails: Tails,
 }
 
 impl Notes {
     /// Notes of no record. They take no memory.
-    pub fn new(alloc: Global) -> Self {
+    pub fn new(alloc: Global) -> Self
+        ensures { (f : Form) (img : List ℕ) (seen : List Held) → TailsOf f img seen result.tails }
+    {
         Notes {
             offsets: Trail::new(alloc),
             keys: Keys::new(alloc),
+            dead: Vec::new(alloc),
+            tails: Tails::new(alloc),
         }
     }
 
-    /// Forgets all records.
+    /// Forgets the records of the chain, but not those at the ends of chains.
     fn clear(&mut self)
-        ensures { (f : Form) (img : List ℕ) → NotesOf f img [] self.new }
+        ensures none { (f : Form) (img : List ℕ) → NotesOf f img [] self.new }
+        ensures tails { self.new.tails ≡ self.old.tails }
     {
         self.offsets.clear();
         self.keys.clear();
+        self.dead.clear();
     }
+}
+
+/// Puts a dead record down behind the others; a used one ends them.
+fn note_dead(dead: &mut Vec<Extent>, at: u32, r: &Rec) -> Result<(), AllocError>
+    ensures { OnOk result (dead.new.items ≡ (if r.now.magic == USED then [] else dead.old.items ++ (record { off = at; rec_len = r.now.rec_len }) ∷ [])) }
+{
+    if r.magic == USED {
+        dead.clear();
+        return Ok(());
+    }
+    put(
+        dead,
+        Extent {
+            off: at,
+            rec_len: r.rec_len,
+        },
+    )
 }
 
 /// The header of the record that the word at a place of chain `j` leads to, after those noted; or the first that is wrong with it:
@@ -65,6 +98,7 @@ fn pass_record<S: Space>(
         → RecordPassed (S.form s.old) j (S.image s.old) xs place at r notes.new) }
     ensures bad { IfErr result (λ e. IsTrue S.tells → length (S.image s.old) ≡ len → (xs : List ℕ) → NotesOf (S.form s.old) (S.image s.old) xs notes.old
         → Names e (λ fault. record_fault (S.form s.old) (chain_number j) (S.image s.old) xs place at ≡ Some fault)) }
+    ensures tails { notes.new.tails ≡ notes.old.tails }
     ensures still { Unchanged (S.size s.old) (S.size s.new) (S.image s.old) (S.image s.new) (S.form s.old) (S.form s.new) (S.spare s.old) (S.spare s.new) (S.disk_history s.old) (S.disk_history s.new) (S.under s.old) (S.under s.new) }
     ensures cause { IoCause (S.faults s.old) (S.faults s.new) result }
 {
@@ -95,6 +129,7 @@ fn pass_record<S: Space>(
         });
     }
     notes.offsets.note(at)?;
+    note_dead(&mut notes.dead, at, &r)?;
     Ok(r)
 }
 
@@ -107,7 +142,8 @@ fn used_count(r: &Rec) -> u64
 }
 
 /// Follows chain `j` from the first word that its head holds to its end, and puts the extents of its records behind those that are
-/// there. Answers how many of the records are used, or what is first wrong with the chain.
+/// there. Answers how many of the records are used, or what is first wrong with the chain. Where the rest of it is known, as the
+/// end of an earlier chain, only the least extent of the rest is put down, once more.
 pub fn follow_chain<S: Space>(
     s: &mut S,
     len: u64,
@@ -121,7 +157,9 @@ pub fn follow_chain<S: Space>(
     requires chains { 0 < (S.form s.old).chains }
     requires number { j < (S.form s.old).chains }
     ensures sound { IfOk result (λ live. IsTrue S.tells → length (S.image s.old) ≡ len → word (S.form s.old).order (S.image s.old) (chain_head j) ≡ first
-        → ChainFollowed (S.form s.old) j (S.image s.old) extents.old.items extents.new.items live) }
+        → TailsOf (S.form s.old) (S.image s.old) (extents_seen extents.old.items) notes.old.tails
+        → ChainFollowed (S.form s.old) j (S.image s.old) extents.old.items extents.new.items live
+        × TailsOf (S.form s.old) (S.image s.old) (extents_seen extents.new.items) notes.new.tails) }
     ensures bad { IfErr result (λ e. IsTrue S.tells → length (S.image s.old) ≡ len → word (S.form s.old).order (S.image s.old) (chain_head j) ≡ first
         → Names e (FirstInList (S.form s.old) (chain_number j) (S.image s.old) (chain_head j))) }
     ensures count { IfOk result (λ live. live + length extents.old.items ≤ length extents.new.items) }
@@ -137,6 +175,12 @@ pub fn follow_chain<S: Space>(
     let mut live = 0u64;
     for _turn in 0..len {
         if at == 0 {
+            notes.tails.keep(&mut notes.dead, None)?;
+            return Ok(live);
+        }
+        if let Some(least) = notes.tails.least_from(at) {
+            notes.tails.keep(&mut notes.dead, Some(least))?;
+            put(extents, least)?;
             return Ok(live);
         }
         let r = match pass_record(s, len, j, place, at, notes) {

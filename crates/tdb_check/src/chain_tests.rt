@@ -141,19 +141,34 @@ fn follows_a_long_chain(rt: HostRuntime) -> Result<(), Fail> {
     Ok(())
 }
 
-// Two chains with one dead record, and a used record in a chain that isn't its own.
+// Two chains that lead to dead records at 180 and 212, of which the second comes first, and a used record in a chain that isn't its
+// own. Of what both lead to, the least extent is put down again.
 #[test]
 fn follows_two_chains(rt: HostRuntime) -> Result<(), Fail> {
     let alloc = rt.alloc();
-    let dead = [Link {
-        next: 0,
-        key: *b"aa",
-        magic: DEAD,
-    }];
-    let shared = file(alloc, &[180, 180], &dead)?;
-    let (followed, offsets) = follow(alloc, &shared, 2)?;
-    assert_eq!(rt; followed, Ok(0));
-    assert_eq!(rt; offsets.as_slice(), [180, 180].as_slice());
+    for (heads, want) in [
+        ([212, 212], [212, 180, 180].as_slice()),
+        ([212, 180], [212, 180, 180].as_slice()),
+        ([180, 212], [180, 212, 180].as_slice()),
+        ([212, 0], [212, 180].as_slice()),
+    ] {
+        let dead = [
+            Link {
+                next: 0,
+                key: *b"aa",
+                magic: DEAD,
+            },
+            Link {
+                next: 180,
+                key: *b"aa",
+                magic: DEAD,
+            },
+        ];
+        let shared = file(alloc, &heads, &dead)?;
+        let (followed, offsets) = follow(alloc, &shared, 2)?;
+        assert_eq!(rt; followed, Ok(0));
+        assert_eq!(rt; offsets.as_slice(), want);
+    }
     let used = [Link {
         next: 0,
         key: *b"aa",

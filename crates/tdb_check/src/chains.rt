@@ -3,6 +3,8 @@
 ghost use Rattle.std.specs.Prelude.{◌≡◌, ℕ, ◌+◌, ◌*◌, ◌^◌, ◌<◌, ◌≤◌, List, IsTrue, length, take, drop, IfOk, IfErr};
 ghost use Rattle.tdb_space.specs.Form.{data_start, chain_head};
 ghost use Rattle.tdb_check.specs.Seen.{Names};
+ghost use Rattle.tdb_check.specs.Extent.{extents_seen};
+ghost use Rattle.tdb_check.specs.Tails.{TailsOf};
 ghost use Rattle.tdb_check.specs.Chains.{ChainsTo, ChainsFollowed, FirstInChains};
 ghost use Rattle.tdb_check.specs.Unchanged.{Unchanged, IoCause};
 ghost use Rattle.tdb_check.specs.declared.extent.Extent.{Extent};
@@ -35,9 +37,12 @@ fn follow_block<S: Space>(
     requires block { length heads.now ≡ 4 * count }
     ensures sound { IfOk result (λ live. IsTrue S.tells → length (S.image s.old) ≡ len → heads.now ≡ take (4 * count) (drop (chain_head first) (S.image s.old))
         → (before : List Extent) (n : ℕ) → ChainsTo (S.form s.old) (S.image s.old) first before extents.old.items n
-        → ChainsTo (S.form s.old) (S.image s.old) (first + count) before extents.new.items (n + live)) }
+        → TailsOf (S.form s.old) (S.image s.old) (extents_seen extents.old.items) notes.old.tails
+        → ChainsTo (S.form s.old) (S.image s.old) (first + count) before extents.new.items (n + live)
+        × TailsOf (S.form s.old) (S.image s.old) (extents_seen extents.new.items) notes.new.tails) }
     ensures bad { IfErr result (λ e. IsTrue S.tells → length (S.image s.old) ≡ len → heads.now ≡ take (4 * count) (drop (chain_head first) (S.image s.old))
         → (before : List Extent) (n : ℕ) → ChainsTo (S.form s.old) (S.image s.old) first before extents.old.items n
+        → TailsOf (S.form s.old) (S.image s.old) (extents_seen extents.old.items) notes.old.tails
         → Names e (FirstInChains (S.form s.old) (S.image s.old))) }
     ensures count { IfOk result (λ live. live + length extents.old.items ≤ length extents.new.items) }
     ensures still { Unchanged (S.size s.old) (S.size s.new) (S.image s.old) (S.image s.new) (S.form s.old) (S.form s.new) (S.spare s.old) (S.spare s.new) (S.disk_history s.old) (S.disk_history s.new) (S.under s.old) (S.under s.new) }
@@ -57,9 +62,11 @@ fn follow_block<S: Space>(
 }
 
 /// Follows chains 0, 1, 2 and so on to their ends, puts the extents of their records behind those that are there, and answers how
-/// many of the records are used; or answers what is first wrong with a chain. The heads are read 4096 bytes at a time; a head of 0
-/// costs nothing more. Of each record an extent of 8 bytes is kept, and of the longest chain its offsets and hashes besides; a chain
-/// of n records takes n log n steps. Where two records of a chain have one hash, their keys are read and kept up to its end.
+/// many of the records are used; or answers what is first wrong with a chain. Where a chain leads to dead records at the end of an
+/// earlier one, only the least of their extents is put down once more. The heads are read 4096 bytes at a time; a head of 0 costs
+/// nothing more. Of each record an extent of 8 bytes is kept, of the longest chain its offsets and hashes besides, and an extent for
+/// each dead record behind the last used one of its chain. For n records in all it takes n log n steps, whatever the chains share.
+/// Where two records of a chain have one hash, their keys are read, each once, and kept up to its end.
 pub fn follow_chains<S: Space>(
     alloc: Global,
     s: &mut S,

@@ -17,6 +17,7 @@ mod lists;
 mod record;
 mod refusal;
 mod report;
+mod tails;
 #[cfg(test)]
 mod report_tests;
 mod stray;

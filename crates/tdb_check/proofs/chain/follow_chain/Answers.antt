@@ -1,16 +1,19 @@
 -- Each way out of the walk, from what was followed so far.
-use Rattle.std.proofs.Common.{◌≡◌, ◌∷◌, [], ◌+◌, ◌<◌, Some, length, length-append, sym, ◌∙◌, ap, arith, rules}
+use Rattle.std.proofs.Common.{◌≡◌, ◌∷◌, [], ◌+◌, ◌<◌, None, Some, length, length-append, sym, ◌∙◌, ap, subst, arith, rules}
 use Rattle.tdb_space.specs.Form.{chain_head}
 use Rattle.tdb_space.specs.FirstFault.{chain_number, FirstInList, record_fault}
+use Rattle.tdb_check.specs.Extent.{extents_seen}
+use Rattle.tdb_check.specs.Tails.{least_from, KnownTail, TailsOf, Closing}
 use Rattle.tdb_check.specs.Notes.{NotesOf, RecordPassed}
 use Rattle.tdb_check.proofs.Following.{names_then}
 use Rattle.tdb_check.proofs.ChainRecords.{same_view}
-use Rattle.tdb_check.proofs.ChainWalks.{chain_none, going_start, going_end, going_fault, going_never, going_more}
+use Rattle.tdb_check.proofs.ChainWalks.{chain_none, going_start, going_end, going_fault, going_never, going_more, going_tail, going_closing, going_known, tails_put}
 use Rattle.tdb_check.proofs.chain.follow_chain.Goals as goal
 
 pub loop-turn-init : goal.loop-turn-init
 loop-turn-init g c = record {
-  going = λ told long is. going_start (g.S.Space.form c.args.s.now) c.args.j (g.S.Space.image c.args.s.now) c.clear.new.self c.args.extents.now.items c.args.first is (c.clear.ensures (g.S.Space.form c.args.s.now) (g.S.Space.image c.args.s.now));
+  going = λ told long is. going_start (g.S.Space.form c.args.s.now) c.args.j (g.S.Space.image c.args.s.now) c.clear.new.self c.args.extents.now.items c.args.first is (c.clear.ensures.none (g.S.Space.form c.args.s.now) (g.S.Space.image c.args.s.now));
+  tails = search rules;
   turns = search rules;
   count = search rules;
   still = search rules;
@@ -18,8 +21,38 @@ loop-turn-init g c = record {
 }
 
 pub returns-then-at-eq0-clause-sound : goal.returns-then-at-eq0-clause-sound
-returns-then-at-eq0-clause-sound g c told long is =
-    going_end (g.S.Space.form c.args.s.now) c.args.j (g.S.Space.image c.args.s.now) c.loop-turn.notes c.args.extents.now.items c.loop-turn.extents.items c.loop-turn.live c.loop-turn._turn c.loop-turn.place c.loop-turn.at (c.loop-turn.invariant.going told long is) c.if-at-eq0.true
+returns-then-at-eq0-clause-sound g c told long is tails =
+    let f = g.S.Space.form c.args.s.now in
+    let img = g.S.Space.image c.args.s.now in
+    let old = c.args.extents.now.items in
+    let new = c.loop-turn.extents.items in
+    let v = c.loop-turn.invariant in
+    let h = v.going told long is in
+    let here : TailsOf f img (extents_seen old) c.loop-turn.notes.tails = subst (TailsOf f img (extents_seen old)) (sym v.tails) tails in
+    let closing : Closing f img (extents_seen new) c.loop-turn.notes.tails c.loop-turn.notes.dead.items None =
+    going_closing f c.args.j img c.loop-turn.notes old new c.loop-turn.live c.loop-turn._turn c.loop-turn.place c.loop-turn.at h c.loop-turn.notes.tails None c.if-at-eq0.true here in (
+      going_end f c.args.j img c.loop-turn.notes old new c.loop-turn.live c.loop-turn._turn c.loop-turn.place c.loop-turn.at h c.if-at-eq0.true,
+      c.in_ok-keep.ensures f img (extents_seen new) closing,
+    )
+
+pub returns-in-Some-clause-sound : goal.returns-in-Some-clause-sound
+returns-in-Some-clause-sound g c told long is tails =
+    let f = g.S.Space.form c.args.s.now in
+    let img = g.S.Space.image c.args.s.now in
+    let old = c.args.extents.now.items in
+    let new = c.loop-turn.extents.items in
+    let v = c.loop-turn.invariant in
+    let h = v.going told long is in
+    let here : TailsOf f img (extents_seen old) c.loop-turn.notes.tails = subst (TailsOf f img (extents_seen old)) (sym v.tails) tails in
+    let found : least_from c.loop-turn.notes.tails c.loop-turn.at ≡ Some c.in-Some.least = sym c.least_from.ensures ∙ c.in-Some.is in
+    let known : KnownTail f img (extents_seen new) c.loop-turn.at c.in-Some.least =
+    going_tail f c.args.j img c.loop-turn.notes old new c.loop-turn.live c.loop-turn._turn c.loop-turn.place c.loop-turn.at h c.loop-turn.notes.tails here c.in-Some.least found in
+    let closing : Closing f img (extents_seen new) c.loop-turn.notes.tails c.loop-turn.notes.dead.items (Some c.in-Some.least) =
+    going_closing f c.args.j img c.loop-turn.notes old new c.loop-turn.live c.loop-turn._turn c.loop-turn.place c.loop-turn.at h c.loop-turn.notes.tails (Some c.in-Some.least) known here in
+    let put = c.in_ok-put.ensures.ok in (
+      going_known f c.args.j img c.loop-turn.notes old new c.loop-turn.live c.loop-turn._turn c.loop-turn.place c.loop-turn.at h c.in-Some.least c.put.new.extents.items known put,
+      tails_put f img new c.put.new.extents.items c.in-Some.least c.keep-in-Some.new.self put (c.in_ok-keep-2.ensures f img (extents_seen new) closing),
+    )
 
 pub returns-in-Err-clause-bad : goal.returns-in-Err-clause-bad
 returns-in-Err-clause-bad g c told long is =
@@ -42,7 +75,7 @@ loop-turn-preserved g c =
     let f2 = g.S.Space.form c.loop-turn.s in
     let img2 = g.S.Space.image c.loop-turn.s in
     let v = c.loop-turn.invariant in
-    let put = c.in_ok-put.ensures.ok in
+    let put = c.in_ok-put-2.ensures.ok in
     let longer = ap length put ∙ length-append c.loop-turn.extents.items ((record { off = c.loop-turn.at; rec_len = c.in-Ok.r.rec_len }) ∷ []) in
     record {
       going = λ told long is.
@@ -53,7 +86,8 @@ loop-turn-preserved g c =
           let here : RecordPassed f c.args.j img h.xs c.loop-turn.place c.loop-turn.at c.in-Ok.r c.pass_record.new.notes =
           same_view (λ k i. RecordPassed k c.args.j i h.xs c.loop-turn.place c.loop-turn.at c.in-Ok.r c.pass_record.new.notes) f2 f img2 img (sym v.still.same_form) (sym v.still.same_image) there in
           going_more f c.args.j img c.loop-turn.notes c.args.extents.now.items c.loop-turn.extents.items c.loop-turn.live c.loop-turn._turn c.loop-turn.place c.loop-turn.at h
-          c.pass_record.new.notes c.put.new.extents.items (c.loop-turn.live + c.used_count-live.result) c.in-Ok.r c.if-at-eq0.false here put (ap (λ n. c.loop-turn.live + n) c.used_count-live.ensures.one));
+          c.pass_record.new.notes c.put-in-loop-turn.new.extents.items (c.loop-turn.live + c.used_count-live.result) c.in-Ok.r c.if-at-eq0.false here put (ap (λ n. c.loop-turn.live + n) c.used_count-live.ensures.one));
+      tails = search rules;
       turns = omega (arith, v.turns, c.used_count-live.ensures.at_most);
       count = omega (arith, v.count, c.used_count-live.ensures.at_most, longer);
       still = search rules;
@@ -69,5 +103,5 @@ returns-clause-bad g c told long is =
     absurd (going_never f c.args.j img c.loop-turn.notes c.args.extents.now.items c.loop-turn.extents.items c.loop-turn.live c.loop-turn._turn c.loop-turn.place c.loop-turn.at (c.loop-turn.invariant.going told long is) some turns)
 
 pub returns-then-first-eq0-clause-sound : goal.returns-then-first-eq0-clause-sound
-returns-then-first-eq0-clause-sound g c told long is =
-    chain_none (g.S.Space.form c.args.s.now) c.args.j (g.S.Space.image c.args.s.now) c.args.extents.now.items (is ∙ c.if-first-eq0.true)
+returns-then-first-eq0-clause-sound g c told long is tails =
+    (chain_none (g.S.Space.form c.args.s.now) c.args.j (g.S.Space.image c.args.s.now) c.args.extents.now.items (is ∙ c.if-first-eq0.true), tails)

@@ -10,6 +10,7 @@ abbrev pub invariant-loop-turn : goal.invariant-loop-turn
 invariant-loop-turn g l = record {
   going : IsTrue g.S.Space.tells → length (g.S.Space.image l.fn.s) ≡ l.len → word (g.S.Space.form l.fn.s).order (g.S.Space.image l.fn.s) (chain_head l.j) ≡ l.first
       → ChainGoing (g.S.Space.form l.fn.s) l.j (g.S.Space.image l.fn.s) l.notes l.fn.extents.items l.extents.items l.live l._turn l.place l.at;
+  tails : l.notes.tails ≡ l.fn.notes.tails;
   turns : l.live ≤ l._turn;
   count : l.live + length l.fn.extents.items ≤ length l.extents.items;
   still : Unchanged (g.S.Space.size l.fn.s) (g.S.Space.size l.s) (g.S.Space.image l.fn.s) (g.S.Space.image l.s) (g.S.Space.form l.fn.s) (g.S.Space.form l.s) (g.S.Space.spare l.fn.s) (g.S.Space.spare l.s) (g.S.Space.disk_history l.fn.s) (g.S.Space.disk_history l.s) (g.S.Space.under l.fn.s) (g.S.Space.under l.s);

@@ -10,6 +10,7 @@ use Rattle.tdb_check.specs.Keys.{Keyed, KeptIn, TwinTold}
 use Rattle.tdb_check.proofs.Areas.{out_is, not_true}
 use Rattle.tdb_check.proofs.Following.{fault_none, any_more}
 use Rattle.tdb_check.proofs.ChainRecords.{same_view, keyed_where, fault_twin}
+use Rattle.tdb_check.proofs.ChainWalks.{dead_more}
 use Rattle.tdb_check.proofs.chain.pass_record.Goals as goal
 
 pub returns-then-twin-clause-bad : goal.returns-then-twin-clause-bad
@@ -62,5 +63,6 @@ returns-clause-good g c told long xs noted =
       noted = record {
         offsets = λ q. c.in_ok-note.ensures q ∙ ap (λ b. eqb q c.args.at || b) (noted.offsets q) ∙ any_more q c.args.at xs;
         keys = twin.kept c.if-twin.false;
+        dead = dead_more f img xs c.args.at c.in-Ok.r c.args.notes.now.dead.items c.note_dead.new.dead.items noted.dead good.1 c.in_ok-note_dead.ensures;
       };
     }

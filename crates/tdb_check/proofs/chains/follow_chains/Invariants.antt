@@ -1,5 +1,7 @@
 -- The chains of the blocks so far were followed.
 use Rattle.std.proofs.Common.{◌≡◌, ◌+◌, ◌-◌, ◌≤◌, IsTrue, length}
+use Rattle.tdb_check.specs.Extent.{extents_seen}
+use Rattle.tdb_check.specs.Tails.{TailsOf}
 use Rattle.tdb_check.specs.Chains.{ChainsTo}
 use Rattle.tdb_check.specs.Unchanged.{Unchanged}
 use Rattle.tdb_check.proofs.chains.follow_chains.Given as goal
@@ -10,7 +12,8 @@ decreases-loop-first g l = l.chains - l.first
 abbrev pub invariant-loop-first : goal.invariant-loop-first
 invariant-loop-first g l = record {
   followed : IsTrue g.S.Space.tells → length (g.S.Space.image l.fn.s) ≡ l.len
-      → ChainsTo (g.S.Space.form l.fn.s) (g.S.Space.image l.fn.s) l.first l.fn.extents.items l.extents.items l.live;
+      → ChainsTo (g.S.Space.form l.fn.s) (g.S.Space.image l.fn.s) l.first l.fn.extents.items l.extents.items l.live
+      × TailsOf (g.S.Space.form l.fn.s) (g.S.Space.image l.fn.s) (extents_seen l.extents.items) l.notes.tails;
   within : l.first ≤ l.chains;
   count : l.live + length l.fn.extents.items ≤ length l.extents.items;
   still : Unchanged (g.S.Space.size l.fn.s) (g.S.Space.size l.s) (g.S.Space.image l.fn.s) (g.S.Space.image l.s) (g.S.Space.form l.fn.s) (g.S.Space.form l.s) (g.S.Space.spare l.fn.s) (g.S.Space.spare l.s) (g.S.Space.disk_history l.fn.s) (g.S.Space.disk_history l.s) (g.S.Space.under l.fn.s) (g.S.Space.under l.s);
