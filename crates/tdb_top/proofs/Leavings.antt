@@ -1,17 +1,19 @@
 -- What a run leaves of the files, from what its parts leave.
 use Rattle.std.proofs.Common.{◌≡◌, ◌⊎◌, ℕ, List, Option, None, Some, refl, sym, ◌∙◌, ap, subst, inl, inr, arith}
 use Rattle.tdb_disk.specs.History.{History, seen}
-use Rattle.tdb_disk.specs.Names.{SameAll}
+use Rattle.tdb_disk.specs.Names.{SameAll, SameBut}
 use Rattle.tdb_space.specs.Form.{form_of}
 use Rattle.tdb_space.specs.Accepted.{Accept}
+use Rattle.tdb_words.specs.declared.word.Order.{Order}
+use Rattle.tdb_words.specs.declared.hash.HashKind.{HashKind}
 use Rattle.tdb_top.specs.declared.halt.Halt.{Halt}
 use Rattle.tdb_top.specs.declared.halt.Halt.TheVariants.{Refused, Device, Memory}
 use Rattle.tdb_top.specs.declared.insert.Inserted.{Inserted}
 use Rattle.tdb_top.specs.declared.insert.Inserted.TheVariants.{Done, Exists, Full}
-use Rattle.tdb_top.specs.CommandLine.{Line, show, insert, IsLine}
+use Rattle.tdb_top.specs.CommandLine.{Line, show, insert, create, check, IsLine}
 use Rattle.tdb_top.specs.Ending.{Ending, shown, no_key, insert_ends, no_line, refused, device_fault, no_memory, missing, ending_of, of_halt, status_of, Output, Prints}
 use Rattle.tdb_top.specs.Insert.{need_for, inserted, IsInserted, HasAdded}
-use Rattle.tdb_top.specs.Left.{Gained, Interrupted, AddLeaves, NameLeft, LineLeaves, WordsLeave, Keeps, KeepsAll, RunLeaves}
+use Rattle.tdb_top.specs.Left.{Gained, Interrupted, AddLeaves, NameLeft, CreateLeft, LineLeaves, MayChange, WordsLeave, Keeps, KeepsAll, RunLeaves}
 use Rattle.tdb_top.proofs.Held.{same_or_other}
 use Rattle.tdb_top.proofs.Inserts.{nothing_done}
 use Rattle.tdb_top.proofs.OneLine.{line_one}
@@ -70,13 +72,30 @@ module _ (key value : List ℕ) where
   add_any old now no_key leaves = absurd leaves
   add_any old now no_line leaves = absurd leaves
 
+-- an ending of the making of a file after which all is as before
+create_kept : (size : ℕ) (hash : HashKind) (order : Order) (held now : Option History) (e : Ending) → CreateLeft size hash order held e now → Keeps e → now ≡ held
+create_kept size hash order held now device_fault left keeps = absurd (keeps.1 refl)
+create_kept size hash order held now no_memory left keeps = left
+create_kept size hash order held now (insert_ends inserted) left keeps = absurd left
+create_kept size hash order held now refused left keeps = absurd left
+create_kept size hash order held now (missing name) left keeps = absurd left
+create_kept size hash order held now (shown bytes) left keeps = absurd left
+create_kept size hash order held now no_key left keeps = absurd left
+create_kept size hash order held now no_line left keeps = absurd left
+
+-- a file that changes at most at its name, and not there
+but_same : (file : List ℕ) (old now : List ℕ → Option History) → SameBut file old now → now file ≡ old file → SameAll old now
+but_same file old now others same = λ name. elim (same_or_other name file) [
+  | inl here ↦ ap now here ∙ same ∙ ap old (sym here)
+  | inr apart ↦ others name apart
+]
+
 -- a line after whose ending all is as before
 pub line_kept : (line : Line) (old now : List ℕ → Option History) (e : Ending) → LineLeaves line old e now → Keeps e → SameAll old now
 line_kept (show file key) old now e left keeps = left
-line_kept (insert file key value) old now e left keeps = λ name. elim (same_or_other name file) [
-  | inl same ↦ ap now same ∙ name_kept key value (old file) (now file) e left.1 keeps ∙ ap old (sym same)
-  | inr apart ↦ left.0 name apart
-]
+line_kept (insert file key value) old now e left keeps = but_same file old now left.0 (name_kept key value (old file) (now file) e left.1 keeps)
+line_kept (create file size hash order) old now e left keeps = but_same file old now left.0 (create_kept size hash order (old file) (now file) e left.1 keeps)
+line_kept (check file) old now e left keeps = left
 
 -- what a line leaves is what its words leave
 pub words_left : (words : List (List ℕ)) (line : Line) (old now : List ℕ → Option History) (e : Ending) → IsLine words line → LineLeaves line old e now → WordsLeave words old e now
@@ -85,20 +104,11 @@ words_left words line old now e reading left = record {
   others = others line reading left;
 }
   where
-    others : (line : Line) → IsLine words line → LineLeaves line old e now → (name : List ℕ) → ((key value : List ℕ) → IsLine words (insert name key value) → ⊥) → now name ≡ old name
+    others : (line : Line) → IsLine words line → LineLeaves line old e now → (name : List ℕ) → ((asked : Line) → IsLine words asked → MayChange asked name → ⊥) → now name ≡ old name
     others (show file key) reading left name none = left name
-    others (insert file key value) reading left name none = left.0 name (λ same. none key value (subst (λ n. IsLine words (insert n key value)) (sym same) reading))
-
--- words that changed nothing
-pub words_same : (words : List (List ℕ)) (old now : List ℕ → Option History) (e : Ending) → SameAll old now → ((file key value : List ℕ) → IsLine words (insert file key value) → (h : History) → AddLeaves key value h e h) → WordsLeave words old e now
-words_same words old now e same leaves = record {
-  lines = lines;
-  others = λ name none. same name;
-}
-  where
-    lines : (line : Line) → IsLine words line → LineLeaves line old e now
-    lines (show file key) reading = same
-    lines (insert file key value) reading = ((λ name apart. same name), name_same key value (old file) (now file) e (same file) (leaves file key value reading))
+    others (insert file key value) reading left name none = left.0 name (λ same. none (insert file key value) reading (sym same))
+    others (create file size hash order) reading left name none = left.0 name (λ same. none (create file size hash order) reading (sym same))
+    others (check file) reading left name none = left name
 
 -- what a run leaves of the file of an insert, by its status
 module _ (key value : List ℕ) (old now : History) (o : Output) where

@@ -14,3 +14,5 @@ pub mod OneAnswer
 pub mod Statuses
 pub mod Added
 pub mod Leavings
+pub mod NewFile
+pub mod MakesFile

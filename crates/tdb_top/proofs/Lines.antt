@@ -1,50 +1,54 @@
--- Lists of four words, and what such a list asks for.
-use Rattle.std.proofs.Common.{◌≡◌, ℕ, ◌<◌, ◌≤◌, List, [], ◌∷◌, map, length, get_or, sym, ◌∙◌, ap, subst, arith}
+-- The words of a command, from what stands at their places.
+use Rattle.std.proofs.Common.{◌≡◌, ℕ, ◌-◌, ◌≤◌, List, [], ◌∷◌, map, length, take, drop, get_or, sym, ◌∙◌, ap, subst, arith}
+use Rattle.std.specs.Prelude.{codes}
+use Rattle.std.proofs.lemmas.List.{length-drop}
+use Rattle.std.proofs.Math.Seq.{take-length}
 use Rattle.tdb_dump.specs.Word.{IsWord}
-use Rattle.tdb_top.specs.CommandLine.{show, insert, IsLine}
+use Rattle.tdb_top.specs.CommandLine.{tool_words, IsShow, IsInsert}
 
--- a list of four is made of what stands at its four places
-pub four_items : {A : Type 0} (xs : List A) (a b c d : A) → 4 ≤ length xs → length xs < 5 → a ≡ get_or xs 0 a → b ≡ get_or xs 1 b → c ≡ get_or xs 2 c → d ≡ get_or xs 3 d → xs ≡ a ∷ b ∷ c ∷ d ∷ []
-four_items [] a b c d low high ea eb ec ed = absurd (omega arith)
-four_items (x ∷ []) a b c d low high ea eb ec ed = absurd (omega arith)
-four_items (x ∷ y ∷ []) a b c d low high ea eb ec ed = absurd (omega arith)
-four_items (x ∷ y ∷ z ∷ []) a b c d low high ea eb ec ed = absurd (omega arith)
-four_items (x ∷ y ∷ z ∷ w ∷ []) a b c d low high ea eb ec ed = λ j. sym ea j ∷ sym eb j ∷ sym ec j ∷ sym ed j ∷ []
-four_items (x ∷ y ∷ z ∷ w ∷ v ∷ xs) a b c d low high ea eb ec ed = absurd (omega arith)
+-- a list of one, and of two
+pub one_item : {A : Type 0} (xs : List A) (a : A) → length xs ≡ 1 → a ≡ get_or xs 0 a → xs ≡ a ∷ []
+one_item [] a long ea = absurd (omega (arith, long))
+one_item (x ∷ []) a long ea = λ j. sym ea j ∷ []
+one_item (x ∷ y ∷ xs) a long ea = absurd (omega (arith, long))
 
--- what a function gives for four items, where it is known for the first three
-pub four_mapped : {A : Type 0} (f : A → List ℕ) (xs : List A) (a b c d : A) (x y z : List ℕ) → xs ≡ a ∷ b ∷ c ∷ d ∷ [] → f a ≡ x → f b ≡ y → f c ≡ z → map f xs ≡ x ∷ y ∷ z ∷ f d ∷ []
-four_mapped f xs a b c d x y z e ea eb ec = ap (map f) e ∙ (λ j. ea j ∷ eb j ∷ ec j ∷ f d ∷ [])
+pub two_items : {A : Type 0} (xs : List A) (a b : A) → length xs ≡ 2 → a ≡ get_or xs 0 a → b ≡ get_or xs 1 b → xs ≡ a ∷ b ∷ []
+two_items [] a b long ea eb = absurd (omega (arith, long))
+two_items (x ∷ []) a b long ea eb = absurd (omega (arith, long))
+two_items (x ∷ y ∷ []) a b long ea eb = λ j. sym ea j ∷ sym eb j ∷ []
+two_items (x ∷ y ∷ z ∷ xs) a b long ea eb = absurd (omega (arith, long))
 
--- a show of four words has a key, for which the last word stands
-pub key_of_show : (words : List (List ℕ)) (a b c d file key : List ℕ) → words ≡ a ∷ b ∷ c ∷ d ∷ [] → IsLine words (show file key) → IsWord d key
-key_of_show words a b c d file key e reading =
-    let last : reading.0 ≡ d = (let both : _ ∷ file ∷ _ ∷ reading.0 ∷ [] ≡ a ∷ b ∷ c ∷ d ∷ [] = sym reading.1 ∙ e in cc) in
-    subst (λ w. IsWord w key) last reading.4
+-- a list by its first item and the rest, and by its first three
+pub first_and_rest : {A : Type 0} (xs rest : List A) (a : A) → 1 ≤ length xs → a ≡ get_or xs 0 a → rest ≡ drop 1 xs → xs ≡ a ∷ rest
+first_and_rest [] rest a long ea er = absurd (omega (arith, long))
+first_and_rest (x ∷ xs) rest a long ea er = λ j. sym ea j ∷ sym er j
 
--- the same of lists of five words, and of inserts
-pub five_items : {A : Type 0} (xs : List A) (a b c d f : A) → length xs ≡ 5 → a ≡ get_or xs 0 a → b ≡ get_or xs 1 b → c ≡ get_or xs 2 c → d ≡ get_or xs 3 d → f ≡ get_or xs 4 f → xs ≡ a ∷ b ∷ c ∷ d ∷ f ∷ []
-five_items [] a b c d f long ea eb ec ed ef = absurd (omega (arith, long))
-five_items (x ∷ []) a b c d f long ea eb ec ed ef = absurd (omega (arith, long))
-five_items (x ∷ y ∷ []) a b c d f long ea eb ec ed ef = absurd (omega (arith, long))
-five_items (x ∷ y ∷ z ∷ []) a b c d f long ea eb ec ed ef = absurd (omega (arith, long))
-five_items (x ∷ y ∷ z ∷ w ∷ []) a b c d f long ea eb ec ed ef = absurd (omega (arith, long))
-five_items (x ∷ y ∷ z ∷ w ∷ v ∷ []) a b c d f long ea eb ec ed ef = λ j. sym ea j ∷ sym eb j ∷ sym ec j ∷ sym ed j ∷ sym ef j ∷ []
-five_items (x ∷ y ∷ z ∷ w ∷ v ∷ u ∷ xs) a b c d f long ea eb ec ed ef = absurd (omega (arith, long))
+pub three_and_rest : {A : Type 0} (xs rest : List A) (a b c : A) → 3 ≤ length xs → a ≡ get_or xs 0 a → b ≡ get_or xs 1 b → c ≡ get_or xs 2 c → rest ≡ drop 3 xs → xs ≡ a ∷ b ∷ c ∷ rest
+three_and_rest [] rest a b c long ea eb ec er = absurd (omega (arith, long))
+three_and_rest (x ∷ []) rest a b c long ea eb ec er = absurd (omega (arith, long))
+three_and_rest (x ∷ y ∷ []) rest a b c long ea eb ec er = absurd (omega (arith, long))
+three_and_rest (x ∷ y ∷ z ∷ xs) rest a b c long ea eb ec er = λ j. sym ea j ∷ sym eb j ∷ sym ec j ∷ sym er j
 
-pub five_mapped : {A : Type 0} (f : A → List ℕ) (xs : List A) (a b c d g : A) (x y z : List ℕ) → xs ≡ a ∷ b ∷ c ∷ d ∷ g ∷ [] → f a ≡ x → f b ≡ y → f c ≡ z → map f xs ≡ x ∷ y ∷ z ∷ f d ∷ f g ∷ []
-five_mapped f xs a b c d g x y z e ea eb ec = ap (map f) e ∙ (λ j. ea j ∷ eb j ∷ ec j ∷ f d ∷ f g ∷ [])
+-- what follows the first items of a list is what is dropped from it
+rest_whole : {A : Type 0} (n : ℕ) (xs : List A) → take (length xs - n) (drop n xs) ≡ drop n xs
+rest_whole n xs = ap (λ k. take k (drop n xs)) (sym (length-drop n xs)) ∙ take-length (drop n xs)
 
-pub words_of_insert : (words : List (List ℕ)) (a b c d g file key value : List ℕ) → words ≡ a ∷ b ∷ c ∷ d ∷ g ∷ [] → IsLine words (insert file key value) → IsWord d key × IsWord g value
-words_of_insert words a b c d g file key value e reading =
-    let both : _ ∷ file ∷ _ ∷ reading.0 ∷ reading.1 ∷ [] ≡ a ∷ b ∷ c ∷ d ∷ g ∷ [] = sym reading.2 ∙ e in
-    let first : reading.0 ≡ d = cc in
-    let second : reading.1 ≡ g = cc in
-    (subst (λ w. IsWord w key) first reading.6, subst (λ w. IsWord w value) second reading.7)
+-- the words of a command, from its first three and the rest
+pub words_of : {A : Type 0} (f : A → List ℕ) (words rest : List A) (tool file command : A) (name called : List ℕ) → 3 ≤ length words
+    → tool ≡ get_or words 0 tool → file ≡ get_or words 1 file → command ≡ get_or words 2 command → rest ≡ take (length words - 3) (drop 3 words)
+    → f tool ≡ codes "tool" → name ≡ f file → f command ≡ called → tool_words name called (map f rest) ≡ map f words
+words_of f words rest tool file command name called long et ef ec er first second third =
+    sym (ap (map f) (three_and_rest words rest tool file command long et ef ec (er ∙ rest_whole 3 words)) ∙ (λ j. first j ∷ sym second j ∷ third j ∷ map f rest))
 
--- a show has four words, and an insert five
-pub show_length : (words : List (List ℕ)) (file key : List ℕ) → IsLine words (show file key) → length words ≡ 4
-show_length words file key reading = ap length reading.1
+-- the word of a show's key, and those of an insert's key and value
+pub word_of_show : (arguments : List (List ℕ)) (a key : List ℕ) → arguments ≡ a ∷ [] → IsShow arguments key → IsWord a key
+word_of_show arguments a key is reading =
+    let both : reading.0 ∷ [] ≡ a ∷ [] = sym reading.1 ∙ is in
+    let same : reading.0 ≡ a = cc in subst (λ w. IsWord w key) same reading.3
 
-pub insert_length : (words : List (List ℕ)) (file key value : List ℕ) → IsLine words (insert file key value) → length words ≡ 5
-insert_length words file key value reading = ap length reading.2
+pub words_of_insert : (arguments : List (List ℕ)) (a b key value : List ℕ) → arguments ≡ a ∷ b ∷ [] → IsInsert arguments key value → IsWord a key × IsWord b value
+words_of_insert arguments a b key value is reading =
+    let both : reading.0 ∷ reading.1 ∷ [] ≡ a ∷ b ∷ [] = sym reading.2 ∙ is in
+    let first : reading.0 ≡ a = cc in
+    let second : reading.1 ≡ b = cc in
+    (subst (λ w. IsWord w key) first reading.5, subst (λ w. IsWord w value) second reading.6)

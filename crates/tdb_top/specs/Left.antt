@@ -5,7 +5,11 @@ use Rattle.tdb_disk.specs.Names.{SameAll, SameBut}
 use Rattle.tdb_space.specs.Form.{form_of}
 use Rattle.tdb_space.specs.Accepted.{Accept}
 use Rattle.tdb_top.specs.declared.insert.Inserted.TheVariants.{Done, Exists, Full}
-use Rattle.tdb_top.specs.CommandLine.{Line, show, insert, IsLine}
+use Rattle.tdb_words.specs.declared.word.Order.{Order}
+use Rattle.tdb_words.specs.declared.hash.HashKind.{HashKind}
+use Rattle.tdb_top.specs.declared.create.Creation.TheVariants.{Device, Memory}
+use Rattle.tdb_top.specs.CommandLine.{Line, show, insert, create, check, IsLine}
+use Rattle.tdb_top.specs.Create.{CreateLeaves}
 use Rattle.tdb_top.specs.Ending.{Ending, shown, no_key, insert_ends, no_line, refused, device_fault, no_memory, missing}
 use Rattle.tdb_top.specs.Insert.{need_for, inserted, BrokenOff, IsInserted, HasAdded}
 
@@ -37,15 +41,35 @@ abbrev pub NameLeft : List ℕ → List ℕ → Option History → Ending → Op
 NameLeft key value None e now = now ≡ None
 NameLeft key value (Some old) e now = (h : History) × (now ≡ Some h) × AddLeaves key value old e h
 
--- what answering a line leaves of the files: a show changes none, and an insert at most that of its name
+-- what making a file leaves at its name where it ends so; it doesn't end as other lines do
+abbrev pub CreateLeft : ℕ → HashKind → Order → Option History → Ending → Option History → Type 0
+CreateLeft size hash order old device_fault now = CreateLeaves size order hash old Device now
+CreateLeft size hash order old no_memory now = CreateLeaves size order hash old Memory now
+CreateLeft size hash order old (insert_ends inserted) now = ⊥
+CreateLeft size hash order old refused now = ⊥
+CreateLeft size hash order old (missing name) now = ⊥
+CreateLeft size hash order old (shown bytes) now = ⊥
+CreateLeft size hash order old no_key now = ⊥
+CreateLeft size hash order old no_line now = ⊥
+
+-- what answering a line leaves of the files: a show and a check change none, and an insert and a create at most that of their name
 abbrev pub LineLeaves : Line → (List ℕ → Option History) → Ending → (List ℕ → Option History) → Type 0
 LineLeaves (show file key) old e now = SameAll old now
 LineLeaves (insert file key value) old e now = SameBut file old now × NameLeft key value (old file) e (now file)
+LineLeaves (create file size hash order) old e now = SameBut file old now × CreateLeft size hash order (old file) e (now file)
+LineLeaves (check file) old e now = SameAll old now
+
+-- a line may change the file of this name: it adds a key to it, or makes it
+abbrev pub MayChange : Line → List ℕ → Type 0
+MayChange (show file key) name = ⊥
+MayChange (insert file key value) name = file ≡ name
+MayChange (create file size hash order) name = file ≡ name
+MayChange (check file) name = ⊥
 
 -- What answering words leaves of the files: words that ask for nothing change none.
 pub record WordsLeave (words : List (List ℕ)) (old : List ℕ → Option History) (e : Ending) (now : List ℕ → Option History) : Type 0 where
   pub lines : (line : Line) → IsLine words line → LineLeaves line old e now
-  pub others : (name : List ℕ) → ((key value : List ℕ) → IsLine words (insert name key value) → ⊥) → now name ≡ old name
+  pub others : (name : List ℕ) → ((line : Line) → IsLine words line → MayChange line name → ⊥) → now name ≡ old name
 
 -- an ending after which every file is as before, whatever the words ask for
 abbrev pub Keeps : Ending → Type 0

@@ -1,4 +1,5 @@
 pub mod CommandLine
+pub mod Create
 pub mod Walk
 pub mod Look
 pub mod Insert

@@ -2,6 +2,7 @@
 #![tactic(auto)]
 
 mod add;
+mod create;
 mod ending;
 mod front;
 mod halt;
@@ -19,3 +20,6 @@ pub use top::run;
 
 #[cfg(test)]
 mod tests;
+
+#[cfg(test)]
+mod create_tests;

@@ -1,17 +1,29 @@
 // Command lines: what the words after the program's name ask for.
 
-ghost use Rattle.std.specs.Prelude.{◌≡◌, ◌↔◌, List, ℕ, map, string_bytes, IsTrue, IfOk, IfErr};
+ghost use Rattle.std.specs.Prelude.{◌≡◌, ◌↔◌, ℕ, List, [], map, string_bytes, codes, IsTrue, IfOk, IfSome, None};
 ghost use Rattle.tdb_dump.specs.Word.{IsWord};
-ghost use Rattle.tdb_top.specs.CommandLine.{show, insert, asked_by, IsPosition, IsLine, HasNoLine};
+ghost use Rattle.tdb_words.specs.declared.hash.HashKind.{HashKind};
+ghost use Rattle.tdb_words.specs.declared.word.Order.{Order};
+ghost use Rattle.tdb_top.specs.CommandLine.{asked_by, hash_word, order_word, tool_words, IsPosition, IsShow, IsInsert, IsSize, IsOrder, IsHash, IsCreate, IsLine, HasNoLine};
 ghost use Rattle.tdb_top.specs.declared.line.LineRefusal.TheVariants.{NoLine};
 
-use std::alloc::Global;
+use crate::create::NewForm;
+use std::alloc::{AllocError, Global};
 use tdb_dump::{WordRefusal, word_bytes_of};
-use tdb_words::Bytes;
+use tdb_words::{Bytes, HashKind, Order};
 use thiserror::Error;
 
 /// The greatest length of a word, in bytes.
 pub const LONGEST_WORD: usize = 16_777_216;
+
+/// The greatest length of a number of chains, in digits.
+pub const LONGEST_SIZE: usize = 10;
+
+/// The number of chains of a new file where none is asked for.
+pub const DEFAULT_SIZE: u32 = 131;
+
+/// The greatest number of chains that a new file is made with.
+pub const MOST_CHAINS: u32 = 1_048_576;
 
 /// What a command line asks for.
 #[derive(Debug, Drop)]
@@ -28,6 +40,17 @@ pub(crate) enum Line {
         key: Bytes,
         value: Bytes,
     },
+
+    /// To make a file.
+    Create {
+        file: String,
+        form: NewForm,
+    },
+
+    /// To check a file.
+    Check {
+        file: String,
+    },
 }
 
 /// Why words are no command line.
@@ -38,6 +61,16 @@ pub(crate) enum LineRefusal {
     NoLine,
     #[error("out of memory")]
     Memory,
+}
+
+impl From<AllocError> for LineRefusal {
+    ghost use Rattle.tdb_top.specs.declared.line.LineRefusal.TheVariants.{Memory};
+
+    ghost from_gives = { λ _ refusal. refusal ≡ Memory };
+
+    fn from(_error: AllocError) -> Self {
+        LineRefusal::Memory
+    }
 }
 
 /// Whether a word is no option, and not too long.
@@ -59,50 +92,162 @@ fn bytes_of(alloc: Global, word: &str) -> Result<Bytes, LineRefusal>
     }
 }
 
-/// Reads the words of a show.
-fn show_line(alloc: Global, words: &[String]) -> Result<Line, LineRefusal>
-    ensures read { IfOk result (λ line. IsLine (map string_bytes words.now) (asked_by line)) }
-    ensures refused { result ≡ Err LineRefusal.NoLine → (file key : List ℕ) → IsLine (map string_bytes words.now) (show file key) → ⊥ }
+/// The key that a show asks for.
+fn shown_key(alloc: Global, arguments: &[String]) -> Result<Bytes, LineRefusal>
+    ensures read { IfOk result (λ key. IsShow (map string_bytes arguments.now) key) }
+    ensures refused { result ≡ Err LineRefusal.NoLine → (key : List ℕ) → IsShow (map string_bytes arguments.now) key → ⊥ }
 {
-    let [tool, file, show, word] = words else {
+    let [word] = arguments else {
         return Err(LineRefusal::NoLine);
     };
-    if tool.as_str() != "tool" || show.as_str() != "show" {
+    if !is_position(word.as_str()) {
         return Err(LineRefusal::NoLine);
     }
-    if !is_position(file.as_str()) || !is_position(word.as_str()) {
-        return Err(LineRefusal::NoLine);
-    }
-    let key = bytes_of(alloc, word.as_str())?;
-    match file.clone() {
-        Ok(file) => Ok(Line::Show { file, key }),
-        Err(_) => Err(LineRefusal::Memory),
-    }
+    bytes_of(alloc, word.as_str())
 }
 
-/// Reads the words of an insert.
-fn insert_line(alloc: Global, words: &[String]) -> Result<Line, LineRefusal>
-    ensures read { IfOk result (λ line. IsLine (map string_bytes words.now) (asked_by line)) }
-    ensures refused { result ≡ Err LineRefusal.NoLine → (file key value : List ℕ) → IsLine (map string_bytes words.now) (insert file key value) → ⊥ }
+/// The key that an insert is to add, and its value.
+fn inserted_pair(alloc: Global, arguments: &[String]) -> Result<(Bytes, Bytes), LineRefusal>
+    ensures read { IfOk result (λ pair. IsInsert (map string_bytes arguments.now) pair.0 pair.1) }
+    ensures refused { result ≡ Err LineRefusal.NoLine → (key value : List ℕ) → IsInsert (map string_bytes arguments.now) key value → ⊥ }
 {
-    let [tool, file, insert, first, second] = words else {
+    let [first, second] = arguments else {
         return Err(LineRefusal::NoLine);
     };
-    if tool.as_str() != "tool" || insert.as_str() != "insert" {
-        return Err(LineRefusal::NoLine);
-    }
-    if !is_position(file.as_str())
-        || !is_position(first.as_str())
-        || !is_position(second.as_str())
-    {
+    if !is_position(first.as_str()) || !is_position(second.as_str()) {
         return Err(LineRefusal::NoLine);
     }
     let key = bytes_of(alloc, first.as_str())?;
     let value = bytes_of(alloc, second.as_str())?;
-    match file.clone() {
-        Ok(file) => Ok(Line::Insert { file, key, value }),
-        Err(_) => Err(LineRefusal::Memory),
+    Ok((key, value))
+}
+
+/// The number of chains that a word writes.
+fn size_of(word: &str) -> Option<u32>
+    ensures read { IfSome result (λ size. IsSize word.now size) }
+    ensures refused { result ≡ None → (size : ℕ) → IsSize word.now size → ⊥ }
+{
+    if word.len() > LONGEST_SIZE || word.as_bytes().first() == Some(&b'+') {
+        return None;
     }
+    match word.parse::<u32>() {
+        Ok(size) if 1 <= size && size <= MOST_CHAINS => Some(size),
+        _ => None,
+    }
+}
+
+/// The byte order of a new file.
+fn order_of(arguments: &[String]) -> Option<Order>
+    ensures read { IfSome result (λ order. IsOrder (map string_bytes arguments.now) order) }
+    ensures refused { result ≡ None → (order : Order) → IsOrder (map string_bytes arguments.now) order → ⊥ }
+{
+    match arguments {
+        [] => Some(Order::Little),
+        [word] => order_named(word.as_str()),
+        _ => None,
+    }
+}
+
+/// The byte order of this name.
+fn order_named(word: &str) -> Option<Order>
+    ensures read { IfSome result (λ order. word.now ≡ order_word order) }
+    ensures refused { result ≡ None → (order : Order) → word.now ≡ order_word order → ⊥ }
+{
+    match word {
+        "little" => Some(Order::Little),
+        "big" => Some(Order::Big),
+        _ => None,
+    }
+}
+
+/// The hash of this name.
+fn hash_named(word: &str) -> Option<HashKind>
+    ensures read { IfSome result (λ hash. word.now ≡ hash_word hash) }
+    ensures refused { result ≡ None → (hash : HashKind) → word.now ≡ hash_word hash → ⊥ }
+{
+    match word {
+        "default" => Some(HashKind::Old),
+        "jenkins" => Some(HashKind::Jenkins),
+        _ => None,
+    }
+}
+
+/// The hash and the byte order of a new file.
+fn hash_of(arguments: &[String]) -> Option<(HashKind, Order)>
+    ensures read { IfSome result (λ named. IsHash (map string_bytes arguments.now) named.0 named.1) }
+    ensures refused { result ≡ None → (hash : HashKind) (order : Order) → IsHash (map string_bytes arguments.now) hash order → ⊥ }
+{
+    let [word, rest @ ..] = arguments else {
+        return Some((HashKind::Old, Order::Little));
+    };
+    let hash = hash_named(word.as_str())?;
+    let order = order_of(rest)?;
+    Some((hash, order))
+}
+
+/// What a create asks for.
+fn new_form(arguments: &[String]) -> Option<NewForm>
+    ensures read { IfSome result (λ form. IsCreate (map string_bytes arguments.now) form.size form.hash form.order) }
+    ensures refused { result ≡ None → (size : ℕ) (hash : HashKind) (order : Order) → IsCreate (map string_bytes arguments.now) size hash order → ⊥ }
+{
+    let [word, rest @ ..] = arguments else {
+        return Some(NewForm {
+            size: DEFAULT_SIZE,
+            hash: HashKind::Old,
+            order: Order::Little,
+        });
+    };
+    let size = size_of(word.as_str())?;
+    let (hash, order) = hash_of(rest)?;
+    Some(NewForm { size, hash, order })
+}
+
+/// Reads the arguments of a show.
+fn show_line(alloc: Global, file: &str, arguments: &[String]) -> Result<Line, LineRefusal>
+    requires { IsPosition file.now }
+    ensures read { IfOk result (λ line. IsLine (tool_words file.now (codes "show") (map string_bytes arguments.now)) (asked_by line)) }
+    ensures refused { result ≡ Err LineRefusal.NoLine → (key : List ℕ) → IsShow (map string_bytes arguments.now) key → ⊥ }
+{
+    let key = shown_key(alloc, arguments)?;
+    let file = String::from_str(alloc, file)?;
+    Ok(Line::Show { file, key })
+}
+
+/// Reads the arguments of an insert.
+fn insert_line(alloc: Global, file: &str, arguments: &[String]) -> Result<Line, LineRefusal>
+    requires { IsPosition file.now }
+    ensures read { IfOk result (λ line. IsLine (tool_words file.now (codes "insert") (map string_bytes arguments.now)) (asked_by line)) }
+    ensures refused { result ≡ Err LineRefusal.NoLine → (key value : List ℕ) → IsInsert (map string_bytes arguments.now) key value → ⊥ }
+{
+    let (key, value) = inserted_pair(alloc, arguments)?;
+    let file = String::from_str(alloc, file)?;
+    Ok(Line::Insert { file, key, value })
+}
+
+/// Reads the arguments of a create.
+fn create_line(alloc: Global, file: &str, arguments: &[String]) -> Result<Line, LineRefusal>
+    requires { IsPosition file.now }
+    ensures read { IfOk result (λ line. IsLine (tool_words file.now (codes "create") (map string_bytes arguments.now)) (asked_by line)) }
+    ensures refused { result ≡ Err LineRefusal.NoLine → (size : ℕ) (hash : HashKind) (order : Order) → IsCreate (map string_bytes arguments.now) size hash order → ⊥ }
+{
+    let Some(form) = new_form(arguments) else {
+        return Err(LineRefusal::NoLine);
+    };
+    let file = String::from_str(alloc, file)?;
+    Ok(Line::Create { file, form })
+}
+
+/// Reads the arguments of a check, which has none.
+fn check_line(alloc: Global, file: &str, arguments: &[String]) -> Result<Line, LineRefusal>
+    requires { IsPosition file.now }
+    ensures read { IfOk result (λ line. IsLine (tool_words file.now (codes "check") (map string_bytes arguments.now)) (asked_by line)) }
+    ensures refused { result ≡ Err LineRefusal.NoLine → map string_bytes arguments.now ≡ [] → ⊥ }
+{
+    if !arguments.is_empty() {
+        return Err(LineRefusal::NoLine);
+    }
+    let file = String::from_str(alloc, file)?;
+    Ok(Line::Check { file })
 }
 
 /// Reads the words of a command line.
@@ -110,9 +255,17 @@ pub(crate) fn line_of(alloc: Global, words: &[String]) -> Result<Line, LineRefus
     ensures read { IfOk result (λ line. IsLine (map string_bytes words.now) (asked_by line)) }
     ensures refused { result ≡ Err LineRefusal.NoLine → HasNoLine (map string_bytes words.now) }
 {
-    if words.len() == 5 {
-        insert_line(alloc, words)
-    } else {
-        show_line(alloc, words)
+    let [tool, file, command, arguments @ ..] = words else {
+        return Err(LineRefusal::NoLine);
+    };
+    if tool.as_str() != "tool" || !is_position(file.as_str()) {
+        return Err(LineRefusal::NoLine);
+    }
+    match command.as_str() {
+        "show" => show_line(alloc, file.as_str(), arguments),
+        "insert" => insert_line(alloc, file.as_str(), arguments),
+        "create" => create_line(alloc, file.as_str(), arguments),
+        "check" => check_line(alloc, file.as_str(), arguments),
+        _ => Err(LineRefusal::NoLine),
     }
 }

@@ -6,12 +6,12 @@ ghost use Rattle.tdb_disk.specs.Count.{Rose};
 ghost use Rattle.tdb_space.specs.Form.{form_of};
 ghost use Rattle.tdb_space.specs.Pairs.{map_of};
 ghost use Rattle.tdb_space.specs.Accepted.{IsFiled};
-ghost use Rattle.tdb_top.specs.CommandLine.{insert, length_in, asked_by, IsLine, HasNoLine};
+ghost use Rattle.tdb_top.specs.CommandLine.{Line as Asks, insert, length_in, asked_by, IsSized, IsLine, HasNoLine};
 ghost use Rattle.tdb_top.specs.Walk.{IsUsable};
 ghost use Rattle.tdb_top.specs.Ending.{Ending as Means, shown, no_key, insert_ends, no_line, refused, device_fault, no_memory, missing, ending_of, status_of, text_of, met_by, output_by, Asked, AskedInsert, Cause, IsAnswer, Prints, ShowsMap};
 ghost use Rattle.tdb_disk.specs.Names.{SameAll};
 ghost use Rattle.tdb_top.specs.declared.insert.Inserted.TheVariants.{Done, Exists, Full};
-ghost use Rattle.tdb_top.specs.Left.{LineLeaves, WordsLeave, Keeps, KeepsAll, RunLeaves};
+ghost use Rattle.tdb_top.specs.Left.{LineLeaves, MayChange, WordsLeave, Keeps, KeepsAll, RunLeaves};
 
 use crate::add::add_key;
 use crate::ending::{Ending, Status, print};
@@ -23,6 +23,7 @@ use tdb_disk::{Files, Sink, Source};
 /// Answers a command line over the files.
 fn answer_line<F: Files>(alloc: Global, line: &Line, files: &mut F) -> Ending
     requires short { length_in line.now < 2 ^ 32 }
+    requires sized { IsSized line.now }
     requires free { (name : List ℕ) → F.is_taken files.old name ≡ false }
     ensures cause { IsTrue F.D.tells → (words : List (String Global)) → IsLine (map string_bytes words) (asked_by line.now)
         → Cause (met_by words (F.held files.old) (F.faults files.old) (F.faults files.new)) (ending_of result) }
@@ -41,6 +42,7 @@ fn answer_line<F: Files>(alloc: Global, line: &Line, files: &mut F) -> Ending
             value.as_slice(),
             files,
         ),
+        Line::Create { file: _, form: _ } | Line::Check { file: _ } => Ending::NoMemory,
     }
 }
 
@@ -141,7 +143,7 @@ pub fn run<F: Files, S: Source, K: Sink>(
     // Each file holds what it held, unless its key was to be added and the status is 0, 4, 5 or 8. The file of an insert is then as
     // its status says: the key more, or as a failed call left it.
     ensures kept { IsTrue F.D.tells → KeepsAll result.0 → SameAll (F.held files.old) (F.held files.new) }
-    ensures others { IsTrue F.D.tells → (name : List ℕ) → ((key value : List ℕ) → IsLine (map string_bytes words.now) (insert name key value) → ⊥) → F.held files.new name ≡ F.held files.old name }
+    ensures others { IsTrue F.D.tells → (name : List ℕ) → ((line : Asks) → IsLine (map string_bytes words.now) line → MayChange line name → ⊥) → F.held files.new name ≡ F.held files.old name }
     ensures inserted { IsTrue F.D.tells → (key value img : List ℕ) → (asked : AskedInsert (met_by words.now (F.held files.old) (F.faults files.old) (F.faults files.new)) key value img)
         → RunLeaves key value asked.history result.0 (F.held files.new asked.file) }
     ensures input_untouched { input.new ≡ input.old }

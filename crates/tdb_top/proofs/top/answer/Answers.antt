@@ -2,12 +2,16 @@ use Rattle.std.proofs.Common.{map, string_bytes, arith}
 use Rattle.tdb_top.specs.CommandLine.{asked_by}
 use Rattle.tdb_top.specs.Ending.{ending_of}
 use Rattle.tdb_top.proofs.Leavings.{words_left, line_kept}
-use Rattle.tdb_top.proofs.OneLine.{line_short}
+use Rattle.tdb_top.proofs.OneLine.{line_short, line_sized}
 use Rattle.tdb_top.proofs.top.answer.Goals as goal
 
 -- no key of a line is longer than the longest word
 pub answer_line-requires-clause-short : goal.answer_line-requires-clause-short
 answer_line-requires-clause-short g c = omega (arith, line_short (map string_bytes c.args.words.now) c.in-Ok.line c.in-Ok.ensures.read)
+
+-- no file is made without a chain
+pub answer_line-requires-clause-sized : goal.answer_line-requires-clause-sized
+answer_line-requires-clause-sized g c = line_sized (map string_bytes c.args.words.now) c.in-Ok.line c.in-Ok.ensures.read
 
 -- the words are those of the line
 pub returns-in-Ok-clause-cause : goal.returns-in-Ok-clause-cause
