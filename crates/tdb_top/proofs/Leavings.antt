@@ -34,13 +34,9 @@ module _ (key value : List ℕ) where
   halted_leaves old now Device broken kept = broken refl
   halted_leaves old now Memory broken kept = kept (λ e. cc)
 
-  -- what is held at the name, where the file was given back, and where nothing was done
+  -- what is held at the name, where the file was given back
   pub name_left : (held now : Option History) (h k : History) (e : Ending) → held ≡ Some h → now ≡ Some k → AddLeaves key value h e k → NameLeft key value held e now
   name_left held now h k e was is leaves = subst (λ o. NameLeft key value o e now) (sym was) (k, is, leaves)
-
-  pub name_same : (held now : Option History) (e : Ending) → now ≡ held → ((h : History) → AddLeaves key value h e h) → NameLeft key value held e now
-  name_same None now e same leaves = same
-  name_same (Some h) now e same leaves = (h, same, leaves h)
 
   -- an ending after which all is as before
   add_kept : (old now : History) (e : Ending) → AddLeaves key value old e now → Keeps e → now ≡ old

@@ -1,5 +1,5 @@
 -- The bytes of a new file are an accepted image without a pair.
-use Rattle.std.proofs.Common.{◌≡◌, ℕ, ◌+◌, ◌-◌, ◌*◌, ◌^◌, ◌<◌, ◌≤◌, List, [], ◌++◌, length, take, replicate, None, refl, sym, ap, ◌∙◌, subst, inl, inr, arith}
+use Rattle.std.proofs.Common.{◌≡◌, ℕ, ◌+◌, ◌-◌, ◌*◌, ◌^◌, ◌<◌, ◌≤◌, List, length, take, replicate, refl, sym, ap, ◌∙◌, subst, inl, inr, arith}
 use Rattle.std.specs.Prelude.{slice_index}
 use Rattle.std.proofs.lemmas.Bool.{cases_lt}
 use Rattle.std.proofs.lemmas.List.{length-append, length-replicate, get_or-append_right, get_or-replicate, get_or_past}
@@ -12,8 +12,6 @@ use Rattle.tdb_words.specs.Header.{new_header, header_at, header_fault, HeaderOk
 use Rattle.tdb_words.proofs.NewHeader.{new_header_read, new_header_sound}
 use Rattle.tdb_words.proofs.SameHeader.{header_at_front, same_front, same_fault}
 use Rattle.tdb_space.specs.Form.{form_of, form_in}
-use Rattle.tdb_space.specs.Pairs.{order_of}
-use Rattle.tdb_space.specs.Accepted.{Accept}
 use Rattle.tdb_space.proofs.Fresh.{fresh_accepted, fresh_order}
 use Rattle.tdb_top.specs.Create.{heads_length, new_image, IsNewFile}
 

@@ -1,5 +1,5 @@
 -- A word of a command stands for no more bytes than it has.
-use Rattle.std.proofs.Common.{◌≡◌, ℕ, ◌<◌, ◌≤◌, length, length-append, List, [], ◌∷◌, ap, inl, inr, arith}
+use Rattle.std.proofs.Common.{ℕ, ◌<◌, ◌≤◌, length, length-append, List, [], ◌∷◌, ap, inl, inr, arith}
 use Rattle.tdb_dump.specs.Escape.{IsLetter, Letters}
 use Rattle.tdb_dump.specs.Word.{stands_in_word, IsWord}
 

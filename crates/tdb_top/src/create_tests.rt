@@ -47,15 +47,17 @@ fn other_forms(rt: HostRuntime) -> Result<(), Fail> {
         size: 1_048_576,
         ..DEFAULT
     };
-    let mut files = MemFiles::new(alloc);
-    for (name, form, len) in [("big.tdb", big, 176), ("most.tdb", most, 4_194_476)] {
-        let made = create_file(alloc, name, form, &mut files);
+    for (form, len, locks) in [
+        (big, 176, [0x0B, 0xAD, 0x1A, 0x51]),
+        (most, 4_194_476, [0; 4]),
+    ] {
+        let mut files = MemFiles::new(alloc);
+        let made = create_file(alloc, "f.tdb", form, &mut files);
         assert_eq!(rt; made, Creation::Made);
-        let bytes = files.get(name).unwrap_or(&[]);
+        let bytes = files.get("f.tdb").unwrap_or(&[]);
         assert_eq!(rt; bytes.len(), len);
+        assert_eq!(rt; bytes.get(40..44), Some(locks.as_slice()));
     }
-    let locks = files.get("big.tdb").and_then(|bytes| bytes.get(40..44));
-    assert_eq!(rt; locks, Some([0x0B, 0xAD, 0x1A, 0x51].as_slice()));
     Ok(())
 }
 

@@ -19,7 +19,6 @@ pub use ending::Status;
 pub use top::run;
 
 #[cfg(test)]
-mod tests;
-
-#[cfg(test)]
 mod create_tests;
+#[cfg(test)]
+mod tests;

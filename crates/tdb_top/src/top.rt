@@ -140,8 +140,8 @@ pub fn run<F: Files, S: Source, K: Sink>(
     // Every disk that was taken is given back.
     ensures given_back { (name : List ℕ) → F.is_taken files.new name ≡ false }
 
-    // Each file holds what it held, unless its key was to be added and the status is 0, 4, 5 or 8. The file of an insert is then as
-    // its status says: the key more, or as a failed call left it.
+    // Each file holds what it held, unless a key was to be added to it, or it was to be made, and the status is 0, 4, 5 or 8. The
+    // file of an insert is then as its status says: the key more, or as a failed call left it.
     ensures kept { IsTrue F.D.tells → KeepsAll result.0 → SameAll (F.held files.old) (F.held files.new) }
     ensures others { IsTrue F.D.tells → (name : List ℕ) → ((line : Asks) → IsLine (map string_bytes words.now) line → MayChange line name → ⊥) → F.held files.new name ≡ F.held files.old name }
     ensures inserted { IsTrue F.D.tells → (key value img : List ℕ) → (asked : AskedInsert (met_by words.now (F.held files.old) (F.faults files.old) (F.faults files.new)) key value img)

@@ -55,5 +55,9 @@ returns-clause-in_part g c = on_err c.sync.result (λ told.
     let sized : to ≡ 168 + heads_length c.args.form.size = ap (λ n. 168 + 4 * (n + 1)) c.from.ensures in
     let empty = nil_from_length (seen old) (g.met.D.Disk.told_size c.args.disk.now told ∙ c.requires.empty) in
     let long = ap length c.header_bytes.ensures.bytes ∙ header_long c.args.form.size c.args.form.order c.args.form.hash in
-    inr (c.header_bytes.result, long, synced_now c.args.form.size to sized old empty (g.D.Disk.history c.grow.new.self) (c.in_ok-grow.ensures.done told)
-    (g.D.Disk.history c.write.new.self) (g.D.Disk.history c.sync.new.self) c.header_bytes.result long (c.in_ok-write.ensures.done told) c.sync.ensures.tried))
+    inr (
+      c.header_bytes.result,
+      long,
+      synced_now c.args.form.size to sized old empty (g.D.Disk.history c.grow.new.self) (c.in_ok-grow.ensures.done told)
+          (g.D.Disk.history c.write.new.self) (g.D.Disk.history c.sync.new.self) c.header_bytes.result long (c.in_ok-write.ensures.done told) c.sync.ensures.tried,
+    ))
