@@ -19,17 +19,15 @@ use Rattle.std.proofs.lemmas.Bool.{ne_eqb}
 use Rattle.std.proofs.Math.Seq.{take-append_seam, drop-append_seam, drop-append-add, take-length}
 use Rattle.tdb_words.proofs.Words.{word_agrees, word_from_bytes, word_of_part, word_made, rec_of_part, rec_made}
 use Rattle.tdb_space.specs.Form.{Form, form_of, chain_head}
-use Rattle.tdb_space.specs.Record.{Whole, IsChained, next_of, rec_len_of, key_at, data_at}
+use Rattle.tdb_space.specs.Record.{Whole, IsChained, rec_len_of, key_at, data_at}
 use Rattle.tdb_space.specs.Chain.{Linked, chain_of}
 use Rattle.tdb_space.specs.Pairs.{home, map_of}
-use Rattle.tdb_space.specs.Accepted.{AllFiled, AcceptWith, Accept}
+use Rattle.tdb_space.specs.Accepted.{AcceptWith, Accept}
 use Rattle.tdb_space.specs.Exchange.{GrownBy, PutInFront, Filled}
 use Rattle.tdb_space.proofs.Maps.{home_below}
 use Rattle.tdb_space.proofs.Grown.{add_accepted, add_map}
-use Rattle.tdb_top.specs.Walk.{Any, PathBy, first_of}
-use Rattle.tdb_top.specs.Insert.{rec_len_for, need_for, new_rec, record_bytes, inserted, InsertFault, HasAdded}
+use Rattle.tdb_top.specs.Insert.{rec_len_for, need_for, first_of, new_rec, record_bytes, inserted, HasAdded}
 use Rattle.tdb_top.proofs.AtEnd.{word_length, overlay_before}
-use Rattle.tdb_top.proofs.Ends.{followed_no_fault}
 
 -- a number modulo 2^32 is a word, and so is the hash of a key
 modulo_fits : (x : ℕ) → x % 2 ^ 32 < 2 ^ 32
@@ -46,7 +44,7 @@ hash_fits Jenkins [] = omega arith
 hash_fits Jenkins (b ∷ bytes) = rw (ne_eqb (length (b ∷ bytes)) 0 (λ e. absurd (omega (arith, e)))) (final_fits _)
 
 -- a record's header has 24 bytes
-rec_length : (o : Order) (r : Rec) → length (bytes_of_rec o r) ≡ 24
+pub rec_length : (o : Order) (r : Rec) → length (bytes_of_rec o r) ≡ 24
 rec_length Little r = refl
 rec_length Big r = refl
 
@@ -81,33 +79,13 @@ module _ (n : ℕ) (x h k v p t : List ℕ) (begins : n ≡ length x) (six : len
       ∙ ap (take 4) (behind_header (length k + (length v + length p)) ∙ drop-append-add k (v ++ (p ++ t)) (length v + length p) ∙ drop-append-add v (p ++ t) (length p) ∙ drop-append_seam p t)
       ∙ ap (λ i. take i t) (sym four) ∙ take-length t
 
-parts_length : (h k v p t : List ℕ) → length (h ++ k ++ v ++ p ++ t) ≡ length h + length k + length v + length p + length t
+pub parts_length : (h k v p t : List ℕ) → length (h ++ k ++ v ++ p ++ t) ≡ length h + length k + length v + length p + length t
 parts_length h k v p t = grind (arith, common_steps)
 
 -- a list of records begins within the image, if it has any
 linked_first : (f : Form) (M : ℕ → Type 0) (img : List ℕ) (at : ℕ) (xs : List ℕ) → Linked f M img at xs → at ≤ length img
 linked_first f M img at [] p = omega (arith, p)
 linked_first f M img at (x ∷ xs) p = omega (arith, p.0, p.1.within)
-
--- a chain whose records are filed can be followed to its end
-path_linked : (f : Form) (img : List ℕ) (j at : ℕ) (xs : List ℕ) → Linked f IsChained img at xs → AllFiled f img j xs → PathBy Any f img at xs 0
-path_linked f img j at [] p filed = p
-path_linked f img j at (x ∷ xs) p filed = (
-  p.0,
-  (λ e. absurd (omega (arith, e, p.1.above))),
-  record { whole = p.1; chained = p.2; fits = λ used. (filed.0 used).fits },
-  tt,
-  path_linked f img j (next_of f.order img x) xs p.3 filed.1,
-)
-
--- so in an accepted image an insert is refused only where there is an undo area
-pub refused_for_area : (a key : List ℕ) → Accept a → InsertFault a key → word (form_of a).order a 44 ≡ 0 → ⊥
-refused_for_area a key A (inl unusable) none = unusable (record { header = A.header; sized = A.sized; reaches = A.long; no_area = none })
-refused_for_area a key A (inr fault) none =
-    let f = form_of a in
-    let j = home f key in
-    let low = home_below f key A.some in
-    followed_no_fault f a key (chain_of f a j, path_linked f a j (first_of f a key) (chain_of f a j) (A.chains j low) (A.filed j low)) fault.1
 
 module _ (a key value : List ℕ) (A : Accept a) (fits : length a + need_for key value ≤ 2 ^ 32) where
   abbrev f : Form

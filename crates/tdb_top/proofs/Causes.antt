@@ -1,47 +1,44 @@
--- Causes of endings.
-use Rattle.std.proofs.Common.{◌≡◌, ℕ, ◌≤◌, List, Option, Some, refl, sym, ◌∙◌, ap, inl, inr, arith}
+-- Causes of endings, from what the parts of a command found.
+use Rattle.std.proofs.Common.{◌≡◌, ℕ, ◌≤◌, Option, None, Some, refl, sym, subst, inl, inr, arith}
 use Rattle.tdb_disk.specs.Count.{Rose}
 use Rattle.tdb_disk.specs.History.{History, seen}
+use Rattle.tdb_disk.specs.declared.files.TakeRefusal.{TakeRefusal}
+use Rattle.tdb_disk.specs.declared.files.TakeRefusal.TheVariants.{Missing, There, Failed, Memory as NoRoom}
 use Rattle.tdb_top.specs.declared.halt.Halt.{Halt}
 use Rattle.tdb_top.specs.declared.halt.Halt.TheVariants.{Refused, Device, Memory}
-use Rattle.tdb_top.specs.Walk.{WalkFault}
-use Rattle.tdb_top.specs.CommandLine.{show, insert, IsLine}
-use Rattle.tdb_top.specs.Ending.{Ending, shown, no_key, insert_ends, no_line, refused, device_fault, no_memory, missing, Met, Cause, ShowCause, AddCause, ending_of, of_halt}
-use Rattle.tdb_top.specs.Insert.{InsertFault}
-
--- a look-up that halted has its cause
-pub halted : (held : Option History) (name key : List ℕ) (before after : ℕ) (h : History) (halt : Halt) → held ≡ Some h → (halt ≡ Refused → WalkFault (seen h) key) → (halt ≡ Device → Rose before after) → ShowCause held name key before after (ending_of (of_halt halt))
-halted held name key before after h Refused there fault rose = (h, there, fault refl)
-halted held name key before after h Device there fault rose = rose refl
-halted held name key before after h Memory there fault rose = tt
+use Rattle.tdb_top.specs.declared.create.Creation as Making
+use Rattle.tdb_top.specs.CommandLine.{Line, file_of}
+use Rattle.tdb_top.specs.Create.{CreateCause}
+use Rattle.tdb_top.specs.Opening.{CanOpen, HaltsRightly}
+use Rattle.tdb_top.specs.Ending.{Ending, created, missing, there_already, refused, Opens, Makes, Answers, LineCause, settled, failed, wanting, opened, was_refused, was_missing, was_made, was_there, Untaken, MadeSo, ending_of, of_halt}
 
 -- a count that rose from a later value rose
 pub rose_earlier : (before mid now : ℕ) → before ≤ mid → Rose mid now → Rose before now
 rose_earlier before mid now later rose = omega arith
 
--- the cause of a show is the cause of an ending of its line
-pub show_caused : (m : Met) (name key : List ℕ) (e : Ending) → IsLine m.words (show name key) → ShowCause (m.held name) name key m.faults_before m.faults_after e → Cause m e
-show_caused m name key (shown value) line c = (key, seen c.0, record { file = name; history = c.0; line = line; there = c.1; bytes = refl }, c.2, c.3)
-show_caused m name key no_key line c = (key, seen c.0, record { file = name; history = c.0; line = line; there = c.1; bytes = refl }, c.2, c.3)
-show_caused m name key no_line line c = absurd c
-show_caused m name key (insert_ends inserted) line c = absurd c
-show_caused m name key refused line c = inl (key, seen c.0, record { file = name; history = c.0; line = line; there = c.1; bytes = refl }, c.2)
-show_caused m name key device_fault line c = c
-show_caused m name key no_memory line c = tt
-show_caused m name key (missing absent) line c = (show name key, line, sym c.0, ap m.held c.0 ∙ c.1)
+module _ (line : Line) (held : Option History) (before after : ℕ) where
+  -- a file that was opened
+  pub opened_cause : (h : History) (e : Ending) → held ≡ Some h → CanOpen (seen h) → Answers (seen h) line e → LineCause line held before after e
+  opened_cause h e there can answers = settled e (opened h e there can answers)
 
--- the same of an insert
-pub add_halted : (held : Option History) (name key value : List ℕ) (before after : ℕ) (h : History) (halt : Halt) → held ≡ Some h → (halt ≡ Refused → InsertFault (seen h) key) → (halt ≡ Device → Rose before after) → AddCause held name key value before after (ending_of (of_halt halt))
-add_halted held name key value before after h Refused there fault rose = (h, there, fault refl)
-add_halted held name key value before after h Device there fault rose = rose refl
-add_halted held name key value before after h Memory there fault rose = tt
+  -- a look that halted
+  pub halted_cause : (h : History) (halt : Halt) → Opens line → held ≡ Some h → HaltsRightly (seen h) halt → (halt ≡ Device → Rose before after) → LineCause line held before after (ending_of (of_halt halt))
+  halted_cause h (Refused refusal) opens there right rose = settled (refused refusal) (was_refused h refusal opens there right)
+  halted_cause h Device opens there right rose = failed (rose refl)
+  halted_cause h Memory opens there right rose = wanting
 
-pub add_caused : (m : Met) (name key value : List ℕ) (e : Ending) → IsLine m.words (insert name key value) → AddCause (m.held name) name key value m.faults_before m.faults_after e → Cause m e
-add_caused m name key value (shown bytes) line c = absurd c
-add_caused m name key value no_key line c = absurd c
-add_caused m name key value (insert_ends inserted) line c = (key, value, seen c.0, record { file = name; history = c.0; line = line; there = c.1; bytes = refl }, c.2)
-add_caused m name key value no_line line c = absurd c
-add_caused m name key value refused line c = inr (key, value, seen c.0, record { file = name; history = c.0; line = line; there = c.1; bytes = refl }, c.2)
-add_caused m name key value device_fault line c = c
-add_caused m name key value no_memory line c = tt
-add_caused m name key value (missing absent) line c = (insert name key value, line, sym c.0, ap m.held c.0 ∙ c.1)
+  -- a file that wasn't taken
+  pub untaken_cause : (refusal : TakeRefusal) (e : Ending) → Opens line → (refusal ≡ Missing → held ≡ None) → (refusal ≡ There → ⊥) → (refusal ≡ Failed → Rose before after) → Untaken (file_of line) refusal e → LineCause line held before after e
+  untaken_cause Missing e opens gone free rose (inl is) = subst (LineCause line held before after) (sym is) (settled (missing (file_of line)) (was_missing opens (gone refl)))
+  untaken_cause Missing e opens gone free rose (inr is) = subst (LineCause line held before after) (sym is) wanting
+  untaken_cause There e opens gone free rose is = absurd (free refl)
+  untaken_cause Failed e opens gone free rose is = subst (LineCause line held before after) (sym is) (failed (rose refl))
+  untaken_cause NoRoom e opens gone free rose is = subst (LineCause line held before after) (sym is) wanting
+
+  -- a file that was to be made
+  pub made_cause : (creation : Making.Creation) (e : Ending) → Makes line → CreateCause held before after creation → MadeSo (file_of line) creation e → LineCause line held before after e
+  made_cause Making.TheVariants.Made e makes cause is = subst (LineCause line held before after) (sym is) (settled created (was_made makes cause))
+  made_cause Making.TheVariants.There e makes cause (inl is) = subst (LineCause line held before after) (sym is) (settled (there_already (file_of line)) (was_there makes cause))
+  made_cause Making.TheVariants.There e makes cause (inr is) = subst (LineCause line held before after) (sym is) wanting
+  made_cause Making.TheVariants.Device e makes cause is = subst (LineCause line held before after) (sym is) (failed cause)
+  made_cause Making.TheVariants.Memory e makes cause is = subst (LineCause line held before after) (sym is) wanting

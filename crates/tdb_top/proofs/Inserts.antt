@@ -1,44 +1,48 @@
--- How an insert ends, from what its steps found.
-use Rattle.std.proofs.Common.{◌≡◌, ℕ, Bool, true, false, List, [], append-nil, sym, ap, ◌∙◌, subst, inr, arith}
-use Rattle.std.specs.Prelude.{Result, Ok, Err, IfErr, MatchBool}
-use Rattle.tdb_space.specs.Form.{form_of, form_in}
-use Rattle.tdb_top.specs.declared.front.Front.{Front}
-use Rattle.tdb_top.specs.Walk.{IsFollowed, HasValue, FindsNone, ChainFault}
-use Rattle.tdb_top.specs.Look.{IsFrontOf}
-use Rattle.tdb_top.specs.Insert.{BrokenOff, CanAdd, HasAlready, InsertFault}
+-- What an insert that ended early leaves, and what it writes.
+use Rattle.std.proofs.Common.{◌≡◌, ℕ, ◌+◌, ◌-◌, List, [], length, replicate, append-nil, sym, ap, ◌∙◌, inr, arith}
+use Rattle.std.proofs.lemmas.List.{length-replicate}
+use Rattle.std.specs.Prelude.{Result, Ok, Err, IfErr}
+use Rattle.tdb_words.specs.declared.header.Header.{Header}
+use Rattle.tdb_words.specs.declared.record.TheConstants.{PADDING}
+use Rattle.tdb_words.specs.declared.record.Rec.{Rec}
+use Rattle.tdb_words.specs.declared.word.Order.{Order}
+use Rattle.tdb_words.specs.Header.{header_at}
+use Rattle.tdb_words.specs.Record.{bytes_of_rec}
+use Rattle.tdb_words.specs.Word.{bytes_of_word}
+use Rattle.tdb_space.specs.Form.{form_of, form_in, chain_head}
+use Rattle.tdb_space.specs.Pairs.{home}
+use Rattle.tdb_top.specs.Insert.{rec_len_for, need_for, first_of, new_rec, record_bytes, led_to, inserted, BrokenOff}
+use Rattle.tdb_top.proofs.Added.{rec_length, parts_length}
+use Rattle.tdb_top.proofs.AtEnd.{word_length}
 
--- what holds of every error, and what holds of the one that is there
+-- what holds of every error
 pub if_err : {V F : Type 0} (P : F → Type 0) (r : Result V F) → ((e : F) → P e) → IfErr r P
-if_err P (Ok v) each = tt
-if_err P (Err e) each = each e
-
-pub if_this_err : {V F : Type 0} (P : F → Type 0) (r : Result V F) (e : F) → r ≡ Err e → P e → IfErr r P
-if_this_err P r e is p = subst (λ x. IfErr x P) (sym is) p
+if_err P (Ok v) all = tt
+if_err P (Err e) all = all e
 
 -- where nothing was done yet
 pub nothing_done : (old made : List ℕ) (room : ℕ) (now : List ℕ) → now ≡ old → BrokenOff old made room now
 nothing_done old made room now same = inr ([], omega arith, same ∙ sym (append-nil old))
 
-module _ (img key : List ℕ) (front : Front) (is_front : IsFrontOf front img) where
-  pub same_form : form_in front.header ≡ form_of img
-  same_form = ap form_in is_front.header
+-- the bytes of a new record are as many as it needs
+pub as_needed : (o : Order) (r : Rec) (key value : List ℕ) → r.rec_len ≡ rec_len_for (length key) (length value) → length (record_bytes o r key value) ≡ need_for key value
+as_needed o r key value e =
+    omega (
+      arith,
+      e,
+      rec_length o r,
+      word_length o (24 + r.rec_len),
+      length-replicate (r.rec_len - (length key + length value + 4)) PADDING,
+      parts_length (bytes_of_rec o r) key value (replicate (r.rec_len - (length key + length value + 4)) PADDING) (bytes_of_word o (24 + r.rec_len)),
+    )
 
-  -- a fault of the chain
-  pub chain_refused : ChainFault (form_in front.header) img key → InsertFault img key
-  chain_refused fault = inr (is_front.usable, subst (λ f. ChainFault f img key) same_form fault)
+module _ (img key value : List ℕ) (h : Header) (said : h ≡ header_at img) (head first : ℕ) (r : Rec) (bytes : List ℕ) (at_head : head ≡ chain_head (home (form_in h) key)) (begins : first ≡ first_of (form_in h) img key) (is_rec : r ≡ new_rec (form_in h) first key value) (are_bytes : bytes ≡ record_bytes h.order r key value) where
+  bytes_made : bytes ≡ record_bytes h.order (new_rec (form_in h) (first_of (form_in h) img key) key value) key value
+  bytes_made = are_bytes ∙ ap (λ x. record_bytes h.order x key value) (is_rec ∙ ap (λ n. new_rec (form_in h) n key value) begins)
 
-  -- the key is there, or isn't
-  pub key_there : (is_there : Bool) → is_there ≡ true → IsFollowed (form_in front.header) img key → MatchBool is_there (HasValue (form_in front.header) img key) (FindsNone (form_in front.header) img key) → HasAlready img key
-  key_there is_there is followed told = (
-    is_front.usable,
-    subst (λ f. IsFollowed f img key) same_form followed,
-    subst (λ f. HasValue f img key) same_form
-        (subst (λ b. MatchBool b (HasValue (form_in front.header) img key) (FindsNone (form_in front.header) img key)) is told),
-  )
+  -- what is written is the image with the key added
+  pub as_inserted : led_to h.order img head bytes ≡ inserted (form_of img) img key value
+  as_inserted = (λ j. led_to h.order img (at_head j) (bytes_made j)) ∙ ap (λ x. inserted (form_in x) img key value) said
 
-  pub key_lacking : (is_there : Bool) → is_there ≡ false → MatchBool is_there (HasValue (form_in front.header) img key) (FindsNone (form_in front.header) img key) → CanAdd img key
-  key_lacking is_there is told = (
-    is_front.usable,
-    subst (λ f. FindsNone f img key) same_form
-        (subst (λ b. MatchBool b (HasValue (form_in front.header) img key) (FindsNone (form_in front.header) img key)) is told),
-  )
+  pub room_needed : length bytes ≡ need_for key value
+  room_needed = ap length are_bytes ∙ as_needed h.order r key value (ap (λ x. x.rec_len) is_rec)

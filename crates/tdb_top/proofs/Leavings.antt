@@ -1,83 +1,168 @@
 -- What a run leaves of the files, from what its parts leave.
 use Rattle.std.proofs.Common.{◌≡◌, ◌⊎◌, ℕ, List, Option, None, Some, refl, sym, ◌∙◌, ap, subst, inl, inr, arith}
-use Rattle.tdb_disk.specs.History.{History, seen}
-use Rattle.tdb_disk.specs.Names.{SameAll, SameBut}
-use Rattle.tdb_space.specs.Form.{form_of}
-use Rattle.tdb_space.specs.Accepted.{Accept}
 use Rattle.tdb_words.specs.declared.word.Order.{Order}
 use Rattle.tdb_words.specs.declared.hash.HashKind.{HashKind}
+use Rattle.tdb_disk.specs.History.{History, seen}
+use Rattle.tdb_disk.specs.Names.{SameAll, SameBut}
+use Rattle.tdb_disk.specs.declared.files.TakeRefusal.{TakeRefusal}
+use Rattle.tdb_disk.specs.declared.files.TakeRefusal.TheVariants.{Missing, There, Failed, Memory as NoRoom}
+use Rattle.tdb_space.specs.Form.{form_of}
 use Rattle.tdb_top.specs.declared.halt.Halt.{Halt}
 use Rattle.tdb_top.specs.declared.halt.Halt.TheVariants.{Refused, Device, Memory}
+use Rattle.tdb_top.specs.declared.halt.Refusal.TheVariants.{TooLong, Header, Corrupt}
 use Rattle.tdb_top.specs.declared.insert.Inserted.{Inserted}
 use Rattle.tdb_top.specs.declared.insert.Inserted.TheVariants.{Done, Exists, Full}
+use Rattle.tdb_top.specs.declared.create.Creation as Making
 use Rattle.tdb_top.specs.CommandLine.{Line, show, insert, create, check, IsLine}
-use Rattle.tdb_top.specs.Ending.{Ending, shown, no_key, insert_ends, no_line, refused, device_fault, no_memory, missing, ending_of, of_halt, status_of, Output, Prints}
+use Rattle.tdb_top.specs.Create.{CreateLeaves}
+use Rattle.tdb_top.specs.Ending.{Ending, shown, no_key, insert_ends, created, number, no_line, refused, device_fault, no_memory, missing, there_already, ending_of, of_halt, status_of, Untaken, MadeSo, Output, Prints}
 use Rattle.tdb_top.specs.Insert.{need_for, inserted, IsInserted, HasAdded}
-use Rattle.tdb_top.specs.Left.{Gained, Interrupted, AddLeaves, NameLeft, CreateLeft, LineLeaves, MayChange, WordsLeave, Keeps, KeepsAll, RunLeaves}
+use Rattle.tdb_top.specs.Left.{Gained, Interrupted, AddLeaves, NameLeft, CreateLeft, LineLeaves, MayChange, WordsLeave, Keeps, KeepsAll, RunLeaves, RunMakes}
 use Rattle.tdb_top.proofs.Held.{same_or_other}
 use Rattle.tdb_top.proofs.Inserts.{nothing_done}
 use Rattle.tdb_top.proofs.OneLine.{line_one}
 
-module _ (key value : List ℕ) where
-  -- a file as it was is what an insert that broke off may leave
-  pub interrupted_nothing : (h : History) → Interrupted key value h h
-  interrupted_nothing h = nothing_done (seen h) (inserted (form_of (seen h)) (seen h) key value) (need_for key value) (seen h) refl
+-- What an ending leaves, by its status: one thing at 0, another at 4, and else a third
+abbrev Leaves : Ending → Type 0 → Type 0 → Type 0 → Type 0
+Leaves e AtZero AtFour Kept = ((status_of e ≡ 0) × AtZero) ⊎ ((status_of e ≡ 4) × AtFour) ⊎ (Keeps e × Kept)
 
+-- the same of the status of a run; the statuses 5 and 8 may tell of the output alone
+record ByStatus (AtZero AtFour Kept : Type 0) (status : ℕ) : Type 0 where
+  done : status ≡ 0 → AtZero
+  broken : status ≡ 4 → AtFour
+  kept : KeepsAll status → Kept
+
+module _ (AtZero AtFour Kept : Type 0) where
+  -- an ending that keeps the files
+  leaves_kept : (e : Ending) → Leaves e AtZero AtFour Kept → Keeps e → Kept
+  leaves_kept e (inl done) keeps = absurd (keeps.0 done.0)
+  leaves_kept e (inr (inl broken)) keeps = absurd (keeps.1 broken.0)
+  leaves_kept e (inr (inr kept)) keeps = kept.1
+
+  leaves_any : (e : Ending) → Leaves e AtZero AtFour Kept → Kept ⊎ AtZero ⊎ AtFour
+  leaves_any e (inl done) = inr (inl done.1)
+  leaves_any e (inr (inl broken)) = inr (inr broken.1)
+  leaves_any e (inr (inr kept)) = inl kept.1
+
+  leaves_status : (e : Ending) (status : ℕ) → status ≡ status_of e → Leaves e AtZero AtFour Kept → ByStatus AtZero AtFour Kept status
+  leaves_status e status told (inl (zero, done)) = record {
+    done = λ is. done;
+    broken = λ is. absurd (omega (arith, is, told, zero));
+    kept = λ keeps. absurd (keeps.0 (told ∙ zero));
+  }
+  leaves_status e status told (inr (inl (four, broken))) = record {
+    done = λ is. absurd (omega (arith, is, told, four));
+    broken = λ is. broken;
+    kept = λ keeps. absurd (keeps.1 (told ∙ four));
+  }
+  leaves_status e status told (inr (inr (other, kept))) = record {
+    done = λ is. absurd (other.0 (sym told ∙ is));
+    broken = λ is. absurd (other.1 (sym told ∙ is));
+    kept = λ keeps. kept;
+  }
+
+  -- what is printed is the line of the ending, or that of want of memory
+  by_status : (o : Output) (e t : Ending) (status : ℕ) → (e ≡ t) ⊎ (e ≡ no_memory) → Prints o e status → Leaves t AtZero AtFour Kept → ByStatus AtZero AtFour Kept status
+  by_status o e t status printed (inr part) leaves = record {
+    done = λ is. absurd (omega (arith, is, part.exits));
+    broken = λ is. absurd (omega (arith, is, part.exits));
+    kept = λ keeps. absurd (keeps.3 part.exits);
+  }
+  by_status o e t status (inl same) (inl all) leaves = leaves_status t status (all.exits ∙ ap status_of same) leaves
+  by_status o e t status (inr none) (inl all) leaves =
+      let five : status ≡ 5 = all.exits ∙ ap status_of none in
+      record {
+        done = λ is. absurd (omega (arith, is, five));
+        broken = λ is. absurd (omega (arith, is, five));
+        kept = λ keeps. absurd (keeps.2 five);
+      }
+
+module _ (key value : List ℕ) where
   -- what an insert leaves, from how it ended and from how it halted
-  pub inserted_leaves : (old now : History) (i : Inserted) → (i ≡ Done → IsInserted (seen old) key value now) → (i ≡ Done → Accept (seen old) → HasAdded (seen old) key value (seen now)) → ((i ≡ Done → ⊥) → now ≡ old) → AddLeaves key value old (insert_ends i) now
+  pub inserted_leaves : (old now : History) (i : Inserted) → (i ≡ Done → IsInserted (seen old) key value now) → (i ≡ Done → HasAdded (seen old) key value (seen now)) → ((i ≡ Done → ⊥) → now ≡ old) → AddLeaves key value old (insert_ends i) now
   inserted_leaves old now Done done added kept = record { exact = done refl; added = added refl }
   inserted_leaves old now Exists done added kept = kept (λ e. cc)
   inserted_leaves old now (Full len need) done added kept = kept (λ e. cc)
 
   pub halted_leaves : (old now : History) (halt : Halt) → (halt ≡ Device → Interrupted key value old now) → ((halt ≡ Device → ⊥) → now ≡ old) → AddLeaves key value old (ending_of (of_halt halt)) now
-  halted_leaves old now Refused broken kept = kept (λ e. cc)
+  halted_leaves old now (Refused refusal) broken kept = kept (λ e. cc)
   halted_leaves old now Device broken kept = broken refl
   halted_leaves old now Memory broken kept = kept (λ e. cc)
 
-  -- what is held at the name, where the file was given back
+  -- what is held at the name, where the file was given back, and where nothing was done
   pub name_left : (held now : Option History) (h k : History) (e : Ending) → held ≡ Some h → now ≡ Some k → AddLeaves key value h e k → NameLeft key value held e now
   name_left held now h k e was is leaves = subst (λ o. NameLeft key value o e now) (sym was) (k, is, leaves)
 
-  -- an ending after which all is as before
-  add_kept : (old now : History) (e : Ending) → AddLeaves key value old e now → Keeps e → now ≡ old
-  add_kept old now (insert_ends Done) leaves keeps = absurd (keeps.0 refl)
-  add_kept old now (insert_ends Exists) leaves keeps = leaves
-  add_kept old now (insert_ends (Full len need)) leaves keeps = leaves
-  add_kept old now refused leaves keeps = leaves
-  add_kept old now device_fault leaves keeps = absurd (keeps.1 refl)
-  add_kept old now no_memory leaves keeps = leaves
-  add_kept old now (missing name) leaves keeps = leaves
-  add_kept old now (shown bytes) leaves keeps = absurd leaves
-  add_kept old now no_key leaves keeps = absurd leaves
-  add_kept old now no_line leaves keeps = absurd leaves
+  name_same : (held now : Option History) (e : Ending) → now ≡ held → ((h : History) → AddLeaves key value h e h) → NameLeft key value held e now
+  name_same None now e same leaves = same
+  name_same (Some h) now e same leaves = (h, same, leaves h)
+
+  -- where the file wasn't taken
+  pub untaken_leaves : (held now : Option History) (name : List ℕ) (refusal : TakeRefusal) (e : Ending) → now ≡ held → (refusal ≡ There → ⊥) → Untaken name refusal e → NameLeft key value held e now
+  untaken_leaves held now name Missing e same free (inl is) = subst (λ x. NameLeft key value held x now) (sym is) (name_same held now (missing name) same (λ h. refl))
+  untaken_leaves held now name Missing e same free (inr is) = subst (λ x. NameLeft key value held x now) (sym is) (name_same held now no_memory same (λ h. refl))
+  untaken_leaves held now name There e same free is = absurd (free refl)
+  untaken_leaves held now name Failed e same free is =
+      subst (λ x. NameLeft key value held x now) (sym is)
+      (name_same held now device_fault same (λ h. nothing_done (seen h) (inserted (form_of (seen h)) (seen h) key value) (need_for key value) (seen h) refl))
+  untaken_leaves held now name NoRoom e same free is = subst (λ x. NameLeft key value held x now) (sym is) (name_same held now no_memory same (λ h. refl))
+
+  -- what an insert leaves, by the status of its ending
+  add_leaves : (old now : History) (e : Ending) → AddLeaves key value old e now → Leaves e (Gained key value old now) (Interrupted key value old now) (now ≡ old)
+  add_leaves old now (insert_ends Done) leaves = inl (refl, leaves)
+  add_leaves old now (insert_ends Exists) leaves = inr (inr (((λ z. absurd (omega (arith, z))), (λ z. absurd (omega (arith, z)))), leaves))
+  add_leaves old now (insert_ends (Full len need)) leaves = inr (inr (((λ z. absurd (omega (arith, z))), (λ z. absurd (omega (arith, z)))), leaves))
+  add_leaves old now (refused (TooLong len)) leaves = inr (inr (((λ z. absurd (omega (arith, z))), (λ z. absurd (omega (arith, z)))), leaves))
+  add_leaves old now (refused (Header fault)) leaves = inr (inr (((λ z. absurd (omega (arith, z))), (λ z. absurd (omega (arith, z)))), leaves))
+  add_leaves old now (refused (Corrupt what at)) leaves = inr (inr (((λ z. absurd (omega (arith, z))), (λ z. absurd (omega (arith, z)))), leaves))
+  add_leaves old now device_fault leaves = inr (inl (refl, leaves))
+  add_leaves old now no_memory leaves = inr (inr (((λ z. absurd (omega (arith, z))), (λ z. absurd (omega (arith, z)))), leaves))
+  add_leaves old now (missing name) leaves = inr (inr (((λ z. absurd (omega (arith, z))), (λ z. absurd (omega (arith, z)))), leaves))
+  add_leaves old now (shown bytes) leaves = absurd leaves
+  add_leaves old now no_key leaves = absurd leaves
+  add_leaves old now created leaves = absurd leaves
+  add_leaves old now (number n) leaves = absurd leaves
+  add_leaves old now no_line leaves = absurd leaves
+  add_leaves old now (there_already name) leaves = absurd leaves
 
   name_kept : (held now : Option History) (e : Ending) → NameLeft key value held e now → Keeps e → now ≡ held
   name_kept None now e left keeps = left
-  name_kept (Some h) now e left keeps = left.1 ∙ ap Some (add_kept h left.0 e left.2 keeps)
+  name_kept (Some h) now e left keeps =
+      left.1 ∙ ap Some (leaves_kept (Gained key value h left.0) (Interrupted key value h left.0) (left.0 ≡ h) e (add_leaves h left.0 e left.2) keeps)
 
-  -- any ending leaves one of three
-  add_any : (old now : History) (e : Ending) → AddLeaves key value old e now → (now ≡ old) ⊎ Gained key value old now ⊎ Interrupted key value old now
-  add_any old now (insert_ends Done) leaves = inr (inl leaves)
-  add_any old now (insert_ends Exists) leaves = inl leaves
-  add_any old now (insert_ends (Full len need)) leaves = inl leaves
-  add_any old now refused leaves = inl leaves
-  add_any old now device_fault leaves = inr (inr leaves)
-  add_any old now no_memory leaves = inl leaves
-  add_any old now (missing name) leaves = inl leaves
-  add_any old now (shown bytes) leaves = absurd leaves
-  add_any old now no_key leaves = absurd leaves
-  add_any old now no_line leaves = absurd leaves
+-- the making of a file
+module _ (size : ℕ) (hash : HashKind) (order : Order) (held now : Option History) where
+  pub made_left : (name : List ℕ) (creation : Making.Creation) (e : Ending) → MadeSo name creation e → CreateLeaves size order hash held creation now → CreateLeft size hash order held e now
+  made_left name Making.TheVariants.Made e is leaves = subst (λ x. CreateLeft size hash order held x now) (sym is) leaves
+  made_left name Making.TheVariants.There e (inl is) leaves = subst (λ x. CreateLeft size hash order held x now) (sym is) leaves
+  made_left name Making.TheVariants.There e (inr is) leaves = subst (λ x. CreateLeft size hash order held x now) (sym is) leaves
+  made_left name Making.TheVariants.Device e is leaves = subst (λ x. CreateLeft size hash order held x now) (sym is) leaves
+  made_left name Making.TheVariants.Memory e is leaves = subst (λ x. CreateLeft size hash order held x now) (sym is) leaves
 
--- an ending of the making of a file after which all is as before
-create_kept : (size : ℕ) (hash : HashKind) (order : Order) (held now : Option History) (e : Ending) → CreateLeft size hash order held e now → Keeps e → now ≡ held
-create_kept size hash order held now device_fault left keeps = absurd (keeps.1 refl)
-create_kept size hash order held now no_memory left keeps = left
-create_kept size hash order held now (insert_ends inserted) left keeps = absurd left
-create_kept size hash order held now refused left keeps = absurd left
-create_kept size hash order held now (missing name) left keeps = absurd left
-create_kept size hash order held now (shown bytes) left keeps = absurd left
-create_kept size hash order held now no_key left keeps = absurd left
-create_kept size hash order held now no_line left keeps = absurd left
+  -- what it leaves, by the status of its ending
+  make_leaves : (e : Ending) → CreateLeft size hash order held e now → Leaves e (CreateLeaves size order hash held Making.TheVariants.Made now) (CreateLeaves size order hash held Making.TheVariants.Device now) (now ≡ held)
+  make_leaves created left = inl (refl, left)
+  make_leaves (there_already name) left = inr (inr (((λ z. absurd (omega (arith, z))), (λ z. absurd (omega (arith, z)))), left))
+  make_leaves device_fault left = inr (inl (refl, left))
+  make_leaves no_memory left = inr (inr (((λ z. absurd (omega (arith, z))), (λ z. absurd (omega (arith, z)))), left))
+  make_leaves (insert_ends inserted) left = absurd left
+  make_leaves (refused refusal) left = absurd left
+  make_leaves (missing name) left = absurd left
+  make_leaves (shown bytes) left = absurd left
+  make_leaves no_key left = absurd left
+  make_leaves (number n) left = absurd left
+  make_leaves no_line left = absurd left
+
+  pub run_makes : (o : Output) (e t : Ending) (status : ℕ) → CreateLeft size hash order held t now → (e ≡ t) ⊎ (e ≡ no_memory) → Prints o e status → RunMakes size hash order held status now
+  run_makes o e t status left printed prints =
+      let leaves = make_leaves t left in
+      let by = by_status (CreateLeaves size order hash held Making.TheVariants.Made now) (CreateLeaves size order hash held Making.TheVariants.Device now) (now ≡ held) o e t status printed prints leaves in
+      record {
+        any = leaves_any (CreateLeaves size order hash held Making.TheVariants.Made now) (CreateLeaves size order hash held Making.TheVariants.Device now) (now ≡ held) t leaves;
+        done = by.done;
+        broken = by.broken;
+        kept = by.kept;
+      }
 
 -- a file that changes at most at its name, and not there
 but_same : (file : List ℕ) (old now : List ℕ → Option History) → SameBut file old now → now file ≡ old file → SameAll old now
@@ -90,7 +175,10 @@ but_same file old now others same = λ name. elim (same_or_other name file) [
 pub line_kept : (line : Line) (old now : List ℕ → Option History) (e : Ending) → LineLeaves line old e now → Keeps e → SameAll old now
 line_kept (show file key) old now e left keeps = left
 line_kept (insert file key value) old now e left keeps = but_same file old now left.0 (name_kept key value (old file) (now file) e left.1 keeps)
-line_kept (create file size hash order) old now e left keeps = but_same file old now left.0 (create_kept size hash order (old file) (now file) e left.1 keeps)
+line_kept (create file size hash order) old now e left keeps =
+    but_same file old now left.0
+    (leaves_kept (CreateLeaves size order hash (old file) Making.TheVariants.Made (now file)) (CreateLeaves size order hash (old file) Making.TheVariants.Device (now file)) (now file ≡ old file) e
+    (make_leaves size hash order (old file) (now file) e left.1) keeps)
 line_kept (check file) old now e left keeps = left
 
 -- what a line leaves is what its words leave
@@ -107,43 +195,12 @@ words_left words line old now e reading left = record {
     others (check file) reading left name none = left name
 
 -- what a run leaves of the file of an insert, by its status
-module _ (key value : List ℕ) (old now : History) (o : Output) where
-  record ByStatus (status : ℕ) : Type 0 where
-    done : status ≡ 0 → Gained key value old now
-    broken : status ≡ 4 → Interrupted key value old now
-    kept : KeepsAll status → now ≡ old
-
-  by_status : (e : Ending) (status : ℕ) → AddLeaves key value old e now → Prints o e status → ByStatus status
-  by_status e status leaves (inr part) = record {
-    done = λ is. absurd (omega (arith, is, part.exits));
-    broken = λ is. absurd (omega (arith, is, part.exits));
-    kept = λ keeps. absurd (keeps.3 part.exits);
-  }
-  by_status (insert_ends Done) status leaves (inl all) = record { done = λ is. leaves; broken = λ is. absurd (omega (arith, is, all.exits)); kept = λ keeps. absurd (keeps.0 all.exits) }
-  by_status (insert_ends Exists) status leaves (inl all) = record { done = λ is. absurd (omega (arith, is, all.exits)); broken = λ is. absurd (omega (arith, is, all.exits)); kept = λ keeps. leaves }
-  by_status (insert_ends (Full len need)) status leaves (inl all) = record { done = λ is. absurd (omega (arith, is, all.exits)); broken = λ is. absurd (omega (arith, is, all.exits)); kept = λ keeps. leaves }
-  by_status refused status leaves (inl all) = record { done = λ is. absurd (omega (arith, is, all.exits)); broken = λ is. absurd (omega (arith, is, all.exits)); kept = λ keeps. leaves }
-  by_status device_fault status leaves (inl all) = record { done = λ is. absurd (omega (arith, is, all.exits)); broken = λ is. leaves; kept = λ keeps. absurd (keeps.1 all.exits) }
-  by_status no_memory status leaves (inl all) = record { done = λ is. absurd (omega (arith, is, all.exits)); broken = λ is. absurd (omega (arith, is, all.exits)); kept = λ keeps. leaves }
-  by_status (missing name) status leaves (inl all) = record { done = λ is. absurd (omega (arith, is, all.exits)); broken = λ is. absurd (omega (arith, is, all.exits)); kept = λ keeps. leaves }
-  by_status (shown bytes) status leaves (inl all) = absurd leaves
-  by_status no_key status leaves (inl all) = absurd leaves
-  by_status no_line status leaves (inl all) = absurd leaves
-
-  -- where memory was wanting for the line, nothing is told of the ending
-  memory_status : (status : ℕ) → Prints o no_memory status → ByStatus status
-  memory_status status (inl all) = record { done = λ is. absurd (omega (arith, is, all.exits)); broken = λ is. absurd (omega (arith, is, all.exits)); kept = λ keeps. absurd (keeps.2 all.exits) }
-  memory_status status (inr part) = record { done = λ is. absurd (omega (arith, is, part.exits)); broken = λ is. absurd (omega (arith, is, part.exits)); kept = λ keeps. absurd (keeps.3 part.exits) }
-
-  either_status : (e t : Ending) (status : ℕ) → (e ≡ t) ⊎ (e ≡ no_memory) → AddLeaves key value old t now → Prints o e status → ByStatus status
-  either_status e t status (inl same) leaves prints = by_status t status leaves (subst (λ x. Prints o x status) same prints)
-  either_status e t status (inr none) leaves prints = memory_status status (subst (λ x. Prints o x status) none prints)
-
 pub run_leaves : (key value : List ℕ) (old : History) (now : Option History) (o : Output) (e t : Ending) (status : ℕ) → NameLeft key value (Some old) t now → (e ≡ t) ⊎ (e ≡ no_memory) → Prints o e status → RunLeaves key value old status now
 run_leaves key value old now o e t status left printed prints =
-    let by = either_status key value old left.0 o e t status printed left.2 prints in
+    let leaves = add_leaves key value old left.0 t left.2 in
+    let by = by_status (Gained key value old left.0) (Interrupted key value old left.0) (left.0 ≡ old) o e t status printed prints leaves in
     record {
-      there = (left.0, left.1, add_any key value old left.0 t left.2);
+      there = (left.0, left.1, leaves_any (Gained key value old left.0) (Interrupted key value old left.0) (left.0 ≡ old) t leaves);
       done = λ is. (left.0, left.1, by.done is);
       broken = λ is. (left.0, left.1, by.broken is);
       kept = λ keeps. left.1 ∙ ap Some (by.kept keeps);
@@ -152,7 +209,6 @@ run_leaves key value old now o e t status left printed prints =
 -- a status that keeps all is that of an ending that does
 pub ending_keeps : (o : Output) (e t : Ending) (status : ℕ) → (e ≡ t) ⊎ (e ≡ no_memory) → Prints o e status → KeepsAll status → Keeps t
 ending_keeps o e t status printed (inr part) keeps = absurd (keeps.3 part.exits)
-ending_keeps o e t status (inr none) (inl all) keeps = absurd (keeps.2 (subst (λ x. status ≡ status_of x) none all.exits))
+ending_keeps o e t status (inr none) (inl all) keeps = absurd (keeps.2 (all.exits ∙ ap status_of none))
 ending_keeps o e t status (inl same) (inl all) keeps =
-    let told : status ≡ status_of t = subst (λ x. status ≡ status_of x) same all.exits in
-    ((λ done. keeps.0 (told ∙ ap status_of done)), (λ fault. keeps.1 (told ∙ ap status_of fault)))
+    let told : status ≡ status_of t = all.exits ∙ ap status_of same in ((λ done. keeps.0 (told ∙ done)), (λ fault. keeps.1 (told ∙ fault)))

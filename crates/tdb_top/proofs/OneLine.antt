@@ -1,7 +1,6 @@
 -- Words ask for one thing at most.
-use Rattle.std.proofs.Common.{◌*◌, ◌≡◌, ℕ, ◌<◌, ◌≤◌, List, [], ◌∷◌, length, Some, refl, sym, ◌∙◌, ap, subst, arith}
+use Rattle.std.proofs.Common.{◌*◌, ◌≡◌, ℕ, ◌<◌, ◌≤◌, List, [], ◌∷◌, length, refl, sym, ◌∙◌, ap, subst, arith}
 use Rattle.std.specs.Prelude.{codes, string_bytes, slice_index}
-use Rattle.tdb_disk.specs.History.{seen}
 use Rattle.tdb_dump.specs.Word.{IsWord}
 use Rattle.tdb_dump.proofs.GrammarLemmas.{one_word}
 use Rattle.tdb_top.specs.declared.line.TheConstants.{LONGEST_WORD}
@@ -12,7 +11,6 @@ use Rattle.tdb_words.specs.declared.hash.HashKind.{HashKind}
 use Rattle.tdb_words.specs.declared.hash.HashKind.TheVariants.{Old, Jenkins}
 use Rattle.tdb_top.specs.CommandLine.{Line, show, insert, create, check, file_of, length_in, asked_by, hash_word, order_word, tool_words, IsPosition, IsShow, IsInsert, IsOrder, IsHash, IsCreate, IsCommand, IsSized, IsLine, HasNoLine}
 use Rattle.tdb_top.proofs.ShortWords.{word_short}
-use Rattle.tdb_top.specs.Ending.{Met, Asked, AskedInsert}
 
 -- two commands with the same words are one command over one file, with the same arguments
 record SameCommand (file other command name : List ℕ) (words more : List (List ℕ)) : Type 0 where
@@ -202,26 +200,3 @@ line_sized words (C.TheVariants.Show file key) p = tt
 line_sized words (C.TheVariants.Insert file key value) p = tt
 line_sized words (C.TheVariants.Create file form) p = size_some p.0 form.size form.hash form.order p.3
 line_sized words (C.TheVariants.Check file) p = tt
-
-module _ (m : Met) (k1 i1 k2 i2 : List ℕ) (a : Asked m k1 i1) (b : Asked m k2 i2) where
-  -- the key and the image that are asked for are fixed
-  pub asked_key : k1 ≡ k2
-  asked_key = key_one m.words a.file k1 b.file k2 a.line b.line
-
-  pub asked_image : i1 ≡ i2
-  asked_image =
-      let there : Some a.history ≡ Some b.history = sym a.there ∙ ap m.held (file_one m.words a.file k1 b.file k2 a.line b.line) ∙ b.there in
-      let same : a.history ≡ b.history = cc in sym a.bytes ∙ ap seen same ∙ b.bytes
-
-module _ (m : Met) (k1 v1 i1 k2 v2 i2 : List ℕ) (a : AskedInsert m k1 v1 i1) (b : AskedInsert m k2 v2 i2) where
-  -- the same of an insert
-  pub added_key : k1 ≡ k2
-  added_key = insert_key m.words a.file k1 v1 b.file k2 v2 a.line b.line
-
-  pub added_value : v1 ≡ v2
-  added_value = insert_value m.words a.file k1 v1 b.file k2 v2 a.line b.line
-
-  pub added_image : i1 ≡ i2
-  added_image =
-      let there : Some a.history ≡ Some b.history = sym a.there ∙ ap m.held (insert_file m.words a.file k1 v1 b.file k2 v2 a.line b.line) ∙ b.there in
-      let same : a.history ≡ b.history = cc in sym a.bytes ∙ ap seen same ∙ b.bytes

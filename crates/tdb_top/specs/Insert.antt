@@ -1,6 +1,6 @@
 -- The first change of a file: a key and its value are added at the end, as a record in front of its chain.
 use Rattle.std.specs.Prelude.{◌≡◌, ℕ, ◌+◌, ◌-◌, ◌*◌, ◌/◌, ◌<◌, ◌≤◌, ◌⊎◌, List, ◌++◌, length, replicate}
-use Rattle.std.specs.Prelude.{Some}
+use Rattle.std.specs.Prelude.{None, Some, IsSome}
 use Rattle.std.specs.Map.{update}
 use Rattle.tdb_disk.specs.History.{History, seen}
 use Rattle.tdb_disk.specs.Image.{overlay}
@@ -8,7 +8,7 @@ use Rattle.tdb_disk.specs.Stop.{Quiet}
 use Rattle.tdb_words.specs.declared.record.TheConstants.{USED, PADDING}
 use Rattle.tdb_words.specs.declared.record.Rec.{Rec}
 use Rattle.tdb_words.specs.declared.word.Order.{Order}
-use Rattle.tdb_words.specs.Word.{bytes_of_word}
+use Rattle.tdb_words.specs.Word.{word, bytes_of_word}
 use Rattle.tdb_words.specs.Record.{bytes_of_rec}
 use Rattle.tdb_words.specs.Hash.{h_of}
 use Rattle.tdb_space.specs.Form.{Form, form_of, chain_head}
@@ -16,7 +16,6 @@ use Rattle.tdb_space.specs.Pairs.{home, map_of, same_key}
 use Rattle.tdb_space.specs.Accepted.{Accept}
 use Rattle.tdb_top.specs.declared.insert.Inserted.{Inserted}
 use Rattle.tdb_top.specs.declared.insert.Inserted.TheVariants.{Done, Exists, Full}
-use Rattle.tdb_top.specs.Walk.{first_of, IsUsable, IsFollowed, HasValue, FindsNone, ChainFault}
 
 -- a number, rounded up to whole words
 abbrev pub whole_words : ℕ → ℕ
@@ -30,6 +29,10 @@ rec_len_for key_len value_len = let sum = key_len + value_len in whole_words (su
 -- how many bytes a new record takes, with its header
 abbrev pub need_for : List ℕ → List ℕ → ℕ
 need_for key value = 24 + rec_len_for (length key) (length value)
+
+-- where the chain of a key begins
+abbrev pub first_of : Form → List ℕ → List ℕ → ℕ
+first_of f img key = word f.order img (chain_head (home f key))
 
 -- the header of a new record: used, filed by the hash of its key, and leading to what was the first of the key's chain
 abbrev pub new_rec : Form → ℕ → List ℕ → List ℕ → Rec
@@ -61,25 +64,18 @@ inserted f img key value =
 abbrev pub BrokenOff : List ℕ → List ℕ → ℕ → List ℕ → Type 0
 BrokenOff old made room now = (now ≡ made) ⊎ ((more : List ℕ) × (length more ≤ room) × (now ≡ old ++ more))
 
--- the image can be used, and on the whole chain of the key no record has it
-abbrev pub CanAdd : List ℕ → List ℕ → Type 0
-CanAdd img key = IsUsable img × FindsNone (form_of img) img key
+-- the key isn't there, and a file of so many bytes has no room for so many more, which its record needs, below the limit
+pub record HasNoRoom (img key value : List ℕ) (limit len need : ℕ) : Type 0 where
+  pub absent : map_of (form_of img) img key ≡ None
+  pub told_len : len ≡ length img
+  pub told_need : need ≡ need_for key value
+  pub passes : limit < len + need
 
--- the image can be used, and the whole chain of the key can be followed and has a used record with it
-abbrev pub HasAlready : List ℕ → List ℕ → Type 0
-HasAlready img key =
-    IsUsable img × IsFollowed (form_of img) img key × HasValue (form_of img) img key
-
--- why an insert into an image ends so, where the file may have so many bytes
+-- why an insert into an opened image ends so, where the file may have so many bytes
 abbrev pub InsertCause : List ℕ → List ℕ → List ℕ → ℕ → Inserted → Type 0
-InsertCause img key value limit Done = CanAdd img key × (length img + need_for key value ≤ limit)
-InsertCause img key value limit Exists = HasAlready img key
-InsertCause img key value limit (Full len need) =
-    CanAdd img key × (len ≡ length img) × (need ≡ need_for key value) × (limit < len + need)
-
--- an image is refused at an insert of a key
-abbrev pub InsertFault : List ℕ → List ℕ → Type 0
-InsertFault img key = (IsUsable img → ⊥) ⊎ (IsUsable img × ChainFault (form_of img) img key)
+InsertCause img key value limit Done = (map_of (form_of img) img key ≡ None) × (length img + need_for key value ≤ limit)
+InsertCause img key value limit Exists = IsSome (map_of (form_of img) img key)
+InsertCause img key value limit (Full len need) = HasNoRoom img key value limit len need
 
 -- the history of the disk after the insert is done: all of it is on the medium
 pub record IsInserted (img key value : List ℕ) (now : History) : Type 0 where

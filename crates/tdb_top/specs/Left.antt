@@ -1,40 +1,42 @@
 -- What a run leaves of the files.
 use Rattle.std.specs.Prelude.{◌≡◌, ◌≢◌, ◌⊎◌, ℕ, Option, None, Some, List}
+use Rattle.tdb_words.specs.declared.word.Order.{Order}
+use Rattle.tdb_words.specs.declared.hash.HashKind.{HashKind}
 use Rattle.tdb_disk.specs.History.{History, seen}
 use Rattle.tdb_disk.specs.Names.{SameAll, SameBut}
 use Rattle.tdb_space.specs.Form.{form_of}
-use Rattle.tdb_space.specs.Accepted.{Accept}
 use Rattle.tdb_top.specs.declared.insert.Inserted.TheVariants.{Done, Exists, Full}
-use Rattle.tdb_words.specs.declared.word.Order.{Order}
-use Rattle.tdb_words.specs.declared.hash.HashKind.{HashKind}
-use Rattle.tdb_top.specs.declared.create.Creation.TheVariants.{Device, Memory}
+use Rattle.tdb_top.specs.declared.create.Creation.TheVariants.{Made, There, Device, Memory}
 use Rattle.tdb_top.specs.CommandLine.{Line, show, insert, create, check, IsLine}
 use Rattle.tdb_top.specs.Create.{CreateLeaves}
-use Rattle.tdb_top.specs.Ending.{Ending, shown, no_key, insert_ends, no_line, refused, device_fault, no_memory, missing}
+use Rattle.tdb_top.specs.Ending.{Ending, shown, no_key, insert_ends, created, number, no_line, refused, device_fault, no_memory, missing, there_already, status_of}
 use Rattle.tdb_top.specs.Insert.{need_for, inserted, BrokenOff, IsInserted, HasAdded}
 
--- the file holds the key with the value, all of it on the medium, and an image that was accepted still is, its map with the key more
+-- the file holds the key with the value, all of it on the medium, in an accepted image whose map has the key more
 pub record Gained (key value : List ℕ) (old now : History) : Type 0 where
   pub exact : IsInserted (seen old) key value now
-  pub added : Accept (seen old) → HasAdded (seen old) key value (seen now)
+  pub added : HasAdded (seen old) key value (seen now)
 
 -- the file is as a call that failed in the midst of the insert left it
 abbrev pub Interrupted : List ℕ → List ℕ → History → History → Type 0
 Interrupted key value old now = BrokenOff (seen old) (inserted (form_of (seen old)) (seen old) key value) (need_for key value) (seen now)
 
 -- What adding a key leaves of its file where it ends so: the key more, or an insert broken off, or the file as it was. It doesn't
--- end as a show does.
+-- end as other lines do.
 abbrev pub AddLeaves : List ℕ → List ℕ → History → Ending → History → Type 0
 AddLeaves key value old (insert_ends Done) now = Gained key value old now
 AddLeaves key value old (insert_ends Exists) now = now ≡ old
 AddLeaves key value old (insert_ends (Full len need)) now = now ≡ old
-AddLeaves key value old refused now = now ≡ old
+AddLeaves key value old (refused refusal) now = now ≡ old
 AddLeaves key value old device_fault now = Interrupted key value old now
 AddLeaves key value old no_memory now = now ≡ old
 AddLeaves key value old (missing name) now = now ≡ old
 AddLeaves key value old (shown bytes) now = ⊥
 AddLeaves key value old no_key now = ⊥
+AddLeaves key value old created now = ⊥
+AddLeaves key value old (number n) now = ⊥
 AddLeaves key value old no_line now = ⊥
+AddLeaves key value old (there_already name) now = ⊥
 
 -- the same of what is held at the file's name; where no file was, none is
 abbrev pub NameLeft : List ℕ → List ℕ → Option History → Ending → Option History → Type 0
@@ -43,13 +45,16 @@ NameLeft key value (Some old) e now = (h : History) × (now ≡ Some h) × AddLe
 
 -- what making a file leaves at its name where it ends so; it doesn't end as other lines do
 abbrev pub CreateLeft : ℕ → HashKind → Order → Option History → Ending → Option History → Type 0
+CreateLeft size hash order old created now = CreateLeaves size order hash old Made now
+CreateLeft size hash order old (there_already name) now = CreateLeaves size order hash old There now
 CreateLeft size hash order old device_fault now = CreateLeaves size order hash old Device now
 CreateLeft size hash order old no_memory now = CreateLeaves size order hash old Memory now
 CreateLeft size hash order old (insert_ends inserted) now = ⊥
-CreateLeft size hash order old refused now = ⊥
+CreateLeft size hash order old (refused refusal) now = ⊥
 CreateLeft size hash order old (missing name) now = ⊥
 CreateLeft size hash order old (shown bytes) now = ⊥
 CreateLeft size hash order old no_key now = ⊥
+CreateLeft size hash order old (number n) now = ⊥
 CreateLeft size hash order old no_line now = ⊥
 
 -- what answering a line leaves of the files: a show and a check change none, and an insert and a create at most that of their name
@@ -71,9 +76,9 @@ pub record WordsLeave (words : List (List ℕ)) (old : List ℕ → Option Histo
   pub lines : (line : Line) → IsLine words line → LineLeaves line old e now
   pub others : (name : List ℕ) → ((line : Line) → IsLine words line → MayChange line name → ⊥) → now name ≡ old name
 
--- an ending after which every file is as before, whatever the words ask for
+-- an ending after which every file is as before, whatever the words ask for: nothing was done, and no call failed
 abbrev pub Keeps : Ending → Type 0
-Keeps e = (e ≢ insert_ends Done) × (e ≢ device_fault)
+Keeps e = (status_of e ≢ 0) × (status_of e ≢ 4)
 
 -- a status after which every file is as before, whatever the words ask for
 abbrev pub KeepsAll : ℕ → Type 0
@@ -86,3 +91,10 @@ pub record RunLeaves (key value : List ℕ) (old : History) (status : ℕ) (now 
   pub done : status ≡ 0 → (h : History) × (now ≡ Some h) × Gained key value old h
   pub broken : status ≡ 4 → (h : History) × (now ≡ Some h) × Interrupted key value old h
   pub kept : KeepsAll status → now ≡ Some old
+
+-- A run of a create that ends with a status leaves what is held at its file's name so, in the same way.
+pub record RunMakes (size : ℕ) (hash : HashKind) (order : Order) (old : Option History) (status : ℕ) (now : Option History) : Type 0 where
+  pub any : (now ≡ old) ⊎ CreateLeaves size order hash old Made now ⊎ CreateLeaves size order hash old Device now
+  pub done : status ≡ 0 → CreateLeaves size order hash old Made now
+  pub broken : status ≡ 4 → CreateLeaves size order hash old Device now
+  pub kept : KeepsAll status → now ≡ old

@@ -1,7 +1,6 @@
 pub mod CommandLine
-pub mod Create
-pub mod Walk
-pub mod Look
+pub mod Opening
 pub mod Insert
+pub mod Create
 pub mod Ending
 pub mod Left

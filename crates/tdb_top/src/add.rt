@@ -3,17 +3,15 @@
 ghost use Rattle.std.specs.Prelude.{◌≡◌, ◌+◌, ◌^◌, ◌<◌, ◌≤◌, ℕ, List, false, length, IsTrue};
 ghost use Rattle.tdb_disk.specs.Count.{Rose};
 ghost use Rattle.tdb_disk.specs.Names.{SameBut};
-ghost use Rattle.tdb_top.specs.Ending.{AddCause, ending_of, no_line, device_fault};
+ghost use Rattle.tdb_top.specs.CommandLine.{insert};
+ghost use Rattle.tdb_top.specs.Ending.{LineCause, ending_of, no_line, device_fault};
 ghost use Rattle.tdb_top.specs.Left.{NameLeft};
 
 use crate::ending::Ending;
 use crate::insert::insert;
+use crate::opening::LONGEST_FILE;
 use std::alloc::Global;
-use tdb_disk::{Files, Take, TakeRefusal};
-use tdb_words::Bytes;
-
-/// The greatest length of a file, in bytes: what a word can tell, less a page.
-pub const LONGEST_FILE: u64 = 4_294_963_200;
+use tdb_disk::{Files, Take};
 
 /// Adds a key with a value to the file of this name.
 pub(crate) fn add_key<F: Files>(
@@ -25,7 +23,7 @@ pub(crate) fn add_key<F: Files>(
 ) -> Ending
     requires short { length key.now + length value.now < 2 ^ 32 }
     requires free { (other : List ℕ) → F.is_taken files.old other ≡ false }
-    ensures cause { IsTrue F.D.tells → AddCause (F.held files.old name.now) name.now key.now value.now (F.faults files.old) (F.faults files.new) (ending_of result) }
+    ensures cause { IsTrue F.D.tells → LineCause (insert name.now key.now value.now) (F.held files.old name.now) (F.faults files.old) (F.faults files.new) (ending_of result) }
     ensures device { ending_of result ≡ device_fault → Rose (F.faults files.old) (F.faults files.new) }
     ensures line { ending_of result ≡ no_line → ⊥ }
     ensures given_back { (other : List ℕ) → F.is_taken files.new other ≡ false }
@@ -42,12 +40,6 @@ pub(crate) fn add_key<F: Files>(
                 Err(halt) => Ending::from(halt),
             }
         }
-        Err(TakeRefusal::Missing) => match Bytes::copy(alloc, name.as_bytes()) {
-            Ok(name) => Ending::Missing(name),
-            Err(_) => Ending::NoMemory,
-        },
-        Err(TakeRefusal::Failed) => Ending::DeviceFault,
-        Err(TakeRefusal::Memory) => Ending::NoMemory,
-        Err(TakeRefusal::There) => unreachable!(),
+        Err(refusal) => Ending::untaken(alloc, name, refusal),
     }
 }

@@ -3,13 +3,14 @@
 ghost use Rattle.std.specs.Prelude.{◌≡◌, ◌⊎◌, ◌++◌, codes, decimal, IfOk};
 ghost use Rattle.tdb_top.specs.declared.ending.Ending.TheVariants.{DeviceFault, NoMemory, Refused as IsRefused};
 ghost use Rattle.tdb_top.specs.declared.halt.Halt.TheVariants.{Refused, Device, Memory};
-ghost use Rattle.tdb_top.specs.Ending.{Ending as Means, ending_of, no_memory, status_of, text_of, Prints, output_by, of_halt};
+ghost use Rattle.tdb_top.specs.Ending.{Ending as Means, ending_of, no_memory, there_already, status_of, line_of, refusal_status, refusal_line, text_of, Prints, output_by, of_halt, Untaken, MadeSo};
 
-use crate::halt::Halt;
+use crate::create::Creation;
+use crate::halt::{Halt, Refusal};
 use crate::insert::Inserted;
 use itoa::Buffer;
 use std::alloc::{AllocError, Global};
-use tdb_disk::Sink;
+use tdb_disk::{Sink, TakeRefusal};
 use tdb_dump::data_line;
 use tdb_words::Bytes;
 
@@ -29,11 +30,17 @@ pub(crate) enum Ending {
     /// A key was to be added.
     Insert(Inserted),
 
+    /// A file was made.
+    Created,
+
+    /// The file is accepted, and has so many keys.
+    Number(u64),
+
     /// The words are no command line.
     NoLine,
 
     /// The file is refused.
-    Refused,
+    Refused(Refusal),
 
     /// A call of the files or of a disk failed.
     DeviceFault,
@@ -41,6 +48,9 @@ pub(crate) enum Ending {
 
     /// There is no file of this name.
     Missing(Bytes),
+
+    /// There is a file of this name, which was to be made.
+    There(Bytes),
 }
 
 impl From<Halt> for Ending {
@@ -48,7 +58,7 @@ impl From<Halt> for Ending {
 
     fn from(halt: Halt) -> Self {
         match halt {
-            Halt::Refused => Ending::Refused,
+            Halt::Refused { refusal } => Ending::Refused(refusal),
             Halt::Device => Ending::DeviceFault,
             Halt::Memory => Ending::NoMemory,
         }
@@ -67,43 +77,126 @@ fn full_line(alloc: Global, len: u64, need: u64) -> Result<Bytes, AllocError>
     Ok(text)
 }
 
+/// A word, and a text behind it.
+fn joined(alloc: Global, word: &[u8], rest: &[u8]) -> Result<Bytes, AllocError>
+    ensures { IfOk result (λ text. text ≡ word.now ++ rest.now) }
+{
+    let mut text = Bytes::copy(alloc, word)?;
+    text.push_all(rest)?;
+    Ok(text)
+}
+
+impl Refusal {
+    /// The status that tells it.
+    fn status(self) -> Status
+        ensures { result.0 ≡ refusal_status self }
+    {
+        Status(match self {
+            Refusal::TooLong { len: _ } => 6,
+            Refusal::Header { fault: _ } | Refusal::Corrupt { what: _, at: _ } => 3,
+        })
+    }
+
+    /// The line that tells it, without a newline.
+    fn line(self, alloc: Global) -> Result<Bytes, AllocError>
+        ensures { IfOk result (λ text. text ≡ refusal_line self) }
+    {
+        let mut number = Buffer::new();
+        match self {
+            Refusal::TooLong { len } => joined(alloc, b"toolong ", number.format(len).as_bytes()),
+            Refusal::Header { fault } => joined(alloc, b"header ", fault.as_str().as_bytes()),
+            Refusal::Corrupt { what, at } => {
+                let mut text = joined(alloc, b"corrupt ", what.as_str().as_bytes())?;
+                text.push_all(b" ")?;
+                text.push_all(number.format(at).as_bytes())?;
+                Ok(text)
+            }
+        }
+    }
+}
+
 impl Ending {
+    /// The ending where there is a file of a name, which was to be made.
+    fn is_there(alloc: Global, name: &str) -> Ending
+        ensures { (ending_of result ≡ there_already name.now) ⊎ (ending_of result ≡ no_memory) }
+    {
+        match Bytes::copy(alloc, name.as_bytes()) {
+            Ok(name) => Ending::There(name),
+            Err(_) => Ending::NoMemory,
+        }
+    }
+
+    /// The ending where the file of a name wasn't taken.
+    pub(crate) fn untaken(alloc: Global, name: &str, refusal: TakeRefusal) -> Ending
+        ensures { Untaken name.now refusal (ending_of result) }
+    {
+        match refusal {
+            TakeRefusal::Missing => match Bytes::copy(alloc, name.as_bytes()) {
+                Ok(name) => Ending::Missing(name),
+                Err(_) => Ending::NoMemory,
+            },
+            TakeRefusal::There => Ending::is_there(alloc, name),
+            TakeRefusal::Failed => Ending::DeviceFault,
+            TakeRefusal::Memory => Ending::NoMemory,
+        }
+    }
+
+    /// The ending where the file of a name was to be made.
+    pub(crate) fn made(alloc: Global, name: &str, creation: Creation) -> Ending
+        ensures { MadeSo name.now creation (ending_of result) }
+    {
+        match creation {
+            Creation::Made => Ending::Created,
+            Creation::There => Ending::is_there(alloc, name),
+            Creation::Device => Ending::DeviceFault,
+            Creation::Memory => Ending::NoMemory,
+        }
+    }
+
     /// The status that tells it.
     pub(crate) fn status(&self) -> Status
         ensures { result.0 ≡ status_of (ending_of self.now) }
     {
         Status(match self {
             Ending::Shown(_) | Ending::Insert(Inserted::Done) => 0,
+            Ending::Created | Ending::Number(_) => 0,
             Ending::NoKey | Ending::Insert(Inserted::Exists) => 1,
             Ending::NoLine => 2,
-            Ending::Refused => 3,
+            Ending::Refused(refusal) => return refusal.status(),
             Ending::DeviceFault => 4,
             Ending::NoMemory => 5,
             Ending::Insert(Inserted::Full { len: _, need: _ }) => 6,
-            Ending::Missing(_) => 9,
+            Ending::Missing(_) | Ending::There(_) => 9,
         })
+    }
+
+    /// The line that tells it, without a newline.
+    fn line(&self, alloc: Global) -> Result<Bytes, AllocError>
+        ensures { IfOk result (λ text. text ≡ line_of (ending_of self.now)) }
+    {
+        match self {
+            Ending::Shown(value) => data_line(alloc, value.as_slice()),
+            Ending::NoKey => Bytes::copy(alloc, b"noexist"),
+            Ending::Insert(Inserted::Done) | Ending::Created => Bytes::copy(alloc, b"ok"),
+            Ending::Insert(Inserted::Exists) => Bytes::copy(alloc, b"exists"),
+            Ending::Insert(Inserted::Full { len, need }) => full_line(alloc, *len, *need),
+            Ending::Number(number) => {
+                joined(alloc, b"number ", Buffer::new().format(*number).as_bytes())
+            }
+            Ending::NoLine => Bytes::copy(alloc, b"usage: tdb COMMAND [OPTIONS] FILE [WORDS]"),
+            Ending::Refused(refusal) => refusal.line(alloc),
+            Ending::DeviceFault => Bytes::copy(alloc, b"device fault"),
+            Ending::NoMemory => Bytes::copy(alloc, b"memory"),
+            Ending::Missing(name) => joined(alloc, b"missing ", name.as_slice()),
+            Ending::There(name) => joined(alloc, b"there ", name.as_slice()),
+        }
     }
 
     /// The line that tells it, with its newline.
     pub(crate) fn text(&self, alloc: Global) -> Result<Bytes, AllocError>
         ensures { IfOk result (λ text. text ≡ text_of (ending_of self.now)) }
     {
-        let mut text = match self {
-            Ending::Shown(value) => data_line(alloc, value.as_slice())?,
-            Ending::NoKey => Bytes::copy(alloc, b"noexist")?,
-            Ending::Insert(Inserted::Done) => Bytes::copy(alloc, b"ok")?,
-            Ending::Insert(Inserted::Exists) => Bytes::copy(alloc, b"exists")?,
-            Ending::Insert(Inserted::Full { len, need }) => full_line(alloc, *len, *need)?,
-            Ending::NoLine => Bytes::copy(alloc, b"usage: tdb COMMAND [OPTIONS] FILE [WORDS]")?,
-            Ending::Refused => Bytes::copy(alloc, b"refused")?,
-            Ending::DeviceFault => Bytes::copy(alloc, b"device fault")?,
-            Ending::NoMemory => Bytes::copy(alloc, b"memory")?,
-            Ending::Missing(name) => {
-                let mut text = Bytes::copy(alloc, b"missing ")?;
-                text.push_all(name.as_slice())?;
-                text
-            }
-        };
+        let mut text = self.line(alloc)?;
         text.push_all(b"\n")?;
         Ok(text)
     }

@@ -1,18 +1,39 @@
-// Why a look-up of a file ends without an answer.
+// Why a file isn't opened, and why a look into it ends without an answer.
 
 ghost use Rattle.std.specs.Prelude.{◌≡◌};
 ghost use Rattle.tdb_top.specs.declared.halt.Halt.TheVariants.{Device, Memory};
+ghost use Rattle.tdb_top.specs.Opening.{of_front, of_check, of_value};
 
 use std::alloc::AllocError;
+use tdb_chain::ValueRefusal;
+use tdb_check::{CheckRefusal, FrontRefusal};
 use tdb_disk::DiskFault;
+use tdb_space::Io;
+use tdb_words::{HeaderFault, What};
 use thiserror::Error;
 
-/// Why a look-up of a file ends without an answer.
+/// Why a file isn't opened: a fact about its bytes. Lengths and places are in bytes.
+#[derive(Clone, Copy, Debug, PartialEq, Eq, Error)]
+pub(crate) enum Refusal {
+    /// The file, of `len` bytes, is longer than the longest.
+    #[error("toolong {len}")]
+    TooLong { len: u64 },
+
+    /// The header has a fault, and this is its first.
+    #[error("header {fault}")]
+    Header { fault: HeaderFault },
+
+    /// Behind a sound header the file has a fault, and this is its first.
+    #[error("corrupt {what} {at}")]
+    Corrupt { what: What, at: u64 },
+}
+
+/// Why a look into a file ends without an answer.
 #[derive(Clone, Copy, Debug, PartialEq, Eq, Error)]
 pub(crate) enum Halt {
-    /// The bytes of the file aren't those of a sound one.
-    #[error("refused")]
-    Refused,
+    /// The file isn't opened.
+    #[error("{refusal}")]
+    Refused { refusal: Refusal },
 
     /// A call of the disk failed.
     #[error("device fault")]
@@ -29,10 +50,62 @@ impl From<DiskFault> for Halt {
     }
 }
 
+impl From<Io> for Halt {
+    ghost from_gives = { λ _ e. e ≡ Device };
+
+    fn from(_: Io) -> Self {
+        Halt::Device
+    }
+}
+
 impl From<AllocError> for Halt {
     ghost from_gives = { λ _ e. e ≡ Memory };
 
     fn from(_: AllocError) -> Self {
         Halt::Memory
+    }
+}
+
+impl From<ValueRefusal> for Halt {
+    ghost from_gives = { λ refusal e. e ≡ of_value refusal };
+
+    fn from(refusal: ValueRefusal) -> Self {
+        match refusal {
+            ValueRefusal::Io => Halt::Device,
+            ValueRefusal::Memory => Halt::Memory,
+        }
+    }
+}
+
+impl From<FrontRefusal> for Halt {
+    ghost from_gives = { λ front e. e ≡ of_front front };
+
+    fn from(front: FrontRefusal) -> Self {
+        match front {
+            FrontRefusal::Short { len } => Halt::Refused {
+                refusal: Refusal::Corrupt {
+                    what: What::Short,
+                    at: len,
+                },
+            },
+            FrontRefusal::Header { fault } => Halt::Refused {
+                refusal: Refusal::Header { fault },
+            },
+            FrontRefusal::Io => Halt::Device,
+        }
+    }
+}
+
+impl From<CheckRefusal> for Halt {
+    ghost from_gives = { λ fault e. e ≡ of_check fault };
+
+    fn from(fault: CheckRefusal) -> Self {
+        match fault {
+            CheckRefusal::Corrupt { what, at } => Halt::Refused {
+                refusal: Refusal::Corrupt { what, at },
+            },
+            CheckRefusal::Io => Halt::Device,
+            CheckRefusal::Memory => Halt::Memory,
+        }
     }
 }

@@ -2,18 +2,16 @@
 #![tactic(auto)]
 
 mod add;
+mod count;
 mod create;
 mod ending;
-mod front;
 mod halt;
 mod insert;
 mod line;
 mod new_record;
-mod record;
+mod opening;
 mod show;
 mod top;
-mod walk;
-mod whole_chain;
 
 pub use ending::Status;
 pub use top::run;

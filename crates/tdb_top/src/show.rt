@@ -1,20 +1,46 @@
 // The command that shows the value of a key.
 
-ghost use Rattle.std.specs.Prelude.{◌≡◌, ◌^◌, ◌<◌, ◌≤◌, ℕ, List, false, length, IsTrue};
+ghost use Rattle.std.specs.Prelude.{◌≡◌, ◌^◌, ◌<◌, ◌≤◌, ℕ, List, false, length, IsTrue, IfOk, IfErr};
 ghost use Rattle.tdb_disk.specs.Count.{Rose};
-ghost use Rattle.tdb_top.specs.Ending.{ShowCause, ending_of, no_line, device_fault};
+ghost use Rattle.tdb_disk.specs.History.{seen};
+ghost use Rattle.tdb_space.specs.Form.{form_of};
+ghost use Rattle.tdb_space.specs.Pairs.{map_of};
+ghost use Rattle.tdb_top.specs.CommandLine.{show};
+ghost use Rattle.tdb_top.specs.Ending.{LineCause, ending_of, no_line, device_fault};
+ghost use Rattle.tdb_top.specs.Opening.{CanOpen, HaltsForCause, HaltsRightly};
 
 use crate::ending::Ending;
-use crate::walk::look_up;
+use crate::halt::Halt;
+use crate::opening::Opened;
 use std::alloc::Global;
-use tdb_disk::{Files, Take, TakeRefusal};
+use tdb_chain::{find, value};
+use tdb_disk::{Disk, Files, Take};
+use tdb_space::Direct;
 use tdb_words::Bytes;
+
+/// Opens the file on a disk, and looks up the value that it holds for a key, if any.
+fn look_up<D: Disk>(alloc: Global, disk: &mut D, key: &[u8]) -> Result<Option<Bytes>, Halt>
+    requires { length key.now < 2 ^ 32 }
+    ensures opened { IfOk result (λ found. IsTrue D.tells → CanOpen (seen (D.history disk.old))) }
+    ensures found { IfOk result (λ found. IsTrue D.tells → map_of (form_of (seen (D.history disk.old))) (seen (D.history disk.old)) key.now ≡ found) }
+    ensures refused { IfErr result (λ halt. IsTrue D.tells → HaltsRightly (seen (D.history disk.old)) halt) }
+    ensures size { D.size disk.new ≡ D.size disk.old }
+    ensures history { D.history disk.new ≡ D.history disk.old }
+    ensures cause { HaltsForCause (D.faults disk.old) (D.faults disk.new) result }
+{
+    let opened = Opened::open(alloc, disk)?;
+    let mut space = Direct::new(disk, &opened.header);
+    match find(&mut space, key)? {
+        Some(place) => Ok(Some(value(alloc, &mut space, &place)?)),
+        None => Ok(None),
+    }
+}
 
 /// Shows the value that the file of this name holds for a key.
 pub(crate) fn show<F: Files>(alloc: Global, name: &str, key: &[u8], files: &mut F) -> Ending
     requires short { length key.now < 2 ^ 32 }
     requires free { (other : List ℕ) → F.is_taken files.old other ≡ false }
-    ensures cause { IsTrue F.D.tells → ShowCause (F.held files.old name.now) name.now key.now (F.faults files.old) (F.faults files.new) (ending_of result) }
+    ensures cause { IsTrue F.D.tells → LineCause (show name.now key.now) (F.held files.old name.now) (F.faults files.old) (F.faults files.new) (ending_of result) }
     ensures device { ending_of result ≡ device_fault → Rose (F.faults files.old) (F.faults files.new) }
     ensures line { ending_of result ≡ no_line → ⊥ }
     ensures given_back { (other : List ℕ) → F.is_taken files.new other ≡ false }
@@ -31,12 +57,6 @@ pub(crate) fn show<F: Files>(alloc: Global, name: &str, key: &[u8], files: &mut 
                 Err(halt) => Ending::from(halt),
             }
         }
-        Err(TakeRefusal::Missing) => match Bytes::copy(alloc, name.as_bytes()) {
-            Ok(name) => Ending::Missing(name),
-            Err(_) => Ending::NoMemory,
-        },
-        Err(TakeRefusal::Failed) => Ending::DeviceFault,
-        Err(TakeRefusal::Memory) => Ending::NoMemory,
-        Err(TakeRefusal::There) => unreachable!(),
+        Err(refusal) => Ending::untaken(alloc, name, refusal),
     }
 }

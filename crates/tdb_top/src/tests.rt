@@ -4,6 +4,7 @@ ghost use Rattle.std.specs.Prelude.{◌≡◌, ◌≤◌, ℕ, List, false};
 ghost use Rattle.tdb_disk.specs.MemFiles.{name_is_taken};
 
 use crate::ending::Ending;
+use crate::halt::Refusal;
 use crate::insert::{Inserted, insert};
 use crate::{Status, run};
 use std::alloc::{AllocError, Global};
@@ -168,16 +169,20 @@ fn one_record(rt: HostRuntime) -> Result<(), Fail> {
                 0,
                 "data(1) = \"1\"\n",
             ),
+            ("tool f.tdb check", Failing::Nothing, 0, "number 1\n"),
             ("tool f.tdb show b", Failing::Nothing, 1, "noexist\n"),
             ("tool f.tdb show \"\"", Failing::Nothing, 1, "noexist\n"),
             ("tool f.tdb show \\6", Failing::Nothing, 2, USAGE),
             ("tool f.tdb shows a", Failing::Nothing, 2, USAGE),
             ("tool f.tdb show", Failing::Nothing, 2, USAGE),
+            ("tool f.tdb check a", Failing::Nothing, 2, USAGE),
             ("tool -f.tdb show a", Failing::Nothing, 2, USAGE),
             ("tool g.tdb show a", Failing::Nothing, 9, "missing g.tdb\n"),
+            ("tool g.tdb check", Failing::Nothing, 9, "missing g.tdb\n"),
+            ("tool f.tdb create", Failing::Nothing, 9, "there f.tdb\n"),
             ("tool f.tdb show a", Failing::Take, 4, "device fault\n"),
             ("tool f.tdb show a", Failing::Read(0), 4, "device fault\n"),
-            ("tool f.tdb show a", Failing::Read(4), 4, "device fault\n"),
+            ("tool f.tdb check", Failing::Read(1), 4, "device fault\n"),
             ("tool f.tdb show a", Failing::Write, 8, ""),
         ] {
             let (found, bytes) = answer(rt.alloc(), &image, words, failing)?;
@@ -189,55 +194,176 @@ fn one_record(rt: HostRuntime) -> Result<(), Fail> {
 }
 
 #[test]
-fn short_file_and_chains(rt: HostRuntime) -> Result<(), Fail> {
-    let first = Piece {
+fn dead_and_bad_records(rt: HostRuntime) -> Result<(), Fail> {
+    let dead = Piece {
         at: 696,
         next: 728,
-        magic: USED,
-        key: b'b',
-        value: b'1',
-    };
-    let dead = Piece {
-        at: 728,
-        next: 760,
         magic: DEAD,
         key: b'a',
         value: b'2',
     };
-    let last = Piece {
-        at: 760,
-        next: 0,
-        magic: USED,
-        key: b'a',
-        value: b'3',
-    };
-    for (next, magic, key, status) in [
-        (0, USED, b'a', 0),
-        (0, USED, b'c', 1),
-        (760, USED, b'c', 3),
-        (696, USED, b'c', 3),
-        (2000, USED, b'c', 3),
-        (761, USED, b'c', 3),
-        (0, 7, b'a', 3),
+    for (words, magic, status, printed) in [
+        ("tool f.tdb show a", USED, 0, "data(1) = \"3\"\n"),
+        ("tool f.tdb check", USED, 0, "number 1\n"),
+        ("tool f.tdb show a", DEAD, 1, "noexist\n"),
+        ("tool f.tdb check", DEAD, 0, "number 0\n"),
+        ("tool f.tdb show a", 7, 3, "corrupt BadRecord 728\n"),
+        ("tool f.tdb insert b 1", 7, 3, "corrupt BadRecord 728\n"),
     ] {
-        let end = Piece {
-            next,
+        let last = Piece {
+            at: 728,
+            next: 0,
             magic,
-            key,
-            ..last
+            key: b'a',
+            value: b'3',
         };
-        let image = image_of(&LITTLE, &[first, dead, end]);
-        let (found, _) = answer(rt.alloc(), &image, "tool f.tdb show a", Failing::Nothing)?;
-        assert_eq!(rt; found, status, "{next} {magic} {key}");
+        let image = image_of(&LITTLE, &[dead, last]);
+        let (found, bytes) = answer(rt.alloc(), &image, words, Failing::Nothing)?;
+        assert_eq!(rt; found, status, "{words} {magic}");
+        assert_eq!(rt; bytes.as_slice(), printed.as_bytes(), "{words} {magic}");
     }
-    let (found, bytes) = answer(
-        rt.alloc(),
-        b"TDB file\n\0",
-        "tool f.tdb show a",
-        Failing::Nothing,
-    )?;
-    assert_eq!(rt; found, 3);
-    assert_eq!(rt; bytes.as_slice(), b"refused\n".as_slice());
+    Ok(())
+}
+
+/// A word at an offset that is changed in a file.
+type Change = (u16, u32);
+
+/// A file of 4096 bytes with these words.
+fn file_with(words: &[Change]) -> [u8; 4096] {
+    let mut image = [0; 4096];
+    image[..10].copy_from_slice(b"TDB file\n\0");
+    change(&mut image, words);
+    image
+}
+
+/// Writes little-endian words into a file.
+fn change(image: &mut [u8; 4096], words: &[Change]) {
+    for (at, word) in words {
+        let at = usize::from(*at).min(4092);
+        image[at..at + 4].copy_from_slice(&word.to_le_bytes());
+    }
+}
+
+/// The header of a new file of 131 chains.
+const NEW_FILE: [Change; 4] = [
+    (32, 0x2601_196D),
+    (36, 131),
+    (52, 0xF67D_9F0D),
+    (56, 0x3AFE_F920),
+];
+
+/// The words of a free record behind the heads, and of the used record of `a` behind that.
+const ONE_RECORD: [Change; 12] = [
+    (168, 696),
+    (200, 4064),
+    (700, 3344),
+    (716, 0xD9FE_E666),
+    (4060, 3368),
+    (4068, 8),
+    (4072, 1),
+    (4076, 1),
+    (4080, 0x094A_72E9),
+    (4084, 0x2601_1999),
+    (4088, 0x4242_3161),
+    (4092, 32),
+];
+
+/// What a check prints of the first bytes of a file in which words were changed.
+fn check_of(
+    alloc: Global,
+    base: &[u8; 4096],
+    words: &[Change],
+    len: usize,
+) -> Result<(u8, Vec<u8>), AllocError> {
+    let mut image = *base;
+    change(&mut image, words);
+    let bytes = image.get(..len).unwrap_or(&[]);
+    answer(alloc, bytes, "tool f.tdb check", Failing::Nothing)
+}
+
+#[test]
+fn checks_of_one_record(rt: HostRuntime) -> Result<(), Fail> {
+    let mut image = file_with(&NEW_FILE);
+    change(&mut image, &ONE_RECORD);
+    let (status, bytes) = answer(rt.alloc(), &image, "tool f.tdb show a", Failing::Nothing)?;
+    assert_eq!(rt; status, 0);
+    assert_eq!(rt; bytes.as_slice(), b"data(1) = \"1\"\n".as_slice());
+    for (words, len, status, printed) in [
+        ([].as_slice(), 4096, 0, "number 1\n"),
+        (
+            [(4064, 4064)].as_slice(),
+            4096,
+            3,
+            "corrupt ChainLoop 4064\n",
+        ),
+        ([(200, 4066)].as_slice(), 4096, 3, "corrupt ChainOut 200\n"),
+        (
+            [(168, 4064)].as_slice(),
+            4096,
+            3,
+            "corrupt BadRecord 4064\n",
+        ),
+        (
+            [(200, 0), (204, 4064)].as_slice(),
+            4096,
+            3,
+            "corrupt WrongHash 4064\n",
+        ),
+        ([(4092, 33)].as_slice(), 4096, 3, "corrupt Tailer 4064\n"),
+        ([(700, 3348)].as_slice(), 4096, 3, "corrupt Tailer 696\n"),
+        ([(4076, 8)].as_slice(), 4096, 3, "corrupt BadRecord 4064\n"),
+        ([].as_slice(), 4095, 3, "corrupt Short 4095\n"),
+        ([].as_slice(), 4092, 3, "corrupt BadRecord 4064\n"),
+        ([].as_slice(), 4084, 3, "corrupt ChainOut 200\n"),
+        ([(36, 0)].as_slice(), 4096, 3, "header NoBuckets\n"),
+        ([(200, 0)].as_slice(), 4096, 3, "corrupt Stray 4068\n"),
+        // Of two faults the first in order is told, and of two extents that share bytes the place where the later one begins.
+        (
+            [(200, 4066), (4060, 1)].as_slice(),
+            4096,
+            3,
+            "corrupt ChainOut 200\n",
+        ),
+        (
+            [(44, 1000), (1004, 100)].as_slice(),
+            4096,
+            3,
+            "corrupt Overlap 1000\n",
+        ),
+        // An undo area whose gate is open.
+        (
+            [(44, 1000), (1004, 100), (1020, 0xF53B_C0E7)].as_slice(),
+            4096,
+            3,
+            "corrupt UndoBad 1020\n",
+        ),
+    ] {
+        let (found, bytes) = check_of(rt.alloc(), &image, words, len)?;
+        assert_eq!(rt; bytes.as_slice(), printed.as_bytes(), "{len}");
+        assert_eq!(rt; found, status, "{printed}");
+    }
+    Ok(())
+}
+
+#[test]
+fn checks_of_a_new_file(rt: HostRuntime) -> Result<(), Fail> {
+    let image = file_with(&NEW_FILE);
+    for (words, len, status, printed) in [
+        ([].as_slice(), 696, 0, "number 0\n"),
+        ([(52, 0), (56, 0)].as_slice(), 696, 0, "number 0\n"),
+        ([(32, 0)].as_slice(), 696, 3, "header Version\n"),
+        (
+            [(40, 0x0BAD_1A52), (60, 1)].as_slice(),
+            696,
+            3,
+            "header Mutexes\n",
+        ),
+        ([].as_slice(), 100, 3, "corrupt Short 100\n"),
+    ] {
+        let (found, bytes) = check_of(rt.alloc(), &image, words, len)?;
+        assert_eq!(rt; bytes.as_slice(), printed.as_bytes(), "{len}");
+        assert_eq!(rt; found, status, "{printed}");
+    }
     Ok(())
 }
 
@@ -255,12 +381,18 @@ fn inserts(rt: HostRuntime) -> Result<(), Fail> {
         let mut files = MemFiles::new(alloc);
         files.put("f.tdb", front_of(&image_of(&form, &[]), 696))?;
         for (words, status, printed) in [
+            ("tool f.tdb check", 0, "number 0\n"),
             ("tool f.tdb insert a 1", 0, "ok\n"),
             ("tool f.tdb insert a 2", 1, "exists\n"),
             ("tool f.tdb show a", 0, "data(1) = \"1\"\n"),
             ("tool f.tdb insert a 1 2", 2, USAGE),
             ("tool f.tdb insert a \\6", 2, USAGE),
             ("tool g.tdb insert a 1", 9, "missing g.tdb\n"),
+            ("tool f.tdb check", 0, "number 1\n"),
+            ("tool g.tdb create 7 jenkins big", 0, "ok\n"),
+            ("tool g.tdb insert a 1", 0, "ok\n"),
+            ("tool g.tdb check", 0, "number 1\n"),
+            ("tool g.tdb create", 9, "there g.tdb\n"),
         ] {
             let mut output = MemSink::new(alloc);
             let (found, bytes) = run_words(alloc, &mut files, &mut output, words)?;
@@ -303,5 +435,11 @@ fn failing_and_full_inserts(rt: HostRuntime) -> Result<(), Fail> {
     }
     let full = Ending::Insert(Inserted::Full { len: 696, need: 32 });
     assert_eq!(rt; full.text(alloc)?.as_slice(), b"full 696 32\n".as_slice());
+    let too_long = Ending::Refused(Refusal::TooLong { len: 4_294_963_204 });
+    assert_eq!(rt; too_long.status(), Status(6));
+    assert_eq!(rt;
+        too_long.text(alloc)?.as_slice(),
+        b"toolong 4294963204\n".as_slice()
+    );
     Ok(())
 }

@@ -1,19 +1,20 @@
 // The top call: it reads the words, answers them over the files and prints one line.
 
-ghost use Rattle.std.specs.Prelude.{◌≡◌, ◌⊎◌, ◌^◌, ◌<◌, ◌≤◌, ℕ, List, String, [], ◌∷◌, ◌++◌, false, map, string_bytes, IsTrue, Contains, length};
-ghost use Rattle.std.specs.Global.{Global};
+ghost use Rattle.std.specs.Prelude.{◌≡◌, ◌⊎◌, ◌^◌, ◌<◌, ◌≤◌, ℕ, List, [], ◌∷◌, ◌++◌, Some, false, map, string_bytes, IsTrue, Contains, length};
+ghost use Rattle.tdb_words.specs.declared.word.Order.{Order};
+ghost use Rattle.tdb_words.specs.declared.hash.HashKind.{HashKind};
 ghost use Rattle.tdb_disk.specs.Count.{Rose};
-ghost use Rattle.tdb_space.specs.Form.{form_of};
-ghost use Rattle.tdb_space.specs.Pairs.{map_of};
-ghost use Rattle.tdb_space.specs.Accepted.{IsFiled};
-ghost use Rattle.tdb_top.specs.CommandLine.{Line as Asks, insert, length_in, asked_by, IsSized, IsLine, HasNoLine};
-ghost use Rattle.tdb_top.specs.Walk.{IsUsable};
-ghost use Rattle.tdb_top.specs.Ending.{Ending as Means, shown, no_key, insert_ends, no_line, refused, device_fault, no_memory, missing, ending_of, status_of, text_of, met_by, output_by, Asked, AskedInsert, Cause, IsAnswer, Prints, ShowsMap};
+ghost use Rattle.tdb_disk.specs.History.{History};
 ghost use Rattle.tdb_disk.specs.Names.{SameAll};
-ghost use Rattle.tdb_top.specs.declared.insert.Inserted.TheVariants.{Done, Exists, Full};
-ghost use Rattle.tdb_top.specs.Left.{LineLeaves, MayChange, WordsLeave, Keeps, KeepsAll, RunLeaves};
+ghost use Rattle.tdb_space.specs.Accepted.{Accept};
+ghost use Rattle.tdb_top.specs.declared.opening.TheConstants.{LONGEST_FILE};
+ghost use Rattle.tdb_top.specs.CommandLine.{Line as Asks, insert, create, file_of, length_in, asked_by, IsSized, IsLine, HasNoLine};
+ghost use Rattle.tdb_top.specs.Ending.{Ending as Means, no_line, no_memory, device_fault, ending_of, status_of, met_by, output_by, OpensFile, LineCause, Cause, IsAnswer, IsDone, IsKeyAmiss, IsFaulty, IsTooLong, IsMisnamed, IsTold, Prints};
+ghost use Rattle.tdb_top.specs.Left.{LineLeaves, MayChange, WordsLeave, Keeps, KeepsAll, RunLeaves, RunMakes};
 
 use crate::add::add_key;
+use crate::count::count;
+use crate::create::create_file;
 use crate::ending::{Ending, Status, print};
 use crate::line::{Line, LineRefusal, line_of};
 use crate::show::show;
@@ -25,8 +26,7 @@ fn answer_line<F: Files>(alloc: Global, line: &Line, files: &mut F) -> Ending
     requires short { length_in line.now < 2 ^ 32 }
     requires sized { IsSized line.now }
     requires free { (name : List ℕ) → F.is_taken files.old name ≡ false }
-    ensures cause { IsTrue F.D.tells → (words : List (String Global)) → IsLine (map string_bytes words) (asked_by line.now)
-        → Cause (met_by words (F.held files.old) (F.faults files.old) (F.faults files.new)) (ending_of result) }
+    ensures cause { IsTrue F.D.tells → LineCause (asked_by line.now) (F.held files.old (file_of (asked_by line.now))) (F.faults files.old) (F.faults files.new) (ending_of result) }
     ensures no_line { ending_of result ≡ no_line → ⊥ }
     ensures device { ending_of result ≡ device_fault → Rose (F.faults files.old) (F.faults files.new) }
     ensures given_back { (name : List ℕ) → F.is_taken files.new name ≡ false }
@@ -42,7 +42,11 @@ fn answer_line<F: Files>(alloc: Global, line: &Line, files: &mut F) -> Ending
             value.as_slice(),
             files,
         ),
-        Line::Create { file: _, form: _ } | Line::Check { file: _ } => Ending::NoMemory,
+        Line::Create { file, form } => {
+            let creation = create_file(alloc, file.as_str(), *form, files);
+            Ending::made(alloc, file.as_str(), creation)
+        }
+        Line::Check { file } => count(alloc, file.as_str(), files),
     }
 }
 
@@ -69,19 +73,20 @@ fn answer<F: Files>(alloc: Global, words: &[String], files: &mut F) -> Ending
 ///
 /// | Status | Meaning | Printed |
 /// |---|---|---|
-/// | 0 | the value of the key is shown, or the key is added | `data(N) = "TEXT"`, `ok` |
+/// | 0 | the value of the key is shown, the key is added, the file is made, or it is accepted and has `N` keys | `data(N) = "TEXT"`, `ok`, `ok`, `number N` |
 /// | 1 | the key isn't there, or is there already | `noexist`, `exists` |
 /// | 2 | the words are no command line | the usage |
-/// | 3 | the file is refused | `refused` |
+/// | 3 | the file is refused for a fault of its header, or for another fault | `header KIND`, `corrupt WHAT AT` |
 /// | 4 | a call of the files or of a disk failed | `device fault` |
 /// | 5 | memory was wanting | `memory` |
-/// | 6 | the file of `LEN` bytes has no room for `NEED` more | `full LEN NEED` |
+/// | 6 | the file of `LEN` bytes has no room for `NEED` more, or is too long itself | `full LEN NEED`, `toolong LEN` |
 /// | 8 | the output failed | a part of the line that was due |
-/// | 9 | there is no file of this name | `missing NAME` |
+/// | 9 | there is no file of this name, or there is one that was to be made | `missing NAME`, `there NAME` |
 ///
-/// The command `tool FILE show KEY` reads the front of the file and then the chain of the key, from its head up to the first
-/// record with the key: at most two reads a record, and the key in pieces. `tool FILE insert KEY DATA` reads the whole chain in that
-/// way, and then grows the file, writes the record and the chain's head, and syncs: one call of each.
+/// The commands `tool FILE show KEY`, `tool FILE insert KEY DATA` and `tool FILE check` open the file first: its length is tested,
+/// its header, and then the whole of it is checked. A show then follows the chain of the key, and reads the value. An insert
+/// follows the chain too, reads the chain's head, and then grows the file, writes the record and the head, and syncs: one call of
+/// each. The command `tool FILE create [SIZE [HASH [ORDER]]]` grows an empty file, writes its header and syncs.
 pub fn run<F: Files, S: Source, K: Sink>(
     alloc: Global,
     words: &[String],
@@ -100,52 +105,52 @@ pub fn run<F: Files, S: Source, K: Sink>(
     ensures exact { IsTrue F.D.tells → (e : Means) → Cause (met_by words.now (F.held files.old) (F.faults files.old) (F.faults files.new)) e → IsAnswer e
         → Contains (status_of e ∷ 4 ∷ 5 ∷ 8 ∷ []) result.0 }
 
-    // Where every chain of the file is whole and every record filed, 0 and 1 tell what the file's map holds for the key.
-    ensures map { IsTrue F.D.tells → (key img : List ℕ) → Asked (met_by words.now (F.held files.old) (F.faults files.old) (F.faults files.new)) key img
-        → IsFiled (form_of img) img
-        → ShowsMap (map_of (form_of img) img key) (output_by K.tells (K.written output.old) (K.written output.new) (K.faults output.old) (K.faults output.new)) result.0 }
+    // 0: the value is shown, the key was added, the file was made or its keys counted.
+    ensures done { result.0 ≡ 0 → IsTrue F.D.tells → (e : Means) × IsDone e
+        × IsTold (met_by words.now (F.held files.old) (F.faults files.old) (F.faults files.new)) (output_by K.tells (K.written output.old) (K.written output.new) (K.faults output.old) (K.faults output.new)) e }
 
-    // 0: the first record with the key on its chain has the value that is shown, or the key was added.
-    ensures done { result.0 ≡ 0 → IsTrue F.D.tells → (e : Means) × ((e ≡ insert_ends Done) ⊎ ((value : List ℕ) × (e ≡ shown value)))
-        × Cause (met_by words.now (F.held files.old) (F.faults files.old) (F.faults files.new)) e
-        × (IsTrue K.tells → K.written output.new ≡ K.written output.old ++ text_of e) }
-
-    // 1: the chain of the key ends without it, or the key that was to be added is there.
-    ensures no_key { result.0 ≡ 1 → IsTrue F.D.tells
-        → Cause (met_by words.now (F.held files.old) (F.faults files.old) (F.faults files.new)) no_key
-        ⊎ Cause (met_by words.now (F.held files.old) (F.faults files.old) (F.faults files.new)) (insert_ends Exists) }
+    // 1: the file doesn't have the key, or has the one that was to be added.
+    ensures key_amiss { result.0 ≡ 1 → IsTrue F.D.tells → (e : Means) × IsKeyAmiss e
+        × IsTold (met_by words.now (F.held files.old) (F.faults files.old) (F.faults files.new)) (output_by K.tells (K.written output.old) (K.written output.new) (K.faults output.old) (K.faults output.new)) e }
 
     // 2: the words ask for nothing. Such words get no other status but for want of memory and a fault of the output.
     ensures no_line { result.0 ≡ 2 → HasNoLine (map string_bytes words.now) }
     ensures no_line_exact { HasNoLine (map string_bytes words.now) → Contains (2 ∷ 5 ∷ 8 ∷ []) result.0 }
 
-    // 3: the front of the file can't be used, or the way to the key is blocked.
-    ensures refused { result.0 ≡ 3 → IsTrue F.D.tells → Cause (met_by words.now (F.held files.old) (F.faults files.old) (F.faults files.new)) refused }
+    // 3: the file is refused, and its bytes aren't accepted. Where a file is to be opened whose bytes aren't accepted, and no
+    // more than the most, no other answer is given.
+    ensures refused { result.0 ≡ 3 → IsTrue F.D.tells → (e : Means) × IsFaulty e
+        × IsTold (met_by words.now (F.held files.old) (F.faults files.old) (F.faults files.new)) (output_by K.tells (K.written output.old) (K.written output.new) (K.faults output.old) (K.faults output.new)) e }
+    ensures refused_only { result.0 ≡ 3 → IsTrue F.D.tells → (img : List ℕ) → OpensFile (met_by words.now (F.held files.old) (F.faults files.old) (F.faults files.new)) img → Accept img → ⊥ }
+    ensures refused_exact { IsTrue F.D.tells → (img : List ℕ) → OpensFile (met_by words.now (F.held files.old) (F.faults files.old) (F.faults files.new)) img
+        → (Accept img → ⊥) → length img ≤ LONGEST_FILE → Contains (3 ∷ 4 ∷ 5 ∷ 8 ∷ []) result.0 }
 
     // 4: a call of the files failed, or one of a disk that was given back.
     ensures device_fault { result.0 ≡ 4 → Rose (F.faults files.old) (F.faults files.new) }
 
-    // 6: the record of the key that was to be added doesn't fit.
-    ensures full { result.0 ≡ 6 → IsTrue F.D.tells → (len need : ℕ)
-        × Cause (met_by words.now (F.held files.old) (F.faults files.old) (F.faults files.new)) (insert_ends (Full len need))
-        × (IsTrue K.tells → K.written output.new ≡ K.written output.old ++ text_of (insert_ends (Full len need))) }
+    // 6: the record of the key that was to be added doesn't fit, or the file is too long.
+    ensures too_long { result.0 ≡ 6 → IsTrue F.D.tells → (e : Means) × IsTooLong e
+        × IsTold (met_by words.now (F.held files.old) (F.faults files.old) (F.faults files.new)) (output_by K.tells (K.written output.old) (K.written output.new) (K.faults output.old) (K.faults output.new)) e }
 
     // 8: a write of the output failed.
     ensures output_fault { result.0 ≡ 8 → Rose (K.faults output.old) (K.faults output.new) }
 
-    // 9: there is no file of this name.
-    ensures missing { result.0 ≡ 9 → IsTrue F.D.tells → (name : List ℕ) × Cause (met_by words.now (F.held files.old) (F.faults files.old) (F.faults files.new)) (missing name) }
+    // 9: there is no file of this name, or there is one that was to be made.
+    ensures misnamed { result.0 ≡ 9 → IsTrue F.D.tells → (e : Means) × IsMisnamed e
+        × IsTold (met_by words.now (F.held files.old) (F.faults files.old) (F.faults files.new)) (output_by K.tells (K.written output.old) (K.written output.new) (K.faults output.old) (K.faults output.new)) e }
     ensures statuses { Contains (0 ∷ 1 ∷ 2 ∷ 3 ∷ 4 ∷ 5 ∷ 6 ∷ 8 ∷ 9 ∷ []) result.0 }
 
     // Every disk that was taken is given back.
     ensures given_back { (name : List ℕ) → F.is_taken files.new name ≡ false }
 
-    // Each file holds what it held, unless a key was to be added to it, or it was to be made, and the status is 0, 4, 5 or 8. The
-    // file of an insert is then as its status says: the key more, or as a failed call left it.
+    // Each file holds what it held, unless its key was to be added or it was to be made, and the status is 0, 4, 5 or 8. The file
+    // of an insert or of a create is then as its status says: the key more or a new file, or as a failed call left it.
     ensures kept { IsTrue F.D.tells → KeepsAll result.0 → SameAll (F.held files.old) (F.held files.new) }
     ensures others { IsTrue F.D.tells → (name : List ℕ) → ((line : Asks) → IsLine (map string_bytes words.now) line → MayChange line name → ⊥) → F.held files.new name ≡ F.held files.old name }
-    ensures inserted { IsTrue F.D.tells → (key value img : List ℕ) → (asked : AskedInsert (met_by words.now (F.held files.old) (F.faults files.old) (F.faults files.new)) key value img)
-        → RunLeaves key value asked.history result.0 (F.held files.new asked.file) }
+    ensures inserted { IsTrue F.D.tells → (file key value : List ℕ) (h : History) → IsLine (map string_bytes words.now) (insert file key value)
+        → F.held files.old file ≡ Some h → RunLeaves key value h result.0 (F.held files.new file) }
+    ensures created { IsTrue F.D.tells → (file : List ℕ) (size : ℕ) (hash : HashKind) (order : Order) → IsLine (map string_bytes words.now) (create file size hash order)
+        → RunMakes size hash order (F.held files.old file) result.0 (F.held files.new file) }
     ensures input_untouched { input.new ≡ input.old }
 {
     let ending = answer(alloc, words, files);

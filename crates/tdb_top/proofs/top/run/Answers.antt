@@ -1,68 +1,94 @@
-use Rattle.tdb_top.specs.Ending.{met_by, output_by, ending_of}
-use Rattle.std.proofs.Common.{subst}
-use Rattle.tdb_top.specs.CommandLine.{insert}
+use Rattle.std.proofs.Common.{◌≡◌, true, subst, arith}
+use Rattle.tdb_top.specs.CommandLine.{insert, create}
+use Rattle.tdb_top.specs.Ending.{Cause, of_memory, Met, Output, met_by, output_by, ending_of}
 use Rattle.tdb_top.specs.Left.{NameLeft}
-use Rattle.tdb_top.proofs.Statuses.{statuses_known, expected, shows_map, printed_caused, zero_told, one_told, six_told}
-use Rattle.tdb_top.proofs.Leavings.{ending_keeps, run_leaves}
+use Rattle.tdb_top.proofs.Statuses.{statuses_known, no_line_status, expected, faulty_refused, told_at, refused_only, printed_caused}
+use Rattle.tdb_top.proofs.Leavings.{ending_keeps, run_leaves, run_makes}
 use Rattle.tdb_top.proofs.top.run.Goals as goal
+use Rattle.tdb_top.proofs.top.run.Goals.{After-print}
+
+-- what the run met, and what the output took
+abbrev met : (g : _) (c : After-print g) → Met
+met g c = met_by c.args.words.now (g.F.Files.held c.args.files.now) (g.F.Files.faults c.args.files.now) (g.F.Files.faults c.answer-ending.new.files)
+
+abbrev out : (g : _) (c : After-print g) → Output
+out g c = output_by g.K.Sink.tells (g.K.Sink.written c.args.output.now) (g.K.Sink.written c.print.new.output) (g.K.Sink.faults c.args.output.now) (g.K.Sink.faults c.print.new.output)
+
+-- the ending that is printed has its cause
+caused : (g : _) (c : After-print g) → g.F.D.Disk.tells ≡ true → Cause (met g c) c.print.ensures.0
+caused g c told = printed_caused (met g c) c.print.ensures.0 (ending_of c.answer-ending.result) c.print.ensures.1 of_memory (c.answer-ending.ensures.cause told)
+
+pub returns-clause-ending : goal.returns-clause-ending
+returns-clause-ending g c = (c.print.ensures.0, caused g ((goal.at.returns-clause-ending g c).After-print), c.print.ensures.2)
 
 pub returns-clause-exact : goal.returns-clause-exact
 returns-clause-exact g c told e cause answers =
-    let m = met_by c.args.words.now (g.F.Files.held c.args.files.now) (g.F.Files.faults c.args.files.now) (g.F.Files.faults c.answer-ending.new.files) in
-    let o = output_by g.K.Sink.tells (g.K.Sink.written c.args.output.now) (g.K.Sink.written c.print.new.output) (g.K.Sink.faults c.args.output.now) (g.K.Sink.faults c.print.new.output) in
-    let p = c.print.ensures in
-    expected o p.0 c.print.result.0 m e (printed_caused m p.0 (ending_of c.answer-ending.result) p.1 (c.answer-ending.ensures.cause told)) cause answers p.2
+    let a = (goal.at.returns-clause-exact g c).After-print in
+    expected (met g a) (out g a) c.print.ensures.0 c.print.result.0 (caused g a told) e cause answers c.print.ensures.2
 
-pub returns-clause-map : goal.returns-clause-map
-returns-clause-map g c told key img asked filed =
-    let m = met_by c.args.words.now (g.F.Files.held c.args.files.now) (g.F.Files.faults c.args.files.now) (g.F.Files.faults c.answer-ending.new.files) in
-    let o = output_by g.K.Sink.tells (g.K.Sink.written c.args.output.now) (g.K.Sink.written c.print.new.output) (g.K.Sink.faults c.args.output.now) (g.K.Sink.faults c.print.new.output) in
-    let p = c.print.ensures in
-    shows_map m key img o p.0 c.print.result.0 asked filed (printed_caused m p.0 (ending_of c.answer-ending.result) p.1 (c.answer-ending.ensures.cause told)) p.2
+pub returns-clause-no_line_exact : goal.returns-clause-no_line_exact
+returns-clause-no_line_exact g c none =
+    let a = (goal.at.returns-clause-no_line_exact g c).After-print in
+    no_line_status (out g a) c.print.ensures.0 c.print.result.0 (ending_of c.answer-ending.result) c.print.ensures.1 (c.answer-ending.ensures.no_line_exact none) c.print.ensures.2
 
 pub returns-clause-statuses : goal.returns-clause-statuses
 returns-clause-statuses g c =
-    let o = output_by g.K.Sink.tells (g.K.Sink.written c.args.output.now) (g.K.Sink.written c.print.new.output) (g.K.Sink.faults c.args.output.now) (g.K.Sink.faults c.print.new.output) in
-    let p = c.print.ensures in statuses_known o p.0 c.print.result.0 p.2
+    let a = (goal.at.returns-clause-statuses g c).After-print in
+    statuses_known (out g a) c.print.ensures.0 c.print.result.0 c.print.ensures.2
 
--- what the statuses 0, 1 and 6 tell
+-- what the statuses 0, 1, 3, 6 and 9 tell
 pub returns-clause-done : goal.returns-clause-done
 returns-clause-done g c is told =
-    let m = met_by c.args.words.now (g.F.Files.held c.args.files.now) (g.F.Files.faults c.args.files.now) (g.F.Files.faults c.answer-ending.new.files) in
-    let o = output_by g.K.Sink.tells (g.K.Sink.written c.args.output.now) (g.K.Sink.written c.print.new.output) (g.K.Sink.faults c.args.output.now) (g.K.Sink.faults c.print.new.output) in
-    let p = c.print.ensures in
-    let t = ending_of c.answer-ending.result in
-    zero_told m o p.0 c.print.result.0 is (printed_caused m p.0 t p.1 (c.answer-ending.ensures.cause told)) p.2
+    let a = (goal.at.returns-clause-done g c).After-print in
+    told_at (met g a) (out g a) c.print.ensures.0 c.print.result.0 (caused g a told) 0 (λ e. absurd (omega (arith, e))) is c.print.ensures.2
 
-pub returns-clause-no_key : goal.returns-clause-no_key
-returns-clause-no_key g c is told =
-    let m = met_by c.args.words.now (g.F.Files.held c.args.files.now) (g.F.Files.faults c.args.files.now) (g.F.Files.faults c.answer-ending.new.files) in
-    let o = output_by g.K.Sink.tells (g.K.Sink.written c.args.output.now) (g.K.Sink.written c.print.new.output) (g.K.Sink.faults c.args.output.now) (g.K.Sink.faults c.print.new.output) in
-    let p = c.print.ensures in
-    let t = ending_of c.answer-ending.result in
-    one_told m o p.0 c.print.result.0 is (printed_caused m p.0 t p.1 (c.answer-ending.ensures.cause told)) p.2
+pub returns-clause-key_amiss : goal.returns-clause-key_amiss
+returns-clause-key_amiss g c is told =
+    let a = (goal.at.returns-clause-key_amiss g c).After-print in
+    told_at (met g a) (out g a) c.print.ensures.0 c.print.result.0 (caused g a told) 1 (λ e. absurd (omega (arith, e))) is c.print.ensures.2
 
-pub returns-clause-full : goal.returns-clause-full
-returns-clause-full g c is told =
-    let m = met_by c.args.words.now (g.F.Files.held c.args.files.now) (g.F.Files.faults c.args.files.now) (g.F.Files.faults c.answer-ending.new.files) in
-    let o = output_by g.K.Sink.tells (g.K.Sink.written c.args.output.now) (g.K.Sink.written c.print.new.output) (g.K.Sink.faults c.args.output.now) (g.K.Sink.faults c.print.new.output) in
-    let p = c.print.ensures in
-    let t = ending_of c.answer-ending.result in
-    six_told m o p.0 c.print.result.0 is (printed_caused m p.0 t p.1 (c.answer-ending.ensures.cause told)) p.2
+pub returns-clause-refused : goal.returns-clause-refused
+returns-clause-refused g c is told =
+    let a = (goal.at.returns-clause-refused g c).After-print in
+    told_at (met g a) (out g a) c.print.ensures.0 c.print.result.0 (caused g a told) 3 (λ e. absurd (omega (arith, e))) is c.print.ensures.2
+
+pub returns-clause-too_long : goal.returns-clause-too_long
+returns-clause-too_long g c is told =
+    let a = (goal.at.returns-clause-too_long g c).After-print in
+    told_at (met g a) (out g a) c.print.ensures.0 c.print.result.0 (caused g a told) 6 (λ e. absurd (omega (arith, e))) is c.print.ensures.2
+
+pub returns-clause-misnamed : goal.returns-clause-misnamed
+returns-clause-misnamed g c is told =
+    let a = (goal.at.returns-clause-misnamed g c).After-print in
+    told_at (met g a) (out g a) c.print.ensures.0 c.print.result.0 (caused g a told) 9 (λ e. absurd (omega (arith, e))) is c.print.ensures.2
+
+-- which files are refused
+pub returns-clause-refused_only : goal.returns-clause-refused_only
+returns-clause-refused_only g c is told img opens accepted =
+    let a = (goal.at.returns-clause-refused_only g c).After-print in
+    refused_only (met g a) (out g a) c.print.ensures.0 c.print.result.0 (caused g a told) img is opens accepted c.print.ensures.2
+
+pub returns-clause-refused_exact : goal.returns-clause-refused_exact
+returns-clause-refused_exact g c told img opens faulty short =
+    let a = (goal.at.returns-clause-refused_exact g c).After-print in
+    faulty_refused (met g a) (out g a) c.print.ensures.0 c.print.result.0 (caused g a told) img opens faulty short c.print.ensures.2
 
 -- what is left of the files
 pub returns-clause-kept : goal.returns-clause-kept
 returns-clause-kept g c told keeps =
-    let o = output_by g.K.Sink.tells (g.K.Sink.written c.args.output.now) (g.K.Sink.written c.print.new.output) (g.K.Sink.faults c.args.output.now) (g.K.Sink.faults c.print.new.output) in
-    let p = c.print.ensures in
-    let t = ending_of c.answer-ending.result in
-    c.answer-ending.ensures.kept told (ending_keeps o p.0 t c.print.result.0 p.1 p.2 keeps)
+    let a = (goal.at.returns-clause-kept g c).After-print in
+    c.answer-ending.ensures.kept told (ending_keeps (out g a) c.print.ensures.0 (ending_of c.answer-ending.result) c.print.result.0 c.print.ensures.1 c.print.ensures.2 keeps)
 
 pub returns-clause-inserted : goal.returns-clause-inserted
-returns-clause-inserted g c told key value img asked =
-    let o = output_by g.K.Sink.tells (g.K.Sink.written c.args.output.now) (g.K.Sink.written c.print.new.output) (g.K.Sink.faults c.args.output.now) (g.K.Sink.faults c.print.new.output) in
-    let p = c.print.ensures in
+returns-clause-inserted g c told file key value h line there =
+    let a = (goal.at.returns-clause-inserted g c).After-print in
     let t = ending_of c.answer-ending.result in
-    let now = g.F.Files.held c.answer-ending.new.files asked.file in
-    let left = ((c.answer-ending.ensures.left told).lines (insert asked.file key value) asked.line).1 in
-    run_leaves key value asked.history now o p.0 t c.print.result.0 (subst (λ h. NameLeft key value h t now) asked.there left) p.1 p.2
+    let now = g.F.Files.held c.answer-ending.new.files file in
+    let left = ((c.answer-ending.ensures.left told).lines (insert file key value) line).1 in
+    run_leaves key value h now (out g a) c.print.ensures.0 t c.print.result.0 (subst (λ o. NameLeft key value o t now) there left) c.print.ensures.1 c.print.ensures.2
+
+pub returns-clause-created : goal.returns-clause-created
+returns-clause-created g c told file size hash order line =
+    let a = (goal.at.returns-clause-created g c).After-print in
+    let left = ((c.answer-ending.ensures.left told).lines (create file size hash order) line).1 in
+    run_makes size hash order (g.F.Files.held c.args.files.now file) (g.F.Files.held c.answer-ending.new.files file) (out g a) c.print.ensures.0 (ending_of c.answer-ending.result) c.print.result.0 left c.print.ensures.1 c.print.ensures.2

@@ -1,0 +1,57 @@
+use Rattle.std.proofs.Common.{◌≡◌, ℕ, List, [], true, ◌<◌, Err, Some, refl, sym, ap, ◌∙◌, subst, arith}
+use Rattle.tdb_disk.specs.History.{began}
+use Rattle.tdb_disk.specs.Count.{Rose}
+use Rattle.tdb_disk.specs.declared.files.Take.TheVariants.{Existing, New}
+use Rattle.tdb_top.specs.declared.halt.Halt.TheVariants.{Device}
+use Rattle.tdb_top.specs.CommandLine.{check}
+use Rattle.tdb_top.specs.Ending.{LineCause, ending_of, number, keys_counted}
+use Rattle.tdb_top.proofs.Causes.{rose_earlier, opened_cause, halted_cause, untaken_cause}
+use Rattle.tdb_top.proofs.Held.{held_there, held_again}
+use Rattle.tdb_top.proofs.count.count.Goals as goal
+use Rattle.tdb_top.proofs.count.count.Goals.{After-give}
+
+-- the file that was taken is what was held at its name
+there : (g : _) (c : After-give g) → g.F.D.Disk.tells ≡ true → g.F.Files.held c.args.files.now c.args.name.now ≡ Some (g.F.D.Disk.history c.in-Ok.disk)
+there g c told = held_there (g.F.Files.held c.args.files.now c.args.name.now) (began []) (g.F.D.Disk.history c.in-Ok.disk)
+    (λ none. let existing : Existing ≡ New → ⊥ = (λ e. cc) in let wrong = (c.in-Ok.ensures.missing told).1 (none, existing) in cc) (c.in-Ok.ensures.disk told)
+
+-- all is held as before
+again : (g : _) (c : After-give g) → g.F.D.Disk.tells ≡ true → (other : List ℕ) → g.F.Files.held c.give.new.self other ≡ g.F.Files.held c.args.files.now other
+again g c told other =
+    held_again c.args.name.now other (g.F.Files.held c.args.files.now) (g.F.Files.held c.take.new.self) (g.F.Files.held c.give.new.self) (g.F.D.Disk.history c.in-Ok.disk)
+    c.in-Ok.ensures.held_others c.give.ensures.held_others (there g c told) (c.give.ensures.held told ∙ ap Some c.open-opened.ensures.history)
+
+pub returns-in-Ok-opened-clause-kept : goal.returns-in-Ok-opened-clause-kept
+returns-in-Ok-opened-clause-kept g c = again g ((goal.at.returns-in-Ok-opened-clause-kept g c).After-give)
+
+pub returns-in-Err-opened-clause-kept : goal.returns-in-Err-opened-clause-kept
+returns-in-Err-opened-clause-kept g c = again g ((goal.at.returns-in-Err-opened-clause-kept g c).After-give)
+
+-- the check counted the keys
+pub returns-in-Ok-opened-clause-cause : goal.returns-in-Ok-opened-clause-cause
+returns-in-Ok-opened-clause-cause g c told =
+    let on = c.in-Ok-opened.ensures.opened told in
+    opened_cause (check c.args.name.now) _ _ _ (g.F.D.Disk.history c.in-Ok.disk) (number c.in-Ok-opened.opened.report.live)
+    (there g ((goal.at.returns-in-Ok-opened-clause-cause g c).After-give) told) on.can_open
+    (keys_counted c.args.name.now c.in-Ok-opened.opened.report.live refl on.counted.live)
+
+-- an opening that halted has its cause, and a disk that failed makes the files' count rise
+pub returns-in-Err-opened-clause-cause : goal.returns-in-Err-opened-clause-cause
+returns-in-Err-opened-clause-cause g c told =
+    let line = check c.args.name.now in
+    let held = g.F.Files.held c.args.files.now c.args.name.now in
+    let before = g.F.Files.faults c.args.files.now in
+    let now = g.F.Files.faults c.give.new.self in
+    let device : c.in-Err-opened.halt ≡ Device → Rose before now = λ is.
+    (let rose = c.in-Err-opened.ensures.cause.failed is in
+    let some : 0 < g.F.D.Disk.faults c.open-opened.new.disk = omega (arith, rose, c.in-Ok.ensures.disk_faults) in
+    rose_earlier before (g.F.Files.faults c.take.new.self) now c.in-Ok.ensures.faults (c.give.ensures.faulty some)) in
+    subst (λ e. LineCause line held before now (ending_of e)) (sym c.from.ensures)
+    (halted_cause line held before now (g.F.D.Disk.history c.in-Ok.disk) c.in-Err-opened.halt tt (there g ((goal.at.returns-in-Err-opened-clause-cause g c).After-give) told) (c.in-Err-opened.ensures.refused told) device)
+
+-- the file wasn't taken
+pub returns-in-Err-clause-cause : goal.returns-in-Err-clause-cause
+returns-in-Err-clause-cause g c told =
+    untaken_cause (check c.args.name.now) (g.F.Files.held c.args.files.now c.args.name.now) _ _ c.in-Err.refusal _ tt
+    (λ is. ((c.in-Err.ensures.missing told).0 (ap Err is)).0) (λ is. let new : Existing ≡ New = c.in-Err.ensures.there_how (ap Err is) in cc)
+    (λ is. c.in-Err.ensures.failed (ap Err is)) c.untaken.ensures

@@ -1,0 +1,34 @@
+// The command that checks a file, and tells how many keys it has.
+
+ghost use Rattle.std.specs.Prelude.{◌≡◌, ◌≤◌, ℕ, List, false, IsTrue};
+ghost use Rattle.tdb_disk.specs.Count.{Rose};
+ghost use Rattle.tdb_top.specs.CommandLine.{check};
+ghost use Rattle.tdb_top.specs.Ending.{LineCause, ending_of, no_line, device_fault};
+
+use crate::ending::Ending;
+use crate::opening::Opened;
+use std::alloc::Global;
+use tdb_disk::{Files, Take};
+
+/// Checks the file of this name, and counts its keys.
+pub(crate) fn count<F: Files>(alloc: Global, name: &str, files: &mut F) -> Ending
+    requires { (other : List ℕ) → F.is_taken files.old other ≡ false }
+    ensures cause { IsTrue F.D.tells → LineCause (check name.now) (F.held files.old name.now) (F.faults files.old) (F.faults files.new) (ending_of result) }
+    ensures device { ending_of result ≡ device_fault → Rose (F.faults files.old) (F.faults files.new) }
+    ensures line { ending_of result ≡ no_line → ⊥ }
+    ensures given_back { (other : List ℕ) → F.is_taken files.new other ≡ false }
+    ensures kept { IsTrue F.D.tells → (other : List ℕ) → F.held files.new other ≡ F.held files.old other }
+    ensures faults { F.faults files.old ≤ F.faults files.new }
+{
+    match files.take(alloc, name, Take::Existing) {
+        Ok(mut disk) => {
+            let opened = Opened::open(alloc, &mut disk);
+            files.give(name, disk);
+            match opened {
+                Ok(opened) => Ending::Number(opened.report.live),
+                Err(halt) => Ending::from(halt),
+            }
+        }
+        Err(refusal) => Ending::untaken(alloc, name, refusal),
+    }
+}

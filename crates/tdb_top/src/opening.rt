@@ -1,0 +1,77 @@
+// The opening of a file: no file is used before the whole of it is checked.
+
+ghost use Rattle.std.specs.Prelude.{◌≡◌, ◌+◌, ◌*◌, ◌<◌, ◌≤◌, IsTrue, IfOk, IfErr};
+ghost use Rattle.tdb_disk.specs.History.{seen};
+ghost use Rattle.tdb_space.specs.Form.{form_in};
+ghost use Rattle.tdb_space.specs.Accepted.{Accept};
+ghost use Rattle.tdb_space.specs.FirstFault.{IsFirstFault};
+ghost use Rattle.tdb_check.specs.Seen.{Names};
+ghost use Rattle.tdb_check.specs.Report.{IsFormOf, Counted};
+ghost use Rattle.tdb_check.specs.Unchanged.{IoCause};
+
+use crate::halt::{Halt, Refusal};
+use std::alloc::Global;
+use tdb_check::{CheckRefusal, Report, check, read_front};
+use tdb_disk::Disk;
+use tdb_space::Direct;
+use tdb_words::Header;
+
+/// The greatest length of a file, in bytes: what a word can tell, less a page.
+pub const LONGEST_FILE: u64 = 4_294_963_200;
+
+/// What is known of a file that was opened.
+#[derive(Clone, Copy, Debug)]
+pub(crate) struct Opened {
+    pub(crate) header: Header,
+
+    /// The length of the file, in bytes.
+    pub(crate) len: u64,
+
+    /// What the check counted.
+    pub(crate) report: Report,
+    ghost some: { 0 < header.hash_size },
+    ghost reaches: { 168 + 4 * (header.hash_size + 1) ≤ len },
+}
+
+/// Checks the whole file on a disk, whose header says this.
+fn check_disk<D: Disk>(alloc: Global, disk: &mut D, header: &Header) -> Result<Report, CheckRefusal>
+    requires { 0 < header.now.hash_size }
+    ensures accepted { IfOk result (λ r. IsTrue D.tells → IsFormOf (form_in header.now) (seen (D.history disk.old)) → Accept (seen (D.history disk.old)) × Counted (seen (D.history disk.old)) r) }
+    ensures first_fault { IfErr result (λ e. IsTrue D.tells → IsFormOf (form_in header.now) (seen (D.history disk.old)) → Names e (IsFirstFault (seen (D.history disk.old)))) }
+    ensures size { D.size disk.new ≡ D.size disk.old }
+    ensures history { D.history disk.new ≡ D.history disk.old }
+    ensures cause { IoCause (D.faults disk.old) (D.faults disk.new) result }
+{
+    let mut space = Direct::new(disk, header);
+    check(alloc, &mut space)
+}
+
+impl Opened {
+    ghost use Rattle.tdb_top.specs.Opening.{HaltsForCause, HaltsRightly, IsOpenedOn};
+
+    /// Opens the file on a disk: it tests the length, then the header, and then checks the whole file. It changes nothing. The
+    /// memory that it takes is that of the check.
+    pub(crate) fn open<D: Disk>(alloc: Global, disk: &mut D) -> Result<Opened, Halt>
+        ensures opened { IfOk result (λ o. IsTrue D.tells → IsOpenedOn (seen (D.history disk.old)) o) }
+        ensures length { IfOk result (λ o. o.len ≡ D.size disk.old) }
+        ensures within { IfOk result (λ o. o.len ≤ LONGEST_FILE) }
+        ensures refused { IfErr result (λ halt. IsTrue D.tells → HaltsRightly (seen (D.history disk.old)) halt) }
+        ensures size { D.size disk.new ≡ D.size disk.old }
+        ensures history { D.history disk.new ≡ D.history disk.old }
+        ensures cause { HaltsForCause (D.faults disk.old) (D.faults disk.new) result }
+    {
+        let len = disk.len()?;
+        if len > LONGEST_FILE {
+            return Err(Halt::Refused {
+                refusal: Refusal::TooLong { len },
+            });
+        }
+        let header = read_front(disk)?;
+        let report = check_disk(alloc, disk, &header)?;
+        Ok(Opened {
+            header,
+            len,
+            report,
+        })
+    }
+}
