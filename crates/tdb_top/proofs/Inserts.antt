@@ -1,7 +1,6 @@
 -- What an insert that ended early leaves, and what it writes.
 use Rattle.std.proofs.Common.{◌≡◌, ℕ, ◌+◌, ◌-◌, List, [], length, replicate, append-nil, sym, ap, ◌∙◌, inr, arith}
 use Rattle.std.proofs.lemmas.List.{length-replicate}
-use Rattle.std.specs.Prelude.{Result, Ok, Err, IfErr}
 use Rattle.tdb_words.specs.declared.header.Header.{Header}
 use Rattle.tdb_words.specs.declared.record.TheConstants.{PADDING}
 use Rattle.tdb_words.specs.declared.record.Rec.{Rec}
@@ -14,11 +13,6 @@ use Rattle.tdb_space.specs.Pairs.{home}
 use Rattle.tdb_top.specs.Insert.{rec_len_for, need_for, first_of, new_rec, record_bytes, led_to, inserted, BrokenOff}
 use Rattle.tdb_top.proofs.Added.{rec_length, parts_length}
 use Rattle.tdb_top.proofs.AtEnd.{word_length}
-
--- what holds of every error
-pub if_err : {V F : Type 0} (P : F → Type 0) (r : Result V F) → ((e : F) → P e) → IfErr r P
-if_err P (Ok v) all = tt
-if_err P (Err e) all = all e
 
 -- where nothing was done yet
 pub nothing_done : (old made : List ℕ) (room : ℕ) (now : List ℕ) → now ≡ old → BrokenOff old made room now

@@ -3,6 +3,7 @@ pub mod Lines
 pub mod OneLine
 pub mod NewFile
 pub mod MakesFile
+pub mod Errors
 pub mod Openings
 pub mod AtEnd
 pub mod Held

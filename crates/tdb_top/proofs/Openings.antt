@@ -1,6 +1,6 @@
 -- A file is refused for its first fault.
-use Rattle.std.proofs.Common.{◌≡◌, ℕ, ◌+◌, not, ◌≤◌, Bool, true, false, if◌then◌else◌, List, length, Option, Some, None, sym, ◌∙◌, subst}
-use Rattle.std.specs.Prelude.{◌==◌, Result, Err, IfErr}
+use Rattle.std.proofs.Common.{◌≡◌, ℕ, ◌+◌, not, ◌≤◌, Bool, true, false, if◌then◌else◌, List, length, Option, Some, None, sym, ◌∙◌}
+use Rattle.std.specs.Prelude.{◌==◌}
 use Rattle.tdb_words.specs.Word.{word}
 use Rattle.tdb_words.specs.declared.what.What.{What}
 use Rattle.tdb_words.specs.declared.what.What.TheVariants.{Header as BadHeader, AreaBad, UndoBad, BadRecord, Tailer, WrongHash, TwiceKey}
@@ -14,10 +14,6 @@ use Rattle.tdb_check.specs.declared.front.FrontRefusal as Front
 use Rattle.tdb_check.specs.declared.refusal.CheckRefusal as Check
 use Rattle.tdb_top.specs.declared.opening.TheConstants.{LONGEST_FILE}
 use Rattle.tdb_top.specs.Opening.{HaltsRightly, of_front, of_check}
-
--- what holds of the error that is there holds of the answer
-pub if_this_err : {V F : Type 0} (P : F → Type 0) (r : Result V F) (e : F) → r ≡ Err e → P e → IfErr r P
-if_this_err P r e is p = subst (λ x. IfErr x P) (sym is) p
 
 -- what may be wrong isn't the header
 abbrev NotHeader : Option Fault → Type 0

@@ -16,15 +16,15 @@ use thiserror::Error;
 #[derive(Clone, Copy, Debug, PartialEq, Eq, Error)]
 pub(crate) enum Refusal {
     /// The file, of `len` bytes, is longer than the longest.
-    #[error("toolong {len}")]
+    #[error("the file is too long")]
     TooLong { len: u64 },
 
     /// The header has a fault, and this is its first.
-    #[error("header {fault}")]
+    #[error("the header has a fault")]
     Header { fault: HeaderFault },
 
     /// Behind a sound header the file has a fault, and this is its first.
-    #[error("corrupt {what} {at}")]
+    #[error("the file has a fault")]
     Corrupt { what: What, at: u64 },
 }
 
@@ -32,7 +32,7 @@ pub(crate) enum Refusal {
 #[derive(Clone, Copy, Debug, PartialEq, Eq, Error)]
 pub(crate) enum Halt {
     /// The file isn't opened.
-    #[error("{refusal}")]
+    #[error("the file is refused")]
     Refused { refusal: Refusal },
 
     /// A call of the disk failed.

@@ -4,7 +4,8 @@ use Rattle.tdb_disk.specs.History.{seen}
 use Rattle.tdb_space.specs.Form.{form_of}
 use Rattle.tdb_top.specs.declared.halt.Halt.TheVariants.{Device}
 use Rattle.tdb_top.specs.Insert.{inserted, need_for, led_to, BrokenOff}
-use Rattle.tdb_top.proofs.Inserts.{if_err, nothing_done, as_inserted, room_needed}
+use Rattle.tdb_top.proofs.Errors.{if_err}
+use Rattle.tdb_top.proofs.Inserts.{nothing_done, as_inserted, room_needed}
 use Rattle.tdb_top.proofs.insert.add.Goals as goal
 
 -- a read that failed before the first change

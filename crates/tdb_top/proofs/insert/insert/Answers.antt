@@ -8,10 +8,10 @@ use Rattle.tdb_top.specs.declared.opening.Opened.{Opened}
 use Rattle.tdb_top.specs.Opening.{IsOpenedOn}
 use Rattle.tdb_top.specs.declared.halt.Halt.TheVariants.{Device}
 use Rattle.tdb_top.specs.Insert.{inserted, need_for, BrokenOff, HasAdded}
-use Rattle.tdb_top.proofs.Openings.{if_this_err}
+use Rattle.tdb_top.proofs.Errors.{if_err, if_this_err}
 use Rattle.tdb_top.proofs.Found.{told_of}
 use Rattle.tdb_top.proofs.Added.{has_added}
-use Rattle.tdb_top.proofs.Inserts.{if_err, nothing_done}
+use Rattle.tdb_top.proofs.Inserts.{nothing_done}
 use Rattle.tdb_top.proofs.insert.insert.Goals as goal
 
 -- a call that failed before the first change

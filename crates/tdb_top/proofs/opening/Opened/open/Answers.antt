@@ -7,7 +7,8 @@ use Rattle.tdb_space.specs.FirstFault.{front_fault, IsFirstFault}
 use Rattle.tdb_check.specs.Front.{Refuses}
 use Rattle.tdb_check.specs.Seen.{Names}
 use Rattle.tdb_top.specs.Opening.{HaltsRightly}
-use Rattle.tdb_top.proofs.Openings.{if_this_err, front_halts, check_halts}
+use Rattle.tdb_top.proofs.Errors.{if_this_err}
+use Rattle.tdb_top.proofs.Openings.{front_halts, check_halts}
 use Rattle.tdb_top.proofs.opening.Opened.open.Goals as goal
 
 -- a front that is refused
