@@ -26,7 +26,7 @@ split_last o img (d ∷ es) e (x ∷ xs) h =
     let first : extent_seen d ≡ extent_at o img x = cc in
     let others : extents_seen (es ++ e ∷ []) ≡ extents o img xs = cc in
     let (ys, y, parts, shown, last) = split_last o img es e xs others in
-    (x ∷ ys, y, ap (λ zs. x ∷ zs) parts, (λ j. first j ∷ shown j), last)
+    (x ∷ ys, y, (λ j. x ∷ parts j), (λ j. first j ∷ shown j), last)
 
 first_last : (ys : List ℕ) (x at : ℕ) → first_or at (ys ++ x ∷ []) ≡ first_or x ys
 first_last [] x at = refl

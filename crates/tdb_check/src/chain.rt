@@ -13,8 +13,7 @@ ghost use Rattle.tdb_check.specs.Notes.{NotesOf, RecordPassed};
 ghost use Rattle.tdb_check.specs.Unchanged.{Unchanged, IoCause};
 
 use crate::area::can_stand;
-use crate::extent::Extent;
-use crate::free_list::put;
+use crate::extent::{Extent, put};
 use crate::keys::Keys;
 use crate::list_kind::ListKind;
 use crate::record::read_record;

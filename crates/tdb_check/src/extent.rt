@@ -1,9 +1,11 @@
 // The bytes that belong to records and to the undo area, and whether two of them share one.
 
-ghost use Rattle.std.specs.Prelude.{◌≡◌, ℕ, ◌+◌, ◌<◌, ◌≤◌, MatchOption};
+ghost use Rattle.std.specs.Prelude.{◌≡◌, ℕ, ◌+◌, ◌<◌, ◌≤◌, [], ◌∷◌, ◌++◌, OnOk, OnErr, MatchOption};
 ghost use Rattle.std.specs.List.Sorted.{IsNonDecreasingBy};
 ghost use Rattle.tdb_space.specs.Extents.{times};
 ghost use Rattle.tdb_check.specs.Extent.{extents_seen, off_of};
+
+use std::alloc::AllocError;
 
 /// The bytes of a record or of the undo area: 24 of its header, and `rec_len` behind them.
 #[derive(Clone, Copy, Debug, PartialEq, Eq)]
@@ -22,6 +24,15 @@ impl Extent {
     {
         self.off as u64 + 24 + self.rec_len as u64
     }
+}
+
+/// Puts an extent at the end.
+pub fn put(extents: &mut Vec<Extent>, e: Extent) -> Result<(), AllocError>
+    ensures ok { OnOk result (extents.new.items ≡ extents.old.items ++ e ∷ []) }
+    ensures err { OnErr result (extents.new.items ≡ extents.old.items) }
+{
+    extents.push(e)?;
+    Ok(())
 }
 
 /// Puts extents into the order of their offsets. It takes no memory and time n log n.

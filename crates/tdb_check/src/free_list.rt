@@ -1,8 +1,6 @@
 // The walk along the free list.
 
-ghost use Rattle.std.specs.Prelude.{◌≡◌, ℕ, ◌+◌, ◌<◌, ◌≤◌, ◌||◌, ◌++◌, [], ◌∷◌, IsTrue, length, nat_eq, OnOk, OnErr, IfErr};
-ghost use Rattle.std.specs.Ordering.{nat_cmp};
-ghost use Rattle.std.specs.BTreeSet.{contains};
+ghost use Rattle.std.specs.Prelude.{◌≡◌, ◌+◌, ◌<◌, ◌≤◌, IsTrue, length, OnOk, IfErr};
 ghost use Rattle.tdb_space.specs.Form.{data_start, free_head};
 ghost use Rattle.tdb_space.specs.FirstFault.{FirstInList, free_list};
 ghost use Rattle.tdb_check.specs.Seen.{Names};
@@ -10,22 +8,14 @@ ghost use Rattle.tdb_check.specs.Followed.{FollowedTo};
 ghost use Rattle.tdb_check.specs.Unchanged.{Unchanged, IoCause};
 
 use crate::area::can_stand;
-use crate::extent::Extent;
+use crate::extent::{Extent, put};
 use crate::list_kind::ListKind;
 use crate::record::read_record;
 use crate::refusal::CheckRefusal;
-use std::alloc::{AllocError, Global};
-use std::collections::BTreeSet;
+use crate::trail::Trail;
+use std::alloc::Global;
 use tdb_space::Space;
 use tdb_words::{What, word_at};
-
-/// Notes an offset that was met.
-fn note(met: &mut BTreeSet<u32>, at: u32) -> Result<(), AllocError>
-    ensures { OnOk result ((q : ℕ) → contains nat_cmp met.new q ≡ (nat_eq q at || contains nat_cmp met.old q)) }
-{
-    met.insert(at)?;
-    Ok(())
-}
 
 /// Follows the free list to its end, and puts the extents of its records behind those that are there; or answers what is first
 /// wrong with it.
@@ -47,7 +37,7 @@ pub fn follow_free_list<S: Space>(
     s.read(168, &mut word)?;
     let mut at = word_at(&word, s.order());
     let mut place = 168u64;
-    let mut met = BTreeSet::new(alloc);
+    let mut met = Trail::new(alloc);
     for _turn in 0..len {
         if at == 0 {
             return Ok(());
@@ -58,7 +48,7 @@ pub fn follow_free_list<S: Space>(
                 at: place,
             });
         }
-        if met.contains(&at) {
+        if met.contains(at) {
             return Err(CheckRefusal::Corrupt {
                 what: What::FreeLoop,
                 at: place,
@@ -68,7 +58,7 @@ pub fn follow_free_list<S: Space>(
             Ok(r) => r,
             Err(e) => return Err(e),
         };
-        note(&mut met, at)?;
+        met.note(at)?;
         put(
             extents,
             Extent {
@@ -83,13 +73,4 @@ pub fn follow_free_list<S: Space>(
         what: What::FreeLoop,
         at: place,
     })
-}
-
-/// Puts an extent at the end.
-pub fn put(extents: &mut Vec<Extent>, e: Extent) -> Result<(), AllocError>
-    ensures ok { OnOk result (extents.new.items ≡ extents.old.items ++ e ∷ []) }
-    ensures err { OnErr result (extents.new.items ≡ extents.old.items) }
-{
-    extents.push(e)?;
-    Ok(())
 }

@@ -1,15 +1,12 @@
 -- Each way out of the walk, from what was followed so far.
 use Rattle.std.proofs.Common.{◌≡◌, ◌<◌, not, false, Some, length, take, drop, sym, ◌∙◌, ap, arith, rules}
-use Rattle.std.specs.Ordering.{nat_cmp}
-use Rattle.std.specs.List.{list_any}
-use Rattle.std.specs.BTreeMap.{is_at}
-use Rattle.std.specs.BTreeSet.{contains}
 use Rattle.tdb_words.specs.Word.{word}
 use Rattle.tdb_words.specs.Record.{rec_at}
 use Rattle.tdb_words.proofs.Words.{word_of_part}
 use Rattle.tdb_space.specs.Form.{free_head}
 use Rattle.tdb_space.specs.FirstFault.{free_list, FirstInList, is_out}
 use Rattle.tdb_check.specs.Area.{is_out_at}
+use Rattle.tdb_check.specs.Trail.{met}
 use Rattle.tdb_check.specs.Seen.{own_fault}
 use Rattle.tdb_check.proofs.Areas.{out_is, not_true}
 use Rattle.tdb_check.proofs.Following.{following_start, following_own, following_never, free_more, names_then}
@@ -23,7 +20,7 @@ loop-turn-init g c = record {
       let order : c.order.result ≡ f.order = c.order.ensures ∙ ap (λ x. x.order) c.read.ensures.form in
       let bytes : c.read.new.buf ≡ take 4 (drop 168 img) = c.in_ok-read.ensures.bytes told in
       let is : c.word_at-at.result ≡ word f.order img 168 = c.word_at-at.ensures ∙ (λ j. word (order j) (bytes j) 0) ∙ word_of_part f.order img 168 4 0 (omega arith) in
-      following_start f free_list img free_head c.word_at-at.result (contains nat_cmp c.new-met.result) c.args.extents.now.items (sym is) (λ q. ap (list_any (is_at (nat_cmp q))) c.new-met.ensures.empty));
+      following_start f free_list img free_head c.word_at-at.result (met c.new-met.result) c.args.extents.now.items (sym is) c.new-met.ensures);
   still = search rules;
   faults = search rules;
 }
@@ -33,7 +30,7 @@ returns-in-Err-clause-bad g c told long =
     let f = g.S.Space.form c.args.s.now in
     let img = g.S.Space.image c.args.s.now in
     let v = c.loop-turn.invariant in
-    let noted = contains nat_cmp c.loop-turn.met in
+    let noted = met c.loop-turn.met in
     let old = c.args.extents.now.items in
     let h = v.followed told long in
     let chains : c.hash_size.result ≡ f.chains = c.hash_size.ensures ∙ ap (λ x. x.chains) v.still.same_form in
@@ -57,7 +54,7 @@ loop-turn-preserved g c =
           let stands : is_out f img c.loop-turn.at ≡ false = out_is f img c.loop-turn.at c.args.len long ∙ not_true (is_out_at f.chains c.args.len c.loop-turn.at) (sym test ∙ c.if-not-can_stand.false) in
           let again : length (g.S.Space.image c.loop-turn.s) ≡ c.args.len = ap length v.still.same_image ∙ long in
           let good = c.in-Ok.ensures.good told again in
-          free_more f img free_head (contains nat_cmp c.loop-turn.met) (contains nat_cmp c.note.new.met) c.args.extents.now.items c.loop-turn.extents.items c.put.new.extents.items c.loop-turn._turn c.loop-turn.place c.loop-turn.at c.in-Ok.r
+          free_more f img free_head (met c.loop-turn.met) (met c.note.new.self) c.args.extents.now.items c.loop-turn.extents.items c.put.new.extents.items c.loop-turn._turn c.loop-turn.place c.loop-turn.at c.in-Ok.r
           (v.followed told long) c.if-at-eq0.false stands (sym c.contains.ensures ∙ c.if-contains.false)
           ((λ j. own_fault (sym v.still.same_form j) free_list (sym v.still.same_image j) c.loop-turn.at) ∙ good.0)
           (good.1 ∙ (λ j. rec_at (v.still.same_form j).order (v.still.same_image j) c.loop-turn.at))
@@ -71,7 +68,7 @@ returns-clause-bad g c told long =
     let f = g.S.Space.form c.args.s.now in
     let img = g.S.Space.image c.args.s.now in
     let v = c.loop-turn.invariant in
-    let noted = contains nat_cmp c.loop-turn.met in
+    let noted = met c.loop-turn.met in
     let old = c.args.extents.now.items in
     let h = v.followed told long in
     let some : 0 < length img = omega (arith, long, c.requires.heads) in
