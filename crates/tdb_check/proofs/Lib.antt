@@ -12,8 +12,9 @@ pub mod Checked
 pub mod Still
 pub mod Firsts
 pub mod Keeping
-pub mod ChainRecords
-pub mod ChainWalks
-pub mod ChainsWalk
+pub mod NextRecord
+pub mod OneChain
+pub mod AllChains
 pub mod DeadTails
 pub mod Showing
+pub mod SameViews

@@ -3,10 +3,10 @@
 ghost use Rattle.std.specs.Prelude.{◌≡◌, ℕ, ◌+◌, ◌<◌, ◌≤◌, ◌==◌, if◌then◌else◌, List, [], ◌∷◌, ◌++◌, IsTrue, length, Some, IfOk, IfErr, OnOk};
 ghost use Rattle.tdb_words.specs.Word.{word};
 ghost use Rattle.tdb_space.specs.Form.{Form, data_start, chain_head};
+ghost use Rattle.tdb_space.specs.Extents.{Extent as Held};
 ghost use Rattle.tdb_space.specs.FirstFault.{chain_number, record_fault, FirstInList};
 ghost use Rattle.tdb_check.specs.Seen.{Names};
 ghost use Rattle.tdb_check.specs.Followed.{ChainFollowed};
-ghost use Rattle.tdb_space.specs.Extents.{Extent as Held};
 ghost use Rattle.tdb_check.specs.Extent.{extents_seen};
 ghost use Rattle.tdb_check.specs.Tails.{TailsOf};
 ghost use Rattle.tdb_check.specs.Notes.{NotesOf, RecordPassed};
@@ -81,8 +81,9 @@ fn note_dead(dead: &mut Vec<Extent>, at: u32, r: &Rec) -> Result<(), AllocError>
     )
 }
 
-/// The header of the record that the word at a place of chain `j` leads to, after those noted; or the first that is wrong with it:
-/// it stands out of the file or behind itself, it is bad by itself, or an earlier one has its key.
+/// The header of the record that the word at a place leads to, in chain `j` after the records that are noted; it is noted too. Or
+/// what is first wrong there: the word leads out of the file or back into the chain, the record is bad by itself, or an earlier one
+/// has its key.
 fn pass_record<S: Space>(
     s: &mut S,
     len: u64,

@@ -6,8 +6,8 @@ use Rattle.tdb_check.specs.Extent.{extents_seen}
 use Rattle.tdb_check.specs.Tails.{least_from, KnownTail, TailsOf, Closing}
 use Rattle.tdb_check.specs.Notes.{NotesOf, RecordPassed}
 use Rattle.tdb_check.proofs.Following.{names_then}
-use Rattle.tdb_check.proofs.ChainRecords.{same_view}
-use Rattle.tdb_check.proofs.ChainWalks.{chain_none, going_start, going_end, going_fault, going_never, going_more, going_tail, going_closing, going_known, tails_put}
+use Rattle.tdb_check.proofs.SameViews.{same_view}
+use Rattle.tdb_check.proofs.OneChain.{chain_none, going_start, going_end, going_fault, going_never, going_more, going_tail, going_closing, going_known, tails_put}
 use Rattle.tdb_check.proofs.chain.follow_chain.Goals as goal
 
 pub loop-turn-init : goal.loop-turn-init

@@ -3,7 +3,7 @@ use Rattle.std.proofs.Common.{◌≡◌, ◌+◌, ◌≤◌, IsTrue, length}
 use Rattle.tdb_words.specs.Word.{word}
 use Rattle.tdb_space.specs.Form.{chain_head}
 use Rattle.tdb_check.specs.Unchanged.{Unchanged}
-use Rattle.tdb_check.proofs.ChainWalks.{ChainGoing}
+use Rattle.tdb_check.proofs.OneChain.{ChainGoing}
 use Rattle.tdb_check.proofs.chain.follow_chain.Given as goal
 
 abbrev pub invariant-loop-turn : goal.invariant-loop-turn

@@ -9,8 +9,9 @@ use Rattle.tdb_check.specs.Area.{is_out_at}
 use Rattle.tdb_check.specs.Keys.{Keyed, KeptIn, TwinTold}
 use Rattle.tdb_check.proofs.Areas.{out_is, not_true}
 use Rattle.tdb_check.proofs.Following.{fault_none, any_more}
-use Rattle.tdb_check.proofs.ChainRecords.{same_view, keyed_where, fault_twin}
-use Rattle.tdb_check.proofs.ChainWalks.{dead_more}
+use Rattle.tdb_check.proofs.SameViews.{same_view}
+use Rattle.tdb_check.proofs.NextRecord.{keyed_where, fault_twin}
+use Rattle.tdb_check.proofs.OneChain.{dead_more}
 use Rattle.tdb_check.proofs.chain.pass_record.Goals as goal
 
 pub returns-then-twin-clause-bad : goal.returns-then-twin-clause-bad

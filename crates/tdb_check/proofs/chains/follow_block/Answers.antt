@@ -9,8 +9,8 @@ use Rattle.tdb_check.specs.Tails.{TailsOf}
 use Rattle.tdb_check.specs.Chains.{ChainsTo, FirstInChains}
 use Rattle.tdb_check.specs.Followed.{ChainFollowed}
 use Rattle.tdb_check.proofs.Following.{names_then}
-use Rattle.tdb_check.proofs.ChainRecords.{same_view}
-use Rattle.tdb_check.proofs.ChainsWalk.{chains_more, chains_fault}
+use Rattle.tdb_check.proofs.SameViews.{same_view}
+use Rattle.tdb_check.proofs.AllChains.{chains_more, chains_fault}
 use Rattle.tdb_check.proofs.chains.follow_block.Goals as goal
 
 pub returns-in-Err-clause-bad : goal.returns-in-Err-clause-bad

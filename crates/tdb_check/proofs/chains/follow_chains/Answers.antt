@@ -5,7 +5,7 @@ use Rattle.tdb_check.specs.Extent.{extents_seen}
 use Rattle.tdb_check.specs.Tails.{TailsOf}
 use Rattle.tdb_check.specs.Seen.{Names}
 use Rattle.tdb_check.specs.Chains.{ChainsTo, FirstInChains}
-use Rattle.tdb_check.proofs.ChainRecords.{same_view}
+use Rattle.tdb_check.proofs.SameViews.{same_view}
 use Rattle.tdb_check.proofs.chains.follow_chains.Goals as goal
 
 pub loop-first-preserved : goal.loop-first-preserved

@@ -1,7 +1,7 @@
 -- Nothing is noted.
 use Rattle.std.proofs.Common.{[], sym, subst}
 use Rattle.tdb_check.specs.Notes.{DeadEnd}
-use Rattle.tdb_check.proofs.ChainWalks.{dead_none}
+use Rattle.tdb_check.proofs.OneChain.{dead_none}
 use Rattle.tdb_check.proofs.chain.Notes.clear.Goals as goal
 
 pub returns-clause-none : goal.returns-clause-none

@@ -1,5 +1,5 @@
 -- The next record of a chain, by the tests in their order.
-use Rattle.std.proofs.Common.{◌≡◌, ℕ, true, false, List, eqb, Some, None, refl, sym, subst, arith}
+use Rattle.std.proofs.Common.{◌≡◌, ℕ, true, false, List, eqb, Some, None, refl, arith}
 use Rattle.std.specs.List.{list_any}
 use Rattle.tdb_words.specs.declared.record.TheConstants.{USED}
 use Rattle.tdb_words.specs.declared.what.What.TheVariants.{TwiceKey}
@@ -9,10 +9,6 @@ use Rattle.tdb_space.specs.FirstFault.{chain_number, record_fault, is_out, is_ba
 use Rattle.tdb_space.proofs.Cleared.{none_parts, good_from, filed_from}
 use Rattle.tdb_check.specs.Seen.{own_fault}
 use Rattle.tdb_check.specs.Keys.{Keyed}
-
--- what holds of a form and an image holds of the same ones
-pub same_view : (P : Form → List ℕ → Type 0) (f f2 : Form) (img img2 : List ℕ) → f2 ≡ f → img2 ≡ img → P f img → P f2 img2
-same_view P f f2 img img2 form image p = subst (λ g. P g img2) (sym form) (subst (P f) (sym image) p)
 
 module _ (f : Form) (j : ℕ) (img : List ℕ) (at : ℕ) (stands : is_out f img at ≡ false) (own : own_fault f (chain_number j) img at ≡ None) where
   -- a used record without a fault of its own has its key within the image, and the hash of it
