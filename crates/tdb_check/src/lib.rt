@@ -17,10 +17,10 @@ mod lists;
 mod record;
 mod refusal;
 mod report;
-mod tails;
 #[cfg(test)]
 mod report_tests;
 mod stray;
+mod tails;
 #[cfg(test)]
 mod tests;
 mod trail;
