@@ -1,13 +1,10 @@
 -- A list that is followed record by record.
-use Rattle.std.proofs.Common.{◌≡◌, ◌≢◌, ℕ, ◌+◌, ◌<◌, ◌≤◌, ◌||◌, Bool, true, false, List, [], ◌∷◌, ◌++◌, length, eqb, Option, Some, None, append_assoc, append-nil, length-append, refl, sym, ◌∙◌, ap, subst, inl, inr, arith}
+use Rattle.std.proofs.Common.{◌≡◌, ◌≢◌, ℕ, ◌+◌, ◌<◌, ◌||◌, Bool, true, false, List, [], ◌∷◌, ◌++◌, length, eqb, Option, Some, None, append_assoc, append-nil, length-append, refl, sym, ◌∙◌, ap, subst, arith}
 use Rattle.std.specs.Prelude.{if◌then◌else◌}
-use Rattle.std.specs.List.{list_any, IsDistinct, AllByRecursion}
+use Rattle.std.specs.List.{list_any}
 use Rattle.std.proofs.lemmas.Bool.{ne_eqb, or_parts}
-use Rattle.std.proofs.lemmas.Cmp.{nat_eq_equiv}
 use Rattle.std.proofs.lemmas.List.{map-append}
 use Rattle.std.proofs.lemmas.List.Folds.{list_any-append}
-use Rattle.std.proofs.lemmas.Map.Keys.{IsDistinct-push, IsDistinct-cons}
-use Rattle.std.proofs.lemmas.Map.Steps.{length-le_from_distinct_below}
 use Rattle.tdb_words.specs.declared.record.Rec.{Rec}
 use Rattle.tdb_words.specs.declared.record.TheConstants.{USED, FREE}
 use Rattle.tdb_words.specs.declared.word.Order.{Order}
@@ -16,58 +13,15 @@ use Rattle.tdb_words.specs.Record.{rec_at}
 use Rattle.tdb_space.specs.Form.{Form}
 use Rattle.tdb_space.specs.Record.{magic_of}
 use Rattle.tdb_space.specs.Extents.{extents, extent_at}
-use Rattle.tdb_space.specs.Chain.{Member}
 use Rattle.tdb_space.specs.FirstFault.{Fault, ListKind, free_list, Passed, FirstInList, record_fault, is_out, is_bad, has_wrong_tailer, is_misfiled, has_twin, out_of, loop_of}
-use Rattle.tdb_space.proofs.Walks.{member_cases}
-use Rattle.tdb_space.proofs.Cleared.{clear_from, stands_from, none_parts, same_from}
+use Rattle.tdb_space.proofs.Cleared.{none_parts, same_from}
+use Rattle.tdb_space.proofs.Ends.{passed_more, passed_short}
 use Rattle.tdb_check.specs.declared.extent.Extent.{Extent}
 use Rattle.tdb_check.specs.Extent.{extent_seen, extents_seen}
 use Rattle.tdb_check.specs.Followed.{FollowedTo}
 use Rattle.tdb_check.specs.Seen.{own_fault, Names}
 use Rattle.tdb_check.specs.declared.refusal.CheckRefusal.{CheckRefusal}
 use Rattle.tdb_check.specs.declared.refusal.CheckRefusal.TheVariants.{Corrupt, Io, Memory}
-
--- one more record
-pub passed_more : (f : Form) (kind : ListKind) (img earlier : List ℕ) (head : ℕ) (xs : List ℕ) (place x : ℕ) → Passed f kind img earlier head xs place → word f.order img place ≡ x → x ≢ 0 → record_fault f kind img (earlier ++ xs) place x ≡ None → Passed f kind img earlier head (xs ++ x ∷ []) x
-passed_more f kind img earlier head [] place x p w some none =
-    (subst (λ q. word f.order img q ≡ x) p w, some, (λ j. record_fault f kind img (sym (append-nil earlier) j) (sym p j) x) ∙ none, refl)
-passed_more f kind img earlier head (y ∷ ys) place x p w some none =
-    (p.0, p.1, p.2, passed_more f kind img (earlier ++ y ∷ []) y ys place x p.3 w some (subst (λ zs. record_fault f kind img zs place x ≡ None) (sym (append_assoc earlier (y ∷ []) ys)) none))
-
--- no offset comes twice among the records that were passed, and each lies in the image and behind its beginning
-passed_distinct : (f : Form) (kind : ListKind) (img earlier : List ℕ) (head : ℕ) (xs : List ℕ) (last : ℕ) → Passed f kind img earlier head xs last → IsDistinct eqb earlier → IsDistinct eqb (earlier ++ xs)
-passed_distinct f kind img earlier head [] last p d = subst (IsDistinct eqb) (sym (append-nil earlier)) d
-passed_distinct f kind img earlier head (x ∷ xs) last p d =
-    let c = clear_from f kind img earlier head x p.2 in
-    subst (IsDistinct eqb) (append_assoc earlier (x ∷ []) xs) (passed_distinct f kind img (earlier ++ x ∷ []) x xs last p.3 (IsDistinct-push nat_eq_equiv earlier x d c.new))
-
-passed_below : (f : Form) (kind : ListKind) (img earlier : List ℕ) (head : ℕ) (xs : List ℕ) (last z : ℕ) → Passed f kind img earlier head xs last → Member z xs → (0 < z) × (z < length img)
-passed_below f kind img earlier head [] last z p m = absurd (no_member z m)
-  where
-    no_member : (z : ℕ) → Member z [] → ⊥
-    no_member z h = cc
-passed_below f kind img earlier head (x ∷ xs) last z p m =
-    elim (member_cases z x xs m) [
-      | inl e ↦ let s = stands_from f img x (clear_from f kind img earlier head x p.2).stands in (omega (arith, e, s.1), omega (arith, e, s.2))
-      | inr there ↦ passed_below f kind img (earlier ++ x ∷ []) x xs last z p.3 there
-    ]
-
-distinct_none : IsDistinct eqb []
-unfolding IsDistinct
-distinct_none = tt
-
--- none of them is 0
-passed_some : (f : Form) (kind : ListKind) (img earlier : List ℕ) (head : ℕ) (xs : List ℕ) (last : ℕ) → Passed f kind img earlier head xs last → AllByRecursion (λ y. eqb 0 y ≡ false) xs
-passed_some f kind img earlier head [] last p = tt
-passed_some f kind img earlier head (x ∷ xs) last p = (ne_eqb 0 x (λ e. p.1 (sym e)), passed_some f kind img (earlier ++ x ∷ []) x xs last p.3)
-
--- fewer records than bytes
-pub passed_short : (f : Form) (kind : ListKind) (img : List ℕ) (head : ℕ) (xs : List ℕ) (last : ℕ) → 0 < length img → Passed f kind img [] head xs last → length xs < length img
-passed_short f kind img head xs last some p =
-    let below : (z : ℕ) → Member z (0 ∷ xs) → z < length img = λ z m.
-    elim (member_cases z 0 xs m) [ inl e ↦ omega (arith, e, some) | inr there ↦ (passed_below f kind img [] head xs last z p there).1 ] in
-    let short : length (0 ∷ xs) ≤ length img = length-le_from_distinct_below (0 ∷ xs) (length img) (IsDistinct-cons eqb 0 xs (passed_some f kind img [] head xs last p) (passed_distinct f kind img [] head xs last p distinct_none)) below in
-    omega (arith, short)
 
 -- the faults of the next record, by the tests in their order
 module _ (f : Form) (kind : ListKind) (img earlier : List ℕ) (place at : ℕ) where

@@ -33,7 +33,8 @@ use Rattle.tdb_check.specs.Tails.{least_from, KnownTail, TailsOf, EndsAt, first_
 use Rattle.tdb_check.specs.Chains.{Shows}
 use Rattle.tdb_check.specs.Notes.{DeadEnd, NotesOf, RecordPassed}
 use Rattle.tdb_check.proofs.Showing.{shows_more, first_held, shows_least}
-use Rattle.tdb_check.proofs.Following.{passed_more, passed_short, extents_more}
+use Rattle.tdb_space.proofs.Ends.{passed_more, passed_short}
+use Rattle.tdb_check.proofs.Following.{extents_more}
 
 -- a chain's records up to a next word 0 are those of the computed chain
 chain_is : (f : Form) (j : ℕ) (img xs : List ℕ) (last : ℕ) → Passed f (chain_number j) img [] (chain_head j) xs last → word f.order img last ≡ 0 → chain_of f img j ≡ xs

@@ -1,6 +1,6 @@
 // The walk along the free list.
 
-ghost use Rattle.std.specs.Prelude.{◌≡◌, ◌+◌, ◌<◌, ◌≤◌, IsTrue, length, OnOk, IfErr};
+ghost use Rattle.std.specs.Prelude.{◌≡◌, ◌<◌, ◌≤◌, IsTrue, length, OnOk, IfErr};
 ghost use Rattle.tdb_space.specs.Form.{data_start, free_head};
 ghost use Rattle.tdb_space.specs.FirstFault.{FirstInList, free_list};
 ghost use Rattle.tdb_check.specs.Seen.{Names};

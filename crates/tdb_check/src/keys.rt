@@ -1,12 +1,12 @@
 // The keys of one chain, as far as it takes to find a second record with one of them.
 
-ghost use Rattle.std.specs.Prelude.{◌≡◌, ℕ, List, [], ◌∷◌, ◌++◌, ◌+◌, ◌<◌, ◌≤◌, ◌||◌, true, false, not, nat_eq, IsTrue, length, Some, IfOk, IfErr, OnOk};
+ghost use Rattle.std.specs.Prelude.{◌≡◌, ℕ, List, [], ◌+◌, ◌<◌, ◌||◌, true, false, not, nat_eq, IsTrue, length, Some, IfOk, IfErr, OnOk};
 ghost use Rattle.std.specs.Ordering.{nat_cmp};
 ghost use Rattle.std.specs.Cmp.Lexicographic.{slice_cmp};
 ghost use Rattle.std.specs.BTreeSet.{contains};
 ghost use Rattle.tdb_words.specs.Record.{rec_at};
 ghost use Rattle.tdb_space.specs.Form.{Form};
-ghost use Rattle.tdb_space.specs.Record.{key_len_of, key_at, full_hash_of};
+ghost use Rattle.tdb_space.specs.Record.{key_len_of, key_at};
 ghost use Rattle.tdb_space.specs.Pairs.{same_key};
 ghost use Rattle.tdb_check.specs.FirstOffsets.{first_of};
 ghost use Rattle.tdb_check.specs.Seen.{Names};

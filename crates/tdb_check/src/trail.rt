@@ -1,7 +1,6 @@
 // The offsets that were met in one list.
 
 ghost use Rattle.std.specs.Prelude.{◌≡◌, ℕ, ◌||◌, false, nat_eq, OnOk};
-ghost use Rattle.std.specs.Ordering.{nat_cmp};
 ghost use Rattle.std.specs.BTreeSet.{contains};
 
 use std::alloc::{AllocError, Global};

@@ -1,7 +1,7 @@
 // How a run ends: its status and the line that it prints.
 
 ghost use Rattle.std.specs.Prelude.{◌≡◌, ◌⊎◌, ◌++◌, codes, decimal, IfOk};
-ghost use Rattle.tdb_top.specs.declared.ending.Ending.TheVariants.{DeviceFault, NoMemory, Refused as IsRefused};
+ghost use Rattle.tdb_top.specs.declared.ending.Ending.TheVariants.{DeviceFault, NoMemory};
 ghost use Rattle.tdb_top.specs.declared.halt.Halt.TheVariants.{Refused, Device, Memory};
 ghost use Rattle.tdb_top.specs.Ending.{Ending as Means, ending_of, no_memory, there_already, status_of, line_of, refusal_status, refusal_line, text_of, Prints, output_by, of_halt, Untaken, MadeSo};
 

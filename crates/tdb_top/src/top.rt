@@ -1,6 +1,6 @@
 // The top call: it reads the words, answers them over the files and prints one line.
 
-ghost use Rattle.std.specs.Prelude.{◌≡◌, ◌⊎◌, ◌^◌, ◌<◌, ◌≤◌, ℕ, List, [], ◌∷◌, ◌++◌, Some, false, map, string_bytes, IsTrue, Contains, length};
+ghost use Rattle.std.specs.Prelude.{◌≡◌, ◌⊎◌, ◌^◌, ◌<◌, ◌≤◌, ℕ, List, [], ◌∷◌, Some, false, map, string_bytes, IsTrue, Contains, length};
 ghost use Rattle.tdb_words.specs.declared.word.Order.{Order};
 ghost use Rattle.tdb_words.specs.declared.hash.HashKind.{HashKind};
 ghost use Rattle.tdb_disk.specs.Count.{Rose};
