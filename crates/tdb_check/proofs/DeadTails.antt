@@ -1,6 +1,6 @@
 -- The dead records at the end of a chain, one by one from its end.
-use Rattle.std.proofs.Common.{◌≡◌, ◌≢◌, ℕ, ◌≤◌, List, [], ◌∷◌, ◌++◌, Option, None, Some, eqb, refl, sym, ◌∙◌, ap, subst, inl, inr, arith}
-use Rattle.std.specs.Prelude.{if◌then◌else◌, nat_eq}
+use Rattle.std.proofs.Common.{◌≡◌, ◌≢◌, ℕ, ◌≤◌, Bool, true, false, List, [], ◌∷◌, ◌++◌, Option, None, Some, eqb, refl, sym, ◌∙◌, ap, subst, inl, inr, arith}
+use Rattle.std.specs.Prelude.{if◌then◌else◌, nat_eq, IsSome}
 use Rattle.std.specs.List.{list_any}
 use Rattle.std.proofs.lemmas.Bool.{cases_eq, cases_lt, eq-eqb, ne_eqb, lt-ltb, le-ltb, or_left, or_right}
 use Rattle.std.proofs.lemmas.List.Folds.{list_any-append}
@@ -14,7 +14,7 @@ use Rattle.tdb_space.proofs.Walks.{member_cases, member_first, member_other}
 use Rattle.tdb_check.specs.declared.extent.Extent.{Extent}
 use Rattle.tdb_check.specs.declared.tails.Tails.{Tails}
 use Rattle.tdb_check.specs.Extent.{extent_seen, extents_seen}
-use Rattle.tdb_check.specs.Tails.{least_from, lower_of, Dead, KnownTail, EndsAt, first_or, LeadsTo, Closing}
+use Rattle.tdb_check.specs.Tails.{least_from, AllKept, lower_of, Dead, KnownTail, EndsAt, first_or, LeadsTo, Closing}
 
 -- the last of some extents is that of the last record
 split_last : (o : Order) (img : List ℕ) (es : List Extent) (e : Extent) (xs : List ℕ) → extents_seen (es ++ e ∷ []) ≡ extents o img xs → (ys : List ℕ) × (x : ℕ) × (xs ≡ ys ++ x ∷ []) × (extents_seen es ≡ extents o img ys) × (extent_seen e ≡ extent_at o img x)
@@ -115,3 +115,18 @@ closing_step f img seen t t2 es e rest h put =
 -- nothing that is there is missing
 pub none_kept : (kept : Option Extent) (e : Extent) → kept ≡ None → kept ≡ Some e → ⊥
 none_kept kept e none some = cc
+
+-- what is kept of a record that is put down is there, and what was kept of another stays there
+kept_at : (b : Bool) (x : Extent) (o : Option Extent) → IsSome o → IsSome (if b then Some x else o)
+kept_at true x o h = refl
+kept_at false x o h = h
+
+pub kept_here : (old new : Tails) (at : ℕ) (x : Extent) → ((q : ℕ) → least_from new q ≡ (if nat_eq q at then Some x else least_from old q)) → IsSome (least_from new at)
+kept_here old new at x more =
+    let there : (if nat_eq at at then Some x else least_from old at) ≡ Some x = rw (eq-eqb at at refl) refl in
+    subst IsSome (sym (more at ∙ there)) refl
+
+pub kept_more : (old new : Tails) (at : ℕ) (x : Extent) (es : List Extent) → ((q : ℕ) → least_from new q ≡ (if nat_eq q at then Some x else least_from old q)) → AllKept old es → AllKept new es
+kept_more old new at x [] more h = tt
+kept_more old new at x (e ∷ es) more h =
+    (subst IsSome (sym (more e.off)) (kept_at (nat_eq e.off at) x (least_from old e.off) h.0), kept_more old new at x es more h.1)

@@ -1,5 +1,5 @@
 -- The dead records at the ends of chains: what is kept of them, and what a walk leaves there.
-use Rattle.std.specs.Prelude.{◌≡◌, ◌≢◌, ℕ, ◌≤◌, List, [], ◌∷◌, Option, Some, None, nat_lt, if◌then◌else◌}
+use Rattle.std.specs.Prelude.{◌≡◌, ◌≢◌, ℕ, ◌≤◌, List, [], ◌∷◌, Option, Some, None, IsSome, nat_lt, if◌then◌else◌}
 use Rattle.std.specs.Ordering.{nat_cmp}
 use Rattle.std.specs.BTreeMap.{get}
 use Rattle.tdb_words.specs.declared.record.TheConstants.{USED}
@@ -14,6 +14,11 @@ use Rattle.tdb_check.specs.Extent.{extent_seen, extents_seen}
 -- what is kept of the record at an offset
 abbrev pub least_from : Tails → ℕ → Option Extent
 least_from t at = get nat_cmp t.least at
+
+-- each of these records is kept
+abbrev pub AllKept : Tails → List Extent → Type 0
+AllKept t [] = Unit {0}
+AllKept t (e ∷ es) = IsSome (least_from t e.off) × AllKept t es
 
 -- the one of two extents with the lower offset
 abbrev pub lower_of : Extent → Option Extent → Extent

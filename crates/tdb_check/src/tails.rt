@@ -17,7 +17,7 @@ pub struct Tails {
 impl Tails {
     ghost use Rattle.tdb_space.specs.Form.{Form};
     ghost use Rattle.tdb_space.specs.Extents.{Extent as Held};
-    ghost use Rattle.tdb_check.specs.Tails.{least_from, TailsOf, Closing};
+    ghost use Rattle.tdb_check.specs.Tails.{least_from, AllKept, TailsOf, Closing};
 
     /// No record. It takes no memory.
     pub fn new(alloc: Global) -> Self
@@ -38,7 +38,8 @@ impl Tails {
     /// Keeps the dead records that a chain ends in, as far as they were followed; `rest` is the least extent of those behind them,
     /// where there are some. It takes `n log n` steps, and leaves no record in the list.
     pub fn keep(&mut self, dead: &mut Vec<Extent>, rest: Option<Extent>) -> Result<(), AllocError>
-        ensures { OnOk result ((f : Form) (img : List ℕ) (seen : List Held) → Closing f img seen self.old dead.old.items rest → TailsOf f img seen self.new) }
+        ensures tails { OnOk result ((f : Form) (img : List ℕ) (seen : List Held) → Closing f img seen self.old dead.old.items rest → TailsOf f img seen self.new) }
+        ensures kept { OnOk result (AllKept self.new dead.old.items) }
     {
         let mut least = rest;
         while let Some(e) = dead.pop() {

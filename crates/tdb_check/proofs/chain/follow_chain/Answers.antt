@@ -32,7 +32,7 @@ returns-then-at-eq0-clause-sound g c told long is tails =
     let closing : Closing f img (extents_seen new) c.loop-turn.notes.tails c.loop-turn.notes.dead.items None =
     going_closing f c.args.j img c.loop-turn.notes old new c.loop-turn.live c.loop-turn._turn c.loop-turn.place c.loop-turn.at h c.loop-turn.notes.tails None c.if-at-eq0.true here in (
       going_end f c.args.j img c.loop-turn.notes old new c.loop-turn.live c.loop-turn._turn c.loop-turn.place c.loop-turn.at h c.if-at-eq0.true,
-      c.in_ok-keep.ensures f img (extents_seen new) closing,
+      c.in_ok-keep.ensures.tails f img (extents_seen new) closing,
     )
 
 pub returns-in-Some-clause-sound : goal.returns-in-Some-clause-sound
@@ -51,7 +51,7 @@ returns-in-Some-clause-sound g c told long is tails =
     going_closing f c.args.j img c.loop-turn.notes old new c.loop-turn.live c.loop-turn._turn c.loop-turn.place c.loop-turn.at h c.loop-turn.notes.tails (Some c.in-Some.least) known here in
     let put = c.in_ok-put.ensures.ok in (
       going_known f c.args.j img c.loop-turn.notes old new c.loop-turn.live c.loop-turn._turn c.loop-turn.place c.loop-turn.at h c.in-Some.least c.put.new.extents.items known put,
-      tails_put f img new c.put.new.extents.items c.in-Some.least c.keep-in-Some.new.self put (c.in_ok-keep-2.ensures f img (extents_seen new) closing),
+      tails_put f img new c.put.new.extents.items c.in-Some.least c.keep-in-Some.new.self put (c.in_ok-keep-2.ensures.tails f img (extents_seen new) closing),
     )
 
 pub returns-in-Err-clause-bad : goal.returns-in-Err-clause-bad
