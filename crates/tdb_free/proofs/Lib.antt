@@ -1,0 +1,4 @@
+pub mod Merged
+pub mod Passed
+pub mod PutFirst
+pub mod Removed

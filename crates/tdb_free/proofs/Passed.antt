@@ -1,0 +1,121 @@
+-- The walk along the free list, record by record, and each way out of it.
+use Rattle.std.proofs.Common.{◌≡◌, ℕ, ◌+◌, ◌≤◌, Bool, true, false, List, [], ◌∷◌, length, Some, None, refl, sym, ◌∙◌, ap, subst, inl, inr, arith}
+use Rattle.std.specs.Prelude.{◌/◌}
+use Rattle.std.specs.List.{find}
+use Rattle.std.proofs.lemmas.Bool.{eq-eqb, ne_eqb}
+use Rattle.tdb_words.specs.declared.record.Rec.{Rec}
+use Rattle.tdb_words.specs.Word.{word}
+use Rattle.tdb_words.specs.Record.{rec_at}
+use Rattle.tdb_space.specs.Form.{Form, data_start, free_head}
+use Rattle.tdb_space.specs.Record.{Whole, IsFree, rec_len_of}
+use Rattle.tdb_space.specs.Chain.{Free, Leads, Member, without}
+use Rattle.tdb_space.specs.Extents.{HandPair}
+use Rattle.tdb_space.proofs.Walks.{linked_short, linked_apart, member_first, member_other}
+use Rattle.tdb_free.specs.FreeList.{free_pairs, without_first}
+use Rattle.tdb_free.specs.Search.{IsFirst}
+use Rattle.tdb_free.specs.declared.search.Spot.{Spot}
+
+-- where the first of a list doesn't pass a test, what is found is found behind it, and it stays where that is left out
+find_later : (test : HandPair → Bool) (p : HandPair) (ps : List HandPair) → test p ≡ false → find test (p ∷ ps) ≡ find test ps
+find_later test p ps e = rw e refl
+
+without_later : (test : HandPair → Bool) (p : HandPair) (ps : List HandPair) → test p ≡ false → without_first test (p ∷ ps) ≡ p ∷ without_first test ps
+without_later test p ps e = rw e refl
+
+-- where it passes, it is what is found
+find_here : (test : HandPair → Bool) (p : HandPair) (ps : List HandPair) → test p ≡ true → find test (p ∷ ps) ≡ Some p
+find_here test p ps e = rw e refl
+
+without_here : (test : HandPair → Bool) (p : HandPair) (ps : List HandPair) → test p ≡ true → without_first test (p ∷ ps) ≡ ps
+without_here test p ps e = rw e refl
+
+-- the list without its first record, and without another one
+without_head : (x : ℕ) (xs : List ℕ) → without x (x ∷ xs) ≡ xs
+without_head x xs = rw (eq-eqb x x refl) refl
+
+without_tail : (x y : ℕ) (xs : List ℕ) → (x ≡ y → ⊥) → without y (x ∷ xs) ≡ x ∷ without y xs
+without_tail x y xs ne = rw (ne_eqb x y ne) refl
+
+-- So many records of the list were passed, none of which passes the test, and the word at `before` leads on from `at`: what is
+-- found in the rest is what is found in the list.
+pub record Passed (f : Form) (img offs : List ℕ) (test : HandPair → Bool) (turns before at : ℕ) : Type 0 where
+  pub rest : List ℕ
+  pub list : Free f img at rest
+  pub leads : (b y : ℕ) → Leads before rest b y → Leads free_head offs b y
+  pub first : find test (free_pairs f img offs) ≡ find test (free_pairs f img rest)
+  pub others : (y : ℕ) → Member y rest → without_first test (free_pairs f img rest) ≡ free_pairs f img (without y rest) → without_first test (free_pairs f img offs) ≡ free_pairs f img (without y offs)
+  pub short : turns + length rest ≤ length img / 4
+
+-- at first none was passed, and the head of the list leads on
+pub passed_start : (f : Form) (img offs : List ℕ) (test : HandPair → Bool) (before at : ℕ) → Free f img (word f.order img free_head) offs → before ≡ free_head → at ≡ word f.order img free_head → Passed f img offs test 0 before at
+passed_start f img offs test before at list head first = record {
+  rest = offs;
+  list = subst (λ x. Free f img x offs) (sym first) list;
+  leads = λ b y led. subst (λ p. Leads p offs b y) head led;
+  first = refl;
+  others = λ y m e. e;
+  short = omega (arith, linked_short f IsFree img (word f.order img free_head) offs list);
+}
+
+module _ (f : Form) (img offs : List ℕ) (test : HandPair → Bool) (turns before at : ℕ) (p : Passed f img offs test turns before at) where
+  -- where no record can stand, the list ends, and none of it passes the test
+  pub passed_end : (Whole f img at → ⊥) → find test (free_pairs f img offs) ≡ None
+  passed_end never = p.first ∙ nothing p.rest p.list
+    where
+      nothing : (rest : List ℕ) → Free f img at rest → find test (free_pairs f img rest) ≡ None
+      nothing [] list = refl
+      nothing (x ∷ xs) list = absurd (never (subst (Whole f img) (sym list.0) list.1))
+
+  -- the same where the whole image was walked
+  pub passed_all : length img / 4 ≤ turns → find test (free_pairs f img offs) ≡ None
+  passed_all all = p.first ∙ nothing p.rest p.short
+    where
+      nothing : (rest : List ℕ) → turns + length rest ≤ length img / 4 → find test (free_pairs f img rest) ≡ None
+      nothing [] short = refl
+      nothing (x ∷ xs) short = absurd (omega (arith, short, all))
+
+  -- the record there doesn't pass the test
+  pub passed_more : (r : Rec) → data_start f ≤ at → r ≡ rec_at f.order img at → test (at, r.rec_len) ≡ false → Passed f img offs test (turns + 1) at r.next
+  passed_more r above read fails = step p.rest p.list p.leads p.first p.others p.short
+    where
+      step : (rest : List ℕ) → Free f img at rest → ((b y : ℕ) → Leads before rest b y → Leads free_head offs b y) → find test (free_pairs f img offs) ≡ find test (free_pairs f img rest)
+          → ((y : ℕ) → Member y rest → without_first test (free_pairs f img rest) ≡ free_pairs f img (without y rest) → without_first test (free_pairs f img offs) ≡ free_pairs f img (without y offs))
+          → turns + length rest ≤ length img / 4 → Passed f img offs test (turns + 1) at r.next
+      step [] list leads first others short = absurd (omega (arith, list, above))
+      step (x ∷ xs) list leads first others short =
+          let len : r.rec_len ≡ rec_len_of f.order img x = ap (λ q. q.rec_len) read ∙ ap (rec_len_of f.order img) list.0 in
+          let next : r.next ≡ word f.order img x = ap (λ q. q.next) read ∙ ap (word f.order img) list.0 in
+          let fails_here : test (x, rec_len_of f.order img x) ≡ false = (λ j. test (sym list.0 j, sym len j)) ∙ fails in
+          record {
+            rest = xs;
+            list = subst (λ y. Free f img y xs) (sym next) list.3;
+            leads = λ b y led. leads b y (inr (subst (λ z. Leads z xs b y) list.0 led));
+            first = first ∙ find_later test (x, rec_len_of f.order img x) (free_pairs f img xs) fails_here;
+            others = λ y m e.
+                (let apart : x ≡ y → ⊥ = λ same. linked_apart f IsFree img at x xs list (subst (λ z. Member z xs) (sym same) m) in
+                others y (member_other y x xs m)
+                (without_later test (x, rec_len_of f.order img x) (free_pairs f img xs) fails_here
+                ∙ ap (λ ps. (x, rec_len_of f.order img x) ∷ ps) e ∙ ap (free_pairs f img) (sym (without_tail x y xs apart))));
+            short = omega (arith, short);
+          }
+
+  -- the record there passes the test
+  pub passed_found : (s : Spot) → data_start f ≤ at → s.off ≡ at → s.before ≡ before → s.next ≡ word f.order img at → s.rec_len ≡ rec_len_of f.order img at → test (at, s.rec_len) ≡ true → IsFirst f img offs test s
+  passed_found s above off led next len passes = here p.rest p.list p.leads p.first p.others
+    where
+      here : (rest : List ℕ) → Free f img at rest → ((b y : ℕ) → Leads before rest b y → Leads free_head offs b y) → find test (free_pairs f img offs) ≡ find test (free_pairs f img rest)
+          → ((y : ℕ) → Member y rest → without_first test (free_pairs f img rest) ≡ free_pairs f img (without y rest) → without_first test (free_pairs f img offs) ≡ free_pairs f img (without y offs))
+          → IsFirst f img offs test s
+      here [] list leads first others = absurd (omega (arith, list, above))
+      here (x ∷ xs) list leads first others =
+          let at_x : s.off ≡ x = off ∙ list.0 in
+          let len_x : s.rec_len ≡ rec_len_of f.order img x = len ∙ ap (rec_len_of f.order img) list.0 in
+          let passes_here : test (x, rec_len_of f.order img x) ≡ true = (λ j. test (sym list.0 j, sym len_x j)) ∙ passes in
+          record {
+            leads = leads s.before s.off (inl (sym led, sym at_x));
+            next = next ∙ ap (word f.order img) (sym off);
+            rec_len = len ∙ ap (rec_len_of f.order img) (sym off);
+            first = first ∙ find_here test (x, rec_len_of f.order img x) (free_pairs f img xs) passes_here ∙ (λ j. Some (sym at_x j, sym len_x j));
+            rest = subst (λ y. without_first test (free_pairs f img offs) ≡ free_pairs f img (without y offs)) (sym at_x)
+                (others x (member_first x xs) (without_here test (x, rec_len_of f.order img x) (free_pairs f img xs) passes_here ∙ ap (free_pairs f img) (sym (without_head x xs))));
+          }

@@ -1,0 +1,110 @@
+// Giving a hand to the free list.
+
+ghost use Rattle.std.specs.Prelude.{◌≡◌, ◌+◌, ◌^◌, ◌<◌, ◌≤◌, IsTrue, IfErr, OnOk, List, ℕ, false};
+ghost use Rattle.tdb_disk.specs.Count.{HasCause};
+ghost use Rattle.tdb_space.specs.Form.{data_start};
+ghost use Rattle.tdb_space.specs.Spare.{RoomForAll};
+ghost use Rattle.tdb_space.specs.Extents.{HandOk};
+ghost use Rattle.tdb_space.specs.Exchange.{PutFree};
+ghost use Rattle.tdb_free.specs.FreeList.{CanBeGiven, Given, end_of};
+ghost use Rattle.tdb_free.specs.SpareLeft.{LeavesRoom};
+ghost use Rattle.tdb_free.specs.Stretch.{pair};
+ghost use Rattle.tdb_free.specs.declared.refusal.FreeRefusal.{FreeRefusal};
+ghost use Rattle.tdb_free.specs.declared.refusal.FreeRefusal.TheVariants.{Io};
+
+use crate::link_word::{FREE_HEAD, read_link, write_link};
+use crate::refusal::FreeRefusal;
+use crate::removal::take_out;
+use crate::search::Edge;
+use crate::stretch::Stretch;
+use tdb_space::{Hand, Io as SpaceIo, Space};
+use tdb_words::{FREE, Rec, rec_bytes, word_bytes};
+
+/// Makes a stretch the first record of the free list. It writes the stretch's header and tailer, and the head of the list.
+fn put_first<S: Space>(s: &mut S, free: &Stretch) -> Result<(), SpaceIo>
+    requires behind { data_start (S.form s.old) ≤ free.now.off }
+    requires within { end_of (pair free.now) ≤ S.size s.old }
+    requires short { end_of (pair free.now) < 2 ^ 32 }
+    requires least { 4 ≤ free.now.rec_len }
+    requires room { RoomForAll (S.spare s.old) 3 32 }
+    ensures put { OnOk result (IsTrue S.tells → HandOk (S.form s.old) (S.image s.old) (pair free.now)
+        → PutFree (S.form s.old) (S.image s.old) (S.image s.new) (pair free.now)) }
+    ensures size { S.size s.new ≡ S.size s.old }
+    ensures form { S.form s.new ≡ S.form s.old }
+    ensures cause { HasCause (S.faults s.old) (S.faults s.new) result }
+    ensures bytes_read { S.bytes_read s.old ≤ S.bytes_read s.new }
+    ensures spare { LeavesRoom 3 32 (S.spare s.old) (S.spare s.new) }
+    ensures disk { S.writes_through ≡ false → S.disk_history s.new ≡ S.disk_history s.old }
+    ensures under { S.under s.new ≡ S.under s.old }
+{
+    let order = s.order();
+    let rec = Rec {
+        next: read_link(s, FREE_HEAD)?,
+        rec_len: free.rec_len,
+        key_len: 0,
+        data_len: 0,
+        full_hash: 0,
+        magic: FREE,
+    };
+    s.write(free.off as u64, &rec_bytes(&rec, order))?;
+    let tailer = word_bytes(24 + free.rec_len, order);
+    s.write(free.off as u64 + 20 + free.rec_len as u64, &tailer)?;
+    write_link(s, FREE_HEAD, free.off)
+}
+
+/// Gives a stretch of the file to the free list, with the free records before and behind it as one. `len` is the length of the
+/// file.
+fn give_stretch<S: Space>(s: &mut S, len: u64, free: Stretch) -> Result<(), SpaceIo>
+    requires length { len ≡ S.size s.old }
+    requires small { len < 2 ^ 32 }
+    requires behind { data_start (S.form s.old) ≤ free.off }
+    requires within { end_of (pair free) ≤ len }
+    requires least { 4 ≤ free.rec_len }
+    requires room { RoomForAll (S.spare s.old) 5 40 }
+    ensures given { OnOk result (IsTrue S.tells → (offs : List ℕ) → CanBeGiven (S.form s.old) (S.image s.old) offs (pair free)
+        → Given (S.form s.old) (S.image s.old) (S.image s.new) offs (pair free)) }
+    ensures size { S.size s.new ≡ S.size s.old }
+    ensures form { S.form s.new ≡ S.form s.old }
+    ensures cause { HasCause (S.faults s.old) (S.faults s.new) result }
+    ensures bytes_read { S.bytes_read s.old ≤ S.bytes_read s.new }
+    ensures spare { LeavesRoom 5 40 (S.spare s.old) (S.spare s.new) }
+    ensures disk { S.writes_through ≡ false → S.disk_history s.new ≡ S.disk_history s.old }
+    ensures under { S.under s.new ≡ S.under s.old }
+{
+    let next = take_out(s, len, Edge::StartsAt(free.end()))?;
+    let joined = free.with_next(next);
+    let previous = take_out(s, len, Edge::EndsAt(free.off as u64))?;
+    put_first(s, &joined.with_previous(previous))
+}
+
+/// Gives a hand to the free list. The free record that starts where the hand ends and the one that ends where it starts become
+/// one record with it, which is the first of the list.
+///
+/// It goes along the list twice, reads 24 bytes of each record, and writes five words at most besides the merged record's header:
+/// its tailer, the head of the list, and the words that led to the two neighbours. It answers `Io` where the disk failed. Where
+/// the file doesn't hold the hand, or is longer than the words of a file can say, nothing is written.
+pub fn give<S: Space>(s: &mut S, h: Hand) -> Result<(), FreeRefusal>
+    requires room { RoomForAll (S.spare s.old) 5 40 }
+    ensures given { OnOk result (IsTrue S.tells → (offs : List ℕ) → CanBeGiven (S.form s.old) (S.image s.old) offs h
+        → Given (S.form s.old) (S.image s.old) (S.image s.new) offs h) }
+    ensures refusal { IfErr result (λ e. e ≡ Io) }
+    ensures size { S.size s.new ≡ S.size s.old }
+    ensures form { S.form s.new ≡ S.form s.old }
+    ensures cause { HasCause (S.faults s.old) (S.faults s.new) result }
+    ensures bytes_read { S.bytes_read s.old ≤ S.bytes_read s.new }
+    ensures spare { LeavesRoom 5 40 (S.spare s.old) (S.spare s.new) }
+    ensures disk { S.writes_through ≡ false → S.disk_history s.new ≡ S.disk_history s.old }
+    ensures under { S.under s.new ≡ S.under s.old }
+{
+    let free = Stretch {
+        off: h.off(),
+        rec_len: h.rec_len(),
+    };
+    h.end();
+    let len = s.len()?;
+    let start = 168 + 4 * (s.hash_size() as u64 + 1);
+    if (free.off as u64) < start || len < free.end() || len > u32::MAX as u64 {
+        return Ok(());
+    }
+    Ok(give_stretch(s, len, free)?)
+}
