@@ -1,19 +1,19 @@
 -- A hand and the free records beside it become the first record of the free list.
-use Rattle.std.proofs.Common.{◌≡◌, ℕ, ◌+◌, ◌^◌, ◌<◌, Bool, true, List, [], ◌∷◌, Option, Some, None, refl, sym, ◌∙◌, ap, subst, inl, inr, arith}
+use Rattle.std.proofs.Common.{◌≡◌, ℕ, ◌+◌, ◌^◌, ◌<◌, Bool, true, List, [], ◌∷◌, ◌++◌, Option, Some, None, refl, sym, ◌∙◌, ap, subst, inl, inr, arith}
 use Rattle.std.specs.List.{find}
 use Rattle.std.proofs.lemmas.Bool.{eqb-true}
 use Rattle.tdb_words.specs.Word.{word}
 use Rattle.tdb_space.specs.Form.{Form, free_head}
 use Rattle.tdb_space.specs.Record.{IsFree, rec_len_of}
-use Rattle.tdb_space.specs.Extents.{HandPair, HandOk, once}
+use Rattle.tdb_space.specs.Extents.{HandPair, HandOk, times, once}
 use Rattle.tdb_space.specs.Exchange.{FreeExchanged, PutFree}
 use Rattle.tdb_space.proofs.Counts.{where_is, once_joined}
 use Rattle.tdb_space.proofs.Counts.Lies.{lies, below, above}
 use Rattle.tdb_space.proofs.Hands.{hands_kept}
 use Rattle.tdb_space.proofs.Kept.{Still, bodies_still, times_within}
 use Rattle.tdb_space.proofs.Trades.{free_given, free_more, free_met_hands, free_then}
-use Rattle.tdb_free.specs.FreeList.{CanBeGiven, Given, free_pairs, without_first, end_of, starts_at, ends_at, with_next, with_previous}
-use Rattle.tdb_free.specs.Stretch.{pair, found_pair}
+use Rattle.tdb_free.specs.FreeList.{CanBeGiven, Given, MadeFirst, OnlyIn, free_pairs, without_first, words_at, put_words, end_of, starts_at, ends_at, with_next, with_previous}
+use Rattle.tdb_free.specs.Stretch.{pair, found_pair, found_offsets}
 use Rattle.tdb_free.specs.Removal.{TakenOut}
 use Rattle.tdb_free.specs.declared.stretch.Stretch.{Stretch}
 use Rattle.tdb_free.proofs.Removed.{free_is_listed, pairs_same}
@@ -63,6 +63,11 @@ still_given f a b offs news h r C E = record {
   short = subst (λ n. n < 2 ^ 32) (sym E.size) C.short;
 }
 
+-- the word of the record before the hand is in the header of what they make
+previous_word : (h : HandPair) (found : Option Stretch) (i : ℕ) → once ((with_previous h (found_pair found)).0, 24) i ≡ 0 → times (words_at (found_offsets found)) i ≡ 0
+previous_word h None i none = refl
+previous_word h (Some p) i none = omega (arith, none, once_joined p.off 4 20 i)
+
 next_starts : (h : HandPair) (found : Option Stretch) → h.0 ≡ (with_next h (found_pair found)).0
 next_starts h None = refl
 next_starts h (Some p) = refl
@@ -84,9 +89,10 @@ module _ (f : Form) (a b offs : List ℕ) (h : HandPair) (next : Option Stretch)
     given_both = still_given f b c T.news U.news (with_next h (found_pair next)) joined given_next second
 
     -- what is written then makes it the first record
-    pub given_made : (d : List ℕ) → PutFree f c d joined → Given f a d offs h
-    given_made d P =
+    pub given_made : (d : List ℕ) → MadeFirst f c d joined → Given f a d offs h
+    given_made d M =
         let G = given_both in
+        let P = M.put in
         let first_trade = next_joined f a b offs h next C.in_place T in
         let last_trade = free_given f c d U.news joined (free_is_listed f c U.news G.listed) G.apart P in
         let still : Still c d f U.news = λ i some.
@@ -99,8 +105,13 @@ module _ (f : Form) (a b offs : List ℕ) (h : HandPair) (next : Option Stretch)
         let head : (joined.0, rec_len_of f.order d joined.0) ≡ joined = λ j. (joined.0, length_there j) in
         let named : joined ≡ with_previous (with_next h (find (starts_at (end_of h)) (free_pairs f a offs))) (find (ends_at h.0) (without_first (starts_at (end_of h)) (free_pairs f a offs))) = λ j. with_previous (with_next h (sym T.first j)) (found j) in
         record {
-          news = joined.0 ∷ U.news;
+          at = joined.0;
+          stay = U.news;
           pairs = λ j. (head ∙ named) j ∷ rest j;
           exchanged = free_then f a c d offs U.news (joined.0 ∷ U.news) (h ∷ []) (joined ∷ []) []
               (free_then f a b c offs T.news U.news (h ∷ []) (with_next h (found_pair next) ∷ []) (joined ∷ []) first_trade second) last_trade;
+          empty = M.empty;
+          others = subst (λ n. OnlyIn (put_words (joined.0, n) ++ words_at U.news) a d) (sym length_there) (λ i none.
+              (let gone = previous_word (with_next h (found_pair next)) previous i (omega (arith, none)) in
+              M.others i (omega (arith, none)) ∙ U.others i (omega (arith, none)) ∙ T.others i (omega (arith, none, U.words i, gone))));
         }

@@ -66,14 +66,6 @@ module _ (f : Form) (img offs : List ℕ) (test : HandPair → Bool) (turns befo
       nothing [] list = refl
       nothing (x ∷ xs) list = absurd (never (subst (Whole f img) (sym list.0) list.1))
 
-  -- the same where the whole image was walked
-  pub passed_all : length img / 4 ≤ turns → find test (free_pairs f img offs) ≡ None
-  passed_all all = p.first ∙ nothing p.rest p.short
-    where
-      nothing : (rest : List ℕ) → turns + length rest ≤ length img / 4 → find test (free_pairs f img rest) ≡ None
-      nothing [] short = refl
-      nothing (x ∷ xs) short = absurd (omega (arith, short, all))
-
   -- the record there doesn't pass the test
   pub passed_more : (r : Rec) → data_start f ≤ at → r ≡ rec_at f.order img at → test (at, r.rec_len) ≡ false → Passed f img offs test (turns + 1) at r.next
   passed_more r above read fails = step p.rest p.list p.leads p.first p.others p.short

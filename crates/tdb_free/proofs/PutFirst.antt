@@ -10,8 +10,11 @@ use Rattle.tdb_words.specs.Word.{word}
 use Rattle.tdb_words.specs.Record.{rec_at}
 use Rattle.tdb_words.proofs.Words.{word_from_bytes, word_agrees}
 use Rattle.tdb_space.specs.Form.{Form, data_start, free_head}
-use Rattle.tdb_space.specs.Extents.{HandOk}
+use Rattle.tdb_space.specs.Extents.{HandOk, once}
 use Rattle.tdb_space.specs.Exchange.{PutFree}
+use Rattle.tdb_space.proofs.Counts.{where_is}
+use Rattle.tdb_space.proofs.Counts.Lies.{lies, below, above}
+use Rattle.tdb_free.specs.FreeList.{MadeFirst, OnlyIn, put_words}
 
 -- a word of what was written over an image, and one before it and behind it
 pub word_written : (o : Order) (img : List ℕ) (at : ℕ) (bytes : List ℕ) (k : ℕ) → at + length bytes ≤ length img → k + 4 ≤ length bytes → word o (overlay img at bytes) (at + k) ≡ word o bytes k
@@ -23,6 +26,23 @@ word_below o img at bytes p low = word_agrees o (overlay img at bytes) img p (λ
 
 word_above : (o : Order) (img : List ℕ) (at : ℕ) (bytes : List ℕ) (p : ℕ) → at + length bytes ≤ p → word o (overlay img at bytes) p ≡ word o img p
 word_above o img at bytes p high = word_agrees o (overlay img at bytes) img p (λ i from to. overlay_above img at bytes i (omega arith))
+
+-- a byte outside what was written stays
+stays : (img : List ℕ) (at : ℕ) (bytes : List ℕ) (i n : ℕ) → length bytes ≡ n → once (at, n) i ≡ 0 → slice_index (overlay img at bytes) i ≡ slice_index img i
+stays img at bytes i n long none =
+    elim (where_is (at, n) i) [
+      | lies _ _ one ↦ absurd (omega (arith, one, none))
+      | below under _ ↦ overlay_below img at bytes i under
+      | above over _ ↦ overlay_above img at bytes i (omega (arith, over, long))
+    ]
+
+-- the three writes change only what is written where a record becomes the first
+put_only : (a : List ℕ) (off n : ℕ) (header tailer first : List ℕ) → length header ≡ 24 → length tailer ≡ 4 → length first ≡ 4 → OnlyIn (put_words (off, n)) a (overlay (overlay (overlay a off header) (off + 20 + n) tailer) 168 first)
+put_only a off n header tailer first header_length tailer_length first_length i none =
+    let head_none : once (free_head, 4) i ≡ 0 = omega (arith, none) in
+    let header_none : once (off, 24) i ≡ 0 = omega (arith, none) in
+    let tailer_none : once (off + 20 + n, 4) i ≡ 0 = omega (arith, none) in
+    stays (overlay (overlay a off header) (off + 20 + n) tailer) 168 first i 4 first_length head_none ∙ stays (overlay a off header) (off + 20 + n) tailer i 4 tailer_length tailer_none ∙ stays a off header i 24 header_length header_none
 
 module _ (f : Form) (a : List ℕ) (off n : ℕ) (header tailer first : List ℕ) (hand : HandOk f a (off, n)) (least : 4 ≤ n) (header_length : length header ≡ 24) (tailer_length : length tailer ≡ 4) (first_length : length first ≡ 4) where
   abbrev with_header : List ℕ
@@ -73,7 +93,7 @@ module _ (f : Form) (a : List ℕ) (off n : ℕ) (header tailer first : List ℕ
         | inr over ↦ overlay_above with_header (off + 20 + n) tailer i (omega (arith, over, tailer_length)) ∙ overlay_above a off header i (omega (arith, over, header_length))
       ]
 
-  pub put_free : (r : Rec) → rec_at f.order header 0 ≡ r → r.next ≡ word f.order a free_head → r.rec_len ≡ n → r.magic ≡ FREE → word f.order tailer 0 ≡ 24 + n → word f.order first 0 ≡ off → PutFree f a now (off, n)
+  put_free : (r : Rec) → rec_at f.order header 0 ≡ r → r.next ≡ word f.order a free_head → r.rec_len ≡ n → r.magic ≡ FREE → word f.order tailer 0 ≡ 24 + n → word f.order first 0 ≡ off → PutFree f a now (off, n)
   put_free r read next rec_len magic tail leads =
       let len : word f.order now (off + 4) ≡ n = header_word 4 (omega arith) ∙ ap (λ (q : Rec). q.rec_len) read ∙ rec_len in
       record {
@@ -93,3 +113,15 @@ module _ (f : Form) (a : List ℕ) (off n : ℕ) (header tailer first : List ℕ
         next = ap (word f.order now) (sym (add-zero off)) ∙ header_word 0 (omega arith) ∙ ap (λ (q : Rec). q.next) read ∙ next;
         head = first_word ∙ leads;
       }
+
+  -- and the record holds nothing
+  pub made_first : (r : Rec) → rec_at f.order header 0 ≡ r → r.next ≡ word f.order a free_head → r.rec_len ≡ n → r.magic ≡ FREE → r.key_len ≡ 0 → r.data_len ≡ 0 → r.full_hash ≡ 0 → word f.order tailer 0 ≡ 24 + n → word f.order first 0 ≡ off → MadeFirst f a now (off, n)
+  made_first r read next rec_len magic no_key no_value no_hash tail leads = record {
+    put = put_free r read next rec_len magic tail leads;
+    empty = record {
+      key_len = header_word 8 (omega arith) ∙ ap (λ (q : Rec). q.key_len) read ∙ no_key;
+      data_len = header_word 12 (omega arith) ∙ ap (λ (q : Rec). q.data_len) read ∙ no_value;
+      full_hash = header_word 16 (omega arith) ∙ ap (λ (q : Rec). q.full_hash) read ∙ no_hash;
+    };
+    others = put_only a off n header tailer first header_length tailer_length first_length;
+  }

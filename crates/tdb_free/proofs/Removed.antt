@@ -1,5 +1,5 @@
 -- A record is taken out of the free list by the word that leads to it.
-use Rattle.std.proofs.Common.{◌≡◌, ℕ, ◌+◌, ◌<◌, ◌≤◌, ◌^◌, Bool, List, [], ◌∷◌, length, Some, None, add-zero, refl, sym, ◌∙◌, ap, subst, inl, inr, arith}
+use Rattle.std.proofs.Common.{◌≡◌, ℕ, ◌+◌, ◌<◌, ◌≤◌, ◌^◌, ◌⊎◌, Bool, List, [], ◌∷◌, length, Some, None, add-zero, refl, sym, ◌∙◌, ap, subst, inl, inr, arith}
 use Rattle.std.specs.List.{find}
 use Rattle.tdb_disk.specs.Image.{overlay}
 use Rattle.tdb_disk.proofs.Image.{length-overlay, overlay_below, overlay_above}
@@ -9,14 +9,18 @@ use Rattle.tdb_words.specs.Word.{word, bytes_of_word}
 use Rattle.tdb_words.proofs.Words.{word_made}
 use Rattle.tdb_space.specs.Form.{Form, data_start, free_head}
 use Rattle.tdb_space.specs.Record.{IsFree}
-use Rattle.tdb_space.specs.Chain.{without}
-use Rattle.tdb_space.specs.Extents.{HandPair}
 use Rattle.tdb_space.specs.Exchange.{FreeExchanged, LedPast}
 use Rattle.tdb_space.proofs.Kept.{Bodies, words_kept}
-use Rattle.tdb_space.proofs.Members.{bodies_without}
+use Rattle.std.proofs.lemmas.Bool.{cases_eq, eq-eqb, ne_eqb, false≢true}
+use Rattle.tdb_space.specs.Chain.{Linked, Leads, Member, without}
+use Rattle.tdb_space.specs.Extents.{HandPair, once, times}
+use Rattle.tdb_space.proofs.Counts.{where_is}
+use Rattle.tdb_space.proofs.Counts.Lies.{lies, below, above}
+use Rattle.tdb_space.proofs.Walks.{member_cases, member_first, member_other, linked_apart}
+use Rattle.tdb_space.proofs.Members.{bodies_without, led_member}
 use Rattle.tdb_space.proofs.Unlinks.{unlinked_bodies}
 use Rattle.tdb_space.proofs.Trades.{FreeIs, free_taken}
-use Rattle.tdb_free.specs.FreeList.{ListedOnce, free_pairs, without_first}
+use Rattle.tdb_free.specs.FreeList.{ListedOnce, OnlyIn, free_pairs, without_first, words_at}
 use Rattle.tdb_free.specs.Search.{IsFirst}
 use Rattle.tdb_free.specs.Removal.{TakenOut}
 use Rattle.tdb_free.specs.declared.search.Spot.{Spot}
@@ -51,6 +55,50 @@ led f a b before y next within fits same e =
           ];
     })
 
+-- a word of a list holds its bytes
+word_held : (z : ℕ) (xs : List ℕ) (i : ℕ) → Member z xs → once (z, 4) i ≤ times (words_at xs) i
+word_held z [] i m = absurd (false≢true m)
+word_held z (x ∷ xs) i m =
+    elim (member_cases z x xs m) [
+      | inl e ↦ let same : once (z, 4) i ≡ once (x, 4) i = ap (λ y. once (y, 4) i) e in omega (arith, same)
+      | inr there ↦ omega (arith, word_held z xs i there)
+    ]
+
+-- without a record the list has that record's word less
+words_without : (xs : List ℕ) (y i : ℕ) → Member y xs → times (words_at xs) i ≡ times (words_at (without y xs)) i + once (y, 4) i
+words_without [] y i m = absurd (false≢true m)
+words_without (x ∷ xs) y i m =
+    elim (cases_eq x y) [
+      | inl e ↦ let same : once (x, 4) i ≡ once (y, 4) i = ap (λ z. once (z, 4) i) e in rw (eq-eqb x y e) (omega (arith, same))
+      | inr ne ↦
+          elim (member_cases y x xs m) [
+            | inl e ↦ absurd (ne (sym e))
+            | inr there ↦ rw (ne_eqb x y ne) (omega (arith, words_without xs y i there))
+          ]
+    ]
+
+-- the record that leads to one that leaves stays
+led_stays : (f : Form) (M : ℕ → Type 0) (a : List ℕ) (at p : ℕ) (xs : List ℕ) (before y : ℕ) → Linked f M a at xs → Leads p xs before y → (before ≡ p) ⊎ Member before (without y xs)
+led_stays f M a at p [] before y list led = absurd led
+led_stays f M a at p (x ∷ xs) before y list (inl here) = inl (sym here.0)
+led_stays f M a at p (x ∷ xs) before y list (inr there) =
+    let other : x ≡ y → ⊥ = λ e. linked_apart f M a at x xs list (subst (λ w. Member w xs) (sym e) (led_member x xs before y there)) in
+    rw (ne_eqb x y other)
+    (elim (led_stays f M a (word f.order a x) x xs before y list.3 there) [
+      | inl e ↦ inr (subst (λ z. Member z (x ∷ without y xs)) (sym e) (member_first x (without y xs)))
+      | inr m ↦ inr (member_other before x (without y xs) m)
+    ])
+
+-- so only a word changed that leads to a record of the list
+only_link : (f : Form) (a b offs : List ℕ) (before y : ℕ) → ListedOnce f a offs → Leads free_head offs before y → LedPast f a b before y → OnlyIn (words_at (free_head ∷ without y offs)) a b
+only_link f a b offs before y L leads past i none =
+    let outside : once (before, 4) i ≡ 0 =
+    elim (led_stays f IsFree a (word f.order a free_head) free_head offs before y L.list leads) [
+      | inl e ↦ let same : once (before, 4) i ≡ once (free_head, 4) i = ap (λ z. once (z, 4) i) e in omega (arith, same, none)
+      | inr m ↦ omega (arith, none, word_held before (without y offs) i m)
+    ] in
+    past.others i (elim (where_is (before, 4) i) [ lies _ _ one ↦ absurd (omega (arith, one, outside)) | below under _ ↦ inl under | above over _ ↦ inr over ])
+
 -- the record that was found is taken out by that word
 pub removed : (f : Form) (a b offs : List ℕ) (test : HandPair → Bool) (s : Spot) → ListedOnce f a offs → IsFirst f a offs test s → s.before + 4 ≤ length a → s.next < 2 ^ 32 → b ≡ overlay a s.before (bytes_of_word f.order s.next) → TakenOut f a b offs test (Some (record { off = s.off; rec_len = s.rec_len }))
 removed f a b offs test s L F within fits e =
@@ -62,6 +110,8 @@ removed f a b offs test s L F within fits e =
       news = without s.off offs;
       pairs = pairs_same f a b (without s.off offs) (bodies_without a b f offs s.off bodies) ∙ sym F.rest;
       exchanged = subst (λ n. FreeExchanged f a b offs (without s.off offs) [] ((s.off, n) ∷ [])) (sym F.rec_len) (free_taken f a b offs s.before s.off (free_is_listed f a offs L) F.leads past);
+      words = λ i. omega (arith, words_without offs s.off i (led_member free_head offs s.before s.off F.leads));
+      others = only_link f a b offs s.before s.off L F.leads past;
     }
 
 -- where none passes a test, none is left out
@@ -75,4 +125,6 @@ nothing_removed f a b offs test L none e = subst (λ i. TakenOut f a i offs test
   news = offs;
   pairs = sym (without_none test (free_pairs f a offs) none);
   exchanged = record { size = refl; low = λ i under apart. refl; high = λ i from free. refl; linked = L.list; held = tt; count = λ i. refl };
+  words = λ i. omega arith;
+  others = λ i none. refl;
 })

@@ -1,12 +1,13 @@
 -- The free list as a list of records, each by its offset and its rec_len; what a take and a give make of it.
-use Rattle.std.specs.Prelude.{◌≡◌, ℕ, ◌+◌, ◌-◌, ◌≤◌, ◌<◌, ◌^◌, Bool, nat_eq, nat_le, List, [], ◌∷◌, ◌++◌, length, Option, None, Some, if◌then◌else◌}
+use Rattle.std.specs.Prelude.{◌≡◌, ℕ, ◌+◌, ◌-◌, ◌≤◌, ◌<◌, ◌^◌, Bool, nat_eq, nat_le, List, [], ◌∷◌, ◌++◌, length, slice_index, Option, None, Some, if◌then◌else◌}
 use Rattle.std.specs.List.{find}
+use Rattle.tdb_words.specs.declared.word.Order.{Order}
 use Rattle.tdb_words.specs.Word.{word}
 use Rattle.tdb_space.specs.Form.{Form, free_head}
-use Rattle.tdb_space.specs.Record.{rec_len_of}
+use Rattle.tdb_space.specs.Record.{rec_len_of, key_len_of, data_len_of, full_hash_of}
 use Rattle.tdb_space.specs.Chain.{Free}
-use Rattle.tdb_space.specs.Extents.{HandPair, HandOk, times, once, extents}
-use Rattle.tdb_space.specs.Exchange.{FreeExchanged}
+use Rattle.tdb_space.specs.Extents.{Extent, HandPair, HandOk, times, once, extents}
+use Rattle.tdb_space.specs.Exchange.{FreeExchanged, PutFree}
 
 -- these are the records of an image's free list, in its order, and no byte of them is held twice
 pub record ListedOnce (f : Form) (img offs : List ℕ) : Type 0 where
@@ -98,9 +99,39 @@ pub record CanBeGiven (f : Form) (img offs : List ℕ) (hand : HandPair) : Type 
   pub apart : (i : ℕ) → times (extents f.order img offs) i + once (hand.0, 24 + hand.1) i ≤ 1
   pub short : length img < 2 ^ 32
 
--- From image a to image b a hand went into the free list, which had the records at these offsets: the list is the one that a give
--- makes, just the bytes of the old list and of the hand are in it, and only bytes of these and the list's head changed.
+-- the words at these offsets
+abbrev pub words_at : List ℕ → List Extent
+words_at [] = []
+words_at (x ∷ xs) = (x, 4) ∷ words_at xs
+
+-- what is written where a record becomes the first of the list: the head of the list, and the record's header and tailer
+abbrev pub put_words : HandPair → List Extent
+put_words p = (free_head, 4) ∷ (p.0, 24) ∷ (p.0 + 20 + p.1, 4) ∷ []
+
+-- from image a to image b no byte changes that none of these extents holds
+abbrev pub OnlyIn : List Extent → List ℕ → List ℕ → Type 0
+OnlyIn extents a b = (i : ℕ) → times extents i ≡ 0 → slice_index b i ≡ slice_index a i
+
+-- the record at an offset has no key, no value and no hash
+pub record HoldsNothing (o : Order) (img : List ℕ) (at : ℕ) : Type 0 where
+  pub key_len : key_len_of o img at ≡ 0
+  pub data_len : data_len_of o img at ≡ 0
+  pub full_hash : full_hash_of o img at ≡ 0
+
+-- from image a to image b a hand becomes the first free record, which holds nothing, and nothing else is written
+pub record MadeFirst (f : Form) (a b : List ℕ) (hand : HandPair) : Type 0 where
+  pub put : PutFree f a b hand
+  pub empty : HoldsNothing f.order b hand.0
+  pub others : OnlyIn (put_words hand) a b
+
+-- From image a to image b a hand went into the free list, which had the records at these offsets: the list has a new first record
+-- in front of those that stay, which holds nothing, and is the one that a give makes. Just the bytes of the old list and of the hand are in it, and
+-- only the list's head, the words of the records that stay which lead to the next one, and the new record's header and tailer
+-- are written.
 pub record Given (f : Form) (a b offs : List ℕ) (hand : HandPair) : Type 0 where
-  pub news : List ℕ
-  pub pairs : free_pairs f b news ≡ give_to (free_pairs f a offs) hand
-  pub exchanged : FreeExchanged f a b offs news (hand ∷ []) []
+  pub at : ℕ
+  pub stay : List ℕ
+  pub pairs : free_pairs f b (at ∷ stay) ≡ give_to (free_pairs f a offs) hand
+  pub exchanged : FreeExchanged f a b offs (at ∷ stay) (hand ∷ []) []
+  pub empty : HoldsNothing f.order b at
+  pub others : OnlyIn (put_words (at, rec_len_of f.order b at) ++ words_at stay) a b

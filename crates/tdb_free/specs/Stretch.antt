@@ -1,5 +1,5 @@
 -- Stretches of a file, as pairs of an offset and a rec_len.
-use Rattle.std.specs.Prelude.{List, [], ◌∷◌, Option, None, Some}
+use Rattle.std.specs.Prelude.{ℕ, List, [], ◌∷◌, Option, None, Some}
 use Rattle.tdb_space.specs.Extents.{HandPair}
 use Rattle.tdb_free.specs.declared.stretch.Stretch.{Stretch}
 
@@ -16,3 +16,8 @@ found_pair (Some p) = Some (pair p)
 abbrev pub found_hands : Option Stretch → List HandPair
 found_hands None = []
 found_hands (Some p) = pair p ∷ []
+
+-- and its offset alone
+abbrev pub found_offsets : Option Stretch → List ℕ
+found_offsets None = []
+found_offsets (Some p) = p.off ∷ []

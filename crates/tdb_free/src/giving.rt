@@ -1,12 +1,11 @@
 // Giving a hand to the free list.
 
-ghost use Rattle.std.specs.Prelude.{◌≡◌, ◌+◌, ◌^◌, ◌<◌, ◌≤◌, IsTrue, IfErr, OnOk, List, ℕ, false};
+ghost use Rattle.std.specs.Prelude.{◌≡◌, ◌⊎◌, ◌+◌, ◌^◌, ◌<◌, ◌≤◌, IsTrue, IfErr, OnOk, List, ℕ, false};
 ghost use Rattle.tdb_disk.specs.Count.{HasCause};
 ghost use Rattle.tdb_space.specs.Form.{data_start};
 ghost use Rattle.tdb_space.specs.Spare.{RoomForAll};
 ghost use Rattle.tdb_space.specs.Extents.{HandOk};
-ghost use Rattle.tdb_space.specs.Exchange.{PutFree};
-ghost use Rattle.tdb_free.specs.FreeList.{CanBeGiven, Given, end_of};
+ghost use Rattle.tdb_free.specs.FreeList.{CanBeGiven, Given, MadeFirst, end_of};
 ghost use Rattle.tdb_free.specs.SpareLeft.{LeavesRoom};
 ghost use Rattle.tdb_free.specs.Stretch.{pair};
 ghost use Rattle.tdb_free.specs.declared.refusal.FreeRefusal.{FreeRefusal};
@@ -28,7 +27,7 @@ fn put_first<S: Space>(s: &mut S, free: &Stretch) -> Result<(), SpaceIo>
     requires least { 4 ≤ free.now.rec_len }
     requires room { RoomForAll (S.spare s.old) 3 32 }
     ensures put { OnOk result (IsTrue S.tells → HandOk (S.form s.old) (S.image s.old) (pair free.now)
-        → PutFree (S.form s.old) (S.image s.old) (S.image s.new) (pair free.now)) }
+        → MadeFirst (S.form s.old) (S.image s.old) (S.image s.new) (pair free.now)) }
     ensures size { S.size s.new ≡ S.size s.old }
     ensures form { S.form s.new ≡ S.form s.old }
     ensures cause { HasCause (S.faults s.old) (S.faults s.new) result }
@@ -87,6 +86,7 @@ pub fn give<S: Space>(s: &mut S, h: Hand) -> Result<(), FreeRefusal>
     requires room { RoomForAll (S.spare s.old) 5 40 }
     ensures given { OnOk result (IsTrue S.tells → (offs : List ℕ) → CanBeGiven (S.form s.old) (S.image s.old) offs h
         → Given (S.form s.old) (S.image s.old) (S.image s.new) offs h) }
+    ensures left_out { (h.0 < data_start (S.form s.old)) ⊎ (S.size s.old < end_of h) ⊎ (2 ^ 32 ≤ S.size s.old) → S.image s.new ≡ S.image s.old }
     ensures refusal { IfErr result (λ e. e ≡ Io) }
     ensures size { S.size s.new ≡ S.size s.old }
     ensures form { S.form s.new ≡ S.form s.old }

@@ -8,6 +8,8 @@ mod removal;
 mod room;
 mod search;
 mod stretch;
+#[cfg(test)]
+mod tests;
 
 pub use crate::giving::give;
 pub use crate::refusal::FreeRefusal;

@@ -1,9 +1,8 @@
 -- Both neighbours leave the list, and the hand that they make with the stretch becomes its first record.
 use Rattle.std.proofs.Common.{◌≡◌, sym, ◌∙◌, ap, subst}
-use Rattle.std.proofs.lemmas.Result.{on_ok_weaker}
 use Rattle.tdb_space.specs.Extents.{HandOk}
-use Rattle.tdb_space.specs.Exchange.{PutFree}
-use Rattle.tdb_free.specs.FreeList.{ListedOnce, starts_at, ends_at, with_next, with_previous}
+use Rattle.std.proofs.lemmas.Result.{on_ok_weaker}
+use Rattle.tdb_free.specs.FreeList.{ListedOnce, MadeFirst, starts_at, ends_at, with_next, with_previous}
 use Rattle.tdb_free.specs.Stretch.{pair, found_pair}
 use Rattle.tdb_free.specs.Removal.{TakenOut}
 use Rattle.tdb_free.proofs.Merged.{given_next, given_both, given_made}
@@ -28,5 +27,5 @@ returns-clause-given g c =
     c.with_previous.ensures ∙ ap (λ p. with_previous p (found_pair previous)) c.with_next-joined.ensures in
     let in_place = subst (λ p. HandOk f cut p) (sym joined) (given_both f a b offs h next C T cut previous U).in_place in
     let form_then = c.take_out-2.ensures.form ∙ form in
-    let P = subst (λ o. PutFree o cut d (pair c.with_previous.result)) form_then (put told (subst (λ o. HandOk o cut (pair c.with_previous.result)) (sym form_then) in_place)) in
-    given_made f a b offs h next C T cut previous U d (subst (PutFree f cut d) joined P))) c.put_first.ensures.put
+    let P = subst (λ o. MadeFirst o cut d (pair c.with_previous.result)) form_then (put told (subst (λ o. HandOk o cut (pair c.with_previous.result)) (sym form_then) in_place)) in
+    given_made f a b offs h next C T cut previous U d (subst (MadeFirst f cut d) joined P))) c.put_first.ensures.put
