@@ -2,3 +2,10 @@ pub mod Merged
 pub mod Passed
 pub mod PutFirst
 pub mod Removed
+pub mod Rooms
+pub mod Rest
+pub mod PutDown
+pub mod Seeking
+pub mod Overlaid
+pub mod TakenAs
+pub mod CutOrWhole

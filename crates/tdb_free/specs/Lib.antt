@@ -4,3 +4,7 @@ pub mod Room
 pub mod Search
 pub mod SpareLeft
 pub mod Stretch
+pub mod Standing
+pub mod Fitting
+pub mod Shortened
+pub mod ListCause

@@ -1,16 +1,28 @@
 //! The free list of a tdb file: the records that hold nothing, from which the records to come are taken.
 #![tactic(auto)]
 
+mod fit;
+mod free_recs;
 mod giving;
 mod link_word;
+mod list_refusal;
+mod listing;
+mod record;
 mod refusal;
 mod removal;
 mod room;
 mod search;
 mod stretch;
+mod taking;
+#[cfg(test)]
+mod taking_tests;
 #[cfg(test)]
 mod tests;
 
+pub use crate::free_recs::FreeRecs;
 pub use crate::giving::give;
+pub use crate::list_refusal::ListRefusal;
+pub use crate::listing::list;
 pub use crate::refusal::FreeRefusal;
 pub use crate::room::rec_len_for;
+pub use crate::taking::take_fit;

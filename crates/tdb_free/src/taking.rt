@@ -1,0 +1,157 @@
+// Taking a record from the free list.
+
+ghost use Rattle.std.specs.Prelude.{◌≡◌, ◌+◌, ◌-◌, ◌%◌, ◌^◌, ◌<◌, ◌≤◌, IsTrue, List, ℕ, length, IfOk, OnOk, IfSome, false};
+ghost use Rattle.tdb_disk.specs.Count.{HasCause};
+ghost use Rattle.tdb_space.specs.Record.{next_of};
+ghost use Rattle.tdb_space.specs.Exchange.{LedPast};
+ghost use Rattle.tdb_space.specs.Spare.{RoomFor, RoomForAll};
+ghost use Rattle.tdb_free.specs.FreeList.{ListedOnce};
+ghost use Rattle.tdb_free.specs.SpareLeft.{LeavesRoom};
+ghost use Rattle.tdb_free.specs.Standing.{Stands};
+ghost use Rattle.tdb_free.specs.Fitting.{IsFitting, TakenFrom, IsTaken};
+ghost use Rattle.tdb_free.specs.Shortened.{Shortened};
+
+use crate::fit::{Fit, find_fit};
+use crate::link_word::write_link;
+use tdb_space::{Hand, Io, Space};
+use tdb_words::{FREE, Rec, rec_bytes, word_bytes};
+
+/// How many bytes of a record's extent are left at least where it is cut.
+const LEAST_LEFT: u32 = 36;
+
+/// Takes a record out of the list, whole: the word that led to it leads past it.
+fn take_whole<S: Space>(s: &mut S, fit: &Fit) -> Result<Hand, Io>
+    requires stands { Stands (S.form s.old) (S.size s.old) fit.now.off fit.now.rec_len }
+    requires led { fit.now.before + 4 ≤ S.size s.old }
+    requires room { RoomFor (S.spare s.old) 4 }
+    ensures hand { IfOk result (λ h. h ≡ (fit.now.off, fit.now.rec_len)) }
+    ensures past { OnOk result (IsTrue S.tells → fit.now.next ≡ next_of (S.form s.old).order (S.image s.old) fit.now.off
+        → LedPast (S.form s.old) (S.image s.old) (S.image s.new) fit.now.before fit.now.off) }
+    ensures size { S.size s.new ≡ S.size s.old }
+    ensures form { S.form s.new ≡ S.form s.old }
+    ensures cause { HasCause (S.faults s.old) (S.faults s.new) result }
+    ensures bytes_read { S.bytes_read s.old ≤ S.bytes_read s.new }
+    ensures spare { LeavesRoom 1 4 (S.spare s.old) (S.spare s.new) }
+    ensures disk { S.writes_through ≡ false → S.disk_history s.new ≡ S.disk_history s.old }
+    ensures under { S.under s.new ≡ S.under s.old }
+{
+    write_link(s, fit.before, fit.next)?;
+    Ok(Hand::new(fit.off, fit.rec_len))
+}
+
+/// Makes a record shorter. It writes the header's words behind the first one, those of what it held as 0, and a tailer at the new
+/// end.
+fn shorten<S: Space>(s: &mut S, fit: &Fit, rec_len: u32) -> Result<(), Io>
+    requires stands { Stands (S.form s.old) (S.size s.old) fit.now.off fit.now.rec_len }
+    requires whole_words { rec_len % 4 ≡ 0 }
+    requires least { 4 ≤ rec_len }
+    requires shorter { rec_len + 24 ≤ fit.now.rec_len }
+    requires room { RoomForAll (S.spare s.old) 2 24 }
+    ensures shortened { OnOk result (IsTrue S.tells → Shortened (S.form s.old) (S.image s.old) (S.image s.new) fit.now.off rec_len) }
+    ensures size { S.size s.new ≡ S.size s.old }
+    ensures form { S.form s.new ≡ S.form s.old }
+    ensures cause { HasCause (S.faults s.old) (S.faults s.new) result }
+    ensures bytes_read { S.bytes_read s.old ≤ S.bytes_read s.new }
+    ensures spare { LeavesRoom 2 24 (S.spare s.old) (S.spare s.new) }
+    ensures disk { S.writes_through ≡ false → S.disk_history s.new ≡ S.disk_history s.old }
+    ensures under { S.under s.new ≡ S.under s.old }
+{
+    let order = s.order();
+    let rec = Rec {
+        next: fit.next,
+        rec_len,
+        key_len: 0,
+        data_len: 0,
+        full_hash: 0,
+        magic: FREE,
+    };
+    s.write(fit.off as u64 + 4, &rec_bytes(&rec, order)[4..])?;
+    s.write(
+        fit.off as u64 + 20 + rec_len as u64,
+        &word_bytes(24 + rec_len, order),
+    )?;
+    Ok(())
+}
+
+/// Takes the end of a record, with so many bytes behind its header. The front stays in its place in the list.
+fn take_end<S: Space>(s: &mut S, fit: &Fit, rec_len: u32) -> Result<Hand, Io>
+    requires stands { Stands (S.form s.old) (S.size s.old) fit.now.off fit.now.rec_len }
+    requires short { fit.now.off + 24 + fit.now.rec_len < 2 ^ 32 }
+    requires whole_words { rec_len % 4 ≡ 0 }
+    requires least { 4 ≤ rec_len }
+    requires left { rec_len + 36 ≤ fit.now.rec_len }
+    requires room { RoomForAll (S.spare s.old) 2 24 }
+    ensures hand { IfOk result (λ h. h ≡ (fit.now.off + fit.now.rec_len - rec_len, rec_len)) }
+    ensures shortened { OnOk result (IsTrue S.tells → Shortened (S.form s.old) (S.image s.old) (S.image s.new) fit.now.off (fit.now.rec_len - (24 + rec_len))) }
+    ensures size { S.size s.new ≡ S.size s.old }
+    ensures form { S.form s.new ≡ S.form s.old }
+    ensures cause { HasCause (S.faults s.old) (S.faults s.new) result }
+    ensures bytes_read { S.bytes_read s.old ≤ S.bytes_read s.new }
+    ensures spare { LeavesRoom 2 24 (S.spare s.old) (S.spare s.new) }
+    ensures disk { S.writes_through ≡ false → S.disk_history s.new ≡ S.disk_history s.old }
+    ensures under { S.under s.new ≡ S.under s.old }
+{
+    shorten(s, fit, fit.rec_len - (24 + rec_len))?;
+    Ok(Hand::new(fit.off + (fit.rec_len - rec_len), rec_len))
+}
+
+/// Takes the end of a record where at least 36 bytes of its extent are left then, and else the whole of it.
+fn take_from<S: Space>(s: &mut S, fit: &Fit, rec_len: u32) -> Result<Hand, Io>
+    requires stands { Stands (S.form s.old) (S.size s.old) fit.now.off fit.now.rec_len }
+    requires led { fit.now.before + 4 ≤ S.size s.old }
+    requires short { fit.now.off + 24 + fit.now.rec_len < 2 ^ 32 }
+    requires whole_words { rec_len % 4 ≡ 0 }
+    requires least { 4 ≤ rec_len }
+    requires long { rec_len ≤ fit.now.rec_len }
+    requires room { RoomForAll (S.spare s.old) 2 24 }
+    ensures taken { IfOk result (λ h. IsTrue S.tells → (offs : List ℕ) → ListedOnce (S.form s.old) (S.image s.old) offs
+        → IsFitting (S.form s.old) (S.image s.old) offs rec_len fit.now
+        → TakenFrom (S.form s.old) (S.image s.old) (S.image s.new) offs rec_len h) }
+    ensures stands { IfOk result (λ h. Stands (S.form s.old) (S.size s.old) h.0 h.1) }
+    ensures long { IfOk result (λ h. rec_len ≤ h.1) }
+    ensures size { S.size s.new ≡ S.size s.old }
+    ensures form { S.form s.new ≡ S.form s.old }
+    ensures cause { HasCause (S.faults s.old) (S.faults s.new) result }
+    ensures bytes_read { S.bytes_read s.old ≤ S.bytes_read s.new }
+    ensures spare { LeavesRoom 2 24 (S.spare s.old) (S.spare s.new) }
+    ensures disk { S.writes_through ≡ false → S.disk_history s.new ≡ S.disk_history s.old }
+    ensures under { S.under s.new ≡ S.under s.old }
+{
+    if fit.rec_len - rec_len < LEAST_LEFT {
+        take_whole(s, fit)
+    } else {
+        take_end(s, fit, rec_len)
+    }
+}
+
+/// Takes a record with at least so many bytes behind its header from the free list, if it has one: the first that is long enough.
+/// Where 36 bytes or more of its extent would be left, these stay a free record in its place in the list, and its end is taken;
+/// else the whole of it is. Nothing is written into what is taken.
+///
+/// It reads the head of the list, and 24 bytes of each record up to the one that is taken from. It writes one word, or the header
+/// and the tailer of what stays. `Io` where the disk failed. Where a record ends past the offsets that words can say, nothing is
+/// taken from it or those behind it.
+pub fn take_fit<S: Space>(s: &mut S, rec_len: u64) -> Result<Option<Hand>, Io>
+    requires whole_words { rec_len % 4 ≡ 0 }
+    requires least { 4 ≤ rec_len }
+    requires room { RoomForAll (S.spare s.old) 2 24 }
+    ensures taken { IfOk result (λ taken. IsTrue S.tells → (offs : List ℕ) → ListedOnce (S.form s.old) (S.image s.old) offs
+        → length (S.image s.old) < 2 ^ 32 → IsTaken (S.form s.old) (S.image s.old) (S.image s.new) offs rec_len taken) }
+    ensures stands { IfOk result (λ taken. IfSome taken (λ h. Stands (S.form s.old) (S.size s.old) h.0 h.1)) }
+    ensures long { IfOk result (λ taken. IfSome taken (λ h. rec_len ≤ h.1)) }
+    ensures size { S.size s.new ≡ S.size s.old }
+    ensures form { S.form s.new ≡ S.form s.old }
+    ensures cause { HasCause (S.faults s.old) (S.faults s.new) result }
+    ensures bytes_read { S.bytes_read s.old ≤ S.bytes_read s.new }
+    ensures spare { LeavesRoom 2 24 (S.spare s.old) (S.spare s.new) }
+    ensures disk { S.writes_through ≡ false → S.disk_history s.new ≡ S.disk_history s.old }
+    ensures under { S.under s.new ≡ S.under s.old }
+{
+    let Some(fit) = find_fit(s, rec_len)? else {
+        return Ok(None);
+    };
+    if fit.off as u64 + 24 + fit.rec_len as u64 > u32::MAX as u64 {
+        return Ok(None);
+    }
+    Ok(Some(take_from(s, &fit, rec_len as u32)?))
+}
