@@ -6,7 +6,7 @@ use Rattle.tdb_words.specs.Word.{word}
 use Rattle.tdb_space.specs.Form.{Form, free_head}
 use Rattle.tdb_space.specs.Record.{IsFree, rec_len_of}
 use Rattle.tdb_space.specs.Extents.{HandPair, HandOk, times, once}
-use Rattle.tdb_space.specs.Exchange.{FreeExchanged, PutFree}
+use Rattle.tdb_space.specs.Exchange.{FreeExchanged}
 use Rattle.tdb_space.proofs.Counts.{where_is, once_joined}
 use Rattle.tdb_space.proofs.Counts.Lies.{lies, below, above}
 use Rattle.tdb_space.proofs.Hands.{hands_kept}

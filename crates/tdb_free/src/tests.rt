@@ -54,17 +54,17 @@ fn file_with(alloc: Global, words: &[(usize, u32)]) -> Result<Vec<u8>, AllocErro
 }
 
 // The header of a free record that was written, and its tailer.
-fn written(off: u32, next: u32, rec_len: u32) -> [(usize, u32); 8] {
+fn written(off: u32, next: u32, rec_len: u16) -> [(usize, u32); 8] {
     let at = off as usize;
     [
         (168, off),
         (at, next),
-        (at + 4, rec_len),
+        (at + 4, rec_len as u32),
         (at + 8, 0),
         (at + 12, 0),
         (at + 16, 0),
         (at + 20, FREE),
-        (at + 20 + rec_len as usize, rec_len + 24),
+        (at + 20 + rec_len as usize, rec_len as u32 + 24),
     ]
 }
 
