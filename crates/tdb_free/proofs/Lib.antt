@@ -1,3 +1,4 @@
+pub mod Accepted
 pub mod Merged
 pub mod Passed
 pub mod PutFirst

@@ -5,7 +5,9 @@ use Rattle.tdb_words.specs.declared.word.Order.{Order}
 use Rattle.tdb_words.specs.Word.{word}
 use Rattle.tdb_space.specs.Form.{Form, free_head}
 use Rattle.tdb_space.specs.Record.{rec_len_of, key_len_of, data_len_of, full_hash_of}
-use Rattle.tdb_space.specs.Chain.{Free}
+use Rattle.tdb_space.specs.Chain.{Free, free_of}
+use Rattle.tdb_space.specs.Pairs.{order_of}
+use Rattle.tdb_space.specs.Accepted.{AcceptWith}
 use Rattle.tdb_space.specs.Extents.{Extent, HandPair, HandOk, times, once, extents}
 use Rattle.tdb_space.specs.Exchange.{FreeExchanged, PutFree}
 
@@ -135,3 +137,10 @@ pub record Given (f : Form) (a b offs : List ℕ) (hand : HandPair) : Type 0 whe
   pub exchanged : FreeExchanged f a b offs (at ∷ stay) (hand ∷ []) []
   pub empty : HoldsNothing f.order b at
   pub others : OnlyIn (put_words (at, rec_len_of f.order b at) ++ words_at stay) a b
+
+-- From image a, accepted with a hand and others, to image b the hand went into the free list: b is accepted with the others, its
+-- chains hold the same pairs in the same order, and its free list is the one that a give makes.
+pub record GivenBack (f : Form) (a b : List ℕ) (hand : HandPair) (others : List HandPair) : Type 0 where
+  pub accepted : AcceptWith f b others
+  pub same_pairs : order_of f b ≡ order_of f a
+  pub list : free_pairs f b (free_of f b) ≡ give_to (free_pairs f a (free_of f a)) hand

@@ -1,11 +1,12 @@
 // Giving a hand to the free list.
 
-ghost use Rattle.std.specs.Prelude.{◌≡◌, ◌⊎◌, ◌+◌, ◌^◌, ◌<◌, ◌≤◌, IsTrue, IfErr, OnOk, List, ℕ, false};
+ghost use Rattle.std.specs.Prelude.{◌≡◌, ◌⊎◌, ◌∷◌, ◌+◌, ◌^◌, ◌<◌, ◌≤◌, IsTrue, IfErr, OnOk, List, ℕ, false};
 ghost use Rattle.tdb_disk.specs.Count.{HasCause};
 ghost use Rattle.tdb_space.specs.Form.{data_start};
 ghost use Rattle.tdb_space.specs.Spare.{RoomForAll};
-ghost use Rattle.tdb_space.specs.Extents.{HandOk};
-ghost use Rattle.tdb_free.specs.FreeList.{CanBeGiven, Given, MadeFirst, end_of};
+ghost use Rattle.tdb_space.specs.Extents.{HandPair, HandOk};
+ghost use Rattle.tdb_space.specs.Accepted.{AcceptWith};
+ghost use Rattle.tdb_free.specs.FreeList.{CanBeGiven, Given, GivenBack, MadeFirst, end_of};
 ghost use Rattle.tdb_free.specs.SpareLeft.{LeavesRoom};
 ghost use Rattle.tdb_free.specs.Stretch.{pair};
 ghost use Rattle.tdb_free.specs.declared.refusal.FreeRefusal.{FreeRefusal};
@@ -86,6 +87,8 @@ pub fn give<S: Space>(s: &mut S, h: Hand) -> Result<(), FreeRefusal>
     requires room { RoomForAll (S.spare s.old) 5 40 }
     ensures given { OnOk result (IsTrue S.tells → (offs : List ℕ) → CanBeGiven (S.form s.old) (S.image s.old) offs h
         → Given (S.form s.old) (S.image s.old) (S.image s.new) offs h) }
+    ensures kept { OnOk result (IsTrue S.tells → S.size s.old < 2 ^ 32 → (hands : List HandPair) → AcceptWith (S.form s.old) (S.image s.old) (h ∷ hands)
+        → GivenBack (S.form s.old) (S.image s.old) (S.image s.new) h hands) }
     ensures left_out { (h.0 < data_start (S.form s.old)) ⊎ (S.size s.old < end_of h) ⊎ (2 ^ 32 ≤ S.size s.old) → S.image s.new ≡ S.image s.old }
     ensures refusal { IfErr result (λ e. e ≡ Io) }
     ensures size { S.size s.new ≡ S.size s.old }
