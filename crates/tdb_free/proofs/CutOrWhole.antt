@@ -17,12 +17,13 @@ use Rattle.tdb_space.proofs.Unlinks.{unlinked_bodies}
 use Rattle.tdb_space.proofs.Touches.{touched_beside}
 use Rattle.tdb_space.proofs.Trades.{FreeIs, free_taken, free_cut}
 use Rattle.tdb_free.specs.FreeList.{ListedOnce, HoldsNothing, OnlyIn, free_pairs, is_long_enough, is_cut, hand_of, left_of, instead, taken, taken_as}
-use Rattle.tdb_free.specs.Fitting.{IsFitting, AllHoldNothing, TakenFrom, take_words}
+use Rattle.tdb_free.specs.Search.{IsFirst}
+use Rattle.tdb_free.specs.TakenFrom.{AllHoldNothing, TakenFrom, take_words}
 use Rattle.tdb_free.specs.Shortened.{Shortened}
-use Rattle.tdb_free.specs.declared.fit.Fit.{Fit}
-use Rattle.tdb_free.proofs.TakenAs.{found_member, led_apart, member_without, words_held, lens_kept, pairs_without, pairs_cut}
+use Rattle.tdb_free.specs.declared.search.Spot.{Spot}
+use Rattle.tdb_free.proofs.TakenAs.{led_apart, member_without, words_held, lens_kept, pairs_without, pairs_cut}
 
-module _ (f : Form) (a b offs : List ℕ) (rec_len : ℕ) (p : Fit) (F : ListedOnce f a offs) (fit : IsFitting f a offs rec_len p) where
+module _ (f : Form) (a b offs : List ℕ) (rec_len : ℕ) (p : Spot) (F : ListedOnce f a offs) (is_first : IsFirst f a offs (is_long_enough rec_len) p) where
   abbrev found : HandPair
   found = (p.off, p.rec_len)
 
@@ -33,21 +34,21 @@ module _ (f : Form) (a b offs : List ℕ) (rec_len : ℕ) (p : Fit) (F : ListedO
   list_is = record { list = F.list; once_held = F.once_held }
 
   member : Member p.off offs
-  member = led_member free_head offs p.before p.off fit.leads
+  member = led_member free_head offs p.before p.off is_first.leads
 
   whole_there : Whole f a p.off
   whole_there = (linked_whole f IsFree a (word f.order a free_head) offs p.off F.list member).0
 
   len_there : p.rec_len ≡ rec_len_of f.order a p.off
-  len_there = (found_member f a b (is_long_enough rec_len) (left_of rec_len) found offs fit.first).1
+  len_there = is_first.rec_len
 
   taken_is : (hand : HandPair) (rest : List HandPair) → hand_of rec_len found ≡ hand → instead (is_long_enough rec_len) (left_of rec_len) olds ≡ rest → taken olds rec_len ≡ Some (record { hand = hand; pairs = rest })
-  taken_is hand rest is left = ap (taken_as olds rec_len) fit.first ∙ (λ j. Some (record { hand = is j; pairs = left j }))
+  taken_is hand rest is left = ap (taken_as olds rec_len) is_first.first ∙ (λ j. Some (record { hand = is j; pairs = left j }))
 
   -- the word that leads to it isn't its own first word
   other_word : p.before ≡ p.off → ⊥
   other_word = led_apart f a b (is_long_enough rec_len) (left_of rec_len) found free_head offs p.before p.off
-      (λ m. absurd (omega (arith, (linked_whole f IsFree a (word f.order a free_head) offs free_head F.list m).0.above))) F.once_held fit.leads
+      (λ m. absurd (omega (arith, (linked_whole f IsFree a (word f.order a free_head) offs free_head F.list m).0.above))) F.once_held is_first.leads
 
   -- where just that word changes, it is one that leads on in the list without the record
   led_only : LedPast f a b p.before p.off → OnlyIn (take_words [] (without p.off offs)) a b
@@ -57,7 +58,7 @@ module _ (f : Form) (a b offs : List ℕ) (rec_len : ℕ) (p : Fit) (F : ListedO
         | inr high ↦
             elim (cases_lt i (p.before + 4)) [
               | inl within ↦
-                  elim (led_from free_head offs p.before p.off fit.leads) [
+                  elim (led_from free_head offs p.before p.off is_first.leads) [
                     | inl e ↦ absurd (omega (arith, out, once_in (free_head, 4) i (omega (arith, e, high)) (omega (arith, e, within))))
                     | inr m ↦ absurd (omega (arith, out, once_in (p.before, 4) i high within, words_held p.before i (without p.off offs) (member_without p.before p.off offs m other_word)))
                   ]
@@ -73,7 +74,7 @@ module _ (f : Form) (a b offs : List ℕ) (rec_len : ℕ) (p : Fit) (F : ListedO
         | inr high ↦
             elim (cases_lt i (p.before + 4)) [
               | inl within ↦
-                  elim (led_from free_head offs p.before p.off fit.leads) [
+                  elim (led_from free_head offs p.before p.off is_first.leads) [
                     | inl e ↦ absurd (omega (arith, e, within, from, whole_there.above))
                     | inr m ↦
                         absurd (omega (arith, F.once_held i, two_members f.order a offs p.before p.off i m member other_word, once_in (extent_at f.order a p.before) i high (omega (arith, within)), once_in (extent_at f.order a p.off) i from (omega (arith, to, len_there))))
@@ -107,16 +108,16 @@ module _ (f : Form) (a b offs : List ℕ) (rec_len : ℕ) (p : Fit) (F : ListedO
   pub taken_whole : (hand : HandPair) → p.rec_len < rec_len + 36 → hand ≡ found → LedPast f a b p.before p.off → TakenFrom f a b offs rec_len hand
   taken_whole hand short is L =
       let not_cut : is_cut rec_len found ≡ false = lt-leb (24 + rec_len + 36) (24 + p.rec_len) (omega (arith, short)) in
-      let bodies = unlinked_bodies f IsFree a b free_head offs p.before p.off F.list (omega arith) F.once_held fit.leads L in
+      let bodies = unlinked_bodies f IsFree a b free_head offs p.before p.off F.list (omega arith) F.once_held is_first.leads L in
       let all : hand_of rec_len found ≡ found = rw not_cut refl in
       let none : left_of rec_len found ≡ [] = rw not_cut refl in
       record {
         news = without p.off offs;
         pairs = taken_is hand (free_pairs f b (without p.off offs)) (all ∙ sym is)
-            (sym (pairs_without f a b (is_long_enough rec_len) (left_of rec_len) found offs fit.first F.once_held none (lens_kept f a b offs bodies)));
-        exchanged = subst (λ h. FreeExchanged f a b offs (without p.off offs) [] (h ∷ [])) ((λ j. (p.off, sym len_there j)) ∙ sym is) (free_taken f a b offs p.before p.off list_is fit.leads L);
+            (sym (pairs_without f a b (is_long_enough rec_len) (left_of rec_len) found offs is_first.first F.once_held none (lens_kept f a b offs bodies)));
+        exchanged = subst (λ h. FreeExchanged f a b offs (without p.off offs) [] (h ∷ [])) ((λ j. (p.off, sym len_there j)) ∙ sym is) (free_taken f a b offs p.before p.off list_is is_first.leads L);
         from = found;
-        first = fit.first;
+        first = is_first.first;
         others = subst (λ fronts. OnlyIn (take_words fronts (without p.off offs)) a b) (sym none) (led_only L);
         empty = subst (AllHoldNothing f.order b) (sym none) tt;
         hand_kept = subst (λ h. Agree a b h.0 (h.0 + 24 + h.1)) (sym is) (led_outside L);
@@ -152,11 +153,11 @@ module _ (f : Form) (a b offs : List ℕ) (rec_len : ℕ) (p : Fit) (F : ListedO
       record {
         news = offs;
         pairs = taken_is hand (free_pairs f b offs) (the_end ∙ sym is)
-            (sym (pairs_cut f a b (is_long_enough rec_len) (left_of rec_len) found offs n fit.first F.once_held front len (λ z m ne. (words_kept f a b z (beside.body z m ne)).rec_len)));
+            (sym (pairs_cut f a b (is_long_enough rec_len) (left_of rec_len) found offs n is_first.first F.once_held front len (λ z m ne. (words_kept f a b z (beside.body z m ne)).rec_len)));
         exchanged = subst (λ h. FreeExchanged f a b offs offs [] (h ∷ [])) ((λ j. (place j, rec_len)) ∙ sym is)
             (free_cut f a b offs p.off n rec_len list_is member touched old_len len (ap (λ (r : Rec). r.magic) S.header));
         from = found;
-        first = fit.first;
+        first = is_first.first;
         others = subst (λ fronts. OnlyIn (take_words fronts offs) a b) (sym front) (front_only n S);
         empty = subst (AllHoldNothing f.order b) (sym front) (front_empty n S, tt);
         hand_kept = subst (λ h. Agree a b h.0 (h.0 + 24 + h.1)) (sym is) (λ i low high. S.others i (inr (omega (arith, low, long))) (inr (omega (arith, low, long))));

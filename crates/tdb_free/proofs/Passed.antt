@@ -16,14 +16,14 @@ use Rattle.tdb_free.specs.Search.{IsFirst}
 use Rattle.tdb_free.specs.declared.search.Spot.{Spot}
 
 -- where the first of a list doesn't pass a test, what is found is found behind it, and it stays where that is left out
-find_later : (test : HandPair → Bool) (p : HandPair) (ps : List HandPair) → test p ≡ false → find test (p ∷ ps) ≡ find test ps
+pub find_later : (test : HandPair → Bool) (p : HandPair) (ps : List HandPair) → test p ≡ false → find test (p ∷ ps) ≡ find test ps
 find_later test p ps e = rw e refl
 
 without_later : (test : HandPair → Bool) (p : HandPair) (ps : List HandPair) → test p ≡ false → without_first test (p ∷ ps) ≡ p ∷ without_first test ps
 without_later test p ps e = rw e refl
 
 -- where it passes, it is what is found
-find_here : (test : HandPair → Bool) (p : HandPair) (ps : List HandPair) → test p ≡ true → find test (p ∷ ps) ≡ Some p
+pub find_here : (test : HandPair → Bool) (p : HandPair) (ps : List HandPair) → test p ≡ true → find test (p ∷ ps) ≡ Some p
 find_here test p ps e = rw e refl
 
 without_here : (test : HandPair → Bool) (p : HandPair) (ps : List HandPair) → test p ≡ true → without_first test (p ∷ ps) ≡ ps
@@ -33,7 +33,7 @@ without_here test p ps e = rw e refl
 without_head : (x : ℕ) (xs : List ℕ) → without x (x ∷ xs) ≡ xs
 without_head x xs = rw (eq-eqb x x refl) refl
 
-without_tail : (x y : ℕ) (xs : List ℕ) → (x ≡ y → ⊥) → without y (x ∷ xs) ≡ x ∷ without y xs
+pub without_tail : (x y : ℕ) (xs : List ℕ) → (x ≡ y → ⊥) → without y (x ∷ xs) ≡ x ∷ without y xs
 without_tail x y xs ne = rw (ne_eqb x y ne) refl
 
 -- So many records of the list were passed, none of which passes the test, and the word at `before` leads on from `at`: what is
@@ -47,14 +47,14 @@ pub record Passed (f : Form) (img offs : List ℕ) (test : HandPair → Bool) (t
   pub short : turns + length rest ≤ length img / 4
 
 -- at first none was passed, and the head of the list leads on
-pub passed_start : (f : Form) (img offs : List ℕ) (test : HandPair → Bool) (before at : ℕ) → Free f img (word f.order img free_head) offs → before ≡ free_head → at ≡ word f.order img free_head → Passed f img offs test 0 before at
-passed_start f img offs test before at list head first = record {
+pub passed_start : (f : Form) (img offs : List ℕ) (test : HandPair → Bool) (at : ℕ) → Free f img at offs → Passed f img offs test 0 free_head at
+passed_start f img offs test at list = record {
   rest = offs;
-  list = subst (λ x. Free f img x offs) (sym first) list;
-  leads = λ b y led. subst (λ p. Leads p offs b y) head led;
+  list = list;
+  leads = λ b y led. led;
   first = refl;
   others = λ y m e. e;
-  short = omega (arith, linked_short f IsFree img (word f.order img free_head) offs list);
+  short = omega (arith, linked_short f IsFree img at offs list);
 }
 
 module _ (f : Form) (img offs : List ℕ) (test : HandPair → Bool) (turns before at : ℕ) (p : Passed f img offs test turns before at) where
@@ -111,3 +111,11 @@ module _ (f : Form) (img offs : List ℕ) (test : HandPair → Bool) (turns befo
             rest = subst (λ y. without_first test (free_pairs f img offs) ≡ free_pairs f img (without y offs)) (sym at_x)
                 (others x (member_first x xs) (without_here test (x, rec_len_of f.order img x) (free_pairs f img xs) passes_here ∙ ap (free_pairs f img) (sym (without_head x xs))));
           }
+
+  -- as many records were passed as the image has words
+  pub passed_all : length img / 4 ≤ turns → find test (free_pairs f img offs) ≡ None
+  passed_all all = p.first ∙ nothing p.rest p.short
+    where
+      nothing : (rest : List ℕ) → turns + length rest ≤ length img / 4 → find test (free_pairs f img rest) ≡ None
+      nothing [] short = refl
+      nothing (x ∷ xs) short = absurd (omega (arith, short, all))

@@ -1,7 +1,7 @@
 -- What a take makes of the list of free records: the record that it takes from leaves the list, or stands in it as a shorter one.
 use Rattle.std.proofs.Common.{◌≡◌, ℕ, ◌≤◌, Bool, true, false, List, [], ◌∷◌, ◌++◌, Option, Some, None, refl, sym, ◌∙◌, ap, subst, inl, inr, arith}
 use Rattle.std.specs.List.{find}
-use Rattle.std.proofs.lemmas.Bool.{cases_Bool, cases_eq, eq-eqb, ne_eqb, false≢true}
+use Rattle.std.proofs.lemmas.Bool.{cases_Bool, cases_eq, eq-eqb, false≢true}
 use Rattle.tdb_space.specs.Form.{Form}
 use Rattle.tdb_space.specs.Record.{rec_len_of}
 use Rattle.tdb_space.specs.Chain.{Member, Leads, without}
@@ -11,14 +11,9 @@ use Rattle.tdb_space.proofs.Kept.{Bodies, words_kept}
 use Rattle.tdb_space.proofs.Walks.{member_cases, member_first, member_other}
 use Rattle.tdb_space.proofs.Members.{member_held}
 use Rattle.tdb_free.specs.FreeList.{free_pairs, instead, words_at}
+use Rattle.tdb_free.proofs.Passed.{find_here, find_later, without_tail}
 
--- the first pair of a list passes a test or doesn't: what is found, and what stands in its place
-find_here : (test : HandPair → Bool) (p : HandPair) (ps : List HandPair) → test p ≡ true → find test (p ∷ ps) ≡ Some p
-find_here test p ps e = rw e refl
-
-find_later : (test : HandPair → Bool) (p : HandPair) (ps : List HandPair) → test p ≡ false → find test (p ∷ ps) ≡ find test ps
-find_later test p ps e = rw e refl
-
+-- what stands in place of the first pair of a list, where it passes a test and where it doesn't
 instead_here : (test : HandPair → Bool) (g : HandPair → List HandPair) (p : HandPair) (ps : List HandPair) → test p ≡ true → instead test g (p ∷ ps) ≡ g p ++ ps
 instead_here test g p ps e = rw e refl
 
@@ -27,9 +22,6 @@ instead_later test g p ps e = rw e refl
 
 without_here : (y x : ℕ) (xs : List ℕ) → x ≡ y → without y (x ∷ xs) ≡ xs
 without_here y x xs e = rw (eq-eqb x y e) refl
-
-without_later : (y x : ℕ) (xs : List ℕ) → (x ≡ y → ⊥) → without y (x ∷ xs) ≡ x ∷ without y xs
-without_later y x xs ne = rw (ne_eqb x y ne) refl
 
 some_is : (p q : HandPair) → Some p ≡ Some q → p ≡ q
 some_is p q e = ap (λ o. first o) e
@@ -66,8 +58,8 @@ module _ (f : Form) (a b : List ℕ) (test : HandPair → Bool) (g : HandPair �
   abbrev Found : List ℕ → Type 0
   Found xs = find test (free_pairs f a xs) ≡ Some p
 
-  -- what is found is the record of one of the list, and has its length
-  pub found_member : (xs : List ℕ) → Found xs → Member p.0 xs × (p.1 ≡ rec_len_of f.order a p.0)
+  -- what is found is a record of the list
+  found_member : (xs : List ℕ) → Found xs → Member p.0 xs
   found_member [] found = absurd (none_some found)
     where
       none_some : None ≡ Some p → ⊥
@@ -76,10 +68,9 @@ module _ (f : Form) (a b : List ℕ) (test : HandPair → Bool) (g : HandPair �
       elim (cases_Bool (test (x, rec_len_of f.order a x))) [
         | inl t ↦
             let e = some_is (x, rec_len_of f.order a x) p (sym (find_here test (x, rec_len_of f.order a x) (free_pairs f a xs) t) ∙ found) in
-            (subst (λ z. Member z (x ∷ xs)) (ap (λ q. q.0) e) (member_first x xs), sym (ap (λ q. q.1) e) ∙ ap (rec_len_of f.order a) (ap (λ q. q.0) e))
+            subst (λ z. Member z (x ∷ xs)) (ap (λ q. q.0) e) (member_first x xs)
         | inr t ↦
-            let rest = found_member xs (sym (find_later test (x, rec_len_of f.order a x) (free_pairs f a xs) t) ∙ found) in
-            (member_other p.0 x xs rest.0, rest.1)
+            member_other p.0 x xs (found_member xs (sym (find_later test (x, rec_len_of f.order a x) (free_pairs f a xs) t) ∙ found))
       ]
 
   -- nothing stands in its place: the list without it
@@ -94,9 +85,9 @@ module _ (f : Form) (a b : List ℕ) (test : HandPair → Bool) (g : HandPair �
             ∙ sym (instead_here test g (x, rec_len_of f.order a x) (free_pairs f a xs) t ∙ ap (λ q. g q ++ free_pairs f a xs) e ∙ ap (λ qs. qs ++ free_pairs f a xs) none)
         | inr t ↦
             let later = sym (find_later test (x, rec_len_of f.order a x) (free_pairs f a xs) t) ∙ found in
-            let other : x ≡ p.0 → ⊥ = λ e. apart_first x xs held (subst (λ z. Member z xs) (sym e) (found_member xs later).0) in
+            let other : x ≡ p.0 → ⊥ = λ e. apart_first x xs held (subst (λ z. Member z xs) (sym e) (found_member xs later)) in
             let rest = pairs_without xs later (apart_rest x xs held) none (λ z m. same z (member_other z x xs m)) in
-            ap (free_pairs f b) (without_later p.0 x xs other)
+            ap (free_pairs f b) (without_tail x p.0 xs other)
             ∙ (λ j. (x, same x (member_first x xs) j) ∷ rest j)
             ∙ sym (instead_later test g (x, rec_len_of f.order a x) (free_pairs f a xs) t)
       ]
@@ -114,7 +105,7 @@ module _ (f : Form) (a b : List ℕ) (test : HandPair → Bool) (g : HandPair �
             ∙ sym (instead_here test g (x, rec_len_of f.order a x) (free_pairs f a xs) t ∙ ap (λ q. g q ++ free_pairs f a xs) e ∙ ap (λ qs. qs ++ free_pairs f a xs) cut)
         | inr t ↦
             let later = sym (find_later test (x, rec_len_of f.order a x) (free_pairs f a xs) t) ∙ found in
-            let other : x ≡ p.0 → ⊥ = λ e. apart_first x xs held (subst (λ z. Member z xs) (sym e) (found_member xs later).0) in
+            let other : x ≡ p.0 → ⊥ = λ e. apart_first x xs held (subst (λ z. Member z xs) (sym e) (found_member xs later)) in
             let rest = pairs_cut xs n later (apart_rest x xs held) cut len (λ z m ne. same z (member_other z x xs m) ne) in
             (λ j. (x, same x (member_first x xs) other j) ∷ rest j)
             ∙ sym (instead_later test g (x, rec_len_of f.order a x) (free_pairs f a xs) t)
@@ -131,11 +122,11 @@ pub member_without : (z y : ℕ) (xs : List ℕ) → Member z xs → (z ≡ y �
 member_without z y [] m ne = m
 member_without z y (x ∷ xs) m ne =
     elim (member_cases z x xs m) [
-      | inl e ↦ subst (Member z) (sym (without_later y x xs (λ is. ne (e ∙ is)))) (subst (λ w. Member w (x ∷ without y xs)) (sym e) (member_first x (without y xs)))
+      | inl e ↦ subst (Member z) (sym (without_tail x y xs (λ is. ne (e ∙ is)))) (subst (λ w. Member w (x ∷ without y xs)) (sym e) (member_first x (without y xs)))
       | inr there ↦
           elim (cases_eq x y) [
             | inl is ↦ subst (Member z) (sym (without_here y x xs is)) there
-            | inr other ↦ subst (Member z) (sym (without_later y x xs other)) (member_other z x (without y xs) (member_without z y xs there ne))
+            | inr other ↦ subst (Member z) (sym (without_tail x y xs other)) (member_other z x (without y xs) (member_without z y xs there ne))
           ]
     ]
 

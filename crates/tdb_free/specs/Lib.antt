@@ -1,10 +1,11 @@
 pub mod FreeList
+pub mod SpareLeft
+pub mod Standing
+pub mod TakenFrom
+pub mod Shortened
+pub mod ListCause
 pub mod Removal
 pub mod Room
 pub mod Search
-pub mod SpareLeft
 pub mod Stretch
-pub mod Standing
-pub mod Fitting
-pub mod Shortened
-pub mod ListCause
+pub mod Growth

@@ -5,15 +5,17 @@ use Rattle.tdb_space.specs.Form.{Form, free_head}
 use Rattle.tdb_space.specs.Record.{next_of, rec_len_of}
 use Rattle.tdb_space.specs.Chain.{Leads, without}
 use Rattle.tdb_space.specs.Extents.{HandPair}
-use Rattle.tdb_free.specs.FreeList.{free_pairs, without_first, starts_at, ends_at}
-use Rattle.tdb_free.specs.declared.search.Edge.{Edge}
-use Rattle.tdb_free.specs.declared.search.Edge.TheVariants.{StartsAt, EndsAt}
+use Rattle.tdb_free.specs.FreeList.{free_pairs, without_first, is_long_enough, starts_at, ends_at}
+use Rattle.tdb_free.specs.Standing.{Stands}
+use Rattle.tdb_free.specs.declared.search.Wanted.{Wanted}
+use Rattle.tdb_free.specs.declared.search.Wanted.TheVariants.{StartsAt, EndsAt, LongEnough}
 use Rattle.tdb_free.specs.declared.search.Spot.{Spot}
 
--- whether a record meets a place: it starts there, or ends there
-abbrev pub is_met : Edge → HandPair → Bool
-is_met (StartsAt at) p = starts_at at p
-is_met (EndsAt at) p = ends_at at p
+-- whether a record is wanted: it starts at a place, ends at one, or is long enough
+abbrev pub is_wanted : Wanted → HandPair → Bool
+is_wanted (StartsAt at) p = starts_at at p
+is_wanted (EndsAt at) p = ends_at at p
+is_wanted (LongEnough least) p = is_long_enough least p
 
 -- A record of the free list with these records is the first that passes a test: the word before it leads to it, what stands of its
 -- header is the image's, and without it the list is without the first that passes.
@@ -29,8 +31,7 @@ abbrev pub IsSpot : Form → List ℕ → List ℕ → (HandPair → Bool) → O
 IsSpot f img offs test None = find test (free_pairs f img offs) ≡ None
 IsSpot f img offs test (Some p) = IsFirst f img offs test p
 
--- the record stands behind the heads, and it and the word that leads to it end within a length
-pub record SpotWithin (p : Spot) (start len : ℕ) : Type 0 where
+-- the record can stand where it was found, and the word that leads to it ends within the length
+pub record SpotWithin (p : Spot) (f : Form) (len : ℕ) : Type 0 where
   pub led : p.before + 4 ≤ len
-  pub behind : start ≤ p.off
-  pub extent : p.off + 24 + p.rec_len ≤ len
+  pub stands : Stands f len p.off p.rec_len

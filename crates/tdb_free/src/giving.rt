@@ -15,7 +15,7 @@ ghost use Rattle.tdb_free.specs.declared.refusal.FreeRefusal.TheVariants.{Io};
 use crate::link_word::{FREE_HEAD, read_link, write_link};
 use crate::refusal::FreeRefusal;
 use crate::removal::take_out;
-use crate::search::Edge;
+use crate::search::Wanted;
 use crate::stretch::Stretch;
 use tdb_space::{Hand, Io as SpaceIo, Space};
 use tdb_words::{FREE, Rec, rec_bytes, word_bytes};
@@ -71,9 +71,9 @@ fn give_stretch<S: Space>(s: &mut S, len: u64, free: Stretch) -> Result<(), Spac
     ensures disk { S.writes_through ≡ false → S.disk_history s.new ≡ S.disk_history s.old }
     ensures under { S.under s.new ≡ S.under s.old }
 {
-    let next = take_out(s, len, Edge::StartsAt(free.end()))?;
+    let next = take_out(s, len, Wanted::StartsAt(free.end()))?;
     let joined = free.with_next(next);
-    let previous = take_out(s, len, Edge::EndsAt(free.off as u64))?;
+    let previous = take_out(s, len, Wanted::EndsAt(free.off as u64))?;
     put_first(s, &joined.with_previous(previous))
 }
 

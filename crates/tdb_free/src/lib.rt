@@ -1,9 +1,11 @@
 //! The free list of a tdb file: the records that hold nothing, from which the records to come are taken.
 #![tactic(auto)]
 
-mod fit;
 mod free_recs;
 mod giving;
+mod growing;
+#[cfg(test)]
+mod growing_tests;
 mod link_word;
 mod list_refusal;
 mod listing;
@@ -21,6 +23,7 @@ mod tests;
 
 pub use crate::free_recs::FreeRecs;
 pub use crate::giving::give;
+pub use crate::growing::take;
 pub use crate::list_refusal::ListRefusal;
 pub use crate::listing::list;
 pub use crate::refusal::FreeRefusal;

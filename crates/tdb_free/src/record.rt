@@ -9,8 +9,9 @@ ghost use Rattle.tdb_space.specs.Record.{Whole};
 ghost use Rattle.tdb_space.specs.Chain.{Free};
 ghost use Rattle.tdb_free.specs.Standing.{HeaderStands, ContentStands, Stands};
 
+use crate::link_word::{FREE_HEAD, read_link};
 use tdb_space::{Io, Space, read_rec};
-use tdb_words::{Rec, word_at};
+use tdb_words::Rec;
 
 /// The offset of the first free record, in a file of `len` bytes, or 0 where there is none. It reads 4 bytes.
 pub(crate) fn first_free<S: Space>(s: &mut S, len: u64) -> Result<u32, Io>
@@ -29,9 +30,7 @@ pub(crate) fn first_free<S: Space>(s: &mut S, len: u64) -> Result<u32, Io>
     if len < 172 {
         return Ok(0);
     }
-    let mut bytes = [0u8; 4];
-    s.read(168, &mut bytes)?;
-    Ok(word_at(&bytes, s.order()))
+    read_link(s, FREE_HEAD)
 }
 
 /// Whether the header of a record can stand at an offset of a file of this length and of so many chains.

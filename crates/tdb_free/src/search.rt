@@ -1,33 +1,38 @@
-// The search for a free record that starts or ends at a place.
+// The search for a free record.
 
-ghost use Rattle.std.specs.Prelude.{◌≡◌, ◌+◌, ◌*◌, ◌<◌, ◌≤◌, ◌↔◌, IsTrue, IfOk, IfSome, List, ℕ};
+ghost use Rattle.std.specs.Prelude.{◌≡◌, ◌≤◌, IsTrue, IfOk, IfSome, List, ℕ};
 ghost use Rattle.tdb_disk.specs.Count.{HasCause};
 ghost use Rattle.tdb_words.specs.Word.{word};
-ghost use Rattle.tdb_space.specs.Form.{data_start, free_head};
+ghost use Rattle.tdb_space.specs.Form.{free_head};
 ghost use Rattle.tdb_space.specs.Chain.{Free};
-ghost use Rattle.tdb_free.specs.Search.{is_met, IsSpot, SpotWithin};
+ghost use Rattle.tdb_free.specs.Search.{is_wanted, IsSpot, SpotWithin};
 
-use crate::link_word::{FREE_HEAD, read_link};
-use tdb_space::{Io, Space, read_rec};
+use crate::link_word::FREE_HEAD;
+use crate::record::{first_free, read_free};
+use tdb_space::{Io, Space};
 
-/// The place at which a record is to meet another one, in bytes from the start of the file.
+/// Which free record is wanted. Places are in bytes from the start of the file.
 #[derive(Clone, Copy, Debug, PartialEq, Eq)]
-pub(crate) enum Edge {
-    /// The record starts there.
+pub(crate) enum Wanted {
+    /// One that starts at a place.
     StartsAt(u64),
 
-    /// Its last byte is the one before the place.
+    /// One whose last byte is the one before a place.
     EndsAt(u64),
+
+    /// One with at least so many bytes behind its header.
+    LongEnough(u64),
 }
 
-impl Edge {
-    /// Whether the record at an offset, with so many bytes behind its header, meets the place.
-    fn is_met(&self, off: u32, rec_len: u32) -> bool
-        ensures { result ≡ is_met self.now (off, rec_len) }
+impl Wanted {
+    /// Whether the record at an offset, with so many bytes behind its header, is one that is wanted.
+    fn is_wanted(&self, off: u32, rec_len: u32) -> bool
+        ensures { result ≡ is_wanted self.now (off, rec_len) }
     {
         match *self {
-            Edge::StartsAt(at) => off as u64 == at,
-            Edge::EndsAt(at) => off as u64 + 24 + rec_len as u64 == at,
+            Wanted::StartsAt(at) => off as u64 == at,
+            Wanted::EndsAt(at) => off as u64 + 24 + rec_len as u64 == at,
+            Wanted::LongEnough(least) => least <= rec_len as u64,
         }
     }
 }
@@ -48,26 +53,18 @@ pub(crate) struct Spot {
     pub rec_len: u32,
 }
 
-/// Whether the header of a record can stand at an offset of a file of this length and of so many chains: it is behind the heads,
-/// and ends within the length.
-fn can_stand(at: u32, len: u64, chains: u32) -> bool
-    ensures { IsTrue result ↔ ((168 + 4 * (chains + 1) ≤ at) × (at + 24 ≤ len)) }
-{
-    168 + 4 * (chains as u64 + 1) <= at as u64 && at as u64 + 24 <= len
-}
-
-/// The first record of the free list that meets a place, if there is one. `len` is the length of the file.
+/// The first record of the free list that is wanted, if there is one. `len` is the length of the file.
 ///
-/// Where the list isn't sound, a word that leads in front of the data or outside the file ends it, and so does a record that
-/// doesn't end within the file. It also ends after as many records as the file has words.
-pub(crate) fn find_spot<S: Space>(s: &mut S, len: u64, edge: Edge) -> Result<Option<Spot>, Io>
+/// It reads the head of the list, and 24 bytes of each record up to that one. Where the file's bytes aren't those of a free list,
+/// a word that leads to no place where a record can stand ends the list as a 0 does, and so do as many records as the file has
+/// words.
+pub(crate) fn find_spot<S: Space>(s: &mut S, len: u64, wanted: Wanted) -> Result<Option<Spot>, Io>
     requires length { len ≡ S.size s.old }
-    requires heads { 172 ≤ len }
     ensures found { IfOk result (λ found. IsTrue S.tells → (offs : List ℕ)
         → Free (S.form s.old) (S.image s.old) (word (S.form s.old).order (S.image s.old) free_head) offs
-        → IsSpot (S.form s.old) (S.image s.old) offs (is_met edge) found) }
-    ensures within { IfOk result (λ found. IfSome found (λ p. SpotWithin p (data_start (S.form s.old)) (S.size s.old))) }
-    ensures met { IfOk result (λ found. IfSome found (λ p. IsTrue (is_met edge (p.off, p.rec_len)))) }
+        → IsSpot (S.form s.old) (S.image s.old) offs (is_wanted wanted) found) }
+    ensures within { IfOk result (λ found. IfSome found (λ p. SpotWithin p (S.form s.old) (S.size s.old))) }
+    ensures met { IfOk result (λ found. IfSome found (λ p. IsTrue (is_wanted wanted (p.off, p.rec_len)))) }
     ensures size { S.size s.new ≡ S.size s.old }
     ensures image { S.image s.new ≡ S.image s.old }
     ensures form { S.form s.new ≡ S.form s.old }
@@ -78,16 +75,12 @@ pub(crate) fn find_spot<S: Space>(s: &mut S, len: u64, edge: Edge) -> Result<Opt
     ensures under { S.under s.new ≡ S.under s.old }
 {
     let mut before = FREE_HEAD;
-    let mut at = read_link(s, FREE_HEAD)?;
+    let mut at = first_free(s, len)?;
     for _turn in 0..len / 4 {
-        if !can_stand(at, len, s.hash_size()) {
+        let Some(rec) = read_free(s, len, at)? else {
             return Ok(None);
-        }
-        let rec = read_rec(s, at as u64)?;
-        if at as u64 + 24 + rec.rec_len as u64 > len {
-            return Ok(None);
-        }
-        if edge.is_met(at, rec.rec_len) {
+        };
+        if wanted.is_wanted(at, rec.rec_len) {
             return Ok(Some(Spot {
                 off: at,
                 before,

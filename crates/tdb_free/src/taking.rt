@@ -3,16 +3,19 @@
 ghost use Rattle.std.specs.Prelude.{◌≡◌, ◌+◌, ◌-◌, ◌%◌, ◌^◌, ◌<◌, ◌≤◌, IsTrue, List, ℕ, length, IfOk, OnOk, IfSome, false};
 ghost use Rattle.tdb_disk.specs.Count.{HasCause};
 ghost use Rattle.tdb_space.specs.Record.{next_of};
+ghost use Rattle.tdb_space.specs.Extents.{HandPair};
+ghost use Rattle.tdb_space.specs.Accepted.{AcceptWith};
 ghost use Rattle.tdb_space.specs.Exchange.{LedPast};
 ghost use Rattle.tdb_space.specs.Spare.{RoomFor, RoomForAll};
-ghost use Rattle.tdb_free.specs.FreeList.{ListedOnce};
+ghost use Rattle.tdb_free.specs.FreeList.{ListedOnce, is_long_enough};
 ghost use Rattle.tdb_free.specs.SpareLeft.{LeavesRoom};
 ghost use Rattle.tdb_free.specs.Standing.{Stands};
-ghost use Rattle.tdb_free.specs.Fitting.{IsFitting, TakenFrom, IsTaken};
+ghost use Rattle.tdb_free.specs.Search.{IsFirst};
+ghost use Rattle.tdb_free.specs.TakenFrom.{TakenFrom, TakenKept, IsTaken};
 ghost use Rattle.tdb_free.specs.Shortened.{Shortened};
 
-use crate::fit::{Fit, find_fit};
 use crate::link_word::write_link;
+use crate::search::{Spot, Wanted, find_spot};
 use tdb_space::{Hand, Io, Space};
 use tdb_words::{FREE, Rec, rec_bytes, word_bytes};
 
@@ -20,13 +23,13 @@ use tdb_words::{FREE, Rec, rec_bytes, word_bytes};
 const LEAST_LEFT: u32 = 36;
 
 /// Takes a record out of the list, whole: the word that led to it leads past it.
-fn take_whole<S: Space>(s: &mut S, fit: &Fit) -> Result<Hand, Io>
-    requires stands { Stands (S.form s.old) (S.size s.old) fit.now.off fit.now.rec_len }
-    requires led { fit.now.before + 4 ≤ S.size s.old }
+fn take_whole<S: Space>(s: &mut S, spot: &Spot) -> Result<Hand, Io>
+    requires stands { Stands (S.form s.old) (S.size s.old) spot.now.off spot.now.rec_len }
+    requires led { spot.now.before + 4 ≤ S.size s.old }
     requires room { RoomFor (S.spare s.old) 4 }
-    ensures hand { IfOk result (λ h. h ≡ (fit.now.off, fit.now.rec_len)) }
-    ensures past { OnOk result (IsTrue S.tells → fit.now.next ≡ next_of (S.form s.old).order (S.image s.old) fit.now.off
-        → LedPast (S.form s.old) (S.image s.old) (S.image s.new) fit.now.before fit.now.off) }
+    ensures hand { IfOk result (λ h. h ≡ (spot.now.off, spot.now.rec_len)) }
+    ensures past { OnOk result (IsTrue S.tells → spot.now.next ≡ next_of (S.form s.old).order (S.image s.old) spot.now.off
+        → LedPast (S.form s.old) (S.image s.old) (S.image s.new) spot.now.before spot.now.off) }
     ensures size { S.size s.new ≡ S.size s.old }
     ensures form { S.form s.new ≡ S.form s.old }
     ensures cause { HasCause (S.faults s.old) (S.faults s.new) result }
@@ -35,19 +38,19 @@ fn take_whole<S: Space>(s: &mut S, fit: &Fit) -> Result<Hand, Io>
     ensures disk { S.writes_through ≡ false → S.disk_history s.new ≡ S.disk_history s.old }
     ensures under { S.under s.new ≡ S.under s.old }
 {
-    write_link(s, fit.before, fit.next)?;
-    Ok(Hand::new(fit.off, fit.rec_len))
+    write_link(s, spot.before, spot.next)?;
+    Ok(Hand::new(spot.off, spot.rec_len))
 }
 
 /// Makes a record shorter. It writes the header's words behind the first one, those of what it held as 0, and a tailer at the new
 /// end.
-fn shorten<S: Space>(s: &mut S, fit: &Fit, rec_len: u32) -> Result<(), Io>
-    requires stands { Stands (S.form s.old) (S.size s.old) fit.now.off fit.now.rec_len }
+fn shorten<S: Space>(s: &mut S, spot: &Spot, rec_len: u32) -> Result<(), Io>
+    requires stands { Stands (S.form s.old) (S.size s.old) spot.now.off spot.now.rec_len }
     requires whole_words { rec_len % 4 ≡ 0 }
     requires least { 4 ≤ rec_len }
-    requires shorter { rec_len + 24 ≤ fit.now.rec_len }
+    requires shorter { rec_len + 24 ≤ spot.now.rec_len }
     requires room { RoomForAll (S.spare s.old) 2 24 }
-    ensures shortened { OnOk result (IsTrue S.tells → Shortened (S.form s.old) (S.image s.old) (S.image s.new) fit.now.off rec_len) }
+    ensures shortened { OnOk result (IsTrue S.tells → Shortened (S.form s.old) (S.image s.old) (S.image s.new) spot.now.off rec_len) }
     ensures size { S.size s.new ≡ S.size s.old }
     ensures form { S.form s.new ≡ S.form s.old }
     ensures cause { HasCause (S.faults s.old) (S.faults s.new) result }
@@ -58,31 +61,31 @@ fn shorten<S: Space>(s: &mut S, fit: &Fit, rec_len: u32) -> Result<(), Io>
 {
     let order = s.order();
     let rec = Rec {
-        next: fit.next,
+        next: spot.next,
         rec_len,
         key_len: 0,
         data_len: 0,
         full_hash: 0,
         magic: FREE,
     };
-    s.write(fit.off as u64 + 4, &rec_bytes(&rec, order)[4..])?;
+    s.write(spot.off as u64 + 4, &rec_bytes(&rec, order)[4..])?;
     s.write(
-        fit.off as u64 + 20 + rec_len as u64,
+        spot.off as u64 + 20 + rec_len as u64,
         &word_bytes(24 + rec_len, order),
     )?;
     Ok(())
 }
 
 /// Takes the end of a record, with so many bytes behind its header. The front stays in its place in the list.
-fn take_end<S: Space>(s: &mut S, fit: &Fit, rec_len: u32) -> Result<Hand, Io>
-    requires stands { Stands (S.form s.old) (S.size s.old) fit.now.off fit.now.rec_len }
-    requires short { fit.now.off + 24 + fit.now.rec_len < 2 ^ 32 }
+fn take_end<S: Space>(s: &mut S, spot: &Spot, rec_len: u32) -> Result<Hand, Io>
+    requires stands { Stands (S.form s.old) (S.size s.old) spot.now.off spot.now.rec_len }
+    requires short { spot.now.off + 24 + spot.now.rec_len < 2 ^ 32 }
     requires whole_words { rec_len % 4 ≡ 0 }
     requires least { 4 ≤ rec_len }
-    requires left { rec_len + 36 ≤ fit.now.rec_len }
+    requires left { rec_len + 36 ≤ spot.now.rec_len }
     requires room { RoomForAll (S.spare s.old) 2 24 }
-    ensures hand { IfOk result (λ h. h ≡ (fit.now.off + fit.now.rec_len - rec_len, rec_len)) }
-    ensures shortened { OnOk result (IsTrue S.tells → Shortened (S.form s.old) (S.image s.old) (S.image s.new) fit.now.off (fit.now.rec_len - (24 + rec_len))) }
+    ensures hand { IfOk result (λ h. h ≡ (spot.now.off + spot.now.rec_len - rec_len, rec_len)) }
+    ensures shortened { OnOk result (IsTrue S.tells → Shortened (S.form s.old) (S.image s.old) (S.image s.new) spot.now.off (spot.now.rec_len - (24 + rec_len))) }
     ensures size { S.size s.new ≡ S.size s.old }
     ensures form { S.form s.new ≡ S.form s.old }
     ensures cause { HasCause (S.faults s.old) (S.faults s.new) result }
@@ -91,21 +94,21 @@ fn take_end<S: Space>(s: &mut S, fit: &Fit, rec_len: u32) -> Result<Hand, Io>
     ensures disk { S.writes_through ≡ false → S.disk_history s.new ≡ S.disk_history s.old }
     ensures under { S.under s.new ≡ S.under s.old }
 {
-    shorten(s, fit, fit.rec_len - (24 + rec_len))?;
-    Ok(Hand::new(fit.off + (fit.rec_len - rec_len), rec_len))
+    shorten(s, spot, spot.rec_len - (24 + rec_len))?;
+    Ok(Hand::new(spot.off + (spot.rec_len - rec_len), rec_len))
 }
 
 /// Takes the end of a record where at least 36 bytes of its extent are left then, and else the whole of it.
-fn take_from<S: Space>(s: &mut S, fit: &Fit, rec_len: u32) -> Result<Hand, Io>
-    requires stands { Stands (S.form s.old) (S.size s.old) fit.now.off fit.now.rec_len }
-    requires led { fit.now.before + 4 ≤ S.size s.old }
-    requires short { fit.now.off + 24 + fit.now.rec_len < 2 ^ 32 }
+fn take_from<S: Space>(s: &mut S, spot: &Spot, rec_len: u32) -> Result<Hand, Io>
+    requires stands { Stands (S.form s.old) (S.size s.old) spot.now.off spot.now.rec_len }
+    requires led { spot.now.before + 4 ≤ S.size s.old }
+    requires short { spot.now.off + 24 + spot.now.rec_len < 2 ^ 32 }
     requires whole_words { rec_len % 4 ≡ 0 }
     requires least { 4 ≤ rec_len }
-    requires long { rec_len ≤ fit.now.rec_len }
+    requires long { rec_len ≤ spot.now.rec_len }
     requires room { RoomForAll (S.spare s.old) 2 24 }
     ensures taken { IfOk result (λ h. IsTrue S.tells → (offs : List ℕ) → ListedOnce (S.form s.old) (S.image s.old) offs
-        → IsFitting (S.form s.old) (S.image s.old) offs rec_len fit.now
+        → IsFirst (S.form s.old) (S.image s.old) offs (is_long_enough rec_len) spot.now
         → TakenFrom (S.form s.old) (S.image s.old) (S.image s.new) offs rec_len h) }
     ensures stands { IfOk result (λ h. Stands (S.form s.old) (S.size s.old) h.0 h.1) }
     ensures long { IfOk result (λ h. rec_len ≤ h.1) }
@@ -117,10 +120,10 @@ fn take_from<S: Space>(s: &mut S, fit: &Fit, rec_len: u32) -> Result<Hand, Io>
     ensures disk { S.writes_through ≡ false → S.disk_history s.new ≡ S.disk_history s.old }
     ensures under { S.under s.new ≡ S.under s.old }
 {
-    if fit.rec_len - rec_len < LEAST_LEFT {
-        take_whole(s, fit)
+    if spot.rec_len - rec_len < LEAST_LEFT {
+        take_whole(s, spot)
     } else {
-        take_end(s, fit, rec_len)
+        take_end(s, spot, rec_len)
     }
 }
 
@@ -137,6 +140,8 @@ pub fn take_fit<S: Space>(s: &mut S, rec_len: u64) -> Result<Option<Hand>, Io>
     requires room { RoomForAll (S.spare s.old) 2 24 }
     ensures taken { IfOk result (λ taken. IsTrue S.tells → (offs : List ℕ) → ListedOnce (S.form s.old) (S.image s.old) offs
         → length (S.image s.old) < 2 ^ 32 → IsTaken (S.form s.old) (S.image s.old) (S.image s.new) offs rec_len taken) }
+    ensures kept { IfOk result (λ taken. IfSome taken (λ h. IsTrue S.tells → (hands : List HandPair) → AcceptWith (S.form s.old) (S.image s.old) hands
+        → length (S.image s.old) < 2 ^ 32 → TakenKept (S.form s.old) (S.image s.old) (S.image s.new) rec_len hands h)) }
     ensures stands { IfOk result (λ taken. IfSome taken (λ h. Stands (S.form s.old) (S.size s.old) h.0 h.1)) }
     ensures long { IfOk result (λ taken. IfSome taken (λ h. rec_len ≤ h.1)) }
     ensures size { S.size s.new ≡ S.size s.old }
@@ -147,11 +152,12 @@ pub fn take_fit<S: Space>(s: &mut S, rec_len: u64) -> Result<Option<Hand>, Io>
     ensures disk { S.writes_through ≡ false → S.disk_history s.new ≡ S.disk_history s.old }
     ensures under { S.under s.new ≡ S.under s.old }
 {
-    let Some(fit) = find_fit(s, rec_len)? else {
+    let len = s.len()?;
+    let Some(spot) = find_spot(s, len, Wanted::LongEnough(rec_len))? else {
         return Ok(None);
     };
-    if fit.off as u64 + 24 + fit.rec_len as u64 > u32::MAX as u64 {
+    if spot.off as u64 + 24 + spot.rec_len as u64 > u32::MAX as u64 {
         return Ok(None);
     }
-    Ok(Some(take_from(s, &fit, rec_len as u32)?))
+    Ok(Some(take_from(s, &spot, rec_len as u32)?))
 }

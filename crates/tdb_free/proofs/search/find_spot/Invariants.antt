@@ -1,9 +1,9 @@
 -- The walk came so far along the free list, and the view is as it was.
-use Rattle.std.proofs.Common.{◌≡◌, ℕ, ◌+◌, ◌≤◌, List, IsTrue}
+use Rattle.std.proofs.Common.{◌≡◌, ℕ, ◌+◌, ◌≤◌, ◌⊎◌, List, IsTrue}
 use Rattle.tdb_words.specs.Word.{word}
 use Rattle.tdb_space.specs.Form.{free_head}
 use Rattle.tdb_space.specs.Chain.{Free}
-use Rattle.tdb_free.specs.Search.{is_met}
+use Rattle.tdb_free.specs.Search.{is_wanted}
 use Rattle.tdb_free.proofs.Passed.{Passed}
 use Rattle.tdb_free.proofs.search.find_spot.Given as goal
 
@@ -11,8 +11,8 @@ abbrev pub invariant-loop-turn : goal.invariant-loop-turn
 invariant-loop-turn g l = record {
   passed : IsTrue g.S.Space.tells → (offs : List ℕ)
       → Free (g.S.Space.form l.fn.s) (g.S.Space.image l.fn.s) (word (g.S.Space.form l.fn.s).order (g.S.Space.image l.fn.s) free_head) offs
-      → Passed (g.S.Space.form l.fn.s) (g.S.Space.image l.fn.s) offs (is_met l.edge) l._turn l.before l.at;
-  led : l.before + 4 ≤ g.S.Space.size l.fn.s;
+      → Passed (g.S.Space.form l.fn.s) (g.S.Space.image l.fn.s) offs (is_wanted l.wanted) l._turn l.before l.at;
+  led : (l.before ≡ free_head) ⊎ (l.before + 4 ≤ g.S.Space.size l.fn.s);
   size : g.S.Space.size l.s ≡ g.S.Space.size l.fn.s;
   image : g.S.Space.image l.s ≡ g.S.Space.image l.fn.s;
   form : g.S.Space.form l.s ≡ g.S.Space.form l.fn.s;

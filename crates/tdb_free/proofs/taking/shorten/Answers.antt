@@ -24,7 +24,7 @@ pub returns-clause-shortened : goal.returns-clause-shortened
 returns-clause-shortened g c told =
     let f = g.S.Space.form c.args.s.now in
     let a = g.S.Space.image c.args.s.now in
-    let at = c.args.fit.now.off in
+    let at = c.args.spot.now.off in
     let header = c.rec_bytes.result in
     let tailer = c.word_bytes.result in
     let part = take 20 (drop 4 header) in
@@ -39,4 +39,4 @@ returns-clause-shortened g c told =
     c.in_ok-write-2.ensures.image told ∙ ap (λ i. overlay i place tailer) (c.in_ok-write.ensures.image told) in
     subst (λ b. Shortened f a b at c.args.rec_len) (sym written)
     (shortened_written f a at c.args.rec_len header part tailer refl long four c.requires.least
-    (omega (arith, g.met.S.Space.told_size c.args.s.now told, c.requires.stands.within, c.requires.shorter)) (free_record c.args.fit.now.next c.args.rec_len) made refl tail)
+    (omega (arith, g.met.S.Space.told_size c.args.s.now told, c.requires.stands.within, c.requires.shorter)) (free_record c.args.spot.now.next c.args.rec_len) made refl tail)

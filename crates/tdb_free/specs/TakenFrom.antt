@@ -1,25 +1,13 @@
--- The search for a free record that is long enough, and what is taken from it.
+-- What it means that a hand was taken from the free list.
 use Rattle.std.specs.Prelude.{◌≡◌, ℕ, ◌+◌, List, [], ◌∷◌, Option, None, Some}
 use Rattle.tdb_words.specs.declared.word.Order.{Order}
 use Rattle.tdb_space.specs.Form.{Form, free_head}
-use Rattle.tdb_space.specs.Record.{next_of}
-use Rattle.tdb_space.specs.Chain.{Leads}
+use Rattle.tdb_space.specs.Chain.{free_of}
+use Rattle.tdb_space.specs.Pairs.{order_of}
+use Rattle.tdb_space.specs.Accepted.{AcceptWith}
 use Rattle.tdb_space.specs.Extents.{Extent, HandPair}
 use Rattle.tdb_space.specs.Exchange.{Agree, FreeExchanged}
 use Rattle.tdb_free.specs.FreeList.{HoldsNothing, OnlyIn, words_at, free_pairs, first_fit, left_of, taken}
-use Rattle.tdb_free.specs.declared.fit.Fit.{Fit}
-
--- a free record of an image is the first with so many bytes behind its header: the word before it leads to it in the list with
--- these records, and its next word is the image's
-pub record IsFitting (f : Form) (img offs : List ℕ) (rec_len : ℕ) (p : Fit) : Type 0 where
-  pub leads : Leads free_head offs p.before p.off
-  pub next : p.next ≡ next_of f.order img p.off
-  pub first : first_fit (free_pairs f img offs) rec_len ≡ Some (p.off, p.rec_len)
-
--- the first such record was found, or there is none
-abbrev pub IsFit : Form → List ℕ → List ℕ → ℕ → Option Fit → Type 0
-IsFit f img offs rec_len None = first_fit (free_pairs f img offs) rec_len ≡ None
-IsFit f img offs rec_len (Some p) = IsFitting f img offs rec_len p
 
 -- What is written where a record is taken from. Where nothing stays of it, that is one word that leads on in the list: its head, or
 -- the first word of a record that stays. Else it is the header of what stays but for its first word, and its tailer.
@@ -49,3 +37,10 @@ pub record TakenFrom (f : Form) (a b offs : List ℕ) (rec_len : ℕ) (hand : Ha
 abbrev pub IsTaken : Form → List ℕ → List ℕ → List ℕ → ℕ → Option HandPair → Type 0
 IsTaken f a b offs rec_len None = (taken (free_pairs f a offs) rec_len ≡ None) × (b ≡ a)
 IsTaken f a b offs rec_len (Some hand) = TakenFrom f a b offs rec_len hand
+
+-- From image a, accepted with hands, to image b a hand more was taken from the free list: b is accepted with it too, its chains hold
+-- the same pairs in the same order, and hand and free list are those of a take of so many bytes.
+pub record TakenKept (f : Form) (a b : List ℕ) (rec_len : ℕ) (hands : List HandPair) (hand : HandPair) : Type 0 where
+  pub accepted : AcceptWith f b (hand ∷ hands)
+  pub same_pairs : order_of f b ≡ order_of f a
+  pub list : taken (free_pairs f a (free_of f a)) rec_len ≡ Some (record { hand = hand; pairs = free_pairs f b (free_of f b) })
