@@ -13,7 +13,8 @@ use Rattle.tdb_free.specs.declared.refusal.FreeRefusal.TheVariants.{Full, Io}
 abbrev pub whole_pages : ℕ → ℕ
 whole_pages n = (n + 4095) / 4096 * 4096
 
--- the length that a file grows to where no limit is near: room for what is needed and a quarter as much again, in whole pages
+-- the length to which a file grows where no limit is near: the greater of the length with what is needed and the length with a
+-- quarter as much again, in whole pages
 abbrev pub usual_length : ℕ → ℕ → ℕ
 usual_length len need = whole_pages (max (len + need) (len + len / 4))
 

@@ -107,7 +107,12 @@ fn grows_a_long_file_by_a_quarter(rt: HostRuntime) -> Result<(), Fail> {
 #[test]
 fn hands_faults_on(rt: HostRuntime) -> Result<(), Fail> {
     let alloc = rt.alloc();
-    for (call, count) in [(Call::Read, 6), (Call::Grow, 1), (Call::Write, 4)] {
+    for (call, count) in [
+        (Call::Read, 6),
+        (Call::Grow, 1),
+        (Call::Write, 4),
+        (Call::WriteWord, 1),
+    ] {
         for nth in 0..count {
             let mut disk = empty_file(alloc)?;
             disk.fail(call, nth)?;
