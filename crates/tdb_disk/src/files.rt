@@ -1,6 +1,6 @@
 //! A set of files by name. A file is taken out of it as a disk and given back.
 ghost use Rattle.std.specs.Prelude.{◌≡◌, ◌≢◌, ◌<◌, ◌≤◌, ◌↔◌, ℕ, List, [], Bool, true, false, Option, Some, None, IsTrue, IsSome, unwrap_or, IfOk, OnOk, OnErr, IsErrOf};
-ghost use Rattle.tdb_disk.specs.Count.{HasCause, Rose};
+ghost use Rattle.tdb_disk.specs.Count.{HasCause, HasCauseOf, Rose};
 ghost use Rattle.tdb_disk.specs.History.{History, began};
 ghost use Rattle.tdb_disk.specs.Names.{SameAll, SameBut, moved};
 ghost use Rattle.tdb_disk.specs.declared.files.Take.{Take};
@@ -65,14 +65,14 @@ pub trait Files {
 
     /// Takes a file out of the set, as a disk that has no faults yet, and makes the room that giving it back needs.
     /// `Missing` is answered exactly where the file isn't there and `how` isn't `New`, `There` exactly where it is and `how` is `New`,
-    /// `Failed` only where the count of faults rose, `Memory` where there was no memory. A refusal leaves the files as they were.
+    /// `Failed` only where the count of faults rose, `Memory` where there was no memory. A refusal leaves the files as they were,
+    /// and no answer but `Failed` raises the count.
     fn take(&mut self, alloc: Global, name: &str, how: Take) -> Result<Self::D, TakeRefusal>
         requires { is_taken self.old name.now ≡ false }
         ensures missing { IsTrue Self.D.tells → IsErrOf result TakeRefusal.Missing ↔ ((held self.old name.now ≡ None) × (how ≢ Take.New)) }
         ensures there { IsTrue Self.D.tells → IsErrOf result TakeRefusal.There ↔ (IsSome (held self.old name.now) × (how ≡ Take.New)) }
         ensures missing_how { IsErrOf result TakeRefusal.Missing → how ≢ Take.New }
         ensures there_how { IsErrOf result TakeRefusal.There → how ≡ Take.New }
-        ensures failed { IsErrOf result TakeRefusal.Failed → Rose (faults self.old) (faults self.new) }
         ensures taken { OnOk result (is_taken self.new name.now ≡ true) }
         ensures taken_others { SameBut name.now (is_taken self.old) (is_taken self.new) }
         ensures held_others { SameBut name.now (held self.old) (held self.new) }
@@ -83,7 +83,7 @@ pub trait Files {
         ensures disk_bytes_read { IfOk result (λ d. Self.D.bytes_read d ≡ 0) }
         ensures refused_taken { OnErr result (SameAll (is_taken self.old) (is_taken self.new)) }
         ensures refused_held { OnErr result (SameAll (held self.old) (held self.new)) }
-        ensures faults { faults self.old ≤ faults self.new };
+        ensures cause { HasCauseOf TakeRefusal.Failed (faults self.old) (faults self.new) result };
 
     /// Gives a disk back, which is then held at the name with all that was done to it. It can't fail and takes no memory.
     /// The count of faults rises exactly where the disk has faults.

@@ -1,7 +1,7 @@
 //! A set of files in memory, which fails where it is told to.
 ghost use Rattle.std.specs.Prelude.{◌≡◌, ◌≢◌, ◌≤◌, ◌<◌, ◌↔◌, ◌⊎◌, [], ◌∷◌, ◌++◌, List, ℕ, Some, None, true, false, IsSome, unwrap_or, option_map, IfOk, OnOk, OnErr, IsErrOf, length, option_copied};
 ghost use Rattle.std.specs.HashMap.{get_by_text};
-ghost use Rattle.tdb_disk.specs.Count.{HasCause, Rose};
+ghost use Rattle.tdb_disk.specs.Count.{HasCause, HasCauseOf, Rose};
 ghost use Rattle.tdb_disk.specs.History.{began, seen};
 ghost use Rattle.tdb_disk.specs.Names.{SameAll, SameBut, moved};
 ghost use Rattle.tdb_disk.specs.Script.{Fails, FailsExactly, unmade, counted, one_more};
@@ -220,6 +220,25 @@ impl MemFiles {
         Ok(tape)
     }
 
+    /// The tape for the disk of a name: what is held there, or an empty one where no file is there. Its place is empty then.
+    fn tape_for(&mut self, alloc: Global, name: &str, is_there: bool) -> Result<Tape, AllocError>
+        requires there { is_there ≡ true → IsSome (held_at self.old name.now) }
+        requires missing { is_there ≡ false → held_at self.old name.now ≡ None }
+        ensures tape { IfOk result (λ tape. tape_history tape ≡ unwrap_or (held_at self.old name.now) (began [])) }
+        ensures taken { OnOk result (name_is_taken self.new name.now ≡ true) }
+        ensures taken_others { SameBut name.now (name_is_taken self.old) (name_is_taken self.new) }
+        ensures held_others { SameBut name.now (held_at self.old) (held_at self.new) }
+        ensures kept_taken { OnErr result (SameAll (name_is_taken self.old) (name_is_taken self.new)) }
+        ensures kept_held { OnErr result (SameAll (held_at self.old) (held_at self.new)) }
+        ensures rest { self.new ≡ record self.old { places = self.new.places } }
+    {
+        if is_there {
+            Ok(self.take_tape(name))
+        } else {
+            self.make_tape(alloc, name)
+        }
+    }
+
     /// Moves what is held at one name to another, whose file is replaced where there is one.
     fn move_place(&mut self, from: &str, to: &str) -> Result<(), AllocError>
         requires differ { from.now ≢ to.now }
@@ -256,6 +275,7 @@ impl Files for MemFiles {
         ensures exact { IsErrOf result refusal.Failed → Fails (files_script self.old) call.Take }
         ensures counted { files_script self.new ≡ counted (files_script self.old) call.Take }
         ensures starved { files_starved self.new ≡ files_starved self.old }
+        ensures lists { SameAll (disk_failing self.old) (disk_failing self.new) }
         ensures disk_failing { IfOk result (λ d. (memory_script d).failing.items ≡ disk_failing self.old name.now) }
         ensures disk_made { IfOk result (λ d. (memory_script d).made ≡ unmade) }
         ensures disk_starved { IfOk result (λ d. memory_starved d ≡ 0) }
@@ -263,7 +283,6 @@ impl Files for MemFiles {
         ensures there { IsErrOf result refusal.There ↔ (IsSome (held_at self.old name.now) × (how ≡ mode.New)) }
         ensures missing_how { IsErrOf result refusal.Missing → how ≢ mode.New }
         ensures there_how { IsErrOf result refusal.There → how ≡ mode.New }
-        ensures failed { IsErrOf result refusal.Failed → Rose (files_faults self.old) (files_faults self.new) }
         ensures taken { OnOk result (name_is_taken self.new name.now ≡ true) }
         ensures taken_others { SameBut name.now (name_is_taken self.old) (name_is_taken self.new) }
         ensures held_others { SameBut name.now (held_at self.old) (held_at self.new) }
@@ -274,7 +293,7 @@ impl Files for MemFiles {
         ensures disk_bytes_read { IfOk result (λ d. memory_bytes_read d ≡ 0) }
         ensures refused_taken { OnErr result (SameAll (name_is_taken self.old) (name_is_taken self.new)) }
         ensures refused_held { OnErr result (SameAll (held_at self.old) (held_at self.new)) }
-        ensures faults { files_faults self.old ≤ files_faults self.new }
+        ensures cause { HasCauseOf refusal.Failed (files_faults self.old) (files_faults self.new) result }
     {
         let fails = self.script.fails(Call::Take);
         let is_there = self.places.contains_key(name);
@@ -285,14 +304,10 @@ impl Files for MemFiles {
                 raise(&mut self.faults);
                 Err(TakeRefusal::Failed)
             }
-            Take::New => {
+            _ => {
                 let calls = self.calls_of(alloc, name)?;
-                let tape = self.make_tape(alloc, name)?;
+                let tape = self.tape_for(alloc, name, is_there)?;
                 Ok(MemDisk::over(alloc, tape, calls))
-            }
-            Take::Existing | Take::ReadOnly => {
-                let calls = self.calls_of(alloc, name)?;
-                Ok(MemDisk::over(alloc, self.take_tape(name), calls))
             }
         }
     }
@@ -300,6 +315,7 @@ impl Files for MemFiles {
     fn give(&mut self, name: &str, d: MemDisk)
         requires { name_is_taken self.old name.now ≡ true }
         ensures script { files_script self.new ≡ files_script self.old }
+        ensures lists { SameAll (disk_failing self.old) (disk_failing self.new) }
         ensures starved { files_starved self.new ≡ files_starved self.old }
         ensures free { name_is_taken self.new name.now ≡ false }
         ensures taken_others { SameBut name.now (name_is_taken self.old) (name_is_taken self.new) }
@@ -320,6 +336,7 @@ impl Files for MemFiles {
         requires from_free { name_is_taken self.old from.now ≡ false }
         requires to_free { name_is_taken self.old to.now ≡ false }
         ensures fails { FailsExactly call.Rename (files_script self.old) (files_script self.new) (files_starved self.old) (files_starved self.new) result }
+        ensures lists { SameAll (disk_failing self.old) (disk_failing self.new) }
         ensures taken { SameAll (name_is_taken self.old) (name_is_taken self.new) }
         ensures to { OnOk result (held_at self.new to.now ≡ moved (held_at self.old from.now) (held_at self.old to.now)) }
         ensures from { OnOk result (held_at self.new from.now ≡ None) }
@@ -342,6 +359,7 @@ impl Files for MemFiles {
     fn remove(&mut self, name: &str) -> Result<(), FilesFault>
         requires { name_is_taken self.old name.now ≡ false }
         ensures fails { FailsExactly call.Remove (files_script self.old) (files_script self.new) (files_starved self.old) (files_starved self.new) result }
+        ensures lists { SameAll (disk_failing self.old) (disk_failing self.new) }
         ensures starved { files_starved self.new ≡ files_starved self.old }
         ensures taken { SameAll (name_is_taken self.old) (name_is_taken self.new) }
         ensures gone { OnOk result (held_at self.new name.now ≡ None) }
