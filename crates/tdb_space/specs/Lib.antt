@@ -1,3 +1,5 @@
+pub mod DiskState
+pub mod Frame
 pub mod Form
 pub mod Record
 pub mod Chain

@@ -2,6 +2,7 @@
 
 ghost use Rattle.std.specs.Prelude.{◌≡◌, [], ◌∷◌, true, IsOk, OnOk, OnErr};
 ghost use Rattle.tdb_disk.specs.History.{seen};
+ghost use Rattle.tdb_space.specs.DiskState.{disk_state};
 ghost use Rattle.tdb_space.specs.Form.{form_in};
 ghost use Rattle.tdb_space.specs.Spare.{without_bound, IsReady};
 
@@ -52,7 +53,7 @@ impl<'a, D: Disk> Space for Direct<'a, D> {
 
     ghost writes_through = { true };
 
-    ghost disk_history = { λ s. D.history s.disk.now };
+    ghost disk = { λ s. disk_state (D.history s.disk.now) (D.size s.disk.now) (D.syncs s.disk.now) };
 
     ghost under = { λ s. s.disk.ghost_name ∷ [] };
 
@@ -97,7 +98,8 @@ impl<'a, D: Disk> Space for Direct<'a, D> {
         ensures faults { D.faults self.new.disk.now ≡ D.faults self.old.disk.now }
         ensures bytes_read { D.bytes_read self.new.disk.now ≡ D.bytes_read self.old.disk.now }
         ensures kept { OnErr result (without_bound ≡ without_bound) }
-        ensures disk { D.history self.new.disk.now ≡ D.history self.old.disk.now }
+        ensures disk { disk_state (D.history self.new.disk.now) (D.size self.new.disk.now) (D.syncs self.new.disk.now)
+            ≡ disk_state (D.history self.old.disk.now) (D.size self.old.disk.now) (D.syncs self.old.disk.now) }
         ensures under { self.new.disk.ghost_name ∷ [] ≡ self.old.disk.ghost_name ∷ [] }
     {
         Ok(())

@@ -3,6 +3,7 @@
 ghost use Rattle.std.specs.Prelude.{◌≡◌, ◌+◌, ◌≤◌, ◌<◌, ◌^◌, IsTrue, length, take, drop, IfOk, OnOk, MatchBool};
 ghost use Rattle.tdb_disk.specs.Count.{HasCause, RoseUpTo};
 ghost use Rattle.tdb_words.specs.Record.{rec_at};
+ghost use Rattle.tdb_space.specs.Frame.{Looked};
 
 use crate::io::Io;
 use crate::space::Space;
@@ -12,14 +13,9 @@ use tdb_words::{Rec, rec_of};
 pub fn read_rec<S: Space>(s: &mut S, off: u64) -> Result<Rec, Io>
     requires { off + 24 ≤ S.size s.old }
     ensures header { IfOk result (λ r. IsTrue S.tells → r ≡ rec_at (S.form s.old).order (S.image s.old) off) }
-    ensures size { S.size s.new ≡ S.size s.old }
-    ensures image { S.image s.new ≡ S.image s.old }
-    ensures form { S.form s.new ≡ S.form s.old }
+    ensures looked { Looked S.Space s.old s.new }
     ensures cause { HasCause (S.faults s.old) (S.faults s.new) result }
     ensures bytes_read { RoseUpTo 24 (S.bytes_read s.old) (S.bytes_read s.new) }
-    ensures spare { S.spare s.new ≡ S.spare s.old }
-    ensures disk { S.disk_history s.new ≡ S.disk_history s.old }
-    ensures under { S.under s.new ≡ S.under s.old }
 {
     let mut bytes = [0u8; 24];
     s.read(off, &mut bytes)?;
@@ -40,14 +36,9 @@ fn piece_equals<S: Space>(
     requires short { length piece.now ≤ 4096 }
     ensures equal { IfOk result (λ same. IsTrue S.tells
         → MatchBool same (take (length piece.now) (drop off (S.image s.old)) ≡ piece.now) (take (length piece.now) (drop off (S.image s.old)) ≡ piece.now → ⊥)) }
-    ensures size { S.size s.new ≡ S.size s.old }
-    ensures image { S.image s.new ≡ S.image s.old }
-    ensures form { S.form s.new ≡ S.form s.old }
+    ensures looked { Looked S.Space s.old s.new }
     ensures cause { HasCause (S.faults s.old) (S.faults s.new) result }
     ensures bytes_read { RoseUpTo (length piece.now) (S.bytes_read s.old) (S.bytes_read s.new) }
-    ensures spare { S.spare s.new ≡ S.spare s.old }
-    ensures disk { S.disk_history s.new ≡ S.disk_history s.old }
-    ensures under { S.under s.new ≡ S.under s.old }
 {
     let read = &mut buf[..piece.len()];
     s.read(off, read)?;
@@ -61,14 +52,9 @@ pub fn key_equals<S: Space>(s: &mut S, off: u64, key: &[u8]) -> Result<bool, Io>
     requires small { off + length key.now < 2 ^ 64 }
     ensures equal { IfOk result (λ same. IsTrue S.tells
         → MatchBool same (take (length key.now) (drop off (S.image s.old)) ≡ key.now) (take (length key.now) (drop off (S.image s.old)) ≡ key.now → ⊥)) }
-    ensures size { S.size s.new ≡ S.size s.old }
-    ensures image { S.image s.new ≡ S.image s.old }
-    ensures form { S.form s.new ≡ S.form s.old }
+    ensures looked { Looked S.Space s.old s.new }
     ensures cause { HasCause (S.faults s.old) (S.faults s.new) result }
     ensures bytes_read { RoseUpTo (length key.now) (S.bytes_read s.old) (S.bytes_read s.new) }
-    ensures spare { S.spare s.new ≡ S.spare s.old }
-    ensures disk { S.disk_history s.new ≡ S.disk_history s.old }
-    ensures under { S.under s.new ≡ S.under s.old }
 {
     let mut buf = [0u8; PIECE];
     let mut done = 0;

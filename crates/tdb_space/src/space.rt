@@ -3,8 +3,8 @@
 ghost use Rattle.std.specs.Prelude.{◌≡◌, ◌+◌, ◌%◌, ◌≤◌, ◌⊎◌, ℕ, Bool, List, IsTrue, false, length, take, drop, IfOk, OnOk, OnErr, MatchResult};
 ghost use Rattle.tdb_disk.specs.Count.{HasCause, RoseUpTo};
 ghost use Rattle.tdb_disk.specs.Image.{overlay, padded};
-ghost use Rattle.tdb_disk.specs.History.{History};
 ghost use Rattle.tdb_disk.specs.Stop.{Torn};
+ghost use Rattle.tdb_space.specs.DiskState.{DiskState};
 ghost use Rattle.tdb_space.specs.Form.{Form};
 ghost use Rattle.tdb_space.specs.Spare.{Spare, RoomFor, RoomUpTo, spent, SpentUpTo, IsReady};
 
@@ -41,8 +41,8 @@ pub trait Space {
     /// Whether a write reaches the disk under it.
     ghost writes_through: { Bool };
 
-    /// The history of that disk. It says something of the disk only where `tells`.
-    ghost disk_history: { Self → History };
+    /// What the disk under it has come to.
+    ghost disk: { Self → DiskState };
 
     /// Which references it holds, by the names that proofs give them. They stay the same.
     ghost under: { Self → List ℕ };
@@ -56,7 +56,7 @@ pub trait Space {
         ensures cause { HasCause (faults self.old) (faults self.new) result }
         ensures bytes_read { bytes_read self.new ≡ bytes_read self.old }
         ensures spare { spare self.new ≡ spare self.old }
-        ensures disk { disk_history self.new ≡ disk_history self.old }
+        ensures disk { disk self.new ≡ disk self.old }
         ensures under { under self.new ≡ under self.old };
 
     /// The byte order of the words.
@@ -81,7 +81,7 @@ pub trait Space {
         ensures cause { HasCause (faults self.old) (faults self.new) result }
         ensures bytes_read { RoseUpTo (length buf.old) (bytes_read self.old) (bytes_read self.new) }
         ensures spare { spare self.new ≡ spare self.old }
-        ensures disk { disk_history self.new ≡ disk_history self.old }
+        ensures disk { disk self.new ≡ disk self.old }
         ensures under { under self.new ≡ under self.old };
 
     /// Writes `bytes` at offset `off`, over what is there. After a fault other bytes may stand in the range.
@@ -96,7 +96,7 @@ pub trait Space {
         ensures bytes_read { RoseUpTo (length bytes.now + 8192) (bytes_read self.old) (bytes_read self.new) }
         ensures spare { MatchResult result (λ _. spare self.new ≡ spent (spare self.old) (length bytes.now))
             (λ _. SpentUpTo (spare self.old) (length bytes.now) (spare self.new)) }
-        ensures disk { writes_through ≡ false → disk_history self.new ≡ disk_history self.old }
+        ensures disk { writes_through ≡ false → disk self.new ≡ disk self.old }
         ensures under { under self.new ≡ under self.old };
 
     /// Writes the four bytes of an aligned word. After a fault the word is old or new as a whole.
@@ -111,7 +111,7 @@ pub trait Space {
         ensures cause { HasCause (faults self.old) (faults self.new) result }
         ensures bytes_read { RoseUpTo (4 + 8192) (bytes_read self.old) (bytes_read self.new) }
         ensures spare { MatchResult result (λ _. spare self.new ≡ spent (spare self.old) 4) (λ _. SpentUpTo (spare self.old) 4 (spare self.new)) }
-        ensures disk { writes_through ≡ false → disk_history self.new ≡ disk_history self.old }
+        ensures disk { writes_through ≡ false → disk self.new ≡ disk self.old }
         ensures under { under self.new ≡ under self.old };
 
     /// Makes the file longer. The new bytes are zero.
@@ -126,7 +126,7 @@ pub trait Space {
         ensures cause { HasCause (faults self.old) (faults self.new) result }
         ensures bytes_read { bytes_read self.new ≡ bytes_read self.old }
         ensures spare { spare self.new ≡ spare self.old }
-        ensures disk { writes_through ≡ false → disk_history self.new ≡ disk_history self.old }
+        ensures disk { writes_through ≡ false → disk self.new ≡ disk self.old }
         ensures under { under self.new ≡ under self.old };
 
     /// Makes room: afterwards so many writes of so many bytes in all take no memory, nor do growths by up to a quarter of
@@ -139,7 +139,7 @@ pub trait Space {
         ensures faults { faults self.new ≡ faults self.old }
         ensures bytes_read { bytes_read self.new ≡ bytes_read self.old }
         ensures kept { OnErr result (spare self.new ≡ spare self.old) }
-        ensures disk { disk_history self.new ≡ disk_history self.old }
+        ensures disk { disk self.new ≡ disk self.old }
         ensures under { under self.new ≡ under self.old };
 
     /// Where the bytes are told, there are as many as the length says.
