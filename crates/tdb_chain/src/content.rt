@@ -1,12 +1,13 @@
 // What a record of a chain holds.
 
 ghost use Rattle.std.specs.Prelude.{◌≡◌, IsTrue, length, IfOk};
-ghost use Rattle.tdb_disk.specs.Count.{RoseUpTo};
+ghost use Rattle.tdb_disk.specs.Count.{HasCauseOf, RoseUpTo};
 ghost use Rattle.tdb_words.specs.declared.record.TheConstants.{USED};
 ghost use Rattle.tdb_words.specs.Record.{rec_at};
+ghost use Rattle.tdb_space.specs.Frame.{Looked};
 ghost use Rattle.tdb_space.specs.Record.{data_at};
 ghost use Rattle.tdb_chain.specs.Place.{StandsWithin};
-ghost use Rattle.tdb_chain.specs.Cause.{IoCause};
+ghost use Rattle.tdb_chain.specs.declared.refusal.ValueRefusal.TheVariants.{Io};
 
 use crate::place::Place;
 use crate::refusal::ValueRefusal;
@@ -22,14 +23,9 @@ pub fn value<S: Space>(alloc: Global, s: &mut S, p: &Place) -> Result<Bytes, Val
     ensures value { IfOk result (λ v. IsTrue S.tells → p.now.rec ≡ rec_at (S.form s.old).order (S.image s.old) p.now.off
         → v ≡ data_at (S.form s.old).order (S.image s.old) p.now.off) }
     ensures as_long { IfOk result (λ v. length v ≡ p.now.rec.data_len) }
-    ensures size { S.size s.new ≡ S.size s.old }
-    ensures image { S.image s.new ≡ S.image s.old }
-    ensures form { S.form s.new ≡ S.form s.old }
-    ensures cause { IoCause (S.faults s.old) (S.faults s.new) result }
+    ensures looked { Looked S.Space s.old s.new }
+    ensures cause { HasCauseOf Io (S.faults s.old) (S.faults s.new) result }
     ensures bytes_read { RoseUpTo p.now.rec.data_len (S.bytes_read s.old) (S.bytes_read s.new) }
-    ensures spare { S.spare s.new ≡ S.spare s.old }
-    ensures disk { S.disk_history s.new ≡ S.disk_history s.old }
-    ensures under { S.under s.new ≡ S.under s.old }
 {
     let mut bytes = vec![in alloc; 0u8; p.rec.data_len as usize]?;
     let off = p.off as u64 + 24 + p.rec.key_len as u64;

@@ -2,8 +2,8 @@
 
 ghost use Rattle.std.specs.Prelude.{◌≡◌, ◌+◌, ◌*◌, ◌^◌, ◌<◌, ◌≤◌, ◌↔◌, List, IsTrue, length, IfOk, IfSome, MatchBool};
 ghost use Rattle.tdb_disk.specs.Count.{HasCause, RoseUpTo};
-ghost use Rattle.tdb_words.specs.Word.{word};
 ghost use Rattle.tdb_words.specs.Hash.{h_of};
+ghost use Rattle.tdb_space.specs.Frame.{Looked};
 ghost use Rattle.tdb_space.specs.Form.{data_start, chain_head};
 ghost use Rattle.tdb_space.specs.Extents.{HandPair};
 ghost use Rattle.tdb_space.specs.Accepted.{AcceptWith};
@@ -11,40 +11,15 @@ ghost use Rattle.tdb_chain.specs.Place.{LiesWithin, StandsWithin, IsFound};
 ghost use Rattle.tdb_chain.specs.Wanted.{IsWanted};
 
 use crate::place::Place;
-use tdb_space::{Io, Space, key_equals, read_rec};
-use tdb_words::{Rec, USED, chain_of, hash_of, word_at};
-
-/// The word at an offset. It reads 4 bytes.
-fn read_word<S: Space>(s: &mut S, off: u64) -> Result<u32, Io>
-    requires { off + 4 ≤ S.size s.old }
-    ensures value { IfOk result (λ w. IsTrue S.tells → w ≡ word (S.form s.old).order (S.image s.old) off) }
-    ensures size { S.size s.new ≡ S.size s.old }
-    ensures image { S.image s.new ≡ S.image s.old }
-    ensures form { S.form s.new ≡ S.form s.old }
-    ensures cause { HasCause (S.faults s.old) (S.faults s.new) result }
-    ensures bytes_read { RoseUpTo 4 (S.bytes_read s.old) (S.bytes_read s.new) }
-    ensures spare { S.spare s.new ≡ S.spare s.old }
-    ensures disk { S.disk_history s.new ≡ S.disk_history s.old }
-    ensures under { S.under s.new ≡ S.under s.old }
-{
-    let mut bytes = [0u8; 4];
-    s.read(off, &mut bytes)?;
-    Ok(word_at(&bytes, s.order()))
-}
-
-/// The offset of the word that leads to the first record of a chain. The heads stand one behind the other from 172 on.
-fn head_of(chain: u32) -> u64
-    ensures { result ≡ chain_head chain }
-{
-    172 + 4 * chain as u64
-}
+use tdb_space::{Io, Space, chain_head, data_start, key_equals, read_rec, read_word};
+use tdb_words::{Rec, USED, chain_of, hash_of};
 
 /// Whether the header of a record can stand at an offset of a file of this length and of so many chains: it is behind the heads,
 /// and ends within the length.
 fn can_stand(at: u32, len: u64, chains: u32) -> bool
     ensures { IsTrue result ↔ ((chain_head chains ≤ at) × (at + 24 ≤ len)) }
 {
-    head_of(chains) <= at as u64 && at as u64 + 24 <= len
+    data_start(chains) <= at as u64 && at as u64 + 24 <= len
 }
 
 /// Whether the record at an offset ends within the length, and has room for what it holds where it is used.
@@ -62,14 +37,9 @@ fn is_wanted<S: Space>(s: &mut S, rec: &Rec, at: u32, hash: u32, key: &[u8]) -> 
     ensures wanted { IfOk result (λ wanted. IsTrue S.tells
         → MatchBool wanted (IsWanted rec.now hash (S.image s.old) at key.now) (IsWanted rec.now hash (S.image s.old) at key.now → ⊥)) }
     ensures used { IfOk result (λ wanted. IsTrue wanted → rec.now.magic ≡ USED) }
-    ensures size { S.size s.new ≡ S.size s.old }
-    ensures image { S.image s.new ≡ S.image s.old }
-    ensures form { S.form s.new ≡ S.form s.old }
+    ensures looked { Looked S.Space s.old s.new }
     ensures cause { HasCause (S.faults s.old) (S.faults s.new) result }
     ensures bytes_read { RoseUpTo (length key.now) (S.bytes_read s.old) (S.bytes_read s.new) }
-    ensures spare { S.spare s.new ≡ S.spare s.old }
-    ensures disk { S.disk_history s.new ≡ S.disk_history s.old }
-    ensures under { S.under s.new ≡ S.under s.old }
 {
     if rec.magic != USED || rec.full_hash != hash || rec.key_len as usize != key.len() {
         return Ok(false);
@@ -92,18 +62,13 @@ pub fn find<S: Space>(s: &mut S, key: &[u8]) -> Result<Option<Place>, Io>
     ensures within { IfOk result (λ found. IfSome found (λ p. StandsWithin p (S.size s.old))) }
     ensures behind { IfOk result (λ found. IfSome found (λ p. data_start (S.form s.old) ≤ p.off)) }
     ensures used { IfOk result (λ found. IfSome found (λ p. p.rec.magic ≡ USED)) }
-    ensures size { S.size s.new ≡ S.size s.old }
-    ensures image { S.image s.new ≡ S.image s.old }
-    ensures form { S.form s.new ≡ S.form s.old }
+    ensures looked { Looked S.Space s.old s.new }
     ensures cause { HasCause (S.faults s.old) (S.faults s.new) result }
     ensures bytes_read { S.bytes_read s.old ≤ S.bytes_read s.new }
-    ensures spare { S.spare s.new ≡ S.spare s.old }
-    ensures disk { S.disk_history s.new ≡ S.disk_history s.old }
-    ensures under { S.under s.new ≡ S.under s.old }
 {
     let len = s.len()?;
     let hash = hash_of(s.hash(), key);
-    let mut before = head_of(chain_of(hash, s.hash_size()));
+    let mut before = chain_head(chain_of(hash, s.hash_size()));
     if len < before + 4 {
         return Ok(None);
     }

@@ -1,6 +1,5 @@
 -- The growth of a file that has no free record long enough, and what is taken from the file then.
-use Rattle.std.specs.Prelude.{◌≡◌, ℕ, ◌+◌, ◌-◌, ◌*◌, ◌/◌, ◌%◌, ◌^◌, ◌<◌, ◌≤◌, max, nat_le, List, ◌∷◌, length, Option, None, Some, Result, IfErr, if◌then◌else◌}
-use Rattle.tdb_disk.specs.Count.{Rose}
+use Rattle.std.specs.Prelude.{◌≡◌, ℕ, ◌+◌, ◌-◌, ◌*◌, ◌/◌, ◌%◌, ◌^◌, ◌<◌, ◌≤◌, max, nat_le, List, ◌∷◌, length, Option, None, Some, if◌then◌else◌}
 use Rattle.tdb_disk.specs.Image.{padded}
 use Rattle.tdb_space.specs.Form.{Form, data_start}
 use Rattle.tdb_space.specs.Extents.{HandPair}
@@ -67,8 +66,3 @@ RefusedRightly f a b offs rec_len limit Io = Unit {0}
 abbrev pub SaysLengths : ℕ → ℕ → FreeRefusal → Type 0
 SaysLengths size rec_len (Full len need) = (len ≡ size) × (need ≡ 24 + rec_len)
 SaysLengths size rec_len Io = Unit {0}
-
--- the count of faults never falls, and rose where the answer is a fault of the disk
-pub record TakeCause {T : Type 0} (before now : ℕ) (answer : Result T FreeRefusal) : Type 0 where
-  pub never_falls : before ≤ now
-  pub failed : IfErr answer (λ e. e ≡ Io → Rose before now)

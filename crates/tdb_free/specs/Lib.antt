@@ -1,11 +1,8 @@
 pub mod FreeList
 pub mod SpareLeft
-pub mod Standing
 pub mod TakenFrom
 pub mod Shortened
-pub mod ListCause
 pub mod Removal
-pub mod Room
 pub mod Search
 pub mod Stretch
 pub mod Growth

@@ -6,7 +6,7 @@ use Rattle.tdb_space.specs.Record.{next_of, rec_len_of}
 use Rattle.tdb_space.specs.Chain.{Leads, without}
 use Rattle.tdb_space.specs.Extents.{HandPair}
 use Rattle.tdb_free.specs.FreeList.{free_pairs, without_first, is_long_enough, starts_at, ends_at}
-use Rattle.tdb_free.specs.Standing.{Stands}
+use Rattle.tdb_space.specs.Standing.{Stands}
 use Rattle.tdb_free.specs.declared.search.Wanted.{Wanted}
 use Rattle.tdb_free.specs.declared.search.Wanted.TheVariants.{StartsAt, EndsAt, LongEnough}
 use Rattle.tdb_free.specs.declared.search.Spot.{Spot}

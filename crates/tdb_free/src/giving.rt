@@ -2,6 +2,7 @@
 
 ghost use Rattle.std.specs.Prelude.{◌≡◌, ◌⊎◌, ◌∷◌, ◌+◌, ◌^◌, ◌<◌, ◌≤◌, IsTrue, IfErr, OnOk, List, ℕ, false};
 ghost use Rattle.tdb_disk.specs.Count.{HasCause};
+ghost use Rattle.tdb_space.specs.Frame.{Wrote};
 ghost use Rattle.tdb_space.specs.Form.{data_start};
 ghost use Rattle.tdb_space.specs.Spare.{RoomForAll};
 ghost use Rattle.tdb_space.specs.Extents.{HandPair, HandOk};
@@ -12,12 +13,12 @@ ghost use Rattle.tdb_free.specs.Stretch.{pair};
 ghost use Rattle.tdb_free.specs.declared.refusal.FreeRefusal.{FreeRefusal};
 ghost use Rattle.tdb_free.specs.declared.refusal.FreeRefusal.TheVariants.{Io};
 
-use crate::link_word::{FREE_HEAD, read_link, write_link};
+use crate::link_word::write_link;
 use crate::refusal::FreeRefusal;
 use crate::removal::take_out;
 use crate::search::Wanted;
 use crate::stretch::Stretch;
-use tdb_space::{Hand, Io as SpaceIo, Space};
+use tdb_space::{FREE_HEAD, Hand, Io as SpaceIo, Space, data_start, read_word};
 use tdb_words::{FREE, Rec, rec_bytes, word_bytes};
 
 /// Makes a stretch the first record of the free list. It writes the stretch's header and tailer, and the head of the list.
@@ -30,16 +31,14 @@ fn put_first<S: Space>(s: &mut S, free: &Stretch) -> Result<(), SpaceIo>
     ensures put { OnOk result (IsTrue S.tells → HandOk (S.form s.old) (S.image s.old) (pair free.now)
         → MadeFirst (S.form s.old) (S.image s.old) (S.image s.new) (pair free.now)) }
     ensures size { S.size s.new ≡ S.size s.old }
-    ensures form { S.form s.new ≡ S.form s.old }
+    ensures wrote { Wrote S.Space s.old s.new }
     ensures cause { HasCause (S.faults s.old) (S.faults s.new) result }
     ensures bytes_read { S.bytes_read s.old ≤ S.bytes_read s.new }
     ensures spare { LeavesRoom 3 32 (S.spare s.old) (S.spare s.new) }
-    ensures disk { S.writes_through ≡ false → S.disk_history s.new ≡ S.disk_history s.old }
-    ensures under { S.under s.new ≡ S.under s.old }
 {
     let order = s.order();
     let rec = Rec {
-        next: read_link(s, FREE_HEAD)?,
+        next: read_word(s, FREE_HEAD as u64)?,
         rec_len: free.rec_len,
         key_len: 0,
         data_len: 0,
@@ -64,12 +63,10 @@ fn give_stretch<S: Space>(s: &mut S, len: u64, free: Stretch) -> Result<(), Spac
     ensures given { OnOk result (IsTrue S.tells → (offs : List ℕ) → CanBeGiven (S.form s.old) (S.image s.old) offs (pair free)
         → Given (S.form s.old) (S.image s.old) (S.image s.new) offs (pair free)) }
     ensures size { S.size s.new ≡ S.size s.old }
-    ensures form { S.form s.new ≡ S.form s.old }
+    ensures wrote { Wrote S.Space s.old s.new }
     ensures cause { HasCause (S.faults s.old) (S.faults s.new) result }
     ensures bytes_read { S.bytes_read s.old ≤ S.bytes_read s.new }
     ensures spare { LeavesRoom 5 40 (S.spare s.old) (S.spare s.new) }
-    ensures disk { S.writes_through ≡ false → S.disk_history s.new ≡ S.disk_history s.old }
-    ensures under { S.under s.new ≡ S.under s.old }
 {
     let next = take_out(s, len, Wanted::StartsAt(free.end()))?;
     let joined = free.with_next(next);
@@ -92,12 +89,10 @@ pub fn give<S: Space>(s: &mut S, h: Hand) -> Result<(), FreeRefusal>
     ensures left_out { (h.0 < data_start (S.form s.old)) ⊎ (S.size s.old < end_of h) ⊎ (2 ^ 32 ≤ S.size s.old) → S.image s.new ≡ S.image s.old }
     ensures refusal { IfErr result (λ e. e ≡ Io) }
     ensures size { S.size s.new ≡ S.size s.old }
-    ensures form { S.form s.new ≡ S.form s.old }
+    ensures wrote { Wrote S.Space s.old s.new }
     ensures cause { HasCause (S.faults s.old) (S.faults s.new) result }
     ensures bytes_read { S.bytes_read s.old ≤ S.bytes_read s.new }
     ensures spare { LeavesRoom 5 40 (S.spare s.old) (S.spare s.new) }
-    ensures disk { S.writes_through ≡ false → S.disk_history s.new ≡ S.disk_history s.old }
-    ensures under { S.under s.new ≡ S.under s.old }
 {
     let free = Stretch {
         off: h.off(),
@@ -105,8 +100,7 @@ pub fn give<S: Space>(s: &mut S, h: Hand) -> Result<(), FreeRefusal>
     };
     h.end();
     let len = s.len()?;
-    let start = 168 + 4 * (s.hash_size() as u64 + 1);
-    if (free.off as u64) < start || len < free.end() || len > u32::MAX as u64 {
+    if (free.off as u64) < data_start(s.hash_size()) || len < free.end() || len > u32::MAX as u64 {
         return Ok(());
     }
     Ok(give_stretch(s, len, free)?)

@@ -1,13 +1,14 @@
 // Taking a record from the free list, or from what the file grows by.
 
 ghost use Rattle.std.specs.Prelude.{◌≡◌, ◌⊎◌, ◌+◌, ◌-◌, ◌*◌, ◌/◌, ◌%◌, ◌^◌, ◌<◌, ◌≤◌, IsTrue, IfOk, IfErr, IfSome, OnOk, List, ℕ, Some, false};
-ghost use Rattle.tdb_disk.specs.Count.{HasCause};
+ghost use Rattle.tdb_disk.specs.Count.{HasCause, HasCauseOf};
 ghost use Rattle.tdb_disk.specs.Image.{padded};
+ghost use Rattle.tdb_space.specs.Frame.{Wrote};
 ghost use Rattle.tdb_space.specs.Spare.{RoomForAll, RoomUpTo};
 ghost use Rattle.tdb_free.specs.FreeList.{Given};
 ghost use Rattle.tdb_free.specs.SpareLeft.{LeavesRoom};
-ghost use Rattle.tdb_free.specs.Standing.{Stands};
-ghost use Rattle.tdb_free.specs.Growth.{grown_length, grown_hand, CanBeTaken, TakenBy, RefusedRightly, SaysLengths, TakeCause};
+ghost use Rattle.tdb_space.specs.Standing.{Stands};
+ghost use Rattle.tdb_free.specs.Growth.{grown_length, grown_hand, CanBeTaken, TakenBy, RefusedRightly, SaysLengths};
 ghost use Rattle.tdb_free.specs.declared.refusal.FreeRefusal.{FreeRefusal};
 ghost use Rattle.tdb_free.specs.declared.refusal.FreeRefusal.TheVariants.{Io};
 
@@ -53,12 +54,10 @@ fn grow_by<S: Space>(s: &mut S, len: u64, to: u64) -> Result<(), FreeRefusal>
     ensures refusal { IfErr result (λ e. e ≡ Io) }
     ensures size { (S.size s.new ≡ S.size s.old) ⊎ (S.size s.new ≡ to) }
     ensures grown { OnOk result (S.size s.new ≡ to) }
-    ensures form { S.form s.new ≡ S.form s.old }
+    ensures wrote { Wrote S.Space s.old s.new }
     ensures cause { HasCause (S.faults s.old) (S.faults s.new) result }
     ensures bytes_read { S.bytes_read s.old ≤ S.bytes_read s.new }
     ensures spare { LeavesRoom 5 40 (S.spare s.old) (S.spare s.new) }
-    ensures disk { S.writes_through ≡ false → S.disk_history s.new ≡ S.disk_history s.old }
-    ensures under { S.under s.new ≡ S.under s.old }
 {
     s.grow(to)?;
     give(s, Hand::new(len as u32, (to - len - 24) as u32))
@@ -86,12 +85,10 @@ pub fn take<S: Space>(s: &mut S, rec_len: u64, limit: u64) -> Result<Hand, FreeR
     ensures stands { IfOk result (λ h. Stands (S.form s.old) (S.size s.new) h.0 h.1) }
     ensures long { IfOk result (λ h. rec_len ≤ h.1) }
     ensures size { (S.size s.new ≡ S.size s.old) ⊎ (grown_length (S.size s.old) (24 + rec_len) limit ≡ Some (S.size s.new)) }
-    ensures form { S.form s.new ≡ S.form s.old }
-    ensures cause { TakeCause (S.faults s.old) (S.faults s.new) result }
+    ensures wrote { Wrote S.Space s.old s.new }
+    ensures cause { HasCauseOf Io (S.faults s.old) (S.faults s.new) result }
     ensures bytes_read { S.bytes_read s.old ≤ S.bytes_read s.new }
     ensures spare { LeavesRoom 9 88 (S.spare s.old) (S.spare s.new) }
-    ensures disk { S.writes_through ≡ false → S.disk_history s.new ≡ S.disk_history s.old }
-    ensures under { S.under s.new ≡ S.under s.old }
 {
     if let Some(hand) = take_fit(s, rec_len)? {
         return Ok(hand);

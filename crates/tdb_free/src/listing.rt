@@ -1,17 +1,19 @@
 // The list of the free records of a file.
 
 ghost use Rattle.std.specs.Prelude.{◌≡◌, ◌≤◌, IsTrue, List, ℕ, IfOk};
+ghost use Rattle.tdb_disk.specs.Count.{HasCauseOf};
 ghost use Rattle.tdb_words.specs.Word.{word};
+ghost use Rattle.tdb_space.specs.Frame.{Looked};
 ghost use Rattle.tdb_space.specs.Form.{free_head};
 ghost use Rattle.tdb_space.specs.Chain.{Free};
 ghost use Rattle.tdb_free.specs.FreeList.{free_pairs};
-ghost use Rattle.tdb_free.specs.ListCause.{IoCause};
+ghost use Rattle.tdb_free.specs.declared.list_refusal.ListRefusal.TheVariants.{Io};
 
 use crate::free_recs::FreeRecs;
 use crate::list_refusal::ListRefusal;
-use crate::record::{first_free, read_free};
+use crate::record::first_free;
 use std::alloc::Global;
-use tdb_space::Space;
+use tdb_space::{Space, read_listed};
 
 /// The free records of a file from the head of the free list on. `Memory` where that is wanting, and `Io` where the disk failed.
 ///
@@ -21,20 +23,15 @@ pub fn list<S: Space>(alloc: Global, s: &mut S) -> Result<FreeRecs, ListRefusal>
     ensures listed { IfOk result (λ records. IsTrue S.tells → (offs : List ℕ)
         → Free (S.form s.old) (S.image s.old) (word (S.form s.old).order (S.image s.old) free_head) offs
         → records ≡ free_pairs (S.form s.old) (S.image s.old) offs) }
-    ensures size { S.size s.new ≡ S.size s.old }
-    ensures image { S.image s.new ≡ S.image s.old }
-    ensures form { S.form s.new ≡ S.form s.old }
-    ensures cause { IoCause (S.faults s.old) (S.faults s.new) result }
+    ensures looked { Looked S.Space s.old s.new }
+    ensures cause { HasCauseOf Io (S.faults s.old) (S.faults s.new) result }
     ensures bytes_read { S.bytes_read s.old ≤ S.bytes_read s.new }
-    ensures spare { S.spare s.new ≡ S.spare s.old }
-    ensures disk { S.disk_history s.new ≡ S.disk_history s.old }
-    ensures under { S.under s.new ≡ S.under s.old }
 {
     let len = s.len()?;
     let mut records = FreeRecs::new(alloc);
     let mut at = first_free(s, len)?;
     for _turn in 0..len / 4 {
-        let Some(rec) = read_free(s, len, at)? else {
+        let Some(rec) = read_listed(s, len, at)? else {
             return Ok(records);
         };
         records.push((at, rec.rec_len))?;

@@ -2,6 +2,7 @@
 
 ghost use Rattle.std.specs.Prelude.{◌≡◌, ◌+◌, ◌^◌, ◌<◌, ◌≤◌, IsTrue, IfOk, IfSome, List, ℕ, false};
 ghost use Rattle.tdb_disk.specs.Count.{HasCause};
+ghost use Rattle.tdb_space.specs.Frame.{Wrote};
 ghost use Rattle.tdb_space.specs.Form.{data_start};
 ghost use Rattle.tdb_space.specs.Spare.{RoomForAll};
 ghost use Rattle.tdb_free.specs.FreeList.{ListedOnce, end_of};
@@ -26,12 +27,10 @@ pub(crate) fn take_out<S: Space>(s: &mut S, len: u64, wanted: Wanted) -> Result<
     ensures within { IfOk result (λ found. IfSome found (λ p. end_of (pair p) ≤ S.size s.old)) }
     ensures met { IfOk result (λ found. IfSome found (λ p. IsTrue (is_wanted wanted (pair p)))) }
     ensures size { S.size s.new ≡ S.size s.old }
-    ensures form { S.form s.new ≡ S.form s.old }
+    ensures wrote { Wrote S.Space s.old s.new }
     ensures cause { HasCause (S.faults s.old) (S.faults s.new) result }
     ensures bytes_read { S.bytes_read s.old ≤ S.bytes_read s.new }
     ensures spare { LeavesRoom 1 4 (S.spare s.old) (S.spare s.new) }
-    ensures disk { S.writes_through ≡ false → S.disk_history s.new ≡ S.disk_history s.old }
-    ensures under { S.under s.new ≡ S.under s.old }
 {
     let Some(spot) = find_spot(s, len, wanted)? else {
         return Ok(None);

@@ -3,13 +3,13 @@
 ghost use Rattle.std.specs.Prelude.{◌≡◌, ◌≤◌, IsTrue, IfOk, IfSome, List, ℕ};
 ghost use Rattle.tdb_disk.specs.Count.{HasCause};
 ghost use Rattle.tdb_words.specs.Word.{word};
+ghost use Rattle.tdb_space.specs.Frame.{Looked};
 ghost use Rattle.tdb_space.specs.Form.{free_head};
 ghost use Rattle.tdb_space.specs.Chain.{Free};
 ghost use Rattle.tdb_free.specs.Search.{is_wanted, IsSpot, SpotWithin};
 
-use crate::link_word::FREE_HEAD;
-use crate::record::{first_free, read_free};
-use tdb_space::{Io, Space};
+use crate::record::first_free;
+use tdb_space::{FREE_HEAD, Io, Space, read_listed};
 
 /// Which free record is wanted. Places are in bytes from the start of the file.
 #[derive(Clone, Copy, Debug, PartialEq, Eq)]
@@ -65,19 +65,14 @@ pub(crate) fn find_spot<S: Space>(s: &mut S, len: u64, wanted: Wanted) -> Result
         → IsSpot (S.form s.old) (S.image s.old) offs (is_wanted wanted) found) }
     ensures within { IfOk result (λ found. IfSome found (λ p. SpotWithin p (S.form s.old) (S.size s.old))) }
     ensures met { IfOk result (λ found. IfSome found (λ p. IsTrue (is_wanted wanted (p.off, p.rec_len)))) }
-    ensures size { S.size s.new ≡ S.size s.old }
-    ensures image { S.image s.new ≡ S.image s.old }
-    ensures form { S.form s.new ≡ S.form s.old }
+    ensures looked { Looked S.Space s.old s.new }
     ensures cause { HasCause (S.faults s.old) (S.faults s.new) result }
     ensures bytes_read { S.bytes_read s.old ≤ S.bytes_read s.new }
-    ensures spare { S.spare s.new ≡ S.spare s.old }
-    ensures disk { S.disk_history s.new ≡ S.disk_history s.old }
-    ensures under { S.under s.new ≡ S.under s.old }
 {
     let mut before = FREE_HEAD;
     let mut at = first_free(s, len)?;
     for _turn in 0..len / 4 {
-        let Some(rec) = read_free(s, len, at)? else {
+        let Some(rec) = read_listed(s, len, at)? else {
             return Ok(None);
         };
         if wanted.is_wanted(at, rec.rec_len) {

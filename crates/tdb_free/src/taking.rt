@@ -2,6 +2,7 @@
 
 ghost use Rattle.std.specs.Prelude.{◌≡◌, ◌+◌, ◌-◌, ◌%◌, ◌^◌, ◌<◌, ◌≤◌, IsTrue, List, ℕ, length, IfOk, OnOk, IfSome, false};
 ghost use Rattle.tdb_disk.specs.Count.{HasCause};
+ghost use Rattle.tdb_space.specs.Frame.{Wrote};
 ghost use Rattle.tdb_space.specs.Record.{next_of};
 ghost use Rattle.tdb_space.specs.Extents.{HandPair};
 ghost use Rattle.tdb_space.specs.Accepted.{AcceptWith};
@@ -9,7 +10,7 @@ ghost use Rattle.tdb_space.specs.Exchange.{LedPast};
 ghost use Rattle.tdb_space.specs.Spare.{RoomFor, RoomForAll};
 ghost use Rattle.tdb_free.specs.FreeList.{ListedOnce, is_long_enough};
 ghost use Rattle.tdb_free.specs.SpareLeft.{LeavesRoom};
-ghost use Rattle.tdb_free.specs.Standing.{Stands};
+ghost use Rattle.tdb_space.specs.Standing.{Stands};
 ghost use Rattle.tdb_free.specs.Search.{IsFirst};
 ghost use Rattle.tdb_free.specs.TakenFrom.{TakenFrom, TakenKept, IsTaken};
 ghost use Rattle.tdb_free.specs.Shortened.{Shortened};
@@ -31,12 +32,10 @@ fn take_whole<S: Space>(s: &mut S, spot: &Spot) -> Result<Hand, Io>
     ensures past { OnOk result (IsTrue S.tells → spot.now.next ≡ next_of (S.form s.old).order (S.image s.old) spot.now.off
         → LedPast (S.form s.old) (S.image s.old) (S.image s.new) spot.now.before spot.now.off) }
     ensures size { S.size s.new ≡ S.size s.old }
-    ensures form { S.form s.new ≡ S.form s.old }
+    ensures wrote { Wrote S.Space s.old s.new }
     ensures cause { HasCause (S.faults s.old) (S.faults s.new) result }
     ensures bytes_read { S.bytes_read s.old ≤ S.bytes_read s.new }
     ensures spare { LeavesRoom 1 4 (S.spare s.old) (S.spare s.new) }
-    ensures disk { S.writes_through ≡ false → S.disk_history s.new ≡ S.disk_history s.old }
-    ensures under { S.under s.new ≡ S.under s.old }
 {
     write_link(s, spot.before, spot.next)?;
     Ok(Hand::new(spot.off, spot.rec_len))
@@ -52,12 +51,10 @@ fn shorten<S: Space>(s: &mut S, spot: &Spot, rec_len: u32) -> Result<(), Io>
     requires room { RoomForAll (S.spare s.old) 2 24 }
     ensures shortened { OnOk result (IsTrue S.tells → Shortened (S.form s.old) (S.image s.old) (S.image s.new) spot.now.off rec_len) }
     ensures size { S.size s.new ≡ S.size s.old }
-    ensures form { S.form s.new ≡ S.form s.old }
+    ensures wrote { Wrote S.Space s.old s.new }
     ensures cause { HasCause (S.faults s.old) (S.faults s.new) result }
     ensures bytes_read { S.bytes_read s.old ≤ S.bytes_read s.new }
     ensures spare { LeavesRoom 2 24 (S.spare s.old) (S.spare s.new) }
-    ensures disk { S.writes_through ≡ false → S.disk_history s.new ≡ S.disk_history s.old }
-    ensures under { S.under s.new ≡ S.under s.old }
 {
     let order = s.order();
     let rec = Rec {
@@ -87,12 +84,10 @@ fn take_end<S: Space>(s: &mut S, spot: &Spot, rec_len: u32) -> Result<Hand, Io>
     ensures hand { IfOk result (λ h. h ≡ (spot.now.off + spot.now.rec_len - rec_len, rec_len)) }
     ensures shortened { OnOk result (IsTrue S.tells → Shortened (S.form s.old) (S.image s.old) (S.image s.new) spot.now.off (spot.now.rec_len - (24 + rec_len))) }
     ensures size { S.size s.new ≡ S.size s.old }
-    ensures form { S.form s.new ≡ S.form s.old }
+    ensures wrote { Wrote S.Space s.old s.new }
     ensures cause { HasCause (S.faults s.old) (S.faults s.new) result }
     ensures bytes_read { S.bytes_read s.old ≤ S.bytes_read s.new }
     ensures spare { LeavesRoom 2 24 (S.spare s.old) (S.spare s.new) }
-    ensures disk { S.writes_through ≡ false → S.disk_history s.new ≡ S.disk_history s.old }
-    ensures under { S.under s.new ≡ S.under s.old }
 {
     shorten(s, spot, spot.rec_len - (24 + rec_len))?;
     Ok(Hand::new(spot.off + (spot.rec_len - rec_len), rec_len))
@@ -113,12 +108,10 @@ fn take_from<S: Space>(s: &mut S, spot: &Spot, rec_len: u32) -> Result<Hand, Io>
     ensures stands { IfOk result (λ h. Stands (S.form s.old) (S.size s.old) h.0 h.1) }
     ensures long { IfOk result (λ h. rec_len ≤ h.1) }
     ensures size { S.size s.new ≡ S.size s.old }
-    ensures form { S.form s.new ≡ S.form s.old }
+    ensures wrote { Wrote S.Space s.old s.new }
     ensures cause { HasCause (S.faults s.old) (S.faults s.new) result }
     ensures bytes_read { S.bytes_read s.old ≤ S.bytes_read s.new }
     ensures spare { LeavesRoom 2 24 (S.spare s.old) (S.spare s.new) }
-    ensures disk { S.writes_through ≡ false → S.disk_history s.new ≡ S.disk_history s.old }
-    ensures under { S.under s.new ≡ S.under s.old }
 {
     if spot.rec_len - rec_len < LEAST_LEFT {
         take_whole(s, spot)
@@ -145,12 +138,10 @@ pub fn take_fit<S: Space>(s: &mut S, rec_len: u64) -> Result<Option<Hand>, Io>
     ensures stands { IfOk result (λ taken. IfSome taken (λ h. Stands (S.form s.old) (S.size s.old) h.0 h.1)) }
     ensures long { IfOk result (λ taken. IfSome taken (λ h. rec_len ≤ h.1)) }
     ensures size { S.size s.new ≡ S.size s.old }
-    ensures form { S.form s.new ≡ S.form s.old }
+    ensures wrote { Wrote S.Space s.old s.new }
     ensures cause { HasCause (S.faults s.old) (S.faults s.new) result }
     ensures bytes_read { S.bytes_read s.old ≤ S.bytes_read s.new }
     ensures spare { LeavesRoom 2 24 (S.spare s.old) (S.spare s.new) }
-    ensures disk { S.writes_through ≡ false → S.disk_history s.new ≡ S.disk_history s.old }
-    ensures under { S.under s.new ≡ S.under s.old }
 {
     let len = s.len()?;
     let Some(spot) = find_spot(s, len, Wanted::LongEnough(rec_len))? else {

@@ -2,7 +2,6 @@
 
 use crate::giving::give;
 use crate::refusal::FreeRefusal;
-use crate::room::rec_len_for;
 use std::alloc::{AllocError, Global};
 use std::test::Fail;
 use tdb_disk::{Call, MemDisk};
@@ -121,20 +120,6 @@ fn hands_faults_on(rt: HostRuntime) -> Result<(), Fail> {
             let answer = give(&mut Direct::new(&mut disk, &HEADER), Hand::new(208, 8));
             assert_eq!(rt; answer, Err(FreeRefusal::Io), "at {nth}");
         }
-    }
-    Ok(())
-}
-
-#[test]
-fn rounds_the_room_up(rt: HostRuntime) -> Result<(), Fail> {
-    for (key_len, value_len, want) in [
-        (0, 0, 4),
-        (1, 0, 8),
-        (3, 5, 16),
-        (8, 9, 28),
-        (100, 300, 504),
-    ] {
-        assert_eq!(rt; rec_len_for(key_len, value_len), want);
     }
     Ok(())
 }

@@ -11,3 +11,5 @@ pub mod Spare
 pub mod Exchange
 pub mod Opening
 pub mod Sequence
+pub mod Standing
+pub mod NewRecord

@@ -5,11 +5,14 @@ mod direct;
 mod first_fault;
 mod hand;
 mod io;
+mod layout;
+mod new_record;
 mod opening;
 mod plain;
 mod reads;
 mod sequence_number;
 mod space;
+mod standing;
 #[cfg(test)]
 mod tests;
 #[cfg(test)]
@@ -19,8 +22,11 @@ pub use crate::direct::Direct;
 pub use crate::first_fault::first_fault_law;
 pub use crate::hand::Hand;
 pub use crate::io::Io;
+pub use crate::layout::{FREE_HEAD, chain_head, data_start};
+pub use crate::new_record::{fill_record, new_rec, rec_len_for, record_bytes};
 pub use crate::opening::opening_law;
 pub use crate::plain::{KeyValue, chain_offsets, pairs_in_order, record_at};
-pub use crate::reads::{key_equals, read_rec};
+pub use crate::reads::{key_equals, read_rec, read_word};
 pub use crate::sequence_number::sequence_law;
 pub use crate::space::Space;
+pub use crate::standing::{content_stands, header_stands, read_listed};

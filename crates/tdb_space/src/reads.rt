@@ -1,13 +1,27 @@
-// What is read of a view: the header of a record, and whether a key stands at an offset.
+// What is read of a view: a word, the header of a record, and whether a key stands at an offset.
 
 ghost use Rattle.std.specs.Prelude.{◌≡◌, ◌+◌, ◌≤◌, ◌<◌, ◌^◌, IsTrue, length, take, drop, IfOk, OnOk, MatchBool};
 ghost use Rattle.tdb_disk.specs.Count.{HasCause, RoseUpTo};
 ghost use Rattle.tdb_words.specs.Record.{rec_at};
+ghost use Rattle.tdb_words.specs.Word.{word};
 ghost use Rattle.tdb_space.specs.Frame.{Looked};
 
 use crate::io::Io;
 use crate::space::Space;
-use tdb_words::{Rec, rec_of};
+use tdb_words::{Rec, rec_of, word_at};
+
+/// The word at an offset. It reads 4 bytes.
+pub fn read_word<S: Space>(s: &mut S, off: u64) -> Result<u32, Io>
+    requires { off + 4 ≤ S.size s.old }
+    ensures value { IfOk result (λ w. IsTrue S.tells → w ≡ word (S.form s.old).order (S.image s.old) off) }
+    ensures looked { Looked S.Space s.old s.new }
+    ensures cause { HasCause (S.faults s.old) (S.faults s.new) result }
+    ensures bytes_read { RoseUpTo 4 (S.bytes_read s.old) (S.bytes_read s.new) }
+{
+    let mut bytes = [0u8; 4];
+    s.read(off, &mut bytes)?;
+    Ok(word_at(&bytes, s.order()))
+}
 
 /// The header of the record at an offset. It reads 24 bytes, at once.
 pub fn read_rec<S: Space>(s: &mut S, off: u64) -> Result<Rec, Io>

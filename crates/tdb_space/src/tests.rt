@@ -2,6 +2,7 @@
 
 ghost use Rattle.std.specs.Prelude.{◌≡◌};
 
+use crate::new_record::rec_len_for;
 use crate::plain::{chain_offsets, pairs_in_order, record_at};
 use std::alloc::{AllocError, Global};
 use std::test::Fail;
@@ -146,6 +147,20 @@ fn reads_a_chain_in_big_order(rt: HostRuntime) -> Result<(), Fail> {
             }
             _ => return Err("pairs where none are, or none where they are".into()),
         }
+    }
+    Ok(())
+}
+
+#[test]
+fn rounds_the_room_up(rt: HostRuntime) -> Result<(), Fail> {
+    for (key_len, value_len, want) in [
+        (0, 0, 4),
+        (1, 0, 8),
+        (3, 5, 16),
+        (8, 9, 28),
+        (100, 300, 504),
+    ] {
+        assert_eq!(rt; rec_len_for(key_len, value_len), want);
     }
     Ok(())
 }

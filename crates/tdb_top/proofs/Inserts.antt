@@ -10,7 +10,8 @@ use Rattle.tdb_words.specs.Record.{bytes_of_rec}
 use Rattle.tdb_words.specs.Word.{bytes_of_word}
 use Rattle.tdb_space.specs.Form.{form_of, form_in, chain_head}
 use Rattle.tdb_space.specs.Pairs.{home}
-use Rattle.tdb_top.specs.Insert.{rec_len_for, need_for, first_of, new_rec, record_bytes, led_to, inserted, BrokenOff}
+use Rattle.tdb_space.specs.NewRecord.{rec_len_for, new_rec, record_bytes}
+use Rattle.tdb_top.specs.Insert.{need_for, first_of, led_to, inserted, BrokenOff}
 use Rattle.tdb_top.proofs.Added.{rec_length, parts_length}
 use Rattle.tdb_top.proofs.AtEnd.{word_length}
 

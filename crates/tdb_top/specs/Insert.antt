@@ -12,19 +12,11 @@ use Rattle.tdb_words.specs.Word.{word, bytes_of_word}
 use Rattle.tdb_words.specs.Record.{bytes_of_rec}
 use Rattle.tdb_words.specs.Hash.{h_of}
 use Rattle.tdb_space.specs.Form.{Form, form_of, chain_head}
+use Rattle.tdb_space.specs.NewRecord.{rec_len_for, new_rec, record_bytes}
 use Rattle.tdb_space.specs.Pairs.{home, map_of, same_key}
 use Rattle.tdb_space.specs.Accepted.{Accept}
 use Rattle.tdb_top.specs.declared.insert.Inserted.{Inserted}
 use Rattle.tdb_top.specs.declared.insert.Inserted.TheVariants.{Done, Exists, Full}
-
--- a number, rounded up to whole words
-abbrev pub whole_words : ℕ → ℕ
-whole_words n = (n + 3) / 4 * 4
-
--- The rec_len of a new record, from the lengths of its key and its value: room for both, a quarter as much again to grow, and
--- the tailer, in whole words
-abbrev pub rec_len_for : ℕ → ℕ → ℕ
-rec_len_for key_len value_len = let sum = key_len + value_len in whole_words (sum + sum / 4 + 4)
 
 -- how many bytes a new record takes, with its header
 abbrev pub need_for : List ℕ → List ℕ → ℕ
@@ -33,22 +25,6 @@ need_for key value = 24 + rec_len_for (length key) (length value)
 -- where the chain of a key begins
 abbrev pub first_of : Form → List ℕ → List ℕ → ℕ
 first_of f img key = word f.order img (chain_head (home f key))
-
--- the header of a new record: used, filed by the hash of its key, and leading to what was the first of the key's chain
-abbrev pub new_rec : Form → ℕ → List ℕ → List ℕ → Rec
-new_rec f first key value = record {
-  next = first;
-  rec_len = rec_len_for (length key) (length value);
-  key_len = length key;
-  data_len = length value;
-  full_hash = h_of f.hash key;
-  magic = USED;
-}
-
--- the bytes of a record: its header, the key, the value, padding bytes, and the tailer, which is the length of all of it
-abbrev pub record_bytes : Order → Rec → List ℕ → List ℕ → List ℕ
-record_bytes o r key value =
-    bytes_of_rec o r ++ key ++ value ++ replicate (r.rec_len - (length key + length value + 4)) PADDING ++ bytes_of_word o (24 + r.rec_len)
 
 -- an image with more bytes behind its end, to which the word at this offset leads
 abbrev pub led_to : Order → List ℕ → ℕ → List ℕ → List ℕ

@@ -22,19 +22,14 @@ loop-turn-init g c = record {
       let hash : c.hash_of-hash.result ≡ h_of f.hash key = c.hash_of-hash.ensures ∙ ap (λ kind. h_of kind key) (c.hash.ensures ∙ ap (λ x. x.hash) c.len.ensures.form) in
       let chains : c.hash_size.result ≡ f.chains = c.hash_size.ensures ∙ ap (λ x. x.chains) c.len.ensures.form in
       let chain : c.chain_of.result ≡ home f key = c.chain_of.ensures ∙ (λ j. hash j % chains j) in
-      let head : c.head_of-before.result ≡ chain_head (home f key) = c.head_of-before.ensures ∙ ap chain_head chain in
-      let first : c.in_ok-at.at ≡ word f.order img c.head_of-before.result = c.in_ok-at.ensures.value told ∙ (λ j. word (c.len.ensures.form j).order (c.len.ensures.image j) c.head_of-before.result) in
-      walked_start f img key c.head_of-before.result c.in_ok-at.at filed head first);
+      let head : c.chain_head-before.result ≡ chain_head (home f key) = c.chain_head-before.ensures ∙ ap chain_head chain in
+      let first : c.in_ok-at.at ≡ word f.order img c.chain_head-before.result = c.in_ok-at.ensures.value told ∙ (λ j. word (c.len.ensures.form j).order (c.len.ensures.image j) c.chain_head-before.result) in
+      walked_start f img key c.chain_head-before.result c.in_ok-at.at filed head first);
   led = search rules;
   short = search rules;
-  size = search rules;
-  image = search rules;
-  form = search rules;
+  looked = search rules;
   faults = search rules;
   bytes_read = search rules;
-  spare = search rules;
-  disk = search rules;
-  under = search rules;
 }
 
 -- no record can stand there
@@ -44,7 +39,7 @@ returns-then-not-can_stand-clause-found g c told hands accepted =
     let img = g.S.Space.image c.args.s.now in
     let v = c.loop-turn.invariant in
     let long = g.met.S.Space.told_size c.args.s.now told in
-    let chains : c.hash_size-in-loop-turn.result ≡ f.chains = c.hash_size-in-loop-turn.ensures ∙ ap (λ x. x.chains) v.form in
+    let chains : c.hash_size-in-loop-turn.result ≡ f.chains = c.hash_size-in-loop-turn.ensures ∙ ap (λ x. x.chains) v.looked.form in
     walked_out f img c.args.key.now c.loop-turn._turn c.loop-turn.before c.loop-turn.at (v.walked told (accepted_filed f img hands accepted))
     (λ above within. false≢true (sym c.if-not-can_stand.true ∙ c.can_stand.ensures.1 (omega (arith, above, chains), omega (arith, within, long, c.in_ok-len.ensures.length))))
 
@@ -55,7 +50,7 @@ returns-then-not-lies_within-clause-found g c told hands accepted =
     let img = g.S.Space.image c.args.s.now in
     let v = c.loop-turn.invariant in
     let len : length img ≡ c.in_ok-len.len = g.met.S.Space.told_size c.args.s.now told ∙ sym c.in_ok-len.ensures.length in
-    let read : c.in_ok-rec.rec ≡ rec_at f.order img c.loop-turn.at = c.in_ok-rec.ensures.header told ∙ (λ j. rec_at (v.form j).order (v.image j) c.loop-turn.at) in
+    let read : c.in_ok-rec.rec ≡ rec_at f.order img c.loop-turn.at = c.in_ok-rec.ensures.header told ∙ (λ j. rec_at (v.looked.form j).order (v.looked.image j) c.loop-turn.at) in
     walked_long f img c.args.key.now c.loop-turn._turn c.loop-turn.before c.loop-turn.at (v.walked told (accepted_filed f img hands accepted)) c.in_ok-rec.rec read
     (λ lies. MatchBool-at_false (LiesWithin c.in_ok-rec.rec c.loop-turn.at c.in_ok-len.len) (LiesWithin c.in_ok-rec.rec c.loop-turn.at c.in_ok-len.len → ⊥) c.if-not-lies_within.true c.lies_within.ensures (subst (LiesWithin c.in_ok-rec.rec c.loop-turn.at) len lies))
 
@@ -68,11 +63,11 @@ returns-then-branch-clause-found g c told hands accepted =
     let at = c.loop-turn.at in
     let rec = c.in_ok-rec.rec in
     let v = c.loop-turn.invariant in
-    let chains : c.hash_size-in-loop-turn.result ≡ f.chains = c.hash_size-in-loop-turn.ensures ∙ ap (λ x. x.chains) v.form in
+    let chains : c.hash_size-in-loop-turn.result ≡ f.chains = c.hash_size-in-loop-turn.ensures ∙ ap (λ x. x.chains) v.looked.form in
     let stands = c.can_stand.ensures.0 c.if-not-can_stand.false in
-    let read : rec ≡ rec_at f.order img at = c.in_ok-rec.ensures.header told ∙ (λ j. rec_at (v.form j).order (v.image j) at) in
+    let read : rec ≡ rec_at f.order img at = c.in_ok-rec.ensures.header told ∙ (λ j. rec_at (v.looked.form j).order (v.looked.image j) at) in
     let now = g.S.Space.image c.read_rec.new.s in
-    let wanted = subst (λ i. IsWanted rec c.hash_of-hash.result i at key) (c.read_rec.ensures.image ∙ v.image) (MatchBool-at_true (IsWanted rec c.hash_of-hash.result now at key) (IsWanted rec c.hash_of-hash.result now at key → ⊥) c.if-branch.true (c.in_ok-is_wanted.ensures.wanted told)) in
+    let wanted = subst (λ i. IsWanted rec c.hash_of-hash.result i at key) (c.read_rec.ensures.looked.image ∙ v.looked.image) (MatchBool-at_true (IsWanted rec c.hash_of-hash.result now at key) (IsWanted rec c.hash_of-hash.result now at key → ⊥) c.if-branch.true (c.in_ok-is_wanted.ensures.wanted told)) in
     walked_found f img key c.loop-turn._turn c.loop-turn.before at (v.walked told (accepted_filed f img hands accepted))
     (record { off = at; before = c.loop-turn.before; rec = rec }) c.hash_of-hash.result c.requires.chains (omega (arith, stands.0, chains)) refl refl read wanted
 
@@ -87,23 +82,18 @@ loop-turn-preserved g c = record {
       let rec = c.in_ok-rec.rec in
       let v = c.loop-turn.invariant in
       let len : length img ≡ c.in_ok-len.len = g.met.S.Space.told_size c.args.s.now told ∙ sym c.in_ok-len.ensures.length in
-      let chains : c.hash_size-in-loop-turn.result ≡ f.chains = c.hash_size-in-loop-turn.ensures ∙ ap (λ x. x.chains) v.form in
+      let chains : c.hash_size-in-loop-turn.result ≡ f.chains = c.hash_size-in-loop-turn.ensures ∙ ap (λ x. x.chains) v.looked.form in
       let hash : c.hash_of-hash.result ≡ h_of f.hash key = c.hash_of-hash.ensures ∙ ap (λ kind. h_of kind key) (c.hash.ensures ∙ ap (λ x. x.hash) c.len.ensures.form) in
       let stands = c.can_stand.ensures.0 c.if-not-can_stand.false in
-      let read : rec ≡ rec_at f.order img at = c.in_ok-rec.ensures.header told ∙ (λ j. rec_at (v.form j).order (v.image j) at) in
+      let read : rec ≡ rec_at f.order img at = c.in_ok-rec.ensures.header told ∙ (λ j. rec_at (v.looked.form j).order (v.looked.image j) at) in
       let lies = subst (LiesWithin rec at) (sym len) (MatchBool-at_true (LiesWithin rec at c.in_ok-len.len) (LiesWithin rec at c.in_ok-len.len → ⊥) c.if-not-lies_within.false c.lies_within.ensures) in
       let now = g.S.Space.image c.read_rec.new.s in
       let other : IsWanted rec c.hash_of-hash.result img at key → ⊥ = λ wanted.
-      MatchBool-at_false (IsWanted rec c.hash_of-hash.result now at key) (IsWanted rec c.hash_of-hash.result now at key → ⊥) c.if-branch.false (c.in_ok-is_wanted.ensures.wanted told) (subst (λ i. IsWanted rec c.hash_of-hash.result i at key) (sym (c.read_rec.ensures.image ∙ v.image)) wanted) in
+      MatchBool-at_false (IsWanted rec c.hash_of-hash.result now at key) (IsWanted rec c.hash_of-hash.result now at key → ⊥) c.if-branch.false (c.in_ok-is_wanted.ensures.wanted told) (subst (λ i. IsWanted rec c.hash_of-hash.result i at key) (sym (c.read_rec.ensures.looked.image ∙ v.looked.image)) wanted) in
       walked_more f img key c.loop-turn._turn c.loop-turn.before at (v.walked told filed) rec c.hash_of-hash.result (omega (arith, stands.0, chains)) read hash lies other);
   led = search rules;
   short = search rules;
-  size = search rules;
-  image = search rules;
-  form = search rules;
+  looked = search rules;
   faults = search rules;
   bytes_read = search rules;
-  spare = search rules;
-  disk = search rules;
-  under = search rules;
 }

@@ -1,5 +1,6 @@
 -- The walk came so far along the chain of the key, and the view is as it was.
 use Rattle.std.proofs.Common.{◌≡◌, ◌+◌, ◌^◌, ◌<◌, ◌≤◌, ◌⊎◌, IsTrue}
+use Rattle.tdb_space.specs.Frame.{Looked}
 use Rattle.tdb_space.specs.Form.{data_start}
 use Rattle.tdb_space.specs.Accepted.{IsFiled}
 use Rattle.tdb_chain.proofs.Walked.{Walked}
@@ -11,12 +12,7 @@ invariant-loop-turn g l = record {
       → Walked (g.S.Space.form l.fn.s) (g.S.Space.image l.fn.s) l.key l._turn l.before l.at;
   led : l.before + 4 ≤ g.S.Space.size l.fn.s;
   short : (l.before < data_start (g.S.Space.form l.fn.s)) ⊎ (l.before < 2 ^ 32);
-  size : g.S.Space.size l.s ≡ g.S.Space.size l.fn.s;
-  image : g.S.Space.image l.s ≡ g.S.Space.image l.fn.s;
-  form : g.S.Space.form l.s ≡ g.S.Space.form l.fn.s;
-  faults : g.S.Space.faults l.fn.s ≤ g.S.Space.faults l.s;
+  looked : Looked g.S.Space l.fn.s l.s;
+  faults : g.S.Space.faults l.s ≡ g.S.Space.faults l.fn.s;
   bytes_read : g.S.Space.bytes_read l.fn.s ≤ g.S.Space.bytes_read l.s;
-  spare : g.S.Space.spare l.s ≡ g.S.Space.spare l.fn.s;
-  disk : g.S.Space.disk_history l.s ≡ g.S.Space.disk_history l.fn.s;
-  under : g.S.Space.under l.s ≡ g.S.Space.under l.fn.s;
 }

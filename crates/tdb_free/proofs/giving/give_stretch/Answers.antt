@@ -20,12 +20,12 @@ returns-clause-given g c =
     let previous = c.in_ok-previous.previous in
     on_ok_weaker c.put_first.result (λ put told offs C.
     (let T = subst (λ at. TakenOut f a b offs (starts_at at) next) c.end.ensures (c.in_ok-next.ensures.taken told offs C.listed) in
-    let form = c.take_out.ensures.form in
+    let form = c.take_out.ensures.wrote.form in
     let U = subst (λ o. TakenOut o b cut T.news (ends_at c.args.free.off) previous) form
     (c.in_ok-previous.ensures.taken told T.news (subst (λ o. ListedOnce o b T.news) (sym form) (given_next f a b offs h next C T).listed)) in
     let joined : pair c.with_previous.result ≡ with_previous (with_next h (found_pair next)) (found_pair previous) =
     c.with_previous.ensures ∙ ap (λ p. with_previous p (found_pair previous)) c.with_next-joined.ensures in
     let in_place = subst (λ p. HandOk f cut p) (sym joined) (given_both f a b offs h next C T cut previous U).in_place in
-    let form_then = c.take_out-2.ensures.form ∙ form in
+    let form_then = c.take_out-2.ensures.wrote.form ∙ form in
     let P = subst (λ o. MadeFirst o cut d (pair c.with_previous.result)) form_then (put told (subst (λ o. HandOk o cut (pair c.with_previous.result)) (sym form_then) in_place)) in
     given_made f a b offs h next C T cut previous U d (subst (MadeFirst f cut d) joined P))) c.put_first.ensures.put

@@ -12,9 +12,9 @@ returns-in-Some-2-clause-taken g c told offs C =
     let n = c.args.rec_len in
     let first = subst (IsTaken f a (g.S.Space.image c.take_fit.new.s) offs n) (not_some c.in_ok-hand.field-0 c.in_default.not-Some) (c.in_ok-hand.ensures.taken told offs C.listed C.short) in
     let sized = c.in_ok-len.ensures.length ∙ c.take_fit.ensures.size ∙ sym (g.met.S.Space.told_size c.args.s.now told) in
-    let form = c.len.ensures.form ∙ c.take_fit.ensures.form in
+    let form = c.len.ensures.form ∙ c.take_fit.ensures.wrote.form in
     let look = second_look f a b offs n c.args.limit C c.requires.whole_words c.requires.least c.requires.limit (g.S.Space.form c.len.new.self) (g.S.Space.form c.grow_by.new.s)
-    (g.S.Space.image c.len.new.self) (g.S.Space.image c.grow_by.new.s) c.in_ok-len.len c.in-Some-grown_length.to c.in_ok-hand-2.field-0 form (c.grow_by.ensures.form ∙ form)
+    (g.S.Space.image c.len.new.self) (g.S.Space.image c.grow_by.new.s) c.in_ok-len.len c.in-Some-grown_length.to c.in_ok-hand-2.field-0 form (c.grow_by.ensures.wrote.form ∙ form)
     (c.len.ensures.image ∙ first.1) sized (sym c.grown_length.ensures ∙ c.in-Some-grown_length.is) (c.in_ok-grow_by.ensures.given told offs) (c.in_ok-hand-2.ensures.taken told) in
     look_takes f a b offs n c.args.limit c.in-Some-2.hand first.0 (subst (SecondLook f a b offs n c.args.limit) c.in-Some-2.is look)
 
@@ -26,8 +26,8 @@ returns-in-None-clause-full g c told offs C =
     let n = c.args.rec_len in
     let first = subst (IsTaken f a (g.S.Space.image c.take_fit.new.s) offs n) (not_some c.in_ok-hand.field-0 c.in_default.not-Some) (c.in_ok-hand.ensures.taken told offs C.listed C.short) in
     let sized = c.in_ok-len.ensures.length ∙ c.take_fit.ensures.size ∙ sym (g.met.S.Space.told_size c.args.s.now told) in
-    let form = c.len.ensures.form ∙ c.take_fit.ensures.form in
+    let form = c.len.ensures.form ∙ c.take_fit.ensures.wrote.form in
     let look = second_look f a b offs n c.args.limit C c.requires.whole_words c.requires.least c.requires.limit (g.S.Space.form c.len.new.self) (g.S.Space.form c.grow_by.new.s)
-    (g.S.Space.image c.len.new.self) (g.S.Space.image c.grow_by.new.s) c.in_ok-len.len c.in-Some-grown_length.to c.in_ok-hand-2.field-0 form (c.grow_by.ensures.form ∙ form)
+    (g.S.Space.image c.len.new.self) (g.S.Space.image c.grow_by.new.s) c.in_ok-len.len c.in-Some-grown_length.to c.in_ok-hand-2.field-0 form (c.grow_by.ensures.wrote.form ∙ form)
     (c.len.ensures.image ∙ first.1) sized (sym c.grown_length.ensures ∙ c.in-Some-grown_length.is) (c.in_ok-grow_by.ensures.given told offs) (c.in_ok-hand-2.ensures.taken told) in
     absurd (look_finds f a b offs n c.args.limit C c.requires.whole_words c.requires.least c.requires.limit (subst (SecondLook f a b offs n c.args.limit) c.in-None.is look))

@@ -3,7 +3,7 @@ use Rattle.std.proofs.Common.{◌≡◌, sym, ◌∙◌, subst, arith, rules}
 use Rattle.std.specs.Prelude.{IfSome}
 use Rattle.tdb_words.specs.Record.{rec_at}
 use Rattle.tdb_space.specs.Record.{Whole}
-use Rattle.tdb_free.specs.Standing.{Stands}
+use Rattle.tdb_space.specs.Standing.{Stands}
 use Rattle.tdb_free.proofs.PutDown.{put_more, put_end, put_all}
 use Rattle.tdb_free.proofs.listing.list.Goals as goal
 
@@ -14,7 +14,7 @@ returns-in_default-clause-listed g c told offs free =
     let img = g.S.Space.image c.args.s.now in
     let v = c.loop-turn.invariant in
     let there = c.in_ok-rec.ensures.there told in
-    let never : Whole f img c.loop-turn.at → ⊥ = λ whole. c.in_default.not-Some (rec_at (g.S.Space.form c.loop-turn.s).order (g.S.Space.image c.loop-turn.s) c.loop-turn.at) (there (subst (λ x. Whole x (g.S.Space.image c.loop-turn.s) c.loop-turn.at) (sym v.form) (subst (λ i. Whole f i c.loop-turn.at) (sym v.image) whole))) in
+    let never : Whole f img c.loop-turn.at → ⊥ = λ whole. c.in_default.not-Some (rec_at (g.S.Space.form c.loop-turn.s).order (g.S.Space.image c.loop-turn.s) c.loop-turn.at) (there (subst (λ x. Whole x (g.S.Space.image c.loop-turn.s) c.loop-turn.at) (sym v.looked.form) (subst (λ i. Whole f i c.loop-turn.at) (sym v.looked.image) whole))) in
     put_end f img offs c.loop-turn.records c.loop-turn._turn c.loop-turn.at (v.put told offs free) never
 
 -- one record more
@@ -29,16 +29,11 @@ loop-turn-preserved g c =
           let some : c.loop-turn.at ≡ 0 → ⊥ = λ e. absurd (omega (arith, e, stands.above)) in
           let read : c.in-Some.rec ≡ rec_at f.order img c.loop-turn.at =
           subst (λ found. IfSome found (λ r. r ≡ rec_at (g.S.Space.form c.loop-turn.s).order (g.S.Space.image c.loop-turn.s) c.loop-turn.at)) c.in-Some.is (c.in_ok-rec.ensures.header told)
-          ∙ (λ j. rec_at (v.form j).order (v.image j) c.loop-turn.at) in
+          ∙ (λ j. rec_at (v.looked.form j).order (v.looked.image j) c.loop-turn.at) in
           put_more f img offs c.loop-turn.records c.loop-turn._turn c.loop-turn.at (v.put told offs free) c.in-Some.rec c.push.new.self some read c.in_ok-push.ensures.ok);
-      size = search rules;
-      image = search rules;
-      form = search rules;
+      looked = search rules;
       faults = search rules;
       bytes_read = search rules;
-      spare = search rules;
-      disk = search rules;
-      under = search rules;
     }
 
 -- as many records were passed as the image has words

@@ -1,6 +1,7 @@
 -- The records so far were passed and put down, and the view is as it was.
 use Rattle.std.proofs.Common.{◌≡◌, ℕ, ◌≤◌, List, IsTrue}
 use Rattle.tdb_words.specs.Word.{word}
+use Rattle.tdb_space.specs.Frame.{Looked}
 use Rattle.tdb_space.specs.Form.{free_head}
 use Rattle.tdb_space.specs.Chain.{Free}
 use Rattle.tdb_free.proofs.PutDown.{PutDown}
@@ -10,12 +11,7 @@ abbrev pub invariant-loop-turn : goal.invariant-loop-turn
 invariant-loop-turn g l = record {
   put : IsTrue g.S.Space.tells → (offs : List ℕ) → Free (g.S.Space.form l.fn.s) (g.S.Space.image l.fn.s) (word (g.S.Space.form l.fn.s).order (g.S.Space.image l.fn.s) free_head) offs
       → PutDown (g.S.Space.form l.fn.s) (g.S.Space.image l.fn.s) offs l.records l._turn l.at;
-  size : g.S.Space.size l.s ≡ g.S.Space.size l.fn.s;
-  image : g.S.Space.image l.s ≡ g.S.Space.image l.fn.s;
-  form : g.S.Space.form l.s ≡ g.S.Space.form l.fn.s;
-  faults : g.S.Space.faults l.fn.s ≤ g.S.Space.faults l.s;
+  looked : Looked g.S.Space l.fn.s l.s;
+  faults : g.S.Space.faults l.s ≡ g.S.Space.faults l.fn.s;
   bytes_read : g.S.Space.bytes_read l.fn.s ≤ g.S.Space.bytes_read l.s;
-  spare : g.S.Space.spare l.s ≡ g.S.Space.spare l.fn.s;
-  disk : g.S.Space.disk_history l.s ≡ g.S.Space.disk_history l.fn.s;
-  under : g.S.Space.under l.s ≡ g.S.Space.under l.fn.s;
 }

@@ -16,6 +16,6 @@ pub returns-clause-leads : goal.returns-clause-leads
 returns-clause-leads g c =
     let f = g.S.Space.form c.args.s.now in
     let img = g.S.Space.image c.args.s.now in
-    IfOk-weaker c.read_link.result (λ w. IsTrue g.S.Space.tells → w ≡ word f.order img 168)
+    IfOk-weaker c.read_word.result (λ w. IsTrue g.S.Space.tells → w ≡ word f.order img 168)
     (λ at. IsTrue g.S.Space.tells → (offs : List ℕ) → Free f img (word f.order img 168) offs → Free f img at offs)
-    (λ w is told offs free. subst (λ at. Free f img at offs) (sym (is told)) free) c.read_link.ensures.value
+    (λ w is told offs free. subst (λ at. Free f img at offs) (sym (is told)) free) c.read_word.ensures.value

@@ -4,7 +4,7 @@ use Rattle.std.specs.Prelude.{IfSome}
 use Rattle.tdb_words.specs.Record.{rec_at}
 use Rattle.tdb_space.specs.Record.{Whole}
 use Rattle.tdb_free.specs.Search.{is_wanted}
-use Rattle.tdb_free.specs.Standing.{Stands}
+use Rattle.tdb_space.specs.Standing.{Stands}
 use Rattle.tdb_free.proofs.Passed.{passed_start, passed_end, passed_more, passed_found, passed_all}
 use Rattle.tdb_free.proofs.search.find_spot.Goals as goal
 
@@ -12,14 +12,9 @@ pub loop-turn-init : goal.loop-turn-init
 loop-turn-init g c = record {
   passed = λ told offs list. passed_start (g.S.Space.form c.args.s.now) (g.S.Space.image c.args.s.now) offs (is_wanted c.args.wanted) c.in_ok-at.at (c.in_ok-at.ensures.leads told offs list);
   led = inl refl;
-  size = search rules;
-  image = search rules;
-  form = search rules;
+  looked = search rules;
   faults = search rules;
   bytes_read = search rules;
-  spare = search rules;
-  disk = search rules;
-  under = search rules;
 }
 
 -- no record can stand there
@@ -29,7 +24,7 @@ returns-in_default-clause-found g c told offs list =
     let img = g.S.Space.image c.args.s.now in
     let v = c.loop-turn.invariant in
     let there = c.in_ok-rec.ensures.there told in
-    let never : Whole f img c.loop-turn.at → ⊥ = λ whole. c.in_default.not-Some (rec_at (g.S.Space.form c.loop-turn.s).order (g.S.Space.image c.loop-turn.s) c.loop-turn.at) (there (subst (λ x. Whole x (g.S.Space.image c.loop-turn.s) c.loop-turn.at) (sym v.form) (subst (λ i. Whole f i c.loop-turn.at) (sym v.image) whole))) in
+    let never : Whole f img c.loop-turn.at → ⊥ = λ whole. c.in_default.not-Some (rec_at (g.S.Space.form c.loop-turn.s).order (g.S.Space.image c.loop-turn.s) c.loop-turn.at) (there (subst (λ x. Whole x (g.S.Space.image c.loop-turn.s) c.loop-turn.at) (sym v.looked.form) (subst (λ i. Whole f i c.loop-turn.at) (sym v.looked.image) whole))) in
     passed_end f img offs (is_wanted c.args.wanted) c.loop-turn._turn c.loop-turn.before c.loop-turn.at (v.passed told offs list) never
 
 -- the record there is wanted
@@ -43,10 +38,10 @@ returns-then-is_wanted-clause-found g c told offs list =
     let stands = subst (λ found. IfSome found (λ r. Stands (g.S.Space.form c.loop-turn.s) (g.S.Space.size c.loop-turn.s) at r.rec_len)) c.in-Some.is c.in_ok-rec.ensures.stands in
     let read : rec ≡ rec_at f.order img at =
     subst (λ found. IfSome found (λ r. r ≡ rec_at (g.S.Space.form c.loop-turn.s).order (g.S.Space.image c.loop-turn.s) at)) c.in-Some.is (c.in_ok-rec.ensures.header told)
-    ∙ (λ j. rec_at (v.form j).order (v.image j) at) in
+    ∙ (λ j. rec_at (v.looked.form j).order (v.looked.image j) at) in
     passed_found f img offs (is_wanted c.args.wanted) c.loop-turn._turn c.loop-turn.before at (v.passed told offs list)
     (record { off = at; before = c.loop-turn.before; next = rec.next; rec_len = rec.rec_len })
-    (omega (arith, stands.above, ap (λ x. x.chains) v.form)) refl refl (ap (λ q. q.next) read) (ap (λ q. q.rec_len) read) (sym c.is_wanted.ensures ∙ c.if-is_wanted.true)
+    (omega (arith, stands.above, ap (λ x. x.chains) v.looked.form)) refl refl (ap (λ q. q.next) read) (ap (λ q. q.rec_len) read) (sym c.is_wanted.ensures ∙ c.if-is_wanted.true)
 
 -- one step more
 pub loop-turn-preserved : goal.loop-turn-preserved
@@ -61,17 +56,12 @@ loop-turn-preserved g c =
       passed = λ told offs list.
           (let read : rec ≡ rec_at f.order img at =
           subst (λ found. IfSome found (λ r. r ≡ rec_at (g.S.Space.form c.loop-turn.s).order (g.S.Space.image c.loop-turn.s) at)) c.in-Some.is (c.in_ok-rec.ensures.header told)
-          ∙ (λ j. rec_at (v.form j).order (v.image j) at) in
-          passed_more f img offs (is_wanted c.args.wanted) c.loop-turn._turn c.loop-turn.before at (v.passed told offs list) rec (omega (arith, stands.above, ap (λ x. x.chains) v.form)) read (sym c.is_wanted.ensures ∙ c.if-is_wanted.false));
-      led = inr (omega (arith, stands.within, v.size));
-      size = search rules;
-      image = search rules;
-      form = search rules;
+          ∙ (λ j. rec_at (v.looked.form j).order (v.looked.image j) at) in
+          passed_more f img offs (is_wanted c.args.wanted) c.loop-turn._turn c.loop-turn.before at (v.passed told offs list) rec (omega (arith, stands.above, ap (λ x. x.chains) v.looked.form)) read (sym c.is_wanted.ensures ∙ c.if-is_wanted.false));
+      led = inr (omega (arith, stands.within, v.looked.size));
+      looked = search rules;
       faults = search rules;
       bytes_read = search rules;
-      spare = search rules;
-      disk = search rules;
-      under = search rules;
     }
 
 -- as many records were passed as the image has words

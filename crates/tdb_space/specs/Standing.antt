@@ -1,4 +1,4 @@
--- Where a free record can stand in a file, as far as its offset and its length tell.
+-- Where a record can stand in a file, as far as its offset and its length tell.
 use Rattle.std.specs.Prelude.{◌≡◌, ℕ, ◌+◌, ◌*◌, ◌%◌, ◌≤◌}
 use Rattle.tdb_space.specs.Form.{Form, data_start}
 

@@ -1,16 +1,17 @@
-// The bytes of a new record.
+// A new record: how long it is, what its header says, and its bytes.
 
 ghost use Rattle.std.specs.Prelude.{◌≡◌, ◌+◌, ◌^◌, ◌<◌, ◌≤◌, length, IfOk};
 ghost use Rattle.tdb_space.specs.Form.{form_in};
-ghost use Rattle.tdb_top.specs.Insert.{rec_len_for, new_rec, record_bytes};
+ghost use Rattle.tdb_space.specs.NewRecord.{rec_len_for, new_rec, record_bytes};
 
 use std::alloc::{AllocError, Global};
 use tdb_words::{Header, Order, PADDING, Rec, USED, hash_of, rec_bytes, word_bytes};
 
-/// The length of a new record behind its header, in bytes: the key and the value, a quarter as much again to grow, and the
-/// tailer, in whole words.
-pub(crate) fn rec_len_for(key_len: u64, value_len: u64) -> u64
-    requires { key_len + value_len < 2 ^ 32 }
+/// The `rec_len` of a new record, in bytes, from the lengths of its key and of its value: room for both, a quarter as much again
+/// to grow, and the tailer, in whole words.
+pub fn rec_len_for(key_len: u64, value_len: u64) -> u64
+    requires key { key_len < 2 ^ 62 }
+    requires value { value_len < 2 ^ 62 }
     ensures { result ≡ rec_len_for key_len value_len }
 {
     let sum = key_len + value_len;
@@ -18,7 +19,7 @@ pub(crate) fn rec_len_for(key_len: u64, value_len: u64) -> u64
 }
 
 /// The header of a new record, whose chain begins at `first` so far.
-pub(crate) fn new_rec(header: &Header, first: u32, key: &[u8], value: &[u8]) -> Rec
+pub fn new_rec(header: &Header, first: u32, key: &[u8], value: &[u8]) -> Rec
     requires { 24 + rec_len_for (length key.now) (length value.now) < 2 ^ 32 }
     ensures { result ≡ new_rec (form_in header.now) first key.now value.now }
 {
@@ -33,7 +34,7 @@ pub(crate) fn new_rec(header: &Header, first: u32, key: &[u8], value: &[u8]) -> 
 }
 
 /// Fills the room of a record: its header, the key, the value, padding, and the tailer.
-fn fill(room: &mut [u8], rec: &Rec, order: Order, key: &[u8], value: &[u8])
+pub fn fill_record(room: &mut [u8], rec: &Rec, order: Order, key: &[u8], value: &[u8])
     requires room { length room.old ≡ 24 + rec.now.rec_len }
     requires fits { length key.now + length value.now + 4 ≤ rec.now.rec_len }
     requires short { 24 + rec.now.rec_len < 2 ^ 32 }
@@ -52,7 +53,7 @@ fn fill(room: &mut [u8], rec: &Rec, order: Order, key: &[u8], value: &[u8])
 }
 
 /// The bytes of a record: what isn't its header, its key, its value or its tailer is padding.
-pub(crate) fn record_bytes(
+pub fn record_bytes(
     alloc: Global,
     rec: &Rec,
     order: Order,
@@ -64,6 +65,6 @@ pub(crate) fn record_bytes(
     ensures { IfOk result (λ bytes. bytes.items ≡ record_bytes order rec.now key.now value.now) }
 {
     let mut bytes = vec![in alloc; 0; 24 + rec.rec_len as usize]?;
-    fill(&mut bytes, rec, order, key, value);
+    fill_record(&mut bytes, rec, order, key, value);
     Ok(bytes)
 }

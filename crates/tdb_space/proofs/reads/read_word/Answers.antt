@@ -2,7 +2,7 @@
 use Rattle.std.proofs.Common.{◌≡◌, ◌∙◌, ap, take, drop, add-zero, arith}
 use Rattle.tdb_words.specs.Word.{word}
 use Rattle.tdb_words.proofs.Words.{word_of_part}
-use Rattle.tdb_chain.proofs.walk.read_word.Goals as goal
+use Rattle.tdb_space.proofs.reads.read_word.Goals as goal
 
 pub returns-clause-value : goal.returns-clause-value
 returns-clause-value g c told =
