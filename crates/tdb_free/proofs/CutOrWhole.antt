@@ -16,7 +16,8 @@ use Rattle.tdb_space.proofs.Members.{led_member, led_from, two_members}
 use Rattle.tdb_space.proofs.Unlinks.{unlinked_bodies}
 use Rattle.tdb_space.proofs.Touches.{touched_beside}
 use Rattle.tdb_space.proofs.Trades.{FreeIs, free_taken, free_cut}
-use Rattle.tdb_free.specs.FreeList.{ListedOnce, HoldsNothing, OnlyIn, free_pairs, is_long_enough, is_cut, hand_of, left_of, instead, taken, taken_as}
+use Rattle.tdb_space.specs.Stays.{OnlyIn}
+use Rattle.tdb_free.specs.FreeList.{ListedOnce, HoldsNothing, free_pairs, is_long_enough, is_cut, hand_of, left_of, instead, taken, taken_as}
 use Rattle.tdb_free.specs.Search.{IsFirst}
 use Rattle.tdb_free.specs.TakenFrom.{AllHoldNothing, TakenFrom, take_words}
 use Rattle.tdb_free.specs.Shortened.{Shortened}

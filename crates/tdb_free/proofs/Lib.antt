@@ -1,4 +1,3 @@
-pub mod Rooms
 pub mod Rest
 pub mod PutDown
 pub mod Overlaid

@@ -12,7 +12,8 @@ use Rattle.tdb_space.proofs.Counts.Lies.{lies, below, above}
 use Rattle.tdb_space.proofs.Hands.{hands_kept}
 use Rattle.tdb_space.proofs.Kept.{Still, bodies_still, times_within}
 use Rattle.tdb_space.proofs.Trades.{free_given, free_more, free_met_hands, free_then}
-use Rattle.tdb_free.specs.FreeList.{CanBeGiven, Given, MadeFirst, OnlyIn, free_pairs, without_first, words_at, put_words, end_of, starts_at, ends_at, with_next, with_previous}
+use Rattle.tdb_space.specs.Stays.{OnlyIn}
+use Rattle.tdb_free.specs.FreeList.{CanBeGiven, Given, MadeFirst, free_pairs, without_first, words_at, put_words, end_of, starts_at, ends_at, with_next, with_previous}
 use Rattle.tdb_free.specs.Stretch.{pair, found_pair, found_offsets}
 use Rattle.tdb_free.specs.Removal.{TakenOut}
 use Rattle.tdb_free.specs.declared.stretch.Stretch.{Stretch}

@@ -14,7 +14,8 @@ use Rattle.tdb_space.specs.Extents.{HandOk, once}
 use Rattle.tdb_space.specs.Exchange.{PutFree}
 use Rattle.tdb_space.proofs.Counts.{where_is}
 use Rattle.tdb_space.proofs.Counts.Lies.{lies, below, above}
-use Rattle.tdb_free.specs.FreeList.{MadeFirst, OnlyIn, put_words}
+use Rattle.tdb_space.specs.Stays.{OnlyIn}
+use Rattle.tdb_free.specs.FreeList.{MadeFirst, put_words}
 
 -- a word of what was written over an image, and one before it and behind it
 pub word_written : (o : Order) (img : List ℕ) (at : ℕ) (bytes : List ℕ) (k : ℕ) → at + length bytes ≤ length img → k + 4 ≤ length bytes → word o (overlay img at bytes) (at + k) ≡ word o bytes k

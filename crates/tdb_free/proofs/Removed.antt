@@ -20,7 +20,8 @@ use Rattle.tdb_space.proofs.Walks.{member_cases, member_first, member_other, lin
 use Rattle.tdb_space.proofs.Members.{bodies_without, led_member}
 use Rattle.tdb_space.proofs.Unlinks.{unlinked_bodies}
 use Rattle.tdb_space.proofs.Trades.{FreeIs, free_taken}
-use Rattle.tdb_free.specs.FreeList.{ListedOnce, OnlyIn, free_pairs, without_first, words_at}
+use Rattle.tdb_space.specs.Stays.{OnlyIn}
+use Rattle.tdb_free.specs.FreeList.{ListedOnce, free_pairs, without_first, words_at}
 use Rattle.tdb_free.specs.Search.{IsFirst}
 use Rattle.tdb_free.specs.Removal.{TakenOut}
 use Rattle.tdb_free.specs.declared.search.Spot.{Spot}

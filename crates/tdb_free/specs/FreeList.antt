@@ -1,5 +1,5 @@
 -- The free list as a list of records, each by its offset and its rec_len; what a take and a give make of it.
-use Rattle.std.specs.Prelude.{◌≡◌, ℕ, ◌+◌, ◌-◌, ◌≤◌, ◌<◌, ◌^◌, Bool, nat_eq, nat_le, List, [], ◌∷◌, ◌++◌, length, slice_index, Option, None, Some, if◌then◌else◌}
+use Rattle.std.specs.Prelude.{◌≡◌, ℕ, ◌+◌, ◌-◌, ◌≤◌, ◌<◌, ◌^◌, Bool, nat_eq, nat_le, List, [], ◌∷◌, ◌++◌, length, Option, None, Some, if◌then◌else◌}
 use Rattle.std.specs.List.{find}
 use Rattle.tdb_words.specs.declared.word.Order.{Order}
 use Rattle.tdb_words.specs.Word.{word}
@@ -10,6 +10,7 @@ use Rattle.tdb_space.specs.Pairs.{order_of}
 use Rattle.tdb_space.specs.Accepted.{AcceptWith}
 use Rattle.tdb_space.specs.Extents.{Extent, HandPair, HandOk, times, once, extents}
 use Rattle.tdb_space.specs.Exchange.{FreeExchanged, PutFree}
+use Rattle.tdb_space.specs.Stays.{OnlyIn}
 
 -- these are the records of an image's free list, in its order, and no byte of them is held twice
 pub record ListedOnce (f : Form) (img offs : List ℕ) : Type 0 where
@@ -109,10 +110,6 @@ words_at (x ∷ xs) = (x, 4) ∷ words_at xs
 -- what is written where a record becomes the first of the list: the head of the list, and the record's header and tailer
 abbrev pub put_words : HandPair → List Extent
 put_words p = (free_head, 4) ∷ (p.0, 24) ∷ (p.0 + 20 + p.1, 4) ∷ []
-
--- from image a to image b no byte changes that none of these extents holds
-abbrev pub OnlyIn : List Extent → List ℕ → List ℕ → Type 0
-OnlyIn extents a b = (i : ℕ) → times extents i ≡ 0 → slice_index b i ≡ slice_index a i
 
 -- the record at an offset has no key, no value and no hash
 pub record HoldsNothing (o : Order) (img : List ℕ) (at : ℕ) : Type 0 where

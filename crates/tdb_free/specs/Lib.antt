@@ -1,5 +1,4 @@
 pub mod FreeList
-pub mod SpareLeft
 pub mod TakenFrom
 pub mod Shortened
 pub mod Removal

@@ -4,7 +4,8 @@ use Rattle.std.specs.List.{find}
 use Rattle.tdb_space.specs.Form.{Form, free_head}
 use Rattle.tdb_space.specs.Extents.{HandPair, times}
 use Rattle.tdb_space.specs.Exchange.{FreeExchanged}
-use Rattle.tdb_free.specs.FreeList.{free_pairs, without_first, words_at, OnlyIn}
+use Rattle.tdb_space.specs.Stays.{OnlyIn}
+use Rattle.tdb_free.specs.FreeList.{free_pairs, without_first, words_at}
 use Rattle.tdb_free.specs.Stretch.{found_pair, found_hands, found_offsets}
 use Rattle.tdb_free.specs.declared.stretch.Stretch.{Stretch}
 

@@ -7,7 +7,8 @@ use Rattle.tdb_space.specs.Pairs.{order_of}
 use Rattle.tdb_space.specs.Accepted.{AcceptWith}
 use Rattle.tdb_space.specs.Extents.{Extent, HandPair}
 use Rattle.tdb_space.specs.Exchange.{Agree, FreeExchanged}
-use Rattle.tdb_free.specs.FreeList.{HoldsNothing, OnlyIn, words_at, free_pairs, first_fit, left_of, taken}
+use Rattle.tdb_space.specs.Stays.{OnlyIn}
+use Rattle.tdb_free.specs.FreeList.{HoldsNothing, words_at, free_pairs, first_fit, left_of, taken}
 
 -- What is written where a record is taken from. Where nothing stays of it, that is one word that leads on in the list: its head, or
 -- the first word of a record that stays. Else it is the header of what stays but for its first word, and its tailer.

@@ -7,7 +7,7 @@ ghost use Rattle.tdb_words.specs.Word.{bytes_of_word};
 ghost use Rattle.tdb_space.specs.Frame.{Wrote};
 ghost use Rattle.tdb_space.specs.Form.{free_head};
 ghost use Rattle.tdb_space.specs.Spare.{RoomFor};
-ghost use Rattle.tdb_free.specs.SpareLeft.{LeavesRoom};
+ghost use Rattle.tdb_space.specs.SpareLeft.{LeavesRoom};
 
 use tdb_space::{FREE_HEAD, Io, Space};
 use tdb_words::word_bytes;

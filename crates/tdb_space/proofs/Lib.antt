@@ -42,3 +42,6 @@ pub mod SameVerdict
 pub mod SameOpening
 pub mod Reached
 pub mod Written
+pub mod Stays
+pub mod Rooms
+pub mod Overlaid

@@ -13,3 +13,5 @@ pub mod Opening
 pub mod Sequence
 pub mod Standing
 pub mod NewRecord
+pub mod Stays
+pub mod SpareLeft

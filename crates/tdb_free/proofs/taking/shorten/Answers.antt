@@ -4,9 +4,9 @@ use Rattle.std.proofs.lemmas.List.{length-take-le, length-drop}
 use Rattle.tdb_words.specs.Word.{word}
 use Rattle.tdb_words.specs.Record.{rec_at}
 use Rattle.tdb_space.specs.Spare.{spent, SpentUpTo}
+use Rattle.tdb_space.proofs.Rooms.{room_spent, room_tried, room_then}
 use Rattle.tdb_disk.specs.Image.{overlay}
 use Rattle.tdb_free.specs.Shortened.{Shortened, free_record}
-use Rattle.tdb_free.proofs.Rooms.{room_spent, room_tried, room_then}
 use Rattle.tdb_free.proofs.Overlaid.{shortened_written}
 use Rattle.tdb_free.proofs.taking.shorten.Goals as goal
 

@@ -2,7 +2,7 @@
 use Rattle.std.proofs.Common.{◌≡◌, ℕ, ◌+◌, ◌≤◌, inl, inr, subst, sym, arith}
 use Rattle.tdb_space.specs.Spare.{Spare, RoomFor, RoomForAll, spent, SpentUpTo}
 use Rattle.tdb_space.specs.Spare.Spare.{without_bound, bounded}
-use Rattle.tdb_free.specs.SpareLeft.{LeavesRoom}
+use Rattle.tdb_space.specs.SpareLeft.{LeavesRoom}
 
 -- where there is room for one write and more, there is room for the one
 pub room_for : (s : Spare) (count n : ℕ) → RoomForAll s count n → 1 ≤ count → (k : ℕ) → k ≤ n → RoomFor s k
