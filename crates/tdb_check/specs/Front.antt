@@ -1,6 +1,5 @@
 -- Why the front of an image is refused.
-use Rattle.std.specs.Prelude.{◌≡◌, ℕ, ◌+◌, ◌*◌, ◌%◌, ◌≤◌, ◌==◌, ◌||◌, not, nat_lt, Bool, List, Some, Result, IfErr}
-use Rattle.tdb_disk.specs.Count.{Rose}
+use Rattle.std.specs.Prelude.{◌≡◌, ℕ, ◌+◌, ◌*◌, ◌%◌, ◌≤◌, ◌==◌, ◌||◌, not, nat_lt, Bool, List, Some}
 use Rattle.tdb_words.specs.declared.what.What.TheVariants.{Short as TooShort, Header as BadHeader}
 use Rattle.tdb_words.specs.Header.{header_fault}
 use Rattle.tdb_space.specs.FirstFault.{front_fault}
@@ -16,8 +15,3 @@ abbrev pub Refuses : List ℕ → FrontRefusal → Type 0
 Refuses img (Short len) = front_fault img ≡ Some (TooShort, len)
 Refuses img (Header fault) = (front_fault img ≡ Some (BadHeader, 0)) × (header_fault img ≡ Some fault)
 Refuses img Io = Unit {0}
-
--- the count of faults never falls, and rose where the answer is a fault of the disk
-pub record FrontCause {T : Type 0} (before now : ℕ) (answer : Result T FrontRefusal) : Type 0 where
-  pub never_falls : before ≤ now
-  pub failed : IfErr answer (λ e. e ≡ Io → Rose before now)

@@ -1,5 +1,4 @@
 pub mod Seen
-pub mod Unchanged
 pub mod Front
 pub mod Extent
 pub mod Area

@@ -1,6 +1,7 @@
 // The walk along one chain.
 
 ghost use Rattle.std.specs.Prelude.{◌≡◌, ℕ, ◌+◌, ◌<◌, ◌≤◌, ◌==◌, if◌then◌else◌, List, [], ◌∷◌, ◌++◌, IsTrue, length, Some, IfOk, IfErr, OnOk};
+ghost use Rattle.tdb_disk.specs.Count.{HasCauseOf};
 ghost use Rattle.tdb_words.specs.Word.{word};
 ghost use Rattle.tdb_space.specs.Form.{Form, data_start, chain_head};
 ghost use Rattle.tdb_space.specs.Extents.{Extent as Held};
@@ -10,7 +11,8 @@ ghost use Rattle.tdb_check.specs.Followed.{ChainFollowed};
 ghost use Rattle.tdb_check.specs.Extent.{extents_seen};
 ghost use Rattle.tdb_check.specs.Tails.{TailsOf};
 ghost use Rattle.tdb_check.specs.Notes.{NotesOf, RecordPassed};
-ghost use Rattle.tdb_check.specs.Unchanged.{Unchanged, IoCause};
+ghost use Rattle.tdb_space.specs.Frame.{Looked};
+ghost use Rattle.tdb_check.specs.declared.refusal.CheckRefusal.TheVariants.{Io};
 
 use crate::area::can_stand;
 use crate::extent::{Extent, put};
@@ -99,8 +101,8 @@ fn pass_record<S: Space>(
     ensures bad { IfErr result (λ e. IsTrue S.tells → length (S.image s.old) ≡ len → (xs : List ℕ) → NotesOf (S.form s.old) (S.image s.old) xs notes.old
         → Names e (λ fault. record_fault (S.form s.old) (chain_number j) (S.image s.old) xs place at ≡ Some fault)) }
     ensures tails { notes.new.tails ≡ notes.old.tails }
-    ensures still { Unchanged (S.size s.old) (S.size s.new) (S.image s.old) (S.image s.new) (S.form s.old) (S.form s.new) (S.spare s.old) (S.spare s.new) (S.disk_history s.old) (S.disk_history s.new) (S.under s.old) (S.under s.new) }
-    ensures cause { IoCause (S.faults s.old) (S.faults s.new) result }
+    ensures looked { Looked S.Space s.old s.new }
+    ensures cause { HasCauseOf Io (S.faults s.old) (S.faults s.new) result }
 {
     if !can_stand(at, len, s.hash_size()) {
         return Err(CheckRefusal::Corrupt {
@@ -163,8 +165,8 @@ pub fn follow_chain<S: Space>(
     ensures bad { IfErr result (λ e. IsTrue S.tells → length (S.image s.old) ≡ len → word (S.form s.old).order (S.image s.old) (chain_head j) ≡ first
         → Names e (FirstInList (S.form s.old) (chain_number j) (S.image s.old) (chain_head j))) }
     ensures count { IfOk result (λ live. live + length extents.old.items ≤ length extents.new.items) }
-    ensures still { Unchanged (S.size s.old) (S.size s.new) (S.image s.old) (S.image s.new) (S.form s.old) (S.form s.new) (S.spare s.old) (S.spare s.new) (S.disk_history s.old) (S.disk_history s.new) (S.under s.old) (S.under s.new) }
-    ensures cause { IoCause (S.faults s.old) (S.faults s.new) result }
+    ensures looked { Looked S.Space s.old s.new }
+    ensures cause { HasCauseOf Io (S.faults s.old) (S.faults s.new) result }
 {
     if first == 0 {
         return Ok(0);

@@ -1,12 +1,14 @@
 // The walk along all chains.
 
 ghost use Rattle.std.specs.Prelude.{◌≡◌, ℕ, ◌+◌, ◌*◌, ◌^◌, ◌<◌, ◌≤◌, List, IsTrue, length, take, drop, IfOk, IfErr};
+ghost use Rattle.tdb_disk.specs.Count.{HasCauseOf};
 ghost use Rattle.tdb_space.specs.Form.{data_start, chain_head};
 ghost use Rattle.tdb_check.specs.Seen.{Names};
 ghost use Rattle.tdb_check.specs.Extent.{extents_seen};
 ghost use Rattle.tdb_check.specs.Tails.{TailsOf};
 ghost use Rattle.tdb_check.specs.Chains.{ChainsTo, ChainsFollowed, FirstInChains};
-ghost use Rattle.tdb_check.specs.Unchanged.{Unchanged, IoCause};
+ghost use Rattle.tdb_space.specs.Frame.{Looked};
+ghost use Rattle.tdb_check.specs.declared.refusal.CheckRefusal.TheVariants.{Io};
 ghost use Rattle.tdb_check.specs.declared.extent.Extent.{Extent};
 
 use crate::chain::{Notes, follow_chain};
@@ -45,8 +47,8 @@ fn follow_block<S: Space>(
         → TailsOf (S.form s.old) (S.image s.old) (extents_seen extents.old.items) notes.old.tails
         → Names e (FirstInChains (S.form s.old) (S.image s.old))) }
     ensures count { IfOk result (λ live. live + length extents.old.items ≤ length extents.new.items) }
-    ensures still { Unchanged (S.size s.old) (S.size s.new) (S.image s.old) (S.image s.new) (S.form s.old) (S.form s.new) (S.spare s.old) (S.spare s.new) (S.disk_history s.old) (S.disk_history s.new) (S.under s.old) (S.under s.new) }
-    ensures cause { IoCause (S.faults s.old) (S.faults s.new) result }
+    ensures looked { Looked S.Space s.old s.new }
+    ensures cause { HasCauseOf Io (S.faults s.old) (S.faults s.new) result }
 {
     let order = s.order();
     let mut live = 0u64;
@@ -78,8 +80,8 @@ pub fn follow_chains<S: Space>(
     requires chains { 0 < (S.form s.old).chains }
     ensures sound { IfOk result (λ live. IsTrue S.tells → length (S.image s.old) ≡ len → ChainsFollowed (S.form s.old) (S.image s.old) extents.old.items extents.new.items live) }
     ensures bad { IfErr result (λ e. IsTrue S.tells → length (S.image s.old) ≡ len → Names e (FirstInChains (S.form s.old) (S.image s.old))) }
-    ensures still { Unchanged (S.size s.old) (S.size s.new) (S.image s.old) (S.image s.new) (S.form s.old) (S.form s.new) (S.spare s.old) (S.spare s.new) (S.disk_history s.old) (S.disk_history s.new) (S.under s.old) (S.under s.new) }
-    ensures cause { IoCause (S.faults s.old) (S.faults s.new) result }
+    ensures looked { Looked S.Space s.old s.new }
+    ensures cause { HasCauseOf Io (S.faults s.old) (S.faults s.new) result }
 {
     let chains = s.hash_size();
     let mut notes = Notes::new(alloc);

@@ -1,11 +1,13 @@
 // The walk along the free list.
 
 ghost use Rattle.std.specs.Prelude.{◌≡◌, ◌<◌, ◌≤◌, IsTrue, length, OnOk, IfErr};
+ghost use Rattle.tdb_disk.specs.Count.{HasCauseOf};
 ghost use Rattle.tdb_space.specs.Form.{data_start, free_head};
 ghost use Rattle.tdb_space.specs.FirstFault.{FirstInList, free_list};
 ghost use Rattle.tdb_check.specs.Seen.{Names};
 ghost use Rattle.tdb_check.specs.Followed.{FollowedTo};
-ghost use Rattle.tdb_check.specs.Unchanged.{Unchanged, IoCause};
+ghost use Rattle.tdb_space.specs.Frame.{Looked};
+ghost use Rattle.tdb_check.specs.declared.refusal.CheckRefusal.TheVariants.{Io};
 
 use crate::area::can_stand;
 use crate::extent::{Extent, put};
@@ -30,8 +32,8 @@ pub fn follow_free_list<S: Space>(
     requires chains { 0 < (S.form s.old).chains }
     ensures sound { OnOk result (IsTrue S.tells → length (S.image s.old) ≡ len → FollowedTo (S.form s.old) free_list (S.image s.old) free_head extents.old.items extents.new.items) }
     ensures bad { IfErr result (λ e. IsTrue S.tells → length (S.image s.old) ≡ len → Names e (FirstInList (S.form s.old) free_list (S.image s.old) free_head)) }
-    ensures still { Unchanged (S.size s.old) (S.size s.new) (S.image s.old) (S.image s.new) (S.form s.old) (S.form s.new) (S.spare s.old) (S.spare s.new) (S.disk_history s.old) (S.disk_history s.new) (S.under s.old) (S.under s.new) }
-    ensures cause { IoCause (S.faults s.old) (S.faults s.new) result }
+    ensures looked { Looked S.Space s.old s.new }
+    ensures cause { HasCauseOf Io (S.faults s.old) (S.faults s.new) result }
 {
     let mut word = [0u8; 4];
     s.read(168, &mut word)?;

@@ -1,12 +1,13 @@
 // The front of a file: whether it has a header, and a length that fits the header.
 
 ghost use Rattle.std.specs.Prelude.{◌≡◌, ◌+◌, ◌*◌, ◌%◌, ◌<◌, ◌≤◌, IsTrue, IfOk, IfErr, None};
-ghost use Rattle.tdb_disk.specs.Count.{RoseUpTo};
+ghost use Rattle.tdb_disk.specs.Count.{HasCauseOf, RoseUpTo};
 ghost use Rattle.tdb_disk.specs.History.{seen};
 ghost use Rattle.tdb_words.specs.Header.{header_at};
 ghost use Rattle.tdb_space.specs.Form.{form_in, data_start};
 ghost use Rattle.tdb_space.specs.FirstFault.{front_fault};
-ghost use Rattle.tdb_check.specs.Front.{is_short_length, Refuses, FrontCause};
+ghost use Rattle.tdb_check.specs.Front.{is_short_length, Refuses};
+ghost use Rattle.tdb_check.specs.declared.front.FrontRefusal.TheVariants.{Io};
 
 use tdb_disk::{Disk, DiskFault};
 use tdb_words::{Header, HeaderFault, header_of};
@@ -63,7 +64,7 @@ pub fn read_front<D: Disk>(d: &mut D) -> Result<Header, FrontRefusal>
     ensures refused { IfErr result (λ e. IsTrue D.tells → Refuses (seen (D.history d.old)) e) }
     ensures size { D.size d.new ≡ D.size d.old }
     ensures history { D.history d.new ≡ D.history d.old }
-    ensures cause { FrontCause (D.faults d.old) (D.faults d.new) result }
+    ensures cause { HasCauseOf Io (D.faults d.old) (D.faults d.new) result }
     ensures syncs { D.syncs d.new ≡ D.syncs d.old }
     ensures bytes_read { RoseUpTo 168 (D.bytes_read d.old) (D.bytes_read d.new) }
 {

@@ -1,6 +1,7 @@
 // The keys of one chain, as far as it takes to find a second record with one of them.
 
 ghost use Rattle.std.specs.Prelude.{◌≡◌, ℕ, List, [], ◌+◌, ◌<◌, ◌||◌, true, false, not, nat_eq, IsTrue, length, Some, IfOk, IfErr, OnOk};
+ghost use Rattle.tdb_disk.specs.Count.{HasCauseOf};
 ghost use Rattle.std.specs.Ordering.{nat_cmp};
 ghost use Rattle.std.specs.Cmp.Lexicographic.{slice_cmp};
 ghost use Rattle.std.specs.BTreeSet.{contains};
@@ -10,7 +11,8 @@ ghost use Rattle.tdb_space.specs.Record.{key_len_of, key_at};
 ghost use Rattle.tdb_space.specs.Pairs.{same_key};
 ghost use Rattle.tdb_check.specs.FirstOffsets.{first_of};
 ghost use Rattle.tdb_check.specs.Seen.{Names};
-ghost use Rattle.tdb_check.specs.Unchanged.{Unchanged, IoCause};
+ghost use Rattle.tdb_space.specs.Frame.{Looked};
+ghost use Rattle.tdb_check.specs.declared.refusal.CheckRefusal.TheVariants.{Io};
 
 use crate::first_offsets::FirstOffsets;
 use crate::refusal::CheckRefusal;
@@ -69,8 +71,8 @@ impl Keys {
             → TwinTold (S.form s.old) (S.image s.old) xs at twin self.new) }
         ensures no_fault { IfErr result (λ e. IsTrue S.tells → length (S.image s.old) ≡ len → (xs : List ℕ) → KeptIn (S.form s.old) (S.image s.old) xs self.old
             → (r.now.magic ≡ USED → Keyed (S.form s.old) (S.image s.old) at) → Names e (λ _. ⊥)) }
-        ensures still { Unchanged (S.size s.old) (S.size s.new) (S.image s.old) (S.image s.new) (S.form s.old) (S.form s.new) (S.spare s.old) (S.spare s.new) (S.disk_history s.old) (S.disk_history s.new) (S.under s.old) (S.under s.new) }
-        ensures cause { IoCause (S.faults s.old) (S.faults s.new) result }
+        ensures looked { Looked S.Space s.old s.new }
+        ensures cause { HasCauseOf Io (S.faults s.old) (S.faults s.new) result }
     {
         if r.magic != USED {
             return Ok(false);
@@ -105,8 +107,8 @@ impl Keys {
         ensures first { OnOk result (self.new.first ≡ self.old.first) }
         ensures no_fault { IfErr result (λ e. IsTrue S.tells → length (S.image s.old) ≡ len → (xs : List ℕ) → KeptIn (S.form s.old) (S.image s.old) xs self.old
             → first_of self.old.first hash ≡ Some first → Names e (λ _. ⊥)) }
-        ensures still { Unchanged (S.size s.old) (S.size s.new) (S.image s.old) (S.image s.new) (S.form s.old) (S.form s.new) (S.spare s.old) (S.spare s.new) (S.disk_history s.old) (S.disk_history s.new) (S.under s.old) (S.under s.new) }
-        ensures cause { IoCause (S.faults s.old) (S.faults s.new) result }
+        ensures looked { Looked S.Space s.old s.new }
+        ensures cause { HasCauseOf Io (S.faults s.old) (S.faults s.new) result }
     {
         if self.twice.contains(&hash) {
             return Ok(());
@@ -142,8 +144,8 @@ fn read_key<S: Space>(alloc: Global, s: &mut S, len: u64, at: u32) -> Result<Byt
     requires length { len ≡ S.size s.old }
     ensures value { IfOk result (λ key. IsTrue S.tells → key ≡ key_at (S.form s.old).order (S.image s.old) at) }
     ensures bad { IfErr result (λ e. IsTrue S.tells → Names e (λ _. len < at + 24 + key_len_of (S.form s.old).order (S.image s.old) at)) }
-    ensures still { Unchanged (S.size s.old) (S.size s.new) (S.image s.old) (S.image s.new) (S.form s.old) (S.form s.new) (S.spare s.old) (S.spare s.new) (S.disk_history s.old) (S.disk_history s.new) (S.under s.old) (S.under s.new) }
-    ensures cause { IoCause (S.faults s.old) (S.faults s.new) result }
+    ensures looked { Looked S.Space s.old s.new }
+    ensures cause { HasCauseOf Io (S.faults s.old) (S.faults s.new) result }
 {
     let off = at as u64 + 24;
     let bad = CheckRefusal::Corrupt {

@@ -1,10 +1,12 @@
 // The walks along all lists of a file.
 
 ghost use Rattle.std.specs.Prelude.{◌≡◌, ◌<◌, ◌≤◌, IsTrue, length, IfOk, IfErr};
+ghost use Rattle.tdb_disk.specs.Count.{HasCauseOf};
 ghost use Rattle.tdb_space.specs.Form.{data_start};
 ghost use Rattle.tdb_check.specs.Seen.{Names};
 ghost use Rattle.tdb_check.specs.Lists.{ListsFollowed, FirstInLists};
-ghost use Rattle.tdb_check.specs.Unchanged.{Unchanged, IoCause};
+ghost use Rattle.tdb_space.specs.Frame.{Looked};
+ghost use Rattle.tdb_check.specs.declared.refusal.CheckRefusal.TheVariants.{Io};
 
 use crate::chains::follow_chains;
 use crate::extent::Extent;
@@ -40,8 +42,8 @@ pub(crate) fn follow_lists<S: Space>(
     requires chains { 0 < (S.form s.old).chains }
     ensures sound { IfOk result (λ l. IsTrue S.tells → length (S.image s.old) ≡ len → ListsFollowed (S.form s.old) (S.image s.old) l) }
     ensures bad { IfErr result (λ e. IsTrue S.tells → length (S.image s.old) ≡ len → Names e (FirstInLists (S.form s.old) (S.image s.old))) }
-    ensures still { Unchanged (S.size s.old) (S.size s.new) (S.image s.old) (S.image s.new) (S.form s.old) (S.form s.new) (S.spare s.old) (S.spare s.new) (S.disk_history s.old) (S.disk_history s.new) (S.under s.old) (S.under s.new) }
-    ensures cause { IoCause (S.faults s.old) (S.faults s.new) result }
+    ensures looked { Looked S.Space s.old s.new }
+    ensures cause { HasCauseOf Io (S.faults s.old) (S.faults s.new) result }
 {
     let mut extents = Vec::new(alloc);
     let live = follow_chains(alloc, s, len, &mut extents)?;

@@ -1,12 +1,13 @@
 // One record, read and tested by itself.
 
 ghost use Rattle.std.specs.Prelude.{◌≡◌, ◌+◌, ◌≤◌, ◌<◌, ◌^◌, IsTrue, length, take, drop, IfOk, IfErr, None, Some, false};
-ghost use Rattle.tdb_disk.specs.Count.{HasCause};
+ghost use Rattle.tdb_disk.specs.Count.{HasCause, HasCauseOf};
 ghost use Rattle.tdb_words.specs.Word.{word};
 ghost use Rattle.tdb_words.specs.Hash.{h_of};
 ghost use Rattle.tdb_words.specs.Record.{rec_at};
 ghost use Rattle.tdb_check.specs.Seen.{kind_of, is_bad_header, is_misfiled_header, own_fault, Names};
-ghost use Rattle.tdb_check.specs.Unchanged.{Unchanged, IoCause};
+ghost use Rattle.tdb_space.specs.Frame.{Looked};
+ghost use Rattle.tdb_check.specs.declared.refusal.CheckRefusal.TheVariants.{Io as DiskFailed};
 
 use crate::list_kind::ListKind;
 use crate::refusal::CheckRefusal;
@@ -39,7 +40,7 @@ fn fill<S: Space>(s: &mut S, len: u64, at: u32, buf: &mut [u8; 512]) -> Result<u
     ensures held { IfOk result (λ held. (24 ≤ held) × (held ≤ 512)) }
     ensures shows { IfOk result (λ held. IsTrue S.tells → take held buf.new ≡ take held (drop at (S.image s.old))) }
     ensures long { length buf.new ≡ 512 }
-    ensures still { Unchanged (S.size s.old) (S.size s.new) (S.image s.old) (S.image s.new) (S.form s.old) (S.form s.new) (S.spare s.old) (S.spare s.new) (S.disk_history s.old) (S.disk_history s.new) (S.under s.old) (S.under s.new) }
+    ensures looked { Looked S.Space s.old s.new }
     ensures cause { HasCause (S.faults s.old) (S.faults s.new) result }
 {
     let held = (len - at as u64).min(WINDOW as u64) as usize;
@@ -63,7 +64,7 @@ fn tailer_of<S: Space>(s: &mut S, at: u32, rec_len: u32, window: &[u8]) -> Resul
     requires header { 24 ≤ length window.now }
     ensures value { IfOk result (λ t. IsTrue S.tells → window.now ≡ take (length window.now) (drop at (S.image s.old))
         → t ≡ word (S.form s.old).order (S.image s.old) (at + 20 + rec_len)) }
-    ensures still { Unchanged (S.size s.old) (S.size s.new) (S.image s.old) (S.image s.new) (S.form s.old) (S.form s.new) (S.spare s.old) (S.spare s.new) (S.disk_history s.old) (S.disk_history s.new) (S.under s.old) (S.under s.new) }
+    ensures looked { Looked S.Space s.old s.new }
     ensures cause { HasCause (S.faults s.old) (S.faults s.new) result }
 {
     let mut bytes = [0u8; 4];
@@ -81,7 +82,7 @@ fn long_hash<S: Space>(s: &mut S, off: u64, key_len: u32) -> Result<u32, Io>
     requires within { off + key_len ≤ S.size s.old }
     requires small { off + key_len < 2 ^ 64 }
     ensures value { IfOk result (λ h. IsTrue S.tells → h ≡ h_of (S.form s.old).hash (take key_len (drop off (S.image s.old)))) }
-    ensures still { Unchanged (S.size s.old) (S.size s.new) (S.image s.old) (S.image s.new) (S.form s.old) (S.form s.new) (S.spare s.old) (S.spare s.new) (S.disk_history s.old) (S.disk_history s.new) (S.under s.old) (S.under s.new) }
+    ensures looked { Looked S.Space s.old s.new }
     ensures cause { HasCause (S.faults s.old) (S.faults s.new) result }
 {
     let mut buf = [0u8; PIECE];
@@ -103,7 +104,7 @@ fn key_hash<S: Space>(s: &mut S, at: u32, key_len: u32, window: &[u8]) -> Result
     requires header { 24 ≤ length window.now }
     ensures value { IfOk result (λ h. IsTrue S.tells → window.now ≡ take (length window.now) (drop at (S.image s.old))
         → h ≡ h_of (S.form s.old).hash (take key_len (drop (at + 24) (S.image s.old)))) }
-    ensures still { Unchanged (S.size s.old) (S.size s.new) (S.image s.old) (S.image s.new) (S.form s.old) (S.form s.new) (S.spare s.old) (S.spare s.new) (S.disk_history s.old) (S.disk_history s.new) (S.under s.old) (S.under s.new) }
+    ensures looked { Looked S.Space s.old s.new }
     ensures cause { HasCause (S.faults s.old) (S.faults s.new) result }
 {
     let end = key_len as usize + 24;
@@ -140,8 +141,8 @@ pub fn read_record<S: Space>(
     ensures fits { IfOk result (λ r. is_bad_header (kind_of kind) r at len ≡ false) }
     ensures bad { IfErr result (λ e. IsTrue S.tells → length (S.image s.old) ≡ len
         → Names e (λ fault. own_fault (S.form s.old) (kind_of kind) (S.image s.old) at ≡ Some fault)) }
-    ensures still { Unchanged (S.size s.old) (S.size s.new) (S.image s.old) (S.image s.new) (S.form s.old) (S.form s.new) (S.spare s.old) (S.spare s.new) (S.disk_history s.old) (S.disk_history s.new) (S.under s.old) (S.under s.new) }
-    ensures cause { IoCause (S.faults s.old) (S.faults s.new) result }
+    ensures looked { Looked S.Space s.old s.new }
+    ensures cause { HasCauseOf DiskFailed (S.faults s.old) (S.faults s.new) result }
 {
     let mut buf = [0u8; WINDOW];
     let held = fill(s, len, at, &mut buf)?;

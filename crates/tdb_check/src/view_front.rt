@@ -1,11 +1,13 @@
 // The front of a file as a view shows it.
 
 ghost use Rattle.std.specs.Prelude.{◌≡◌, ◌≤◌, IsTrue, IfOk, IfErr, None, Some};
+ghost use Rattle.tdb_disk.specs.Count.{HasCauseOf};
 ghost use Rattle.tdb_space.specs.Form.{form_of, data_start};
 ghost use Rattle.tdb_space.specs.FirstFault.{front_fault};
 ghost use Rattle.tdb_check.specs.Seen.{Names};
 ghost use Rattle.tdb_check.specs.Report.{IsFormOf};
-ghost use Rattle.tdb_check.specs.Unchanged.{Unchanged, IoCause};
+ghost use Rattle.tdb_space.specs.Frame.{Looked};
+ghost use Rattle.tdb_check.specs.declared.refusal.CheckRefusal.TheVariants.{Io};
 
 use crate::front::is_short;
 use crate::refusal::CheckRefusal;
@@ -21,8 +23,8 @@ pub fn check_front<S: Space>(s: &mut S) -> Result<u64, CheckRefusal>
     ensures heads { IfOk result (λ len. data_start (S.form s.old) ≤ len) }
     ensures bad { IfErr result (λ e. IsTrue S.tells → IsFormOf (S.form s.old) (S.image s.old)
         → Names e (λ fault. front_fault (S.image s.old) ≡ Some fault)) }
-    ensures still { Unchanged (S.size s.old) (S.size s.new) (S.image s.old) (S.image s.new) (S.form s.old) (S.form s.new) (S.spare s.old) (S.spare s.new) (S.disk_history s.old) (S.disk_history s.new) (S.under s.old) (S.under s.new) }
-    ensures cause { IoCause (S.faults s.old) (S.faults s.new) result }
+    ensures looked { Looked S.Space s.old s.new }
+    ensures cause { HasCauseOf Io (S.faults s.old) (S.faults s.new) result }
 {
     let len = s.len()?;
     if len < 168 {

@@ -1,11 +1,13 @@
 // The check of a whole file.
 
 ghost use Rattle.std.specs.Prelude.{◌<◌, IsTrue, IfOk, IfErr};
+ghost use Rattle.tdb_disk.specs.Count.{HasCauseOf};
 ghost use Rattle.tdb_space.specs.Accepted.{Accept};
 ghost use Rattle.tdb_space.specs.FirstFault.{IsFirstFault};
 ghost use Rattle.tdb_check.specs.Seen.{Names};
 ghost use Rattle.tdb_check.specs.Report.{IsFormOf, Counted};
-ghost use Rattle.tdb_check.specs.Unchanged.{Unchanged, IoCause};
+ghost use Rattle.tdb_space.specs.Frame.{Looked};
+ghost use Rattle.tdb_check.specs.declared.refusal.CheckRefusal.TheVariants.{Io};
 
 use crate::area::{area_len, put_area, read_area};
 use crate::judge::judge_extents;
@@ -32,8 +34,8 @@ pub fn check<S: Space>(alloc: Global, s: &mut S) -> Result<Report, CheckRefusal>
     requires chains { 0 < (S.form s.old).chains }
     ensures accepted { IfOk result (λ r. IsTrue S.tells → IsFormOf (S.form s.old) (S.image s.old) → Accept (S.image s.old) × Counted (S.image s.old) r) }
     ensures first_fault { IfErr result (λ e. IsTrue S.tells → IsFormOf (S.form s.old) (S.image s.old) → Names e (IsFirstFault (S.image s.old))) }
-    ensures still { Unchanged (S.size s.old) (S.size s.new) (S.image s.old) (S.image s.new) (S.form s.old) (S.form s.new) (S.spare s.old) (S.spare s.new) (S.disk_history s.old) (S.disk_history s.new) (S.under s.old) (S.under s.new) }
-    ensures cause { IoCause (S.faults s.old) (S.faults s.new) result }
+    ensures looked { Looked S.Space s.old s.new }
+    ensures cause { HasCauseOf Io (S.faults s.old) (S.faults s.new) result }
 {
     let len = check_front(s)?;
     let area = read_area(s, len)?;

@@ -16,7 +16,7 @@ loop-turn-init g c = record {
   tails = search rules;
   turns = search rules;
   count = search rules;
-  still = search rules;
+  looked = search rules;
   faults = search rules;
 }
 
@@ -62,11 +62,11 @@ returns-in-Err-clause-bad g c told long is =
     let img2 = g.S.Space.image c.loop-turn.s in
     let v = c.loop-turn.invariant in
     let h = v.going told long is in
-    let again : length img2 ≡ c.args.len = ap length v.still.same_image ∙ long in
+    let again : length img2 ≡ c.args.len = ap length v.looked.image ∙ long in
     names_then c.in-Err.e (λ fault. record_fault f2 (chain_number c.args.j) img2 h.xs c.loop-turn.place c.loop-turn.at ≡ Some fault) (FirstInList f (chain_number c.args.j) img (chain_head c.args.j))
     (λ fault found. going_fault f c.args.j img c.loop-turn.notes c.args.extents.now.items c.loop-turn.extents.items c.loop-turn.live c.loop-turn._turn c.loop-turn.place c.loop-turn.at h fault c.if-at-eq0.false
-    ((λ i. record_fault (sym v.still.same_form i) (chain_number c.args.j) (sym v.still.same_image i) h.xs c.loop-turn.place c.loop-turn.at) ∙ found))
-    (c.in-Err.ensures.bad told again h.xs (same_view (λ k i. NotesOf k i h.xs c.loop-turn.notes) f f2 img img2 v.still.same_form v.still.same_image h.noted))
+    ((λ i. record_fault (sym v.looked.form i) (chain_number c.args.j) (sym v.looked.image i) h.xs c.loop-turn.place c.loop-turn.at) ∙ found))
+    (c.in-Err.ensures.bad told again h.xs (same_view (λ k i. NotesOf k i h.xs c.loop-turn.notes) f f2 img img2 v.looked.form v.looked.image h.noted))
 
 pub loop-turn-preserved : goal.loop-turn-preserved
 loop-turn-preserved g c =
@@ -80,17 +80,17 @@ loop-turn-preserved g c =
     record {
       going = λ told long is.
           (let h = v.going told long is in
-          let again : length img2 ≡ c.args.len = ap length v.still.same_image ∙ long in
+          let again : length img2 ≡ c.args.len = ap length v.looked.image ∙ long in
           let there : RecordPassed f2 c.args.j img2 h.xs c.loop-turn.place c.loop-turn.at c.in-Ok.r c.pass_record.new.notes =
-          c.in-Ok.ensures.good told again h.xs (same_view (λ k i. NotesOf k i h.xs c.loop-turn.notes) f f2 img img2 v.still.same_form v.still.same_image h.noted) in
+          c.in-Ok.ensures.good told again h.xs (same_view (λ k i. NotesOf k i h.xs c.loop-turn.notes) f f2 img img2 v.looked.form v.looked.image h.noted) in
           let here : RecordPassed f c.args.j img h.xs c.loop-turn.place c.loop-turn.at c.in-Ok.r c.pass_record.new.notes =
-          same_view (λ k i. RecordPassed k c.args.j i h.xs c.loop-turn.place c.loop-turn.at c.in-Ok.r c.pass_record.new.notes) f2 f img2 img (sym v.still.same_form) (sym v.still.same_image) there in
+          same_view (λ k i. RecordPassed k c.args.j i h.xs c.loop-turn.place c.loop-turn.at c.in-Ok.r c.pass_record.new.notes) f2 f img2 img (sym v.looked.form) (sym v.looked.image) there in
           going_more f c.args.j img c.loop-turn.notes c.args.extents.now.items c.loop-turn.extents.items c.loop-turn.live c.loop-turn._turn c.loop-turn.place c.loop-turn.at h
           c.pass_record.new.notes c.put-in-loop-turn.new.extents.items (c.loop-turn.live + c.used_count-live.result) c.in-Ok.r c.if-at-eq0.false here put (ap (λ n. c.loop-turn.live + n) c.used_count-live.ensures.one));
       tails = search rules;
       turns = omega (arith, v.turns, c.used_count-live.ensures.at_most);
       count = omega (arith, v.count, c.used_count-live.ensures.at_most, longer);
-      still = search rules;
+      looked = search rules;
       faults = search rules;
     }
 

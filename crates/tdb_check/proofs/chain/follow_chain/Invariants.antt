@@ -2,7 +2,7 @@
 use Rattle.std.proofs.Common.{◌≡◌, ◌+◌, ◌≤◌, IsTrue, length}
 use Rattle.tdb_words.specs.Word.{word}
 use Rattle.tdb_space.specs.Form.{chain_head}
-use Rattle.tdb_check.specs.Unchanged.{Unchanged}
+use Rattle.tdb_space.specs.Frame.{Looked}
 use Rattle.tdb_check.proofs.OneChain.{ChainGoing}
 use Rattle.tdb_check.proofs.chain.follow_chain.Given as goal
 
@@ -13,6 +13,6 @@ invariant-loop-turn g l = record {
   tails : l.notes.tails ≡ l.fn.notes.tails;
   turns : l.live ≤ l._turn;
   count : l.live + length l.fn.extents.items ≤ length l.extents.items;
-  still : Unchanged (g.S.Space.size l.fn.s) (g.S.Space.size l.s) (g.S.Space.image l.fn.s) (g.S.Space.image l.s) (g.S.Space.form l.fn.s) (g.S.Space.form l.s) (g.S.Space.spare l.fn.s) (g.S.Space.spare l.s) (g.S.Space.disk_history l.fn.s) (g.S.Space.disk_history l.s) (g.S.Space.under l.fn.s) (g.S.Space.under l.s);
-  faults : g.S.Space.faults l.fn.s ≤ g.S.Space.faults l.s;
+  looked : Looked g.S.Space l.fn.s l.s;
+  faults : g.S.Space.faults l.s ≡ g.S.Space.faults l.fn.s;
 }

@@ -29,12 +29,12 @@ returns-then-twin-clause-bad g c told long xs noted =
     let f2 = g.S.Space.form c.read_record.new.s in
     let img2 = g.S.Space.image c.read_record.new.s in
     let told_twin : TwinTold f2 img2 xs c.args.at c.in-Ok-is_twin.twin c.is_twin.new.self =
-    c.in-Ok-is_twin.ensures.twin told (ap length a.still.same_image ∙ long) xs
-    (same_view (λ h i. KeptIn h i xs c.args.notes.now.keys) f f2 img img2 a.still.same_form a.still.same_image noted.keys)
-    (good.1 ∙ (λ j. rec_at (sym a.still.same_form j).order (sym a.still.same_image j) c.args.at))
-    (λ used. same_view (λ h i. Keyed h i c.args.at) f f2 img img2 a.still.same_form a.still.same_image (keyed used)) in
+    c.in-Ok-is_twin.ensures.twin told (ap length a.looked.image ∙ long) xs
+    (same_view (λ h i. KeptIn h i xs c.args.notes.now.keys) f f2 img img2 a.looked.form a.looked.image noted.keys)
+    (good.1 ∙ (λ j. rec_at (sym a.looked.form j).order (sym a.looked.image j) c.args.at))
+    (λ used. same_view (λ h i. Keyed h i c.args.at) f f2 img img2 a.looked.form a.looked.image (keyed used)) in
     let twin : TwinTold f img xs c.args.at c.in-Ok-is_twin.twin c.is_twin.new.self =
-    same_view (λ h i. TwinTold h i xs c.args.at c.in-Ok-is_twin.twin c.is_twin.new.self) f2 f img2 img (sym a.still.same_form) (sym a.still.same_image) told_twin in
+    same_view (λ h i. TwinTold h i xs c.args.at c.in-Ok-is_twin.twin c.is_twin.new.self) f2 f img2 img (sym a.looked.form) (sym a.looked.image) told_twin in
     fault_twin f c.args.j img c.args.at stands good.0 xs c.args.place new_one (sym twin.answer ∙ c.if-twin.true)
 
 pub returns-clause-good : goal.returns-clause-good
@@ -52,12 +52,12 @@ returns-clause-good g c told long xs noted =
     let f2 = g.S.Space.form c.read_record.new.s in
     let img2 = g.S.Space.image c.read_record.new.s in
     let told_twin : TwinTold f2 img2 xs c.args.at c.in-Ok-is_twin.twin c.is_twin.new.self =
-    c.in-Ok-is_twin.ensures.twin told (ap length a.still.same_image ∙ long) xs
-    (same_view (λ h i. KeptIn h i xs c.args.notes.now.keys) f f2 img img2 a.still.same_form a.still.same_image noted.keys)
-    (good.1 ∙ (λ j. rec_at (sym a.still.same_form j).order (sym a.still.same_image j) c.args.at))
-    (λ used. same_view (λ h i. Keyed h i c.args.at) f f2 img img2 a.still.same_form a.still.same_image (keyed used)) in
+    c.in-Ok-is_twin.ensures.twin told (ap length a.looked.image ∙ long) xs
+    (same_view (λ h i. KeptIn h i xs c.args.notes.now.keys) f f2 img img2 a.looked.form a.looked.image noted.keys)
+    (good.1 ∙ (λ j. rec_at (sym a.looked.form j).order (sym a.looked.image j) c.args.at))
+    (λ used. same_view (λ h i. Keyed h i c.args.at) f f2 img img2 a.looked.form a.looked.image (keyed used)) in
     let twin : TwinTold f img xs c.args.at c.in-Ok-is_twin.twin c.is_twin.new.self =
-    same_view (λ h i. TwinTold h i xs c.args.at c.in-Ok-is_twin.twin c.is_twin.new.self) f2 f img2 img (sym a.still.same_form) (sym a.still.same_image) told_twin in
+    same_view (λ h i. TwinTold h i xs c.args.at c.in-Ok-is_twin.twin c.is_twin.new.self) f2 f img2 img (sym a.looked.form) (sym a.looked.image) told_twin in
     record {
       sound = fault_none f (chain_number c.args.j) img xs c.args.place c.args.at stands new_one good.0 (sym twin.answer ∙ c.if-twin.false);
       header = good.1;

@@ -20,16 +20,16 @@ returns-in-Err-clause-bad g c told long read before n to tails =
     let f2 = g.S.Space.form c.loop-i.s in
     let img2 = g.S.Space.image c.loop-i.s in
     let v = c.loop-i.invariant in
-    let again : length img2 ≡ c.args.len = ap length v.still.same_image ∙ long in
+    let again : length img2 ≡ c.args.len = ap length v.looked.image ∙ long in
     let j = c.args.first + c.loop-i.i in
     let place : chain_head c.args.first + 4 * c.loop-i.i ≡ chain_head j = omega arith in
     let head : word f.order img (chain_head j) ≡ c.word_in-head.result =
     sym (c.word_in-head.ensures ∙ (λ k. word (c.order-order.ensures k) (read k) (4 * c.loop-i.i)) ∙ word_of_part f.order img (chain_head c.args.first) (4 * c.args.count) (4 * c.loop-i.i) (omega arith) ∙ ap (word f.order img) place) in
-    let there : word f2.order img2 (chain_head j) ≡ c.word_in-head.result = (λ k. word (v.still.same_form k).order (v.still.same_image k) (chain_head j)) ∙ head in
+    let there : word f2.order img2 (chain_head j) ≡ c.word_in-head.result = (λ k. word (v.looked.form k).order (v.looked.image k) (chain_head j)) ∙ head in
     let low : j < f.chains = omega (arith, c.requires.chains) in
     names_then c.in-Err.e (FirstInList f2 (chain_number j) img2 (chain_head j)) (FirstInChains f img)
     (λ fault found. chains_fault f img j before c.loop-i.extents.items (n + c.loop-i.live) (v.followed told long read before n to tails).0 low fault
-    (same_view (λ k i. FirstInList k (chain_number j) i (chain_head j) fault) f2 f img2 img (sym v.still.same_form) (sym v.still.same_image) found))
+    (same_view (λ k i. FirstInList k (chain_number j) i (chain_head j) fault) f2 f img2 img (sym v.looked.form) (sym v.looked.image) found))
     (c.in-Err.ensures.bad told again there)
 
 pub loop-i-preserved : goal.loop-i-preserved
@@ -42,15 +42,15 @@ loop-i-preserved g c =
     let j = c.args.first + c.loop-i.i in
     record {
       followed = λ told long read before n to tails.
-          (let again : length img2 ≡ c.args.len = ap length v.still.same_image ∙ long in
+          (let again : length img2 ≡ c.args.len = ap length v.looked.image ∙ long in
           let place : chain_head c.args.first + 4 * c.loop-i.i ≡ chain_head j = omega arith in
           let head : word f.order img (chain_head j) ≡ c.word_in-head.result =
           sym (c.word_in-head.ensures ∙ (λ k. word (c.order-order.ensures k) (read k) (4 * c.loop-i.i)) ∙ word_of_part f.order img (chain_head c.args.first) (4 * c.args.count) (4 * c.loop-i.i) (omega arith) ∙ ap (word f.order img) place) in
-          let there : word f2.order img2 (chain_head j) ≡ c.word_in-head.result = (λ k. word (v.still.same_form k).order (v.still.same_image k) (chain_head j)) ∙ head in
+          let there : word f2.order img2 (chain_head j) ≡ c.word_in-head.result = (λ k. word (v.looked.form k).order (v.looked.image k) (chain_head j)) ∙ head in
           let so_far = v.followed told long read before n to tails in
           let both : ChainFollowed f j img c.loop-i.extents.items c.follow_chain.new.extents.items c.in-Ok.used × TailsOf f img (extents_seen c.follow_chain.new.extents.items) c.follow_chain.new.notes.tails =
-          same_view (λ k i. ChainFollowed k j i c.loop-i.extents.items c.follow_chain.new.extents.items c.in-Ok.used × TailsOf k i (extents_seen c.follow_chain.new.extents.items) c.follow_chain.new.notes.tails) f2 f img2 img (sym v.still.same_form) (sym v.still.same_image)
-          (c.in-Ok.ensures.sound told again there (same_view (λ k i. TailsOf k i (extents_seen c.loop-i.extents.items) c.loop-i.notes.tails) f f2 img img2 v.still.same_form v.still.same_image so_far.1)) in
+          same_view (λ k i. ChainFollowed k j i c.loop-i.extents.items c.follow_chain.new.extents.items c.in-Ok.used × TailsOf k i (extents_seen c.follow_chain.new.extents.items) c.follow_chain.new.notes.tails) f2 f img2 img (sym v.looked.form) (sym v.looked.image)
+          (c.in-Ok.ensures.sound told again there (same_view (λ k i. TailsOf k i (extents_seen c.loop-i.extents.items) c.loop-i.notes.tails) f f2 img img2 v.looked.form v.looked.image so_far.1)) in
           let more = chains_more f img j before c.loop-i.extents.items c.follow_chain.new.extents.items (n + c.loop-i.live) c.in-Ok.used so_far.0 both.0 in
           let number : j + 1 ≡ c.args.first + (c.loop-i.i + 1) = omega arith in
           let total : n + c.loop-i.live + c.in-Ok.used ≡ n + (c.loop-i.live + c.in-Ok.used) = omega arith in (
@@ -59,7 +59,7 @@ loop-i-preserved g c =
             both.1,
           ));
       count = omega (arith, v.count, c.in-Ok.ensures.count);
-      still = search rules;
+      looked = search rules;
       faults = search rules;
     }
 

@@ -15,8 +15,8 @@ loop-first-preserved g c =
     let f2 = g.S.Space.form c.read.new.self in
     let img2 = g.S.Space.image c.read.new.self in
     let v = c.loop-first.invariant in
-    let form : f2 ≡ f = c.read.ensures.form ∙ v.still.same_form in
-    let image : img2 ≡ img = c.read.ensures.image ∙ v.still.same_image in
+    let form : f2 ≡ f = c.read.ensures.form ∙ v.looked.form in
+    let image : img2 ≡ img = c.read.ensures.image ∙ v.looked.image in
     let size : length (take (4 * c.min-count.result) c.loop-first.block) ≡ 4 * c.min-count.result = omega (arith, length-take (4 * c.min-count.result) c.loop-first.block, c.min-count.ensures, c.min-count.array_long) in
     record {
       followed = λ told long.
@@ -34,7 +34,7 @@ loop-first-preserved g c =
           ));
       within = search rules;
       count = omega (arith, v.count, c.in-Ok.ensures.count);
-      still = search rules;
+      looked = search rules;
       faults = search rules;
     }
 
@@ -45,8 +45,8 @@ returns-in-Err-clause-bad g c told long =
     let f2 = g.S.Space.form c.read.new.self in
     let img2 = g.S.Space.image c.read.new.self in
     let v = c.loop-first.invariant in
-    let form : f2 ≡ f = c.read.ensures.form ∙ v.still.same_form in
-    let image : img2 ≡ img = c.read.ensures.image ∙ v.still.same_image in
+    let form : f2 ≡ f = c.read.ensures.form ∙ v.looked.form in
+    let image : img2 ≡ img = c.read.ensures.image ∙ v.looked.image in
     let size : length (take (4 * c.min-count.result) c.loop-first.block) ≡ 4 * c.min-count.result = omega (arith, length-take (4 * c.min-count.result) c.loop-first.block, c.min-count.ensures, c.min-count.array_long) in
     let again : length img2 ≡ c.args.len = ap length image ∙ long in
     let read : c.read.new.buf ≡ take (4 * c.min-count.result) (drop (chain_head c.loop-first.first) img2) =

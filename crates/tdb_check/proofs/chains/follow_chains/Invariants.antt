@@ -3,7 +3,7 @@ use Rattle.std.proofs.Common.{◌≡◌, ◌+◌, ◌-◌, ◌≤◌, IsTrue, le
 use Rattle.tdb_check.specs.Extent.{extents_seen}
 use Rattle.tdb_check.specs.Tails.{TailsOf}
 use Rattle.tdb_check.specs.Chains.{ChainsTo}
-use Rattle.tdb_check.specs.Unchanged.{Unchanged}
+use Rattle.tdb_space.specs.Frame.{Looked}
 use Rattle.tdb_check.proofs.chains.follow_chains.Given as goal
 
 abbrev pub decreases-loop-first : goal.decreases-loop-first
@@ -16,6 +16,6 @@ invariant-loop-first g l = record {
       × TailsOf (g.S.Space.form l.fn.s) (g.S.Space.image l.fn.s) (extents_seen l.extents.items) l.notes.tails;
   within : l.first ≤ l.chains;
   count : l.live + length l.fn.extents.items ≤ length l.extents.items;
-  still : Unchanged (g.S.Space.size l.fn.s) (g.S.Space.size l.s) (g.S.Space.image l.fn.s) (g.S.Space.image l.s) (g.S.Space.form l.fn.s) (g.S.Space.form l.s) (g.S.Space.spare l.fn.s) (g.S.Space.spare l.s) (g.S.Space.disk_history l.fn.s) (g.S.Space.disk_history l.s) (g.S.Space.under l.fn.s) (g.S.Space.under l.s);
-  faults : g.S.Space.faults l.fn.s ≤ g.S.Space.faults l.s;
+  looked : Looked g.S.Space l.fn.s l.s;
+  faults : g.S.Space.faults l.s ≡ g.S.Space.faults l.fn.s;
 }

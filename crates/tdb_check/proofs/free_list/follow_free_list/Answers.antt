@@ -21,7 +21,7 @@ loop-turn-init g c = record {
       let bytes : c.read.new.buf ≡ take 4 (drop 168 img) = c.in_ok-read.ensures.bytes told in
       let is : c.word_at-at.result ≡ word f.order img 168 = c.word_at-at.ensures ∙ (λ j. word (order j) (bytes j) 0) ∙ word_of_part f.order img 168 4 0 (omega arith) in
       following_start f free_list img free_head c.word_at-at.result (met c.new-met.result) c.args.extents.now.items (sym is) c.new-met.ensures);
-  still = search rules;
+  looked = search rules;
   faults = search rules;
 }
 
@@ -33,13 +33,13 @@ returns-in-Err-clause-bad g c told long =
     let noted = met c.loop-turn.met in
     let old = c.args.extents.now.items in
     let h = v.followed told long in
-    let chains : c.hash_size.result ≡ f.chains = c.hash_size.ensures ∙ ap (λ x. x.chains) v.still.same_form in
+    let chains : c.hash_size.result ≡ f.chains = c.hash_size.ensures ∙ ap (λ x. x.chains) v.looked.form in
     let test = c.can_stand.ensures ∙ ap (λ n. not (is_out_at n c.args.len c.loop-turn.at)) chains in
     let stands : is_out f img c.loop-turn.at ≡ false = out_is f img c.loop-turn.at c.args.len long ∙ not_true (is_out_at f.chains c.args.len c.loop-turn.at) (sym test ∙ c.if-not-can_stand.false) in
-    let again : length (g.S.Space.image c.loop-turn.s) ≡ c.args.len = ap length v.still.same_image ∙ long in
+    let again : length (g.S.Space.image c.loop-turn.s) ≡ c.args.len = ap length v.looked.image ∙ long in
     names_then c.in-Err.e (λ fault. own_fault (g.S.Space.form c.loop-turn.s) free_list (g.S.Space.image c.loop-turn.s) c.loop-turn.at ≡ Some fault) (FirstInList f free_list img free_head)
     (λ fault own. following_own f free_list img free_head noted old c.loop-turn.extents.items c.loop-turn._turn c.loop-turn.place c.loop-turn.at h fault c.if-at-eq0.false stands (sym c.contains.ensures ∙ c.if-contains.false)
-    ((λ j. own_fault (sym v.still.same_form j) free_list (sym v.still.same_image j) c.loop-turn.at) ∙ own))
+    ((λ j. own_fault (sym v.looked.form j) free_list (sym v.looked.image j) c.loop-turn.at) ∙ own))
     (c.in-Err.ensures.bad told again)
 
 pub loop-turn-preserved : goal.loop-turn-preserved
@@ -49,17 +49,17 @@ loop-turn-preserved g c =
     let v = c.loop-turn.invariant in
     record {
       followed = λ told long.
-          (let chains : c.hash_size.result ≡ f.chains = c.hash_size.ensures ∙ ap (λ x. x.chains) v.still.same_form in
+          (let chains : c.hash_size.result ≡ f.chains = c.hash_size.ensures ∙ ap (λ x. x.chains) v.looked.form in
           let test = c.can_stand.ensures ∙ ap (λ n. not (is_out_at n c.args.len c.loop-turn.at)) chains in
           let stands : is_out f img c.loop-turn.at ≡ false = out_is f img c.loop-turn.at c.args.len long ∙ not_true (is_out_at f.chains c.args.len c.loop-turn.at) (sym test ∙ c.if-not-can_stand.false) in
-          let again : length (g.S.Space.image c.loop-turn.s) ≡ c.args.len = ap length v.still.same_image ∙ long in
+          let again : length (g.S.Space.image c.loop-turn.s) ≡ c.args.len = ap length v.looked.image ∙ long in
           let good = c.in-Ok.ensures.good told again in
           free_more f img free_head (met c.loop-turn.met) (met c.note.new.self) c.args.extents.now.items c.loop-turn.extents.items c.put.new.extents.items c.loop-turn._turn c.loop-turn.place c.loop-turn.at c.in-Ok.r
           (v.followed told long) c.if-at-eq0.false stands (sym c.contains.ensures ∙ c.if-contains.false)
-          ((λ j. own_fault (sym v.still.same_form j) free_list (sym v.still.same_image j) c.loop-turn.at) ∙ good.0)
-          (good.1 ∙ (λ j. rec_at (v.still.same_form j).order (v.still.same_image j) c.loop-turn.at))
+          ((λ j. own_fault (sym v.looked.form j) free_list (sym v.looked.image j) c.loop-turn.at) ∙ good.0)
+          (good.1 ∙ (λ j. rec_at (v.looked.form j).order (v.looked.image j) c.loop-turn.at))
           c.in_ok-note.ensures c.in_ok-put.ensures.ok);
-      still = search rules;
+      looked = search rules;
       faults = search rules;
     }
 

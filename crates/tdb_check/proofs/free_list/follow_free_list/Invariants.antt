@@ -3,7 +3,7 @@ use Rattle.std.proofs.Common.{◌≡◌, ◌≤◌, IsTrue, length}
 use Rattle.tdb_space.specs.Form.{free_head}
 use Rattle.tdb_space.specs.FirstFault.{free_list}
 use Rattle.tdb_check.specs.Trail.{met}
-use Rattle.tdb_check.specs.Unchanged.{Unchanged}
+use Rattle.tdb_space.specs.Frame.{Looked}
 use Rattle.tdb_check.proofs.Following.{Following}
 use Rattle.tdb_check.proofs.free_list.follow_free_list.Given as goal
 
@@ -11,6 +11,6 @@ abbrev pub invariant-loop-turn : goal.invariant-loop-turn
 invariant-loop-turn g l = record {
   followed : IsTrue g.S.Space.tells → length (g.S.Space.image l.fn.s) ≡ l.len
       → Following (g.S.Space.form l.fn.s) free_list (g.S.Space.image l.fn.s) free_head (met l.met) l.fn.extents.items l.extents.items l._turn l.place l.at;
-  still : Unchanged (g.S.Space.size l.fn.s) (g.S.Space.size l.s) (g.S.Space.image l.fn.s) (g.S.Space.image l.s) (g.S.Space.form l.fn.s) (g.S.Space.form l.s) (g.S.Space.spare l.fn.s) (g.S.Space.spare l.s) (g.S.Space.disk_history l.fn.s) (g.S.Space.disk_history l.s) (g.S.Space.under l.fn.s) (g.S.Space.under l.s);
-  faults : g.S.Space.faults l.fn.s ≤ g.S.Space.faults l.s;
+  looked : Looked g.S.Space l.fn.s l.s;
+  faults : g.S.Space.faults l.s ≡ g.S.Space.faults l.fn.s;
 }

@@ -16,16 +16,16 @@ returns-in_err-live-clause-bad g c =
 pub returns-in_err-follow_free_list-clause-bad : goal.returns-in_err-follow_free_list-clause-bad
 returns-in_err-follow_free_list-clause-bad g c =
     let p = err_from_is_err_and c.from_residual-in_err-follow_free_list.result c.from_residual-in_err-follow_free_list.ensures.1 in
-    let still = c.in_ok-live.ensures.still in
+    let looked = c.in_ok-live.ensures.looked in
     rw (p.1, p.2)
     (λ told long.
     names_then c.in_err-follow_free_list.field-0.0 _ _
-    (λ fault h. inr ((c.in_ok-live.ensures.sound told long).sound, still_then (λ f img. FirstInList f free_list img free_head fault) still.same_form still.same_image h))
-    (c.in_err-follow_free_list.ensures.bad told (ap length still.same_image ∙ long)))
+    (λ fault h. inr ((c.in_ok-live.ensures.sound told long).sound, still_then (λ f img. FirstInList f free_list img free_head fault) looked.form looked.image h))
+    (c.in_err-follow_free_list.ensures.bad told (ap length looked.image ∙ long)))
 
 pub returns-clause-sound : goal.returns-clause-sound
 returns-clause-sound g c told long =
-    let still = c.in_ok-live.ensures.still in
+    let looked = c.in_ok-live.ensures.looked in
     lists_followed (g.S.Space.form c.args.s.now) (g.S.Space.image c.args.s.now) c.new-extents.result.items _ c.in_ok-live.live c.len-chained.result _ c.new-extents.ensures.items (c.in_ok-live.ensures.sound told long)
-    still.same_form still.same_image (c.in_ok-follow_free_list.ensures.sound told (ap length still.same_image ∙ long))
+    looked.form looked.image (c.in_ok-follow_free_list.ensures.sound told (ap length looked.image ∙ long))
     (search rules) refl c.saturating_sub.ensures (search rules)

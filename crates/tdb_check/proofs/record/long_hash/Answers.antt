@@ -12,9 +12,9 @@ loop-done-preserved g c =
     record {
       within = within;
       held = λ told.
-          (let piece = c.in_ok-read.ensures.bytes told ∙ (λ j. take (count j) (drop (c.args.off + c.loop-done.done) (c.loop-done.invariant.still.same_image j))) in
+          (let piece = c.in_ok-read.ensures.bytes told ∙ (λ j. take (count j) (drop (c.args.off + c.loop-done.done) (c.loop-done.invariant.looked.image j))) in
           subst (Holds c.feed.new.self (g.S.Space.form c.args.s.now).hash c.args.key_len) (pieces_join img c.args.off c.loop-done.done c.min-count.result c.read.new.buf piece)
           (c.feed.ensures (g.S.Space.form c.args.s.now).hash c.args.key_len (take c.loop-done.done (drop c.args.off img)) (c.loop-done.invariant.held told)));
-      still = search rules;
+      looked = search rules;
       faults = search rules;
     }

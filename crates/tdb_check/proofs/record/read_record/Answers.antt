@@ -12,7 +12,7 @@ returns-then-is_bad-clause-bad g c told long =
     let f = g.S.Space.form c.args.s.now in
     let img = g.S.Space.image c.args.s.now in
     let a = c.in_ok-held.ensures in
-    let order : c.order.result ≡ f.order = c.order.ensures ∙ ap (λ x. x.order) a.still.same_form in
+    let order : c.order.result ≡ f.order = c.order.ensures ∙ ap (λ x. x.order) a.looked.form in
     let is : c.header_in-r.result ≡ rec_at f.order img c.args.at = c.header_in-r.ensures ∙ (λ j. rec_at (order j) (take c.in_ok-held.held c.fill.new.buf) 0)
     ∙ header_seen f.order img (take c.in_ok-held.held c.fill.new.buf) c.args.at c.in_ok-held.held a.held.0 (a.shows told) in
     bad_found f (kind_of c.args.kind) img c.args.at c.args.len c.header_in-r.result is long (sym c.is_bad.ensures ∙ c.if-is_bad.true)
@@ -22,13 +22,13 @@ returns-then-tailer-r-clause-bad g c told long =
     let f = g.S.Space.form c.args.s.now in
     let img = g.S.Space.image c.args.s.now in
     let a = c.in_ok-held.ensures in
-    let order : c.order.result ≡ f.order = c.order.ensures ∙ ap (λ x. x.order) a.still.same_form in
+    let order : c.order.result ≡ f.order = c.order.ensures ∙ ap (λ x. x.order) a.looked.form in
     let is : c.header_in-r.result ≡ rec_at f.order img c.args.at = c.header_in-r.ensures ∙ (λ j. rec_at (order j) (take c.in_ok-held.held c.fill.new.buf) 0)
     ∙ header_seen f.order img (take c.in_ok-held.held c.fill.new.buf) c.args.at c.in_ok-held.held a.held.0 (a.shows told) in
     let fits : c.in_ok-held.held ≤ length c.fill.new.buf = omega (arith, a.long, a.held.1) in
-    let window = window_again img (g.S.Space.image c.fill.new.s) c.fill.new.buf c.args.at c.in_ok-held.held fits (a.shows told) a.still.same_image in
+    let window = window_again img (g.S.Space.image c.fill.new.s) c.fill.new.buf c.args.at c.in_ok-held.held fits (a.shows told) a.looked.image in
     let t : c.in_ok-tailer.tailer ≡ word f.order img (c.args.at + 20 + c.header_in-r.result.rec_len) =
-    c.in_ok-tailer.ensures.value told window ∙ (λ j. word (a.still.same_form j).order (a.still.same_image j) (c.args.at + 20 + c.header_in-r.result.rec_len)) in
+    c.in_ok-tailer.ensures.value told window ∙ (λ j. word (a.looked.form j).order (a.looked.image j) (c.args.at + 20 + c.header_in-r.result.rec_len)) in
     let good : is_bad_header (kind_of c.args.kind) c.header_in-r.result c.args.at c.args.len ≡ false = sym c.is_bad.ensures ∙ c.if-is_bad.false in
     tailer_found f (kind_of c.args.kind) img c.args.at c.args.len c.header_in-r.result is long c.in_ok-tailer.tailer good t c.if-tailer-r.true
 
@@ -37,13 +37,13 @@ returns-then-r-ne-USED-clause-good g c told long =
     let f = g.S.Space.form c.args.s.now in
     let img = g.S.Space.image c.args.s.now in
     let a = c.in_ok-held.ensures in
-    let order : c.order.result ≡ f.order = c.order.ensures ∙ ap (λ x. x.order) a.still.same_form in
+    let order : c.order.result ≡ f.order = c.order.ensures ∙ ap (λ x. x.order) a.looked.form in
     let is : c.header_in-r.result ≡ rec_at f.order img c.args.at = c.header_in-r.ensures ∙ (λ j. rec_at (order j) (take c.in_ok-held.held c.fill.new.buf) 0)
     ∙ header_seen f.order img (take c.in_ok-held.held c.fill.new.buf) c.args.at c.in_ok-held.held a.held.0 (a.shows told) in
     let fits : c.in_ok-held.held ≤ length c.fill.new.buf = omega (arith, a.long, a.held.1) in
-    let window = window_again img (g.S.Space.image c.fill.new.s) c.fill.new.buf c.args.at c.in_ok-held.held fits (a.shows told) a.still.same_image in
+    let window = window_again img (g.S.Space.image c.fill.new.s) c.fill.new.buf c.args.at c.in_ok-held.held fits (a.shows told) a.looked.image in
     let t : c.in_ok-tailer.tailer ≡ word f.order img (c.args.at + 20 + c.header_in-r.result.rec_len) =
-    c.in_ok-tailer.ensures.value told window ∙ (λ j. word (a.still.same_form j).order (a.still.same_image j) (c.args.at + 20 + c.header_in-r.result.rec_len)) in
+    c.in_ok-tailer.ensures.value told window ∙ (λ j. word (a.looked.form j).order (a.looked.image j) (c.args.at + 20 + c.header_in-r.result.rec_len)) in
     let good : is_bad_header (kind_of c.args.kind) c.header_in-r.result c.args.at c.args.len ≡ false = sym c.is_bad.ensures ∙ c.if-is_bad.false in
     (unused_good f (kind_of c.args.kind) img c.args.at c.args.len c.header_in-r.result is long c.in_ok-tailer.tailer good t c.if-tailer-r.false c.if-r-ne-USED.true, is)
 
@@ -52,19 +52,19 @@ returns-then-is_misfiled-clause-bad g c told long =
     let f = g.S.Space.form c.args.s.now in
     let img = g.S.Space.image c.args.s.now in
     let a = c.in_ok-held.ensures in
-    let order : c.order.result ≡ f.order = c.order.ensures ∙ ap (λ x. x.order) a.still.same_form in
+    let order : c.order.result ≡ f.order = c.order.ensures ∙ ap (λ x. x.order) a.looked.form in
     let is : c.header_in-r.result ≡ rec_at f.order img c.args.at = c.header_in-r.ensures ∙ (λ j. rec_at (order j) (take c.in_ok-held.held c.fill.new.buf) 0)
     ∙ header_seen f.order img (take c.in_ok-held.held c.fill.new.buf) c.args.at c.in_ok-held.held a.held.0 (a.shows told) in
     let fits : c.in_ok-held.held ≤ length c.fill.new.buf = omega (arith, a.long, a.held.1) in
-    let window = window_again img (g.S.Space.image c.fill.new.s) c.fill.new.buf c.args.at c.in_ok-held.held fits (a.shows told) a.still.same_image in
+    let window = window_again img (g.S.Space.image c.fill.new.s) c.fill.new.buf c.args.at c.in_ok-held.held fits (a.shows told) a.looked.image in
     let t : c.in_ok-tailer.tailer ≡ word f.order img (c.args.at + 20 + c.header_in-r.result.rec_len) =
-    c.in_ok-tailer.ensures.value told window ∙ (λ j. word (a.still.same_form j).order (a.still.same_image j) (c.args.at + 20 + c.header_in-r.result.rec_len)) in
+    c.in_ok-tailer.ensures.value told window ∙ (λ j. word (a.looked.form j).order (a.looked.image j) (c.args.at + 20 + c.header_in-r.result.rec_len)) in
     let good : is_bad_header (kind_of c.args.kind) c.header_in-r.result c.args.at c.args.len ≡ false = sym c.is_bad.ensures ∙ c.if-is_bad.false in
     let b = c.in_ok-tailer.ensures in
-    let again = window_again img (g.S.Space.image c.tailer_of.new.s) c.fill.new.buf c.args.at c.in_ok-held.held fits (a.shows told) (b.still.same_image ∙ a.still.same_image) in
+    let again = window_again img (g.S.Space.image c.tailer_of.new.s) c.fill.new.buf c.args.at c.in_ok-held.held fits (a.shows told) (b.looked.image ∙ a.looked.image) in
     let key : c.in_ok-own_hash.own_hash ≡ h_of f.hash (take c.header_in-r.result.key_len (drop (c.args.at + 24) img)) =
-    c.in_ok-own_hash.ensures.value told again ∙ (λ j. h_of ((b.still.same_form ∙ a.still.same_form) j).hash (take c.header_in-r.result.key_len (drop (c.args.at + 24) ((b.still.same_image ∙ a.still.same_image) j)))) in
-    let form = c.in_ok-own_hash.ensures.still.same_form ∙ b.still.same_form ∙ a.still.same_form in
+    c.in_ok-own_hash.ensures.value told again ∙ (λ j. h_of ((b.looked.form ∙ a.looked.form) j).hash (take c.header_in-r.result.key_len (drop (c.args.at + 24) ((b.looked.image ∙ a.looked.image) j)))) in
+    let form = c.in_ok-own_hash.ensures.looked.form ∙ b.looked.form ∙ a.looked.form in
     let chains : c.hash_size.result ≡ f.chains = c.hash_size.ensures ∙ ap (λ x. x.chains) form in
     let placed : c.is_misfiled.result ≡ is_misfiled_header (kind_of c.args.kind) c.header_in-r.result c.in_ok-own_hash.own_hash f.chains =
     c.is_misfiled.ensures ∙ ap (is_misfiled_header (kind_of c.args.kind) c.header_in-r.result c.in_ok-own_hash.own_hash) chains in
@@ -75,19 +75,19 @@ returns-clause-good g c told long =
     let f = g.S.Space.form c.args.s.now in
     let img = g.S.Space.image c.args.s.now in
     let a = c.in_ok-held.ensures in
-    let order : c.order.result ≡ f.order = c.order.ensures ∙ ap (λ x. x.order) a.still.same_form in
+    let order : c.order.result ≡ f.order = c.order.ensures ∙ ap (λ x. x.order) a.looked.form in
     let is : c.header_in-r.result ≡ rec_at f.order img c.args.at = c.header_in-r.ensures ∙ (λ j. rec_at (order j) (take c.in_ok-held.held c.fill.new.buf) 0)
     ∙ header_seen f.order img (take c.in_ok-held.held c.fill.new.buf) c.args.at c.in_ok-held.held a.held.0 (a.shows told) in
     let fits : c.in_ok-held.held ≤ length c.fill.new.buf = omega (arith, a.long, a.held.1) in
-    let window = window_again img (g.S.Space.image c.fill.new.s) c.fill.new.buf c.args.at c.in_ok-held.held fits (a.shows told) a.still.same_image in
+    let window = window_again img (g.S.Space.image c.fill.new.s) c.fill.new.buf c.args.at c.in_ok-held.held fits (a.shows told) a.looked.image in
     let t : c.in_ok-tailer.tailer ≡ word f.order img (c.args.at + 20 + c.header_in-r.result.rec_len) =
-    c.in_ok-tailer.ensures.value told window ∙ (λ j. word (a.still.same_form j).order (a.still.same_image j) (c.args.at + 20 + c.header_in-r.result.rec_len)) in
+    c.in_ok-tailer.ensures.value told window ∙ (λ j. word (a.looked.form j).order (a.looked.image j) (c.args.at + 20 + c.header_in-r.result.rec_len)) in
     let good : is_bad_header (kind_of c.args.kind) c.header_in-r.result c.args.at c.args.len ≡ false = sym c.is_bad.ensures ∙ c.if-is_bad.false in
     let b = c.in_ok-tailer.ensures in
-    let again = window_again img (g.S.Space.image c.tailer_of.new.s) c.fill.new.buf c.args.at c.in_ok-held.held fits (a.shows told) (b.still.same_image ∙ a.still.same_image) in
+    let again = window_again img (g.S.Space.image c.tailer_of.new.s) c.fill.new.buf c.args.at c.in_ok-held.held fits (a.shows told) (b.looked.image ∙ a.looked.image) in
     let key : c.in_ok-own_hash.own_hash ≡ h_of f.hash (take c.header_in-r.result.key_len (drop (c.args.at + 24) img)) =
-    c.in_ok-own_hash.ensures.value told again ∙ (λ j. h_of ((b.still.same_form ∙ a.still.same_form) j).hash (take c.header_in-r.result.key_len (drop (c.args.at + 24) ((b.still.same_image ∙ a.still.same_image) j)))) in
-    let form = c.in_ok-own_hash.ensures.still.same_form ∙ b.still.same_form ∙ a.still.same_form in
+    c.in_ok-own_hash.ensures.value told again ∙ (λ j. h_of ((b.looked.form ∙ a.looked.form) j).hash (take c.header_in-r.result.key_len (drop (c.args.at + 24) ((b.looked.image ∙ a.looked.image) j)))) in
+    let form = c.in_ok-own_hash.ensures.looked.form ∙ b.looked.form ∙ a.looked.form in
     let chains : c.hash_size.result ≡ f.chains = c.hash_size.ensures ∙ ap (λ x. x.chains) form in
     let placed : c.is_misfiled.result ≡ is_misfiled_header (kind_of c.args.kind) c.header_in-r.result c.in_ok-own_hash.own_hash f.chains =
     c.is_misfiled.ensures ∙ ap (is_misfiled_header (kind_of c.args.kind) c.header_in-r.result c.in_ok-own_hash.own_hash) chains in

@@ -21,67 +21,67 @@ returns-in_err-len-clause-first_fault g c =
 pub returns-in_err-area-clause-first_fault : goal.returns-in_err-area-clause-first_fault
 returns-in_err-area-clause-first_fault g c =
     let p = err_from_is_err_and c.from_residual-in_err-area.result c.from_residual-in_err-area.ensures.1 in
-    let first = c.in_ok-len.ensures.still in
+    let first = c.in_ok-len.ensures.looked in
     rw (p.1, p.2)
     (λ told same.
     (let front = c.in_ok-len.ensures.sound told same in
     let long : length (g.S.Space.image c.args.s.now) ≡ c.in_ok-len.len = g.met.S.Space.told_size c.args.s.now told ∙ sym c.in_ok-len.ensures.length in
     names_then c.in_err-area.field-0.0 _ _
-    (λ fault h. at_area fault front.0 (still_then (λ f img. area_fault f img ≡ Some fault) (first.same_form ∙ front.1) first.same_image h))
-    (c.in_err-area.ensures.bad told (ap length first.same_image ∙ long))))
+    (λ fault h. at_area fault front.0 (still_then (λ f img. area_fault f img ≡ Some fault) (first.form ∙ front.1) first.image h))
+    (c.in_err-area.ensures.bad told (ap length first.image ∙ long))))
 
 pub returns-in_err-lists-clause-first_fault : goal.returns-in_err-lists-clause-first_fault
 returns-in_err-lists-clause-first_fault g c =
     let p = err_from_is_err_and c.from_residual-in_err-lists.result c.from_residual-in_err-lists.ensures.1 in
-    let first = c.in_ok-len.ensures.still in
-    let second = c.in_ok-area.ensures.still in
+    let first = c.in_ok-len.ensures.looked in
+    let second = c.in_ok-area.ensures.looked in
     rw (p.1, p.2)
     (λ told same.
     (let front = c.in_ok-len.ensures.sound told same in
     let long : length (g.S.Space.image c.args.s.now) ≡ c.in_ok-len.len = g.met.S.Space.told_size c.args.s.now told ∙ sym c.in_ok-len.ensures.length in
-    let none = c.in_ok-area.ensures.sound told (ap length first.same_image ∙ long) in
-    let heads : HeadsSound (g.S.Space.image c.args.s.now) = (front.0, still_then (λ f img. area_fault f img ≡ None) (first.same_form ∙ front.1) first.same_image none.0) in
+    let none = c.in_ok-area.ensures.sound told (ap length first.image ∙ long) in
+    let heads : HeadsSound (g.S.Space.image c.args.s.now) = (front.0, still_then (λ f img. area_fault f img ≡ None) (first.form ∙ front.1) first.image none.0) in
     names_then c.in_err-lists.field-0.0 _ _
-    (λ fault h. lists_first (g.S.Space.image c.args.s.now) fault heads (still_then (λ f img. FirstInLists f img fault) (second.same_form ∙ first.same_form ∙ front.1) (second.same_image ∙ first.same_image) h))
-    (c.in_err-lists.ensures.bad told (ap length (second.same_image ∙ first.same_image) ∙ long))))
+    (λ fault h. lists_first (g.S.Space.image c.args.s.now) fault heads (still_then (λ f img. FirstInLists f img fault) (second.form ∙ first.form ∙ front.1) (second.image ∙ first.image) h))
+    (c.in_err-lists.ensures.bad told (ap length (second.image ∙ first.image) ∙ long))))
 
 pub returns-in_err-dead_bytes-clause-first_fault : goal.returns-in_err-dead_bytes-clause-first_fault
 returns-in_err-dead_bytes-clause-first_fault g c =
     let p = err_from_is_err_and c.from_residual-in_err-dead_bytes.result c.from_residual-in_err-dead_bytes.ensures.1 in
-    let first = c.in_ok-len.ensures.still in
-    let second = c.in_ok-area.ensures.still in
-    let third = c.in_ok-lists.ensures.still in
+    let first = c.in_ok-len.ensures.looked in
+    let second = c.in_ok-area.ensures.looked in
+    let third = c.in_ok-lists.ensures.looked in
     let l = c.in_ok-lists.lists in
     rw (p.1, p.2)
     (λ told same.
     (let img = g.S.Space.image c.args.s.now in
     let front = c.in_ok-len.ensures.sound told same in
     let long : length img ≡ c.in_ok-len.len = g.met.S.Space.told_size c.args.s.now told ∙ sym c.in_ok-len.ensures.length in
-    let none = c.in_ok-area.ensures.sound told (ap length first.same_image ∙ long) in
-    let heads : HeadsSound (g.S.Space.image c.args.s.now) = (front.0, still_then (λ f i. area_fault f i ≡ None) (first.same_form ∙ front.1) first.same_image none.0) in
-    let followed = still_then (λ f i. ListsFollowed f i l) (second.same_form ∙ first.same_form ∙ front.1) (second.same_image ∙ first.same_image) (c.in_ok-lists.ensures.sound told (ap length (second.same_image ∙ first.same_image) ∙ long)) in
-    let there : area_seen c.in_ok-area.area ≡ area (form_of img).order img = none.1 ∙ (λ j. area ((first.same_form ∙ front.1) j).order (first.same_image j)) in
+    let none = c.in_ok-area.ensures.sound told (ap length first.image ∙ long) in
+    let heads : HeadsSound (g.S.Space.image c.args.s.now) = (front.0, still_then (λ f i. area_fault f i ≡ None) (first.form ∙ front.1) first.image none.0) in
+    let followed = still_then (λ f i. ListsFollowed f i l) (second.form ∙ first.form ∙ front.1) (second.image ∙ first.image) (c.in_ok-lists.ensures.sound told (ap length (second.image ∙ first.image) ∙ long)) in
+    let there : area_seen c.in_ok-area.area ≡ area (form_of img).order img = none.1 ∙ (λ j. area ((first.form ∙ front.1) j).order (first.image j)) in
     let seen : extents_seen c.put_area.new.extents.items ≡ extents_seen l.extents.items ++ area (form_of img).order img = c.in_ok-put_area.ensures ∙ ap (λ es. extents_seen l.extents.items ++ es) there in
     names_then c.in_err-dead_bytes.field-0.0 _ _
     (λ fault h. extents_first img l (extents_seen c.put_area.new.extents.items) fault heads followed seen
-    (still_then (λ f i. FirstAmong (extents_seen c.put_area.new.extents.items) (data_start f) i fault) (third.same_form ∙ second.same_form ∙ first.same_form ∙ front.1) (third.same_image ∙ second.same_image ∙ first.same_image) h))
-    (c.in_err-dead_bytes.ensures.bad told (ap length (third.same_image ∙ second.same_image ∙ first.same_image) ∙ long))))
+    (still_then (λ f i. FirstAmong (extents_seen c.put_area.new.extents.items) (data_start f) i fault) (third.form ∙ second.form ∙ first.form ∙ front.1) (third.image ∙ second.image ∙ first.image) h))
+    (c.in_err-dead_bytes.ensures.bad told (ap length (third.image ∙ second.image ∙ first.image) ∙ long))))
 
 pub returns-clause-accepted : goal.returns-clause-accepted
 returns-clause-accepted g c told same =
-    let first = c.in_ok-len.ensures.still in
-    let second = c.in_ok-area.ensures.still in
-    let third = c.in_ok-lists.ensures.still in
+    let first = c.in_ok-len.ensures.looked in
+    let second = c.in_ok-area.ensures.looked in
+    let third = c.in_ok-lists.ensures.looked in
     let l = c.in_ok-lists.lists in
     let img = g.S.Space.image c.args.s.now in
     let front = c.in_ok-len.ensures.sound told same in
     let long : length img ≡ c.in_ok-len.len = g.met.S.Space.told_size c.args.s.now told ∙ sym c.in_ok-len.ensures.length in
-    let none = c.in_ok-area.ensures.sound told (ap length first.same_image ∙ long) in
-    let heads : HeadsSound (g.S.Space.image c.args.s.now) = (front.0, still_then (λ f i. area_fault f i ≡ None) (first.same_form ∙ front.1) first.same_image none.0) in
-    let followed = still_then (λ f i. ListsFollowed f i l) (second.same_form ∙ first.same_form ∙ front.1) (second.same_image ∙ first.same_image) (c.in_ok-lists.ensures.sound told (ap length (second.same_image ∙ first.same_image) ∙ long)) in
-    let there : area_seen c.in_ok-area.area ≡ area (form_of img).order img = none.1 ∙ (λ j. area ((first.same_form ∙ front.1) j).order (first.same_image j)) in
+    let none = c.in_ok-area.ensures.sound told (ap length first.image ∙ long) in
+    let heads : HeadsSound (g.S.Space.image c.args.s.now) = (front.0, still_then (λ f i. area_fault f i ≡ None) (first.form ∙ front.1) first.image none.0) in
+    let followed = still_then (λ f i. ListsFollowed f i l) (second.form ∙ first.form ∙ front.1) (second.image ∙ first.image) (c.in_ok-lists.ensures.sound told (ap length (second.image ∙ first.image) ∙ long)) in
+    let there : area_seen c.in_ok-area.area ≡ area (form_of img).order img = none.1 ∙ (λ j. area ((first.form ∙ front.1) j).order (first.image j)) in
     let seen : extents_seen c.put_area.new.extents.items ≡ extents_seen l.extents.items ++ area (form_of img).order img = c.in_ok-put_area.ensures ∙ ap (λ es. extents_seen l.extents.items ++ es) there in
     all_accepted img l (extents_seen c.put_area.new.extents.items) c.in_ok-dead_bytes.dead_bytes c.area_len.result heads followed seen
-    (still_then (λ f i. NoFaultAmong (extents_seen c.put_area.new.extents.items) (data_start f) i c.in_ok-dead_bytes.dead_bytes) (third.same_form ∙ second.same_form ∙ first.same_form ∙ front.1) (third.same_image ∙ second.same_image ∙ first.same_image)
-    (c.in_ok-dead_bytes.ensures.clean told (ap length (third.same_image ∙ second.same_image ∙ first.same_image) ∙ long)))
+    (still_then (λ f i. NoFaultAmong (extents_seen c.put_area.new.extents.items) (data_start f) i c.in_ok-dead_bytes.dead_bytes) (third.form ∙ second.form ∙ first.form ∙ front.1) (third.image ∙ second.image ∙ first.image)
+    (c.in_ok-dead_bytes.ensures.clean told (ap length (third.image ∙ second.image ∙ first.image) ∙ long)))
     (c.area_len.ensures ∙ ap (sum_by (λ e. e.1)) there)
