@@ -1,6 +1,5 @@
 -- Which files are opened, what an opening answers of one, and why one is refused.
-use Rattle.std.specs.Prelude.{◌≡◌, ◌≢◌, ℕ, ◌<◌, ◌≤◌, List, length, Some, Result, IfErr}
-use Rattle.tdb_disk.specs.Count.{Rose}
+use Rattle.std.specs.Prelude.{◌≡◌, ◌≢◌, ℕ, ◌<◌, ◌≤◌, List, length, Some}
 use Rattle.tdb_words.specs.declared.what.What.TheVariants.{Short as TooShort, Header as BadHeader}
 use Rattle.tdb_words.specs.Header.{header_at, header_fault}
 use Rattle.tdb_space.specs.Accepted.{Accept}
@@ -39,11 +38,6 @@ abbrev pub HaltsRightly : List ℕ → Halt → Type 0
 HaltsRightly img (Refused refusal) = IsRefused img refusal
 HaltsRightly img Device = Unit {0}
 HaltsRightly img Memory = Unit {0}
-
--- the count of faults never falls, and rose where the disk is blamed
-pub record HaltsForCause {V : Type 0} (before now : ℕ) (answer : Result V Halt) : Type 0 where
-  pub never_falls : before ≤ now
-  pub failed : IfErr answer (λ halt. halt ≡ Device → Rose before now)
 
 -- how a look halts where the front is refused
 abbrev pub of_front : Front.FrontRefusal → Halt

@@ -1,7 +1,7 @@
 // The first change of a file: a key and its value are added at its end.
 
 ghost use Rattle.std.specs.Prelude.{◌≡◌, ◌≢◌, ◌+◌, ◌*◌, ◌%◌, ◌^◌, ◌<◌, ◌≤◌, ◌⊎◌, [], None, length, IsTrue, IsSome, IfOk, IfErr, OnOk, OnErr, MatchBool};
-ghost use Rattle.tdb_disk.specs.Count.{HasCause};
+ghost use Rattle.tdb_disk.specs.Count.{HasCause, HasCauseOf};
 ghost use Rattle.tdb_disk.specs.History.{seen};
 ghost use Rattle.tdb_disk.specs.Stop.{Quiet};
 ghost use Rattle.tdb_words.specs.Header.{header_at};
@@ -11,15 +11,14 @@ ghost use Rattle.tdb_space.specs.Accepted.{AcceptWith};
 ghost use Rattle.tdb_top.specs.declared.halt.Halt.TheVariants.{Device, Memory};
 ghost use Rattle.tdb_top.specs.declared.insert.Inserted.TheVariants.{Done as IsDone};
 ghost use Rattle.tdb_top.specs.Insert.{first_of, need_for, led_to, inserted, BrokenOff, InsertCause, IsInserted, HasAdded};
-ghost use Rattle.tdb_top.specs.Opening.{CanOpen, HaltsForCause, HaltsRightly};
+ghost use Rattle.tdb_top.specs.Opening.{CanOpen, HaltsRightly};
 
 use crate::halt::Halt;
-use crate::new_record::{new_rec, rec_len_for, record_bytes};
 use crate::opening::Opened;
 use std::alloc::Global;
 use tdb_chain::find;
 use tdb_disk::{Disk, DiskFault};
-use tdb_space::{Direct, Io};
+use tdb_space::{Direct, Io, new_rec, rec_len_for, record_bytes};
 use tdb_words::{Header, Order, chain_of, hash_of, word_at, word_bytes};
 
 /// The length of a record's header, in bytes.
@@ -101,7 +100,7 @@ fn add<D: Disk>(
     ensures broken { IfErr result (λ halt. halt ≡ Device → IsTrue D.tells → BrokenOff (seen (D.history disk.old)) (inserted (form_of (seen (D.history disk.old))) (seen (D.history disk.old)) key.now value.now) (need_for key.now value.now) (seen (D.history disk.new))) }
     ensures as_before { IfErr result (λ halt. halt ≢ Device → D.history disk.new ≡ D.history disk.old) }
     ensures halts { IfErr result (λ halt. (halt ≡ Device) ⊎ (halt ≡ Memory)) }
-    ensures cause { HaltsForCause (D.faults disk.old) (D.faults disk.new) result }
+    ensures cause { HasCauseOf Device (D.faults disk.old) (D.faults disk.new) result }
 {
     let order = opened.header.order;
     let first = first_of_chain(disk, opened, key)?;
@@ -144,7 +143,7 @@ pub(crate) fn insert<D: Disk>(
     ensures broken { IfErr result (λ halt. halt ≡ Device → IsTrue D.tells → BrokenOff (seen (D.history disk.old)) (inserted (form_of (seen (D.history disk.old))) (seen (D.history disk.old)) key.now value.now) (need_for key.now value.now) (seen (D.history disk.new))) }
     ensures kept_ok { IfOk result (λ end. end ≢ IsDone → D.history disk.new ≡ D.history disk.old) }
     ensures kept_err { IfErr result (λ halt. halt ≢ Device → D.history disk.new ≡ D.history disk.old) }
-    ensures cause { HaltsForCause (D.faults disk.old) (D.faults disk.new) result }
+    ensures cause { HasCauseOf Device (D.faults disk.old) (D.faults disk.new) result }
 {
     let opened = Opened::open(alloc, disk)?;
     if has_key(disk, &opened.header, key)? {

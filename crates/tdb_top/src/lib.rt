@@ -8,7 +8,6 @@ mod ending;
 mod halt;
 mod insert;
 mod line;
-mod new_record;
 mod opening;
 mod show;
 mod top;

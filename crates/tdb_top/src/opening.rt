@@ -1,13 +1,14 @@
 // The opening of a file: no file is used before the whole of it is checked.
 
 ghost use Rattle.std.specs.Prelude.{◌≡◌, ◌+◌, ◌*◌, ◌<◌, ◌≤◌, IsTrue, IfOk, IfErr};
+ghost use Rattle.tdb_disk.specs.Count.{HasCauseOf};
 ghost use Rattle.tdb_disk.specs.History.{seen};
 ghost use Rattle.tdb_space.specs.Form.{form_in};
 ghost use Rattle.tdb_space.specs.Accepted.{Accept};
 ghost use Rattle.tdb_space.specs.FirstFault.{IsFirstFault};
+ghost use Rattle.tdb_check.specs.declared.refusal.CheckRefusal.TheVariants.{Io};
 ghost use Rattle.tdb_check.specs.Seen.{Names};
 ghost use Rattle.tdb_check.specs.Report.{IsFormOf, Counted};
-ghost use Rattle.tdb_check.specs.Unchanged.{IoCause};
 
 use crate::halt::{Halt, Refusal};
 use std::alloc::Global;
@@ -40,14 +41,15 @@ fn check_disk<D: Disk>(alloc: Global, disk: &mut D, header: &Header) -> Result<R
     ensures first_fault { IfErr result (λ e. IsTrue D.tells → IsFormOf (form_in header.now) (seen (D.history disk.old)) → Names e (IsFirstFault (seen (D.history disk.old)))) }
     ensures size { D.size disk.new ≡ D.size disk.old }
     ensures history { D.history disk.new ≡ D.history disk.old }
-    ensures cause { IoCause (D.faults disk.old) (D.faults disk.new) result }
+    ensures cause { HasCauseOf Io (D.faults disk.old) (D.faults disk.new) result }
 {
     let mut space = Direct::new(disk, header);
     check(alloc, &mut space)
 }
 
 impl Opened {
-    ghost use Rattle.tdb_top.specs.Opening.{HaltsForCause, HaltsRightly, IsOpenedOn};
+    ghost use Rattle.tdb_top.specs.declared.halt.Halt.TheVariants.{Device};
+    ghost use Rattle.tdb_top.specs.Opening.{HaltsRightly, IsOpenedOn};
 
     /// Opens the file on a disk: it tests the length, then the header, and then checks the whole file. It changes nothing. The
     /// memory that it takes is that of the check.
@@ -58,7 +60,7 @@ impl Opened {
         ensures refused { IfErr result (λ halt. IsTrue D.tells → HaltsRightly (seen (D.history disk.old)) halt) }
         ensures size { D.size disk.new ≡ D.size disk.old }
         ensures history { D.history disk.new ≡ D.history disk.old }
-        ensures cause { HaltsForCause (D.faults disk.old) (D.faults disk.new) result }
+        ensures cause { HasCauseOf Device (D.faults disk.old) (D.faults disk.new) result }
     {
         let len = disk.len()?;
         if len > LONGEST_FILE {

@@ -1,13 +1,14 @@
 // The command that shows the value of a key.
 
 ghost use Rattle.std.specs.Prelude.{◌≡◌, ◌^◌, ◌<◌, ◌≤◌, ℕ, List, false, length, IsTrue, IfOk, IfErr};
-ghost use Rattle.tdb_disk.specs.Count.{Rose};
+ghost use Rattle.tdb_disk.specs.Count.{HasCauseOf, Rose};
 ghost use Rattle.tdb_disk.specs.History.{seen};
 ghost use Rattle.tdb_space.specs.Form.{form_of};
 ghost use Rattle.tdb_space.specs.Pairs.{map_of};
+ghost use Rattle.tdb_top.specs.declared.halt.Halt.TheVariants.{Device};
 ghost use Rattle.tdb_top.specs.CommandLine.{show};
 ghost use Rattle.tdb_top.specs.Ending.{LineCause, ending_of, no_line, device_fault};
-ghost use Rattle.tdb_top.specs.Opening.{CanOpen, HaltsForCause, HaltsRightly};
+ghost use Rattle.tdb_top.specs.Opening.{CanOpen, HaltsRightly};
 
 use crate::ending::Ending;
 use crate::halt::Halt;
@@ -26,7 +27,7 @@ fn look_up<D: Disk>(alloc: Global, disk: &mut D, key: &[u8]) -> Result<Option<By
     ensures refused { IfErr result (λ halt. IsTrue D.tells → HaltsRightly (seen (D.history disk.old)) halt) }
     ensures size { D.size disk.new ≡ D.size disk.old }
     ensures history { D.history disk.new ≡ D.history disk.old }
-    ensures cause { HaltsForCause (D.faults disk.old) (D.faults disk.new) result }
+    ensures cause { HasCauseOf Device (D.faults disk.old) (D.faults disk.new) result }
 {
     let opened = Opened::open(alloc, disk)?;
     let mut space = Direct::new(disk, &opened.header);

@@ -43,7 +43,7 @@ returns-in-Err-ends-clause-cause g c told =
     let device : c.in-Err-ends.halt ≡ Device → Rose before now = λ is.
     (let rose = c.in-Err-ends.ensures.cause.failed is in
     let some : 0 < g.F.D.Disk.faults c.insert-ends.new.disk = omega (arith, rose, c.in-Ok.ensures.disk_faults) in
-    rose_earlier before (g.F.Files.faults c.take.new.self) now c.in-Ok.ensures.faults (c.give.ensures.faulty some)) in
+    rose_earlier before (g.F.Files.faults c.take.new.self) now c.in-Ok.ensures.cause.never_falls (c.give.ensures.faulty some)) in
     subst (λ e. LineCause line held before now (ending_of e)) (sym c.from.ensures)
     (halted_cause line held before now (g.F.D.Disk.history c.in-Ok.disk) c.in-Err-ends.halt tt (there g ((goal.at.returns-in-Err-ends-clause-cause g c).After-give) told) (c.in-Err-ends.ensures.refused told) device)
 
@@ -68,7 +68,7 @@ pub returns-in-Err-clause-cause : goal.returns-in-Err-clause-cause
 returns-in-Err-clause-cause g c told =
     untaken_cause (insert c.args.name.now c.args.key.now c.args.value.now) (g.F.Files.held c.args.files.now c.args.name.now) _ _ c.in-Err.refusal _ tt
     (λ is. ((c.in-Err.ensures.missing told).0 (ap Err is)).0) (λ is. let new : Existing ≡ New = c.in-Err.ensures.there_how (ap Err is) in cc)
-    (λ is. c.in-Err.ensures.failed (ap Err is)) c.untaken.ensures
+    (λ is. c.in-Err.ensures.cause.failed is) c.untaken.ensures
 
 pub returns-in-Err-clause-left : goal.returns-in-Err-clause-left
 returns-in-Err-clause-left g c told =

@@ -45,7 +45,7 @@ returns-in-Err-opened-clause-cause g c told =
     let device : c.in-Err-opened.halt ≡ Device → Rose before now = λ is.
     (let rose = c.in-Err-opened.ensures.cause.failed is in
     let some : 0 < g.F.D.Disk.faults c.open-opened.new.disk = omega (arith, rose, c.in-Ok.ensures.disk_faults) in
-    rose_earlier before (g.F.Files.faults c.take.new.self) now c.in-Ok.ensures.faults (c.give.ensures.faulty some)) in
+    rose_earlier before (g.F.Files.faults c.take.new.self) now c.in-Ok.ensures.cause.never_falls (c.give.ensures.faulty some)) in
     subst (λ e. LineCause line held before now (ending_of e)) (sym c.from.ensures)
     (halted_cause line held before now (g.F.D.Disk.history c.in-Ok.disk) c.in-Err-opened.halt tt (there g ((goal.at.returns-in-Err-opened-clause-cause g c).After-give) told) (c.in-Err-opened.ensures.refused told) device)
 
@@ -54,4 +54,4 @@ pub returns-in-Err-clause-cause : goal.returns-in-Err-clause-cause
 returns-in-Err-clause-cause g c told =
     untaken_cause (check c.args.name.now) (g.F.Files.held c.args.files.now c.args.name.now) _ _ c.in-Err.refusal _ tt
     (λ is. ((c.in-Err.ensures.missing told).0 (ap Err is)).0) (λ is. let new : Existing ≡ New = c.in-Err.ensures.there_how (ap Err is) in cc)
-    (λ is. c.in-Err.ensures.failed (ap Err is)) c.untaken.ensures
+    (λ is. c.in-Err.ensures.cause.failed is) c.untaken.ensures

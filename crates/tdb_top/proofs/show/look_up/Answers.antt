@@ -11,7 +11,7 @@ returns-in_ok-value-in-Some-clause-found g c told =
     let bytes = ap (λ d. seen (g.D.Disk.history d)) c.new-space.ensures.disk ∙ ap seen c.in_ok-opened.ensures.history in
     value_found (seen (g.D.Disk.history c.args.disk.now)) c.args.key.now c.in_ok-opened.opened (c.in_ok-opened.ensures.opened told)
     _ _ _ _ c.in_ok-place.field-0 c.in-Some.place c.in_ok-value-in-Some.field-0
-    header bytes (c.find.ensures.form ∙ header) (c.find.ensures.image ∙ bytes) c.in-Some.is
+    header bytes (c.find.ensures.looked.form ∙ header) (c.find.ensures.looked.image ∙ bytes) c.in-Some.is
     (c.in_ok-place.ensures.found told) (c.in_ok-value-in-Some.ensures.value told)
 
 -- no place was found
