@@ -45,3 +45,6 @@ pub mod Written
 pub mod Stays
 pub mod Rooms
 pub mod Overlaid
+pub mod Moved
+pub mod Alike
+pub mod Tails

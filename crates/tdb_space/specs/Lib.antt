@@ -15,3 +15,5 @@ pub mod Standing
 pub mod NewRecord
 pub mod Stays
 pub mod SpareLeft
+pub mod Moved
+pub mod Undoing

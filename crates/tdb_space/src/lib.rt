@@ -15,6 +15,7 @@ mod space;
 mod standing;
 #[cfg(test)]
 mod tests;
+mod undoing;
 #[cfg(test)]
 mod view_tests;
 
@@ -30,3 +31,4 @@ pub use crate::reads::{key_equals, read_rec, read_word};
 pub use crate::sequence_number::sequence_law;
 pub use crate::space::Space;
 pub use crate::standing::{content_stands, header_stands, read_listed};
+pub use crate::undoing::undoing_law;

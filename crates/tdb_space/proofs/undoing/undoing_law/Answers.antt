@@ -1,0 +1,23 @@
+-- The laws are the lemmas.
+use Rattle.tdb_space.proofs.Moved.{moved_stays}
+use Rattle.tdb_space.proofs.Alike.{same_undo_restores, alike_restores, alike_reopens, exact_reopens}
+use Rattle.tdb_space.proofs.Tails.{tail_reopens}
+use Rattle.tdb_space.proofs.undoing.undoing_law.Goals as goal
+
+pub returns-clause-same_undo : goal.returns-clause-same_undo
+returns-clause-same_undo c = same_undo_restores
+
+pub returns-clause-alike : goal.returns-clause-alike
+returns-clause-alike c = alike_restores
+
+pub returns-clause-alike_again : goal.returns-clause-alike_again
+returns-clause-alike_again c = alike_reopens
+
+pub returns-clause-tail_again : goal.returns-clause-tail_again
+returns-clause-tail_again c = tail_reopens
+
+pub returns-clause-exact_again : goal.returns-clause-exact_again
+returns-clause-exact_again c = exact_reopens
+
+pub returns-clause-moved : goal.returns-clause-moved
+returns-clause-moved c = moved_stays

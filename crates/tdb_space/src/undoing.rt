@@ -1,0 +1,16 @@
+// What a stop of a recovery may leave opens to the map of the restored file.
+
+ghost use Rattle.tdb_space.specs.Moved.{MovedStays};
+ghost use Rattle.tdb_space.specs.Undoing.{SameUndoRestores, AlikeRestores, AlikeReopens, TailReopens, ExactReopens};
+
+/// Images that are undone alike are read as the same file, and so they reopen where one of them does; an accepted file with a shut
+/// undo area or zeros behind it reopens, and as it is too. A file of which just the undo area or the length becomes another holds
+/// the same pairs. The law is over all lists of bytes; the function does nothing.
+pub fn undoing_law()
+    ensures same_undo { SameUndoRestores }
+    ensures alike { AlikeRestores }
+    ensures alike_again { AlikeReopens }
+    ensures tail_again { TailReopens }
+    ensures exact_again { ExactReopens }
+    ensures moved { MovedStays }
+{}
