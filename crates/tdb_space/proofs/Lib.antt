@@ -48,3 +48,5 @@ pub mod Overlaid
 pub mod Moved
 pub mod Alike
 pub mod Tails
+pub mod Steps
+pub mod Emptying

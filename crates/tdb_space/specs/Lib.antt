@@ -17,3 +17,4 @@ pub mod Stays
 pub mod SpareLeft
 pub mod Moved
 pub mod Undoing
+pub mod RecoverySteps

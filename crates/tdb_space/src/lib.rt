@@ -32,3 +32,4 @@ pub use crate::sequence_number::sequence_law;
 pub use crate::space::Space;
 pub use crate::standing::{content_stands, header_stands, read_listed};
 pub use crate::undoing::undoing_law;
+pub use crate::undoing::{recovery_steps_law, undoing_law};
