@@ -50,3 +50,5 @@ pub mod Alike
 pub mod Tails
 pub mod Steps
 pub mod Emptying
+pub mod Contents
+pub mod OpenGate

@@ -64,6 +64,9 @@ module _ (f : Form) (a : List ℕ) (u : Undoable f a) where
   pub restored_head : old_size f a ≤ area_at f a → (i : ℕ) → 44 ≤ i → i < 48 → slice_index (restored f a) i ≡ 0
   restored_head past i from to = restored_there i from to _ (le-leb (old_size f a) (area_at f a) past)
 
+  pub restored_stays : area_at f a < old_size f a → (i : ℕ) → 44 ≤ i → i < 48 → slice_index (restored f a) i ≡ slice_index a i
+  restored_stays low i from to = restored_there i from to _ (lt-leb (old_size f a) (area_at f a) low)
+
   pub restored_no_area : old_size f a ≤ area_at f a → word f.order (restored f a) 44 ≡ 0
   restored_no_area past = word_zero f.order (restored f a) 44 (restored_head past)
 
@@ -98,7 +101,7 @@ module _ (f : Form) (a : List ℕ) (u : Undoable f a) where
             | inl front ↦ given i under (inl front) out
             | inr from ↦
                 elim (cases_lt i 48) [
-                  | inl to ↦ beside_area i under out ∙ w.there i from to ∙ sym (restored_there i from to _ (lt-leb (old_size f a) (area_at f a) low))
+                  | inl to ↦ beside_area i under out ∙ w.there i from to ∙ sym (restored_stays low i from to)
                   | inr past ↦ given i under (inr past) out
                 ]
           ]

@@ -18,3 +18,4 @@ pub mod SpareLeft
 pub mod Moved
 pub mod Undoing
 pub mod RecoverySteps
+pub mod Gate

@@ -3,6 +3,7 @@
 
 mod direct;
 mod first_fault;
+mod gate;
 mod hand;
 mod io;
 mod layout;
@@ -21,6 +22,7 @@ mod view_tests;
 
 pub use crate::direct::Direct;
 pub use crate::first_fault::first_fault_law;
+pub use crate::gate::gate_law;
 pub use crate::hand::Hand;
 pub use crate::io::Io;
 pub use crate::layout::{FREE_HEAD, chain_head, data_start};
