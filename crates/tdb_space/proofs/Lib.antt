@@ -52,3 +52,4 @@ pub mod Steps
 pub mod Emptying
 pub mod Contents
 pub mod OpenGate
+pub mod OpeningFaults

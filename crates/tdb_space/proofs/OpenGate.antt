@@ -20,7 +20,7 @@ use Rattle.tdb_space.proofs.Headers.{form_kept, header_kept}
 use Rattle.tdb_space.proofs.Undone.{old_length, undone_once}
 use Rattle.tdb_space.proofs.Alike.{none_or_some}
 use Rattle.tdb_space.proofs.Moved.{moved_stays}
-use Rattle.tdb_space.proofs.Tails.{lists_within, area_none}
+use Rattle.tdb_space.proofs.Tails.{lists_within, no_area_held}
 use Rattle.tdb_space.proofs.Steps.{restored_length, restored_given, restored_area, restored_stays, restored_no_area}
 use Rattle.tdb_space.proofs.Emptying.{word_beside}
 use Rattle.tdb_space.proofs.Contents.{in_lists, area_apart, chain_in_lists, area_out, area_not, area_same}
@@ -100,7 +100,7 @@ module _ (f : Form) (a : List ℕ) (A : AcceptWith f a []) (h : IsReadyToOpen f 
       ]
 
   area_kept : (i : ℕ) → 1 ≤ times (area f.order r) i → 1 ≤ times (area f.order a) i
-  area_kept i held = elim area_left [ inl same ↦ (let e = ap (λ es. times es i) same in omega (arith, held, e)) | inr gone ↦ absurd (omega (arith, held, area_none f r i gone.1)) ]
+  area_kept i held = elim area_left [ inl same ↦ (let e = ap (λ es. times es i) same in omega (arith, held, e)) | inr gone ↦ absurd (omega (arith, held, no_area_held f r i gone.1)) ]
 
   outside : (i : ℕ) → i < length r → times (area f.order r) i ≡ 0 → times (area f.order a) i ≡ 0
   outside i low none =

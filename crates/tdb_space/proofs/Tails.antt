@@ -31,13 +31,13 @@ held_past f a A i past =
     ]
 
 -- no undo area, and the bytes of one
-pub area_none : (f : Form) (a : List ℕ) (i : ℕ) → word f.order a 44 ≡ 0 → times (area f.order a) i ≡ 0
-area_none f a i none = rw (eq-eqb (word f.order a 44) 0 none) refl
+pub no_area_held : (f : Form) (a : List ℕ) (i : ℕ) → word f.order a 44 ≡ 0 → times (area f.order a) i ≡ 0
+no_area_held f a i none = rw (eq-eqb (word f.order a 44) 0 none) refl
 
 pub area_from : (f : Form) (a : List ℕ) (i : ℕ) → 1 ≤ times (area f.order a) i → (word f.order a 44 ≤ i) × (word f.order a 44 ≡ 0 → ⊥)
 area_from f a i held =
     elim (cases_eq (word f.order a 44) 0) [
-      | inl none ↦ absurd (omega (arith, held, area_none f a i none))
+      | inl none ↦ absurd (omega (arith, held, no_area_held f a i none))
       | inr some ↦
           let held_once : 1 ≤ times (extent_at f.order a (word f.order a 44) ∷ []) i = rw (ne_eqb (word f.order a 44) 0 some) at held in
           ((once_lies (extent_at f.order a (word f.order a 44)) i (omega (arith, held_once))).0, some)
@@ -63,7 +63,7 @@ module _ (f : Form) (r c : List ℕ) (A : AcceptWith f r []) (none : word f.orde
     apart = λ i held. held_past f r A i (area_past i held);
     others = λ i from to out.
         elim (cases_lt i (length r)) [
-          | inl within ↦ inl (area_none f r i none, t.front i within (inr (omega (arith, from))))
+          | inl within ↦ inl (no_area_held f r i none, t.front i within (inr (omega (arith, from))))
           | inr past ↦ inr (t.zeros i past to out)
         ];
   }

@@ -19,3 +19,4 @@ pub mod Moved
 pub mod Undoing
 pub mod RecoverySteps
 pub mod Gate
+pub mod OpeningFault

@@ -1,0 +1,15 @@
+-- The laws are the lemmas.
+use Rattle.tdb_space.proofs.OpeningFaults.{opens_or_fault, one_opening, never_both_ways, same_where_shut}
+use Rattle.tdb_space.proofs.opening_fault.opening_fault_law.Goals as goal
+
+pub returns-clause-some : goal.returns-clause-some
+returns-clause-some c = opens_or_fault
+
+pub returns-clause-one : goal.returns-clause-one
+returns-clause-one c = one_opening
+
+pub returns-clause-never : goal.returns-clause-never
+returns-clause-never c = never_both_ways
+
+pub returns-clause-shut : goal.returns-clause-shut
+returns-clause-shut c = same_where_shut
