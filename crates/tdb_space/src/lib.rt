@@ -35,5 +35,4 @@ pub use crate::reads::{key_equals, read_rec, read_word};
 pub use crate::sequence_number::sequence_law;
 pub use crate::space::Space;
 pub use crate::standing::{content_stands, header_stands, read_listed};
-pub use crate::undoing::undoing_law;
 pub use crate::undoing::{recovery_steps_law, undoing_law};
