@@ -1,7 +1,7 @@
 //! Dump text, as it is written.
 
 ghost use Rattle.std.specs.Prelude.{◌≡◌, ◌≤◌, ℕ, ◌++◌, length, take, IsTrue, IfOk, OnOk, OnErr, IsErrOf};
-ghost use Rattle.tdb_disk.specs.Count.{Rose};
+ghost use Rattle.tdb_disk.specs.Count.{HasCauseOf};
 ghost use Rattle.tdb_dump.specs.DumpText.{pair_text};
 
 use crate::lines::push_labelled;
@@ -47,9 +47,7 @@ pub fn write_pair<K: Sink>(
     ensures err { OnErr result (IsTrue K.tells →
         (n : ℕ) × (n ≤ length (pair_text key.now value.now))
         × (K.written out.new ≡ K.written out.old ++ take n (pair_text key.now value.now))) }
-    ensures never_falls { K.faults out.old ≤ K.faults out.new }
-    ensures failed { IsErrOf result WriteRefusal.Failed →
-        Rose (K.faults out.old) (K.faults out.new) }
+    ensures cause { HasCauseOf WriteRefusal.Failed (K.faults out.old) (K.faults out.new) result }
     ensures memory { IsErrOf result WriteRefusal.Memory → out.new ≡ out.old }
 {
     let text = match text_of(alloc, key, value) {

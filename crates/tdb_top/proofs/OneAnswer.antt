@@ -14,7 +14,7 @@ use Rattle.tdb_top.specs.declared.halt.Refusal.{Refusal}
 use Rattle.tdb_top.specs.declared.halt.Refusal.TheVariants.{TooLong, Header, Corrupt}
 use Rattle.tdb_top.specs.declared.insert.Inserted.{Inserted}
 use Rattle.tdb_top.specs.declared.insert.Inserted.TheVariants.{Done, Exists, Full}
-use Rattle.tdb_top.specs.declared.opening.TheConstants.{LONGEST_FILE}
+use Rattle.tdb_top.specs.declared.limits.TheConstants.{LONGEST_FILE}
 use Rattle.tdb_top.specs.CommandLine.{Line, show, insert, create, check, file_of, IsLine, HasNoLine}
 use Rattle.tdb_top.specs.Insert.{InsertCause}
 use Rattle.tdb_top.specs.Opening.{CanOpen, IsRefused}

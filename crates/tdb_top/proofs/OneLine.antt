@@ -3,7 +3,7 @@ use Rattle.std.proofs.Common.{◌*◌, ◌≡◌, ℕ, ◌<◌, ◌≤◌, List,
 use Rattle.std.specs.Prelude.{codes, string_bytes, slice_index}
 use Rattle.tdb_dump.specs.Word.{IsWord}
 use Rattle.tdb_dump.proofs.GrammarLemmas.{one_word}
-use Rattle.tdb_top.specs.declared.line.TheConstants.{LONGEST_WORD}
+use Rattle.tdb_top.specs.declared.limits.TheConstants.{LONGEST_WORD}
 use Rattle.tdb_top.specs.declared.line.Line as C
 use Rattle.tdb_words.specs.declared.word.Order.{Order}
 use Rattle.tdb_words.specs.declared.word.Order.TheVariants.{Little, Big}

@@ -12,7 +12,7 @@ use Rattle.tdb_check.specs.Front.{Refuses}
 use Rattle.tdb_check.specs.Seen.{Names}
 use Rattle.tdb_check.specs.declared.front.FrontRefusal as Front
 use Rattle.tdb_check.specs.declared.refusal.CheckRefusal as Check
-use Rattle.tdb_top.specs.declared.opening.TheConstants.{LONGEST_FILE}
+use Rattle.tdb_top.specs.declared.limits.TheConstants.{LONGEST_FILE}
 use Rattle.tdb_top.specs.Opening.{HaltsRightly, of_front, of_check}
 
 -- what may be wrong isn't the header

@@ -4,7 +4,7 @@ use Rattle.std.specs.Prelude.{◌==◌, Contains, MatchBool}
 use Rattle.tdb_space.specs.Accepted.{Accept}
 use Rattle.tdb_top.specs.declared.halt.Refusal.TheVariants.{TooLong, Header, Corrupt}
 use Rattle.tdb_top.specs.declared.insert.Inserted.TheVariants.{Done, Exists, Full}
-use Rattle.tdb_top.specs.declared.opening.TheConstants.{LONGEST_FILE}
+use Rattle.tdb_top.specs.declared.limits.TheConstants.{LONGEST_FILE}
 use Rattle.tdb_top.specs.Ending.{Ending, shown, no_key, insert_ends, created, number, no_line, refused, device_fault, no_memory, missing, there_already, status_of, IsDone, IsKeyAmiss, IsFaulty, IsTooLong, IsMisnamed, Met, OpensFile, Cause, IsAnswer, IsTold, Output, Prints}
 use Rattle.tdb_top.proofs.OneAnswer.{answer_one, refused_bytes, faulty_ends, accepted_not_three}
 

@@ -6,7 +6,7 @@ use Rattle.tdb_words.specs.declared.word.Order.TheVariants.{Little, Big}
 use Rattle.tdb_words.specs.declared.hash.HashKind.{HashKind}
 use Rattle.tdb_words.specs.declared.hash.HashKind.TheVariants.{Old, Jenkins}
 use Rattle.tdb_dump.specs.Word.{IsWord}
-use Rattle.tdb_top.specs.declared.line.TheConstants.{LONGEST_WORD, LONGEST_SIZE, DEFAULT_SIZE, MOST_CHAINS}
+use Rattle.tdb_top.specs.declared.limits.TheConstants.{LONGEST_WORD, LONGEST_SIZE, DEFAULT_SIZE, MOST_CHAINS}
 use Rattle.tdb_top.specs.declared.line.Line as C
 
 -- what a command line asks for

@@ -16,7 +16,7 @@ use Rattle.tdb_top.specs.declared.ending.Ending as C
 use Rattle.tdb_top.specs.declared.halt.Halt as H
 use Rattle.tdb_top.specs.declared.halt.Refusal.{Refusal}
 use Rattle.tdb_top.specs.declared.halt.Refusal.TheVariants.{TooLong, Header, Corrupt}
-use Rattle.tdb_top.specs.declared.opening.TheConstants.{LONGEST_FILE}
+use Rattle.tdb_top.specs.declared.limits.TheConstants.{LONGEST_FILE}
 use Rattle.tdb_top.specs.declared.insert.Inserted.{Inserted}
 use Rattle.tdb_top.specs.declared.insert.Inserted.TheVariants.{Done, Exists, Full}
 use Rattle.tdb_top.specs.declared.create.Creation as Making

@@ -4,3 +4,4 @@ pub mod Insert
 pub mod Create
 pub mod Ending
 pub mod Left
+pub mod Limits

@@ -13,7 +13,7 @@ use Rattle.tdb_top.specs.declared.halt.Refusal.TheVariants.{TooLong, Header, Cor
 use Rattle.tdb_top.specs.declared.halt.Halt.{Halt}
 use Rattle.tdb_top.specs.declared.halt.Halt.TheVariants.{Refused, Device, Memory}
 use Rattle.tdb_top.specs.declared.opening.Opened.{Opened}
-use Rattle.tdb_top.specs.declared.opening.TheConstants.{LONGEST_FILE}
+use Rattle.tdb_top.specs.declared.limits.TheConstants.{LONGEST_FILE}
 
 -- a file with these bytes is opened: they are accepted, and no more than the most
 pub record CanOpen (img : List ℕ) : Type 0 where

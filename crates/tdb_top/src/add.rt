@@ -9,7 +9,7 @@ ghost use Rattle.tdb_top.specs.Left.{NameLeft};
 
 use crate::ending::Ending;
 use crate::insert::insert;
-use crate::opening::LONGEST_FILE;
+use crate::limits::LONGEST_FILE;
 use std::alloc::Global;
 use tdb_disk::{Files, Take};
 

@@ -7,12 +7,14 @@ mod create;
 mod ending;
 mod halt;
 mod insert;
+mod limits;
 mod line;
 mod opening;
 mod show;
 mod top;
 
 pub use ending::Status;
+pub use limits::{DEFAULT_SIZE, LONGEST_FILE, LONGEST_SIZE, LONGEST_WORD, MOST_CHAINS, limits_law};
 pub use top::run;
 
 #[cfg(test)]

@@ -8,22 +8,11 @@ ghost use Rattle.tdb_top.specs.CommandLine.{asked_by, hash_word, order_word, too
 ghost use Rattle.tdb_top.specs.declared.line.LineRefusal.TheVariants.{NoLine};
 
 use crate::create::NewForm;
+use crate::limits::{DEFAULT_SIZE, LONGEST_SIZE, LONGEST_WORD, MOST_CHAINS};
 use std::alloc::{AllocError, Global};
 use tdb_dump::{WordRefusal, word_bytes_of};
 use tdb_words::{Bytes, HashKind, Order};
 use thiserror::Error;
-
-/// The greatest length of a word, in bytes.
-pub const LONGEST_WORD: usize = 16_777_216;
-
-/// The greatest length of a number of chains, in digits.
-pub const LONGEST_SIZE: usize = 10;
-
-/// The number of chains of a new file where none is asked for.
-pub const DEFAULT_SIZE: u32 = 131;
-
-/// The greatest number of chains that a new file is made with.
-pub const MOST_CHAINS: u32 = 1_048_576;
 
 /// What a command line asks for.
 #[derive(Debug, Drop)]

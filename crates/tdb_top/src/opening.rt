@@ -11,14 +11,12 @@ ghost use Rattle.tdb_check.specs.Seen.{Names};
 ghost use Rattle.tdb_check.specs.Report.{IsFormOf, Counted};
 
 use crate::halt::{Halt, Refusal};
+use crate::limits::LONGEST_FILE;
 use std::alloc::Global;
 use tdb_check::{CheckRefusal, Report, check, read_front};
 use tdb_disk::Disk;
 use tdb_space::Direct;
 use tdb_words::Header;
-
-/// The greatest length of a file, in bytes: what a word can tell, less a page.
-pub const LONGEST_FILE: u64 = 4_294_963_200;
 
 /// What is known of a file that was opened.
 #[derive(Clone, Copy, Debug)]

@@ -7,7 +7,7 @@ ghost use Rattle.tdb_disk.specs.Count.{Rose};
 ghost use Rattle.tdb_disk.specs.History.{History};
 ghost use Rattle.tdb_disk.specs.Names.{SameAll};
 ghost use Rattle.tdb_space.specs.Accepted.{Accept};
-ghost use Rattle.tdb_top.specs.declared.opening.TheConstants.{LONGEST_FILE};
+ghost use Rattle.tdb_top.specs.declared.limits.TheConstants.{LONGEST_FILE};
 ghost use Rattle.tdb_top.specs.CommandLine.{Line as Asks, insert, create, file_of, length_in, asked_by, IsSized, IsLine, HasNoLine};
 ghost use Rattle.tdb_top.specs.Ending.{Ending as Means, no_line, no_memory, device_fault, ending_of, status_of, met_by, output_by, OpensFile, LineCause, Cause, IsAnswer, IsDone, IsKeyAmiss, IsFaulty, IsTooLong, IsMisnamed, IsTold, Prints};
 ghost use Rattle.tdb_top.specs.Left.{LineLeaves, MayChange, WordsLeave, Keeps, KeepsAll, RunLeaves, RunMakes};

@@ -5,3 +5,4 @@ pub mod Hash
 pub mod HashRun
 pub mod Running
 pub mod What
+pub mod Magics

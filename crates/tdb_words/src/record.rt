@@ -2,6 +2,7 @@
 
 ghost use Rattle.std.specs.Prelude.{◌≡◌, ℕ, ◌++◌};
 ghost use Rattle.tdb_words.specs.Word.{word, bytes_of_word};
+ghost use Rattle.tdb_words.specs.Magics.{AreMagics};
 ghost use Rattle.tdb_words.specs.Record.{rec_at, bytes_of_rec, RecordWords};
 
 use crate::word::{Order, word_bytes, word_in};
@@ -23,6 +24,11 @@ pub const GATE_SHUT: u32 = 0;
 
 /// The byte that fills the spare room of a record.
 pub const PADDING: u8 = 0x42;
+
+/// The magics, the gate words and the padding byte above are those of the public format.
+pub fn magics_law()
+    ensures { AreMagics }
+{}
 
 /// The header of a record: the 24 bytes that it begins with.
 #[derive(Clone, Copy, Debug, PartialEq, Eq)]
