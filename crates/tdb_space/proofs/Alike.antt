@@ -11,7 +11,7 @@ use Rattle.tdb_space.specs.Form.{Form, form_of, data_start, SameHeader}
 use Rattle.tdb_space.specs.Record.{rec_len_of, key_len_of, data_len_of, magic_of}
 use Rattle.tdb_space.specs.Accepted.{AreaInPlace, Accept}
 use Rattle.tdb_space.specs.Exchange.{Agree}
-use Rattle.tdb_space.specs.Opening.{Entry, entry_at, entries_from, entries_end, entries, is_bad_cut, entry_fault, undo_fault_at, Undoable, lies_in, last_covering, given_back, undone_byte, undone, restored, Opens, own_map, Mild}
+use Rattle.tdb_space.specs.Opening.{Entry, entry_at, entries_from, entries_end, entries, is_bad_cut, entry_fault, undo_fault_at, Undoable, lies_in, last_covering, given_back, undone_byte, undone, restored, Opens, own_map, OpensTo, Mild}
 use Rattle.tdb_space.specs.Undoing.{area_at, area_end, old_size, SameUndo, UndoneAlike, Reopens}
 use Rattle.tdb_space.proofs.Cleared.{none_parts, none_both, or_none, below_to}
 use Rattle.tdb_space.proofs.Headers.{form_kept, header_kept}
@@ -239,7 +239,7 @@ alike_shrunk f a c d u low s cut sized reach =
     let same : (i : ℕ) → i < old_size f a → slice_index d i ≡ slice_index c i = λ i under. ap (λ r. slice_index r i) cut ∙ get_or-take (length d) c i 0 (omega (arith, under, reach)) in
     alike_more f a c d s sized reach (omega (arith, reach, old.apart low)) (λ i _ to. same i (omega (arith, to, old.apart low))) (λ i where_at. same i (elim where_at [ inl under ↦ omega (arith, under, old.above) | inr over ↦ omega (arith, over.1, old.above) ])) (λ i under _. same i under)
 
-module _ (a c : List ℕ) (h : Opens a) (m : Mild a) (s : UndoneAlike (form_of a) a c) where
+module _ (a c : List ℕ) (h : Opens a) (u : Undoable (form_of a) a) (s : UndoneAlike (form_of a) a c) where
   abbrev f : Form
   f = form_of a
 
@@ -250,7 +250,7 @@ module _ (a c : List ℕ) (h : Opens a) (m : Mild a) (s : UndoneAlike (form_of a
   same_form = form_kept a c same_header
 
   both : Undoable f c × (restored f c ≡ restored f a)
-  both = alike_restores f a c m.undoable s
+  both = alike_restores f a c u s
 
   undoable : Undoable (form_of c) c
   undoable = subst (λ g. Undoable g c) (sym same_form) both.0
@@ -259,7 +259,7 @@ module _ (a c : List ℕ) (h : Opens a) (m : Mild a) (s : UndoneAlike (form_of a
   read_as = ap (λ g. restored g c) same_form ∙ both.1
 
   long : data_start f ≤ length c
-  long = omega (arith, s.reach, (old_length f a m.undoable).above)
+  long = omega (arith, s.reach, (old_length f a u).above)
 
   alike_opens : Opens c
   alike_opens = record {
@@ -271,18 +271,25 @@ module _ (a c : List ℕ) (h : Opens a) (m : Mild a) (s : UndoneAlike (form_of a
     accepted = subst Accept (sym read_as) h.accepted;
   }
 
-  alike_mild : Mild c
-  alike_mild = record {
+  alike_mild : Mild a → Mild c
+  alike_mild m = record {
     undoable = undoable;
     header = λ i where_at. ap (λ r. slice_index r i) read_as ∙ m.header i where_at ∙ sym (same_header i where_at);
   }
 
-  pub alike_reopens : Reopens (restored (form_of a) a) c
-  alike_reopens = record {
-    opens = record { opens = alike_opens; holds = λ key. ap (λ r. own_map r key) read_as };
-    again = inr alike_mild;
-    sequence = ap sequence_of read_as;
-  }
+pub alike_opens_to : (a c : List ℕ) (m : List ℕ → Option (List ℕ)) → OpensTo a m → Undoable (form_of a) a → UndoneAlike (form_of a) a c → OpensTo c m
+alike_opens_to a c m h u s = record { opens = alike_opens a c h.opens u s; holds = λ key. ap (λ r. own_map r key) (read_as a c h.opens u s) ∙ h.holds key }
+
+pub reopens_alike : (r a c : List ℕ) → Reopens r a → Mild a → UndoneAlike (form_of a) a c → Reopens r c
+reopens_alike r a c h m s = record {
+  opens = alike_opens_to a c (own_map r) h.opens m.undoable s;
+  again = inr (alike_mild a c h.opens.opens m.undoable s m);
+  sequence = ap sequence_of (read_as a c h.opens.opens m.undoable s) ∙ h.sequence;
+}
+
+pub alike_reopens : (a c : List ℕ) → Opens a → Mild a → UndoneAlike (form_of a) a c → Reopens (restored (form_of a) a) c
+alike_reopens a c h m s =
+    reopens_alike (restored (form_of a) a) a c (record { opens = record { opens = h; holds = λ key. refl }; again = inr m; sequence = refl }) m s
 
 pub exact_reopens : (r : List ℕ) → Accept r → Reopens r r
 exact_reopens r h = record {

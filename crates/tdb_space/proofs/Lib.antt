@@ -53,3 +53,5 @@ pub mod Emptying
 pub mod Contents
 pub mod OpenGate
 pub mod OpeningFaults
+pub mod HeaderFaults
+pub mod Schemes

@@ -141,14 +141,14 @@ module _ (a : List ℕ) (A : Accept a) (h : IsReadyToOpen (form_of a) a) where
   abbrev opened : List ℕ
   opened = gate_opened own a
 
-  same_form : form_of opened ≡ own
-  same_form = form_kept a opened (same_header own a A h)
+  pub own_form : form_of opened ≡ own
+  own_form = form_kept a opened (same_header own a A h)
 
   undoable : Undoable (form_of opened) opened
-  undoable = subst (λ g. Undoable g opened) (sym same_form) h.undoable
+  undoable = subst (λ g. Undoable g opened) (sym own_form) h.undoable
 
   read_as : restored (form_of opened) opened ≡ restored own opened
-  read_as = ap (λ g. restored g opened) same_form
+  read_as = ap (λ g. restored g opened) own_form
 
   stays : StaysAccepted own a (restored own opened)
   stays = restored_accepted own a A h
@@ -166,7 +166,7 @@ module _ (a : List ℕ) (A : Accept a) (h : IsReadyToOpen (form_of a) a) where
   opens = record {
     header = header_kept a opened (omega (arith, long)) (same_header own a A h) A.header;
     sized = ap (λ n. n % 4) (size own a A h) ∙ A.sized;
-    long = subst (λ g. data_start g ≤ length opened) (sym same_form) long;
+    long = subst (λ g. data_start g ≤ length opened) (sym own_form) long;
     area_ok = inr undoable.in_place;
     undo = inr undoable;
     accepted = subst Accept (sym read_as) accepted_after;

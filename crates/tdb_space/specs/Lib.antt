@@ -20,3 +20,4 @@ pub mod Undoing
 pub mod RecoverySteps
 pub mod Gate
 pub mod OpeningFault
+pub mod Scheme

@@ -1,5 +1,5 @@
 -- What a stop of a recovery may leave: images that open to the map of the restored one, again and again.
-use Rattle.std.specs.Prelude.{◌≡◌, ℕ, ◌+◌, ◌%◌, ◌<◌, ◌≤◌, ◌⊎◌, None, List, length, slice_index}
+use Rattle.std.specs.Prelude.{◌≡◌, ℕ, ◌+◌, ◌%◌, ◌<◌, ◌≤◌, ◌⊎◌, Option, None, List, length, slice_index}
 use Rattle.tdb_words.specs.Word.{word}
 use Rattle.tdb_words.specs.Header.{sequence_of}
 use Rattle.tdb_space.specs.Form.{Form, form_of}
@@ -75,7 +75,15 @@ SameUndoRestores = (f : Form) (a c : List ℕ) → Undoable f a → SameUndo f a
 abbrev pub AlikeRestores : Type 0
 AlikeRestores = (f : Form) (a c : List ℕ) → Undoable f a → UndoneAlike f a c → Undoable f c × (restored f c ≡ restored f a)
 
--- so it reopens, where the one that it is undone like opens and is Mild
+-- so it opens to the map to which that one opens
+abbrev pub AlikeOpens : Type 0
+AlikeOpens = (a c : List ℕ) (m : List ℕ → Option (List ℕ)) → OpensTo a m → Undoable (form_of a) a → UndoneAlike (form_of a) a c → OpensTo c m
+
+-- and it reopens, where that one does and is Mild
+abbrev pub ReopensAlike : Type 0
+ReopensAlike = (r a c : List ℕ) → Reopens r a → Mild a → UndoneAlike (form_of a) a c → Reopens r c
+
+-- to the restored image above all, where that one opens and is Mild
 abbrev pub AlikeReopens : Type 0
 AlikeReopens = (a c : List ℕ) → Opens a → Mild a → UndoneAlike (form_of a) a c → Reopens (restored (form_of a) a) c
 

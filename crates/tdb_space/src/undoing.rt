@@ -1,7 +1,7 @@
 // What a stop of a recovery may leave opens to the map of the restored file.
 
 ghost use Rattle.tdb_space.specs.Moved.{MovedStays};
-ghost use Rattle.tdb_space.specs.Undoing.{SameUndoRestores, AlikeRestores, AlikeReopens, TailReopens, ExactReopens};
+ghost use Rattle.tdb_space.specs.Undoing.{SameUndoRestores, AlikeRestores, AlikeOpens, ReopensAlike, AlikeReopens, TailReopens, ExactReopens};
 ghost use Rattle.tdb_space.specs.RecoverySteps.{FirstStepsAreAlike, EachStepIsTail, EachStepGoesOn, LowIsExact, HighIsTail};
 
 /// Images that are undone alike are read as the same file, and so they reopen where one of them does; an accepted file with a shut
@@ -10,6 +10,8 @@ ghost use Rattle.tdb_space.specs.RecoverySteps.{FirstStepsAreAlike, EachStepIsTa
 pub fn undoing_law()
     ensures same_undo { SameUndoRestores }
     ensures alike { AlikeRestores }
+    ensures alike_opens { AlikeOpens }
+    ensures still_again { ReopensAlike }
     ensures alike_again { AlikeReopens }
     ensures tail_again { TailReopens }
     ensures exact_again { ExactReopens }

@@ -1,5 +1,6 @@
 -- The laws are the lemmas.
 use Rattle.tdb_space.proofs.OpeningFaults.{opens_or_fault, one_opening, never_both_ways, same_where_shut}
+use Rattle.tdb_space.proofs.HeaderFaults.{header_fault_is}
 use Rattle.tdb_space.proofs.opening_fault.opening_fault_law.Goals as goal
 
 pub returns-clause-some : goal.returns-clause-some
@@ -13,3 +14,6 @@ returns-clause-never c = never_both_ways
 
 pub returns-clause-shut : goal.returns-clause-shut
 returns-clause-shut c = same_where_shut
+
+pub returns-clause-header : goal.returns-clause-header
+returns-clause-header c = header_fault_is

@@ -1,6 +1,6 @@
 -- The laws are the lemmas.
 use Rattle.tdb_space.proofs.Moved.{moved_stays}
-use Rattle.tdb_space.proofs.Alike.{same_undo_restores, alike_restores, alike_reopens, exact_reopens}
+use Rattle.tdb_space.proofs.Alike.{same_undo_restores, alike_restores, alike_opens_to, reopens_alike, alike_reopens, exact_reopens}
 use Rattle.tdb_space.proofs.Tails.{tail_reopens}
 use Rattle.tdb_space.proofs.undoing.undoing_law.Goals as goal
 
@@ -9,6 +9,12 @@ returns-clause-same_undo c = same_undo_restores
 
 pub returns-clause-alike : goal.returns-clause-alike
 returns-clause-alike c = alike_restores
+
+pub returns-clause-alike_opens : goal.returns-clause-alike_opens
+returns-clause-alike_opens c = alike_opens_to
+
+pub returns-clause-still_again : goal.returns-clause-still_again
+returns-clause-still_again c = reopens_alike
 
 pub returns-clause-alike_again : goal.returns-clause-alike_again
 returns-clause-alike_again c = alike_reopens
