@@ -1,25 +1,15 @@
--- What is written is read back: a word of the list, and the header and the tailer of a free record.
-use Rattle.std.proofs.Common.{◌≡◌, ℕ, ◌+◌, ◌-◌, ◌<◌, ◌≤◌, ◌^◌, List, length, take, drop, add-zero, refl, sym, ◌∙◌, ap, subst, inl, inr, arith}
-use Rattle.std.specs.Prelude.{slice_index}
+-- The header and the tailer of a free record that are written are read back.
+use Rattle.std.proofs.Common.{◌≡◌, ℕ, ◌+◌, ◌≤◌, List, length, take, drop, add-zero, sym, ◌∙◌, ap, inl, inr, arith}
 use Rattle.tdb_disk.specs.Image.{overlay}
-use Rattle.tdb_disk.proofs.Image.{length-overlay, overlay_below, overlay_above, overlay_in}
+use Rattle.tdb_disk.proofs.Image.{length-overlay, overlay_below, overlay_above}
 use Rattle.tdb_words.specs.declared.record.Rec.{Rec}
-use Rattle.tdb_words.specs.declared.word.Order.{Order}
-use Rattle.tdb_words.specs.declared.word.Order.TheVariants.{Little, Big}
-use Rattle.tdb_words.specs.Word.{word, bytes_of_word}
+use Rattle.tdb_words.specs.Word.{word}
 use Rattle.tdb_words.specs.Record.{rec_at}
-use Rattle.tdb_words.proofs.Words.{word_from_bytes, word_agrees, word_of_part, word_made}
+use Rattle.tdb_words.proofs.Words.{word_agrees, word_of_part}
 use Rattle.tdb_space.specs.Form.{Form}
 use Rattle.tdb_space.specs.Record.{next_of}
-use Rattle.tdb_space.specs.Exchange.{LedPast}
+use Rattle.tdb_space.proofs.Overlaid.{word_overlaid}
 use Rattle.tdb_free.specs.Shortened.{Shortened, free_record}
-
--- a word within the bytes that were written is read back
-word_overlaid : (o : Order) (img : List ℕ) (at : ℕ) (bytes : List ℕ) (k : ℕ) → k + 4 ≤ length bytes → at + length bytes ≤ length img → word o (overlay img at bytes) (at + k) ≡ word o bytes k
-word_overlaid o img at bytes k inside within =
-    word_from_bytes o (overlay img at bytes) bytes (at + k) k (λ j less.
-    (let place : at + k + j - at ≡ k + j = omega arith in
-    overlay_in img at bytes (at + k + j) (omega arith) (omega (arith, less, inside)) (omega (arith, less, inside, within)) ∙ ap (slice_index bytes) place))
 
 -- the words of a header behind the first are written, and then a tailer
 module _ (f : Form) (a : List ℕ) (at rec_len : ℕ) (header part tailer : List ℕ) (part_is : part ≡ take 20 (drop 4 header)) (long : length part ≡ 20) (four : length tailer ≡ 4) (least : 4 ≤ rec_len) (within : at + 24 + rec_len ≤ length a) where
@@ -68,18 +58,3 @@ module _ (f : Form) (a : List ℕ) (at rec_len : ℕ) (header part tailer : List
             elim beside [ inl under ↦ overlay_below mid (at + 20 + rec_len) tailer i under | inr over ↦ overlay_above mid (at + 20 + rec_len) tailer i (omega (arith, four, over)) ]
             ∙ elim outside [ inl under ↦ overlay_below a (at + 4) part i under | inr over ↦ overlay_above a (at + 4) part i (omega (arith, long, over)) ];
       }
-
-word_length : (o : Order) (w : ℕ) → length (bytes_of_word o w) ≡ 4
-word_length Little w = refl
-word_length Big w = refl
-
--- the next word of a record is written over the word that led to it
-pub led_past_written : (f : Form) (a b : List ℕ) (before y next : ℕ) → next < 2 ^ 32 → next ≡ next_of f.order a y → before + 4 ≤ length a → b ≡ overlay a before (bytes_of_word f.order next) → LedPast f a b before y
-led_past_written f a b before y next fits is within written =
-    let bytes = bytes_of_word f.order next in
-    let four : length bytes ≡ 4 = word_length f.order next in
-    subst (λ image. LedPast f a image before y) (sym written) (record {
-      size = length-overlay a before bytes;
-      next = ap (word f.order (overlay a before bytes)) (sym (add-zero before)) ∙ word_overlaid f.order a before bytes 0 (omega (arith, four)) (omega (arith, four, within)) ∙ word_made f.order next fits ∙ is;
-      others = λ i outside. elim outside [ inl under ↦ overlay_below a before bytes i under | inr over ↦ overlay_above a before bytes i (omega (arith, four, over)) ];
-    })

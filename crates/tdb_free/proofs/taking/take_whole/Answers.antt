@@ -1,6 +1,6 @@
 -- The word that led to the record leads past it.
 use Rattle.std.proofs.Common.{arith, rules}
-use Rattle.tdb_free.proofs.Overlaid.{led_past_written}
+use Rattle.tdb_space.proofs.Overlaid.{led_past_written}
 use Rattle.tdb_free.proofs.taking.take_whole.Goals as goal
 
 pub returns-clause-past : goal.returns-clause-past
