@@ -1,1 +1,4 @@
 pub mod Walked
+pub mod PlaceStays
+pub mod Changed
+pub mod Unlinked
