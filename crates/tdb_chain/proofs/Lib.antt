@@ -2,3 +2,4 @@ pub mod Walked
 pub mod PlaceStays
 pub mod Changed
 pub mod Unlinked
+pub mod Touched

@@ -55,3 +55,4 @@ pub mod OpenGate
 pub mod OpeningFaults
 pub mod HeaderFaults
 pub mod Schemes
+pub mod RecordBytes
