@@ -22,14 +22,15 @@ changed_by f a b j ys own before after low A E others = record {
   frees = exchanged_free f a b j ys before after low A E;
 }
 
--- two changes of one chain: what the second writes the first left to the chain, or it is the caller's own
-pub changed_then : (f : Form) (a b c : List ℕ) (j : ℕ) (ys zs : List ℕ) (own first before middle after : List HandPair) → ChainChanged f a b j ys first before middle → ChainChanged f b c j zs own middle after → ((i : ℕ) → times (extents f.order a (chain_of f a j)) i + times (hand_extents own) i ≡ 0 → (times (hand_extents first) i ≡ 0) × (times (extents f.order b (chain_of f b j)) i ≡ 0)) → ChainChanged f a c j zs own before after
-changed_then f a b c j ys zs own first before middle after C D apart = record {
+-- Two changes of one chain. The hands between them may stand in another order, and what the second writes the first left to the
+-- chain, or it is the caller's own.
+pub changed_then : (f : Form) (a b c : List ℕ) (j : ℕ) (ys zs : List ℕ) (own first before middle turned after : List HandPair) → ChainChanged f a b j ys first before middle → ChainChanged f b c j zs own turned after → ((i : ℕ) → times (hand_extents turned) i ≡ times (hand_extents middle) i) → ((i : ℕ) → times (extents f.order a (chain_of f a j)) i + times (hand_extents own) i ≡ 0 → (times (hand_extents first) i ≡ 0) × (times (extents f.order b (chain_of f b j)) i ≡ 0)) → ChainChanged f a c j zs own before after
+changed_then f a b c j ys zs own first before middle turned after C D same apart = record {
   accepted = D.accepted;
   size = D.size ∙ C.size;
   offsets = D.offsets;
   others = λ i beside none. D.others i beside (omega (arith, none, (apart i none).1)) ∙ C.others i beside (omega (arith, none, (apart i none).0));
-  count = λ i. D.count i ∙ C.count i;
+  count = λ i. omega (arith, D.count i, C.count i, same i);
   only = changes_then f a b c (λ k. k ≡ j) C.only D.only;
   frees = free_then_stays f a b c C.frees D.frees;
 }

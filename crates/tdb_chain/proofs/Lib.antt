@@ -3,3 +3,4 @@ pub mod PlaceStays
 pub mod Changed
 pub mod Unlinked
 pub mod Touched
+pub mod Linked
