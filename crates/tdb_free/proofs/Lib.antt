@@ -9,3 +9,4 @@ pub mod Passed
 pub mod PutFirst
 pub mod Removed
 pub mod Growth
+pub mod Traded

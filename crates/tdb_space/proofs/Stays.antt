@@ -12,12 +12,13 @@ use Rattle.tdb_space.specs.Pairs.{pairs, map_of, home, same_key}
 use Rattle.tdb_space.specs.Extents.{HandPair, times, extents, extent_at, area, hand_extents}
 use Rattle.tdb_space.specs.Accepted.{AcceptWith}
 use Rattle.tdb_space.specs.Exchange.{Exchanged, FreeExchanged, ButSequence}
-use Rattle.tdb_space.specs.Stays.{ChainStays, FreeStays, FrontStays, ChangesOnly}
+use Rattle.tdb_space.specs.Stays.{ChainStays, FreeStays, FrontStays, ChangesOnly, ChainsStay}
 use Rattle.tdb_space.proofs.Counts.{once_in, times_all, times_member, times_two}
 use Rattle.tdb_space.proofs.Kept.{Still, bodies_still, extents_kept, list_left, pairs_kept, times_within, word_kept}
 use Rattle.tdb_space.proofs.Areas.{area_within}
 use Rattle.tdb_space.proofs.Laid.{accepted_filed}
 use Rattle.tdb_space.proofs.Maps.{map_home, home_below}
+use Rattle.tdb_space.proofs.Sequence.{sequence_accepted, sequence_map}
 use Rattle.tdb_space.proofs.Walks.{walk_meets}
 
 -- two changes leave a chain where each does
@@ -203,6 +204,22 @@ module _ (f : Form) (a b : List ℕ) (hands : List HandPair) (A : AcceptWith f a
   sequence_frees =
       free_stays f a b hands A (omega (arith, S.size)) (word_agrees f.order b a free_head (λ i from to. S.others i (inr (omega arith))))
       (λ i held. S.others i (inr (omega (arith, (free_in f a hands A i held).0))))
+
+-- with another sequence number the image is accepted with the same hands, and holds the same
+pub sequence_stays : (f : Form) (a b : List ℕ) (hands : List HandPair) → AcceptWith f a hands → ButSequence a b → ChainsStay f a b hands
+sequence_stays f a b hands A S = record {
+  accepted = sequence_accepted f a b hands A S;
+  map = sequence_map f a b hands A S;
+  only = sequence_changes f a b hands A S;
+}
+
+-- one such change and another
+pub stays_then : (f : Form) (a b c : List ℕ) (hands news : List HandPair) → ChainsStay f a b hands → ChainsStay f b c news → ChainsStay f a c news
+stays_then f a b c hands news S T = record {
+  accepted = T.accepted;
+  map = λ key. T.map key ∙ S.map key;
+  only = changes_then f a b c (λ k. ⊥) S.only T.only;
+}
 
 -- where a key's chain stays, what the map has for it does
 pub map_stays : (f : Form) (a b : List ℕ) (hands news : List HandPair) (key : List ℕ) → AcceptWith f a hands → AcceptWith f b news → length a ≤ length b → ChainStays f a b (home f key) → map_of f b key ≡ map_of f a key

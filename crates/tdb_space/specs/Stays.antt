@@ -4,7 +4,9 @@ use Rattle.std.specs.Prelude.{◌≡◌, ℕ, ◌<◌, ◌≤◌, ◌⊎◌, Lis
 use Rattle.tdb_words.specs.Word.{word}
 use Rattle.tdb_space.specs.Form.{Form, chain_head, free_head}
 use Rattle.tdb_space.specs.Chain.{chain_of, free_of}
-use Rattle.tdb_space.specs.Extents.{Extent, times, extents, area}
+use Rattle.tdb_space.specs.Pairs.{map_of}
+use Rattle.tdb_space.specs.Extents.{Extent, HandPair, times, extents, area}
+use Rattle.tdb_space.specs.Accepted.{AcceptWith}
 
 -- from image a to image b no byte changes that none of these extents holds
 abbrev pub OnlyIn : List Extent → List ℕ → List ℕ → Type 0
@@ -33,3 +35,10 @@ pub record FrontStays (f : Form) (a b : List ℕ) : Type 0 where
 pub record ChangesOnly (f : Form) (a b : List ℕ) (May : ℕ → Type 0) : Type 0 where
   pub front : FrontStays f a b
   pub chains : (k : ℕ) → k < f.chains → (May k → ⊥) → ChainStays f a b k
+
+-- From image a to image b no chain changes, and the map stays; b is accepted with these hands out. So it is where a record goes
+-- from the free list to a hand or back, where the file grows, and where the sequence number is raised.
+pub record ChainsStay (f : Form) (a b : List ℕ) (hands : List HandPair) : Type 0 where
+  pub accepted : AcceptWith f b hands
+  pub map : (key : List ℕ) → map_of f b key ≡ map_of f a key
+  pub only : ChangesOnly f a b (λ k. ⊥)
