@@ -1,7 +1,7 @@
 -- What is written is read back, and only what is written changes.
-use Rattle.std.proofs.Common.{◌≡◌, ℕ, ◌+◌, ◌-◌, ◌<◌, ◌≤◌, ◌⊎◌, ◌^◌, List, length, take, drop, add-zero, refl, sym, ◌∙◌, ap, subst, inl, inr, arith}
+use Rattle.std.proofs.Common.{length-append, ◌≡◌, ℕ, ◌+◌, ◌-◌, ◌<◌, ◌≤◌, ◌⊎◌, ◌^◌, List, ◌++◌, length, take, drop, add-zero, refl, sym, ◌∙◌, ap, subst, inl, inr, arith}
 use Rattle.std.specs.Prelude.{slice_index}
-use Rattle.std.proofs.lemmas.List.{same_lists, get_or_default, length-take-le, length-drop, get_or-drop, get_or-take}
+use Rattle.std.proofs.lemmas.List.{same_lists, get_or_default, length-take-le, length-drop, get_or-drop, get_or-take, get_or_append_left, get_or-append-add}
 use Rattle.tdb_disk.specs.Image.{overlay}
 use Rattle.tdb_disk.specs.Stop.{Torn}
 use Rattle.tdb_disk.proofs.Image.{length-overlay, overlay_below, overlay_above, overlay_in}
@@ -49,6 +49,36 @@ part_overlaid img at bytes k n inside within =
     ∙ overlay_in img at bytes (at + k + j) (omega arith) (omega (arith, low, inside)) (omega (arith, low, inside, within))
     ∙ ap (slice_index bytes) place
     ∙ sym (get_or-drop k bytes j 0) ∙ sym (get_or-take n (drop k bytes) j 0 low) ∙ get_or_default (take n (drop k bytes)) j 0 d (omega (arith, low, len_was))))
+
+-- bytes that are written behind others are written with them
+pub overlay_both : (img : List ℕ) (at : ℕ) (xs ys : List ℕ) → at + length xs + length ys ≤ length img → overlay (overlay img at xs) (at + length xs) ys ≡ overlay img at (xs ++ ys)
+overlay_both img at xs ys within =
+    let front = overlay img at xs in
+    let both = overlay img at (xs ++ ys) in
+    let last = overlay front (at + length xs) ys in
+    let front_long : length front ≡ length img = length-overlay img at xs in
+    let last_long : length last ≡ length img = length-overlay front (at + length xs) ys ∙ front_long in
+    let both_long : length both ≡ length img = length-overlay img at (xs ++ ys) in
+    let sum : length (xs ++ ys) ≡ length xs + length ys = length-append xs ys in
+    same_lists last both (last_long ∙ sym both_long) (λ i d low.
+    (let there : slice_index last i ≡ slice_index both i =
+    elim (where_is (at, length xs) i) [
+      | lies from to _ ↦
+          overlay_below front (at + length xs) ys i to ∙ overlay_in img at xs i from to (omega (arith, low, last_long))
+          ∙ sym (overlay_in img at (xs ++ ys) i from (omega (arith, to, sum)) (omega (arith, low, last_long)) ∙ get_or_append_left xs ys 0 (i - at) (omega (arith, from, to)))
+      | below under _ ↦ overlay_below front (at + length xs) ys i (omega (arith, under)) ∙ overlay_below img at xs i under ∙ sym (overlay_below img at (xs ++ ys) i under)
+      | above over _ ↦
+          elim (where_is (at + length xs, length ys) i) [
+            | lies from to _ ↦
+                let place : i - at ≡ length xs + (i - (at + length xs)) = omega (arith, from) in
+                overlay_in front (at + length xs) ys i from to (omega (arith, low, last_long, front_long))
+                ∙ sym (overlay_in img at (xs ++ ys) i (omega (arith, over)) (omega (arith, to, sum)) (omega (arith, low, last_long)) ∙ ap (slice_index (xs ++ ys)) place ∙ get_or-append-add xs ys (i - (at + length xs)) 0)
+            | below under _ ↦ absurd (omega (arith, under, over))
+            | above past _ ↦
+                overlay_above front (at + length xs) ys i past ∙ overlay_above img at xs i over ∙ sym (overlay_above img at (xs ++ ys) i (omega (arith, past, sum)))
+          ]
+    ] in
+    get_or_default last i d 0 low ∙ there ∙ get_or_default both i 0 d (omega (arith, low, last_long, both_long))))
 
 -- the next word of a record is written over the word that led to it
 pub led_past_written : (f : Form) (a b : List ℕ) (before y next : ℕ) → next < 2 ^ 32 → next ≡ next_of f.order a y → before + 4 ≤ length a → b ≡ overlay a before (bytes_of_word f.order next) → LedPast f a b before y
