@@ -16,7 +16,7 @@ use Rattle.tdb_space.specs.Pairs.{map_of, home, same_key}
 use Rattle.tdb_space.specs.Extents.{HandPair, HandOk, once, times, extents, hand_extents}
 use Rattle.tdb_space.specs.Accepted.{AcceptWith}
 use Rattle.tdb_space.specs.Exchange.{PutInFront, WrittenAt, Filled, LedPast, new_record}
-use Rattle.tdb_space.specs.RecordBytes.{record_bytes}
+use Rattle.tdb_space.specs.NewRecord.{record_bytes}
 use Rattle.tdb_space.proofs.Hands.{turn_hands}
 use Rattle.tdb_space.proofs.Links.{link_exchanged, link_map}
 use Rattle.tdb_space.proofs.Maps.{home_below, same_key-refl}

@@ -13,7 +13,7 @@ use Rattle.tdb_words.specs.declared.word.Order.TheVariants.{Little, Big}
 use Rattle.tdb_words.specs.Word.{bytes_of_word}
 use Rattle.tdb_words.specs.Record.{bytes_of_rec}
 use Rattle.tdb_space.specs.Exchange.{Agree, WrittenAt}
-use Rattle.tdb_space.specs.RecordBytes.{record_bytes}
+use Rattle.tdb_space.specs.NewRecord.{record_bytes}
 use Rattle.tdb_space.proofs.Kept.{part_kept}
 use Rattle.tdb_space.proofs.Overlaid.{word_length, part_overlaid}
 
