@@ -1,0 +1,292 @@
+//! A disk that keeps blocks of the disk within.
+ghost use Rattle.std.specs.Prelude.{◌≡◌, ◌≢◌, ◌+◌, ◌-◌, ◌*◌, ◌/◌, ◌%◌, ◌≤◌, ◌<◌, ◌⊎◌, ℕ, List, Some, None, IsTrue, IsFalse, IsSome, IfOk, OnOk, MatchResult, length, take, drop};
+ghost use Rattle.tdb_disk.specs.Count.{HasCause, RoseBy, RoseUpTo};
+ghost use Rattle.tdb_disk.specs.History.{wrote, wrote_word, grew, cut, synced, called, seen, Tried, TriedOver};
+ghost use Rattle.tdb_disk.specs.Image.{overlay};
+ghost use Rattle.tdb_cache.specs.Blocks.{block_at, block_start, block_size, most_kept, AllSized, AllShown, Refused, SameKept};
+
+use crate::blocks::{BLOCK_SIZE, Blocks};
+use crate::piece::Piece;
+use std::alloc::Global;
+use tdb_disk::{Disk, DiskFault};
+
+/// A disk that keeps blocks of the disk within, read when they are first asked for and written through.
+#[derive(Drop)]
+pub struct Cached<D: Disk> {
+    inner: D,
+    blocks: Blocks,
+    asked: u64,
+    ghost sized: { AllSized blocks (D.size inner) },
+    ghost shown: { IsTrue D.tells → AllShown blocks (seen (D.history inner)) },
+}
+
+impl<D: Disk> Cached<D> {
+    ghost use Rattle.tdb_cache.specs.Cached.{cached_inner, cached_asked, cached_count, cached_starved, IsKept, KeepsRange, Looked};
+
+    /// The disk `d`, of which no block is kept yet. It takes no memory.
+    pub fn new(alloc: Global, d: D) -> Cached<D>
+        ensures inner { cached_inner result ≡ d }
+        ensures asked { cached_asked result ≡ 0 }
+        ensures kept { cached_count result ≡ 0 }
+        ensures starved { cached_starved result ≡ 0 }
+    {
+        Cached {
+            inner: d,
+            blocks: Blocks::new(alloc),
+            asked: 0,
+        }
+    }
+
+    /// The disk within.
+    pub fn into_inner(self) -> D
+        ensures { result ≡ cached_inner self }
+    {
+        let Cached {
+            inner,
+            blocks: _,
+            asked: _,
+        } = self;
+        inner
+    }
+
+    /// How many blocks are kept.
+    pub fn kept(&self) -> usize
+        ensures count { result ≡ cached_count self.now }
+        ensures bound { result ≤ 4096 }
+    {
+        self.blocks.kept()
+    }
+
+    /// How many times a block wasn't kept for want of memory.
+    pub fn starved(&self) -> u64
+        ensures { result ≡ cached_starved self.now }
+    {
+        self.blocks.starved()
+    }
+
+    /// Reads the bytes from offset `off` on, block after block.
+    fn read_pieces(&mut self, off: u64, buf: &mut [u8]) -> Result<(), DiskFault>
+        requires { off + length buf.old ≤ D.size (cached_inner self.old) }
+        ensures bytes { OnOk result (IsTrue D.tells → buf.new ≡ take (length buf.old) (drop off (seen (D.history (cached_inner self.old))))) }
+        ensures looked { Looked self.old self.new }
+        ensures cause { HasCause (D.faults (cached_inner self.old)) (D.faults (cached_inner self.new)) result }
+        ensures bytes_read { RoseUpTo (length buf.old + 2 * block_size) (D.bytes_read (cached_inner self.old)) (D.bytes_read (cached_inner self.new)) }
+        ensures full { most_kept ≤ cached_count self.old → RoseUpTo (length buf.old) (D.bytes_read (cached_inner self.old)) (D.bytes_read (cached_inner self.new)) }
+        ensures there { KeepsRange self.old off (length buf.old) → cached_inner self.new ≡ cached_inner self.old }
+        ensures filled { OnOk result ((at : ℕ) → off ≤ at → at < off + length buf.old → IsKept self.new at ⊎ Refused self.old.blocks self.new.blocks (at / block_size)) }
+        ensures asked { cached_asked self.new ≡ cached_asked self.old }
+    {
+        let mut done = 0;
+        while done < buf.len() {
+            let piece = Piece::after(off, done, buf.len());
+            self.read_piece(piece.number, piece.within, &mut buf[done..piece.end])?;
+            done = piece.end;
+        }
+        Ok(())
+    }
+
+    /// Reads bytes that lie in one block.
+    fn read_piece(&mut self, number: usize, within: usize, buf: &mut [u8]) -> Result<(), DiskFault>
+        requires range { block_start number + within + length buf.old ≤ D.size (cached_inner self.old) }
+        requires one_block { within + length buf.old ≤ block_size }
+        ensures bytes { OnOk result (IsTrue D.tells → buf.new ≡ take (length buf.old) (drop (block_start number + within) (seen (D.history (cached_inner self.old))))) }
+        ensures looked { Looked self.old self.new }
+        ensures cause { HasCause (D.faults (cached_inner self.old)) (D.faults (cached_inner self.new)) result }
+        ensures bytes_read { RoseUpTo block_size (D.bytes_read (cached_inner self.old)) (D.bytes_read (cached_inner self.new)) }
+        ensures full { most_kept ≤ cached_count self.old → RoseUpTo (length buf.old) (D.bytes_read (cached_inner self.old)) (D.bytes_read (cached_inner self.new)) }
+        ensures there { IsSome (block_at self.old.blocks number) → self.new ≡ self.old }
+        ensures filled { OnOk result (IsSome (block_at self.new.blocks number) ⊎ Refused self.old.blocks self.new.blocks number) }
+        ensures asked { cached_asked self.new ≡ cached_asked self.old }
+    {
+        if self.blocks.has(number) {
+            self.blocks.copy_out(number, within, buf);
+            return Ok(());
+        }
+        let size = self.inner.len()?;
+        let start = number as u64 * BLOCK_SIZE as u64;
+        if self.fill(number, start, size)? {
+            self.blocks.copy_out(number, within, buf);
+            return Ok(());
+        }
+        self.inner.read(start + within as u64, buf)
+    }
+
+    /// Reads a block and keeps it. False where it isn't to be kept, and then nothing was read.
+    fn fill(&mut self, number: usize, start: u64, size: u64) -> Result<bool, DiskFault>
+        requires start { start ≡ block_start number }
+        requires below { start ≤ size }
+        requires size { size ≡ D.size (cached_inner self.old) }
+        requires new { block_at self.old.blocks number ≡ None }
+        ensures looked { Looked self.old self.new }
+        ensures cause { HasCause (D.faults (cached_inner self.old)) (D.faults (cached_inner self.new)) result }
+        ensures filled { IfOk result (λ filled. IsTrue filled → IsSome (block_at self.new.blocks number)) }
+        ensures room { cached_count self.old < most_kept ⊎ (D.bytes_read (cached_inner self.new) ≡ D.bytes_read (cached_inner self.old)) }
+        ensures refused { IfOk result (λ filled. IsFalse filled → Refused self.old.blocks self.new.blocks number) }
+        ensures unread { IfOk result (λ filled. IsFalse filled → D.bytes_read (cached_inner self.new) ≡ D.bytes_read (cached_inner self.old)) }
+        ensures bytes_read { RoseUpTo block_size (D.bytes_read (cached_inner self.old)) (D.bytes_read (cached_inner self.new)) }
+        ensures asked { cached_asked self.new ≡ cached_asked self.old }
+    {
+        let len = (size - start).min(BLOCK_SIZE as u64) as usize;
+        let Some(mut block) = self.blocks.room(number, len) else {
+            return Ok(false);
+        };
+        self.inner.read(start, &mut block)?;
+        self.blocks.keep(number, block);
+        Ok(true)
+    }
+}
+
+impl<D: Disk> Disk for Cached<D> {
+    ghost use Rattle.tdb_cache.specs.Cached.{cached_inner, cached_asked, cached_count, IsKept, KeepsAll, KeepsRange};
+
+    ghost tells = { D.tells };
+
+    ghost history = { λ c. D.history (cached_inner c) };
+
+    ghost size = { λ c. D.size (cached_inner c) };
+
+    ghost faults = { λ c. D.faults (cached_inner c) };
+
+    ghost syncs = { λ c. D.syncs (cached_inner c) };
+
+    ghost bytes_read = { λ c. cached_asked c };
+
+    fn len(&mut self) -> Result<u64, DiskFault>
+        ensures length { IfOk result (λ n. n ≡ D.size (cached_inner self.old)) }
+        ensures size { D.size (cached_inner self.new) ≡ D.size (cached_inner self.old) }
+        ensures history { D.history (cached_inner self.new) ≡ D.history (cached_inner self.old) }
+        ensures cause { HasCause (D.faults (cached_inner self.old)) (D.faults (cached_inner self.new)) result }
+        ensures syncs { D.syncs (cached_inner self.new) ≡ D.syncs (cached_inner self.old) }
+        ensures bytes_read { cached_asked self.new ≡ cached_asked self.old }
+        ensures unread { D.bytes_read (cached_inner self.new) ≡ D.bytes_read (cached_inner self.old) }
+        ensures kept { KeepsAll self.old self.new }
+    {
+        self.inner.len()
+    }
+
+    fn read(&mut self, off: u64, buf: &mut [u8]) -> Result<(), DiskFault>
+        requires { off + length buf.old ≤ D.size (cached_inner self.old) }
+        ensures bytes { OnOk result (IsTrue D.tells → buf.new ≡ take (length buf.old) (drop off (seen (D.history (cached_inner self.old))))) }
+        ensures size { D.size (cached_inner self.new) ≡ D.size (cached_inner self.old) }
+        ensures history { D.history (cached_inner self.new) ≡ D.history (cached_inner self.old) }
+        ensures cause { HasCause (D.faults (cached_inner self.old)) (D.faults (cached_inner self.new)) result }
+        ensures syncs { D.syncs (cached_inner self.new) ≡ D.syncs (cached_inner self.old) }
+        ensures bytes_read { RoseUpTo (length buf.old) (cached_asked self.old) (cached_asked self.new) }
+        ensures all_read { OnOk result (RoseBy (length buf.old) (cached_asked self.old) (cached_asked self.new)) }
+        ensures inner_read { RoseUpTo (length buf.old + 2 * block_size) (D.bytes_read (cached_inner self.old)) (D.bytes_read (cached_inner self.new)) }
+        ensures full { most_kept ≤ cached_count self.old → RoseUpTo (length buf.old) (D.bytes_read (cached_inner self.old)) (D.bytes_read (cached_inner self.new)) }
+        ensures there { KeepsRange self.old off (length buf.old) → cached_inner self.new ≡ cached_inner self.old }
+        ensures filled { OnOk result ((at : ℕ) → off ≤ at → at < off + length buf.old → IsKept self.new at ⊎ Refused self.old.blocks self.new.blocks (at / block_size)) }
+        ensures kept { KeepsAll self.old self.new }
+    {
+        self.read_pieces(off, buf)?;
+        self.asked = self.asked.saturating_add(buf.len() as u64);
+        Ok(())
+    }
+
+    fn write(&mut self, off: u64, bytes: &[u8]) -> Result<(), DiskFault>
+        requires { off + length bytes.now ≤ D.size (cached_inner self.old) }
+        ensures tried { TriedOver off (length bytes.now) (D.history (cached_inner self.old)) (D.history (cached_inner self.new)) }
+        ensures done { OnOk result (IsTrue D.tells → D.history (cached_inner self.new) ≡ called (D.history (cached_inner self.old)) (wrote off bytes.now)) }
+        ensures size { D.size (cached_inner self.new) ≡ D.size (cached_inner self.old) }
+        ensures cause { HasCause (D.faults (cached_inner self.old)) (D.faults (cached_inner self.new)) result }
+        ensures syncs { D.syncs (cached_inner self.new) ≡ D.syncs (cached_inner self.old) }
+        ensures bytes_read { cached_asked self.new ≡ cached_asked self.old }
+        ensures unread { D.bytes_read (cached_inner self.new) ≡ D.bytes_read (cached_inner self.old) }
+        ensures kept { OnOk result (KeepsAll self.old self.new) }
+    {
+        match self.inner.write(off, bytes) {
+            Ok(()) => {
+                self.blocks.overwrite(off, bytes);
+                Ok(())
+            }
+            Err(fault) => {
+                self.blocks.clear();
+                Err(fault)
+            }
+        }
+    }
+
+    fn write_word(&mut self, off: u64, w: [u8; 4]) -> Result<(), DiskFault>
+        requires aligned { off % 4 ≡ 0 }
+        requires within { off + 4 ≤ D.size (cached_inner self.old) }
+        ensures tried { Tried (wrote_word off w) (D.history (cached_inner self.old)) (D.history (cached_inner self.new)) }
+        ensures done { OnOk result (IsTrue D.tells → D.history (cached_inner self.new) ≡ called (D.history (cached_inner self.old)) (wrote_word off w)) }
+        ensures size { D.size (cached_inner self.new) ≡ D.size (cached_inner self.old) }
+        ensures cause { HasCause (D.faults (cached_inner self.old)) (D.faults (cached_inner self.new)) result }
+        ensures syncs { D.syncs (cached_inner self.new) ≡ D.syncs (cached_inner self.old) }
+        ensures bytes_read { cached_asked self.new ≡ cached_asked self.old }
+        ensures unread { D.bytes_read (cached_inner self.new) ≡ D.bytes_read (cached_inner self.old) }
+        ensures kept { OnOk result (KeepsAll self.old self.new) }
+    {
+        match self.inner.write_word(off, w) {
+            Ok(()) => {
+                self.blocks.overwrite(off, &w);
+                Ok(())
+            }
+            Err(fault) => {
+                self.blocks.clear();
+                Err(fault)
+            }
+        }
+    }
+
+    fn grow(&mut self, to: u64) -> Result<(), DiskFault>
+        requires { D.size (cached_inner self.old) ≤ to }
+        ensures tried { Tried (grew to) (D.history (cached_inner self.old)) (D.history (cached_inner self.new)) }
+        ensures done { OnOk result (IsTrue D.tells → D.history (cached_inner self.new) ≡ called (D.history (cached_inner self.old)) (grew to)) }
+        ensures size { (D.size (cached_inner self.new) ≡ D.size (cached_inner self.old)) ⊎ (D.size (cached_inner self.new) ≡ to) }
+        ensures grown { OnOk result (D.size (cached_inner self.new) ≡ to) }
+        ensures cause { HasCause (D.faults (cached_inner self.old)) (D.faults (cached_inner self.new)) result }
+        ensures syncs { D.syncs (cached_inner self.new) ≡ D.syncs (cached_inner self.old) }
+        ensures bytes_read { cached_asked self.new ≡ cached_asked self.old }
+        ensures unread { D.bytes_read (cached_inner self.new) ≡ D.bytes_read (cached_inner self.old) }
+        ensures kept { OnOk result ((at : ℕ) → at / block_size ≢ D.size (cached_inner self.old) / block_size → IsKept self.old at → IsKept self.new at) }
+    {
+        let from = self.inner.len()?;
+        match self.inner.grow(to) {
+            Ok(()) => {
+                self.blocks.forget((from / BLOCK_SIZE as u64) as usize);
+                Ok(())
+            }
+            Err(fault) => {
+                self.blocks.clear();
+                Err(fault)
+            }
+        }
+    }
+
+    fn cut(&mut self, to: u64) -> Result<(), DiskFault>
+        requires { to ≤ D.size (cached_inner self.old) }
+        ensures tried { Tried (cut to) (D.history (cached_inner self.old)) (D.history (cached_inner self.new)) }
+        ensures done { OnOk result (IsTrue D.tells → D.history (cached_inner self.new) ≡ called (D.history (cached_inner self.old)) (cut to)) }
+        ensures size { (D.size (cached_inner self.new) ≡ D.size (cached_inner self.old)) ⊎ (D.size (cached_inner self.new) ≡ to) }
+        ensures shortened { OnOk result (D.size (cached_inner self.new) ≡ to) }
+        ensures cause { HasCause (D.faults (cached_inner self.old)) (D.faults (cached_inner self.new)) result }
+        ensures syncs { D.syncs (cached_inner self.new) ≡ D.syncs (cached_inner self.old) }
+        ensures bytes_read { cached_asked self.new ≡ cached_asked self.old }
+        ensures unread { D.bytes_read (cached_inner self.new) ≡ D.bytes_read (cached_inner self.old) }
+    {
+        self.blocks.clear();
+        self.inner.cut(to)
+    }
+
+    fn sync(&mut self) -> Result<(), DiskFault>
+        ensures tried { Tried synced (D.history (cached_inner self.old)) (D.history (cached_inner self.new)) }
+        ensures done { OnOk result (IsTrue D.tells → D.history (cached_inner self.new) ≡ called (D.history (cached_inner self.old)) synced) }
+        ensures size { D.size (cached_inner self.new) ≡ D.size (cached_inner self.old) }
+        ensures cause { HasCause (D.faults (cached_inner self.old)) (D.faults (cached_inner self.new)) result }
+        ensures syncs { MatchResult result (λ _. RoseBy 1 (D.syncs (cached_inner self.old)) (D.syncs (cached_inner self.new))) (λ _. D.syncs (cached_inner self.new) ≡ D.syncs (cached_inner self.old)) }
+        ensures bytes_read { cached_asked self.new ≡ cached_asked self.old }
+        ensures unread { D.bytes_read (cached_inner self.new) ≡ D.bytes_read (cached_inner self.old) }
+        ensures kept { OnOk result (KeepsAll self.old self.new) }
+    {
+        if let Err(fault) = self.inner.sync() {
+            self.blocks.clear();
+            return Err(fault);
+        }
+        Ok(())
+    }
+
+    ghost told_size = { λ c told. D.told_size (cached_inner c) told };
+}
