@@ -1,5 +1,6 @@
 -- What a contract sees of an open file: its length and the counts.
 use Rattle.std.specs.Prelude.{ℕ}
+use Rattle.tdb_files.specs.Faults.{fault_count}
 use Rattle.tdb_files.specs.declared.file_disk.FileDisk.{FileDisk}
 
 -- the length in bytes
@@ -8,7 +9,7 @@ file_len disk = disk.len
 
 -- how many calls have failed
 abbrev pub file_faults : FileDisk → ℕ
-file_faults disk = disk.faults
+file_faults disk = fault_count disk.faults
 
 -- how many syncs have answered Ok
 abbrev pub file_syncs : FileDisk → ℕ

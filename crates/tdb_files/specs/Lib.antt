@@ -1,4 +1,5 @@
 pub mod DirFiles
+pub mod Faults
 pub mod FileDisk
 pub mod FileSink
 pub mod InSource

@@ -1,18 +1,18 @@
 //! The files of the operating system, by path.
-ghost use Rattle.std.specs.Prelude.{◌≡◌, ◌≢◌, ◌≤◌, OnOk, OnErr, List, ℕ, Some, None, true, false, IfOk, IsErrOf, refl};
-ghost use Rattle.tdb_disk.specs.Count.{Rose};
+ghost use Rattle.std.specs.Prelude.{◌≡◌, ◌≤◌, OnOk, OnErr, List, ℕ, None, Some, true, false, IsSome, IfSome, ◌↔◌, ◌<◌, refl};
+ghost use Rattle.tdb_disk.specs.Count.{Rose, HasCause};
 ghost use Rattle.tdb_disk.specs.Names.{SameAll, SameBut};
-ghost use Rattle.tdb_disk.specs.declared.files.Take.TheVariants as mode;
-ghost use Rattle.tdb_disk.specs.declared.files.TakeRefusal.TheVariants as refusal;
-ghost use Rattle.tdb_files.specs.FileDisk.{file_len, file_faults, file_syncs, file_bytes_read};
 
+use crate::faults::Faults;
 use crate::file_disk::FileDisk;
+use crate::file_fault::FileFault;
+use crate::identity::Identity;
+use crate::opening::{Refusal, open};
+use crate::reason::{Reason, is_missing};
+use crate::replacing::replace;
 use std::alloc::{AllocError, Global};
 use std::collections::HashSet;
-use std::fs::{self, File, OpenOptions};
-use std::io;
-use std::os::fd::AsRawFd;
-use std::os::unix::fs::OpenOptionsExt;
+use std::fs;
 use tdb_disk::{Files, FilesFault, Take, TakeRefusal};
 
 /// The files of the operating system. A name is a path, and a relative one begins at the working folder.
@@ -20,7 +20,8 @@ use tdb_disk::{Files, FilesFault, Take, TakeRefusal};
 pub struct DirFiles {
     rt: HostRuntime,
     taken: HashSet<String>,
-    faults: u64,
+    identities: HashSet<Identity>,
+    faults: Faults<FileFault>,
 }
 
 impl DirFiles {
@@ -34,8 +35,16 @@ impl DirFiles {
         DirFiles {
             rt,
             taken: HashSet::new(rt.alloc()),
-            faults: 0,
+            identities: HashSet::new(rt.alloc()),
+            faults: Faults::new(),
         }
+    }
+
+    /// What is known of the last fault, of a call or of a disk that was given back; None where there is none.
+    pub fn last_fault(&self) -> Option<&FileFault>
+        ensures { IsSome result ↔ (0 < dir_faults self.now) }
+    {
+        self.faults.last()
     }
 
     /// The name is taken from here on.
@@ -49,96 +58,37 @@ impl DirFiles {
         Ok(())
     }
 
-    /// The name isn't taken any more.
-    fn unmark(&mut self, name: &str)
+    /// The name isn't taken any more. It is given back as it was kept.
+    fn unmark(&mut self, name: &str) -> Option<String>
         ensures free { name_is_taken self.new name.now ≡ false }
         ensures others { SameBut name.now (name_is_taken self.old) (name_is_taken self.new) }
         ensures rest { self.new ≡ record self.old { taken = self.new.taken } }
     {
-        self.taken.remove(name);
+        self.taken.take(name)
     }
 
-    /// Counts a failed call.
-    fn fault(&mut self) -> FilesFault
-        ensures rose { Rose self.old.faults self.new.faults }
-        ensures never_falls { self.old.faults ≤ self.new.faults }
+    /// Counts a failed call, and keeps why it failed and at which file.
+    fn fault(&mut self, name: Option<String>, reason: Reason)
+        ensures rose { Rose (dir_faults self.old) (dir_faults self.new) }
+        ensures never_falls { dir_faults self.old ≤ dir_faults self.new }
         ensures rest { self.new ≡ record self.old { faults = self.new.faults } }
     {
-        self.faults = self.faults.saturating_add(1);
-        FilesFault
+        self.faults.raise(FileFault { name, reason });
     }
-}
 
-/// A file with a descriptor above those of the standard streams, so that what is meant for one of those, where it was closed, can't
-/// land in a database.
-fn above_standard(file: File) -> io::Result<File> {
-    if file.as_raw_fd() > 2 {
-        Ok(file)
-    } else {
-        file.try_clone()
-    }
-}
-
-/// Opens a regular file that is there. Nothing else is opened: to open a pipe might wait.
-fn open_existing(rt: &HostRuntime, name: &str, writable: bool) -> io::Result<FileDisk>
-    ensures faults { IfOk result (λ d. file_faults d ≡ 0) }
-    ensures syncs { IfOk result (λ d. file_syncs d ≡ 0) }
-    ensures bytes_read { IfOk result (λ d. file_bytes_read d ≡ 0) }
-{
-    if !fs::metadata(rt, name)?.is_file() {
-        return Err(io::ErrorKind::Unsupported.into());
-    }
-    let file = above_standard(
-        OpenOptions::new()
-            .read(true)
-            .write(writable)
-            .open(rt, name)?,
-    )?;
-    let found = file.metadata()?;
-    if !found.is_file() {
-        return Err(io::ErrorKind::Unsupported.into());
-    }
-    Ok(FileDisk::new(file, found.len()))
-}
-
-/// Makes a file where nothing has the name, not even a link. Only its owner may read and write it.
-fn make_new(rt: &HostRuntime, name: &str) -> io::Result<FileDisk>
-    ensures len { IfOk result (λ d. file_len d ≡ 0) }
-    ensures faults { IfOk result (λ d. file_faults d ≡ 0) }
-    ensures syncs { IfOk result (λ d. file_syncs d ≡ 0) }
-    ensures bytes_read { IfOk result (λ d. file_bytes_read d ≡ 0) }
-{
-    let file = OpenOptions::new()
-        .read(true)
-        .write(true)
-        .create_new(true)
-        .mode(0o600)
-        .open(rt, name)?;
-    Ok(FileDisk::new(above_standard(file)?, 0))
-}
-
-/// Opens or makes the file, as it is asked.
-fn open(rt: &HostRuntime, name: &str, how: Take) -> Result<FileDisk, TakeRefusal>
-    ensures missing { IsErrOf result refusal.Missing → how ≢ mode.New }
-    ensures there { IsErrOf result refusal.There → how ≡ mode.New }
-    ensures len { IfOk result (λ d. how ≡ mode.New → file_len d ≡ 0) }
-    ensures faults { IfOk result (λ d. file_faults d ≡ 0) }
-    ensures syncs { IfOk result (λ d. file_syncs d ≡ 0) }
-    ensures bytes_read { IfOk result (λ d. file_bytes_read d ≡ 0) }
-{
-    match how {
-        Take::Existing | Take::ReadOnly => {
-            match open_existing(rt, name, how == Take::Existing) {
-                Ok(disk) => Ok(disk),
-                Err(error) if error.kind() == io::ErrorKind::NotFound => Err(TakeRefusal::Missing),
-                Err(_) => Err(TakeRefusal::Failed),
+    /// Counts a call that failed at a name, if it did. The name isn't kept where there is no memory for it.
+    fn count(&mut self, name: &str, answer: Result<(), Reason>) -> Result<(), FilesFault>
+        ensures cause { HasCause (dir_faults self.old) (dir_faults self.new) result }
+        ensures rest { self.new ≡ record self.old { faults = self.new.faults } }
+    {
+        match answer {
+            Ok(()) => Ok(()),
+            Err(reason) => {
+                let kept = String::from_str(self.rt.alloc(), name).ok();
+                self.fault(kept, reason);
+                Err(FilesFault)
             }
         }
-        Take::New => match make_new(rt, name) {
-            Ok(disk) => Ok(disk),
-            Err(error) if error.kind() == io::ErrorKind::AlreadyExists => Err(TakeRefusal::There),
-            Err(_) => Err(TakeRefusal::Failed),
-        },
     }
 }
 
@@ -154,39 +104,46 @@ impl Files for DirFiles {
     ghost faults = { λ files. dir_faults files };
 
     fn take(&mut self, alloc: Global, name: &str, how: Take) -> Result<FileDisk, TakeRefusal> {
+        self.identities.reserve(1)?;
         self.mark(alloc, name)?;
-        match open(&self.rt, name, how) {
-            Ok(disk) => Ok(disk),
+        match open(&self.rt, name, how, &self.identities) {
+            Ok(disk) => {
+                self.identities.insert(disk.identity()).unwrap();
+                Ok(disk)
+            }
             Err(refusal) => {
-                self.unmark(name);
-                if refusal == TakeRefusal::Failed {
-                    self.fault();
+                let kept = self.unmark(name);
+                match refusal {
+                    Refusal::Missing => Err(TakeRefusal::Missing),
+                    Refusal::There => Err(TakeRefusal::There),
+                    Refusal::Failed(reason) => {
+                        self.fault(kept, reason);
+                        Err(TakeRefusal::Failed)
+                    }
                 }
-                Err(refusal)
             }
         }
     }
 
     fn give(&mut self, name: &str, d: FileDisk) {
-        self.unmark(name);
-        if d.faults() > 0 {
-            self.fault();
+        let kept = self.unmark(name);
+        self.identities.remove(&d.identity());
+        if let Some(reason) = d.last_fault() {
+            self.fault(kept, reason);
         }
     }
 
     fn rename(&mut self, from: &str, to: &str) -> Result<(), FilesFault> {
-        match fs::rename(&self.rt, from, to) {
-            Ok(()) => Ok(()),
-            Err(_) => Err(self.fault()),
-        }
+        let answer = replace(&self.rt, from, to).map_err(Reason::from);
+        self.count(to, answer)
     }
 
     fn remove(&mut self, name: &str) -> Result<(), FilesFault> {
-        match fs::remove_file(&self.rt, name) {
-            Ok(()) => Ok(()),
-            Err(error) if error.kind() == io::ErrorKind::NotFound => Ok(()),
-            Err(_) => Err(self.fault()),
-        }
+        let answer = match fs::remove_file(&self.rt, name) {
+            Err(error) if !is_missing(&error) => Err(Reason::from(error)),
+            _ => Ok(()),
+        };
+        self.count(name, answer)
     }
 
     ghost taken_holds_nothing = { λ files name taken. refl };

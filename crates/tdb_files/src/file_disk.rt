@@ -1,19 +1,28 @@
 //! A disk that is a file of the operating system.
-ghost use Rattle.std.specs.Prelude.{◌≡◌, ◌+◌, ◌^◌, ◌<◌, ◌≤◌, [], length, false, Ok, IsErr, MatchResult};
+ghost use Rattle.std.specs.Prelude.{◌≡◌, ◌+◌, ◌^◌, ◌<◌, ◌≤◌, ◌↔◌, [], length, false, Ok, IsErr, IsSome, MatchResult};
 ghost use Rattle.std.proofs.lemmas.Bool.{false≢true};
 ghost use Rattle.tdb_disk.specs.Count.{HasCause};
 ghost use Rattle.tdb_disk.specs.History.{began};
 
+use crate::faults::Faults;
+use crate::identity::Identity;
+use crate::reason::Reason;
 use std::fs::File;
 use std::os::unix::fs::FileExt;
 use tdb_disk::{Disk, DiskFault};
+
+/// The zeros that a file grows by, a piece at a time.
+static ZEROS: [u8; 65536] = [0; 65536];
 
 /// An open file, and its length as it was when it was opened and as the calls since have made it. It tells no content.
 #[derive(Drop)]
 pub struct FileDisk {
     file: File,
+    identity: Identity,
+    /// Why it may not be changed; None where it may.
+    unwritable: Option<Reason>,
     len: u64,
-    faults: u64,
+    faults: Faults<Reason>,
     syncs: u64,
     bytes_read: u64,
     ghost len_fits: { len < 2 ^ 64 },
@@ -23,7 +32,12 @@ impl FileDisk {
     ghost use Rattle.tdb_files.specs.FileDisk.{file_len, file_faults, file_syncs, file_bytes_read};
 
     /// An open file of this length, in bytes, with no calls yet.
-    pub(crate) fn new(file: File, len: u64) -> FileDisk
+    pub(crate) fn new(
+        file: File,
+        identity: Identity,
+        unwritable: Option<Reason>,
+        len: u64,
+    ) -> FileDisk
         ensures len { file_len result ≡ len }
         ensures faults { file_faults result ≡ 0 }
         ensures syncs { file_syncs result ≡ 0 }
@@ -31,61 +45,120 @@ impl FileDisk {
     {
         FileDisk {
             file,
+            identity,
+            unwritable,
             len,
-            faults: 0,
+            faults: Faults::new(),
             syncs: 0,
             bytes_read: 0,
         }
     }
 
-    /// How many calls have failed.
-    pub(crate) fn faults(&self) -> u64
-        ensures { result ≡ file_faults self.now }
+    /// Which file it is.
+    pub(crate) fn identity(&self) -> Identity {
+        self.identity
+    }
+
+    /// Why the last call that failed did; None where none did.
+    pub(crate) fn last_fault(&self) -> Option<Reason>
+        ensures { IsSome result ↔ (0 < file_faults self.now) }
     {
-        self.faults
+        self.faults.last().copied()
+    }
+
+    /// The file may be changed.
+    fn check_writable(&self) -> Result<(), Reason> {
+        match self.unwritable {
+            None => Ok(()),
+            Some(reason) => Err(reason),
+        }
     }
 
     /// Counts a call that failed.
-    fn count<T, E: Drop>(&mut self, answer: Result<T, E>) -> Result<T, DiskFault>
+    fn count<T>(&mut self, answer: Result<T, Reason>) -> Result<T, DiskFault>
         ensures answer { MatchResult answer (λ value. result ≡ Ok value) (λ _. IsErr result) }
         ensures rest { self.new ≡ record self.old { faults = self.new.faults } }
-        ensures cause { HasCause self.old.faults self.new.faults result }
+        ensures cause { HasCause (file_faults self.old) (file_faults self.new) result }
     {
         match answer {
             Ok(value) => Ok(value),
-            Err(_) => {
-                self.faults = self.faults.saturating_add(1);
+            Err(reason) => {
+                self.faults.raise(reason);
                 Err(DiskFault)
             }
         }
     }
+
+    /// Writes all the bytes from an offset on, if the file may be changed.
+    fn put(&self, off: u64, bytes: &[u8]) -> Result<(), Reason>
+        requires { off + length bytes.now < 2 ^ 64 }
+    {
+        self.check_writable()?;
+        put(&self.file, off, bytes)
+    }
+
+    /// Sets the length of the file, if it may be changed.
+    fn set_len(&self, to: u64) -> Result<(), Reason> {
+        self.check_writable()?;
+        self.file.set_len(to)?;
+        Ok(())
+    }
+
+    /// Makes the file longer, and writes the zeros, so that no later write there finds the medium full. Where that fails it gets its
+    /// old length again.
+    fn extend(&self, to: u64) -> Result<(), Reason>
+        requires { file_len self.now ≤ to }
+    {
+        self.set_len(to)?;
+        let answer = put_zeros(&self.file, self.len, to);
+        if answer.is_err() {
+            // Where this fails too, the answer is the same.
+            let _ = self.set_len(self.len);
+        }
+        answer
+    }
 }
 
 /// Fills `buf` from an offset on. The end of the file before that is a fault.
-fn fill(file: &File, off: u64, buf: &mut [u8]) -> Result<(), DiskFault>
+fn fill(file: &File, off: u64, buf: &mut [u8]) -> Result<(), Reason>
     requires { off + length buf.old < 2 ^ 64 }
     ensures { length buf.new ≡ length buf.old }
 {
     let mut done = 0;
     while done < buf.len() {
         match file.read_at(&mut buf[done..], off + done as u64) {
-            Ok(0) | Err(_) => return Err(DiskFault),
+            Ok(0) => return Err(Reason::Shorter),
             Ok(n) => done += n,
+            Err(error) => return Err(error.into()),
         }
     }
     Ok(())
 }
 
 /// Writes all the bytes from an offset on.
-fn put(file: &File, off: u64, bytes: &[u8]) -> Result<(), DiskFault>
+fn put(file: &File, off: u64, bytes: &[u8]) -> Result<(), Reason>
     requires { off + length bytes.now < 2 ^ 64 }
 {
     let mut done = 0;
     while done < bytes.len() {
         match file.write_at(&bytes[done..], off + done as u64) {
-            Ok(0) | Err(_) => return Err(DiskFault),
+            Ok(0) => return Err(Reason::NothingWritten),
             Ok(n) => done += n,
+            Err(error) => return Err(error.into()),
         }
+    }
+    Ok(())
+}
+
+/// Writes zeros from one offset up to another, in large pieces.
+fn put_zeros(file: &File, from: u64, to: u64) -> Result<(), Reason>
+    requires { from ≤ to }
+{
+    let mut at = from;
+    while at < to {
+        let len = (to - at).min(ZEROS.len() as u64);
+        put(file, at, &ZEROS[..len as usize])?;
+        at += len;
     }
     Ok(())
 }
@@ -117,31 +190,31 @@ impl Disk for FileDisk {
     }
 
     fn write(&mut self, off: u64, bytes: &[u8]) -> Result<(), DiskFault> {
-        let answer = put(&self.file, off, bytes);
+        let answer = self.put(off, bytes);
         self.count(answer)
     }
 
     fn write_word(&mut self, off: u64, w: [u8; 4]) -> Result<(), DiskFault> {
-        let answer = put(&self.file, off, &w);
+        let answer = self.put(off, &w);
         self.count(answer)
     }
 
     fn grow(&mut self, to: u64) -> Result<(), DiskFault> {
-        let answer = self.file.set_len(to);
+        let answer = self.extend(to);
         self.count(answer)?;
         self.len = to;
         Ok(())
     }
 
     fn cut(&mut self, to: u64) -> Result<(), DiskFault> {
-        let answer = self.file.set_len(to);
+        let answer = self.set_len(to);
         self.count(answer)?;
         self.len = to;
         Ok(())
     }
 
     fn sync(&mut self) -> Result<(), DiskFault> {
-        let answer = self.file.sync_all();
+        let answer = self.file.sync_all().map_err(Reason::from);
         self.count(answer)?;
         self.syncs = self.syncs.saturating_add(1);
         Ok(())

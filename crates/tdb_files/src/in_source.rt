@@ -1,6 +1,8 @@
 //! A source that reads from a reader of the operating system, as standard input.
-ghost use Rattle.std.specs.Prelude.{◌≡◌, [], false};
+ghost use Rattle.std.specs.Prelude.{◌≡◌, ◌<◌, ◌↔◌, [], false, IsSome};
 
+use crate::faults::Faults;
+use crate::reason::Reason;
 use std::io::Read;
 use tdb_disk::{Source, SourceFault};
 
@@ -8,7 +10,7 @@ use tdb_disk::{Source, SourceFault};
 #[derive(Drop)]
 pub struct InSource<R> {
     reader: R,
-    faults: u64,
+    faults: Faults<Reason>,
 }
 
 impl<R: Read> InSource<R> {
@@ -18,7 +20,17 @@ impl<R: Read> InSource<R> {
     pub fn new(reader: R) -> InSource<R>
         ensures { in_faults result ≡ 0 }
     {
-        InSource { reader, faults: 0 }
+        InSource {
+            reader,
+            faults: Faults::new(),
+        }
+    }
+
+    /// Why the last read that failed did; None where none did.
+    pub fn last_fault(&self) -> Option<Reason>
+        ensures { IsSome result ↔ (0 < in_faults self.now) }
+    {
+        self.faults.last().copied()
     }
 }
 
@@ -34,8 +46,8 @@ impl<R: Read> Source for InSource<R> {
     fn read(&mut self, buf: &mut [u8]) -> Result<usize, SourceFault> {
         match self.reader.read(buf) {
             Ok(n) => Ok(n),
-            Err(_) => {
-                self.faults = self.faults.saturating_add(1);
+            Err(error) => {
+                self.faults.raise(error.into());
                 Err(SourceFault)
             }
         }

@@ -2,15 +2,24 @@
 #![tactic(auto)]
 
 mod dir_files;
+mod faults;
 mod file_disk;
+mod file_fault;
 mod file_sink;
+mod identity;
 mod in_source;
+mod locks;
+mod opening;
 mod out_sink;
+mod reason;
+mod replacing;
 #[cfg(test)]
 mod tests;
 
 pub use dir_files::DirFiles;
 pub use file_disk::FileDisk;
+pub use file_fault::FileFault;
 pub use file_sink::FileSink;
 pub use in_source::InSource;
 pub use out_sink::OutSink;
+pub use reason::{Reason, SystemError};

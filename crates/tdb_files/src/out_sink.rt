@@ -1,6 +1,8 @@
 //! A sink that writes to a writer of the operating system, as standard output.
-ghost use Rattle.std.specs.Prelude.{◌≡◌, [], false};
+ghost use Rattle.std.specs.Prelude.{◌≡◌, ◌<◌, ◌↔◌, [], false, IsSome};
 
+use crate::faults::Faults;
+use crate::reason::Reason;
 use std::io::Write;
 use tdb_disk::{Sink, SinkFault};
 
@@ -8,7 +10,7 @@ use tdb_disk::{Sink, SinkFault};
 #[derive(Drop)]
 pub struct OutSink<W> {
     writer: W,
-    faults: u64,
+    faults: Faults<Reason>,
 }
 
 impl<W: Write> OutSink<W> {
@@ -18,18 +20,29 @@ impl<W: Write> OutSink<W> {
     pub fn new(writer: W) -> OutSink<W>
         ensures { out_faults result ≡ 0 }
     {
-        OutSink { writer, faults: 0 }
+        OutSink {
+            writer,
+            faults: Faults::new(),
+        }
+    }
+
+    /// Why the last write that failed did; None where none did.
+    pub fn last_fault(&self) -> Option<Reason>
+        ensures { IsSome result ↔ (0 < out_faults self.now) }
+    {
+        self.faults.last().copied()
     }
 
     /// Writes all the bytes.
-    fn put(&mut self, bytes: &[u8]) -> Result<(), SinkFault>
+    fn put(&mut self, bytes: &[u8]) -> Result<(), Reason>
         ensures { out_faults self.new ≡ out_faults self.old }
     {
         let mut done = 0;
         while done < bytes.len() {
             match self.writer.write(&bytes[done..]) {
-                Ok(0) | Err(_) => return Err(SinkFault),
+                Ok(0) => return Err(Reason::NothingWritten),
                 Ok(n) => done += n,
+                Err(error) => return Err(error.into()),
             }
         }
         Ok(())
@@ -46,10 +59,12 @@ impl<W: Write> Sink for OutSink<W> {
     ghost faults = { λ s. out_faults s };
 
     fn write(&mut self, bytes: &[u8]) -> Result<(), SinkFault> {
-        let answer = self.put(bytes);
-        if answer.is_err() {
-            self.faults = self.faults.saturating_add(1);
+        match self.put(bytes) {
+            Ok(()) => Ok(()),
+            Err(reason) => {
+                self.faults.raise(reason);
+                Err(SinkFault)
+            }
         }
-        answer
     }
 }

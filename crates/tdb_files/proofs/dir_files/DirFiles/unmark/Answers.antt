@@ -6,5 +6,5 @@ use Rattle.tdb_files.proofs.dir_files.DirFiles.unmark.Goals as goal
 
 pub returns-clause-others : goal.returns-clause-others
 returns-clause-others c = λ other apart.
-    hash_set_updates_text c.args.name.now c.args.self.now.taken c.remove.new.self false c.remove.ensures.updates other
+    hash_set_updates_text c.args.name.now c.args.self.now.taken c.take.new.self false c.take.ensures.updates other
     ∙ same_elsewhere c.args.name.now other false (name_is_taken c.args.self.now other) apart

@@ -1,0 +1,74 @@
+//! Why a call of the system failed, or why a file wasn't used.
+
+use std::fmt;
+use std::io;
+use std::str::from_utf8;
+use thiserror::Error;
+
+/// Why a call failed, in the words that a user is told.
+#[derive(Clone, Copy, Debug, Error)]
+pub enum Reason {
+    /// The system refused it.
+    #[error("{0}")]
+    System(SystemError),
+    /// It is a folder, a pipe, a device or a socket.
+    #[error("is not a regular file")]
+    NotRegular,
+    /// It is locked, or was made or replaced by another program in the meantime.
+    #[error("another program uses the file")]
+    InUse,
+    /// It is taken already, under another name.
+    #[error("the file is in use under another name")]
+    TakenTwice,
+    /// It is a database, which is not to be written over as something else.
+    #[error("is a database")]
+    Database,
+    /// It has fewer bytes than it had.
+    #[error("the file has become shorter")]
+    Shorter,
+    /// A write took no byte.
+    #[error("nothing could be written")]
+    NothingWritten,
+}
+
+/// An error of the system. It is told in the system's words, without its number.
+#[derive(Clone, Copy, Debug)]
+pub struct SystemError(io::Error);
+
+/// The longest text of an error of the system, in bytes.
+const LONGEST_TEXT: usize = 256;
+
+impl fmt::Display for SystemError {
+    fn fmt<W: fmt::Write>(&self, f: &mut fmt::Formatter<W>) -> fmt::Result {
+        let Some(code) = self.0.raw_os_error() else {
+            return fmt::Display::fmt(&self.0, f);
+        };
+        let mut text = [0; LONGEST_TEXT];
+        let len = os::error_text(code, &mut text);
+        f.pad(from_utf8(&text[..len]).unwrap_or(""))
+    }
+}
+
+impl From<io::Error> for Reason {
+    fn from(error: io::Error) -> Reason {
+        Reason::System(SystemError(error))
+    }
+}
+
+impl Reason {
+    /// The system found no file of the name, or no folder on the way to it.
+    pub(crate) fn is_missing(&self) -> bool {
+        match self {
+            Reason::System(SystemError(error)) => is_missing(error),
+            _ => false,
+        }
+    }
+}
+
+/// The system found no file of the name: it isn't there, or what should be a folder on the way to it is a file or isn't there.
+pub(crate) fn is_missing(error: &io::Error) -> bool {
+    matches!(
+        error.kind(),
+        io::ErrorKind::NotFound | io::ErrorKind::NotADirectory
+    )
+}
