@@ -1,5 +1,5 @@
 -- What a contract sees of an open file: its length and the counts.
-use Rattle.std.specs.Prelude.{ℕ}
+use Rattle.std.specs.Prelude.{ℕ, IsSome}
 use Rattle.tdb_files.specs.Faults.{fault_count}
 use Rattle.tdb_files.specs.declared.file_disk.FileDisk.{FileDisk}
 
@@ -18,3 +18,7 @@ file_syncs disk = disk.syncs
 -- how many bytes were read
 abbrev pub file_bytes_read : FileDisk → ℕ
 file_bytes_read disk = disk.bytes_read
+
+-- the file may be read and not changed
+abbrev pub MayNotBeWritten : FileDisk → Type 0
+MayNotBeWritten disk = IsSome disk.unwritable

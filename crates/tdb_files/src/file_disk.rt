@@ -29,7 +29,7 @@ pub struct FileDisk {
 }
 
 impl FileDisk {
-    ghost use Rattle.tdb_files.specs.FileDisk.{file_len, file_faults, file_syncs, file_bytes_read};
+    ghost use Rattle.tdb_files.specs.FileDisk.{file_len, file_faults, file_syncs, file_bytes_read, MayNotBeWritten};
 
     /// An open file of this length, in bytes, with no calls yet.
     pub(crate) fn new(
@@ -67,7 +67,9 @@ impl FileDisk {
     }
 
     /// The file may be changed.
-    fn check_writable(&self) -> Result<(), Reason> {
+    fn check_writable(&self) -> Result<(), Reason>
+        ensures { MayNotBeWritten self.now → IsErr result }
+    {
         match self.unwritable {
             None => Ok(()),
             Some(reason) => Err(reason),
@@ -92,13 +94,16 @@ impl FileDisk {
     /// Writes all the bytes from an offset on, if the file may be changed.
     fn put(&self, off: u64, bytes: &[u8]) -> Result<(), Reason>
         requires { off + length bytes.now < 2 ^ 64 }
+        ensures { MayNotBeWritten self.now → IsErr result }
     {
         self.check_writable()?;
         put(&self.file, off, bytes)
     }
 
     /// Sets the length of the file, if it may be changed.
-    fn set_len(&self, to: u64) -> Result<(), Reason> {
+    fn set_len(&self, to: u64) -> Result<(), Reason>
+        ensures { MayNotBeWritten self.now → IsErr result }
+    {
         self.check_writable()?;
         self.file.set_len(to)?;
         Ok(())
@@ -108,6 +113,7 @@ impl FileDisk {
     /// old length again.
     fn extend(&self, to: u64) -> Result<(), Reason>
         requires { file_len self.now ≤ to }
+        ensures { MayNotBeWritten self.now → IsErr result }
     {
         self.set_len(to)?;
         let answer = put_zeros(&self.file, self.len, to);

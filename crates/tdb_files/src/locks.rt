@@ -3,11 +3,10 @@
 use crate::reason::Reason;
 use os::RangeLock;
 use std::fs::File;
-use std::io;
 use std::os::fd::AsRawFd;
 use std::rt::Clock;
-use std::thread;
 use std::time::Duration;
+use std::{io, thread};
 
 /// Bytes of a file that are locked together. They need not be there.
 struct Range {
@@ -64,11 +63,6 @@ pub(crate) fn try_lock(file: &File, kind: RangeLock) -> Result<(), Reason> {
 /// Gives up all the locks of an open file.
 fn unlock(file: &File) {
     for range in &RANGES {
-        os::try_lock_range(
-            file.as_raw_fd(),
-            RangeLock::Unlock,
-            range.start,
-            range.len,
-        );
+        os::try_lock_range(file.as_raw_fd(), RangeLock::Unlock, range.start, range.len);
     }
 }

@@ -134,11 +134,7 @@ fn claim_new(
 
 /// Makes a file where nothing has the name, not even a link. Only its owner may read and write it, whatever the process takes away
 /// from new files. After an Err it isn't there, unless another program uses it.
-fn make_new(
-    rt: &HostRuntime,
-    name: &str,
-    taken: &HashSet<Identity>,
-) -> Result<FileDisk, Refusal>
+fn make_new(rt: &HostRuntime, name: &str, taken: &HashSet<Identity>) -> Result<FileDisk, Refusal>
     ensures missing { IsErrOf result refusal.Missing → ⊥ }
     ensures len { IfOk result (λ d. file_len d ≡ 0) }
     ensures faults { IfOk result (λ d. file_faults d ≡ 0) }

@@ -1,8 +1,7 @@
 //! Why a call of the system failed, or why a file wasn't used.
 
-use std::fmt;
-use std::io;
 use std::str::from_utf8;
+use std::{fmt, io};
 use thiserror::Error;
 
 /// Why a call failed, in the words that a user is told.

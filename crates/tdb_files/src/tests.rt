@@ -1,9 +1,15 @@
 //! The real files, from the making of a file to its removal.
 ghost use Rattle.std.specs.Prelude.{◌≡◌, OnOk};
 
+use crate::file_disk::FileDisk;
+use crate::identity::Identity;
+use crate::reason::Reason;
 use crate::{DirFiles, FileSink, InSource, OutSink};
-use std::alloc::Global;
-use std::fs;
+use os::RangeLock;
+use std::alloc::{AllocError, Global};
+use std::fs::{self, File, OpenOptions};
+use std::io;
+use std::os::fd::AsRawFd;
 use std::os::unix::fs::{PermissionsExt, symlink};
 use std::test::Fail;
 use tdb_disk::{Disk, DiskFault, Files, Sink, Source, Take, TakeRefusal};
@@ -35,6 +41,7 @@ fn a_file_is_made_and_read_again(rt: HostRuntime) -> Result<(), Fail> {
     fs::create_dir(&rt, FOLDER)?;
     let mut files = DirFiles::new(rt);
     let mut disk = files.take(alloc, FILE, Take::New)?;
+    assert_eq!(rt; mode_of(rt, FILE)?, 0o600);
     fill(&mut disk)?;
     files.give(FILE, disk);
     let mut disk = files.take(alloc, FILE, Take::ReadOnly)?;
@@ -51,15 +58,30 @@ fn a_file_is_made_and_read_again(rt: HostRuntime) -> Result<(), Fail> {
     Ok(())
 }
 
+/// Who may read, write and run a file.
+fn mode_of(rt: HostRuntime, name: &str) -> io::Result<u32> {
+    Ok(fs::metadata(&rt, name)?.permissions().mode() & 0o777)
+}
+
 #[test]
 fn a_file_is_renamed_and_removed(rt: HostRuntime) -> Result<(), Fail> {
     let mut files = DirFiles::new(rt);
     fs::write(&rt, RENAMED, "one")?;
     files.rename(RENAMED, OTHER)?;
     assert_eq!(rt; fs::read(&rt, OTHER)?.as_slice(), b"one".as_slice());
+    // Nothing is done where no file has the name, as in memory.
+    files.rename(RENAMED, OTHER)?;
+    assert_eq!(rt; fs::read(&rt, OTHER)?.as_slice(), b"one".as_slice());
+    // The file that is replaced passes its permissions on.
+    fs::set_permissions(&rt, OTHER, fs::Permissions::from_mode(0o640))?;
+    fs::write(&rt, RENAMED, "two")?;
+    files.rename(RENAMED, OTHER)?;
+    assert_eq!(rt; fs::read(&rt, OTHER)?.as_slice(), b"two".as_slice());
+    assert_eq!(rt; mode_of(rt, OTHER)?, 0o640);
+    files.remove("tdb_files_to/below")?;
     files.remove(OTHER)?;
     files.remove(OTHER)?;
-    assert!(rt; files.rename(RENAMED, OTHER).is_err());
+    assert!(rt; files.remove(".").is_err());
     Ok(())
 }
 
@@ -95,6 +117,7 @@ fn each_refusal_is_named(rt: HostRuntime) -> Result<(), Fail> {
     for (name, existing, read_only, new) in [
         ("tdb_files_refusals", failed, failed, there),
         ("tdb_files_refusals/none/a", missing, missing, failed),
+        ("tdb_files_refusals/kept/a", missing, missing, failed),
         ("tdb_files_refusals/link", missing, missing, there),
         ("tdb_files_refusals/new", missing, missing, None),
         ("tdb_files_refusals/new", None, None, there),
@@ -119,6 +142,112 @@ fn each_refusal_is_named(rt: HostRuntime) -> Result<(), Fail> {
     Ok(())
 }
 
+/// What a user is told of the last fault; empty where there is none.
+fn told(alloc: Global, files: &DirFiles) -> Result<String, AllocError> {
+    match files.last_fault() {
+        Some(fault) => Ok(format!(in alloc; "{fault}")?),
+        None => Ok(String::new(alloc)),
+    }
+}
+
+/// What a user is told where a file isn't taken; empty where it is.
+fn words(rt: HostRuntime, name: &str, how: Take) -> Result<String, AllocError> {
+    let mut files = DirFiles::new(rt);
+    if let Ok(disk) = files.take(rt.alloc(), name, how) {
+        files.give(name, disk);
+    }
+    told(rt.alloc(), &files)
+}
+
+/// Whether another program's lock on one byte of the file is granted. It is given up at once.
+fn is_free(file: &File, byte: u64, kind: RangeLock) -> bool {
+    let is_granted = os::try_lock_range(file.as_raw_fd(), kind, byte, 1) == 0;
+    os::try_lock_range(file.as_raw_fd(), RangeLock::Unlock, byte, 1);
+    is_granted
+}
+
+#[test]
+fn another_program_keeps_off(rt: HostRuntime) -> Result<(), Fail> {
+    let name = "tdb_files_locks";
+    fs::write(&rt, name, "one")?;
+    let other = OpenOptions::new().read(true).write(true).open(&rt, name)?;
+    let alloc = rt.alloc();
+    let mut files = DirFiles::new(rt);
+    let disk = files.take(alloc, name, Take::Existing)?;
+    for byte in [0, 8, 164, 168, 1000, u64::MAX / 2] {
+        assert!(rt; !is_free(&other, byte, RangeLock::Shared), "byte {byte}");
+    }
+    assert!(rt; is_free(&other, 4, RangeLock::Exclusive));
+    files.give(name, disk);
+    let disk = files.take(alloc, name, Take::ReadOnly)?;
+    for byte in [0, 8, 164, 168, 1000] {
+        assert!(rt; is_free(&other, byte, RangeLock::Shared), "byte {byte}");
+        assert!(rt; !is_free(&other, byte, RangeLock::Exclusive), "byte {byte}");
+    }
+    files.give(name, disk);
+    // The other way round: it is taken for reading beside another reader, and for writing only where nobody has it.
+    let record = other.as_raw_fd();
+    assert_eq!(rt; os::try_lock_range(record, RangeLock::Shared, 168, 1), 0);
+    assert_eq!(rt; words(rt, name, Take::ReadOnly)?.as_str(), "");
+    assert_eq!(rt;
+        words(rt, name, Take::Existing)?.as_str(),
+        "tdb_files_locks: another program uses the file"
+    );
+    assert_eq!(rt; os::try_lock_range(record, RangeLock::Unlock, 168, 1), 0);
+    assert_eq!(rt; words(rt, name, Take::Existing)?.as_str(), "");
+    fs::remove_file(&rt, name)?;
+    Ok(())
+}
+
+#[test]
+fn each_fault_has_its_reason(rt: HostRuntime) -> Result<(), Fail> {
+    let name = "tdb_files_reasons";
+    fs::write(&rt, name, "one")?;
+    assert_eq!(rt;
+        words(rt, ".", Take::Existing)?.as_str(),
+        ".: is not a regular file"
+    );
+    assert_eq!(rt;
+        words(rt, "tdb_files_reasons/new", Take::New)?.as_str(),
+        "tdb_files_reasons/new: Not a directory"
+    );
+    let alloc = rt.alloc();
+    let mut files = DirFiles::new(rt);
+    let disk = files.take(alloc, name, Take::ReadOnly)?;
+    assert!(rt;
+        files
+            .take(alloc, "./tdb_files_reasons", Take::ReadOnly)
+            .is_err()
+    );
+    assert_eq!(rt;
+        told(alloc, &files)?.as_str(),
+        "./tdb_files_reasons: the file is in use under another name"
+    );
+    files.give(name, disk);
+    fs::remove_file(&rt, name)?;
+    Ok(())
+}
+
+#[test]
+fn a_file_that_may_only_be_read_is_not_changed(rt: HostRuntime) -> Result<(), Fail> {
+    let name = "tdb_files_unwritable";
+    fs::write(&rt, name, "12345678")?;
+    let file = OpenOptions::new().read(true).write(true).open(&rt, name)?;
+    let identity = Identity::of(&file.metadata()?);
+    let mut disk = FileDisk::new(file, identity, Some(Reason::NotRegular), 8);
+    let mut buf = [0; 8];
+    disk.read(0, &mut buf)?;
+    assert_eq!(rt; buf, *b"12345678");
+    assert!(rt; disk.write(0, b"a").is_err());
+    assert!(rt; disk.write_word(0, *b"word").is_err());
+    assert!(rt; disk.grow(16).is_err());
+    assert!(rt; disk.cut(4).is_err());
+    assert_eq!(rt; disk.len()?, 8);
+    assert_eq!(rt; fs::read(&rt, name)?.as_slice(), b"12345678".as_slice());
+    fs::remove_file(&rt, name)?;
+    Ok(())
+}
+
 #[test]
 fn streams_pass_bytes_on(rt: HostRuntime) -> Result<(), Fail> {
     let path = "tdb_files_streams";
@@ -133,6 +262,11 @@ fn streams_pass_bytes_on(rt: HostRuntime) -> Result<(), Fail> {
     // A file that is open for reading alone can't be written, and a folder can't be read.
     assert!(rt; OutSink::new(fs::open(&rt, path)?).write(b"no").is_err());
     assert!(rt; InSource::new(fs::open(&rt, ".")?).read(&mut buf).is_err());
+    // Nothing but a file that isn't a database is written over.
+    fs::write(&rt, path, "TDB file\nand more")?;
+    assert!(rt; FileSink::create(&rt, path).is_err());
+    assert_eq!(rt; fs::metadata(&rt, path)?.len(), 17);
+    assert!(rt; FileSink::create(&rt, ".").is_err());
     fs::remove_file(&rt, path)?;
     Ok(())
 }
