@@ -33,7 +33,6 @@ pub use crate::opening::opening_law;
 pub use crate::opening_fault::opening_fault_law;
 pub use crate::plain::{KeyValue, chain_offsets, pairs_in_order, record_at};
 pub use crate::reads::{key_equals, read_rec, read_word};
-pub use crate::reads::{key_equals, read_rec};
 pub use crate::scheme::scheme_law;
 pub use crate::sequence_number::sequence_law;
 pub use crate::space::Space;
