@@ -21,4 +21,3 @@ pub mod RecoverySteps
 pub mod Gate
 pub mod OpeningFault
 pub mod Scheme
-pub mod RecordBytes
