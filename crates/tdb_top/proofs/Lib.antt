@@ -14,3 +14,4 @@ pub mod Inserts
 pub mod OneAnswer
 pub mod Statuses
 pub mod Leavings
+mod Tells

@@ -112,7 +112,7 @@ opens_or_makes (create file size hash order) opens makes = opens
 opens_or_makes (check file) opens makes = makes
 
 -- what is held at a name is one history, or none
-held_one : (held : Option History) (h k : History) → held ≡ Some h → held ≡ Some k → h ≡ k
+pub held_one : (held : Option History) (h k : History) → held ≡ Some h → held ≡ Some k → h ≡ k
 held_one held h k p q = let both : Some h ≡ Some k = sym p ∙ q in cc
 
 held_none : (held : Option History) (h : History) → held ≡ Some h → held ≡ None → ⊥

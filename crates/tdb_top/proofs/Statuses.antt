@@ -5,7 +5,7 @@ use Rattle.tdb_space.specs.Accepted.{Accept}
 use Rattle.tdb_top.specs.declared.halt.Refusal.TheVariants.{TooLong, Header, Corrupt}
 use Rattle.tdb_top.specs.declared.insert.Inserted.TheVariants.{Done, Exists, Full}
 use Rattle.tdb_top.specs.declared.limits.TheConstants.{LONGEST_FILE}
-use Rattle.tdb_top.specs.Ending.{Ending, shown, no_key, insert_ends, created, number, no_line, refused, device_fault, no_memory, missing, there_already, status_of, IsDone, IsKeyAmiss, IsFaulty, IsTooLong, IsMisnamed, Met, OpensFile, Cause, IsAnswer, IsTold, Output, Prints}
+use Rattle.tdb_top.specs.Ending.{Ending, shown, no_key, insert_ends, created, number, no_line, refused, device_fault, no_memory, missing, there_already, status_of, IsDone, IsKeyAmiss, IsFaulty, IsTooLong, IsMisnamed, Met, OpensFile, Cause, IsAnswer, IsTold, Output, TakesMemory, PrintedFor, Prints}
 use Rattle.tdb_top.proofs.OneAnswer.{answer_one, refused_bytes, faulty_ends, accepted_not_three}
 
 -- the statuses of the table
@@ -51,9 +51,9 @@ answer_or (missing name) = inl ((λ i. cc), (λ i. cc))
 answer_or (there_already name) = inl ((λ i. cc), (λ i. cc))
 
 -- the ending that is printed has its cause: the one that was found, or want of memory, which needs none
-pub printed_caused : (m : Met) (e t : Ending) → (e ≡ t) ⊎ (e ≡ no_memory) → Cause m no_memory → Cause m t → Cause m e
+pub printed_caused : (m : Met) (e t : Ending) → PrintedFor e t → Cause m no_memory → Cause m t → Cause m e
 printed_caused m e t (inl same) free c = subst (Cause m) (sym same) c
-printed_caused m e t (inr none) free c = subst (Cause m) (sym none) free
+printed_caused m e t (inr none) free c = subst (Cause m) (sym none.0) free
 
 module _ (o : Output) (e : Ending) (status : ℕ) where
   pub statuses_known : Prints o e status → Known status
@@ -61,9 +61,9 @@ module _ (o : Output) (e : Ending) (status : ℕ) where
   statuses_known (inr part) = subst Known (sym part.exits) (7, omega arith, refl)
 
   -- words that ask for nothing have no other status but for want of memory and a fault of the output
-  pub no_line_status : (t : Ending) → (e ≡ t) ⊎ (e ≡ no_memory) → (t ≡ no_line) ⊎ (t ≡ no_memory) → Prints o e status → Contains (2 ∷ 5 ∷ 8 ∷ []) status
+  pub no_line_status : (t : Ending) → PrintedFor e t → (t ≡ no_line) ⊎ (t ≡ no_memory) → Prints o e status → Contains (2 ∷ 5 ∷ 8 ∷ []) status
   no_line_status t printed found (inr part) = (2, omega arith, sym part.exits)
-  no_line_status t (inr want) found (inl all) = (1, omega arith, sym (all.exits ∙ ap status_of want))
+  no_line_status t (inr want) found (inl all) = (1, omega arith, sym (all.exits ∙ ap status_of want.0))
   no_line_status t (inl same) (inl none) (inl all) = (0, omega arith, sym (all.exits ∙ ap status_of (same ∙ none)))
   no_line_status t (inl same) (inr want) (inl all) = (1, omega arith, sym (all.exits ∙ ap status_of (same ∙ want)))
 
@@ -103,3 +103,9 @@ module _ (m : Met) (o : Output) (e : Ending) (status : ℕ) (c : Cause m e) wher
       of : IsFaulty e → ⊥
       of (inl (fault, same)) = accepted_not_three img (Header fault) (refused_bytes m (Header fault) img (subst (Cause m) same c) opens) accepted refl
       of (inr (what, at, same)) = accepted_not_three img (Corrupt what at) (refused_bytes m (Corrupt what at) img (subst (Cause m) same c) opens) accepted refl
+
+-- a status that is neither 4 nor 8 isn't that of a failed call
+pub sound_status : (o : Output) (e t : Ending) (status : ℕ) → PrintedFor e t → Prints o e status → (status ≡ 4 → ⊥) → (status ≡ 8 → ⊥) → t ≡ device_fault → ⊥
+sound_status o e t status printed (inr part) four eight is = eight part.exits
+sound_status o e t status (inl same) (inl all) four eight is = four (all.exits ∙ ap status_of (same ∙ is))
+sound_status o e t status (inr none) (inl all) four eight is = subst TakesMemory is none.1

@@ -107,6 +107,27 @@ ending_of C.TheVariants.NoMemory = no_memory
 ending_of (C.TheVariants.Missing name) = missing name
 ending_of (C.TheVariants.There name) = there_already name
 
+-- The endings whose line tells a value, a number or a name, and so takes memory. The others have the same line in each run, which
+-- takes none.
+abbrev pub TakesMemory : Ending → Type 0
+TakesMemory (shown value) = Unit {0}
+TakesMemory no_key = ⊥
+TakesMemory (insert_ends Done) = ⊥
+TakesMemory (insert_ends Exists) = ⊥
+TakesMemory (insert_ends (Full len need)) = Unit {0}
+TakesMemory created = ⊥
+TakesMemory (number n) = Unit {0}
+TakesMemory no_line = ⊥
+TakesMemory (refused refusal) = Unit {0}
+TakesMemory device_fault = ⊥
+TakesMemory no_memory = ⊥
+TakesMemory (missing name) = Unit {0}
+TakesMemory (there_already name) = Unit {0}
+
+-- what is printed for an ending is its line, or want of memory where its line takes some
+abbrev pub PrintedFor : Ending → Ending → Type 0
+PrintedFor e t = (e ≡ t) ⊎ ((e ≡ no_memory) × TakesMemory t)
+
 -- the endings that answer the words: neither a fault nor want of memory
 abbrev pub IsAnswer : Ending → Type 0
 IsAnswer e = (e ≢ device_fault) × (e ≢ no_memory)
@@ -256,3 +277,11 @@ MadeSo name Making.TheVariants.Made e = e ≡ created
 MadeSo name Making.TheVariants.There e = (e ≡ there_already name) ⊎ (e ≡ no_memory)
 MadeSo name Making.TheVariants.Device e = e ≡ device_fault
 MadeSo name Making.TheVariants.Memory e = e ≡ no_memory
+
+-- a show of a key told the value that the map of these bytes has for it
+abbrev pub TellsValue : Output → List ℕ → List ℕ → Type 0
+TellsValue o img key = (value : List ℕ) × (map_of (form_of img) img key ≡ Some value) × (IsTrue o.tells → o.after ≡ o.before ++ text_of (shown value))
+
+-- a check told how many keys these bytes have
+abbrev pub TellsCount : Output → List ℕ → Type 0
+TellsCount o img = IsTrue o.tells → o.after ≡ o.before ++ text_of (number (length (order_of (form_of img) img)))

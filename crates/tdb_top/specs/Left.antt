@@ -2,6 +2,7 @@
 use Rattle.std.specs.Prelude.{◌≡◌, ◌≢◌, ◌⊎◌, ℕ, Option, None, Some, List}
 use Rattle.tdb_words.specs.declared.word.Order.{Order}
 use Rattle.tdb_words.specs.declared.hash.HashKind.{HashKind}
+use Rattle.tdb_disk.specs.Count.{Rose}
 use Rattle.tdb_disk.specs.History.{History, seen}
 use Rattle.tdb_disk.specs.Names.{SameAll, SameBut}
 use Rattle.tdb_space.specs.Form.{form_of}
@@ -9,7 +10,7 @@ use Rattle.tdb_top.specs.declared.insert.Inserted.TheVariants.{Done, Exists, Ful
 use Rattle.tdb_top.specs.declared.create.Creation.TheVariants.{Made, There, Device, Memory}
 use Rattle.tdb_top.specs.CommandLine.{Line, show, insert, create, check, IsLine}
 use Rattle.tdb_top.specs.Create.{CreateLeaves}
-use Rattle.tdb_top.specs.Ending.{Ending, shown, no_key, insert_ends, created, number, no_line, refused, device_fault, no_memory, missing, there_already, status_of}
+use Rattle.tdb_top.specs.Ending.{Ending, shown, no_key, insert_ends, created, number, no_line, refused, device_fault, no_memory, missing, there_already}
 use Rattle.tdb_top.specs.Insert.{need_for, inserted, BrokenOff, IsInserted, HasAdded}
 
 -- the file holds the key with the value, all of it on the medium, in an accepted image whose map has the key more
@@ -76,25 +77,26 @@ pub record WordsLeave (words : List (List ℕ)) (old : List ℕ → Option Histo
   pub lines : (line : Line) → IsLine words line → LineLeaves line old e now
   pub others : (name : List ℕ) → ((line : Line) → IsLine words line → MayChange line name → ⊥) → now name ≡ old name
 
--- an ending after which every file is as before, whatever the words ask for: nothing was done, and no call failed
+-- an ending after which every file is as before: no key was added, no file made, and no call failed
 abbrev pub Keeps : Ending → Type 0
-Keeps e = (status_of e ≢ 0) × (status_of e ≢ 4)
+Keeps e = (e ≢ insert_ends Done) × (e ≢ created) × (e ≢ device_fault)
 
--- a status after which every file is as before, whatever the words ask for
+-- a status after which every file is as before, whatever the words ask for: it says neither that it was done, nor that a call of
+-- the files or of the output failed
 abbrev pub KeepsAll : ℕ → Type 0
-KeepsAll status = (status ≢ 0) × (status ≢ 4) × (status ≢ 5) × (status ≢ 8)
+KeepsAll status = (status ≢ 0) × (status ≢ 4) × (status ≢ 8)
 
--- A run of an insert that ends with a status leaves its file, which held this, so. After the statuses 5 and 8 it may be any of the
--- three, since they may tell of the output alone.
-pub record RunLeaves (key value : List ℕ) (old : History) (status : ℕ) (now : Option History) : Type 0 where
-  pub there : (h : History) × (now ≡ Some h) × ((h ≡ old) ⊎ Gained key value old h ⊎ Interrupted key value old h)
+-- A run of an insert that ends with a status leaves its file, which held this, so. A fault of the output, status 8, tells nothing
+-- of the file: it is as it was or has the key more, or is as a failed call left it, which raised the count of faults.
+pub record RunLeaves (key value : List ℕ) (old : History) (before after status : ℕ) (now : Option History) : Type 0 where
+  pub there : (h : History) × (now ≡ Some h) × ((h ≡ old) ⊎ Gained key value old h ⊎ (Rose before after × Interrupted key value old h))
   pub done : status ≡ 0 → (h : History) × (now ≡ Some h) × Gained key value old h
   pub broken : status ≡ 4 → (h : History) × (now ≡ Some h) × Interrupted key value old h
   pub kept : KeepsAll status → now ≡ Some old
 
 -- A run of a create that ends with a status leaves what is held at its file's name so, in the same way.
-pub record RunMakes (size : ℕ) (hash : HashKind) (order : Order) (old : Option History) (status : ℕ) (now : Option History) : Type 0 where
-  pub any : (now ≡ old) ⊎ CreateLeaves size order hash old Made now ⊎ CreateLeaves size order hash old Device now
+pub record RunMakes (size : ℕ) (hash : HashKind) (order : Order) (old : Option History) (before after status : ℕ) (now : Option History) : Type 0 where
+  pub any : (now ≡ old) ⊎ CreateLeaves size order hash old Made now ⊎ (Rose before after × CreateLeaves size order hash old Device now)
   pub done : status ≡ 0 → CreateLeaves size order hash old Made now
   pub broken : status ≡ 4 → CreateLeaves size order hash old Device now
   pub kept : KeepsAll status → now ≡ old

@@ -25,6 +25,7 @@ pub(crate) fn add_key<F: Files>(
     requires free { (other : List ℕ) → F.is_taken files.old other ≡ false }
     ensures cause { IsTrue F.D.tells → LineCause (insert name.now key.now value.now) (F.held files.old name.now) (F.faults files.old) (F.faults files.new) (ending_of result) }
     ensures device { ending_of result ≡ device_fault → Rose (F.faults files.old) (F.faults files.new) }
+    ensures sound { (ending_of result ≡ device_fault → ⊥) → F.faults files.new ≡ F.faults files.old }
     ensures line { ending_of result ≡ no_line → ⊥ }
     ensures given_back { (other : List ℕ) → F.is_taken files.new other ≡ false }
     ensures others { SameBut name.now (F.held files.old) (F.held files.new) }

@@ -62,6 +62,7 @@ pub(crate) fn create_file<F: Files>(
     requires free { (other : List ℕ) → F.is_taken files.old other ≡ false }
     ensures cause { IsTrue F.D.tells → CreateCause (F.held files.old name.now) (F.faults files.old) (F.faults files.new) result }
     ensures device { result ≡ IsDevice → Rose (F.faults files.old) (F.faults files.new) }
+    ensures sound { (result ≡ IsDevice → ⊥) → F.faults files.new ≡ F.faults files.old }
     ensures given_back { (other : List ℕ) → F.is_taken files.new other ≡ false }
     ensures others { SameBut name.now (F.held files.old) (F.held files.new) }
     ensures left { IsTrue F.D.tells → CreateLeaves form.size form.order form.hash (F.held files.old name.now) result (F.held files.new name.now) }

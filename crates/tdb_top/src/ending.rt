@@ -1,9 +1,9 @@
 // How a run ends: its status and the line that it prints.
 
-ghost use Rattle.std.specs.Prelude.{◌≡◌, ◌⊎◌, ◌++◌, codes, decimal, IfOk};
+ghost use Rattle.std.specs.Prelude.{◌≡◌, ◌⊎◌, ◌++◌, codes, decimal, None, IfOk, IfSome};
 ghost use Rattle.tdb_top.specs.declared.ending.Ending.TheVariants.{DeviceFault, NoMemory};
 ghost use Rattle.tdb_top.specs.declared.halt.Halt.TheVariants.{Refused, Device, Memory};
-ghost use Rattle.tdb_top.specs.Ending.{Ending as Means, ending_of, no_memory, there_already, status_of, line_of, refusal_status, refusal_line, text_of, Prints, output_by, of_halt, Untaken, MadeSo};
+ghost use Rattle.tdb_top.specs.Ending.{Ending as Means, ending_of, no_memory, there_already, status_of, line_of, refusal_status, refusal_line, text_of, TakesMemory, PrintedFor, Prints, output_by, of_halt, Untaken, MadeSo};
 
 use crate::create::Creation;
 use crate::halt::{Halt, Refusal};
@@ -170,30 +170,43 @@ impl Ending {
         })
     }
 
-    /// The line that tells it, without a newline.
+    /// The line that tells it, with its newline, where that is the same in each run. Else it takes memory.
+    fn constant_text(&self) -> Option<&'static [u8]>
+        ensures constant { IfSome result (λ text. text.now ≡ text_of (ending_of self.now)) }
+        ensures other { result ≡ None → TakesMemory (ending_of self.now) }
+    {
+        match self {
+            Ending::NoKey => Some(b"noexist\n"),
+            Ending::Insert(Inserted::Done) | Ending::Created => Some(b"ok\n"),
+            Ending::Insert(Inserted::Exists) => Some(b"exists\n"),
+            Ending::NoLine => Some(b"usage: tdb COMMAND [OPTIONS] FILE [WORDS]\n"),
+            Ending::DeviceFault => Some(b"device fault\n"),
+            Ending::NoMemory => Some(b"memory\n"),
+            _ => None,
+        }
+    }
+
+    /// The line that tells a value, a number or a name, without a newline.
     fn line(&self, alloc: Global) -> Result<Bytes, AllocError>
+        requires { TakesMemory (ending_of self.now) }
         ensures { IfOk result (λ text. text ≡ line_of (ending_of self.now)) }
     {
         match self {
             Ending::Shown(value) => data_line(alloc, value.as_slice()),
-            Ending::NoKey => Bytes::copy(alloc, b"noexist"),
-            Ending::Insert(Inserted::Done) | Ending::Created => Bytes::copy(alloc, b"ok"),
-            Ending::Insert(Inserted::Exists) => Bytes::copy(alloc, b"exists"),
             Ending::Insert(Inserted::Full { len, need }) => full_line(alloc, *len, *need),
             Ending::Number(number) => {
                 joined(alloc, b"number ", Buffer::new().format(*number).as_bytes())
             }
-            Ending::NoLine => Bytes::copy(alloc, b"usage: tdb COMMAND [OPTIONS] FILE [WORDS]"),
             Ending::Refused(refusal) => refusal.line(alloc),
-            Ending::DeviceFault => Bytes::copy(alloc, b"device fault"),
-            Ending::NoMemory => Bytes::copy(alloc, b"memory"),
             Ending::Missing(name) => joined(alloc, b"missing ", name.as_slice()),
             Ending::There(name) => joined(alloc, b"there ", name.as_slice()),
+            _ => unreachable!(),
         }
     }
 
-    /// The line that tells it, with its newline.
+    /// The line that tells a value, a number or a name, with its newline.
     pub(crate) fn text(&self, alloc: Global) -> Result<Bytes, AllocError>
+        requires { TakesMemory (ending_of self.now) }
         ensures { IfOk result (λ text. text ≡ text_of (ending_of self.now)) }
     {
         let mut text = self.line(alloc)?;
@@ -213,11 +226,15 @@ fn put<K: Sink>(output: &mut K, text: &[u8], status: Status) -> Status
     }
 }
 
-/// Prints the line of an ending, and says the run's status. Where there is no memory for the line, that is what is told.
+/// Prints the line of an ending, and says the run's status. Where there is no memory for a line that takes some, that is what is
+/// told.
 pub(crate) fn print<K: Sink>(alloc: Global, ending: &Ending, output: &mut K) -> Status
-    ensures { (e : Means) × ((e ≡ ending_of ending.now) ⊎ (e ≡ no_memory))
+    ensures { (e : Means) × PrintedFor e (ending_of ending.now)
         × Prints (output_by K.tells (K.written output.old) (K.written output.new) (K.faults output.old) (K.faults output.new)) e result.0 }
 {
+    if let Some(text) = ending.constant_text() {
+        return put(output, text, ending.status());
+    }
     match ending.text(alloc) {
         Ok(text) => put(output, text.as_slice(), ending.status()),
         Err(_) => put(output, b"memory\n", Status(5)),

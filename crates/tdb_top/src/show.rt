@@ -43,6 +43,7 @@ pub(crate) fn show<F: Files>(alloc: Global, name: &str, key: &[u8], files: &mut 
     requires free { (other : List ℕ) → F.is_taken files.old other ≡ false }
     ensures cause { IsTrue F.D.tells → LineCause (show name.now key.now) (F.held files.old name.now) (F.faults files.old) (F.faults files.new) (ending_of result) }
     ensures device { ending_of result ≡ device_fault → Rose (F.faults files.old) (F.faults files.new) }
+    ensures sound { (ending_of result ≡ device_fault → ⊥) → F.faults files.new ≡ F.faults files.old }
     ensures line { ending_of result ≡ no_line → ⊥ }
     ensures given_back { (other : List ℕ) → F.is_taken files.new other ≡ false }
     ensures kept { IsTrue F.D.tells → (other : List ℕ) → F.held files.new other ≡ F.held files.old other }

@@ -443,3 +443,23 @@ fn failing_and_full_inserts(rt: HostRuntime) -> Result<(), Fail> {
     );
     Ok(())
 }
+
+// Where the output fails, what was done stands.
+#[test]
+fn changes_with_a_failing_output(rt: HostRuntime) -> Result<(), Fail> {
+    let alloc = rt.alloc();
+    for (words, name, len) in [
+        ("tool f.tdb insert a 1", "f.tdb", 728),
+        ("tool g.tdb create 1", "g.tdb", 176),
+    ] {
+        let mut files = MemFiles::new(alloc);
+        let mut output = MemSink::new(alloc);
+        files.put("f.tdb", front_of(&image_of(&LITTLE, &[]), 696))?;
+        output.fail(Call::Write, 0)?;
+        let (found, printed) = run_words(alloc, &mut files, &mut output, words)?;
+        assert_eq!(rt; found, 8, "{words}");
+        assert!(rt; printed.is_empty(), "{words}");
+        assert_eq!(rt; files.get(name).unwrap_or(&[]).len(), len, "{words}");
+    }
+    Ok(())
+}

@@ -1,15 +1,15 @@
 // The top call: it reads the words, answers them over the files and prints one line.
 
-ghost use Rattle.std.specs.Prelude.{◌≡◌, ◌⊎◌, ◌^◌, ◌<◌, ◌≤◌, ℕ, List, [], ◌∷◌, Some, false, map, string_bytes, IsTrue, Contains, length};
+ghost use Rattle.std.specs.Prelude.{◌≡◌, ◌≢◌, ◌⊎◌, ◌^◌, ◌<◌, ◌≤◌, ℕ, List, [], ◌∷◌, Some, false, map, string_bytes, IsTrue, Contains, length};
 ghost use Rattle.tdb_words.specs.declared.word.Order.{Order};
 ghost use Rattle.tdb_words.specs.declared.hash.HashKind.{HashKind};
 ghost use Rattle.tdb_disk.specs.Count.{Rose};
-ghost use Rattle.tdb_disk.specs.History.{History};
+ghost use Rattle.tdb_disk.specs.History.{History, seen};
 ghost use Rattle.tdb_disk.specs.Names.{SameAll};
 ghost use Rattle.tdb_space.specs.Accepted.{Accept};
 ghost use Rattle.tdb_top.specs.declared.limits.TheConstants.{LONGEST_FILE};
-ghost use Rattle.tdb_top.specs.CommandLine.{Line as Asks, insert, create, file_of, length_in, asked_by, IsSized, IsLine, HasNoLine};
-ghost use Rattle.tdb_top.specs.Ending.{Ending as Means, no_line, no_memory, device_fault, ending_of, status_of, met_by, output_by, OpensFile, LineCause, Cause, IsAnswer, IsDone, IsKeyAmiss, IsFaulty, IsTooLong, IsMisnamed, IsTold, Prints};
+ghost use Rattle.tdb_top.specs.CommandLine.{Line as Asks, show as shows_key, insert, create, check as checks_all, file_of, length_in, asked_by, IsSized, IsLine, HasNoLine};
+ghost use Rattle.tdb_top.specs.Ending.{Ending as Means, no_line, no_memory, device_fault, ending_of, status_of, met_by, output_by, OpensFile, LineCause, Cause, IsAnswer, IsDone, IsKeyAmiss, IsFaulty, IsTooLong, IsMisnamed, IsTold, TellsValue, TellsCount, Prints};
 ghost use Rattle.tdb_top.specs.Left.{LineLeaves, MayChange, WordsLeave, Keeps, KeepsAll, RunLeaves, RunMakes};
 
 use crate::add::add_key;
@@ -29,6 +29,7 @@ fn answer_line<F: Files>(alloc: Global, line: &Line, files: &mut F) -> Ending
     ensures cause { IsTrue F.D.tells → LineCause (asked_by line.now) (F.held files.old (file_of (asked_by line.now))) (F.faults files.old) (F.faults files.new) (ending_of result) }
     ensures no_line { ending_of result ≡ no_line → ⊥ }
     ensures device { ending_of result ≡ device_fault → Rose (F.faults files.old) (F.faults files.new) }
+    ensures sound { (ending_of result ≡ device_fault → ⊥) → F.faults files.new ≡ F.faults files.old }
     ensures given_back { (name : List ℕ) → F.is_taken files.new name ≡ false }
     ensures left { IsTrue F.D.tells → LineLeaves (asked_by line.now) (F.held files.old) (ending_of result) (F.held files.new) }
     ensures faults { F.faults files.old ≤ F.faults files.new }
@@ -57,6 +58,7 @@ fn answer<F: Files>(alloc: Global, words: &[String], files: &mut F) -> Ending
     ensures no_line { ending_of result ≡ no_line → HasNoLine (map string_bytes words.now) }
     ensures no_line_exact { HasNoLine (map string_bytes words.now) → (ending_of result ≡ no_line) ⊎ (ending_of result ≡ no_memory) }
     ensures device { ending_of result ≡ device_fault → Rose (F.faults files.old) (F.faults files.new) }
+    ensures sound { (ending_of result ≡ device_fault → ⊥) → F.faults files.new ≡ F.faults files.old }
     ensures given_back { (name : List ℕ) → F.is_taken files.new name ≡ false }
     ensures left { IsTrue F.D.tells → WordsLeave (map string_bytes words.now) (F.held files.old) (ending_of result) (F.held files.new) }
     ensures kept { IsTrue F.D.tells → Keeps (ending_of result) → SameAll (F.held files.old) (F.held files.new) }
@@ -109,6 +111,14 @@ pub fn run<F: Files, S: Source, K: Sink>(
     ensures done { result.0 ≡ 0 → IsTrue F.D.tells → (e : Means) × IsDone e
         × IsTold (met_by words.now (F.held files.old) (F.faults files.old) (F.faults files.new)) (output_by K.tells (K.written output.old) (K.written output.new) (K.faults output.old) (K.faults output.new)) e }
 
+    // A show tells the value that the map of the file has for the key, and a check how many keys it has.
+    ensures shows { result.0 ≡ 0 → IsTrue F.D.tells → (file key : List ℕ) (h : History) → IsLine (map string_bytes words.now) (shows_key file key)
+        → F.held files.old file ≡ Some h
+        → TellsValue (output_by K.tells (K.written output.old) (K.written output.new) (K.faults output.old) (K.faults output.new)) (seen h) key }
+    ensures checks { result.0 ≡ 0 → IsTrue F.D.tells → (file : List ℕ) (h : History) → IsLine (map string_bytes words.now) (checks_all file)
+        → F.held files.old file ≡ Some h
+        → TellsCount (output_by K.tells (K.written output.old) (K.written output.new) (K.faults output.old) (K.faults output.new)) (seen h) }
+
     // 1: the file doesn't have the key, or has the one that was to be added.
     ensures key_amiss { result.0 ≡ 1 → IsTrue F.D.tells → (e : Means) × IsKeyAmiss e
         × IsTold (met_by words.now (F.held files.old) (F.faults files.old) (F.faults files.new)) (output_by K.tells (K.written output.old) (K.written output.new) (K.faults output.old) (K.faults output.new)) e }
@@ -125,8 +135,9 @@ pub fn run<F: Files, S: Source, K: Sink>(
     ensures refused_exact { IsTrue F.D.tells → (img : List ℕ) → OpensFile (met_by words.now (F.held files.old) (F.faults files.old) (F.faults files.new)) img
         → (Accept img → ⊥) → length img ≤ LONGEST_FILE → Contains (3 ∷ 4 ∷ 5 ∷ 8 ∷ []) result.0 }
 
-    // 4: a call of the files failed, or one of a disk that was given back.
+    // 4: a call of the files failed, or one of a disk that was given back. No other status but a fault of the output hides that.
     ensures device_fault { result.0 ≡ 4 → Rose (F.faults files.old) (F.faults files.new) }
+    ensures device_fault_told { result.0 ≢ 4 → result.0 ≢ 8 → F.faults files.new ≡ F.faults files.old }
 
     // 6: the record of the key that was to be added doesn't fit, or the file is too long.
     ensures too_long { result.0 ≡ 6 → IsTrue F.D.tells → (e : Means) × IsTooLong e
@@ -143,14 +154,15 @@ pub fn run<F: Files, S: Source, K: Sink>(
     // Every disk that was taken is given back.
     ensures given_back { (name : List ℕ) → F.is_taken files.new name ≡ false }
 
-    // Each file holds what it held, unless its key was to be added or it was to be made, and the status is 0, 4, 5 or 8. The file
-    // of an insert or of a create is then as its status says: the key more or a new file, or as a failed call left it.
+    // Each file holds what it held, unless its key was to be added or it was to be made, and the status is 0, 4 or 8. The file of an
+    // insert or of a create is then as its status says: the key more or a new file, or as a call left it that failed and was
+    // counted.
     ensures kept { IsTrue F.D.tells → KeepsAll result.0 → SameAll (F.held files.old) (F.held files.new) }
     ensures others { IsTrue F.D.tells → (name : List ℕ) → ((line : Asks) → IsLine (map string_bytes words.now) line → MayChange line name → ⊥) → F.held files.new name ≡ F.held files.old name }
     ensures inserted { IsTrue F.D.tells → (file key value : List ℕ) (h : History) → IsLine (map string_bytes words.now) (insert file key value)
-        → F.held files.old file ≡ Some h → RunLeaves key value h result.0 (F.held files.new file) }
+        → F.held files.old file ≡ Some h → RunLeaves key value h (F.faults files.old) (F.faults files.new) result.0 (F.held files.new file) }
     ensures created { IsTrue F.D.tells → (file : List ℕ) (size : ℕ) (hash : HashKind) (order : Order) → IsLine (map string_bytes words.now) (create file size hash order)
-        → RunMakes size hash order (F.held files.old file) result.0 (F.held files.new file) }
+        → RunMakes size hash order (F.held files.old file) (F.faults files.old) (F.faults files.new) result.0 (F.held files.new file) }
     ensures input_untouched { input.new ≡ input.old }
 {
     let ending = answer(alloc, words, files);

@@ -25,7 +25,8 @@ returns-in-Ok-clause-left g c told =
 
 pub returns-in-Ok-clause-kept : goal.returns-in-Ok-clause-kept
 returns-in-Ok-clause-kept g c told keeps =
-    line_kept (asked_by c.in-Ok.line) (g.F.Files.held c.args.files.now) (g.F.Files.held c.answer_line.new.files) (ending_of c.answer_line.result) (c.answer_line.ensures.left told) keeps
+    line_kept (asked_by c.in-Ok.line) (g.F.Files.held c.args.files.now) (g.F.Files.held c.answer_line.new.files) (g.F.Files.faults c.args.files.now) (g.F.Files.faults c.answer_line.new.files) (ending_of c.answer_line.result)
+    c.answer_line.ensures.device (c.answer_line.ensures.left told) keeps
 
 -- words that ask for nothing, and want of memory for them
 pub returns-in-Err-NoLine-clause-cause : goal.returns-in-Err-NoLine-clause-cause

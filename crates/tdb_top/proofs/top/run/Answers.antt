@@ -2,7 +2,8 @@ use Rattle.std.proofs.Common.{◌≡◌, true, subst, arith}
 use Rattle.tdb_top.specs.CommandLine.{insert, create}
 use Rattle.tdb_top.specs.Ending.{Cause, of_memory, Met, Output, met_by, output_by, ending_of}
 use Rattle.tdb_top.specs.Left.{NameLeft}
-use Rattle.tdb_top.proofs.Statuses.{statuses_known, no_line_status, expected, faulty_refused, told_at, refused_only, printed_caused}
+use Rattle.tdb_top.proofs.Statuses.{statuses_known, no_line_status, expected, faulty_refused, told_at, refused_only, printed_caused, sound_status}
+use Rattle.tdb_top.proofs.Tells.{value_told, count_told}
 use Rattle.tdb_top.proofs.Leavings.{ending_keeps, run_leaves, run_makes}
 use Rattle.tdb_top.proofs.top.run.Goals as goal
 use Rattle.tdb_top.proofs.top.run.Goals.{After-print}
@@ -85,10 +86,27 @@ returns-clause-inserted g c told file key value h line there =
     let t = ending_of c.answer-ending.result in
     let now = g.F.Files.held c.answer-ending.new.files file in
     let left = ((c.answer-ending.ensures.left told).lines (insert file key value) line).1 in
-    run_leaves key value h now (out g a) c.print.ensures.0 t c.print.result.0 (subst (λ o. NameLeft key value o t now) there left) c.print.ensures.1 c.print.ensures.2
+    run_leaves key value h (g.F.Files.faults c.args.files.now) (g.F.Files.faults c.answer-ending.new.files) now (out g a) c.print.ensures.0 t c.print.result.0 c.answer-ending.ensures.device (subst (λ o. NameLeft key value o t now) there left) c.print.ensures.1 c.print.ensures.2
 
 pub returns-clause-created : goal.returns-clause-created
 returns-clause-created g c told file size hash order line =
     let a = (goal.at.returns-clause-created g c).After-print in
     let left = ((c.answer-ending.ensures.left told).lines (create file size hash order) line).1 in
-    run_makes size hash order (g.F.Files.held c.args.files.now file) (g.F.Files.held c.answer-ending.new.files file) (out g a) c.print.ensures.0 (ending_of c.answer-ending.result) c.print.result.0 left c.print.ensures.1 c.print.ensures.2
+    run_makes size hash order (g.F.Files.held c.args.files.now file) (g.F.Files.held c.answer-ending.new.files file) (g.F.Files.faults c.args.files.now) (g.F.Files.faults c.answer-ending.new.files) (out g a) c.print.ensures.0 (ending_of c.answer-ending.result) c.print.result.0 c.answer-ending.ensures.device left c.print.ensures.1 c.print.ensures.2
+
+-- a fault of a device isn't hidden
+pub returns-clause-device_fault_told : goal.returns-clause-device_fault_told
+returns-clause-device_fault_told g c four eight =
+    let a = (goal.at.returns-clause-device_fault_told g c).After-print in
+    c.answer-ending.ensures.sound (sound_status (out g a) c.print.ensures.0 (ending_of c.answer-ending.result) c.print.result.0 c.print.ensures.1 c.print.ensures.2 four eight)
+
+-- what a show and a check tell
+pub returns-clause-shows : goal.returns-clause-shows
+returns-clause-shows g c is told file key h line there =
+    let a = (goal.at.returns-clause-shows g c).After-print in
+    value_told (met g a) (out g a) c.print.ensures.0 c.print.result.0 (caused g a told) is c.print.ensures.2 file key h line there
+
+pub returns-clause-checks : goal.returns-clause-checks
+returns-clause-checks g c is told file h line there =
+    let a = (goal.at.returns-clause-checks g c).After-print in
+    count_told (met g a) (out g a) c.print.ensures.0 c.print.result.0 (caused g a told) is c.print.ensures.2 file h line there
