@@ -1,19 +1,19 @@
 -- A fault of the kind Header is one of the image's own header, or of the header that an undo gives.
-use Rattle.std.proofs.Common.{◌≡◌, ℕ, ◌+◌, ◌⊎◌, Bool, true, false, not, List, [], ◌∷◌, Option, Some, None, length, refl, sym, ◌∙◌, ap, subst, inl, inr}
-use Rattle.std.specs.Prelude.{◌==◌, if◌then◌else◌, is_some, nat_eq, nat_lt}
+use Rattle.std.proofs.Common.{◌≡◌, ℕ, Bool, true, false, not, List, [], ◌∷◌, Option, Some, None, length, refl, sym, ap, subst, inl, inr}
+use Rattle.std.specs.Prelude.{◌==◌, if◌then◌else◌, nat_eq, nat_lt}
 use Rattle.std.specs.List.{list_any}
-use Rattle.std.proofs.lemmas.Bool.{cases_Bool, cases_eq, eq-eqb, ne_eqb}
+use Rattle.std.proofs.lemmas.Bool.{cases_Bool}
 use Rattle.std.proofs.lemmas.Option.{same_Some}
 use Rattle.tdb_words.specs.declared.record.TheConstants.{GATE_OPEN, GATE_SHUT}
 use Rattle.tdb_words.specs.declared.header.HeaderFault.{HeaderFault}
-use Rattle.tdb_words.specs.declared.what.What.TheVariants.{Header, Short, AreaBad, UndoBad, ChainOut, FreeOut, ChainLoop, FreeLoop}
+use Rattle.tdb_words.specs.declared.what.What.TheVariants.{Header, Short, AreaBad, UndoBad}
 use Rattle.tdb_words.specs.Word.{word}
 use Rattle.tdb_words.specs.Header.{header_fault}
 use Rattle.tdb_space.specs.Form.{Form, form_of}
-use Rattle.tdb_space.specs.FirstFault.{Fault, ListKind, chain_number, free_list, out_of, loop_of, is_short, is_out, is_long, is_bad, has_wrong_tailer, is_misfiled, has_twin, record_fault, front_fault, area_fault, area_fault_at, FirstInList, IsFirstFault, at_front, at_area, in_chain, in_free_list, at_overlap, at_stray}
+use Rattle.tdb_space.specs.FirstFault.{Fault, ListKind, chain_number, free_list, out_of, loop_of, is_short, is_out, is_long, is_bad, has_wrong_tailer, is_misfiled, has_twin, record_fault, front_fault, area_fault, area_fault_at, IsFirstFault, at_front, at_area, in_chain, in_free_list, at_overlap, at_stray}
 use Rattle.tdb_space.specs.Record.{rec_len_of, data_len_of, magic_of}
-use Rattle.tdb_space.specs.Opening.{Entry, is_bad_cut, is_bad_entry, entry_fault, undo_fault, entries, Undoable, restored}
-use Rattle.tdb_space.specs.OpeningFault.{opening_fault, opening_fault_at, IsOpeningFault, in_front, in_undo_area, in_restored, IsHeaderFault, own, after_undo}
+use Rattle.tdb_space.specs.Opening.{Entry, is_bad_cut, is_bad_entry, entry_fault, undo_fault, entries, restored}
+use Rattle.tdb_space.specs.OpeningFault.{opening_fault, IsOpeningFault, in_front, in_undo_area, in_restored, IsHeaderFault, own, after_undo}
 use Rattle.tdb_space.proofs.Agreed.{front_ok}
 use Rattle.tdb_space.proofs.Undone.{read_as_it_is}
 use Rattle.tdb_space.proofs.OpeningFaults.{opening_from}

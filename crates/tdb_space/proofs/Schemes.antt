@@ -1,15 +1,14 @@
 -- What a commit writes once its gate is open is undone.
-use Rattle.std.proofs.Common.{◌≡◌, ℕ, ◌+◌, ◌<◌, ◌≤◌, ◌⊎◌, List, length, Option, Some, None, refl, sym, ◌∙◌, ap, subst, inl, inr, arith}
-use Rattle.std.specs.Prelude.{slice_index, ◌%◌}
+use Rattle.std.proofs.Common.{◌≡◌, ℕ, ◌+◌, List, length, Option, refl, sym, ◌∙◌, ap, subst, inl, inr, arith}
+use Rattle.std.specs.Prelude.{◌%◌}
 use Rattle.std.proofs.lemmas.Bool.{cases_lt}
 use Rattle.tdb_disk.specs.Stop.{Torn}
-use Rattle.tdb_words.specs.Word.{word}
 use Rattle.tdb_space.specs.Form.{Form, form_of}
 use Rattle.tdb_space.specs.Record.{rec_len_of, key_len_of}
 use Rattle.tdb_space.specs.Extents.{times}
 use Rattle.tdb_space.specs.Accepted.{Accept}
-use Rattle.tdb_space.specs.Opening.{entries, Undoable, last_covering, OpensTo, Mild}
-use Rattle.tdb_space.specs.Undoing.{area_at, area_end, old_size, UndoneAlike, Reopens}
+use Rattle.tdb_space.specs.Opening.{Undoable, OpensTo, Mild}
+use Rattle.tdb_space.specs.Undoing.{area_end, old_size, UndoneAlike, Reopens}
 use Rattle.tdb_space.specs.Gate.{gate_opened, IsReadyToOpen}
 use Rattle.tdb_space.specs.Scheme.{Scheme, Within, MayWrite, IsPlanFor, StaysWithin}
 use Rattle.tdb_space.proofs.Undone.{old_length}
