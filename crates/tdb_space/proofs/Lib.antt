@@ -56,3 +56,4 @@ pub mod OpeningFaults
 pub mod HeaderFaults
 pub mod Schemes
 pub mod RecordBytes
+pub mod Stretches

@@ -21,3 +21,4 @@ pub mod RecoverySteps
 pub mod Gate
 pub mod OpeningFault
 pub mod Scheme
+pub mod Runs
