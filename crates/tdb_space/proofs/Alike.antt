@@ -271,7 +271,7 @@ module _ (a c : List ℕ) (h : Opens a) (u : Undoable (form_of a) a) (s : Undone
     accepted = subst Accept (sym read_as) h.accepted;
   }
 
-  alike_mild : Mild a → Mild c
+  pub alike_mild : Mild a → Mild c
   alike_mild m = record {
     undoable = undoable;
     header = λ i where_at. ap (λ r. slice_index r i) read_as ∙ m.header i where_at ∙ sym (same_header i where_at);

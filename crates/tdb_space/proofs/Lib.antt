@@ -57,3 +57,6 @@ pub mod HeaderFaults
 pub mod Schemes
 pub mod RecordBytes
 pub mod Stretches
+pub mod Content
+pub mod Ready
+pub mod Settled

@@ -9,14 +9,17 @@ use Rattle.tdb_words.specs.declared.record.TheConstants.{USED, PADDING}
 use Rattle.tdb_words.specs.Hash.{h_of}
 use Rattle.tdb_words.specs.Word.{word}
 use Rattle.tdb_words.proofs.Words.{word_agrees}
-use Rattle.tdb_space.specs.Form.{Form, chain_head, free_head, data_start, SameHeader}
+use Rattle.tdb_space.specs.Form.{Form, form_of, chain_head, free_head, data_start, SameHeader}
 use Rattle.tdb_space.specs.Record.{IsChained, IsFree, Whole, Fits, key_at, data_at, rec_len_of, key_len_of, data_len_of, magic_of}
 use Rattle.tdb_space.specs.Chain.{Linked, chain_of, free_of}
 use Rattle.tdb_space.specs.Pairs.{joined, pair_of, pairs, order_of, map_of, same_key}
 use Rattle.tdb_space.specs.Extents.{times, extents, extent_at, area, all_extents}
-use Rattle.tdb_space.specs.Accepted.{Filed, AllFiled, LaidOut, AcceptWith}
+use Rattle.tdb_space.specs.Accepted.{Filed, AllFiled, LaidOut, AcceptWith, Accept}
 use Rattle.tdb_space.specs.Exchange.{Agree}
 use Rattle.tdb_space.specs.Moved.{AreaMoved, StaysAccepted}
+use Rattle.tdb_space.specs.Undoing.{Reopens}
+use Rattle.tdb_space.proofs.Undone.{read_as_it_is, accepted_opens}
+use Rattle.tdb_words.specs.Header.{sequence_of}
 use Rattle.tdb_space.proofs.Counts.{once_in, where_is, times_all, joined_same}
 use Rattle.tdb_space.proofs.Counts.Lies.{lies, below, above}
 use Rattle.tdb_space.proofs.Kept.{Body, Bodies, Still, ChainKept, words_kept, word_kept, part_kept, extents_kept, bodies_still, nexts_still, Nexts}
@@ -244,3 +247,16 @@ module _ (f : Form) (a b : List ℕ) (A : AcceptWith f a []) (M : AreaMoved f a 
     same_order = moved_order;
     same_map = moved_map;
   }
+
+-- so it reopens, where it has the same sequence number
+pub stays_reopens : (r c : List ℕ) → StaysAccepted (form_of r) r c → Agree r c 48 52 → Reopens r c
+stays_reopens r c stays number =
+    let form : form_of c ≡ form_of r = stays.accepted.form in
+    let ok : Accept c = subst (λ g. AcceptWith g c []) (sym form) stays.accepted in
+    let opens = accepted_opens c ok in
+    let same : sequence_of c ≡ sequence_of r = ap (λ g. word g.order c 48) form ∙ word_agrees (form_of r).order c r 48 number in
+    record {
+      opens = record { opens = opens.opens; holds = λ key. opens.holds key ∙ ap (λ g. map_of g c key) form ∙ stays.same_map key };
+      again = inl ok.shut;
+      sequence = ap sequence_of (read_as_it_is (form_of c) c ok.shut) ∙ same;
+    }

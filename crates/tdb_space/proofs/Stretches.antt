@@ -1,9 +1,10 @@
 -- The runs of the bytes that change are one list, and where they lie.
 use Rattle.std.proofs.Common.{◌≡◌, ℕ, ◌+◌, ◌<◌, ◌≤◌, ◌⊎◌, List, [], ◌∷◌, refl, sym, ◌∙◌, ap, inl, inr, arith}
 use Rattle.std.specs.Prelude.{slice_index}
-use Rattle.std.proofs.lemmas.Bool.{cases_lt, cases_eq}
+use Rattle.std.proofs.lemmas.Bool.{cases_lt}
+use Rattle.tdb_space.specs.Form.{SameHeader}
 use Rattle.tdb_space.specs.Extents.{Extent, once, times}
-use Rattle.tdb_space.specs.Runs.{Changed, Near, InOrder, IsRuns, ChangedRuns, HeaderStays, RunsLie}
+use Rattle.tdb_space.specs.Runs.{Changed, Near, InOrder, IsRuns, ChangedRuns, RunsLie}
 use Rattle.tdb_space.proofs.Counts.{once_in, once_lies, where_is}
 use Rattle.tdb_space.proofs.Counts.Lies.{lies, below, above}
 
@@ -62,7 +63,7 @@ pub runs_one : (a b : List ℕ) (old : ℕ) (skip : Extent) (es fs : List Extent
 runs_one a b old skip es fs r s = one_list 0 0 es fs r.in_order s.in_order (λ i held. s.all i (r.near i held)) (λ i held. r.all i (s.near i held))
 
 -- a byte that changes is near
-near_itself : (C : ℕ → Type 0) (i : ℕ) → C i → Near C i
+pub near_itself : (C : ℕ → Type 0) (i : ℕ) → C i → Near C i
 near_itself C i c = record { first = i; last = i; from = omega arith; to = omega arith; close = omega arith; changed_first = c; changed_last = c }
 
 none_held : (C : ℕ → Type 0) (es : List Extent) → IsRuns C es → ((i : ℕ) → C i → ⊥) → es ≡ []
@@ -96,7 +97,7 @@ runs_of_other a b c old skip other es area same r = record {
     back : (j : ℕ) → Changed c b old other j → Changed a b old skip j
     back j h = (let out : once skip j ≡ 0 = sym (area j h.low) ∙ h.outside in record { low = h.low; beside = h.beside; outside = out; differs = λ e. h.differs (e ∙ sym (same j h.low h.beside out)) })
 
-module _ (a b : List ℕ) (old : ℕ) (skip : Extent) (es : List Extent) (stays : HeaderStays a b) (room : 10 ≤ skip.1) (r : ChangedRuns a b old skip es) where
+module _ (a b : List ℕ) (old : ℕ) (skip : Extent) (es : List Extent) (stays : SameHeader a b) (room : 10 ≤ skip.1) (r : ChangedRuns a b old skip es) where
   -- where a byte that changes can stand
   changed_past : (i : ℕ) → Changed a b old skip i → (48 ≤ i) × ((i < 52) ⊎ (64 ≤ i))
   changed_past i c = (

@@ -1,13 +1,11 @@
 -- An accepted image that has no undo area, with a shut one or zeros behind it, is accepted and holds the same pairs.
-use Rattle.std.proofs.Common.{◌≡◌, ℕ, ◌+◌, ◌<◌, ◌≤◌, List, [], ◌∷◌, length, refl, sym, ◌∙◌, ap, subst, inl, inr, arith}
+use Rattle.std.proofs.Common.{◌≡◌, ℕ, ◌+◌, ◌<◌, ◌≤◌, List, [], ◌∷◌, length, refl, inl, inr, arith}
 use Rattle.std.proofs.lemmas.Bool.{cases_lt, cases_eq, eq-eqb, ne_eqb}
 use Rattle.tdb_words.specs.Word.{word}
-use Rattle.tdb_words.specs.Header.{sequence_of}
-use Rattle.tdb_words.proofs.Words.{word_agrees}
 use Rattle.tdb_space.specs.Form.{Form, form_of, data_start, chain_head}
 use Rattle.tdb_space.specs.Record.{IsChained}
 use Rattle.tdb_space.specs.Chain.{chain_of, free_of}
-use Rattle.tdb_space.specs.Pairs.{map_of, joined}
+use Rattle.tdb_space.specs.Pairs.{joined}
 use Rattle.tdb_space.specs.Extents.{times, extents, extent_at, area}
 use Rattle.tdb_space.specs.Accepted.{AcceptWith, Accept}
 use Rattle.tdb_space.specs.Moved.{AreaMoved, StaysAccepted}
@@ -15,8 +13,7 @@ use Rattle.tdb_space.specs.Undoing.{TailOf, Reopens}
 use Rattle.tdb_space.proofs.Counts.{once_lies, times_all}
 use Rattle.tdb_space.proofs.Kept.{times_within}
 use Rattle.tdb_space.proofs.Remains.{listed_within}
-use Rattle.tdb_space.proofs.Moved.{moved_stays}
-use Rattle.tdb_space.proofs.Undone.{read_as_it_is, accepted_opens}
+use Rattle.tdb_space.proofs.Moved.{moved_stays, stays_reopens}
 
 -- a byte that the chains or the free list of an accepted image hold stands behind the heads and within the image
 pub lists_within : (f : Form) (a : List ℕ) → AcceptWith f a [] → (i : ℕ) → 1 ≤ times (joined f.chains (λ k. extents f.order a (chain_of f a k))) i + times (extents f.order a (free_of f a)) i → (data_start f ≤ i) × (i < length a)
@@ -72,15 +69,4 @@ module _ (f : Form) (r c : List ℕ) (A : AcceptWith f r []) (none : word f.orde
   tail_stays = moved_stays f r c A tail_moved
 
 pub tail_reopens : (r c : List ℕ) → Accept r → word (form_of r).order r 44 ≡ 0 → TailOf (form_of r) r c → Reopens r c
-tail_reopens r c A none t =
-    let stays = tail_stays (form_of r) r c A none t in
-    let form : form_of c ≡ form_of r = stays.accepted.form in
-    let accepted : Accept c = subst (λ g. AcceptWith g c []) (sym form) stays.accepted in
-    let opens = accepted_opens c accepted in
-    let number : sequence_of c ≡ sequence_of r =
-    ap (λ g. word g.order c 48) form ∙ word_agrees (form_of r).order c r 48 (λ i from to. t.front i (omega (arith, to, A.long)) (inr (omega (arith, from)))) in
-    record {
-      opens = record { opens = opens.opens; holds = λ key. opens.holds key ∙ ap (λ g. map_of g c key) form ∙ stays.same_map key };
-      again = inl accepted.shut;
-      sequence = ap sequence_of (read_as_it_is (form_of c) c accepted.shut) ∙ number;
-    }
+tail_reopens r c A none t = stays_reopens r c (tail_stays (form_of r) r c A none t) (λ i from to. t.front i (omega (arith, to, A.long)) (inr from))

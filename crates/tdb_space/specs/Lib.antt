@@ -22,3 +22,4 @@ pub mod Gate
 pub mod OpeningFault
 pub mod Scheme
 pub mod Runs
+pub mod Planned

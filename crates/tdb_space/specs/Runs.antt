@@ -1,5 +1,6 @@
 -- The bytes that a commit changes, and the runs in which it writes them.
-use Rattle.std.specs.Prelude.{◌≡◌, ℕ, ◌+◌, ◌<◌, ◌≤◌, ◌⊎◌, List, [], ◌∷◌, length, slice_index}
+use Rattle.std.specs.Prelude.{◌≡◌, ℕ, ◌+◌, ◌<◌, ◌≤◌, ◌⊎◌, List, [], ◌∷◌, slice_index}
+use Rattle.tdb_space.specs.Form.{SameHeader}
 use Rattle.tdb_space.specs.Extents.{Extent, once, times}
 
 -- From image a, the file, to image b, that of the transaction, the byte at a place below the old length changes, outside the undo area
@@ -35,10 +36,6 @@ pub record IsRuns (C : ℕ → Type 0) (es : List Extent) : Type 0 where
 abbrev pub ChangedRuns : List ℕ → List ℕ → ℕ → Extent → List Extent → Type 0
 ChangedRuns a b old skip es = IsRuns (Changed a b old skip) es
 
--- from image a to image b the header stays as it is known
-abbrev pub HeaderStays : List ℕ → List ℕ → Type 0
-HeaderStays a b = (i : ℕ) → (i < 44) ⊎ ((52 ≤ i) × (i < 64)) → slice_index b i ≡ slice_index a i
-
 -- there is one list of runs
 abbrev pub RunsAreOne : Type 0
 RunsAreOne = (a b : List ℕ) (old : ℕ) (skip : Extent) (es fs : List Extent) → ChangedRuns a b old skip es → ChangedRuns a b old skip fs → es ≡ fs
@@ -62,4 +59,4 @@ pub record RunsLie (old : ℕ) (skip : Extent) (es : List Extent) : Type 0 where
 
 -- so it is where the header stays and the undo area has 10 bytes at least: a run spans no 9 bytes that don't change
 abbrev pub RunsLieSo : Type 0
-RunsLieSo = (a b : List ℕ) (old : ℕ) (skip : Extent) (es : List Extent) → HeaderStays a b → 10 ≤ skip.1 → ChangedRuns a b old skip es → RunsLie old skip es
+RunsLieSo = (a b : List ℕ) (old : ℕ) (skip : Extent) (es : List Extent) → SameHeader a b → 10 ≤ skip.1 → ChangedRuns a b old skip es → RunsLie old skip es

@@ -7,6 +7,7 @@ use Rattle.tdb_space.specs.Record.{rec_len_of, key_len_of}
 use Rattle.tdb_space.specs.Extents.{times, area}
 use Rattle.tdb_space.specs.Accepted.{AreaOk, Shut, Accept}
 use Rattle.tdb_space.specs.Exchange.{Agree}
+use Rattle.tdb_space.specs.Moved.{StaysAccepted}
 use Rattle.tdb_space.specs.Opening.{entries, Undoable, last_covering, given_back, restored, Opens, own_map, OpensTo, Mild}
 
 -- where the undo area of an image stands
@@ -94,3 +95,7 @@ TailReopens = (r c : List ℕ) → Accept r → word (form_of r).order r 44 ≡ 
 -- and so does an accepted image as it is
 abbrev pub ExactReopens : Type 0
 ExactReopens = (r : List ℕ) → Accept r → Reopens r r
+
+-- so does an image that stays accepted with the same map and the same sequence number
+abbrev pub StaysReopens : Type 0
+StaysReopens = (r c : List ℕ) → StaysAccepted (form_of r) r c → Agree r c 48 52 → Reopens r c
