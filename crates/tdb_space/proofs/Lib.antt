@@ -60,3 +60,4 @@ pub mod Stretches
 pub mod Content
 pub mod Ready
 pub mod Settled
+pub mod AreaSets

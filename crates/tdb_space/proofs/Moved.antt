@@ -239,6 +239,14 @@ module _ (f : Form) (a b : List ℕ) (A : AcceptWith f a []) (M : AreaMoved f a 
   pub moved_map : (key : List ℕ) → map_of f b key ≡ map_of f a key
   moved_map key = ap (lookup (same_key key)) moved_order
 
+  -- how often its own lists and its undo area hold a byte
+  pub moved_held : (i : ℕ) → times (all_extents f b (chain_of f b) (free_of f b) []) i ≡ times (joined f.chains (λ k. extents f.order a (chain_of f a k))) i + times (extents f.order a (free_of f a)) i + times (area f.order b) i
+  moved_held i =
+      let joins : joined f.chains (λ k. extents f.order b (chain_of f b k)) ≡ joined f.chains (λ k. extents f.order b (chain_of f a k)) = joined_same f.chains (λ k. extents f.order b (chain_of f b k)) (λ k. extents f.order b (chain_of f a k)) (λ k low. ap (extents f.order b) (chains_met f b (chain_of f a) (free_of f a) [] moved_laid k low)) in
+      let chains : times (joined f.chains (λ k. extents f.order b (chain_of f b k))) i ≡ times (joined f.chains (λ k. extents f.order b (chain_of f a k))) i = ap (λ es. times es i) joins in
+      let free : times (extents f.order b (free_of f b)) i ≡ times (extents f.order b (free_of f a)) i = ap (λ xs. times (extents f.order b xs) i) (free_met f b (chain_of f a) (free_of f a) [] moved_laid) in
+      omega (arith, chains, free, count_b i, times_all f b (chain_of f a) (free_of f a) [] i, times_all f b (chain_of f b) (free_of f b) [] i)
+
   pub moved_stays : StaysAccepted f a b
   moved_stays = record {
     accepted = moved_accepted;

@@ -23,3 +23,4 @@ pub mod OpeningFault
 pub mod Scheme
 pub mod Runs
 pub mod Planned
+pub mod NewArea
