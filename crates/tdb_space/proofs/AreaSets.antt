@@ -2,7 +2,7 @@
 use Rattle.std.proofs.Common.{◌≡◌, ℕ, ◌+◌, ◌<◌, ◌≤◌, ◌⊎◌, List, [], ◌∷◌, ◌++◌, length, replicate, refl, sym, ◌∙◌, ap, subst, inl, inr, arith}
 use Rattle.std.specs.Prelude.{slice_index, ◌%◌}
 use Rattle.std.proofs.lemmas.Bool.{cases_lt, cases_eq}
-use Rattle.std.proofs.lemmas.List.{length-replicate, get_or-replicate}
+use Rattle.std.proofs.lemmas.List.{length-replicate, get_or-replicate, get_or_past}
 use Rattle.tdb_disk.specs.Image.{overlay}
 use Rattle.tdb_disk.proofs.Image.{length-overlay, overlay_below, overlay_above, overlay_in}
 use Rattle.tdb_words.specs.declared.record.TheConstants.{GATE_SHUT}
@@ -17,7 +17,8 @@ use Rattle.tdb_space.specs.Accepted.{AreaInPlace, AreaOk, Shut, AcceptWith}
 use Rattle.tdb_space.specs.Exchange.{InHands}
 use Rattle.tdb_space.specs.Moved.{AreaMoved, StaysAccepted}
 use Rattle.tdb_space.specs.Undoing.{area_at, area_end}
-use Rattle.tdb_space.specs.NewArea.{Longer, AreaSet, AreaDropped, GivenUp, HoldsHand}
+use Rattle.tdb_space.specs.NewArea.{Longer, AreaSet, AreaDropped, GivenUp, HoldsHand, BareArea, HeaderOnly}
+use Rattle.tdb_disk.specs.Stop.{Grown}
 use Rattle.tdb_space.proofs.Counts.{once_in, once_out, once_lies, where_is, times_all}
 use Rattle.tdb_space.proofs.Counts.Lies.{lies, below, above}
 use Rattle.tdb_space.proofs.Areas.{area_still, area_within}
@@ -91,6 +92,51 @@ module _ (f : Form) (a b : List ℕ) (x n : ℕ) (A : AcceptWith f a []) (s : Ar
 
   pub area_set_stays : StaysAccepted f a b
   area_set_stays = moved_stays f a b A set_moved
+
+-- what a stop of a growth leaves
+pub grown_longer : (a c : List ℕ) (to : ℕ) → length a % 4 ≡ 0 → to % 4 ≡ 0 → Grown (length a) to a c → Longer a c
+grown_longer a c to words even g = record {
+  longer = g.no_shorter;
+  sized = g.aligned words even;
+  front = g.below;
+  zeros = λ i from _.
+      elim (cases_lt i to) [
+        | inr past ↦ g.above i past ∙ get_or_past a i 0 from
+        | inl low ↦ elim (g.between i from low) [ inl same ↦ same ∙ get_or_past a i 0 from | inr none ↦ none ]
+      ];
+}
+
+-- where the content is 0, another header with a shut gate is the same area, or one of no length
+module _ (f : Form) (a b : List ℕ) (A : AcceptWith f a []) (bare : BareArea f a) (h : HeaderOnly f a b) where
+  bare_place : AreaInPlace f a (area_at f a)
+  bare_place = elim A.area_ok [ inl none ↦ absurd (h.some none) | inr there ↦ there ]
+
+  bare_shut : magic_of f.order a (area_at f a) ≡ GATE_SHUT
+  bare_shut = elim A.shut [ inl none ↦ absurd (h.some none) | inr shut ↦ shut ]
+
+  fewer : (rec_len_of f.order b (area_at f a) % 4 ≡ 0) × (rec_len_of f.order b (area_at f a) ≤ rec_len_of f.order a (area_at f a))
+  fewer = elim h.len [ inl same ↦ (ap (λ m. m % 4) same ∙ bare_place.len_aligned, omega (arith, same)) | inr none ↦ (ap (λ m. m % 4) none, omega (arith, none)) ]
+
+  bare_set : AreaSet f a b (area_at f a) (rec_len_of f.order b (area_at f a))
+  bare_set = record {
+    size = h.size;
+    there = word_agrees f.order b a 44 (λ i _ to. h.others i (inl (omega (arith, to, bare_place.above))));
+    rec_len = refl;
+    shut = word_agrees f.order b a (area_at f a + 20) (λ i from _. h.others i (inr from)) ∙ bare_shut;
+    aligned = bare_place.aligned;
+    len_aligned = fewer.0;
+    above = bare_place.above;
+    within = omega (arith, fewer.1, bare_place.within);
+    beside = λ i _ out. h.others i (elim out [ inl lt ↦ inl lt | inr le ↦ inr (omega (arith, le)) ]);
+    left = λ i held out.
+        (let from : area_at f a ≤ i = elim (cases_lt i (area_at f a)) [ inr high ↦ high | inl low ↦ absurd (omega (arith, held, area_out f a i (inl low))) ] in
+        let to : i < area_end f a = elim (cases_lt i (area_end f a)) [ inl low ↦ low | inr past ↦ absurd (omega (arith, held, area_out f a i (inr past))) ] in
+        bare i (elim out [ inl lt ↦ absurd (omega (arith, lt, from)) | inr le ↦ omega (arith, le) ]) to);
+    apart = λ i from to. omega (arith, area_in f a i h.some from (omega (arith, to, fewer.1)), area_apart f a A i);
+  }
+
+  pub bare_header_stays : StaysAccepted f a b
+  bare_header_stays = area_set_stays f a b (area_at f a) (rec_len_of f.order b (area_at f a)) A bare_set
 
 -- an undo area that is dropped: whatever stands in a part of it is 0 in the new image
 module _ (f : Form) (a b : List ℕ) (A : AcceptWith f a []) (size : length b ≡ length a) (none : word f.order b 44 ≡ 0) (beside : (i : ℕ) → (i < 44) ⊎ (48 ≤ i) → times (area f.order a) i ≡ 0 → slice_index b i ≡ slice_index a i) (left : (i : ℕ) → 1 ≤ times (area f.order a) i → slice_index b i ≡ 0) where

@@ -2,6 +2,7 @@
 use Rattle.std.proofs.Common.{◌≡◌, ℕ, ◌+◌, ◌<◌, ◌≤◌, ◌⊎◌, ◌&&◌, Bool, true, false, List, [], length, refl, sym, ◌∙◌, ap, subst, inl, inr, arith}
 use Rattle.std.specs.Prelude.{slice_index, ◌%◌, nat_le}
 use Rattle.std.proofs.lemmas.Bool.{cases_lt, cases_eq, le-leb, lt-leb, lt-ltb, le-ltb}
+use Rattle.std.proofs.lemmas.Grind.{same_number_lists}
 use Rattle.std.proofs.lemmas.List.FromFn.{length-map-range_with_len, get_or-map-range_with_len}
 use Rattle.tdb_disk.proofs.Image.{length-overlay}
 use Rattle.tdb_words.specs.declared.record.TheConstants.{GATE_OPEN, GATE_SHUT}
@@ -17,7 +18,7 @@ use Rattle.tdb_space.specs.Undoing.{Reopens}
 use Rattle.tdb_space.specs.Gate.{gate_opened}
 use Rattle.tdb_space.specs.Scheme.{Scheme, with_gate, Within, IsPlanFor}
 use Rattle.tdb_space.specs.Runs.{Changed}
-use Rattle.tdb_space.specs.Planned.{IsPlanned, kept, fresh, settled_byte, settled_with, Fills}
+use Rattle.tdb_space.specs.Planned.{IsPlanned, kept, fresh, settled_byte, settled_with, PutRuns, PutRange, Fills}
 use Rattle.tdb_space.proofs.Counts.{once_out}
 use Rattle.tdb_space.proofs.Fresh.{word_zero}
 use Rattle.tdb_space.proofs.Headers.{form_kept}
@@ -51,6 +52,34 @@ never_two false = refl
 settled_else : (p : Scheme) (b img : List ℕ) (i : ℕ) → times p.runs i ≡ 0 → (i < p.old_length) ⊎ (length b ≤ i) → settled_byte p b img i ≡ slice_index img i
 settled_else p b img i none (inl low) = rw (le-ltb 0 (times p.runs i) (omega (arith, none))) (rw (lt-leb p.old_length i low) refl)
 settled_else p b img i none (inr past) = rw (le-ltb 0 (times p.runs i) (omega (arith, none))) (rw (le-ltb i (length b) past) (rw (never_two (nat_le p.old_length i)) refl))
+
+-- all is written: the runs, and then what lies from the old length on
+pub settled_is : (p : Scheme) (b a c d : List ℕ) → PutRuns b p.runs a c → PutRange b p.old_length (length b) c d → d ≡ settled_with p b a
+settled_is p b a c d runs rest =
+    same_number_lists d (settled_with p b a) (rest.size ∙ runs.size ∙ sym (settled_size p b a)) (λ i below_d.
+    (let low : i < length a = omega (arith, below_d, rest.size, runs.size) in byte i low ∙ sym (settled_read p b a i low)))
+  where
+    off : (i : ℕ) → (i < p.old_length) ⊎ (length b ≤ i) → slice_index d i ≡ settled_byte p b a i
+    off i out =
+        elim (cases_lt 0 (times p.runs i)) [
+          | inl held ↦ rest.beside i out ∙ runs.inside i (omega (arith, held)) ∙ sym (settled_run p b a i (omega (arith, held)))
+          | inr free ↦ (let none : times p.runs i ≡ 0 = omega (arith, free) in rest.beside i out ∙ runs.beside i none ∙ sym (settled_else p b a i none out))
+        ]
+
+    behind_old : (i : ℕ) → i < length a → p.old_length ≤ i → i < length b → slice_index d i ≡ settled_byte p b a i
+    behind_old i low from to =
+        rest.inside i from to (omega (arith, low, runs.size))
+        ∙ elim (cases_lt 0 (times p.runs i)) [
+          | inl held ↦ sym (settled_run p b a i (omega (arith, held)))
+          | inr free ↦ sym (settled_past p b a i (omega (arith, free)) from to)
+        ]
+
+    byte : (i : ℕ) → i < length a → slice_index d i ≡ settled_byte p b a i
+    byte i low =
+        elim (cases_lt i p.old_length) [
+          | inl under ↦ off i (inl under)
+          | inr from ↦ elim (cases_lt i (length b)) [ inl to ↦ behind_old i low from to | inr past ↦ off i (inr past) ]
+        ]
 
 module _ (p : Scheme) (a b : List ℕ) (A : Accept a) (B : Accept b) (h : IsPlanned p a b) where
   abbrev f : Form

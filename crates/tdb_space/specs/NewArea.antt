@@ -9,6 +9,8 @@ use Rattle.tdb_space.specs.Pairs.{joined, order_of, map_of}
 use Rattle.tdb_space.specs.Extents.{HandPair, times, extents, area}
 use Rattle.tdb_space.specs.Accepted.{AcceptWith}
 use Rattle.tdb_space.specs.Moved.{StaysAccepted}
+use Rattle.tdb_space.specs.Undoing.{area_at, area_end}
+use Rattle.tdb_disk.specs.Stop.{Grown}
 
 -- image c is image a with zeros behind its end, in whole words
 pub record Longer (a c : List ℕ) : Type 0 where
@@ -50,6 +52,17 @@ pub record GivenUp (f : Form) (a b : List ℕ) (at n : ℕ) : Type 0 where
   pub none : word f.order b 44 ≡ 0
   pub beside : (i : ℕ) → (i < 44) ⊎ (48 ≤ i) → (i < at) ⊎ (at + 24 + n ≤ i) → slice_index b i ≡ slice_index a i
 
+-- all bytes of the undo area behind its header are 0
+abbrev pub BareArea : Form → List ℕ → Type 0
+BareArea f a = (i : ℕ) → area_at f a + 24 ≤ i → i < area_end f a → slice_index a i ≡ 0
+
+-- From image a to image b only words of the undo area's header change, but not its gate; its length stays or is 0
+pub record HeaderOnly (f : Form) (a b : List ℕ) : Type 0 where
+  pub some : word f.order a 44 ≡ 0 → ⊥
+  pub size : length b ≡ length a
+  pub others : (i : ℕ) → (i < area_at f a) ⊎ (area_at f a + 20 ≤ i) → slice_index b i ≡ slice_index a i
+  pub len : (rec_len_of f.order b (area_at f a) ≡ rec_len_of f.order a (area_at f a)) ⊎ (rec_len_of f.order b (area_at f a) ≡ 0)
+
 -- an image is accepted with this hand out, and has the same order of pairs and the same map as another
 pub record HoldsHand (f : Form) (a b : List ℕ) (hand : HandPair) : Type 0 where
   pub accepted : AcceptWith f b (hand ∷ [])
@@ -59,6 +72,14 @@ pub record HoldsHand (f : Form) (a b : List ℕ) (hand : HandPair) : Type 0 wher
 -- an image that grows by zeros stays accepted
 abbrev pub LongerStays : Type 0
 LongerStays = (f : Form) (a c : List ℕ) → AcceptWith f a [] → Longer a c → StaysAccepted f a c
+
+-- what a stop of a growth of an accepted file leaves is the file with zeros behind it, where both lengths are whole words
+abbrev pub GrownIsLonger : Type 0
+GrownIsLonger = (a c : List ℕ) (to : ℕ) → length a % 4 ≡ 0 → to % 4 ≡ 0 → Grown (length a) to a c → Longer a c
+
+-- where the content is 0, an image whose undo area has another header stays accepted: so its words may be set to 0 in any order
+abbrev pub BareHeaderStays : Type 0
+BareHeaderStays = (f : Form) (a b : List ℕ) → AcceptWith f a [] → BareArea f a → HeaderOnly f a b → StaysAccepted f a b
 
 -- so does one whose undo area is set anew
 abbrev pub AreaSetStays : Type 0

@@ -1,5 +1,5 @@
 -- The plan of a commit over an accepted file: what the undo area holds before its gate is opened, and what the file becomes.
-use Rattle.std.specs.Prelude.{◌≡◌, ℕ, ◌+◌, ◌%◌, ◌<◌, ◌≤◌, ◌&&◌, ◌||◌, nat_lt, nat_le, if◌then◌else◌, List, [], ◌∷◌, length, map, take, drop, slice_index}
+use Rattle.std.specs.Prelude.{◌≡◌, ℕ, ◌+◌, ◌%◌, ◌<◌, ◌≤◌, ◌⊎◌, ◌&&◌, ◌||◌, nat_lt, nat_le, if◌then◌else◌, List, [], ◌∷◌, length, map, take, drop, slice_index}
 use Rattle.std.specs.List.{range_with_len}
 use Rattle.tdb_words.specs.declared.record.TheConstants.{GATE_OPEN, GATE_SHUT}
 use Rattle.tdb_words.specs.declared.word.Order.{Order}
@@ -58,6 +58,22 @@ settled_byte p b img i = if nat_lt 0 (times p.runs i) || nat_le p.old_length i &
 
 abbrev pub settled_with : Scheme → List ℕ → List ℕ → List ℕ
 settled_with p b img = map (settled_byte p b img) (range_with_len 0 (length img))
+
+-- From image a to image c just the bytes in these runs become those of image b
+pub record PutRuns (b : List ℕ) (es : List Extent) (a c : List ℕ) : Type 0 where
+  pub size : length c ≡ length a
+  pub inside : (i : ℕ) → 1 ≤ times es i → slice_index c i ≡ slice_index b i
+  pub beside : (i : ℕ) → times es i ≡ 0 → slice_index c i ≡ slice_index a i
+
+-- from image a to image c just the bytes from one place up to another become those of image b, as far as the image reaches
+pub record PutRange (b : List ℕ) (from to : ℕ) (a c : List ℕ) : Type 0 where
+  pub size : length c ≡ length a
+  pub inside : (i : ℕ) → from ≤ i → i < to → i < length a → slice_index c i ≡ slice_index b i
+  pub beside : (i : ℕ) → (i < from) ⊎ (to ≤ i) → slice_index c i ≡ slice_index a i
+
+-- the runs written, and then what lies from the old length on, is all of the plan
+abbrev pub SettledIs : Type 0
+SettledIs = (p : Scheme) (b a c d : List ℕ) → PutRuns b p.runs a c → PutRange b p.old_length (length b) c d → d ≡ settled_with p b a
 
 -- What the plan leads to. Its runs are clear of the undo area. With the gate open whatever is written reopens to the map of a, and is
 -- Mild. Written whole and shut again, the file reopens to the map of b.

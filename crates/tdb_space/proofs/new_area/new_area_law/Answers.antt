@@ -1,9 +1,15 @@
 -- The laws are the lemmas.
-use Rattle.tdb_space.proofs.AreaSets.{longer_stays, area_set_stays, area_dropped_stays, area_is_hand}
+use Rattle.tdb_space.proofs.AreaSets.{longer_stays, grown_longer, bare_header_stays, area_set_stays, area_dropped_stays, area_is_hand}
 use Rattle.tdb_space.proofs.new_area.new_area_law.Goals as goal
 
 pub returns-clause-longer : goal.returns-clause-longer
 returns-clause-longer c = longer_stays
+
+pub returns-clause-grown : goal.returns-clause-grown
+returns-clause-grown c = grown_longer
+
+pub returns-clause-bare : goal.returns-clause-bare
+returns-clause-bare c = bare_header_stays
 
 pub returns-clause-set : goal.returns-clause-set
 returns-clause-set c = area_set_stays

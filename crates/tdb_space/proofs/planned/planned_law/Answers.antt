@@ -1,6 +1,9 @@
--- The law is the lemma.
-use Rattle.tdb_space.proofs.Settled.{plan_fills}
+-- The laws are the lemmas.
+use Rattle.tdb_space.proofs.Settled.{plan_fills, settled_is}
 use Rattle.tdb_space.proofs.planned.planned_law.Goals as goal
 
-pub returns : goal.returns
-returns c = record { fills = plan_fills }
+pub returns-clause-fills : goal.returns-clause-fills
+returns-clause-fills c = plan_fills
+
+pub returns-clause-settled : goal.returns-clause-settled
+returns-clause-settled c = settled_is
