@@ -1,7 +1,7 @@
 -- A file that grows by zeros, and whose undo area is set anew, dropped or given up as a hand, holds the same pairs.
-use Rattle.std.proofs.Common.{◌≡◌, ℕ, ◌+◌, ◌<◌, ◌≤◌, ◌⊎◌, List, [], ◌∷◌, ◌++◌, length, replicate, refl, sym, ◌∙◌, ap, subst, inl, inr, arith}
+use Rattle.std.proofs.Common.{◌≡◌, ℕ, ◌+◌, ◌<◌, ◌≤◌, ◌⊎◌, List, [], ◌∷◌, length, replicate, refl, sym, ◌∙◌, ap, subst, inl, inr, arith}
 use Rattle.std.specs.Prelude.{slice_index, ◌%◌}
-use Rattle.std.proofs.lemmas.Bool.{cases_lt, cases_eq}
+use Rattle.std.proofs.lemmas.Bool.{cases_lt}
 use Rattle.std.proofs.lemmas.List.{length-replicate, get_or-replicate, get_or_past}
 use Rattle.tdb_disk.specs.Image.{overlay}
 use Rattle.tdb_disk.proofs.Image.{length-overlay, overlay_below, overlay_above, overlay_in}
@@ -11,15 +11,14 @@ use Rattle.tdb_words.proofs.Words.{word_agrees}
 use Rattle.tdb_space.specs.Form.{Form, data_start}
 use Rattle.tdb_space.specs.Record.{rec_len_of, magic_of}
 use Rattle.tdb_space.specs.Chain.{chain_of, free_of}
-use Rattle.tdb_space.specs.Pairs.{joined, order_of, map_of}
-use Rattle.tdb_space.specs.Extents.{HandPair, HandOk, times, once, extents, area, all_extents, hand_extents}
+use Rattle.tdb_space.specs.Extents.{HandPair, HandOk, times, once, area, all_extents}
 use Rattle.tdb_space.specs.Accepted.{AreaInPlace, AreaOk, Shut, AcceptWith}
 use Rattle.tdb_space.specs.Exchange.{InHands}
 use Rattle.tdb_space.specs.Moved.{AreaMoved, StaysAccepted}
 use Rattle.tdb_space.specs.Undoing.{area_at, area_end}
 use Rattle.tdb_space.specs.NewArea.{Longer, AreaSet, AreaDropped, GivenUp, HoldsHand, BareArea, HeaderOnly}
 use Rattle.tdb_disk.specs.Stop.{Grown}
-use Rattle.tdb_space.proofs.Counts.{once_in, once_out, once_lies, where_is, times_all}
+use Rattle.tdb_space.proofs.Counts.{where_is, times_all}
 use Rattle.tdb_space.proofs.Counts.Lies.{lies, below, above}
 use Rattle.tdb_space.proofs.Areas.{area_still, area_within}
 use Rattle.tdb_space.proofs.Writes.{write_accepted, write_order, write_map}
