@@ -25,7 +25,8 @@ pub data LiesIn (from count i : ℕ) : Type 0 where
   before : i < from → lies_in from count i ≡ false → LiesIn from count i
   behind : from + count ≤ i → lies_in from count i ≡ false → LiesIn from count i
 
-never_both : (b : Bool) → (b && false) ≡ false
+-- a test and false is false
+pub never_both : (b : Bool) → (b && false) ≡ false
 never_both true = refl
 never_both false = refl
 
@@ -290,6 +291,13 @@ reopens_alike r a c h m s = record {
 pub alike_reopens : (a c : List ℕ) → Opens a → Mild a → UndoneAlike (form_of a) a c → Reopens (restored (form_of a) a) c
 alike_reopens a c h m s =
     reopens_alike (restored (form_of a) a) a c (record { opens = record { opens = h; holds = λ key. refl }; again = inr m; sequence = refl }) m s
+
+pub reopens_again : (r c d : List ℕ) → Reopens r c → Reopens (restored (form_of c) c) d → Reopens r d
+reopens_again r c d h k = record {
+  opens = record { opens = k.opens.opens; holds = λ key. k.opens.holds key ∙ h.opens.holds key };
+  again = k.again;
+  sequence = k.sequence ∙ h.sequence;
+}
 
 pub exact_reopens : (r : List ℕ) → Accept r → Reopens r r
 exact_reopens r h = record {

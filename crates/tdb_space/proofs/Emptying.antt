@@ -69,7 +69,7 @@ zero_word Big (suc zero) low = refl
 zero_word Big (suc (suc zero)) low = refl
 zero_word Big (suc (suc (suc j))) low = elim (cases_eq j 0) [ inl e ↦ ap (λ k. slice_index (bytes_of_word Big 0) (suc (suc (suc k)))) e | inr ne ↦ absurd (omega (arith, low, ne)) ]
 
-four_bytes : (o : Order) (w : ℕ) → length (bytes_of_word o w) ≡ 4
+pub four_bytes : (o : Order) (w : ℕ) → length (bytes_of_word o w) ≡ 4
 four_bytes Little w = refl
 four_bytes Big w = refl
 

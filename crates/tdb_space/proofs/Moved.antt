@@ -164,10 +164,6 @@ module _ (f : Form) (a b : List ℕ) (A : AcceptWith f a []) (M : AreaMoved f a 
   frees : Linked f IsFree b (word f.order a free_head) (free_of f a)
   frees = linked_here f IsFree a b (word f.order a free_head) (free_of f a) A.frees (still_here f a b (free_of f a) M.frees) (nexts_still f a b (free_of f a) (still_of f a b (free_of f a) M.frees))
 
-  -- how often the lists hold a byte
-  in_lists : ℕ → ℕ
-  in_lists i = times (joined f.chains (λ k. extents f.order a (chain_of f a k))) i + times (extents f.order a (free_of f a)) i
-
   count_a : (i : ℕ) → times (all_extents f a (chain_of f a) (free_of f a) []) i ≡ times (joined f.chains (λ k. extents f.order a (chain_of f a k))) i + times (extents f.order a (free_of f a)) i + times (area f.order a) i + 0
   count_a i = times_all f a (chain_of f a) (free_of f a) [] i
 

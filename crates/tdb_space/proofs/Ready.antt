@@ -24,22 +24,18 @@ use Rattle.tdb_space.specs.Planned.{content_length, IsPlanned, kept, fresh}
 use Rattle.tdb_space.proofs.Counts.{once_in, once_lies, once_out, times-append}
 use Rattle.tdb_space.proofs.Cleared.{none_both, or_none, below_to}
 use Rattle.tdb_space.proofs.Fresh.{word_zero}
-use Rattle.tdb_space.proofs.Alike.{entries_alike}
+use Rattle.tdb_space.proofs.Alike.{never_both, entries_alike}
 use Rattle.tdb_space.proofs.Tails.{lists_within}
-use Rattle.tdb_space.proofs.Emptying.{word_beside}
+use Rattle.tdb_space.proofs.Emptying.{four_bytes, word_beside}
 use Rattle.tdb_space.proofs.Contents.{in_lists, area_apart, area_not, chain_in_lists}
 use Rattle.tdb_space.proofs.Stretches.{runs_lie}
 use Rattle.tdb_space.proofs.Content.{entries_for, parsed, AllBy, entries_good, run_covered, covering_gives}
 
 -- a word that was set
-four : (o : Order) (w : ℕ) → length (bytes_of_word o w) ≡ 4
-four Little w = refl
-four Big w = refl
-
 pub word_set : (o : Order) (c : List ℕ) (at w : ℕ) → w < 2 ^ 32 → at + 4 ≤ length c → word o (overlay c at (bytes_of_word o w)) at ≡ w
 word_set o c at w fits room =
     word_from_bytes o (overlay c at (bytes_of_word o w)) (bytes_of_word o w) at 0 (λ j low.
-    (overlay_in c at (bytes_of_word o w) (at + j) (omega arith) (omega (arith, low, four o w)) (omega (arith, low, room)) ∙ ap (slice_index (bytes_of_word o w)) (omega arith)))
+    (overlay_in c at (bytes_of_word o w) (at + j) (omega arith) (omega (arith, low, four_bytes o w)) (omega (arith, low, room)) ∙ ap (slice_index (bytes_of_word o w)) (omega arith)))
     ∙ word_made o w fits
 
 -- runs in order whose bytes stand below a length end by it
@@ -151,10 +147,6 @@ module _ (p : Scheme) (a b : List ℕ) (A : Accept a) (h : IsPlanned p a b) wher
         | kept _ _ low size ↦ (omega (arith, size, h.old_within), λ _. low)
         | fresh _ at size ↦ (omega (arith, at, size, h.old_within), λ low. absurd (omega (arith, low, at, h.old_within)))
       ]
-
-  never_both : (c : Bool) → (c && false) ≡ false
-  never_both true = refl
-  never_both false = refl
 
   good_cut : is_bad_cut f opened p.area ≡ false
   good_cut =

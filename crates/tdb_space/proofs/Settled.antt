@@ -22,7 +22,7 @@ use Rattle.tdb_space.specs.Planned.{IsPlanned, kept, fresh, settled_byte, settle
 use Rattle.tdb_space.proofs.Counts.{once_out}
 use Rattle.tdb_space.proofs.Fresh.{word_zero}
 use Rattle.tdb_space.proofs.Headers.{form_kept}
-use Rattle.tdb_space.proofs.Alike.{alike_mild}
+use Rattle.tdb_space.proofs.Alike.{never_both, alike_mild}
 use Rattle.tdb_space.proofs.Moved.{moved_stays, stays_reopens}
 use Rattle.tdb_space.proofs.Tails.{lists_within, held_past, no_area_held}
 use Rattle.tdb_space.proofs.Emptying.{word_beside, word_cleared}
@@ -45,13 +45,9 @@ settled_run p b img i held = rw (lt-ltb 0 (times p.runs i) (omega (arith, held))
 settled_past : (p : Scheme) (b img : List ℕ) (i : ℕ) → times p.runs i ≡ 0 → p.old_length ≤ i → i < length b → settled_byte p b img i ≡ slice_index b i
 settled_past p b img i none past low = rw (le-ltb 0 (times p.runs i) (omega (arith, none))) (rw (le-leb p.old_length i past) (rw (lt-ltb i (length b) low) refl))
 
-never_two : (c : Bool) → (c && false) ≡ false
-never_two true = refl
-never_two false = refl
-
 settled_else : (p : Scheme) (b img : List ℕ) (i : ℕ) → times p.runs i ≡ 0 → (i < p.old_length) ⊎ (length b ≤ i) → settled_byte p b img i ≡ slice_index img i
 settled_else p b img i none (inl low) = rw (le-ltb 0 (times p.runs i) (omega (arith, none))) (rw (lt-leb p.old_length i low) refl)
-settled_else p b img i none (inr past) = rw (le-ltb 0 (times p.runs i) (omega (arith, none))) (rw (le-ltb i (length b) past) (rw (never_two (nat_le p.old_length i)) refl))
+settled_else p b img i none (inr past) = rw (le-ltb 0 (times p.runs i) (omega (arith, none))) (rw (le-ltb i (length b) past) (rw (never_both (nat_le p.old_length i)) refl))
 
 -- all is written: the runs, and then what lies from the old length on
 pub settled_is : (p : Scheme) (b a c d : List ℕ) → PutRuns b p.runs a c → PutRange b p.old_length (length b) c d → d ≡ settled_with p b a

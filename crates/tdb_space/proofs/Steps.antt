@@ -14,6 +14,7 @@ use Rattle.tdb_space.specs.Undoing.{area_at, area_end, old_size, UndoneAlike, Wr
 use Rattle.tdb_space.specs.RecoverySteps.{IsHarmless, BlankPast, Behind, TailAt, Emptied, ZerosBehind, StepsAreTails, StaysAlike}
 use Rattle.tdb_space.proofs.Counts.{once_in}
 use Rattle.tdb_space.proofs.Fresh.{word_zero}
+use Rattle.tdb_space.proofs.Contents.{area_not}
 use Rattle.tdb_space.proofs.Undone.{undone_read, undone_length, old_length, read_undone}
 use Rattle.tdb_space.proofs.Alike.{where_lies, alike_self, alike_shrunk}
 use Rattle.tdb_space.proofs.Alike.LiesIn.{within, before, behind}
@@ -158,17 +159,8 @@ stays_alike f a u = record {
 -- a byte that no undo area holds stands before it or behind it
 area_beside : (f : Form) (c : List ℕ) (x i : ℕ) → word f.order c 44 ≡ x → 1 ≤ x → times (area f.order c) i ≡ 0 → (i < x) ⊎ (x + 24 + rec_len_of f.order c x ≤ i)
 area_beside f c x i there some none =
-    let y = word f.order c 44 in
-    let len : rec_len_of f.order c y ≡ rec_len_of f.order c x = ap (rec_len_of f.order c) there in
-    let no_once : times (extent_at f.order c y ∷ []) i ≡ 0 = rw (ne_eqb y 0 (λ e. absurd (omega (arith, e, there, some)))) at none in
-    elim (cases_lt i x) [
-      | inl low ↦ inl low
-      | inr high ↦
-          elim (cases_lt i (x + 24 + rec_len_of f.order c x)) [
-            | inl inside ↦ absurd (omega (arith, no_once, once_in (extent_at f.order c y) i (omega (arith, high, there)) (omega (arith, inside, there, len))))
-            | inr past ↦ inr past
-          ]
-    ]
+    let len : rec_len_of f.order c (word f.order c 44) ≡ rec_len_of f.order c x = ap (rec_len_of f.order c) there in
+    elim (area_not f c i (λ gone. absurd (omega (arith, gone, there, some))) none) [ inl low ↦ inl (omega (arith, low, there)) | inr past ↦ inr (omega (arith, past, there, len)) ]
 
 -- an undo area whose length is a whole number of words and whose gate is shut
 module _ (f : Form) (r : List ℕ) (x e : ℕ) (c : List ℕ) (b : Behind f r x e) where

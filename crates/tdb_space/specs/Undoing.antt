@@ -84,7 +84,11 @@ AlikeOpens = (a c : List ℕ) (m : List ℕ → Option (List ℕ)) → OpensTo a
 abbrev pub ReopensAlike : Type 0
 ReopensAlike = (r a c : List ℕ) → Reopens r a → Mild a → UndoneAlike (form_of a) a c → Reopens r c
 
--- to the restored image above all, where that one opens and is Mild
+-- What a stop of a recovery leaves is recovered again: what that may leave in its turn reopens like it. So it goes on.
+abbrev pub ReopensAgain : Type 0
+ReopensAgain = (r c d : List ℕ) → Reopens r c → Reopens (restored (form_of c) c) d → Reopens r d
+
+-- an image that is undone like another reopens to the restored image of that one, where it opens and is Mild
 abbrev pub AlikeReopens : Type 0
 AlikeReopens = (a c : List ℕ) → Opens a → Mild a → UndoneAlike (form_of a) a c → Reopens (restored (form_of a) a) c
 

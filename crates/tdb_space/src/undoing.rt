@@ -1,7 +1,7 @@
 // What a stop of a recovery may leave opens to the map of the restored file.
 
 ghost use Rattle.tdb_space.specs.Moved.{MovedStays};
-ghost use Rattle.tdb_space.specs.Undoing.{SameUndoRestores, AlikeRestores, AlikeOpens, ReopensAlike, AlikeReopens, TailReopens, ExactReopens, StaysReopens};
+ghost use Rattle.tdb_space.specs.Undoing.{SameUndoRestores, AlikeRestores, AlikeOpens, ReopensAlike, ReopensAgain, AlikeReopens, TailReopens, ExactReopens, StaysReopens};
 ghost use Rattle.tdb_space.specs.RecoverySteps.{FirstStepsAreAlike, EachStepIsTail, EachStepGoesOn, LowIsExact, HighIsTail};
 
 /// Images that are undone alike are read as the same file, and so they reopen where one of them does; an accepted file with a shut
@@ -12,6 +12,7 @@ pub fn undoing_law()
     ensures alike { AlikeRestores }
     ensures alike_opens { AlikeOpens }
     ensures still_again { ReopensAlike }
+    ensures once_more { ReopensAgain }
     ensures alike_again { AlikeReopens }
     ensures tail_again { TailReopens }
     ensures exact_again { ExactReopens }

@@ -1,6 +1,6 @@
 -- The laws are the lemmas.
 use Rattle.tdb_space.proofs.Moved.{moved_stays, stays_reopens}
-use Rattle.tdb_space.proofs.Alike.{same_undo_restores, alike_restores, alike_opens_to, reopens_alike, alike_reopens, exact_reopens}
+use Rattle.tdb_space.proofs.Alike.{same_undo_restores, alike_restores, alike_opens_to, reopens_alike, reopens_again, alike_reopens, exact_reopens}
 use Rattle.tdb_space.proofs.Tails.{tail_reopens}
 use Rattle.tdb_space.proofs.undoing.undoing_law.Goals as goal
 
@@ -15,6 +15,9 @@ returns-clause-alike_opens c = alike_opens_to
 
 pub returns-clause-still_again : goal.returns-clause-still_again
 returns-clause-still_again c = reopens_alike
+
+pub returns-clause-once_more : goal.returns-clause-once_more
+returns-clause-once_more c = reopens_again
 
 pub returns-clause-alike_again : goal.returns-clause-alike_again
 returns-clause-alike_again c = alike_reopens
