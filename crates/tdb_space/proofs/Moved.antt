@@ -252,6 +252,16 @@ module _ (f : Form) (a b : List ℕ) (A : AcceptWith f a []) (M : AreaMoved f a 
     same_map = moved_map;
   }
 
+-- and after another such change
+pub stays_then : (f : Form) (a b c : List ℕ) → StaysAccepted f a b → StaysAccepted f b c → StaysAccepted f a c
+stays_then f a b c s t = record {
+  accepted = t.accepted;
+  same_chains = λ k low. t.same_chains k low ∙ s.same_chains k low;
+  same_free = t.same_free ∙ s.same_free;
+  same_order = t.same_order ∙ s.same_order;
+  same_map = λ key. t.same_map key ∙ s.same_map key;
+}
+
 -- so it reopens, where it has the same sequence number
 pub stays_reopens : (r c : List ℕ) → StaysAccepted (form_of r) r c → Agree r c 48 52 → Reopens r c
 stays_reopens r c stays number =

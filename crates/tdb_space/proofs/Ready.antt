@@ -1,12 +1,11 @@
 -- A plan that is ready: with its gate open the file can be undone, its entries are the runs, and no record is cut off.
-use Rattle.std.proofs.Common.{◌≡◌, ℕ, zero, suc, ◌+◌, ◌<◌, ◌≤◌, ◌⊎◌, ◌&&◌, ◌||◌, Bool, true, false, List, [], ◌∷◌, length, None, refl, sym, ◌∙◌, ap, subst, inl, inr, arith}
+use Rattle.std.proofs.Common.{◌≡◌, ℕ, zero, suc, ◌+◌, ◌<◌, ◌≤◌, ◌⊎◌, ◌&&◌, ◌||◌, false, List, [], ◌∷◌, length, None, refl, sym, ◌∙◌, ap, subst, inl, inr, arith}
 use Rattle.std.specs.Prelude.{slice_index, ◌%◌, ◌^◌, nat_lt}
 use Rattle.std.proofs.lemmas.Bool.{cases_lt}
 use Rattle.tdb_disk.specs.Image.{overlay}
 use Rattle.tdb_disk.proofs.Image.{length-overlay, overlay_in}
 use Rattle.tdb_words.specs.declared.record.TheConstants.{GATE_OPEN}
 use Rattle.tdb_words.specs.declared.word.Order.{Order}
-use Rattle.tdb_words.specs.declared.word.Order.TheVariants.{Little, Big}
 use Rattle.tdb_words.specs.Word.{word, bytes_of_word}
 use Rattle.tdb_words.proofs.Words.{word_agrees, word_from_bytes, word_made}
 use Rattle.tdb_space.specs.Form.{Form, form_of, data_start, chain_head, free_head}

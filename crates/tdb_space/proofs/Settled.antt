@@ -1,5 +1,5 @@
 -- What a commit makes of the file once all is written and the gate is shut: it holds the map of the transaction.
-use Rattle.std.proofs.Common.{◌≡◌, ℕ, ◌+◌, ◌<◌, ◌≤◌, ◌⊎◌, ◌&&◌, Bool, true, false, List, [], length, refl, sym, ◌∙◌, ap, subst, inl, inr, arith}
+use Rattle.std.proofs.Common.{◌≡◌, ℕ, ◌+◌, ◌<◌, ◌≤◌, ◌⊎◌, List, [], length, refl, sym, ◌∙◌, ap, subst, inl, inr, arith}
 use Rattle.std.specs.Prelude.{slice_index, ◌%◌, nat_le}
 use Rattle.std.proofs.lemmas.Bool.{cases_lt, cases_eq, le-leb, lt-leb, lt-ltb, le-ltb}
 use Rattle.std.proofs.lemmas.Grind.{same_number_lists}
@@ -253,4 +253,4 @@ module _ (p : Scheme) (a b : List ℕ) (A : Accept a) (B : Accept b) (h : IsPlan
       alike_mild (gate_opened f a) d opens keeps.0.undoable (runs_alike (form_of (gate_opened f a)) p (gate_opened f a) d opens.sized keeps.0.undoable (subst (λ g. IsPlanFor g p (gate_opened f a)) (sym (own_form a A ready)) (plan_fits p a b A h)) (at_gate d w)) keeps.0
 
   pub plan_fills : Fills p a b
-  plan_fills = record { clear = λ i from to. (plan_lies p a b A h).clear i from to; mild = mild; undoes = undoes; becomes = becomes }
+  plan_fills = record { clear = λ i from to. (plan_lies p a b A h).clear i from to; mild = mild; undoes = undoes; becomes = becomes; size = size_c; reaches = reach; reads = λ i low. is_b i low (omega (arith, low, reach)) }

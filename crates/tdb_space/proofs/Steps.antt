@@ -1,18 +1,17 @@
 -- The steps of a recovery, as images: each leaves one that is undone alike, or the restored one with a tail, or the restored one.
-use Rattle.std.proofs.Common.{◌≡◌, ℕ, ◌+◌, ◌<◌, ◌≤◌, ◌⊎◌, Bool, false, List, [], ◌∷◌, length, refl, sym, ◌∙◌, ap, subst, inl, inr, arith}
+use Rattle.std.proofs.Common.{◌≡◌, ℕ, ◌+◌, ◌<◌, ◌≤◌, ◌⊎◌, Bool, false, List, length, refl, sym, ◌∙◌, ap, subst, inl, inr, arith}
 use Rattle.std.specs.Prelude.{slice_index, ◌%◌, nat_le, if◌then◌else◌}
-use Rattle.std.proofs.lemmas.Bool.{cases_lt, ne_eqb, le-leb, lt-leb}
+use Rattle.std.proofs.lemmas.Bool.{cases_lt, le-leb, lt-leb}
 use Rattle.std.proofs.lemmas.Grind.{same_number_lists}
 use Rattle.tdb_words.specs.Word.{word}
 use Rattle.tdb_words.proofs.Words.{word_agrees}
 use Rattle.tdb_space.specs.Form.{Form, data_start}
 use Rattle.tdb_space.specs.Record.{rec_len_of, magic_of}
-use Rattle.tdb_space.specs.Extents.{times, extent_at, area}
+use Rattle.tdb_space.specs.Extents.{times, area}
 use Rattle.tdb_space.specs.Accepted.{AreaInPlace, AreaOk, Shut}
 use Rattle.tdb_space.specs.Opening.{entries, Undoable, lies_in, last_covering, given_back, undone_byte, restored}
 use Rattle.tdb_space.specs.Undoing.{area_at, area_end, old_size, UndoneAlike, Written, TailOf}
 use Rattle.tdb_space.specs.RecoverySteps.{IsHarmless, BlankPast, Behind, TailAt, Emptied, ZerosBehind, StepsAreTails, StaysAlike}
-use Rattle.tdb_space.proofs.Counts.{once_in}
 use Rattle.tdb_space.proofs.Fresh.{word_zero}
 use Rattle.tdb_space.proofs.Contents.{area_not}
 use Rattle.tdb_space.proofs.Undone.{undone_read, undone_length, old_length, read_undone}

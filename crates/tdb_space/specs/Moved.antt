@@ -28,6 +28,10 @@ pub record StaysAccepted (f : Form) (a b : List ℕ) : Type 0 where
   pub same_order : order_of f b ≡ order_of f a
   pub same_map : (key : List ℕ) → map_of f b key ≡ map_of f a key
 
+-- and so on, through more than one change
+abbrev pub StaysThen : Type 0
+StaysThen = (f : Form) (a b c : List ℕ) → StaysAccepted f a b → StaysAccepted f b c → StaysAccepted f a c
+
 -- an accepted image of which the undo area or the length becomes another stays accepted
 abbrev pub MovedStays : Type 0
 MovedStays = (f : Form) (a b : List ℕ) → AcceptWith f a [] → AreaMoved f a b → StaysAccepted f a b

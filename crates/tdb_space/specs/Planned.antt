@@ -75,13 +75,21 @@ pub record PutRange (b : List ℕ) (from to : ℕ) (a c : List ℕ) : Type 0 whe
 abbrev pub SettledIs : Type 0
 SettledIs = (p : Scheme) (b a c d : List ℕ) → PutRuns b p.runs a c → PutRange b p.old_length (length b) c d → d ≡ settled_with p b a
 
+-- the file once all of the plan is written and the gate is shut again
+abbrev pub finished : Scheme → List ℕ → List ℕ → List ℕ
+finished p a b = with_gate GATE_SHUT p (settled_with p b (with_gate GATE_OPEN p a))
+
 -- What the plan leads to. Its runs are clear of the undo area. With the gate open whatever is written reopens to the map of a, and is
--- Mild. Written whole and shut again, the file reopens to the map of b.
+-- Mild. Written whole and shut again, the file reopens to the map of b, and outside the undo area and the word at 44 it is b, as far as b
+-- reaches.
 pub record Fills (p : Scheme) (a b : List ℕ) : Type 0 where
   pub clear : IsClear p
   pub mild : (c : List ℕ) → Within p (with_gate GATE_OPEN p a) c → Mild c
   pub undoes : (c : List ℕ) → Within p (with_gate GATE_OPEN p a) c → Reopens a c
-  pub becomes : Reopens b (with_gate GATE_SHUT p (settled_with p b (with_gate GATE_OPEN p a)))
+  pub becomes : Reopens b (finished p a b)
+  pub size : length (finished p a b) ≡ length a
+  pub reaches : length b ≤ length a
+  pub reads : (i : ℕ) → i < length b → (i < 44) ⊎ (48 ≤ i) → (i < p.area) ⊎ (p.area + p.area_length ≤ i) → slice_index (finished p a b) i ≡ slice_index b i
 
 -- a plan that is ready leads to it
 abbrev pub PlanFills : Type 0

@@ -1,6 +1,6 @@
 // What a stop of a recovery may leave opens to the map of the restored file.
 
-ghost use Rattle.tdb_space.specs.Moved.{MovedStays};
+ghost use Rattle.tdb_space.specs.Moved.{MovedStays, StaysThen};
 ghost use Rattle.tdb_space.specs.Undoing.{SameUndoRestores, AlikeRestores, AlikeOpens, ReopensAlike, ReopensAgain, AlikeReopens, TailReopens, ExactReopens, StaysReopens};
 ghost use Rattle.tdb_space.specs.RecoverySteps.{FirstStepsAreAlike, EachStepIsTail, EachStepGoesOn, LowIsExact, HighIsTail};
 
@@ -17,6 +17,7 @@ pub fn undoing_law()
     ensures tail_again { TailReopens }
     ensures exact_again { ExactReopens }
     ensures moved { MovedStays }
+    ensures moved_then { StaysThen }
     ensures moved_again { StaysReopens }
 {}
 

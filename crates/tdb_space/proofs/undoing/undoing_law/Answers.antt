@@ -1,5 +1,5 @@
 -- The laws are the lemmas.
-use Rattle.tdb_space.proofs.Moved.{moved_stays, stays_reopens}
+use Rattle.tdb_space.proofs.Moved.{moved_stays, stays_then, stays_reopens}
 use Rattle.tdb_space.proofs.Alike.{same_undo_restores, alike_restores, alike_opens_to, reopens_alike, reopens_again, alike_reopens, exact_reopens}
 use Rattle.tdb_space.proofs.Tails.{tail_reopens}
 use Rattle.tdb_space.proofs.undoing.undoing_law.Goals as goal
@@ -30,6 +30,9 @@ returns-clause-exact_again c = exact_reopens
 
 pub returns-clause-moved : goal.returns-clause-moved
 returns-clause-moved c = moved_stays
+
+pub returns-clause-moved_then : goal.returns-clause-moved_then
+returns-clause-moved_then c = stays_then
 
 pub returns-clause-moved_again : goal.returns-clause-moved_again
 returns-clause-moved_again c = stays_reopens
