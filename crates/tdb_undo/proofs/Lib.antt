@@ -1,0 +1,9 @@
+pub mod Lies
+pub mod Blocks
+pub mod Stretch
+pub mod Heads
+pub mod Rest
+pub mod Taken
+pub mod Gives
+pub mod Fronts
+pub mod Giving

@@ -1,0 +1,6 @@
+pub mod Torn
+pub mod Refusal
+pub mod Area
+pub mod Window
+pub mod Entries
+pub mod Front
