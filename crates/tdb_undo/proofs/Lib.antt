@@ -6,4 +6,10 @@ pub mod Rest
 pub mod Taken
 pub mod Gives
 pub mod Fronts
-pub mod Giving
+pub mod GivenBack
+pub mod Whole
+pub mod Lows
+pub mod Highs
+pub mod Empties
+pub mod Past
+pub mod Found

@@ -9,7 +9,6 @@ use Rattle.tdb_words.specs.Record.{rec_at}
 use Rattle.tdb_space.specs.Form.{Form, data_start}
 use Rattle.tdb_space.specs.Record.{magic_of}
 use Rattle.tdb_space.specs.FirstFault.{Fault, is_out, is_long}
-use Rattle.tdb_space.specs.Opening.{undo_fault}
 use Rattle.tdb_undo.specs.declared.area.Area.{Area}
 
 -- no record header can stand at an offset of a file of so many chains and of this length
@@ -35,17 +34,6 @@ place_fault_at f img at =
 -- the same of the undo area of an image, where it has one
 abbrev pub place_fault : Form → List ℕ → Option Fault
 place_fault f img = if word f.order img 44 == 0 then None else place_fault_at f img (word f.order img 44)
-
--- The first fault that opening a file meets in its undo area: that of its place and its header, or where the gate is open that of
--- what it keeps
-abbrev pub opening_fault : Form → List ℕ → Option Fault
-opening_fault f img =
-    if word f.order img 44 == 0 then None
-    else if is_out f img (word f.order img 44) then Some (AreaBad, 44)
-    else if is_long f img (word f.order img 44) then Some (AreaBad, word f.order img 44 + 4)
-    else if magic_of f.order img (word f.order img 44) == GATE_OPEN then undo_fault f img
-    else if not (magic_of f.order img (word f.order img 44) == GATE_SHUT) then Some (AreaBad, word f.order img 44 + 20)
-    else None
 
 -- What is wrong with the old length and the length of the content in the header of an undo area at an offset, where the records of a
 -- file of this length begin at this offset

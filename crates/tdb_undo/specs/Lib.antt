@@ -4,3 +4,4 @@ pub mod Area
 pub mod Window
 pub mod Entries
 pub mod Front
+pub mod Recovery

@@ -17,6 +17,9 @@ pub(crate) const RECOVERY_START: u64 = 44;
 /// How many bytes the header of the undo area has.
 pub(crate) const HEADER_LEN: u64 = 24;
 
+/// Where the gate word stands in that header.
+pub(crate) const GATE: u64 = 20;
+
 /// The undo area of a file.
 #[derive(Clone, Copy, Debug, PartialEq, Eq)]
 pub(crate) struct Area {

@@ -2,11 +2,16 @@
 #![tactic(auto)]
 
 mod area;
+mod emptying;
 mod front;
+mod giving;
 mod pieces;
+mod recovering;
 mod refusal;
 mod testing;
+mod undoing;
 mod window;
 mod writing;
 
+pub use crate::recovering::{needs_recovery, recover};
 pub use crate::refusal::UndoRefusal;

@@ -10,7 +10,7 @@ use Rattle.tdb_undo.specs.Window.{Holds}
 use Rattle.tdb_undo.specs.Entries.{entries_stop, entries_in, is_given, is_written, Given}
 use Rattle.tdb_undo.proofs.Blocks.{start_torn, join_torn, wider_torn}
 use Rattle.tdb_undo.proofs.Gives.{false_where}
-use Rattle.tdb_undo.proofs.Giving.{Giving, giving_none, giving_all, giving_read, more_torn, read_sound, content_same}
+use Rattle.tdb_undo.proofs.GivenBack.{Giving, giving_none, giving_all, giving_read, more_torn, read_sound, content_same}
 use Rattle.tdb_undo.proofs.Rest.{rest, enough}
 use Rattle.tdb_undo.proofs.writing.write_entries.Goals as goal
 

@@ -6,7 +6,7 @@ use Rattle.tdb_space.specs.Opening.{entry_fault}
 use Rattle.tdb_undo.specs.Torn.{TornIn}
 use Rattle.tdb_undo.specs.Window.{Holds}
 use Rattle.tdb_undo.specs.Entries.{entries_stop, entries_in, is_written}
-use Rattle.tdb_undo.proofs.Giving.{Giving}
+use Rattle.tdb_undo.proofs.GivenBack.{Giving}
 use Rattle.tdb_undo.proofs.writing.write_entries.Given as goal
 
 abbrev pub invariant-loop-place : goal.invariant-loop-place
