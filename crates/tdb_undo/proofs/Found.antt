@@ -1,22 +1,36 @@
 -- The faults of an undo area by what was read of it, and the recovery of the whole image.
-use Rattle.std.proofs.Common.{◌≡◌, ◌≢◌, ℕ, ◌+◌, ◌*◌, ◌<◌, ◌≤◌, ◌⊎◌, ◌%◌, ◌&&◌, ◌||◌, Bool, true, false, Option, Some, None, List, length, not, refl, sym, ◌∙◌, ap, subst, inl, inr, arith}
+use Rattle.std.proofs.Common.{◌≡◌, ◌≢◌, ℕ, ◌+◌, ◌*◌, ◌<◌, ◌≤◌, ◌⊎◌, ◌%◌, ◌&&◌, ◌||◌, Bool, true, false, Option, Some, None, List, length, take, drop, slice_index, not, refl, sym, ◌∙◌, ap, subst, inl, inr, arith}
 use Rattle.std.specs.Prelude.{nat_lt, ◌==◌, if◌then◌else◌}
-use Rattle.std.proofs.lemmas.Bool.{cases_Bool, or_parts, or_left, or_right, and_left, and_right, and_cases, not-false, not_from_true, lt-ltb, eq-eqb, ne_eqb, eqb-true, eqb-false}
+use Rattle.std.proofs.lemmas.Bool.{cases_Bool, or_parts, le-ltb, or_left, or_right, and_left, and_right, and_cases, not-false, not_from_true, lt-ltb, eq-eqb, ne_eqb, eqb-true, eqb-false}
+use Rattle.std.proofs.lemmas.List.{get_or-take, get_or-drop}
+use Rattle.tdb_disk.specs.Count.{RoseBy}
+use Rattle.tdb_disk.specs.History.{History, seen}
+use Rattle.tdb_disk.specs.Stop.{Quiet, LeavesOnly}
+use Rattle.tdb_disk.proofs.Runs.{leaves_quiet}
 use Rattle.tdb_words.specs.declared.record.Rec.{Rec}
 use Rattle.tdb_words.specs.declared.record.TheConstants.{GATE_OPEN, GATE_SHUT}
 use Rattle.tdb_words.specs.declared.what.What.TheVariants.{AreaBad, UndoBad}
 use Rattle.tdb_words.specs.Word.{word}
 use Rattle.tdb_words.specs.Record.{rec_at}
-use Rattle.tdb_space.specs.Form.{Form, data_start}
+use Rattle.tdb_space.specs.Form.{Form, form_of, data_start}
 use Rattle.tdb_space.specs.Record.{magic_of, rec_len_of}
-use Rattle.tdb_space.specs.Accepted.{AreaInPlace, Shut}
+use Rattle.tdb_space.specs.Accepted.{AreaInPlace, Shut, Accept}
 use Rattle.tdb_space.specs.FirstFault.{Fault, is_out, is_long}
-use Rattle.tdb_space.specs.Opening.{entries, entries_end, entry_fault, undo_fault, undo_fault_at, is_bad_cut, Undoable, is_open}
+use Rattle.tdb_space.specs.Opening.{entries, entries_end, entry_fault, undo_fault, undo_fault_at, is_bad_cut, Undoable, is_open, last_covering, given_back, restored, Opens, Mild}
 use Rattle.tdb_space.specs.OpeningFault.{opening_fault}
-use Rattle.tdb_space.specs.Undoing.{area_at, area_end, old_size}
+use Rattle.tdb_space.specs.Undoing.{area_at, area_end, old_size, TailOf, Reopens}
+use Rattle.tdb_space.proofs.Alike.{alike_self, alike_reopens, exact_reopens}
+use Rattle.tdb_space.proofs.Headers.{form_kept}
+use Rattle.tdb_space.proofs.Steps.{restored_no_area, restored_length}
+use Rattle.tdb_space.proofs.Tails.{tail_reopens}
+use Rattle.tdb_space.proofs.Undone.{read_as_it_is}
 use Rattle.tdb_undo.specs.declared.area.Area.{Area}
 use Rattle.tdb_undo.specs.Area.{place_fault, place_fault_at, content_fault_at, AreaSeen, IsAreaOf, Stands}
-use Rattle.tdb_undo.specs.Entries.{entries_in, entries_stop}
+use Rattle.tdb_undo.specs.declared.refusal.UndoRefusal.{UndoRefusal}
+use Rattle.tdb_undo.specs.declared.refusal.UndoRefusal.TheVariants.{UndoBad as UndoRefused, Io}
+use Rattle.tdb_undo.specs.Refusal.{Names, IsIo}
+use Rattle.tdb_undo.specs.Recovery.{ReadFrom, recovery_syncs, Undoing, alike, exact, tail}
+use Rattle.tdb_undo.specs.Entries.{entries_in, entries_stop, lengths}
 use Rattle.tdb_undo.proofs.Whole.{same_header, same_entries, same_end, same_old}
 
 -- the first of two faults, where there is one
@@ -127,3 +141,85 @@ place_first f img e bad = go (area_at f img == 0) (is_out f img (area_at f img))
     go false false false true shut undo a b c h = absurd (cc)
     go false false false false true undo a b c h = h
     go false false false false false undo a b c h = h
+
+-- a refusal that names one fault names another where that one tells it, and one of the disk names none
+pub names_then : (e : UndoRefusal) (P Q : Fault → Type 0) → ((fault : Fault) → P fault → Q fault) → Names e P → Names e Q
+names_then (UndoRefused what at) P Q more h = more (what, at) h
+names_then Io P Q more h = tt
+
+pub io_names : (e : UndoRefusal) (P : Fault → Type 0) → IsIo e → Names e P
+io_names (UndoRefused what at) P h = absurd h
+io_names Io P h = tt
+
+-- while nothing was written, the image itself is left
+pub still_alike : (f : Form) (h k : History) → k ≡ h → Quiet h → length (seen h) % 4 ≡ 0 → Undoable f (seen h) → LeavesOnly h k (Undoing f (seen h))
+still_alike f h k same quiet sized u = subst (λ m. LeavesOnly h m (Undoing f (seen h))) (sym same) (leaves_quiet h (Undoing f (seen h)) quiet (alike (alike_self f (seen h) sized u)))
+
+-- what was read of the first bytes, and what the entries give back of them
+pub read_from : (f : Form) (img : List ℕ) (a : Area) (before after : List ℕ) → (is : IsAreaOf f.order img a) → before ≡ take 64 (drop 0 img)
+    → ((i : ℕ) → i < 64 → slice_index after i ≡ given_back (last_covering (entries_in f.order img a) i) i (slice_index before i)) → ReadFrom f img a before after
+read_from f img a before after is read given = record {
+  area = is;
+  front = λ i low. ap (λ l. slice_index l i) read ∙ get_or-take 64 (drop 0 img) i 0 low ∙ get_or-drop 0 img i 0 ∙ ap (slice_index img) (let e : 0 + i ≡ i = omega arith in e);
+  given = λ i low. given i low ∙ ap (λ l. given_back (last_covering l i) i (slice_index before i)) (same_entries f img a is);
+}
+
+-- an image that opens reopens as it is
+pub reopens_itself : (f : Form) (a : List ℕ) → Opens a → Shut (form_of a) a ⊎ Mild a → form_of a ≡ f → Reopens (restored f a) a
+reopens_itself f a o again is = subst (λ g. Reopens (restored g a) a) is (elim again [
+  | inl shut ↦ (let same = read_as_it_is (form_of a) a shut in subst (λ r. Reopens r a) (sym same) (exact_reopens a (subst Accept same o.accepted)))
+  | inr mild ↦ alike_reopens a a o mild (alike_self (form_of a) a o.sized mild.undoable)
+])
+
+pub still_reopens : (f : Form) (h k : History) → k ≡ h → Quiet h → Opens (seen h) → Shut (form_of (seen h)) (seen h) ⊎ Mild (seen h) → form_of (seen h) ≡ f → LeavesOnly h k (Reopens (restored f (seen h)))
+still_reopens f h k same quiet o again is =
+    subst (λ m. LeavesOnly h m (Reopens (restored f (seen h)))) (sym same) (leaves_quiet h (Reopens (restored f (seen h))) quiet (reopens_itself f (seen h) o again is))
+
+-- what a stop of a recovery leaves reopens
+pub undoing_reopens : (f : Form) (a c : List ℕ) → Opens a → Mild a → form_of a ≡ f → Undoing f a c → Reopens (restored f a) c
+undoing_reopens f a c o mild is s = go (subst (λ g. Undoing g a c) (sym is) s)
+  where
+    own : form_of (restored (form_of a) a) ≡ form_of a
+    own = form_kept a (restored (form_of a) a) mild.header
+
+    move : Reopens (restored (form_of a) a) c → Reopens (restored f a) c
+    move r = subst (λ g. Reopens (restored g a) c) is r
+
+    go : Undoing (form_of a) a c → Reopens (restored f a) c
+    go (alike t) = move (alike_reopens a c o mild t)
+    go (exact e) = move (subst (Reopens (restored (form_of a) a)) (sym e) (exact_reopens (restored (form_of a) a) o.accepted))
+    go (tail high t) = move (tail_reopens (restored (form_of a) a) c o.accepted
+        (subst (λ g. word g.order (restored (form_of a) a) 44 ≡ 0) (sym own) (restored_no_area (form_of a) a mild.undoable high))
+        (subst (λ g. TailOf g (restored (form_of a) a) c) (sym own) t))
+
+-- where the gate is open it isn't shut
+pub open_not_shut : (f : Form) (a : List ℕ) → area_at f a ≢ 0 → magic_of f.order a (area_at f a) ≡ GATE_OPEN → Shut f a → ⊥
+open_not_shut f a some gate (inl none) = some none
+open_not_shut f a some gate (inr shut) = absurd (omega (arith, gate, shut))
+
+-- where the gate is open the image is Mild
+pub mild_where_open : (f : Form) (a : List ℕ) → form_of a ≡ f → Shut (form_of a) a ⊎ Mild a → area_at f a ≢ 0 → magic_of f.order a (area_at f a) ≡ GATE_OPEN → Mild a
+mild_where_open f a is (inl shut) some gate = absurd (open_not_shut f a some gate (subst (λ g. Shut g a) is shut))
+mild_where_open f a is (inr mild) some gate = mild
+
+-- the old length of an image that opens is a whole number of words
+pub old_words : (f : Form) (a : List ℕ) → Opens a → form_of a ≡ f → Undoable f a → old_size f a % 4 ≡ 0
+old_words f a o is u = ap (λ n. n % 4) (sym (restored_length f a u) ∙ ap (λ g. length (restored g a)) (sym is)) ∙ o.accepted.sized
+
+-- an image whose gate isn't open is read as it is, keeps no byte to give back, and needs no sync
+pub closed_same : (f : Form) (a : List ℕ) → is_open f a ≡ false → restored f a ≡ a
+closed_same f a closed = rw closed refl
+
+pub closed_sum : (f : Form) (a : List ℕ) → is_open f a ≡ false → (if is_open f a then lengths (entries f a) else 0) ≡ 0
+closed_sum f a closed = rw closed refl
+
+pub closed_syncs : (f : Form) (a : List ℕ) → is_open f a ≡ false → recovery_syncs f a ≡ 0
+closed_syncs f a closed = rw closed refl
+
+pub open_sum : (f : Form) (a : List ℕ) → is_open f a ≡ true → (if is_open f a then lengths (entries f a) else 0) ≡ lengths (entries f a)
+open_sum f a opened = rw opened refl
+
+pub open_syncs : (f : Form) (a : List ℕ) (area : Area) → IsAreaOf f.order a area → is_open f a ≡ true → (before now : ℕ)
+    → ((area.at < area.header.key_len) × RoseBy 3 before now) ⊎ ((area.header.key_len ≤ area.at) × RoseBy 6 before now) → RoseBy (recovery_syncs f a) before now
+open_syncs f a area is opened before now (inl below) = rw opened (rw (lt-ltb (area_at f a) (old_size f a) (omega (arith, below.0, is.there, same_old f a area is))) below.1)
+open_syncs f a area is opened before now (inr behind) = rw opened (rw (le-ltb (area_at f a) (old_size f a) (omega (arith, behind.0, is.there, same_old f a area is))) behind.1)

@@ -59,14 +59,14 @@ module _ (f : Form) (a : List ℕ) (u : Undoable f a) (high : old_size f a ≤ a
 
   blank_written : (c : List ℕ) → Written f a (seen h) → Put (is_past area len) (λ _. 0) (seen h) c → Written f a c × BlankPast f a c
   blank_written c w put = (
-      record {
-        sized = put.size ∙ w.sized;
-        inside = λ i low apart outside. put.others i (below_out i low) ∙ w.inside i low apart outside;
-        there = λ i low under. put.others i (below_out i (omega (arith, under, old.above))) ∙ w.there i low under;
-        area_bytes = λ i low under. put.others i (area_out i low under) ∙ w.area_bytes i low under;
-      },
-      λ i low under apart. put.inside i (past_in i low (omega (arith, under, put.size, w.sized, long)) apart),
-    )
+    record {
+      sized = put.size ∙ w.sized;
+      inside = λ i low apart outside. put.others i (below_out i low) ∙ w.inside i low apart outside;
+      there = λ i low under. put.others i (below_out i (omega (arith, under, old.above))) ∙ w.there i low under;
+      area_bytes = λ i low under. put.others i (area_out i low under) ∙ w.area_bytes i low under;
+    },
+    λ i low under apart. put.inside i (past_in i low (omega (arith, under, put.size, w.sized, long)) apart),
+  )
 
   pub high_one : AllAlike f a h → LeavesOnly h one (TornIn (is_past area len) h) → LeavesOnly h one P
   high_one all torn = leaves_weaker h one (TornIn (is_past area len) h) P (λ image t. alike (alike_torn f a t.0 image (is_past area len) harmless (all t.0 t.1) t.2.size t.2.others)) torn
@@ -89,7 +89,7 @@ module _ (f : Form) (a : List ℕ) (u : Undoable f a) (high : old_size f a ≤ a
       leaves_tried h two three (wrote_word (x + 20) w) P so_far
       (λ image left. elim (quiet_word two (x + 20) w image (quiet_synced one two is_two) left) [
         | inl same ↦ subst P (sym same) (leaves_seen_now h two P so_far)
-        | inr whole ↦ tail (shut_is_tail f (restored f a) x (area_end f a) image (area_behind f a u high)
+        | inr whole ↦ tail high (shut_is_tail f (restored f a) x (area_end f a) image (area_behind f a u high)
             (gate_shut (seen one) image written put (whole ∙ (λ j. overlay (ap seen is_two j) (x + 20) (is_w j)))))
       ]) tried
 

@@ -13,3 +13,4 @@ pub mod Highs
 pub mod Empties
 pub mod Past
 pub mod Found
+pub mod Gates

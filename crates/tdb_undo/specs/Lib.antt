@@ -4,4 +4,5 @@ pub mod Area
 pub mod Window
 pub mod Entries
 pub mod Front
+pub mod Gate
 pub mod Recovery

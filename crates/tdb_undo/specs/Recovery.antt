@@ -22,7 +22,7 @@ pub record ReadFrom (f : Form) (img : List ℕ) (a : Area) (before after : List 
 pub data Undoing (f : Form) (a c : List ℕ) : Type 0 where
   alike : UndoneAlike f a c → Undoing f a c
   exact : c ≡ restored f a → Undoing f a c
-  tail : TailOf f (restored f a) c → Undoing f a c
+  tail : old_size f a ≤ area_at f a → TailOf f (restored f a) c → Undoing f a c
 
 -- a byte from the old length on, up to the end of a file of so many bytes, outside the undo area
 abbrev pub is_past : Area → ℕ → ℕ → Bool

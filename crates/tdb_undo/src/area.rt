@@ -1,6 +1,7 @@
 // The undo area of a file: where it stands, and what its header says.
 
 ghost use Rattle.std.specs.Prelude.{◌≡◌, ◌+◌, ◌*◌, ◌≤◌, ◌||◌, not, nat_lt, IsTrue, IfOk, IfErr, IfSome, None, Some};
+ghost use Rattle.tdb_disk.specs.Count.{HasCauseOf};
 ghost use Rattle.tdb_disk.specs.History.{seen};
 ghost use Rattle.tdb_space.specs.Form.{form_in};
 ghost use Rattle.tdb_undo.specs.Refusal.{Names};
@@ -9,6 +10,7 @@ ghost use Rattle.tdb_undo.specs.Area.{is_out_at, place_fault, header_fault_at, c
 
 use crate::refusal::UndoRefusal;
 use tdb_disk::Disk;
+use tdb_space::data_start;
 use tdb_words::{GATE_OPEN, GATE_SHUT, Header, Rec, What, rec_of, word_at};
 
 /// The offset of the word that says where the undo area stands, or 0.
@@ -31,18 +33,11 @@ pub(crate) struct Area {
     pub header: Rec,
 }
 
-/// Where the records of a file of so many chains begin.
-fn records_start(chains: u32) -> u64
-    ensures { result ≡ 168 + 4 * (chains + 1) }
-{
-    168 + 4 * (chains as u64 + 1)
-}
-
 /// Whether the header of a record can stand at an offset of a file of this length and of so many chains.
 fn can_stand(at: u32, len: u64, chains: u32) -> bool
     ensures { result ≡ not (is_out_at chains len at) }
 {
-    !(at % 4 != 0 || (at as u64) < records_start(chains) || len < at as u64 + HEADER_LEN)
+    !(at % 4 != 0 || (at as u64) < data_start(chains) || len < at as u64 + HEADER_LEN)
 }
 
 impl Area {
@@ -75,7 +70,7 @@ impl Area {
         let at = self.at as u64;
         let old = self.header.key_len as u64;
         let end = at + HEADER_LEN + self.header.rec_len as u64;
-        if old < records_start(chains) || len < old || at < old && old < end {
+        if old < data_start(chains) || len < old || at < old && old < end {
             Some((What::UndoBad, at + 8))
         } else if self.header.rec_len < self.header.data_len {
             Some((What::UndoBad, at + 12))
@@ -103,6 +98,7 @@ pub(crate) fn read_area<D: Disk>(d: &mut D, h: &Header) -> Result<Option<Area>, 
     ensures bad { IfErr result (λ e. IsTrue D.tells → Names e (λ fault. place_fault (form_in h.now) (seen (D.history d.old)) ≡ Some fault)) }
     ensures still { D.history d.new ≡ D.history d.old }
     ensures size { D.size d.new ≡ D.size d.old }
+    ensures cause { HasCauseOf UndoRefusal.Io (D.faults d.old) (D.faults d.new) result }
     ensures syncs { D.syncs d.new ≡ D.syncs d.old }
 {
     let len = d.len()?;

@@ -11,9 +11,9 @@ ghost use Rattle.tdb_space.specs.Undoing.{Reopens};
 ghost use Rattle.tdb_space.specs.Gate.{with_gate_word, gate_opened, gate_shut, IsReadyToOpen};
 ghost use Rattle.tdb_undo.specs.Gate.{HasGate};
 
-use crate::area::{GATE, HEADER_LEN, RECOVERY_START};
+use crate::area::{GATE, RECOVERY_START};
 use tdb_disk::Disk;
-use tdb_space::Io;
+use tdb_space::{Io, header_stands};
 use tdb_words::{GATE_OPEN, GATE_SHUT, Header, word_at, word_bytes};
 
 /// Writes the gate word of the undo area by itself, and syncs. Where the word at 44 leads to no place where an area can stand, nothing
@@ -32,11 +32,11 @@ fn set_gate<D: Disk>(d: &mut D, h: &Header, gate: u32) -> Result<(), Io>
     let len = d.len()?;
     let mut word = [0u8; 4];
     d.read(RECOVERY_START, &mut word)?;
-    let at = word_at(&word, h.order) as u64;
-    if at % 4 != 0 || len < at + HEADER_LEN {
+    let at = word_at(&word, h.order);
+    if !header_stands(at, len, h.hash_size) {
         return Ok(());
     }
-    d.write_word(at + GATE, word_bytes(gate, h.order))?;
+    d.write_word(at as u64 + GATE, word_bytes(gate, h.order))?;
     d.sync()?;
     Ok(())
 }

@@ -1,6 +1,7 @@
 // All that the undo area keeps is written back.
 
 ghost use Rattle.std.specs.Prelude.{◌≡◌, ◌+◌, ◌%◌, ◌^◌, ◌<◌, ◌≤◌, IsTrue, IfErr, OnOk, length};
+ghost use Rattle.tdb_disk.specs.Count.{HasCauseOf};
 ghost use Rattle.tdb_disk.specs.History.{seen};
 ghost use Rattle.tdb_disk.specs.Stop.{LeavesOnly, Quiet};
 ghost use Rattle.tdb_space.specs.Form.{form_in, SameHeader};
@@ -37,6 +38,7 @@ pub(crate) fn give_all<D: Disk>(
     ensures refusal { IfErr result (λ e. IsTrue D.tells → let a = seen (D.history d.old) in Undoable (form_in h.now) a
         → ReadFrom (form_in h.now) a area.now before.now after.now → IsIo e) }
     ensures size { D.size d.new ≡ D.size d.old }
+    ensures cause { HasCauseOf UndoRefusal.Io (D.faults d.old) (D.faults d.new) result }
     ensures syncs { D.syncs d.new ≡ D.syncs d.old }
 {
     write_entries(d, h.order, area)?;

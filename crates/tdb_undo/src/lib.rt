@@ -4,14 +4,18 @@
 mod area;
 mod emptying;
 mod front;
+mod gate;
 mod giving;
 mod pieces;
 mod recovering;
 mod refusal;
 mod testing;
+#[cfg(test)]
+mod tests;
 mod undoing;
 mod window;
 mod writing;
 
+pub use crate::gate::{open_gate, shut_gate};
 pub use crate::recovering::{needs_recovery, recover};
 pub use crate::refusal::UndoRefusal;

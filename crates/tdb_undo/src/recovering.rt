@@ -1,7 +1,7 @@
 // Recovery: what the undo area keeps is tested, written back, and the gate is shut.
 
 ghost use Rattle.std.specs.Prelude.{◌≡◌, ◌+◌, ◌*◌, ◌%◌, ◌^◌, ◌<◌, ◌≤◌, ◌⊎◌, IsTrue, IfOk, IfErr, OnOk, None, Some, length, if◌then◌else◌};
-ghost use Rattle.tdb_disk.specs.Count.{RoseBy, RoseUpTo};
+ghost use Rattle.tdb_disk.specs.Count.{HasCauseOf, RoseBy, RoseUpTo};
 ghost use Rattle.tdb_disk.specs.History.{seen};
 ghost use Rattle.tdb_disk.specs.Stop.{LeavesOnly, Quiet};
 ghost use Rattle.tdb_space.specs.Form.{form_in, form_of, SameHeader};
@@ -32,6 +32,7 @@ pub fn needs_recovery<D: Disk>(d: &mut D, h: &Header) -> Result<bool, UndoRefusa
     ensures bad { IfErr result (λ e. IsTrue D.tells → Names e (λ fault. place_fault (form_in h.now) (seen (D.history d.old)) ≡ Some fault)) }
     ensures still { D.history d.new ≡ D.history d.old }
     ensures size { D.size d.new ≡ D.size d.old }
+    ensures cause { HasCauseOf UndoRefusal.Io (D.faults d.old) (D.faults d.new) result }
     ensures syncs { D.syncs d.new ≡ D.syncs d.old }
 {
     match read_area(d, h)? {
@@ -64,6 +65,7 @@ fn write_back<D: Disk>(
         → ReadFrom (form_in h.now) a area.now before.now after.now → seen (D.history d.new) ≡ restored (form_in h.now) a) }
     ensures refusal { IfErr result (λ e. IsTrue D.tells → let a = seen (D.history d.old) in Undoable (form_in h.now) a → ReadFrom (form_in h.now) a area.now before.now after.now → IsIo e) }
     ensures quiet { OnOk result (IsTrue D.tells → Quiet (D.history d.new)) }
+    ensures cause { HasCauseOf UndoRefusal.Io (D.faults d.old) (D.faults d.new) result }
     ensures syncs { OnOk result (((area.now.at < area.now.header.key_len) × RoseBy 3 (D.syncs d.old) (D.syncs d.new)) ⊎ ((area.now.header.key_len ≤ area.now.at) × RoseBy 6 (D.syncs d.old) (D.syncs d.new))) }
 {
     give_all(d, h, area, before, after)?;
@@ -88,6 +90,7 @@ fn undo<D: Disk>(d: &mut D, h: &Header, area: &Area) -> Result<u64, UndoRefusal>
     ensures bad { IfErr result (λ e. IsTrue D.tells → let a = seen (D.history d.old) in IsAreaOf h.now.order a area.now
         → Names e (λ fault. (undo_fault (form_in h.now) a ≡ Some fault) × (D.history d.new ≡ D.history d.old))) }
     ensures quiet { OnOk result (IsTrue D.tells → Quiet (D.history d.new)) }
+    ensures cause { HasCauseOf UndoRefusal.Io (D.faults d.old) (D.faults d.new) result }
     ensures syncs { OnOk result (((area.now.at < area.now.header.key_len) × RoseBy 3 (D.syncs d.old) (D.syncs d.new)) ⊎ ((area.now.header.key_len ≤ area.now.at) × RoseBy 6 (D.syncs d.old) (D.syncs d.new))) }
 {
     let len = d.len()?;
@@ -119,6 +122,7 @@ pub fn recover<D: Disk>(d: &mut D, h: &Header) -> Result<u64, UndoRefusal>
     ensures sum { IfOk result (λ n. IsTrue D.tells → let a = seen (D.history d.old) in n ≡ (if is_open (form_in h.now) a then lengths (entries (form_in h.now) a) else 0)) }
     ensures bad { IfErr result (λ e. IsTrue D.tells → Names e (λ fault. (opening_fault (form_in h.now) (seen (D.history d.old)) ≡ Some fault) × (D.history d.new ≡ D.history d.old))) }
     ensures quiet { OnOk result (IsTrue D.tells → Quiet (D.history d.old) → Quiet (D.history d.new)) }
+    ensures cause { HasCauseOf UndoRefusal.Io (D.faults d.old) (D.faults d.new) result }
     ensures syncs { OnOk result (IsTrue D.tells → RoseBy (recovery_syncs (form_in h.now) (seen (D.history d.old))) (D.syncs d.old) (D.syncs d.new)) }
     ensures at_most { OnOk result (RoseUpTo 6 (D.syncs d.old) (D.syncs d.new)) }
 {

@@ -1,7 +1,7 @@
 // The test of what the undo area keeps, before anything of it is written.
 
 ghost use Rattle.std.specs.Prelude.{◌≡◌, ◌+◌, ◌<◌, ◌≤◌, ℕ, IsTrue, IfOk, IfErr, OnOk, None, Some, slice_index, take, drop};
-ghost use Rattle.tdb_disk.specs.Count.{HasCause};
+ghost use Rattle.tdb_disk.specs.Count.{HasCause, HasCauseOf};
 ghost use Rattle.tdb_disk.specs.History.{seen};
 ghost use Rattle.tdb_space.specs.Opening.{Entry, entry_fault, last_covering, given_back};
 ghost use Rattle.tdb_undo.specs.Refusal.{Names};
@@ -61,6 +61,7 @@ pub(crate) fn test_entries<D: Disk>(
         → Names e (λ fault. entry_fault (entries_stop area.now) area.now.header.key_len (entries_in order (seen (D.history d.old)) area.now) ≡ Some fault)) }
     ensures still { D.history d.new ≡ D.history d.old }
     ensures size { D.size d.new ≡ D.size d.old }
+    ensures cause { HasCauseOf UndoRefusal.Io (D.faults d.old) (D.faults d.new) result }
     ensures syncs { D.syncs d.new ≡ D.syncs d.old }
 {
     let start = area.at as u64 + HEADER_LEN;

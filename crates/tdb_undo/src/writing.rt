@@ -1,7 +1,7 @@
 // What the undo area keeps is written back, but for the first bytes of the file.
 
 ghost use Rattle.std.specs.Prelude.{◌≡◌, ◌+◌, ◌-◌, ◌^◌, ◌<◌, ◌≤◌, ◌⊎◌, ℕ, IsTrue, IfErr, OnOk, None, slice_index};
-ghost use Rattle.tdb_disk.specs.Count.{HasCause};
+ghost use Rattle.tdb_disk.specs.Count.{HasCause, HasCauseOf};
 ghost use Rattle.tdb_disk.specs.History.{seen};
 ghost use Rattle.tdb_disk.specs.Stop.{LeavesOnly};
 ghost use Rattle.tdb_space.specs.Opening.{entry_fault, lies_in};
@@ -93,6 +93,7 @@ pub(crate) fn write_entries<D: Disk>(
         → Given area.now (entries_in order (seen (D.history d.old)) area.now) (seen (D.history d.old)) (seen (D.history d.new))) }
     ensures refusal { IfErr result (λ e. IsTrue D.tells → entry_fault (entries_stop area.now) area.now.header.key_len (entries_in order (seen (D.history d.old)) area.now) ≡ None → IsIo e) }
     ensures size { D.size d.new ≡ D.size d.old }
+    ensures cause { HasCauseOf UndoRefusal.Io (D.faults d.old) (D.faults d.new) result }
     ensures syncs { D.syncs d.new ≡ D.syncs d.old }
 {
     let mut place = area.at as u64 + HEADER_LEN;

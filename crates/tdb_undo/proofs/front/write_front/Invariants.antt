@@ -12,6 +12,6 @@ invariant-loop-i g l = record {
   stops : IsTrue g.D.Disk.tells → LeavesOnly (g.D.Disk.history l.fn.d) (g.D.Disk.history l.d) (TornIn (differs l.before l.after) (g.D.Disk.history l.fn.d));
   put : IsTrue g.D.Disk.tells → Put (λ k. differs l.before l.after k && nat_lt k l.i) (slice_index l.after) (seen (g.D.Disk.history l.fn.d)) (seen (g.D.Disk.history l.d));
   size : g.D.Disk.size l.d ≡ g.D.Disk.size l.fn.d;
-  faults : g.D.Disk.faults l.fn.d ≤ g.D.Disk.faults l.d;
+  faults : g.D.Disk.faults l.d ≡ g.D.Disk.faults l.fn.d;
   syncs : g.D.Disk.syncs l.d ≡ g.D.Disk.syncs l.fn.d;
 }

@@ -12,7 +12,7 @@ invariant-loop-done g l = record {
   stops : IsTrue g.D.Disk.tells → LeavesOnly (g.D.Disk.history l.fn.d) (g.D.Disk.history l.d) (TornIn (lies_in l.from l.count) (g.D.Disk.history l.fn.d));
   put : IsTrue g.D.Disk.tells → Put (lies_in l.from l.done) (λ _. 0) (seen (g.D.Disk.history l.fn.d)) (seen (g.D.Disk.history l.d));
   size : g.D.Disk.size l.d ≡ g.D.Disk.size l.fn.d;
-  faults : g.D.Disk.faults l.fn.d ≤ g.D.Disk.faults l.d;
+  faults : g.D.Disk.faults l.d ≡ g.D.Disk.faults l.fn.d;
   syncs : g.D.Disk.syncs l.d ≡ g.D.Disk.syncs l.fn.d;
 }
 

@@ -17,11 +17,6 @@ returns-in_err-undo_below-clause-stops g c told quiet sized u mild words r =
     let first = c.give_all.ensures.stops told quiet sized u mild r in
     leaves_join (g.D.Disk.history c.args.d.now) (g.D.Disk.history c.give_all.new.d) (g.D.Disk.history c.undo_below.new.d) (Undoing (form_in c.args.h.now) (seen (g.D.Disk.history c.args.d.now))) (leaves_weaker (g.D.Disk.history c.args.d.now) (g.D.Disk.history c.give_all.new.d) (UndoneAlike (form_in c.args.h.now) (seen (g.D.Disk.history c.args.d.now))) (Undoing (form_in c.args.h.now) (seen (g.D.Disk.history c.args.d.now))) (λ image s. alike s) first) (c.undo_below.ensures.stops told (seen (g.D.Disk.history c.args.d.now)) u r.area words (λ image left. leaves_now (g.D.Disk.history c.args.d.now) (g.D.Disk.history c.give_all.new.d) (UndoneAlike (form_in c.args.h.now) (seen (g.D.Disk.history c.args.d.now))) first image left) (c.in_ok-give_all.ensures.written told u r))
 
-pub returns-then-clause-stops : goal.returns-then-clause-stops
-returns-then-clause-stops g c told quiet sized u mild words r =
-    let first = c.give_all.ensures.stops told quiet sized u mild r in
-    leaves_join (g.D.Disk.history c.args.d.now) (g.D.Disk.history c.give_all.new.d) (g.D.Disk.history c.undo_below.new.d) (Undoing (form_in c.args.h.now) (seen (g.D.Disk.history c.args.d.now))) (leaves_weaker (g.D.Disk.history c.args.d.now) (g.D.Disk.history c.give_all.new.d) (UndoneAlike (form_in c.args.h.now) (seen (g.D.Disk.history c.args.d.now))) (Undoing (form_in c.args.h.now) (seen (g.D.Disk.history c.args.d.now))) (λ image s. alike s) first) (c.undo_below.ensures.stops told (seen (g.D.Disk.history c.args.d.now)) u r.area words (λ image left. leaves_now (g.D.Disk.history c.args.d.now) (g.D.Disk.history c.give_all.new.d) (UndoneAlike (form_in c.args.h.now) (seen (g.D.Disk.history c.args.d.now))) first image left) (c.in_ok-give_all.ensures.written told u r))
-
 pub returns-in_err-undo_behind-clause-stops : goal.returns-in_err-undo_behind-clause-stops
 returns-in_err-undo_behind-clause-stops g c told quiet sized u mild words r =
     let first = c.give_all.ensures.stops told quiet sized u mild r in
@@ -32,10 +27,15 @@ returns-clause-stops g c told quiet sized u mild words r =
     let first = c.give_all.ensures.stops told quiet sized u mild r in
     leaves_join (g.D.Disk.history c.args.d.now) (g.D.Disk.history c.give_all.new.d) (g.D.Disk.history c.undo_behind.new.d) (Undoing (form_in c.args.h.now) (seen (g.D.Disk.history c.args.d.now))) (leaves_weaker (g.D.Disk.history c.args.d.now) (g.D.Disk.history c.give_all.new.d) (UndoneAlike (form_in c.args.h.now) (seen (g.D.Disk.history c.args.d.now))) (Undoing (form_in c.args.h.now) (seen (g.D.Disk.history c.args.d.now))) (λ image s. alike s) first) (c.undo_behind.ensures.stops told (seen (g.D.Disk.history c.args.d.now)) (g.met.D.Disk.told_size c.args.d.now told ∙ sym c.requires.length) sized u r.area words (λ image left. leaves_now (g.D.Disk.history c.args.d.now) (g.D.Disk.history c.give_all.new.d) (UndoneAlike (form_in c.args.h.now) (seen (g.D.Disk.history c.args.d.now))) first image left) (c.in_ok-give_all.ensures.written told u r))
 
-pub returns-then-clause-restored : goal.returns-then-clause-restored
-returns-then-clause-restored g c told sized u r =
-    c.in_ok-undo_below.ensures.restored told (seen (g.D.Disk.history c.args.d.now)) u r.area (c.in_ok-give_all.ensures.written told u r)
-
 pub returns-clause-restored : goal.returns-clause-restored
 returns-clause-restored g c told sized u r =
     c.in_ok-undo_behind.ensures.restored told (seen (g.D.Disk.history c.args.d.now)) (g.met.D.Disk.told_size c.args.d.now told ∙ sym c.requires.length) sized u r.area (c.in_ok-give_all.ensures.written told u r)
+
+pub returns-then-area-clause-stops : goal.returns-then-area-clause-stops
+returns-then-area-clause-stops g c told quiet sized u mild words r =
+    let first = c.give_all.ensures.stops told quiet sized u mild r in
+    leaves_join (g.D.Disk.history c.args.d.now) (g.D.Disk.history c.give_all.new.d) (g.D.Disk.history c.undo_below.new.d) (Undoing (form_in c.args.h.now) (seen (g.D.Disk.history c.args.d.now))) (leaves_weaker (g.D.Disk.history c.args.d.now) (g.D.Disk.history c.give_all.new.d) (UndoneAlike (form_in c.args.h.now) (seen (g.D.Disk.history c.args.d.now))) (Undoing (form_in c.args.h.now) (seen (g.D.Disk.history c.args.d.now))) (λ image s. alike s) first) (c.undo_below.ensures.stops told (seen (g.D.Disk.history c.args.d.now)) u r.area words (λ image left. leaves_now (g.D.Disk.history c.args.d.now) (g.D.Disk.history c.give_all.new.d) (UndoneAlike (form_in c.args.h.now) (seen (g.D.Disk.history c.args.d.now))) first image left) (c.in_ok-give_all.ensures.written told u r))
+
+pub returns-then-area-clause-restored : goal.returns-then-area-clause-restored
+returns-then-area-clause-restored g c told sized u r =
+    c.in_ok-undo_below.ensures.restored told (seen (g.D.Disk.history c.args.d.now)) u r.area (c.in_ok-give_all.ensures.written told u r)

@@ -16,7 +16,7 @@ invariant-loop-place g l = record {
   tested : IsTrue g.D.Disk.tells → Tested l.order (seen (g.D.Disk.history l.fn.d)) l.start l.end l.area.header.key_len l.place l.total l.fn.front l.front;
   still : g.D.Disk.history l.d ≡ g.D.Disk.history l.fn.d;
   size : g.D.Disk.size l.d ≡ g.D.Disk.size l.fn.d;
-  faults : g.D.Disk.faults l.fn.d ≤ g.D.Disk.faults l.d;
+  faults : g.D.Disk.faults l.d ≡ g.D.Disk.faults l.fn.d;
   syncs : g.D.Disk.syncs l.d ≡ g.D.Disk.syncs l.fn.d;
 }
 

@@ -21,7 +21,7 @@ invariant-loop-place g l = record {
   stops : IsTrue g.D.Disk.tells → entry_fault (entries_stop l.area) l.area.header.key_len (entries_in l.order (seen (g.D.Disk.history l.fn.d)) l.area) ≡ None
       → LeavesOnly (g.D.Disk.history l.fn.d) (g.D.Disk.history l.d) (TornIn (is_written l.area (entries_in l.order (seen (g.D.Disk.history l.fn.d)) l.area)) (g.D.Disk.history l.fn.d));
   size : g.D.Disk.size l.d ≡ g.D.Disk.size l.fn.d;
-  faults : g.D.Disk.faults l.fn.d ≤ g.D.Disk.faults l.d;
+  faults : g.D.Disk.faults l.d ≡ g.D.Disk.faults l.fn.d;
   syncs : g.D.Disk.syncs l.d ≡ g.D.Disk.syncs l.fn.d;
 }
 
