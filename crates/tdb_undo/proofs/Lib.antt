@@ -14,3 +14,6 @@ pub mod Empties
 pub mod Past
 pub mod Found
 pub mod Gates
+pub mod Places
+pub mod Clears
+pub mod Ensures

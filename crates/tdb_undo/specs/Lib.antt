@@ -6,3 +6,4 @@ pub mod Entries
 pub mod Front
 pub mod Gate
 pub mod Recovery
+pub mod Placing

@@ -7,6 +7,7 @@ mod front;
 mod gate;
 mod giving;
 mod pieces;
+mod placing;
 mod recovering;
 mod refusal;
 mod testing;
@@ -17,5 +18,6 @@ mod window;
 mod writing;
 
 pub use crate::gate::{open_gate, shut_gate};
+pub use crate::placing::ensure;
 pub use crate::recovering::{needs_recovery, recover};
 pub use crate::refusal::UndoRefusal;

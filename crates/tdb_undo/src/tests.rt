@@ -2,7 +2,7 @@
 
 ghost use Rattle.std.specs.Prelude.{◌≡◌};
 
-use crate::{UndoRefusal, needs_recovery, open_gate, recover, shut_gate};
+use crate::{UndoRefusal, ensure, needs_recovery, open_gate, recover, shut_gate};
 use std::alloc::{AllocError, Global};
 use std::test::Fail;
 use tdb_disk::{Call, Disk, FuseDisk, MemDisk, Pick};
@@ -302,5 +302,50 @@ fn sets_the_gate(rt: HostRuntime) -> Result<(), Fail> {
     let mut failing = MemDisk::new(alloc, &bytes)?;
     failing.fail(Call::Sync, 0)?;
     assert!(rt; !shut_and_open(&mut failing));
+    Ok(())
+}
+
+/// Replaces the undo area of a file of at least 48 bytes by one at its end with room for `capacity` bytes, a multiple of 4.
+fn replace_area<D: Disk>(d: &mut D, capacity: u32) -> bool {
+    match d.len() {
+        Ok(len)
+            if len >= 48
+                && len < 1 << 20
+                && len % 4 == 0
+                && capacity % 4 == 0
+                && capacity < 1 << 20 => { ensure(d, &HEADER, capacity, len).is_ok() }
+        _ => false,
+    }
+}
+
+// A first area, and one in its place, which leaves zeros where the first one stood.
+#[test]
+fn places_areas(rt: HostRuntime) -> Result<(), Fail> {
+    let alloc = rt.alloc();
+    let bytes = file(alloc, 4096)?;
+    let mut disk = MemDisk::new(alloc, &bytes)?;
+    assert!(rt; replace_area(&mut disk, 72));
+    let mut want = file(alloc, 4192)?;
+    put_word(&mut want, 44, 4096);
+    put_word(&mut want, 4100, 72);
+    assert!(rt; disk.as_slice() == want.as_slice());
+    assert_eq!(rt; disk.syncs(), 3);
+    assert!(rt; replace_area(&mut disk, 0));
+    let mut moved = file(alloc, 4216)?;
+    put_word(&mut moved, 44, 4192);
+    assert!(rt; disk.as_slice() == moved.as_slice());
+    assert_eq!(rt; disk.syncs(), 8);
+    for (call, count) in [
+        (Call::Sync, 3),
+        (Call::WriteWord, 2),
+        (Call::Grow, 1),
+        (Call::Read, 1),
+    ] {
+        for nth in 0..count {
+            let mut failing = MemDisk::new(alloc, &bytes)?;
+            failing.fail(call, nth)?;
+            assert!(rt; !replace_area(&mut failing, 72));
+        }
+    }
     Ok(())
 }
