@@ -1,6 +1,6 @@
 -- The walk along the chain of a key, turn by turn, and each way out of it.
 use Rattle.std.proofs.Common.{◌≡◌, ℕ, ◌+◌, ◌<◌, ◌≤◌, List, length, take, drop, Some, None, refl, sym, ◌∙◌, ap, subst, inl, inr, arith}
-use Rattle.std.specs.Prelude.{◌/◌}
+use Rattle.std.specs.Prelude.{◌/◌, ◌%◌}
 use Rattle.std.proofs.lemmas.Bool.{cases_eq}
 use Rattle.std.proofs.lemmas.List.{length-drop, length-take-le}
 use Rattle.tdb_words.specs.declared.record.Rec.{Rec}
@@ -19,6 +19,11 @@ use Rattle.tdb_space.proofs.Reached.{Reached, reached_start, reached_more, reach
 use Rattle.tdb_chain.specs.declared.place.Place.{Place}
 use Rattle.tdb_chain.specs.Place.{LiesWithin, HoldsKey}
 use Rattle.tdb_chain.specs.Wanted.{IsWanted}
+
+-- the first bytes of a record that were read are as many as were asked for
+pub front_shown : (window img now : List ℕ) (at held : ℕ) → held ≤ length window → now ≡ img → take held window ≡ take held (drop at img) → take held window ≡ take (length (take held window)) (drop at now)
+front_shown window img now at held within same shows =
+    shows ∙ ap (λ n. take n (drop at img)) (sym (length-take-le held window within)) ∙ ap (λ i. take (length (take held window)) (drop at i)) (sym same)
 
 -- so many records of the key's chain were passed, none of which has the key, and the word at `before` leads to the next one
 pub record Walked (f : Form) (img key : List ℕ) (passed before at : ℕ) : Type 0 where
@@ -46,15 +51,15 @@ module _ (f : Form) (img key : List ℕ) (passed before at : ℕ) (w : Walked f 
     | inr some ↦ absurd (never some (next some))
   ]
 
-  -- the word leads in front of the data, or to fewer bytes than a header
-  pub walked_out : (data_start f ≤ at → at + 24 ≤ length img → ⊥) → map_of f img key ≡ None
-  walked_out out = walked_end (λ some n. out n.link.0.above (omega (arith, n.link.0.within)))
+  -- the word leads to no whole word, in front of the data, or to fewer bytes than a header
+  pub walked_out : (at % 4 ≡ 0 → data_start f ≤ at → at + 24 ≤ length img → ⊥) → map_of f img key ≡ None
+  walked_out out = walked_end (λ some n. out n.link.0.aligned n.link.0.above (omega (arith, n.link.0.within)))
 
   -- the record there doesn't lie within the image
   pub walked_long : (r : Rec) → r ≡ rec_at f.order img at → (LiesWithin r at (length img) → ⊥) → map_of f img key ≡ None
   walked_long r read long =
       walked_end (λ some n. long (subst (λ q. LiesWithin q at (length img)) (sym read) (record {
-        extent = n.link.0.within;
+        content = record { aligned = n.link.0.len_aligned; least = n.link.0.len_least; within = n.link.0.within };
         fits = λ used. (n.filed used).fits;
       })))
 

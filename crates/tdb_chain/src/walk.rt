@@ -1,8 +1,9 @@
 // The walk along the chain of a key.
 
-ghost use Rattle.std.specs.Prelude.{◌≡◌, ◌+◌, ◌*◌, ◌^◌, ◌<◌, ◌≤◌, ◌↔◌, List, IsTrue, length, IfOk, IfSome, MatchBool};
+ghost use Rattle.std.specs.Prelude.{◌≡◌, ◌+◌, ◌*◌, ◌^◌, ◌<◌, ◌≤◌, List, IsTrue, length, take, drop, IfOk, IfSome, MatchBool};
 ghost use Rattle.tdb_disk.specs.Count.{HasCause, RoseUpTo};
 ghost use Rattle.tdb_words.specs.Hash.{h_of};
+ghost use Rattle.tdb_words.specs.Record.{rec_at};
 ghost use Rattle.tdb_space.specs.Frame.{Looked};
 ghost use Rattle.tdb_space.specs.Form.{data_start, chain_head};
 ghost use Rattle.tdb_space.specs.Extents.{HandPair};
@@ -11,30 +12,69 @@ ghost use Rattle.tdb_chain.specs.Place.{LiesWithin, StandsWithin, IsFound};
 ghost use Rattle.tdb_chain.specs.Wanted.{IsWanted};
 
 use crate::place::Place;
-use tdb_space::{Io, Space, chain_head, data_start, key_equals, read_rec, read_word};
+use tdb_space::{
+    Io, Space, chain_head, content_stands, header_stands, key_equals, read_word, rec_in,
+};
 use tdb_words::{Rec, USED, chain_of, hash_of};
 
-/// Whether the header of a record can stand at an offset of a file of this length and of so many chains: it is behind the heads,
-/// and ends within the length.
-fn can_stand(at: u32, len: u64, chains: u32) -> bool
-    ensures { IsTrue result ↔ ((chain_head chains ≤ at) × (at + 24 ≤ len)) }
-{
-    data_start(chains) <= at as u64 && at as u64 + 24 <= len
-}
+/// How many bytes are read of a record at once.
+const WINDOW: usize = 512;
 
-/// Whether the record at an offset ends within the length, and has room for what it holds where it is used.
+/// Whether a record can stand at an offset of a file of this length, where its header can, and has room for what it holds where it
+/// is used.
 fn lies_within(rec: &Rec, at: u32, len: u64) -> bool
     ensures { MatchBool result (LiesWithin rec.now at len) (LiesWithin rec.now at len → ⊥) }
 {
     let held = rec.key_len as u64 + rec.data_len as u64 + 4;
-    at as u64 + 24 + rec.rec_len as u64 <= len && (rec.magic != USED || held <= rec.rec_len as u64)
+    content_stands(rec.rec_len, at, len) && (rec.magic != USED || held <= rec.rec_len as u64)
 }
 
-/// Whether the record at an offset is a used one with this hash and this key. The key is read only where the header has its hash
-/// and its length.
-fn is_wanted<S: Space>(s: &mut S, rec: &Rec, at: u32, hash: u32, key: &[u8]) -> Result<bool, Io>
-    requires { LiesWithin rec.now at (S.size s.old) }
-    ensures wanted { IfOk result (λ wanted. IsTrue S.tells
+/// The first bytes of a record that were read: how many they are, and the header with which they begin.
+#[derive(Clone, Copy)]
+struct Front {
+    held: usize,
+    rec: Rec,
+}
+
+/// Reads the first bytes of the record at an offset: its header, and a key of so many bytes as far as it fits into the window and
+/// the file reaches.
+fn read_front<S: Space>(
+    s: &mut S,
+    len: u64,
+    at: u32,
+    key_len: usize,
+    window: &mut [u8; 512],
+) -> Result<Front, Io>
+    requires length { len ≡ S.size s.old }
+    requires within { at + 24 ≤ len }
+    requires short { key_len < 2 ^ 32 }
+    ensures held { IfOk result (λ front. (24 ≤ front.held) × (front.held ≤ 512)) }
+    ensures long { length window.new ≡ 512 }
+    ensures shows { IfOk result (λ front. IsTrue S.tells → take front.held window.new ≡ take front.held (drop at (S.image s.old))) }
+    ensures header { IfOk result (λ front. IsTrue S.tells → front.rec ≡ rec_at (S.form s.old).order (S.image s.old) at) }
+    ensures looked { Looked S.Space s.old s.new }
+    ensures cause { HasCause (S.faults s.old) (S.faults s.new) result }
+    ensures bytes_read { RoseUpTo (24 + key_len) (S.bytes_read s.old) (S.bytes_read s.new) }
+{
+    let held = (24 + key_len).min(WINDOW).min((len - at as u64) as usize);
+    let front = &mut window[..held];
+    s.read(at as u64, front)?;
+    let rec = rec_in(front, s.order());
+    Ok(Front { held, rec })
+}
+
+/// Whether the record at an offset, whose first bytes were read, is a used one with this hash and this key. The key is compared
+/// only where the header has its hash and its length, and read only where it isn't among those bytes.
+fn is_wanted<S: Space>(
+    s: &mut S,
+    rec: &Rec,
+    front: &[u8],
+    at: u32,
+    hash: u32,
+    key: &[u8],
+) -> Result<bool, Io>
+    requires lies { LiesWithin rec.now at (S.size s.old) }
+    ensures wanted { IfOk result (λ wanted. IsTrue S.tells → front.now ≡ take (length front.now) (drop at (S.image s.old))
         → MatchBool wanted (IsWanted rec.now hash (S.image s.old) at key.now) (IsWanted rec.now hash (S.image s.old) at key.now → ⊥)) }
     ensures used { IfOk result (λ wanted. IsTrue wanted → rec.now.magic ≡ USED) }
     ensures looked { Looked S.Space s.old s.new }
@@ -44,16 +84,22 @@ fn is_wanted<S: Space>(s: &mut S, rec: &Rec, at: u32, hash: u32, key: &[u8]) -> 
     if rec.magic != USED || rec.full_hash != hash || rec.key_len as usize != key.len() {
         return Ok(false);
     }
+    let end = 24 + key.len();
+    if end <= front.len() {
+        let there = &front[24..end];
+        return Ok(*there == *key);
+    }
     key_equals(s, at as u64 + 24, key)
 }
 
 /// The one used record with this key, if there is one, and the word that leads to it.
 ///
-/// It reads the head of the key's chain, and 24 bytes of each record up to that one; a key is read only where the record has its
-/// hash and its length. Where the file's bytes aren't those of an accepted file, these end the chain as a 0 does: a word that
-/// leads in front of the data or to fewer than 24 bytes of the file, a record that doesn't end within the file, and a used one
-/// without room for what it holds. A chain also ends after as many records as the file has words. So it answers a place that
-/// lies within the file, or none, or `Io` where the disk failed, whatever the bytes are.
+/// It reads the head of the key's chain, and each record up to that one in one read: the header, and the key as far as both are at
+/// most 512 bytes. A longer key is read in pieces, only where the record has its hash and its length. Where the file's bytes aren't
+/// those of an accepted file, these end the chain as a 0 does: a word that leads in front of the data, to no whole word, or to fewer
+/// than 24 bytes of the file, a record that isn't of whole words, has no room for its tailer or doesn't end within the file, and a
+/// used one without room for what it holds. A chain also ends after as many records as the file has words. So it answers a place
+/// that can be used in a file of this length, or none, or `Io` where the disk failed, whatever the bytes are.
 pub fn find<S: Space>(s: &mut S, key: &[u8]) -> Result<Option<Place>, Io>
     requires short { length key.now < 2 ^ 32 }
     requires chains { 0 < (S.form s.old).chains }
@@ -73,23 +119,24 @@ pub fn find<S: Space>(s: &mut S, key: &[u8]) -> Result<Option<Place>, Io>
         return Ok(None);
     }
     let mut at = read_word(s, before)?;
+    let mut window = [0u8; WINDOW];
     for _turn in 0..len / 4 {
-        if !can_stand(at, len, s.hash_size()) {
+        if !header_stands(at, len, s.hash_size()) {
             return Ok(None);
         }
-        let rec = read_rec(s, at as u64)?;
-        if !lies_within(&rec, at, len) {
+        let front = read_front(s, len, at, key.len(), &mut window)?;
+        if !lies_within(&front.rec, at, len) {
             return Ok(None);
         }
-        if is_wanted(s, &rec, at, hash, key)? {
+        if is_wanted(s, &front.rec, &window[..front.held], at, hash, key)? {
             return Ok(Some(Place {
                 off: at,
                 before: before as u32,
-                rec,
+                rec: front.rec,
             }));
         }
         before = at as u64;
-        at = rec.next;
+        at = front.rec.next;
     }
     Ok(None)
 }

@@ -40,6 +40,7 @@ pub use crate::planned::planned_law;
 pub use crate::reads::{key_equals, read_rec, read_word};
 pub use crate::runs::runs_law;
 pub use crate::scheme::scheme_law;
+pub use crate::reads::{key_equals, read_rec, read_word, rec_in};
 pub use crate::sequence_number::sequence_law;
 pub use crate::space::Space;
 pub use crate::standing::{content_stands, header_stands, read_listed};

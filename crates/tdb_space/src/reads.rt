@@ -8,7 +8,7 @@ ghost use Rattle.tdb_space.specs.Frame.{Looked};
 
 use crate::io::Io;
 use crate::space::Space;
-use tdb_words::{Rec, rec_of, word_at};
+use tdb_words::{Order, Rec, rec_of, word_at};
 
 /// The word at an offset. It reads 4 bytes.
 pub fn read_word<S: Space>(s: &mut S, off: u64) -> Result<u32, Io>
@@ -34,6 +34,16 @@ pub fn read_rec<S: Space>(s: &mut S, off: u64) -> Result<Rec, Io>
     let mut bytes = [0u8; 24];
     s.read(off, &mut bytes)?;
     Ok(rec_of(&bytes, s.order()))
+}
+
+/// The header with which the bytes of a record begin.
+pub fn rec_in(bytes: &[u8], order: Order) -> Rec
+    requires { 24 ≤ length bytes.now }
+    ensures { result ≡ rec_at order bytes.now 0 }
+{
+    let mut header = [0u8; 24];
+    header.copy_from_slice(&bytes[..24]);
+    rec_of(&header, order)
 }
 
 /// How many bytes are read at once.
