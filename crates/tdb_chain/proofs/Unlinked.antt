@@ -1,10 +1,12 @@
 -- The word that leads to the record of a place leads past it: the record is a hand, and the map loses its key, if it was used.
-use Rattle.std.proofs.Common.{◌≡◌, ℕ, ◌+◌, ◌<◌, ◌≤◌, ◌⊎◌, List, [], ◌∷◌, length, None, sym, ◌∙◌, ap, subst, inl, inr, arith}
+use Rattle.std.proofs.Common.{◌≡◌, ℕ, ◌+◌, ◌<◌, ◌≤◌, ◌⊎◌, ◌^◌, List, [], ◌∷◌, length, None, sym, ◌∙◌, ap, subst, inl, inr, arith}
 use Rattle.std.specs.Prelude.{slice_index}
 use Rattle.std.proofs.lemmas.Bool.{cases_lt}
+use Rattle.tdb_disk.specs.Image.{overlay}
 use Rattle.tdb_words.specs.declared.record.Rec.{Rec}
 use Rattle.tdb_words.specs.declared.record.TheConstants.{USED}
 use Rattle.tdb_words.specs.Record.{rec_at}
+use Rattle.tdb_words.specs.Word.{bytes_of_word}
 use Rattle.tdb_space.specs.Form.{Form, chain_head}
 use Rattle.tdb_space.specs.Record.{key_at, rec_len_of, magic_of}
 use Rattle.tdb_space.specs.Chain.{chain_of, without}
@@ -14,6 +16,7 @@ use Rattle.tdb_space.specs.Accepted.{AcceptWith}
 use Rattle.tdb_space.specs.Exchange.{Exchanged, LedPast}
 use Rattle.tdb_space.proofs.Counts.{once_in}
 use Rattle.tdb_space.proofs.Members.{led_from, member_held}
+use Rattle.tdb_space.proofs.Overlaid.{led_past_written}
 use Rattle.tdb_space.proofs.Removes.{unlink_exchanged, unlink_map, purge_map, home_of_member}
 use Rattle.tdb_chain.specs.declared.place.Place.{Place}
 use Rattle.tdb_chain.specs.Place.{IsPlace}
@@ -30,6 +33,10 @@ place_len f img p at = ap (λ (r : Rec). r.rec_len) at.header
 
 pub place_hand : (f : Form) (img : List ℕ) (p : Place) → IsPlace f img p → (p.off, rec_len_of f.order img p.off) ≡ hand_at p
 place_hand f img p at = λ i. (p.off, sym (place_len f img p at) i)
+
+-- the record's next word was written over the word that led to it
+pub led_past_place : (f : Form) (a b : List ℕ) (p : Place) → IsPlace f a p → p.rec.next < 2 ^ 32 → p.before + 4 ≤ length a → b ≡ overlay a p.before (bytes_of_word f.order p.rec.next) → LedPast f a b p.before p.off
+led_past_place f a b p at fits within put = led_past_written f a b p.before p.off p.rec.next fits (ap (λ (r : Rec). r.next) at.header) within put
 
 module _ (f : Form) (a b : List ℕ) (hands : List HandPair) (p : Place) (A : AcceptWith f a hands) (at : IsPlace f a p) (L : LedPast f a b p.before p.off) where
   -- beside the chain's head and its records nothing was written

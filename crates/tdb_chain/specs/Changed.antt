@@ -1,6 +1,9 @@
 -- What a call that changes a chain makes of the image, of its map and of the records that are in no list.
 use Rattle.std.specs.Prelude.{◌≡◌, ℕ, ◌+◌, ◌<◌, ◌≤◌, ◌⊎◌, List, [], ◌∷◌, length, slice_index, Option, None, Some}
 use Rattle.std.specs.Map.{update}
+use Rattle.tdb_disk.specs.Image.{overlay}
+use Rattle.tdb_words.specs.declared.word.Order.{Order}
+use Rattle.tdb_words.specs.Word.{bytes_of_word}
 use Rattle.tdb_space.specs.Form.{Form, chain_head}
 use Rattle.tdb_space.specs.Chain.{chain_of, without}
 use Rattle.tdb_space.specs.Pairs.{map_of, home, same_key}
@@ -33,6 +36,10 @@ pub record KeySet (f : Form) (a b key : List ℕ) (value : Option (List ℕ)) (o
 pub record Purged (f : Form) (a b : List ℕ) (chain : ℕ) (offs : List ℕ) (before after : List HandPair) : Type 0 where
   pub changed : ChainChanged f a b chain offs [] before after
   pub map : (key : List ℕ) → map_of f b key ≡ map_of f a key
+
+-- the word at an offset is as it was, or this one, as a whole; nothing else changed
+abbrev pub OldOrWord : Order → List ℕ → ℕ → ℕ → List ℕ → Type 0
+OldOrWord o img at w now = (now ≡ img) ⊎ (now ≡ overlay img at (bytes_of_word o w))
 
 -- the hands with one more, if there is one
 abbrev pub with_hand : Option HandPair → List HandPair → List HandPair

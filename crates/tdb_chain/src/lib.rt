@@ -2,13 +2,17 @@
 #![tactic(auto)]
 
 mod content;
+mod in_place;
 mod place;
 mod refusal;
+mod removal;
 #[cfg(test)]
 mod tests;
 mod walk;
 
 pub use crate::content::value;
+pub use crate::in_place::{mark_dead, update_in_place};
 pub use crate::place::Place;
 pub use crate::refusal::ValueRefusal;
+pub use crate::removal::{purge, unlink};
 pub use crate::walk::find;
