@@ -34,7 +34,8 @@ pub fn mark_dead<S: Space>(s: &mut S, p: &Place) -> Result<(), Io>
     ensures bytes_read { S.bytes_read s.old ≤ S.bytes_read s.new }
     ensures spare { LeavesRoom 1 4 (S.spare s.old) (S.spare s.new) }
 {
-    s.write_word(p.off as u64 + 20, word_bytes(DEAD, s.order()))
+    s.write_word(p.off as u64 + 20, word_bytes(DEAD, s.order()))?;
+    Ok(())
 }
 
 /// Gives the used record of a key another value, where it stands. The map has this value at the key then, and stays at all others.
@@ -59,5 +60,6 @@ pub fn update_in_place<S: Space>(s: &mut S, p: &Place, value: &[u8]) -> Result<(
 {
     let off = p.off as u64;
     s.write(off + 24 + p.rec.key_len as u64, value)?;
-    s.write_word(off + 12, word_bytes(value.len() as u32, s.order()))
+    s.write_word(off + 12, word_bytes(value.len() as u32, s.order()))?;
+    Ok(())
 }
