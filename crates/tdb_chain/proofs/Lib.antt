@@ -4,3 +4,4 @@ pub mod Changed
 pub mod Unlinked
 pub mod Touched
 pub mod Linked
+pub mod Raised

@@ -1,3 +1,4 @@
 pub mod Place
 pub mod Wanted
 pub mod Changed
+pub mod Raised

@@ -6,6 +6,7 @@ mod in_place;
 mod place;
 mod refusal;
 mod removal;
+mod sequence;
 #[cfg(test)]
 mod tests;
 mod walk;
@@ -15,4 +16,5 @@ pub use crate::in_place::{mark_dead, update_in_place};
 pub use crate::place::Place;
 pub use crate::refusal::ValueRefusal;
 pub use crate::removal::{purge, unlink};
+pub use crate::sequence::raise_seq;
 pub use crate::walk::find;
