@@ -5,3 +5,4 @@ pub mod Unlinked
 pub mod Touched
 pub mod Linked
 pub mod Raised
+pub mod Writing

@@ -4,6 +4,7 @@
 mod content;
 mod in_place;
 mod place;
+mod record_writing;
 mod refusal;
 mod removal;
 mod sequence;
