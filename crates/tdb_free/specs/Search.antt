@@ -1,5 +1,5 @@
 -- What a search of the free list finds.
-use Rattle.std.specs.Prelude.{◌≡◌, ℕ, ◌+◌, ◌≤◌, Bool, List, Option, None, Some}
+use Rattle.std.specs.Prelude.{◌≡◌, ℕ, ◌+◌, ◌%◌, ◌≤◌, Bool, List, Option, None, Some}
 use Rattle.std.specs.List.{find}
 use Rattle.tdb_space.specs.Form.{Form, free_head}
 use Rattle.tdb_space.specs.Record.{next_of, rec_len_of}
@@ -31,7 +31,8 @@ abbrev pub IsSpot : Form → List ℕ → List ℕ → (HandPair → Bool) → O
 IsSpot f img offs test None = find test (free_pairs f img offs) ≡ None
 IsSpot f img offs test (Some p) = IsFirst f img offs test p
 
--- the record can stand where it was found, and the word that leads to it ends within the length
+-- the record can stand where it was found, and the word that leads to it is aligned and ends within the length
 pub record SpotWithin (p : Spot) (f : Form) (len : ℕ) : Type 0 where
+  pub aligned : p.before % 4 ≡ 0
   pub led : p.before + 4 ≤ len
   pub stands : Stands f len p.off p.rec_len

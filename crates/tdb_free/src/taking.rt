@@ -26,6 +26,7 @@ const LEAST_LEFT: u32 = 36;
 /// Takes a record out of the list, whole: the word that led to it leads past it.
 fn take_whole<S: Space>(s: &mut S, spot: &Spot) -> Result<Hand, Io>
     requires stands { Stands (S.form s.old) (S.size s.old) spot.now.off spot.now.rec_len }
+    requires led_aligned { spot.now.before % 4 ≡ 0 }
     requires led { spot.now.before + 4 ≤ S.size s.old }
     requires room { RoomFor (S.spare s.old) 4 }
     ensures hand { IfOk result (λ h. h ≡ (spot.now.off, spot.now.rec_len)) }
@@ -96,6 +97,7 @@ fn take_end<S: Space>(s: &mut S, spot: &Spot, rec_len: u32) -> Result<Hand, Io>
 /// Takes the end of a record where at least 36 bytes of its extent are left then, and else the whole of it.
 fn take_from<S: Space>(s: &mut S, spot: &Spot, rec_len: u32) -> Result<Hand, Io>
     requires stands { Stands (S.form s.old) (S.size s.old) spot.now.off spot.now.rec_len }
+    requires led_aligned { spot.now.before % 4 ≡ 0 }
     requires led { spot.now.before + 4 ≤ S.size s.old }
     requires short { spot.now.off + 24 + spot.now.rec_len < 2 ^ 32 }
     requires whole_words { rec_len % 4 ≡ 0 }

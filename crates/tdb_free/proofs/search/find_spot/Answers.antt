@@ -11,6 +11,7 @@ use Rattle.tdb_free.proofs.search.find_spot.Goals as goal
 pub loop-turn-init : goal.loop-turn-init
 loop-turn-init g c = record {
   passed = λ told offs list. passed_start (g.S.Space.form c.args.s.now) (g.S.Space.image c.args.s.now) offs (is_wanted c.args.wanted) c.in_ok-at.at (c.in_ok-at.ensures.leads told offs list);
+  led_aligned = refl;
   led = inl refl;
   looked = search rules;
   faults = search rules;
@@ -58,6 +59,7 @@ loop-turn-preserved g c =
           subst (λ found. IfSome found (λ r. r ≡ rec_at (g.S.Space.form c.loop-turn.s).order (g.S.Space.image c.loop-turn.s) at)) c.in-Some.is (c.in_ok-rec.ensures.header told)
           ∙ (λ j. rec_at (v.looked.form j).order (v.looked.image j) at) in
           passed_more f img offs (is_wanted c.args.wanted) c.loop-turn._turn c.loop-turn.before at (v.passed told offs list) rec (omega (arith, stands.above, ap (λ x. x.chains) v.looked.form)) read (sym c.is_wanted.ensures ∙ c.if-is_wanted.false));
+      led_aligned = stands.aligned;
       led = inr (omega (arith, stands.within, v.looked.size));
       looked = search rules;
       faults = search rules;

@@ -1,5 +1,6 @@
 -- The walk came so far along the free list, and the view is as it was.
 use Rattle.std.proofs.Common.{◌≡◌, ℕ, ◌+◌, ◌≤◌, ◌⊎◌, List, IsTrue}
+use Rattle.std.specs.Prelude.{◌%◌}
 use Rattle.tdb_words.specs.Word.{word}
 use Rattle.tdb_space.specs.Frame.{Looked}
 use Rattle.tdb_space.specs.Form.{free_head}
@@ -13,6 +14,7 @@ invariant-loop-turn g l = record {
   passed : IsTrue g.S.Space.tells → (offs : List ℕ)
       → Free (g.S.Space.form l.fn.s) (g.S.Space.image l.fn.s) (word (g.S.Space.form l.fn.s).order (g.S.Space.image l.fn.s) free_head) offs
       → Passed (g.S.Space.form l.fn.s) (g.S.Space.image l.fn.s) offs (is_wanted l.wanted) l._turn l.before l.at;
+  led_aligned : l.before % 4 ≡ 0;
   led : (l.before ≡ free_head) ⊎ (l.before + 4 ≤ g.S.Space.size l.fn.s);
   looked : Looked g.S.Space l.fn.s l.s;
   faults : g.S.Space.faults l.s ≡ g.S.Space.faults l.fn.s;
