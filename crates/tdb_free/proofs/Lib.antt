@@ -5,8 +5,10 @@ pub mod TakenAs
 pub mod CutOrWhole
 pub mod Accepted
 pub mod Merged
+pub mod GiveSteps
 pub mod Passed
 pub mod PutFirst
 pub mod Removed
+pub mod OnceLeft
 pub mod Growth
 pub mod Traded

@@ -1,12 +1,7 @@
 -- A record is taken out of the free list by the word that leads to it.
-use Rattle.std.proofs.Common.{◌≡◌, ℕ, ◌+◌, ◌<◌, ◌≤◌, ◌^◌, ◌⊎◌, Bool, List, [], ◌∷◌, length, Some, None, add-zero, refl, sym, ◌∙◌, ap, subst, inl, inr, arith}
+use Rattle.std.proofs.Common.{◌≡◌, ℕ, ◌+◌, ◌≤◌, ◌⊎◌, Bool, List, [], ◌∷◌, Option, Some, None, refl, sym, ◌∙◌, ap, subst, inl, inr, arith}
 use Rattle.std.specs.List.{find}
-use Rattle.tdb_disk.specs.Image.{overlay}
-use Rattle.tdb_disk.proofs.Image.{length-overlay, overlay_below, overlay_above}
-use Rattle.tdb_words.specs.declared.word.Order.{Order}
-use Rattle.tdb_words.specs.declared.word.Order.TheVariants.{Little, Big}
-use Rattle.tdb_words.specs.Word.{word, bytes_of_word}
-use Rattle.tdb_words.proofs.Words.{word_made}
+use Rattle.tdb_words.specs.Word.{word}
 use Rattle.tdb_space.specs.Form.{Form, data_start, free_head}
 use Rattle.tdb_space.specs.Record.{IsFree}
 use Rattle.tdb_space.specs.Exchange.{FreeExchanged, LedPast}
@@ -17,15 +12,16 @@ use Rattle.tdb_space.specs.Extents.{HandPair, once, times}
 use Rattle.tdb_space.proofs.Counts.{where_is}
 use Rattle.tdb_space.proofs.Counts.Lies.{lies, below, above}
 use Rattle.tdb_space.proofs.Walks.{member_cases, member_first, member_other, linked_apart}
-use Rattle.tdb_space.proofs.Members.{bodies_without, led_member}
+use Rattle.tdb_space.proofs.Members.{led_member}
 use Rattle.tdb_space.proofs.Unlinks.{unlinked_bodies}
 use Rattle.tdb_space.proofs.Trades.{FreeIs, free_taken}
 use Rattle.tdb_space.specs.Stays.{OnlyIn}
 use Rattle.tdb_free.specs.FreeList.{ListedOnce, free_pairs, without_first, words_at}
-use Rattle.tdb_free.specs.Search.{IsFirst}
-use Rattle.tdb_free.specs.Removal.{TakenOut}
+use Rattle.tdb_free.specs.Search.{IsFirst, IsSpot}
+use Rattle.tdb_free.specs.Stretch.{found_pair, found_hands, found_offsets}
+use Rattle.tdb_free.specs.Removal.{LeftOut, rest_of}
 use Rattle.tdb_free.specs.declared.search.Spot.{Spot}
-use Rattle.tdb_free.proofs.PutFirst.{word_written}
+use Rattle.tdb_free.proofs.TakenAs.{lens_kept, pairs_without}
 
 -- the free list of an image, as the trades with it take it
 pub free_is_listed : (f : Form) (a offs : List ℕ) → ListedOnce f a offs → FreeIs f a offs
@@ -35,26 +31,6 @@ free_is_listed f a offs L = record { list = L.list; once_held = L.once_held }
 pub pairs_same : (f : Form) (a b xs : List ℕ) → Bodies a b f xs → free_pairs f b xs ≡ free_pairs f a xs
 pairs_same f a b [] bodies = refl
 pairs_same f a b (x ∷ xs) bodies = let len = (words_kept f a b x bodies.0).rec_len in let rest = pairs_same f a b xs bodies.1 in λ j. (x, len j) ∷ rest j
-
-pub four_bytes : (o : Order) (w : ℕ) → length (bytes_of_word o w) ≡ 4
-four_bytes Little w = refl
-four_bytes Big w = refl
-
--- a word is written that leads past a record
-led : (f : Form) (a b : List ℕ) (before y next : ℕ) → before + 4 ≤ length a → next < 2 ^ 32 → next ≡ word f.order a y → b ≡ overlay a before (bytes_of_word f.order next) → LedPast f a b before y
-led f a b before y next within fits same e =
-    let four = four_bytes f.order next in
-    subst (λ i. LedPast f a i before y) (sym e) (record {
-      size = length-overlay a before (bytes_of_word f.order next);
-      next =
-          ap (word f.order (overlay a before (bytes_of_word f.order next))) (sym (add-zero before))
-          ∙ word_written f.order a before (bytes_of_word f.order next) 0 (omega (arith, four, within)) (omega (arith, four)) ∙ word_made f.order next fits ∙ same;
-      others = λ i apart.
-          elim apart [
-            | inl less ↦ overlay_below a before (bytes_of_word f.order next) i less
-            | inr over ↦ overlay_above a before (bytes_of_word f.order next) i (omega (arith, over, four))
-          ];
-    })
 
 -- a word of a list holds its bytes
 word_held : (z : ℕ) (xs : List ℕ) (i : ℕ) → Member z xs → once (z, 4) i ≤ times (words_at xs) i
@@ -100,16 +76,24 @@ only_link f a b offs before y L leads past i none =
     ] in
     past.others i (elim (where_is (before, 4) i) [ lies _ _ one ↦ absurd (omega (arith, one, outside)) | below under _ ↦ inl under | above over _ ↦ inr over ])
 
+-- From image a to image b the first record that passes a test left the free list, which had the records at these offsets, and is a
+-- hand; a word that leads to a record of the list is all that changed. Where none passes, nothing was found and the list is as it
+-- was.
+pub record TakenOut (f : Form) (a b offs : List ℕ) (test : HandPair → Bool) (found : Option Spot) : Type 0 where
+  pub first : find test (free_pairs f a offs) ≡ found_pair found
+  pub pairs : free_pairs f b (rest_of found offs) ≡ without_first test (free_pairs f a offs)
+  pub exchanged : FreeExchanged f a b offs (rest_of found offs) [] (found_hands found)
+  pub words : (i : ℕ) → times (words_at offs) i ≡ times (words_at (rest_of found offs)) i + times (words_at (found_offsets found)) i
+  pub others : OnlyIn (words_at (free_head ∷ rest_of found offs)) a b
+
 -- the record that was found is taken out by that word
-pub removed : (f : Form) (a b offs : List ℕ) (test : HandPair → Bool) (s : Spot) → ListedOnce f a offs → IsFirst f a offs test s → s.before + 4 ≤ length a → s.next < 2 ^ 32 → b ≡ overlay a s.before (bytes_of_word f.order s.next) → TakenOut f a b offs test (Some (record { off = s.off; rec_len = s.rec_len }))
-removed f a b offs test s L F within fits e =
-    let past = led f a b s.before s.off s.next within fits F.next e in
+removed : (f : Form) (a b offs : List ℕ) (test : HandPair → Bool) (s : Spot) → ListedOnce f a offs → IsFirst f a offs test s → LedPast f a b s.before s.off → TakenOut f a b offs test (Some s)
+removed f a b offs test s L F past =
     let low_head : free_head + 4 ≤ data_start f = omega arith in
     let bodies = unlinked_bodies f IsFree a b free_head offs s.before s.off L.list low_head L.once_held F.leads past in
     record {
       first = F.first;
-      news = without s.off offs;
-      pairs = pairs_same f a b (without s.off offs) (bodies_without a b f offs s.off bodies) ∙ sym F.rest;
+      pairs = pairs_without f a b test (λ _. []) (s.off, s.rec_len) offs F.first L.once_held refl (lens_kept f a b offs bodies);
       exchanged = subst (λ n. FreeExchanged f a b offs (without s.off offs) [] ((s.off, n) ∷ [])) (sym F.rec_len) (free_taken f a b offs s.before s.off (free_is_listed f a offs L) F.leads past);
       words = λ i. omega (arith, words_without offs s.off i (led_member free_head offs s.before s.off F.leads));
       others = only_link f a b offs s.before s.off L F.leads past;
@@ -120,12 +104,16 @@ without_none : (test : HandPair → Bool) (ps : List HandPair) → find test ps 
 without_none test [] e = refl
 without_none test (p ∷ ps) e = grind (arith, without_none test ps)
 
-pub nothing_removed : (f : Form) (a b offs : List ℕ) (test : HandPair → Bool) → ListedOnce f a offs → find test (free_pairs f a offs) ≡ None → b ≡ a → TakenOut f a b offs test None
+nothing_removed : (f : Form) (a b offs : List ℕ) (test : HandPair → Bool) → ListedOnce f a offs → find test (free_pairs f a offs) ≡ None → b ≡ a → TakenOut f a b offs test None
 nothing_removed f a b offs test L none e = subst (λ i. TakenOut f a i offs test None) (sym e) (record {
   first = none;
-  news = offs;
   pairs = sym (without_none test (free_pairs f a offs) none);
   exchanged = record { size = refl; low = λ i under apart. refl; high = λ i from free. refl; linked = L.list; held = tt; count = λ i. refl };
   words = λ i. omega arith;
   others = λ i none. refl;
 })
+
+-- so what was found and left its list is taken out
+pub taken_out : (f : Form) (a b offs : List ℕ) (test : HandPair → Bool) (found : Option Spot) → ListedOnce f a offs → IsSpot f a offs test found → LeftOut f a b found → TakenOut f a b offs test found
+taken_out f a b offs test None L none e = nothing_removed f a b offs test L none e
+taken_out f a b offs test (Some s) L F past = removed f a b offs test s L F (past F.next)

@@ -20,8 +20,13 @@ instead_here test g p ps e = rw e refl
 instead_later : (test : HandPair → Bool) (g : HandPair → List HandPair) (p : HandPair) (ps : List HandPair) → test p ≡ false → instead test g (p ∷ ps) ≡ p ∷ instead test g ps
 instead_later test g p ps e = rw e refl
 
-without_here : (y x : ℕ) (xs : List ℕ) → x ≡ y → without y (x ∷ xs) ≡ xs
+pub without_here : (y x : ℕ) (xs : List ℕ) → x ≡ y → without y (x ∷ xs) ≡ xs
 without_here y x xs e = rw (eq-eqb x y e) refl
+
+-- what is found passes the test
+pub found_passes : (test : HandPair → Bool) (ps : List HandPair) (p : HandPair) → find test ps ≡ Some p → test p ≡ true
+found_passes test [] p e = grind (arith)
+found_passes test (q ∷ ps) p e = grind (arith, found_passes test ps p)
 
 some_is : (p q : HandPair) → Some p ≡ Some q → p ≡ q
 some_is p q e = ap (λ o. first o) e

@@ -14,9 +14,9 @@ ghost use Rattle.tdb_free.specs.declared.refusal.FreeRefusal.{FreeRefusal};
 ghost use Rattle.tdb_free.specs.declared.refusal.FreeRefusal.TheVariants.{Io};
 
 use crate::link_word::write_link;
+use crate::neighbours::find_neighbours;
 use crate::refusal::FreeRefusal;
 use crate::removal::take_out;
-use crate::search::Wanted;
 use crate::stretch::Stretch;
 use tdb_space::{FREE_HEAD, Hand, Io as SpaceIo, Space, data_start, read_word};
 use tdb_words::{FREE, Rec, rec_bytes, word_bytes};
@@ -68,16 +68,17 @@ fn give_stretch<S: Space>(s: &mut S, len: u64, free: Stretch) -> Result<(), Spac
     ensures bytes_read { S.bytes_read s.old ≤ S.bytes_read s.new }
     ensures spare { LeavesRoom 5 40 (S.spare s.old) (S.spare s.new) }
 {
-    let next = take_out(s, len, Wanted::StartsAt(free.end()))?;
-    let joined = free.with_next(next);
-    let previous = take_out(s, len, Wanted::EndsAt(free.off as u64))?;
-    put_first(s, &joined.with_previous(previous))
+    let beside = find_neighbours(s, len, &free)?;
+    take_out(s, beside.next)?;
+    let previous = beside.previous_then();
+    take_out(s, previous)?;
+    put_first(s, &free.with_next(beside.next).with_previous(previous))
 }
 
 /// Gives a hand to the free list. The free record that starts where the hand ends and the one that ends where it starts become
 /// one record with it, which is the first of the list.
 ///
-/// It goes along the list twice, reads 24 bytes of each record, and writes four words at most besides the new record's header:
+/// It goes along the list once, reads 24 bytes of each record, and writes four words at most besides the new record's header:
 /// its tailer, the head of the list, and the words that led to the two neighbours. It answers `Io` where the disk failed. Where
 /// the file doesn't hold the hand, or is longer than the words of a file can say, nothing is written.
 pub fn give<S: Space>(s: &mut S, h: Hand) -> Result<(), FreeRefusal>

@@ -9,6 +9,7 @@ mod growing_tests;
 mod link_word;
 mod list_refusal;
 mod listing;
+mod neighbours;
 mod record;
 mod refusal;
 mod removal;

@@ -1,41 +1,16 @@
-// The search for a free record.
+// The search for a free record that is long enough.
 
-ghost use Rattle.std.specs.Prelude.{◌≡◌, ◌≤◌, IsTrue, IfOk, IfSome, List, ℕ};
+ghost use Rattle.std.specs.Prelude.{◌≡◌, ◌+◌, ◌≤◌, IsTrue, IfOk, IfSome, List, ℕ};
 ghost use Rattle.tdb_disk.specs.Count.{HasCause};
 ghost use Rattle.tdb_words.specs.Word.{word};
 ghost use Rattle.tdb_space.specs.Frame.{Looked};
 ghost use Rattle.tdb_space.specs.Form.{free_head};
 ghost use Rattle.tdb_space.specs.Chain.{Free};
-ghost use Rattle.tdb_free.specs.Search.{is_wanted, IsSpot, SpotWithin};
+ghost use Rattle.tdb_free.specs.FreeList.{is_long_enough, end_of};
+ghost use Rattle.tdb_free.specs.Search.{IsSpot, SpotWithin, first_of, once_left, spot_pair};
 
 use crate::record::first_free;
 use tdb_space::{FREE_HEAD, Io, Space, read_listed};
-
-/// Which free record is wanted. Places are in bytes from the start of the file.
-#[derive(Clone, Copy, Debug, PartialEq, Eq)]
-pub(crate) enum Wanted {
-    /// One that starts at a place.
-    StartsAt(u64),
-
-    /// One whose last byte is the one before a place.
-    EndsAt(u64),
-
-    /// One with at least so many bytes behind its header.
-    LongEnough(u64),
-}
-
-impl Wanted {
-    /// Whether the record at an offset, with so many bytes behind its header, is one that is wanted.
-    fn is_wanted(&self, off: u32, rec_len: u32) -> bool
-        ensures { result ≡ is_wanted self.now (off, rec_len) }
-    {
-        match *self {
-            Wanted::StartsAt(at) => off as u64 == at,
-            Wanted::EndsAt(at) => off as u64 + 24 + rec_len as u64 == at,
-            Wanted::LongEnough(least) => least <= rec_len as u64,
-        }
-    }
-}
 
 /// A free record, and the word that leads to it.
 #[derive(Clone, Copy, Debug, PartialEq, Eq)]
@@ -53,18 +28,59 @@ pub(crate) struct Spot {
     pub rec_len: u32,
 }
 
-/// The first record of the free list that is wanted, if there is one. `len` is the length of the file.
+impl Spot {
+    /// The place behind the record's last byte.
+    pub(crate) fn end(&self) -> u64
+        ensures { result ≡ end_of (spot_pair self.now) }
+    {
+        self.off as u64 + 24 + self.rec_len as u64
+    }
+
+    /// The record as it stands in the list once another one has left it.
+    pub(crate) fn once_left(self, other: &Spot) -> Spot
+        ensures { result ≡ once_left self other.now }
+    {
+        Spot {
+            off: self.off,
+            before: if self.before == other.off {
+                other.before
+            } else {
+                self.before
+            },
+            next: if other.before == self.off {
+                other.next
+            } else {
+                self.next
+            },
+            rec_len: self.rec_len,
+        }
+    }
+}
+
+/// What was found before, or else this record, if it is wanted.
+pub(crate) fn first_of(found: Option<Spot>, wanted: bool, spot: Spot) -> Option<Spot>
+    ensures { result ≡ first_of found wanted spot }
+{
+    match found {
+        Some(first) => Some(first),
+        None if wanted => Some(spot),
+        None => None,
+    }
+}
+
+/// The first record of the free list with at least so many bytes behind its header, if there is one. `len` is the length of the
+/// file.
 ///
 /// It reads the head of the list, and 24 bytes of each record up to that one. Where the file's bytes aren't those of a free list,
 /// a word that leads to no place where a record can stand ends the list as a 0 does, and so do as many records as the file has
 /// words.
-pub(crate) fn find_spot<S: Space>(s: &mut S, len: u64, wanted: Wanted) -> Result<Option<Spot>, Io>
+pub(crate) fn find_fit<S: Space>(s: &mut S, len: u64, rec_len: u64) -> Result<Option<Spot>, Io>
     requires length { len ≡ S.size s.old }
     ensures found { IfOk result (λ found. IsTrue S.tells → (offs : List ℕ)
         → Free (S.form s.old) (S.image s.old) (word (S.form s.old).order (S.image s.old) free_head) offs
-        → IsSpot (S.form s.old) (S.image s.old) offs (is_wanted wanted) found) }
+        → IsSpot (S.form s.old) (S.image s.old) offs (is_long_enough rec_len) found) }
     ensures within { IfOk result (λ found. IfSome found (λ p. SpotWithin p (S.form s.old) (S.size s.old))) }
-    ensures met { IfOk result (λ found. IfSome found (λ p. IsTrue (is_wanted wanted (p.off, p.rec_len)))) }
+    ensures long { IfOk result (λ found. IfSome found (λ p. rec_len ≤ p.rec_len)) }
     ensures looked { Looked S.Space s.old s.new }
     ensures cause { HasCause (S.faults s.old) (S.faults s.new) result }
     ensures bytes_read { S.bytes_read s.old ≤ S.bytes_read s.new }
@@ -75,7 +91,7 @@ pub(crate) fn find_spot<S: Space>(s: &mut S, len: u64, wanted: Wanted) -> Result
         let Some(rec) = read_listed(s, len, at)? else {
             return Ok(None);
         };
-        if wanted.is_wanted(at, rec.rec_len) {
+        if rec_len <= rec.rec_len as u64 {
             return Ok(Some(Spot {
                 off: at,
                 before,

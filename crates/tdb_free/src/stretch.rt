@@ -4,7 +4,9 @@ ghost use Rattle.std.specs.Prelude.{◌≡◌, ◌+◌, ◌^◌, ◌<◌, IfSome
 ghost use Rattle.tdb_free.specs.FreeList.{end_of, with_next, with_previous};
 ghost use Rattle.tdb_free.specs.Stretch.{pair, found_pair};
 
-/// A stretch of the file that is to be one free record, or was one.
+use crate::search::Spot;
+
+/// A stretch of the file that is to be one free record.
 #[derive(Clone, Copy, Debug, PartialEq, Eq)]
 pub(crate) struct Stretch {
     /// Its offset.
@@ -23,7 +25,7 @@ impl Stretch {
     }
 
     /// It and what starts where it ends, as one.
-    pub(crate) fn with_next(self, next: Option<Stretch>) -> Stretch
+    pub(crate) fn with_next(self, next: Option<Spot>) -> Stretch
         requires short { IfSome next (λ n. self.rec_len + (24 + n.rec_len) < 2 ^ 32) }
         ensures { pair result ≡ with_next (pair self) (found_pair next) }
     {
@@ -37,7 +39,7 @@ impl Stretch {
     }
 
     /// It and what ends where it starts, as one.
-    pub(crate) fn with_previous(self, previous: Option<Stretch>) -> Stretch
+    pub(crate) fn with_previous(self, previous: Option<Spot>) -> Stretch
         requires short { IfSome previous (λ p. p.rec_len + (24 + self.rec_len) < 2 ^ 32) }
         ensures { pair result ≡ with_previous (pair self) (found_pair previous) }
     {

@@ -16,7 +16,7 @@ ghost use Rattle.tdb_free.specs.TakenFrom.{TakenFrom, TakenKept, IsTaken};
 ghost use Rattle.tdb_free.specs.Shortened.{Shortened};
 
 use crate::link_word::write_link;
-use crate::search::{Spot, Wanted, find_spot};
+use crate::search::{Spot, find_fit};
 use tdb_space::{Hand, Io, Space};
 use tdb_words::{FREE, Rec, rec_bytes, word_bytes};
 
@@ -146,10 +146,10 @@ pub fn take_fit<S: Space>(s: &mut S, rec_len: u64) -> Result<Option<Hand>, Io>
     ensures spare { LeavesRoom 2 24 (S.spare s.old) (S.spare s.new) }
 {
     let len = s.len()?;
-    let Some(spot) = find_spot(s, len, Wanted::LongEnough(rec_len))? else {
+    let Some(spot) = find_fit(s, len, rec_len)? else {
         return Ok(None);
     };
-    if spot.off as u64 + 24 + spot.rec_len as u64 > u32::MAX as u64 {
+    if spot.end() > u32::MAX as u64 {
         return Ok(None);
     }
     Ok(Some(take_from(s, &spot, rec_len as u32)?))

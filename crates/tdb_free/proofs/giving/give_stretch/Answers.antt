@@ -1,12 +1,20 @@
 -- Both neighbours leave the list, and the hand that they make with the stretch becomes its first record.
-use Rattle.std.proofs.Common.{◌≡◌, sym, ◌∙◌, ap, subst}
-use Rattle.tdb_space.specs.Extents.{HandOk}
+use Rattle.std.proofs.Common.{◌≡◌, ℕ, List, Option, refl, ◌∙◌, subst}
 use Rattle.std.proofs.lemmas.Result.{on_ok_weaker}
-use Rattle.tdb_free.specs.FreeList.{ListedOnce, MadeFirst, starts_at, ends_at, with_next, with_previous}
+use Rattle.tdb_space.specs.Form.{Form}
+use Rattle.tdb_space.specs.Extents.{HandOk}
+use Rattle.tdb_free.specs.declared.search.Spot.{Spot}
+use Rattle.tdb_free.specs.FreeList.{MadeFirst, with_next, with_previous}
+use Rattle.tdb_free.specs.Search.{previous_then}
+use Rattle.tdb_free.specs.Removal.{LeftOut}
 use Rattle.tdb_free.specs.Stretch.{pair, found_pair}
-use Rattle.tdb_free.specs.Removal.{TakenOut}
-use Rattle.tdb_free.proofs.Merged.{given_next, given_both, given_made}
+use Rattle.tdb_free.proofs.GiveSteps.{given_last, given_steps}
+use Rattle.tdb_free.proofs.OnceLeft.{previous_within}
 use Rattle.tdb_free.proofs.giving.give_stretch.Goals as goal
+
+-- what left the list, over another view of the same image
+moved : (f k : Form) (a i b : List ℕ) (found found' : Option Spot) → k ≡ f → i ≡ a → found ≡ found' → LeftOut k i b found → LeftOut f a b found'
+moved f k a i b found found' form image same left = subst (λ o. LeftOut f a b o) same (subst (λ x. LeftOut f x b found) image (subst (λ q. LeftOut q i b found) form left))
 
 pub returns-clause-given : goal.returns-clause-given
 returns-clause-given g c =
@@ -16,16 +24,16 @@ returns-clause-given g c =
     let cut = g.S.Space.image c.take_out-2.new.s in
     let d = g.S.Space.image c.put_first.new.s in
     let h = pair c.args.free in
-    let next = c.in_ok-next.next in
-    let previous = c.in_ok-previous.previous in
+    let beside = c.in_ok-beside.beside in
+    let form = c.find_neighbours.ensures.looked.form in
+    let form_then = c.take_out.ensures.wrote.form ∙ form in
+    let form_last = c.take_out-2.ensures.wrote.form ∙ form_then in
     on_ok_weaker c.put_first.result (λ put told offs C.
-    (let T = subst (λ at. TakenOut f a b offs (starts_at at) next) c.end.ensures (c.in_ok-next.ensures.taken told offs C.listed) in
-    let form = c.take_out.ensures.wrote.form in
-    let U = subst (λ o. TakenOut o b cut T.news (ends_at c.args.free.off) previous) form
-    (c.in_ok-previous.ensures.taken told T.news (subst (λ o. ListedOnce o b T.news) (sym form) (given_next f a b offs h next C T).listed)) in
-    let joined : pair c.with_previous.result ≡ with_previous (with_next h (found_pair next)) (found_pair previous) =
-    c.with_previous.ensures ∙ ap (λ p. with_previous p (found_pair previous)) c.with_next-joined.ensures in
-    let in_place = subst (λ p. HandOk f cut p) (sym joined) (given_both f a b offs h next C T cut previous U).in_place in
-    let form_then = c.take_out-2.ensures.wrote.form ∙ form in
-    let P = subst (λ o. MadeFirst o cut d (pair c.with_previous.result)) form_then (put told (subst (λ o. HandOk o cut (pair c.with_previous.result)) (sym form_then) in_place)) in
-    given_made f a b offs h next C T cut previous U d (subst (MadeFirst f cut d) joined P))) c.put_first.ensures.put
+    (let B = c.in_ok-beside.ensures.found told offs C.listed.list in
+    let N = moved f (g.S.Space.form c.find_neighbours.new.s) a (g.S.Space.image c.find_neighbours.new.s) b beside.next beside.next form c.find_neighbours.ensures.looked.image refl (c.in_ok-take_out.ensures.left told) in
+    let P = moved f (g.S.Space.form c.take_out.new.s) b b cut c.previous_then-previous.result (previous_then beside.next beside.previous) form_then refl c.previous_then-previous.ensures (c.in_ok-take_out-2.ensures.left told) in
+    let last : pair c.with_previous.result ≡ with_previous (with_next h (found_pair beside.next)) (found_pair (previous_then beside.next beside.previous)) =
+    c.with_previous.ensures ∙ (λ j. with_previous (c.with_next.ensures j) (found_pair (c.previous_then-previous.ensures j))) in
+    let ok = (given_last f a offs h beside C B b N cut P).in_place in
+    let M = subst (λ q. HandOk q cut (pair c.with_previous.result) → MadeFirst q cut d (pair c.with_previous.result)) form_last (put told) in
+    given_steps f a offs h beside C B b N cut P d (subst (λ p. HandOk f cut p → MadeFirst f cut d p) last M ok))) c.put_first.ensures.put

@@ -9,7 +9,7 @@ use Rattle.tdb_words.proofs.Words.{word_made}
 use Rattle.tdb_space.specs.Form.{free_head}
 use Rattle.tdb_free.specs.FreeList.{MadeFirst}
 use Rattle.tdb_free.proofs.PutFirst.{made_first}
-use Rattle.tdb_free.proofs.Removed.{four_bytes}
+use Rattle.tdb_space.proofs.Overlaid.{word_length}
 use Rattle.tdb_free.proofs.giving.put_first.Goals as goal
 
 pub returns-clause-put : goal.returns-clause-put
@@ -31,5 +31,5 @@ returns-clause-put g c =
     let form = c.write-2.ensures.form ∙ c.write.ensures.form ∙ c.read_word.ensures.looked.form in
     let e3 = last told ∙ (λ j. overlay (e2 j) 168 (bytes_of_word (form j).order off)) in
     subst (λ b. MadeFirst f img b (off, n)) (sym e3)
-    (made_first f img off n c.rec_bytes.result c.word_bytes-tailer.result (bytes_of_word f.order off) hand c.requires.least header_length tailer_length (four_bytes f.order off)
+    (made_first f img off n c.rec_bytes.result c.word_bytes-tailer.result (bytes_of_word f.order off) hand c.requires.least header_length tailer_length (word_length f.order off)
     (record { next = c.in_ok-read_word.field-0; rec_len = n; key_len = 0; data_len = 0; full_hash = 0; magic = FREE }) read next refl refl refl refl refl tailer (word_made f.order off (omega (arith, c.requires.short)))))) c.write_link.ensures.image

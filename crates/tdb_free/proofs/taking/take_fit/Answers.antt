@@ -16,12 +16,12 @@ returns-clause-taken g c told offs listed short =
     let b = g.S.Space.image c.take_from.new.s in
     let n = c.args.rec_len in
     let hand = c.in_ok-take_from.field-0 in
-    let form = c.find_spot.ensures.looked.form ∙ c.len.ensures.form in
-    let image = c.find_spot.ensures.looked.image ∙ c.len.ensures.image in
+    let form = c.find_fit.ensures.looked.form ∙ c.len.ensures.form in
+    let image = c.find_fit.ensures.looked.image ∙ c.len.ensures.image in
     let Sought : Form → List ℕ → Type 0 = λ x i. Free x i (word x.order i free_head) offs → IsSpot x i offs (is_long_enough n) c.in_ok-spot.field-0 in
     let Taking : Form → List ℕ → Type 0 = λ x i. ListedOnce x i offs → IsFirst x i offs (is_long_enough n) c.in-Some.spot → TakenFrom x i b offs n hand in
     let sought = subst (λ x. Sought x img) c.len.ensures.form (subst (Sought (g.S.Space.form c.len.new.self)) c.len.ensures.image (c.in_ok-spot.ensures.found told offs)) in
-    let taking = subst (λ x. Taking x img) form (subst (Taking (g.S.Space.form c.find_spot.new.s)) image (c.in_ok-take_from.ensures.taken told offs)) in
+    let taking = subst (λ x. Taking x img) form (subst (Taking (g.S.Space.form c.find_fit.new.s)) image (c.in_ok-take_from.ensures.taken told offs)) in
     taking listed (subst (IsSpot f img offs (is_long_enough n)) c.in-Some.is (sought listed.list))
 
 pub returns-clause-kept : goal.returns-clause-kept
