@@ -1,6 +1,6 @@
 -- The first free record that is long enough is taken whole, or its end is.
-use Rattle.std.proofs.Common.{◌≡◌, ℕ, ◌+◌, ◌-◌, ◌<◌, ◌≤◌, true, false, List, [], ◌∷◌, Result, Ok, Err, Some, refl, sym, ◌∙◌, ap, subst, inl, inr, arith}
-use Rattle.std.specs.Prelude.{◌%◌, IfOk, OnOk}
+use Rattle.std.proofs.Common.{◌≡◌, ℕ, ◌+◌, ◌-◌, ◌<◌, ◌≤◌, true, false, List, [], ◌∷◌, Some, refl, sym, ◌∙◌, ap, subst, inl, inr, arith}
+use Rattle.std.specs.Prelude.{◌%◌}
 use Rattle.std.proofs.lemmas.Bool.{cases_lt, le-leb, lt-leb}
 use Rattle.tdb_words.specs.declared.record.Rec.{Rec}
 use Rattle.tdb_words.specs.Word.{word}
@@ -163,8 +163,3 @@ module _ (f : Form) (a b offs : List ℕ) (rec_len : ℕ) (p : Spot) (F : Listed
         empty = subst (AllHoldNothing f.order b) (sym front) (front_empty n S, tt);
         hand_kept = subst (λ h. Agree a b h.0 (h.0 + 24 + h.1)) (sym is) (λ i low high. S.others i (inr (omega (arith, low, long))) (inr (omega (arith, low, long))));
       }
-
--- what holds of the answer and what an answer brings hold together
-pub ok_both : {X E : Type 0} (r : Result X E) (P R : X → Type 0) (Q : Type 0) → IfOk r P → OnOk r Q → ((x : X) → P x → Q → R x) → IfOk r R
-ok_both (Ok x) P R Q p q both = both x p q
-ok_both (Err e) P R Q p q both = tt

@@ -1,3 +1,4 @@
+pub mod Results
 pub mod Rest
 pub mod PutDown
 pub mod Overlaid
@@ -6,6 +7,8 @@ pub mod CutOrWhole
 pub mod Accepted
 pub mod Merged
 pub mod GiveSteps
+pub mod Stopped
+pub mod Inside
 pub mod Passed
 pub mod PutFirst
 pub mod Removed

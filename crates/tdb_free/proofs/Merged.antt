@@ -37,7 +37,7 @@ both_held u v i meet =
     ap (λ l. once (u.0, l) i) total ∙ once_joined u.0 (24 + u.1) (24 + v.1) i ∙ ap (λ at. once (u.0, 24 + u.1) i + once (at, 24 + v.1) i) place
 
 -- a hand takes up the free record behind it
-next_joined : (f : Form) (a b offs : List ℕ) (h : HandPair) (found : Option Spot) → HandOk f a h → (T : TakenOut f a b offs (starts_at (end_of h)) found) → FreeExchanged f a b offs (rest_of found offs) (h ∷ []) (with_next h (found_pair found) ∷ [])
+pub next_joined : (f : Form) (a b offs : List ℕ) (h : HandPair) (found : Option Spot) → HandOk f a h → (T : TakenOut f a b offs (starts_at (end_of h)) found) → FreeExchanged f a b offs (rest_of found offs) (h ∷ []) (with_next h (found_pair found) ∷ [])
 next_joined f a b offs h None ok T = free_more f a b offs offs [] [] (h ∷ []) T.exchanged (ok, tt)
 next_joined f a b offs h (Some p) ok T =
     let meet : end_of h ≡ p.off = sym (eqb-true p.off (end_of h) (found_passes (starts_at (end_of h)) (free_pairs f a offs) (spot_pair p) T.first)) in
@@ -45,7 +45,7 @@ next_joined f a b offs h (Some p) ok T =
     (both_in_place f a h (spot_pair p) meet ok T.exchanged.held.0, tt) (λ i. omega (arith, both_held h (spot_pair p) i meet))
 
 -- and the one before it
-previous_joined : (f : Form) (a b offs : List ℕ) (at : ℕ) (h : HandPair) (found : Option Spot) → at ≡ h.0 → HandOk f a h → (T : TakenOut f a b offs (ends_at at) found) → FreeExchanged f a b offs (rest_of found offs) (h ∷ []) (with_previous h (found_pair found) ∷ [])
+pub previous_joined : (f : Form) (a b offs : List ℕ) (at : ℕ) (h : HandPair) (found : Option Spot) → at ≡ h.0 → HandOk f a h → (T : TakenOut f a b offs (ends_at at) found) → FreeExchanged f a b offs (rest_of found offs) (h ∷ []) (with_previous h (found_pair found) ∷ [])
 previous_joined f a b offs at h None starts ok T = free_more f a b offs offs [] [] (h ∷ []) T.exchanged (ok, tt)
 previous_joined f a b offs at h (Some p) starts ok T =
     let meet : end_of (spot_pair p) ≡ h.0 = eqb-true (end_of (spot_pair p)) at (found_passes (ends_at at) (free_pairs f a offs) (spot_pair p) T.first) ∙ starts in
@@ -66,7 +66,7 @@ previous_word : (h : HandPair) (found : Option Spot) (i : ℕ) → once ((with_p
 previous_word h None i none = refl
 previous_word h (Some p) i none = omega (arith, none, once_joined p.off 4 20 i)
 
-next_starts : (h : HandPair) (found : Option Spot) → h.0 ≡ (with_next h (found_pair found)).0
+pub next_starts : (h : HandPair) (found : Option Spot) → h.0 ≡ (with_next h (found_pair found)).0
 next_starts h None = refl
 next_starts h (Some p) = refl
 

@@ -5,3 +5,5 @@ pub mod Removal
 pub mod Search
 pub mod Stretch
 pub mod Growth
+pub mod OnlyList
+pub mod GiveStopped

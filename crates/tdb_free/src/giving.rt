@@ -1,14 +1,17 @@
 // Giving a hand to the free list.
 
-ghost use Rattle.std.specs.Prelude.{◌≡◌, ◌⊎◌, ◌∷◌, ◌+◌, ◌^◌, ◌<◌, ◌≤◌, IsTrue, IfErr, OnOk, List, ℕ, false};
+ghost use Rattle.std.specs.Prelude.{◌≡◌, ◌⊎◌, ◌∷◌, ◌+◌, ◌^◌, ◌<◌, ◌≤◌, IsTrue, IfErr, OnOk, OnErr, List, [], ℕ, false};
 ghost use Rattle.tdb_disk.specs.Count.{HasCause};
 ghost use Rattle.tdb_space.specs.Frame.{Wrote};
 ghost use Rattle.tdb_space.specs.Form.{data_start};
 ghost use Rattle.tdb_space.specs.Spare.{RoomForAll};
 ghost use Rattle.tdb_space.specs.Extents.{HandPair, HandOk};
 ghost use Rattle.tdb_space.specs.Accepted.{AcceptWith};
+ghost use Rattle.tdb_space.specs.Exchange.{InHands};
 ghost use Rattle.tdb_space.specs.SpareLeft.{LeavesRoom};
 ghost use Rattle.tdb_free.specs.FreeList.{CanBeGiven, Given, GivenBack, MadeFirst, end_of};
+ghost use Rattle.tdb_free.specs.GiveStopped.{GiveStopped, StillAccepted};
+ghost use Rattle.tdb_free.specs.OnlyList.{OnlyListChanges};
 ghost use Rattle.tdb_free.specs.Stretch.{pair};
 ghost use Rattle.tdb_free.specs.declared.refusal.FreeRefusal.{FreeRefusal};
 ghost use Rattle.tdb_free.specs.declared.refusal.FreeRefusal.TheVariants.{Io};
@@ -30,6 +33,8 @@ fn put_first<S: Space>(s: &mut S, free: &Stretch) -> Result<(), SpaceIo>
     requires room { RoomForAll (S.spare s.old) 3 32 }
     ensures put { OnOk result (IsTrue S.tells → HandOk (S.form s.old) (S.image s.old) (pair free.now)
         → MadeFirst (S.form s.old) (S.image s.old) (S.image s.new) (pair free.now)) }
+    ensures stopped { OnErr result (IsTrue S.tells → HandOk (S.form s.old) (S.image s.old) (pair free.now)
+        → InHands (S.form s.old) (S.image s.old) (S.image s.new) (pair free.now ∷ []) ⊎ MadeFirst (S.form s.old) (S.image s.old) (S.image s.new) (pair free.now)) }
     ensures size { S.size s.new ≡ S.size s.old }
     ensures wrote { Wrote S.Space s.old s.new }
     ensures cause { HasCause (S.faults s.old) (S.faults s.new) result }
@@ -62,6 +67,8 @@ fn give_stretch<S: Space>(s: &mut S, len: u64, free: Stretch) -> Result<(), Spac
     requires room { RoomForAll (S.spare s.old) 5 40 }
     ensures given { OnOk result (IsTrue S.tells → (offs : List ℕ) → CanBeGiven (S.form s.old) (S.image s.old) offs (pair free)
         → Given (S.form s.old) (S.image s.old) (S.image s.new) offs (pair free)) }
+    ensures stopped { OnErr result (IsTrue S.tells → (offs : List ℕ) → CanBeGiven (S.form s.old) (S.image s.old) offs (pair free)
+        → GiveStopped (S.form s.old) (S.image s.old) (S.image s.new) offs (pair free)) }
     ensures size { S.size s.new ≡ S.size s.old }
     ensures wrote { Wrote S.Space s.old s.new }
     ensures cause { HasCause (S.faults s.old) (S.faults s.new) result }
@@ -87,6 +94,12 @@ pub fn give<S: Space>(s: &mut S, h: Hand) -> Result<(), FreeRefusal>
         → Given (S.form s.old) (S.image s.old) (S.image s.new) offs h) }
     ensures kept { OnOk result (IsTrue S.tells → S.size s.old < 2 ^ 32 → (hands : List HandPair) → AcceptWith (S.form s.old) (S.image s.old) (h ∷ hands)
         → GivenBack (S.form s.old) (S.image s.old) (S.image s.new) h hands) }
+    ensures stopped { OnErr result (IsTrue S.tells → (offs : List ℕ) → CanBeGiven (S.form s.old) (S.image s.old) offs h
+        → GiveStopped (S.form s.old) (S.image s.old) (S.image s.new) offs h) }
+    ensures stopped_kept { OnErr result (IsTrue S.tells → S.size s.old < 2 ^ 32 → (hands : List HandPair) → AcceptWith (S.form s.old) (S.image s.old) (h ∷ hands)
+        → StillAccepted (S.form s.old) (S.image s.old) (S.image s.new) hands) }
+    ensures only { IsTrue S.tells → (offs : List ℕ) → CanBeGiven (S.form s.old) (S.image s.old) offs h
+        → OnlyListChanges (S.form s.old) (S.image s.old) (S.image s.new) offs (h ∷ []) }
     ensures left_out { (h.0 < data_start (S.form s.old)) ⊎ (S.size s.old < end_of h) ⊎ (2 ^ 32 ≤ S.size s.old) → S.image s.new ≡ S.image s.old }
     ensures refusal { IfErr result (λ e. e ≡ Io) }
     ensures size { S.size s.new ≡ S.size s.old }

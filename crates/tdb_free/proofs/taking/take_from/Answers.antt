@@ -6,7 +6,8 @@ use Rattle.tdb_free.specs.FreeList.{ListedOnce, is_long_enough}
 use Rattle.tdb_free.specs.Search.{IsFirst}
 use Rattle.tdb_free.specs.TakenFrom.{TakenFrom}
 use Rattle.tdb_free.specs.Shortened.{Shortened}
-use Rattle.tdb_free.proofs.CutOrWhole.{taken_whole, taken_cut, ok_both}
+use Rattle.tdb_free.proofs.CutOrWhole.{taken_whole, taken_cut}
+use Rattle.tdb_free.proofs.Results.{ok_both}
 use Rattle.tdb_free.proofs.taking.take_from.Goals as goal
 
 pub returns-then-spot-rec_len-lt-LEAST_LEFT-clause-taken : goal.returns-then-spot-rec_len-lt-LEAST_LEFT-clause-taken
