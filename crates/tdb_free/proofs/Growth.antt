@@ -63,7 +63,7 @@ module _ (f : Form) (a offs : List ℕ) (to : ℕ) (C : CanBeTaken f a offs) (wo
   still : Still a (padded a to) f offs
   still i held = padded_below a to i (times_within f IsFree a (word f.order a free_head) offs i C.listed.list held).1
 
-  same : extents f.order (padded a to) offs ≡ extents f.order a offs
+  pub same : extents f.order (padded a to) offs ≡ extents f.order a offs
   same = extents_kept f a (padded a to) offs (bodies_still f a (padded a to) offs still)
 
   head : word f.order (padded a to) free_head ≡ word f.order a free_head
@@ -134,7 +134,7 @@ module _ (f : Form) (a offs : List ℕ) (rec_len limit to : ℕ) (C : CanBeTaken
   given : CanBeGiven f (padded a to) offs (grown_hand (length a) to)
   given = gain_given f a offs to C grown.whole_words (omega (arith, grown.enough, least)) (omega (arith, grown.within, low))
 
-  grown_listed : ListedOnce f w (G.at ∷ G.stay)
+  pub grown_listed : ListedOnce f w (G.at ∷ G.stay)
   grown_listed = record { list = G.exchanged.linked; once_held = λ i. omega (arith, G.exchanged.count i, given.apart i) }
 
   grown_short : length w < 2 ^ 32
@@ -146,7 +146,7 @@ module _ (f : Form) (a offs : List ℕ) (rec_len limit to : ℕ) (C : CanBeTaken
       (subst (λ ps. first_fit ps rec_len ≡ None) G.pairs (none_fits (free_pairs f w (G.at ∷ G.stay)) rec_len none))
 
 -- where each part that a statement speaks of is another one by name, the give is that of the image
-given_moved : (f k : Form) (a v w offs : List ℕ) (len to : ℕ) → k ≡ f → v ≡ a → len ≡ length a → (CanBeTaken k v offs → Given k (padded v to) w offs (grown_hand len to)) → CanBeTaken f a offs → Given f (padded a to) w offs (grown_hand (length a) to)
+pub given_moved : (f k : Form) (a v w offs : List ℕ) (len to : ℕ) → k ≡ f → v ≡ a → len ≡ length a → (CanBeTaken k v offs → Given k (padded v to) w offs (grown_hand len to)) → CanBeTaken f a offs → Given f (padded a to) w offs (grown_hand (length a) to)
 given_moved f k a v w offs len to form image size G =
     subst (λ n. CanBeTaken f a offs → Given f (padded a to) w offs (grown_hand n to)) size
     (subst (λ x. CanBeTaken f x offs → Given f (padded x to) w offs (grown_hand len to)) image

@@ -1,5 +1,5 @@
 -- Writes within the bytes of a hand.
-use Rattle.std.proofs.Common.{◌≡◌, ℕ, ◌+◌, List, [], ◌∷◌, length, ◌∙◌, ap, arith}
+use Rattle.std.proofs.Common.{◌≡◌, ℕ, ◌+◌, ◌≤◌, List, [], ◌∷◌, length, ◌∙◌, ap, inl, inr, arith}
 use Rattle.tdb_disk.specs.Image.{overlay}
 use Rattle.tdb_disk.specs.Stop.{Torn}
 use Rattle.tdb_disk.proofs.Image.{length-overlay}
@@ -7,18 +7,20 @@ use Rattle.tdb_space.specs.Form.{Form}
 use Rattle.tdb_space.specs.Extents.{Extent, once, times, hand_extents}
 use Rattle.tdb_space.specs.Exchange.{InHands}
 use Rattle.tdb_space.specs.Stays.{OnlyIn}
-use Rattle.tdb_space.proofs.Counts.{once_joined}
-use Rattle.tdb_space.proofs.Overlaid.{only_then, torn_only, put_only, only_same}
+use Rattle.tdb_space.proofs.Counts.{once_out}
+use Rattle.tdb_space.proofs.Overlaid.{outside, only_then, torn_only, put_only, only_same}
+
+-- a byte that an extent doesn't hold is held by no part of it
+pub among : (at m from n i : ℕ) → at ≤ from → from + n ≤ at + m → once (at, m) i ≡ 0 → once (from, n) i ≡ 0
+among at m from n i above below none =
+    once_out (from, n) i (elim (outside (at, m) i none) [ inl under ↦ inl (omega (arith, under, above)) | inr over ↦ inr (omega (arith, over, below)) ])
 
 -- the header and the tailer of a record are within it
 header_among : (off n i : ℕ) → times (hand_extents ((off, n) ∷ [])) i ≡ 0 → once (off, 24) i ≡ 0
-header_among off n i none = omega (arith, none, once_joined off 24 n i)
+header_among off n i none = among off (24 + n) off 24 i (omega arith) (omega arith) (omega (arith, none))
 
 tailer_among : (off n i : ℕ) → times (hand_extents ((off, n) ∷ [])) i ≡ 0 → once (off + 20 + n, 4) i ≡ 0
-tailer_among off n i none =
-    let total : 24 + n ≡ 20 + n + 4 = omega arith in
-    let place : off + (20 + n) ≡ off + 20 + n = omega arith in
-    omega (arith, none, ap (λ l. once (off, l) i) total, once_joined off (20 + n) 4 i, ap (λ at. once (at, 4) i) place)
+tailer_among off n i none = among off (24 + n) (off + 20 + n) 4 i (omega arith) (omega arith) (omega (arith, none))
 
 module _ (f : Form) (a b : List ℕ) (off n : ℕ) where
   abbrev hand : List Extent

@@ -15,3 +15,4 @@ pub mod Removed
 pub mod OnceLeft
 pub mod Growth
 pub mod Traded
+pub mod OnlyList

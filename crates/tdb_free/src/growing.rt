@@ -1,6 +1,6 @@
 // Taking a record from the free list, or from what the file grows by.
 
-ghost use Rattle.std.specs.Prelude.{◌≡◌, ◌⊎◌, ◌+◌, ◌-◌, ◌*◌, ◌/◌, ◌%◌, ◌^◌, ◌<◌, ◌≤◌, IsTrue, IfOk, IfErr, IfSome, OnOk, List, ℕ, Some, false};
+ghost use Rattle.std.specs.Prelude.{◌≡◌, ◌⊎◌, ◌+◌, ◌-◌, ◌*◌, ◌/◌, ◌%◌, ◌^◌, ◌<◌, ◌≤◌, IsTrue, IfOk, IfErr, IfSome, OnOk, List, [], ℕ, Some, false};
 ghost use Rattle.tdb_disk.specs.Count.{HasCause, HasCauseOf};
 ghost use Rattle.tdb_disk.specs.Image.{padded};
 ghost use Rattle.tdb_space.specs.Frame.{Wrote};
@@ -8,6 +8,7 @@ ghost use Rattle.tdb_space.specs.Spare.{RoomForAll, RoomUpTo};
 ghost use Rattle.tdb_space.specs.SpareLeft.{LeavesRoom};
 ghost use Rattle.tdb_free.specs.FreeList.{Given};
 ghost use Rattle.tdb_space.specs.Standing.{Stands};
+ghost use Rattle.tdb_free.specs.OnlyList.{OnlyListChanges};
 ghost use Rattle.tdb_free.specs.Growth.{grown_length, grown_hand, CanBeTaken, TakenBy, RefusedRightly, SaysLengths};
 ghost use Rattle.tdb_free.specs.declared.refusal.FreeRefusal.{FreeRefusal};
 ghost use Rattle.tdb_free.specs.declared.refusal.FreeRefusal.TheVariants.{Io};
@@ -51,6 +52,8 @@ fn grow_by<S: Space>(s: &mut S, len: u64, to: u64) -> Result<(), FreeRefusal>
     requires reach { RoomUpTo (S.spare s.old) to }
     ensures given { OnOk result (IsTrue S.tells → (offs : List ℕ) → CanBeTaken (S.form s.old) (S.image s.old) offs
         → Given (S.form s.old) (padded (S.image s.old) to) (S.image s.new) offs (grown_hand len to)) }
+    ensures only { IsTrue S.tells → (offs : List ℕ) → CanBeTaken (S.form s.old) (S.image s.old) offs
+        → OnlyListChanges (S.form s.old) (S.image s.old) (S.image s.new) offs [] }
     ensures refusal { IfErr result (λ e. e ≡ Io) }
     ensures size { (S.size s.new ≡ S.size s.old) ⊎ (S.size s.new ≡ to) }
     ensures grown { OnOk result (S.size s.new ≡ to) }
@@ -81,6 +84,8 @@ pub fn take<S: Space>(s: &mut S, rec_len: u64, limit: u64) -> Result<Hand, FreeR
         → TakenBy (S.form s.old) (S.image s.old) (S.image s.new) offs rec_len limit h) }
     ensures full { IfErr result (λ e. IsTrue S.tells → (offs : List ℕ) → CanBeTaken (S.form s.old) (S.image s.old) offs
         → RefusedRightly (S.form s.old) (S.image s.old) (S.image s.new) offs rec_len limit e) }
+    ensures only { IsTrue S.tells → (offs : List ℕ) → CanBeTaken (S.form s.old) (S.image s.old) offs
+        → OnlyListChanges (S.form s.old) (S.image s.old) (S.image s.new) offs [] }
     ensures lengths { IfErr result (λ e. SaysLengths (S.size s.old) rec_len e) }
     ensures stands { IfOk result (λ h. Stands (S.form s.old) (S.size s.new) h.0 h.1) }
     ensures long { IfOk result (λ h. rec_len ≤ h.1) }

@@ -1,21 +1,22 @@
 // Taking a record from the free list.
 
-ghost use Rattle.std.specs.Prelude.{◌≡◌, ◌+◌, ◌-◌, ◌%◌, ◌^◌, ◌<◌, ◌≤◌, IsTrue, List, ℕ, length, IfOk, OnOk, IfSome, false};
+ghost use Rattle.std.specs.Prelude.{◌≡◌, ◌⊎◌, ◌+◌, ◌-◌, ◌%◌, ◌^◌, ◌<◌, ◌≤◌, IsTrue, List, [], ◌∷◌, ℕ, length, Some, IfOk, OnOk, OnErr, IfSome, false};
 ghost use Rattle.tdb_disk.specs.Count.{HasCause};
 ghost use Rattle.tdb_space.specs.Frame.{Wrote};
-ghost use Rattle.tdb_space.specs.Record.{next_of};
 ghost use Rattle.tdb_space.specs.Extents.{HandPair};
 ghost use Rattle.tdb_space.specs.Accepted.{AcceptWith};
-ghost use Rattle.tdb_space.specs.Exchange.{LedPast};
-ghost use Rattle.tdb_space.specs.Spare.{RoomFor, RoomForAll};
+ghost use Rattle.tdb_space.specs.Stays.{OnlyIn};
+ghost use Rattle.tdb_space.specs.Spare.{RoomForAll};
 ghost use Rattle.tdb_space.specs.SpareLeft.{LeavesRoom};
 ghost use Rattle.tdb_free.specs.FreeList.{ListedOnce, is_long_enough};
 ghost use Rattle.tdb_space.specs.Standing.{Stands};
-ghost use Rattle.tdb_free.specs.Search.{IsFirst};
+ghost use Rattle.tdb_free.specs.Search.{IsFirst, SpotWithin};
+ghost use Rattle.tdb_free.specs.Removal.{LeftOut};
+ghost use Rattle.tdb_free.specs.OnlyList.{OnlyListChanges};
 ghost use Rattle.tdb_free.specs.TakenFrom.{TakenFrom, TakenKept, IsTaken};
 ghost use Rattle.tdb_free.specs.Shortened.{Shortened};
 
-use crate::link_word::write_link;
+use crate::removal::take_out;
 use crate::search::{Spot, find_fit};
 use tdb_space::{Hand, Io, Space};
 use tdb_words::{FREE, Rec, rec_bytes, word_bytes};
@@ -25,20 +26,18 @@ const LEAST_LEFT: u32 = 36;
 
 /// Takes a record out of the list, whole: the word that led to it leads past it.
 fn take_whole<S: Space>(s: &mut S, spot: &Spot) -> Result<Hand, Io>
-    requires stands { Stands (S.form s.old) (S.size s.old) spot.now.off spot.now.rec_len }
-    requires led_aligned { spot.now.before % 4 ≡ 0 }
-    requires led { spot.now.before + 4 ≤ S.size s.old }
-    requires room { RoomFor (S.spare s.old) 4 }
+    requires within { SpotWithin spot.now (S.form s.old) (S.size s.old) }
+    requires room { RoomForAll (S.spare s.old) 1 4 }
     ensures hand { IfOk result (λ h. h ≡ (spot.now.off, spot.now.rec_len)) }
-    ensures past { OnOk result (IsTrue S.tells → spot.now.next ≡ next_of (S.form s.old).order (S.image s.old) spot.now.off
-        → LedPast (S.form s.old) (S.image s.old) (S.image s.new) spot.now.before spot.now.off) }
+    ensures past { OnOk result (IsTrue S.tells → LeftOut (S.form s.old) (S.image s.old) (S.image s.new) (Some spot.now)) }
+    ensures stopped { OnErr result (IsTrue S.tells → (S.image s.new ≡ S.image s.old) ⊎ LeftOut (S.form s.old) (S.image s.old) (S.image s.new) (Some spot.now)) }
     ensures size { S.size s.new ≡ S.size s.old }
     ensures wrote { Wrote S.Space s.old s.new }
     ensures cause { HasCause (S.faults s.old) (S.faults s.new) result }
     ensures bytes_read { S.bytes_read s.old ≤ S.bytes_read s.new }
     ensures spare { LeavesRoom 1 4 (S.spare s.old) (S.spare s.new) }
 {
-    write_link(s, spot.before, spot.next)?;
+    take_out(s, Some(*spot))?;
     Ok(Hand::new(spot.off, spot.rec_len))
 }
 
@@ -51,6 +50,7 @@ fn shorten<S: Space>(s: &mut S, spot: &Spot, rec_len: u32) -> Result<(), Io>
     requires shorter { rec_len + 24 ≤ spot.now.rec_len }
     requires room { RoomForAll (S.spare s.old) 2 24 }
     ensures shortened { OnOk result (IsTrue S.tells → Shortened (S.form s.old) (S.image s.old) (S.image s.new) spot.now.off rec_len) }
+    ensures stopped { OnErr result (IsTrue S.tells → OnlyIn ((spot.now.off + 4, 20 + spot.now.rec_len) ∷ []) (S.image s.old) (S.image s.new)) }
     ensures size { S.size s.new ≡ S.size s.old }
     ensures wrote { Wrote S.Space s.old s.new }
     ensures cause { HasCause (S.faults s.old) (S.faults s.new) result }
@@ -84,6 +84,7 @@ fn take_end<S: Space>(s: &mut S, spot: &Spot, rec_len: u32) -> Result<Hand, Io>
     requires room { RoomForAll (S.spare s.old) 2 24 }
     ensures hand { IfOk result (λ h. h ≡ (spot.now.off + spot.now.rec_len - rec_len, rec_len)) }
     ensures shortened { OnOk result (IsTrue S.tells → Shortened (S.form s.old) (S.image s.old) (S.image s.new) spot.now.off (spot.now.rec_len - (24 + rec_len))) }
+    ensures stopped { OnErr result (IsTrue S.tells → OnlyIn ((spot.now.off + 4, 20 + spot.now.rec_len) ∷ []) (S.image s.old) (S.image s.new)) }
     ensures size { S.size s.new ≡ S.size s.old }
     ensures wrote { Wrote S.Space s.old s.new }
     ensures cause { HasCause (S.faults s.old) (S.faults s.new) result }
@@ -96,9 +97,7 @@ fn take_end<S: Space>(s: &mut S, spot: &Spot, rec_len: u32) -> Result<Hand, Io>
 
 /// Takes the end of a record where at least 36 bytes of its extent are left then, and else the whole of it.
 fn take_from<S: Space>(s: &mut S, spot: &Spot, rec_len: u32) -> Result<Hand, Io>
-    requires stands { Stands (S.form s.old) (S.size s.old) spot.now.off spot.now.rec_len }
-    requires led_aligned { spot.now.before % 4 ≡ 0 }
-    requires led { spot.now.before + 4 ≤ S.size s.old }
+    requires within { SpotWithin spot.now (S.form s.old) (S.size s.old) }
     requires short { spot.now.off + 24 + spot.now.rec_len < 2 ^ 32 }
     requires whole_words { rec_len % 4 ≡ 0 }
     requires least { 4 ≤ rec_len }
@@ -107,6 +106,9 @@ fn take_from<S: Space>(s: &mut S, spot: &Spot, rec_len: u32) -> Result<Hand, Io>
     ensures taken { IfOk result (λ h. IsTrue S.tells → (offs : List ℕ) → ListedOnce (S.form s.old) (S.image s.old) offs
         → IsFirst (S.form s.old) (S.image s.old) offs (is_long_enough rec_len) spot.now
         → TakenFrom (S.form s.old) (S.image s.old) (S.image s.new) offs rec_len h) }
+    ensures stopped { OnErr result (IsTrue S.tells → (offs : List ℕ) → ListedOnce (S.form s.old) (S.image s.old) offs
+        → IsFirst (S.form s.old) (S.image s.old) offs (is_long_enough rec_len) spot.now
+        → OnlyListChanges (S.form s.old) (S.image s.old) (S.image s.new) offs []) }
     ensures stands { IfOk result (λ h. Stands (S.form s.old) (S.size s.old) h.0 h.1) }
     ensures long { IfOk result (λ h. rec_len ≤ h.1) }
     ensures size { S.size s.new ≡ S.size s.old }
@@ -137,6 +139,8 @@ pub fn take_fit<S: Space>(s: &mut S, rec_len: u64) -> Result<Option<Hand>, Io>
         → length (S.image s.old) < 2 ^ 32 → IsTaken (S.form s.old) (S.image s.old) (S.image s.new) offs rec_len taken) }
     ensures kept { IfOk result (λ taken. IfSome taken (λ h. IsTrue S.tells → (hands : List HandPair) → AcceptWith (S.form s.old) (S.image s.old) hands
         → length (S.image s.old) < 2 ^ 32 → TakenKept (S.form s.old) (S.image s.old) (S.image s.new) rec_len hands h)) }
+    ensures only { IsTrue S.tells → (offs : List ℕ) → ListedOnce (S.form s.old) (S.image s.old) offs
+        → OnlyListChanges (S.form s.old) (S.image s.old) (S.image s.new) offs [] }
     ensures stands { IfOk result (λ taken. IfSome taken (λ h. Stands (S.form s.old) (S.size s.old) h.0 h.1)) }
     ensures long { IfOk result (λ taken. IfSome taken (λ h. rec_len ≤ h.1)) }
     ensures size { S.size s.new ≡ S.size s.old }
