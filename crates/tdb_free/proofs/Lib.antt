@@ -16,3 +16,4 @@ pub mod OnceLeft
 pub mod Growth
 pub mod Traded
 pub mod OnlyList
+pub mod ChangesList

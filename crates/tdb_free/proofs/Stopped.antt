@@ -49,7 +49,7 @@ same_only f a b offs hands e = record {
 }
 
 -- hands in place are behind the heads of the chains
-hands_above : (f : Form) (a : List ℕ) (hands : List HandPair) (i : ℕ) → AllHandOk f a hands → i < data_start f → times (hand_extents hands) i ≡ 0
+pub hands_above : (f : Form) (a : List ℕ) (hands : List HandPair) (i : ℕ) → AllHandOk f a hands → i < data_start f → times (hand_extents hands) i ≡ 0
 hands_above f a [] i held under = refl
 hands_above f a (h ∷ hs) i held under = omega (arith, once_out (h.0, 24 + h.1) i (inl (omega (arith, under, held.0.above))), hands_above f a hs i held.1 under)
 

@@ -1,9 +1,12 @@
 // Taking a record from the free list, or from what the file grows by.
 
-ghost use Rattle.std.specs.Prelude.{◌≡◌, ◌⊎◌, ◌+◌, ◌-◌, ◌*◌, ◌/◌, ◌%◌, ◌^◌, ◌<◌, ◌≤◌, IsTrue, IfOk, IfErr, IfSome, OnOk, List, [], ℕ, Some, false};
+ghost use Rattle.std.specs.Prelude.{◌≡◌, ◌⊎◌, ◌+◌, ◌-◌, ◌*◌, ◌/◌, ◌%◌, ◌^◌, ◌<◌, ◌≤◌, IsTrue, IfOk, IfErr, IfSome, OnOk, List, [], ◌∷◌, ℕ, Some, false};
 ghost use Rattle.tdb_disk.specs.Count.{HasCause, HasCauseOf};
 ghost use Rattle.tdb_disk.specs.Image.{padded};
 ghost use Rattle.tdb_space.specs.Frame.{Wrote};
+ghost use Rattle.tdb_space.specs.Extents.{HandPair};
+ghost use Rattle.tdb_space.specs.Accepted.{AcceptWith};
+ghost use Rattle.tdb_space.specs.Stays.{ChainsStay};
 ghost use Rattle.tdb_space.specs.Spare.{RoomForAll, RoomUpTo};
 ghost use Rattle.tdb_space.specs.SpareLeft.{LeavesRoom};
 ghost use Rattle.tdb_free.specs.FreeList.{Given};
@@ -82,6 +85,8 @@ pub fn take<S: Space>(s: &mut S, rec_len: u64, limit: u64) -> Result<Hand, FreeR
     requires reach { RoomUpTo (S.spare s.old) (S.size s.old + S.size s.old / 4 + 24 + rec_len + 4096) }
     ensures taken { IfOk result (λ h. IsTrue S.tells → (offs : List ℕ) → CanBeTaken (S.form s.old) (S.image s.old) offs
         → TakenBy (S.form s.old) (S.image s.old) (S.image s.new) offs rec_len limit h) }
+    ensures kept { IfOk result (λ h. IsTrue S.tells → S.size s.old < 2 ^ 32 → (hands : List HandPair) → AcceptWith (S.form s.old) (S.image s.old) hands
+        → ChainsStay (S.form s.old) (S.image s.old) (S.image s.new) (h ∷ hands)) }
     ensures full { IfErr result (λ e. IsTrue S.tells → (offs : List ℕ) → CanBeTaken (S.form s.old) (S.image s.old) offs
         → RefusedRightly (S.form s.old) (S.image s.old) (S.image s.new) offs rec_len limit e) }
     ensures only { IsTrue S.tells → (offs : List ℕ) → CanBeTaken (S.form s.old) (S.image s.old) offs
