@@ -1,7 +1,7 @@
 -- What a contract sees of a disk with a cache.
-use Rattle.std.specs.Prelude.{◌≡◌, ℕ, ◌+◌, ◌/◌, ◌<◌, ◌≤◌, IsSome}
+use Rattle.std.specs.Prelude.{◌≡◌, ℕ, ◌+◌, ◌/◌, ◌<◌, ◌≤◌, IsSome, List, Option}
 use Rattle.tdb_disk.specs.declared.disk.Disk.{Ghosts}
-use Rattle.tdb_cache.specs.Blocks.{block_at, block_size, kept_count, starved_count, StillKept}
+use Rattle.tdb_cache.specs.Blocks.{block_at, block_size, Refused, kept_count, starved_count, StillKept}
 use Rattle.tdb_cache.specs.declared.cached.Cached.{Cached}
 
 -- the disk within
@@ -20,9 +20,17 @@ cached_count cached = kept_count cached.blocks
 abbrev pub cached_starved : {D : Type 0} {g : Ghosts D} → Cached D g → ℕ
 cached_starved cached = starved_count cached.blocks
 
+-- the bytes that are kept of the block with this number
+abbrev pub cached_block : {D : Type 0} {g : Ghosts D} → Cached D g → ℕ → Option (List ℕ)
+cached_block cached number = block_at cached.blocks number
+
+-- why a block wasn't kept: the most are kept, it lies past the first 4 GiB, or there was no memory
+abbrev pub WasRefused : {D : Type 0} {g : Ghosts D} → Cached D g → Cached D g → ℕ → Type 0
+WasRefused old new number = Refused old.blocks new.blocks number
+
 -- the block in which the byte at this offset lies is kept
 abbrev pub IsKept : {D : Type 0} {g : Ghosts D} → Cached D g → ℕ → Type 0
-IsKept cached at = IsSome (block_at cached.blocks (at / block_size))
+IsKept cached at = IsSome (cached_block cached (at / block_size))
 
 -- each byte of a range lies in a block that is kept
 abbrev pub KeepsRange : {D : Type 0} {g : Ghosts D} → Cached D g → ℕ → ℕ → Type 0

@@ -3,7 +3,7 @@ ghost use Rattle.std.specs.Prelude.{◌≡◌, ◌≢◌, ◌+◌, ◌-◌, ◌*
 ghost use Rattle.tdb_disk.specs.Count.{HasCause, RoseBy, RoseUpTo};
 ghost use Rattle.tdb_disk.specs.History.{wrote, wrote_word, grew, cut, synced, called, seen, Tried, TriedOver};
 ghost use Rattle.tdb_disk.specs.Image.{overlay};
-ghost use Rattle.tdb_cache.specs.Blocks.{block_at, block_start, block_size, most_kept, AllSized, AllShown, Refused, SameKept};
+ghost use Rattle.tdb_cache.specs.Blocks.{block_at, block_start, block_size, most_kept, AllSized, AllShown};
 
 use crate::blocks::{BLOCK_SIZE, Blocks};
 use crate::piece::Piece;
@@ -21,7 +21,7 @@ pub struct Cached<D: Disk> {
 }
 
 impl<D: Disk> Cached<D> {
-    ghost use Rattle.tdb_cache.specs.Cached.{cached_inner, cached_asked, cached_count, cached_starved, IsKept, KeepsRange, Looked};
+    ghost use Rattle.tdb_cache.specs.Cached.{cached_inner, cached_asked, cached_count, cached_starved, cached_block, IsKept, KeepsRange, Looked, WasRefused};
 
     /// The disk `d`, of which no block is kept yet. It takes no memory.
     pub fn new(alloc: Global, d: D) -> Cached<D>
@@ -73,7 +73,7 @@ impl<D: Disk> Cached<D> {
         ensures bytes_read { RoseUpTo (length buf.old + 2 * block_size) (D.bytes_read (cached_inner self.old)) (D.bytes_read (cached_inner self.new)) }
         ensures full { most_kept ≤ cached_count self.old → RoseUpTo (length buf.old) (D.bytes_read (cached_inner self.old)) (D.bytes_read (cached_inner self.new)) }
         ensures there { KeepsRange self.old off (length buf.old) → cached_inner self.new ≡ cached_inner self.old }
-        ensures filled { OnOk result ((at : ℕ) → off ≤ at → at < off + length buf.old → IsKept self.new at ⊎ Refused self.old.blocks self.new.blocks (at / block_size)) }
+        ensures filled { OnOk result ((at : ℕ) → off ≤ at → at < off + length buf.old → IsKept self.new at ⊎ WasRefused self.old self.new (at / block_size)) }
         ensures asked { cached_asked self.new ≡ cached_asked self.old }
     {
         let mut done = 0;
@@ -94,8 +94,8 @@ impl<D: Disk> Cached<D> {
         ensures cause { HasCause (D.faults (cached_inner self.old)) (D.faults (cached_inner self.new)) result }
         ensures bytes_read { RoseUpTo block_size (D.bytes_read (cached_inner self.old)) (D.bytes_read (cached_inner self.new)) }
         ensures full { most_kept ≤ cached_count self.old → RoseUpTo (length buf.old) (D.bytes_read (cached_inner self.old)) (D.bytes_read (cached_inner self.new)) }
-        ensures there { IsSome (block_at self.old.blocks number) → self.new ≡ self.old }
-        ensures filled { OnOk result (IsSome (block_at self.new.blocks number) ⊎ Refused self.old.blocks self.new.blocks number) }
+        ensures there { IsSome (cached_block self.old number) → self.new ≡ self.old }
+        ensures filled { OnOk result (IsSome (cached_block self.new number) ⊎ WasRefused self.old self.new number) }
         ensures asked { cached_asked self.new ≡ cached_asked self.old }
     {
         if self.blocks.has(number) {
@@ -116,12 +116,12 @@ impl<D: Disk> Cached<D> {
         requires start { start ≡ block_start number }
         requires below { start ≤ size }
         requires size { size ≡ D.size (cached_inner self.old) }
-        requires new { block_at self.old.blocks number ≡ None }
+        requires new { cached_block self.old number ≡ None }
         ensures looked { Looked self.old self.new }
         ensures cause { HasCause (D.faults (cached_inner self.old)) (D.faults (cached_inner self.new)) result }
-        ensures filled { IfOk result (λ filled. IsTrue filled → IsSome (block_at self.new.blocks number)) }
+        ensures filled { IfOk result (λ filled. IsTrue filled → IsSome (cached_block self.new number)) }
         ensures room { cached_count self.old < most_kept ⊎ (D.bytes_read (cached_inner self.new) ≡ D.bytes_read (cached_inner self.old)) }
-        ensures refused { IfOk result (λ filled. IsFalse filled → Refused self.old.blocks self.new.blocks number) }
+        ensures refused { IfOk result (λ filled. IsFalse filled → WasRefused self.old self.new number) }
         ensures unread { IfOk result (λ filled. IsFalse filled → D.bytes_read (cached_inner self.new) ≡ D.bytes_read (cached_inner self.old)) }
         ensures bytes_read { RoseUpTo block_size (D.bytes_read (cached_inner self.old)) (D.bytes_read (cached_inner self.new)) }
         ensures asked { cached_asked self.new ≡ cached_asked self.old }
@@ -137,7 +137,7 @@ impl<D: Disk> Cached<D> {
 }
 
 impl<D: Disk> Disk for Cached<D> {
-    ghost use Rattle.tdb_cache.specs.Cached.{cached_inner, cached_asked, cached_count, IsKept, KeepsAll, KeepsRange};
+    ghost use Rattle.tdb_cache.specs.Cached.{cached_inner, cached_asked, cached_count, IsKept, KeepsAll, KeepsRange, WasRefused};
 
     ghost tells = { D.tells };
 
@@ -176,7 +176,7 @@ impl<D: Disk> Disk for Cached<D> {
         ensures inner_read { RoseUpTo (length buf.old + 2 * block_size) (D.bytes_read (cached_inner self.old)) (D.bytes_read (cached_inner self.new)) }
         ensures full { most_kept ≤ cached_count self.old → RoseUpTo (length buf.old) (D.bytes_read (cached_inner self.old)) (D.bytes_read (cached_inner self.new)) }
         ensures there { KeepsRange self.old off (length buf.old) → cached_inner self.new ≡ cached_inner self.old }
-        ensures filled { OnOk result ((at : ℕ) → off ≤ at → at < off + length buf.old → IsKept self.new at ⊎ Refused self.old.blocks self.new.blocks (at / block_size)) }
+        ensures filled { OnOk result ((at : ℕ) → off ≤ at → at < off + length buf.old → IsKept self.new at ⊎ WasRefused self.old self.new (at / block_size)) }
         ensures kept { KeepsAll self.old self.new }
     {
         self.read_pieces(off, buf)?;

@@ -29,7 +29,7 @@ loop-done-preserved g c =
           (omega (arith, g.met.D.Disk.told_size c.args.self.now.inner told, c.requires, same)) (was.bytes told)
           (rw (← is_piece.start, ← was.looked.history) (grind (arith, common_steps, c.in_ok-read_piece.ensures.bytes told)));
       looked = Looked-join c.args.self.now c.loop-done.self c.read_piece.new.self was.looked read.looked;
-      faults = omega (arith, was.faults, read.cause.never_falls);
+      faults = c.in_ok-read_piece.ensures.cause.done ∙ was.faults;
       bytes_read = omega (arith, read.bytes_read.no_more, is_piece.more, was.on_the_way more);
       never_falls = omega (arith, was.never_falls, read.bytes_read.never_falls);
       at_a_block = elim is_piece.whole [

@@ -11,7 +11,7 @@ invariant-loop-done g l = record {
   bytes : IsTrue g.D.Disk.tells
       → take l.done l.buf ≡ take l.done (drop l.off (seen (g.D.Disk.history (cached_inner l.initial.self))));
   looked : Looked l.initial.self l.self;
-  faults : g.D.Disk.faults (cached_inner l.initial.self) ≤ g.D.Disk.faults (cached_inner l.self);
+  faults : g.D.Disk.faults (cached_inner l.self) ≡ g.D.Disk.faults (cached_inner l.initial.self);
   bytes_read : g.D.Disk.bytes_read (cached_inner l.self)
       ≤ g.D.Disk.bytes_read (cached_inner l.initial.self) + l.off % block_size + l.done + block_size;
   never_falls : g.D.Disk.bytes_read (cached_inner l.initial.self) ≤ g.D.Disk.bytes_read (cached_inner l.self);
