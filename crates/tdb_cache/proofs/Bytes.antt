@@ -62,3 +62,9 @@ pub padded_block : (image block : List ℕ) (start to : ℕ) → block ≡ take 
     → start + length block ≤ length image → block ≡ take (length block) (drop start (padded image to))
 padded_block image block start to shown inside =
     same_lists _ _ (grind (arith, common_steps)) (λ k d h. grind (arith, places))
+
+-- a block before a cut is the same in the file that is cut
+pub cut_block : (image block : List ℕ) (start to : ℕ) → block ≡ take (length block) (drop start image)
+    → start + length block ≤ to → to ≤ length image → block ≡ take (length block) (drop start (take to image))
+cut_block image block start to shown inside shorter =
+    same_lists _ _ (grind (arith, common_steps)) (λ k d h. grind (arith, places))

@@ -1,9 +1,11 @@
 -- What stays true of the blocks that are kept where one of them changes.
-use Rattle.std.proofs.Common.{◌≡◌, ℕ, ◌+◌, ◌-◌, ◌/◌, ◌<◌, ◌≤◌, List, Option, Some, None, length, take, drop, inl, inr, sym, ap, subst, refl, ◌∙◌, arith, is_some, IsSome, option_map}
+use Rattle.std.proofs.Common.{◌≡◌, ℕ, ◌+◌, ◌-◌, ◌/◌, ◌<◌, ◌≤◌, List, Option, Some, None, length, take, drop, inl, inr, sym, ap, subst, refl, ◌∙◌, arith, is_some, option_map, Ok, Err, Bool}
+use Rattle.std.specs.Prelude.{IsSome, IsTrue, OnErr, OnOk, Result}
+use Rattle.tdb_disk.specs.History.{History, seen}
 use Rattle.std.proofs.lemmas.Bool.{cases_eq, cases_lt, false≢true}
 use Rattle.std.proofs.lemmas.Grind.{common_steps}
-use Rattle.tdb_cache.specs.Blocks.{block_at, block_start, block_end, block_size, AllSized, AllShown, AllStay, OthersStay, Reaches, SameKept}
-use Rattle.tdb_cache.proofs.Bytes.{overlay_join, padded_block, part_of_block, patched_block, other_block}
+use Rattle.tdb_cache.specs.Blocks.{block_at, block_start, block_end, block_size, AllSized, AllShown, AllStay, KeepsFront, OthersStay, Reaches, SameKept}
+use Rattle.tdb_cache.proofs.Bytes.{cut_block, overlay_join, padded_block, part_of_block, patched_block, other_block}
 use Rattle.tdb_disk.specs.Image.{overlay, padded}
 use Rattle.tdb_disk.proofs.Image.{length-overlay}
 use Rattle.tdb_cache.specs.declared.blocks.Blocks.{Blocks}
@@ -152,27 +154,50 @@ copied_bytes blocks number within n size image buf there copied sized range one_
     ∙ part_of_block image kept.0 (block_start number) within n (shown number kept.0 kept.1)
     (piece_inside blocks number within n size sized range one_block kept.0 kept.1)
 
--- the blocks that are kept of a file have their lengths in a longer one, if that at the old end is dropped
-pub AllSized-grow : (old new : Blocks) (from to : ℕ) → block_at new (from / block_size) ≡ None
-    → OthersStay (from / block_size) old new → from ≤ to → AllSized old from → AllSized new to
-AllSized-grow old new from to gone others longer before = λ other block is. elim (cases_eq other (from / block_size)) [
-  | inl same ↦
-      let none : block_at new other ≡ None = rw same gone in absurd (grind (arith, is, none))
-  | inr apart ↦
-      let long : block_start other + length block ≡ block_end from other = before other block (sym (others other apart) ∙ is) in
-      omega (arith, long, apart)
+-- the front blocks of a file have their lengths in any file that is as long
+pub AllSized-front : (old new : Blocks) (first from to : ℕ) → KeepsFront first old new → block_start first ≤ from
+    → block_start first ≤ to → AllSized old from → AllSized new to
+AllSized-front old new first from to keeps before_long now_long before = λ other block is. elim (cases_lt other first) [
+  | inl front ↦
+      let long : block_start other + length block ≡ block_end from other = before other block (sym (keeps.front other front) ∙ is) in
+      omega (arith, long)
+  | inr behind ↦ absurd (grind (arith, is, keeps.none other behind))
 ]
 
--- they hold what the longer file has there
-pub AllShown-grow : (old new : Blocks) (from to : ℕ) (image : List ℕ) → from ≡ length image
-    → block_at new (from / block_size) ≡ None → OthersStay (from / block_size) old new → from ≤ to → AllSized old from
-    → AllShown old image → AllShown new (padded image to)
-AllShown-grow old new from to image size gone others longer sized before =
-    λ other block is. elim (cases_eq other (from / block_size)) [
-      | inl same ↦
-          let none : block_at new other ≡ None = rw same gone in absurd (grind (arith, is, none))
-      | inr apart ↦
-          let was : block_at old other ≡ Some block = sym (others other apart) ∙ is in
-          let long : block_start other + length block ≡ block_end from other = sized other block was in
-          padded_block image block (block_start other) to (before other block was) (omega (arith, long, size))
-    ]
+-- they hold what a longer file has there
+pub AllShown-grow : (old new : Blocks) (first to : ℕ) (image : List ℕ) → KeepsFront first old new
+    → block_start first ≤ length image → AllSized old (length image) → AllShown old image → AllShown new (padded image to)
+AllShown-grow old new first to image keeps long sized before = λ other block is. elim (cases_lt other first) [
+  | inl front ↦
+      let was : block_at old other ≡ Some block = sym (keeps.front other front) ∙ is in
+      let size : block_start other + length block ≡ block_end (length image) other = sized other block was in
+      padded_block image block (block_start other) to (before other block was) (omega (arith, size))
+  | inr behind ↦ absurd (grind (arith, is, keeps.none other behind))
+]
+
+-- and what a shorter one has
+pub AllShown-cut : (old new : Blocks) (first to : ℕ) (image : List ℕ) → KeepsFront first old new
+    → block_start first ≤ to → to ≤ length image → AllSized old (length image) → AllShown old image
+    → AllShown new (take to image)
+AllShown-cut old new first to image keeps long shorter sized before = λ other block is. elim (cases_lt other first) [
+  | inl front ↦
+      let was : block_at old other ≡ Some block = sym (keeps.front other front) ∙ is in
+      let size : block_start other + length block ≡ block_end (length image) other = sized other block was in
+      cut_block image block (block_start other) to (before other block was) (omega (arith, size)) shorter
+  | inr behind ↦ absurd (grind (arith, is, keeps.none other behind))
+]
+
+-- after a call that changed the length, where all blocks are dropped if it failed, those that are kept have their lengths
+pub AllSized-settle : {V F : Type 0} (answer : Result V F) (forgot now : Blocks) (size to : ℕ)
+    → OnErr answer ((number : ℕ) → block_at now number ≡ None) → OnOk answer (now ≡ forgot) → OnOk answer (size ≡ to)
+    → AllSized forgot to → AllSized now size
+AllSized-settle (Ok value) forgot now size to none same done sized = rw (same, done) sized
+AllSized-settle (Err fault) forgot now size to none same done sized = λ number block is. absurd (grind (arith, is, none number))
+
+-- and they hold what the image has there
+pub AllShown-settle : {V F : Type 0} (answer : Result V F) (forgot now : Blocks) (tells : Bool) (was is : History)
+    → OnErr answer ((number : ℕ) → block_at now number ≡ None) → OnOk answer (now ≡ forgot)
+    → OnOk answer (IsTrue tells → is ≡ was) → IsTrue tells → AllShown forgot (seen was) → AllShown now (seen is)
+AllShown-settle (Ok value) forgot now tells was is none same done told shown = rw (same, done told) shown
+AllShown-settle (Err fault) forgot now tells was is none same done told shown =
+    λ number block there. absurd (grind (arith, there, none number))

@@ -71,6 +71,11 @@ AllStay old new = (number : ℕ) → block_at new number ≡ block_at old number
 abbrev pub OthersStay : ℕ → Blocks → Blocks → Type 0
 OthersStay number old new = (other : ℕ) → other ≢ number → block_at new other ≡ block_at old other
 
+-- the blocks before this one have not changed, and no other is kept
+pub record KeepsFront (number : ℕ) (old new : Blocks) : Type 0 where
+  pub front : (other : ℕ) → other < number → block_at new other ≡ block_at old other
+  pub none : (other : ℕ) → number ≤ other → block_at new other ≡ None
+
 -- the same blocks are kept
 abbrev pub SameKept : Blocks → Blocks → Type 0
 SameKept old new = (number : ℕ) → is_some (block_at new number) ≡ is_some (block_at old number)

@@ -1,9 +1,10 @@
 //! The blocks of a file that are kept in memory.
-ghost use Rattle.std.specs.Prelude.{◌≡◌, ◌≢◌, ◌+◌, ◌≤◌, ◌<◌, ◌↔◌, ℕ, List, Some, None, IfSome, IfNone, IfOk, OnSome, OnOk, IsSome, IsTrue, get_or, is_some, count_by, length, take, drop, option_map};
+ghost use Rattle.std.specs.Prelude.{◌≡◌, ◌≢◌, ◌+◌, ◌≤◌, ◌<◌, ◌↔◌, ℕ, List, Some, None, IfSome, IfNone, IfOk, OnSome, OnOk, OnErr, IsSome, IsTrue, get_or, is_some, count_by, length, take, drop, option_map};
 ghost use Rattle.tdb_disk.specs.Image.{overlay};
 
 use crate::piece::Piece;
 use std::alloc::{AllocError, Global};
+use tdb_disk::DiskFault;
 
 /// How many bytes a block has. The last block of a file may be shorter.
 pub(crate) const BLOCK_SIZE: usize = 65_536;
@@ -26,7 +27,7 @@ pub struct Blocks {
 }
 
 impl Blocks {
-    ghost use Rattle.tdb_cache.specs.Blocks.{block_at, kept_count, block_size, AllShown, AllSized, starved_count, AllStay, HasRoom, OthersStay, Reaches, Refused, SameKept};
+    ghost use Rattle.tdb_cache.specs.Blocks.{block_at, kept_count, block_size, AllShown, AllSized, starved_count, AllStay, HasRoom, KeepsFront, OthersStay, Reaches, Refused, SameKept};
 
     /// No block is kept. It takes no memory.
     pub(crate) fn new(alloc: Global) -> Blocks
@@ -149,23 +150,27 @@ impl Blocks {
         self.kept += 1;
     }
 
-    /// Drops a block, if it is kept.
-    pub(crate) fn forget(&mut self, number: usize)
-        ensures gone { block_at self.new number ≡ None }
-        ensures others { OthersStay number self.old self.new }
+    /// Drops the blocks from this number on.
+    pub(crate) fn forget_from(&mut self, number: usize)
+        ensures { KeepsFront number self.old self.new }
     {
-        if self.has(number) {
-            self.places[number] = None;
-            self.kept -= 1;
+        while self.places.len() > number {
+            if self.places.pop().flatten().is_some() {
+                self.kept -= 1;
+            }
         }
     }
 
-    /// Drops all blocks.
-    pub(crate) fn clear(&mut self)
-        ensures { (number : ℕ) → block_at self.new number ≡ None }
+    /// Passes on the answer of a call that may have changed the disk, and drops all blocks where it failed.
+    pub(crate) fn settle(&mut self, answer: Result<(), DiskFault>) -> Result<(), DiskFault>
+        ensures answer { result ≡ answer }
+        ensures failed { OnErr answer ((number : ℕ) → block_at self.new number ≡ None) }
+        ensures done { OnOk answer (self.new ≡ self.old) }
     {
-        self.places.clear();
-        self.kept = 0;
+        if answer.is_err() {
+            self.forget_from(0);
+        }
+        answer
     }
 }
 

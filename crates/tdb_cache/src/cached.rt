@@ -195,16 +195,9 @@ impl<D: Disk> Disk for Cached<D> {
         ensures unread { D.bytes_read (cached_inner self.new) ≡ D.bytes_read (cached_inner self.old) }
         ensures kept { OnOk result (KeepsAll self.old self.new) }
     {
-        match self.inner.write(off, bytes) {
-            Ok(()) => {
-                self.blocks.overwrite(off, bytes);
-                Ok(())
-            }
-            Err(fault) => {
-                self.blocks.clear();
-                Err(fault)
-            }
-        }
+        self.blocks.settle(self.inner.write(off, bytes))?;
+        self.blocks.overwrite(off, bytes);
+        Ok(())
     }
 
     fn write_word(&mut self, off: u64, w: [u8; 4]) -> Result<(), DiskFault>
@@ -219,16 +212,9 @@ impl<D: Disk> Disk for Cached<D> {
         ensures unread { D.bytes_read (cached_inner self.new) ≡ D.bytes_read (cached_inner self.old) }
         ensures kept { OnOk result (KeepsAll self.old self.new) }
     {
-        match self.inner.write_word(off, w) {
-            Ok(()) => {
-                self.blocks.overwrite(off, &w);
-                Ok(())
-            }
-            Err(fault) => {
-                self.blocks.clear();
-                Err(fault)
-            }
-        }
+        self.blocks.settle(self.inner.write_word(off, w))?;
+        self.blocks.overwrite(off, &w);
+        Ok(())
     }
 
     fn grow(&mut self, to: u64) -> Result<(), DiskFault>
@@ -241,19 +227,11 @@ impl<D: Disk> Disk for Cached<D> {
         ensures syncs { D.syncs (cached_inner self.new) ≡ D.syncs (cached_inner self.old) }
         ensures bytes_read { cached_asked self.new ≡ cached_asked self.old }
         ensures unread { D.bytes_read (cached_inner self.new) ≡ D.bytes_read (cached_inner self.old) }
-        ensures kept { OnOk result ((at : ℕ) → at / block_size ≢ D.size (cached_inner self.old) / block_size → IsKept self.old at → IsKept self.new at) }
+        ensures kept { OnOk result ((at : ℕ) → at / block_size < D.size (cached_inner self.old) / block_size → IsKept self.old at → IsKept self.new at) }
     {
         let from = self.inner.len()?;
-        match self.inner.grow(to) {
-            Ok(()) => {
-                self.blocks.forget((from / BLOCK_SIZE as u64) as usize);
-                Ok(())
-            }
-            Err(fault) => {
-                self.blocks.clear();
-                Err(fault)
-            }
-        }
+        self.blocks.forget_from((from / BLOCK_SIZE as u64) as usize);
+        self.blocks.settle(self.inner.grow(to))
     }
 
     fn cut(&mut self, to: u64) -> Result<(), DiskFault>
@@ -266,9 +244,10 @@ impl<D: Disk> Disk for Cached<D> {
         ensures syncs { D.syncs (cached_inner self.new) ≡ D.syncs (cached_inner self.old) }
         ensures bytes_read { cached_asked self.new ≡ cached_asked self.old }
         ensures unread { D.bytes_read (cached_inner self.new) ≡ D.bytes_read (cached_inner self.old) }
+        ensures kept { OnOk result ((at : ℕ) → at / block_size < to / block_size → IsKept self.old at → IsKept self.new at) }
     {
-        self.blocks.clear();
-        self.inner.cut(to)
+        self.blocks.forget_from((to / BLOCK_SIZE as u64) as usize);
+        self.blocks.settle(self.inner.cut(to))
     }
 
     fn sync(&mut self) -> Result<(), DiskFault>
@@ -281,11 +260,7 @@ impl<D: Disk> Disk for Cached<D> {
         ensures unread { D.bytes_read (cached_inner self.new) ≡ D.bytes_read (cached_inner self.old) }
         ensures kept { OnOk result (KeepsAll self.old self.new) }
     {
-        if let Err(fault) = self.inner.sync() {
-            self.blocks.clear();
-            return Err(fault);
-        }
-        Ok(())
+        self.blocks.settle(self.inner.sync())
     }
 
     ghost told_size = { λ c told. D.told_size (cached_inner c) told };

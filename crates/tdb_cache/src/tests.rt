@@ -45,7 +45,10 @@ fn shows_what_the_disk_shows(rt: HostRuntime) -> Result<(), Fail> {
     assert_eq!(rt; (disk.sync(), disk.len()), (Ok(()), Ok(131_072)));
     assert_eq!(rt; (disk.kept(), disk.starved()), (2, 0));
     let inner = disk.into_inner();
-    assert_eq!(rt; &inner.as_slice()[65_532..65_540], b"\x01\x01word\x00\x00".as_slice());
+    assert_eq!(rt;
+        &inner.as_slice()[65_532..65_540],
+        b"\x01\x01word\x00\x00".as_slice()
+    );
     Ok(())
 }
 
@@ -71,9 +74,15 @@ fn after_a_fault_the_disk_is_read_anew(rt: HostRuntime) -> Result<(), Fail> {
     let mut disk = Cached::new(rt.alloc(), inner);
     assert_eq!(rt; eight(&mut disk, 100), Err(DiskFault));
     assert_eq!(rt; eight(&mut disk, 100), Ok([1; 8]));
-    assert_eq!(rt; (disk.write(100, b"word"), disk.kept()), (Err(DiskFault), 0));
+    assert_eq!(rt;
+        (disk.write(100, b"word"), disk.kept()),
+        (Err(DiskFault), 0)
+    );
     assert_eq!(rt; eight(&mut disk, 100), Ok([1; 8]));
-    assert_eq!(rt; (disk.write_word(100, *b"word"), disk.kept()), (Err(DiskFault), 0));
+    assert_eq!(rt;
+        (disk.write_word(100, *b"word"), disk.kept()),
+        (Err(DiskFault), 0)
+    );
     assert_eq!(rt; eight(&mut disk, 100), Ok([1; 8]));
     assert_eq!(rt; (disk.grow(131_172), disk.kept()), (Err(DiskFault), 0));
     assert_eq!(rt; eight(&mut disk, 100), Ok([1; 8]));
