@@ -64,7 +64,7 @@ fn mode_of(rt: HostRuntime, name: &str) -> io::Result<u32> {
 }
 
 #[test]
-fn a_file_is_renamed_and_removed(rt: HostRuntime) -> Result<(), Fail> {
+fn a_file_is_renamed(rt: HostRuntime) -> Result<(), Fail> {
     let mut files = DirFiles::new(rt);
     fs::write(&rt, RENAMED, "one")?;
     files.rename(RENAMED, OTHER)?;
@@ -78,9 +78,18 @@ fn a_file_is_renamed_and_removed(rt: HostRuntime) -> Result<(), Fail> {
     files.rename(RENAMED, OTHER)?;
     assert_eq!(rt; fs::read(&rt, OTHER)?.as_slice(), b"two".as_slice());
     assert_eq!(rt; mode_of(rt, OTHER)?, 0o640);
-    files.remove("tdb_files_to/below")?;
-    files.remove(OTHER)?;
-    files.remove(OTHER)?;
+    fs::remove_file(&rt, OTHER)?;
+    Ok(())
+}
+
+#[test]
+fn a_file_is_removed(rt: HostRuntime) -> Result<(), Fail> {
+    let name = "tdb_files_removed";
+    fs::write(&rt, name, "one")?;
+    let mut files = DirFiles::new(rt);
+    files.remove("tdb_files_removed/below")?;
+    files.remove(name)?;
+    files.remove(name)?;
     assert!(rt; files.remove(".").is_err());
     Ok(())
 }
