@@ -13,6 +13,7 @@ use crate::replacing::replace;
 use std::alloc::{AllocError, Global};
 use std::collections::HashSet;
 use std::fs;
+use tdb_cache::Cached;
 use tdb_disk::{Files, FilesFault, Take, TakeRefusal};
 
 /// The files of the operating system. A name is a path, and a relative one begins at the working folder.
@@ -95,7 +96,7 @@ impl DirFiles {
 impl Files for DirFiles {
     ghost use Rattle.tdb_files.specs.DirFiles.{name_is_taken, dir_faults};
 
-    type D = FileDisk;
+    type D = Cached<FileDisk>;
 
     ghost is_taken = { λ files. name_is_taken files };
 
@@ -103,13 +104,18 @@ impl Files for DirFiles {
 
     ghost faults = { λ files. dir_faults files };
 
-    fn take(&mut self, alloc: Global, name: &str, how: Take) -> Result<FileDisk, TakeRefusal> {
+    fn take(
+        &mut self,
+        alloc: Global,
+        name: &str,
+        how: Take,
+    ) -> Result<Cached<FileDisk>, TakeRefusal> {
         self.identities.reserve(1)?;
         self.mark(alloc, name)?;
         match open(&self.rt, name, how, &self.identities) {
             Ok(disk) => {
                 self.identities.insert(disk.identity()).unwrap();
-                Ok(disk)
+                Ok(Cached::new(alloc, disk))
             }
             Err(refusal) => {
                 let kept = self.unmark(name);
@@ -125,10 +131,11 @@ impl Files for DirFiles {
         }
     }
 
-    fn give(&mut self, name: &str, d: FileDisk) {
+    fn give(&mut self, name: &str, d: Cached<FileDisk>) {
+        let disk = d.into_inner();
         let kept = self.unmark(name);
-        self.identities.remove(&d.identity());
-        if let Some(reason) = d.last_fault() {
+        self.identities.remove(&disk.identity());
+        if let Some(reason) = disk.last_fault() {
             self.fault(kept, reason);
         }
     }
