@@ -1,0 +1,17 @@
+pub mod Maps
+pub mod Local
+pub mod Locks
+pub mod Covered
+pub mod Kept
+pub mod May
+pub mod Sound
+pub mod Pending
+pub mod Mapped
+pub mod Walking
+pub mod Shifting
+pub mod Beginning
+pub mod Moving
+pub mod Numbers
+pub mod Untouched
+pub mod Saying
+pub mod OneTurn

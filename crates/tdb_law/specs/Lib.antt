@@ -1,0 +1,16 @@
+pub mod Commands
+pub mod Openers
+pub mod MapCommands
+pub mod Refusals
+pub mod Rows
+pub mod Ends
+pub mod Outcomes
+pub mod Counting
+pub mod Held
+pub mod World
+pub mod Effects
+pub mod Walks
+pub mod Turned
+pub mod Replay
+pub mod Standing
+pub mod Laws
