@@ -155,7 +155,7 @@ unfolding is_changed takes
 persist f c x m k n e made there = persist_by (refusal f c x) c x m k n e made there
 
 -- the map that an opener sees has a key of another such map
-seen_has : (o : Option Txn) (m n : Map) (k : List ℕ) → (has m k ≡ true → has n k ≡ true) → has (image_or o m) k ≡ true → has (image_or o n) k ≡ true
+pub seen_has : (o : Option Txn) (m n : Map) (k : List ℕ) → (has m k ≡ true → has n k ≡ true) → has (image_or o m) k ≡ true → has (image_or o n) k ≡ true
 seen_has None m n k to e = to e
 seen_has (Some z) m n k to e = e
 

@@ -12,7 +12,7 @@ use Rattle.tdb_law.specs.Commands.WalkCommand.{First, Next, EndWalk, Close}
 use Rattle.tdb_law.specs.Commands.Command.{OnMap, OnLocks, Seqnum, OnGroup, OnWalk}
 use Rattle.tdb_law.specs.Commands.LockCommand.{ChainLock, ChainLockNb, ChainUnlock, LockAll, LockAllRead, UnlockAll}
 use Rattle.tdb_law.specs.Commands.Reply.{Pair}
-use Rattle.tdb_law.specs.Openers.{Own, Txn, Map, Counts, AllLock, Spot, ended, closed, count_at, count_more, count_less, all_more, all_less}
+use Rattle.tdb_law.specs.Openers.{Own, Txn, Map, Counts, AllLock, Spot, ended, closed, opened, count_at, count_more, count_less, all_more, all_less}
 use Rattle.tdb_law.specs.Refusals.{Refusal, refusal, chain_byte}
 use Rattle.tdb_law.specs.Rows.{lock_all, lock_chain, start_locks, commit_locks, lock_locks, plan_locks, group_locks, locks_by, locks, plans_in, look_by}
 use Rattle.tdb_law.specs.Outcomes.{reads_by, changed_txn, own_locked, own_started, own_left, own_prepared, own_cancelled, own_walked, own_by, own_after, own_spared}
@@ -88,8 +88,11 @@ module _ (f : Form) (n b : ℕ) where
   ended_base : (x : Own) → base f (ended x) b ≤ 0
   ended_base x = let e : get (empty {X = ℕ} {R = nat_cmp}) b ≡ None = get-empty nat_cmp b in rw (e, no_count (nat_lt b (data_start f))) (le_refl 0)
 
-  closed_base : (x : Own) → base f (closed x) b ≤ 0
+  pub closed_base : (x : Own) → base f (closed x) b ≤ 0
   closed_base x = let e : get (empty {X = ℕ} {R = nat_cmp}) b ≡ None = get-empty nat_cmp b in rw (e, no_count (nat_lt b (data_start f))) (le_refl 0)
+
+  pub opened_base : (x : Own) → base f (opened x) b ≤ 0
+  opened_base x = let e : get (empty {X = ℕ} {R = nat_cmp}) b ≡ None = get-empty nat_cmp b in rw (e, no_count (nat_lt b (data_start f))) (le_refl 0)
 
   cond_base : (z : Bool) (u v : Own) (most : ℕ) → base f u b ≤ most → base f v b ≤ most → base f (cond z u v) b ≤ most
   cond_base true u v most p q = p

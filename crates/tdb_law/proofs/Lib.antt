@@ -15,3 +15,7 @@ pub mod Numbers
 pub mod Untouched
 pub mod Saying
 pub mod OneTurn
+pub mod Emptied
+pub mod Deaths
+pub mod Happening
+pub mod Undoing

@@ -150,6 +150,14 @@ one_txn f w S o p ne one two =
     let at_p : kept f (w.own p) (w.spot p) 8 ≡ txn_held b.0 8 = ap (λ v. kept_by f v (w.own p) (w.spot p) 8) b.1 in
     omega (arith, S.agrees o 8, S.agrees p 8, at_o, at_p, txn_lock a.0, txn_lock b.0, S.apart o p 8 ne)
 
+-- what an opener holds a report takes it to hold
+pub table_may : (f : Form) (w : State) → IsSound f w → (s : Replay) → Stands f w s → (o b : ℕ) → w.table o b ≤ may_hold f s o b
+table_may f w S s P o b =
+    let stood : (place : ℕ) → (w.spot o).stands ≡ Some place → (data_start f ≤ place) × (is_some (w.own o).cursor ≡ true) = λ place on. (let was = S.stands o place on in (was.1, was.2)) in
+    let task_le = task_may f (w.own o) (w.spot o) (s.begun o) (w.task o) b (P.same o) in
+    let keep_le = keep_may f (w.own o) (w.spot o) b stood in
+    subst (λ y. w.table o b ≤ max (begun_held f y (s.begun o) b) (may_keep f y.txn y b)) (sym (P.owns o)) (omega (arith, S.agrees o b, task_le, keep_le))
+
 module _ (f : Form) (old new : State) (who : ℕ) (task : Task) (turn : Turn) (S : IsSound f old) (T : Turned f old who task turn new) (s : Replay) (P : Stands f old s) where
   abbrev c : Command
   c = task.command
@@ -180,20 +188,12 @@ module _ (f : Form) (old new : State) (who : ℕ) (task : Task) (turn : Turn) (S
   pub same_steps : steps_of (s.begun who) ≡ n
   same_steps = here.0
 
-  -- what an opener holds a report takes it to hold
-  pub table_may : (o b : ℕ) → old.table o b ≤ may_hold f s o b
-  table_may o b =
-      let stood : (place : ℕ) → (old.spot o).stands ≡ Some place → (data_start f ≤ place) × (is_some (old.own o).cursor ≡ true) = λ place on. (let was = S.stands o place on in (was.1, was.2)) in
-      let task_le = task_may f (old.own o) (old.spot o) (s.begun o) (old.task o) b (P.same o) in
-      let keep_le = keep_may f (old.own o) (old.spot o) b stood in
-      subst (λ y. old.table o b ≤ max (begun_held f y (s.begun o) b) (may_keep f y.txn y b)) (sym (P.owns o)) (omega (arith, S.agrees o b, task_le, keep_le))
-
   in_the_way : (o b : ℕ) → IsFirstConflict old.table who W o b → IsInTheWay f s who c o b
   in_the_way o b first = record {
     other = first.other;
     conflict =
         (let le = wanted_may f c x (decided (old.spot who) (old.view who) n) (old.view who) n b in
-        subst₂ (λ y k. 2 < may_want f c y k b + may_hold f s o b) (sym (P.owns who)) (sym same_steps) (omega (arith, first.conflict, le, table_may o b)));
+        subst₂ (λ y k. 2 < may_want f c y k b + may_hold f s o b) (sym (P.owns who)) (sym same_steps) (omega (arith, first.conflict, le, table_may f old S s P o b)));
   }
 
   own_there : s.own who ≡ x

@@ -58,7 +58,7 @@ and_make true b p q = q
 and_make false b p q = p
 
 -- no command takes a key before its first step
-map_unchanged : (c : MapCommand) → map_changed c 0 ≡ false
+pub map_unchanged : (c : MapCommand) → map_changed c 0 ≡ false
 map_unchanged (MapCommand.Fetch k) = refl
 map_unchanged (MapCommand.Has k) = refl
 map_unchanged (MapCommand.Delete k) = refl

@@ -1,5 +1,5 @@
 -- The laws of what several openers of one file may see.
-use Rattle.std.specs.Prelude.{ℕ}
+use Rattle.std.specs.Prelude.{ℕ, ◌≡◌, ◌≤◌, ◌<◌, false, true, None}
 use Rattle.tdb_space.specs.Form.{Form}
 use Rattle.tdb_law.specs.Commands.{Command, Turn}
 use Rattle.tdb_law.specs.Openers.{Task}
@@ -7,6 +7,9 @@ use Rattle.tdb_law.specs.World.{State, IsSound}
 use Rattle.tdb_law.specs.Turned.{Turned}
 use Rattle.tdb_law.specs.Replay.{Replay, Allows, next}
 use Rattle.tdb_law.specs.Standing.{Stands}
+use Rattle.tdb_law.specs.Lines.{Line, AllowsLine, next_line, most_openers}
+use Rattle.tdb_law.specs.Lines.Line.{Joined, JoinBlocked, JoinMany, JoinMemory, Took, Grew, Absent, Idle, Occupied, LogsLeft, Died, Undone}
+use Rattle.tdb_law.specs.Events.{Joins, Dies, Given, Undoes}
 
 -- what a turn leads to: the world is sound, the report may tell the turn, and the replay after it stands for the world
 pub record LawfulTurn (f : Form) (new : State) (s : Replay) (who : ℕ) (c : Command) (turn : Turn) : Type 0 where
@@ -18,3 +21,39 @@ pub record LawfulTurn (f : Form) (new : State) (s : Replay) (who : ℕ) (c : Com
 abbrev pub TurnIsLawful : Type 0
 TurnIsLawful = (f : Form) (old new : State) (who : ℕ) (task : Task) (turn : Turn) (s : Replay) → IsSound f old → Stands f old s → Turned f old who task turn new
     → LawfulTurn f new s who task.command turn
+
+-- what an event with a line of its own leads to
+pub record LawfulLine (f : Form) (new : State) (s : Replay) (line : Line) : Type 0 where
+  pub sound : IsSound f new
+  pub allowed : AllowsLine f s line
+  pub stands : Stands f new (next_line f s line)
+
+-- So is each opener that joins or dies, and each gate that is undone.
+abbrev pub JoinIsLawful : Type 0
+JoinIsLawful = (f : Form) (old new : State) (who : ℕ) (s : Replay) → IsSound f old → Stands f old s → Joins f old who new → LawfulLine f new s (Joined who)
+
+abbrev pub DeathIsLawful : Type 0
+DeathIsLawful = (f : Form) (old new : State) (who : ℕ) (s : Replay) → IsSound f old → Stands f old s → Dies f old who new → LawfulLine f new s (Died who)
+
+abbrev pub UndoIsLawful : Type 0
+UndoIsLawful = (f : Form) (old new : State) (bytes to : ℕ) (s : Replay) → IsSound f old → Stands f old s → Undoes f old new → LawfulLine f new s (Undone bytes to)
+
+-- What leaves the world and tells why: a join while another holds the opening lock, after the most have joined, or for want of memory;
+-- a play of an opener that isn't there, has no command, or has one already; the logs that are left; and how the file grew in a turn.
+abbrev pub IsTold : Form → State → Replay → Line → Type 0
+IsTold f w s (JoinBlocked owner) = (w.joined < most_openers) × (1 ≤ w.table owner 0)
+IsTold f w s JoinMany = most_openers ≤ w.joined
+IsTold f w s JoinMemory = Unit {0}
+IsTold f w s (Absent who) = (w.own who).live ≡ false
+IsTold f w s (Idle who) = ((w.own who).live ≡ true) × (w.task who ≡ None)
+IsTold f w s (Occupied who) = (w.own who).live ≡ true
+IsTold f w s (LogsLeft count) = Unit {0}
+IsTold f w s (Grew from to) = (s.grows ≡ true) × (from < to)
+IsTold f w s line = ⊥
+
+abbrev pub ToldIsLawful : Type 0
+ToldIsLawful = (f : Form) (w : State) (s : Replay) (line : Line) → IsSound f w → Stands f w s → IsTold f w s line → LawfulLine f w s line
+
+-- a command that is given has no line: the world is sound, and the same replay stands for it
+abbrev pub GiftIsLawful : Type 0
+GiftIsLawful = (f : Form) (old new : State) (who : ℕ) (c : Command) (s : Replay) → IsSound f old → Stands f old s → Given old who c new → IsSound f new × Stands f new s

@@ -14,3 +14,5 @@ pub mod Turned
 pub mod Replay
 pub mod Standing
 pub mod Laws
+pub mod Lines
+pub mod Events

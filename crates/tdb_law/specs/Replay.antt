@@ -17,7 +17,7 @@ use Rattle.tdb_law.specs.Effects.{task_left}
 
 -- The state of a replay: the committed map; each opener, how many have joined, and the command of each that has had a line; of each
 -- walk the keys that were shown and those that it still owes; whether the file is stale, and whether it is settled; the sequence
--- number, and the number of each transaction's image.
+-- number, and the number of each transaction's image; and whether the last line was a turn's, after which the file may have grown.
 pub record Replay : Type 0 where
   pub map : Map
   pub own : ℕ → Own
@@ -29,6 +29,7 @@ pub record Replay : Type 0 where
   pub settled : Bool
   pub number : ℕ
   pub image_number : ℕ → ℕ
+  pub grows : Bool
 
 -- how many steps a command has had, where it has had a line
 abbrev pub steps_of : Option Task → ℕ
@@ -138,6 +139,7 @@ turned_state f s who c x n turn =
       settled = settled_after f c x n turn s.settled;
       number = number_after f c x turn s.number (s.image_number who);
       image_number = put s.image_number who (image_number_after f c x turn s.number (s.image_number who));
+      grows = true;
     }
 
 -- A walk owes a key no longer that was touched, that its opener doesn't see, or that another's command has taken out.
