@@ -53,7 +53,7 @@ same_txn : (u v : Txn) → ◌≡◌ {A = Option Txn} (Some u) (Some v) → u �
 same_txn u v e = cc
 
 -- the flag of the last line is no part of what stands
-stands_flag : (f : Form) (w : State) (s : Replay) (b : Bool) → Stands f w s → Stands f w (record s { grows = b })
+pub stands_flag : (f : Form) (w : State) (s : Replay) (b : Bool) → Stands f w s → Stands f w (record s { grows = b })
 stands_flag f w s b P = record {
   joined = P.joined;
   same = P.same;

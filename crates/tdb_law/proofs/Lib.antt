@@ -19,3 +19,4 @@ pub mod Emptied
 pub mod Deaths
 pub mod Happening
 pub mod Undoing
+pub mod Joining

@@ -1,13 +1,17 @@
 -- The laws of what several openers of one file may see.
-use Rattle.std.specs.Prelude.{ℕ, ◌≡◌, ◌≤◌, ◌<◌, false, true, None}
+use Rattle.std.specs.Prelude.{ℕ, ◌≡◌, ◌≤◌, ◌<◌, false, true, None, List}
+use Rattle.tdb_law.specs.Ends.{last_step}
+use Rattle.tdb_law.specs.Plays.{Play, Course}
+use Rattle.tdb_law.specs.Commands.Command.{OnGroup}
+use Rattle.tdb_law.specs.Commands.GroupCommand.{Commit}
 use Rattle.tdb_space.specs.Form.{Form}
 use Rattle.tdb_law.specs.Commands.{Command, Turn}
-use Rattle.tdb_law.specs.Openers.{Task}
+use Rattle.tdb_law.specs.Openers.{Task, Own}
 use Rattle.tdb_law.specs.World.{State, IsSound}
 use Rattle.tdb_law.specs.Turned.{Turned}
 use Rattle.tdb_law.specs.Replay.{Replay, Allows, next}
 use Rattle.tdb_law.specs.Standing.{Stands}
-use Rattle.tdb_law.specs.Lines.{Line, AllowsLine, next_line, most_openers}
+use Rattle.tdb_law.specs.Lines.{Line, AllowsLine, next_line, most_openers, IsLawful, replay}
 use Rattle.tdb_law.specs.Lines.Line.{Joined, JoinBlocked, JoinMany, JoinMemory, Took, Grew, Absent, Idle, Occupied, LogsLeft, Died, Undone}
 use Rattle.tdb_law.specs.Events.{Joins, Dies, Given, Undoes}
 
@@ -57,3 +61,17 @@ ToldIsLawful = (f : Form) (w : State) (s : Replay) (line : Line) → IsSound f w
 -- a command that is given has no line: the world is sound, and the same replay stands for it
 abbrev pub GiftIsLawful : Type 0
 GiftIsLawful = (f : Form) (old new : State) (who : ℕ) (c : Command) (s : Replay) → IsSound f old → Stands f old s → Given old who c new → IsSound f new × Stands f new s
+
+-- what a report leads to
+pub record LawfulRun (f : Form) (new : State) (s : Replay) (lines : List Line) : Type 0 where
+  pub sound : IsSound f new
+  pub lawful : IsLawful f s lines
+  pub stands : Stands f new (replay f s lines)
+
+-- The report of every course of plays is lawful, from each replay that stands for the world before to one that stands for it after.
+abbrev pub CourseIsLawful : Type 0
+CourseIsLawful = (f : Form) (old new : State) (plays : List Play) (lines : List Line) (s : Replay) → IsSound f old → Stands f old s → Course f old plays lines new → LawfulRun f new s lines
+
+-- A command that isn't blocked is done at the latest at its ninth turn, where it is a Commit, and else at its eighth.
+abbrev pub CommandsEnd : Type 0
+CommandsEnd = (f : Form) (c : Command) (x : Own) → (last_step f c x ≤ 8) × ((c ≡ OnGroup Commit → ⊥) → last_step f c x ≤ 7)

@@ -13,6 +13,7 @@ pub mod Walks
 pub mod Turned
 pub mod Replay
 pub mod Standing
+pub mod Plays
 pub mod Laws
 pub mod Lines
 pub mod Events

@@ -1,8 +1,10 @@
 //! What several openers of one file may see: the law of lawful reports, over definitions alone.
 #![tactic(auto)]
 
+mod courses;
 mod events;
 mod turns;
 
+pub use crate::courses::{commands_end, course_is_lawful};
 pub use crate::events::{event_is_lawful, gift_is_lawful};
 pub use crate::turns::turn_is_lawful;
