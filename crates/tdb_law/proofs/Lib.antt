@@ -20,3 +20,4 @@ pub mod Deaths
 pub mod Happening
 pub mod Undoing
 pub mod Joining
+pub mod Plainly

@@ -14,6 +14,7 @@ pub mod Turned
 pub mod Replay
 pub mod Standing
 pub mod Plays
+pub mod Beginning
 pub mod Laws
 pub mod Lines
 pub mod Events

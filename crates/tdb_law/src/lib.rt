@@ -3,8 +3,10 @@
 
 mod courses;
 mod events;
+mod plain;
 mod turns;
 
 pub use crate::courses::{commands_end, course_is_lawful};
 pub use crate::events::{event_is_lawful, gift_is_lawful};
+pub use crate::plain::{beginning_stands, file_is_plain, quiet_is_plain};
 pub use crate::turns::turn_is_lawful;
