@@ -21,3 +21,4 @@ pub mod Happening
 pub mod Undoing
 pub mod Joining
 pub mod Plainly
+pub mod Reported

@@ -16,5 +16,6 @@ pub mod Standing
 pub mod Plays
 pub mod Beginning
 pub mod Laws
+pub mod Reports
 pub mod Lines
 pub mod Events
