@@ -133,3 +133,9 @@ pub names_then : (e : CheckRefusal) (P Q : Fault → Type 0) → ((x : Fault) �
 names_then (Corrupt what at) P Q maps p = maps (what, at) p
 names_then Io P Q maps p = tt
 names_then Memory P Q maps p = tt
+
+-- a refusal that names a fault names one of which this holds, where it holds of each
+pub names_all : (e : CheckRefusal) (P : Fault → Type 0) → ((x : Fault) → P x) → Names e P
+names_all (Corrupt what at) P all = all (what, at)
+names_all Io P all = tt
+names_all Memory P all = tt

@@ -10,9 +10,9 @@ pub mod Among
 pub mod AllLists
 pub mod Checked
 pub mod Still
-pub mod Firsts
-pub mod Keeping
 pub mod NextRecord
+pub mod Walked
+pub mod Notings
 pub mod OneChain
 pub mod AllChains
 pub mod DeadTails

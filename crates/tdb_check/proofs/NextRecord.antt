@@ -1,4 +1,4 @@
--- The next record of a chain, by the tests in their order.
+-- The next record of a chain, where it has no fault of its own.
 use Rattle.std.proofs.Common.{◌≡◌, ℕ, true, false, List, eqb, Some, None, refl, arith}
 use Rattle.std.specs.List.{list_any}
 use Rattle.tdb_words.specs.declared.record.TheConstants.{USED}
@@ -8,23 +8,15 @@ use Rattle.tdb_space.specs.Record.{magic_of}
 use Rattle.tdb_space.specs.FirstFault.{chain_number, record_fault, is_out, is_bad, has_wrong_tailer, is_misfiled, has_twin}
 use Rattle.tdb_space.proofs.Cleared.{none_parts, good_from, filed_from}
 use Rattle.tdb_check.specs.Seen.{own_fault}
-use Rattle.tdb_check.specs.Keys.{Keyed}
+use Rattle.tdb_check.specs.Keys.{IsKeyed}
 
 module _ (f : Form) (j : ℕ) (img : List ℕ) (at : ℕ) (stands : is_out f img at ≡ false) (own : own_fault f (chain_number j) img at ≡ None) where
   -- a used record without a fault of its own has its key within the image, and the hash of it
-  pub keyed_where : magic_of f.order img at ≡ USED → Keyed f img at
+  pub keyed_where : IsKeyed f img at
   keyed_where used =
       let a = none_parts (is_bad f (chain_number j) img at) _ _ own in
       let b = none_parts (has_wrong_tailer f img at) _ _ a.1 in
       let c = none_parts (is_misfiled f (chain_number j) img at) _ _ b.1 in
       let g = good_from f (chain_number j) img at stands a.0 b.0 in
       let filed = filed_from f img j at g.fits c.0 used in
-      record { used = used; within = omega (arith, filed.fits, g.whole.within); hashed = filed.hashed }
-
-  -- with a twin before it, its fault is that
-  pub fault_twin : (earlier : List ℕ) (place : ℕ) → list_any (eqb at) earlier ≡ false → has_twin f img earlier at ≡ true → record_fault f (chain_number j) img earlier place at ≡ Some (TwiceKey, at)
-  fault_twin earlier place new_one twin =
-      let a = none_parts (is_bad f (chain_number j) img at) _ _ own in
-      let b = none_parts (has_wrong_tailer f img at) _ _ a.1 in
-      let c = none_parts (is_misfiled f (chain_number j) img at) _ _ b.1 in
-      rw stands (rw new_one (rw a.0 (rw b.0 (rw c.0 (rw twin refl)))))
+      record { within = omega (arith, filed.fits, g.whole.within); hashed = filed.hashed }

@@ -22,7 +22,7 @@ use Rattle.tdb_space.proofs.Cleared.{clear_from, good_from}
 use Rattle.tdb_space.proofs.Counts.{times-append}
 use Rattle.tdb_space.proofs.Members.{member_held}
 use Rattle.tdb_space.proofs.Maps.{pairs_other}
-use Rattle.tdb_space.proofs.Passed.{AllBelong, passed_linked, passed_filed, passed_keys, differ_none, sound_from}
+use Rattle.tdb_space.proofs.Passed.{AllBelong, passed_linked, passed_filed, sound_from}
 use Rattle.tdb_space.proofs.Listed.{pairs-append, pairs-push}
 use Rattle.tdb_check.specs.declared.extent.Extent.{Extent}
 use Rattle.tdb_check.specs.declared.chain.Notes.{Notes}
@@ -31,9 +31,10 @@ use Rattle.tdb_check.specs.Followed.{ChainFollowed}
 use Rattle.tdb_check.specs.declared.tails.Tails.{Tails}
 use Rattle.tdb_check.specs.Tails.{least_from, KnownTail, TailsOf, EndsAt, first_or, LeadsTo, Closing}
 use Rattle.tdb_check.specs.Chains.{Shows}
-use Rattle.tdb_check.specs.Notes.{DeadEnd, NotesOf, RecordPassed}
+use Rattle.tdb_check.specs.Notes.{DeadEnd, NotesOf, RecordPassed, Walking}
+use Rattle.tdb_check.specs.Walked.{fault_but_twin}
 use Rattle.tdb_check.proofs.Showing.{shows_more, first_held, shows_least}
-use Rattle.tdb_space.proofs.Ends.{passed_more, passed_short}
+use Rattle.tdb_check.proofs.Walked.{walked_more, walked_short, walked_passed, fault_same}
 use Rattle.tdb_check.proofs.Following.{extents_more}
 
 -- a chain's records up to a next word 0 are those of the computed chain
@@ -141,24 +142,14 @@ dead_more f img xs at r dead next_dead d header put =
 pub dead_none : (f : Form) (img : List ℕ) → DeadEnd f img [] []
 dead_none f img = record { before = []; tail = []; parts = refl; unused = λ z m. absurd (false≢true m); shown = refl }
 
--- what was followed so far: the records that were passed and noted, their extents, and how many of them are used
-pub record ChainGoing (f : Form) (j : ℕ) (img : List ℕ) (notes : Notes) (old new : List Extent) (live turn place at : ℕ) : Type 0 where
-  pub xs : List ℕ
-  pub passed : Passed f (chain_number j) img [] (chain_head j) xs place
-  pub next : word f.order img place ≡ at
-  pub noted : NotesOf f img xs notes
-  pub seen : extents_seen new ≡ extents_seen old ++ extents f.order img xs
-  pub used : live ≡ length (pairs f.order img xs)
-  pub count : length xs ≡ turn
+-- what was walked along so far, in so many turns
+pub record ChainWalking (f : Form) (j : ℕ) (img : List ℕ) (notes : Notes) (old new : List Extent) (live turn place at : ℕ) : Type 0 where
+  pub so_far : Walking f j img notes old new live place at
+  pub count : length so_far.xs ≡ turn
 
-pub going_start : (f : Form) (j : ℕ) (img : List ℕ) (notes : Notes) (old : List Extent) (first : ℕ) → word f.order img (chain_head j) ≡ first → NotesOf f img [] notes → ChainGoing f j img notes old old 0 0 (chain_head j) first
-going_start f j img notes old first is none = record {
-  xs = [];
-  passed = refl;
-  next = is;
-  noted = none;
-  seen = sym (append-nil (extents_seen old));
-  used = refl;
+pub walking_start : (f : Form) (j : ℕ) (img : List ℕ) (notes : Notes) (old : List Extent) (first : ℕ) → word f.order img (chain_head j) ≡ first → NotesOf f img [] notes → ChainWalking f j img notes old old 0 0 (chain_head j) first
+walking_start f j img notes old first is none = record {
+  so_far = record { xs = []; walked = refl; next = is; noted = none; seen = sym (append-nil (extents_seen old)); used = refl };
   count = refl;
 }
 
@@ -174,40 +165,48 @@ pair_count o img at =
       | inr other ↦ rw (ne_eqb (magic_of o img at) USED other) refl
     ]
 
-module _ (f : Form) (j : ℕ) (img : List ℕ) (notes : Notes) (old new : List Extent) (live turn place at : ℕ) (h : ChainGoing f j img notes old new live turn place at) where
+pub walking_never : (f : Form) (j : ℕ) (img : List ℕ) (notes : Notes) (old new : List Extent) (live turn place at : ℕ) → ChainWalking f j img notes old new live turn place at → 0 < length img → turn ≡ length img → ⊥
+walking_never f j img notes old new live turn place at h some long = absurd (omega (arith, h.count, long, walked_short f (chain_number j) img (chain_head j) h.so_far.xs place some h.so_far.walked))
+
+pub walking_more : (f : Form) (j : ℕ) (img : List ℕ) (notes : Notes) (old new : List Extent) (live turn place at : ℕ) (h : ChainWalking f j img notes old new live turn place at) (notes2 : Notes) (next_extents : List Extent) (live2 : ℕ) (r : Rec) → at ≢ 0 → RecordPassed f j img h.so_far.xs place at r notes2 → next_extents ≡ new ++ (record { off = at; rec_len = r.rec_len }) ∷ [] → live2 ≡ live + counted r.magic → ChainWalking f j img notes2 old next_extents live2 (turn + 1) at r.next
+walking_more f j img notes old new live turn place at w notes2 next_extents live2 r some p put more =
+    let h = w.so_far in
+    record {
+      so_far = record {
+        xs = h.xs ++ at ∷ [];
+        walked = walked_more f (chain_number j) img [] (chain_head j) h.xs place at h.walked h.next some p.sound;
+        next = sym (ap (λ (x : Rec). x.next) p.header);
+        noted = p.noted;
+        seen = ap extents_seen put ∙ map-append extent_seen new ((record { off = at; rec_len = r.rec_len }) ∷ [])
+            ∙ (λ i. h.seen i ++ (at, 24 + (p.header i).rec_len) ∷ [])
+            ∙ append_assoc (extents_seen old) (extents f.order img h.xs) (extent_at f.order img at ∷ [])
+            ∙ ap (λ es. extents_seen old ++ es) (sym (extents_more f.order img h.xs at));
+        used =
+            (let magic = ap (λ (x : Rec). counted x.magic) p.header in
+            let pushed = ap length (pairs-push f.order img h.xs at) in
+            omega (arith, more, h.used, magic, pair_count f.order img at, pushed, length-append (pairs f.order img h.xs) (pair_of f.order img at)));
+      };
+      count = omega (arith, length-append h.xs (at ∷ []), w.count);
+    }
+
+-- where no key comes twice among the records of a walk, they are passed
+module _ (f : Form) (j : ℕ) (img : List ℕ) (notes : Notes) (old new : List Extent) (live place at : ℕ) (h : Walking f j img notes old new live place at) (differ : KeysDiffer f img h.xs) where
+  passed : Passed f (chain_number j) img [] (chain_head j) h.xs place
+  passed = walked_passed f (chain_number j) img [] (chain_head j) h.xs place h.walked differ
+
   pub going_end : at ≡ 0 → ChainFollowed f j img old new live
   going_end zero_there =
       let ends : word f.order img place ≡ 0 = h.next ∙ zero_there in
-      let is : chain_of f img j ≡ h.xs = chain_is f j img h.xs place h.passed ends in
+      let is : chain_of f img j ≡ h.xs = chain_is f j img h.xs place passed ends in
       record {
-        sound = (h.xs, place, h.passed, ends);
+        sound = (h.xs, place, passed, ends);
         shows = λ held s. subst (λ n. Shows n (held ++ extents f.order img (chain_of f img j))) (sym h.seen)
             (subst (λ xs. Shows (extents_seen old ++ extents f.order img h.xs) (held ++ extents f.order img xs)) (sym is) (shows_more (extents_seen old) held (extents f.order img h.xs) s));
         used = h.used ∙ ap (λ xs. length (pairs f.order img xs)) (sym is);
       }
 
-  pub going_fault : (e : Fault) → at ≢ 0 → record_fault f (chain_number j) img h.xs place at ≡ Some e → FirstInList f (chain_number j) img (chain_head j) e
-  going_fault e some fault = (h.xs, place, h.passed, (λ z. some (sym h.next ∙ z)), subst (λ x. record_fault f (chain_number j) img h.xs place x ≡ Some e) (sym h.next) fault)
-
-  pub going_never : 0 < length img → turn ≡ length img → ⊥
-  going_never some long = absurd (omega (arith, h.count, long, passed_short f (chain_number j) img (chain_head j) h.xs place some h.passed))
-
-  pub going_more : (notes2 : Notes) (next_extents : List Extent) (live2 : ℕ) (r : Rec) → at ≢ 0 → RecordPassed f j img h.xs place at r notes2 → next_extents ≡ new ++ (record { off = at; rec_len = r.rec_len }) ∷ [] → live2 ≡ live + counted r.magic → ChainGoing f j img notes2 old next_extents live2 (turn + 1) at r.next
-  going_more notes2 next_extents live2 r some p put more = record {
-    xs = h.xs ++ at ∷ [];
-    passed = passed_more f (chain_number j) img [] (chain_head j) h.xs place at h.passed h.next some p.sound;
-    next = sym (ap (λ (x : Rec). x.next) p.header);
-    noted = p.noted;
-    seen = ap extents_seen put ∙ map-append extent_seen new ((record { off = at; rec_len = r.rec_len }) ∷ [])
-        ∙ (λ i. h.seen i ++ (at, 24 + (p.header i).rec_len) ∷ [])
-        ∙ append_assoc (extents_seen old) (extents f.order img h.xs) (extent_at f.order img at ∷ [])
-        ∙ ap (λ es. extents_seen old ++ es) (sym (extents_more f.order img h.xs at));
-    used =
-        (let magic = ap (λ (x : Rec). counted x.magic) p.header in
-        let pushed = ap length (pairs-push f.order img h.xs at) in
-        omega (arith, more, h.used, magic, pair_count f.order img at, pushed, length-append (pairs f.order img h.xs) (pair_of f.order img at)));
-    count = omega (arith, length-append h.xs (at ∷ []), h.count);
-  }
+  pub going_fault : (e : Fault) → at ≢ 0 → fault_but_twin f (chain_number j) img h.xs place at ≡ Some e → FirstInList f (chain_number j) img (chain_head j) e
+  going_fault e some fault = (h.xs, place, passed, (λ z. some (sym h.next ∙ z)), subst (λ x. record_fault f (chain_number j) img h.xs place x ≡ Some e) (sym h.next) (fault_same f (chain_number j) img h.xs place at e fault))
 
   -- what was known is known
   pub going_tail : (t : Tails) → TailsOf f img (extents_seen old) t → (least : Extent) → least_from t at ≡ Some least → KnownTail f img (extents_seen new) at least
@@ -221,7 +220,7 @@ module _ (f : Form) (j : ℕ) (img : List ℕ) (notes : Notes) (old new : List E
       record {
         xs = d.tail;
         end = at;
-        leads = passed_leads f j img [] (chain_head j) d.before d.tail place at (subst (λ zs. Passed f (chain_number j) img [] (chain_head j) zs place) d.parts h.passed) h.next d.unused;
+        leads = passed_leads f j img [] (chain_head j) d.before d.tail place at (subst (λ zs. Passed f (chain_number j) img [] (chain_head j) zs place) d.parts passed) h.next d.unused;
         shown = d.shown;
         ends = ends;
         held = λ z m.
@@ -236,16 +235,16 @@ module _ (f : Form) (j : ℕ) (img : List ℕ) (notes : Notes) (old new : List E
   going_known least next_extents k put =
       let first = h.xs in
       let linked : Linked f IsChained img (word f.order img (chain_head j)) (first ++ k.xs) =
-      passed_then f j img [] (chain_head j) first place k.xs h.passed (subst (λ x. Linked f IsChained img x k.xs) (sym h.next) k.linked) in
+      passed_then f j img [] (chain_head j) first place k.xs passed (subst (λ x. Linked f IsChained img x k.xs) (sym h.next) k.linked) in
       let no_pair : pairs f.order img (first ++ k.xs) ≡ pairs f.order img first = unused_pairs f.order img first k.xs k.unused in
       let keys : KeysDiffer f img (first ++ k.xs) =
-      subst (λ (ps : List (List ℕ × List ℕ)). IsDistinct same_key (map (λ (q : List ℕ × List ℕ). q.0) ps)) (sym no_pair) (passed_keys f (chain_number j) img [] (chain_head j) first place h.passed (differ_none f img)) in
+      subst (λ (ps : List (List ℕ × List ℕ)). IsDistinct same_key (map (λ (q : List ℕ × List ℕ). q.0) ps)) (sym no_pair) (differ) in
       let is : chain_of f img j ≡ first ++ k.xs = walk_meets f IsChained img (word f.order img (chain_head j)) (first ++ k.xs) linked in
       let e = extent_at f.order img least.off in
       let all : extents_seen next_extents ≡ (extents_seen old ++ extents f.order img first) ++ e ∷ [] =
       ap extents_seen put ∙ map-append extent_seen new (least ∷ []) ∙ (λ i. h.seen i ++ k.extent i ∷ []) in
       record {
-        sound = sound_from f (chain_number j) img (chain_head j) (first ++ k.xs) linked (belong_then f j img first k.xs (passed_filed f j img [] (chain_head j) first place h.passed) k.unused) keys;
+        sound = sound_from f (chain_number j) img (chain_head j) (first ++ k.xs) linked (belong_then f j img first k.xs (passed_filed f j img [] (chain_head j) first place passed) k.unused) keys;
         shows = λ held s.
             (let both : (held ++ extents f.order img first) ++ extents f.order img k.xs ≡ held ++ extents f.order img (chain_of f img j) =
             append_assoc held (extents f.order img first) (extents f.order img k.xs) ∙ ap (λ es. held ++ es) (sym (extents_then f.order img first k.xs) ∙ ap (extents f.order img) (sym is)) in

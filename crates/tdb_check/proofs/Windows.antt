@@ -1,5 +1,5 @@
 -- What a window onto an image shows: its first bytes from an offset on.
-use Rattle.std.proofs.Common.{◌≡◌, ℕ, ◌+◌, ◌-◌, ◌≤◌, List, ◌++◌, length, take, drop, sym, ◌∙◌, ap, arith}
+use Rattle.std.proofs.Common.{◌≡◌, ℕ, ◌+◌, ◌-◌, ◌≤◌, List, ◌++◌, length, take, drop, refl, sym, ◌∙◌, ap, arith}
 use Rattle.std.proofs.Math.Seq.{take-add}
 use Rattle.std.proofs.lemmas.List.{drop-take}
 use Rattle.std.proofs.lemmas.Grind.{common_steps}
@@ -27,3 +27,20 @@ pub pieces_join : (img : List ℕ) (off done count : ℕ) (piece : List ℕ) →
 pieces_join img off done count piece e =
     let place : drop (off + done) img ≡ drop done (drop off img) = grind (arith, common_steps) in
     ap (λ p. take done (drop off img) ++ p) (e ∙ ap (take count) place) ∙ sym (take-add done count (drop off img))
+
+-- bytes from two offsets on are the same up to the end of a piece, where they are before it and in it
+pub pieces_same : (img : List ℕ) (first second done count : ℕ) → take done (drop first img) ≡ take done (drop second img) → take count (drop (first + done) img) ≡ take count (drop (second + done) img) → take (done + count) (drop first img) ≡ take (done + count) (drop second img)
+pieces_same img first second done count before here =
+    sym (pieces_join img first done count (take count (drop (first + done) img)) refl)
+    ∙ (λ i. before i ++ here i)
+    ∙ pieces_join img second done count (take count (drop (second + done) img)) refl
+
+-- a piece of bytes that are the same
+pub piece_same : (img : List ℕ) (first second done count all : ℕ) → done + count ≤ all → take all (drop first img) ≡ take all (drop second img) → take count (drop (first + done) img) ≡ take count (drop (second + done) img)
+piece_same img first second done count all within same = sym (part first) ∙ ap (λ bytes. drop done (take (done + count) bytes)) same ∙ part second
+  where
+    part : (from : ℕ) → drop done (take (done + count) (take all (drop from img))) ≡ take count (drop (from + done) img)
+    part from =
+        let front : take (done + count) (take all (drop from img)) ≡ take (done + count) (drop from img) = grind (arith, common_steps) in
+        let place : drop done (drop from img) ≡ drop (from + done) img = grind (arith, common_steps) in
+        ap (drop done) front ∙ drop-take done count (drop from img) ∙ ap (take count) place

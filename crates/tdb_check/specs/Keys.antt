@@ -1,43 +1,90 @@
--- What is kept of the keys of one chain, by which a second record with a key is found.
-use Rattle.std.specs.Prelude.{◌≡◌, ℕ, ◌+◌, ◌≤◌, Bool, true, false, Option, Some, None, List, [], ◌∷◌, ◌++◌, length}
-use Rattle.std.specs.Ordering.{nat_cmp}
-use Rattle.std.specs.Cmp.Lexicographic.{slice_cmp}
-use Rattle.std.specs.BTreeSet.{contains}
+-- What is noted of the keys of one chain, and what it says of two records with one key.
+use Rattle.std.specs.Prelude.{◌≡◌, ℕ, ◌+◌, ◌<◌, ◌≤◌, ◌==◌, true, Option, Some, None, List, [], ◌∷◌, ◌++◌, length, map, slice_index_or, bit_xor, if◌then◌else◌}
+use Rattle.std.specs.List.{All, IsDistinct}
 use Rattle.tdb_words.specs.declared.record.TheConstants.{USED}
+use Rattle.sha2.specs.Sha256.{sha256}
+use Rattle.tdb_words.specs.declared.word.Order.TheVariants.{Little}
+use Rattle.tdb_words.specs.Word.{word}
 use Rattle.tdb_words.specs.Hash.{h_of}
 use Rattle.tdb_space.specs.Form.{Form}
 use Rattle.tdb_space.specs.Record.{magic_of, full_hash_of, key_len_of, key_at}
+use Rattle.tdb_space.specs.Pairs.{same_key}
+use Rattle.tdb_space.specs.Accepted.{KeysDiffer}
 use Rattle.tdb_space.specs.Chain.{Member}
 use Rattle.tdb_space.specs.FirstFault.{has_twin}
+use Rattle.tdb_check.specs.declared.keys.Noted.{Noted}
 use Rattle.tdb_check.specs.declared.keys.Keys.{Keys}
-use Rattle.tdb_check.specs.FirstOffsets.{first_of}
 
 -- a used record has its key within the image, and the hash of that key
 pub record Keyed (f : Form) (img : List ℕ) (at : ℕ) : Type 0 where
-  pub used : magic_of f.order img at ≡ USED
   pub within : at + 24 + key_len_of f.order img at ≤ length img
   pub hashed : full_hash_of f.order img at ≡ h_of f.hash (key_at f.order img at)
 
--- one of these records, and used
-pub record UsedIn (f : Form) (img xs : List ℕ) (at : ℕ) : Type 0 where
-  pub member : Member at xs
-  pub used : magic_of f.order img at ≡ USED
+-- where the record is used
+abbrev pub IsKeyed : Form → List ℕ → ℕ → Type 0
+IsKeyed f img at = magic_of f.order img at ≡ USED → Keyed f img at
 
--- Of each hash that a used record of these has, the first of them that has it was put down; and where a second has it, which is
--- where the hash came twice, their keys are kept. Nothing else is kept.
-pub record Kept (f : Form) (img xs : List ℕ) (first : ℕ → Option ℕ) (twice : ℕ → Bool) (keys : List ℕ → Bool) : Type 0 where
-  pub all_keyed : (at : ℕ) → UsedIn f img xs at → Keyed f img at
-  pub alone : (at : ℕ) → UsedIn f img xs at → twice (full_hash_of f.order img at) ≡ false → first (full_hash_of f.order img at) ≡ Some at
-  pub several : (at : ℕ) → UsedIn f img xs at → twice (full_hash_of f.order img at) ≡ true → keys (key_at f.order img at) ≡ true
-  pub first_there : (h : ℕ) → first h ≡ None → twice h ≡ false
-  pub first_used : (h at : ℕ) → first h ≡ Some at → UsedIn f img xs at × (full_hash_of f.order img at ≡ h)
-  pub key_used : (k : List ℕ) → keys k ≡ true → (at : ℕ) × UsedIn f img xs at × (key_at f.order img at ≡ k)
+-- what is noted of a used record
+abbrev pub noted_at : Form → List ℕ → ℕ → Noted
+noted_at f img at = record { mark = full_hash_of f.order img at; key_len = key_len_of f.order img at; at = at }
 
--- the first offsets, the hashes that came twice and the keys are kept of these records
-abbrev pub KeptIn : Form → List ℕ → List ℕ → Keys → Type 0
-KeptIn f img xs k = Kept f img xs (first_of k.first) (contains nat_cmp k.twice) (contains (slice_cmp nat_cmp) k.keys)
+-- what is noted of the used ones among these records
+abbrev pub notes_of : Form → List ℕ → List ℕ → List Noted
+notes_of f img [] = []
+notes_of f img (x ∷ xs) = if magic_of f.order img x == USED then noted_at f img x ∷ notes_of f img xs else notes_of f img xs
 
--- the answer says whether the record at an offset has a twin among these; where it has none, it is kept with them
-pub record TwinTold (f : Form) (img xs : List ℕ) (at : ℕ) (twin : Bool) (k : Keys) : Type 0 where
-  pub answer : twin ≡ has_twin f img xs at
-  pub kept : twin ≡ false → KeptIn f img (xs ++ at ∷ []) k
+abbrev pub mark_of : Noted → ℕ
+mark_of e = e.mark
+
+-- the key of a noted record
+abbrev pub key_of_noted : Form → List ℕ → Noted → List ℕ
+key_of_noted f img e = key_at f.order img e.at
+
+-- a noted record's key stands in the image, and has its length and its mark
+pub record IsNoted (mark : List ℕ → ℕ) (f : Form) (img : List ℕ) (e : Noted) : Type 0 where
+  pub within : e.at + 24 + e.key_len ≤ length img
+  pub long : e.key_len ≡ key_len_of f.order img e.at
+  pub marked : e.mark ≡ mark (key_of_noted f img e)
+
+abbrev pub AllNoted : (List ℕ → ℕ) → Form → List ℕ → List Noted → Type 0
+AllNoted mark f img = All (IsNoted mark f img)
+
+-- a noted record, marked by the hash and the length of its key
+abbrev pub mixed : Noted → Noted
+mixed e = record { mark = bit_xor e.mark e.key_len; key_len = e.key_len; at = e.at }
+
+abbrev pub mixed_mark : Form → List ℕ → ℕ
+mixed_mark f key = bit_xor (h_of f.hash key) (length key)
+
+-- a noted record, marked by the first word of the digest of its key
+abbrev pub digest_mark : List ℕ → ℕ
+digest_mark key = word Little (sha256 key) 0
+
+abbrev pub digested : Form → List ℕ → Noted → Noted
+digested f img e = record { mark = digest_mark (key_of_noted f img e); key_len = e.key_len; at = e.at }
+
+-- the marks of the first so many records rise
+abbrev pub MarksRise : List Noted → ℕ → Type 0
+MarksRise es n = (i : ℕ) (d : Noted) → i + 1 < n → mark_of (slice_index_or es i d) < mark_of (slice_index_or es (i + 1) d)
+
+-- no two noted records have the same key
+abbrev pub NotedDiffer : Form → List ℕ → List Noted → Type 0
+NotedDiffer f img es = IsDistinct same_key (map (key_of_noted f img) es)
+
+-- one before a noted record has its key
+abbrev pub TwinAt : Form → List ℕ → List Noted → ℕ → Type 0
+TwinAt f img es i = (k : ℕ) × (k < i) × ((d : Noted) → key_of_noted f img (slice_index_or es k d) ≡ key_of_noted f img (slice_index_or es i d))
+
+-- none of those before a noted record has its key, from a place on
+abbrev pub NoTwinBefore : Form → List ℕ → List Noted → ℕ → ℕ → Type 0
+NoTwinBefore f img es i from = (k : ℕ) (d : Noted) → from ≤ k → k < i → key_of_noted f img (slice_index_or es k d) ≡ key_of_noted f img (slice_index_or es i d) → ⊥
+
+-- the used ones among these records are noted
+pub record KeptIn (f : Form) (img xs : List ℕ) (k : Keys) : Type 0 where
+  pub noted : k.noted.items ≡ notes_of f img xs
+  pub all_noted : AllNoted (h_of f.hash) f img k.noted.items
+
+-- what is found among records: that no two have one key, or the first whose key an earlier one has
+abbrev pub TwinFound : Form → List ℕ → List ℕ → Option ℕ → Type 0
+TwinFound f img xs None = KeysDiffer f img xs
+TwinFound f img xs (Some at) = (ys : List ℕ) × (zs : List ℕ) × (xs ≡ ys ++ at ∷ zs) × KeysDiffer f img ys × (has_twin f img ys at ≡ true)

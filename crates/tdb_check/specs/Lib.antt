@@ -8,7 +8,7 @@ pub mod Report
 pub mod Stray
 pub mod Lists
 pub mod Trail
-pub mod FirstOffsets
 pub mod Keys
+pub mod Walked
 pub mod Notes
 pub mod Tails

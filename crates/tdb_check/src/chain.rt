@@ -5,12 +5,13 @@ ghost use Rattle.tdb_disk.specs.Count.{HasCauseOf};
 ghost use Rattle.tdb_words.specs.Word.{word};
 ghost use Rattle.tdb_space.specs.Form.{Form, data_start, chain_head};
 ghost use Rattle.tdb_space.specs.Extents.{Extent as Held};
-ghost use Rattle.tdb_space.specs.FirstFault.{chain_number, record_fault, FirstInList};
+ghost use Rattle.tdb_space.specs.FirstFault.{chain_number, FirstInList};
 ghost use Rattle.tdb_check.specs.Seen.{Names};
 ghost use Rattle.tdb_check.specs.Followed.{ChainFollowed};
 ghost use Rattle.tdb_check.specs.Extent.{extents_seen};
 ghost use Rattle.tdb_check.specs.Tails.{TailsOf};
-ghost use Rattle.tdb_check.specs.Notes.{NotesOf, RecordPassed};
+ghost use Rattle.tdb_check.specs.Walked.{fault_but_twin};
+ghost use Rattle.tdb_check.specs.Notes.{NotesOf, RecordPassed, WalkDone};
 ghost use Rattle.tdb_space.specs.Frame.{Looked};
 ghost use Rattle.tdb_check.specs.declared.refusal.CheckRefusal.TheVariants.{Io};
 
@@ -84,8 +85,8 @@ fn note_dead(dead: &mut Vec<Extent>, at: u32, r: &Rec) -> Result<(), AllocError>
 }
 
 /// The header of the record that the word at a place leads to, in chain `j` after the records that are noted; it is noted too. Or
-/// what is first wrong there: the word leads out of the file or back into the chain, the record is bad by itself, or an earlier one
-/// has its key.
+/// what is first wrong there: the word leads out of the file or back into the chain, or the record is bad by itself. Whether an
+/// earlier one has its key isn't looked for.
 fn pass_record<S: Space>(
     s: &mut S,
     len: u64,
@@ -99,7 +100,8 @@ fn pass_record<S: Space>(
     ensures good { IfOk result (λ r. IsTrue S.tells → length (S.image s.old) ≡ len → (xs : List ℕ) → NotesOf (S.form s.old) (S.image s.old) xs notes.old
         → RecordPassed (S.form s.old) j (S.image s.old) xs place at r notes.new) }
     ensures bad { IfErr result (λ e. IsTrue S.tells → length (S.image s.old) ≡ len → (xs : List ℕ) → NotesOf (S.form s.old) (S.image s.old) xs notes.old
-        → Names e (λ fault. record_fault (S.form s.old) (chain_number j) (S.image s.old) xs place at ≡ Some fault)) }
+        → Names e (λ fault. fault_but_twin (S.form s.old) (chain_number j) (S.image s.old) xs place at ≡ Some fault)) }
+    ensures kept { IfErr result (λ e. Names e (λ _. notes.new ≡ notes.old)) }
     ensures tails { notes.new.tails ≡ notes.old.tails }
     ensures looked { Looked S.Space s.old s.new }
     ensures cause { HasCauseOf Io (S.faults s.old) (S.faults s.new) result }
@@ -120,17 +122,8 @@ fn pass_record<S: Space>(
         Ok(r) => r,
         Err(e) => return Err(e),
     };
-    let twin = match notes.keys.is_twin(s, len, at, &r) {
-        Ok(twin) => twin,
-        Err(e) => return Err(e),
-    };
-    if twin {
-        return Err(CheckRefusal::Corrupt {
-            what: What::TwiceKey,
-            at: at as u64,
-        });
-    }
     notes.offsets.note(at)?;
+    notes.keys.note(at, &r)?;
     note_dead(&mut notes.dead, at, &r)?;
     Ok(r)
 }
@@ -141,6 +134,98 @@ fn used_count(r: &Rec) -> u64
     ensures at_most { result ≤ 1 }
 {
     if r.magic == USED { 1 } else { 0 }
+}
+
+/// How a walk along a chain ends.
+#[derive(Clone, Copy, Debug)]
+pub enum End {
+    /// At a word 0.
+    Last,
+
+    /// At the end of an earlier chain, where this is the least extent.
+    Known(Extent),
+
+    /// At a fault of the file.
+    Fault { what: What, at: u64 },
+}
+
+/// A walk along a chain.
+#[derive(Clone, Copy, Debug)]
+pub struct Walk {
+    /// How many of the records are used.
+    pub live: u64,
+
+    /// How it ends.
+    pub end: End,
+}
+
+/// Walks along chain `j` from the first word that its head holds, puts the extents of its records behind those that are there, and
+/// notes the records. Whether two of them have one key isn't looked for.
+fn walk_chain<S: Space>(
+    s: &mut S,
+    len: u64,
+    j: u32,
+    first: u32,
+    notes: &mut Notes,
+    extents: &mut Vec<Extent>,
+) -> Result<Walk, CheckRefusal>
+    requires length { len ≡ S.size s.old }
+    requires heads { data_start (S.form s.old) ≤ len }
+    requires chains { 0 < (S.form s.old).chains }
+    ensures walked { IfOk result (λ walk. IsTrue S.tells → length (S.image s.old) ≡ len → word (S.form s.old).order (S.image s.old) (chain_head j) ≡ first
+        → WalkDone (S.form s.old) j (S.image s.old) notes.new extents.old.items extents.new.items walk) }
+    ensures no_fault { IfErr result (λ e. Names e (λ _. ⊥)) }
+    ensures tails { notes.new.tails ≡ notes.old.tails }
+    ensures count { IfOk result (λ walk. walk.live + length extents.old.items ≤ length extents.new.items) }
+    ensures looked { Looked S.Space s.old s.new }
+    ensures cause { HasCauseOf Io (S.faults s.old) (S.faults s.new) result }
+{
+    notes.clear();
+    let mut place = 172 + 4 * j as u64;
+    let mut at = first;
+    let mut live = 0u64;
+    for _turn in 0..len {
+        if at == 0 {
+            return Ok(Walk {
+                live,
+                end: End::Last,
+            });
+        }
+        if let Some(least) = notes.tails.least_from(at) {
+            return Ok(Walk {
+                live,
+                end: End::Known(least),
+            });
+        }
+        let r = match pass_record(s, len, j, place, at, notes) {
+            Ok(r) => r,
+            Err(CheckRefusal::Corrupt { what, at }) => {
+                return Ok(Walk {
+                    live,
+                    end: End::Fault { what, at },
+                });
+            }
+            Err(CheckRefusal::Io) => return Err(CheckRefusal::Io),
+            Err(CheckRefusal::Memory) => return Err(CheckRefusal::Memory),
+        };
+        put(
+            extents,
+            Extent {
+                off: at,
+                rec_len: r.rec_len,
+            },
+        )?;
+        live += used_count(&r);
+        place = at as u64;
+        at = r.next;
+    }
+    Ok(Walk {
+        live,
+        end: End::Fault {
+            what: What::ChainLoop,
+            at: place,
+        },
+    })
 }
 
 /// Follows chain `j` from the first word that its head holds to its end, and puts the extents of its records behind those that are
@@ -171,37 +256,30 @@ pub fn follow_chain<S: Space>(
     if first == 0 {
         return Ok(0);
     }
-    notes.clear();
-    let mut place = 172 + 4 * j as u64;
-    let mut at = first;
-    let mut live = 0u64;
-    for _turn in 0..len {
-        if at == 0 {
+    let walk = match walk_chain(s, len, j, first, notes, extents) {
+        Ok(walk) => walk,
+        Err(e) => return Err(e),
+    };
+    let twin = match notes.keys.first_twin(s, len) {
+        Ok(twin) => twin,
+        Err(e) => return Err(e),
+    };
+    if let Some(at) = twin {
+        return Err(CheckRefusal::Corrupt {
+            what: What::TwiceKey,
+            at: at as u64,
+        });
+    }
+    match walk.end {
+        End::Fault { what, at } => Err(CheckRefusal::Corrupt { what, at }),
+        End::Last => {
             notes.tails.keep(&mut notes.dead, None)?;
-            return Ok(live);
+            Ok(walk.live)
         }
-        if let Some(least) = notes.tails.least_from(at) {
+        End::Known(least) => {
             notes.tails.keep(&mut notes.dead, Some(least))?;
             put(extents, least)?;
-            return Ok(live);
+            Ok(walk.live)
         }
-        let r = match pass_record(s, len, j, place, at, notes) {
-            Ok(r) => r,
-            Err(e) => return Err(e),
-        };
-        put(
-            extents,
-            Extent {
-                off: at,
-                rec_len: r.rec_len,
-            },
-        )?;
-        live += used_count(&r);
-        place = at as u64;
-        at = r.next;
     }
-    Err(CheckRefusal::Corrupt {
-        what: What::ChainLoop,
-        at: place,
-    })
 }

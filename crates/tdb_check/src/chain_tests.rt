@@ -82,6 +82,9 @@ fn follows_a_chain(rt: HostRuntime) -> Result<(), Fail> {
         ([b"aa", b"cc", b"aa"], USED, 0, bad(What::TwiceKey, 240)),
         ([b"aa", b"Ab", b"aa"], USED, 0, bad(What::TwiceKey, 240)),
         ([b"aa", b"Ab", b"Ab"], USED, 0, bad(What::TwiceKey, 240)),
+        ([b"aa", b"aa", b"bb"], USED, 172, bad(What::TwiceKey, 208)),
+        ([b"aa", b"cc", b"aa"], USED, 208, bad(What::TwiceKey, 240)),
+        ([b"aa", b"Ab", b"bb"], USED, 172, bad(What::ChainOut, 240)),
         ([b"aa", b"cc", b"bb"], USED, 208, bad(What::ChainLoop, 240)),
         ([b"aa", b"cc", b"bb"], USED, 172, bad(What::ChainOut, 240)),
     ] {

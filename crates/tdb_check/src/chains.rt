@@ -66,9 +66,9 @@ fn follow_block<S: Space>(
 /// Follows chains 0, 1, 2 and so on to their ends, puts the extents of their records behind those that are there, and answers how
 /// many of the records are used; or answers what is first wrong with a chain. Where a chain leads to dead records at the end of an
 /// earlier one, only the least of their extents is put down once more. The heads are read 4096 bytes at a time; a head of 0 costs
-/// nothing more. Of each record an extent of 8 bytes is kept, of the longest chain its offsets and hashes besides, and an extent for
-/// each dead record behind the last used one of its chain. For n records in all it takes n log n steps, whatever the chains share.
-/// Where two records of a chain have one hash, their keys are read, each once, and kept up to its end.
+/// nothing more. Of each record an extent of 8 bytes is kept, of the longest chain its offsets and 24 bytes a used record besides,
+/// and an extent for each dead record behind the last used one of its chain. For n records in all it takes n log n steps, whatever
+/// the chains share. Keys are read again only where two of a chain may have one hash and one length, and none is kept.
 pub fn follow_chains<S: Space>(
     alloc: Global,
     s: &mut S,

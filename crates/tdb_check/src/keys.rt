@@ -1,48 +1,53 @@
-// The keys of one chain, as far as it takes to find a second record with one of them.
+// The keys of one chain, by what is known of them without reading, and the first of them that an earlier record has.
 
-ghost use Rattle.std.specs.Prelude.{◌≡◌, ℕ, List, [], ◌+◌, ◌<◌, ◌||◌, true, false, not, nat_eq, IsTrue, length, Some, IfOk, IfErr, OnOk};
+ghost use Rattle.std.specs.Prelude.{◌≡◌, ℕ, ◌<◌, ◌≤◌, true, List, [], ◌∷◌, ◌++◌, false, map, IsTrue, length, take, IfOk, IfErr, OnOk, MatchBool};
 ghost use Rattle.tdb_disk.specs.Count.{HasCauseOf};
-ghost use Rattle.std.specs.Ordering.{nat_cmp};
-ghost use Rattle.std.specs.Cmp.Lexicographic.{slice_cmp};
-ghost use Rattle.std.specs.BTreeSet.{contains};
+ghost use Rattle.std.specs.List.Sorted.{IsNonDecreasingBy, IsPermutation};
+ghost use Rattle.tdb_words.specs.Hash.{h_of};
 ghost use Rattle.tdb_words.specs.Record.{rec_at};
 ghost use Rattle.tdb_space.specs.Form.{Form};
-ghost use Rattle.tdb_space.specs.Record.{key_len_of, key_at};
-ghost use Rattle.tdb_space.specs.Pairs.{same_key};
-ghost use Rattle.tdb_check.specs.FirstOffsets.{first_of};
 ghost use Rattle.tdb_check.specs.Seen.{Names};
+ghost use Rattle.tdb_check.specs.Keys.{mark_of, mixed, digested, MarksRise, AllNoted, NotedDiffer, TwinAt, NoTwinBefore};
 ghost use Rattle.tdb_space.specs.Frame.{Looked};
 ghost use Rattle.tdb_check.specs.declared.refusal.CheckRefusal.TheVariants.{Io};
 
-use crate::first_offsets::FirstOffsets;
 use crate::refusal::CheckRefusal;
+use crate::same_key::{key_digest, same_key};
 use std::alloc::{AllocError, Global};
-use std::collections::BTreeSet;
-use tdb_space::{Space, read_rec};
-use tdb_words::{Bytes, Rec, USED, What};
+use tdb_space::Space;
+use tdb_words::{Rec, USED};
 
-/// The keys of one chain, as far as it takes to find a second record with one of them: of each hash the first record that has it,
-/// and the keys of the records whose hash came twice.
+/// A used record, by what tells its key from most others.
+#[derive(Clone, Copy, Debug)]
+pub struct Noted {
+    /// A number that its key determines.
+    pub mark: u32,
+
+    /// The length of its key in bytes.
+    pub key_len: u32,
+
+    /// Its offset.
+    pub at: u32,
+}
+
+/// The used records of one chain in their order, 12 bytes each, and room for as many in the order of their marks. `clear` keeps
+/// the memory.
 #[derive(Drop)]
 pub struct Keys {
-    alloc: Global,
-    first: FirstOffsets,
-    twice: BTreeSet<u32>,
-    keys: BTreeSet<Bytes>,
+    noted: Vec<Noted>,
+    sorted: Vec<Noted>,
 }
 
 impl Keys {
-    ghost use Rattle.tdb_check.specs.Keys.{Keyed, KeptIn, TwinTold};
+    ghost use Rattle.tdb_check.specs.Keys.{KeptIn, IsKeyed, TwinFound};
 
-    /// Keys of no record. It takes no memory.
+    /// No record. It takes no memory.
     pub fn new(alloc: Global) -> Self
         ensures { (f : Form) (img : List ℕ) → KeptIn f img [] result }
     {
         Keys {
-            alloc,
-            first: FirstOffsets::new(alloc),
-            twice: BTreeSet::new(alloc),
-            keys: BTreeSet::new(alloc),
+            noted: Vec::new(alloc),
+            sorted: Vec::new(alloc),
         }
     }
 
@@ -50,116 +55,221 @@ impl Keys {
     pub fn clear(&mut self)
         ensures { (f : Form) (img : List ℕ) → KeptIn f img [] self.new }
     {
-        self.first.clear();
-        self.twice.clear();
-        self.keys.clear();
+        self.noted.clear();
     }
 
-    /// Whether the record of this header is used and an earlier used one of the chain has its key; it is noted for the later ones.
-    /// Nothing is read where the hash is new. Else its key is read, and where the hash came once, that of the first record with it,
-    /// each with its header. Takes log n steps for n records, and as many comparisons of keys.
-    pub fn is_twin<S: Space>(
-        &mut self,
-        s: &mut S,
-        len: u64,
-        at: u32,
-        r: &Rec,
-    ) -> Result<bool, CheckRefusal>
+    /// Notes the record of this header, where it is used. Fails only for want of memory.
+    pub fn note(&mut self, at: u32, r: &Rec) -> Result<(), AllocError>
+        ensures { OnOk result ((f : Form) (img xs : List ℕ) → KeptIn f img xs self.old → r.now ≡ rec_at f.order img at → IsKeyed f img at → KeptIn f img (xs ++ at ∷ []) self.new) }
+    {
+        if r.magic != USED {
+            return Ok(());
+        }
+        self.noted.push(Noted {
+            mark: r.full_hash,
+            key_len: r.key_len,
+            at,
+        })?;
+        Ok(())
+    }
+
+    /// The offset of the first record whose key an earlier one has, if there is one. Keys are read only where two may have one hash
+    /// and one length; then a digest of each is made, and those with one digest are compared. Where no two keys are the same this is
+    /// done once, and else once more for each halving of the number of records. It takes n log n steps for n records.
+    pub fn first_twin<S: Space>(&mut self, s: &mut S, len: u64) -> Result<Option<u32>, CheckRefusal>
         requires length { len ≡ S.size s.old }
-        ensures twin { IfOk result (λ twin. IsTrue S.tells → length (S.image s.old) ≡ len → (xs : List ℕ) → KeptIn (S.form s.old) (S.image s.old) xs self.old
-            → r.now ≡ rec_at (S.form s.old).order (S.image s.old) at → (r.now.magic ≡ USED → Keyed (S.form s.old) (S.image s.old) at)
-            → TwinTold (S.form s.old) (S.image s.old) xs at twin self.new) }
-        ensures no_fault { IfErr result (λ e. IsTrue S.tells → length (S.image s.old) ≡ len → (xs : List ℕ) → KeptIn (S.form s.old) (S.image s.old) xs self.old
-            → (r.now.magic ≡ USED → Keyed (S.form s.old) (S.image s.old) at) → Names e (λ _. ⊥)) }
+        ensures found { IfOk result (λ twin. IsTrue S.tells → length (S.image s.old) ≡ len → (xs : List ℕ) → KeptIn (S.form s.old) (S.image s.old) xs self.old → TwinFound (S.form s.old) (S.image s.old) xs twin) }
+        ensures no_fault { IfErr result (λ e. IsTrue S.tells → length (S.image s.old) ≡ len → (xs : List ℕ) → KeptIn (S.form s.old) (S.image s.old) xs self.old → Names e (λ _. ⊥)) }
         ensures looked { Looked S.Space s.old s.new }
         ensures cause { HasCauseOf Io (S.faults s.old) (S.faults s.new) result }
     {
-        if r.magic != USED {
+        let mut most = self.noted.len();
+        let twins = match self.has_twins(s, len, most) {
+            Ok(twins) => twins,
+            Err(e) => return Err(e),
+        };
+        if !twins {
+            return Ok(None);
+        }
+        let mut least = 0;
+        while most - least > 1 {
+            let middle = least + (most - least) / 2;
+            let twins = match self.has_twins(s, len, middle) {
+                Ok(twins) => twins,
+                Err(e) => return Err(e),
+            };
+            if twins {
+                most = middle;
+            } else {
+                least = middle;
+            }
+        }
+        Ok(Some(self.noted[least].at))
+    }
+
+    /// Whether two of the first records have the same key.
+    fn has_twins<S: Space>(
+        &mut self,
+        s: &mut S,
+        len: u64,
+        count: usize,
+    ) -> Result<bool, CheckRefusal>
+        requires length { len ≡ S.size s.old }
+        requires within { count ≤ length self.old.noted.items }
+        ensures noted { self.new.noted ≡ self.old.noted }
+        ensures some { IfOk result (λ twins. twins ≡ true → 0 < count) }
+        ensures twins { IfOk result (λ twins. IsTrue S.tells → length (S.image s.old) ≡ len → AllNoted (h_of (S.form s.old).hash) (S.form s.old) (S.image s.old) self.old.noted.items
+            → MatchBool twins (NotedDiffer (S.form s.old) (S.image s.old) (take count self.old.noted.items) → ⊥) (NotedDiffer (S.form s.old) (S.image s.old) (take count self.old.noted.items))) }
+        ensures no_fault { IfErr result (λ e. IsTrue S.tells → length (S.image s.old) ≡ len → AllNoted (h_of (S.form s.old).hash) (S.form s.old) (S.image s.old) self.old.noted.items → Names e (λ _. ⊥)) }
+        ensures looked { Looked S.Space s.old s.new }
+        ensures cause { HasCauseOf Io (S.faults s.old) (S.faults s.new) result }
+    {
+        copy_mixed(&self.noted[..count], &mut self.sorted)?;
+        sort_by_mark(&mut self.sorted);
+        if !has_equal_marks(&self.sorted) {
             return Ok(false);
         }
-        let Some(first) = self.first.get(r.full_hash) else {
-            self.first.put(r.full_hash, at)?;
-            return Ok(false);
-        };
-        match self.keep_first(s, len, first, r.full_hash) {
+        match copy_digests(s, len, &self.noted[..count], &mut self.sorted) {
             Ok(()) => {}
             Err(e) => return Err(e),
         }
-        let key = match read_key(self.alloc, s, len, at) {
-            Ok(key) => key,
-            Err(e) => return Err(e),
-        };
-        Ok(!keep(&mut self.keys, key)?)
-    }
-
-    /// Keeps the key of the first record with a hash that came again, unless it came twice before.
-    fn keep_first<S: Space>(
-        &mut self,
-        s: &mut S,
-        len: u64,
-        first: u32,
-        hash: u32,
-    ) -> Result<(), CheckRefusal>
-        requires length { len ≡ S.size s.old }
-        ensures kept { OnOk result (IsTrue S.tells → length (S.image s.old) ≡ len → (xs : List ℕ) → KeptIn (S.form s.old) (S.image s.old) xs self.old
-            → first_of self.old.first hash ≡ Some first → KeptIn (S.form s.old) (S.image s.old) xs self.new) }
-        ensures twice { OnOk result (contains nat_cmp self.new.twice hash ≡ true) }
-        ensures first { OnOk result (self.new.first ≡ self.old.first) }
-        ensures no_fault { IfErr result (λ e. IsTrue S.tells → length (S.image s.old) ≡ len → (xs : List ℕ) → KeptIn (S.form s.old) (S.image s.old) xs self.old
-            → first_of self.old.first hash ≡ Some first → Names e (λ _. ⊥)) }
-        ensures looked { Looked S.Space s.old s.new }
-        ensures cause { HasCauseOf Io (S.faults s.old) (S.faults s.new) result }
-    {
-        if self.twice.contains(&hash) {
-            return Ok(());
-        }
-        let key = match read_key(self.alloc, s, len, first) {
-            Ok(key) => key,
-            Err(e) => return Err(e),
-        };
-        keep(&mut self.keys, key)?;
-        note(&mut self.twice, hash)?;
-        Ok(())
+        sort_by_mark(&mut self.sorted);
+        any_twins(s, len, &self.sorted)
     }
 }
 
-/// Keeps a key, and answers whether it is new.
-fn keep(keys: &mut BTreeSet<Bytes>, key: Bytes) -> Result<bool, AllocError>
-    ensures new { IfOk result (λ added. added ≡ not (contains (slice_cmp nat_cmp) keys.old key)) }
-    ensures there { OnOk result ((q : List ℕ) → contains (slice_cmp nat_cmp) keys.new q ≡ (same_key key q || contains (slice_cmp nat_cmp) keys.old q)) }
+/// Makes a list that of these records, each marked by the hash and the length of its key.
+fn copy_mixed(noted: &[Noted], sorted: &mut Vec<Noted>) -> Result<(), AllocError>
+    ensures { OnOk result (sorted.new.items ≡ map mixed noted.now) }
 {
-    Ok(keys.insert(key)?)
-}
-
-/// Notes a hash that came twice.
-fn note(twice: &mut BTreeSet<u32>, hash: u32) -> Result<(), AllocError>
-    ensures { OnOk result ((q : ℕ) → contains nat_cmp twice.new q ≡ (nat_eq q hash || contains nat_cmp twice.old q)) }
-{
-    twice.insert(hash)?;
+    sorted.clear();
+    for record in noted {
+        sorted.push(Noted {
+            mark: record.mark ^ record.key_len,
+            key_len: record.key_len,
+            at: record.at,
+        })?;
+    }
     Ok(())
 }
 
-/// The key of the record at an offset, in memory of its own length. A key that passes the end of the file makes the record bad.
-fn read_key<S: Space>(alloc: Global, s: &mut S, len: u64, at: u32) -> Result<Bytes, CheckRefusal>
+/// Puts a record at the end.
+fn put(records: &mut Vec<Noted>, one: Noted) -> Result<(), AllocError>
+    ensures { OnOk result (records.new.items ≡ records.old.items ++ one ∷ []) }
+{
+    records.push(one)?;
+    Ok(())
+}
+
+/// Makes a list that of these records, each marked by a digest of its key, which is read.
+fn copy_digests<S: Space>(
+    s: &mut S,
+    len: u64,
+    noted: &[Noted],
+    sorted: &mut Vec<Noted>,
+) -> Result<(), CheckRefusal>
     requires length { len ≡ S.size s.old }
-    ensures value { IfOk result (λ key. IsTrue S.tells → key ≡ key_at (S.form s.old).order (S.image s.old) at) }
-    ensures bad { IfErr result (λ e. IsTrue S.tells → Names e (λ _. len < at + 24 + key_len_of (S.form s.old).order (S.image s.old) at)) }
+    ensures marked { OnOk result (IsTrue S.tells → length (S.image s.old) ≡ len → (mark : List ℕ → ℕ) → AllNoted mark (S.form s.old) (S.image s.old) noted.now
+        → sorted.new.items ≡ map (digested (S.form s.old) (S.image s.old)) noted.now) }
+    ensures long { OnOk result (length sorted.new.items ≡ length noted.now) }
+    ensures no_fault { IfErr result (λ e. IsTrue S.tells → length (S.image s.old) ≡ len → (mark : List ℕ → ℕ) → AllNoted mark (S.form s.old) (S.image s.old) noted.now → Names e (λ _. ⊥)) }
     ensures looked { Looked S.Space s.old s.new }
     ensures cause { HasCauseOf Io (S.faults s.old) (S.faults s.new) result }
 {
-    let off = at as u64 + 24;
-    let bad = CheckRefusal::Corrupt {
-        what: What::BadRecord,
-        at: at as u64,
-    };
-    if len < off {
-        return Err(bad);
+    sorted.clear();
+    for record in noted {
+        let mark = match key_digest(s, len, record) {
+            Ok(mark) => mark,
+            Err(e) => return Err(e),
+        };
+        put(
+            sorted,
+            Noted {
+                mark,
+                key_len: record.key_len,
+                at: record.at,
+            },
+        )?;
     }
-    let r = read_rec(s, at as u64)?;
-    if len < off + r.key_len as u64 {
-        return Err(bad);
+    Ok(())
+}
+
+/// Whether two of these records, in the order of their marks, have the same mark.
+fn has_equal_marks(sorted: &[Noted]) -> bool
+    requires ordered { IsNonDecreasingBy mark_of sorted.now }
+    ensures some { result ≡ true → 0 < length sorted.now }
+    ensures apart { result ≡ false → MarksRise sorted.now (length sorted.now) }
+{
+    for i in 1..sorted.len() {
+        if sorted[i - 1].mark == sorted[i].mark {
+            return true;
+        }
     }
-    let mut key = vec![in alloc; 0u8; r.key_len as usize]?;
-    s.read(off, &mut key)?;
-    Ok(Bytes::from(key))
+    false
+}
+
+/// Puts records into the order of their marks. It takes no memory and time n log n.
+fn sort_by_mark(sorted: &mut Vec<Noted>)
+    ensures ordered { IsNonDecreasingBy mark_of sorted.new.items }
+    ensures same { IsPermutation sorted.old.items sorted.new.items }
+{
+    sorted.sort_unstable_by_key(|record| record.mark);
+}
+
+/// Whether two of these records, in the order of their marks, have the same key.
+fn any_twins<S: Space>(s: &mut S, len: u64, sorted: &[Noted]) -> Result<bool, CheckRefusal>
+    requires length { len ≡ S.size s.old }
+    requires ordered { IsNonDecreasingBy mark_of sorted.now }
+    ensures some { IfOk result (λ twins. twins ≡ true → 0 < length sorted.now) }
+    ensures twins { IfOk result (λ twins. IsTrue S.tells → length (S.image s.old) ≡ len → (mark : List ℕ → ℕ) → AllNoted mark (S.form s.old) (S.image s.old) sorted.now
+        → MatchBool twins (NotedDiffer (S.form s.old) (S.image s.old) sorted.now → ⊥) (NotedDiffer (S.form s.old) (S.image s.old) sorted.now)) }
+    ensures no_fault { IfErr result (λ e. IsTrue S.tells → length (S.image s.old) ≡ len → (mark : List ℕ → ℕ) → AllNoted mark (S.form s.old) (S.image s.old) sorted.now → Names e (λ _. ⊥)) }
+    ensures looked { Looked S.Space s.old s.new }
+    ensures cause { HasCauseOf Io (S.faults s.old) (S.faults s.new) result }
+{
+    for i in 0..sorted.len() {
+        let twin = match has_twin_before(s, len, sorted, i) {
+            Ok(twin) => twin,
+            Err(e) => return Err(e),
+        };
+        if twin {
+            return Ok(true);
+        }
+    }
+    Ok(false)
+}
+
+/// Whether the key of one of these records, in the order of their marks, is that of one before it.
+fn has_twin_before<S: Space>(
+    s: &mut S,
+    len: u64,
+    sorted: &[Noted],
+    i: usize,
+) -> Result<bool, CheckRefusal>
+    requires length { len ≡ S.size s.old }
+    requires ordered { IsNonDecreasingBy mark_of sorted.now }
+    requires within { i < length sorted.now }
+    ensures twin { IfOk result (λ twin. IsTrue S.tells → length (S.image s.old) ≡ len → (mark : List ℕ → ℕ) → AllNoted mark (S.form s.old) (S.image s.old) sorted.now
+        → MatchBool twin (TwinAt (S.form s.old) (S.image s.old) sorted.now i) (NoTwinBefore (S.form s.old) (S.image s.old) sorted.now i 0)) }
+    ensures no_fault { IfErr result (λ e. IsTrue S.tells → length (S.image s.old) ≡ len → (mark : List ℕ → ℕ) → AllNoted mark (S.form s.old) (S.image s.old) sorted.now → Names e (λ _. ⊥)) }
+    ensures looked { Looked S.Space s.old s.new }
+    ensures cause { HasCauseOf Io (S.faults s.old) (S.faults s.new) result }
+{
+    let last = sorted[i];
+    let mut k = i;
+    while k > 0 {
+        let other = sorted[k - 1];
+        if other.mark != last.mark {
+            return Ok(false);
+        }
+        let same = match same_key(s, len, &other, &last) {
+            Ok(same) => same,
+            Err(e) => return Err(e),
+        };
+        if same {
+            return Ok(true);
+        }
+        k -= 1;
+    }
+    Ok(false)
 }

@@ -7,7 +7,6 @@ mod chain;
 mod chain_tests;
 mod chains;
 mod extent;
-mod first_offsets;
 mod free_list;
 mod front;
 mod judge;
@@ -19,6 +18,7 @@ mod refusal;
 mod report;
 #[cfg(test)]
 mod report_tests;
+mod same_key;
 mod stray;
 mod tails;
 #[cfg(test)]

@@ -15,7 +15,7 @@ use tdb_space::{Io, Space};
 use tdb_words::{HashRun, Order, Rec, USED, What, chain_of, hash_of, rec_of, word_at};
 
 /// How many bytes are read of a record at once.
-const WINDOW: usize = 512;
+const WINDOW: usize = 128;
 
 /// How many bytes of a long key are read at once.
 const PIECE: usize = 4096;
@@ -34,12 +34,12 @@ fn is_bad(kind: ListKind, r: &Rec, at: u32, len: u64) -> bool
 }
 
 /// Fills the front of the window with the bytes from an offset on, as far as it and the file reach, and answers how many they are.
-fn fill<S: Space>(s: &mut S, len: u64, at: u32, buf: &mut [u8; 512]) -> Result<usize, Io>
+fn fill<S: Space>(s: &mut S, len: u64, at: u32, buf: &mut [u8; 128]) -> Result<usize, Io>
     requires length { len ≡ S.size s.old }
     requires within { at + 24 ≤ len }
-    ensures held { IfOk result (λ held. (24 ≤ held) × (held ≤ 512)) }
+    ensures held { IfOk result (λ held. (24 ≤ held) × (held ≤ 128)) }
     ensures shows { IfOk result (λ held. IsTrue S.tells → take held buf.new ≡ take held (drop at (S.image s.old))) }
-    ensures long { length buf.new ≡ 512 }
+    ensures long { length buf.new ≡ 128 }
     ensures looked { Looked S.Space s.old s.new }
     ensures cause { HasCause (S.faults s.old) (S.faults s.new) result }
 {
@@ -126,7 +126,7 @@ fn is_misfiled(kind: ListKind, r: &Rec, own_hash: u32, chains: u32) -> bool
 }
 
 /// The header of the record at an offset where one can stand, or what is wrong with the record by itself. One read serves
-/// where header, key and tailer stand within 512 bytes.
+/// where header, key and tailer stand within 128 bytes.
 pub fn read_record<S: Space>(
     s: &mut S,
     len: u64,

@@ -1,6 +1,6 @@
 // The check of a whole file.
 
-ghost use Rattle.std.specs.Prelude.{◌<◌, IsTrue, IfOk, IfErr};
+ghost use Rattle.std.specs.Prelude.{IsTrue, IfOk, IfErr};
 ghost use Rattle.tdb_disk.specs.Count.{HasCauseOf};
 ghost use Rattle.tdb_space.specs.Accepted.{Accept};
 ghost use Rattle.tdb_space.specs.FirstFault.{IsFirstFault};
@@ -24,14 +24,14 @@ use tdb_space::Space;
 /// The faults come in this order: the front, the undo area, chain 0 and the next chains, the free list, the least byte that is
 /// held twice, and the least byte outside all records and the undo area that is neither 0 nor padding.
 ///
-/// It takes time n log n in the number n of records. A record costs one read where its header, key and tailer stand within 512
-/// bytes; bytes that belong to no record are read in blocks of 4096. It keeps 8 bytes a record, and somewhat more for each
-/// record of the list that it follows. It changes nothing.
+/// It takes time n log n in the number n of records. A record costs one read where its header, key and tailer stand within 128
+/// bytes; bytes that belong to no record are read in blocks of 4096. Keys are compared only where two of a chain have one hash and
+/// one length. It keeps 8 bytes a record, and somewhat more for each record of the list that it follows, whatever its keys are. It
+/// changes nothing.
 ///
 /// It ends whatever the bytes are, also where they change while it reads; then the answer tells what stood at each place when
 /// that was read. `Io` says that the disk failed, and `Memory` that an allocation did.
 pub fn check<S: Space>(alloc: Global, s: &mut S) -> Result<Report, CheckRefusal>
-    requires chains { 0 < (S.form s.old).chains }
     ensures accepted { IfOk result (λ r. IsTrue S.tells → IsFormOf (S.form s.old) (S.image s.old) → Accept (S.image s.old) × Counted (S.image s.old) r) }
     ensures first_fault { IfErr result (λ e. IsTrue S.tells → IsFormOf (S.form s.old) (S.image s.old) → Names e (IsFirstFault (S.image s.old))) }
     ensures looked { Looked S.Space s.old s.new }
