@@ -1,7 +1,7 @@
 // The undo area: where a file has one, and whether it can stand there.
 
 ghost use Rattle.std.specs.Prelude.{◌≡◌, ◌+◌, ◌≤◌, ◌++◌, not, IsTrue, length, sum_by, OnOk, IfOk, IfErr, None, Some};
-ghost use Rattle.tdb_disk.specs.Count.{RoseUpTo};
+ghost use Rattle.tdb_disk.specs.Count.{HasCauseOf, RoseUpTo};
 ghost use Rattle.tdb_space.specs.Form.{data_start};
 ghost use Rattle.tdb_space.specs.Extents.{area};
 ghost use Rattle.tdb_space.specs.FirstFault.{area_fault};
@@ -52,8 +52,8 @@ pub fn read_area<S: Space>(s: &mut S, len: u64) -> Result<Option<Extent>, CheckR
     ensures bad { IfErr result (λ e. IsTrue S.tells → length (S.image s.old) ≡ len
         → Names e (λ fault. area_fault (S.form s.old) (S.image s.old) ≡ Some fault)) }
     ensures bytes_read { RoseUpTo 28 (S.bytes_read s.old) (S.bytes_read s.new) }
-    ensures still { Unchanged (S.size s.old) (S.size s.new) (S.image s.old) (S.image s.new) (S.form s.old) (S.form s.new) (S.spare s.old) (S.spare s.new) (S.disk_history s.old) (S.disk_history s.new) (S.under s.old) (S.under s.new) }
-    ensures cause { IoCause (S.faults s.old) (S.faults s.new) result }
+    ensures looked { Looked S.Space s.old s.new }
+    ensures cause { HasCauseOf Io (S.faults s.old) (S.faults s.new) result }
 {
     let mut word = [0u8; 4];
     s.read(44, &mut word)?;

@@ -1,7 +1,7 @@
 // What is wrong with the extents of a file.
 
 ghost use Rattle.std.specs.Prelude.{◌≡◌, ◌≤◌, IsTrue, length, IfOk, IfErr};
-ghost use Rattle.tdb_disk.specs.Count.{RoseUpTo};
+ghost use Rattle.tdb_disk.specs.Count.{HasCauseOf, RoseUpTo};
 ghost use Rattle.tdb_space.specs.Form.{data_start};
 ghost use Rattle.tdb_check.specs.Seen.{Names};
 ghost use Rattle.tdb_check.specs.Extent.{extents_seen};
@@ -28,8 +28,8 @@ pub(crate) fn judge_extents<S: Space>(
     ensures clean { IfOk result (λ n. IsTrue S.tells → length (S.image s.old) ≡ len → NoFaultAmong (extents_seen extents.old.items) (data_start (S.form s.old)) (S.image s.old) n) }
     ensures bad { IfErr result (λ e. IsTrue S.tells → length (S.image s.old) ≡ len → Names e (FirstAmong (extents_seen extents.old.items) (data_start (S.form s.old)) (S.image s.old))) }
     ensures bytes_read { RoseUpTo len (S.bytes_read s.old) (S.bytes_read s.new) }
-    ensures still { Unchanged (S.size s.old) (S.size s.new) (S.image s.old) (S.image s.new) (S.form s.old) (S.form s.new) (S.spare s.old) (S.spare s.new) (S.disk_history s.old) (S.disk_history s.new) (S.under s.old) (S.under s.new) }
-    ensures cause { IoCause (S.faults s.old) (S.faults s.new) result }
+    ensures looked { Looked S.Space s.old s.new }
+    ensures cause { HasCauseOf Io (S.faults s.old) (S.faults s.new) result }
 {
     sort_extents(extents);
     if let Some(at) = first_overlap(extents) {

@@ -2,7 +2,7 @@
 
 ghost use Rattle.std.specs.Prelude.{◌≡◌, ◌-◌, ◌≤◌, IsTrue, length, OnOk, IfOk, IfErr, position};
 ghost use Rattle.std.specs.List.Sorted.{IsNonDecreasingBy};
-ghost use Rattle.tdb_disk.specs.Count.{RoseUpTo};
+ghost use Rattle.tdb_disk.specs.Count.{HasCauseOf, RoseUpTo};
 ghost use Rattle.tdb_words.specs.declared.what.What.TheVariants.{Stray as IsStray};
 ghost use Rattle.tdb_space.specs.Form.{data_start};
 ghost use Rattle.tdb_check.specs.Seen.{Names};
@@ -38,8 +38,8 @@ fn scan_gap<S: Space>(
     ensures clean { OnOk result (IsTrue S.tells → NoContent (S.image s.old) from to) }
     ensures found { IfErr result (λ e. IsTrue S.tells → Names e (λ fault. (fault.0 ≡ IsStray) × FirstContent (S.image s.old) from to fault.1)) }
     ensures bytes_read { RoseUpTo (to - from) (S.bytes_read s.old) (S.bytes_read s.new) }
-    ensures still { Unchanged (S.size s.old) (S.size s.new) (S.image s.old) (S.image s.new) (S.form s.old) (S.form s.new) (S.spare s.old) (S.spare s.new) (S.disk_history s.old) (S.disk_history s.new) (S.under s.old) (S.under s.new) }
-    ensures cause { IoCause (S.faults s.old) (S.faults s.new) result }
+    ensures looked { Looked S.Space s.old s.new }
+    ensures cause { HasCauseOf Io (S.faults s.old) (S.faults s.new) result }
 {
     let mut at = from;
     while at < to {
@@ -69,8 +69,8 @@ pub fn scan<S: Space>(s: &mut S, len: u64, extents: &[Extent]) -> Result<u64, Ch
     ensures found { IfErr result (λ e. IsTrue S.tells → length (S.image s.old) ≡ len
         → Names e (λ fault. (fault.0 ≡ IsStray) × FirstStrayAmong (extents_seen extents.now) (data_start (S.form s.old)) (S.image s.old) fault.1)) }
     ensures bytes_read { RoseUpTo len (S.bytes_read s.old) (S.bytes_read s.new) }
-    ensures still { Unchanged (S.size s.old) (S.size s.new) (S.image s.old) (S.image s.new) (S.form s.old) (S.form s.new) (S.spare s.old) (S.spare s.new) (S.disk_history s.old) (S.disk_history s.new) (S.under s.old) (S.under s.new) }
-    ensures cause { IoCause (S.faults s.old) (S.faults s.new) result }
+    ensures looked { Looked S.Space s.old s.new }
+    ensures cause { HasCauseOf Io (S.faults s.old) (S.faults s.new) result }
 {
     let mut block = [0u8; BLOCK];
     let mut from = records_start(s.hash_size());

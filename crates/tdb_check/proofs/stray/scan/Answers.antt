@@ -66,7 +66,7 @@ loop-e-preserved g c =
           subst (λ n. Scanned xs img start (c.loop-e.e-index + 1) n (c.loop-e.dead + c.saturating_sub-dead.result)) (sym next)
           (subst (Scanned xs img start (c.loop-e.e-index + 1) (max c.loop-e.from (min (e.off + 24 + e.rec_len) (length img)))) (sym count)
           (scanned_more xs img start c.loop-e.e-index c.loop-e.from c.loop-e.dead (record { off = 0; rec_len = 0 }) c.requires.ordered c.loop-e-test.true v.above (v.scanned told long) clean)));
-      still = search rules;
+      looked = search rules;
       bytes_read = search rules;
       faults = search rules;
     }

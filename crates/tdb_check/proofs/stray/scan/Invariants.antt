@@ -13,7 +13,7 @@ invariant-loop-e g l = record {
   fits : l.dead ≤ l.from;
   scanned : IsTrue g.S.Space.tells → length (g.S.Space.image l.fn.s) ≡ l.len
       → Scanned l.extents (g.S.Space.image l.fn.s) (data_start (g.S.Space.form l.fn.s)) l.e-index l.from l.dead;
-  still : Unchanged (g.S.Space.size l.fn.s) (g.S.Space.size l.s) (g.S.Space.image l.fn.s) (g.S.Space.image l.s) (g.S.Space.form l.fn.s) (g.S.Space.form l.s) (g.S.Space.spare l.fn.s) (g.S.Space.spare l.s) (g.S.Space.disk_history l.fn.s) (g.S.Space.disk_history l.s) (g.S.Space.under l.fn.s) (g.S.Space.under l.s);
+  looked : Looked g.S.Space l.fn.s l.s;
   bytes_read : RoseUpTo l.from (g.S.Space.bytes_read l.fn.s) (g.S.Space.bytes_read l.s);
-  faults : g.S.Space.faults l.fn.s ≤ g.S.Space.faults l.s;
+  faults : g.S.Space.faults l.s ≡ g.S.Space.faults l.fn.s;
 }

@@ -22,7 +22,7 @@ loop-at-preserved g c =
       clean = λ told.
           (let read : c.read.new.buf ≡ take c.min-count.result (drop c.loop-at.at img) = c.in_ok-read.ensures.bytes told ∙ (λ j. take (count j) (drop c.loop-at.at (v.looked.image j))) in
           no_content_more img c.read.new.buf c.args.from c.loop-at.at c.min-count.result (v.clean told) read (c.read.auto.buf ∙ count) (sym c.first_content.ensures ∙ c.in_default.is));
-      still = search rules;
+      looked = search rules;
       within = omega arith;
       bytes_read = search rules;
       faults = search rules;
