@@ -4,5 +4,7 @@
 mod blocks;
 mod cached;
 mod piece;
+#[cfg(test)]
+mod tests;
 
 pub use cached::Cached;
