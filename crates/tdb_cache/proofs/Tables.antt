@@ -1,5 +1,5 @@
 -- What stays true of the blocks that are kept where one of them changes.
-use Rattle.std.proofs.Common.{◌≡◌, ℕ, ◌+◌, ◌-◌, ◌/◌, ◌<◌, ◌≤◌, List, Option, Some, None, length, take, drop, inl, inr, sym, ap, subst, refl, ◌∙◌, arith, is_some, option_map, Ok, Err, Bool}
+use Rattle.std.proofs.Common.{◌≡◌, ℕ, ◌+◌, ◌-◌, ◌<◌, ◌≤◌, List, Option, Some, None, length, take, drop, inl, inr, sym, ap, subst, refl, ◌∙◌, arith, is_some, option_map, Ok, Err, Bool}
 use Rattle.std.specs.Prelude.{IsSome, IsTrue, OnErr, OnOk, Result}
 use Rattle.tdb_disk.specs.History.{History, seen}
 use Rattle.std.proofs.lemmas.Bool.{cases_eq, cases_lt, false≢true}

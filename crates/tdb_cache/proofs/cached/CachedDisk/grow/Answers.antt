@@ -1,6 +1,6 @@
-use Rattle.std.proofs.Common.{◌≡◌, ◌/◌, ◌∙◌, arith, sym}
+use Rattle.std.proofs.Common.{◌≡◌, ◌/◌, arith}
 use Rattle.tdb_disk.specs.History.{called, grew, seen}
-use Rattle.tdb_cache.specs.Blocks.{AllSized, block_size}
+use Rattle.tdb_cache.specs.Blocks.{block_size}
 use Rattle.tdb_cache.proofs.Tables.{AllSized-front, AllShown-grow, AllSized-settle, AllShown-settle}
 use Rattle.tdb_cache.proofs.cached.CachedDisk.grow.Goals as goal
 
