@@ -1,15 +1,15 @@
 -- One block more of a run of writes.
-use Rattle.std.proofs.Common.{◌≡◌, ℕ, ◌+◌, ◌-◌, ◌<◌, ◌≤◌, ◌⊎◌, Bool, true, false, List, length, take, drop, replicate, slice_index, refl, sym, ◌∙◌, ap, subst, inl, inr, arith}
-use Rattle.std.proofs.lemmas.Bool.{cases_Bool, true≢false}
-use Rattle.std.proofs.lemmas.List.{get_or-take, get_or-drop, length-take, length-drop, length-replicate}
-use Rattle.tdb_disk.specs.History.{History, called, seen, wrote, wrote_word, Tried, TriedOver}
+use Rattle.std.proofs.Common.{◌≡◌, ℕ, ◌+◌, ◌-◌, ◌<◌, ◌≤◌, ◌⊎◌, Bool, true, false, List, length, take, drop, slice_index, refl, ◌∙◌, ap, subst, inl, inr, arith}
+use Rattle.std.proofs.lemmas.Bool.{cases_Bool}
+use Rattle.std.proofs.lemmas.List.{get_or-take, get_or-drop, length-take, length-drop}
+use Rattle.tdb_disk.specs.History.{History, TriedOver}
 use Rattle.tdb_disk.specs.Image.{overlay}
-use Rattle.tdb_disk.specs.Stop.{Torn, Leaves, LeavesOnly}
+use Rattle.tdb_disk.specs.Stop.{Torn, LeavesOnly}
 use Rattle.tdb_disk.proofs.Image.{length-overlay, overlay_below, overlay_above, overlay_in}
-use Rattle.tdb_disk.proofs.Runs.{leaves_start, leaves_write, leaves_tried, leaves_weaker, leaves_join, leaves_now}
+use Rattle.tdb_disk.proofs.Runs.{leaves_start, leaves_write, leaves_weaker, leaves_join, leaves_now}
 use Rattle.tdb_space.specs.Opening.{lies_in}
 use Rattle.tdb_undo.specs.Torn.{TornAt, TornIn, Put}
-use Rattle.tdb_undo.proofs.Lies.{lies, lies_not, lies_where, lies_outside}
+use Rattle.tdb_undo.proofs.Lies.{lies_not, lies_where, lies_outside}
 
 -- true is not false
 both : (b : Bool) → b ≡ true → b ≡ false → ⊥

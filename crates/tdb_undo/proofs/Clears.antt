@@ -1,5 +1,5 @@
 -- A file whose undo area is emptied keeps its pairs.
-use Rattle.std.proofs.Common.{◌≡◌, ◌≢◌, Bool, true, false, not, ◌&&◌, None, Some, Option, ℕ, zero, suc, ◌+◌, ◌-◌, ◌<◌, ◌≤◌, ◌⊎◌, ◌%◌, List, [], length, slice_index, refl, sym, ◌∙◌, ap, subst, inl, inr, arith}
+use Rattle.std.proofs.Common.{◌≡◌, Bool, true, false, not, ◌&&◌, None, Some, ℕ, zero, suc, ◌+◌, ◌-◌, ◌<◌, ◌≤◌, ◌⊎◌, ◌%◌, List, [], length, slice_index, refl, sym, ◌∙◌, ap, subst, inl, inr, arith}
 use Rattle.std.specs.Prelude.{◌==◌, if◌then◌else◌}
 use Rattle.std.proofs.lemmas.Bool.{cases_lt, cases_eq, eq-eqb, ne_eqb}
 use Rattle.tdb_disk.specs.History.{History, seen}
@@ -14,30 +14,26 @@ use Rattle.tdb_space.proofs.Cleared.{stands_to, long_to}
 use Rattle.tdb_words.specs.Word.{word}
 use Rattle.tdb_words.specs.Header.{sequence_of}
 use Rattle.tdb_words.proofs.Words.{word_agrees}
-use Rattle.tdb_space.specs.Form.{Form, form_of, data_start}
+use Rattle.tdb_space.specs.Form.{Form, form_of}
 use Rattle.tdb_space.specs.Record.{rec_len_of, magic_of}
 use Rattle.tdb_space.specs.Chain.{chain_of, free_of}
 use Rattle.tdb_space.specs.Pairs.{joined, map_of}
 use Rattle.tdb_space.specs.Extents.{times, extents, area}
-use Rattle.tdb_space.specs.Accepted.{AreaInPlace, AreaOk, Shut, Accept, AcceptWith}
+use Rattle.tdb_space.specs.Accepted.{AreaInPlace, Accept, AcceptWith}
 use Rattle.tdb_space.specs.Opening.{lies_in}
-use Rattle.tdb_space.specs.Moved.{AreaMoved, StaysAccepted}
+use Rattle.tdb_space.specs.Moved.{StaysAccepted}
 use Rattle.tdb_space.specs.Gate.{InContent}
-use Rattle.tdb_space.specs.NewArea.{AreaSet}
 use Rattle.tdb_space.specs.Undoing.{area_at, area_end, Reopens}
 use Rattle.tdb_space.proofs.AreaSets.{area_set_stays}
-use Rattle.tdb_space.proofs.Contents.{content_free, chain_in_lists, area_apart, area_in, area_out, area_not, area_same}
+use Rattle.tdb_space.proofs.Contents.{content_free, area_apart, area_in, area_out, area_not}
 use Rattle.tdb_space.proofs.Fresh.{word_zero}
-use Rattle.tdb_space.proofs.Moved.{moved_stays}
-use Rattle.tdb_space.proofs.Tails.{lists_within, held_past, no_area_held, area_from}
+use Rattle.tdb_space.proofs.Tails.{no_area_held, area_from}
 use Rattle.tdb_space.proofs.Undone.{accepted_opens, read_as_it_is}
-use Rattle.tdb_undo.specs.declared.area.Area.{Area}
-use Rattle.tdb_undo.specs.Area.{IsAreaOf, place_fault}
-use Rattle.tdb_undo.specs.Torn.{TornAt, TornIn, Put}
+use Rattle.tdb_undo.specs.Area.{place_fault}
+use Rattle.tdb_undo.specs.Torn.{TornIn, Put}
 use Rattle.tdb_undo.specs.Recovery.{HeaderTouched}
-use Rattle.tdb_undo.specs.Placing.{Placing, LeadsTo, old_area, new_area, IsSet, IsCleared, IsPlaced}
+use Rattle.tdb_undo.specs.Placing.{IsCleared}
 use Rattle.tdb_undo.proofs.Lies.{lies, lies_not}
-use Rattle.tdb_undo.proofs.Whole.{same_end, same_header}
 
 -- what stays accepted reopens, where the sequence number stays
 pub stays_reopens : (f : Form) (a c : List ℕ) → Accept a → form_of a ≡ f → StaysAccepted f a c → ((i : ℕ) → 48 ≤ i → i < 52 → slice_index c i ≡ slice_index a i) → Reopens a c

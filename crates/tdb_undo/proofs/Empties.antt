@@ -1,17 +1,17 @@
 -- The steps that empty an undo area behind the restored file, and drop it.
-use Rattle.std.proofs.Common.{◌≡◌, ℕ, zero, suc, ◌+◌, ◌-◌, ◌*◌, ◌<◌, ◌≤◌, ◌⊎◌, ◌%◌, List, [], ◌∷◌, length, take, slice_index, refl, sym, ◌∙◌, ap, subst, inl, inr, arith}
-use Rattle.std.proofs.lemmas.Bool.{cases_lt, cases_eq, cases_Bool}
+use Rattle.std.proofs.Common.{◌≡◌, ℕ, zero, suc, ◌+◌, ◌*◌, ◌<◌, ◌≤◌, ◌%◌, List, [], ◌∷◌, length, take, slice_index, refl, sym, ◌∙◌, ap, subst, inl, inr, arith}
+use Rattle.std.proofs.lemmas.Bool.{cases_lt, cases_eq}
 use Rattle.std.proofs.lemmas.List.{get_or-take, length-take, ext_get_or}
 use Rattle.tdb_disk.specs.History.{History, called, seen, synced, cut, wrote_word, Tried}
 use Rattle.tdb_disk.specs.Image.{overlay}
-use Rattle.tdb_disk.specs.Stop.{Leaves, LeavesOnly, Quiet, Shrunk}
+use Rattle.tdb_disk.specs.Stop.{LeavesOnly, Quiet}
 use Rattle.tdb_disk.proofs.Image.{length-overlay}
-use Rattle.tdb_disk.proofs.Runs.{leaves_start, leaves_tried, leaves_then_sync, leaves_weaker, leaves_join, leaves_seen_now, leaves_now, leaves_quiet, quiet_synced, quiet_word}
+use Rattle.tdb_disk.proofs.Runs.{leaves_tried, leaves_then_sync, leaves_weaker, leaves_join, leaves_now, leaves_quiet, quiet_synced, quiet_word}
 use Rattle.tdb_words.specs.declared.word.Order.{Order}
 use Rattle.tdb_words.specs.declared.word.Order.TheVariants.{Little, Big}
-use Rattle.tdb_words.specs.Word.{word, bytes_of_word}
+use Rattle.tdb_words.specs.Word.{bytes_of_word}
 use Rattle.tdb_words.proofs.Words.{word_agrees}
-use Rattle.tdb_space.specs.Form.{Form, data_start}
+use Rattle.tdb_space.specs.Form.{Form}
 use Rattle.tdb_space.specs.Record.{rec_len_of}
 use Rattle.tdb_space.specs.Opening.{lies_in}
 use Rattle.tdb_space.specs.Undoing.{TailOf}
@@ -22,7 +22,7 @@ use Rattle.tdb_space.proofs.Steps.{shut_is_tail, emptied_is_tail, blank_is_tail}
 use Rattle.tdb_undo.specs.Torn.{TornIn, Put}
 use Rattle.tdb_undo.specs.Recovery.{HeaderTouched, ZeroAt}
 use Rattle.tdb_undo.proofs.Blocks.{put_none, put_zeros}
-use Rattle.tdb_undo.proofs.Lies.{lies, lies_not, lies_where, lies_outside}
+use Rattle.tdb_undo.proofs.Lies.{lies, lies_not}
 
 -- the four zero bytes, in either order
 pub zero_word : (o : Order) → 0 ∷ 0 ∷ 0 ∷ 0 ∷ [] ≡ bytes_of_word o 0

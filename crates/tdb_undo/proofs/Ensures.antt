@@ -1,43 +1,22 @@
 -- A file that gets another undo area keeps its pairs.
-use Rattle.std.proofs.Common.{◌≡◌, ◌≢◌, Bool, true, false, not, ◌&&◌, None, Some, Option, ℕ, zero, suc, ◌+◌, ◌-◌, ◌<◌, ◌≤◌, ◌⊎◌, ◌%◌, List, [], length, slice_index, refl, sym, ◌∙◌, ap, subst, inl, inr, arith}
-use Rattle.std.specs.Prelude.{◌==◌, if◌then◌else◌}
-use Rattle.std.proofs.lemmas.Bool.{cases_lt, cases_eq, eq-eqb, ne_eqb}
-use Rattle.tdb_disk.specs.History.{History, seen}
-use Rattle.tdb_disk.specs.Stop.{LeavesOnly, Quiet}
-use Rattle.tdb_disk.proofs.Runs.{leaves_weaker, leaves_join}
-use Rattle.tdb_words.specs.declared.word.Order.{Order}
-use Rattle.tdb_words.specs.declared.word.Order.TheVariants.{Little, Big}
-use Rattle.tdb_words.specs.declared.record.TheConstants.{GATE_OPEN, GATE_SHUT}
-use Rattle.tdb_words.specs.declared.what.What.TheVariants.{AreaBad}
-use Rattle.tdb_space.specs.FirstFault.{Fault}
-use Rattle.tdb_space.proofs.Cleared.{stands_to, long_to}
+use Rattle.std.proofs.Common.{◌≡◌, ℕ, ◌+◌, ◌<◌, ◌≤◌, ◌⊎◌, ◌%◌, List, [], length, slice_index, sym, ◌∙◌, ap, subst, inl, inr, arith}
+use Rattle.std.proofs.lemmas.Bool.{cases_lt, cases_eq}
+use Rattle.tdb_words.specs.declared.record.TheConstants.{GATE_SHUT}
 use Rattle.tdb_words.specs.Word.{word}
-use Rattle.tdb_words.specs.Header.{sequence_of}
 use Rattle.tdb_words.proofs.Words.{word_agrees}
 use Rattle.tdb_space.specs.Form.{Form, form_of, data_start}
 use Rattle.tdb_space.specs.Record.{rec_len_of, magic_of}
 use Rattle.tdb_space.specs.Chain.{chain_of, free_of}
-use Rattle.tdb_space.specs.Pairs.{joined, map_of}
+use Rattle.tdb_space.specs.Pairs.{joined}
 use Rattle.tdb_space.specs.Extents.{times, extents, area}
-use Rattle.tdb_space.specs.Accepted.{AreaInPlace, AreaOk, Shut, Accept, AcceptWith}
-use Rattle.tdb_space.specs.Opening.{lies_in}
+use Rattle.tdb_space.specs.Accepted.{AreaInPlace, Accept, AcceptWith}
 use Rattle.tdb_space.specs.Moved.{AreaMoved, StaysAccepted}
-use Rattle.tdb_space.specs.Gate.{InContent}
-use Rattle.tdb_space.specs.NewArea.{AreaSet}
-use Rattle.tdb_space.specs.Undoing.{area_at, area_end, Reopens}
-use Rattle.tdb_space.proofs.AreaSets.{area_set_stays}
-use Rattle.tdb_space.proofs.Contents.{content_free, chain_in_lists, area_apart, area_in, area_out, area_not, area_same}
+use Rattle.tdb_space.specs.Undoing.{area_at, Reopens}
+use Rattle.tdb_space.proofs.Contents.{chain_in_lists, area_apart, area_in, area_out, area_not, area_same}
 use Rattle.tdb_space.proofs.Fresh.{word_zero}
 use Rattle.tdb_space.proofs.Moved.{moved_stays}
 use Rattle.tdb_space.proofs.Tails.{lists_within, held_past, no_area_held, area_from}
-use Rattle.tdb_space.proofs.Undone.{accepted_opens, read_as_it_is}
-use Rattle.tdb_undo.specs.declared.area.Area.{Area}
-use Rattle.tdb_undo.specs.Area.{IsAreaOf, place_fault}
-use Rattle.tdb_undo.specs.Torn.{TornAt, TornIn, Put}
-use Rattle.tdb_undo.specs.Recovery.{HeaderTouched}
 use Rattle.tdb_undo.specs.Placing.{Placing, LeadsTo, old_area, new_area, IsSet, IsCleared, IsPlaced}
-use Rattle.tdb_undo.proofs.Lies.{lies, lies_not}
-use Rattle.tdb_undo.proofs.Whole.{same_end, same_header}
 use Rattle.tdb_undo.proofs.Clears.{stays_reopens, stays_further, place}
 
 -- a new area is placed behind an image whose own is all 0

@@ -1,31 +1,30 @@
 -- The faults of an undo area by what was read of it, and the recovery of the whole image.
-use Rattle.std.proofs.Common.{◌≡◌, ◌≢◌, ℕ, ◌+◌, ◌*◌, ◌<◌, ◌≤◌, ◌⊎◌, ◌%◌, ◌&&◌, ◌||◌, Bool, true, false, Option, Some, None, List, length, take, drop, slice_index, not, refl, sym, ◌∙◌, ap, subst, inl, inr, arith}
+use Rattle.std.proofs.Common.{◌≡◌, ◌≢◌, ℕ, ◌+◌, ◌<◌, ◌≤◌, ◌⊎◌, ◌%◌, ◌&&◌, Bool, true, false, Option, Some, None, List, length, take, drop, slice_index, not, refl, sym, ◌∙◌, ap, subst, inl, inr, arith}
 use Rattle.std.specs.Prelude.{nat_lt, ◌==◌, if◌then◌else◌}
-use Rattle.std.proofs.lemmas.Bool.{cases_Bool, or_parts, le-ltb, or_left, or_right, and_left, and_right, and_cases, not-false, not_from_true, lt-ltb, eq-eqb, ne_eqb, eqb-true, eqb-false}
+use Rattle.std.proofs.lemmas.Bool.{le-ltb, or_left, or_right, and_left, and_right, and_cases, not-false, not_from_true, lt-ltb, eq-eqb, ne_eqb, eqb-true}
 use Rattle.std.proofs.lemmas.List.{get_or-take, get_or-drop}
 use Rattle.tdb_disk.specs.Count.{RoseBy}
 use Rattle.tdb_disk.specs.History.{History, seen}
 use Rattle.tdb_disk.specs.Stop.{Quiet, LeavesOnly}
 use Rattle.tdb_disk.proofs.Runs.{leaves_quiet}
-use Rattle.tdb_words.specs.declared.record.Rec.{Rec}
 use Rattle.tdb_words.specs.declared.record.TheConstants.{GATE_OPEN, GATE_SHUT}
 use Rattle.tdb_words.specs.declared.what.What.TheVariants.{AreaBad, UndoBad}
 use Rattle.tdb_words.specs.Word.{word}
 use Rattle.tdb_words.specs.Record.{rec_at}
 use Rattle.tdb_space.specs.Form.{Form, form_of, data_start}
 use Rattle.tdb_space.specs.Record.{magic_of, rec_len_of}
-use Rattle.tdb_space.specs.Accepted.{AreaInPlace, Shut, Accept}
+use Rattle.tdb_space.specs.Accepted.{Shut, Accept}
 use Rattle.tdb_space.specs.FirstFault.{Fault, is_out, is_long}
-use Rattle.tdb_space.specs.Opening.{entries, entries_end, entry_fault, undo_fault, undo_fault_at, is_bad_cut, Undoable, is_open, last_covering, given_back, restored, Opens, Mild}
+use Rattle.tdb_space.specs.Opening.{entries, entries_end, entry_fault, undo_fault, is_bad_cut, Undoable, is_open, last_covering, given_back, restored, Opens, Mild}
 use Rattle.tdb_space.specs.OpeningFault.{opening_fault}
-use Rattle.tdb_space.specs.Undoing.{area_at, area_end, old_size, TailOf, Reopens}
+use Rattle.tdb_space.specs.Undoing.{area_at, old_size, TailOf, Reopens}
 use Rattle.tdb_space.proofs.Alike.{alike_self, alike_reopens, exact_reopens}
 use Rattle.tdb_space.proofs.Headers.{form_kept}
 use Rattle.tdb_space.proofs.Steps.{restored_no_area, restored_length}
 use Rattle.tdb_space.proofs.Tails.{tail_reopens}
 use Rattle.tdb_space.proofs.Undone.{read_as_it_is}
 use Rattle.tdb_undo.specs.declared.area.Area.{Area}
-use Rattle.tdb_undo.specs.Area.{place_fault, place_fault_at, content_fault_at, AreaSeen, IsAreaOf, Stands}
+use Rattle.tdb_undo.specs.Area.{place_fault, place_fault_at, content_fault_at, IsAreaOf, Stands}
 use Rattle.tdb_undo.specs.declared.refusal.UndoRefusal.{UndoRefusal}
 use Rattle.tdb_undo.specs.declared.refusal.UndoRefusal.TheVariants.{UndoBad as UndoRefused, Io}
 use Rattle.tdb_undo.specs.Refusal.{Names, IsIo}

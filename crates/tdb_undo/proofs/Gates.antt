@@ -1,9 +1,9 @@
 -- Where the gate word of an undo area stands, and what a stop leaves of a call that writes it.
-use Rattle.std.proofs.Common.{◌≡◌, ℕ, ◌+◌, ◌<◌, ◌≤◌, ◌⊎◌, ◌%◌, List, [], ◌∷◌, length, slice_index, refl, sym, ◌∙◌, ap, subst, inl, inr, arith}
+use Rattle.std.proofs.Common.{◌≡◌, ℕ, ◌+◌, ◌⊎◌, List, refl, sym, ◌∙◌, ap, subst, inl, inr, arith}
 use Rattle.tdb_disk.specs.History.{History, called, seen, synced, wrote_word, Tried}
 use Rattle.tdb_disk.specs.Image.{overlay}
-use Rattle.tdb_disk.specs.Stop.{Leaves, LeavesOnly, Quiet}
-use Rattle.tdb_disk.proofs.Runs.{leaves_quiet, leaves_tried, leaves_then_sync, quiet_word, leaves_weaker}
+use Rattle.tdb_disk.specs.Stop.{LeavesOnly, Quiet}
+use Rattle.tdb_disk.proofs.Runs.{leaves_quiet, leaves_tried, leaves_then_sync, quiet_word}
 use Rattle.tdb_words.specs.Word.{word, bytes_of_word}
 use Rattle.tdb_words.specs.declared.record.TheConstants.{GATE_OPEN}
 use Rattle.tdb_words.proofs.Words.{word_agrees}

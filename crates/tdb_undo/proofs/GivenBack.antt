@@ -1,24 +1,23 @@
 -- How far entries were written back.
-use Rattle.std.proofs.Common.{◌≡◌, ℕ, zero, suc, ◌+◌, ◌-◌, ◌<◌, ◌≤◌, ◌⊎◌, ◌&&◌, ◌||◌, Bool, true, false, Option, Some, None, List, [], ◌∷◌, length, take, drop, not, slice_index, refl, sym, ◌∙◌, ap, subst, inl, inr, arith}
-use Rattle.std.specs.Prelude.{nat_lt, nat_le, is_some, is_none}
+use Rattle.std.proofs.Common.{◌≡◌, ℕ, ◌+◌, ◌-◌, ◌<◌, ◌≤◌, ◌&&◌, ◌||◌, Bool, true, false, Option, Some, None, List, [], ◌∷◌, length, drop, slice_index, refl, sym, ◌∙◌, ap, subst, inl, inr, arith}
+use Rattle.std.specs.Prelude.{nat_lt, nat_le, is_some}
 use Rattle.std.specs.List.{filter, last_or}
-use Rattle.std.proofs.lemmas.Bool.{cases_lt, cases_Bool, and_parts, and_cases, and_from, and_left, and_right, not_from_true, or_parts, not-true, ltb-false, leb-true, ltb-true}
+use Rattle.std.proofs.lemmas.Bool.{cases_Bool, and_parts, and_from, and_left, and_right, not_from_true, or_parts, ltb-false}
 use Rattle.std.proofs.lemmas.List.{get_or-take, get_or-drop}
-use Rattle.tdb_disk.specs.History.{History, seen}
+use Rattle.tdb_disk.specs.History.{History}
 use Rattle.tdb_disk.specs.Stop.{LeavesOnly}
 use Rattle.tdb_words.specs.declared.word.Order.{Order}
 use Rattle.tdb_words.specs.declared.what.What.TheVariants.{UndoBad}
 use Rattle.tdb_words.specs.Word.{word}
-use Rattle.tdb_words.proofs.Words.{word_agrees}
 use Rattle.tdb_space.specs.Exchange.{Agree}
-use Rattle.tdb_space.specs.Opening.{Entry, entry_at, entries_from, entry_fault, is_bad_entry, covers, last_covering, given_back, lies_in}
+use Rattle.tdb_space.specs.Opening.{Entry, entry_at, entry_fault, is_bad_entry, covers, last_covering, given_back, lies_in}
 use Rattle.tdb_undo.specs.declared.area.Area.{Area}
 use Rattle.tdb_undo.specs.Torn.{TornIn, Put}
 use Rattle.tdb_undo.specs.Entries.{entries_stop, entries_in, one_back, is_writable, is_given, is_written, Given}
-use Rattle.tdb_undo.proofs.Blocks.{start_torn, wider_torn, join_torn}
-use Rattle.tdb_undo.proofs.Lies.{lies, lies_not, lies_where, lies_outside}
+use Rattle.tdb_undo.proofs.Blocks.{wider_torn, join_torn}
+use Rattle.tdb_undo.proofs.Lies.{lies, lies_where}
 use Rattle.tdb_undo.proofs.Rest.{rest, rest_next, rest_none, enough, one_then}
-use Rattle.tdb_undo.proofs.Gives.{stop, given_parts, given_from, false_where}
+use Rattle.tdb_undo.proofs.Gives.{stop, false_where}
 
 -- a byte that an entry covers is covered by the entries from it on, and one that later entries cover too
 covered_first : (e : Entry) (es : List Entry) (i : ℕ) → covers i e ≡ true → is_some (last_covering (e ∷ es) i) ≡ true

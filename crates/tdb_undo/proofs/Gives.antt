@@ -1,7 +1,7 @@
 -- One entry is written back in two pieces, around the undo area.
-use Rattle.std.proofs.Common.{◌≡◌, ℕ, ◌+◌, ◌-◌, ◌<◌, ◌≤◌, ◌⊎◌, ◌&&◌, Bool, true, false, List, length, max, min, not, slice_index, refl, sym, ◌∙◌, ap, subst, inl, inr, arith}
+use Rattle.std.proofs.Common.{◌≡◌, ℕ, ◌+◌, ◌-◌, ◌<◌, ◌≤◌, ◌⊎◌, Bool, true, false, List, max, min, slice_index, ◌∙◌, inl, inr, arith}
 use Rattle.std.specs.Prelude.{nat_le}
-use Rattle.std.proofs.lemmas.Bool.{cases_lt, cases_Bool, and_parts, and_cases, and_from, not-true, not-false, not_from_false, leb-true, leb-false, le-leb}
+use Rattle.std.proofs.lemmas.Bool.{cases_Bool, and_parts, and_from, not-true, not_from_false, leb-true, le-leb}
 use Rattle.tdb_space.specs.Opening.{lies_in}
 use Rattle.tdb_undo.specs.declared.area.Area.{Area}
 use Rattle.tdb_undo.specs.Torn.{Put}

@@ -1,12 +1,12 @@
 -- The undo area of an image by what was read of it.
-use Rattle.std.proofs.Common.{◌≡◌, ◌≢◌, ℕ, ◌+◌, ◌*◌, Bool, true, false, List, length, Option, Some, None, not, refl, sym, ◌∙◌, ap}
+use Rattle.std.proofs.Common.{◌≡◌, ◌≢◌, ℕ, Bool, true, false, List, length, Some, None, not, refl, sym, ◌∙◌, ap}
 use Rattle.std.proofs.lemmas.Bool.{eq-eqb, ne_eqb}
 use Rattle.tdb_words.specs.declared.record.Rec.{Rec}
 use Rattle.tdb_words.specs.declared.what.What.TheVariants.{AreaBad}
 use Rattle.tdb_words.specs.Word.{word}
 use Rattle.tdb_words.specs.Record.{rec_at}
 use Rattle.tdb_space.specs.Form.{Form}
-use Rattle.tdb_space.specs.FirstFault.{Fault, is_out}
+use Rattle.tdb_space.specs.FirstFault.{is_out}
 use Rattle.tdb_undo.specs.Area.{is_out_at, header_fault_at, place_fault_at, place_fault}
 
 -- there is none

@@ -1,27 +1,24 @@
 -- The steps of an undo where the undo area stands at the old length or behind it, up to the shut gate.
-use Rattle.std.proofs.Common.{◌≡◌, ℕ, ◌+◌, ◌-◌, ◌<◌, ◌≤◌, ◌⊎◌, ◌%◌, ◌&&◌, Bool, true, false, None, List, length, not, slice_index, refl, sym, ◌∙◌, ap, subst, inl, inr, arith}
-use Rattle.std.specs.Prelude.{nat_le, nat_lt}
-use Rattle.std.proofs.lemmas.Bool.{cases_Bool, and_left, and_right, and_parts, and_from, lt-leb, le-leb, leb-true, lt-ltb, not-true, not_from_true, not_from_false}
+use Rattle.std.proofs.Common.{◌≡◌, ℕ, ◌+◌, ◌<◌, ◌≤◌, ◌⊎◌, ◌%◌, true, false, List, length, slice_index, sym, ◌∙◌, ap, subst, inl, inr, arith}
+use Rattle.std.proofs.lemmas.Bool.{and_left, and_right, and_from, lt-leb, le-leb, lt-ltb, not_from_true, not_from_false}
 use Rattle.tdb_disk.specs.History.{History, called, seen, synced, wrote_word, Tried}
 use Rattle.tdb_disk.specs.Image.{overlay}
-use Rattle.tdb_disk.specs.Stop.{Leaves, LeavesOnly, Quiet}
+use Rattle.tdb_disk.specs.Stop.{LeavesOnly}
 use Rattle.tdb_disk.proofs.Image.{length-overlay}
-use Rattle.tdb_disk.proofs.Stop.{leaves_seen}
-use Rattle.tdb_disk.proofs.Runs.{leaves_tried, leaves_then_sync, leaves_weaker, leaves_join, leaves_seen_now, quiet_synced, quiet_word}
+use Rattle.tdb_disk.proofs.Runs.{leaves_tried, leaves_then_sync, leaves_weaker, leaves_seen_now, quiet_synced, quiet_word}
 use Rattle.tdb_words.specs.Word.{word, bytes_of_word}
-use Rattle.tdb_space.specs.Form.{Form, data_start}
-use Rattle.tdb_space.specs.Opening.{Undoable, lies_in, last_covering, entries, restored}
-use Rattle.tdb_space.specs.Undoing.{area_at, area_end, old_size, UndoneAlike, Written, TailOf}
+use Rattle.tdb_space.specs.Form.{Form}
+use Rattle.tdb_space.specs.Opening.{Undoable, restored}
+use Rattle.tdb_space.specs.Undoing.{area_at, area_end, old_size, Written}
 use Rattle.tdb_space.specs.RecoverySteps.{IsHarmless, BlankPast, Behind, TailAt}
-use Rattle.tdb_space.proofs.Alike.{alike_self}
 use Rattle.tdb_space.proofs.Emptying.{word_cleared, word_beside}
 use Rattle.tdb_space.proofs.Steps.{alike_torn, area_behind, tail_shut, shut_is_tail}
 use Rattle.tdb_space.proofs.Undone.{OldLength, old_length}
 use Rattle.tdb_undo.specs.declared.area.Area.{Area}
 use Rattle.tdb_undo.specs.Area.{IsAreaOf}
 use Rattle.tdb_undo.specs.Torn.{TornIn, Put}
-use Rattle.tdb_undo.specs.Recovery.{AllAlike, Undoing, alike, exact, tail, ShutBehind, is_past}
-use Rattle.tdb_undo.proofs.Lies.{lies, lies_not, lies_where, lies_outside}
+use Rattle.tdb_undo.specs.Recovery.{AllAlike, Undoing, alike, tail, ShutBehind, is_past}
+use Rattle.tdb_undo.proofs.Lies.{lies, lies_not}
 use Rattle.tdb_undo.proofs.Whole.{same_end, same_old}
 
 module _ (f : Form) (a : List ℕ) (u : Undoable f a) (high : old_size f a ≤ area_at f a) (sized : length a % 4 ≡ 0)

@@ -1,16 +1,16 @@
 -- The steps of an undo where the undo area stands below the old length: what a stop leaves of each, and the file at the end.
-use Rattle.std.proofs.Common.{◌≡◌, ℕ, ◌+◌, ◌-◌, ◌<◌, ◌≤◌, ◌⊎◌, ◌%◌, List, length, take, slice_index, refl, sym, ◌∙◌, ap, subst, inl, inr, arith}
+use Rattle.std.proofs.Common.{◌≡◌, ℕ, ◌+◌, ◌<◌, ◌%◌, List, length, take, slice_index, sym, ◌∙◌, ap, subst, inl, inr, arith}
 use Rattle.std.proofs.lemmas.List.{get_or-take, length-take}
 use Rattle.tdb_disk.specs.History.{History, called, seen, synced, cut, wrote_word, Tried}
 use Rattle.tdb_disk.specs.Image.{overlay}
-use Rattle.tdb_disk.specs.Stop.{Leaves, LeavesOnly, Quiet, Shrunk}
+use Rattle.tdb_disk.specs.Stop.{Leaves, LeavesOnly, Shrunk}
 use Rattle.tdb_disk.proofs.Image.{length-overlay}
 use Rattle.tdb_disk.proofs.Stop.{leaves_seen}
 use Rattle.tdb_disk.proofs.Runs.{leaves_sync, leaves_tried, leaves_then_sync, leaves_weaker, leaves_seen_now, quiet_synced, quiet_word}
 use Rattle.tdb_words.specs.Word.{word, bytes_of_word}
 use Rattle.tdb_space.specs.Form.{Form}
 use Rattle.tdb_space.specs.Opening.{Undoable, restored}
-use Rattle.tdb_space.specs.Undoing.{area_at, area_end, old_size, UndoneAlike, Written}
+use Rattle.tdb_space.specs.Undoing.{area_at, old_size, UndoneAlike, Written}
 use Rattle.tdb_space.proofs.Alike.{alike_shrunk}
 use Rattle.tdb_space.proofs.Emptying.{word_cleared, word_beside}
 use Rattle.tdb_space.proofs.Steps.{low_exact}

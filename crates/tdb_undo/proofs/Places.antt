@@ -1,11 +1,11 @@
 -- The steps that place a new undo area.
-use Rattle.std.proofs.Common.{◌≡◌, ℕ, ◌+◌, ◌-◌, ◌<◌, ◌≤◌, ◌⊎◌, ◌%◌, ◌^◌, List, length, slice_index, refl, sym, ◌∙◌, ap, subst, inl, inr, arith}
+use Rattle.std.proofs.Common.{◌≡◌, ℕ, ◌+◌, ◌<◌, ◌≤◌, ◌%◌, ◌^◌, List, length, slice_index, refl, sym, ◌∙◌, ap, subst, inl, inr, arith}
 use Rattle.std.proofs.lemmas.Bool.{cases_lt}
 use Rattle.std.proofs.lemmas.List.{get_or_past}
 use Rattle.tdb_disk.specs.History.{History, called, seen, synced, grew, wrote_word, Tried}
 use Rattle.tdb_disk.specs.Image.{overlay, padded}
-use Rattle.tdb_disk.specs.Stop.{Leaves, LeavesOnly, Quiet, Grown}
-use Rattle.tdb_disk.proofs.Image.{length-overlay, length-padded, overlay_above, padded_below, padded_in}
+use Rattle.tdb_disk.specs.Stop.{LeavesOnly, Quiet, Grown}
+use Rattle.tdb_disk.proofs.Image.{length-overlay, length-padded, padded_below, padded_in}
 use Rattle.tdb_disk.proofs.Runs.{leaves_quiet, leaves_tried, leaves_then_sync, leaves_seen_now, quiet_synced, quiet_word}
 use Rattle.tdb_words.specs.declared.word.Order.{Order}
 use Rattle.tdb_words.specs.Word.{word, bytes_of_word}

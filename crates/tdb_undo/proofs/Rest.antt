@@ -1,12 +1,11 @@
 -- The entries of an undo area from one of them on.
-use Rattle.std.proofs.Common.{◌≡◌, ℕ, zero, suc, ◌+◌, ◌-◌, ◌<◌, ◌≤◌, ◌⊎◌, ◌&&◌, Bool, true, false, Option, Some, None, List, [], ◌∷◌, length, take, drop, refl, sym, ◌∙◌, ap, subst, inl, inr, arith}
+use Rattle.std.proofs.Common.{◌≡◌, ℕ, zero, suc, ◌+◌, ◌<◌, ◌≤◌, Bool, true, false, Option, Some, None, List, [], ◌∷◌, refl, sym, ◌∙◌, ap, arith}
 use Rattle.std.specs.Prelude.{nat_lt, slice_index, if◌then◌else◌}
 use Rattle.std.specs.List.{filter, last_or}
-use Rattle.std.proofs.lemmas.Bool.{cases_lt, cases_Bool, lt-ltb, le-ltb}
+use Rattle.std.proofs.lemmas.Bool.{lt-ltb, le-ltb}
 use Rattle.tdb_words.specs.declared.word.Order.{Order}
 use Rattle.tdb_words.specs.declared.what.What.TheVariants.{UndoBad}
 use Rattle.tdb_words.specs.Word.{word}
-use Rattle.tdb_space.specs.FirstFault.{Fault}
 use Rattle.tdb_space.specs.Opening.{Entry, entry_at, entries_from, entry_fault, is_bad_entry, covers, last_covering, given_back}
 use Rattle.tdb_undo.specs.Entries.{lengths, one_back}
 

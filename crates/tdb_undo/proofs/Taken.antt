@@ -1,12 +1,12 @@
 -- The bytes of a front that an entry covers become its old ones.
-use Rattle.std.proofs.Common.{◌≡◌, ◌+◌, ◌-◌, ◌≤◌, ◌<◌, ◌⊎◌, ◌&&◌, ℕ, Bool, true, false, List, ◌++◌, length, min, take, drop, refl, sym, subst, ◌∙◌, ap, inl, inr, arith}
+use Rattle.std.proofs.Common.{◌≡◌, ◌+◌, ◌-◌, ◌≤◌, ◌<◌, ◌⊎◌, ℕ, List, ◌++◌, length, min, take, drop, refl, sym, ◌∙◌, ap, inl, inr, arith}
 use Rattle.std.specs.Prelude.{slice_index}
-use Rattle.std.proofs.lemmas.Bool.{cases_Bool, cases_lt}
-use Rattle.std.proofs.lemmas.List.{get_or-take, get_or-drop, get_or_append_left, get_or-append_right, length-take, length-drop, length-append}
+use Rattle.std.proofs.lemmas.Bool.{cases_lt}
+use Rattle.std.proofs.lemmas.List.{get_or-take, get_or-drop, get_or_append_left, get_or-append_right, length-take}
 use borrow.Rule.Slice.PartMut.{post_of}
-use Rattle.tdb_space.specs.Opening.{Entry, covers, lies_in}
+use Rattle.tdb_space.specs.Opening.{Entry}
 use Rattle.tdb_undo.specs.Entries.{one_back}
-use Rattle.tdb_undo.proofs.Lies.{lies, lies_not, lies_where, lies_outside}
+use Rattle.tdb_undo.proofs.Lies.{lies, lies_not}
 
 pub not_covered : (e : Entry) (i byte : ℕ) → (i < e.off) ⊎ (e.off + e.len ≤ i) → byte ≡ one_back e i byte
 not_covered e i byte out = rw (lies_not e.off e.len i out) refl

@@ -1,29 +1,27 @@
 -- What a recovery writes first is harmless, and all of it is what the entries give back.
-use Rattle.std.proofs.Common.{◌≡◌, ℕ, ◌+◌, ◌-◌, ◌<◌, ◌≤◌, ◌⊎◌, ◌%◌, ◌&&◌, ◌||◌, Bool, true, false, Option, Some, None, List, length, not, slice_index, refl, sym, ◌∙◌, ap, subst, inl, inr, arith}
-use Rattle.std.specs.Prelude.{nat_le, nat_lt, nat_eq, is_some, ◌==◌}
-use Rattle.std.proofs.lemmas.Bool.{cases_Bool, cases_lt, and_left, and_right, and_parts, and_cases, and_from, or_from, or_parts, not-false, not_from_true, not_from_false, eqb-true, eq-eqb, lt-ltb, le-ltb, lt-leb, leb-true, le-leb, ltb-true}
+use Rattle.std.proofs.Common.{◌≡◌, ℕ, ◌+◌, ◌<◌, ◌≤◌, ◌⊎◌, ◌%◌, ◌||◌, Bool, true, false, Option, Some, None, List, length, not, slice_index, refl, sym, ◌∙◌, ap, subst, inl, inr, arith}
+use Rattle.std.specs.Prelude.{nat_lt, is_some}
+use Rattle.std.proofs.lemmas.Bool.{cases_Bool, cases_lt, and_left, and_right, and_cases, and_from, or_from, or_parts, not-false, not_from_true, not_from_false, eqb-true, eq-eqb, lt-ltb, le-ltb, lt-leb, le-leb}
 use Rattle.tdb_disk.specs.History.{History, seen}
-use Rattle.tdb_disk.specs.Stop.{Leaves, LeavesOnly, Quiet}
+use Rattle.tdb_disk.specs.Stop.{LeavesOnly, Quiet}
 use Rattle.tdb_disk.proofs.Runs.{leaves_weaker}
-use Rattle.tdb_words.specs.declared.word.Order.{Order}
 use Rattle.tdb_words.specs.Word.{word}
-use Rattle.tdb_words.specs.declared.record.Rec.{Rec}
 use Rattle.tdb_words.specs.Record.{rec_at}
 use Rattle.tdb_space.specs.Form.{Form, data_start, SameHeader}
 use Rattle.tdb_space.specs.Opening.{Entry, entries, entry_fault, Undoable, last_covering, given_back, lies_in, restored}
 use Rattle.tdb_space.specs.Undoing.{area_at, area_end, old_size, UndoneAlike, Written}
 use Rattle.tdb_space.specs.RecoverySteps.{IsHarmless}
 use Rattle.tdb_space.proofs.Steps.{restored_given, alike_torn}
-use Rattle.tdb_space.proofs.Alike.{alike_self, GoodEntries, good_entries}
+use Rattle.tdb_space.proofs.Alike.{alike_self, good_entries}
 use Rattle.tdb_space.proofs.Undone.{OldLength, old_length}
 use Rattle.tdb_undo.specs.declared.area.Area.{Area}
 use Rattle.tdb_undo.specs.Area.{IsAreaOf}
-use Rattle.tdb_undo.specs.Torn.{TornAt, TornIn, Put}
-use Rattle.tdb_undo.specs.Entries.{entries_in, entries_stop, is_writable, is_written, Given}
+use Rattle.tdb_undo.specs.Torn.{TornIn, Put}
+use Rattle.tdb_undo.specs.Entries.{entries_in, entries_stop, is_written, Given}
 use Rattle.tdb_undo.specs.Front.{differs}
 use Rattle.tdb_undo.specs.Recovery.{ReadFrom}
 use Rattle.tdb_undo.proofs.Blocks.{wider_torn, join_torn}
-use Rattle.tdb_undo.proofs.Lies.{lies, lies_not, lies_where, lies_outside}
+use Rattle.tdb_undo.proofs.Lies.{lies, lies_not}
 
 -- the area that was read, and the image's
 module _ (f : Form) (img : List ℕ) (a : Area) (is : IsAreaOf f.order img a) where

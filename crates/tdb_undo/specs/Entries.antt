@@ -1,5 +1,5 @@
 -- The entries of an undo area, one after the other.
-use Rattle.std.specs.Prelude.{◌≡◌, ℕ, ◌+◌, ◌-◌, ◌<◌, Bool, true, false, ◌&&◌, not, nat_le, if◌then◌else◌, is_some, List, [], ◌∷◌, length, slice_index}
+use Rattle.std.specs.Prelude.{◌≡◌, ℕ, ◌+◌, ◌-◌, Bool, true, false, ◌&&◌, not, nat_le, if◌then◌else◌, is_some, List, [], ◌∷◌, length, slice_index}
 use Rattle.tdb_words.specs.declared.word.Order.{Order}
 use Rattle.tdb_space.specs.Opening.{Entry, entries_from, covers, last_covering, given_back, lies_in}
 use Rattle.tdb_undo.specs.declared.area.Area.{Area}

@@ -1,6 +1,4 @@
 -- What a refusal says.
-use Rattle.std.specs.Prelude.{ℕ, ◌≤◌, IfErr, Result}
-use Rattle.tdb_disk.specs.Count.{Rose}
 use Rattle.tdb_space.specs.FirstFault.{Fault}
 use Rattle.tdb_undo.specs.declared.refusal.UndoRefusal.{UndoRefusal}
 use Rattle.tdb_undo.specs.declared.refusal.UndoRefusal.TheVariants.{UndoBad, Io}

@@ -1,11 +1,11 @@
 -- Each way out, by the word at 44 and the header that it leads to.
-use Rattle.std.proofs.Common.{◌≡◌, not, false, take, drop, refl, sym, ◌∙◌, ap, arith}
+use Rattle.std.proofs.Common.{◌≡◌, false, take, drop, sym, ◌∙◌, ap, arith}
 use Rattle.tdb_disk.specs.History.{seen}
 use Rattle.tdb_words.specs.Word.{word}
 use Rattle.tdb_words.specs.Record.{rec_at}
 use Rattle.tdb_words.proofs.Words.{word_of_part, rec_of_part}
 use Rattle.tdb_space.specs.Form.{form_in}
-use Rattle.tdb_undo.specs.Area.{is_out_at, IsAreaOf}
+use Rattle.tdb_undo.specs.Area.{is_out_at}
 use Rattle.tdb_undo.proofs.Heads.{no_area, area_out, area_by_header, not_true, not_false}
 use Rattle.tdb_undo.proofs.area.read_area.Goals as goal
 

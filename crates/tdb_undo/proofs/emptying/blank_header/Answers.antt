@@ -1,7 +1,6 @@
 -- The first word, one more, and the sync.
-use Rattle.std.proofs.Common.{◌≡◌, ◌+◌, ◌*◌, ◌≤◌, ◌<◌, refl, sym, subst, ◌∙◌, ap, arith, rules}
+use Rattle.std.proofs.Common.{◌≡◌, ◌+◌, ◌*◌, sym, subst, ap, arith, rules}
 use Rattle.tdb_disk.specs.History.{seen}
-use Rattle.tdb_disk.specs.Stop.{LeavesOnly}
 use Rattle.tdb_disk.proofs.Runs.{leaves_quiet, leaves_then_sync, quiet_synced}
 use Rattle.tdb_space.specs.Opening.{lies_in}
 use Rattle.tdb_undo.specs.Torn.{Put}

@@ -1,5 +1,5 @@
 -- The word at 44, and the cut.
-use Rattle.std.proofs.Common.{◌≡◌, ◌+◌, [], ◌∷◌, length, sym, subst, ◌∙◌, ap}
+use Rattle.std.proofs.Common.{◌+◌, [], ◌∷◌, sym, subst, ◌∙◌, ap}
 use Rattle.tdb_disk.specs.History.{called, cut, Tried}
 use Rattle.tdb_disk.proofs.Runs.{quiet_synced}
 use Rattle.tdb_space.specs.Form.{form_in}

@@ -1,6 +1,4 @@
 -- The content, and the header.
-use Rattle.std.proofs.Common.{◌≡◌, ◌+◌, ap}
-use Rattle.tdb_disk.specs.History.{seen}
 use Rattle.tdb_space.specs.Form.{form_in}
 use Rattle.tdb_undo.proofs.Empties.{content_torn, header_torn, header_emptied}
 use Rattle.tdb_undo.proofs.emptying.empty_area.Goals as goal

@@ -1,5 +1,5 @@
 -- The zeros, and the sync.
-use Rattle.std.proofs.Common.{◌≡◌, ◌+◌, sym, subst, ap}
+use Rattle.std.proofs.Common.{◌+◌, sym, subst, ap}
 use Rattle.tdb_disk.specs.History.{seen}
 use Rattle.tdb_disk.proofs.Runs.{leaves_then_sync, quiet_synced}
 use Rattle.tdb_space.specs.Opening.{lies_in}

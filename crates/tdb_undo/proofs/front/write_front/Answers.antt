@@ -1,7 +1,7 @@
 -- One byte more, which becomes another or stays.
-use Rattle.std.proofs.Common.{◌≡◌, true, false, ◌<◌, ◌+◌, ◌-◌, ◌≤◌, ℕ, length, take, drop, refl, sym, subst, ◌∙◌, ap, arith, rules}
+use Rattle.std.proofs.Common.{◌≡◌, true, ◌+◌, ◌-◌, ◌≤◌, ℕ, length, take, drop, sym, subst, ◌∙◌, ap, arith, rules}
 use Rattle.std.specs.Prelude.{slice_index}
-use Rattle.tdb_disk.specs.History.{seen, called, wrote}
+use Rattle.tdb_disk.specs.History.{seen}
 use Rattle.tdb_undo.proofs.Blocks.{start_torn, write_torn}
 use Rattle.tdb_undo.specs.Front.{differs}
 use Rattle.tdb_disk.specs.Stop.{LeavesOnly}

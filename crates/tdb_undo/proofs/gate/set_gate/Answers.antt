@@ -1,5 +1,5 @@
 -- The gate word, and its sync.
-use Rattle.std.proofs.Common.{◌≡◌, ◌+◌, ◌%◌, ◌<◌, ◌≤◌, ◌⊎◌, take, drop, length, refl, sym, subst, ◌∙◌, ap, inl, inr, arith}
+use Rattle.std.proofs.Common.{◌≡◌, ◌+◌, ◌⊎◌, take, drop, length, refl, sym, subst, ◌∙◌, ap, inl, arith}
 use Rattle.std.proofs.lemmas.Bool.{MatchBool-at_false}
 use Rattle.tdb_disk.specs.History.{seen, called, wrote_word, Tried}
 use Rattle.tdb_disk.specs.Stop.{LeavesOnly}

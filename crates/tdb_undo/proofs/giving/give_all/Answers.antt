@@ -1,5 +1,5 @@
 -- Both runs of writes.
-use Rattle.std.proofs.Common.{◌≡◌, refl}
+use Rattle.std.proofs.Common.{refl}
 use Rattle.std.proofs.lemmas.Result.{err_from_is_err_and}
 use Rattle.tdb_disk.specs.History.{seen}
 use Rattle.tdb_space.specs.Form.{form_in}

@@ -1,12 +1,11 @@
 -- A run that begins, and one block more of it.
-use Rattle.std.proofs.Common.{◌≡◌, inl, inr, List, ◌+◌, ◌-◌, ◌≤◌, ℕ, length, take, drop, replicate, refl, sym, subst, ◌∙◌, ap, arith, rules}
+use Rattle.std.proofs.Common.{◌≡◌, inl, inr, List, ◌+◌, ◌≤◌, ℕ, length, take, replicate, sym, subst, ◌∙◌, ap, arith, rules}
 use Rattle.std.specs.Prelude.{slice_index}
 use Rattle.std.proofs.lemmas.List.{length-take, length-replicate, get_or-take, get_or-replicate, get_or_past}
 use Rattle.std.proofs.lemmas.Bool.{cases_lt}
 use Rattle.tdb_disk.specs.History.{seen}
-use Rattle.tdb_disk.specs.Stop.{LeavesOnly}
 use Rattle.tdb_space.specs.Opening.{lies_in}
-use Rattle.tdb_undo.specs.Torn.{TornIn, Put}
+use Rattle.tdb_undo.specs.Torn.{Put}
 use Rattle.tdb_undo.proofs.Blocks.{start_torn, write_torn, put_none, put_zeros}
 use Rattle.tdb_undo.proofs.Lies.{lies}
 use Rattle.tdb_undo.proofs.pieces.zero_bytes.Goals as goal

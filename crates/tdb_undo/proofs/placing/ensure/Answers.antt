@@ -1,5 +1,5 @@
 -- The old area is cleared, and the new one placed.
-use Rattle.std.proofs.Common.{◌≡◌, ◌+◌, ◌%◌, length, sym, ap, ◌∙◌, arith}
+use Rattle.std.proofs.Common.{◌%◌, ap, ◌∙◌, arith}
 use Rattle.tdb_disk.specs.History.{seen}
 use Rattle.tdb_disk.proofs.Runs.{leaves_join, leaves_weaker}
 use Rattle.tdb_space.specs.Form.{form_in}

@@ -1,6 +1,5 @@
 -- What a stop leaves of each step, and the new area.
-use Rattle.std.proofs.Common.{◌≡◌, ◌+◌, length, arith}
-use Rattle.tdb_disk.specs.History.{seen}
+use Rattle.std.proofs.Common.{arith}
 use Rattle.tdb_disk.proofs.Runs.{quiet_synced}
 use Rattle.tdb_undo.proofs.Places.{place_one, place_two, place_three, place_four, place_five, place_six, place_set}
 use Rattle.tdb_undo.proofs.placing.place_area.Goals as goal

@@ -1,24 +1,21 @@
 -- Nothing to undo, and an undo.
-use Rattle.std.proofs.Common.{◌≡◌, ◌≢◌, ◌+◌, ◌%◌, ◌≤◌, ◌<◌, ◌⊎◌, ℕ, Bool, true, false, None, Some, List, length, inl, inr, refl, sym, subst, ◌∙◌, ap, arith, rules}
-use Rattle.std.specs.Prelude.{IfSome, IfOk, IfErr, if◌then◌else◌, nat_lt}
-use Rattle.std.proofs.lemmas.Bool.{lt-ltb, le-ltb}
+use Rattle.std.proofs.Common.{◌≡◌, ◌≢◌, ◌%◌, Some, length, sym, subst, ◌∙◌, ap, arith, rules}
+use Rattle.std.specs.Prelude.{IfSome}
 use Rattle.std.proofs.lemmas.Result.{err_from_is_err_and, IfOk-weaker, IfErr-weaker, on_ok_weaker}
-use Rattle.tdb_disk.specs.Count.{RoseBy, RoseUpTo}
+use Rattle.tdb_disk.specs.Count.{RoseBy}
 use Rattle.tdb_disk.specs.History.{seen}
 use Rattle.tdb_disk.specs.Stop.{Quiet, LeavesOnly}
-use Rattle.tdb_disk.proofs.Runs.{leaves_weaker, quiet_same}
+use Rattle.tdb_disk.proofs.Runs.{leaves_weaker}
 use Rattle.tdb_words.specs.declared.record.TheConstants.{GATE_OPEN}
 use Rattle.tdb_space.specs.Record.{magic_of}
-use Rattle.tdb_space.specs.FirstFault.{Fault}
 use Rattle.tdb_space.specs.Form.{form_in, SameHeader}
-use Rattle.tdb_space.specs.Opening.{Undoable, restored, undo_fault, is_open, entries}
-use Rattle.tdb_space.specs.OpeningFault.{opening_fault}
+use Rattle.tdb_space.specs.Opening.{Undoable, restored, undo_fault, entries}
 use Rattle.tdb_space.specs.Undoing.{area_at, old_size, Reopens}
 use Rattle.tdb_undo.specs.Area.{AreaSeen, IsAreaOf, Stands}
 use Rattle.tdb_undo.specs.Entries.{lengths}
 use Rattle.tdb_undo.specs.Recovery.{Undoing, recovery_syncs}
 use Rattle.tdb_undo.specs.Refusal.{Names}
-use Rattle.tdb_undo.proofs.Whole.{same_header, same_old}
+use Rattle.tdb_undo.proofs.Whole.{same_header}
 use Rattle.tdb_undo.proofs.Found.{names_then, still_reopens, undoing_reopens, mild_where_open, none_closed, none_sound, shut_closed, shut_sound, open_is, open_fault, place_first, closed_same, closed_sum, closed_syncs, open_sum, open_syncs, old_words}
 use Rattle.tdb_undo.proofs.recovering.recover.Goals as goal
 

@@ -1,13 +1,12 @@
 -- Each way out, before anything is written and after.
-use Rattle.std.proofs.Common.{◌≡◌, ◌+◌, ◌*◌, ◌%◌, ◌<◌, ◌≤◌, ◌⊎◌, ℕ, Bool, true, None, Some, List, length, take, drop, slice_index, inl, inr, refl, sym, subst, ◌∙◌, ap, arith, rules}
+use Rattle.std.proofs.Common.{◌≡◌, ◌%◌, None, Some, length, take, drop, slice_index, sym, subst, ◌∙◌, ap}
 use Rattle.std.proofs.lemmas.Result.{err_from_is_err_and}
 use Rattle.tdb_disk.specs.History.{seen}
 use Rattle.tdb_disk.specs.Stop.{Quiet, LeavesOnly}
-use Rattle.tdb_space.specs.FirstFault.{Fault}
-use Rattle.tdb_space.specs.Form.{form_in, SameHeader, data_start}
-use Rattle.tdb_space.specs.Opening.{Undoable, restored, undo_fault, entry_fault, last_covering, given_back, entries}
+use Rattle.tdb_space.specs.Form.{form_in, SameHeader}
+use Rattle.tdb_space.specs.Opening.{Undoable, restored, entry_fault, last_covering, given_back}
 use Rattle.tdb_space.specs.Undoing.{old_size}
-use Rattle.tdb_undo.specs.Area.{content_fault_at, Stands}
+use Rattle.tdb_undo.specs.Area.{Stands}
 use Rattle.tdb_undo.specs.Refusal.{IsIo}
 use Rattle.tdb_undo.specs.Entries.{entries_in, entries_stop, lengths}
 use Rattle.tdb_undo.specs.Recovery.{ReadFrom, Undoing}

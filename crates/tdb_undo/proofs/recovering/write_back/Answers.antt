@@ -1,5 +1,5 @@
 -- All is written, and the steps after it.
-use Rattle.std.proofs.Common.{◌≡◌, ◌+◌, ◌<◌, ◌≤◌, ◌⊎◌, inl, inr, refl, sym, ◌∙◌, ap, arith}
+use Rattle.std.proofs.Common.{sym, ◌∙◌}
 use Rattle.tdb_disk.specs.History.{seen}
 use Rattle.tdb_disk.proofs.Runs.{leaves_join, leaves_weaker, leaves_now}
 use Rattle.tdb_space.specs.Form.{form_in}

@@ -1,10 +1,7 @@
 -- The bytes that the entry covers are its old bytes, and the others stay.
-use Rattle.std.proofs.Common.{◌≡◌, ◌+◌, ◌-◌, ◌≤◌, ◌<◌, ◌⊎◌, ℕ, Bool, true, false, List, ◌++◌, length, min, take, drop, refl, sym, subst, ◌∙◌, ap, inl, inr, arith, rules}
-use Rattle.std.specs.Prelude.{slice_index}
+use Rattle.std.proofs.Common.{◌≡◌, ◌-◌, length, take, drop, ◌∙◌, ap, inl, arith}
 use Rattle.std.proofs.lemmas.List.{length-take, length-drop}
 use Rattle.tdb_disk.specs.History.{seen}
-use Rattle.tdb_space.specs.Opening.{Entry, covers}
-use Rattle.tdb_undo.specs.Entries.{one_back}
 use Rattle.tdb_undo.proofs.Taken.{not_covered, part_taken}
 use Rattle.tdb_undo.proofs.testing.take_front.Goals as goal
 

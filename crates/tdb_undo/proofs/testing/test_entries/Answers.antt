@@ -1,12 +1,11 @@
 -- An entry with a fault, one more without, and the end.
-use Rattle.std.proofs.Common.{◌≡◌, ◌+◌, ◌-◌, ◌≤◌, ◌<◌, ℕ, true, false, length, take, drop, refl, sym, subst, ◌∙◌, ap, arith, rules}
+use Rattle.std.proofs.Common.{◌≡◌, ◌+◌, true, false, take, drop, sym, subst, ◌∙◌, ap, arith, rules}
 use Rattle.std.specs.Prelude.{slice_index}
 use Rattle.tdb_disk.specs.History.{seen}
 use Rattle.tdb_words.specs.Word.{word}
-use Rattle.tdb_space.specs.Opening.{Entry, entry_at, entry_fault, is_bad_entry, last_covering, given_back}
-use Rattle.tdb_undo.specs.Window.{Holds}
-use Rattle.tdb_undo.specs.Entries.{entries_stop, entries_in, one_back, lengths}
-use Rattle.tdb_undo.proofs.Rest.{Tested, tested_none, tested_more, tested_bad, tested_all, rest, enough}
+use Rattle.tdb_space.specs.Opening.{entry_at, entry_fault, is_bad_entry, last_covering, given_back}
+use Rattle.tdb_undo.specs.Entries.{entries_stop, lengths}
+use Rattle.tdb_undo.proofs.Rest.{Tested, tested_none, tested_more, tested_bad, tested_all, enough}
 use Rattle.tdb_undo.proofs.testing.test_entries.Goals as goal
 
 pub loop-place-init : goal.loop-place-init

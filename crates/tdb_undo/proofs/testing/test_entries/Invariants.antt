@@ -2,7 +2,6 @@
 use Rattle.std.proofs.Common.{◌≡◌, ◌+◌, ◌-◌, ◌≤◌, IsTrue}
 use Rattle.tdb_disk.specs.History.{seen}
 use Rattle.tdb_undo.specs.Window.{Holds}
-use Rattle.tdb_undo.specs.Entries.{entries_stop}
 use Rattle.tdb_undo.proofs.Rest.{Tested}
 use Rattle.tdb_undo.proofs.testing.test_entries.Given as goal
 

@@ -1,5 +1,5 @@
 -- Both runs of zeros.
-use Rattle.std.proofs.Common.{◌≡◌, ◌+◌, ◌-◌, ℕ, Bool, sym, subst, ap}
+use Rattle.std.proofs.Common.{◌≡◌, ◌+◌, ◌-◌, subst}
 use Rattle.tdb_disk.specs.History.{seen}
 use Rattle.tdb_disk.specs.Stop.{LeavesOnly}
 use Rattle.tdb_space.specs.Opening.{lies_in}

@@ -1,5 +1,5 @@
 -- What a stop leaves of each step, and the area behind the restored file.
-use Rattle.std.proofs.Common.{◌≡◌, ◌+◌, length, sym, subst, ◌∙◌, ap, arith}
+use Rattle.std.proofs.Common.{◌+◌, subst, ◌∙◌, ap, arith}
 use Rattle.tdb_disk.specs.History.{called, wrote_word, Tried}
 use Rattle.tdb_disk.proofs.Runs.{quiet_synced}
 use Rattle.tdb_space.specs.Form.{form_in}

@@ -1,5 +1,5 @@
 -- The shut gate, the emptied area, and the area that is dropped.
-use Rattle.std.proofs.Common.{◌≡◌, ◌+◌, ◌%◌, ℕ, List, length, sym, ◌∙◌, ap, arith}
+use Rattle.std.proofs.Common.{◌%◌, sym, ◌∙◌, ap, arith}
 use Rattle.tdb_disk.proofs.Runs.{leaves_join, leaves_weaker}
 use Rattle.tdb_space.specs.Form.{form_in}
 use Rattle.tdb_space.specs.Opening.{restored}

@@ -1,5 +1,5 @@
 -- Both pieces.
-use Rattle.std.proofs.Common.{◌≡◌, ◌+◌, ◌-◌, ℕ, Bool, max, min, refl, sym, subst, ◌∙◌, ap, arith}
+use Rattle.std.proofs.Common.{◌≡◌, ◌+◌, ◌-◌, max, subst, ◌∙◌}
 use Rattle.std.specs.Prelude.{slice_index}
 use Rattle.tdb_disk.specs.History.{seen}
 use Rattle.tdb_disk.specs.Stop.{LeavesOnly}

@@ -1,17 +1,14 @@
 -- An entry that has become bad, one more that was written back, and the end.
-use Rattle.std.proofs.Common.{◌≡◌, ◌+◌, ◌-◌, ◌≤◌, ◌<◌, ◌&&◌, ℕ, Bool, true, false, None, List, length, take, drop, refl, sym, subst, ◌∙◌, ap, arith, rules}
+use Rattle.std.proofs.Common.{◌≡◌, ◌+◌, ◌-◌, true, false, sym, subst, ◌∙◌, ap, arith, rules}
 use Rattle.std.specs.Prelude.{slice_index}
-use Rattle.tdb_disk.specs.History.{History, seen}
+use Rattle.tdb_disk.specs.History.{seen}
 use Rattle.tdb_disk.specs.Stop.{LeavesOnly}
-use Rattle.tdb_words.specs.Word.{word}
-use Rattle.tdb_space.specs.Opening.{Entry, entry_at, entry_fault, is_bad_entry, last_covering, given_back}
+use Rattle.tdb_space.specs.Opening.{entry_fault}
 use Rattle.tdb_undo.specs.Torn.{TornIn, Put}
-use Rattle.tdb_undo.specs.Window.{Holds}
 use Rattle.tdb_undo.specs.Entries.{entries_stop, entries_in, is_given, is_written, Given}
-use Rattle.tdb_undo.proofs.Blocks.{start_torn, join_torn, wider_torn}
-use Rattle.tdb_undo.proofs.Gives.{false_where}
-use Rattle.tdb_undo.proofs.GivenBack.{Giving, giving_none, giving_all, giving_read, more_torn, read_sound, content_same}
-use Rattle.tdb_undo.proofs.Rest.{rest, enough}
+use Rattle.tdb_undo.proofs.Blocks.{start_torn}
+use Rattle.tdb_undo.proofs.GivenBack.{giving_none, giving_all, giving_read, more_torn, read_sound, content_same}
+use Rattle.tdb_undo.proofs.Rest.{enough}
 use Rattle.tdb_undo.proofs.writing.write_entries.Goals as goal
 
 pub loop-place-init : goal.loop-place-init

@@ -1,5 +1,5 @@
 -- Both words are those of the image.
-use Rattle.std.proofs.Common.{◌≡◌, ◌+◌, ◌-◌, ◌∙◌, refl, sym, ap, arith}
+use Rattle.std.proofs.Common.{◌+◌, ◌-◌, ◌∙◌, arith}
 use Rattle.tdb_undo.proofs.Stretch.{word_held}
 use Rattle.tdb_undo.proofs.window.Window.entry_words.Goals as goal
 
