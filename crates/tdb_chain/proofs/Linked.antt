@@ -2,7 +2,6 @@
 -- out before, and the map has the new value.
 use Rattle.std.proofs.Common.{◌≡◌, ℕ, ◌+◌, ◌<◌, ◌≤◌, ◌⊎◌, ◌^◌, List, [], ◌∷◌, length, cond, Option, Some, None, sym, ◌∙◌, ap, subst, inl, inr, arith}
 use Rattle.std.specs.Prelude.{slice_index}
-use Rattle.std.specs.Map.{update}
 use Rattle.std.proofs.lemmas.Bool.{cases_lt}
 use Rattle.std.proofs.lemmas.Map.{update-update, update_same}
 use Rattle.tdb_disk.specs.Image.{overlay}
@@ -13,7 +12,7 @@ use Rattle.tdb_words.proofs.Hashes.{hash_fits}
 use Rattle.tdb_space.specs.Form.{Form, chain_head, data_start}
 use Rattle.tdb_space.specs.Chain.{chain_of, without}
 use Rattle.tdb_space.specs.Pairs.{map_of, home, same_key}
-use Rattle.tdb_space.specs.Extents.{HandPair, HandOk, once, times, extents, hand_extents}
+use Rattle.tdb_space.specs.Extents.{HandPair, HandOk, times, extents, hand_extents}
 use Rattle.tdb_space.specs.Accepted.{AcceptWith}
 use Rattle.tdb_space.specs.Exchange.{PutInFront, WrittenAt, Filled, LedPast, new_record}
 use Rattle.tdb_space.specs.NewRecord.{record_bytes}
@@ -25,7 +24,7 @@ use Rattle.tdb_space.proofs.RecordBytes.{record_length, record_written, record_p
 use Rattle.tdb_space.proofs.Written.{filled_written}
 use Rattle.tdb_chain.specs.declared.place.Place.{Place}
 use Rattle.tdb_chain.specs.Place.{HoldsKey, IsFound}
-use Rattle.tdb_chain.specs.Changed.{ChainChanged, KeySet, with_hand, without_place, hand_at, hands_back}
+use Rattle.tdb_chain.specs.Changed.{ChainChanged, KeySet, TookOut, with_hand, without_place, hand_at, hands_back}
 use Rattle.tdb_chain.proofs.Changed.{changed_by, changed_then}
 use Rattle.tdb_chain.proofs.Unlinked.{unlinked_set}
 
@@ -130,3 +129,27 @@ module _ (f : Form) (a m b : List ℕ) (h : HandPair) (hands : List HandPair) (k
     map = λ q.
         put.map q ∙ ap (λ o. cond (same_key key q) (Some value) o) (taken.map q) ∙ update-update same_key (map_of f a) key None (Some value) q;
   }
+
+-- a hand is in place in an image that is as long
+pub hand_moved : (f : Form) (a m : List ℕ) (h : HandPair) → length m ≡ length a → HandOk f a h → HandOk f m h
+hand_moved f a m h size hand = record { aligned = hand.aligned; len_aligned = hand.len_aligned; above = hand.above; within = omega (arith, size, hand.within) }
+
+-- the old record, if there is one, was taken out, and the new one was put in front
+pub link_set : (f : Form) (a m b : List ℕ) (h : HandPair) (hands : List HandPair) (key value : List ℕ) (over : Option Place) (out : Option HandPair) → AcceptWith f a (h ∷ hands) → IsFound f a key over → TookOut f a m over → PutInFront f m b h key value → out ≡ hands_back over → KeySet f a b key (Some value) (h.0 ∷ without_place over (chain_of f a (home f key))) (h ∷ []) (h ∷ hands) (with_hand out hands)
+link_set f a m b h hands key value None out A missing took P back =
+    subst (λ o. KeySet f a b key (Some value) (h.0 ∷ chain_of f a (home f key)) (h ∷ []) (h ∷ hands) (with_hand o hands)) (sym back)
+    (linked_new f a b h hands key value A (subst (λ img. PutInFront f img b h key value) took P) missing)
+link_set f a m b h hands key value (Some p) out A holds took P back =
+    subst (λ o. KeySet f a b key (Some value) (h.0 ∷ without p.off (chain_of f a (home f key))) (h ∷ []) (h ∷ hands) (with_hand o hands)) (sym back)
+    (linked_over f a m b h hands key value p A holds (took holds.place) P)
+
+-- the same from what the calls answer, each of them over a view of its own
+pub link_by_calls : (f k l : Form) (a v m b : List ℕ) (h : HandPair) (at n : ℕ) (hands : List HandPair) (key value : List ℕ) (over : Option Place) (out : Option HandPair) → k ≡ f → l ≡ f → v ≡ a → at ≡ h.0 → n ≡ h.1 → length m ≡ length a → AcceptWith f a (h ∷ hands) → IsFound f a key over → TookOut k v m over → (HandOk l m (at, n) → PutInFront l m b (at, n) key value) → out ≡ hands_back over → KeySet f a b key (Some value) (h.0 ∷ without_place over (chain_of f a (home f key))) (h ∷ []) (h ∷ hands) (with_hand out hands)
+link_by_calls f k l a v m b h at n hands key value over out is_f is_l is_a is_at is_n size A found took put back =
+    link_set f a m b h hands key value over out A found
+    (subst (λ q. TookOut q a m over) is_f (subst (λ x. TookOut k x m over) is_a took))
+    (subst (λ q. HandOk q m h → PutInFront q m b h key value) is_l (subst (λ x. HandOk l m x → PutInFront l m b x key value) pair put) (hand_moved f a m h size A.held.0))
+    back
+  where
+    pair : (at, n) ≡ h
+    pair = λ i. (is_at i, is_n i)

@@ -1,12 +1,10 @@
 -- Where a chain stays, a place in it is still one, and a look-up of a key that is filed there still finds what it found.
-use Rattle.std.proofs.Common.{◌≡◌, ℕ, ◌+◌, ◌<◌, ◌≤◌, List, length, Option, Some, None, sym, ◌∙◌, ap, subst, inl, inr, arith}
-use Rattle.std.specs.Prelude.{slice_index}
+use Rattle.std.proofs.Common.{◌≡◌, ℕ, ◌+◌, ◌≤◌, List, length, Option, Some, None, sym, ◌∙◌, ap, subst, arith}
 use Rattle.tdb_words.specs.declared.record.Rec.{Rec}
 use Rattle.tdb_words.specs.declared.record.TheConstants.{USED}
-use Rattle.tdb_words.specs.Record.{rec_at}
 use Rattle.tdb_words.specs.Word.{word}
 use Rattle.tdb_space.specs.Form.{Form, chain_head}
-use Rattle.tdb_space.specs.Record.{IsChained, Whole, Fits, key_at, data_at, rec_len_of, magic_of}
+use Rattle.tdb_space.specs.Record.{IsChained, Whole, Fits, rec_len_of, magic_of}
 use Rattle.tdb_space.specs.Chain.{Member, Leads, chain_of}
 use Rattle.tdb_space.specs.Pairs.{home}
 use Rattle.tdb_space.specs.Extents.{HandPair, extent_at}

@@ -1,5 +1,5 @@
 -- An image of which at most the word at 48 changed differs at most in the sequence number.
-use Rattle.std.proofs.Common.{◌≡◌, ℕ, List, length, ap, ◌∙◌, inl, inr, arith}
+use Rattle.std.proofs.Common.{ℕ, List, length, ap, ◌∙◌, inl, inr, arith}
 use Rattle.std.specs.Prelude.{slice_index}
 use Rattle.tdb_disk.proofs.Image.{length-overlay, overlay_below, overlay_above}
 use Rattle.tdb_words.specs.declared.word.Order.{Order}

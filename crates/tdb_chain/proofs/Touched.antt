@@ -11,7 +11,7 @@ use Rattle.tdb_words.specs.declared.record.Rec.{Rec}
 use Rattle.tdb_words.specs.Word.{word, bytes_of_word}
 use Rattle.tdb_words.proofs.Words.{word_agrees}
 use Rattle.tdb_space.specs.Form.{Form, chain_head}
-use Rattle.tdb_space.specs.Record.{Whole, Fits, key_at, data_at, rec_len_of, key_len_of, data_len_of, full_hash_of, magic_of}
+use Rattle.tdb_space.specs.Record.{Whole, Fits, key_at, data_at, rec_len_of, key_len_of, data_len_of, magic_of}
 use Rattle.tdb_space.specs.Chain.{Member, chain_of}
 use Rattle.tdb_space.specs.Pairs.{map_of, home, same_key}
 use Rattle.tdb_space.specs.Extents.{HandPair, times, extents, extent_at, hand_extents}
@@ -23,7 +23,7 @@ use Rattle.tdb_space.proofs.Members.{member_held}
 use Rattle.tdb_space.proofs.Overlaid.{word_length, word_put, part_overlaid}
 use Rattle.tdb_space.proofs.Updates.{mark_exchanged, mark_map, update_exchanged, update_map}
 use Rattle.tdb_chain.specs.declared.place.Place.{Place}
-use Rattle.tdb_chain.specs.Place.{IsPlace, HoldsKey}
+use Rattle.tdb_chain.specs.Place.{HoldsKey}
 use Rattle.tdb_chain.specs.Changed.{ChainChanged, KeySet}
 use Rattle.tdb_chain.proofs.Changed.{changed_by}
 use Rattle.tdb_chain.proofs.PlaceStays.{place_member, place_whole}

@@ -5,22 +5,23 @@ use Rattle.std.proofs.lemmas.Bool.{cases_lt}
 use Rattle.tdb_disk.specs.Image.{overlay}
 use Rattle.tdb_words.specs.declared.record.Rec.{Rec}
 use Rattle.tdb_words.specs.declared.record.TheConstants.{USED}
-use Rattle.tdb_words.specs.Record.{rec_at}
+use Rattle.tdb_words.specs.declared.word.Order.{Order}
 use Rattle.tdb_words.specs.Word.{bytes_of_word}
 use Rattle.tdb_space.specs.Form.{Form, chain_head}
 use Rattle.tdb_space.specs.Record.{key_at, rec_len_of, magic_of}
 use Rattle.tdb_space.specs.Chain.{chain_of, without}
-use Rattle.tdb_space.specs.Pairs.{map_of, home}
-use Rattle.tdb_space.specs.Extents.{HandPair, times, extents, extent_at, hand_extents}
+use Rattle.tdb_space.specs.Pairs.{home}
+use Rattle.tdb_space.specs.Extents.{Extent, HandPair, once, times, extents, extent_at, hand_extents}
 use Rattle.tdb_space.specs.Accepted.{AcceptWith}
 use Rattle.tdb_space.specs.Exchange.{Exchanged, LedPast}
+use Rattle.tdb_space.specs.Stays.{OnlyIn}
 use Rattle.tdb_space.proofs.Counts.{once_in}
 use Rattle.tdb_space.proofs.Members.{led_from, member_held}
-use Rattle.tdb_space.proofs.Overlaid.{led_past_written}
+use Rattle.tdb_space.proofs.Overlaid.{led_past_written, only_same, put_only, word_length}
 use Rattle.tdb_space.proofs.Removes.{unlink_exchanged, unlink_map, purge_map, home_of_member}
 use Rattle.tdb_chain.specs.declared.place.Place.{Place}
 use Rattle.tdb_chain.specs.Place.{IsPlace}
-use Rattle.tdb_chain.specs.Changed.{ChainChanged, KeySet, Purged, hand_at}
+use Rattle.tdb_chain.specs.Changed.{ChainChanged, KeySet, Purged, OldOrWord, hand_at}
 use Rattle.tdb_chain.proofs.Changed.{changed_by}
 use Rattle.tdb_chain.proofs.PlaceStays.{place_member}
 
@@ -33,6 +34,11 @@ place_len f img p at = ap (λ (r : Rec). r.rec_len) at.header
 
 pub place_hand : (f : Form) (img : List ℕ) (p : Place) → IsPlace f img p → (p.off, rec_len_of f.order img p.off) ≡ hand_at p
 place_hand f img p at = λ i. (p.off, sym (place_len f img p at) i)
+
+-- at most the word was written
+pub word_only : (o : Order) (a b : List ℕ) (at w : ℕ) (es : List Extent) → ((i : ℕ) → times es i ≡ 0 → once (at, 4) i ≡ 0) → OldOrWord o a at w b → OnlyIn es a b
+word_only o a b at w es among (inl same) = only_same es a b same
+word_only o a b at w es among (inr put) = put_only at 4 (bytes_of_word o w) es a b (word_length o w) among put
 
 -- the record's next word was written over the word that led to it
 pub led_past_place : (f : Form) (a b : List ℕ) (p : Place) → IsPlace f a p → p.rec.next < 2 ^ 32 → p.before + 4 ≤ length a → b ≡ overlay a p.before (bytes_of_word f.order p.rec.next) → LedPast f a b p.before p.off

@@ -35,6 +35,6 @@ pub record_parts : (o : Order) (r : Rec) (key value : List ℕ) (whole rest : �
 record_parts o r key value whole rest sum =
     sym (append_assoc (bytes_of_rec o r ++ key ++ value ++ replicate (4096 * whole) PADDING) (replicate rest PADDING) (bytes_of_word o (24 + r.rec_len)))
     ∙ ap (λ bytes. bytes ++ bytes_of_word o (24 + r.rec_len)) (
-      append_assoc (bytes_of_rec o r ++ key ++ value) (replicate (4096 * whole) PADDING) (replicate rest PADDING)
-      ∙ ap (λ bytes. bytes_of_rec o r ++ key ++ value ++ bytes) (replicate-append-replicate (4096 * whole) rest PADDING ∙ ap (λ n. replicate n PADDING) sum)
+    append_assoc (bytes_of_rec o r ++ key ++ value) (replicate (4096 * whole) PADDING) (replicate rest PADDING)
+    ∙ ap (λ bytes. bytes_of_rec o r ++ key ++ value ++ bytes) (replicate-append-replicate (4096 * whole) rest PADDING ∙ ap (λ n. replicate n PADDING) sum)
     )

@@ -2,15 +2,18 @@
 use Rattle.std.specs.Prelude.{◌≡◌, ℕ, ◌+◌, ◌<◌, ◌≤◌, ◌⊎◌, List, [], ◌∷◌, length, slice_index, Option, None, Some}
 use Rattle.std.specs.Map.{update}
 use Rattle.tdb_disk.specs.Image.{overlay}
+use Rattle.tdb_words.specs.declared.record.TheConstants.{PADDING}
 use Rattle.tdb_words.specs.declared.word.Order.{Order}
 use Rattle.tdb_words.specs.Word.{bytes_of_word}
 use Rattle.tdb_space.specs.Form.{Form, chain_head}
 use Rattle.tdb_space.specs.Chain.{chain_of, without}
 use Rattle.tdb_space.specs.Pairs.{map_of, home, same_key}
-use Rattle.tdb_space.specs.Extents.{HandPair, times, extents, hand_extents}
+use Rattle.tdb_space.specs.Extents.{Extent, HandPair, times, extents, hand_extents}
 use Rattle.tdb_space.specs.Accepted.{AcceptWith}
+use Rattle.tdb_space.specs.Exchange.{LedPast}
 use Rattle.tdb_space.specs.Stays.{ChangesOnly, FreeStays}
 use Rattle.tdb_chain.specs.declared.place.Place.{Place}
+use Rattle.tdb_chain.specs.Place.{IsPlace}
 
 -- From image a, accepted with some hands out, to image b one chain gets the records at these offsets, and other hands are out; a
 -- hand is a record that is in no list. The new image is accepted with these and as long as the old one. Only the head of the chain
@@ -59,3 +62,17 @@ hand_at p = (p.off, p.rec.rec_len)
 abbrev pub hands_back : Option Place → Option HandPair
 hands_back None = None
 hands_back (Some p) = Some (hand_at p)
+
+-- the word that leads to the record of a place, if there is one
+abbrev pub word_before : Option Place → List Extent
+word_before None = []
+word_before (Some p) = (p.before, 4) ∷ []
+
+-- from image a to image b the record of a place, if there is one, was led past where it stands in its chain; else nothing changed
+abbrev pub TookOut : Form → List ℕ → List ℕ → Option Place → Type 0
+TookOut f a b None = b ≡ a
+TookOut f a b (Some p) = IsPlace f a p → LedPast f a b p.before p.off
+
+-- between the bytes that a record holds and its tailer stands padding
+abbrev pub IsPadded : List ℕ → HandPair → ℕ → Type 0
+IsPadded img at held = (i : ℕ) → at.0 + 24 + held ≤ i → i < at.0 + 20 + at.1 → slice_index img i ≡ PADDING

@@ -3,6 +3,7 @@
 
 mod content;
 mod in_place;
+mod linking;
 mod place;
 mod record_writing;
 mod refusal;
@@ -14,6 +15,7 @@ mod walk;
 
 pub use crate::content::value;
 pub use crate::in_place::{mark_dead, update_in_place};
+pub use crate::linking::link;
 pub use crate::place::Place;
 pub use crate::refusal::ValueRefusal;
 pub use crate::removal::{purge, unlink};

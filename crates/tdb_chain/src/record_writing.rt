@@ -1,6 +1,6 @@
 // The bytes of a record are written.
 
-ghost use Rattle.std.specs.Prelude.{◌≡◌, ◌+◌, ◌*◌, ◌/◌, ◌≤◌, ◌<◌, ◌^◌, [], ◌∷◌, ◌++◌, length, replicate, IsTrue, OnOk};
+ghost use Rattle.std.specs.Prelude.{◌≡◌, ◌+◌, ◌*◌, ◌/◌, ◌%◌, ◌≤◌, ◌<◌, ◌^◌, [], ◌∷◌, ◌++◌, length, replicate, IsTrue, OnOk};
 ghost use Rattle.tdb_disk.specs.Count.{HasCause};
 ghost use Rattle.tdb_disk.specs.Image.{overlay};
 ghost use Rattle.tdb_words.specs.declared.record.TheConstants.{PADDING};
@@ -37,14 +37,25 @@ fn put<S: Space>(s: &mut S, at: u64, bytes: &[u8]) -> Result<(), Io>
     Ok(())
 }
 
+/// Writes an aligned word.
+pub(crate) fn put_word<S: Space>(s: &mut S, at: u64, word: u32) -> Result<(), Io>
+    requires aligned { at % 4 ≡ 0 }
+    requires within { at + 4 ≤ S.size s.old }
+    requires room { RoomForAll (S.spare s.old) 1 4 }
+    ensures written { OnOk result (IsTrue S.tells → S.image s.new ≡ overlay (S.image s.old) at (bytes_of_word (S.form s.old).order word)) }
+    ensures only { IsTrue S.tells → OnlyIn ((at, 4) ∷ []) (S.image s.old) (S.image s.new) }
+    ensures size { S.size s.new ≡ S.size s.old }
+    ensures wrote { Wrote S.Space s.old s.new }
+    ensures cause { HasCause (S.faults s.old) (S.faults s.new) result }
+    ensures bytes_read { S.bytes_read s.old ≤ S.bytes_read s.new }
+    ensures spare { LeavesRoom 1 4 (S.spare s.old) (S.spare s.new) }
+{
+    s.write_word(at, word_bytes(word, s.order()))?;
+    Ok(())
+}
+
 /// Writes the bytes of a record of at most 4096 bytes, at once.
-fn write_short<S: Space>(
-    s: &mut S,
-    at: u64,
-    rec: &Rec,
-    key: &[u8],
-    value: &[u8],
-) -> Result<(), Io>
+fn write_short<S: Space>(s: &mut S, at: u64, rec: &Rec, key: &[u8], value: &[u8]) -> Result<(), Io>
     requires small { 24 + rec.now.rec_len ≤ 4096 }
     requires fits { length key.now + length value.now + 4 ≤ rec.now.rec_len }
     requires within { at + 24 + rec.now.rec_len ≤ S.size s.old }
@@ -66,13 +77,7 @@ fn write_short<S: Space>(
 }
 
 /// Writes a record's header, its key and its value.
-fn write_front<S: Space>(
-    s: &mut S,
-    at: u64,
-    rec: &Rec,
-    key: &[u8],
-    value: &[u8],
-) -> Result<(), Io>
+fn write_front<S: Space>(s: &mut S, at: u64, rec: &Rec, key: &[u8], value: &[u8]) -> Result<(), Io>
     requires within { at + 24 + length key.now + length value.now ≤ S.size s.old }
     requires short { at + 24 + length key.now + length value.now < 2 ^ 64 }
     requires room { RoomForAll (S.spare s.old) 3 (24 + length key.now + length value.now) }
@@ -159,7 +164,12 @@ fn write_long<S: Space>(s: &mut S, at: u64, rec: &Rec, key: &[u8], value: &[u8])
     let whole = padding / 4096;
     write_front(s, at, rec, key, value)?;
     write_padding(s, behind, whole)?;
-    write_end(s, behind + 4096 * whole, (padding % 4096) as usize, rec.rec_len)?;
+    write_end(
+        s,
+        behind + 4096 * whole,
+        (padding % 4096) as usize,
+        rec.rec_len,
+    )?;
     Ok(())
 }
 

@@ -1,5 +1,5 @@
 -- The map loses the key.
-use Rattle.std.proofs.Common.{◌≡◌, ◌+◌, ◌∙◌, ap}
+use Rattle.std.proofs.Common.{◌+◌, ◌∙◌, ap}
 use Rattle.tdb_disk.specs.Image.{overlay}
 use Rattle.tdb_words.specs.declared.record.TheConstants.{DEAD}
 use Rattle.tdb_words.specs.Word.{bytes_of_word}

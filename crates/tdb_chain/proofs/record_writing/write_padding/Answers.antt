@@ -1,7 +1,5 @@
 -- One piece more.
-use Rattle.std.proofs.Common.{◌≡◌, ◌+◌, ◌*◌, [], ◌∷◌, arith, rules, refl}
-use Rattle.tdb_space.proofs.Overlaid.{only_then, only_within}
-use Rattle.tdb_space.proofs.Rooms.{room_then}
+use Rattle.std.proofs.Common.{arith, rules, refl}
 use Rattle.tdb_chain.proofs.Writing.{piece_more}
 use Rattle.tdb_chain.proofs.record_writing.write_padding.Goals as goal
 

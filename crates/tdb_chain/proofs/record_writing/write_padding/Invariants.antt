@@ -1,5 +1,5 @@
 -- So many pieces of padding were written, one behind the other.
-use Rattle.std.proofs.Common.{◌≡◌, ◌+◌, ◌*◌, ◌≤◌, IsTrue, [], ◌∷◌, replicate}
+use Rattle.std.proofs.Common.{◌≡◌, ◌*◌, ◌≤◌, IsTrue, [], ◌∷◌, replicate}
 use Rattle.tdb_disk.specs.Image.{overlay}
 use Rattle.tdb_words.specs.declared.record.TheConstants.{PADDING}
 use Rattle.tdb_space.specs.Frame.{Wrote}

@@ -1,5 +1,5 @@
 -- The number that was read is raised, and at most it changes.
-use Rattle.std.proofs.Common.{◌≡◌, ◌+◌, ◌<◌, ◌^◌, ◌∙◌, ap, inl, inr, arith}
+use Rattle.std.proofs.Common.{◌≡◌, ◌∙◌, ap, inl, inr, arith}
 use Rattle.tdb_disk.specs.Image.{overlay}
 use Rattle.tdb_words.specs.Word.{word, bytes_of_word}
 use Rattle.tdb_space.proofs.Overlaid.{word_put}
