@@ -136,11 +136,11 @@ fn ends_a_chain_at_what_is_no_record(rt: HostRuntime) -> Result<(), Fail> {
     Ok(())
 }
 
-// The head, three headers, the key and the value are read one after another, and each of these reads may fail.
+// The head, three records and the value are read one after another, and each of these reads may fail.
 #[test]
 fn hands_faults_on(rt: HostRuntime) -> Result<(), Fail> {
     let alloc = rt.alloc();
-    for nth in 0..6 {
+    for nth in 0..5 {
         let mut disk = file_with(alloc, 0, 0)?;
         disk.fail(Call::Read, nth)?;
         let mut s = Direct::new(&mut disk, &HEADER);
