@@ -1,6 +1,8 @@
 //! The chains of a tdb file: where the record of a key stands, and the value that it holds.
 #![tactic(auto)]
 
+#[cfg(test)]
+mod change_tests;
 mod content;
 mod in_place;
 mod linking;
