@@ -118,11 +118,11 @@ module _ (f : Form) (img offs : List ℕ) (test : HandPair → Bool) (turns befo
             let next : s.next ≡ word f.order img at = ap (λ q. q.next) is ∙ ap (λ q. q.next) read in
             let passes_at : test (at, s.rec_len) ≡ true = (λ j. test (sym (ap (λ q. q.off) is) j, s.rec_len)) ∙ passes in
             subst (Sought f img offs test (turns + 1) at r.next) (sym e_now)
-                (passed_found f img offs test turns before at sought s above (ap (λ q. q.off) is) (ap (λ q. q.before) is) next len passes_at)
+            (passed_found f img offs test turns before at sought s above (ap (λ q. q.off) is) (ap (λ q. q.before) is) next len passes_at)
         | inr fails ↦
             let e_now : now ≡ None = e ∙ ap (λ b. first_of None b s) fails in
             subst (Sought f img offs test (turns + 1) at r.next) (sym e_now)
-                (passed_more f img offs test turns before at sought r above read (ap test (sym pair_is) ∙ fails))
+            (passed_more f img offs test turns before at sought r above read (ap test (sym pair_is) ∙ fails))
       ]
 
   -- the search ends where no record can stand, after as many records as the image has words, and where one was found

@@ -1,13 +1,16 @@
-// Takes from a new file in memory, which has no free record and grows.
+// Takes from a new file in memory, which has no free record and grows, and gives back to it.
 
 ghost use Rattle.std.specs.Prelude.{◌≡◌, ◌%◌, ◌^◌, ◌<◌, ◌≤◌};
 
+use crate::giving::give;
 use crate::growing::take;
+use crate::list_refusal::ListRefusal;
+use crate::listing::list;
 use crate::refusal::FreeRefusal;
 use std::alloc::{AllocError, Global};
 use std::test::Fail;
 use tdb_disk::{Call, MemDisk};
-use tdb_space::Direct;
+use tdb_space::{Direct, Hand};
 use tdb_words::{FREE, HashKind, Header, Order, word_bytes};
 
 const HEADER: Header = Header {
@@ -37,6 +40,17 @@ fn taken(disk: &mut MemDisk, rec_len: u64, limit: u64) -> Result<(u32, u32), Fre
     let pair = (hand.off(), hand.rec_len());
     hand.end();
     Ok(pair)
+}
+
+// Whether the free list of a file has just these records.
+fn has_list(alloc: Global, disk: &mut MemDisk, want: &[(u32, u32)]) -> Result<bool, ListRefusal> {
+    let records = list(alloc, &mut Direct::new(disk, &HEADER))?;
+    for (place, pair) in want.iter().enumerate() {
+        if records.get(place) != Some(*pair) {
+            return Ok(false);
+        }
+    }
+    Ok(records.len() == want.len())
 }
 
 fn put_word(image: &mut [u8], at: usize, word: u32) {
@@ -104,11 +118,34 @@ fn grows_a_long_file_by_a_quarter(rt: HostRuntime) -> Result<(), Fail> {
     Ok(())
 }
 
+// A take of 8 bytes, a second one of so many that gives a record at an offset, where there is one, and a give of the first record:
+// the list that is left, and the length of the file.
+#[test]
+fn list_after_row_5(rt: HostRuntime) -> Result<(), Fail> {
+    let alloc = rt.alloc();
+    for (rec_len, off, want, len) in [
+        (0, 0, [(696, 3376)].as_slice(), 4096),
+        (8, 4032, [(4064, 8), (696, 3312)].as_slice(), 4096),
+        (6256, 6008, [(696, 5288)].as_slice(), 12288),
+    ] {
+        let mut disk = empty_file(alloc)?;
+        assert_eq!(rt; taken(&mut disk, 8, MOST)?, (4064, 8));
+        if off != 0 {
+            assert!(rt; rec_len % 4 == 0 && 4 <= rec_len);
+            assert_eq!(rt; taken(&mut disk, rec_len as u64, MOST)?, (off, rec_len));
+        }
+        give(&mut Direct::new(&mut disk, &HEADER), Hand::new(4064, 8))?;
+        assert!(rt; has_list(alloc, &mut disk, want)?, "after {rec_len}");
+        assert_eq!(rt; disk.as_slice().len(), len, "after {rec_len}");
+    }
+    Ok(())
+}
+
 #[test]
 fn hands_faults_on(rt: HostRuntime) -> Result<(), Fail> {
     let alloc = rt.alloc();
     for (call, count) in [
-        (Call::Read, 6),
+        (Call::Read, 5),
         (Call::Grow, 1),
         (Call::Write, 4),
         (Call::WriteWord, 1),

@@ -53,7 +53,11 @@ impl Neighbours {
 /// It reads the head of the list, and 24 bytes of each record up to the second that is found, or to the end of the list. Where the
 /// file's bytes aren't those of a free list, a word that leads to no place where a record can stand ends the list as a 0 does,
 /// and so do as many records as the file has words.
-pub(crate) fn find_neighbours<S: Space>(s: &mut S, len: u64, free: &Stretch) -> Result<Neighbours, Io>
+pub(crate) fn find_neighbours<S: Space>(
+    s: &mut S,
+    len: u64,
+    free: &Stretch,
+) -> Result<Neighbours, Io>
     requires length { len ≡ S.size s.old }
     ensures found { IfOk result (λ found. IsTrue S.tells → (offs : List ℕ)
         → Free (S.form s.old) (S.image s.old) (word (S.form s.old).order (S.image s.old) free_head) offs

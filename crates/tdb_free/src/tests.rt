@@ -113,7 +113,7 @@ fn leaves_out_what_is_not_in_the_file(rt: HostRuntime) -> Result<(), Fail> {
 #[test]
 fn hands_faults_on(rt: HostRuntime) -> Result<(), Fail> {
     let alloc = rt.alloc();
-    for (call, count) in [(Call::Read, 6), (Call::Write, 3), (Call::WriteWord, 2)] {
+    for (call, count) in [(Call::Read, 5), (Call::Write, 2), (Call::WriteWord, 3)] {
         for nth in 0..count {
             let mut disk = MemDisk::new(alloc, &file_with(alloc, &[])?)?;
             disk.fail(call, nth)?;
