@@ -7,7 +7,7 @@ use Rattle.tdb_words.proofs.Words.{word_agrees}
 use Rattle.tdb_space.specs.Form.{Form, data_start, free_head, chain_head}
 use Rattle.tdb_space.specs.Record.{IsFree, IsChained}
 use Rattle.tdb_space.specs.Chain.{chain_of, free_of}
-use Rattle.tdb_space.specs.Extents.{HandPair, once, times, extents, hand_extents}
+use Rattle.tdb_space.specs.Extents.{HandPair, times, extents, hand_extents}
 use Rattle.tdb_space.specs.Accepted.{AcceptWith}
 use Rattle.tdb_space.specs.Stays.{ChangesOnly}
 use Rattle.tdb_space.proofs.Areas.{area_within}

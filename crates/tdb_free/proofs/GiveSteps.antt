@@ -1,8 +1,8 @@
 -- The steps of a give: the record behind the hand leaves the list, then the one before it, and what they make with the hand becomes
 -- the first.
-use Rattle.std.proofs.Common.{◌≡◌, ℕ, ◌∷◌, [], List, Option, sym, subst, inl, inr}
+use Rattle.std.proofs.Common.{ℕ, List, Option}
 use Rattle.tdb_space.specs.Form.{Form}
-use Rattle.tdb_space.specs.Extents.{HandPair, HandOk}
+use Rattle.tdb_space.specs.Extents.{HandPair}
 use Rattle.tdb_free.specs.FreeList.{CanBeGiven, Given, MadeFirst, starts_at, ends_at, end_of, with_next, with_previous}
 use Rattle.tdb_free.specs.Search.{Beside, previous_then}
 use Rattle.tdb_free.specs.Removal.{LeftOut, rest_of}

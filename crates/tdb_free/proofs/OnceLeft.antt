@@ -1,13 +1,13 @@
 -- The record before a hand, once the record behind it has left the free list.
-use Rattle.std.proofs.Common.{◌≡◌, ℕ, ◌+◌, ◌≤◌, ◌<◌, ◌⊎◌, Bool, true, false, List, [], ◌∷◌, Option, Some, None, refl, sym, ◌∙◌, ap, subst, inl, inr, arith}
-use Rattle.std.specs.Prelude.{◌%◌, ◌==◌, if◌then◌else◌, nat_eq, IfSome}
+use Rattle.std.proofs.Common.{◌≡◌, ℕ, ◌⊎◌, Bool, false, List, [], ◌∷◌, Option, Some, None, refl, sym, ◌∙◌, ap, subst, inl, inr, arith}
+use Rattle.std.specs.Prelude.{◌%◌, ◌==◌, if◌then◌else◌, IfSome}
 use Rattle.std.specs.List.{find}
-use Rattle.std.proofs.lemmas.Bool.{cases_Bool, cases_eq, cases_lt, eq-eqb, ne_eqb, eqb-true, false≢true}
+use Rattle.std.proofs.lemmas.Bool.{cases_eq, cases_lt, eq-eqb, ne_eqb, eqb-true, false≢true}
 use Rattle.tdb_words.specs.Word.{word}
 use Rattle.tdb_words.proofs.Words.{word_agrees}
-use Rattle.tdb_space.specs.Form.{Form, data_start, free_head}
+use Rattle.tdb_space.specs.Form.{Form, free_head}
 use Rattle.tdb_space.specs.Record.{Whole, IsFree, next_of, rec_len_of}
-use Rattle.tdb_space.specs.Chain.{Free, Linked, Leads, Member, without}
+use Rattle.tdb_space.specs.Chain.{Free, Leads, Member, without}
 use Rattle.tdb_space.specs.Extents.{HandPair}
 use Rattle.tdb_space.specs.Exchange.{LedPast}
 use Rattle.tdb_space.proofs.Walks.{linked_whole, linked_apart, member_first, member_other}
@@ -17,9 +17,8 @@ use Rattle.tdb_free.specs.FreeList.{ListedOnce, free_pairs, without_first, start
 use Rattle.tdb_free.specs.Search.{IsFirst, IsSpot, SpotWithin, once_left, previous_then, spot_pair}
 use Rattle.tdb_free.specs.Removal.{LeftOut, rest_of}
 use Rattle.tdb_free.specs.declared.search.Spot.{Spot}
-use Rattle.tdb_free.proofs.Passed.{without_tail}
 use Rattle.tdb_free.proofs.Removed.{TakenOut, taken_out}
-use Rattle.tdb_free.proofs.TakenAs.{found_passes, lens_kept, without_here}
+use Rattle.tdb_free.proofs.TakenAs.{found_passes, lens_kept}
 
 -- what passes a test is found alike without the first that passes another one, if that doesn't pass this test
 find_without : (t u : HandPair → Bool) (ps : List HandPair) (q : HandPair) → find t ps ≡ Some q → u q ≡ false → find u (without_first t ps) ≡ find u ps

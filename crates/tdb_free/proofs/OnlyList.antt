@@ -1,13 +1,12 @@
 -- What a take changes: bytes of the record that it takes from, the list, and what the file gains.
-use Rattle.std.proofs.Common.{◌≡◌, ℕ, ◌+◌, ◌-◌, ◌^◌, Bool, ◌<◌, ◌≤◌, List, [], ◌∷◌, length, Some, sym, ◌∙◌, ap, subst, inl, inr, arith}
-use Rattle.std.specs.Prelude.{◌%◌, ◌⊎◌}
+use Rattle.std.proofs.Common.{◌≡◌, ℕ, ◌+◌, ◌-◌, ◌^◌, Bool, ◌<◌, ◌≤◌, List, [], ◌∷◌, length, Some, sym, ◌∙◌, ap, subst, inl, arith}
+use Rattle.std.specs.Prelude.{◌%◌}
 use Rattle.tdb_disk.specs.Image.{padded}
 use Rattle.tdb_disk.proofs.Image.{length-padded, padded_below}
 use Rattle.tdb_words.specs.Word.{word}
-use Rattle.tdb_space.specs.Form.{Form, data_start, free_head}
+use Rattle.tdb_space.specs.Form.{Form, free_head}
 use Rattle.tdb_space.specs.Record.{IsFree, rec_len_of}
-use Rattle.tdb_space.specs.Extents.{HandPair, once, times, extents, hand_extents, extent_at}
-use Rattle.tdb_space.specs.Exchange.{FreeExchanged}
+use Rattle.tdb_space.specs.Extents.{HandPair, once, times, extents}
 use Rattle.tdb_space.specs.Stays.{OnlyIn}
 use Rattle.tdb_space.proofs.Counts.{once_out}
 use Rattle.tdb_space.proofs.Members.{member_held, led_member}

@@ -1,5 +1,5 @@
 -- Where a give stops: at each of its writes a free list stands at the head, and no other byte of the file changed.
-use Rattle.std.proofs.Common.{◌≡◌, ℕ, ◌+◌, ◌<◌, ◌≤◌, ◌⊎◌, List, [], ◌∷◌, ◌++◌, Option, length, refl, sym, ◌∙◌, ap, subst, inl, inr, arith}
+use Rattle.std.proofs.Common.{◌≡◌, ℕ, ◌+◌, ◌<◌, ◌⊎◌, List, [], ◌∷◌, Option, length, refl, sym, ◌∙◌, ap, subst, inl, inr, arith}
 use Rattle.std.specs.Prelude.{slice_index}
 use Rattle.std.proofs.lemmas.Bool.{cases_lt}
 use Rattle.tdb_words.specs.Word.{word}
@@ -15,7 +15,7 @@ use Rattle.tdb_space.proofs.Frees.{trade_accepted, trade_order}
 use Rattle.tdb_space.proofs.Kept.{Still, bodies_still, extents_kept, list_left}
 use Rattle.tdb_space.proofs.Overlaid.{outside}
 use Rattle.tdb_space.proofs.Trades.{free_then}
-use Rattle.tdb_free.specs.FreeList.{CanBeGiven, Given, ListedOnce, MadeFirst, free_pairs, without_first, starts_at, ends_at, end_of, with_next, with_previous}
+use Rattle.tdb_free.specs.FreeList.{CanBeGiven, Given, MadeFirst, free_pairs, without_first, ends_at, with_next, with_previous}
 use Rattle.tdb_free.specs.GiveStopped.{GiveStopped, OnTheWay, StillAccepted}
 use Rattle.tdb_free.specs.GiveStopped.OnTheWay.{as_it_was, without_next, without_both, given}
 use Rattle.tdb_free.specs.OnlyList.{OnlyListChanges}

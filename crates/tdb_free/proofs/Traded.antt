@@ -1,5 +1,5 @@
 -- A take and a give change no chain: the image stays accepted, with a hand more or less, and the map stays.
-use Rattle.std.proofs.Common.{◌≡◌, ℕ, ◌+◌, ◌-◌, ◌<◌, ◌≤◌, ◌^◌, List, [], ◌∷◌, ◌++◌, length, ◌∙◌, subst, sym, arith}
+use Rattle.std.proofs.Common.{◌≡◌, ℕ, ◌+◌, ◌-◌, ◌<◌, ◌≤◌, ◌^◌, List, [], ◌∷◌, ◌++◌, length, subst, sym, arith}
 use Rattle.std.specs.Prelude.{◌%◌}
 use Rattle.tdb_disk.specs.Image.{padded}
 use Rattle.tdb_disk.proofs.Image.{length-padded, padded_below}
@@ -14,7 +14,7 @@ use Rattle.tdb_space.proofs.Grown.{grow_accepted, grow_map}
 use Rattle.tdb_space.proofs.Stays.{free_changes, grown_changes, grown_free, stays_then}
 use Rattle.tdb_free.specs.FreeList.{Given}
 use Rattle.tdb_free.specs.TakenFrom.{TakenFrom}
-use Rattle.tdb_free.specs.Growth.{CanBeTaken, TakenBy, TakenGrown, grown_length, grown_hand}
+use Rattle.tdb_free.specs.Growth.{CanBeTaken, TakenBy, TakenGrown, grown_hand}
 use Rattle.tdb_free.specs.Growth.TakenBy.{as_it_was, after_growth}
 use Rattle.tdb_free.proofs.Accepted.{can_be_taken}
 use Rattle.tdb_free.proofs.Growth.{Grows, grows}

@@ -1,5 +1,5 @@
 -- A hand of an accepted image is one that can be given, and what is given or stops on the way leaves the rest.
-use Rattle.std.proofs.Common.{◌≡◌, ℕ, ◌<◌, ◌^◌, List, [], ◌∷◌, length, sym, subst, arith}
+use Rattle.std.proofs.Common.{◌≡◌, ℕ, ◌<◌, ◌^◌, List, [], ◌∷◌, length, subst, arith}
 use Rattle.tdb_space.specs.Form.{Form}
 use Rattle.tdb_space.specs.Chain.{free_of}
 use Rattle.tdb_space.specs.Extents.{HandPair}

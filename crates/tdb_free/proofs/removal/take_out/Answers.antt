@@ -1,8 +1,7 @@
 -- The word that was written leads past the record.
-use Rattle.std.proofs.Common.{◌≡◌, ◌+◌, ◌<◌, ◌≤◌, ◌^◌, IsTrue, ◌⊎◌, Option, Some, sym, subst, inl, inr, arith, rules}
+use Rattle.std.proofs.Common.{◌≡◌, ◌<◌, ◌^◌, IsTrue, ◌⊎◌, sym, subst, inl, inr, arith, rules}
 use Rattle.std.specs.Prelude.{OnOk, OnErr, IfSome}
 use Rattle.std.proofs.lemmas.Result.{on_ok_weaker, on_err_weaker}
-use Rattle.tdb_space.specs.Record.{next_of}
 use Rattle.tdb_space.proofs.Overlaid.{led_past_written}
 use Rattle.tdb_free.specs.Removal.{LeftOut}
 use Rattle.tdb_free.specs.Search.{SpotWithin}
