@@ -1,48 +1,34 @@
 -- The laws of an opener that joins and of one that dies.
-use Rattle.std.proofs.Common.{◌≡◌, ℕ, zero, suc, ◌+◌, ◌<◌, ◌≤◌, max, List, [], Bool, true, false, not, cond, ◌==◌, Option, Some, None, is_none, is_some, refl, sym, ◌∙◌, ap, subst, subst₂, inl, inr, ◌⊎◌, arith, ◌≢◌}
+use Rattle.std.proofs.Common.{◌≡◌, ℕ, ◌≤◌, List, [], Bool, true, false, cond, Option, Some, None, is_none, is_some, refl, sym, ◌∙◌, ap, subst, subst₂, inl, inr, ◌⊎◌, arith, ◌≢◌}
 use Rattle.std.specs.Prelude.{◌&&◌, ◌||◌}
-use Rattle.std.specs.FinMap.{get}
-use Rattle.std.proofs.lemmas.Bool.{cases_Bool, cases_eq, cases_lt, eq-eqb, ne_eqb, and_parts, or_parts}
+use Rattle.std.proofs.lemmas.Bool.{cases_Bool, cases_eq}
 use Rattle.tdb_space.specs.Form.{Form}
-use Rattle.tdb_space.specs.Pairs.{home}
-use Rattle.tdb_law.specs.Commands.{MapCommand, LockCommand, GroupCommand, WalkCommand, Command, Reply, Turn, is_spare, is_done, is_first}
+use Rattle.tdb_law.specs.Commands.{Command}
 use Rattle.tdb_law.specs.Commands.GroupCommand.{Start, Commit, Prepare, Cancel}
-use Rattle.tdb_law.specs.Commands.WalkCommand.{First, Next, EndWalk, Close}
 use Rattle.tdb_law.specs.Commands.Command.{OnMap, OnLocks, Seqnum, OnGroup, OnWalk}
-use Rattle.tdb_law.specs.Commands.LockCommand.{ChainLock, ChainLockNb, ChainUnlock, LockAll, LockAllRead, UnlockAll}
-use Rattle.tdb_law.specs.Commands.Reply.{Done, End, Memory, Value, Pair, Busy, Full, Number}
-use Rattle.tdb_law.specs.Commands.Turn.{Step, Blocked, Ends}
-use Rattle.tdb_law.specs.Openers.{Own, Txn, Map, Mark, Spot, Task, seen, has, image_or, is_key}
-use Rattle.tdb_law.specs.MapCommands.{after, map_touches, map_removes, map_changes}
-use Rattle.tdb_law.specs.Refusals.{Refusal, refusal, chain_byte, has_cursor}
-use Rattle.tdb_law.specs.Rows.{look, is_changed, changed_by, commits_in, gate_shut, commit_changed, map_changed, was_planned}
-use Rattle.tdb_law.specs.Outcomes.{moves, told, map_by, map_after, own_after, touches_by, touches, touched, is_touch, key_shown, commits}
-use Rattle.tdb_law.specs.Counting.{takes_by, takes, commit_takes, commit_writes, number_seen}
-use Rattle.tdb_law.specs.Held.{decided}
+use Rattle.tdb_law.specs.Openers.{Own, Txn, Map, Spot, Task, seen, has}
+use Rattle.tdb_law.specs.Refusals.{Refusal, refusal, chain_byte}
+use Rattle.tdb_law.specs.Rows.{is_changed, changed_by, commit_changed, was_planned}
+use Rattle.tdb_law.specs.Outcomes.{map_after, touches}
 use Rattle.tdb_law.specs.World.{State, IsPending, IsSound}
-use Rattle.tdb_law.specs.Effects.{IsFree, IsFirstConflict, IsReady, Effect, Finds, SpotLeft, task_left}
-use Rattle.tdb_law.specs.Effects.Effect.{effect_waits, effect_goes_on, effect_changes, effect_answers, effect_shows, effect_starves, effect_is_full, effect_is_busy, effect_numbers, effect_finishes}
-use Rattle.tdb_law.specs.Walks.{IsPlain, Lost, Shift, Due, TakenBy, Taken, Moves, Arrives, Finishes, begins, Walked}
-use Rattle.tdb_law.specs.Replay.{Replay, steps_of, any_below, takes_begun, taken, starts, shown_now, due_now, line_own, line_map, is_shown, shown_after, due_after, put, turned_state, still_due, less_due}
-use Rattle.tdb_law.specs.Standing.{IsSame, IsTouchedBy, MapStands, IsBehind, IsOnWay, is_fresh, WalkStandsBy, WalkStands, Stands}
-use Rattle.tdb_law.proofs.Maps.{is_key-refl, is_key-eq}
-use Rattle.tdb_law.proofs.Local.{changing}
-use Rattle.tdb_law.proofs.Sound.{own_kept, who_joined}
-use Rattle.tdb_law.proofs.Mapped.{never_true, own_line, quiet_moves}
+use Rattle.tdb_law.specs.Walks.{IsPlain}
+use Rattle.tdb_law.specs.Replay.{Replay, put}
+use Rattle.tdb_law.specs.Standing.{IsSame, MapStands, is_fresh, WalkStandsBy, WalkStands, Stands}
+use Rattle.tdb_law.proofs.Mapped.{never_true}
 use Rattle.std.proofs.lemmas.Bool.{leb-true}
 use Rattle.std.specs.Prelude.{nat_le, nat_lt}
-use Rattle.tdb_law.specs.Openers.{outside, nowhere, closed, opened}
-use Rattle.tdb_law.specs.Rows.{plans_in, locks, commit_locks, plan_locks, locks_by}
+use Rattle.tdb_law.specs.Openers.{nowhere, closed}
+use Rattle.tdb_law.specs.Rows.{plans_in, commit_locks, plan_locks}
 use Rattle.tdb_law.specs.World.{HasFewChains}
-use Rattle.tdb_law.specs.Held.{locked, prepared_held, txn_held, kept_by, kept, held, is_gone, holding, task_held}
-use Rattle.tdb_law.specs.Lines.{Line, next_line, AllowsLine, EndsTransaction, commit_steps_by, commit_steps, is_gate_open, txn_leaves_open, leaves_open, died_map, died_number, MayDie, died_state, joined_state}
-use Rattle.tdb_law.specs.Lines.Line.{Joined, Died}
-use Rattle.tdb_law.specs.Counting.{brings_by, brings}
+use Rattle.tdb_law.specs.Held.{locked, prepared_held, txn_held, kept_by, kept, held, holding}
+use Rattle.tdb_law.specs.Lines.{EndsTransaction, commit_steps_by, commit_steps, is_gate_open, txn_leaves_open, leaves_open, died_map, died_number, MayDie, died_state}
+use Rattle.tdb_law.specs.Lines.Line.{Died}
+use Rattle.tdb_law.specs.Counting.{brings}
 use Rattle.tdb_law.specs.Standing.{IsBringing, IsUntouched}
-use Rattle.tdb_law.specs.Events.{OthersStay, HasNothing, Joins, Dies}
-use Rattle.tdb_law.specs.Laws.{LawfulLine, JoinIsLawful, DeathIsLawful}
-use Rattle.tdb_law.proofs.Covered.{changed_late, commit_covers, held_by}
-use Rattle.tdb_law.proofs.Kept.{base, closed_base, opened_base}
+use Rattle.tdb_law.specs.Events.{OthersStay, HasNothing, Dies}
+use Rattle.tdb_law.specs.Laws.{LawfulLine, DeathIsLawful}
+use Rattle.tdb_law.proofs.Covered.{commit_covers, held_by}
+use Rattle.tdb_law.proofs.Kept.{closed_base}
 use Rattle.tdb_law.proofs.Walking.{put_here, put_else, way_alike, owed_parts}
 use Rattle.tdb_law.proofs.Pending.{same_task, no_task, pending_touches}
 use Rattle.tdb_law.proofs.Mapped.{never_true}
@@ -238,6 +224,7 @@ module _ (f : Form) (old new : State) (who : ℕ) (s : Replay) (S : IsSound f ol
           let command : by.command ≡ u.command = sym p.command ∙ ap (λ v. v.command) same in
           let made : is_changed f u.command x u.steps ≡ true = subst (λ v. is_changed f v.command x v.steps ≡ true) same (subst₂ (λ c v. is_changed f c v p.task.steps ≡ true) (sym p.command) (sym p.owned) p.made) in
           rw made (subst₂ (λ c v. brings f c v ≡ true) command (sym p.owned) by.brings)
+
       by_bool : (b : Bool) → is_changed f u.command x u.steps && brings f u.command x ≡ b → (cond b (old.image_number who) s.number ≡ new.number) ⊎ IsBringing f new
       by_bool true both =
           let parts = and_both _ _ both in
@@ -300,7 +287,7 @@ module _ (f : Form) (old new : State) (who : ℕ) (s : Replay) (S : IsSound f ol
         | inr ne ↦ (let begun : z.begun o ≡ s.begun o = put_else s.begun who None o ne in
             let own : z.own o ≡ s.own o = put_else s.own who (closed (s.own who)) o ne in
             let fresh : is_fresh f (z.begun o) (z.own o) (new.spot o) ≡ is_fresh f (s.begun o) (s.own o) (old.spot o) =
-                ap (λ b. is_fresh f b (z.own o) (new.spot o)) begun ∙ (ap (λ y. is_fresh f (s.begun o) y (new.spot o)) own ∙ ap (is_fresh f (s.begun o) (s.own o)) (St.spot o ne)) in
+            ap (λ b. is_fresh f b (z.own o) (new.spot o)) begun ∙ (ap (λ y. is_fresh f (s.begun o) y (new.spot o)) own ∙ ap (is_fresh f (s.begun o) (s.own o)) (St.spot o ne)) in
             subst (λ b. WalkStandsBy b f new o (z.shown o) (z.due o)) (sym fresh) (by_fresh o ne (is_fresh f (s.begun o) (s.own o) (old.spot o)) (P.walks o)))
       ]
     where
@@ -309,7 +296,7 @@ module _ (f : Form) (old new : State) (who : ℕ) (s : Replay) (S : IsSound f ol
       by_fresh o ne false way =
           way_alike f new o (s.shown o) (z.shown o) (z.due o) (z.due o) (λ k. ap (λ g. g k) (put_else s.shown who (λ q. false) o ne)) (λ k owed. owed)
           (walk_event f old new who St N never_plain o ne (s.shown o) (s.due o) (z.due o)
-            (λ k owed. sym (ap (λ g. g k) (put_else s.due who (λ q. false) o ne)) ∙ (owed_parts f (λ q. false) t o k owed).0) way)
+          (λ k owed. sym (ap (λ g. g k) (put_else s.due who (λ q. false) o ne)) ∙ (owed_parts f (λ q. false) t o k owed).0) way)
 
   open_there : leaves_open f (s.own who) (s.begun who) ≡ leaves_open f x (old.task who)
   open_there = ap (λ y. leaves_open f y (s.begun who)) here ∙ ap (txn_leaves_open x.txn) (steps_same f x (s.begun who) (old.task who) (P.same who))

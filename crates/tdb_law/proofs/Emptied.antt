@@ -1,51 +1,33 @@
 -- An opener that joins or dies leaves the others as they were: the world stays sound, and the map and the walks stand.
-use Rattle.std.proofs.Common.{◌≡◌, ℕ, zero, suc, ◌+◌, ◌<◌, ◌≤◌, max, List, [], Bool, true, false, not, cond, ◌==◌, Option, Some, None, is_none, is_some, refl, sym, ◌∙◌, ap, subst, subst₂, inl, inr, ◌⊎◌, arith, ◌≢◌}
-use Rattle.std.specs.Prelude.{◌&&◌, ◌||◌}
+use Rattle.std.proofs.Common.{◌≡◌, ℕ, ◌<◌, ◌≤◌, List, Bool, true, false, Option, Some, None, is_some, refl, sym, ◌∙◌, ap, subst, subst₂, inl, inr, arith, ◌≢◌}
 use Rattle.std.specs.FinMap.{get}
-use Rattle.std.proofs.lemmas.Bool.{cases_Bool, cases_eq, cases_lt, eq-eqb, ne_eqb, and_parts, or_parts}
+use Rattle.std.proofs.lemmas.Bool.{cases_Bool, cases_eq}
 use Rattle.tdb_space.specs.Form.{Form}
 use Rattle.tdb_space.specs.Pairs.{home}
-use Rattle.tdb_law.specs.Commands.{MapCommand, LockCommand, GroupCommand, WalkCommand, Command, Reply, Turn, is_spare, is_done, is_first}
+use Rattle.tdb_law.specs.Commands.{Command}
 use Rattle.tdb_law.specs.Commands.GroupCommand.{Start, Commit, Prepare, Cancel}
-use Rattle.tdb_law.specs.Commands.WalkCommand.{First, Next, EndWalk, Close}
 use Rattle.tdb_law.specs.Commands.Command.{OnMap, OnLocks, Seqnum, OnGroup, OnWalk}
-use Rattle.tdb_law.specs.Commands.LockCommand.{ChainLock, ChainLockNb, ChainUnlock, LockAll, LockAllRead, UnlockAll}
-use Rattle.tdb_law.specs.Commands.Reply.{Done, End, Memory, Value, Pair, Busy, Full, Number}
-use Rattle.tdb_law.specs.Commands.Turn.{Step, Blocked, Ends}
-use Rattle.tdb_law.specs.Openers.{Own, Txn, Map, Mark, Spot, Task, seen, has, image_or, is_key}
-use Rattle.tdb_law.specs.MapCommands.{after, map_touches, map_removes, map_changes}
-use Rattle.tdb_law.specs.Refusals.{Refusal, refusal, chain_byte, has_cursor}
-use Rattle.tdb_law.specs.Rows.{look, is_changed, changed_by, commits_in, gate_shut, commit_changed, map_changed, was_planned}
-use Rattle.tdb_law.specs.Outcomes.{moves, told, map_by, map_after, own_after, touches_by, touches, touched, is_touch, key_shown, commits}
-use Rattle.tdb_law.specs.Counting.{takes_by, takes, commit_takes, commit_writes, number_seen}
-use Rattle.tdb_law.specs.Held.{decided}
+use Rattle.tdb_law.specs.Openers.{Own, Txn, Map, Task}
+use Rattle.tdb_law.specs.Refusals.{Refusal, refusal}
+use Rattle.tdb_law.specs.Rows.{is_changed, changed_by, commits_in, gate_shut, commit_changed, map_changed}
+use Rattle.tdb_law.specs.Outcomes.{map_after, touches}
 use Rattle.tdb_law.specs.World.{State, IsPending, IsSound}
-use Rattle.tdb_law.specs.Effects.{IsFree, IsFirstConflict, IsReady, Effect, Finds, SpotLeft, task_left}
-use Rattle.tdb_law.specs.Effects.Effect.{effect_waits, effect_goes_on, effect_changes, effect_answers, effect_shows, effect_starves, effect_is_full, effect_is_busy, effect_numbers, effect_finishes}
-use Rattle.tdb_law.specs.Walks.{IsPlain, Lost, Shift, Due, TakenBy, Taken, Moves, Arrives, Finishes, begins, Walked}
-use Rattle.tdb_law.specs.Replay.{Replay, steps_of, any_below, takes_begun, taken, starts, shown_now, due_now, line_own, line_map, is_shown, shown_after, due_after, put, turned_state, still_due, less_due}
-use Rattle.tdb_law.specs.Standing.{IsSame, IsTouchedBy, MapStands, IsBehind, IsOnWay, is_fresh, WalkStandsBy, WalkStands, Stands}
-use Rattle.tdb_law.proofs.Maps.{is_key-refl, is_key-eq}
-use Rattle.tdb_law.proofs.Local.{changing}
-use Rattle.tdb_law.proofs.Sound.{own_kept, who_joined}
-use Rattle.tdb_law.proofs.Pending.{same_task, pending_touches, pending_before, pending_after, own_pending, pending_own, not_pending, make_pending}
-use Rattle.tdb_law.proofs.Mapped.{never_true, own_line, quiet_moves}
-use Rattle.std.proofs.lemmas.Bool.{and_left, and_right, leb-true, le-leb, lt-ltb}
-use Rattle.std.specs.Prelude.{nat_le, nat_lt}
-use Rattle.tdb_space.specs.Form.{data_start}
-use Rattle.tdb_law.specs.Openers.{outside, nowhere, closed, opened}
-use Rattle.tdb_law.specs.Outcomes.{reads, own_by}
-use Rattle.tdb_law.specs.Rows.{plans_in, locks, commit_locks, plan_locks, locks_by}
-use Rattle.tdb_law.specs.Held.{locked, prepared_held, txn_held, kept_by, kept, held, is_gone, holding}
-use Rattle.tdb_law.specs.Lines.{commit_steps_by, commit_steps, is_gate_open, txn_leaves_open, leaves_open, died_map, died_number, MayDie}
-use Rattle.tdb_law.specs.Counting.{brings_by, brings}
-use Rattle.tdb_law.specs.Events.{OthersStay, HasNothing}
-use Rattle.tdb_law.proofs.Local.{Agree, same_told, same_after, untouched, reads_touched}
-use Rattle.tdb_law.proofs.Covered.{changed_late, commit_covers, none_held, held_by}
-use Rattle.tdb_law.proofs.Walking.{map_unchanged}
-use Rattle.tdb_law.proofs.Pending.{no_task, apart_touch, apart_read, pending_touches}
+use Rattle.tdb_law.specs.Effects.{IsReady}
+use Rattle.tdb_law.specs.Walks.{IsPlain}
+use Rattle.tdb_law.specs.Standing.{IsTouchedBy, MapStands, IsOnWay}
+use Rattle.tdb_law.proofs.Pending.{same_task}
 use Rattle.tdb_law.proofs.Mapped.{never_true}
-use Rattle.tdb_law.proofs.Beginning.{and_both}
+use Rattle.std.proofs.lemmas.Bool.{and_right}
+use Rattle.std.specs.Prelude.{nat_le}
+use Rattle.tdb_space.specs.Form.{data_start}
+use Rattle.tdb_law.specs.Openers.{outside, nowhere}
+use Rattle.tdb_law.specs.Held.{kept, holding}
+use Rattle.tdb_law.specs.Events.{OthersStay, HasNothing}
+use Rattle.tdb_law.proofs.Local.{Agree, same_told, same_after, untouched}
+use Rattle.tdb_law.proofs.Covered.{changed_late}
+use Rattle.tdb_law.proofs.Walking.{map_unchanged}
+use Rattle.tdb_law.proofs.Pending.{no_task, apart_read}
+use Rattle.tdb_law.proofs.Mapped.{never_true}
 
 -- before its first step no command has changed the file
 gate_start : (p : Option ℕ) → gate_shut p 0 ≡ false
@@ -98,9 +80,9 @@ module _ (f : Form) (old new : State) (who : ℕ) (St : OthersStay f old new who
               let none : new.table o b ≡ 0 = ap (λ q. new.table q b) e ∙ N.table b in
               omega (arith, none, St.table p b p_other, S.apart o p b ne))
           | inr o_other ↦ elim (cases_eq p who) [
-              | inl e ↦ (let none : new.table p b ≡ 0 = ap (λ q. new.table q b) e ∙ N.table b in omega (arith, none, St.table o b o_other, S.apart o p b ne))
-              | inr p_other ↦ omega (arith, St.table o b o_other, St.table p b p_other, S.apart o p b ne)
-            ]
+            | inl e ↦ (let none : new.table p b ≡ 0 = ap (λ q. new.table q b) e ∙ N.table b in omega (arith, none, St.table o b o_other, S.apart o p b ne))
+            | inr p_other ↦ omega (arith, St.table o b o_other, St.table p b p_other, S.apart o p b ne)
+          ]
         ]);
     stands = λ o place on.
         (elim (cases_eq o who) [
@@ -118,10 +100,11 @@ module _ (f : Form) (old new : State) (who : ℕ) (St : OthersStay f old new who
     where
       none_stands : (place : ℕ) → ◌≡◌ {A = Option ℕ} None (Some place) → ⊥
       none_stands place e = cc
+
       nothing_held : (b : ℕ) → new.table who b ≡ holding f (new.own who) (new.spot who) (new.task who) b
       nothing_held b =
           let at_rest : holding f (new.own who) (new.spot who) (new.task who) b ≡ holding f (new.own who) nowhere None b =
-              ap (λ v. holding f (new.own who) v (new.task who) b) N.spot ∙ ap (λ v. holding f (new.own who) nowhere v b) N.task in
+          ap (λ v. holding f (new.own who) v (new.task who) b) N.spot ∙ ap (λ v. holding f (new.own who) nowhere v b) N.task in
           omega (arith, N.table b, at_rest, bare b)
 
   -- where the opener had no change pending the map stands as it stood
@@ -132,8 +115,13 @@ module _ (f : Form) (old new : State) (who : ℕ) (St : OthersStay f old new who
     each = λ k.
         (elim (M.each k) [
           | inl same ↦ inl (ap (λ v. get v k) St.file ∙ same)
-          | inr by ↦ inr (record { owner = by.owner; command = by.command; own = by.own; touched = by.touched;
-              pending = after_event by.owner by.command by.own (λ is. never by.command by.own (subst (λ q. IsPending f old q by.command by.own) is by.pending)) by.pending })
+          | inr by ↦ inr (record {
+            owner = by.owner;
+            command = by.command;
+            own = by.own;
+            touched = by.touched;
+            pending = after_event by.owner by.command by.own (λ is. never by.command by.own (subst (λ q. IsPending f old q by.command by.own) is by.pending)) by.pending;
+          })
         ]);
   }
 
@@ -167,10 +155,15 @@ module _ (f : Form) (old new : State) (who : ℕ) (St : OthersStay f old new who
           (elim (cases_Bool (touches f u.command (old.own who) k)) [
             | inl touching ↦ inl (ap (λ v. get v k) St.file ∙ M.pending who u.command (old.own who) mine_pending k touching)
             | inr never ↦ elim (M.each k) [
-                | inl same ↦ inl (ap (λ v. get v k) St.file ∙ (same ∙ sym (untouched f u.command (old.own who) m k never)))
-                | inr by ↦ inr (record { owner = by.owner; command = by.command; own = by.own; touched = by.touched;
-                    pending = after_event by.owner by.command by.own (λ is. never_true (sym never ∙ its_own k by is)) by.pending })
-              ]
+              | inl same ↦ inl (ap (λ v. get v k) St.file ∙ (same ∙ sym (untouched f u.command (old.own who) m k never)))
+              | inr by ↦ inr (record {
+                owner = by.owner;
+                command = by.command;
+                own = by.own;
+                touched = by.touched;
+                pending = after_event by.owner by.command by.own (λ is. never_true (sym never ∙ its_own k by is)) by.pending;
+              })
+            ]
           ]);
     }
 
@@ -184,19 +177,25 @@ module _ (f : Form) (old new : State) (who : ℕ) (St : OthersStay f old new who
             (elim (cases_Bool ((new.mark o).ahead k)) [
               | inr off ↦ off
               | inl later ↦ elim (shift.fewer k later) [
-                  | inl before ↦ absurd (never_true (sym (way.behind k e) ∙ before))
-                  | inr beyond ↦ absurd (omega (arith, beyond, way.reached k e))
-                ]
+                | inl before ↦ absurd (never_true (sym (way.behind k e) ∙ before))
+                | inr beyond ↦ absurd (omega (arith, beyond, way.reached k e))
+              ]
             ]);
         reached = λ k e. subst (λ v. home f k < v) (sym shift.reached) (way.reached k e);
         due = λ k e.
             (elim (way.due k (fewer k e)) [
               | inl before ↦ inl before
               | inr rest ↦ elim rest [
-                  | inl ahead ↦ elim (shift.kept k ahead) [ inl later ↦ inr (inl later) | inr lost ↦ absurd lost ]
-                  | inr by ↦ inr (inr (record { owner = by.owner; command = by.command; own = by.own; plain = by.plain; touched = by.touched;
-                      pending = after_event by.owner by.command by.own (λ is. never by.command by.own (subst (λ q. IsPending f old q by.command by.own) is by.pending) by.plain) by.pending;
-                      near = elim by.near [ inl is ↦ inl is | inr both ↦ inr (shift.inside ∙ both.0, both.1 ∙ sym shift.reached) ] }))
-                ]
+                | inl ahead ↦ elim (shift.kept k ahead) [ inl later ↦ inr (inl later) | inr lost ↦ absurd lost ]
+                | inr by ↦ inr (inr (record {
+                  owner = by.owner;
+                  command = by.command;
+                  own = by.own;
+                  plain = by.plain;
+                  touched = by.touched;
+                  pending = after_event by.owner by.command by.own (λ is. never by.command by.own (subst (λ q. IsPending f old q by.command by.own) is by.pending) by.plain) by.pending;
+                  near = elim by.near [ inl is ↦ inl is | inr both ↦ inr (shift.inside ∙ both.0, both.1 ∙ sym shift.reached) ];
+                }))
+              ]
             ]);
       }

@@ -1,42 +1,24 @@
 -- The laws of an opener that joins, of a command that is given, of a gate that is undone, and of what is only told.
-use Rattle.std.proofs.Common.{◌≡◌, ℕ, zero, suc, ◌+◌, ◌<◌, ◌≤◌, max, List, [], Bool, true, false, not, cond, ◌==◌, Option, Some, None, is_none, is_some, refl, sym, ◌∙◌, ap, subst, subst₂, inl, inr, ◌⊎◌, arith, ◌≢◌}
-use Rattle.std.specs.Prelude.{◌&&◌, ◌||◌}
+use Rattle.std.proofs.Common.{◌≡◌, ℕ, suc, ◌<◌, ◌≤◌, List, Bool, true, false, Option, Some, None, is_some, refl, sym, ◌∙◌, ap, subst, subst₂, inl, inr, arith, ◌≢◌}
 use Rattle.std.specs.FinMap.{get}
-use Rattle.std.proofs.lemmas.Bool.{cases_Bool, cases_eq, cases_lt, eq-eqb, ne_eqb, and_parts, or_parts}
+use Rattle.std.proofs.lemmas.Bool.{cases_eq}
 use Rattle.tdb_space.specs.Form.{Form}
 use Rattle.tdb_space.specs.Pairs.{home}
-use Rattle.tdb_law.specs.Commands.{MapCommand, LockCommand, GroupCommand, WalkCommand, Command, Reply, Turn, is_spare, is_done, is_first}
-use Rattle.tdb_law.specs.Commands.GroupCommand.{Start, Commit, Prepare, Cancel}
-use Rattle.tdb_law.specs.Commands.WalkCommand.{First, Next, EndWalk, Close}
-use Rattle.tdb_law.specs.Commands.Command.{OnMap, OnLocks, Seqnum, OnGroup, OnWalk}
-use Rattle.tdb_law.specs.Commands.LockCommand.{ChainLock, ChainLockNb, ChainUnlock, LockAll, LockAllRead, UnlockAll}
-use Rattle.tdb_law.specs.Commands.Reply.{Done, End, Memory, Value, Pair, Busy, Full, Number}
-use Rattle.tdb_law.specs.Commands.Turn.{Step, Blocked, Ends}
-use Rattle.tdb_law.specs.Openers.{Own, Txn, Map, Mark, Spot, Task, seen, has, image_or, is_key}
-use Rattle.tdb_law.specs.MapCommands.{after, map_touches, map_removes, map_changes}
-use Rattle.tdb_law.specs.Refusals.{Refusal, refusal, chain_byte, has_cursor}
-use Rattle.tdb_law.specs.Rows.{look, is_changed, changed_by, commits_in, gate_shut, commit_changed, map_changed, was_planned}
-use Rattle.tdb_law.specs.Outcomes.{moves, told, map_by, map_after, own_after, touches_by, touches, touched, is_touch, key_shown, commits}
-use Rattle.tdb_law.specs.Counting.{takes_by, takes, commit_takes, commit_writes, number_seen}
-use Rattle.tdb_law.specs.Held.{decided}
+use Rattle.tdb_law.specs.Commands.{Command}
+use Rattle.tdb_law.specs.Openers.{Own, Txn, Task, seen, has}
+use Rattle.tdb_law.specs.Rows.{is_changed}
+use Rattle.tdb_law.specs.Outcomes.{told}
 use Rattle.tdb_law.specs.World.{State, IsPending, IsSound}
-use Rattle.tdb_law.specs.Effects.{IsFree, IsFirstConflict, IsReady, Effect, Finds, SpotLeft, task_left}
-use Rattle.tdb_law.specs.Effects.Effect.{effect_waits, effect_goes_on, effect_changes, effect_answers, effect_shows, effect_starves, effect_is_full, effect_is_busy, effect_numbers, effect_finishes}
-use Rattle.tdb_law.specs.Walks.{IsPlain, Lost, Shift, Due, TakenBy, Taken, Moves, Arrives, Finishes, begins, Walked}
-use Rattle.tdb_law.specs.Replay.{Replay, steps_of, any_below, takes_begun, taken, starts, shown_now, due_now, line_own, line_map, is_shown, shown_after, due_after, put, turned_state, still_due, less_due}
-use Rattle.tdb_law.specs.Standing.{IsSame, IsTouchedBy, MapStands, IsBehind, IsOnWay, is_fresh, WalkStandsBy, WalkStands, Stands}
-use Rattle.tdb_law.proofs.Maps.{is_key-refl, is_key-eq}
-use Rattle.tdb_law.proofs.Local.{changing}
-use Rattle.tdb_law.proofs.Sound.{own_kept, who_joined}
-use Rattle.tdb_law.proofs.Mapped.{never_true, own_line, quiet_moves}
+use Rattle.tdb_law.specs.Replay.{Replay, taken, put}
+use Rattle.tdb_law.specs.Standing.{IsSame, IsOnWay, is_fresh, WalkStandsBy, WalkStands, Stands}
+use Rattle.tdb_law.proofs.Mapped.{never_true}
 use Rattle.std.proofs.Common.{le_trans}
-use Rattle.tdb_law.specs.Openers.{outside, nowhere, closed, opened}
-use Rattle.tdb_law.specs.Held.{kept, holding, task_held}
+use Rattle.tdb_law.specs.Openers.{nowhere, opened}
+use Rattle.tdb_law.specs.Held.{kept, holding}
 use Rattle.tdb_law.specs.Lines.{Line, next_line, AllowsLine, most_openers, joined_state}
 use Rattle.tdb_law.specs.Lines.Line.{Joined, JoinBlocked, JoinMany, JoinMemory, Took, Grew, Absent, Idle, Occupied, LogsLeft, Unfinished, Died, Undone}
-use Rattle.tdb_law.specs.Standing.{IsBringing, IsUntouched}
-use Rattle.tdb_law.specs.Events.{OthersStay, HasNothing, Joins, Given, Undoes}
-use Rattle.tdb_law.specs.Laws.{LawfulLine, JoinIsLawful, UndoIsLawful, IsTold, ToldIsLawful, GiftIsLawful}
+use Rattle.tdb_law.specs.Events.{OthersStay, HasNothing, Joins, Given}
+use Rattle.tdb_law.specs.Laws.{JoinIsLawful, IsTold, ToldIsLawful, GiftIsLawful}
 use Rattle.tdb_law.proofs.Covered.{none_held}
 use Rattle.tdb_law.proofs.Kept.{opened_base}
 use Rattle.tdb_law.proofs.Walking.{put_here, put_else, way_alike, owed_parts}
@@ -126,7 +108,7 @@ module _ (f : Form) (old new : State) (who : ℕ) (s : Replay) (S : IsSound f ol
             }))
         | inr ne ↦ (let own : z.own o ≡ s.own o = put_else s.own who (opened (s.own who)) o ne in
             let fresh : is_fresh f (z.begun o) (z.own o) (new.spot o) ≡ is_fresh f (s.begun o) (s.own o) (old.spot o) =
-                ap (λ y. is_fresh f (s.begun o) y (new.spot o)) own ∙ ap (is_fresh f (s.begun o) (s.own o)) (St.spot o ne) in
+            ap (λ y. is_fresh f (s.begun o) y (new.spot o)) own ∙ ap (is_fresh f (s.begun o) (s.own o)) (St.spot o ne) in
             subst (λ b. WalkStandsBy b f new o (z.shown o) (z.due o)) (sym fresh) (by_fresh o ne (is_fresh f (s.begun o) (s.own o) (old.spot o)) (P.walks o)))
       ]
     where
@@ -135,7 +117,7 @@ module _ (f : Form) (old new : State) (who : ℕ) (s : Replay) (S : IsSound f ol
       by_fresh o ne false way =
           way_alike f new o (s.shown o) (z.shown o) (z.due o) (z.due o) (λ k. ap (λ g. g k) (put_else s.shown who (λ q. false) o ne)) (λ k owed. owed)
           (walk_event f old new who St N (λ d y p plain. never_pending d y p) o ne (s.shown o) (s.due o) (z.due o)
-            (λ k owed. sym (ap (λ g. g k) (put_else s.due who (λ q. false) o ne)) ∙ (owed_parts f (λ q. false) t o k owed).0) way)
+          (λ k owed. sym (ap (λ g. g k) (put_else s.due who (λ q. false) o ne)) ∙ (owed_parts f (λ q. false) t o k owed).0) way)
 
   joined_sound : IsSound f new
   joined_sound =
@@ -171,8 +153,13 @@ module _ (f : Form) (old new : State) (who : ℕ) (s : Replay) (S : IsSound f ol
     number =
         (elim P.number [
           | inl same ↦ inl (same ∙ sym St.number)
-          | inr by ↦ inr (record { owner = by.owner; command = by.command; own = by.own; brings = by.brings;
-              pending = after_event f old new who St N by.owner by.command by.own (λ is. never_pending by.command by.own (subst (λ q. IsPending f old q by.command by.own) is by.pending)) by.pending })
+          | inr by ↦ inr (record {
+            owner = by.owner;
+            command = by.command;
+            own = by.own;
+            brings = by.brings;
+            pending = after_event f old new who St N by.owner by.command by.own (λ is. never_pending by.command by.own (subst (λ q. IsPending f old q by.command by.own) is by.pending)) by.pending;
+          })
         ]);
     untouched = λ o v has_txn.
         (elim (cases_eq o who) [
@@ -273,7 +260,7 @@ module _ (f : Form) (old new : State) (who : ℕ) (c : Command) (s : Replay) (S 
           elim (cases_eq o who) [
             | inl e ↦ (let before : holding f (old.own o) (old.spot o) (old.task o) b ≡ holding f (old.own o) (old.spot o) None b = ap (λ t. holding f (old.own o) (old.spot o) t b) (ap old.task e ∙ G.idle) in
                 let now : holding f (old.own o) (old.spot o) (new.task o) b ≡ holding f (old.own o) (old.spot o) (Some (record { command = c; steps = 0 })) b =
-                    ap (λ t. holding f (old.own o) (old.spot o) t b) (ap new.task e ∙ G.task) in
+                ap (λ t. holding f (old.own o) (old.spot o) t b) (ap new.task e ∙ G.task) in
                 let none = none_held f c (old.own o) (old.spot o) b in
                 omega (arith, before, now, none))
             | inr ne ↦ ap (λ t. holding f (old.own o) (old.spot o) t b) (G.others o ne)
@@ -306,10 +293,17 @@ module _ (f : Form) (old new : State) (who : ℕ) (c : Command) (s : Replay) (S 
         (elim (way.due k owed) [
           | inl before ↦ inl before
           | inr rest ↦ elim rest [
-              | inl ahead ↦ inr (inl (ap (λ v. v.ahead k) (mark_same o) ∙ ahead))
-              | inr by ↦ inr (inr (record { owner = by.owner; command = by.command; own = by.own; plain = by.plain; touched = by.touched; pending = back by.owner by.command by.own by.pending;
-                  near = elim by.near [ inl is ↦ inl is | inr both ↦ inr (ap (λ v. v.inside) (mark_same o) ∙ both.0, both.1 ∙ ap (λ v. v.reached) (sym (mark_same o))) ] }))
-            ]
+            | inl ahead ↦ inr (inl (ap (λ v. v.ahead k) (mark_same o) ∙ ahead))
+            | inr by ↦ inr (inr (record {
+              owner = by.owner;
+              command = by.command;
+              own = by.own;
+              plain = by.plain;
+              touched = by.touched;
+              pending = back by.owner by.command by.own by.pending;
+              near = elim by.near [ inl is ↦ inl is | inr both ↦ inr (ap (λ v. v.inside) (mark_same o) ∙ both.0, both.1 ∙ ap (λ v. v.reached) (sym (mark_same o))) ];
+            }))
+          ]
         ]);
   }
 

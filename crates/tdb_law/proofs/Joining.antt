@@ -1,8 +1,8 @@
 -- The law of courses: the reports of plays join to lawful reports.
-use Rattle.std.proofs.Common.{◌≡◌, ℕ, zero, suc, ◌+◌, ◌<◌, ◌≤◌, List, [], ◌∷◌, ◌++◌, Bool, true, false, cond, nat_le, Option, Some, None, is_none, is_some, refl, sym, ◌∙◌, ap, subst, inl, inr, ◌⊎◌, arith, append_assoc, append-nil}
+use Rattle.std.proofs.Common.{◌≡◌, ℕ, zero, suc, ◌≤◌, List, [], ◌∷◌, ◌++◌, Bool, true, false, cond, Option, Some, None, is_some, refl, sym, ◌∙◌, ap, subst, arith, append_assoc, append-nil}
 use Rattle.std.specs.Prelude.{◌&&◌}
 use Rattle.tdb_space.specs.Form.{Form}
-use Rattle.tdb_law.specs.Commands.{MapCommand, LockCommand, GroupCommand, WalkCommand, Command, Reply, Turn}
+use Rattle.tdb_law.specs.Commands.{MapCommand, Command, Turn}
 use Rattle.tdb_law.specs.Commands.MapCommand.{Fetch, Has, Delete, Store, Insert, Modify, Append, Wipe, Check}
 use Rattle.tdb_law.specs.Commands.GroupCommand.{Start, Commit, Prepare, Cancel}
 use Rattle.tdb_law.specs.Commands.Command.{OnMap, OnLocks, Seqnum, OnGroup, OnWalk}
@@ -10,20 +10,19 @@ use Rattle.tdb_law.specs.Commands.Turn.{Step, Blocked, Ends}
 use Rattle.tdb_law.specs.Openers.{Own, Txn, Task, outside}
 use Rattle.tdb_law.specs.Refusals.{Refusal, refusal}
 use Rattle.tdb_law.specs.Rows.{commits_in, plans_in}
-use Rattle.tdb_law.specs.Ends.{map_last, commit_last, prepare_last, is_opened, last_by, last_step}
+use Rattle.tdb_law.specs.Ends.{map_last, commit_last, prepare_last, is_opened, last_by}
 use Rattle.tdb_law.specs.World.{State, IsSound}
 use Rattle.tdb_law.specs.Turned.{Turned}
 use Rattle.tdb_law.specs.Replay.{Replay}
 use Rattle.tdb_law.specs.Standing.{Stands}
-use Rattle.tdb_law.specs.Lines.{Line, AllowsLine, IsFollowed, IsLawful, next_line, replay}
-use Rattle.tdb_law.specs.Lines.Line.{Joined, JoinBlocked, JoinMany, JoinMemory, Took, Grew, Absent, Idle, Occupied, LogsLeft, Unfinished, Died, Undone}
-use Rattle.tdb_law.specs.Events.{Joins, Dies, Given, Undoes}
+use Rattle.tdb_law.specs.Lines.{Line, IsFollowed, IsLawful, next_line, replay}
+use Rattle.tdb_law.specs.Lines.Line.{Joined, JoinBlocked, JoinMany, JoinMemory, Took, Grew, Absent, Idle, Occupied, LogsLeft, Died, Undone}
 use Rattle.tdb_law.specs.Plays.{Play, Clears, Grows, Advances, GoesOn, Goes, IsAnswer, Gives, Course, most_turns}
 use Rattle.tdb_law.specs.Plays.Play.{Join, SetLog, Give, Do, TakeTurn, Go, Die}
 use Rattle.tdb_law.specs.Plays.Clears.{clears_nothing, clears_gate}
 use Rattle.tdb_law.specs.Plays.Grows.{grows_not, grows_longer}
 use Rattle.tdb_law.specs.Plays.Gives.{gives_answer, gives_opener, gives_command, gives_turn, gives_turns, gives_all, gives_death}
-use Rattle.tdb_law.specs.Laws.{LawfulTurn, LawfulLine, IsTold, LawfulRun, CourseIsLawful, CommandsEnd}
+use Rattle.tdb_law.specs.Laws.{LawfulLine, IsTold, CourseIsLawful, CommandsEnd}
 use Rattle.tdb_law.proofs.OneTurn.{turn_lawful}
 use Rattle.tdb_law.proofs.Happening.{join_lawful, told_lawful, gift_lawful, stands_flag}
 use Rattle.tdb_law.proofs.Deaths.{death_lawful}

@@ -22,3 +22,4 @@ pub mod Undoing
 pub mod Joining
 pub mod Plainly
 pub mod Reported
+pub mod Marking

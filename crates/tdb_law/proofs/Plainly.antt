@@ -1,29 +1,27 @@
 -- What the laws say of the file: at the beginning, at a key that nobody writes, and where no change is unfinished.
-use Rattle.std.proofs.Common.{◌≡◌, ℕ, zero, suc, ◌<◌, ◌≤◌, List, Bool, true, false, cond, Option, Some, None, is_some, refl, sym, ◌∙◌, ap, subst, subst₂, inl, inr, ◌⊎◌, arith, ◌≢◌}
-use Rattle.std.specs.Prelude.{◌||◌, ◌&&◌}
+use Rattle.std.proofs.Common.{◌≡◌, ℕ, zero, suc, ◌<◌, List, Bool, true, false, cond, Option, Some, None, refl, sym, ◌∙◌, ap, subst, subst₂, inl, inr, ◌⊎◌, arith}
 use Rattle.std.specs.FinMap.{get}
 use Rattle.std.proofs.lemmas.Bool.{cases_Bool, cases_eq}
-use Rattle.tdb_space.specs.Form.{Form, data_start}
-use Rattle.tdb_law.specs.Commands.{MapCommand, LockCommand, GroupCommand, WalkCommand, Command}
+use Rattle.tdb_space.specs.Form.{Form}
+use Rattle.tdb_law.specs.Commands.{Command}
 use Rattle.tdb_law.specs.Commands.GroupCommand.{Start, Commit, Prepare, Cancel}
 use Rattle.tdb_law.specs.Commands.Command.{OnMap, OnLocks, Seqnum, OnGroup, OnWalk}
 use Rattle.tdb_law.specs.Openers.{Own, Txn, Map, Task, Options, nowhere, seen, image_or}
-use Rattle.tdb_law.specs.Refusals.{Refusal, refusal, chain_byte}
+use Rattle.tdb_law.specs.Refusals.{Refusal, refusal}
 use Rattle.tdb_law.specs.Rows.{changed_by, is_changed, commit_changed, commits_in, gate_shut}
 use Rattle.tdb_law.specs.Outcomes.{commits, touches_by, touches, map_by, map_after}
-use Rattle.tdb_law.specs.Counting.{brings}
-use Rattle.tdb_law.specs.Held.{kept, holding}
+use Rattle.tdb_law.specs.Held.{holding}
 use Rattle.tdb_law.specs.World.{State, IsPending, IsSound}
 use Rattle.tdb_law.specs.Walks.{IsPlain}
-use Rattle.tdb_law.specs.Replay.{Replay, any_below, taken}
-use Rattle.tdb_law.specs.Standing.{IsSame, MapStands, IsOnWay, WalkStands, Stands, IsBringing}
+use Rattle.tdb_law.specs.Replay.{Replay}
+use Rattle.tdb_law.specs.Standing.{IsSame, Stands}
 use Rattle.tdb_law.specs.Beginning.{IsLoaded, beginning, nobody}
 use Rattle.tdb_law.specs.Laws.{BeginningStands, FileIsPlain, IsCommitted, QuietIsPlain, NumberIsPlain}
 use Rattle.tdb_law.proofs.Maps.{maps_equal}
 use Rattle.tdb_law.proofs.Kept.{closed_base}
 use Rattle.tdb_law.proofs.Pending.{no_task, pending_touches}
 use Rattle.tdb_law.proofs.Mapped.{never_true}
-use Rattle.tdb_law.proofs.Beginning.{and_both, or_cases}
+use Rattle.tdb_law.proofs.Beginning.{and_both}
 
 none_some : (place : ℕ) → ◌≡◌ {A = Option ℕ} None (Some place) → ⊥
 none_some place e = cc
@@ -42,7 +40,7 @@ module _ (f : Form) (w : State) (options : Options) (L : IsLoaded f w options) w
     agrees = λ o b.
         (let bare = closed_base f 0 b (nobody options) in
         let at_rest : holding f (w.own o) (w.spot o) (w.task o) b ≡ holding f (nobody options) nowhere None b =
-            ap (λ y. holding f y (w.spot o) (w.task o) b) (L.own o) ∙ (ap (λ v. holding f (nobody options) v (w.task o) b) (L.spot o) ∙ ap (λ t. holding f (nobody options) nowhere t b) (L.task o)) in
+        ap (λ y. holding f y (w.spot o) (w.task o) b) (L.own o) ∙ (ap (λ v. holding f (nobody options) v (w.task o) b) (L.spot o) ∙ ap (λ t. holding f (nobody options) nowhere t b) (L.task o)) in
         omega (arith, L.table o b, at_rest, bare));
     apart = λ o p b ne. omega (arith, L.table o b, L.table p b);
     stands = λ o place on. absurd (none_some place (sym (ap (λ v. v.stands) (L.spot o)) ∙ on));
@@ -112,9 +110,9 @@ any_or_none (suc n) p =
     elim (cases_Bool (p n)) [
       | inl here ↦ inl (n, here)
       | inr off ↦ elim (any_or_none n p) [
-          | inl found ↦ inl found
-          | inr none ↦ inr (λ o low. (elim (cases_eq o n) [ inl e ↦ subst (λ q. p q ≡ false) (sym e) off | inr ne ↦ none o (omega (arith, low, ne)) ]))
-        ]
+        | inl found ↦ inl found
+        | inr none ↦ inr (λ o low. (elim (cases_eq o n) [ inl e ↦ subst (λ q. p q ≡ false) (sym e) off | inr ne ↦ none o (omega (arith, low, ne)) ]))
+      ]
     ]
 
 module _ (f : Form) (w : State) (s : Replay) (S : IsSound f w) (P : Stands f w s) (quiet : (o : ℕ) (t : Task) → w.task o ≡ Some t → IsPlain t.command → ⊥) where
@@ -134,14 +132,14 @@ module _ (f : Form) (w : State) (s : Replay) (S : IsSound f w) (P : Stands f w s
   quiet_by (inl found) = inr (of_task found.0 (w.task found.0) refl found.1)
   quiet_by (inr none) =
       inl (maps_equal w.file s.map (λ k.
-        (elim (P.maps.each k) [
-          | inl same ↦ same
-          | inr by ↦ (let p = by.pending in
-              let low : by.owner < w.joined = S.live_joined by.owner (S.busy_there by.owner p.task p.has_task) in
-              let made : made_task f (w.own by.owner) (w.task by.owner) ≡ true =
-                  ap (made_task f (w.own by.owner)) p.has_task ∙ subst₂ (λ c y. is_changed f c y p.task.steps ≡ true) (sym p.command) (sym p.owned) p.made in
-              absurd (never_true (sym (none by.owner low) ∙ made)))
-        ])))
+      (elim (P.maps.each k) [
+        | inl same ↦ same
+        | inr by ↦ (let p = by.pending in
+            let low : by.owner < w.joined = S.live_joined by.owner (S.busy_there by.owner p.task p.has_task) in
+            let made : made_task f (w.own by.owner) (w.task by.owner) ≡ true =
+            ap (made_task f (w.own by.owner)) p.has_task ∙ subst₂ (λ c y. is_changed f c y p.task.steps ≡ true) (sym p.command) (sym p.owned) p.made in
+            absurd (never_true (sym (none by.owner low) ∙ made)))
+      ])))
 
 pub quiet_plain : QuietIsPlain
 quiet_plain f w s S P quiet = quiet_by f w s S P quiet (any_or_none w.joined (λ o. made_task f (w.own o) (w.task o)))

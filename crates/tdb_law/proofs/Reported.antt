@@ -1,5 +1,5 @@
 -- The small reports by computation: a line is allowed where what it tells computes to what the replay has.
-use Rattle.std.proofs.Common.{◌≡◌, ℕ, ◌+◌, ◌<◌, ◌≤◌, max, List, [], ◌∷◌, Bool, true, false, cond, Option, Some, None, refl, sym, ◌∙◌, ap, subst, inl, inr, arith, lit≤, get_or, ◌≢◌, unwrap_or, ◌++◌}
+use Rattle.std.proofs.Common.{◌≡◌, ℕ, ◌+◌, ◌<◌, max, List, [], ◌∷◌, true, false, cond, Option, Some, None, refl, sym, ◌∙◌, ap, subst, inl, inr, arith, lit≤, get_or, ◌++◌}
 use Rattle.std.specs.FinMap.{get, insert, empty, entries, len-entries, len-empty}
 use Rattle.std.specs.Prelude.{◌&&◌, nat_lt, length, map}
 use Rattle.std.specs.List.{sum}
@@ -9,32 +9,28 @@ use Rattle.tdb_law.specs.Beginning.{nobody}
 use Rattle.tdb_law.specs.Ends.{IsRow}
 use Rattle.tdb_law.specs.Outcomes.{moves, counts, told}
 use Rattle.tdb_words.specs.Hash.{h_old}
-use Rattle.tdb_space.specs.Form.{Form}
-use Rattle.tdb_law.specs.Commands.{Command, Reply, Turn}
 use Rattle.tdb_law.specs.Commands.MapCommand.{Fetch, Store}
-use Rattle.tdb_law.specs.Commands.GroupCommand.{Start, Commit}
+use Rattle.tdb_law.specs.Commands.GroupCommand.{Commit}
 use Rattle.tdb_law.specs.Commands.WalkCommand.{First, Next}
 use Rattle.tdb_law.specs.Commands.Command.{OnMap, OnGroup, OnWalk}
-use Rattle.tdb_law.specs.Commands.Reply.{Done, End, Memory, Value, Pair}
-use Rattle.tdb_law.specs.Commands.Turn.{Step, Blocked, Ends}
-use Rattle.tdb_law.specs.Refusals.{refusal, chain_byte}
-use Rattle.tdb_law.specs.Replay.{Replay, IsInTheWay, Says, Allows, may_hold, next, steps_of, begun_held, may_keep}
+use Rattle.tdb_law.specs.Commands.Reply.{Done, Memory, Value, Pair}
+use Rattle.tdb_law.specs.Commands.Turn.{Step, Ends}
+use Rattle.tdb_law.specs.Refusals.{refusal}
+use Rattle.tdb_law.specs.Replay.{Replay, IsInTheWay, Says, steps_of, may_keep}
 use Rattle.tdb_law.specs.Held.{may_held, may_want}
 use Rattle.tdb_law.specs.Replay.Says.{says_plain, says_pair, says_end, says_number, says_memory, says_full, says_busy}
-use Rattle.tdb_law.specs.Lines.Line.{Took, Joined}
+use Rattle.tdb_law.specs.Lines.Line.{Took}
 use Rattle.tdb_law.specs.Held.{explicit_held}
 use Rattle.tdb_law.specs.Replay.{shown_now}
 use Rattle.tdb_law.proofs.Kept.{opened_base}
 use Rattle.tdb_law.proofs.Mapped.{never_true}
-use Rattle.tdb_law.specs.Lines.{Line, IsLawful, next_line, replay}
-use Rattle.tdb_law.specs.Reports.{small, a, one, two, one_pair, at_first, byte_a, two_join, stores, fetches, row_of_two, options, group, in_group, at_group, commits_to, stores_too, starts_too, row_of_commit, seen_early, blocked_by_nobody, done_unlocked, second_start, shown_twice, IsRight, IsWrong}
-use Rattle.std.proofs.lemmas.Bool.{cases_eq, ne_eqb}
+use Rattle.tdb_law.specs.Lines.{Line, replay}
+use Rattle.tdb_law.specs.Reports.{small, a, one, two, one_pair, at_first, byte_a, two_join, row_of_two, options, group, in_group, at_group, row_of_commit, seen_early, blocked_by_nobody, done_unlocked, second_start, shown_twice, IsRight, IsWrong}
 use Rattle.tdb_law.specs.Rows.{is_changed}
 use Rattle.tdb_law.specs.Counting.{takes}
-use Rattle.tdb_law.specs.Openers.{Map, Own, Txn, Task, opened, chain_locks}
+use Rattle.tdb_law.specs.Openers.{Map, Txn, opened, chain_locks}
 use Rattle.tdb_law.specs.MapCommands.{fetched}
-use Rattle.tdb_law.proofs.Maps.{get_put, is_key-refl}
-
+use Rattle.tdb_law.proofs.Maps.{get_put}
 
 -- what was stored is fetched
 stored : (m : Map) (v : List ℕ) → Value v ≡ fetched (get (insert m a v) a)
@@ -54,15 +50,35 @@ not_one o e z = omega arith
 -- two openers: the fetch is blocked while the store has its chain, and sees the new value afterwards
 pub row_of_two_right : IsRight at_first row_of_two
 unfolding h_old refusal may_held may_want is_changed takes
-row_of_two_right =
-    ((refl, lit≤ tt), tt, ((refl, lit≤ tt), tt,
-    ((refl, record { live = refl; begun = tt; row = lit≤ tt; tells = tt }), tt,
-    ((refl, record { live = refl; begun = tt; row = tt; tells = record { other = not_one 0 refl; conflict = above _ } }), tt,
-    ((refl, record { live = refl; begun = refl; row = inl refl; tells = (says_plain refl refl refl, λ is. cc) }), tt,
-    ((refl, record { live = refl; begun = refl; row = lit≤ tt; tells = tt }), tt,
-    ((refl, record { live = refl; begun = refl; row = inl refl; tells = (says_plain refl refl (stored one_pair two), λ is. cc) }), tt,
-    tt)))))))
-
+row_of_two_right = (
+  (refl, lit≤ tt),
+  tt,
+  (
+    (refl, lit≤ tt),
+    tt,
+    (
+      (refl, record { live = refl; begun = tt; row = lit≤ tt; tells = tt }),
+      tt,
+      (
+        (refl, record { live = refl; begun = tt; row = tt; tells = record { other = not_one 0 refl; conflict = above _ } }),
+        tt,
+        (
+          (refl, record { live = refl; begun = refl; row = inl refl; tells = (says_plain refl refl refl, λ is. cc) }),
+          tt,
+          (
+            (refl, record { live = refl; begun = refl; row = lit≤ tt; tells = tt }),
+            tt,
+            (
+              (refl, record { live = refl; begun = refl; row = inl refl; tells = (says_plain refl refl (stored one_pair two), λ is. cc) }),
+              tt,
+              tt,
+            ),
+          ),
+        ),
+      ),
+    ),
+  ),
+)
 
 -- an opener without explicit locks
 no_counts : (es : List (ℕ × ℕ)) → length es ≡ 0 → sum (map (λ e. e.1) es) ≡ 0
@@ -107,6 +123,7 @@ store_waits s own begun other = record { other = not_one 0 refl; conflict = omeg
   where
     want : may_want small (OnMap (Store a one)) (s.own 1) (steps_of (s.begun 1)) byte_a ≡ 2
     want = ap (λ y. may_want small (OnMap (Store a one)) y (steps_of (s.begun 1)) byte_a) own ∙ (ap (λ n. may_want small (OnMap (Store a one)) (opened (nobody options)) n byte_a) begun ∙ store_want)
+
     keep : may_keep small (s.own 0).txn (s.own 0) byte_a ≡ 1
     keep = ap (λ y. may_keep small y.txn y byte_a) other ∙ group_keeps
 
@@ -128,21 +145,59 @@ store_says s e =
 
 -- a commit in nine turns, with a store of another opener that is blocked until its end
 pub row_of_commit_right : IsRight at_group row_of_commit
-row_of_commit_right =
-    ((refl, record { live = refl; begun = tt; row = tt; tells = store_waits _ refl refl refl }), tt,
-    ((refl, record { live = refl; begun = tt; row = commit_step 0 (lit≤ tt); tells = tt }), tt,
-    ((refl, record { live = refl; begun = refl; row = commit_step 1 (lit≤ tt); tells = tt }), tt,
-    ((refl, record { live = refl; begun = refl; row = commit_step 2 (lit≤ tt); tells = tt }), tt,
-    ((refl, record { live = refl; begun = refl; row = commit_step 3 (lit≤ tt); tells = tt }), tt,
-    ((refl, record { live = refl; begun = refl; row = commit_step 4 (lit≤ tt); tells = tt }), tt,
-    ((refl, record { live = refl; begun = refl; row = commit_step 5 (lit≤ tt); tells = tt }), tt,
-    ((refl, record { live = refl; begun = refl; row = commit_step 6 (lit≤ tt); tells = tt }), tt,
-    ((refl, record { live = refl; begun = refl; row = commit_step 7 (lit≤ tt); tells = tt }), tt,
-    ((refl, record { live = refl; begun = refl; row = tt; tells = store_waits _ refl refl refl }), tt,
-    ((refl, record { live = refl; begun = refl; row = commit_end; tells = (commit_says _ refl, λ is. cc) }), tt,
-    ((refl, record { live = refl; begun = refl; row = store_step; tells = tt }), tt,
-    ((refl, record { live = refl; begun = refl; row = store_end; tells = (store_says _ refl, λ is. cc) }), tt,
-    tt)))))))))))))
+row_of_commit_right = (
+  (refl, record { live = refl; begun = tt; row = tt; tells = store_waits _ refl refl refl }),
+  tt,
+  (
+    (refl, record { live = refl; begun = tt; row = commit_step 0 (lit≤ tt); tells = tt }),
+    tt,
+    (
+      (refl, record { live = refl; begun = refl; row = commit_step 1 (lit≤ tt); tells = tt }),
+      tt,
+      (
+        (refl, record { live = refl; begun = refl; row = commit_step 2 (lit≤ tt); tells = tt }),
+        tt,
+        (
+          (refl, record { live = refl; begun = refl; row = commit_step 3 (lit≤ tt); tells = tt }),
+          tt,
+          (
+            (refl, record { live = refl; begun = refl; row = commit_step 4 (lit≤ tt); tells = tt }),
+            tt,
+            (
+              (refl, record { live = refl; begun = refl; row = commit_step 5 (lit≤ tt); tells = tt }),
+              tt,
+              (
+                (refl, record { live = refl; begun = refl; row = commit_step 6 (lit≤ tt); tells = tt }),
+                tt,
+                (
+                  (refl, record { live = refl; begun = refl; row = commit_step 7 (lit≤ tt); tells = tt }),
+                  tt,
+                  (
+                    (refl, record { live = refl; begun = refl; row = tt; tells = store_waits _ refl refl refl }),
+                    tt,
+                    (
+                      (refl, record { live = refl; begun = refl; row = commit_end; tells = (commit_says _ refl, λ is. cc) }),
+                      tt,
+                      (
+                        (refl, record { live = refl; begun = refl; row = store_step; tells = tt }),
+                        tt,
+                        (
+                          (refl, record { live = refl; begun = refl; row = store_end; tells = (store_says _ refl, λ is. cc) }),
+                          tt,
+                          tt,
+                        ),
+                      ),
+                    ),
+                  ),
+                ),
+              ),
+            ),
+          ),
+        ),
+      ),
+    ),
+  ),
+)
 
 -- a fetch tells what the committed map has
 same_value : (v w : List ℕ) → Value v ≡ Value w → v ≡ w
@@ -202,6 +257,7 @@ shown_twice_wrong l = by_says l.2.2.2.2.0.1.tells.0
   where
     same_key : (k v : List ℕ) → Pair a one ≡ Pair k v → a ≡ k
     same_key k v e = cc
+
     by_says : Says small (so_far (two_join ++ Took 0 (OnWalk First) (Ends (Pair a one)) ∷ Took 0 (OnWalk Next) Step ∷ [])) 0 (OnWalk Next) (Pair a one) → ⊥
     by_says (says_plain moving counting e) = never_true (sym moving)
     by_says (says_pair k v moving e there unseen) =

@@ -1,42 +1,21 @@
 -- The law of a gate that is undone: the file's map was the one with the gate undone all along.
-use Rattle.std.proofs.Common.{◌≡◌, ℕ, zero, suc, ◌+◌, ◌<◌, ◌≤◌, max, List, [], Bool, true, false, not, cond, ◌==◌, Option, Some, None, is_none, is_some, refl, sym, ◌∙◌, ap, subst, subst₂, inl, inr, ◌⊎◌, arith, ◌≢◌}
-use Rattle.std.specs.Prelude.{◌&&◌, ◌||◌}
+use Rattle.std.proofs.Common.{◌≡◌, ℕ, ◌<◌, ◌≤◌, List, Bool, true, false, None, is_some, sym, ◌∙◌, ap, subst, inl, inr, arith}
 use Rattle.std.specs.FinMap.{get}
-use Rattle.std.proofs.lemmas.Bool.{cases_Bool, cases_eq, cases_lt, eq-eqb, ne_eqb, and_parts, or_parts}
+use Rattle.std.proofs.lemmas.Bool.{cases_Bool}
 use Rattle.tdb_space.specs.Form.{Form}
 use Rattle.tdb_space.specs.Pairs.{home}
-use Rattle.tdb_law.specs.Commands.{MapCommand, LockCommand, GroupCommand, WalkCommand, Command, Reply, Turn, is_spare, is_done, is_first}
-use Rattle.tdb_law.specs.Commands.GroupCommand.{Start, Commit, Prepare, Cancel}
-use Rattle.tdb_law.specs.Commands.WalkCommand.{First, Next, EndWalk, Close}
-use Rattle.tdb_law.specs.Commands.Command.{OnMap, OnLocks, Seqnum, OnGroup, OnWalk}
-use Rattle.tdb_law.specs.Commands.LockCommand.{ChainLock, ChainLockNb, ChainUnlock, LockAll, LockAllRead, UnlockAll}
-use Rattle.tdb_law.specs.Commands.Reply.{Done, End, Memory, Value, Pair, Busy, Full, Number}
-use Rattle.tdb_law.specs.Commands.Turn.{Step, Blocked, Ends}
-use Rattle.tdb_law.specs.Openers.{Own, Txn, Map, Mark, Spot, Task, seen, has, image_or, is_key}
-use Rattle.tdb_law.specs.MapCommands.{after, map_touches, map_removes, map_changes}
-use Rattle.tdb_law.specs.Refusals.{Refusal, refusal, chain_byte, has_cursor}
-use Rattle.tdb_law.specs.Rows.{look, is_changed, changed_by, commits_in, gate_shut, commit_changed, map_changed, was_planned}
-use Rattle.tdb_law.specs.Outcomes.{moves, told, map_by, map_after, own_after, touches_by, touches, touched, is_touch, key_shown, commits}
-use Rattle.tdb_law.specs.Counting.{takes_by, takes, commit_takes, commit_writes, number_seen}
-use Rattle.tdb_law.specs.Held.{decided}
+use Rattle.tdb_law.specs.Commands.{Command}
+use Rattle.tdb_law.specs.Openers.{Own, seen, has}
 use Rattle.tdb_law.specs.World.{State, IsPending, IsSound}
-use Rattle.tdb_law.specs.Effects.{IsFree, IsFirstConflict, IsReady, Effect, Finds, SpotLeft, task_left}
-use Rattle.tdb_law.specs.Effects.Effect.{effect_waits, effect_goes_on, effect_changes, effect_answers, effect_shows, effect_starves, effect_is_full, effect_is_busy, effect_numbers, effect_finishes}
-use Rattle.tdb_law.specs.Walks.{IsPlain, Lost, Shift, Due, TakenBy, Taken, Moves, Arrives, Finishes, begins, Walked}
-use Rattle.tdb_law.specs.Replay.{Replay, steps_of, any_below, takes_begun, taken, starts, shown_now, due_now, line_own, line_map, is_shown, shown_after, due_after, put, turned_state, still_due, less_due}
-use Rattle.tdb_law.specs.Standing.{IsSame, IsTouchedBy, MapStands, IsBehind, IsOnWay, is_fresh, WalkStandsBy, WalkStands, Stands}
-use Rattle.tdb_law.proofs.Maps.{is_key-refl, is_key-eq}
-use Rattle.tdb_law.proofs.Local.{changing}
-use Rattle.tdb_law.proofs.Sound.{own_kept, who_joined}
-use Rattle.tdb_law.proofs.Pending.{same_task, pending_touches, pending_before, pending_after, own_pending, pending_own, not_pending, make_pending}
-use Rattle.tdb_law.proofs.Mapped.{never_true, own_line, quiet_moves}
+use Rattle.tdb_law.specs.Replay.{Replay, taken}
+use Rattle.tdb_law.specs.Standing.{IsSame, IsOnWay, is_fresh, WalkStandsBy, WalkStands, Stands}
+use Rattle.tdb_law.proofs.Mapped.{never_true}
 use Rattle.tdb_space.specs.Form.{data_start}
 use Rattle.tdb_law.specs.Held.{holding}
 use Rattle.tdb_law.specs.Lines.Line.{Undone}
 use Rattle.tdb_law.specs.Lines.{next_line}
-use Rattle.tdb_law.specs.Standing.{IsBringing, IsUntouched}
 use Rattle.tdb_law.specs.Events.{Undoes}
-use Rattle.tdb_law.specs.Laws.{LawfulLine, UndoIsLawful}
+use Rattle.tdb_law.specs.Laws.{UndoIsLawful}
 use Rattle.tdb_law.proofs.Mapped.{never_true}
 use Rattle.tdb_law.proofs.Beginning.{seen_has}
 
@@ -99,19 +78,26 @@ module _ (f : Form) (old new : State) (bytes to : ℕ) (s : Replay) (S : IsSound
             (elim (cases_Bool ((new.mark o).ahead k)) [
               | inr off ↦ off
               | inl later ↦ elim (shift.fewer k later) [
-                  | inl before ↦ absurd (never_true (sym (way.behind k e) ∙ before))
-                  | inr beyond ↦ absurd (omega (arith, beyond, way.reached k e))
-                ]
+                | inl before ↦ absurd (never_true (sym (way.behind k e) ∙ before))
+                | inr beyond ↦ absurd (omega (arith, beyond, way.reached k e))
+              ]
             ]);
         reached = λ k e. subst (λ v. home f k < v) (sym shift.reached) (way.reached k e);
         due = λ k owed.
             (elim (way.due k owed) [
               | inl before ↦ inl before
               | inr rest ↦ elim rest [
-                  | inl ahead ↦ elim (shift.kept k ahead) [ inl later ↦ inr (inl later) | inr lost ↦ absurd (never_true (sym lost ∙ still_seen o k owed)) ]
-                  | inr by ↦ inr (inr (record { owner = by.owner; command = by.command; own = by.own; plain = by.plain; touched = by.touched; pending = back by.owner by.command by.own by.pending;
-                      near = elim by.near [ inl is ↦ inl is | inr both ↦ inr (shift.inside ∙ both.0, both.1 ∙ sym shift.reached) ] }))
-                ]
+                | inl ahead ↦ elim (shift.kept k ahead) [ inl later ↦ inr (inl later) | inr lost ↦ absurd (never_true (sym lost ∙ still_seen o k owed)) ]
+                | inr by ↦ inr (inr (record {
+                  owner = by.owner;
+                  command = by.command;
+                  own = by.own;
+                  plain = by.plain;
+                  touched = by.touched;
+                  pending = back by.owner by.command by.own by.pending;
+                  near = elim by.near [ inl is ↦ inl is | inr both ↦ inr (shift.inside ∙ both.0, both.1 ∙ sym shift.reached) ];
+                }))
+              ]
             ]);
       }
 

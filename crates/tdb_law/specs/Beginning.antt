@@ -1,5 +1,5 @@
 -- A world just loaded, and the replay that begins with it.
-use Rattle.std.specs.Prelude.{ℕ, ◌≡◌, List, Bool, true, false, Option, Some, None}
+use Rattle.std.specs.Prelude.{ℕ, ◌≡◌, false, None}
 use Rattle.std.specs.FinMap.{empty}
 use Rattle.tdb_space.specs.Form.{Form}
 use Rattle.tdb_law.specs.Openers.{Options, Own, Map, nowhere}

@@ -1,8 +1,8 @@
 -- What happens to a world besides turns: an opener joins or dies, is given a command, and an open gate is undone.
-use Rattle.std.specs.Prelude.{ℕ, suc, ◌≡◌, ◌≢◌, ◌<◌, List, Bool, true, false, ◌||◌, Option, Some, None}
+use Rattle.std.specs.Prelude.{ℕ, suc, ◌≡◌, ◌≢◌, ◌<◌, true, false, ◌||◌, Some, None}
 use Rattle.tdb_space.specs.Form.{Form}
 use Rattle.tdb_law.specs.Commands.{Command}
-use Rattle.tdb_law.specs.Openers.{Task, closed, opened, nowhere, seen, has}
+use Rattle.tdb_law.specs.Openers.{closed, opened, nowhere, seen, has}
 use Rattle.tdb_law.specs.World.{State}
 use Rattle.tdb_law.specs.Walks.{Shift}
 use Rattle.tdb_law.specs.Lines.{most_openers, leaves_open, MayDie}

@@ -16,7 +16,7 @@ use Rattle.tdb_law.specs.Refusals.{chain_byte}
 use Rattle.tdb_law.specs.Walks.{IsPlain}
 use Rattle.tdb_law.specs.Beginning.{IsLoaded, beginning}
 use Rattle.tdb_law.specs.Lines.{Line, AllowsLine, next_line, most_openers, IsLawful, replay}
-use Rattle.tdb_law.specs.Lines.Line.{Joined, JoinBlocked, JoinMany, JoinMemory, Took, Grew, Absent, Idle, Occupied, LogsLeft, Unfinished, Died, Undone}
+use Rattle.tdb_law.specs.Lines.Line.{Joined, JoinBlocked, JoinMany, JoinMemory, Grew, Absent, Idle, Occupied, LogsLeft, Unfinished, Died, Undone}
 use Rattle.tdb_law.specs.Events.{Joins, Dies, Given, Undoes}
 
 -- what a turn leads to: the world is sound, the report may tell the turn, and the replay after it stands for the world

@@ -17,5 +17,6 @@ pub mod Plays
 pub mod Beginning
 pub mod Laws
 pub mod Reports
+pub mod Layout
 pub mod Lines
 pub mod Events

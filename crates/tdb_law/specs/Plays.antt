@@ -1,8 +1,8 @@
 -- Plays, and the lines and states that they lead to.
-use Rattle.std.specs.Prelude.{ℕ, zero, suc, ◌≡◌, ◌≤◌, ◌<◌, List, [], ◌∷◌, ◌++◌, Bool, true, false, Option, Some, None}
+use Rattle.std.specs.Prelude.{ℕ, zero, suc, ◌≡◌, ◌≤◌, ◌<◌, List, [], ◌∷◌, ◌++◌, true, false, None}
 use Rattle.tdb_space.specs.Form.{Form}
 use Rattle.tdb_law.specs.Commands.{Command, Turn}
-use Rattle.tdb_law.specs.Commands.Turn.{Step, Blocked, Ends}
+use Rattle.tdb_law.specs.Commands.Turn.{Step}
 use Rattle.tdb_law.specs.Openers.{Task}
 use Rattle.tdb_law.specs.World.{State}
 use Rattle.tdb_law.specs.Turned.{Turned}

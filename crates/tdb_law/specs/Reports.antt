@@ -1,10 +1,10 @@
 -- Small reports, some lawful and some not: what the definitions say of each.
-use Rattle.std.specs.Prelude.{ℕ, List, [], ◌∷◌, ◌++◌, Bool, true, false, Some, None}
+use Rattle.std.specs.Prelude.{ℕ, List, [], ◌∷◌, ◌++◌, true, false, Some, None}
 use Rattle.std.specs.FinMap.{insert, empty}
 use Rattle.tdb_words.specs.declared.word.Order.TheVariants.{Little}
 use Rattle.tdb_words.specs.declared.hash.HashKind.TheVariants.{Old}
 use Rattle.tdb_space.specs.Form.{Form}
-use Rattle.tdb_law.specs.Commands.{Command, Turn}
+use Rattle.tdb_law.specs.Commands.{Turn}
 use Rattle.tdb_law.specs.Commands.MapCommand.{Fetch, Store}
 use Rattle.tdb_law.specs.Commands.GroupCommand.{Start, Commit}
 use Rattle.tdb_law.specs.Commands.WalkCommand.{First, Next}

@@ -3,12 +3,14 @@
 
 mod courses;
 mod events;
+mod layout;
 mod plain;
 mod reports;
 mod turns;
 
 pub use crate::courses::{commands_end, course_is_lawful};
 pub use crate::events::{event_is_lawful, gift_is_lawful};
+pub use crate::layout::{chains_keep, walks_shift};
 pub use crate::plain::{beginning_stands, file_is_plain, quiet_is_plain};
 pub use crate::reports::worked_reports;
 pub use crate::turns::turn_is_lawful;
