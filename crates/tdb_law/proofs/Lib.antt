@@ -23,3 +23,4 @@ pub mod Joining
 pub mod Plainly
 pub mod Reported
 pub mod Marking
+pub mod Steps

@@ -18,5 +18,6 @@ pub mod Beginning
 pub mod Laws
 pub mod Reports
 pub mod Layout
+pub mod Going
 pub mod Lines
 pub mod Events
