@@ -24,3 +24,4 @@ pub mod Plainly
 pub mod Reported
 pub mod Marking
 pub mod Steps
+pub mod HandsOut

@@ -19,5 +19,6 @@ pub mod Laws
 pub mod Reports
 pub mod Layout
 pub mod Going
+pub mod Images
 pub mod Lines
 pub mod Events

@@ -3,6 +3,7 @@
 
 mod courses;
 mod events;
+mod images;
 mod layout;
 mod plain;
 mod reports;
@@ -10,6 +11,7 @@ mod turns;
 
 pub use crate::courses::{commands_end, course_is_lawful};
 pub use crate::events::{event_is_lawful, gift_is_lawful};
+pub use crate::images::{image_map_answers, image_stays_accepted};
 pub use crate::layout::{chains_keep, moves_go, walks_shift};
 pub use crate::plain::{beginning_stands, file_is_plain, quiet_is_plain};
 pub use crate::reports::worked_reports;
