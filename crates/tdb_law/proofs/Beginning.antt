@@ -1,6 +1,6 @@
 -- The walk of the opener whose turn it is: it begins, goes on, arrives at a pair, or ends.
 use Rattle.std.proofs.Common.{◌≡◌, ℕ, ◌+◌, ◌<◌, ◌≤◌, List, Bool, true, false, not, cond, Option, Some, None, is_none, is_some, refl, sym, ◌∙◌, ap, subst, subst₂, inl, inr, ◌⊎◌, arith, ◌≢◌}
-use Rattle.std.specs.Prelude.{◌&&◌, ◌||◌}
+use Rattle.std.specs.Prelude.{◌&&◌}
 use Rattle.std.specs.FinMap.{insert}
 use Rattle.std.proofs.lemmas.Bool.{cases_Bool, cases_eq}
 use Rattle.tdb_space.specs.Form.{Form}
@@ -22,39 +22,12 @@ use Rattle.tdb_law.specs.Replay.{Replay, takes_begun, taken, starts, shown_now, 
 use Rattle.tdb_law.specs.Standing.{IsSame, IsBehind, IsOnWay, is_fresh, WalkStandsBy, Stands}
 use Rattle.tdb_law.proofs.Maps.{get_put}
 use Rattle.tdb_law.proofs.Pending.{pending_touches, not_pending}
-use Rattle.tdb_law.proofs.Mapped.{never_true, quiet_moves}
+use Rattle.tdb_law.proofs.Mapped.{quiet_moves}
 use Rattle.tdb_law.specs.Commands.MapCommand.{Fetch, Has, Delete, Store, Insert, Modify, Append, Wipe, Check}
 use Rattle.tdb_law.specs.Outcomes.{moves_by, own_by, own_spared}
 use Rattle.std.proofs.lemmas.Bool.{leb-true, le-leb}
 use Rattle.tdb_law.proofs.Walking.{found_taken, takes_none, way_alike}
-
-pub and_both : (a b : Bool) → a && b ≡ true → (a ≡ true) × (b ≡ true)
-and_both true b e = (refl, e)
-and_both false b e = absurd (never_true e)
-
-pub and_make : (a b : Bool) → a ≡ true → b ≡ true → a && b ≡ true
-and_make true b p q = q
-and_make false b p q = p
-
-pub or_cases : (a b : Bool) → a || b ≡ true → (a ≡ true) ⊎ (b ≡ true)
-or_cases true b e = inl e
-or_cases false b e = inr e
-
-pub or_first : (a b : Bool) → a ≡ true → a || b ≡ true
-or_first true b e = refl
-or_first false b e = absurd (never_true e)
-
-pub or_second : (a b : Bool) → b ≡ true → a || b ≡ true
-or_second true b e = refl
-or_second false b e = e
-
-pub from_not : (b : Bool) → not b ≡ true → b ≡ false
-from_not true e = absurd (never_true e)
-from_not false e = refl
-
-pub to_not : (b : Bool) → b ≡ false → not b ≡ true
-to_not true e = sym e
-to_not false e = refl
+use Rattle.tdb_law.proofs.Tests.{never_true, and_both, and_make, from_not, to_not}
 
 with_gone : (a b g : Bool) → g ≡ false → a && (b && not g) ≡ a && b
 with_gone false b g e = refl

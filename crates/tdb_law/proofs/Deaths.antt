@@ -14,7 +14,6 @@ use Rattle.tdb_law.specs.World.{State, IsPending, IsSound}
 use Rattle.tdb_law.specs.Walks.{IsPlain}
 use Rattle.tdb_law.specs.Replay.{Replay, put}
 use Rattle.tdb_law.specs.Standing.{IsSame, MapStands, is_fresh, WalkStandsBy, WalkStands, Stands}
-use Rattle.tdb_law.proofs.Mapped.{never_true}
 use Rattle.std.proofs.lemmas.Bool.{leb-true}
 use Rattle.std.specs.Prelude.{nat_le, nat_lt}
 use Rattle.tdb_law.specs.Openers.{nowhere, closed}
@@ -31,10 +30,9 @@ use Rattle.tdb_law.proofs.Covered.{commit_covers, held_by}
 use Rattle.tdb_law.proofs.Kept.{closed_base}
 use Rattle.tdb_law.proofs.Walking.{put_here, put_else, way_alike, owed_parts}
 use Rattle.tdb_law.proofs.Pending.{same_task, no_task, pending_touches}
-use Rattle.tdb_law.proofs.Mapped.{never_true}
-use Rattle.tdb_law.proofs.Beginning.{and_both, or_cases}
 use Rattle.tdb_law.proofs.Saying.{one_txn}
 use Rattle.tdb_law.proofs.Emptied.{unchanged_start, before_event, after_event, other_event, sound_event, maps_idle, maps_finish, walk_event}
+use Rattle.tdb_law.proofs.Tests.{never_true, and_both, or_cases}
 
 and_false : (a b : Bool) → a ≡ false → a && b ≡ false
 and_false true b e = absurd (never_true (sym e))

@@ -16,7 +16,6 @@ use Rattle.tdb_law.specs.Effects.{IsReady}
 use Rattle.tdb_law.specs.Walks.{IsPlain}
 use Rattle.tdb_law.specs.Standing.{IsTouchedBy, MapStands, IsOnWay}
 use Rattle.tdb_law.proofs.Pending.{same_task}
-use Rattle.tdb_law.proofs.Mapped.{never_true}
 use Rattle.std.proofs.lemmas.Bool.{and_right}
 use Rattle.std.specs.Prelude.{nat_le}
 use Rattle.tdb_space.specs.Form.{data_start}
@@ -27,7 +26,7 @@ use Rattle.tdb_law.proofs.Local.{Agree, same_told, same_after, untouched}
 use Rattle.tdb_law.proofs.Covered.{changed_late}
 use Rattle.tdb_law.proofs.Walking.{map_unchanged}
 use Rattle.tdb_law.proofs.Pending.{no_task, apart_read}
-use Rattle.tdb_law.proofs.Mapped.{never_true}
+use Rattle.tdb_law.proofs.Tests.{never_true}
 
 -- before its first step no command has changed the file
 gate_start : (p : Option ℕ) → gate_shut p 0 ≡ false

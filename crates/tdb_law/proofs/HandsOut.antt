@@ -1,28 +1,22 @@
 -- The image behind a world is accepted with all hands after a turn: the opener's own hands come first, and then go back to their place.
-use Rattle.std.proofs.Common.{◌≡◌, ℕ, zero, suc, ◌+◌, ◌<◌, ◌≤◌, List, [], ◌∷◌, ◌++◌, Bool, true, false, cond, ◌==◌, Option, Some, None, refl, sym, ◌∙◌, ap, subst, inl, inr, ◌⊎◌, arith, ◌≢◌, append-nil}
+use Rattle.std.proofs.Common.{◌≡◌, ℕ, zero, suc, ◌+◌, ◌<◌, ◌≤◌, List, [], ◌∷◌, ◌++◌, true, cond, ◌==◌, Some, None, refl, sym, ◌∙◌, ap, subst, inl, inr, arith, append-nil}
 use Rattle.std.specs.Prelude.{if◌then◌else◌}
-use Rattle.std.specs.FinMap.{get, find, from_entries, get-from_entries}
+use Rattle.std.specs.FinMap.{find, get-from_entries}
 use Rattle.std.specs.Map.{lookup}
 use Rattle.std.proofs.lemmas.Bool.{cases_Bool, cases_eq, ne_eqb, eq-eqb}
 use Rattle.tdb_space.specs.Form.{Form}
-use Rattle.tdb_space.specs.Chain.{chain_of, free_of}
-use Rattle.tdb_space.specs.Pairs.{joined, order_of, map_of, same_key}
+use Rattle.tdb_space.specs.Pairs.{joined, order_of, same_key}
 use Rattle.tdb_space.specs.Extents.{HandPair, times, hand_extents, AllHandOk}
-use Rattle.tdb_space.specs.Accepted.{LaidOut, AcceptWith}
+use Rattle.tdb_space.specs.Accepted.{AcceptWith}
 use Rattle.tdb_space.proofs.Hands.{hands_for}
-use Rattle.tdb_space.proofs.Maps.{same_key-eq, same_key-refl, same_key-other}
-use Rattle.tdb_law.specs.Commands.{Turn}
-use Rattle.tdb_law.specs.Openers.{bytes_cmp, is_key, Task}
-use Rattle.tdb_law.specs.Refusals.{chain_byte}
-use Rattle.tdb_law.specs.World.{State, IsSound}
-use Rattle.tdb_law.specs.Turned.{Turned}
-use Rattle.tdb_law.specs.Replay.{Replay}
-use Rattle.tdb_law.specs.Standing.{Stands}
-use Rattle.tdb_law.specs.Images.{image_map, ImageMapAnswers, HasImage, ImageTurned, TurnKeepsImage, ImageIsPlain, IdleIsAccepted}
+use Rattle.tdb_space.proofs.Trades.{hands_both}
+use Rattle.tdb_space.proofs.Maps.{same_key-refl, same_key-other}
+use Rattle.tdb_law.specs.Openers.{bytes_cmp, is_key}
+use Rattle.tdb_law.specs.Images.{ImageMapAnswers, TurnKeepsImage, ImageIsPlain, IdleIsAccepted}
 use Rattle.tdb_law.proofs.Maps.{keys_total, is_key-eq, is_key-refl}
-use Rattle.tdb_law.proofs.Mapped.{never_true}
 use Rattle.tdb_law.proofs.Sound.{who_joined}
 use Rattle.tdb_law.proofs.Plainly.{file_plain}
+use Rattle.tdb_law.proofs.Tests.{never_true}
 
 -- two tests of keys agree
 same_test : (k q : List ℕ) → is_key q k ≡ same_key k q
@@ -47,10 +41,6 @@ hand_times (x ∷ xs) ys i = omega (arith, hand_times xs ys i)
 ok_split : (f : Form) (img : List ℕ) (xs ys : List HandPair) → AllHandOk f img (xs ++ ys) → AllHandOk f img xs × AllHandOk f img ys
 ok_split f img [] ys ok = (tt, ok)
 ok_split f img (x ∷ xs) ys ok = (let rest = ok_split f img xs ys ok.1 in ((ok.0, rest.0), rest.1))
-
-ok_join : (f : Form) (img : List ℕ) (xs ys : List HandPair) → AllHandOk f img xs → AllHandOk f img ys → AllHandOk f img (xs ++ ys)
-ok_join f img [] ys one two = two
-ok_join f img (x ∷ xs) ys one two = (one.0, ok_join f img xs ys one.1 two)
 
 -- all hands but one opener's
 abbrev but : ℕ → (ℕ → List HandPair) → ℕ → List HandPair
@@ -80,9 +70,16 @@ module _ (who : ℕ) (g : ℕ → List HandPair) where
             let mine : times (hand_extents (g n)) i ≡ times (hand_extents (g who)) i = ap (λ o. times (hand_extents (g o)) i) is in
             omega (arith, count, mine, hand_times (joined n g) (g n) i, hand_times (g who) (joined n g) i))
         | inr ne ↦ (let other : times (hand_extents (joined n (but who g) ++ but who g n)) i ≡ times (hand_extents (joined n (but who g) ++ g n)) i =
-                ap (λ l. times (hand_extents (joined n (but who g) ++ l)) i) (but_else who g n ne) in
-            omega (arith, other, split_times n i (omega (arith, low, ne)), hand_times (joined n g) (g n) i, hand_times (g who) (joined n (but who g)) i,
-              hand_times (g who) (joined (suc n) (but who g)) i, hand_times (joined n (but who g)) (g n) i))
+            ap (λ l. times (hand_extents (joined n (but who g) ++ l)) i) (but_else who g n ne) in
+            omega (
+              arith,
+              other,
+              split_times n i (omega (arith, low, ne)),
+              hand_times (joined n g) (g n) i,
+              hand_times (g who) (joined n (but who g)) i,
+              hand_times (g who) (joined (suc n) (but who g)) i,
+              hand_times (joined n (but who g)) (g n) i,
+            ))
       ]
 
   module _ (f : Form) (img : List ℕ) where
@@ -91,10 +88,12 @@ module _ (who : ℕ) (g : ℕ → List HandPair) where
     split_ok (suc n) low ok =
         (let parts = ok_split f img (joined n g) (g n) ok in
         elim (cases_eq n who) [
-          | inl is ↦ (subst (λ o. AllHandOk f img (g o)) is parts.1,
-              ok_join f img (joined n (but who g)) (but who g n) (subst (AllHandOk f img) (sym (below_same n (omega (arith, is)))) parts.0) (subst (AllHandOk f img) (sym (ap (but who g) is ∙ but_here)) tt))
+          | inl is ↦ (
+            subst (λ o. AllHandOk f img (g o)) is parts.1,
+            hands_both f img (joined n (but who g)) (but who g n) (subst (AllHandOk f img) (sym (below_same n (omega (arith, is)))) parts.0) (subst (AllHandOk f img) (sym (ap (but who g) is ∙ but_here)) tt),
+          )
           | inr ne ↦ (let rest = split_ok n (omega (arith, low, ne)) parts.0 in
-              (rest.0, ok_join f img (joined n (but who g)) (but who g n) rest.1 (subst (AllHandOk f img) (sym (but_else who g n ne)) parts.1)))
+              (rest.0, hands_both f img (joined n (but who g)) (but who g n) rest.1 (subst (AllHandOk f img) (sym (but_else who g n ne)) parts.1)))
         ])
 
     join_ok : (n : ℕ) → who < n → AllHandOk f img (g who) → AllHandOk f img (joined n (but who g)) → AllHandOk f img (joined n g)
@@ -102,15 +101,15 @@ module _ (who : ℕ) (g : ℕ → List HandPair) where
     join_ok (suc n) low mine others =
         (let parts = ok_split f img (joined n (but who g)) (but who g n) others in
         elim (cases_eq n who) [
-          | inl is ↦ ok_join f img (joined n g) (g n) (subst (AllHandOk f img) (below_same n (omega (arith, is))) parts.0) (subst (λ o. AllHandOk f img (g o)) (sym is) mine)
-          | inr ne ↦ ok_join f img (joined n g) (g n) (join_ok n (omega (arith, low, ne)) mine parts.0) (subst (AllHandOk f img) (but_else who g n ne) parts.1)
+          | inl is ↦ hands_both f img (joined n g) (g n) (subst (AllHandOk f img) (below_same n (omega (arith, is))) parts.0) (subst (λ o. AllHandOk f img (g o)) (sym is) mine)
+          | inr ne ↦ hands_both f img (joined n g) (g n) (join_ok n (omega (arith, low, ne)) mine parts.0) (subst (AllHandOk f img) (but_else who g n ne) parts.1)
         ])
 
     -- one opener's hands first, and back
     to_front : (n : ℕ) → who < n → AcceptWith f img (joined n g) → AcceptWith f img (g who ++ joined n (but who g))
     to_front n low A =
         (let parts = split_ok n low A.held in
-        hands_for f img (joined n g) (g who ++ joined n (but who g)) A (ok_join f img (g who) (joined n (but who g)) parts.0 parts.1) (λ i. sym (split_times n i low)))
+        hands_for f img (joined n g) (g who ++ joined n (but who g)) A (hands_both f img (g who) (joined n (but who g)) parts.0 parts.1) (λ i. sym (split_times n i low)))
 
     from_front : (n : ℕ) → who < n → AcceptWith f img (g who ++ joined n (but who g)) → AcceptWith f img (joined n g)
     from_front n low A =
@@ -121,7 +120,7 @@ pub turn_keeps_image : TurnKeepsImage
 turn_keeps_image f old new who task turn a b before after S T H I =
     let low : who < old.joined = who_joined f old new who task turn S T in
     let rest : joined old.joined (but who before) ≡ joined old.joined (but who after) =
-        joined_same old.joined (but who before) (but who after) (λ o below. same o) in
+    joined_same old.joined (but who before) (but who after) (λ o below. same o) in
     let made = I.made (joined old.joined (but who before)) (to_front who before f a old.joined low H.accepted) in
     record {
       accepted = subst (λ n. AcceptWith f b (joined n after)) (sym T.joined) (from_front who after f b old.joined low (subst (λ l. AcceptWith f b (after who ++ l)) rest made));

@@ -11,7 +11,6 @@ use Rattle.tdb_law.specs.Outcomes.{told}
 use Rattle.tdb_law.specs.World.{State, IsPending, IsSound}
 use Rattle.tdb_law.specs.Replay.{Replay, taken, put}
 use Rattle.tdb_law.specs.Standing.{IsSame, IsOnWay, is_fresh, WalkStandsBy, WalkStands, Stands}
-use Rattle.tdb_law.proofs.Mapped.{never_true}
 use Rattle.std.proofs.Common.{le_trans}
 use Rattle.tdb_law.specs.Openers.{nowhere, opened}
 use Rattle.tdb_law.specs.Held.{kept, holding}
@@ -24,9 +23,9 @@ use Rattle.tdb_law.proofs.Kept.{opened_base}
 use Rattle.tdb_law.proofs.Walking.{put_here, put_else, way_alike, owed_parts}
 use Rattle.tdb_law.proofs.Pending.{same_task, no_task}
 use Rattle.tdb_space.specs.Form.{data_start}
-use Rattle.tdb_law.proofs.Mapped.{never_true}
 use Rattle.tdb_law.proofs.Saying.{table_may}
 use Rattle.tdb_law.proofs.Emptied.{unchanged_start, before_event, after_event, other_event, sound_event, maps_idle, walk_event}
+use Rattle.tdb_law.proofs.Tests.{never_true}
 
 none_txn : (u : Txn) → ◌≡◌ {A = Option Txn} None (Some u) → ⊥
 none_txn u e = cc

@@ -1,3 +1,4 @@
+pub mod Tests
 pub mod Maps
 pub mod Local
 pub mod Locks

@@ -24,9 +24,7 @@ use Rattle.tdb_law.proofs.Local.{Agree, same_told, same_after, untouched, told_p
 use Rattle.tdb_law.proofs.Covered.{changed_late}
 use Rattle.tdb_law.proofs.Sound.{own_kept, moves_reads}
 use Rattle.tdb_law.proofs.Pending.{clash_read, apart_touch, apart_read, pending_before, pending_after, own_pending, pending_own, not_pending, pending_left, left_pending, make_pending}
-
-pub never_true : false ≡ true → ⊥
-never_true e = cc
+use Rattle.tdb_law.proofs.Tests.{never_true}
 
 -- a transaction that isn't committed though its Commit is done has the committed map in its image
 unplanned : (a b : Bool) (p : Option ℕ) → a ≡ true → a && b && was_planned p ≡ false → (b ≡ false) ⊎ (p ≡ Some 0)

@@ -7,8 +7,7 @@ use Rattle.tdb_space.specs.Pairs.{home}
 use Rattle.tdb_law.specs.Openers.{is_key}
 use Rattle.tdb_law.specs.Layout.{Cell, Chains, Place, live_in, behind, ahead_of, mark_of, Keeps, unlinked, killed, HasKeyAt, LinkKeeps, UnlinkKeeps, KillKeeps, IsStood, WalksShift, AllShift}
 use Rattle.tdb_law.specs.Layout.Place.{off_chains, before_chain, on_record}
-use Rattle.tdb_law.proofs.Mapped.{never_true}
-use Rattle.tdb_law.proofs.Beginning.{and_both, or_cases, or_first, or_second}
+use Rattle.tdb_law.proofs.Tests.{never_true, and_both, or_cases, or_first, or_second}
 
 -- a record of another key is no matter
 other_key : (b : Bool) (k q : List ℕ) (r : Bool) → is_key k q ≡ false → (b && is_key k q) || r ≡ r

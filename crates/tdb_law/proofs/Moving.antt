@@ -18,11 +18,12 @@ use Rattle.tdb_law.specs.Turned.{Turned, want}
 use Rattle.tdb_law.specs.Replay.{Replay, taken, shown_now, due_now, line_own, is_shown, shown_after, due_after}
 use Rattle.tdb_law.specs.Standing.{IsOnWay, is_fresh, WalkStandsBy, WalkStands, Stands}
 use Rattle.tdb_law.proofs.Maps.{is_key-refl, is_key-eq}
-use Rattle.tdb_law.proofs.Mapped.{never_true, own_line}
+use Rattle.tdb_law.proofs.Mapped.{own_line}
 use Rattle.tdb_law.specs.Commands.{is_spare}
 use Rattle.tdb_law.proofs.Walking.{put_here, way_alike, owed_parts}
 use Rattle.tdb_law.proofs.Shifting.{t, after_line, begun_here, shifted, others_way}
-use Rattle.tdb_law.proofs.Beginning.{moved_cursor_by, spared_cursor_by, or_cases, or_first, or_second, without_move, begins_clear, goes_way, owes, untaken}
+use Rattle.tdb_law.proofs.Beginning.{moved_cursor_by, spared_cursor_by, without_move, begins_clear, goes_way, owes, untaken}
+use Rattle.tdb_law.proofs.Tests.{never_true, or_cases, or_first, or_second}
 
 -- a walk that has ended, or is on its way, as its cursor says
 cond_way : (f : Form) (w : State) (o : ℕ) (hc : Bool) (g : List ℕ → Bool) (owed due : List ℕ → Bool) → (hc ≡ true → IsOnWay f w o g owed) → ((k : List ℕ) → owed k ≡ true → cond hc (due k) false ≡ true)

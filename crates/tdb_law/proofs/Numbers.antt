@@ -34,9 +34,8 @@ use Rattle.tdb_law.specs.Standing.{IsBringing}
 use Rattle.tdb_law.proofs.Covered.{changed_late}
 use Rattle.tdb_law.proofs.Sound.{sound_after, moves_reads}
 use Rattle.tdb_law.proofs.Pending.{clash_read, pending_left, left_pending}
-use Rattle.tdb_law.proofs.Mapped.{never_true}
-use Rattle.tdb_law.proofs.Beginning.{and_both}
 use Rattle.tdb_law.proofs.Shifting.{still_pending}
+use Rattle.tdb_law.proofs.Tests.{never_true, and_both}
 
 -- a commit that brings its number touches every key, and reads it
 brings_touches_by : (q : Option Refusal) (c : Command) (x : Own) (k : List ℕ) → brings_by q c x ≡ true → touches_by q c x k ≡ true

@@ -20,8 +20,7 @@ use Rattle.tdb_law.specs.Laws.{BeginningStands, FileIsPlain, IsCommitted, QuietI
 use Rattle.tdb_law.proofs.Maps.{maps_equal}
 use Rattle.tdb_law.proofs.Kept.{closed_base}
 use Rattle.tdb_law.proofs.Pending.{no_task, pending_touches}
-use Rattle.tdb_law.proofs.Mapped.{never_true}
-use Rattle.tdb_law.proofs.Beginning.{and_both}
+use Rattle.tdb_law.proofs.Tests.{never_true, and_both}
 
 none_some : (place : ℕ) → ◌≡◌ {A = Option ℕ} None (Some place) → ⊥
 none_some place e = cc

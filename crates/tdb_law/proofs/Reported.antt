@@ -23,7 +23,6 @@ use Rattle.tdb_law.specs.Lines.Line.{Took}
 use Rattle.tdb_law.specs.Held.{explicit_held}
 use Rattle.tdb_law.specs.Replay.{shown_now}
 use Rattle.tdb_law.proofs.Kept.{opened_base}
-use Rattle.tdb_law.proofs.Mapped.{never_true}
 use Rattle.tdb_law.specs.Lines.{Line, replay}
 use Rattle.tdb_law.specs.Reports.{small, a, one, two, one_pair, at_first, byte_a, two_join, row_of_two, options, group, in_group, at_group, row_of_commit, seen_early, blocked_by_nobody, done_unlocked, second_start, shown_twice, IsRight, IsWrong}
 use Rattle.tdb_law.specs.Rows.{is_changed}
@@ -31,6 +30,7 @@ use Rattle.tdb_law.specs.Counting.{takes}
 use Rattle.tdb_law.specs.Openers.{Map, Txn, opened, chain_locks}
 use Rattle.tdb_law.specs.MapCommands.{fetched}
 use Rattle.tdb_law.proofs.Maps.{get_put}
+use Rattle.tdb_law.proofs.Tests.{never_true}
 
 -- what was stored is fetched
 stored : (m : Map) (v : List ℕ) → Value v ≡ fetched (get (insert m a v) a)

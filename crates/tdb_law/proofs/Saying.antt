@@ -25,7 +25,7 @@ use Rattle.tdb_law.specs.Replay.{Replay, steps_of, shown_now, due_now, line_own}
 use Rattle.tdb_law.specs.Standing.{IsSame, Stands}
 use Rattle.tdb_law.proofs.Local.{changing}
 use Rattle.tdb_law.proofs.Pending.{pending_touches, own_pending, not_pending}
-use Rattle.tdb_law.proofs.Mapped.{never_true, own_line, quiet_moves}
+use Rattle.tdb_law.proofs.Mapped.{own_line, quiet_moves}
 use Rattle.std.proofs.lemmas.Bool.{leb-true}
 use Rattle.tdb_law.specs.Openers.{outside}
 use Rattle.tdb_law.specs.Refusals.{says}
@@ -46,9 +46,9 @@ use Rattle.tdb_law.proofs.Locks.{first_locked, rest_locked, locked_reached}
 use Rattle.tdb_law.proofs.Covered.{held_by}
 use Rattle.tdb_law.proofs.May.{wanted_may, task_may, keep_may, txn_lock, row_wanted, decided_held}
 use Rattle.tdb_law.proofs.Sound.{sound_after, before}
-use Rattle.tdb_law.proofs.Mapped.{never_true, agree, quiet_counts, plain_own}
-use Rattle.tdb_law.proofs.Beginning.{and_both}
+use Rattle.tdb_law.proofs.Mapped.{agree, quiet_counts, plain_own}
 use Rattle.tdb_law.proofs.Moving.{new_pair, all_shown}
+use Rattle.tdb_law.proofs.Tests.{never_true, and_both}
 
 -- a pending commit that brings its number holds the byte of the sequence number
 numbered_locks : (n : ℕ) → 2 ≤ n → 2 ≤ locked (commit_locks true) n 48

@@ -21,8 +21,9 @@ use Rattle.tdb_law.specs.Standing.{IsBehind, IsOnWay, is_fresh, WalkStandsBy, Wa
 use Rattle.tdb_law.proofs.Local.{changing}
 use Rattle.tdb_law.proofs.Sound.{own_kept, who_joined}
 use Rattle.tdb_law.proofs.Pending.{pending_after, pending_own, make_pending}
-use Rattle.tdb_law.proofs.Mapped.{never_true, own_line}
+use Rattle.tdb_law.proofs.Mapped.{own_line}
 use Rattle.tdb_law.proofs.Walking.{put_here, put_else, found_taken, plain_touch, way_alike, owed_parts}
+use Rattle.tdb_law.proofs.Tests.{never_true}
 
 module _ (f : Form) (old new : State) (who : ℕ) (task : Task) (turn : Turn) (S : IsSound f old) (T : Turned f old who task turn new) (s : Replay) (P : Stands f old s) where
   abbrev c : Command

@@ -1,17 +1,15 @@
 -- A cursor's steps go on.
-use Rattle.std.proofs.Common.{◌≡◌, ℕ, ◌+◌, ◌<◌, ◌≤◌, List, [], ◌∷◌, Bool, true, false, cond, ◌==◌, nat_le, nat_lt, Option, Some, None, refl, sym, ◌∙◌, ap, subst, inl, inr, ◌⊎◌, arith}
-use Rattle.std.specs.Prelude.{◌&&◌, ◌||◌}
-use Rattle.std.proofs.lemmas.Bool.{cases_Bool, cases_eq, eqb-true, eqb-false, ne_eqb, eq-eqb, leb-true, le-leb, leb-false, ltb-true, lt-ltb, le-ltb, ltb-false}
+use Rattle.std.proofs.Common.{◌≡◌, ℕ, ◌+◌, ◌<◌, ◌≤◌, List, ◌∷◌, Bool, true, false, cond, ◌==◌, nat_le, nat_lt, Option, Some, None, refl, sym, ◌∙◌, ap, inl, inr, ◌⊎◌, arith}
+use Rattle.std.specs.Prelude.{◌&&◌}
+use Rattle.std.proofs.lemmas.Bool.{cases_Bool, cases_eq, eqb-true, eqb-false, leb-true, le-leb, ltb-true, lt-ltb, ltb-false}
 use Rattle.tdb_space.specs.Form.{Form}
 use Rattle.tdb_space.specs.Pairs.{home}
 use Rattle.tdb_space.proofs.Maps.{home_below}
 use Rattle.tdb_law.specs.Openers.{is_key}
-use Rattle.tdb_law.specs.Layout.{Cell, Chains, Place, live_in, behind, ahead_of, reached_of}
-use Rattle.tdb_law.specs.Layout.Place.{off_chains, before_chain, on_record}
-use Rattle.tdb_law.specs.Going.{GoesOn, key_met, ToNext, ToFirst, PastLast, PastEmpty, StepsJoin, NoneLeft}
+use Rattle.tdb_law.specs.Layout.{Cell, Chains, live_in, behind}
+use Rattle.tdb_law.specs.Going.{key_met, ToNext, ToFirst, PastLast, PastEmpty, StepsJoin, NoneLeft}
 use Rattle.tdb_law.proofs.Maps.{is_key-eq}
-use Rattle.tdb_law.proofs.Mapped.{never_true}
-use Rattle.tdb_law.proofs.Beginning.{and_both, and_make, or_cases, or_second}
+use Rattle.tdb_law.proofs.Tests.{never_true, and_both, and_make, or_cases, or_second}
 
 -- a key of a record and those behind it is the one come to, or is behind
 met : (c : Cell) (rest : List Cell) (k : List ℕ) → live_in (c ∷ rest) k ≡ true → (key_met c ≡ Some k) ⊎ (live_in rest k ≡ true)
@@ -30,11 +28,14 @@ to_next f cs i p c rest at_p at_c = record {
   where
     here : (k : List ℕ) → live_in (behind (cs i) p) k ≡ live_in (c ∷ rest) k
     here k = ap (λ l. live_in l k) at_p
+
     there : (k : List ℕ) → live_in (behind (cs i) c.place) k ≡ live_in rest k
     there k = ap (λ l. live_in l k) at_c
+
     fewer : (k : List ℕ) (b : Bool) → cond b (live_in (behind (cs i) c.place) k) (nat_lt i (home f k) && live_in (cs (home f k)) k) ≡ true → cond b (live_in (behind (cs i) p) k) (nat_lt i (home f k) && live_in (cs (home f k)) k) ≡ true
     fewer k true e = here k ∙ or_second (c.live && is_key c.key k) (live_in rest k) (sym (there k) ∙ e)
     fewer k false e = e
+
     kept : (k : List ℕ) (b : Bool) → cond b (live_in (behind (cs i) p) k) (nat_lt i (home f k) && live_in (cs (home f k)) k) ≡ true
         → (key_met c ≡ Some k) ⊎ (cond b (live_in (behind (cs i) c.place) k) (nat_lt i (home f k) && live_in (cs (home f k)) k) ≡ true)
     kept k true e = elim (met c rest k (sym (here k) ∙ e)) [ inl key ↦ inl key | inr later ↦ inr (there k ∙ later) ]
@@ -49,8 +50,10 @@ to_first f cs i c rest at_i at_c = record {
   where
     chain : (k : List ℕ) → (home f k == i) ≡ true → live_in (cs (home f k)) k ≡ live_in (c ∷ rest) k
     chain k e = ap (λ j. live_in (cs j) k) (eqb-true (home f k) i e) ∙ ap (λ l. live_in l k) at_i
+
     there : (k : List ℕ) → live_in (behind (cs i) c.place) k ≡ live_in rest k
     there k = ap (λ l. live_in l k) at_c
+
     fewer : (k : List ℕ) (b : Bool) → (home f k == i) ≡ b → cond b (live_in (behind (cs i) c.place) k) (nat_lt i (home f k) && live_in (cs (home f k)) k) ≡ true → nat_le i (home f k) && live_in (cs (home f k)) k ≡ true
     fewer k true is e =
         and_make (nat_le i (home f k)) (live_in (cs (home f k)) k) (le-leb i (home f k) (omega (arith, eqb-true (home f k) i is)))
@@ -59,6 +62,7 @@ to_first f cs i c rest at_i at_c = record {
         (let parts = and_both (nat_lt i (home f k)) (live_in (cs (home f k)) k) e in
         let low : i < home f k = ltb-true i (home f k) parts.0 in
         and_make (nat_le i (home f k)) (live_in (cs (home f k)) k) (le-leb i (home f k) (omega arith)) parts.1)
+
     kept : (k : List ℕ) (b : Bool) → (home f k == i) ≡ b → nat_le i (home f k) && live_in (cs (home f k)) k ≡ true
         → (key_met c ≡ Some k) ⊎ (cond b (live_in (behind (cs i) c.place) k) (nat_lt i (home f k) && live_in (cs (home f k)) k) ≡ true)
     kept k true is e =
@@ -92,6 +96,7 @@ past_last f cs i p none = record {
     fewer k true is e =
         absurd (omega (arith, eqb-true (home f k) i is, leb-true (i + 1) (home f k) (and_both (nat_le (i + 1) (home f k)) (live_in (cs (home f k)) k) e).0))
     fewer k false is e = ap (λ b. b && live_in (cs (home f k)) k) (after_chain f cs i k) ∙ e
+
     kept : (k : List ℕ) (b : Bool) → (home f k == i) ≡ b → cond b (live_in (behind (cs i) p) k) (nat_lt i (home f k) && live_in (cs (home f k)) k) ≡ true → nat_le (i + 1) (home f k) && live_in (cs (home f k)) k ≡ true
     kept k true is e = absurd (never_true (sym (ap (λ l. live_in l k) none) ∙ e))
     kept k false is e = ap (λ b. b && live_in (cs (home f k)) k) (sym (after_chain f cs i k)) ∙ e

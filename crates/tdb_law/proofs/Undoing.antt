@@ -9,15 +9,14 @@ use Rattle.tdb_law.specs.Openers.{Own, seen, has}
 use Rattle.tdb_law.specs.World.{State, IsPending, IsSound}
 use Rattle.tdb_law.specs.Replay.{Replay, taken}
 use Rattle.tdb_law.specs.Standing.{IsSame, IsOnWay, is_fresh, WalkStandsBy, WalkStands, Stands}
-use Rattle.tdb_law.proofs.Mapped.{never_true}
 use Rattle.tdb_space.specs.Form.{data_start}
 use Rattle.tdb_law.specs.Held.{holding}
 use Rattle.tdb_law.specs.Lines.Line.{Undone}
 use Rattle.tdb_law.specs.Lines.{next_line}
 use Rattle.tdb_law.specs.Events.{Undoes}
 use Rattle.tdb_law.specs.Laws.{UndoIsLawful}
-use Rattle.tdb_law.proofs.Mapped.{never_true}
 use Rattle.tdb_law.proofs.Beginning.{seen_has}
+use Rattle.tdb_law.proofs.Tests.{never_true}
 
 module _ (f : Form) (old new : State) (bytes to : ℕ) (s : Replay) (S : IsSound f old) (P : Stands f old s) (U : Undoes f old new) where
   own_same : (o : ℕ) → new.own o ≡ old.own o

@@ -24,7 +24,7 @@ use Rattle.tdb_law.specs.Turned.{Turned, want}
 use Rattle.tdb_law.specs.Replay.{Replay, line_own, line_map}
 use Rattle.tdb_law.specs.Standing.{Stands}
 use Rattle.tdb_law.proofs.Maps.{is_key-eq}
-use Rattle.tdb_law.proofs.Mapped.{never_true, own_line}
+use Rattle.tdb_law.proofs.Mapped.{own_line}
 use Rattle.std.specs.FinMap.{remove}
 use Rattle.tdb_law.specs.Commands.MapCommand.{Fetch, Has, Delete, Store, Insert, Modify, Append, Wipe, Check}
 use Rattle.tdb_law.specs.Commands.Reply.{KeyMissing, KeyThere}
@@ -43,7 +43,8 @@ use Rattle.tdb_law.proofs.Maps.{maps_equal, get_drop}
 use Rattle.tdb_law.proofs.Local.{untouched, told_plain, reads_touched}
 use Rattle.tdb_law.proofs.Covered.{changed_late, start_covers}
 use Rattle.tdb_law.proofs.Pending.{touches_locked}
-use Rattle.tdb_law.proofs.Mapped.{never_true, told_map, moves_told, counts_told, plain_map, found_plain}
+use Rattle.tdb_law.proofs.Mapped.{told_map, moves_told, counts_told, plain_map, found_plain}
+use Rattle.tdb_law.proofs.Tests.{never_true}
 
 some_txn : (t u : Txn) → ◌≡◌ {A = Option Txn} (Some t) (Some u) → t ≡ u
 some_txn t u e = cc

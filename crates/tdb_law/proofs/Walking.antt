@@ -16,7 +16,7 @@ use Rattle.tdb_law.specs.World.{State}
 use Rattle.tdb_law.specs.Walks.{IsPlain}
 use Rattle.tdb_law.specs.Replay.{Replay, any_below, takes_begun, taken, put, still_due}
 use Rattle.tdb_law.specs.Standing.{IsOnWay}
-use Rattle.tdb_law.proofs.Mapped.{never_true}
+use Rattle.tdb_law.proofs.Tests.{never_true, and_both, from_not}
 
 pub put_here : {A : Type 0} (g : ℕ → A) (who : ℕ) (v : A) (o : ℕ) → o ≡ who → put g who v o ≡ v
 put_here g who v o e = rw (eq-eqb o who e) refl
@@ -49,14 +49,6 @@ late_takes c true y e = refl
 late_takes c false y e = e
 
 -- takes, in parts: a plain command takes what it has changed and removes; a commit what its image lacks
-and_true : (a b : Bool) → a && b ≡ true → (a ≡ true) × (b ≡ true)
-and_true true b e = (refl, e)
-and_true false b e = absurd (never_true e)
-
-and_make : (a b : Bool) → a ≡ true → b ≡ true → a && b ≡ true
-and_make true b p q = q
-and_make false b p q = p
-
 -- no command takes a key before its first step
 pub map_unchanged : (c : MapCommand) → map_changed c 0 ≡ false
 map_unchanged (MapCommand.Fetch k) = refl
@@ -128,11 +120,7 @@ way_alike f w o g h d e same fewer way = record {
 pub owed_parts : (f : Form) (z : List ℕ → Bool) (t : Replay) (o : ℕ) (k : List ℕ) → still_due f z t o k ≡ true
     → (t.due o k ≡ true) × (z k ≡ false) × (has (seen (t.own o) t.map) k ≡ true) × (taken f t o k ≡ false)
 owed_parts f z t o k e =
-    let first = and_true (t.due o k) _ e in
-    let second = and_true (not (z k)) _ first.1 in
-    let third = and_true (has (seen (t.own o) t.map) k) (not (taken f t o k)) second.1 in
+    let first = and_both (t.due o k) _ e in
+    let second = and_both (not (z k)) _ first.1 in
+    let third = and_both (has (seen (t.own o) t.map) k) (not (taken f t o k)) second.1 in
     (first.0, from_not (z k) second.0, third.0, from_not (taken f t o k) third.1)
-  where
-    from_not : (b : Bool) → not b ≡ true → b ≡ false
-    from_not true e2 = absurd (never_true e2)
-    from_not false e2 = refl

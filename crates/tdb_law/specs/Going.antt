@@ -1,8 +1,8 @@
 -- The steps by which a cursor goes on through the chains.
-use Rattle.std.specs.Prelude.{ℕ, ◌+◌, ◌≡◌, ◌≤◌, ◌<◌, ◌⊎◌, List, [], ◌∷◌, Bool, true, false, Option, Some, None, if◌then◌else◌}
+use Rattle.std.specs.Prelude.{ℕ, ◌+◌, ◌≡◌, ◌≤◌, ◌<◌, ◌⊎◌, List, [], ◌∷◌, true, false, Option, Some, None, if◌then◌else◌}
 use Rattle.tdb_space.specs.Form.{Form}
 use Rattle.tdb_law.specs.Layout.{Cell, Chains, Place, behind, ahead_of, reached_of}
-use Rattle.tdb_law.specs.Layout.Place.{off_chains, before_chain, on_record}
+use Rattle.tdb_law.specs.Layout.Place.{before_chain, on_record}
 
 -- A cursor has gone on from a place to a later one and has come to this key, or to none: it has entered no fewer chains, no key has come
 -- to be further on, and each that was is the one come to, or is further on still.

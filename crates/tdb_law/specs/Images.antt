@@ -1,5 +1,5 @@
 -- The image behind a world: it is accepted with the hands of all unfinished commands, and its map is the file's.
-use Rattle.std.specs.Prelude.{ℕ, ◌≡◌, ◌≢◌, ◌≤◌, List, [], ◌++◌, Option, None}
+use Rattle.std.specs.Prelude.{ℕ, ◌≡◌, ◌≢◌, ◌≤◌, List, [], ◌++◌, None}
 use Rattle.std.specs.FinMap.{get, from_entries}
 use Rattle.tdb_space.specs.Form.{Form}
 use Rattle.tdb_space.specs.Pairs.{joined, order_of, map_of}
