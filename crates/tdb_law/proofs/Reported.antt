@@ -60,7 +60,7 @@ row_of_two_right = (
       (refl, record { live = refl; begun = tt; row = lit≤ tt; tells = tt }),
       tt,
       (
-        (refl, record { live = refl; begun = tt; row = tt; tells = record { other = not_one 0 refl; conflict = above _ } }),
+        (refl, record { live = refl; begun = tt; row = refl; tells = record { other = not_one 0 refl; conflict = above _ } }),
         tt,
         (
           (refl, record { live = refl; begun = refl; row = inl refl; tells = (says_plain refl refl refl, λ is. cc) }),
@@ -146,7 +146,7 @@ store_says s e =
 -- a commit in nine turns, with a store of another opener that is blocked until its end
 pub row_of_commit_right : IsRight at_group row_of_commit
 row_of_commit_right = (
-  (refl, record { live = refl; begun = tt; row = tt; tells = store_waits _ refl refl refl }),
+  (refl, record { live = refl; begun = tt; row = refl; tells = store_waits _ refl refl refl }),
   tt,
   (
     (refl, record { live = refl; begun = tt; row = commit_step 0 (lit≤ tt); tells = tt }),
@@ -173,7 +173,7 @@ row_of_commit_right = (
                   (refl, record { live = refl; begun = refl; row = commit_step 7 (lit≤ tt); tells = tt }),
                   tt,
                   (
-                    (refl, record { live = refl; begun = refl; row = tt; tells = store_waits _ refl refl refl }),
+                    (refl, record { live = refl; begun = refl; row = refl; tells = store_waits _ refl refl refl }),
                     tt,
                     (
                       (refl, record { live = refl; begun = refl; row = commit_end; tells = (commit_says _ refl, λ is. cc) }),

@@ -3,7 +3,7 @@ use Rattle.std.specs.Prelude.{ℕ, ◌≡◌, ◌≤◌, ◌<◌, ◌⊎◌, Lis
 use Rattle.tdb_space.specs.Form.{Form}
 use Rattle.tdb_law.specs.Commands.{MapCommand, LockCommand, WalkCommand, Command, Reply, Turn}
 use Rattle.tdb_law.specs.Commands.MapCommand.{Fetch, Has, Delete, Wipe, Check}
-use Rattle.tdb_law.specs.Commands.LockCommand.{ChainUnlock, UnlockAll}
+use Rattle.tdb_law.specs.Commands.LockCommand.{ChainLockNb, ChainUnlock, UnlockAll}
 use Rattle.tdb_law.specs.Commands.GroupCommand.{Start, Commit, Prepare, Cancel}
 use Rattle.tdb_law.specs.Commands.WalkCommand.{First, Next}
 use Rattle.tdb_law.specs.Commands.Command.{OnMap, OnLocks, Seqnum, OnGroup, OnWalk}
@@ -129,9 +129,14 @@ abbrev pub starve_last : Form → Command → Own → ℕ
 starve_last f (OnGroup g) x = 2
 starve_last f c x = last_step f c x
 
--- A turn that the row of a command allows after so many steps: a step below the last; a block at any; an end by the table, or for
--- want of memory.
+-- a command that waits where its lock is held; one alone doesn't, and is told that it is busy
+abbrev pub waits : Command → Bool
+waits (OnLocks (ChainLockNb k)) = false
+waits _ = true
+
+-- A turn that the row of a command allows after so many steps: a step below the last; a block of one that waits; an end by the table, or
+-- for want of memory.
 abbrev pub IsRow : Form → Command → Own → ℕ → Turn → Type 0
 IsRow f c x n Step = n < last_step f c x
-IsRow f c x n (Blocked owner byte) = Unit {0}
+IsRow f c x n (Blocked owner byte) = waits c ≡ true
 IsRow f c x n (Ends r) = (may_end f c x n r ≡ true) ⊎ ((r ≡ Memory) × (starves f c x ≡ true) × (n ≤ starve_last f c x))
