@@ -26,3 +26,4 @@ pub mod Reported
 pub mod Marking
 pub mod Steps
 pub mod HandsOut
+pub mod Taken

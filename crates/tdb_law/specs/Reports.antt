@@ -1,5 +1,5 @@
 -- Small reports, some lawful and some not: what the definitions say of each.
-use Rattle.std.specs.Prelude.{ℕ, List, [], ◌∷◌, ◌++◌, true, false, Some, None}
+use Rattle.std.specs.Prelude.{ℕ, List, [], ◌∷◌, ◌++◌, true, false, Option, Some, None}
 use Rattle.std.specs.FinMap.{insert, empty}
 use Rattle.tdb_words.specs.declared.word.Order.TheVariants.{Little}
 use Rattle.tdb_words.specs.declared.hash.HashKind.TheVariants.{Old}
@@ -11,7 +11,10 @@ use Rattle.tdb_law.specs.Commands.WalkCommand.{First, Next}
 use Rattle.tdb_law.specs.Commands.Command.{OnMap, OnGroup, OnWalk}
 use Rattle.tdb_law.specs.Commands.Reply.{Done, Value, Pair}
 use Rattle.tdb_law.specs.Commands.Turn.{Step, Blocked, Ends}
-use Rattle.tdb_law.specs.Openers.{Map, Options, Own, Txn, opened}
+use Rattle.tdb_law.specs.Openers.{Map, Options, Own, Txn, Task, opened, nowhere}
+use Rattle.tdb_law.specs.Held.{holding}
+use Rattle.tdb_law.specs.World.{State}
+use Rattle.tdb_law.specs.Turned.{Turned}
 use Rattle.tdb_law.specs.Refusals.{chain_byte}
 use Rattle.tdb_law.specs.Replay.{Replay, put}
 use Rattle.tdb_law.specs.Lines.{Line, IsLawful}
@@ -112,3 +115,33 @@ IsRight s lines = IsLawful small s lines
 
 abbrev pub IsWrong : Replay → List Line → Type 0
 IsWrong s lines = IsLawful small s lines → ⊥
+
+-- A small world: one opener has joined, and has this command; its table is what its openers hold.
+abbrev pub one_task : ℕ → Task
+one_task n = record { command = OnMap (Fetch a); steps = n }
+
+abbrev pub one_own : ℕ → Own
+one_own = put (λ o. nobody options) 0 (opened (nobody options))
+
+abbrev pub one_at : ℕ → ℕ → Option Task
+one_at n = put (λ o. None) 0 (Some (one_task n))
+
+abbrev pub one_world : ℕ → State
+one_world n = record {
+  file = one_pair;
+  table = λ o b. holding small (one_own o) nowhere (one_at n o) b;
+  joined = 1;
+  task = one_at n;
+  own = one_own;
+  spot = λ o. nowhere;
+  view = λ o. record { must = false; way = λ b. false };
+  mark = λ o. record { inside = false; reached = 0; ahead = λ k. false };
+  stale = false;
+  settled = false;
+  number = 0;
+  image_number = λ o. 0;
+}
+
+-- The first turn of its fetch locks the chain.
+abbrev pub FetchLocks : Type 0
+FetchLocks = Turned small (one_world 0) 0 (one_task 0) Step (one_world 1)
