@@ -1,11 +1,10 @@
 //! A sink that is a file, made new, or a terminal.
 ghost use Rattle.std.specs.Prelude.{◌≡◌, ◌<◌, ◌↔◌, [], false, IfOk, IsSome};
 
-use crate::locks::try_lock;
+use crate::locks::{LockKind, try_lock};
 use crate::opening::above_standard;
 use crate::out_sink::OutSink;
 use crate::reason::{Reason, is_missing};
-use os::RangeLock;
 use std::fs::{self, File, OpenOptions};
 use std::io::IsTerminal;
 use std::os::unix::fs::{FileExt, FileTypeExt};
@@ -35,7 +34,7 @@ fn check_no_database(file: &File) -> Result<(), Reason> {
     if !file.metadata()?.is_file() {
         return Err(Reason::NotRegular);
     }
-    try_lock(file, RangeLock::Exclusive)?;
+    try_lock(file, LockKind::Exclusive)?;
     let mut front = [0; DATABASE.len()];
     let len = file.read_at(&mut front, 0)?;
     if &front[..len] == DATABASE.as_slice() {

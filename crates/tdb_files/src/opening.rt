@@ -6,9 +6,8 @@ ghost use Rattle.tdb_files.specs.declared.opening.Refusal.TheVariants as refusal
 
 use crate::file_disk::FileDisk;
 use crate::identity::Identity;
-use crate::locks::lock;
+use crate::locks::{LockKind, lock};
 use crate::reason::Reason;
-use os::RangeLock;
 use std::collections::HashSet;
 use std::fs::{self, File, OpenOptions, Permissions};
 use std::io;
@@ -67,7 +66,7 @@ fn claim(
     rt: &HostRuntime,
     name: &str,
     file: &File,
-    kind: RangeLock,
+    kind: LockKind,
     taken: &HashSet<Identity>,
 ) -> Result<Identity, Reason> {
     let found = file.metadata()?;
@@ -102,9 +101,9 @@ fn open_existing(
     let (file, unwritable) = open_readable(rt, name, writable)?;
     let file = above_standard(file)?;
     let kind = if writable && unwritable.is_none() {
-        RangeLock::Exclusive
+        LockKind::Exclusive
     } else {
-        RangeLock::Shared
+        LockKind::Shared
     };
     let identity = claim(rt, name, &file, kind, taken)?;
     let len = file.metadata()?.len();
@@ -125,7 +124,7 @@ fn claim_new(
 {
     let file = above_standard(file)?;
     file.set_permissions(Permissions::from_mode(NEW_MODE))?;
-    let identity = claim(rt, name, &file, RangeLock::Exclusive, taken)?;
+    let identity = claim(rt, name, &file, LockKind::Exclusive, taken)?;
     if file.metadata()?.len() > 0 {
         return Err(Reason::InUse);
     }

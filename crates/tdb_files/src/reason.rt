@@ -1,5 +1,6 @@
 //! Why a call of the system failed, or why a file wasn't used.
 
+use std::io::Write;
 use std::str::from_utf8;
 use std::{fmt, io};
 use thiserror::Error;
@@ -39,12 +40,15 @@ const LONGEST_TEXT: usize = 256;
 
 impl fmt::Display for SystemError {
     fn fmt<W: fmt::Write>(&self, f: &mut fmt::Formatter<W>) -> fmt::Result {
-        let Some(code) = self.0.raw_os_error() else {
-            return fmt::Display::fmt(&self.0, f);
-        };
         let mut text = [0; LONGEST_TEXT];
-        let len = os::error_text(code, &mut text);
-        f.pad(from_utf8(&text[..len]).unwrap_or(""))
+        let mut room = text.as_mut_slice();
+        // A longer text is cut.
+        let _ = write!(room, "{}", self.0);
+        let told = from_utf8(&text).unwrap_or("");
+        match told.split_once(" (os error ") {
+            Some((words, _number)) => f.pad(words),
+            None => f.pad(told.trim_end_matches('\0')),
+        }
     }
 }
 

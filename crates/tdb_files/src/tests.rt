@@ -3,13 +3,12 @@ ghost use Rattle.std.specs.Prelude.{◌≡◌, OnOk};
 
 use crate::file_disk::FileDisk;
 use crate::identity::Identity;
+use crate::locks::{LockKind, try_lock};
 use crate::reason::Reason;
 use crate::{DirFiles, FileSink, InSource, OutSink};
-use os::RangeLock;
 use std::alloc::{AllocError, Global};
 use std::fs::{self, File, OpenOptions};
 use std::io;
-use std::os::fd::AsRawFd;
 use std::os::unix::fs::{PermissionsExt, symlink};
 use std::test::Fail;
 use tdb_disk::{Disk, DiskFault, Files, Sink, Source, Take, TakeRefusal};
@@ -168,41 +167,27 @@ fn words(rt: HostRuntime, name: &str, how: Take) -> Result<String, AllocError> {
     told(rt.alloc(), &files)
 }
 
-/// Whether another program's lock on one byte of the file is granted. It is given up at once.
-fn is_free(file: &File, byte: u64, kind: RangeLock) -> bool {
-    let is_granted = os::try_lock_range(file.as_raw_fd(), kind, byte, 1) == 0;
-    os::try_lock_range(file.as_raw_fd(), RangeLock::Unlock, byte, 1);
-    is_granted
-}
-
 #[test]
-fn another_program_keeps_off(rt: HostRuntime) -> Result<(), Fail> {
+fn another_run_keeps_off(rt: HostRuntime) -> Result<(), Fail> {
     let name = "tdb_files_locks";
     fs::write(&rt, name, "one")?;
     let other = OpenOptions::new().read(true).write(true).open(&rt, name)?;
     let alloc = rt.alloc();
     let mut files = DirFiles::new(rt);
     let disk = files.take(alloc, name, Take::Existing)?;
-    for byte in [0, 8, 164, 168, 1000, u64::MAX / 2] {
-        assert!(rt; !is_free(&other, byte, RangeLock::Shared), "byte {byte}");
-    }
-    assert!(rt; is_free(&other, 4, RangeLock::Exclusive));
+    assert!(rt; try_lock(&other, LockKind::Shared).is_err());
     files.give(name, disk);
     let disk = files.take(alloc, name, Take::ReadOnly)?;
-    for byte in [0, 8, 164, 168, 1000] {
-        assert!(rt; is_free(&other, byte, RangeLock::Shared), "byte {byte}");
-        assert!(rt; !is_free(&other, byte, RangeLock::Exclusive), "byte {byte}");
-    }
-    files.give(name, disk);
+    assert!(rt; try_lock(&other, LockKind::Exclusive).is_err());
     // The other way round: it is taken for reading beside another reader, and for writing only where nobody has it.
-    let record = other.as_raw_fd();
-    assert_eq!(rt; os::try_lock_range(record, RangeLock::Shared, 168, 1), 0);
+    assert!(rt; try_lock(&other, LockKind::Shared).is_ok());
+    files.give(name, disk);
     assert_eq!(rt; words(rt, name, Take::ReadOnly)?.as_str(), "");
     assert_eq!(rt;
         words(rt, name, Take::Existing)?.as_str(),
         "tdb_files_locks: another program uses the file"
     );
-    assert_eq!(rt; os::try_lock_range(record, RangeLock::Unlock, 168, 1), 0);
+    other.unlock()?;
     assert_eq!(rt; words(rt, name, Take::Existing)?.as_str(), "");
     fs::remove_file(&rt, name)?;
     Ok(())
