@@ -17,3 +17,5 @@ pub mod Gates
 pub mod Places
 pub mod Clears
 pub mod Ensures
+pub mod Puts
+pub mod Fills

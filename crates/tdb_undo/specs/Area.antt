@@ -60,3 +60,7 @@ pub record Stands (f : Form) (size : ℕ) (a : Area) : Type 0 where
   pub len_aligned : a.header.rec_len % 4 ≡ 0
   pub within : a.at + 24 + a.header.rec_len ≤ size
   pub gate : (a.header.magic ≡ GATE_OPEN) ⊎ (a.header.magic ≡ GATE_SHUT)
+
+-- the undo area that the word at 44 of an image leads to
+abbrev pub area_of : Order → List ℕ → Area
+area_of o img = record { at = word o img 44; header = rec_at o img (word o img 44) }

@@ -7,3 +7,4 @@ pub mod Front
 pub mod Gate
 pub mod Recovery
 pub mod Placing
+pub mod Content

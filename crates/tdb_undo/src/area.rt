@@ -19,6 +19,9 @@ pub(crate) const RECOVERY_START: u64 = 44;
 /// How many bytes the header of the undo area has.
 pub(crate) const HEADER_LEN: u64 = 24;
 
+/// Where the old length of the file stands in that header, and behind it the length of the content.
+pub(crate) const OLD_LEN: u64 = 8;
+
 /// Where the gate word stands in that header.
 pub(crate) const GATE: u64 = 20;
 

@@ -2,6 +2,7 @@
 #![tactic(auto)]
 
 mod area;
+mod content;
 mod emptying;
 mod front;
 mod gate;
@@ -10,6 +11,7 @@ mod pieces;
 mod placing;
 mod recovering;
 mod refusal;
+mod runs;
 mod testing;
 #[cfg(test)]
 mod tests;
@@ -17,7 +19,9 @@ mod undoing;
 mod window;
 mod writing;
 
+pub use crate::content::put_content;
 pub use crate::gate::{open_gate, shut_gate};
 pub use crate::placing::ensure;
 pub use crate::recovering::{needs_recovery, recover};
 pub use crate::refusal::UndoRefusal;
+pub use crate::runs::Runs;

@@ -2,7 +2,9 @@
 
 ghost use Rattle.std.specs.Prelude.{◌≡◌};
 
-use crate::{UndoRefusal, ensure, needs_recovery, open_gate, recover, shut_gate};
+use crate::{
+    Runs, UndoRefusal, ensure, needs_recovery, open_gate, put_content, recover, shut_gate,
+};
 use std::alloc::{AllocError, Global};
 use std::test::Fail;
 use tdb_disk::{Call, Disk, FuseDisk, MemDisk, Pick};
@@ -345,6 +347,42 @@ fn places_areas(rt: HostRuntime) -> Result<(), Fail> {
             let mut failing = MemDisk::new(alloc, &bytes)?;
             failing.fail(call, nth)?;
             assert!(rt; !replace_area(&mut failing, 72));
+        }
+    }
+    Ok(())
+}
+
+/// Fills the undo area of a file of at least 48 bytes with two runs.
+fn fill<D: Disk>(d: &mut D, runs: &Runs) -> bool {
+    match d.len() {
+        Ok(len) if len >= 48 && len < 1 << 20 => put_content(d, &HEADER, 4096, runs).is_ok(),
+        _ => false,
+    }
+}
+
+// The content that was filled in is that of the file with the open gate, and opening the gate makes it that file.
+#[test]
+fn fills_the_area(rt: HostRuntime) -> Result<(), Fail> {
+    let alloc = rt.alloc();
+    let mut bytes = file(alloc, 8192)?;
+    put_word(&mut bytes, 44, 4096);
+    put_word(&mut bytes, 4100, 4072);
+    let mut runs = Runs::new(alloc);
+    runs.push((48, 4))?;
+    runs.push((4089, 1))?;
+    let mut disk = MemDisk::new(alloc, &bytes)?;
+    assert!(rt; fill(&mut disk, &runs));
+    assert_eq!(rt; disk.syncs(), 1);
+    let mut want = open_file(alloc, false)?;
+    put_word(&mut want, 48, 0);
+    put(&mut want, 4089, b"1");
+    put_word(&mut want, 4116, GATE_SHUT);
+    assert!(rt; disk.as_slice() == want.as_slice());
+    for (call, count) in [(Call::Write, 6), (Call::Read, 4), (Call::Sync, 1)] {
+        for nth in 0..count {
+            let mut failing = MemDisk::new(alloc, &bytes)?;
+            failing.fail(call, nth)?;
+            assert!(rt; !fill(&mut failing, &runs));
         }
     }
     Ok(())
