@@ -1,0 +1,4 @@
+pub mod Pages
+pub mod Part
+pub mod Stock
+pub mod Txn

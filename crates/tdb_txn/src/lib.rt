@@ -1,0 +1,17 @@
+//! A transaction: pages of a file that are changed in memory, and transactions within it.
+#![tactic(auto)]
+
+mod overlay_on;
+mod page;
+mod pages;
+mod part;
+mod reading;
+mod refusal;
+#[cfg(test)]
+mod tests;
+mod txn;
+mod writing;
+
+pub use crate::overlay_on::OverlayOn;
+pub use crate::refusal::TxnRefusal;
+pub use crate::txn::Txn;
