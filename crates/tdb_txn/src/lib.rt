@@ -1,12 +1,16 @@
 //! A transaction: pages of a file that are changed in memory, and transactions within it.
 #![tactic(auto)]
 
+mod applying;
+mod gate_word;
 mod overlay_on;
 mod page;
 mod pages;
 mod part;
+mod planned;
 mod reading;
 mod refusal;
+mod states;
 #[cfg(test)]
 mod tests;
 mod txn;
@@ -14,4 +18,5 @@ mod writing;
 
 pub use crate::overlay_on::OverlayOn;
 pub use crate::refusal::TxnRefusal;
+pub use crate::states::{Applied, Filled, Prepared, Settled};
 pub use crate::txn::Txn;

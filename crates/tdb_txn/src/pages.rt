@@ -93,6 +93,18 @@ impl Pages {
         }
     }
 
+    /// The bytes of a page, where it is there.
+    pub(crate) fn bytes(&self, number: u64) -> Option<&[u8]>
+        ensures there { IfSome result (λ page. page_at (page_list self.now) number ≡ Some page.now) }
+        ensures whole { IfSome result (λ page. length page.now ≡ page_size) }
+        ensures none { IfNone result (page_at (page_list self.now) number ≡ None) }
+    {
+        match self.find(number) {
+            Some(at) => Some(&self.list[at].bytes),
+            None => None,
+        }
+    }
+
     /// Writes over bytes of a page that is there.
     pub(crate) fn patch(&mut self, number: u64, within: usize, piece: &[u8])
         requires there { HasPage (page_list self.old) number }
