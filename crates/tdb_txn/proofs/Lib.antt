@@ -4,3 +4,4 @@ pub mod PagesMet
 pub mod Words
 pub mod WrittenOut
 pub mod StatesKept
+pub mod GateShut

@@ -5,6 +5,8 @@ use Rattle.tdb_disk.specs.Stop.{Leaves, Quiet}
 use Rattle.tdb_words.specs.declared.record.TheConstants.{GATE_OPEN}
 use Rattle.tdb_space.specs.Accepted.{Accept}
 use Rattle.tdb_space.specs.Extents.{times}
+use Rattle.tdb_space.specs.Form.{form_of}
+use Rattle.tdb_space.specs.Moved.{StaysAccepted}
 use Rattle.tdb_space.specs.Scheme.{Scheme, Within, with_gate}
 use Rattle.tdb_space.specs.Planned.{IsPlanned, settled_with, finished}
 use Rattle.tdb_txn.specs.Pages.{byte_over}
@@ -64,3 +66,8 @@ pub record IsSettled (plan : Plan) (h : History) (a b : List ℕ) : Type 0 where
 pub record IsFinished (plan : Plan) (h : History) (a b : List ℕ) : Type 0 where
   pub quiet : Quiet h
   pub file : seen h ≡ finished (scheme_of plan) a b
+
+-- the commit is undone: the file is accepted with all that image a holds, on a quiet disk
+pub record IsUndone (h : History) (a : List ℕ) : Type 0 where
+  pub quiet : Quiet h
+  pub stays : StaysAccepted (form_of a) a (seen h)

@@ -58,7 +58,7 @@ impl Filled {
 }
 
 impl Prepared {
-    ghost use Rattle.tdb_txn.specs.Commit.{IsPrepared, IsApplied};
+    ghost use Rattle.tdb_txn.specs.Commit.{IsPrepared, IsApplied, IsUndone};
     ghost use Rattle.tdb_txn.specs.CommitStates.{prepared_plan, applied_plan, plan_length};
 
     /// Writes what the transaction changed. A stop leaves a file that opens to the map before the commit.
@@ -80,6 +80,21 @@ impl Prepared {
             plan.new_length as u64,
         )?;
         Ok(Applied { plan })
+    }
+
+    /// Shuts the gate with nothing written, and syncs: the commit is given up. A stop leaves a file that opens to the map before it.
+    pub fn undo<D: Disk>(self, d: &mut D) -> Result<(), Io>
+        requires { D.size d.old ≡ plan_length (prepared_plan self) }
+        ensures stops { IsTrue D.tells → (a b : List ℕ) → IsPrepared (prepared_plan self) (D.history d.old) a b → LeavesOnly (D.history d.old) (D.history d.new) (Reopens a) }
+        ensures undone { OnOk result (IsTrue D.tells → (a b : List ℕ) → IsPrepared (prepared_plan self) (D.history d.old) a b → IsUndone (D.history d.new) a) }
+        ensures size { D.size d.new ≡ D.size d.old }
+        ensures cause { HasCause (D.faults d.old) (D.faults d.new) result }
+        ensures syncs { OnOk result (RoseBy 1 (D.syncs d.old) (D.syncs d.new)) }
+        ensures at_most { RoseUpTo 1 (D.syncs d.old) (D.syncs d.new) }
+    {
+        let Prepared { plan } = self;
+        set_word(d, plan.gate(), word_bytes(GATE_SHUT, plan.order))?;
+        Ok(())
     }
 
     /// Gives the commit up, with no call on the disk: the gate stays open.
