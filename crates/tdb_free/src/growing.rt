@@ -94,6 +94,7 @@ pub fn take<S: Space>(s: &mut S, rec_len: u64, limit: u64) -> Result<Hand, FreeR
     ensures lengths { IfErr result (λ e. SaysLengths (S.size s.old) rec_len e) }
     ensures stands { IfOk result (λ h. Stands (S.form s.old) (S.size s.new) h.0 h.1) }
     ensures long { IfOk result (λ h. rec_len ≤ h.1) }
+    ensures no_longer { IfOk result (λ h. h.1 < rec_len + 36) }
     ensures size { (S.size s.new ≡ S.size s.old) ⊎ (grown_length (S.size s.old) (24 + rec_len) limit ≡ Some (S.size s.new)) }
     ensures wrote { Wrote S.Space s.old s.new }
     ensures cause { HasCauseOf Io (S.faults s.old) (S.faults s.new) result }

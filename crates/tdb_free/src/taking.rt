@@ -111,6 +111,7 @@ fn take_from<S: Space>(s: &mut S, spot: &Spot, rec_len: u32) -> Result<Hand, Io>
         → OnlyListChanges (S.form s.old) (S.image s.old) (S.image s.new) offs []) }
     ensures stands { IfOk result (λ h. Stands (S.form s.old) (S.size s.old) h.0 h.1) }
     ensures long { IfOk result (λ h. rec_len ≤ h.1) }
+    ensures no_longer { IfOk result (λ h. h.1 < rec_len + 36) }
     ensures size { S.size s.new ≡ S.size s.old }
     ensures wrote { Wrote S.Space s.old s.new }
     ensures cause { HasCause (S.faults s.old) (S.faults s.new) result }
@@ -143,6 +144,7 @@ pub fn take_fit<S: Space>(s: &mut S, rec_len: u64) -> Result<Option<Hand>, Io>
         → OnlyListChanges (S.form s.old) (S.image s.old) (S.image s.new) offs [] }
     ensures stands { IfOk result (λ taken. IfSome taken (λ h. Stands (S.form s.old) (S.size s.old) h.0 h.1)) }
     ensures long { IfOk result (λ taken. IfSome taken (λ h. rec_len ≤ h.1)) }
+    ensures no_longer { IfOk result (λ taken. IfSome taken (λ h. h.1 < rec_len + 36)) }
     ensures size { S.size s.new ≡ S.size s.old }
     ensures wrote { Wrote S.Space s.old s.new }
     ensures cause { HasCause (S.faults s.old) (S.faults s.new) result }
