@@ -1,0 +1,118 @@
+-- What a turn of a command makes of the image.
+use Rattle.std.specs.Prelude.{◌≡◌, ℕ, ◌+◌, ◌≤◌, ◌<◌, ◌⊎◌, Bool, true, false, List, ◌∷◌, ◌++◌, length, Option, None, Some, Contains}
+use Rattle.std.specs.Map.{update}
+use Rattle.tdb_space.specs.Form.{Form}
+use Rattle.tdb_space.specs.Pairs.{map_of, home, same_key}
+use Rattle.tdb_space.specs.Extents.{HandPair}
+use Rattle.tdb_space.specs.Accepted.{AcceptWith}
+use Rattle.tdb_space.specs.Stays.{ChangesOnly}
+use Rattle.tdb_space.specs.Chain.{free_of}
+use Rattle.tdb_free.specs.Growth.{TakenBy, NoRoom}
+use Rattle.tdb_chain.specs.declared.place.Place.{Place}
+use Rattle.tdb_chain.specs.Place.{HoldsKey, IsFound}
+use Rattle.tdb_chain.specs.Changed.{hand_at}
+use Rattle.tdb_locks.specs.declared.turn.Reply.{Reply}
+use Rattle.tdb_steps.specs.declared.stage.Stage.{Stage}
+use Rattle.tdb_steps.specs.declared.stage.Stage.TheVariants.{Begun, Chained, Looked, Listed, Taken, Changed, Ending}
+use Rattle.tdb_steps.specs.declared.stage.Next.{Next}
+use Rattle.tdb_steps.specs.declared.stage.Next.TheVariants.{Step, Done}
+use Rattle.tdb_steps.specs.Asked.{Asked}
+use Rattle.tdb_steps.specs.Stages.{hands_in, hands_after, HoldsChain, Knows, KnowsAfter, is_changed, is_changed_after}
+
+-- The map after a turn, by whether the change was made before it and is made after it: only the turn that makes the change changes
+-- the map, and at the key alone, to the value that the command leaves there.
+abbrev pub MapBy : Bool → Bool → Form → List ℕ → List ℕ → List ℕ → Asked → Type 0
+MapBy false true f a b key asked = (other : List ℕ) → map_of f b other ≡ update same_key (map_of f a) key (asked.left (map_of f a key)) other
+MapBy _ _ f a b key asked = (other : List ℕ) → map_of f b other ≡ map_of f a other
+
+-- a reply that says that memory or space is wanting
+pub data IsWant (reply : Reply) : Type 0 where
+  memory : reply ≡ Reply.Memory → IsWant reply
+  full : (len need : ℕ) → reply ≡ Reply.Full len need → IsWant reply
+
+-- What the end of a command says: after the change, that it is done; before it, what the command asks for of the key's value in the
+-- map, or that memory or space is wanting.
+abbrev pub Says : Stage → Asked → Option (List ℕ) → Next → Type 0
+Says _ asked v (Step stage) = Unit {0}
+Says (Changed hand) asked v (Done reply) = reply ≡ Reply.Ok
+Says Ending asked v (Done reply) = reply ≡ Reply.Ok
+Says _ asked v (Done reply) = IsWant reply ⊎ (reply ≡ asked.reply v)
+
+-- A turn led from image a to image b, where other hands are out that stay as they are. The new image is accepted with the hands
+-- that the command holds then, and it knows of the new image what its stage says. At most the chain of its key changed, and that
+-- only while it is locked; a turn before that changes nothing.
+pub record TurnMade (f : Form) (a b key : List ℕ) (asked : Asked) (old : Stage) (next : Next) (others : List HandPair) : Type 0 where
+  pub accepted : AcceptWith f b (hands_after next ++ others)
+  pub knows : KnowsAfter f b key asked next
+  pub only : ChangesOnly f a b (λ k. (k ≡ home f key) × HoldsChain old)
+  pub map : MapBy (is_changed old) (is_changed_after next) f a b key asked
+  pub says : Says old asked (map_of f a key) next
+
+-- what a turn from this stage makes of an image, for whatever other hands are out
+abbrev pub Makes : Form → List ℕ → List ℕ → List ℕ → Asked → Stage → Next → Type 0
+Makes f a b key asked old next =
+    (others : List HandPair) → AcceptWith f a (hands_in old ++ others) → Knows f a key asked old → TurnMade f a b key asked old next others
+
+-- A turn that takes a record of so many bytes behind its header leads to a record as the free list gives it, or as it gives it after
+-- the file has grown up to the limit. It ends with Full only where neither can be, and says how long the file is and what is needed.
+abbrev pub TakesRightly : Form → List ℕ → List ℕ → ℕ → ℕ → Option Place → Next → Type 0
+TakesRightly f a b rec_len limit found (Step (Taken place hand)) =
+    (place ≡ found) × ((hands : List HandPair) → AcceptWith f a hands → TakenBy f a b (free_of f a) rec_len limit hand)
+TakesRightly f a b rec_len limit found (Step _) = ⊥
+TakesRightly f a b rec_len limit found (Done (Reply.Full len need)) =
+    (len ≡ length a) × (need ≡ 24 + rec_len) × ((hands : List HandPair) → AcceptWith f a hands → NoRoom f a b (free_of f a) rec_len limit)
+TakesRightly f a b rec_len limit found (Done reply) = reply ≡ Reply.Memory
+
+-- A turn that links a new record in place of the old one leads to the old record as a hand, or to the end where there was none.
+abbrev pub LinkedOver : Form → List ℕ → HandPair → Option Place → Next → Type 0
+LinkedOver f a hand None next = (others : List HandPair) → AcceptWith f a (hand ∷ others) → next ≡ Step Ending
+LinkedOver f a hand (Some place) next = (others : List HandPair) → AcceptWith f a (hand ∷ others) → next ≡ Step (Changed (hand_at place))
+
+-- The old record is marked as dead exactly where a cursor stands on it; else it is a hand then, where there was one.
+abbrev pub LinksRightly : Form → List ℕ → HandPair → List ℕ → Option Place → Next → Type 0
+LinksRightly f a hand stood_on None next = (others : List HandPair) → AcceptWith f a (hand ∷ others) → next ≡ Step Ending
+LinksRightly f a hand stood_on (Some place) next = (key : List ℕ) (others : List HandPair) → AcceptWith f a (hand ∷ others) → HoldsKey f a key place
+    → (Contains stood_on place.off × (next ≡ Step Ending)) ⊎ ((Contains stood_on place.off → ⊥) × (next ≡ Step (Changed (hand_at place))))
+
+-- A store updates the record that it found where it stands exactly where the value fits, and else goes on with what it found.
+abbrev pub UpdatesRightly : ℕ → Option Place → Next → Type 0
+UpdatesRightly n None (Step stage) = stage ≡ Looked None
+UpdatesRightly n (Some place) (Step stage) = (stage ≡ Looked (Some place)) × (place.rec.rec_len < place.rec.key_len + n + 4)
+UpdatesRightly n None (Done Reply.Ok) = ⊥
+UpdatesRightly n (Some place) (Done Reply.Ok) = place.rec.key_len + n + 4 ≤ place.rec.rec_len
+UpdatesRightly n place _ = Unit {0}
+
+-- A delete marks the record that it found as dead exactly where a cursor stands on it, and else goes on with it.
+abbrev pub MarksRightly : List ℕ → Option Place → Next → Type 0
+MarksRightly stood_on None (Step stage) = ⊥
+MarksRightly stood_on (Some place) (Step stage) = (stage ≡ Looked (Some place)) × (Contains stood_on place.off → ⊥)
+MarksRightly stood_on None (Done Reply.Ok) = ⊥
+MarksRightly stood_on (Some place) (Done Reply.Ok) = Contains stood_on place.off
+MarksRightly stood_on place _ = Unit {0}
+
+-- what a look finds in an accepted image, and that the turn goes on rightly from there
+abbrev pub Finds : Form → List ℕ → List ℕ → (Option Place → Type 0) → Type 0
+Finds f a key Rightly = (others : List HandPair) → AcceptWith f a others → (place : Option Place) × IsFound f a key place × Rightly place
+
+-- The turns of a delete, in their order: after the lock of the chain the look, after that of the free list the unlinking, then the
+-- give, and the end.
+abbrev pub DeletesRightly : Form → List ℕ → List ℕ → List ℕ → Stage → Next → Type 0
+DeletesRightly f a key stood_on Begun next = next ≡ Step Chained
+DeletesRightly f a key stood_on Chained next = Finds f a key (λ place. MarksRightly stood_on place next)
+DeletesRightly f a key stood_on (Looked found) next = next ≡ Step (Listed found)
+DeletesRightly f a key stood_on (Listed (Some place)) next = (next ≡ Done Reply.Memory) ⊎ (next ≡ Step (Changed (hand_at place)))
+DeletesRightly f a key stood_on (Listed None) next = ⊥
+DeletesRightly f a key stood_on (Taken found hand) next = ⊥
+DeletesRightly f a key stood_on (Changed hand) next = next ≡ Step Ending
+DeletesRightly f a key stood_on Ending next = next ≡ Done Reply.Ok
+
+-- The turns of a store, in their order: after the lock of the chain the look, after that of the free list the take and the link, then
+-- the give where an old record was taken out, and the end.
+abbrev pub StoresRightly : Form → List ℕ → List ℕ → List ℕ → ℕ → ℕ → ℕ → List ℕ → Stage → Next → Type 0
+StoresRightly f a b key value_len rec_len limit stood_on Begun next = next ≡ Step Chained
+StoresRightly f a b key value_len rec_len limit stood_on Chained next = Finds f a key (λ place. UpdatesRightly value_len place next)
+StoresRightly f a b key value_len rec_len limit stood_on (Looked found) next = next ≡ Step (Listed found)
+StoresRightly f a b key value_len rec_len limit stood_on (Listed found) next = TakesRightly f a b rec_len limit found next
+StoresRightly f a b key value_len rec_len limit stood_on (Taken found hand) next = LinksRightly f a hand stood_on found next
+StoresRightly f a b key value_len rec_len limit stood_on (Changed hand) next = next ≡ Step Ending
+StoresRightly f a b key value_len rec_len limit stood_on Ending next = next ≡ Done Reply.Ok

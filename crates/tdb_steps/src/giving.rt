@@ -1,0 +1,31 @@
+// The turn that gives the old record of a key to the free list.
+
+ghost use Rattle.std.specs.Prelude.{◌≡◌, ◌≤◌, ◌<◌, ◌^◌, ℕ, List, IsTrue, IfOk};
+ghost use Rattle.tdb_disk.specs.Count.{HasCause};
+ghost use Rattle.tdb_space.specs.Frame.{Wrote};
+ghost use Rattle.tdb_space.specs.Spare.{RoomForAll};
+ghost use Rattle.tdb_steps.specs.Asked.{Asked};
+ghost use Rattle.tdb_steps.specs.Turns.{Makes};
+ghost use Rattle.tdb_steps.specs.declared.stage.Stage.TheVariants as Stage;
+ghost use Rattle.tdb_steps.specs.declared.stage.Next.TheVariants as Next;
+
+use crate::stage::{Next, Stage};
+use tdb_free::give;
+use tdb_space::{Hand, Io, Space};
+
+/// Gives the old record back. The command has nothing to write then.
+pub(crate) fn give_back<S: Space>(s: &mut S, hand: Hand) -> Result<Next, Io>
+    requires room { RoomForAll (S.spare s.old) 5 40 }
+    ensures made { IfOk result (λ next. IsTrue S.tells → S.size s.old < 2 ^ 32 → (key : List ℕ) (asked : Asked)
+        → Makes (S.form s.old) (S.image s.old) (S.image s.new) key asked (Stage.Changed hand) next) }
+    ensures ending { IfOk result (λ next. next ≡ Next.Step Stage.Ending) }
+    ensures size { S.size s.new ≡ S.size s.old }
+    ensures wrote { Wrote S.Space s.old s.new }
+    ensures cause { HasCause (S.faults s.old) (S.faults s.new) result }
+    ensures bytes_read { S.bytes_read s.old ≤ S.bytes_read s.new }
+{
+    match give(s, hand) {
+        Ok(()) => Ok(Next::Step(Stage::Ending)),
+        Err(_fault) => Err(Io),
+    }
+}

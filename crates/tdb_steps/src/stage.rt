@@ -1,0 +1,42 @@
+// What a command knows and holds between two of its turns.
+
+use tdb_chain::Place;
+use tdb_locks::Reply;
+use tdb_space::Hand;
+
+/// What a command knows and holds between two of its turns. Nothing else is remembered.
+///
+/// It can't be dropped, since it may hold a record that is in no list.
+#[derive(Debug)]
+pub enum Stage {
+    /// No turn was taken.
+    Begun,
+
+    /// The chain of the key is locked.
+    Chained,
+
+    /// The key was looked up in its chain: its record, if there is one. The command goes on.
+    Looked(Option<Place>),
+
+    /// The same, and the free list is locked too.
+    Listed(Option<Place>),
+
+    /// The same, and a record for the new value was taken from the free list.
+    Taken(Option<Place>, Hand),
+
+    /// The change is made, and the old record was taken out of its chain.
+    Changed(Hand),
+
+    /// The change is made, and no record is held.
+    Ending,
+}
+
+/// What a turn leads to.
+#[derive(Debug)]
+pub enum Next {
+    /// The command goes on.
+    Step(Stage),
+
+    /// The command is done.
+    Done(Reply),
+}
