@@ -26,7 +26,7 @@ use Rattle.tdb_words.specs.declared.record.TheConstants.{USED}
 use Rattle.tdb_space.specs.Record.{key_at, data_at}
 use Rattle.tdb_steps.specs.declared.flag.Flag.{Flag}
 use Rattle.tdb_steps.specs.declared.flag.Flag.TheVariants as Flags
-use Rattle.tdb_steps.specs.Asked.{Asked, deleted, deletes, stored, stores}
+use Rattle.tdb_steps.specs.Asked.{Asked, appends, joined, deleted, deletes, stored, stores}
 use Rattle.tdb_steps.specs.Stages.{IsKnown, hands_after, HoldsChain, KnowsAfter, is_changed, is_changed_after, IsEnd}
 use Rattle.tdb_steps.specs.Turns.{MapBy, Says, TurnMade, LinkedOver, LinksRightly, MarksRightly}
 use Rattle.tdb_steps.specs.Turns.IsWant.{full}
@@ -180,3 +180,37 @@ pub marked_rightly : (stood_on : List ℕ) (place : Place) (next : Next) → IsE
 marked_rightly stood_on place (Next.Step stage) ended stands = absurd ended
 marked_rightly stood_on place (Next.Done Reply.Ok) ended stands = stands
 marked_rightly stood_on place (Next.Done reply) ended stands = tt
+
+-- an append that has looked is a store of the joined value
+module _ (f : Form) (a b key more bytes : List ℕ) (same : bytes ≡ joined (map_of f a key) more) where
+  as_map : (x y : Bool) → MapBy x y f a b key (stores Flags.Replace bytes) → MapBy x y f a b key (appends more)
+  as_map true true set = set
+  as_map true false set = set
+  as_map false true set = λ other. set other ∙ ap (λ v. update same_key (map_of f a) key (Some v) other) same
+  as_map false false set = set
+
+  as_known : (img : List ℕ) (place : Option Place) → IsKnown f img key (stores Flags.Replace bytes) place → IsKnown f img key (appends more) place
+  as_known img place known = record { found = known.found; granted = refl }
+
+  as_knows : (img : List ℕ) (next : Next) → KnowsAfter f img key (stores Flags.Replace bytes) next → KnowsAfter f img key (appends more) next
+  as_knows img (Next.Step Stage.Begun) known = tt
+  as_knows img (Next.Step Stage.Chained) known = tt
+  as_knows img (Next.Step (Stage.Looked place)) known = as_known img place known
+  as_knows img (Next.Step (Stage.Listed place)) known = as_known img place known
+  as_knows img (Next.Step (Stage.Taken place hand)) known = as_known img place known
+  as_knows img (Next.Step (Stage.Changed hand)) known = tt
+  as_knows img (Next.Step Stage.Ending) known = tt
+  as_knows img (Next.Done reply) known = tt
+
+  as_says : (next : Next) → Says Stage.Chained (stores Flags.Replace bytes) (map_of f a key) next → Says Stage.Chained (appends more) (map_of f a key) next
+  as_says (Next.Step stage) says = tt
+  as_says (Next.Done reply) says = says
+
+  pub as_append : (next : Next) (others : List HandPair) → TurnMade f a b key (stores Flags.Replace bytes) Stage.Chained next others → TurnMade f a b key (appends more) Stage.Chained next others
+  as_append next others T = record {
+    accepted = T.accepted;
+    knows = as_knows b next T.knows;
+    only = T.only;
+    map = as_map false (is_changed_after next) T.map;
+    says = as_says next T.says;
+  }

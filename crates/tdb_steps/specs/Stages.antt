@@ -108,3 +108,8 @@ IsIdle _ = ⊥
 abbrev pub IsEnd : Next → Type 0
 IsEnd (Step stage) = ⊥
 IsEnd (Done reply) = Unit {0}
+
+-- the command goes on
+abbrev pub IsStep : Next → Type 0
+IsStep (Step stage) = Unit {0}
+IsStep (Done reply) = ⊥

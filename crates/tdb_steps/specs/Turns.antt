@@ -17,7 +17,7 @@ use Rattle.tdb_steps.specs.declared.stage.Stage.TheVariants.{Begun, Chained, Loo
 use Rattle.tdb_steps.specs.declared.stage.Next.{Next}
 use Rattle.tdb_steps.specs.declared.stage.Next.TheVariants.{Step, Done}
 use Rattle.tdb_steps.specs.Asked.{Asked}
-use Rattle.tdb_steps.specs.Stages.{hands_in, hands_after, HoldsChain, Knows, KnowsAfter, is_changed, is_changed_after}
+use Rattle.tdb_steps.specs.Stages.{hands_in, hands_after, HoldsChain, Knows, KnowsAfter, is_changed, is_changed_after, IsEnd}
 
 -- The map after a turn, by whether the change was made before it and is made after it: only the turn that makes the change changes
 -- the map, and at the key alone, to the value that the command leaves there.
@@ -116,3 +116,8 @@ StoresRightly f a b key value_len rec_len limit stood_on (Listed found) next = T
 StoresRightly f a b key value_len rec_len limit stood_on (Taken found hand) next = LinksRightly f a hand stood_on found next
 StoresRightly f a b key value_len rec_len limit stood_on (Changed hand) next = next ≡ Step Ending
 StoresRightly f a b key value_len rec_len limit stood_on Ending next = next ≡ Done Reply.Ok
+
+-- the turns of a command that only looks: after the lock of the chain the look, which ends it
+abbrev pub LooksRightly : Stage → Next → Type 0
+LooksRightly Begun next = next ≡ Step Chained
+LooksRightly _ next = IsEnd next

@@ -17,7 +17,7 @@ use tdb_space::{Io, Space};
 /// The value of a key. The reply is `Value`, `KeyMissing`, or `Memory` where memory for the value is wanting.
 ///
 /// It reads the chain up to the key's record, and then the value at once.
-pub fn fetch<S: Space>(alloc: Global, s: &mut S, key: &[u8]) -> Result<Reply, Io>
+pub(crate) fn fetch<S: Space>(alloc: Global, s: &mut S, key: &[u8]) -> Result<Reply, Io>
     requires short { length key.now < 2 ^ 32 }
     requires chains { 0 < (S.form s.old).chains }
     ensures told { IfOk result (λ reply. IsTrue S.tells → (hands : List HandPair) → AcceptWith (S.form s.old) (S.image s.old) hands
@@ -37,7 +37,7 @@ pub fn fetch<S: Space>(alloc: Global, s: &mut S, key: &[u8]) -> Result<Reply, Io
 }
 
 /// Whether a key is there: `Yes` or `No`. It reads the chain up to the key's record.
-pub fn has<S: Space>(s: &mut S, key: &[u8]) -> Result<Reply, Io>
+pub(crate) fn has<S: Space>(s: &mut S, key: &[u8]) -> Result<Reply, Io>
     requires short { length key.now < 2 ^ 32 }
     requires chains { 0 < (S.form s.old).chains }
     ensures told { IfOk result (λ reply. IsTrue S.tells → (hands : List HandPair) → AcceptWith (S.form s.old) (S.image s.old) hands

@@ -19,7 +19,7 @@ use tdb_locks::{Reply, Spots};
 use tdb_space::{Io, Space};
 
 /// Updates the record that was found where it stands, where the value fits; else the command goes on.
-fn update_found<S: Space>(s: &mut S, place: Place, value: &[u8]) -> Result<Next, Io>
+pub(crate) fn update_found<S: Space>(s: &mut S, place: Place, value: &[u8]) -> Result<Next, Io>
     requires value { length value.now < 2 ^ 33 }
     requires within { StandsWithin place (S.size s.old) }
     ensures made { IfOk result (λ next. IsTrue S.tells → (key : List ℕ) (flag : Flag) (others : List HandPair) → AcceptWith (S.form s.old) (S.image s.old) others
