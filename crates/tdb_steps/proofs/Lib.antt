@@ -1,2 +1,3 @@
 pub mod Made
 pub mod Rooms
+pub mod Knowledge

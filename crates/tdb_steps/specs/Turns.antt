@@ -5,8 +5,9 @@ use Rattle.tdb_space.specs.Form.{Form}
 use Rattle.tdb_space.specs.Pairs.{map_of, home, same_key}
 use Rattle.tdb_space.specs.Extents.{HandPair}
 use Rattle.tdb_space.specs.Accepted.{AcceptWith}
-use Rattle.tdb_space.specs.Stays.{ChangesOnly}
+use Rattle.tdb_space.specs.Stays.{ChangesOnly, ChainStays}
 use Rattle.tdb_space.specs.Chain.{free_of}
+use Rattle.tdb_free.specs.FreeList.{GivenBack}
 use Rattle.tdb_free.specs.Growth.{TakenBy, NoRoom}
 use Rattle.tdb_chain.specs.declared.place.Place.{Place}
 use Rattle.tdb_chain.specs.Place.{HoldsKey, IsFound}
@@ -94,17 +95,21 @@ MarksRightly stood_on place _ = Unit {0}
 abbrev pub Finds : Form → List ℕ → List ℕ → (Option Place → Type 0) → Type 0
 Finds f a key Rightly = (others : List HandPair) → AcceptWith f a others → (place : Option Place) × IsFound f a key place × Rightly place
 
+-- A turn that gives the old record back makes of the free list what a give makes of it.
+abbrev pub GivesRightly : Form → List ℕ → List ℕ → HandPair → Next → Type 0
+GivesRightly f a b hand next = (next ≡ Step Ending) × ((others : List HandPair) → AcceptWith f a (hand ∷ others) → GivenBack f a b hand others)
+
 -- The turns of a delete, in their order: after the lock of the chain the look, after that of the free list the unlinking, then the
 -- give, and the end.
-abbrev pub DeletesRightly : Form → List ℕ → List ℕ → List ℕ → Stage → Next → Type 0
-DeletesRightly f a key stood_on Begun next = next ≡ Step Chained
-DeletesRightly f a key stood_on Chained next = Finds f a key (λ place. MarksRightly stood_on place next)
-DeletesRightly f a key stood_on (Looked found) next = next ≡ Step (Listed found)
-DeletesRightly f a key stood_on (Listed (Some place)) next = (next ≡ Done Reply.Memory) ⊎ (next ≡ Step (Changed (hand_at place)))
-DeletesRightly f a key stood_on (Listed None) next = ⊥
-DeletesRightly f a key stood_on (Taken found hand) next = ⊥
-DeletesRightly f a key stood_on (Changed hand) next = next ≡ Step Ending
-DeletesRightly f a key stood_on Ending next = next ≡ Done Reply.Ok
+abbrev pub DeletesRightly : Form → List ℕ → List ℕ → List ℕ → List ℕ → Stage → Next → Type 0
+DeletesRightly f a b key stood_on Begun next = next ≡ Step Chained
+DeletesRightly f a b key stood_on Chained next = Finds f a key (λ place. MarksRightly stood_on place next)
+DeletesRightly f a b key stood_on (Looked found) next = next ≡ Step (Listed found)
+DeletesRightly f a b key stood_on (Listed (Some place)) next = (next ≡ Done Reply.Memory) ⊎ (next ≡ Step (Changed (hand_at place)))
+DeletesRightly f a b key stood_on (Listed None) next = ⊥
+DeletesRightly f a b key stood_on (Taken found hand) next = ⊥
+DeletesRightly f a b key stood_on (Changed hand) next = GivesRightly f a b hand next
+DeletesRightly f a b key stood_on Ending next = next ≡ Done Reply.Ok
 
 -- The turns of a store, in their order: after the lock of the chain the look, after that of the free list the take and the link, then
 -- the give where an old record was taken out, and the end.
@@ -114,10 +119,17 @@ StoresRightly f a b key value_len rec_len limit stood_on Chained next = Finds f 
 StoresRightly f a b key value_len rec_len limit stood_on (Looked found) next = next ≡ Step (Listed found)
 StoresRightly f a b key value_len rec_len limit stood_on (Listed found) next = TakesRightly f a b rec_len limit found next
 StoresRightly f a b key value_len rec_len limit stood_on (Taken found hand) next = LinksRightly f a hand stood_on found next
-StoresRightly f a b key value_len rec_len limit stood_on (Changed hand) next = next ≡ Step Ending
+StoresRightly f a b key value_len rec_len limit stood_on (Changed hand) next = GivesRightly f a b hand next
 StoresRightly f a b key value_len rec_len limit stood_on Ending next = next ≡ Done Reply.Ok
 
 -- the turns of a command that only looks: after the lock of the chain the look, which ends it
 abbrev pub LooksRightly : Stage → Next → Type 0
 LooksRightly Begun next = next ≡ Step Chained
 LooksRightly _ next = IsEnd next
+
+-- What a command knows between two of its turns it still knows after any change that leaves the chain of its key: so it does after the
+-- turns of other openers, since it has that chain locked.
+abbrev pub KnowledgeStays : Type 0
+KnowledgeStays =
+    (f : Form) (a b key : List ℕ) (asked : Asked) (stage : Stage) (hands news : List HandPair) → AcceptWith f a hands → AcceptWith f b news → length a ≤ length b
+    → ChainStays f a b (home f key) → Knows f a key asked stage → Knows f b key asked stage

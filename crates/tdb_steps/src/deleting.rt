@@ -30,7 +30,7 @@ pub fn delete_turn<S: Space>(
     requires chains { 0 < (S.form s.old).chains }
     requires stage { OfDelete stage (S.size s.old) (S.spare s.old) }
     ensures made { IfOk result (λ next. IsTrue S.tells → S.size s.old < 2 ^ 32 → Makes (S.form s.old) (S.image s.old) (S.image s.new) key.now deletes stage next) }
-    ensures rightly { IfOk result (λ next. IsTrue S.tells → S.size s.old < 2 ^ 32 → DeletesRightly (S.form s.old) (S.image s.old) key.now stood_on.now stage next) }
+    ensures rightly { IfOk result (λ next. IsTrue S.tells → S.size s.old < 2 ^ 32 → DeletesRightly (S.form s.old) (S.image s.old) (S.image s.new) key.now stood_on.now stage next) }
     ensures leads { IfOk result (Leads (λ then. OfDelete then (S.size s.new) (S.spare s.new))) }
     ensures idle { IsIdle stage → Looked S.Space s.old s.new }
     ensures longer { S.size s.old ≤ S.size s.new }

@@ -5,7 +5,7 @@ ghost use Rattle.tdb_disk.specs.Count.{HasCause};
 ghost use Rattle.tdb_space.specs.Frame.{Wrote};
 ghost use Rattle.tdb_space.specs.Spare.{RoomForAll};
 ghost use Rattle.tdb_steps.specs.Asked.{Asked};
-ghost use Rattle.tdb_steps.specs.Turns.{Makes};
+ghost use Rattle.tdb_steps.specs.Turns.{Makes, GivesRightly};
 ghost use Rattle.tdb_steps.specs.declared.stage.Stage.TheVariants as Stage;
 ghost use Rattle.tdb_steps.specs.declared.stage.Next.TheVariants as Next;
 
@@ -18,6 +18,7 @@ pub(crate) fn give_back<S: Space>(s: &mut S, hand: Hand) -> Result<Next, Io>
     requires room { RoomForAll (S.spare s.old) 5 40 }
     ensures made { IfOk result (λ next. IsTrue S.tells → S.size s.old < 2 ^ 32 → (key : List ℕ) (asked : Asked)
         → Makes (S.form s.old) (S.image s.old) (S.image s.new) key asked (Stage.Changed hand) next) }
+    ensures rightly { IfOk result (λ next. IsTrue S.tells → S.size s.old < 2 ^ 32 → GivesRightly (S.form s.old) (S.image s.old) (S.image s.new) hand next) }
     ensures ending { IfOk result (λ next. next ≡ Next.Step Stage.Ending) }
     ensures size { S.size s.new ≡ S.size s.old }
     ensures wrote { Wrote S.Space s.old s.new }

@@ -40,3 +40,14 @@ pub enum Next {
     /// The command is done.
     Done(Reply),
 }
+
+impl Stage {
+    /// Gives the command up, with the record that it may hold. It takes no memory and changes nothing.
+    pub fn end(self) {
+        match self {
+            Stage::Begun | Stage::Chained | Stage::Looked(_) | Stage::Listed(_) | Stage::Ending =>
+                {}
+            Stage::Taken(_, hand) | Stage::Changed(hand) => hand.end(),
+        }
+    }
+}

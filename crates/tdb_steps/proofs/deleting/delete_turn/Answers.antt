@@ -23,7 +23,7 @@ returns-in-Chained-clause-rightly g c =
     let f = g.S.Space.form c.args.s.now in
     let a = g.S.Space.image c.args.s.now in
     let b = g.S.Space.image c.look_to_delete.new.s in
-    subst (λ then. IfOk c.look_to_delete.result (λ next. IsTrue g.S.Space.tells → g.S.Space.size c.args.s.now < 2 ^ 32 → DeletesRightly f a c.args.key.now c.args.stood_on.now then next)) (sym c.in-Chained.is)
+    subst (λ then. IfOk c.look_to_delete.result (λ next. IsTrue g.S.Space.tells → g.S.Space.size c.args.s.now < 2 ^ 32 → DeletesRightly f a b c.args.key.now c.args.stood_on.now then next)) (sym c.in-Chained.is)
     (IfOk-weaker c.look_to_delete.result (λ next. IsTrue g.S.Space.tells → Finds f a c.args.key.now (λ place. MarksRightly c.args.stood_on.now place next))
     (λ next. IsTrue g.S.Space.tells → g.S.Space.size c.args.s.now < 2 ^ 32 → Finds f a c.args.key.now (λ place. MarksRightly c.args.stood_on.now place next))
     (λ next rightly told small. rightly told) c.look_to_delete.ensures.rightly)
@@ -49,3 +49,11 @@ returns-in-Changed-clause-made g c =
     (IfOk-weaker c.give_back.result (λ next. IsTrue g.S.Space.tells → g.S.Space.size c.args.s.now < 2 ^ 32 → (key : List ℕ) (asked : Asked) → Makes f a b key asked (Stage.Changed c.in-Changed.hand) next)
     (λ next. IsTrue g.S.Space.tells → g.S.Space.size c.args.s.now < 2 ^ 32 → Makes f a b key deletes (Stage.Changed c.in-Changed.hand) next)
     (λ next made told small. made told small key deletes) c.give_back.ensures.made)
+
+pub returns-in-Changed-clause-rightly : goal.returns-in-Changed-clause-rightly
+returns-in-Changed-clause-rightly g c =
+    let f = g.S.Space.form c.args.s.now in
+    let a = g.S.Space.image c.args.s.now in
+    let b = g.S.Space.image c.give_back.new.s in
+    subst (λ then. IfOk c.give_back.result (λ next. IsTrue g.S.Space.tells → g.S.Space.size c.args.s.now < 2 ^ 32 → DeletesRightly f a b c.args.key.now c.args.stood_on.now then next))
+    (sym c.in-Changed.is) c.give_back.ensures.rightly

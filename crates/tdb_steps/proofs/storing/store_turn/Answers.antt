@@ -65,3 +65,12 @@ returns-in-Changed-clause-made g c =
     (IfOk-weaker c.give_back.result (λ next. IsTrue g.S.Space.tells → g.S.Space.size c.args.s.now < 2 ^ 32 → (key : List ℕ) (asked : Asked) → Makes f a b key asked (Stage.Changed c.in-Changed.hand) next)
     (λ next. IsTrue g.S.Space.tells → g.S.Space.size c.args.s.now < 2 ^ 32 → Makes f a b key (stores c.args.flag c.args.value.now) (Stage.Changed c.in-Changed.hand) next)
     (λ next made told small. made told small key (stores c.args.flag c.args.value.now)) c.give_back.ensures.made)
+
+pub returns-in-Changed-clause-rightly : goal.returns-in-Changed-clause-rightly
+returns-in-Changed-clause-rightly g c =
+    let f = g.S.Space.form c.args.s.now in
+    let a = g.S.Space.image c.args.s.now in
+    let b = g.S.Space.image c.give_back.new.s in
+    subst (λ then. IfOk c.give_back.result (λ next. IsTrue g.S.Space.tells → g.S.Space.size c.args.s.now < 2 ^ 32
+    → StoresRightly f a b c.args.key.now (length c.args.value.now) (rec_len_for (length c.args.key.now) (length c.args.value.now)) c.args.limit c.args.stood_on.now then next))
+    (sym c.in-Changed.is) c.give_back.ensures.rightly
