@@ -9,7 +9,7 @@ use Rattle.tdb_top.specs.declared.halt.Halt.TheVariants.{Refused, Device, Memory
 use Rattle.tdb_top.specs.declared.create.Creation as Making
 use Rattle.tdb_top.specs.CommandLine.{Line, file_of}
 use Rattle.tdb_top.specs.Create.{CreateCause}
-use Rattle.tdb_top.specs.Opening.{CanOpen, HaltsRightly}
+use Rattle.tdb_top.specs.Opening.{opened_bytes, CanOpen, HaltsRightly}
 use Rattle.tdb_top.specs.Ending.{Ending, created, missing, there_already, refused, Opens, Makes, Answers, LineCause, settled, failed, wanting, opened, was_refused, was_missing, was_made, was_there, Untaken, MadeSo, ending_of, of_halt}
 
 -- a count that rose from a later value rose
@@ -18,7 +18,7 @@ rose_earlier before mid now later rose = omega arith
 
 module _ (line : Line) (held : Option History) (before after : ℕ) where
   -- a file that was opened
-  pub opened_cause : (h : History) (e : Ending) → held ≡ Some h → CanOpen (seen h) → Answers (seen h) line e → LineCause line held before after e
+  pub opened_cause : (h : History) (e : Ending) → held ≡ Some h → CanOpen (seen h) → Answers (opened_bytes (seen h)) line e → LineCause line held before after e
   opened_cause h e there can answers = settled e (opened h e there can answers)
 
   -- a look that halted

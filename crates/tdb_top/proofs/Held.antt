@@ -3,7 +3,6 @@ use Rattle.std.proofs.Common.{◌≡◌, ◌⊎◌, ℕ, List, Option, None, Som
 use Rattle.std.specs.Prelude.{unwrap_or}
 use Rattle.std.proofs.lemmas.Bool.{cases_Bool, false≢true}
 use Rattle.tdb_disk.specs.History.{History}
-use Rattle.tdb_disk.specs.Names.{SameBut}
 use Rattle.tdb_space.specs.Pairs.{same_key}
 use Rattle.tdb_space.proofs.Maps.{same_key-eq, same_key-refl}
 
@@ -18,10 +17,3 @@ same_or_other a b = elim (cases_Bool (same_key a b)) [
 pub held_there : (held : Option History) (fallback h : History) → (held ≡ None → ⊥) → h ≡ unwrap_or held fallback → held ≡ Some h
 held_there None fallback h there e = absurd (there refl)
 held_there (Some x) fallback h there e = ap Some (sym e)
-
--- a file that is given back as it was leaves all as it was
-pub held_again : (name other : List ℕ) (old mid new : List ℕ → Option History) (h : History) → SameBut name old mid → SameBut name mid new → old name ≡ Some h → new name ≡ Some h → new other ≡ old other
-held_again name other old mid new h taken given was is = elim (same_or_other other name) [
-  | inl same ↦ ap new same ∙ is ∙ sym was ∙ ap old (sym same)
-  | inr apart ↦ given other apart ∙ taken other apart
-]

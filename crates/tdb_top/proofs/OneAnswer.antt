@@ -6,10 +6,9 @@ use Rattle.tdb_words.specs.declared.what.What.TheVariants.{Header as BadHeader}
 use Rattle.tdb_disk.specs.History.{History, seen}
 use Rattle.tdb_space.specs.Form.{form_of}
 use Rattle.tdb_space.specs.Pairs.{map_of}
-use Rattle.tdb_space.specs.Accepted.{Accept}
-use Rattle.tdb_space.specs.FirstFault.{at_front}
-use Rattle.tdb_space.proofs.Faults.{one_first, none_first}
-use Rattle.tdb_space.proofs.Agreed.{accepted_no_fault}
+use Rattle.tdb_space.specs.Opening.{Opens as FileOpens}
+use Rattle.tdb_space.specs.OpeningFault.{in_front}
+use Rattle.tdb_space.proofs.OpeningFaults.{one_opening, never_both_ways}
 use Rattle.tdb_top.specs.declared.halt.Refusal.{Refusal}
 use Rattle.tdb_top.specs.declared.halt.Refusal.TheVariants.{TooLong, Header, Corrupt}
 use Rattle.tdb_top.specs.declared.insert.Inserted.{Inserted}
@@ -17,7 +16,7 @@ use Rattle.tdb_top.specs.declared.insert.Inserted.TheVariants.{Done, Exists, Ful
 use Rattle.tdb_top.specs.declared.limits.TheConstants.{LONGEST_FILE}
 use Rattle.tdb_top.specs.CommandLine.{Line, show, insert, create, check, file_of, IsLine, HasNoLine}
 use Rattle.tdb_top.specs.Insert.{InsertCause}
-use Rattle.tdb_top.specs.Opening.{CanOpen, IsRefused}
+use Rattle.tdb_top.specs.Opening.{opened_bytes, CanOpen, IsRefused}
 use Rattle.tdb_top.specs.Ending.{Ending, insert_ends, number, no_line, refused, status_of, refusal_status, IsAnswer, Met, Opens, Makes, OpensFile, Answers, value_shown, key_lacking, key_added, keys_counted, Settles, opened, was_refused, was_missing, was_made, was_there, LineCause, settled, failed, wanting, Cause, of_line, of_no_line, of_memory}
 use Rattle.tdb_top.proofs.OneLine.{line_one}
 
@@ -31,21 +30,21 @@ refusal_one img (TooLong a) (Header f) p q = absurd (omega (arith, p.0, p.1, q.0
 refusal_one img (TooLong a) (Corrupt w at) p q = absurd (omega (arith, p.0, p.1, q.0))
 refusal_one img (Header f) (TooLong b) p q = absurd (omega (arith, q.0, q.1, p.0))
 refusal_one img (Header f) (Header g) p q = let both : Some f ≡ Some g = sym p.2 ∙ q.2 in cc
-refusal_one img (Header f) (Corrupt w at) p q = absurd (q.1 (ap (λ e. e.0) (one_first img (w, at) (BadHeader, 0) q.2 (at_front (BadHeader, 0) p.1))))
+refusal_one img (Header f) (Corrupt w at) p q = absurd (q.1 p.1)
 refusal_one img (Corrupt v a) (TooLong b) p q = absurd (omega (arith, q.0, q.1, p.0))
-refusal_one img (Corrupt v a) (Header g) p q = absurd (p.1 (ap (λ e. e.0) (one_first img (v, a) (BadHeader, 0) p.2 (at_front (BadHeader, 0) q.1))))
-refusal_one img (Corrupt v a) (Corrupt w b) p q = let same = one_first img (v, a) (w, b) p.2 q.2 in λ j. Corrupt (same j).0 (same j).1
+refusal_one img (Corrupt v a) (Header g) p q = absurd (p.1 q.1)
+refusal_one img (Corrupt v a) (Corrupt w b) p q = let same = one_opening img (v, a) (w, b) p.2 q.2 in λ j. Corrupt (same j).0 (same j).1
 
--- accepted bytes aren't refused, unless they are too many
-accepted_status : (img : List ℕ) (r : Refusal) → IsRefused img r → Accept img → refusal_status r ≡ 6
-accepted_status img (TooLong len) p accepted = refl
-accepted_status img (Header f) p accepted = absurd (none_first img (BadHeader, 0) (at_front (BadHeader, 0) p.1) (accepted_no_fault img accepted))
-accepted_status img (Corrupt w at) p accepted = absurd (none_first img (w, at) p.2 (accepted_no_fault img accepted))
+-- bytes that can be opened aren't refused, unless they are too many
+opens_status : (img : List ℕ) (r : Refusal) → IsRefused img r → FileOpens img → refusal_status r ≡ 6
+opens_status img (TooLong len) p opens = refl
+opens_status img (Header f) p opens = absurd (never_both_ways img (BadHeader, 0) (in_front (BadHeader, 0) p.1) opens)
+opens_status img (Corrupt w at) p opens = absurd (never_both_ways img (w, at) p.2 opens)
 
 not_both : (img : List ℕ) (r : Refusal) → CanOpen img → IsRefused img r → ⊥
 not_both img (TooLong len) can p = absurd (omega (arith, can.within, p.0, p.1))
-not_both img (Header f) can p = absurd (omega (arith, accepted_status img (Header f) p can.accepted))
-not_both img (Corrupt w at) can p = absurd (omega (arith, accepted_status img (Corrupt w at) p can.accepted))
+not_both img (Header f) can p = absurd (omega (arith, opens_status img (Header f) p can.opens))
+not_both img (Corrupt w at) can p = absurd (omega (arith, opens_status img (Corrupt w at) p can.opens))
 
 -- an insert ends in one way
 ends_one : (img key value : List ℕ) (i j : Inserted) → InsertCause img key value LONGEST_FILE i → InsertCause img key value LONGEST_FILE j → i ≡ j
@@ -122,11 +121,11 @@ module _ (line : Line) (held : Option History) where
   -- a line settles in one way
   settles_one : (x y : Ending) → Settles line held x → Settles line held y → x ≡ y
   settles_one x y (opened h _ t can a) (opened k _ u ok b) =
-      let same = held_one held k h u t in answers_one (seen h) line x y a (subst (λ z. Answers (seen z) line y) same b)
+      let same = held_one held k h u t in answers_one (opened_bytes (seen h)) line x y a (subst (λ z. Answers (opened_bytes (seen z)) line y) same b)
   settles_one _ _ (opened h e t can a) (was_refused k r o u p) = absurd (not_both (seen h) r can (subst (λ z. IsRefused (seen z) r) (held_one held k h u t) p))
   settles_one _ _ (opened h e t can a) (was_missing o none) = absurd (held_none held h t none)
   settles_one _ _ (opened h e t can a) (was_made m none) = absurd (held_none held h t none)
-  settles_one _ _ (opened h e t can a) (was_there m some) = absurd (answers_no_make (seen h) line e a m)
+  settles_one _ _ (opened h e t can a) (was_there m some) = absurd (answers_no_make (opened_bytes (seen h)) line e a m)
   settles_one _ _ (was_refused k r o u p) (opened h e t can a) = absurd (not_both (seen h) r can (subst (λ z. IsRefused (seen z) r) (held_one held k h u t) p))
   settles_one _ _ (was_refused h r o t p) (was_refused k s o2 u q) = ap refused (refusal_one (seen h) r s p (subst (λ z. IsRefused (seen z) s) (held_one held k h u t) q))
   settles_one _ _ (was_refused h r o t p) (was_missing o2 none) = absurd (held_none held h t none)
@@ -142,7 +141,7 @@ module _ (line : Line) (held : Option History) where
   settles_one _ _ (was_made m none) (was_missing o none2) = absurd (opens_or_makes line o m)
   settles_one _ _ (was_made m none) (was_made m2 none2) = refl
   settles_one _ _ (was_made m none) (was_there m2 some) = absurd (none_some held none some)
-  settles_one _ _ (was_there m some) (opened h e t can a) = absurd (answers_no_make (seen h) line e a m)
+  settles_one _ _ (was_there m some) (opened h e t can a) = absurd (answers_no_make (opened_bytes (seen h)) line e a m)
   settles_one _ _ (was_there m some) (was_refused h r o t p) = absurd (opens_or_makes line o m)
   settles_one _ _ (was_there m some) (was_missing o none) = absurd (opens_or_makes line o m)
   settles_one _ _ (was_there m some) (was_made m2 none) = absurd (none_some held none some)
@@ -150,16 +149,16 @@ module _ (line : Line) (held : Option History) where
 
   -- a file that is refused has its cause
   settles_refused : (h : History) (x : Ending) (r : Refusal) → held ≡ Some h → Settles line held x → x ≡ refused r → IsRefused (seen h) r
-  settles_refused h _ r t (opened k e u can a) is = absurd (answers_no_refusal (seen k) line e r a is)
+  settles_refused h _ r t (opened k e u can a) is = absurd (answers_no_refusal (opened_bytes (seen k)) line e r a is)
   settles_refused h _ r t (was_refused k s o u p) is =
       let same : s ≡ r = cc in subst (IsRefused (seen h)) same (subst (λ z. IsRefused (seen z) s) (held_one held k h u t) p)
   settles_refused h _ r t (was_missing o none) is = absurd cc
   settles_refused h _ r t (was_made m none) is = absurd cc
   settles_refused h _ r t (was_there m some) is = absurd cc
 
-  -- a line that opens a file whose bytes aren't accepted, and no more than the most, ends with status 3
-  faulty_status : (h : History) (x : Ending) → Opens line → held ≡ Some h → (Accept (seen h) → ⊥) → length (seen h) ≤ LONGEST_FILE → Settles line held x → status_of x ≡ 3
-  faulty_status h _ opens t faulty short (opened k e u can a) = absurd (faulty (subst (λ z. Accept (seen z)) (held_one held k h u t) can.accepted))
+  -- a line that opens a file whose bytes can't be opened, and are no more than the most, ends with status 3
+  faulty_status : (h : History) (x : Ending) → Opens line → held ≡ Some h → (FileOpens (seen h) → ⊥) → length (seen h) ≤ LONGEST_FILE → Settles line held x → status_of x ≡ 3
+  faulty_status h _ opens t faulty short (opened k e u can a) = absurd (faulty (subst (λ z. FileOpens (seen z)) (held_one held k h u t) can.opens))
   faulty_status h _ opens t faulty short (was_refused k r o u p) = three r (subst (λ z. IsRefused (seen z) r) (held_one held k h u t) p)
     where
       three : (r : Refusal) → IsRefused (seen h) r → refusal_status r ≡ 3
@@ -203,16 +202,16 @@ module _ (m : Met) where
           subst (λ z. IsRefused z r) o.bytes
           (settles_refused o.line (m.held (file_of o.line)) o.history (refused r) r o.there (subst (λ z. Settles z (m.held (file_of z)) (refused r)) (line_one m.words line o.line reads o.reads) s) refl)
 
-  -- a line that opens a file of faulty bytes ends with status 3
-  pub faulty_ends : (x : Ending) (img : List ℕ) → Cause m x → IsAnswer x → OpensFile m img → (Accept img → ⊥) → length img ≤ LONGEST_FILE → status_of x ≡ 3
+  -- a line that opens a file of such bytes ends with status 3
+  pub faulty_ends : (x : Ending) (img : List ℕ) → Cause m x → IsAnswer x → OpensFile m img → (FileOpens img → ⊥) → length img ≤ LONGEST_FILE → status_of x ≡ 3
   faulty_ends x img c a o faulty short = of (told_line x c a)
     where
       of : ((x ≡ no_line) × HasNoLine m.words) ⊎ ((line : Line) × IsLine m.words line × Settles line (m.held (file_of line)) x) → status_of x ≡ 3
       of (inl p) = absurd (p.1 o.line o.reads)
       of (inr (line, reads, s)) =
-          faulty_status o.line (m.held (file_of o.line)) o.history x o.opens o.there (λ fine. faulty (subst Accept o.bytes fine)) (subst (λ z. length z ≤ LONGEST_FILE) (sym o.bytes) short)
+          faulty_status o.line (m.held (file_of o.line)) o.history x o.opens o.there (λ fine. faulty (subst FileOpens o.bytes fine)) (subst (λ z. length z ≤ LONGEST_FILE) (sym o.bytes) short)
           (subst (λ z. Settles z (m.held (file_of z)) x) (line_one m.words line o.line reads o.reads) s)
 
--- accepted bytes aren't refused with status 3
-pub accepted_not_three : (img : List ℕ) (r : Refusal) → IsRefused img r → Accept img → refusal_status r ≡ 3 → ⊥
-accepted_not_three img r p accepted three = absurd (omega (arith, three, accepted_status img r p accepted))
+-- bytes that can be opened aren't refused with status 3
+pub opens_not_three : (img : List ℕ) (r : Refusal) → IsRefused img r → FileOpens img → refusal_status r ≡ 3 → ⊥
+opens_not_three img r p opens three = absurd (omega (arith, three, opens_status img r p opens))

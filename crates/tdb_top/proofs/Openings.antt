@@ -1,75 +1,164 @@
--- A file is refused for its first fault.
-use Rattle.std.proofs.Common.{◌≡◌, ℕ, ◌+◌, not, ◌≤◌, Bool, true, false, if◌then◌else◌, List, length, Option, Some, None, sym, ◌∙◌}
-use Rattle.std.specs.Prelude.{◌==◌}
+-- What an opening answers and leaves, from what its parts found.
+use Rattle.std.proofs.Common.{◌≡◌, ◌≢◌, ℕ, ◌⊎◌, ◌≤◌, false, List, length, Option, Some, None, refl, sym, ◌∙◌, ap, subst, inl, inr}
+use Rattle.std.specs.Prelude.{◌%◌}
+use Rattle.std.proofs.lemmas.Bool.{cases_eq, false≢true}
+use Rattle.tdb_disk.specs.History.{History, seen}
+use Rattle.tdb_disk.specs.Stop.{Quiet, LeavesOnly}
 use Rattle.tdb_words.specs.Word.{word}
-use Rattle.tdb_words.specs.declared.what.What.{What}
-use Rattle.tdb_words.specs.declared.what.What.TheVariants.{Header as BadHeader, AreaBad, UndoBad, BadRecord, Tailer, WrongHash, TwiceKey}
-use Rattle.tdb_words.specs.declared.record.TheConstants.{GATE_OPEN, GATE_SHUT}
+use Rattle.tdb_words.specs.Header.{header_at}
+use Rattle.tdb_words.specs.declared.what.What.TheVariants.{Short as TooShort, Header as BadHeader}
+use Rattle.tdb_words.specs.declared.record.TheConstants.{GATE_OPEN}
 use Rattle.tdb_space.specs.Form.{Form, form_of}
 use Rattle.tdb_space.specs.Record.{magic_of}
-use Rattle.tdb_space.specs.FirstFault.{Fault, ListKind, chain_number, free_list, out_of, loop_of, record_fault, front_fault, area_fault, area_fault_at, is_out, is_long, IsFirstFault, at_front, at_area, in_chain, in_free_list, at_overlap, at_stray}
+use Rattle.tdb_space.specs.Accepted.{Shut, Accept}
+use Rattle.tdb_space.specs.FirstFault.{Fault, front_fault, IsFirstFault, at_front}
+use Rattle.tdb_space.specs.Opening.{is_open, restored, Opens, Mild}
+use Rattle.tdb_space.specs.OpeningFault.{opening_fault, IsOpeningFault, in_front, in_undo_area, in_restored}
+use Rattle.tdb_space.specs.Undoing.{Reopens}
+use Rattle.tdb_space.proofs.Agreed.{front_ok, accepted_no_fault}
+use Rattle.tdb_space.proofs.Faults.{none_first}
+use Rattle.tdb_space.proofs.OpeningFaults.{opens_or_fault}
 use Rattle.tdb_check.specs.Front.{Refuses}
+use Rattle.tdb_check.specs.Report.{Counted}
 use Rattle.tdb_check.specs.Seen.{Names}
 use Rattle.tdb_check.specs.declared.front.FrontRefusal as Front
 use Rattle.tdb_check.specs.declared.refusal.CheckRefusal as Check
+use Rattle.tdb_undo.specs.declared.refusal.UndoRefusal as Undo
+use Rattle.tdb_undo.specs.Refusal.{Names as Tells}
+use Rattle.tdb_undo.specs.Area.{place_fault}
+use Rattle.tdb_undo.proofs.Found.{none_sound, shut_sound, open_is, place_first}
+use Rattle.tdb_top.specs.declared.halt.Halt.{Halt}
+use Rattle.tdb_top.specs.declared.halt.Halt.TheVariants.{Refused, Device, Memory}
+use Rattle.tdb_top.specs.declared.halt.Refusal.TheVariants.{TooLong, Header, Corrupt}
+use Rattle.tdb_top.specs.declared.opening.Opened.{Opened}
 use Rattle.tdb_top.specs.declared.limits.TheConstants.{LONGEST_FILE}
-use Rattle.tdb_top.specs.Opening.{HaltsRightly, of_front, of_check}
+use Rattle.tdb_top.specs.Opening.{opened_bytes, CanOpen, IsOpenedOn, IsCheckedOn, Undone, SameOrUndone, UndoneIfOpen, UndoBroken, HaltsRightly, HaltsAtFault, HaltLeaves, of_front, of_restored_front, of_undo, of_check}
 
--- what may be wrong isn't the header
-abbrev NotHeader : Option Fault → Type 0
-NotHeader o = (e : Fault) → o ≡ Some e → e.0 ≡ BadHeader → ⊥
+none_some : (o : Option Fault) (e : Fault) → o ≡ None → o ≡ Some e → ⊥
+none_some o e none some = cc
 
-either : (b : Bool) (x y : Option Fault) → NotHeader x → NotHeader y → NotHeader (if b then x else y)
-either true x y p q = p
-either false x y p q = q
+short_apart : (o : Option Fault) (x y : Fault) → o ≡ Some x → o ≡ Some y → (x.0 ≡ y.0 → ⊥) → ⊥
+short_apart o x y a b apart = let both : Some x ≡ Some y = sym a ∙ b in let same : x ≡ y = cc in apart (ap (λ e. e.0) same)
 
-other : (what : What) (at : ℕ) → (what ≡ BadHeader → ⊥) → NotHeader (Some (what, at))
-other what at apart e same bad = apart (let first : what ≡ e.0 = cc in first ∙ bad)
+-- an image whose gate isn't open is read as it is
+pub closed_reads : (img : List ℕ) → is_open (form_of img) img ≡ false → opened_bytes img ≡ img
+closed_reads img closed = rw closed refl
 
-nothing : NotHeader None
-nothing e same bad = cc
+-- where the place of its undo area is sound and its gate isn't open, opening finds nothing wrong with it
+closed_sound : (f : Form) (img : List ℕ) → place_fault f img ≡ None → is_open f img ≡ false → opening_fault f img ≡ None
+closed_sound f img good closed =
+    elim (cases_eq (word f.order img 44) 0) [
+      | inl none ↦ none_sound f img good none
+      | inr some ↦
+          elim (cases_eq (magic_of f.order img (word f.order img 44)) GATE_OPEN) [
+            | inl gate ↦ absurd (false≢true (sym closed ∙ open_is f img good some gate))
+            | inr shut ↦ shut_sound f img good some shut
+          ]
+    ]
 
-out_apart : (kind : ListKind) → out_of kind ≡ BadHeader → ⊥
-out_apart (chain_number j) e = cc
-out_apart free_list e = cc
+module _ (img : List ℕ) (within : length img ≤ LONGEST_FILE) where
+  -- a refusal of the front is rightly told
+  pub front_halts : (e : Front.FrontRefusal) → Refuses img e → HaltsRightly img (of_front e)
+  front_halts (Front.TheVariants.Short len) h = (within, (λ header. short_apart (front_fault img) (TooShort, len) (BadHeader, 0) h header (λ e. cc)), in_front _ h)
+  front_halts (Front.TheVariants.Header fault) h = (within, h.0, h.1)
+  front_halts Front.TheVariants.Io h = tt
 
-loop_apart : (kind : ListKind) → loop_of kind ≡ BadHeader → ⊥
-loop_apart (chain_number j) e = cc
-loop_apart free_list e = cc
+  module _ (front : front_fault img ≡ None) where
+    own_header : front_fault img ≢ Some (BadHeader, 0)
+    own_header header = none_some (front_fault img) (BadHeader, 0) front header
 
-record_apart : (f : Form) (kind : ListKind) (img earlier : List ℕ) (place at : ℕ) → NotHeader (record_fault f kind img earlier place at)
-record_apart f kind img earlier place at =
-    either _ _ _ (other (out_of kind) place (out_apart kind))
-    (either _ _ _ (other (loop_of kind) place (loop_apart kind))
-    (either _ _ _ (other BadRecord at (λ e. cc))
-    (either _ _ _ (other Tailer at (λ e. cc)) (either _ _ _ (other WrongHash at (λ e. cc)) (either _ _ _ (other TwiceKey at (λ e. cc)) nothing)))))
+    -- and so is one of the undo area
+    pub undo_halts : (e : Undo.UndoRefusal) → Tells e (λ fault. opening_fault (form_of img) img ≡ Some fault) → HaltsRightly img (of_undo e)
+    undo_halts (Undo.TheVariants.UndoBad what at) h = (within, own_header, in_undo_area (what, at) front h)
+    undo_halts Undo.TheVariants.Io h = tt
 
-area_at_apart : (f : Form) (img : List ℕ) (at : ℕ) → NotHeader (area_fault_at f img at)
-area_at_apart f img at =
-    either (is_out f img at) _ _ (other AreaBad 44 (λ e. cc))
-    (either (is_long f img at) _ _ (other AreaBad (at + 4) (λ e. cc))
-    (either (magic_of f.order img at == GATE_OPEN) _ _ (other UndoBad (at + 20) (λ e. cc))
-    (either (not (magic_of f.order img at == GATE_SHUT)) _ _ (other AreaBad (at + 20) (λ e. cc)) nothing)))
+    pub place_halts : (e : Undo.UndoRefusal) → Tells e (λ fault. place_fault (form_of img) img ≡ Some fault) → HaltsRightly img (of_undo e)
+    place_halts (Undo.TheVariants.UndoBad what at) h = (within, own_header, in_undo_area (what, at) front (place_first (form_of img) img (what, at) h))
+    place_halts Undo.TheVariants.Io h = tt
 
-area_apart : (f : Form) (img : List ℕ) → NotHeader (area_fault f img)
-area_apart f img = either (word f.order img 44 == 0) None (area_fault_at f img (word f.order img 44)) nothing (area_at_apart f img (word f.order img 44))
+    -- and a fault of the image that it is read as
+    pub restored_halts : (halt : Halt) → opening_fault (form_of img) img ≡ None → HaltsAtFault (opened_bytes img) halt → HaltsRightly img halt
+    restored_halts (Refused (TooLong len)) sound h = absurd h
+    restored_halts (Refused (Header fault)) sound h = absurd h
+    restored_halts (Refused (Corrupt what at)) sound h = (within, own_header, in_restored (what, at) front sound h)
+    restored_halts Device sound h = tt
+    restored_halts Memory sound h = tt
 
--- behind a sound front the first fault isn't the header's
-pub not_header : (img : List ℕ) (e : Fault) → front_fault img ≡ None → IsFirstFault img e → e.0 ≡ BadHeader → ⊥
-not_header img _ none (at_front e h) bad = let both : None ≡ Some e = sym none ∙ h in cc
-not_header img _ none (at_area e front h) bad = area_apart (form_of img) img e h bad
-not_header img _ none (in_chain e j heads low before h) bad = record_apart (form_of img) (chain_number j) img h.0 h.1 (word (form_of img).order img h.1) e h.4 bad
-not_header img _ none (in_free_list e heads chains h) bad = record_apart (form_of img) free_list img h.0 h.1 (word (form_of img).order img h.1) e h.4 bad
-not_header img _ none (at_overlap at lists h) bad = cc
-not_header img _ none (at_stray at lists apart h) bad = cc
+    pub check_halts : (e : Check.CheckRefusal) → place_fault (form_of img) img ≡ None → is_open (form_of img) img ≡ false → Names e (IsFirstFault img) → HaltsRightly img (of_check e)
+    check_halts (Check.TheVariants.Corrupt what at) good closed h =
+        (within, own_header, in_restored (what, at) front (closed_sound (form_of img) img good closed) (subst (λ i. IsFirstFault i (what, at)) (sym (closed_reads img closed)) h))
+    check_halts Check.TheVariants.Io good closed h = tt
+    check_halts Check.TheVariants.Memory good closed h = tt
 
--- a refusal of the front is rightly told, and so is a fault that the check found
-pub front_halts : (img : List ℕ) (e : Front.FrontRefusal) → length img ≤ LONGEST_FILE → Refuses img e → HaltsRightly img (of_front e)
-front_halts img (Front.TheVariants.Short len) within h = (within, (λ e. cc), at_front _ h)
-front_halts img (Front.TheVariants.Header fault) within h = (within, h.0, h.1)
-front_halts img Front.TheVariants.Io within h = tt
+    -- what can be opened: nothing is wrong with the front and the undo area, and what the image is read as is accepted
+    pub opens_where : opening_fault (form_of img) img ≡ None → Accept (opened_bytes img) → CanOpen img
+    opens_where sound accepted = elim (opens_or_fault img) [
+      | inl opens ↦ record { opens = opens; within = within }
+      | inr found ↦ absurd (no_fault found.0 found.1)
+    ]
+      where
+        no_fault : (e : Fault) → IsOpeningFault img e → ⊥
+        no_fault _ (in_front e h) = none_some (front_fault img) e front h
+        no_fault _ (in_undo_area e f h) = none_some (opening_fault (form_of img) img) e sound h
+        no_fault _ (in_restored e f o h) = none_first (opened_bytes img) e h (accepted_no_fault (opened_bytes img) accepted)
 
-pub check_halts : (img : List ℕ) (e : Check.CheckRefusal) → length img ≤ LONGEST_FILE → front_fault img ≡ None → Names e (IsFirstFault img) → HaltsRightly img (of_check e)
-check_halts img (Check.TheVariants.Corrupt what at) within sound h = (within, not_header img (what, at) sound h, h)
-check_halts img Check.TheVariants.Io within sound h = tt
-check_halts img Check.TheVariants.Memory within sound h = tt
+-- a refusal of the front that an undo gave, and a fault that the check then found
+pub front_at_fault : (img : List ℕ) (e : Front.FrontRefusal) → Refuses img e → HaltsAtFault img (of_restored_front e)
+front_at_fault img (Front.TheVariants.Short len) h = at_front _ h
+front_at_fault img (Front.TheVariants.Header fault) h = at_front _ h.0
+front_at_fault img Front.TheVariants.Io h = tt
+
+pub check_at_fault : (img : List ℕ) (e : Check.CheckRefusal) → Names e (IsFirstFault img) → HaltsAtFault img (of_check e)
+check_at_fault img (Check.TheVariants.Corrupt what at) h = h
+check_at_fault img Check.TheVariants.Io h = tt
+check_at_fault img Check.TheVariants.Memory h = tt
+
+-- an opening that was undone, and then halted
+pub undone_halts : (halt : Halt) (old now : History) → Undone old now → HaltLeaves halt old now
+undone_halts (Refused refusal) old now undone = inl undone
+undone_halts Device old now undone = inl (inl undone)
+undone_halts Memory old now undone = inl undone
+
+-- a refusal of the undo: its fault was told before anything was written, or a call failed in its midst
+pub undo_leaves : (old now : History) (e : Undo.UndoRefusal) → Tells e (λ fault. (opening_fault (form_of (seen old)) (seen old) ≡ Some fault) × (now ≡ old)) → UndoBroken old now → HaltLeaves (of_undo e) old now
+undo_leaves old now (Undo.TheVariants.UndoBad what at) h broken = inr ((λ u. none_some (opening_fault (form_of (seen old)) (seen old)) _ u.sound h.0), h.1)
+undo_leaves old now Undo.TheVariants.Io h broken = inr broken
+
+-- what it leaves that halted otherwise than for a call that failed
+pub other_halts : (halt : Halt) (old now : History) → (halt ≡ Device → ⊥) → HaltLeaves halt old now → UndoneIfOpen old now
+other_halts (Refused refusal) old now other left = left
+other_halts Device old now other left = absurd (other refl)
+other_halts Memory old now other left = left
+
+-- the weaker of the two, where a look after the opening leaves what it left
+pub same_or_undone : (old now : History) → UndoneIfOpen old now → SameOrUndone old now
+same_or_undone old now (inl undone) = inl undone
+same_or_undone old now (inr kept) = inr kept.1
+
+-- an opened file, after an undo and where there was nothing to undo
+module _ (img : List ℕ) (within : length img ≤ LONGEST_FILE) (front : front_fault img ≡ None) (o : Opened) where
+  pub undone_opened : (now : List ℕ) → opening_fault (form_of img) img ≡ None → now ≡ opened_bytes img → IsCheckedOn now o → IsOpenedOn img o
+  undone_opened now sound bytes checked = record {
+    can_open = opens_where img within front sound (subst Accept bytes checked.accepted);
+    header = checked.header ∙ ap header_at bytes;
+    counted = subst (λ i. Counted i o.report) bytes checked.counted;
+  }
+
+  pub closed_opened : place_fault (form_of img) img ≡ None → is_open (form_of img) img ≡ false → IsCheckedOn img o → IsOpenedOn img o
+  closed_opened good closed checked = undone_opened img (closed_sound (form_of img) img good closed) (sym (closed_reads img closed)) checked
+
+-- what the undo of a file gives, told of the file before its header was read
+module _ (old mid now : History) (f : Form) (same : mid ≡ old) (form : f ≡ form_of (seen old)) where
+  pub undo_sound : front_fault (seen old) ≡ None → (length (seen mid) % 4 ≡ 0 → opening_fault f (seen mid) ≡ None) → opening_fault (form_of (seen old)) (seen old) ≡ None
+  undo_sound front sound =
+      subst (λ (q : Form × History). length (seen q.1) % 4 ≡ 0 → opening_fault q.0 (seen q.1) ≡ None) (λ j. (form j, same j)) sound (front_ok (seen old) front).sized
+
+  pub undo_reads : front_fault (seen old) ≡ None → (length (seen mid) % 4 ≡ 0 → seen now ≡ restored f (seen mid)) → seen now ≡ opened_bytes (seen old)
+  undo_reads front reads =
+      subst (λ (q : Form × History). length (seen q.1) % 4 ≡ 0 → seen now ≡ restored q.0 (seen q.1)) (λ j. (form j, same j)) reads (front_ok (seen old) front).sized
+
+  pub undo_stops : (Quiet mid → Opens (seen mid) → Shut (form_of (seen mid)) (seen mid) ⊎ Mild (seen mid) → form_of (seen mid) ≡ f → LeavesOnly mid now (Reopens (restored f (seen mid))))
+      → Quiet old → Opens (seen old) → Mild (seen old) → LeavesOnly old now (Reopens (opened_bytes (seen old)))
+  undo_stops stops quiet opens mild =
+      subst (λ (q : Form × History). Quiet q.1 → Opens (seen q.1) → Shut (form_of (seen q.1)) (seen q.1) ⊎ Mild (seen q.1) → form_of (seen q.1) ≡ q.0 → LeavesOnly q.1 now (Reopens (restored q.0 (seen q.1))))
+      (λ j. (form j, same j)) stops quiet opens (inr mild) refl

@@ -1,12 +1,12 @@
 -- Which status a run ends with, by its ending and by what the output took.
 use Rattle.std.proofs.Common.{◌≡◌, ◌⊎◌, ℕ, ◌≤◌, List, [], ◌∷◌, length, refl, sym, ◌∙◌, ap, subst, inl, inr, arith}
 use Rattle.std.specs.Prelude.{◌==◌, Contains, MatchBool}
-use Rattle.tdb_space.specs.Accepted.{Accept}
+use Rattle.tdb_space.specs.Opening.{Opens}
 use Rattle.tdb_top.specs.declared.halt.Refusal.TheVariants.{TooLong, Header, Corrupt}
 use Rattle.tdb_top.specs.declared.insert.Inserted.TheVariants.{Done, Exists, Full}
 use Rattle.tdb_top.specs.declared.limits.TheConstants.{LONGEST_FILE}
 use Rattle.tdb_top.specs.Ending.{Ending, shown, no_key, insert_ends, created, number, no_line, refused, device_fault, no_memory, missing, there_already, status_of, IsDone, IsKeyAmiss, IsFaulty, IsTooLong, IsMisnamed, Met, OpensFile, Cause, IsAnswer, IsTold, Output, TakesMemory, PrintedFor, Prints}
-use Rattle.tdb_top.proofs.OneAnswer.{answer_one, refused_bytes, faulty_ends, accepted_not_three}
+use Rattle.tdb_top.proofs.OneAnswer.{answer_one, refused_bytes, faulty_ends, opens_not_three}
 
 -- the statuses of the table
 abbrev Known : ℕ → Type 0
@@ -86,8 +86,8 @@ module _ (m : Met) (o : Output) (e : Ending) (status : ℕ) (c : Cause m e) wher
   pub expected : (x : Ending) → Cause m x → IsAnswer x → Prints o e status → Expected (status_of x) status
   expected x d b = expected_where (status_of x) (λ a. ap status_of (answer_one m e x c d a b))
 
-  -- a file of faulty bytes is refused
-  pub faulty_refused : (img : List ℕ) → OpensFile m img → (Accept img → ⊥) → length img ≤ LONGEST_FILE → Prints o e status → Expected 3 status
+  -- a file whose bytes can't be opened is refused
+  pub faulty_refused : (img : List ℕ) → OpensFile m img → (Opens img → ⊥) → length img ≤ LONGEST_FILE → Prints o e status → Expected 3 status
   faulty_refused img opens faulty short = expected_where 3 (λ a. faulty_ends m e img c a opens faulty short)
 
   -- what a status tells
@@ -95,14 +95,14 @@ module _ (m : Met) (o : Output) (e : Ending) (status : ℕ) (c : Cause m e) wher
   told_at n other is (inl all) = (e, subst (λ k. Told k e) (sym all.exits ∙ is) (by_status e).1, record { cause = c; written = all.written })
   told_at n other is (inr part) = absurd (other (sym is ∙ part.exits))
 
-  -- status 3 comes only where the bytes aren't accepted
-  pub refused_only : (img : List ℕ) → status ≡ 3 → OpensFile m img → Accept img → Prints o e status → ⊥
-  refused_only img is opens accepted (inr part) = absurd (omega (arith, is, part.exits))
-  refused_only img is opens accepted (inl all) = of (subst (λ k. Told k e) (sym all.exits ∙ is) (by_status e).1)
+  -- status 3 comes only where the bytes can't be opened
+  pub refused_only : (img : List ℕ) → status ≡ 3 → OpensFile m img → Opens img → Prints o e status → ⊥
+  refused_only img is opens fine (inr part) = absurd (omega (arith, is, part.exits))
+  refused_only img is opens fine (inl all) = of (subst (λ k. Told k e) (sym all.exits ∙ is) (by_status e).1)
     where
       of : IsFaulty e → ⊥
-      of (inl (fault, same)) = accepted_not_three img (Header fault) (refused_bytes m (Header fault) img (subst (Cause m) same c) opens) accepted refl
-      of (inr (what, at, same)) = accepted_not_three img (Corrupt what at) (refused_bytes m (Corrupt what at) img (subst (Cause m) same c) opens) accepted refl
+      of (inl (fault, same)) = opens_not_three img (Header fault) (refused_bytes m (Header fault) img (subst (Cause m) same c) opens) fine refl
+      of (inr (what, at, same)) = opens_not_three img (Corrupt what at) (refused_bytes m (Corrupt what at) img (subst (Cause m) same c) opens) fine refl
 
 -- a status that is neither 4 nor 8 isn't that of a failed call
 pub sound_status : (o : Output) (e t : Ending) (status : ℕ) → PrintedFor e t → Prints o e status → (status ≡ 4 → ⊥) → (status ≡ 8 → ⊥) → t ≡ device_fault → ⊥

@@ -22,7 +22,7 @@ use Rattle.tdb_top.specs.declared.insert.Inserted.TheVariants.{Done, Exists, Ful
 use Rattle.tdb_top.specs.declared.create.Creation as Making
 use Rattle.tdb_top.specs.CommandLine.{Line, show, insert, create, check, file_of, IsLine, HasNoLine}
 use Rattle.tdb_top.specs.Insert.{InsertCause}
-use Rattle.tdb_top.specs.Opening.{CanOpen, IsRefused}
+use Rattle.tdb_top.specs.Opening.{opened_bytes, CanOpen, IsRefused}
 
 -- how a run ends
 pub data Ending : Type 0 where
@@ -186,7 +186,7 @@ pub record OpensFile (m : Met) (img : List ℕ) : Type 0 where
   pub there : m.held (file_of line) ≡ Some history
   pub bytes : seen history ≡ img
 
--- how a line ends over a file that was opened, by the bytes of the file
+-- how a line ends over a file that was opened, by the bytes that it is read as
 pub data Answers (img : List ℕ) (line : Line) : Ending → Type 0 where
   -- the map has the value for the key
   value_shown : (file key value : List ℕ) → line ≡ show file key → map_of (form_of img) img key ≡ Some value → Answers img line (shown value)
@@ -200,7 +200,7 @@ pub data Answers (img : List ℕ) (line : Line) : Ending → Type 0 where
 -- how a line ends where no call failed and memory sufficed, by what is held at the name of its file
 pub data Settles (line : Line) (held : Option History) : Ending → Type 0 where
   -- the file was opened
-  opened : (h : History) (e : Ending) → held ≡ Some h → CanOpen (seen h) → Answers (seen h) line e → Settles line held e
+  opened : (h : History) (e : Ending) → held ≡ Some h → CanOpen (seen h) → Answers (opened_bytes (seen h)) line e → Settles line held e
   -- it was refused
   was_refused : (h : History) (refusal : Refusal) → Opens line → held ≡ Some h → IsRefused (seen h) refusal → Settles line held (refused refusal)
   -- it is to be opened, and isn't there

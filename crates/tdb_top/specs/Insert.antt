@@ -1,16 +1,12 @@
 -- The first change of a file: a key and its value are added at the end, as a record in front of its chain.
-use Rattle.std.specs.Prelude.{◌≡◌, ℕ, ◌+◌, ◌-◌, ◌*◌, ◌/◌, ◌<◌, ◌≤◌, ◌⊎◌, List, ◌++◌, length, replicate}
+use Rattle.std.specs.Prelude.{◌≡◌, ℕ, ◌+◌, ◌<◌, ◌≤◌, ◌⊎◌, List, ◌++◌, length}
 use Rattle.std.specs.Prelude.{None, Some, IsSome}
 use Rattle.std.specs.Map.{update}
 use Rattle.tdb_disk.specs.History.{History, seen}
 use Rattle.tdb_disk.specs.Image.{overlay}
 use Rattle.tdb_disk.specs.Stop.{Quiet}
-use Rattle.tdb_words.specs.declared.record.TheConstants.{USED, PADDING}
-use Rattle.tdb_words.specs.declared.record.Rec.{Rec}
 use Rattle.tdb_words.specs.declared.word.Order.{Order}
 use Rattle.tdb_words.specs.Word.{word, bytes_of_word}
-use Rattle.tdb_words.specs.Record.{bytes_of_rec}
-use Rattle.tdb_words.specs.Hash.{h_of}
 use Rattle.tdb_space.specs.Form.{Form, form_of, chain_head}
 use Rattle.tdb_space.specs.NewRecord.{rec_len_for, new_rec, record_bytes}
 use Rattle.tdb_space.specs.Pairs.{home, map_of, same_key}

@@ -1,5 +1,5 @@
 -- The limits of files and words.
-use Rattle.std.specs.Prelude.{◌≡◌, ◌^◌, ◌-◌}
+use Rattle.std.specs.Prelude.{◌≡◌}
 use Rattle.tdb_top.specs.declared.limits.TheConstants.{LONGEST_FILE, LONGEST_WORD, LONGEST_SIZE, DEFAULT_SIZE, MOST_CHAINS}
 
 -- A file has at most 2 ^ 32 bytes less a page of 4096, a word of the command line at most 2 ^ 24 bytes, a number of chains at most

@@ -1,13 +1,20 @@
--- Which files are opened, what an opening answers of one, and why one is refused.
-use Rattle.std.specs.Prelude.{◌≡◌, ◌≢◌, ℕ, ◌<◌, ◌≤◌, List, length, Some}
+-- Which files are opened, what an opening answers of one, why one is refused, and what an opening leaves of one.
+use Rattle.std.specs.Prelude.{◌≡◌, ◌≢◌, ℕ, ◌<◌, ◌≤◌, ◌⊎◌, true, List, length, Some, None}
 use Rattle.tdb_words.specs.declared.what.What.TheVariants.{Short as TooShort, Header as BadHeader}
 use Rattle.tdb_words.specs.Header.{header_at, header_fault}
+use Rattle.tdb_disk.specs.History.{History, seen}
+use Rattle.tdb_disk.specs.Stop.{Quiet, LeavesOnly}
+use Rattle.tdb_space.specs.Form.{form_of}
 use Rattle.tdb_space.specs.Accepted.{Accept}
 use Rattle.tdb_space.specs.FirstFault.{front_fault, IsFirstFault}
+use Rattle.tdb_space.specs.Opening.{is_open, restored, Opens, Mild}
+use Rattle.tdb_space.specs.OpeningFault.{opening_fault, IsOpeningFault}
+use Rattle.tdb_space.specs.Undoing.{Reopens}
 use Rattle.tdb_check.specs.Report.{Counted}
 use Rattle.tdb_chain.specs.declared.refusal.ValueRefusal as Value
 use Rattle.tdb_check.specs.declared.front.FrontRefusal as Front
 use Rattle.tdb_check.specs.declared.refusal.CheckRefusal as Check
+use Rattle.tdb_undo.specs.declared.refusal.UndoRefusal as Undo
 use Rattle.tdb_top.specs.declared.halt.Refusal.{Refusal}
 use Rattle.tdb_top.specs.declared.halt.Refusal.TheVariants.{TooLong, Header, Corrupt}
 use Rattle.tdb_top.specs.declared.halt.Halt.{Halt}
@@ -15,21 +22,33 @@ use Rattle.tdb_top.specs.declared.halt.Halt.TheVariants.{Refused, Device, Memory
 use Rattle.tdb_top.specs.declared.opening.Opened.{Opened}
 use Rattle.tdb_top.specs.declared.limits.TheConstants.{LONGEST_FILE}
 
--- a file with these bytes is opened: they are accepted, and no more than the most
+-- the bytes that a file with these is read as: what its undo gives, where the gate of its undo area is open
+abbrev pub opened_bytes : List ℕ → List ℕ
+opened_bytes img = restored (form_of img) img
+
+-- a file with these bytes is opened: they can be opened, and are no more than the most
 pub record CanOpen (img : List ℕ) : Type 0 where
-  pub accepted : Accept img
+  pub opens : Opens img
   pub within : length img ≤ LONGEST_FILE
 
--- A file with these bytes is refused so: it is too long; or its header has a fault, of which the first is told; or its first
--- fault is another one.
+-- A file with these bytes is refused so: it is too long; or its own header has a fault, of which the first is told;
+-- or the first fault that opening it meets is another one. A fault of a header that only the undo gives is of the
+-- kind Header and told with its place.
 abbrev pub IsRefused : List ℕ → Refusal → Type 0
 IsRefused img (TooLong len) = (len ≡ length img) × (LONGEST_FILE < len)
 IsRefused img (Header fault) = (length img ≤ LONGEST_FILE) × (front_fault img ≡ Some (BadHeader, 0)) × (header_fault img ≡ Some fault)
-IsRefused img (Corrupt what at) = (length img ≤ LONGEST_FILE) × (what ≢ BadHeader) × IsFirstFault img (what, at)
+IsRefused img (Corrupt what at) = (length img ≤ LONGEST_FILE) × (front_fault img ≢ Some (BadHeader, 0)) × IsOpeningFault img (what, at)
 
--- an opened file is one with these bytes: it is rightly opened, and its header and its counts are theirs
+-- an opened file is one with these bytes: it is rightly opened, and its header and its counts are those of the bytes
+-- it is read as
 pub record IsOpenedOn (img : List ℕ) (o : Opened) : Type 0 where
   pub can_open : CanOpen img
+  pub header : o.header ≡ header_at (opened_bytes img)
+  pub counted : Counted (opened_bytes img) o.report
+
+-- the same of a file in which there is nothing to undo any more
+pub record IsCheckedOn (img : List ℕ) (o : Opened) : Type 0 where
+  pub accepted : Accept img
   pub header : o.header ≡ header_at img
   pub counted : Counted img o.report
 
@@ -39,11 +58,69 @@ HaltsRightly img (Refused refusal) = IsRefused img refusal
 HaltsRightly img Device = Unit {0}
 HaltsRightly img Memory = Unit {0}
 
+-- where bytes that an undo gave are refused, their first fault is told with its place, also one of their header
+abbrev pub HaltsAtFault : List ℕ → Halt → Type 0
+HaltsAtFault img (Refused (TooLong len)) = ⊥
+HaltsAtFault img (Refused (Header fault)) = ⊥
+HaltsAtFault img (Refused (Corrupt what at)) = IsFirstFault img (what, at)
+HaltsAtFault img Device = Unit {0}
+HaltsAtFault img Memory = Unit {0}
+
+-- opening undoes a file with these bytes: it isn't too long, its front is sound, the gate of its undo area is open,
+-- and nothing is wrong with what that keeps
+pub record IsUndone (img : List ℕ) : Type 0 where
+  pub within : length img ≤ LONGEST_FILE
+  pub front : front_fault img ≡ None
+  pub gate_open : is_open (form_of img) img ≡ true
+  pub sound : opening_fault (form_of img) img ≡ None
+
+-- a file was undone, and is what the undo gives; all of it is on the medium, where the file was
+pub record Undone (old now : History) : Type 0 where
+  pub was : IsUndone (seen old)
+  pub bytes : seen now ≡ opened_bytes (seen old)
+  pub quiet : Quiet old → Quiet now
+
+-- a file was undone, or is as before
+abbrev pub SameOrUndone : History → History → Type 0
+SameOrUndone old now = Undone old now ⊎ (now ≡ old)
+
+-- a file was undone, where opening undoes it, and else is as before
+abbrev pub UndoneIfOpen : History → History → Type 0
+UndoneIfOpen old now = Undone old now ⊎ ((IsUndone (seen old) → ⊥) × (now ≡ old))
+
+-- A call failed in the midst of the undo of a file whose gate was open. Where all of the file was on the medium, it
+-- opens, and its undo changes no byte by which the header is known, then every stop leaves one that opens to the map
+-- that was to be restored.
+pub record UndoBroken (old now : History) : Type 0 where
+  pub gate_open : is_open (form_of (seen old)) (seen old) ≡ true
+  pub stops : Quiet old → Opens (seen old) → Mild (seen old) → LeavesOnly old now (Reopens (opened_bytes (seen old)))
+
+-- what a look into a file leaves of it where a call failed
+abbrev pub LookBroken : History → History → Type 0
+LookBroken old now = SameOrUndone old now ⊎ UndoBroken old now
+
+-- what an opening that halted leaves
+abbrev pub HaltLeaves : Halt → History → History → Type 0
+HaltLeaves (Refused refusal) old now = UndoneIfOpen old now
+HaltLeaves Device old now = LookBroken old now
+HaltLeaves Memory old now = UndoneIfOpen old now
+
 -- how a look halts where the front is refused
 abbrev pub of_front : Front.FrontRefusal → Halt
 of_front (Front.TheVariants.Short len) = Refused (Corrupt TooShort len)
 of_front (Front.TheVariants.Header fault) = Refused (Header fault)
 of_front Front.TheVariants.Io = Device
+
+-- and where it is the front that an undo gave
+abbrev pub of_restored_front : Front.FrontRefusal → Halt
+of_restored_front (Front.TheVariants.Short len) = Refused (Corrupt TooShort len)
+of_restored_front (Front.TheVariants.Header fault) = Refused (Corrupt BadHeader 0)
+of_restored_front Front.TheVariants.Io = Device
+
+-- and where the undo area is refused
+abbrev pub of_undo : Undo.UndoRefusal → Halt
+of_undo (Undo.TheVariants.UndoBad what at) = Refused (Corrupt what at)
+of_undo Undo.TheVariants.Io = Device
 
 -- and where the check gives no report
 abbrev pub of_check : Check.CheckRefusal → Halt

@@ -5,7 +5,7 @@ ghost use Rattle.tdb_disk.specs.Count.{Rose};
 ghost use Rattle.tdb_disk.specs.Names.{SameBut};
 ghost use Rattle.tdb_top.specs.CommandLine.{insert};
 ghost use Rattle.tdb_top.specs.Ending.{LineCause, ending_of, no_line, device_fault};
-ghost use Rattle.tdb_top.specs.Left.{NameLeft};
+ghost use Rattle.tdb_top.specs.Left.{AddLeaves, NameLeft};
 
 use crate::ending::Ending;
 use crate::insert::insert;
@@ -29,7 +29,7 @@ pub(crate) fn add_key<F: Files>(
     ensures line { ending_of result ≡ no_line → ⊥ }
     ensures given_back { (other : List ℕ) → F.is_taken files.new other ≡ false }
     ensures others { SameBut name.now (F.held files.old) (F.held files.new) }
-    ensures left { IsTrue F.D.tells → NameLeft key.now value.now (F.held files.old name.now) (ending_of result) (F.held files.new name.now) }
+    ensures left { IsTrue F.D.tells → NameLeft (AddLeaves key.now value.now) (F.held files.old name.now) (ending_of result) (F.held files.new name.now) }
     ensures faults { F.faults files.old ≤ F.faults files.new }
 {
     match files.take(alloc, name, Take::Existing) {

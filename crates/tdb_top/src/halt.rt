@@ -2,13 +2,14 @@
 
 ghost use Rattle.std.specs.Prelude.{◌≡◌};
 ghost use Rattle.tdb_top.specs.declared.halt.Halt.TheVariants.{Device, Memory};
-ghost use Rattle.tdb_top.specs.Opening.{of_front, of_check, of_value};
+ghost use Rattle.tdb_top.specs.Opening.{of_front, of_restored_front, of_undo, of_check, of_value};
 
 use std::alloc::AllocError;
 use tdb_chain::ValueRefusal;
 use tdb_check::{CheckRefusal, FrontRefusal};
 use tdb_disk::DiskFault;
 use tdb_space::Io;
+use tdb_undo::UndoRefusal;
 use tdb_words::{HeaderFault, What};
 use thiserror::Error;
 
@@ -23,7 +24,8 @@ pub(crate) enum Refusal {
     #[error("the header has a fault")]
     Header { fault: HeaderFault },
 
-    /// Behind a sound header the file has a fault, and this is its first.
+    /// Its own header is sound, and this is the first fault that opening the file meets behind it, or in what its
+    /// undo gives.
     #[error("the file has a fault")]
     Corrupt { what: What, at: u64 },
 }
@@ -96,6 +98,19 @@ impl From<FrontRefusal> for Halt {
     }
 }
 
+impl From<UndoRefusal> for Halt {
+    ghost from_gives = { λ refusal e. e ≡ of_undo refusal };
+
+    fn from(refusal: UndoRefusal) -> Self {
+        match refusal {
+            UndoRefusal::UndoBad { what, at } => Halt::Refused {
+                refusal: Refusal::Corrupt { what, at },
+            },
+            UndoRefusal::Io => Halt::Device,
+        }
+    }
+}
+
 impl From<CheckRefusal> for Halt {
     ghost from_gives = { λ fault e. e ≡ of_check fault };
 
@@ -106,6 +121,24 @@ impl From<CheckRefusal> for Halt {
             },
             CheckRefusal::Io => Halt::Device,
             CheckRefusal::Memory => Halt::Memory,
+        }
+    }
+}
+
+impl Halt {
+    /// How a look ends where the front that an undo gave a file is refused: a fault of that header isn't one of the
+    /// file's own, and is told with its place.
+    pub(crate) fn after_undo(front: FrontRefusal) -> Halt
+        ensures { result ≡ of_restored_front front }
+    {
+        match front {
+            FrontRefusal::Header { fault: _ } => Halt::Refused {
+                refusal: Refusal::Corrupt {
+                    what: What::Header,
+                    at: 0,
+                },
+            },
+            FrontRefusal::Short { len: _ } | FrontRefusal::Io => Halt::from(front),
         }
     }
 }

@@ -11,7 +11,8 @@ ghost use Rattle.tdb_space.specs.Accepted.{AcceptWith};
 ghost use Rattle.tdb_top.specs.declared.halt.Halt.TheVariants.{Device, Memory};
 ghost use Rattle.tdb_top.specs.declared.insert.Inserted.TheVariants.{Done as IsDone};
 ghost use Rattle.tdb_top.specs.Insert.{first_of, need_for, led_to, inserted, BrokenOff, InsertCause, IsInserted, HasAdded};
-ghost use Rattle.tdb_top.specs.Opening.{CanOpen, HaltsRightly};
+ghost use Rattle.tdb_top.specs.Left.{Interrupted};
+ghost use Rattle.tdb_top.specs.Opening.{opened_bytes, CanOpen, HaltsRightly, UndoneIfOpen};
 
 use crate::halt::Halt;
 use crate::opening::Opened;
@@ -136,13 +137,13 @@ pub(crate) fn insert<D: Disk>(
     requires short { length key.now + length value.now < 2 ^ 32 }
     requires limit { limit ≤ 2 ^ 32 }
     ensures opened { OnOk result (IsTrue D.tells → CanOpen (seen (D.history disk.old))) }
-    ensures ends { IfOk result (λ end. IsTrue D.tells → InsertCause (seen (D.history disk.old)) key.now value.now limit end) }
-    ensures done { IfOk result (λ end. end ≡ IsDone → IsTrue D.tells → IsInserted (seen (D.history disk.old)) key.now value.now (D.history disk.new)) }
-    ensures added { IfOk result (λ end. end ≡ IsDone → IsTrue D.tells → HasAdded (seen (D.history disk.old)) key.now value.now (seen (D.history disk.new))) }
+    ensures ends { IfOk result (λ end. IsTrue D.tells → InsertCause (opened_bytes (seen (D.history disk.old))) key.now value.now limit end) }
+    ensures done { IfOk result (λ end. end ≡ IsDone → IsTrue D.tells → IsInserted (opened_bytes (seen (D.history disk.old))) key.now value.now (D.history disk.new)) }
+    ensures added { IfOk result (λ end. end ≡ IsDone → IsTrue D.tells → HasAdded (opened_bytes (seen (D.history disk.old))) key.now value.now (seen (D.history disk.new))) }
     ensures refused { IfErr result (λ halt. IsTrue D.tells → HaltsRightly (seen (D.history disk.old)) halt) }
-    ensures broken { IfErr result (λ halt. halt ≡ Device → IsTrue D.tells → BrokenOff (seen (D.history disk.old)) (inserted (form_of (seen (D.history disk.old))) (seen (D.history disk.old)) key.now value.now) (need_for key.now value.now) (seen (D.history disk.new))) }
-    ensures kept_ok { IfOk result (λ end. end ≢ IsDone → D.history disk.new ≡ D.history disk.old) }
-    ensures kept_err { IfErr result (λ halt. halt ≢ Device → D.history disk.new ≡ D.history disk.old) }
+    ensures broken { IfErr result (λ halt. halt ≡ Device → IsTrue D.tells → Interrupted key.now value.now (D.history disk.old) (D.history disk.new)) }
+    ensures kept_ok { IfOk result (λ end. end ≢ IsDone → IsTrue D.tells → UndoneIfOpen (D.history disk.old) (D.history disk.new)) }
+    ensures kept_err { IfErr result (λ halt. halt ≢ Device → IsTrue D.tells → UndoneIfOpen (D.history disk.old) (D.history disk.new)) }
     ensures cause { HasCauseOf Device (D.faults disk.old) (D.faults disk.new) result }
 {
     let opened = Opened::open(alloc, disk)?;

@@ -21,3 +21,5 @@ pub use top::run;
 mod create_tests;
 #[cfg(test)]
 mod tests;
+#[cfg(test)]
+mod undo_tests;

@@ -1,6 +1,6 @@
-// The opening of a file: no file is used before the whole of it is checked.
+// The opening of a file: an unfinished change is undone, and no file is used before the whole of it is checked.
 
-ghost use Rattle.std.specs.Prelude.{◌≡◌, ◌+◌, ◌*◌, ◌<◌, ◌≤◌, IsTrue, IfOk, IfErr};
+ghost use Rattle.std.specs.Prelude.{◌≡◌, ◌+◌, ◌*◌, ◌<◌, ◌≤◌, IsTrue, IfOk, IfErr, OnOk};
 ghost use Rattle.tdb_disk.specs.Count.{HasCauseOf};
 ghost use Rattle.tdb_disk.specs.History.{seen};
 ghost use Rattle.tdb_space.specs.Form.{form_in};
@@ -16,6 +16,7 @@ use std::alloc::Global;
 use tdb_check::{CheckRefusal, Report, check, read_front};
 use tdb_disk::Disk;
 use tdb_space::Direct;
+use tdb_undo::{needs_recovery, recover};
 use tdb_words::Header;
 
 /// What is known of a file that was opened.
@@ -47,17 +48,41 @@ fn check_disk<D: Disk>(alloc: Global, disk: &mut D, header: &Header) -> Result<R
 
 impl Opened {
     ghost use Rattle.tdb_top.specs.declared.halt.Halt.TheVariants.{Device};
-    ghost use Rattle.tdb_top.specs.Opening.{HaltsRightly, IsOpenedOn};
+    ghost use Rattle.tdb_top.specs.Opening.{opened_bytes, HaltsRightly, HaltsAtFault, HaltLeaves, UndoneIfOpen, IsOpenedOn, IsCheckedOn};
 
-    /// Opens the file on a disk: it tests the length, then the header, and then checks the whole file. It changes nothing. The
-    /// memory that it takes is that of the check.
-    pub(crate) fn open<D: Disk>(alloc: Global, disk: &mut D) -> Result<Opened, Halt>
-        ensures opened { IfOk result (λ o. IsTrue D.tells → IsOpenedOn (seen (D.history disk.old)) o) }
+    /// Opens the file on a disk after it was undone: its header is read again, and the whole file is checked. It
+    /// changes nothing.
+    fn undone<D: Disk>(alloc: Global, disk: &mut D) -> Result<Opened, Halt>
+        ensures checked { IfOk result (λ o. IsTrue D.tells → IsCheckedOn (seen (D.history disk.old)) o) }
         ensures length { IfOk result (λ o. o.len ≡ D.size disk.old) }
-        ensures within { IfOk result (λ o. o.len ≤ LONGEST_FILE) }
-        ensures refused { IfErr result (λ halt. IsTrue D.tells → HaltsRightly (seen (D.history disk.old)) halt) }
+        ensures refused { IfErr result (λ halt. IsTrue D.tells → HaltsAtFault (seen (D.history disk.old)) halt) }
         ensures size { D.size disk.new ≡ D.size disk.old }
         ensures history { D.history disk.new ≡ D.history disk.old }
+        ensures cause { HasCauseOf Device (D.faults disk.old) (D.faults disk.new) result }
+    {
+        let len = disk.len()?;
+        let header = match read_front(disk) {
+            Ok(header) => header,
+            Err(front) => return Err(Halt::after_undo(front)),
+        };
+        let report = check_disk(alloc, disk, &header)?;
+        Ok(Opened {
+            header,
+            len,
+            report,
+        })
+    }
+
+    /// Opens the file on a disk. It tests the length and then the header, undoes what the undo area keeps where its
+    /// gate is open, and then checks the whole file. Where nothing has to be undone it changes nothing. The memory
+    /// that it takes is that of the check.
+    pub(crate) fn open<D: Disk>(alloc: Global, disk: &mut D) -> Result<Opened, Halt>
+        ensures opened { IfOk result (λ o. IsTrue D.tells → IsOpenedOn (seen (D.history disk.old)) o) }
+        ensures length { IfOk result (λ o. o.len ≡ D.size disk.new) }
+        ensures reads { OnOk result (IsTrue D.tells → seen (D.history disk.new) ≡ opened_bytes (seen (D.history disk.old))) }
+        ensures left { OnOk result (IsTrue D.tells → UndoneIfOpen (D.history disk.old) (D.history disk.new)) }
+        ensures refused { IfErr result (λ halt. IsTrue D.tells → HaltsRightly (seen (D.history disk.old)) halt) }
+        ensures halted { IfErr result (λ halt. IsTrue D.tells → HaltLeaves halt (D.history disk.old) (D.history disk.new)) }
         ensures cause { HasCauseOf Device (D.faults disk.old) (D.faults disk.new) result }
     {
         let len = disk.len()?;
@@ -67,6 +92,10 @@ impl Opened {
             });
         }
         let header = read_front(disk)?;
+        if needs_recovery(disk, &header)? {
+            recover(disk, &header)?;
+            return Opened::undone(alloc, disk);
+        }
         let report = check_disk(alloc, disk, &header)?;
         Ok(Opened {
             header,

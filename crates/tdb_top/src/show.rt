@@ -1,14 +1,16 @@
 // The command that shows the value of a key.
 
-ghost use Rattle.std.specs.Prelude.{◌≡◌, ◌^◌, ◌<◌, ◌≤◌, ℕ, List, false, length, IsTrue, IfOk, IfErr};
+ghost use Rattle.std.specs.Prelude.{◌≡◌, ◌^◌, ◌<◌, ◌≤◌, ℕ, List, false, length, IsTrue, IfOk, IfErr, OnOk};
 ghost use Rattle.tdb_disk.specs.Count.{HasCauseOf, Rose};
 ghost use Rattle.tdb_disk.specs.History.{seen};
+ghost use Rattle.tdb_disk.specs.Names.{SameBut};
 ghost use Rattle.tdb_space.specs.Form.{form_of};
 ghost use Rattle.tdb_space.specs.Pairs.{map_of};
 ghost use Rattle.tdb_top.specs.declared.halt.Halt.TheVariants.{Device};
 ghost use Rattle.tdb_top.specs.CommandLine.{show};
 ghost use Rattle.tdb_top.specs.Ending.{LineCause, ending_of, no_line, device_fault};
-ghost use Rattle.tdb_top.specs.Opening.{CanOpen, HaltsRightly};
+ghost use Rattle.tdb_top.specs.Left.{LookLeaves, NameLeft};
+ghost use Rattle.tdb_top.specs.Opening.{opened_bytes, CanOpen, HaltsRightly, HaltLeaves, UndoneIfOpen};
 
 use crate::ending::Ending;
 use crate::halt::Halt;
@@ -19,14 +21,14 @@ use tdb_disk::{Disk, Files, Take};
 use tdb_space::Direct;
 use tdb_words::Bytes;
 
-/// Opens the file on a disk, and looks up the value that it holds for a key, if any.
+/// Opens the file on a disk, and looks up the value that it then holds for a key, if any.
 fn look_up<D: Disk>(alloc: Global, disk: &mut D, key: &[u8]) -> Result<Option<Bytes>, Halt>
     requires { length key.now < 2 ^ 32 }
     ensures opened { IfOk result (λ found. IsTrue D.tells → CanOpen (seen (D.history disk.old))) }
-    ensures found { IfOk result (λ found. IsTrue D.tells → map_of (form_of (seen (D.history disk.old))) (seen (D.history disk.old)) key.now ≡ found) }
+    ensures found { IfOk result (λ found. IsTrue D.tells → map_of (form_of (opened_bytes (seen (D.history disk.old)))) (opened_bytes (seen (D.history disk.old))) key.now ≡ found) }
+    ensures left { OnOk result (IsTrue D.tells → UndoneIfOpen (D.history disk.old) (D.history disk.new)) }
     ensures refused { IfErr result (λ halt. IsTrue D.tells → HaltsRightly (seen (D.history disk.old)) halt) }
-    ensures size { D.size disk.new ≡ D.size disk.old }
-    ensures history { D.history disk.new ≡ D.history disk.old }
+    ensures halted { IfErr result (λ halt. IsTrue D.tells → HaltLeaves halt (D.history disk.old) (D.history disk.new)) }
     ensures cause { HasCauseOf Device (D.faults disk.old) (D.faults disk.new) result }
 {
     let opened = Opened::open(alloc, disk)?;
@@ -46,7 +48,8 @@ pub(crate) fn show<F: Files>(alloc: Global, name: &str, key: &[u8], files: &mut 
     ensures sound { (ending_of result ≡ device_fault → ⊥) → F.faults files.new ≡ F.faults files.old }
     ensures line { ending_of result ≡ no_line → ⊥ }
     ensures given_back { (other : List ℕ) → F.is_taken files.new other ≡ false }
-    ensures kept { IsTrue F.D.tells → (other : List ℕ) → F.held files.new other ≡ F.held files.old other }
+    ensures others { SameBut name.now (F.held files.old) (F.held files.new) }
+    ensures left { IsTrue F.D.tells → NameLeft LookLeaves (F.held files.old name.now) (ending_of result) (F.held files.new name.now) }
     ensures faults { F.faults files.old ≤ F.faults files.new }
 {
     match files.take(alloc, name, Take::Existing) {

@@ -106,7 +106,7 @@ enum Failing {
 }
 
 /// The status of a run of words with blanks between them, and what it prints.
-fn run_words(
+pub(crate) fn run_words(
     alloc: Global,
     files: &mut MemFiles,
     output: &mut MemSink,
@@ -226,10 +226,10 @@ fn dead_and_bad_records(rt: HostRuntime) -> Result<(), Fail> {
 }
 
 /// A word at an offset that is changed in a file.
-type Change = (u16, u32);
+pub(crate) type Change = (u16, u32);
 
 /// A file of 4096 bytes with these words.
-fn file_with(words: &[Change]) -> [u8; 4096] {
+pub(crate) fn file_with(words: &[Change]) -> [u8; 4096] {
     let mut image = [0; 4096];
     image[..10].copy_from_slice(b"TDB file\n\0");
     change(&mut image, words);
@@ -237,7 +237,7 @@ fn file_with(words: &[Change]) -> [u8; 4096] {
 }
 
 /// Writes little-endian words into a file.
-fn change(image: &mut [u8; 4096], words: &[Change]) {
+pub(crate) fn change(image: &mut [u8; 4096], words: &[Change]) {
     for (at, word) in words {
         let at = usize::from(*at).min(4092);
         image[at..at + 4].copy_from_slice(&word.to_le_bytes());
@@ -245,7 +245,7 @@ fn change(image: &mut [u8; 4096], words: &[Change]) {
 }
 
 /// The header of a new file of 131 chains.
-const NEW_FILE: [Change; 4] = [
+pub(crate) const NEW_FILE: [Change; 4] = [
     (32, 0x2601_196D),
     (36, 131),
     (52, 0xF67D_9F0D),
@@ -253,7 +253,7 @@ const NEW_FILE: [Change; 4] = [
 ];
 
 /// The words of a free record behind the heads, and of the used record of `a` behind that.
-const ONE_RECORD: [Change; 12] = [
+pub(crate) const ONE_RECORD: [Change; 12] = [
     (168, 696),
     (200, 4064),
     (700, 3344),
@@ -330,12 +330,12 @@ fn checks_of_one_record(rt: HostRuntime) -> Result<(), Fail> {
             3,
             "corrupt Overlap 1000\n",
         ),
-        // An undo area whose gate is open.
+        // An undo area whose gate is open, and that says no length that the file had.
         (
             [(44, 1000), (1004, 100), (1020, 0xF53B_C0E7)].as_slice(),
             4096,
             3,
-            "corrupt UndoBad 1020\n",
+            "corrupt UndoBad 1008\n",
         ),
     ] {
         let (found, bytes) = check_of(rt.alloc(), &image, words, len)?;

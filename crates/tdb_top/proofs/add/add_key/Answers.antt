@@ -5,10 +5,10 @@ use Rattle.tdb_disk.specs.declared.files.Take.TheVariants.{Existing, New}
 use Rattle.tdb_top.specs.declared.halt.Halt.TheVariants.{Device}
 use Rattle.tdb_top.specs.CommandLine.{insert}
 use Rattle.tdb_top.specs.Ending.{LineCause, ending_of, insert_ends, key_added}
-use Rattle.tdb_top.specs.Left.{NameLeft}
+use Rattle.tdb_top.specs.Left.{AddLeaves, NameLeft}
 use Rattle.tdb_top.proofs.Causes.{rose_earlier, opened_cause, halted_cause, untaken_cause}
 use Rattle.tdb_top.proofs.Held.{held_there, same_or_other}
-use Rattle.tdb_top.proofs.Leavings.{inserted_leaves, halted_leaves, untaken_leaves, name_left}
+use Rattle.tdb_top.proofs.Leavings.{inserted_leaves, halted_leaves, add_untaken, name_left}
 use Rattle.tdb_top.proofs.add.add_key.Goals as goal
 use Rattle.tdb_top.proofs.add.add_key.Goals.{After-give}
 
@@ -29,9 +29,9 @@ returns-in-Ok-ends-clause-left g c told =
     let old = g.F.D.Disk.history c.in-Ok.disk in
     let now = g.F.D.Disk.history c.insert-ends.new.disk in
     let i = c.in-Ok-ends.inserted in
-    name_left c.args.key.now c.args.value.now (g.F.Files.held c.args.files.now c.args.name.now) (g.F.Files.held c.give.new.self c.args.name.now) old now (insert_ends i)
+    name_left (AddLeaves c.args.key.now c.args.value.now) (g.F.Files.held c.args.files.now c.args.name.now) (g.F.Files.held c.give.new.self c.args.name.now) old now (insert_ends i)
     (there g ((goal.at.returns-in-Ok-ends-clause-left g c).After-give) told) (c.give.ensures.held told)
-    (inserted_leaves c.args.key.now c.args.value.now old now i (λ done. c.in-Ok-ends.ensures.done done told) (λ done. c.in-Ok-ends.ensures.added done told) c.in-Ok-ends.ensures.kept_ok)
+    (inserted_leaves c.args.key.now c.args.value.now old now i (λ done. c.in-Ok-ends.ensures.done done told) (λ done. c.in-Ok-ends.ensures.added done told) (λ other. c.in-Ok-ends.ensures.kept_ok other told))
 
 -- how it halted
 pub returns-in-Err-ends-clause-cause : goal.returns-in-Err-ends-clause-cause
@@ -53,9 +53,9 @@ returns-in-Err-ends-clause-left g c told =
     let now = g.F.D.Disk.history c.insert-ends.new.disk in
     let held = g.F.Files.held c.args.files.now c.args.name.now in
     let given = g.F.Files.held c.give.new.self c.args.name.now in
-    subst (λ e. NameLeft c.args.key.now c.args.value.now held (ending_of e) given) (sym c.from.ensures)
-    (name_left c.args.key.now c.args.value.now held given old now _ (there g ((goal.at.returns-in-Err-ends-clause-left g c).After-give) told) (c.give.ensures.held told)
-    (halted_leaves c.args.key.now c.args.value.now old now c.in-Err-ends.halt (λ is. c.in-Err-ends.ensures.broken is told) c.in-Err-ends.ensures.kept_err))
+    subst (λ e. NameLeft (AddLeaves c.args.key.now c.args.value.now) held (ending_of e) given) (sym c.from.ensures)
+    (name_left (AddLeaves c.args.key.now c.args.value.now) held given old now _ (there g ((goal.at.returns-in-Err-ends-clause-left g c).After-give) told) (c.give.ensures.held told)
+    (halted_leaves c.args.key.now c.args.value.now old now c.in-Err-ends.halt (λ is. c.in-Err-ends.ensures.broken is told) (λ other. c.in-Err-ends.ensures.kept_err other told)))
 
 pub returns-in-Err-ends-clause-given_back : goal.returns-in-Err-ends-clause-given_back
 returns-in-Err-ends-clause-given_back g c other = elim (same_or_other other c.args.name.now) [
@@ -72,5 +72,5 @@ returns-in-Err-clause-cause g c told =
 
 pub returns-in-Err-clause-left : goal.returns-in-Err-clause-left
 returns-in-Err-clause-left g c told =
-    untaken_leaves c.args.key.now c.args.value.now (g.F.Files.held c.args.files.now c.args.name.now) (g.F.Files.held c.take.new.self c.args.name.now) c.args.name.now c.in-Err.refusal _
-    (c.in-Err.ensures.refused_held c.args.name.now) (λ is. let new : Existing ≡ New = c.in-Err.ensures.there_how (ap Err is) in cc) c.untaken.ensures
+    add_untaken c.args.key.now c.args.value.now (g.F.Files.held c.args.files.now c.args.name.now) (g.F.Files.held c.take.new.self c.args.name.now) c.args.name.now c.in-Err.refusal _
+    (c.in-Err.ensures.refused_held c.args.name.now) (λ is. ((c.in-Err.ensures.missing told).0 (ap Err is)).0) (λ is. let new : Existing ≡ New = c.in-Err.ensures.there_how (ap Err is) in cc) c.untaken.ensures

@@ -1,4 +1,4 @@
-use Rattle.std.proofs.Common.{◌≡◌, ℕ, List, [], true, ◌<◌, Err, Some, refl, sym, ap, ◌∙◌, subst, arith}
+use Rattle.std.proofs.Common.{◌≡◌, [], true, ◌<◌, Err, Some, refl, sym, ap, subst, arith}
 use Rattle.tdb_disk.specs.History.{began}
 use Rattle.tdb_disk.specs.Count.{Rose}
 use Rattle.tdb_disk.specs.declared.files.Take.TheVariants.{Existing, New}
@@ -6,7 +6,9 @@ use Rattle.tdb_top.specs.declared.halt.Halt.TheVariants.{Device}
 use Rattle.tdb_top.specs.CommandLine.{check}
 use Rattle.tdb_top.specs.Ending.{LineCause, ending_of, number, keys_counted}
 use Rattle.tdb_top.proofs.Causes.{rose_earlier, opened_cause, halted_cause, untaken_cause}
-use Rattle.tdb_top.proofs.Held.{held_there, held_again}
+use Rattle.tdb_top.specs.Left.{LookLeaves, NameLeft}
+use Rattle.tdb_top.proofs.Held.{held_there}
+use Rattle.tdb_top.proofs.Leavings.{name_left, look_halted, look_untaken}
 use Rattle.tdb_top.proofs.count.count.Goals as goal
 use Rattle.tdb_top.proofs.count.count.Goals.{After-give}
 
@@ -14,18 +16,6 @@ use Rattle.tdb_top.proofs.count.count.Goals.{After-give}
 there : (g : _) (c : After-give g) → g.F.D.Disk.tells ≡ true → g.F.Files.held c.args.files.now c.args.name.now ≡ Some (g.F.D.Disk.history c.in-Ok.disk)
 there g c told = held_there (g.F.Files.held c.args.files.now c.args.name.now) (began []) (g.F.D.Disk.history c.in-Ok.disk)
     (λ none. let existing : Existing ≡ New → ⊥ = (λ e. cc) in let wrong = (c.in-Ok.ensures.missing told).1 (none, existing) in cc) (c.in-Ok.ensures.disk told)
-
--- all is held as before
-again : (g : _) (c : After-give g) → g.F.D.Disk.tells ≡ true → (other : List ℕ) → g.F.Files.held c.give.new.self other ≡ g.F.Files.held c.args.files.now other
-again g c told other =
-    held_again c.args.name.now other (g.F.Files.held c.args.files.now) (g.F.Files.held c.take.new.self) (g.F.Files.held c.give.new.self) (g.F.D.Disk.history c.in-Ok.disk)
-    c.in-Ok.ensures.held_others c.give.ensures.held_others (there g c told) (c.give.ensures.held told ∙ ap Some c.open-opened.ensures.history)
-
-pub returns-in-Ok-opened-clause-kept : goal.returns-in-Ok-opened-clause-kept
-returns-in-Ok-opened-clause-kept g c = again g ((goal.at.returns-in-Ok-opened-clause-kept g c).After-give)
-
-pub returns-in-Err-opened-clause-kept : goal.returns-in-Err-opened-clause-kept
-returns-in-Err-opened-clause-kept g c = again g ((goal.at.returns-in-Err-opened-clause-kept g c).After-give)
 
 -- the check counted the keys
 pub returns-in-Ok-opened-clause-cause : goal.returns-in-Ok-opened-clause-cause
@@ -55,3 +45,25 @@ returns-in-Err-clause-cause g c told =
     untaken_cause (check c.args.name.now) (g.F.Files.held c.args.files.now c.args.name.now) _ _ c.in-Err.refusal _ tt
     (λ is. ((c.in-Err.ensures.missing told).0 (ap Err is)).0) (λ is. let new : Existing ≡ New = c.in-Err.ensures.there_how (ap Err is) in cc)
     (λ is. c.in-Err.ensures.cause.failed is) c.untaken.ensures
+
+-- what is left of the file
+pub returns-in-Ok-opened-clause-left : goal.returns-in-Ok-opened-clause-left
+returns-in-Ok-opened-clause-left g c told =
+    name_left LookLeaves (g.F.Files.held c.args.files.now c.args.name.now) (g.F.Files.held c.give.new.self c.args.name.now) (g.F.D.Disk.history c.in-Ok.disk) (g.F.D.Disk.history c.open-opened.new.disk) (number c.in-Ok-opened.opened.report.live)
+    (there g ((goal.at.returns-in-Ok-opened-clause-left g c).After-give) told) (c.give.ensures.held told) (c.in-Ok-opened.ensures.left told)
+
+pub returns-in-Err-opened-clause-left : goal.returns-in-Err-opened-clause-left
+returns-in-Err-opened-clause-left g c told =
+    let held = g.F.Files.held c.args.files.now c.args.name.now in
+    let given = g.F.Files.held c.give.new.self c.args.name.now in
+    let old = g.F.D.Disk.history c.in-Ok.disk in
+    let now = g.F.D.Disk.history c.open-opened.new.disk in
+    subst (λ e. NameLeft LookLeaves held (ending_of e) given) (sym c.from.ensures)
+    (name_left LookLeaves held given old now _ (there g ((goal.at.returns-in-Err-opened-clause-left g c).After-give) told) (c.give.ensures.held told)
+    (look_halted old now c.in-Err-opened.halt (c.in-Err-opened.ensures.halted told)))
+
+pub returns-in-Err-clause-left : goal.returns-in-Err-clause-left
+returns-in-Err-clause-left g c told =
+    look_untaken (g.F.Files.held c.args.files.now c.args.name.now) (g.F.Files.held c.take.new.self c.args.name.now) c.args.name.now c.in-Err.refusal _
+    (c.in-Err.ensures.refused_held c.args.name.now) (λ is. ((c.in-Err.ensures.missing told).0 (ap Err is)).0)
+    (λ is. let new : Existing ≡ New = c.in-Err.ensures.there_how (ap Err is) in cc) c.untaken.ensures

@@ -1,4 +1,4 @@
-use Rattle.std.proofs.Common.{◌≡◌, ℕ, List, [], true, ◌<◌, Err, Some, refl, sym, ap, ◌∙◌, subst, arith}
+use Rattle.std.proofs.Common.{◌≡◌, [], true, ◌<◌, Err, Some, refl, sym, ap, ◌∙◌, subst, arith}
 use Rattle.tdb_disk.specs.History.{began}
 use Rattle.tdb_disk.specs.Count.{Rose}
 use Rattle.tdb_disk.specs.declared.files.Take.TheVariants.{Existing, New}
@@ -6,7 +6,9 @@ use Rattle.tdb_top.specs.declared.halt.Halt.TheVariants.{Device}
 use Rattle.tdb_top.specs.CommandLine.{show}
 use Rattle.tdb_top.specs.Ending.{LineCause, ending_of, shown, no_key, value_shown, key_lacking}
 use Rattle.tdb_top.proofs.Causes.{rose_earlier, opened_cause, halted_cause, untaken_cause}
-use Rattle.tdb_top.proofs.Held.{held_there, held_again}
+use Rattle.tdb_top.specs.Left.{LookLeaves, NameLeft}
+use Rattle.tdb_top.proofs.Held.{held_there}
+use Rattle.tdb_top.proofs.Leavings.{name_left, look_halted, look_untaken}
 use Rattle.tdb_top.proofs.show.show.Goals as goal
 use Rattle.tdb_top.proofs.show.show.Goals.{After-give}
 
@@ -14,21 +16,6 @@ use Rattle.tdb_top.proofs.show.show.Goals.{After-give}
 there : (g : _) (c : After-give g) → g.F.D.Disk.tells ≡ true → g.F.Files.held c.args.files.now c.args.name.now ≡ Some (g.F.D.Disk.history c.in-Ok.disk)
 there g c told = held_there (g.F.Files.held c.args.files.now c.args.name.now) (began []) (g.F.D.Disk.history c.in-Ok.disk)
     (λ none. let existing : Existing ≡ New → ⊥ = (λ e. cc) in let wrong = (c.in-Ok.ensures.missing told).1 (none, existing) in cc) (c.in-Ok.ensures.disk told)
-
--- all is held as before
-again : (g : _) (c : After-give g) → g.F.D.Disk.tells ≡ true → (other : List ℕ) → g.F.Files.held c.give.new.self other ≡ g.F.Files.held c.args.files.now other
-again g c told other =
-    held_again c.args.name.now other (g.F.Files.held c.args.files.now) (g.F.Files.held c.take.new.self) (g.F.Files.held c.give.new.self) (g.F.D.Disk.history c.in-Ok.disk)
-    c.in-Ok.ensures.held_others c.give.ensures.held_others (there g c told) (c.give.ensures.held told ∙ ap Some c.look_up-found.ensures.history)
-
-pub returns-in-Ok-Some-clause-kept : goal.returns-in-Ok-Some-clause-kept
-returns-in-Ok-Some-clause-kept g c = again g ((goal.at.returns-in-Ok-Some-clause-kept g c).After-give)
-
-pub returns-in-Ok-None-clause-kept : goal.returns-in-Ok-None-clause-kept
-returns-in-Ok-None-clause-kept g c = again g ((goal.at.returns-in-Ok-None-clause-kept g c).After-give)
-
-pub returns-in-Err-found-clause-kept : goal.returns-in-Err-found-clause-kept
-returns-in-Err-found-clause-kept g c = again g ((goal.at.returns-in-Err-found-clause-kept g c).After-give)
 
 -- the map has the value, or nothing
 pub returns-in-Ok-Some-clause-cause : goal.returns-in-Ok-Some-clause-cause
@@ -63,3 +50,30 @@ returns-in-Err-clause-cause g c told =
     untaken_cause (show c.args.name.now c.args.key.now) (g.F.Files.held c.args.files.now c.args.name.now) _ _ c.in-Err.refusal _ tt
     (λ is. ((c.in-Err.ensures.missing told).0 (ap Err is)).0) (λ is. let new : Existing ≡ New = c.in-Err.ensures.there_how (ap Err is) in cc)
     (λ is. c.in-Err.ensures.cause.failed is) c.untaken.ensures
+
+-- what is left of the file
+pub returns-in-Ok-Some-clause-left : goal.returns-in-Ok-Some-clause-left
+returns-in-Ok-Some-clause-left g c told =
+    name_left LookLeaves (g.F.Files.held c.args.files.now c.args.name.now) (g.F.Files.held c.give.new.self c.args.name.now) (g.F.D.Disk.history c.in-Ok.disk) (g.F.D.Disk.history c.look_up-found.new.disk) (shown c.in-Ok-Some.value)
+    (there g ((goal.at.returns-in-Ok-Some-clause-left g c).After-give) told) (c.give.ensures.held told) (c.in-Ok-Some.ensures.left told)
+
+pub returns-in-Ok-None-clause-left : goal.returns-in-Ok-None-clause-left
+returns-in-Ok-None-clause-left g c told =
+    name_left LookLeaves (g.F.Files.held c.args.files.now c.args.name.now) (g.F.Files.held c.give.new.self c.args.name.now) (g.F.D.Disk.history c.in-Ok.disk) (g.F.D.Disk.history c.look_up-found.new.disk) no_key
+    (there g ((goal.at.returns-in-Ok-None-clause-left g c).After-give) told) (c.give.ensures.held told) (c.in-Ok-None.ensures.left told)
+
+pub returns-in-Err-found-clause-left : goal.returns-in-Err-found-clause-left
+returns-in-Err-found-clause-left g c told =
+    let held = g.F.Files.held c.args.files.now c.args.name.now in
+    let given = g.F.Files.held c.give.new.self c.args.name.now in
+    let old = g.F.D.Disk.history c.in-Ok.disk in
+    let now = g.F.D.Disk.history c.look_up-found.new.disk in
+    subst (λ e. NameLeft LookLeaves held (ending_of e) given) (sym c.from.ensures)
+    (name_left LookLeaves held given old now _ (there g ((goal.at.returns-in-Err-found-clause-left g c).After-give) told) (c.give.ensures.held told)
+    (look_halted old now c.in-Err-found.halt (c.in-Err-found.ensures.halted told)))
+
+pub returns-in-Err-clause-left : goal.returns-in-Err-clause-left
+returns-in-Err-clause-left g c told =
+    look_untaken (g.F.Files.held c.args.files.now c.args.name.now) (g.F.Files.held c.take.new.self c.args.name.now) c.args.name.now c.in-Err.refusal _
+    (c.in-Err.ensures.refused_held c.args.name.now) (λ is. ((c.in-Err.ensures.missing told).0 (ap Err is)).0)
+    (λ is. let new : Existing ≡ New = c.in-Err.ensures.there_how (ap Err is) in cc) c.untaken.ensures

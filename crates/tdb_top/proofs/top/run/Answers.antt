@@ -1,10 +1,10 @@
 use Rattle.std.proofs.Common.{◌≡◌, true, subst, arith}
-use Rattle.tdb_top.specs.CommandLine.{insert, create}
+use Rattle.tdb_top.specs.CommandLine.{show, insert, create, check}
 use Rattle.tdb_top.specs.Ending.{Cause, of_memory, Met, Output, met_by, output_by, ending_of}
-use Rattle.tdb_top.specs.Left.{NameLeft}
+use Rattle.tdb_top.specs.Left.{LookLeaves, AddLeaves, NameLeft}
 use Rattle.tdb_top.proofs.Statuses.{statuses_known, no_line_status, expected, faulty_refused, told_at, refused_only, printed_caused, sound_status}
 use Rattle.tdb_top.proofs.Tells.{value_told, count_told}
-use Rattle.tdb_top.proofs.Leavings.{ending_keeps, run_leaves, run_makes}
+use Rattle.tdb_top.proofs.Leavings.{ending_keeps, run_looks, run_leaves, run_makes}
 use Rattle.tdb_top.proofs.top.run.Goals as goal
 use Rattle.tdb_top.proofs.top.run.Goals.{After-print}
 
@@ -65,9 +65,9 @@ returns-clause-misnamed g c is told =
 
 -- which files are refused
 pub returns-clause-refused_only : goal.returns-clause-refused_only
-returns-clause-refused_only g c is told img opens accepted =
+returns-clause-refused_only g c is told img opens fine =
     let a = (goal.at.returns-clause-refused_only g c).After-print in
-    refused_only (met g a) (out g a) c.print.ensures.0 c.print.result.0 (caused g a told) img is opens accepted c.print.ensures.2
+    refused_only (met g a) (out g a) c.print.ensures.0 c.print.result.0 (caused g a told) img is opens fine c.print.ensures.2
 
 pub returns-clause-refused_exact : goal.returns-clause-refused_exact
 returns-clause-refused_exact g c told img opens faulty short =
@@ -80,13 +80,29 @@ returns-clause-kept g c told keeps =
     let a = (goal.at.returns-clause-kept g c).After-print in
     c.answer-ending.ensures.kept told (ending_keeps (out g a) c.print.ensures.0 (ending_of c.answer-ending.result) c.print.result.0 c.print.ensures.1 c.print.ensures.2 keeps)
 
+pub returns-clause-shown : goal.returns-clause-shown
+returns-clause-shown g c told file key h line there =
+    let a = (goal.at.returns-clause-shown g c).After-print in
+    let t = ending_of c.answer-ending.result in
+    let now = g.F.Files.held c.answer-ending.new.files file in
+    let left = ((c.answer-ending.ensures.left told).lines (show file key) line).1 in
+    run_looks h (g.F.Files.faults c.args.files.now) (g.F.Files.faults c.answer-ending.new.files) now (out g a) c.print.ensures.0 t c.print.result.0 c.answer-ending.ensures.device (subst (λ o. NameLeft LookLeaves o t now) there left) c.print.ensures.1 c.print.ensures.2
+
+pub returns-clause-checked : goal.returns-clause-checked
+returns-clause-checked g c told file h line there =
+    let a = (goal.at.returns-clause-checked g c).After-print in
+    let t = ending_of c.answer-ending.result in
+    let now = g.F.Files.held c.answer-ending.new.files file in
+    let left = ((c.answer-ending.ensures.left told).lines (check file) line).1 in
+    run_looks h (g.F.Files.faults c.args.files.now) (g.F.Files.faults c.answer-ending.new.files) now (out g a) c.print.ensures.0 t c.print.result.0 c.answer-ending.ensures.device (subst (λ o. NameLeft LookLeaves o t now) there left) c.print.ensures.1 c.print.ensures.2
+
 pub returns-clause-inserted : goal.returns-clause-inserted
 returns-clause-inserted g c told file key value h line there =
     let a = (goal.at.returns-clause-inserted g c).After-print in
     let t = ending_of c.answer-ending.result in
     let now = g.F.Files.held c.answer-ending.new.files file in
     let left = ((c.answer-ending.ensures.left told).lines (insert file key value) line).1 in
-    run_leaves key value h (g.F.Files.faults c.args.files.now) (g.F.Files.faults c.answer-ending.new.files) now (out g a) c.print.ensures.0 t c.print.result.0 c.answer-ending.ensures.device (subst (λ o. NameLeft key value o t now) there left) c.print.ensures.1 c.print.ensures.2
+    run_leaves key value h (g.F.Files.faults c.args.files.now) (g.F.Files.faults c.answer-ending.new.files) now (out g a) c.print.ensures.0 t c.print.result.0 c.answer-ending.ensures.device (subst (λ o. NameLeft (AddLeaves key value) o t now) there left) c.print.ensures.1 c.print.ensures.2
 
 pub returns-clause-created : goal.returns-clause-created
 returns-clause-created g c told file size hash order line =
