@@ -1,5 +1,5 @@
-//! The program `tdb`: it runs the words of its command line over the files of the system, and exits with the status. Where a call of
-//! the system failed, it says on standard error why.
+//! The program `tdb`: it runs the words of its command line over the files of the system, and exits with the status.
+//! Where a call of the system failed, it says on standard error why.
 #![tactic(auto)]
 
 use std::process::ExitCode;
@@ -30,8 +30,8 @@ fn tell_memory<K: Sink>(output: &mut K) -> u8 {
     }
 }
 
-/// Says on standard error why a call of the system failed, where one did: of the files, or of the output. What can't be said there is
-/// left out.
+/// Says on standard error why a call of the system failed, where one did: of the files, or of the output. What can't be
+/// said there is left out.
 fn tell_reason<W: io::Write>(rt: &HostRuntime, status: u8, files: &DirFiles, output: &OutSink<W>) {
     if status == DEVICE_FAULT
         && let Some(fault) = files.last_fault()

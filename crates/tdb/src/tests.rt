@@ -1,4 +1,5 @@
-//! Runs over real files: one that is missing, one that is made, changed, checked and shown, and one that another program uses.
+//! Runs over real files: one that is missing, one that is made, changed, checked and shown, and one that another
+//! program uses.
 
 use std::fs;
 use std::test::Fail;

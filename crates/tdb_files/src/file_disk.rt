@@ -109,8 +109,8 @@ impl FileDisk {
         Ok(())
     }
 
-    /// Makes the file longer, and writes the zeros, so that no later write there finds the medium full. Where that fails it gets its
-    /// old length again.
+    /// Makes the file longer, and writes the zeros, so that no later write there finds the medium full. Where that
+    /// fails it gets its old length again.
     fn extend(&self, to: u64) -> Result<(), Reason>
         requires { file_len self.now ≤ to }
         ensures { MayNotBeWritten self.now → IsErr result }

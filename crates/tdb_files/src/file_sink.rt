@@ -19,7 +19,8 @@ pub struct FileSink {
 /// The first bytes of a database.
 const DATABASE: [u8; 9] = *b"TDB file\n";
 
-/// A file that is there can be opened without waiting: nothing but a regular file or a device, of which the terminals are some.
+/// A file that is there can be opened without waiting: nothing but a regular file or a device, of which the terminals
+/// are some.
 fn check_kind(rt: &HostRuntime, path: &str) -> Result<(), Reason> {
     match fs::metadata(rt, path) {
         Ok(found) if found.is_file() || found.file_type().is_char_device() => Ok(()),
@@ -46,8 +47,9 @@ fn check_no_database(file: &File) -> Result<(), Reason> {
 impl FileSink {
     ghost use Rattle.tdb_files.specs.FileSink.{file_sink_faults};
 
-    /// Makes the file at a path, or cuts the one that is there to nothing. A terminal is written to as it is. All else is refused,
-    /// and so is a database, open or not. A file is locked until it is closed, so that no program opens it as a database.
+    /// Makes the file at a path, or cuts the one that is there to nothing. A terminal is written to as it is. All else
+    /// is refused, and so is a database, open or not. A file is locked until it is closed, so that it isn't taken as
+    /// one.
     pub fn create(rt: &HostRuntime, path: &str) -> Result<FileSink, Reason>
         ensures { IfOk result (λ s. file_sink_faults s ≡ 0) }
     {

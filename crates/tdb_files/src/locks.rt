@@ -21,8 +21,8 @@ const TRIES: u32 = 200;
 /// The pause between two tries, in milliseconds.
 const PAUSE: u64 = 5;
 
-/// Locks a file until it is closed. Where another open of the file has a lock that forbids it, it is tried again for about a
-/// second. Costs one call of the system a try.
+/// Locks a file until it is closed. Where another open of the file has a lock that forbids it, it is tried again for
+/// about a second. Costs one call of the system a try.
 pub(crate) fn lock(rt: &impl Clock, file: &File, kind: LockKind) -> Result<(), Reason> {
     for _ in 0..TRIES {
         match try_lock(file, kind) {

@@ -1,4 +1,4 @@
-//! How a file is opened or made, and kept from other programs until it is closed.
+//! How a file is opened or made, and kept from other runs of the program until it is closed.
 ghost use Rattle.std.specs.Prelude.{◌≡◌, ◌≢◌, IfOk, IsErrOf};
 ghost use Rattle.tdb_disk.specs.declared.files.Take.TheVariants as mode;
 ghost use Rattle.tdb_files.specs.FileDisk.{file_len, file_faults, file_syncs, file_bytes_read};
@@ -32,8 +32,8 @@ const NEW_MODE: u32 = 0o600;
 /// Descriptors up to this one are those of the standard streams.
 const LAST_STANDARD: i32 = 2;
 
-/// A file with a descriptor above those of the standard streams, so that what is meant for one of those, where it was closed, can't
-/// land in it.
+/// A file with a descriptor above those of the standard streams, so that what is meant for one of those, where it was
+/// closed, can't land in it.
 pub(crate) fn above_standard(file: File) -> io::Result<File> {
     if file.as_raw_fd() > LAST_STANDARD {
         Ok(file)
@@ -42,8 +42,8 @@ pub(crate) fn above_standard(file: File) -> io::Result<File> {
     }
 }
 
-/// Opens a file that is there, for reading and, if that is asked, for writing. One that may only be read is opened for that, and
-/// the second value is then why it may not be written.
+/// Opens a file that is there, for reading and, if that is asked, for writing. One that may only be read is opened for
+/// that, and the second value is then why it may not be written.
 fn open_readable(
     rt: &HostRuntime,
     name: &str,
@@ -131,8 +131,8 @@ fn claim_new(
     Ok(FileDisk::new(file, identity, None, 0))
 }
 
-/// Makes a file where nothing has the name, not even a link. Only its owner may read and write it, whatever the process takes away
-/// from new files. After an Err it isn't there, unless another program uses it.
+/// Makes a file where nothing has the name, not even a link. Only its owner may read and write it, whatever the process
+/// takes away from new files. After an Err it isn't there, unless another program uses it.
 fn make_new(rt: &HostRuntime, name: &str, taken: &HashSet<Identity>) -> Result<FileDisk, Refusal>
     ensures missing { IsErrOf result refusal.Missing → ⊥ }
     ensures len { IfOk result (λ d. file_len d ≡ 0) }
@@ -162,8 +162,8 @@ fn make_new(rt: &HostRuntime, name: &str, taken: &HashSet<Identity>) -> Result<F
     }
 }
 
-/// Opens or makes the file, as it is asked, where none of the files that are taken is the same one. It has locks until it is closed:
-/// for writing where it may be changed, and else for reading.
+/// Opens or makes the file, as it is asked, where none of the files that are taken is the same one. It has a lock until
+/// it is closed: for writing where it may be changed, and else for reading.
 pub(crate) fn open(
     rt: &HostRuntime,
     name: &str,

@@ -68,7 +68,8 @@ impl Reason {
     }
 }
 
-/// The system found no file of the name: it isn't there, or what should be a folder on the way to it is a file or isn't there.
+/// The system found no file of the name: it isn't there, or what should be a folder on the way to it is a file or isn't
+/// there.
 pub(crate) fn is_missing(error: &io::Error) -> bool {
     matches!(
         error.kind(),

@@ -11,8 +11,8 @@ const ALL_PERMISSIONS: u32 = 0o777;
 /// The permissions of the group.
 const GROUP_PERMISSIONS: u32 = 0o070;
 
-/// Gives the file at `from` the name `to`. A regular file that is replaced passes its permissions, its group and its owner on, as far
-/// as the system allows it. Where nothing is at `from`, nothing is done.
+/// Gives the file at `from` the name `to`. A regular file that is replaced passes its permissions, its group and its
+/// owner on, as far as the system allows it. Where nothing is at `from`, nothing is done.
 pub(crate) fn replace(rt: &HostRuntime, from: &str, to: &str) -> io::Result<()> {
     let moved = match fs::symlink_metadata(rt, from) {
         Ok(found) => found,
@@ -28,8 +28,9 @@ pub(crate) fn replace(rt: &HostRuntime, from: &str, to: &str) -> io::Result<()> 
     fs::rename(rt, from, to)
 }
 
-/// Gives a file the permissions, the group and the owner of another, as far as the system allows it: only root may give a file away,
-/// and only a member of a group may give it to that. What the group might do then stays forbidden to a group that isn't the same.
+/// Gives a file the permissions, the group and the owner of another, as far as the system allows it: only root may give
+/// a file away, and only a member of a group may give it to that. What the group might do then stays forbidden to a
+/// group that isn't the same.
 fn copy_access(rt: &HostRuntime, name: &str, other: &Metadata) {
     let has_group = chown(rt, name, None, Some(other.gid())).is_ok();
     let _ = chown(rt, name, Some(other.uid()), None);
