@@ -110,7 +110,7 @@ fn open_existing(
     Ok(FileDisk::new(file, identity, unwritable, len))
 }
 
-/// Locks a file that was just made. Where another program has locked it before, or written to it, it is that program's.
+/// Locks a file that was just made. Where another run has locked it before, or a program has written to it, it is theirs.
 fn claim_new(
     rt: &HostRuntime,
     name: &str,
