@@ -5,3 +5,6 @@ pub mod Words
 pub mod WrittenOut
 pub mod StatesKept
 pub mod GateShut
+pub mod Scans
+pub mod Compared
+pub mod Walked

@@ -16,12 +16,12 @@ use Rattle.tdb_txn.specs.declared.planned.Plan.{Plan}
 -- the plan as numbers
 abbrev pub scheme_of : Plan → Scheme
 scheme_of plan = record {
-  order = plan.order;
+  order = plan.header.order;
   area = plan.area;
   area_length = plan.area_length;
   gate = plan.area + 20;
   old_length = plan.old_length;
-  runs = plan.runs.items;
+  runs = plan.runs;
 }
 
 -- the file with its gate open
@@ -35,7 +35,7 @@ pub record Brings (plan : Plan) (a b : List ℕ) : Type 0 where
   pub after : Accept b
   pub planned : IsPlanned (scheme_of plan) a b
   pub size : length b ≡ plan.new_length
-  pub bytes : (i : ℕ) → (1 ≤ times plan.runs.items i) ⊎ ((plan.old_length ≤ i) × (i < length b)) → byte_over (page_list plan.pages) a i ≡ slice_index b i
+  pub bytes : (i : ℕ) → (1 ≤ times plan.runs i) ⊎ ((plan.old_length ≤ i) × (i < length b)) → byte_over (page_list plan.pages) a i ≡ slice_index b i
 
 -- the old bytes are in the undo area
 pub record IsFilled (plan : Plan) (h : History) (a b : List ℕ) : Type 0 where

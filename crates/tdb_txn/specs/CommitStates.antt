@@ -1,6 +1,7 @@
 -- What a contract sees of the states of a commit.
 use Rattle.std.specs.Prelude.{ℕ}
 use Rattle.tdb_txn.specs.declared.planned.Plan.{Plan}
+use Rattle.tdb_txn.specs.declared.states.Planned.{Planned}
 use Rattle.tdb_txn.specs.declared.states.Filled.{Filled}
 use Rattle.tdb_txn.specs.declared.states.Prepared.{Prepared}
 use Rattle.tdb_txn.specs.declared.states.Applied.{Applied}
@@ -11,6 +12,9 @@ abbrev pub plan_length : Plan → ℕ
 plan_length plan = plan.file_length
 
 -- the plan of each state
+abbrev pub planned_plan : Planned → Plan
+planned_plan state = state.plan
+
 abbrev pub filled_plan : Filled → Plan
 filled_plan state = state.plan
 

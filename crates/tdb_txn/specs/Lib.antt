@@ -3,5 +3,7 @@ pub mod Part
 pub mod Stock
 pub mod Txn
 pub mod Commit
+pub mod Planned
 pub mod CommitStates
 pub mod EndBelow
+pub mod Found

@@ -14,6 +14,7 @@ use crate::page::PAGE_SIZE;
 use crate::pages::Pages;
 use crate::part::Part;
 use tdb_disk::{Disk, DiskFault};
+use tdb_undo::Runs;
 
 /// Writes bytes of a page to the file, where the page is there.
 fn write_part<D: Disk>(
@@ -77,7 +78,7 @@ pub(crate) fn write_range<D: Disk>(
 pub(crate) fn write_runs<D: Disk>(
     d: &mut D,
     pages: &Pages,
-    runs: &[(u32, u32)],
+    runs: &Runs,
     below: u32,
 ) -> Result<(), DiskFault>
     requires runs_end { EndBelow below runs.now }
@@ -91,9 +92,11 @@ pub(crate) fn write_runs<D: Disk>(
     ensures cause { HasCause (D.faults d.old) (D.faults d.new) result }
     ensures syncs { D.syncs d.new ≡ D.syncs d.old }
 {
-    for run in runs {
-        let (from, count) = *run;
-        write_range(d, pages, from as u64, from as u64 + count as u64)?;
+    for i in 0..runs.len() {
+        let Some(run) = runs.get(i) else {
+            return Ok(());
+        };
+        write_range(d, pages, run.0 as u64, run.0 as u64 + run.1 as u64)?;
     }
     Ok(())
 }

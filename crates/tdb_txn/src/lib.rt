@@ -2,6 +2,8 @@
 #![tactic(auto)]
 
 mod applying;
+mod comparing;
+mod found;
 mod gate_word;
 mod overlay_on;
 mod page;
@@ -18,5 +20,5 @@ mod writing;
 
 pub use crate::overlay_on::OverlayOn;
 pub use crate::refusal::TxnRefusal;
-pub use crate::states::{Applied, Filled, Prepared, Settled};
+pub use crate::states::{Applied, Filled, Planned, Prepared, Settled};
 pub use crate::txn::Txn;

@@ -77,6 +77,14 @@ impl Pages {
         self.find(number).is_some()
     }
 
+    /// The page at a place of the list, which is counted from 0.
+    pub(crate) fn page(&self, index: usize) -> &Page
+        requires { index < length (page_list self.now) }
+        ensures { (d : Page) → result.now ≡ get_or (page_list self.now) index d }
+    {
+        &self.list[index]
+    }
+
     /// Copies bytes of a page and answers true, or answers false where the page isn't there.
     pub(crate) fn copy_out(&self, number: u64, within: usize, buf: &mut [u8]) -> bool
         requires { within + length buf.old ≤ page_size }

@@ -1,5 +1,7 @@
 //! Why a call on a transaction failed.
 
+use std::alloc::AllocError;
+use tdb_disk::DiskFault;
 use thiserror::Error;
 
 /// A call on a transaction failed.
@@ -22,4 +24,28 @@ pub enum TxnRefusal {
     /// There was no memory.
     #[error("out of memory")]
     Memory,
+}
+
+impl From<DiskFault> for TxnRefusal {
+    ghost use Rattle.std.specs.Prelude.{◌≡◌};
+    ghost use Rattle.tdb_txn.specs.declared.refusal.TxnRefusal.{TxnRefusal};
+    ghost use Rattle.tdb_txn.specs.declared.refusal.TxnRefusal.TheVariants.{Io};
+
+    ghost from_gives = { λ _ e. e ≡ Io };
+
+    fn from(_fault: DiskFault) -> Self {
+        TxnRefusal::Io
+    }
+}
+
+impl From<AllocError> for TxnRefusal {
+    ghost use Rattle.std.specs.Prelude.{◌≡◌};
+    ghost use Rattle.tdb_txn.specs.declared.refusal.TxnRefusal.{TxnRefusal};
+    ghost use Rattle.tdb_txn.specs.declared.refusal.TxnRefusal.TheVariants.{Memory};
+
+    ghost from_gives = { λ _ e. e ≡ Memory };
+
+    fn from(_fault: AllocError) -> Self {
+        TxnRefusal::Memory
+    }
 }

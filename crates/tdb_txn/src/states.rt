@@ -1,4 +1,4 @@
-//! The states of a commit from the filled undo area on. Each is spent by its call or given up, and none can be dropped.
+//! The states of a commit from its plan on. Each is spent by its call or given up, and none can be dropped.
 ghost use Rattle.std.specs.Prelude.{◌≡◌, ◌⊎◌, ℕ, List, IsTrue, IfOk, OnOk};
 ghost use Rattle.tdb_disk.specs.Count.{HasCause, RoseBy, RoseUpTo};
 ghost use Rattle.tdb_disk.specs.Stop.{LeavesOnly};
@@ -10,6 +10,11 @@ use crate::planned::Plan;
 use tdb_disk::Disk;
 use tdb_space::Io;
 use tdb_words::{GATE_OPEN, GATE_SHUT, word_bytes};
+
+/// The undo area is there, and isn't filled yet.
+pub struct Planned {
+    pub(crate) plan: Plan,
+}
 
 /// The undo area keeps what the commit will write over, and its gate is shut.
 pub struct Filled {
@@ -31,6 +36,13 @@ pub struct Settled {
     pub(crate) plan: Plan,
 }
 
+impl Planned {
+    /// Gives the commit up, with no call on the disk.
+    pub fn end(self) {
+        let Planned { plan: _ } = self;
+    }
+}
+
 impl Filled {
     ghost use Rattle.tdb_txn.specs.Commit.{IsFilled, IsPrepared};
     ghost use Rattle.tdb_txn.specs.CommitStates.{filled_plan, prepared_plan, plan_length};
@@ -47,7 +59,7 @@ impl Filled {
         ensures at_most { RoseUpTo 1 (D.syncs d.old) (D.syncs d.new) }
     {
         let Filled { plan } = self;
-        set_word(d, plan.gate(), word_bytes(GATE_OPEN, plan.order))?;
+        set_word(d, plan.gate(), word_bytes(GATE_OPEN, plan.header.order))?;
         Ok(Prepared { plan })
     }
 
@@ -93,7 +105,7 @@ impl Prepared {
         ensures at_most { RoseUpTo 1 (D.syncs d.old) (D.syncs d.new) }
     {
         let Prepared { plan } = self;
-        set_word(d, plan.gate(), word_bytes(GATE_SHUT, plan.order))?;
+        set_word(d, plan.gate(), word_bytes(GATE_SHUT, plan.header.order))?;
         Ok(())
     }
 
@@ -143,7 +155,7 @@ impl Settled {
         ensures at_most { RoseUpTo 1 (D.syncs d.old) (D.syncs d.new) }
     {
         let Settled { plan } = self;
-        set_word(d, plan.gate(), word_bytes(GATE_SHUT, plan.order))?;
+        set_word(d, plan.gate(), word_bytes(GATE_SHUT, plan.header.order))?;
         Ok(())
     }
 

@@ -1,4 +1,4 @@
-use Rattle.std.proofs.Common.{◌≡◌, ◌∙◌, ◌<◌, ◌≤◌, subst, length, List, ℕ, arith, refl, take, get_or}
+use Rattle.std.proofs.Common.{◌≡◌, ◌∙◌, ◌<◌, ◌≤◌, sym, subst, length, List, ℕ, arith, refl, take, get_or}
 use Rattle.std.proofs.lemmas.List.{get_or_default, take_all}
 use Rattle.tdb_disk.specs.History.{seen}
 use Rattle.tdb_disk.proofs.Runs.{leaves_start, leaves_join, leaves_now}
@@ -9,8 +9,8 @@ use Rattle.tdb_txn.specs.Stock.{page_list}
 use Rattle.tdb_txn.proofs.WrittenOut.{run_more, run_none, may_run, runs_inside, over_runs, held_in}
 use Rattle.tdb_txn.proofs.applying.write_runs.Goals as goal
 
-pub loop-run-init : goal.loop-run-init
-loop-run-init g c = record {
+pub loop-i-init : goal.loop-i-init
+loop-i-init g c = record {
   stops = λ told p base same clear left. leaves_start (g.D.Disk.history c.args.d.now) (Within p base) left;
   put = λ told b bytes. run_none b (seen (g.D.Disk.history c.args.d.now));
   size = refl;
@@ -21,27 +21,27 @@ loop-run-init g c = record {
 pub returns-in_err-write_range-clause-stops : goal.returns-in_err-write_range-clause-stops
 returns-in_err-write_range-clause-stops g c told p base same clear left =
     let es = c.args.runs.now in
-    let k = c.loop-run.run-index in
+    let k = c.loop-i.i in
     let first = g.D.Disk.history c.args.d.now in
-    let mid = g.D.Disk.history c.loop-run.d in
-    let e : Extent = get_or es k (0, 0) in
-    let low : k < length es = omega arith in
-    let is : get_or es k e ≡ e = get_or_default es k e (0, 0) low in
-    let so_far = c.loop-run.invariant.stops told p base same clear left in
+    let mid = g.D.Disk.history c.loop-i.d in
+    let e : Extent = c.in-Some.run' in
+    let low : k < length es = c.in-Some.ensures.0 in
+    let is : get_or es k e ≡ e = sym c.in-Some.ensures.1 in
+    let so_far = c.loop-i.invariant.stops told p base same clear left in
     leaves_join first mid (g.D.Disk.history c.write_range.new.d) (Within p base) so_far
     (c.write_range.ensures.stops told p base (may_run p es k e same clear low is) (leaves_now first mid (Within p base) so_far))
 
-pub loop-run-preserved : goal.loop-run-preserved
-loop-run-preserved g c =
+pub loop-i-preserved : goal.loop-i-preserved
+loop-i-preserved g c =
     let es = c.args.runs.now in
-    let k = c.loop-run.run-index in
-    let was = c.loop-run.invariant in
+    let k = c.loop-i.i in
+    let was = c.loop-i.invariant in
     let first = g.D.Disk.history c.args.d.now in
-    let mid = g.D.Disk.history c.loop-run.d in
+    let mid = g.D.Disk.history c.loop-i.d in
     let last = g.D.Disk.history c.write_range.new.d in
-    let e : Extent = get_or es k (0, 0) in
-    let low : k < length es = omega arith in
-    let is : get_or es k e ≡ e = get_or_default es k e (0, 0) low in
+    let e : Extent = c.in-Some.run' in
+    let low : k < length es = c.in-Some.ensures.0 in
+    let is : get_or es k e ≡ e = sym c.in-Some.ensures.1 in
     record {
       stops = λ told p base same clear left.
           leaves_join first mid last (Within p base) (was.stops told p base same clear left)
@@ -63,5 +63,5 @@ loop-run-preserved g c =
 
 pub returns-clause-put : goal.returns-clause-put
 returns-clause-put g c told b bytes =
-    subst (λ (es : List Extent). PutRuns b es (seen (g.D.Disk.history c.args.d.now)) (seen (g.D.Disk.history c.loop-run.d)))
-    (take_all c.loop-run.run-index c.args.runs.now (omega arith)) (c.loop-run.invariant.put told b bytes)
+    subst (λ (es : List Extent). PutRuns b es (seen (g.D.Disk.history c.args.d.now)) (seen (g.D.Disk.history c.loop-i.d)))
+    (take_all c.loop-i.i c.args.runs.now (omega arith)) (c.loop-i.invariant.put told b bytes)
