@@ -8,3 +8,5 @@ pub mod GateShut
 pub mod Scans
 pub mod Compared
 pub mod Walked
+pub mod KeptArea
+pub mod PlacedArea

@@ -4,6 +4,7 @@ pub mod Stock
 pub mod Txn
 pub mod Commit
 pub mod Planned
+pub mod Planning
 pub mod CommitStates
 pub mod EndBelow
 pub mod Found

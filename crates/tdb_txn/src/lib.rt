@@ -2,6 +2,7 @@
 #![tactic(auto)]
 
 mod applying;
+mod area_kept;
 mod comparing;
 mod found;
 mod gate_word;
