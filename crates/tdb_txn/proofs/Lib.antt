@@ -10,3 +10,4 @@ pub mod Compared
 pub mod Walked
 pub mod KeptArea
 pub mod PlacedArea
+pub mod ContentLengths

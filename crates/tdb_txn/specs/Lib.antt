@@ -5,6 +5,7 @@ pub mod Txn
 pub mod Commit
 pub mod Planned
 pub mod Planning
+pub mod AreaRoom
 pub mod CommitStates
 pub mod EndBelow
 pub mod Found

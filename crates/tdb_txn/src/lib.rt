@@ -3,6 +3,8 @@
 
 mod applying;
 mod area_kept;
+mod area_placed;
+mod area_room;
 mod comparing;
 mod found;
 mod gate_word;

@@ -29,6 +29,7 @@ fn place_area<D: Disk>(d: &mut D, order: Order, at: u32, capacity: u32) -> Resul
     ensures set { OnOk result (IsTrue D.tells → length (seen (D.history d.old)) % 4 ≡ 0
         → Placing order (seen (D.history d.old)) at (seen (D.history d.new)) × IsSet order (seen (D.history d.new)) at capacity) }
     ensures quiet { OnOk result (IsTrue D.tells → Quiet (D.history d.new)) }
+    ensures size { OnOk result (D.size d.new ≡ at + 24 + capacity) }
     ensures cause { HasCause (D.faults d.old) (D.faults d.new) result }
     ensures syncs { OnOk result (RoseBy 3 (D.syncs d.old) (D.syncs d.new)) }
 {
@@ -80,6 +81,7 @@ pub fn ensure<D: Disk>(d: &mut D, h: &Header, capacity: u32, at: u64) -> Result<
         → LeavesOnly (D.history d.old) (D.history d.new) (Reopens a) }
     ensures placed { OnOk result (IsTrue D.tells → let a = seen (D.history d.old) in Accept a → form_of a ≡ form_in h.now → IsPlaced (form_in h.now) a (seen (D.history d.new)) at capacity) }
     ensures quiet { OnOk result (IsTrue D.tells → Quiet (D.history d.new)) }
+    ensures size { OnOk result (D.size d.new ≡ at + 24 + capacity) }
     ensures cause { HasCause (D.faults d.old) (D.faults d.new) result }
     ensures syncs { OnOk result (RoseBy 3 (D.syncs d.old) (D.syncs d.new) ⊎ RoseBy 5 (D.syncs d.old) (D.syncs d.new)) }
 {
