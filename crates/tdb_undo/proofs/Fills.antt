@@ -1,9 +1,9 @@
 -- The last word and the lengths are put into the undo area.
-use Rattle.std.proofs.Common.{◌≡◌, ℕ, ◌+◌, ◌<◌, ◌≤◌, ◌⊎◌, ◌^◌, Bool, true, false, List, [], length, slice_index, ◌∙◌, ap, subst, inl, inr, arith}
+use Rattle.std.proofs.Common.{◌≡◌, ℕ, ◌+◌, ◌<◌, ◌≤◌, ◌⊎◌, ◌^◌, Bool, true, false, List, [], length, slice_index, refl, sym, ◌∙◌, ap, subst, inl, inr, arith}
 use Rattle.std.proofs.lemmas.Bool.{or_parts, or_left, or_right, or_from}
 use Rattle.tdb_disk.specs.History.{History, seen, synced, Tried, TriedOver}
 use Rattle.tdb_disk.specs.Image.{overlay}
-use Rattle.tdb_disk.specs.Stop.{LeavesOnly, Quiet}
+use Rattle.tdb_disk.specs.Stop.{LeavesOnly}
 use Rattle.tdb_disk.proofs.Image.{length-overlay, overlay_below, overlay_above}
 use Rattle.tdb_disk.proofs.Runs.{leaves_then_sync, leaves_weaker}
 use Rattle.tdb_words.specs.declared.word.Order.{Order}
@@ -12,15 +12,21 @@ use Rattle.tdb_words.specs.Record.{rec_at}
 use Rattle.tdb_words.proofs.Words.{word_agrees}
 use Rattle.tdb_space.specs.Form.{Form, form_of}
 use Rattle.tdb_space.specs.Accepted.{Accept, AcceptWith}
+use Rattle.tdb_space.specs.Gate.{InContent}
+use Rattle.tdb_space.specs.Moved.{StaysAccepted}
+use Rattle.tdb_space.specs.NewArea.{Longer}
 use Rattle.tdb_space.specs.Undoing.{area_at, Reopens}
+use Rattle.tdb_space.proofs.AreaSets.{longer_stays}
 use Rattle.tdb_space.proofs.Contents.{content_free}
 use Rattle.tdb_undo.specs.Area.{IsAreaOf, area_of}
-use Rattle.tdb_undo.proofs.Clears.{stays_reopens, gate}
+use Rattle.tdb_undo.proofs.Clears.{stays_reopens, stays_further, gate}
+use Rattle.tdb_undo.proofs.Growths.{grew_seen, longer_area, longer_number}
 use Rattle.tdb_undo.proofs.Whole.{same_end}
 use Rattle.tdb_space.specs.Extents.{Extent}
 use Rattle.tdb_space.specs.Opening.{lies_in}
 use Rattle.tdb_undo.specs.declared.area.Area.{Area}
-use Rattle.tdb_undo.specs.Torn.{TornIn}
+use Rattle.tdb_undo.specs.Torn.{TornAt, TornIn}
+use Rattle.tdb_undo.specs.Growth.{GrewAtMost}
 use Rattle.tdb_undo.specs.Content.{BesideRest, PutUpTo, is_content, IsFilled}
 use Rattle.tdb_undo.proofs.Blocks.{wider_torn, write_torn}
 use Rattle.tdb_undo.proofs.Gives.{stop}
@@ -106,29 +112,49 @@ filled o a es old_len place n first b c d w v short inside above fits put is_w i
     second_word : word o d (a.at + 12) ≡ n
     second_word = ap (λ l. word o l (a.at + 12)) is_d ∙ ap (word o (overlay c (a.at + 8) v)) (let e : a.at + 12 ≡ a.at + 8 + 4 = omega arith in e) ∙ word_overlaid o c (a.at + 8) v 4 (omega (arith, eight)) (omega (arith, eight, c_long, inside)) ∙ len_is
 
--- what is filled counts for nothing while the gate is shut
-pub fill_reopens : (f : Form) (h new : History) (area : Area) → Accept (seen h) → form_of (seen h) ≡ f → Quiet h → IsAreaOf f.order (seen h) area → 172 ≤ area.at → LeavesOnly h new (TornIn (is_content area) h) → LeavesOnly h new (Reopens (seen h))
-fill_reopens f h new area A is quiet there above torn =
-    leaves_weaker h new (TornIn (is_content area) h) (Reopens (seen h))
-    (λ image t. (
-    let same : (i : ℕ) → is_content area i ≡ false → slice_index image i ≡ slice_index (seen h) i = λ i out. t.2.others i out ∙ ap (λ l. slice_index l i) (quiet t.0 t.1) in
-    let accepted : AcceptWith f (seen h) [] = subst (λ g. AcceptWith g (seen h) []) is A in
-    let some : word f.order (seen h) 44 ≡ 0 → ⊥ = λ none. omega (arith, none, there.there, above) in
-    stays_reopens f (seen h) image A is
-    (content_free f (seen h) image accepted (record {
-      some = some;
-      size = t.2.size ∙ ap length (quiet t.0 t.1);
-      others = λ i out. same i (beside area i (elim out [ inl low ↦ inl (omega (arith, low, there.there)) | inr high ↦ inr (inr (omega (arith, high, same_end f (seen h) area there))) ]));
-      rec_len = word_agrees f.order image (seen h) (area_at f (seen h) + 4) (λ i from to. same i (beside area i (inl (omega (arith, to, there.there)))));
-      shut = word_agrees f.order image (seen h) (area_at f (seen h) + 20) (λ i from to. same i (beside area i (inr (inl (omega (arith, from, there.there), omega (arith, to, there.there)))))) ∙ gate f (seen h) accepted some;
-    }))
-    (λ i from to. same i (beside area i (inl (omega (arith, to, above))))))) torn
-  where
-    beside : (a : Area) (i : ℕ) → (i < a.at + 8) ⊎ (((a.at + 16 ≤ i) × (i < a.at + 24)) ⊎ (stop a ≤ i)) → is_content a i ≡ false
-    beside a i (inl low) = or_from _ _ (lies_not (a.at + 8) 8 i (inl low)) (lies_not (a.at + 24) a.header.rec_len i (inl (omega (arith, low))))
-    beside a i (inr (inl mid)) = or_from _ _ (lies_not (a.at + 8) 8 i (inr (omega (arith, mid.0)))) (lies_not (a.at + 24) a.header.rec_len i (inl mid.1))
-    beside a i (inr (inr high)) = or_from _ _ (lies_not (a.at + 8) 8 i (inr (omega (arith, high)))) (lies_not (a.at + 24) a.header.rec_len i (inr (omega (arith, high))))
-
 -- the area that was read is the one that the image leads to
 pub area_is : (o : Order) (img : List ℕ) (area : Area) → IsAreaOf o img area → area ≡ area_of o img
 area_is o img area is = λ j. record { at = is.there j; header = (is.head ∙ ap (rec_at o img) is.there) j }
+
+-- a byte beside what is filled
+pub content_beside : (a : Area) (i : ℕ) → (i < a.at + 8) ⊎ (((a.at + 16 ≤ i) × (i < a.at + 24)) ⊎ (stop a ≤ i)) → is_content a i ≡ false
+content_beside a i (inl low) = or_from _ _ (lies_not (a.at + 8) 8 i (inl low)) (lies_not (a.at + 24) a.header.rec_len i (inl (omega (arith, low))))
+content_beside a i (inr (inl mid)) = or_from _ _ (lies_not (a.at + 8) 8 i (inr (omega (arith, mid.0)))) (lies_not (a.at + 24) a.header.rec_len i (inl mid.1))
+content_beside a i (inr (inr high)) = or_from _ _ (lies_not (a.at + 8) 8 i (inr (omega (arith, high)))) (lies_not (a.at + 24) a.header.rec_len i (inr (omega (arith, high))))
+
+-- what is filled counts for nothing while the gate is shut
+module _ (f : Form) (a from image : List ℕ) (area : Area) (A : AcceptWith f a []) (long : Longer a from) (there : IsAreaOf f.order from area) (above : 172 ≤ area.at) (torn : TornAt (is_content area) from image) where
+  stays : StaysAccepted f a from
+  stays = longer_stays f a from A long
+
+  some : word f.order from 44 ≡ 0 → ⊥
+  some none = omega (arith, none, there.there, above)
+
+  beside : (i : ℕ) → (i < area.at + 8) ⊎ (((area.at + 16 ≤ i) × (i < area.at + 24)) ⊎ (stop area ≤ i)) → slice_index image i ≡ slice_index from i
+  beside i out = torn.others i (content_beside area i out)
+
+  in_content_only : InContent f from image
+  in_content_only = record {
+    some = some;
+    size = torn.size;
+    others = λ i out. beside i (elim out [ inl low ↦ inl (omega (arith, low, there.there)) | inr high ↦ inr (inr (omega (arith, high, same_end f from area there))) ]);
+    rec_len = word_agrees f.order image from (area_at f from + 4) (λ i at to. beside i (inl (omega (arith, to, there.there))));
+    shut = word_agrees f.order image from (area_at f from + 20) (λ i at to. beside i (inr (inl (omega (arith, at, there.there), omega (arith, to, there.there))))) ∙ gate f from stays.accepted some;
+  }
+
+  pub filled_stays : StaysAccepted f a image
+  filled_stays = stays_further f a from image stays (content_free f from image stays.accepted in_content_only)
+
+  pub filled_reopens : Accept a → form_of a ≡ f → Reopens a image
+  filled_reopens accepted is = stays_reopens f a image accepted is filled_stays
+      (λ i at to. beside i (inl (omega (arith, to, above))) ∙ longer_number f a from A long i at to)
+
+pub fill_reopens : (f : Form) (a : List ℕ) (h new : History) (area : Area) → Accept a → form_of a ≡ f → GrewAtMost a h → IsAreaOf f.order (seen h) area → 172 ≤ area.at
+    → LeavesOnly h new (TornIn (is_content area) h) → LeavesOnly h new (Reopens a)
+fill_reopens f a h new area A is grown there above torn =
+    let accepted : AcceptWith f a [] = subst (λ g. AcceptWith g a []) is A in
+    leaves_weaker h new (TornIn (is_content area) h) (Reopens a)
+    (λ image t. (
+    let same : area ≡ area_of f.order t.0 = area_is f.order (seen h) area there ∙ longer_area f a (seen h) accepted (grew_seen a h grown) ∙ sym (longer_area f a t.0 accepted (grown t.0 t.1)) in
+    let read : IsAreaOf f.order t.0 area = subst (IsAreaOf f.order t.0) (sym same) (record { there = refl; head = refl }) in
+    filled_reopens f a t.0 image area accepted (grown t.0 t.1) read above t.2 A is)) torn

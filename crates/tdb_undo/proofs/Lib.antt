@@ -18,4 +18,5 @@ pub mod Places
 pub mod Clears
 pub mod Ensures
 pub mod Puts
+pub mod Growths
 pub mod Fills

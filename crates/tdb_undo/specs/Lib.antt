@@ -8,3 +8,4 @@ pub mod Gate
 pub mod Recovery
 pub mod Placing
 pub mod Content
+pub mod Growth

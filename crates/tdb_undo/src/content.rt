@@ -1,6 +1,6 @@
 // The content of the undo area: what the file has in the runs that are to be written.
 
-ghost use Rattle.std.specs.Prelude.{◌≡◌, ◌+◌, ◌^◌, ◌<◌, ◌≤◌, ◌⊎◌, IsTrue, IfOk, IfSome, OnOk, MatchBool};
+ghost use Rattle.std.specs.Prelude.{◌≡◌, ◌+◌, ◌^◌, ◌<◌, ◌≤◌, ◌⊎◌, ℕ, List, IsTrue, IfOk, IfSome, OnOk, MatchBool};
 ghost use Rattle.tdb_disk.specs.Count.{HasCause, RoseUpTo};
 ghost use Rattle.tdb_disk.specs.History.{seen};
 ghost use Rattle.tdb_disk.specs.Stop.{LeavesOnly, Quiet};
@@ -11,6 +11,7 @@ ghost use Rattle.tdb_space.specs.Opening.{lies_in};
 ghost use Rattle.tdb_space.specs.Undoing.{area_at, Reopens};
 ghost use Rattle.tdb_undo.specs.Area.{area_of};
 ghost use Rattle.tdb_undo.specs.Torn.{TornIn};
+ghost use Rattle.tdb_undo.specs.Growth.{GrewAtMost};
 ghost use Rattle.tdb_undo.specs.Content.{EntryPut, HasRoom, RunsFit, AllPut, is_content, IsFilled};
 
 use crate::area::{Area, HEADER_LEN, OLD_LEN, read_area};
@@ -141,16 +142,17 @@ fn fill_area<D: Disk>(
     Ok(())
 }
 
-/// Fills the undo area of an accepted file, whose gate is shut: the content gets an entry for each run, with the bytes that the file has
-/// there, and the header says that the file was `old_len` bytes long. All of it ends with one sync. It takes time linear in the content,
-/// and no memory.
+/// Fills the undo area of an accepted file, whose gate is shut: the content gets an entry for each run, in their order,
+/// with the bytes that the file has there, and the header says that the file was `old_len` bytes long. All of it ends with
+/// one sync. It takes time linear in the content, and no memory.
 ///
-/// A stop leaves a file that opens to the same map, also where the call fails. The runs lie beside the area, and their content fits
-/// into it; where one doesn't, or there is no area, what stands behind it isn't written.
+/// The disk is quiet, or its file has grown since then to a multiple of 4, with no further sync and no other change. A stop
+/// then leaves a file that opens to the same map, also where the call fails. The runs lie beside the area, and their content
+/// fits into it; where one doesn't, or there is no area, what stands behind it isn't written.
 pub fn put_content<D: Disk>(d: &mut D, h: &Header, old_len: u32, runs: &Runs) -> Result<(), Io>
     requires heads { 48 ≤ D.size d.old }
     requires short { D.size d.old < 2 ^ 32 }
-    ensures stops { IsTrue D.tells → let a = seen (D.history d.old) in Quiet (D.history d.old) → Accept a → form_of a ≡ form_in h.now
+    ensures stops { IsTrue D.tells → (a : List ℕ) → GrewAtMost a (D.history d.old) → Accept a → form_of a ≡ form_in h.now
         → LeavesOnly (D.history d.old) (D.history d.new) (Reopens a) }
     ensures filled { OnOk result (IsTrue D.tells → let a = seen (D.history d.old) in Accept a → form_of a ≡ form_in h.now → (area_at (form_in h.now) a ≡ 0 → ⊥)
         → RunsFit (area_of h.now.order a) (D.size d.old) runs.now → IsFilled h.now.order (area_of h.now.order a) old_len runs.now a (seen (D.history d.new)) × Quiet (D.history d.new)) }

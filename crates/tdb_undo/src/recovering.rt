@@ -1,6 +1,6 @@
 // Recovery: what the undo area keeps is tested, written back, and the gate is shut.
 
-ghost use Rattle.std.specs.Prelude.{◌≡◌, ◌+◌, ◌*◌, ◌%◌, ◌^◌, ◌<◌, ◌≤◌, ◌⊎◌, IsTrue, IfOk, IfErr, OnOk, None, Some, length, if◌then◌else◌};
+ghost use Rattle.std.specs.Prelude.{◌≡◌, ◌+◌, ◌*◌, ◌%◌, ◌^◌, ◌<◌, ◌≤◌, ◌⊎◌, false, IsTrue, IfOk, IfErr, OnOk, None, Some, length, if◌then◌else◌};
 ghost use Rattle.tdb_disk.specs.Count.{HasCauseOf, RoseBy, RoseUpTo};
 ghost use Rattle.tdb_disk.specs.History.{seen};
 ghost use Rattle.tdb_disk.specs.Stop.{LeavesOnly, Quiet};
@@ -109,9 +109,10 @@ fn undo<D: Disk>(d: &mut D, h: &Header, area: &Area) -> Result<u64, UndoRefusal>
 /// the area keeps, and the gate is shut. The answer is how many old bytes the entries keep in all, and 0 where there is nothing to
 /// undo.
 ///
-/// `UndoBad` tells the first fault that the opening of the undo area meets; nothing is written then. All is tested before anything
-/// is written. It takes time linear in what the area keeps, reads that twice, and takes no memory. After an undo three syncs were made
-/// where the area stands below the file's old length, and else six.
+/// `UndoBad` tells the first fault that the opening of the undo area meets; nothing is written then, nor where the gate
+/// isn't open, whatever the answer is. All is tested before anything is written. It takes time linear in what the area
+/// keeps, reads that twice, and takes no memory. After an undo three syncs were made where the area stands below the file's
+/// old length, and else six.
 pub fn recover<D: Disk>(d: &mut D, h: &Header) -> Result<u64, UndoRefusal>
     requires heads { 48 ≤ D.size d.old }
     requires short { D.size d.old < 2 ^ 63 }
@@ -122,6 +123,7 @@ pub fn recover<D: Disk>(d: &mut D, h: &Header) -> Result<u64, UndoRefusal>
     ensures sum { IfOk result (λ n. IsTrue D.tells → let a = seen (D.history d.old) in n ≡ (if is_open (form_in h.now) a then lengths (entries (form_in h.now) a) else 0)) }
     ensures bad { IfErr result (λ e. IsTrue D.tells → Names e (λ fault. (opening_fault (form_in h.now) (seen (D.history d.old)) ≡ Some fault) × (D.history d.new ≡ D.history d.old))) }
     ensures quiet { OnOk result (IsTrue D.tells → Quiet (D.history d.old) → Quiet (D.history d.new)) }
+    ensures still { IsTrue D.tells → is_open (form_in h.now) (seen (D.history d.old)) ≡ false → D.history d.new ≡ D.history d.old }
     ensures cause { HasCauseOf UndoRefusal.Io (D.faults d.old) (D.faults d.new) result }
     ensures syncs { OnOk result (IsTrue D.tells → RoseBy (recovery_syncs (form_in h.now) (seen (D.history d.old))) (D.syncs d.old) (D.syncs d.new)) }
     ensures at_most { OnOk result (RoseUpTo 6 (D.syncs d.old) (D.syncs d.new)) }

@@ -4,40 +4,39 @@ use Rattle.std.specs.Prelude.{IfSome}
 use Rattle.std.proofs.lemmas.Result.{on_ok_weaker}
 use Rattle.tdb_disk.specs.History.{seen}
 use Rattle.tdb_disk.specs.Stop.{LeavesOnly, Quiet}
-use Rattle.tdb_disk.proofs.Runs.{leaves_quiet}
 use Rattle.tdb_space.specs.Form.{form_in}
 use Rattle.tdb_space.specs.Accepted.{AcceptWith}
 use Rattle.tdb_space.specs.Undoing.{Reopens}
-use Rattle.tdb_space.proofs.Alike.{exact_reopens}
 use Rattle.tdb_undo.specs.Area.{AreaSeen, Stands, place_fault, area_of}
 use Rattle.tdb_undo.specs.Refusal.{Names}
 use Rattle.tdb_undo.specs.Torn.{TornIn}
 use Rattle.tdb_undo.specs.Content.{RunsFit, IsFilled, is_content}
 use Rattle.tdb_undo.proofs.Clears.{accepted_no_fault}
+use Rattle.tdb_undo.proofs.Growths.{grew_reopens}
 use Rattle.tdb_undo.proofs.Fills.{fill_reopens, area_is}
 use Rattle.tdb_undo.proofs.content.put_content.Goals as goal
 
 pub returns-in_err-len-clause-stops : goal.returns-in_err-len-clause-stops
-returns-in_err-len-clause-stops g c told quiet accepted is =
-    subst (λ m. LeavesOnly (g.D.Disk.history c.args.d.now) m (Reopens (seen (g.D.Disk.history c.args.d.now)))) (sym c.len.ensures.history) (leaves_quiet (g.D.Disk.history c.args.d.now) (Reopens (seen (g.D.Disk.history c.args.d.now))) quiet (exact_reopens (seen (g.D.Disk.history c.args.d.now)) accepted))
+returns-in_err-len-clause-stops g c told a grown accepted is =
+    subst (λ m. LeavesOnly (g.D.Disk.history c.args.d.now) m (Reopens a)) (sym c.len.ensures.history) (grew_reopens (form_in c.args.h.now) a (g.D.Disk.history c.args.d.now) accepted is grown)
 
 pub returns-in-Ok-None-clause-stops : goal.returns-in-Ok-None-clause-stops
-returns-in-Ok-None-clause-stops g c told quiet accepted is =
-    subst (λ m. LeavesOnly (g.D.Disk.history c.args.d.now) m (Reopens (seen (g.D.Disk.history c.args.d.now)))) (sym (c.read_area.ensures.still ∙ c.len.ensures.history)) (leaves_quiet (g.D.Disk.history c.args.d.now) (Reopens (seen (g.D.Disk.history c.args.d.now))) quiet (exact_reopens (seen (g.D.Disk.history c.args.d.now)) accepted))
+returns-in-Ok-None-clause-stops g c told a grown accepted is =
+    subst (λ m. LeavesOnly (g.D.Disk.history c.args.d.now) m (Reopens a)) (sym (c.read_area.ensures.still ∙ c.len.ensures.history)) (grew_reopens (form_in c.args.h.now) a (g.D.Disk.history c.args.d.now) accepted is grown)
 
 pub returns-in-Err-Io-clause-stops : goal.returns-in-Err-Io-clause-stops
-returns-in-Err-Io-clause-stops g c told quiet accepted is =
-    subst (λ m. LeavesOnly (g.D.Disk.history c.args.d.now) m (Reopens (seen (g.D.Disk.history c.args.d.now)))) (sym (c.read_area.ensures.still ∙ c.len.ensures.history)) (leaves_quiet (g.D.Disk.history c.args.d.now) (Reopens (seen (g.D.Disk.history c.args.d.now))) quiet (exact_reopens (seen (g.D.Disk.history c.args.d.now)) accepted))
+returns-in-Err-Io-clause-stops g c told a grown accepted is =
+    subst (λ m. LeavesOnly (g.D.Disk.history c.args.d.now) m (Reopens a)) (sym (c.read_area.ensures.still ∙ c.len.ensures.history)) (grew_reopens (form_in c.args.h.now) a (g.D.Disk.history c.args.d.now) accepted is grown)
 
 pub returns-in-Err-UndoBad-clause-stops : goal.returns-in-Err-UndoBad-clause-stops
-returns-in-Err-UndoBad-clause-stops g c told quiet accepted is =
-    subst (λ m. LeavesOnly (g.D.Disk.history c.args.d.now) m (Reopens (seen (g.D.Disk.history c.args.d.now)))) (sym (c.read_area.ensures.still ∙ c.len.ensures.history)) (leaves_quiet (g.D.Disk.history c.args.d.now) (Reopens (seen (g.D.Disk.history c.args.d.now))) quiet (exact_reopens (seen (g.D.Disk.history c.args.d.now)) accepted))
+returns-in-Err-UndoBad-clause-stops g c told a grown accepted is =
+    subst (λ m. LeavesOnly (g.D.Disk.history c.args.d.now) m (Reopens a)) (sym (c.read_area.ensures.still ∙ c.len.ensures.history)) (grew_reopens (form_in c.args.h.now) a (g.D.Disk.history c.args.d.now) accepted is grown)
 
 pub returns-in-Ok-Some-clause-stops : goal.returns-in-Ok-Some-clause-stops
-returns-in-Ok-Some-clause-stops g c told quiet accepted is =
+returns-in-Ok-Some-clause-stops g c told a grown accepted is =
     let there = (subst (AreaSeen c.args.h.now.order (seen (g.D.Disk.history c.args.d.now))) c.in-Ok-Some.field-0-is (subst (λ m. AreaSeen c.args.h.now.order (seen m) c.in-Ok-Some.field-0) c.len.ensures.history (c.in-Ok-Some.ensures.found told).1)) in
     let stands = (subst (λ o. IfSome o (Stands (form_in c.args.h.now) (g.D.Disk.size c.len.new.self))) c.in-Ok-Some.field-0-is c.in-Ok-Some.ensures.stands) in
-    fill_reopens (form_in c.args.h.now) (g.D.Disk.history c.args.d.now) (g.D.Disk.history c.fill_area.new.d) c.in-Ok-Some.area accepted is quiet there (omega (arith, stands.above))
+    fill_reopens (form_in c.args.h.now) a (g.D.Disk.history c.args.d.now) (g.D.Disk.history c.fill_area.new.d) c.in-Ok-Some.area accepted is grown there (omega (arith, stands.above))
     (subst (λ m. LeavesOnly m (g.D.Disk.history c.fill_area.new.d) (TornIn (is_content c.in-Ok-Some.area) m)) (c.read_area.ensures.still ∙ c.len.ensures.history) (c.fill_area.ensures.stops told))
 
 pub returns-in-Ok-Some-clause-filled : goal.returns-in-Ok-Some-clause-filled

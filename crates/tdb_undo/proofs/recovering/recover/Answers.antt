@@ -1,5 +1,5 @@
 -- Nothing to undo, and an undo.
-use Rattle.std.proofs.Common.{◌≡◌, ◌≢◌, ◌%◌, Some, length, sym, subst, ◌∙◌, ap, arith, rules}
+use Rattle.std.proofs.Common.{◌≡◌, ◌≢◌, ◌%◌, true, false, Some, length, sym, subst, ◌∙◌, ap, arith, rules}
 use Rattle.std.specs.Prelude.{IfSome}
 use Rattle.std.proofs.lemmas.Result.{err_from_is_err_and, IfOk-weaker, IfErr-weaker, on_ok_weaker}
 use Rattle.tdb_disk.specs.Count.{RoseBy}
@@ -136,6 +136,15 @@ returns-clause-sum g c =
     let some : area_at (form_in c.args.h.now) (seen (g.D.Disk.history c.args.d.now)) ≢ 0 = λ e. omega (arith, stands.above, seen_area.there, e) in
     let gate : magic_of (form_in c.args.h.now).order (seen (g.D.Disk.history c.args.d.now)) (area_at (form_in c.args.h.now) (seen (g.D.Disk.history c.args.d.now))) ≡ GATE_OPEN = ap (λ r. r.magic) (sym (same_header (form_in c.args.h.now) (seen (g.D.Disk.history c.args.d.now)) c.in-Some.area seen_area)) ∙ c.if-area.false in
     subst (λ m. IsAreaOf c.args.h.now.order (seen m) c.in-Some.area → n ≡ lengths (entries (form_in c.args.h.now) (seen m))) c.read_area.ensures.still (sum told) seen_area ∙ sym (open_sum (form_in c.args.h.now) (seen (g.D.Disk.history c.args.d.now)) (open_is (form_in c.args.h.now) (seen (g.D.Disk.history c.args.d.now)) (c.in_ok-area.ensures.found told).0 some gate)))) c.undo.ensures.sum
+
+pub returns-clause-still : goal.returns-clause-still
+returns-clause-still g c told closed =
+    let seen_area = (subst (AreaSeen c.args.h.now.order (seen (g.D.Disk.history c.args.d.now))) c.in-Some.is (c.in_ok-area.ensures.found told).1) in
+    let stands = (subst (λ o. IfSome o (Stands (form_in c.args.h.now) (g.D.Disk.size c.args.d.now))) c.in-Some.is c.in_ok-area.ensures.stands) in
+    let some : area_at (form_in c.args.h.now) (seen (g.D.Disk.history c.args.d.now)) ≢ 0 = λ e. omega (arith, stands.above, seen_area.there, e) in
+    let gate : magic_of (form_in c.args.h.now).order (seen (g.D.Disk.history c.args.d.now)) (area_at (form_in c.args.h.now) (seen (g.D.Disk.history c.args.d.now))) ≡ GATE_OPEN = ap (λ r. r.magic) (sym (same_header (form_in c.args.h.now) (seen (g.D.Disk.history c.args.d.now)) c.in-Some.area seen_area)) ∙ c.if-area.false in
+    let clash : true ≡ false = sym (open_is (form_in c.args.h.now) (seen (g.D.Disk.history c.args.d.now)) (c.in_ok-area.ensures.found told).0 some gate) ∙ closed in
+    absurd (let h = clash in cc)
 
 pub returns-clause-bad : goal.returns-clause-bad
 returns-clause-bad g c =
