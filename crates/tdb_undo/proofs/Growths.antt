@@ -1,16 +1,14 @@
 -- A file that grew keeps its pairs and its undo area.
 use Rattle.std.proofs.Common.{◌≡◌, ℕ, ◌+◌, ◌%◌, ◌≤◌, ◌<◌, List, [], length, slice_index, refl, sym, ◌∙◌, ap, subst, inl, inr, arith}
 use Rattle.tdb_disk.specs.History.{History, grew, called, seen, Tried}
-use Rattle.tdb_disk.specs.Stop.{Leaves, LeavesOnly, Quiet, Grown}
+use Rattle.tdb_disk.specs.Stop.{LeavesOnly, Quiet, Grown}
 use Rattle.tdb_disk.proofs.Stop.{leaves_seen}
 use Rattle.tdb_disk.proofs.Runs.{leaves_start}
-use Rattle.tdb_words.specs.declared.word.Order.{Order}
 use Rattle.tdb_words.specs.Word.{word}
 use Rattle.tdb_words.specs.Record.{rec_at}
 use Rattle.tdb_words.proofs.Words.{word_agrees}
 use Rattle.tdb_space.specs.Form.{Form, form_of}
 use Rattle.tdb_space.specs.Accepted.{Accept, AcceptWith}
-use Rattle.tdb_space.specs.Moved.{StaysAccepted}
 use Rattle.tdb_space.specs.NewArea.{Longer}
 use Rattle.tdb_space.specs.Undoing.{Reopens}
 use Rattle.tdb_space.proofs.AreaSets.{longer_stays, grown_longer}

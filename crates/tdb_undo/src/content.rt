@@ -1,7 +1,7 @@
 // The content of the undo area: what the file has in the runs that are to be written.
 
 ghost use Rattle.std.specs.Prelude.{◌≡◌, ◌+◌, ◌^◌, ◌<◌, ◌≤◌, ◌⊎◌, ℕ, List, IsTrue, IfOk, IfSome, OnOk, MatchBool};
-ghost use Rattle.tdb_disk.specs.Count.{HasCause, RoseUpTo};
+ghost use Rattle.tdb_disk.specs.Count.{HasCause, RoseBy, RoseUpTo};
 ghost use Rattle.tdb_disk.specs.History.{seen};
 ghost use Rattle.tdb_disk.specs.Stop.{LeavesOnly, Quiet};
 ghost use Rattle.tdb_words.specs.Word.{word};
@@ -122,7 +122,7 @@ fn fill_area<D: Disk>(
     requires room { area.now.at + 24 + area.now.header.rec_len ≤ len }
     ensures stops { IsTrue D.tells → LeavesOnly (D.history d.old) (D.history d.new) (TornIn (is_content area.now) (D.history d.old)) }
     ensures filled { OnOk result (IsTrue D.tells → 24 + area.now.header.rec_len < 2 ^ 32 → RunsFit area.now len runs.now
-        → IsFilled order area.now old_len runs.now (seen (D.history d.old)) (seen (D.history d.new)) × Quiet (D.history d.new)) }
+        → IsFilled order area.now old_len runs.now (seen (D.history d.old)) (seen (D.history d.new)) × Quiet (D.history d.new) × RoseBy 1 (D.syncs d.old) (D.syncs d.new)) }
     ensures size { D.size d.new ≡ D.size d.old }
     ensures cause { HasCause (D.faults d.old) (D.faults d.new) result }
     ensures syncs { RoseUpTo 1 (D.syncs d.old) (D.syncs d.new) }
@@ -155,7 +155,7 @@ pub fn put_content<D: Disk>(d: &mut D, h: &Header, old_len: u32, runs: &Runs) ->
     ensures stops { IsTrue D.tells → (a : List ℕ) → GrewAtMost a (D.history d.old) → Accept a → form_of a ≡ form_in h.now
         → LeavesOnly (D.history d.old) (D.history d.new) (Reopens a) }
     ensures filled { OnOk result (IsTrue D.tells → let a = seen (D.history d.old) in Accept a → form_of a ≡ form_in h.now → (area_at (form_in h.now) a ≡ 0 → ⊥)
-        → RunsFit (area_of h.now.order a) (D.size d.old) runs.now → IsFilled h.now.order (area_of h.now.order a) old_len runs.now a (seen (D.history d.new)) × Quiet (D.history d.new)) }
+        → RunsFit (area_of h.now.order a) (D.size d.old) runs.now → IsFilled h.now.order (area_of h.now.order a) old_len runs.now a (seen (D.history d.new)) × Quiet (D.history d.new) × RoseBy 1 (D.syncs d.old) (D.syncs d.new)) }
     ensures size { D.size d.new ≡ D.size d.old }
     ensures cause { HasCause (D.faults d.old) (D.faults d.new) result }
     ensures syncs { RoseUpTo 1 (D.syncs d.old) (D.syncs d.new) }

@@ -2,6 +2,7 @@
 use Rattle.std.proofs.Common.{◌≡◌, [], Some, sym, subst, ◌∙◌, arith}
 use Rattle.std.specs.Prelude.{IfSome}
 use Rattle.std.proofs.lemmas.Result.{on_ok_weaker}
+use Rattle.tdb_disk.specs.Count.{RoseBy}
 use Rattle.tdb_disk.specs.History.{seen}
 use Rattle.tdb_disk.specs.Stop.{LeavesOnly, Quiet}
 use Rattle.tdb_space.specs.Form.{form_in}
@@ -46,9 +47,9 @@ returns-in-Ok-Some-clause-filled g c =
     let stands = (subst (λ o. IfSome o (Stands (form_in c.args.h.now) (g.D.Disk.size c.len.new.self))) c.in-Ok-Some.field-0-is c.in-Ok-Some.ensures.stands) in
     let same : c.in-Ok-Some.area ≡ area_of c.args.h.now.order (seen (g.D.Disk.history c.args.d.now)) = area_is c.args.h.now.order (seen (g.D.Disk.history c.args.d.now)) c.in-Ok-Some.area there in
     let fits : RunsFit c.in-Ok-Some.area c.in_ok-len.len c.args.runs.now = subst (λ x. RunsFit x c.in_ok-len.len c.args.runs.now) (sym same) (subst (λ n. RunsFit (area_of c.args.h.now.order (seen (g.D.Disk.history c.args.d.now))) n c.args.runs.now) (sym c.in_ok-len.ensures.length) fit) in
-    subst (λ x. IsFilled c.args.h.now.order x c.args.old_len c.args.runs.now (seen (g.D.Disk.history c.args.d.now)) (seen (g.D.Disk.history c.fill_area.new.d)) × Quiet (g.D.Disk.history c.fill_area.new.d)) same
-    (subst (λ m. IsFilled c.args.h.now.order c.in-Ok-Some.area c.args.old_len c.args.runs.now (seen m) (seen (g.D.Disk.history c.fill_area.new.d)) × Quiet (g.D.Disk.history c.fill_area.new.d)) (c.read_area.ensures.still ∙ c.len.ensures.history)
-    (done told (omega (arith, stands.within, c.requires.short, c.len.ensures.size)) fits)))) c.fill_area.ensures.filled
+    subst (λ x. IsFilled c.args.h.now.order x c.args.old_len c.args.runs.now (seen (g.D.Disk.history c.args.d.now)) (seen (g.D.Disk.history c.fill_area.new.d)) × Quiet (g.D.Disk.history c.fill_area.new.d) × RoseBy 1 (g.D.Disk.syncs c.args.d.now) (g.D.Disk.syncs c.fill_area.new.d)) same
+    (subst (λ m. IsFilled c.args.h.now.order c.in-Ok-Some.area c.args.old_len c.args.runs.now (seen m) (seen (g.D.Disk.history c.fill_area.new.d)) × Quiet (g.D.Disk.history c.fill_area.new.d) × RoseBy 1 (g.D.Disk.syncs c.args.d.now) (g.D.Disk.syncs c.fill_area.new.d)) (c.read_area.ensures.still ∙ c.len.ensures.history)
+    (subst (λ n. IsFilled c.args.h.now.order c.in-Ok-Some.area c.args.old_len c.args.runs.now (seen (g.D.Disk.history c.read_area.new.d)) (seen (g.D.Disk.history c.fill_area.new.d)) × Quiet (g.D.Disk.history c.fill_area.new.d) × RoseBy 1 n (g.D.Disk.syncs c.fill_area.new.d)) (c.read_area.ensures.syncs ∙ c.len.ensures.syncs) (done told (omega (arith, stands.within, c.requires.short, c.len.ensures.size)) fits))))) c.fill_area.ensures.filled
 
 pub returns-in-Ok-None-clause-filled : goal.returns-in-Ok-None-clause-filled
 returns-in-Ok-None-clause-filled g c told accepted is some fit =
