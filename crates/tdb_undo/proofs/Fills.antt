@@ -1,6 +1,6 @@
 -- The last word and the lengths are put into the undo area.
-use Rattle.std.proofs.Common.{◌≡◌, ℕ, ◌+◌, ◌<◌, ◌≤◌, ◌⊎◌, ◌^◌, Bool, true, false, List, [], length, slice_index, refl, sym, ◌∙◌, ap, subst, inl, inr, arith}
-use Rattle.std.proofs.lemmas.Bool.{or_parts, or_left, or_right, or_from}
+use Rattle.std.proofs.Common.{◌≡◌, ℕ, ◌+◌, ◌-◌, ◌<◌, ◌≤◌, ◌⊎◌, ◌^◌, Bool, true, false, List, [], ◌∷◌, length, slice_index, refl, sym, ◌∙◌, ap, subst, inl, inr, arith}
+use Rattle.std.proofs.lemmas.Bool.{cases_lt, or_parts, or_left, or_right, or_from}
 use Rattle.tdb_disk.specs.History.{History, seen, synced, Tried, TriedOver}
 use Rattle.tdb_disk.specs.Image.{overlay}
 use Rattle.tdb_disk.specs.Stop.{LeavesOnly}
@@ -22,12 +22,14 @@ use Rattle.tdb_undo.specs.Area.{IsAreaOf, area_of}
 use Rattle.tdb_undo.proofs.Clears.{stays_reopens, stays_further, gate}
 use Rattle.tdb_undo.proofs.Growths.{grew_seen, longer_area, longer_number}
 use Rattle.tdb_undo.proofs.Whole.{same_end}
-use Rattle.tdb_space.specs.Extents.{Extent}
+use Rattle.tdb_space.specs.Extents.{Extent, times}
+use Rattle.tdb_space.specs.Runs.{InOrder}
+use Rattle.tdb_space.proofs.Counts.{once_in}
 use Rattle.tdb_space.specs.Opening.{lies_in}
 use Rattle.tdb_undo.specs.declared.area.Area.{Area}
 use Rattle.tdb_undo.specs.Torn.{TornAt, TornIn}
 use Rattle.tdb_undo.specs.Growth.{GrewAtMost}
-use Rattle.tdb_undo.specs.Content.{BesideRest, PutUpTo, is_content, IsFilled}
+use Rattle.tdb_undo.specs.Content.{AllBeside, BesideRest, PutUpTo, is_content, IsFilled}
 use Rattle.tdb_undo.proofs.Blocks.{wider_torn, write_torn}
 use Rattle.tdb_undo.proofs.Gives.{stop}
 use Rattle.tdb_undo.proofs.Lies.{lies, lies_not, lies_outside}
@@ -121,6 +123,24 @@ pub content_beside : (a : Area) (i : ℕ) → (i < a.at + 8) ⊎ (((a.at + 16 �
 content_beside a i (inl low) = or_from _ _ (lies_not (a.at + 8) 8 i (inl low)) (lies_not (a.at + 24) a.header.rec_len i (inl (omega (arith, low))))
 content_beside a i (inr (inl mid)) = or_from _ _ (lies_not (a.at + 8) 8 i (inr (omega (arith, mid.0)))) (lies_not (a.at + 24) a.header.rec_len i (inl mid.1))
 content_beside a i (inr (inr high)) = or_from _ _ (lies_not (a.at + 8) 8 i (inr (omega (arith, high)))) (lies_not (a.at + 24) a.header.rec_len i (inr (omega (arith, high))))
+
+-- runs that hold no byte of the undo area lie beside it
+pub all_beside : (a : Area) (len old from : ℕ) (es : List Extent) → old ≤ len → InOrder from es → ((i : ℕ) → 1 ≤ times es i → i < old) → ((i : ℕ) → a.at ≤ i → i < a.at + 24 + a.header.rec_len → times es i ≡ 0) → AllBeside a len es
+all_beside a len old from [] within ordered low clear = tt
+all_beside a len old from (e ∷ es) within ordered low clear = (
+  omega (arith, low (e.0 + e.1 - 1) (omega (arith, once_in e (e.0 + e.1 - 1) (omega (arith, ordered.1)) (omega (arith, ordered.1)))), within, ordered.1),
+  elim (cases_lt a.at (e.0 + e.1)) [
+    | inr before ↦ inl before
+    | inl past ↦ elim (cases_lt e.0 (a.at + 24 + a.header.rec_len)) [
+      | inr behind ↦ inr behind
+      | inl under ↦ absurd (elim (cases_lt e.0 a.at) [
+        | inl lower ↦ omega (arith, clear a.at (omega arith) (omega arith), once_in e a.at (omega (arith, lower)) past)
+        | inr higher ↦ omega (arith, clear e.0 higher under, once_in e e.0 (omega arith) (omega (arith, ordered.1)))
+      ])
+    ]
+  ],
+  all_beside a len old (e.0 + e.1 + 1) es within ordered.2 (λ i held. low i (omega (arith, held))) (λ i at to. omega (arith, clear i at to)),
+)
 
 -- what is filled counts for nothing while the gate is shut
 module _ (f : Form) (a from image : List ℕ) (area : Area) (A : AcceptWith f a []) (long : Longer a from) (there : IsAreaOf f.order from area) (above : 172 ≤ area.at) (torn : TornAt (is_content area) from image) where
