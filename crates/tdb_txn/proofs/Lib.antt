@@ -3,6 +3,7 @@ pub mod Places
 pub mod PagesMet
 pub mod Words
 pub mod WrittenOut
+pub mod FilledIn
 pub mod StatesKept
 pub mod GateShut
 pub mod Scans

@@ -9,3 +9,4 @@ pub mod AreaRoom
 pub mod CommitStates
 pub mod EndBelow
 pub mod Found
+pub mod Filling

@@ -6,6 +6,7 @@ mod area_kept;
 mod area_placed;
 mod area_room;
 mod comparing;
+mod filling;
 mod found;
 mod gate_word;
 mod overlay_on;
