@@ -1,5 +1,5 @@
 -- Which bytes change, by what was read of the file and the bytes of a page.
-use Rattle.std.proofs.Common.{◌≡◌, ◌≢◌, ◌∙◌, ℕ, ◌+◌, ◌<◌, ◌≤◌, List, slice_index, sym, ap, subst, arith}
+use Rattle.std.proofs.Common.{◌≡◌, ◌∙◌, ℕ, ◌+◌, ◌<◌, ◌≤◌, List, slice_index, sym, ap, arith}
 use Rattle.tdb_space.specs.Extents.{Extent}
 use Rattle.tdb_space.specs.Runs.{Changed}
 use Rattle.tdb_txn.specs.Found.{Counts, StandsAt}

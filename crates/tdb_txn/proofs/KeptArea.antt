@@ -1,10 +1,10 @@
 -- The undo area of a commit is kept, and the file grows.
-use Rattle.std.proofs.Common.{◌≡◌, ℕ, ◌+◌, ◌%◌, ◌<◌, ◌≤◌, ◌⊎◌, List, [], length, slice_index, refl, sym, ◌∙◌, ap, subst, inl, inr, arith}
+use Rattle.std.proofs.Common.{◌≡◌, ℕ, ◌+◌, ◌%◌, ◌<◌, ◌≤◌, List, length, slice_index, refl, sym, ◌∙◌, ap, subst, inl, inr, arith}
 use Rattle.std.proofs.lemmas.Bool.{cases_lt}
 use Rattle.std.proofs.lemmas.List.{get_or_past}
 use Rattle.tdb_disk.specs.History.{History, called, grew, seen, Tried}
 use Rattle.tdb_disk.specs.Image.{padded}
-use Rattle.tdb_disk.specs.Stop.{Leaves, LeavesOnly, Quiet, Grown}
+use Rattle.tdb_disk.specs.Stop.{LeavesOnly, Quiet, Grown}
 use Rattle.tdb_disk.proofs.Image.{length-padded}
 use Rattle.tdb_disk.proofs.Runs.{leaves_quiet, leaves_tried}
 use Rattle.tdb_disk.proofs.Stop.{grown_whole}
@@ -14,17 +14,17 @@ use Rattle.tdb_space.specs.Accepted.{Accept}
 use Rattle.tdb_space.specs.Form.{Form, form_of, data_start}
 use Rattle.tdb_space.specs.Moved.{StaysAccepted}
 use Rattle.tdb_space.specs.NewArea.{Longer}
-use Rattle.tdb_space.specs.Planned.{Placed, kept, content_length}
+use Rattle.tdb_space.specs.Planned.{Placed, kept}
 use Rattle.tdb_space.specs.Record.{rec_len_of}
-use Rattle.tdb_space.specs.Undoing.{area_at, area_end, Reopens}
+use Rattle.tdb_space.specs.Undoing.{Reopens}
 use Rattle.tdb_space.proofs.Alike.{exact_reopens}
 use Rattle.tdb_space.proofs.AreaSets.{longer_stays, grown_longer}
 use Rattle.tdb_space.proofs.Contents.{area_in}
 use Rattle.tdb_space.proofs.Moved.{stays_reopens}
 use Rattle.tdb_space.proofs.Stretches.{runs_of_other}
 use Rattle.tdb_txn.specs.Commit.{scheme_of}
-use Rattle.tdb_txn.specs.Planned.{AwaitsContent, RestsButGrown, grown, IsPlannedOn}
-use Rattle.tdb_txn.specs.Planning.{IsPlanFrom, KeepsArea}
+use Rattle.tdb_txn.specs.Planned.{AwaitsContent, grown, IsPlannedOn}
+use Rattle.tdb_txn.specs.Planning.{KeepsArea}
 use Rattle.tdb_txn.specs.Stock.{page_list}
 use Rattle.tdb_txn.specs.declared.planned.Plan.{Plan}
 use Rattle.tdb_txn.proofs.WrittenOut.{over_same, runs_inside}

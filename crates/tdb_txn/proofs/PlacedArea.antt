@@ -1,14 +1,14 @@
 -- A new undo area of a commit was placed behind the image of the transaction.
-use Rattle.std.proofs.Common.{◌≡◌, ℕ, ◌+◌, ◌-◌, ◌%◌, ◌<◌, ◌≤◌, ◌⊎◌, List, [], length, slice_index, refl, sym, ◌∙◌, ap, subst, inl, inr, arith}
+use Rattle.std.proofs.Common.{◌≡◌, ℕ, ◌+◌, ◌-◌, ◌%◌, ◌<◌, ◌≤◌, ◌⊎◌, List, length, slice_index, sym, ◌∙◌, ap, subst, inl, inr, arith}
 use Rattle.std.proofs.lemmas.Bool.{cases_lt}
 use Rattle.std.proofs.lemmas.List.{get_or_past}
 use Rattle.tdb_disk.specs.History.{History, seen}
 use Rattle.tdb_disk.specs.Stop.{Quiet}
 use Rattle.tdb_words.specs.Word.{word}
-use Rattle.tdb_space.specs.Extents.{times, once, area}
+use Rattle.tdb_space.specs.Extents.{times, area}
 use Rattle.tdb_space.specs.Form.{Form, form_of, data_start}
 use Rattle.tdb_space.specs.Moved.{StaysAccepted}
-use Rattle.tdb_space.specs.Planned.{Placed, fresh, content_length}
+use Rattle.tdb_space.specs.Planned.{fresh}
 use Rattle.tdb_space.specs.Record.{rec_len_of}
 use Rattle.tdb_space.specs.Runs.{ChangedRuns, RunsLie}
 use Rattle.tdb_space.proofs.Areas.{area_within}

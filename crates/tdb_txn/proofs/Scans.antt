@@ -1,6 +1,6 @@
 -- The runs that are found while the bytes are looked at one after the other.
-use Rattle.std.proofs.Common.{◌≡◌, ◌∙◌, ℕ, zero, suc, ◌+◌, ◌-◌, ◌<◌, ◌≤◌, ◌⊎◌, List, [], ◌∷◌, ◌++◌, length, refl, sym, ap, subst, inl, inr, arith, add-zero}
-use Rattle.std.proofs.lemmas.Bool.{cases_lt, cases_eq}
+use Rattle.std.proofs.Common.{◌≡◌, ◌∙◌, ℕ, zero, suc, ◌+◌, ◌-◌, ◌<◌, ◌≤◌, ◌⊎◌, List, [], ◌∷◌, ◌++◌, refl, ap, subst, inl, inr, arith, add-zero}
+use Rattle.std.proofs.lemmas.Bool.{cases_lt}
 use Rattle.tdb_space.specs.Extents.{Extent, once, times}
 use Rattle.tdb_space.specs.Runs.{Near, InOrder, IsRuns}
 use Rattle.tdb_space.proofs.Counts.{times-append, once_in, once_lies}

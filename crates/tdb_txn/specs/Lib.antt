@@ -6,6 +6,7 @@ pub mod Commit
 pub mod Planned
 pub mod Planning
 pub mod AreaRoom
+pub mod AreaExtent
 pub mod CommitStates
 pub mod EndBelow
 pub mod Found

@@ -2,9 +2,11 @@
 #![tactic(auto)]
 
 mod applying;
+mod area_found;
 mod area_kept;
 mod area_placed;
 mod area_room;
+mod changes;
 mod comparing;
 mod filling;
 mod found;

@@ -1,7 +1,6 @@
 -- One page more was compared, and the end.
-use Rattle.std.proofs.Common.{◌≡◌, ◌+◌, ◌*◌, ◌<◌, ◌≤◌, ◌∙◌, ◌⊎◌, ℕ, List, get_or, length, slice_index, refl, sym, subst, ap, inl, inr, arith}
+use Rattle.std.proofs.Common.{◌≡◌, ◌+◌, ◌*◌, ◌<◌, ◌≤◌, ◌∙◌, ℕ, get_or, length, refl, sym, subst, ap, inl, inr, arith}
 use Rattle.std.proofs.lemmas.Bool.{cases_lt}
-use Rattle.std.proofs.lemmas.List.{get_or_default}
 use Rattle.tdb_disk.specs.History.{seen}
 use Rattle.tdb_txn.specs.Found.{Blanked}
 use Rattle.tdb_txn.specs.Pages.{page_size}

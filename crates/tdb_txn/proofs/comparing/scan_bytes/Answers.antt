@@ -1,5 +1,5 @@
 -- One byte more was compared.
-use Rattle.std.proofs.Common.{◌≡◌, ◌+◌, ◌<◌, ◌≤◌, ◌∙◌, ℕ, List, length, slice_index, sym, subst, ap, arith}
+use Rattle.std.proofs.Common.{◌≡◌, ◌+◌, ◌∙◌, length, sym, subst, ap, arith}
 use Rattle.std.proofs.lemmas.Bool.{MatchBool-at_true, MatchBool-at_false}
 use Rattle.tdb_space.specs.Runs.{Changed}
 use Rattle.tdb_txn.specs.Found.{FoundSoFar, InPlace, Counts}
