@@ -1,3 +1,4 @@
 pub mod Asked
 pub mod Stages
 pub mod Turns
+pub mod Wiped

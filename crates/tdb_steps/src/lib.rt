@@ -14,6 +14,7 @@ mod stage;
 mod storing;
 mod taking;
 mod unlinking;
+mod wiping;
 
 pub use crate::appending::look_to_append;
 pub use crate::deleting::delete_turn;
@@ -22,3 +23,4 @@ pub use crate::laws::knowledge_stays;
 pub use crate::looks::{fetch_turn, has_turn};
 pub use crate::stage::{Next, Stage};
 pub use crate::storing::store_turn;
+pub use crate::wiping::{wipe, wipe_bytes, wipe_writes};
