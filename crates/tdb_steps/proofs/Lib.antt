@@ -6,3 +6,7 @@ pub mod Stretched
 pub mod FreeTails
 pub mod Wipes
 pub mod WipeSteps
+pub mod Holdings
+pub mod Lawful
+pub mod Cases
+pub mod Turning

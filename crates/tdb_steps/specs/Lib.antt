@@ -2,3 +2,9 @@ pub mod Asked
 pub mod Stages
 pub mod Turns
 pub mod Wiped
+pub mod PlainCommands
+pub mod LockRows
+pub mod Holdings
+pub mod Order
+pub mod Machines
+pub mod LockTurns

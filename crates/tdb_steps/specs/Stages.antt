@@ -92,6 +92,12 @@ OfStore n (Taken found hand) size spare = CanLink found hand size n spare
 OfStore n (Changed hand) size spare = RoomForAll spare 5 40
 OfStore n _ size spare = Unit {0}
 
+-- the stage after the turn that takes a lock
+abbrev pub locked_stage : Stage → Stage
+locked_stage Begun = Chained
+locked_stage (Looked found) = Listed found
+locked_stage stage = stage
+
 -- a turn leads to such a stage, or to the end
 abbrev pub Leads : (Stage → Type 0) → Next → Type 0
 Leads Of (Step stage) = Of stage

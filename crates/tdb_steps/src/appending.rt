@@ -1,6 +1,6 @@
 // The turn of an append that looks its key up.
 
-ghost use Rattle.std.specs.Prelude.{◌≡◌, ◌≤◌, ◌<◌, ◌+◌, ◌^◌, ℕ, List, IsTrue, IfOk, IfSome, Some, length};
+ghost use Rattle.std.specs.Prelude.{◌≡◌, ◌≤◌, ◌<◌, ◌+◌, ◌^◌, ℕ, List, IsTrue, IfOk, IfSome, Some, length, unwrap_or};
 ghost use Rattle.tdb_disk.specs.Count.{HasCause};
 ghost use Rattle.tdb_space.specs.Frame.{Wrote, Looked};
 ghost use Rattle.tdb_space.specs.Extents.{HandPair};
@@ -11,6 +11,7 @@ ghost use Rattle.tdb_chain.specs.Place.{StandsWithin, HoldsKey};
 ghost use Rattle.tdb_steps.specs.Asked.{appends, joined};
 ghost use Rattle.tdb_steps.specs.Stages.{OfStore, Leads, IsStep};
 ghost use Rattle.tdb_steps.specs.Turns.{Makes, TurnMade, UpdatesRightly, Finds};
+ghost use Rattle.tdb_steps.specs.Order.{LooksOn};
 ghost use Rattle.tdb_steps.specs.declared.stage.Stage.TheVariants as Stage;
 
 use crate::looking::update_found;
@@ -51,34 +52,38 @@ fn joined_value<S: Space>(
 /// Looks up the key of an append, and puts the bytes that it has in front of those to be appended. Where all of them fit into the
 /// record that is there, they are written at once, and the command ends.
 ///
-/// Where the command goes on, its other turns are those of a store of the value as it is then, with the flag `Replace`. The reply is
-/// `Memory` where that is wanting. The value may have changed then too.
+/// Where the command goes on, its other turns are those of a store with the flag `Replace`, of the joined bytes, or of those to be
+/// appended where no bytes were joined. The reply is `Memory` where that is wanting.
 pub fn look_to_append<S: Space>(
     alloc: Global,
     s: &mut S,
     key: &[u8],
-    value: &mut Bytes,
+    more: &[u8],
+    whole: &mut Option<Bytes>,
 ) -> Result<Next, Io>
     requires key { length key.now < 2 ^ 32 }
-    requires value { length value.old < 2 ^ 32 }
+    requires more { length more.now < 2 ^ 32 }
     requires chains { 0 < (S.form s.old).chains }
-    ensures made { IfOk result (λ next. IsTrue S.tells → Makes (S.form s.old) (S.image s.old) (S.image s.new) key.now (appends value.old) Stage.Chained next) }
+    ensures made { IfOk result (λ next. IsTrue S.tells → Makes (S.form s.old) (S.image s.old) (S.image s.new) key.now (appends more.now) Stage.Chained next) }
     ensures joined { IfOk result (λ next. IsTrue S.tells → IsStep next → (hands : List HandPair) → AcceptWith (S.form s.old) (S.image s.old) hands
-        → value.new ≡ joined (map_of (S.form s.old) (S.image s.old) key.now) value.old) }
-    ensures rightly { IfOk result (λ next. IsTrue S.tells → Finds (S.form s.old) (S.image s.old) key.now (λ place. UpdatesRightly (length value.new) place next)) }
-    ensures short { length value.new < 2 ^ 33 }
+        → unwrap_or whole.new more.now ≡ joined (map_of (S.form s.old) (S.image s.old) key.now) more.now) }
+    ensures rightly { IfOk result (λ next. IsTrue S.tells → Finds (S.form s.old) (S.image s.old) key.now (λ place. UpdatesRightly (length (unwrap_or whole.new more.now)) place next)) }
+    ensures order { IfOk result LooksOn }
+    ensures short { length (unwrap_or whole.new more.now) < 2 ^ 33 }
     ensures leads { (n : ℕ) → IfOk result (Leads (λ stage. OfStore n stage (S.size s.new) (S.spare s.new))) }
     ensures size { S.size s.new ≡ S.size s.old }
     ensures wrote { Wrote S.Space s.old s.new }
     ensures cause { HasCause (S.faults s.old) (S.faults s.new) result }
     ensures bytes_read { S.bytes_read s.old ≤ S.bytes_read s.new }
 {
+    *whole = None;
     let Some(place) = find(s, key)? else {
         return Ok(Next::Step(Stage::Looked(None)));
     };
-    let Some(bytes) = joined_value(alloc, s, &place, value.as_slice())? else {
+    let Some(bytes) = joined_value(alloc, s, &place, more)? else {
         return Ok(Next::Done(Reply::Memory));
     };
-    *value = bytes;
-    update_found(s, place, value.as_slice())
+    let next = update_found(s, place, bytes.as_slice())?;
+    *whole = Some(bytes);
+    Ok(next)
 }

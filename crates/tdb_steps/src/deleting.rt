@@ -6,6 +6,7 @@ ghost use Rattle.tdb_space.specs.Frame.{Looked, Wrote};
 ghost use Rattle.tdb_steps.specs.Asked.{deletes};
 ghost use Rattle.tdb_steps.specs.Stages.{OfDelete, Leads, IsIdle};
 ghost use Rattle.tdb_steps.specs.Turns.{Makes, DeletesRightly};
+ghost use Rattle.tdb_steps.specs.Order.{DeleteOrder};
 
 use crate::giving::give_back;
 use crate::looking::look_to_delete;
@@ -31,6 +32,7 @@ pub fn delete_turn<S: Space>(
     requires stage { OfDelete stage (S.size s.old) (S.spare s.old) }
     ensures made { IfOk result (λ next. IsTrue S.tells → S.size s.old < 2 ^ 32 → Makes (S.form s.old) (S.image s.old) (S.image s.new) key.now deletes stage next) }
     ensures rightly { IfOk result (λ next. IsTrue S.tells → S.size s.old < 2 ^ 32 → DeletesRightly (S.form s.old) (S.image s.old) (S.image s.new) key.now stood_on.now stage next) }
+    ensures order { IfOk result (DeleteOrder stage) }
     ensures leads { IfOk result (Leads (λ then. OfDelete then (S.size s.new) (S.spare s.new))) }
     ensures idle { IsIdle stage → Looked S.Space s.old s.new }
     ensures longer { S.size s.old ≤ S.size s.new }

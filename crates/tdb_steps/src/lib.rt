@@ -1,15 +1,20 @@
 //! The turns of a plain command on one key of a tdb file.
 #![tactic(auto)]
 
+mod acting;
 mod appending;
 mod deleting;
 mod flag;
 mod giving;
 mod laws;
 mod linking;
+mod locking;
 mod look;
 mod looking;
 mod looks;
+mod machine;
+mod plain;
+mod rows;
 mod stage;
 mod storing;
 mod taking;
@@ -21,6 +26,9 @@ pub use crate::deleting::delete_turn;
 pub use crate::flag::Flag;
 pub use crate::laws::knowledge_stays;
 pub use crate::looks::{fetch_turn, has_turn};
+pub use crate::machine::Machine;
+pub use crate::plain::Plain;
+pub use crate::rows::{LockRow, Region, Rows};
 pub use crate::stage::{Next, Stage};
 pub use crate::storing::store_turn;
 pub use crate::wiping::{wipe, wipe_bytes, wipe_writes};

@@ -10,6 +10,7 @@ ghost use Rattle.tdb_chain.specs.Place.{StandsWithin, HoldsKey};
 ghost use Rattle.tdb_steps.specs.Asked.{stores};
 ghost use Rattle.tdb_steps.specs.Stages.{CanLink, OfStore, Leads};
 ghost use Rattle.tdb_steps.specs.Turns.{Makes, LinkedOver, LinksRightly};
+ghost use Rattle.tdb_steps.specs.Order.{LinksOn};
 ghost use Rattle.tdb_steps.specs.declared.flag.Flag.{Flag};
 ghost use Rattle.tdb_steps.specs.declared.stage.Stage.TheVariants as Stage;
 ghost use Rattle.tdb_steps.specs.declared.stage.Next.TheVariants as Next;
@@ -35,6 +36,7 @@ fn link_over<S: Space>(
         → Makes (S.form s.old) (S.image s.old) (S.image s.new) key.now (stores flag value.now) (Stage.Taken over hand) next) }
     ensures rightly { IfOk result (λ next. IsTrue S.tells → S.size s.old < 2 ^ 32
         → LinkedOver (S.form s.old) (S.image s.old) hand over next) }
+    ensures order { IfOk result LinksOn }
     ensures leads { IfOk result (Leads (λ stage. OfStore (length key.now + length value.now) stage (S.size s.new) (S.spare s.new))) }
     ensures size { S.size s.new ≡ S.size s.old }
     ensures wrote { Wrote S.Space s.old s.new }
@@ -61,6 +63,7 @@ fn link_beside<S: Space>(
         → Makes (S.form s.old) (S.image s.old) (S.image s.new) key.now (stores flag value.now) (Stage.Taken (Some old) hand) next) }
     ensures ending { IfOk result (λ next. IsTrue S.tells → S.size s.old < 2 ^ 32 → (key : List ℕ) (others : List HandPair) → AcceptWith (S.form s.old) (S.image s.old) (hand ∷ others)
         → HoldsKey (S.form s.old) (S.image s.old) key old → next ≡ Next.Step Stage.Ending) }
+    ensures order { IfOk result LinksOn }
     ensures leads { IfOk result (Leads (λ stage. OfStore (length key.now + length value.now) stage (S.size s.new) (S.spare s.new))) }
     ensures size { S.size s.new ≡ S.size s.old }
     ensures wrote { Wrote S.Space s.old s.new }
@@ -89,6 +92,7 @@ pub(crate) fn link_new<S: Space>(
     ensures made { IfOk result (λ next. IsTrue S.tells → S.size s.old < 2 ^ 32 → (flag : Flag)
         → Makes (S.form s.old) (S.image s.old) (S.image s.new) key.now (stores flag value.now) (Stage.Taken found hand) next) }
     ensures rightly { IfOk result (λ next. IsTrue S.tells → S.size s.old < 2 ^ 32 → LinksRightly (S.form s.old) (S.image s.old) hand stood_on.now found next) }
+    ensures order { IfOk result LinksOn }
     ensures leads { IfOk result (Leads (λ stage. OfStore (length key.now + length value.now) stage (S.size s.new) (S.spare s.new))) }
     ensures size { S.size s.new ≡ S.size s.old }
     ensures wrote { Wrote S.Space s.old s.new }

@@ -9,6 +9,7 @@ ghost use Rattle.tdb_chain.specs.Place.{StandsWithin};
 ghost use Rattle.tdb_steps.specs.Asked.{stores, deletes};
 ghost use Rattle.tdb_steps.specs.Stages.{IsKnown, OfStore, OfDelete, Leads, IsEnd};
 ghost use Rattle.tdb_steps.specs.Turns.{Makes, TurnMade, UpdatesRightly, MarksRightly, Finds};
+ghost use Rattle.tdb_steps.specs.Order.{LooksOn};
 ghost use Rattle.tdb_steps.specs.declared.flag.Flag.{Flag};
 ghost use Rattle.tdb_steps.specs.declared.stage.Stage.TheVariants as Stage;
 
@@ -26,6 +27,7 @@ pub(crate) fn update_found<S: Space>(s: &mut S, place: Place, value: &[u8]) -> R
         → IsKnown (S.form s.old) (S.image s.old) key (stores flag value.now) (Some place)
         → TurnMade (S.form s.old) (S.image s.old) (S.image s.new) key (stores flag value.now) Stage.Chained next others) }
     ensures rightly { IfOk result (UpdatesRightly (length value.now) (Some place)) }
+    ensures order { IfOk result LooksOn }
     ensures leads { (n : ℕ) → IfOk result (Leads (λ stage. OfStore n stage (S.size s.new) (S.spare s.new))) }
     ensures size { S.size s.new ≡ S.size s.old }
     ensures wrote { Wrote S.Space s.old s.new }
@@ -50,6 +52,7 @@ fn mark_found<S: Space>(s: &mut S, place: Place) -> Result<Next, Io>
         → IsKnown (S.form s.old) (S.image s.old) key deletes (Some place)
         → TurnMade (S.form s.old) (S.image s.old) (S.image s.new) key deletes Stage.Chained next others) }
     ensures done { IfOk result IsEnd }
+    ensures order { IfOk result LooksOn }
     ensures size { S.size s.new ≡ S.size s.old }
     ensures wrote { Wrote S.Space s.old s.new }
     ensures cause { HasCause (S.faults s.old) (S.faults s.new) result }
@@ -75,6 +78,7 @@ pub(crate) fn look_to_store<S: Space>(
     requires chains { 0 < (S.form s.old).chains }
     ensures made { IfOk result (λ next. IsTrue S.tells → Makes (S.form s.old) (S.image s.old) (S.image s.new) key.now (stores flag value.now) Stage.Chained next) }
     ensures rightly { IfOk result (λ next. IsTrue S.tells → Finds (S.form s.old) (S.image s.old) key.now (λ place. UpdatesRightly (length value.now) place next)) }
+    ensures order { IfOk result LooksOn }
     ensures leads { (n : ℕ) → IfOk result (Leads (λ stage. OfStore n stage (S.size s.new) (S.spare s.new))) }
     ensures size { S.size s.new ≡ S.size s.old }
     ensures wrote { Wrote S.Space s.old s.new }
@@ -100,6 +104,7 @@ pub(crate) fn look_to_delete<S: Space>(s: &mut S, key: &[u8], stood_on: &Spots) 
     requires chains { 0 < (S.form s.old).chains }
     ensures made { IfOk result (λ next. IsTrue S.tells → Makes (S.form s.old) (S.image s.old) (S.image s.new) key.now deletes Stage.Chained next) }
     ensures rightly { IfOk result (λ next. IsTrue S.tells → Finds (S.form s.old) (S.image s.old) key.now (λ place. MarksRightly stood_on.now place next)) }
+    ensures order { IfOk result LooksOn }
     ensures leads { IfOk result (Leads (λ stage. OfDelete stage (S.size s.new) (S.spare s.new))) }
     ensures size { S.size s.new ≡ S.size s.old }
     ensures wrote { Wrote S.Space s.old s.new }

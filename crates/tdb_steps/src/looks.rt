@@ -6,6 +6,7 @@ ghost use Rattle.tdb_space.specs.Frame.{Looked};
 ghost use Rattle.tdb_steps.specs.Asked.{fetches, asks};
 ghost use Rattle.tdb_steps.specs.Stages.{OfLook, Leads};
 ghost use Rattle.tdb_steps.specs.Turns.{Makes, LooksRightly};
+ghost use Rattle.tdb_steps.specs.Order.{LookOrder};
 
 use crate::look::{fetch, has};
 use crate::stage::{Next, Stage};
@@ -19,6 +20,7 @@ pub fn fetch_turn<S: Space>(alloc: Global, stage: Stage, s: &mut S, key: &[u8]) 
     requires stage { OfLook stage }
     ensures made { IfOk result (λ next. IsTrue S.tells → Makes (S.form s.old) (S.image s.old) (S.image s.new) key.now fetches stage next) }
     ensures rightly { IfOk result (LooksRightly stage) }
+    ensures order { IfOk result (LookOrder stage) }
     ensures leads { IfOk result (Leads OfLook) }
     ensures looked { Looked S.Space s.old s.new }
     ensures cause { HasCause (S.faults s.old) (S.faults s.new) result }
@@ -42,6 +44,7 @@ pub fn has_turn<S: Space>(stage: Stage, s: &mut S, key: &[u8]) -> Result<Next, I
     requires stage { OfLook stage }
     ensures made { IfOk result (λ next. IsTrue S.tells → Makes (S.form s.old) (S.image s.old) (S.image s.new) key.now asks stage next) }
     ensures rightly { IfOk result (LooksRightly stage) }
+    ensures order { IfOk result (LookOrder stage) }
     ensures leads { IfOk result (Leads OfLook) }
     ensures looked { Looked S.Space s.old s.new }
     ensures cause { HasCause (S.faults s.old) (S.faults s.new) result }

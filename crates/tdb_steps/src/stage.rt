@@ -1,5 +1,8 @@
 // What a command knows and holds between two of its turns.
 
+ghost use Rattle.std.specs.Prelude.{◌≡◌};
+ghost use Rattle.tdb_steps.specs.Stages.{locked_stage};
+
 use tdb_chain::Place;
 use tdb_locks::Reply;
 use tdb_space::Hand;
@@ -42,6 +45,17 @@ pub enum Next {
 }
 
 impl Stage {
+    /// The stage after the turn that takes a lock.
+    pub(crate) fn locked(self) -> Stage
+        ensures { result ≡ locked_stage self }
+    {
+        match self {
+            Stage::Begun => Stage::Chained,
+            Stage::Looked(found) => Stage::Listed(found),
+            other => other,
+        }
+    }
+
     /// Gives the command up, with the record that it may hold. It takes no memory and changes nothing.
     pub fn end(self) {
         match self {

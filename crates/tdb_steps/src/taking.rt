@@ -8,6 +8,7 @@ ghost use Rattle.tdb_chain.specs.Place.{StandsWithin};
 ghost use Rattle.tdb_steps.specs.Asked.{Asked};
 ghost use Rattle.tdb_steps.specs.Stages.{OfStore, Leads};
 ghost use Rattle.tdb_steps.specs.Turns.{Makes, TakesRightly};
+ghost use Rattle.tdb_steps.specs.Order.{TakesOn};
 ghost use Rattle.tdb_steps.specs.declared.stage.Stage.TheVariants as Stage;
 
 use crate::stage::{Next, Stage};
@@ -35,6 +36,7 @@ pub(crate) fn take_new<S: Space>(
         → Makes (S.form s.old) (S.image s.old) (S.image s.new) key asked (Stage.Listed found) next) }
     ensures rightly { IfOk result (λ next. IsTrue S.tells → S.size s.old < 2 ^ 32
         → TakesRightly (S.form s.old) (S.image s.old) (S.image s.new) (rec_len_for key_len value_len) limit found next) }
+    ensures order { IfOk result TakesOn }
     ensures leads { IfOk result (Leads (λ stage. OfStore (key_len + value_len) stage (S.size s.new) (S.spare s.new))) }
     ensures size { S.size s.old ≤ S.size s.new }
     ensures wrote { Wrote S.Space s.old s.new }

@@ -1,14 +1,13 @@
 -- The append goes on as a store of the joined value, or has stored it where the record stands.
-use Rattle.std.proofs.Common.{◌≡◌, ℕ, List, Some, length, refl, ◌∙◌, ap, subst}
+use Rattle.std.proofs.Common.{◌≡◌, ℕ, List, Some, length, refl, sym, ◌∙◌, ap, subst}
 use Rattle.std.specs.Prelude.{IsTrue, IfSome}
-use Rattle.std.proofs.lemmas.Result.{IfOk-weaker}
 use Rattle.tdb_space.specs.Pairs.{map_of}
 use Rattle.tdb_space.specs.Extents.{HandPair}
 use Rattle.tdb_space.specs.Accepted.{AcceptWith}
 use Rattle.tdb_chain.specs.Place.{IsFound, HoldsKey}
 use Rattle.tdb_steps.specs.Asked.{stores, appends, joined}
 use Rattle.tdb_steps.specs.Stages.{IsKnown}
-use Rattle.tdb_steps.specs.Turns.{Makes, TurnMade, UpdatesRightly}
+use Rattle.tdb_steps.specs.Turns.{TurnMade, UpdatesRightly}
 use Rattle.tdb_steps.specs.declared.flag.Flag.{Flag}
 use Rattle.tdb_steps.specs.declared.flag.Flag.TheVariants.{Replace}
 use Rattle.tdb_steps.specs.declared.stage.Stage.TheVariants as Stage
@@ -16,7 +15,7 @@ use Rattle.tdb_steps.proofs.Made.{moved, as_append}
 use Rattle.tdb_steps.proofs.appending.look_to_append.Goals as goal
 
 pub returns-clause-made : goal.returns-clause-made
-returns-clause-made g c =
+returns-clause-made g c told others A known =
     let f = g.S.Space.form c.args.s.now in
     let a = g.S.Space.image c.args.s.now in
     let k = g.S.Space.form c.find.new.s in
@@ -25,27 +24,18 @@ returns-clause-made g c =
     let w = g.S.Space.image c.joined_value.new.s in
     let b = g.S.Space.image c.update_found.new.s in
     let key = c.args.key.now in
-    let more = c.args.value.now in
-    let bytes = c.as_slice-2.result.now in
+    let more = c.args.more.now in
+    let bytes = c.as_slice.result.now in
     let place = c.in-Some.place in
     let form = c.joined_value.ensures.looked.form ∙ c.find.ensures.looked.form in
     let image = c.joined_value.ensures.looked.image ∙ c.find.ensures.looked.image in
-    IfOk-weaker c.update_found.result
-    (λ next. IsTrue g.S.Space.tells → (key : List ℕ) (flag : Flag) (others : List HandPair) → AcceptWith m w others → IsKnown m w key (stores flag bytes) (Some place) → TurnMade m w b key (stores flag bytes) Stage.Chained next others)
-    (λ next. IsTrue g.S.Space.tells → Makes f a b key (appends more) Stage.Chained next)
-    (λ next made told others A _.
     let holds = subst (IsFound f a key) c.in-Some.is (c.in_ok-place.ensures.found told others A) in
-    let same : bytes ≡ joined (map_of f a key) more = c.as_slice-2.ensures ∙ moved (λ x img. (key : List ℕ) → HoldsKey x img key place → c.in-Some-2.bytes ≡ joined (map_of x img key) c.as_slice.result.now) f k a v c.find.ensures.looked.form c.find.ensures.looked.image (subst (λ made. IfSome made (λ bytes. IsTrue g.S.Space.tells → (key : List ℕ) → HoldsKey k v key place → bytes ≡ joined (map_of k v key) c.as_slice.result.now)) c.in-Some-2.is c.in_ok-bytes.ensures.joined told) key holds ∙ ap (joined (map_of f a key)) c.as_slice.ensures in
-    as_append f a b key more bytes same next others
-    (moved (λ x img. (key : List ℕ) (flag : Flag) (others : List HandPair) → AcceptWith x img others → IsKnown x img key (stores flag bytes) (Some place) → TurnMade x img b key (stores flag bytes) Stage.Chained next others) f m a w form image (made told) key Replace others A (record { found = holds; granted = refl })))
-    c.update_found.ensures.made
+    let same : bytes ≡ joined (map_of f a key) more = c.as_slice.ensures ∙ moved (λ x img. (key : List ℕ) → HoldsKey x img key place → c.in-Some-2.bytes ≡ joined (map_of x img key) more) f k a v c.find.ensures.looked.form c.find.ensures.looked.image (subst (λ made. IfSome made (λ bytes. IsTrue g.S.Space.tells → (key : List ℕ) → HoldsKey k v key place → bytes ≡ joined (map_of k v key) more)) c.in-Some-2.is c.in_ok-bytes.ensures.joined told) key holds in
+    as_append f a b key more bytes same c.in_ok-next.next others
+    (moved (λ x img. (key : List ℕ) (flag : Flag) (others : List HandPair) → AcceptWith x img others → IsKnown x img key (stores flag bytes) (Some place) → TurnMade x img b key (stores flag bytes) Stage.Chained c.in_ok-next.next others) f m a w form image (c.in_ok-next.ensures.made told) key Replace others A (record { found = holds; granted = refl }))
 
 pub returns-clause-rightly : goal.returns-clause-rightly
-returns-clause-rightly g c =
+returns-clause-rightly g c told others A =
     let f = g.S.Space.form c.args.s.now in
     let a = g.S.Space.image c.args.s.now in
-    let key = c.args.key.now in
-    let place = c.in-Some.place in
-    IfOk-weaker c.update_found.result _ _
-    (λ next rightly told others A. (Some place, subst (IsFound f a key) c.in-Some.is (c.in_ok-place.ensures.found told others A), subst (λ n. UpdatesRightly n (Some place) next) (ap length c.as_slice-2.ensures) rightly))
-    c.update_found.ensures.rightly
+    (Some c.in-Some.place, subst (IsFound f a c.args.key.now) c.in-Some.is (c.in_ok-place.ensures.found told others A), subst (λ n. UpdatesRightly n (Some c.in-Some.place) c.in_ok-next.next) (ap length c.as_slice.ensures) c.in_ok-next.ensures.rightly)

@@ -1,0 +1,32 @@
+-- What the two kinds of turns of a machine do: those that take a lock, and those that don't.
+use Rattle.std.specs.Prelude.{ℕ, ◌≡◌, List, true, false, Some}
+use Rattle.tdb_locks.specs.HeldLocks.{HeldLocks}
+use Rattle.tdb_locks.specs.LockTable.{ChangesRange, IsFree, IsFirstConflict}
+use Rattle.tdb_locks.specs.declared.kind.Kind.{Kind}
+use Rattle.tdb_locks.specs.declared.piece.Piece.{Piece}
+use Rattle.tdb_locks.specs.declared.turn.Reply.{Reply}
+use Rattle.tdb_locks.specs.declared.turn.Turn.{Turn}
+use Rattle.tdb_locks.specs.declared.turn.Turn.TheVariants.{Step, Blocked, Done}
+use Rattle.tdb_steps.specs.declared.rows.LockRow.{LockRow}
+use Rattle.tdb_steps.specs.declared.rows.Rows.{Rows}
+use Rattle.tdb_steps.specs.declared.stage.Stage.TheVariants.{Begun}
+use Rattle.tdb_steps.specs.Stages.{locked_stage}
+use Rattle.tdb_steps.specs.LockRows.{start_of, end_of, is_covered, AreLetGo}
+use Rattle.tdb_steps.specs.Machines.{Doing}
+
+-- A turn that takes a lock of a row: the lock is taken or was covered, and the stage is the next; or the turn is blocked by the first
+-- conflict, and nothing changes; or memory is wanting, and all is let go.
+abbrev pub LockLed : HeldLocks → ℕ → List Piece → List Piece → Rows → LockRow → Doing → Doing → Turn → Type 0
+LockLed locks owner old new rows r d e Step =
+    (e ≡ record d { stage = locked_stage d.stage }) × (is_covered locks r ≡ true → new ≡ old)
+    × (is_covered locks r ≡ false → ChangesRange old new owner (start_of r.region) (end_of r.region) (Some r.kind) × IsFree old owner (start_of r.region) (end_of r.region) r.kind)
+LockLed locks owner old new rows r d e (Blocked other byte) =
+    (e ≡ d) × (new ≡ old) × (kind : Kind) × IsFirstConflict old owner (start_of r.region) (end_of r.region) r.kind other byte kind
+LockLed locks owner old new rows r d e (Done reply) =
+    (reply ≡ Reply.Memory) × (e ≡ record d { stage = Begun }) × IsFree old owner (start_of r.region) (end_of r.region) r.kind × AreLetGo locks owner old new rows
+
+-- a turn that takes no lock leads on, or ends
+abbrev pub ActLed : Doing → Doing → Turn → Type 0
+ActLed d e Step = Unit {0}
+ActLed d e (Blocked other byte) = ⊥
+ActLed d e (Done reply) = e ≡ record d { stage = Begun }

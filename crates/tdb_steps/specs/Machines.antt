@@ -1,0 +1,92 @@
+-- A machine: what a command has between two of its turns, what it needs and knows, and what a turn makes of an image.
+use Rattle.std.specs.Prelude.{ℕ, ◌+◌, ◌^◌, ◌≡◌, ◌≤◌, ◌<◌, ◌⊎◌, List, ◌++◌, length, false, true}
+use Rattle.tdb_space.specs.Form.{Form}
+use Rattle.tdb_space.specs.Pairs.{home}
+use Rattle.tdb_space.specs.Extents.{HandPair}
+use Rattle.tdb_space.specs.Accepted.{AcceptWith}
+use Rattle.tdb_space.specs.Spare.{Spare}
+use Rattle.tdb_space.specs.Stays.{ChangesOnly}
+use Rattle.tdb_law.specs.Commands.{MapCommand, Reply, Turn}
+use Rattle.tdb_law.specs.Commands.Reply.{Done, Memory, Full}
+use Rattle.tdb_law.specs.Commands.Turn.{Step, Blocked, Ends}
+use Rattle.tdb_law.specs.Openers.{Map}
+use Rattle.tdb_law.specs.MapCommands.{reply, after, map_fills}
+use Rattle.tdb_law.specs.Rows.{map_changed}
+use Rattle.tdb_law.specs.Ends.{map_last, map_ends}
+use Rattle.tdb_steps.specs.declared.plain.Plain.{Plain}
+use Rattle.tdb_steps.specs.declared.plain.Plain.TheVariants.{Fetch, Has, Store, Delete}
+use Rattle.tdb_steps.specs.declared.stage.Stage.{Stage}
+use Rattle.tdb_steps.specs.declared.stage.Stage.TheVariants.{Begun, Chained, Looked, Listed, Taken, Changed, Ending}
+use Rattle.tdb_steps.specs.Stages.{hands_in, Knows, OfLook, OfStore, OfDelete}
+use Rattle.tdb_steps.specs.PlainCommands.{key_of, asked_of, command_of, IsMapOf}
+use Rattle.tdb_steps.specs.Order.{IsAfter}
+
+-- the command, the chain of its key, and the stage
+pub record Doing : Type 0 where
+  pub command : Plain
+  pub chain : ℕ
+  pub stage : Stage
+
+-- a command that has had no turn
+abbrev pub begun : Plain → ℕ → Doing
+begun command chain = record { command = command; chain = chain; stage = Begun }
+
+-- the key and the value of a command are short enough for the words of a file
+abbrev pub IsShort : Plain → Type 0
+IsShort (Fetch key) = length key < 2 ^ 32
+IsShort (Has key) = length key < 2 ^ 32
+IsShort (Store key value flag) = (length key < 2 ^ 32) × (length value < 2 ^ 32)
+IsShort (Delete key) = length key < 2 ^ 32
+
+-- what a stage of a command needs of a view of this length and room, whatever its bytes are
+abbrev pub IsFit : Plain → Stage → ℕ → Spare → Type 0
+IsFit (Fetch key) stage size spare = OfLook stage
+IsFit (Has key) stage size spare = OfLook stage
+IsFit (Store key value flag) stage size spare = OfStore (length key + length value) stage size spare
+IsFit (Delete key) stage size spare = OfDelete stage size spare
+
+pub record Fits (d : Doing) (size : ℕ) (spare : Spare) : Type 0 where
+  pub short : IsShort d.command
+  pub stage : IsFit d.command d.stage size spare
+
+-- what a machine knows of an image
+abbrev pub DoingKnows : Form → List ℕ → Doing → Type 0
+DoingKnows f img d = Knows f img (key_of d.command) (asked_of d.command) d.stage
+
+-- What a turn of a command that has had n steps makes of the file's map m, in the words of a world:
+--   waits      blocked; the map stays
+--   goes_on    a step that leaves the map
+--   changes    the step that makes the change, turns before the command is told
+--   answers    an end with the reply on the map, and the map as the command leaves it
+--   starves    an end for want of memory; the map stays
+--   is_full    an end for want of space, of a command that would have been done
+--   finishes   an end with Done of a command whose change is made
+pub data MapTurned (f : Form) (b : List ℕ) (c : MapCommand) (n : ℕ) (m : Map) (turn : Turn) : Type 0 where
+  map_waits : (o byte : ℕ) → turn ≡ Blocked o byte → map_changed c n ≡ false → IsMapOf f b m → MapTurned f b c n m turn
+  map_goes_on : turn ≡ Step → map_changed c (n + 1) ≡ map_changed c n → IsMapOf f b m → MapTurned f b c n m turn
+  map_changes : turn ≡ Step → 1 ≤ n → map_changed c n ≡ false → map_changed c (n + 1) ≡ true → reply c m ≡ Done → IsMapOf f b (after c m) → MapTurned f b c n m turn
+  map_answers : (r : Reply) → turn ≡ Ends r → 1 ≤ n → map_changed c n ≡ false → r ≡ reply c m → IsMapOf f b (after c m) → MapTurned f b c n m turn
+  map_starves : turn ≡ Ends Memory → map_changed c n ≡ false → IsMapOf f b m → MapTurned f b c n m turn
+  map_is_full : (len need : ℕ) → turn ≡ Ends (Full len need) → map_fills c ≡ true → 1 ≤ n → map_changed c n ≡ false → reply c m ≡ Done → IsMapOf f b m → MapTurned f b c n m turn
+  map_finishes : turn ≡ Ends Done → map_changed c n ≡ true → IsMapOf f b m → MapTurned f b c n m turn
+
+-- the turns that the row of a command allows after n steps: a step below the last, a block, an end by the table, or for want of memory
+abbrev pub MapRow : MapCommand → ℕ → Turn → Type 0
+MapRow c n Step = n < map_last c
+MapRow c n (Blocked o byte) = Unit {0}
+MapRow c n (Ends r) = (map_ends c n r ≡ true) ⊎ ((r ≡ Memory) × (n ≤ map_last c))
+
+-- A turn of a machine led from image a to image b, where other hands are out that stay as they are. The new image is accepted with
+-- them and the machine's own. At most the chain of its key changed, and that only after its first turn, which locks it. The turn is
+-- one of the command's row, and the map and the reply are as the command says.
+pub record MachineTurned (f : Form) (a b : List ℕ) (d e : Doing) (n : ℕ) (turn : Turn) (others : List HandPair) : Type 0 where
+  pub accepted : AcceptWith f b (hands_in e.stage ++ others)
+  pub knows : DoingKnows f b e
+  pub only : ChangesOnly f a b (λ k. (k ≡ home f (key_of d.command)) × (1 ≤ n))
+  pub map : (m : Map) → IsMapOf f a m → MapTurned f b (command_of d.command) n m turn
+
+-- what a turn leaves of the machine: after a step it has had one more, blocked it is as it was, and at its end it has no turn and no hand
+abbrev pub Leaves : Doing → Doing → ℕ → Turn → Type 0
+Leaves d e n Step = (e.command ≡ d.command) × (e.chain ≡ d.chain) × IsAfter e.command e.stage (n + 1)
+Leaves d e n (Blocked o byte) = e ≡ d
+Leaves d e n (Ends r) = (e.command ≡ d.command) × (e.chain ≡ d.chain) × (e.stage ≡ Begun)

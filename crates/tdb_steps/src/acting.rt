@@ -1,0 +1,60 @@
+// A turn of a command without its locks.
+
+ghost use Rattle.std.specs.Prelude.{◌≤◌, ◌<◌, ◌^◌, IsTrue, IfOk};
+ghost use Rattle.tdb_disk.specs.Count.{HasCause};
+ghost use Rattle.tdb_space.specs.Frame.{Looked, Wrote};
+ghost use Rattle.tdb_steps.specs.Stages.{Leads, IsIdle};
+ghost use Rattle.tdb_steps.specs.Turns.{Makes};
+ghost use Rattle.tdb_steps.specs.Order.{InOrder};
+ghost use Rattle.tdb_steps.specs.PlainCommands.{key_of, asked_of};
+ghost use Rattle.tdb_steps.specs.Machines.{IsShort, IsFit};
+
+use crate::deleting::delete_turn;
+use crate::looks::{fetch_turn, has_turn};
+use crate::plain::Plain;
+use crate::stage::{Next, Stage};
+use crate::storing::store_turn;
+use std::alloc::Global;
+use tdb_locks::Spots;
+use tdb_space::{Io, Space};
+
+/// A turn of a command without its locks.
+pub(crate) fn act<S: Space>(
+    alloc: Global,
+    s: &mut S,
+    command: &Plain,
+    stage: Stage,
+    stood_on: &Spots,
+    limit: u64,
+) -> Result<Next, Io>
+    requires short { IsShort command.now }
+    requires chains { 0 < (S.form s.old).chains }
+    requires limit { limit ≤ 4294963200 }
+    requires fit { IsFit command.now stage (S.size s.old) (S.spare s.old) }
+    ensures made { IfOk result (λ next. IsTrue S.tells → S.size s.old < 2 ^ 32
+        → Makes (S.form s.old) (S.image s.old) (S.image s.new) (key_of command.now) (asked_of command.now) stage next) }
+    ensures order { IfOk result (InOrder command.now stage) }
+    ensures fit { IfOk result (Leads (λ then. IsFit command.now then (S.size s.new) (S.spare s.new))) }
+    ensures idle { IsIdle stage → Looked S.Space s.old s.new }
+    ensures longer { S.size s.old ≤ S.size s.new }
+    ensures wrote { Wrote S.Space s.old s.new }
+    ensures cause { HasCause (S.faults s.old) (S.faults s.new) result }
+    ensures bytes_read { S.bytes_read s.old ≤ S.bytes_read s.new }
+{
+    match command {
+        Plain::Fetch { key } => fetch_turn(alloc, stage, s, key.as_slice()),
+        Plain::Has { key } => has_turn(stage, s, key.as_slice()),
+        Plain::Store { key, value, flag } => {
+            store_turn(
+                stage,
+                s,
+                key.as_slice(),
+                value.as_slice(),
+                *flag,
+                stood_on,
+                limit,
+            )
+        }
+        Plain::Delete { key } => delete_turn(stage, s, key.as_slice(), stood_on),
+    }
+}

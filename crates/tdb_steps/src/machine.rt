@@ -1,0 +1,168 @@
+// A plain command that is done turn by turn, with its locks.
+
+ghost use Rattle.std.specs.Prelude.{◌≡◌, ◌≤◌, ◌<◌, ◌++◌, ◌^◌, ℕ, List, IsTrue, IfOk};
+ghost use Rattle.tdb_disk.specs.Count.{HasCause};
+ghost use Rattle.tdb_space.specs.Form.{form_in};
+ghost use Rattle.tdb_space.specs.Pairs.{home};
+ghost use Rattle.tdb_space.specs.Frame.{Looked, Wrote};
+ghost use Rattle.tdb_space.specs.Extents.{HandPair};
+ghost use Rattle.tdb_space.specs.Accepted.{AcceptWith};
+ghost use Rattle.tdb_steps.specs.Stages.{hands_in, IsIdle};
+ghost use Rattle.tdb_steps.specs.Order.{IsAfter};
+ghost use Rattle.tdb_steps.specs.PlainCommands.{key_of, command_of, turn_of};
+ghost use Rattle.tdb_steps.specs.LockRows.{rows_of, row_at, AllStandAlone, AreLetGo};
+ghost use Rattle.tdb_steps.specs.Machines.{begun, IsShort, Fits, DoingKnows, MachineTurned, MapRow, Leaves};
+ghost use Rattle.tdb_steps.specs.LockTurns.{LockLed, ActLed};
+
+use crate::acting::act;
+use crate::locking::{let_go, take_lock};
+use crate::plain::Plain;
+use crate::rows::{LockRow, Rows};
+use crate::stage::{Next, Stage};
+use std::alloc::Global;
+use std::marker::Model;
+use std::mem;
+use tdb_locks::{Held, LockRefusal, Locks, Reply, Spots, Turn};
+use tdb_space::{Io, Space};
+use tdb_words::{Header, chain_of, hash_of};
+
+/// A plain command that is done turn by turn.
+///
+/// It can't be dropped, since it may hold a record that is in no list: it is done to its end, or given up.
+#[derive(Debug)]
+pub struct Machine {
+    command: Plain,
+    chain: u32,
+    stage: Stage,
+}
+
+impl Model for Machine {
+    ghost use Rattle.tdb_steps.specs.Machines.{Doing};
+
+    ghost Value = { Doing };
+
+    ghost view = { λ m. record { command = m.command; chain = m.chain; stage = m.stage } };
+}
+
+impl Machine {
+    /// The machine of a command on a file with this header, before its first turn. It takes no memory.
+    pub fn new(command: Plain, h: &Header) -> Machine
+        requires short { IsShort command }
+        requires chains { 0 < h.now.hash_size }
+        ensures { result ≡ begun command (home (form_in h.now) (key_of command)) }
+    {
+        let chain = chain_of(hash_of(h.hash, command.key()), h.hash_size);
+        Machine {
+            command,
+            chain,
+            stage: Stage::Begun,
+        }
+    }
+
+    /// Gives the command up, with the record that it may hold. It takes no memory and makes no call on a disk.
+    pub fn end(self) {
+        let Machine {
+            command: _,
+            chain: _,
+            stage,
+        } = self;
+        stage.end();
+    }
+
+    /// The locks of the command, as data.
+    pub fn rows(&self) -> Rows
+        ensures { result ≡ rows_of self.now.command self.now.chain }
+    {
+        Rows::of(&self.command, self.chain)
+    }
+
+    /// The lock of the row that the next turn takes, if it takes one.
+    pub fn wanted(&self, rows: &Rows) -> Option<LockRow>
+        ensures { result ≡ row_at rows.now self.now.stage }
+    {
+        match &self.stage {
+            Stage::Begun => Some(rows.first),
+            Stage::Looked(_) => rows.second,
+            Stage::Chained
+            | Stage::Listed(_)
+            | Stage::Taken(_, _)
+            | Stage::Changed(_)
+            | Stage::Ending => None,
+        }
+    }
+
+    /// A turn that takes a lock of the row. A lock that the explicit ones cover isn't taken, and its turn is a step all the same.
+    ///
+    /// `Blocked` by the first conflict: then nothing changes, and the next turn tries the same again. `Memory` where that is wanting:
+    /// then all locks of the command are let go, for which no memory is asked, and the machine is before its first turn.
+    pub fn lock_turn(
+        &mut self,
+        locks: &mut Locks,
+        owner: u32,
+        held: &Held,
+        rows: &Rows,
+        row: LockRow,
+    ) -> Turn
+        requires alone { AllStandAlone held.now owner locks.old rows.now }
+        ensures led { LockLed held.now owner locks.old locks.new rows.now row self.old self.new result }
+    {
+        match take_lock(locks, owner, held, row) {
+            Ok(()) => {
+                let stage = mem::replace(&mut self.stage, Stage::Begun);
+                mem::replace(&mut self.stage, stage.locked()).end();
+                Turn::Step
+            }
+            Err(LockRefusal::Conflict { owner, byte, .. }) => Turn::Blocked { owner, byte },
+            Err(LockRefusal::Memory) => {
+                let_go(locks, owner, held, rows);
+                mem::replace(&mut self.stage, Stage::Begun).end();
+                Turn::Done(Reply::Memory)
+            }
+        }
+    }
+
+    /// A turn that takes no lock, in a file that may grow to `limit` bytes, where cursors stand on the records at `stood_on`.
+    ///
+    /// It is a step, or the reply: then the locks are still held, and the machine is before its first turn. `Io` where the disk
+    /// failed: then the command has given up the record that it held.
+    pub fn act_turn<S: Space>(
+        &mut self,
+        alloc: Global,
+        s: &mut S,
+        stood_on: &Spots,
+        limit: u64,
+    ) -> Result<Turn, Io>
+        requires chains { 0 < (S.form s.old).chains }
+        requires limit { limit ≤ 4294963200 }
+        requires fits { Fits self.old (S.size s.old) (S.spare s.old) }
+        ensures led { IfOk result (λ turn. ActLed self.old self.new turn) }
+        ensures made { IfOk result (λ turn. IsTrue S.tells → S.size s.old < 2 ^ 32 → (n : ℕ) (others : List HandPair) → IsAfter self.old.command self.old.stage n
+            → AcceptWith (S.form s.old) (S.image s.old) (hands_in self.old.stage ++ others) → DoingKnows (S.form s.old) (S.image s.old) self.old
+            → MachineTurned (S.form s.old) (S.image s.old) (S.image s.new) self.old self.new n (turn_of turn) others) }
+        ensures row { IfOk result (λ turn. (n : ℕ) → IsAfter self.old.command self.old.stage n → MapRow (command_of self.old.command) n (turn_of turn)) }
+        ensures leaves { IfOk result (λ turn. (n : ℕ) → IsAfter self.old.command self.old.stage n → Leaves self.old self.new n (turn_of turn)) }
+        ensures fits { IfOk result (λ turn. Fits self.new (S.size s.new) (S.spare s.new)) }
+        ensures idle { IsIdle self.old.stage → Looked S.Space s.old s.new }
+        ensures longer { S.size s.old ≤ S.size s.new }
+        ensures wrote { Wrote S.Space s.old s.new }
+        ensures cause { HasCause (S.faults s.old) (S.faults s.new) result }
+        ensures bytes_read { S.bytes_read s.old ≤ S.bytes_read s.new }
+    {
+        let stage = mem::replace(&mut self.stage, Stage::Begun);
+        match act(alloc, s, &self.command, stage, stood_on, limit)? {
+            Next::Step(next) => {
+                mem::replace(&mut self.stage, next).end();
+                Ok(Turn::Step)
+            }
+            Next::Done(reply) => Ok(Turn::Done(reply)),
+        }
+    }
+
+    /// Lets go of the locks of the command, taken or not, but for those that the explicit ones cover. It takes no memory.
+    pub fn let_go(&self, locks: &mut Locks, owner: u32, held: &Held)
+        requires alone { AllStandAlone held.now owner locks.old (rows_of self.now.command self.now.chain) }
+        ensures { AreLetGo held.now owner locks.old locks.new (rows_of self.now.command self.now.chain) }
+    {
+        let_go(locks, owner, held, &self.rows());
+    }
+}

@@ -1,0 +1,44 @@
+// The plain commands.
+
+ghost use Rattle.std.specs.Prelude.{◌≡◌};
+ghost use Rattle.tdb_steps.specs.PlainCommands.{key_of};
+
+use crate::flag::Flag;
+use tdb_words::Bytes;
+
+/// A command on the map of a file that needs no transaction, with its key and its value.
+#[derive(Debug, Drop)]
+pub enum Plain {
+    /// Asks for the value of a key.
+    Fetch {
+        key: Bytes,
+    },
+    /// Asks whether a key is there.
+    Has {
+        key: Bytes,
+    },
+    /// Stores a value.
+    Store {
+        key: Bytes,
+        value: Bytes,
+        flag: Flag,
+    },
+    /// Takes a key out.
+    Delete {
+        key: Bytes,
+    },
+}
+
+impl Plain {
+    /// The key that the command is on.
+    pub fn key(&self) -> &[u8]
+        ensures { result.now ≡ key_of self.now }
+    {
+        match self {
+            Plain::Fetch { key }
+            | Plain::Has { key }
+            | Plain::Store { key, .. }
+            | Plain::Delete { key } => key.as_slice(),
+        }
+    }
+}
