@@ -1,0 +1,5 @@
+pub mod Views
+pub mod Left
+pub mod Ahead
+pub mod Filled
+pub mod Searched
