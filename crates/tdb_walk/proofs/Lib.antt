@@ -3,3 +3,5 @@ pub mod Left
 pub mod Ahead
 pub mod Filled
 pub mod Searched
+pub mod Locked
+pub mod Ways

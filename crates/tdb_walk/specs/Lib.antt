@@ -1,2 +1,4 @@
 pub mod Heads
 pub mod NextLive
+pub mod Looks
+pub mod Way

@@ -3,10 +3,13 @@
 
 mod heads;
 mod live;
+mod looking;
 mod records;
-mod search;
+mod refusal;
 mod standing;
+mod way;
 
 pub use crate::live::Live;
-pub use crate::search::next_live;
+pub use crate::refusal::WalkRefusal;
 pub use crate::standing::Standing;
+pub use crate::way::{Way, move_on};
