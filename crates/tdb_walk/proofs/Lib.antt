@@ -5,3 +5,5 @@ pub mod Filled
 pub mod Searched
 pub mod Locked
 pub mod Ways
+pub mod Placed
+pub mod Purged

@@ -2,3 +2,4 @@ pub mod Heads
 pub mod NextLive
 pub mod Looks
 pub mod Way
+pub mod Purging

@@ -4,12 +4,14 @@
 mod heads;
 mod live;
 mod looking;
+mod purging;
 mod records;
 mod refusal;
 mod standing;
 mod way;
 
 pub use crate::live::Live;
+pub use crate::purging::purge_dead;
 pub use crate::refusal::WalkRefusal;
 pub use crate::standing::Standing;
 pub use crate::way::{Way, move_on};

@@ -1,0 +1,49 @@
+-- A dead record is taken out of its chain, and then given to the free list.
+use Rattle.std.proofs.Common.{◌≡◌, ℕ, ◌+◌, ◌<◌, ◌≤◌, List, ◌∷◌, ◌∙◌, ap, arith}
+use Rattle.tdb_words.proofs.Words.{word_agrees}
+use Rattle.tdb_space.specs.Form.{Form}
+use Rattle.tdb_space.specs.Record.{rec_len_of}
+use Rattle.tdb_space.specs.Chain.{chain_of, free_of, without, Member}
+use Rattle.tdb_space.specs.Extents.{HandPair, once, extent_at}
+use Rattle.tdb_space.specs.Stays.{ChainsStay, FreeStays}
+use Rattle.tdb_space.proofs.Counts.{once_in}
+use Rattle.tdb_space.proofs.Members.{member_held}
+use Rattle.tdb_space.proofs.Stays.{changes_then, changes_weaker}
+use Rattle.tdb_free.specs.FreeList.{free_pairs, give_to, GivenBack}
+use Rattle.tdb_free.proofs.TakenAs.{pairs_kept}
+use Rattle.tdb_chain.specs.declared.place.Place.{Place}
+use Rattle.tdb_chain.specs.Place.{IsPlace}
+use Rattle.tdb_chain.specs.Changed.{Purged, hand_at}
+use Rattle.tdb_walk.specs.Purging.{IsPlaceIn, IsPurged}
+
+-- a place in a chain is a place of the image
+abbrev pub place_of_chain : (f : Form) (img : List ℕ) (chain off : ℕ) (p : Place) → chain < f.chains → IsPlaceIn f img chain off p → IsPlace f img p
+place_of_chain f img chain off p below place = record {
+  chain = chain;
+  below = below;
+  leads = place.leads;
+  header = place.header;
+}
+
+-- a free list that stays has the same records
+free_same : (f : Form) (a b : List ℕ) → FreeStays f a b → free_pairs f b (free_of f b) ≡ free_pairs f a (free_of f a)
+free_same f a b S = ap (free_pairs f b) S.same_offsets ∙ pairs_kept f a b (free_of f a) as_long
+  where
+    inside : (z i : ℕ) → z + 4 ≤ i → i < z + 4 + 4 → 1 ≤ once (extent_at f.order a z) i
+    inside z i low high = omega (arith, once_in (extent_at f.order a z) i (omega (arith, low)) (omega (arith, high)))
+
+    as_long : (z : ℕ) → Member z (free_of f a) → rec_len_of f.order b z ≡ rec_len_of f.order a z
+    as_long z m = word_agrees f.order b a (z + 4) (λ i low high. S.bytes i (omega (arith, inside z i low high, member_held f.order a (free_of f a) z i m)))
+
+module _ (f : Form) (a m b : List ℕ) (chain off : ℕ) (p : Place) (hand : HandPair) (hands : List HandPair) (below : chain < f.chains) (place : IsPlaceIn f a chain off p) (taken : hand ≡ hand_at p) where
+  hand_is : hand ≡ (off, rec_len_of f.order a off)
+  hand_is = taken ∙ (λ j. (p.off, (place.header j).rec_len)) ∙ (λ j. (place.there j, rec_len_of f.order a (place.there j)))
+
+  pub purged_given : Purged f a m chain (without p.off (chain_of f a chain)) hands (hand ∷ hands) → GivenBack f m b hand hands → ChainsStay f m b hands → IsPurged f a b chain off hands
+  purged_given P G S = record {
+    accepted = G.accepted;
+    map = λ key. S.map key ∙ P.map key;
+    offsets = (S.only.chains chain below (λ never. never)).same_offsets ∙ P.changed.offsets ∙ ap (λ x. without x (chain_of f a chain)) place.there;
+    only = changes_then f a m b (λ k. k ≡ chain) P.changed.only (changes_weaker f m b (λ k. ⊥) (λ k. k ≡ chain) (λ k never. absurd never) S.only);
+    list = G.list ∙ (λ j. give_to (free_same f a m P.changed.frees j) (hand_is j));
+  }

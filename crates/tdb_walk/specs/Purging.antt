@@ -1,0 +1,38 @@
+-- What a purge of a dead record makes of an image.
+use Rattle.std.specs.Prelude.{◌≡◌, ℕ, List, Option, None, Some}
+use Rattle.tdb_words.specs.declared.record.TheConstants.{USED}
+use Rattle.tdb_words.specs.Record.{rec_at}
+use Rattle.tdb_space.specs.Form.{Form, chain_head}
+use Rattle.tdb_space.specs.Record.{magic_of, rec_len_of}
+use Rattle.tdb_space.specs.Chain.{chain_of, free_of, without, Leads, Member}
+use Rattle.tdb_space.specs.Pairs.{map_of}
+use Rattle.tdb_space.specs.Extents.{HandPair}
+use Rattle.tdb_space.specs.Accepted.{AcceptWith}
+use Rattle.tdb_space.specs.Stays.{ChangesOnly}
+use Rattle.tdb_free.specs.FreeList.{free_pairs, give_to}
+use Rattle.tdb_chain.specs.declared.place.Place.{Place}
+
+-- a dead record stands in a chain at an offset
+pub record IsDeadIn (f : Form) (img : List ℕ) (chain off : ℕ) : Type 0 where
+  pub member : Member off (chain_of f img chain)
+  pub dead : magic_of f.order img off ≡ USED → ⊥
+
+-- the place of the record of a chain at an offset
+pub record IsPlaceIn (f : Form) (img : List ℕ) (chain off : ℕ) (p : Place) : Type 0 where
+  pub there : p.off ≡ off
+  pub leads : Leads (chain_head chain) (chain_of f img chain) p.before p.off
+  pub header : p.rec ≡ rec_at f.order img p.off
+
+-- such a place was found
+abbrev pub FindsPlace : Form → List ℕ → ℕ → ℕ → Option Place → Type 0
+FindsPlace f img chain off None = ⊥
+FindsPlace f img chain off (Some p) = IsPlaceIn f img chain off p
+
+-- From image a to image b the dead record of a chain at an offset went to the free list, as a give of it makes that: it is in no
+-- chain, the map stays, no other chain changes, and b is accepted with the same hands.
+pub record IsPurged (f : Form) (a b : List ℕ) (chain off : ℕ) (hands : List HandPair) : Type 0 where
+  pub accepted : AcceptWith f b hands
+  pub map : (key : List ℕ) → map_of f b key ≡ map_of f a key
+  pub offsets : chain_of f b chain ≡ without off (chain_of f a chain)
+  pub only : ChangesOnly f a b (λ k. k ≡ chain)
+  pub list : free_pairs f b (free_of f b) ≡ give_to (free_pairs f a (free_of f a)) (off, rec_len_of f.order a off)

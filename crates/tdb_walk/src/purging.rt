@@ -1,0 +1,86 @@
+// A dead record is taken out of its chain, and given to the free list.
+
+ghost use Rattle.std.specs.Prelude.{◌≡◌, ◌≤◌, ◌<◌, ◌^◌, IsTrue, List, ℕ, IfOk, IfErr, IfSome, OnOk, OnErr};
+ghost use Rattle.tdb_disk.specs.Count.{HasCause, HasCauseOf};
+ghost use Rattle.tdb_words.specs.declared.record.TheConstants.{USED};
+ghost use Rattle.tdb_space.specs.Frame.{Looked, Wrote};
+ghost use Rattle.tdb_space.specs.Form.{data_start};
+ghost use Rattle.tdb_space.specs.Extents.{HandPair};
+ghost use Rattle.tdb_space.specs.Accepted.{AcceptWith};
+ghost use Rattle.tdb_chain.specs.Place.{StandsWithin};
+ghost use Rattle.tdb_walk.specs.Purging.{IsDeadIn, FindsPlace, IsPurged};
+ghost use Rattle.tdb_walk.specs.declared.refusal.WalkRefusal.TheVariants.{Io, Memory};
+
+use crate::refusal::WalkRefusal;
+use tdb_chain::{Place, purge};
+use tdb_free::give;
+use tdb_space::{Io as SpaceIo, Space, chain_head, data_start, read_listed, read_word};
+use tdb_words::USED;
+
+/// The place of the dead record of a chain at an offset. Where there is none, or the file's bytes aren't those of an accepted file, it
+/// answers a place that can be used in a file of this length, or none.
+fn dead_place<S: Space>(s: &mut S, len: u64, chain: u32, off: u32) -> Result<Option<Place>, SpaceIo>
+    requires length { len ≡ S.size s.old }
+    requires heads { data_start (S.form s.old) ≤ len }
+    requires below { chain < (S.form s.old).chains }
+    ensures found { IfOk result (λ found. IsTrue S.tells → (hands : List HandPair) → AcceptWith (S.form s.old) (S.image s.old) hands
+        → IsDeadIn (S.form s.old) (S.image s.old) chain off → FindsPlace (S.form s.old) (S.image s.old) chain off found) }
+    ensures within { IfOk result (λ found. IfSome found (λ p. StandsWithin p (S.size s.old))) }
+    ensures dead { IfOk result (λ found. IfSome found (λ p. p.rec.magic ≡ USED → ⊥)) }
+    ensures looked { Looked S.Space s.old s.new }
+    ensures cause { HasCause (S.faults s.old) (S.faults s.new) result }
+    ensures bytes_read { S.bytes_read s.old ≤ S.bytes_read s.new }
+{
+    let mut before = chain_head(chain);
+    let mut at = read_word(s, before)?;
+    for _turn in 0..len / 4 {
+        let Some(rec) = read_listed(s, len, at)? else {
+            return Ok(None);
+        };
+        if at == off {
+            if rec.magic == USED {
+                return Ok(None);
+            }
+            return Ok(Some(Place {
+                off,
+                before: before as u32,
+                rec,
+            }));
+        }
+        before = at as u64;
+        at = rec.next;
+    }
+    Ok(None)
+}
+
+/// Takes the dead record of a chain at an offset out of the chain, and gives it to the free list.
+///
+/// It goes along the chain up to the record, and along the free list. Room for all writes is made first: with `Memory` nothing was
+/// written. `Io` where the disk failed: then the record may be in its chain, in no list, or in the free list. Where no dead record of
+/// the chain stands there, nothing is written.
+pub fn purge_dead<S: Space>(s: &mut S, chain: u32, off: u32) -> Result<(), WalkRefusal>
+    ensures purged { OnOk result (IsTrue S.tells → S.size s.old < 2 ^ 32 → (hands : List HandPair) → AcceptWith (S.form s.old) (S.image s.old) hands
+        → chain < (S.form s.old).chains → IsDeadIn (S.form s.old) (S.image s.old) chain off → IsPurged (S.form s.old) (S.image s.old) (S.image s.new) chain off hands) }
+    ensures memory { IfErr result (λ e. e ≡ Memory → S.image s.new ≡ S.image s.old) }
+    ensures size { S.size s.new ≡ S.size s.old }
+    ensures wrote { Wrote S.Space s.old s.new }
+    ensures cause { HasCauseOf Io (S.faults s.old) (S.faults s.new) result }
+    ensures bytes_read { S.bytes_read s.old ≤ S.bytes_read s.new }
+{
+    let len = s.len()?;
+    let chains = s.hash_size();
+    if len < data_start(chains) || chain >= chains {
+        return Ok(());
+    }
+    let Some(place) = dead_place(s, len, chain, off)? else {
+        return Ok(());
+    };
+    let Ok(()) = s.ready(6, 44) else {
+        return Err(WalkRefusal::Memory);
+    };
+    let hand = purge(s, place)?;
+    match give(s, hand) {
+        Ok(()) => Ok(()),
+        Err(_fault) => Err(WalkRefusal::Io),
+    }
+}
