@@ -16,7 +16,7 @@ pub use crate::lines::{data_line, key_line};
 pub use crate::pairs::{Pair, Pairs};
 pub use crate::reader::{ReadRefusal, Reader};
 pub use crate::words::{WordRefusal, word_bytes_of};
-pub use crate::writer::{WriteRefusal, write_pair};
+pub use crate::writer::{WriteRefusal, push_pair, write_pair};
 
 #[cfg(test)]
 mod tests;

@@ -19,17 +19,24 @@ pub enum WriteRefusal {
     Memory,
 }
 
+/// Puts the text of one pair at the end.
+pub fn push_pair(text: &mut Vec<u8>, key: &[u8], value: &[u8]) -> Result<(), AllocError>
+    ensures { OnOk result (text.new.items ≡ text.old.items ++ pair_text key.now value.now) }
+{
+    text.extend_from_slice(b"{\n")?;
+    push_labelled(text, b"key", key)?;
+    text.extend_from_slice(b"\n")?;
+    push_labelled(text, b"data", value)?;
+    text.extend_from_slice(b"\n}\n")
+}
+
 /// The text of one pair.
 fn text_of(alloc: Global, key: &[u8], value: &[u8]) -> Result<Vec<u8>, AllocError>
     ensures { IfOk result (λ text. text.items ≡ pair_text key.now value.now) }
 {
     let room = key.len().saturating_add(value.len()).saturating_add(64);
     let mut text = Vec::with_capacity(alloc, room)?;
-    text.extend_from_slice(b"{\n")?;
-    push_labelled(&mut text, b"key", key)?;
-    text.extend_from_slice(b"\n")?;
-    push_labelled(&mut text, b"data", value)?;
-    text.extend_from_slice(b"\n}\n")?;
+    push_pair(&mut text, key, value)?;
     Ok(text)
 }
 

@@ -1,0 +1,137 @@
+-- What a dump has written and what it still holds, pair by pair; and what is written of it where it is refused.
+use Rattle.std.proofs.Common.{◌≡◌, ℕ, ◌+◌, ◌<◌, ◌≤◌, Bool, true, false, List, [], ◌∷◌, ◌++◌, length, take, drop, append_assoc, append-nil, zero, suc, refl, sym, ◌∙◌, ap, inl, inr, arith}
+use Rattle.std.specs.Prelude.{map, MatchBool}
+use Rattle.std.specs.List.{flat_map}
+use Rattle.std.proofs.lemmas.Bool.{cases_eq, MatchBool-at_true, MatchBool-at_false}
+use Rattle.std.proofs.lemmas.List.{length-append, length-take-le, take_at, take-append-le, take-append-drop, map-append}
+use Rattle.std.proofs.lemmas.List.Concat.{flat_map-append}
+use Rattle.tdb_dump.specs.declared.pairs.Pair.{Pair}
+use Rattle.tdb_dump.specs.DumpText.{pair_text}
+use Rattle.tdb_space.specs.Form.{Form}
+use Rattle.tdb_space.specs.Chain.{chain_of}
+use Rattle.tdb_space.specs.Pairs.{joined, pairs, order_of}
+use Rattle.tdb_space.specs.Extents.{HandPair}
+use Rattle.tdb_space.specs.Accepted.{AcceptWith}
+use Rattle.tdb_backup.specs.declared.traversal.Traversal.{Traversal}
+use Rattle.tdb_backup.specs.Traversal.{Gave, pair_at_hand}
+use Rattle.tdb_backup.specs.Dump.{as_pair, order_text, dump_of, WroteFront, HandedOn}
+use Rattle.tdb_backup.proofs.Walk.{moved}
+
+-- the front of a list and some of what follows
+take_over : (xs ys zs : List ℕ) (n : ℕ) → n ≤ length ys → take (length xs + n) (xs ++ ys ++ zs) ≡ xs ++ take n ys
+take_over xs ys zs n short =
+    let split : xs ++ ys ≡ xs ++ take n ys ++ drop n ys = ap (λ t. xs ++ t) (sym (take-append-drop n ys)) ∙ sym (append_assoc xs (take n ys) (drop n ys)) in
+    let long : length (xs ++ take n ys) ≡ length xs + n = omega (arith, length-append xs (take n ys), length-take-le n ys short) in
+    let within : length xs + n ≤ length (xs ++ ys) = omega (arith, length-append xs ys, short) in
+    take-append-le (length xs + n) (xs ++ ys) zs within ∙ ap (take (length xs + n)) split ∙ take_at (xs ++ take n ys) (drop n ys) (length xs + n) long
+
+-- the texts of two lists of pairs follow one another
+order_text_split : (given rest : List (List ℕ × List ℕ)) → order_text (given ++ rest) ≡ order_text given ++ order_text rest
+order_text_split given rest =
+    ap (λ ps. flat_map (λ (q : Pair). pair_text q.key q.value) ps) (map-append as_pair given rest)
+    ∙ flat_map-append (λ (q : Pair). pair_text q.key q.value) (map as_pair given) (map as_pair rest)
+
+-- the front of joined lists is that of the first ones
+joined_front : {T : Type 0} (n m : ℕ) (F : ℕ → List T) → n ≤ m → (rest : List T) × (joined m F ≡ joined n F ++ rest)
+joined_front n zero F le = ([], let e : zero ≡ n = omega (arith, le) in ap (λ k. joined k F) e ∙ sym (append-nil (joined n F)))
+joined_front n (suc m) F le =
+    elim (cases_eq n (suc m)) [
+      | inl e ↦ ([], ap (λ k. joined k F) (sym e) ∙ sym (append-nil (joined n F)))
+      | inr other ↦
+          let below = joined_front n m F (omega (arith, le, other)) in
+          (below.0 ++ F m, ap (λ xs. xs ++ F m) below.1 ∙ append_assoc (joined n F) below.0 (F m))
+    ]
+
+-- what a walk has given is the front of the order
+pub gave_front : (f : Form) (img : List ℕ) (given : List (List ℕ × List ℕ)) (t : Traversal) → Gave f img given t → (rest : List (List ℕ × List ℕ)) × (order_of f img ≡ given ++ rest)
+gave_front f img given t h =
+    let more = joined_front t.next_chain f.chains (λ j. pairs f.order img (chain_of f img j)) h.below in
+    (pairs f.order img h.ahead ++ more.0, more.1 ∙ ap (λ ps. ps ++ more.0) h.all ∙ append_assoc given (pairs f.order img h.ahead) more.0)
+
+-- so its text is the front of the dump
+gave_text : (f : Form) (img : List ℕ) (given : List (List ℕ × List ℕ)) (t : Traversal) → Gave f img given t → (rest : List ℕ) × (dump_of f img ≡ order_text given ++ rest)
+gave_text f img given t h = let more = gave_front f img given t h in (order_text more.0, ap order_text more.1 ∙ order_text_split given more.0)
+
+-- The text of these pairs was written behind what was there, up to what is still held of it
+pub record Dumped (before now held : List ℕ) (given : List (List ℕ × List ℕ)) : Type 0 where
+  pub done : List ℕ
+  pub wrote : now ≡ before ++ done
+  pub all : done ++ held ≡ order_text given
+
+-- at first nothing was written, and nothing is held
+pub dumped_start : (before : List ℕ) → Dumped before before [] []
+dumped_start before = record { done = []; wrote = sym (append-nil before); all = refl }
+
+-- a pair more is held
+pub dumped_pair : (before now held more : List ℕ) (given : List (List ℕ × List ℕ)) (p : List ℕ × List ℕ) → Dumped before now held given → more ≡ held ++ pair_text p.0 p.1 → Dumped before now more (given ++ p ∷ [])
+dumped_pair before now held more given p d e = record {
+  done = d.done;
+  wrote = d.wrote;
+  all = ap (λ t. d.done ++ t) e ∙ sym (append_assoc d.done held (pair_text p.0 p.1)) ∙ ap (λ t. t ++ pair_text p.0 p.1) d.all
+      ∙ sym (order_text_split given (p ∷ []) ∙ ap (λ t. order_text given ++ t) (append-nil (pair_text p.0 p.1)));
+}
+
+-- what was held is handed on
+pub dumped_on : (before now held later left : List ℕ) (given : List (List ℕ × List ℕ)) → Dumped before now held given → HandedOn now held later left → Dumped before later left given
+dumped_on before now held later left given d on =
+    elim on [
+      | inl same ↦ record { done = d.done; wrote = same.0 ∙ d.wrote; all = ap (λ t. d.done ++ t) same.1 ∙ d.all }
+      | inr wrote ↦ record {
+        done = d.done ++ held;
+        wrote = wrote.0 ∙ ap (λ t. t ++ held) d.wrote ∙ append_assoc before d.done held;
+        all = ap (λ t. d.done ++ held ++ t) wrote.1 ∙ append-nil (d.done ++ held) ∙ d.all;
+      }
+    ]
+
+-- where nothing is held any more, all of the text was written
+pub dumped_end : (before now held : List ℕ) (given : List (List ℕ × List ℕ)) → Dumped before now held given → held ≡ [] → now ≡ before ++ order_text given
+dumped_end before now held given d none = d.wrote ∙ ap (λ t. before ++ t) (sym (append-nil d.done) ∙ ap (λ t. d.done ++ t) (sym none) ∙ d.all)
+
+module _ (f : Form) (img before now held : List ℕ) (given : List (List ℕ × List ℕ)) (t : Traversal) (h : Gave f img given t) (d : Dumped before now held given) where
+  -- what was written is a front of the dump
+  pub dumped_front : WroteFront before (dump_of f img) now
+  dumped_front =
+      let more = gave_text f img given t h in
+      let whole : dump_of f img ≡ d.done ++ (held ++ more.0) = more.1 ∙ ap (λ x. x ++ more.0) (sym d.all) ∙ append_assoc d.done held more.0 in
+      let cut : take (length d.done) (dump_of f img) ≡ d.done = ap (take (length d.done)) whole ∙ take_at d.done (held ++ more.0) (length d.done) refl in
+      (length d.done, omega (arith, ap length whole, length-append d.done (held ++ more.0)), d.wrote ∙ ap (λ x. before ++ x) (sym cut))
+
+  -- and so it is where only some of what was held is written
+  pub dumped_failed : (later : List ℕ) → WroteFront now held later → WroteFront before (dump_of f img) later
+  dumped_failed later wrote =
+      let more = gave_text f img given t h in
+      let n = wrote.0 in
+      let whole : dump_of f img ≡ d.done ++ held ++ more.0 = more.1 ∙ ap (λ x. x ++ more.0) (sym d.all) in
+      let cut : take (length d.done + n) (dump_of f img) ≡ d.done ++ take n held = ap (take (length d.done + n)) whole ∙ take_over d.done held more.0 n wrote.1 in (
+        length d.done + n,
+        omega (arith, wrote.1, ap length whole, length-append (d.done ++ held) more.0, length-append d.done held),
+        wrote.2 ∙ ap (λ x. x ++ take n held) d.wrote ∙ append_assoc before d.done (take n held) ∙ ap (λ x. before ++ x) (sym cut),
+      )
+
+module _ (f k : Form) (img v : List ℕ) (hands : List HandPair) (before now held : List ℕ) (t u : Traversal) (b : Bool) (form : k ≡ f) (image : v ≡ img) (A : AcceptWith f img hands)
+    (d : (given : List (List ℕ × List ℕ)) × Gave f img given t × Dumped before now held given)
+    (answer : (hands : List HandPair) → AcceptWith k v hands → (given : List (List ℕ × List ℕ)) → Gave k v given t
+    → MatchBool b (Gave k v (given ++ pair_at_hand u ∷ []) u) (Gave k v given u × (order_of k v ≡ given))) where
+  told : MatchBool b (Gave k v (d.0 ++ pair_at_hand u ∷ []) u) (Gave k v d.0 u × (order_of k v ≡ d.0))
+  told = answer hands (moved (λ x i. AcceptWith x i hands) k f v img (sym form) (sym image) A) d.0 (moved (λ x i. Gave x i d.0 t) k f v img (sym form) (sym image) d.1)
+
+  -- a pair more was given, and its text is held
+  pub dump_more : b ≡ true → (key value more : List ℕ) → key ≡ (pair_at_hand u).0 → value ≡ (pair_at_hand u).1 → more ≡ held ++ pair_text key value
+      → (given : List (List ℕ × List ℕ)) × Gave f img given u × Dumped before now more given
+  dump_more another key value more same_key same_value e =
+      let next = MatchBool-at_true (Gave k v (d.0 ++ pair_at_hand u ∷ []) u) (Gave k v d.0 u × (order_of k v ≡ d.0)) another told in (
+        d.0 ++ pair_at_hand u ∷ [],
+        moved (λ x i. Gave x i (d.0 ++ pair_at_hand u ∷ []) u) f k img v form image next,
+        dumped_pair before now held more d.0 (pair_at_hand u) d.2 (e ∙ (λ j. held ++ pair_text (same_key j) (same_value j))),
+      )
+
+  -- no pair is left, and what is held is handed on
+  pub dump_done : b ≡ false → (later left : List ℕ) → HandedOn now held later left → length left < 1 → later ≡ before ++ dump_of f img
+  dump_done ended later left on short =
+      let all = MatchBool-at_false (Gave k v (d.0 ++ pair_at_hand u ∷ []) u) (Gave k v d.0 u × (order_of k v ≡ d.0)) ended told in
+      let order : order_of f img ≡ d.0 = moved (λ x i. order_of x i ≡ d.0) f k img v form image all.1 in
+      dumped_end before later left d.0 (dumped_on before now held later left d.0 d.2 on) (none left short) ∙ ap (λ ps. before ++ order_text ps) (sym order)
+    where
+      none : (xs : List ℕ) → length xs < 1 → xs ≡ []
+      none [] short = refl
+      none (x ∷ xs) short = absurd (omega (arith, short))

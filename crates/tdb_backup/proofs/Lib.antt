@@ -1,0 +1,4 @@
+mod Walk
+mod Bytes
+mod Dumped
+mod Inserting

@@ -1,0 +1,4 @@
+pub mod Held
+pub mod Traversal
+pub mod Dump
+pub mod Filling

@@ -1,0 +1,106 @@
+// Why pairs aren't written, added or copied.
+
+ghost use Rattle.std.specs.Prelude.{◌≡◌};
+ghost use Rattle.tdb_backup.specs.declared.refusal.DumpRefusal.TheVariants.{Failed, Memory};
+ghost use Rattle.tdb_backup.specs.declared.refusal.InsertRefusal.TheVariants.{Io as InsertIo, Memory as InsertMemory};
+ghost use Rattle.tdb_backup.specs.Dump.{of_value};
+ghost use Rattle.tdb_backup.specs.Filling.{of_free};
+
+use std::alloc::AllocError;
+use tdb_chain::ValueRefusal;
+use tdb_disk::SinkFault;
+use tdb_free::FreeRefusal;
+use tdb_space::Io as SpaceIo;
+use thiserror::Error;
+
+/// Why the pairs of a file aren't written to the end.
+#[derive(Clone, Copy, Debug, PartialEq, Eq, Error)]
+pub enum DumpRefusal {
+    /// The disk failed.
+    #[error("the disk failed")]
+    Io,
+
+    /// The sink failed.
+    #[error("the sink failed")]
+    Failed,
+
+    /// Memory is wanting.
+    #[error("no memory")]
+    Memory,
+}
+
+impl From<ValueRefusal> for DumpRefusal {
+    ghost from_gives = { λ refusal e. e ≡ of_value refusal };
+
+    fn from(refusal: ValueRefusal) -> Self {
+        match refusal {
+            ValueRefusal::Io => DumpRefusal::Io,
+            ValueRefusal::Memory => DumpRefusal::Memory,
+        }
+    }
+}
+
+impl From<SinkFault> for DumpRefusal {
+    ghost from_gives = { λ _ e. e ≡ Failed };
+
+    fn from(_fault: SinkFault) -> Self {
+        DumpRefusal::Failed
+    }
+}
+
+impl From<AllocError> for DumpRefusal {
+    ghost from_gives = { λ _ e. e ≡ Memory };
+
+    fn from(_fault: AllocError) -> Self {
+        DumpRefusal::Memory
+    }
+}
+
+/// Why a pair isn't added to a file.
+#[derive(Clone, Copy, Debug, PartialEq, Eq, Error)]
+pub enum InsertRefusal {
+    /// No free record is long enough, and the file must not grow by so much. Lengths are in bytes.
+    #[error("a file of {len} bytes has no room for {need} more")]
+    Full {
+        /// The length of the file.
+        len: u64,
+
+        /// How many bytes the record needs, with its header.
+        need: u64,
+    },
+
+    /// The disk failed.
+    #[error("the disk failed")]
+    Io,
+
+    /// Memory is wanting.
+    #[error("no memory")]
+    Memory,
+}
+
+impl From<FreeRefusal> for InsertRefusal {
+    ghost from_gives = { λ refusal e. e ≡ of_free refusal };
+
+    fn from(refusal: FreeRefusal) -> Self {
+        match refusal {
+            FreeRefusal::Full { len, need } => InsertRefusal::Full { len, need },
+            FreeRefusal::Io => InsertRefusal::Io,
+        }
+    }
+}
+
+impl From<SpaceIo> for InsertRefusal {
+    ghost from_gives = { λ _ e. e ≡ InsertIo };
+
+    fn from(_fault: SpaceIo) -> Self {
+        InsertRefusal::Io
+    }
+}
+
+impl From<AllocError> for InsertRefusal {
+    ghost from_gives = { λ _ e. e ≡ InsertMemory };
+
+    fn from(_fault: AllocError) -> Self {
+        InsertRefusal::Memory
+    }
+}
