@@ -1,0 +1,6 @@
+pub mod CutLemmas
+pub mod NumberLemmas
+pub mod LawLemmas
+pub mod LoopLemmas
+pub mod ReadLemmas
+pub mod RowLemmas

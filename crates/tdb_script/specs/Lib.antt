@@ -1,0 +1,6 @@
+pub mod Lines
+pub mod Number
+pub mod Rows
+pub mod Script
+pub mod Text
+pub mod Laws

@@ -1,0 +1,24 @@
+//! The texts of a run of turns: what a script says, and what is printed of a report.
+#![tactic(auto)]
+
+mod command;
+mod cut;
+mod laws;
+mod limits;
+mod line;
+mod number;
+mod play;
+mod reply;
+mod rows;
+mod script;
+#[cfg(test)]
+mod tests;
+mod text;
+mod unread;
+
+pub use crate::laws::script_law;
+pub use crate::limits::LONGEST_SCRIPT;
+pub use crate::line::write_line;
+pub use crate::number::MOST_NUMBER;
+pub use crate::reply::text_of_reply;
+pub use crate::script::{ScriptRefusal, read_script};
