@@ -27,7 +27,7 @@ use Rattle.tdb_space.specs.Exchange.{GrownBy, PutInFront, Filled}
 use Rattle.tdb_space.proofs.Maps.{home_below}
 use Rattle.tdb_space.proofs.Grown.{add_accepted, add_map}
 use Rattle.tdb_space.specs.NewRecord.{rec_len_for, new_rec, record_bytes}
-use Rattle.tdb_top.specs.Insert.{need_for, first_of, inserted, HasAdded}
+use Rattle.tdb_top.specs.Commands.Insert.{need_for, first_of, inserted, HasAdded}
 use Rattle.tdb_top.proofs.AtEnd.{word_length, overlay_before}
 
 -- a number modulo 2^32 is a word, and so is the hash of a key

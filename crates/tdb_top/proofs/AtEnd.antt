@@ -8,7 +8,7 @@ use Rattle.tdb_disk.specs.Image.{overlay}
 use Rattle.tdb_words.specs.declared.word.Order.{Order}
 use Rattle.tdb_words.specs.declared.word.Order.TheVariants.{Little, Big}
 use Rattle.tdb_words.specs.Word.{bytes_of_word}
-use Rattle.tdb_top.specs.Insert.{led_to, BrokenOff}
+use Rattle.tdb_top.specs.Commands.Insert.{led_to, BrokenOff}
 
 -- what holds anyhow holds where there is an error, and where there is none
 pub on_err : {V F P : Type 0} (r : Result V F) → P → OnErr r P

@@ -1,5 +1,7 @@
 -- What an insert that ended early leaves, and what it writes.
-use Rattle.std.proofs.Common.{◌≡◌, ℕ, ◌+◌, ◌-◌, List, [], length, replicate, append-nil, sym, ap, ◌∙◌, inr, arith}
+use Rattle.std.proofs.Common.{◌≡◌, ℕ, ◌+◌, ◌-◌, ◌<◌, ◌≤◌, false, List, [], None, length, replicate, append-nil, refl, sym, ap, ◌∙◌, inr, arith}
+use Rattle.std.specs.Prelude.{is_some, IsSome, nat_le}
+use Rattle.std.proofs.lemmas.Bool.{le-leb, lt-leb}
 use Rattle.std.proofs.lemmas.List.{length-replicate}
 use Rattle.tdb_words.specs.declared.header.Header.{Header}
 use Rattle.tdb_words.specs.declared.record.TheConstants.{PADDING}
@@ -9,15 +11,35 @@ use Rattle.tdb_words.specs.Header.{header_at}
 use Rattle.tdb_words.specs.Record.{bytes_of_rec}
 use Rattle.tdb_words.specs.Word.{bytes_of_word}
 use Rattle.tdb_space.specs.Form.{form_of, form_in, chain_head}
-use Rattle.tdb_space.specs.Pairs.{home}
+use Rattle.tdb_space.specs.Pairs.{home, map_of}
 use Rattle.tdb_space.specs.NewRecord.{rec_len_for, new_rec, record_bytes}
-use Rattle.tdb_top.specs.Insert.{need_for, first_of, led_to, inserted, BrokenOff}
+use Rattle.tdb_top.specs.declared.ending.Reply.TheVariants.{Done, KeyThere, Full}
+use Rattle.tdb_top.specs.Commands.Insert.{insert_reply, need_for, first_of, led_to, inserted, BrokenOff}
 use Rattle.tdb_top.proofs.Added.{rec_length, parts_length}
 use Rattle.tdb_top.proofs.AtEnd.{word_length}
 
 -- where nothing was done yet
 pub nothing_done : (old made : List ℕ) (room : ℕ) (now : List ℕ) → now ≡ old → BrokenOff old made room now
 nothing_done old made room now same = inr ([], omega arith, same ∙ sym (append-nil old))
+
+-- what is replied where the key is there, where its record doesn't fit, and where it does
+module _ (img key value : List ℕ) (limit : ℕ) where
+  pub replies_there : IsSome (map_of (form_of img) img key) → KeyThere ≡ insert_reply limit key value img
+  replies_there there = sym (rw there refl)
+
+  absent : map_of (form_of img) img key ≡ None → is_some (map_of (form_of img) img key) ≡ false
+  absent none = ap is_some none
+
+  pub replies_full : (len need : ℕ) → map_of (form_of img) img key ≡ None → len ≡ length img → need ≡ need_for key value → limit < len + need → Full len need ≡ insert_reply limit key value img
+  replies_full len need none same_len same_need passes =
+      (λ j. Full (same_len j) (same_need j))
+      ∙ sym (rw (absent none) (rw (over (omega (arith, passes, same_len, same_need))) refl))
+    where
+      over : limit < length img + need_for key value → nat_le (length img + need_for key value) limit ≡ false
+      over past = lt-leb (length img + need_for key value) limit past
+
+  pub replies_done : map_of (form_of img) img key ≡ None → length img + need_for key value ≤ limit → Done ≡ insert_reply limit key value img
+  replies_done none within = sym (rw (absent none) (rw (le-leb (length img + need_for key value) limit within) refl))
 
 -- the bytes of a new record are as many as it needs
 pub as_needed : (o : Order) (r : Rec) (key value : List ℕ) → r.rec_len ≡ rec_len_for (length key) (length value) → length (record_bytes o r key value) ≡ need_for key value

@@ -1,6 +1,6 @@
 pub mod ShortWords
-pub mod Lines
-pub mod OneLine
+pub mod WordReadings
+pub mod Sizes
 pub mod NewFile
 pub mod MakesFile
 pub mod Errors
@@ -8,10 +8,8 @@ pub mod Openings
 pub mod AtEnd
 pub mod Held
 pub mod Found
-pub mod Causes
 pub mod Added
 pub mod Inserts
+pub mod Acting
 pub mod OneAnswer
-pub mod Statuses
-pub mod Leavings
-mod Tells
+pub mod Runs

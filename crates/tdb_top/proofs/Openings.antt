@@ -162,3 +162,7 @@ module _ (old mid now : History) (f : Form) (same : mid ≡ old) (form : f ≡ f
   undo_stops stops quiet opens mild =
       subst (λ (q : Form × History). Quiet q.1 → Opens (seen q.1) → Shut (form_of (seen q.1)) (seen q.1) ⊎ Mild (seen q.1) → form_of (seen q.1) ≡ q.0 → LeavesOnly q.1 now (Reopens (restored q.0 (seen q.1))))
       (λ j. (form j, same j)) stops quiet opens (inr mild) refl
+
+-- bytes that were checked, after calls that left them
+pub checked_still : (old now : History) (o : Opened) → now ≡ old → Accept (seen old) → o.header ≡ header_at (seen old) → Counted (seen old) o.report → IsCheckedOn (seen now) o
+checked_still old now o same accepted header counted = subst (λ h. IsCheckedOn (seen h) o) (sym same) (record { accepted = accepted; header = header; counted = counted })

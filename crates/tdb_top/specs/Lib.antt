@@ -1,7 +1,9 @@
-pub mod CommandLine
+pub mod Limits
+pub mod Words
 pub mod Opening
-pub mod Insert
-pub mod Create
+pub mod Commands
+pub mod Ask
+pub mod Acts
 pub mod Ending
 pub mod Left
-pub mod Limits
+pub mod Run

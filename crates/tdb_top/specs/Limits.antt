@@ -2,8 +2,10 @@
 use Rattle.std.specs.Prelude.{◌≡◌}
 use Rattle.tdb_top.specs.declared.limits.TheConstants.{LONGEST_FILE, LONGEST_WORD, LONGEST_SIZE, DEFAULT_SIZE, MOST_CHAINS}
 
--- A file has at most 2 ^ 32 bytes less a page of 4096, a word of the command line at most 2 ^ 24 bytes, a number of chains at most
--- ten digits. A new file has 131 chains (`DEFAULT_HASH_SIZE` of the stock library) where none are asked for, at most 2 ^ 20.
+-- A file has at most 2 ^ 32 bytes less a page of 4096, a word of the command line at most 2 ^ 24 bytes, a number of
+-- chains at most
+-- ten digits. A new file has 131 chains (`DEFAULT_HASH_SIZE` of the stock library) where none are asked for, at most
+-- 2 ^ 20.
 pub record AreLimits : Type 0 where
   pub file : LONGEST_FILE ≡ 4294963200
   pub word : LONGEST_WORD ≡ 16777216

@@ -17,6 +17,7 @@ use Rattle.tdb_check.specs.declared.refusal.CheckRefusal as Check
 use Rattle.tdb_undo.specs.declared.refusal.UndoRefusal as Undo
 use Rattle.tdb_top.specs.declared.halt.Refusal.{Refusal}
 use Rattle.tdb_top.specs.declared.halt.Refusal.TheVariants.{TooLong, Header, Corrupt}
+use Rattle.tdb_top.specs.declared.halt.Fault as F
 use Rattle.tdb_top.specs.declared.halt.Halt.{Halt}
 use Rattle.tdb_top.specs.declared.halt.Halt.TheVariants.{Refused, Device, Memory}
 use Rattle.tdb_top.specs.declared.opening.Opened.{Opened}
@@ -128,7 +129,12 @@ of_check (Check.TheVariants.Corrupt what at) = Refused (Corrupt what at)
 of_check Check.TheVariants.Io = Device
 of_check Check.TheVariants.Memory = Memory
 
--- and where the value of a record isn't given
-abbrev pub of_value : Value.ValueRefusal → Halt
-of_value Value.TheVariants.Io = Device
-of_value Value.TheVariants.Memory = Memory
+-- how an act ends where the value of a record isn't given
+abbrev pub of_value : Value.ValueRefusal → F.Fault
+of_value Value.TheVariants.Io = F.TheVariants.Device
+of_value Value.TheVariants.Memory = F.TheVariants.Memory
+
+-- and how a look halts where an act gave no reply
+abbrev pub of_fault : F.Fault → Halt
+of_fault F.TheVariants.Device = Device
+of_fault F.TheVariants.Memory = Memory

@@ -1,7 +1,7 @@
 // New files over the forms in memory, and the command lines that ask for them.
 
-use crate::create::{Creation, NewForm, create_file};
-use crate::line::{Line, LineRefusal, line_of};
+use crate::ask::{Ask, Task};
+use crate::commands::create::{Creation, NewForm, create_file};
 use std::alloc::{AllocError, Global};
 use std::test::Fail;
 use tdb_disk::{Call, MemFiles};
@@ -78,10 +78,14 @@ fn form_asked(alloc: Global, words: &str) -> Result<Option<NewForm>, AllocError>
     for word in words.split(' ') {
         list.push(String::from_str(alloc, word)?)?;
     }
-    match line_of(alloc, &list) {
-        Ok(Line::Create { file: _, form }) => Ok(Some(form)),
-        Ok(_) | Err(LineRefusal::NoLine) => Ok(None),
-        Err(LineRefusal::Memory) => Err(AllocError),
+    match Ask::of(alloc, &list)? {
+        Some(
+            Ask {
+                file: _,
+                task: Task::Create(form),
+            },
+        ) => Ok(Some(form)),
+        _ => Ok(None),
     }
 }
 

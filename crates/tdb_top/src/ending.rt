@@ -1,56 +1,66 @@
 // How a run ends: its status and the line that it prints.
 
 ghost use Rattle.std.specs.Prelude.{◌≡◌, ◌⊎◌, ◌++◌, codes, decimal, None, IfOk, IfSome};
-ghost use Rattle.tdb_top.specs.declared.ending.Ending.TheVariants.{DeviceFault, NoMemory};
-ghost use Rattle.tdb_top.specs.declared.halt.Halt.TheVariants.{Refused, Device, Memory};
-ghost use Rattle.tdb_top.specs.Ending.{Ending as Means, ending_of, no_memory, there_already, status_of, line_of, refusal_status, refusal_line, text_of, TakesMemory, PrintedFor, Prints, output_by, of_halt, Untaken, MadeSo};
+ghost use Rattle.tdb_top.specs.declared.ending.Ending.TheVariants.{Refused, There, NoMemory};
+ghost use Rattle.tdb_top.specs.declared.ending.Ending.{Ending as EndingIs};
+ghost use Rattle.tdb_words.specs.What.{what_text};
+ghost use Rattle.tdb_top.specs.Ending.{answer, status_of, text_of, TakesMemory, PrintedFor, Prints, output_by, of_halt, Untaken, MadeSo};
 
-use crate::create::Creation;
+use crate::commands::create::Creation;
 use crate::halt::{Halt, Refusal};
-use crate::insert::Inserted;
 use itoa::Buffer;
 use std::alloc::{AllocError, Global};
 use tdb_disk::{Sink, TakeRefusal};
 use tdb_dump::data_line;
-use tdb_words::Bytes;
+use tdb_words::{Bytes, What};
 
 /// The status that the program exits with.
 #[derive(Clone, Copy, Debug, PartialEq, Eq)]
 pub struct Status(pub u8);
 
+/// What a command replies over its file.
+#[derive(Debug, Drop, PartialEq, Eq)]
+pub(crate) enum Reply {
+    /// What was asked for was done.
+    Done,
+
+    /// The value of the key.
+    Value(Bytes),
+
+    /// So many keys.
+    Number(u64),
+
+    /// The key isn't there.
+    KeyMissing,
+
+    /// The key is there, which was to be added.
+    KeyThere,
+
+    /// The file has `len` bytes, and with the `need` bytes of the record it would be longer than the longest.
+    Full { len: u64, need: u64 },
+}
+
 /// How a run ends.
 #[derive(Debug, Drop)]
 pub(crate) enum Ending {
-    /// The value of the key is shown.
-    Shown(Bytes),
-
-    /// The key isn't there.
-    NoKey,
-
-    /// A key was to be added.
-    Insert(Inserted),
-
-    /// A file was made.
-    Created,
-
-    /// The file is accepted, and has so many keys.
-    Number(u64),
-
-    /// The words are no command line.
-    NoLine,
+    /// The command replied.
+    Replied(Reply),
 
     /// The file is refused.
     Refused(Refusal),
-
-    /// A call of the files or of a disk failed.
-    DeviceFault,
-    NoMemory,
 
     /// There is no file of this name.
     Missing(Bytes),
 
     /// There is a file of this name, which was to be made.
     There(Bytes),
+
+    /// The words ask for nothing.
+    Usage,
+
+    /// A call of the files or of a disk failed.
+    DeviceFault,
+    NoMemory,
 }
 
 impl From<Halt> for Ending {
@@ -86,31 +96,27 @@ fn joined(alloc: Global, word: &[u8], rest: &[u8]) -> Result<Bytes, AllocError>
     Ok(text)
 }
 
-impl Refusal {
-    /// The status that tells it.
-    fn status(self) -> Status
-        ensures { result.0 ≡ refusal_status self }
-    {
-        Status(match self {
-            Refusal::TooLong { len: _ } => 6,
-            Refusal::Header { fault: _ } | Refusal::Corrupt { what: _, at: _ } => 3,
-        })
-    }
+/// What is printed of a fault at a place.
+fn corrupt_line(alloc: Global, what: What, at: u64) -> Result<Bytes, AllocError>
+    ensures { IfOk result (λ text. text ≡ codes "corrupt " ++ what_text what ++ codes " " ++ decimal at) }
+{
+    let mut number = Buffer::new();
+    let mut text = joined(alloc, b"corrupt ", what.as_str().as_bytes())?;
+    text.push_all(b" ")?;
+    text.push_all(number.format(at).as_bytes())?;
+    Ok(text)
+}
 
+impl Refusal {
     /// The line that tells it, without a newline.
     fn line(self, alloc: Global) -> Result<Bytes, AllocError>
-        ensures { IfOk result (λ text. text ≡ refusal_line self) }
+        ensures { IfOk result (λ text. text ≡ (answer (Refused self)).line) }
     {
         let mut number = Buffer::new();
         match self {
             Refusal::TooLong { len } => joined(alloc, b"toolong ", number.format(len).as_bytes()),
             Refusal::Header { fault } => joined(alloc, b"header ", fault.as_str().as_bytes()),
-            Refusal::Corrupt { what, at } => {
-                let mut text = joined(alloc, b"corrupt ", what.as_str().as_bytes())?;
-                text.push_all(b" ")?;
-                text.push_all(number.format(at).as_bytes())?;
-                Ok(text)
-            }
+            Refusal::Corrupt { what, at } => corrupt_line(alloc, what, at),
         }
     }
 }
@@ -118,7 +124,7 @@ impl Refusal {
 impl Ending {
     /// The ending where there is a file of a name, which was to be made.
     fn is_there(alloc: Global, name: &str) -> Ending
-        ensures { (ending_of result ≡ there_already name.now) ⊎ (ending_of result ≡ no_memory) }
+        ensures { (result ≡ There name.now) ⊎ (result ≡ NoMemory) }
     {
         match Bytes::copy(alloc, name.as_bytes()) {
             Ok(name) => Ending::There(name),
@@ -128,7 +134,7 @@ impl Ending {
 
     /// The ending where the file of a name wasn't taken.
     pub(crate) fn untaken(alloc: Global, name: &str, refusal: TakeRefusal) -> Ending
-        ensures { Untaken name.now refusal (ending_of result) }
+        ensures { Untaken name.now refusal result }
     {
         match refusal {
             TakeRefusal::Missing => match Bytes::copy(alloc, name.as_bytes()) {
@@ -143,10 +149,10 @@ impl Ending {
 
     /// The ending where the file of a name was to be made.
     pub(crate) fn made(alloc: Global, name: &str, creation: Creation) -> Ending
-        ensures { MadeSo name.now creation (ending_of result) }
+        ensures { MadeSo name.now creation result }
     {
         match creation {
-            Creation::Made => Ending::Created,
+            Creation::Made => Ending::Replied(Reply::Done),
             Creation::There => Ending::is_there(alloc, name),
             Creation::Device => Ending::DeviceFault,
             Creation::Memory => Ending::NoMemory,
@@ -155,31 +161,33 @@ impl Ending {
 
     /// The status that tells it.
     pub(crate) fn status(&self) -> Status
-        ensures { result.0 ≡ status_of (ending_of self.now) }
+        ensures { result.0 ≡ status_of self.now }
     {
         Status(match self {
-            Ending::Shown(_) | Ending::Insert(Inserted::Done) => 0,
-            Ending::Created | Ending::Number(_) => 0,
-            Ending::NoKey | Ending::Insert(Inserted::Exists) => 1,
-            Ending::NoLine => 2,
-            Ending::Refused(refusal) => return refusal.status(),
+            Ending::Replied(Reply::Done | Reply::Value(_) | Reply::Number(_)) => 0,
+            Ending::Replied(Reply::KeyMissing | Reply::KeyThere) => 1,
+            Ending::Usage => 2,
+            Ending::Refused(Refusal::Header { fault: _ } | Refusal::Corrupt { what: _, at: _ }) => {
+                3
+            }
             Ending::DeviceFault => 4,
             Ending::NoMemory => 5,
-            Ending::Insert(Inserted::Full { len: _, need: _ }) => 6,
+            Ending::Replied(Reply::Full { len: _, need: _ }) => 6,
+            Ending::Refused(Refusal::TooLong { len: _ }) => 6,
             Ending::Missing(_) | Ending::There(_) => 9,
         })
     }
 
     /// The line that tells it, with its newline, where that is the same in each run. Else it takes memory.
     fn constant_text(&self) -> Option<&'static [u8]>
-        ensures constant { IfSome result (λ text. text.now ≡ text_of (ending_of self.now)) }
-        ensures other { result ≡ None → TakesMemory (ending_of self.now) }
+        ensures constant { IfSome result (λ text. text.now ≡ text_of self.now) }
+        ensures other { result ≡ None → TakesMemory self.now }
     {
         match self {
-            Ending::NoKey => Some(b"noexist\n"),
-            Ending::Insert(Inserted::Done) | Ending::Created => Some(b"ok\n"),
-            Ending::Insert(Inserted::Exists) => Some(b"exists\n"),
-            Ending::NoLine => Some(b"usage: tdb COMMAND [OPTIONS] FILE [WORDS]\n"),
+            Ending::Replied(Reply::Done) => Some(b"ok\n"),
+            Ending::Replied(Reply::KeyMissing) => Some(b"noexist\n"),
+            Ending::Replied(Reply::KeyThere) => Some(b"exists\n"),
+            Ending::Usage => Some(b"usage: tdb COMMAND [OPTIONS] FILE [WORDS]\n"),
             Ending::DeviceFault => Some(b"device fault\n"),
             Ending::NoMemory => Some(b"memory\n"),
             _ => None,
@@ -188,15 +196,15 @@ impl Ending {
 
     /// The line that tells a value, a number or a name, without a newline.
     fn line(&self, alloc: Global) -> Result<Bytes, AllocError>
-        requires { TakesMemory (ending_of self.now) }
-        ensures { IfOk result (λ text. text ≡ line_of (ending_of self.now)) }
+        requires { TakesMemory self.now }
+        ensures { IfOk result (λ text. text ≡ (answer self.now).line) }
     {
         match self {
-            Ending::Shown(value) => data_line(alloc, value.as_slice()),
-            Ending::Insert(Inserted::Full { len, need }) => full_line(alloc, *len, *need),
-            Ending::Number(number) => {
+            Ending::Replied(Reply::Value(value)) => data_line(alloc, value.as_slice()),
+            Ending::Replied(Reply::Number(number)) => {
                 joined(alloc, b"number ", Buffer::new().format(*number).as_bytes())
             }
+            Ending::Replied(Reply::Full { len, need }) => full_line(alloc, *len, *need),
             Ending::Refused(refusal) => refusal.line(alloc),
             Ending::Missing(name) => joined(alloc, b"missing ", name.as_slice()),
             Ending::There(name) => joined(alloc, b"there ", name.as_slice()),
@@ -206,8 +214,8 @@ impl Ending {
 
     /// The line that tells a value, a number or a name, with its newline.
     pub(crate) fn text(&self, alloc: Global) -> Result<Bytes, AllocError>
-        requires { TakesMemory (ending_of self.now) }
-        ensures { IfOk result (λ text. text ≡ text_of (ending_of self.now)) }
+        requires { TakesMemory self.now }
+        ensures { IfOk result (λ text. text ≡ text_of self.now) }
     {
         let mut text = self.line(alloc)?;
         text.push_all(b"\n")?;
@@ -217,7 +225,7 @@ impl Ending {
 
 /// Writes a line to the output, and says the status: this one, or 8 where the output fails.
 fn put<K: Sink>(output: &mut K, text: &[u8], status: Status) -> Status
-    ensures { (e : Means) → text.now ≡ text_of e → status.0 ≡ status_of e
+    ensures { (e : EndingIs) → text.now ≡ text_of e → status.0 ≡ status_of e
         → Prints (output_by K.tells (K.written output.old) (K.written output.new) (K.faults output.old) (K.faults output.new)) e result.0 }
 {
     match output.write(text) {
@@ -226,10 +234,11 @@ fn put<K: Sink>(output: &mut K, text: &[u8], status: Status) -> Status
     }
 }
 
-/// Prints the line of an ending, and says the run's status. Where there is no memory for a line that takes some, that is what is
+/// Prints the line of an ending, and says the run's status. Where there is no memory for a line that takes some,
+/// that is what is
 /// told.
 pub(crate) fn print<K: Sink>(alloc: Global, ending: &Ending, output: &mut K) -> Status
-    ensures { (e : Means) × PrintedFor e (ending_of ending.now)
+    ensures { (e : EndingIs) × PrintedFor e ending.now
         × Prints (output_by K.tells (K.written output.old) (K.written output.new) (K.faults output.old) (K.faults output.new)) e result.0 }
 {
     if let Some(text) = ending.constant_text() {

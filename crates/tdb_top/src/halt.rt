@@ -1,8 +1,9 @@
 // Why a file isn't opened, and why a look into it ends without an answer.
 
 ghost use Rattle.std.specs.Prelude.{◌≡◌};
-ghost use Rattle.tdb_top.specs.declared.halt.Halt.TheVariants.{Device, Memory};
-ghost use Rattle.tdb_top.specs.Opening.{of_front, of_restored_front, of_undo, of_check, of_value};
+ghost use Rattle.tdb_top.specs.declared.halt.Fault.TheVariants as FaultIs;
+ghost use Rattle.tdb_top.specs.declared.halt.Halt.TheVariants.{Device};
+ghost use Rattle.tdb_top.specs.Opening.{of_fault, of_front, of_restored_front, of_undo, of_check, of_value};
 
 use std::alloc::AllocError;
 use tdb_chain::ValueRefusal;
@@ -44,38 +45,67 @@ pub(crate) enum Halt {
     Memory,
 }
 
+/// Why an act on an opened file ends without a reply.
+#[derive(Clone, Copy, Debug, PartialEq, Eq, Error)]
+pub(crate) enum Fault {
+    /// A call of the disk failed.
+    #[error("device fault")]
+    Device,
+    #[error("out of memory")]
+    Memory,
+}
+
+impl From<DiskFault> for Fault {
+    ghost from_gives = { λ _ e. e ≡ FaultIs.Device };
+
+    fn from(_: DiskFault) -> Self {
+        Fault::Device
+    }
+}
+
+impl From<Io> for Fault {
+    ghost from_gives = { λ _ e. e ≡ FaultIs.Device };
+
+    fn from(_: Io) -> Self {
+        Fault::Device
+    }
+}
+
+impl From<AllocError> for Fault {
+    ghost from_gives = { λ _ e. e ≡ FaultIs.Memory };
+
+    fn from(_: AllocError) -> Self {
+        Fault::Memory
+    }
+}
+
+impl From<ValueRefusal> for Fault {
+    ghost from_gives = { λ refusal e. e ≡ of_value refusal };
+
+    fn from(refusal: ValueRefusal) -> Self {
+        match refusal {
+            ValueRefusal::Io => Fault::Device,
+            ValueRefusal::Memory => Fault::Memory,
+        }
+    }
+}
+
+impl From<Fault> for Halt {
+    ghost from_gives = { λ fault e. e ≡ of_fault fault };
+
+    fn from(fault: Fault) -> Self {
+        match fault {
+            Fault::Device => Halt::Device,
+            Fault::Memory => Halt::Memory,
+        }
+    }
+}
+
 impl From<DiskFault> for Halt {
     ghost from_gives = { λ _ e. e ≡ Device };
 
     fn from(_: DiskFault) -> Self {
         Halt::Device
-    }
-}
-
-impl From<Io> for Halt {
-    ghost from_gives = { λ _ e. e ≡ Device };
-
-    fn from(_: Io) -> Self {
-        Halt::Device
-    }
-}
-
-impl From<AllocError> for Halt {
-    ghost from_gives = { λ _ e. e ≡ Memory };
-
-    fn from(_: AllocError) -> Self {
-        Halt::Memory
-    }
-}
-
-impl From<ValueRefusal> for Halt {
-    ghost from_gives = { λ refusal e. e ≡ of_value refusal };
-
-    fn from(refusal: ValueRefusal) -> Self {
-        match refusal {
-            ValueRefusal::Io => Halt::Device,
-            ValueRefusal::Memory => Halt::Memory,
-        }
     }
 }
 

@@ -1,17 +1,15 @@
 //! The top call of the program: command lines are read, and run over a set of files, an input and an output.
 #![tactic(auto)]
 
-mod add;
-mod count;
-mod create;
+mod act;
+mod ask;
+mod commands;
 mod ending;
 mod halt;
-mod insert;
 mod limits;
-mod line;
 mod opening;
-mod show;
 mod top;
+mod words;
 
 pub use ending::Status;
 pub use limits::{DEFAULT_SIZE, LONGEST_FILE, LONGEST_SIZE, LONGEST_WORD, MOST_CHAINS, limits_law};

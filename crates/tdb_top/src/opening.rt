@@ -78,6 +78,7 @@ impl Opened {
     /// that it takes is that of the check.
     pub(crate) fn open<D: Disk>(alloc: Global, disk: &mut D) -> Result<Opened, Halt>
         ensures opened { IfOk result (λ o. IsTrue D.tells → IsOpenedOn (seen (D.history disk.old)) o) }
+        ensures checked { IfOk result (λ o. IsTrue D.tells → IsCheckedOn (seen (D.history disk.new)) o) }
         ensures length { IfOk result (λ o. o.len ≡ D.size disk.new) }
         ensures reads { OnOk result (IsTrue D.tells → seen (D.history disk.new) ≡ opened_bytes (seen (D.history disk.old))) }
         ensures left { OnOk result (IsTrue D.tells → UndoneIfOpen (D.history disk.old) (D.history disk.new)) }

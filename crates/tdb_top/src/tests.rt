@@ -3,9 +3,10 @@
 ghost use Rattle.std.specs.Prelude.{◌≡◌, ◌≤◌, ℕ, List, false};
 ghost use Rattle.tdb_disk.specs.MemFiles.{name_is_taken};
 
-use crate::ending::Ending;
+use crate::commands::insert::insert_below;
+use crate::ending::{Ending, Reply};
 use crate::halt::Refusal;
-use crate::insert::{Inserted, insert};
+use crate::opening::Opened;
 use crate::{Status, run};
 use std::alloc::{AllocError, Global};
 use std::test::Fail;
@@ -427,13 +428,17 @@ fn failing_and_full_inserts(rt: HostRuntime) -> Result<(), Fail> {
         assert_eq!(rt; left.len(), len, "{call:?}");
     }
     for (limit, ends) in [
-        (727, Inserted::Full { len: 696, need: 32 }),
-        (728, Inserted::Done),
+        (727, Reply::Full { len: 696, need: 32 }),
+        (728, Reply::Done),
     ] {
         let mut disk = MemDisk::new(alloc, front_of(&image, 696))?;
-        assert_eq!(rt; insert(alloc, &mut disk, b"a", b"1", limit)?, ends);
+        let opened = Opened::open(alloc, &mut disk)?;
+        assert_eq!(rt;
+            insert_below(alloc, &mut disk, &opened, b"a", b"1", limit)?,
+            ends
+        );
     }
-    let full = Ending::Insert(Inserted::Full { len: 696, need: 32 });
+    let full = Ending::Replied(Reply::Full { len: 696, need: 32 });
     assert_eq!(rt; full.text(alloc)?.as_slice(), b"full 696 32\n".as_slice());
     let too_long = Ending::Refused(Refusal::TooLong { len: 4_294_963_204 });
     assert_eq!(rt; too_long.status(), Status(6));

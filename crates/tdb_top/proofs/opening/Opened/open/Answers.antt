@@ -19,7 +19,7 @@ use Rattle.tdb_top.specs.declared.limits.TheConstants.{LONGEST_FILE}
 use Rattle.tdb_top.specs.Opening.{IsOpenedOn, IsCheckedOn, Undone, HaltsRightly, HaltsAtFault, HaltLeaves}
 use Rattle.tdb_top.proofs.AtEnd.{on_ok}
 use Rattle.tdb_top.proofs.Errors.{if_err, if_this_err}
-use Rattle.tdb_top.proofs.Openings.{front_halts, place_halts, undo_halts, restored_halts, check_halts, undone_halts, undo_leaves, undo_sound, undo_reads, undo_stops, undone_opened, closed_opened}
+use Rattle.tdb_top.proofs.Openings.{front_halts, place_halts, undo_halts, restored_halts, check_halts, undone_halts, undo_leaves, undo_sound, undo_reads, undo_stops, undone_opened, closed_opened, checked_still}
 use Rattle.tdb_top.proofs.opening.Opened.open.Goals as goal
 use Rattle.tdb_top.proofs.opening.Opened.open.Goals.{After-needs_recovery}
 
@@ -183,3 +183,19 @@ returns-clause-opened g c told =
     (c.in_ok-report.ensures.accepted told (λ fine. form g a told ∙ ap (λ h. form_of (seen h)) (sym (area_read g a)))) in
     closed_opened (img g a) (within g a told) (front g a told) _ place.0 (sym place.1 ∙ c.if-branch.false)
     (record { accepted = found.0; header = says g a told; counted = found.1 })
+
+-- what was opened is checked, and read as it now is
+pub returns-then-branch-clause-checked : goal.returns-then-branch-clause-checked
+returns-then-branch-clause-checked g c =
+    let now = g.D.Disk.history c.recover.new.d in
+    let last = g.D.Disk.history c.undone.new.disk in
+    IfOk-weaker c.undone.result (λ o. IsTrue g.D.Disk.tells → IsCheckedOn (seen now) o) (λ o. IsTrue g.D.Disk.tells → IsCheckedOn (seen last) o)
+    (λ o checked told. subst (λ h. IsCheckedOn (seen h) o) (sym c.undone.ensures.history) (checked told))
+    c.undone.ensures.checked
+
+pub returns-clause-checked : goal.returns-clause-checked
+returns-clause-checked g c told =
+    let a = (goal.at.returns-clause-checked g c).After-needs_recovery in
+    let found = subst (λ h. Accept (seen h) × Counted (seen h) c.in_ok-report.report) (area_read g a)
+    (c.in_ok-report.ensures.accepted told (λ fine. form g a told ∙ ap (λ h. form_of (seen h)) (sym (area_read g a)))) in
+    checked_still (g.D.Disk.history c.args.disk.now) _ _ (c.check_disk.ensures.history ∙ area_read g a) found.0 (says g a told) found.1

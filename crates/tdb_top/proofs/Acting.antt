@@ -1,0 +1,125 @@
+-- What acts on a file give, from what their parts gave.
+use Rattle.std.proofs.Common.{◌≡◌, ◌⊎◌, ℕ, ◌≤◌, List, Option, None, Some, Result, Ok, Err, refl, sym, ◌∙◌, ap, subst, inl, inr, arith}
+use Rattle.std.specs.Prelude.{IfOk, IsSome}
+use Rattle.std.proofs.lemmas.Bool.{false≢true}
+use Rattle.tdb_disk.specs.Count.{Rose}
+use Rattle.tdb_disk.specs.History.{History, seen}
+use Rattle.tdb_disk.specs.declared.files.TakeRefusal.{TakeRefusal}
+use Rattle.tdb_disk.specs.declared.files.TakeRefusal.TheVariants as Take
+use Rattle.tdb_top.specs.declared.act.Act.{Act}
+use Rattle.tdb_top.specs.declared.ask.Task.TheVariants.{Create, On}
+use Rattle.tdb_top.specs.declared.commands.create.NewForm.{NewForm}
+use Rattle.tdb_top.specs.declared.commands.create.Creation as Making
+use Rattle.tdb_top.specs.declared.ending.Ending.{Ending}
+use Rattle.tdb_top.specs.declared.ending.Ending.TheVariants as E
+use Rattle.tdb_top.specs.declared.ending.Reply.{Reply}
+use Rattle.tdb_top.specs.declared.ending.Reply.TheVariants.{Done}
+use Rattle.tdb_top.specs.declared.halt.Fault.{Fault}
+use Rattle.tdb_top.specs.declared.halt.Fault.TheVariants as F
+use Rattle.tdb_top.specs.declared.halt.Halt.{Halt}
+use Rattle.tdb_top.specs.declared.halt.Halt.TheVariants.{Refused, Device, Memory}
+use Rattle.tdb_top.specs.Acts.{reply_of, Does, Breaks, Acted, OpenedAndActed}
+use Rattle.tdb_top.specs.Commands.Create.{CreateCause, CreateLeaves}
+use Rattle.tdb_top.specs.Ending.{TaskDue, Replies, Refuses, TaskCause, task_due, task_failed, task_wanting, Untaken, MadeSo, of_halt}
+use Rattle.tdb_top.specs.Left.{ActLeaves, MakingLeaves, TaskLeaves}
+use Rattle.tdb_top.specs.Opening.{opened_bytes, CanOpen, UndoneIfOpen, HaltLeaves, HaltsRightly, of_fault}
+use Rattle.tdb_top.proofs.Openings.{same_or_undone}
+
+-- an act that left the file as it was, where that is what it is to do, and what a failed call leaves
+pub looked : (act : Act) (old now : History) (r : Result Reply Fault) → Does act old now → Breaks act old now → now ≡ old → IfOk r (λ reply. reply ≡ reply_of act (seen old)) → Acted act old now r
+looked act old now (Ok reply) does breaks same is = (is, record { done = λ e. does; kept = λ e. same })
+looked act old now (Err F.Device) does breaks same is = breaks
+looked act old now (Err F.Memory) does breaks same is = same
+
+-- an act that changes a file
+pub changed : (act : Act) (old now : History) (r : Result Reply Fault)
+    → IfOk r (λ reply. reply ≡ reply_of act (seen old)) → IfOk r (λ reply. reply ≡ Done → Does act old now) → IfOk r (λ reply. (reply ≡ Done → ⊥) → now ≡ old)
+    → (r ≡ Err F.Device → Breaks act old now) → (r ≡ Err F.Memory → now ≡ old) → Acted act old now r
+changed act old now (Ok reply) is done kept broken as_before = (is, record { done = λ e. done (is ∙ e); kept = λ other. kept (λ e. other (sym is ∙ e)) })
+changed act old now (Err F.Device) is done kept broken as_before = broken refl
+changed act old now (Err F.Memory) is done kept broken as_before = as_before refl
+
+module _ (act : Act) (old : History) where
+  -- an opening that halted
+  pub halted : (now : History) (halt : Halt) → HaltsRightly (seen old) halt → HaltLeaves halt old now → OpenedAndActed act old now (Err halt)
+  halted now (Refused refusal) right left = (right, left)
+  halted now Device right left = inl left
+  halted now Memory right left = left
+
+  module _ (mid now : History) (can : CanOpen (seen old)) (undone : UndoneIfOpen old mid) (reads : seen mid ≡ opened_bytes (seen old)) where
+    -- an act that replied over the opened file, and one that didn't
+    pub replied : (reply : Reply) → Acted act mid now (Ok reply) → OpenedAndActed act old now (Ok reply)
+    replied reply acted = (can, acted.0 ∙ ap (reply_of act) reads, record { opened = mid; undone = undone; reads = reads; leaves = acted.1 })
+
+    pub faulted : (fault : Fault) → Acted act mid now (Err fault) → OpenedAndActed act old now (Err (of_fault fault))
+    faulted F.Device acted = inr (record { opened = mid; undone = undone; reads = reads; breaks = acted })
+    faulted F.Memory acted = subst (UndoneIfOpen old) (sym acted) undone
+
+-- a count that rose from a later value rose
+pub rose_earlier : (before mid now : ℕ) → before ≤ mid → Rose mid now → Rose before now
+rose_earlier before mid now later rose = omega arith
+
+module _ (act : Act) (name : List ℕ) (held : Option History) (before after : ℕ) where
+  module _ (h : History) (there : held ≡ Some h) where
+    due_there : (e : Ending) → Replies act (seen h) e ⊎ Refuses (seen h) e → TaskCause (On act) name held before after e
+    due_there e due = task_due e (subst (λ o. TaskDue (On act) name o e) (sym there) due)
+
+    left_there : (given : Option History) (e : Ending) (now : History) → given ≡ Some now → ActLeaves act h e now → TaskLeaves (On act) held e given
+    left_there given e now is left = subst (λ o. TaskLeaves (On act) o e given) (sym there) (now, is, left)
+
+    -- a file that was opened and acted on
+    pub replied_cause : (now : History) (reply : Reply) → OpenedAndActed act h now (Ok reply) → TaskCause (On act) name held before after (E.Replied reply)
+    replied_cause now reply acted = due_there (E.Replied reply) (inl (record { can_open = acted.0; replied = ap E.Replied acted.1 }))
+
+    pub replied_left : (given : Option History) (now : History) (reply : Reply) → given ≡ Some now → OpenedAndActed act h now (Ok reply) → TaskLeaves (On act) held (E.Replied reply) given
+    replied_left given now reply is acted = left_there given (E.Replied reply) now is (acted.1, acted.2)
+
+    -- one that wasn't
+    pub halted_cause : (now : History) (halt : Halt) → OpenedAndActed act h now (Err halt) → (halt ≡ Device → Rose before after) → TaskCause (On act) name held before after (of_halt halt)
+    halted_cause now (Refused refusal) acted rose = due_there (E.Refused refusal) (inr (record { refusal = refusal; right = acted.0; refused = refl }))
+    halted_cause now Device acted rose = task_failed (rose refl)
+    halted_cause now Memory acted rose = task_wanting
+
+    pub halted_left : (given : Option History) (now : History) (halt : Halt) → given ≡ Some now → OpenedAndActed act h now (Err halt) → TaskLeaves (On act) held (of_halt halt) given
+    halted_left given now (Refused refusal) is acted = left_there given (E.Refused refusal) now is acted.1
+    halted_left given now Device is acted = left_there given E.DeviceFault now is acted
+    halted_left given now Memory is acted = left_there given E.NoMemory now is (same_or_undone h now acted)
+
+  -- a file that wasn't taken
+  pub untaken_cause : (refusal : TakeRefusal) (e : Ending) → (refusal ≡ Take.Missing → held ≡ None) → (refusal ≡ Take.There → ⊥) → (refusal ≡ Take.Failed → Rose before after) → Untaken name refusal e → TaskCause (On act) name held before after e
+  untaken_cause Take.Missing e gone free rose (inl is) = task_due e (subst (λ o. TaskDue (On act) name o e) (sym (gone refl)) is)
+  untaken_cause Take.Missing e gone free rose (inr is) = subst (TaskCause (On act) name held before after) (sym is) task_wanting
+  untaken_cause Take.There e gone free rose is = absurd (free refl)
+  untaken_cause Take.Failed e gone free rose is = subst (TaskCause (On act) name held before after) (sym is) (task_failed (rose refl))
+  untaken_cause Take.Memory e gone free rose is = subst (TaskCause (On act) name held before after) (sym is) task_wanting
+
+-- what is held where nothing was done
+left_same : (act : Act) (held given : Option History) (e : Ending) → given ≡ held → ((h : History) → ActLeaves act h e h) → TaskLeaves (On act) held e given
+left_same act None given e same leaves = same
+left_same act (Some h) given e same leaves = (h, same, leaves h)
+
+pub untaken_left : (act : Act) (name : List ℕ) (held given : Option History) (refusal : TakeRefusal) (e : Ending) → given ≡ held → (refusal ≡ Take.Missing → held ≡ None) → (refusal ≡ Take.There → ⊥) → Untaken name refusal e → TaskLeaves (On act) held e given
+untaken_left act name held given Take.Missing e same gone free is = subst (λ o. TaskLeaves (On act) o e given) (sym (gone refl)) (same ∙ gone refl)
+untaken_left act name held given Take.There e same gone free is = absurd (free refl)
+untaken_left act name held given Take.Failed e same gone free is = subst (λ x. TaskLeaves (On act) held x given) (sym is) (left_same act held given E.DeviceFault same (λ h. inl (inl (inr refl))))
+untaken_left act name held given Take.Memory e same gone free is = subst (λ x. TaskLeaves (On act) held x given) (sym is) (left_same act held given E.NoMemory same (λ h. inr refl))
+
+-- a file that was to be made
+module _ (form : NewForm) (name : List ℕ) (held : Option History) where
+  pub made_cause : (before after : ℕ) (creation : Making.Creation) (e : Ending) → CreateCause held before after creation → MadeSo name creation e → TaskCause (Create form) name held before after e
+  made_cause before after Making.TheVariants.Made e cause is = task_due e (subst (λ o. TaskDue (Create form) name o e) (sym cause) is)
+  made_cause before after Making.TheVariants.There e cause (inl is) = task_due e (there held cause)
+    where
+      there : (o : Option History) → IsSome o → TaskDue (Create form) name o e
+      there None some = absurd (false≢true some)
+      there (Some h) some = is
+  made_cause before after Making.TheVariants.There e cause (inr is) = subst (TaskCause (Create form) name held before after) (sym is) task_wanting
+  made_cause before after Making.TheVariants.Device e cause is = subst (TaskCause (Create form) name held before after) (sym is) (task_failed cause)
+  made_cause before after Making.TheVariants.Memory e cause is = subst (TaskCause (Create form) name held before after) (sym is) task_wanting
+
+  pub made_left : (given : Option History) (creation : Making.Creation) (e : Ending) → CreateLeaves form.size form.order form.hash held creation given → MadeSo name creation e → TaskLeaves (Create form) held e given
+  made_left given Making.TheVariants.Made e left is = subst (λ x. MakingLeaves form held x given) (sym is) (refl, left)
+  made_left given Making.TheVariants.There e left (inl is) = subst (λ x. MakingLeaves form held x given) (sym is) left
+  made_left given Making.TheVariants.There e left (inr is) = subst (λ x. MakingLeaves form held x given) (sym is) left
+  made_left given Making.TheVariants.Device e left is = subst (λ x. MakingLeaves form held x given) (sym is) left
+  made_left given Making.TheVariants.Memory e left is = subst (λ x. MakingLeaves form held x given) (sym is) left

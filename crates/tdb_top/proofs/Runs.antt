@@ -1,0 +1,420 @@
+-- What a run says and leaves, from how its task ended and from what the output took.
+use Rattle.std.proofs.Common.{◌≡◌, ◌⊎◌, ℕ, ◌<◌, ◌≤◌, List, [], ◌∷◌, Option, None, Some, length, refl, sym, ◌∙◌, ap, subst, inl, inr, arith}
+use Rattle.std.specs.Prelude.{Contains}
+use Rattle.std.proofs.lemmas.Bool.{false≢true}
+use Rattle.tdb_disk.specs.Count.{Rose}
+use Rattle.tdb_disk.specs.History.{History, seen}
+use Rattle.tdb_space.specs.Opening.{Opens}
+use Rattle.tdb_top.specs.declared.act.Act.{Act}
+use Rattle.tdb_top.specs.declared.ask.Task.{Task}
+use Rattle.tdb_top.specs.declared.ask.Task.TheVariants.{Create, On}
+use Rattle.tdb_top.specs.declared.commands.create.NewForm.{NewForm}
+use Rattle.tdb_top.specs.declared.ending.Ending.{Ending}
+use Rattle.tdb_top.specs.declared.ending.Ending.TheVariants.{Replied, Refused, Missing, There, Usage, DeviceFault, NoMemory}
+use Rattle.tdb_top.specs.declared.ending.Reply.{Reply}
+use Rattle.tdb_top.specs.declared.ending.Reply.TheVariants.{Done, Value, KeyMissing, KeyThere, Full, Number}
+use Rattle.tdb_top.specs.declared.halt.Refusal.{Refusal}
+use Rattle.tdb_top.specs.declared.halt.Refusal.TheVariants.{TooLong, Header, Corrupt}
+use Rattle.tdb_top.specs.declared.limits.TheConstants.{LONGEST_FILE}
+use Rattle.tdb_top.specs.Ask.{Ask}
+use Rattle.tdb_top.specs.Acts.{reply_of, Left}
+use Rattle.tdb_top.specs.Ending.{status_of, TakesMemory, PrintedFor, Replies, Refuses, TaskDue, Due, TaskCause, task_due, task_failed, task_wanting, CountedBy, Output, Prints}
+use Rattle.tdb_top.specs.Left.{ActLeaves, MakingLeaves, TaskLeaves, Leaving}
+use Rattle.tdb_top.specs.Opening.{opened_bytes, UndoneIfOpen}
+use Rattle.tdb_top.specs.Run.{Run, MayEnd, is_due, call_failed, memory_wanting, TellsFault, ActsOn, RefusesExactly, KeepsAll, ActRun, MakingRun, HeldOrUndone, LeavesFiles, Accounted}
+use Rattle.tdb_top.proofs.Held.{same_or_other}
+use Rattle.tdb_top.proofs.OneAnswer.{due_one, refused_faulty, refused_three}
+use Rattle.tdb_top.proofs.Openings.{same_or_undone}
+
+-- the statuses of the table
+abbrev Known : ℕ → Type 0
+Known n = Contains (0 ∷ 1 ∷ 2 ∷ 3 ∷ 4 ∷ 5 ∷ 6 ∷ 8 ∷ 9 ∷ []) n
+
+-- a status of a reply is 0, 1 or 6
+abbrev IsReplyStatus : ℕ → Type 0
+IsReplyStatus n = (n ≡ 0) ⊎ (n ≡ 1) ⊎ (n ≡ 6)
+
+reply_status : (r : Reply) → IsReplyStatus (status_of (Replied r))
+reply_status Done = inl refl
+reply_status (Value value) = inl refl
+reply_status (Number n) = inl refl
+reply_status KeyMissing = inr (inl refl)
+reply_status KeyThere = inr (inl refl)
+reply_status (Full len need) = inr (inr refl)
+
+-- that of a refusal is 3 or 6
+refusal_status : (r : Refusal) → (status_of (Refused r) ≡ 3) ⊎ (status_of (Refused r) ≡ 6)
+refusal_status (TooLong len) = inr refl
+refusal_status (Header fault) = inl refl
+refusal_status (Corrupt what at) = inl refl
+
+ending_known : (e : Ending) → Known (status_of e)
+ending_known (Replied r) = elim (reply_status r) [
+  | inl is ↦ (0, omega arith, sym is)
+  | inr other ↦ elim other [
+    | inl is ↦ (1, omega arith, sym is)
+    | inr is ↦ (6, omega arith, sym is)
+  ]
+]
+ending_known (Refused r) = elim (refusal_status r) [
+  | inl is ↦ (3, omega arith, sym is)
+  | inr is ↦ (6, omega arith, sym is)
+]
+ending_known Usage = (2, omega arith, refl)
+ending_known DeviceFault = (4, omega arith, refl)
+ending_known NoMemory = (5, omega arith, refl)
+ending_known (Missing name) = (8, omega arith, refl)
+ending_known (There name) = (8, omega arith, refl)
+
+-- another status is neither that of a reply nor that of a refusal
+reply_not : (r : Reply) (n : ℕ) → 1 < n → (n ≡ 6 → ⊥) → status_of (Replied r) ≡ n → ⊥
+reply_not r n more other own = of (reply_status r)
+  where
+    of : IsReplyStatus (status_of (Replied r)) → ⊥
+    of (inl is) = absurd (omega (arith, is, own, more))
+    of (inr (inl is)) = absurd (omega (arith, is, own, more))
+    of (inr (inr is)) = other (sym own ∙ is)
+
+refusal_not : (r : Refusal) (n : ℕ) → (n ≡ 3 → ⊥) → (n ≡ 6 → ⊥) → status_of (Refused r) ≡ n → ⊥
+refusal_not r n three six own = of (refusal_status r)
+  where
+    of : (status_of (Refused r) ≡ 3) ⊎ (status_of (Refused r) ≡ 6) → ⊥
+    of (inl is) = three (sym own ∙ is)
+    of (inr is) = six (sym own ∙ is)
+
+-- the status 2 is that of the usage alone, 4 that of a failed call, and 8 that of no ending
+usage_alone : (e : Ending) → status_of e ≡ 2 → e ≡ Usage
+usage_alone (Replied r) two = absurd (reply_not r 2 (omega arith) (λ z. absurd (omega (arith, z))) two)
+usage_alone (Refused r) two = absurd (refusal_not r 2 (λ z. absurd (omega (arith, z))) (λ z. absurd (omega (arith, z))) two)
+usage_alone Usage two = refl
+usage_alone DeviceFault two = absurd (omega (arith, two))
+usage_alone NoMemory two = absurd (omega (arith, two))
+usage_alone (Missing name) two = absurd (omega (arith, two))
+usage_alone (There name) two = absurd (omega (arith, two))
+
+fault_alone : (e : Ending) → status_of e ≡ 4 → e ≡ DeviceFault
+fault_alone (Replied r) four = absurd (reply_not r 4 (omega arith) (λ z. absurd (omega (arith, z))) four)
+fault_alone (Refused r) four = absurd (refusal_not r 4 (λ z. absurd (omega (arith, z))) (λ z. absurd (omega (arith, z))) four)
+fault_alone Usage four = absurd (omega (arith, four))
+fault_alone DeviceFault four = refl
+fault_alone NoMemory four = absurd (omega (arith, four))
+fault_alone (Missing name) four = absurd (omega (arith, four))
+fault_alone (There name) four = absurd (omega (arith, four))
+
+eight_never : (e : Ending) → status_of e ≡ 8 → ⊥
+eight_never (Replied r) eight = reply_not r 8 (omega arith) (λ z. absurd (omega (arith, z))) eight
+eight_never (Refused r) eight = refusal_not r 8 (λ z. absurd (omega (arith, z))) (λ z. absurd (omega (arith, z))) eight
+eight_never Usage eight = absurd (omega (arith, eight))
+eight_never DeviceFault eight = absurd (omega (arith, eight))
+eight_never NoMemory eight = absurd (omega (arith, eight))
+eight_never (Missing name) eight = absurd (omega (arith, eight))
+eight_never (There name) eight = absurd (omega (arith, eight))
+
+-- the status of a run that found this ending: its own; or 5, where there was no memory for a line that takes some; or 8
+abbrev Exits : ℕ → Ending → Type 0
+Exits status t = (status ≡ status_of t) ⊎ ((status ≡ 5) × TakesMemory t) ⊎ (status ≡ 8)
+
+pub exits : (o : Output) (e t : Ending) (status : ℕ) → PrintedFor e t → Prints o e status → Exits status t
+exits o e t status printed (inr part) = inr (inr part.exits)
+exits o e t status (inl same) (inl all) = inl (all.exits ∙ ap status_of same)
+exits o e t status (inr want) (inl all) = inr (inl (all.exits ∙ ap status_of want.0, want.1))
+
+-- from the ending that was found to the one that is printed
+pub printed_caused : (ask : Option Ask) (held : List ℕ → Option History) (before after : ℕ) (e t : Ending) → PrintedFor e t → MayEnd ask held before after t → MayEnd ask held before after e
+printed_caused ask held before after e t (inl same) cause = subst (MayEnd ask held before after) (sym same) cause
+printed_caused ask held before after e t (inr want) cause = subst (MayEnd ask held before after) (sym want.0) memory_wanting
+
+-- why a task ended so is why its run did
+pub asked_cause : (ask : Option Ask) (a : Ask) (held : List ℕ → Option History) (before after : ℕ) (e : Ending) → Some a ≡ ask → TaskCause a.task a.file (held a.file) before after e → MayEnd ask held before after e
+asked_cause ask a held before after _ is (task_due e due) = is_due e (subst (λ o. Due o held e) is due)
+asked_cause ask a held before after _ is (task_failed rose) = call_failed a (sym is) rose
+asked_cause ask a held before after _ is task_wanting = memory_wanting
+
+module _ (run : Run) (e : Ending) (cause : MayEnd run.ask run.old run.faults_before run.faults_after e) (prints : Prints run.output e run.status) where
+  -- what the ending that is printed says of a status, where it is due
+  status_where : (P : ℕ → Type 0) → (Due run.ask run.old e → P (status_of e)) → P run.status ⊎ TellsFault run.status
+  status_where P due = of e cause prints due
+    where
+      of : (x : Ending) → MayEnd run.ask run.old run.faults_before run.faults_after x → Prints run.output x run.status → (Due run.ask run.old x → P (status_of x)) → P run.status ⊎ TellsFault run.status
+      of x c (inr part) due = inr (inr (inr part.exits))
+      of _ (is_due x d) (inl all) due = inl (subst P (sym all.exits) (due d))
+      of _ (call_failed a asks rose) (inl all) due = inr (inl all.exits)
+      of _ memory_wanting (inl all) due = inr (inr (inl all.exits))
+
+  -- what is due is what is answered
+  pub exactly : (x : Ending) → Due run.ask run.old x → (run.status ≡ status_of x) ⊎ TellsFault run.status
+  exactly x due = status_where (λ n. n ≡ status_of x) (λ d. ap status_of (due_one run.ask run.old e x d due))
+
+  -- what is due of an act on a file that is there
+  act_due : (act : Act) (name : List ℕ) (h : History) → ActsOn run act name h → Due run.ask run.old e → Replies act (seen h) e ⊎ Refuses (seen h) e
+  act_due act name h acts due = subst (λ o. TaskDue (On act) name o e) acts.there (subst (λ a. Due a run.old e) acts.asks due)
+
+  -- over bytes that can be opened the status isn't 3, and over others, no more than the most, it is
+  not_three : (act : Act) (h : History) → Opens (seen h) → Replies act (seen h) e ⊎ Refuses (seen h) e → status_of e ≡ 3 → ⊥
+  not_three act h opens (inl p) is = reply_not (reply_of act (opened_bytes (seen h))) 3 (omega arith) (λ z. absurd (omega (arith, z))) (sym (ap status_of p.replied) ∙ is)
+  not_three act h opens (inr p) is = refused_faulty (seen h) p.refusal p.right (sym (ap status_of p.refused) ∙ is) opens
+
+  three_due : (act : Act) (h : History) → (Opens (seen h) → ⊥) → length (seen h) ≤ LONGEST_FILE → Replies act (seen h) e ⊎ Refuses (seen h) e → status_of e ≡ 3
+  three_due act h faulty short (inl p) = absurd (faulty p.can_open.opens)
+  three_due act h faulty short (inr p) = ap status_of p.refused ∙ refused_three (seen h) p.refusal p.right short
+
+  no_three : TellsFault run.status → run.status ≡ 3 → ⊥
+  no_three (inl is) three = absurd (omega (arith, is, three))
+  no_three (inr (inl is)) three = absurd (omega (arith, is, three))
+  no_three (inr (inr is)) three = absurd (omega (arith, is, three))
+
+  only_faulty : (act : Act) (name : List ℕ) (h : History) → ActsOn run act name h → run.status ≡ 3 → Opens (seen h) → ⊥
+  only_faulty act name h acts three opens = elim (status_where (λ n. n ≡ 3 → ⊥) (λ d. not_three act h opens (act_due act name h acts d))) [
+    | inl other ↦ other three
+    | inr fault ↦ no_three fault three
+  ]
+
+  pub refuses_exactly : RefusesExactly run
+  refuses_exactly = record {
+    only = only_faulty;
+    exact = λ act name h acts faulty short. status_where (λ n. n ≡ 3) (λ d. three_due act h faulty short (act_due act name h acts d));
+  }
+
+-- an act that didn't reply that it is done left the file as it was opened
+unchanged : (act : Act) (old now : History) (reply : Reply) → reply ≡ reply_of act (opened_bytes (seen old)) → Left act old now → (reply ≡ Done → ⊥) → UndoneIfOpen old now
+unchanged act old now reply is left other =
+    subst (UndoneIfOpen old) (sym (left.leaves.kept (λ done. other (is ∙ ap (reply_of act) (sym left.reads) ∙ done)))) left.undone
+
+-- a status after which all is kept isn't that of a reply that something was done
+not_done : (status : ℕ) (reply : Reply) → Exits status (Replied reply) → KeepsAll status → reply ≡ Done → ⊥
+not_done status reply (inl own) keeps done = keeps.0 (own ∙ ap (λ r. status_of (Replied r)) done)
+not_done status reply (inr (inl want)) keeps done = absurd (false≢true (subst (λ r. TakesMemory (Replied r)) done want.1))
+not_done status reply (inr (inr eight)) keeps done = keeps.2 eight
+
+module _ (before after status : ℕ) where
+  -- a run whose task replied, was refused, met a fault or wanted memory: the statuses that it can't have
+  reply_no_fault : (reply : Reply) → Exits status (Replied reply) → status ≡ 4 → ⊥
+  reply_no_fault reply (inl own) four = reply_not reply 4 (omega arith) (λ z. absurd (omega (arith, z))) (sym own ∙ four)
+  reply_no_fault reply (inr (inl want)) four = absurd (omega (arith, want.0, four))
+  reply_no_fault reply (inr (inr eight)) four = absurd (omega (arith, eight, four))
+
+  -- status 0 is that of the reply
+  own_reply : (reply : Reply) → Exits status (Replied reply) → status ≡ 0 → status_of (Replied reply) ≡ 0
+  own_reply reply (inl own) is = sym own ∙ is
+  own_reply reply (inr (inl want)) is = absurd (omega (arith, want.0, is))
+  own_reply reply (inr (inr eight)) is = absurd (omega (arith, eight, is))
+
+  refusal_apart : (r : Refusal) → Exits status (Refused r) → (status ≡ 0) ⊎ (status ≡ 4) → ⊥
+  refusal_apart r (inl own) (inl other) = refusal_not r 0 (λ z. absurd (omega (arith, z))) (λ z. absurd (omega (arith, z))) (sym own ∙ other)
+  refusal_apart r (inl own) (inr other) = refusal_not r 4 (λ z. absurd (omega (arith, z))) (λ z. absurd (omega (arith, z))) (sym own ∙ other)
+  refusal_apart r (inr (inl want)) (inl other) = absurd (omega (arith, want.0, other))
+  refusal_apart r (inr (inl want)) (inr other) = absurd (omega (arith, want.0, other))
+  refusal_apart r (inr (inr eight)) (inl other) = absurd (omega (arith, eight, other))
+  refusal_apart r (inr (inr eight)) (inr other) = absurd (omega (arith, eight, other))
+
+  -- a failed call has status 4 or 8, and want of memory 5 or 8
+  fault_exits : Exits status DeviceFault → (status ≡ 4) ⊎ (status ≡ 8)
+  fault_exits (inl own) = inl own
+  fault_exits (inr (inl want)) = absurd (false≢true want.1)
+  fault_exits (inr (inr eight)) = inr eight
+
+  memory_exits : Exits status NoMemory → (status ≡ 5) ⊎ (status ≡ 8)
+  memory_exits (inl own) = inl own
+  memory_exits (inr (inl want)) = inl want.0
+  memory_exits (inr (inr eight)) = inr eight
+
+  fault_no_done : (status ≡ 4) ⊎ (status ≡ 8) → status ≡ 0 → ⊥
+  fault_no_done (inl is) done = absurd (omega (arith, is, done))
+  fault_no_done (inr is) done = absurd (omega (arith, is, done))
+
+  fault_no_keep : (status ≡ 4) ⊎ (status ≡ 8) → KeepsAll status → ⊥
+  fault_no_keep (inl is) keeps = keeps.1 is
+  fault_no_keep (inr is) keeps = keeps.2 is
+
+  memory_apart : (status ≡ 5) ⊎ (status ≡ 8) → (status ≡ 0) ⊎ (status ≡ 4) → ⊥
+  memory_apart (inl is) (inl other) = absurd (omega (arith, is, other))
+  memory_apart (inl is) (inr other) = absurd (omega (arith, is, other))
+  memory_apart (inr is) (inl other) = absurd (omega (arith, is, other))
+  memory_apart (inr is) (inr other) = absurd (omega (arith, is, other))
+
+  memory_no_keep : (status ≡ 5) ⊎ (status ≡ 8) → KeepsAll status → (status ≡ 5 → ⊥) → ⊥
+  memory_no_keep (inl is) keeps other = other is
+  memory_no_keep (inr is) keeps other = keeps.2 is
+
+  -- what a run leaves of the file of an act
+  act_run : (act : Act) (old now : History) (t : Ending) → Exits status t → CountedBy before after t → ActLeaves act old t now → ActRun act old before after status now
+  act_run act old now (Replied reply) out counted left = record {
+    any = inr (inl left.1);
+    replied = λ is. sym (ap (λ r. status_of (Replied r)) left.0) ∙ own_reply reply out is;
+    done = λ is. left.1;
+    failed = λ is. absurd (reply_no_fault reply out is);
+    kept = λ keeps. same_or_undone old now (unchanged act old now reply left.0 left.1 (not_done status reply out keeps));
+    exact = λ keeps other. unchanged act old now reply left.0 left.1 (not_done status reply out keeps);
+  }
+  act_run act old now (Refused r) out counted left = record {
+    any = inl (same_or_undone old now left);
+    replied = λ is. absurd (refusal_apart r out (inl is));
+    done = λ is. absurd (refusal_apart r out (inl is));
+    failed = λ is. absurd (refusal_apart r out (inr is));
+    kept = λ keeps. same_or_undone old now left;
+    exact = λ keeps other. left;
+  }
+  act_run act old now DeviceFault out counted left = record {
+    any = inr (inr (counted.failed refl, left));
+    replied = λ is. absurd (fault_no_done (fault_exits out) is);
+    done = λ is. absurd (fault_no_done (fault_exits out) is);
+    failed = λ is. left;
+    kept = λ keeps. absurd (fault_no_keep (fault_exits out) keeps);
+    exact = λ keeps other. absurd (fault_no_keep (fault_exits out) keeps);
+  }
+  act_run act old now NoMemory out counted left = record {
+    any = inl left;
+    replied = λ is. absurd (memory_apart (memory_exits out) (inl is));
+    done = λ is. absurd (memory_apart (memory_exits out) (inl is));
+    failed = λ is. absurd (memory_apart (memory_exits out) (inr is));
+    kept = λ keeps. left;
+    exact = λ keeps other. absurd (memory_no_keep (memory_exits out) keeps other);
+  }
+  act_run act old now (Missing name) out counted left = absurd left
+  act_run act old now (There name) out counted left = absurd left
+  act_run act old now Usage out counted left = absurd left
+
+  -- what a run leaves at the name of a file that was to be made
+  making_run : (form : NewForm) (old now : Option History) (t : Ending) → Exits status t → CountedBy before after t → MakingLeaves form old t now → MakingRun form old before after status now
+  making_run form old now (Replied reply) out counted left = record {
+    any = inr (inl left.1);
+    done = λ is. left.1;
+    failed = λ is. absurd (reply_no_fault reply out is);
+    kept = λ keeps. absurd (not_done status reply out keeps left.0);
+  }
+  making_run form old now (There name) out counted left = record {
+    any = inl left;
+    done = λ is. absurd (there_apart out (inl is));
+    failed = λ is. absurd (there_apart out (inr is));
+    kept = λ keeps. left;
+  }
+    where
+      there_apart : Exits status (There name) → (status ≡ 0) ⊎ (status ≡ 4) → ⊥
+      there_apart (inl own) (inl other) = absurd (omega (arith, own, other))
+      there_apart (inl own) (inr other) = absurd (omega (arith, own, other))
+      there_apart (inr (inl want)) (inl other) = absurd (omega (arith, want.0, other))
+      there_apart (inr (inl want)) (inr other) = absurd (omega (arith, want.0, other))
+      there_apart (inr (inr eight)) (inl other) = absurd (omega (arith, eight, other))
+      there_apart (inr (inr eight)) (inr other) = absurd (omega (arith, eight, other))
+  making_run form old now DeviceFault out counted left = record {
+    any = inr (inr (counted.failed refl, left));
+    done = λ is. absurd (fault_no_done (fault_exits out) is);
+    failed = λ is. left;
+    kept = λ keeps. absurd (fault_no_keep (fault_exits out) keeps);
+  }
+  making_run form old now NoMemory out counted left = record {
+    any = inl left;
+    done = λ is. absurd (memory_apart (memory_exits out) (inl is));
+    failed = λ is. absurd (memory_apart (memory_exits out) (inr is));
+    kept = λ keeps. left;
+  }
+  making_run form old now (Refused r) out counted left = absurd left
+  making_run form old now (Missing name) out counted left = absurd left
+  making_run form old now Usage out counted left = absurd left
+
+module _ (run : Run) (t : Ending) (out : Exits run.status t) (counted : CountedBy run.faults_before run.faults_after t) (left : Leaving run.ask run.old t run.now) where
+  -- what the run leaves at the name of the task that it is asked for
+  asked_left : (task : Task) (name : List ℕ) → run.ask ≡ Some (record { file = name; task = task }) → TaskLeaves task (run.old name) t (run.now name)
+  asked_left task name asks = (subst (λ a. Leaving a run.old t run.now) asks left).1
+
+  acted : (act : Act) (name : List ℕ) (old : History) → ActsOn run act name old → (h : History) × (run.now name ≡ Some h) × ActRun act old run.faults_before run.faults_after run.status h
+  acted act name old acts =
+      let at = subst (λ o. TaskLeaves (On act) o t (run.now name)) acts.there (asked_left (On act) name acts.asks) in
+      (at.0, at.1, act_run run.faults_before run.faults_after run.status act old at.0 t out counted at.2)
+
+  made : (form : NewForm) (name : List ℕ) → run.ask ≡ Some (record { file = name; task = Create form }) → MakingRun form (run.old name) run.faults_before run.faults_after run.status (run.now name)
+  made form name asks = making_run run.faults_before run.faults_after run.status form (run.old name) (run.now name) t out counted (asked_left (Create form) name asks)
+
+  others : (name : List ℕ) → ((ask : Ask) → run.ask ≡ Some ask → ask.file ≡ name → ⊥) → run.now name ≡ run.old name
+  others name none = of run.ask left none
+    where
+      of : (ask : Option Ask) → Leaving ask run.old t run.now → ((a : Ask) → ask ≡ Some a → a.file ≡ name → ⊥) → run.now name ≡ run.old name
+      of None left none = left name
+      of (Some a) left none = left.0 name (λ same. none a refl (sym same))
+
+  -- what is held at the name of a task, where the status tells of no change
+  task_kept : KeepsAll run.status → (task : Task) (name : List ℕ) (old : Option History) → TaskLeaves task old t (run.now name) → HeldOrUndone old (run.now name)
+  task_kept keeps (On act) name None at = inl at
+  task_kept keeps (On act) name (Some old) at = elim ((act_run run.faults_before run.faults_after run.status act old at.0 t out counted at.2).kept keeps) [
+    | inl undone ↦ inr (old, at.0, refl, at.1, undone)
+    | inr same ↦ inl (at.1 ∙ ap Some same)
+  ]
+  task_kept keeps (Create form) name old at = inl ((making_run run.faults_before run.faults_after run.status form old (run.now name) t out counted at).kept keeps)
+
+  kept : KeepsAll run.status → (name : List ℕ) → HeldOrUndone (run.old name) (run.now name)
+  kept keeps name = of run.ask left
+    where
+      of : (ask : Option Ask) → Leaving ask run.old t run.now → HeldOrUndone (run.old name) (run.now name)
+      of None left = inl (left name)
+      of (Some a) left = elim (same_or_other name a.file) [
+        | inl here ↦ subst (λ n. HeldOrUndone (run.old n) (run.now n)) (sym here) (task_kept keeps a.task a.file (run.old a.file) left.1)
+        | inr apart ↦ inl (left.0 name apart)
+      ]
+
+  pub leaves_files : LeavesFiles run
+  leaves_files = record {
+    others = others;
+    acted = acted;
+    absent = λ act name asks none. subst (λ o. TaskLeaves (On act) o t (run.now name)) none (asked_left (On act) name asks);
+    made = made;
+    kept = kept;
+  }
+
+-- what a run's status tells whatever the files tell
+module _ (run : Run) (e t : Ending) (printed : PrintedFor e t) (prints : Prints run.output e run.status) (counted : CountedBy run.faults_before run.faults_after t) (usage : t ≡ Usage → run.ask ≡ None) (usage_exact : run.ask ≡ None → (t ≡ Usage) ⊎ (t ≡ NoMemory)) where
+  -- the ending that is printed is the one that was found, where it isn't want of memory
+  found : (e ≡ NoMemory → ⊥) → t ≡ e
+  found other = elim printed [
+    | inl same ↦ sym same
+    | inr want ↦ absurd (other want.0)
+  ]
+
+  own_status : (n : ℕ) → (n ≡ 8 → ⊥) → run.status ≡ n → status_of e ≡ n
+  own_status n other is = elim prints [
+    | inl all ↦ sym all.exits ∙ is
+    | inr part ↦ absurd (other (sym is ∙ part.exits))
+  ]
+
+  usage_asked : run.status ≡ 2 → run.ask ≡ None
+  usage_asked is =
+      let same : e ≡ Usage = usage_alone e (own_status 2 (λ x. absurd (omega (arith, x))) is) in
+      usage (found (λ wants. let both : Usage ≡ NoMemory = sym same ∙ wants in cc) ∙ same)
+
+  usage_status : run.ask ≡ None → Contains (2 ∷ 5 ∷ 8 ∷ []) run.status
+  usage_status none = of (exits run.output e t run.status printed prints) (usage_exact none)
+    where
+      of : Exits run.status t → (t ≡ Usage) ⊎ (t ≡ NoMemory) → Contains (2 ∷ 5 ∷ 8 ∷ []) run.status
+      of (inl own) (inl is) = (0, omega arith, sym (own ∙ ap status_of is))
+      of (inl own) (inr is) = (1, omega arith, sym (own ∙ ap status_of is))
+      of (inr (inl want)) which = (1, omega arith, sym want.0)
+      of (inr (inr eight)) which = (2, omega arith, sym eight)
+
+  fault_rose : run.status ≡ 4 → Rose run.faults_before run.faults_after
+  fault_rose is =
+      let same : e ≡ DeviceFault = fault_alone e (own_status 4 (λ x. absurd (omega (arith, x))) is) in
+      counted.failed (found (λ wants. let both : DeviceFault ≡ NoMemory = sym same ∙ wants in cc) ∙ same)
+
+  fault_told : (run.status ≡ 4 → ⊥) → (run.status ≡ 8 → ⊥) → run.faults_after ≡ run.faults_before
+  fault_told four eight = counted.sound (λ is. elim (fault_exits run.faults_before run.faults_after run.status (subst (Exits run.status) is (exits run.output e t run.status printed prints))) [
+    | inl is ↦ four is
+    | inr is ↦ eight is
+  ])
+
+  output_rose : run.status ≡ 8 → Rose run.output.faults_before run.output.faults_after
+  output_rose is = elim prints [
+    | inl all ↦ absurd (eight_never e (sym all.exits ∙ is))
+    | inr part ↦ part.failed
+  ]
+
+  pub accounted : Accounted run
+  accounted = record {
+    usage = usage_asked;
+    usage_exact = usage_status;
+    device_fault = fault_rose;
+    device_fault_told = fault_told;
+    output_fault = output_rose;
+    known = elim prints [
+      | inl all ↦ subst Known (sym all.exits) (ending_known e)
+      | inr part ↦ subst Known (sym part.exits) (7, omega arith, refl)
+    ];
+  }

@@ -1,0 +1,59 @@
+-- Command lines: what words ask for.
+use Rattle.std.specs.Prelude.{ℕ, ◌+◌, ◌<◌, ◌^◌, if◌then◌else◌, Option, None, List, [], ◌∷◌, length, codes, string_bytes}
+use Rattle.std.specs.Map.{lookup}
+use Rattle.std.specs.Option.{option_map, option_and_then}
+use Rattle.tdb_space.specs.Pairs.{same_key}
+use Rattle.tdb_top.specs.declared.act.Act.{Act}
+use Rattle.tdb_top.specs.declared.act.Act.TheVariants.{Show, Insert, Check}
+use Rattle.tdb_top.specs.declared.ask.Task.{Task}
+use Rattle.tdb_top.specs.declared.ask.Task.TheVariants.{Create, On}
+use Rattle.tdb_top.specs.declared.ask.Ask as C
+use Rattle.tdb_top.specs.Words.{is_position}
+use Rattle.tdb_top.specs.Commands.Show.{show_of}
+use Rattle.tdb_top.specs.Commands.Check.{check_of}
+use Rattle.tdb_top.specs.Commands.Insert.{insert_of}
+use Rattle.tdb_top.specs.Commands.Create.{create_of}
+
+-- what is asked for: a file by its name, and what is to be done with it
+pub record Ask : Type 0 where
+  pub file : List ℕ
+  pub task : Task
+
+-- what an ask of the code asks for
+abbrev pub asked : C.Ask → Ask
+asked ask = record { file = string_bytes ask.file; task = ask.task }
+
+-- the commands of `tool`, each by its name with what its arguments ask for
+abbrev pub tools : List (List ℕ × (List (List ℕ) → Option Task))
+tools =
+    (codes "show", λ arguments. option_map On (show_of arguments))
+    ∷ (codes "insert", λ arguments. option_map On (insert_of arguments))
+    ∷ (codes "check", λ arguments. option_map On (check_of arguments))
+    ∷ (codes "create", λ arguments. option_map Create (create_of arguments))
+    ∷ []
+
+-- what the command of this name asks for with these arguments, and nothing where there is no such command
+abbrev pub task_of : List ℕ → List (List ℕ) → Option Task
+task_of command arguments = option_and_then (λ read. read arguments) (lookup (same_key command) tools)
+
+-- what the words behind `tool` ask for: FILE COMMAND, and the command's arguments
+abbrev pub tool_of : List (List ℕ) → Option Ask
+tool_of [] = None
+tool_of (file ∷ []) = None
+tool_of (file ∷ command ∷ arguments) =
+    if is_position file then option_map (λ task. record { file = file; task = task }) (task_of command arguments) else None
+
+-- what the words of a command line ask for, those behind the program's name
+abbrev pub ask_of : List (List ℕ) → Option Ask
+ask_of [] = None
+ask_of (program ∷ words) = if same_key program (codes "tool") then tool_of words else None
+
+-- the keys and the values of an act are short enough for a record, and a file is made with some chain
+abbrev pub ActFits : Act → Type 0
+ActFits (Show key) = length key < 2 ^ 32
+ActFits (Insert key value) = length key + length value < 2 ^ 32
+ActFits Check = Unit {0}
+
+abbrev pub TaskFits : Task → Type 0
+TaskFits (On act) = ActFits act
+TaskFits (Create form) = 0 < form.size

@@ -1,0 +1,5 @@
+-- The commands, each with its arguments, what it replies, and what it leaves of the file.
+pub mod Show
+pub mod Check
+pub mod Insert
+pub mod Create

@@ -1,0 +1,122 @@
+-- What a run is: what it met, what it left, what it printed and how it exits; and what is promised of it.
+use Rattle.std.specs.Prelude.{◌≡◌, ◌≢◌, ◌⊎◌, ℕ, ◌≤◌, Option, None, Some, List, [], ◌∷◌, length, map, string_bytes, Contains, Bool, IsTrue}
+use Rattle.std.specs.Prelude.{String}
+use Rattle.std.specs.Global.{Global}
+use Rattle.tdb_disk.specs.Count.{Rose}
+use Rattle.tdb_disk.specs.History.{History, seen}
+use Rattle.tdb_space.specs.Opening.{Opens}
+use Rattle.tdb_top.specs.declared.act.Act.{Act}
+use Rattle.tdb_top.specs.declared.ask.Task.TheVariants.{Create, On}
+use Rattle.tdb_top.specs.declared.commands.create.NewForm.{NewForm}
+use Rattle.tdb_top.specs.declared.commands.create.Creation.TheVariants.{Made, Device}
+use Rattle.tdb_top.specs.declared.ending.Ending.{Ending}
+use Rattle.tdb_top.specs.declared.ending.Ending.TheVariants.{Replied, DeviceFault, NoMemory}
+use Rattle.tdb_top.specs.declared.limits.TheConstants.{LONGEST_FILE}
+use Rattle.tdb_top.specs.Ask.{Ask, ask_of}
+use Rattle.tdb_top.specs.Acts.{reply_of, Left, Interrupted}
+use Rattle.tdb_top.specs.Ending.{Due, status_of, Output, Prints}
+use Rattle.tdb_top.specs.Commands.Create.{CreateLeaves}
+use Rattle.tdb_top.specs.Opening.{opened_bytes, Undone, SameOrUndone, UndoneIfOpen}
+
+-- a run: what its words ask for, what is held at each name before and after, how often calls of the files had failed
+-- before and after, what the output took, and the status that the program exits with
+pub record Run : Type 0 where
+  pub ask : Option Ask
+  pub old : List ℕ → Option History
+  pub now : List ℕ → Option History
+  pub faults_before : ℕ
+  pub faults_after : ℕ
+  pub output : Output
+  pub status : ℕ
+
+abbrev pub run_by : List (String Global) → (List ℕ → Option History) → (List ℕ → Option History) → ℕ → ℕ → Output → ℕ → Run
+run_by words old now before after output status = record {
+  ask = ask_of (map string_bytes words);
+  old = old;
+  now = now;
+  faults_before = before;
+  faults_after = after;
+  output = output;
+  status = status;
+}
+
+-- Why a run ends so that is asked for this, or for nothing: it is due; or it is asked for something and a call failed;
+-- or memory was wanting.
+pub data MayEnd (ask : Option Ask) (held : List ℕ → Option History) (before after : ℕ) : Ending → Type 0 where
+  is_due : (e : Ending) → Due ask held e → MayEnd ask held before after e
+  call_failed : (a : Ask) → ask ≡ Some a → Rose before after → MayEnd ask held before after DeviceFault
+  memory_wanting : MayEnd ask held before after NoMemory
+
+abbrev pub Cause : Run → Ending → Type 0
+Cause run e = MayEnd run.ask run.old run.faults_before run.faults_after e
+
+-- a status that tells of a failed call of the files, of want of memory, or of a failed output
+abbrev pub TellsFault : ℕ → Type 0
+TellsFault status = (status ≡ 4) ⊎ (status ≡ 5) ⊎ (status ≡ 8)
+
+-- A run ends in one way, and prints the line of that. Where the files tell what they hold, the ending has its cause,
+-- and what is due is the one thing that is answered, unless a call failed or memory was wanting.
+pub record Answered (tells : Bool) (run : Run) : Type 0 where
+  pub ending : Ending
+  pub printed : Prints run.output ending run.status
+  pub cause : IsTrue tells → Cause run ending
+  pub exact : IsTrue tells → (e : Ending) → Due run.ask run.old e → (run.status ≡ status_of e) ⊎ TellsFault run.status
+
+-- the words ask for an act on a file that is there and has this history
+pub record ActsOn (run : Run) (act : Act) (name : List ℕ) (old : History) : Type 0 where
+  pub asks : run.ask ≡ Some (record { file = name; task = On act })
+  pub there : run.old name ≡ Some old
+
+-- Status 3 comes only over a file whose bytes can't be opened; and over each that is no longer than the longest nothing
+-- else comes, unless a call failed or memory was wanting.
+pub record RefusesExactly (run : Run) : Type 0 where
+  pub only : (act : Act) (name : List ℕ) (h : History) → ActsOn run act name h → run.status ≡ 3 → Opens (seen h) → ⊥
+  pub exact : (act : Act) (name : List ℕ) (h : History) → ActsOn run act name h → (Opens (seen h) → ⊥) → length (seen h) ≤ LONGEST_FILE → (run.status ≡ 3) ⊎ TellsFault run.status
+
+-- a status after which every file is as before or undone, whatever the words ask for: it says neither that it was
+-- done, nor that a call of the files or of the output failed
+abbrev pub KeepsAll : ℕ → Type 0
+KeepsAll status = (status ≢ 0) × (status ≢ 4) × (status ≢ 8)
+
+-- What a run leaves of the file of an act, which held this, by its status. Want of memory, status 5, may come before
+-- the file was opened or after it was undone. A fault of the output, status 8, tells nothing of the file: it is as it
+-- was or undone, or as the act left it, or as a failed call left it, which raised the count of faults.
+pub record ActRun (act : Act) (old : History) (before after status : ℕ) (now : History) : Type 0 where
+  pub any : SameOrUndone old now ⊎ Left act old now ⊎ (Rose before after × Interrupted act old now)
+  pub replied : status ≡ 0 → status_of (Replied (reply_of act (opened_bytes (seen old)))) ≡ 0
+  pub done : status ≡ 0 → Left act old now
+  pub failed : status ≡ 4 → Interrupted act old now
+  pub kept : KeepsAll status → SameOrUndone old now
+  pub exact : KeepsAll status → status ≢ 5 → UndoneIfOpen old now
+
+-- what a run leaves at the name of a file that is to be made, in the same way
+pub record MakingRun (form : NewForm) (old : Option History) (before after status : ℕ) (now : Option History) : Type 0 where
+  pub any : (now ≡ old) ⊎ CreateLeaves form.size form.order form.hash old Made now ⊎ (Rose before after × CreateLeaves form.size form.order form.hash old Device now)
+  pub done : status ≡ 0 → CreateLeaves form.size form.order form.hash old Made now
+  pub failed : status ≡ 4 → CreateLeaves form.size form.order form.hash old Device now
+  pub kept : KeepsAll status → now ≡ old
+
+-- what is held at a name is as before, or its file was undone
+abbrev pub HeldOrUndone : Option History → Option History → Type 0
+HeldOrUndone old now = (now ≡ old) ⊎ ((h : History) × (k : History) × (old ≡ Some h) × (now ≡ Some k) × Undone h k)
+
+-- What a run leaves of the files: at most the file that it is asked for changes, as the status says.
+pub record LeavesFiles (run : Run) : Type 0 where
+  pub others : (name : List ℕ) → ((ask : Ask) → run.ask ≡ Some ask → ask.file ≢ name) → run.now name ≡ run.old name
+  pub acted : (act : Act) (name : List ℕ) (old : History) → ActsOn run act name old
+      → (h : History) × (run.now name ≡ Some h) × ActRun act old run.faults_before run.faults_after run.status h
+  pub absent : (act : Act) (name : List ℕ) → run.ask ≡ Some (record { file = name; task = On act }) → run.old name ≡ None → run.now name ≡ None
+  pub made : (form : NewForm) (name : List ℕ) → run.ask ≡ Some (record { file = name; task = Create form })
+      → MakingRun form (run.old name) run.faults_before run.faults_after run.status (run.now name)
+  pub kept : KeepsAll run.status → (name : List ℕ) → HeldOrUndone (run.old name) (run.now name)
+
+-- What a status tells whatever the files and the output tell of what they hold: the usage is answered exactly where the
+-- words ask for nothing, unless memory was wanting or the output failed; and a failed call is told, unless the output
+-- failed too.
+pub record Accounted (run : Run) : Type 0 where
+  pub usage : run.status ≡ 2 → run.ask ≡ None
+  pub usage_exact : run.ask ≡ None → Contains (2 ∷ 5 ∷ 8 ∷ []) run.status
+  pub device_fault : run.status ≡ 4 → Rose run.faults_before run.faults_after
+  pub device_fault_told : run.status ≢ 4 → run.status ≢ 8 → run.faults_after ≡ run.faults_before
+  pub output_fault : run.status ≡ 8 → Rose run.output.faults_before run.output.faults_after
+  pub known : Contains (0 ∷ 1 ∷ 2 ∷ 3 ∷ 4 ∷ 5 ∷ 6 ∷ 8 ∷ 9 ∷ []) run.status

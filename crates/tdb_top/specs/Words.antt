@@ -1,0 +1,73 @@
+-- What single words of a command line stand for.
+use Rattle.std.specs.Prelude.{◌≡◌, ℕ, ◌≤◌, ◌+◌, ◌*◌, ◌==◌, Bool, true, ◌&&◌, not, nat_lt, nat_le, if◌then◌else◌, Option, None, Some, List, [], ◌∷◌, length}
+use Rattle.std.specs.Option.{option_map}
+use Rattle.std.specs.Str.Parse.{IsNumeral, digits_value}
+use Rattle.std.specs.Char.{digit_value}
+use Rattle.tdb_dump.specs.Escape.{hex_value}
+use Rattle.tdb_space.specs.Pairs.{same_key}
+use Rattle.tdb_top.specs.declared.limits.TheConstants.{LONGEST_WORD, LONGEST_SIZE, MOST_CHAINS}
+
+-- a word that isn't an option, and not too long: the first byte isn't `-`
+abbrev pub is_position : List ℕ → Bool
+is_position [] = true
+is_position (b ∷ bytes) = not (b == 45) && nat_le (length (b ∷ bytes)) LONGEST_WORD
+
+-- the byte that two hexadecimal digits write, in front of what the rest stands for
+abbrev pub escaped : Option ℕ → Option ℕ → Option (List ℕ) → Option (List ℕ)
+escaped None low rest = None
+escaped (Some high) None rest = None
+escaped (Some high) (Some low) rest = option_map (λ bytes. (16 * high + low) ∷ bytes) rest
+
+-- what the letters of a word stand for: `\` and two hexadecimal digits of either case are one byte, and any other
+-- byte is itself
+abbrev pub letters_of : List ℕ → Option (List ℕ)
+letters_of [] = Some []
+letters_of (b ∷ []) = if b == 92 then None else Some (b ∷ [])
+letters_of (b ∷ c ∷ []) = if b == 92 then None else option_map (λ bytes. b ∷ bytes) (letters_of (c ∷ []))
+letters_of (b ∷ c ∷ d ∷ rest) =
+    if b == 92 then escaped (hex_value c) (hex_value d) (letters_of rest)
+    else option_map (λ bytes. b ∷ bytes) (letters_of (c ∷ d ∷ rest))
+
+-- the bytes that a word stands for: none for the two characters `""` alone, else one for each letter
+abbrev pub bytes_of : List ℕ → Option (List ℕ)
+bytes_of word = if same_key word (34 ∷ 34 ∷ []) then Some [] else letters_of word
+
+-- the bytes of a word that stands for a key or a value
+abbrev pub value_of : List ℕ → Option (List ℕ)
+value_of word = if is_position word then bytes_of word else None
+
+-- a word of one digit or more and nothing else
+abbrev pub all_digits : List ℕ → Bool
+all_digits [] = true
+all_digits (c ∷ cs) = nat_lt (digit_value c) 10 && all_digits cs
+
+abbrev pub is_numeral : List ℕ → Bool
+is_numeral word = nat_lt 0 (length word) && all_digits word
+
+-- a word of one to ten decimal digits, which write this number of chains, from 1 to the greatest
+pub record IsSize (word : List ℕ) (size : ℕ) : Type 0 where
+  pub numeral : IsNumeral 10 word
+  pub short : length word ≤ LONGEST_SIZE
+  pub value : size ≡ digits_value 10 word
+  pub least : 1 ≤ size
+  pub most : size ≤ MOST_CHAINS
+
+-- whether a word is such one, and the number of chains that it writes
+abbrev pub is_size : List ℕ → Bool
+is_size word =
+    is_numeral word && (nat_le (length word) LONGEST_SIZE && (nat_le 1 (digits_value 10 word) && nat_le (digits_value 10 word) MOST_CHAINS))
+
+abbrev pub size_of : List ℕ → Option ℕ
+size_of word = if is_size word then Some (digits_value 10 word) else None
+
+-- what the one word of a list stands for, or its two words together; nothing where there are more or fewer
+abbrev pub of_one : {A B : Type 0} → (A → Option B) → List A → Option B
+of_one read [] = None
+of_one read (word ∷ []) = read word
+of_one read (word ∷ more ∷ rest) = None
+
+abbrev pub of_two : {A B : Type 0} → (A → A → Option B) → List A → Option B
+of_two read [] = None
+of_two read (word ∷ []) = None
+of_two read (first ∷ second ∷ []) = read first second
+of_two read (first ∷ second ∷ more ∷ rest) = None

@@ -1,0 +1,119 @@
+// Command lines: what the words after the program's name ask for.
+
+ghost use Rattle.std.specs.Prelude.{◌≡◌, ℕ, List, false, map, string_bytes, IsTrue, IfOk, IfSome};
+ghost use Rattle.std.specs.Option.{option_map};
+ghost use Rattle.tdb_disk.specs.Names.{SameBut};
+ghost use Rattle.tdb_top.specs.declared.ask.Task.TheVariants.{On as OnIs};
+ghost use Rattle.tdb_top.specs.declared.ending.Ending.TheVariants.{Usage};
+ghost use Rattle.tdb_top.specs.Ask.{asked, ask_of, tool_of as tool_asks, task_of as task_asked, TaskFits};
+ghost use Rattle.tdb_top.specs.Ending.{TaskCause, CountedBy};
+ghost use Rattle.tdb_top.specs.Left.{TaskLeaves};
+
+use crate::act::Act;
+use crate::commands::create::{NewForm, create_file};
+use crate::commands::{check, create, insert, show};
+use crate::ending::Ending;
+use crate::words::is_position;
+use std::alloc::{AllocError, Global};
+use tdb_disk::Files;
+
+/// What is to be done with a file.
+#[derive(Debug, Drop)]
+pub(crate) enum Task {
+    /// To make it.
+    Create(NewForm),
+
+    /// A command on a file that is there.
+    On(Act),
+}
+
+/// What a command line asks for.
+#[derive(Debug, Drop)]
+pub(crate) struct Ask {
+    pub(crate) file: String,
+    pub(crate) task: Task,
+}
+
+impl Task {
+    /// A command on a file that is there, if it is one.
+    fn on(act: Option<Act>) -> Option<Task>
+        ensures { result ≡ option_map OnIs act }
+    {
+        match act {
+            Some(act) => Some(Task::On(act)),
+            None => None,
+        }
+    }
+
+    /// What the command of this name asks for with these arguments.
+    fn named(alloc: Global, command: &str, arguments: &[String]) -> Result<Option<Task>, AllocError>
+        ensures read { IfOk result (λ task. task ≡ task_asked command.now (map string_bytes arguments.now)) }
+        ensures fits { IfOk result (λ task. IfSome task TaskFits) }
+    {
+        match command {
+            "show" => Ok(Task::on(show::read(alloc, arguments)?)),
+            "insert" => Ok(Task::on(insert::read(alloc, arguments)?)),
+            "check" => Ok(Task::on(check::read(arguments))),
+            "create" => match create::read(arguments) {
+                Some(form) => Ok(Some(Task::Create(form))),
+                None => Ok(None),
+            },
+            _ => Ok(None),
+        }
+    }
+}
+
+impl Ask {
+    /// What the words behind `tool` ask for.
+    fn of_tool(alloc: Global, words: &[String]) -> Result<Option<Ask>, AllocError>
+        ensures read { IfOk result (λ ask. option_map asked ask ≡ tool_asks (map string_bytes words.now)) }
+        ensures fits { IfOk result (λ ask. IfSome ask (λ a. TaskFits a.task)) }
+    {
+        let [file, command, arguments @ ..] = words else {
+            return Ok(None);
+        };
+        if !is_position(file.as_str()) {
+            return Ok(None);
+        }
+        let Some(task) = Task::named(alloc, command.as_str(), arguments)? else {
+            return Ok(None);
+        };
+        let file = String::from_str(alloc, file.as_str())?;
+        Ok(Some(Ask { file, task }))
+    }
+
+    /// What the words of a command line ask for, if anything. The memory that it takes is that of their bytes.
+    pub(crate) fn of(alloc: Global, words: &[String]) -> Result<Option<Ask>, AllocError>
+        ensures read { IfOk result (λ ask. option_map asked ask ≡ ask_of (map string_bytes words.now)) }
+        ensures fits { IfOk result (λ ask. IfSome ask (λ a. TaskFits a.task)) }
+    {
+        let [program, rest @ ..] = words else {
+            return Ok(None);
+        };
+        match program.as_str() {
+            "tool" => Ask::of_tool(alloc, rest),
+            _ => Ok(None),
+        }
+    }
+
+    /// Does over the files what is asked for.
+    pub(crate) fn answer<F: Files>(&self, alloc: Global, files: &mut F) -> Ending
+        requires fits { TaskFits self.now.task }
+        requires free { (name : List ℕ) → F.is_taken files.old name ≡ false }
+        ensures cause { IsTrue F.D.tells → TaskCause self.now.task (string_bytes self.now.file) (F.held files.old (string_bytes self.now.file)) (F.faults files.old) (F.faults files.new) result }
+        ensures left { IsTrue F.D.tells → TaskLeaves self.now.task (F.held files.old (string_bytes self.now.file)) result (F.held files.new (string_bytes self.now.file)) }
+        ensures others { SameBut (string_bytes self.now.file) (F.held files.old) (F.held files.new) }
+        ensures given_back { (name : List ℕ) → F.is_taken files.new name ≡ false }
+        ensures counted { CountedBy (F.faults files.old) (F.faults files.new) result }
+        ensures asked { result ≡ Usage → ⊥ }
+    {
+        let name = self.file.as_str();
+        match &self.task {
+            Task::On(act) => act.on_file(alloc, name, files),
+            Task::Create(form) => {
+                let creation = create_file(alloc, name, *form, files);
+                Ending::made(alloc, name, creation)
+            }
+        }
+    }
+}

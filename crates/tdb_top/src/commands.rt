@@ -1,0 +1,6 @@
+// The commands, each with the reading of its arguments and what it does.
+
+pub(crate) mod check;
+pub(crate) mod create;
+pub(crate) mod insert;
+pub(crate) mod show;

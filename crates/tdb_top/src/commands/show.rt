@@ -1,0 +1,76 @@
+// The command that shows the value of a key.
+
+ghost use Rattle.std.specs.Prelude.{◌≡◌, ◌^◌, ◌<◌, ◌≤◌, map, string_bytes, length, IsTrue, IfOk, IfSome};
+ghost use Rattle.tdb_disk.specs.Count.{HasCauseOf};
+ghost use Rattle.tdb_disk.specs.History.{seen};
+ghost use Rattle.tdb_space.specs.Form.{form_of};
+ghost use Rattle.tdb_space.specs.Pairs.{map_of};
+ghost use Rattle.tdb_top.specs.declared.act.Act.TheVariants.{Show};
+ghost use Rattle.tdb_top.specs.declared.halt.Fault.TheVariants.{Device};
+ghost use Rattle.tdb_top.specs.Acts.{Acted};
+ghost use Rattle.tdb_top.specs.Ask.{ActFits};
+ghost use Rattle.tdb_top.specs.Commands.Show.{show_of};
+ghost use Rattle.tdb_top.specs.Opening.{IsCheckedOn};
+
+use crate::act::Act;
+use crate::ending::Reply;
+use crate::halt::Fault;
+use crate::opening::Opened;
+use crate::words::value_of;
+use std::alloc::{AllocError, Global};
+use tdb_chain::{find, value};
+use tdb_disk::Disk;
+use tdb_space::Direct;
+use tdb_words::Bytes;
+
+/// Reads its arguments.
+pub(crate) fn read(alloc: Global, arguments: &[String]) -> Result<Option<Act>, AllocError>
+    ensures read { IfOk result (λ act. act ≡ show_of (map string_bytes arguments.now)) }
+    ensures fits { IfOk result (λ act. IfSome act ActFits) }
+{
+    let [word] = arguments else {
+        return Ok(None);
+    };
+    match value_of(alloc, word.as_str())? {
+        Some(key) => Ok(Some(Act::Show { key })),
+        None => Ok(None),
+    }
+}
+
+/// Looks up the value that an opened file holds for a key, if any. The memory that it takes is that of the value.
+fn look_up<D: Disk>(
+    alloc: Global,
+    disk: &mut D,
+    opened: &Opened,
+    key: &[u8],
+) -> Result<Option<Bytes>, Fault>
+    requires short { length key.now < 2 ^ 32 }
+    requires opened { IsTrue D.tells → IsCheckedOn (seen (D.history disk.old)) opened.now }
+    ensures found { IfOk result (λ found. IsTrue D.tells → map_of (form_of (seen (D.history disk.old))) (seen (D.history disk.old)) key.now ≡ found) }
+    ensures history { D.history disk.new ≡ D.history disk.old }
+    ensures cause { HasCauseOf Device (D.faults disk.old) (D.faults disk.new) result }
+{
+    let mut space = Direct::new(disk, &opened.header);
+    match find(&mut space, key)? {
+        Some(place) => Ok(Some(value(alloc, &mut space, &place)?)),
+        None => Ok(None),
+    }
+}
+
+/// Replies the value that an opened file holds for a key.
+pub(crate) fn show<D: Disk>(
+    alloc: Global,
+    disk: &mut D,
+    opened: &Opened,
+    key: &[u8],
+) -> Result<Reply, Fault>
+    requires short { length key.now < 2 ^ 32 }
+    requires opened { IsTrue D.tells → IsCheckedOn (seen (D.history disk.old)) opened.now }
+    ensures acted { IsTrue D.tells → Acted (Show key.now) (D.history disk.old) (D.history disk.new) result }
+    ensures cause { HasCauseOf Device (D.faults disk.old) (D.faults disk.new) result }
+{
+    match look_up(alloc, disk, opened, key)? {
+        Some(value) => Ok(Reply::Value(value)),
+        None => Ok(Reply::KeyMissing),
+    }
+}

@@ -1,0 +1,61 @@
+// What single words of a command line stand for.
+
+ghost use Rattle.std.specs.Prelude.{◌≡◌, ◌≤◌, ℕ, None, IfOk, IfSome, length};
+ghost use Rattle.tdb_top.specs.declared.limits.TheConstants.{LONGEST_WORD as longest};
+ghost use Rattle.tdb_top.specs.Words as W;
+
+use crate::limits::{LONGEST_SIZE, LONGEST_WORD, MOST_CHAINS};
+use std::alloc::{AllocError, Global};
+use tdb_dump::{WordRefusal, word_bytes_of};
+use tdb_words::Bytes;
+
+/// Whether a word is no option, and not too long.
+pub(crate) fn is_position(word: &str) -> bool
+    ensures { result ≡ W.is_position word.now }
+{
+    word.as_bytes().first() != Some(&b'-') && word.len() <= LONGEST_WORD
+}
+
+/// The bytes that a word stands for, where it has a reading.
+fn bytes_of(alloc: Global, word: &str) -> Result<Option<Bytes>, AllocError>
+    ensures read { IfOk result (λ bytes. bytes ≡ W.bytes_of word.now) }
+    ensures short { IfOk result (λ bytes. IfSome bytes (λ b. length b ≤ length word.now)) }
+{
+    match word_bytes_of(alloc, word.as_bytes()) {
+        Ok(bytes) => Ok(Some(bytes)),
+        Err(WordRefusal::BadEscape { at: _ }) => Ok(None),
+        Err(WordRefusal::Memory) => Err(AllocError),
+    }
+}
+
+/// The key or the value that a word stands for, where it has a reading. It is no longer than the word.
+pub(crate) fn value_of(alloc: Global, word: &str) -> Result<Option<Bytes>, AllocError>
+    ensures read { IfOk result (λ bytes. bytes ≡ W.value_of word.now) }
+    ensures short { IfOk result (λ bytes. IfSome bytes (λ b. length b ≤ longest)) }
+{
+    if !is_position(word) {
+        return Ok(None);
+    }
+    bytes_of(alloc, word)
+}
+
+/// The number of chains that a word writes, from what it parses as.
+fn parsed_size(word: &str) -> Option<u32>
+    ensures read { IfSome result (λ size. W.IsSize word.now size) }
+    ensures refused { result ≡ None → (size : ℕ) → W.IsSize word.now size → ⊥ }
+{
+    if word.len() > LONGEST_SIZE || word.as_bytes().first() == Some(&b'+') {
+        return None;
+    }
+    match word.parse::<u32>() {
+        Ok(size) if 1 <= size && size <= MOST_CHAINS => Some(size),
+        _ => None,
+    }
+}
+
+/// The number of chains that a word writes.
+pub(crate) fn size_of(word: &str) -> Option<u32>
+    ensures { result ≡ W.size_of word.now }
+{
+    parsed_size(word)
+}
