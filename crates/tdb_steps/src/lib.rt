@@ -20,6 +20,8 @@ mod storing;
 mod taking;
 mod unlinking;
 mod wiping;
+#[cfg(test)]
+mod wiping_tests;
 
 pub use crate::appending::look_to_append;
 pub use crate::deleting::delete_turn;
