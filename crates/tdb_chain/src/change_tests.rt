@@ -58,6 +58,7 @@ enum Change {
     Update,
     Raise,
     LinkNew,
+    LinkLong,
     Replace,
 }
 
@@ -67,14 +68,15 @@ fn put(image: &mut [u8], at: usize, bytes: &[u8; 4]) {
     }
 }
 
-// The file of these words and contents, with others over them.
-fn image_with(
+// The file of these words and contents, with others over them, in so many bytes.
+fn image_of(
     alloc: Global,
+    len: u16,
     order: Order,
     words: &[(usize, u32)],
     contents: &[(usize, [u8; 4])],
 ) -> Result<Vec<u8>, AllocError> {
-    let mut image = vec![in alloc; 0u8; 312]?;
+    let mut image = vec![in alloc; 0u8; len as usize]?;
     for (at, word) in WORDS.iter().chain(words) {
         put(&mut image, *at, &word_bytes(*word, order));
     }
@@ -82,6 +84,16 @@ fn image_with(
         put(&mut image, *at, bytes);
     }
     Ok(image)
+}
+
+// The same in 312 bytes.
+fn image_with(
+    alloc: Global,
+    order: Order,
+    words: &[(usize, u32)],
+    contents: &[(usize, [u8; 4])],
+) -> Result<Vec<u8>, AllocError> {
+    image_of(alloc, 312, order, words, contents)
 }
 
 fn header(order: Order) -> Header
@@ -150,6 +162,10 @@ fn make(s: &mut Direct<MemDisk>, change: Change) -> Result<Option<(u32, u32)>, I
             Ok(None)
         }
         Change::LinkNew => match link(s, Hand::new(272, 16), b"b", b"xyz", None)? {
+            Some(hand) => Ok(Some(told(hand))),
+            None => Ok(None),
+        },
+        Change::LinkLong => match link(s, Hand::new(272, 8212), b"b", b"xyz", None)? {
             Some(hand) => Ok(Some(told(hand))),
             None => Ok(None),
         },
@@ -257,6 +273,38 @@ fn leaves_what_was_written_before_a_fault(rt: HostRuntime) -> Result<(), Fail> {
             [].as_slice(),
         ),
         (
+            Change::PurgeFirst,
+            Call::WriteWord,
+            0,
+            [].as_slice(),
+            [].as_slice(),
+        ),
+        (
+            Change::LinkNew,
+            Call::Write,
+            0,
+            [].as_slice(),
+            [].as_slice(),
+        ),
+        (
+            Change::LinkNew,
+            Call::WriteWord,
+            0,
+            [
+                (272, 176),
+                (276, 16),
+                (280, 1),
+                (284, 3),
+                (288, HASH_OF_B),
+                (292, USED),
+                (300, 0x4242_4242),
+                (304, 0x4242_4242),
+                (308, 40),
+            ]
+            .as_slice(),
+            [(296, *b"bxyz")].as_slice(),
+        ),
+        (
             Change::MarkDead,
             Call::WriteWord,
             0,
@@ -317,6 +365,40 @@ fn leaves_what_was_written_before_a_fault(rt: HostRuntime) -> Result<(), Fail> {
         assert_eq!(rt; make(&mut s, change), Err(Io), "{change:?}");
         let want = image_with(alloc, order, words, contents)?;
         assert_eq!(rt; disk.as_slice(), want.as_slice(), "after {change:?}");
+    }
+    Ok(())
+}
+
+// A record of more than 4096 bytes is written in pieces: its header, its key, its value, two blocks of padding, and its
+// end.
+#[test]
+fn links_a_long_record(rt: HostRuntime) -> Result<(), Fail> {
+    let alloc = rt.alloc();
+    for order in [Order::Little, Order::Big] {
+        let words = [
+            (172, 272),
+            (272, 176),
+            (276, 8212),
+            (280, 1),
+            (284, 3),
+            (288, HASH_OF_B),
+            (292, USED),
+            (8504, 8236),
+        ];
+        let mut want = image_of(alloc, 8508, order, &words, &[(296, *b"bxyz")])?;
+        if want.len() == 8508 {
+            want[300..8504].fill(0x42);
+        }
+        let mut disk = MemDisk::new(alloc, &image_of(alloc, 8508, order, &[], &[])?)?;
+        let mut s = Direct::new(&mut disk, &header(order));
+        assert_eq!(rt; make(&mut s, Change::LinkLong)?, None);
+        assert_eq!(rt; disk.as_slice(), want.as_slice());
+    }
+    for nth in 0..6 {
+        let mut disk = MemDisk::new(alloc, &image_of(alloc, 8508, Order::Big, &[], &[])?)?;
+        disk.fail(Call::Write, nth)?;
+        let mut s = Direct::new(&mut disk, &header(Order::Big));
+        assert_eq!(rt; make(&mut s, Change::LinkLong), Err(Io), "at {nth}");
     }
     Ok(())
 }
