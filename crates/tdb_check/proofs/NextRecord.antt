@@ -1,11 +1,7 @@
 -- The next record of a chain, where it has no fault of its own.
-use Rattle.std.proofs.Common.{◌≡◌, ℕ, true, false, List, eqb, Some, None, refl, arith}
-use Rattle.std.specs.List.{list_any}
-use Rattle.tdb_words.specs.declared.record.TheConstants.{USED}
-use Rattle.tdb_words.specs.declared.what.What.TheVariants.{TwiceKey}
+use Rattle.std.proofs.Common.{◌≡◌, ℕ, false, List, None, arith}
 use Rattle.tdb_space.specs.Form.{Form}
-use Rattle.tdb_space.specs.Record.{magic_of}
-use Rattle.tdb_space.specs.FirstFault.{chain_number, record_fault, is_out, is_bad, has_wrong_tailer, is_misfiled, has_twin}
+use Rattle.tdb_space.specs.FirstFault.{chain_number, is_out, is_bad, has_wrong_tailer, is_misfiled}
 use Rattle.tdb_space.proofs.Cleared.{none_parts, good_from, filed_from}
 use Rattle.tdb_check.specs.Seen.{own_fault}
 use Rattle.tdb_check.specs.Keys.{IsKeyed}

@@ -1,8 +1,8 @@
 -- What is noted of records, in their order and in that of their hashes.
-use Rattle.std.proofs.Common.{◌≡◌, ◌≢◌, ℕ, zero, suc, ◌+◌, ◌<◌, ◌≤◌, ◌&&◌, Bool, true, false, List, [], ◌∷◌, ◌++◌, length, length-take, length-drop, map, take, drop, get_or, eqb, append-nil, add-one, refl, sym, ◌∙◌, ap, subst, inl, inr, arith}
-use Rattle.std.specs.Prelude.{bit_xor, ◌==◌, if◌then◌else◌, MatchBool, Result, IfOk, IfErr}
+use Rattle.std.proofs.Common.{◌≡◌, ◌≢◌, ℕ, zero, suc, ◌+◌, ◌<◌, Bool, true, false, List, [], ◌∷◌, ◌++◌, length, length-take, length-drop, map, take, drop, get_or, refl, sym, ◌∙◌, ap, subst, inl, inr, arith}
+use Rattle.std.specs.Prelude.{bit_xor, MatchBool, Result, IfOk, IfErr}
 use Rattle.std.specs.declared.result.Result.TheVariants.{Ok, Err}
-use Rattle.std.specs.List.{All, IsDistinct, list_any}
+use Rattle.std.specs.List.{IsDistinct}
 use Rattle.std.specs.List.Sorted.{IsNonDecreasingBy, IsPermutation}
 use Rattle.std.proofs.lemmas.Bool.{cases_eq, eq-eqb, ne_eqb, false≢true, false_from_ne_true, cases_Bool, cases_lt}
 use Rattle.std.proofs.lemmas.Slice.Eq.{bytes_eq-Decides}
@@ -11,17 +11,15 @@ use Rattle.std.proofs.lemmas.List.{get_or-map, length-map, get_or_default}
 use Rattle.std.proofs.lemmas.List.Elements.{All-append}
 use Rattle.std.proofs.lemmas.List.Sorted.{IsPermutation-map, IsPermutation-sym, All-permutation}
 use Rattle.std.proofs.lemmas.Map.Keys.{IsDistinct-from_apart, apart_from_distinct, IsDistinct-IsPermutation}
-use Rattle.tdb_words.specs.declared.record.Rec.{Rec}
 use Rattle.tdb_words.specs.declared.record.TheConstants.{USED}
-use Rattle.tdb_words.specs.Record.{rec_at}
 use Rattle.tdb_words.specs.Hash.{h_of}
 use Rattle.tdb_space.specs.Form.{Form}
-use Rattle.tdb_space.specs.Record.{magic_of, full_hash_of, key_len_of, key_at}
-use Rattle.tdb_space.specs.Pairs.{pairs, same_key}
+use Rattle.tdb_space.specs.Record.{magic_of, key_len_of, key_at}
+use Rattle.tdb_space.specs.Pairs.{same_key}
 use Rattle.tdb_space.specs.Accepted.{KeysDiffer}
 use Rattle.tdb_space.specs.FirstFault.{has_twin}
 use Rattle.tdb_check.specs.declared.keys.Noted.{Noted}
-use Rattle.tdb_check.specs.Keys.{Keyed, IsKeyed, noted_at, notes_of, key_of_noted, mark_of, mixed, mixed_mark, digested, digest_mark, MarksRise, IsNoted, AllNoted, NotedDiffer, TwinAt, NoTwinBefore}
+use Rattle.tdb_check.specs.Keys.{noted_at, notes_of, key_of_noted, mark_of, mixed, mixed_mark, digested, digest_mark, MarksRise, IsNoted, AllNoted, NotedDiffer, TwinAt, NoTwinBefore}
 use Rattle.tdb_check.proofs.Walked.{keys_at, keys_used, keys_other, differ_more}
 
 -- of a used record something is noted, and of another nothing
@@ -220,9 +218,14 @@ keys_kept f img g same (e ∷ es) = λ i. same e i ∷ keys_kept f img g same es
 pub differ_mixed : (f : Form) (img : List ℕ) (es : List Noted) → NotedDiffer f img (map mixed es) → NotedDiffer f img es
 differ_mixed f img es d = subst (IsDistinct same_key) (keys_kept f img mixed (λ e. refl) es) d
 
+-- marks that change no key change nothing of what is found
+twins_kept : (f : Form) (img : List ℕ) (g : Noted → Noted) → ((e : Noted) → key_of_noted f img (g e) ≡ key_of_noted f img e) → (es : List Noted) (twins : Bool)
+    → MatchBool twins (NotedDiffer f img (map g es) → ⊥) (NotedDiffer f img (map g es)) → MatchBool twins (NotedDiffer f img es → ⊥) (NotedDiffer f img es)
+twins_kept f img g same es true again = λ d. again (subst (IsDistinct same_key) (sym (keys_kept f img g same es)) d)
+twins_kept f img g same es false d = subst (IsDistinct same_key) (keys_kept f img g same es) d
+
 pub twins_digested : (f : Form) (img : List ℕ) (es : List Noted) (twins : Bool) → MatchBool twins (NotedDiffer f img (map (digested f img) es) → ⊥) (NotedDiffer f img (map (digested f img) es)) → MatchBool twins (NotedDiffer f img es → ⊥) (NotedDiffer f img es)
-twins_digested f img es true again = λ d. again (subst (IsDistinct same_key) (sym (keys_kept f img (digested f img) (λ e. refl) es)) d)
-twins_digested f img es false d = subst (IsDistinct same_key) (keys_kept f img (digested f img) (λ e. refl) es) d
+twins_digested f img = twins_kept f img (digested f img) (λ e. refl)
 
 -- records that are noted by other marks
 noted_map : (mark mark2 : List ℕ → ℕ) (f : Form) (img : List ℕ) (g : Noted → Noted) → ((e : Noted) → IsNoted mark f img e → IsNoted mark2 f img (g e)) → (es : List Noted) → AllNoted mark f img es → AllNoted mark2 f img (map g es)
@@ -277,3 +280,15 @@ digest_noted mark f img es copied sorted seen part same value all =
 pub digest_twins : (f : Form) (img : List ℕ) (es copied sorted seen : List Noted) (twins : Bool) → copied ≡ map (digested f img) es → IsPermutation copied sorted → seen ≡ sorted → MatchBool twins (NotedDiffer f img seen → ⊥) (NotedDiffer f img seen) → MatchBool twins (NotedDiffer f img es → ⊥) (NotedDiffer f img es)
 digest_twins f img es copied sorted seen twins part same value found =
     twins_digested f img es twins (twins_sorted f img (map (digested f img) es) seen twins (shuffled copied (map (digested f img) es) sorted seen part same value) found)
+
+-- where the marks are those of the hashes and lengths, what was found in their order
+pub mixed_noted : (f : Form) (img : List ℕ) (es copied sorted seen : List Noted) → copied ≡ map mixed es → IsPermutation copied sorted → seen ≡ sorted → AllNoted (h_of f.hash) f img es → AllNoted (mixed_mark f) f img seen
+mixed_noted f img es copied sorted seen part same value all =
+    All-permutation (IsNoted (mixed_mark f) f img) (map mixed es) seen (shuffled copied (map mixed es) sorted seen part same value) (noted_mixed f img es all)
+
+twins_mixed : (f : Form) (img : List ℕ) (es : List Noted) (twins : Bool) → MatchBool twins (NotedDiffer f img (map mixed es) → ⊥) (NotedDiffer f img (map mixed es)) → MatchBool twins (NotedDiffer f img es → ⊥) (NotedDiffer f img es)
+twins_mixed f img = twins_kept f img mixed (λ e. refl)
+
+pub mixed_twins : (f : Form) (img : List ℕ) (es copied sorted seen : List Noted) (twins : Bool) → copied ≡ map mixed es → IsPermutation copied sorted → seen ≡ sorted → MatchBool twins (NotedDiffer f img seen → ⊥) (NotedDiffer f img seen) → MatchBool twins (NotedDiffer f img es → ⊥) (NotedDiffer f img es)
+mixed_twins f img es copied sorted seen twins part same value found =
+    twins_mixed f img es twins (twins_sorted f img (map mixed es) seen twins (shuffled copied (map mixed es) sorted seen part same value) found)

@@ -17,14 +17,14 @@ use Rattle.tdb_space.specs.Record.{magic_of, key_at}
 use Rattle.tdb_space.specs.Chain.{Member}
 use Rattle.tdb_space.specs.Pairs.{pairs, same_key}
 use Rattle.tdb_space.specs.Accepted.{KeysDiffer}
-use Rattle.tdb_space.specs.FirstFault.{Fault, ListKind, Passed, FirstInList, is_out, is_bad, has_wrong_tailer, is_misfiled, out_of, loop_of, record_fault, has_twin}
+use Rattle.tdb_space.specs.FirstFault.{Fault, ListKind, Passed, FirstInList, is_out, is_bad, has_wrong_tailer, is_misfiled, record_fault, has_twin}
 use Rattle.tdb_space.proofs.Walks.{member_cases}
 use Rattle.tdb_space.proofs.Listed.{pairs-append}
 use Rattle.tdb_space.proofs.Maps.{pairs_used, pairs_other}
 use Rattle.tdb_space.proofs.Cleared.{none_parts, stands_from}
 use Rattle.tdb_check.specs.Seen.{own_fault}
 use Rattle.tdb_check.specs.Walked.{fault_but_twin, Walked}
-use Rattle.tdb_check.proofs.Following.{fault_out, fault_loop, fault_own, fault_none}
+use Rattle.tdb_check.proofs.Following.{fault_none}
 
 -- what holds of a record without such a fault
 pub record Tested (f : Form) (kind : ListKind) (img earlier : List ℕ) (at : ℕ) : Type 0 where

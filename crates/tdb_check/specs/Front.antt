@@ -1,5 +1,5 @@
 -- Why the front of an image is refused.
-use Rattle.std.specs.Prelude.{◌≡◌, ℕ, ◌+◌, ◌*◌, ◌%◌, ◌≤◌, ◌==◌, ◌||◌, not, nat_lt, Bool, List, Some}
+use Rattle.std.specs.Prelude.{◌≡◌, ℕ, ◌+◌, ◌*◌, ◌%◌, ◌==◌, ◌||◌, not, nat_lt, Bool, List, Some}
 use Rattle.tdb_words.specs.declared.what.What.TheVariants.{Short as TooShort, Header as BadHeader}
 use Rattle.tdb_words.specs.Header.{header_fault}
 use Rattle.tdb_space.specs.FirstFault.{front_fault}

@@ -10,7 +10,6 @@ use Rattle.tdb_space.specs.Form.{Form}
 use Rattle.tdb_space.specs.Record.{magic_of, full_hash_of, key_len_of, key_at}
 use Rattle.tdb_space.specs.Pairs.{same_key}
 use Rattle.tdb_space.specs.Accepted.{KeysDiffer}
-use Rattle.tdb_space.specs.Chain.{Member}
 use Rattle.tdb_space.specs.FirstFault.{has_twin}
 use Rattle.tdb_check.specs.declared.keys.Noted.{Noted}
 use Rattle.tdb_check.specs.declared.keys.Keys.{Keys}
@@ -66,6 +65,10 @@ digested f img e = record { mark = digest_mark (key_of_noted f img e); key_len =
 -- the marks of the first so many records rise
 abbrev pub MarksRise : List Noted → ℕ → Type 0
 MarksRise es n = (i : ℕ) (d : Noted) → i + 1 < n → mark_of (slice_index_or es i d) < mark_of (slice_index_or es (i + 1) d)
+
+-- among the first so many records, at most eight that follow each other have one mark
+abbrev pub NoLargeGroup : List Noted → ℕ → Type 0
+NoLargeGroup es n = (i : ℕ) (d : Noted) → i + 8 < n → mark_of (slice_index_or es i d) ≡ mark_of (slice_index_or es (i + 8) d) → ⊥
 
 -- no two noted records have the same key
 abbrev pub NotedDiffer : Form → List ℕ → List Noted → Type 0

@@ -7,7 +7,7 @@ ghost use Rattle.tdb_words.specs.Hash.{h_of};
 ghost use Rattle.tdb_words.specs.Record.{rec_at};
 ghost use Rattle.tdb_space.specs.Form.{Form};
 ghost use Rattle.tdb_check.specs.Seen.{Names};
-ghost use Rattle.tdb_check.specs.Keys.{mark_of, mixed, digested, MarksRise, AllNoted, NotedDiffer, TwinAt, NoTwinBefore};
+ghost use Rattle.tdb_check.specs.Keys.{mark_of, mixed, digested, MarksRise, NoLargeGroup, AllNoted, NotedDiffer, TwinAt, NoTwinBefore};
 ghost use Rattle.tdb_space.specs.Frame.{Looked};
 ghost use Rattle.tdb_check.specs.declared.refusal.CheckRefusal.TheVariants.{Io};
 
@@ -74,8 +74,9 @@ impl Keys {
     }
 
     /// The offset of the first record whose key an earlier one has, if there is one. Keys are read only where two may have one hash
-    /// and one length; then a digest of each is made, and those with one digest are compared. Where no two keys are the same this is
-    /// done once, and else once more for each halving of the number of records. It takes n log n steps for n records.
+    /// and one length: those are compared where at most eight are alike, else a digest of each key is made, and those with one digest
+    /// are compared. Where no two keys are the same this is done once, and else once more for each halving of the number of records.
+    /// It takes n log n steps for n records.
     pub fn first_twin<S: Space>(&mut self, s: &mut S, len: u64) -> Result<Option<u32>, CheckRefusal>
         requires length { len ≡ S.size s.old }
         ensures found { IfOk result (λ twin. IsTrue S.tells → length (S.image s.old) ≡ len → (xs : List ℕ) → KeptIn (S.form s.old) (S.image s.old) xs self.old → TwinFound (S.form s.old) (S.image s.old) xs twin) }
@@ -129,13 +130,34 @@ impl Keys {
         if !has_equal_marks(&self.sorted) {
             return Ok(false);
         }
-        match copy_digests(s, len, &self.noted[..count], &mut self.sorted) {
-            Ok(()) => {}
-            Err(e) => return Err(e),
+        if has_large_group(&self.sorted) {
+            return has_digested_twins(s, len, &self.noted[..count], &mut self.sorted);
         }
-        sort_by_mark(&mut self.sorted);
         any_twins(s, len, &self.sorted)
     }
+}
+
+/// Whether two of these records have the same key, by digests of all keys, for which there is a list.
+fn has_digested_twins<S: Space>(
+    s: &mut S,
+    len: u64,
+    noted: &[Noted],
+    sorted: &mut Vec<Noted>,
+) -> Result<bool, CheckRefusal>
+    requires length { len ≡ S.size s.old }
+    ensures some { IfOk result (λ twins. twins ≡ true → 0 < length noted.now) }
+    ensures twins { IfOk result (λ twins. IsTrue S.tells → length (S.image s.old) ≡ len → AllNoted (h_of (S.form s.old).hash) (S.form s.old) (S.image s.old) noted.now
+        → MatchBool twins (NotedDiffer (S.form s.old) (S.image s.old) noted.now → ⊥) (NotedDiffer (S.form s.old) (S.image s.old) noted.now)) }
+    ensures no_fault { IfErr result (λ e. IsTrue S.tells → length (S.image s.old) ≡ len → AllNoted (h_of (S.form s.old).hash) (S.form s.old) (S.image s.old) noted.now → Names e (λ _. ⊥)) }
+    ensures looked { Looked S.Space s.old s.new }
+    ensures cause { HasCauseOf Io (S.faults s.old) (S.faults s.new) result }
+{
+    match copy_digests(s, len, noted, sorted) {
+        Ok(()) => {}
+        Err(e) => return Err(e),
+    }
+    sort_by_mark(sorted);
+    any_twins(s, len, sorted)
 }
 
 /// Makes a list that of these records, each marked by the hash and the length of its key.
@@ -202,6 +224,18 @@ fn has_equal_marks(sorted: &[Noted]) -> bool
 {
     for i in 1..sorted.len() {
         if sorted[i - 1].mark == sorted[i].mark {
+            return true;
+        }
+    }
+    false
+}
+
+/// Whether more of these records, in the order of their marks, have one mark than are worth comparing with each other.
+fn has_large_group(sorted: &[Noted]) -> bool
+    ensures small { result ≡ false → NoLargeGroup sorted.now (length sorted.now) }
+{
+    for i in 8..sorted.len() {
+        if sorted[i - 8].mark == sorted[i].mark {
             return true;
         }
     }

@@ -1,5 +1,5 @@
 -- The records so far were passed and noted, and their extents put at the end.
-use Rattle.std.proofs.Common.{◌≡◌, ◌≤◌, IsTrue, length}
+use Rattle.std.proofs.Common.{◌≡◌, IsTrue, length}
 use Rattle.tdb_space.specs.Form.{free_head}
 use Rattle.tdb_space.specs.FirstFault.{free_list}
 use Rattle.tdb_check.specs.Trail.{met}

@@ -1,5 +1,5 @@
 -- None of the records so far has the key of one before it.
-use Rattle.std.proofs.Common.{◌≡◌, ◌≤◌, ℕ, List, IsTrue, length}
+use Rattle.std.proofs.Common.{◌≡◌, ℕ, List, IsTrue, length}
 use Rattle.tdb_check.specs.Keys.{AllNoted}
 use Rattle.tdb_space.specs.Frame.{Looked}
 use Rattle.tdb_check.proofs.Notings.{ApartTo}

@@ -1,5 +1,5 @@
 -- The records so far were marked by digests.
-use Rattle.std.proofs.Common.{◌≡◌, ◌≤◌, ℕ, List, IsTrue, length, map, take}
+use Rattle.std.proofs.Common.{◌≡◌, ℕ, List, IsTrue, length, map, take}
 use Rattle.tdb_check.specs.Keys.{AllNoted, digested}
 use Rattle.tdb_space.specs.Frame.{Looked}
 use Rattle.tdb_check.proofs.keys.copy_digests.Given as goal

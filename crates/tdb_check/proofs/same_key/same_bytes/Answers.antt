@@ -1,5 +1,5 @@
 -- A piece that differs, and one more that is the same.
-use Rattle.std.proofs.Common.{◌≡◌, ◌+◌, ◌≤◌, length, take, drop, length-take, sym, ◌∙◌, ap, subst, arith, rules}
+use Rattle.std.proofs.Common.{◌≡◌, ◌+◌, ◌≤◌, length, take, drop, length-take, sym, ◌∙◌, arith, rules}
 use Rattle.std.proofs.lemmas.Bool.{MatchBool-at_true, MatchBool-at_false}
 use Rattle.tdb_check.proofs.Windows.{pieces_same, piece_same}
 use Rattle.tdb_check.proofs.same_key.same_bytes.Goals as goal

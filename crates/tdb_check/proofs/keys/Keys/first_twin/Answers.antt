@@ -1,10 +1,9 @@
 -- No two of all records have one key; or so many have none twice, and one more has.
-use Rattle.std.proofs.Common.{◌≡◌, ◌<◌, ◌≤◌, ◌+◌, suc, List, get_or, length, take, sym, ◌∙◌, ap, subst, arith, rules}
-use Rattle.std.specs.List.{IsDistinct}
+use Rattle.std.proofs.Common.{◌≡◌, ◌<◌, ◌≤◌, suc, List, get_or, length, take, sym, ◌∙◌, ap, subst, arith, rules}
 use Rattle.std.proofs.lemmas.Bool.{MatchBool-at_true, MatchBool-at_false}
 use Rattle.std.proofs.lemmas.List.{take_all, get_or_default}
 use Rattle.tdb_check.specs.declared.keys.Noted.{Noted}
-use Rattle.tdb_check.specs.Keys.{AllNoted, NotedDiffer, notes_of}
+use Rattle.tdb_check.specs.Keys.{NotedDiffer, notes_of}
 use Rattle.tdb_check.proofs.Notings.{differ_from, differ_none, NotedSplit, split_at, twin_from}
 use Rattle.tdb_check.proofs.keys.Keys.first_twin.Goals as goal
 

@@ -4,8 +4,7 @@ use Rattle.tdb_words.specs.declared.record.Rec.{Rec}
 use Rattle.tdb_words.specs.declared.record.TheConstants.{USED}
 use Rattle.tdb_words.specs.Hash.{h_of}
 use Rattle.tdb_space.specs.Record.{magic_of}
-use Rattle.tdb_check.specs.declared.keys.Noted.{Noted}
-use Rattle.tdb_check.specs.Keys.{AllNoted, noted_at, notes_of}
+use Rattle.tdb_check.specs.Keys.{AllNoted, noted_at}
 use Rattle.tdb_check.proofs.Notings.{notes_push_used, notes_push_other, noted_push}
 use Rattle.tdb_check.proofs.keys.Keys.note.Goals as goal
 
