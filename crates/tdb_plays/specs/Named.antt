@@ -1,4 +1,5 @@
--- Plays and lines that name openers by their numbers, which begin at 1; and how the names of the law belong to those of the code.
+-- Plays and lines that name openers by their numbers, which begin at 1; and how the names of the law belong to those of
+-- the code.
 use Rattle.std.specs.Prelude.{◌≡◌, ◌≤◌}
 use Rattle.tdb_locks.specs.declared.turn.Reply.{Reply}
 use Rattle.tdb_locks.specs.declared.turn.Turn.{Turn}

@@ -17,8 +17,8 @@ left_lines left = option_map_or (λ rest. lines_of rest.now) left []
 abbrev pub reach_of : ℕ → Option (Bor (List ℕ)) → ℕ
 reach_of at left = option_map_or (λ rest. at + length rest.now + 1) left at
 
--- The plays are those of the lines before a place, and the others are left. Where the text is too long, these lines end within the
--- longest script.
+-- The plays are those of the lines before a place, and the others are left. Where the text is too long, these lines end
+-- within the longest script.
 pub record Reading (text : List ℕ) (plays : List Play) (at : ℕ) (left : Option (Bor (List ℕ))) : Type 0 where
   pub before : List (List ℕ)
   pub lines : lines_of text ≡ before ++ left_lines left

@@ -76,8 +76,9 @@ EndsWithin text before line = (length text ≤ LONGEST_SCRIPT) ⊎ (width before
 abbrev pub Crosses : List ℕ → List (List ℕ) → List ℕ → Type 0
 Crosses text before line = (LONGEST_SCRIPT < length text) × (LONGEST_SCRIPT ≤ width before + length line)
 
--- Where a text stops being a script: at the first byte of the first line that says nothing of a script, or, where all lines up to
--- there say something, at the length of the longest script. The line in which that length is passed doesn't count.
+-- Where a text stops being a script: at the first byte of the first line that says nothing of a script, or, where all
+-- lines up to there say something, at the length of the longest script. The line in which that length is passed doesn't
+-- count.
 pub record BadAt (text : List ℕ) (place : ℕ) : Type 0 where
   pub before : List (List ℕ)
   pub line : List ℕ
