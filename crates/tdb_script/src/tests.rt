@@ -1,5 +1,5 @@
 // Scripts and their bad places, and the lines of worked reports.
-use crate::{LONGEST_SCRIPT, ScriptRefusal, read_script, text_of_reply, write_line};
+use crate::{ScriptRefusal, read_script, text_of_reply, write_line};
 use std::alloc::{AllocError, Global};
 use std::test::Fail;
 use tdb_disk::{Call, MemSink};
@@ -49,16 +49,6 @@ fn bad_places(rt: HostRuntime) -> Result<(), Fail> {
         let at = ScriptRefusal::Malformed { at: place };
         assert_eq!(rt; count_of(rt.alloc(), text), Err(at));
     }
-    Ok(())
-}
-
-#[test]
-fn long_scripts(rt: HostRuntime) -> Result<(), Fail> {
-    let comment = vec![in rt.alloc(); b'#'; LONGEST_SCRIPT]?;
-    assert_eq!(rt; count_of(rt.alloc(), &comment), Ok(0));
-    let text = vec![in rt.alloc(); b'\n'; LONGEST_SCRIPT + 1]?;
-    let at = ScriptRefusal::Malformed { at: 16_777_216 };
-    assert_eq!(rt; count_of(rt.alloc(), &text), Err(at));
     Ok(())
 }
 
