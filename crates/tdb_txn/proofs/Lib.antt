@@ -12,3 +12,4 @@ pub mod Walked
 pub mod KeptArea
 pub mod PlacedArea
 pub mod ContentLengths
+pub mod Committed

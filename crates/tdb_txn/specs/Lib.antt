@@ -11,3 +11,4 @@ pub mod CommitStates
 pub mod EndBelow
 pub mod Found
 pub mod Filling
+pub mod Committing

@@ -11,6 +11,7 @@ mod comparing;
 mod filling;
 mod found;
 mod gate_word;
+mod keeping;
 mod overlay_on;
 mod page;
 mod pages;

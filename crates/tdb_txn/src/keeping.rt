@@ -1,0 +1,96 @@
+//! A transaction becomes the plan of its commit.
+ghost use Rattle.std.specs.Prelude.{◌≡◌, ◌+◌, ◌%◌, ◌<◌, ◌≤◌, ◌^◌, ◌⊎◌, IsTrue, IfOk, OnOk};
+ghost use Rattle.tdb_disk.specs.Count.{HasCause, RoseBy};
+ghost use Rattle.tdb_disk.specs.History.{seen};
+ghost use Rattle.tdb_disk.specs.Stop.{LeavesOnly, Quiet};
+ghost use Rattle.tdb_space.specs.Undoing.{Reopens};
+ghost use Rattle.tdb_txn.specs.AreaExtent.{CanHold};
+ghost use Rattle.tdb_txn.specs.CommitStates.{planned_plan};
+ghost use Rattle.tdb_txn.specs.EndBelow.{EndBelow};
+ghost use Rattle.tdb_txn.specs.Planned.{IsPlannedOn};
+
+use crate::area_kept::keep_area;
+use crate::area_placed::place_area;
+use crate::planned::Plan;
+use crate::states::Planned;
+use crate::txn::Txn;
+use tdb_disk::Disk;
+use tdb_space::Io;
+use tdb_undo::Runs;
+
+impl Txn {
+    ghost use Rattle.tdb_txn.specs.Committing.{MayKeep, MayPlace};
+    ghost use Rattle.tdb_txn.specs.Txn.{txn_start, txn_size, txn_image};
+
+    /// Plans its commit into the undo area that the file has in an extent, with room for the content of these runs, and makes the
+    /// file as long as the transaction has it. A stop leaves a file that opens to the map before the commit.
+    pub(crate) fn keep<D: Disk>(
+        self,
+        d: &mut D,
+        area: (u32, u32),
+        runs: Runs,
+    ) -> Result<Planned, Io>
+        requires sized { D.size d.old ≡ txn_start self }
+        requires heads { 48 ≤ txn_start self }
+        requires short { txn_size self < 2 ^ 32 }
+        requires place { CanHold (txn_start self) area }
+        requires ends { EndBelow (txn_start self) runs }
+        ensures stops { IsTrue D.tells → let r = seen (D.history d.old) in Quiet (D.history d.old) → MayKeep self r area runs
+            → LeavesOnly (D.history d.old) (D.history d.new) (Reopens r) }
+        ensures planned { IfOk result (λ next. IsTrue D.tells → let r = seen (D.history d.old) in Quiet (D.history d.old) → MayKeep self r area runs
+            → IsPlannedOn (planned_plan next) (D.history d.new) r (txn_image self r)) }
+        ensures size { IfOk result (λ next. D.size d.new ≡ (planned_plan next).file_length) }
+        ensures cause { HasCause (D.faults d.old) (D.faults d.new) result }
+        ensures syncs { D.syncs d.new ≡ D.syncs d.old }
+    {
+        let plan = Plan {
+            header: self.header,
+            area: area.0,
+            area_length: area.1,
+            old_length: self.start as u32,
+            new_length: self.size as u32,
+            file_length: self.size as u32,
+            runs,
+            pages: self.pages,
+        };
+        Ok(keep_area(d, plan)?)
+    }
+
+    /// Plans its commit into a first undo area of `length` bytes, with its header, behind what the transaction has of the file,
+    /// and places that area. A stop leaves a file that opens to the map before the commit. It takes three syncs where the file
+    /// has no undo area.
+    pub(crate) fn place_first<D: Disk>(
+        self,
+        d: &mut D,
+        length: u32,
+        runs: Runs,
+    ) -> Result<Planned, Io>
+        requires sized { D.size d.old ≡ txn_start self }
+        requires heads { 48 ≤ txn_start self }
+        requires words { txn_size self % 4 ≡ 0 }
+        requires area_words { length % 4 ≡ 0 }
+        requires area_header { 24 ≤ length }
+        requires short { txn_size self + length < 2 ^ 32 }
+        requires ends { EndBelow (txn_start self) runs }
+        ensures stops { IsTrue D.tells → let r = seen (D.history d.old) in Quiet (D.history d.old) → MayPlace self r length runs
+            → LeavesOnly (D.history d.old) (D.history d.new) (Reopens r) }
+        ensures planned { IfOk result (λ next. IsTrue D.tells → let r = seen (D.history d.old) in Quiet (D.history d.old) → MayPlace self r length runs
+            → IsPlannedOn (planned_plan next) (D.history d.new) r (txn_image self r)) }
+        ensures size { IfOk result (λ next. D.size d.new ≡ (planned_plan next).file_length) }
+        ensures cause { HasCause (D.faults d.old) (D.faults d.new) result }
+        ensures syncs { OnOk result (RoseBy 3 (D.syncs d.old) (D.syncs d.new) ⊎ RoseBy 5 (D.syncs d.old) (D.syncs d.new)) }
+    {
+        let area = self.size as u32;
+        let plan = Plan {
+            header: self.header,
+            area,
+            area_length: length,
+            old_length: self.start as u32,
+            new_length: area,
+            file_length: area + length,
+            runs,
+            pages: self.pages,
+        };
+        Ok(place_area(d, plan)?)
+    }
+}
