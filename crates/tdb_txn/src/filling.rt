@@ -14,8 +14,8 @@ impl Planned {
     ghost use Rattle.tdb_txn.specs.Filling.{IsFilledFrom};
     ghost use Rattle.tdb_txn.specs.CommitStates.{planned_plan, filled_plan, plan_length};
 
-    /// Keeps what the file has in the runs, in its undo area, and syncs. A stop leaves a file that opens to the map before
-    /// the plan. It takes time linear in the content, and no memory.
+    /// Keeps what the file has in the runs, in its undo area, and syncs. A stop leaves a file that opens to the map
+    /// before the plan. It takes time linear in the content, and no memory.
     pub fn fill<D: Disk>(self, d: &mut D) -> Result<Filled, Io>
         requires { D.size d.old ≡ plan_length (planned_plan self) }
         ensures stops { IsTrue D.tells → (r b : List ℕ) → IsPlannedOn (planned_plan self) (D.history d.old) r b → LeavesOnly (D.history d.old) (D.history d.new) (Reopens r) }

@@ -7,6 +7,8 @@ mod area_kept;
 mod area_placed;
 mod area_room;
 mod changes;
+#[cfg(test)]
+mod commit_tests;
 mod comparing;
 mod filling;
 mod found;
