@@ -6,8 +6,8 @@ use Rattle.tdb_disk.specs.Stop.{LeavesOnly, Quiet}
 use Rattle.tdb_disk.proofs.Runs.{leaves_weaker}
 use Rattle.tdb_words.specs.Word.{word}
 use Rattle.tdb_words.proofs.Words.{word_agrees}
-use Rattle.tdb_space.specs.Form.{Form, form_of, form_in, data_start}
-use Rattle.tdb_space.specs.Record.{rec_len_of, key_len_of, data_len_of}
+use Rattle.tdb_space.specs.Form.{form_of, form_in, data_start}
+use Rattle.tdb_space.specs.Record.{rec_len_of}
 use Rattle.tdb_space.specs.Extents.{once, times}
 use Rattle.tdb_space.specs.Accepted.{Accept, AcceptWith, Shut}
 use Rattle.tdb_space.specs.Exchange.{Agree}

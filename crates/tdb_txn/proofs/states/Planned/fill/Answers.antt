@@ -1,8 +1,6 @@
 -- The undo area is filled, or the disk failed.
-use Rattle.std.proofs.Common.{◌≡◌, sym, subst, ◌∙◌, length}
+use Rattle.std.proofs.Common.{subst}
 use Rattle.tdb_disk.specs.History.{seen}
-use Rattle.tdb_space.specs.Form.{form_in}
-use Rattle.tdb_space.specs.Undoing.{area_at}
 use Rattle.tdb_undo.specs.Area.{area_of}
 use Rattle.tdb_undo.specs.Content.{RunsFit}
 use Rattle.tdb_txn.specs.Commit.{scheme_of}
