@@ -8,7 +8,7 @@ use Rattle.tdb_walk.specs.declared.live.Live.{Live}
 use Rattle.tdb_walk.specs.NextLive.{first_live, left_in, NoneLive, IsNextLive, live_at}
 
 -- nothing isn't something
-none_some : {T : Type 0} {x : T} → None ≡ Some x → ⊥
+pub none_some : {T : Type 0} {x : T} → None ≡ Some x → ⊥
 none_some e = cc
 
 -- where none was found, there is no cell

@@ -7,3 +7,4 @@ pub mod Locked
 pub mod Ways
 pub mod Placed
 pub mod Purged
+pub mod Going

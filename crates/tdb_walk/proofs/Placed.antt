@@ -10,7 +10,8 @@ use Rattle.tdb_space.specs.Extents.{HandPair}
 use Rattle.tdb_space.specs.Accepted.{AcceptWith}
 use Rattle.tdb_space.proofs.Walks.{linked_short, member_cases}
 
--- so many records of a chain were passed, the one at this offset is further on, and the word at `before` leads to the rest
+-- so many records of a chain were passed, the one at this offset is further on, and the word at `before` leads to the
+-- rest
 pub record Comes (f : Form) (img : List ℕ) (chain off passed before at : ℕ) : Type 0 where
   pub rest : List ℕ
   pub linked : Chain f img at rest

@@ -3,3 +3,4 @@ pub mod NextLive
 pub mod Looks
 pub mod Way
 pub mod Purging
+pub mod Laws

@@ -15,8 +15,8 @@ use Rattle.tdb_walk.specs.declared.standing.Standing.TheVariants.{Before, On, Pa
 abbrev pub first_live : List Cell → Option Cell
 first_live cs = find (λ c. c.live) cs
 
--- What a walk that has come to a place still has before it of a chain: all of a chain that it hasn't entered, of that in which it stands
--- the records behind its own, and nothing of those that it has left.
+-- What a walk that has come to a place still has before it of a chain: all of a chain that it hasn't entered, of that
+-- in which it stands the records behind its own, and nothing of those that it has left.
 abbrev pub left_in : Chains → Place → ℕ → List Cell
 left_in cs off_chains j = []
 left_in cs (before_chain i) j = if nat_lt j i then [] else cs j
@@ -53,7 +53,8 @@ abbrev pub StandsIn : Form → List ℕ → Standing → Type 0
 StandsIn f img (On chain off) = (chain < f.chains) × Member off (chain_of f img chain)
 StandsIn f img place = Unit {0}
 
--- a live record can stand in a file of this length, and has room there for its key and its value; its chain is one of the file's
+-- a live record can stand in a file of this length, and has room there for its key and its value; its chain is one of
+-- the file's
 pub record IsWithin (f : Form) (size : ℕ) (live : Live) : Type 0 where
   pub below : live.chain < f.chains
   pub aligned : live.off % 4 ≡ 0

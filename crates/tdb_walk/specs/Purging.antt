@@ -28,8 +28,8 @@ abbrev pub FindsPlace : Form → List ℕ → ℕ → ℕ → Option Place → T
 FindsPlace f img chain off None = ⊥
 FindsPlace f img chain off (Some p) = IsPlaceIn f img chain off p
 
--- From image a to image b the dead record of a chain at an offset went to the free list, as a give of it makes that: it is in no
--- chain, the map stays, no other chain changes, and b is accepted with the same hands.
+-- From image a to image b the dead record of a chain at an offset went to the free list, as a give of it makes that: it
+-- is in no chain, the map stays, no other chain changes, and b is accepted with the same hands.
 pub record IsPurged (f : Form) (a b : List ℕ) (chain off : ℕ) (hands : List HandPair) : Type 0 where
   pub accepted : AcceptWith f b hands
   pub map : (key : List ℕ) → map_of f b key ≡ map_of f a key

@@ -47,7 +47,8 @@ SameOthers owner old new = (other byte : ℕ) → other ≢ owner → held new o
 abbrev pub SameLocks : List Piece → List Piece → Type 0
 SameLocks old new = (owner byte : ℕ) → held new owner byte ≡ held old owner byte
 
--- the opener holds nothing at the bytes of the chains from one number up to another which its explicit locks don't let it read
+-- the opener holds nothing at the bytes of the chains from one number up to another which its explicit locks don't let
+-- it read
 abbrev pub HoldsNone : List Piece → ℕ → HeldLocks → ℕ → ℕ → Type 0
 HoldsNone ps owner own from to = (j : ℕ) → from ≤ j → j < to → reads_chain own j ≡ false → held ps owner (lock_byte j) ≡ None
 
@@ -65,8 +66,8 @@ next_chain f (Before i) = i
 next_chain f (On i off) = i + 1
 next_chain f Past = f.chains
 
--- A move is blocked before a chain with records that can't be read: no chain before it has a live record left, and each of them that
--- the move enters can be read.
+-- A move is blocked before a chain with records that can't be read: no chain before it has a live record left, and each
+-- of them that the move enters can be read.
 pub record IsBlocked (f : Form) (img : List ℕ) (ps : List Piece) (owner : ℕ) (own : HeldLocks) (place : Place) (from chain other byte : ℕ) : Type 0 where
   pub above : from ≤ chain
   pub below : chain < f.chains
@@ -75,8 +76,9 @@ pub record IsBlocked (f : Form) (img : List ℕ) (ps : List Piece) (owner : ℕ)
   pub filled : IsFilled f img chain
   pub off : IsHeldOff ps owner own chain other byte
 
--- A move from a place on, which enters chains from this number on, comes to the next live record where each chain with records up to
--- that one can be read, and to the end where no live record is left and each can be read. Else it is blocked.
+-- A move from a place on, which enters chains from this number on, comes to the next live record where each chain with
+-- records up to that one can be read, and to the end where no live record is left and each can be read. Else it is
+-- blocked.
 abbrev pub IsWay : Form → List ℕ → List Piece → ℕ → HeldLocks → Place → ℕ → Way → Type 0
 IsWay f img ps owner own place from (Met live) = IsNext f img place (Some live) × CanReadTo f img ps owner own from (live.chain + 1)
 IsWay f img ps owner own place from End = IsNext f img place None × CanReadTo f img ps owner own from f.chains

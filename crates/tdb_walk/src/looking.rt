@@ -39,7 +39,8 @@ pub(crate) fn may_read(own: &Held, chain: u32) -> bool
     own.chain_count(chain) > 0 || own.all().is_some()
 }
 
-/// Looks along a chain from its first record, and holds the chain for reading meanwhile, unless the opener's explicit locks let it.
+/// Looks along a chain from its first record, and holds the chain for reading meanwhile, unless the opener's explicit
+/// locks let it.
 pub(crate) fn look_along<S: Space>(
     s: &mut S,
     len: u64,

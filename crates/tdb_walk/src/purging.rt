@@ -17,8 +17,8 @@ use tdb_free::give;
 use tdb_space::{Io as SpaceIo, Space, chain_head, data_start, read_listed, read_word};
 use tdb_words::USED;
 
-/// The place of the dead record of a chain at an offset. Where there is none, or the file's bytes aren't those of an accepted file, it
-/// answers a place that can be used in a file of this length, or none.
+/// The place of the dead record of a chain at an offset. Where there is none, or the file's bytes aren't those of an
+/// accepted file, it answers a place that can be used in a file of this length, or none.
 fn dead_place<S: Space>(s: &mut S, len: u64, chain: u32, off: u32) -> Result<Option<Place>, SpaceIo>
     requires length { len ≡ S.size s.old }
     requires heads { data_start (S.form s.old) ≤ len }
@@ -55,9 +55,9 @@ fn dead_place<S: Space>(s: &mut S, len: u64, chain: u32, off: u32) -> Result<Opt
 
 /// Takes the dead record of a chain at an offset out of the chain, and gives it to the free list.
 ///
-/// It goes along the chain up to the record, and along the free list. Room for all writes is made first: with `Memory` nothing was
-/// written. `Io` where the disk failed: then the record may be in its chain, in no list, or in the free list. Where no dead record of
-/// the chain stands there, nothing is written.
+/// It goes along the chain up to the record, and along the free list. Room for all writes is made first: with `Memory`
+/// nothing was written. `Io` where the disk failed: then the record may be in its chain, in no list, or in the free
+/// list. Where no dead record of the chain stands there, nothing is written.
 pub fn purge_dead<S: Space>(s: &mut S, chain: u32, off: u32) -> Result<(), WalkRefusal>
     ensures purged { OnOk result (IsTrue S.tells → S.size s.old < 2 ^ 32 → (hands : List HandPair) → AcceptWith (S.form s.old) (S.image s.old) hands
         → chain < (S.form s.old).chains → IsDeadIn (S.form s.old) (S.image s.old) chain off → IsPurged (S.form s.old) (S.image s.old) (S.image s.new) chain off hands) }

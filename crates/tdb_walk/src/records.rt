@@ -13,10 +13,12 @@ use crate::live::Live;
 use tdb_space::{Io, Space, read_listed};
 use tdb_words::USED;
 
-/// The first live record of a chain from a record on, whose offset is given. It reads 24 bytes of each record up to that one.
+/// The first live record of a chain from a record on, whose offset is given. It reads 24 bytes of each record up to
+/// that one.
 ///
-/// Where the file's bytes aren't those of an accepted file, a word that leads to no place where a record can stand ends the chain as
-/// a 0 does, and so do a used record without room for what it holds, and as many records as the file has words.
+/// Where the file's bytes aren't those of an accepted file, a word that leads to no place where a record can stand ends
+/// the chain as a 0 does, and so do a used record without room for what it holds, and as many records as the file has
+/// words.
 pub(crate) fn live_from<S: Space>(
     s: &mut S,
     len: u64,

@@ -1,5 +1,6 @@
 // Why a cursor doesn't go on.
 
+use std::alloc::AllocError;
 use tdb_space::Io as SpaceIo;
 use thiserror::Error;
 
@@ -24,5 +25,17 @@ impl From<SpaceIo> for WalkRefusal {
 
     fn from(_fault: SpaceIo) -> Self {
         WalkRefusal::Io
+    }
+}
+
+impl From<AllocError> for WalkRefusal {
+    ghost use Rattle.std.specs.Prelude.{◌≡◌};
+    ghost use Rattle.tdb_walk.specs.declared.refusal.WalkRefusal.{WalkRefusal};
+    ghost use Rattle.tdb_walk.specs.declared.refusal.WalkRefusal.TheVariants.{Memory};
+
+    ghost from_gives = { λ _ e. e ≡ Memory };
+
+    fn from(_fault: AllocError) -> Self {
+        WalkRefusal::Memory
     }
 }

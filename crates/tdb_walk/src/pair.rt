@@ -1,0 +1,47 @@
+// The key and the value of a live record.
+
+ghost use Rattle.std.specs.Prelude.{◌≡◌, ◌+◌, ◌≤◌, IsTrue, IfOk, length, take, drop};
+ghost use Rattle.tdb_disk.specs.Count.{HasCauseOf, RoseUpTo};
+ghost use Rattle.tdb_words.specs.Record.{rec_at};
+ghost use Rattle.tdb_space.specs.Frame.{Looked};
+ghost use Rattle.tdb_space.specs.Record.{key_at, data_at};
+ghost use Rattle.tdb_locks.specs.declared.turn.Reply.TheVariants.{Pair};
+ghost use Rattle.tdb_walk.specs.NextLive.{IsWithin};
+ghost use Rattle.tdb_walk.specs.declared.refusal.WalkRefusal.TheVariants.{Io};
+
+use crate::live::Live;
+use crate::refusal::WalkRefusal;
+use std::alloc::Global;
+use tdb_locks::Reply;
+use tdb_space::Space;
+use tdb_words::Bytes;
+
+/// So many bytes of a file from an offset on, read at once into memory of their length.
+fn bytes_at<S: Space>(alloc: Global, s: &mut S, off: u64, count: u32) -> Result<Bytes, WalkRefusal>
+    requires within { off + count ≤ S.size s.old }
+    ensures bytes { IfOk result (λ bytes. IsTrue S.tells → bytes ≡ take count (drop off (S.image s.old))) }
+    ensures as_long { IfOk result (λ bytes. length bytes ≡ count) }
+    ensures looked { Looked S.Space s.old s.new }
+    ensures cause { HasCauseOf Io (S.faults s.old) (S.faults s.new) result }
+    ensures bytes_read { RoseUpTo count (S.bytes_read s.old) (S.bytes_read s.new) }
+{
+    let mut bytes = vec![in alloc; 0u8; count as usize]?;
+    s.read(off, bytes.as_mut_slice())?;
+    Ok(Bytes::from(bytes))
+}
+
+/// The reply to a move that has come to a live record: its key and its value, each read at once. `Memory` where that is
+/// wanting, and `Io` where the disk failed.
+pub fn pair_at<S: Space>(alloc: Global, s: &mut S, live: &Live) -> Result<Reply, WalkRefusal>
+    requires within { IsWithin (S.form s.old) (S.size s.old) live.now }
+    ensures pair { IfOk result (λ reply. IsTrue S.tells → live.now.rec ≡ rec_at (S.form s.old).order (S.image s.old) live.now.off
+        → reply ≡ Pair (key_at (S.form s.old).order (S.image s.old) live.now.off) (data_at (S.form s.old).order (S.image s.old) live.now.off)) }
+    ensures looked { Looked S.Space s.old s.new }
+    ensures cause { HasCauseOf Io (S.faults s.old) (S.faults s.new) result }
+    ensures bytes_read { RoseUpTo (live.now.rec.key_len + live.now.rec.data_len) (S.bytes_read s.old) (S.bytes_read s.new) }
+{
+    let off = live.off as u64 + 24;
+    let key = bytes_at(alloc, s, off, live.rec.key_len)?;
+    let value = bytes_at(alloc, s, off + live.rec.key_len as u64, live.rec.data_len)?;
+    Ok(Reply::Pair(key, value))
+}
