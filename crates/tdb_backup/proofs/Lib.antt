@@ -2,3 +2,4 @@ mod Walk
 mod Bytes
 mod Dumped
 mod Inserting
+mod Building

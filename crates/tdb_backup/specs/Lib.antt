@@ -2,3 +2,4 @@ pub mod Held
 pub mod Traversal
 pub mod Dump
 pub mod Filling
+pub mod Building

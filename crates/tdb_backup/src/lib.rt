@@ -1,13 +1,15 @@
 //! What `dump`, `restore` and `backup` do with files: all pairs are read one after the other, and new ones are added.
 #![tactic(auto)]
 
+mod copying;
 mod dumping;
 mod filling;
 mod held;
 mod refusal;
 mod traversal;
 
+pub use crate::copying::copy_pairs;
 pub use crate::dumping::write_pairs;
 pub use crate::filling::insert_new;
-pub use crate::refusal::{DumpRefusal, InsertRefusal};
+pub use crate::refusal::{CopyRefusal, DumpRefusal, InsertRefusal};
 pub use crate::traversal::Traversal;

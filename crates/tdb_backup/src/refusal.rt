@@ -3,6 +3,7 @@
 ghost use Rattle.std.specs.Prelude.{◌≡◌};
 ghost use Rattle.tdb_backup.specs.declared.refusal.DumpRefusal.TheVariants.{Failed, Memory};
 ghost use Rattle.tdb_backup.specs.declared.refusal.InsertRefusal.TheVariants.{Io as InsertIo, Memory as InsertMemory};
+ghost use Rattle.tdb_backup.specs.Building.{of_read, of_insert};
 ghost use Rattle.tdb_backup.specs.Dump.{of_value};
 ghost use Rattle.tdb_backup.specs.Filling.{of_free};
 
@@ -102,5 +103,54 @@ impl From<AllocError> for InsertRefusal {
 
     fn from(_fault: AllocError) -> Self {
         InsertRefusal::Memory
+    }
+}
+
+/// Why not all pairs of a file are copied to another one.
+#[derive(Clone, Copy, Debug, PartialEq, Eq, Error)]
+pub enum CopyRefusal {
+    /// The disk of the file that is read failed.
+    #[error("the disk that is read failed")]
+    Read,
+
+    /// The disk of the file that is written failed.
+    #[error("the disk that is written failed")]
+    Write,
+
+    /// The file that is written has no room for a pair. Lengths are in bytes.
+    #[error("a file of {len} bytes has no room for {need} more")]
+    Full {
+        /// The length of the file.
+        len: u64,
+
+        /// How many bytes the pair's record needs, with its header.
+        need: u64,
+    },
+
+    /// Memory is wanting.
+    #[error("no memory")]
+    Memory,
+}
+
+impl From<ValueRefusal> for CopyRefusal {
+    ghost from_gives = { λ refusal e. e ≡ of_read refusal };
+
+    fn from(refusal: ValueRefusal) -> Self {
+        match refusal {
+            ValueRefusal::Io => CopyRefusal::Read,
+            ValueRefusal::Memory => CopyRefusal::Memory,
+        }
+    }
+}
+
+impl From<InsertRefusal> for CopyRefusal {
+    ghost from_gives = { λ refusal e. e ≡ of_insert refusal };
+
+    fn from(refusal: InsertRefusal) -> Self {
+        match refusal {
+            InsertRefusal::Full { len, need } => CopyRefusal::Full { len, need },
+            InsertRefusal::Io => CopyRefusal::Write,
+            InsertRefusal::Memory => CopyRefusal::Memory,
+        }
     }
 }

@@ -1,0 +1,58 @@
+-- Each pair that the walk gives is added; what is refused leaves those before it.
+use Rattle.std.proofs.Common.{◌+◌, [], refl, rules, length}
+use Rattle.std.proofs.lemmas.Result.{err_from_is_err_and}
+use Rattle.tdb_space.specs.NewRecord.{rec_len_for}
+use Rattle.tdb_backup.proofs.Inserting.{stays_short}
+use Rattle.tdb_backup.proofs.Building.{built_more, built_all, built_refused, built_unread}
+use Rattle.tdb_backup.proofs.copying.copy_pairs.Goals as goal
+
+pub loop-traversal-init : goal.loop-traversal-init
+loop-traversal-init g c = record {
+  built = λ told heard small hands A holds. ([], c.new-traversal.ensures (g.S.Space.form c.args.from.now) (g.S.Space.image c.args.from.now), holds);
+  short = λ small. small;
+  looked = search rules;
+  wrote = search rules;
+  read_faults = refl;
+  write_faults = refl;
+}
+
+pub loop-traversal-preserved : goal.loop-traversal-preserved
+loop-traversal-preserved g c = record {
+  built = λ told heard small hands A holds.
+      (let looked = c.loop-traversal.invariant.looked in
+      built_more (g.S.Space.form c.args.from.now) (g.S.Space.form c.loop-traversal.from) (g.S.Space.image c.args.from.now) (g.S.Space.image c.loop-traversal.from) hands
+      (g.T.Space.form c.args.to.now) (g.T.Space.form c.loop-traversal.to) (g.T.Space.image c.loop-traversal.to) (g.T.Space.image c.insert_new.new.s) c.loop-traversal.traversal c.advance.new.self c.in_ok-advance.field-0
+      looked.form looked.image c.loop-traversal.invariant.wrote.form A (c.loop-traversal.invariant.built told heard small hands A holds) (c.in_ok-advance.ensures.gave told)
+      c.if-branch.true c.key.result.now c.value.result.now c.key.ensures c.value.ensures (c.in_ok-insert_new.ensures.added heard (c.loop-traversal.invariant.short small)));
+  short = λ small.
+      stays_short (g.T.Space.size c.loop-traversal.to) (g.T.Space.size c.loop-traversal.to) (24 + rec_len_for (length c.key.result.now) (length c.value.result.now)) c.args.limit (g.T.Space.size c.insert_new.new.s) (c.loop-traversal.invariant.short small) c.requires.limit c.insert_new.ensures.size;
+  looked = search rules;
+  wrote = search rules;
+  read_faults = search rules;
+  write_faults = search rules;
+}
+
+pub returns-in_err-advance-clause-refused : goal.returns-in_err-advance-clause-refused
+returns-in_err-advance-clause-refused g c =
+    let p = err_from_is_err_and c.from_residual.result c.from_residual.ensures.1 in
+    rw (p.1, p.2)
+    (λ told heard small hands A holds.
+    built_unread (g.S.Space.form c.args.from.now) (g.T.Space.form c.args.to.now) (g.S.Space.image c.args.from.now) (g.T.Space.image c.loop-traversal.to) c.loop-traversal.traversal (c.loop-traversal.invariant.built told heard small hands A holds) c.args.limit c.in_err-advance.field-0.0)
+
+pub returns-in_err-insert_new-clause-refused : goal.returns-in_err-insert_new-clause-refused
+returns-in_err-insert_new-clause-refused g c =
+    let p = err_from_is_err_and c.from_residual-in_err-insert_new.result c.from_residual-in_err-insert_new.ensures.1 in
+    let looked = c.loop-traversal.invariant.looked in
+    rw (p.1, p.2)
+    (λ told heard small hands A holds.
+    built_refused (g.S.Space.form c.args.from.now) (g.S.Space.form c.loop-traversal.from) (g.S.Space.image c.args.from.now) (g.S.Space.image c.loop-traversal.from) hands
+    (g.T.Space.form c.args.to.now) (g.T.Space.form c.loop-traversal.to) (g.T.Space.image c.loop-traversal.to) (g.T.Space.image c.insert_new.new.s) c.loop-traversal.traversal c.advance.new.self c.in_ok-advance.field-0
+    looked.form looked.image c.loop-traversal.invariant.wrote.form A (c.loop-traversal.invariant.built told heard small hands A holds) (c.in_ok-advance.ensures.gave told)
+    c.if-branch.true c.key.result.now c.value.result.now c.key.ensures c.value.ensures c.args.limit c.in_err-insert_new.field-0.0 (c.in_err-insert_new.ensures.refused heard (c.loop-traversal.invariant.short small)))
+
+pub returns-clause-copied : goal.returns-clause-copied
+returns-clause-copied g c told heard small hands A holds =
+    let looked = c.loop-traversal.invariant.looked in
+    built_all (g.S.Space.form c.args.from.now) (g.S.Space.form c.loop-traversal.from) (g.S.Space.image c.args.from.now) (g.S.Space.image c.loop-traversal.from) hands
+    (g.T.Space.form c.args.to.now) (g.T.Space.form c.loop-traversal.to) (g.T.Space.image c.loop-traversal.to) (g.T.Space.image c.loop-traversal.to) c.loop-traversal.traversal c.advance.new.self c.in_ok-advance.field-0
+    looked.form looked.image c.loop-traversal.invariant.wrote.form A (c.loop-traversal.invariant.built told heard small hands A holds) (c.in_ok-advance.ensures.gave told) c.if-branch.false

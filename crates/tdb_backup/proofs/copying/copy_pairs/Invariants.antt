@@ -1,0 +1,23 @@
+-- The new file holds the pairs that the walk has given.
+use Rattle.std.proofs.Common.{◌≡◌, ◌<◌, ◌^◌, [], ℕ, List, IsTrue}
+use Rattle.tdb_space.specs.Frame.{Looked, Wrote}
+use Rattle.tdb_space.specs.Extents.{HandPair}
+use Rattle.tdb_space.specs.Accepted.{AcceptWith}
+use Rattle.tdb_backup.specs.Traversal.{Gave, most_left}
+use Rattle.tdb_backup.specs.Building.{HoldsPairs}
+use Rattle.tdb_backup.proofs.copying.copy_pairs.Given as goal
+
+abbrev pub invariant-loop-traversal : goal.invariant-loop-traversal
+invariant-loop-traversal g l = record {
+  built : IsTrue g.S.Space.tells → IsTrue g.T.Space.tells → g.T.Space.size l.fn.to < 2 ^ 32 → (hands : List HandPair) → AcceptWith (g.S.Space.form l.fn.from) (g.S.Space.image l.fn.from) hands
+      → HoldsPairs (g.T.Space.form l.fn.to) (g.T.Space.image l.fn.to) []
+      → (given : List (List ℕ × List ℕ)) × Gave (g.S.Space.form l.fn.from) (g.S.Space.image l.fn.from) given l.traversal × HoldsPairs (g.T.Space.form l.fn.to) (g.T.Space.image l.to) given;
+  short : g.T.Space.size l.fn.to < 2 ^ 32 → g.T.Space.size l.to < 2 ^ 32;
+  looked : Looked g.S.Space l.fn.from l.from;
+  wrote : Wrote g.T.Space l.fn.to l.to;
+  read_faults : g.S.Space.faults l.from ≡ g.S.Space.faults l.fn.from;
+  write_faults : g.T.Space.faults l.to ≡ g.T.Space.faults l.fn.to;
+}
+
+abbrev pub decreases-loop-traversal : goal.decreases-loop-traversal
+decreases-loop-traversal g l = most_left (g.S.Space.form l.fn.from).chains (g.S.Space.size l.fn.from) l.traversal

@@ -1,0 +1,47 @@
+// All pairs of a file are added to another one.
+
+ghost use Rattle.std.specs.Prelude.{◌≡◌, ◌^◌, ◌<◌, ◌≤◌, [], List, IsTrue, IfErr, OnOk};
+ghost use Rattle.tdb_disk.specs.Count.{HasCauseOf};
+ghost use Rattle.tdb_space.specs.Frame.{Looked, Wrote};
+ghost use Rattle.tdb_space.specs.Pairs.{order_of};
+ghost use Rattle.tdb_space.specs.Extents.{HandPair};
+ghost use Rattle.tdb_space.specs.Accepted.{AcceptWith};
+ghost use Rattle.tdb_backup.specs.Building.{HoldsPairs, CopyCause};
+ghost use Rattle.tdb_backup.specs.declared.refusal.CopyRefusal.TheVariants.{Read, Write};
+
+use crate::filling::insert_new;
+use crate::refusal::CopyRefusal;
+use crate::traversal::Traversal;
+use std::alloc::Global;
+use tdb_space::Space;
+
+/// Adds all pairs of a file to a file without pairs, which may be up to `limit` bytes long and then has the same map.
+/// The order of the hash chains may be another.
+///
+/// It holds one pair, and looks no key up: time is linear in the length of the file. After a refusal the new file holds
+/// the pairs up to the one that was refused, unless it was the new file's disk that failed.
+pub fn copy_pairs<S: Space, T: Space>(
+    alloc: Global,
+    from: &mut S,
+    to: &mut T,
+    limit: u64,
+) -> Result<(), CopyRefusal>
+    requires chains { 0 < (T.form to.old).chains }
+    requires limit { limit ≤ 4294963200 }
+    ensures copied { OnOk result (IsTrue S.tells → IsTrue T.tells → T.size to.old < 2 ^ 32
+        → (hands : List HandPair) → AcceptWith (S.form from.old) (S.image from.old) hands → HoldsPairs (T.form to.old) (T.image to.old) []
+        → HoldsPairs (T.form to.old) (T.image to.new) (order_of (S.form from.old) (S.image from.old))) }
+    ensures refused { IfErr result (λ e. IsTrue S.tells → IsTrue T.tells → T.size to.old < 2 ^ 32
+        → (hands : List HandPair) → AcceptWith (S.form from.old) (S.image from.old) hands → HoldsPairs (T.form to.old) (T.image to.old) []
+        → CopyCause (T.form to.old) (T.image to.new) (order_of (S.form from.old) (S.image from.old)) limit e) }
+    ensures looked { Looked S.Space from.old from.new }
+    ensures wrote { Wrote T.Space to.old to.new }
+    ensures read_cause { HasCauseOf Read (S.faults from.old) (S.faults from.new) result }
+    ensures write_cause { HasCauseOf Write (T.faults to.old) (T.faults to.new) result }
+{
+    let mut traversal = Traversal::new(alloc);
+    while traversal.advance(from)? {
+        insert_new(to, traversal.key(), traversal.value(), limit)?;
+    }
+    Ok(())
+}
