@@ -6,6 +6,8 @@ mod dumping;
 mod filling;
 mod held;
 mod refusal;
+#[cfg(test)]
+mod tests;
 mod traversal;
 
 pub use crate::copying::copy_pairs;
