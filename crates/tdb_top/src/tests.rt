@@ -428,13 +428,13 @@ fn failing_and_full_inserts(rt: HostRuntime) -> Result<(), Fail> {
         assert_eq!(rt; left.len(), len, "{call:?}");
     }
     for (limit, ends) in [
-        (727, Reply::Full { len: 696, need: 32 }),
+        (727_u16, Reply::Full { len: 696, need: 32 }),
         (728, Reply::Done),
     ] {
         let mut disk = MemDisk::new(alloc, front_of(&image, 696))?;
         let opened = Opened::open(alloc, &mut disk)?;
         assert_eq!(rt;
-            insert_below(alloc, &mut disk, &opened, b"a", b"1", limit)?,
+            insert_below(alloc, &mut disk, &opened, b"a", b"1", u64::from(limit))?,
             ends
         );
     }
