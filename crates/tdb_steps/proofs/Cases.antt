@@ -4,9 +4,7 @@ use Rattle.tdb_space.specs.Extents.{HandPair}
 use Rattle.tdb_chain.specs.declared.place.Place.{Place}
 use Rattle.tdb_locks.specs.declared.turn.Reply.{Reply}
 use Rattle.tdb_steps.specs.declared.stage.Stage.{Stage}
-use Rattle.tdb_steps.specs.declared.stage.Stage.TheVariants as Stage
 use Rattle.tdb_steps.specs.declared.stage.Next.{Next}
-use Rattle.tdb_steps.specs.declared.stage.Next.TheVariants as Next
 use Rattle.tdb_steps.specs.Order.{NotFull, LooksOn, TakesOn, LinksOn, UnlinksOn}
 
 pub data LooksCase (next : Next) : Type 0 where

@@ -1,6 +1,6 @@
 -- What an opener holds where its command takes the locks of its row, and where it lets go of them.
-use Rattle.std.proofs.Common.{◌≡◌, ◌≢◌, ℕ, ◌+◌, ◌<◌, ◌≤◌, max, List, [], ◌∷◌, Bool, true, false, ◌==◌, nat_lt, nat_le, Option, None, Some, Contains, refl, sym, ◌∙◌, ap, subst, inl, inr, ◌⊎◌, arith, zero-le, le_refl, suc, zero}
-use Rattle.std.specs.Prelude.{◌&&◌, if◌then◌else◌, IfSome}
+use Rattle.std.proofs.Common.{◌≡◌, ◌≢◌, ℕ, ◌+◌, ◌<◌, ◌≤◌, max, List, [], ◌∷◌, Bool, true, false, ◌==◌, nat_lt, Option, None, Some, Contains, refl, sym, ◌∙◌, ap, inl, inr, ◌⊎◌, arith, zero-le, le_refl, suc, zero}
+use Rattle.std.specs.Prelude.{◌&&◌, if◌then◌else◌}
 use Rattle.std.proofs.lemmas.Bool.{cases_Bool, cases_lt, false_from_ne_true, eq-eqb, eqb-true, lt-ltb, le-leb}
 use Rattle.tdb_locks.specs.HeldLocks.{HeldLocks}
 use Rattle.tdb_locks.specs.LockTable.{ChangesRange, Conflicts, held, kinds_conflict}
@@ -9,13 +9,12 @@ use Rattle.tdb_locks.specs.declared.kind.Kind.{Kind}
 use Rattle.tdb_locks.specs.declared.kind.Kind.TheVariants.{Read, Write}
 use Rattle.tdb_locks.specs.declared.piece.Piece.{Piece}
 use Rattle.tdb_locks.proofs.Strengths as Kinds
-use Rattle.tdb_law.specs.Commands.{Turn, Reply}
 use Rattle.tdb_law.specs.Rows.{Lock}
-use Rattle.tdb_law.specs.Held.{covers, strongest, locked, locked_next}
+use Rattle.tdb_law.specs.Held.{covers, locked, locked_next}
 use Rattle.tdb_law.specs.Effects.{IsFirstConflict, IsFree}
 use Rattle.tdb_law.proofs.Locks.{within_covers, covers_within, locked_more, locked_grows, strongest_weaker}
 use Rattle.tdb_steps.specs.LockRows.{strength_of, start_of, end_of, is_covered, lock_of, locks_in, second_lock, IsLetGo, AreLetGo}
-use Rattle.tdb_steps.specs.Holdings.{strength, table_of, KeptBeside, HoldsBefore, LocksTurned}
+use Rattle.tdb_steps.specs.Holdings.{strength, table_of, KeptBeside, HoldsBefore}
 use Rattle.tdb_steps.specs.declared.rows.LockRow.{LockRow}
 use Rattle.tdb_steps.specs.declared.rows.Region.{Region}
 use Rattle.tdb_steps.specs.declared.rows.Region.TheVariants.{Chain, FreeList, AllRecords}
@@ -87,7 +86,7 @@ module _ (locks : HeldLocks) (kept : ℕ → ℕ) (owner : ℕ) (old new : List 
   ]
 
 -- what others hold where a lock of a row is taken or let go
-others_changed : (c : Bool) (old new : List Piece) (owner start end : ℕ) (now : Option Kind) → (c ≡ true → new ≡ old) → (c ≡ false → ChangesRange old new owner start end now) → (o b : ℕ) → o ≢ owner → table_of new o b ≡ table_of old o b
+pub others_changed : (c : Bool) (old new : List Piece) (owner start end : ℕ) (now : Option Kind) → (c ≡ true → new ≡ old) → (c ≡ false → ChangesRange old new owner start end now) → (o b : ℕ) → o ≢ owner → table_of new o b ≡ table_of old o b
 others_changed true old new owner start end now same changed o b differs = ap (λ ps. table_of ps o b) (same refl)
 others_changed false old new owner start end now same changed o b differs = ap strength ((changed refl).others o b differs)
 

@@ -1,5 +1,5 @@
 -- The turns of a command, in the words of a world.
-use Rattle.std.proofs.Common.{◌≡◌, ℕ, ◌+◌, ◌<◌, ◌≤◌, inl, inr, ◌⊎◌, Bool, true, false, cond, List, [], ◌∷◌, ◌++◌, Option, None, Some, is_some, refl, sym, ◌∙◌, ap, subst, arith, nat_le, ◌==◌, ◌||◌}
+use Rattle.std.proofs.Common.{◌≡◌, ℕ, ◌+◌, ◌≤◌, inl, inr, ◌⊎◌, Bool, true, false, cond, List, Option, None, Some, refl, sym, ◌∙◌, ap, subst, arith, nat_le}
 use Rattle.std.specs.FinMap.{get, insert, remove}
 use Rattle.std.proofs.lemmas.Bool.{cases_Bool, false_from_ne_true}
 use Rattle.tdb_space.specs.Form.{Form}
@@ -8,22 +8,19 @@ use Rattle.tdb_space.specs.Extents.{HandPair}
 use Rattle.tdb_space.proofs.Maps.{same_key-eq, same_key-refl}
 use Rattle.tdb_locks.specs.declared.turn.Reply.{Reply}
 use Rattle.tdb_law.specs.Commands as Law
-use Rattle.tdb_law.specs.Openers.{Map, has, is_key}
+use Rattle.tdb_law.specs.Openers.{Map, is_key}
 use Rattle.tdb_law.specs.MapCommands.{reply, after, map_fills}
 use Rattle.tdb_law.specs.Rows.{map_changed}
-use Rattle.tdb_law.specs.Ends.{map_last, map_ends, store_ends}
 use Rattle.tdb_law.proofs.Maps.{is_key-eq, is_key-refl, get_put, get_drop}
 use Rattle.tdb_steps.specs.declared.flag.Flag.{Flag}
 use Rattle.tdb_steps.specs.declared.flag.Flag.TheVariants as Flags
 use Rattle.tdb_steps.specs.declared.plain.Plain.{Plain}
 use Rattle.tdb_steps.specs.declared.plain.Plain.TheVariants.{Fetch, Has, Store, Delete}
 use Rattle.tdb_steps.specs.declared.stage.Stage.{Stage}
-use Rattle.tdb_steps.specs.declared.stage.Stage.TheVariants as Stage
 use Rattle.tdb_steps.specs.declared.stage.Next.{Next}
-use Rattle.tdb_steps.specs.declared.stage.Next.TheVariants as Next
-use Rattle.tdb_steps.specs.Asked.{Asked, stores, stored}
+use Rattle.tdb_steps.specs.Asked.{Asked, stored}
 use Rattle.tdb_steps.specs.Stages.{Knows, is_done}
-use Rattle.tdb_steps.specs.Turns.{MapBy, Says, TurnMade, IsWant}
+use Rattle.tdb_steps.specs.Turns.{MapBy, TurnMade, IsWant}
 use Rattle.tdb_steps.specs.Turns.IsWant.{memory, full}
 use Rattle.tdb_steps.specs.PlainCommands.{key_of, asked_of, command_of, store_of, reply_of, IsMapOf}
 use Rattle.tdb_chain.specs.declared.place.Place.{Place}
@@ -33,8 +30,8 @@ use Rattle.tdb_steps.proofs.Cases.TakesCase.{take_on, take_full, take_starves}
 use Rattle.tdb_steps.proofs.Cases.LinksCase.{link_over, link_ends}
 use Rattle.tdb_steps.proofs.Cases.UnlinksCase.{unlink_on, unlink_starves}
 use Rattle.tdb_steps.specs.Order.{NotFull, LooksOn, LookOrder, StoreOrder, DeleteOrder, InOrder, LookAfter, StoreAfter, DeleteAfter, IsAfter}
-use Rattle.tdb_steps.specs.Machines.{MapTurned, MapRow}
-use Rattle.tdb_steps.specs.Machines.MapTurned.{map_waits, map_goes_on, map_changes, map_answers, map_starves, map_is_full, map_finishes}
+use Rattle.tdb_steps.specs.Machines.{MapTurned}
+use Rattle.tdb_steps.specs.Machines.MapTurned.{map_goes_on, map_changes, map_answers, map_starves, map_is_full, map_finishes}
 
 -- the keys of the two kinds of map are told apart alike
 alike : (k q : List ℕ) → is_key k q ≡ same_key k q

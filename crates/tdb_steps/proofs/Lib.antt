@@ -10,3 +10,4 @@ pub mod Holdings
 pub mod Lawful
 pub mod Cases
 pub mod Turning
+pub mod Rowed

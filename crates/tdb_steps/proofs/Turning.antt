@@ -1,30 +1,23 @@
--- What a turn of a machine makes of the image, by what its command's turn does.
-use Rattle.std.proofs.Common.{◌≡◌, ℕ, ◌+◌, ◌<◌, ◌≤◌, max, inl, inr, ◌⊎◌, Bool, true, false, List, [], ◌∷◌, ◌++◌, Option, None, Some, refl, sym, ◌∙◌, ap, subst, arith, zero-le, le_refl, nat_le, ◌==◌}
-use Rattle.std.specs.Prelude.{if◌then◌else◌, IfSome}
+-- What the row of a command says of each of its turns, and what a turn leaves.
+use Rattle.std.proofs.Common.{◌≡◌, ℕ, ◌+◌, ◌≤◌, max, inl, inr, ◌⊎◌, Bool, true, false, List, [], ◌++◌, Option, None, Some, refl, sym, ◌∙◌, ap, subst, arith, zero-le, le_refl, nat_le, ◌==◌}
+use Rattle.std.specs.Prelude.{if◌then◌else◌}
 use Rattle.tdb_space.specs.Form.{Form}
 use Rattle.tdb_space.specs.Pairs.{home}
 use Rattle.tdb_space.specs.Extents.{HandPair}
 use Rattle.tdb_space.specs.Accepted.{AcceptWith}
-use Rattle.tdb_space.specs.Spare.{Spare}
 use Rattle.tdb_space.specs.Stays.{ChangesOnly}
 use Rattle.tdb_space.proofs.Stays.{changes_none, changes_weaker}
 use Rattle.tdb_locks.specs.HeldLocks.{HeldLocks}
 use Rattle.tdb_locks.specs.declared.piece.Piece.{Piece}
 use Rattle.tdb_locks.specs.declared.turn.Reply.{Reply}
 use Rattle.tdb_law.specs.Commands as Law
-use Rattle.tdb_law.specs.Openers.{Map}
 use Rattle.tdb_law.specs.Rows.{map_changed}
-use Rattle.tdb_law.specs.Ends.{map_last, map_ends}
-use Rattle.tdb_law.specs.Held.{locked, locked_next, covers}
+use Rattle.tdb_law.specs.Held.{locked, locked_next}
 use Rattle.tdb_law.proofs.Locks.{locked_none}
-use Rattle.tdb_steps.specs.declared.flag.Flag.{Flag}
-use Rattle.tdb_steps.specs.declared.flag.Flag.TheVariants as Flags
 use Rattle.tdb_steps.specs.declared.plain.Plain.{Plain}
 use Rattle.tdb_steps.specs.declared.plain.Plain.TheVariants.{Fetch, Has, Store, Delete}
 use Rattle.tdb_steps.specs.declared.stage.Stage.{Stage}
-use Rattle.tdb_steps.specs.declared.stage.Stage.TheVariants as Stage
 use Rattle.tdb_steps.specs.declared.stage.Next.{Next}
-use Rattle.tdb_steps.specs.declared.stage.Next.TheVariants as Next
 use Rattle.tdb_steps.specs.declared.rows.LockRow.{LockRow}
 use Rattle.tdb_steps.specs.declared.rows.Rows.{Rows}
 use Rattle.tdb_steps.specs.declared.rows.Region.TheVariants.{FreeList}
@@ -33,24 +26,192 @@ use Rattle.tdb_law.specs.Rows.{Lock}
 use Rattle.std.proofs.lemmas.Bool.{ne_eqb}
 use Rattle.tdb_steps.specs.Stages.{hands_in, Knows, HoldsChain, locked_stage}
 use Rattle.tdb_steps.specs.Turns.{TurnMade, Makes}
-use Rattle.tdb_steps.specs.PlainCommands.{key_of, asked_of, command_of, store_of, reply_of, turn_of, IsMapOf}
-use Rattle.tdb_steps.specs.LockRows.{strength_of, lock_of, locks_in, rows_of, reader_rows, writer_rows, row_at}
+use Rattle.tdb_steps.specs.PlainCommands.{key_of, asked_of, command_of, reply_of, turn_of}
+use Rattle.tdb_steps.specs.LockRows.{strength_of, locks_in, rows_of, reader_rows, writer_rows, row_at}
 use Rattle.tdb_steps.specs.Holdings.{KeptBeside, HoldsBefore}
 use Rattle.tdb_steps.specs.Order.{InOrder, LookOrder, StoreOrder, DeleteOrder, LookAfter, StoreAfter, DeleteAfter, IsAfter}
-use Rattle.tdb_steps.specs.Machines.{Doing, DoingKnows, MachineTurned, MapTurned, MapRow}
+use Rattle.tdb_steps.specs.Machines.{Doing, DoingKnows, MachineTurned}
 use Rattle.tdb_steps.specs.LockTurns.{LockLed}
 use Rattle.tdb_locks.specs.declared.turn.Turn.{Turn}
 use Rattle.tdb_locks.specs.declared.turn.Turn.TheVariants as Turns
 use Rattle.tdb_chain.specs.declared.place.Place.{Place}
 use Rattle.tdb_steps.proofs.Made.{same_made}
-use Rattle.tdb_steps.specs.Machines.MapTurned.{map_waits, map_goes_on, map_starves}
+use Rattle.tdb_steps.specs.Machines.MapTurned.{map_waits, map_starves}
 use Rattle.tdb_steps.proofs.Holdings.{want}
 use Rattle.tdb_steps.proofs.Cases.{looks_case, takes_case, links_case, unlinks_case}
 use Rattle.tdb_steps.proofs.Cases.LooksCase.{look_on, look_ends}
 use Rattle.tdb_steps.proofs.Cases.TakesCase.{take_on, take_full, take_starves}
 use Rattle.tdb_steps.proofs.Cases.LinksCase.{link_over, link_ends}
 use Rattle.tdb_steps.proofs.Cases.UnlinksCase.{unlink_on, unlink_starves}
-use Rattle.tdb_steps.proofs.Lawful.{map_turned, next_turn, store_changed}
+use Rattle.tdb_steps.proofs.Lawful.{map_turned, store_changed}
+
+-- the lock of the free list, in the row of a change
+abbrev free_row : LockRow
+free_row = record { turn = 2; region = FreeList; kind = Write }
+
+injected : {A : Type 0} {x y : A} → Some x ≡ Some y → x ≡ y
+injected e = cc
+
+stepped : {x y : Stage} → Next.Step x ≡ Next.Step y → x ≡ y
+stepped e = cc
+
+small_if : (b : Bool) (s : ℕ) → (if b then s else 0) ≤ s
+small_if true s = le_refl s
+small_if false s = zero-le
+
+-- the turn that takes a lock of a row wants just that, and before it nothing stronger is locked
+pub record RowFacts (rows : Rows) (n : ℕ) (r : LockRow) : Type 0 where
+  pub next : (b : ℕ) → locked_next (locks_in rows) n b ≡ want r b
+  pub low : (b : ℕ) → locked (locks_in rows) n b ≤ strength_of r.kind
+  pub beside : (locks : HeldLocks) (kept : ℕ → ℕ) (owner : ℕ) (ps : List Piece) → HoldsBefore locks kept owner n ps rows → KeptBeside locks kept r
+
+first_low : (ls : List Lock) (b s n : ℕ) → n ≡ 0 → locked ls n b ≤ s
+first_low ls b s n is = let e : locked ls n b ≡ 0 = ap (λ x. locked ls x b) is ∙ locked_none ls b in omega (arith, e)
+
+max_none : (x : ℕ) → max x 0 ≡ x
+max_none x = omega arith
+
+none_max : (x : ℕ) → max 0 (max x 0) ≡ x
+none_max x = omega arith
+
+both_low : (x y s : ℕ) → x ≤ s → y ≤ s → max x (max y 0) ≤ s
+both_low x y s one two = omega (arith, one, two)
+
+reader_first : (chain n : ℕ) → n ≡ 0 → RowFacts (reader_rows chain) n (reader_rows chain).first
+reader_first chain n is = record {
+  next = λ b. subst (λ x. locked_next (locks_in (reader_rows chain)) x b ≡ want (reader_rows chain).first b) (sym is) (max_none (want (reader_rows chain).first b));
+  low = λ b. first_low (locks_in (reader_rows chain)) b 1 n is;
+  beside = λ locks kept owner ps H. H.first;
+}
+
+writer_first : (chain n : ℕ) → n ≡ 0 → RowFacts (writer_rows chain) n (writer_rows chain).first
+writer_first chain n is = record {
+  next = λ b. subst (λ x. locked_next (locks_in (writer_rows chain)) x b ≡ want (writer_rows chain).first b) (sym is) (max_none (want (writer_rows chain).first b));
+  low = λ b. first_low (locks_in (writer_rows chain)) b 2 n is;
+  beside = λ locks kept owner ps H. H.first;
+}
+
+writer_second : (chain n : ℕ) → n ≡ 2 → RowFacts (writer_rows chain) n free_row
+writer_second chain n is = record {
+  next = λ b. subst (λ x. locked_next (locks_in (writer_rows chain)) x b ≡ want free_row b) (sym is) (none_max (want free_row b));
+  low = λ b. both_low _ _ 2 (small_if _ 2) (small_if _ 2);
+  beside = λ locks kept owner ps H. H.second;
+}
+
+writer_facts : (chain n : ℕ) (r : LockRow) → (n ≡ 0) × (Some (writer_rows chain).first ≡ Some r) ⊎ (n ≡ 2) × (Some free_row ≡ Some r) → RowFacts (writer_rows chain) n r
+writer_facts chain n r (inl first) = let e : (writer_rows chain).first ≡ r = injected first.1 in subst (RowFacts (writer_rows chain) n) e (writer_first chain n first.0)
+writer_facts chain n r (inr second) = let e : free_row ≡ r = injected second.1 in subst (RowFacts (writer_rows chain) n) e (writer_second chain n second.0)
+
+look_facts : (chain n : ℕ) (stage : Stage) (r : LockRow) → LookAfter stage n → row_at (reader_rows chain) stage ≡ Some r → RowFacts (reader_rows chain) n r
+look_facts chain n Stage.Begun r is at = let e : (reader_rows chain).first ≡ r = injected at in subst (RowFacts (reader_rows chain) n) e (reader_first chain n is)
+look_facts chain n Stage.Chained r is at = cc
+look_facts chain n (Stage.Looked found) r is at = elim is [ ]
+look_facts chain n (Stage.Listed found) r is at = elim is [ ]
+look_facts chain n (Stage.Taken found hand) r is at = elim is [ ]
+look_facts chain n (Stage.Changed hand) r is at = elim is [ ]
+look_facts chain n Stage.Ending r is at = elim is [ ]
+
+store_facts : (chain n : ℕ) (stage : Stage) (r : LockRow) → StoreAfter stage n → row_at (writer_rows chain) stage ≡ Some r → RowFacts (writer_rows chain) n r
+store_facts chain n Stage.Begun r is at = writer_facts chain n r (inl (is, at))
+store_facts chain n Stage.Chained r is at = cc
+store_facts chain n (Stage.Looked found) r is at = writer_facts chain n r (inr (is, at))
+store_facts chain n (Stage.Listed found) r is at = cc
+store_facts chain n (Stage.Taken found hand) r is at = cc
+store_facts chain n (Stage.Changed hand) r is at = cc
+store_facts chain n Stage.Ending r is at = cc
+
+delete_facts : (chain n : ℕ) (stage : Stage) (r : LockRow) → DeleteAfter stage n → row_at (writer_rows chain) stage ≡ Some r → RowFacts (writer_rows chain) n r
+delete_facts chain n Stage.Begun r is at = writer_facts chain n r (inl (is, at))
+delete_facts chain n Stage.Chained r is at = cc
+delete_facts chain n (Stage.Looked found) r is at = writer_facts chain n r (inr (is, at))
+delete_facts chain n (Stage.Listed found) r is at = cc
+delete_facts chain n (Stage.Taken found hand) r is at = elim is [ ]
+delete_facts chain n (Stage.Changed hand) r is at = cc
+delete_facts chain n Stage.Ending r is at = cc
+
+pub row_facts : (command : Plain) (chain n : ℕ) (stage : Stage) (r : LockRow) → IsAfter command stage n → row_at (rows_of command chain) stage ≡ Some r → RowFacts (rows_of command chain) n r
+row_facts (Fetch k) chain n stage r is at = look_facts chain n stage r is at
+row_facts (Has k) chain n stage r is at = look_facts chain n stage r is at
+row_facts (Store k v flag) chain n stage r is at = store_facts chain n stage r is at
+row_facts (Delete k) chain n stage r is at = delete_facts chain n stage r is at
+
+-- any other turn wants nothing
+nothing_read : (chain n : ℕ) → n ≡ 1 → (b : ℕ) → locked_next (locks_in (reader_rows chain)) n b ≡ 0
+nothing_read chain n is b = subst (λ x. locked_next (locks_in (reader_rows chain)) x b ≡ 0) (sym is) refl
+
+nothing_written : (chain n k : ℕ) → n ≡ k → (k ≡ 1) ⊎ (3 ≤ k) → (b : ℕ) → locked_next (locks_in (writer_rows chain)) n b ≡ 0
+nothing_written chain n k is apart b =
+    let first : (0 == n) ≡ false = ne_eqb 0 n (λ e. elim apart [ inl one ↦ omega (arith, is, e, one) | inr more ↦ omega (arith, is, e, more) ]) in
+    let second : (2 == n) ≡ false = ne_eqb 2 n (λ e. elim apart [ inl one ↦ omega (arith, is, e, one) | inr more ↦ omega (arith, is, e, more) ]) in
+    rw (first, second) refl
+
+look_idle : (chain n : ℕ) (stage : Stage) → LookAfter stage n → row_at (reader_rows chain) stage ≡ None → (b : ℕ) → locked_next (locks_in (reader_rows chain)) n b ≡ 0
+look_idle chain n Stage.Begun is at b = cc
+look_idle chain n Stage.Chained is at b = nothing_read chain n is b
+look_idle chain n (Stage.Looked found) is at b = elim is [ ]
+look_idle chain n (Stage.Listed found) is at b = elim is [ ]
+look_idle chain n (Stage.Taken found hand) is at b = elim is [ ]
+look_idle chain n (Stage.Changed hand) is at b = elim is [ ]
+look_idle chain n Stage.Ending is at b = elim is [ ]
+
+store_idle : (chain n : ℕ) (stage : Stage) → StoreAfter stage n → row_at (writer_rows chain) stage ≡ None → (b : ℕ) → locked_next (locks_in (writer_rows chain)) n b ≡ 0
+store_idle chain n Stage.Begun is at b = cc
+store_idle chain n Stage.Chained is at b = nothing_written chain n 1 is (inl refl) b
+store_idle chain n (Stage.Looked found) is at b = cc
+store_idle chain n (Stage.Listed found) is at b = nothing_written chain n 3 is (inr (omega arith)) b
+store_idle chain n (Stage.Taken found hand) is at b = nothing_written chain n 4 is (inr (omega arith)) b
+store_idle chain n (Stage.Changed hand) is at b = nothing_written chain n 5 is (inr (omega arith)) b
+store_idle chain n Stage.Ending (inl is) at b = nothing_written chain n 5 is (inr (omega arith)) b
+store_idle chain n Stage.Ending (inr is) at b = nothing_written chain n 6 is (inr (omega arith)) b
+
+delete_idle : (chain n : ℕ) (stage : Stage) → DeleteAfter stage n → row_at (writer_rows chain) stage ≡ None → (b : ℕ) → locked_next (locks_in (writer_rows chain)) n b ≡ 0
+delete_idle chain n Stage.Begun is at b = cc
+delete_idle chain n Stage.Chained is at b = nothing_written chain n 1 is (inl refl) b
+delete_idle chain n (Stage.Looked found) is at b = cc
+delete_idle chain n (Stage.Listed found) is at b = nothing_written chain n 3 is (inr (omega arith)) b
+delete_idle chain n (Stage.Taken found hand) is at b = elim is [ ]
+delete_idle chain n (Stage.Changed hand) is at b = nothing_written chain n 4 is (inr (omega arith)) b
+delete_idle chain n Stage.Ending is at b = nothing_written chain n 5 is (inr (omega arith)) b
+
+pub row_idle : (command : Plain) (chain n : ℕ) (stage : Stage) → IsAfter command stage n → row_at (rows_of command chain) stage ≡ None → (b : ℕ) → locked_next (locks_in (rows_of command chain)) n b ≡ 0
+row_idle (Fetch k) chain n stage is at b = look_idle chain n stage is at b
+row_idle (Has k) chain n stage is at b = look_idle chain n stage is at b
+row_idle (Store k v flag) chain n stage is at b = store_idle chain n stage is at b
+row_idle (Delete k) chain n stage is at b = delete_idle chain n stage is at b
+
+-- the steps that a command has had after a turn that leads on
+look_after : (n : ℕ) (stage onto : Stage) → LookAfter stage n → LookOrder stage (Next.Step onto) → LookAfter onto (n + 1)
+look_after n Stage.Begun onto is order = let e : Stage.Chained ≡ onto = sym (stepped order) in subst (λ x. LookAfter x (n + 1)) e (ap (λ k. k + 1) is)
+look_after n Stage.Chained onto is order = elim order [ ]
+look_after n (Stage.Looked found) onto is order = elim is [ ]
+look_after n (Stage.Listed found) onto is order = elim is [ ]
+look_after n (Stage.Taken found hand) onto is order = elim is [ ]
+look_after n (Stage.Changed hand) onto is order = elim is [ ]
+look_after n Stage.Ending onto is order = elim is [ ]
+
+store_after : (n : ℕ) (stage onto : Stage) → StoreAfter stage n → StoreOrder stage (Next.Step onto) → StoreAfter onto (n + 1)
+store_after n Stage.Begun onto is order = subst (λ x. StoreAfter x (n + 1)) (sym (stepped order)) (ap (λ k. k + 1) is)
+store_after n Stage.Chained onto is order = elim (looks_case (Next.Step onto) order) [ look_on found led ↦ subst (λ x. StoreAfter x (n + 1)) (sym (stepped led)) (ap (λ k. k + 1) is) | look_ends r led never ↦ cc ]
+store_after n (Stage.Looked found) onto is order = subst (λ x. StoreAfter x (n + 1)) (sym (stepped order)) (ap (λ k. k + 1) is)
+store_after n (Stage.Listed found) onto is order = elim (takes_case (Next.Step onto) order) [ take_on place hand led ↦ subst (λ x. StoreAfter x (n + 1)) (sym (stepped led)) (ap (λ k. k + 1) is) | take_full len need led ↦ cc | take_starves led ↦ cc ]
+store_after n (Stage.Taken found hand) onto is order = elim (links_case (Next.Step onto) order) [ link_over old led ↦ subst (λ x. StoreAfter x (n + 1)) (sym (stepped led)) (ap (λ k. k + 1) is) | link_ends led ↦ subst (λ x. StoreAfter x (n + 1)) (sym (stepped led)) (inl (ap (λ k. k + 1) is)) ]
+store_after n (Stage.Changed hand) onto is order = subst (λ x. StoreAfter x (n + 1)) (sym (stepped order)) (inr (ap (λ k. k + 1) is))
+store_after n Stage.Ending onto is order = cc
+
+delete_after : (n : ℕ) (stage onto : Stage) → DeleteAfter stage n → DeleteOrder stage (Next.Step onto) → DeleteAfter onto (n + 1)
+delete_after n Stage.Begun onto is order = subst (λ x. DeleteAfter x (n + 1)) (sym (stepped order)) (ap (λ k. k + 1) is)
+delete_after n Stage.Chained onto is order = elim (looks_case (Next.Step onto) order) [ look_on found led ↦ subst (λ x. DeleteAfter x (n + 1)) (sym (stepped led)) (ap (λ k. k + 1) is) | look_ends r led never ↦ cc ]
+delete_after n (Stage.Looked found) onto is order = subst (λ x. DeleteAfter x (n + 1)) (sym (stepped order)) (ap (λ k. k + 1) is)
+delete_after n (Stage.Listed found) onto is order = elim (unlinks_case (Next.Step onto) order) [ unlink_on hand led ↦ subst (λ x. DeleteAfter x (n + 1)) (sym (stepped led)) (ap (λ k. k + 1) is) | unlink_starves led ↦ cc ]
+delete_after n (Stage.Taken found hand) onto is order = elim is [ ]
+delete_after n (Stage.Changed hand) onto is order = subst (λ x. DeleteAfter x (n + 1)) (sym (stepped order)) (ap (λ k. k + 1) is)
+delete_after n Stage.Ending onto is order = cc
+
+pub next_after : (command : Plain) (n : ℕ) (stage onto : Stage) → IsAfter command stage n → InOrder command stage (Next.Step onto) → IsAfter command onto (n + 1)
+next_after (Fetch k) n stage onto is order = look_after n stage onto is order
+next_after (Has k) n stage onto is order = look_after n stage onto is order
+next_after (Store k v flag) n stage onto is order = store_after n stage onto is order
+next_after (Delete k) n stage onto is order = delete_after n stage onto is order
 
 -- the chain is held from the second turn on
 look_late : (n : ℕ) (stage : Stage) → LookAfter stage n → HoldsChain stage → 1 ≤ n
@@ -114,3 +275,76 @@ module _ (f : Form) (a b : List ℕ) (command : Plain) (chain n : ℕ) (stage ta
       (subst (λ y. IsAfter command stage n → AcceptWith f a (hands_in stage ++ others) → Knows f a (key_of command) (asked_of command) stage → MachineTurned f a b (record { command = command; chain = chain; stage = stage }) y n (Law.Turn.Ends (reply_of r)) others) (sym now)
       (λ is A K. ended_so f a b command chain n stage is others K r (subst (λ x. InOrder command x (Next.Done r)) out (subst (InOrder command taken) on order))
       (subst (λ x. Makes f a b (key_of command) (asked_of command) x (Next.Done r)) out (subst (Makes f a b (key_of command) (asked_of command) taken) on made) others A K)))
+
+-- the stages from which a turn takes a lock
+pub data LockStage (stage : Stage) : Type 0 where
+  lock_first : stage ≡ Stage.Begun → LockStage stage
+  lock_second : (found : Option Place) → stage ≡ Stage.Looked found → LockStage stage
+
+pub lock_stage : (rows : Rows) (stage : Stage) (r : LockRow) → row_at rows stage ≡ Some r → LockStage stage
+lock_stage rows Stage.Begun r at = lock_first refl
+lock_stage rows Stage.Chained r at = cc
+lock_stage rows (Stage.Looked found) r at = lock_second found refl
+lock_stage rows (Stage.Listed found) r at = cc
+lock_stage rows (Stage.Taken found hand) r at = cc
+lock_stage rows (Stage.Changed hand) r at = cc
+lock_stage rows Stage.Ending r at = cc
+
+-- before them nothing is changed
+begun_unchanged : (command : Plain) (n : ℕ) → IsAfter command Stage.Begun n → map_changed (command_of command) n ≡ false
+begun_unchanged (Fetch k) n is = refl
+begun_unchanged (Has k) n is = refl
+begun_unchanged (Store k v flag) n is = store_changed flag k v n ∙ ap (nat_le 5) is
+begun_unchanged (Delete k) n is = ap (nat_le 4) is
+
+looked_unchanged : (command : Plain) (n : ℕ) (found : Option Place) → IsAfter command (Stage.Looked found) n → map_changed (command_of command) n ≡ false
+looked_unchanged (Fetch k) n found is = refl
+looked_unchanged (Has k) n found is = refl
+looked_unchanged (Store k v flag) n found is = store_changed flag k v n ∙ ap (nat_le 5) is
+looked_unchanged (Delete k) n found is = ap (nat_le 4) is
+
+pub begun_order : (command : Plain) → InOrder command Stage.Begun (Next.Step Stage.Chained)
+begun_order (Fetch k) = refl
+begun_order (Has k) = refl
+begun_order (Store k v flag) = refl
+begun_order (Delete k) = refl
+
+pub looked_order : (command : Plain) (n : ℕ) (found : Option Place) → IsAfter command (Stage.Looked found) n → InOrder command (Stage.Looked found) (Next.Step (Stage.Listed found))
+looked_order (Fetch k) n found is = elim is [ ]
+looked_order (Has k) n found is = elim is [ ]
+looked_order (Store k v flag) n found is = refl
+looked_order (Delete k) n found is = refl
+
+-- a turn that takes a lock, over an image that stays
+module _ (f : Form) (a : List ℕ) (command : Plain) (chain n : ℕ) (others : List HandPair) where
+  abbrev Led : Stage → Type 0
+  Led x = IsAfter command x n → AcceptWith f a (hands_in x ++ others) → Knows f a (key_of command) (asked_of command) x
+      → MachineTurned f a a (record { command = command; chain = chain; stage = x }) (record { command = command; chain = chain; stage = locked_stage x }) n Law.Turn.Step others
+
+  led : (stage : Stage) → LockStage stage → Led stage
+  led stage (lock_first at) = subst Led (sym at) (λ is A K. stepped_on f a a command chain n Stage.Begun is others K Stage.Chained (begun_order command) (same_made f a a (key_of command) (asked_of command) Stage.Begun (Next.Step Stage.Chained) others refl A refl tt tt))
+  led stage (lock_second found at) = subst Led (sym at) (λ is A K. stepped_on f a a command chain n (Stage.Looked found) is others K (Stage.Listed found) (looked_order command n found is) (same_made f a a (key_of command) (asked_of command) (Stage.Looked found) (Next.Step (Stage.Listed found)) others refl A refl K tt))
+
+  unchanged : (stage : Stage) → LockStage stage → IsAfter command stage n → map_changed (command_of command) n ≡ false
+  unchanged stage (lock_first at) is = begun_unchanged command n (subst (λ x. IsAfter command x n) at is)
+  unchanged stage (lock_second found at) is = looked_unchanged command n found (subst (λ x. IsAfter command x n) at is)
+
+  no_hands : (stage : Stage) → LockStage stage → hands_in stage ≡ []
+  no_hands stage (lock_first at) = ap hands_in at
+  no_hands stage (lock_second found at) = ap hands_in at
+
+  same_only : ChangesOnly f a a (λ k. (k ≡ home f (key_of command)) × (1 ≤ n))
+  same_only = changes_none f a (λ k. (k ≡ home f (key_of command)) × (1 ≤ n))
+
+  -- whatever it comes to
+  pub lock_turned : (stage : Stage) (e : Doing) (turn : Turn) (locks : HeldLocks) (owner : ℕ) (old new : List Piece) (rows : Rows) (r : LockRow) → row_at rows stage ≡ Some r
+      → LockLed locks owner old new rows r (record { command = command; chain = chain; stage = stage }) e turn → IsAfter command stage n → AcceptWith f a (hands_in stage ++ others) → Knows f a (key_of command) (asked_of command) stage
+      → MachineTurned f a a (record { command = command; chain = chain; stage = stage }) e n (turn_of turn) others
+  lock_turned stage e Turns.Step locks owner old new rows r at L is A K = subst (λ x. MachineTurned f a a (record { command = command; chain = chain; stage = stage }) x n Law.Turn.Step others) (sym L.0) (led stage (lock_stage rows stage r at) is A K)
+  lock_turned stage e (Turns.Blocked other byte) locks owner old new rows r at L is A K =
+      subst (λ x. MachineTurned f a a (record { command = command; chain = chain; stage = stage }) x n (Law.Turn.Blocked other byte) others) (sym L.0)
+      (record { accepted = A; knows = K; only = same_only; map = λ m M. map_waits other byte refl (unchanged stage (lock_stage rows stage r at) is) M })
+  lock_turned stage e (Turns.Done reply) locks owner old new rows r at L is A K =
+      subst (λ x. MachineTurned f a a (record { command = command; chain = chain; stage = stage }) x n (Law.Turn.Ends (reply_of reply)) others) (sym L.1)
+      (subst (λ q. MachineTurned f a a (record { command = command; chain = chain; stage = stage }) (record { command = command; chain = chain; stage = Stage.Begun }) n (Law.Turn.Ends (reply_of q)) others) (sym L.0)
+      (record { accepted = subst (λ h. AcceptWith f a (h ++ others)) (no_hands stage (lock_stage rows stage r at)) A; knows = tt; only = same_only; map = λ m M. map_starves refl (unchanged stage (lock_stage rows stage r at) is) M }))

@@ -1,5 +1,5 @@
 -- The locks of a command's row: of which lock bytes they are, which of them the opener's explicit locks cover, and what is let go.
-use Rattle.std.specs.Prelude.{ℕ, ◌+◌, ◌*◌, ◌≡◌, ◌≢◌, ◌≤◌, ◌<◌, List, [], ◌∷◌, Bool, true, false, ◌||◌, Option, None, Some, IfSome, nat_lt}
+use Rattle.std.specs.Prelude.{ℕ, ◌+◌, ◌*◌, ◌≡◌, List, [], ◌∷◌, Bool, true, false, ◌||◌, Option, None, Some, IfSome, nat_lt}
 use Rattle.tdb_locks.specs.HeldLocks.{HeldLocks, count_of}
 use Rattle.tdb_locks.specs.LockTable.{ChangesRange, held}
 use Rattle.tdb_locks.specs.declared.kind.Kind.{Kind}

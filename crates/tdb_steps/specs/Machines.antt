@@ -16,7 +16,7 @@ use Rattle.tdb_law.specs.Ends.{map_last, map_ends}
 use Rattle.tdb_steps.specs.declared.plain.Plain.{Plain}
 use Rattle.tdb_steps.specs.declared.plain.Plain.TheVariants.{Fetch, Has, Store, Delete}
 use Rattle.tdb_steps.specs.declared.stage.Stage.{Stage}
-use Rattle.tdb_steps.specs.declared.stage.Stage.TheVariants.{Begun, Chained, Looked, Listed, Taken, Changed, Ending}
+use Rattle.tdb_steps.specs.declared.stage.Stage.TheVariants.{Begun}
 use Rattle.tdb_steps.specs.Stages.{hands_in, Knows, OfLook, OfStore, OfDelete}
 use Rattle.tdb_steps.specs.PlainCommands.{key_of, asked_of, command_of, IsMapOf}
 use Rattle.tdb_steps.specs.Order.{IsAfter}

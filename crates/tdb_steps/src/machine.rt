@@ -1,6 +1,6 @@
 // A plain command that is done turn by turn, with its locks.
 
-ghost use Rattle.std.specs.Prelude.{◌≡◌, ◌≤◌, ◌<◌, ◌++◌, ◌^◌, ℕ, List, IsTrue, IfOk};
+ghost use Rattle.std.specs.Prelude.{◌≡◌, ◌≤◌, ◌<◌, ◌++◌, ◌^◌, ℕ, List, IsTrue, IfOk, OnErr};
 ghost use Rattle.tdb_disk.specs.Count.{HasCause};
 ghost use Rattle.tdb_space.specs.Form.{form_in};
 ghost use Rattle.tdb_space.specs.Pairs.{home};
@@ -10,7 +10,8 @@ ghost use Rattle.tdb_space.specs.Accepted.{AcceptWith};
 ghost use Rattle.tdb_steps.specs.Stages.{hands_in, IsIdle};
 ghost use Rattle.tdb_steps.specs.Order.{IsAfter};
 ghost use Rattle.tdb_steps.specs.PlainCommands.{key_of, command_of, turn_of};
-ghost use Rattle.tdb_steps.specs.LockRows.{rows_of, row_at, AllStandAlone, AreLetGo};
+ghost use Rattle.tdb_steps.specs.LockRows.{rows_of, row_at, locks_in, AllStandAlone, AreLetGo};
+ghost use Rattle.tdb_steps.specs.Holdings.{HoldsBefore, LocksTurned};
 ghost use Rattle.tdb_steps.specs.Machines.{begun, IsShort, Fits, DoingKnows, MachineTurned, MapRow, Leaves};
 ghost use Rattle.tdb_steps.specs.LockTurns.{LockLed, ActLed};
 
@@ -164,5 +165,56 @@ impl Machine {
         ensures { AreLetGo held.now owner locks.old locks.new (rows_of self.now.command self.now.chain) }
     {
         let_go(locks, owner, held, &self.rows());
+    }
+
+    /// Takes one turn of the command, in a file that may grow to `limit` bytes. `owner` is the number of its opener in the lock table,
+    /// `held` are the locks that it has taken explicitly, and cursors stand on the records at `stood_on`.
+    ///
+    /// A turn takes a lock of the command's row, or looks or changes the file. `Blocked` where another opener's lock conflicts: nothing
+    /// changes then, and the next turn tries the same again. A lock that the explicit ones cover is neither taken nor let go, and its
+    /// turn is a step all the same. With its reply the command lets go of what it took, for which it asks for no memory. The reply is
+    /// `Memory` where that is wanting, before any change. `Io` where the disk failed: then the command has given up the record that it
+    /// held, and it keeps its locks. After a reply or `Io` the machine is before its first turn.
+    ///
+    /// Cost: a pass over the lock table where a lock is taken; else the chain of the key, the free list, or the writes, once each.
+    pub fn step<S: Space>(
+        &mut self,
+        alloc: Global,
+        s: &mut S,
+        locks: &mut Locks,
+        owner: u32,
+        held: &Held,
+        stood_on: &Spots,
+        limit: u64,
+    ) -> Result<Turn, Io>
+        requires chains { 0 < (S.form s.old).chains }
+        requires limit { limit ≤ 4294963200 }
+        requires fits { Fits self.old (S.size s.old) (S.spare s.old) }
+        requires alone { AllStandAlone held.now owner locks.old (rows_of self.old.command self.old.chain) }
+        ensures made { IfOk result (λ turn. IsTrue S.tells → S.size s.old < 2 ^ 32 → (n : ℕ) (others : List HandPair) → IsAfter self.old.command self.old.stage n
+            → AcceptWith (S.form s.old) (S.image s.old) (hands_in self.old.stage ++ others) → DoingKnows (S.form s.old) (S.image s.old) self.old
+            → MachineTurned (S.form s.old) (S.image s.old) (S.image s.new) self.old self.new n (turn_of turn) others) }
+        ensures row { IfOk result (λ turn. (n : ℕ) → IsAfter self.old.command self.old.stage n → MapRow (command_of self.old.command) n (turn_of turn)) }
+        ensures leaves { IfOk result (λ turn. (n : ℕ) → IsAfter self.old.command self.old.stage n → Leaves self.old self.new n (turn_of turn)) }
+        ensures locks { IfOk result (λ turn. (n : ℕ) (kept : ℕ → ℕ) → IsAfter self.old.command self.old.stage n
+            → HoldsBefore held.now kept owner n locks.old (rows_of self.old.command self.old.chain)
+            → LocksTurned (locks_in (rows_of self.old.command self.old.chain)) kept owner n locks.old locks.new (turn_of turn)) }
+        ensures fits { IfOk result (λ turn. Fits self.new (S.size s.new) (S.spare s.new)) }
+        ensures idle { IsIdle self.old.stage → Looked S.Space s.old s.new }
+        ensures err { OnErr result (locks.new ≡ locks.old) }
+        ensures longer { S.size s.old ≤ S.size s.new }
+        ensures wrote { Wrote S.Space s.old s.new }
+        ensures cause { HasCause (S.faults s.old) (S.faults s.new) result }
+        ensures bytes_read { S.bytes_read s.old ≤ S.bytes_read s.new }
+    {
+        let rows = self.rows();
+        if let Some(row) = self.wanted(&rows) {
+            return Ok(self.lock_turn(locks, owner, held, &rows, row));
+        }
+        let turn = self.act_turn(alloc, s, stood_on, limit)?;
+        if let Turn::Done(_) = &turn {
+            self.let_go(locks, owner, held);
+        }
+        Ok(turn)
     }
 }

@@ -1,8 +1,8 @@
 -- A turn of a command is that of its kind.
-use Rattle.std.proofs.Common.{ℕ, ◌<◌, List, sym, subst}
+use Rattle.std.proofs.Common.{◌<◌, sym, subst}
 use Rattle.std.specs.Prelude.{◌^◌, IsTrue, IfOk}
 use Rattle.std.proofs.lemmas.Result.{IfOk-weaker}
-use Rattle.tdb_steps.specs.Asked.{Asked, fetches, asks, stores, deletes}
+use Rattle.tdb_steps.specs.Asked.{fetches, asks, stores, deletes}
 use Rattle.tdb_steps.specs.Turns.{Makes}
 use Rattle.tdb_steps.specs.PlainCommands.{key_of, asked_of}
 use Rattle.tdb_steps.proofs.acting.act.Goals as goal

@@ -1,11 +1,11 @@
 -- The append goes on as a store of the joined value, or has stored it where the record stands.
-use Rattle.std.proofs.Common.{◌≡◌, ℕ, List, Some, length, refl, sym, ◌∙◌, ap, subst}
+use Rattle.std.proofs.Common.{◌≡◌, ℕ, List, Some, length, refl, ◌∙◌, ap, subst}
 use Rattle.std.specs.Prelude.{IsTrue, IfSome}
 use Rattle.tdb_space.specs.Pairs.{map_of}
 use Rattle.tdb_space.specs.Extents.{HandPair}
 use Rattle.tdb_space.specs.Accepted.{AcceptWith}
 use Rattle.tdb_chain.specs.Place.{IsFound, HoldsKey}
-use Rattle.tdb_steps.specs.Asked.{stores, appends, joined}
+use Rattle.tdb_steps.specs.Asked.{stores, joined}
 use Rattle.tdb_steps.specs.Stages.{IsKnown}
 use Rattle.tdb_steps.specs.Turns.{TurnMade, UpdatesRightly}
 use Rattle.tdb_steps.specs.declared.flag.Flag.{Flag}

@@ -1,7 +1,6 @@
 -- A region before which its opener holds nothing isn't part of a longer piece, so no memory is asked for.
-use Rattle.std.proofs.Common.{ℕ, ◌<◌, ◌+◌, ◌≡◌, None, true, false, refl, sym, ◌∙◌, subst, ap, arith}
-use Rattle.tdb_locks.specs.LockTable.{IsInsidePiece, held, stop}
-use Rattle.tdb_locks.specs.declared.piece.Piece.{Piece}
+use Rattle.std.proofs.Common.{◌≡◌, false, sym, ◌∙◌, subst}
+use Rattle.tdb_locks.specs.LockTable.{IsInsidePiece, stop}
 use Rattle.tdb_steps.specs.LockRows.{start_of, end_of, is_covered}
 use Rattle.tdb_steps.proofs.Holdings.{stands_whole, region_some}
 use Rattle.tdb_steps.proofs.locking.let_go_of.Goals as goal
