@@ -26,4 +26,5 @@ knowledge_stays f a b key asked (Stage.Looked place) hands news A B longer S kno
 knowledge_stays f a b key asked (Stage.Listed place) hands news A B longer S known = known_stays f a b key asked place hands news A B longer S known
 knowledge_stays f a b key asked (Stage.Taken place hand) hands news A B longer S known = known_stays f a b key asked place hands news A B longer S known
 knowledge_stays f a b key asked (Stage.Changed hand) hands news A B longer S known = tt
+knowledge_stays f a b key asked (Stage.Wiping locked) hands news A B longer S known = tt
 knowledge_stays f a b key asked Stage.Ending hands news A B longer S known = tt

@@ -15,7 +15,7 @@ use Rattle.tdb_law.proofs.Maps.{is_key-eq, is_key-refl, get_put, get_drop}
 use Rattle.tdb_steps.specs.declared.flag.Flag.{Flag}
 use Rattle.tdb_steps.specs.declared.flag.Flag.TheVariants as Flags
 use Rattle.tdb_steps.specs.declared.plain.Plain.{Plain}
-use Rattle.tdb_steps.specs.declared.plain.Plain.TheVariants.{Fetch, Has, Store, Delete}
+use Rattle.tdb_steps.specs.declared.plain.Plain.TheVariants.{Fetch, Has, Store, Delete, Wipe}
 use Rattle.tdb_steps.specs.declared.stage.Stage.{Stage}
 use Rattle.tdb_steps.specs.declared.stage.Next.{Next}
 use Rattle.tdb_steps.specs.Asked.{Asked, stored}
@@ -103,11 +103,17 @@ delete_refused : (m : Map) (k : List ℕ) (o : Option (List ℕ)) → get m k �
 delete_refused m k None e never q = drop_in m k q ∙ missing m k q e (same_key k q) refl
 delete_refused m k (Some v) e never q = absurd (never refl)
 
-pub is_command : (command : Plain) → IsCommand (command_of command) (key_of command) (asked_of command)
-is_command (Fetch k) = record { replies = λ m. fetch_replies m k (get m k) refl; granted = λ m ok q. absurd (fetch_never k (get m k) ok); refused = λ m never q. refl }
-is_command (Has k) = record { replies = λ m. has_replies m k (get m k) refl; granted = λ m ok q. absurd (has_never k (get m k) ok); refused = λ m never q. refl }
-is_command (Store k v flag) = record { replies = λ m. store_replies flag m k v (get m k) refl; granted = λ m ok q. store_granted flag m k v (get m k) refl ok q; refused = λ m never q. store_refused flag m k v (get m k) refl never q }
-is_command (Delete k) = record { replies = λ m. delete_replies m k (get m k) refl; granted = λ m ok q. drop_in m k q; refused = λ m never q. delete_refused m k (get m k) refl never q }
+-- a command that is on a key
+abbrev pub IsKeyed : Plain → Type 0
+IsKeyed Wipe = ⊥
+IsKeyed _ = Unit {0}
+
+pub is_command : (command : Plain) → IsKeyed command → IsCommand (command_of command) (key_of command) (asked_of command)
+is_command (Fetch k) keyed = record { replies = λ m. fetch_replies m k (get m k) refl; granted = λ m ok q. absurd (fetch_never k (get m k) ok); refused = λ m never q. refl }
+is_command (Has k) keyed = record { replies = λ m. has_replies m k (get m k) refl; granted = λ m ok q. absurd (has_never k (get m k) ok); refused = λ m never q. refl }
+is_command (Store k v flag) keyed = record { replies = λ m. store_replies flag m k v (get m k) refl; granted = λ m ok q. store_granted flag m k v (get m k) refl ok q; refused = λ m never q. store_refused flag m k v (get m k) refl never q }
+is_command (Delete k) keyed = record { replies = λ m. delete_replies m k (get m k) refl; granted = λ m ok q. drop_in m k q; refused = λ m never q. delete_refused m k (get m k) refl never q }
+is_command Wipe keyed = elim keyed [ ]
 
 done_ok : (r : Reply) → is_done r ≡ true → r ≡ Reply.Ok
 done_ok Reply.Ok e = refl
@@ -184,6 +190,7 @@ module _ (f : Form) (a b : List ℕ) (c : Law.MapCommand) (key : List ℕ) (aske
   looks_turned (Stage.Listed found) next never is order T = elim is [ ]
   looks_turned (Stage.Taken found hand) next never is order T = elim is [ ]
   looks_turned (Stage.Changed hand) next never is order T = elim is [ ]
+  looks_turned (Stage.Wiping locked) next never is order T = elim is [ ]
   looks_turned Stage.Ending next never is order T = elim is [ ]
 
   -- the first three turns of a change
@@ -221,6 +228,7 @@ module _ (f : Form) (a b : List ℕ) (c : Law.MapCommand) (key : List ℕ) (aske
     | link_ends led ↦ with_next (Stage.Taken found hand) next (Next.Step Stage.Ending) led T (λ U. changes f a b c key asked C n m M 4 is (omega arith) (by 4) (by 5) K.granted U.map)
   ]
   stores_turned (Stage.Changed hand) next by fills is order K T = change_gives hand next 5 is order (by 5) (by 6) T
+  stores_turned (Stage.Wiping locked) next by fills is order K T = elim is [ ]
   stores_turned Stage.Ending next by fills is order K T =
       change_ends next order (elim is [ inl five ↦ ap (map_changed c) five ∙ by 5 | inr six ↦ ap (map_changed c) six ∙ by 6 ]) T
 
@@ -234,6 +242,7 @@ module _ (f : Form) (a b : List ℕ) (c : Law.MapCommand) (key : List ℕ) (aske
   ]
   deletes_turned (Stage.Taken found hand) next by is order K T = elim is [ ]
   deletes_turned (Stage.Changed hand) next by is order K T = change_gives hand next 4 is order (by 4) (by 5) T
+  deletes_turned (Stage.Wiping locked) next by is order K T = elim is [ ]
   deletes_turned Stage.Ending next by is order K T = change_ends next order (ap (map_changed c) is ∙ by 5) T
 
 store_fills : (flag : Flag) (k v : List ℕ) → map_fills (store_of flag k v) ≡ true
@@ -246,10 +255,11 @@ store_changed Flags.Replace k v n = refl
 store_changed Flags.Insert k v n = refl
 store_changed Flags.Modify k v n = refl
 
--- every command
-pub map_turned : (command : Plain) (f : Form) (a b : List ℕ) (stage : Stage) (next : Next) (n : ℕ) (m : Map) (others : List HandPair) → IsMapOf f a m → IsAfter command stage n → InOrder command stage next → Knows f a (key_of command) (asked_of command) stage
+-- every command that is on a key
+pub map_turned : (command : Plain) → IsKeyed command → (f : Form) (a b : List ℕ) (stage : Stage) (next : Next) (n : ℕ) (m : Map) (others : List HandPair) → IsMapOf f a m → IsAfter command stage n → InOrder command stage next → Knows f a (key_of command) (asked_of command) stage
     → TurnMade f a b (key_of command) (asked_of command) stage next others → MapTurned f b (command_of command) n m (next_turn next)
-map_turned (Fetch k) f a b stage next n m others M is order K T = looks_turned f a b _ _ _ (is_command (Fetch k)) n m M others stage next (λ k. refl) is order T
-map_turned (Has k) f a b stage next n m others M is order K T = looks_turned f a b _ _ _ (is_command (Has k)) n m M others stage next (λ k. refl) is order T
-map_turned (Store k v flag) f a b stage next n m others M is order K T = stores_turned f a b _ _ _ (is_command (Store k v flag)) n m M others stage next (store_changed flag k v) (store_fills flag k v) is order K T
-map_turned (Delete k) f a b stage next n m others M is order K T = deletes_turned f a b _ _ _ (is_command (Delete k)) n m M others stage next (λ k. refl) is order K T
+map_turned (Fetch k) keyed f a b stage next n m others M is order K T = looks_turned f a b _ _ _ (is_command (Fetch k) keyed) n m M others stage next (λ k. refl) is order T
+map_turned (Has k) keyed f a b stage next n m others M is order K T = looks_turned f a b _ _ _ (is_command (Has k) keyed) n m M others stage next (λ k. refl) is order T
+map_turned (Store k v flag) keyed f a b stage next n m others M is order K T = stores_turned f a b _ _ _ (is_command (Store k v flag) keyed) n m M others stage next (store_changed flag k v) (store_fills flag k v) is order K T
+map_turned (Delete k) keyed f a b stage next n m others M is order K T = deletes_turned f a b _ _ _ (is_command (Delete k) keyed) n m M others stage next (λ k. refl) is order K T
+map_turned Wipe keyed f a b stage next n m others M is order K T = elim keyed [ ]

@@ -9,5 +9,7 @@ pub mod WipeSteps
 pub mod Holdings
 pub mod Lawful
 pub mod Cases
+pub mod CommandMade
 pub mod Turning
 pub mod Rowed
+pub mod WipeMade

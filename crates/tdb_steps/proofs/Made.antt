@@ -199,6 +199,7 @@ module _ (f : Form) (a b key more bytes : List ℕ) (same : bytes ≡ joined (ma
   as_knows img (Next.Step (Stage.Listed place)) known = as_known img place known
   as_knows img (Next.Step (Stage.Taken place hand)) known = as_known img place known
   as_knows img (Next.Step (Stage.Changed hand)) known = tt
+  as_knows img (Next.Step (Stage.Wiping locked)) known = tt
   as_knows img (Next.Step Stage.Ending) known = tt
   as_knows img (Next.Done reply) known = tt
 

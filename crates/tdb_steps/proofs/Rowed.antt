@@ -10,15 +10,16 @@ use Rattle.tdb_law.specs.Ends.{map_last, map_ends, store_ends, delete_ends}
 use Rattle.tdb_steps.specs.declared.flag.Flag.{Flag}
 use Rattle.tdb_steps.specs.declared.flag.Flag.TheVariants as Flags
 use Rattle.tdb_steps.specs.declared.plain.Plain.{Plain}
-use Rattle.tdb_steps.specs.declared.plain.Plain.TheVariants.{Fetch, Has, Store, Delete}
+use Rattle.tdb_steps.specs.declared.plain.Plain.TheVariants.{Fetch, Has, Store, Delete, Wipe}
 use Rattle.tdb_steps.specs.declared.rows.LockRow.{LockRow}
 use Rattle.tdb_steps.specs.declared.rows.Rows.{Rows}
 use Rattle.tdb_steps.specs.declared.stage.Stage.{Stage}
+use Rattle.tdb_steps.specs.declared.stage.WipeStage.TheVariants as Wipes
 use Rattle.tdb_steps.specs.declared.stage.Next.{Next}
 use Rattle.tdb_steps.specs.Stages.{locked_stage}
 use Rattle.tdb_steps.specs.PlainCommands.{command_of, store_of, reply_of, turn_of}
 use Rattle.tdb_steps.specs.LockRows.{row_at, start_of, end_of, is_covered, locks_in, rows_of, AreLetGo}
-use Rattle.tdb_steps.specs.Order.{NotFull, InOrder, LookOrder, StoreOrder, DeleteOrder, LookAfter, StoreAfter, DeleteAfter, IsAfter}
+use Rattle.tdb_steps.specs.Order.{NotFull, InOrder, LookOrder, StoreOrder, DeleteOrder, WipeOrder, LookAfter, StoreAfter, DeleteAfter, WipeAfter, IsAfter}
 use Rattle.tdb_steps.specs.Machines.{Doing, MapRow, Leaves}
 use Rattle.tdb_steps.specs.LockTurns.{LockLed, ActLed}
 use Rattle.tdb_steps.proofs.Cases.{looks_case, takes_case, links_case, unlinks_case}
@@ -30,8 +31,8 @@ use Rattle.tdb_steps.proofs.Lawful.{next_turn}
 use Rattle.tdb_law.specs.Held.{locked_next}
 use Rattle.tdb_steps.specs.Holdings.{table_of, HoldsBefore, LocksTurned}
 use Rattle.tdb_steps.proofs.Holdings.{others_changed, lock_holds, lock_free, lock_blocked, let_go_holds, let_go_others, idle_free, next_turn as next_more}
-use Rattle.tdb_steps.proofs.Turning.{RowFacts, LockStage, lock_stage, begun_order, looked_order, next_after}
-use Rattle.tdb_steps.proofs.Turning.LockStage.{lock_first, lock_second}
+use Rattle.tdb_steps.proofs.Turning.{RowFacts, LockStage, lock_stage, begun_order, looked_order, wiping_order, next_after}
+use Rattle.tdb_steps.proofs.Turning.LockStage.{lock_first, lock_second, lock_both}
 
 -- a look may end with each reply but Full
 store_one : (r : Reply) → NotFull r → store_ends 1 (reply_of r) ≡ true
@@ -104,6 +105,7 @@ module _ (c : Law.MapCommand) (n : ℕ) where
   look_row (Stage.Listed found) next most ends is order = elim is [ ]
   look_row (Stage.Taken found hand) next most ends is order = elim is [ ]
   look_row (Stage.Changed hand) next most ends is order = elim is [ ]
+  look_row (Stage.Wiping locked) next most ends is order = elim is [ ]
   look_row Stage.Ending next most ends is order = elim is [ ]
 
   store_row : (stage : Stage) (next : Next) → map_last c ≡ 6 → ((k : ℕ) (r : Law.Reply) → map_ends c k r ≡ store_ends k r) → StoreAfter stage n → StoreOrder stage next → MapRow c n (next_turn next)
@@ -123,6 +125,7 @@ module _ (c : Law.MapCommand) (n : ℕ) where
     | link_ends led ↦ row_step next Stage.Ending 4 6 led is most (omega arith)
   ]
   store_row (Stage.Changed hand) next most ends is order = row_step next Stage.Ending 5 6 order is most (omega arith)
+  store_row (Stage.Wiping locked) next most ends is order = elim is [ ]
   store_row Stage.Ending next most ends is order = elim is [
     | inl five ↦ row_done next Reply.Ok 5 order five (ends 5 Law.Reply.Done)
     | inr six ↦ row_done next Reply.Ok 6 order six (ends 6 Law.Reply.Done)
@@ -141,22 +144,39 @@ module _ (c : Law.MapCommand) (n : ℕ) where
   ]
   delete_row (Stage.Taken found hand) next most ends is order = elim is [ ]
   delete_row (Stage.Changed hand) next most ends is order = row_step next Stage.Ending 4 5 order is most (omega arith)
+  delete_row (Stage.Wiping locked) next most ends is order = elim is [ ]
   delete_row Stage.Ending next most ends is order = row_done next Reply.Ok 5 order is (ends 5 Law.Reply.Done)
+
+  wipe_row : (stage : Stage) (next : Next) → map_last c ≡ 3 → ((r : Law.Reply) → map_ends c 3 r ≡ true) → WipeAfter stage n → WipeOrder stage next → MapRow c n (next_turn next)
+  wipe_row Stage.Begun next most ends is order = row_step next (Stage.Wiping Wipes.Records) 0 3 order is most (omega arith)
+  wipe_row Stage.Chained next most ends is order = elim is [ ]
+  wipe_row (Stage.Looked found) next most ends is order = elim is [ ]
+  wipe_row (Stage.Listed found) next most ends is order = elim is [ ]
+  wipe_row (Stage.Taken found hand) next most ends is order = elim is [ ]
+  wipe_row (Stage.Changed hand) next most ends is order = elim is [ ]
+  wipe_row (Stage.Wiping Wipes.Records) next most ends is order = row_step next (Stage.Wiping Wipes.FreeList) 1 3 order is most (omega arith)
+  wipe_row (Stage.Wiping Wipes.FreeList) next most ends is order = elim order [
+    | inl led ↦ row_step next Stage.Ending 2 3 led is most (omega arith)
+    | inr starved ↦ row_starves next 2 3 starved is most (omega arith)
+  ]
+  wipe_row Stage.Ending next most ends is order = row_done next Reply.Ok 3 order is (ends Law.Reply.Done)
 
 pub row_of : (command : Plain) (n : ℕ) (stage : Stage) (next : Next) → IsAfter command stage n → InOrder command stage next → MapRow (command_of command) n (next_turn next)
 row_of (Fetch k) n stage next is order = look_row (command_of (Fetch k)) n stage next refl (λ r. refl) is order
 row_of (Has k) n stage next is order = look_row (command_of (Has k)) n stage next refl (λ r. refl) is order
 row_of (Store k v flag) n stage next is order = store_row (command_of (Store k v flag)) n stage next (store_last flag k v) (store_may_end flag k v) is order
 row_of (Delete k) n stage next is order = delete_row (command_of (Delete k)) n stage next refl (λ k r. refl) is order
+row_of Wipe n stage next is order = wipe_row (command_of Wipe) n stage next refl (λ r. refl) is order
 
 -- a turn that takes a lock leads on in the order of the command
-lock_order : (command : Plain) (n : ℕ) (stage : Stage) → LockStage stage → IsAfter command stage n → InOrder command stage (Next.Step (locked_stage stage))
-lock_order command n stage (lock_first at) is = subst (λ x. InOrder command x (Next.Step (locked_stage x))) (sym at) (begun_order command)
-lock_order command n stage (lock_second found at) is = subst (λ x. InOrder command x (Next.Step (locked_stage x))) (sym at) (looked_order command n found (subst (λ x. IsAfter command x n) at is))
+lock_order : (command : Plain) (n : ℕ) (stage : Stage) → LockStage stage → IsAfter command stage n → InOrder command stage (Next.Step (locked_stage command stage))
+lock_order command n stage (lock_first at) is = subst (λ x. InOrder command x (Next.Step (locked_stage command x))) (sym at) (begun_order command)
+lock_order command n stage (lock_second found at) is = subst (λ x. InOrder command x (Next.Step (locked_stage command x))) (sym at) (looked_order command n found (subst (λ x. IsAfter command x n) at is))
+lock_order command n stage (lock_both at) is = subst (λ x. InOrder command x (Next.Step (locked_stage command x))) (sym at) (wiping_order command n (subst (λ x. IsAfter command x n) at is))
 
 module _ (command : Plain) (chain n : ℕ) (stage : Stage) (e : Doing) (locks : HeldLocks) (owner : ℕ) (old new : List Piece) (rows : Rows) (r : LockRow) (at : row_at rows stage ≡ Some r) (is : IsAfter command stage n) where
   lock_leads : n < map_last (command_of command)
-  lock_leads = row_of command n stage (Next.Step (locked_stage stage)) is (lock_order command n stage (lock_stage rows stage r at) is)
+  lock_leads = row_of command n stage (Next.Step (locked_stage command stage)) is (lock_order command n stage (lock_stage rows stage r at) is)
 
   pub lock_row : (turn : Turn) → LockLed locks owner old new rows r (record { command = command; chain = chain; stage = stage }) e turn → MapRow (command_of command) n (turn_of turn)
   lock_row Turns.Step L = lock_leads
@@ -166,7 +186,7 @@ module _ (command : Plain) (chain n : ℕ) (stage : Stage) (e : Doing) (locks : 
   pub lock_leaves : (turn : Turn) → LockLed locks owner old new rows r (record { command = command; chain = chain; stage = stage }) e turn → Leaves (record { command = command; chain = chain; stage = stage }) e n (turn_of turn)
   lock_leaves Turns.Step L =
       subst (λ x. Leaves (record { command = command; chain = chain; stage = stage }) x n Law.Turn.Step) (sym L.0)
-      (refl, refl, next_after command n stage (locked_stage stage) is (lock_order command n stage (lock_stage rows stage r at) is))
+      (refl, refl, next_after command n stage (locked_stage command stage) is (lock_order command n stage (lock_stage rows stage r at) is))
   lock_leaves (Turns.Blocked other byte) L = L.0
   lock_leaves (Turns.Done reply) L = (ap (λ x. x.command) L.1, ap (λ x. x.chain) L.1, ap (λ x. x.stage) L.1)
 

@@ -2,11 +2,10 @@
 use Rattle.std.proofs.Common.{◌≡◌, ℕ, ◌+◌, ◌≤◌, max, inl, inr, ◌⊎◌, Bool, true, false, List, [], ◌++◌, Option, None, Some, refl, sym, ◌∙◌, ap, subst, arith, zero-le, le_refl, nat_le, ◌==◌}
 use Rattle.std.specs.Prelude.{if◌then◌else◌}
 use Rattle.tdb_space.specs.Form.{Form}
-use Rattle.tdb_space.specs.Pairs.{home}
 use Rattle.tdb_space.specs.Extents.{HandPair}
 use Rattle.tdb_space.specs.Accepted.{AcceptWith}
 use Rattle.tdb_space.specs.Stays.{ChangesOnly}
-use Rattle.tdb_space.proofs.Stays.{changes_none, changes_weaker}
+use Rattle.tdb_space.proofs.Stays.{changes_none}
 use Rattle.tdb_locks.specs.HeldLocks.{HeldLocks}
 use Rattle.tdb_locks.specs.declared.piece.Piece.{Piece}
 use Rattle.tdb_locks.specs.declared.turn.Reply.{Reply}
@@ -15,8 +14,9 @@ use Rattle.tdb_law.specs.Rows.{map_changed}
 use Rattle.tdb_law.specs.Held.{locked, locked_next}
 use Rattle.tdb_law.proofs.Locks.{locked_none}
 use Rattle.tdb_steps.specs.declared.plain.Plain.{Plain}
-use Rattle.tdb_steps.specs.declared.plain.Plain.TheVariants.{Fetch, Has, Store, Delete}
+use Rattle.tdb_steps.specs.declared.plain.Plain.TheVariants.{Fetch, Has, Store, Delete, Wipe}
 use Rattle.tdb_steps.specs.declared.stage.Stage.{Stage}
+use Rattle.tdb_steps.specs.declared.stage.WipeStage.TheVariants as Wipes
 use Rattle.tdb_steps.specs.declared.stage.Next.{Next}
 use Rattle.tdb_steps.specs.declared.rows.LockRow.{LockRow}
 use Rattle.tdb_steps.specs.declared.rows.Rows.{Rows}
@@ -24,18 +24,21 @@ use Rattle.tdb_steps.specs.declared.rows.Region.TheVariants.{FreeList}
 use Rattle.tdb_locks.specs.declared.kind.Kind.TheVariants.{Write}
 use Rattle.tdb_law.specs.Rows.{Lock}
 use Rattle.std.proofs.lemmas.Bool.{ne_eqb}
-use Rattle.tdb_steps.specs.Stages.{hands_in, Knows, HoldsChain, locked_stage}
-use Rattle.tdb_steps.specs.Turns.{TurnMade, Makes}
+use Rattle.tdb_steps.specs.Stages.{hands_in, MayBeOut, Knows, first_stage, locked_stage}
+use Rattle.tdb_steps.specs.Asked.{Asked}
+use Rattle.tdb_steps.specs.Turns.{Makes}
 use Rattle.tdb_steps.specs.PlainCommands.{key_of, asked_of, command_of, reply_of, turn_of}
-use Rattle.tdb_steps.specs.LockRows.{strength_of, locks_in, rows_of, reader_rows, writer_rows, row_at}
+use Rattle.tdb_steps.specs.LockRows.{strength_of, locks_in, rows_of, reader_rows, writer_rows, wipe_rows, row_at}
 use Rattle.tdb_steps.specs.Holdings.{KeptBeside, HoldsBefore}
-use Rattle.tdb_steps.specs.Order.{InOrder, LookOrder, StoreOrder, DeleteOrder, LookAfter, StoreAfter, DeleteAfter, IsAfter}
-use Rattle.tdb_steps.specs.Machines.{Doing, DoingKnows, MachineTurned}
+use Rattle.tdb_steps.specs.Order.{InOrder, LookOrder, StoreOrder, DeleteOrder, WipeOrder, LookAfter, StoreAfter, DeleteAfter, WipeAfter, IsAfter}
+use Rattle.tdb_steps.specs.Machines.{Doing, DoingKnows, CommandMakes, IsOn, MachineTurned}
 use Rattle.tdb_steps.specs.LockTurns.{LockLed}
 use Rattle.tdb_locks.specs.declared.turn.Turn.{Turn}
 use Rattle.tdb_locks.specs.declared.turn.Turn.TheVariants as Turns
 use Rattle.tdb_chain.specs.declared.place.Place.{Place}
 use Rattle.tdb_steps.proofs.Made.{same_made}
+use Rattle.tdb_steps.proofs.WipeMade.{wipe_waits}
+use Rattle.tdb_steps.proofs.CommandMade.{CommandMade, command_made}
 use Rattle.tdb_steps.specs.Machines.MapTurned.{map_waits, map_starves}
 use Rattle.tdb_steps.proofs.Holdings.{want}
 use Rattle.tdb_steps.proofs.Cases.{looks_case, takes_case, links_case, unlinks_case}
@@ -43,7 +46,7 @@ use Rattle.tdb_steps.proofs.Cases.LooksCase.{look_on, look_ends}
 use Rattle.tdb_steps.proofs.Cases.TakesCase.{take_on, take_full, take_starves}
 use Rattle.tdb_steps.proofs.Cases.LinksCase.{link_over, link_ends}
 use Rattle.tdb_steps.proofs.Cases.UnlinksCase.{unlink_on, unlink_starves}
-use Rattle.tdb_steps.proofs.Lawful.{map_turned, store_changed}
+use Rattle.tdb_steps.proofs.Lawful.{store_changed}
 
 -- the lock of the free list, in the row of a change
 abbrev free_row : LockRow
@@ -58,6 +61,10 @@ stepped e = cc
 small_if : (b : Bool) (s : ℕ) → (if b then s else 0) ≤ s
 small_if true s = le_refl s
 small_if false s = zero-le
+
+-- the same lock, in the row of a wipe
+abbrev wipe_row : LockRow
+wipe_row = record { turn = 1; region = FreeList; kind = Write }
 
 -- the turn that takes a lock of a row wants just that, and before it nothing stronger is locked
 pub record RowFacts (rows : Rows) (n : ℕ) (r : LockRow) : Type 0 where
@@ -109,6 +116,7 @@ look_facts chain n (Stage.Looked found) r is at = elim is [ ]
 look_facts chain n (Stage.Listed found) r is at = elim is [ ]
 look_facts chain n (Stage.Taken found hand) r is at = elim is [ ]
 look_facts chain n (Stage.Changed hand) r is at = elim is [ ]
+look_facts chain n (Stage.Wiping locked) r is at = elim is [ ]
 look_facts chain n Stage.Ending r is at = elim is [ ]
 
 store_facts : (chain n : ℕ) (stage : Stage) (r : LockRow) → StoreAfter stage n → row_at (writer_rows chain) stage ≡ Some r → RowFacts (writer_rows chain) n r
@@ -118,6 +126,7 @@ store_facts chain n (Stage.Looked found) r is at = writer_facts chain n r (inr (
 store_facts chain n (Stage.Listed found) r is at = cc
 store_facts chain n (Stage.Taken found hand) r is at = cc
 store_facts chain n (Stage.Changed hand) r is at = cc
+store_facts chain n (Stage.Wiping locked) r is at = elim is [ ]
 store_facts chain n Stage.Ending r is at = cc
 
 delete_facts : (chain n : ℕ) (stage : Stage) (r : LockRow) → DeleteAfter stage n → row_at (writer_rows chain) stage ≡ Some r → RowFacts (writer_rows chain) n r
@@ -127,13 +136,40 @@ delete_facts chain n (Stage.Looked found) r is at = writer_facts chain n r (inr 
 delete_facts chain n (Stage.Listed found) r is at = cc
 delete_facts chain n (Stage.Taken found hand) r is at = elim is [ ]
 delete_facts chain n (Stage.Changed hand) r is at = cc
+delete_facts chain n (Stage.Wiping locked) r is at = elim is [ ]
 delete_facts chain n Stage.Ending r is at = cc
+
+wipe_first : (n : ℕ) → n ≡ 0 → RowFacts wipe_rows n wipe_rows.first
+wipe_first n is = record {
+  next = λ b. subst (λ x. locked_next (locks_in wipe_rows) x b ≡ want wipe_rows.first b) (sym is) (max_none (want wipe_rows.first b));
+  low = λ b. first_low (locks_in wipe_rows) b 2 n is;
+  beside = λ locks kept owner ps H. H.first;
+}
+
+wipe_second : (n : ℕ) → n ≡ 1 → RowFacts wipe_rows n wipe_row
+wipe_second n is = record {
+  next = λ b. subst (λ x. locked_next (locks_in wipe_rows) x b ≡ want wipe_row b) (sym is) (none_max (want wipe_row b));
+  low = λ b. both_low _ _ 2 (small_if _ 2) (small_if _ 2);
+  beside = λ locks kept owner ps H. H.second;
+}
+
+wipe_facts : (n : ℕ) (stage : Stage) (r : LockRow) → WipeAfter stage n → row_at wipe_rows stage ≡ Some r → RowFacts wipe_rows n r
+wipe_facts n Stage.Begun r is at = let e : wipe_rows.first ≡ r = injected at in subst (RowFacts wipe_rows n) e (wipe_first n is)
+wipe_facts n Stage.Chained r is at = elim is [ ]
+wipe_facts n (Stage.Looked found) r is at = elim is [ ]
+wipe_facts n (Stage.Listed found) r is at = elim is [ ]
+wipe_facts n (Stage.Taken found hand) r is at = elim is [ ]
+wipe_facts n (Stage.Changed hand) r is at = elim is [ ]
+wipe_facts n (Stage.Wiping Wipes.Records) r is at = let e : wipe_row ≡ r = injected at in subst (RowFacts wipe_rows n) e (wipe_second n is)
+wipe_facts n (Stage.Wiping Wipes.FreeList) r is at = cc
+wipe_facts n Stage.Ending r is at = cc
 
 pub row_facts : (command : Plain) (chain n : ℕ) (stage : Stage) (r : LockRow) → IsAfter command stage n → row_at (rows_of command chain) stage ≡ Some r → RowFacts (rows_of command chain) n r
 row_facts (Fetch k) chain n stage r is at = look_facts chain n stage r is at
 row_facts (Has k) chain n stage r is at = look_facts chain n stage r is at
 row_facts (Store k v flag) chain n stage r is at = store_facts chain n stage r is at
 row_facts (Delete k) chain n stage r is at = delete_facts chain n stage r is at
+row_facts Wipe chain n stage r is at = wipe_facts n stage r is at
 
 -- any other turn wants nothing
 nothing_read : (chain n : ℕ) → n ≡ 1 → (b : ℕ) → locked_next (locks_in (reader_rows chain)) n b ≡ 0
@@ -152,6 +188,7 @@ look_idle chain n (Stage.Looked found) is at b = elim is [ ]
 look_idle chain n (Stage.Listed found) is at b = elim is [ ]
 look_idle chain n (Stage.Taken found hand) is at b = elim is [ ]
 look_idle chain n (Stage.Changed hand) is at b = elim is [ ]
+look_idle chain n (Stage.Wiping locked) is at b = elim is [ ]
 look_idle chain n Stage.Ending is at b = elim is [ ]
 
 store_idle : (chain n : ℕ) (stage : Stage) → StoreAfter stage n → row_at (writer_rows chain) stage ≡ None → (b : ℕ) → locked_next (locks_in (writer_rows chain)) n b ≡ 0
@@ -161,6 +198,7 @@ store_idle chain n (Stage.Looked found) is at b = cc
 store_idle chain n (Stage.Listed found) is at b = nothing_written chain n 3 is (inr (omega arith)) b
 store_idle chain n (Stage.Taken found hand) is at b = nothing_written chain n 4 is (inr (omega arith)) b
 store_idle chain n (Stage.Changed hand) is at b = nothing_written chain n 5 is (inr (omega arith)) b
+store_idle chain n (Stage.Wiping locked) is at b = elim is [ ]
 store_idle chain n Stage.Ending (inl is) at b = nothing_written chain n 5 is (inr (omega arith)) b
 store_idle chain n Stage.Ending (inr is) at b = nothing_written chain n 6 is (inr (omega arith)) b
 
@@ -171,13 +209,29 @@ delete_idle chain n (Stage.Looked found) is at b = cc
 delete_idle chain n (Stage.Listed found) is at b = nothing_written chain n 3 is (inr (omega arith)) b
 delete_idle chain n (Stage.Taken found hand) is at b = elim is [ ]
 delete_idle chain n (Stage.Changed hand) is at b = nothing_written chain n 4 is (inr (omega arith)) b
+delete_idle chain n (Stage.Wiping locked) is at b = elim is [ ]
 delete_idle chain n Stage.Ending is at b = nothing_written chain n 5 is (inr (omega arith)) b
+
+nothing_wiped : (n k : ℕ) → n ≡ k → ((b : ℕ) → locked_next (locks_in wipe_rows) k b ≡ 0) → (b : ℕ) → locked_next (locks_in wipe_rows) n b ≡ 0
+nothing_wiped n k is nothing b = subst (λ x. locked_next (locks_in wipe_rows) x b ≡ 0) (sym is) (nothing b)
+
+wipe_idle : (n : ℕ) (stage : Stage) → WipeAfter stage n → row_at wipe_rows stage ≡ None → (b : ℕ) → locked_next (locks_in wipe_rows) n b ≡ 0
+wipe_idle n Stage.Begun is at b = cc
+wipe_idle n Stage.Chained is at b = elim is [ ]
+wipe_idle n (Stage.Looked found) is at b = elim is [ ]
+wipe_idle n (Stage.Listed found) is at b = elim is [ ]
+wipe_idle n (Stage.Taken found hand) is at b = elim is [ ]
+wipe_idle n (Stage.Changed hand) is at b = elim is [ ]
+wipe_idle n (Stage.Wiping Wipes.Records) is at b = cc
+wipe_idle n (Stage.Wiping Wipes.FreeList) is at b = nothing_wiped n 2 is (λ i. refl) b
+wipe_idle n Stage.Ending is at b = nothing_wiped n 3 is (λ i. refl) b
 
 pub row_idle : (command : Plain) (chain n : ℕ) (stage : Stage) → IsAfter command stage n → row_at (rows_of command chain) stage ≡ None → (b : ℕ) → locked_next (locks_in (rows_of command chain)) n b ≡ 0
 row_idle (Fetch k) chain n stage is at b = look_idle chain n stage is at b
 row_idle (Has k) chain n stage is at b = look_idle chain n stage is at b
 row_idle (Store k v flag) chain n stage is at b = store_idle chain n stage is at b
 row_idle (Delete k) chain n stage is at b = delete_idle chain n stage is at b
+row_idle Wipe chain n stage is at b = wipe_idle n stage is at b
 
 -- the steps that a command has had after a turn that leads on
 look_after : (n : ℕ) (stage onto : Stage) → LookAfter stage n → LookOrder stage (Next.Step onto) → LookAfter onto (n + 1)
@@ -187,6 +241,7 @@ look_after n (Stage.Looked found) onto is order = elim is [ ]
 look_after n (Stage.Listed found) onto is order = elim is [ ]
 look_after n (Stage.Taken found hand) onto is order = elim is [ ]
 look_after n (Stage.Changed hand) onto is order = elim is [ ]
+look_after n (Stage.Wiping locked) onto is order = elim is [ ]
 look_after n Stage.Ending onto is order = elim is [ ]
 
 store_after : (n : ℕ) (stage onto : Stage) → StoreAfter stage n → StoreOrder stage (Next.Step onto) → StoreAfter onto (n + 1)
@@ -196,6 +251,7 @@ store_after n (Stage.Looked found) onto is order = subst (λ x. StoreAfter x (n 
 store_after n (Stage.Listed found) onto is order = elim (takes_case (Next.Step onto) order) [ take_on place hand led ↦ subst (λ x. StoreAfter x (n + 1)) (sym (stepped led)) (ap (λ k. k + 1) is) | take_full len need led ↦ cc | take_starves led ↦ cc ]
 store_after n (Stage.Taken found hand) onto is order = elim (links_case (Next.Step onto) order) [ link_over old led ↦ subst (λ x. StoreAfter x (n + 1)) (sym (stepped led)) (ap (λ k. k + 1) is) | link_ends led ↦ subst (λ x. StoreAfter x (n + 1)) (sym (stepped led)) (inl (ap (λ k. k + 1) is)) ]
 store_after n (Stage.Changed hand) onto is order = subst (λ x. StoreAfter x (n + 1)) (sym (stepped order)) (inr (ap (λ k. k + 1) is))
+store_after n (Stage.Wiping locked) onto is order = elim is [ ]
 store_after n Stage.Ending onto is order = cc
 
 delete_after : (n : ℕ) (stage onto : Stage) → DeleteAfter stage n → DeleteOrder stage (Next.Step onto) → DeleteAfter onto (n + 1)
@@ -205,81 +261,64 @@ delete_after n (Stage.Looked found) onto is order = subst (λ x. DeleteAfter x (
 delete_after n (Stage.Listed found) onto is order = elim (unlinks_case (Next.Step onto) order) [ unlink_on hand led ↦ subst (λ x. DeleteAfter x (n + 1)) (sym (stepped led)) (ap (λ k. k + 1) is) | unlink_starves led ↦ cc ]
 delete_after n (Stage.Taken found hand) onto is order = elim is [ ]
 delete_after n (Stage.Changed hand) onto is order = subst (λ x. DeleteAfter x (n + 1)) (sym (stepped order)) (ap (λ k. k + 1) is)
+delete_after n (Stage.Wiping locked) onto is order = elim is [ ]
 delete_after n Stage.Ending onto is order = cc
+
+wipe_after : (n : ℕ) (stage onto : Stage) → WipeAfter stage n → WipeOrder stage (Next.Step onto) → WipeAfter onto (n + 1)
+wipe_after n Stage.Begun onto is order = subst (λ x. WipeAfter x (n + 1)) (sym (stepped order)) (ap (λ k. k + 1) is)
+wipe_after n Stage.Chained onto is order = elim is [ ]
+wipe_after n (Stage.Looked found) onto is order = elim is [ ]
+wipe_after n (Stage.Listed found) onto is order = elim is [ ]
+wipe_after n (Stage.Taken found hand) onto is order = elim is [ ]
+wipe_after n (Stage.Changed hand) onto is order = elim is [ ]
+wipe_after n (Stage.Wiping Wipes.Records) onto is order = subst (λ x. WipeAfter x (n + 1)) (sym (stepped order)) (ap (λ k. k + 1) is)
+wipe_after n (Stage.Wiping Wipes.FreeList) onto is order = elim order [ inl led ↦ subst (λ x. WipeAfter x (n + 1)) (sym (stepped led)) (ap (λ k. k + 1) is) | inr starved ↦ cc ]
+wipe_after n Stage.Ending onto is order = cc
 
 pub next_after : (command : Plain) (n : ℕ) (stage onto : Stage) → IsAfter command stage n → InOrder command stage (Next.Step onto) → IsAfter command onto (n + 1)
 next_after (Fetch k) n stage onto is order = look_after n stage onto is order
 next_after (Has k) n stage onto is order = look_after n stage onto is order
 next_after (Store k v flag) n stage onto is order = store_after n stage onto is order
 next_after (Delete k) n stage onto is order = delete_after n stage onto is order
-
--- the chain is held from the second turn on
-look_late : (n : ℕ) (stage : Stage) → LookAfter stage n → HoldsChain stage → 1 ≤ n
-look_late n Stage.Begun is holds = elim holds [ ]
-look_late n Stage.Chained is holds = omega (arith, is)
-look_late n (Stage.Looked found) is holds = elim is [ ]
-look_late n (Stage.Listed found) is holds = elim is [ ]
-look_late n (Stage.Taken found hand) is holds = elim is [ ]
-look_late n (Stage.Changed hand) is holds = elim is [ ]
-look_late n Stage.Ending is holds = elim is [ ]
-
-store_late : (n : ℕ) (stage : Stage) → StoreAfter stage n → HoldsChain stage → 1 ≤ n
-store_late n Stage.Begun is holds = elim holds [ ]
-store_late n Stage.Chained is holds = omega (arith, is)
-store_late n (Stage.Looked found) is holds = omega (arith, is)
-store_late n (Stage.Listed found) is holds = omega (arith, is)
-store_late n (Stage.Taken found hand) is holds = omega (arith, is)
-store_late n (Stage.Changed hand) is holds = omega (arith, is)
-store_late n Stage.Ending is holds = elim is [ inl five ↦ omega (arith, five) | inr six ↦ omega (arith, six) ]
-
-delete_late : (n : ℕ) (stage : Stage) → DeleteAfter stage n → HoldsChain stage → 1 ≤ n
-delete_late n Stage.Begun is holds = elim holds [ ]
-delete_late n Stage.Chained is holds = omega (arith, is)
-delete_late n (Stage.Looked found) is holds = omega (arith, is)
-delete_late n (Stage.Listed found) is holds = omega (arith, is)
-delete_late n (Stage.Taken found hand) is holds = elim is [ ]
-delete_late n (Stage.Changed hand) is holds = omega (arith, is)
-delete_late n Stage.Ending is holds = omega (arith, is)
-
-held_late : (command : Plain) (n : ℕ) (stage : Stage) → IsAfter command stage n → HoldsChain stage → 1 ≤ n
-held_late (Fetch k) n stage is holds = look_late n stage is holds
-held_late (Has k) n stage is holds = look_late n stage is holds
-held_late (Store k v flag) n stage is holds = store_late n stage is holds
-held_late (Delete k) n stage is holds = delete_late n stage is holds
+next_after Wipe n stage onto is order = wipe_after n stage onto is order
 
 -- a turn without a lock, that led on or ended
-module _ (f : Form) (a b : List ℕ) (command : Plain) (chain n : ℕ) (stage : Stage) (is : IsAfter command stage n) (others : List HandPair) (K : Knows f a (key_of command) (asked_of command) stage) where
-  only_then : (next : Next) → TurnMade f a b (key_of command) (asked_of command) stage next others → ChangesOnly f a b (λ k. (k ≡ home f (key_of command)) × (1 ≤ n))
-  only_then next T = changes_weaker f a b (λ k. (k ≡ home f (key_of command)) × HoldsChain stage) (λ k. (k ≡ home f (key_of command)) × (1 ≤ n)) (λ k both. (both.0, held_late command n stage is both.1)) T.only
-
-  pub stepped_on : (onto : Stage) → InOrder command stage (Next.Step onto) → TurnMade f a b (key_of command) (asked_of command) stage (Next.Step onto) others
+module _ (f : Form) (a b : List ℕ) (command : Plain) (chain n : ℕ) (stage : Stage) (others : List HandPair) where
+  pub stepped_on : (onto : Stage) → CommandMade f a b command n (Next.Step onto) others
       → MachineTurned f a b (record { command = command; chain = chain; stage = stage }) (record { command = command; chain = chain; stage = onto }) n Law.Turn.Step others
-  stepped_on onto order T = record { accepted = T.accepted; knows = T.knows; only = only_then (Next.Step onto) T; map = λ m M. map_turned command f a b stage (Next.Step onto) n m others M is order K T }
+  stepped_on onto T = record { accepted = T.accepted; knows = T.knows; only = T.only; map = T.map }
 
-  pub ended_so : (r : Reply) → InOrder command stage (Next.Done r) → TurnMade f a b (key_of command) (asked_of command) stage (Next.Done r) others
+  pub ended_so : (r : Reply) → CommandMade f a b command n (Next.Done r) others
       → MachineTurned f a b (record { command = command; chain = chain; stage = stage }) (record { command = command; chain = chain; stage = Stage.Begun }) n (Law.Turn.Ends (reply_of r)) others
-  ended_so r order T = record { accepted = T.accepted; knows = tt; only = only_then (Next.Done r) T; map = λ m M. map_turned command f a b stage (Next.Done r) n m others M is order K T }
+  ended_so r T = record { accepted = T.accepted; knows = tt; only = T.only; map = T.map }
 
 -- the same of a machine, whose stage was taken out for the turn and put back after it
-module _ (f : Form) (a b : List ℕ) (command : Plain) (chain n : ℕ) (stage taken : Stage) (led : Next) (d e : Doing) (others : List HandPair) (was : d ≡ record { command = command; chain = chain; stage = stage }) (out : taken ≡ stage) (order : InOrder command taken led) (made : Makes f a b (key_of command) (asked_of command) taken led) where
-  pub act_stepped : (onto : Stage) → led ≡ Next.Step onto → e ≡ record { command = command; chain = chain; stage = onto } → IsAfter d.command d.stage n → AcceptWith f a (hands_in d.stage ++ others) → DoingKnows f a d → MachineTurned f a b d e n Law.Turn.Step others
-  act_stepped onto on now =
-      subst (λ x. IsAfter x.command x.stage n → AcceptWith f a (hands_in x.stage ++ others) → DoingKnows f a x → MachineTurned f a b x e n Law.Turn.Step others) (sym was)
-      (subst (λ y. IsAfter command stage n → AcceptWith f a (hands_in stage ++ others) → Knows f a (key_of command) (asked_of command) stage → MachineTurned f a b (record { command = command; chain = chain; stage = stage }) y n Law.Turn.Step others) (sym now)
-      (λ is A K. stepped_on f a b command chain n stage is others K onto (subst (λ x. InOrder command x (Next.Step onto)) out (subst (InOrder command taken) on order))
-      (subst (λ x. Makes f a b (key_of command) (asked_of command) x (Next.Step onto)) out (subst (Makes f a b (key_of command) (asked_of command) taken) on made) others A K)))
+module _ (f : Form) (a b : List ℕ) (command : Plain) (chain n : ℕ) (stage taken : Stage) (led : Next) (d e : Doing) (others : List HandPair) (was : d ≡ record { command = command; chain = chain; stage = stage }) (out : taken ≡ stage) (order : InOrder command taken led) (made : CommandMakes f a b command taken led) where
+  -- what the turn from a stage makes of a machine, given what is so before it
+  abbrev From : Doing → Doing → Law.Turn → Type 0
+  From x y turn = IsAfter x.command x.stage n → MayBeOut x.stage others → AcceptWith f a (hands_in x.stage ++ others) → DoingKnows f a x → MachineTurned f a b x y n turn others
 
-  pub act_ended : (r : Reply) → led ≡ Next.Done r → e ≡ record { command = command; chain = chain; stage = Stage.Begun } → IsAfter d.command d.stage n → AcceptWith f a (hands_in d.stage ++ others) → DoingKnows f a d → MachineTurned f a b d e n (Law.Turn.Ends (reply_of r)) others
+  turned_so : (next : Next) → led ≡ next → IsAfter command stage n → MayBeOut stage others → AcceptWith f a (hands_in stage ++ others) → Knows f a (key_of command) (asked_of command) stage → CommandMade f a b command n next others
+  turned_so next on is may A K = command_made command f a b n stage next others is (subst (λ x. InOrder command x next) out (subst (InOrder command taken) on order)) may A K
+      (subst (λ x. CommandMakes f a b command x next) out (subst (CommandMakes f a b command taken) on made))
+
+  pub act_stepped : (onto : Stage) → led ≡ Next.Step onto → e ≡ record { command = command; chain = chain; stage = onto } → From d e Law.Turn.Step
+  act_stepped onto on now =
+      subst (λ x. From x e Law.Turn.Step) (sym was)
+      (subst (λ y. From (record { command = command; chain = chain; stage = stage }) y Law.Turn.Step) (sym now)
+      (λ is may A K. stepped_on f a b command chain n stage others onto (turned_so (Next.Step onto) on is may A K)))
+
+  pub act_ended : (r : Reply) → led ≡ Next.Done r → e ≡ record { command = command; chain = chain; stage = Stage.Begun } → From d e (Law.Turn.Ends (reply_of r))
   act_ended r on now =
-      subst (λ x. IsAfter x.command x.stage n → AcceptWith f a (hands_in x.stage ++ others) → DoingKnows f a x → MachineTurned f a b x e n (Law.Turn.Ends (reply_of r)) others) (sym was)
-      (subst (λ y. IsAfter command stage n → AcceptWith f a (hands_in stage ++ others) → Knows f a (key_of command) (asked_of command) stage → MachineTurned f a b (record { command = command; chain = chain; stage = stage }) y n (Law.Turn.Ends (reply_of r)) others) (sym now)
-      (λ is A K. ended_so f a b command chain n stage is others K r (subst (λ x. InOrder command x (Next.Done r)) out (subst (InOrder command taken) on order))
-      (subst (λ x. Makes f a b (key_of command) (asked_of command) x (Next.Done r)) out (subst (Makes f a b (key_of command) (asked_of command) taken) on made) others A K)))
+      subst (λ x. From x e (Law.Turn.Ends (reply_of r))) (sym was)
+      (subst (λ y. From (record { command = command; chain = chain; stage = stage }) y (Law.Turn.Ends (reply_of r))) (sym now)
+      (λ is may A K. ended_so f a b command chain n stage others r (turned_so (Next.Done r) on is may A K)))
 
 -- the stages from which a turn takes a lock
 pub data LockStage (stage : Stage) : Type 0 where
   lock_first : stage ≡ Stage.Begun → LockStage stage
   lock_second : (found : Option Place) → stage ≡ Stage.Looked found → LockStage stage
+  lock_both : stage ≡ Stage.Wiping Wipes.Records → LockStage stage
 
 pub lock_stage : (rows : Rows) (stage : Stage) (r : LockRow) → row_at rows stage ≡ Some r → LockStage stage
 lock_stage rows Stage.Begun r at = lock_first refl
@@ -288,6 +327,8 @@ lock_stage rows (Stage.Looked found) r at = lock_second found refl
 lock_stage rows (Stage.Listed found) r at = cc
 lock_stage rows (Stage.Taken found hand) r at = cc
 lock_stage rows (Stage.Changed hand) r at = cc
+lock_stage rows (Stage.Wiping Wipes.Records) r at = lock_both refl
+lock_stage rows (Stage.Wiping Wipes.FreeList) r at = cc
 lock_stage rows Stage.Ending r at = cc
 
 -- before them nothing is changed
@@ -296,45 +337,97 @@ begun_unchanged (Fetch k) n is = refl
 begun_unchanged (Has k) n is = refl
 begun_unchanged (Store k v flag) n is = store_changed flag k v n ∙ ap (nat_le 5) is
 begun_unchanged (Delete k) n is = ap (nat_le 4) is
+begun_unchanged Wipe n is = ap (nat_le 3) is
 
 looked_unchanged : (command : Plain) (n : ℕ) (found : Option Place) → IsAfter command (Stage.Looked found) n → map_changed (command_of command) n ≡ false
 looked_unchanged (Fetch k) n found is = refl
 looked_unchanged (Has k) n found is = refl
 looked_unchanged (Store k v flag) n found is = store_changed flag k v n ∙ ap (nat_le 5) is
 looked_unchanged (Delete k) n found is = ap (nat_le 4) is
+looked_unchanged Wipe n found is = elim is [ ]
 
-pub begun_order : (command : Plain) → InOrder command Stage.Begun (Next.Step Stage.Chained)
+wiping_unchanged : (command : Plain) (n : ℕ) → IsAfter command (Stage.Wiping Wipes.Records) n → map_changed (command_of command) n ≡ false
+wiping_unchanged (Fetch k) n is = elim is [ ]
+wiping_unchanged (Has k) n is = elim is [ ]
+wiping_unchanged (Store k v flag) n is = elim is [ ]
+wiping_unchanged (Delete k) n is = elim is [ ]
+wiping_unchanged Wipe n is = ap (nat_le 3) is
+
+pub begun_order : (command : Plain) → InOrder command Stage.Begun (Next.Step (first_stage command))
 begun_order (Fetch k) = refl
 begun_order (Has k) = refl
 begun_order (Store k v flag) = refl
 begun_order (Delete k) = refl
+begun_order Wipe = refl
 
 pub looked_order : (command : Plain) (n : ℕ) (found : Option Place) → IsAfter command (Stage.Looked found) n → InOrder command (Stage.Looked found) (Next.Step (Stage.Listed found))
 looked_order (Fetch k) n found is = elim is [ ]
 looked_order (Has k) n found is = elim is [ ]
 looked_order (Store k v flag) n found is = refl
 looked_order (Delete k) n found is = refl
+looked_order Wipe n found is = elim is [ ]
+
+pub wiping_order : (command : Plain) (n : ℕ) → IsAfter command (Stage.Wiping Wipes.Records) n → InOrder command (Stage.Wiping Wipes.Records) (Next.Step (Stage.Wiping Wipes.FreeList))
+wiping_order (Fetch k) n is = elim is [ ]
+wiping_order (Has k) n is = elim is [ ]
+wiping_order (Store k v flag) n is = elim is [ ]
+wiping_order (Delete k) n is = elim is [ ]
+wiping_order Wipe n is = refl
+
+-- they make nothing of an image
+module _ (f : Form) (a : List ℕ) where
+  first_makes : (key : List ℕ) (asked : Asked) → Makes f a a key asked Stage.Begun (Next.Step Stage.Chained)
+  first_makes key asked others A K = same_made f a a key asked Stage.Begun (Next.Step Stage.Chained) others refl A refl tt tt
+
+  begun_makes : (command : Plain) → CommandMakes f a a command Stage.Begun (Next.Step (first_stage command))
+  begun_makes (Fetch k) = first_makes k (asked_of (Fetch k))
+  begun_makes (Has k) = first_makes k (asked_of (Has k))
+  begun_makes (Store k v flag) = first_makes k (asked_of (Store k v flag))
+  begun_makes (Delete k) = first_makes k (asked_of (Delete k))
+  begun_makes Wipe = λ others may A. wipe_waits f a Stage.Begun (Next.Step (Stage.Wiping Wipes.Records)) others A refl
+
+  second_makes : (key : List ℕ) (asked : Asked) (found : Option Place) → Makes f a a key asked (Stage.Looked found) (Next.Step (Stage.Listed found))
+  second_makes key asked found others A K = same_made f a a key asked (Stage.Looked found) (Next.Step (Stage.Listed found)) others refl A refl K tt
+
+  looked_makes : (command : Plain) (n : ℕ) (found : Option Place) → IsAfter command (Stage.Looked found) n → CommandMakes f a a command (Stage.Looked found) (Next.Step (Stage.Listed found))
+  looked_makes (Fetch k) n found is = second_makes k (asked_of (Fetch k)) found
+  looked_makes (Has k) n found is = second_makes k (asked_of (Has k)) found
+  looked_makes (Store k v flag) n found is = second_makes k (asked_of (Store k v flag)) found
+  looked_makes (Delete k) n found is = second_makes k (asked_of (Delete k)) found
+  looked_makes Wipe n found is = elim is [ ]
+
+  wiping_makes : (command : Plain) (n : ℕ) → IsAfter command (Stage.Wiping Wipes.Records) n → CommandMakes f a a command (Stage.Wiping Wipes.Records) (Next.Step (Stage.Wiping Wipes.FreeList))
+  wiping_makes (Fetch k) n is = elim is [ ]
+  wiping_makes (Has k) n is = elim is [ ]
+  wiping_makes (Store k v flag) n is = elim is [ ]
+  wiping_makes (Delete k) n is = elim is [ ]
+  wiping_makes Wipe n is = λ others may A. wipe_waits f a (Stage.Wiping Wipes.Records) (Next.Step (Stage.Wiping Wipes.FreeList)) others A refl
 
 -- a turn that takes a lock, over an image that stays
 module _ (f : Form) (a : List ℕ) (command : Plain) (chain n : ℕ) (others : List HandPair) where
   abbrev Led : Stage → Type 0
   Led x = IsAfter command x n → AcceptWith f a (hands_in x ++ others) → Knows f a (key_of command) (asked_of command) x
-      → MachineTurned f a a (record { command = command; chain = chain; stage = x }) (record { command = command; chain = chain; stage = locked_stage x }) n Law.Turn.Step others
+      → MachineTurned f a a (record { command = command; chain = chain; stage = x }) (record { command = command; chain = chain; stage = locked_stage command x }) n Law.Turn.Step others
 
   led : (stage : Stage) → LockStage stage → Led stage
-  led stage (lock_first at) = subst Led (sym at) (λ is A K. stepped_on f a a command chain n Stage.Begun is others K Stage.Chained (begun_order command) (same_made f a a (key_of command) (asked_of command) Stage.Begun (Next.Step Stage.Chained) others refl A refl tt tt))
-  led stage (lock_second found at) = subst Led (sym at) (λ is A K. stepped_on f a a command chain n (Stage.Looked found) is others K (Stage.Listed found) (looked_order command n found is) (same_made f a a (key_of command) (asked_of command) (Stage.Looked found) (Next.Step (Stage.Listed found)) others refl A refl K tt))
+  led stage (lock_first at) = subst Led (sym at) (λ is A K. stepped_on f a a command chain n Stage.Begun others (first_stage command) (command_made command f a a n Stage.Begun (Next.Step (first_stage command)) others is (begun_order command) tt A K (begun_makes f a command)))
+  led stage (lock_second found at) = subst Led (sym at) (λ is A K. stepped_on f a a command chain n (Stage.Looked found) others (Stage.Listed found)
+      (command_made command f a a n (Stage.Looked found) (Next.Step (Stage.Listed found)) others is (looked_order command n found is) tt A K (looked_makes f a command n found is)))
+  led stage (lock_both at) = subst Led (sym at) (λ is A K. stepped_on f a a command chain n (Stage.Wiping Wipes.Records) others (Stage.Wiping Wipes.FreeList)
+      (command_made command f a a n (Stage.Wiping Wipes.Records) (Next.Step (Stage.Wiping Wipes.FreeList)) others is (wiping_order command n is) tt A K (wiping_makes f a command n is)))
 
   unchanged : (stage : Stage) → LockStage stage → IsAfter command stage n → map_changed (command_of command) n ≡ false
   unchanged stage (lock_first at) is = begun_unchanged command n (subst (λ x. IsAfter command x n) at is)
   unchanged stage (lock_second found at) is = looked_unchanged command n found (subst (λ x. IsAfter command x n) at is)
+  unchanged stage (lock_both at) is = wiping_unchanged command n (subst (λ x. IsAfter command x n) at is)
 
   no_hands : (stage : Stage) → LockStage stage → hands_in stage ≡ []
   no_hands stage (lock_first at) = ap hands_in at
   no_hands stage (lock_second found at) = ap hands_in at
+  no_hands stage (lock_both at) = ap hands_in at
 
-  same_only : ChangesOnly f a a (λ k. (k ≡ home f (key_of command)) × (1 ≤ n))
-  same_only = changes_none f a (λ k. (k ≡ home f (key_of command)) × (1 ≤ n))
+  same_only : ChangesOnly f a a (λ k. IsOn f command k × (1 ≤ n))
+  same_only = changes_none f a (λ k. IsOn f command k × (1 ≤ n))
 
   -- whatever it comes to
   pub lock_turned : (stage : Stage) (e : Doing) (turn : Turn) (locks : HeldLocks) (owner : ℕ) (old new : List Piece) (rows : Rows) (r : LockRow) → row_at rows stage ≡ Some r

@@ -1,4 +1,4 @@
--- What a command on one key asks for: a reply, and the value that the key has afterwards, both by the value that it has before.
+-- What a command asks for of a key: a reply, and the value that the key has afterwards, both by the value that it has before.
 use Rattle.std.specs.Prelude.{ℕ, List, [], ◌++◌, Option, None, Some, unwrap_or}
 use Rattle.tdb_locks.specs.declared.turn.Reply.{Reply}
 use Rattle.tdb_steps.specs.declared.flag.Flag.{Flag}
@@ -48,3 +48,7 @@ deleted (Some v) = Reply.Ok
 
 abbrev pub deletes : Asked
 deletes = record { reply = deleted; left = λ _. None }
+
+-- of each key a wipe asks that it has no value afterwards, whatever it has before
+abbrev pub wipes : Asked
+wipes = record { reply = λ _. Reply.Ok; left = λ _. None }

@@ -7,13 +7,14 @@ use Rattle.tdb_locks.specs.declared.kind.Kind.TheVariants.{Read, Write}
 use Rattle.tdb_locks.specs.declared.piece.Piece.{Piece}
 use Rattle.tdb_law.specs.Rows.{Lock, lock, all_end}
 use Rattle.tdb_steps.specs.declared.plain.Plain.{Plain}
-use Rattle.tdb_steps.specs.declared.plain.Plain.TheVariants.{Fetch, Has, Store, Delete}
+use Rattle.tdb_steps.specs.declared.plain.Plain.TheVariants.{Fetch, Has, Store, Delete, Wipe}
 use Rattle.tdb_steps.specs.declared.rows.Region.{Region}
 use Rattle.tdb_steps.specs.declared.rows.Region.TheVariants.{Chain, FreeList, AllRecords}
 use Rattle.tdb_steps.specs.declared.rows.LockRow.{LockRow}
 use Rattle.tdb_steps.specs.declared.rows.Rows.{Rows}
 use Rattle.tdb_steps.specs.declared.stage.Stage.{Stage}
-use Rattle.tdb_steps.specs.declared.stage.Stage.TheVariants.{Begun, Looked}
+use Rattle.tdb_steps.specs.declared.stage.WipeStage.TheVariants.{Records}
+use Rattle.tdb_steps.specs.declared.stage.Stage.TheVariants.{Begun, Looked, Wiping}
 
 -- the first lock byte of a region, and the byte past its last
 abbrev pub start_of : Region → ℕ
@@ -42,23 +43,29 @@ second_lock (Some r) = lock_of r ∷ []
 abbrev pub locks_in : Rows → List Lock
 locks_in rows = lock_of rows.first ∷ second_lock rows.second
 
--- the locks of a look, and those of a change
+-- the locks of a look, those of a change, and those of a wipe
 abbrev pub reader_rows : ℕ → Rows
 reader_rows chain = record { first = record { turn = 0; region = Chain chain; kind = Read }; second = None }
 
 abbrev pub writer_rows : ℕ → Rows
 writer_rows chain = record { first = record { turn = 0; region = Chain chain; kind = Write }; second = Some (record { turn = 2; region = FreeList; kind = Write }) }
 
+abbrev pub wipe_rows : Rows
+wipe_rows = record { first = record { turn = 0; region = AllRecords; kind = Write }; second = Some (record { turn = 1; region = FreeList; kind = Write }) }
+
 abbrev pub rows_of : Plain → ℕ → Rows
 rows_of (Fetch key) chain = reader_rows chain
 rows_of (Has key) chain = reader_rows chain
 rows_of (Store key value flag) chain = writer_rows chain
 rows_of (Delete key) chain = writer_rows chain
+rows_of Wipe chain = wipe_rows
 
--- the lock that the turn from a stage takes: the first of its row before anything else, and the second after the look
+-- the lock that the turn from a stage takes: the first of its row before anything else, and the second after the look, or in a wipe
+-- next
 abbrev pub row_at : Rows → Stage → Option LockRow
 row_at rows Begun = Some rows.first
 row_at rows (Looked found) = rows.second
+row_at rows (Wiping Records) = rows.second
 row_at rows stage = None
 
 -- the explicit lock of all records covers a lock of this kind

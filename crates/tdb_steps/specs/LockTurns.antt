@@ -18,7 +18,7 @@ use Rattle.tdb_steps.specs.Machines.{Doing}
 -- conflict, and nothing changes; or memory is wanting, and all is let go.
 abbrev pub LockLed : HeldLocks → ℕ → List Piece → List Piece → Rows → LockRow → Doing → Doing → Turn → Type 0
 LockLed locks owner old new rows r d e Step =
-    (e ≡ record d { stage = locked_stage d.stage }) × (is_covered locks r ≡ true → new ≡ old)
+    (e ≡ record d { stage = locked_stage d.command d.stage }) × (is_covered locks r ≡ true → new ≡ old)
     × (is_covered locks r ≡ false → ChangesRange old new owner (start_of r.region) (end_of r.region) (Some r.kind) × IsFree old owner (start_of r.region) (end_of r.region) r.kind)
 LockLed locks owner old new rows r d e (Blocked other byte) =
     (e ≡ d) × (new ≡ old) × (kind : Kind) × IsFirstConflict old owner (start_of r.region) (end_of r.region) r.kind other byte kind

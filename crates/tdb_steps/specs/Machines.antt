@@ -14,10 +14,12 @@ use Rattle.tdb_law.specs.MapCommands.{reply, after, map_fills}
 use Rattle.tdb_law.specs.Rows.{map_changed}
 use Rattle.tdb_law.specs.Ends.{map_last, map_ends}
 use Rattle.tdb_steps.specs.declared.plain.Plain.{Plain}
-use Rattle.tdb_steps.specs.declared.plain.Plain.TheVariants.{Fetch, Has, Store, Delete}
+use Rattle.tdb_steps.specs.declared.plain.Plain.TheVariants.{Fetch, Has, Store, Delete, Wipe}
 use Rattle.tdb_steps.specs.declared.stage.Stage.{Stage}
 use Rattle.tdb_steps.specs.declared.stage.Stage.TheVariants.{Begun}
-use Rattle.tdb_steps.specs.Stages.{hands_in, Knows, OfLook, OfStore, OfDelete}
+use Rattle.tdb_steps.specs.declared.stage.Next.{Next}
+use Rattle.tdb_steps.specs.Turns.{Makes, WipeMakes}
+use Rattle.tdb_steps.specs.Stages.{hands_in, Knows, OfLook, OfStore, OfDelete, OfWipe}
 use Rattle.tdb_steps.specs.PlainCommands.{key_of, asked_of, command_of, IsMapOf}
 use Rattle.tdb_steps.specs.Order.{IsAfter}
 
@@ -37,6 +39,7 @@ IsShort (Fetch key) = length key < 2 ^ 32
 IsShort (Has key) = length key < 2 ^ 32
 IsShort (Store key value flag) = (length key < 2 ^ 32) × (length value < 2 ^ 32)
 IsShort (Delete key) = length key < 2 ^ 32
+IsShort Wipe = Unit {0}
 
 -- what a stage of a command needs of a view of this length and room, whatever its bytes are
 abbrev pub IsFit : Plain → Stage → ℕ → Spare → Type 0
@@ -44,6 +47,7 @@ IsFit (Fetch key) stage size spare = OfLook stage
 IsFit (Has key) stage size spare = OfLook stage
 IsFit (Store key value flag) stage size spare = OfStore (length key + length value) stage size spare
 IsFit (Delete key) stage size spare = OfDelete stage size spare
+IsFit Wipe stage size spare = OfWipe stage
 
 pub record Fits (d : Doing) (size : ℕ) (spare : Spare) : Type 0 where
   pub short : IsShort d.command
@@ -52,6 +56,16 @@ pub record Fits (d : Doing) (size : ℕ) (spare : Spare) : Type 0 where
 -- what a machine knows of an image
 abbrev pub DoingKnows : Form → List ℕ → Doing → Type 0
 DoingKnows f img d = Knows f img (key_of d.command) (asked_of d.command) d.stage
+
+-- what a turn of a command makes of an image
+abbrev pub CommandMakes : Form → List ℕ → List ℕ → Plain → Stage → Next → Type 0
+CommandMakes f a b Wipe old next = WipeMakes f a b old next
+CommandMakes f a b command old next = Makes f a b (key_of command) (asked_of command) old next
+
+-- the chains that a command may change: that of its key, and a wipe any
+abbrev pub IsOn : Form → Plain → ℕ → Type 0
+IsOn f Wipe k = Unit {0}
+IsOn f command k = k ≡ home f (key_of command)
 
 -- What a turn of a command that has had n steps makes of the file's map m, in the words of a world:
 --   waits      blocked; the map stays
@@ -77,12 +91,12 @@ MapRow c n (Blocked o byte) = Unit {0}
 MapRow c n (Ends r) = (map_ends c n r ≡ true) ⊎ ((r ≡ Memory) × (n ≤ map_last c))
 
 -- A turn of a machine led from image a to image b, where other hands are out that stay as they are. The new image is accepted with
--- them and the machine's own. At most the chain of its key changed, and that only after its first turn, which locks it. The turn is
--- one of the command's row, and the map and the reply are as the command says.
+-- them and the machine's own. At most the chain of its key changed, or any by a wipe, and that only after its first turn, which locks
+-- it, or all. The turn is one of the command's row, and the map and the reply are as the command says.
 pub record MachineTurned (f : Form) (a b : List ℕ) (d e : Doing) (n : ℕ) (turn : Turn) (others : List HandPair) : Type 0 where
   pub accepted : AcceptWith f b (hands_in e.stage ++ others)
   pub knows : DoingKnows f b e
-  pub only : ChangesOnly f a b (λ k. (k ≡ home f (key_of d.command)) × (1 ≤ n))
+  pub only : ChangesOnly f a b (λ k. IsOn f d.command k × (1 ≤ n))
   pub map : (m : Map) → IsMapOf f a m → MapTurned f b (command_of d.command) n m turn
 
 -- what a turn leaves of the machine: after a step it has had one more, blocked it is as it was, and at its end it has no turn and no hand

@@ -2,11 +2,12 @@
 use Rattle.std.specs.Prelude.{ℕ, ◌≡◌, ◌⊎◌}
 use Rattle.tdb_locks.specs.declared.turn.Reply.{Reply}
 use Rattle.tdb_steps.specs.declared.stage.Stage.{Stage}
-use Rattle.tdb_steps.specs.declared.stage.Stage.TheVariants.{Begun, Chained, Looked, Listed, Taken, Changed, Ending}
+use Rattle.tdb_steps.specs.declared.stage.Stage.TheVariants.{Begun, Chained, Looked, Listed, Taken, Changed, Wiping, Ending}
+use Rattle.tdb_steps.specs.declared.stage.WipeStage.TheVariants.{Records, FreeList}
 use Rattle.tdb_steps.specs.declared.stage.Next.{Next}
 use Rattle.tdb_steps.specs.declared.stage.Next.TheVariants.{Step, Done}
 use Rattle.tdb_steps.specs.declared.plain.Plain.{Plain}
-use Rattle.tdb_steps.specs.declared.plain.Plain.TheVariants.{Fetch, Has, Store, Delete}
+use Rattle.tdb_steps.specs.declared.plain.Plain.TheVariants.{Fetch, Has, Store, Delete, Wipe}
 
 -- a reply that doesn't say that space is wanting
 abbrev pub NotFull : Reply → Type 0
@@ -56,6 +57,7 @@ StoreOrder (Looked found) next = next ≡ Step (Listed found)
 StoreOrder (Listed found) next = TakesOn next
 StoreOrder (Taken found hand) next = LinksOn next
 StoreOrder (Changed hand) next = next ≡ Step Ending
+StoreOrder (Wiping stage) next = ⊥
 StoreOrder Ending next = next ≡ Done Reply.Ok
 
 abbrev pub DeleteOrder : Stage → Next → Type 0
@@ -65,13 +67,23 @@ DeleteOrder (Looked found) next = next ≡ Step (Listed found)
 DeleteOrder (Listed found) next = UnlinksOn next
 DeleteOrder (Taken found hand) next = ⊥
 DeleteOrder (Changed hand) next = next ≡ Step Ending
+DeleteOrder (Wiping stage) next = ⊥
 DeleteOrder Ending next = next ≡ Done Reply.Ok
+
+-- a wipe has both locks before it wipes, or finds that memory is wanting
+abbrev pub WipeOrder : Stage → Next → Type 0
+WipeOrder Begun next = next ≡ Step (Wiping Records)
+WipeOrder (Wiping Records) next = next ≡ Step (Wiping FreeList)
+WipeOrder (Wiping FreeList) next = (next ≡ Step Ending) ⊎ (next ≡ Done Reply.Memory)
+WipeOrder Ending next = next ≡ Done Reply.Ok
+WipeOrder stage next = ⊥
 
 abbrev pub InOrder : Plain → Stage → Next → Type 0
 InOrder (Fetch key) stage next = LookOrder stage next
 InOrder (Has key) stage next = LookOrder stage next
 InOrder (Store key value flag) stage next = StoreOrder stage next
 InOrder (Delete key) stage next = DeleteOrder stage next
+InOrder Wipe stage next = WipeOrder stage next
 
 -- How many steps a command has had at each stage: one for each turn before, and an old record that was given back is a step more.
 abbrev pub LookAfter : Stage → ℕ → Type 0
@@ -86,6 +98,7 @@ StoreAfter (Looked found) n = n ≡ 2
 StoreAfter (Listed found) n = n ≡ 3
 StoreAfter (Taken found hand) n = n ≡ 4
 StoreAfter (Changed hand) n = n ≡ 5
+StoreAfter (Wiping stage) n = ⊥
 StoreAfter Ending n = (n ≡ 5) ⊎ (n ≡ 6)
 
 abbrev pub DeleteAfter : Stage → ℕ → Type 0
@@ -95,10 +108,19 @@ DeleteAfter (Looked found) n = n ≡ 2
 DeleteAfter (Listed found) n = n ≡ 3
 DeleteAfter (Taken found hand) n = ⊥
 DeleteAfter (Changed hand) n = n ≡ 4
+DeleteAfter (Wiping stage) n = ⊥
 DeleteAfter Ending n = n ≡ 5
+
+abbrev pub WipeAfter : Stage → ℕ → Type 0
+WipeAfter Begun n = n ≡ 0
+WipeAfter (Wiping Records) n = n ≡ 1
+WipeAfter (Wiping FreeList) n = n ≡ 2
+WipeAfter Ending n = n ≡ 3
+WipeAfter stage n = ⊥
 
 abbrev pub IsAfter : Plain → Stage → ℕ → Type 0
 IsAfter (Fetch key) stage n = LookAfter stage n
 IsAfter (Has key) stage n = LookAfter stage n
 IsAfter (Store key value flag) stage n = StoreAfter stage n
 IsAfter (Delete key) stage n = DeleteAfter stage n
+IsAfter Wipe stage n = WipeAfter stage n

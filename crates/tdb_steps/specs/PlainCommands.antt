@@ -1,5 +1,5 @@
 -- The plain commands, as the commands and replies of a world of several openers.
-use Rattle.std.specs.Prelude.{ℕ, ◌≡◌, List}
+use Rattle.std.specs.Prelude.{ℕ, ◌≡◌, List, []}
 use Rattle.std.specs.FinMap.{get}
 use Rattle.tdb_space.specs.Form.{Form}
 use Rattle.tdb_space.specs.Pairs.{map_of}
@@ -11,22 +11,24 @@ use Rattle.tdb_law.specs.Openers.{Map}
 use Rattle.tdb_steps.specs.declared.flag.Flag.{Flag}
 use Rattle.tdb_steps.specs.declared.flag.Flag.TheVariants as Flags
 use Rattle.tdb_steps.specs.declared.plain.Plain.{Plain}
-use Rattle.tdb_steps.specs.declared.plain.Plain.TheVariants.{Fetch, Has, Store, Delete}
-use Rattle.tdb_steps.specs.Asked.{Asked, fetches, asks, stores, deletes}
+use Rattle.tdb_steps.specs.declared.plain.Plain.TheVariants.{Fetch, Has, Store, Delete, Wipe}
+use Rattle.tdb_steps.specs.Asked.{Asked, fetches, asks, stores, deletes, wipes}
 
--- the key that a command is on
+-- the key that a command is on; a wipe is on none, and this is empty
 abbrev pub key_of : Plain → List ℕ
 key_of (Fetch key) = key
 key_of (Has key) = key
 key_of (Store key value flag) = key
 key_of (Delete key) = key
+key_of Wipe = []
 
--- what it asks for of its key
+-- what it asks for of its key, and a wipe of each
 abbrev pub asked_of : Plain → Asked
 asked_of (Fetch key) = fetches
 asked_of (Has key) = asks
 asked_of (Store key value flag) = stores flag value
 asked_of (Delete key) = deletes
+asked_of Wipe = wipes
 
 -- the command of a world
 abbrev pub store_of : Flag → List ℕ → List ℕ → Law.MapCommand
@@ -39,6 +41,7 @@ command_of (Fetch key) = Law.MapCommand.Fetch key
 command_of (Has key) = Law.MapCommand.Has key
 command_of (Store key value flag) = store_of flag key value
 command_of (Delete key) = Law.MapCommand.Delete key
+command_of Wipe = Law.MapCommand.Wipe
 
 -- the reply of a world: that a command did what it says is `Done` there
 abbrev pub reply_of : Reply → Law.Reply

@@ -8,7 +8,10 @@ use Rattle.tdb_chain.specs.declared.place.Place.{Place}
 use Rattle.tdb_chain.specs.Place.{StandsWithin, IsFound}
 use Rattle.tdb_locks.specs.declared.turn.Reply.{Reply}
 use Rattle.tdb_steps.specs.declared.stage.Stage.{Stage}
-use Rattle.tdb_steps.specs.declared.stage.Stage.TheVariants.{Begun, Chained, Looked, Listed, Taken, Changed, Ending}
+use Rattle.tdb_steps.specs.declared.plain.Plain.{Plain}
+use Rattle.tdb_steps.specs.declared.plain.Plain.TheVariants.{Wipe}
+use Rattle.tdb_steps.specs.declared.stage.WipeStage.TheVariants.{Records, FreeList}
+use Rattle.tdb_steps.specs.declared.stage.Stage.TheVariants.{Begun, Chained, Looked, Listed, Taken, Changed, Wiping, Ending}
 use Rattle.tdb_steps.specs.declared.stage.Next.{Next}
 use Rattle.tdb_steps.specs.declared.stage.Next.TheVariants.{Step, Done}
 use Rattle.tdb_steps.specs.Asked.{Asked}
@@ -23,7 +26,7 @@ abbrev pub hands_after : Next → List HandPair
 hands_after (Step stage) = hands_in stage
 hands_after (Done reply) = []
 
--- a lock holds the chain of the key: from the first turn to the last
+-- a lock holds the chain of the key, or all chains: from the first turn to the last
 abbrev pub HoldsChain : Stage → Type 0
 HoldsChain Begun = ⊥
 HoldsChain _ = Unit {0}
@@ -82,6 +85,7 @@ OfDelete (Looked found) size spare = LiesThere found size
 OfDelete (Listed found) size spare = LiesThere found size
 OfDelete (Taken found hand) size spare = ⊥
 OfDelete (Changed hand) size spare = RoomForAll spare 5 40
+OfDelete (Wiping stage) size spare = ⊥
 OfDelete _ size spare = Unit {0}
 
 -- the stages of a store of so many bytes, key and value, and what each needs
@@ -90,13 +94,32 @@ OfStore n (Looked found) size spare = IfSome found (λ place. StandsWithin place
 OfStore n (Listed found) size spare = IfSome found (λ place. StandsWithin place size)
 OfStore n (Taken found hand) size spare = CanLink found hand size n spare
 OfStore n (Changed hand) size spare = RoomForAll spare 5 40
+OfStore n (Wiping stage) size spare = ⊥
 OfStore n _ size spare = Unit {0}
 
--- the stage after the turn that takes a lock
-abbrev pub locked_stage : Stage → Stage
-locked_stage Begun = Chained
-locked_stage (Looked found) = Listed found
-locked_stage stage = stage
+-- the stages of a wipe
+abbrev pub OfWipe : Stage → Type 0
+OfWipe Begun = Unit {0}
+OfWipe (Wiping stage) = Unit {0}
+OfWipe Ending = Unit {0}
+OfWipe _ = ⊥
+
+-- The hands of other commands that may be out at a stage: any. But where a wipe has locked all records and the free list, there is
+-- none: the locks of whoever had one would conflict.
+abbrev pub MayBeOut : Stage → List HandPair → Type 0
+MayBeOut (Wiping FreeList) others = others ≡ []
+MayBeOut _ others = Unit {0}
+
+-- the stage after the turn that takes the first lock of a command, and after any turn that takes one
+abbrev pub first_stage : Plain → Stage
+first_stage Wipe = Wiping Records
+first_stage _ = Chained
+
+abbrev pub locked_stage : Plain → Stage → Stage
+locked_stage command Begun = first_stage command
+locked_stage command (Looked found) = Listed found
+locked_stage command (Wiping Records) = Wiping FreeList
+locked_stage command stage = stage
 
 -- a turn leads to such a stage, or to the end
 abbrev pub Leads : (Stage → Type 0) → Next → Type 0
@@ -107,6 +130,7 @@ Leads Of (Done reply) = Unit {0}
 abbrev pub IsIdle : Stage → Type 0
 IsIdle Begun = Unit {0}
 IsIdle (Looked found) = Unit {0}
+IsIdle (Wiping Records) = Unit {0}
 IsIdle Ending = Unit {0}
 IsIdle _ = ⊥
 

@@ -1,5 +1,5 @@
 -- What a turn of a command makes of the image.
-use Rattle.std.specs.Prelude.{◌≡◌, ℕ, ◌+◌, ◌≤◌, ◌<◌, ◌⊎◌, Bool, true, false, List, ◌∷◌, ◌++◌, length, Option, None, Some, Contains}
+use Rattle.std.specs.Prelude.{◌≡◌, ℕ, ◌+◌, ◌≤◌, ◌<◌, ◌⊎◌, Bool, true, false, List, [], ◌∷◌, ◌++◌, length, Option, None, Some, Contains}
 use Rattle.std.specs.Map.{update}
 use Rattle.tdb_space.specs.Form.{Form}
 use Rattle.tdb_space.specs.Pairs.{map_of, home, same_key}
@@ -14,11 +14,13 @@ use Rattle.tdb_chain.specs.Place.{HoldsKey, IsFound}
 use Rattle.tdb_chain.specs.Changed.{hand_at}
 use Rattle.tdb_locks.specs.declared.turn.Reply.{Reply}
 use Rattle.tdb_steps.specs.declared.stage.Stage.{Stage}
-use Rattle.tdb_steps.specs.declared.stage.Stage.TheVariants.{Begun, Chained, Looked, Listed, Taken, Changed, Ending}
+use Rattle.tdb_steps.specs.declared.stage.Stage.TheVariants.{Begun, Chained, Looked, Listed, Taken, Changed, Wiping, Ending}
+use Rattle.tdb_steps.specs.declared.stage.WipeStage.TheVariants.{FreeList}
 use Rattle.tdb_steps.specs.declared.stage.Next.{Next}
 use Rattle.tdb_steps.specs.declared.stage.Next.TheVariants.{Step, Done}
-use Rattle.tdb_steps.specs.Asked.{Asked}
-use Rattle.tdb_steps.specs.Stages.{hands_in, hands_after, HoldsChain, Knows, KnowsAfter, is_changed, is_changed_after, IsEnd}
+use Rattle.tdb_steps.specs.Asked.{Asked, wipes}
+use Rattle.tdb_steps.specs.Wiped.{Wiped}
+use Rattle.tdb_steps.specs.Stages.{hands_in, hands_after, MayBeOut, HoldsChain, Knows, KnowsAfter, is_changed, is_changed_after, IsEnd}
 
 -- The map after a turn, by whether the change was made before it and is made after it: only the turn that makes the change changes
 -- the map, and at the key alone, to the value that the command leaves there.
@@ -109,6 +111,7 @@ DeletesRightly f a b key stood_on (Listed (Some place)) next = (next ≡ Done Re
 DeletesRightly f a b key stood_on (Listed None) next = ⊥
 DeletesRightly f a b key stood_on (Taken found hand) next = ⊥
 DeletesRightly f a b key stood_on (Changed hand) next = GivesRightly f a b hand next
+DeletesRightly f a b key stood_on (Wiping stage) next = ⊥
 DeletesRightly f a b key stood_on Ending next = next ≡ Done Reply.Ok
 
 -- The turns of a store, in their order: after the lock of the chain the look, after that of the free list the take and the link, then
@@ -120,12 +123,34 @@ StoresRightly f a b key value_len rec_len limit stood_on (Looked found) next = n
 StoresRightly f a b key value_len rec_len limit stood_on (Listed found) next = TakesRightly f a b rec_len limit found next
 StoresRightly f a b key value_len rec_len limit stood_on (Taken found hand) next = LinksRightly f a hand stood_on found next
 StoresRightly f a b key value_len rec_len limit stood_on (Changed hand) next = GivesRightly f a b hand next
+StoresRightly f a b key value_len rec_len limit stood_on (Wiping stage) next = ⊥
 StoresRightly f a b key value_len rec_len limit stood_on Ending next = next ≡ Done Reply.Ok
 
 -- the turns of a command that only looks: after the lock of the chain the look, which ends it
 abbrev pub LooksRightly : Stage → Next → Type 0
 LooksRightly Begun next = next ≡ Step Chained
 LooksRightly _ next = IsEnd next
+
+-- The map after a turn of a wipe: only the turn that makes the change changes it, and then each key has what a wipe leaves there.
+abbrev pub MapWiped : Bool → Bool → Form → List ℕ → List ℕ → Type 0
+MapWiped false true f a b = (key : List ℕ) → map_of f b key ≡ wipes.left (map_of f a key)
+MapWiped _ _ f a b = (key : List ℕ) → map_of f b key ≡ map_of f a key
+
+-- A turn of a wipe led from image a to image b, where other hands are out that stay as they are. The new image is accepted with
+-- them. Any chain may have changed, but only while all are locked.
+pub record WipeMade (f : Form) (a b : List ℕ) (old : Stage) (next : Next) (others : List HandPair) : Type 0 where
+  pub accepted : AcceptWith f b (hands_after next ++ others)
+  pub only : ChangesOnly f a b (λ k. HoldsChain old)
+  pub map : MapWiped (is_changed old) (is_changed_after next) f a b
+
+-- what such a turn makes of an image, for whatever other hands may be out
+abbrev pub WipeMakes : Form → List ℕ → List ℕ → Stage → Next → Type 0
+WipeMakes f a b old next = (others : List HandPair) → MayBeOut old others → AcceptWith f a (hands_in old ++ others) → WipeMade f a b old next others
+
+-- after both locks an image without hands is wiped, unless that ends the command
+abbrev pub WipesRightly : Form → List ℕ → List ℕ → Stage → Next → Type 0
+WipesRightly f a b (Wiping FreeList) (Step stage) = AcceptWith f a [] → Wiped f a b
+WipesRightly f a b stage next = b ≡ a
 
 -- What a command knows between two of its turns it still knows after any change that leaves the chain of its key: so it does after the
 -- turns of other openers, since it has that chain locked.

@@ -4,16 +4,15 @@ ghost use Rattle.std.specs.Prelude.{◌≤◌, ◌<◌, ◌^◌, IsTrue, IfOk};
 ghost use Rattle.tdb_disk.specs.Count.{HasCause};
 ghost use Rattle.tdb_space.specs.Frame.{Looked, Wrote};
 ghost use Rattle.tdb_steps.specs.Stages.{Leads, IsIdle};
-ghost use Rattle.tdb_steps.specs.Turns.{Makes};
 ghost use Rattle.tdb_steps.specs.Order.{InOrder};
-ghost use Rattle.tdb_steps.specs.PlainCommands.{key_of, asked_of};
-ghost use Rattle.tdb_steps.specs.Machines.{IsShort, IsFit};
+ghost use Rattle.tdb_steps.specs.Machines.{IsShort, IsFit, CommandMakes};
 
 use crate::deleting::delete_turn;
 use crate::looks::{fetch_turn, has_turn};
 use crate::plain::Plain;
 use crate::stage::{Next, Stage};
 use crate::storing::store_turn;
+use crate::wipe_turns::wipe_turn;
 use std::alloc::Global;
 use tdb_locks::Spots;
 use tdb_space::{Io, Space};
@@ -32,7 +31,7 @@ pub(crate) fn act<S: Space>(
     requires limit { limit ≤ 4294963200 }
     requires fit { IsFit command.now stage (S.size s.old) (S.spare s.old) }
     ensures made { IfOk result (λ next. IsTrue S.tells → S.size s.old < 2 ^ 32
-        → Makes (S.form s.old) (S.image s.old) (S.image s.new) (key_of command.now) (asked_of command.now) stage next) }
+        → CommandMakes (S.form s.old) (S.image s.old) (S.image s.new) command.now stage next) }
     ensures order { IfOk result (InOrder command.now stage) }
     ensures fit { IfOk result (Leads (λ then. IsFit command.now then (S.size s.new) (S.spare s.new))) }
     ensures idle { IsIdle stage → Looked S.Space s.old s.new }
@@ -56,5 +55,6 @@ pub(crate) fn act<S: Space>(
             )
         }
         Plain::Delete { key } => delete_turn(stage, s, key.as_slice(), stood_on),
+        Plain::Wipe => wipe_turn(stage, s),
     }
 }

@@ -53,6 +53,7 @@ pub fn delete_turn<S: Space>(
             unreachable!()
         }
         Stage::Changed(hand) => give_back(s, hand),
+        Stage::Wiping(_) => unreachable!(),
         Stage::Ending => Ok(Next::Done(Reply::Ok)),
     }
 }

@@ -1,4 +1,4 @@
-//! The turns of a plain command on one key of a tdb file.
+//! The turns of a plain command on a tdb file.
 #![tactic(auto)]
 
 mod acting;
@@ -19,6 +19,7 @@ mod stage;
 mod storing;
 mod taking;
 mod unlinking;
+mod wipe_turns;
 mod wiping;
 #[cfg(test)]
 mod wiping_tests;
@@ -31,6 +32,7 @@ pub use crate::looks::{fetch_turn, has_turn};
 pub use crate::machine::Machine;
 pub use crate::plain::Plain;
 pub use crate::rows::{LockRow, Region, Rows};
-pub use crate::stage::{Next, Stage};
+pub use crate::stage::{Next, Stage, WipeStage};
 pub use crate::storing::store_turn;
+pub use crate::wipe_turns::wipe_turn;
 pub use crate::wiping::{wipe, wipe_bytes, wipe_writes};

@@ -29,7 +29,7 @@ pub fn fetch_turn<S: Space>(alloc: Global, stage: Stage, s: &mut S, key: &[u8]) 
     match stage {
         Stage::Begun => Ok(Next::Step(Stage::Chained)),
         Stage::Chained => Ok(Next::Done(fetch(alloc, s, key)?)),
-        Stage::Looked(_) | Stage::Listed(_) | Stage::Ending => unreachable!(),
+        Stage::Looked(_) | Stage::Listed(_) | Stage::Wiping(_) | Stage::Ending => unreachable!(),
         Stage::Taken(_, hand) | Stage::Changed(hand) => {
             hand.end();
             unreachable!()
@@ -53,7 +53,7 @@ pub fn has_turn<S: Space>(stage: Stage, s: &mut S, key: &[u8]) -> Result<Next, I
     match stage {
         Stage::Begun => Ok(Next::Step(Stage::Chained)),
         Stage::Chained => Ok(Next::Done(has(s, key)?)),
-        Stage::Looked(_) | Stage::Listed(_) | Stage::Ending => unreachable!(),
+        Stage::Looked(_) | Stage::Listed(_) | Stage::Wiping(_) | Stage::Ending => unreachable!(),
         Stage::Taken(_, hand) | Stage::Changed(hand) => {
             hand.end();
             unreachable!()

@@ -7,7 +7,7 @@ ghost use Rattle.tdb_space.specs.Pairs.{home};
 ghost use Rattle.tdb_space.specs.Frame.{Looked, Wrote};
 ghost use Rattle.tdb_space.specs.Extents.{HandPair};
 ghost use Rattle.tdb_space.specs.Accepted.{AcceptWith};
-ghost use Rattle.tdb_steps.specs.Stages.{hands_in, IsIdle};
+ghost use Rattle.tdb_steps.specs.Stages.{hands_in, MayBeOut, IsIdle};
 ghost use Rattle.tdb_steps.specs.Order.{IsAfter};
 ghost use Rattle.tdb_steps.specs.PlainCommands.{key_of, command_of, turn_of};
 ghost use Rattle.tdb_steps.specs.LockRows.{rows_of, row_at, locks_in, AllStandAlone, AreLetGo};
@@ -19,7 +19,7 @@ use crate::acting::act;
 use crate::locking::{let_go, take_lock};
 use crate::plain::Plain;
 use crate::rows::{LockRow, Rows};
-use crate::stage::{Next, Stage};
+use crate::stage::{Next, Stage, WipeStage};
 use std::alloc::Global;
 use std::marker::Model;
 use std::mem;
@@ -83,11 +83,12 @@ impl Machine {
     {
         match &self.stage {
             Stage::Begun => Some(rows.first),
-            Stage::Looked(_) => rows.second,
+            Stage::Looked(_) | Stage::Wiping(WipeStage::Records) => rows.second,
             Stage::Chained
             | Stage::Listed(_)
             | Stage::Taken(_, _)
             | Stage::Changed(_)
+            | Stage::Wiping(WipeStage::FreeList)
             | Stage::Ending => None,
         }
     }
@@ -110,7 +111,7 @@ impl Machine {
         match take_lock(locks, owner, held, row) {
             Ok(()) => {
                 let stage = mem::replace(&mut self.stage, Stage::Begun);
-                mem::replace(&mut self.stage, stage.locked()).end();
+                mem::replace(&mut self.stage, stage.locked(&self.command)).end();
                 Turn::Step
             }
             Err(LockRefusal::Conflict { owner, byte, .. }) => Turn::Blocked { owner, byte },
@@ -138,7 +139,7 @@ impl Machine {
         requires fits { Fits self.old (S.size s.old) (S.spare s.old) }
         ensures led { IfOk result (λ turn. ActLed self.old self.new turn) }
         ensures made { IfOk result (λ turn. IsTrue S.tells → S.size s.old < 2 ^ 32 → (n : ℕ) (others : List HandPair) → IsAfter self.old.command self.old.stage n
-            → AcceptWith (S.form s.old) (S.image s.old) (hands_in self.old.stage ++ others) → DoingKnows (S.form s.old) (S.image s.old) self.old
+            → MayBeOut self.old.stage others → AcceptWith (S.form s.old) (S.image s.old) (hands_in self.old.stage ++ others) → DoingKnows (S.form s.old) (S.image s.old) self.old
             → MachineTurned (S.form s.old) (S.image s.old) (S.image s.new) self.old self.new n (turn_of turn) others) }
         ensures row { IfOk result (λ turn. (n : ℕ) → IsAfter self.old.command self.old.stage n → MapRow (command_of self.old.command) n (turn_of turn)) }
         ensures leaves { IfOk result (λ turn. (n : ℕ) → IsAfter self.old.command self.old.stage n → Leaves self.old self.new n (turn_of turn)) }
@@ -192,7 +193,7 @@ impl Machine {
         requires fits { Fits self.old (S.size s.old) (S.spare s.old) }
         requires alone { AllStandAlone held.now owner locks.old (rows_of self.old.command self.old.chain) }
         ensures made { IfOk result (λ turn. IsTrue S.tells → S.size s.old < 2 ^ 32 → (n : ℕ) (others : List HandPair) → IsAfter self.old.command self.old.stage n
-            → AcceptWith (S.form s.old) (S.image s.old) (hands_in self.old.stage ++ others) → DoingKnows (S.form s.old) (S.image s.old) self.old
+            → MayBeOut self.old.stage others → AcceptWith (S.form s.old) (S.image s.old) (hands_in self.old.stage ++ others) → DoingKnows (S.form s.old) (S.image s.old) self.old
             → MachineTurned (S.form s.old) (S.image s.old) (S.image s.new) self.old self.new n (turn_of turn) others) }
         ensures row { IfOk result (λ turn. (n : ℕ) → IsAfter self.old.command self.old.stage n → MapRow (command_of self.old.command) n (turn_of turn)) }
         ensures leaves { IfOk result (λ turn. (n : ℕ) → IsAfter self.old.command self.old.stage n → Leaves self.old self.new n (turn_of turn)) }

@@ -6,7 +6,7 @@ ghost use Rattle.tdb_steps.specs.PlainCommands.{key_of};
 use crate::flag::Flag;
 use tdb_words::Bytes;
 
-/// A command on the map of a file that needs no transaction, with its key and its value.
+/// A command on the map of a file that needs no transaction, with its key and its value if it has them.
 #[derive(Debug, Drop)]
 pub enum Plain {
     /// Asks for the value of a key.
@@ -27,10 +27,12 @@ pub enum Plain {
     Delete {
         key: Bytes,
     },
+    /// Takes all keys out.
+    Wipe,
 }
 
 impl Plain {
-    /// The key that the command is on.
+    /// The key that the command is on. A wipe is on none: then there are no bytes.
     pub fn key(&self) -> &[u8]
         ensures { result.now ≡ key_of self.now }
     {
@@ -39,6 +41,7 @@ impl Plain {
             | Plain::Has { key }
             | Plain::Store { key, .. }
             | Plain::Delete { key } => key.as_slice(),
+            Plain::Wipe => &[],
         }
     }
 }

@@ -3,6 +3,7 @@
 ghost use Rattle.std.specs.Prelude.{◌≡◌};
 ghost use Rattle.tdb_steps.specs.Stages.{locked_stage};
 
+use crate::plain::Plain;
 use tdb_chain::Place;
 use tdb_locks::Reply;
 use tdb_space::Hand;
@@ -30,8 +31,21 @@ pub enum Stage {
     /// The change is made, and the old record was taken out of its chain.
     Changed(Hand),
 
+    /// All records are locked, for a wipe that isn't made yet.
+    Wiping(WipeStage),
+
     /// The change is made, and no record is held.
     Ending,
+}
+
+/// What a wipe has locked before it changes the file.
+#[derive(Clone, Copy, Debug, PartialEq, Eq)]
+pub enum WipeStage {
+    /// All records are locked.
+    Records,
+
+    /// The same, and the free list is locked too.
+    FreeList,
 }
 
 /// What a turn leads to.
@@ -45,13 +59,20 @@ pub enum Next {
 }
 
 impl Stage {
-    /// The stage after the turn that takes a lock.
-    pub(crate) fn locked(self) -> Stage
-        ensures { result ≡ locked_stage self }
+    /// The stage of a command after the turn that takes a lock.
+    pub(crate) fn locked(self, command: &Plain) -> Stage
+        ensures { result ≡ locked_stage command.now self }
     {
         match self {
-            Stage::Begun => Stage::Chained,
+            Stage::Begun => match command {
+                Plain::Wipe => Stage::Wiping(WipeStage::Records),
+                Plain::Fetch { .. }
+                | Plain::Has { .. }
+                | Plain::Store { .. }
+                | Plain::Delete { .. } => Stage::Chained,
+            },
             Stage::Looked(found) => Stage::Listed(found),
+            Stage::Wiping(WipeStage::Records) => Stage::Wiping(WipeStage::FreeList),
             other => other,
         }
     }
@@ -59,8 +80,12 @@ impl Stage {
     /// Gives the command up, with the record that it may hold. It takes no memory and changes nothing.
     pub fn end(self) {
         match self {
-            Stage::Begun | Stage::Chained | Stage::Looked(_) | Stage::Listed(_) | Stage::Ending =>
-                {}
+            Stage::Begun
+            | Stage::Chained
+            | Stage::Looked(_)
+            | Stage::Listed(_)
+            | Stage::Wiping(_)
+            | Stage::Ending => {}
             Stage::Taken(_, hand) | Stage::Changed(hand) => hand.end(),
         }
     }

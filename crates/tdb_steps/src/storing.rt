@@ -58,6 +58,7 @@ pub fn store_turn<S: Space>(
         Stage::Listed(found) => take_new(s, key.len(), value.len(), found, limit),
         Stage::Taken(found, hand) => link_new(s, key, value, found, hand, stood_on),
         Stage::Changed(hand) => give_back(s, hand),
+        Stage::Wiping(_) => unreachable!(),
         Stage::Ending => Ok(Next::Done(Reply::Ok)),
     }
 }
