@@ -8,3 +8,5 @@ pub mod Ways
 pub mod Placed
 pub mod Purged
 pub mod Going
+pub mod Bytes
+pub mod Turns

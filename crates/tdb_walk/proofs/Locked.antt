@@ -35,10 +35,10 @@ module _ (owner : ℕ) (old new : List Piece) (same : SameOthers owner old new) 
   conflict_then : (other byte : ℕ) (kind : Kind) → Conflicts new owner start end want other byte kind → Conflicts old owner start end want other byte kind
   conflict_then other byte kind c = record { other_owner = c.other_owner; from_start = c.from_start; before_end = c.before_end; holds = sym (same other byte c.other_owner) ∙ c.holds; writes = c.writes }
 
-  free_then : IsFree new owner start end want → IsFree old owner start end want
+  pub free_then : IsFree new owner start end want → IsFree old owner start end want
   free_then free = record { free = λ other byte kind c. free.free other byte kind (conflict_now other byte kind c) }
 
-  first_then : (other byte : ℕ) (kind : Kind) → IsFirstConflict new owner start end want other byte kind → IsFirstConflict old owner start end want other byte kind
+  pub first_then : (other byte : ℕ) (kind : Kind) → IsFirstConflict new owner start end want other byte kind → IsFirstConflict old owner start end want other byte kind
   first_then other byte kind first = record {
     conflict = conflict_then other byte kind first.conflict;
     least = λ o b k c. first.least o b k (conflict_now o b k c);

@@ -1,23 +1,28 @@
 //! Cursors: walks from record to record through the chains of a tdb file.
 #![tactic(auto)]
 
+mod cursor;
 mod heads;
 mod laws;
 mod live;
+mod locking;
 mod looking;
 mod pair;
 mod purging;
 mod records;
 mod refusal;
+mod stage;
 mod standing;
 #[cfg(test)]
 mod tests;
 mod way;
 
+pub use crate::cursor::Cursor;
 pub use crate::laws::moves_are_walks;
 pub use crate::live::Live;
 pub use crate::pair::pair_at;
 pub use crate::purging::purge_dead;
 pub use crate::refusal::WalkRefusal;
+pub use crate::stage::Goal;
 pub use crate::standing::Standing;
 pub use crate::way::{Way, move_on};
