@@ -1,8 +1,8 @@
 -- What a cursor holds before and after a turn, over lock tables that say the same.
-use Rattle.std.proofs.Common.{◌≡◌, ℕ, ◌<◌, ◌==◌, Bool, true, false, List, Option, Some, None, Ok, Err, refl, sym, ◌∙◌, ap, subst, inl, inr, arith}
+use Rattle.std.proofs.Common.{◌≡◌, ℕ, ◌<◌, ◌≤◌, ◌==◌, Bool, true, false, List, Option, Some, None, Ok, Err, refl, sym, ◌∙◌, ap, subst, inl, inr, arith}
 use Rattle.std.specs.Prelude.{◌&&◌, ◌≢◌, if◌then◌else◌, Result, IfOk}
-use Rattle.std.proofs.lemmas.Bool.{eq-eqb, ne_eqb}
-use Rattle.tdb_space.specs.Form.{Form}
+use Rattle.std.proofs.lemmas.Bool.{cases_eq, eq-eqb, ne_eqb}
+use Rattle.tdb_space.specs.Form.{Form, data_start}
 use Rattle.tdb_locks.specs.HeldLocks.{HeldLocks}
 use Rattle.tdb_locks.specs.LockTable.{held}
 use Rattle.tdb_locks.specs.declared.kind.Kind.{Kind}
@@ -100,6 +100,30 @@ module _ (f : Form) (own : HeldLocks) (owner : ℕ) where
 
   pub bare_left : (old new : List Piece) (place : Standing) (stage : Stage) (later : Standing) → ((o b : ℕ) → held new o b ≡ let_go own owner place stage (held old) o b) → HoldsBare f own owner old place stage → HoldsBare f own owner new later Rested
   bare_left old new place stage later gone bare = rested_bare new later (λ j low other. gone owner (lock_byte j) ∙ chains_left old place stage bare j low other)
+
+  -- another byte than that of a chain is taken, or that of the chain that the cursor reads then
+  else_kept : (c : Bool) (byte : ℕ) (now : Option Kind) (h : Holding) (b : ℕ) → (b ≡ byte → ⊥) → with_byte c owner byte now h owner b ≡ h owner b
+  else_kept true byte now h b apart = refl
+  else_kept false byte now h b apart = rw (eq-eqb owner owner refl, ne_eqb b byte apart) refl
+
+  pub bare_taken : (old new : List Piece) (place : Standing) (stage : Stage) (c : Bool) (off : ℕ) → data_start f ≤ off → ((o b : ℕ) → held new o b ≡ with_byte c owner off (Some Read) (held old) o b)
+      → HoldsBare f own owner old place stage → HoldsBare f own owner new place stage
+  bare_taken old new place stage c off above taken bare j low other =
+      elim (bare j low other) [
+        | inl reads ↦ inl reads
+        | inr none ↦ inr (taken owner (lock_byte j) ∙ else_kept c off (Some Read) (held old) (lock_byte j) (λ e. omega (arith, e, above, low)) ∙ none)
+      ]
+
+  pub bare_locked : (old new : List Piece) (chain off : ℕ) (c : Bool) → ((o b : ℕ) → held new o b ≡ with_byte c owner (lock_byte chain) (Some Read) (held old) o b)
+      → HoldsBare f own owner old (On chain off) Rested → HoldsBare f own owner new (On chain off) Reading
+  bare_locked old new chain off c taken bare j low other =
+      elim (cases_eq j chain) [
+        | inl here ↦ inl here
+        | inr apart ↦ elim (bare j low other) [
+          | inl never ↦ absurd never
+          | inr none ↦ inr (taken owner (lock_byte j) ∙ else_kept c (lock_byte chain) (Some Read) (held old) (lock_byte j) (λ e. omega (arith, e, apart)) ∙ none)
+        ]
+      ]
 
   pub bare_same : (old new : List Piece) (place : Standing) (stage : Stage) → SameLocks old new → HoldsBare f own owner old place stage → HoldsBare f own owner new place stage
   bare_same old new place stage same bare j low other = elim (bare j low other) [ inl reads ↦ inl reads | inr none ↦ inr (same owner (lock_byte j) ∙ none) ]

@@ -3,6 +3,7 @@
 ghost use Rattle.std.specs.Prelude.{◌≡◌, ◌≤◌, ◌%◌, ◌<◌, ◌^◌, IsTrue, List, ℕ, IfOk, OnErr};
 ghost use Rattle.tdb_disk.specs.Count.{HasCause};
 ghost use Rattle.tdb_words.specs.Record.{rec_at};
+ghost use Rattle.tdb_space.specs.Form.{Form};
 ghost use Rattle.tdb_space.specs.Frame.{Looked};
 ghost use Rattle.tdb_space.specs.Extents.{HandPair};
 ghost use Rattle.tdb_space.specs.Accepted.{AcceptWith};
@@ -11,7 +12,7 @@ ghost use Rattle.tdb_walk.specs.NextLive.{StandsIn, IsWithin};
 ghost use Rattle.tdb_walk.specs.Way.{SameOthers, SameLocks};
 ghost use Rattle.tdb_walk.specs.ByteLocks.{HoldsWords};
 ghost use Rattle.tdb_walk.specs.Cursors.{rested, IsPlaced, spot_of, act_of, let_go, HoldsBare, begun, held_begun, held_moved, held_locked, held_after, LockLed, Came, MoveLed, StepLed, Moves};
-ghost use Rattle.tdb_walk.specs.declared.standing.Standing.TheVariants.{Before};
+ghost use Rattle.tdb_walk.specs.declared.standing.Standing.TheVariants.{Before, On};
 
 use crate::live::Live;
 use crate::locking::{let_go_byte, may_read_all, take_byte};
@@ -69,6 +70,8 @@ impl Cursor {
         requires placed { IsPlaced place }
         requires words { HoldsWords own.now owner locks.old }
         ensures stands { self.new ≡ rested place }
+        ensures words { HoldsWords own.now owner locks.new }
+        ensures bare { (f : Form) → HoldsBare f own.now owner locks.old self.old.place self.old.stage → HoldsBare f own.now owner locks.new self.new.place self.new.stage }
         ensures locks { (o b : ℕ) → held locks.new o b ≡ let_go own.now owner self.old.place self.old.stage (held locks.old) o b }
     {
         if let Standing::On(chain, off) = self.place {
@@ -86,7 +89,10 @@ impl Cursor {
 
     /// Locks the chain of its record for reading.
     fn lock_turn(&mut self, locks: &mut Locks, owner: u32, own: &Held, chain: u32) -> Turn
+        requires here { (off : ℕ) × (self.old ≡ rested (On chain off)) }
         requires words { HoldsWords own.now owner locks.old }
+        ensures words { HoldsWords own.now owner locks.new }
+        ensures bare { (f : Form) → HoldsBare f own.now owner locks.old self.old.place self.old.stage → HoldsBare f own.now owner locks.new self.new.place self.new.stage }
         ensures led { LockLed locks.old owner own.now chain self.old self.new result }
         ensures locks { (o b : ℕ) → held locks.new o b ≡ held_locked own.now owner self.old chain result (held locks.old) o b }
     {
@@ -121,6 +127,9 @@ impl Cursor {
     ) -> Result<Turn, Io>
         requires within { IsWithin (S.form s.old) (S.size s.old) live }
         requires words { HoldsWords own.now owner locks.old }
+        requires bare { HoldsBare (S.form s.old) own.now owner locks.old self.old.place self.old.stage }
+        ensures words { HoldsWords own.now owner locks.new }
+        ensures bare { HoldsBare (S.form s.old) own.now owner locks.new self.new.place self.new.stage }
         ensures came { IfOk result (λ turn. IsTrue S.tells → live.rec ≡ rec_at (S.form s.old).order (S.image s.old) live.off
             → Came (S.form s.old) (S.image s.old) locks.old owner own.now live self.old self.new turn) }
         ensures locks { IfOk result (λ turn. (o b : ℕ) → held locks.new o b ≡ held_moved own.now owner self.old self.new.place turn (held locks.old) o b) }
@@ -168,6 +177,8 @@ impl Cursor {
     ) -> Result<Turn, Io>
         requires words { HoldsWords own.now owner locks.old }
         requires bare { HoldsBare (S.form s.old) own.now owner locks.old self.old.place self.old.stage }
+        ensures words { HoldsWords own.now owner locks.new }
+        ensures bare { HoldsBare (S.form s.old) own.now owner locks.new self.new.place self.new.stage }
         ensures moved { IfOk result (λ turn. IsTrue S.tells → (hands : List HandPair) → AcceptWith (S.form s.old) (S.image s.old) hands
             → StandsIn (S.form s.old) (S.image s.old) self.old.place → MoveLed (S.form s.old) (S.image s.old) locks.old owner own.now self.old self.new turn) }
         ensures locks { IfOk result (λ turn. (o b : ℕ) → held locks.new o b ≡ held_moved own.now owner self.old self.new.place turn (held locks.old) o b) }
@@ -223,6 +234,8 @@ impl Cursor {
     ) -> Result<Turn, Io>
         requires words { HoldsWords own.now owner locks.old }
         requires bare { HoldsBare (S.form s.old) own.now owner locks.old self.old.place self.old.stage }
+        ensures words { HoldsWords own.now owner locks.new }
+        ensures bare { HoldsBare (S.form s.old) own.now owner locks.new self.new.place self.new.stage }
         ensures led { IfOk result (λ turn. StepLed locks.old owner own.now (act_of goal self.old.place self.old.stage) self.old self.new turn) }
         ensures moved { IfOk result (λ turn. IsTrue S.tells → (hands : List HandPair) → AcceptWith (S.form s.old) (S.image s.old) hands
             → StandsIn (S.form s.old) (S.image s.old) self.old.place → Moves (act_of goal self.old.place self.old.stage)

@@ -31,3 +31,6 @@ returns-in-Restart-clause-moved g c =
     (subst (λ (a : At). MoveLed f img c.leave.new.locks c.args.owner c.args.own.now a c.move_turn-in-Restart.new.self turn) c.leave.ensures.stands
     (led told hands A (subst (λ (a : At). StandsIn f img a.place) (sym c.leave.ensures.stands) (tt {0}))))))
     c.move_turn-in-Restart.ensures.moved
+
+pub returns-in-End-clause-bare : goal.returns-in-End-clause-bare
+returns-in-End-clause-bare g c = c.leave-in-End.ensures.bare (g.S.Space.form c.args.s.now) c.requires.bare
