@@ -13,6 +13,8 @@ mod look;
 mod looking;
 mod looks;
 mod machine;
+#[cfg(test)]
+mod machine_tests;
 mod plain;
 mod rows;
 mod stage;

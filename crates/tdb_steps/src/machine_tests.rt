@@ -1,0 +1,330 @@
+// Commands alone on a file in memory, run to their ends: the words that they leave, and the locks after each turn.
+
+ghost use Rattle.std.specs.Prelude.{◌≡◌, ◌≤◌, ◌<◌, ◌+◌, ◌^◌, ℕ, length, IsTrue, IfOk, None};
+ghost use Rattle.tdb_space.specs.Spare.{Spare};
+ghost use Rattle.tdb_locks.specs.HeldLocks.{HeldLocks};
+ghost use Rattle.tdb_locks.specs.LockTable.{held};
+ghost use Rattle.tdb_steps.specs.LockRows.{start_of, rows_of, AllStandAlone};
+ghost use Rattle.tdb_steps.specs.Machines.{IsShort, Fits};
+
+use crate::flag::Flag;
+use crate::machine::Machine;
+use crate::plain::Plain;
+use crate::rows::Region;
+use std::alloc::{AllocError, Global};
+use std::test::Fail;
+use tdb_disk::{Call, MemDisk};
+use tdb_locks::{Held, Kind, Locks, Reply, Spots, Turn};
+use tdb_space::{Direct, Io};
+use tdb_words::{Bytes, FREE, HashKind, Header, Order, USED, word_bytes};
+
+// How long a file may be where nothing else is said.
+const MOST: u64 = 4294963200;
+
+// What a command replies, or that the disk failed, or neither so far; and what its opener holds of the chain of "a" and
+// of the free list after each of its turns.
+#[derive(Drop)]
+struct Told {
+    end: Option<Result<Reply, Io>>,
+    kinds: Vec<(Option<Kind>, Option<Kind>)>,
+}
+
+fn header(order: Order) -> Header
+    ensures { result.hash_size ≡ 131 }
+{
+    Header {
+        order,
+        hash: HashKind::Old,
+        hash_size: 131,
+        recovery_start: 0,
+        sequence: 0,
+    }
+}
+
+// Whether the opener holds nothing at the byte before a region.
+fn is_bare(locks: &Locks, region: Region) -> bool
+    ensures { IsTrue result → (b : ℕ) → b + 1 ≡ start_of region → held locks.now 1 b ≡ None }
+{
+    let before = match region {
+        Region::Chain(chain) => 167 + 4 * u64::from(chain),
+        Region::FreeList => 163,
+        Region::AllRecords => 167,
+    };
+    locks.kind_of(1, before).is_none()
+}
+
+// Whether it holds nothing at the bytes before the regions of a command's locks.
+fn stands_alone(locks: &Locks, machine: &Machine) -> bool
+    ensures { IsTrue result → (explicit : HeldLocks) → AllStandAlone explicit 1 locks.now (rows_of machine.now.command machine.now.chain) }
+{
+    let rows = machine.rows();
+    if !is_bare(locks, rows.first.region) {
+        return false;
+    }
+    match rows.second {
+        Some(row) => is_bare(locks, row.region),
+        None => true,
+    }
+}
+
+// Takes turns until the command replies or the disk fails, in a file that may grow to `limit` bytes.
+fn take_turns(
+    alloc: Global,
+    header: &Header,
+    machine: &mut Machine,
+    disk: &mut MemDisk,
+    limit: u64,
+) -> Result<Told, Fail>
+    requires chains { 0 < header.now.hash_size }
+    requires fits { (size : ℕ) (spare : Spare) → Fits machine.old size spare }
+    requires limit { limit ≤ 4294963200 }
+{
+    let mut s = Direct::new(disk, header);
+    let mut locks = Locks::new(alloc);
+    let (held, stood_on) = (Held::new(alloc), Spots::new(alloc));
+    let mut kinds = Vec::new(alloc);
+    for _ in 0..8 {
+        if !stands_alone(&locks, machine) {
+            break;
+        }
+        let turn = machine.step(alloc, &mut s, &mut locks, 1, &held, &stood_on, limit);
+        kinds.push((locks.kind_of(1, 196), locks.kind_of(1, 164)))?;
+        let end = match turn {
+            Ok(Turn::Done(reply)) => Some(Ok(reply)),
+            Ok(_) => None,
+            Err(Io) => Some(Err(Io)),
+        };
+        if end.is_some() {
+            return Ok(Told { end, kinds });
+        }
+    }
+    Ok(Told { end: None, kinds })
+}
+
+// Runs a command to its end.
+fn run(
+    alloc: Global,
+    order: Order,
+    command: Plain,
+    disk: &mut MemDisk,
+    limit: u64,
+) -> Result<Told, Fail>
+    requires short { IsShort command }
+    requires limit { limit ≤ 4294963200 }
+{
+    let header = header(order);
+    let mut machine = Machine::new(command, &header);
+    let told = take_turns(alloc, &header, &mut machine, disk, limit);
+    machine.end();
+    told
+}
+
+// Whether these bytes stand in a file at an offset.
+fn has_bytes(disk: &MemDisk, at: usize, bytes: &[u8]) -> bool {
+    match disk.as_slice().get(at..) {
+        Some(rest) => rest.starts_with(bytes),
+        None => false,
+    }
+}
+
+// The first of some words, each with its offset, that isn't in a file.
+fn first_missing(disk: &MemDisk, order: Order, words: &[(usize, u32)]) -> Option<(usize, u32)> {
+    for (at, word) in words {
+        if !has_bytes(disk, *at, &word_bytes(*word, order)) {
+            return Some((*at, *word));
+        }
+    }
+    None
+}
+
+fn store(alloc: Global, key: &[u8], value: &[u8], flag: Flag) -> Result<Plain, AllocError>
+    requires key { length key.now < 2 ^ 32 }
+    requires value { length value.now < 2 ^ 32 }
+    ensures { IfOk result IsShort }
+{
+    Ok(Plain::Store {
+        key: Bytes::copy(alloc, key)?,
+        value: Bytes::copy(alloc, value)?,
+        flag,
+    })
+}
+
+fn delete(alloc: Global, key: &[u8]) -> Result<Plain, AllocError>
+    requires key { length key.now < 2 ^ 32 }
+    ensures { IfOk result IsShort }
+{
+    Ok(Plain::Delete {
+        key: Bytes::copy(alloc, key)?,
+    })
+}
+
+// A file whose lists are all empty. What stands in front of their heads isn't read.
+fn empty_file(alloc: Global) -> Result<MemDisk, AllocError> {
+    MemDisk::new(alloc, &vec![in alloc; 0u8; 696]?)
+}
+
+// Stores "1" at the key "a".
+fn store_one(alloc: Global, order: Order, flag: Flag, disk: &mut MemDisk) -> Result<Told, Fail> {
+    run(alloc, order, store(alloc, b"a", b"1", flag)?, disk, MOST)
+}
+
+// Deletes the key "a".
+fn delete_one(alloc: Global, order: Order, disk: &mut MemDisk) -> Result<Told, Fail> {
+    run(alloc, order, delete(alloc, b"a")?, disk, MOST)
+}
+
+const STORED: [(usize, u32); 13] = [
+    (168, 696),
+    (200, 4064),
+    (696, 0),
+    (700, 3344),
+    (716, FREE),
+    (4060, 3368),
+    (4064, 0),
+    (4068, 8),
+    (4072, 1),
+    (4076, 1),
+    (4080, 0x094A_72E9),
+    (4084, USED),
+    (4092, 32),
+];
+
+const DELETED: [(usize, u32); 6] = [
+    (168, 696),
+    (200, 0),
+    (696, 0),
+    (700, 3376),
+    (716, FREE),
+    (4092, 3400),
+];
+
+const GROWN: [(usize, u32); 8] = [
+    (168, 696),
+    (696, 0),
+    (700, 5288),
+    (716, FREE),
+    (6004, 5312),
+    (6012, 6256),
+    (6016, 1),
+    (6020, 5000),
+];
+
+// A store of a new key, and then one that refuses the key since it is there.
+#[test]
+fn keeps_a_key(rt: HostRuntime) -> Result<(), Fail> {
+    let alloc = rt.alloc();
+    for order in [Order::Little, Order::Big] {
+        let mut disk = empty_file(alloc)?;
+        let told = store_one(alloc, order, Flag::Replace, &mut disk)?;
+        assert_eq!(rt; told.end, Some(Ok(Reply::Ok)));
+        let told = store_one(alloc, order, Flag::Insert, &mut disk)?;
+        assert_eq!(rt; told.end, Some(Ok(Reply::KeyThere)));
+        assert_eq!(rt; disk.as_slice().len(), 4096);
+        assert_eq!(rt; first_missing(&disk, order, &STORED), None);
+        assert!(rt; has_bytes(&disk, 4088, b"a1BB"));
+    }
+    Ok(())
+}
+
+// A delete of a key, and then one that misses it.
+#[test]
+fn takes_out_a_key(rt: HostRuntime) -> Result<(), Fail> {
+    let alloc = rt.alloc();
+    for order in [Order::Little, Order::Big] {
+        let mut disk = empty_file(alloc)?;
+        store_one(alloc, order, Flag::Replace, &mut disk)?;
+        let told = delete_one(alloc, order, &mut disk)?;
+        assert_eq!(rt; told.end, Some(Ok(Reply::Ok)));
+        let told = delete_one(alloc, order, &mut disk)?;
+        assert_eq!(rt; told.end, Some(Ok(Reply::KeyMissing)));
+        assert_eq!(rt; first_missing(&disk, order, &DELETED), None);
+    }
+    Ok(())
+}
+
+// Stores a value at the key "k", in a file that may grow to `limit` bytes.
+fn store_at_k(alloc: Global, value: &[u8], disk: &mut MemDisk, limit: u64) -> Result<Told, Fail>
+    requires value { length value.now < 2 ^ 32 }
+    requires limit { limit ≤ 4294963200 }
+{
+    run(
+        alloc,
+        Order::Little,
+        store(alloc, b"k", value, Flag::Replace)?,
+        disk,
+        limit,
+    )
+}
+
+// A long value over an empty one.
+#[test]
+fn grows_for_a_long_value(rt: HostRuntime) -> Result<(), Fail> {
+    let alloc = rt.alloc();
+    let mut disk = empty_file(alloc)?;
+    let told = store_at_k(alloc, b"", &mut disk, MOST)?;
+    assert_eq!(rt; told.end, Some(Ok(Reply::Ok)));
+    let long = vec![in alloc; b'x'; 5000]?;
+    let told = store_at_k(alloc, &long, &mut disk, MOST)?;
+    assert_eq!(rt; told.end, Some(Ok(Reply::Ok)));
+    assert_eq!(rt; disk.as_slice().len(), 12288);
+    assert_eq!(rt; first_missing(&disk, Order::Little, &GROWN), None);
+    Ok(())
+}
+
+// The same value where the file may not grow so far.
+#[test]
+fn keeps_a_full_file(rt: HostRuntime) -> Result<(), Fail> {
+    let alloc = rt.alloc();
+    let mut disk = empty_file(alloc)?;
+    let long = vec![in alloc; b'x'; 5000]?;
+    let told = store_at_k(alloc, &long, &mut disk, 4096)?;
+    let full = Reply::Full {
+        len: 696,
+        need: 6280,
+    };
+    assert_eq!(rt; told.end, Some(Ok(full)));
+    assert_eq!(rt; disk.as_slice(), empty_file(alloc)?.as_slice());
+    Ok(())
+}
+
+// A change holds its chain from the first turn on, and the free list from the third; with the reply it holds nothing.
+#[test]
+fn holds_the_locks_of_its_row(rt: HostRuntime) -> Result<(), Fail> {
+    let alloc = rt.alloc();
+    let mut disk = empty_file(alloc)?;
+    let stored = store_one(alloc, Order::Little, Flag::Replace, &mut disk)?;
+    let deleted = delete_one(alloc, Order::Little, &mut disk)?;
+    let write = Some(Kind::Write);
+    let both = [
+        (write, None),
+        (write, None),
+        (write, write),
+        (write, write),
+        (write, write),
+        (None, None),
+    ];
+    assert!(rt; stored.kinds.as_slice() == both.as_slice());
+    assert!(rt; deleted.kinds.as_slice() == both.as_slice());
+    Ok(())
+}
+
+// Each call of a store in turn fails.
+#[test]
+fn hands_faults_on(rt: HostRuntime) -> Result<(), Fail> {
+    let alloc = rt.alloc();
+    for (call, count) in [
+        (Call::Len, 6),
+        (Call::Read, 7),
+        (Call::Write, 5),
+        (Call::WriteWord, 2),
+        (Call::Grow, 1),
+    ] {
+        for nth in 0..count {
+            let mut disk = empty_file(alloc)?;
+            disk.fail(call, nth)?;
+            let told = store_one(alloc, Order::Little, Flag::Replace, &mut disk)?;
+            assert_eq!(rt; told.end, Some(Err(Io)), "at {nth} of {call:?}");
+        }
+    }
+    Ok(())
+}
