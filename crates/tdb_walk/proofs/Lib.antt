@@ -10,3 +10,4 @@ pub mod Purged
 pub mod Going
 pub mod Bytes
 pub mod Turns
+pub mod Arrived

@@ -240,6 +240,8 @@ impl Cursor {
         ensures moved { IfOk result (λ turn. IsTrue S.tells → (hands : List HandPair) → AcceptWith (S.form s.old) (S.image s.old) hands
             → StandsIn (S.form s.old) (S.image s.old) self.old.place → Moves (act_of goal self.old.place self.old.stage)
             → MoveLed (S.form s.old) (S.image s.old) locks.old owner own.now (begun (act_of goal self.old.place self.old.stage) self.old) self.new turn) }
+        ensures stands_in { IfOk result (λ turn. IsTrue S.tells → (hands : List HandPair) → AcceptWith (S.form s.old) (S.image s.old) hands
+            → StandsIn (S.form s.old) (S.image s.old) self.old.place → StandsIn (S.form s.old) (S.image s.old) self.new.place) }
         ensures locks { IfOk result (λ turn. (o b : ℕ) → held locks.new o b ≡ held_after own.now owner (act_of goal self.old.place self.old.stage) self.old self.new turn (held locks.old) o b) }
         ensures stands { OnErr result (self.new ≡ begun (act_of goal self.old.place self.old.stage) self.old) }
         ensures kept { OnErr result ((o b : ℕ) → held locks.new o b ≡ held_begun own.now owner (act_of goal self.old.place self.old.stage) self.old (held locks.old) o b) }

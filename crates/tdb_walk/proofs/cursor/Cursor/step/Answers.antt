@@ -4,6 +4,7 @@ use Rattle.tdb_walk.specs.declared.standing.Standing.TheVariants.{Before}
 use Rattle.tdb_walk.specs.NextLive.{StandsIn}
 use Rattle.tdb_walk.specs.Cursors.{At, HoldsBare, MoveLed, act_of, begun, rested}
 use Rattle.tdb_walk.proofs.Turns.{bare_left, moved_then, others_left, ok_more}
+use Rattle.tdb_walk.proofs.Arrived.{moved_stands}
 use Rattle.tdb_walk.proofs.cursor.Cursor.step.Goals as goal
 
 pub move_turn-requires-in-Restart-clause-bare : goal.move_turn-requires-in-Restart-clause-bare
@@ -34,3 +35,16 @@ returns-in-Restart-clause-moved g c =
 
 pub returns-in-End-clause-bare : goal.returns-in-End-clause-bare
 returns-in-End-clause-bare g c = c.leave-in-End.ensures.bare (g.S.Space.form c.args.s.now) c.requires.bare
+
+pub returns-in-Move-clause-stands_in : goal.returns-in-Move-clause-stands_in
+returns-in-Move-clause-stands_in g c =
+    let f = g.S.Space.form c.args.s.now in
+    let img = g.S.Space.image c.args.s.now in
+    ok_more c.move_turn.result (λ turn led told hands A stands. moved_stands f img c.args.locks.now c.args.owner c.args.own.now c.args.self.now c.move_turn.new.self turn stands (led told hands A stands)) c.move_turn.ensures.moved
+
+pub returns-in-Restart-clause-stands_in : goal.returns-in-Restart-clause-stands_in
+returns-in-Restart-clause-stands_in g c =
+    let f = g.S.Space.form c.args.s.now in
+    let img = g.S.Space.image c.args.s.now in
+    let begins = subst (λ (a : At). StandsIn f img a.place) (sym c.leave.ensures.stands) tt in
+    ok_more c.move_turn-in-Restart.result (λ turn led told hands A stands. moved_stands f img c.leave.new.locks c.args.owner c.args.own.now c.leave.new.self c.move_turn-in-Restart.new.self turn begins (led told hands A begins)) c.move_turn-in-Restart.ensures.moved

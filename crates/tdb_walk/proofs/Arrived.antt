@@ -1,0 +1,80 @@
+-- The record on which a cursor stands after a move is one of the image's chain.
+use Rattle.std.proofs.Common.{◌≡◌, ℕ, ◌+◌, ◌==◌, Bool, true, false, cond, List, [], ◌∷◌, Option, Some, None, sym, ◌∙◌, ap, subst, inl, inr, nat_lt}
+use Rattle.std.specs.Prelude.{if◌then◌else◌}
+use Rattle.std.proofs.lemmas.Bool.{cases_eq}
+use Rattle.tdb_words.specs.declared.record.TheConstants.{USED}
+use Rattle.tdb_space.specs.Form.{Form}
+use Rattle.tdb_space.specs.Record.{key_at, magic_of}
+use Rattle.tdb_space.specs.Chain.{chain_of, Member}
+use Rattle.tdb_space.proofs.Walks.{member_first, member_other}
+use Rattle.tdb_locks.specs.HeldLocks.{HeldLocks}
+use Rattle.tdb_locks.specs.declared.piece.Piece.{Piece}
+use Rattle.tdb_locks.specs.declared.turn.Turn.{Turn}
+use Rattle.tdb_law.specs.Layout.{Cell, Place, cells, behind, chains_in}
+use Rattle.tdb_law.specs.Layout.Place.{off_chains, before_chain, on_record}
+use Rattle.tdb_walk.specs.declared.live.Live.{Live}
+use Rattle.tdb_walk.specs.declared.standing.Standing.TheVariants.{Before, On, Past}
+use Rattle.tdb_walk.specs.NextLive.{first_live, left_in, live_at, IsNext, StandsIn}
+use Rattle.tdb_walk.specs.Cursors.{At, Came, MoveLed}
+use Rattle.tdb_walk.specs.Cursors.Came.{shown, barred, wants}
+use Rattle.tdb_walk.specs.Cursors.MoveLed.{comes, stops, ends, gives_up}
+use Rattle.tdb_walk.proofs.Ahead.{none_some, left_here, left_else}
+
+abbrev place_or : Option Cell → ℕ
+place_or None = 0
+place_or (Some c) = c.place
+
+abbrev off_or : Option Live → ℕ
+off_or None = 0
+off_or (Some live) = live.off
+
+-- the first live record of a list of records is one of them
+live_member : (f : Form) (img : List ℕ) (c : Cell) (offs : List ℕ) → first_live (cells f img offs) ≡ Some c → Member c.place offs
+live_member f img c [] e = absurd (none_some e)
+live_member f img c (x ∷ xs) e = go (magic_of f.order img x == USED) (λ s. live_member f img c xs s) e
+  where
+    go : (b : Bool) → (first_live (cells f img xs) ≡ Some c → Member c.place xs) → cond b (Some (record { place = x; key = key_at f.order img x; live = magic_of f.order img x == USED })) (first_live (cells f img xs)) ≡ Some c → Member c.place (x ∷ xs)
+    go true rest s = subst (λ y. Member y (x ∷ xs)) (ap place_or s) (member_first x xs)
+    go false rest s = member_other c.place x xs (rest s)
+
+behind_member : (f : Form) (img : List ℕ) (c : Cell) (p : ℕ) (offs : List ℕ) → first_live (behind (cells f img offs) p) ≡ Some c → Member c.place offs
+behind_member f img c p [] e = absurd (none_some e)
+behind_member f img c p (x ∷ xs) e = go (x == p) (λ s. behind_member f img c p xs s) e
+  where
+    go : (b : Bool) → (first_live (behind (cells f img xs) p) ≡ Some c → Member c.place xs) → first_live (if b then cells f img xs else behind (cells f img xs) p) ≡ Some c → Member c.place (x ∷ xs)
+    go true rest s = member_other c.place x xs (live_member f img c xs s)
+    go false rest s = member_other c.place x xs (rest s)
+
+-- so is the first one that is left of a chain
+before_member : (f : Form) (img : List ℕ) (c : Cell) (i j : ℕ) → first_live (left_in (chains_in f img) (before_chain i) j) ≡ Some c → Member c.place (chain_of f img j)
+before_member f img c i j e = go (nat_lt j i) e
+  where
+    go : (b : Bool) → first_live (if b then [] else chains_in f img j) ≡ Some c → Member c.place (chain_of f img j)
+    go true s = absurd (none_some s)
+    go false s = live_member f img c (chain_of f img j) s
+
+left_member : (f : Form) (img : List ℕ) (c : Cell) (place : Place) (j : ℕ) → first_live (left_in (chains_in f img) place j) ≡ Some c → Member c.place (chain_of f img j)
+left_member f img c off_chains j e = absurd (none_some e)
+left_member f img c (before_chain i) j e = before_member f img c i j e
+left_member f img c (on_record i p) j e =
+    elim (cases_eq j i) [
+      | inl here ↦ subst (λ k. Member c.place (chain_of f img k)) (sym here) (behind_member f img c p (chain_of f img i)
+          (sym (ap first_live (left_here (chains_in f img) i p)) ∙ subst (λ k. first_live (left_in (chains_in f img) (on_record i p) k) ≡ Some c) here e))
+      | inr apart ↦ before_member f img c (i + 1) j (sym (ap first_live (left_else (chains_in f img) i p j apart)) ∙ e)
+    ]
+
+-- so the next live record stands in its chain
+met_member : (f : Form) (img : List ℕ) (place : Place) (live : Live) → IsNext f img place (Some live) → StandsIn f img (On live.chain live.off)
+met_member f img place live (cell, next, read) = (next.below, subst (λ x. Member x (chain_of f img live.chain)) (ap off_or read) (left_member f img cell place live.chain next.first))
+
+module _ (f : Form) (img : List ℕ) (ps : List Piece) (owner : ℕ) (own : HeldLocks) (at later : At) (turn : Turn) (stands : StandsIn f img at.place) where
+  place_same : (a : At) → later ≡ a → StandsIn f img a.place → StandsIn f img later.place
+  place_same a same there = subst (λ (x : At). StandsIn f img x.place) (sym same) there
+
+  pub moved_stands : MoveLed f img ps owner own at later turn → StandsIn f img later.place
+  moved_stands (comes live way (shown says there can)) = place_same _ there (met_member f img _ live way.0)
+  moved_stands (comes live way (barred other byte says stays bar)) = place_same at stays stands
+  moved_stands (comes live way (wants says ended)) = place_same _ ended tt
+  moved_stands (stops chain other byte way says there) = place_same _ there tt
+  moved_stands (ends way says ended) = place_same _ ended tt
+  moved_stands (gives_up says ended) = place_same _ ended tt
