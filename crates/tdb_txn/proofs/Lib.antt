@@ -13,3 +13,8 @@ pub mod KeptArea
 pub mod PlacedArea
 pub mod ContentLengths
 pub mod Committed
+pub mod NewAreas
+pub mod Blanks
+pub mod DroppedArea
+pub mod Replaced
+pub mod Plans

@@ -12,5 +12,6 @@ pub data IsAreaExtent (o : Order) (img : List ℕ) (e : Extent) : Type 0 where
 -- an undo area can stand in this extent of a file of so many bytes
 pub record CanHold (len : ℕ) (e : Extent) : Type 0 where
   pub aligned : e.0 % 4 ≡ 0
+  pub words : e.1 % 4 ≡ 0
   pub header : 24 ≤ e.1
   pub within : e.0 + e.1 ≤ len

@@ -12,3 +12,5 @@ pub mod EndBelow
 pub mod Found
 pub mod Filling
 pub mod Committing
+pub mod GivenUp
+pub mod Answered

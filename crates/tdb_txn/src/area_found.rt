@@ -12,7 +12,7 @@ use tdb_disk::{Disk, DiskFault};
 use tdb_words::{Order, word_at};
 
 /// Where the word stands that leads to the undo area.
-const AREA_WORD: u64 = 44;
+pub(crate) const AREA_WORD: u64 = 44;
 
 /// The word at an offset of the file.
 fn read_word<D: Disk>(d: &mut D, off: u64, order: Order) -> Result<u32, DiskFault>
@@ -47,7 +47,7 @@ pub(crate) fn find_area<D: Disk>(d: &mut D, order: Order, len: u64) -> Result<(u
         return Ok((0, 0));
     }
     let capacity = read_word(d, at as u64 + 4, order)?;
-    if len < start + capacity as u64 {
+    if capacity % 4 != 0 || len < start + capacity as u64 {
         return Ok((0, 0));
     }
     Ok((at, AREA_HEADER + capacity))

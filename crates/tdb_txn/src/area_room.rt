@@ -5,6 +5,9 @@ ghost use Rattle.tdb_txn.specs.AreaRoom.{new_area_length};
 
 use tdb_undo::Runs;
 
+/// The length of a content above which no longer one is counted: none of a file is so long.
+const MOST_CONTENT: u64 = 1 << 40;
+
 /// How many bytes the header of an undo area has.
 pub(crate) const AREA_HEADER: u32 = 24;
 
@@ -32,4 +35,13 @@ pub(crate) fn area_len(content: u64) -> u64
     ensures words { result % 4 ≡ 0 }
 {
     (AREA_HEADER as u64 + content + content / 4).next_multiple_of(4_096)
+}
+
+/// How many bytes a new undo area gets, with its header, for the content of these runs.
+pub(crate) fn area_len_of(runs: &Runs) -> u64
+    ensures length { content_length runs.now < 2 ^ 40 → result ≡ new_area_length (content_length runs.now) }
+    ensures room { 24 + min (content_length runs.now) (2 ^ 40) ≤ result }
+    ensures words { result % 4 ≡ 0 }
+{
+    area_len(content_len(runs).min(MOST_CONTENT))
 }

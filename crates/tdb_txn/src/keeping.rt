@@ -1,11 +1,12 @@
 //! A transaction becomes the plan of its commit.
-ghost use Rattle.std.specs.Prelude.{◌≡◌, ◌+◌, ◌%◌, ◌<◌, ◌≤◌, ◌^◌, ◌⊎◌, IsTrue, IfOk, OnOk};
+ghost use Rattle.std.specs.Prelude.{◌≡◌, ◌+◌, ◌%◌, ◌<◌, ◌≤◌, ◌^◌, ◌⊎◌, ℕ, List, IsTrue, IfOk, OnOk};
 ghost use Rattle.tdb_disk.specs.Count.{HasCause, RoseBy};
 ghost use Rattle.tdb_disk.specs.History.{seen};
 ghost use Rattle.tdb_disk.specs.Stop.{LeavesOnly, Quiet};
+ghost use Rattle.tdb_space.specs.Planned.{content_length};
 ghost use Rattle.tdb_space.specs.Undoing.{Reopens};
 ghost use Rattle.tdb_txn.specs.AreaExtent.{CanHold};
-ghost use Rattle.tdb_txn.specs.CommitStates.{planned_plan};
+ghost use Rattle.tdb_txn.specs.CommitStates.{planned_plan, plan_length};
 ghost use Rattle.tdb_txn.specs.EndBelow.{EndBelow};
 ghost use Rattle.tdb_txn.specs.Planned.{IsPlannedOn};
 
@@ -39,7 +40,8 @@ impl Txn {
             → LeavesOnly (D.history d.old) (D.history d.new) (Reopens r) }
         ensures planned { IfOk result (λ next. IsTrue D.tells → let r = seen (D.history d.old) in Quiet (D.history d.old) → MayKeep self r area runs
             → IsPlannedOn (planned_plan next) (D.history d.new) r (txn_image self r)) }
-        ensures size { IfOk result (λ next. D.size d.new ≡ (planned_plan next).file_length) }
+        ensures runs { IfOk result (λ next. (planned_plan next).runs ≡ runs) }
+        ensures size { IfOk result (λ next. D.size d.new ≡ plan_length (planned_plan next)) }
         ensures cause { HasCause (D.faults d.old) (D.faults d.new) result }
         ensures syncs { D.syncs d.new ≡ D.syncs d.old }
     {
@@ -56,27 +58,24 @@ impl Txn {
         Ok(keep_area(d, plan)?)
     }
 
-    /// Plans its commit into a first undo area of `length` bytes, with its header, behind what the transaction has of the file,
-    /// and places that area. A stop leaves a file that opens to the map before the commit. It takes three syncs where the file
-    /// has no undo area.
-    pub(crate) fn place_first<D: Disk>(
-        self,
-        d: &mut D,
-        length: u32,
-        runs: Runs,
-    ) -> Result<Planned, Io>
+    /// Plans its commit into a new undo area of `length` bytes, with its header, behind what the transaction has of the file,
+    /// places that area, and makes the old one zero, where there is one. A stop leaves a file that opens to the map before the
+    /// commit. It takes three syncs, and two more where the file has an undo area.
+    pub(crate) fn place<D: Disk>(self, d: &mut D, length: u32, runs: Runs) -> Result<Planned, Io>
         requires sized { D.size d.old ≡ txn_start self }
         requires heads { 48 ≤ txn_start self }
         requires words { txn_size self % 4 ≡ 0 }
         requires area_words { length % 4 ≡ 0 }
-        requires area_header { 24 ≤ length }
+        requires fits { 24 + content_length runs ≤ length }
         requires short { txn_size self + length < 2 ^ 32 }
         requires ends { EndBelow (txn_start self) runs }
-        ensures stops { IsTrue D.tells → let r = seen (D.history d.old) in Quiet (D.history d.old) → MayPlace self r length runs
+        ensures stops { IsTrue D.tells → let r = seen (D.history d.old) in Quiet (D.history d.old) → (x : List ℕ) → MayPlace self r x runs
             → LeavesOnly (D.history d.old) (D.history d.new) (Reopens r) }
-        ensures planned { IfOk result (λ next. IsTrue D.tells → let r = seen (D.history d.old) in Quiet (D.history d.old) → MayPlace self r length runs
+        ensures planned { IfOk result (λ next. IsTrue D.tells → let r = seen (D.history d.old) in Quiet (D.history d.old) → (x : List ℕ) → MayPlace self r x runs
             → IsPlannedOn (planned_plan next) (D.history d.new) r (txn_image self r)) }
-        ensures size { IfOk result (λ next. D.size d.new ≡ (planned_plan next).file_length) }
+        ensures runs { IfOk result (λ next. (planned_plan next).runs ≡ runs) }
+        ensures length { IfOk result (λ next. (planned_plan next).area_length ≡ length) }
+        ensures size { IfOk result (λ next. D.size d.new ≡ plan_length (planned_plan next)) }
         ensures cause { HasCause (D.faults d.old) (D.faults d.new) result }
         ensures syncs { OnOk result (RoseBy 3 (D.syncs d.old) (D.syncs d.new) ⊎ RoseBy 5 (D.syncs d.old) (D.syncs d.new)) }
     {

@@ -2,6 +2,7 @@
 
 use std::alloc::AllocError;
 use tdb_disk::DiskFault;
+use tdb_space::Io as SpaceIo;
 use thiserror::Error;
 
 /// A call on a transaction failed.
@@ -47,5 +48,17 @@ impl From<AllocError> for TxnRefusal {
 
     fn from(_fault: AllocError) -> Self {
         TxnRefusal::Memory
+    }
+}
+
+impl From<SpaceIo> for TxnRefusal {
+    ghost use Rattle.std.specs.Prelude.{◌≡◌};
+    ghost use Rattle.tdb_txn.specs.declared.refusal.TxnRefusal.{TxnRefusal};
+    ghost use Rattle.tdb_txn.specs.declared.refusal.TxnRefusal.TheVariants.{Io};
+
+    ghost from_gives = { λ _ e. e ≡ Io };
+
+    fn from(_fault: SpaceIo) -> Self {
+        TxnRefusal::Io
     }
 }

@@ -82,7 +82,7 @@ impl Txn {
     }
 
     /// Adds a page as the file has it, where it isn't there yet. It changes no byte, and takes no memory.
-    fn load<D: Disk>(&mut self, d: &mut D, number: u64) -> Result<(), DiskFault>
+    pub(crate) fn load<D: Disk>(&mut self, d: &mut D, number: u64) -> Result<(), DiskFault>
         requires sized { D.size d.old ≡ txn_start self.old }
         requires inside { number * page_size < txn_size self.old }
         requires room { 2 * self.old.writes + self.old.bytes / page_size + 1 ≤ txn_left self.old }
