@@ -1,4 +1,5 @@
 pub mod Made
+pub mod Appended
 pub mod Rooms
 pub mod Knowledge
 pub mod FreeWrites

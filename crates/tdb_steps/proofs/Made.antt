@@ -18,7 +18,7 @@ use Rattle.tdb_free.proofs.Traded.{can_take}
 use Rattle.tdb_free.specs.declared.refusal.FreeRefusal.{FreeRefusal}
 use Rattle.tdb_free.specs.declared.refusal.FreeRefusal.TheVariants as Refused
 use Rattle.tdb_space.specs.Chain.{free_of, chain_of, without}
-use Rattle.std.specs.Prelude.{◌^◌, ◌+◌, IfOk, Result, Ok, Err, cond, Contains}
+use Rattle.std.specs.Prelude.{◌^◌, ◌+◌, unwrap_or, IfOk, Result, Ok, Err, cond, Contains}
 use Rattle.tdb_locks.specs.declared.turn.Reply.{Reply}
 use Rattle.tdb_steps.specs.declared.stage.Stage.{Stage}
 use Rattle.tdb_steps.specs.declared.stage.Next.{Next}
@@ -27,7 +27,7 @@ use Rattle.tdb_space.specs.Record.{key_at, data_at}
 use Rattle.tdb_steps.specs.declared.flag.Flag.{Flag}
 use Rattle.tdb_steps.specs.declared.flag.Flag.TheVariants as Flags
 use Rattle.tdb_steps.specs.Asked.{Asked, appends, joined, deleted, deletes, stored, stores}
-use Rattle.tdb_steps.specs.Stages.{IsKnown, hands_after, HoldsChain, KnowsAfter, is_changed, is_changed_after, IsEnd}
+use Rattle.tdb_steps.specs.Stages.{IsKnown, hands_after, HoldsChain, KnowsAfter, is_changed, is_changed_after, IsEnd, JoinedAfter}
 use Rattle.tdb_steps.specs.Turns.{MapBy, Says, TurnMade, LinkedOver, LinksRightly, MarksRightly}
 use Rattle.tdb_steps.specs.Turns.IsWant.{full}
 
@@ -37,7 +37,7 @@ of_both (Ok v) P Q R both p q = both v p q
 of_both (Err e) P Q R both p q = tt
 
 -- no is not yes
-never_true : false ≡ true → ⊥
+pub never_true : false ≡ true → ⊥
 never_true e = cc
 
 -- a test isn't answered both ways
@@ -181,13 +181,13 @@ marked_rightly stood_on place (Next.Step stage) ended stands = absurd ended
 marked_rightly stood_on place (Next.Done Reply.Ok) ended stands = stands
 marked_rightly stood_on place (Next.Done reply) ended stands = tt
 
--- an append that has looked is a store of the joined value
-module _ (f : Form) (a b key more bytes : List ℕ) (same : bytes ≡ joined (map_of f a key) more) where
-  as_map : (x y : Bool) → MapBy x y f a b key (stores Flags.Replace bytes) → MapBy x y f a b key (appends more)
-  as_map true true set = set
-  as_map true false set = set
-  as_map false true set = λ other. set other ∙ ap (λ v. update same_key (map_of f a) key (Some v) other) same
-  as_map false false set = set
+-- a turn of a store of the bytes that an append writes is one of the append
+module _ (f : Form) (a b key more bytes : List ℕ) where
+  as_map : (x y : Bool) → (x ≡ false → y ≡ true → bytes ≡ joined (map_of f a key) more) → MapBy x y f a b key (stores Flags.Replace bytes) → MapBy x y f a b key (appends more)
+  as_map true true same set = set
+  as_map true false same set = set
+  as_map false true same set = λ other. set other ∙ ap (λ v. update same_key (map_of f a) key (Some v) other) (same refl refl)
+  as_map false false same set = set
 
   as_known : (img : List ℕ) (place : Option Place) → IsKnown f img key (stores Flags.Replace bytes) place → IsKnown f img key (appends more) place
   as_known img place known = record { found = known.found; granted = refl }
@@ -203,15 +203,34 @@ module _ (f : Form) (a b key more bytes : List ℕ) (same : bytes ≡ joined (ma
   as_knows img (Next.Step Stage.Ending) known = tt
   as_knows img (Next.Done reply) known = tt
 
-  as_says : (next : Next) → Says Stage.Chained (stores Flags.Replace bytes) (map_of f a key) next → Says Stage.Chained (appends more) (map_of f a key) next
-  as_says (Next.Step stage) says = tt
-  as_says (Next.Done reply) says = says
+  as_says : (stage : Stage) (next : Next) → Says stage (stores Flags.Replace bytes) (map_of f a key) next → Says stage (appends more) (map_of f a key) next
+  as_says stage (Next.Step onto) says = tt
+  as_says Stage.Begun (Next.Done reply) says = says
+  as_says Stage.Chained (Next.Done reply) says = says
+  as_says (Stage.Looked place) (Next.Done reply) says = says
+  as_says (Stage.Listed place) (Next.Done reply) says = says
+  as_says (Stage.Taken place hand) (Next.Done reply) says = says
+  as_says (Stage.Changed hand) (Next.Done reply) says = says
+  as_says (Stage.Wiping locked) (Next.Done reply) says = says
+  as_says Stage.Ending (Next.Done reply) says = says
 
-  pub as_append : (next : Next) (others : List HandPair) → TurnMade f a b key (stores Flags.Replace bytes) Stage.Chained next others → TurnMade f a b key (appends more) Stage.Chained next others
-  as_append next others T = record {
+  pub as_append : (stage : Stage) (next : Next) (others : List HandPair) → (is_changed stage ≡ false → is_changed_after next ≡ true → bytes ≡ joined (map_of f a key) more) → TurnMade f a b key (stores Flags.Replace bytes) stage next others → TurnMade f a b key (appends more) stage next others
+  as_append stage next others same T = record {
     accepted = T.accepted;
     knows = as_knows b next T.knows;
     only = T.only;
-    map = as_map false (is_changed_after next) T.map;
-    says = as_says next T.says;
+    map = as_map (is_changed stage) (is_changed_after next) same T.map;
+    says = as_says stage next T.says;
   }
+
+-- where the map stays, an append still has the bytes that it writes
+pub joined_after : (f : Form) (a b key more : List ℕ) (whole : Option (List ℕ)) (next : Next) → unwrap_or whole more ≡ joined (map_of f a key) more → MapBy false (is_changed_after next) f a b key (appends more) → JoinedAfter f b key more whole next
+joined_after f a b key more whole (Next.Step Stage.Begun) same map = tt
+joined_after f a b key more whole (Next.Step Stage.Chained) same map = tt
+joined_after f a b key more whole (Next.Step (Stage.Looked place)) same map = same ∙ ap (λ v. joined v more) (sym (map key))
+joined_after f a b key more whole (Next.Step (Stage.Listed place)) same map = same ∙ ap (λ v. joined v more) (sym (map key))
+joined_after f a b key more whole (Next.Step (Stage.Taken place hand)) same map = same ∙ ap (λ v. joined v more) (sym (map key))
+joined_after f a b key more whole (Next.Step (Stage.Changed hand)) same map = tt
+joined_after f a b key more whole (Next.Step (Stage.Wiping locked)) same map = tt
+joined_after f a b key more whole (Next.Step Stage.Ending) same map = tt
+joined_after f a b key more whole (Next.Done reply) same map = tt

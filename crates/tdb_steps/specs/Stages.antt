@@ -1,5 +1,5 @@
 -- What a stage of a command holds, knows and needs.
-use Rattle.std.specs.Prelude.{◌≡◌, ℕ, ◌+◌, ◌/◌, ◌≤◌, Bool, true, false, List, [], ◌∷◌, Option, None, Some, IfSome}
+use Rattle.std.specs.Prelude.{◌≡◌, ℕ, ◌+◌, ◌/◌, ◌≤◌, Bool, true, false, List, [], ◌∷◌, Option, None, Some, IfSome, unwrap_or}
 use Rattle.tdb_space.specs.Form.{Form}
 use Rattle.tdb_space.specs.Pairs.{map_of}
 use Rattle.tdb_space.specs.Extents.{HandPair}
@@ -14,7 +14,7 @@ use Rattle.tdb_steps.specs.declared.stage.WipeStage.TheVariants.{Records, FreeLi
 use Rattle.tdb_steps.specs.declared.stage.Stage.TheVariants.{Begun, Chained, Looked, Listed, Taken, Changed, Wiping, Ending}
 use Rattle.tdb_steps.specs.declared.stage.Next.{Next}
 use Rattle.tdb_steps.specs.declared.stage.Next.TheVariants.{Step, Done}
-use Rattle.tdb_steps.specs.Asked.{Asked}
+use Rattle.tdb_steps.specs.Asked.{Asked, joined}
 
 -- the record that a stage holds, which is in no list
 abbrev pub hands_in : Stage → List HandPair
@@ -46,6 +46,18 @@ Knows f img key asked _ = Unit {0}
 abbrev pub KnowsAfter : Form → List ℕ → List ℕ → Asked → Next → Type 0
 KnowsAfter f img key asked (Step stage) = Knows f img key asked stage
 KnowsAfter f img key asked (Done reply) = Unit {0}
+
+-- From its look to its link an append has the bytes that it writes, which it has joined, or which are those to be appended: what the
+-- key has in an image, and those to be appended behind it.
+abbrev pub IsJoined : Form → List ℕ → List ℕ → List ℕ → Option (List ℕ) → Stage → Type 0
+IsJoined f img key more whole (Looked found) = unwrap_or whole more ≡ joined (map_of f img key) more
+IsJoined f img key more whole (Listed found) = unwrap_or whole more ≡ joined (map_of f img key) more
+IsJoined f img key more whole (Taken found hand) = unwrap_or whole more ≡ joined (map_of f img key) more
+IsJoined f img key more whole _ = Unit {0}
+
+abbrev pub JoinedAfter : Form → List ℕ → List ℕ → List ℕ → Option (List ℕ) → Next → Type 0
+JoinedAfter f img key more whole (Step stage) = IsJoined f img key more whole stage
+JoinedAfter f img key more whole (Done reply) = Unit {0}
 
 -- the change is made
 abbrev pub is_changed : Stage → Bool

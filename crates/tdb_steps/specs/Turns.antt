@@ -18,9 +18,9 @@ use Rattle.tdb_steps.specs.declared.stage.Stage.TheVariants.{Begun, Chained, Loo
 use Rattle.tdb_steps.specs.declared.stage.WipeStage.TheVariants.{FreeList}
 use Rattle.tdb_steps.specs.declared.stage.Next.{Next}
 use Rattle.tdb_steps.specs.declared.stage.Next.TheVariants.{Step, Done}
-use Rattle.tdb_steps.specs.Asked.{Asked, wipes}
+use Rattle.tdb_steps.specs.Asked.{Asked, appends, wipes}
 use Rattle.tdb_steps.specs.Wiped.{Wiped}
-use Rattle.tdb_steps.specs.Stages.{hands_in, hands_after, MayBeOut, HoldsChain, Knows, KnowsAfter, is_changed, is_changed_after, IsEnd}
+use Rattle.tdb_steps.specs.Stages.{hands_in, hands_after, MayBeOut, HoldsChain, Knows, KnowsAfter, IsJoined, JoinedAfter, is_changed, is_changed_after, IsEnd}
 
 -- The map after a turn, by whether the change was made before it and is made after it: only the turn that makes the change changes
 -- the map, and at the key alone, to the value that the command leaves there.
@@ -130,6 +130,16 @@ StoresRightly f a b key value_len rec_len limit stood_on Ending next = next ≡ 
 abbrev pub LooksRightly : Stage → Next → Type 0
 LooksRightly Begun next = next ≡ Step Chained
 LooksRightly _ next = IsEnd next
+
+-- A turn of an append makes of an image what the append asks for, and the append has the bytes that it writes then. What it has joined
+-- is `was` before the turn, and `now` after it.
+pub record AppendMade (f : Form) (a b key more : List ℕ) (now : Option (List ℕ)) (old : Stage) (next : Next) (others : List HandPair) : Type 0 where
+  pub made : TurnMade f a b key (appends more) old next others
+  pub has_joined : JoinedAfter f b key more now next
+
+abbrev pub AppendMakes : Form → List ℕ → List ℕ → List ℕ → List ℕ → Option (List ℕ) → Option (List ℕ) → Stage → Next → Type 0
+AppendMakes f a b key more was now old next =
+    (others : List HandPair) → AcceptWith f a (hands_in old ++ others) → Knows f a key (appends more) old → IsJoined f a key more was old → AppendMade f a b key more now old next others
 
 -- The map after a turn of a wipe: only the turn that makes the change changes it, and then each key has what a wipe leaves there.
 abbrev pub MapWiped : Bool → Bool → Form → List ℕ → List ℕ → Type 0

@@ -2,6 +2,7 @@
 #![tactic(auto)]
 
 mod acting;
+mod append_turns;
 mod appending;
 mod deleting;
 mod flag;
@@ -26,6 +27,7 @@ mod wiping;
 #[cfg(test)]
 mod wiping_tests;
 
+pub use crate::append_turns::append_turn;
 pub use crate::appending::look_to_append;
 pub use crate::deleting::delete_turn;
 pub use crate::flag::Flag;

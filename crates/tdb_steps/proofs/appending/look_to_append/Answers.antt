@@ -31,7 +31,7 @@ returns-clause-made g c told others A known =
     let image = c.joined_value.ensures.looked.image ∙ c.find.ensures.looked.image in
     let holds = subst (IsFound f a key) c.in-Some.is (c.in_ok-place.ensures.found told others A) in
     let same : bytes ≡ joined (map_of f a key) more = c.as_slice.ensures ∙ moved (λ x img. (key : List ℕ) → HoldsKey x img key place → c.in-Some-2.bytes ≡ joined (map_of x img key) more) f k a v c.find.ensures.looked.form c.find.ensures.looked.image (subst (λ made. IfSome made (λ bytes. IsTrue g.S.Space.tells → (key : List ℕ) → HoldsKey k v key place → bytes ≡ joined (map_of k v key) more)) c.in-Some-2.is c.in_ok-bytes.ensures.joined told) key holds in
-    as_append f a b key more bytes same c.in_ok-next.next others
+    as_append f a b key more bytes Stage.Chained c.in_ok-next.next others (λ before now. same)
     (moved (λ x img. (key : List ℕ) (flag : Flag) (others : List HandPair) → AcceptWith x img others → IsKnown x img key (stores flag bytes) (Some place) → TurnMade x img b key (stores flag bytes) Stage.Chained c.in_ok-next.next others) f m a w form image (c.in_ok-next.ensures.made told) key Replace others A (record { found = holds; granted = refl }))
 
 pub returns-clause-rightly : goal.returns-clause-rightly

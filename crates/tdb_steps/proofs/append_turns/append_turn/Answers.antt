@@ -1,0 +1,69 @@
+-- The look of an append, and its other turns.
+use Rattle.std.proofs.Common.{◌≡◌, ◌<◌, ◌+◌, ℕ, List, length, refl, sym, subst}
+use Rattle.std.specs.Prelude.{◌^◌, IsTrue, IfOk, unwrap_or}
+use Rattle.std.proofs.lemmas.Result.{IfOk-weaker}
+use Rattle.tdb_space.specs.Extents.{HandPair}
+use Rattle.tdb_space.specs.Accepted.{AcceptWith}
+use Rattle.tdb_space.specs.Pairs.{map_of}
+use Rattle.tdb_space.specs.NewRecord.{rec_len_for}
+use Rattle.tdb_steps.specs.Asked.{appends, joined, stores}
+use Rattle.tdb_steps.specs.Stages.{IsStep}
+use Rattle.tdb_steps.specs.Turns.{Makes, AppendMakes, Finds, UpdatesRightly, StoresRightly}
+use Rattle.tdb_steps.specs.Order.{StoreOrder}
+use Rattle.tdb_steps.specs.declared.flag.Flag.TheVariants as Flags
+use Rattle.tdb_steps.specs.declared.stage.Stage.TheVariants as Stage
+use Rattle.tdb_steps.proofs.Made.{of_both}
+use Rattle.tdb_steps.proofs.Appended.{look_appended, store_appended}
+use Rattle.tdb_steps.proofs.append_turns.append_turn.Goals as goal
+
+pub returns-in-Chained-clause-made : goal.returns-in-Chained-clause-made
+returns-in-Chained-clause-made g c =
+    let f = g.S.Space.form c.args.s.now in
+    let a = g.S.Space.image c.args.s.now in
+    let b = g.S.Space.image c.look_to_append.new.s in
+    let key = c.args.key.now in
+    let more = c.args.more.now in
+    let whole = c.look_to_append.new.whole in
+    subst (λ then. IfOk c.look_to_append.result (λ next. IsTrue g.S.Space.tells → g.S.Space.size c.args.s.now < 2 ^ 32 → AppendMakes f a b key more c.args.whole.now whole then next)) (sym c.in-Chained.is)
+    (of_both c.look_to_append.result (λ next. IsTrue g.S.Space.tells → Makes f a b key (appends more) Stage.Chained next)
+    (λ next. IsTrue g.S.Space.tells → IsStep next → (hands : List HandPair) → AcceptWith f a hands → unwrap_or whole more ≡ joined (map_of f a key) more)
+    (λ next. IsTrue g.S.Space.tells → g.S.Space.size c.args.s.now < 2 ^ 32 → AppendMakes f a b key more c.args.whole.now whole Stage.Chained next)
+    (λ next made same told small. look_appended f a b key more c.args.whole.now whole next (made told) (same told)) c.look_to_append.ensures.made c.look_to_append.ensures.joined)
+
+pub returns-in-Chained-clause-rightly : goal.returns-in-Chained-clause-rightly
+returns-in-Chained-clause-rightly g c =
+    let f = g.S.Space.form c.args.s.now in
+    let a = g.S.Space.image c.args.s.now in
+    let b = g.S.Space.image c.look_to_append.new.s in
+    let n = length (unwrap_or c.look_to_append.new.whole c.args.more.now) in
+    subst (λ then. IfOk c.look_to_append.result (λ next. IsTrue g.S.Space.tells → g.S.Space.size c.args.s.now < 2 ^ 32 → StoresRightly f a b c.args.key.now n (rec_len_for (length c.args.key.now) n) c.args.limit c.args.stood_on.now then next)) (sym c.in-Chained.is)
+    (IfOk-weaker c.look_to_append.result (λ next. IsTrue g.S.Space.tells → Finds f a c.args.key.now (λ place. UpdatesRightly n place next))
+    (λ next. IsTrue g.S.Space.tells → g.S.Space.size c.args.s.now < 2 ^ 32 → Finds f a c.args.key.now (λ place. UpdatesRightly n place next))
+    (λ next rightly told small. rightly told) c.look_to_append.ensures.rightly)
+
+pub returns-in-Chained-clause-leads : goal.returns-in-Chained-clause-leads
+returns-in-Chained-clause-leads g c = c.look_to_append.ensures.leads _
+
+pub returns-in_default : goal.returns-in_default
+returns-in_default g c =
+    let f = g.S.Space.form c.args.s.now in
+    let a = g.S.Space.image c.args.s.now in
+    let b = g.S.Space.image c.store_joined.new.s in
+    let key = c.args.key.now in
+    let more = c.args.more.now in
+    let whole = c.args.whole.now in
+    record {
+      made = of_both c.store_joined.result (λ next. IsTrue g.S.Space.tells → g.S.Space.size c.args.s.now < 2 ^ 32 → Makes f a b key (stores Flags.Replace (unwrap_or whole more)) c.args.stage next) (StoreOrder c.args.stage)
+          (λ next. IsTrue g.S.Space.tells → g.S.Space.size c.args.s.now < 2 ^ 32 → AppendMakes f a b key more whole whole c.args.stage next)
+          (λ next makes order told small. store_appended f a b key more whole whole c.args.stage next c.in_default.not-Chained order (makes told small)) c.store_joined.ensures.made c.store_joined.ensures.order;
+      rightly = c.store_joined.ensures.rightly;
+      order = c.store_joined.ensures.order;
+      leads = c.store_joined.ensures.leads;
+      short = c.requires.whole;
+      keeps = λ never. refl;
+      idle = c.store_joined.ensures.idle;
+      longer = c.store_joined.ensures.longer;
+      wrote = c.store_joined.ensures.wrote;
+      cause = c.store_joined.ensures.cause;
+      bytes_read = c.store_joined.ensures.bytes_read;
+    }
