@@ -1,5 +1,5 @@
 -- The look of an append, and its other turns.
-use Rattle.std.proofs.Common.{◌≡◌, ◌<◌, ◌+◌, ℕ, List, length, refl, sym, subst}
+use Rattle.std.proofs.Common.{◌≡◌, ◌<◌, List, length, refl, sym, subst}
 use Rattle.std.specs.Prelude.{◌^◌, IsTrue, IfOk, unwrap_or}
 use Rattle.std.proofs.lemmas.Result.{IfOk-weaker}
 use Rattle.tdb_space.specs.Extents.{HandPair}

@@ -1,5 +1,5 @@
 -- The bytes that an append writes are those that were joined, or those to be appended.
-use Rattle.std.proofs.Common.{◌≡◌, ◌<◌, ◌+◌, length, sym, ◌∙◌, ap, subst}
+use Rattle.std.proofs.Common.{◌<◌, sym, ◌∙◌, ap, subst}
 use Rattle.std.specs.Prelude.{◌^◌, IsTrue, IfOk, unwrap_or}
 use Rattle.tdb_steps.specs.Asked.{stores}
 use Rattle.tdb_steps.specs.Turns.{Makes}
