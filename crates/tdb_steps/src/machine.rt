@@ -177,6 +177,9 @@ impl Machine {
     /// `Memory` where that is wanting, before any change. `Io` where the disk failed: then the command has given up the record that it
     /// held, and it keeps its locks. After a reply or `Io` the machine is before its first turn.
     ///
+    /// A wipe is on no key: once all records are locked it may change any chain. Where it has both its locks, no hand of another command
+    /// may be out.
+    ///
     /// Cost: a pass over the lock table where a lock is taken; else the chain of the key, the free list, or the writes, once each.
     pub fn step<S: Space>(
         &mut self,
