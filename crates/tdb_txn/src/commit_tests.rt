@@ -1,15 +1,14 @@
-//! A commit, from an undo area that isn't filled yet to the gate that is shut again, over a small file in memory.
-ghost use Rattle.std.specs.Prelude.{◌≡◌, ◌+◌, ◌%◌, ◌^◌, ◌<◌, ◌≤◌, IsTrue, IfOk};
+//! Commits, from their plan to the gate that is shut again, over a small file in memory.
+ghost use Rattle.std.specs.Prelude.{◌≡◌, ◌+◌, ◌≤◌, IsTrue, length};
 ghost use Rattle.tdb_txn.specs.CommitStates.{planned_plan, plan_length};
 
-use crate::planned::Plan;
 use crate::states::Planned;
-use crate::{OverlayOn, Txn};
+use crate::{OverlayOn, ToCommit, Txn};
 use std::alloc::{AllocError, Global};
 use std::test::Fail;
-use tdb_disk::{Disk, FuseDisk, MemDisk, Pick};
+use tdb_disk::{Disk, DiskFault, FuseDisk, MemDisk, Pick};
 use tdb_space::{Io, Space};
-use tdb_undo::{Runs, ensure, recover};
+use tdb_undo::recover;
 use tdb_words::{FREE, HashKind, Header, Order, USED, header_bytes, word_bytes};
 
 const HEADER: Header = Header {
@@ -19,6 +18,9 @@ const HEADER: Header = Header {
     recovery_start: 0,
     sequence: 0,
 };
+
+/// The greatest length of a file in these tests.
+const LIMIT: u64 = 1 << 20;
 
 /// The words behind the header of a file with one record, `a` with the value `1`, and a free record in front of it.
 const RECORD: [(usize, u32); 12] = [
@@ -75,42 +77,6 @@ fn committed(alloc: Global, area: u32, len: u32, old: u8, new: u8) -> Result<Vec
     Ok(bytes)
 }
 
-/// The plan to bring one byte of a transaction into its file of `len` bytes, which has an undo area at `area`.
-fn one_byte(alloc: Global, txn: Txn, len: u32, area: u32) -> Result<Planned, AllocError>
-    requires least { 4096 ≤ len }
-    requires most { len ≤ area + 4096 }
-    requires short { area < 2 ^ 20 }
-    requires aligned { area % 4 ≡ 0 }
-    ensures { IfOk result (λ planned. plan_length (planned_plan planned) ≡ area + 4096) }
-{
-    let Txn {
-        alloc: _,
-        header,
-        pages,
-        start: _,
-        size: _,
-        writes: _,
-        bytes: _,
-        reach: _,
-        depth: _,
-        doomed: _,
-    } = txn;
-    let mut runs = Runs::new(alloc);
-    runs.push((4089, 1))?;
-    Ok(Planned {
-        plan: Plan {
-            header,
-            area,
-            area_length: 4096,
-            old_length: len,
-            new_length: len,
-            file_length: area + 4096,
-            runs,
-            pages,
-        },
-    })
-}
-
 /// Brings a plan into its file.
 fn bring<D: Disk>(planned: Planned, d: &mut D) -> Result<(), Io>
     requires { D.size d.old ≡ plan_length (planned_plan planned) }
@@ -133,67 +99,118 @@ fn is_long<D: Disk>(d: &mut D, len: u64) -> bool
     }
 }
 
-/// Writes one byte of the value of `a` in a transaction. None where that fails.
-fn write_value<D: Disk>(alloc: Global, d: &mut D, len: u64, value: u8) -> Option<Txn>
+/// Writes bytes at an offset in a transaction on a file of `len` bytes. None where that fails.
+fn write_bytes<D: Disk>(alloc: Global, d: &mut D, len: u64, at: u64, bytes: &[u8]) -> Option<Txn>
     requires long { D.size d.old ≡ len }
-    requires least { 4096 ≤ len }
+    requires inside { at + length bytes.now ≤ len }
 {
     let mut txn = Txn::start(alloc, d, &HEADER).ok()?;
     let mut view = OverlayOn::new(&mut txn, d);
-    view.ready(1, 1).ok()?;
-    view.write(4089, &[value]).ok()?;
+    view.ready(1, bytes.len() as u64).ok()?;
+    view.write(at, bytes).ok()?;
     Some(txn)
 }
 
-/// Gives `a` another value of one byte in a transaction, and commits that. The file of `len` bytes has its undo area at
-/// `area`, or gets a new one there where that is its end. True where it is done.
-fn change<D: Disk>(alloc: Global, d: &mut D, len: u32, area: u32, value: u8) -> bool {
-    if len < 4096 || len % 4 != 0 || area > 1 << 16 || area % 4 != 0 || area + 4096 < len {
+/// Writes bytes at an offset of a file of `len` bytes in a transaction, and commits that. True where it is done.
+fn change<D: Disk>(alloc: Global, d: &mut D, len: u64, at: u64, bytes: &[u8]) -> bool {
+    let count = bytes.len() as u64;
+    if len < 48 || at > len || len - at < count || !is_long(d, len) {
         return false;
     }
-    let length = len as u64;
-    if !is_long(d, length) {
-        return false;
-    }
-    let Some(txn) = write_value(alloc, d, length, value) else {
+    let Some(txn) = write_bytes(alloc, d, len, at, bytes) else {
         return false;
     };
-    if area == len && !(is_long(d, length) && ensure(d, &HEADER, 4072, length).is_ok()) {
+    let at_start = txn.start == len && txn.size % 4 == 0 && txn.size <= LIMIT;
+    if !at_start || txn.depth > 0 || txn.doomed || !is_long(d, len) {
         return false;
     }
-    let Ok(planned) = one_byte(alloc, txn, len, area) else {
-        return false;
-    };
-    if !is_long(d, area as u64 + 4096) {
-        planned.end();
-        return false;
+    match txn.plan(d, LIMIT) {
+        Ok(ToCommit::Ready(planned)) => bring(planned, d).is_ok(),
+        Ok(ToCommit::Nothing) => false,
+        Err(_) => false,
     }
-    bring(planned, d).is_ok()
 }
 
-// The file after a commit that places an undo area, one that keeps it and one that replaces it, byte for byte, and how
-// many syncs were made so far: 1 + 7, 1 + 4 and 1 + 9, of which the first is that of the start.
+/// Makes a file of 8192 bytes longer by a free record, which is the first of its list then.
+fn add_free(disk: &mut MemDisk) -> Result<(), DiskFault> {
+    let order = Order::Little;
+    if !is_long(disk, 8192) {
+        return Ok(());
+    }
+    disk.grow(16_384)?;
+    for (at, word) in [
+        (168, 8192),
+        (8192, 696),
+        (8196, 8168),
+        (8212, FREE),
+        (16_380, 8192),
+    ] {
+        disk.write(at, &word_bytes(word, order))?;
+    }
+    Ok(())
+}
+
+/// The word at an offset, or 0 behind the end.
+fn word_of(bytes: &[u8], at: usize) -> u32 {
+    match bytes.get(at..at.saturating_add(4)) {
+        Some(word) => u32::from_le_bytes([word[0], word[1], word[2], word[3]]),
+        None => 0,
+    }
+}
+
+// The file after a commit that places an undo area, and after one that keeps it, byte for byte; the words of one that
+// replaces it, which goes to the free list with the free record behind it; and how many syncs were made so far: 1 + 7,
+// 1 + 4 and 1 + 9, of which the first is that of the start.
 #[test]
 fn syncs_of_three_commits(rt: HostRuntime) -> Result<(), Fail> {
     let alloc = rt.alloc();
     let mut disk = MemDisk::new(alloc, &file(alloc, 4096)?)?;
-    for (len, area, old, new, syncs) in [
-        (4096, 4096, b'1', b'9', 8),
-        (8192, 4096, b'9', b'8', 13),
-        (8192, 8192, b'8', b'7', 23),
-    ] {
-        assert!(rt; change(alloc, &mut disk, len, area, new));
-        let want = committed(alloc, area, len, old, new)?;
-        assert!(rt; disk.as_slice() == want.as_slice(), "{len} {area}");
+    for (len, old, new, syncs) in [(4096, b'1', b'9', 8), (8192, b'9', b'8', 13)] {
+        assert!(rt; change(alloc, &mut disk, len as u64, 4089, &[new]));
+        let want = committed(alloc, 4096, len, old, new)?;
+        assert!(rt; disk.as_slice() == want.as_slice(), "{len}");
         assert_eq!(rt; disk.syncs(), syncs);
     }
+    add_free(&mut disk)?;
+    assert!(rt; change(alloc, &mut disk, 16_384, 8216, &[b'y'; 5000]));
+    assert_eq!(rt; (disk.syncs(), disk.as_slice().len()), (23, 24_576));
+    for (at, word) in [
+        (44, 16_384),
+        (168, 4096),
+        (4096, 696),
+        (4100, 12_264),
+        (4116, FREE),
+        (4120, 0),
+        (8216, 0x7979_7979),
+        (16_380, 12_288),
+        (16_388, 8168),
+        (16_392, 16_384),
+        (16_396, 5056),
+        (16_404, 0),
+    ] {
+        assert_eq!(rt; word_of(disk.as_slice(), at), word, "{at}");
+    }
+    Ok(())
+}
+
+// A transaction that wrote what was there leaves nothing to commit.
+#[test]
+fn nothing_to_commit(rt: HostRuntime) -> Result<(), Fail> {
+    let alloc = rt.alloc();
+    let bytes = file(alloc, 4096)?;
+    let mut disk = MemDisk::new(alloc, &bytes)?;
+    assert!(rt; !change(alloc, &mut disk, 4096, 4089, b"1"));
+    assert_eq!(rt;
+        (disk.syncs(), disk.as_slice() == bytes.as_slice()),
+        (1, true)
+    );
     Ok(())
 }
 
 /// Commits over a disk that passes `k` calls, and says whether that was done.
 fn change_through(alloc: Global, disk: MemDisk, k: u64) -> (MemDisk, bool) {
     let mut fuse = FuseDisk::new(disk, k);
-    let done = change(alloc, &mut fuse, 4096, 4096, b'9');
+    let done = change(alloc, &mut fuse, 4096, 4089, b"9");
     (fuse.inner(), done)
 }
 
