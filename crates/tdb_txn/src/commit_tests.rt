@@ -131,9 +131,16 @@ fn change<D: Disk>(alloc: Global, d: &mut D, len: u64, at: u64, bytes: &[u8]) ->
     }
 }
 
+/// Writes a word into a file of 16,384 bytes.
+fn write_word_at(disk: &mut MemDisk, at: u64, word: u32) -> Result<(), DiskFault> {
+    if at <= 16_380 && is_long(disk, 16_384) {
+        disk.write(at, &word_bytes(word, Order::Little))?;
+    }
+    Ok(())
+}
+
 /// Makes a file of 8192 bytes longer by a free record, which is the first of its list then.
 fn add_free(disk: &mut MemDisk) -> Result<(), DiskFault> {
-    let order = Order::Little;
     if !is_long(disk, 8192) {
         return Ok(());
     }
@@ -145,7 +152,7 @@ fn add_free(disk: &mut MemDisk) -> Result<(), DiskFault> {
         (8212, FREE),
         (16_380, 8192),
     ] {
-        disk.write(at, &word_bytes(word, order))?;
+        write_word_at(disk, at, word)?;
     }
     Ok(())
 }
