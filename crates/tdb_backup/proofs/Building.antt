@@ -95,6 +95,36 @@ holds_more f a b given p h new added = record {
 pub holds_front : (f g : Form) (img b : List ℕ) (given : List (List ℕ × List ℕ)) (t : Traversal) → Gave f img given t → HoldsPairs g b given → HoldsFront g b (order_of f img)
 holds_front f g img b given t h holds = let front = gave_front f img given t h in record { given = given; rest = front.0; split = front.1; holds = holds }
 
+-- the next pair was added
+pub added_next : (f l : Form) (a b : List ℕ) (given : List (List ℕ × List ℕ)) (p : List ℕ × List ℕ) (key value : List ℕ) → l ≡ f → key ≡ p.0 → value ≡ p.1 → HoldsPairs f a given → lookup (same_key p.0) given ≡ None
+    → (AcceptWith l a [] → map_of l a key ≡ None → Added l a b key value) → HoldsPairs f b (given ++ p ∷ [])
+added_next f l a b given p key value same same_key_there same_value holds new added =
+    let there : AcceptWith l a [] = subst (λ x. AcceptWith x a []) (sym same) holds.accepted in
+    let absent : map_of l a key ≡ None = (λ j. map_of (same j) a (same_key_there j)) ∙ holds.map p.0 ∙ new in
+    let made : Added f a b key value = subst (λ x. Added x a b key value) same (added there absent) in
+    let made_there : Added f a b p.0 p.1 = subst (λ q. Added f a b p.0 q) same_value (subst (λ q. Added f a b q value) same_key_there made) in
+    holds_more f a b given p holds new made_there
+
+-- the next pair wasn't added
+pub refused_next : (f l : Form) (a b : List ℕ) (order given : List (List ℕ × List ℕ)) (p : List ℕ × List ℕ) (key value : List ℕ) → l ≡ f → key ≡ p.0 → value ≡ p.1 → (limit : ℕ) (e : InsertRefusal) → NextPair order given p → HoldsPairs f a given
+    → (AcceptWith l a [] → InsertCause l a b (rec_len_for (length key) (length value)) limit e) → CopyCause f b order limit (of_insert e)
+refused_next f l a b order given p key value same same_key_there same_value limit e next holds cause = of_cause e (cause (subst (λ x. AcceptWith x a []) (sym same) holds.accepted))
+  where
+    of_cause : (e : InsertRefusal) → InsertCause l a b (rec_len_for (length key) (length value)) limit e → CopyCause f b order limit (of_insert e)
+    of_cause (Full len need) full =
+        let kept = full.no_room.same in
+        record {
+          given = given;
+          next = p;
+          rest = next.rest;
+          split = next.split;
+          holds = subst (λ i. HoldsPairs f i given) (sym kept) holds;
+          no_room = subst (λ q. HasNoRoom f b b (rec_len_for (length p.0) (length q)) limit len need) same_value (subst (λ q. HasNoRoom f b b (rec_len_for (length q) (length value)) limit len need) same_key_there (subst (λ x. HasNoRoom x b b (rec_len_for (length key) (length value)) limit len need) same (subst (λ i. HasNoRoom l i b (rec_len_for (length key) (length value)) limit len need) (sym kept) full)));
+        }
+    of_cause Io cause = tt
+    of_cause Memory kept =
+        record { given = given; rest = p ∷ next.rest; split = next.split; holds = subst (λ i. HoldsPairs f i given) (sym kept) holds }
+
 module _ (f k : Form) (img v : List ℕ) (hands : List HandPair) (g l : Form) (a b : List ℕ) (t u : Traversal) (more : Bool) (form : k ≡ f) (image : v ≡ img) (same : l ≡ g) (A : AcceptWith f img hands)
     (d : (given : List (List ℕ × List ℕ)) × Gave f img given t × HoldsPairs g a given)
     (answer : (hands : List HandPair) → AcceptWith k v hands → (given : List (List ℕ × List ℕ)) → Gave k v given t
@@ -115,11 +145,7 @@ module _ (f k : Form) (img v : List ℕ) (hands : List HandPair) (g l : Form) (a
       let p = pair_at_hand u in
       let gave = given_more another in
       let next = next_pair f img hands d.0 p u A gave in
-      let there : AcceptWith l a [] = subst (λ x. AcceptWith x a []) (sym same) d.2.accepted in
-      let absent : map_of l a key ≡ None = (λ j. map_of (same j) a (same_key_there j)) ∙ d.2.map p.0 ∙ next.new in
-      let made : Added g a b key value = subst (λ x. Added x a b key value) same (added there absent) in
-      let made_there : Added g a b p.0 p.1 = subst (λ q. Added g a b p.0 q) same_value (subst (λ q. Added g a b q value) same_key_there made) in
-      (d.0 ++ p ∷ [], gave, holds_more g a b d.0 p d.2 next.new made_there)
+      (d.0 ++ p ∷ [], gave, added_next g l a b d.0 p key value same same_key_there same_value d.2 next.new added)
 
   -- no pair is left
   pub built_all : more ≡ false → HoldsPairs g a (order_of f img)
@@ -131,23 +157,9 @@ module _ (f k : Form) (img v : List ℕ) (hands : List HandPair) (g l : Form) (a
   -- a pair more was given, but wasn't added
   pub built_refused : more ≡ true → (key value : List ℕ) → key ≡ (pair_at_hand u).0 → value ≡ (pair_at_hand u).1 → (limit : ℕ) (e : InsertRefusal)
       → (AcceptWith l a [] → InsertCause l a b (rec_len_for (length key) (length value)) limit e) → CopyCause g b (order_of f img) limit (of_insert e)
-  built_refused another key value same_key_there same_value limit e cause = of_cause e (cause (subst (λ x. AcceptWith x a []) (sym same) d.2.accepted))
-    where
-      of_cause : (e : InsertRefusal) → InsertCause l a b (rec_len_for (length key) (length value)) limit e → CopyCause g b (order_of f img) limit (of_insert e)
-      of_cause (Full len need) full =
-          let next = next_pair f img hands d.0 (pair_at_hand u) u A (given_more another) in
-          let kept = full.no_room.same in
-          record {
-            given = d.0;
-            next = pair_at_hand u;
-            rest = next.rest;
-            split = next.split;
-            holds = subst (λ i. HoldsPairs g i d.0) (sym kept) d.2;
-            no_room = subst (λ q. HasNoRoom g b b (rec_len_for (length (pair_at_hand u).0) (length q)) limit len need) same_value (subst (λ q. HasNoRoom g b b (rec_len_for (length q) (length value)) limit len need) same_key_there (subst (λ x. HasNoRoom x b b (rec_len_for (length key) (length value)) limit len need) same (subst (λ i. HasNoRoom l i b (rec_len_for (length key) (length value)) limit len need) (sym kept) full)));
-          }
-      of_cause Io cause = tt
-      of_cause Memory kept =
-          holds_front f g img b d.0 t d.1 (subst (λ i. HoldsPairs g i d.0) (sym kept) d.2)
+  built_refused another key value same_key_there same_value limit e cause =
+      let next = next_pair f img hands d.0 (pair_at_hand u) u A (given_more another) in
+      refused_next g l a b (order_of f img) d.0 (pair_at_hand u) key value same same_key_there same_value limit e next d.2 cause
 
 -- a pair wasn't read
 pub built_unread : (f g : Form) (img a : List ℕ) (t : Traversal) → ((given : List (List ℕ × List ℕ)) × Gave f img given t × HoldsPairs g a given) → (limit : ℕ) (e : Value.ValueRefusal) → CopyCause g a (order_of f img) limit (of_read e)

@@ -1,6 +1,6 @@
 -- A new pair: what taking its record and linking it make together.
 use Rattle.std.proofs.Common.{◌≡◌, ℕ, ◌+◌, ◌<◌, ◌≤◌, ◌⊎◌, List, [], ◌∷◌, length, Option, Some, None, sym, ◌∙◌, ap, subst, inl, inr, arith}
-use Rattle.std.specs.Prelude.{◌^◌, cond}
+use Rattle.std.specs.Prelude.{◌^◌, max, cond}
 use Rattle.std.proofs.lemmas.Bool.{cases_lt}
 use Rattle.tdb_space.specs.Form.{Form}
 use Rattle.tdb_space.specs.Chain.{chain_of, free_of}
@@ -32,6 +32,15 @@ grown_low len need limit to e =
 pub stays_short : (size len need limit to : ℕ) → size < 2 ^ 32 → limit ≤ 4294963200 → (to ≡ size) ⊎ (grown_length len need limit ≡ Some to) → to < 2 ^ 32
 stays_short size len need limit to short low (inl same) = omega (arith, same, short)
 stays_short size len need limit to short low (inr grown) = omega (arith, grown_low len need limit to grown, low)
+
+-- and it is at most as long as it was, or as the limit
+pub stays_within : (first size len limit to : ℕ) → size ≤ max first limit → (to ≡ size) ⊎ (grown_length size len limit ≡ Some to) → to ≤ max first limit
+stays_within first size len limit to within (inl same) = omega (arith, same, within)
+stays_within first size len limit to within (inr grown) = omega (arith, grown_low size len limit to grown)
+
+-- a file within the limit is short enough, where it was so before
+pub within_short : (first size limit : ℕ) → limit ≤ 4294963200 → size ≤ max first limit → first < 2 ^ 32 → size < 2 ^ 32
+within_short first size limit low within short = omega (arith, low, within, short)
 
 -- a record was taken, and put in front of its chain
 pub inserted : (f k l : Form) (a v b c key value : List ℕ) (h : HandPair) (out : Option HandPair) → AcceptWith f a [] → map_of f a key ≡ None → k ≡ f → v ≡ a → l ≡ f

@@ -3,3 +3,4 @@ mod Bytes
 mod Dumped
 mod Inserting
 mod Building
+mod Restored

@@ -3,3 +3,4 @@ pub mod Traversal
 pub mod Dump
 pub mod Filling
 pub mod Building
+pub mod Restoring

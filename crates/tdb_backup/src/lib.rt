@@ -6,6 +6,7 @@ mod dumping;
 mod filling;
 mod held;
 mod refusal;
+mod restoring;
 #[cfg(test)]
 mod tests;
 mod traversal;
@@ -13,5 +14,6 @@ mod traversal;
 pub use crate::copying::copy_pairs;
 pub use crate::dumping::write_pairs;
 pub use crate::filling::insert_new;
-pub use crate::refusal::{CopyRefusal, DumpRefusal, InsertRefusal};
+pub use crate::refusal::{CopyRefusal, DumpRefusal, InsertRefusal, RestoreRefusal};
+pub use crate::restoring::{LONGEST_TEXT, restore_pairs};
 pub use crate::traversal::Traversal;

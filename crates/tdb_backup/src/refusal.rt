@@ -1,15 +1,18 @@
-// Why pairs aren't written, added or copied.
+// Why pairs aren't written, added, copied or restored.
 
 ghost use Rattle.std.specs.Prelude.{◌≡◌};
 ghost use Rattle.tdb_backup.specs.declared.refusal.DumpRefusal.TheVariants.{Failed, Memory};
 ghost use Rattle.tdb_backup.specs.declared.refusal.InsertRefusal.TheVariants.{Io as InsertIo, Memory as InsertMemory};
+ghost use Rattle.tdb_backup.specs.declared.refusal.RestoreRefusal.TheVariants.{Input, Memory as RestoreMemory};
 ghost use Rattle.tdb_backup.specs.Building.{of_read, of_insert};
 ghost use Rattle.tdb_backup.specs.Dump.{of_value};
 ghost use Rattle.tdb_backup.specs.Filling.{of_free};
+ghost use Rattle.tdb_backup.specs.Restoring.{of_text, of_pair};
 
 use std::alloc::AllocError;
 use tdb_chain::ValueRefusal;
-use tdb_disk::SinkFault;
+use tdb_disk::{SinkFault, SourceFault};
+use tdb_dump::ReadRefusal;
 use tdb_free::FreeRefusal;
 use tdb_space::Io as SpaceIo;
 use thiserror::Error;
@@ -152,5 +155,77 @@ impl From<InsertRefusal> for CopyRefusal {
             InsertRefusal::Io => CopyRefusal::Write,
             InsertRefusal::Memory => CopyRefusal::Memory,
         }
+    }
+}
+
+/// Why not all pairs of a dump text are added to a file.
+#[derive(Clone, Copy, Debug, PartialEq, Eq, Error)]
+pub enum RestoreRefusal {
+    /// The source of the text failed.
+    #[error("the source failed")]
+    Input,
+
+    /// The disk of the file failed.
+    #[error("the disk failed")]
+    Io,
+
+    /// The text stops to be dump text at this place, in bytes from 0, or is too long.
+    #[error("malformed at {at}")]
+    Malformed {
+        /// The place.
+        at: u64,
+    },
+
+    /// The file has no room for a pair. Lengths are in bytes.
+    #[error("a file of {len} bytes has no room for {need} more")]
+    Full {
+        /// The length of the file.
+        len: u64,
+
+        /// How many bytes the pair's record needs, with its header.
+        need: u64,
+    },
+
+    /// Memory is wanting.
+    #[error("no memory")]
+    Memory,
+}
+
+impl From<SourceFault> for RestoreRefusal {
+    ghost from_gives = { λ _ e. e ≡ Input };
+
+    fn from(_fault: SourceFault) -> Self {
+        RestoreRefusal::Input
+    }
+}
+
+impl From<ReadRefusal> for RestoreRefusal {
+    ghost from_gives = { λ refusal e. e ≡ of_text refusal };
+
+    fn from(refusal: ReadRefusal) -> Self {
+        match refusal {
+            ReadRefusal::Malformed { at } => RestoreRefusal::Malformed { at },
+            ReadRefusal::Memory => RestoreRefusal::Memory,
+        }
+    }
+}
+
+impl From<InsertRefusal> for RestoreRefusal {
+    ghost from_gives = { λ refusal e. e ≡ of_pair refusal };
+
+    fn from(refusal: InsertRefusal) -> Self {
+        match refusal {
+            InsertRefusal::Full { len, need } => RestoreRefusal::Full { len, need },
+            InsertRefusal::Io => RestoreRefusal::Io,
+            InsertRefusal::Memory => RestoreRefusal::Memory,
+        }
+    }
+}
+
+impl From<AllocError> for RestoreRefusal {
+    ghost from_gives = { λ _ e. e ≡ RestoreMemory };
+
+    fn from(_fault: AllocError) -> Self {
+        RestoreRefusal::Memory
     }
 }

@@ -5,10 +5,12 @@ ghost use Rattle.std.specs.Prelude.{◌^◌, ◌<◌, ◌≤◌, length};
 use crate::copying::copy_pairs;
 use crate::dumping::write_pairs;
 use crate::filling::insert_new;
-use crate::refusal::{DumpRefusal, InsertRefusal};
+use crate::refusal::{DumpRefusal, InsertRefusal, RestoreRefusal};
+use crate::restoring::restore_pairs;
 use std::alloc::{AllocError, Global};
 use std::test::Fail;
-use tdb_disk::{Call, MemDisk, MemSink};
+use tdb_disk::{Call, MemDisk, MemSink, MemSource};
+use tdb_dump::push_pair;
 use tdb_space::Direct;
 use tdb_words::{HashKind, Header, Order};
 
@@ -28,6 +30,22 @@ const PAIRS: [(&[u8], &[u8]); 3] = [(b"b", b"2"), (b"a", b"1"), (b"", b"\x00\"\\
 
 const TEXT: &[u8] =
     b"{\nkey(1) = \"a\"\ndata(1) = \"1\"\n}\n{\nkey(0) = \"\"\ndata(5) = \"\\00\\22\\5C\\7F\\FF\"\n}\n{\nkey(1) = \"b\"\ndata(1) = \"2\"\n}\n";
+
+// The dump of one pair.
+const ONE: &[u8] = b"{\nkey(1) = \"a\"\ndata(1) = \"1\"\n}\n";
+
+// Texts that aren't dump text, where they stop to be, and the dump of what is restored of them.
+const BAD_TEXTS: [(&[u8], u64, &[u8]); 5] = [
+    (b"{\nkey(01) = ", 7, b""),
+    (b"{\nkey(1) = \"ab\"", 13, b""),
+    (b"{\nkey(4294967296) = ", 15, b""),
+    (b"{\nkey(1) = \"a\"\ndata(1) = \"1\"\n}\n{\n", 33, ONE),
+    (
+        b"{\nkey(1) = \"a\"\ndata(1) = \"1\"\n}\n{\nkey(1) = \"\\61\"\ndata(0) = \"\"\n}\n",
+        31,
+        ONE,
+    ),
+];
 
 // A file whose lists are all empty. What stands in front of their heads isn't read.
 fn empty_file(alloc: Global) -> Result<MemDisk, AllocError> {
@@ -119,6 +137,97 @@ fn hands_faults_on(rt: HostRuntime) -> Result<(), Fail> {
             dump(alloc, &mut disk, &mut out),
             Err(DumpRefusal::Failed),
             "at {nth}"
+        );
+    }
+    Ok(())
+}
+
+fn restore(
+    alloc: Global,
+    input: &mut MemSource,
+    disk: &mut MemDisk,
+    limit: u64,
+) -> Result<(), RestoreRefusal>
+    requires limit { limit ≤ 4294963200 }
+{
+    restore_pairs(alloc, input, &mut Direct::new(disk, &HEADER), limit)
+}
+
+// A text of no pairs leaves the file as it is, and one of several pairs has them all.
+#[test]
+fn restores_texts(rt: HostRuntime) -> Result<(), Fail> {
+    let alloc = rt.alloc();
+    let mut disk = empty_file(alloc)?;
+    restore(alloc, &mut MemSource::new(alloc, b"")?, &mut disk, MOST)?;
+    assert_eq!(rt; disk.as_slice(), empty_file(alloc)?.as_slice());
+    restore(alloc, &mut MemSource::new(alloc, TEXT)?, &mut disk, MOST)?;
+    let mut out = MemSink::new(alloc);
+    dump(alloc, &mut disk, &mut out)?;
+    assert_eq!(rt; out.as_slice(), TEXT);
+    Ok(())
+}
+
+#[test]
+fn says_where_a_text_stops(rt: HostRuntime) -> Result<(), Fail> {
+    let alloc = rt.alloc();
+    for (text, at, held) in BAD_TEXTS {
+        let mut disk = empty_file(alloc)?;
+        assert_eq!(rt;
+            restore(alloc, &mut MemSource::new(alloc, text)?, &mut disk, MOST),
+            Err(RestoreRefusal::Malformed { at })
+        );
+        let mut out = MemSink::new(alloc);
+        dump(alloc, &mut disk, &mut out)?;
+        assert_eq!(rt; out.as_slice(), held, "at {at}");
+    }
+    Ok(())
+}
+
+// A value of 70000 bytes doesn't end in the first piece. Its record needs 87532 bytes with its header.
+#[test]
+fn restores_a_text_of_several_pieces(rt: HostRuntime) -> Result<(), Fail> {
+    let alloc = rt.alloc();
+    let value = vec![in alloc; b'x'; 70000]?;
+    let mut text = Vec::from_slice(alloc, ONE)?;
+    push_pair(&mut text, b"b", &value)?;
+    let mut disk = empty_file(alloc)?;
+    restore(alloc, &mut MemSource::new(alloc, &text)?, &mut disk, MOST)?;
+    let mut out = MemSink::new(alloc);
+    dump(alloc, &mut disk, &mut out)?;
+    assert_eq!(rt; out.as_slice(), text.as_slice());
+    let mut full = empty_file(alloc)?;
+    assert_eq!(rt;
+        restore(alloc, &mut MemSource::new(alloc, &text)?, &mut full, 4096),
+        Err(RestoreRefusal::Full {
+            len: 4096,
+            need: 87532
+        })
+    );
+    Ok(())
+}
+
+// A source or a disk that fails is told, and the pairs that came before are there.
+#[test]
+fn hands_faults_of_a_restore_on(rt: HostRuntime) -> Result<(), Fail> {
+    let alloc = rt.alloc();
+    for (nth, held) in [(0, b"".as_slice()), (1, TEXT)] {
+        let mut input = MemSource::new(alloc, TEXT)?;
+        input.fail(Call::Read, nth)?;
+        let mut disk = empty_file(alloc)?;
+        assert_eq!(rt;
+            restore(alloc, &mut input, &mut disk, MOST),
+            Err(RestoreRefusal::Input)
+        );
+        let mut out = MemSink::new(alloc);
+        dump(alloc, &mut disk, &mut out)?;
+        assert_eq!(rt; out.as_slice(), held, "at {nth}");
+    }
+    for call in [Call::Grow, Call::Write] {
+        let mut disk = empty_file(alloc)?;
+        disk.fail(call, 0)?;
+        assert_eq!(rt;
+            restore(alloc, &mut MemSource::new(alloc, TEXT)?, &mut disk, MOST),
+            Err(RestoreRefusal::Io)
         );
     }
     Ok(())

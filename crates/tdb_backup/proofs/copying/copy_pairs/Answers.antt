@@ -1,15 +1,15 @@
 -- Each pair that the walk gives is added; what is refused leaves those before it.
-use Rattle.std.proofs.Common.{◌+◌, [], refl, rules, length}
+use Rattle.std.proofs.Common.{◌+◌, [], refl, rules, length, arith}
 use Rattle.std.proofs.lemmas.Result.{err_from_is_err_and}
 use Rattle.tdb_space.specs.NewRecord.{rec_len_for}
-use Rattle.tdb_backup.proofs.Inserting.{stays_short}
+use Rattle.tdb_backup.proofs.Inserting.{stays_within, within_short}
 use Rattle.tdb_backup.proofs.Building.{built_more, built_all, built_refused, built_unread}
 use Rattle.tdb_backup.proofs.copying.copy_pairs.Goals as goal
 
 pub loop-traversal-init : goal.loop-traversal-init
 loop-traversal-init g c = record {
   built = λ told heard small hands A holds. ([], c.new-traversal.ensures (g.S.Space.form c.args.from.now) (g.S.Space.image c.args.from.now), holds);
-  short = λ small. small;
+  within = omega arith;
   looked = search rules;
   wrote = search rules;
   read_faults = refl;
@@ -23,9 +23,9 @@ loop-traversal-preserved g c = record {
       built_more (g.S.Space.form c.args.from.now) (g.S.Space.form c.loop-traversal.from) (g.S.Space.image c.args.from.now) (g.S.Space.image c.loop-traversal.from) hands
       (g.T.Space.form c.args.to.now) (g.T.Space.form c.loop-traversal.to) (g.T.Space.image c.loop-traversal.to) (g.T.Space.image c.insert_new.new.s) c.loop-traversal.traversal c.advance.new.self c.in_ok-advance.field-0
       looked.form looked.image c.loop-traversal.invariant.wrote.form A (c.loop-traversal.invariant.built told heard small hands A holds) (c.in_ok-advance.ensures.gave told)
-      c.if-branch.true c.key.result.now c.value.result.now c.key.ensures c.value.ensures (c.in_ok-insert_new.ensures.added heard (c.loop-traversal.invariant.short small)));
-  short = λ small.
-      stays_short (g.T.Space.size c.loop-traversal.to) (g.T.Space.size c.loop-traversal.to) (24 + rec_len_for (length c.key.result.now) (length c.value.result.now)) c.args.limit (g.T.Space.size c.insert_new.new.s) (c.loop-traversal.invariant.short small) c.requires.limit c.insert_new.ensures.size;
+      c.if-branch.true c.key.result.now c.value.result.now c.key.ensures c.value.ensures (c.in_ok-insert_new.ensures.added heard (within_short (g.T.Space.size c.args.to.now) (g.T.Space.size c.loop-traversal.to) c.args.limit c.requires.limit c.loop-traversal.invariant.within small)));
+  within =
+      stays_within (g.T.Space.size c.args.to.now) (g.T.Space.size c.loop-traversal.to) (24 + rec_len_for (length c.key.result.now) (length c.value.result.now)) c.args.limit (g.T.Space.size c.insert_new.new.s) c.loop-traversal.invariant.within c.insert_new.ensures.size;
   looked = search rules;
   wrote = search rules;
   read_faults = search rules;
@@ -48,7 +48,7 @@ returns-in_err-insert_new-clause-refused g c =
     built_refused (g.S.Space.form c.args.from.now) (g.S.Space.form c.loop-traversal.from) (g.S.Space.image c.args.from.now) (g.S.Space.image c.loop-traversal.from) hands
     (g.T.Space.form c.args.to.now) (g.T.Space.form c.loop-traversal.to) (g.T.Space.image c.loop-traversal.to) (g.T.Space.image c.insert_new.new.s) c.loop-traversal.traversal c.advance.new.self c.in_ok-advance.field-0
     looked.form looked.image c.loop-traversal.invariant.wrote.form A (c.loop-traversal.invariant.built told heard small hands A holds) (c.in_ok-advance.ensures.gave told)
-    c.if-branch.true c.key.result.now c.value.result.now c.key.ensures c.value.ensures c.args.limit c.in_err-insert_new.field-0.0 (c.in_err-insert_new.ensures.refused heard (c.loop-traversal.invariant.short small)))
+    c.if-branch.true c.key.result.now c.value.result.now c.key.ensures c.value.ensures c.args.limit c.in_err-insert_new.field-0.0 (c.in_err-insert_new.ensures.refused heard (within_short (g.T.Space.size c.args.to.now) (g.T.Space.size c.loop-traversal.to) c.args.limit c.requires.limit c.loop-traversal.invariant.within small)))
 
 pub returns-clause-copied : goal.returns-clause-copied
 returns-clause-copied g c told heard small hands A holds =
@@ -56,3 +56,7 @@ returns-clause-copied g c told heard small hands A holds =
     built_all (g.S.Space.form c.args.from.now) (g.S.Space.form c.loop-traversal.from) (g.S.Space.image c.args.from.now) (g.S.Space.image c.loop-traversal.from) hands
     (g.T.Space.form c.args.to.now) (g.T.Space.form c.loop-traversal.to) (g.T.Space.image c.loop-traversal.to) (g.T.Space.image c.loop-traversal.to) c.loop-traversal.traversal c.advance.new.self c.in_ok-advance.field-0
     looked.form looked.image c.loop-traversal.invariant.wrote.form A (c.loop-traversal.invariant.built told heard small hands A holds) (c.in_ok-advance.ensures.gave told) c.if-branch.false
+
+pub returns-in_err-insert_new-clause-within : goal.returns-in_err-insert_new-clause-within
+returns-in_err-insert_new-clause-within g c =
+    stays_within (g.T.Space.size c.args.to.now) (g.T.Space.size c.loop-traversal.to) (24 + rec_len_for (length c.key.result.now) (length c.value.result.now)) c.args.limit (g.T.Space.size c.insert_new.new.s) c.loop-traversal.invariant.within c.insert_new.ensures.size

@@ -1,5 +1,6 @@
 -- The new file holds the pairs that the walk has given.
-use Rattle.std.proofs.Common.{◌≡◌, ◌<◌, ◌^◌, [], ℕ, List, IsTrue}
+use Rattle.std.proofs.Common.{◌≡◌, ◌<◌, ◌≤◌, ◌^◌, [], ℕ, List, IsTrue}
+use Rattle.std.specs.Prelude.{max}
 use Rattle.tdb_space.specs.Frame.{Looked, Wrote}
 use Rattle.tdb_space.specs.Extents.{HandPair}
 use Rattle.tdb_space.specs.Accepted.{AcceptWith}
@@ -12,7 +13,7 @@ invariant-loop-traversal g l = record {
   built : IsTrue g.S.Space.tells → IsTrue g.T.Space.tells → g.T.Space.size l.fn.to < 2 ^ 32 → (hands : List HandPair) → AcceptWith (g.S.Space.form l.fn.from) (g.S.Space.image l.fn.from) hands
       → HoldsPairs (g.T.Space.form l.fn.to) (g.T.Space.image l.fn.to) []
       → (given : List (List ℕ × List ℕ)) × Gave (g.S.Space.form l.fn.from) (g.S.Space.image l.fn.from) given l.traversal × HoldsPairs (g.T.Space.form l.fn.to) (g.T.Space.image l.to) given;
-  short : g.T.Space.size l.fn.to < 2 ^ 32 → g.T.Space.size l.to < 2 ^ 32;
+  within : g.T.Space.size l.to ≤ max (g.T.Space.size l.fn.to) l.limit;
   looked : Looked g.S.Space l.fn.from l.from;
   wrote : Wrote g.T.Space l.fn.to l.to;
   read_faults : g.S.Space.faults l.from ≡ g.S.Space.faults l.fn.from;

@@ -1,0 +1,236 @@
+-- A file that is built from the pairs of a dump text.
+use Rattle.std.proofs.Common.{◌≡◌, ℕ, ◌+◌, ◌<◌, ◌≤◌, List, [], ◌∷◌, ◌++◌, length, take, drop, get_or, append_assoc, append-nil, refl, sym, ◌∙◌, ap, subst, inl, inr, arith}
+use Rattle.std.specs.Prelude.{◌-◌, ◌↔◌, IsTrue, Bool, false}
+use Rattle.std.specs.List.{All, IsDistinct, AllByRecursion}
+use Rattle.std.specs.Map.{keys_of}
+use Rattle.std.specs.Str.{bytes_eq}
+use Rattle.std.proofs.lemmas.List.{map-append, take-append-drop, take_more, drop_more, take_all, take_at, take-append-le, length-append, length-take, length-take-le}
+use Rattle.std.proofs.lemmas.Bool.{cases_eq, cases_lt, lt-ltb, ltb-true, false≢true}
+use Rattle.std.proofs.Math.Dec.{ltb}
+use Rattle.std.proofs.lemmas.List.Elements.{All-from_recursion}
+use Rattle.std.proofs.Math.Seq.{take-append-add}
+use Rattle.tdb_dump.specs.declared.pairs.Pair.{Pair}
+use Rattle.tdb_dump.specs.declared.reader.Reader.{Reader}
+use Rattle.tdb_dump.specs.declared.reader.ReadRefusal.{ReadRefusal}
+use Rattle.tdb_dump.specs.declared.reader.ReadRefusal.TheVariants as Read
+use Rattle.tdb_dump.specs.Spelled as Dumps
+use Rattle.tdb_dump.specs.Spelled.{IsRecord, Spelled, Dump}
+use Rattle.tdb_dump.specs.BadAt.{BadAt, BeginsWith}
+use Rattle.tdb_dump.specs.Taken.{RefusedAt, EndsBadlyAt, Took, shown}
+use Rattle.tdb_space.specs.Form.{Form}
+use Rattle.tdb_space.specs.Pairs.{same_key}
+use Rattle.tdb_backup.specs.declared.refusal.InsertRefusal.{InsertRefusal}
+use Rattle.tdb_backup.specs.declared.refusal.InsertRefusal.TheVariants as Insert
+use Rattle.tdb_backup.specs.declared.refusal.RestoreRefusal.TheVariants.{Malformed, Input, Io}
+use Rattle.tdb_backup.specs.declared.restoring.TheConstants.{LONGEST_TEXT}
+use Rattle.tdb_backup.specs.Building.{HoldsPairs, CopyCause, of_insert}
+use Rattle.tdb_backup.specs.Restoring.{keys_and_values, IsShort, Restored, HoldsSome, RestoreCause, WentOn, of_text, of_pair}
+use Rattle.tdb_backup.proofs.Building.{NextPair, key_is_new}
+
+-- ---- the pairs of a text
+
+same_keys : (pairs : List Pair) → keys_of (keys_and_values pairs) ≡ Dumps.keys_of pairs
+same_keys [] = refl
+same_keys (p ∷ pairs) = ap (λ t. p.key ∷ t) (same_keys pairs)
+
+all_short : (text : List ℕ) (pairs : List Pair) → Spelled text pairs → AllByRecursion IsShort pairs
+all_short text [] h = tt
+all_short text (p ∷ pairs) (front, rest, split, made, h) = (record { key = made.key_fits; value = made.value_fits }, all_short rest pairs h)
+
+all_behind : (before pairs : List Pair) → AllByRecursion IsShort (before ++ pairs) → AllByRecursion IsShort pairs
+all_behind [] pairs h = h
+all_behind (p ∷ before) pairs h = all_behind before pairs h.1
+
+-- the pairs with which a text begins are short, and their keys are all different
+pub begun_short : (text : List ℕ) (before pairs : List Pair) → BeginsWith text (before ++ pairs) → All IsShort pairs
+begun_short text before pairs (front, rest, split, dump) = All-from_recursion IsShort pairs (all_behind before pairs (all_short front (before ++ pairs) dump.spelled))
+
+pub begun_distinct : (text : List ℕ) (pairs : List Pair) → BeginsWith text pairs → IsDistinct same_key (keys_of (keys_and_values pairs))
+begun_distinct text pairs (front, rest, split, dump) = subst (IsDistinct same_key) (sym (same_keys pairs)) dump.distinct
+
+pub begun_more : (text more : List ℕ) (pairs : List Pair) → BeginsWith text pairs → BeginsWith (text ++ more) pairs
+begun_more text more pairs (front, rest, split, dump) = (front, rest ++ more, ap (λ t. t ++ more) split ∙ append_assoc front rest more, dump)
+
+none_distinct : IsDistinct bytes_eq []
+unfolding IsDistinct
+none_distinct = tt
+
+pub begun_none : (text : List ℕ) → BeginsWith text []
+begun_none text = ([], text, refl, record { spelled = refl; distinct = none_distinct })
+
+-- ---- pair by pair
+
+pub pairs_more : (before pairs : List Pair) (i : ℕ) (p : Pair) → i < length pairs → p ≡ get_or pairs i p
+    → keys_and_values (before ++ take (i + 1) pairs) ≡ keys_and_values (before ++ take i pairs) ++ (p.key, p.value) ∷ []
+pairs_more before pairs i p low is =
+    ap keys_and_values (ap (λ t. before ++ t) (take_more pairs i p low ∙ ap (λ q. take i pairs ++ q ∷ []) (sym is)) ∙ sym (append_assoc before (take i pairs) (p ∷ [])))
+    ∙ map-append (λ (q : Pair). (q.key, q.value)) (before ++ take i pairs) (p ∷ [])
+
+-- the pair at a place is the next one behind those before it
+pub pair_next : (before pairs : List Pair) (i : ℕ) (p : Pair) → i < length pairs → p ≡ get_or pairs i p → IsDistinct same_key (keys_of (keys_and_values (before ++ pairs)))
+    → NextPair (keys_and_values (before ++ pairs)) (keys_and_values (before ++ take i pairs)) (p.key, p.value)
+pair_next before pairs i p low is distinct =
+    let front = before ++ take i pairs in
+    let back = drop (i + 1) pairs in
+    let here : drop i pairs ≡ p ∷ back = drop_more pairs i p low ∙ ap (λ q. q ∷ back) (sym is) in
+    let cut : before ++ pairs ≡ front ++ p ∷ back =
+    ap (λ t. before ++ t) (sym (take-append-drop i pairs) ∙ ap (λ t. take i pairs ++ t) here) ∙ sym (append_assoc before (take i pairs) (p ∷ back)) in
+    let split : keys_and_values (before ++ pairs) ≡ keys_and_values front ++ (p.key, p.value) ∷ keys_and_values back =
+    ap keys_and_values cut ∙ map-append (λ (q : Pair). (q.key, q.value)) front (p ∷ back) in
+    record {
+      rest = keys_and_values back;
+      split = split;
+      new = key_is_new (keys_and_values front) (p.key, p.value) (keys_and_values back) (subst (λ ps. IsDistinct same_key (keys_of ps)) split distinct);
+    }
+
+-- a pair wasn't added
+pub pair_refused : (f : Form) (img text : List ℕ) (pairs : List Pair) (limit : ℕ) (e : InsertRefusal) → BeginsWith text pairs → CopyCause f img (keys_and_values pairs) limit (of_insert e) → RestoreCause f img text limit (of_pair e)
+pair_refused f img text pairs limit (Insert.Full len need) begins cause = (pairs, begins, cause)
+pair_refused f img text pairs limit Insert.Io begins cause = tt
+pair_refused f img text pairs limit Insert.Memory begins cause = (pairs, begins, cause)
+
+-- ---- piece by piece
+
+-- all pairs that were given are held
+pub holds_given : (f : Form) (img text more : List ℕ) (pairs : List Pair) → BeginsWith text pairs → HoldsPairs f img (keys_and_values pairs) → HoldsSome f img (text ++ more)
+holds_given f img text more pairs begins holds =
+    (pairs, begun_more text more pairs begins, record { given = keys_and_values pairs; rest = []; split = sym (append-nil (keys_and_values pairs)); holds = holds })
+
+-- a piece, and another one behind it
+pub went_on : (told later : Type 0) (f g : Form) (a b c text : List ℕ) (before : List Pair) (piece more : List ℕ) (r s : Reader) → g ≡ f → (told → later)
+    → (w : WentOn told f a b text before piece r) → WentOn later g b c (text ++ piece) (before ++ w.pairs) more s → WentOn told f a c text before (piece ++ more) s
+went_on told later f g a b c text before piece more r s same still w v =
+    let joined = append_assoc before w.pairs v.pairs in
+    record {
+      pairs = w.pairs ++ v.pairs;
+      took = subst (λ t. Took t (before ++ (w.pairs ++ v.pairs)) s) (append_assoc text piece more) (subst (λ ps. Took ((text ++ piece) ++ more) ps s) joined v.took);
+      holds = λ t h.
+          (let there : HoldsPairs g b (keys_and_values (before ++ w.pairs)) = subst (λ x. HoldsPairs x b (keys_and_values (before ++ w.pairs))) (sym same) (w.holds t h) in
+          let all : HoldsPairs f c (keys_and_values ((before ++ w.pairs) ++ v.pairs)) = subst (λ x. HoldsPairs x c (keys_and_values ((before ++ w.pairs) ++ v.pairs))) same (v.holds (still t) there) in
+          subst (λ ps. HoldsPairs f c (keys_and_values ps)) joined all);
+    }
+
+-- ---- what is read of a text
+
+pub read_on : (text left whole buf behind now : List ℕ) (n : ℕ) → whole ≡ text ++ left → n ≤ length buf → left ≡ take n buf ++ now → whole ≡ (text ++ take n (buf ++ behind)) ++ now
+read_on text left whole buf behind now n front low read =
+    front ∙ ap (λ t. text ++ t) (read ∙ ap (λ t. t ++ now) (sym (take-append-le n buf behind low))) ∙ sym (append_assoc text (take n (buf ++ behind)) now)
+
+pub longer_by : (text buf behind : List ℕ) (n : ℕ) → n ≤ length buf → length (text ++ take n (buf ++ behind)) ≡ length text + n
+longer_by text buf behind n low =
+    let within : n ≤ length (buf ++ behind) = omega (arith, low, length-append buf behind) in
+    length-append text (take n (buf ++ behind)) ∙ ap (λ m. length text + m) (length-take-le n (buf ++ behind) within)
+
+-- the text has ended
+pub read_all : (text left whole : List ℕ) (rest : ℕ) → whole ≡ text ++ left → left ≡ [] → length text + rest ≡ LONGEST_TEXT → (text ≡ take LONGEST_TEXT whole) × (IsTrue false ↔ LONGEST_TEXT < length whole)
+read_all text left whole rest front none count =
+    let same : whole ≡ text = front ∙ ap (λ t. text ++ t) none ∙ append-nil text in
+    let short : length whole ≤ LONGEST_TEXT = omega (arith, ap length same, count) in
+    (sym (take_all LONGEST_TEXT whole short ∙ same), ((λ e. absurd (false≢true e)), (λ longer. absurd (omega (arith, longer, short)))))
+
+-- the most was read of it, and then n bytes, if there are some
+pub read_most : (text left whole buf now : List ℕ) (n : ℕ) → whole ≡ text ++ left → length text ≡ LONGEST_TEXT → n ≤ length buf → left ≡ take n buf ++ now → (n ≡ 0 → left ≡ [])
+    → (text ≡ take LONGEST_TEXT whole) × (IsTrue (ltb 0 n) ↔ LONGEST_TEXT < length whole)
+read_most text left whole buf now n front most low read end =
+    let long : length whole ≡ LONGEST_TEXT + length left = omega (arith, ap length front, length-append text left, most) in
+    let some : n ≤ length left = omega (arith, ap length read, length-append (take n buf) now, length-take-le n buf low) in (
+      sym (ap (take LONGEST_TEXT) front ∙ take_at text left LONGEST_TEXT most),
+      ((λ e. let more : 0 < n = ltb-true 0 n e in omega (arith, more, some, long)), (λ longer. lt-ltb 0 n (more longer))),
+    )
+  where
+    more : LONGEST_TEXT < length whole → 0 < n
+    more longer =
+        let long : length whole ≡ LONGEST_TEXT + length left = omega (arith, ap length front, length-append text left, most) in
+        elim (cases_eq n 0) [
+          | inl e ↦ absurd (omega (arith, ap length (end e), longer, long))
+          | inr ne ↦ omega (arith, ne)
+        ]
+
+-- ---- where a text stops
+
+longest_is : LONGEST_TEXT ≡ 17179869184
+longest_is = refl
+
+bad_within : (text : List ℕ) (pairs : List Pair) (place : ℕ) → BadAt text pairs place → place ≤ length text
+bad_within text pairs place bad =
+    elim (bad.cause) [
+      | inl repeats ↦ omega (arith, repeats.1, ap length bad.whole, length-append bad.front bad.rest)
+      | inr no_record ↦ no_record.1.within
+    ]
+
+-- the place of a text that is short enough is shown as it is
+shown_place : (at place : ℕ) → at ≡ shown place → place ≤ LONGEST_TEXT → at ≡ place
+shown_place at place shows low = grind (arith, shows, low, longest_is)
+
+front_of_most : (so_far more : List ℕ) → length so_far ≤ LONGEST_TEXT → take LONGEST_TEXT (so_far ++ more) ≡ so_far ++ take (LONGEST_TEXT - length so_far) more
+front_of_most so_far more low =
+    let n : LONGEST_TEXT ≡ length so_far + (LONGEST_TEXT - length so_far) = omega (arith, low) in
+    ap (λ m. take m (so_far ++ more)) n ∙ take-append-add so_far more (LONGEST_TEXT - length so_far)
+
+-- the reader refuses the text, whatever follows
+pub stops_in_piece : (f : Form) (img so_far more : List ℕ) (pairs : List Pair) (limit at : ℕ) → RefusedAt so_far pairs at → length so_far ≤ LONGEST_TEXT → HoldsPairs f img (keys_and_values pairs)
+    → RestoreCause f img (so_far ++ more) limit (Malformed at)
+stops_in_piece f img so_far more pairs limit at (place, shows, refused) low holds =
+    let rest = take (LONGEST_TEXT - length so_far) more in
+    let within : place ≤ length so_far = subst (λ t. place ≤ length t) (append-nil so_far) (bad_within (so_far ++ []) pairs place (refused.bad [])) in
+    let is : at ≡ place = shown_place at place shows (omega (arith, within, low)) in
+    let bad : BadAt (so_far ++ rest) pairs at = subst (BadAt (so_far ++ rest) pairs) (sym is) (refused.bad rest) in
+    (pairs, record { bad = inl (subst (λ t. BadAt t pairs at) (sym (front_of_most so_far more low)) bad); never = λ others dump short. refused.never more others dump }, holds)
+
+-- the reader refuses a piece
+pub text_refused : (f : Form) (img so_far more : List ℕ) (pairs : List Pair) (limit : ℕ) (e : ReadRefusal) → ((at : ℕ) → e ≡ Read.Malformed at → RefusedAt so_far pairs at) → BeginsWith so_far pairs → length so_far ≤ LONGEST_TEXT → HoldsPairs f img (keys_and_values pairs)
+    → RestoreCause f img (so_far ++ more) limit (of_text e)
+text_refused f img so_far more pairs limit (Read.Malformed at) malformed begins low holds = stops_in_piece f img so_far more pairs limit at (malformed at refl) low holds
+text_refused f img so_far more pairs limit Read.Memory malformed begins low holds = holds_given f img so_far more pairs begins holds
+
+-- the text ends badly, or where no more of it is read
+pub stops_at_end : (f : Form) (img text whole : List ℕ) (pairs : List Pair) (limit at : ℕ) → text ≡ take LONGEST_TEXT whole → EndsBadlyAt text pairs at → HoldsPairs f img (keys_and_values pairs)
+    → RestoreCause f img whole limit (Malformed at)
+stops_at_end f img text whole pairs limit at front (place, shows, ends) holds =
+    let low : length text ≤ LONGEST_TEXT = omega (arith, ap length front, length-take LONGEST_TEXT whole) in
+    let within : place ≤ length text = bad_within text pairs place ends.bad in
+    let is : at ≡ place = shown_place at place shows (omega (arith, within, low)) in
+    let bad : BadAt text pairs at = subst (BadAt text pairs) (sym is) ends.bad in (
+      pairs,
+      record {
+        bad = inl (subst (λ t. BadAt t pairs at) front bad);
+        never = λ others dump short. ends.never others (subst (λ t. Dump t others) (sym (front ∙ take_all LONGEST_TEXT whole short)) dump);
+      },
+      holds,
+    )
+
+-- the reader refuses the end
+pub end_refused : (f : Form) (img text whole : List ℕ) (pairs : List Pair) (limit : ℕ) (e : ReadRefusal) → text ≡ take LONGEST_TEXT whole → ((at : ℕ) → e ≡ Read.Malformed at → EndsBadlyAt text pairs at) → BeginsWith text pairs → HoldsPairs f img (keys_and_values pairs)
+    → RestoreCause f img whole limit (of_text e)
+end_refused f img text whole pairs limit (Read.Malformed at) front malformed begins holds = stops_at_end f img text whole pairs limit at front (malformed at refl) holds
+end_refused f img text whole pairs limit Read.Memory front malformed begins holds =
+    let all : text ++ drop LONGEST_TEXT whole ≡ whole = ap (λ t. t ++ drop LONGEST_TEXT whole) front ∙ take-append-drop LONGEST_TEXT whole in
+    subst (HoldsSome f img) all (holds_given f img text (drop LONGEST_TEXT whole) pairs begins holds)
+
+-- it is no fault of the outside
+pub text_no_input : (e : ReadRefusal) → of_text e ≡ Input → ⊥
+text_no_input (Read.Malformed at) same = cc
+text_no_input Read.Memory same = cc
+
+pub text_no_io : (e : ReadRefusal) → of_text e ≡ Io → ⊥
+text_no_io (Read.Malformed at) same = cc
+text_no_io Read.Memory same = cc
+
+-- the text goes on behind the most that is read of it
+pub stops_at_most : (f : Form) (img text whole : List ℕ) (pairs : List Pair) (limit : ℕ) → text ≡ take LONGEST_TEXT whole → LONGEST_TEXT < length whole → Dump text pairs → HoldsPairs f img (keys_and_values pairs)
+    → RestoreCause f img whole limit (Malformed LONGEST_TEXT)
+stops_at_most f img text whole pairs limit front longer dump holds =
+    (pairs, record { bad = inr (longer, subst (λ t. Dump t pairs) front dump, refl); never = λ others d short. absurd (omega (arith, longer, short)) }, holds)
+
+-- a text that doesn't go on is short enough
+pub short_enough : (whole : List ℕ) (longer : Bool) → longer ≡ false → (LONGEST_TEXT < length whole → IsTrue longer) → length whole ≤ LONGEST_TEXT
+short_enough whole longer ends goes_on =
+    elim (cases_lt LONGEST_TEXT (length whole)) [
+      | inl more ↦ absurd (false≢true (sym ends ∙ goes_on more))
+      | inr short ↦ short
+    ]
+
+-- the text was read to its end
+pub restored_whole : (f : Form) (img text whole : List ℕ) (pairs : List Pair) → text ≡ take LONGEST_TEXT whole → length whole ≤ LONGEST_TEXT → Dump text pairs → HoldsPairs f img (keys_and_values pairs) → Restored f img whole
+restored_whole f img text whole pairs front short dump holds =
+    record { pairs = pairs; dump = subst (λ t. Dump t pairs) (front ∙ take_all LONGEST_TEXT whole short) dump; short = short; holds = holds }

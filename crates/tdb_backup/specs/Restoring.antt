@@ -1,0 +1,79 @@
+-- A file that is built from dump text, and why it isn't built to the end.
+use Rattle.std.specs.Prelude.{◌≡◌, ◌⊎◌, ◌^◌, ◌<◌, ◌≤◌, ℕ, List, ◌++◌, length, map, take}
+use Rattle.tdb_dump.specs.declared.pairs.Pair.{Pair}
+use Rattle.tdb_dump.specs.declared.reader.ReadRefusal as Read
+use Rattle.tdb_dump.specs.declared.reader.Reader.{Reader}
+use Rattle.tdb_dump.specs.Spelled.{Dump}
+use Rattle.tdb_dump.specs.BadAt.{BadAt, BeginsWith}
+use Rattle.tdb_dump.specs.Taken.{Took}
+use Rattle.tdb_space.specs.Form.{Form}
+use Rattle.tdb_backup.specs.Building.{HoldsPairs, HoldsFront, FullFor}
+use Rattle.tdb_backup.specs.declared.restoring.TheConstants.{LONGEST_TEXT}
+use Rattle.tdb_backup.specs.declared.refusal.InsertRefusal as Insert
+use Rattle.tdb_backup.specs.declared.refusal.RestoreRefusal.{RestoreRefusal}
+use Rattle.tdb_backup.specs.declared.refusal.RestoreRefusal.TheVariants.{Input, Io, Malformed, Full, Memory}
+
+-- the keys and values of a dump text
+abbrev pub keys_and_values : List Pair → List (List ℕ × List ℕ)
+keys_and_values pairs = map (λ p. (p.key, p.value)) pairs
+
+-- the key and the value of a pair have fewer than 2^32 bytes each
+pub record IsShort (pair : Pair) : Type 0 where
+  pub key : length pair.key < 2 ^ 32
+  pub value : length pair.value < 2 ^ 32
+
+-- the text is dump text, not too long, and the image holds its pairs
+pub record Restored (f : Form) (img text : List ℕ) : Type 0 where
+  pub pairs : List Pair
+  pub dump : Dump text pairs
+  pub short : length text ≤ LONGEST_TEXT
+  pub holds : HoldsPairs f img (keys_and_values pairs)
+
+-- The text isn't dump text that is short enough. Behind the whole records of the pairs it stops to be one at this
+-- place, which is where the longest text ends if it is dump text up to there.
+pub record StopsAt (text : List ℕ) (pairs : List Pair) (place : ℕ) : Type 0 where
+  pub bad : BadAt (take LONGEST_TEXT text) pairs place ⊎ ((LONGEST_TEXT < length text) × Dump (take LONGEST_TEXT text) pairs × (place ≡ LONGEST_TEXT))
+  pub never : (others : List Pair) → Dump text others → length text ≤ LONGEST_TEXT → ⊥
+
+-- the image holds pairs of whole records with which the text begins: all of them, up to one
+abbrev pub HoldsSome : Form → List ℕ → List ℕ → Type 0
+HoldsSome f img text = (pairs : List Pair) × BeginsWith text pairs × HoldsFront f img (keys_and_values pairs)
+
+-- why not all pairs of the text are added, where the image is this one then
+abbrev pub RestoreCause : Form → List ℕ → List ℕ → ℕ → RestoreRefusal → Type 0
+RestoreCause f img text limit Input = HoldsSome f img text
+RestoreCause f img text limit Io = Unit {0}
+RestoreCause f img text limit (Malformed at) = (pairs : List Pair) × StopsAt text pairs at × HoldsPairs f img (keys_and_values pairs)
+RestoreCause f img text limit (Full len need) = (pairs : List Pair) × BeginsWith text pairs × FullFor f img (keys_and_values pairs) limit len need
+RestoreCause f img text limit Memory = HoldsSome f img text
+
+-- a reader of some text, which has given some pairs
+abbrev pub IsReading : Reader → Type 0
+IsReading r = (text : List ℕ) × (pairs : List Pair) × Took text pairs r
+
+-- A reader has taken a piece behind a text, and given pairs behind others. Where it is told so, and image a holds those
+-- others, image b holds them all.
+pub record WentOn (told : Type 0) (f : Form) (a b text : List ℕ) (before : List Pair) (piece : List ℕ) (r : Reader) : Type 0 where
+  pub pairs : List Pair
+  pub took : Took (text ++ piece) (before ++ pairs) r
+  pub holds : told → HoldsPairs f a (keys_and_values before) → HoldsPairs f b (keys_and_values (before ++ pairs))
+
+-- a piece was taken so, whatever the reader had taken before
+abbrev pub PieceAdded : Type 0 → Form → List ℕ → List ℕ → Reader → Reader → List ℕ → Type 0
+PieceAdded told f a b old new piece = (text : List ℕ) (before : List Pair) → Took text before old → WentOn told f a b text before piece new
+
+-- why a piece wasn't taken, or its pairs weren't added, whatever the reader had taken before and whatever follows
+abbrev pub PieceCause : Type 0 → Form → List ℕ → List ℕ → Reader → List ℕ → ℕ → RestoreRefusal → Type 0
+PieceCause told f a b old piece limit e = (text more : List ℕ) (before : List Pair) → Took text before old → length (text ++ piece) ≤ LONGEST_TEXT
+    → told → HoldsPairs f a (keys_and_values before) → RestoreCause f b ((text ++ piece) ++ more) limit e
+
+-- a restore is refused as the text that it is to read
+abbrev pub of_text : Read.ReadRefusal → RestoreRefusal
+of_text (Read.TheVariants.Malformed at) = Malformed at
+of_text Read.TheVariants.Memory = Memory
+
+-- and as the pair that it is to add
+abbrev pub of_pair : Insert.InsertRefusal → RestoreRefusal
+of_pair (Insert.TheVariants.Full len need) = Full len need
+of_pair Insert.TheVariants.Io = Io
+of_pair Insert.TheVariants.Memory = Memory

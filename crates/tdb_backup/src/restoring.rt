@@ -1,0 +1,177 @@
+// All pairs of a dump text are added to a file.
+
+ghost use Rattle.std.specs.Prelude.{◌≡◌, ◌≢◌, ◌^◌, ◌<◌, ◌≤◌, ◌↔◌, max, ℕ, List, [], ◌++◌, length, take};
+ghost use Rattle.std.specs.Prelude.{IsTrue, IfOk, IfErr, OnOk};
+ghost use Rattle.std.specs.List.{All, IsDistinct};
+ghost use Rattle.std.specs.Map.{keys_of};
+ghost use Rattle.tdb_disk.specs.Count.{HasCauseOf};
+ghost use Rattle.tdb_dump.specs.declared.pairs.Pair.{Pair};
+ghost use Rattle.tdb_dump.specs.Taken.{Took};
+ghost use Rattle.tdb_space.specs.Frame.{Wrote};
+ghost use Rattle.tdb_space.specs.Pairs.{same_key};
+ghost use Rattle.tdb_backup.specs.Building.{HoldsPairs, CopyCause, of_insert};
+ghost use Rattle.tdb_backup.specs.Restoring.{keys_and_values, Restored, RestoreCause};
+ghost use Rattle.tdb_backup.specs.Restoring.{IsShort, IsReading, WentOn, PieceAdded, PieceCause};
+ghost use Rattle.tdb_backup.specs.declared.refusal.InsertRefusal.TheVariants.{Io as InsertIo};
+ghost use Rattle.tdb_backup.specs.declared.refusal.RestoreRefusal.TheVariants.{Input, Io};
+
+use crate::filling::insert_new;
+use crate::refusal::{InsertRefusal, RestoreRefusal};
+use std::alloc::Global;
+use tdb_disk::Source;
+use tdb_dump::{Pair, Reader};
+use tdb_space::Space;
+
+/// How many bytes of a text `restore_pairs` reads at most. A longer one is malformed at this place.
+pub const LONGEST_TEXT: u64 = 17179869184;
+
+/// How many bytes of text are read at once at most.
+const PIECE: usize = 65536;
+
+/// Adds pairs, in their order.
+fn add_pairs<T: Space>(to: &mut T, pairs: &[Pair], limit: u64) -> Result<(), InsertRefusal>
+    requires short { All IsShort pairs.now }
+    requires chains { 0 < (T.form to.old).chains }
+    requires limit { limit ≤ 4294963200 }
+    ensures added { OnOk result (IsTrue T.tells → T.size to.old < 2 ^ 32 → (before : List Pair)
+        → IsDistinct same_key (keys_of (keys_and_values (before ++ pairs.now)))
+        → HoldsPairs (T.form to.old) (T.image to.old) (keys_and_values before)
+        → HoldsPairs (T.form to.old) (T.image to.new) (keys_and_values (before ++ pairs.now))) }
+    ensures refused { IfErr result (λ e. IsTrue T.tells → T.size to.old < 2 ^ 32 → (before : List Pair)
+        → IsDistinct same_key (keys_of (keys_and_values (before ++ pairs.now)))
+        → HoldsPairs (T.form to.old) (T.image to.old) (keys_and_values before)
+        → CopyCause (T.form to.old) (T.image to.new) (keys_and_values (before ++ pairs.now)) limit (of_insert e)) }
+    ensures within { T.size to.new ≤ max (T.size to.old) limit }
+    ensures wrote { Wrote T.Space to.old to.new }
+    ensures cause { HasCauseOf InsertIo (T.faults to.old) (T.faults to.new) result }
+{
+    for pair in pairs {
+        insert_new(to, pair.key.as_slice(), pair.value.as_slice(), limit)?;
+    }
+    Ok(())
+}
+
+/// Reads a piece of the text, and adds the pairs that became whole. A fault behind such pairs is told by the next call.
+fn add_whole<T: Space>(
+    reader: &mut Reader,
+    piece: &[u8],
+    to: &mut T,
+    limit: u64,
+) -> Result<(), RestoreRefusal>
+    requires reading { IsReading reader.old }
+    requires chains { 0 < (T.form to.old).chains }
+    requires limit { limit ≤ 4294963200 }
+    ensures added { let told = IsTrue T.tells × (T.size to.old < 2 ^ 32) in let f = T.form to.old in
+        OnOk result (PieceAdded told f (T.image to.old) (T.image to.new) reader.old reader.new piece.now) }
+    ensures refused { let told = IsTrue T.tells × (T.size to.old < 2 ^ 32) in let f = T.form to.old in
+        IfErr result (PieceCause told f (T.image to.old) (T.image to.new) reader.old piece.now limit) }
+    ensures no_input { IfErr result (λ e. e ≢ Input) }
+    ensures within { T.size to.new ≤ max (T.size to.old) limit }
+    ensures wrote { Wrote T.Space to.old to.new }
+    ensures cause { HasCauseOf Io (T.faults to.old) (T.faults to.new) result }
+{
+    let pairs = reader.feed(piece)?.into_vec();
+    add_pairs(to, &pairs, limit)?;
+    Ok(())
+}
+
+/// Reads a piece of the text, adds the pairs that became whole, and tells a fault behind them.
+fn add_piece<T: Space>(
+    reader: &mut Reader,
+    piece: &[u8],
+    to: &mut T,
+    limit: u64,
+) -> Result<(), RestoreRefusal>
+    requires reading { IsReading reader.old }
+    requires chains { 0 < (T.form to.old).chains }
+    requires limit { limit ≤ 4294963200 }
+    ensures added { let told = IsTrue T.tells × (T.size to.old < 2 ^ 32) in let f = T.form to.old in
+        OnOk result (PieceAdded told f (T.image to.old) (T.image to.new) reader.old reader.new piece.now) }
+    ensures refused { let told = IsTrue T.tells × (T.size to.old < 2 ^ 32) in let f = T.form to.old in
+        IfErr result (PieceCause told f (T.image to.old) (T.image to.new) reader.old piece.now limit) }
+    ensures no_input { IfErr result (λ e. e ≢ Input) }
+    ensures within { T.size to.new ≤ max (T.size to.old) limit }
+    ensures wrote { Wrote T.Space to.old to.new }
+    ensures cause { HasCauseOf Io (T.faults to.old) (T.faults to.new) result }
+{
+    add_whole(reader, piece, to, limit)?;
+    add_whole(reader, &[], to, limit)
+}
+
+/// Reads the text to its end, or the most that is read of it, and adds the pairs that became whole. Answers whether the
+/// text goes on.
+fn add_text<S: Source, T: Space>(
+    input: &mut S,
+    reader: &mut Reader,
+    piece: &mut [u8],
+    to: &mut T,
+    limit: u64,
+) -> Result<bool, RestoreRefusal>
+    requires began { Took [] [] reader.old }
+    requires room { 0 < length piece.old }
+    requires chains { 0 < (T.form to.old).chains }
+    requires limit { limit ≤ 4294963200 }
+    ensures read { let told = IsTrue T.tells × (T.size to.old < 2 ^ 32) in let f = T.form to.old in
+        let whole = S.left input.old in
+        IfOk result (λ longer. (text : List ℕ) × WentOn told f (T.image to.old) (T.image to.new) [] [] text reader.new
+        × (IsTrue S.tells → (text ≡ take LONGEST_TEXT whole) × (IsTrue longer ↔ LONGEST_TEXT < length whole))) }
+    ensures refused { let f = T.form to.old in
+        IfErr result (λ e. IsTrue S.tells → IsTrue T.tells → T.size to.old < 2 ^ 32 → HoldsPairs f (T.image to.old) []
+        → RestoreCause f (T.image to.new) (S.left input.old) limit e) }
+    ensures within { T.size to.new ≤ max (T.size to.old) limit }
+    ensures wrote { Wrote T.Space to.old to.new }
+    ensures read_cause { HasCauseOf Input (S.faults input.old) (S.faults input.new) result }
+    ensures write_cause { HasCauseOf Io (T.faults to.old) (T.faults to.new) result }
+{
+    let mut left = LONGEST_TEXT;
+    while left > 0 {
+        let room = left.min(piece.len() as u64) as usize;
+        let count = input.read(&mut piece[..room])?;
+        if count == 0 {
+            return Ok(false);
+        }
+        add_piece(reader, &piece[..count], to, limit)?;
+        left -= count as u64;
+    }
+    Ok(input.read(&mut piece[..1])? > 0)
+}
+
+/// Reads a dump text to its end, and adds all its pairs to a file without pairs, which may be up to `limit` bytes long
+/// and then has the map of the pairs.
+///
+/// It reads pieces of up to 64 KiB, and holds one piece, the pairs that end in it, and all keys, so as to refuse a
+/// second one. It looks no key up in the file: time is that of the reader for the text, and linear in the length of the
+/// file. After a refusal the file holds the pairs up to the one that was refused, unless it was the file's disk that
+/// failed.
+///
+/// `Input` where the source failed, `Io` where the disk did, `Full` where the file has no room for the next pair.
+/// `Malformed` where the text isn't dump text, or is longer than `LONGEST_TEXT`: all pairs in front of that place were
+/// added then. `Memory` where that is wanting.
+pub fn restore_pairs<S: Source, T: Space>(
+    alloc: Global,
+    input: &mut S,
+    to: &mut T,
+    limit: u64,
+) -> Result<(), RestoreRefusal>
+    requires chains { 0 < (T.form to.old).chains }
+    requires limit { limit ≤ 4294963200 }
+    ensures restored { let f = T.form to.old in
+        OnOk result (IsTrue S.tells → IsTrue T.tells → T.size to.old < 2 ^ 32 → HoldsPairs f (T.image to.old) []
+        → Restored f (T.image to.new) (S.left input.old)) }
+    ensures refused { let f = T.form to.old in
+        IfErr result (λ e. IsTrue S.tells → IsTrue T.tells → T.size to.old < 2 ^ 32 → HoldsPairs f (T.image to.old) []
+        → RestoreCause f (T.image to.new) (S.left input.old) limit e) }
+    ensures within { T.size to.new ≤ max (T.size to.old) limit }
+    ensures wrote { Wrote T.Space to.old to.new }
+    ensures read_cause { HasCauseOf Input (S.faults input.old) (S.faults input.new) result }
+    ensures write_cause { HasCauseOf Io (T.faults to.old) (T.faults to.new) result }
+{
+    let mut reader = Reader::new(alloc);
+    let mut piece = vec![in alloc; 0u8; PIECE]?;
+    let longer = add_text(input, &mut reader, &mut piece, to, limit)?;
+    reader.end()?;
+    if longer {
+        return Err(RestoreRefusal::Malformed { at: LONGEST_TEXT });
+    }
+    Ok(())
+}
