@@ -35,7 +35,7 @@ pub record StopsAt (text : List ℕ) (pairs : List Pair) (place : ℕ) : Type 0 
   pub bad : BadAt (take LONGEST_TEXT text) pairs place ⊎ ((LONGEST_TEXT < length text) × Dump (take LONGEST_TEXT text) pairs × (place ≡ LONGEST_TEXT))
   pub never : (others : List Pair) → Dump text others → length text ≤ LONGEST_TEXT → ⊥
 
--- the image holds pairs of whole records with which the text begins: all of them, up to one
+-- the image holds the first of the pairs of whole records with which the text begins
 abbrev pub HoldsSome : Form → List ℕ → List ℕ → Type 0
 HoldsSome f img text = (pairs : List Pair) × BeginsWith text pairs × HoldsFront f img (keys_and_values pairs)
 
