@@ -144,6 +144,7 @@ impl Machine {
         ensures row { IfOk result (λ turn. (n : ℕ) → IsAfter self.old.command self.old.stage n → MapRow (command_of self.old.command) n (turn_of turn)) }
         ensures leaves { IfOk result (λ turn. (n : ℕ) → IsAfter self.old.command self.old.stage n → Leaves self.old self.new n (turn_of turn)) }
         ensures fits { IfOk result (λ turn. Fits self.new (S.size s.new) (S.spare s.new)) }
+        ensures given_up { OnErr result (self.new ≡ begun self.old.command self.old.chain) }
         ensures idle { IsIdle self.old.stage → Looked S.Space s.old s.new }
         ensures longer { S.size s.old ≤ S.size s.new }
         ensures wrote { Wrote S.Space s.old s.new }
@@ -206,6 +207,7 @@ impl Machine {
         ensures fits { IfOk result (λ turn. Fits self.new (S.size s.new) (S.spare s.new)) }
         ensures idle { IsIdle self.old.stage → Looked S.Space s.old s.new }
         ensures err { OnErr result (locks.new ≡ locks.old) }
+        ensures given_up { OnErr result (self.new ≡ begun self.old.command self.old.chain) }
         ensures longer { S.size s.old ≤ S.size s.new }
         ensures wrote { Wrote S.Space s.old s.new }
         ensures cause { HasCause (S.faults s.old) (S.faults s.new) result }
