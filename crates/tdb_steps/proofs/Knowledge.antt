@@ -1,17 +1,19 @@
 -- What a command knows of its key stays so where the chain of the key does.
-use Rattle.std.proofs.Common.{ℕ, ◌≤◌, List, length, Option, ◌∙◌, ap}
+use Rattle.std.proofs.Common.{◌≡◌, ℕ, ◌≤◌, List, length, Option, sym, ◌∙◌, ap, subst}
 use Rattle.tdb_space.specs.Form.{Form}
-use Rattle.tdb_space.specs.Pairs.{home}
+use Rattle.tdb_space.specs.Pairs.{map_of, home}
 use Rattle.tdb_space.specs.Extents.{HandPair}
 use Rattle.tdb_space.specs.Accepted.{AcceptWith}
 use Rattle.tdb_space.specs.Stays.{ChainStays}
 use Rattle.tdb_space.proofs.Stays.{map_stays}
 use Rattle.tdb_chain.specs.declared.place.Place.{Place}
 use Rattle.tdb_chain.proofs.PlaceStays.{found_stays}
-use Rattle.tdb_steps.specs.declared.stage.Stage.TheVariants as Stage
-use Rattle.tdb_steps.specs.Asked.{Asked}
-use Rattle.tdb_steps.specs.Stages.{IsKnown}
+use Rattle.tdb_steps.specs.declared.stage.Stage.{Stage}
+use Rattle.tdb_steps.specs.Asked.{Asked, joined}
+use Rattle.tdb_steps.specs.Stages.{IsKnown, IsJoined}
 use Rattle.tdb_steps.specs.Turns.{KnowledgeStays}
+use Rattle.tdb_steps.specs.PlainCommands.{key_of, asked_of}
+use Rattle.tdb_steps.specs.Machines.{MachineKnowledgeStays}
 
 known_stays : (f : Form) (a b key : List ℕ) (asked : Asked) (place : Option Place) (hands news : List HandPair) → AcceptWith f a hands → AcceptWith f b news → length a ≤ length b → ChainStays f a b (home f key) → IsKnown f a key asked place → IsKnown f b key asked place
 known_stays f a b key asked place hands news A B longer S known = record {
@@ -28,3 +30,20 @@ knowledge_stays f a b key asked (Stage.Taken place hand) hands news A B longer S
 knowledge_stays f a b key asked (Stage.Changed hand) hands news A B longer S known = tt
 knowledge_stays f a b key asked (Stage.Wiping locked) hands news A B longer S known = tt
 knowledge_stays f a b key asked Stage.Ending hands news A B longer S known = tt
+
+-- so do the bytes that an append has joined
+joined_stays : (f : Form) (a b key more : List ℕ) (whole : Option (List ℕ)) (stage : Stage) → map_of f b key ≡ map_of f a key → IsJoined f a key more whole stage → IsJoined f b key more whole stage
+joined_stays f a b key more whole Stage.Begun same J = tt
+joined_stays f a b key more whole Stage.Chained same J = tt
+joined_stays f a b key more whole (Stage.Looked place) same J = J ∙ ap (λ v. joined v more) (sym same)
+joined_stays f a b key more whole (Stage.Listed place) same J = J ∙ ap (λ v. joined v more) (sym same)
+joined_stays f a b key more whole (Stage.Taken place hand) same J = J ∙ ap (λ v. joined v more) (sym same)
+joined_stays f a b key more whole (Stage.Changed hand) same J = tt
+joined_stays f a b key more whole (Stage.Wiping locked) same J = tt
+joined_stays f a b key more whole Stage.Ending same J = tt
+
+pub machine_knowledge_stays : MachineKnowledgeStays
+machine_knowledge_stays f a b d hands news A B longer S K = record {
+  found = knowledge_stays f a b (key_of d.command) (asked_of d.command) d.stage hands news A B longer S K.found;
+  joined = λ key value is. joined_stays f a b key value d.whole d.stage (map_stays f a b hands news key A B longer (subst (λ k. ChainStays f a b (home f k)) (ap key_of is) S)) (K.joined key value is);
+}

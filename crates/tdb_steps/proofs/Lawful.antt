@@ -15,10 +15,10 @@ use Rattle.tdb_law.proofs.Maps.{is_key-eq, is_key-refl, get_put, get_drop}
 use Rattle.tdb_steps.specs.declared.flag.Flag.{Flag}
 use Rattle.tdb_steps.specs.declared.flag.Flag.TheVariants as Flags
 use Rattle.tdb_steps.specs.declared.plain.Plain.{Plain}
-use Rattle.tdb_steps.specs.declared.plain.Plain.TheVariants.{Fetch, Has, Store, Delete, Wipe}
+use Rattle.tdb_steps.specs.declared.plain.Plain.TheVariants.{Fetch, Has, Store, Append, Delete, Wipe}
 use Rattle.tdb_steps.specs.declared.stage.Stage.{Stage}
 use Rattle.tdb_steps.specs.declared.stage.Next.{Next}
-use Rattle.tdb_steps.specs.Asked.{Asked, stored}
+use Rattle.tdb_steps.specs.Asked.{Asked, stored, joined}
 use Rattle.tdb_steps.specs.Stages.{Knows, is_done}
 use Rattle.tdb_steps.specs.Turns.{MapBy, TurnMade, IsWant}
 use Rattle.tdb_steps.specs.Turns.IsWant.{memory, full}
@@ -112,6 +112,7 @@ pub is_command : (command : Plain) → IsKeyed command → IsCommand (command_of
 is_command (Fetch k) keyed = record { replies = λ m. fetch_replies m k (get m k) refl; granted = λ m ok q. absurd (fetch_never k (get m k) ok); refused = λ m never q. refl }
 is_command (Has k) keyed = record { replies = λ m. has_replies m k (get m k) refl; granted = λ m ok q. absurd (has_never k (get m k) ok); refused = λ m never q. refl }
 is_command (Store k v flag) keyed = record { replies = λ m. store_replies flag m k v (get m k) refl; granted = λ m ok q. store_granted flag m k v (get m k) refl ok q; refused = λ m never q. store_refused flag m k v (get m k) refl never q }
+is_command (Append k v) keyed = record { replies = λ m. refl; granted = λ m ok q. put_in m k (joined (get m k) v) q; refused = λ m never q. absurd (never refl) }
 is_command (Delete k) keyed = record { replies = λ m. delete_replies m k (get m k) refl; granted = λ m ok q. drop_in m k q; refused = λ m never q. delete_refused m k (get m k) refl never q }
 is_command Wipe keyed = elim keyed [ ]
 
@@ -261,5 +262,6 @@ pub map_turned : (command : Plain) → IsKeyed command → (f : Form) (a b : Lis
 map_turned (Fetch k) keyed f a b stage next n m others M is order K T = looks_turned f a b _ _ _ (is_command (Fetch k) keyed) n m M others stage next (λ k. refl) is order T
 map_turned (Has k) keyed f a b stage next n m others M is order K T = looks_turned f a b _ _ _ (is_command (Has k) keyed) n m M others stage next (λ k. refl) is order T
 map_turned (Store k v flag) keyed f a b stage next n m others M is order K T = stores_turned f a b _ _ _ (is_command (Store k v flag) keyed) n m M others stage next (store_changed flag k v) (store_fills flag k v) is order K T
+map_turned (Append k v) keyed f a b stage next n m others M is order K T = stores_turned f a b _ _ _ (is_command (Append k v) keyed) n m M others stage next (λ k. refl) refl is order K T
 map_turned (Delete k) keyed f a b stage next n m others M is order K T = deletes_turned f a b _ _ _ (is_command (Delete k) keyed) n m M others stage next (λ k. refl) is order K T
 map_turned Wipe keyed f a b stage next n m others M is order K T = elim keyed [ ]

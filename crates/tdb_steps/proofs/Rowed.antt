@@ -1,5 +1,5 @@
 -- Each turn of a command is one of its row.
-use Rattle.std.proofs.Common.{◌≡◌, ℕ, ◌<◌, ◌≤◌, inl, inr, true, List, Some, max, refl, sym, ◌∙◌, ap, subst, arith}
+use Rattle.std.proofs.Common.{◌≡◌, ℕ, ◌<◌, ◌≤◌, inl, inr, true, List, Option, Some, max, refl, sym, ◌∙◌, ap, subst, arith}
 use Rattle.tdb_locks.specs.declared.turn.Reply.{Reply}
 use Rattle.tdb_locks.specs.declared.turn.Turn.{Turn}
 use Rattle.tdb_locks.specs.declared.turn.Turn.TheVariants as Turns
@@ -10,7 +10,7 @@ use Rattle.tdb_law.specs.Ends.{map_last, map_ends, store_ends, delete_ends}
 use Rattle.tdb_steps.specs.declared.flag.Flag.{Flag}
 use Rattle.tdb_steps.specs.declared.flag.Flag.TheVariants as Flags
 use Rattle.tdb_steps.specs.declared.plain.Plain.{Plain}
-use Rattle.tdb_steps.specs.declared.plain.Plain.TheVariants.{Fetch, Has, Store, Delete, Wipe}
+use Rattle.tdb_steps.specs.declared.plain.Plain.TheVariants.{Fetch, Has, Store, Append, Delete, Wipe}
 use Rattle.tdb_steps.specs.declared.rows.LockRow.{LockRow}
 use Rattle.tdb_steps.specs.declared.rows.Rows.{Rows}
 use Rattle.tdb_steps.specs.declared.stage.Stage.{Stage}
@@ -165,6 +165,7 @@ pub row_of : (command : Plain) (n : ℕ) (stage : Stage) (next : Next) → IsAft
 row_of (Fetch k) n stage next is order = look_row (command_of (Fetch k)) n stage next refl (λ r. refl) is order
 row_of (Has k) n stage next is order = look_row (command_of (Has k)) n stage next refl (λ r. refl) is order
 row_of (Store k v flag) n stage next is order = store_row (command_of (Store k v flag)) n stage next (store_last flag k v) (store_may_end flag k v) is order
+row_of (Append k v) n stage next is order = store_row (command_of (Append k v)) n stage next refl (λ i r. refl) is order
 row_of (Delete k) n stage next is order = delete_row (command_of (Delete k)) n stage next refl (λ k r. refl) is order
 row_of Wipe n stage next is order = wipe_row (command_of Wipe) n stage next refl (λ r. refl) is order
 
@@ -174,21 +175,21 @@ lock_order command n stage (lock_first at) is = subst (λ x. InOrder command x (
 lock_order command n stage (lock_second found at) is = subst (λ x. InOrder command x (Next.Step (locked_stage command x))) (sym at) (looked_order command n found (subst (λ x. IsAfter command x n) at is))
 lock_order command n stage (lock_both at) is = subst (λ x. InOrder command x (Next.Step (locked_stage command x))) (sym at) (wiping_order command n (subst (λ x. IsAfter command x n) at is))
 
-module _ (command : Plain) (chain n : ℕ) (stage : Stage) (e : Doing) (locks : HeldLocks) (owner : ℕ) (old new : List Piece) (rows : Rows) (r : LockRow) (at : row_at rows stage ≡ Some r) (is : IsAfter command stage n) where
+module _ (command : Plain) (chain n : ℕ) (stage : Stage) (whole : Option (List ℕ)) (e : Doing) (locks : HeldLocks) (owner : ℕ) (old new : List Piece) (rows : Rows) (r : LockRow) (at : row_at rows stage ≡ Some r) (is : IsAfter command stage n) where
   lock_leads : n < map_last (command_of command)
   lock_leads = row_of command n stage (Next.Step (locked_stage command stage)) is (lock_order command n stage (lock_stage rows stage r at) is)
 
-  pub lock_row : (turn : Turn) → LockLed locks owner old new rows r (record { command = command; chain = chain; stage = stage }) e turn → MapRow (command_of command) n (turn_of turn)
+  pub lock_row : (turn : Turn) → LockLed locks owner old new rows r (record { command = command; chain = chain; stage = stage; whole = whole }) e turn → MapRow (command_of command) n (turn_of turn)
   lock_row Turns.Step L = lock_leads
   lock_row (Turns.Blocked other byte) L = tt
   lock_row (Turns.Done reply) L = inr (ap reply_of L.0, omega (arith, lock_leads))
 
-  pub lock_leaves : (turn : Turn) → LockLed locks owner old new rows r (record { command = command; chain = chain; stage = stage }) e turn → Leaves (record { command = command; chain = chain; stage = stage }) e n (turn_of turn)
+  pub lock_leaves : (turn : Turn) → LockLed locks owner old new rows r (record { command = command; chain = chain; stage = stage; whole = whole }) e turn → Leaves (record { command = command; chain = chain; stage = stage; whole = whole }) e n (turn_of turn)
   lock_leaves Turns.Step L =
-      subst (λ x. Leaves (record { command = command; chain = chain; stage = stage }) x n Law.Turn.Step) (sym L.0)
+      subst (λ x. Leaves (record { command = command; chain = chain; stage = stage; whole = whole }) x n Law.Turn.Step) (sym L.0)
       (refl, refl, next_after command n stage (locked_stage command stage) is (lock_order command n stage (lock_stage rows stage r at) is))
   lock_leaves (Turns.Blocked other byte) L = L.0
-  lock_leaves (Turns.Done reply) L = (ap (λ x. x.command) L.1, ap (λ x. x.chain) L.1, ap (λ x. x.stage) L.1)
+  lock_leaves (Turns.Done reply) L = L.1
 
 -- the lock table after a turn that takes a lock, and after one that takes none
 module _ (locks : HeldLocks) (kept : ℕ → ℕ) (owner n : ℕ) (old new : List Piece) (rows : Rows) (H : HoldsBefore locks kept owner n old rows) where

@@ -14,7 +14,7 @@ use Rattle.tdb_law.specs.Rows.{map_changed}
 use Rattle.tdb_law.specs.Held.{locked, locked_next}
 use Rattle.tdb_law.proofs.Locks.{locked_none}
 use Rattle.tdb_steps.specs.declared.plain.Plain.{Plain}
-use Rattle.tdb_steps.specs.declared.plain.Plain.TheVariants.{Fetch, Has, Store, Delete, Wipe}
+use Rattle.tdb_steps.specs.declared.plain.Plain.TheVariants.{Fetch, Has, Store, Append, Delete, Wipe}
 use Rattle.tdb_steps.specs.declared.stage.Stage.{Stage}
 use Rattle.tdb_steps.specs.declared.stage.WipeStage.TheVariants as Wipes
 use Rattle.tdb_steps.specs.declared.stage.Next.{Next}
@@ -24,14 +24,14 @@ use Rattle.tdb_steps.specs.declared.rows.Region.TheVariants.{FreeList}
 use Rattle.tdb_locks.specs.declared.kind.Kind.TheVariants.{Write}
 use Rattle.tdb_law.specs.Rows.{Lock}
 use Rattle.std.proofs.lemmas.Bool.{ne_eqb}
-use Rattle.tdb_steps.specs.Stages.{hands_in, MayBeOut, Knows, first_stage, locked_stage}
+use Rattle.tdb_steps.specs.Stages.{hands_in, MayBeOut, first_stage, locked_stage}
 use Rattle.tdb_steps.specs.Asked.{Asked}
 use Rattle.tdb_steps.specs.Turns.{Makes}
-use Rattle.tdb_steps.specs.PlainCommands.{key_of, asked_of, command_of, reply_of, turn_of}
+use Rattle.tdb_steps.specs.PlainCommands.{asked_of, command_of, reply_of, turn_of}
 use Rattle.tdb_steps.specs.LockRows.{strength_of, locks_in, rows_of, reader_rows, writer_rows, wipe_rows, row_at}
 use Rattle.tdb_steps.specs.Holdings.{KeptBeside, HoldsBefore}
 use Rattle.tdb_steps.specs.Order.{InOrder, LookOrder, StoreOrder, DeleteOrder, WipeOrder, LookAfter, StoreAfter, DeleteAfter, WipeAfter, IsAfter}
-use Rattle.tdb_steps.specs.Machines.{Doing, DoingKnows, CommandMakes, IsOn, MachineTurned}
+use Rattle.tdb_steps.specs.Machines.{Doing, begun, DoingKnows, CommandMakes, IsOn, MachineTurned}
 use Rattle.tdb_steps.specs.LockTurns.{LockLed}
 use Rattle.tdb_locks.specs.declared.turn.Turn.{Turn}
 use Rattle.tdb_locks.specs.declared.turn.Turn.TheVariants as Turns
@@ -168,6 +168,7 @@ pub row_facts : (command : Plain) (chain n : ℕ) (stage : Stage) (r : LockRow) 
 row_facts (Fetch k) chain n stage r is at = look_facts chain n stage r is at
 row_facts (Has k) chain n stage r is at = look_facts chain n stage r is at
 row_facts (Store k v flag) chain n stage r is at = store_facts chain n stage r is at
+row_facts (Append k v) chain n stage r is at = store_facts chain n stage r is at
 row_facts (Delete k) chain n stage r is at = delete_facts chain n stage r is at
 row_facts Wipe chain n stage r is at = wipe_facts n stage r is at
 
@@ -230,6 +231,7 @@ pub row_idle : (command : Plain) (chain n : ℕ) (stage : Stage) → IsAfter com
 row_idle (Fetch k) chain n stage is at b = look_idle chain n stage is at b
 row_idle (Has k) chain n stage is at b = look_idle chain n stage is at b
 row_idle (Store k v flag) chain n stage is at b = store_idle chain n stage is at b
+row_idle (Append k v) chain n stage is at b = store_idle chain n stage is at b
 row_idle (Delete k) chain n stage is at b = delete_idle chain n stage is at b
 row_idle Wipe chain n stage is at b = wipe_idle n stage is at b
 
@@ -279,40 +281,45 @@ pub next_after : (command : Plain) (n : ℕ) (stage onto : Stage) → IsAfter co
 next_after (Fetch k) n stage onto is order = look_after n stage onto is order
 next_after (Has k) n stage onto is order = look_after n stage onto is order
 next_after (Store k v flag) n stage onto is order = store_after n stage onto is order
+next_after (Append k v) n stage onto is order = store_after n stage onto is order
 next_after (Delete k) n stage onto is order = delete_after n stage onto is order
 next_after Wipe n stage onto is order = wipe_after n stage onto is order
 
+-- a command that has had no turn knows nothing of an image
+begun_knows : (f : Form) (b : List ℕ) (command : Plain) (chain : ℕ) → DoingKnows f b (begun command chain)
+begun_knows f b command chain = record { found = tt; joined = λ key value is. tt }
+
 -- a turn without a lock, that led on or ended
-module _ (f : Form) (a b : List ℕ) (command : Plain) (chain n : ℕ) (stage : Stage) (others : List HandPair) where
-  pub stepped_on : (onto : Stage) → CommandMade f a b command n (Next.Step onto) others
-      → MachineTurned f a b (record { command = command; chain = chain; stage = stage }) (record { command = command; chain = chain; stage = onto }) n Law.Turn.Step others
-  stepped_on onto T = record { accepted = T.accepted; knows = T.knows; only = T.only; map = T.map }
+module _ (f : Form) (a b : List ℕ) (command : Plain) (chain n : ℕ) (stage : Stage) (was whole : Option (List ℕ)) (others : List HandPair) where
+  pub stepped_on : (onto : Stage) → CommandMade f a b command whole n (Next.Step onto) others
+      → MachineTurned f a b (record { command = command; chain = chain; stage = stage; whole = was }) (record { command = command; chain = chain; stage = onto; whole = whole }) n Law.Turn.Step others
+  stepped_on onto T = record { accepted = T.accepted; knows = record { found = T.knows; joined = T.joined }; only = T.only; map = T.map }
 
-  pub ended_so : (r : Reply) → CommandMade f a b command n (Next.Done r) others
-      → MachineTurned f a b (record { command = command; chain = chain; stage = stage }) (record { command = command; chain = chain; stage = Stage.Begun }) n (Law.Turn.Ends (reply_of r)) others
-  ended_so r T = record { accepted = T.accepted; knows = tt; only = T.only; map = T.map }
+  pub ended_so : (r : Reply) → CommandMade f a b command whole n (Next.Done r) others
+      → MachineTurned f a b (record { command = command; chain = chain; stage = stage; whole = was }) (begun command chain) n (Law.Turn.Ends (reply_of r)) others
+  ended_so r T = record { accepted = T.accepted; knows = begun_knows f b command chain; only = T.only; map = T.map }
 
--- the same of a machine, whose stage was taken out for the turn and put back after it
-module _ (f : Form) (a b : List ℕ) (command : Plain) (chain n : ℕ) (stage taken : Stage) (led : Next) (d e : Doing) (others : List HandPair) (was : d ≡ record { command = command; chain = chain; stage = stage }) (out : taken ≡ stage) (order : InOrder command taken led) (made : CommandMakes f a b command taken led) where
+-- the same of a machine, whose stage and joined bytes were taken out for the turn and put back after it
+module _ (f : Form) (a b : List ℕ) (command : Plain) (chain n : ℕ) (stage taken : Stage) (was out whole : Option (List ℕ)) (led : Next) (d e : Doing) (others : List HandPair) (before : d ≡ record { command = command; chain = chain; stage = stage; whole = was }) (stage_out : taken ≡ stage) (whole_out : out ≡ was) (order : InOrder command taken led) (made : CommandMakes f a b command out whole taken led) where
   -- what the turn from a stage makes of a machine, given what is so before it
   abbrev From : Doing → Doing → Law.Turn → Type 0
   From x y turn = IsAfter x.command x.stage n → MayBeOut x.stage others → AcceptWith f a (hands_in x.stage ++ others) → DoingKnows f a x → MachineTurned f a b x y n turn others
 
-  turned_so : (next : Next) → led ≡ next → IsAfter command stage n → MayBeOut stage others → AcceptWith f a (hands_in stage ++ others) → Knows f a (key_of command) (asked_of command) stage → CommandMade f a b command n next others
-  turned_so next on is may A K = command_made command f a b n stage next others is (subst (λ x. InOrder command x next) out (subst (InOrder command taken) on order)) may A K
-      (subst (λ x. CommandMakes f a b command x next) out (subst (CommandMakes f a b command taken) on made))
+  turned_so : (next : Next) → led ≡ next → IsAfter command stage n → MayBeOut stage others → AcceptWith f a (hands_in stage ++ others) → DoingKnows f a (record { command = command; chain = chain; stage = stage; whole = was }) → CommandMade f a b command whole n next others
+  turned_so next on is may A K = command_made command f a b was whole n stage next others is (subst (λ x. InOrder command x next) stage_out (subst (InOrder command taken) on order)) may A K.found K.joined
+      (subst (λ x. CommandMakes f a b command was whole x next) stage_out (subst (λ w. CommandMakes f a b command w whole taken next) whole_out (subst (CommandMakes f a b command out whole taken) on made)))
 
-  pub act_stepped : (onto : Stage) → led ≡ Next.Step onto → e ≡ record { command = command; chain = chain; stage = onto } → From d e Law.Turn.Step
+  pub act_stepped : (onto : Stage) → led ≡ Next.Step onto → e ≡ record { command = command; chain = chain; stage = onto; whole = whole } → From d e Law.Turn.Step
   act_stepped onto on now =
-      subst (λ x. From x e Law.Turn.Step) (sym was)
-      (subst (λ y. From (record { command = command; chain = chain; stage = stage }) y Law.Turn.Step) (sym now)
-      (λ is may A K. stepped_on f a b command chain n stage others onto (turned_so (Next.Step onto) on is may A K)))
+      subst (λ x. From x e Law.Turn.Step) (sym before)
+      (subst (λ y. From (record { command = command; chain = chain; stage = stage; whole = was }) y Law.Turn.Step) (sym now)
+      (λ is may A K. stepped_on f a b command chain n stage was whole others onto (turned_so (Next.Step onto) on is may A K)))
 
-  pub act_ended : (r : Reply) → led ≡ Next.Done r → e ≡ record { command = command; chain = chain; stage = Stage.Begun } → From d e (Law.Turn.Ends (reply_of r))
+  pub act_ended : (r : Reply) → led ≡ Next.Done r → e ≡ begun command chain → From d e (Law.Turn.Ends (reply_of r))
   act_ended r on now =
-      subst (λ x. From x e (Law.Turn.Ends (reply_of r))) (sym was)
-      (subst (λ y. From (record { command = command; chain = chain; stage = stage }) y (Law.Turn.Ends (reply_of r))) (sym now)
-      (λ is may A K. ended_so f a b command chain n stage others r (turned_so (Next.Done r) on is may A K)))
+      subst (λ x. From x e (Law.Turn.Ends (reply_of r))) (sym before)
+      (subst (λ y. From (record { command = command; chain = chain; stage = stage; whole = was }) y (Law.Turn.Ends (reply_of r))) (sym now)
+      (λ is may A K. ended_so f a b command chain n stage was whole others r (turned_so (Next.Done r) on is may A K)))
 
 -- the stages from which a turn takes a lock
 pub data LockStage (stage : Stage) : Type 0 where
@@ -336,6 +343,7 @@ begun_unchanged : (command : Plain) (n : ℕ) → IsAfter command Stage.Begun n 
 begun_unchanged (Fetch k) n is = refl
 begun_unchanged (Has k) n is = refl
 begun_unchanged (Store k v flag) n is = store_changed flag k v n ∙ ap (nat_le 5) is
+begun_unchanged (Append k v) n is = ap (nat_le 5) is
 begun_unchanged (Delete k) n is = ap (nat_le 4) is
 begun_unchanged Wipe n is = ap (nat_le 3) is
 
@@ -343,6 +351,7 @@ looked_unchanged : (command : Plain) (n : ℕ) (found : Option Place) → IsAfte
 looked_unchanged (Fetch k) n found is = refl
 looked_unchanged (Has k) n found is = refl
 looked_unchanged (Store k v flag) n found is = store_changed flag k v n ∙ ap (nat_le 5) is
+looked_unchanged (Append k v) n found is = ap (nat_le 5) is
 looked_unchanged (Delete k) n found is = ap (nat_le 4) is
 looked_unchanged Wipe n found is = elim is [ ]
 
@@ -350,6 +359,7 @@ wiping_unchanged : (command : Plain) (n : ℕ) → IsAfter command (Stage.Wiping
 wiping_unchanged (Fetch k) n is = elim is [ ]
 wiping_unchanged (Has k) n is = elim is [ ]
 wiping_unchanged (Store k v flag) n is = elim is [ ]
+wiping_unchanged (Append k v) n is = elim is [ ]
 wiping_unchanged (Delete k) n is = elim is [ ]
 wiping_unchanged Wipe n is = ap (nat_le 3) is
 
@@ -357,6 +367,7 @@ pub begun_order : (command : Plain) → InOrder command Stage.Begun (Next.Step (
 begun_order (Fetch k) = refl
 begun_order (Has k) = refl
 begun_order (Store k v flag) = refl
+begun_order (Append k v) = refl
 begun_order (Delete k) = refl
 begun_order Wipe = refl
 
@@ -364,6 +375,7 @@ pub looked_order : (command : Plain) (n : ℕ) (found : Option Place) → IsAfte
 looked_order (Fetch k) n found is = elim is [ ]
 looked_order (Has k) n found is = elim is [ ]
 looked_order (Store k v flag) n found is = refl
+looked_order (Append k v) n found is = refl
 looked_order (Delete k) n found is = refl
 looked_order Wipe n found is = elim is [ ]
 
@@ -371,6 +383,7 @@ pub wiping_order : (command : Plain) (n : ℕ) → IsAfter command (Stage.Wiping
 wiping_order (Fetch k) n is = elim is [ ]
 wiping_order (Has k) n is = elim is [ ]
 wiping_order (Store k v flag) n is = elim is [ ]
+wiping_order (Append k v) n is = elim is [ ]
 wiping_order (Delete k) n is = elim is [ ]
 wiping_order Wipe n is = refl
 
@@ -379,42 +392,48 @@ module _ (f : Form) (a : List ℕ) where
   first_makes : (key : List ℕ) (asked : Asked) → Makes f a a key asked Stage.Begun (Next.Step Stage.Chained)
   first_makes key asked others A K = same_made f a a key asked Stage.Begun (Next.Step Stage.Chained) others refl A refl tt tt
 
-  begun_makes : (command : Plain) → CommandMakes f a a command Stage.Begun (Next.Step (first_stage command))
-  begun_makes (Fetch k) = first_makes k (asked_of (Fetch k))
-  begun_makes (Has k) = first_makes k (asked_of (Has k))
-  begun_makes (Store k v flag) = first_makes k (asked_of (Store k v flag))
-  begun_makes (Delete k) = first_makes k (asked_of (Delete k))
-  begun_makes Wipe = λ others may A. wipe_waits f a Stage.Begun (Next.Step (Stage.Wiping Wipes.Records)) others A refl
+  begun_makes : (command : Plain) (whole : Option (List ℕ)) → CommandMakes f a a command whole whole Stage.Begun (Next.Step (first_stage command))
+  begun_makes (Fetch k) whole = first_makes k (asked_of (Fetch k))
+  begun_makes (Has k) whole = first_makes k (asked_of (Has k))
+  begun_makes (Store k v flag) whole = first_makes k (asked_of (Store k v flag))
+  begun_makes (Append k v) whole = λ others A K J. record { made = first_makes k (asked_of (Append k v)) others A K; has_joined = tt }
+  begun_makes (Delete k) whole = first_makes k (asked_of (Delete k))
+  begun_makes Wipe whole = λ others may A. wipe_waits f a Stage.Begun (Next.Step (Stage.Wiping Wipes.Records)) others A refl
 
   second_makes : (key : List ℕ) (asked : Asked) (found : Option Place) → Makes f a a key asked (Stage.Looked found) (Next.Step (Stage.Listed found))
   second_makes key asked found others A K = same_made f a a key asked (Stage.Looked found) (Next.Step (Stage.Listed found)) others refl A refl K tt
 
-  looked_makes : (command : Plain) (n : ℕ) (found : Option Place) → IsAfter command (Stage.Looked found) n → CommandMakes f a a command (Stage.Looked found) (Next.Step (Stage.Listed found))
-  looked_makes (Fetch k) n found is = second_makes k (asked_of (Fetch k)) found
-  looked_makes (Has k) n found is = second_makes k (asked_of (Has k)) found
-  looked_makes (Store k v flag) n found is = second_makes k (asked_of (Store k v flag)) found
-  looked_makes (Delete k) n found is = second_makes k (asked_of (Delete k)) found
-  looked_makes Wipe n found is = elim is [ ]
+  looked_makes : (command : Plain) (whole : Option (List ℕ)) (n : ℕ) (found : Option Place) → IsAfter command (Stage.Looked found) n → CommandMakes f a a command whole whole (Stage.Looked found) (Next.Step (Stage.Listed found))
+  looked_makes (Fetch k) whole n found is = second_makes k (asked_of (Fetch k)) found
+  looked_makes (Has k) whole n found is = second_makes k (asked_of (Has k)) found
+  looked_makes (Store k v flag) whole n found is = second_makes k (asked_of (Store k v flag)) found
+  looked_makes (Append k v) whole n found is = λ others A K J. record { made = second_makes k (asked_of (Append k v)) found others A K; has_joined = J }
+  looked_makes (Delete k) whole n found is = second_makes k (asked_of (Delete k)) found
+  looked_makes Wipe whole n found is = elim is [ ]
 
-  wiping_makes : (command : Plain) (n : ℕ) → IsAfter command (Stage.Wiping Wipes.Records) n → CommandMakes f a a command (Stage.Wiping Wipes.Records) (Next.Step (Stage.Wiping Wipes.FreeList))
-  wiping_makes (Fetch k) n is = elim is [ ]
-  wiping_makes (Has k) n is = elim is [ ]
-  wiping_makes (Store k v flag) n is = elim is [ ]
-  wiping_makes (Delete k) n is = elim is [ ]
-  wiping_makes Wipe n is = λ others may A. wipe_waits f a (Stage.Wiping Wipes.Records) (Next.Step (Stage.Wiping Wipes.FreeList)) others A refl
+  wiping_makes : (command : Plain) (whole : Option (List ℕ)) (n : ℕ) → IsAfter command (Stage.Wiping Wipes.Records) n → CommandMakes f a a command whole whole (Stage.Wiping Wipes.Records) (Next.Step (Stage.Wiping Wipes.FreeList))
+  wiping_makes (Fetch k) whole n is = elim is [ ]
+  wiping_makes (Has k) whole n is = elim is [ ]
+  wiping_makes (Store k v flag) whole n is = elim is [ ]
+  wiping_makes (Append k v) whole n is = elim is [ ]
+  wiping_makes (Delete k) whole n is = elim is [ ]
+  wiping_makes Wipe whole n is = λ others may A. wipe_waits f a (Stage.Wiping Wipes.Records) (Next.Step (Stage.Wiping Wipes.FreeList)) others A refl
 
 -- a turn that takes a lock, over an image that stays
-module _ (f : Form) (a : List ℕ) (command : Plain) (chain n : ℕ) (others : List HandPair) where
+module _ (f : Form) (a : List ℕ) (command : Plain) (chain n : ℕ) (whole : Option (List ℕ)) (others : List HandPair) where
+  abbrev At : Stage → Doing
+  At x = record { command = command; chain = chain; stage = x; whole = whole }
+
   abbrev Led : Stage → Type 0
-  Led x = IsAfter command x n → AcceptWith f a (hands_in x ++ others) → Knows f a (key_of command) (asked_of command) x
-      → MachineTurned f a a (record { command = command; chain = chain; stage = x }) (record { command = command; chain = chain; stage = locked_stage command x }) n Law.Turn.Step others
+  Led x = IsAfter command x n → AcceptWith f a (hands_in x ++ others) → DoingKnows f a (At x) → MachineTurned f a a (At x) (At (locked_stage command x)) n Law.Turn.Step others
 
   led : (stage : Stage) → LockStage stage → Led stage
-  led stage (lock_first at) = subst Led (sym at) (λ is A K. stepped_on f a a command chain n Stage.Begun others (first_stage command) (command_made command f a a n Stage.Begun (Next.Step (first_stage command)) others is (begun_order command) tt A K (begun_makes f a command)))
-  led stage (lock_second found at) = subst Led (sym at) (λ is A K. stepped_on f a a command chain n (Stage.Looked found) others (Stage.Listed found)
-      (command_made command f a a n (Stage.Looked found) (Next.Step (Stage.Listed found)) others is (looked_order command n found is) tt A K (looked_makes f a command n found is)))
-  led stage (lock_both at) = subst Led (sym at) (λ is A K. stepped_on f a a command chain n (Stage.Wiping Wipes.Records) others (Stage.Wiping Wipes.FreeList)
-      (command_made command f a a n (Stage.Wiping Wipes.Records) (Next.Step (Stage.Wiping Wipes.FreeList)) others is (wiping_order command n is) tt A K (wiping_makes f a command n is)))
+  led stage (lock_first at) = subst Led (sym at) (λ is A K. stepped_on f a a command chain n Stage.Begun whole whole others (first_stage command)
+      (command_made command f a a whole whole n Stage.Begun (Next.Step (first_stage command)) others is (begun_order command) tt A K.found K.joined (begun_makes f a command whole)))
+  led stage (lock_second found at) = subst Led (sym at) (λ is A K. stepped_on f a a command chain n (Stage.Looked found) whole whole others (Stage.Listed found)
+      (command_made command f a a whole whole n (Stage.Looked found) (Next.Step (Stage.Listed found)) others is (looked_order command n found is) tt A K.found K.joined (looked_makes f a command whole n found is)))
+  led stage (lock_both at) = subst Led (sym at) (λ is A K. stepped_on f a a command chain n (Stage.Wiping Wipes.Records) whole whole others (Stage.Wiping Wipes.FreeList)
+      (command_made command f a a whole whole n (Stage.Wiping Wipes.Records) (Next.Step (Stage.Wiping Wipes.FreeList)) others is (wiping_order command n is) tt A K.found K.joined (wiping_makes f a command whole n is)))
 
   unchanged : (stage : Stage) → LockStage stage → IsAfter command stage n → map_changed (command_of command) n ≡ false
   unchanged stage (lock_first at) is = begun_unchanged command n (subst (λ x. IsAfter command x n) at is)
@@ -431,13 +450,13 @@ module _ (f : Form) (a : List ℕ) (command : Plain) (chain n : ℕ) (others : L
 
   -- whatever it comes to
   pub lock_turned : (stage : Stage) (e : Doing) (turn : Turn) (locks : HeldLocks) (owner : ℕ) (old new : List Piece) (rows : Rows) (r : LockRow) → row_at rows stage ≡ Some r
-      → LockLed locks owner old new rows r (record { command = command; chain = chain; stage = stage }) e turn → IsAfter command stage n → AcceptWith f a (hands_in stage ++ others) → Knows f a (key_of command) (asked_of command) stage
-      → MachineTurned f a a (record { command = command; chain = chain; stage = stage }) e n (turn_of turn) others
-  lock_turned stage e Turns.Step locks owner old new rows r at L is A K = subst (λ x. MachineTurned f a a (record { command = command; chain = chain; stage = stage }) x n Law.Turn.Step others) (sym L.0) (led stage (lock_stage rows stage r at) is A K)
+      → LockLed locks owner old new rows r (At stage) e turn → IsAfter command stage n → AcceptWith f a (hands_in stage ++ others) → DoingKnows f a (At stage)
+      → MachineTurned f a a (At stage) e n (turn_of turn) others
+  lock_turned stage e Turns.Step locks owner old new rows r at L is A K = subst (λ x. MachineTurned f a a (At stage) x n Law.Turn.Step others) (sym L.0) (led stage (lock_stage rows stage r at) is A K)
   lock_turned stage e (Turns.Blocked other byte) locks owner old new rows r at L is A K =
-      subst (λ x. MachineTurned f a a (record { command = command; chain = chain; stage = stage }) x n (Law.Turn.Blocked other byte) others) (sym L.0)
+      subst (λ x. MachineTurned f a a (At stage) x n (Law.Turn.Blocked other byte) others) (sym L.0)
       (record { accepted = A; knows = K; only = same_only; map = λ m M. map_waits other byte refl (unchanged stage (lock_stage rows stage r at) is) M })
   lock_turned stage e (Turns.Done reply) locks owner old new rows r at L is A K =
-      subst (λ x. MachineTurned f a a (record { command = command; chain = chain; stage = stage }) x n (Law.Turn.Ends (reply_of reply)) others) (sym L.1)
-      (subst (λ q. MachineTurned f a a (record { command = command; chain = chain; stage = stage }) (record { command = command; chain = chain; stage = Stage.Begun }) n (Law.Turn.Ends (reply_of q)) others) (sym L.0)
-      (record { accepted = subst (λ h. AcceptWith f a (h ++ others)) (no_hands stage (lock_stage rows stage r at)) A; knows = tt; only = same_only; map = λ m M. map_starves refl (unchanged stage (lock_stage rows stage r at) is) M }))
+      subst (λ x. MachineTurned f a a (At stage) x n (Law.Turn.Ends (reply_of reply)) others) (sym L.1)
+      (subst (λ q. MachineTurned f a a (At stage) (begun command chain) n (Law.Turn.Ends (reply_of q)) others) (sym L.0)
+      (record { accepted = subst (λ h. AcceptWith f a (h ++ others)) (no_hands stage (lock_stage rows stage r at)) A; knows = begun_knows f a command chain; only = same_only; map = λ m M. map_starves refl (unchanged stage (lock_stage rows stage r at) is) M }))

@@ -7,7 +7,7 @@ use Rattle.tdb_locks.specs.declared.kind.Kind.TheVariants.{Read, Write}
 use Rattle.tdb_locks.specs.declared.piece.Piece.{Piece}
 use Rattle.tdb_law.specs.Rows.{Lock, lock, all_end}
 use Rattle.tdb_steps.specs.declared.plain.Plain.{Plain}
-use Rattle.tdb_steps.specs.declared.plain.Plain.TheVariants.{Fetch, Has, Store, Delete, Wipe}
+use Rattle.tdb_steps.specs.declared.plain.Plain.TheVariants.{Fetch, Has, Store, Append, Delete, Wipe}
 use Rattle.tdb_steps.specs.declared.rows.Region.{Region}
 use Rattle.tdb_steps.specs.declared.rows.Region.TheVariants.{Chain, FreeList, AllRecords}
 use Rattle.tdb_steps.specs.declared.rows.LockRow.{LockRow}
@@ -57,6 +57,7 @@ abbrev pub rows_of : Plain → ℕ → Rows
 rows_of (Fetch key) chain = reader_rows chain
 rows_of (Has key) chain = reader_rows chain
 rows_of (Store key value flag) chain = writer_rows chain
+rows_of (Append key value) chain = writer_rows chain
 rows_of (Delete key) chain = writer_rows chain
 rows_of Wipe chain = wipe_rows
 

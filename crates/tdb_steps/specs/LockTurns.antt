@@ -9,10 +9,9 @@ use Rattle.tdb_locks.specs.declared.turn.Turn.{Turn}
 use Rattle.tdb_locks.specs.declared.turn.Turn.TheVariants.{Step, Blocked, Done}
 use Rattle.tdb_steps.specs.declared.rows.LockRow.{LockRow}
 use Rattle.tdb_steps.specs.declared.rows.Rows.{Rows}
-use Rattle.tdb_steps.specs.declared.stage.Stage.TheVariants.{Begun}
 use Rattle.tdb_steps.specs.Stages.{locked_stage}
 use Rattle.tdb_steps.specs.LockRows.{start_of, end_of, is_covered, AreLetGo}
-use Rattle.tdb_steps.specs.Machines.{Doing}
+use Rattle.tdb_steps.specs.Machines.{Doing, begun}
 
 -- A turn that takes a lock of a row: the lock is taken or was covered, and the stage is the next; or the turn is blocked by the first
 -- conflict, and nothing changes; or memory is wanting, and all is let go.
@@ -23,10 +22,10 @@ LockLed locks owner old new rows r d e Step =
 LockLed locks owner old new rows r d e (Blocked other byte) =
     (e ≡ d) × (new ≡ old) × (kind : Kind) × IsFirstConflict old owner (start_of r.region) (end_of r.region) r.kind other byte kind
 LockLed locks owner old new rows r d e (Done reply) =
-    (reply ≡ Reply.Memory) × (e ≡ record d { stage = Begun }) × IsFree old owner (start_of r.region) (end_of r.region) r.kind × AreLetGo locks owner old new rows
+    (reply ≡ Reply.Memory) × (e ≡ begun d.command d.chain) × IsFree old owner (start_of r.region) (end_of r.region) r.kind × AreLetGo locks owner old new rows
 
 -- a turn that takes no lock leads on, or ends
 abbrev pub ActLed : Doing → Doing → Turn → Type 0
 ActLed d e Step = Unit {0}
 ActLed d e (Blocked other byte) = ⊥
-ActLed d e (Done reply) = e ≡ record d { stage = Begun }
+ActLed d e (Done reply) = e ≡ begun d.command d.chain

@@ -1,11 +1,11 @@
 -- A machine: what a command has between two of its turns, what it needs and knows, and what a turn makes of an image.
-use Rattle.std.specs.Prelude.{ℕ, ◌+◌, ◌^◌, ◌≡◌, ◌≤◌, ◌<◌, ◌⊎◌, List, ◌++◌, length, false, true}
+use Rattle.std.specs.Prelude.{ℕ, ◌+◌, ◌^◌, ◌≡◌, ◌≤◌, ◌<◌, ◌⊎◌, List, ◌++◌, length, false, true, Option, None, IfSome, unwrap_or}
 use Rattle.tdb_space.specs.Form.{Form}
 use Rattle.tdb_space.specs.Pairs.{home}
 use Rattle.tdb_space.specs.Extents.{HandPair}
 use Rattle.tdb_space.specs.Accepted.{AcceptWith}
 use Rattle.tdb_space.specs.Spare.{Spare}
-use Rattle.tdb_space.specs.Stays.{ChangesOnly}
+use Rattle.tdb_space.specs.Stays.{ChangesOnly, ChainStays}
 use Rattle.tdb_law.specs.Commands.{MapCommand, Reply, Turn}
 use Rattle.tdb_law.specs.Commands.Reply.{Done, Memory, Full}
 use Rattle.tdb_law.specs.Commands.Turn.{Step, Blocked, Ends}
@@ -14,53 +14,73 @@ use Rattle.tdb_law.specs.MapCommands.{reply, after, map_fills}
 use Rattle.tdb_law.specs.Rows.{map_changed}
 use Rattle.tdb_law.specs.Ends.{map_last, map_ends}
 use Rattle.tdb_steps.specs.declared.plain.Plain.{Plain}
-use Rattle.tdb_steps.specs.declared.plain.Plain.TheVariants.{Fetch, Has, Store, Delete, Wipe}
+use Rattle.tdb_steps.specs.declared.plain.Plain.TheVariants.{Fetch, Has, Store, Append, Delete, Wipe}
 use Rattle.tdb_steps.specs.declared.stage.Stage.{Stage}
 use Rattle.tdb_steps.specs.declared.stage.Stage.TheVariants.{Begun}
 use Rattle.tdb_steps.specs.declared.stage.Next.{Next}
-use Rattle.tdb_steps.specs.Turns.{Makes, WipeMakes}
-use Rattle.tdb_steps.specs.Stages.{hands_in, Knows, OfLook, OfStore, OfDelete, OfWipe}
+use Rattle.tdb_steps.specs.Turns.{Makes, AppendMakes, WipeMakes}
+use Rattle.tdb_steps.specs.Stages.{hands_in, Knows, IsJoined, OfLook, OfStore, OfDelete, OfWipe}
 use Rattle.tdb_steps.specs.PlainCommands.{key_of, asked_of, command_of, IsMapOf}
 use Rattle.tdb_steps.specs.Order.{IsAfter}
 
--- the command, the chain of its key, and the stage
+-- the command, the chain of its key, the stage, and the bytes that an append has joined
 pub record Doing : Type 0 where
   pub command : Plain
   pub chain : ℕ
   pub stage : Stage
+  pub whole : Option (List ℕ)
 
 -- a command that has had no turn
 abbrev pub begun : Plain → ℕ → Doing
-begun command chain = record { command = command; chain = chain; stage = Begun }
+begun command chain = record { command = command; chain = chain; stage = Begun; whole = None }
 
 -- the key and the value of a command are short enough for the words of a file
 abbrev pub IsShort : Plain → Type 0
 IsShort (Fetch key) = length key < 2 ^ 32
 IsShort (Has key) = length key < 2 ^ 32
 IsShort (Store key value flag) = (length key < 2 ^ 32) × (length value < 2 ^ 32)
+IsShort (Append key value) = (length key < 2 ^ 32) × (length value < 2 ^ 32)
 IsShort (Delete key) = length key < 2 ^ 32
 IsShort Wipe = Unit {0}
 
--- what a stage of a command needs of a view of this length and room, whatever its bytes are
-abbrev pub IsFit : Plain → Stage → ℕ → Spare → Type 0
-IsFit (Fetch key) stage size spare = OfLook stage
-IsFit (Has key) stage size spare = OfLook stage
-IsFit (Store key value flag) stage size spare = OfStore (length key + length value) stage size spare
-IsFit (Delete key) stage size spare = OfDelete stage size spare
-IsFit Wipe stage size spare = OfWipe stage
+-- so are the bytes that an append has joined: two values' length at most
+abbrev pub IsShortWhole : Option (List ℕ) → Type 0
+IsShortWhole whole = IfSome whole (λ bytes. length bytes < 2 ^ 33)
+
+-- what a stage of a command, which may have joined bytes, needs of a view of this length and room, whatever its bytes are
+abbrev pub IsFit : Plain → Option (List ℕ) → Stage → ℕ → Spare → Type 0
+IsFit (Fetch key) whole stage size spare = OfLook stage
+IsFit (Has key) whole stage size spare = OfLook stage
+IsFit (Store key value flag) whole stage size spare = OfStore (length key + length value) stage size spare
+IsFit (Append key value) whole stage size spare = OfStore (length key + length (unwrap_or whole value)) stage size spare
+IsFit (Delete key) whole stage size spare = OfDelete stage size spare
+IsFit Wipe whole stage size spare = OfWipe stage
 
 pub record Fits (d : Doing) (size : ℕ) (spare : Spare) : Type 0 where
   pub short : IsShort d.command
-  pub stage : IsFit d.command d.stage size spare
+  pub short_whole : IsShortWhole d.whole
+  pub stage : IsFit d.command d.whole d.stage size spare
+
+-- an append has the bytes that it writes, where it needs them
+abbrev pub HasJoined : Form → List ℕ → Plain → Option (List ℕ) → Stage → Type 0
+HasJoined f img command whole stage = (key value : List ℕ) → command ≡ Append key value → IsJoined f img key value whole stage
 
 -- what a machine knows of an image
-abbrev pub DoingKnows : Form → List ℕ → Doing → Type 0
-DoingKnows f img d = Knows f img (key_of d.command) (asked_of d.command) d.stage
+pub record DoingKnows (f : Form) (img : List ℕ) (d : Doing) : Type 0 where
+  pub found : Knows f img (key_of d.command) (asked_of d.command) d.stage
+  pub joined : HasJoined f img d.command d.whole d.stage
 
--- what a turn of a command makes of an image
-abbrev pub CommandMakes : Form → List ℕ → List ℕ → Plain → Stage → Next → Type 0
-CommandMakes f a b Wipe old next = WipeMakes f a b old next
-CommandMakes f a b command old next = Makes f a b (key_of command) (asked_of command) old next
+-- What a machine knows between two of its turns it still knows after any change that leaves the chain of its key.
+abbrev pub MachineKnowledgeStays : Type 0
+MachineKnowledgeStays =
+    (f : Form) (a b : List ℕ) (d : Doing) (hands news : List HandPair) → AcceptWith f a hands → AcceptWith f b news → length a ≤ length b
+    → ChainStays f a b (home f (key_of d.command)) → DoingKnows f a d → DoingKnows f b d
+
+-- what a turn of a command makes of an image; an append has joined `was` before it, and `now` after it
+abbrev pub CommandMakes : Form → List ℕ → List ℕ → Plain → Option (List ℕ) → Option (List ℕ) → Stage → Next → Type 0
+CommandMakes f a b (Append key value) was now old next = AppendMakes f a b key value was now old next
+CommandMakes f a b Wipe was now old next = WipeMakes f a b old next
+CommandMakes f a b command was now old next = Makes f a b (key_of command) (asked_of command) old next
 
 -- the chains that a command may change: that of its key, and a wipe any
 abbrev pub IsOn : Form → Plain → ℕ → Type 0
@@ -99,8 +119,9 @@ pub record MachineTurned (f : Form) (a b : List ℕ) (d e : Doing) (n : ℕ) (tu
   pub only : ChangesOnly f a b (λ k. IsOn f d.command k × (1 ≤ n))
   pub map : (m : Map) → IsMapOf f a m → MapTurned f b (command_of d.command) n m turn
 
--- what a turn leaves of the machine: after a step it has had one more, blocked it is as it was, and at its end it has no turn and no hand
+-- what a turn leaves of the machine: after a step it has had one more, blocked it is as it was, and at its end it is before its first
+-- turn
 abbrev pub Leaves : Doing → Doing → ℕ → Turn → Type 0
 Leaves d e n Step = (e.command ≡ d.command) × (e.chain ≡ d.chain) × IsAfter e.command e.stage (n + 1)
 Leaves d e n (Blocked o byte) = e ≡ d
-Leaves d e n (Ends r) = (e.command ≡ d.command) × (e.chain ≡ d.chain) × (e.stage ≡ Begun)
+Leaves d e n (Ends r) = e ≡ begun d.command d.chain

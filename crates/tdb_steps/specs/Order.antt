@@ -7,7 +7,7 @@ use Rattle.tdb_steps.specs.declared.stage.WipeStage.TheVariants.{Records, FreeLi
 use Rattle.tdb_steps.specs.declared.stage.Next.{Next}
 use Rattle.tdb_steps.specs.declared.stage.Next.TheVariants.{Step, Done}
 use Rattle.tdb_steps.specs.declared.plain.Plain.{Plain}
-use Rattle.tdb_steps.specs.declared.plain.Plain.TheVariants.{Fetch, Has, Store, Delete, Wipe}
+use Rattle.tdb_steps.specs.declared.plain.Plain.TheVariants.{Fetch, Has, Store, Append, Delete, Wipe}
 
 -- a reply that doesn't say that space is wanting
 abbrev pub NotFull : Reply → Type 0
@@ -82,6 +82,7 @@ abbrev pub InOrder : Plain → Stage → Next → Type 0
 InOrder (Fetch key) stage next = LookOrder stage next
 InOrder (Has key) stage next = LookOrder stage next
 InOrder (Store key value flag) stage next = StoreOrder stage next
+InOrder (Append key value) stage next = StoreOrder stage next
 InOrder (Delete key) stage next = DeleteOrder stage next
 InOrder Wipe stage next = WipeOrder stage next
 
@@ -122,5 +123,6 @@ abbrev pub IsAfter : Plain → Stage → ℕ → Type 0
 IsAfter (Fetch key) stage n = LookAfter stage n
 IsAfter (Has key) stage n = LookAfter stage n
 IsAfter (Store key value flag) stage n = StoreAfter stage n
+IsAfter (Append key value) stage n = StoreAfter stage n
 IsAfter (Delete key) stage n = DeleteAfter stage n
 IsAfter Wipe stage n = WipeAfter stage n

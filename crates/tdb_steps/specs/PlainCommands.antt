@@ -11,14 +11,15 @@ use Rattle.tdb_law.specs.Openers.{Map}
 use Rattle.tdb_steps.specs.declared.flag.Flag.{Flag}
 use Rattle.tdb_steps.specs.declared.flag.Flag.TheVariants as Flags
 use Rattle.tdb_steps.specs.declared.plain.Plain.{Plain}
-use Rattle.tdb_steps.specs.declared.plain.Plain.TheVariants.{Fetch, Has, Store, Delete, Wipe}
-use Rattle.tdb_steps.specs.Asked.{Asked, fetches, asks, stores, deletes, wipes}
+use Rattle.tdb_steps.specs.declared.plain.Plain.TheVariants.{Fetch, Has, Store, Append, Delete, Wipe}
+use Rattle.tdb_steps.specs.Asked.{Asked, fetches, asks, stores, appends, deletes, wipes}
 
 -- the key that a command is on; a wipe is on none, and this is empty
 abbrev pub key_of : Plain → List ℕ
 key_of (Fetch key) = key
 key_of (Has key) = key
 key_of (Store key value flag) = key
+key_of (Append key value) = key
 key_of (Delete key) = key
 key_of Wipe = []
 
@@ -27,6 +28,7 @@ abbrev pub asked_of : Plain → Asked
 asked_of (Fetch key) = fetches
 asked_of (Has key) = asks
 asked_of (Store key value flag) = stores flag value
+asked_of (Append key value) = appends value
 asked_of (Delete key) = deletes
 asked_of Wipe = wipes
 
@@ -40,6 +42,7 @@ abbrev pub command_of : Plain → Law.MapCommand
 command_of (Fetch key) = Law.MapCommand.Fetch key
 command_of (Has key) = Law.MapCommand.Has key
 command_of (Store key value flag) = store_of flag key value
+command_of (Append key value) = Law.MapCommand.Append key value
 command_of (Delete key) = Law.MapCommand.Delete key
 command_of Wipe = Law.MapCommand.Wipe
 

@@ -5,8 +5,9 @@ ghost use Rattle.tdb_disk.specs.Count.{HasCause};
 ghost use Rattle.tdb_space.specs.Frame.{Looked, Wrote};
 ghost use Rattle.tdb_steps.specs.Stages.{Leads, IsIdle};
 ghost use Rattle.tdb_steps.specs.Order.{InOrder};
-ghost use Rattle.tdb_steps.specs.Machines.{IsShort, IsFit, CommandMakes};
+ghost use Rattle.tdb_steps.specs.Machines.{IsShort, IsShortWhole, IsFit, CommandMakes};
 
+use crate::append_turns::append_turn;
 use crate::deleting::delete_turn;
 use crate::looks::{fetch_turn, has_turn};
 use crate::plain::Plain;
@@ -16,24 +17,28 @@ use crate::wipe_turns::wipe_turn;
 use std::alloc::Global;
 use tdb_locks::Spots;
 use tdb_space::{Io, Space};
+use tdb_words::Bytes;
 
-/// A turn of a command without its locks.
+/// A turn of a command without its locks. `whole` has the bytes that an append has joined.
 pub(crate) fn act<S: Space>(
     alloc: Global,
     s: &mut S,
     command: &Plain,
+    whole: &mut Option<Bytes>,
     stage: Stage,
     stood_on: &Spots,
     limit: u64,
 ) -> Result<Next, Io>
     requires short { IsShort command.now }
+    requires whole { IsShortWhole whole.old }
     requires chains { 0 < (S.form s.old).chains }
     requires limit { limit ≤ 4294963200 }
-    requires fit { IsFit command.now stage (S.size s.old) (S.spare s.old) }
+    requires fit { IsFit command.now whole.old stage (S.size s.old) (S.spare s.old) }
     ensures made { IfOk result (λ next. IsTrue S.tells → S.size s.old < 2 ^ 32
-        → CommandMakes (S.form s.old) (S.image s.old) (S.image s.new) command.now stage next) }
+        → CommandMakes (S.form s.old) (S.image s.old) (S.image s.new) command.now whole.old whole.new stage next) }
     ensures order { IfOk result (InOrder command.now stage) }
-    ensures fit { IfOk result (Leads (λ then. IsFit command.now then (S.size s.new) (S.spare s.new))) }
+    ensures fit { IfOk result (Leads (λ then. IsFit command.now whole.new then (S.size s.new) (S.spare s.new))) }
+    ensures whole { IsShortWhole whole.new }
     ensures idle { IsIdle stage → Looked S.Space s.old s.new }
     ensures longer { S.size s.old ≤ S.size s.new }
     ensures wrote { Wrote S.Space s.old s.new }
@@ -50,6 +55,18 @@ pub(crate) fn act<S: Space>(
                 key.as_slice(),
                 value.as_slice(),
                 *flag,
+                stood_on,
+                limit,
+            )
+        }
+        Plain::Append { key, value } => {
+            append_turn(
+                alloc,
+                stage,
+                s,
+                key.as_slice(),
+                value.as_slice(),
+                whole,
                 stood_on,
                 limit,
             )

@@ -25,7 +25,7 @@ use std::marker::Model;
 use std::mem;
 use tdb_locks::{Held, LockRefusal, Locks, Reply, Spots, Turn};
 use tdb_space::{Io, Space};
-use tdb_words::{Header, chain_of, hash_of};
+use tdb_words::{Bytes, Header, chain_of, hash_of};
 
 /// A plain command that is done turn by turn.
 ///
@@ -35,6 +35,8 @@ pub struct Machine {
     command: Plain,
     chain: u32,
     stage: Stage,
+    /// The bytes that an append has joined.
+    whole: Option<Bytes>,
 }
 
 impl Model for Machine {
@@ -42,7 +44,7 @@ impl Model for Machine {
 
     ghost Value = { Doing };
 
-    ghost view = { λ m. record { command = m.command; chain = m.chain; stage = m.stage } };
+    ghost view = { λ m. record { command = m.command; chain = m.chain; stage = m.stage; whole = m.whole } };
 }
 
 impl Machine {
@@ -57,6 +59,7 @@ impl Machine {
             command,
             chain,
             stage: Stage::Begun,
+            whole: None,
         }
     }
 
@@ -66,6 +69,7 @@ impl Machine {
             command: _,
             chain: _,
             stage,
+            whole: _,
         } = self;
         stage.end();
     }
@@ -117,6 +121,7 @@ impl Machine {
             Err(LockRefusal::Conflict { owner, byte, .. }) => Turn::Blocked { owner, byte },
             Err(LockRefusal::Memory) => {
                 let_go(locks, owner, held, rows);
+                self.whole = None;
                 mem::replace(&mut self.stage, Stage::Begun).end();
                 Turn::Done(Reply::Memory)
             }
@@ -152,8 +157,10 @@ impl Machine {
         ensures bytes_read { S.bytes_read s.old ≤ S.bytes_read s.new }
     {
         let stage = mem::replace(&mut self.stage, Stage::Begun);
-        match act(alloc, s, &self.command, stage, stood_on, limit)? {
+        let mut whole = self.whole.take();
+        match act(alloc, s, &self.command, &mut whole, stage, stood_on, limit)? {
             Next::Step(next) => {
+                self.whole = whole;
                 mem::replace(&mut self.stage, next).end();
                 Ok(Turn::Step)
             }

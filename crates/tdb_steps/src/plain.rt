@@ -23,6 +23,11 @@ pub enum Plain {
         value: Bytes,
         flag: Flag,
     },
+    /// Puts a value behind the one that a key has, or stores it where the key isn't there.
+    Append {
+        key: Bytes,
+        value: Bytes,
+    },
     /// Takes a key out.
     Delete {
         key: Bytes,
@@ -40,6 +45,7 @@ impl Plain {
             Plain::Fetch { key }
             | Plain::Has { key }
             | Plain::Store { key, .. }
+            | Plain::Append { key, .. }
             | Plain::Delete { key } => key.as_slice(),
             Plain::Wipe => &[],
         }

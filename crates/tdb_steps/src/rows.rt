@@ -77,7 +77,7 @@ impl Rows {
                 },
                 second: None,
             },
-            Plain::Store { .. } | Plain::Delete { .. } => Rows {
+            Plain::Store { .. } | Plain::Append { .. } | Plain::Delete { .. } => Rows {
                 first: LockRow {
                     turn: 0,
                     region: Region::Chain(chain),

@@ -69,6 +69,7 @@ impl Stage {
                 Plain::Fetch { .. }
                 | Plain::Has { .. }
                 | Plain::Store { .. }
+                | Plain::Append { .. }
                 | Plain::Delete { .. } => Stage::Chained,
             },
             Stage::Looked(found) => Stage::Listed(found),

@@ -3,7 +3,7 @@ use Rattle.std.proofs.Common.{◌<◌, sym, subst}
 use Rattle.std.specs.Prelude.{◌^◌, IsTrue, IfOk}
 use Rattle.std.proofs.lemmas.Result.{IfOk-weaker}
 use Rattle.tdb_steps.specs.Asked.{fetches, asks, stores, deletes}
-use Rattle.tdb_steps.specs.Turns.{Makes}
+use Rattle.tdb_steps.specs.Turns.{Makes, AppendMakes}
 use Rattle.tdb_steps.specs.Machines.{CommandMakes}
 use Rattle.tdb_steps.proofs.acting.act.Goals as goal
 
@@ -13,7 +13,8 @@ returns-in-Fetch-clause-made g c =
     let a = g.S.Space.image c.args.s.now in
     let b = g.S.Space.image c.fetch_turn.new.s in
     let stage = c.args.stage in
-    subst (λ x. IfOk c.fetch_turn.result (λ next. IsTrue g.S.Space.tells → g.S.Space.size c.args.s.now < 2 ^ 32 → CommandMakes f a b x stage next)) (sym c.in-Fetch.is)
+    let whole = c.args.whole.now in
+    subst (λ x. IfOk c.fetch_turn.result (λ next. IsTrue g.S.Space.tells → g.S.Space.size c.args.s.now < 2 ^ 32 → CommandMakes f a b x whole whole stage next)) (sym c.in-Fetch.is)
     (IfOk-weaker c.fetch_turn.result (λ next. IsTrue g.S.Space.tells → Makes f a b c.as_slice.result.now fetches stage next)
     (λ next. IsTrue g.S.Space.tells → g.S.Space.size c.args.s.now < 2 ^ 32 → Makes f a b c.in-Fetch.key fetches stage next)
     (λ next made told small. subst (λ k. Makes f a b k fetches stage next) c.as_slice.ensures (made told)) c.fetch_turn.ensures.made)
@@ -24,7 +25,8 @@ returns-in-Has-clause-made g c =
     let a = g.S.Space.image c.args.s.now in
     let b = g.S.Space.image c.has_turn.new.s in
     let stage = c.args.stage in
-    subst (λ x. IfOk c.has_turn.result (λ next. IsTrue g.S.Space.tells → g.S.Space.size c.args.s.now < 2 ^ 32 → CommandMakes f a b x stage next)) (sym c.in-Has.is)
+    let whole = c.args.whole.now in
+    subst (λ x. IfOk c.has_turn.result (λ next. IsTrue g.S.Space.tells → g.S.Space.size c.args.s.now < 2 ^ 32 → CommandMakes f a b x whole whole stage next)) (sym c.in-Has.is)
     (IfOk-weaker c.has_turn.result (λ next. IsTrue g.S.Space.tells → Makes f a b c.as_slice-in-Has.result.now asks stage next)
     (λ next. IsTrue g.S.Space.tells → g.S.Space.size c.args.s.now < 2 ^ 32 → Makes f a b c.in-Has.key asks stage next)
     (λ next made told small. subst (λ k. Makes f a b k asks stage next) c.as_slice-in-Has.ensures (made told)) c.has_turn.ensures.made)
@@ -35,11 +37,26 @@ returns-in-Store-clause-made g c =
     let a = g.S.Space.image c.args.s.now in
     let b = g.S.Space.image c.store_turn.new.s in
     let stage = c.args.stage in
-    subst (λ x. IfOk c.store_turn.result (λ next. IsTrue g.S.Space.tells → g.S.Space.size c.args.s.now < 2 ^ 32 → CommandMakes f a b x stage next)) (sym c.in-Store.is)
+    let whole = c.args.whole.now in
+    subst (λ x. IfOk c.store_turn.result (λ next. IsTrue g.S.Space.tells → g.S.Space.size c.args.s.now < 2 ^ 32 → CommandMakes f a b x whole whole stage next)) (sym c.in-Store.is)
     (IfOk-weaker c.store_turn.result (λ next. IsTrue g.S.Space.tells → g.S.Space.size c.args.s.now < 2 ^ 32 → Makes f a b c.as_slice-in-Store.result.now (stores c.in-Store.flag c.as_slice-in-Store-2.result.now) stage next)
     (λ next. IsTrue g.S.Space.tells → g.S.Space.size c.args.s.now < 2 ^ 32 → Makes f a b c.in-Store.key (stores c.in-Store.flag c.in-Store.value) stage next)
     (λ next made told small. subst (λ v. Makes f a b c.in-Store.key (stores c.in-Store.flag v) stage next) c.as_slice-in-Store-2.ensures (subst (λ k. Makes f a b k (stores c.in-Store.flag c.as_slice-in-Store-2.result.now) stage next) c.as_slice-in-Store.ensures (made told small)))
     c.store_turn.ensures.made)
+
+pub returns-in-Append-clause-made : goal.returns-in-Append-clause-made
+returns-in-Append-clause-made g c =
+    let f = g.S.Space.form c.args.s.now in
+    let a = g.S.Space.image c.args.s.now in
+    let b = g.S.Space.image c.append_turn.new.s in
+    let stage = c.args.stage in
+    let was = c.args.whole.now in
+    let now = c.append_turn.new.whole in
+    subst (λ x. IfOk c.append_turn.result (λ next. IsTrue g.S.Space.tells → g.S.Space.size c.args.s.now < 2 ^ 32 → CommandMakes f a b x was now stage next)) (sym c.in-Append.is)
+    (IfOk-weaker c.append_turn.result (λ next. IsTrue g.S.Space.tells → g.S.Space.size c.args.s.now < 2 ^ 32 → AppendMakes f a b c.as_slice-in-Append.result.now c.as_slice-in-Append-2.result.now was now stage next)
+    (λ next. IsTrue g.S.Space.tells → g.S.Space.size c.args.s.now < 2 ^ 32 → AppendMakes f a b c.in-Append.key c.in-Append.value was now stage next)
+    (λ next made told small. subst (λ v. AppendMakes f a b c.in-Append.key v was now stage next) c.as_slice-in-Append-2.ensures (subst (λ k. AppendMakes f a b k c.as_slice-in-Append-2.result.now was now stage next) c.as_slice-in-Append.ensures (made told small)))
+    c.append_turn.ensures.made)
 
 pub returns-in-Delete-clause-made : goal.returns-in-Delete-clause-made
 returns-in-Delete-clause-made g c =
@@ -47,12 +64,13 @@ returns-in-Delete-clause-made g c =
     let a = g.S.Space.image c.args.s.now in
     let b = g.S.Space.image c.delete_turn.new.s in
     let stage = c.args.stage in
-    subst (λ x. IfOk c.delete_turn.result (λ next. IsTrue g.S.Space.tells → g.S.Space.size c.args.s.now < 2 ^ 32 → CommandMakes f a b x stage next)) (sym c.in-Delete.is)
+    let whole = c.args.whole.now in
+    subst (λ x. IfOk c.delete_turn.result (λ next. IsTrue g.S.Space.tells → g.S.Space.size c.args.s.now < 2 ^ 32 → CommandMakes f a b x whole whole stage next)) (sym c.in-Delete.is)
     (IfOk-weaker c.delete_turn.result (λ next. IsTrue g.S.Space.tells → g.S.Space.size c.args.s.now < 2 ^ 32 → Makes f a b c.as_slice-in-Delete.result.now deletes stage next)
     (λ next. IsTrue g.S.Space.tells → g.S.Space.size c.args.s.now < 2 ^ 32 → Makes f a b c.in-Delete.key deletes stage next)
     (λ next made told small. subst (λ k. Makes f a b k deletes stage next) c.as_slice-in-Delete.ensures (made told small)) c.delete_turn.ensures.made)
 
 pub returns-in-Wipe-clause-made : goal.returns-in-Wipe-clause-made
 returns-in-Wipe-clause-made g c =
-    subst (λ x. IfOk c.wipe_turn.result (λ next. IsTrue g.S.Space.tells → g.S.Space.size c.args.s.now < 2 ^ 32 → CommandMakes (g.S.Space.form c.args.s.now) (g.S.Space.image c.args.s.now) (g.S.Space.image c.wipe_turn.new.s) x c.args.stage next))
+    subst (λ x. IfOk c.wipe_turn.result (λ next. IsTrue g.S.Space.tells → g.S.Space.size c.args.s.now < 2 ^ 32 → CommandMakes (g.S.Space.form c.args.s.now) (g.S.Space.image c.args.s.now) (g.S.Space.image c.wipe_turn.new.s) x c.args.whole.now c.args.whole.now c.args.stage next))
     (sym c.in-Wipe.is) c.wipe_turn.ensures.made
