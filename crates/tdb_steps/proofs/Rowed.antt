@@ -169,6 +169,13 @@ row_of (Append k v) n stage next is order = store_row (command_of (Append k v)) 
 row_of (Delete k) n stage next is order = delete_row (command_of (Delete k)) n stage next refl (λ k r. refl) is order
 row_of Wipe n stage next is order = wipe_row (command_of Wipe) n stage next refl (λ r. refl) is order
 
+-- so it is of a machine whose stage was taken out for the turn
+pub act_row : (command : Plain) (chain n : ℕ) (stage taken : Stage) (whole : Option (List ℕ)) (led next : Next) (d : Doing) → d ≡ record { command = command; chain = chain; stage = stage; whole = whole } → taken ≡ stage
+    → InOrder command taken led → led ≡ next → IsAfter d.command d.stage n → MapRow (command_of d.command) n (next_turn next)
+act_row command chain n stage taken whole led next d before out order on =
+    subst (λ x. IsAfter x.command x.stage n → MapRow (command_of x.command) n (next_turn next)) (sym before)
+    (λ is. row_of command n stage next is (subst (λ x. InOrder command x next) out (subst (InOrder command taken) on order)))
+
 -- a turn that takes a lock leads on in the order of the command
 lock_order : (command : Plain) (n : ℕ) (stage : Stage) → LockStage stage → IsAfter command stage n → InOrder command stage (Next.Step (locked_stage command stage))
 lock_order command n stage (lock_first at) is = subst (λ x. InOrder command x (Next.Step (locked_stage command x))) (sym at) (begun_order command)

@@ -24,15 +24,15 @@ use Rattle.tdb_steps.specs.declared.rows.Region.TheVariants.{FreeList}
 use Rattle.tdb_locks.specs.declared.kind.Kind.TheVariants.{Write}
 use Rattle.tdb_law.specs.Rows.{Lock}
 use Rattle.std.proofs.lemmas.Bool.{ne_eqb}
-use Rattle.tdb_steps.specs.Stages.{hands_in, MayBeOut, first_stage, locked_stage}
+use Rattle.tdb_steps.specs.Stages.{hands_in, MayBeOut, IsIdle, first_stage, locked_stage}
 use Rattle.tdb_steps.specs.Asked.{Asked}
 use Rattle.tdb_steps.specs.Turns.{Makes}
 use Rattle.tdb_steps.specs.PlainCommands.{asked_of, command_of, reply_of, turn_of}
 use Rattle.tdb_steps.specs.LockRows.{strength_of, locks_in, rows_of, reader_rows, writer_rows, wipe_rows, row_at}
 use Rattle.tdb_steps.specs.Holdings.{KeptBeside, HoldsBefore}
 use Rattle.tdb_steps.specs.Order.{InOrder, LookOrder, StoreOrder, DeleteOrder, WipeOrder, LookAfter, StoreAfter, DeleteAfter, WipeAfter, IsAfter}
-use Rattle.tdb_steps.specs.Machines.{Doing, begun, DoingKnows, CommandMakes, IsOn, MachineTurned}
-use Rattle.tdb_steps.specs.LockTurns.{LockLed}
+use Rattle.tdb_steps.specs.Machines.{Doing, begun, DoingKnows, CommandMakes, CommandRightly, IsOn, MachineTurned}
+use Rattle.tdb_steps.specs.LockTurns.{LockLed, ActRightly}
 use Rattle.tdb_locks.specs.declared.turn.Turn.{Turn}
 use Rattle.tdb_locks.specs.declared.turn.Turn.TheVariants as Turns
 use Rattle.tdb_chain.specs.declared.place.Place.{Place}
@@ -321,6 +321,17 @@ module _ (f : Form) (a b : List ℕ) (command : Plain) (chain n : ℕ) (stage ta
       (subst (λ y. From (record { command = command; chain = chain; stage = stage; whole = was }) y (Law.Turn.Ends (reply_of r))) (sym now)
       (λ is may A K. ended_so f a b command chain n stage was whole others r (turned_so (Next.Done r) on is may A K)))
 
+-- so does such a turn of a machine go on rightly
+module _ (f : Form) (a b : List ℕ) (command : Plain) (chain : ℕ) (stage taken : Stage) (was out : Option (List ℕ)) (limit : ℕ) (stood_on : List ℕ) (led : Next) (d e : Doing) (before : d ≡ record { command = command; chain = chain; stage = stage; whole = was }) (stage_out : taken ≡ stage) (whole_out : out ≡ was) (rightly : CommandRightly f a b command out limit stood_on taken led) where
+  right_so : (next : Next) → led ≡ next → CommandRightly f a b command was limit stood_on stage next
+  right_so next on = subst (λ x. CommandRightly f a b command was limit stood_on x next) stage_out (subst (λ w. CommandRightly f a b command w limit stood_on taken next) whole_out (subst (CommandRightly f a b command out limit stood_on taken) on rightly))
+
+  pub rightly_stepped : (onto : Stage) → led ≡ Next.Step onto → e.stage ≡ onto → ActRightly f a b d e limit stood_on Turns.Step
+  rightly_stepped onto on now = subst (λ x. ActRightly f a b x e limit stood_on Turns.Step) (sym before) (right_so (Next.Step e.stage) (on ∙ ap Next.Step (sym now)))
+
+  pub rightly_ended : (r : Reply) → led ≡ Next.Done r → ActRightly f a b d e limit stood_on (Turns.Done r)
+  rightly_ended r on = subst (λ x. ActRightly f a b x e limit stood_on (Turns.Done r)) (sym before) (right_so (Next.Done r) on)
+
 -- the stages from which a turn takes a lock
 pub data LockStage (stage : Stage) : Type 0 where
   lock_first : stage ≡ Stage.Begun → LockStage stage
@@ -337,6 +348,12 @@ lock_stage rows (Stage.Changed hand) r at = cc
 lock_stage rows (Stage.Wiping Wipes.Records) r at = lock_both refl
 lock_stage rows (Stage.Wiping Wipes.FreeList) r at = cc
 lock_stage rows Stage.Ending r at = cc
+
+-- these turns are idle
+pub locks_idle : (stage : Stage) → LockStage stage → IsIdle stage
+locks_idle stage (lock_first at) = subst IsIdle (sym at) tt
+locks_idle stage (lock_second found at) = subst IsIdle (sym at) tt
+locks_idle stage (lock_both at) = subst IsIdle (sym at) tt
 
 -- before them nothing is changed
 begun_unchanged : (command : Plain) (n : ℕ) → IsAfter command Stage.Begun n → map_changed (command_of command) n ≡ false

@@ -9,9 +9,11 @@ use Rattle.tdb_locks.specs.declared.turn.Turn.{Turn}
 use Rattle.tdb_locks.specs.declared.turn.Turn.TheVariants.{Step, Blocked, Done}
 use Rattle.tdb_steps.specs.declared.rows.LockRow.{LockRow}
 use Rattle.tdb_steps.specs.declared.rows.Rows.{Rows}
+use Rattle.tdb_space.specs.Form.{Form}
 use Rattle.tdb_steps.specs.Stages.{locked_stage}
+use Rattle.tdb_steps.specs.declared.stage.Next.{Next}
 use Rattle.tdb_steps.specs.LockRows.{start_of, end_of, is_covered, AreLetGo}
-use Rattle.tdb_steps.specs.Machines.{Doing, begun}
+use Rattle.tdb_steps.specs.Machines.{Doing, begun, CommandRightly}
 
 -- A turn that takes a lock of a row: the lock is taken or was covered, and the stage is the next; or the turn is blocked by the first
 -- conflict, and nothing changes; or memory is wanting, and all is let go.
@@ -29,3 +31,9 @@ abbrev pub ActLed : Doing → Doing → Turn → Type 0
 ActLed d e Step = Unit {0}
 ActLed d e (Blocked other byte) = ⊥
 ActLed d e (Done reply) = e ≡ begun d.command d.chain
+
+-- how a turn that takes no lock leads on, or ends, from image a to image b: as its command's turns go
+abbrev pub ActRightly : Form → List ℕ → List ℕ → Doing → Doing → ℕ → List ℕ → Turn → Type 0
+ActRightly f a b d e limit stood_on Step = CommandRightly f a b d.command d.whole limit stood_on d.stage (Next.Step e.stage)
+ActRightly f a b d e limit stood_on (Blocked other byte) = ⊥
+ActRightly f a b d e limit stood_on (Done reply) = CommandRightly f a b d.command d.whole limit stood_on d.stage (Next.Done reply)

@@ -2,6 +2,7 @@
 use Rattle.std.specs.Prelude.{ℕ, ◌+◌, ◌^◌, ◌≡◌, ◌≤◌, ◌<◌, ◌⊎◌, List, ◌++◌, length, false, true, Option, None, IfSome, unwrap_or}
 use Rattle.tdb_space.specs.Form.{Form}
 use Rattle.tdb_space.specs.Pairs.{home}
+use Rattle.tdb_space.specs.NewRecord.{rec_len_for}
 use Rattle.tdb_space.specs.Extents.{HandPair}
 use Rattle.tdb_space.specs.Accepted.{AcceptWith}
 use Rattle.tdb_space.specs.Spare.{Spare}
@@ -18,7 +19,7 @@ use Rattle.tdb_steps.specs.declared.plain.Plain.TheVariants.{Fetch, Has, Store, 
 use Rattle.tdb_steps.specs.declared.stage.Stage.{Stage}
 use Rattle.tdb_steps.specs.declared.stage.Stage.TheVariants.{Begun}
 use Rattle.tdb_steps.specs.declared.stage.Next.{Next}
-use Rattle.tdb_steps.specs.Turns.{Makes, AppendMakes, WipeMakes}
+use Rattle.tdb_steps.specs.Turns.{Makes, AppendMakes, WipeMakes, StoresRightly, AppendsRightly, DeletesRightly, WipesRightly, LooksRightly}
 use Rattle.tdb_steps.specs.Stages.{hands_in, Knows, IsJoined, OfLook, OfStore, OfDelete, OfWipe}
 use Rattle.tdb_steps.specs.PlainCommands.{key_of, asked_of, command_of, IsMapOf}
 use Rattle.tdb_steps.specs.Order.{IsAfter}
@@ -81,6 +82,17 @@ abbrev pub CommandMakes : Form → List ℕ → List ℕ → Plain → Option (L
 CommandMakes f a b (Append key value) was now old next = AppendMakes f a b key value was now old next
 CommandMakes f a b Wipe was now old next = WipeMakes f a b old next
 CommandMakes f a b command was now old next = Makes f a b (key_of command) (asked_of command) old next
+
+-- How a turn of a command goes on: a store or an append updates in place exactly where the value fits, and takes a record as the
+-- free list gives it, or replies Full exactly where it has none that is long enough and the file can't grow up to the limit; a
+-- record is marked as dead exactly where a cursor stands on it.
+abbrev pub CommandRightly : Form → List ℕ → List ℕ → Plain → Option (List ℕ) → ℕ → List ℕ → Stage → Next → Type 0
+CommandRightly f a b (Store key value flag) whole limit stood_on stage next =
+    StoresRightly f a b key (length value) (rec_len_for (length key) (length value)) limit stood_on stage next
+CommandRightly f a b (Append key value) whole limit stood_on stage next = AppendsRightly f a b key value whole limit stood_on stage next
+CommandRightly f a b (Delete key) whole limit stood_on stage next = DeletesRightly f a b key stood_on stage next
+CommandRightly f a b Wipe whole limit stood_on stage next = WipesRightly f a b stage next
+CommandRightly f a b command whole limit stood_on stage next = LooksRightly stage next
 
 -- the chains that a command may change: that of its key, and a wipe any
 abbrev pub IsOn : Form → Plain → ℕ → Type 0

@@ -7,6 +7,7 @@ use Rattle.tdb_space.specs.Extents.{HandPair}
 use Rattle.tdb_space.specs.Accepted.{AcceptWith}
 use Rattle.tdb_space.specs.Stays.{ChangesOnly, ChainStays}
 use Rattle.tdb_space.specs.Chain.{free_of}
+use Rattle.tdb_space.specs.NewRecord.{rec_len_for}
 use Rattle.tdb_free.specs.FreeList.{GivenBack}
 use Rattle.tdb_free.specs.Growth.{TakenBy, NoRoom}
 use Rattle.tdb_chain.specs.declared.place.Place.{Place}
@@ -18,7 +19,7 @@ use Rattle.tdb_steps.specs.declared.stage.Stage.TheVariants.{Begun, Chained, Loo
 use Rattle.tdb_steps.specs.declared.stage.WipeStage.TheVariants.{FreeList}
 use Rattle.tdb_steps.specs.declared.stage.Next.{Next}
 use Rattle.tdb_steps.specs.declared.stage.Next.TheVariants.{Step, Done}
-use Rattle.tdb_steps.specs.Asked.{Asked, appends, wipes}
+use Rattle.tdb_steps.specs.Asked.{Asked, appends, joined, wipes}
 use Rattle.tdb_steps.specs.Wiped.{Wiped}
 use Rattle.tdb_steps.specs.Stages.{hands_in, hands_after, MayBeOut, HoldsChain, Knows, KnowsAfter, IsJoined, JoinedAfter, is_changed, is_changed_after, IsEnd}
 
@@ -125,6 +126,11 @@ StoresRightly f a b key value_len rec_len limit stood_on (Taken found hand) next
 StoresRightly f a b key value_len rec_len limit stood_on (Changed hand) next = GivesRightly f a b hand next
 StoresRightly f a b key value_len rec_len limit stood_on (Wiping stage) next = ⊥
 StoresRightly f a b key value_len rec_len limit stood_on Ending next = next ≡ Done Reply.Ok
+
+-- The turns of an append that has joined these bytes, or none: those of a store of what the key has, and the rest behind it.
+abbrev pub AppendsRightly : Form → List ℕ → List ℕ → List ℕ → List ℕ → Option (List ℕ) → ℕ → List ℕ → Stage → Next → Type 0
+AppendsRightly f a b key more whole limit stood_on stage next = IsJoined f a key more whole stage
+    → StoresRightly f a b key (length (joined (map_of f a key) more)) (rec_len_for (length key) (length (joined (map_of f a key) more))) limit stood_on stage next
 
 -- the turns of a command that only looks: after the lock of the chain the look, which ends it
 abbrev pub LooksRightly : Stage → Next → Type 0

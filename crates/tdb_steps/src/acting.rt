@@ -5,7 +5,7 @@ ghost use Rattle.tdb_disk.specs.Count.{HasCause};
 ghost use Rattle.tdb_space.specs.Frame.{Looked, Wrote};
 ghost use Rattle.tdb_steps.specs.Stages.{Leads, IsIdle};
 ghost use Rattle.tdb_steps.specs.Order.{InOrder};
-ghost use Rattle.tdb_steps.specs.Machines.{IsShort, IsShortWhole, IsFit, CommandMakes};
+ghost use Rattle.tdb_steps.specs.Machines.{IsShort, IsShortWhole, IsFit, CommandMakes, CommandRightly};
 
 use crate::append_turns::append_turn;
 use crate::deleting::delete_turn;
@@ -36,6 +36,8 @@ pub(crate) fn act<S: Space>(
     requires fit { IsFit command.now whole.old stage (S.size s.old) (S.spare s.old) }
     ensures made { IfOk result (λ next. IsTrue S.tells → S.size s.old < 2 ^ 32
         → CommandMakes (S.form s.old) (S.image s.old) (S.image s.new) command.now whole.old whole.new stage next) }
+    ensures rightly { IfOk result (λ next. IsTrue S.tells → S.size s.old < 2 ^ 32
+        → CommandRightly (S.form s.old) (S.image s.old) (S.image s.new) command.now whole.old limit stood_on.now stage next) }
     ensures order { IfOk result (InOrder command.now stage) }
     ensures fit { IfOk result (Leads (λ then. IsFit command.now whole.new then (S.size s.new) (S.spare s.new))) }
     ensures whole { IsShortWhole whole.new }

@@ -6,7 +6,7 @@ ghost use Rattle.tdb_space.specs.Frame.{Looked, Wrote};
 ghost use Rattle.tdb_space.specs.NewRecord.{rec_len_for};
 ghost use Rattle.tdb_steps.specs.Asked.{stores};
 ghost use Rattle.tdb_steps.specs.Stages.{OfStore, Leads, IsIdle};
-ghost use Rattle.tdb_steps.specs.Turns.{Makes, AppendMakes, StoresRightly};
+ghost use Rattle.tdb_steps.specs.Turns.{Makes, AppendMakes, StoresRightly, AppendsRightly};
 ghost use Rattle.tdb_steps.specs.Order.{StoreOrder};
 ghost use Rattle.tdb_steps.specs.declared.flag.Flag.TheVariants as Flags;
 ghost use Rattle.tdb_steps.specs.declared.stage.Stage.TheVariants as Stage;
@@ -87,7 +87,7 @@ pub fn append_turn<S: Space>(
     ensures made { IfOk result (λ next. IsTrue S.tells → S.size s.old < 2 ^ 32
         → AppendMakes (S.form s.old) (S.image s.old) (S.image s.new) key.now more.now whole.old whole.new stage next) }
     ensures rightly { IfOk result (λ next. IsTrue S.tells → S.size s.old < 2 ^ 32
-        → StoresRightly (S.form s.old) (S.image s.old) (S.image s.new) key.now (length (unwrap_or whole.new more.now)) (rec_len_for (length key.now) (length (unwrap_or whole.new more.now))) limit stood_on.now stage next) }
+        → AppendsRightly (S.form s.old) (S.image s.old) (S.image s.new) key.now more.now whole.old limit stood_on.now stage next) }
     ensures order { IfOk result (StoreOrder stage) }
     ensures leads { IfOk result (Leads (λ then. OfStore (length key.now + length (unwrap_or whole.new more.now)) then (S.size s.new) (S.spare s.new))) }
     ensures short { length (unwrap_or whole.new more.now) < 2 ^ 33 }

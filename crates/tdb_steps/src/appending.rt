@@ -1,6 +1,6 @@
 // The turn of an append that looks its key up.
 
-ghost use Rattle.std.specs.Prelude.{◌≡◌, ◌≤◌, ◌<◌, ◌+◌, ◌^◌, ℕ, List, IsTrue, IfOk, IfSome, Some, length, unwrap_or};
+ghost use Rattle.std.specs.Prelude.{◌≡◌, ◌≤◌, ◌<◌, ◌+◌, ◌^◌, ◌⊎◌, ℕ, List, IsTrue, IfOk, IfSome, Some, length, unwrap_or};
 ghost use Rattle.tdb_disk.specs.Count.{HasCause};
 ghost use Rattle.tdb_space.specs.Frame.{Wrote, Looked};
 ghost use Rattle.tdb_space.specs.Extents.{HandPair};
@@ -9,10 +9,12 @@ ghost use Rattle.tdb_space.specs.Pairs.{map_of};
 ghost use Rattle.tdb_words.specs.declared.record.TheConstants.{USED};
 ghost use Rattle.tdb_chain.specs.Place.{StandsWithin, HoldsKey};
 ghost use Rattle.tdb_steps.specs.Asked.{appends, joined};
-ghost use Rattle.tdb_steps.specs.Stages.{OfStore, Leads, IsStep};
+ghost use Rattle.tdb_steps.specs.Stages.{OfStore, Leads};
 ghost use Rattle.tdb_steps.specs.Turns.{Makes, TurnMade, UpdatesRightly, Finds};
 ghost use Rattle.tdb_steps.specs.Order.{LooksOn};
 ghost use Rattle.tdb_steps.specs.declared.stage.Stage.TheVariants as Stage;
+ghost use Rattle.tdb_steps.specs.declared.stage.Next.TheVariants as Next;
+ghost use Rattle.tdb_locks.specs.declared.turn.Reply.TheVariants as Reply;
 
 use crate::looking::update_found;
 use crate::stage::{Next, Stage};
@@ -65,8 +67,8 @@ pub fn look_to_append<S: Space>(
     requires more { length more.now < 2 ^ 32 }
     requires chains { 0 < (S.form s.old).chains }
     ensures made { IfOk result (λ next. IsTrue S.tells → Makes (S.form s.old) (S.image s.old) (S.image s.new) key.now (appends more.now) Stage.Chained next) }
-    ensures joined { IfOk result (λ next. IsTrue S.tells → IsStep next → (hands : List HandPair) → AcceptWith (S.form s.old) (S.image s.old) hands
-        → unwrap_or whole.new more.now ≡ joined (map_of (S.form s.old) (S.image s.old) key.now) more.now) }
+    ensures joined { IfOk result (λ next. IsTrue S.tells → (hands : List HandPair) → AcceptWith (S.form s.old) (S.image s.old) hands
+        → (next ≡ Next.Done Reply.Memory) ⊎ (unwrap_or whole.new more.now ≡ joined (map_of (S.form s.old) (S.image s.old) key.now) more.now)) }
     ensures rightly { IfOk result (λ next. IsTrue S.tells → Finds (S.form s.old) (S.image s.old) key.now (λ place. UpdatesRightly (length (unwrap_or whole.new more.now)) place next)) }
     ensures order { IfOk result LooksOn }
     ensures short { length (unwrap_or whole.new more.now) < 2 ^ 33 }

@@ -13,7 +13,7 @@ ghost use Rattle.tdb_steps.specs.PlainCommands.{key_of, command_of, turn_of};
 ghost use Rattle.tdb_steps.specs.LockRows.{rows_of, row_at, locks_in, AllStandAlone, AreLetGo};
 ghost use Rattle.tdb_steps.specs.Holdings.{HoldsBefore, LocksTurned};
 ghost use Rattle.tdb_steps.specs.Machines.{begun, IsShort, Fits, DoingKnows, MachineTurned, MapRow, Leaves};
-ghost use Rattle.tdb_steps.specs.LockTurns.{LockLed, ActLed};
+ghost use Rattle.tdb_steps.specs.LockTurns.{LockLed, ActLed, ActRightly};
 
 use crate::acting::act;
 use crate::locking::{let_go, take_lock};
@@ -130,8 +130,9 @@ impl Machine {
 
     /// A turn that takes no lock, in a file that may grow to `limit` bytes, where cursors stand on the records at `stood_on`.
     ///
-    /// It is a step, or the reply: then the locks are still held, and the machine is before its first turn. `Io` where the disk
-    /// failed: then the command has given up the record that it held.
+    /// It is a step, or the reply: then the locks are still held, and the machine is before its first turn. `Full` is the reply of a
+    /// store and of an append exactly where no free record is long enough and the file can't grow so far, and it says how long the
+    /// file is and how many bytes were needed. `Io` where the disk failed: then the command has given up the record that it held.
     pub fn act_turn<S: Space>(
         &mut self,
         alloc: Global,
@@ -146,6 +147,8 @@ impl Machine {
         ensures made { IfOk result (λ turn. IsTrue S.tells → S.size s.old < 2 ^ 32 → (n : ℕ) (others : List HandPair) → IsAfter self.old.command self.old.stage n
             → MayBeOut self.old.stage others → AcceptWith (S.form s.old) (S.image s.old) (hands_in self.old.stage ++ others) → DoingKnows (S.form s.old) (S.image s.old) self.old
             → MachineTurned (S.form s.old) (S.image s.old) (S.image s.new) self.old self.new n (turn_of turn) others) }
+        ensures rightly { IfOk result (λ turn. IsTrue S.tells → S.size s.old < 2 ^ 32 → (IsIdle self.old.stage → ⊥)
+            → ActRightly (S.form s.old) (S.image s.old) (S.image s.new) self.old self.new limit stood_on.now turn) }
         ensures row { IfOk result (λ turn. (n : ℕ) → IsAfter self.old.command self.old.stage n → MapRow (command_of self.old.command) n (turn_of turn)) }
         ensures leaves { IfOk result (λ turn. (n : ℕ) → IsAfter self.old.command self.old.stage n → Leaves self.old self.new n (turn_of turn)) }
         ensures fits { IfOk result (λ turn. Fits self.new (S.size s.new) (S.spare s.new)) }
@@ -182,7 +185,8 @@ impl Machine {
     /// A turn takes a lock of the command's row, or looks or changes the file. `Blocked` where another opener's lock conflicts: nothing
     /// changes then, and the next turn tries the same again. A lock that the explicit ones cover is neither taken nor let go, and its
     /// turn is a step all the same. With its reply the command lets go of what it took, for which it asks for no memory. The reply is
-    /// `Memory` where that is wanting, before any change. `Io` where the disk failed: then the command has given up the record that it
+    /// `Memory` where that is wanting, before any change, and `Full` exactly where no free record is long enough for the value and the
+    /// file can't grow up to the limit. `Io` where the disk failed: then the command has given up the record that it
     /// held, and it keeps its locks. After a reply or `Io` the machine is before its first turn.
     ///
     /// A wipe is on no key: once all records are locked it may change any chain. Where it has both its locks, no hand of another command
@@ -206,6 +210,8 @@ impl Machine {
         ensures made { IfOk result (λ turn. IsTrue S.tells → S.size s.old < 2 ^ 32 → (n : ℕ) (others : List HandPair) → IsAfter self.old.command self.old.stage n
             → MayBeOut self.old.stage others → AcceptWith (S.form s.old) (S.image s.old) (hands_in self.old.stage ++ others) → DoingKnows (S.form s.old) (S.image s.old) self.old
             → MachineTurned (S.form s.old) (S.image s.old) (S.image s.new) self.old self.new n (turn_of turn) others) }
+        ensures rightly { IfOk result (λ turn. IsTrue S.tells → S.size s.old < 2 ^ 32 → (IsIdle self.old.stage → ⊥)
+            → ActRightly (S.form s.old) (S.image s.old) (S.image s.new) self.old self.new limit stood_on.now turn) }
         ensures row { IfOk result (λ turn. (n : ℕ) → IsAfter self.old.command self.old.stage n → MapRow (command_of self.old.command) n (turn_of turn)) }
         ensures leaves { IfOk result (λ turn. (n : ℕ) → IsAfter self.old.command self.old.stage n → Leaves self.old self.new n (turn_of turn)) }
         ensures locks { IfOk result (λ turn. (n : ℕ) (kept : ℕ → ℕ) → IsAfter self.old.command self.old.stage n

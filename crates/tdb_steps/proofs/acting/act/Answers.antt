@@ -1,10 +1,11 @@
 -- A turn of a command is that of its kind.
-use Rattle.std.proofs.Common.{◌<◌, sym, subst}
+use Rattle.std.proofs.Common.{◌<◌, length, sym, subst}
 use Rattle.std.specs.Prelude.{◌^◌, IsTrue, IfOk}
 use Rattle.std.proofs.lemmas.Result.{IfOk-weaker}
+use Rattle.tdb_space.specs.NewRecord.{rec_len_for}
 use Rattle.tdb_steps.specs.Asked.{fetches, asks, stores, deletes}
-use Rattle.tdb_steps.specs.Turns.{Makes, AppendMakes}
-use Rattle.tdb_steps.specs.Machines.{CommandMakes}
+use Rattle.tdb_steps.specs.Turns.{Makes, AppendMakes, StoresRightly, AppendsRightly, DeletesRightly, LooksRightly}
+use Rattle.tdb_steps.specs.Machines.{CommandMakes, CommandRightly}
 use Rattle.tdb_steps.proofs.acting.act.Goals as goal
 
 pub returns-in-Fetch-clause-made : goal.returns-in-Fetch-clause-made
@@ -74,3 +75,46 @@ pub returns-in-Wipe-clause-made : goal.returns-in-Wipe-clause-made
 returns-in-Wipe-clause-made g c =
     subst (λ x. IfOk c.wipe_turn.result (λ next. IsTrue g.S.Space.tells → g.S.Space.size c.args.s.now < 2 ^ 32 → CommandMakes (g.S.Space.form c.args.s.now) (g.S.Space.image c.args.s.now) (g.S.Space.image c.wipe_turn.new.s) x c.args.whole.now c.args.whole.now c.args.stage next))
     (sym c.in-Wipe.is) c.wipe_turn.ensures.made
+
+-- so a turn goes on rightly as those of its kind do
+pub returns-in-Fetch-clause-rightly : goal.returns-in-Fetch-clause-rightly
+returns-in-Fetch-clause-rightly g c =
+    subst (λ x. IfOk c.fetch_turn.result (λ next. IsTrue g.S.Space.tells → g.S.Space.size c.args.s.now < 2 ^ 32 → CommandRightly (g.S.Space.form c.args.s.now) (g.S.Space.image c.args.s.now) (g.S.Space.image c.fetch_turn.new.s) x c.args.whole.now c.args.limit c.args.stood_on.now c.args.stage next)) (sym c.in-Fetch.is)
+    (IfOk-weaker c.fetch_turn.result (LooksRightly c.args.stage) (λ next. IsTrue g.S.Space.tells → g.S.Space.size c.args.s.now < 2 ^ 32 → LooksRightly c.args.stage next) (λ next rightly told small. rightly) c.fetch_turn.ensures.rightly)
+
+pub returns-in-Has-clause-rightly : goal.returns-in-Has-clause-rightly
+returns-in-Has-clause-rightly g c =
+    subst (λ x. IfOk c.has_turn.result (λ next. IsTrue g.S.Space.tells → g.S.Space.size c.args.s.now < 2 ^ 32 → CommandRightly (g.S.Space.form c.args.s.now) (g.S.Space.image c.args.s.now) (g.S.Space.image c.has_turn.new.s) x c.args.whole.now c.args.limit c.args.stood_on.now c.args.stage next)) (sym c.in-Has.is)
+    (IfOk-weaker c.has_turn.result (LooksRightly c.args.stage) (λ next. IsTrue g.S.Space.tells → g.S.Space.size c.args.s.now < 2 ^ 32 → LooksRightly c.args.stage next) (λ next rightly told small. rightly) c.has_turn.ensures.rightly)
+
+pub returns-in-Store-clause-rightly : goal.returns-in-Store-clause-rightly
+returns-in-Store-clause-rightly g c =
+    let f = g.S.Space.form c.args.s.now in
+    let a = g.S.Space.image c.args.s.now in
+    let b = g.S.Space.image c.store_turn.new.s in
+    subst (λ x. IfOk c.store_turn.result (λ next. IsTrue g.S.Space.tells → g.S.Space.size c.args.s.now < 2 ^ 32 → CommandRightly f a b x c.args.whole.now c.args.limit c.args.stood_on.now c.args.stage next)) (sym c.in-Store.is)
+    (subst (λ v. IfOk c.store_turn.result (λ next. IsTrue g.S.Space.tells → g.S.Space.size c.args.s.now < 2 ^ 32 → StoresRightly f a b c.in-Store.key (length v) (rec_len_for (length c.in-Store.key) (length v)) c.args.limit c.args.stood_on.now c.args.stage next)) c.as_slice-in-Store-2.ensures
+    (subst (λ k. IfOk c.store_turn.result (λ next. IsTrue g.S.Space.tells → g.S.Space.size c.args.s.now < 2 ^ 32 → StoresRightly f a b k (length c.as_slice-in-Store-2.result.now) (rec_len_for (length k) (length c.as_slice-in-Store-2.result.now)) c.args.limit c.args.stood_on.now c.args.stage next)) c.as_slice-in-Store.ensures c.store_turn.ensures.rightly))
+
+pub returns-in-Append-clause-rightly : goal.returns-in-Append-clause-rightly
+returns-in-Append-clause-rightly g c =
+    let f = g.S.Space.form c.args.s.now in
+    let a = g.S.Space.image c.args.s.now in
+    let b = g.S.Space.image c.append_turn.new.s in
+    let was = c.args.whole.now in
+    subst (λ x. IfOk c.append_turn.result (λ next. IsTrue g.S.Space.tells → g.S.Space.size c.args.s.now < 2 ^ 32 → CommandRightly f a b x was c.args.limit c.args.stood_on.now c.args.stage next)) (sym c.in-Append.is)
+    (subst (λ v. IfOk c.append_turn.result (λ next. IsTrue g.S.Space.tells → g.S.Space.size c.args.s.now < 2 ^ 32 → AppendsRightly f a b c.in-Append.key v was c.args.limit c.args.stood_on.now c.args.stage next)) c.as_slice-in-Append-2.ensures
+    (subst (λ k. IfOk c.append_turn.result (λ next. IsTrue g.S.Space.tells → g.S.Space.size c.args.s.now < 2 ^ 32 → AppendsRightly f a b k c.as_slice-in-Append-2.result.now was c.args.limit c.args.stood_on.now c.args.stage next)) c.as_slice-in-Append.ensures c.append_turn.ensures.rightly))
+
+pub returns-in-Delete-clause-rightly : goal.returns-in-Delete-clause-rightly
+returns-in-Delete-clause-rightly g c =
+    let f = g.S.Space.form c.args.s.now in
+    let a = g.S.Space.image c.args.s.now in
+    let b = g.S.Space.image c.delete_turn.new.s in
+    subst (λ x. IfOk c.delete_turn.result (λ next. IsTrue g.S.Space.tells → g.S.Space.size c.args.s.now < 2 ^ 32 → CommandRightly f a b x c.args.whole.now c.args.limit c.args.stood_on.now c.args.stage next)) (sym c.in-Delete.is)
+    (subst (λ k. IfOk c.delete_turn.result (λ next. IsTrue g.S.Space.tells → g.S.Space.size c.args.s.now < 2 ^ 32 → DeletesRightly f a b k c.args.stood_on.now c.args.stage next)) c.as_slice-in-Delete.ensures c.delete_turn.ensures.rightly)
+
+pub returns-in-Wipe-clause-rightly : goal.returns-in-Wipe-clause-rightly
+returns-in-Wipe-clause-rightly g c =
+    subst (λ x. IfOk c.wipe_turn.result (λ next. IsTrue g.S.Space.tells → g.S.Space.size c.args.s.now < 2 ^ 32 → CommandRightly (g.S.Space.form c.args.s.now) (g.S.Space.image c.args.s.now) (g.S.Space.image c.wipe_turn.new.s) x c.args.whole.now c.args.limit c.args.stood_on.now c.args.stage next))
+    (sym c.in-Wipe.is) c.wipe_turn.ensures.rightly

@@ -1,5 +1,5 @@
 -- The look of an append, and its other turns.
-use Rattle.std.proofs.Common.{◌≡◌, ◌<◌, List, length, refl, sym, subst}
+use Rattle.std.proofs.Common.{◌≡◌, ◌<◌, ◌⊎◌, List, length, refl, sym, subst}
 use Rattle.std.specs.Prelude.{◌^◌, IsTrue, IfOk, unwrap_or}
 use Rattle.std.proofs.lemmas.Result.{IfOk-weaker}
 use Rattle.tdb_space.specs.Extents.{HandPair}
@@ -7,13 +7,14 @@ use Rattle.tdb_space.specs.Accepted.{AcceptWith}
 use Rattle.tdb_space.specs.Pairs.{map_of}
 use Rattle.tdb_space.specs.NewRecord.{rec_len_for}
 use Rattle.tdb_steps.specs.Asked.{appends, joined, stores}
-use Rattle.tdb_steps.specs.Stages.{IsStep}
-use Rattle.tdb_steps.specs.Turns.{Makes, AppendMakes, Finds, UpdatesRightly, StoresRightly}
+use Rattle.tdb_steps.specs.Turns.{Makes, AppendMakes, Finds, UpdatesRightly, StoresRightly, AppendsRightly}
 use Rattle.tdb_steps.specs.Order.{StoreOrder}
 use Rattle.tdb_steps.specs.declared.flag.Flag.TheVariants as Flags
 use Rattle.tdb_steps.specs.declared.stage.Stage.TheVariants as Stage
+use Rattle.tdb_steps.specs.declared.stage.Next.TheVariants as Next
+use Rattle.tdb_locks.specs.declared.turn.Reply.TheVariants as Reply
 use Rattle.tdb_steps.proofs.Made.{of_both}
-use Rattle.tdb_steps.proofs.Appended.{look_appended, store_appended}
+use Rattle.tdb_steps.proofs.Appended.{look_appended, store_appended, look_rightly, store_rightly}
 use Rattle.tdb_steps.proofs.append_turns.append_turn.Goals as goal
 
 pub returns-in-Chained-clause-made : goal.returns-in-Chained-clause-made
@@ -26,7 +27,7 @@ returns-in-Chained-clause-made g c =
     let whole = c.look_to_append.new.whole in
     subst (λ then. IfOk c.look_to_append.result (λ next. IsTrue g.S.Space.tells → g.S.Space.size c.args.s.now < 2 ^ 32 → AppendMakes f a b key more c.args.whole.now whole then next)) (sym c.in-Chained.is)
     (of_both c.look_to_append.result (λ next. IsTrue g.S.Space.tells → Makes f a b key (appends more) Stage.Chained next)
-    (λ next. IsTrue g.S.Space.tells → IsStep next → (hands : List HandPair) → AcceptWith f a hands → unwrap_or whole more ≡ joined (map_of f a key) more)
+    (λ next. IsTrue g.S.Space.tells → (hands : List HandPair) → AcceptWith f a hands → (next ≡ Next.Done Reply.Memory) ⊎ (unwrap_or whole more ≡ joined (map_of f a key) more))
     (λ next. IsTrue g.S.Space.tells → g.S.Space.size c.args.s.now < 2 ^ 32 → AppendMakes f a b key more c.args.whole.now whole Stage.Chained next)
     (λ next made same told small. look_appended f a b key more c.args.whole.now whole next (made told) (same told)) c.look_to_append.ensures.made c.look_to_append.ensures.joined)
 
@@ -35,11 +36,14 @@ returns-in-Chained-clause-rightly g c =
     let f = g.S.Space.form c.args.s.now in
     let a = g.S.Space.image c.args.s.now in
     let b = g.S.Space.image c.look_to_append.new.s in
-    let n = length (unwrap_or c.look_to_append.new.whole c.args.more.now) in
-    subst (λ then. IfOk c.look_to_append.result (λ next. IsTrue g.S.Space.tells → g.S.Space.size c.args.s.now < 2 ^ 32 → StoresRightly f a b c.args.key.now n (rec_len_for (length c.args.key.now) n) c.args.limit c.args.stood_on.now then next)) (sym c.in-Chained.is)
-    (IfOk-weaker c.look_to_append.result (λ next. IsTrue g.S.Space.tells → Finds f a c.args.key.now (λ place. UpdatesRightly n place next))
-    (λ next. IsTrue g.S.Space.tells → g.S.Space.size c.args.s.now < 2 ^ 32 → Finds f a c.args.key.now (λ place. UpdatesRightly n place next))
-    (λ next rightly told small. rightly told) c.look_to_append.ensures.rightly)
+    let key = c.args.key.now in
+    let more = c.args.more.now in
+    let whole = c.look_to_append.new.whole in
+    subst (λ then. IfOk c.look_to_append.result (λ next. IsTrue g.S.Space.tells → g.S.Space.size c.args.s.now < 2 ^ 32 → AppendsRightly f a b key more c.args.whole.now c.args.limit c.args.stood_on.now then next)) (sym c.in-Chained.is)
+    (of_both c.look_to_append.result (λ next. IsTrue g.S.Space.tells → Finds f a key (λ place. UpdatesRightly (length (unwrap_or whole more)) place next))
+    (λ next. IsTrue g.S.Space.tells → (hands : List HandPair) → AcceptWith f a hands → (next ≡ Next.Done Reply.Memory) ⊎ (unwrap_or whole more ≡ joined (map_of f a key) more))
+    (λ next. IsTrue g.S.Space.tells → g.S.Space.size c.args.s.now < 2 ^ 32 → AppendsRightly f a b key more c.args.whole.now c.args.limit c.args.stood_on.now Stage.Chained next)
+    (λ next rightly same told small. look_rightly f a b key more c.args.limit c.args.stood_on.now c.args.whole.now whole next (rightly told) (same told)) c.look_to_append.ensures.rightly c.look_to_append.ensures.joined)
 
 pub returns-in-Chained-clause-leads : goal.returns-in-Chained-clause-leads
 returns-in-Chained-clause-leads g c = c.look_to_append.ensures.leads _
@@ -56,7 +60,9 @@ returns-in_default g c =
       made = of_both c.store_joined.result (λ next. IsTrue g.S.Space.tells → g.S.Space.size c.args.s.now < 2 ^ 32 → Makes f a b key (stores Flags.Replace (unwrap_or whole more)) c.args.stage next) (StoreOrder c.args.stage)
           (λ next. IsTrue g.S.Space.tells → g.S.Space.size c.args.s.now < 2 ^ 32 → AppendMakes f a b key more whole whole c.args.stage next)
           (λ next makes order told small. store_appended f a b key more whole whole c.args.stage next c.in_default.not-Chained order (makes told small)) c.store_joined.ensures.made c.store_joined.ensures.order;
-      rightly = c.store_joined.ensures.rightly;
+      rightly = IfOk-weaker c.store_joined.result (λ next. IsTrue g.S.Space.tells → g.S.Space.size c.args.s.now < 2 ^ 32 → StoresRightly f a b key (length (unwrap_or whole more)) (rec_len_for (length key) (length (unwrap_or whole more))) c.args.limit c.args.stood_on.now c.args.stage next)
+          (λ next. IsTrue g.S.Space.tells → g.S.Space.size c.args.s.now < 2 ^ 32 → AppendsRightly f a b key more whole c.args.limit c.args.stood_on.now c.args.stage next)
+          (λ next rightly told small. store_rightly f a b key more c.args.limit c.args.stood_on.now whole c.args.stage next c.in_default.not-Chained (rightly told small)) c.store_joined.ensures.rightly;
       order = c.store_joined.ensures.order;
       leads = c.store_joined.ensures.leads;
       short = c.requires.whole;

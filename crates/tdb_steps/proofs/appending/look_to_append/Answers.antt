@@ -1,5 +1,5 @@
 -- The append goes on as a store of the joined value, or has stored it where the record stands.
-use Rattle.std.proofs.Common.{◌≡◌, ℕ, List, Some, length, refl, ◌∙◌, ap, subst}
+use Rattle.std.proofs.Common.{◌≡◌, ℕ, inr, List, Some, length, refl, ◌∙◌, ap, subst}
 use Rattle.std.specs.Prelude.{IsTrue, IfSome}
 use Rattle.tdb_space.specs.Pairs.{map_of}
 use Rattle.tdb_space.specs.Extents.{HandPair}
@@ -39,3 +39,15 @@ returns-clause-rightly g c told others A =
     let f = g.S.Space.form c.args.s.now in
     let a = g.S.Space.image c.args.s.now in
     (Some c.in-Some.place, subst (IsFound f a c.args.key.now) c.in-Some.is (c.in_ok-place.ensures.found told others A), subst (λ n. UpdatesRightly n (Some c.in-Some.place) c.in_ok-next.next) (ap length c.as_slice.ensures) c.in_ok-next.ensures.rightly)
+
+pub returns-clause-joined : goal.returns-clause-joined
+returns-clause-joined g c told hands A =
+    let f = g.S.Space.form c.args.s.now in
+    let a = g.S.Space.image c.args.s.now in
+    let k = g.S.Space.form c.find.new.s in
+    let v = g.S.Space.image c.find.new.s in
+    let key = c.args.key.now in
+    let more = c.args.more.now in
+    let place = c.in-Some.place in
+    let holds = subst (IsFound f a key) c.in-Some.is (c.in_ok-place.ensures.found told hands A) in
+    inr (moved (λ x img. (key : List ℕ) → HoldsKey x img key place → c.in-Some-2.bytes ≡ joined (map_of x img key) more) f k a v c.find.ensures.looked.form c.find.ensures.looked.image (subst (λ made. IfSome made (λ bytes. IsTrue g.S.Space.tells → (key : List ℕ) → HoldsKey k v key place → bytes ≡ joined (map_of k v key) more)) c.in-Some-2.is c.in_ok-bytes.ensures.joined told) key holds)

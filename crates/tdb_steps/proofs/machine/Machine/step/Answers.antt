@@ -4,7 +4,7 @@ use Rattle.tdb_steps.specs.LockRows.{row_at, rows_of, locks_in}
 use Rattle.tdb_steps.specs.LockTurns.{LockLed}
 use Rattle.tdb_steps.specs.Holdings.{LocksTurned}
 use Rattle.tdb_steps.specs.PlainCommands.{turn_of}
-use Rattle.tdb_steps.proofs.Turning.{lock_turned, row_facts, row_idle}
+use Rattle.tdb_steps.proofs.Turning.{lock_turned, row_facts, row_idle, lock_stage, locks_idle}
 use Rattle.tdb_steps.proofs.Rowed.{lock_table, act_table, end_table, ended_rows}
 use Rattle.tdb_steps.proofs.machine.Machine.step.Goals.{in-Done, in_default-turn}
 use Rattle.tdb_steps.proofs.machine.Machine.step.Goals as goal
@@ -14,6 +14,11 @@ returns-in-Some-clause-made g c told small n others is may A K =
     let d = c.args.self.now in
     lock_turned (g.S.Space.form c.args.s.now) (g.S.Space.image c.args.s.now) d.command d.chain n d.whole others d.stage c.lock_turn.new.self c.lock_turn.result c.args.held.now c.args.owner c.args.locks.now c.lock_turn.new.locks c.rows-rows.result c.in-Some.row
     (sym c.wanted.ensures ∙ c.in-Some.is) c.lock_turn.ensures.led is A K
+
+pub returns-in-Some-clause-rightly : goal.returns-in-Some-clause-rightly
+returns-in-Some-clause-rightly g c told small busy =
+    let d = c.args.self.now in
+    absurd (busy (locks_idle d.stage (lock_stage c.rows-rows.result d.stage c.in-Some.row (sym c.wanted.ensures ∙ c.in-Some.is))))
 
 pub returns-in-Some-clause-locks : goal.returns-in-Some-clause-locks
 returns-in-Some-clause-locks g c n kept is H =
