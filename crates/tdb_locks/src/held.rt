@@ -58,6 +58,7 @@ impl Held {
     /// among the chains that are held.
     pub fn raise_chain(&mut self, chain: u32) -> Result<(), AllocError>
         ensures ok { OnOk result (Raises self.old self.new chain) }
+        ensures counts { AreCounts self.new.chains }
         ensures err { OnErr result (self.new ≡ self.old) }
     {
         let count = self.chain_count(chain);
@@ -71,7 +72,8 @@ impl Held {
     /// Holds the chain once less. Cost: a look-up among the chains that are held.
     pub fn lower_chain(&mut self, chain: u32)
         requires { 0 < count_of self.old chain }
-        ensures { Lowers self.old self.new chain }
+        ensures lowered { Lowers self.old self.new chain }
+        ensures counts { AreCounts self.new.chains }
     {
         let count = self.chain_count(chain);
         set_count(&mut self.chains, chain, count - 1).unwrap();
