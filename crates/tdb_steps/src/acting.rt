@@ -43,6 +43,7 @@ pub(crate) fn act<S: Space>(
     ensures whole { IsShortWhole whole.new }
     ensures idle { IsIdle stage → Looked S.Space s.old s.new }
     ensures longer { S.size s.old ≤ S.size s.new }
+    ensures within { S.size s.old ≤ limit → S.size s.new ≤ limit }
     ensures wrote { Wrote S.Space s.old s.new }
     ensures cause { HasCause (S.faults s.old) (S.faults s.new) result }
     ensures bytes_read { S.bytes_read s.old ≤ S.bytes_read s.new }

@@ -43,6 +43,7 @@ fn store_joined<S: Space>(
     ensures leads { IfOk result (Leads (λ then. OfStore (length key.now + length (unwrap_or whole.now more.now)) then (S.size s.new) (S.spare s.new))) }
     ensures idle { IsIdle stage → Looked S.Space s.old s.new }
     ensures longer { S.size s.old ≤ S.size s.new }
+    ensures within { S.size s.old ≤ limit → S.size s.new ≤ limit }
     ensures wrote { Wrote S.Space s.old s.new }
     ensures cause { HasCause (S.faults s.old) (S.faults s.new) result }
     ensures bytes_read { S.bytes_read s.old ≤ S.bytes_read s.new }
@@ -94,6 +95,7 @@ pub fn append_turn<S: Space>(
     ensures keeps { (stage ≡ Stage.Chained → ⊥) → whole.new ≡ whole.old }
     ensures idle { IsIdle stage → Looked S.Space s.old s.new }
     ensures longer { S.size s.old ≤ S.size s.new }
+    ensures within { S.size s.old ≤ limit → S.size s.new ≤ limit }
     ensures wrote { Wrote S.Space s.old s.new }
     ensures cause { HasCause (S.faults s.old) (S.faults s.new) result }
     ensures bytes_read { S.bytes_read s.old ≤ S.bytes_read s.new }

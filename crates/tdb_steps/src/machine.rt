@@ -155,6 +155,7 @@ impl Machine {
         ensures given_up { OnErr result (self.new ≡ begun self.old.command self.old.chain) }
         ensures idle { IsIdle self.old.stage → Looked S.Space s.old s.new }
         ensures longer { S.size s.old ≤ S.size s.new }
+        ensures within { S.size s.old ≤ limit → S.size s.new ≤ limit }
         ensures wrote { Wrote S.Space s.old s.new }
         ensures cause { HasCause (S.faults s.old) (S.faults s.new) result }
         ensures bytes_read { S.bytes_read s.old ≤ S.bytes_read s.new }
@@ -222,6 +223,7 @@ impl Machine {
         ensures err { OnErr result (locks.new ≡ locks.old) }
         ensures given_up { OnErr result (self.new ≡ begun self.old.command self.old.chain) }
         ensures longer { S.size s.old ≤ S.size s.new }
+        ensures within { S.size s.old ≤ limit → S.size s.new ≤ limit }
         ensures wrote { Wrote S.Space s.old s.new }
         ensures cause { HasCause (S.faults s.old) (S.faults s.new) result }
         ensures bytes_read { S.bytes_read s.old ≤ S.bytes_read s.new }

@@ -38,7 +38,8 @@ pub(crate) fn take_new<S: Space>(
         → TakesRightly (S.form s.old) (S.image s.old) (S.image s.new) (rec_len_for key_len value_len) limit found next) }
     ensures order { IfOk result TakesOn }
     ensures leads { IfOk result (Leads (λ stage. OfStore (key_len + value_len) stage (S.size s.new) (S.spare s.new))) }
-    ensures size { S.size s.old ≤ S.size s.new }
+    ensures longer { S.size s.old ≤ S.size s.new }
+    ensures within { S.size s.old ≤ limit → S.size s.new ≤ limit }
     ensures wrote { Wrote S.Space s.old s.new }
     ensures cause { HasCause (S.faults s.old) (S.faults s.new) result }
     ensures bytes_read { S.bytes_read s.old ≤ S.bytes_read s.new }

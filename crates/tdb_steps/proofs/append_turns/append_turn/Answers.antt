@@ -69,6 +69,7 @@ returns-in_default g c =
       keeps = λ never. refl;
       idle = c.store_joined.ensures.idle;
       longer = c.store_joined.ensures.longer;
+      within = c.store_joined.ensures.within;
       wrote = c.store_joined.ensures.wrote;
       cause = c.store_joined.ensures.cause;
       bytes_read = c.store_joined.ensures.bytes_read;
