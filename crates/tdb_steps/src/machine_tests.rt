@@ -149,6 +149,17 @@ fn store(alloc: Global, key: &[u8], value: &[u8], flag: Flag) -> Result<Plain, A
     })
 }
 
+fn append(alloc: Global, key: &[u8], value: &[u8]) -> Result<Plain, AllocError>
+    requires key { length key.now < 2 ^ 32 }
+    requires value { length value.now < 2 ^ 32 }
+    ensures { IfOk result IsShort }
+{
+    Ok(Plain::Append {
+        key: Bytes::copy(alloc, key)?,
+        value: Bytes::copy(alloc, value)?,
+    })
+}
+
 fn delete(alloc: Global, key: &[u8]) -> Result<Plain, AllocError>
     requires key { length key.now < 2 ^ 32 }
     ensures { IfOk result IsShort }
@@ -166,6 +177,13 @@ fn empty_file(alloc: Global) -> Result<MemDisk, AllocError> {
 // Stores "1" at the key "a".
 fn store_one(alloc: Global, order: Order, flag: Flag, disk: &mut MemDisk) -> Result<Told, Fail> {
     run(alloc, order, store(alloc, b"a", b"1", flag)?, disk, MOST)
+}
+
+// Appends to the value of the key "a".
+fn append_one(alloc: Global, order: Order, value: &[u8], disk: &mut MemDisk) -> Result<Told, Fail>
+    requires value { length value.now < 2 ^ 32 }
+{
+    run(alloc, order, append(alloc, b"a", value)?, disk, MOST)
 }
 
 // Deletes the key "a".
@@ -242,32 +260,57 @@ fn takes_out_a_key(rt: HostRuntime) -> Result<(), Fail> {
     Ok(())
 }
 
-// Stores a value at the key "k", in a file that may grow to `limit` bytes.
-fn store_at_k(alloc: Global, value: &[u8], disk: &mut MemDisk, limit: u64) -> Result<Told, Fail>
+// The same key, that an append stores, and then one that fits behind its value.
+#[test]
+fn appends_behind_a_value(rt: HostRuntime) -> Result<(), Fail> {
+    let alloc = rt.alloc();
+    for order in [Order::Little, Order::Big] {
+        let mut disk = empty_file(alloc)?;
+        let told = append_one(alloc, order, b"1", &mut disk)?;
+        assert_eq!(rt; told.end, Some(Ok(Reply::Ok)));
+        assert_eq!(rt; first_missing(&disk, order, &STORED), None);
+        let told = append_one(alloc, order, b"2", &mut disk)?;
+        assert_eq!(rt; told.end, Some(Ok(Reply::Ok)));
+        assert!(rt; has_bytes(&disk, 4076, &word_bytes(2, order)));
+        assert!(rt; has_bytes(&disk, 4088, b"a12B"));
+    }
+    Ok(())
+}
+
+// Stores a value at a key, or appends it, in a file that may grow to `limit` bytes.
+fn put(
+    alloc: Global,
+    key: &[u8],
+    value: &[u8],
+    appends: bool,
+    disk: &mut MemDisk,
+    limit: u64,
+) -> Result<Told, Fail>
+    requires key { length key.now < 2 ^ 32 }
     requires value { length value.now < 2 ^ 32 }
     requires limit { limit ≤ 4294963200 }
 {
-    run(
-        alloc,
-        Order::Little,
-        store(alloc, b"k", value, Flag::Replace)?,
-        disk,
-        limit,
-    )
+    let command = if appends {
+        append(alloc, key, value)?
+    } else {
+        store(alloc, key, value, Flag::Replace)?
+    };
+    run(alloc, Order::Little, command, disk, limit)
 }
 
-// A long value over an empty one.
+// A long value over an empty one, or behind it.
 #[test]
 fn grows_for_a_long_value(rt: HostRuntime) -> Result<(), Fail> {
     let alloc = rt.alloc();
-    let mut disk = empty_file(alloc)?;
-    let told = store_at_k(alloc, b"", &mut disk, MOST)?;
-    assert_eq!(rt; told.end, Some(Ok(Reply::Ok)));
     let long = vec![in alloc; b'x'; 5000]?;
-    let told = store_at_k(alloc, &long, &mut disk, MOST)?;
-    assert_eq!(rt; told.end, Some(Ok(Reply::Ok)));
-    assert_eq!(rt; disk.as_slice().len(), 12288);
-    assert_eq!(rt; first_missing(&disk, Order::Little, &GROWN), None);
+    for appends in [false, true] {
+        let mut disk = empty_file(alloc)?;
+        put(alloc, b"k", b"", appends, &mut disk, MOST)?;
+        let told = put(alloc, b"k", &long, appends, &mut disk, MOST)?;
+        assert_eq!(rt; told.end, Some(Ok(Reply::Ok)));
+        assert_eq!(rt; disk.as_slice().len(), 12288);
+        assert_eq!(rt; first_missing(&disk, Order::Little, &GROWN), None);
+    }
     Ok(())
 }
 
@@ -275,15 +318,17 @@ fn grows_for_a_long_value(rt: HostRuntime) -> Result<(), Fail> {
 #[test]
 fn keeps_a_full_file(rt: HostRuntime) -> Result<(), Fail> {
     let alloc = rt.alloc();
-    let mut disk = empty_file(alloc)?;
     let long = vec![in alloc; b'x'; 5000]?;
-    let told = store_at_k(alloc, &long, &mut disk, 4096)?;
-    let full = Reply::Full {
-        len: 696,
-        need: 6280,
-    };
-    assert_eq!(rt; told.end, Some(Ok(full)));
-    assert_eq!(rt; disk.as_slice(), empty_file(alloc)?.as_slice());
+    for appends in [false, true] {
+        let mut disk = empty_file(alloc)?;
+        let told = put(alloc, b"a", &long, appends, &mut disk, 4096)?;
+        let full = Reply::Full {
+            len: 696,
+            need: 6280,
+        };
+        assert_eq!(rt; told.end, Some(Ok(full)));
+        assert_eq!(rt; disk.as_slice(), empty_file(alloc)?.as_slice());
+    }
     Ok(())
 }
 
