@@ -18,7 +18,7 @@ use Rattle.tdb_steps.specs.declared.stage.WipeStage.TheVariants as Wipes
 use Rattle.tdb_steps.specs.declared.stage.Next.{Next}
 use Rattle.tdb_steps.specs.Asked.{wipes}
 use Rattle.tdb_steps.specs.Stages.{hands_in, hands_after, MayBeOut, HoldsChain, Knows, KnowsAfter, IsJoined, JoinedAfter, Leads}
-use Rattle.tdb_steps.specs.Turns.{TurnMade, WipeMade}
+use Rattle.tdb_steps.specs.Turns.{number_of, TurnMade, WipeMade}
 use Rattle.tdb_steps.specs.Order.{InOrder, WipeOrder, LookAfter, StoreAfter, DeleteAfter, WipeAfter, IsAfter}
 use Rattle.tdb_steps.specs.PlainCommands.{key_of, asked_of, command_of, IsMapOf}
 use Rattle.tdb_steps.specs.Machines.{HasJoined, CommandMakes, IsOn, MapTurned}
@@ -82,6 +82,7 @@ pub record CommandMade (f : Form) (a b : List ℕ) (command : Plain) (whole : Op
   pub joined : Leads (HasJoined f b command whole) next
   pub only : ChangesOnly f a b (λ k. IsOn f command k × (1 ≤ n))
   pub map : (m : Map) → IsMapOf f a m → MapTurned f b (command_of command) n m (next_turn next)
+  pub number : number_of f b ≡ number_of f a
 
 on_key : (command : Plain) → IsKeyed command → (f : Form) (k : ℕ) → k ≡ home f (key_of command) → IsOn f command k
 on_key (Fetch key) keyed f k at_home = at_home
@@ -112,6 +113,7 @@ keyed_made command keyed f a b whole n stage next others is order K J T = record
   joined = J;
   only = changes_weaker f a b (λ k. (k ≡ home f (key_of command)) × HoldsChain stage) (λ k. IsOn f command k × (1 ≤ n)) (λ k both. (on_key command keyed f k both.0, held_late command n stage is both.1)) T.only;
   map = λ m M. map_turned command keyed f a b stage next n m others M is order K T;
+  number = T.number;
 }
 
 -- a turn of a wipe
@@ -161,6 +163,7 @@ wipe_made f a b whole n stage next others is order T = record {
   joined = none_joined f b Wipe whole next (λ k v is. cc);
   only = changes_weaker f a b (λ k. HoldsChain stage) (λ k. Unit {0} × (1 ≤ n)) (λ k holds. (tt, wipe_late n stage is holds)) T.only;
   map = λ m M. wipe_turned f a b n m M others stage next is order T;
+  number = T.number;
 }
 
 -- every command

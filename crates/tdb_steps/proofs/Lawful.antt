@@ -116,7 +116,7 @@ is_command (Append k v) keyed = record { replies = λ m. refl; granted = λ m ok
 is_command (Delete k) keyed = record { replies = λ m. delete_replies m k (get m k) refl; granted = λ m ok q. drop_in m k q; refused = λ m never q. delete_refused m k (get m k) refl never q }
 is_command Wipe keyed = elim keyed [ ]
 
-done_ok : (r : Reply) → is_done r ≡ true → r ≡ Reply.Ok
+pub done_ok : (r : Reply) → is_done r ≡ true → r ≡ Reply.Ok
 done_ok Reply.Ok e = refl
 done_ok (Reply.Value v) e = cc
 done_ok (Reply.Pair k v) e = cc

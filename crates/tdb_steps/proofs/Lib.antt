@@ -11,6 +11,7 @@ pub mod Holdings
 pub mod Lawful
 pub mod Cases
 pub mod CommandMade
+pub mod Counted
 pub mod Turning
 pub mod Rowed
 pub mod WipeMade

@@ -1,34 +1,39 @@
 -- What a turn makes of an image, by what its call does to it.
-use Rattle.std.proofs.Common.{◌≡◌, ℕ, ◌<◌, inl, inr, Bool, true, false, List, [], ◌∷◌, ◌++◌, length, Option, None, Some, refl, sym, ◌∙◌, ap, subst}
+use Rattle.std.proofs.Common.{◌≡◌, ℕ, ◌<◌, arith, inl, inr, Bool, true, false, List, [], ◌∷◌, ◌++◌, length, Option, None, Some, refl, sym, ◌∙◌, ap, subst}
 use Rattle.std.specs.Map.{update}
 use Rattle.std.proofs.lemmas.Map.{update-update, update_same}
-use Rattle.tdb_space.specs.Form.{Form}
+use Rattle.std.proofs.lemmas.Bool.{cases_lt}
+use Rattle.tdb_words.specs.Word.{word}
+use Rattle.tdb_words.proofs.Words.{word_agrees}
+use Rattle.tdb_space.specs.Form.{Form, chain_head}
 use Rattle.tdb_space.specs.Pairs.{map_of, home, same_key}
-use Rattle.tdb_space.specs.Extents.{HandPair}
+use Rattle.tdb_space.specs.Extents.{HandPair, times, extents, hand_extents}
+use Rattle.tdb_space.proofs.Kept.{times_within}
+use Rattle.tdb_space.proofs.Counts.{once_out}
 use Rattle.tdb_space.specs.Accepted.{AcceptWith}
 use Rattle.tdb_space.specs.Stays.{ChainsStay}
 use Rattle.tdb_space.proofs.Maps.{home_below, same_key-refl}
 use Rattle.tdb_space.proofs.Stays.{changes_none, changes_weaker, changes_then}
 use Rattle.tdb_chain.specs.declared.place.Place.{Place}
 use Rattle.tdb_chain.specs.Place.{IsPlace, HoldsKey}
-use Rattle.tdb_chain.specs.Changed.{KeySet, hand_at}
+use Rattle.tdb_chain.specs.Changed.{KeySet, ChainChanged, hand_at}
 use Rattle.tdb_chain.proofs.PlaceStays.{found_stays}
 use Rattle.tdb_free.specs.Growth.{CanBeTaken, RefusedRightly, NoRoom, SaysLengths}
 use Rattle.tdb_free.proofs.Traded.{can_take}
 use Rattle.tdb_free.specs.declared.refusal.FreeRefusal.{FreeRefusal}
 use Rattle.tdb_free.specs.declared.refusal.FreeRefusal.TheVariants as Refused
 use Rattle.tdb_space.specs.Chain.{free_of, chain_of, without}
-use Rattle.std.specs.Prelude.{◌^◌, ◌+◌, unwrap_or, IfOk, Result, Ok, Err, cond, Contains}
+use Rattle.std.specs.Prelude.{◌^◌, ◌+◌, slice_index, unwrap_or, IfOk, Result, Ok, Err, cond, Contains}
 use Rattle.tdb_locks.specs.declared.turn.Reply.{Reply}
 use Rattle.tdb_steps.specs.declared.stage.Stage.{Stage}
 use Rattle.tdb_steps.specs.declared.stage.Next.{Next}
 use Rattle.tdb_words.specs.declared.record.TheConstants.{USED}
-use Rattle.tdb_space.specs.Record.{key_at, data_at}
+use Rattle.tdb_space.specs.Record.{IsChained, key_at, data_at}
 use Rattle.tdb_steps.specs.declared.flag.Flag.{Flag}
 use Rattle.tdb_steps.specs.declared.flag.Flag.TheVariants as Flags
 use Rattle.tdb_steps.specs.Asked.{Asked, appends, joined, deleted, deletes, stored, stores}
 use Rattle.tdb_steps.specs.Stages.{IsKnown, hands_after, HoldsChain, KnowsAfter, is_changed, is_changed_after, IsEnd, JoinedAfter}
-use Rattle.tdb_steps.specs.Turns.{MapBy, Says, TurnMade, LinkedOver, LinksRightly, MarksRightly}
+use Rattle.tdb_steps.specs.Turns.{number_of, MapBy, Says, TurnMade, LinkedOver, LinksRightly, MarksRightly}
 use Rattle.tdb_steps.specs.Turns.IsWant.{full}
 
 -- what is so of an answer that is Ok is so by two other facts
@@ -48,6 +53,24 @@ not_both b is isnt = cc
 pub moved : (P : Form → List ℕ → Type 0) (f g : Form) (a v : List ℕ) → g ≡ f → v ≡ a → P g v → P f a
 moved P f g a v same_form same_image holds = subst (P f) same_image (subst (λ x. P x v) same_form holds)
 
+-- the sequence number stays where the header does
+pub number_same : (f : Form) (a b : List ℕ) → ((i : ℕ) → i < 168 → slice_index b i ≡ slice_index a i) → number_of f b ≡ number_of f a
+number_same f a b same = word_agrees f.order b a 48 (λ i from to. same i (omega (arith, to)))
+
+-- so it does where a chain changes, whose records stand behind the header, and hands that do
+chain_low : (f : Form) (a : List ℕ) (hands : List HandPair) (k i : ℕ) → AcceptWith f a hands → k < f.chains → i < 168 → times (extents f.order a (chain_of f a k)) i ≡ 0
+chain_low f a hands k i A low under = elim (cases_lt 0 (times (extents f.order a (chain_of f a k)) i)) [
+  | inl some ↦ let within = times_within f IsChained a (word f.order a (chain_head k)) (chain_of f a k) i (A.chains k low) (omega (arith, some)) in absurd (omega (arith, within.0, under))
+  | inr none ↦ omega (arith, none)
+]
+
+pub chain_number : (f : Form) (a b : List ℕ) (k : ℕ) (offs : List ℕ) (own before after : List HandPair) → AcceptWith f a before → k < f.chains → ((i : ℕ) → i < 168 → times (hand_extents own) i ≡ 0) → ChainChanged f a b k offs own before after → number_of f b ≡ number_of f a
+chain_number f a b k offs own before after A low clear C =
+    number_same f a b (λ i under. C.others i (inl (omega (arith, under))) (let x = chain_low f a before k i A low under in let y = clear i under in omega (arith, x, y)))
+
+pub hand_high : (f : Form) (a : List ℕ) (h : HandPair) (others : List HandPair) → AcceptWith f a (h ∷ others) → (i : ℕ) → i < 168 → times (hand_extents (h ∷ [])) i ≡ 0
+hand_high f a h others A i under = let none = once_out (h.0, 24 + h.1) i (inl (let above = A.held.0.above in omega (arith, above, under))) in omega (arith, none)
+
 -- a turn that leaves the map isn't the one that makes the change, and one that makes it sets the key's value
 map_left : (x y : Bool) (f : Form) (a b key : List ℕ) (asked : Asked) → y ≡ x → ((other : List ℕ) → map_of f b other ≡ map_of f a other) → MapBy x y f a b key asked
 map_left true true f a b key asked same left = left
@@ -61,29 +84,31 @@ map_set false true f a b key asked before after set = set
 map_set false false f a b key asked before after set = absurd (never_true after)
 
 -- a turn that leaves all chains
-pub stays_made : (f : Form) (a b key : List ℕ) (asked : Asked) (old : Stage) (next : Next) (others : List HandPair) → ChainsStay f a b (hands_after next ++ others) → is_changed_after next ≡ is_changed old → KnowsAfter f b key asked next → Says old asked (map_of f a key) next → TurnMade f a b key asked old next others
-stays_made f a b key asked old next others S same knows says = record {
+pub stays_made : (f : Form) (a b key : List ℕ) (asked : Asked) (old : Stage) (next : Next) (others : List HandPair) → ChainsStay f a b (hands_after next ++ others) → number_of f b ≡ number_of f a → is_changed_after next ≡ is_changed old → KnowsAfter f b key asked next → Says old asked (map_of f a key) next → TurnMade f a b key asked old next others
+stays_made f a b key asked old next others S number same knows says = record {
   accepted = S.accepted;
   knows = knows;
   only = changes_weaker f a b (λ k. ⊥) (λ k. (k ≡ home f key) × HoldsChain old) (λ k never. absurd never) S.only;
   map = map_left (is_changed old) (is_changed_after next) f a b key asked same S.map;
   says = says;
+  number = number;
 }
 
 -- a turn that leaves the image as it is
 pub same_made : (f : Form) (a b key : List ℕ) (asked : Asked) (old : Stage) (next : Next) (others : List HandPair) → b ≡ a → AcceptWith f a (hands_after next ++ others) → is_changed_after next ≡ is_changed old → KnowsAfter f a key asked next → Says old asked (map_of f a key) next → TurnMade f a b key asked old next others
 same_made f a b key asked old next others stands A same knows says =
     subst (λ img. TurnMade f a img key asked old next others) (sym stands)
-    (stays_made f a a key asked old next others (record { accepted = A; map = λ k. refl; only = changes_none f a (λ k. ⊥) }) same knows says)
+    (stays_made f a a key asked old next others (record { accepted = A; map = λ k. refl; only = changes_none f a (λ k. ⊥) }) refl same knows says)
 
 -- a turn that sets the value of the key
-pub set_made : (f : Form) (a b key : List ℕ) (asked : Asked) (old : Stage) (next : Next) (others : List HandPair) (value : Option (List ℕ)) (offs : List ℕ) (own before : List HandPair) → KeySet f a b key value offs own before (hands_after next ++ others) → HoldsChain old → is_changed old ≡ false → is_changed_after next ≡ true → asked.left (map_of f a key) ≡ value → KnowsAfter f b key asked next → Says old asked (map_of f a key) next → TurnMade f a b key asked old next others
-set_made f a b key asked old next others value offs own before K holds first after left knows says = record {
+pub set_made : (f : Form) (a b key : List ℕ) (asked : Asked) (old : Stage) (next : Next) (others : List HandPair) (value : Option (List ℕ)) (offs : List ℕ) (own before : List HandPair) → KeySet f a b key value offs own before (hands_after next ++ others) → number_of f b ≡ number_of f a → HoldsChain old → is_changed old ≡ false → is_changed_after next ≡ true → asked.left (map_of f a key) ≡ value → KnowsAfter f b key asked next → Says old asked (map_of f a key) next → TurnMade f a b key asked old next others
+set_made f a b key asked old next others value offs own before K number holds first after left knows says = record {
   accepted = K.changed.accepted;
   knows = knows;
   only = changes_weaker f a b (λ k. k ≡ home f key) (λ k. (k ≡ home f key) × HoldsChain old) (λ k at_home. (at_home, holds)) K.changed.only;
   map = map_set (is_changed old) (is_changed_after next) f a b key asked first after (λ other. K.map other ∙ ap (λ v. update same_key (map_of f a) key v other) (sym left));
   says = says;
+  number = number;
 }
 
 -- what was known of the key is still so where its chain stays
@@ -94,9 +119,9 @@ known_stays f a b key asked place hands news A S known = record {
 }
 
 -- the turn that takes a record
-pub took_made : (f : Form) (a b key : List ℕ) (asked : Asked) (place : Option Place) (h : HandPair) (others : List HandPair) → AcceptWith f a others → IsKnown f a key asked place → ChainsStay f a b (h ∷ others) → TurnMade f a b key asked (Stage.Listed place) (Next.Step (Stage.Taken place h)) others
-took_made f a b key asked place h others A known S =
-    stays_made f a b key asked (Stage.Listed place) (Next.Step (Stage.Taken place h)) others S refl (known_stays f a b key asked place others (h ∷ others) A S known) tt
+pub took_made : (f : Form) (a b key : List ℕ) (asked : Asked) (place : Option Place) (h : HandPair) (others : List HandPair) → AcceptWith f a others → IsKnown f a key asked place → ChainsStay f a b (h ∷ others) → number_of f b ≡ number_of f a → TurnMade f a b key asked (Stage.Listed place) (Next.Step (Stage.Taken place h)) others
+took_made f a b key asked place h others A known S number =
+    stays_made f a b key asked (Stage.Listed place) (Next.Step (Stage.Taken place h)) others S number refl (known_stays f a b key asked place others (h ∷ others) A S known) tt
 
 -- and the one that finds none
 pub full_made : (f : Form) (a b key : List ℕ) (asked : Asked) (place : Option Place) (len need : ℕ) (others : List HandPair) → AcceptWith f a others → b ≡ a → TurnMade f a b key asked (Stage.Listed place) (Next.Done (Reply.Full len need)) others
@@ -119,11 +144,12 @@ pub unlinked_made : (f g : Form) (a v b key : List ℕ) (p : Place) (h : HandPai
 unlinked_made f g a v b key p h others same_form same_image clause A known =
     let H = known.found in
     let K = moved (λ x img. (hands : List HandPair) → AcceptWith x img hands → IsPlace x img p → p.rec.magic ≡ USED → KeySet x img b (key_at x.order img p.off) None (without p.off (chain_of x img (home x (key_at x.order img p.off)))) [] hands (h ∷ hands)) f g a v same_form same_image clause others A H.place H.used in
-    set_made f a b key deletes (Stage.Listed (Some p)) (Next.Step (Stage.Changed h)) others None (without p.off (chain_of f a (home f key))) [] others
-    (subst (λ q. KeySet f a b q None (without p.off (chain_of f a (home f q))) [] others (h ∷ others)) H.has_key K) tt refl refl refl tt tt
+    let L = subst (λ q. KeySet f a b q None (without p.off (chain_of f a (home f q))) [] others (h ∷ others)) H.has_key K in
+    set_made f a b key deletes (Stage.Listed (Some p)) (Next.Step (Stage.Changed h)) others None (without p.off (chain_of f a (home f key))) [] others L
+    (chain_number f a b (home f key) (without p.off (chain_of f a (home f key))) [] others (h ∷ others) A (home_below f key A.some) (λ i under. refl) L.changed) tt refl refl refl tt tt
 
 -- The turn of a store that marks the old record as dead and links the new one. Between the two the key is missing.
-module _ (f g : Form) (a m b key value : List ℕ) (p : Place) (h : HandPair) (flag : Flag) (next : Next) (others : List HandPair) (offs : List ℕ) (same_form : g ≡ f) (K : KeySet f a m key None offs [] (h ∷ others) (h ∷ others)) where
+module _ (f g : Form) (a m b key value : List ℕ) (p : Place) (h : HandPair) (flag : Flag) (next : Next) (others : List HandPair) (offs : List ℕ) (same_form : g ≡ f) (A : AcceptWith f a (h ∷ others)) (K : KeySet f a m key None offs [] (h ∷ others) (h ∷ others)) where
   missing : map_of f m key ≡ None
   missing = K.map key ∙ update_same same_key (map_of f a) key None key (same_key-refl key)
 
@@ -137,6 +163,7 @@ module _ (f g : Form) (a m b key value : List ℕ) (p : Place) (h : HandPair) (f
     only = changes_then f a m b (λ k. (k ≡ home f key) × HoldsChain (Stage.Taken (Some p) h)) (changes_weaker f a m (λ k. k ≡ home f key) (λ k. (k ≡ home f key) × HoldsChain (Stage.Taken (Some p) h)) (λ k at_home. (at_home, tt)) K.changed.only) T.only;
     map = λ q. T.map q ∙ ap (λ o. cond (same_key key q) (Some value) o) (K.map q) ∙ update-update same_key (map_of f a) key None (Some value) q;
     says = tt;
+    number = T.number ∙ chain_number f a m (home f key) offs [] (h ∷ others) (h ∷ others) A (home_below f key A.some) (λ i under. refl) K.changed;
   }
 
   pub beside_made : ((hands : List HandPair) → AcceptWith g m (h ∷ hands) → next ≡ Next.Step Stage.Ending) → ((hands : List HandPair) → AcceptWith g m (h ∷ hands) → IsKnown g m key (stores Flags.Replace value) None → TurnMade g m b key (stores Flags.Replace value) (Stage.Taken None h) next hands) → TurnMade f a b key (stores flag value) (Stage.Taken (Some p) h) next others
@@ -159,9 +186,9 @@ module _ (f : Form) (a : List ℕ) (h : HandPair) (stood_on : List ℕ) (found :
 -- the turn that changes the record of the key where it stands
 pub in_place_made : (f g : Form) (a v b key : List ℕ) (asked : Asked) (value : Option (List ℕ)) (p : Place) (others : List HandPair) → g ≡ f → v ≡ a → ((hands : List HandPair) (k : List ℕ) → AcceptWith g v hands → HoldsKey g v k p → KeySet g v b k value (chain_of g v (home g k)) [] hands hands) → asked.left (map_of f a key) ≡ value → AcceptWith f a others → IsKnown f a key asked (Some p) → TurnMade f a b key asked Stage.Chained (Next.Done Reply.Ok) others
 in_place_made f g a v b key asked value p others same_form same_image clause left A known =
-    set_made f a b key asked Stage.Chained (Next.Done Reply.Ok) others value (chain_of f a (home f key)) [] others
-    (moved (λ x img. (hands : List HandPair) (k : List ℕ) → AcceptWith x img hands → HoldsKey x img k p → KeySet x img b k value (chain_of x img (home x k)) [] hands hands) f g a v same_form same_image clause others key A known.found)
-    tt refl refl left tt (inr (sym known.granted))
+    let K = moved (λ x img. (hands : List HandPair) (k : List ℕ) → AcceptWith x img hands → HoldsKey x img k p → KeySet x img b k value (chain_of x img (home x k)) [] hands hands) f g a v same_form same_image clause others key A known.found in
+    set_made f a b key asked Stage.Chained (Next.Done Reply.Ok) others value (chain_of f a (home f key)) [] others K
+    (chain_number f a b (home f key) (chain_of f a (home f key)) [] others others A (home_below f key A.some) (λ i under. refl) K.changed) tt refl refl left tt (inr (sym known.granted))
 
 -- a store of a key that is there is granted but for an Insert, and a delete always
 pub there_granted : (flag : Flag) (there : Option (List ℕ)) (v : List ℕ) → (flag ≡ Flags.Insert → ⊥) → there ≡ Some v → stored flag there ≡ Reply.Ok
@@ -221,6 +248,7 @@ module _ (f : Form) (a b key more bytes : List ℕ) where
     only = T.only;
     map = as_map (is_changed stage) (is_changed_after next) same T.map;
     says = as_says stage next T.says;
+    number = T.number;
   }
 
 -- where the map stays, an append still has the bytes that it writes

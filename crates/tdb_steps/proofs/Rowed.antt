@@ -1,5 +1,5 @@
 -- Each turn of a command is one of its row.
-use Rattle.std.proofs.Common.{◌≡◌, ℕ, ◌<◌, ◌≤◌, inl, inr, true, List, Option, Some, max, refl, sym, ◌∙◌, ap, subst, arith}
+use Rattle.std.proofs.Common.{◌≡◌, ℕ, ◌<◌, ◌≤◌, inl, inr, Bool, true, List, Option, Some, max, refl, sym, ◌∙◌, ap, subst, arith}
 use Rattle.tdb_locks.specs.declared.turn.Reply.{Reply}
 use Rattle.tdb_locks.specs.declared.turn.Turn.{Turn}
 use Rattle.tdb_locks.specs.declared.turn.Turn.TheVariants as Turns
@@ -170,9 +170,9 @@ row_of (Delete k) n stage next is order = delete_row (command_of (Delete k)) n s
 row_of Wipe n stage next is order = wipe_row (command_of Wipe) n stage next refl (λ r. refl) is order
 
 -- so it is of a machine whose stage was taken out for the turn
-pub act_row : (command : Plain) (chain n : ℕ) (stage taken : Stage) (whole : Option (List ℕ)) (led next : Next) (d : Doing) → d ≡ record { command = command; chain = chain; stage = stage; whole = whole } → taken ≡ stage
+pub act_row : (command : Plain) (chain : ℕ) (seqnum : Bool) (n : ℕ) (stage taken : Stage) (whole : Option (List ℕ)) (led next : Next) (d : Doing) → d ≡ record { command = command; chain = chain; seqnum = seqnum; stage = stage; whole = whole } → taken ≡ stage
     → InOrder command taken led → led ≡ next → IsAfter d.command d.stage n → MapRow (command_of d.command) n (next_turn next)
-act_row command chain n stage taken whole led next d before out order on =
+act_row command chain seqnum n stage taken whole led next d before out order on =
     subst (λ x. IsAfter x.command x.stage n → MapRow (command_of x.command) n (next_turn next)) (sym before)
     (λ is. row_of command n stage next is (subst (λ x. InOrder command x next) out (subst (InOrder command taken) on order)))
 
@@ -182,19 +182,19 @@ lock_order command n stage (lock_first at) is = subst (λ x. InOrder command x (
 lock_order command n stage (lock_second found at) is = subst (λ x. InOrder command x (Next.Step (locked_stage command x))) (sym at) (looked_order command n found (subst (λ x. IsAfter command x n) at is))
 lock_order command n stage (lock_both at) is = subst (λ x. InOrder command x (Next.Step (locked_stage command x))) (sym at) (wiping_order command n (subst (λ x. IsAfter command x n) at is))
 
-module _ (command : Plain) (chain n : ℕ) (stage : Stage) (whole : Option (List ℕ)) (e : Doing) (locks : HeldLocks) (owner : ℕ) (old new : List Piece) (rows : Rows) (r : LockRow) (at : row_at rows stage ≡ Some r) (is : IsAfter command stage n) where
+module _ (command : Plain) (chain : ℕ) (seqnum : Bool) (n : ℕ) (stage : Stage) (whole : Option (List ℕ)) (e : Doing) (locks : HeldLocks) (owner : ℕ) (old new : List Piece) (rows : Rows) (r : LockRow) (at : row_at rows stage ≡ Some r) (is : IsAfter command stage n) where
   lock_leads : n < map_last (command_of command)
   lock_leads = row_of command n stage (Next.Step (locked_stage command stage)) is (lock_order command n stage (lock_stage rows stage r at) is)
 
-  pub lock_row : (turn : Turn) → LockLed locks owner old new rows r (record { command = command; chain = chain; stage = stage; whole = whole }) e turn → MapRow (command_of command) n (turn_of turn)
+  pub lock_row : (turn : Turn) → LockLed locks owner old new rows r (record { command = command; chain = chain; seqnum = seqnum; stage = stage; whole = whole }) e turn → MapRow (command_of command) n (turn_of turn)
   lock_row Turns.Step L = lock_leads
   lock_row (Turns.Blocked other byte) L = tt
   lock_row (Turns.Done reply) L = inr (ap reply_of L.0, omega (arith, lock_leads))
 
-  pub lock_leaves : (turn : Turn) → LockLed locks owner old new rows r (record { command = command; chain = chain; stage = stage; whole = whole }) e turn → Leaves (record { command = command; chain = chain; stage = stage; whole = whole }) e n (turn_of turn)
+  pub lock_leaves : (turn : Turn) → LockLed locks owner old new rows r (record { command = command; chain = chain; seqnum = seqnum; stage = stage; whole = whole }) e turn → Leaves (record { command = command; chain = chain; seqnum = seqnum; stage = stage; whole = whole }) e n (turn_of turn)
   lock_leaves Turns.Step L =
-      subst (λ x. Leaves (record { command = command; chain = chain; stage = stage; whole = whole }) x n Law.Turn.Step) (sym L.0)
-      (refl, refl, next_after command n stage (locked_stage command stage) is (lock_order command n stage (lock_stage rows stage r at) is))
+      subst (λ x. Leaves (record { command = command; chain = chain; seqnum = seqnum; stage = stage; whole = whole }) x n Law.Turn.Step) (sym L.0)
+      (refl, refl, refl, next_after command n stage (locked_stage command stage) is (lock_order command n stage (lock_stage rows stage r at) is))
   lock_leaves (Turns.Blocked other byte) L = L.0
   lock_leaves (Turns.Done reply) L = L.1
 

@@ -1,16 +1,20 @@
 -- What the row of a command says of each of its turns, and what a turn leaves.
-use Rattle.std.proofs.Common.{◌≡◌, ℕ, ◌+◌, ◌≤◌, max, inl, inr, ◌⊎◌, Bool, true, false, List, [], ◌++◌, Option, None, Some, refl, sym, ◌∙◌, ap, subst, arith, zero-le, le_refl, nat_le, ◌==◌}
+use Rattle.std.proofs.Common.{◌≡◌, ℕ, ◌+◌, ◌≤◌, max, inl, inr, ◌⊎◌, Bool, true, false, ◌&&◌, List, [], ◌++◌, Option, None, Some, refl, sym, ◌∙◌, ap, subst, arith, zero-le, le_refl, nat_le, ◌==◌}
 use Rattle.std.specs.Prelude.{if◌then◌else◌}
 use Rattle.tdb_space.specs.Form.{Form}
+use Rattle.tdb_space.specs.Pairs.{map_of}
 use Rattle.tdb_space.specs.Extents.{HandPair}
 use Rattle.tdb_space.specs.Accepted.{AcceptWith}
 use Rattle.tdb_space.specs.Stays.{ChangesOnly}
-use Rattle.tdb_space.proofs.Stays.{changes_none}
+use Rattle.tdb_space.proofs.Stays.{changes_none, changes_weaker, changes_then}
 use Rattle.tdb_locks.specs.HeldLocks.{HeldLocks}
 use Rattle.tdb_locks.specs.declared.piece.Piece.{Piece}
 use Rattle.tdb_locks.specs.declared.turn.Reply.{Reply}
 use Rattle.tdb_law.specs.Commands as Law
 use Rattle.tdb_law.specs.Rows.{map_changed}
+use Rattle.tdb_law.specs.Openers.{Map}
+use Rattle.tdb_law.specs.MapCommands.{map_changes}
+use Rattle.tdb_law.specs.Counting.{raised}
 use Rattle.tdb_law.specs.Held.{locked, locked_next}
 use Rattle.tdb_law.proofs.Locks.{locked_none}
 use Rattle.tdb_steps.specs.declared.plain.Plain.{Plain}
@@ -24,14 +28,14 @@ use Rattle.tdb_steps.specs.declared.rows.Region.TheVariants.{FreeList}
 use Rattle.tdb_locks.specs.declared.kind.Kind.TheVariants.{Write}
 use Rattle.tdb_law.specs.Rows.{Lock}
 use Rattle.std.proofs.lemmas.Bool.{ne_eqb}
-use Rattle.tdb_steps.specs.Stages.{hands_in, MayBeOut, IsIdle, first_stage, locked_stage}
+use Rattle.tdb_steps.specs.Stages.{hands_in, is_done, MayBeOut, IsIdle, first_stage, locked_stage}
 use Rattle.tdb_steps.specs.Asked.{Asked}
-use Rattle.tdb_steps.specs.Turns.{Makes}
+use Rattle.tdb_steps.specs.Turns.{number_of, Makes}
 use Rattle.tdb_steps.specs.PlainCommands.{asked_of, command_of, reply_of, turn_of}
 use Rattle.tdb_steps.specs.LockRows.{strength_of, locks_in, rows_of, reader_rows, writer_rows, wipe_rows, row_at}
 use Rattle.tdb_steps.specs.Holdings.{KeptBeside, HoldsBefore}
 use Rattle.tdb_steps.specs.Order.{InOrder, LookOrder, StoreOrder, DeleteOrder, WipeOrder, LookAfter, StoreAfter, DeleteAfter, WipeAfter, IsAfter}
-use Rattle.tdb_steps.specs.Machines.{Doing, begun, DoingKnows, CommandMakes, CommandRightly, IsOn, MachineTurned}
+use Rattle.tdb_steps.specs.Machines.{Doing, begun, MapTurned, Counted, DoingKnows, CommandMakes, CommandRightly, IsOn, MachineTurned}
 use Rattle.tdb_steps.specs.LockTurns.{LockLed, ActRightly}
 use Rattle.tdb_locks.specs.declared.turn.Turn.{Turn}
 use Rattle.tdb_locks.specs.declared.turn.Turn.TheVariants as Turns
@@ -39,7 +43,7 @@ use Rattle.tdb_chain.specs.declared.place.Place.{Place}
 use Rattle.tdb_steps.proofs.Made.{same_made}
 use Rattle.tdb_steps.proofs.WipeMade.{wipe_waits}
 use Rattle.tdb_steps.proofs.CommandMade.{CommandMade, command_made}
-use Rattle.tdb_steps.specs.Machines.MapTurned.{map_waits, map_starves}
+use Rattle.tdb_steps.specs.Machines.MapTurned.{map_waits, map_goes_on, map_changes as map_sets, map_answers, map_starves, map_is_full, map_finishes}
 use Rattle.tdb_steps.proofs.Holdings.{want}
 use Rattle.tdb_steps.proofs.Cases.{looks_case, takes_case, links_case, unlinks_case}
 use Rattle.tdb_steps.proofs.Cases.LooksCase.{look_on, look_ends}
@@ -286,43 +290,85 @@ next_after (Delete k) n stage onto is order = delete_after n stage onto is order
 next_after Wipe n stage onto is order = wipe_after n stage onto is order
 
 -- a command that has had no turn knows nothing of an image
-begun_knows : (f : Form) (b : List ℕ) (command : Plain) (chain : ℕ) → DoingKnows f b (begun command chain)
-begun_knows f b command chain = record { found = tt; joined = λ key value is. tt }
+begun_knows : (f : Form) (b : List ℕ) (command : Plain) (chain : ℕ) (seqnum : Bool) → DoingKnows f b (begun command chain seqnum)
+begun_knows f b command chain seqnum = record { found = tt; joined = λ key value is. tt }
+
+-- the map and the number of an image in which the number was raised
+moved_map : (f : Form) (b x : List ℕ) (c : Law.MapCommand) (n : ℕ) (m : Map) (turn : Law.Turn) → ((key : List ℕ) → map_of f x key ≡ map_of f b key) → MapTurned f b c n m turn → MapTurned f x c n m turn
+moved_map f b x c n m turn same (map_waits o byte is before M) = map_waits o byte is before (λ k. M k ∙ sym (same k))
+moved_map f b x c n m turn same (map_goes_on is stays M) = map_goes_on is stays (λ k. M k ∙ sym (same k))
+moved_map f b x c n m turn same (map_sets is late before after done M) = map_sets is late before after done (λ k. M k ∙ sym (same k))
+moved_map f b x c n m turn same (map_answers r is late before says M) = map_answers r is late before says (λ k. M k ∙ sym (same k))
+moved_map f b x c n m turn same (map_starves is before M) = map_starves is before (λ k. M k ∙ sym (same k))
+moved_map f b x c n m turn same (map_is_full len need is fills late before done M) = map_is_full len need is fills late before done (λ k. M k ∙ sym (same k))
+moved_map f b x c n m turn same (map_finishes is after M) = map_finishes is after (λ k. M k ∙ sym (same k))
+
+-- a reply that a world calls done is Ok
+done_alike : (r : Reply) → is_done r ≡ Law.is_done (reply_of r)
+done_alike Reply.Ok = refl
+done_alike (Reply.Value v) = refl
+done_alike (Reply.Pair k v) = refl
+done_alike Reply.End = refl
+done_alike Reply.KeyMissing = refl
+done_alike Reply.KeyThere = refl
+done_alike (Reply.Busy o b) = refl
+done_alike Reply.ReadOnly = refl
+done_alike Reply.NoTransaction = refl
+done_alike Reply.InTransaction = refl
+done_alike Reply.Nesting = refl
+done_alike Reply.Doomed = refl
+done_alike (Reply.HeldLocks n) = refl
+done_alike Reply.NotLocked = refl
+done_alike (Reply.Full len need) = refl
+done_alike Reply.Memory = refl
+done_alike Reply.Yes = refl
+done_alike Reply.No = refl
+done_alike (Reply.Number n) = refl
 
 -- a turn without a lock, that led on or ended
-module _ (f : Form) (a b : List ℕ) (command : Plain) (chain n : ℕ) (stage : Stage) (was whole : Option (List ℕ)) (others : List HandPair) where
-  pub stepped_on : (onto : Stage) → CommandMade f a b command whole n (Next.Step onto) others
-      → MachineTurned f a b (record { command = command; chain = chain; stage = stage; whole = was }) (record { command = command; chain = chain; stage = onto; whole = whole }) n Law.Turn.Step others
-  stepped_on onto T = record { accepted = T.accepted; knows = record { found = T.knows; joined = T.joined }; only = T.only; map = T.map }
+module _ (f : Form) (a m b : List ℕ) (command : Plain) (chain : ℕ) (seqnum : Bool) (n : ℕ) (stage : Stage) (was whole : Option (List ℕ)) (others : List HandPair) where
+  abbrev Was : Doing
+  Was = record { command = command; chain = chain; seqnum = seqnum; stage = stage; whole = was }
 
-  pub ended_so : (r : Reply) → CommandMade f a b command whole n (Next.Done r) others
-      → MachineTurned f a b (record { command = command; chain = chain; stage = stage; whole = was }) (begun command chain) n (Law.Turn.Ends (reply_of r)) others
-  ended_so r T = record { accepted = T.accepted; knows = begun_knows f b command chain; only = T.only; map = T.map }
+  pub stepped_on : (onto : Stage) → CommandMade f a m command whole n (Next.Step onto) others
+      → MachineTurned f a m Was (record { command = command; chain = chain; seqnum = seqnum; stage = onto; whole = whole }) n Law.Turn.Step others
+  stepped_on onto T = record { accepted = T.accepted; knows = record { found = T.knows; joined = T.joined }; only = T.only; map = T.map; number = T.number }
 
--- the same of a machine, whose stage and joined bytes were taken out for the turn and put back after it
-module _ (f : Form) (a b : List ℕ) (command : Plain) (chain n : ℕ) (stage taken : Stage) (was out whole : Option (List ℕ)) (led : Next) (d e : Doing) (others : List HandPair) (before : d ≡ record { command = command; chain = chain; stage = stage; whole = was }) (stage_out : taken ≡ stage) (whole_out : out ≡ was) (order : InOrder command taken led) (made : CommandMakes f a b command out whole taken led) where
+  pub ended_so : (r : Reply) → CommandMade f a m command whole n (Next.Done r) others → Counted f m b (is_done r && (map_changes (command_of command) && seqnum)) others
+      → MachineTurned f a b Was (begun command chain seqnum) n (Law.Turn.Ends (reply_of r)) others
+  ended_so r T C = record {
+    accepted = C.stay.accepted;
+    knows = begun_knows f b command chain seqnum;
+    only = changes_then f a m b (λ k. IsOn f command k × (1 ≤ n)) T.only (changes_weaker f m b (λ k. ⊥) (λ k. IsOn f command k × (1 ≤ n)) (λ k never. absurd never) C.stay.only);
+    map = λ p M. moved_map f m b (command_of command) n p (Law.Turn.Ends (reply_of r)) C.stay.map (T.map p M);
+    number = C.number ∙ ap (raised (is_done r && (map_changes (command_of command) && seqnum))) T.number ∙ ap (λ d. raised (d && (map_changes (command_of command) && seqnum)) (number_of f a)) (done_alike r);
+  }
+
+-- the same of a machine, whose stage and joined bytes were taken out for the turn and put back after it, and the number raised
+module _ (f : Form) (a m : List ℕ) (command : Plain) (chain : ℕ) (seqnum : Bool) (n : ℕ) (stage taken : Stage) (was out whole : Option (List ℕ)) (led : Next) (d e : Doing) (others : List HandPair) (before : d ≡ record { command = command; chain = chain; seqnum = seqnum; stage = stage; whole = was }) (stage_out : taken ≡ stage) (whole_out : out ≡ was) (order : InOrder command taken led) (made : CommandMakes f a m command out whole taken led) where
   -- what the turn from a stage makes of a machine, given what is so before it
-  abbrev From : Doing → Doing → Law.Turn → Type 0
-  From x y turn = IsAfter x.command x.stage n → MayBeOut x.stage others → AcceptWith f a (hands_in x.stage ++ others) → DoingKnows f a x → MachineTurned f a b x y n turn others
+  abbrev From : List ℕ → Doing → Doing → Law.Turn → Type 0
+  From b x y turn = IsAfter x.command x.stage n → MayBeOut x.stage others → AcceptWith f a (hands_in x.stage ++ others) → DoingKnows f a x → MachineTurned f a b x y n turn others
 
-  turned_so : (next : Next) → led ≡ next → IsAfter command stage n → MayBeOut stage others → AcceptWith f a (hands_in stage ++ others) → DoingKnows f a (record { command = command; chain = chain; stage = stage; whole = was }) → CommandMade f a b command whole n next others
-  turned_so next on is may A K = command_made command f a b was whole n stage next others is (subst (λ x. InOrder command x next) stage_out (subst (InOrder command taken) on order)) may A K.found K.joined
-      (subst (λ x. CommandMakes f a b command was whole x next) stage_out (subst (λ w. CommandMakes f a b command w whole taken next) whole_out (subst (CommandMakes f a b command out whole taken) on made)))
+  turned_so : (next : Next) → led ≡ next → IsAfter command stage n → MayBeOut stage others → AcceptWith f a (hands_in stage ++ others) → DoingKnows f a (record { command = command; chain = chain; seqnum = seqnum; stage = stage; whole = was }) → CommandMade f a m command whole n next others
+  turned_so next on is may A K = command_made command f a m was whole n stage next others is (subst (λ x. InOrder command x next) stage_out (subst (InOrder command taken) on order)) may A K.found K.joined
+      (subst (λ x. CommandMakes f a m command was whole x next) stage_out (subst (λ w. CommandMakes f a m command w whole taken next) whole_out (subst (CommandMakes f a m command out whole taken) on made)))
 
-  pub act_stepped : (onto : Stage) → led ≡ Next.Step onto → e ≡ record { command = command; chain = chain; stage = onto; whole = whole } → From d e Law.Turn.Step
+  pub act_stepped : (onto : Stage) → led ≡ Next.Step onto → e ≡ record { command = command; chain = chain; seqnum = seqnum; stage = onto; whole = whole } → From m d e Law.Turn.Step
   act_stepped onto on now =
-      subst (λ x. From x e Law.Turn.Step) (sym before)
-      (subst (λ y. From (record { command = command; chain = chain; stage = stage; whole = was }) y Law.Turn.Step) (sym now)
-      (λ is may A K. stepped_on f a b command chain n stage was whole others onto (turned_so (Next.Step onto) on is may A K)))
+      subst (λ x. From m x e Law.Turn.Step) (sym before)
+      (subst (λ y. From m (record { command = command; chain = chain; seqnum = seqnum; stage = stage; whole = was }) y Law.Turn.Step) (sym now)
+      (λ is may A K. stepped_on f a m m command chain seqnum n stage was whole others onto (turned_so (Next.Step onto) on is may A K)))
 
-  pub act_ended : (r : Reply) → led ≡ Next.Done r → e ≡ begun command chain → From d e (Law.Turn.Ends (reply_of r))
-  act_ended r on now =
-      subst (λ x. From x e (Law.Turn.Ends (reply_of r))) (sym before)
-      (subst (λ y. From (record { command = command; chain = chain; stage = stage; whole = was }) y (Law.Turn.Ends (reply_of r))) (sym now)
-      (λ is may A K. ended_so f a b command chain n stage was whole others r (turned_so (Next.Done r) on is may A K)))
+  pub act_ended : (b : List ℕ) (r : Reply) → led ≡ Next.Done r → e ≡ begun command chain seqnum
+      → ((hands : List HandPair) → AcceptWith f m hands → Counted f m b (is_done r && (map_changes (command_of command) && seqnum)) hands) → From b d e (Law.Turn.Ends (reply_of r))
+  act_ended b r on now counted =
+      subst (λ x. From b x e (Law.Turn.Ends (reply_of r))) (sym before)
+      (subst (λ y. From b (record { command = command; chain = chain; seqnum = seqnum; stage = stage; whole = was }) y (Law.Turn.Ends (reply_of r))) (sym now)
+      (λ is may A K. let T = turned_so (Next.Done r) on is may A K in ended_so f a m b command chain seqnum n stage was whole others r T (counted others T.accepted)))
 
 -- so does such a turn of a machine go on rightly
-module _ (f : Form) (a b : List ℕ) (command : Plain) (chain : ℕ) (stage taken : Stage) (was out : Option (List ℕ)) (limit : ℕ) (stood_on : List ℕ) (led : Next) (d e : Doing) (before : d ≡ record { command = command; chain = chain; stage = stage; whole = was }) (stage_out : taken ≡ stage) (whole_out : out ≡ was) (rightly : CommandRightly f a b command out limit stood_on taken led) where
+module _ (f : Form) (a b : List ℕ) (command : Plain) (chain : ℕ) (seqnum : Bool) (stage taken : Stage) (was out : Option (List ℕ)) (limit : ℕ) (stood_on : List ℕ) (led : Next) (d e : Doing) (before : d ≡ record { command = command; chain = chain; seqnum = seqnum; stage = stage; whole = was }) (stage_out : taken ≡ stage) (whole_out : out ≡ was) (rightly : CommandRightly f a b command out limit stood_on taken led) where
   right_so : (next : Next) → led ≡ next → CommandRightly f a b command was limit stood_on stage next
   right_so next on = subst (λ x. CommandRightly f a b command was limit stood_on x next) stage_out (subst (λ w. CommandRightly f a b command w limit stood_on taken next) whole_out (subst (CommandRightly f a b command out limit stood_on taken) on rightly))
 
@@ -437,19 +483,19 @@ module _ (f : Form) (a : List ℕ) where
   wiping_makes Wipe whole n is = λ others may A. wipe_waits f a (Stage.Wiping Wipes.Records) (Next.Step (Stage.Wiping Wipes.FreeList)) others A refl
 
 -- a turn that takes a lock, over an image that stays
-module _ (f : Form) (a : List ℕ) (command : Plain) (chain n : ℕ) (whole : Option (List ℕ)) (others : List HandPair) where
+module _ (f : Form) (a : List ℕ) (command : Plain) (chain : ℕ) (seqnum : Bool) (n : ℕ) (whole : Option (List ℕ)) (others : List HandPair) where
   abbrev At : Stage → Doing
-  At x = record { command = command; chain = chain; stage = x; whole = whole }
+  At x = record { command = command; chain = chain; seqnum = seqnum; stage = x; whole = whole }
 
   abbrev Led : Stage → Type 0
   Led x = IsAfter command x n → AcceptWith f a (hands_in x ++ others) → DoingKnows f a (At x) → MachineTurned f a a (At x) (At (locked_stage command x)) n Law.Turn.Step others
 
   led : (stage : Stage) → LockStage stage → Led stage
-  led stage (lock_first at) = subst Led (sym at) (λ is A K. stepped_on f a a command chain n Stage.Begun whole whole others (first_stage command)
+  led stage (lock_first at) = subst Led (sym at) (λ is A K. stepped_on f a a a command chain seqnum n Stage.Begun whole whole others (first_stage command)
       (command_made command f a a whole whole n Stage.Begun (Next.Step (first_stage command)) others is (begun_order command) tt A K.found K.joined (begun_makes f a command whole)))
-  led stage (lock_second found at) = subst Led (sym at) (λ is A K. stepped_on f a a command chain n (Stage.Looked found) whole whole others (Stage.Listed found)
+  led stage (lock_second found at) = subst Led (sym at) (λ is A K. stepped_on f a a a command chain seqnum n (Stage.Looked found) whole whole others (Stage.Listed found)
       (command_made command f a a whole whole n (Stage.Looked found) (Next.Step (Stage.Listed found)) others is (looked_order command n found is) tt A K.found K.joined (looked_makes f a command whole n found is)))
-  led stage (lock_both at) = subst Led (sym at) (λ is A K. stepped_on f a a command chain n (Stage.Wiping Wipes.Records) whole whole others (Stage.Wiping Wipes.FreeList)
+  led stage (lock_both at) = subst Led (sym at) (λ is A K. stepped_on f a a a command chain seqnum n (Stage.Wiping Wipes.Records) whole whole others (Stage.Wiping Wipes.FreeList)
       (command_made command f a a whole whole n (Stage.Wiping Wipes.Records) (Next.Step (Stage.Wiping Wipes.FreeList)) others is (wiping_order command n is) tt A K.found K.joined (wiping_makes f a command whole n is)))
 
   unchanged : (stage : Stage) → LockStage stage → IsAfter command stage n → map_changed (command_of command) n ≡ false
@@ -472,8 +518,8 @@ module _ (f : Form) (a : List ℕ) (command : Plain) (chain n : ℕ) (whole : Op
   lock_turned stage e Turns.Step locks owner old new rows r at L is A K = subst (λ x. MachineTurned f a a (At stage) x n Law.Turn.Step others) (sym L.0) (led stage (lock_stage rows stage r at) is A K)
   lock_turned stage e (Turns.Blocked other byte) locks owner old new rows r at L is A K =
       subst (λ x. MachineTurned f a a (At stage) x n (Law.Turn.Blocked other byte) others) (sym L.0)
-      (record { accepted = A; knows = K; only = same_only; map = λ m M. map_waits other byte refl (unchanged stage (lock_stage rows stage r at) is) M })
+      (record { accepted = A; knows = K; only = same_only; map = λ m M. map_waits other byte refl (unchanged stage (lock_stage rows stage r at) is) M; number = refl })
   lock_turned stage e (Turns.Done reply) locks owner old new rows r at L is A K =
       subst (λ x. MachineTurned f a a (At stage) x n (Law.Turn.Ends (reply_of reply)) others) (sym L.1)
-      (subst (λ q. MachineTurned f a a (At stage) (begun command chain) n (Law.Turn.Ends (reply_of q)) others) (sym L.0)
-      (record { accepted = subst (λ h. AcceptWith f a (h ++ others)) (no_hands stage (lock_stage rows stage r at)) A; knows = begun_knows f a command chain; only = same_only; map = λ m M. map_starves refl (unchanged stage (lock_stage rows stage r at) is) M }))
+      (subst (λ q. MachineTurned f a a (At stage) (begun command chain seqnum) n (Law.Turn.Ends (reply_of q)) others) (sym L.0)
+      (record { accepted = subst (λ h. AcceptWith f a (h ++ others)) (no_hands stage (lock_stage rows stage r at)) A; knows = begun_knows f a command chain seqnum; only = same_only; map = λ m M. map_starves refl (unchanged stage (lock_stage rows stage r at) is) M; number = refl }))

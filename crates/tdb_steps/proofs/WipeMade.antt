@@ -8,6 +8,7 @@ use Rattle.tdb_space.proofs.Stays.{changes_none}
 use Rattle.tdb_steps.specs.Wiped.{Wiped, FrontSame}
 use Rattle.tdb_steps.specs.Stages.{hands_after, HoldsChain, is_changed, is_changed_after}
 use Rattle.tdb_steps.specs.Turns.{MapWiped, WipeMade}
+use Rattle.tdb_steps.proofs.Made.{number_same}
 use Rattle.tdb_steps.specs.declared.stage.Stage.{Stage}
 use Rattle.tdb_steps.specs.declared.stage.WipeStage.TheVariants as Wipes
 use Rattle.tdb_steps.specs.declared.stage.Next.{Next}
@@ -21,6 +22,7 @@ wiped_made f a b others none W = record {
   accepted = subst (λ hands. AcceptWith f b hands) (sym none) W.accepted;
   only = record { front = front_stays f a b W.stays; chains = λ k below never. absurd (never tt) };
   map = W.no_pair;
+  number = number_same f a b W.stays.header;
 }
 
 map_kept : (f : Form) (a : List ℕ) (old : Stage) (next : Next) → is_changed_after next ≡ is_changed old → MapWiped (is_changed old) (is_changed_after next) f a a
@@ -34,4 +36,4 @@ map_kept f a old next same = kept (is_changed old) (is_changed_after next) same
 
 -- a turn that leaves the image
 pub wipe_waits : (f : Form) (a : List ℕ) (old : Stage) (next : Next) (others : List HandPair) → AcceptWith f a (hands_after next ++ others) → is_changed_after next ≡ is_changed old → WipeMade f a a old next others
-wipe_waits f a old next others A same = record { accepted = A; only = changes_none f a (λ k. HoldsChain old); map = map_kept f a old next same }
+wipe_waits f a old next others A same = record { accepted = A; only = changes_none f a (λ k. HoldsChain old); map = map_kept f a old next same; number = refl }

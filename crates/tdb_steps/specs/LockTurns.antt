@@ -24,13 +24,13 @@ LockLed locks owner old new rows r d e Step =
 LockLed locks owner old new rows r d e (Blocked other byte) =
     (e ≡ d) × (new ≡ old) × (kind : Kind) × IsFirstConflict old owner (start_of r.region) (end_of r.region) r.kind other byte kind
 LockLed locks owner old new rows r d e (Done reply) =
-    (reply ≡ Reply.Memory) × (e ≡ begun d.command d.chain) × IsFree old owner (start_of r.region) (end_of r.region) r.kind × AreLetGo locks owner old new rows
+    (reply ≡ Reply.Memory) × (e ≡ begun d.command d.chain d.seqnum) × IsFree old owner (start_of r.region) (end_of r.region) r.kind × AreLetGo locks owner old new rows
 
 -- a turn that takes no lock leads on, or ends
 abbrev pub ActLed : Doing → Doing → Turn → Type 0
 ActLed d e Step = Unit {0}
 ActLed d e (Blocked other byte) = ⊥
-ActLed d e (Done reply) = e ≡ begun d.command d.chain
+ActLed d e (Done reply) = e ≡ begun d.command d.chain d.seqnum
 
 -- how a turn that takes no lock leads on, or ends, from image a to image b: as its command's turns go
 abbrev pub ActRightly : Form → List ℕ → List ℕ → Doing → Doing → ℕ → List ℕ → Turn → Type 0

@@ -1,39 +1,44 @@
 -- A machine: what a command has between two of its turns, what it needs and knows, and what a turn makes of an image.
-use Rattle.std.specs.Prelude.{ℕ, ◌+◌, ◌^◌, ◌≡◌, ◌≤◌, ◌<◌, ◌⊎◌, List, ◌++◌, length, false, true, Option, None, IfSome, unwrap_or}
+use Rattle.std.specs.Prelude.{ℕ, ◌+◌, ◌^◌, ◌≡◌, ◌≤◌, ◌<◌, ◌⊎◌, List, ◌++◌, length, Bool, false, true, ◌&&◌, Option, None, IfSome, unwrap_or}
 use Rattle.tdb_space.specs.Form.{Form}
 use Rattle.tdb_space.specs.Pairs.{home}
 use Rattle.tdb_space.specs.NewRecord.{rec_len_for}
 use Rattle.tdb_space.specs.Extents.{HandPair}
 use Rattle.tdb_space.specs.Accepted.{AcceptWith}
 use Rattle.tdb_space.specs.Spare.{Spare}
-use Rattle.tdb_space.specs.Stays.{ChangesOnly, ChainStays}
+use Rattle.tdb_space.specs.Stays.{ChangesOnly, ChainStays, ChainsStay}
 use Rattle.tdb_law.specs.Commands.{MapCommand, Reply, Turn}
 use Rattle.tdb_law.specs.Commands.Reply.{Done, Memory, Full}
 use Rattle.tdb_law.specs.Commands.Turn.{Step, Blocked, Ends}
 use Rattle.tdb_law.specs.Openers.{Map}
-use Rattle.tdb_law.specs.MapCommands.{reply, after, map_fills}
+use Rattle.tdb_law.specs.MapCommands.{reply, after, map_fills, map_changes as may_change}
+use Rattle.tdb_law.specs.Counting.{raised}
+use Rattle.tdb_law.specs.Commands as Law
+use Rattle.tdb_locks.specs.declared.turn.Reply as Replies
 use Rattle.tdb_law.specs.Rows.{map_changed}
 use Rattle.tdb_law.specs.Ends.{map_last, map_ends}
 use Rattle.tdb_steps.specs.declared.plain.Plain.{Plain}
 use Rattle.tdb_steps.specs.declared.plain.Plain.TheVariants.{Fetch, Has, Store, Append, Delete, Wipe}
 use Rattle.tdb_steps.specs.declared.stage.Stage.{Stage}
-use Rattle.tdb_steps.specs.declared.stage.Stage.TheVariants.{Begun}
+use Rattle.tdb_steps.specs.declared.stage.Stage.TheVariants.{Begun, Ending}
 use Rattle.tdb_steps.specs.declared.stage.Next.{Next}
-use Rattle.tdb_steps.specs.Turns.{Makes, AppendMakes, WipeMakes, StoresRightly, AppendsRightly, DeletesRightly, WipesRightly, LooksRightly}
-use Rattle.tdb_steps.specs.Stages.{hands_in, Knows, IsJoined, OfLook, OfStore, OfDelete, OfWipe}
+use Rattle.tdb_steps.specs.Turns.{number_of, Makes, AppendMakes, WipeMakes, StoresRightly, AppendsRightly, DeletesRightly, WipesRightly, LooksRightly}
+use Rattle.tdb_steps.specs.Stages.{hands_in, is_done, IsIdle, Knows, IsJoined, OfLook, OfStore, OfDelete, OfWipe}
 use Rattle.tdb_steps.specs.PlainCommands.{key_of, asked_of, command_of, IsMapOf}
 use Rattle.tdb_steps.specs.Order.{IsAfter}
 
--- the command, the chain of its key, the stage, and the bytes that an append has joined
+-- the command, the chain of its key, whether its change counts in the sequence number, the stage, and the bytes that an append has
+-- joined
 pub record Doing : Type 0 where
   pub command : Plain
   pub chain : ℕ
+  pub seqnum : Bool
   pub stage : Stage
   pub whole : Option (List ℕ)
 
 -- a command that has had no turn
-abbrev pub begun : Plain → ℕ → Doing
-begun command chain = record { command = command; chain = chain; stage = Begun; whole = None }
+abbrev pub begun : Plain → ℕ → Bool → Doing
+begun command chain seqnum = record { command = command; chain = chain; seqnum = seqnum; stage = Begun; whole = None }
 
 -- the key and the value of a command are short enough for the words of a file
 abbrev pub IsShort : Plain → Type 0
@@ -55,7 +60,7 @@ IsFit (Has key) whole stage size spare = OfLook stage
 IsFit (Store key value flag) whole stage size spare = OfStore (length key + length value) stage size spare
 IsFit (Append key value) whole stage size spare = OfStore (length key + length (unwrap_or whole value)) stage size spare
 IsFit (Delete key) whole stage size spare = OfDelete stage size spare
-IsFit Wipe whole stage size spare = OfWipe stage
+IsFit Wipe whole stage size spare = OfWipe stage spare
 
 pub record Fits (d : Doing) (size : ℕ) (spare : Spare) : Type 0 where
   pub short : IsShort d.command
@@ -99,6 +104,24 @@ abbrev pub IsOn : Form → Plain → ℕ → Type 0
 IsOn f Wipe k = Unit {0}
 IsOn f command k = k ≡ home f (key_of command)
 
+-- the sequence number after a turn: raised where changes count, and the command is done and may change the map
+abbrev pub number_after : Bool → MapCommand → Turn → ℕ → ℕ
+number_after counting c (Ends r) q = raised (Law.is_done r && (may_change c && counting)) q
+number_after counting c turn q = q
+
+-- the reply to a command raises the sequence number
+abbrev pub is_counted : Doing → Replies.Reply → Bool
+is_counted d reply = is_done reply && (may_change (command_of d.command) && d.seqnum)
+
+-- From image a, accepted with some hands, to image b at most the sequence number changed: it is raised where it is counted.
+pub record Counted (f : Form) (a b : List ℕ) (counts : Bool) (hands : List HandPair) : Type 0 where
+  pub stay : ChainsStay f a b hands
+  pub number : number_of f b ≡ raised counts (number_of f a)
+
+-- a turn from this stage of a machine makes no call that changes the file
+abbrev pub IsQuiet : Doing → Type 0
+IsQuiet d = IsIdle d.stage × (d.stage ≡ Ending → d.seqnum ≡ false)
+
 -- What a turn of a command that has had n steps makes of the file's map m, in the words of a world:
 --   waits      blocked; the map stays
 --   goes_on    a step that leaves the map
@@ -124,16 +147,18 @@ MapRow c n (Ends r) = (map_ends c n r ≡ true) ⊎ ((r ≡ Memory) × (n ≤ ma
 
 -- A turn of a machine led from image a to image b, where other hands are out that stay as they are. The new image is accepted with
 -- them and the machine's own. At most the chain of its key changed, or any by a wipe, and that only after its first turn, which locks
--- it, or all. The turn is one of the command's row, and the map and the reply are as the command says.
+-- it, or all. The turn is one of the command's row, the map and the reply are as the command says, and the sequence number is raised
+-- where the command counts and is done.
 pub record MachineTurned (f : Form) (a b : List ℕ) (d e : Doing) (n : ℕ) (turn : Turn) (others : List HandPair) : Type 0 where
   pub accepted : AcceptWith f b (hands_in e.stage ++ others)
   pub knows : DoingKnows f b e
   pub only : ChangesOnly f a b (λ k. IsOn f d.command k × (1 ≤ n))
   pub map : (m : Map) → IsMapOf f a m → MapTurned f b (command_of d.command) n m turn
+  pub number : number_of f b ≡ number_after d.seqnum (command_of d.command) turn (number_of f a)
 
 -- what a turn leaves of the machine: after a step it has had one more, blocked it is as it was, and at its end it is before its first
 -- turn
 abbrev pub Leaves : Doing → Doing → ℕ → Turn → Type 0
-Leaves d e n Step = (e.command ≡ d.command) × (e.chain ≡ d.chain) × IsAfter e.command e.stage (n + 1)
+Leaves d e n Step = (e.command ≡ d.command) × (e.chain ≡ d.chain) × (e.seqnum ≡ d.seqnum) × IsAfter e.command e.stage (n + 1)
 Leaves d e n (Blocked o byte) = e ≡ d
-Leaves d e n (Ends r) = e ≡ begun d.command d.chain
+Leaves d e n (Ends r) = e ≡ begun d.command d.chain d.seqnum

@@ -83,7 +83,7 @@ LiesThere (Some place) size = StandsWithin place size
 pub record CanLink (found : Option Place) (hand : HandPair) (size n : ℕ) (spare : Spare) : Type 0 where
   pub within : IfSome found (λ place. StandsWithin place size)
   pub fits : n + 4 ≤ hand.1
-  pub room : RoomForAll spare (12 + hand.1 / 4096) (76 + hand.1)
+  pub room : RoomForAll spare (13 + hand.1 / 4096) (80 + hand.1)
 
 -- the stages of a command that only looks
 abbrev pub OfLook : Stage → Type 0
@@ -96,8 +96,9 @@ abbrev pub OfDelete : Stage → ℕ → Spare → Type 0
 OfDelete (Looked found) size spare = LiesThere found size
 OfDelete (Listed found) size spare = LiesThere found size
 OfDelete (Taken found hand) size spare = ⊥
-OfDelete (Changed hand) size spare = RoomForAll spare 5 40
+OfDelete (Changed hand) size spare = RoomForAll spare 6 44
 OfDelete (Wiping stage) size spare = ⊥
+OfDelete Ending size spare = RoomForAll spare 1 4
 OfDelete _ size spare = Unit {0}
 
 -- the stages of a store of so many bytes, key and value, and what each needs
@@ -105,16 +106,17 @@ abbrev pub OfStore : ℕ → Stage → ℕ → Spare → Type 0
 OfStore n (Looked found) size spare = IfSome found (λ place. StandsWithin place size)
 OfStore n (Listed found) size spare = IfSome found (λ place. StandsWithin place size)
 OfStore n (Taken found hand) size spare = CanLink found hand size n spare
-OfStore n (Changed hand) size spare = RoomForAll spare 5 40
+OfStore n (Changed hand) size spare = RoomForAll spare 6 44
 OfStore n (Wiping stage) size spare = ⊥
+OfStore n Ending size spare = RoomForAll spare 1 4
 OfStore n _ size spare = Unit {0}
 
--- the stages of a wipe
-abbrev pub OfWipe : Stage → Type 0
-OfWipe Begun = Unit {0}
-OfWipe (Wiping stage) = Unit {0}
-OfWipe Ending = Unit {0}
-OfWipe _ = ⊥
+-- the stages of a wipe, and what each needs
+abbrev pub OfWipe : Stage → Spare → Type 0
+OfWipe Begun spare = Unit {0}
+OfWipe (Wiping stage) spare = Unit {0}
+OfWipe Ending spare = RoomForAll spare 1 4
+OfWipe _ spare = ⊥
 
 -- The hands of other commands that may be out at a stage: any. But where a wipe has locked all records and the free list, there is
 -- none: the locks of whoever had one would conflict.
@@ -150,6 +152,11 @@ IsIdle _ = ⊥
 abbrev pub IsEnd : Next → Type 0
 IsEnd (Step stage) = ⊥
 IsEnd (Done reply) = Unit {0}
+
+-- a command that is done leaves room to write the sequence number
+abbrev pub CanCount : Spare → Next → Type 0
+CanCount spare (Done Reply.Ok) = RoomForAll spare 1 4
+CanCount spare next = Unit {0}
 
 -- the command goes on
 abbrev pub IsStep : Next → Type 0

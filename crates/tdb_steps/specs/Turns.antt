@@ -1,6 +1,7 @@
 -- What a turn of a command makes of the image.
 use Rattle.std.specs.Prelude.{◌≡◌, ℕ, ◌+◌, ◌≤◌, ◌<◌, ◌⊎◌, Bool, true, false, List, [], ◌∷◌, ◌++◌, length, Option, None, Some, Contains}
 use Rattle.std.specs.Map.{update}
+use Rattle.tdb_words.specs.Word.{word}
 use Rattle.tdb_space.specs.Form.{Form}
 use Rattle.tdb_space.specs.Pairs.{map_of, home, same_key}
 use Rattle.tdb_space.specs.Extents.{HandPair}
@@ -23,6 +24,10 @@ use Rattle.tdb_steps.specs.Asked.{Asked, appends, joined, wipes}
 use Rattle.tdb_steps.specs.Wiped.{Wiped}
 use Rattle.tdb_steps.specs.Stages.{hands_in, hands_after, MayBeOut, HoldsChain, Knows, KnowsAfter, IsJoined, JoinedAfter, is_changed, is_changed_after, IsEnd}
 
+-- the sequence number of an image
+abbrev pub number_of : Form → List ℕ → ℕ
+number_of f img = word f.order img 48
+
 -- The map after a turn, by whether the change was made before it and is made after it: only the turn that makes the change changes
 -- the map, and at the key alone, to the value that the command leaves there.
 abbrev pub MapBy : Bool → Bool → Form → List ℕ → List ℕ → List ℕ → Asked → Type 0
@@ -44,13 +49,14 @@ Says _ asked v (Done reply) = IsWant reply ⊎ (reply ≡ asked.reply v)
 
 -- A turn led from image a to image b, where other hands are out that stay as they are. The new image is accepted with the hands
 -- that the command holds then, and it knows of the new image what its stage says. At most the chain of its key changed, and that
--- only while it is locked; a turn before that changes nothing.
+-- only while it is locked; a turn before that changes nothing. The sequence number stays.
 pub record TurnMade (f : Form) (a b key : List ℕ) (asked : Asked) (old : Stage) (next : Next) (others : List HandPair) : Type 0 where
   pub accepted : AcceptWith f b (hands_after next ++ others)
   pub knows : KnowsAfter f b key asked next
   pub only : ChangesOnly f a b (λ k. (k ≡ home f key) × HoldsChain old)
   pub map : MapBy (is_changed old) (is_changed_after next) f a b key asked
   pub says : Says old asked (map_of f a key) next
+  pub number : number_of f b ≡ number_of f a
 
 -- what a turn from this stage makes of an image, for whatever other hands are out
 abbrev pub Makes : Form → List ℕ → List ℕ → List ℕ → Asked → Stage → Next → Type 0
@@ -153,11 +159,12 @@ MapWiped false true f a b = (key : List ℕ) → map_of f b key ≡ wipes.left (
 MapWiped _ _ f a b = (key : List ℕ) → map_of f b key ≡ map_of f a key
 
 -- A turn of a wipe led from image a to image b, where other hands are out that stay as they are. The new image is accepted with
--- them. Any chain may have changed, but only while all are locked.
+-- them. Any chain may have changed, but only while all are locked. The sequence number stays.
 pub record WipeMade (f : Form) (a b : List ℕ) (old : Stage) (next : Next) (others : List HandPair) : Type 0 where
   pub accepted : AcceptWith f b (hands_after next ++ others)
   pub only : ChangesOnly f a b (λ k. HoldsChain old)
   pub map : MapWiped (is_changed old) (is_changed_after next) f a b
+  pub number : number_of f b ≡ number_of f a
 
 -- what such a turn makes of an image, for whatever other hands may be out
 abbrev pub WipeMakes : Form → List ℕ → List ℕ → Stage → Next → Type 0

@@ -1,9 +1,11 @@
 // A turn of a command without its locks.
 
-ghost use Rattle.std.specs.Prelude.{◌≤◌, ◌<◌, ◌^◌, IsTrue, IfOk};
+ghost use Rattle.std.specs.Prelude.{◌≡◌, ◌≤◌, ◌<◌, ◌^◌, true, IsTrue, IfOk};
 ghost use Rattle.tdb_disk.specs.Count.{HasCause};
 ghost use Rattle.tdb_space.specs.Frame.{Looked, Wrote};
-ghost use Rattle.tdb_steps.specs.Stages.{Leads, IsIdle};
+ghost use Rattle.tdb_steps.specs.Stages.{Leads, IsIdle, CanCount};
+ghost use Rattle.tdb_law.specs.MapCommands.{map_changes};
+ghost use Rattle.tdb_steps.specs.PlainCommands.{command_of};
 ghost use Rattle.tdb_steps.specs.Order.{InOrder};
 ghost use Rattle.tdb_steps.specs.Machines.{IsShort, IsShortWhole, IsFit, CommandMakes, CommandRightly};
 
@@ -41,6 +43,7 @@ pub(crate) fn act<S: Space>(
     ensures order { IfOk result (InOrder command.now stage) }
     ensures fit { IfOk result (Leads (λ then. IsFit command.now whole.new then (S.size s.new) (S.spare s.new))) }
     ensures whole { IsShortWhole whole.new }
+    ensures room { IfOk result (λ next. map_changes (command_of command.now) ≡ true → CanCount (S.spare s.new) next) }
     ensures idle { IsIdle stage → Looked S.Space s.old s.new }
     ensures longer { S.size s.old ≤ S.size s.new }
     ensures within { S.size s.old ≤ limit → S.size s.new ≤ limit }

@@ -5,7 +5,7 @@ ghost use Rattle.tdb_disk.specs.Count.{HasCause};
 ghost use Rattle.tdb_space.specs.Frame.{Looked, Wrote};
 ghost use Rattle.tdb_space.specs.NewRecord.{rec_len_for};
 ghost use Rattle.tdb_steps.specs.Asked.{stores};
-ghost use Rattle.tdb_steps.specs.Stages.{OfStore, Leads, IsIdle};
+ghost use Rattle.tdb_steps.specs.Stages.{OfStore, Leads, IsIdle, CanCount};
 ghost use Rattle.tdb_steps.specs.Turns.{Makes, AppendMakes, StoresRightly, AppendsRightly};
 ghost use Rattle.tdb_steps.specs.Order.{StoreOrder};
 ghost use Rattle.tdb_steps.specs.declared.flag.Flag.TheVariants as Flags;
@@ -40,6 +40,7 @@ fn store_joined<S: Space>(
     ensures rightly { IfOk result (λ next. IsTrue S.tells → S.size s.old < 2 ^ 32
         → StoresRightly (S.form s.old) (S.image s.old) (S.image s.new) key.now (length (unwrap_or whole.now more.now)) (rec_len_for (length key.now) (length (unwrap_or whole.now more.now))) limit stood_on.now stage next) }
     ensures order { IfOk result (StoreOrder stage) }
+    ensures room { IfOk result (CanCount (S.spare s.new)) }
     ensures leads { IfOk result (Leads (λ then. OfStore (length key.now + length (unwrap_or whole.now more.now)) then (S.size s.new) (S.spare s.new))) }
     ensures idle { IsIdle stage → Looked S.Space s.old s.new }
     ensures longer { S.size s.old ≤ S.size s.new }
@@ -90,6 +91,7 @@ pub fn append_turn<S: Space>(
     ensures rightly { IfOk result (λ next. IsTrue S.tells → S.size s.old < 2 ^ 32
         → AppendsRightly (S.form s.old) (S.image s.old) (S.image s.new) key.now more.now whole.old limit stood_on.now stage next) }
     ensures order { IfOk result (StoreOrder stage) }
+    ensures room { IfOk result (CanCount (S.spare s.new)) }
     ensures leads { IfOk result (Leads (λ then. OfStore (length key.now + length (unwrap_or whole.new more.now)) then (S.size s.new) (S.spare s.new))) }
     ensures short { length (unwrap_or whole.new more.now) < 2 ^ 33 }
     ensures keeps { (stage ≡ Stage.Chained → ⊥) → whole.new ≡ whole.old }

@@ -9,7 +9,7 @@ ghost use Rattle.tdb_space.specs.Pairs.{map_of};
 ghost use Rattle.tdb_words.specs.declared.record.TheConstants.{USED};
 ghost use Rattle.tdb_chain.specs.Place.{StandsWithin, HoldsKey};
 ghost use Rattle.tdb_steps.specs.Asked.{appends, joined};
-ghost use Rattle.tdb_steps.specs.Stages.{OfStore, Leads};
+ghost use Rattle.tdb_steps.specs.Stages.{OfStore, Leads, CanCount};
 ghost use Rattle.tdb_steps.specs.Turns.{Makes, TurnMade, UpdatesRightly, Finds};
 ghost use Rattle.tdb_steps.specs.Order.{LooksOn};
 ghost use Rattle.tdb_steps.specs.declared.stage.Stage.TheVariants as Stage;
@@ -71,6 +71,7 @@ pub fn look_to_append<S: Space>(
         → (next ≡ Next.Done Reply.Memory) ⊎ (unwrap_or whole.new more.now ≡ joined (map_of (S.form s.old) (S.image s.old) key.now) more.now)) }
     ensures rightly { IfOk result (λ next. IsTrue S.tells → Finds (S.form s.old) (S.image s.old) key.now (λ place. UpdatesRightly (length (unwrap_or whole.new more.now)) place next)) }
     ensures order { IfOk result LooksOn }
+    ensures room { IfOk result (CanCount (S.spare s.new)) }
     ensures short { length (unwrap_or whole.new more.now) < 2 ^ 33 }
     ensures leads { (n : ℕ) → IfOk result (Leads (λ stage. OfStore n stage (S.size s.new) (S.spare s.new))) }
     ensures size { S.size s.new ≡ S.size s.old }

@@ -4,7 +4,7 @@ ghost use Rattle.std.specs.Prelude.{◌≡◌, ◌≤◌, ◌<◌, ◌^◌, IsTr
 ghost use Rattle.tdb_disk.specs.Count.{HasCause};
 ghost use Rattle.tdb_space.specs.Frame.{Looked, Wrote};
 ghost use Rattle.tdb_steps.specs.Asked.{deletes};
-ghost use Rattle.tdb_steps.specs.Stages.{OfDelete, Leads, IsIdle};
+ghost use Rattle.tdb_steps.specs.Stages.{OfDelete, Leads, IsIdle, CanCount};
 ghost use Rattle.tdb_steps.specs.Turns.{Makes, DeletesRightly};
 ghost use Rattle.tdb_steps.specs.Order.{DeleteOrder};
 
@@ -33,6 +33,7 @@ pub fn delete_turn<S: Space>(
     ensures made { IfOk result (λ next. IsTrue S.tells → S.size s.old < 2 ^ 32 → Makes (S.form s.old) (S.image s.old) (S.image s.new) key.now deletes stage next) }
     ensures rightly { IfOk result (λ next. IsTrue S.tells → S.size s.old < 2 ^ 32 → DeletesRightly (S.form s.old) (S.image s.old) (S.image s.new) key.now stood_on.now stage next) }
     ensures order { IfOk result (DeleteOrder stage) }
+    ensures room { IfOk result (CanCount (S.spare s.new)) }
     ensures leads { IfOk result (Leads (λ then. OfDelete then (S.size s.new) (S.spare s.new))) }
     ensures idle { IsIdle stage → Looked S.Space s.old s.new }
     ensures size { S.size s.new ≡ S.size s.old }

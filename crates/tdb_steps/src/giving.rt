@@ -1,6 +1,6 @@
 // The turn that gives the old record of a key to the free list.
 
-ghost use Rattle.std.specs.Prelude.{◌≡◌, ◌≤◌, ◌<◌, ◌^◌, ℕ, List, IsTrue, IfOk};
+ghost use Rattle.std.specs.Prelude.{◌≡◌, ◌≤◌, ◌<◌, ◌^◌, ℕ, List, IsTrue, IfOk, OnOk};
 ghost use Rattle.tdb_disk.specs.Count.{HasCause};
 ghost use Rattle.tdb_space.specs.Frame.{Wrote};
 ghost use Rattle.tdb_space.specs.Spare.{RoomForAll};
@@ -13,12 +13,13 @@ use crate::stage::{Next, Stage};
 use tdb_free::give;
 use tdb_space::{Hand, Io, Space};
 
-/// Gives the old record back. The command has nothing to write then.
+/// Gives the old record back. The command has at most the sequence number to write then.
 pub(crate) fn give_back<S: Space>(s: &mut S, hand: Hand) -> Result<Next, Io>
-    requires room { RoomForAll (S.spare s.old) 5 40 }
+    requires room { RoomForAll (S.spare s.old) 6 44 }
     ensures made { IfOk result (λ next. IsTrue S.tells → S.size s.old < 2 ^ 32 → (key : List ℕ) (asked : Asked)
         → Makes (S.form s.old) (S.image s.old) (S.image s.new) key asked (Stage.Changed hand) next) }
     ensures rightly { IfOk result (λ next. IsTrue S.tells → S.size s.old < 2 ^ 32 → GivesRightly (S.form s.old) (S.image s.old) (S.image s.new) hand next) }
+    ensures room { OnOk result (RoomForAll (S.spare s.new) 1 4) }
     ensures ending { IfOk result (λ next. next ≡ Next.Step Stage.Ending) }
     ensures size { S.size s.new ≡ S.size s.old }
     ensures wrote { Wrote S.Space s.old s.new }

@@ -4,6 +4,7 @@
 mod acting;
 mod append_turns;
 mod appending;
+mod counting;
 mod deleting;
 mod flag;
 mod giving;

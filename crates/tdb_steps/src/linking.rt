@@ -31,7 +31,7 @@ fn link_over<S: Space>(
     requires chains { 0 < (S.form s.old).chains }
     requires within { IfSome over (λ place. StandsWithin place (S.size s.old)) }
     requires fits { length key.now + length value.now + 4 ≤ hand.1 }
-    requires room { RoomForAll (S.spare s.old) (11 + hand.1 / 4096) (72 + hand.1) }
+    requires room { RoomForAll (S.spare s.old) (12 + hand.1 / 4096) (76 + hand.1) }
     ensures made { IfOk result (λ next. IsTrue S.tells → S.size s.old < 2 ^ 32 → (flag : Flag)
         → Makes (S.form s.old) (S.image s.old) (S.image s.new) key.now (stores flag value.now) (Stage.Taken over hand) next) }
     ensures rightly { IfOk result (λ next. IsTrue S.tells → S.size s.old < 2 ^ 32

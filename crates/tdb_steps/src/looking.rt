@@ -7,7 +7,7 @@ ghost use Rattle.tdb_space.specs.Extents.{HandPair};
 ghost use Rattle.tdb_space.specs.Accepted.{AcceptWith};
 ghost use Rattle.tdb_chain.specs.Place.{StandsWithin};
 ghost use Rattle.tdb_steps.specs.Asked.{stores, deletes};
-ghost use Rattle.tdb_steps.specs.Stages.{IsKnown, OfStore, OfDelete, Leads, IsEnd};
+ghost use Rattle.tdb_steps.specs.Stages.{IsKnown, OfStore, OfDelete, Leads, IsEnd, CanCount};
 ghost use Rattle.tdb_steps.specs.Turns.{Makes, TurnMade, UpdatesRightly, MarksRightly, Finds};
 ghost use Rattle.tdb_steps.specs.Order.{LooksOn};
 ghost use Rattle.tdb_steps.specs.declared.flag.Flag.{Flag};
@@ -28,6 +28,7 @@ pub(crate) fn update_found<S: Space>(s: &mut S, place: Place, value: &[u8]) -> R
         → TurnMade (S.form s.old) (S.image s.old) (S.image s.new) key (stores flag value.now) Stage.Chained next others) }
     ensures rightly { IfOk result (UpdatesRightly (length value.now) (Some place)) }
     ensures order { IfOk result LooksOn }
+    ensures room { IfOk result (CanCount (S.spare s.new)) }
     ensures leads { (n : ℕ) → IfOk result (Leads (λ stage. OfStore n stage (S.size s.new) (S.spare s.new))) }
     ensures size { S.size s.new ≡ S.size s.old }
     ensures wrote { Wrote S.Space s.old s.new }
@@ -38,7 +39,7 @@ pub(crate) fn update_found<S: Space>(s: &mut S, place: Place, value: &[u8]) -> R
     if need > place.rec.rec_len as u64 {
         return Ok(Next::Step(Stage::Looked(Some(place))));
     }
-    let Ok(()) = s.ready(2, 4 + value.len() as u64) else {
+    let Ok(()) = s.ready(3, 8 + value.len() as u64) else {
         return Ok(Next::Done(Reply::Memory));
     };
     update_in_place(s, &place, value)?;
@@ -53,12 +54,13 @@ fn mark_found<S: Space>(s: &mut S, place: Place) -> Result<Next, Io>
         → TurnMade (S.form s.old) (S.image s.old) (S.image s.new) key deletes Stage.Chained next others) }
     ensures done { IfOk result IsEnd }
     ensures order { IfOk result LooksOn }
+    ensures room { IfOk result (CanCount (S.spare s.new)) }
     ensures size { S.size s.new ≡ S.size s.old }
     ensures wrote { Wrote S.Space s.old s.new }
     ensures cause { HasCause (S.faults s.old) (S.faults s.new) result }
     ensures bytes_read { S.bytes_read s.old ≤ S.bytes_read s.new }
 {
-    let Ok(()) = s.ready(1, 4) else {
+    let Ok(()) = s.ready(2, 8) else {
         return Ok(Next::Done(Reply::Memory));
     };
     mark_dead(s, &place)?;
@@ -79,6 +81,7 @@ pub(crate) fn look_to_store<S: Space>(
     ensures made { IfOk result (λ next. IsTrue S.tells → Makes (S.form s.old) (S.image s.old) (S.image s.new) key.now (stores flag value.now) Stage.Chained next) }
     ensures rightly { IfOk result (λ next. IsTrue S.tells → Finds (S.form s.old) (S.image s.old) key.now (λ place. UpdatesRightly (length value.now) place next)) }
     ensures order { IfOk result LooksOn }
+    ensures room { IfOk result (CanCount (S.spare s.new)) }
     ensures leads { (n : ℕ) → IfOk result (Leads (λ stage. OfStore n stage (S.size s.new) (S.spare s.new))) }
     ensures size { S.size s.new ≡ S.size s.old }
     ensures wrote { Wrote S.Space s.old s.new }
@@ -105,6 +108,7 @@ pub(crate) fn look_to_delete<S: Space>(s: &mut S, key: &[u8], stood_on: &Spots) 
     ensures made { IfOk result (λ next. IsTrue S.tells → Makes (S.form s.old) (S.image s.old) (S.image s.new) key.now deletes Stage.Chained next) }
     ensures rightly { IfOk result (λ next. IsTrue S.tells → Finds (S.form s.old) (S.image s.old) key.now (λ place. MarksRightly stood_on.now place next)) }
     ensures order { IfOk result LooksOn }
+    ensures room { IfOk result (CanCount (S.spare s.new)) }
     ensures leads { IfOk result (Leads (λ stage. OfDelete stage (S.size s.new) (S.spare s.new))) }
     ensures size { S.size s.new ≡ S.size s.old }
     ensures wrote { Wrote S.Space s.old s.new }

@@ -12,10 +12,11 @@ ghost use Rattle.tdb_steps.specs.Order.{IsAfter};
 ghost use Rattle.tdb_steps.specs.PlainCommands.{key_of, command_of, turn_of};
 ghost use Rattle.tdb_steps.specs.LockRows.{rows_of, row_at, locks_in, AllStandAlone, AreLetGo};
 ghost use Rattle.tdb_steps.specs.Holdings.{HoldsBefore, LocksTurned};
-ghost use Rattle.tdb_steps.specs.Machines.{begun, IsShort, Fits, DoingKnows, MachineTurned, MapRow, Leaves};
+ghost use Rattle.tdb_steps.specs.Machines.{begun, IsShort, Fits, is_counted, IsQuiet, DoingKnows, MachineTurned, MapRow, Leaves};
 ghost use Rattle.tdb_steps.specs.LockTurns.{LockLed, ActLed, ActRightly};
 
 use crate::acting::act;
+use crate::counting::count;
 use crate::locking::{let_go, take_lock};
 use crate::plain::Plain;
 use crate::rows::{LockRow, Rows};
@@ -34,6 +35,8 @@ use tdb_words::{Bytes, Header, chain_of, hash_of};
 pub struct Machine {
     command: Plain,
     chain: u32,
+    /// Whether the change that the command makes raises the sequence number.
+    seqnum: bool,
     stage: Stage,
     /// The bytes that an append has joined.
     whole: Option<Bytes>,
@@ -44,20 +47,22 @@ impl Model for Machine {
 
     ghost Value = { Doing };
 
-    ghost view = { λ m. record { command = m.command; chain = m.chain; stage = m.stage; whole = m.whole } };
+    ghost view = { λ m. record { command = m.command; chain = m.chain; seqnum = m.seqnum; stage = m.stage; whole = m.whole } };
 }
 
 impl Machine {
-    /// The machine of a command on a file with this header, before its first turn. It takes no memory.
-    pub fn new(command: Plain, h: &Header) -> Machine
+    /// The machine of a command on a file with this header, before its first turn. Where `seqnum` is set, a change that the command
+    /// makes raises the sequence number. It takes no memory.
+    pub fn new(command: Plain, h: &Header, seqnum: bool) -> Machine
         requires short { IsShort command }
         requires chains { 0 < h.now.hash_size }
-        ensures { result ≡ begun command (home (form_in h.now) (key_of command)) }
+        ensures { result ≡ begun command (home (form_in h.now) (key_of command)) seqnum }
     {
         let chain = chain_of(hash_of(h.hash, command.key()), h.hash_size);
         Machine {
             command,
             chain,
+            seqnum,
             stage: Stage::Begun,
             whole: None,
         }
@@ -68,6 +73,7 @@ impl Machine {
         let Machine {
             command: _,
             chain: _,
+            seqnum: _,
             stage,
             whole: _,
         } = self;
@@ -128,11 +134,23 @@ impl Machine {
         }
     }
 
+    /// Whether the reply to the command raises the sequence number.
+    fn counts(&self, reply: &Reply) -> bool
+        ensures { result ≡ is_counted self.now reply.now }
+    {
+        match reply {
+            Reply::Ok => self.command.changes() && self.seqnum,
+            _ => false,
+        }
+    }
+
     /// A turn that takes no lock, in a file that may grow to `limit` bytes, where cursors stand on the records at `stood_on`.
     ///
     /// It is a step, or the reply: then the locks are still held, and the machine is before its first turn. `Full` is the reply of a
     /// store and of an append exactly where no free record is long enough and the file can't grow so far, and it says how long the
-    /// file is and how many bytes were needed. `Io` where the disk failed: then the command has given up the record that it held.
+    /// file is and how many bytes were needed. With `Ok` the sequence number is raised where the machine counts: the room for that was
+    /// made before the first write. `Io` where the disk failed: then the command has given up the record that it held, and where only
+    /// the number was left to raise, the change is made.
     pub fn act_turn<S: Space>(
         &mut self,
         alloc: Global,
@@ -152,8 +170,8 @@ impl Machine {
         ensures row { IfOk result (λ turn. (n : ℕ) → IsAfter self.old.command self.old.stage n → MapRow (command_of self.old.command) n (turn_of turn)) }
         ensures leaves { IfOk result (λ turn. (n : ℕ) → IsAfter self.old.command self.old.stage n → Leaves self.old self.new n (turn_of turn)) }
         ensures fits { IfOk result (λ turn. Fits self.new (S.size s.new) (S.spare s.new)) }
-        ensures given_up { OnErr result (self.new ≡ begun self.old.command self.old.chain) }
-        ensures idle { IsIdle self.old.stage → Looked S.Space s.old s.new }
+        ensures given_up { OnErr result (self.new ≡ begun self.old.command self.old.chain self.old.seqnum) }
+        ensures idle { IsQuiet self.old → Looked S.Space s.old s.new }
         ensures longer { S.size s.old ≤ S.size s.new }
         ensures within { S.size s.old ≤ limit → S.size s.new ≤ limit }
         ensures wrote { Wrote S.Space s.old s.new }
@@ -168,7 +186,10 @@ impl Machine {
                 mem::replace(&mut self.stage, next).end();
                 Ok(Turn::Step)
             }
-            Next::Done(reply) => Ok(Turn::Done(reply)),
+            Next::Done(reply) => {
+                count(s, self.counts(&reply))?;
+                Ok(Turn::Done(reply))
+            }
         }
     }
 
@@ -187,7 +208,8 @@ impl Machine {
     /// changes then, and the next turn tries the same again. A lock that the explicit ones cover is neither taken nor let go, and its
     /// turn is a step all the same. With its reply the command lets go of what it took, for which it asks for no memory. The reply is
     /// `Memory` where that is wanting, before any change, and `Full` exactly where no free record is long enough for the value and the
-    /// file can't grow up to the limit. `Io` where the disk failed: then the command has given up the record that it
+    /// file can't grow up to the limit. With the reply `Ok` the sequence number is raised, where the machine counts its change; no lock
+    /// is taken for that. `Io` where the disk failed: then the command has given up the record that it
     /// held, and it keeps its locks. After a reply or `Io` the machine is before its first turn.
     ///
     /// A wipe is on no key: once all records are locked it may change any chain. Where it has both its locks, no hand of another command
@@ -219,9 +241,9 @@ impl Machine {
             → HoldsBefore held.now kept owner n locks.old (rows_of self.old.command self.old.chain)
             → LocksTurned (locks_in (rows_of self.old.command self.old.chain)) kept owner n locks.old locks.new (turn_of turn)) }
         ensures fits { IfOk result (λ turn. Fits self.new (S.size s.new) (S.spare s.new)) }
-        ensures idle { IsIdle self.old.stage → Looked S.Space s.old s.new }
+        ensures idle { IsQuiet self.old → Looked S.Space s.old s.new }
         ensures err { OnErr result (locks.new ≡ locks.old) }
-        ensures given_up { OnErr result (self.new ≡ begun self.old.command self.old.chain) }
+        ensures given_up { OnErr result (self.new ≡ begun self.old.command self.old.chain self.old.seqnum) }
         ensures longer { S.size s.old ≤ S.size s.new }
         ensures within { S.size s.old ≤ limit → S.size s.new ≤ limit }
         ensures wrote { Wrote S.Space s.old s.new }

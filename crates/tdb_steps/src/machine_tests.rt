@@ -101,6 +101,25 @@ fn take_turns(
     Ok(Told { end: None, kinds })
 }
 
+// Runs a command to its end, where its change counts in the sequence number or not.
+fn run_with(
+    alloc: Global,
+    order: Order,
+    command: Plain,
+    seqnum: bool,
+    disk: &mut MemDisk,
+    limit: u64,
+) -> Result<Told, Fail>
+    requires short { IsShort command }
+    requires limit { limit ≤ 4294963200 }
+{
+    let header = header(order);
+    let mut machine = Machine::new(command, &header, seqnum);
+    let told = take_turns(alloc, &header, &mut machine, disk, limit);
+    machine.end();
+    told
+}
+
 // Runs a command to its end.
 fn run(
     alloc: Global,
@@ -112,11 +131,7 @@ fn run(
     requires short { IsShort command }
     requires limit { limit ≤ 4294963200 }
 {
-    let header = header(order);
-    let mut machine = Machine::new(command, &header);
-    let told = take_turns(alloc, &header, &mut machine, disk, limit);
-    machine.end();
-    told
+    run_with(alloc, order, command, false, disk, limit)
 }
 
 // Whether these bytes stand in a file at an offset.
@@ -273,6 +288,55 @@ fn appends_behind_a_value(rt: HostRuntime) -> Result<(), Fail> {
         assert_eq!(rt; told.end, Some(Ok(Reply::Ok)));
         assert!(rt; has_bytes(&disk, 4076, &word_bytes(2, order)));
         assert!(rt; has_bytes(&disk, 4088, b"a12B"));
+    }
+    Ok(())
+}
+
+// An empty file whose sequence number is the greatest of 32 bits.
+fn worn_file(alloc: Global) -> Result<MemDisk, AllocError> {
+    let mut bytes = vec![in alloc; 0u8; 696]?;
+    bytes[48..52].fill(0xFF);
+    MemDisk::new(alloc, &bytes)
+}
+
+// The reply to a command whose change counts.
+fn counted(
+    alloc: Global,
+    order: Order,
+    command: Plain,
+    disk: &mut MemDisk,
+) -> Result<Option<Result<Reply, Io>>, Fail>
+    requires short { IsShort command }
+{
+    Ok(run_with(alloc, order, command, true, disk, MOST)?.end)
+}
+
+// Changes that don't count, that do, and one that is refused.
+#[test]
+fn counts_its_changes(rt: HostRuntime) -> Result<(), Fail> {
+    let alloc = rt.alloc();
+    for order in [Order::Little, Order::Big] {
+        let mut disk = worn_file(alloc)?;
+        store_one(alloc, order, Flag::Replace, &mut disk)?;
+        assert!(rt; has_bytes(&disk, 48, &[0xFF; 4]));
+        let command = store(alloc, b"a", b"2", Flag::Replace)?;
+        assert_eq!(rt;
+            counted(alloc, order, command, &mut disk)?,
+            Some(Ok(Reply::Ok))
+        );
+        assert!(rt; has_bytes(&disk, 48, &word_bytes(0, order)));
+        let command = store(alloc, b"a", b"3", Flag::Insert)?;
+        assert_eq!(rt;
+            counted(alloc, order, command, &mut disk)?,
+            Some(Ok(Reply::KeyThere))
+        );
+        assert!(rt; has_bytes(&disk, 48, &word_bytes(0, order)));
+        let command = delete(alloc, b"a")?;
+        assert_eq!(rt;
+            counted(alloc, order, command, &mut disk)?,
+            Some(Ok(Reply::Ok))
+        );
+        assert!(rt; has_bytes(&disk, 48, &word_bytes(1, order)));
     }
     Ok(())
 }

@@ -1,7 +1,8 @@
 // The plain commands.
 
 ghost use Rattle.std.specs.Prelude.{◌≡◌};
-ghost use Rattle.tdb_steps.specs.PlainCommands.{key_of};
+ghost use Rattle.tdb_law.specs.MapCommands.{map_changes};
+ghost use Rattle.tdb_steps.specs.PlainCommands.{key_of, command_of};
 
 use crate::flag::Flag;
 use tdb_words::Bytes;
@@ -48,6 +49,16 @@ impl Plain {
             | Plain::Append { key, .. }
             | Plain::Delete { key } => key.as_slice(),
             Plain::Wipe => &[],
+        }
+    }
+
+    /// Whether the command may change the map.
+    pub fn changes(&self) -> bool
+        ensures { result ≡ map_changes (command_of self.now) }
+    {
+        match self {
+            Plain::Fetch { .. } | Plain::Has { .. } => false,
+            Plain::Store { .. } | Plain::Append { .. } | Plain::Delete { .. } | Plain::Wipe => true,
         }
     }
 }

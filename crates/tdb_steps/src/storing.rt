@@ -5,7 +5,7 @@ ghost use Rattle.tdb_disk.specs.Count.{HasCause};
 ghost use Rattle.tdb_space.specs.Frame.{Looked, Wrote};
 ghost use Rattle.tdb_space.specs.NewRecord.{rec_len_for};
 ghost use Rattle.tdb_steps.specs.Asked.{stores};
-ghost use Rattle.tdb_steps.specs.Stages.{OfStore, Leads, IsIdle};
+ghost use Rattle.tdb_steps.specs.Stages.{OfStore, Leads, IsIdle, CanCount};
 ghost use Rattle.tdb_steps.specs.Turns.{Makes, StoresRightly};
 ghost use Rattle.tdb_steps.specs.Order.{StoreOrder};
 
@@ -44,6 +44,7 @@ pub fn store_turn<S: Space>(
     ensures rightly { IfOk result (λ next. IsTrue S.tells → S.size s.old < 2 ^ 32
         → StoresRightly (S.form s.old) (S.image s.old) (S.image s.new) key.now (length value.now) (rec_len_for (length key.now) (length value.now)) limit stood_on.now stage next) }
     ensures order { IfOk result (StoreOrder stage) }
+    ensures room { IfOk result (CanCount (S.spare s.new)) }
     ensures leads { IfOk result (Leads (λ then. OfStore (length key.now + length value.now) then (S.size s.new) (S.spare s.new))) }
     ensures idle { IsIdle stage → Looked S.Space s.old s.new }
     ensures longer { S.size s.old ≤ S.size s.new }

@@ -31,7 +31,7 @@ pub(crate) fn unlink_found<S: Space>(s: &mut S, place: Place) -> Result<Next, Io
     ensures cause { HasCause (S.faults s.old) (S.faults s.new) result }
     ensures bytes_read { S.bytes_read s.old ≤ S.bytes_read s.new }
 {
-    let Ok(()) = s.ready(6, 44) else {
+    let Ok(()) = s.ready(7, 48) else {
         return Ok(Next::Done(Reply::Memory));
     };
     let hand = unlink(s, place)?;

@@ -5,7 +5,7 @@ ghost use Rattle.tdb_disk.specs.Count.{HasCause};
 ghost use Rattle.tdb_space.specs.Frame.{Looked, Wrote};
 ghost use Rattle.tdb_space.specs.Accepted.{AcceptWith};
 ghost use Rattle.tdb_steps.specs.Wiped.{WipeStopped};
-ghost use Rattle.tdb_steps.specs.Stages.{OfWipe, Leads, IsIdle};
+ghost use Rattle.tdb_steps.specs.Stages.{OfWipe, Leads, IsIdle, CanCount};
 ghost use Rattle.tdb_steps.specs.Turns.{WipeMakes, WipesRightly};
 ghost use Rattle.tdb_steps.specs.Order.{WipeOrder};
 ghost use Rattle.tdb_steps.specs.declared.stage.Stage.TheVariants as Stage;
@@ -19,15 +19,16 @@ use tdb_space::{Io, Space};
 /// A turn of a wipe. The reply is `Ok`, or `Memory` where that is wanting before the first write.
 ///
 /// The first turn stands for the lock of all records, the second for that of the free list, and the last lets go of both: these make
-/// no call on the file. The third makes room for all writes of the wipe, and wipes the file, if no other hand is out. `Io` where the
+/// no call on the file. The third makes room for all writes of the wipe and one of the sequence number, and wipes the file, if no other hand is out. `Io` where the
 /// disk failed: then the command is given up.
 pub fn wipe_turn<S: Space>(stage: Stage, s: &mut S) -> Result<Next, Io>
-    requires stage { OfWipe stage }
+    requires stage { OfWipe stage (S.spare s.old) }
     ensures made { IfOk result (λ next. IsTrue S.tells → S.size s.old < 2 ^ 32 → WipeMakes (S.form s.old) (S.image s.old) (S.image s.new) stage next) }
     ensures rightly { IfOk result (λ next. IsTrue S.tells → S.size s.old < 2 ^ 32 → WipesRightly (S.form s.old) (S.image s.old) (S.image s.new) stage next) }
     ensures stopped { OnErr result (IsTrue S.tells → AcceptWith (S.form s.old) (S.image s.old) [] → WipeStopped (S.form s.old) (S.image s.old) (S.image s.new)) }
     ensures order { IfOk result (WipeOrder stage) }
-    ensures leads { IfOk result (Leads OfWipe) }
+    ensures leads { IfOk result (Leads (λ then. OfWipe then (S.spare s.new))) }
+    ensures room { IfOk result (CanCount (S.spare s.new)) }
     ensures idle { IsIdle stage → Looked S.Space s.old s.new }
     ensures size { S.size s.new ≡ S.size s.old }
     ensures wrote { Wrote S.Space s.old s.new }
@@ -55,13 +56,14 @@ fn wipe_all<S: Space>(s: &mut S) -> Result<Next, Io>
     ensures rightly { IfOk result (λ next. IsTrue S.tells → S.size s.old < 2 ^ 32 → WipesRightly (S.form s.old) (S.image s.old) (S.image s.new) (Stage.Wiping WipeStage.FreeList) next) }
     ensures stopped { OnErr result (IsTrue S.tells → AcceptWith (S.form s.old) (S.image s.old) [] → WipeStopped (S.form s.old) (S.image s.old) (S.image s.new)) }
     ensures order { IfOk result (WipeOrder (Stage.Wiping WipeStage.FreeList)) }
+    ensures leads { IfOk result (Leads (λ then. OfWipe then (S.spare s.new))) }
     ensures size { S.size s.new ≡ S.size s.old }
     ensures wrote { Wrote S.Space s.old s.new }
     ensures cause { HasCause (S.faults s.old) (S.faults s.new) result }
     ensures bytes_read { S.bytes_read s.old ≤ S.bytes_read s.new }
 {
     let chains = s.hash_size();
-    let Ok(()) = s.ready(wipe_writes(chains), wipe_bytes(chains)) else {
+    let Ok(()) = s.ready(wipe_writes(chains) + 1, wipe_bytes(chains) + 4) else {
         return Ok(Next::Done(Reply::Memory));
     };
     wipe(s)?;

@@ -64,6 +64,7 @@ returns-in_default g c =
           (λ next. IsTrue g.S.Space.tells → g.S.Space.size c.args.s.now < 2 ^ 32 → AppendsRightly f a b key more whole c.args.limit c.args.stood_on.now c.args.stage next)
           (λ next rightly told small. store_rightly f a b key more c.args.limit c.args.stood_on.now whole c.args.stage next c.in_default.not-Chained (rightly told small)) c.store_joined.ensures.rightly;
       order = c.store_joined.ensures.order;
+      room = c.store_joined.ensures.room;
       leads = c.store_joined.ensures.leads;
       short = c.requires.whole;
       keeps = λ never. refl;

@@ -3,7 +3,7 @@ use Rattle.std.proofs.Common.{◌<◌, ◌^◌, length, refl, arith}
 use Rattle.tdb_space.specs.Chain.{free_of}
 use Rattle.tdb_free.proofs.Accepted.{can_be_given}
 use Rattle.tdb_free.proofs.Traded.{given_stays}
-use Rattle.tdb_steps.proofs.Made.{stays_made}
+use Rattle.tdb_steps.proofs.Made.{stays_made, number_same}
 use Rattle.tdb_steps.specs.declared.stage.Stage.TheVariants as Stage
 use Rattle.tdb_steps.specs.declared.stage.Next.TheVariants as Next
 use Rattle.tdb_steps.proofs.giving.give_back.Goals as goal
@@ -16,4 +16,5 @@ returns-in-Ok-clause-made g c told small key asked others A known =
     let h = c.args.hand in
     let short : length a < 2 ^ 32 = omega (arith, g.met.S.Space.told_size c.args.s.now told, small) in
     stays_made f a b key asked (Stage.Changed h) (Next.Step Stage.Ending) others
-    (given_stays f a b h others A (c.in-Ok.ensures.given told (free_of f a) (can_be_given f a h others A short))) refl tt tt
+    (given_stays f a b h others A (c.in-Ok.ensures.given told (free_of f a) (can_be_given f a h others A short)))
+    (number_same f a b (c.give.ensures.only told (free_of f a) (can_be_given f a h others A short)).header) refl tt tt

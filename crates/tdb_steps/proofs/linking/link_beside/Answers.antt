@@ -20,8 +20,8 @@ pub link_over-requires-clause-room : goal.link_over-requires-clause-room
 link_over-requires-clause-room g c =
     let h = c.args.hand in
     let s = g.S.Space.spare c.args.s.now in
-    c.in_default.ensures.spare.each (11 + h.1 / 4096) (72 + h.1)
-    (room_fewer s (12 + h.1 / 4096) (76 + h.1) (1 + (11 + h.1 / 4096)) (4 + (72 + h.1)) (omega arith) (omega arith) c.requires.can.room)
+    c.in_default.ensures.spare.each (12 + h.1 / 4096) (76 + h.1)
+    (room_fewer s (13 + h.1 / 4096) (80 + h.1) (1 + (12 + h.1 / 4096)) (4 + (76 + h.1)) (omega arith) (omega arith) c.requires.can.room)
 
 pub returns-clause-made : goal.returns-clause-made
 returns-clause-made g c =
@@ -40,7 +40,7 @@ returns-clause-made g c =
     (λ next. IsTrue g.S.Space.tells → g.S.Space.size c.args.s.now < 2 ^ 32 → (flag : Flag) → Makes f a b key (stores flag value) (Stage.Taken (Some old) h) next)
     (λ next made ended told small flag others A known.
     let less : g.S.Space.size c.mark_dead.new.s < 2 ^ 32 = omega (arith, c.mark_dead.ensures.size, small) in
-    beside_made f k a m b key value old h flag next others (chain_of f a (home f key)) c.mark_dead.ensures.wrote.form (c.in_default.ensures.set told (h ∷ others) key A known.found)
+    beside_made f k a m b key value old h flag next others (chain_of f a (home f key)) c.mark_dead.ensures.wrote.form A (c.in_default.ensures.set told (h ∷ others) key A known.found)
     (ended told less) (made told less Replace))
     c.link_over.ensures.made c.link_over.ensures.rightly
 
@@ -58,6 +58,6 @@ returns-clause-ending g c =
     (λ next. IsTrue g.S.Space.tells → g.S.Space.size c.args.s.now < 2 ^ 32 → (key : List ℕ) (others : List HandPair) → AcceptWith f a (h ∷ others) → HoldsKey f a key c.args.old → next ≡ Next.Step Stage.Ending)
     (λ next ended _ told small key others A holds.
     let less : g.S.Space.size c.mark_dead.new.s < 2 ^ 32 = omega (arith, c.mark_dead.ensures.size, small) in
-    beside_ends f k a m b key c.args.value.now c.args.old h Replace next others (chain_of f a (home f key)) c.mark_dead.ensures.wrote.form (c.in_default.ensures.set told (h ∷ others) key A holds)
+    beside_ends f k a m b key c.args.value.now c.args.old h Replace next others (chain_of f a (home f key)) c.mark_dead.ensures.wrote.form A (c.in_default.ensures.set told (h ∷ others) key A holds)
     (ended told less))
     c.link_over.ensures.rightly c.link_over.ensures.rightly

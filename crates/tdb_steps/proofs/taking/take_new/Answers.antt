@@ -1,5 +1,5 @@
 -- A record is taken, or none can be.
-use Rattle.std.proofs.Common.{◌+◌, ◌<◌, ◌^◌, ◌∷◌, ℕ, List, length, refl, sym, ◌∙◌, ap, subst, arith}
+use Rattle.std.proofs.Common.{◌+◌, ◌<◌, ◌^◌, [], ◌∷◌, ℕ, List, length, refl, sym, ◌∙◌, ap, subst, arith}
 use Rattle.tdb_space.specs.Chain.{free_of}
 use Rattle.tdb_space.specs.Extents.{HandPair}
 use Rattle.tdb_space.specs.Accepted.{AcceptWith}
@@ -7,7 +7,8 @@ use Rattle.tdb_space.specs.Stays.{ChainsStay}
 use Rattle.tdb_space.specs.NewRecord.{rec_len_for}
 use Rattle.tdb_free.proofs.Traded.{can_take}
 use Rattle.tdb_free.specs.Growth.{CanBeTaken, TakenBy}
-use Rattle.tdb_steps.proofs.Made.{moved, took_made, full_made, no_room, said_lengths}
+use Rattle.tdb_free.specs.OnlyList.{OnlyListChanges}
+use Rattle.tdb_steps.proofs.Made.{moved, number_same, took_made, full_made, no_room, said_lengths}
 use Rattle.tdb_steps.proofs.taking.take_new.Goals as goal
 
 pub returns-in-Ok-take-clause-made : goal.returns-in-Ok-take-clause-made
@@ -19,6 +20,7 @@ returns-in-Ok-take-clause-made g c told small key asked others A known =
     let short = g.met.S.Space.told_size c.args.s.now told in
     took_made f a b key asked c.args.found h others A known
     (moved (λ x img. (hands : List HandPair) → AcceptWith x img hands → ChainsStay x img b (h ∷ hands)) f (g.S.Space.form c.ready.new.self) a (g.S.Space.image c.ready.new.self) c.ready.ensures.form c.ready.ensures.image (c.in-Ok-take.ensures.kept told (omega (arith, c.ready.ensures.size, small))) others A)
+    (number_same f a b (moved (λ x img. (offs : List ℕ) → CanBeTaken x img offs → OnlyListChanges x img b offs []) f (g.S.Space.form c.ready.new.self) a (g.S.Space.image c.ready.new.self) c.ready.ensures.form c.ready.ensures.image (c.take.ensures.only told) (free_of f a) (can_take f a others A (omega (arith, short, small)))).header)
 
 pub returns-in-Ok-take-clause-rightly : goal.returns-in-Ok-take-clause-rightly
 returns-in-Ok-take-clause-rightly g c told small =

@@ -12,7 +12,7 @@ use Rattle.tdb_steps.proofs.machine.Machine.step.Goals as goal
 pub returns-in-Some-clause-made : goal.returns-in-Some-clause-made
 returns-in-Some-clause-made g c told small n others is may A K =
     let d = c.args.self.now in
-    lock_turned (g.S.Space.form c.args.s.now) (g.S.Space.image c.args.s.now) d.command d.chain n d.whole others d.stage c.lock_turn.new.self c.lock_turn.result c.args.held.now c.args.owner c.args.locks.now c.lock_turn.new.locks c.rows-rows.result c.in-Some.row
+    lock_turned (g.S.Space.form c.args.s.now) (g.S.Space.image c.args.s.now) d.command d.chain d.seqnum n d.whole others d.stage c.lock_turn.new.self c.lock_turn.result c.args.held.now c.args.owner c.args.locks.now c.lock_turn.new.locks c.rows-rows.result c.in-Some.row
     (sym c.wanted.ensures ∙ c.in-Some.is) c.lock_turn.ensures.led is A K
 
 pub returns-in-Some-clause-rightly : goal.returns-in-Some-clause-rightly

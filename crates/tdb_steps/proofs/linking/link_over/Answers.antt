@@ -1,0 +1,37 @@
+-- The new record is linked, and the old one was taken out where there was one.
+use Rattle.std.proofs.Common.{◌∷◌, [], Some, refl, subst}
+use Rattle.tdb_space.specs.Chain.{chain_of}
+use Rattle.tdb_space.specs.Pairs.{home}
+use Rattle.tdb_space.proofs.Maps.{home_below}
+use Rattle.tdb_chain.specs.Changed.{KeySet, with_hand, without_place}
+use Rattle.tdb_steps.specs.Asked.{stores}
+use Rattle.tdb_steps.specs.declared.stage.Stage.TheVariants as Stage
+use Rattle.tdb_steps.specs.declared.stage.Next.TheVariants as Next
+use Rattle.tdb_steps.proofs.Made.{set_made, chain_number, hand_high}
+use Rattle.tdb_steps.proofs.linking.link_over.Goals as goal
+
+pub returns-in-Some-clause-made : goal.returns-in-Some-clause-made
+returns-in-Some-clause-made g c told small flag others A known =
+    let f = g.S.Space.form c.args.s.now in
+    let a = g.S.Space.image c.args.s.now in
+    let b = g.S.Space.image c.link.new.s in
+    let key = c.args.key.now in
+    let value = c.args.value.now in
+    let h = c.args.hand in
+    let offs = h.0 ∷ without_place c.args.over (chain_of f a (home f key)) in
+    let K = subst (λ out. KeySet f a b key (Some value) offs (h ∷ []) (h ∷ others) (with_hand out others)) c.in-Some.is (c.in_ok-old.ensures.set told small others A known.found) in
+    set_made f a b key (stores flag value) (Stage.Taken c.args.over h) (Next.Step (Stage.Changed c.in-Some.old)) others (Some value) offs (h ∷ []) (h ∷ others) K
+    (chain_number f a b (home f key) offs (h ∷ []) (h ∷ others) (c.in-Some.old ∷ others) A (home_below f key A.some) (hand_high f a h others A) K.changed) tt refl refl refl tt tt
+
+pub returns-in-None-clause-made : goal.returns-in-None-clause-made
+returns-in-None-clause-made g c told small flag others A known =
+    let f = g.S.Space.form c.args.s.now in
+    let a = g.S.Space.image c.args.s.now in
+    let b = g.S.Space.image c.link.new.s in
+    let key = c.args.key.now in
+    let value = c.args.value.now in
+    let h = c.args.hand in
+    let offs = h.0 ∷ without_place c.args.over (chain_of f a (home f key)) in
+    let K = subst (λ out. KeySet f a b key (Some value) offs (h ∷ []) (h ∷ others) (with_hand out others)) c.in-None.is (c.in_ok-old.ensures.set told small others A known.found) in
+    set_made f a b key (stores flag value) (Stage.Taken c.args.over h) (Next.Step Stage.Ending) others (Some value) offs (h ∷ []) (h ∷ others) K
+    (chain_number f a b (home f key) offs (h ∷ []) (h ∷ others) others A (home_below f key A.some) (hand_high f a h others A) K.changed) tt refl refl refl tt tt
