@@ -33,6 +33,7 @@ pub use crate::appending::look_to_append;
 pub use crate::deleting::delete_turn;
 pub use crate::flag::Flag;
 pub use crate::laws::knowledge_stays;
+pub use crate::locking::{covers, let_go, let_go_of, take_lock};
 pub use crate::looks::{fetch_turn, has_turn};
 pub use crate::machine::Machine;
 pub use crate::plain::Plain;

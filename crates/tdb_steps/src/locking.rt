@@ -20,7 +20,7 @@ fn all_cover(held: &Held, kind: Kind) -> bool
 }
 
 /// Whether the opener's explicit locks cover a lock of a row with enough strength.
-fn covers(held: &Held, row: LockRow) -> bool
+pub fn covers(held: &Held, row: LockRow) -> bool
     ensures { result ≡ is_covered held.now row }
 {
     match row.region {
@@ -31,7 +31,7 @@ fn covers(held: &Held, row: LockRow) -> bool
 }
 
 /// Takes a lock of a row, unless the opener's explicit locks cover it.
-pub(crate) fn take_lock(
+pub fn take_lock(
     locks: &mut Locks,
     owner: u32,
     held: &Held,
@@ -50,7 +50,7 @@ pub(crate) fn take_lock(
 }
 
 /// Lets go of a lock of a row, whether it was taken or not, unless the opener's explicit locks cover it. It takes no memory.
-fn let_go_of(locks: &mut Locks, owner: u32, held: &Held, row: LockRow)
+pub fn let_go_of(locks: &mut Locks, owner: u32, held: &Held, row: LockRow)
     requires alone { StandsAlone held.now owner locks.old row }
     ensures { IsLetGo held.now owner locks.old locks.new row }
 {
@@ -64,7 +64,7 @@ fn let_go_of(locks: &mut Locks, owner: u32, held: &Held, row: LockRow)
 }
 
 /// Lets go of the locks of a command. It takes no memory.
-pub(crate) fn let_go(locks: &mut Locks, owner: u32, held: &Held, rows: &Rows)
+pub fn let_go(locks: &mut Locks, owner: u32, held: &Held, rows: &Rows)
     requires alone { AllStandAlone held.now owner locks.old rows.now }
     ensures { AreLetGo held.now owner locks.old locks.new rows.now }
 {
