@@ -157,8 +157,3 @@ IsEnd (Done reply) = Unit {0}
 abbrev pub CanCount : Spare → Next → Type 0
 CanCount spare (Done Reply.Ok) = RoomForAll spare 1 4
 CanCount spare next = Unit {0}
-
--- the command goes on
-abbrev pub IsStep : Next → Type 0
-IsStep (Step stage) = Unit {0}
-IsStep (Done reply) = ⊥

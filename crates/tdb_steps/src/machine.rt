@@ -209,8 +209,8 @@ impl Machine {
     /// turn is a step all the same. With its reply the command lets go of what it took, for which it asks for no memory. The reply is
     /// `Memory` where that is wanting, before any change, and `Full` exactly where no free record is long enough for the value and the
     /// file can't grow up to the limit. With the reply `Ok` the sequence number is raised, where the machine counts its change; no lock
-    /// is taken for that. `Io` where the disk failed: then the command has given up the record that it
-    /// held, and it keeps its locks. After a reply or `Io` the machine is before its first turn.
+    /// is taken for that. `Io` where the disk failed: then the command has given up the record that it held, and it keeps its locks.
+    /// After a reply or `Io` the machine is before its first turn.
     ///
     /// A wipe is on no key: once all records are locked it may change any chain. Where it has both its locks, no hand of another command
     /// may be out.
