@@ -7,6 +7,7 @@ use Rattle.tdb_disk.specs.History.{History, seen}
 use Rattle.tdb_disk.specs.declared.files.TakeRefusal.{TakeRefusal}
 use Rattle.tdb_disk.specs.declared.files.TakeRefusal.TheVariants as Take
 use Rattle.tdb_top.specs.declared.act.Act.{Act}
+use Rattle.tdb_top.specs.declared.ask.Task.{Task}
 use Rattle.tdb_top.specs.declared.ask.Task.TheVariants.{Create, On}
 use Rattle.tdb_top.specs.declared.commands.create.NewForm.{NewForm}
 use Rattle.tdb_top.specs.declared.commands.create.Creation as Making
@@ -85,13 +86,14 @@ module _ (act : Act) (name : List ℕ) (held : Option History) (before after : �
     halted_left given now Device is acted = left_there given E.DeviceFault now is acted
     halted_left given now Memory is acted = left_there given E.NoMemory now is (same_or_undone h now acted)
 
-  -- a file that wasn't taken
-  pub untaken_cause : (refusal : TakeRefusal) (e : Ending) → (refusal ≡ Take.Missing → held ≡ None) → (refusal ≡ Take.There → ⊥) → (refusal ≡ Take.Failed → Rose before after) → Untaken name refusal e → TaskCause (On act) name held before after e
-  untaken_cause Take.Missing e gone free rose (inl is) = task_due e (subst (λ o. TaskDue (On act) name o e) (sym (gone refl)) is)
-  untaken_cause Take.Missing e gone free rose (inr is) = subst (TaskCause (On act) name held before after) (sym is) task_wanting
-  untaken_cause Take.There e gone free rose is = absurd (free refl)
-  untaken_cause Take.Failed e gone free rose is = subst (TaskCause (On act) name held before after) (sym is) (task_failed (rose refl))
-  untaken_cause Take.Memory e gone free rose is = subst (TaskCause (On act) name held before after) (sym is) task_wanting
+-- a file that wasn't taken, and that a task misses where it isn't there
+pub untaken_cause : (task : Task) (name : List ℕ) (held : Option History) (before after : ℕ) → TaskDue task name None (E.Missing name)
+    → (refusal : TakeRefusal) (e : Ending) → (refusal ≡ Take.Missing → held ≡ None) → (refusal ≡ Take.There → ⊥) → (refusal ≡ Take.Failed → Rose before after) → Untaken name refusal e → TaskCause task name held before after e
+untaken_cause task name held before after misses Take.Missing e gone free rose (inl is) = task_due e (subst (λ (q : Option History × Ending). TaskDue task name q.0 q.1) (λ j. (sym (gone refl) j, sym is j)) misses)
+untaken_cause task name held before after misses Take.Missing e gone free rose (inr is) = subst (TaskCause task name held before after) (sym is) task_wanting
+untaken_cause task name held before after misses Take.There e gone free rose is = absurd (free refl)
+untaken_cause task name held before after misses Take.Failed e gone free rose is = subst (TaskCause task name held before after) (sym is) (task_failed (rose refl))
+untaken_cause task name held before after misses Take.Memory e gone free rose is = subst (TaskCause task name held before after) (sym is) task_wanting
 
 -- what is held where nothing was done
 left_same : (act : Act) (held given : Option History) (e : Ending) → given ≡ held → ((h : History) → ActLeaves act h e h) → TaskLeaves (On act) held e given

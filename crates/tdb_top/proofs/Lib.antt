@@ -11,5 +11,7 @@ pub mod Found
 pub mod Added
 pub mod Inserts
 pub mod Acting
+pub mod Looking
+pub mod Writing
 pub mod OneAnswer
 pub mod Runs

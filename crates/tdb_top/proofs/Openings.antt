@@ -1,17 +1,17 @@
 -- What an opening answers and leaves, from what its parts found.
-use Rattle.std.proofs.Common.{◌≡◌, ◌≢◌, ℕ, ◌⊎◌, ◌≤◌, false, List, length, Option, Some, None, refl, sym, ◌∙◌, ap, subst, inl, inr}
-use Rattle.std.specs.Prelude.{◌%◌}
+use Rattle.std.proofs.Common.{◌≡◌, ◌≢◌, ℕ, ◌+◌, ◌⊎◌, ◌≤◌, true, false, List, length, Option, Some, None, refl, sym, ◌∙◌, ap, subst, inl, inr, arith}
+use Rattle.std.specs.Prelude.{◌%◌, Bool, ◌==◌, ◌&&◌, not, if◌then◌else◌}
 use Rattle.std.proofs.lemmas.Bool.{cases_eq, false≢true}
 use Rattle.tdb_disk.specs.History.{History, seen}
 use Rattle.tdb_disk.specs.Stop.{Quiet, LeavesOnly}
 use Rattle.tdb_words.specs.Word.{word}
 use Rattle.tdb_words.specs.Header.{header_at}
-use Rattle.tdb_words.specs.declared.what.What.TheVariants.{Short as TooShort, Header as BadHeader}
-use Rattle.tdb_words.specs.declared.record.TheConstants.{GATE_OPEN}
+use Rattle.tdb_words.specs.declared.what.What.TheVariants.{Short as TooShort, Header as BadHeader, AreaBad}
+use Rattle.tdb_words.specs.declared.record.TheConstants.{GATE_OPEN, GATE_SHUT}
 use Rattle.tdb_space.specs.Form.{Form, form_of}
 use Rattle.tdb_space.specs.Record.{magic_of}
 use Rattle.tdb_space.specs.Accepted.{Shut, Accept}
-use Rattle.tdb_space.specs.FirstFault.{Fault, front_fault, IsFirstFault, at_front}
+use Rattle.tdb_space.specs.FirstFault.{Fault, is_out, is_long, front_fault, IsFirstFault, at_front}
 use Rattle.tdb_space.specs.Opening.{is_open, restored, Opens, Mild}
 use Rattle.tdb_space.specs.OpeningFault.{opening_fault, IsOpeningFault, in_front, in_undo_area, in_restored}
 use Rattle.tdb_space.specs.Undoing.{Reopens}
@@ -29,10 +29,10 @@ use Rattle.tdb_undo.specs.Area.{place_fault}
 use Rattle.tdb_undo.proofs.Found.{none_sound, shut_sound, open_is, place_first}
 use Rattle.tdb_top.specs.declared.halt.Halt.{Halt}
 use Rattle.tdb_top.specs.declared.halt.Halt.TheVariants.{Refused, Device, Memory}
-use Rattle.tdb_top.specs.declared.halt.Refusal.TheVariants.{TooLong, Header, Corrupt}
+use Rattle.tdb_top.specs.declared.halt.Refusal.TheVariants.{TooLong, Header, Corrupt, NeedsRecovery}
 use Rattle.tdb_top.specs.declared.opening.Opened.{Opened}
 use Rattle.tdb_top.specs.declared.limits.TheConstants.{LONGEST_FILE}
-use Rattle.tdb_top.specs.Opening.{opened_bytes, CanOpen, IsOpenedOn, IsCheckedOn, Undone, SameOrUndone, UndoneIfOpen, UndoBroken, HaltsRightly, HaltsAtFault, HaltLeaves, of_front, of_restored_front, of_undo, of_check}
+use Rattle.tdb_top.specs.Opening.{opened_bytes, CanOpen, CanRead, HasOpenGate, IsOpenedOn, IsCheckedOn, Undone, SameOrUndone, UndoneIfOpen, UndoBroken, HaltsRightly, ReadHaltsRightly, HaltsAtFault, HaltLeaves, asks_for_undo, of_front, of_restored_front, of_undo, of_check}
 
 none_some : (o : Option Fault) (e : Fault) → o ≡ None → o ≡ Some e → ⊥
 none_some o e none some = cc
@@ -80,6 +80,7 @@ module _ (img : List ℕ) (within : length img ≤ LONGEST_FILE) where
     pub restored_halts : (halt : Halt) → opening_fault (form_of img) img ≡ None → HaltsAtFault (opened_bytes img) halt → HaltsRightly img halt
     restored_halts (Refused (TooLong len)) sound h = absurd h
     restored_halts (Refused (Header fault)) sound h = absurd h
+    restored_halts (Refused NeedsRecovery) sound h = absurd h
     restored_halts (Refused (Corrupt what at)) sound h = (within, own_header, in_restored (what, at) front sound h)
     restored_halts Device sound h = tt
     restored_halts Memory sound h = tt
@@ -101,6 +102,83 @@ module _ (img : List ℕ) (within : length img ≤ LONGEST_FILE) where
         no_fault _ (in_front e h) = none_some (front_fault img) e front h
         no_fault _ (in_undo_area e f h) = none_some (opening_fault (form_of img) img) e sound h
         no_fault _ (in_restored e f o h) = none_first (opened_bytes img) e h (accepted_no_fault (opened_bytes img) accepted)
+
+-- where the place of an undo area has a fault its gate isn't open
+place_not_open : (f : Form) (img : List ℕ) (e : Fault) → place_fault f img ≡ Some e → is_open f img ≡ false
+place_not_open f img e bad =
+    let at = word f.order img 44 in
+    go (at == 0) (is_out f img at) (is_long f img at) (magic_of f.order img at == GATE_OPEN) (magic_of f.order img at == GATE_SHUT) (AreaBad, 44) (AreaBad, at + 4) (AreaBad, at + 20) bad
+  where
+    go : (none out long gate shut : Bool) (a b c : Fault) → (if none then None else if out then Some a else if long then Some b else if not gate && not shut then Some c else None) ≡ Some e → (not out && not long && gate) ≡ false
+    go true out long gate shut a b c h = absurd (cc)
+    go false true long gate shut a b c h = refl
+    go false false true gate shut a b c h = refl
+    go false false false true shut a b c h = absurd (cc)
+    go false false false false shut a b c h = refl
+
+-- a file that was to be read alone, and isn't one to be undone first, is refused as others are
+read_rightly : (img : List ℕ) (halt : Halt) → HaltsRightly img halt → (HasOpenGate img → ⊥) → ReadHaltsRightly img halt
+read_rightly img (Refused (TooLong len)) h none = h
+read_rightly img (Refused (Header fault)) h none = h
+read_rightly img (Refused (Corrupt what at)) h none = (h, none)
+read_rightly img (Refused NeedsRecovery) h none = absurd h
+read_rightly img Device h none = tt
+read_rightly img Memory h none = none
+
+no_open_gate : (img : List ℕ) → is_open (form_of img) img ≡ false → HasOpenGate img → ⊥
+no_open_gate img closed gate = false≢true (sym closed ∙ gate.gate_open)
+
+module _ (img : List ℕ) (within : length img ≤ LONGEST_FILE) where
+  pub front_read : (e : Front.FrontRefusal) → Refuses img e → ReadHaltsRightly img (of_front e)
+  front_read (Front.TheVariants.Short len) h = read_rightly img (of_front (Front.TheVariants.Short len)) (front_halts img within (Front.TheVariants.Short len) h) (λ gate. none_some (front_fault img) _ gate.front h)
+  front_read (Front.TheVariants.Header fault) h = read_rightly img (of_front (Front.TheVariants.Header fault)) (front_halts img within (Front.TheVariants.Header fault) h) (λ gate. none_some (front_fault img) _ gate.front h.0)
+  front_read Front.TheVariants.Io h = tt
+
+  module _ (front : front_fault img ≡ None) where
+    pub place_read : (e : Undo.UndoRefusal) → Tells e (λ fault. place_fault (form_of img) img ≡ Some fault) → ReadHaltsRightly img (of_undo e)
+    place_read (Undo.TheVariants.UndoBad what at) h =
+        read_rightly img (of_undo (Undo.TheVariants.UndoBad what at)) (place_halts img within front (Undo.TheVariants.UndoBad what at) h) (no_open_gate img (place_not_open (form_of img) img (what, at) h))
+    place_read Undo.TheVariants.Io h = tt
+
+    pub check_read : (e : Check.CheckRefusal) → place_fault (form_of img) img ≡ None → is_open (form_of img) img ≡ false → Names e (IsFirstFault img) → ReadHaltsRightly img (of_check e)
+    check_read e good closed h = read_rightly img (of_check e) (check_halts img within front e good closed h) (no_open_gate img closed)
+
+    -- what is read alone: its gate isn't open, and it is accepted
+    pub can_read : place_fault (form_of img) img ≡ None → is_open (form_of img) img ≡ false → Accept img → CanRead img
+    can_read good closed accepted = record {
+      can_open = opens_where img within front (closed_sound (form_of img) img good closed) (subst Accept (sym (closed_reads img closed)) accepted);
+      shut = closed;
+    }
+
+-- the same refusals where the file may be undone first
+pub read_halts : (img : List ℕ) (halt : Halt) → asks_for_undo halt ≡ false → ReadHaltsRightly img halt → HaltsRightly img halt
+read_halts img (Refused (TooLong len)) asks h = h
+read_halts img (Refused (Header fault)) asks h = h
+read_halts img (Refused (Corrupt what at)) asks h = h.0
+read_halts img (Refused NeedsRecovery) asks h = absurd (false≢true (sym asks))
+read_halts img Device asks h = tt
+read_halts img Memory asks h = tt
+
+-- a file that isn't one to be undone is left as it is
+module _ (old now : History) (same : now ≡ old) where
+  kept_where : (HasOpenGate (seen old) → ⊥) → UndoneIfOpen old now
+  kept_where none = inr ((λ u. none (record { within = u.within; front = u.front; gate_open = u.gate_open })), same)
+
+  pub read_leaves : (halt : Halt) → asks_for_undo halt ≡ false → ReadHaltsRightly (seen old) halt → HaltLeaves halt old now
+  read_leaves (Refused (TooLong len)) asks h = kept_where (λ gate. absurd (omega (arith, h.0, h.1, gate.within)))
+  read_leaves (Refused (Header fault)) asks h = kept_where (λ gate. none_some (front_fault (seen old)) _ gate.front h.1)
+  read_leaves (Refused (Corrupt what at)) asks h = kept_where h.1
+  read_leaves (Refused NeedsRecovery) asks h = absurd (false≢true (sym asks))
+  read_leaves Device asks h = inl (inr same)
+  read_leaves Memory asks h = kept_where h
+
+  pub front_leaves : (e : Front.FrontRefusal) → front_fault (seen old) ≡ None → Refuses (seen old) e → HaltLeaves (of_front e) old now
+  front_leaves (Front.TheVariants.Short len) front h = absurd (none_some (front_fault (seen old)) _ front h)
+  front_leaves (Front.TheVariants.Header fault) front h = absurd (none_some (front_fault (seen old)) _ front h.0)
+  front_leaves Front.TheVariants.Io front h = inl (inr same)
+
+  pub shut_leaves : is_open (form_of (seen old)) (seen old) ≡ false → UndoneIfOpen old now
+  shut_leaves closed = kept_where (no_open_gate (seen old) closed)
 
 -- a refusal of the front that an undo gave, and a fault that the check then found
 pub front_at_fault : (img : List ℕ) (e : Front.FrontRefusal) → Refuses img e → HaltsAtFault img (of_restored_front e)
@@ -144,8 +222,11 @@ module _ (img : List ℕ) (within : length img ≤ LONGEST_FILE) (front : front_
     counted = subst (λ i. Counted i o.report) bytes checked.counted;
   }
 
-  pub closed_opened : place_fault (form_of img) img ≡ None → is_open (form_of img) img ≡ false → IsCheckedOn img o → IsOpenedOn img o
-  closed_opened good closed checked = undone_opened img (closed_sound (form_of img) img good closed) (sym (closed_reads img closed)) checked
+-- a file that was read alone is opened as it is
+pub read_opened : (img : List ℕ) (o : Opened) → CanRead img → IsCheckedOn img o → IsOpenedOn img o
+read_opened img o can checked =
+    let as_it_is = sym (closed_reads img can.shut) in
+    record { can_open = can.can_open; header = checked.header ∙ ap header_at as_it_is; counted = subst (λ i. Counted i o.report) as_it_is checked.counted }
 
 -- what the undo of a file gives, told of the file before its header was read
 module _ (old mid now : History) (f : Form) (same : mid ≡ old) (form : f ≡ form_of (seen old)) where

@@ -1,29 +1,32 @@
 -- What a run says and leaves, from how its task ended and from what the output took.
 use Rattle.std.proofs.Common.{◌≡◌, ◌⊎◌, ℕ, ◌<◌, ◌≤◌, List, [], ◌∷◌, Option, None, Some, length, refl, sym, ◌∙◌, ap, subst, inl, inr, arith}
-use Rattle.std.specs.Prelude.{Contains}
+use Rattle.std.specs.Prelude.{Contains, Bool}
 use Rattle.std.proofs.lemmas.Bool.{false≢true}
 use Rattle.tdb_disk.specs.Count.{Rose}
 use Rattle.tdb_disk.specs.History.{History, seen}
 use Rattle.tdb_space.specs.Opening.{Opens}
 use Rattle.tdb_top.specs.declared.act.Act.{Act}
+use Rattle.tdb_top.specs.declared.look.Look.{Look}
 use Rattle.tdb_top.specs.declared.ask.Task.{Task}
-use Rattle.tdb_top.specs.declared.ask.Task.TheVariants.{Create, On}
+use Rattle.tdb_top.specs.declared.ask.Task.TheVariants.{Create, On, Read}
 use Rattle.tdb_top.specs.declared.commands.create.NewForm.{NewForm}
 use Rattle.tdb_top.specs.declared.ending.Ending.{Ending}
 use Rattle.tdb_top.specs.declared.ending.Ending.TheVariants.{Replied, Refused, Missing, There, Usage, DeviceFault, NoMemory}
 use Rattle.tdb_top.specs.declared.ending.Reply.{Reply}
-use Rattle.tdb_top.specs.declared.ending.Reply.TheVariants.{Done, Value, KeyMissing, KeyThere, Full, Number}
+use Rattle.tdb_top.specs.declared.ending.Reply.TheVariants.{Done, Value, Escaped, Dumped, KeyMissing, KeyThere, Full, Number}
 use Rattle.tdb_top.specs.declared.halt.Refusal.{Refusal}
-use Rattle.tdb_top.specs.declared.halt.Refusal.TheVariants.{TooLong, Header, Corrupt}
+use Rattle.tdb_top.specs.declared.halt.Refusal.TheVariants.{TooLong, Header, Corrupt, NeedsRecovery}
 use Rattle.tdb_top.specs.declared.limits.TheConstants.{LONGEST_FILE}
 use Rattle.tdb_top.specs.Ask.{Ask}
 use Rattle.tdb_top.specs.Acts.{reply_of, Left}
-use Rattle.tdb_top.specs.Ending.{status_of, TakesMemory, PrintedFor, Replies, Refuses, TaskDue, Due, TaskCause, task_due, task_failed, task_wanting, CountedBy, Output, Prints}
+use Rattle.tdb_top.specs.Ending.{status_of, TakesMemory, PrintedFor, Replies, Refuses, LookReplies, RefusesToRead, TaskDue, Due, TaskCause, task_due, task_failed, task_wanting, CountedBy}
+use Rattle.tdb_top.specs.Looks.{look_reply}
+use Rattle.tdb_top.specs.Printed.{TextBefore, ask_tells, Writes}
 use Rattle.tdb_top.specs.Left.{ActLeaves, MakingLeaves, TaskLeaves, Leaving}
-use Rattle.tdb_top.specs.Opening.{opened_bytes, UndoneIfOpen}
-use Rattle.tdb_top.specs.Run.{Run, MayEnd, is_due, call_failed, memory_wanting, TellsFault, ActsOn, RefusesExactly, KeepsAll, ActRun, MakingRun, HeldOrUndone, LeavesFiles, Accounted}
+use Rattle.tdb_top.specs.Opening.{opened_bytes, OpensToRead, UndoneIfOpen}
+use Rattle.tdb_top.specs.Run.{Run, MayEnd, is_due, call_failed, memory_wanting, TellsFault, ActsOn, LooksInto, RefusesExactly, KeepsAll, ActRun, MakingRun, HeldOrUndone, LeavesFiles, Accounted}
 use Rattle.tdb_top.proofs.Held.{same_or_other}
-use Rattle.tdb_top.proofs.OneAnswer.{due_one, refused_faulty, refused_three}
+use Rattle.tdb_top.proofs.OneAnswer.{due_one, refused_faulty, refused_three, read_faulty, read_three}
 use Rattle.tdb_top.proofs.Openings.{same_or_undone}
 
 -- the statuses of the table
@@ -37,6 +40,8 @@ IsReplyStatus n = (n ≡ 0) ⊎ (n ≡ 1) ⊎ (n ≡ 6)
 reply_status : (r : Reply) → IsReplyStatus (status_of (Replied r))
 reply_status Done = inl refl
 reply_status (Value value) = inl refl
+reply_status (Escaped value) = inl refl
+reply_status Dumped = inl refl
 reply_status (Number n) = inl refl
 reply_status KeyMissing = inr (inl refl)
 reply_status KeyThere = inr (inl refl)
@@ -47,6 +52,7 @@ refusal_status : (r : Refusal) → (status_of (Refused r) ≡ 3) ⊎ (status_of 
 refusal_status (TooLong len) = inr refl
 refusal_status (Header fault) = inl refl
 refusal_status (Corrupt what at) = inl refl
+refusal_status NeedsRecovery = inl refl
 
 ending_known : (e : Ending) → Known (status_of e)
 ending_known (Replied r) = elim (reply_status r) [
@@ -114,10 +120,14 @@ eight_never (There name) eight = absurd (omega (arith, eight))
 abbrev Exits : ℕ → Ending → Type 0
 Exits status t = (status ≡ status_of t) ⊎ ((status ≡ 5) × TakesMemory t) ⊎ (status ≡ 8)
 
-pub exits : (o : Output) (e t : Ending) (status : ℕ) → PrintedFor e t → Prints o e status → Exits status t
-exits o e t status printed (inr part) = inr (inr part.exits)
-exits o e t status (inl same) (inl all) = inl (all.exits ∙ ap status_of same)
-exits o e t status (inr want) (inl all) = inr (inl (all.exits ∙ ap status_of want.0, want.1))
+-- what a run has printed, where the files tell or not
+abbrev pub Printed : Bool → Run → Ending → Type 0
+Printed tells run e = Writes (ask_tells run.ask tells run.output.tells) run.output (TextBefore run.ask run.old) e run.status
+
+pub exits : (tells : Bool) (run : Run) (e t : Ending) → PrintedFor e t → Printed tells run e → Exits run.status t
+exits tells run e t printed (inr part) = inr (inr part.exits)
+exits tells run e t (inl same) (inl all) = inl (all.exits ∙ ap status_of same)
+exits tells run e t (inr want) (inl all) = inr (inl (all.exits ∙ ap status_of want.0, want.1))
 
 -- from the ending that was found to the one that is printed
 pub printed_caused : (ask : Option Ask) (held : List ℕ → Option History) (before after : ℕ) (e t : Ending) → PrintedFor e t → MayEnd ask held before after t → MayEnd ask held before after e
@@ -130,12 +140,12 @@ asked_cause ask a held before after _ is (task_due e due) = is_due e (subst (λ 
 asked_cause ask a held before after _ is (task_failed rose) = call_failed a (sym is) rose
 asked_cause ask a held before after _ is task_wanting = memory_wanting
 
-module _ (run : Run) (e : Ending) (cause : MayEnd run.ask run.old run.faults_before run.faults_after e) (prints : Prints run.output e run.status) where
+module _ (run : Run) (e : Ending) (cause : MayEnd run.ask run.old run.faults_before run.faults_after e) (tells : Bool) (prints : Printed tells run e) where
   -- what the ending that is printed says of a status, where it is due
   status_where : (P : ℕ → Type 0) → (Due run.ask run.old e → P (status_of e)) → P run.status ⊎ TellsFault run.status
   status_where P due = of e cause prints due
     where
-      of : (x : Ending) → MayEnd run.ask run.old run.faults_before run.faults_after x → Prints run.output x run.status → (Due run.ask run.old x → P (status_of x)) → P run.status ⊎ TellsFault run.status
+      of : (x : Ending) → MayEnd run.ask run.old run.faults_before run.faults_after x → Printed tells run x → (Due run.ask run.old x → P (status_of x)) → P run.status ⊎ TellsFault run.status
       of x c (inr part) due = inr (inr (inr part.exits))
       of _ (is_due x d) (inl all) due = inl (subst P (sym all.exits) (due d))
       of _ (call_failed a asks rose) (inl all) due = inr (inl all.exits)
@@ -158,6 +168,18 @@ module _ (run : Run) (e : Ending) (cause : MayEnd run.ask run.old run.faults_bef
   three_due act h faulty short (inl p) = absurd (faulty p.can_open.opens)
   three_due act h faulty short (inr p) = ap status_of p.refused ∙ refused_three (seen h) p.refusal p.right short
 
+  -- the same of a look into a file that is there
+  look_due : (look : Look) (name : List ℕ) (h : History) → LooksInto run look name h → Due run.ask run.old e → LookReplies look (seen h) e ⊎ RefusesToRead (seen h) e
+  look_due look name h into due = subst (λ o. TaskDue (Read look) name o e) into.there (subst (λ a. Due a run.old e) into.asks due)
+
+  read_not_three : (look : Look) (h : History) → OpensToRead (seen h) → LookReplies look (seen h) e ⊎ RefusesToRead (seen h) e → status_of e ≡ 3 → ⊥
+  read_not_three look h opens (inl p) is = reply_not (look_reply look (seen h)) 3 (omega arith) (λ z. absurd (omega (arith, z))) (sym (ap status_of p.replied) ∙ is)
+  read_not_three look h opens (inr p) is = read_faulty (seen h) p.refusal p.right (sym (ap status_of p.refused) ∙ is) opens
+
+  read_three_due : (look : Look) (h : History) → (OpensToRead (seen h) → ⊥) → length (seen h) ≤ LONGEST_FILE → LookReplies look (seen h) e ⊎ RefusesToRead (seen h) e → status_of e ≡ 3
+  read_three_due look h faulty short (inl p) = absurd (faulty (record { opens = p.can_read.can_open.opens; shut = p.can_read.shut }))
+  read_three_due look h faulty short (inr p) = ap status_of p.refused ∙ read_three (seen h) p.refusal p.right short
+
   no_three : TellsFault run.status → run.status ≡ 3 → ⊥
   no_three (inl is) three = absurd (omega (arith, is, three))
   no_three (inr (inl is)) three = absurd (omega (arith, is, three))
@@ -169,10 +191,18 @@ module _ (run : Run) (e : Ending) (cause : MayEnd run.ask run.old run.faults_bef
     | inr fault ↦ no_three fault three
   ]
 
+  read_only_faulty : (look : Look) (name : List ℕ) (h : History) → LooksInto run look name h → run.status ≡ 3 → OpensToRead (seen h) → ⊥
+  read_only_faulty look name h into three opens = elim (status_where (λ n. n ≡ 3 → ⊥) (λ d. read_not_three look h opens (look_due look name h into d))) [
+    | inl other ↦ other three
+    | inr fault ↦ no_three fault three
+  ]
+
   pub refuses_exactly : RefusesExactly run
   refuses_exactly = record {
     only = only_faulty;
     exact = λ act name h acts faulty short. status_where (λ n. n ≡ 3) (λ d. three_due act h faulty short (act_due act name h acts d));
+    read_only = read_only_faulty;
+    read_exact = λ look name h into faulty short. status_where (λ n. n ≡ 3) (λ d. read_three_due look h faulty short (look_due look name h into d));
   }
 
 -- an act that didn't reply that it is done left the file as it was opened
@@ -339,6 +369,7 @@ module _ (run : Run) (t : Ending) (out : Exits run.status t) (counted : CountedB
     | inl undone ↦ inr (old, at.0, refl, at.1, undone)
     | inr same ↦ inl (at.1 ∙ ap Some same)
   ]
+  task_kept keeps (Read look) name old at = inl at
   task_kept keeps (Create form) name old at = inl ((making_run run.faults_before run.faults_after run.status form old (run.now name) t out counted at).kept keeps)
 
   kept : KeepsAll run.status → (name : List ℕ) → HeldOrUndone (run.old name) (run.now name)
@@ -357,11 +388,12 @@ module _ (run : Run) (t : Ending) (out : Exits run.status t) (counted : CountedB
     acted = acted;
     absent = λ act name asks none. subst (λ o. TaskLeaves (On act) o t (run.now name)) none (asked_left (On act) name asks);
     made = made;
+    read = λ look name asks. asked_left (Read look) name asks;
     kept = kept;
   }
 
 -- what a run's status tells whatever the files tell
-module _ (run : Run) (e t : Ending) (printed : PrintedFor e t) (prints : Prints run.output e run.status) (counted : CountedBy run.faults_before run.faults_after t) (usage : t ≡ Usage → run.ask ≡ None) (usage_exact : run.ask ≡ None → (t ≡ Usage) ⊎ (t ≡ NoMemory)) where
+module _ (tells : Bool) (run : Run) (e t : Ending) (printed : PrintedFor e t) (prints : Printed tells run e) (counted : CountedBy run.faults_before run.faults_after t) (usage : t ≡ Usage → run.ask ≡ None) (usage_exact : run.ask ≡ None → (t ≡ Usage) ⊎ (t ≡ NoMemory)) where
   -- the ending that is printed is the one that was found, where it isn't want of memory
   found : (e ≡ NoMemory → ⊥) → t ≡ e
   found other = elim printed [
@@ -381,7 +413,7 @@ module _ (run : Run) (e t : Ending) (printed : PrintedFor e t) (prints : Prints 
       usage (found (λ wants. let both : Usage ≡ NoMemory = sym same ∙ wants in cc) ∙ same)
 
   usage_status : run.ask ≡ None → Contains (2 ∷ 5 ∷ 8 ∷ []) run.status
-  usage_status none = of (exits run.output e t run.status printed prints) (usage_exact none)
+  usage_status none = of (exits tells run e t printed prints) (usage_exact none)
     where
       of : Exits run.status t → (t ≡ Usage) ⊎ (t ≡ NoMemory) → Contains (2 ∷ 5 ∷ 8 ∷ []) run.status
       of (inl own) (inl is) = (0, omega arith, sym (own ∙ ap status_of is))
@@ -395,7 +427,7 @@ module _ (run : Run) (e t : Ending) (printed : PrintedFor e t) (prints : Prints 
       counted.failed (found (λ wants. let both : DeviceFault ≡ NoMemory = sym same ∙ wants in cc) ∙ same)
 
   fault_told : (run.status ≡ 4 → ⊥) → (run.status ≡ 8 → ⊥) → run.faults_after ≡ run.faults_before
-  fault_told four eight = counted.sound (λ is. elim (fault_exits run.faults_before run.faults_after run.status (subst (Exits run.status) is (exits run.output e t run.status printed prints))) [
+  fault_told four eight = counted.sound (λ is. elim (fault_exits run.faults_before run.faults_after run.status (subst (Exits run.status) is (exits tells run e t printed prints))) [
     | inl is ↦ four is
     | inr is ↦ eight is
   ])

@@ -6,13 +6,15 @@ use Rattle.tdb_space.specs.Pairs.{same_key}
 use Rattle.tdb_top.specs.declared.act.Act.{Act}
 use Rattle.tdb_top.specs.declared.act.Act.TheVariants.{Show, Insert, Check}
 use Rattle.tdb_top.specs.declared.ask.Task.{Task}
-use Rattle.tdb_top.specs.declared.ask.Task.TheVariants.{Create, On}
+use Rattle.tdb_top.specs.declared.ask.Task.TheVariants.{Create, On, Read}
 use Rattle.tdb_top.specs.declared.ask.Ask as C
 use Rattle.tdb_top.specs.Words.{is_position}
 use Rattle.tdb_top.specs.Commands.Show.{show_of}
 use Rattle.tdb_top.specs.Commands.Check.{check_of}
 use Rattle.tdb_top.specs.Commands.Insert.{insert_of}
 use Rattle.tdb_top.specs.Commands.Create.{create_of}
+use Rattle.tdb_top.specs.Commands.Dump.{dump_of_words}
+use Rattle.tdb_top.specs.Looks.{LookFits}
 
 -- what is asked for: a file by its name, and what is to be done with it
 pub record Ask : Type 0 where
@@ -43,10 +45,18 @@ tool_of (file ∷ []) = None
 tool_of (file ∷ command ∷ arguments) =
     if is_position file then option_map (λ task. record { file = file; task = task }) (task_of command arguments) else None
 
+-- what the words behind `dump` ask for
+abbrev pub dump_asks : List (List ℕ) → Option Ask
+dump_asks words = option_map (λ found. record { file = found.0; task = Read found.1 }) (dump_of_words words)
+
+-- the commands of the program, each by its name with what the words behind it ask for
+abbrev pub commands : List (List ℕ × (List (List ℕ) → Option Ask))
+commands = (codes "tool", tool_of) ∷ (codes "dump", dump_asks) ∷ []
+
 -- what the words of a command line ask for, those behind the program's name
 abbrev pub ask_of : List (List ℕ) → Option Ask
 ask_of [] = None
-ask_of (program ∷ words) = if same_key program (codes "tool") then tool_of words else None
+ask_of (program ∷ words) = option_and_then (λ read. read words) (lookup (same_key program) commands)
 
 -- the keys and the values of an act are short enough for a record, and a file is made with some chain
 abbrev pub ActFits : Act → Type 0
@@ -56,4 +66,5 @@ ActFits Check = Unit {0}
 
 abbrev pub TaskFits : Task → Type 0
 TaskFits (On act) = ActFits act
+TaskFits (Read look) = LookFits look
 TaskFits (Create form) = 0 < form.size

@@ -3,3 +3,4 @@ pub mod Show
 pub mod Check
 pub mod Insert
 pub mod Create
+pub mod Dump

@@ -5,44 +5,54 @@ use Rattle.tdb_words.specs.What.{what_text}
 use Rattle.tdb_disk.specs.Count.{Rose}
 use Rattle.tdb_disk.specs.History.{History, seen}
 use Rattle.tdb_disk.specs.declared.files.TakeRefusal as Take
+use Rattle.tdb_dump.specs.Escape.{escaped}
 use Rattle.tdb_dump.specs.Line.{data_line}
 use Rattle.tdb_top.specs.declared.act.Act.{Act}
+use Rattle.tdb_top.specs.declared.look.Look.{Look}
 use Rattle.tdb_top.specs.declared.ask.Task.{Task}
-use Rattle.tdb_top.specs.declared.ask.Task.TheVariants.{Create, On}
+use Rattle.tdb_top.specs.declared.ask.Task.TheVariants.{Create, On, Read}
 use Rattle.tdb_top.specs.declared.ending.Ending.{Ending}
 use Rattle.tdb_top.specs.declared.ending.Ending.TheVariants.{Replied, Refused, Missing, There, Usage, DeviceFault, NoMemory}
-use Rattle.tdb_top.specs.declared.ending.Reply.TheVariants.{Done, Value, KeyMissing, KeyThere, Full, Number}
+use Rattle.tdb_top.specs.declared.ending.Reply.TheVariants.{Done, Value, Escaped, Dumped, KeyMissing, KeyThere, Full, Number}
 use Rattle.tdb_top.specs.declared.halt.Halt as H
 use Rattle.tdb_top.specs.declared.halt.Refusal.{Refusal}
-use Rattle.tdb_top.specs.declared.halt.Refusal.TheVariants.{TooLong, Header, Corrupt}
+use Rattle.tdb_top.specs.declared.halt.Refusal.TheVariants.{TooLong, Header, Corrupt, NeedsRecovery}
 use Rattle.tdb_top.specs.declared.commands.create.Creation as Making
 use Rattle.tdb_top.specs.Ask.{Ask}
 use Rattle.tdb_top.specs.Acts.{reply_of}
-use Rattle.tdb_top.specs.Opening.{opened_bytes, CanOpen, IsRefused}
+use Rattle.tdb_top.specs.Looks.{look_reply}
+use Rattle.tdb_top.specs.Opening.{opened_bytes, CanOpen, IsRefused, CanRead, IsRefusedToRead}
 
--- What a run says: the status that it exits with, and the line that it prints, without the newline. A line that tells
--- a value, a number or a name takes memory; one that is the same in each run takes none.
+-- What a run says: the status that it exits with, and the line that it prints, if any, without the newline. A line that
+-- tells a value, a number or a name takes memory; one that is the same in each run takes none.
 pub record Answer : Type 0 where
   pub status : ℕ
-  pub line : List ℕ
+  pub line : Option (List ℕ)
   pub takes_memory : Bool
 
 abbrev pub says : ℕ → List ℕ → Answer
-says status line = record { status = status; line = line; takes_memory = false }
+says status line = record { status = status; line = Some line; takes_memory = false }
 
 abbrev pub tells : ℕ → List ℕ → Answer
-tells status line = record { status = status; line = line; takes_memory = true }
+tells status line = record { status = status; line = Some line; takes_memory = true }
+
+-- the same without a line
+abbrev pub exits : ℕ → Answer
+exits status = record { status = status; line = None; takes_memory = false }
 
 -- what a run says at each ending; the status of a failed output is 8 whatever the ending is
 abbrev pub answer : Ending → Answer
 answer (Replied Done) = says 0 (codes "ok")
 answer (Replied (Value value)) = tells 0 (data_line value)
+answer (Replied (Escaped value)) = tells 0 (escaped value)
+answer (Replied Dumped) = exits 0
 answer (Replied (Number n)) = tells 0 (codes "number " ++ decimal n)
 answer (Replied KeyMissing) = says 1 (codes "noexist")
 answer (Replied KeyThere) = says 1 (codes "exists")
 answer Usage = says 2 (codes "usage: tdb COMMAND [OPTIONS] FILE [WORDS]")
 answer (Refused (Header fault)) = tells 3 (codes "header " ++ fault_text fault)
 answer (Refused (Corrupt what at)) = tells 3 (codes "corrupt " ++ what_text what ++ codes " " ++ decimal at)
+answer (Refused NeedsRecovery) = says 3 (codes "needs recovery")
 answer DeviceFault = says 4 (codes "device fault")
 answer NoMemory = says 5 (codes "memory")
 answer (Replied (Full len need)) = tells 6 (codes "full " ++ decimal len ++ codes " " ++ decimal need)
@@ -53,9 +63,13 @@ answer (There name) = tells 9 (codes "there " ++ name)
 abbrev pub status_of : Ending → ℕ
 status_of e = (answer e).status
 
--- the line and its newline
+-- a line and its newline, or nothing
+abbrev pub ended : Option (List ℕ) → List ℕ
+ended None = []
+ended (Some line) = line ++ 10 ∷ []
+
 abbrev pub text_of : Ending → List ℕ
-text_of e = (answer e).line ++ 10 ∷ []
+text_of e = ended (answer e).line
 
 abbrev pub TakesMemory : Ending → Type 0
 TakesMemory e = IsTrue (answer e).takes_memory
@@ -75,11 +89,24 @@ pub record Refuses (img : List ℕ) (e : Ending) : Type 0 where
   pub right : IsRefused img refusal
   pub refused : e ≡ Refused refusal
 
--- How a task on the file of this name ends, by what is held there, where no call failed and memory sufficed. An act is
--- on a file that is there; a file is made where none is.
+-- the file with these bytes is opened to be read alone, and a look replies over them
+pub record LookReplies (look : Look) (img : List ℕ) (e : Ending) : Type 0 where
+  pub can_read : CanRead img
+  pub replied : e ≡ Replied (look_reply look img)
+
+-- the file with these bytes is refused to it
+pub record RefusesToRead (img : List ℕ) (e : Ending) : Type 0 where
+  pub refusal : Refusal
+  pub right : IsRefusedToRead img refusal
+  pub refused : e ≡ Refused refusal
+
+-- How a task on the file of this name ends, by what is held there, where no call failed and memory sufficed. An act and
+-- a look are on a file that is there; a file is made where none is.
 abbrev pub TaskDue : Task → List ℕ → Option History → Ending → Type 0
 TaskDue (On act) name None e = e ≡ Missing name
 TaskDue (On act) name (Some h) e = Replies act (seen h) e ⊎ Refuses (seen h) e
+TaskDue (Read look) name None e = e ≡ Missing name
+TaskDue (Read look) name (Some h) e = LookReplies look (seen h) e ⊎ RefusesToRead (seen h) e
 TaskDue (Create form) name None e = e ≡ Replied Done
 TaskDue (Create form) name (Some h) e = e ≡ There name
 

@@ -4,7 +4,7 @@ use Rattle.tdb_disk.specs.History.{History, seen}
 use Rattle.tdb_disk.specs.Names.{SameBut}
 use Rattle.tdb_top.specs.declared.act.Act.{Act}
 use Rattle.tdb_top.specs.declared.ask.Task.{Task}
-use Rattle.tdb_top.specs.declared.ask.Task.TheVariants.{Create, On}
+use Rattle.tdb_top.specs.declared.ask.Task.TheVariants.{Create, On, Read}
 use Rattle.tdb_top.specs.declared.ending.Ending.{Ending}
 use Rattle.tdb_top.specs.declared.ending.Ending.TheVariants.{Replied, Refused, Missing, There, Usage, DeviceFault, NoMemory}
 use Rattle.tdb_top.specs.declared.ending.Reply.TheVariants.{Done}
@@ -35,10 +35,11 @@ MakingLeaves form old (Refused refusal) now = ⊥
 MakingLeaves form old (Missing name) now = ⊥
 MakingLeaves form old Usage now = ⊥
 
--- what a task leaves at the name of its file; where no file was, an act leaves none
+-- what a task leaves at the name of its file; where no file was, an act leaves none, and a look leaves what is there
 abbrev pub TaskLeaves : Task → Option History → Ending → Option History → Type 0
 TaskLeaves (On act) None e now = now ≡ None
 TaskLeaves (On act) (Some old) e now = (h : History) × (now ≡ Some h) × ActLeaves act old e h
+TaskLeaves (Read look) old e now = now ≡ old
 TaskLeaves (Create form) old e now = MakingLeaves form old e now
 
 -- what is left of all files by a run that is asked for this, or for nothing: at most the file of its name changes

@@ -2,8 +2,10 @@ pub mod Limits
 pub mod Words
 pub mod Opening
 pub mod Commands
+pub mod Looks
 pub mod Ask
 pub mod Acts
 pub mod Ending
 pub mod Left
+pub mod Printed
 pub mod Run

@@ -1,5 +1,5 @@
 -- Which files are opened, what an opening answers of one, why one is refused, and what an opening leaves of one.
-use Rattle.std.specs.Prelude.{◌≡◌, ◌≢◌, ℕ, ◌<◌, ◌≤◌, ◌⊎◌, true, List, length, Some, None}
+use Rattle.std.specs.Prelude.{◌≡◌, ◌≢◌, ℕ, ◌<◌, ◌≤◌, ◌⊎◌, Bool, true, false, List, length, Some, None}
 use Rattle.tdb_words.specs.declared.what.What.TheVariants.{Short as TooShort, Header as BadHeader}
 use Rattle.tdb_words.specs.Header.{header_at, header_fault}
 use Rattle.tdb_disk.specs.History.{History, seen}
@@ -16,7 +16,7 @@ use Rattle.tdb_check.specs.declared.front.FrontRefusal as Front
 use Rattle.tdb_check.specs.declared.refusal.CheckRefusal as Check
 use Rattle.tdb_undo.specs.declared.refusal.UndoRefusal as Undo
 use Rattle.tdb_top.specs.declared.halt.Refusal.{Refusal}
-use Rattle.tdb_top.specs.declared.halt.Refusal.TheVariants.{TooLong, Header, Corrupt}
+use Rattle.tdb_top.specs.declared.halt.Refusal.TheVariants.{TooLong, Header, Corrupt, NeedsRecovery}
 use Rattle.tdb_top.specs.declared.halt.Fault as F
 use Rattle.tdb_top.specs.declared.halt.Halt.{Halt}
 use Rattle.tdb_top.specs.declared.halt.Halt.TheVariants.{Refused, Device, Memory}
@@ -39,6 +39,31 @@ abbrev pub IsRefused : List ℕ → Refusal → Type 0
 IsRefused img (TooLong len) = (len ≡ length img) × (LONGEST_FILE < len)
 IsRefused img (Header fault) = (length img ≤ LONGEST_FILE) × (front_fault img ≡ Some (BadHeader, 0)) × (header_fault img ≡ Some fault)
 IsRefused img (Corrupt what at) = (length img ≤ LONGEST_FILE) × (front_fault img ≢ Some (BadHeader, 0)) × IsOpeningFault img (what, at)
+IsRefused img NeedsRecovery = ⊥
+
+-- a file with these bytes can be opened to be read alone: nothing has to be undone first
+pub record OpensToRead (img : List ℕ) : Type 0 where
+  pub opens : Opens img
+  pub shut : is_open (form_of img) img ≡ false
+
+-- it is opened so: it is besides no longer than the longest
+pub record CanRead (img : List ℕ) : Type 0 where
+  pub can_open : CanOpen img
+  pub shut : is_open (form_of img) img ≡ false
+
+-- It would have to be undone first: it isn't too long, its front is sound, and the gate of its undo area is open.
+pub record HasOpenGate (img : List ℕ) : Type 0 where
+  pub within : length img ≤ LONGEST_FILE
+  pub front : front_fault img ≡ None
+  pub gate_open : is_open (form_of img) img ≡ true
+
+-- A file with these bytes is refused so where it is to be read alone: it would have to be undone first, whatever else is
+-- wrong with it; or it is refused as any other opening refuses it.
+abbrev pub IsRefusedToRead : List ℕ → Refusal → Type 0
+IsRefusedToRead img (TooLong len) = IsRefused img (TooLong len)
+IsRefusedToRead img (Header fault) = IsRefused img (Header fault)
+IsRefusedToRead img (Corrupt what at) = IsRefused img (Corrupt what at) × (HasOpenGate img → ⊥)
+IsRefusedToRead img NeedsRecovery = HasOpenGate img
 
 -- an opened file is one with these bytes: it is rightly opened, and its header and its counts are those of the bytes
 -- it is read as
@@ -59,11 +84,27 @@ HaltsRightly img (Refused refusal) = IsRefused img refusal
 HaltsRightly img Device = Unit {0}
 HaltsRightly img Memory = Unit {0}
 
+-- the same of a file that was to be read alone; memory is wanting for the check of one that needn't be undone
+abbrev pub ReadHaltsRightly : List ℕ → Halt → Type 0
+ReadHaltsRightly img (Refused refusal) = IsRefusedToRead img refusal
+ReadHaltsRightly img Device = Unit {0}
+ReadHaltsRightly img Memory = HasOpenGate img → ⊥
+
+-- whether a look into a file that was to be read alone was refused because that would have to be undone first
+abbrev pub asks_for_undo : Halt → Bool
+asks_for_undo (Refused NeedsRecovery) = true
+asks_for_undo (Refused (TooLong len)) = false
+asks_for_undo (Refused (Header fault)) = false
+asks_for_undo (Refused (Corrupt what at)) = false
+asks_for_undo Device = false
+asks_for_undo Memory = false
+
 -- where bytes that an undo gave are refused, their first fault is told with its place, also one of their header
 abbrev pub HaltsAtFault : List ℕ → Halt → Type 0
 HaltsAtFault img (Refused (TooLong len)) = ⊥
 HaltsAtFault img (Refused (Header fault)) = ⊥
 HaltsAtFault img (Refused (Corrupt what at)) = IsFirstFault img (what, at)
+HaltsAtFault img (Refused NeedsRecovery) = ⊥
 HaltsAtFault img Device = Unit {0}
 HaltsAtFault img Memory = Unit {0}
 

@@ -6,7 +6,8 @@ use Rattle.tdb_disk.specs.Count.{Rose}
 use Rattle.tdb_disk.specs.History.{History, seen}
 use Rattle.tdb_space.specs.Opening.{Opens}
 use Rattle.tdb_top.specs.declared.act.Act.{Act}
-use Rattle.tdb_top.specs.declared.ask.Task.TheVariants.{Create, On}
+use Rattle.tdb_top.specs.declared.look.Look.{Look}
+use Rattle.tdb_top.specs.declared.ask.Task.TheVariants.{Create, On, Read}
 use Rattle.tdb_top.specs.declared.commands.create.NewForm.{NewForm}
 use Rattle.tdb_top.specs.declared.commands.create.Creation.TheVariants.{Made, Device}
 use Rattle.tdb_top.specs.declared.ending.Ending.{Ending}
@@ -14,9 +15,10 @@ use Rattle.tdb_top.specs.declared.ending.Ending.TheVariants.{Replied, DeviceFaul
 use Rattle.tdb_top.specs.declared.limits.TheConstants.{LONGEST_FILE}
 use Rattle.tdb_top.specs.Ask.{Ask, ask_of}
 use Rattle.tdb_top.specs.Acts.{reply_of, Left, Interrupted}
-use Rattle.tdb_top.specs.Ending.{Due, status_of, Output, Prints}
+use Rattle.tdb_top.specs.Ending.{Due, status_of, Output}
+use Rattle.tdb_top.specs.Printed.{TextBefore, ask_tells, Writes}
 use Rattle.tdb_top.specs.Commands.Create.{CreateLeaves}
-use Rattle.tdb_top.specs.Opening.{opened_bytes, Undone, SameOrUndone, UndoneIfOpen}
+use Rattle.tdb_top.specs.Opening.{opened_bytes, OpensToRead, Undone, SameOrUndone, UndoneIfOpen}
 
 -- a run: what its words ask for, what is held at each name before and after, how often calls of the files had failed
 -- before and after, what the output took, and the status that the program exits with
@@ -54,11 +56,12 @@ Cause run e = MayEnd run.ask run.old run.faults_before run.faults_after e
 abbrev pub TellsFault : ℕ → Type 0
 TellsFault status = (status ≡ 4) ⊎ (status ≡ 5) ⊎ (status ≡ 8)
 
--- A run ends in one way, and prints the line of that. Where the files tell what they hold, the ending has its cause,
--- and what is due is the one thing that is answered, unless a call failed or memory was wanting.
+-- A run ends in one way, and prints the line of that, behind the text of its command where that has one. Where the
+-- files tell what they hold, the ending has its cause, and what is due is the one thing that is answered, unless a call
+-- failed or memory was wanting.
 pub record Answered (tells : Bool) (run : Run) : Type 0 where
   pub ending : Ending
-  pub printed : Prints run.output ending run.status
+  pub printed : Writes (ask_tells run.ask tells run.output.tells) run.output (TextBefore run.ask run.old) ending run.status
   pub cause : IsTrue tells → Cause run ending
   pub exact : IsTrue tells → (e : Ending) → Due run.ask run.old e → (run.status ≡ status_of e) ⊎ TellsFault run.status
 
@@ -67,11 +70,18 @@ pub record ActsOn (run : Run) (act : Act) (name : List ℕ) (old : History) : Ty
   pub asks : run.ask ≡ Some (record { file = name; task = On act })
   pub there : run.old name ≡ Some old
 
--- Status 3 comes only over a file whose bytes can't be opened; and over each that is no longer than the longest nothing
--- else comes, unless a call failed or memory was wanting.
+-- the words ask for a look into a file that is there and has this history
+pub record LooksInto (run : Run) (look : Look) (name : List ℕ) (old : History) : Type 0 where
+  pub asks : run.ask ≡ Some (record { file = name; task = Read look })
+  pub there : run.old name ≡ Some old
+
+-- Status 3 comes only over a file whose bytes can't be opened, in the way that the command opens it; and over each that
+-- is no longer than the longest nothing else comes, unless a call failed or memory was wanting.
 pub record RefusesExactly (run : Run) : Type 0 where
   pub only : (act : Act) (name : List ℕ) (h : History) → ActsOn run act name h → run.status ≡ 3 → Opens (seen h) → ⊥
   pub exact : (act : Act) (name : List ℕ) (h : History) → ActsOn run act name h → (Opens (seen h) → ⊥) → length (seen h) ≤ LONGEST_FILE → (run.status ≡ 3) ⊎ TellsFault run.status
+  pub read_only : (look : Look) (name : List ℕ) (h : History) → LooksInto run look name h → run.status ≡ 3 → OpensToRead (seen h) → ⊥
+  pub read_exact : (look : Look) (name : List ℕ) (h : History) → LooksInto run look name h → (OpensToRead (seen h) → ⊥) → length (seen h) ≤ LONGEST_FILE → (run.status ≡ 3) ⊎ TellsFault run.status
 
 -- a status after which every file is as before or undone, whatever the words ask for: it says neither that it was
 -- done, nor that a call of the files or of the output failed
@@ -108,6 +118,7 @@ pub record LeavesFiles (run : Run) : Type 0 where
   pub absent : (act : Act) (name : List ℕ) → run.ask ≡ Some (record { file = name; task = On act }) → run.old name ≡ None → run.now name ≡ None
   pub made : (form : NewForm) (name : List ℕ) → run.ask ≡ Some (record { file = name; task = Create form })
       → MakingRun form (run.old name) run.faults_before run.faults_after run.status (run.now name)
+  pub read : (look : Look) (name : List ℕ) → run.ask ≡ Some (record { file = name; task = Read look }) → run.now name ≡ run.old name
   pub kept : KeepsAll run.status → (name : List ℕ) → HeldOrUndone (run.old name) (run.now name)
 
 -- What a status tells whatever the files and the output tell of what they hold: the usage is answered exactly where the

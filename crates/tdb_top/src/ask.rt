@@ -2,20 +2,24 @@
 
 ghost use Rattle.std.specs.Prelude.{◌≡◌, ℕ, List, false, map, string_bytes, IsTrue, IfOk, IfSome};
 ghost use Rattle.std.specs.Option.{option_map};
+ghost use Rattle.tdb_disk.specs.Count.{HasCause};
 ghost use Rattle.tdb_disk.specs.Names.{SameBut};
 ghost use Rattle.tdb_top.specs.declared.ask.Task.TheVariants.{On as OnIs};
 ghost use Rattle.tdb_top.specs.declared.ending.Ending.TheVariants.{Usage};
-ghost use Rattle.tdb_top.specs.Ask.{asked, ask_of, tool_of as tool_asks, task_of as task_asked, TaskFits};
+ghost use Rattle.tdb_top.specs.Ask.{asked, ask_of, dump_asks, tool_of as tool_asks, task_of as task_asked, TaskFits};
 ghost use Rattle.tdb_top.specs.Ending.{TaskCause, CountedBy};
 ghost use Rattle.tdb_top.specs.Left.{TaskLeaves};
+ghost use Rattle.tdb_top.specs.Looks.{ending_of, Began};
+ghost use Rattle.tdb_top.specs.Printed.{TaskText, task_tells};
 
 use crate::act::Act;
 use crate::commands::create::{NewForm, create_file};
-use crate::commands::{check, create, insert, show};
+use crate::commands::{check, create, dump, insert, show};
 use crate::ending::Ending;
+use crate::look::Look;
 use crate::words::is_position;
 use std::alloc::{AllocError, Global};
-use tdb_disk::Files;
+use tdb_disk::{Files, Sink, SinkFault};
 
 /// What is to be done with a file.
 #[derive(Debug, Drop)]
@@ -25,6 +29,9 @@ pub(crate) enum Task {
 
     /// A command on a file that is there.
     On(Act),
+
+    /// A command that reads a file alone.
+    Read(Look),
 }
 
 /// What a command line asks for.
@@ -82,6 +89,22 @@ impl Ask {
         Ok(Some(Ask { file, task }))
     }
 
+    /// What the words behind `dump` ask for.
+    fn of_dump(alloc: Global, words: &[String]) -> Result<Option<Ask>, AllocError>
+        ensures read { IfOk result (λ ask. option_map asked ask ≡ dump_asks (map string_bytes words.now)) }
+        ensures fits { IfOk result (λ ask. IfSome ask (λ a. TaskFits a.task)) }
+    {
+        let Some(line) = dump::Line::of(words) else {
+            return Ok(None);
+        };
+        let Some(look) = dump::look_of(alloc, line.key)? else {
+            return Ok(None);
+        };
+        let file = String::from_str(alloc, line.file)?;
+        let task = Task::Read(look);
+        Ok(Some(Ask { file, task }))
+    }
+
     /// What the words of a command line ask for, if anything. The memory that it takes is that of their bytes.
     pub(crate) fn of(alloc: Global, words: &[String]) -> Result<Option<Ask>, AllocError>
         ensures read { IfOk result (λ ask. option_map asked ask ≡ ask_of (map string_bytes words.now)) }
@@ -92,27 +115,37 @@ impl Ask {
         };
         match program.as_str() {
             "tool" => Ask::of_tool(alloc, rest),
+            "dump" => Ask::of_dump(alloc, rest),
             _ => Ok(None),
         }
     }
 
-    /// Does over the files what is asked for.
-    pub(crate) fn answer<F: Files>(&self, alloc: Global, files: &mut F) -> Ending
+    /// Does over the files what is asked for. What is printed before the line of the ending is written to the output;
+    /// where that fails, the rest isn't.
+    pub(crate) fn answer<F: Files, K: Sink>(
+        &self,
+        alloc: Global,
+        files: &mut F,
+        output: &mut K,
+    ) -> Result<Ending, SinkFault>
         requires fits { TaskFits self.now.task }
         requires free { (name : List ℕ) → F.is_taken files.old name ≡ false }
-        ensures cause { IsTrue F.D.tells → TaskCause self.now.task (string_bytes self.now.file) (F.held files.old (string_bytes self.now.file)) (F.faults files.old) (F.faults files.new) result }
-        ensures left { IsTrue F.D.tells → TaskLeaves self.now.task (F.held files.old (string_bytes self.now.file)) result (F.held files.new (string_bytes self.now.file)) }
+        ensures cause { IsTrue F.D.tells → TaskCause self.now.task (string_bytes self.now.file) (F.held files.old (string_bytes self.now.file)) (F.faults files.old) (F.faults files.new) (ending_of result) }
+        ensures left { IsTrue F.D.tells → TaskLeaves self.now.task (F.held files.old (string_bytes self.now.file)) (ending_of result) (F.held files.new (string_bytes self.now.file)) }
         ensures others { SameBut (string_bytes self.now.file) (F.held files.old) (F.held files.new) }
         ensures given_back { (name : List ℕ) → F.is_taken files.new name ≡ false }
-        ensures counted { CountedBy (F.faults files.old) (F.faults files.new) result }
-        ensures asked { result ≡ Usage → ⊥ }
+        ensures counted { CountedBy (F.faults files.old) (F.faults files.new) (ending_of result) }
+        ensures began { IsTrue (task_tells self.now.task F.D.tells K.tells) → Began (TaskText self.now.task (F.held files.old (string_bytes self.now.file))) (K.written output.old) (K.written output.new) result }
+        ensures output_cause { HasCause (K.faults output.old) (K.faults output.new) result }
+        ensures asked { ending_of result ≡ Usage → ⊥ }
     {
         let name = self.file.as_str();
         match &self.task {
-            Task::On(act) => act.on_file(alloc, name, files),
+            Task::On(act) => Ok(act.on_file(alloc, name, files)),
+            Task::Read(look) => look.on_file(alloc, name, files, output),
             Task::Create(form) => {
                 let creation = create_file(alloc, name, *form, files);
-                Ending::made(alloc, name, creation)
+                Ok(Ending::made(alloc, name, creation))
             }
         }
     }

@@ -2,5 +2,6 @@
 
 pub(crate) mod check;
 pub(crate) mod create;
+pub(crate) mod dump;
 pub(crate) mod insert;
 pub(crate) mod show;

@@ -1,6 +1,6 @@
 // How a run ends: its status and the line that it prints.
 
-ghost use Rattle.std.specs.Prelude.{◌≡◌, ◌⊎◌, ◌++◌, codes, decimal, None, IfOk, IfSome};
+ghost use Rattle.std.specs.Prelude.{◌≡◌, ◌⊎◌, ◌++◌, codes, decimal, None, Some, IfOk, IfSome};
 ghost use Rattle.tdb_top.specs.declared.ending.Ending.TheVariants.{Refused, There, NoMemory};
 ghost use Rattle.tdb_top.specs.declared.ending.Ending.{Ending as EndingIs};
 ghost use Rattle.tdb_words.specs.What.{what_text};
@@ -11,7 +11,7 @@ use crate::halt::{Halt, Refusal};
 use itoa::Buffer;
 use std::alloc::{AllocError, Global};
 use tdb_disk::{Sink, TakeRefusal};
-use tdb_dump::data_line;
+use tdb_dump::{data_line, escape};
 use tdb_words::{Bytes, What};
 
 /// The status that the program exits with.
@@ -26,6 +26,12 @@ pub(crate) enum Reply {
 
     /// The value of the key.
     Value(Bytes),
+
+    /// The value of the key, which is printed without a length.
+    Escaped(Bytes),
+
+    /// All pairs were printed. No line tells it.
+    Dumped,
 
     /// So many keys.
     Number(u64),
@@ -110,13 +116,14 @@ fn corrupt_line(alloc: Global, what: What, at: u64) -> Result<Bytes, AllocError>
 impl Refusal {
     /// The line that tells it, without a newline.
     fn line(self, alloc: Global) -> Result<Bytes, AllocError>
-        ensures { IfOk result (λ text. text ≡ (answer (Refused self)).line) }
+        ensures { IfOk result (λ text. Some text ≡ (answer (Refused self)).line) }
     {
         let mut number = Buffer::new();
         match self {
             Refusal::TooLong { len } => joined(alloc, b"toolong ", number.format(len).as_bytes()),
             Refusal::Header { fault } => joined(alloc, b"header ", fault.as_str().as_bytes()),
             Refusal::Corrupt { what, at } => corrupt_line(alloc, what, at),
+            Refusal::NeedsRecovery => Bytes::copy(alloc, b"needs recovery"),
         }
     }
 }
@@ -164,12 +171,14 @@ impl Ending {
         ensures { result.0 ≡ status_of self.now }
     {
         Status(match self {
-            Ending::Replied(Reply::Done | Reply::Value(_) | Reply::Number(_)) => 0,
+            Ending::Replied(Reply::Done | Reply::Value(_) | Reply::Escaped(_)) => 0,
+            Ending::Replied(Reply::Dumped | Reply::Number(_)) => 0,
             Ending::Replied(Reply::KeyMissing | Reply::KeyThere) => 1,
             Ending::Usage => 2,
             Ending::Refused(Refusal::Header { fault: _ } | Refusal::Corrupt { what: _, at: _ }) => {
                 3
             }
+            Ending::Refused(Refusal::NeedsRecovery) => 3,
             Ending::DeviceFault => 4,
             Ending::NoMemory => 5,
             Ending::Replied(Reply::Full { len: _, need: _ }) => 6,
@@ -178,16 +187,19 @@ impl Ending {
         })
     }
 
-    /// The line that tells it, with its newline, where that is the same in each run. Else it takes memory.
+    /// The line that tells it, with its newline, or nothing where no line does, if that is the same in each run. Else
+    /// it takes memory.
     fn constant_text(&self) -> Option<&'static [u8]>
         ensures constant { IfSome result (λ text. text.now ≡ text_of self.now) }
         ensures other { result ≡ None → TakesMemory self.now }
     {
         match self {
             Ending::Replied(Reply::Done) => Some(b"ok\n"),
+            Ending::Replied(Reply::Dumped) => Some(b""),
             Ending::Replied(Reply::KeyMissing) => Some(b"noexist\n"),
             Ending::Replied(Reply::KeyThere) => Some(b"exists\n"),
             Ending::Usage => Some(b"usage: tdb COMMAND [OPTIONS] FILE [WORDS]\n"),
+            Ending::Refused(Refusal::NeedsRecovery) => Some(b"needs recovery\n"),
             Ending::DeviceFault => Some(b"device fault\n"),
             Ending::NoMemory => Some(b"memory\n"),
             _ => None,
@@ -197,10 +209,11 @@ impl Ending {
     /// The line that tells a value, a number or a name, without a newline.
     fn line(&self, alloc: Global) -> Result<Bytes, AllocError>
         requires { TakesMemory self.now }
-        ensures { IfOk result (λ text. text ≡ (answer self.now).line) }
+        ensures { IfOk result (λ text. Some text ≡ (answer self.now).line) }
     {
         match self {
             Ending::Replied(Reply::Value(value)) => data_line(alloc, value.as_slice()),
+            Ending::Replied(Reply::Escaped(value)) => escape(alloc, value.as_slice()),
             Ending::Replied(Reply::Number(number)) => {
                 joined(alloc, b"number ", Buffer::new().format(*number).as_bytes())
             }

@@ -3,7 +3,7 @@
 ghost use Rattle.std.specs.Prelude.{◌≡◌};
 ghost use Rattle.tdb_top.specs.declared.halt.Fault.TheVariants as FaultIs;
 ghost use Rattle.tdb_top.specs.declared.halt.Halt.TheVariants.{Device};
-ghost use Rattle.tdb_top.specs.Opening.{of_fault, of_front, of_restored_front, of_undo, of_check, of_value};
+ghost use Rattle.tdb_top.specs.Opening.{asks_for_undo, of_fault, of_front, of_restored_front, of_undo, of_check, of_value};
 
 use std::alloc::AllocError;
 use tdb_chain::ValueRefusal;
@@ -29,6 +29,10 @@ pub(crate) enum Refusal {
     /// undo gives.
     #[error("the file has a fault")]
     Corrupt { what: What, at: u64 },
+
+    /// It was to be read alone, and a change that wasn't finished would have to be undone first.
+    #[error("needs recovery")]
+    NeedsRecovery,
 }
 
 /// Why a look into a file ends without an answer.
@@ -156,6 +160,24 @@ impl From<CheckRefusal> for Halt {
 }
 
 impl Halt {
+    /// Whether the file was to be read alone, and would have to be undone first.
+    pub(crate) fn asks_for_undo(self) -> bool
+        ensures { result ≡ asks_for_undo self }
+    {
+        match self {
+            Halt::Refused {
+                refusal: Refusal::NeedsRecovery,
+            } => true,
+            Halt::Refused {
+                refusal: Refusal::TooLong { len: _ } | Refusal::Header { fault: _ },
+            } => false,
+            Halt::Refused {
+                refusal: Refusal::Corrupt { what: _, at: _ },
+            } => false,
+            Halt::Device | Halt::Memory => false,
+        }
+    }
+
     /// How a look ends where the front that an undo gave a file is refused: a fault of that header isn't one of the
     /// file's own, and is told with its place.
     pub(crate) fn after_undo(front: FrontRefusal) -> Halt

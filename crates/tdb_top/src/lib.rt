@@ -7,6 +7,7 @@ mod commands;
 mod ending;
 mod halt;
 mod limits;
+mod look;
 mod opening;
 mod top;
 mod words;

@@ -1,6 +1,6 @@
 // The opening of a file: an unfinished change is undone, and no file is used before the whole of it is checked.
 
-ghost use Rattle.std.specs.Prelude.{◌≡◌, ◌+◌, ◌*◌, ◌<◌, ◌≤◌, IsTrue, IfOk, IfErr, OnOk};
+ghost use Rattle.std.specs.Prelude.{◌≡◌, ◌+◌, ◌*◌, ◌<◌, ◌≤◌, true, IsTrue, IfOk, IfErr, OnOk};
 ghost use Rattle.tdb_disk.specs.Count.{HasCauseOf};
 ghost use Rattle.tdb_disk.specs.History.{seen};
 ghost use Rattle.tdb_space.specs.Form.{form_in};
@@ -48,7 +48,8 @@ fn check_disk<D: Disk>(alloc: Global, disk: &mut D, header: &Header) -> Result<R
 
 impl Opened {
     ghost use Rattle.tdb_top.specs.declared.halt.Halt.TheVariants.{Device};
-    ghost use Rattle.tdb_top.specs.Opening.{opened_bytes, HaltsRightly, HaltsAtFault, HaltLeaves, UndoneIfOpen, IsOpenedOn, IsCheckedOn};
+    ghost use Rattle.tdb_top.specs.declared.limits.TheConstants.{LONGEST_FILE as LONGEST};
+    ghost use Rattle.tdb_top.specs.Opening.{opened_bytes, CanRead, HasOpenGate, asks_for_undo, HaltsRightly, ReadHaltsRightly, HaltsAtFault, HaltLeaves, UndoneIfOpen, IsOpenedOn, IsCheckedOn};
 
     /// Opens the file on a disk after it was undone: its header is read again, and the whole file is checked. It
     /// changes nothing.
@@ -73,6 +74,57 @@ impl Opened {
         })
     }
 
+    /// Opens the file on a disk to read it alone. It tests the length, then the header and the place of the undo area,
+    /// and then checks the whole file. Where the gate of the undo area is open the file is refused. It changes
+    /// nothing. The memory that it takes is that of the check.
+    pub(crate) fn open_to_read<D: Disk>(alloc: Global, disk: &mut D) -> Result<Opened, Halt>
+        ensures can_read { IfOk result (λ o. IsTrue D.tells → CanRead (seen (D.history disk.old))) }
+        ensures checked { IfOk result (λ o. IsTrue D.tells → IsCheckedOn (seen (D.history disk.old)) o) }
+        ensures length { IfOk result (λ o. o.len ≡ D.size disk.old) }
+        ensures refused { IfErr result (λ halt. IsTrue D.tells → ReadHaltsRightly (seen (D.history disk.old)) halt) }
+        ensures size { D.size disk.new ≡ D.size disk.old }
+        ensures history { D.history disk.new ≡ D.history disk.old }
+        ensures short { IfErr result (λ halt. asks_for_undo halt ≡ true → D.size disk.old ≤ LONGEST) }
+        ensures cause { HasCauseOf Device (D.faults disk.old) (D.faults disk.new) result }
+    {
+        let len = disk.len()?;
+        if len > LONGEST_FILE {
+            return Err(Halt::Refused {
+                refusal: Refusal::TooLong { len },
+            });
+        }
+        let header = read_front(disk)?;
+        if needs_recovery(disk, &header)? {
+            return Err(Halt::Refused {
+                refusal: Refusal::NeedsRecovery,
+            });
+        }
+        let report = check_disk(alloc, disk, &header)?;
+        Ok(Opened {
+            header,
+            len,
+            report,
+        })
+    }
+
+    /// Undoes what the undo area of the file on a disk keeps, whose gate is open, and opens it then.
+    fn recovered<D: Disk>(alloc: Global, disk: &mut D) -> Result<Opened, Halt>
+        requires short { D.size disk.old ≤ LONGEST }
+        requires gate { IsTrue D.tells → HasOpenGate (seen (D.history disk.old)) }
+        ensures opened { IfOk result (λ o. IsTrue D.tells → IsOpenedOn (seen (D.history disk.old)) o) }
+        ensures checked { IfOk result (λ o. IsTrue D.tells → IsCheckedOn (seen (D.history disk.new)) o) }
+        ensures length { IfOk result (λ o. o.len ≡ D.size disk.new) }
+        ensures reads { OnOk result (IsTrue D.tells → seen (D.history disk.new) ≡ opened_bytes (seen (D.history disk.old))) }
+        ensures left { OnOk result (IsTrue D.tells → UndoneIfOpen (D.history disk.old) (D.history disk.new)) }
+        ensures refused { IfErr result (λ halt. IsTrue D.tells → HaltsRightly (seen (D.history disk.old)) halt) }
+        ensures halted { IfErr result (λ halt. IsTrue D.tells → HaltLeaves halt (D.history disk.old) (D.history disk.new)) }
+        ensures cause { HasCauseOf Device (D.faults disk.old) (D.faults disk.new) result }
+    {
+        let header = read_front(disk)?;
+        recover(disk, &header)?;
+        Opened::undone(alloc, disk)
+    }
+
     /// Opens the file on a disk. It tests the length and then the header, undoes what the undo area keeps where its
     /// gate is open, and then checks the whole file. Where nothing has to be undone it changes nothing. The memory
     /// that it takes is that of the check.
@@ -86,22 +138,13 @@ impl Opened {
         ensures halted { IfErr result (λ halt. IsTrue D.tells → HaltLeaves halt (D.history disk.old) (D.history disk.new)) }
         ensures cause { HasCauseOf Device (D.faults disk.old) (D.faults disk.new) result }
     {
-        let len = disk.len()?;
-        if len > LONGEST_FILE {
-            return Err(Halt::Refused {
-                refusal: Refusal::TooLong { len },
-            });
+        let halt = match Opened::open_to_read(alloc, disk) {
+            Ok(opened) => return Ok(opened),
+            Err(halt) => halt,
+        };
+        if halt.asks_for_undo() {
+            return Opened::recovered(alloc, disk);
         }
-        let header = read_front(disk)?;
-        if needs_recovery(disk, &header)? {
-            recover(disk, &header)?;
-            return Opened::undone(alloc, disk);
-        }
-        let report = check_disk(alloc, disk, &header)?;
-        Ok(Opened {
-            header,
-            len,
-            report,
-        })
+        Err(halt)
     }
 }

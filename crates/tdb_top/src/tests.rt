@@ -144,6 +144,9 @@ fn answer(
     run_words(alloc, &mut files, &mut output, words)
 }
 
+/// The dump of a file of one record.
+const DUMP: &str = "{\nkey(1) = \"a\"\ndata(1) = \"1\"\n}\n";
+
 const USAGE: &str = "usage: tdb COMMAND [OPTIONS] FILE [WORDS]\n";
 
 #[test]
@@ -185,6 +188,15 @@ fn one_record(rt: HostRuntime) -> Result<(), Fail> {
             ("tool f.tdb show a", Failing::Read(0), 4, "device fault\n"),
             ("tool f.tdb check", Failing::Read(1), 4, "device fault\n"),
             ("tool f.tdb show a", Failing::Write, 8, ""),
+            ("dump f.tdb", Failing::Nothing, 0, DUMP),
+            ("dump -k \\61 f.tdb", Failing::Nothing, 0, "1\n"),
+            ("dump f.tdb -k=a", Failing::Nothing, 0, "1\n"),
+            ("dump -k aa f.tdb", Failing::Nothing, 1, "noexist\n"),
+            ("dump -k a -k a f.tdb", Failing::Nothing, 2, USAGE),
+            ("dump -ka f.tdb", Failing::Nothing, 2, USAGE),
+            ("dump -- -g.tdb", Failing::Nothing, 9, "missing -g.tdb\n"),
+            ("dump f.tdb", Failing::Read(4), 4, "device fault\n"),
+            ("dump f.tdb", Failing::Write, 8, ""),
         ] {
             let (found, bytes) = answer(rt.alloc(), &image, words, failing)?;
             assert_eq!(rt; found, status, "{words} {failing:?}");
@@ -210,6 +222,8 @@ fn dead_and_bad_records(rt: HostRuntime) -> Result<(), Fail> {
         ("tool f.tdb check", DEAD, 0, "number 0\n"),
         ("tool f.tdb show a", 7, 3, "corrupt BadRecord 728\n"),
         ("tool f.tdb insert b 1", 7, 3, "corrupt BadRecord 728\n"),
+        ("dump f.tdb", 7, 3, "corrupt BadRecord 728\n"),
+        ("dump f.tdb", DEAD, 0, ""),
     ] {
         let last = Piece {
             at: 728,

@@ -3,29 +3,52 @@
 ghost use Rattle.std.specs.Prelude.{◌≡◌, ◌⊎◌, ℕ, List, None, false, map, string_bytes, IsTrue};
 ghost use Rattle.tdb_top.specs.declared.ending.Ending.TheVariants.{Usage, NoMemory};
 ghost use Rattle.tdb_top.specs.Ask.{ask_of};
-ghost use Rattle.tdb_top.specs.Ending.{CountedBy, output_by};
+ghost use Rattle.tdb_disk.specs.Count.{HasCause};
+ghost use Rattle.tdb_top.specs.declared.ending.Ending.{Ending as EndingIs};
+ghost use Rattle.tdb_top.specs.Ending.{CountedBy, PrintedFor, output_by};
 ghost use Rattle.tdb_top.specs.Left.{Leaving};
+ghost use Rattle.tdb_top.specs.Looks.{ending_of, Began};
+ghost use Rattle.tdb_top.specs.Printed.{TextBefore, ask_tells, Finishes};
 ghost use Rattle.tdb_top.specs.Run.{run_by, MayEnd, Answered, RefusesExactly, LeavesFiles, Accounted};
 
 use crate::ask::Ask;
 use crate::ending::{Ending, Status, print};
 use std::alloc::Global;
-use tdb_disk::{Files, Sink, Source};
+use tdb_disk::{Files, Sink, SinkFault, Source};
 
-/// Answers the words over the files.
-fn answer<F: Files>(alloc: Global, words: &[String], files: &mut F) -> Ending
+/// Answers the words over the files. What is printed before the line of the ending is written to the output; where that
+/// fails, the rest isn't.
+fn answer<F: Files, K: Sink>(
+    alloc: Global,
+    words: &[String],
+    files: &mut F,
+    output: &mut K,
+) -> Result<Ending, SinkFault>
     requires { (name : List ℕ) → F.is_taken files.old name ≡ false }
-    ensures cause { IsTrue F.D.tells → MayEnd (ask_of (map string_bytes words.now)) (F.held files.old) (F.faults files.old) (F.faults files.new) result }
-    ensures left { IsTrue F.D.tells → Leaving (ask_of (map string_bytes words.now)) (F.held files.old) result (F.held files.new) }
+    ensures cause { IsTrue F.D.tells → MayEnd (ask_of (map string_bytes words.now)) (F.held files.old) (F.faults files.old) (F.faults files.new) (ending_of result) }
+    ensures left { IsTrue F.D.tells → Leaving (ask_of (map string_bytes words.now)) (F.held files.old) (ending_of result) (F.held files.new) }
     ensures given_back { (name : List ℕ) → F.is_taken files.new name ≡ false }
-    ensures counted { CountedBy (F.faults files.old) (F.faults files.new) result }
-    ensures usage { result ≡ Usage → ask_of (map string_bytes words.now) ≡ None }
-    ensures usage_exact { ask_of (map string_bytes words.now) ≡ None → (result ≡ Usage) ⊎ (result ≡ NoMemory) }
+    ensures counted { CountedBy (F.faults files.old) (F.faults files.new) (ending_of result) }
+    ensures began { IsTrue (ask_tells (ask_of (map string_bytes words.now)) F.D.tells K.tells) → Began (TextBefore (ask_of (map string_bytes words.now)) (F.held files.old)) (K.written output.old) (K.written output.new) result }
+    ensures output_cause { HasCause (K.faults output.old) (K.faults output.new) result }
+    ensures usage { ending_of result ≡ Usage → ask_of (map string_bytes words.now) ≡ None }
+    ensures usage_exact { ask_of (map string_bytes words.now) ≡ None → (ending_of result ≡ Usage) ⊎ (ending_of result ≡ NoMemory) }
 {
     match Ask::of(alloc, words) {
-        Ok(Some(ask)) => ask.answer(alloc, files),
-        Ok(None) => Ending::Usage,
-        Err(_) => Ending::NoMemory,
+        Ok(Some(ask)) => ask.answer(alloc, files, output),
+        Ok(None) => Ok(Ending::Usage),
+        Err(_) => Ok(Ending::NoMemory),
+    }
+}
+
+/// Prints the line of an ending where the output took all that stands before it, and says the run's status.
+fn finish<K: Sink>(alloc: Global, answered: &Result<Ending, SinkFault>, output: &mut K) -> Status
+    ensures { (e : EndingIs) × PrintedFor e (ending_of answered.now)
+        × Finishes answered.now (output_by K.tells (K.written output.old) (K.written output.new) (K.faults output.old) (K.faults output.new)) e result.0 }
+{
+    match answered {
+        Ok(ending) => print(alloc, ending, output),
+        Err(_) => Status(8),
     }
 }
 
@@ -75,6 +98,6 @@ pub fn run<F: Files, S: Source, K: Sink>(
     ensures given_back { (name : List ℕ) → F.is_taken files.new name ≡ false }
     ensures input_untouched { input.new ≡ input.old }
 {
-    let ending = answer(alloc, words, files);
-    print(alloc, &ending, output)
+    let answered = answer(alloc, words, files, output);
+    finish(alloc, &answered, output)
 }

@@ -77,6 +77,7 @@ fn opened_gates(rt: HostRuntime) -> Result<(), Fail> {
             "exists\n",
             Some([].as_slice()),
         ),
+        ([].as_slice(), "dump f.tdb", 3, "needs recovery\n", None),
         // An entry that passes the old length, and an undo area behind the end.
         (
             [(4132, 4096)].as_slice(),

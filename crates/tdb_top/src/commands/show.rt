@@ -38,7 +38,7 @@ pub(crate) fn read(alloc: Global, arguments: &[String]) -> Result<Option<Act>, A
 }
 
 /// Looks up the value that an opened file holds for a key, if any. The memory that it takes is that of the value.
-fn look_up<D: Disk>(
+pub(crate) fn look_up<D: Disk>(
     alloc: Global,
     disk: &mut D,
     opened: &Opened,

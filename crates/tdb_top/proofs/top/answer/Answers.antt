@@ -1,22 +1,37 @@
 use Rattle.std.proofs.Common.{map, string_bytes, refl, subst}
-use Rattle.tdb_top.specs.declared.ending.Ending.TheVariants.{Usage}
+use Rattle.std.specs.Prelude.{IsTrue}
+use Rattle.tdb_top.specs.declared.ending.Ending.TheVariants.{Usage, NoMemory}
 use Rattle.tdb_top.specs.Ending.{Due}
+use Rattle.tdb_top.specs.Looks.{ending_of, Began}
+use Rattle.tdb_top.specs.Printed.{TaskText, TextBefore, ask_tells}
 use Rattle.tdb_top.specs.Run.{is_due, memory_wanting}
 use Rattle.tdb_top.specs.Ask.{asked, ask_of}
 use Rattle.tdb_top.specs.Left.{Leaving}
+use Rattle.tdb_top.proofs.Looking.{nothing, began_as}
 use Rattle.tdb_top.proofs.Runs.{asked_cause}
+use Rattle.tdb_top.proofs.Writing.{nothing_before}
 use Rattle.tdb_top.proofs.top.answer.Goals as goal
 
 -- what was asked for is done
 pub returns-in-Ok-Some-clause-cause : goal.returns-in-Ok-Some-clause-cause
 returns-in-Ok-Some-clause-cause g c told =
-    asked_cause (ask_of (map string_bytes c.args.words.now)) (asked c.in-Ok-Some.ask) (g.F.Files.held c.args.files.now) (g.F.Files.faults c.args.files.now) (g.F.Files.faults c.answer.new.files) c.answer.result
+    asked_cause (ask_of (map string_bytes c.args.words.now)) (asked c.in-Ok-Some.ask) (g.F.Files.held c.args.files.now) (g.F.Files.faults c.args.files.now) (g.F.Files.faults c.answer.new.files) (ending_of c.answer.result)
     (rw c.in-Ok-Some.field-0-is at c.in-Ok-Some.ensures.read) (c.answer.ensures.cause told)
 
 pub returns-in-Ok-Some-clause-left : goal.returns-in-Ok-Some-clause-left
 returns-in-Ok-Some-clause-left g c told =
-    subst (λ a. Leaving a (g.F.Files.held c.args.files.now) c.answer.result (g.F.Files.held c.answer.new.files))
+    subst (λ a. Leaving a (g.F.Files.held c.args.files.now) (ending_of c.answer.result) (g.F.Files.held c.answer.new.files))
     (rw c.in-Ok-Some.field-0-is at c.in-Ok-Some.ensures.read) (c.answer.ensures.others, c.answer.ensures.left told)
+
+pub returns-in-Ok-Some-clause-began : goal.returns-in-Ok-Some-clause-began
+returns-in-Ok-Some-clause-began g c =
+    let held = g.F.Files.held c.args.files.now in
+    let before = g.K.Sink.written c.args.output.now in
+    let now = g.K.Sink.written c.answer.new.output in
+    let ask = asked c.in-Ok-Some.ask in
+    subst (λ a. IsTrue (ask_tells a g.F.D.Disk.tells g.K.Sink.tells) → Began (TextBefore a held) before now c.answer.result)
+    (rw c.in-Ok-Some.field-0-is at c.in-Ok-Some.ensures.read)
+    (λ told. began_as (TaskText ask.task (held ask.file)) _ before now c.answer.result (λ e text is. is) (c.answer.ensures.began told))
 
 -- nothing was asked for, or there was no memory for the words
 pub returns-in-Ok-None-clause-cause : goal.returns-in-Ok-None-clause-cause
@@ -25,3 +40,9 @@ returns-in-Ok-None-clause-cause g c told =
 
 pub returns-in-Err-clause-cause : goal.returns-in-Err-clause-cause
 returns-in-Err-clause-cause g c told = memory_wanting
+
+pub returns-in-Err-clause-began : goal.returns-in-Err-clause-began
+returns-in-Err-clause-began g c told =
+    let held = g.F.Files.held c.args.files.now in
+    let ask = ask_of (map string_bytes c.args.words.now) in
+    nothing (TextBefore ask held) NoMemory (g.K.Sink.written c.args.output.now) (nothing_before ask held)

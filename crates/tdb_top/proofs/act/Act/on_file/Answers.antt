@@ -1,4 +1,4 @@
-use Rattle.std.proofs.Common.{◌≡◌, [], true, ◌<◌, Err, Some, sym, ap, subst, arith}
+use Rattle.std.proofs.Common.{◌≡◌, [], true, ◌<◌, Err, Some, refl, sym, ap, subst, arith}
 use Rattle.tdb_disk.specs.History.{began}
 use Rattle.tdb_disk.specs.Count.{Rose}
 use Rattle.tdb_disk.specs.declared.files.Take.TheVariants.{Existing, New}
@@ -51,7 +51,7 @@ returns-in-Err-acted-clause-left g c told =
 -- the file wasn't taken
 pub returns-in-Err-clause-cause : goal.returns-in-Err-clause-cause
 returns-in-Err-clause-cause g c told =
-    untaken_cause c.args.self.now c.args.name.now (g.F.Files.held c.args.files.now c.args.name.now) _ _ c.in-Err.refusal _
+    untaken_cause (On c.args.self.now) c.args.name.now (g.F.Files.held c.args.files.now c.args.name.now) _ _ refl c.in-Err.refusal _
     (λ is. ((c.in-Err.ensures.missing told).0 (ap Err is)).0) (λ is. let new : Existing ≡ New = c.in-Err.ensures.there_how (ap Err is) in cc)
     (λ is. c.in-Err.ensures.cause.failed is) c.untaken.ensures
 

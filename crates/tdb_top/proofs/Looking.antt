@@ -1,0 +1,63 @@
+-- What a look into a file gives, from what its parts gave.
+use Rattle.std.proofs.Common.{◌≡◌, ℕ, ◌<◌, ◌≤◌, true, false, List, [], Option, None, Some, Result, Ok, Err, refl, sym, ◌∙◌, ap, subst, inl, inr, arith}
+use Rattle.std.specs.Prelude.{Bool, ◌&&◌, IsTrue}
+use Rattle.std.proofs.lemmas.List.{append-nil}
+use Rattle.tdb_disk.specs.Count.{Rose, HasCauseOf}
+use Rattle.tdb_disk.specs.History.{History, seen}
+use Rattle.tdb_disk.specs.declared.files.TakeRefusal.{TakeRefusal}
+use Rattle.tdb_disk.specs.declared.files.TakeRefusal.TheVariants as Take
+use Rattle.tdb_disk.specs.declared.sink.SinkFault.{SinkFault}
+use Rattle.tdb_top.specs.declared.ask.Task.TheVariants.{Read}
+use Rattle.tdb_top.specs.declared.ending.Ending.{Ending}
+use Rattle.tdb_top.specs.declared.ending.Ending.TheVariants as E
+use Rattle.tdb_top.specs.declared.halt.Halt.{Halt}
+use Rattle.tdb_top.specs.declared.halt.Halt.TheVariants.{Refused, Device, Memory}
+use Rattle.tdb_top.specs.declared.look.Look.{Look}
+use Rattle.tdb_top.specs.declared.look.Look.TheVariants.{Dump, Value}
+use Rattle.tdb_top.specs.Ending.{TaskDue, TaskCause, task_due, task_failed, task_wanting, CountedBy, Untaken, of_halt}
+use Rattle.tdb_top.specs.Looks.{LookEnds, LookText, StandsBefore, look_tells, Began}
+use Rattle.tdb_top.specs.Opening.{ReadHaltsRightly}
+use Rattle.tdb_top.specs.Commands.Dump.{pairs_text}
+
+-- how a look ended is why its task ends so
+pub look_cause : (look : Look) (name : List ℕ) (h : History) (held : Option History) (before after : ℕ) (e : Ending) → held ≡ Some h → LookEnds look (seen h) e → CountedBy before after e → TaskCause (Read look) name held before after e
+look_cause look name h held before after (E.Replied reply) there ends counted =
+    task_due (E.Replied reply) (subst (λ o. TaskDue (Read look) name o (E.Replied reply)) (sym there) (inl (record { can_read = ends.0; replied = ap E.Replied ends.1 })))
+look_cause look name h held before after (E.Refused refusal) there ends counted =
+    task_due (E.Refused refusal) (subst (λ o. TaskDue (Read look) name o (E.Refused refusal)) (sym there) (inr (record { refusal = refusal; right = ends; refused = refl })))
+look_cause look name h held before after E.DeviceFault there ends counted = task_failed (counted.failed refl)
+look_cause look name h held before after E.NoMemory there ends counted = task_wanting
+look_cause look name h held before after (E.Missing n) there ends counted = absurd ends
+look_cause look name h held before after (E.There n) there ends counted = absurd ends
+look_cause look name h held before after E.Usage there ends counted = absurd ends
+
+-- nothing was written
+pub nothing : (Text : Ending → List ℕ → Type 0) (e : Ending) (written : List ℕ) → Text e [] → Began Text written written (Ok e)
+nothing Text e written none = ([], none, sym (append-nil written))
+
+-- a file that wasn't taken
+pub untaken_text : (look : Look) (held : Option History) (name : List ℕ) (refusal : TakeRefusal) (e : Ending) → Untaken name refusal e → LookText look held e []
+untaken_text (Value key) held name refusal e is = refl
+untaken_text Dump None name refusal e is = refl
+untaken_text Dump (Some h) name Take.Missing e (inl is) = subst (λ x. StandsBefore (pairs_text (seen h)) x []) (sym is) refl
+untaken_text Dump (Some h) name Take.Missing e (inr is) = subst (λ x. StandsBefore (pairs_text (seen h)) x []) (sym is) (0, refl)
+untaken_text Dump (Some h) name Take.There e (inl is) = subst (λ x. StandsBefore (pairs_text (seen h)) x []) (sym is) refl
+untaken_text Dump (Some h) name Take.There e (inr is) = subst (λ x. StandsBefore (pairs_text (seen h)) x []) (sym is) (0, refl)
+untaken_text Dump (Some h) name Take.Failed e is = subst (λ x. StandsBefore (pairs_text (seen h)) x []) (sym is) (0, refl)
+untaken_text Dump (Some h) name Take.Memory e is = subst (λ x. StandsBefore (pairs_text (seen h)) x []) (sym is) (0, refl)
+
+-- how often the files failed, by how often the disk did that was taken and given back
+pub files_counted : (before mid now start last : ℕ) (e : Ending) → mid ≡ before → start ≡ 0 → CountedBy start last e → (last ≡ 0 → now ≡ mid) → (0 < last → Rose mid now) → mid ≤ now → CountedBy before now e
+files_counted before mid now start last e took fresh counted sound faulty later = record {
+  never_falls = omega (arith, took, later);
+  failed = λ is.
+      (let rose = counted.failed is in
+      let some : 0 < last = omega (arith, rose, fresh) in
+      subst (λ n. Rose n now) took (faulty some));
+  sound = λ other. sound (counted.sound other ∙ fresh) ∙ took;
+}
+
+-- what was written is told in other words
+pub began_as : (T U : Ending → List ℕ → Type 0) (before now : List ℕ) (r : Result Ending SinkFault) → ((e : Ending) (text : List ℕ) → T e text → U e text) → Began T before now r → Began U before now r
+began_as T U before now (Ok e) more began = (began.0, more e began.0 began.1, began.2)
+began_as T U before now (Err fault) more began = (began.0, more _ began.0 began.1, began.2, began.3)

@@ -1,0 +1,121 @@
+-- What a run has printed, from the text that was written first and what was written behind it.
+use Rattle.std.proofs.Common.{◌≡◌, ℕ, ◌+◌, true, false, List, [], ◌++◌, length, Option, None, Some, take, Result, Ok, Err, refl, sym, ◌∙◌, ap, subst, inl, inr}
+use Rattle.std.specs.Prelude.{Bool, ◌&&◌, IsTrue}
+use Rattle.std.proofs.lemmas.Bool.{false≢true}
+use Rattle.std.proofs.lemmas.List.{append-nil, append_assoc}
+use Rattle.std.proofs.Math.Seq.{take-append-add}
+use Rattle.tdb_disk.specs.Count.{Rose, HasCause}
+use Rattle.tdb_disk.specs.History.{History}
+use Rattle.tdb_disk.specs.declared.sink.SinkFault.{SinkFault}
+use Rattle.tdb_top.specs.declared.ask.Task.{Task}
+use Rattle.tdb_top.specs.declared.ask.Task.TheVariants.{Create, On, Read}
+use Rattle.tdb_top.specs.declared.ending.Ending.{Ending}
+use Rattle.tdb_top.specs.declared.ending.Ending.TheVariants.{Replied, Refused, Missing, There, Usage, DeviceFault, NoMemory}
+use Rattle.tdb_top.specs.declared.ending.Reply.{Reply}
+use Rattle.tdb_top.specs.declared.ending.Reply.TheVariants as R
+use Rattle.tdb_top.specs.declared.look.Look.TheVariants.{Dump, Value}
+use Rattle.tdb_top.specs.Ask.{Ask}
+use Rattle.tdb_top.specs.Ending.{TakesMemory, PrintedFor, output_by, text_of}
+use Rattle.tdb_top.specs.Looks.{StandsBefore, before_reply, ending_of, Began}
+use Rattle.tdb_top.specs.Printed.{TaskText, TextBefore, task_tells, ask_tells, Finishes, Writes}
+
+-- before a line that takes memory stands nothing, so nothing stands before the line that tells of its want
+reply_wanting : (text written : List ℕ) (r : Reply) → TakesMemory (Replied r) → written ≡ before_reply r text → written ≡ []
+reply_wanting text written R.Done takes is = is
+reply_wanting text written (R.Value value) takes is = is
+reply_wanting text written (R.Escaped value) takes is = is
+reply_wanting text written R.Dumped takes is = absurd (false≢true takes)
+reply_wanting text written (R.Number n) takes is = is
+reply_wanting text written R.KeyMissing takes is = is
+reply_wanting text written R.KeyThere takes is = is
+reply_wanting text written (R.Full len need) takes is = is
+
+stands_wanting : (text written : List ℕ) (t : Ending) → TakesMemory t → StandsBefore text t written → StandsBefore text NoMemory written
+stands_wanting text written (Replied r) takes stands = (0, reply_wanting text written r takes stands)
+stands_wanting text written (Refused refusal) takes stands = (0, stands)
+stands_wanting text written (Missing name) takes stands = (0, stands)
+stands_wanting text written (There name) takes stands = (0, stands)
+stands_wanting text written Usage takes stands = (0, stands)
+stands_wanting text written DeviceFault takes stands = stands
+stands_wanting text written NoMemory takes stands = stands
+
+task_wanting : (task : Task) (held : Option History) (written : List ℕ) (t : Ending) → TakesMemory t → TaskText task held t written → TaskText task held NoMemory written
+task_wanting (On act) held written t takes text = text
+task_wanting (Create form) held written t takes text = text
+task_wanting (Read (Value key)) held written t takes text = text
+task_wanting (Read Dump) None written t takes text = text
+task_wanting (Read Dump) (Some h) written t takes text = stands_wanting _ written t takes text
+
+text_wanting : (ask : Option Ask) (held : List ℕ → Option History) (written : List ℕ) (t : Ending) → TakesMemory t → TextBefore ask held t written → TextBefore ask held NoMemory written
+text_wanting None held written t takes text = text
+text_wanting (Some ask) held written t takes text = task_wanting ask.task (held ask.file) written t takes text
+
+-- nothing may stand before the line that tells of want of memory
+task_nothing : (task : Task) (held : Option History) → TaskText task held NoMemory []
+task_nothing (On act) held = refl
+task_nothing (Create form) held = refl
+task_nothing (Read (Value key)) held = refl
+task_nothing (Read Dump) None = refl
+task_nothing (Read Dump) (Some h) = (0, refl)
+
+pub nothing_before : (ask : Option Ask) (held : List ℕ → Option History) → TextBefore ask held NoMemory []
+nothing_before None held = refl
+nothing_before (Some ask) held = task_nothing ask.task (held ask.file)
+
+-- so what was written before the line of the ending that was found stands before the line that is printed
+text_printed : (ask : Option Ask) (held : List ℕ → Option History) (written : List ℕ) (e t : Ending) → PrintedFor e t → TextBefore ask held t written → TextBefore ask held e written
+text_printed ask held written e t (inl same) text = subst (λ x. TextBefore ask held x written) (sym same) text
+text_printed ask held written e t (inr want) text = subst (λ x. TextBefore ask held x written) (sym want.0) (text_wanting ask held written t want.1 text)
+
+-- where it is told what a run prints, the output tells
+and_left : (a b : Bool) → IsTrue (a && b) → IsTrue a
+and_left true b h = refl
+and_left false b h = h
+
+task_heard : (task : Task) (files output : Bool) → IsTrue (task_tells task files output) → IsTrue output
+task_heard (On act) files output told = told
+task_heard (Create form) files output told = told
+task_heard (Read (Value key)) files output told = told
+task_heard (Read Dump) files output told = and_left output files told
+
+heard : (ask : Option Ask) (files output : Bool) → IsTrue (ask_tells ask files output) → IsTrue output
+heard None files output told = told
+heard (Some ask) files output told = task_heard ask.task files output told
+
+module _ (ask : Option Ask) (held : List ℕ → Option History) (files tells : Bool) (before mid after : List ℕ) (start middle last : ℕ) where
+  abbrev Text : Ending → List ℕ → Type 0
+  Text = TextBefore ask held
+
+  -- the text, and then the line or a part of it; or a part of the text, where the output failed in it
+  pub written : (r : Result Ending SinkFault) (e : Ending) (status : ℕ) → PrintedFor e (ending_of r)
+      → (IsTrue (ask_tells ask files tells) → Began (TextBefore ask held) before mid r) → HasCause start middle r → Finishes r (output_by tells mid after middle last) e status
+      → Writes (ask_tells ask files tells) (output_by tells before after start last) (TextBefore ask held) e status
+  written (Ok found) e status printed began cause (inl all) = inl (record {
+    exits = all.exits;
+    written = λ told.
+        (let b = began told in
+        (b.0, text_printed ask held b.0 e found printed b.1, all.written (heard ask files tells told) ∙ ap (λ x. x ++ text_of e) b.2));
+  })
+  written (Ok found) e status printed began cause (inr part) = inr (record {
+    exits = part.exits;
+    failed = subst (λ n. Rose n last) cause.done part.failed;
+    written = λ told.
+        (let b = began told in
+        let p = part.written (heard ask files tells told) in (
+          b.0,
+          text_printed ask held b.0 e found printed b.1,
+          length b.0 + p.0,
+          p.1 ∙ ap (λ x. x ++ take p.0 (text_of e)) b.2 ∙ append_assoc before b.0 (take p.0 (text_of e)) ∙ ap (λ x. before ++ x) (sym (take-append-add b.0 (text_of e) p.0)),
+        ));
+  })
+  written (Err fault) e status printed began cause done = inr (record {
+    exits = done.1;
+    failed = subst (λ n. Rose start n) (sym done.3) cause.failed;
+    written = λ told.
+        (let b = began told in (
+          b.0,
+          subst (λ x. TextBefore ask held x b.0) (sym done.0) b.1,
+          b.2,
+          done.2 ∙ b.3 ∙ ap (λ x. before ++ take b.2 x) (sym (ap (λ x. b.0 ++ text_of x) done.0 ∙ append-nil b.0)),
+        ));
+  })

@@ -1,0 +1,16 @@
+use Rattle.std.proofs.Common.{refl, sym, subst, inl}
+use Rattle.tdb_top.specs.declared.ending.Ending.{Ending as EndingIs}
+use Rattle.tdb_top.specs.declared.ending.Ending.TheVariants.{Replied}
+use Rattle.tdb_top.specs.declared.ending.Reply.TheVariants.{Dumped}
+use Rattle.tdb_top.specs.Ending.{PrintedFor, output_by}
+use Rattle.tdb_top.specs.Looks.{ending_of}
+use Rattle.tdb_top.specs.Printed.{Finishes}
+use Rattle.tdb_top.proofs.top.finish.Goals as goal
+
+-- the output failed in the text
+pub returns-in-Err : goal.returns-in-Err
+returns-in-Err g c =
+    let w = g.K.Sink.written c.args.output.now in
+    let n = g.K.Sink.faults c.args.output.now in
+    subst (λ r. (e : EndingIs) × PrintedFor e (ending_of r) × Finishes r (output_by g.K.Sink.tells w w n n) e 8) (sym c.in-Err.is)
+    (Replied Dumped, inl refl, (refl, refl, refl, refl))

@@ -1,0 +1,56 @@
+-- What a run prints: a text of its command, if that has one, and the line of its ending behind it.
+use Rattle.std.specs.Prelude.{◌≡◌, ◌⊎◌, ℕ, Bool, IsTrue, Option, None, Some, List, [], ◌++◌, take, Result, Ok, Err}
+use Rattle.tdb_disk.specs.Count.{Rose}
+use Rattle.tdb_disk.specs.History.{History}
+use Rattle.tdb_disk.specs.declared.sink.SinkFault.{SinkFault}
+use Rattle.tdb_top.specs.declared.ask.Task.{Task}
+use Rattle.tdb_top.specs.declared.ask.Task.TheVariants.{Create, On, Read}
+use Rattle.tdb_top.specs.declared.ending.Ending.{Ending}
+use Rattle.tdb_top.specs.declared.ending.Ending.TheVariants.{Replied}
+use Rattle.tdb_top.specs.declared.ending.Reply.TheVariants.{Dumped}
+use Rattle.tdb_top.specs.Ask.{Ask}
+use Rattle.tdb_top.specs.Ending.{Output, Prints, status_of, text_of}
+use Rattle.tdb_top.specs.Looks.{LookText, look_tells}
+
+-- what a task prints before the line of its ending, by what is held at the name of its file; looks alone print such a text
+abbrev pub TaskText : Task → Option History → Ending → List ℕ → Type 0
+TaskText (On act) held e text = text ≡ []
+TaskText (Read look) held e text = LookText look held e text
+TaskText (Create form) held e text = text ≡ []
+
+-- what a run prints before the line of its ending that is asked for this, or for nothing
+abbrev pub TextBefore : Option Ask → (List ℕ → Option History) → Ending → List ℕ → Type 0
+TextBefore None held e text = text ≡ []
+TextBefore (Some ask) held e text = TaskText ask.task (held ask.file) e text
+
+-- whether it is told what a task prints, by whether the files and the output tell; where a file's pairs are printed the
+-- files have to tell too
+abbrev pub task_tells : Task → Bool → Bool → Bool
+task_tells (On act) files output = output
+task_tells (Read look) files output = look_tells look files output
+task_tells (Create form) files output = output
+
+abbrev pub ask_tells : Option Ask → Bool → Bool → Bool
+ask_tells None files output = output
+ask_tells (Some ask) files output = task_tells ask.task files output
+
+-- the output took the text and the line, whole
+pub record WritesAll (told : Bool) (o : Output) (Text : Ending → List ℕ → Type 0) (e : Ending) (status : ℕ) : Type 0 where
+  pub exits : status ≡ status_of e
+  pub written : IsTrue told → (text : List ℕ) × Text e text × (o.after ≡ o.before ++ text ++ text_of e)
+
+-- the output failed: it took a part of them, from the first byte on
+pub record WritesPart (told : Bool) (o : Output) (Text : Ending → List ℕ → Type 0) (e : Ending) (status : ℕ) : Type 0 where
+  pub exits : status ≡ 8
+  pub failed : Rose o.faults_before o.faults_after
+  pub written : IsTrue told → (text : List ℕ) × Text e text × (n : ℕ) × (o.after ≡ o.before ++ take n (text ++ text_of e))
+
+-- the output took a text and the line of an ending behind it, or a part of these
+abbrev pub Writes : Bool → Output → (Ending → List ℕ → Type 0) → Ending → ℕ → Type 0
+Writes told o Text e status = WritesAll told o Text e status ⊎ WritesPart told o Text e status
+
+-- How a run goes on behind the text: the output takes the line of an ending or a part of it; where it failed in the text,
+-- nothing more is written, and the status is 8.
+abbrev pub Finishes : Result Ending SinkFault → Output → Ending → ℕ → Type 0
+Finishes (Ok found) o e status = Prints o e status
+Finishes (Err fault) o e status = (e ≡ Replied Dumped) × (status ≡ 8) × (o.after ≡ o.before) × (o.faults_after ≡ o.faults_before)
