@@ -8,7 +8,7 @@ use Rattle.tdb_disk.specs.declared.files.TakeRefusal.{TakeRefusal}
 use Rattle.tdb_disk.specs.declared.files.TakeRefusal.TheVariants as Take
 use Rattle.tdb_top.specs.declared.act.Act.{Act}
 use Rattle.tdb_top.specs.declared.ask.Task.{Task}
-use Rattle.tdb_top.specs.declared.ask.Task.TheVariants.{Create, On}
+use Rattle.tdb_top.specs.declared.ask.Task.TheVariants.{Create, On, Read}
 use Rattle.tdb_top.specs.declared.commands.create.NewForm.{NewForm}
 use Rattle.tdb_top.specs.declared.commands.create.Creation as Making
 use Rattle.tdb_top.specs.declared.ending.Ending.{Ending}
@@ -19,10 +19,11 @@ use Rattle.tdb_top.specs.declared.halt.Fault.{Fault}
 use Rattle.tdb_top.specs.declared.halt.Fault.TheVariants as F
 use Rattle.tdb_top.specs.declared.halt.Halt.{Halt}
 use Rattle.tdb_top.specs.declared.halt.Halt.TheVariants.{Refused, Device, Memory}
+use Rattle.tdb_top.specs.Ask.{Ask}
 use Rattle.tdb_top.specs.Acts.{reply_of, Does, Breaks, Acted, OpenedAndActed}
 use Rattle.tdb_top.specs.Commands.Create.{CreateCause, CreateLeaves}
 use Rattle.tdb_top.specs.Ending.{TaskDue, Replies, Refuses, TaskCause, task_due, task_failed, task_wanting, Untaken, MadeSo, of_halt}
-use Rattle.tdb_top.specs.Left.{ActLeaves, MakingLeaves, TaskLeaves}
+use Rattle.tdb_top.specs.Left.{ActLeaves, MakingLeaves, TaskLeaves, Leaving}
 use Rattle.tdb_top.specs.Opening.{opened_bytes, CanOpen, UndoneIfOpen, HaltLeaves, HaltsRightly, of_fault}
 use Rattle.tdb_top.proofs.Openings.{same_or_undone}
 
@@ -125,3 +126,14 @@ module _ (form : NewForm) (name : List ℕ) (held : Option History) where
   made_left given Making.TheVariants.There e left (inr is) = subst (λ x. MakingLeaves form held x given) (sym is) left
   made_left given Making.TheVariants.Device e left is = subst (λ x. MakingLeaves form held x given) (sym is) left
   made_left given Making.TheVariants.Memory e left is = subst (λ x. MakingLeaves form held x given) (sym is) left
+
+-- want of memory for the words leaves all as it is
+task_wants : (task : Task) (held : Option History) → TaskLeaves task held E.NoMemory held
+task_wants (On act) None = refl
+task_wants (On act) (Some h) = (h, refl, inr refl)
+task_wants (Read look) held = refl
+task_wants (Create form) held = refl
+
+pub words_want : (ask : Option Ask) (held : List ℕ → Option History) → Leaving ask held E.NoMemory held
+words_want None held = λ name. refl
+words_want (Some a) held = (λ other apart. refl, task_wants a.task (held a.file))

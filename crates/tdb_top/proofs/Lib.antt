@@ -1,6 +1,7 @@
 pub mod ShortWords
 pub mod WordReadings
 pub mod Sizes
+pub mod KeyWord
 pub mod NewFile
 pub mod MakesFile
 pub mod Errors

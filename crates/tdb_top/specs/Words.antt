@@ -1,5 +1,5 @@
 -- What single words of a command line stand for.
-use Rattle.std.specs.Prelude.{◌≡◌, ℕ, ◌≤◌, ◌+◌, ◌*◌, ◌==◌, Bool, true, ◌&&◌, not, nat_lt, nat_le, if◌then◌else◌, Option, None, Some, List, [], ◌∷◌, length}
+use Rattle.std.specs.Prelude.{◌≡◌, ℕ, ◌≤◌, ◌+◌, ◌*◌, ◌==◌, Bool, true, ◌&&◌, not, nat_lt, nat_le, if◌then◌else◌, Option, None, Some, List, [], ◌∷◌, length, slice_index}
 use Rattle.std.specs.Option.{option_map}
 use Rattle.std.specs.Str.Parse.{IsNumeral, digits_value}
 use Rattle.std.specs.Char.{digit_value}
@@ -11,6 +11,18 @@ use Rattle.tdb_top.specs.declared.limits.TheConstants.{LONGEST_WORD, LONGEST_SIZ
 abbrev pub is_position : List ℕ → Bool
 is_position [] = true
 is_position (b ∷ bytes) = not (b == 45) && nat_le (length (b ∷ bytes)) LONGEST_WORD
+
+-- a word that isn't too long
+abbrev pub is_short : List ℕ → Bool
+is_short word = nat_le (length word) LONGEST_WORD
+
+-- where options may stand: a word that begins with `-` and is longer is one, and no other is
+abbrev pub is_option : List ℕ → Bool
+is_option word = nat_lt 1 (length word) && (slice_index word 0 == 45)
+
+-- a word that names a file there
+abbrev pub is_file : List ℕ → Bool
+is_file word = not (is_option word) && is_short word
 
 -- the byte that two hexadecimal digits write, in front of what the rest stands for
 abbrev pub escaped : Option ℕ → Option ℕ → Option (List ℕ) → Option (List ℕ)

@@ -1,6 +1,6 @@
 // The commands that read a file alone: how it is taken, opened, looked into and given back, once for all of them.
 
-ghost use Rattle.std.specs.Prelude.{◌≡◌, ℕ, List, false, IsTrue};
+ghost use Rattle.std.specs.Prelude.{◌≡◌, ℕ, List, Some, false, IsTrue};
 ghost use Rattle.tdb_disk.specs.Count.{HasCause};
 ghost use Rattle.tdb_disk.specs.History.{seen};
 ghost use Rattle.tdb_disk.specs.Names.{SameBut};
@@ -9,7 +9,6 @@ ghost use Rattle.tdb_top.specs.declared.ending.Ending.TheVariants.{Usage};
 ghost use Rattle.tdb_top.specs.Ending.{TaskCause, CountedBy};
 ghost use Rattle.tdb_top.specs.Looks.{LookFits, LookEnds, LookText, look_tells, ending_of, Began};
 ghost use Rattle.tdb_top.specs.Opening.{CanRead, IsCheckedOn};
-ghost use Rattle.std.specs.Prelude.{Some};
 
 use crate::commands::dump::{dump, value};
 use crate::ending::Ending;

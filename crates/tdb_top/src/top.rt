@@ -1,4 +1,4 @@
-// The top call: it reads the words, answers them over the files and prints one line.
+// The top call: it reads the words, answers them over the files and prints the text and the line of that.
 
 ghost use Rattle.std.specs.Prelude.{◌≡◌, ◌⊎◌, ℕ, List, None, false, map, string_bytes, IsTrue};
 ghost use Rattle.tdb_top.specs.declared.ending.Ending.TheVariants.{Usage, NoMemory};
@@ -52,18 +52,20 @@ fn finish<K: Sink>(alloc: Global, answered: &Result<Ending, SinkFault>, output: 
     }
 }
 
-/// Runs the command that `words` ask for, those after the program's name, and prints one line to `output`.
+/// Runs the command that `words` ask for, those after the program's name, and prints to `output`: the text of a dump,
+/// and the line of the ending behind it, if that has one.
 ///
 /// | Status | Meaning | Printed |
 /// |---|---|---|
 /// | 0 | the value of the key is shown, the key is added, the file is made, or it is accepted and has `N` keys | `data(N) = "TEXT"`, `ok`, `ok`, `number N` |
+/// | 0 | all pairs are printed, or the value of the one key | their dump text, `TEXT` |
 /// | 1 | the key isn't there, or is there already | `noexist`, `exists` |
 /// | 2 | the words ask for nothing | the usage |
-/// | 3 | the file is refused for a fault of its header, or for another fault | `header KIND`, `corrupt WHAT AT` |
+/// | 3 | the file is refused for a fault of its header, or for another fault, or a dump would have to undo a change first | `header KIND`, `corrupt WHAT AT`, `needs recovery` |
 /// | 4 | a call of the files or of a disk failed | `device fault` |
 /// | 5 | memory was wanting | `memory` |
 /// | 6 | the file of `LEN` bytes has no room for `NEED` more, or is too long itself | `full LEN NEED`, `toolong LEN` |
-/// | 8 | the output failed | a part of the line that was due |
+/// | 8 | the output failed | a part of what was due, from its first byte on |
 /// | 9 | there is no file of this name, or there is one that was to be made | `missing NAME`, `there NAME` |
 ///
 /// The commands `tool FILE show KEY`, `tool FILE insert KEY DATA` and `tool FILE check` open the file first: its
@@ -71,6 +73,10 @@ fn finish<K: Sink>(alloc: Global, answered: &Result<Ending, SinkFault>, output: 
 /// whole of it is checked. A show then follows the chain of the key, and reads the value. An insert follows the chain
 /// too, reads the chain's head, and then grows the file, writes the record and the head, and syncs: one call of each.
 /// The command `tool FILE create [SIZE [HASH [ORDER]]]` grows an empty file, writes its header and syncs.
+///
+/// The command `dump [-k KEY] FILE` opens the file in the same way, but to read it alone: nothing is undone. Then it
+/// reads each record once more, in the order of the chains, and writes the pairs in pieces of at least 64 KiB; it holds
+/// one pair. With `-k` it looks up one value, and prints that.
 pub fn run<F: Files, S: Source, K: Sink>(
     alloc: Global,
     words: &[String],
@@ -80,8 +86,8 @@ pub fn run<F: Files, S: Source, K: Sink>(
 ) -> Status
     requires { (name : List ℕ) → F.is_taken files.old name ≡ false }
 
-    // The run ends in one way and prints the line of it. Where the files tell what they hold it has its cause, and what
-    // is due is what is answered.
+    // The run ends in one way and prints the line of it, behind the text of a dump. Where the files tell what they hold
+    // it has its cause, and what is due is what is answered.
     ensures answered { Answered F.D.tells (run_by words.now (F.held files.old) (F.held files.new) (F.faults files.old) (F.faults files.new) (output_by K.tells (K.written output.old) (K.written output.new) (K.faults output.old) (K.faults output.new)) result.0) }
 
     // A file is refused exactly where its bytes can't be opened.

@@ -16,12 +16,34 @@ pub(crate) fn is_position(word: &str) -> bool
     word.as_bytes().first() != Some(&b'-') && word.len() <= LONGEST_WORD
 }
 
+/// Whether a word isn't too long.
+pub(crate) fn is_short(word: &[u8]) -> bool
+    ensures { result ≡ W.is_short word.now }
+{
+    word.len() <= LONGEST_WORD
+}
+
+/// Whether a word is an option, where options may stand.
+pub(crate) fn is_option(word: &str) -> bool
+    ensures { result ≡ W.is_option word.now }
+{
+    let bytes = word.as_bytes();
+    bytes.len() > 1 && bytes[0] == b'-'
+}
+
+/// Whether a word names a file, where options may stand.
+pub(crate) fn is_file(word: &str) -> bool
+    ensures { result ≡ W.is_file word.now }
+{
+    !is_option(word) && is_short(word.as_bytes())
+}
+
 /// The bytes that a word stands for, where it has a reading.
-fn bytes_of(alloc: Global, word: &str) -> Result<Option<Bytes>, AllocError>
+pub(crate) fn bytes_of(alloc: Global, word: &[u8]) -> Result<Option<Bytes>, AllocError>
     ensures read { IfOk result (λ bytes. bytes ≡ W.bytes_of word.now) }
     ensures short { IfOk result (λ bytes. IfSome bytes (λ b. length b ≤ length word.now)) }
 {
-    match word_bytes_of(alloc, word.as_bytes()) {
+    match word_bytes_of(alloc, word) {
         Ok(bytes) => Ok(Some(bytes)),
         Err(WordRefusal::BadEscape { at: _ }) => Ok(None),
         Err(WordRefusal::Memory) => Err(AllocError),
@@ -36,7 +58,7 @@ pub(crate) fn value_of(alloc: Global, word: &str) -> Result<Option<Bytes>, Alloc
     if !is_position(word) {
         return Ok(None);
     }
-    bytes_of(alloc, word)
+    bytes_of(alloc, word.as_bytes())
 }
 
 /// The number of chains that a word writes, from what it parses as.

@@ -7,6 +7,7 @@ use Rattle.tdb_top.specs.Printed.{TaskText, TextBefore, ask_tells}
 use Rattle.tdb_top.specs.Run.{is_due, memory_wanting}
 use Rattle.tdb_top.specs.Ask.{asked, ask_of}
 use Rattle.tdb_top.specs.Left.{Leaving}
+use Rattle.tdb_top.proofs.Acting.{words_want}
 use Rattle.tdb_top.proofs.Looking.{nothing, began_as}
 use Rattle.tdb_top.proofs.Runs.{asked_cause}
 use Rattle.tdb_top.proofs.Writing.{nothing_before}
@@ -46,3 +47,6 @@ returns-in-Err-clause-began g c told =
     let held = g.F.Files.held c.args.files.now in
     let ask = ask_of (map string_bytes c.args.words.now) in
     nothing (TextBefore ask held) NoMemory (g.K.Sink.written c.args.output.now) (nothing_before ask held)
+
+pub returns-in-Err-clause-left : goal.returns-in-Err-clause-left
+returns-in-Err-clause-left g c told = words_want (ask_of (map string_bytes c.args.words.now)) (g.F.Files.held c.args.files.now)
