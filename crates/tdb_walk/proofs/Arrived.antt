@@ -7,24 +7,18 @@ use Rattle.tdb_space.specs.Form.{Form}
 use Rattle.tdb_space.specs.Record.{key_at, magic_of}
 use Rattle.tdb_space.specs.Chain.{chain_of, Member}
 use Rattle.tdb_space.proofs.Walks.{member_first, member_other}
-use Rattle.tdb_locks.specs.HeldLocks.{HeldLocks}
-use Rattle.tdb_locks.specs.declared.piece.Piece.{Piece}
-use Rattle.tdb_locks.specs.declared.turn.Turn.{Turn}
 use Rattle.tdb_law.specs.Layout.{Cell, Place, cells, behind, chains_in}
 use Rattle.tdb_law.specs.Layout.Place.{off_chains, before_chain, on_record}
 use Rattle.tdb_walk.specs.declared.live.Live.{Live}
-use Rattle.tdb_walk.specs.declared.standing.Standing.TheVariants.{Before, On, Past}
-use Rattle.tdb_walk.specs.NextLive.{first_live, left_in, live_at, IsNext, StandsIn}
-use Rattle.tdb_walk.specs.Cursors.{At, Came, MoveLed}
-use Rattle.tdb_walk.specs.Cursors.Came.{shown, barred, wants}
-use Rattle.tdb_walk.specs.Cursors.MoveLed.{comes, stops, ends, gives_up}
+use Rattle.tdb_walk.specs.declared.standing.Standing.TheVariants.{On}
+use Rattle.tdb_walk.specs.NextLive.{first_live, left_in, IsNext, StandsIn}
 use Rattle.tdb_walk.proofs.Ahead.{none_some, left_here, left_else}
 
 abbrev place_or : Option Cell → ℕ
 place_or None = 0
 place_or (Some c) = c.place
 
-abbrev off_or : Option Live → ℕ
+abbrev pub off_or : Option Live → ℕ
 off_or None = 0
 off_or (Some live) = live.off
 
@@ -64,17 +58,5 @@ left_member f img c (on_record i p) j e =
     ]
 
 -- so the next live record stands in its chain
-met_member : (f : Form) (img : List ℕ) (place : Place) (live : Live) → IsNext f img place (Some live) → StandsIn f img (On live.chain live.off)
+pub met_member : (f : Form) (img : List ℕ) (place : Place) (live : Live) → IsNext f img place (Some live) → StandsIn f img (On live.chain live.off)
 met_member f img place live (cell, next, read) = (next.below, subst (λ x. Member x (chain_of f img live.chain)) (ap off_or read) (left_member f img cell place live.chain next.first))
-
-module _ (f : Form) (img : List ℕ) (ps : List Piece) (owner : ℕ) (own : HeldLocks) (at later : At) (turn : Turn) (stands : StandsIn f img at.place) where
-  place_same : (a : At) → later ≡ a → StandsIn f img a.place → StandsIn f img later.place
-  place_same a same there = subst (λ (x : At). StandsIn f img x.place) (sym same) there
-
-  pub moved_stands : MoveLed f img ps owner own at later turn → StandsIn f img later.place
-  moved_stands (comes live way (shown says there can)) = place_same _ there (met_member f img _ live way.0)
-  moved_stands (comes live way (barred other byte says stays bar)) = place_same at stays stands
-  moved_stands (comes live way (wants says ended)) = place_same _ ended tt
-  moved_stands (stops chain other byte way says there) = place_same _ there tt
-  moved_stands (ends way says ended) = place_same _ ended tt
-  moved_stands (gives_up says ended) = place_same _ ended tt

@@ -11,3 +11,6 @@ pub mod Going
 pub mod Bytes
 pub mod Turns
 pub mod Arrived
+pub mod Decided
+pub mod Making
+pub mod Stepping

@@ -5,7 +5,7 @@ use Rattle.tdb_locks.specs.LockTable.{ChangesRange, Conflicts, IsFirstConflict, 
 use Rattle.tdb_locks.specs.HeldLocks.{HeldLocks}
 use Rattle.tdb_locks.specs.declared.kind.Kind.{Kind}
 use Rattle.tdb_locks.specs.declared.piece.Piece.{Piece}
-use Rattle.tdb_walk.specs.Way.{SameLocks, SameOthers, CanRead, IsHeldOff}
+use Rattle.tdb_walk.specs.Way.{SameLocks, SameOthers, CanRead, IsHeldOff, lock_byte}
 
 -- a byte at which the opener held nothing is taken and let go
 pub same_again : (old mid new : List Piece) (owner b : ℕ) (k : Option Kind) → ChangesRange old mid owner b (b + 1) k → ChangesRange mid new owner b (b + 1) None → held old owner b ≡ None → SameLocks old new
@@ -24,9 +24,6 @@ same_again old mid new owner b k took let_go free other byte =
     at : b ≤ byte → byte < b + 1 → b ≡ byte
     at above here = omega (arith, above, here)
 
-pub same_others : (old mid new : List Piece) (owner b : ℕ) (k : Option Kind) → ChangesRange old mid owner b (b + 1) k → ChangesRange mid new owner b (b + 1) None → SameOthers owner old new
-same_others old mid new owner b k took let_go other byte apart = let_go.others other byte apart ∙ took.others other byte apart
-
 -- a conflict is one with another opener, so it is one in each table that says the same of the others
 module _ (owner : ℕ) (old new : List Piece) (same : SameOthers owner old new) (start end : ℕ) (want : Kind) where
   conflict_now : (other byte : ℕ) (kind : Kind) → Conflicts old owner start end want other byte kind → Conflicts new owner start end want other byte kind
@@ -44,9 +41,14 @@ module _ (owner : ℕ) (old new : List Piece) (same : SameOthers owner old new) 
     least = λ o b k c. first.least o b k (conflict_now o b k c);
   }
 
-pub can_read_then : (owner : ℕ) (old new : List Piece) (own : HeldLocks) (j : ℕ) → SameOthers owner old new → CanRead new owner own j → CanRead old owner own j
-can_read_then owner old new own j same (inl mine) = inl mine
-can_read_then owner old new own j same (inr free) = inr (free_then owner old new same _ _ _ free)
+-- two tables that say the same say the same of the others
+pub others_same : (owner : ℕ) (old new : List Piece) → SameLocks old new → SameOthers owner old new
+others_same owner old new same other byte apart = same other byte
 
-pub held_off_then : (owner : ℕ) (old new : List Piece) (own : HeldLocks) (j other byte : ℕ) → SameOthers owner old new → IsHeldOff new owner own j other byte → IsHeldOff old owner own j other byte
-held_off_then owner old new own j other byte same off = record { uncovered = off.uncovered; kind = off.kind; conflict = first_then owner old new same _ _ _ other byte off.kind off.conflict }
+pub can_read_then : (owner : ℕ) (old new : List Piece) (own : HeldLocks) (j : ℕ) → SameLocks old new → CanRead new owner own j → CanRead old owner own j
+can_read_then owner old new own j same (inl mine) = inl mine
+can_read_then owner old new own j same (inr (inl holds)) = inr (inl (λ none. holds (same owner (lock_byte j) ∙ none)))
+can_read_then owner old new own j same (inr (inr free)) = inr (inr (free_then owner old new (others_same owner old new same) _ _ _ free))
+
+pub held_off_then : (owner : ℕ) (old new : List Piece) (own : HeldLocks) (j other byte : ℕ) → SameLocks old new → IsHeldOff new owner own j other byte → IsHeldOff old owner own j other byte
+held_off_then owner old new own j other byte same off = record { uncovered = off.uncovered; kind = off.kind; conflict = first_then owner old new (others_same owner old new same) _ _ _ other byte off.kind off.conflict }

@@ -1,11 +1,15 @@
 -- Where a cursor stands, what it holds, and what each of its turns does.
-use Rattle.std.specs.Prelude.{◌≡◌, ℕ, ◌+◌, ◌%◌, ◌<◌, ◌^◌, ◌⊎◌, false, List, Option, Some, None}
+use Rattle.std.specs.Prelude.{◌≡◌, ℕ, ◌%◌, ◌<◌, ◌^◌, Bool, false, List, Option, Some, None, Contains, MatchBool, if◌then◌else◌}
+use Rattle.tdb_words.specs.declared.record.TheConstants.{USED}
 use Rattle.tdb_space.specs.Form.{Form}
-use Rattle.tdb_space.specs.Record.{key_at, data_at}
+use Rattle.tdb_space.specs.Record.{key_at, data_at, magic_of}
+use Rattle.tdb_space.specs.Chain.{chain_of, Member}
+use Rattle.tdb_space.specs.Extents.{HandPair}
+use Rattle.tdb_space.specs.Accepted.{AcceptWith}
 use Rattle.tdb_locks.specs.HeldLocks.{HeldLocks}
-use Rattle.tdb_locks.specs.LockTable.{IsFirstConflict, held}
+use Rattle.tdb_locks.specs.LockTable.{held}
 use Rattle.tdb_locks.specs.declared.kind.Kind.{Kind}
-use Rattle.tdb_locks.specs.declared.kind.Kind.TheVariants.{Read}
+use Rattle.tdb_locks.specs.declared.kind.Kind.TheVariants.{Read, Write}
 use Rattle.tdb_locks.specs.declared.piece.Piece.{Piece}
 use Rattle.tdb_locks.specs.declared.turn.Reply.{Reply}
 use Rattle.tdb_locks.specs.declared.turn.Turn.{Turn}
@@ -14,15 +18,19 @@ use Rattle.tdb_walk.specs.declared.live.Live.{Live}
 use Rattle.tdb_walk.specs.declared.standing.Standing.{Standing}
 use Rattle.tdb_walk.specs.declared.standing.Standing.TheVariants.{Before, On, Past}
 use Rattle.tdb_walk.specs.declared.stage.Stage.{Stage}
-use Rattle.tdb_walk.specs.declared.stage.Stage.TheVariants.{Rested, Reading}
+use Rattle.tdb_walk.specs.declared.stage.Stage.TheVariants.{Rested, Reading, Writing, Freeing}
 use Rattle.tdb_walk.specs.declared.stage.Goal.{Goal}
 use Rattle.tdb_walk.specs.declared.stage.Goal.TheVariants.{First, Next, Leave}
+use Rattle.tdb_walk.specs.declared.stage.StepLock.{StepLock}
+use Rattle.tdb_walk.specs.declared.stage.StepLock.TheVariants.{ReadChain, WriteChain, FreeList}
 use Rattle.tdb_walk.specs.declared.stage.Act.{Act}
-use Rattle.tdb_walk.specs.declared.stage.Act.TheVariants.{LockChain, Move, Restart, End}
+use Rattle.tdb_walk.specs.declared.stage.Act.TheVariants.{Lock, Move, End}
 use Rattle.tdb_walk.specs.declared.way.Way.TheVariants as Way
+use Rattle.tdb_walk.specs.declared.purging.DeadRecord.{DeadRecord}
 use Rattle.tdb_walk.specs.NextLive.{place_of}
-use Rattle.tdb_walk.specs.Way.{IsWay, CanRead, IsHeldOff, lock_byte, next_chain, reads_chain}
-use Rattle.tdb_walk.specs.ByteLocks.{Holding, with_byte, reads_all, CanHold}
+use Rattle.tdb_walk.specs.Purging.{IsDeadIn, IsPurged}
+use Rattle.tdb_walk.specs.Way.{IsWay, lock_byte, next_chain, reads_chain}
+use Rattle.tdb_walk.specs.ByteLocks.{Holding, with_byte, reads_all, only_reads, CanHold, IsKeptFrom}
 
 -- where a cursor stands, and how far it is with the turns of a command
 pub record At : Type 0 where
@@ -45,47 +53,107 @@ spot_of (On chain off) = Some off
 spot_of (Before chain) = None
 spot_of Past = None
 
--- What the next turn of a command does. A first move and one after a move that was blocked begin before a chain; Next locks the chain of
--- its record before it moves; First leaves the record of a cursor and moves at once.
-abbrev pub act_of : Goal → Standing → Stage → Act
-act_of Next (On chain off) Rested = LockChain chain
-act_of Next (On chain off) Reading = Move
-act_of Next (Before chain) stage = Move
-act_of Next Past stage = Move
-act_of First (Before chain) stage = Move
-act_of First (On chain off) stage = Restart
-act_of First Past stage = Restart
-act_of Leave place stage = End
+-- the dead record that a cursor purges at its next turn: the one on which it stands, once its chain and the free list are locked
+abbrev pub dead_of : Standing → Stage → Option DeadRecord
+dead_of (On chain off) Rested = None
+dead_of (On chain off) Reading = None
+dead_of (On chain off) Writing = None
+dead_of (On chain off) Freeing = Some (record { chain = chain; off = off })
+dead_of (Before chain) stage = None
+dead_of Past stage = None
 
--- What is held once a cursor has let go of what it holds: of the byte of its record, and of that of its chain while it reads it.
+-- A record has to be purged by the cursor that leaves it: it is dead, no other cursor stands on it, and the file may be changed, which
+-- an opener that holds all records for reading may not either.
+pub record IsToPurge (f : Form) (img : List ℕ) (own : HeldLocks) (stood_on : List ℕ) (read_only : Bool) (off : ℕ) : Type 0 where
+  pub dead : magic_of f.order img off ≡ USED → ⊥
+  pub alone : Contains stood_on off → ⊥
+  pub writable : read_only ≡ false
+  pub writes : only_reads own ≡ false
+
+-- A cursor has to purge the record on which it stands. This is decided at the first turn of a command, before any lock.
+abbrev pub HasToPurge : Form → List ℕ → HeldLocks → List ℕ → Bool → Standing → Stage → Type 0
+HasToPurge f img own stood_on read_only (On chain off) Rested = IsToPurge f img own stood_on read_only off
+HasToPurge f img own stood_on read_only (On chain off) Reading = ⊥
+HasToPurge f img own stood_on read_only (On chain off) Writing = ⊥
+HasToPurge f img own stood_on read_only (On chain off) Freeing = ⊥
+HasToPurge f img own stood_on read_only (Before chain) stage = ⊥
+HasToPurge f img own stood_on read_only Past stage = ⊥
+
+-- What is known of the image where a cursor stands: its record is one of its chain, and a dead one where the cursor is going to purge
+-- it.
+abbrev pub Knows : Form → List ℕ → Standing → Stage → Type 0
+Knows f img (On chain off) Rested = (chain < f.chains) × Member off (chain_of f img chain)
+Knows f img (On chain off) Reading = (chain < f.chains) × Member off (chain_of f img chain)
+Knows f img (On chain off) Writing = (chain < f.chains) × IsDeadIn f img chain off
+Knows f img (On chain off) Freeing = (chain < f.chains) × IsDeadIn f img chain off
+Knows f img (Before chain) stage = Unit {0}
+Knows f img Past stage = Unit {0}
+
+-- the byte of the free list
+abbrev pub free_byte : ℕ
+free_byte = 164
+
+-- which byte a lock of a turn is of, how strong it is, whether the opener's explicit locks cover it, and how far the cursor is with it
+abbrev pub byte_of : StepLock → ℕ
+byte_of (ReadChain chain) = lock_byte chain
+byte_of (WriteChain chain) = lock_byte chain
+byte_of FreeList = free_byte
+
+abbrev pub kind_of : StepLock → Kind
+kind_of (ReadChain chain) = Read
+kind_of (WriteChain chain) = Write
+kind_of FreeList = Write
+
+abbrev pub covers : HeldLocks → StepLock → Bool
+covers own (ReadChain chain) = reads_chain own chain
+covers own (WriteChain chain) = reads_chain own chain
+covers own FreeList = false
+
+abbrev pub stage_of : StepLock → Stage
+stage_of (ReadChain chain) = Reading
+stage_of (WriteChain chain) = Writing
+stage_of FreeList = Freeing
+
+-- Where the move of a command goes from: First from before the first chain, or from where its move was blocked; Next from where the
+-- cursor stands.
+abbrev pub from_of : Goal → Standing → Standing
+from_of First (Before chain) = Before chain
+from_of First (On chain off) = Before 0
+from_of First Past = Before 0
+from_of Next place = place
+from_of Leave place = place
+
+-- what the last turn of a command does
+abbrev pub last_of : Goal → Standing → Act
+last_of First place = Move (from_of First place)
+last_of Next place = Move (from_of Next place)
+last_of Leave place = End
+
+-- what the first turn does on a record that isn't to be purged
+abbrev pub first_of : Goal → ℕ → Standing → Act
+first_of First chain place = Move (from_of First place)
+first_of Next chain place = Lock (ReadChain chain)
+first_of Leave chain place = End
+
+-- What the next turn of a command does, where it is told whether the cursor has to purge the record on which it stands. If so, the chain
+-- and then the free list are locked for writing before anything else; else Next locks the chain for reading.
+abbrev pub act_of : Goal → Standing → Stage → Bool → Act
+act_of goal (On chain off) Rested due = if due then Lock (WriteChain chain) else first_of goal chain (On chain off)
+act_of goal (On chain off) Reading due = last_of goal (On chain off)
+act_of goal (On chain off) Writing due = Lock FreeList
+act_of goal (On chain off) Freeing due = last_of goal (On chain off)
+act_of goal (Before chain) stage due = last_of goal (Before chain)
+act_of goal Past stage due = last_of goal Past
+
+-- What is held once a cursor has let go of what it holds: of the byte of its record, and of those of its chain and of the free list as
+-- far as its command locked them.
 abbrev pub let_go : HeldLocks → ℕ → Standing → Stage → Holding → Holding
 let_go own owner (On chain off) Rested h = with_byte (reads_all own) owner off None h
 let_go own owner (On chain off) Reading h = with_byte (reads_chain own chain) owner (lock_byte chain) None (with_byte (reads_all own) owner off None h)
+let_go own owner (On chain off) Writing h = with_byte (reads_chain own chain) owner (lock_byte chain) None (with_byte (reads_all own) owner off None h)
+let_go own owner (On chain off) Freeing h = with_byte false owner free_byte None (with_byte (reads_chain own chain) owner (lock_byte chain) None (with_byte (reads_all own) owner off None h))
 let_go own owner (Before chain) stage h = h
 let_go own owner Past stage h = h
-
--- At the byte of a chain which its explicit locks don't let it read an opener holds something only where its cursor reads that chain.
-abbrev pub ReadsChain : Standing → Stage → ℕ → Type 0
-ReadsChain (On chain off) Reading j = j ≡ chain
-ReadsChain (On chain off) Rested j = ⊥
-ReadsChain (Before chain) stage j = ⊥
-ReadsChain Past stage j = ⊥
-
-abbrev pub HoldsBare : Form → HeldLocks → ℕ → List Piece → Standing → Stage → Type 0
-HoldsBare f own owner ps place stage = (j : ℕ) → j < f.chains → reads_chain own j ≡ false → ReadsChain place stage j ⊎ (held ps owner (lock_byte j) ≡ None)
-
--- First from a record begins as a first move does, once the cursor has let go.
-abbrev pub begun : Act → At → At
-begun Restart at = rested (Before 0)
-begun (LockChain chain) at = at
-begun Move at = at
-begun End at = at
-
-abbrev pub held_begun : HeldLocks → ℕ → Act → At → Holding → Holding
-held_begun own owner Restart at h = let_go own owner at.place at.stage h
-held_begun own owner (LockChain chain) at h = h
-held_begun own owner Move at h = h
-held_begun own owner End at h = h
 
 -- What is held after a move: the byte of the record that it comes to, and of what the cursor held before it nothing; where another
 -- opener holds the byte of that record for writing, nothing changes.
@@ -96,57 +164,72 @@ held_moved own owner at (On chain off) (Done reply) h = let_go own owner at.plac
 held_moved own owner at (Before chain) turn h = let_go own owner at.place at.stage h
 held_moved own owner at Past turn h = let_go own owner at.place at.stage h
 
--- what is held after a turn that locks a chain for reading
-abbrev pub held_locked : HeldLocks → ℕ → At → ℕ → Turn → Holding → Holding
-held_locked own owner at chain Step h = with_byte (reads_chain own chain) owner (lock_byte chain) (Some Read) h
-held_locked own owner at chain (Blocked other byte) h = h
-held_locked own owner at chain (Done reply) h = let_go own owner at.place at.stage h
+-- what is held after a turn that takes a lock
+abbrev pub held_locked : HeldLocks → ℕ → At → StepLock → Turn → Holding → Holding
+held_locked own owner at lock Step h = with_byte (covers own lock) owner (byte_of lock) (Some (kind_of lock)) h
+held_locked own owner at lock (Blocked other byte) h = h
+held_locked own owner at lock (Done reply) h = let_go own owner at.place at.stage h
 
 -- what is held after a turn that led from one place to another
 abbrev pub held_after : HeldLocks → ℕ → Act → At → At → Turn → Holding → Holding
-held_after own owner (LockChain chain) at later turn h = held_locked own owner at chain turn h
-held_after own owner Move at later turn h = held_moved own owner at later.place turn h
-held_after own owner Restart at later turn h = held_moved own owner (rested (Before 0)) later.place turn (let_go own owner at.place at.stage h)
+held_after own owner (Lock lock) at later turn h = held_locked own owner at lock turn h
+held_after own owner (Move from) at later turn h = held_moved own owner at later.place turn h
 held_after own owner End at later turn h = let_go own owner at.place at.stage h
 
--- A turn that locks a chain for reading: it is locked or was covered; or the turn is blocked by the first conflict, and the cursor is as it
--- was; or memory is wanting, and the cursor has ended.
-abbrev pub LockLed : List Piece → ℕ → HeldLocks → ℕ → At → At → Turn → Type 0
-LockLed ps owner own chain at later Step = (later ≡ record at { stage = Reading }) × CanRead ps owner own chain
-LockLed ps owner own chain at later (Blocked other byte) = (later ≡ at) × IsHeldOff ps owner own chain other byte
-LockLed ps owner own chain at later (Done reply) = (reply ≡ Reply.Memory) × (later ≡ rested Past)
+-- A turn that takes a lock: it is taken or was covered, and the cursor is so much further; or the turn is blocked by the first conflict,
+-- and the cursor is as it was; or memory is wanting, and the cursor has ended.
+abbrev pub LockLed : List Piece → ℕ → HeldLocks → StepLock → At → At → Turn → Type 0
+LockLed ps owner own lock at later Step = (later ≡ record at { stage = stage_of lock }) × CanHold (covers own lock) ps owner (byte_of lock) (kind_of lock)
+LockLed ps owner own lock at later (Blocked other byte) = (later ≡ at) × IsKeptFrom (covers own lock) ps owner (byte_of lock) (kind_of lock) other byte
+LockLed ps owner own lock at later (Done reply) = (reply ≡ Reply.Memory) × (later ≡ rested Past)
 
--- a record's byte can't be read: this other opener holds it for writing, and is the first that does
-pub record IsBarred (ps : List Piece) (owner : ℕ) (own : HeldLocks) (off other byte : ℕ) : Type 0 where
-  pub uncovered : reads_all own ≡ false
-  pub kind : Kind
-  pub conflict : IsFirstConflict ps owner off (off + 1) Read other byte kind
+-- A turn in which a cursor leaves its record for a place: it does so; or memory is wanting for the purge, and the cursor has ended.
+pub data LeaveLed (dead : Option DeadRecord) (place : Standing) (told : Turn) (later : At) (turn : Turn) : Type 0 where
+  leaves : turn ≡ told → later ≡ rested place → LeaveLed dead place told later turn
+  cannot : (dead ≡ None → ⊥) → turn ≡ Done Reply.Memory → later ≡ rested Past → LeaveLed dead place told later turn
 
 -- A turn at a record to which a move has come: the cursor stands there, reads the record's byte, and the reply is the record's pair; or
 -- another opener holds that byte for writing, and the cursor is as it was; or memory is wanting, and the cursor has ended.
 pub data Came (f : Form) (img : List ℕ) (ps : List Piece) (owner : ℕ) (own : HeldLocks) (live : Live) (at later : At) (turn : Turn) : Type 0 where
   shown : turn ≡ Done (Reply.Pair (key_at f.order img live.off) (data_at f.order img live.off)) → later ≡ rested (On live.chain live.off) → CanHold (reads_all own) ps owner live.off Read → Came f img ps owner own live at later turn
-  barred : (other byte : ℕ) → turn ≡ Blocked other byte → later ≡ at → IsBarred ps owner own live.off other byte → Came f img ps owner own live at later turn
+  barred : (other byte : ℕ) → turn ≡ Blocked other byte → later ≡ at → IsKeptFrom (reads_all own) ps owner live.off Read other byte → Came f img ps owner own live at later turn
   wants : turn ≡ Done Reply.Memory → later ≡ rested Past → Came f img ps owner own live at later turn
 
--- A turn that moves comes to the next live record; or it is blocked before a chain, where the cursor stands then; or no live record is
--- left, and the cursor has ended; or memory is wanting, and the cursor has ended.
-pub data MoveLed (f : Form) (img : List ℕ) (ps : List Piece) (owner : ℕ) (own : HeldLocks) (at later : At) (turn : Turn) : Type 0 where
-  comes : (live : Live) → IsWay f img ps owner own (place_of at.place) (next_chain f at.place) (Way.Met live) → Came f img ps owner own live at later turn → MoveLed f img ps owner own at later turn
-  stops : (chain other byte : ℕ) → IsWay f img ps owner own (place_of at.place) (next_chain f at.place) (Way.Blocked chain other byte) → turn ≡ Blocked other byte → later ≡ rested (Before chain) → MoveLed f img ps owner own at later turn
-  ends : IsWay f img ps owner own (place_of at.place) (next_chain f at.place) Way.End → turn ≡ Done Reply.End → later ≡ rested Past → MoveLed f img ps owner own at later turn
-  gives_up : turn ≡ Done Reply.Memory → later ≡ rested Past → MoveLed f img ps owner own at later turn
+-- A turn that moves on from a place comes to the next live record; or it is blocked before a chain, where the cursor stands then; or no
+-- live record is left, and the cursor has ended; or memory is wanting, and the cursor has ended.
+pub data MoveLed (f : Form) (img : List ℕ) (ps : List Piece) (owner : ℕ) (own : HeldLocks) (from : Standing) (at later : At) (turn : Turn) : Type 0 where
+  comes : (live : Live) → IsWay f img ps owner own (place_of from) (next_chain f from) (Way.Met live) → Came f img ps owner own live at later turn → MoveLed f img ps owner own from at later turn
+  stops : (chain other byte : ℕ) → IsWay f img ps owner own (place_of from) (next_chain f from) (Way.Blocked chain other byte) → turn ≡ Blocked other byte → later ≡ rested (Before chain) → MoveLed f img ps owner own from at later turn
+  ends : IsWay f img ps owner own (place_of from) (next_chain f from) Way.End → turn ≡ Done Reply.End → later ≡ rested Past → MoveLed f img ps owner own from at later turn
+  gives_up : turn ≡ Done Reply.Memory → later ≡ rested Past → MoveLed f img ps owner own from at later turn
 
 -- what a turn does that needs no bytes of the file
 abbrev pub StepLed : List Piece → ℕ → HeldLocks → Act → At → At → Turn → Type 0
-StepLed ps owner own (LockChain chain) at later turn = LockLed ps owner own chain at later turn
-StepLed ps owner own End at later turn = (turn ≡ Done Reply.Ok) × (later ≡ rested Past)
-StepLed ps owner own Move at later turn = Unit {0}
-StepLed ps owner own Restart at later turn = Unit {0}
+StepLed ps owner own (Lock lock) at later turn = LockLed ps owner own lock at later turn
+StepLed ps owner own (Move from) at later turn = Unit {0}
+StepLed ps owner own End at later turn = LeaveLed (dead_of at.place at.stage) Past (Done Reply.Ok) later turn
 
--- a turn moves the cursor
-abbrev pub Moves : Act → Type 0
-Moves Move = Unit {0}
-Moves Restart = Unit {0}
-Moves (LockChain chain) = ⊥
-Moves End = ⊥
+-- where a turn moves to
+abbrev pub StepMoved : Form → List ℕ → List Piece → ℕ → HeldLocks → Act → At → At → Turn → Type 0
+StepMoved f img ps owner own (Lock lock) at later turn = Unit {0}
+StepMoved f img ps owner own (Move from) at later turn = MoveLed f img ps owner own from at later turn
+StepMoved f img ps owner own End at later turn = Unit {0}
+
+-- A turn of a cursor, over an image that a contract may see: whether the record on which the cursor stands has to be purged is decided
+-- where no command is under way yet, and the turn does what follows from that, from the place, and from how far the command is.
+pub record StepTaken (told : Type 0) (f : Form) (img : List ℕ) (ps now : List Piece) (owner : ℕ) (own : HeldLocks) (stood_on : List ℕ) (goal : Goal) (read_only : Bool) (at later : At) (turn : Turn) : Type 0 where
+  pub due : Bool
+  pub led : StepLed ps owner own (act_of goal at.place at.stage due) at later turn
+  pub holds : (o b : ℕ) → held now o b ≡ held_after own owner (act_of goal at.place at.stage due) at later turn (held ps) o b
+  pub decided : told → (hands : List HandPair) → AcceptWith f img hands → Knows f img at.place at.stage
+      → MatchBool due (HasToPurge f img own stood_on read_only at.place at.stage) (HasToPurge f img own stood_on read_only at.place at.stage → ⊥)
+  pub moved : told → (hands : List HandPair) → AcceptWith f img hands → Knows f img at.place at.stage → StepMoved f img ps owner own (act_of goal at.place at.stage due) at later turn
+
+-- What a turn makes of the image: it keeps it where the cursor leaves no dead record that it has to purge; else it purges that one, and
+-- no command is under way then; or it is blocked at the record to which the move comes, and the cursor is as it was; or memory is
+-- wanting. Nothing changes in the last two cases.
+pub data StepMade (f : Form) (a b : List ℕ) (hands : List HandPair) (at later : At) (turn : Turn) : Type 0 where
+  keeps : dead_of at.place at.stage ≡ None → b ≡ a → StepMade f a b hands at later turn
+  purges : (d : DeadRecord) → dead_of at.place at.stage ≡ Some d → later.stage ≡ Rested → IsPurged f a b d.chain d.off hands → StepMade f a b hands at later turn
+  waits : (other byte : ℕ) → turn ≡ Blocked other byte → later ≡ at → b ≡ a → StepMade f a b hands at later turn
+  starves : turn ≡ Done Reply.Memory → b ≡ a → StepMade f a b hands at later turn

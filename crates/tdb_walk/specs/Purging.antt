@@ -1,5 +1,5 @@
 -- What a purge of a dead record makes of an image.
-use Rattle.std.specs.Prelude.{◌≡◌, ℕ, List, Option, None, Some}
+use Rattle.std.specs.Prelude.{◌≡◌, ◌<◌, ℕ, List, Option, None, Some}
 use Rattle.tdb_words.specs.declared.record.TheConstants.{USED}
 use Rattle.tdb_words.specs.Record.{rec_at}
 use Rattle.tdb_space.specs.Form.{Form, chain_head}
@@ -9,8 +9,12 @@ use Rattle.tdb_space.specs.Pairs.{map_of}
 use Rattle.tdb_space.specs.Extents.{HandPair}
 use Rattle.tdb_space.specs.Accepted.{AcceptWith}
 use Rattle.tdb_space.specs.Stays.{ChangesOnly}
+use Rattle.tdb_space.specs.Spare.{Spare, RoomForAll}
+use Rattle.tdb_space.specs.declared.space.Space.{Ghosts}
 use Rattle.tdb_free.specs.FreeList.{free_pairs, give_to}
 use Rattle.tdb_chain.specs.declared.place.Place.{Place}
+use Rattle.tdb_chain.specs.Place.{StandsWithin}
+use Rattle.tdb_walk.specs.declared.purging.DeadRecord.{DeadRecord}
 
 -- a dead record stands in a chain at an offset
 pub record IsDeadIn (f : Form) (img : List ℕ) (chain off : ℕ) : Type 0 where
@@ -36,3 +40,33 @@ pub record IsPurged (f : Form) (a b : List ℕ) (chain off : ℕ) (hands : List 
   pub offsets : chain_of f b chain ≡ without off (chain_of f a chain)
   pub only : ChangesOnly f a b (λ k. k ≡ chain)
   pub list : free_pairs f b (free_of f b) ≡ give_to (free_pairs f a (free_of f a)) (off, rec_len_of f.order a off)
+
+-- a record that a purge is asked for is dead, and one of a chain
+abbrev pub IsDeadRecord : Form → List ℕ → Option DeadRecord → Type 0
+IsDeadRecord f img None = Unit {0}
+IsDeadRecord f img (Some d) = (d.chain < f.chains) × IsDeadIn f img d.chain d.off
+
+-- the place of such a record was found, or there is none to purge
+abbrev pub IsPrepared : Form → List ℕ → Option DeadRecord → Option Place → Type 0
+IsPrepared f img None found = found ≡ None
+IsPrepared f img (Some d) found = (d.chain < f.chains) × FindsPlace f img d.chain d.off found
+
+-- a place can be purged: it stands within the file, is that of a record which isn't used, and there is room for the writes
+pub record CanPurge (size : ℕ) (spare : Spare) (p : Place) : Type 0 where
+  pub within : StandsWithin p size
+  pub dead : p.rec.magic ≡ USED → ⊥
+  pub room : RoomForAll spare 6 44
+
+-- what a purge makes of an image, where there is a record to purge; else it makes nothing of it
+abbrev pub PurgesOf : Form → List ℕ → List ℕ → Option DeadRecord → List HandPair → Type 0
+PurgesOf f a b None hands = b ≡ a
+PurgesOf f a b (Some d) hands = IsPurged f a b d.chain d.off hands
+
+-- a call that looks and makes room for writes: it leaves the length, the bytes, what the header states, the disk under the view, and
+-- the references that the view holds
+pub record Readied {S : Type 0} (g : Ghosts S) (old new : S) : Type 0 where
+  pub size : g.size new ≡ g.size old
+  pub image : g.image new ≡ g.image old
+  pub form : g.form new ≡ g.form old
+  pub disk : g.disk new ≡ g.disk old
+  pub under : g.under new ≡ g.under old

@@ -24,9 +24,10 @@ lock_byte j = 168 + 4 * j
 abbrev pub reads_chain : HeldLocks → ℕ → Bool
 reads_chain own j = nat_lt 0 (count_of own j) || is_some own.all
 
--- a chain can be read: by the opener's explicit locks, or since no other holds its byte for writing
+-- a chain can be read: by the opener's explicit locks, or since it holds the chain's byte for its command, or since no other holds
+-- that byte for writing
 abbrev pub CanRead : List Piece → ℕ → HeldLocks → ℕ → Type 0
-CanRead ps owner own j = (reads_chain own j ≡ true) ⊎ IsFree ps owner (lock_byte j) (lock_byte j + 1) Read
+CanRead ps owner own j = (reads_chain own j ≡ true) ⊎ (held ps owner (lock_byte j) ≢ None) ⊎ IsFree ps owner (lock_byte j) (lock_byte j + 1) Read
 
 -- a chain can't be read: this other opener holds its byte for writing, and is the first that does
 pub record IsHeldOff (ps : List Piece) (owner : ℕ) (own : HeldLocks) (j other byte : ℕ) : Type 0 where
@@ -46,11 +47,6 @@ SameOthers owner old new = (other byte : ℕ) → other ≢ owner → held new o
 -- two tables say the same
 abbrev pub SameLocks : List Piece → List Piece → Type 0
 SameLocks old new = (owner byte : ℕ) → held new owner byte ≡ held old owner byte
-
--- the opener holds nothing at the bytes of the chains from one number up to another which its explicit locks don't let
--- it read
-abbrev pub HoldsNone : List Piece → ℕ → HeldLocks → ℕ → ℕ → Type 0
-HoldsNone ps owner own from to = (j : ℕ) → from ≤ j → j < to → reads_chain own j ≡ false → held ps owner (lock_byte j) ≡ None
 
 -- a chain of an image has a record
 abbrev pub IsFilled : Form → List ℕ → ℕ → Type 0

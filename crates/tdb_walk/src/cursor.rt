@@ -1,30 +1,33 @@
 // A cursor, turn by turn.
 
-ghost use Rattle.std.specs.Prelude.{◌≡◌, ◌≤◌, ◌%◌, ◌<◌, ◌^◌, IsTrue, List, ℕ, IfOk, OnErr};
+ghost use Rattle.std.specs.Prelude.{◌≡◌, ◌≤◌, ◌%◌, ◌<◌, ◌^◌, IsTrue, List, ℕ, None, IfOk, OnErr, MatchBool};
 ghost use Rattle.tdb_disk.specs.Count.{HasCause};
 ghost use Rattle.tdb_words.specs.Record.{rec_at};
 ghost use Rattle.tdb_space.specs.Form.{Form};
-ghost use Rattle.tdb_space.specs.Frame.{Looked};
+ghost use Rattle.tdb_space.specs.Frame.{Looked, Wrote};
 ghost use Rattle.tdb_space.specs.Extents.{HandPair};
 ghost use Rattle.tdb_space.specs.Accepted.{AcceptWith};
 ghost use Rattle.tdb_locks.specs.LockTable.{held};
 ghost use Rattle.tdb_walk.specs.NextLive.{StandsIn, IsWithin};
 ghost use Rattle.tdb_walk.specs.Way.{SameOthers, SameLocks};
 ghost use Rattle.tdb_walk.specs.ByteLocks.{HoldsWords};
-ghost use Rattle.tdb_walk.specs.Cursors.{rested, IsPlaced, spot_of, act_of, let_go, HoldsBare, begun, held_begun, held_moved, held_locked, held_after, LockLed, Came, MoveLed, StepLed, Moves};
-ghost use Rattle.tdb_walk.specs.declared.standing.Standing.TheVariants.{Before, On};
+ghost use Rattle.tdb_walk.specs.Cursors.{rested, IsPlaced, spot_of, dead_of, HasToPurge, Knows, let_go, held_moved, held_locked, LockLed, LeaveLed, Came, MoveLed, StepTaken, StepMade};
+ghost use Rattle.tdb_locks.specs.declared.turn.Reply.TheVariants.{Memory};
+ghost use Rattle.tdb_locks.specs.declared.turn.Turn.TheVariants.{Done};
+ghost use Rattle.tdb_walk.specs.declared.standing.Standing.TheVariants.{Before, Past};
 
 use crate::live::Live;
-use crate::locking::{let_go_byte, may_read_all, take_byte};
+use crate::locking::{let_go_byte, may_read_all, only_reads, take_byte};
 use crate::looking::{lock_byte, may_read};
 use crate::pair::pair_at;
+use crate::purging::{DeadRecord, is_dead, prepare_purge, purge_prepared};
 use crate::refusal::WalkRefusal;
-use crate::stage::{Act, Goal, Stage};
+use crate::stage::{Act, FREE_BYTE, Goal, Stage, StepLock};
 use crate::standing::Standing;
 use crate::way::{Way, move_on};
 use std::alloc::Global;
 use std::marker::Model;
-use tdb_locks::{Held, Kind, LockRefusal, Locks, Reply, Turn};
+use tdb_locks::{Held, Kind, LockRefusal, Locks, Reply, Spots, Turn};
 use tdb_space::{Io, Space};
 
 /// A cursor on a file: where it stands, and how far it is with the turns of a command.
@@ -65,21 +68,62 @@ impl Cursor {
         }
     }
 
+    /// The dead record that it purges at its next turn: the one on which it stands, once its chain and the free list are
+    /// locked.
+    fn dead(&self) -> Option<DeadRecord>
+        ensures { result ≡ dead_of self.now.place self.now.stage }
+    {
+        match (self.place, self.stage) {
+            (Standing::On(chain, off), Stage::Freeing) => Some(DeadRecord { chain, off }),
+            _ => None,
+        }
+    }
+
+    /// Whether it has to purge the record on which it stands, where no lock of a command is taken yet: the record is dead,
+    /// no other cursor stands on it, and the opener may change its chain.
+    fn has_to_purge<S: Space>(
+        &self,
+        s: &mut S,
+        own: &Held,
+        stood_on: &Spots,
+        read_only: bool,
+    ) -> Result<bool, Io>
+        ensures decided { IfOk result (λ due. IsTrue S.tells → (hands : List HandPair) → AcceptWith (S.form s.old) (S.image s.old) hands → Knows (S.form s.old) (S.image s.old) self.now.place self.now.stage
+            → MatchBool due (HasToPurge (S.form s.old) (S.image s.old) own.now stood_on.now read_only self.now.place self.now.stage)
+            (HasToPurge (S.form s.old) (S.image s.old) own.now stood_on.now read_only self.now.place self.now.stage → ⊥)) }
+        ensures looked { Looked S.Space s.old s.new }
+        ensures cause { HasCause (S.faults s.old) (S.faults s.new) result }
+        ensures bytes_read { S.bytes_read s.old ≤ S.bytes_read s.new }
+    {
+        match (self.place, self.stage) {
+            (Standing::On(_, off), Stage::Rested) => {
+                if read_only || only_reads(own) || stood_on.has(off) {
+                    return Ok(false);
+                }
+                is_dead(s, off)
+            }
+            _ => Ok(false),
+        }
+    }
+
     /// Lets go of what it holds, and stands at a place. It takes no memory.
     fn leave(&mut self, locks: &mut Locks, owner: u32, own: &Held, place: Standing)
         requires placed { IsPlaced place }
         requires words { HoldsWords own.now owner locks.old }
         ensures stands { self.new ≡ rested place }
         ensures words { HoldsWords own.now owner locks.new }
-        ensures bare { (f : Form) → HoldsBare f own.now owner locks.old self.old.place self.old.stage → HoldsBare f own.now owner locks.new self.new.place self.new.stage }
         ensures locks { (o b : ℕ) → held locks.new o b ≡ let_go own.now owner self.old.place self.old.stage (held locks.old) o b }
     {
         if let Standing::On(chain, off) = self.place {
             let_go_byte(locks, owner, may_read_all(own), u64::from(off));
             match self.stage {
                 Stage::Rested => {}
-                Stage::Reading => {
+                Stage::Reading | Stage::Writing => {
                     let_go_byte(locks, owner, may_read(own, chain), lock_byte(chain));
+                }
+                Stage::Freeing => {
+                    let_go_byte(locks, owner, may_read(own, chain), lock_byte(chain));
+                    let_go_byte(locks, owner, false, FREE_BYTE);
                 }
             }
         }
@@ -87,24 +131,17 @@ impl Cursor {
         self.stage = Stage::Rested;
     }
 
-    /// Locks the chain of its record for reading.
-    fn lock_turn(&mut self, locks: &mut Locks, owner: u32, own: &Held, chain: u32) -> Turn
-        requires here { (off : ℕ) × (self.old ≡ rested (On chain off)) }
+    /// A turn that takes a lock.
+    fn lock_turn(&mut self, locks: &mut Locks, owner: u32, own: &Held, lock: StepLock) -> Turn
         requires words { HoldsWords own.now owner locks.old }
         ensures words { HoldsWords own.now owner locks.new }
-        ensures bare { (f : Form) → HoldsBare f own.now owner locks.old self.old.place self.old.stage → HoldsBare f own.now owner locks.new self.new.place self.new.stage }
-        ensures led { LockLed locks.old owner own.now chain self.old self.new result }
-        ensures locks { (o b : ℕ) → held locks.new o b ≡ held_locked own.now owner self.old chain result (held locks.old) o b }
+        ensures led { LockLed locks.old owner own.now lock self.old self.new result }
+        ensures locks { (o b : ℕ) → held locks.new o b ≡ held_locked own.now owner self.old lock result (held locks.old) o b }
     {
-        match take_byte(
-            locks,
-            owner,
-            may_read(own, chain),
-            lock_byte(chain),
-            Kind::Read,
-        ) {
+        let covered = lock.is_covered(own);
+        match take_byte(locks, owner, covered, lock.byte(), lock.kind()) {
             Ok(()) => {
-                self.stage = Stage::Reading;
+                self.stage = lock.stage();
                 Turn::Step
             }
             Err(LockRefusal::Conflict { owner, byte, .. }) => Turn::Blocked { owner, byte },
@@ -115,7 +152,59 @@ impl Cursor {
         }
     }
 
-    /// Comes to a record: takes its byte for reading, lets go of what it held, and replies the record's pair.
+    /// Leaves where it stands for a place, and purges the dead record there, if that is due: the turn is then as told.
+    fn depart<S: Space>(
+        &mut self,
+        s: &mut S,
+        locks: &mut Locks,
+        owner: u32,
+        own: &Held,
+        place: Standing,
+        told: Turn,
+    ) -> Result<Turn, Io>
+        requires placed { IsPlaced place }
+        requires words { HoldsWords own.now owner locks.old }
+        ensures words { HoldsWords own.now owner locks.new }
+        ensures led { IfOk result (LeaveLed (dead_of self.old.place self.old.stage) place told self.new) }
+        ensures made { IfOk result (λ turn. IsTrue S.tells → S.size s.old < 2 ^ 32 → (hands : List HandPair) → AcceptWith (S.form s.old) (S.image s.old) hands
+            → Knows (S.form s.old) (S.image s.old) self.old.place self.old.stage → StepMade (S.form s.old) (S.image s.old) (S.image s.new) hands self.old self.new turn) }
+        ensures locks { IfOk result (λ turn. (o b : ℕ) → held locks.new o b ≡ let_go own.now owner self.old.place self.old.stage (held locks.old) o b) }
+        ensures stands { OnErr result (self.new ≡ self.old) }
+        ensures kept { OnErr result (locks.new ≡ locks.old) }
+        ensures idle { dead_of self.old.place self.old.stage ≡ None → Looked S.Space s.old s.new }
+        ensures size { S.size s.new ≡ S.size s.old }
+        ensures wrote { Wrote S.Space s.old s.new }
+        ensures cause { HasCause (S.faults s.old) (S.faults s.new) result }
+        ensures bytes_read { S.bytes_read s.old ≤ S.bytes_read s.new }
+    {
+        match prepare_purge(s, self.dead()) {
+            Ok(dead) => {
+                purge_prepared(s, dead)?;
+                self.leave(locks, owner, own, place);
+                Ok(told)
+            }
+            Err(WalkRefusal::Memory) => {
+                self.leave(locks, owner, own, Standing::Past);
+                Ok(Turn::Done(Reply::Memory))
+            }
+            Err(WalkRefusal::Io) => Err(Io),
+        }
+    }
+
+    /// Ends for want of memory. It takes none.
+    fn give_up(&mut self, locks: &mut Locks, owner: u32, own: &Held) -> Turn
+        requires words { HoldsWords own.now owner locks.old }
+        ensures stands { self.new ≡ rested Past }
+        ensures says { result ≡ Done Memory }
+        ensures words { HoldsWords own.now owner locks.new }
+        ensures locks { (o b : ℕ) → held locks.new o b ≡ let_go own.now owner self.old.place self.old.stage (held locks.old) o b }
+    {
+        self.leave(locks, owner, own, Standing::Past);
+        Turn::Done(Reply::Memory)
+    }
+
+    /// Comes to a record: reads its pair, takes its byte for reading, purges the dead record that it leaves, if that is
+    /// due, and lets go of what it held. Memory for all of it is taken before the purge.
     fn come_to<S: Space>(
         &mut self,
         alloc: Global,
@@ -127,46 +216,44 @@ impl Cursor {
     ) -> Result<Turn, Io>
         requires within { IsWithin (S.form s.old) (S.size s.old) live }
         requires words { HoldsWords own.now owner locks.old }
-        requires bare { HoldsBare (S.form s.old) own.now owner locks.old self.old.place self.old.stage }
         ensures words { HoldsWords own.now owner locks.new }
-        ensures bare { HoldsBare (S.form s.old) own.now owner locks.new self.new.place self.new.stage }
         ensures came { IfOk result (λ turn. IsTrue S.tells → live.rec ≡ rec_at (S.form s.old).order (S.image s.old) live.off
             → Came (S.form s.old) (S.image s.old) locks.old owner own.now live self.old self.new turn) }
+        ensures made { IfOk result (λ turn. IsTrue S.tells → S.size s.old < 2 ^ 32 → (hands : List HandPair) → AcceptWith (S.form s.old) (S.image s.old) hands
+            → Knows (S.form s.old) (S.image s.old) self.old.place self.old.stage → StepMade (S.form s.old) (S.image s.old) (S.image s.new) hands self.old self.new turn) }
         ensures locks { IfOk result (λ turn. (o b : ℕ) → held locks.new o b ≡ held_moved own.now owner self.old self.new.place turn (held locks.old) o b) }
+        ensures others { SameOthers owner locks.old locks.new }
         ensures stands { OnErr result (self.new ≡ self.old) }
-        ensures kept { OnErr result (locks.new ≡ locks.old) }
-        ensures looked { Looked S.Space s.old s.new }
+        ensures kept { OnErr result (dead_of self.old.place self.old.stage ≡ None → locks.new ≡ locks.old) }
+        ensures idle { dead_of self.old.place self.old.stage ≡ None → Looked S.Space s.old s.new }
+        ensures size { S.size s.new ≡ S.size s.old }
+        ensures wrote { Wrote S.Space s.old s.new }
         ensures cause { HasCause (S.faults s.old) (S.faults s.new) result }
         ensures bytes_read { S.bytes_read s.old ≤ S.bytes_read s.new }
     {
         let reply = match pair_at(alloc, s, &live) {
             Ok(reply) => reply,
             Err(WalkRefusal::Io) => return Err(Io),
-            Err(WalkRefusal::Memory) => {
-                self.leave(locks, owner, own, Standing::Past);
-                return Ok(Turn::Done(Reply::Memory));
-            }
+            Err(WalkRefusal::Memory) => return Ok(self.give_up(locks, owner, own)),
         };
-        match take_byte(
-            locks,
-            owner,
-            may_read_all(own),
-            u64::from(live.off),
-            Kind::Read,
-        ) {
+        let dead = match prepare_purge(s, self.dead()) {
+            Ok(dead) => dead,
+            Err(WalkRefusal::Io) => return Err(Io),
+            Err(WalkRefusal::Memory) => return Ok(self.give_up(locks, owner, own)),
+        };
+        let byte = u64::from(live.off);
+        match take_byte(locks, owner, may_read_all(own), byte, Kind::Read) {
             Ok(()) => {
+                purge_prepared(s, dead)?;
                 self.leave(locks, owner, own, Standing::On(live.chain, live.off));
                 Ok(Turn::Done(reply))
             }
             Err(LockRefusal::Conflict { owner, byte, .. }) => Ok(Turn::Blocked { owner, byte }),
-            Err(LockRefusal::Memory) => {
-                self.leave(locks, owner, own, Standing::Past);
-                Ok(Turn::Done(Reply::Memory))
-            }
+            Err(LockRefusal::Memory) => Ok(self.give_up(locks, owner, own)),
         }
     }
 
-    /// Moves on from where it stands.
+    /// Moves on from a place, and leaves where it stands.
     fn move_turn<S: Space>(
         &mut self,
         alloc: Global,
@@ -174,21 +261,25 @@ impl Cursor {
         locks: &mut Locks,
         owner: u32,
         own: &Held,
+        from: Standing,
     ) -> Result<Turn, Io>
         requires words { HoldsWords own.now owner locks.old }
-        requires bare { HoldsBare (S.form s.old) own.now owner locks.old self.old.place self.old.stage }
         ensures words { HoldsWords own.now owner locks.new }
-        ensures bare { HoldsBare (S.form s.old) own.now owner locks.new self.new.place self.new.stage }
         ensures moved { IfOk result (λ turn. IsTrue S.tells → (hands : List HandPair) → AcceptWith (S.form s.old) (S.image s.old) hands
-            → StandsIn (S.form s.old) (S.image s.old) self.old.place → MoveLed (S.form s.old) (S.image s.old) locks.old owner own.now self.old self.new turn) }
+            → StandsIn (S.form s.old) (S.image s.old) from → MoveLed (S.form s.old) (S.image s.old) locks.old owner own.now from self.old self.new turn) }
+        ensures made { IfOk result (λ turn. IsTrue S.tells → S.size s.old < 2 ^ 32 → (hands : List HandPair) → AcceptWith (S.form s.old) (S.image s.old) hands
+            → Knows (S.form s.old) (S.image s.old) self.old.place self.old.stage → StepMade (S.form s.old) (S.image s.old) (S.image s.new) hands self.old self.new turn) }
         ensures locks { IfOk result (λ turn. (o b : ℕ) → held locks.new o b ≡ held_moved own.now owner self.old self.new.place turn (held locks.old) o b) }
+        ensures others { SameOthers owner locks.old locks.new }
         ensures stands { OnErr result (self.new ≡ self.old) }
-        ensures kept { OnErr result (SameLocks locks.old locks.new) }
-        ensures looked { Looked S.Space s.old s.new }
+        ensures kept { OnErr result (dead_of self.old.place self.old.stage ≡ None → SameLocks locks.old locks.new) }
+        ensures idle { dead_of self.old.place self.old.stage ≡ None → Looked S.Space s.old s.new }
+        ensures size { S.size s.new ≡ S.size s.old }
+        ensures wrote { Wrote S.Space s.old s.new }
         ensures cause { HasCause (S.faults s.old) (S.faults s.new) result }
         ensures bytes_read { S.bytes_read s.old ≤ S.bytes_read s.new }
     {
-        match move_on(s, locks, owner, own, self.place) {
+        match move_on(s, locks, owner, own, from) {
             Ok(Way::Met(live)) => self.come_to(alloc, s, locks, owner, own, live),
             Ok(
                 Way::Blocked {
@@ -197,32 +288,38 @@ impl Cursor {
                     byte,
                 },
             ) => {
-                self.leave(locks, owner, own, Standing::Before(chain));
-                Ok(Turn::Blocked { owner: other, byte })
+                let told = Turn::Blocked { owner: other, byte };
+                self.depart(s, locks, owner, own, Standing::Before(chain), told)
             }
             Ok(Way::End) => {
-                self.leave(locks, owner, own, Standing::Past);
-                Ok(Turn::Done(Reply::End))
+                let told = Turn::Done(Reply::End);
+                self.depart(s, locks, owner, own, Standing::Past, told)
             }
-            Err(WalkRefusal::Memory) => {
-                self.leave(locks, owner, own, Standing::Past);
-                Ok(Turn::Done(Reply::Memory))
-            }
+            Err(WalkRefusal::Memory) => Ok(self.give_up(locks, owner, own)),
             Err(WalkRefusal::Io) => Err(Io),
         }
     }
 
-    /// Does the next turn of what it is asked for. It is asked for the same until the turn is `Done`.
+    /// Does the next turn of what it is asked for. It is asked for the same until the turn is `Done`. `owner` is the number
+    /// of its opener in the lock table, `own` are the locks that this has taken explicitly, and other cursors stand on the
+    /// records at `stood_on`.
     ///
     /// First and Next end with the pair of the next live record, on which the cursor stands then, or with `End` where none
-    /// is left, and Leave with `Ok`. Next locks the chain of its record for reading, and then moves; First and Leave let go at
-    /// their first turn. A turn is `Blocked` where another opener holds what it wants: the lock of a record or of its chain,
-    /// and then nothing changes; or the lock of a chain on its way, and then the cursor stands before that chain and holds
-    /// nothing. `Memory` where that is wanting: then the cursor has ended and holds nothing. `Io` where the disk failed.
-    /// The file stays as it is: a dead record that the cursor leaves stays in its chain, as it is to be where the file was
-    /// opened for reading alone.
+    /// is left, and Leave with `Ok`. A cursor that leaves a dead record purges it, unless another one stands on it, or the
+    /// opener may not change the chain: since the file is `read_only`, or since it holds all records for reading alone (under
+    /// which no record can have died). This is decided where no lock of the command is taken yet; then two turns lock the
+    /// chain and the free list for writing, and the third one purges the record, with the move if there is one. Else Next
+    /// locks the chain for reading and then moves, and First and Leave need one turn. A lock that the explicit ones cover
+    /// isn't taken, and its turn is a step all the same.
     ///
-    /// The cost is that of `move_on` and of reading one pair.
+    /// A turn is `Blocked` where another opener holds what it wants: the lock of a record, of its chain or of the free list,
+    /// and then nothing changes; or the lock of a chain on its way, and then the dead record is purged, and the cursor stands
+    /// before that chain and holds nothing. `Memory` where that is wanting: then the cursor has ended and holds nothing, and
+    /// nothing was written. `Io` where the disk failed: then the cursor stands where it stood, and in a turn that purges the
+    /// record may be in its chain, in no list, or in the free list, and the opener may hold the byte of the next live record.
+    ///
+    /// The cost is that of `move_on`, of reading one pair, and of a purge that of `purge_dead`; where it stands on a record
+    /// 24 bytes more.
     pub fn step<S: Space>(
         &mut self,
         alloc: Global,
@@ -230,35 +327,33 @@ impl Cursor {
         locks: &mut Locks,
         owner: u32,
         own: &Held,
+        stood_on: &Spots,
         goal: Goal,
+        read_only: bool,
     ) -> Result<Turn, Io>
         requires words { HoldsWords own.now owner locks.old }
-        requires bare { HoldsBare (S.form s.old) own.now owner locks.old self.old.place self.old.stage }
         ensures words { HoldsWords own.now owner locks.new }
-        ensures bare { HoldsBare (S.form s.old) own.now owner locks.new self.new.place self.new.stage }
-        ensures led { IfOk result (λ turn. StepLed locks.old owner own.now (act_of goal self.old.place self.old.stage) self.old self.new turn) }
-        ensures moved { IfOk result (λ turn. IsTrue S.tells → (hands : List HandPair) → AcceptWith (S.form s.old) (S.image s.old) hands
-            → StandsIn (S.form s.old) (S.image s.old) self.old.place → Moves (act_of goal self.old.place self.old.stage)
-            → MoveLed (S.form s.old) (S.image s.old) locks.old owner own.now (begun (act_of goal self.old.place self.old.stage) self.old) self.new turn) }
-        ensures stands_in { IfOk result (λ turn. IsTrue S.tells → (hands : List HandPair) → AcceptWith (S.form s.old) (S.image s.old) hands
-            → StandsIn (S.form s.old) (S.image s.old) self.old.place → StandsIn (S.form s.old) (S.image s.old) self.new.place) }
-        ensures locks { IfOk result (λ turn. (o b : ℕ) → held locks.new o b ≡ held_after own.now owner (act_of goal self.old.place self.old.stage) self.old self.new turn (held locks.old) o b) }
-        ensures stands { OnErr result (self.new ≡ begun (act_of goal self.old.place self.old.stage) self.old) }
-        ensures kept { OnErr result ((o b : ℕ) → held locks.new o b ≡ held_begun own.now owner (act_of goal self.old.place self.old.stage) self.old (held locks.old) o b) }
-        ensures looked { Looked S.Space s.old s.new }
+        ensures taken { IfOk result (StepTaken (IsTrue S.tells) (S.form s.old) (S.image s.old) locks.old locks.new owner own.now stood_on.now goal read_only self.old self.new) }
+        ensures made { IfOk result (λ turn. IsTrue S.tells → S.size s.old < 2 ^ 32 → (hands : List HandPair) → AcceptWith (S.form s.old) (S.image s.old) hands
+            → Knows (S.form s.old) (S.image s.old) self.old.place self.old.stage → StepMade (S.form s.old) (S.image s.old) (S.image s.new) hands self.old self.new turn) }
+        ensures knows { IfOk result (λ turn. IsTrue S.tells → S.size s.old < 2 ^ 32 → (hands : List HandPair) → AcceptWith (S.form s.old) (S.image s.old) hands
+            → Knows (S.form s.old) (S.image s.old) self.old.place self.old.stage → Knows (S.form s.old) (S.image s.new) self.new.place self.new.stage) }
+        ensures others { SameOthers owner locks.old locks.new }
+        ensures stands { OnErr result (self.new ≡ self.old) }
+        ensures kept { OnErr result (dead_of self.old.place self.old.stage ≡ None → SameLocks locks.old locks.new) }
+        ensures idle { dead_of self.old.place self.old.stage ≡ None → Looked S.Space s.old s.new }
+        ensures size { S.size s.new ≡ S.size s.old }
+        ensures wrote { Wrote S.Space s.old s.new }
         ensures cause { HasCause (S.faults s.old) (S.faults s.new) result }
         ensures bytes_read { S.bytes_read s.old ≤ S.bytes_read s.new }
     {
-        match Act::of(goal, self.place, self.stage) {
-            Act::LockChain(chain) => Ok(self.lock_turn(locks, owner, own, chain)),
-            Act::Move => self.move_turn(alloc, s, locks, owner, own),
-            Act::Restart => {
-                self.leave(locks, owner, own, Standing::Before(0));
-                self.move_turn(alloc, s, locks, owner, own)
-            }
+        let due = self.has_to_purge(s, own, stood_on, read_only)?;
+        match Act::of(goal, self.place, self.stage, due) {
+            Act::Lock(lock) => Ok(self.lock_turn(locks, owner, own, lock)),
+            Act::Move(from) => self.move_turn(alloc, s, locks, owner, own, from),
             Act::End => {
-                self.leave(locks, owner, own, Standing::Past);
-                Ok(Turn::Done(Reply::Ok))
+                let told = Turn::Done(Reply::Ok);
+                self.depart(s, locks, owner, own, Standing::Past, told)
             }
         }
     }

@@ -3,7 +3,7 @@
 ghost use Rattle.std.specs.Prelude.{◌≡◌, ◌+◌, ◌<◌, ◌^◌, ℕ, Some, None, false, IfErr, OnErr, OnOk};
 ghost use Rattle.tdb_locks.specs.LockTable.{held};
 ghost use Rattle.tdb_locks.specs.Refusal.{IsRefusal};
-ghost use Rattle.tdb_walk.specs.ByteLocks.{with_byte, reads_all, CanHold};
+ghost use Rattle.tdb_walk.specs.ByteLocks.{with_byte, reads_all, only_reads, CanHold};
 
 use tdb_locks::{Held, Kind, Len, LockRefusal, Locks};
 
@@ -12,6 +12,16 @@ pub(crate) fn may_read_all(own: &Held) -> bool
     ensures { result ≡ reads_all own.now }
 {
     own.all().is_some()
+}
+
+/// Whether an opener holds all records explicitly, and for reading alone.
+pub(crate) fn only_reads(own: &Held) -> bool
+    ensures { result ≡ only_reads own.now }
+{
+    match own.all() {
+        Some((Kind::Read, _)) => true,
+        Some((Kind::Write, _)) | None => false,
+    }
 }
 
 /// Takes a byte, unless it is covered.

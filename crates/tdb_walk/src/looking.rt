@@ -1,10 +1,9 @@
 // A look at one chain, which is held for reading meanwhile.
 
-ghost use Rattle.std.specs.Prelude.{◌≡◌, ◌≤◌, ◌<◌, ◌+◌, ◌*◌, ◌⊎◌, IsTrue, true, None, List, ℕ, IfOk, OnErr};
+ghost use Rattle.std.specs.Prelude.{◌≡◌, ◌≤◌, ◌<◌, ◌+◌, ◌*◌, IsTrue, List, ℕ, IfOk};
 ghost use Rattle.tdb_disk.specs.Count.{HasCauseOf};
 ghost use Rattle.tdb_space.specs.Frame.{Looked};
-ghost use Rattle.tdb_locks.specs.LockTable.{held};
-ghost use Rattle.tdb_walk.specs.Way.{lock_byte, reads_chain, LooksRightly, SameLocks, SameOthers};
+ghost use Rattle.tdb_walk.specs.Way.{lock_byte, reads_chain, LooksRightly, SameLocks};
 ghost use Rattle.tdb_walk.specs.Looks.{Shows, LooksWithin};
 ghost use Rattle.tdb_walk.specs.declared.refusal.WalkRefusal.TheVariants.{Io};
 
@@ -40,7 +39,7 @@ pub(crate) fn may_read(own: &Held, chain: u32) -> bool
 }
 
 /// Looks along a chain from its first record, and holds the chain for reading meanwhile, unless the opener's explicit
-/// locks let it.
+/// locks let it, or it holds the chain already.
 pub(crate) fn look_along<S: Space>(
     s: &mut S,
     len: u64,
@@ -54,16 +53,15 @@ pub(crate) fn look_along<S: Space>(
     ensures shows { IfOk result (λ look. IsTrue S.tells → Shows (S.form s.old) (S.image s.old) head look) }
     ensures within { IfOk result (λ look. LooksWithin (S.form s.old) (S.size s.old) look) }
     ensures rightly { IfOk result (LooksRightly locks.old owner own.now head.chain) }
-    ensures others { SameOthers owner locks.old locks.new }
-    ensures locks { (reads_chain own.now head.chain ≡ true) ⊎ (held locks.old owner (lock_byte head.chain) ≡ None) → SameLocks locks.old locks.new }
+    ensures locks { SameLocks locks.old locks.new }
     ensures looked { Looked S.Space s.old s.new }
     ensures cause { HasCauseOf Io (S.faults s.old) (S.faults s.new) result }
     ensures bytes_read { S.bytes_read s.old ≤ S.bytes_read s.new }
 {
-    if may_read(own, head.chain) {
+    let byte = lock_byte(head.chain);
+    if may_read(own, head.chain) || locks.kind_of(owner, byte).is_some() {
         return Ok(Look::Seen(live_from(s, len, head.chain, head.first)?));
     }
-    let byte = lock_byte(head.chain);
     match locks.try_lock(owner, byte, Len::Bytes(1), Kind::Read) {
         Ok(()) => {}
         Err(LockRefusal::Conflict { owner, byte, .. }) => {

@@ -8,7 +8,7 @@ ghost use Rattle.tdb_space.specs.Extents.{HandPair};
 ghost use Rattle.tdb_space.specs.Accepted.{AcceptWith};
 ghost use Rattle.tdb_law.specs.Layout.Place.{before_chain};
 ghost use Rattle.tdb_walk.specs.NextLive.{StandsIn, place_of};
-ghost use Rattle.tdb_walk.specs.Way.{IsWay, MeetsWithin, HoldsNone, SameLocks, SameOthers, next_chain};
+ghost use Rattle.tdb_walk.specs.Way.{IsWay, MeetsWithin, SameLocks, next_chain};
 ghost use Rattle.tdb_walk.specs.declared.refusal.WalkRefusal.TheVariants.{Io};
 
 use crate::heads::first_filled;
@@ -47,8 +47,7 @@ fn pass_chains<S: Space>(
     ensures way { IfOk result (λ way. IsTrue S.tells → (hands : List HandPair) → AcceptWith (S.form s.old) (S.image s.old) hands
         → IsWay (S.form s.old) (S.image s.old) locks.old owner own.now (before_chain from) from way) }
     ensures within { IfOk result (MeetsWithin (S.form s.old) (S.size s.old)) }
-    ensures others { SameOthers owner locks.old locks.new }
-    ensures locks { HoldsNone locks.old owner own.now from (S.form s.old).chains → SameLocks locks.old locks.new }
+    ensures locks { SameLocks locks.old locks.new }
     ensures looked { Looked S.Space s.old s.new }
     ensures cause { HasCauseOf Io (S.faults s.old) (S.faults s.new) result }
     ensures bytes_read { S.bytes_read s.old ≤ S.bytes_read s.new }
@@ -77,9 +76,9 @@ fn pass_chains<S: Space>(
 /// Goes from a place to the next live record: along the chain in which the cursor stands, whose lock is the caller's,
 /// and then chain by chain. Dead records and chains without records are passed over.
 ///
-/// A chain with records is held for reading while it is looked at, unless the opener's explicit locks let it; where
-/// another opener holds it for writing the move is blocked before that chain. It leaves the lock table as it was. The
-/// heads of chains are read in blocks of 1024, so a move through chains without records costs one read for each block;
+/// A chain with records is held for reading while it is looked at, unless the opener's explicit locks let it or it holds
+/// the chain already; where another opener holds it for writing the move is blocked before that chain. It leaves the
+/// lock table as it was. The heads of chains are read in blocks of 1024, so a move through chains without records costs one read for each block;
 /// of each record up to the one that it answers 24 bytes are read. Where the file's bytes aren't those of an accepted
 /// file, it answers a record that lies within the file, or none.
 pub fn move_on<S: Space>(
@@ -92,8 +91,7 @@ pub fn move_on<S: Space>(
     ensures way { IfOk result (λ way. IsTrue S.tells → (hands : List HandPair) → AcceptWith (S.form s.old) (S.image s.old) hands → StandsIn (S.form s.old) (S.image s.old) place
         → IsWay (S.form s.old) (S.image s.old) locks.old owner own.now (place_of place) (next_chain (S.form s.old) place) way) }
     ensures within { IfOk result (MeetsWithin (S.form s.old) (S.size s.old)) }
-    ensures others { SameOthers owner locks.old locks.new }
-    ensures locks { HoldsNone locks.old owner own.now (next_chain (S.form s.old) place) (S.form s.old).chains → SameLocks locks.old locks.new }
+    ensures locks { SameLocks locks.old locks.new }
     ensures looked { Looked S.Space s.old s.new }
     ensures cause { HasCauseOf Io (S.faults s.old) (S.faults s.new) result }
     ensures bytes_read { S.bytes_read s.old ≤ S.bytes_read s.new }

@@ -1,35 +1,18 @@
--- The record is taken out of its chain and given back.
-use Rattle.std.proofs.Common.{◌≡◌, ◌<◌, ◌^◌, ◌∷◌, ℕ, List, Some, length, refl, ◌∙◌, subst, arith}
-use Rattle.tdb_space.specs.Chain.{chain_of, free_of, without}
-use Rattle.tdb_space.specs.Extents.{HandPair}
+-- What was prepared is purged.
+use Rattle.std.proofs.Common.{Some, arith}
 use Rattle.tdb_space.specs.Accepted.{AcceptWith}
-use Rattle.tdb_free.specs.FreeList.{CanBeGiven, Given, GivenBack}
-use Rattle.tdb_free.proofs.Accepted.{can_be_given}
-use Rattle.tdb_free.proofs.Traded.{given_stays}
-use Rattle.tdb_chain.specs.Place.{IsPlace}
-use Rattle.tdb_chain.specs.Changed.{Purged}
-use Rattle.tdb_walk.specs.Purging.{IsDeadIn, FindsPlace}
+use Rattle.tdb_walk.specs.Purging.{IsPrepared, PurgesOf}
+use Rattle.tdb_walk.specs.declared.purging.DeadRecord.{DeadRecord}
 use Rattle.tdb_walk.proofs.Views.{moved}
-use Rattle.tdb_walk.proofs.Purged.{place_of_chain, purged_given}
 use Rattle.tdb_walk.proofs.purging.purge_dead.Goals as goal
 
-pub returns-in-Ok-give-clause-purged : goal.returns-in-Ok-give-clause-purged
-returns-in-Ok-give-clause-purged g c told small hands A below dead =
+pub returns-clause-purged : goal.returns-clause-purged
+returns-clause-purged g c told small hands A below dead =
     let f = g.S.Space.form c.args.s.now in
     let a = g.S.Space.image c.args.s.now in
-    let m = g.S.Space.image c.purge.new.s in
-    let b = g.S.Space.image c.give.new.s in
-    let chain = c.args.chain in
-    let off = c.args.off in
-    let p = c.in-Some.place in
-    let h = c.in_ok-hand.hand in
-    let place = moved (λ x i. (all : List HandPair) → AcceptWith x i all → IsDeadIn x i chain off → FindsPlace x i chain off (Some p)) f (g.S.Space.form c.len.new.self) a (g.S.Space.image c.len.new.self) c.len.ensures.form c.len.ensures.image
-    (λ all B d. subst (FindsPlace (g.S.Space.form c.len.new.self) (g.S.Space.image c.len.new.self) chain off) c.in-Some.is (c.in_ok-place.ensures.found told all B d)) hands A dead in
-    let P = moved (λ x i. (all : List HandPair) → AcceptWith x i all → (at : IsPlace x i p) → Purged x i m at.chain (without p.off (chain_of x i at.chain)) all (h ∷ all)) f (g.S.Space.form c.ready.new.self) a (g.S.Space.image c.ready.new.self)
-    (c.ready.ensures.form ∙ c.in_ok-place.ensures.looked.form ∙ c.len.ensures.form) (c.ready.ensures.image ∙ c.in_ok-place.ensures.looked.image ∙ c.len.ensures.image) (c.in_ok-hand.ensures.purged told) hands A (place_of_chain f a chain off p below place) in
-    let form : g.S.Space.form c.purge.new.s ≡ f = c.in_ok-hand.ensures.wrote.form ∙ c.ready.ensures.form ∙ c.in_ok-place.ensures.looked.form ∙ c.len.ensures.form in
-    let size : g.S.Space.size c.purge.new.s < 2 ^ 32 = omega (arith, small, c.in_ok-hand.ensures.size, c.ready.ensures.size, c.in_ok-place.ensures.looked.size, c.len.ensures.size) in
-    let short : length m < 2 ^ 32 = omega (arith, size, g.met.S.Space.told_size c.purge.new.s told) in
-    let back = moved (λ x i. (all : List HandPair) → AcceptWith x i (h ∷ all) → GivenBack x i b h all) f (g.S.Space.form c.purge.new.s) m m form refl (c.in-Ok-give.ensures.kept told size) hands P.changed.accepted in
-    let given = moved (λ x i. (offs : List ℕ) → CanBeGiven x i offs h → Given x i b offs h) f (g.S.Space.form c.purge.new.s) m m form refl (c.in-Ok-give.ensures.given told) (free_of f m) (can_be_given f m h hands P.changed.accepted short) in
-    purged_given f a m b chain off p h hands below place c.in_ok-hand.ensures.hand P back (given_stays f m b h hands P.changed.accepted given)
+    let b = g.S.Space.image c.purge_prepared.new.s in
+    let r = c.in_ok-place.ensures.readied in
+    let record_of : DeadRecord = record { chain = c.args.chain; off = c.args.off } in
+    moved (λ x i. AcceptWith x i hands → IsPrepared x i (Some record_of) c.in_ok-place.place → PurgesOf x i b (Some record_of) hands) f (g.S.Space.form c.prepare_purge.new.s) a (g.S.Space.image c.prepare_purge.new.s) r.form r.image
+    (λ B prepared. c.in_ok-purge_prepared.ensures.purged told (omega (arith, small, r.size)) hands B (Some record_of) prepared)
+    A (c.in_ok-place.ensures.found told hands A (below, dead))

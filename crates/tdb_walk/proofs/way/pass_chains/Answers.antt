@@ -1,13 +1,11 @@
 -- One chain more, and where the way ends.
-use Rattle.std.proofs.Common.{◌≤◌, ◌<◌, Some, None, ◌∙◌, ap, subst, inl, inr, arith, rules}
+use Rattle.std.proofs.Common.{◌≤◌, ◌<◌, Some, None, ◌∙◌, ap, subst, arith, rules}
 use Rattle.std.specs.Prelude.{IfSome}
-use Rattle.std.proofs.lemmas.Bool.{cases_Bool}
-use Rattle.tdb_space.specs.Form.{Form}
 use Rattle.tdb_walk.specs.declared.heads.Head.{Head}
 use Rattle.tdb_walk.specs.declared.looking.Look.TheVariants.{Seen}
 use Rattle.tdb_walk.specs.Heads.{IsFirstFilled}
 use Rattle.tdb_walk.specs.Looks.{Shows}
-use Rattle.tdb_walk.specs.Way.{LooksRightly, SameLocks, reads_chain}
+use Rattle.tdb_walk.specs.Way.{LooksRightly}
 use Rattle.tdb_walk.proofs.Views.{moved}
 use Rattle.tdb_walk.proofs.Locked.{can_read_then, held_off_then}
 use Rattle.tdb_walk.proofs.Searched.{search_goes_on}
@@ -41,7 +39,7 @@ returns-in-Seen-Some-clause-way g c told hands A =
     way_meets f img c.args.locks.now c.args.owner c.args.own.now c.args.from chain (v.free told) hands A v.least (v.passed told hands A) head c.in-Seen-Some.live first
     (moved (λ x i. Shows x i head (Seen (Some c.in-Seen-Some.live))) f f2 img img2 (c.in_ok-head.ensures.looked.form ∙ v.looked.form) (c.in_ok-head.ensures.looked.image ∙ v.looked.image)
     (subst (Shows f2 img2 head) seen (c.in_ok-live.ensures.shows told)))
-    (can_read_then c.args.owner c.args.locks.now c.loop-chain.locks c.args.own.now head.chain v.others (subst (LooksRightly c.loop-chain.locks c.args.owner c.args.own.now head.chain) seen c.in_ok-live.ensures.rightly))
+    (can_read_then c.args.owner c.args.locks.now c.loop-chain.locks c.args.own.now head.chain v.same (subst (LooksRightly c.loop-chain.locks c.args.owner c.args.own.now head.chain) seen c.in_ok-live.ensures.rightly))
 
 -- it can't be read
 pub returns-in-Stopped-clause-way : goal.returns-in-Stopped-clause-way
@@ -54,7 +52,7 @@ returns-in-Stopped-clause-way g c told hands A =
     let first = moved (λ x i. IsFirstFilled x i chain (Some head)) f (g.S.Space.form c.loop-chain.s) img (g.S.Space.image c.loop-chain.s) v.looked.form v.looked.image
     (subst (IsFirstFilled (g.S.Space.form c.loop-chain.s) (g.S.Space.image c.loop-chain.s) chain) c.in-Some.is (c.in_ok-head.ensures.found told)) in
     way_stops f img c.args.locks.now c.args.owner c.args.own.now c.args.from chain (v.free told) hands A v.least (v.passed told hands A) head c.in-Stopped.owner c.in-Stopped.byte first
-    (held_off_then c.args.owner c.args.locks.now c.loop-chain.locks c.args.own.now head.chain c.in-Stopped.owner c.in-Stopped.byte v.others
+    (held_off_then c.args.owner c.args.locks.now c.loop-chain.locks c.args.own.now head.chain c.in-Stopped.owner c.in-Stopped.byte v.same
     (subst (LooksRightly c.loop-chain.locks c.args.owner c.args.own.now head.chain) c.in-Stopped.is c.in_ok-live.ensures.rightly))
 
 -- it has no live record
@@ -80,16 +78,8 @@ loop-chain-preserved g c =
           (let first = moved (λ x i. IsFirstFilled x i chain (Some head)) f (g.S.Space.form c.loop-chain.s) img (g.S.Space.image c.loop-chain.s) v.looked.form v.looked.image
           (subst (IsFirstFilled (g.S.Space.form c.loop-chain.s) (g.S.Space.image c.loop-chain.s) chain) c.in-Some.is (c.in_ok-head.ensures.found told)) in
           way_free f img c.args.locks.now c.args.owner c.args.own.now c.args.from chain (v.free told) head first
-          (can_read_then c.args.owner c.args.locks.now c.loop-chain.locks c.args.own.now head.chain v.others (subst (LooksRightly c.loop-chain.locks c.args.owner c.args.own.now head.chain) seen c.in_ok-live.ensures.rightly)));
-      others = λ other byte apart. c.in_ok-live.ensures.others other byte apart ∙ v.others other byte apart;
-      same = λ none.
-          (let before = v.same none in
-          let below : head.chain < f.chains = omega (arith, bounds.1, ap (λ (x : Form). x.chains) v.looked.form) in
-          let after : SameLocks c.loop-chain.locks c.look_along.new.locks = elim (cases_Bool (reads_chain c.args.own.now head.chain)) [
-            | inl mine ↦ c.in_ok-live.ensures.locks (inl mine)
-            | inr other ↦ c.in_ok-live.ensures.locks (inr (before _ _ ∙ none head.chain (omega (arith, bounds.0, v.least)) below other))
-          ] in
-          λ owner byte. after owner byte ∙ before owner byte);
+          (can_read_then c.args.owner c.args.locks.now c.loop-chain.locks c.args.own.now head.chain v.same (subst (LooksRightly c.loop-chain.locks c.args.owner c.args.own.now head.chain) seen c.in_ok-live.ensures.rightly)));
+      same = λ owner byte. c.in_ok-live.ensures.locks owner byte ∙ v.same owner byte;
       least = omega (arith, bounds.0, v.least);
       looked = search rules;
       faults = search rules;

@@ -5,7 +5,7 @@ use Rattle.tdb_space.specs.Accepted.{AcceptWith}
 use Rattle.tdb_space.specs.Frame.{Looked}
 use Rattle.tdb_law.specs.Layout.{chains_in}
 use Rattle.tdb_walk.specs.NextLive.{first_live}
-use Rattle.tdb_walk.specs.Way.{CanReadTo, HoldsNone, SameLocks, SameOthers}
+use Rattle.tdb_walk.specs.Way.{CanReadTo, SameLocks}
 use Rattle.tdb_walk.proofs.way.pass_chains.Given as goal
 
 abbrev pub invariant-loop-chain : goal.invariant-loop-chain
@@ -13,8 +13,7 @@ invariant-loop-chain g l = record {
   passed : IsTrue g.S.Space.tells → (hands : List HandPair) → AcceptWith (g.S.Space.form l.fn.s) (g.S.Space.image l.fn.s) hands
       → (j : ℕ) → l.from ≤ j → j < l.chain → first_live (chains_in (g.S.Space.form l.fn.s) (g.S.Space.image l.fn.s) j) ≡ None;
   free : IsTrue g.S.Space.tells → CanReadTo (g.S.Space.form l.fn.s) (g.S.Space.image l.fn.s) l.fn.locks l.owner l.own l.from l.chain;
-  others : SameOthers l.owner l.fn.locks l.locks;
-  same : HoldsNone l.fn.locks l.owner l.own l.from (g.S.Space.form l.fn.s).chains → SameLocks l.fn.locks l.locks;
+  same : SameLocks l.fn.locks l.locks;
   least : l.from ≤ l.chain;
   looked : Looked g.S.Space l.fn.s l.s;
   faults : g.S.Space.faults l.s ≡ g.S.Space.faults l.fn.s;

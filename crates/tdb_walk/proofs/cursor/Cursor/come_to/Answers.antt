@@ -1,36 +1,39 @@
--- Another opener holds the record's byte for writing; and no chain is held where the cursor has let go.
-use Rattle.std.proofs.Common.{◌≡◌, ◌+◌, ℕ, refl, sym, ◌∙◌, subst, arith}
+-- Another opener holds the record's byte for writing; or what was prepared is purged.
+use Rattle.std.proofs.Common.{◌+◌, ℕ, refl, sym, ◌∙◌, ap, subst, arith}
 use Rattle.tdb_locks.specs.Refusal.{IsRefusal}
 use Rattle.tdb_locks.specs.declared.kind.Kind.TheVariants.{Read}
 use Rattle.tdb_locks.specs.declared.turn.Turn.TheVariants.{Blocked}
+use Rattle.tdb_space.specs.Accepted.{AcceptWith}
+use Rattle.tdb_walk.specs.Purging.{IsDeadRecord, IsPrepared}
+use Rattle.tdb_walk.specs.Cursors.{At}
 use Rattle.tdb_walk.specs.Cursors.Came.{barred}
-use Rattle.tdb_walk.specs.Cursors.{HoldsBare}
-use Rattle.tdb_walk.proofs.Turns.{bare_taken}
+use Rattle.tdb_walk.specs.Cursors.StepMade.{waits}
+use Rattle.tdb_walk.proofs.Making.{purge_made}
+use Rattle.tdb_walk.proofs.Views.{moved}
 use Rattle.tdb_walk.proofs.cursor.Cursor.come_to.Goals as goal
 
 pub returns-in-Err-Conflict-clause-came : goal.returns-in-Err-Conflict-clause-came
 returns-in-Err-Conflict-clause-came g c told read =
     let e = c.in-Err-Conflict in
-    let at = subst (λ (b : ℕ). IsRefusal c.args.locks.now c.args.owner b (b + 1) Read e.field-0) c.from.ensures e.ensures.refused in
+    let at = subst (λ (b : ℕ). IsRefusal c.args.locks.now c.args.owner b (b + 1) Read e.field-0) c.from-byte.ensures e.ensures.refused in
     barred e.owner e.byte (λ j. Blocked (e.owner-is j) (e.byte-is j)) refl (record {
       uncovered = sym c.may_read_all.ensures ∙ e.ensures.bare;
       kind = e.field-0-2;
       conflict = subst (IsRefusal c.args.locks.now c.args.owner c.args.live.off (c.args.live.off + 1) Read) e.field-0-is at;
     })
 
-pub returns-in-Err-Memory-clause-bare : goal.returns-in-Err-Memory-clause-bare
-returns-in-Err-Memory-clause-bare g c = c.leave.ensures.bare (g.S.Space.form c.args.s.now) c.requires.bare
+pub returns-in-Err-Conflict-clause-made : goal.returns-in-Err-Conflict-clause-made
+returns-in-Err-Conflict-clause-made g c told small hands A knows =
+    let e = c.in-Err-Conflict in
+    waits e.owner e.byte (λ j. Blocked (e.owner-is j) (e.byte-is j)) refl (c.in-Ok-prepare_purge.ensures.readied.image ∙ c.in-Ok.ensures.looked.image)
 
-pub returns-in-Ok-take_byte-clause-bare : goal.returns-in-Ok-take_byte-clause-bare
-returns-in-Ok-take_byte-clause-bare g c =
+pub returns-in-Ok-take_byte-clause-made : goal.returns-in-Ok-take_byte-clause-made
+returns-in-Ok-take_byte-clause-made g c told small hands A knows =
     let f = g.S.Space.form c.args.s.now in
-    let at = c.args.self.now in
-    c.leave-in-Ok-take_byte.ensures.bare f
-    (bare_taken f c.args.own.now c.args.owner c.args.locks.now c.take_byte.new.locks at.place at.stage c.may_read_all.result c.from.result (omega (arith, c.from.ensures, c.requires.within.above)) c.in-Ok-take_byte.ensures.taken c.requires.bare)
-
-pub returns-clause-bare : goal.returns-clause-bare
-returns-clause-bare g c =
-    let f = g.S.Space.form c.args.s.now in
-    let at = c.args.self.now in
-    c.leave-in-Err-Memory-take_byte.ensures.bare f
-    (subst (λ ps. HoldsBare f c.args.own.now c.args.owner ps at.place at.stage) (sym c.in-Err-Memory-take_byte.ensures.err) c.requires.bare)
+    let img = g.S.Space.image c.args.s.now in
+    let p = c.in-Ok-prepare_purge.ensures in
+    let looked = c.in-Ok.ensures.looked in
+    purge_made f (g.S.Space.form c.prepare_purge.new.s) img (g.S.Space.image c.prepare_purge.new.s) (g.S.Space.image c.purge_prepared.new.s) hands c.args.self.now c.leave.new.self _
+    c.dead.result c.in-Ok-prepare_purge.dead c.dead.ensures (p.readied.form ∙ looked.form) (p.readied.image ∙ looked.image) (ap (λ (x : At). x.stage) c.leave.ensures.stands)
+    (moved (λ x i. AcceptWith x i hands → IsDeadRecord x i c.dead.result → IsPrepared x i c.dead.result c.in-Ok-prepare_purge.dead) f (g.S.Space.form c.pair_at.new.s) img (g.S.Space.image c.pair_at.new.s) looked.form looked.image (p.found told hands))
+    (λ dead B ready. c.in_ok-purge_prepared-in-Ok-take_byte.ensures.purged told (omega (arith, small, p.readied.size, looked.size)) hands B dead ready) A knows

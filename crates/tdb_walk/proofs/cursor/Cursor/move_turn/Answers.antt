@@ -1,12 +1,13 @@
--- Where a move comes to.
-use Rattle.std.proofs.Common.{◌≡◌, refl, sym, subst}
+-- Where a move comes to, and what becomes of the image.
+use Rattle.std.proofs.Common.{◌≡◌, ◌<◌, ◌^◌, IsTrue, refl, subst, arith}
 use Rattle.tdb_words.specs.Record.{rec_at}
-use Rattle.tdb_walk.specs.NextLive.{place_of, StandsIn}
-use Rattle.tdb_walk.specs.Way.{HoldsNone, IsWay, next_chain}
-use Rattle.tdb_walk.specs.Cursors.{At, Came}
+use Rattle.tdb_walk.specs.NextLive.{place_of}
+use Rattle.tdb_walk.specs.Way.{IsWay, next_chain}
+use Rattle.tdb_walk.specs.Cursors.{Came, dead_of}
 use Rattle.tdb_walk.specs.Cursors.MoveLed.{comes, stops}
 use Rattle.tdb_walk.proofs.Views.{moved}
-use Rattle.tdb_walk.proofs.Turns.{bare_ahead, bare_same, came_then, header_met, ok_more}
+use Rattle.tdb_walk.proofs.Turns.{came_then, header_met, ok_more}
+use Rattle.tdb_walk.proofs.Making.{made_then, stopped_led}
 use Rattle.tdb_walk.proofs.cursor.Cursor.move_turn.Goals as goal
 
 pub returns-in-Ok-Met-clause-moved : goal.returns-in-Ok-Met-clause-moved
@@ -14,46 +15,41 @@ returns-in-Ok-Met-clause-moved g c =
     let f = g.S.Space.form c.args.s.now in
     let img = g.S.Space.image c.args.s.now in
     let at = c.args.self.now in
+    let from = c.args.from in
     let live = c.in-Ok-Met.live in
     let looked = c.in-Ok-Met.ensures.looked in
     ok_more c.come_to.result (λ turn came told hands A stands.
-    (let way = subst (IsWay f img c.args.locks.now c.args.owner c.args.own.now (place_of at.place) (next_chain f at.place)) c.in-Ok-Met.field-0-is
-    (subst (λ (a : At). StandsIn f img a.place → IsWay f img c.args.locks.now c.args.owner c.args.own.now (place_of a.place) (next_chain f a.place) c.in-Ok-Met.field-0) c.self.view_is (c.in-Ok-Met.ensures.way told hands A) stands) in
+    (let way = subst (IsWay f img c.args.locks.now c.args.owner c.args.own.now (place_of from) (next_chain f from)) c.in-Ok-Met.field-0-is (c.in-Ok-Met.ensures.way told hands A stands) in
     let there = moved (λ x i. live.rec ≡ rec_at x.order i live.off → Came x i c.move_on.new.locks c.args.owner c.args.own.now live at c.come_to.new.self turn) f (g.S.Space.form c.move_on.new.s) img (g.S.Space.image c.move_on.new.s) looked.form looked.image (came told) in
-    comes live way (came_then f img c.args.locks.now c.move_on.new.locks c.args.owner c.args.own.now live at c.come_to.new.self turn c.in-Ok-Met.ensures.others (there (header_met f img (place_of at.place) live way.0)))))
+    comes live way (came_then f img c.args.locks.now c.move_on.new.locks c.args.owner c.args.own.now live at c.come_to.new.self turn c.in-Ok-Met.ensures.locks (there (header_met f img (place_of from) live way.0)))))
     c.come_to.ensures.came
 
+pub returns-in-Ok-Met-clause-made : goal.returns-in-Ok-Met-clause-made
+returns-in-Ok-Met-clause-made g c =
+    let looked = c.in-Ok-Met.ensures.looked in
+    made_then (IsTrue g.S.Space.tells) (g.S.Space.size c.args.s.now < 2 ^ 32) (g.S.Space.size c.move_on.new.s < 2 ^ 32) c.come_to.result (g.S.Space.form c.args.s.now) (g.S.Space.form c.move_on.new.s) (g.S.Space.image c.args.s.now) (g.S.Space.image c.move_on.new.s)
+    (g.S.Space.image c.come_to.new.s) c.args.self.now c.come_to.new.self looked.form looked.image (λ small. omega (arith, small, looked.size)) c.come_to.ensures.made
+
 pub returns-in-Ok-Blocked-clause-moved : goal.returns-in-Ok-Blocked-clause-moved
-returns-in-Ok-Blocked-clause-moved g c told hands A stands =
+returns-in-Ok-Blocked-clause-moved g c =
     let f = g.S.Space.form c.args.s.now in
-    let at = c.args.self.now in
-    let b = c.in-Ok-Blocked in
     let img = g.S.Space.image c.args.s.now in
-    stops b.chain b.other b.byte
-    (subst (IsWay f img c.args.locks.now c.args.owner c.args.own.now (place_of at.place) (next_chain f at.place)) b.field-0-is
-    (subst (λ (a : At). StandsIn f img a.place → IsWay f img c.args.locks.now c.args.owner c.args.own.now (place_of a.place) (next_chain f a.place) b.field-0) c.self.view_is (b.ensures.way told hands A) stands))
-    refl c.leave.ensures.stands
-
-pub returns-in-Ok-Blocked-clause-bare : goal.returns-in-Ok-Blocked-clause-bare
-returns-in-Ok-Blocked-clause-bare g c =
-    let f = g.S.Space.form c.args.s.now in
     let at = c.args.self.now in
-    let own = c.args.own.now in
-    let none = subst (λ (a : At). HoldsNone c.args.locks.now c.args.owner own (next_chain f a.place) f.chains) (sym c.self.view_is) (bare_ahead f own c.args.owner c.args.locks.now at.place at.stage c.requires.bare) in
-    c.leave.ensures.bare f (bare_same f own c.args.owner c.args.locks.now c.move_on.new.locks at.place at.stage (c.move_on.ensures.locks none) c.requires.bare)
+    let from = c.args.from in
+    let b = c.in-Ok-Blocked in
+    ok_more c.depart.result (λ turn led told hands A stands.
+    stopped_led f img c.args.locks.now c.args.owner c.args.own.now from at c.depart.new.self turn (dead_of at.place at.stage) b.chain b.other b.byte
+    (stops b.chain b.other b.byte (subst (IsWay f img c.args.locks.now c.args.owner c.args.own.now (place_of from) (next_chain f from)) b.field-0-is (b.ensures.way told hands A stands)) refl refl) led)
+    c.depart.ensures.led
 
-pub returns-in-Ok-End-clause-bare : goal.returns-in-Ok-End-clause-bare
-returns-in-Ok-End-clause-bare g c =
-    let f = g.S.Space.form c.args.s.now in
-    let at = c.args.self.now in
-    let own = c.args.own.now in
-    let none = subst (λ (a : At). HoldsNone c.args.locks.now c.args.owner own (next_chain f a.place) f.chains) (sym c.self.view_is) (bare_ahead f own c.args.owner c.args.locks.now at.place at.stage c.requires.bare) in
-    c.leave-in-Ok-End.ensures.bare f (bare_same f own c.args.owner c.args.locks.now c.move_on.new.locks at.place at.stage (c.move_on.ensures.locks none) c.requires.bare)
+pub returns-in-Ok-Blocked-clause-made : goal.returns-in-Ok-Blocked-clause-made
+returns-in-Ok-Blocked-clause-made g c =
+    let looked = c.in-Ok-Blocked.ensures.looked in
+    made_then (IsTrue g.S.Space.tells) (g.S.Space.size c.args.s.now < 2 ^ 32) (g.S.Space.size c.move_on.new.s < 2 ^ 32) c.depart.result (g.S.Space.form c.args.s.now) (g.S.Space.form c.move_on.new.s) (g.S.Space.image c.args.s.now) (g.S.Space.image c.move_on.new.s)
+    (g.S.Space.image c.depart.new.s) c.args.self.now c.depart.new.self looked.form looked.image (λ small. omega (arith, small, looked.size)) c.depart.ensures.made
 
-pub returns-in-Err-Memory-clause-bare : goal.returns-in-Err-Memory-clause-bare
-returns-in-Err-Memory-clause-bare g c =
-    let f = g.S.Space.form c.args.s.now in
-    let at = c.args.self.now in
-    let own = c.args.own.now in
-    let none = subst (λ (a : At). HoldsNone c.args.locks.now c.args.owner own (next_chain f a.place) f.chains) (sym c.self.view_is) (bare_ahead f own c.args.owner c.args.locks.now at.place at.stage c.requires.bare) in
-    c.leave-in-Err-Memory.ensures.bare f (bare_same f own c.args.owner c.args.locks.now c.move_on.new.locks at.place at.stage (c.move_on.ensures.locks none) c.requires.bare)
+pub returns-in-Ok-End-clause-made : goal.returns-in-Ok-End-clause-made
+returns-in-Ok-End-clause-made g c =
+    let looked = c.in-Ok-End.ensures.looked in
+    made_then (IsTrue g.S.Space.tells) (g.S.Space.size c.args.s.now < 2 ^ 32) (g.S.Space.size c.move_on.new.s < 2 ^ 32) c.depart-in-Ok-End.result (g.S.Space.form c.args.s.now) (g.S.Space.form c.move_on.new.s) (g.S.Space.image c.args.s.now) (g.S.Space.image c.move_on.new.s)
+    (g.S.Space.image c.depart-in-Ok-End.new.s) c.args.self.now c.depart-in-Ok-End.new.self looked.form looked.image (λ small. omega (arith, small, looked.size)) c.depart-in-Ok-End.ensures.made

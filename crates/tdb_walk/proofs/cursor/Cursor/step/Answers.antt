@@ -1,50 +1,59 @@
--- A turn that moves, from where the cursor stands or from before the first chain.
-use Rattle.std.proofs.Common.{sym, ◌∙◌, ap, subst}
-use Rattle.tdb_walk.specs.declared.standing.Standing.TheVariants.{Before}
+-- A turn that moves, and what becomes of the image.
+use Rattle.std.proofs.Common.{◌<◌, ◌^◌, IsTrue, sym, ◌∙◌, ap, arith}
+use Rattle.tdb_space.specs.Accepted.{AcceptWith}
+use Rattle.tdb_walk.specs.declared.stage.Act.TheVariants.{Move}
 use Rattle.tdb_walk.specs.NextLive.{StandsIn}
-use Rattle.tdb_walk.specs.Cursors.{At, HoldsBare, MoveLed, act_of, begun, rested}
-use Rattle.tdb_walk.proofs.Turns.{bare_left, moved_then, others_left, ok_more}
-use Rattle.tdb_walk.proofs.Arrived.{moved_stands}
+use Rattle.tdb_walk.specs.Cursors.{At, Knows, MoveLed, StepMade, act_of}
+use Rattle.tdb_walk.proofs.Views.{moved}
+use Rattle.tdb_walk.proofs.Turns.{ok_two}
+use Rattle.tdb_walk.proofs.Making.{made_then, moved_knows}
+use Rattle.tdb_walk.proofs.Stepping.{from_stands, taken_by}
 use Rattle.tdb_walk.proofs.cursor.Cursor.step.Goals as goal
 
-pub move_turn-requires-in-Restart-clause-bare : goal.move_turn-requires-in-Restart-clause-bare
-move_turn-requires-in-Restart-clause-bare g c =
-    let at = c.args.self.now in
-    subst (λ (a : At). HoldsBare (g.S.Space.form c.args.s.now) c.args.own.now c.args.owner c.leave.new.locks a.place a.stage) (sym c.leave.ensures.stands)
-    (bare_left (g.S.Space.form c.args.s.now) c.args.own.now c.args.owner c.args.locks.now c.leave.new.locks at.place at.stage (Before 0) c.leave.ensures.locks c.requires.bare)
-
-pub returns-in-Move-clause-moved : goal.returns-in-Move-clause-moved
-returns-in-Move-clause-moved g c =
-    let at = c.args.self.now in
-    ok_more c.move_turn.result (λ turn led told hands A stands moves.
-    subst (λ act. MoveLed (g.S.Space.form c.args.s.now) (g.S.Space.image c.args.s.now) c.args.locks.now c.args.owner c.args.own.now (begun act at) c.move_turn.new.self turn) (sym c.in-Move.is ∙ c.of.ensures ∙ ap (λ (a : At). act_of c.args.goal a.place a.stage) c.self.view_is) (led told hands A stands))
-    c.move_turn.ensures.moved
-
-pub returns-in-Restart-clause-moved : goal.returns-in-Restart-clause-moved
-returns-in-Restart-clause-moved g c =
+pub returns-in-Move-clause-taken : goal.returns-in-Move-clause-taken
+returns-in-Move-clause-taken g c =
     let f = g.S.Space.form c.args.s.now in
     let img = g.S.Space.image c.args.s.now in
     let at = c.args.self.now in
-    let left = others_left c.args.own.now c.args.owner c.args.locks.now c.leave.new.locks at.place at.stage c.leave.ensures.locks in
-    ok_more c.move_turn-in-Restart.result (λ turn led told hands A stands moves.
-    subst (λ act. MoveLed f img c.args.locks.now c.args.owner c.args.own.now (begun act at) c.move_turn-in-Restart.new.self turn) (sym c.in-Restart.is ∙ c.of.ensures ∙ ap (λ (a : At). act_of c.args.goal a.place a.stage) c.self.view_is)
-    (moved_then f img c.args.locks.now c.leave.new.locks c.args.owner c.args.own.now (rested (Before 0)) c.move_turn-in-Restart.new.self turn left
-    (subst (λ (a : At). MoveLed f img c.leave.new.locks c.args.owner c.args.own.now a c.move_turn-in-Restart.new.self turn) c.leave.ensures.stands
-    (led told hands A (subst (λ (a : At). StandsIn f img a.place) (sym c.leave.ensures.stands) (tt {0}))))))
-    c.move_turn-in-Restart.ensures.moved
+    let from = c.in-Move.from in
+    let due = c.in_ok-due.due in
+    let looked = c.in_ok-due.ensures.looked in
+    let later = c.move_turn.new.self in
+    let same = sym c.in-Move.is ∙ c.of.ensures ∙ ap (λ (a : At). act_of c.args.goal a.place a.stage due) c.self.view_is in
+    ok_two c.move_turn.result (λ turn led locks.
+    taken_by (IsTrue g.S.Space.tells) f img c.args.locks.now c.move_turn.new.locks c.args.owner c.args.own.now c.args.stood_on.now c.args.goal c.args.read_only at later turn due (Move from) same tt locks
+    (λ told hands A knows. c.in_ok-due.ensures.decided told hands A knows)
+    (λ told hands A knows. moved (λ x i. AcceptWith x i hands → StandsIn x i from → MoveLed x i c.args.locks.now c.args.owner c.args.own.now from at later turn) f (g.S.Space.form c.has_to_purge.new.s) img (g.S.Space.image c.has_to_purge.new.s)
+    looked.form looked.image (led told hands) A (from_stands f img c.args.goal at.place at.stage due from same knows)))
+    c.move_turn.ensures.moved c.move_turn.ensures.locks
 
-pub returns-in-End-clause-bare : goal.returns-in-End-clause-bare
-returns-in-End-clause-bare g c = c.leave-in-End.ensures.bare (g.S.Space.form c.args.s.now) c.requires.bare
+pub returns-in-Move-clause-made : goal.returns-in-Move-clause-made
+returns-in-Move-clause-made g c =
+    let looked = c.in_ok-due.ensures.looked in
+    made_then (IsTrue g.S.Space.tells) (g.S.Space.size c.args.s.now < 2 ^ 32) (g.S.Space.size c.has_to_purge.new.s < 2 ^ 32) c.move_turn.result (g.S.Space.form c.args.s.now) (g.S.Space.form c.has_to_purge.new.s) (g.S.Space.image c.args.s.now) (g.S.Space.image c.has_to_purge.new.s)
+    (g.S.Space.image c.move_turn.new.s) c.args.self.now c.move_turn.new.self looked.form looked.image (λ small. omega (arith, small, looked.size)) c.move_turn.ensures.made
 
-pub returns-in-Move-clause-stands_in : goal.returns-in-Move-clause-stands_in
-returns-in-Move-clause-stands_in g c =
+pub returns-in-Move-clause-knows : goal.returns-in-Move-clause-knows
+returns-in-Move-clause-knows g c =
     let f = g.S.Space.form c.args.s.now in
     let img = g.S.Space.image c.args.s.now in
-    ok_more c.move_turn.result (λ turn led told hands A stands. moved_stands f img c.args.locks.now c.args.owner c.args.own.now c.args.self.now c.move_turn.new.self turn stands (led told hands A stands)) c.move_turn.ensures.moved
+    let b = g.S.Space.image c.move_turn.new.s in
+    let at = c.args.self.now in
+    let from = c.in-Move.from in
+    let due = c.in_ok-due.due in
+    let looked = c.in_ok-due.ensures.looked in
+    let later = c.move_turn.new.self in
+    let same = sym c.in-Move.is ∙ c.of.ensures ∙ ap (λ (a : At). act_of c.args.goal a.place a.stage due) c.self.view_is in
+    ok_two c.move_turn.result (λ turn led made told small hands A knows.
+    moved_knows f img b hands at later turn knows c.args.locks.now c.args.owner c.args.own.now from
+    (moved (λ x i. AcceptWith x i hands → StandsIn x i from → MoveLed x i c.args.locks.now c.args.owner c.args.own.now from at later turn) f (g.S.Space.form c.has_to_purge.new.s) img (g.S.Space.image c.has_to_purge.new.s)
+    looked.form looked.image (led told hands) A (from_stands f img c.args.goal at.place at.stage due from same knows))
+    (moved (λ x i. AcceptWith x i hands → Knows x i at.place at.stage → StepMade x i b hands at later turn) f (g.S.Space.form c.has_to_purge.new.s) img (g.S.Space.image c.has_to_purge.new.s)
+    looked.form looked.image (made told (omega (arith, small, looked.size)) hands) A knows))
+    c.move_turn.ensures.moved c.move_turn.ensures.made
 
-pub returns-in-Restart-clause-stands_in : goal.returns-in-Restart-clause-stands_in
-returns-in-Restart-clause-stands_in g c =
-    let f = g.S.Space.form c.args.s.now in
-    let img = g.S.Space.image c.args.s.now in
-    let begins = subst (λ (a : At). StandsIn f img a.place) (sym c.leave.ensures.stands) tt in
-    ok_more c.move_turn-in-Restart.result (λ turn led told hands A stands. moved_stands f img c.leave.new.locks c.args.owner c.args.own.now c.leave.new.self c.move_turn-in-Restart.new.self turn begins (led told hands A begins)) c.move_turn-in-Restart.ensures.moved
+pub returns-in-End-clause-made : goal.returns-in-End-clause-made
+returns-in-End-clause-made g c =
+    let looked = c.in_ok-due.ensures.looked in
+    made_then (IsTrue g.S.Space.tells) (g.S.Space.size c.args.s.now < 2 ^ 32) (g.S.Space.size c.has_to_purge.new.s < 2 ^ 32) c.depart.result (g.S.Space.form c.args.s.now) (g.S.Space.form c.has_to_purge.new.s) (g.S.Space.image c.args.s.now) (g.S.Space.image c.has_to_purge.new.s)
+    (g.S.Space.image c.depart.new.s) c.args.self.now c.depart.new.self looked.form looked.image (λ small. omega (arith, small, looked.size)) c.depart.ensures.made

@@ -1,0 +1,12 @@
+-- What was prepared is purged.
+use Rattle.std.proofs.Common.{ap, arith}
+use Rattle.tdb_walk.specs.Cursors.{At}
+use Rattle.tdb_walk.proofs.Making.{purge_made}
+use Rattle.tdb_walk.proofs.cursor.Cursor.depart.Goals as goal
+
+pub returns-in-Ok-clause-made : goal.returns-in-Ok-clause-made
+returns-in-Ok-clause-made g c told small hands A knows =
+    let r = c.in-Ok.ensures.readied in
+    purge_made (g.S.Space.form c.args.s.now) (g.S.Space.form c.prepare_purge.new.s) (g.S.Space.image c.args.s.now) (g.S.Space.image c.prepare_purge.new.s) (g.S.Space.image c.purge_prepared.new.s) hands c.args.self.now c.leave.new.self c.args.told
+    c.dead.result c.in-Ok.dead c.dead.ensures r.form r.image (ap (λ (x : At). x.stage) c.leave.ensures.stands) (c.in-Ok.ensures.found told hands)
+    (λ dead B ready. c.in_ok-purge_prepared-in-Ok.ensures.purged told (omega (arith, small, r.size)) hands B dead ready) A knows
