@@ -9,11 +9,11 @@ use Rattle.tdb_law.specs.Openers.{is_key}
 use Rattle.tdb_law.specs.Layout.{Cell, Chains, Place, live_in, ahead_of, reached_of}
 use Rattle.tdb_law.specs.Layout.Place.{off_chains, before_chain, on_record}
 use Rattle.tdb_walk.specs.NextLive.{first_live, left_in, NoneLive}
-use Rattle.tdb_walk.specs.Laws.{AheadIsLeft, EndsRightly, BlocksRightly, IsUnentered, MovesAreWalks}
+use Rattle.tdb_walk.specs.Laws.{AheadIsLeft, EndsRightly, BlocksRightly, IsUnentered}
 use Rattle.tdb_walk.proofs.Ahead.{none_some, left_before, passed_before}
 
 -- without a live record there is none with a key
-none_live : (cs : List Cell) (k : List ℕ) → first_live cs ≡ None → live_in cs k ≡ false
+pub none_live : (cs : List Cell) (k : List ℕ) → first_live cs ≡ None → live_in cs k ≡ false
 none_live [] k e = refl
 none_live (c ∷ cs) k e = go c.live (λ later. none_live cs k later) e
   where
@@ -21,7 +21,7 @@ none_live (c ∷ cs) k e = go c.live (λ later. none_live cs k later) e
     go true rest e = absurd (none_some (sym e))
     go false rest e = rest e
 
-ahead_is_left : AheadIsLeft
+pub ahead_is_left : AheadIsLeft
 ahead_is_left f cs off_chains k = refl
 ahead_is_left f cs (before_chain i) k =
     elim (cases_lt (home f k) i) [
@@ -37,16 +37,16 @@ ahead_is_left f cs (on_record i p) k =
       ]
     ]
 
-ends_rightly : EndsRightly
+pub ends_rightly : EndsRightly
 ends_rightly f cs place k some none = ahead_is_left f cs place k ∙ none_live (left_in cs place (home f k)) k (none (home f k) (home_below f k some))
 
 -- what is left of a chain that isn't entered is all of it
-unentered_left : (cs : Chains) (place : Place) (n j : ℕ) → IsUnentered place n → n ≤ j → left_in cs place j ≡ cs j
+pub unentered_left : (cs : Chains) (place : Place) (n j : ℕ) → IsUnentered place n → n ≤ j → left_in cs place j ≡ cs j
 unentered_left cs off_chains n j never late = absurd never
 unentered_left cs (before_chain i) n j un late = left_before cs i j (omega (arith, un, late))
 unentered_left cs (on_record i p) n j un late = rw (ne_eqb j i (λ e. absurd (omega (arith, e, un, late))), le-ltb j i (omega (arith, un, late))) refl
 
-unentered_reached : (place : Place) (n : ℕ) → IsUnentered place n → reached_of place ≤ n
+pub unentered_reached : (place : Place) (n : ℕ) → IsUnentered place n → reached_of place ≤ n
 unentered_reached off_chains n never = absurd never
 unentered_reached (before_chain i) n un = un
 unentered_reached (on_record i p) n un = un
@@ -62,12 +62,9 @@ same_ahead f cs place n un none k =
       | inr late ↦ ap (λ xs. live_in xs k) (left_before cs n (home f k) late ∙ sym (unentered_left cs place n (home f k) un late))
     ]
 
-blocks_rightly : BlocksRightly
+pub blocks_rightly : BlocksRightly
 blocks_rightly f cs place n un none = record {
   reached = unentered_reached place n un;
   fewer = λ k e. sym (same_ahead f cs place n un none k) ∙ e;
   kept = λ k e. inr (same_ahead f cs place n un none k ∙ e);
 }
-
-pub moves_are_walks : MovesAreWalks
-moves_are_walks = record { ahead = ahead_is_left; ends = ends_rightly; blocks = blocks_rightly }

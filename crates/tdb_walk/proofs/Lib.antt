@@ -11,6 +11,7 @@ pub mod Going
 pub mod Bytes
 pub mod Turns
 pub mod Arrived
+pub mod Coming
 pub mod Decided
 pub mod Making
 pub mod Stepping

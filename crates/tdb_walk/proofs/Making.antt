@@ -30,7 +30,8 @@ use Rattle.tdb_walk.specs.Cursors.Came.{shown, barred, wants}
 use Rattle.tdb_walk.specs.Cursors.MoveLed.{comes, stops, ends, gives_up}
 use Rattle.tdb_walk.specs.Cursors.StepMade.{keeps, purges, waits, starves}
 use Rattle.tdb_walk.proofs.Ahead.{none_some, left_here, left_else}
-use Rattle.tdb_walk.proofs.Arrived.{met_member, off_or}
+use Rattle.tdb_walk.proofs.Arrived.{met_member}
+use Rattle.tdb_walk.proofs.Coming.{met_used}
 use Rattle.tdb_walk.proofs.Turns.{ok_more}
 use Rattle.tdb_walk.proofs.Views.{moved}
 
@@ -80,47 +81,6 @@ stopped_led f img ps owner own from at later turn dead chain other byte led (lea
     subst (λ x. MoveLed f img ps owner own from at later x) (sym is) (subst (λ x. MoveLed f img ps owner own from at x (Blocked other byte)) (sym there) led)
 stopped_led f img ps owner own from at later turn dead chain other byte led (cannot some is there) = gives_up is there
 
--- the first live record of a list of records is used
-live_used : (f : Form) (img : List ℕ) (c : Cell) (offs : List ℕ) → first_live (cells f img offs) ≡ Some c → magic_of f.order img c.place ≡ USED
-live_used f img c [] e = absurd (none_some e)
-live_used f img c (x ∷ xs) e = go (magic_of f.order img x == USED) refl (λ s. live_used f img c xs s) e
-  where
-    place_or : Option Cell → ℕ
-    place_or None = 0
-    place_or (Some d) = d.place
-
-    go : (b : Bool) → (magic_of f.order img x == USED) ≡ b → (first_live (cells f img xs) ≡ Some c → magic_of f.order img c.place ≡ USED)
-        → cond b (Some (record { place = x; key = key_at f.order img x; live = magic_of f.order img x == USED })) (first_live (cells f img xs)) ≡ Some c → magic_of f.order img c.place ≡ USED
-    go true is rest s = subst (λ y. magic_of f.order img y ≡ USED) (ap place_or s) (eqb-true (magic_of f.order img x) USED is)
-    go false is rest s = rest s
-
-behind_used : (f : Form) (img : List ℕ) (c : Cell) (p : ℕ) (offs : List ℕ) → first_live (behind (cells f img offs) p) ≡ Some c → magic_of f.order img c.place ≡ USED
-behind_used f img c p [] e = absurd (none_some e)
-behind_used f img c p (x ∷ xs) e = go (x == p) (λ s. behind_used f img c p xs s) e
-  where
-    go : (b : Bool) → (first_live (behind (cells f img xs) p) ≡ Some c → magic_of f.order img c.place ≡ USED) → first_live (if b then cells f img xs else behind (cells f img xs) p) ≡ Some c → magic_of f.order img c.place ≡ USED
-    go true rest s = live_used f img c xs s
-    go false rest s = rest s
-
-before_used : (f : Form) (img : List ℕ) (c : Cell) (i j : ℕ) → first_live (left_in (chains_in f img) (before_chain i) j) ≡ Some c → magic_of f.order img c.place ≡ USED
-before_used f img c i j e = go (nat_lt j i) e
-  where
-    go : (b : Bool) → first_live (if b then [] else chains_in f img j) ≡ Some c → magic_of f.order img c.place ≡ USED
-    go true s = absurd (none_some s)
-    go false s = live_used f img c (chain_of f img j) s
-
-left_used : (f : Form) (img : List ℕ) (c : Cell) (place : Place) (j : ℕ) → first_live (left_in (chains_in f img) place j) ≡ Some c → magic_of f.order img c.place ≡ USED
-left_used f img c off_chains j e = absurd (none_some e)
-left_used f img c (before_chain i) j e = before_used f img c i j e
-left_used f img c (on_record i p) j e =
-    elim (cases_eq j i) [
-      | inl here ↦ behind_used f img c p (chain_of f img i) (sym (ap first_live (left_here (chains_in f img) i p)) ∙ subst (λ k. first_live (left_in (chains_in f img) (on_record i p) k) ≡ Some c) here e)
-      | inr apart ↦ before_used f img c (i + 1) j (sym (ap first_live (left_else (chains_in f img) i p j apart)) ∙ e)
-    ]
-
-pub met_used : (f : Form) (img : List ℕ) (place : Place) (live : Live) → IsNext f img place (Some live) → magic_of f.order img live.off ≡ USED
-met_used f img place live (cell, next, read) = subst (λ x. magic_of f.order img x ≡ USED) (ap off_or read) (left_used f img cell place live.chain next.first)
-
 -- a record of a chain that isn't dead is in its chain after a purge too
 purged_stands : (f : Form) (a b : List ℕ) (hands : List HandPair) (d : DeadRecord) (chain off : ℕ) → IsPurged f a b d.chain d.off hands → IsDeadIn f a d.chain d.off → magic_of f.order a off ≡ USED
     → (chain < f.chains) × Member off (chain_of f a chain) → (chain < f.chains) × Member off (chain_of f b chain)
@@ -131,13 +91,6 @@ purged_stands f a b hands d chain off purged dead used (below, member) = (
     | inr apart ↦ subst (λ x. Member off x) (sym (purged.only.chains chain below apart).same_offsets) member
   ],
 )
-
-some_inner : {T : Type 0} {x y : T} (P : T → Type 0) → Some x ≡ Some y → P x → P y
-some_inner {T} {x} {y} P e p = subst (λ o. holds o) e p
-  where
-    holds : Option T → Type 0
-    holds None = ⊥
-    holds (Some z) = P z
 
 module _ (f : Form) (a b : List ℕ) (hands : List HandPair) (at later : At) (turn : Turn) (knows : Knows f a at.place at.stage) where
   -- where the cursor comes to a used record
