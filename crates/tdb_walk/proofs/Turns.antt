@@ -55,28 +55,6 @@ header_of f img a b read same = subst (λ o. header o) same read
 pub header_met : (f : Form) (img : List ℕ) (place : Place) (live : Live) → IsNext f img place (Some live) → live.rec ≡ rec_at f.order img live.off
 header_met f img place live (cell, next, read) = header_of f img (record { chain = live.chain; off = cell.place; rec = rec_at f.order img cell.place }) live refl read
 
--- what another opener holds stays where a cursor lets go
-pub others_kept : (c : Bool) (owner byte : ℕ) (now : Option Kind) (h : Holding) (o b : ℕ) → o ≢ owner → with_byte c owner byte now h o b ≡ h o b
-others_kept true owner byte now h o b apart = refl
-others_kept false owner byte now h o b apart = rw (ne_eqb o owner apart) refl
-
-chain_others : (own : HeldLocks) (owner chain off : ℕ) (h : Holding) (o b : ℕ) → o ≢ owner
-    → with_byte (reads_chain own chain) owner (lock_byte chain) None (with_byte (reads_all own) owner off None h) o b ≡ h o b
-chain_others own owner chain off h o b apart =
-    others_kept (reads_chain own chain) owner (lock_byte chain) None (with_byte (reads_all own) owner off None h) o b apart ∙ others_kept (reads_all own) owner off None h o b apart
-
-let_go_others : (own : HeldLocks) (owner : ℕ) (place : Standing) (stage : Stage) (h : Holding) (o b : ℕ) → o ≢ owner → let_go own owner place stage h o b ≡ h o b
-let_go_others own owner (On chain off) Rested h o b apart = others_kept (reads_all own) owner off None h o b apart
-let_go_others own owner (On chain off) Reading h o b apart = chain_others own owner chain off h o b apart
-let_go_others own owner (On chain off) Writing h o b apart = chain_others own owner chain off h o b apart
-let_go_others own owner (On chain off) Freeing h o b apart =
-    others_kept false owner free_byte None (with_byte (reads_chain own chain) owner (lock_byte chain) None (with_byte (reads_all own) owner off None h)) o b apart ∙ chain_others own owner chain off h o b apart
-let_go_others own owner (Before chain) stage h o b apart = refl
-let_go_others own owner Past stage h o b apart = refl
-
-pub others_left : (own : HeldLocks) (owner : ℕ) (old new : List Piece) (place : Standing) (stage : Stage) → ((o b : ℕ) → held new o b ≡ let_go own owner place stage (held old) o b) → SameOthers owner old new
-others_left own owner old new place stage gone other byte apart = gone other byte ∙ let_go_others own owner place stage (held old) other byte apart
-
 -- what holds of each value holds of that of a result
 pub ok_more : {V E : Type 0} {P Q : V → Type 0} (r : Result V E) → ((v : V) → P v → Q v) → IfOk r P → IfOk r Q
 ok_more (Ok v) more p = more v p

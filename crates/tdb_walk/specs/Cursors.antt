@@ -1,5 +1,5 @@
 -- Where a cursor stands, what it holds, and what each of its turns does.
-use Rattle.std.specs.Prelude.{◌≡◌, ℕ, ◌%◌, ◌<◌, ◌^◌, Bool, false, List, Option, Some, None, Contains, MatchBool, if◌then◌else◌}
+use Rattle.std.specs.Prelude.{◌≡◌, ℕ, ◌%◌, ◌<◌, ◌^◌, Bool, false, List, Option, Some, None, Contains, MatchBool, if◌then◌else◌, ◌==◌, ◌||◌}
 use Rattle.tdb_words.specs.declared.record.TheConstants.{USED}
 use Rattle.tdb_space.specs.Form.{Form}
 use Rattle.tdb_space.specs.Record.{key_at, data_at, magic_of}
@@ -145,36 +145,43 @@ act_of goal (On chain off) Freeing due = last_of goal (On chain off)
 act_of goal (Before chain) stage due = last_of goal (Before chain)
 act_of goal Past stage due = last_of goal Past
 
--- What is held once a cursor has let go of what it holds: of the byte of its record, and of those of its chain and of the free list as
--- far as its command locked them.
-abbrev pub let_go : HeldLocks → ℕ → Standing → Stage → Holding → Holding
-let_go own owner (On chain off) Rested h = with_byte (reads_all own) owner off None h
-let_go own owner (On chain off) Reading h = with_byte (reads_chain own chain) owner (lock_byte chain) None (with_byte (reads_all own) owner off None h)
-let_go own owner (On chain off) Writing h = with_byte (reads_chain own chain) owner (lock_byte chain) None (with_byte (reads_all own) owner off None h)
-let_go own owner (On chain off) Freeing h = with_byte false owner free_byte None (with_byte (reads_chain own chain) owner (lock_byte chain) None (with_byte (reads_all own) owner off None h))
-let_go own owner (Before chain) stage h = h
-let_go own owner Past stage h = h
+-- a cursor that stands there stands on the record at this offset
+abbrev pub is_on : Standing → ℕ → Bool
+is_on (On chain at) off = at == off
+is_on (Before chain) off = false
+is_on Past off = false
 
--- What is held after a move: the byte of the record that it comes to, and of what the cursor held before it nothing; where another
+-- What is held once a cursor has left for a place what it held: it has let go of the byte of its record, unless it stands on that again,
+-- and of those of its chain and of the free list as far as its command locked them.
+abbrev pub let_go : HeldLocks → ℕ → Standing → Stage → Standing → Holding → Holding
+let_go own owner (On chain off) Rested later h = with_byte (reads_all own || is_on later off) owner off None h
+let_go own owner (On chain off) Reading later h = with_byte (reads_chain own chain) owner (lock_byte chain) None (with_byte (reads_all own || is_on later off) owner off None h)
+let_go own owner (On chain off) Writing later h = with_byte (reads_chain own chain) owner (lock_byte chain) None (with_byte (reads_all own || is_on later off) owner off None h)
+let_go own owner (On chain off) Freeing later h =
+    with_byte false owner free_byte None (with_byte (reads_chain own chain) owner (lock_byte chain) None (with_byte (reads_all own || is_on later off) owner off None h))
+let_go own owner (Before chain) stage later h = h
+let_go own owner Past stage later h = h
+
+-- What is held after a move: the byte of the record that it comes to, and of what the cursor held before it nothing else; where another
 -- opener holds the byte of that record for writing, nothing changes.
 abbrev pub held_moved : HeldLocks → ℕ → At → Standing → Turn → Holding → Holding
 held_moved own owner at (On chain off) Step h = h
 held_moved own owner at (On chain off) (Blocked other byte) h = h
-held_moved own owner at (On chain off) (Done reply) h = let_go own owner at.place at.stage (with_byte (reads_all own) owner off (Some Read) h)
-held_moved own owner at (Before chain) turn h = let_go own owner at.place at.stage h
-held_moved own owner at Past turn h = let_go own owner at.place at.stage h
+held_moved own owner at (On chain off) (Done reply) h = let_go own owner at.place at.stage (On chain off) (with_byte (reads_all own) owner off (Some Read) h)
+held_moved own owner at (Before chain) turn h = let_go own owner at.place at.stage (Before chain) h
+held_moved own owner at Past turn h = let_go own owner at.place at.stage Past h
 
 -- what is held after a turn that takes a lock
 abbrev pub held_locked : HeldLocks → ℕ → At → StepLock → Turn → Holding → Holding
 held_locked own owner at lock Step h = with_byte (covers own lock) owner (byte_of lock) (Some (kind_of lock)) h
 held_locked own owner at lock (Blocked other byte) h = h
-held_locked own owner at lock (Done reply) h = let_go own owner at.place at.stage h
+held_locked own owner at lock (Done reply) h = let_go own owner at.place at.stage Past h
 
 -- what is held after a turn that led from one place to another
 abbrev pub held_after : HeldLocks → ℕ → Act → At → At → Turn → Holding → Holding
 held_after own owner (Lock lock) at later turn h = held_locked own owner at lock turn h
 held_after own owner (Move from) at later turn h = held_moved own owner at later.place turn h
-held_after own owner End at later turn h = let_go own owner at.place at.stage h
+held_after own owner End at later turn h = let_go own owner at.place at.stage Past h
 
 -- A turn that takes a lock: it is taken or was covered, and the cursor is so much further; or the turn is blocked by the first conflict,
 -- and the cursor is as it was; or memory is wanting, and the cursor has ended.

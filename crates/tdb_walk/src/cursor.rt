@@ -106,16 +106,18 @@ impl Cursor {
         }
     }
 
-    /// Lets go of what it holds, and stands at a place. It takes no memory.
+    /// Leaves for a place: lets go of what it holds, but for the byte of its record where it stands on that again. It takes
+    /// no memory.
     fn leave(&mut self, locks: &mut Locks, owner: u32, own: &Held, place: Standing)
         requires placed { IsPlaced place }
         requires words { HoldsWords own.now owner locks.old }
         ensures stands { self.new ≡ rested place }
         ensures words { HoldsWords own.now owner locks.new }
-        ensures locks { (o b : ℕ) → held locks.new o b ≡ let_go own.now owner self.old.place self.old.stage (held locks.old) o b }
+        ensures locks { (o b : ℕ) → held locks.new o b ≡ let_go own.now owner self.old.place self.old.stage place (held locks.old) o b }
     {
         if let Standing::On(chain, off) = self.place {
-            let_go_byte(locks, owner, may_read_all(own), u64::from(off));
+            let kept = may_read_all(own) || place.is_on(off);
+            let_go_byte(locks, owner, kept, u64::from(off));
             match self.stage {
                 Stage::Rested => {}
                 Stage::Reading | Stage::Writing => {
@@ -168,7 +170,7 @@ impl Cursor {
         ensures led { IfOk result (LeaveLed (dead_of self.old.place self.old.stage) place told self.new) }
         ensures made { IfOk result (λ turn. IsTrue S.tells → S.size s.old < 2 ^ 32 → (hands : List HandPair) → AcceptWith (S.form s.old) (S.image s.old) hands
             → Knows (S.form s.old) (S.image s.old) self.old.place self.old.stage → StepMade (S.form s.old) (S.image s.old) (S.image s.new) hands self.old self.new turn) }
-        ensures locks { IfOk result (λ turn. (o b : ℕ) → held locks.new o b ≡ let_go own.now owner self.old.place self.old.stage (held locks.old) o b) }
+        ensures locks { IfOk result (λ turn. (o b : ℕ) → held locks.new o b ≡ let_go own.now owner self.old.place self.old.stage self.new.place (held locks.old) o b) }
         ensures stands { OnErr result (self.new ≡ self.old) }
         ensures kept { OnErr result (locks.new ≡ locks.old) }
         ensures idle { dead_of self.old.place self.old.stage ≡ None → Looked S.Space s.old s.new }
@@ -197,7 +199,7 @@ impl Cursor {
         ensures stands { self.new ≡ rested Past }
         ensures says { result ≡ Done Memory }
         ensures words { HoldsWords own.now owner locks.new }
-        ensures locks { (o b : ℕ) → held locks.new o b ≡ let_go own.now owner self.old.place self.old.stage (held locks.old) o b }
+        ensures locks { (o b : ℕ) → held locks.new o b ≡ let_go own.now owner self.old.place self.old.stage Past (held locks.old) o b }
     {
         self.leave(locks, owner, own, Standing::Past);
         Turn::Done(Reply::Memory)
