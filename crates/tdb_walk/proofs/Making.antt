@@ -14,8 +14,9 @@ use Rattle.tdb_law.specs.Layout.{Cell, Place, cells, behind, chains_in}
 use Rattle.tdb_law.specs.Layout.Place.{off_chains, before_chain, on_record}
 use Rattle.tdb_locks.specs.HeldLocks.{HeldLocks}
 use Rattle.tdb_locks.specs.declared.piece.Piece.{Piece}
+use Rattle.tdb_locks.specs.declared.turn.Reply.{Reply}
 use Rattle.tdb_locks.specs.declared.turn.Turn.{Turn}
-use Rattle.tdb_locks.specs.declared.turn.Turn.TheVariants.{Blocked}
+use Rattle.tdb_locks.specs.declared.turn.Turn.TheVariants.{Blocked, Done}
 use Rattle.tdb_walk.specs.declared.live.Live.{Live}
 use Rattle.tdb_walk.specs.declared.purging.DeadRecord.{DeadRecord}
 use Rattle.tdb_walk.specs.declared.standing.Standing.{Standing}
@@ -50,20 +51,20 @@ dead_rested (On chain off) = refl
 dead_rested (Before chain) = refl
 dead_rested Past = refl
 
-made_by : (f : Form) (a b : List ℕ) (hands : List HandPair) (at later : At) (turn : Turn) (dead : Option DeadRecord) → dead_of at.place at.stage ≡ dead → later.stage ≡ Rested → PurgesOf f a b dead hands → StepMade f a b hands at later turn
-made_by f a b hands at later turn None is over same = keeps is same
-made_by f a b hands at later turn (Some d) is over gone = purges d is over gone
+made_by : (f : Form) (a b : List ℕ) (hands : List HandPair) (at later : At) (turn : Turn) (dead : Option DeadRecord) → dead_of at.place at.stage ≡ dead → later.stage ≡ Rested → (turn ≡ Done Reply.Memory → ⊥) → PurgesOf f a b dead hands → StepMade f a b hands at later turn
+made_by f a b hands at later turn None is over never same = keeps is same
+made_by f a b hands at later turn (Some d) is over never gone = purges d is over never gone
 
 -- a place that was prepared is purged
 pub purge_made : (f f2 : Form) (img img2 b : List ℕ) (hands : List HandPair) (at later : At) (turn : Turn) (asked : Option DeadRecord) (found : Option Found)
-    → asked ≡ dead_of at.place at.stage → f2 ≡ f → img2 ≡ img → later.stage ≡ Rested
+    → asked ≡ dead_of at.place at.stage → f2 ≡ f → img2 ≡ img → later.stage ≡ Rested → (turn ≡ Done Reply.Memory → ⊥)
     → (AcceptWith f img hands → IsDeadRecord f img asked → IsPrepared f img asked found)
     → ((dead : Option DeadRecord) → AcceptWith f2 img2 hands → IsPrepared f2 img2 dead found → PurgesOf f2 img2 b dead hands)
     → AcceptWith f img hands → Knows f img at.place at.stage → StepMade f img b hands at later turn
-purge_made f f2 img img2 b hands at later turn asked found is form image over prepared purged A knows =
+purge_made f f2 img img2 b hands at later turn asked found is form image over never prepared purged A knows =
     let ready = prepared A (subst (IsDeadRecord f img) (sym is) (dead_known f img at.place at.stage knows)) in
     let done : PurgesOf f img b asked hands = moved (λ x i. AcceptWith x i hands → IsPrepared x i asked found → PurgesOf x i b asked hands) f f2 img img2 form image (purged asked) A ready in
-    made_by f img b hands at later turn asked (sym is) over done
+    made_by f img b hands at later turn asked (sym is) over never done
 
 -- what a turn makes of the image, over a view that was looked at before
 pub made_then : {E : Type 0} (told small smaller : Type 0) (r : Result Turn E) (f f2 : Form) (img img2 b : List ℕ) (at later : At) → f2 ≡ f → img2 ≡ img → (small → smaller)
@@ -96,14 +97,14 @@ module _ (f : Form) (a b : List ℕ) (hands : List HandPair) (at later : At) (tu
   -- where the cursor comes to a used record
   came_knows : (chain off : ℕ) → magic_of f.order a off ≡ USED → StandsIn f a (On chain off) → StepMade f a b hands at later turn → Knows f b (On chain off) Rested
   came_knows chain off used there (keeps none same) = subst (λ i. Knows f i (On chain off) Rested) (sym same) there
-  came_knows chain off used there (purges d is over gone) = purged_stands f a b hands d chain off gone (subst (IsDeadRecord f a) is (dead_known f a at.place at.stage knows)).1 used there
+  came_knows chain off used there (purges d is over never gone) = purged_stands f a b hands d chain off gone (subst (IsDeadRecord f a) is (dead_known f a at.place at.stage knows)).1 used there
   came_knows chain off used there (waits other byte is stays same) = subst (λ i. Knows f i (On chain off) Rested) (sym same) there
   came_knows chain off used there (starves is same) = subst (λ i. Knows f i (On chain off) Rested) (sym same) there
 
   -- where it is as it was
   same_knows : later ≡ at → StepMade f a b hands at later turn → Knows f b at.place at.stage
   same_knows stays (keeps none same) = subst (λ i. Knows f i at.place at.stage) (sym same) knows
-  same_knows stays (purges d is over gone) =
+  same_knows stays (purges d is over never gone) =
       let none : dead_of at.place at.stage ≡ None = subst (λ s. dead_of at.place s ≡ None) (sym over ∙ ap (λ (x : At). x.stage) stays) (dead_rested at.place) in
       absurd (none_some (sym none ∙ is))
   same_knows stays (waits other byte is again same) = subst (λ i. Knows f i at.place at.stage) (sym same) knows

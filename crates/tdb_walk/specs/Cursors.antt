@@ -237,6 +237,6 @@ pub record StepTaken (told : Type 0) (f : Form) (img : List ℕ) (ps now : List 
 -- wanting. Nothing changes in the last two cases.
 pub data StepMade (f : Form) (a b : List ℕ) (hands : List HandPair) (at later : At) (turn : Turn) : Type 0 where
   keeps : dead_of at.place at.stage ≡ None → b ≡ a → StepMade f a b hands at later turn
-  purges : (d : DeadRecord) → dead_of at.place at.stage ≡ Some d → later.stage ≡ Rested → IsPurged f a b d.chain d.off hands → StepMade f a b hands at later turn
+  purges : (d : DeadRecord) → dead_of at.place at.stage ≡ Some d → later.stage ≡ Rested → (turn ≡ Done Reply.Memory → ⊥) → IsPurged f a b d.chain d.off hands → StepMade f a b hands at later turn
   waits : (other byte : ℕ) → turn ≡ Blocked other byte → later ≡ at → b ≡ a → StepMade f a b hands at later turn
   starves : turn ≡ Done Reply.Memory → b ≡ a → StepMade f a b hands at later turn

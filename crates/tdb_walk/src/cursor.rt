@@ -68,8 +68,8 @@ impl Cursor {
         }
     }
 
-    /// The dead record that it purges at its next turn: the one on which it stands, once its chain and the free list are
-    /// locked.
+    /// The dead record that it purges at its next turn: the one on which it stands, once its chain and the free list
+    /// are locked.
     fn dead(&self) -> Option<DeadRecord>
         ensures { result ≡ dead_of self.now.place self.now.stage }
     {
@@ -79,8 +79,8 @@ impl Cursor {
         }
     }
 
-    /// Whether it has to purge the record on which it stands, where no lock of a command is taken yet: the record is dead,
-    /// no other cursor stands on it, and the opener may change its chain.
+    /// Whether it has to purge the record on which it stands, where no lock of a command is taken yet: the record is
+    /// dead, no other cursor stands on it, and the opener may change its chain.
     fn has_to_purge<S: Space>(
         &self,
         s: &mut S,
@@ -106,8 +106,8 @@ impl Cursor {
         }
     }
 
-    /// Leaves for a place: lets go of what it holds, but for the byte of its record where it stands on that again. It takes
-    /// no memory.
+    /// Leaves for a place: lets go of what it holds, but for the byte of its record where it stands on that again. It
+    /// takes no memory.
     fn leave(&mut self, locks: &mut Locks, owner: u32, own: &Held, place: Standing)
         requires placed { IsPlaced place }
         requires words { HoldsWords own.now owner locks.old }
@@ -165,6 +165,7 @@ impl Cursor {
         told: Turn,
     ) -> Result<Turn, Io>
         requires placed { IsPlaced place }
+        requires spares { told ≡ Done Memory → ⊥ }
         requires words { HoldsWords own.now owner locks.old }
         ensures words { HoldsWords own.now owner locks.new }
         ensures led { IfOk result (LeaveLed (dead_of self.old.place self.old.stage) place told self.new) }
@@ -302,26 +303,27 @@ impl Cursor {
         }
     }
 
-    /// Does the next turn of what it is asked for. It is asked for the same until the turn is `Done`. `owner` is the number
-    /// of its opener in the lock table, `own` are the locks that this has taken explicitly, and other cursors stand on the
-    /// records at `stood_on`.
+    /// Does the next turn of what it is asked for. It is asked for the same until the turn is `Done`. `owner` is the
+    /// number of its opener in the lock table, `own` are the locks that this has taken explicitly, and other cursors
+    /// stand on the records at `stood_on`.
     ///
-    /// First and Next end with the pair of the next live record, on which the cursor stands then, or with `End` where none
-    /// is left, and Leave with `Ok`. A cursor that leaves a dead record purges it, unless another one stands on it, or the
-    /// opener may not change the chain: since the file is `read_only`, or since it holds all records for reading alone (under
-    /// which no record can have died). This is decided where no lock of the command is taken yet; then two turns lock the
-    /// chain and the free list for writing, and the third one purges the record, with the move if there is one. Else Next
-    /// locks the chain for reading and then moves, and First and Leave need one turn. A lock that the explicit ones cover
-    /// isn't taken, and its turn is a step all the same.
+    /// First and Next end with the pair of the next live record, on which the cursor stands then, or with `End` where
+    /// none is left, and Leave with `Ok`. A cursor that leaves a dead record purges it, unless another one stands on
+    /// it, or the opener may not change the chain: since the file is `read_only`, or since it holds all records for
+    /// reading alone (under which no record can have died). This is decided where no lock of the command is taken yet;
+    /// then two turns lock the chain and the free list for writing, and the third one purges the record, with the move
+    /// if there is one. Else Next locks the chain for reading and then moves, and First and Leave need one turn. A lock
+    /// that the explicit ones cover isn't taken, and its turn is a step all the same.
     ///
-    /// A turn is `Blocked` where another opener holds what it wants: the lock of a record, of its chain or of the free list,
-    /// and then nothing changes; or the lock of a chain on its way, and then the dead record is purged, and the cursor stands
-    /// before that chain and holds nothing. `Memory` where that is wanting: then the cursor has ended and holds nothing, and
-    /// nothing was written. `Io` where the disk failed: then the cursor stands where it stood, and in a turn that purges the
-    /// record may be in its chain, in no list, or in the free list, and the opener may hold the byte of the next live record.
+    /// A turn is `Blocked` where another opener holds what it wants: the lock of a record, of its chain or of the free
+    /// list, and then nothing changes; or the lock of a chain on its way, and then the dead record is purged, and the
+    /// cursor stands before that chain and holds nothing. `Memory` where that is wanting: then the cursor has ended and
+    /// holds nothing, and nothing was written. `Io` where the disk failed: then the cursor stands where it stood, and
+    /// in a turn that purges the record may be in its chain, in no list, or in the free list, and the opener may hold
+    /// the byte of the next live record.
     ///
-    /// The cost is that of `move_on`, of reading one pair, and of a purge that of `purge_dead`; where it stands on a record
-    /// 24 bytes more.
+    /// The cost is that of `move_on`, of reading one pair, and of a purge that of `purge_dead`; where it stands on a
+    /// record 24 bytes more.
     pub fn step<S: Space>(
         &mut self,
         alloc: Global,

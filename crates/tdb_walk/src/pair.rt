@@ -5,7 +5,7 @@ ghost use Rattle.tdb_disk.specs.Count.{HasCauseOf, RoseUpTo};
 ghost use Rattle.tdb_words.specs.Record.{rec_at};
 ghost use Rattle.tdb_space.specs.Frame.{Looked};
 ghost use Rattle.tdb_space.specs.Record.{key_at, data_at};
-ghost use Rattle.tdb_locks.specs.declared.turn.Reply.TheVariants.{Pair};
+ghost use Rattle.tdb_locks.specs.declared.turn.Reply.TheVariants.{Pair, Memory};
 ghost use Rattle.tdb_walk.specs.NextLive.{IsWithin};
 ghost use Rattle.tdb_walk.specs.declared.refusal.WalkRefusal.TheVariants.{Io};
 
@@ -36,6 +36,7 @@ pub fn pair_at<S: Space>(alloc: Global, s: &mut S, live: &Live) -> Result<Reply,
     requires within { IsWithin (S.form s.old) (S.size s.old) live.now }
     ensures pair { IfOk result (λ reply. IsTrue S.tells → live.now.rec ≡ rec_at (S.form s.old).order (S.image s.old) live.now.off
         → reply ≡ Pair (key_at (S.form s.old).order (S.image s.old) live.now.off) (data_at (S.form s.old).order (S.image s.old) live.now.off)) }
+    ensures shape { IfOk result (λ reply. reply ≡ Memory → ⊥) }
     ensures looked { Looked S.Space s.old s.new }
     ensures cause { HasCauseOf Io (S.faults s.old) (S.faults s.new) result }
     ensures bytes_read { RoseUpTo (live.now.rec.key_len + live.now.rec.data_len) (S.bytes_read s.old) (S.bytes_read s.new) }

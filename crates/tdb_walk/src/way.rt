@@ -76,11 +76,11 @@ fn pass_chains<S: Space>(
 /// Goes from a place to the next live record: along the chain in which the cursor stands, whose lock is the caller's,
 /// and then chain by chain. Dead records and chains without records are passed over.
 ///
-/// A chain with records is held for reading while it is looked at, unless the opener's explicit locks let it or it holds
-/// the chain already; where another opener holds it for writing the move is blocked before that chain. It leaves the
-/// lock table as it was. The heads of chains are read in blocks of 1024, so a move through chains without records costs one read for each block;
-/// of each record up to the one that it answers 24 bytes are read. Where the file's bytes aren't those of an accepted
-/// file, it answers a record that lies within the file, or none.
+/// A chain with records is held for reading while it is looked at, unless the opener's explicit locks let it or it
+/// holds the chain already; where another opener holds it for writing the move is blocked before that chain. It leaves
+/// the lock table as it was. The heads of chains are read in blocks of 1024, so a move through chains without records
+/// costs one read for each block; of each record up to the one that it answers 24 bytes are read. Where the file's
+/// bytes aren't those of an accepted file, it answers a record that lies within the file, or none.
 pub fn move_on<S: Space>(
     s: &mut S,
     locks: &mut Locks,

@@ -1,8 +1,10 @@
 -- Another opener holds the record's byte for writing; or what was prepared is purged.
-use Rattle.std.proofs.Common.{◌+◌, ℕ, refl, sym, ◌∙◌, ap, subst, arith}
+use Rattle.std.proofs.Common.{◌≡◌, ◌+◌, ℕ, refl, sym, ◌∙◌, ap, subst, arith}
 use Rattle.tdb_locks.specs.Refusal.{IsRefusal}
 use Rattle.tdb_locks.specs.declared.kind.Kind.TheVariants.{Read}
-use Rattle.tdb_locks.specs.declared.turn.Turn.TheVariants.{Blocked}
+use Rattle.tdb_locks.specs.declared.turn.Reply.{Reply}
+use Rattle.tdb_locks.specs.declared.turn.Turn.{Turn}
+use Rattle.tdb_locks.specs.declared.turn.Turn.TheVariants.{Step, Blocked, Done}
 use Rattle.tdb_space.specs.Accepted.{AcceptWith}
 use Rattle.tdb_walk.specs.Purging.{IsDeadRecord, IsPrepared}
 use Rattle.tdb_walk.specs.Cursors.{At}
@@ -11,6 +13,15 @@ use Rattle.tdb_walk.specs.Cursors.StepMade.{waits}
 use Rattle.tdb_walk.proofs.Making.{purge_made}
 use Rattle.tdb_walk.proofs.Views.{moved}
 use Rattle.tdb_walk.proofs.cursor.Cursor.come_to.Goals as goal
+
+-- two replies of turns that are the same are the same
+reply_same : (r : Reply) → ◌≡◌ {A = Turn} (Done r) (Done Reply.Memory) → r ≡ Reply.Memory
+reply_same r e = ap reply_or e
+  where
+    reply_or : Turn → Reply
+    reply_or Step = Reply.End
+    reply_or (Blocked other byte) = Reply.End
+    reply_or (Done reply) = reply
 
 pub returns-in-Err-Conflict-clause-came : goal.returns-in-Err-Conflict-clause-came
 returns-in-Err-Conflict-clause-came g c told read =
@@ -34,6 +45,6 @@ returns-in-Ok-take_byte-clause-made g c told small hands A knows =
     let p = c.in-Ok-prepare_purge.ensures in
     let looked = c.in-Ok.ensures.looked in
     purge_made f (g.S.Space.form c.prepare_purge.new.s) img (g.S.Space.image c.prepare_purge.new.s) (g.S.Space.image c.purge_prepared.new.s) hands c.args.self.now c.leave.new.self _
-    c.dead.result c.in-Ok-prepare_purge.dead c.dead.ensures (p.readied.form ∙ looked.form) (p.readied.image ∙ looked.image) (ap (λ (x : At). x.stage) c.leave.ensures.stands)
+    c.dead.result c.in-Ok-prepare_purge.dead c.dead.ensures (p.readied.form ∙ looked.form) (p.readied.image ∙ looked.image) (ap (λ (x : At). x.stage) c.leave.ensures.stands) (λ e. c.in-Ok.ensures.shape (reply_same c.in-Ok.reply e))
     (moved (λ x i. AcceptWith x i hands → IsDeadRecord x i c.dead.result → IsPrepared x i c.dead.result c.in-Ok-prepare_purge.dead) f (g.S.Space.form c.pair_at.new.s) img (g.S.Space.image c.pair_at.new.s) looked.form looked.image (p.found told hands))
     (λ dead B ready. c.in_ok-purge_prepared-in-Ok-take_byte.ensures.purged told (omega (arith, small, p.readied.size, looked.size)) hands B dead ready) A knows

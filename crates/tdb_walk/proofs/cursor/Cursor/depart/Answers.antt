@@ -8,5 +8,5 @@ pub returns-in-Ok-clause-made : goal.returns-in-Ok-clause-made
 returns-in-Ok-clause-made g c told small hands A knows =
     let r = c.in-Ok.ensures.readied in
     purge_made (g.S.Space.form c.args.s.now) (g.S.Space.form c.prepare_purge.new.s) (g.S.Space.image c.args.s.now) (g.S.Space.image c.prepare_purge.new.s) (g.S.Space.image c.purge_prepared.new.s) hands c.args.self.now c.leave.new.self c.args.told
-    c.dead.result c.in-Ok.dead c.dead.ensures r.form r.image (ap (λ (x : At). x.stage) c.leave.ensures.stands) (c.in-Ok.ensures.found told hands)
+    c.dead.result c.in-Ok.dead c.dead.ensures r.form r.image (ap (λ (x : At). x.stage) c.leave.ensures.stands) c.requires.spares (c.in-Ok.ensures.found told hands)
     (λ dead B ready. c.in_ok-purge_prepared-in-Ok.ensures.purged told (omega (arith, small, r.size)) hands B dead ready) A knows
