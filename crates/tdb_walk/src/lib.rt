@@ -2,6 +2,8 @@
 #![tactic(auto)]
 
 mod cursor;
+#[cfg(test)]
+mod cursor_tests;
 mod heads;
 mod laws;
 mod live;

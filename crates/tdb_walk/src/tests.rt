@@ -12,7 +12,7 @@ use tdb_locks::{Held, Kind, Len, Locks};
 use tdb_space::Direct;
 use tdb_words::{DEAD, FREE, HashKind, Header, Order, USED, word_bytes};
 
-const HEADER: Header = Header {
+pub(crate) const HEADER: Header = Header {
     order: Order::Big,
     hash: HashKind::Old,
     hash_size: 131,
@@ -69,7 +69,7 @@ fn put_word(image: &mut [u8], at: usize, word: u32) {
     }
 }
 
-fn file(alloc: Global) -> Result<MemDisk, AllocError> {
+pub(crate) fn file(alloc: Global) -> Result<MemDisk, AllocError> {
     let mut image = vec![in alloc; 0u8; 824]?;
     for (at, word) in &WORDS {
         put_word(&mut image, *at, *word);
