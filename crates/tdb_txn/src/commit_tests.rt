@@ -3,7 +3,7 @@ ghost use Rattle.std.specs.Prelude.{◌≡◌, ◌+◌, ◌≤◌, IsTrue, lengt
 ghost use Rattle.tdb_txn.specs.CommitStates.{planned_plan, plan_length};
 
 use crate::states::Planned;
-use crate::{OverlayOn, ToCommit, Txn};
+use crate::{OverlayOn, ToCommit, Txn, TxnRefusal};
 use std::alloc::{AllocError, Global};
 use std::test::Fail;
 use tdb_disk::{Disk, DiskFault, FuseDisk, MemDisk, Pick};
@@ -20,7 +20,7 @@ const HEADER: Header = Header {
 };
 
 /// The greatest length of a file in these tests.
-const LIMIT: u64 = 1 << 20;
+const LIMIT: u32 = 1 << 20;
 
 /// The words behind the header of a file with one record, `a` with the value `1`, and a free record in front of it.
 const RECORD: [(usize, u32); 12] = [
@@ -111,23 +111,34 @@ fn write_bytes<D: Disk>(alloc: Global, d: &mut D, len: u64, at: u64, bytes: &[u8
     Some(txn)
 }
 
-/// Writes bytes at an offset of a file of `len` bytes in a transaction, and commits that. True where it is done.
-fn change<D: Disk>(alloc: Global, d: &mut D, len: u64, at: u64, bytes: &[u8]) -> bool {
+/// Writes bytes at an offset of a file of `len` bytes, which may get `limit` bytes, in a transaction, and commits that.
+/// True where it is done, and a refusal where its plan or a later step is refused.
+fn change<D: Disk>(
+    alloc: Global,
+    d: &mut D,
+    limit: u32,
+    len: u64,
+    at: u64,
+    bytes: &[u8],
+) -> Result<bool, TxnRefusal> {
     let count = bytes.len() as u64;
     if len < 48 || at > len || len - at < count || !is_long(d, len) {
-        return false;
+        return Ok(false);
     }
     let Some(txn) = write_bytes(alloc, d, len, at, bytes) else {
-        return false;
+        return Ok(false);
     };
-    let at_start = txn.start == len && txn.size % 4 == 0 && txn.size <= LIMIT;
+    let at_start = txn.start == len && txn.size % 4 == 0 && txn.size <= limit as u64;
     if !at_start || txn.depth > 0 || txn.doomed || !is_long(d, len) {
-        return false;
+        return Ok(false);
     }
-    match txn.plan(d, LIMIT) {
-        Ok(ToCommit::Ready(planned)) => bring(planned, d).is_ok(),
-        Ok(ToCommit::Nothing) => false,
-        Err(_) => false,
+    match txn.plan(d, limit as u64) {
+        Ok(ToCommit::Ready(planned)) => {
+            bring(planned, d)?;
+            Ok(true)
+        }
+        Ok(ToCommit::Nothing) => Ok(false),
+        Err(refusal) => Err(refusal),
     }
 }
 
@@ -173,13 +184,13 @@ fn syncs_of_three_commits(rt: HostRuntime) -> Result<(), Fail> {
     let alloc = rt.alloc();
     let mut disk = MemDisk::new(alloc, &file(alloc, 4096)?)?;
     for (len, old, new, syncs) in [(4096, b'1', b'9', 8), (8192, b'9', b'8', 13)] {
-        assert!(rt; change(alloc, &mut disk, len as u64, 4089, &[new]));
+        assert!(rt; change(alloc, &mut disk, LIMIT, len as u64, 4089, &[new])?);
         let want = committed(alloc, 4096, len, old, new)?;
         assert!(rt; disk.as_slice() == want.as_slice(), "{len}");
         assert_eq!(rt; disk.syncs(), syncs);
     }
     add_free(&mut disk)?;
-    assert!(rt; change(alloc, &mut disk, 16_384, 8216, &[b'y'; 5000]));
+    assert!(rt; change(alloc, &mut disk, 24_576, 16_384, 8216, &[b'y'; 5000])?);
     assert_eq!(rt; (disk.syncs(), disk.as_slice().len()), (23, 24_576));
     for (at, word) in [
         (44, 16_384),
@@ -206,7 +217,7 @@ fn nothing_to_commit(rt: HostRuntime) -> Result<(), Fail> {
     let alloc = rt.alloc();
     let bytes = file(alloc, 4096)?;
     let mut disk = MemDisk::new(alloc, &bytes)?;
-    assert!(rt; !change(alloc, &mut disk, 4096, 4089, b"1"));
+    assert!(rt; !change(alloc, &mut disk, LIMIT, 4096, 4089, b"1")?);
     assert_eq!(rt;
         (disk.syncs(), disk.as_slice() == bytes.as_slice()),
         (1, true)
@@ -214,10 +225,50 @@ fn nothing_to_commit(rt: HostRuntime) -> Result<(), Fail> {
     Ok(())
 }
 
+/// What a change is answered that may make the file `limit` bytes long: the length and the need of a `Full` that changes
+/// nothing.
+fn full_at(
+    alloc: Global,
+    disk: &mut MemDisk,
+    limit: u32,
+    at: u64,
+    bytes: &[u8],
+) -> Result<Option<(u64, u64)>, AllocError> {
+    let before = Vec::from_slice(alloc, disk.as_slice())?;
+    match change(alloc, disk, limit, before.len() as u64, at, bytes) {
+        Err(TxnRefusal::Full { len, need }) if disk.as_slice() == before.as_slice() => {
+            Ok(Some((len, need)))
+        }
+        _ => Ok(None),
+    }
+}
+
+// A commit that wants a first undo area, or a longer one, is full one byte below the length that the file gets with it
+// (where it is done: the limits of the commits between and of the last of the three above), and changes nothing.
+#[test]
+fn full_where_an_area_has_no_room(rt: HostRuntime) -> Result<(), Fail> {
+    let alloc = rt.alloc();
+    let mut disk = MemDisk::new(alloc, &file(alloc, 4096)?)?;
+    for limit in [4096, 8191] {
+        assert_eq!(rt;
+            full_at(alloc, &mut disk, limit, 4089, b"9")?,
+            Some((4096, 4096))
+        );
+    }
+    assert!(rt; change(alloc, &mut disk, 8192, 4096, 4089, b"9")?);
+    assert_eq!(rt; full_at(alloc, &mut disk, 8192, 4089, b"8")?, None);
+    add_free(&mut disk)?;
+    for limit in [16_384, 24_575] {
+        let got = full_at(alloc, &mut disk, limit, 8216, &[b'y'; 5000])?;
+        assert_eq!(rt; got, Some((16_384, 8192)));
+    }
+    Ok(())
+}
+
 /// Commits over a disk that passes `k` calls, and says whether that was done.
 fn change_through(alloc: Global, disk: MemDisk, k: u64) -> (MemDisk, bool) {
     let mut fuse = FuseDisk::new(disk, k);
-    let done = change(alloc, &mut fuse, 4096, 4089, b"9");
+    let done = change(alloc, &mut fuse, LIMIT, 4096, 4089, b"9") == Ok(true);
     (fuse.inner(), done)
 }
 
