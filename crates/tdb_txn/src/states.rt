@@ -105,7 +105,8 @@ impl Prepared {
         ensures at_most { RoseUpTo 1 (D.syncs d.old) (D.syncs d.new) }
     {
         let Prepared { plan } = self;
-        set_word(d, plan.gate(), word_bytes(GATE_SHUT, plan.header.order))?;
+        let shut = word_bytes(GATE_SHUT, plan.header.order);
+        set_word(d, plan.gate(), shut)?;
         Ok(())
     }
 

@@ -10,20 +10,20 @@ pub returns-in_err-set_word-clause-stops : goal.returns-in_err-set_word-clause-s
 returns-in_err-set_word-clause-stops g c told a b state =
     let old = g.D.Disk.history c.args.d.now in
     let new = g.D.Disk.history c.set_word.new.d in
-    undo_stops c.args.self.plan old new a b c.word_bytes.result c.word_bytes.ensures.bytes state
-    (subst (λ (n : ℕ). LeavesOnly old new (WithWord old n c.word_bytes.result)) c.gate.ensures (c.set_word.ensures.stops told state.quiet))
+    undo_stops c.args.self.plan old new a b c.word_bytes-shut.result c.word_bytes-shut.ensures.bytes state
+    (subst (λ (n : ℕ). LeavesOnly old new (WithWord old n c.word_bytes-shut.result)) c.gate.ensures (c.set_word.ensures.stops told state.quiet))
 
 pub returns-clause-stops : goal.returns-clause-stops
 returns-clause-stops g c told a b state =
     let old = g.D.Disk.history c.args.d.now in
     let new = g.D.Disk.history c.set_word.new.d in
-    undo_stops c.args.self.plan old new a b c.word_bytes.result c.word_bytes.ensures.bytes state
-    (subst (λ (n : ℕ). LeavesOnly old new (WithWord old n c.word_bytes.result)) c.gate.ensures (c.set_word.ensures.stops told state.quiet))
+    undo_stops c.args.self.plan old new a b c.word_bytes-shut.result c.word_bytes-shut.ensures.bytes state
+    (subst (λ (n : ℕ). LeavesOnly old new (WithWord old n c.word_bytes-shut.result)) c.gate.ensures (c.set_word.ensures.stops told state.quiet))
 
 pub returns-clause-undone : goal.returns-clause-undone
 returns-clause-undone g c told a b state =
     let old = g.D.Disk.history c.args.d.now in
     let new = g.D.Disk.history c.set_word.new.d in
-    undo_done c.args.self.plan old new a b c.word_bytes.result c.word_bytes.ensures.bytes state
-    (subst (λ (n : ℕ). seen new ≡ overlay (seen old) n c.word_bytes.result) c.gate.ensures (c.in_ok-set_word.ensures.set told))
+    undo_done c.args.self.plan old new a b c.word_bytes-shut.result c.word_bytes-shut.ensures.bytes state
+    (subst (λ (n : ℕ). seen new ≡ overlay (seen old) n c.word_bytes-shut.result) c.gate.ensures (c.in_ok-set_word.ensures.set told))
     (c.in_ok-set_word.ensures.quiet told)
