@@ -1,6 +1,6 @@
 //! The undo area that a file has.
 ghost use Rattle.std.specs.Prelude.{◌≡◌, ◌+◌, ◌%◌, ◌<◌, ◌≤◌, ◌^◌, ◌⊎◌, ℕ, IsTrue, IfOk};
-ghost use Rattle.tdb_disk.specs.Count.{HasCause};
+ghost use Rattle.tdb_disk.specs.Count.{HasCause, RoseUpTo};
 ghost use Rattle.tdb_disk.specs.History.{seen};
 ghost use Rattle.tdb_words.specs.Word.{word};
 ghost use Rattle.tdb_space.specs.Accepted.{AreaOk};
@@ -22,6 +22,7 @@ fn read_word<D: Disk>(d: &mut D, off: u64, order: Order) -> Result<u32, DiskFaul
     ensures history { D.history d.new ≡ D.history d.old }
     ensures cause { HasCause (D.faults d.old) (D.faults d.new) result }
     ensures syncs { D.syncs d.new ≡ D.syncs d.old }
+    ensures bytes_read { RoseUpTo 4 (D.bytes_read d.old) (D.bytes_read d.new) }
 {
     let mut bytes = [0; 4];
     d.read(off, &mut bytes)?;
@@ -40,6 +41,7 @@ pub(crate) fn find_area<D: Disk>(d: &mut D, order: Order, len: u64) -> Result<(u
     ensures history { D.history d.new ≡ D.history d.old }
     ensures cause { HasCause (D.faults d.old) (D.faults d.new) result }
     ensures syncs { D.syncs d.new ≡ D.syncs d.old }
+    ensures bytes_read { RoseUpTo 8 (D.bytes_read d.old) (D.bytes_read d.new) }
 {
     let at = read_word(d, AREA_WORD, order)?;
     let start = at as u64 + AREA_HEADER as u64;

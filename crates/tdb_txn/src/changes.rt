@@ -1,9 +1,10 @@
 //! What a transaction changed.
-ghost use Rattle.std.specs.Prelude.{◌≡◌, ◌<◌, ◌^◌, ◌⊎◌, IsTrue, IfOk, IfErr};
-ghost use Rattle.tdb_disk.specs.Count.{HasCauseOf};
+ghost use Rattle.std.specs.Prelude.{◌≡◌, ◌*◌, ◌<◌, ◌^◌, ◌⊎◌, IsTrue, IfOk, IfErr, length};
+ghost use Rattle.tdb_disk.specs.Count.{HasCauseOf, RoseUpTo};
 ghost use Rattle.tdb_disk.specs.History.{seen};
 ghost use Rattle.tdb_space.specs.Runs.{ChangedRuns};
 ghost use Rattle.tdb_txn.specs.EndBelow.{EndBelow};
+ghost use Rattle.tdb_txn.specs.Pages.{page_size};
 
 use crate::comparing::{Comparison, find_runs};
 use crate::refusal::TxnRefusal;
@@ -12,7 +13,7 @@ use tdb_disk::Disk;
 use tdb_undo::Runs;
 
 impl Txn {
-    ghost use Rattle.tdb_txn.specs.Txn.{txn_start, txn_size, txn_image};
+    ghost use Rattle.tdb_txn.specs.Txn.{txn_pages, txn_start, txn_size, txn_image};
 
     /// The runs of the bytes that it changed below the length that the file had at Start, outside an extent. Fails where the disk
     /// fails or memory is wanting.
@@ -27,6 +28,7 @@ impl Txn {
         ensures cause { HasCauseOf TxnRefusal.Io (D.faults d.old) (D.faults d.new) result }
         ensures refusal { IfErr result (λ refusal. (refusal ≡ TxnRefusal.Io) ⊎ (refusal ≡ TxnRefusal.Memory)) }
         ensures syncs { D.syncs d.new ≡ D.syncs d.old }
+        ensures bytes_read { RoseUpTo (length (txn_pages self.now) * page_size) (D.bytes_read d.old) (D.bytes_read d.new) }
     {
         let comparison = Comparison {
             old_length: self.start as u32,

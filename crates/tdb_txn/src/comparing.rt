@@ -1,6 +1,6 @@
 //! Comparing the pages of a transaction with the file.
 ghost use Rattle.std.specs.Prelude.{◌≡◌, ◌+◌, ◌*◌, ◌<◌, ◌≤◌, ◌^◌, ℕ, List, IsTrue, IfOk, IfErr, OnOk, MatchBool, length, slice_index, ◌⊎◌};
-ghost use Rattle.tdb_disk.specs.Count.{HasCause, HasCauseOf};
+ghost use Rattle.tdb_disk.specs.Count.{HasCause, HasCauseOf, RoseUpTo};
 ghost use Rattle.tdb_disk.specs.History.{seen};
 ghost use Rattle.tdb_space.specs.Extents.{Extent, once};
 ghost use Rattle.tdb_space.specs.Runs.{ChangedRuns};
@@ -84,6 +84,7 @@ fn read_old<D: Disk>(d: &mut D, at: u32, buf: &mut [u8], hole: (u32, u32)) -> Re
     ensures history { D.history d.new ≡ D.history d.old }
     ensures cause { HasCause (D.faults d.old) (D.faults d.new) result }
     ensures syncs { D.syncs d.new ≡ D.syncs d.old }
+    ensures bytes_read { RoseUpTo (length buf.old) (D.bytes_read d.old) (D.bytes_read d.new) }
 {
     d.read(at as u64, buf)?;
     let count = buf.len() as u64;
@@ -120,6 +121,7 @@ fn scan_page<D: Disk>(
     ensures cause { HasCauseOf TxnRefusal.Io (D.faults d.old) (D.faults d.new) result }
     ensures refusal { IfErr result (λ refusal. (refusal ≡ TxnRefusal.Io) ⊎ (refusal ≡ TxnRefusal.Memory)) }
     ensures syncs { D.syncs d.new ≡ D.syncs d.old }
+    ensures bytes_read { RoseUpTo page_size (D.bytes_read d.old) (D.bytes_read d.new) }
 {
     let old_length = comparison.old_length;
     let at = page.number as u32 * PAGE_SIZE as u32;
@@ -132,8 +134,8 @@ fn scan_page<D: Disk>(
 }
 
 /// The runs of the bytes that change from the file to what the pages make of it: the greatest ones, with at most 8 bytes that stay
-/// between two that change in one run. It reads the file where there are pages, and only there. Fails where the disk fails or memory
-/// is wanting.
+/// between two that change in one run. It reads the file where there are pages, and only there: at most 4096 bytes for each. Fails
+/// where the disk fails or memory is wanting.
 pub(crate) fn find_runs<D: Disk>(
     alloc: Global,
     d: &mut D,
@@ -150,6 +152,7 @@ pub(crate) fn find_runs<D: Disk>(
     ensures cause { HasCauseOf TxnRefusal.Io (D.faults d.old) (D.faults d.new) result }
     ensures refusal { IfErr result (λ refusal. (refusal ≡ TxnRefusal.Io) ⊎ (refusal ≡ TxnRefusal.Memory)) }
     ensures syncs { D.syncs d.new ≡ D.syncs d.old }
+    ensures bytes_read { RoseUpTo (length (page_list pages.now) * page_size) (D.bytes_read d.old) (D.bytes_read d.new) }
 {
     let mut block = [0u8; PAGE_SIZE];
     let mut found = Found::new(alloc);

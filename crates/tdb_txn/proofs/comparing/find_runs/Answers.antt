@@ -20,6 +20,7 @@ loop-index-init g c = record {
   size = refl;
   history = refl;
   faults = refl;
+  bytes_read = record { no_more = omega arith; never_falls = omega arith };
   syncs = refl;
 }
 
@@ -62,6 +63,10 @@ loop-index-preserved g c =
       size = c.scan_page.ensures.size ∙ was.size;
       history = c.scan_page.ensures.history ∙ was.history;
       faults = c.in_ok-scan_page.ensures.cause.done ∙ was.faults;
+      bytes_read = record {
+        no_more = omega (arith, c.scan_page.ensures.bytes_read.no_more, was.bytes_read.no_more);
+        never_falls = omega (arith, c.scan_page.ensures.bytes_read.never_falls, was.bytes_read.never_falls);
+      };
       syncs = c.scan_page.ensures.syncs ∙ was.syncs;
     }
 

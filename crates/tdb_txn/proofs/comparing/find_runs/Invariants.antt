@@ -1,6 +1,7 @@
 -- The pages before one were compared.
 use Rattle.std.proofs.Common.{◌≡◌, ◌+◌, ◌*◌, ◌<◌, ◌≤◌, ◌⊎◌, ℕ, List, get_or, slice_index}
 use Rattle.std.specs.Prelude.{IsTrue}
+use Rattle.tdb_disk.specs.Count.{RoseUpTo}
 use Rattle.tdb_disk.specs.History.{seen}
 use Rattle.tdb_txn.specs.Found.{FoundSoFar, InPlace, Blanked}
 use Rattle.tdb_txn.specs.Pages.{page_size, byte_over}
@@ -20,5 +21,6 @@ invariant-loop-index g l = record {
   size : g.D.Disk.size l.d ≡ g.D.Disk.size l.initial.d;
   history : g.D.Disk.history l.d ≡ g.D.Disk.history l.initial.d;
   faults : g.D.Disk.faults l.d ≡ g.D.Disk.faults l.initial.d;
+  bytes_read : RoseUpTo (l.index * page_size) (g.D.Disk.bytes_read l.initial.d) (g.D.Disk.bytes_read l.d);
   syncs : g.D.Disk.syncs l.d ≡ g.D.Disk.syncs l.initial.d;
 }
