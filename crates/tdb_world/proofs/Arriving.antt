@@ -1,0 +1,154 @@
+-- An opener that joins, and a world without any.
+use Rattle.std.proofs.Common.{◌≡◌, ◌≢◌, ℕ, zero, suc, ◌+◌, List, [], ◌∷◌, ◌++◌, length, slice_get, true, Some, None, refl, sym, ◌∙◌, ap, subst, inl, inr, arith, le_refl, append-nil, length-append}
+use Rattle.std.specs.List.Sorted.{IsStrictlySortedBy}
+use Rattle.std.proofs.lemmas.List.Elements.{All-nil}
+use Rattle.std.proofs.lemmas.Bool.{cases_eq}
+use Rattle.std.proofs.lemmas.Option.{slice_get_past}
+use Rattle.tdb_space.specs.Form.{Form}
+use Rattle.tdb_space.specs.Pairs.{joined}
+use Rattle.tdb_space.specs.Accepted.{AcceptWith}
+use Rattle.tdb_locks.specs.HeldLocks.{nothing_held, AreCounts}
+use Rattle.tdb_locks.specs.declared.piece.Piece.{Piece}
+use Rattle.tdb_law.specs.Openers.{nowhere, opened}
+use Rattle.tdb_law.specs.Held.{holding}
+use Rattle.tdb_law.specs.Beginning.{nobody}
+use Rattle.tdb_law.proofs.Tests.{never_true}
+use Rattle.tdb_steps.specs.Holdings.{table_of}
+use Rattle.tdb_world.specs.Given.{IsWellHeld}
+use Rattle.tdb_world.specs.declared.options.Options.{Options}
+use Rattle.tdb_world.specs.declared.opener.Opener.{Opener}
+use Rattle.tdb_world.specs.Openers.{options_of, own_of, own_with, own_at, task_at, law_task, hands_of_task, hands_at, TaskStands, TaskKnows, OpenerKnows}
+use Rattle.tdb_world.specs.States.{WorldStands}
+use Rattle.tdb_world.specs.Laws.{IsJoined, JoinKeepsWorld, JoinKeepsFile, JoinJoins, EmptyStands, EmptyFileStands, EmptyIsLoaded}
+use Rattle.tdb_world.proofs.Standing.{Holds, IsSet, world_set, held_still}
+use Rattle.tdb_world.proofs.AllHands.{joined_same}
+use Rattle.tdb_world.proofs.Lifting.{still_shift}
+use Rattle.tdb_world.proofs.Opening.{nobody_holds, nobody_opens}
+
+at_end : (xs : List Opener) (y : Opener) → slice_get (xs ++ (y ∷ [])) (length xs) ≡ Some y
+at_end [] y = refl
+at_end (x ∷ xs) y = at_end xs y
+
+before_end : (xs : List Opener) (y : Opener) (o : ℕ) → o ≢ length xs → slice_get (xs ++ (y ∷ [])) o ≡ slice_get xs o
+before_end [] y zero ne = absurd (ne refl)
+before_end [] y (suc o) ne = refl
+before_end (x ∷ xs) y zero ne = refl
+before_end (x ∷ xs) y (suc o) ne = before_end xs y o (λ e. ne (ap suc e))
+
+nothing_counts : AreCounts []
+unfolding IsStrictlySortedBy
+nothing_counts = record { in_order = tt; keys = All-nil _; counts = All-nil _ }
+
+pub nothing_well : IsWellHeld nothing_held
+nothing_well = record { counts = nothing_counts; taken = tt; apart = λ e. absurd (never_true e) }
+
+module _ (xs ys : List Opener) (y : Opener) (J : IsJoined xs y ys) where
+  is_set : IsSet xs (length xs) y ys
+  is_set = record {
+    there = ap (λ l. slice_get l (length xs)) J.pushed ∙ at_end xs y;
+    others = λ o ne. ap (λ l. slice_get l o) J.pushed ∙ before_end xs y o ne;
+  }
+
+  one_more : length ys ≡ suc (length xs)
+  one_more = ap length J.pushed ∙ (length-append xs (y ∷ []) ∙ omega arith)
+
+  -- it has what an opener has that hasn't joined, but that it is live
+  new_own : (options : Options) → own_of options y ≡ own_with options true nothing_held
+  new_own options = ap (λ l. own_with options l y.held) J.live ∙ ap (own_with options true) J.nothing
+
+  -- it holds nothing, as before
+  new_holds : (f : Form) (options : Options) (ps : List Piece) (a : List ℕ) (size : ℕ) → WorldStands f options xs ps a size → (b : ℕ) → Holds f options ps (length xs) (Some y) b
+  new_holds f options ps a size W b =
+      let before : table_of ps (length xs + 1) b ≡ holding f (nobody (options_of options)) nowhere None b =
+      W.sound.agrees (length xs) b ∙ ap (λ z. holding f (own_at options z) nowhere (task_at z) b) (slice_get_past xs (length xs) (le_refl (length xs))) in
+      before ∙ sym (ap (λ z. holding f (own_of options y) nowhere (law_task z) b) J.idle ∙ ap (λ w. holding f w nowhere None b) (new_own options))
+
+pub join_keeps_world : JoinKeepsWorld
+join_keeps_world f options xs ys ps a size y W J =
+    world_set f options xs ys ps ps a a size size (length xs) y W (is_set xs ys y J) (held_still f options xs ps a size (length xs) y W (new_holds xs ys y J f options ps a size W))
+    (record { stands = (subst IsWellHeld (sym J.nothing) nothing_well, subst (λ z. TaskStands f (own_of options y) z size) (sym J.idle) tt); busy_live = λ t e. J.live })
+    (le_refl size) W.short
+
+pub join_keeps_file : JoinKeepsFile
+join_keeps_file f xs ys a y F J = record {
+  accepted = subst (AcceptWith f a) (sym hands) F.accepted;
+  known = λ o.
+      (elim (cases_eq o (length xs)) [
+        | inl is ↦ subst (λ p. OpenerKnows f a (slice_get ys p)) (sym is) (subst (OpenerKnows f a) (sym S.there) (subst (TaskKnows f a) (sym J.idle) tt))
+        | inr ne ↦ subst (OpenerKnows f a) (sym (S.others o ne)) (F.known o)
+      ]);
+}
+  where
+    S : IsSet xs (length xs) y ys
+    S = is_set xs ys y J
+
+    hands : joined (length ys) (λ o. hands_at (slice_get ys o)) ≡ joined (length xs) (λ o. hands_at (slice_get xs o))
+    hands =
+        ap (λ n. joined n (λ o. hands_at (slice_get ys o))) (one_more xs ys y J)
+        ∙ (ap (λ l. l ++ hands_at (slice_get ys (length xs))) (joined_same (length xs) (λ o. hands_at (slice_get xs o)) (λ o. hands_at (slice_get ys o)) (λ o low. ap hands_at (S.others o (λ e. omega (arith, low, e)))))
+        ∙ (ap (λ l. joined (length xs) (λ o. hands_at (slice_get xs o)) ++ l) (ap hands_at S.there ∙ ap hands_of_task J.idle) ∙ append-nil _))
+
+pub join_joins : JoinJoins
+join_joins f options xs ys ps a size y W J few = record {
+  first = refl;
+  few = few;
+  closed_lock = nobody_opens f options xs ps a size W;
+  stay = record {
+    file = refl;
+    task = λ o ne. ap task_at (S.others o ne);
+    own = λ o ne. ap (own_at options) (S.others o ne);
+    spot = λ o ne. refl;
+    table = λ o b ne. refl;
+    walk = λ o ne. still_shift f _ _;
+    number = refl;
+    image_number = λ o. refl;
+    settled = refl;
+  };
+  nothing = record {
+    task = ap task_at S.there ∙ ap law_task J.idle;
+    spot = refl;
+    table = λ b. W.sound.agrees (length xs) b ∙ (ap (λ z. holding f (own_at options z) nowhere (task_at z) b) nobody_there ∙ nobody_holds f options b);
+  };
+  own = ap (own_at options) S.there ∙ (new_own xs ys y J options ∙ sym (ap (λ z. opened (own_at options z)) nobody_there));
+  joined = one_more xs ys y J;
+  stale = refl;
+}
+  where
+    S : IsSet xs (length xs) y ys
+    S = is_set xs ys y J
+
+    nobody_there : slice_get xs (length xs) ≡ None
+    nobody_there = slice_get_past xs (length xs) (le_refl (length xs))
+
+pub empty_stands : EmptyStands
+empty_stands f options a size chains limit short = record {
+  sound = record {
+    chains = chains;
+    agrees = λ o b. sym (nobody_holds f options b);
+    apart = λ o p b ne. omega arith;
+    stands = λ o place e. absurd (cc e);
+    busy_there = λ o t e. absurd (cc e);
+    live_joined = λ o e. absurd (never_true e);
+    stale = λ e. absurd (cc e);
+  };
+  numbered = λ b. refl;
+  openers_stand = λ o. tt;
+  limit = limit;
+  short = short;
+}
+
+pub empty_file_stands : EmptyFileStands
+empty_file_stands f a A = record { accepted = A; known = λ o. tt }
+
+pub empty_is_loaded : EmptyIsLoaded
+empty_is_loaded f options a chains = record {
+  chains = chains;
+  joined = refl;
+  task = λ o. refl;
+  own = λ o. refl;
+  spot = λ o. refl;
+  table = λ o b. refl;
+  stale = refl;
+  settled = refl;
+  image_number = λ o. refl;
+}

@@ -1,0 +1,124 @@
+-- A command that is given: its opener holds what it held, and no record yet.
+use Rattle.std.proofs.Common.{Bool, Option, ◌≡◌, ℕ, ◌+◌, max, List, [], length, slice_get, Some, None, refl, sym, ◌∙◌, ap, subst, inl, inr, arith, le_refl}
+use Rattle.std.proofs.lemmas.Bool.{cases_eq}
+use Rattle.tdb_space.specs.Form.{Form}
+use Rattle.tdb_space.specs.Pairs.{joined}
+use Rattle.tdb_space.specs.Accepted.{AcceptWith}
+use Rattle.tdb_law.specs.Openers.{Own, nowhere}
+use Rattle.tdb_law.specs.Rows.{map_locks}
+use Rattle.tdb_law.specs.Held.{held, kept, holding}
+use Rattle.tdb_law.proofs.Covered as Covered
+use Rattle.tdb_law.proofs.Locks.{locked_none}
+use Rattle.tdb_steps.specs.Holdings.{table_of}
+use Rattle.tdb_steps.specs.declared.plain.Plain.{Plain}
+use Rattle.tdb_steps.specs.declared.stage.Stage.{Stage}
+use Rattle.tdb_steps.specs.declared.stage.Stage.TheVariants.{Begun, Chained, Looked, Listed, Taken, Changed, Wiping, Ending}
+use Rattle.tdb_steps.specs.Machines.{DoingKnows}
+use Rattle.tdb_steps.specs.Order.{IsAfter}
+use Rattle.tdb_steps.specs.PlainCommands.{command_of}
+use Rattle.tdb_world.specs.Given.{IsWellHeld}
+use Rattle.tdb_world.specs.declared.options.Options.{Options}
+use Rattle.tdb_world.specs.declared.opener.Opener.{Opener}
+use Rattle.tdb_world.specs.declared.job.Job.{Job}
+use Rattle.tdb_world.specs.declared.job.Job.TheVariants as Jobs
+use Rattle.tdb_world.specs.declared.job.Checking.TheVariants as Checks
+use Rattle.tdb_world.specs.Openers.{own_of, own_with, own_at, task_at, command_in, law_task, hands_of_job, hands_of_task, hands_at, JobStands, TaskStands, OpenerStands, JobKnows, TaskKnows, OpenerKnows}
+use Rattle.tdb_world.specs.States.{state_of}
+use Rattle.tdb_world.specs.Laws.{IsGiven, GiftKeepsWorld, GiftKeepsFile, GiftIsGiven}
+use Rattle.tdb_world.proofs.Standing.{Holds, world_set, held_still}
+use Rattle.tdb_world.proofs.AllHands.{joined_same}
+use Rattle.tdb_world.proofs.Busy.{hand_frees, looked_writes, listed_writes, taken_writes}
+
+-- the opener has what it had
+same_own : (options : Options) (x y : Opener) (job : Job) → IsGiven x job y → own_of options y ≡ own_of options x
+same_own options x y job G = ap (λ l. own_with options l y.held) G.same_live ∙ ap (λ h. own_with options x.live h) G.same_held
+
+-- before the first turn a command holds no record and knows nothing
+bare_stage : (f : Form) (img : List ℕ) (command : Plain) (chain : ℕ) (seqnum : Bool) (stage : Stage) (whole : Option (List ℕ)) → IsAfter command stage 0 → DoingKnows f img (record { command = command; chain = chain; seqnum = seqnum; stage = stage; whole = whole })
+bare_stage f img command chain seqnum Begun whole is = record { found = tt; joined = λ key value e. tt }
+bare_stage f img command chain seqnum Chained whole is = record { found = tt; joined = λ key value e. tt }
+bare_stage f img command chain seqnum (Changed hand) whole is = record { found = tt; joined = λ key value e. tt }
+bare_stage f img command chain seqnum (Wiping locked) whole is = record { found = tt; joined = λ key value e. tt }
+bare_stage f img command chain seqnum Ending whole is = record { found = tt; joined = λ key value e. tt }
+bare_stage f img command chain seqnum (Looked found) whole is = absurd (let late = (looked_writes command found 0 is).begun in omega (arith, late))
+bare_stage f img command chain seqnum (Listed found) whole is = absurd (let late = (listed_writes command found 0 is).begun in omega (arith, late))
+bare_stage f img command chain seqnum (Taken found hand) whole is = absurd (let late = (taken_writes command found hand 0 is).begun in omega (arith, late))
+
+module _ (f : Form) (x : Own) (size : ℕ) where
+  bare_hands : (job : Job) → JobStands f x job 0 size → hands_of_job job ≡ []
+  bare_hands (Jobs.Refused command reply) K = refl
+  bare_hands (Jobs.Plain d) K =
+      elim (hand_frees f 0 d.command d.stage K.after) [
+        | inl none ↦ none
+        | inr two ↦ absurd (let nothing = locked_none (map_locks f (command_of d.command)) 164 in omega (arith, two, nothing))
+      ]
+  bare_hands (Jobs.Check checking) K = refl
+  bare_hands (Jobs.Locking locking) K = refl
+  bare_hands Jobs.Seqnum K = refl
+  bare_hands Jobs.Close K = refl
+
+  bare_knows : (img : List ℕ) (job : Job) → JobStands f x job 0 size → JobKnows f img job
+  bare_knows img (Jobs.Refused command reply) K = tt
+  bare_knows img (Jobs.Plain d) K = bare_stage f img d.command d.chain d.seqnum d.stage d.whole K.after
+  bare_knows img (Jobs.Check Checks.Begun) K = tt
+  bare_knows img (Jobs.Check Checks.Records) K = tt
+  bare_knows img (Jobs.Check Checks.FreeList) K = tt
+  bare_knows img (Jobs.Check (Checks.Counted keys)) K = absurd (let late = K.1 in omega (arith, late))
+  bare_knows img (Jobs.Locking locking) K = tt
+  bare_knows img Jobs.Seqnum K = tt
+  bare_knows img Jobs.Close K = tt
+
+pub gift_keeps_world : GiftKeepsWorld
+gift_keeps_world f options xs ys ps a size who x y job W there P G K =
+    world_set f options xs ys ps ps a a size size who y W (record { there = P.there; others = P.others }) (held_still f options xs ps a size who y W holds)
+    (record { stands = (subst IsWellHeld (sym G.same_held) (subst (OpenerStands f options size) there (W.openers_stand who)).0, subst (λ z. TaskStands f (own_of options y) z size) (sym G.task) (subst (λ w. JobStands f w job 0 size) (sym (same_own options x y job G)) K)); busy_live = λ t e. G.same_live ∙ G.live })
+    (le_refl size) W.short
+  where
+    holds : (b : ℕ) → Holds f options ps who (Some y) b
+    holds b =
+        let before : table_of ps (who + 1) b ≡ holding f (own_of options x) nowhere None b =
+        W.sound.agrees who b ∙ (ap (λ z. holding f (own_at options z) nowhere (task_at z) b) there ∙ ap (λ z. holding f (own_of options x) nowhere (law_task z) b) G.idle) in
+        let none : held f (command_in job) (own_of options x) nowhere 0 b ≡ 0 = Covered.none_held f (command_in job) (own_of options x) nowhere b in
+        let after : holding f (own_of options y) nowhere (law_task y.task) b ≡ max (held f (command_in job) (own_of options x) nowhere 0 b) (kept f (own_of options x) nowhere b) =
+        ap (λ z. holding f (own_of options y) nowhere (law_task z) b) G.task ∙ ap (λ w. holding f w nowhere (Some (record { command = command_in job; steps = 0 })) b) (same_own options x y job G) in
+        before ∙ (ap (λ n. max n (kept f (own_of options x) nowhere b)) (sym none) ∙ sym after)
+
+pub gift_keeps_file : GiftKeepsFile
+gift_keeps_file f options xs ys a size who x y job F there P G K = record {
+  accepted =
+      subst (AcceptWith f a) (ap (λ n. joined n (λ o. hands_at (slice_get xs o))) (sym P.same_length) ∙ sym (joined_same (length ys) (λ o. hands_at (slice_get xs o)) (λ o. hands_at (slice_get ys o)) (λ o low. same_hands o))) F.accepted;
+  known = λ o.
+      (elim (cases_eq o who) [
+        | inl is ↦ subst (λ p. OpenerKnows f a (slice_get ys p)) (sym is) (subst (OpenerKnows f a) (sym P.there) (subst (TaskKnows f a) (sym G.task) (bare_knows f (own_of options x) size a job K)))
+        | inr ne ↦ subst (OpenerKnows f a) (sym (P.others o ne)) (F.known o)
+      ]);
+}
+  where
+    here : hands_at (slice_get ys who) ≡ hands_at (slice_get xs who)
+    here = ap hands_at P.there ∙ (ap hands_of_task G.task ∙ (bare_hands f (own_of options x) size job K ∙ sym (ap hands_at there ∙ ap hands_of_task G.idle)))
+
+    same_hands : (o : ℕ) → hands_at (slice_get ys o) ≡ hands_at (slice_get xs o)
+    same_hands o =
+        elim (cases_eq o who) [
+          | inl is ↦ subst (λ p. hands_at (slice_get ys p) ≡ hands_at (slice_get xs p)) (sym is) here
+          | inr ne ↦ ap hands_at (P.others o ne)
+        ]
+
+pub gift_is_given : GiftIsGiven
+gift_is_given f options xs ys ps a who x y job there P G = record {
+  live = ap (λ z. (own_at options z).live) there ∙ G.live;
+  idle = ap task_at there ∙ ap law_task G.idle;
+  task = ap task_at P.there ∙ ap law_task G.task;
+  others = λ o ne. ap task_at (P.others o ne);
+  rest = λ i. record (state_of f options xs ps a) { joined = P.same_length i; own = λ o. same o i };
+}
+  where
+    here : own_at options (slice_get ys who) ≡ own_at options (slice_get xs who)
+    here = ap (own_at options) P.there ∙ (same_own options x y job G ∙ sym (ap (own_at options) there))
+
+    same : (o : ℕ) → own_at options (slice_get ys o) ≡ own_at options (slice_get xs o)
+    same o =
+        elim (cases_eq o who) [
+          | inl is ↦ subst (λ p. own_at options (slice_get ys p) ≡ own_at options (slice_get xs p)) (sym is) here
+          | inr ne ↦ ap (own_at options) (P.others o ne)
+        ]

@@ -1,0 +1,114 @@
+-- Nobody holds the opening lock: the rows of these commands and explicit locks lie behind it.
+use Rattle.std.proofs.Common.{◌≡◌, ℕ, ◌+◌, ◌*◌, ◌≤◌, List, [], ◌∷◌, slice_get, Bool, true, false, nat_lt, Option, Some, None, unwrap_or, refl, sym, ◌∙◌, ap, subst, arith}
+use Rattle.std.specs.Prelude.{◌&&◌, if◌then◌else◌}
+use Rattle.std.specs.FinMap.{get, insert, get-insert, get-empty}
+use Rattle.std.specs.Ordering.{nat_cmp}
+use Rattle.std.specs.Cmp.{nat_cmp_total, unsigned_tied}
+use Rattle.std.proofs.Math.Bool.{and-false}
+use Rattle.std.proofs.lemmas.Bool.{false_from_ne_true, ne_eqb}
+use Rattle.tdb_space.specs.Form.{Form, data_start}
+use Rattle.tdb_locks.specs.declared.kind.Kind.{Kind}
+use Rattle.tdb_locks.specs.declared.piece.Piece.{Piece}
+use Rattle.tdb_law.specs.Commands.{MapCommand, LockCommand}
+use Rattle.tdb_law.specs.Openers.{Counts, nowhere, count_at}
+use Rattle.tdb_law.specs.Beginning.{nobody}
+use Rattle.tdb_law.specs.Rows.{Lock, lock_all, map_locks, lock_locks, locks_by, locks}
+use Rattle.tdb_law.specs.Held.{covers, locked, all_held, explicit_held, kept, is_gone, held, holding}
+use Rattle.tdb_law.proofs.Locks.{within_covers}
+use Rattle.tdb_law.proofs.Kept.{closed_base}
+use Rattle.tdb_steps.specs.Holdings.{table_of}
+use Rattle.tdb_steps.specs.LockRows.{strength_of}
+use Rattle.tdb_world.specs.declared.options.Options.{Options}
+use Rattle.tdb_world.specs.declared.opener.Opener.{Opener}
+use Rattle.tdb_world.specs.declared.job.Job.{Job}
+use Rattle.tdb_world.specs.declared.job.Job.TheVariants as Jobs
+use Rattle.tdb_world.specs.declared.job.Task.{Task}
+use Rattle.tdb_world.specs.Openers.{options_of, own_of, own_at, all_of, counts_of, task_at, command_in, law_task, JobStands, TaskStands, OpenerStands}
+use Rattle.tdb_world.specs.States.{WorldStands}
+use Rattle.tdb_world.proofs.Single.{either}
+
+-- a number that counts where a test holds
+abbrev only : Bool → ℕ → ℕ
+only z n = if z then n else 0
+
+-- no lock of these is on byte 0
+abbrev IsHigh : List Lock → Type 0
+IsHigh [] = Unit {0}
+IsHigh (l ∷ ls) = (1 ≤ l.start) × IsHigh ls
+
+locked_high : (ls : List Lock) (n : ℕ) → IsHigh ls → locked ls n 0 ≡ 0
+locked_high [] n high = refl
+locked_high (l ∷ ls) n high =
+    let bare : covers l 0 ≡ false = false_from_ne_true (covers l 0) (λ e. let parts = within_covers l 0 e in omega (arith, parts.0, high.0)) in
+    let none : (if nat_lt l.turn n && covers l 0 then l.strength else 0) ≡ 0 = ap (λ z. if nat_lt l.turn n && z then l.strength else 0) bare ∙ ap (λ z. only z l.strength) (and-false (nat_lt l.turn n)) in
+    omega (arith, none, locked_high ls n high.1)
+
+map_high : (f : Form) (c : MapCommand) → IsHigh (map_locks f c)
+map_high f (MapCommand.Fetch k) = (omega arith, tt)
+map_high f (MapCommand.Has k) = (omega arith, tt)
+map_high f (MapCommand.Delete k) = (omega arith, (omega arith, tt))
+map_high f (MapCommand.Store k v) = (omega arith, (omega arith, tt))
+map_high f (MapCommand.Insert k v) = (omega arith, (omega arith, tt))
+map_high f (MapCommand.Modify k v) = (omega arith, (omega arith, tt))
+map_high f (MapCommand.Append k v) = (omega arith, (omega arith, tt))
+map_high f MapCommand.Wipe = (omega arith, (omega arith, tt))
+map_high f MapCommand.Check = (omega arith, (omega arith, tt))
+
+lock_high : (f : Form) (c : LockCommand) → IsHigh (lock_locks f c)
+lock_high f (LockCommand.ChainLock k) = (omega arith, tt)
+lock_high f (LockCommand.ChainLockNb k) = (omega arith, tt)
+lock_high f (LockCommand.ChainUnlock k) = tt
+lock_high f LockCommand.LockAll = (omega arith, tt)
+lock_high f LockCommand.LockAllRead = (omega arith, tt)
+lock_high f LockCommand.UnlockAll = tt
+
+-- explicit locks: a chain's byte isn't 0
+put_low : (m : Counts) (byte v : ℕ) (z : Bool) → 1 ≤ byte → get m 0 ≡ None → get (if z then insert m byte v else m) 0 ≡ None
+put_low m byte v false some none = none
+put_low m byte v true some none =
+    get-insert nat_cmp_total m byte v 0 ∙ (ap (λ z. if z then Some v else get m 0) (unsigned_tied 0 byte ∙ ne_eqb 0 byte (λ e. omega (arith, e, some))) ∙ none)
+
+counts_low : (es : List (ℕ × ℕ)) → get (counts_of es) 0 ≡ None
+counts_low [] = get-empty nat_cmp 0
+counts_low (e ∷ es) = put_low (counts_of es) (168 + 4 * e.0) e.1 (nat_lt 0 e.1) (omega arith) (counts_low es)
+
+all_low : (o : Option (Kind × ℕ)) → all_held (all_of o) 0 ≡ 0
+all_low None = refl
+all_low (Some a) = locked_high (lock_all 0 (strength_of a.0) ∷ []) 1 (omega arith, tt)
+
+-- an opener that has nothing holds nothing
+pub nobody_holds : (f : Form) (options : Options) (b : ℕ) → holding f (nobody (options_of options)) nowhere None b ≡ 0
+nobody_holds f options b = let none : explicit_held f (nobody (options_of options)) b ≤ 0 = closed_base f 0 b (nobody (options_of options)) in omega (arith, none)
+
+module _ (f : Form) (options : Options) (x : Opener) where
+  kept_low : kept f (own_of options x) nowhere 0 ≡ 0
+  kept_low =
+      let none : count_at (own_of options x) 0 ≡ 0 = ap (λ o. unwrap_or o 0) (counts_low x.held.chains) in
+      let bare : (if nat_lt 0 (data_start f) && nat_lt 0 (count_at (own_of options x) 0) then 2 else 0) ≡ 0 =
+      ap (λ n. if nat_lt 0 (data_start f) && nat_lt 0 n then 2 else 0) none ∙ ap (λ z. only z 2) (and-false (nat_lt 0 (data_start f))) in
+      omega (arith, bare, all_low x.held.all)
+
+  row_low : (job : Job) (n size : ℕ) → JobStands f (own_of options x) job n size → IsHigh (locks f (command_in job) (own_of options x) false)
+  row_low (Jobs.Refused command reply) n size K = subst (λ q. IsHigh (locks_by f q (command_in (Jobs.Refused command reply)) (own_of options x) false)) (sym K.2.refused) tt
+  row_low (Jobs.Plain d) n size K = subst (λ q. IsHigh (locks_by f q (command_in (Jobs.Plain d)) (own_of options x) false)) (sym K.granted) (map_high f _)
+  row_low (Jobs.Check checking) n size K = subst (λ q. IsHigh (locks_by f q (command_in (Jobs.Check checking)) (own_of options x) false)) (sym K.0) (map_high f MapCommand.Check)
+  row_low (Jobs.Locking locking) n size K = subst (λ q. IsHigh (locks_by f q (command_in (Jobs.Locking locking)) (own_of options x) false)) (sym K.1) (lock_high f _)
+  row_low Jobs.Seqnum n size K = subst (λ q. IsHigh (locks_by f q (command_in Jobs.Seqnum) (own_of options x) false)) (sym K.1) (omega arith, tt)
+  row_low Jobs.Close n size K = subst (λ q. IsHigh (locks_by f q (command_in Jobs.Close) (own_of options x) false)) (sym K.1) tt
+
+  held_low : (job : Job) (n size : ℕ) → JobStands f (own_of options x) job n size → held f (command_in job) (own_of options x) nowhere n 0 ≡ 0
+  unfolding held
+  held_low job n size K =
+      let none : locked (locks f (command_in job) (own_of options x) false) n 0 ≡ 0 = locked_high (locks f (command_in job) (own_of options x) false) n (row_low job n size K) in
+      either (is_gone (command_in job) nowhere) 0 _ (sym none) ∙ none
+
+  task_low : (size : ℕ) (t : Option Task) → TaskStands f (own_of options x) t size → holding f (own_of options x) nowhere (law_task t) 0 ≡ 0
+  task_low size None K = let none = kept_low in omega (arith, none)
+  task_low size (Some t) K = let none = kept_low in let bare = held_low t.job t.steps size K in omega (arith, none, bare)
+
+opener_low : (f : Form) (options : Options) (size : ℕ) (z : Option Opener) → OpenerStands f options size z → holding f (own_at options z) nowhere (task_at z) 0 ≡ 0
+opener_low f options size None K = nobody_holds f options 0
+opener_low f options size (Some x) K = task_low f options x size x.task K.1
+
+pub nobody_opens : (f : Form) (options : Options) (xs : List Opener) (ps : List Piece) (a : List ℕ) (size : ℕ) → WorldStands f options xs ps a size → (o : ℕ) → table_of ps (o + 1) 0 ≡ 0
+nobody_opens f options xs ps a size W o = W.sound.agrees o 0 ∙ opener_low f options size (slice_get xs o) (W.openers_stand o)

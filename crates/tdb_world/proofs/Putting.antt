@@ -1,0 +1,65 @@
+-- An opener in a list of openers, by its number.
+use Rattle.std.proofs.Common.{◌≡◌, ◌≢◌, ℕ, zero, suc, ◌+◌, ◌-◌, ◌<◌, List, [], ◌∷◌, length, slice_get, slice_index_or, slice_set, Some, refl, sym, ◌∙◌, ap, subst, arith}
+use Rattle.std.proofs.lemmas.List.{length-set}
+use Rattle.std.proofs.lemmas.Option.{get_or_from_slice_get, slice_get_within}
+use Rattle.tdb_words.specs.declared.header.Header.{Header}
+use Rattle.tdb_space.specs.Form.{form_in}
+use Rattle.tdb_locks.specs.declared.piece.Piece.{Piece}
+use Rattle.tdb_plays.specs.declared.command.Command.{Command}
+use Rattle.tdb_plays.specs.InLaw.{law_command}
+use Rattle.tdb_world.specs.declared.options.Options.{Options}
+use Rattle.tdb_world.specs.declared.opener.Opener.{Opener}
+use Rattle.tdb_world.specs.declared.job.Job.{Job}
+use Rattle.tdb_world.specs.Openers.{own_of, command_in, JobStands}
+use Rattle.tdb_world.specs.Worlds.{World, IsFree, IsAssigned}
+use Rattle.tdb_world.specs.Laws.{IsPut}
+
+set_there : (xs : List Opener) (i : ℕ) (y : Opener) → i < length xs → slice_get (slice_set xs i y) i ≡ Some y
+set_there [] i y low = absurd (omega (arith, low))
+set_there (x ∷ xs) zero y low = refl
+set_there (x ∷ xs) (suc i) y low = set_there xs i y (omega (arith, low))
+
+set_else : (xs : List Opener) (i o : ℕ) (y : Opener) → o ≢ i → slice_get (slice_set xs i y) o ≡ slice_get xs o
+set_else [] i o y ne = refl
+set_else (x ∷ xs) zero zero y ne = absurd (ne refl)
+set_else (x ∷ xs) zero (suc o) y ne = refl
+set_else (x ∷ xs) (suc i) zero y ne = refl
+set_else (x ∷ xs) (suc i) (suc o) y ne = set_else xs i o y (λ e. ne (ap suc e))
+
+-- the number of the opener at a place, and the place by the number
+pub by_number : (who place : ℕ) → who ≡ place + 1 → who - 1 ≡ place
+by_number who place counted = omega (arith, counted)
+
+-- the opener with a number is the one that stands there
+pub numbered : (xs : List Opener) (who place : ℕ) (x d : Opener) → who ≡ place + 1 → slice_get xs place ≡ Some x → d ≡ slice_index_or xs (who - 1) d → d ≡ x
+numbered xs who place x d counted there item = item ∙ (ap (λ i. slice_index_or xs i d) (by_number who place counted) ∙ get_or_from_slice_get xs place x d there)
+
+-- where another one is put there, the others stay
+pub put_numbered : (xs : List Opener) (who place : ℕ) (x y : Opener) → who ≡ place + 1 → slice_get xs place ≡ Some x → IsPut xs place y (slice_set xs (who - 1) y)
+put_numbered xs who place x y counted there =
+    subst (λ i. IsPut xs place y (slice_set xs i y)) (sym (by_number who place counted))
+    (record { same_length = length-set xs place y; there = set_there xs place y (slice_get_within xs place x there); others = λ o ne. set_else xs place o y ne })
+
+-- a job is given to the opener with a number
+pub assigned : (header : Header) (options : Options) (xs : List Opener) (table : List Piece) (who : ℕ) (c : Command) (size : ℕ) (x d : Opener) (job : Job)
+    → IsFree (record { header = header; options = options; openers = xs; table = table }) who x → d ≡ slice_index_or xs (who - 1) d → command_in job ≡ law_command c
+    → JobStands (form_in header) (own_of options d) job 0 size
+    → IsAssigned (record { header = header; options = options; openers = xs; table = table }) who x c size
+    (record { header = header; options = options; openers = slice_set xs (who - 1) (record d { task = Some (record { steps = 0; job = job }) }); table = table })
+assigned header options xs table who c size x d job F item command stands =
+    let same = numbered xs who F.number.place x d F.number.counted F.number.there item in
+    record {
+      task = record { steps = 0; job = job };
+      command = command;
+      steps = refl;
+      stands = subst (λ z. JobStands (form_in header) (own_of options z) job 0 size) same stands;
+      place = F.number.place;
+      counted = F.number.counted;
+      put = subst (λ z. IsPut xs F.number.place (record x { task = Some (record { steps = 0; job = job }) }) (slice_set xs (who - 1) (record z { task = Some (record { steps = 0; job = job }) }))) (sym same)
+          (put_numbered xs who F.number.place x (record x { task = Some (record { steps = 0; job = job }) }) F.number.counted F.number.there);
+      rest = refl;
+    }
+
+-- so it is given in a world that is seen as this one
+pub seen_so : {v w new : World} {who size : ℕ} {c : Command} {x : Opener} → v ≡ w → (IsFree v who x → IsAssigned v who x c size new) → IsFree w who x → IsAssigned w who x c size new
+seen_so {new = new} {who = who} {size = size} {c = c} {x = x} e given F = subst (λ z. IsAssigned z who x c size new) e (given (subst (λ z. IsFree z who x) (sym e) F))

@@ -1,0 +1,88 @@
+-- A turn of the opener with a number, as a turn of its world.
+use Rattle.std.proofs.Common.{Result, Ok, Err, IfOk, OnOk, ◌≡◌, ℕ, ◌+◌, ◌-◌, ◌≤◌, List, slice_index_or, slice_set, Some, sym, ◌∙◌, ap, subst}
+use Rattle.tdb_words.specs.declared.header.Header.{Header}
+use Rattle.tdb_space.specs.Form.{Form, form_in}
+use Rattle.tdb_space.specs.Extents.{HandPair}
+use Rattle.tdb_locks.specs.declared.piece.Piece.{Piece}
+use Rattle.tdb_locks.specs.declared.turn.Turn.{Turn}
+use Rattle.tdb_law.specs.Turned.{Turned}
+use Rattle.tdb_plays.specs.InLaw.{law_opener, law_turn}
+use Rattle.tdb_world.specs.declared.options.Options.{Options}
+use Rattle.tdb_world.specs.declared.opener.Opener.{Opener}
+use Rattle.tdb_world.specs.declared.job.Task.{Task}
+use Rattle.tdb_world.specs.Openers.{own_of, own_at, task_at, command_in, law_task, OpenerStands}
+use Rattle.tdb_world.specs.States.{state_of, WorldStands, FileStands}
+use Rattle.tdb_world.specs.Turning.{OpenerHolds, TurnsLocks, TurnsFile, ImageBefore, TurnsImage}
+use Rattle.tdb_world.specs.Laws.{HasTask, IsPut, MayStand, other_hands}
+use Rattle.tdb_world.specs.Worlds.{IsBusy, law_of_task}
+use Rattle.tdb_world.proofs.Putting.{numbered, put_numbered, by_number}
+use Rattle.tdb_world.proofs.Standing.{opener_is_ready, turn_keeps_world}
+use Rattle.tdb_world.proofs.Working.{image_is_ready}
+use Rattle.tdb_world.proofs.Filing.{turn_keeps_file}
+use Rattle.tdb_world.proofs.Lifting.{turn_is_turned}
+
+-- what holds of an answer that is Ok, by two facts of it; and of each such answer, by two
+pub ok_so : {V F : Type 0} (r : Result V F) (P : V → Type 0) (Q R : Type 0) → ((v : V) → P v → Q → R) → IfOk r P → OnOk r Q → OnOk r R
+ok_so (Ok v) P Q R both p q = both v p q
+ok_so (Err e) P Q R both p q = tt
+
+pub ok_both : {V F : Type 0} (r : Result V F) (P Q : V → Type 0) (R : Type 0) → ((v : V) → P v → Q v → R) → IfOk r P → IfOk r Q → OnOk r R
+ok_both (Ok v) P Q R both p q = both v p q
+ok_both (Err e) P Q R both p q = tt
+
+-- what a turn of the opener d, which is y after it, makes of the lock table
+abbrev pub Locked : Form → Options → Opener → Opener → ℕ → List Piece → List Piece → Turn → Type 0
+Locked f options d y who ps qs turn = (t : Task) (n : ℕ) → d.task ≡ Some t → who ≡ n + 1
+    → TurnsLocks f (own_of options d) (own_of options y) (command_in t.job) t.steps (law_task y.task) n ps qs (law_turn turn)
+
+-- and of the file
+abbrev pub Filed : Form → Options → Opener → Opener → ℕ → List Piece → List ℕ → List ℕ → Turn → Type 0
+Filed f options d y who ps a b turn = (t : Task) (n : ℕ) (others : List HandPair) → d.task ≡ Some t → who ≡ n + 1 → ImageBefore f t.job a others
+    → TurnsFile f (own_of options d) (own_of options y) (command_in t.job) t.steps n ps a b (law_turn turn) × TurnsImage f t y.task a b others
+
+module _ (header : Header) (options : Options) (xs : List Opener) (ps : List Piece) (a : List ℕ) (size who : ℕ) (x d : Opener) (t : Task)
+    (B : IsBusy (record { header = header; options = options; openers = xs; table = ps }) who x t) (item : d ≡ slice_index_or xs (who - 1) d)
+    (W : WorldStands (form_in header) options xs ps a size) where
+  same : d ≡ x
+  same = numbered xs who B.number.place x d B.number.counted B.number.there item
+
+  has : HasTask xs B.number.place d t
+  has = record { there = B.number.there ∙ ap Some (sym same); busy = ap (λ z. z.task) same ∙ B.busy }
+
+  -- before it the opener stands, and holds what it may
+  pub stands_before : MayStand (form_in header) options size d
+  stands_before = record {
+    stands = subst (OpenerStands (form_in header) options size) has.there (W.openers_stand B.number.place);
+    busy_live = λ u e. ap (λ z. (own_at options z).live) (sym has.there) ∙ W.sound.busy_there B.number.place (law_of_task u) (ap task_at has.there ∙ ap law_task e);
+  }
+
+  -- a task of it is this one, at this place
+  holds_at : (u : Task) → d.task ≡ Some u → OpenerHolds (form_in header) (own_of options d) (command_in u.job) u.steps B.number.place ps
+  holds_at u e = opener_is_ready (form_in header) options xs ps a size B.number.place d u W (record { there = has.there; busy = e })
+
+  pub holds_before : (u : Task) → d.task ≡ Some u → (n : ℕ) × (who ≡ n + 1) × OpenerHolds (form_in header) (own_of options d) (command_in u.job) u.steps n ps
+  holds_before u e = (B.number.place, B.number.counted, holds_at u e)
+
+  module _ (y : Opener) (qs : List Piece) (b : List ℕ) (turn : Turn) (L : Locked (form_in header) options d y who ps qs turn) where
+    put : IsPut xs B.number.place y (slice_set xs (who - 1) y)
+    put = put_numbered xs who B.number.place x y B.number.counted B.number.there
+
+    locked : TurnsLocks (form_in header) (own_of options d) (own_of options y) (command_in t.job) t.steps (law_task y.task) B.number.place ps qs (law_turn turn)
+    locked = L t B.number.place has.busy B.number.counted
+
+    -- after it the world stands
+    pub world_after : (longer : ℕ) → MayStand (form_in header) options longer y → size ≤ longer → longer ≤ options.limit → WorldStands (form_in header) options (slice_set xs (who - 1) y) qs b longer
+    world_after longer M more less = turn_keeps_world (form_in header) options xs (slice_set xs (who - 1) y) ps qs a b size longer B.number.place d y t (law_turn turn) W has put locked M more less
+
+    module _ (F : FileStands (form_in header) xs a) (T : Filed (form_in header) options d y who ps a b turn) where
+      filed : TurnsFile (form_in header) (own_of options d) (own_of options y) (command_in t.job) t.steps B.number.place ps a b (law_turn turn) × TurnsImage (form_in header) t y.task a b (other_hands xs B.number.place)
+      filed = T t B.number.place (other_hands xs B.number.place) has.busy B.number.counted (image_is_ready (form_in header) options xs ps a size B.number.place d t W F has)
+
+      -- so do the bytes of its file
+      pub file_after : FileStands (form_in header) (slice_set xs (who - 1) y) b
+      file_after = turn_keeps_file (form_in header) options xs (slice_set xs (who - 1) y) ps a b size B.number.place d y t (law_turn turn) W F has put filed.0 filed.1
+
+      -- and it was a turn of the law
+      pub turned_after : Turned (form_in header) (state_of (form_in header) options xs ps a) (law_opener who) (law_of_task t) (law_turn turn) (state_of (form_in header) options (slice_set xs (who - 1) y) qs b)
+      turned_after = subst (λ o. Turned (form_in header) (state_of (form_in header) options xs ps a) o (law_of_task t) (law_turn turn) (state_of (form_in header) options (slice_set xs (who - 1) y) qs b)) (sym (by_number who B.number.place B.number.counted))
+          (turn_is_turned (form_in header) options xs (slice_set xs (who - 1) y) ps qs a b size B.number.place d y t (law_turn turn) W has put locked filed.0)

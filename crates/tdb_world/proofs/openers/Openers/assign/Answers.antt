@@ -1,0 +1,18 @@
+-- It is given as the law says, and the world stands as before.
+use Rattle.tdb_world.proofs.Coming.{stands_given, bytes_given, is_given}
+use Rattle.tdb_world.proofs.openers.Openers.assign.Goals as goal
+
+pub returns-clause-stands : goal.returns-clause-stands
+returns-clause-stands c img size W =
+    let free = c.requires.free in
+    stands_given c.args.self.now c.give.new.self c.args.who size free.0 c.args.command free.1 (c.give.ensures size free.0 free.1) img W
+
+pub returns-clause-bytes : goal.returns-clause-bytes
+returns-clause-bytes c img F =
+    let free = c.requires.free in
+    bytes_given c.args.self.now c.give.new.self c.args.who 0 free.0 c.args.command free.1 (c.give.ensures 0 free.0 free.1) img F
+
+pub returns-clause-given : goal.returns-clause-given
+returns-clause-given c img =
+    let free = c.requires.free in
+    is_given c.args.self.now c.give.new.self c.args.who 0 free.0 c.args.command free.1 (c.give.ensures 0 free.0 free.1) img

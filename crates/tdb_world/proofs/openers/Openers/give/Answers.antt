@@ -1,0 +1,20 @@
+-- The opener that is given the command is the one with the number.
+use Rattle.std.proofs.Common.{slice_get, sym, ap, subst, ◌∙◌}
+use Rattle.tdb_locks.specs.HeldLocks.{AreCounts}
+use Rattle.tdb_world.proofs.Putting.{numbered, assigned, seen_so}
+use Rattle.tdb_world.proofs.openers.Openers.give.Goals as goal
+
+pub job-job-requires-clause-counts : goal.job-job-requires-clause-counts
+job-job-requires-clause-counts c =
+    let x = c.requires.free.0 in
+    let F = c.requires.free.1 in
+    let there = ap (λ w. slice_get w.openers F.number.place) c.self.view_is ∙ F.number.there in
+    let same = numbered c.self.inside.list.items c.args.who F.number.place x c.in-Some.opener.now F.number.counted there c.in-Some.ensures.item.1 in
+    subst (λ z. AreCounts z.held.chains) (sym same) (c.requires.held x F)
+
+pub returns : goal.returns
+returns c size x F =
+    seen_so c.self.view_is
+    (λ G. assigned c.self.inside.header c.self.inside.options c.self.inside.list.items c.self.inside.locks c.args.who c.args.command size x c.in-Some.opener.now c.job-job.result
+    G c.in-Some.ensures.item.1 c.job-job.ensures.command (c.job-job.ensures.stands size))
+    F

@@ -1,0 +1,84 @@
+-- A turn of the opener with the number is a turn of the world.
+use Rattle.std.proofs.Common.{◌≡◌, ◌+◌, ◌-◌, ℕ, slice_set, IsTrue, sym, ap, subst, ◌∙◌}
+use Rattle.tdb_space.specs.Form.{form_in}
+use Rattle.tdb_world.specs.Laws.{MayStand}
+use Rattle.tdb_law.specs.Turned.{Turned}
+use Rattle.tdb_plays.specs.InLaw.{law_opener, law_turn}
+use Rattle.tdb_steps.proofs.Made.{of_both}
+use Rattle.tdb_world.specs.States.{state_of}
+use Rattle.tdb_world.specs.Worlds.{IsBusy, Stands, BytesStand, state_in, law_of_task}
+use Rattle.tdb_world.specs.Turning.{OpenerHolds}
+use Rattle.tdb_world.specs.Openers.{own_of, command_in}
+use Rattle.tdb_world.proofs.Stepping.{Locked, Filed, ok_so, ok_both, stands_before, holds_before, world_after, file_after, turned_after}
+use Rattle.tdb_world.proofs.openers.Openers.turn.Goals as goal
+
+pub turn-requires-clause-stands : goal.turn-requires-clause-stands
+turn-requires-clause-stands g c =
+    let e = c.self.view_is in
+    let form = c.requires.form ∙ ap (λ w. form_in w.header) (sym e) in
+    subst (λ f. MayStand f c.self.inside.options (g.S.Space.size c.args.s.now) c.in-Some.opener.now) (sym form)
+    (stands_before c.self.inside.header c.self.inside.options c.self.inside.list.items c.self.inside.locks (g.S.Space.image c.args.s.now) (g.S.Space.size c.args.s.now) c.args.who c.requires.busy.0 c.in-Some.opener.now c.requires.busy.1
+    (subst (λ w. IsBusy w c.args.who c.requires.busy.0 c.requires.busy.1) (sym e) c.requires.busy.2) c.in-Some.ensures.item.1
+    (subst (λ w. Stands w (g.S.Space.image c.args.s.now) (g.S.Space.size c.args.s.now)) (sym e) c.requires.stands))
+
+pub turn-requires-clause-holds : goal.turn-requires-clause-holds
+turn-requires-clause-holds g c u busy =
+    let e = c.self.view_is in
+    let form = c.requires.form ∙ ap (λ w. form_in w.header) (sym e) in
+    subst (λ f. (n : ℕ) × (c.args.who ≡ n + 1) × OpenerHolds f (own_of c.self.inside.options c.in-Some.opener.now) (command_in u.job) u.steps n c.self.inside.locks) (sym form)
+    (holds_before c.self.inside.header c.self.inside.options c.self.inside.list.items c.self.inside.locks (g.S.Space.image c.args.s.now) (g.S.Space.size c.args.s.now) c.args.who c.requires.busy.0 c.in-Some.opener.now c.requires.busy.1
+    (subst (λ w. IsBusy w c.args.who c.requires.busy.0 c.requires.busy.1) (sym e) c.requires.busy.2) c.in-Some.ensures.item.1
+    (subst (λ w. Stands w (g.S.Space.image c.args.s.now) (g.S.Space.size c.args.s.now)) (sym e) c.requires.stands) u busy)
+
+pub returns-clause-stands : goal.returns-clause-stands
+returns-clause-stands g c =
+    let e = c.self.view_is in
+    let form = c.requires.form ∙ ap (λ w. form_in w.header) (sym e) in
+    let d = c.in-Some.opener.now in
+    let y = c.turn.new.self in
+    ok_so c.turn.result (Locked (g.S.Space.form c.args.s.now) c.self.inside.options d y c.args.who c.self.inside.locks c.turn.new.locks) (MayStand (g.S.Space.form c.args.s.now) c.self.inside.options (g.S.Space.size c.turn.new.s) y) _
+    (λ turn L M. world_after c.self.inside.header c.self.inside.options c.self.inside.list.items c.self.inside.locks (g.S.Space.image c.args.s.now) (g.S.Space.size c.args.s.now) c.args.who c.requires.busy.0 d c.requires.busy.1
+    (subst (λ w. IsBusy w c.args.who c.requires.busy.0 c.requires.busy.1) (sym e) c.requires.busy.2) c.in-Some.ensures.item.1
+    (subst (λ w. Stands w (g.S.Space.image c.args.s.now) (g.S.Space.size c.args.s.now)) (sym e) c.requires.stands)
+    y c.turn.new.locks (g.S.Space.image c.turn.new.s) turn
+    (subst (λ f. Locked f c.self.inside.options d y c.args.who c.self.inside.locks c.turn.new.locks turn) form L) (g.S.Space.size c.turn.new.s)
+    (subst (λ f. MayStand f c.self.inside.options (g.S.Space.size c.turn.new.s) y) form M) c.turn.ensures.longer c.turn.ensures.within)
+    c.turn.ensures.locks c.turn.ensures.stands
+
+pub returns-clause-bytes : goal.returns-clause-bytes
+returns-clause-bytes g c =
+    let e = c.self.view_is in
+    let form = c.requires.form ∙ ap (λ w. form_in w.header) (sym e) in
+    let d = c.in-Some.opener.now in
+    let y = c.turn.new.self in
+    let a = g.S.Space.image c.args.s.now in
+    let b = g.S.Space.image c.turn.new.s in
+    ok_both c.turn.result (Locked (g.S.Space.form c.args.s.now) c.self.inside.options d y c.args.who c.self.inside.locks c.turn.new.locks) (λ turn. IsTrue g.S.Space.tells → Filed (g.S.Space.form c.args.s.now) c.self.inside.options d y c.args.who c.self.inside.locks a b turn) _
+    (λ turn L T told bytes. file_after c.self.inside.header c.self.inside.options c.self.inside.list.items c.self.inside.locks a (g.S.Space.size c.args.s.now) c.args.who c.requires.busy.0 d c.requires.busy.1
+    (subst (λ w. IsBusy w c.args.who c.requires.busy.0 c.requires.busy.1) (sym e) c.requires.busy.2) c.in-Some.ensures.item.1
+    (subst (λ w. Stands w a (g.S.Space.size c.args.s.now)) (sym e) c.requires.stands)
+    y c.turn.new.locks b turn
+    (subst (λ f. Locked f c.self.inside.options d y c.args.who c.self.inside.locks c.turn.new.locks turn) form L)
+    (subst (λ w. BytesStand w a) (sym e) bytes)
+    (subst (λ f. Filed f c.self.inside.options d y c.args.who c.self.inside.locks a b turn) form (T told)))
+    c.turn.ensures.locks c.turn.ensures.file
+
+pub returns-clause-turned : goal.returns-clause-turned
+returns-clause-turned g c =
+    let e = c.self.view_is in
+    let form = c.requires.form ∙ ap (λ w. form_in w.header) (sym e) in
+    let d = c.in-Some.opener.now in
+    let y = c.turn.new.self in
+    let a = g.S.Space.image c.args.s.now in
+    let b = g.S.Space.image c.turn.new.s in
+    of_both c.turn.result (Locked (g.S.Space.form c.args.s.now) c.self.inside.options d y c.args.who c.self.inside.locks c.turn.new.locks) (λ turn. IsTrue g.S.Space.tells → Filed (g.S.Space.form c.args.s.now) c.self.inside.options d y c.args.who c.self.inside.locks a b turn) _
+    (λ turn L T told bytes x t B. subst (λ w. Turned (form_in w.header) (state_in w a) (law_opener c.args.who) (law_of_task t) (law_turn turn)
+    (state_of (form_in c.self.inside.header) c.self.inside.options (slice_set c.self.inside.list.items (c.args.who - 1) y) c.turn.new.locks b)) e
+    (turned_after c.self.inside.header c.self.inside.options c.self.inside.list.items c.self.inside.locks a (g.S.Space.size c.args.s.now) c.args.who x d t
+    (subst (λ w. IsBusy w c.args.who x t) (sym e) B) c.in-Some.ensures.item.1
+    (subst (λ w. Stands w a (g.S.Space.size c.args.s.now)) (sym e) c.requires.stands)
+    y c.turn.new.locks b turn
+    (subst (λ f. Locked f c.self.inside.options d y c.args.who c.self.inside.locks c.turn.new.locks turn) form L)
+    (subst (λ w. BytesStand w a) (sym e) bytes)
+    (subst (λ f. Filed f c.self.inside.options d y c.args.who c.self.inside.locks a b turn) form (T told))))
+    c.turn.ensures.locks c.turn.ensures.file

@@ -1,0 +1,64 @@
+-- A turn of the command is one of its machine.
+use Rattle.std.proofs.Common.{subst}
+use Rattle.std.specs.Prelude.{◌<◌, ◌^◌, Result, Ok, Err, IsTrue, IfOk}
+use Rattle.tdb_steps.specs.LockTurns.{ActRightly}
+use Rattle.tdb_steps.specs.Stages.{IsIdle}
+use Rattle.tdb_world.proofs.PlainReady.{ready_alone, ready_holds, ready_turned, ready_file}
+use Rattle.tdb_world.proofs.PlainJob.{left_image}
+use Rattle.tdb_world.proofs.plain.plain_turn.Goals as goal
+
+-- what holds of an answer by four facts, and by two
+by_four : {T E : Type 0} (r : Result T E) (P Q R S W : T → Type 0) → ((x : T) → P x → Q x → R x → S x → W x) → IfOk r P → IfOk r Q → IfOk r R → IfOk r S → IfOk r W
+by_four (Ok x) P Q R S W then p q s t = then x p q s t
+by_four (Err e) P Q R S W then p q s t = tt
+
+by_two : {T E : Type 0} (r : Result T E) (P Q W : T → Type 0) → ((x : T) → P x → Q x → W x) → IfOk r P → IfOk r Q → IfOk r W
+by_two (Ok x) P Q W then p q = then x p q
+by_two (Err e) P Q W then p q = tt
+
+pub step-requires-clause-alone : goal.step-requires-clause-alone
+step-requires-clause-alone g c =
+    let w = c.requires.ready in
+    ready_alone (g.S.Space.form c.args.s.now) c.requires.few w.0 w.1 c.args.held.now c.requires.well.counts c.args.machine.now w.2 w.3 c.args.owner (g.S.Space.size c.args.s.now) c.args.locks.now w.4
+
+pub returns-clause-turned : goal.returns-clause-turned
+returns-clause-turned g c =
+    let f = g.S.Space.form c.args.s.now in
+    let held = c.args.held.now in
+    let d = c.args.machine.now in
+    let size = g.S.Space.size c.args.s.now in
+    by_four c.step-2.result _ _ _ _ _
+    (λ turn leaves row locks fits options live n who J.
+    let is = J.stands.after in
+    let H = ready_holds f c.requires.few options live held c.requires.well.counts d n who c.args.owner size c.args.locks.now J in
+    ready_turned f c.requires.few options live held c.requires.well.counts d n who c.args.owner size c.args.locks.now J c.step-2.new.self c.step-2.new.locks (g.S.Space.size c.step-2.new.s)
+    (g.S.Space.spare c.step-2.new.s) turn (leaves n is) (row n is) (locks n _ is H) fits) c.step-2.ensures.leaves c.step-2.ensures.row c.step-2.ensures.locks c.step-2.ensures.fits
+
+pub returns-clause-file : goal.returns-clause-file
+returns-clause-file g c =
+    let f = g.S.Space.form c.args.s.now in
+    let held = c.args.held.now in
+    let d = c.args.machine.now in
+    let size = g.S.Space.size c.args.s.now in
+    by_two c.step-2.result _ _ _
+    (λ turn made locks told small options live n who others J I.
+    let is = J.stands.after in
+    let H = ready_holds f c.requires.few options live held c.requires.well.counts d n who c.args.owner size c.args.locks.now J in
+    ready_file f c.requires.few options live held c.requires.well.counts d n who c.args.owner size c.args.locks.now J c.step-2.new.self c.step-2.new.locks turn (g.S.Space.image c.args.s.now)
+    (g.S.Space.image c.step-2.new.s) others (locks n _ is H) (made told small n others is I.may_be_out I.accepted I.knows)) c.step-2.ensures.made c.step-2.ensures.locks
+
+pub returns-clause-image : goal.returns-clause-image
+returns-clause-image g c =
+    let f = g.S.Space.form c.args.s.now in
+    by_two c.step-2.result _ _ _
+    (λ turn made leaves told small options live n who others J I.
+    let is = J.stands.after in
+    left_image f c.args.machine.now c.step-2.new.self n (g.S.Space.image c.args.s.now) (g.S.Space.image c.step-2.new.s) others turn (leaves n is)
+    (made told small n others is I.may_be_out I.accepted I.knows)) c.step-2.ensures.made c.step-2.ensures.leaves
+
+pub returns-clause-rightly : goal.returns-clause-rightly
+returns-clause-rightly g c =
+    subst
+    (λ spots. IfOk c.step-2.result
+    (λ turn. IsTrue g.S.Space.tells → g.S.Space.size c.args.s.now < 2 ^ 32 → (IsIdle c.args.machine.now.stage → ⊥)
+    → ActRightly (g.S.Space.form c.args.s.now) (g.S.Space.image c.args.s.now) (g.S.Space.image c.step-2.new.s) c.args.machine.now c.step-2.new.self c.args.limit spots turn)) c.new.ensures c.step-2.ensures.rightly

@@ -1,0 +1,66 @@
+-- The commands that openers may give, and how they hold locks between two calls.
+use Rattle.std.specs.Prelude.{ℕ, ◌≡◌, ◌<◌, ◌^◌, Bool, true, false, length, Option, None, Some, IfSome, nat_lt, ◌==◌, ◌&&◌, if◌then◌else◌}
+use Rattle.std.specs.List.{sum}
+use Rattle.std.specs.Map.{values_of}
+use Rattle.tdb_locks.specs.HeldLocks.{HeldLocks, AreCounts, total_of}
+use Rattle.tdb_locks.specs.declared.kind.Kind.{Kind}
+use Rattle.tdb_locks.specs.declared.kind.Kind.TheVariants.{Read, Write}
+use Rattle.tdb_locks.specs.declared.turn.Reply.{Reply}
+use Rattle.tdb_plays.specs.declared.command.Command.{Command}
+use Rattle.tdb_plays.specs.declared.command.Command.TheVariants as Given
+use Rattle.tdb_world.specs.declared.job.Locking.{Locking}
+use Rattle.tdb_world.specs.declared.job.Locking.TheVariants as Lockings
+
+-- the key and the value of a command are short enough for the words of a file
+abbrev pub IsShortGiven : Command → Type 0
+IsShortGiven (Given.Fetch key) = length key < 2 ^ 32
+IsShortGiven (Given.Has key) = length key < 2 ^ 32
+IsShortGiven (Given.Store key value flag) = (length key < 2 ^ 32) × (length value < 2 ^ 32)
+IsShortGiven (Given.Append key value) = (length key < 2 ^ 32) × (length value < 2 ^ 32)
+IsShortGiven (Given.Delete key) = length key < 2 ^ 32
+IsShortGiven (Given.ChainLock key) = length key < 2 ^ 32
+IsShortGiven (Given.ChainLockNb key) = length key < 2 ^ 32
+IsShortGiven (Given.ChainUnlock key) = length key < 2 ^ 32
+IsShortGiven _ = Unit {0}
+
+-- the key of a command on explicit locks is short enough for the words of a file
+abbrev pub IsShortLocking : Locking → Type 0
+IsShortLocking (Lockings.Chain key) = length key < 2 ^ 32
+IsShortLocking (Lockings.ChainNb key) = length key < 2 ^ 32
+IsShortLocking (Lockings.Unchain key) = length key < 2 ^ 32
+IsShortLocking _ = Unit {0}
+
+-- the commands that need neither a transaction nor a cursor
+abbrev pub IsServed : Command → Type 0
+IsServed Given.Start = ⊥
+IsServed Given.Commit = ⊥
+IsServed Given.Prepare = ⊥
+IsServed Given.Cancel = ⊥
+IsServed Given.First = ⊥
+IsServed Given.Next = ⊥
+IsServed Given.EndWalk = ⊥
+IsServed _ = Unit {0}
+
+-- an opener holds a chain explicitly; it holds all records for reading
+abbrev pub holds_chains : HeldLocks → Bool
+holds_chains held = nat_lt 0 (sum (values_of held.chains))
+
+abbrev pub reads_records : Option (Kind × ℕ) → Bool
+reads_records None = false
+reads_records (Some (Read, count)) = true
+reads_records (Some (Write, count)) = false
+
+-- the reply to an unlock of all records that is refused: they aren't held, or a chain is that only their last lock covers
+abbrev pub unlock_told : HeldLocks → Option (Kind × ℕ) → Option Reply
+unlock_told held None = Some Reply.NotLocked
+unlock_told held (Some all) = if (all.1 == 1) && holds_chains held then Some (Reply.HeldLocks (total_of held)) else None
+
+abbrev pub unlock_all_told : HeldLocks → Option Reply
+unlock_all_told held = unlock_told held held.all
+
+-- What holds of an opener's explicit locks between two calls: chains have counts, a lock of all records was taken once at least, and
+-- who holds all records for reading holds no chain.
+pub record IsWellHeld (held : HeldLocks) : Type 0 where
+  pub counts : AreCounts held.chains
+  pub taken : IfSome held.all (λ all. 0 < all.1)
+  pub apart : reads_records held.all ≡ true → holds_chains held ≡ false

@@ -1,0 +1,10 @@
+pub mod Openers
+pub mod States
+pub mod Turning
+pub mod Laws
+pub mod Given
+pub mod Worlds
+pub mod Locked
+pub mod Ended
+pub mod Jobs
+pub mod Checked

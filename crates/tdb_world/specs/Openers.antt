@@ -1,0 +1,145 @@
+-- An opener in the words of the law (`tdb_law`): what it has, and its unfinished command.
+use Rattle.std.specs.Prelude.{ℕ, ◌+◌, ◌*◌, ◌≡◌, Bool, List, [], ◌∷◌, Option, Some, None, nat_lt, if◌then◌else◌}
+use Rattle.std.specs.FinMap.{empty, insert, len}
+use Rattle.tdb_space.specs.Form.{Form}
+use Rattle.tdb_space.specs.Pairs.{home}
+use Rattle.tdb_space.specs.Spare.{without_bound}
+use Rattle.tdb_space.specs.Extents.{HandPair}
+use Rattle.tdb_locks.specs.HeldLocks.{HeldLocks}
+use Rattle.tdb_locks.specs.declared.kind.Kind.{Kind}
+use Rattle.tdb_law.specs.Commands as Law
+use Rattle.tdb_law.specs.Openers.{Counts, AllLock, Own, Task as LawTask, Options as LawOptions}
+use Rattle.tdb_law.specs.Refusals.{Refusal, refusal, says}
+use Rattle.tdb_law.specs.Beginning.{nobody}
+use Rattle.tdb_law.specs.Images.{image_map}
+use Rattle.tdb_steps.specs.LockRows.{strength_of}
+use Rattle.tdb_steps.specs.PlainCommands.{key_of, command_of}
+use Rattle.tdb_steps.specs.Stages.{hands_in}
+use Rattle.tdb_steps.specs.Order.{IsAfter}
+use Rattle.tdb_steps.specs.Machines.{Doing, Fits, DoingKnows}
+use Rattle.tdb_plays.specs.InLaw.{law_command, law_reply}
+use Rattle.tdb_world.specs.Given.{IsServed, IsShortLocking, IsWellHeld}
+use Rattle.tdb_world.specs.declared.options.Options.{Options}
+use Rattle.tdb_world.specs.declared.opener.Opener.{Opener}
+use Rattle.tdb_world.specs.declared.job.Job.{Job}
+use Rattle.tdb_world.specs.declared.job.Job.TheVariants.{Refused, Plain, Check, Locking, Seqnum, Close}
+use Rattle.tdb_world.specs.declared.job.Locking.{Locking as LockingCommand}
+use Rattle.tdb_world.specs.declared.job.Locking.TheVariants as Locks
+use Rattle.tdb_world.specs.declared.job.Checking.{Checking}
+use Rattle.tdb_world.specs.declared.job.Checking.TheVariants.{Begun, Records, FreeList, Counted}
+use Rattle.tdb_world.specs.declared.job.Task.{Task}
+
+-- how many times each chain is locked explicitly, by the lock byte of the chain; a chain that isn't locked has no entry
+abbrev pub counts_of : List (ℕ × ℕ) → Counts
+counts_of [] = empty
+counts_of (e ∷ es) = if nat_lt 0 e.1 then insert (counts_of es) (168 + 4 * e.0) e.1 else counts_of es
+
+-- the explicit lock of all records
+abbrev pub all_of : Option (Kind × ℕ) → Option AllLock
+all_of None = None
+all_of (Some a) = Some (record { strength = strength_of a.0; count = a.1 })
+
+abbrev pub options_of : Options → LawOptions
+options_of o = record { nesting = o.nesting; read_only = o.read_only; seqnum = o.seqnum }
+
+-- what an opener has: it has neither a transaction nor a cursor
+abbrev pub own_with : Options → Bool → HeldLocks → Own
+own_with options live held = record { options = options_of options; live = live; txn = None; counts = counts_of held.chains; all = all_of held.all; cursor = None }
+
+abbrev pub own_of : Options → Opener → Own
+own_of options x = own_with options x.live x.held
+
+abbrev pub own_at : Options → Option Opener → Own
+own_at options None = nobody (options_of options)
+own_at options (Some x) = own_of options x
+
+-- the commands of the law
+abbrev pub locking_command : LockingCommand → Law.LockCommand
+locking_command (Locks.Chain key) = Law.LockCommand.ChainLock key
+locking_command (Locks.ChainNb key) = Law.LockCommand.ChainLockNb key
+locking_command (Locks.Unchain key) = Law.LockCommand.ChainUnlock key
+locking_command Locks.All = Law.LockCommand.LockAll
+locking_command Locks.AllRead = Law.LockCommand.LockAllRead
+locking_command Locks.UnlockAll = Law.LockCommand.UnlockAll
+
+abbrev pub command_in : Job → Law.Command
+command_in (Refused command reply) = law_command command
+command_in (Plain doing) = Law.Command.OnMap (command_of doing.command)
+command_in (Check checking) = Law.Command.OnMap Law.MapCommand.Check
+command_in (Locking locking) = Law.Command.OnLocks (locking_command locking)
+command_in Seqnum = Law.Command.Seqnum
+command_in Close = Law.Command.OnWalk Law.WalkCommand.Close
+
+abbrev pub law_task : Option Task → Option LawTask
+law_task None = None
+law_task (Some t) = Some (record { command = command_in t.job; steps = t.steps })
+
+abbrev pub task_at : Option Opener → Option LawTask
+task_at None = None
+task_at (Some x) = law_task x.task
+
+-- the record that an unfinished command holds, which is in no list
+abbrev pub hands_of_job : Job → List HandPair
+hands_of_job (Plain doing) = hands_in doing.stage
+hands_of_job job = []
+
+abbrev pub hands_of_task : Option Task → List HandPair
+hands_of_task None = []
+hands_of_task (Some t) = hands_of_job t.job
+
+abbrev pub hands_at : Option Opener → List HandPair
+hands_at None = []
+hands_at (Some x) = hands_of_task x.task
+
+-- how many steps a check has had
+abbrev pub CheckAfter : Checking → ℕ → Type 0
+CheckAfter Begun n = n ≡ 0
+CheckAfter Records n = n ≡ 1
+CheckAfter FreeList n = n ≡ 2
+CheckAfter (Counted keys) n = n ≡ 3
+
+-- the reply that tells why the opener's own state refuses a command
+pub record IsRefused (f : Form) (x : Own) (c : Law.Command) (r : Law.Reply) : Type 0 where
+  pub why : Refusal
+  pub refused : refusal f c x ≡ Some why
+  pub told : r ≡ says x why
+
+-- a command on the map stands after so many steps: it isn't refused, its machine is on the chain of its key and counts where the options
+-- say so, and is where these steps have brought it
+pub record PlainStands (f : Form) (x : Own) (d : Doing) (n size : ℕ) : Type 0 where
+  pub granted : refusal f (Law.Command.OnMap (command_of d.command)) x ≡ None
+  pub chain : d.chain ≡ home f (key_of d.command)
+  pub counts : d.seqnum ≡ x.options.seqnum
+  pub after : IsAfter d.command d.stage n
+  pub fits : Fits d size without_bound
+
+-- a command of an opener stands after so many steps, in a file of this length, whatever its bytes are: it is refused and had no
+-- step, or it isn't, and it is where these steps have brought it
+abbrev pub JobStands : Form → Own → Job → ℕ → ℕ → Type 0
+JobStands f x (Refused command reply) n size = (n ≡ 0) × IsServed command × IsRefused f x (law_command command) (law_reply reply)
+JobStands f x (Plain doing) n size = PlainStands f x doing n size
+JobStands f x (Check checking) n size = (refusal f (command_in (Check checking)) x ≡ None) × CheckAfter checking n
+JobStands f x (Locking locking) n size = (n ≡ 0) × (refusal f (command_in (Locking locking)) x ≡ None) × IsShortLocking locking
+JobStands f x job n size = (n ≡ 0) × (refusal f (command_in job) x ≡ None)
+
+abbrev pub TaskStands : Form → Own → Option Task → ℕ → Type 0
+TaskStands f x None size = Unit {0}
+TaskStands f x (Some t) size = JobStands f x t.job t.steps size
+
+abbrev pub OpenerStands : Form → Options → ℕ → Option Opener → Type 0
+OpenerStands f options size None = Unit {0}
+OpenerStands f options size (Some x) = IsWellHeld x.held × TaskStands f (own_of options x) x.task size
+
+-- what a command knows of an image; a check that has counted the keys has their number
+abbrev pub JobKnows : Form → List ℕ → Job → Type 0
+JobKnows f img (Plain doing) = DoingKnows f img doing
+JobKnows f img (Check (Counted keys)) = keys ≡ len (image_map f img)
+JobKnows f img job = Unit {0}
+
+abbrev pub TaskKnows : Form → List ℕ → Option Task → Type 0
+TaskKnows f img None = Unit {0}
+TaskKnows f img (Some t) = JobKnows f img t.job
+
+abbrev pub OpenerKnows : Form → List ℕ → Option Opener → Type 0
+OpenerKnows f img None = Unit {0}
+OpenerKnows f img (Some x) = TaskKnows f img x.task

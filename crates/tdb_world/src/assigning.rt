@@ -1,0 +1,72 @@
+// A command is given to an opener.
+
+ghost use Rattle.std.specs.Prelude.{◌≡◌, ◌<◌, ℕ, None};
+ghost use Rattle.tdb_space.specs.Form.{form_in};
+ghost use Rattle.tdb_locks.specs.HeldLocks.{AreCounts};
+ghost use Rattle.tdb_plays.specs.InLaw.{law_command};
+ghost use Rattle.tdb_law.specs.Openers.{Own};
+ghost use Rattle.tdb_law.specs.Refusals.{refusal};
+ghost use Rattle.tdb_world.specs.Given.{IsShortGiven, IsServed};
+ghost use Rattle.tdb_world.specs.Openers.{own_of, command_in, JobStands};
+
+use crate::job::{Checking, Job, Locking};
+use crate::opener::Opener;
+use crate::options::Options;
+use tdb_plays::Command;
+use tdb_steps::{Machine, Plain};
+use tdb_words::Header;
+
+/// The job of a command that its opener's own state doesn't refuse. It takes no memory.
+fn job_of(command: Command, header: &Header, seqnum: bool) -> Job
+    requires served { IsServed command }
+    requires short { IsShortGiven command }
+    requires chains { 0 < header.now.hash_size }
+    ensures command { command_in result ≡ law_command command }
+    ensures begun { (x : Own) (size : ℕ) → refusal (form_in header.now) (law_command command) x ≡ None → x.options.seqnum ≡ seqnum → JobStands (form_in header.now) x result 0 size }
+{
+    match command {
+        Command::Fetch { key } => Job::Plain(Machine::new(Plain::Fetch { key }, header, seqnum)),
+        Command::Has { key } => Job::Plain(Machine::new(Plain::Has { key }, header, seqnum)),
+        Command::Store { key, value, flag } => {
+            Job::Plain(Machine::new(Plain::Store { key, value, flag }, header, seqnum))
+        }
+        Command::Append { key, value } => {
+            Job::Plain(Machine::new(Plain::Append { key, value }, header, seqnum))
+        }
+        Command::Delete { key } => Job::Plain(Machine::new(Plain::Delete { key }, header, seqnum)),
+        Command::Wipe => Job::Plain(Machine::new(Plain::Wipe, header, seqnum)),
+        Command::Check => Job::Check(Checking::Begun),
+        Command::ChainLock { key } => Job::Locking(Locking::Chain { key }),
+        Command::ChainLockNb { key } => Job::Locking(Locking::ChainNb { key }),
+        Command::ChainUnlock { key } => Job::Locking(Locking::Unchain { key }),
+        Command::LockAll => Job::Locking(Locking::All),
+        Command::LockAllRead => Job::Locking(Locking::AllRead),
+        Command::UnlockAll => Job::Locking(Locking::UnlockAll),
+        Command::Seqnum => Job::Seqnum,
+        Command::Close => Job::Close,
+        Command::Commit
+        | Command::Prepare
+        | Command::Cancel
+        | Command::Start
+        | Command::First
+        | Command::Next
+        | Command::EndWalk => unreachable!(),
+    }
+}
+
+impl Opener {
+    /// The job of a command: it is refused where the opener's own state says so. It takes no memory.
+    pub(crate) fn job(&self, options: &Options, command: Command, header: &Header) -> Job
+        requires counts { AreCounts self.now.held.chains }
+        requires served { IsServed command }
+        requires short { IsShortGiven command }
+        requires chains { 0 < header.now.hash_size }
+        ensures command { command_in result ≡ law_command command }
+        ensures stands { (size : ℕ) → JobStands (form_in header.now) (own_of options.now self.now) result 0 size }
+    {
+        match self.refusal(options, &command, header) {
+            Some(reply) => Job::Refused { command, reply },
+            None => job_of(command, header, options.seqnum),
+        }
+    }
+}

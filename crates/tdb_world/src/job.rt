@@ -1,0 +1,82 @@
+// An unfinished command.
+
+use tdb_locks::Reply;
+use tdb_plays::Command;
+use tdb_steps::Machine;
+use tdb_words::Bytes;
+
+/// A command on the opener's explicit locks, with the key whose chain it is on.
+#[derive(Debug, Drop)]
+pub(crate) enum Locking {
+    /// Locks the chain for writing, and waits where another opener's lock is in the way.
+    Chain { key: Bytes },
+    /// Locks the chain for writing, or is told that it is busy.
+    ChainNb { key: Bytes },
+    /// Lets go of the chain.
+    Unchain { key: Bytes },
+    /// Locks all records for writing.
+    All,
+    /// Locks all records for reading.
+    AllRead,
+    /// Lets go of all records.
+    UnlockAll,
+}
+
+/// What a check has locked.
+#[derive(Clone, Copy, Debug, PartialEq, Eq)]
+pub(crate) enum Checking {
+    /// Nothing.
+    Begun,
+    /// All records.
+    Records,
+    /// All records and the free list.
+    FreeList,
+    /// The same, and this is the number of keys.
+    Counted(u64),
+}
+
+/// What an unfinished command is done by.
+#[derive(Debug)]
+pub(crate) enum Job {
+    /// The opener's own state refuses it: its first turn replies so.
+    Refused { command: Command, reply: Reply },
+    /// A command on the map.
+    Plain(Machine),
+    /// The number of keys, by a check of the whole file.
+    Check(Checking),
+    /// A command on explicit locks.
+    Locking(Locking),
+    /// The sequence number.
+    Seqnum,
+    /// The end of the opener.
+    Close,
+}
+
+/// An unfinished command, and how many steps it has had.
+#[derive(Debug)]
+pub(crate) struct Task {
+    pub(crate) steps: u32,
+    pub(crate) job: Job,
+}
+
+impl Job {
+    /// Gives the command up, with the record that it may hold. It takes no memory and makes no call on a disk.
+    pub(crate) fn end(self) {
+        match self {
+            Job::Refused {
+                command: _,
+                reply: _,
+            } => {}
+            Job::Plain(machine) => machine.end(),
+            Job::Check(_) | Job::Seqnum | Job::Close => {}
+            Job::Locking(_) => {}
+        }
+    }
+}
+
+impl Drop for Task {
+    fn drop(self) {
+        let Task { steps: _, job } = self;
+        job.end();
+    }
+}

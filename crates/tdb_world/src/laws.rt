@@ -1,0 +1,70 @@
+// The laws that lift what an opener does to the world.
+
+ghost use Rattle.tdb_world.specs.Laws.{EmptyFileStands, EmptyIsLoaded, EmptyStands};
+ghost use Rattle.tdb_world.specs.Laws.{JoinJoins, JoinKeepsFile, JoinKeepsWorld};
+ghost use Rattle.tdb_world.specs.Laws.{GiftIsGiven, GiftKeepsFile, GiftKeepsWorld};
+ghost use Rattle.tdb_world.specs.Laws.{ImageIsReady, KeysAreCounted, OpenerIsReady};
+ghost use Rattle.tdb_world.specs.Laws.{TurnIsTurned, TurnKeepsFile, TurnKeepsWorld};
+
+/// A world without openers stands, and so do the bytes of an accepted image; in the words of the law of reports it
+/// is just loaded. The law is over all images; the function does nothing.
+pub fn empty_stands()
+    ensures world { EmptyStands }
+    ensures file { EmptyFileStands }
+    ensures loaded { EmptyIsLoaded }
+{}
+
+/// An opener that joins behind the others, with nothing yet, leaves a world that stands and bytes that do; where
+/// there is room it joins in the words of the law of reports. The law is over all worlds; the function does nothing.
+pub fn join_stands()
+    ensures world { JoinKeepsWorld }
+    ensures file { JoinKeepsFile }
+    ensures joins { JoinJoins }
+{}
+
+/// A command that is given to a live opener without one, whose job stands at its beginning, leaves a world that
+/// stands and bytes that do, and is given in the words of the law of reports. The law is over all worlds; the
+/// function does nothing.
+pub fn gift_stands()
+    ensures world { GiftKeepsWorld }
+    ensures file { GiftKeepsFile }
+    ensures given { GiftIsGiven }
+{}
+
+/// Before each turn the opener holds what its task has locked and what it keeps, and no other's locks conflict with
+/// that. The law is over all worlds; the function does nothing.
+pub fn opener_is_ready()
+    ensures law { OpenerIsReady }
+{}
+
+/// Before each turn the image is accepted with the record that the opener's command holds and with those of all
+/// others; none of these is out where a wipe or a check has locked the free list; and the command knows its chain.
+/// The law is over all worlds; the function does nothing.
+pub fn image_is_ready()
+    ensures law { ImageIsReady }
+{}
+
+/// A turn that does to the lock table what its row allows leaves a world that stands, whatever the bytes of the file
+/// are. The law is over all worlds and turns; the function does nothing.
+pub fn turn_keeps_world()
+    ensures law { TurnKeepsWorld }
+{}
+
+/// A turn that also does to the file what it may leaves bytes that stand: they are accepted with the records of all
+/// commands, and each command still knows its chain. The law is over all worlds and turns; the function does
+/// nothing.
+pub fn turn_keeps_file()
+    ensures law { TurnKeepsFile }
+{}
+
+/// A turn that does to the lock table and to the file what it may is a turn of the law of reports. The law is over
+/// all worlds and turns; the function does nothing.
+pub fn turn_is_turned()
+    ensures law { TurnIsTurned }
+{}
+
+/// The map of an accepted image has as many keys as the image has pairs, which a check counts. The law is over all
+/// images; the function does nothing.
+pub fn keys_are_counted()
+    ensures law { KeysAreCounted }
+{}

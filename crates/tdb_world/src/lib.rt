@@ -1,0 +1,24 @@
+//! One tdb file and its openers, who take turns.
+#![tactic(auto)]
+
+mod assigning;
+mod checking;
+mod ending;
+mod holding;
+mod job;
+mod laws;
+mod locking;
+mod numbering;
+mod opener;
+mod openers;
+mod options;
+mod plain;
+mod refusing;
+mod taking;
+
+pub use crate::laws::{
+    empty_stands, gift_stands, image_is_ready, join_stands, keys_are_counted, opener_is_ready,
+    turn_is_turned, turn_keeps_file, turn_keeps_world,
+};
+pub use crate::openers::{JoinRefusal, MOST_OPENERS, Openers};
+pub use crate::options::Options;

@@ -1,0 +1,197 @@
+// The openers of one file.
+
+ghost use Rattle.std.specs.Prelude.{◌≡◌, ◌<◌, ◌≤◌, ◌+◌, ◌++◌, ◌∷◌, [], ℕ, List, length, IsTrue, IfOk, IfErr, OnOk, OnErr, None};
+ghost use Rattle.tdb_disk.specs.Count.{HasCause};
+ghost use Rattle.tdb_space.specs.Form.{form_in};
+ghost use Rattle.tdb_space.specs.Frame.{Wrote};
+ghost use Rattle.tdb_space.specs.Spare.{without_bound};
+ghost use Rattle.tdb_locks.specs.HeldLocks.{AreCounts};
+ghost use Rattle.tdb_space.specs.Accepted.{AcceptWith};
+ghost use Rattle.tdb_law.specs.World.{HasFewChains};
+ghost use Rattle.tdb_law.specs.Beginning.{IsLoaded};
+ghost use Rattle.tdb_law.specs.Events.{Joins, Given};
+ghost use Rattle.tdb_law.specs.Turned.{Turned};
+ghost use Rattle.tdb_world.specs.Openers.{options_of};
+ghost use Rattle.tdb_plays.specs.InLaw.{law_opener, law_command, law_turn};
+ghost use Rattle.tdb_world.specs.declared.job.Task.{Task};
+ghost use Rattle.tdb_world.specs.declared.opener.Opener.{Opener};
+ghost use Rattle.tdb_world.specs.Given.{IsShortGiven, IsServed};
+ghost use Rattle.tdb_world.specs.Worlds.{fresh, state_in, law_of_task, Stands, BytesStand, IsFree, IsBusy, IsAssigned};
+
+use crate::job::Task;
+use crate::opener::Opener;
+use crate::options::Options;
+use std::alloc::Global;
+use std::marker::Model;
+use tdb_locks::{Held, Locks, Turn};
+use tdb_plays::Command;
+use tdb_space::{Io, Space};
+use tdb_words::Header;
+use thiserror::Error;
+
+/// How many openers may join.
+pub const MOST_OPENERS: u32 = 1000;
+
+/// Why no opener joined.
+#[derive(Clone, Copy, Debug, PartialEq, Eq, Error)]
+pub enum JoinRefusal {
+    /// So many have joined that no more may.
+    #[error("{count} openers have joined")]
+    Many { count: u32 },
+    #[error("out of memory")]
+    Memory,
+}
+
+/// The openers of one file, and the locks that they hold. Their numbers are counted from 1 on, and none is used twice.
+#[derive(Debug, Drop)]
+pub struct Openers {
+    alloc: Global,
+    header: Header,
+    options: Options,
+    locks: Locks,
+    list: Vec<Opener>,
+}
+
+impl Model for Openers {
+    ghost use Rattle.tdb_world.specs.Worlds.{World};
+
+    ghost Value = { World };
+
+    ghost view = { λ w. record { header = w.header; options = w.options; openers = w.list.items; table = w.locks } };
+}
+
+impl Openers {
+    /// Nobody has joined. It takes no memory.
+    pub fn new(alloc: Global, header: &Header, options: &Options) -> Openers
+        ensures header { result.header ≡ header.now }
+        ensures options { result.options ≡ options.now }
+        ensures openers { result.openers ≡ [] }
+        ensures table { result.table ≡ [] }
+        ensures stands { (img : List ℕ) (size : ℕ) → HasFewChains (form_in header.now) → options.now.limit ≤ 4294963200 → size ≤ options.now.limit → Stands result img size }
+        ensures bytes { (img : List ℕ) → AcceptWith (form_in header.now) img [] → BytesStand result img }
+        ensures loaded { (img : List ℕ) → HasFewChains (form_in header.now) → IsLoaded (form_in header.now) (state_in result img) (options_of options.now) }
+    {
+        Openers {
+            alloc,
+            header: *header,
+            options: *options,
+            locks: Locks::new(alloc),
+            list: Vec::new(alloc),
+        }
+    }
+
+    /// Puts a new opener behind the others.
+    fn push_opener(&mut self) -> Result<u32, JoinRefusal>
+        requires { length self.old.openers ≤ 1000 }
+        ensures number { IfOk result (λ who. who ≡ length self.old.openers + 1) }
+        ensures joined { IfOk result (λ who. self.new ≡ record self.old { openers = self.old.openers ++ fresh ∷ [] }) }
+        ensures few { IfOk result (λ who. length self.old.openers < 1000) }
+        ensures many { IfErr result (λ e. (count : ℕ) → e ≡ JoinRefusal.Many count → (count ≡ 1000) × (length self.old.openers ≡ 1000)) }
+        ensures memory { IfErr result (λ e. e ≡ JoinRefusal.Memory → length self.old.openers < 1000) }
+        ensures err { OnErr result (self.new ≡ self.old) }
+    {
+        let count = self.list.len() as u32;
+        if count == MOST_OPENERS {
+            return Err(JoinRefusal::Many { count });
+        }
+        let opener = Opener {
+            live: true,
+            held: Held::new(self.alloc),
+            task: None,
+        };
+        match self.list.push(opener) {
+            Ok(()) => Ok(count + 1),
+            Err(_) => Err(JoinRefusal::Memory),
+        }
+    }
+
+    /// A new opener joins, and gets the next number. After a refusal nothing has changed.
+    pub fn join(&mut self) -> Result<u32, JoinRefusal>
+        requires { length self.old.openers ≤ 1000 }
+        ensures number { IfOk result (λ who. who ≡ length self.old.openers + 1) }
+        ensures joined { IfOk result (λ who. self.new ≡ record self.old { openers = self.old.openers ++ fresh ∷ [] }) }
+        ensures few { IfOk result (λ who. length self.old.openers < 1000) }
+        ensures stands { OnOk result ((img : List ℕ) (size : ℕ) → Stands self.old img size → Stands self.new img size) }
+        ensures bytes { OnOk result ((img : List ℕ) → BytesStand self.old img → BytesStand self.new img) }
+        ensures joins { IfOk result (λ who. (img : List ℕ) (size : ℕ) → Stands self.old img size
+            → Joins (form_in self.old.header) (state_in self.old img) (law_opener who) (state_in self.new img)) }
+        ensures many { IfErr result (λ e. (count : ℕ) → e ≡ JoinRefusal.Many count → (count ≡ 1000) × (length self.old.openers ≡ 1000)) }
+        ensures memory { IfErr result (λ e. e ≡ JoinRefusal.Memory → length self.old.openers < 1000) }
+        ensures err { OnErr result (self.new ≡ self.old) }
+    {
+        self.push_opener()
+    }
+
+    /// Gives a live opener that has no command this one.
+    fn give(&mut self, who: u32, command: Command)
+        requires free { (x : Opener) × IsFree self.old who x }
+        requires chains { 0 < self.old.header.hash_size }
+        requires held { (x : Opener) → IsFree self.old who x → AreCounts x.held.chains }
+        requires served { IsServed command }
+        requires short { IsShortGiven command }
+        ensures { (size : ℕ) (x : Opener) → IsFree self.old who x → IsAssigned self.old who x command size self.new }
+    {
+        let Openers {
+            header,
+            options,
+            list,
+            ..
+        } = self;
+        let Some(opener) = list.get_mut(who as usize - 1) else {
+            unreachable!();
+        };
+        let job = opener.job(options, command, header);
+        opener.task = Some(Task { steps: 0, job });
+    }
+
+    /// Gives a live opener that has no command this one, of which it then takes turns. It takes no memory.
+    ///
+    /// Cost: a hash of the key, and a look-up among the chains that the opener holds.
+    pub fn assign(&mut self, who: u32, command: Command)
+        requires free { (x : Opener) × IsFree self.old who x }
+        requires chains { 0 < self.old.header.hash_size }
+        requires held { (x : Opener) → IsFree self.old who x → AreCounts x.held.chains }
+        requires served { IsServed command }
+        requires short { IsShortGiven command }
+        ensures assigned { (size : ℕ) (x : Opener) → IsFree self.old who x → IsAssigned self.old who x command size self.new }
+        ensures stands { (img : List ℕ) (size : ℕ) → Stands self.old img size → Stands self.new img size }
+        ensures bytes { (img : List ℕ) → BytesStand self.old img → BytesStand self.new img }
+        ensures given { (img : List ℕ) → Given (state_in self.old img) (law_opener who) (law_command command) (state_in self.new img) }
+    {
+        self.give(who, command);
+    }
+
+    /// Takes one turn of the opener's command, on the bytes of the file. After `Io` the command is given up and the world is spent: no
+    /// other turn may be taken.
+    ///
+    /// Cost: that of the command's turn, and a search in the lock table; nothing is passed over that doesn't belong to it.
+    pub fn turn<S: Space>(&mut self, s: &mut S, who: u32) -> Result<Turn, Io>
+        requires busy { (x : Opener) × (t : Task) × IsBusy self.old who x t }
+        requires form { S.form s.old ≡ form_in self.old.header }
+        requires stands { Stands self.old (S.image s.old) (S.size s.old) }
+        requires spare { S.spare s.old ≡ without_bound }
+        ensures stands { OnOk result (Stands self.new (S.image s.new) (S.size s.new)) }
+        ensures bytes { OnOk result (IsTrue S.tells → BytesStand self.old (S.image s.old) → BytesStand self.new (S.image s.new)) }
+        ensures turned { IfOk result (λ turn. IsTrue S.tells → BytesStand self.old (S.image s.old) → (x : Opener) (t : Task) → IsBusy self.old who x t
+            → Turned (form_in self.old.header) (state_in self.old (S.image s.old)) (law_opener who) (law_of_task t) (law_turn turn) (state_in self.new (S.image s.new))) }
+        ensures header { self.new.header ≡ self.old.header }
+        ensures options { self.new.options ≡ self.old.options }
+        ensures longer { S.size s.old ≤ S.size s.new }
+        ensures wrote { Wrote S.Space s.old s.new }
+        ensures rises { S.faults s.old ≤ S.faults s.new }
+        ensures done { OnOk result (S.faults s.new ≡ S.faults s.old) }
+    {
+        let Openers {
+            alloc,
+            header,
+            options,
+            locks,
+            list,
+            ..
+        } = self;
+        let Some(opener) = list.get_mut(who as usize - 1) else {
+            unreachable!();
+        };
+        opener.turn(*alloc, s, locks, who, options, header)
+    }
+}

@@ -1,0 +1,145 @@
+// One turn of an opener.
+
+ghost use Rattle.std.specs.Prelude.{◌≡◌, ◌≤◌, ◌<◌, ◌^◌, ◌+◌, ◌-◌, ℕ, List, None, Some, IsTrue, IfOk, OnOk, OnErr};
+ghost use Rattle.tdb_disk.specs.Count.{HasCause};
+ghost use Rattle.tdb_space.specs.Form.{form_in};
+ghost use Rattle.tdb_space.specs.Extents.{HandPair};
+ghost use Rattle.tdb_space.specs.Frame.{Wrote};
+ghost use Rattle.tdb_space.specs.Spare.{without_bound};
+ghost use Rattle.tdb_law.specs.World.{HasFewChains};
+ghost use Rattle.tdb_plays.specs.InLaw.{law_turn};
+ghost use Rattle.tdb_world.specs.declared.job.Task.{Task};
+ghost use Rattle.tdb_world.specs.Given.{IsWellHeld};
+ghost use Rattle.tdb_world.specs.Openers.{own_of, own_with, command_in, law_task};
+ghost use Rattle.tdb_world.specs.Turning.{OpenerHolds, TurnsLocks, TurnsFile, ImageBefore, TurnsImage};
+ghost use Rattle.tdb_world.specs.Jobs.{JobIsReady, JobTurned, JobFiled, task_after};
+ghost use Rattle.tdb_world.specs.Laws.{MayStand};
+
+use crate::checking::check_turn;
+use crate::ending::{close_turn, refused_turn};
+use crate::job::{Job, Task};
+use crate::locking::locking_turn;
+use crate::numbering::seqnum_turn;
+use crate::opener::Opener;
+use crate::options::Options;
+use crate::plain::plain_turn;
+use std::alloc::Global;
+use std::mem;
+use tdb_locks::{Held, Locks, Reply, Turn};
+use tdb_space::{Io, Space};
+use tdb_words::Header;
+
+impl Job {
+    /// Takes one turn of the job, of an opener with this number in the lock table, which has taken the locks `held` explicitly.
+    fn turn<S: Space>(
+        &mut self,
+        alloc: Global,
+        s: &mut S,
+        locks: &mut Locks,
+        owner: u32,
+        live: &mut bool,
+        held: &mut Held,
+        options: &Options,
+        header: &Header,
+    ) -> Result<Turn, Io>
+        requires few { HasFewChains (S.form s.old) }
+        requires form { S.form s.old ≡ form_in header.now }
+        requires limit { options.now.limit ≤ 4294963200 }
+        requires within { S.size s.old ≤ options.now.limit }
+        requires spare { S.spare s.old ≡ without_bound }
+        requires well { IsWellHeld held.old }
+        requires ready { (n : ℕ) × (who : ℕ) × JobIsReady (S.form s.old) (own_with options.now live.old held.old) self.old n who owner (S.size s.old) locks.old }
+        ensures turned { IfOk result (λ turn. (n who : ℕ) → JobIsReady (S.form s.old) (own_with options.now live.old held.old) self.old n who owner (S.size s.old) locks.old
+            → JobTurned (S.form s.old) (own_with options.now live.old held.old) (own_with options.now live.new held.new) self.old self.new n who (S.size s.new)
+            locks.old locks.new (law_turn turn)) }
+        ensures file { IfOk result (λ turn. IsTrue S.tells → (n who : ℕ) (others : List HandPair)
+            → JobIsReady (S.form s.old) (own_with options.now live.old held.old) self.old n who owner (S.size s.old) locks.old
+            → ImageBefore (S.form s.old) self.old (S.image s.old) others
+            → JobFiled (S.form s.old) (own_with options.now live.old held.old) (own_with options.now live.new held.new) self.old self.new n who locks.old
+            (S.image s.old) (S.image s.new) others (law_turn turn)) }
+        ensures well { IsWellHeld held.new }
+        ensures longer { S.size s.old ≤ S.size s.new }
+        ensures within { S.size s.new ≤ options.now.limit }
+        ensures wrote { Wrote S.Space s.old s.new }
+        ensures rises { S.faults s.old ≤ S.faults s.new }
+        ensures done { OnOk result (S.faults s.new ≡ S.faults s.old) }
+    {
+        match self {
+            Job::Refused { command: _, reply } => {
+                Ok(refused_turn(mem::replace(reply, Reply::Memory)))
+            }
+            Job::Plain(machine) => plain_turn(alloc, s, locks, owner, held, machine, options.limit),
+            Job::Check(checking) => check_turn(alloc, s, locks, owner, held, checking),
+            Job::Locking(locking) => Ok(locking_turn(locks, owner, held, header, locking)),
+            Job::Seqnum => seqnum_turn(s, locks, owner),
+            Job::Close => {
+                *live = false;
+                Ok(close_turn(alloc, locks, owner, held))
+            }
+        }
+    }
+}
+
+impl Task {
+    /// What is left of the task after a turn of its job: it has had a step more, or is the same, or it is at its end, as after a fault of
+    /// the disk.
+    fn after(mut self, turn: &Result<Turn, Io>) -> Option<Task>
+        requires few { self.steps < 2 ^ 32 - 1 }
+        ensures left { IfOk turn.now (λ turn. result ≡ task_after self.job self.steps (law_turn turn)) }
+        ensures none { OnErr turn.now (result ≡ None) }
+    {
+        match turn {
+            Ok(Turn::Step) => {
+                self.steps += 1;
+                Some(self)
+            }
+            Ok(Turn::Blocked { .. }) => Some(self),
+            Ok(Turn::Done(_)) | Err(_) => None,
+        }
+    }
+}
+
+impl Opener {
+    /// Takes one turn of the opener's command. `owner` is its number in the lock table. After a step the command has one more behind
+    /// it, blocked it is as it was, and at its end the opener has none; so it has after `Io`, where the command is given up.
+    pub(crate) fn turn<S: Space>(
+        &mut self,
+        alloc: Global,
+        s: &mut S,
+        locks: &mut Locks,
+        owner: u32,
+        options: &Options,
+        header: &Header,
+    ) -> Result<Turn, Io>
+        requires busy { (t : Task) × (self.old.task ≡ Some t) }
+        requires stands { MayStand (S.form s.old) options.now (S.size s.old) self.old }
+        requires holds { (t : Task) → self.old.task ≡ Some t → (who : ℕ) × (owner ≡ who + 1) × OpenerHolds (S.form s.old) (own_of options.now self.old) (command_in t.job) t.steps who locks.old }
+        requires few { HasFewChains (S.form s.old) }
+        requires form { S.form s.old ≡ form_in header.now }
+        requires limit { options.now.limit ≤ 4294963200 }
+        requires within { S.size s.old ≤ options.now.limit }
+        requires spare { S.spare s.old ≡ without_bound }
+        ensures locks { IfOk result (λ turn. (t : Task) (who : ℕ) → self.old.task ≡ Some t → owner ≡ who + 1
+            → TurnsLocks (S.form s.old) (own_of options.now self.old) (own_of options.now self.new) (command_in t.job) t.steps (law_task self.new.task) who locks.old locks.new (law_turn turn)) }
+        ensures file { IfOk result (λ turn. IsTrue S.tells → (t : Task) (who : ℕ) (others : List HandPair) → self.old.task ≡ Some t → owner ≡ who + 1 → ImageBefore (S.form s.old) t.job (S.image s.old) others
+            → TurnsFile (S.form s.old) (own_of options.now self.old) (own_of options.now self.new) (command_in t.job) t.steps who locks.old (S.image s.old) (S.image s.new) (law_turn turn)
+            × TurnsImage (S.form s.old) t self.new.task (S.image s.old) (S.image s.new) others) }
+        ensures stands { OnOk result (MayStand (S.form s.old) options.now (S.size s.new) self.new) }
+        ensures idle { OnErr result (self.new.task ≡ None) }
+        ensures within { S.size s.new ≤ options.now.limit }
+        ensures longer { S.size s.old ≤ S.size s.new }
+        ensures wrote { Wrote S.Space s.old s.new }
+        ensures rises { S.faults s.old ≤ S.faults s.new }
+        ensures done { OnOk result (S.faults s.new ≡ S.faults s.old) }
+    {
+        let Opener { live, held, task } = self;
+        let Some(mut now) = task.take() else {
+            unreachable!();
+        };
+        let turn = now
+            .job
+            .turn(alloc, s, locks, owner, live, held, options, header);
+        *task = now.after(&turn);
+        turn
+    }
+}
