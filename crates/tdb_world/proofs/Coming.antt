@@ -1,12 +1,13 @@
 -- Openers who come to a world, and commands that are given there: it stands as before, and the law says so.
 use Rattle.std.proofs.Common.{◌≡◌, ℕ, ◌+◌, ◌<◌, List, [], ◌∷◌, ◌++◌, length, slice_get, Option, Some, Result, Ok, Err, IfOk, OnOk, refl, sym, ap, subst, arith}
 use Rattle.tdb_space.specs.Form.{form_in}
+use Rattle.tdb_locks.specs.HeldLocks.{AreCounts}
 use Rattle.tdb_law.specs.Events.{Joins, Given}
 use Rattle.tdb_plays.specs.declared.command.Command.{Command}
 use Rattle.tdb_plays.specs.InLaw.{law_opener, law_command}
 use Rattle.tdb_world.specs.declared.opener.Opener.{Opener}
 use Rattle.tdb_world.specs.declared.job.Task.{Task}
-use Rattle.tdb_world.specs.Openers.{command_in}
+use Rattle.tdb_world.specs.Openers.{OpenerStands, command_in}
 use Rattle.tdb_world.specs.Laws.{IsJoined, IsGiven}
 use Rattle.tdb_world.specs.Worlds.{World, state_in, Stands, BytesStand, fresh, IsFree, IsAssigned}
 use Rattle.tdb_world.proofs.Putting.{by_number}
@@ -41,6 +42,10 @@ module _ (w v : World) (e : v ≡ with_fresh w) (img : List ℕ) where
       subst (λ z. Joins (form_in w.header) (state_in w img) (law_opener who) (state_in z img)) (sym e)
       (subst (λ o. Joins (form_in w.header) (state_in w img) o (state_in (with_fresh w) img)) (sym (by_number who (length w.openers) number))
       (join_joins (form_in w.header) w.options w.openers _ w.table img size fresh W (is_joined w.openers) few))
+
+-- the counts of an opener of a world that stands are counts
+pub counts_free : (w : World) (who : ℕ) (x : Opener) → IsFree w who x → (img : List ℕ) (size : ℕ) → Stands w img size → AreCounts x.held.chains
+counts_free w who x F img size W = (subst (OpenerStands (form_in w.header) w.options size) F.number.there (W.openers_stand F.number.place)).0.counts
 
 -- a command that is given
 module _ (w v : World) (who size : ℕ) (x : Opener) (c : Command) (F : IsFree w who x) (A : IsAssigned w who x c size v) (img : List ℕ) where

@@ -11,7 +11,7 @@ use Rattle.tdb_world.specs.declared.options.Options.{Options}
 use Rattle.tdb_world.specs.declared.opener.Opener.{Opener}
 use Rattle.tdb_world.specs.declared.job.Job.{Job}
 use Rattle.tdb_world.specs.Openers.{own_of, command_in, JobStands}
-use Rattle.tdb_world.specs.Worlds.{World, IsFree, IsAssigned}
+use Rattle.tdb_world.specs.Worlds.{World, IsNumber, IsFree, IsAssigned}
 use Rattle.tdb_world.specs.Laws.{IsPut}
 
 set_there : (xs : List Opener) (i : ℕ) (y : Opener) → i < length xs → slice_get (slice_set xs i y) i ≡ Some y
@@ -25,6 +25,11 @@ set_else (x ∷ xs) zero zero y ne = absurd (ne refl)
 set_else (x ∷ xs) zero (suc o) y ne = refl
 set_else (x ∷ xs) (suc i) zero y ne = refl
 set_else (x ∷ xs) (suc i) (suc o) y ne = set_else xs i o y (λ e. ne (ap suc e))
+
+get_is : (xs : List Opener) (i : ℕ) (d : Opener) → i < length xs → slice_get xs i ≡ Some (slice_index_or xs i d)
+get_is [] i d low = absurd (omega (arith, low))
+get_is (x ∷ xs) zero d low = refl
+get_is (x ∷ xs) (suc i) d low = get_is xs i d (omega (arith, low))
 
 -- the number of the opener at a place, and the place by the number
 pub by_number : (who place : ℕ) → who ≡ place + 1 → who - 1 ≡ place
@@ -63,3 +68,7 @@ assigned header options xs table who c size x d job F item command stands =
 -- so it is given in a world that is seen as this one
 pub seen_so : {v w new : World} {who size : ℕ} {c : Command} {x : Opener} → v ≡ w → (IsFree v who x → IsAssigned v who x c size new) → IsFree w who x → IsAssigned w who x c size new
 seen_so {new = new} {who = who} {size = size} {c = c} {x = x} e given F = subst (λ z. IsAssigned z who x c size new) e (given (subst (λ z. IsFree z who x) (sym e) F))
+
+-- who stands at the place of a number has it
+pub has_number : (w : World) (who : ℕ) (d : Opener) → 0 < who → who - 1 < length w.openers → d ≡ slice_index_or w.openers (who - 1) d → IsNumber w who d
+has_number w who d some low item = record { place = who - 1; counted = omega (arith, some); there = get_is w.openers (who - 1) d low ∙ ap Some (sym item) }

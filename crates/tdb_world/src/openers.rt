@@ -1,6 +1,6 @@
 // The openers of one file.
 
-ghost use Rattle.std.specs.Prelude.{◌≡◌, ◌<◌, ◌≤◌, ◌+◌, ◌++◌, ◌∷◌, [], ℕ, List, length, IsTrue, IfOk, IfErr, OnOk, OnErr, None};
+ghost use Rattle.std.specs.Prelude.{◌≡◌, ◌<◌, ◌≤◌, ◌+◌, ◌++◌, ◌∷◌, [], ℕ, List, length, IsTrue, IfSome, IfOk, IfErr, OnOk, OnErr, None};
 ghost use Rattle.tdb_disk.specs.Count.{HasCause};
 ghost use Rattle.tdb_space.specs.Form.{form_in};
 ghost use Rattle.tdb_space.specs.Frame.{Wrote};
@@ -16,7 +16,7 @@ ghost use Rattle.tdb_plays.specs.InLaw.{law_opener, law_command, law_turn};
 ghost use Rattle.tdb_world.specs.declared.job.Task.{Task};
 ghost use Rattle.tdb_world.specs.declared.opener.Opener.{Opener};
 ghost use Rattle.tdb_world.specs.Given.{IsShortGiven, IsServed};
-ghost use Rattle.tdb_world.specs.Worlds.{fresh, state_in, law_of_task, Stands, BytesStand, IsFree, IsBusy, IsAssigned};
+ghost use Rattle.tdb_world.specs.Worlds.{fresh, state_in, law_of_task, Stands, BytesStand, IsNumber, IsFree, IsBusy, IsAssigned};
 
 use crate::job::Task;
 use crate::opener::Opener;
@@ -77,6 +77,39 @@ impl Openers {
             options: *options,
             locks: Locks::new(alloc),
             list: Vec::new(alloc),
+        }
+    }
+
+    /// The opener with this number, if one has it.
+    fn opener(&self, who: u32) -> Option<&Opener>
+        ensures { IfSome result (λ x. IsNumber self.now who x.now) }
+    {
+        if who == 0 {
+            return None;
+        }
+        let Some(opener) = self.list.get(who as usize - 1) else {
+            return None;
+        };
+        Some(opener)
+    }
+
+    /// Whether the opener with this number is live and has no command.
+    pub fn is_free(&self, who: u32) -> bool
+        ensures { IsTrue result → (x : Opener) × IsFree self.now who x }
+    {
+        match self.opener(who) {
+            Some(opener) => opener.live && opener.task.is_none(),
+            None => false,
+        }
+    }
+
+    /// Whether the opener with this number has a command that isn't done.
+    pub fn is_busy(&self, who: u32) -> bool
+        ensures { IsTrue result → (x : Opener) × (t : Task) × IsBusy self.now who x t }
+    {
+        match self.opener(who) {
+            Some(opener) => opener.task.is_some(),
+            None => false,
         }
     }
 
@@ -150,7 +183,7 @@ impl Openers {
     pub fn assign(&mut self, who: u32, command: Command)
         requires free { (x : Opener) × IsFree self.old who x }
         requires chains { 0 < self.old.header.hash_size }
-        requires held { (x : Opener) → IsFree self.old who x → AreCounts x.held.chains }
+        requires stands { (img : List ℕ) × (size : ℕ) × Stands self.old img size }
         requires served { IsServed command }
         requires short { IsShortGiven command }
         ensures assigned { (size : ℕ) (x : Opener) → IsFree self.old who x → IsAssigned self.old who x command size self.new }

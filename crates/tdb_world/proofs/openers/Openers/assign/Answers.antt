@@ -1,6 +1,9 @@
 -- It is given as the law says, and the world stands as before.
-use Rattle.tdb_world.proofs.Coming.{stands_given, bytes_given, is_given}
+use Rattle.tdb_world.proofs.Coming.{counts_free, stands_given, bytes_given, is_given}
 use Rattle.tdb_world.proofs.openers.Openers.assign.Goals as goal
+
+pub give-requires-clause-held : goal.give-requires-clause-held
+give-requires-clause-held c x F = counts_free c.args.self.now c.args.who x F c.requires.stands.0 c.requires.stands.1 c.requires.stands.2
 
 pub returns-clause-stands : goal.returns-clause-stands
 returns-clause-stands c img size W =
