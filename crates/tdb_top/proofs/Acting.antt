@@ -1,5 +1,5 @@
 -- What acts on a file give, from what their parts gave.
-use Rattle.std.proofs.Common.{◌≡◌, ◌⊎◌, ℕ, ◌≤◌, List, Option, None, Some, Result, Ok, Err, refl, sym, ◌∙◌, ap, subst, inl, inr, arith}
+use Rattle.std.proofs.Common.{◌≡◌, ◌⊎◌, ℕ, ◌≤◌, false, List, Option, None, Some, Result, Ok, Err, refl, sym, ◌∙◌, ap, subst, inl, inr, arith}
 use Rattle.std.specs.Prelude.{IfOk, IsSome}
 use Rattle.std.proofs.lemmas.Bool.{false≢true}
 use Rattle.tdb_disk.specs.Count.{Rose}
@@ -8,7 +8,7 @@ use Rattle.tdb_disk.specs.declared.files.TakeRefusal.{TakeRefusal}
 use Rattle.tdb_disk.specs.declared.files.TakeRefusal.TheVariants as Take
 use Rattle.tdb_top.specs.declared.act.Act.{Act}
 use Rattle.tdb_top.specs.declared.ask.Task.{Task}
-use Rattle.tdb_top.specs.declared.ask.Task.TheVariants.{Create, On, Read}
+use Rattle.tdb_top.specs.declared.ask.Task.TheVariants.{Create, On, Read, Restore}
 use Rattle.tdb_top.specs.declared.commands.create.NewForm.{NewForm}
 use Rattle.tdb_top.specs.declared.commands.create.Creation as Making
 use Rattle.tdb_top.specs.declared.ending.Ending.{Ending}
@@ -23,7 +23,9 @@ use Rattle.tdb_top.specs.Ask.{Ask}
 use Rattle.tdb_top.specs.Acts.{reply_of, Does, Breaks, Acted, OpenedAndActed}
 use Rattle.tdb_top.specs.Commands.Create.{CreateCause, CreateLeaves}
 use Rattle.tdb_top.specs.Ending.{TaskDue, Replies, Refuses, TaskCause, task_due, task_failed, task_wanting, Untaken, MadeSo, of_halt}
-use Rattle.tdb_top.specs.Left.{ActLeaves, MakingLeaves, TaskLeaves, Leaving}
+use Rattle.tdb_top.specs.Left.{ActLeaves, OnLeaves, MakingLeaves, TaskLeaves, Leaving}
+use Rattle.tdb_top.specs.Commands.Restore.{of_input, HeardBy}
+use Rattle.tdb_top.specs.Input.{Input}
 use Rattle.tdb_top.specs.Opening.{opened_bytes, CanOpen, UndoneIfOpen, HaltLeaves, HaltsRightly, of_fault}
 use Rattle.tdb_top.proofs.Openings.{same_or_undone}
 
@@ -66,14 +68,14 @@ module _ (act : Act) (name : List ℕ) (held : Option History) (before after : �
     due_there : (e : Ending) → Replies act (seen h) e ⊎ Refuses (seen h) e → TaskCause (On act) name held before after e
     due_there e due = task_due e (subst (λ o. TaskDue (On act) name o e) (sym there) due)
 
-    left_there : (given : Option History) (e : Ending) (now : History) → given ≡ Some now → ActLeaves act h e now → TaskLeaves (On act) held e given
-    left_there given e now is left = subst (λ o. TaskLeaves (On act) o e given) (sym there) (now, is, left)
+    left_there : (given : Option History) (e : Ending) (now : History) → given ≡ Some now → ActLeaves act h e now → OnLeaves act held e given
+    left_there given e now is left = subst (λ o. OnLeaves act o e given) (sym there) (now, is, left)
 
     -- a file that was opened and acted on
     pub replied_cause : (now : History) (reply : Reply) → OpenedAndActed act h now (Ok reply) → TaskCause (On act) name held before after (E.Replied reply)
     replied_cause now reply acted = due_there (E.Replied reply) (inl (record { can_open = acted.0; replied = ap E.Replied acted.1 }))
 
-    pub replied_left : (given : Option History) (now : History) (reply : Reply) → given ≡ Some now → OpenedAndActed act h now (Ok reply) → TaskLeaves (On act) held (E.Replied reply) given
+    pub replied_left : (given : Option History) (now : History) (reply : Reply) → given ≡ Some now → OpenedAndActed act h now (Ok reply) → OnLeaves act held (E.Replied reply) given
     replied_left given now reply is acted = left_there given (E.Replied reply) now is (acted.1, acted.2)
 
     -- one that wasn't
@@ -82,7 +84,7 @@ module _ (act : Act) (name : List ℕ) (held : Option History) (before after : �
     halted_cause now Device acted rose = task_failed (rose refl)
     halted_cause now Memory acted rose = task_wanting
 
-    pub halted_left : (given : Option History) (now : History) (halt : Halt) → given ≡ Some now → OpenedAndActed act h now (Err halt) → TaskLeaves (On act) held (of_halt halt) given
+    pub halted_left : (given : Option History) (now : History) (halt : Halt) → given ≡ Some now → OpenedAndActed act h now (Err halt) → OnLeaves act held (of_halt halt) given
     halted_left given now (Refused refusal) is acted = left_there given (E.Refused refusal) now is acted.1
     halted_left given now Device is acted = left_there given E.DeviceFault now is acted
     halted_left given now Memory is acted = left_there given E.NoMemory now is (same_or_undone h now acted)
@@ -97,15 +99,15 @@ untaken_cause task name held before after misses Take.Failed e gone free rose is
 untaken_cause task name held before after misses Take.Memory e gone free rose is = subst (TaskCause task name held before after) (sym is) task_wanting
 
 -- what is held where nothing was done
-left_same : (act : Act) (held given : Option History) (e : Ending) → given ≡ held → ((h : History) → ActLeaves act h e h) → TaskLeaves (On act) held e given
+left_same : (act : Act) (held given : Option History) (e : Ending) → given ≡ held → ((h : History) → ActLeaves act h e h) → OnLeaves act held e given
 left_same act None given e same leaves = same
 left_same act (Some h) given e same leaves = (h, same, leaves h)
 
-pub untaken_left : (act : Act) (name : List ℕ) (held given : Option History) (refusal : TakeRefusal) (e : Ending) → given ≡ held → (refusal ≡ Take.Missing → held ≡ None) → (refusal ≡ Take.There → ⊥) → Untaken name refusal e → TaskLeaves (On act) held e given
-untaken_left act name held given Take.Missing e same gone free is = subst (λ o. TaskLeaves (On act) o e given) (sym (gone refl)) (same ∙ gone refl)
+pub untaken_left : (act : Act) (name : List ℕ) (held given : Option History) (refusal : TakeRefusal) (e : Ending) → given ≡ held → (refusal ≡ Take.Missing → held ≡ None) → (refusal ≡ Take.There → ⊥) → Untaken name refusal e → OnLeaves act held e given
+untaken_left act name held given Take.Missing e same gone free is = subst (λ o. OnLeaves act o e given) (sym (gone refl)) (same ∙ gone refl)
 untaken_left act name held given Take.There e same gone free is = absurd (free refl)
-untaken_left act name held given Take.Failed e same gone free is = subst (λ x. TaskLeaves (On act) held x given) (sym is) (left_same act held given E.DeviceFault same (λ h. inl (inl (inr refl))))
-untaken_left act name held given Take.Memory e same gone free is = subst (λ x. TaskLeaves (On act) held x given) (sym is) (left_same act held given E.NoMemory same (λ h. inr refl))
+untaken_left act name held given Take.Failed e same gone free is = subst (λ x. OnLeaves act held x given) (sym is) (left_same act held given E.DeviceFault same (λ h. inl (inl (inr refl))))
+untaken_left act name held given Take.Memory e same gone free is = subst (λ x. OnLeaves act held x given) (sym is) (left_same act held given E.NoMemory same (λ h. inr refl))
 
 -- a file that was to be made
 module _ (form : NewForm) (name : List ℕ) (held : Option History) where
@@ -120,7 +122,7 @@ module _ (form : NewForm) (name : List ℕ) (held : Option History) where
   made_cause before after Making.TheVariants.Device e cause is = subst (TaskCause (Create form) name held before after) (sym is) (task_failed cause)
   made_cause before after Making.TheVariants.Memory e cause is = subst (TaskCause (Create form) name held before after) (sym is) task_wanting
 
-  pub made_left : (given : Option History) (creation : Making.Creation) (e : Ending) → CreateLeaves form.size form.order form.hash held creation given → MadeSo name creation e → TaskLeaves (Create form) held e given
+  pub made_left : (given : Option History) (creation : Making.Creation) (e : Ending) → CreateLeaves form.size form.order form.hash held creation given → MadeSo name creation e → MakingLeaves form held e given
   made_left given Making.TheVariants.Made e left is = subst (λ x. MakingLeaves form held x given) (sym is) (refl, left)
   made_left given Making.TheVariants.There e left (inl is) = subst (λ x. MakingLeaves form held x given) (sym is) left
   made_left given Making.TheVariants.There e left (inr is) = subst (λ x. MakingLeaves form held x given) (sym is) left
@@ -128,12 +130,17 @@ module _ (form : NewForm) (name : List ℕ) (held : Option History) where
   made_left given Making.TheVariants.Memory e left is = subst (λ x. MakingLeaves form held x given) (sym is) left
 
 -- want of memory for the words leaves all as it is
-task_wants : (task : Task) (held : Option History) → TaskLeaves task held E.NoMemory held
-task_wants (On act) None = refl
-task_wants (On act) (Some h) = (h, refl, inr refl)
-task_wants (Read look) held = refl
-task_wants (Create form) held = refl
+task_wants : (input : Input) (task : Task) (held : Option History) → TaskLeaves input task held E.NoMemory held
+task_wants input (On act) None = refl
+task_wants input (On act) (Some h) = (h, refl, inr refl)
+task_wants input (Read look) held = refl
+task_wants input (Create form) held = refl
+task_wants input (Restore limit) held = record { left = inl refl; done = λ is. absurd (omega (arith, is)); there = λ some. refl }
 
-pub words_want : (ask : Option Ask) (held : List ℕ → Option History) → Leaving ask held E.NoMemory held
-words_want None held = λ name. refl
-words_want (Some a) held = (λ other apart. refl, task_wants a.task (held a.file))
+pub words_want : (input : Input) (ask : Option Ask) (held : List ℕ → Option History) → Leaving input ask held E.NoMemory held
+words_want input None held = λ name. refl
+words_want input (Some a) held = (λ other apart. refl, task_wants input a.task (held a.file))
+
+-- an ending that tells nothing of the input, which was left as it was
+pub not_heard : (before after : ℕ) (e : Ending) → after ≡ before → of_input e ≡ false → HeardBy before after e
+not_heard before after e same other = record { failed = λ is. absurd (false≢true (sym other ∙ ap of_input is)); told = inl same }

@@ -12,6 +12,7 @@ pub mod Found
 pub mod Added
 pub mod Inserts
 pub mod Acting
+pub mod Restoring
 pub mod Looking
 pub mod Writing
 pub mod OneAnswer

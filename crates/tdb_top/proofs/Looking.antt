@@ -1,8 +1,7 @@
 -- What a look into a file gives, from what its parts gave.
-use Rattle.std.proofs.Common.{◌≡◌, ℕ, ◌<◌, ◌≤◌, true, false, List, [], Option, None, Some, Result, Ok, Err, refl, sym, ◌∙◌, ap, subst, inl, inr, arith}
-use Rattle.std.specs.Prelude.{Bool, ◌&&◌, IsTrue}
+use Rattle.std.proofs.Common.{◌≡◌, ℕ, ◌<◌, ◌≤◌, List, [], Option, None, Some, Result, Ok, Err, refl, sym, ◌∙◌, ap, subst, inl, inr, arith}
 use Rattle.std.proofs.lemmas.List.{append-nil}
-use Rattle.tdb_disk.specs.Count.{Rose, HasCauseOf}
+use Rattle.tdb_disk.specs.Count.{Rose}
 use Rattle.tdb_disk.specs.History.{History, seen}
 use Rattle.tdb_disk.specs.declared.files.TakeRefusal.{TakeRefusal}
 use Rattle.tdb_disk.specs.declared.files.TakeRefusal.TheVariants as Take
@@ -10,13 +9,10 @@ use Rattle.tdb_disk.specs.declared.sink.SinkFault.{SinkFault}
 use Rattle.tdb_top.specs.declared.ask.Task.TheVariants.{Read}
 use Rattle.tdb_top.specs.declared.ending.Ending.{Ending}
 use Rattle.tdb_top.specs.declared.ending.Ending.TheVariants as E
-use Rattle.tdb_top.specs.declared.halt.Halt.{Halt}
-use Rattle.tdb_top.specs.declared.halt.Halt.TheVariants.{Refused, Device, Memory}
 use Rattle.tdb_top.specs.declared.look.Look.{Look}
 use Rattle.tdb_top.specs.declared.look.Look.TheVariants.{Dump, Value}
-use Rattle.tdb_top.specs.Ending.{TaskDue, TaskCause, task_due, task_failed, task_wanting, CountedBy, Untaken, of_halt}
-use Rattle.tdb_top.specs.Looks.{LookEnds, LookText, StandsBefore, look_tells, Began}
-use Rattle.tdb_top.specs.Opening.{ReadHaltsRightly}
+use Rattle.tdb_top.specs.Ending.{TaskDue, TaskCause, task_due, task_failed, task_wanting, CountedBy, Untaken}
+use Rattle.tdb_top.specs.Looks.{LookEnds, LookText, StandsBefore, Began}
 use Rattle.tdb_top.specs.Commands.Dump.{pairs_text}
 
 -- how a look ended is why its task ends so
@@ -30,6 +26,8 @@ look_cause look name h held before after E.NoMemory there ends counted = task_wa
 look_cause look name h held before after (E.Missing n) there ends counted = absurd ends
 look_cause look name h held before after (E.There n) there ends counted = absurd ends
 look_cause look name h held before after E.Usage there ends counted = absurd ends
+look_cause look name h held before after E.InputFault there ends counted = absurd ends
+look_cause look name h held before after (E.Malformed at) there ends counted = absurd ends
 
 -- nothing was written
 pub nothing : (Text : Ending → List ℕ → Type 0) (e : Ending) (written : List ℕ) → Text e [] → Began Text written written (Ok e)

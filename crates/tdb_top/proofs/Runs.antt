@@ -1,5 +1,5 @@
 -- What a run says and leaves, from how its task ended and from what the output took.
-use Rattle.std.proofs.Common.{◌≡◌, ◌⊎◌, ℕ, ◌<◌, ◌≤◌, List, [], ◌∷◌, Option, None, Some, length, refl, sym, ◌∙◌, ap, subst, inl, inr, arith}
+use Rattle.std.proofs.Common.{◌≡◌, ◌⊎◌, ℕ, ◌<◌, ◌≤◌, true, false, List, [], ◌∷◌, Option, None, Some, length, refl, sym, ◌∙◌, ap, subst, inl, inr, arith}
 use Rattle.std.specs.Prelude.{Contains, Bool}
 use Rattle.std.proofs.lemmas.Bool.{false≢true}
 use Rattle.tdb_disk.specs.Count.{Rose}
@@ -8,12 +8,12 @@ use Rattle.tdb_space.specs.Opening.{Opens}
 use Rattle.tdb_top.specs.declared.act.Act.{Act}
 use Rattle.tdb_top.specs.declared.look.Look.{Look}
 use Rattle.tdb_top.specs.declared.ask.Task.{Task}
-use Rattle.tdb_top.specs.declared.ask.Task.TheVariants.{Create, On, Read}
+use Rattle.tdb_top.specs.declared.ask.Task.TheVariants.{Create, On, Read, Restore}
 use Rattle.tdb_top.specs.declared.commands.create.NewForm.{NewForm}
 use Rattle.tdb_top.specs.declared.ending.Ending.{Ending}
-use Rattle.tdb_top.specs.declared.ending.Ending.TheVariants.{Replied, Refused, Missing, There, Usage, DeviceFault, NoMemory}
+use Rattle.tdb_top.specs.declared.ending.Ending.TheVariants.{Replied, Refused, Missing, There, Usage, DeviceFault, InputFault, Malformed, NoMemory}
 use Rattle.tdb_top.specs.declared.ending.Reply.{Reply}
-use Rattle.tdb_top.specs.declared.ending.Reply.TheVariants.{Done, Value, Escaped, Dumped, KeyMissing, KeyThere, Full, Number}
+use Rattle.tdb_top.specs.declared.ending.Reply.TheVariants.{Done, Value, Escaped, Dumped, Restored, KeyMissing, KeyThere, Full, Number}
 use Rattle.tdb_top.specs.declared.halt.Refusal.{Refusal}
 use Rattle.tdb_top.specs.declared.halt.Refusal.TheVariants.{TooLong, Header, Corrupt, NeedsRecovery}
 use Rattle.tdb_top.specs.declared.limits.TheConstants.{LONGEST_FILE}
@@ -22,16 +22,19 @@ use Rattle.tdb_top.specs.Acts.{reply_of, Left}
 use Rattle.tdb_top.specs.Ending.{status_of, TakesMemory, PrintedFor, Replies, Refuses, LookReplies, RefusesToRead, TaskDue, Due, TaskCause, task_due, task_failed, task_wanting, CountedBy}
 use Rattle.tdb_top.specs.Looks.{look_reply}
 use Rattle.tdb_top.specs.Printed.{TextBefore, ask_tells, Writes}
-use Rattle.tdb_top.specs.Left.{ActLeaves, MakingLeaves, TaskLeaves, Leaving}
+use Rattle.tdb_top.specs.Left.{ActLeaves, OnLeaves, MakingLeaves, RestoreLeaves, TaskLeaves, Leaving}
+use Rattle.tdb_top.specs.Commands.Restore.{of_input, HeardBy}
+use Rattle.tdb_top.specs.Input.{Input}
+use Rattle.tdb_top.specs.Reads.{ask_reads, AskCause}
 use Rattle.tdb_top.specs.Opening.{opened_bytes, OpensToRead, UndoneIfOpen}
-use Rattle.tdb_top.specs.Run.{Run, MayEnd, is_due, call_failed, memory_wanting, TellsFault, ActsOn, LooksInto, RefusesExactly, KeepsAll, ActRun, MakingRun, HeldOrUndone, LeavesFiles, Accounted}
+use Rattle.tdb_top.specs.Run.{Run, MayEnd, is_due, is_read, call_failed, memory_wanting, TellsFault, ActsOn, LooksInto, RefusesExactly, KeepsAll, ActRun, MakingRun, RestoringRun, HeldOrUndone, LeavesFiles, Accounted}
 use Rattle.tdb_top.proofs.Held.{same_or_other}
 use Rattle.tdb_top.proofs.OneAnswer.{due_one, refused_faulty, refused_three, read_faulty, read_three}
 use Rattle.tdb_top.proofs.Openings.{same_or_undone}
 
 -- the statuses of the table
 abbrev Known : ℕ → Type 0
-Known n = Contains (0 ∷ 1 ∷ 2 ∷ 3 ∷ 4 ∷ 5 ∷ 6 ∷ 8 ∷ 9 ∷ []) n
+Known n = Contains (0 ∷ 1 ∷ 2 ∷ 3 ∷ 4 ∷ 5 ∷ 6 ∷ 7 ∷ 8 ∷ 9 ∷ []) n
 
 -- a status of a reply is 0, 1 or 6
 abbrev IsReplyStatus : ℕ → Type 0
@@ -42,6 +45,7 @@ reply_status Done = inl refl
 reply_status (Value value) = inl refl
 reply_status (Escaped value) = inl refl
 reply_status Dumped = inl refl
+reply_status Restored = inl refl
 reply_status (Number n) = inl refl
 reply_status KeyMissing = inr (inl refl)
 reply_status KeyThere = inr (inl refl)
@@ -69,8 +73,10 @@ ending_known (Refused r) = elim (refusal_status r) [
 ending_known Usage = (2, omega arith, refl)
 ending_known DeviceFault = (4, omega arith, refl)
 ending_known NoMemory = (5, omega arith, refl)
-ending_known (Missing name) = (8, omega arith, refl)
-ending_known (There name) = (8, omega arith, refl)
+ending_known (Malformed at) = (7, omega arith, refl)
+ending_known InputFault = (8, omega arith, refl)
+ending_known (Missing name) = (9, omega arith, refl)
+ending_known (There name) = (9, omega arith, refl)
 
 -- another status is neither that of a reply nor that of a refusal
 reply_not : (r : Reply) (n : ℕ) → 1 < n → (n ≡ 6 → ⊥) → status_of (Replied r) ≡ n → ⊥
@@ -88,7 +94,7 @@ refusal_not r n three six own = of (refusal_status r)
     of (inl is) = three (sym own ∙ is)
     of (inr is) = six (sym own ∙ is)
 
--- the status 2 is that of the usage alone, 4 that of a failed call, and 8 that of no ending
+-- the status 2 is that of the usage alone, 4 that of a failed call, and 7 and 8 are of endings that tell of the input
 usage_alone : (e : Ending) → status_of e ≡ 2 → e ≡ Usage
 usage_alone (Replied r) two = absurd (reply_not r 2 (omega arith) (λ z. absurd (omega (arith, z))) two)
 usage_alone (Refused r) two = absurd (refusal_not r 2 (λ z. absurd (omega (arith, z))) (λ z. absurd (omega (arith, z))) two)
@@ -97,6 +103,8 @@ usage_alone DeviceFault two = absurd (omega (arith, two))
 usage_alone NoMemory two = absurd (omega (arith, two))
 usage_alone (Missing name) two = absurd (omega (arith, two))
 usage_alone (There name) two = absurd (omega (arith, two))
+usage_alone InputFault two = absurd (omega (arith, two))
+usage_alone (Malformed at) two = absurd (omega (arith, two))
 
 fault_alone : (e : Ending) → status_of e ≡ 4 → e ≡ DeviceFault
 fault_alone (Replied r) four = absurd (reply_not r 4 (omega arith) (λ z. absurd (omega (arith, z))) four)
@@ -106,15 +114,30 @@ fault_alone DeviceFault four = refl
 fault_alone NoMemory four = absurd (omega (arith, four))
 fault_alone (Missing name) four = absurd (omega (arith, four))
 fault_alone (There name) four = absurd (omega (arith, four))
+fault_alone InputFault four = absurd (omega (arith, four))
+fault_alone (Malformed at) four = absurd (omega (arith, four))
 
-eight_never : (e : Ending) → status_of e ≡ 8 → ⊥
-eight_never (Replied r) eight = reply_not r 8 (omega arith) (λ z. absurd (omega (arith, z))) eight
-eight_never (Refused r) eight = refusal_not r 8 (λ z. absurd (omega (arith, z))) (λ z. absurd (omega (arith, z))) eight
-eight_never Usage eight = absurd (omega (arith, eight))
-eight_never DeviceFault eight = absurd (omega (arith, eight))
-eight_never NoMemory eight = absurd (omega (arith, eight))
-eight_never (Missing name) eight = absurd (omega (arith, eight))
-eight_never (There name) eight = absurd (omega (arith, eight))
+eight_alone : (e : Ending) → status_of e ≡ 8 → e ≡ InputFault
+eight_alone (Replied r) eight = absurd (reply_not r 8 (omega arith) (λ z. absurd (omega (arith, z))) eight)
+eight_alone (Refused r) eight = absurd (refusal_not r 8 (λ z. absurd (omega (arith, z))) (λ z. absurd (omega (arith, z))) eight)
+eight_alone Usage eight = absurd (omega (arith, eight))
+eight_alone DeviceFault eight = absurd (omega (arith, eight))
+eight_alone InputFault eight = refl
+eight_alone (Malformed at) eight = absurd (omega (arith, eight))
+eight_alone NoMemory eight = absurd (omega (arith, eight))
+eight_alone (Missing name) eight = absurd (omega (arith, eight))
+eight_alone (There name) eight = absurd (omega (arith, eight))
+
+seven_tells : (e : Ending) → status_of e ≡ 7 → of_input e ≡ true
+seven_tells (Replied r) seven = absurd (reply_not r 7 (omega arith) (λ z. absurd (omega (arith, z))) seven)
+seven_tells (Refused r) seven = absurd (refusal_not r 7 (λ z. absurd (omega (arith, z))) (λ z. absurd (omega (arith, z))) seven)
+seven_tells Usage seven = absurd (omega (arith, seven))
+seven_tells DeviceFault seven = absurd (omega (arith, seven))
+seven_tells InputFault seven = refl
+seven_tells (Malformed at) seven = refl
+seven_tells NoMemory seven = absurd (omega (arith, seven))
+seven_tells (Missing name) seven = absurd (omega (arith, seven))
+seven_tells (There name) seven = absurd (omega (arith, seven))
 
 -- the status of a run that found this ending: its own; or 5, where there was no memory for a line that takes some; or 8
 abbrev Exits : ℕ → Ending → Type 0
@@ -129,31 +152,59 @@ exits tells run e t printed (inr part) = inr (inr part.exits)
 exits tells run e t (inl same) (inl all) = inl (all.exits ∙ ap status_of same)
 exits tells run e t (inr want) (inl all) = inr (inl (all.exits ∙ ap status_of want.0, want.1))
 
+-- a restore that was done writes nothing, and so its status is 0
+pub restored_exits : (tells : Bool) (run : Run) (e t : Ending) → PrintedFor e t → Printed tells run e → t ≡ Replied Restored → run.status ≡ 0
+restored_exits tells run e t (inl same) (inl all) done = all.exits ∙ ap status_of (same ∙ done)
+restored_exits tells run e t (inl same) (inr part) done = absurd (part.writes (same ∙ done))
+restored_exits tells run e t (inr want) prints done = absurd (false≢true (subst TakesMemory done want.1))
+
 -- from the ending that was found to the one that is printed
-pub printed_caused : (ask : Option Ask) (held : List ℕ → Option History) (before after : ℕ) (e t : Ending) → PrintedFor e t → MayEnd ask held before after t → MayEnd ask held before after e
-printed_caused ask held before after e t (inl same) cause = subst (MayEnd ask held before after) (sym same) cause
-printed_caused ask held before after e t (inr want) cause = subst (MayEnd ask held before after) (sym want.0) memory_wanting
+pub printed_caused : (ask : Option Ask) (held : List ℕ → Option History) (input : Input) (before after : ℕ) (e t : Ending) → PrintedFor e t → MayEnd ask held input before after t → MayEnd ask held input before after e
+printed_caused ask held input before after e t (inl same) cause = subst (MayEnd ask held input before after) (sym same) cause
+printed_caused ask held input before after e t (inr want) cause = subst (MayEnd ask held input before after) (sym want.0) memory_wanting
 
 -- why a task ended so is why its run did
-pub asked_cause : (ask : Option Ask) (a : Ask) (held : List ℕ → Option History) (before after : ℕ) (e : Ending) → Some a ≡ ask → TaskCause a.task a.file (held a.file) before after e → MayEnd ask held before after e
-asked_cause ask a held before after _ is (task_due e due) = is_due e (subst (λ o. Due o held e) is due)
-asked_cause ask a held before after _ is (task_failed rose) = call_failed a (sym is) rose
-asked_cause ask a held before after _ is task_wanting = memory_wanting
+task_caused : (ask : Option Ask) (a : Ask) (held : List ℕ → Option History) (input : Input) (before after : ℕ) (e : Ending) → Some a ≡ ask → TaskCause a.task a.file (held a.file) before after e → MayEnd ask held input before after e
+task_caused ask a held input before after _ is (task_due e due) = is_due e (subst (λ o. Due o held e) is due)
+task_caused ask a held input before after _ is (task_failed rose) = call_failed a (sym is) rose
+task_caused ask a held input before after _ is task_wanting = memory_wanting
 
-module _ (run : Run) (e : Ending) (cause : MayEnd run.ask run.old run.faults_before run.faults_after e) (tells : Bool) (prints : Printed tells run e) where
-  -- what the ending that is printed says of a status, where it is due
-  status_where : (P : ℕ → Type 0) → (Due run.ask run.old e → P (status_of e)) → P run.status ⊎ TellsFault run.status
-  status_where P due = of e cause prints due
+pub asked_cause : (ask : Option Ask) (a : Ask) (held : List ℕ → Option History) (input : Input) (before after : ℕ) (e : Ending) → Some a ≡ ask → AskCause input a.task a.file (held a.file) before after e → MayEnd ask held input before after e
+asked_cause ask a held input before after e is (inl cause) = task_caused ask a held input before after e is cause
+asked_cause ask a held input before after e is (inr ends) =
+    is_read e ends.limit a.file (sym is ∙ ap (λ t. Some (record { file = a.file; task = t })) ends.restores) ends.none ends.read
+
+-- the words ask for one thing
+act_or_restore : (ask : Option Ask) (act : Act) (name : List ℕ) (limit : ℕ) (other : List ℕ) → ask ≡ Some (record { file = name; task = On act }) → ask ≡ Some (record { file = other; task = Restore limit }) → ⊥
+act_or_restore ask act name limit other acts restores = false≢true (ap ask_reads (sym acts ∙ restores))
+
+look_or_restore : (ask : Option Ask) (look : Look) (name : List ℕ) (limit : ℕ) (other : List ℕ) → ask ≡ Some (record { file = name; task = Read look }) → ask ≡ Some (record { file = other; task = Restore limit }) → ⊥
+look_or_restore ask look name limit other looks restores = false≢true (ap ask_reads (sym looks ∙ restores))
+
+module _ (run : Run) (e : Ending) (cause : MayEnd run.ask run.old run.input run.faults_before run.faults_after e) (tells : Bool) (prints : Printed tells run e) where
+  -- what the ending that is printed says of a status, where it is due, and where a restore is asked for and no file is there
+  status_where : (P : ℕ → Type 0) → (Due run.ask run.old e → P (status_of e)) → ((limit : ℕ) (name : List ℕ) → run.ask ≡ Some (record { file = name; task = Restore limit }) → run.old name ≡ None → P (status_of e)) → P run.status ⊎ TellsFault run.status
+  status_where P due read = of e cause prints due read
     where
-      of : (x : Ending) → MayEnd run.ask run.old run.faults_before run.faults_after x → Printed tells run x → (Due run.ask run.old x → P (status_of x)) → P run.status ⊎ TellsFault run.status
-      of x c (inr part) due = inr (inr (inr part.exits))
-      of _ (is_due x d) (inl all) due = inl (subst P (sym all.exits) (due d))
-      of _ (call_failed a asks rose) (inl all) due = inr (inl all.exits)
-      of _ memory_wanting (inl all) due = inr (inr (inl all.exits))
+      of : (x : Ending) → MayEnd run.ask run.old run.input run.faults_before run.faults_after x → Printed tells run x → (Due run.ask run.old x → P (status_of x))
+          → ((limit : ℕ) (name : List ℕ) → run.ask ≡ Some (record { file = name; task = Restore limit }) → run.old name ≡ None → P (status_of x)) → P run.status ⊎ TellsFault run.status
+      of x c (inr part) due read = inr (inr (inr part.exits))
+      of _ (is_due x d) (inl all) due read = inl (subst P (sym all.exits) (due d))
+      of _ (is_read x limit name asks none so) (inl all) due read = inl (subst P (sym all.exits) (read limit name asks none))
+      of _ (call_failed a asks rose) (inl all) due read = inr (inl all.exits)
+      of _ memory_wanting (inl all) due read = inr (inr (inl all.exits))
 
   -- what is due is what is answered
   pub exactly : (x : Ending) → Due run.ask run.old x → (run.status ≡ status_of x) ⊎ TellsFault run.status
   exactly x due = status_where (λ n. n ≡ status_of x) (λ d. ap status_of (due_one run.ask run.old e x d due))
+      (λ limit name asks none. absurd (subst (λ o. TaskDue (Restore limit) name o x) none (subst (λ a. Due a run.old x) asks due)))
+
+  -- an act or a look isn't a restore
+  no_act : (P : Type 0) (act : Act) (name : List ℕ) (h : History) → ActsOn run act name h → (limit : ℕ) (other : List ℕ) → run.ask ≡ Some (record { file = other; task = Restore limit }) → P
+  no_act P act name h acts limit other asks = absurd (act_or_restore run.ask act name limit other acts.asks asks)
+
+  no_look : (P : Type 0) (look : Look) (name : List ℕ) (h : History) → LooksInto run look name h → (limit : ℕ) (other : List ℕ) → run.ask ≡ Some (record { file = other; task = Restore limit }) → P
+  no_look P look name h into limit other asks = absurd (look_or_restore run.ask look name limit other into.asks asks)
 
   -- what is due of an act on a file that is there
   act_due : (act : Act) (name : List ℕ) (h : History) → ActsOn run act name h → Due run.ask run.old e → Replies act (seen h) e ⊎ Refuses (seen h) e
@@ -186,13 +237,13 @@ module _ (run : Run) (e : Ending) (cause : MayEnd run.ask run.old run.faults_bef
   no_three (inr (inr is)) three = absurd (omega (arith, is, three))
 
   only_faulty : (act : Act) (name : List ℕ) (h : History) → ActsOn run act name h → run.status ≡ 3 → Opens (seen h) → ⊥
-  only_faulty act name h acts three opens = elim (status_where (λ n. n ≡ 3 → ⊥) (λ d. not_three act h opens (act_due act name h acts d))) [
+  only_faulty act name h acts three opens = elim (status_where (λ n. n ≡ 3 → ⊥) (λ d. not_three act h opens (act_due act name h acts d)) (λ limit other asks none. no_act (status_of e ≡ 3 → ⊥) act name h acts limit other asks)) [
     | inl other ↦ other three
     | inr fault ↦ no_three fault three
   ]
 
   read_only_faulty : (look : Look) (name : List ℕ) (h : History) → LooksInto run look name h → run.status ≡ 3 → OpensToRead (seen h) → ⊥
-  read_only_faulty look name h into three opens = elim (status_where (λ n. n ≡ 3 → ⊥) (λ d. read_not_three look h opens (look_due look name h into d))) [
+  read_only_faulty look name h into three opens = elim (status_where (λ n. n ≡ 3 → ⊥) (λ d. read_not_three look h opens (look_due look name h into d)) (λ limit other asks none. no_look (status_of e ≡ 3 → ⊥) look name h into limit other asks)) [
     | inl other ↦ other three
     | inr fault ↦ no_three fault three
   ]
@@ -200,9 +251,9 @@ module _ (run : Run) (e : Ending) (cause : MayEnd run.ask run.old run.faults_bef
   pub refuses_exactly : RefusesExactly run
   refuses_exactly = record {
     only = only_faulty;
-    exact = λ act name h acts faulty short. status_where (λ n. n ≡ 3) (λ d. three_due act h faulty short (act_due act name h acts d));
+    exact = λ act name h acts faulty short. status_where (λ n. n ≡ 3) (λ d. three_due act h faulty short (act_due act name h acts d)) (λ limit other asks none. no_act (status_of e ≡ 3) act name h acts limit other asks);
     read_only = read_only_faulty;
-    read_exact = λ look name h into faulty short. status_where (λ n. n ≡ 3) (λ d. read_three_due look h faulty short (look_due look name h into d));
+    read_exact = λ look name h into faulty short. status_where (λ n. n ≡ 3) (λ d. read_three_due look h faulty short (look_due look name h into d)) (λ limit other asks none. no_look (status_of e ≡ 3) look name h into limit other asks);
   }
 
 -- an act that didn't reply that it is done left the file as it was opened
@@ -303,6 +354,8 @@ module _ (before after status : ℕ) where
   act_run act old now (Missing name) out counted left = absurd left
   act_run act old now (There name) out counted left = absurd left
   act_run act old now Usage out counted left = absurd left
+  act_run act old now InputFault out counted left = absurd left
+  act_run act old now (Malformed at) out counted left = absurd left
 
   -- what a run leaves at the name of a file that was to be made
   making_run : (form : NewForm) (old now : Option History) (t : Ending) → Exits status t → CountedBy before after t → MakingLeaves form old t now → MakingRun form old before after status now
@@ -341,29 +394,55 @@ module _ (before after status : ℕ) where
   making_run form old now (Refused r) out counted left = absurd left
   making_run form old now (Missing name) out counted left = absurd left
   making_run form old now Usage out counted left = absurd left
+  making_run form old now InputFault out counted left = absurd left
+  making_run form old now (Malformed at) out counted left = absurd left
 
-module _ (run : Run) (t : Ending) (out : Exits run.status t) (counted : CountedBy run.faults_before run.faults_after t) (left : Leaving run.ask run.old t run.now) where
+  -- what a run leaves at the name of a file that was to be made of the input
+  restoring_run : (input : Input) (old now : Option History) (t : Ending) → Exits status t → CountedBy before after t → (t ≡ Replied Restored → status ≡ 0) → RestoreLeaves input old t now → RestoringRun input old before after status now
+  restoring_run input old now t out counted restored left = record {
+    done = λ is. left.done (zero_status out is);
+    there = left.there;
+    kept = λ undone four. of undone four left.left;
+  }
+    where
+      zero_status : Exits status t → status ≡ 0 → status_of t ≡ 0
+      zero_status (inl own) is = sym own ∙ is
+      zero_status (inr (inl want)) is = absurd (omega (arith, want.0, is))
+      zero_status (inr (inr eight)) is = absurd (omega (arith, eight, is))
+
+      of : (status ≡ 0 → ⊥) → (status ≡ 4 → ⊥) → (now ≡ old) ⊎ (t ≡ Replied Restored) ⊎ (t ≡ DeviceFault) → (now ≡ old) ⊎ ((status ≡ 8) × Rose before after)
+      of undone four (inl same) = inl same
+      of undone four (inr (inl done)) = absurd (undone (restored done))
+      of undone four (inr (inr fault)) = elim (fault_exits (subst (Exits status) fault out)) [
+        | inl is ↦ absurd (four is)
+        | inr is ↦ inr (is, counted.failed fault)
+      ]
+
+module _ (run : Run) (t : Ending) (out : Exits run.status t) (counted : CountedBy run.faults_before run.faults_after t) (restored : t ≡ Replied Restored → run.status ≡ 0) (left : Leaving run.input run.ask run.old t run.now) where
   -- what the run leaves at the name of the task that it is asked for
-  asked_left : (task : Task) (name : List ℕ) → run.ask ≡ Some (record { file = name; task = task }) → TaskLeaves task (run.old name) t (run.now name)
-  asked_left task name asks = (subst (λ a. Leaving a run.old t run.now) asks left).1
+  asked_left : (task : Task) (name : List ℕ) → run.ask ≡ Some (record { file = name; task = task }) → TaskLeaves run.input task (run.old name) t (run.now name)
+  asked_left task name asks = (subst (λ a. Leaving run.input a run.old t run.now) asks left).1
 
   acted : (act : Act) (name : List ℕ) (old : History) → ActsOn run act name old → (h : History) × (run.now name ≡ Some h) × ActRun act old run.faults_before run.faults_after run.status h
   acted act name old acts =
-      let at = subst (λ o. TaskLeaves (On act) o t (run.now name)) acts.there (asked_left (On act) name acts.asks) in
+      let at = subst (λ o. OnLeaves act o t (run.now name)) acts.there (asked_left (On act) name acts.asks) in
       (at.0, at.1, act_run run.faults_before run.faults_after run.status act old at.0 t out counted at.2)
 
   made : (form : NewForm) (name : List ℕ) → run.ask ≡ Some (record { file = name; task = Create form }) → MakingRun form (run.old name) run.faults_before run.faults_after run.status (run.now name)
   made form name asks = making_run run.faults_before run.faults_after run.status form (run.old name) (run.now name) t out counted (asked_left (Create form) name asks)
 
+  restoring : (limit : ℕ) (name : List ℕ) → run.ask ≡ Some (record { file = name; task = Restore limit }) → RestoringRun run.input (run.old name) run.faults_before run.faults_after run.status (run.now name)
+  restoring limit name asks = restoring_run run.faults_before run.faults_after run.status run.input (run.old name) (run.now name) t out counted restored (asked_left (Restore limit) name asks)
+
   others : (name : List ℕ) → ((ask : Ask) → run.ask ≡ Some ask → ask.file ≡ name → ⊥) → run.now name ≡ run.old name
   others name none = of run.ask left none
     where
-      of : (ask : Option Ask) → Leaving ask run.old t run.now → ((a : Ask) → ask ≡ Some a → a.file ≡ name → ⊥) → run.now name ≡ run.old name
+      of : (ask : Option Ask) → Leaving run.input ask run.old t run.now → ((a : Ask) → ask ≡ Some a → a.file ≡ name → ⊥) → run.now name ≡ run.old name
       of None left none = left name
       of (Some a) left none = left.0 name (λ same. none a refl (sym same))
 
   -- what is held at the name of a task, where the status tells of no change
-  task_kept : KeepsAll run.status → (task : Task) (name : List ℕ) (old : Option History) → TaskLeaves task old t (run.now name) → HeldOrUndone old (run.now name)
+  task_kept : KeepsAll run.status → (task : Task) (name : List ℕ) (old : Option History) → TaskLeaves run.input task old t (run.now name) → HeldOrUndone old (run.now name)
   task_kept keeps (On act) name None at = inl at
   task_kept keeps (On act) name (Some old) at = elim ((act_run run.faults_before run.faults_after run.status act old at.0 t out counted at.2).kept keeps) [
     | inl undone ↦ inr (old, at.0, refl, at.1, undone)
@@ -371,11 +450,15 @@ module _ (run : Run) (t : Ending) (out : Exits run.status t) (counted : CountedB
   ]
   task_kept keeps (Read look) name old at = inl at
   task_kept keeps (Create form) name old at = inl ((making_run run.faults_before run.faults_after run.status form old (run.now name) t out counted at).kept keeps)
+  task_kept keeps (Restore limit) name old at = elim ((restoring_run run.faults_before run.faults_after run.status run.input old (run.now name) t out counted restored at).kept keeps.0 keeps.1) [
+    | inl same ↦ inl same
+    | inr eight ↦ absurd (keeps.2 eight.0)
+  ]
 
   kept : KeepsAll run.status → (name : List ℕ) → HeldOrUndone (run.old name) (run.now name)
   kept keeps name = of run.ask left
     where
-      of : (ask : Option Ask) → Leaving ask run.old t run.now → HeldOrUndone (run.old name) (run.now name)
+      of : (ask : Option Ask) → Leaving run.input ask run.old t run.now → HeldOrUndone (run.old name) (run.now name)
       of None left = inl (left name)
       of (Some a) left = elim (same_or_other name a.file) [
         | inl here ↦ subst (λ n. HeldOrUndone (run.old n) (run.now n)) (sym here) (task_kept keeps a.task a.file (run.old a.file) left.1)
@@ -386,14 +469,16 @@ module _ (run : Run) (t : Ending) (out : Exits run.status t) (counted : CountedB
   leaves_files = record {
     others = others;
     acted = acted;
-    absent = λ act name asks none. subst (λ o. TaskLeaves (On act) o t (run.now name)) none (asked_left (On act) name asks);
+    absent = λ act name asks none. subst (λ o. OnLeaves act o t (run.now name)) none (asked_left (On act) name asks);
     made = made;
+    restored = restoring;
     read = λ look name asks. asked_left (Read look) name asks;
     kept = kept;
   }
 
 -- what a run's status tells whatever the files tell
-module _ (tells : Bool) (run : Run) (e t : Ending) (printed : PrintedFor e t) (prints : Printed tells run e) (counted : CountedBy run.faults_before run.faults_after t) (usage : t ≡ Usage → run.ask ≡ None) (usage_exact : run.ask ≡ None → (t ≡ Usage) ⊎ (t ≡ NoMemory)) where
+module _ (tells : Bool) (run : Run) (e t : Ending) (printed : PrintedFor e t) (prints : Printed tells run e) (counted : CountedBy run.faults_before run.faults_after t) (usage : t ≡ Usage → run.ask ≡ None) (usage_exact : run.ask ≡ None → (t ≡ Usage) ⊎ (t ≡ NoMemory))
+    (heard : HeardBy run.input.faults_before run.input.faults_after t) (unread : ask_reads run.ask ≡ false → of_input t ≡ false) where
   -- the ending that is printed is the one that was found, where it isn't want of memory
   found : (e ≡ NoMemory → ⊥) → t ≡ e
   found other = elim printed [
@@ -432,11 +517,43 @@ module _ (tells : Bool) (run : Run) (e t : Ending) (printed : PrintedFor e t) (p
     | inr is ↦ eight is
   ])
 
-  output_rose : run.status ≡ 8 → Rose run.output.faults_before run.output.faults_after
+  -- an ending that tells of the input comes where the input is read
+  reads : of_input t ≡ true → ask_reads run.ask ≡ true
+  reads tells = of (ask_reads run.ask) unread
+    where
+      of : (b : Bool) → (b ≡ false → of_input t ≡ false) → b ≡ true
+      of true quiet = refl
+      of false quiet = absurd (false≢true (sym (quiet refl) ∙ tells))
+
+  output_rose : run.status ≡ 8 → Rose run.output.faults_before run.output.faults_after ⊎ ((ask_reads run.ask ≡ true) × Rose run.input.faults_before run.input.faults_after)
   output_rose is = elim prints [
-    | inl all ↦ absurd (eight_never e (sym all.exits ∙ is))
-    | inr part ↦ part.failed
+    | inl all ↦
+        (let same : e ≡ InputFault = eight_alone e (sym all.exits ∙ is) in
+        let fault : t ≡ InputFault = found (λ wants. let both : InputFault ≡ NoMemory = sym same ∙ wants in cc) ∙ same in
+        inr (reads (ap of_input fault), heard.failed fault))
+    | inr part ↦ inl part.failed
   ]
+
+  malformed : run.status ≡ 7 → ask_reads run.ask ≡ true
+  malformed is =
+      let tells : of_input e ≡ true = seven_tells e (own_status 7 (λ x. absurd (omega (arith, x))) is) in
+      reads (ap of_input (found (λ wants. false≢true (sym (ap of_input wants) ∙ tells))) ∙ tells)
+
+  input_told : (run.status ≡ 4 → ⊥) → (run.status ≡ 8 → ⊥) → run.input.faults_after ≡ run.input.faults_before
+  input_told four eight = of heard.told
+    where
+      fault : Exits run.status InputFault → run.status ≡ 8
+      fault (inl own) = own
+      fault (inr (inl want)) = absurd (false≢true want.1)
+      fault (inr (inr is)) = is
+
+      of : (run.input.faults_after ≡ run.input.faults_before) ⊎ (t ≡ InputFault) ⊎ (t ≡ DeviceFault) → run.input.faults_after ≡ run.input.faults_before
+      of (inl same) = same
+      of (inr (inl is)) = absurd (eight (fault (subst (Exits run.status) is (exits tells run e t printed prints))))
+      of (inr (inr is)) = elim (fault_exits run.faults_before run.faults_after run.status (subst (Exits run.status) is (exits tells run e t printed prints))) [
+        | inl is ↦ absurd (four is)
+        | inr is ↦ absurd (eight is)
+      ]
 
   pub accounted : Accounted run
   accounted = record {
@@ -445,8 +562,10 @@ module _ (tells : Bool) (run : Run) (e t : Ending) (printed : PrintedFor e t) (p
     device_fault = fault_rose;
     device_fault_told = fault_told;
     output_fault = output_rose;
+    malformed = malformed;
+    input_fault_told = input_told;
     known = elim prints [
       | inl all ↦ subst Known (sym all.exits) (ending_known e)
-      | inr part ↦ subst Known (sym part.exits) (7, omega arith, refl)
+      | inr part ↦ subst Known (sym part.exits) (8, omega arith, refl)
     ];
   }

@@ -8,9 +8,9 @@ use Rattle.tdb_disk.specs.Count.{Rose, HasCause}
 use Rattle.tdb_disk.specs.History.{History}
 use Rattle.tdb_disk.specs.declared.sink.SinkFault.{SinkFault}
 use Rattle.tdb_top.specs.declared.ask.Task.{Task}
-use Rattle.tdb_top.specs.declared.ask.Task.TheVariants.{Create, On, Read}
+use Rattle.tdb_top.specs.declared.ask.Task.TheVariants.{Create, On, Read, Restore}
 use Rattle.tdb_top.specs.declared.ending.Ending.{Ending}
-use Rattle.tdb_top.specs.declared.ending.Ending.TheVariants.{Replied, Refused, Missing, There, Usage, DeviceFault, NoMemory}
+use Rattle.tdb_top.specs.declared.ending.Ending.TheVariants.{Replied, Refused, Missing, There, Usage, DeviceFault, InputFault, Malformed, NoMemory}
 use Rattle.tdb_top.specs.declared.ending.Reply.{Reply}
 use Rattle.tdb_top.specs.declared.ending.Reply.TheVariants as R
 use Rattle.tdb_top.specs.declared.look.Look.TheVariants.{Dump, Value}
@@ -25,6 +25,7 @@ reply_wanting text written R.Done takes is = is
 reply_wanting text written (R.Value value) takes is = is
 reply_wanting text written (R.Escaped value) takes is = is
 reply_wanting text written R.Dumped takes is = absurd (false≢true takes)
+reply_wanting text written R.Restored takes is = is
 reply_wanting text written (R.Number n) takes is = is
 reply_wanting text written R.KeyMissing takes is = is
 reply_wanting text written R.KeyThere takes is = is
@@ -37,11 +38,14 @@ stands_wanting text written (Missing name) takes stands = (0, stands)
 stands_wanting text written (There name) takes stands = (0, stands)
 stands_wanting text written Usage takes stands = (0, stands)
 stands_wanting text written DeviceFault takes stands = stands
+stands_wanting text written InputFault takes stands = (0, stands)
+stands_wanting text written (Malformed at) takes stands = (0, stands)
 stands_wanting text written NoMemory takes stands = stands
 
 task_wanting : (task : Task) (held : Option History) (written : List ℕ) (t : Ending) → TakesMemory t → TaskText task held t written → TaskText task held NoMemory written
 task_wanting (On act) held written t takes text = text
 task_wanting (Create form) held written t takes text = text
+task_wanting (Restore limit) held written t takes text = text
 task_wanting (Read (Value key)) held written t takes text = text
 task_wanting (Read Dump) None written t takes text = text
 task_wanting (Read Dump) (Some h) written t takes text = stands_wanting _ written t takes text
@@ -54,6 +58,7 @@ text_wanting (Some ask) held written t takes text = task_wanting ask.task (held 
 task_nothing : (task : Task) (held : Option History) → TaskText task held NoMemory []
 task_nothing (On act) held = refl
 task_nothing (Create form) held = refl
+task_nothing (Restore limit) held = refl
 task_nothing (Read (Value key)) held = refl
 task_nothing (Read Dump) None = refl
 task_nothing (Read Dump) (Some h) = (0, refl)
@@ -75,6 +80,7 @@ and_left false b h = h
 task_heard : (task : Task) (files output : Bool) → IsTrue (task_tells task files output) → IsTrue output
 task_heard (On act) files output told = told
 task_heard (Create form) files output told = told
+task_heard (Restore limit) files output told = told
 task_heard (Read (Value key)) files output told = told
 task_heard (Read Dump) files output told = and_left output files told
 
@@ -97,6 +103,7 @@ module _ (ask : Option Ask) (held : List ℕ → Option History) (files tells : 
         (b.0, text_printed ask held b.0 e found printed b.1, all.written (heard ask files tells told) ∙ ap (λ x. x ++ text_of e) b.2));
   })
   written (Ok found) e status printed began cause (inr part) = inr (record {
+    writes = λ is. part.some (ap text_of is);
     exits = part.exits;
     failed = subst (λ n. Rose n last) cause.done part.failed;
     written = λ told.
@@ -109,6 +116,7 @@ module _ (ask : Option Ask) (held : List ℕ → Option History) (files tells : 
         ));
   })
   written (Err fault) e status printed began cause done = inr (record {
+    writes = λ is. (let both : Replied R.Dumped ≡ Replied R.Restored = sym done.0 ∙ is in cc);
     exits = done.1;
     failed = subst (λ n. Rose start n) (sym done.3) cause.failed;
     written = λ told.

@@ -1,19 +1,20 @@
 -- Command lines: what words ask for.
-use Rattle.std.specs.Prelude.{ℕ, ◌+◌, ◌<◌, ◌^◌, if◌then◌else◌, Option, None, List, [], ◌∷◌, length, codes, string_bytes}
+use Rattle.std.specs.Prelude.{ℕ, ◌+◌, ◌<◌, ◌≤◌, ◌^◌, if◌then◌else◌, Option, None, List, [], ◌∷◌, length, codes, string_bytes}
 use Rattle.std.specs.Map.{lookup}
 use Rattle.std.specs.Option.{option_map, option_and_then}
 use Rattle.tdb_space.specs.Pairs.{same_key}
 use Rattle.tdb_top.specs.declared.act.Act.{Act}
 use Rattle.tdb_top.specs.declared.act.Act.TheVariants.{Show, Insert, Check}
 use Rattle.tdb_top.specs.declared.ask.Task.{Task}
-use Rattle.tdb_top.specs.declared.ask.Task.TheVariants.{Create, On, Read}
+use Rattle.tdb_top.specs.declared.ask.Task.TheVariants.{Create, On, Read, Restore}
 use Rattle.tdb_top.specs.declared.ask.Ask as C
 use Rattle.tdb_top.specs.Words.{is_position}
 use Rattle.tdb_top.specs.Commands.Show.{show_of}
 use Rattle.tdb_top.specs.Commands.Check.{check_of}
 use Rattle.tdb_top.specs.Commands.Insert.{insert_of}
 use Rattle.tdb_top.specs.Commands.Create.{create_of}
-use Rattle.tdb_top.specs.Commands.Dump.{dump_of_words}
+use Rattle.tdb_top.specs.Commands.Dump.{dump_of_words, file_alone}
+use Rattle.tdb_top.specs.declared.limits.TheConstants.{LONGEST_FILE}
 use Rattle.tdb_top.specs.Looks.{LookFits}
 
 -- what is asked for: a file by its name, and what is to be done with it
@@ -49,16 +50,21 @@ tool_of (file ∷ command ∷ arguments) =
 abbrev pub dump_asks : List (List ℕ) → Option Ask
 dump_asks words = option_map (λ found. record { file = found.0; task = Read found.1 }) (dump_of_words words)
 
+-- what the words behind `restore` ask for: FILE alone
+abbrev pub restore_asks : List (List ℕ) → Option Ask
+restore_asks words = option_map (λ file. record { file = file; task = Restore LONGEST_FILE }) (file_alone words)
+
 -- the commands of the program, each by its name with what the words behind it ask for
 abbrev pub commands : List (List ℕ × (List (List ℕ) → Option Ask))
-commands = (codes "tool", tool_of) ∷ (codes "dump", dump_asks) ∷ []
+commands = (codes "tool", tool_of) ∷ (codes "dump", dump_asks) ∷ (codes "restore", restore_asks) ∷ []
 
 -- what the words of a command line ask for, those behind the program's name
 abbrev pub ask_of : List (List ℕ) → Option Ask
 ask_of [] = None
 ask_of (program ∷ words) = option_and_then (λ read. read words) (lookup (same_key program) commands)
 
--- the keys and the values of an act are short enough for a record, and a file is made with some chain
+-- the keys and the values of an act are short enough for a record, a file is made with some chain, and one that is
+-- restored may be no longer than the longest
 abbrev pub ActFits : Act → Type 0
 ActFits (Show key) = length key < 2 ^ 32
 ActFits (Insert key value) = length key + length value < 2 ^ 32
@@ -68,3 +74,4 @@ abbrev pub TaskFits : Task → Type 0
 TaskFits (On act) = ActFits act
 TaskFits (Read look) = LookFits look
 TaskFits (Create form) = 0 < form.size
+TaskFits (Restore limit) = limit ≤ 4294963200

@@ -4,3 +4,4 @@ pub mod Check
 pub mod Insert
 pub mod Create
 pub mod Dump
+pub mod Restore

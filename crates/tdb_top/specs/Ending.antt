@@ -1,5 +1,5 @@
 -- How a run ends: the status and the line of each ending, and what each is due to.
-use Rattle.std.specs.Prelude.{◌≡◌, ℕ, ◌≤◌, Bool, true, false, Option, None, Some, IsTrue, List, [], ◌∷◌, ◌++◌, ◌⊎◌, take, codes, decimal}
+use Rattle.std.specs.Prelude.{◌≡◌, ◌≢◌, ℕ, ◌≤◌, Bool, true, false, Option, None, Some, IsTrue, List, [], ◌∷◌, ◌++◌, ◌⊎◌, take, codes, decimal}
 use Rattle.tdb_words.specs.Header.{fault_text}
 use Rattle.tdb_words.specs.What.{what_text}
 use Rattle.tdb_disk.specs.Count.{Rose}
@@ -10,10 +10,10 @@ use Rattle.tdb_dump.specs.Line.{data_line}
 use Rattle.tdb_top.specs.declared.act.Act.{Act}
 use Rattle.tdb_top.specs.declared.look.Look.{Look}
 use Rattle.tdb_top.specs.declared.ask.Task.{Task}
-use Rattle.tdb_top.specs.declared.ask.Task.TheVariants.{Create, On, Read}
+use Rattle.tdb_top.specs.declared.ask.Task.TheVariants.{Create, On, Read, Restore}
 use Rattle.tdb_top.specs.declared.ending.Ending.{Ending}
-use Rattle.tdb_top.specs.declared.ending.Ending.TheVariants.{Replied, Refused, Missing, There, Usage, DeviceFault, NoMemory}
-use Rattle.tdb_top.specs.declared.ending.Reply.TheVariants.{Done, Value, Escaped, Dumped, KeyMissing, KeyThere, Full, Number}
+use Rattle.tdb_top.specs.declared.ending.Ending.TheVariants.{Replied, Refused, Missing, There, Usage, DeviceFault, InputFault, Malformed, NoMemory}
+use Rattle.tdb_top.specs.declared.ending.Reply.TheVariants.{Done, Value, Escaped, Dumped, Restored, KeyMissing, KeyThere, Full, Number}
 use Rattle.tdb_top.specs.declared.halt.Halt as H
 use Rattle.tdb_top.specs.declared.halt.Refusal.{Refusal}
 use Rattle.tdb_top.specs.declared.halt.Refusal.TheVariants.{TooLong, Header, Corrupt, NeedsRecovery}
@@ -46,6 +46,7 @@ answer (Replied Done) = says 0 (codes "ok")
 answer (Replied (Value value)) = tells 0 (data_line value)
 answer (Replied (Escaped value)) = tells 0 (escaped value)
 answer (Replied Dumped) = exits 0
+answer (Replied Restored) = exits 0
 answer (Replied (Number n)) = tells 0 (codes "number " ++ decimal n)
 answer (Replied KeyMissing) = says 1 (codes "noexist")
 answer (Replied KeyThere) = says 1 (codes "exists")
@@ -57,6 +58,8 @@ answer DeviceFault = says 4 (codes "device fault")
 answer NoMemory = says 5 (codes "memory")
 answer (Replied (Full len need)) = tells 6 (codes "full " ++ decimal len ++ codes " " ++ decimal need)
 answer (Refused (TooLong len)) = tells 6 (codes "toolong " ++ decimal len)
+answer (Malformed at) = tells 7 (codes "input malformed at " ++ decimal at)
+answer InputFault = says 8 (codes "input fault")
 answer (Missing name) = tells 9 (codes "missing " ++ name)
 answer (There name) = tells 9 (codes "there " ++ name)
 
@@ -101,7 +104,8 @@ pub record RefusesToRead (img : List ℕ) (e : Ending) : Type 0 where
   pub refused : e ≡ Refused refusal
 
 -- How a task on the file of this name ends, by what is held there, where no call failed and memory sufficed. An act and
--- a look are on a file that is there; a file is made where none is.
+-- a look are on a file that is there; a file is made where none is. How
+-- a restore ends where no file is depends on its input, and isn't due to what is held alone.
 abbrev pub TaskDue : Task → List ℕ → Option History → Ending → Type 0
 TaskDue (On act) name None e = e ≡ Missing name
 TaskDue (On act) name (Some h) e = Replies act (seen h) e ⊎ Refuses (seen h) e
@@ -109,6 +113,8 @@ TaskDue (Read look) name None e = e ≡ Missing name
 TaskDue (Read look) name (Some h) e = LookReplies look (seen h) e ⊎ RefusesToRead (seen h) e
 TaskDue (Create form) name None e = e ≡ Replied Done
 TaskDue (Create form) name (Some h) e = e ≡ There name
+TaskDue (Restore limit) name None e = ⊥
+TaskDue (Restore limit) name (Some h) e = e ≡ There name
 
 -- how a run ends that is asked for this, or for nothing, by what is held at each name
 abbrev pub Due : Option Ask → (List ℕ → Option History) → Ending → Type 0
@@ -164,8 +170,9 @@ pub record PrintsAll (o : Output) (e : Ending) (status : ℕ) : Type 0 where
   pub exits : status ≡ status_of e
   pub written : IsTrue o.tells → o.after ≡ o.before ++ text_of e
 
--- the output failed: it took a part of the line, from the first byte on
+-- the output failed: it took a part of the line, from the first byte on; where there is no line nothing is written
 pub record PrintsPart (o : Output) (e : Ending) (status : ℕ) : Type 0 where
+  pub some : text_of e ≢ []
   pub exits : status ≡ 8
   pub failed : Rose o.faults_before o.faults_after
   pub written : IsTrue o.tells → (n : ℕ) × (o.after ≡ o.before ++ take n (text_of e))

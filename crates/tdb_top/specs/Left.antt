@@ -1,18 +1,21 @@
 -- What a task leaves at the name of its file, by its ending.
-use Rattle.std.specs.Prelude.{◌≡◌, ℕ, Option, None, Some, List}
+use Rattle.std.specs.Prelude.{◌≡◌, ◌⊎◌, ℕ, IsTrue, IsSome, Option, None, Some, List}
 use Rattle.tdb_disk.specs.History.{History, seen}
 use Rattle.tdb_disk.specs.Names.{SameBut}
 use Rattle.tdb_top.specs.declared.act.Act.{Act}
 use Rattle.tdb_top.specs.declared.ask.Task.{Task}
-use Rattle.tdb_top.specs.declared.ask.Task.TheVariants.{Create, On, Read}
+use Rattle.tdb_top.specs.declared.ask.Task.TheVariants.{Create, On, Read, Restore}
 use Rattle.tdb_top.specs.declared.ending.Ending.{Ending}
-use Rattle.tdb_top.specs.declared.ending.Ending.TheVariants.{Replied, Refused, Missing, There, Usage, DeviceFault, NoMemory}
-use Rattle.tdb_top.specs.declared.ending.Reply.TheVariants.{Done}
+use Rattle.tdb_top.specs.declared.ending.Ending.TheVariants.{Replied, Refused, Missing, There, Usage, DeviceFault, InputFault, Malformed, NoMemory}
+use Rattle.tdb_top.specs.declared.ending.Reply.TheVariants.{Done, Restored}
 use Rattle.tdb_top.specs.declared.commands.create.NewForm.{NewForm}
 use Rattle.tdb_top.specs.declared.commands.create.Creation as Making
 use Rattle.tdb_top.specs.Acts.{reply_of, Left, Interrupted}
 use Rattle.tdb_top.specs.Ask.{Ask}
 use Rattle.tdb_top.specs.Commands.Create.{CreateLeaves}
+use Rattle.tdb_top.specs.Commands.Restore.{IsRestored}
+use Rattle.tdb_top.specs.Ending.{status_of}
+use Rattle.tdb_top.specs.Input.{Input}
 use Rattle.tdb_top.specs.Opening.{opened_bytes, SameOrUndone, UndoneIfOpen}
 
 -- What an act leaves of its file, which was there, where it ends so. It doesn't end as other tasks do.
@@ -24,6 +27,8 @@ ActLeaves act old NoMemory now = SameOrUndone old now
 ActLeaves act old (Missing name) now = ⊥
 ActLeaves act old (There name) now = ⊥
 ActLeaves act old Usage now = ⊥
+ActLeaves act old InputFault now = ⊥
+ActLeaves act old (Malformed at) now = ⊥
 
 -- what the making of a file leaves at its name where it ends so; it doesn't end as acts do
 abbrev pub MakingLeaves : NewForm → Option History → Ending → Option History → Type 0
@@ -34,15 +39,33 @@ MakingLeaves form old NoMemory now = CreateLeaves form.size form.order form.hash
 MakingLeaves form old (Refused refusal) now = ⊥
 MakingLeaves form old (Missing name) now = ⊥
 MakingLeaves form old Usage now = ⊥
+MakingLeaves form old InputFault now = ⊥
+MakingLeaves form old (Malformed at) now = ⊥
 
--- what a task leaves at the name of its file; where no file was, an act leaves none, and a look leaves what is there
-abbrev pub TaskLeaves : Task → Option History → Ending → Option History → Type 0
-TaskLeaves (On act) None e now = now ≡ None
-TaskLeaves (On act) (Some old) e now = (h : History) × (now ≡ Some h) × ActLeaves act old e h
-TaskLeaves (Read look) old e now = now ≡ old
-TaskLeaves (Create form) old e now = MakingLeaves form old e now
+-- what an act leaves at the name of its file; where none was it leaves none
+abbrev pub OnLeaves : Act → Option History → Ending → Option History → Type 0
+OnLeaves act None e now = now ≡ None
+OnLeaves act (Some old) e now = (h : History) × (now ≡ Some h) × ActLeaves act old e h
+
+-- a file was made of the pairs that the input had, where it tells them
+abbrev pub HasRestored : Input → Option History → Option History → Type 0
+HasRestored input old now = (h : History) × (old ≡ None) × (now ≡ Some h) × (IsTrue input.tells → IsRestored input.text h)
+
+-- What a restore leaves at the name of its file: what was there, but where it is done or a call of the files failed. Where
+-- it is done no file was there, and the new one has the pairs. A file that was there stays whatever the ending is.
+pub record RestoreLeaves (input : Input) (old : Option History) (e : Ending) (now : Option History) : Type 0 where
+  pub left : (now ≡ old) ⊎ (e ≡ Replied Restored) ⊎ (e ≡ DeviceFault)
+  pub done : status_of e ≡ 0 → HasRestored input old now
+  pub there : IsSome old → now ≡ old
+
+-- what a task leaves at the name of its file; a look leaves what is there
+abbrev pub TaskLeaves : Input → Task → Option History → Ending → Option History → Type 0
+TaskLeaves input (On act) old e now = OnLeaves act old e now
+TaskLeaves input (Read look) old e now = now ≡ old
+TaskLeaves input (Create form) old e now = MakingLeaves form old e now
+TaskLeaves input (Restore limit) old e now = RestoreLeaves input old e now
 
 -- what is left of all files by a run that is asked for this, or for nothing: at most the file of its name changes
-abbrev pub Leaving : Option Ask → (List ℕ → Option History) → Ending → (List ℕ → Option History) → Type 0
-Leaving None old e now = (name : List ℕ) → now name ≡ old name
-Leaving (Some ask) old e now = SameBut ask.file old now × TaskLeaves ask.task (old ask.file) e (now ask.file)
+abbrev pub Leaving : Input → Option Ask → (List ℕ → Option History) → Ending → (List ℕ → Option History) → Type 0
+Leaving input None old e now = (name : List ℕ) → now name ≡ old name
+Leaving input (Some ask) old e now = SameBut ask.file old now × TaskLeaves input ask.task (old ask.file) e (now ask.file)

@@ -1,11 +1,13 @@
 pub mod Limits
 pub mod Words
 pub mod Opening
+pub mod Input
 pub mod Commands
 pub mod Looks
 pub mod Ask
 pub mod Acts
 pub mod Ending
+pub mod Reads
 pub mod Left
 pub mod Printed
 pub mod Run

@@ -5,7 +5,7 @@ use Rattle.tdb_disk.specs.declared.sink.SinkFault.{SinkFault}
 use Rattle.tdb_top.specs.declared.look.Look.{Look}
 use Rattle.tdb_top.specs.declared.look.Look.TheVariants.{Dump, Value}
 use Rattle.tdb_top.specs.declared.ending.Ending.{Ending}
-use Rattle.tdb_top.specs.declared.ending.Ending.TheVariants.{Replied, Refused, Missing, There, Usage, DeviceFault, NoMemory}
+use Rattle.tdb_top.specs.declared.ending.Ending.TheVariants.{Replied, Refused, Missing, There, Usage, DeviceFault, InputFault, Malformed, NoMemory}
 use Rattle.tdb_top.specs.declared.ending.Reply.{Reply}
 use Rattle.tdb_top.specs.declared.ending.Reply.TheVariants.{Dumped}
 use Rattle.tdb_top.specs.Opening.{CanRead, IsRefusedToRead}
@@ -31,6 +31,8 @@ LookEnds look img NoMemory = Unit {0}
 LookEnds look img (Missing name) = ⊥
 LookEnds look img (There name) = ⊥
 LookEnds look img Usage = ⊥
+LookEnds look img InputFault = ⊥
+LookEnds look img (Malformed at) = ⊥
 
 -- what of a text stands before the line of a reply: all of it before the one that says so
 abbrev pub before_reply : Reply → List ℕ → List ℕ

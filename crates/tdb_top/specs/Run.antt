@@ -1,5 +1,5 @@
 -- What a run is: what it met, what it left, what it printed and how it exits; and what is promised of it.
-use Rattle.std.specs.Prelude.{◌≡◌, ◌≢◌, ◌⊎◌, ℕ, ◌≤◌, Option, None, Some, List, [], ◌∷◌, length, map, string_bytes, Contains, Bool, IsTrue}
+use Rattle.std.specs.Prelude.{◌≡◌, ◌≢◌, ◌⊎◌, ℕ, ◌≤◌, IsSome, Option, None, Some, List, [], ◌∷◌, length, map, string_bytes, Contains, Bool, IsTrue}
 use Rattle.std.specs.Prelude.{String}
 use Rattle.std.specs.Global.{Global}
 use Rattle.tdb_disk.specs.Count.{Rose}
@@ -7,7 +7,7 @@ use Rattle.tdb_disk.specs.History.{History, seen}
 use Rattle.tdb_space.specs.Opening.{Opens}
 use Rattle.tdb_top.specs.declared.act.Act.{Act}
 use Rattle.tdb_top.specs.declared.look.Look.{Look}
-use Rattle.tdb_top.specs.declared.ask.Task.TheVariants.{Create, On, Read}
+use Rattle.tdb_top.specs.declared.ask.Task.TheVariants.{Create, On, Read, Restore}
 use Rattle.tdb_top.specs.declared.commands.create.NewForm.{NewForm}
 use Rattle.tdb_top.specs.declared.commands.create.Creation.TheVariants.{Made, Device}
 use Rattle.tdb_top.specs.declared.ending.Ending.{Ending}
@@ -18,39 +18,46 @@ use Rattle.tdb_top.specs.Acts.{reply_of, Left, Interrupted}
 use Rattle.tdb_top.specs.Ending.{Due, status_of, Output}
 use Rattle.tdb_top.specs.Printed.{TextBefore, ask_tells, Writes}
 use Rattle.tdb_top.specs.Commands.Create.{CreateLeaves}
+use Rattle.tdb_top.specs.Commands.Restore.{ReadSo}
+use Rattle.tdb_top.specs.Input.{Input}
+use Rattle.tdb_top.specs.Left.{HasRestored}
+use Rattle.tdb_top.specs.Reads.{ask_reads}
 use Rattle.tdb_top.specs.Opening.{opened_bytes, OpensToRead, Undone, SameOrUndone, UndoneIfOpen}
 
 -- a run: what its words ask for, what is held at each name before and after, how often calls of the files had failed
--- before and after, what the output took, and the status that the program exits with
+-- before and after, what the input had, what the output took, and the status that the program exits with
 pub record Run : Type 0 where
   pub ask : Option Ask
   pub old : List ℕ → Option History
   pub now : List ℕ → Option History
   pub faults_before : ℕ
   pub faults_after : ℕ
+  pub input : Input
   pub output : Output
   pub status : ℕ
 
-abbrev pub run_by : List (String Global) → (List ℕ → Option History) → (List ℕ → Option History) → ℕ → ℕ → Output → ℕ → Run
-run_by words old now before after output status = record {
+abbrev pub run_by : List (String Global) → (List ℕ → Option History) → (List ℕ → Option History) → ℕ → ℕ → Input → Output → ℕ → Run
+run_by words old now before after input output status = record {
   ask = ask_of (map string_bytes words);
   old = old;
   now = now;
   faults_before = before;
   faults_after = after;
+  input = input;
   output = output;
   status = status;
 }
 
--- Why a run ends so that is asked for this, or for nothing: it is due; or it is asked for something and a call failed;
--- or memory was wanting.
-pub data MayEnd (ask : Option Ask) (held : List ℕ → Option History) (before after : ℕ) : Ending → Type 0 where
-  is_due : (e : Ending) → Due ask held e → MayEnd ask held before after e
-  call_failed : (a : Ask) → ask ≡ Some a → Rose before after → MayEnd ask held before after DeviceFault
-  memory_wanting : MayEnd ask held before after NoMemory
+-- Why a run ends so that is asked for this, or for nothing: it is due; or a restore was asked for, no file was at its
+-- name, and its input says so; or it is asked for something and a call failed; or memory was wanting.
+pub data MayEnd (ask : Option Ask) (held : List ℕ → Option History) (input : Input) (before after : ℕ) : Ending → Type 0 where
+  is_due : (e : Ending) → Due ask held e → MayEnd ask held input before after e
+  is_read : (e : Ending) (limit : ℕ) (name : List ℕ) → ask ≡ Some (record { file = name; task = Restore limit }) → held name ≡ None → ReadSo input limit e → MayEnd ask held input before after e
+  call_failed : (a : Ask) → ask ≡ Some a → Rose before after → MayEnd ask held input before after DeviceFault
+  memory_wanting : MayEnd ask held input before after NoMemory
 
 abbrev pub Cause : Run → Ending → Type 0
-Cause run e = MayEnd run.ask run.old run.faults_before run.faults_after e
+Cause run e = MayEnd run.ask run.old run.input run.faults_before run.faults_after e
 
 -- a status that tells of a failed call of the files, of want of memory, or of a failed output
 abbrev pub TellsFault : ℕ → Type 0
@@ -106,6 +113,13 @@ pub record MakingRun (form : NewForm) (old : Option History) (before after statu
   pub failed : status ≡ 4 → CreateLeaves form.size form.order form.hash old Device now
   pub kept : KeepsAll status → now ≡ old
 
+-- What a run leaves at the name of a file that is to be made of the pairs on the input. Where the status is neither 0 nor 4
+-- no file is left that wasn't there, unless a call of the files failed and then the output too.
+pub record RestoringRun (input : Input) (old : Option History) (before after status : ℕ) (now : Option History) : Type 0 where
+  pub done : status ≡ 0 → HasRestored input old now
+  pub there : IsSome old → now ≡ old
+  pub kept : status ≢ 0 → status ≢ 4 → (now ≡ old) ⊎ ((status ≡ 8) × Rose before after)
+
 -- what is held at a name is as before, or its file was undone
 abbrev pub HeldOrUndone : Option History → Option History → Type 0
 HeldOrUndone old now = (now ≡ old) ⊎ ((h : History) × (k : History) × (old ≡ Some h) × (now ≡ Some k) × Undone h k)
@@ -118,16 +132,20 @@ pub record LeavesFiles (run : Run) : Type 0 where
   pub absent : (act : Act) (name : List ℕ) → run.ask ≡ Some (record { file = name; task = On act }) → run.old name ≡ None → run.now name ≡ None
   pub made : (form : NewForm) (name : List ℕ) → run.ask ≡ Some (record { file = name; task = Create form })
       → MakingRun form (run.old name) run.faults_before run.faults_after run.status (run.now name)
+  pub restored : (limit : ℕ) (name : List ℕ) → run.ask ≡ Some (record { file = name; task = Restore limit })
+      → RestoringRun run.input (run.old name) run.faults_before run.faults_after run.status (run.now name)
   pub read : (look : Look) (name : List ℕ) → run.ask ≡ Some (record { file = name; task = Read look }) → run.now name ≡ run.old name
   pub kept : KeepsAll run.status → (name : List ℕ) → HeldOrUndone (run.old name) (run.now name)
 
 -- What a status tells whatever the files and the output tell of what they hold: the usage is answered exactly where the
 -- words ask for nothing, unless memory was wanting or the output failed; and a failed call is told, unless the output
--- failed too.
+-- failed too. Only a restore tells of the input, of which a failed read is told unless a call of the files failed too.
 pub record Accounted (run : Run) : Type 0 where
   pub usage : run.status ≡ 2 → run.ask ≡ None
   pub usage_exact : run.ask ≡ None → Contains (2 ∷ 5 ∷ 8 ∷ []) run.status
   pub device_fault : run.status ≡ 4 → Rose run.faults_before run.faults_after
   pub device_fault_told : run.status ≢ 4 → run.status ≢ 8 → run.faults_after ≡ run.faults_before
-  pub output_fault : run.status ≡ 8 → Rose run.output.faults_before run.output.faults_after
-  pub known : Contains (0 ∷ 1 ∷ 2 ∷ 3 ∷ 4 ∷ 5 ∷ 6 ∷ 8 ∷ 9 ∷ []) run.status
+  pub output_fault : run.status ≡ 8 → Rose run.output.faults_before run.output.faults_after ⊎ (IsTrue (ask_reads run.ask) × Rose run.input.faults_before run.input.faults_after)
+  pub malformed : run.status ≡ 7 → IsTrue (ask_reads run.ask)
+  pub input_fault_told : run.status ≢ 4 → run.status ≢ 8 → run.input.faults_after ≡ run.input.faults_before
+  pub known : Contains (0 ∷ 1 ∷ 2 ∷ 3 ∷ 4 ∷ 5 ∷ 6 ∷ 7 ∷ 8 ∷ 9 ∷ []) run.status

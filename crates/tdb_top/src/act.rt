@@ -10,8 +10,9 @@ ghost use Rattle.tdb_top.specs.declared.halt.Fault.TheVariants as FaultIs;
 ghost use Rattle.tdb_top.specs.declared.halt.Halt.TheVariants as HaltIs;
 ghost use Rattle.tdb_top.specs.Acts.{Acted, OpenedAndActed};
 ghost use Rattle.tdb_top.specs.Ask.{ActFits};
+ghost use Rattle.tdb_top.specs.Commands.Restore.{of_input};
 ghost use Rattle.tdb_top.specs.Ending.{TaskCause, CountedBy};
-ghost use Rattle.tdb_top.specs.Left.{TaskLeaves};
+ghost use Rattle.tdb_top.specs.Left.{OnLeaves};
 ghost use Rattle.tdb_top.specs.Opening.{IsCheckedOn};
 
 use crate::commands::check::check;
@@ -71,11 +72,12 @@ impl Act {
         requires fits { ActFits self.now }
         requires free { (other : List ℕ) → F.is_taken files.old other ≡ false }
         ensures cause { IsTrue F.D.tells → TaskCause (On self.now) name.now (F.held files.old name.now) (F.faults files.old) (F.faults files.new) result }
-        ensures left { IsTrue F.D.tells → TaskLeaves (On self.now) (F.held files.old name.now) result (F.held files.new name.now) }
+        ensures left { IsTrue F.D.tells → OnLeaves self.now (F.held files.old name.now) result (F.held files.new name.now) }
         ensures others { SameBut name.now (F.held files.old) (F.held files.new) }
         ensures given_back { (other : List ℕ) → F.is_taken files.new other ≡ false }
         ensures counted { CountedBy (F.faults files.old) (F.faults files.new) result }
         ensures asked { result ≡ Usage → ⊥ }
+        ensures unread { of_input result ≡ false }
     {
         match files.take(alloc, name, Take::Existing) {
             Ok(mut disk) => {

@@ -6,20 +6,25 @@ ghost use Rattle.tdb_disk.specs.Count.{HasCause};
 ghost use Rattle.tdb_disk.specs.Names.{SameBut};
 ghost use Rattle.tdb_top.specs.declared.ask.Task.TheVariants.{On as OnIs};
 ghost use Rattle.tdb_top.specs.declared.ending.Ending.TheVariants.{Usage};
-ghost use Rattle.tdb_top.specs.Ask.{asked, ask_of, dump_asks, tool_of as tool_asks, task_of as task_asked, TaskFits};
-ghost use Rattle.tdb_top.specs.Ending.{TaskCause, CountedBy};
+ghost use Rattle.tdb_top.specs.Ask.{asked, ask_of, dump_asks, restore_asks, tool_of as tool_asks, task_of as task_asked, TaskFits};
+ghost use Rattle.tdb_top.specs.Commands.Restore.{HeardBy, of_input};
+ghost use Rattle.tdb_top.specs.Ending.{CountedBy};
+ghost use Rattle.tdb_top.specs.Input.{input_by};
+ghost use Rattle.tdb_top.specs.Reads.{AskCause, reads_input};
 ghost use Rattle.tdb_top.specs.Left.{TaskLeaves};
 ghost use Rattle.tdb_top.specs.Looks.{ending_of, Began};
 ghost use Rattle.tdb_top.specs.Printed.{TaskText, task_tells};
 
 use crate::act::Act;
 use crate::commands::create::{NewForm, create_file};
+use crate::commands::restore::restore_file;
 use crate::commands::{check, create, dump, insert, show};
 use crate::ending::Ending;
+use crate::limits::LONGEST_FILE;
 use crate::look::Look;
 use crate::words::is_position;
 use std::alloc::{AllocError, Global};
-use tdb_disk::{Files, Sink, SinkFault};
+use tdb_disk::{Files, Sink, SinkFault, Source};
 
 /// What is to be done with a file.
 #[derive(Debug, Drop)]
@@ -32,6 +37,9 @@ pub(crate) enum Task {
 
     /// A command that reads a file alone.
     Read(Look),
+
+    /// To make it, of the pairs on the input. It may be up to `limit` bytes long.
+    Restore { limit: u64 },
 }
 
 /// What a command line asks for.
@@ -105,6 +113,21 @@ impl Ask {
         Ok(Some(Ask { file, task }))
     }
 
+    /// What the words behind `restore` ask for.
+    fn of_restore(alloc: Global, words: &[String]) -> Result<Option<Ask>, AllocError>
+        ensures read { IfOk result (λ ask. option_map asked ask ≡ restore_asks (map string_bytes words.now)) }
+        ensures fits { IfOk result (λ ask. IfSome ask (λ a. TaskFits a.task)) }
+    {
+        let Some(file) = dump::file_alone(words) else {
+            return Ok(None);
+        };
+        let file = String::from_str(alloc, file)?;
+        let task = Task::Restore {
+            limit: LONGEST_FILE,
+        };
+        Ok(Some(Ask { file, task }))
+    }
+
     /// What the words of a command line ask for, if anything. The memory that it takes is that of their bytes.
     pub(crate) fn of(alloc: Global, words: &[String]) -> Result<Option<Ask>, AllocError>
         ensures read { IfOk result (λ ask. option_map asked ask ≡ ask_of (map string_bytes words.now)) }
@@ -116,28 +139,32 @@ impl Ask {
         match program.as_str() {
             "tool" => Ask::of_tool(alloc, rest),
             "dump" => Ask::of_dump(alloc, rest),
+            "restore" => Ask::of_restore(alloc, rest),
             _ => Ok(None),
         }
     }
 
     /// Does over the files what is asked for. What is printed before the line of the ending is written to the output;
     /// where that fails, the rest isn't.
-    pub(crate) fn answer<F: Files, K: Sink>(
+    pub(crate) fn answer<F: Files, S: Source, K: Sink>(
         &self,
         alloc: Global,
         files: &mut F,
+        input: &mut S,
         output: &mut K,
     ) -> Result<Ending, SinkFault>
         requires fits { TaskFits self.now.task }
         requires free { (name : List ℕ) → F.is_taken files.old name ≡ false }
-        ensures cause { IsTrue F.D.tells → TaskCause self.now.task (string_bytes self.now.file) (F.held files.old (string_bytes self.now.file)) (F.faults files.old) (F.faults files.new) (ending_of result) }
-        ensures left { IsTrue F.D.tells → TaskLeaves self.now.task (F.held files.old (string_bytes self.now.file)) (ending_of result) (F.held files.new (string_bytes self.now.file)) }
+        ensures cause { IsTrue F.D.tells → AskCause (input_by S.tells (S.left input.old) (S.faults input.old) (S.faults input.new)) self.now.task (string_bytes self.now.file) (F.held files.old (string_bytes self.now.file)) (F.faults files.old) (F.faults files.new) (ending_of result) }
+        ensures left { IsTrue F.D.tells → TaskLeaves (input_by S.tells (S.left input.old) (S.faults input.old) (S.faults input.new)) self.now.task (F.held files.old (string_bytes self.now.file)) (ending_of result) (F.held files.new (string_bytes self.now.file)) }
         ensures others { SameBut (string_bytes self.now.file) (F.held files.old) (F.held files.new) }
         ensures given_back { (name : List ℕ) → F.is_taken files.new name ≡ false }
         ensures counted { CountedBy (F.faults files.old) (F.faults files.new) (ending_of result) }
         ensures began { IsTrue (task_tells self.now.task F.D.tells K.tells) → Began (TaskText self.now.task (F.held files.old (string_bytes self.now.file))) (K.written output.old) (K.written output.new) result }
         ensures output_cause { HasCause (K.faults output.old) (K.faults output.new) result }
         ensures asked { ending_of result ≡ Usage → ⊥ }
+        ensures heard { HeardBy (S.faults input.old) (S.faults input.new) (ending_of result) }
+        ensures unread { reads_input self.now.task ≡ false → (input.new ≡ input.old) × (of_input (ending_of result) ≡ false) }
     {
         let name = self.file.as_str();
         match &self.task {
@@ -147,6 +174,7 @@ impl Ask {
                 let creation = create_file(alloc, name, *form, files);
                 Ok(Ending::made(alloc, name, creation))
             }
+            Task::Restore { limit } => Ok(restore_file(alloc, name, *limit, files, input)),
         }
     }
 }

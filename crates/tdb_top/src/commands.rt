@@ -4,4 +4,5 @@ pub(crate) mod check;
 pub(crate) mod create;
 pub(crate) mod dump;
 pub(crate) mod insert;
+pub(crate) mod restore;
 pub(crate) mod show;

@@ -33,6 +33,9 @@ pub(crate) enum Reply {
     /// All pairs were printed. No line tells it.
     Dumped,
 
+    /// A file was made of the pairs on the input. No line tells it.
+    Restored,
+
     /// So many keys.
     Number(u64),
 
@@ -66,6 +69,12 @@ pub(crate) enum Ending {
 
     /// A call of the files or of a disk failed.
     DeviceFault,
+
+    /// A read of the input failed.
+    InputFault,
+
+    /// The input isn't dump text, or is too long, from the byte `at` on.
+    Malformed { at: u64 },
     NoMemory,
 }
 
@@ -172,7 +181,7 @@ impl Ending {
     {
         Status(match self {
             Ending::Replied(Reply::Done | Reply::Value(_) | Reply::Escaped(_)) => 0,
-            Ending::Replied(Reply::Dumped | Reply::Number(_)) => 0,
+            Ending::Replied(Reply::Dumped | Reply::Restored | Reply::Number(_)) => 0,
             Ending::Replied(Reply::KeyMissing | Reply::KeyThere) => 1,
             Ending::Usage => 2,
             Ending::Refused(Refusal::Header { fault: _ } | Refusal::Corrupt { what: _, at: _ }) => {
@@ -183,6 +192,8 @@ impl Ending {
             Ending::NoMemory => 5,
             Ending::Replied(Reply::Full { len: _, need: _ }) => 6,
             Ending::Refused(Refusal::TooLong { len: _ }) => 6,
+            Ending::Malformed { at: _ } => 7,
+            Ending::InputFault => 8,
             Ending::Missing(_) | Ending::There(_) => 9,
         })
     }
@@ -195,12 +206,13 @@ impl Ending {
     {
         match self {
             Ending::Replied(Reply::Done) => Some(b"ok\n"),
-            Ending::Replied(Reply::Dumped) => Some(b""),
+            Ending::Replied(Reply::Dumped | Reply::Restored) => Some(b""),
             Ending::Replied(Reply::KeyMissing) => Some(b"noexist\n"),
             Ending::Replied(Reply::KeyThere) => Some(b"exists\n"),
             Ending::Usage => Some(b"usage: tdb COMMAND [OPTIONS] FILE [WORDS]\n"),
             Ending::Refused(Refusal::NeedsRecovery) => Some(b"needs recovery\n"),
             Ending::DeviceFault => Some(b"device fault\n"),
+            Ending::InputFault => Some(b"input fault\n"),
             Ending::NoMemory => Some(b"memory\n"),
             _ => None,
         }
@@ -219,6 +231,10 @@ impl Ending {
             }
             Ending::Replied(Reply::Full { len, need }) => full_line(alloc, *len, *need),
             Ending::Refused(refusal) => refusal.line(alloc),
+            Ending::Malformed { at } => {
+                let mut number = Buffer::new();
+                joined(alloc, b"input malformed at ", number.format(*at).as_bytes())
+            }
             Ending::Missing(name) => joined(alloc, b"missing ", name.as_slice()),
             Ending::There(name) => joined(alloc, b"there ", name.as_slice()),
             _ => unreachable!(),
@@ -236,11 +252,14 @@ impl Ending {
     }
 }
 
-/// Writes a line to the output, and says the status: this one, or 8 where the output fails.
+/// Writes a line to the output, and says the status: this one, or 8 where the output fails. No line is no write.
 fn put<K: Sink>(output: &mut K, text: &[u8], status: Status) -> Status
     ensures { (e : EndingIs) → text.now ≡ text_of e → status.0 ≡ status_of e
         → Prints (output_by K.tells (K.written output.old) (K.written output.new) (K.faults output.old) (K.faults output.new)) e result.0 }
 {
+    if text.is_empty() {
+        return status;
+    }
     match output.write(text) {
         Ok(()) => status,
         Err(_) => Status(8),

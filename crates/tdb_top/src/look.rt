@@ -6,6 +6,7 @@ ghost use Rattle.tdb_disk.specs.History.{seen};
 ghost use Rattle.tdb_disk.specs.Names.{SameBut};
 ghost use Rattle.tdb_top.specs.declared.ask.Task.TheVariants.{Read as ReadIs};
 ghost use Rattle.tdb_top.specs.declared.ending.Ending.TheVariants.{Usage};
+ghost use Rattle.tdb_top.specs.Commands.Restore.{of_input};
 ghost use Rattle.tdb_top.specs.Ending.{TaskCause, CountedBy};
 ghost use Rattle.tdb_top.specs.Looks.{LookFits, LookEnds, LookText, look_tells, ending_of, Began};
 ghost use Rattle.tdb_top.specs.Opening.{CanRead, IsCheckedOn};
@@ -45,6 +46,7 @@ impl Look {
         ensures began { IsTrue (look_tells self.now D.tells K.tells) → Began (LookText self.now (Some (D.history disk.old))) (K.written output.old) (K.written output.new) result }
         ensures output_cause { HasCause (K.faults output.old) (K.faults output.new) result }
         ensures asked { ending_of result ≡ Usage → ⊥ }
+        ensures unread { of_input (ending_of result) ≡ false }
     {
         match self {
             Look::Dump => dump(alloc, disk, opened, output),
@@ -66,6 +68,7 @@ impl Look {
         ensures began { IsTrue (look_tells self.now D.tells K.tells) → Began (LookText self.now (Some (D.history disk.old))) (K.written output.old) (K.written output.new) result }
         ensures output_cause { HasCause (K.faults output.old) (K.faults output.new) result }
         ensures asked { ending_of result ≡ Usage → ⊥ }
+        ensures unread { of_input (ending_of result) ≡ false }
     {
         match Opened::open_to_read(alloc, disk) {
             Ok(opened) => self.perform(alloc, disk, &opened, output),
@@ -91,6 +94,7 @@ impl Look {
         ensures began { IsTrue (look_tells self.now F.D.tells K.tells) → Began (LookText self.now (F.held files.old name.now)) (K.written output.old) (K.written output.new) result }
         ensures output_cause { HasCause (K.faults output.old) (K.faults output.new) result }
         ensures asked { ending_of result ≡ Usage → ⊥ }
+        ensures unread { of_input (ending_of result) ≡ false }
     {
         match files.take(alloc, name, Take::ReadOnly) {
             Ok(mut disk) => {

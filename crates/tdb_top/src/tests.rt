@@ -116,7 +116,21 @@ pub(crate) fn run_words(
     requires { (name : List ℕ) → name_is_taken files.old name ≡ false }
     ensures { (name : List ℕ) → name_is_taken files.new name ≡ false }
 {
-    let mut input = MemSource::new(alloc, b"")?;
+    run_with(alloc, files, b"", output, words)
+}
+
+/// The same over an input.
+fn run_with(
+    alloc: Global,
+    files: &mut MemFiles,
+    text: &[u8],
+    output: &mut MemSink,
+    words: &str,
+) -> Result<(u8, Vec<u8>), AllocError>
+    requires { (name : List ℕ) → name_is_taken files.old name ≡ false }
+    ensures { (name : List ℕ) → name_is_taken files.new name ≡ false }
+{
+    let mut input = MemSource::new(alloc, text)?;
     let mut list = Vec::new(alloc);
     for word in words.split(' ') {
         list.push(String::from_str(alloc, word)?)?;
@@ -479,6 +493,30 @@ fn changes_with_a_failing_output(rt: HostRuntime) -> Result<(), Fail> {
         assert_eq!(rt; found, 8, "{words}");
         assert!(rt; printed.is_empty(), "{words}");
         assert_eq!(rt; files.get(name).unwrap_or(&[]).len(), len, "{words}");
+    }
+    Ok(())
+}
+
+#[test]
+fn restores(rt: HostRuntime) -> Result<(), Fail> {
+    let alloc = rt.alloc();
+    let mut files = MemFiles::new(alloc);
+    for (words, text, status, printed) in [
+        ("restore f.tdb", DUMP, 0, ""),
+        ("dump f.tdb", "", 0, DUMP),
+        ("restore f.tdb", DUMP, 9, "there f.tdb\n"),
+        (
+            "restore g.tdb",
+            "{\nkey(1) = \"\\0",
+            7,
+            "input malformed at 14\n",
+        ),
+        ("dump g.tdb", "", 9, "missing g.tdb\n"),
+    ] {
+        let mut output = MemSink::new(alloc);
+        let (found, bytes) = run_with(alloc, &mut files, text.as_bytes(), &mut output, words)?;
+        assert_eq!(rt; bytes.as_slice(), printed.as_bytes(), "{words}");
+        assert_eq!(rt; found, status, "{words}");
     }
     Ok(())
 }

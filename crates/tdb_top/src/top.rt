@@ -6,9 +6,12 @@ ghost use Rattle.tdb_top.specs.Ask.{ask_of};
 ghost use Rattle.tdb_disk.specs.Count.{HasCause};
 ghost use Rattle.tdb_top.specs.declared.ending.Ending.{Ending as EndingIs};
 ghost use Rattle.tdb_top.specs.Ending.{CountedBy, PrintedFor, output_by};
+ghost use Rattle.tdb_top.specs.Commands.Restore.{HeardBy, of_input};
+ghost use Rattle.tdb_top.specs.Input.{input_by};
 ghost use Rattle.tdb_top.specs.Left.{Leaving};
 ghost use Rattle.tdb_top.specs.Looks.{ending_of, Began};
 ghost use Rattle.tdb_top.specs.Printed.{TextBefore, ask_tells, Finishes};
+ghost use Rattle.tdb_top.specs.Reads.{ask_reads};
 ghost use Rattle.tdb_top.specs.Run.{run_by, MayEnd, Answered, RefusesExactly, LeavesFiles, Accounted};
 
 use crate::ask::Ask;
@@ -18,24 +21,27 @@ use tdb_disk::{Files, Sink, SinkFault, Source};
 
 /// Answers the words over the files. What is printed before the line of the ending is written to the output; where that
 /// fails, the rest isn't.
-fn answer<F: Files, K: Sink>(
+fn answer<F: Files, S: Source, K: Sink>(
     alloc: Global,
     words: &[String],
     files: &mut F,
+    input: &mut S,
     output: &mut K,
 ) -> Result<Ending, SinkFault>
     requires { (name : List ℕ) → F.is_taken files.old name ≡ false }
-    ensures cause { IsTrue F.D.tells → MayEnd (ask_of (map string_bytes words.now)) (F.held files.old) (F.faults files.old) (F.faults files.new) (ending_of result) }
-    ensures left { IsTrue F.D.tells → Leaving (ask_of (map string_bytes words.now)) (F.held files.old) (ending_of result) (F.held files.new) }
+    ensures cause { IsTrue F.D.tells → MayEnd (ask_of (map string_bytes words.now)) (F.held files.old) (input_by S.tells (S.left input.old) (S.faults input.old) (S.faults input.new)) (F.faults files.old) (F.faults files.new) (ending_of result) }
+    ensures left { IsTrue F.D.tells → Leaving (input_by S.tells (S.left input.old) (S.faults input.old) (S.faults input.new)) (ask_of (map string_bytes words.now)) (F.held files.old) (ending_of result) (F.held files.new) }
     ensures given_back { (name : List ℕ) → F.is_taken files.new name ≡ false }
     ensures counted { CountedBy (F.faults files.old) (F.faults files.new) (ending_of result) }
     ensures began { IsTrue (ask_tells (ask_of (map string_bytes words.now)) F.D.tells K.tells) → Began (TextBefore (ask_of (map string_bytes words.now)) (F.held files.old)) (K.written output.old) (K.written output.new) result }
     ensures output_cause { HasCause (K.faults output.old) (K.faults output.new) result }
+    ensures heard { HeardBy (S.faults input.old) (S.faults input.new) (ending_of result) }
+    ensures unread { ask_reads (ask_of (map string_bytes words.now)) ≡ false → (input.new ≡ input.old) × (of_input (ending_of result) ≡ false) }
     ensures usage { ending_of result ≡ Usage → ask_of (map string_bytes words.now) ≡ None }
     ensures usage_exact { ask_of (map string_bytes words.now) ≡ None → (ending_of result ≡ Usage) ⊎ (ending_of result ≡ NoMemory) }
 {
     match Ask::of(alloc, words) {
-        Ok(Some(ask)) => ask.answer(alloc, files, output),
+        Ok(Some(ask)) => ask.answer(alloc, files, input, output),
         Ok(None) => Ok(Ending::Usage),
         Err(_) => Ok(Ending::NoMemory),
     }
@@ -59,12 +65,15 @@ fn finish<K: Sink>(alloc: Global, answered: &Result<Ending, SinkFault>, output: 
 /// |---|---|---|
 /// | 0 | the value of the key is shown, the key is added, the file is made, or it is accepted and has `N` keys | `data(N) = "TEXT"`, `ok`, `ok`, `number N` |
 /// | 0 | all pairs are printed, or the value of the one key | their dump text, `TEXT` |
+/// | 0 | the file is made of the pairs on the input | |
 /// | 1 | the key isn't there, or is there already | `noexist`, `exists` |
 /// | 2 | the words ask for nothing | the usage |
 /// | 3 | the file is refused for a fault of its header, or for another fault, or a dump would have to undo a change first | `header KIND`, `corrupt WHAT AT`, `needs recovery` |
 /// | 4 | a call of the files or of a disk failed | `device fault` |
 /// | 5 | memory was wanting | `memory` |
 /// | 6 | the file of `LEN` bytes has no room for `NEED` more, or is too long itself | `full LEN NEED`, `toolong LEN` |
+/// | 7 | the input isn't dump text, or is too long, from its byte `N` on | `input malformed at N` |
+/// | 8 | a read of the input failed | `input fault` |
 /// | 8 | the output failed | a part of what was due, from its first byte on |
 /// | 9 | there is no file of this name, or there is one that was to be made | `missing NAME`, `there NAME` |
 ///
@@ -77,6 +86,10 @@ fn finish<K: Sink>(alloc: Global, answered: &Result<Ending, SinkFault>, output: 
 /// The command `dump [-k KEY] FILE` opens the file in the same way, but to read it alone: nothing is undone. Then it
 /// reads each record once more, in the order of the chains, and writes the pairs in pieces of at least 64 KiB; it holds
 /// one pair. With `-k` it looks up one value, and prints that.
+///
+/// The command `restore FILE` makes a file as `create` does, reads the input in pieces of 64 KiB, adds each pair without
+/// looking its key up, and syncs: time is linear in the text and in the file. It holds all keys, so as to refuse a
+/// second one. Where not all pairs come into the file, it is removed again.
 pub fn run<F: Files, S: Source, K: Sink>(
     alloc: Global,
     words: &[String],
@@ -88,22 +101,22 @@ pub fn run<F: Files, S: Source, K: Sink>(
 
     // The run ends in one way and prints the line of it, behind the text of a dump. Where the files tell what they hold
     // it has its cause, and what is due is what is answered.
-    ensures answered { Answered F.D.tells (run_by words.now (F.held files.old) (F.held files.new) (F.faults files.old) (F.faults files.new) (output_by K.tells (K.written output.old) (K.written output.new) (K.faults output.old) (K.faults output.new)) result.0) }
+    ensures answered { Answered F.D.tells (run_by words.now (F.held files.old) (F.held files.new) (F.faults files.old) (F.faults files.new) (input_by S.tells (S.left input.old) (S.faults input.old) (S.faults input.new)) (output_by K.tells (K.written output.old) (K.written output.new) (K.faults output.old) (K.faults output.new)) result.0) }
 
     // A file is refused exactly where its bytes can't be opened.
-    ensures refused { IsTrue F.D.tells → RefusesExactly (run_by words.now (F.held files.old) (F.held files.new) (F.faults files.old) (F.faults files.new) (output_by K.tells (K.written output.old) (K.written output.new) (K.faults output.old) (K.faults output.new)) result.0) }
+    ensures refused { IsTrue F.D.tells → RefusesExactly (run_by words.now (F.held files.old) (F.held files.new) (F.faults files.old) (F.faults files.new) (input_by S.tells (S.left input.old) (S.faults input.old) (S.faults input.new)) (output_by K.tells (K.written output.old) (K.written output.new) (K.faults output.old) (K.faults output.new)) result.0) }
 
     // At most the file that is asked for changes, and it is left as the status says.
-    ensures left { IsTrue F.D.tells → LeavesFiles (run_by words.now (F.held files.old) (F.held files.new) (F.faults files.old) (F.faults files.new) (output_by K.tells (K.written output.old) (K.written output.new) (K.faults output.old) (K.faults output.new)) result.0) }
+    ensures left { IsTrue F.D.tells → LeavesFiles (run_by words.now (F.held files.old) (F.held files.new) (F.faults files.old) (F.faults files.new) (input_by S.tells (S.left input.old) (S.faults input.old) (S.faults input.new)) (output_by K.tells (K.written output.old) (K.written output.new) (K.faults output.old) (K.faults output.new)) result.0) }
 
     // Whatever the files and the output tell: the usage comes exactly where the words ask for nothing, and each failed
     // call is told.
-    ensures accounted { Accounted (run_by words.now (F.held files.old) (F.held files.new) (F.faults files.old) (F.faults files.new) (output_by K.tells (K.written output.old) (K.written output.new) (K.faults output.old) (K.faults output.new)) result.0) }
+    ensures accounted { Accounted (run_by words.now (F.held files.old) (F.held files.new) (F.faults files.old) (F.faults files.new) (input_by S.tells (S.left input.old) (S.faults input.old) (S.faults input.new)) (output_by K.tells (K.written output.old) (K.written output.new) (K.faults output.old) (K.faults output.new)) result.0) }
 
-    // Every disk that was taken is given back, and the input isn't read.
+    // Every disk that was taken is given back, and the input isn't read but by a restore.
     ensures given_back { (name : List ℕ) → F.is_taken files.new name ≡ false }
-    ensures input_untouched { input.new ≡ input.old }
+    ensures input_untouched { ask_reads (ask_of (map string_bytes words.now)) ≡ false → input.new ≡ input.old }
 {
-    let answered = answer(alloc, words, files, output);
+    let answered = answer(alloc, words, files, input, output);
     finish(alloc, &answered, output)
 }

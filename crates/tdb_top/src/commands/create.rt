@@ -106,7 +106,7 @@ pub(crate) fn read(arguments: &[String]) -> Option<NewForm>
 /// Makes an empty disk a new file of 172 bytes and 4 for each chain: one call each to grow, to write the header and
 /// to sync. The
 /// heads of the free list and of the chains are the zeros that growing puts there.
-fn make<D: Disk>(disk: &mut D, form: NewForm) -> Result<(), DiskFault>
+pub(crate) fn make<D: Disk>(disk: &mut D, form: NewForm) -> Result<(), DiskFault>
     requires empty { D.size disk.old ≡ 0 }
     requires some { 0 < form.size }
     ensures made { OnOk result (IsTrue D.tells → IsMade form.size form.order form.hash (D.history disk.new)) }

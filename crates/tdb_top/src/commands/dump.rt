@@ -1,12 +1,13 @@
 // The command that prints all pairs of a file, or the value of one key alone.
 
-ghost use Rattle.std.specs.Prelude.{◌≡◌, ◌^◌, ◌<◌, Some, None, length, map, string_bytes, IsTrue, IfOk, IfSome};
+ghost use Rattle.std.specs.Prelude.{◌≡◌, ◌^◌, ◌<◌, Some, None, false, length, map, string_bytes, IsTrue, IfOk, IfSome};
 ghost use Rattle.std.specs.Option.{option_map};
 ghost use Rattle.tdb_disk.specs.Count.{HasCause};
 ghost use Rattle.tdb_disk.specs.History.{seen};
 ghost use Rattle.tdb_top.specs.declared.ending.Ending.TheVariants.{Usage};
 ghost use Rattle.tdb_top.specs.declared.look.Look.TheVariants.{Dump, Value};
 ghost use Rattle.tdb_top.specs.Commands.Dump as D;
+ghost use Rattle.tdb_top.specs.Commands.Restore.{of_input};
 ghost use Rattle.tdb_top.specs.Ending.{CountedBy};
 ghost use Rattle.tdb_top.specs.Looks.{LookFits, LookEnds, LookText, ending_of, Began};
 ghost use Rattle.tdb_top.specs.Opening.{CanRead, IsCheckedOn};
@@ -74,7 +75,7 @@ fn key_first<'a>(words: &'a [String]) -> Option<(&'a [u8], &'a [String])>
 }
 
 /// The file, where the words are nothing else.
-fn file_alone<'a>(words: &'a [String]) -> Option<&'a str>
+pub(crate) fn file_alone<'a>(words: &'a [String]) -> Option<&'a str>
     ensures { option_map (λ file. file.now) result ≡ D.file_alone (map string_bytes words.now) }
 {
     match words {
@@ -171,6 +172,7 @@ pub(crate) fn dump<D: Disk, K: Sink>(
     ensures began { IsTrue D.tells → IsTrue K.tells → Began (LookText Dump (Some (D.history disk.old))) (K.written output.old) (K.written output.new) result }
     ensures output_cause { HasCause (K.faults output.old) (K.faults output.new) result }
     ensures asked { ending_of result ≡ Usage → ⊥ }
+    ensures unread { of_input (ending_of result) ≡ false }
 {
     let mut space = Direct::new(disk, &opened.header);
     match write_pairs(alloc, &mut space, output) {
@@ -190,6 +192,7 @@ pub(crate) fn value<D: Disk>(alloc: Global, disk: &mut D, opened: &Opened, key: 
     ensures history { D.history disk.new ≡ D.history disk.old }
     ensures counted { CountedBy (D.faults disk.old) (D.faults disk.new) result }
     ensures asked { result ≡ Usage → ⊥ }
+    ensures unread { of_input result ≡ false }
 {
     match look_up(alloc, disk, opened, key) {
         Ok(Some(value)) => Ending::Replied(Reply::Escaped(value)),

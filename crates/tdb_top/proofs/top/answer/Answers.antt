@@ -1,13 +1,15 @@
-use Rattle.std.proofs.Common.{map, string_bytes, refl, subst}
+use Rattle.std.proofs.Common.{map, string_bytes, refl, ap, ◌∙◌, subst}
 use Rattle.std.specs.Prelude.{IsTrue}
 use Rattle.tdb_top.specs.declared.ending.Ending.TheVariants.{Usage, NoMemory}
 use Rattle.tdb_top.specs.Ending.{Due}
+use Rattle.tdb_top.specs.Input.{input_by}
+use Rattle.tdb_top.specs.Reads.{ask_reads}
 use Rattle.tdb_top.specs.Looks.{ending_of, Began}
 use Rattle.tdb_top.specs.Printed.{TaskText, TextBefore, ask_tells}
 use Rattle.tdb_top.specs.Run.{is_due, memory_wanting}
 use Rattle.tdb_top.specs.Ask.{asked, ask_of}
 use Rattle.tdb_top.specs.Left.{Leaving}
-use Rattle.tdb_top.proofs.Acting.{words_want}
+use Rattle.tdb_top.proofs.Acting.{words_want, not_heard}
 use Rattle.tdb_top.proofs.Looking.{nothing, began_as}
 use Rattle.tdb_top.proofs.Runs.{asked_cause}
 use Rattle.tdb_top.proofs.Writing.{nothing_before}
@@ -16,12 +18,14 @@ use Rattle.tdb_top.proofs.top.answer.Goals as goal
 -- what was asked for is done
 pub returns-in-Ok-Some-clause-cause : goal.returns-in-Ok-Some-clause-cause
 returns-in-Ok-Some-clause-cause g c told =
-    asked_cause (ask_of (map string_bytes c.args.words.now)) (asked c.in-Ok-Some.ask) (g.F.Files.held c.args.files.now) (g.F.Files.faults c.args.files.now) (g.F.Files.faults c.answer.new.files) (ending_of c.answer.result)
+    asked_cause (ask_of (map string_bytes c.args.words.now)) (asked c.in-Ok-Some.ask) (g.F.Files.held c.args.files.now)
+    (input_by g.S.Source.tells (g.S.Source.left c.args.input.now) (g.S.Source.faults c.args.input.now) (g.S.Source.faults c.answer.new.input))
+    (g.F.Files.faults c.args.files.now) (g.F.Files.faults c.answer.new.files) (ending_of c.answer.result)
     (rw c.in-Ok-Some.field-0-is at c.in-Ok-Some.ensures.read) (c.answer.ensures.cause told)
 
 pub returns-in-Ok-Some-clause-left : goal.returns-in-Ok-Some-clause-left
 returns-in-Ok-Some-clause-left g c told =
-    subst (λ a. Leaving a (g.F.Files.held c.args.files.now) (ending_of c.answer.result) (g.F.Files.held c.answer.new.files))
+    subst (λ a. Leaving (input_by g.S.Source.tells (g.S.Source.left c.args.input.now) (g.S.Source.faults c.args.input.now) (g.S.Source.faults c.answer.new.input)) a (g.F.Files.held c.args.files.now) (ending_of c.answer.result) (g.F.Files.held c.answer.new.files))
     (rw c.in-Ok-Some.field-0-is at c.in-Ok-Some.ensures.read) (c.answer.ensures.others, c.answer.ensures.left told)
 
 pub returns-in-Ok-Some-clause-began : goal.returns-in-Ok-Some-clause-began
@@ -49,4 +53,20 @@ returns-in-Err-clause-began g c told =
     nothing (TextBefore ask held) NoMemory (g.K.Sink.written c.args.output.now) (nothing_before ask held)
 
 pub returns-in-Err-clause-left : goal.returns-in-Err-clause-left
-returns-in-Err-clause-left g c told = words_want (ask_of (map string_bytes c.args.words.now)) (g.F.Files.held c.args.files.now)
+returns-in-Err-clause-left g c told = words_want (input_by g.S.Source.tells (g.S.Source.left c.args.input.now) (g.S.Source.faults c.args.input.now) (g.S.Source.faults c.args.input.now)) (ask_of (map string_bytes c.args.words.now)) (g.F.Files.held c.args.files.now)
+
+-- what is heard of the input
+pub returns-in-Ok-Some-clause-unread : goal.returns-in-Ok-Some-clause-unread
+returns-in-Ok-Some-clause-unread g c unread = c.answer.ensures.unread (ap ask_reads (rw c.in-Ok-Some.field-0-is at c.in-Ok-Some.ensures.read) ∙ unread)
+
+pub returns-in-Ok-None-clause-heard : goal.returns-in-Ok-None-clause-heard
+returns-in-Ok-None-clause-heard g c = not_heard _ _ Usage refl refl
+
+pub returns-in-Ok-None-clause-unread : goal.returns-in-Ok-None-clause-unread
+returns-in-Ok-None-clause-unread g c unread = (refl, refl)
+
+pub returns-in-Err-clause-heard : goal.returns-in-Err-clause-heard
+returns-in-Err-clause-heard g c = not_heard _ _ NoMemory refl refl
+
+pub returns-in-Err-clause-unread : goal.returns-in-Err-clause-unread
+returns-in-Err-clause-unread g c unread = (refl, refl)

@@ -1,8 +1,9 @@
 use Rattle.std.proofs.Common.{◌≡◌, true}
 use Rattle.tdb_top.specs.Ending.{output_by}
+use Rattle.tdb_top.specs.Input.{input_by}
 use Rattle.tdb_top.specs.Looks.{ending_of}
 use Rattle.tdb_top.specs.Run.{Run, Cause, run_by}
-use Rattle.tdb_top.proofs.Runs.{Printed, exits, printed_caused, exactly, refuses_exactly, leaves_files, accounted}
+use Rattle.tdb_top.proofs.Runs.{Printed, exits, restored_exits, printed_caused, exactly, refuses_exactly, leaves_files, accounted}
 use Rattle.tdb_top.proofs.Writing.{written}
 use Rattle.tdb_top.proofs.top.run.Goals as goal
 use Rattle.tdb_top.proofs.top.run.Goals.{After-finish}
@@ -11,12 +12,13 @@ use Rattle.tdb_top.proofs.top.run.Goals.{After-finish}
 abbrev ran : (g : _) (c : After-finish g) → Run
 ran g c =
     run_by c.args.words.now (g.F.Files.held c.args.files.now) (g.F.Files.held c.answer-answered.new.files) (g.F.Files.faults c.args.files.now) (g.F.Files.faults c.answer-answered.new.files)
+    (input_by g.S.Source.tells (g.S.Source.left c.args.input.now) (g.S.Source.faults c.args.input.now) (g.S.Source.faults c.answer-answered.new.input))
     (output_by g.K.Sink.tells (g.K.Sink.written c.args.output.now) (g.K.Sink.written c.finish.new.output) (g.K.Sink.faults c.args.output.now) (g.K.Sink.faults c.finish.new.output)) c.finish.result.0
 
 -- the ending that is printed has its cause
 caused : (g : _) (c : After-finish g) → g.F.D.Disk.tells ≡ true → Cause (ran g c) c.finish.ensures.0
 caused g c told =
-    printed_caused (ran g c).ask (ran g c).old (ran g c).faults_before (ran g c).faults_after c.finish.ensures.0 (ending_of c.answer-answered.result) c.finish.ensures.1 (c.answer-answered.ensures.cause told)
+    printed_caused (ran g c).ask (ran g c).old (ran g c).input (ran g c).faults_before (ran g c).faults_after c.finish.ensures.0 (ending_of c.answer-answered.result) c.finish.ensures.1 (c.answer-answered.ensures.cause told)
 
 -- what was printed
 prints : (g : _) (c : After-finish g) → Printed g.F.D.Disk.tells (ran g c) c.finish.ensures.0
@@ -42,9 +44,14 @@ returns-clause-refused g c told =
 pub returns-clause-left : goal.returns-clause-left
 returns-clause-left g c told =
     let a = (goal.at.returns-clause-left g c).After-finish in
-    leaves_files (ran g a) (ending_of c.answer-answered.result) (exits g.F.D.Disk.tells (ran g a) c.finish.ensures.0 (ending_of c.answer-answered.result) c.finish.ensures.1 (prints g a)) c.answer-answered.ensures.counted (c.answer-answered.ensures.left told)
+    leaves_files (ran g a) (ending_of c.answer-answered.result) (exits g.F.D.Disk.tells (ran g a) c.finish.ensures.0 (ending_of c.answer-answered.result) c.finish.ensures.1 (prints g a)) c.answer-answered.ensures.counted
+    (restored_exits g.F.D.Disk.tells (ran g a) c.finish.ensures.0 (ending_of c.answer-answered.result) c.finish.ensures.1 (prints g a)) (c.answer-answered.ensures.left told)
 
 pub returns-clause-accounted : goal.returns-clause-accounted
 returns-clause-accounted g c =
     let a = (goal.at.returns-clause-accounted g c).After-finish in
     accounted g.F.D.Disk.tells (ran g a) c.finish.ensures.0 (ending_of c.answer-answered.result) c.finish.ensures.1 (prints g a) c.answer-answered.ensures.counted c.answer-answered.ensures.usage c.answer-answered.ensures.usage_exact
+    c.answer-answered.ensures.heard (λ unread. (c.answer-answered.ensures.unread unread).1)
+
+pub returns-clause-input_untouched : goal.returns-clause-input_untouched
+returns-clause-input_untouched g c unread = (c.answer-answered.ensures.unread unread).0

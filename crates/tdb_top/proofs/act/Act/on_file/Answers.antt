@@ -5,7 +5,7 @@ use Rattle.tdb_disk.specs.declared.files.Take.TheVariants.{Existing, New}
 use Rattle.tdb_top.specs.declared.ask.Task.TheVariants.{On}
 use Rattle.tdb_top.specs.declared.halt.Halt.TheVariants.{Device}
 use Rattle.tdb_top.specs.Ending.{TaskCause}
-use Rattle.tdb_top.specs.Left.{TaskLeaves}
+use Rattle.tdb_top.specs.Left.{OnLeaves}
 use Rattle.tdb_top.proofs.Acting.{rose_earlier, replied_cause, replied_left, halted_cause, halted_left, untaken_cause, untaken_left}
 use Rattle.tdb_top.proofs.Held.{held_there}
 use Rattle.tdb_top.proofs.act.Act.on_file.Goals as goal
@@ -44,7 +44,7 @@ pub returns-in-Err-acted-clause-left : goal.returns-in-Err-acted-clause-left
 returns-in-Err-acted-clause-left g c told =
     let held = g.F.Files.held c.args.files.now c.args.name.now in
     let given = g.F.Files.held c.give.new.self c.args.name.now in
-    subst (λ e. TaskLeaves (On c.args.self.now) held e given) (sym c.from.ensures)
+    subst (λ e. OnLeaves c.args.self.now held e given) (sym c.from.ensures)
     (halted_left c.args.self.now c.args.name.now held (g.F.Files.faults c.args.files.now) (g.F.Files.faults c.give.new.self) (g.F.D.Disk.history c.in-Ok.disk) (there g ((goal.at.returns-in-Err-acted-clause-left g c).After-give) told)
     given (g.F.D.Disk.history c.on_disk-acted.new.disk) c.in-Err-acted.halt (c.give.ensures.held told) (c.in-Err-acted.ensures.acted told))
 
