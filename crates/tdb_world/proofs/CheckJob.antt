@@ -85,6 +85,12 @@ early_knows f a Records n is early = tt
 early_knows f a FreeList n is early = tt
 early_knows f a (Counted keys) n is early = absurd (omega (arith, is, early))
 
+-- a check that counts next knows that the image is accepted, with no record held
+pub accepted_before : (f : Form) (a : List ℕ) (d : Checking) (others : List HandPair) → ImageBefore f (Jobs.Check d) a others → d ≡ FreeList → AcceptWith f a []
+accepted_before f a d others B is =
+    let C = subst (λ z. ImageBefore f (Jobs.Check z) a others) is B in
+    subst (AcceptWith f a) C.may_be_out C.accepted
+
 step_knows : (f : Form) (a : List ℕ) (d e : Checking) (n : ℕ) (others : List HandPair) → CheckAfter d n → ImageBefore f (Jobs.Check d) a others → (n + 1 ≤ 3) × CheckAfter e (n + 1)
     → (AcceptWith f a [] → d ≡ FreeList → HasCounted f a e) → JobKnows f a (Jobs.Check e)
 step_knows f a Begun e n others is B next counted = early_knows f a e n next.1 (omega (arith, is))

@@ -2,6 +2,7 @@
 use Rattle.std.proofs.Common.{◌≡◌, ℕ, ◌+◌, ◌<◌, List, [], ◌∷◌, ◌++◌, length, slice_get, Option, Some, Result, Ok, Err, IfOk, OnOk, refl, sym, ap, subst, arith}
 use Rattle.tdb_space.specs.Form.{form_in}
 use Rattle.tdb_locks.specs.HeldLocks.{AreCounts}
+use Rattle.tdb_words.specs.declared.header.Header.{Header}
 use Rattle.tdb_law.specs.Events.{Joins, Given}
 use Rattle.tdb_plays.specs.declared.command.Command.{Command}
 use Rattle.tdb_plays.specs.InLaw.{law_opener, law_command}
@@ -82,3 +83,10 @@ module _ (w v : World) (who size : ℕ) (x : Opener) (c : Command) (F : IsFree w
       (subst (λ d. Given (state_in w img) (law_opener who) d (state_in (with_openers w) img)) A.command
       (subst (λ o. Given (state_in w img) o (command_in task.job) (state_in (with_openers w) img)) (sym (by_number who A.place A.counted))
       (gift_is_given (form_in w.header) w.options w.openers v.openers w.table img A.place x now task.job there A.put given)))
+
+abbrev header_of : World → Header
+header_of z = z.header
+
+-- the header stays where a command is given
+pub same_header : {w v : World} {who size : ℕ} {x : Opener} {c : Command} → IsAssigned w who x c size v → v.header ≡ w.header
+same_header A = ap header_of A.rest

@@ -36,3 +36,4 @@ pub mod TaskReady
 pub mod JobFiles
 pub mod LockingJob
 pub mod Coming
+pub mod Faultless

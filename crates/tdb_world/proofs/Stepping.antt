@@ -63,6 +63,12 @@ module _ (header : Header) (options : Options) (xs : List Opener) (ps : List Pie
   pub holds_before : (u : Task) → d.task ≡ Some u → (n : ℕ) × (who ≡ n + 1) × OpenerHolds (form_in header) (own_of options d) (command_in u.job) u.steps n ps
   holds_before u e = (B.number.place, B.number.counted, holds_at u e)
 
+  pub task_busy : d.task ≡ Some t
+  task_busy = has.busy
+
+  pub image_before : FileStands (form_in header) xs a → ImageBefore (form_in header) t.job a (other_hands xs B.number.place)
+  image_before F = image_is_ready (form_in header) options xs ps a size B.number.place d t W F has
+
   module _ (y : Opener) (qs : List Piece) (b : List ℕ) (turn : Turn) (L : Locked (form_in header) options d y who ps qs turn) where
     put : IsPut xs B.number.place y (slice_set xs (who - 1) y)
     put = put_numbered xs who B.number.place x y B.number.counted B.number.there

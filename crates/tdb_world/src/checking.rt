@@ -1,6 +1,7 @@
 // The turns of a check.
 
 ghost use Rattle.std.specs.Prelude.{◌≡◌, ◌≤◌, ℕ, List, [], IsTrue, IfOk, OnOk, OnErr, IfSome, length};
+ghost use Rattle.tdb_disk.specs.Count.{HasCause};
 ghost use Rattle.tdb_space.specs.Form.{Form};
 ghost use Rattle.tdb_space.specs.Accepted.{AcceptWith};
 ghost use Rattle.tdb_space.specs.Pairs.{order_of};
@@ -81,9 +82,11 @@ fn take_row(
 
 /// The count of a check, which has both its locks: it is told, or memory is wanting.
 ///
-/// `Io` where the disk failed, and where the file has a fault, which no command leaves.
+/// `Io` where the disk failed, and where the file has a fault, which no command leaves: so over an accepted file the disk
+/// failed.
 fn count<S: Space>(alloc: Global, s: &mut S) -> Result<Option<u64>, Io>
     ensures counted { IfOk result (λ live. IsTrue S.tells → AcceptWith (S.form s.old) (S.image s.old) [] → IfSome live (λ keys. keys ≡ length (order_of (S.form s.old) (S.image s.old)))) }
+    ensures cause { IsTrue S.tells → AcceptWith (S.form s.old) (S.image s.old) [] → HasCause (S.faults s.old) (S.faults s.new) result }
     ensures looked { Looked S.Space s.old s.new }
     ensures rises { S.faults s.old ≤ S.faults s.new }
     ensures done { OnOk result (S.faults s.new ≡ S.faults s.old) }
@@ -91,7 +94,8 @@ fn count<S: Space>(alloc: Global, s: &mut S) -> Result<Option<u64>, Io>
     match check(alloc, s) {
         Ok(report) => Ok(Some(report.live)),
         Err(CheckRefusal::Memory) => Ok(None),
-        Err(CheckRefusal::Io | CheckRefusal::Corrupt { .. }) => Err(Io),
+        Err(CheckRefusal::Io) => Err(Io),
+        Err(CheckRefusal::Corrupt { .. }) => Err(Io),
     }
 }
 
@@ -121,6 +125,7 @@ pub(crate) fn check_turn<S: Space>(
     ensures leaves { IfOk result (CheckLeaves checking.old checking.new) }
     ensures counted { IfOk result (λ turn. IsTrue S.tells → AcceptWith (S.form s.old) (S.image s.old) [] → checking.old ≡ Checking.FreeList → HasCounted (S.form s.old) (S.image s.old) checking.new) }
     ensures looked { Looked S.Space s.old s.new }
+    ensures cause { IsTrue S.tells → (checking.old ≡ Checking.FreeList → AcceptWith (S.form s.old) (S.image s.old) []) → HasCause (S.faults s.old) (S.faults s.new) result }
     ensures rises { S.faults s.old ≤ S.faults s.new }
     ensures done { OnOk result (S.faults s.new ≡ S.faults s.old) }
     ensures err { OnErr result (locks.new ≡ locks.old) }

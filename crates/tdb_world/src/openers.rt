@@ -119,6 +119,7 @@ impl Openers {
         ensures number { IfOk result (λ who. who ≡ length self.old.openers + 1) }
         ensures joined { IfOk result (λ who. self.new ≡ record self.old { openers = self.old.openers ++ fresh ∷ [] }) }
         ensures few { IfOk result (λ who. length self.old.openers < 1000) }
+        ensures header { self.new.header ≡ self.old.header }
         ensures many { IfErr result (λ e. (count : ℕ) → e ≡ JoinRefusal.Many count → (count ≡ 1000) × (length self.old.openers ≡ 1000)) }
         ensures memory { IfErr result (λ e. e ≡ JoinRefusal.Memory → length self.old.openers < 1000) }
         ensures err { OnErr result (self.new ≡ self.old) }
@@ -145,6 +146,7 @@ impl Openers {
         ensures joined { IfOk result (λ who. self.new ≡ record self.old { openers = self.old.openers ++ fresh ∷ [] }) }
         ensures few { IfOk result (λ who. length self.old.openers < 1000) }
         ensures stands { OnOk result ((img : List ℕ) (size : ℕ) → Stands self.old img size → Stands self.new img size) }
+        ensures header { self.new.header ≡ self.old.header }
         ensures bytes { OnOk result ((img : List ℕ) → BytesStand self.old img → BytesStand self.new img) }
         ensures joins { IfOk result (λ who. (img : List ℕ) (size : ℕ) → Stands self.old img size
             → Joins (form_in self.old.header) (state_in self.old img) (law_opener who) (state_in self.new img)) }
@@ -187,6 +189,7 @@ impl Openers {
         requires served { IsServed command }
         requires short { IsShortGiven command }
         ensures assigned { (size : ℕ) (x : Opener) → IsFree self.old who x → IsAssigned self.old who x command size self.new }
+        ensures header { self.new.header ≡ self.old.header }
         ensures stands { (img : List ℕ) (size : ℕ) → Stands self.old img size → Stands self.new img size }
         ensures bytes { (img : List ℕ) → BytesStand self.old img → BytesStand self.new img }
         ensures given { (img : List ℕ) → Given (state_in self.old img) (law_opener who) (law_command command) (state_in self.new img) }
@@ -194,8 +197,8 @@ impl Openers {
         self.give(who, command);
     }
 
-    /// Takes one turn of the opener's command, on the bytes of the file. After `Io` the command is given up and the world is spent: no
-    /// other turn may be taken.
+    /// Takes one turn of the opener's command, on the bytes of the file. After `Io` the command is given up, and no other turn may be taken
+    /// in the world: the disk failed, or a check found a fault in the file, which no turn leaves.
     ///
     /// Cost: that of the command's turn, and a search in the lock table; nothing is passed over that doesn't belong to it.
     pub fn turn<S: Space>(&mut self, s: &mut S, who: u32) -> Result<Turn, Io>
@@ -211,6 +214,7 @@ impl Openers {
         ensures options { self.new.options ≡ self.old.options }
         ensures longer { S.size s.old ≤ S.size s.new }
         ensures wrote { Wrote S.Space s.old s.new }
+        ensures cause { IsTrue S.tells → BytesStand self.old (S.image s.old) → HasCause (S.faults s.old) (S.faults s.new) result }
         ensures rises { S.faults s.old ≤ S.faults s.new }
         ensures done { OnOk result (S.faults s.new ≡ S.faults s.old) }
     {

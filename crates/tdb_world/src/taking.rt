@@ -61,6 +61,9 @@ impl Job {
         ensures longer { S.size s.old ≤ S.size s.new }
         ensures within { S.size s.new ≤ options.now.limit }
         ensures wrote { Wrote S.Space s.old s.new }
+        ensures cause { IsTrue S.tells → (n who : ℕ) (others : List HandPair)
+            → JobIsReady (S.form s.old) (own_with options.now live.old held.old) self.old n who owner (S.size s.old) locks.old
+            → ImageBefore (S.form s.old) self.old (S.image s.old) others → HasCause (S.faults s.old) (S.faults s.new) result }
         ensures rises { S.faults s.old ≤ S.faults s.new }
         ensures done { OnOk result (S.faults s.new ≡ S.faults s.old) }
     {
@@ -129,6 +132,8 @@ impl Opener {
         ensures within { S.size s.new ≤ options.now.limit }
         ensures longer { S.size s.old ≤ S.size s.new }
         ensures wrote { Wrote S.Space s.old s.new }
+        ensures cause { IsTrue S.tells → (t : Task) (who : ℕ) (others : List HandPair) → self.old.task ≡ Some t → owner ≡ who + 1 → ImageBefore (S.form s.old) t.job (S.image s.old) others
+            → HasCause (S.faults s.old) (S.faults s.new) result }
         ensures rises { S.faults s.old ≤ S.faults s.new }
         ensures done { OnOk result (S.faults s.new ≡ S.faults s.old) }
     {

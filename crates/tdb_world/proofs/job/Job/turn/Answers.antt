@@ -19,7 +19,7 @@ use Rattle.tdb_law.specs.Openers.{nowhere}
 use Rattle.tdb_law.specs.Held.{kept}
 use Rattle.tdb_law.specs.Images.{image_map}
 use Rattle.tdb_law.proofs.HandsOut.{image_answers}
-use Rattle.tdb_world.proofs.CheckJob.{of_three, of_four, has_keys, check_ready_alone, check_ready_holds, check_turned, check_file, check_image}
+use Rattle.tdb_world.proofs.CheckJob.{of_three, of_four, has_keys, check_ready_alone, check_ready_holds, check_turned, check_file, check_image, accepted_before}
 use Rattle.tdb_world.proofs.job.Job.turn.Goals as goal
 
 pub seqnum_turn-requires : goal.seqnum_turn-requires
@@ -189,3 +189,10 @@ returns-in-Check-clause-file g c =
       image = check_image f c.requires.few c.args.options.now c.args.live.now c.args.held.now c.requires.well.counts c.in-Check.checking n who c.args.owner size ps ready c.check_turn.new.checking turn a others leaves before (counted told);
     })))
     c.check_turn.ensures.locks c.check_turn.ensures.map c.check_turn.ensures.leaves c.check_turn.ensures.counted
+
+pub returns-in-Check-clause-cause : goal.returns-in-Check-clause-cause
+returns-in-Check-clause-cause g c told n who others J I =
+    let f = g.S.Space.form c.args.s.now in
+    let a = g.S.Space.image c.args.s.now in
+    let before = subst (λ j. ImageBefore f j a others) c.in-Check.is I in
+    c.check_turn.ensures.cause told (accepted_before f a c.in-Check.checking others before)

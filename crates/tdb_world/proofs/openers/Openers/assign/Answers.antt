@@ -1,5 +1,5 @@
 -- It is given as the law says, and the world stands as before.
-use Rattle.tdb_world.proofs.Coming.{counts_free, stands_given, bytes_given, is_given}
+use Rattle.tdb_world.proofs.Coming.{counts_free, same_header, stands_given, bytes_given, is_given}
 use Rattle.tdb_world.proofs.openers.Openers.assign.Goals as goal
 
 pub give-requires-clause-held : goal.give-requires-clause-held
@@ -19,3 +19,6 @@ pub returns-clause-given : goal.returns-clause-given
 returns-clause-given c img =
     let free = c.requires.free in
     is_given c.args.self.now c.give.new.self c.args.who 0 free.0 c.args.command free.1 (c.give.ensures 0 free.0 free.1) img
+
+pub returns-clause-header : goal.returns-clause-header
+returns-clause-header c = let free = c.requires.free in same_header (c.give.ensures 0 free.0 free.1)

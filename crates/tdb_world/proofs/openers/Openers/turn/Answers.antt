@@ -1,15 +1,15 @@
 -- A turn of the opener with the number is a turn of the world.
 use Rattle.std.proofs.Common.{◌≡◌, ◌+◌, ◌-◌, ℕ, slice_set, IsTrue, sym, ap, subst, ◌∙◌}
 use Rattle.tdb_space.specs.Form.{form_in}
-use Rattle.tdb_world.specs.Laws.{MayStand}
+use Rattle.tdb_world.specs.Laws.{MayStand, other_hands}
 use Rattle.tdb_law.specs.Turned.{Turned}
 use Rattle.tdb_plays.specs.InLaw.{law_opener, law_turn}
 use Rattle.tdb_steps.proofs.Made.{of_both}
 use Rattle.tdb_world.specs.States.{state_of}
 use Rattle.tdb_world.specs.Worlds.{IsBusy, Stands, BytesStand, state_in, law_of_task}
-use Rattle.tdb_world.specs.Turning.{OpenerHolds}
+use Rattle.tdb_world.specs.Turning.{OpenerHolds, ImageBefore}
 use Rattle.tdb_world.specs.Openers.{own_of, command_in}
-use Rattle.tdb_world.proofs.Stepping.{Locked, Filed, ok_so, ok_both, stands_before, holds_before, world_after, file_after, turned_after}
+use Rattle.tdb_world.proofs.Stepping.{Locked, Filed, ok_so, ok_both, stands_before, holds_before, task_busy, image_before, world_after, file_after, turned_after}
 use Rattle.tdb_world.proofs.openers.Openers.turn.Goals as goal
 
 pub turn-requires-clause-stands : goal.turn-requires-clause-stands
@@ -82,3 +82,22 @@ returns-clause-turned g c =
     (subst (λ w. BytesStand w a) (sym e) bytes)
     (subst (λ f. Filed f c.self.inside.options d y c.args.who c.self.inside.locks a b turn) form (T told))))
     c.turn.ensures.locks c.turn.ensures.file
+
+pub returns-clause-cause : goal.returns-clause-cause
+returns-clause-cause g c told bytes =
+    let e = c.self.view_is in
+    let form = c.requires.form ∙ ap (λ w. form_in w.header) (sym e) in
+    let header = c.self.inside.header in
+    let options = c.self.inside.options in
+    let xs = c.self.inside.list.items in
+    let ps = c.self.inside.locks in
+    let a = g.S.Space.image c.args.s.now in
+    let size = g.S.Space.size c.args.s.now in
+    let x = c.requires.busy.0 in
+    let t = c.requires.busy.1 in
+    let B = subst (λ w. IsBusy w c.args.who x t) (sym e) c.requires.busy.2 in
+    let W = subst (λ w. Stands w a size) (sym e) c.requires.stands in
+    let item = c.in-Some.ensures.item.1 in
+    let d = c.in-Some.opener.now in
+    c.turn.ensures.cause told t B.number.place (other_hands xs B.number.place) (task_busy header options xs ps a size c.args.who x d t B item W) B.number.counted
+    (subst (λ f. ImageBefore f t.job a (other_hands xs B.number.place)) (sym form) (image_before header options xs ps a size c.args.who x d t B item W (subst (λ w. BytesStand w a) (sym e) bytes)))
