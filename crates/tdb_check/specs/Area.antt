@@ -3,6 +3,7 @@ use Rattle.std.specs.Prelude.{ℕ, ◌+◌, ◌*◌, ◌%◌, ◌==◌, ◌||◌
 use Rattle.tdb_words.specs.declared.record.Rec.{Rec}
 use Rattle.tdb_words.specs.declared.record.TheConstants.{GATE_OPEN, GATE_SHUT}
 use Rattle.tdb_words.specs.declared.what.What.TheVariants.{AreaBad, UndoBad}
+use Rattle.tdb_words.specs.Header.{header_length}
 use Rattle.tdb_space.specs.Extents.{Extent as Held}
 use Rattle.tdb_space.specs.FirstFault.{Fault}
 use Rattle.tdb_check.specs.declared.extent.Extent.{Extent}
@@ -10,7 +11,7 @@ use Rattle.tdb_check.specs.Extent.{extent_seen}
 
 -- no record header can stand at an offset of a file of so many chains and of this length
 abbrev pub is_out_at : ℕ → ℕ → ℕ → Bool
-is_out_at chains len at = not (at % 4 == 0) || nat_lt at (168 + 4 * (chains + 1)) || nat_lt len (at + 24)
+is_out_at chains len at = not (at % 4 == 0) || nat_lt at (header_length + 4 * (chains + 1)) || nat_lt len (at + 24)
 
 -- what is wrong with an undo area that has this header, at this offset of a file of this length
 abbrev pub header_area_fault : Rec → ℕ → ℕ → Option Fault

@@ -4,7 +4,7 @@ use Rattle.std.specs.List.{IsDistinct}
 use Rattle.std.specs.Map.{keys_of}
 use Rattle.tdb_words.specs.declared.record.TheConstants.{USED, GATE_OPEN, GATE_SHUT, PADDING}
 use Rattle.tdb_words.specs.Word.{word}
-use Rattle.tdb_words.specs.Header.{HeaderOk}
+use Rattle.tdb_words.specs.Header.{HeaderOk, area_head}
 use Rattle.tdb_words.specs.Hash.{h_of}
 use Rattle.tdb_space.specs.Form.{Form, form_of, data_start, chain_head, free_head}
 use Rattle.tdb_space.specs.Record.{IsChained, IsFree, Fits, key_at, full_hash_of, rec_len_of, magic_of}
@@ -23,11 +23,11 @@ pub record AreaInPlace (f : Form) (img : List ℕ) (at : ℕ) : Type 0 where
 
 -- there is no undo area, or it is in place: the word at 44 is 0 or its offset
 abbrev pub AreaOk : Form → List ℕ → Type 0
-AreaOk f img = (word f.order img 44 ≡ 0) ⊎ AreaInPlace f img (word f.order img 44)
+AreaOk f img = (word f.order img area_head ≡ 0) ⊎ AreaInPlace f img (word f.order img area_head)
 
 -- there is no undo area, or its gate is shut: nothing has to be undone
 abbrev pub Shut : Form → List ℕ → Type 0
-Shut f img = (word f.order img 44 ≡ 0) ⊎ (magic_of f.order img (word f.order img 44) ≡ GATE_SHUT)
+Shut f img = (word f.order img area_head ≡ 0) ⊎ (magic_of f.order img (word f.order img area_head) ≡ GATE_SHUT)
 
 -- the used record at this offset has room for what it holds, and is filed in this chain by the hash of its key
 pub record Filed (f : Form) (img : List ℕ) (chain at : ℕ) : Type 0 where

@@ -6,6 +6,7 @@ use Rattle.tdb_words.specs.declared.word.Order.{Order}
 use Rattle.tdb_words.specs.Word.{word, bytes_of_word}
 use Rattle.tdb_words.specs.Record.{bytes_of_rec}
 use Rattle.tdb_words.specs.Hash.{h_of}
+use Rattle.tdb_words.specs.Header.{sequence_at}
 use Rattle.tdb_space.specs.Form.{Form, data_start, chain_head, free_head}
 use Rattle.tdb_space.specs.Record.{IsChained, IsFree, Whole, Fits, key_at, data_at, next_of, rec_len_of, full_hash_of, magic_of}
 use Rattle.tdb_space.specs.Chain.{Linked}
@@ -116,4 +117,4 @@ pub record PutFree (f : Form) (a b : List ℕ) (hand : HandPair) : Type 0 where
 -- two images differ at most in the sequence number, the word at 48
 pub record ButSequence (a b : List ℕ) : Type 0 where
   pub size : length b ≡ length a
-  pub others : (i : ℕ) → (i < 48) ⊎ (52 ≤ i) → slice_index b i ≡ slice_index a i
+  pub others : (i : ℕ) → (i < sequence_at) ⊎ (sequence_at + 4 ≤ i) → slice_index b i ≡ slice_index a i

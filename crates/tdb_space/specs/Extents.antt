@@ -2,6 +2,7 @@
 use Rattle.std.specs.Prelude.{◌≡◌, ℕ, ◌+◌, ◌≤◌, ◌%◌, ◌&&◌, ◌==◌, nat_lt, nat_le, List, [], ◌∷◌, ◌++◌, length, if◌then◌else◌}
 use Rattle.tdb_words.specs.declared.word.Order.{Order}
 use Rattle.tdb_words.specs.Word.{word}
+use Rattle.tdb_words.specs.Header.{area_head}
 use Rattle.tdb_space.specs.Form.{Form, data_start}
 use Rattle.tdb_space.specs.Record.{rec_len_of}
 use Rattle.tdb_space.specs.Pairs.{joined}
@@ -39,7 +40,7 @@ hand_extents (h ∷ hs) = (h.0, 24 + h.1) ∷ hand_extents hs
 
 -- the extent of the undo area, where the image has one: the word at 44 is its offset, or 0
 abbrev pub area : Order → List ℕ → List Extent
-area o img = if word o img 44 == 0 then [] else extent_at o img (word o img 44) ∷ []
+area o img = if word o img area_head == 0 then [] else extent_at o img (word o img area_head) ∷ []
 
 -- the extents of all chains, of the free list, of the undo area and of the hands; a record that two lists hold comes twice
 abbrev pub all_extents : Form → List ℕ → (ℕ → List ℕ) → List ℕ → List HandPair → List Extent

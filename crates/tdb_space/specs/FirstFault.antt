@@ -5,7 +5,7 @@ use Rattle.tdb_words.specs.declared.record.TheConstants.{USED, FREE, DEAD, GATE_
 use Rattle.tdb_words.specs.declared.what.What.{What}
 use Rattle.tdb_words.specs.declared.what.What.TheVariants.{Short, Header, AreaBad, UndoBad, ChainOut, ChainLoop, BadRecord, Tailer, WrongHash, TwiceKey, FreeOut, FreeLoop, Overlap, Stray}
 use Rattle.tdb_words.specs.Word.{word}
-use Rattle.tdb_words.specs.Header.{header_fault}
+use Rattle.tdb_words.specs.Header.{header_fault, area_head, header_length}
 use Rattle.tdb_words.specs.Hash.{h_of}
 use Rattle.tdb_space.specs.Form.{Form, form_of, data_start, chain_head, free_head}
 use Rattle.tdb_space.specs.Record.{rec_len_of, key_len_of, data_len_of, full_hash_of, magic_of, key_at}
@@ -25,7 +25,7 @@ is_short f img = not (length img % 4 == 0) || nat_lt (length img) (data_start f)
 -- the front: the length is too short for a header, the header has a fault, or the length is none of a file with this header
 abbrev pub front_fault : List ℕ → Option Fault
 front_fault img =
-    if nat_lt (length img) 168 then Some (Short, length img)
+    if nat_lt (length img) header_length then Some (Short, length img)
     else if is_some (header_fault img) then Some (Header, 0)
     else if is_short (form_of img) img then Some (Short, length img)
     else None
@@ -41,7 +41,7 @@ is_long f img at = not (rec_len_of f.order img at % 4 == 0) || nat_lt (length im
 -- an undo area at an offset: it can't stand there, its length doesn't fit, its gate is open, or its gate word is neither of the two
 abbrev pub area_fault_at : Form → List ℕ → ℕ → Option Fault
 area_fault_at f img at =
-    if is_out f img at then Some (AreaBad, 44)
+    if is_out f img at then Some (AreaBad, area_head)
     else if is_long f img at then Some (AreaBad, at + 4)
     else if magic_of f.order img at == GATE_OPEN then Some (UndoBad, at + 20)
     else if not (magic_of f.order img at == GATE_SHUT) then Some (AreaBad, at + 20)
@@ -49,7 +49,7 @@ area_fault_at f img at =
 
 -- the undo area, where the word at 44 says that there is one
 abbrev pub area_fault : Form → List ℕ → Option Fault
-area_fault f img = if word f.order img 44 == 0 then None else area_fault_at f img (word f.order img 44)
+area_fault f img = if word f.order img area_head == 0 then None else area_fault_at f img (word f.order img area_head)
 
 -- which list a record is met in: the chain of a number, or the free list
 pub data ListKind : Type 0 where

@@ -3,7 +3,7 @@ use Rattle.std.specs.Prelude.{◌≡◌, ℕ, ◌+◌, ◌*◌, ◌<◌, ◌≤�
 use Rattle.tdb_words.specs.declared.word.Order.{Order}
 use Rattle.tdb_words.specs.declared.hash.HashKind.{HashKind}
 use Rattle.tdb_words.specs.declared.header.Header.{Header}
-use Rattle.tdb_words.specs.Header.{header_order, header_hash, hash_size_of}
+use Rattle.tdb_words.specs.Header.{header_order, header_hash, hash_size_of, area_head, header_length, known_length, sequence_at}
 
 -- the byte order of the words, the hash by which keys are filed, and the number of chains
 pub record Form : Type 0 where
@@ -29,9 +29,9 @@ chain_head j = 172 + 4 * j
 
 -- the offset at which the records begin, behind the last chain head
 abbrev pub data_start : Form → ℕ
-data_start f = 168 + 4 * (f.chains + 1)
+data_start f = header_length + 4 * (f.chains + 1)
 
 -- two images have the same bytes by which a header is known: those below 44, and those from 52 to 63. Between them stand the
 -- offset of the undo area and the sequence number
 abbrev pub SameHeader : List ℕ → List ℕ → Type 0
-SameHeader a b = (i : ℕ) → (i < 44) ⊎ ((52 ≤ i) × (i < 64)) → slice_index b i ≡ slice_index a i
+SameHeader a b = (i : ℕ) → (i < area_head) ⊎ ((sequence_at + 4 ≤ i) × (i < known_length)) → slice_index b i ≡ slice_index a i

@@ -3,6 +3,7 @@ use Rattle.std.specs.Prelude.{◌≡◌, ℕ, ◌+◌, ◌-◌, ◌%◌, ◌<◌
 use Rattle.tdb_disk.specs.Image.{overlay}
 use Rattle.tdb_words.specs.declared.record.TheConstants.{GATE_OPEN, GATE_SHUT}
 use Rattle.tdb_words.specs.Word.{word, bytes_of_word}
+use Rattle.tdb_words.specs.Header.{area_head}
 use Rattle.tdb_space.specs.Form.{Form, form_of}
 use Rattle.tdb_space.specs.Record.{rec_len_of, magic_of}
 use Rattle.tdb_space.specs.Chain.{chain_of, free_of}
@@ -27,7 +28,7 @@ gate_shut f a = with_gate_word GATE_SHUT f a
 
 -- From image a to image b only the undo area changes, but neither its length nor its gate, which is shut
 pub record InContent (f : Form) (a b : List ℕ) : Type 0 where
-  pub some : word f.order a 44 ≡ 0 → ⊥
+  pub some : word f.order a area_head ≡ 0 → ⊥
   pub size : length b ≡ length a
   pub others : (i : ℕ) → (i < area_at f a) ⊎ (area_end f a ≤ i) → slice_index b i ≡ slice_index a i
   pub rec_len : rec_len_of f.order b (area_at f a) ≡ rec_len_of f.order a (area_at f a)

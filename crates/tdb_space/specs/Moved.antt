@@ -5,6 +5,7 @@ use Rattle.tdb_space.specs.Chain.{chain_of, free_of}
 use Rattle.tdb_space.specs.Pairs.{joined, order_of, map_of}
 use Rattle.tdb_space.specs.Extents.{times, extents, area}
 use Rattle.tdb_space.specs.Accepted.{AreaOk, Shut, AcceptWith}
+use Rattle.tdb_words.specs.Header.{area_head, sequence_at}
 
 -- From image a to image b the length and the undo area may become others. Below the records only the words at 44 and 48 may change.
 -- The records of all lists stay, byte for byte, and lie within b. The undo area of b is in place, shut, and holds no byte of theirs.
@@ -12,7 +13,7 @@ use Rattle.tdb_space.specs.Accepted.{AreaOk, Shut, AcceptWith}
 pub record AreaMoved (f : Form) (a b : List ℕ) : Type 0 where
   pub sized : length b % 4 ≡ 0
   pub long : data_start f ≤ length b
-  pub low : (i : ℕ) → i < data_start f → (i < 44) ⊎ (52 ≤ i) → slice_index b i ≡ slice_index a i
+  pub low : (i : ℕ) → i < data_start f → (i < area_head) ⊎ (sequence_at + 4 ≤ i) → slice_index b i ≡ slice_index a i
   pub chains : (k : ℕ) → k < f.chains → (i : ℕ) → 1 ≤ times (extents f.order a (chain_of f a k)) i → (i < length b) × (slice_index b i ≡ slice_index a i)
   pub frees : (i : ℕ) → 1 ≤ times (extents f.order a (free_of f a)) i → (i < length b) × (slice_index b i ≡ slice_index a i)
   pub area_ok : AreaOk f b

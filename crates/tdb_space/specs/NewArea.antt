@@ -2,6 +2,7 @@
 use Rattle.std.specs.Prelude.{◌≡◌, ℕ, ◌+◌, ◌%◌, ◌<◌, ◌≤◌, ◌⊎◌, List, [], ◌∷◌, length, slice_index}
 use Rattle.tdb_words.specs.declared.record.TheConstants.{GATE_SHUT}
 use Rattle.tdb_words.specs.Word.{word}
+use Rattle.tdb_words.specs.Header.{area_head}
 use Rattle.tdb_space.specs.Form.{Form, data_start}
 use Rattle.tdb_space.specs.Record.{rec_len_of, magic_of}
 use Rattle.tdb_space.specs.Chain.{chain_of, free_of}
@@ -24,33 +25,33 @@ pub record Longer (a c : List ℕ) : Type 0 where
 -- the first one.
 pub record AreaSet (f : Form) (a b : List ℕ) (x n : ℕ) : Type 0 where
   pub size : length b ≡ length a
-  pub there : word f.order b 44 ≡ x
+  pub there : word f.order b area_head ≡ x
   pub rec_len : rec_len_of f.order b x ≡ n
   pub shut : magic_of f.order b x ≡ GATE_SHUT
   pub aligned : x % 4 ≡ 0
   pub len_aligned : n % 4 ≡ 0
   pub above : data_start f ≤ x
   pub within : x + 24 + n ≤ length a
-  pub beside : (i : ℕ) → (i < 44) ⊎ (48 ≤ i) → (i < x) ⊎ (x + 24 + n ≤ i) → slice_index b i ≡ slice_index a i
+  pub beside : (i : ℕ) → (i < area_head) ⊎ (area_head + 4 ≤ i) → (i < x) ⊎ (x + 24 + n ≤ i) → slice_index b i ≡ slice_index a i
   pub left : (i : ℕ) → 1 ≤ times (area f.order a) i → (i < x) ⊎ (x + 24 + n ≤ i) → slice_index a i ≡ 0
   pub apart : (i : ℕ) → x ≤ i → i < x + 24 + n → times (joined f.chains (λ k. extents f.order a (chain_of f a k))) i + times (extents f.order a (free_of f a)) i ≡ 0
 
 -- From image a to image b the undo area, of which all is 0, is given up: the word at 44 is 0, and nothing else changes
 pub record AreaDropped (f : Form) (a b : List ℕ) : Type 0 where
   pub size : length b ≡ length a
-  pub none : word f.order b 44 ≡ 0
-  pub beside : (i : ℕ) → (i < 44) ⊎ (48 ≤ i) → slice_index b i ≡ slice_index a i
+  pub none : word f.order b area_head ≡ 0
+  pub beside : (i : ℕ) → (i < area_head) ⊎ (area_head + 4 ≤ i) → slice_index b i ≡ slice_index a i
   pub left : (i : ℕ) → 1 ≤ times (area f.order a) i → slice_index a i ≡ 0
 
 -- From image a to image b the undo area at an offset, with room for n bytes, becomes a hand: the word at 44 is 0, the bytes of the area
 -- may be any, and nothing else changes
 pub record GivenUp (f : Form) (a b : List ℕ) (at n : ℕ) : Type 0 where
-  pub some : word f.order a 44 ≡ 0 → ⊥
-  pub there : word f.order a 44 ≡ at
+  pub some : word f.order a area_head ≡ 0 → ⊥
+  pub there : word f.order a area_head ≡ at
   pub rec_len : rec_len_of f.order a at ≡ n
   pub size : length b ≡ length a
-  pub none : word f.order b 44 ≡ 0
-  pub beside : (i : ℕ) → (i < 44) ⊎ (48 ≤ i) → (i < at) ⊎ (at + 24 + n ≤ i) → slice_index b i ≡ slice_index a i
+  pub none : word f.order b area_head ≡ 0
+  pub beside : (i : ℕ) → (i < area_head) ⊎ (area_head + 4 ≤ i) → (i < at) ⊎ (at + 24 + n ≤ i) → slice_index b i ≡ slice_index a i
 
 -- all bytes of the undo area behind its header are 0
 abbrev pub BareArea : Form → List ℕ → Type 0
@@ -58,7 +59,7 @@ BareArea f a = (i : ℕ) → area_at f a + 24 ≤ i → i < area_end f a → sli
 
 -- From image a to image b only words of the undo area's header change, but not its gate; its length stays or is 0
 pub record HeaderOnly (f : Form) (a b : List ℕ) : Type 0 where
-  pub some : word f.order a 44 ≡ 0 → ⊥
+  pub some : word f.order a area_head ≡ 0 → ⊥
   pub size : length b ≡ length a
   pub others : (i : ℕ) → (i < area_at f a) ⊎ (area_at f a + 20 ≤ i) → slice_index b i ≡ slice_index a i
   pub len : (rec_len_of f.order b (area_at f a) ≡ rec_len_of f.order a (area_at f a)) ⊎ (rec_len_of f.order b (area_at f a) ≡ 0)

@@ -6,7 +6,7 @@ use Rattle.tdb_words.specs.declared.record.TheConstants.{GATE_OPEN}
 use Rattle.tdb_words.specs.declared.what.What.TheVariants.{UndoBad}
 use Rattle.tdb_words.specs.declared.word.Order.{Order}
 use Rattle.tdb_words.specs.Word.{word}
-use Rattle.tdb_words.specs.Header.{HeaderOk}
+use Rattle.tdb_words.specs.Header.{HeaderOk, area_head}
 use Rattle.tdb_space.specs.Form.{Form, form_of, data_start, SameHeader}
 use Rattle.tdb_space.specs.Record.{rec_len_of, key_len_of, data_len_of, magic_of}
 use Rattle.tdb_space.specs.Pairs.{map_of}
@@ -43,7 +43,7 @@ entries_end o img at = at + 24 + data_len_of o img at
 
 -- The entries of the undo area. Each has 8 bytes at least, so there are no more of them than bytes of theirs.
 abbrev pub entries : Form → List ℕ → List Entry
-entries f img = entries_from f.order img (data_len_of f.order img (word f.order img 44)) (word f.order img 44 + 24) (entries_end f.order img (word f.order img 44))
+entries f img = entries_from f.order img (data_len_of f.order img (word f.order img area_head)) (word f.order img area_head + 24) (entries_end f.order img (word f.order img area_head))
 
 -- The area's key_len is the length that the file had. It is no such length: it lies before the data, passes the end, or cuts the
 -- undo area at this offset in two.
@@ -70,12 +70,12 @@ undo_fault_at f img at es =
 
 -- what is wrong with the undo area of an image whose gate is open, by the first of these conditions
 abbrev pub undo_fault : Form → List ℕ → Option Fault
-undo_fault f img = undo_fault_at f img (word f.order img 44) (entries f img)
+undo_fault f img = undo_fault_at f img (word f.order img area_head) (entries f img)
 
 -- the undo area of an image is in place and its gate is open, and nothing is wrong with what it keeps
 pub record Undoable (f : Form) (img : List ℕ) : Type 0 where
-  pub in_place : AreaInPlace f img (word f.order img 44)
-  pub gate_open : magic_of f.order img (word f.order img 44) ≡ GATE_OPEN
+  pub in_place : AreaInPlace f img (word f.order img area_head)
+  pub gate_open : magic_of f.order img (word f.order img area_head) ≡ GATE_OPEN
   pub no_fault : undo_fault f img ≡ None
 
 -- an entry covers a byte of the file
@@ -101,7 +101,7 @@ lies_in from count i = nat_le from i && nat_lt i (from + count)
 abbrev pub undone_byte : Order → List ℕ → ℕ → List Entry → ℕ → ℕ
 undone_byte o img at es i =
     if lies_in (at + 20) 4 i then 0
-    else if lies_in 44 4 i then (if nat_le (key_len_of o img at) at then 0 else slice_index img i)
+    else if lies_in area_head 4 i then (if nat_le (key_len_of o img at) at then 0 else slice_index img i)
     else if lies_in at (24 + rec_len_of o img at) i then slice_index img i
     else given_back (last_covering es i) i (slice_index img i)
 
@@ -112,13 +112,13 @@ undone o img at es = map (undone_byte o img at es) (range_with_len 0 (key_len_of
 -- the undo area of an image stands within it, and its gate is open
 abbrev pub is_open : Form → List ℕ → Bool
 is_open f img =
-    not (is_out f img (word f.order img 44)) && not (is_long f img (word f.order img 44)) && (magic_of f.order img (word f.order img 44) == GATE_OPEN)
+    not (is_out f img (word f.order img area_head)) && not (is_long f img (word f.order img area_head)) && (magic_of f.order img (word f.order img area_head) == GATE_OPEN)
 
 -- The image that a file is read as: with an open gate what the undo gives, and else the file as it is. It says something only
 -- where the gate is shut, there is no undo area, or the image is Undoable. An entry may cover the header too, so what this gives
 -- may have another form.
 abbrev pub restored : Form → List ℕ → List ℕ
-restored f img = if is_open f img then undone f.order img (word f.order img 44) (entries f img) else img
+restored f img = if is_open f img then undone f.order img (word f.order img area_head) (entries f img) else img
 
 -- The image can be opened: its header is one of ours, the length is a whole number of words and reaches the data, the undo area is
 -- in place, it has nothing to undo or can be undone, and what that gives is accepted.
@@ -150,7 +150,7 @@ ReadAsItIs = (f : Form) (img : List ℕ) → Shut f img → restored f img ≡ i
 
 -- one that can be undone is read as what the undo gives
 abbrev pub ReadUndone : Type 0
-ReadUndone = (f : Form) (img : List ℕ) → Undoable f img → restored f img ≡ undone f.order img (word f.order img 44) (entries f img)
+ReadUndone = (f : Form) (img : List ℕ) → Undoable f img → restored f img ≡ undone f.order img (word f.order img area_head) (entries f img)
 
 -- after an undo the undo area is in place, if there is one, and there is nothing more to undo
 abbrev pub UndoneOnce : Type 0

@@ -5,7 +5,7 @@ use Rattle.tdb_words.specs.declared.record.TheConstants.{GATE_OPEN, GATE_SHUT}
 use Rattle.tdb_words.specs.declared.header.HeaderFault.{HeaderFault}
 use Rattle.tdb_words.specs.declared.what.What.TheVariants.{Header, AreaBad}
 use Rattle.tdb_words.specs.Word.{word}
-use Rattle.tdb_words.specs.Header.{header_fault}
+use Rattle.tdb_words.specs.Header.{header_fault, area_head}
 use Rattle.tdb_space.specs.Form.{Form, form_of}
 use Rattle.tdb_space.specs.Record.{magic_of}
 use Rattle.tdb_space.specs.Accepted.{Shut}
@@ -16,7 +16,7 @@ use Rattle.tdb_space.specs.Opening.{undo_fault, Undoable, restored, Opens}
 -- its gate is open, or its gate word is neither of the two
 abbrev pub opening_fault_at : Form → List ℕ → ℕ → Option Fault
 opening_fault_at f img at =
-    if is_out f img at then Some (AreaBad, 44)
+    if is_out f img at then Some (AreaBad, area_head)
     else if is_long f img at then Some (AreaBad, at + 4)
     else if magic_of f.order img at == GATE_OPEN then undo_fault f img
     else if not (magic_of f.order img at == GATE_SHUT) then Some (AreaBad, at + 20)
@@ -24,7 +24,7 @@ opening_fault_at f img at =
 
 -- what opening finds wrong with the undo area of an image, where the word at 44 says that there is one
 abbrev pub opening_fault : Form → List ℕ → Option Fault
-opening_fault f img = if word f.order img 44 == 0 then None else opening_fault_at f img (word f.order img 44)
+opening_fault f img = if word f.order img area_head == 0 then None else opening_fault_at f img (word f.order img area_head)
 
 -- A fault is the first that opening an image meets: one of its front; one of its undo area; or else the first fault of the image that it
 -- is read as. An undo may change the header: what its restored image then lacks is a fault of that image, with the kind Header.

@@ -4,6 +4,7 @@ use Rattle.std.specs.List.{range_with_len}
 use Rattle.tdb_words.specs.declared.record.TheConstants.{GATE_OPEN, GATE_SHUT}
 use Rattle.tdb_words.specs.declared.word.Order.{Order}
 use Rattle.tdb_words.specs.Word.{word}
+use Rattle.tdb_words.specs.Header.{area_head}
 use Rattle.tdb_space.specs.Form.{Form, form_of, data_start, SameHeader}
 use Rattle.tdb_space.specs.Record.{rec_len_of, key_len_of, data_len_of}
 use Rattle.tdb_space.specs.Extents.{Extent, once, times}
@@ -28,15 +29,15 @@ HasContent o a long at (e ∷ es) =
 -- The undo area of the plan is the one that image b of the transaction has, which keeps the file's length, or a new one, which stands
 -- behind b where b has none.
 pub data Placed (f : Form) (a b : List ℕ) (p : Scheme) : Type 0 where
-  kept : word f.order b 44 ≡ p.area → 24 + rec_len_of f.order b p.area ≡ p.area_length → p.area + p.area_length ≤ p.old_length → length a ≡ length b → Placed f a b p
-  fresh : word f.order b 44 ≡ 0 → p.area ≡ length b → length a ≡ p.area + p.area_length → Placed f a b p
+  kept : word f.order b area_head ≡ p.area → 24 + rec_len_of f.order b p.area ≡ p.area_length → p.area + p.area_length ≤ p.old_length → length a ≡ length b → Placed f a b p
+  fresh : word f.order b area_head ≡ 0 → p.area ≡ length b → length a ≡ p.area + p.area_length → Placed f a b p
 
 -- All is ready for the gate: image a is the file with the content in its undo area and the gate shut, image b that of the transaction.
 -- The plan's numbers are those of the area; its runs are the changed bytes, and the content keeps what the file has there; from the old
 -- length on the file has zeros outside the area; and b has the header of a.
 pub record IsPlanned (p : Scheme) (a b : List ℕ) : Type 0 where
-  pub some : word (form_of a).order a 44 ≡ 0 → ⊥
-  pub there : word (form_of a).order a 44 ≡ p.area
+  pub some : word (form_of a).order a area_head ≡ 0 → ⊥
+  pub there : word (form_of a).order a area_head ≡ p.area
   pub order : p.order ≡ (form_of a).order
   pub gate : p.gate ≡ p.area + 20
   pub long : p.area_length ≡ 24 + rec_len_of (form_of a).order a p.area
@@ -89,7 +90,7 @@ pub record Fills (p : Scheme) (a b : List ℕ) : Type 0 where
   pub becomes : Reopens b (finished p a b)
   pub size : length (finished p a b) ≡ length a
   pub reaches : length b ≤ length a
-  pub reads : (i : ℕ) → i < length b → (i < 44) ⊎ (48 ≤ i) → (i < p.area) ⊎ (p.area + p.area_length ≤ i) → slice_index (finished p a b) i ≡ slice_index b i
+  pub reads : (i : ℕ) → i < length b → (i < area_head) ⊎ (area_head + 4 ≤ i) → (i < p.area) ⊎ (p.area + p.area_length ≤ i) → slice_index (finished p a b) i ≡ slice_index b i
 
 -- a plan that is ready leads to it
 abbrev pub PlanFills : Type 0

@@ -2,6 +2,7 @@
 use Rattle.std.specs.Prelude.{◌≡◌, ℕ, ◌+◌, ◌%◌, ◌<◌, ◌≤◌, ◌⊎◌, Bool, false, None, List, length, take, slice_index}
 use Rattle.tdb_disk.specs.Image.{overlay}
 use Rattle.tdb_words.specs.Word.{word, bytes_of_word}
+use Rattle.tdb_words.specs.Header.{area_head, known_length, sequence_at}
 use Rattle.tdb_space.specs.Form.{Form, data_start}
 use Rattle.tdb_space.specs.Record.{rec_len_of}
 use Rattle.tdb_space.specs.Opening.{Undoable, entries, last_covering, restored}
@@ -10,7 +11,7 @@ use Rattle.tdb_space.specs.Undoing.{area_at, area_end, old_size, UndoneAlike, Wr
 -- These places of image a may be written while it is restored, in any order, with any bytes: no place by which the header is known,
 -- none of the word at 44 and of the undo area, and below the old length only places that an entry covers.
 pub record IsHarmless (f : Form) (a : List ℕ) (places : ℕ → Bool) : Type 0 where
-  pub front : (i : ℕ) → (i < 48) ⊎ ((52 ≤ i) × (i < 64)) → places i ≡ false
+  pub front : (i : ℕ) → (i < sequence_at) ⊎ ((sequence_at + 4 ≤ i) × (i < known_length)) → places i ≡ false
   pub area_bytes : (i : ℕ) → area_at f a ≤ i → i < area_end f a → places i ≡ false
   pub others : (i : ℕ) → i < old_size f a → last_covering (entries f a) i ≡ None → places i ≡ false
 
@@ -31,8 +32,8 @@ pub record Behind (f : Form) (r : List ℕ) (x e : ℕ) : Type 0 where
 pub record TailAt (f : Form) (r : List ℕ) (x e : ℕ) (c : List ℕ) : Type 0 where
   pub sized : length c % 4 ≡ 0
   pub reach : e ≤ length c
-  pub front : (i : ℕ) → i < length r → (i < 44) ⊎ (48 ≤ i) → slice_index c i ≡ slice_index r i
-  pub there : word f.order c 44 ≡ x
+  pub front : (i : ℕ) → i < length r → (i < area_head) ⊎ (area_head + 4 ≤ i) → slice_index c i ≡ slice_index r i
+  pub there : word f.order c area_head ≡ x
   pub gate : (i : ℕ) → x + 20 ≤ i → i < x + 24 → slice_index c i ≡ 0
   pub zeros : (i : ℕ) → length r ≤ i → i < length c → (i < x) ⊎ (e ≤ i) → slice_index c i ≡ 0
   pub len : rec_len_of f.order c x + (x + 24) ≡ e
@@ -41,8 +42,8 @@ pub record TailAt (f : Form) (r : List ℕ) (x e : ℕ) (c : List ℕ) : Type 0 
 pub record Emptied (f : Form) (r : List ℕ) (x e : ℕ) (c : List ℕ) : Type 0 where
   pub sized : length c % 4 ≡ 0
   pub reach : e ≤ length c
-  pub front : (i : ℕ) → i < length r → (i < 44) ⊎ (48 ≤ i) → slice_index c i ≡ slice_index r i
-  pub there : word f.order c 44 ≡ x
+  pub front : (i : ℕ) → i < length r → (i < area_head) ⊎ (area_head + 4 ≤ i) → slice_index c i ≡ slice_index r i
+  pub there : word f.order c area_head ≡ x
   pub gate : (i : ℕ) → x + 20 ≤ i → i < x + 24 → slice_index c i ≡ 0
   pub zeros : (i : ℕ) → length r ≤ i → i < length c → (i < x) ⊎ (x + 24 ≤ i) → slice_index c i ≡ 0
   pub len : (rec_len_of f.order c x + (x + 24) ≡ e) ⊎ (rec_len_of f.order c x ≡ 0)
@@ -51,8 +52,8 @@ pub record Emptied (f : Form) (r : List ℕ) (x e : ℕ) (c : List ℕ) : Type 0
 pub record ZerosBehind (r c : List ℕ) : Type 0 where
   pub sized : length c % 4 ≡ 0
   pub longer : length r ≤ length c
-  pub front : (i : ℕ) → i < length r → (i < 44) ⊎ (48 ≤ i) → slice_index c i ≡ slice_index r i
-  pub head : (i : ℕ) → 44 ≤ i → i < 48 → slice_index c i ≡ 0
+  pub front : (i : ℕ) → i < length r → (i < area_head) ⊎ (area_head + 4 ≤ i) → slice_index c i ≡ slice_index r i
+  pub head : (i : ℕ) → area_head ≤ i → i < area_head + 4 → slice_index c i ≡ 0
   pub zeros : (i : ℕ) → length r ≤ i → i < length c → slice_index c i ≡ 0
 
 -- each of the three is an image with that one in front and an undo area that is shut, or zeros, behind it
@@ -73,9 +74,9 @@ pub record EmptyingSteps (f : Form) (r : List ℕ) (x e : ℕ) : Type 0 where
   pub emptied : (c : List ℕ) → TailAt f r x e c → ((i : ℕ) → x + 24 ≤ i → i < e → slice_index c i ≡ 0) → Emptied f r x e c
   pub header : (c : List ℕ) (k : ℕ) → Emptied f r x e c → k % 4 ≡ 0 → k < 20 → Emptied f r x e (overlay c (x + k) (bytes_of_word f.order 0))
   pub dropped : (c d : List ℕ) → Emptied f r x e c → ((i : ℕ) → x ≤ i → i < x + 24 → slice_index c i ≡ 0) → length d ≡ length c
-      → ((i : ℕ) → (i < 44) ⊎ (48 ≤ i) → slice_index d i ≡ slice_index c i) → ((i : ℕ) → 44 ≤ i → i < 48 → slice_index d i ≡ 0) → ZerosBehind r d
+      → ((i : ℕ) → (i < area_head) ⊎ (area_head + 4 ≤ i) → slice_index d i ≡ slice_index c i) → ((i : ℕ) → area_head ≤ i → i < area_head + 4 → slice_index d i ≡ 0) → ZerosBehind r d
   pub cut : (c d : List ℕ) → ZerosBehind r c → d ≡ take (length d) c → length r ≤ length d → length d % 4 ≡ 0 → ZerosBehind r d
-  pub done : (c : List ℕ) → ZerosBehind r c → ((i : ℕ) → 44 ≤ i → i < 48 → slice_index r i ≡ 0) → length c ≡ length r → c ≡ r
+  pub done : (c : List ℕ) → ZerosBehind r c → ((i : ℕ) → area_head ≤ i → i < area_head + 4 → slice_index r i ≡ 0) → length c ≡ length r → c ≡ r
 
 -- whichever image and area
 abbrev pub EachStepGoesOn : Type 0

@@ -2,12 +2,13 @@
 use Rattle.std.specs.Prelude.{◌≡◌, ℕ, ◌+◌, ◌<◌, ◌≤◌, ◌⊎◌, List, [], ◌∷◌, slice_index}
 use Rattle.tdb_space.specs.Form.{SameHeader}
 use Rattle.tdb_space.specs.Extents.{Extent, once, times}
+use Rattle.tdb_words.specs.Header.{area_head, known_length, sequence_at}
 
 -- From image a, the file, to image b, that of the transaction, the byte at a place below the old length changes, outside the undo area
 -- and the word at 44.
 pub record Changed (a b : List ℕ) (old : ℕ) (skip : Extent) (i : ℕ) : Type 0 where
   pub low : i < old
-  pub beside : (i < 44) ⊎ (48 ≤ i)
+  pub beside : (i < area_head) ⊎ (area_head + 4 ≤ i)
   pub outside : once skip i ≡ 0
   pub differs : slice_index b i ≡ slice_index a i → ⊥
 
@@ -49,12 +50,12 @@ NoRunNoChange = (a b : List ℕ) (old : ℕ) (skip : Extent) (es : List Extent) 
 -- be another that holds the same bytes below that length.
 abbrev pub RunsOfOther : Type 0
 RunsOfOther = (a b c : List ℕ) (old : ℕ) (skip other : Extent) (es : List Extent) → ((i : ℕ) → i < old → once other i ≡ once skip i)
-    → ((i : ℕ) → i < old → (i < 44) ⊎ (48 ≤ i) → once skip i ≡ 0 → slice_index c i ≡ slice_index a i) → ChangedRuns a b old skip es → ChangedRuns c b old other es
+    → ((i : ℕ) → i < old → (i < area_head) ⊎ (area_head + 4 ≤ i) → once skip i ≡ 0 → slice_index c i ≡ slice_index a i) → ChangedRuns a b old skip es → ChangedRuns c b old other es
 
 -- where the runs lie: below the old length, at no byte by which the header is known and not in the word at 44, and outside the undo area
 pub record RunsLie (old : ℕ) (skip : Extent) (es : List Extent) : Type 0 where
   pub low : (i : ℕ) → 1 ≤ times es i → i < old
-  pub front : (i : ℕ) → (i < 48) ⊎ ((52 ≤ i) × (i < 64)) → times es i ≡ 0
+  pub front : (i : ℕ) → (i < sequence_at) ⊎ ((sequence_at + 4 ≤ i) × (i < known_length)) → times es i ≡ 0
   pub clear : (i : ℕ) → skip.0 ≤ i → i < skip.0 + skip.1 → times es i ≡ 0
 
 -- so it is where the header stays and the undo area has 10 bytes at least: a run spans no 9 bytes that don't change

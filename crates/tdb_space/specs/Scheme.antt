@@ -4,6 +4,7 @@ use Rattle.tdb_disk.specs.Image.{overlay}
 use Rattle.tdb_disk.specs.Stop.{Torn}
 use Rattle.tdb_words.specs.declared.word.Order.{Order}
 use Rattle.tdb_words.specs.Word.{word, bytes_of_word}
+use Rattle.tdb_words.specs.Header.{area_head, known_length, sequence_at}
 use Rattle.tdb_space.specs.Form.{Form, form_of}
 use Rattle.tdb_space.specs.Record.{rec_len_of, key_len_of}
 use Rattle.tdb_space.specs.Extents.{Extent, times}
@@ -44,11 +45,11 @@ MayWrite p from to = (i : ℕ) → from ≤ i → i < to → ((1 ≤ times p.run
 -- The plan fits image a, whose gate is open: the undo area and the old length are those that the image states, each byte of a run is
 -- covered by an entry, and no run holds a byte by which the header is known, nor one of the word at 44.
 pub record IsPlanFor (f : Form) (p : Scheme) (a : List ℕ) : Type 0 where
-  pub there : word f.order a 44 ≡ p.area
+  pub there : word f.order a area_head ≡ p.area
   pub area_length : 24 + rec_len_of f.order a p.area ≡ p.area_length
   pub old_length : key_len_of f.order a p.area ≡ p.old_length
   pub covered : (i : ℕ) → 1 ≤ times p.runs i → last_covering (entries f a) i ≡ None → ⊥
-  pub front : (i : ℕ) → (i < 48) ⊎ ((52 ≤ i) × (i < 64)) → times p.runs i ≡ 0
+  pub front : (i : ℕ) → (i < sequence_at) ⊎ ((sequence_at + 4 ≤ i) × (i < known_length)) → times p.runs i ≡ 0
 
 -- an image is within itself, what is written where the plan may write stays within, and so does what a stop leaves of it
 pub record StaysWithin (p : Scheme) (base : List ℕ) : Type 0 where

@@ -4,7 +4,7 @@ use Rattle.std.specs.Prelude.{◌≡◌, ◌↔◌, ◌⊎◌, ℕ, ◌+◌, ◌
 use Rattle.tdb_words.specs.declared.word.Order.{Order}
 use Rattle.tdb_words.specs.Word.{word}
 use Rattle.tdb_words.specs.Record.{rec_at}
-use Rattle.tdb_words.specs.Header.{header_fault}
+use Rattle.tdb_words.specs.Header.{header_fault, sequence_at}
 use Rattle.tdb_space.specs.Form.{Form, form_of, free_head}
 use Rattle.tdb_space.specs.Record.{Whole, key_at, data_at}
 use Rattle.tdb_space.specs.Chain.{Chain, Free, chain_of, free_of, HasChains}
@@ -24,7 +24,7 @@ pub record SameFront (a b : List ℕ) : Type 0 where
 
 -- the words beside the sequence number are the same, and the same records stand whole: their header, their key and their value
 pub record SameRecords (a b : List ℕ) : Type 0 where
-  pub words : (o : Order) (at : ℕ) → (at + 4 ≤ 48) ⊎ (52 ≤ at) → word o b at ≡ word o a at
+  pub words : (o : Order) (at : ℕ) → (at + 4 ≤ sequence_at) ⊎ (sequence_at + 4 ≤ at) → word o b at ≡ word o a at
   pub whole : (f : Form) (at : ℕ) → Whole f a at ↔ Whole f b at
   pub record_there : (f : Form) (at : ℕ) → Whole f a at → rec_at f.order b at ≡ rec_at f.order a at
   pub key_there : (f : Form) (at : ℕ) → Whole f a at → key_at f.order b at ≡ key_at f.order a at

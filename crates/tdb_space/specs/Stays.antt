@@ -2,6 +2,7 @@
 -- file stays.
 use Rattle.std.specs.Prelude.{◌≡◌, ℕ, ◌<◌, ◌≤◌, ◌⊎◌, List, length, slice_index}
 use Rattle.tdb_words.specs.Word.{word}
+use Rattle.tdb_words.specs.Header.{sequence_at}
 use Rattle.tdb_space.specs.Form.{Form, chain_head, free_head}
 use Rattle.tdb_space.specs.Chain.{chain_of, free_of}
 use Rattle.tdb_space.specs.Pairs.{map_of}
@@ -28,7 +29,7 @@ pub record FreeStays (f : Form) (a b : List ℕ) : Type 0 where
 -- byte of the undo area stays.
 pub record FrontStays (f : Form) (a b : List ℕ) : Type 0 where
   pub longer : length a ≤ length b
-  pub low : (i : ℕ) → i < free_head → (i < 48) ⊎ (52 ≤ i) → slice_index b i ≡ slice_index a i
+  pub low : (i : ℕ) → i < free_head → (i < sequence_at) ⊎ (sequence_at + 4 ≤ i) → slice_index b i ≡ slice_index a i
   pub undo_area : (i : ℕ) → 1 ≤ times (area f.order a) i → slice_index b i ≡ slice_index a i
 
 -- from image a to image b only these chains may have changed: the front and every other chain stay

@@ -1,7 +1,7 @@
 -- What a stop of a recovery may leave: images that open to the map of the restored one, again and again.
 use Rattle.std.specs.Prelude.{◌≡◌, ℕ, ◌+◌, ◌%◌, ◌<◌, ◌≤◌, ◌⊎◌, Option, None, List, length, slice_index}
 use Rattle.tdb_words.specs.Word.{word}
-use Rattle.tdb_words.specs.Header.{sequence_of}
+use Rattle.tdb_words.specs.Header.{sequence_of, area_head, known_length, sequence_at}
 use Rattle.tdb_space.specs.Form.{Form, form_of}
 use Rattle.tdb_space.specs.Record.{rec_len_of, key_len_of}
 use Rattle.tdb_space.specs.Extents.{times, area}
@@ -12,7 +12,7 @@ use Rattle.tdb_space.specs.Opening.{entries, Undoable, last_covering, given_back
 
 -- where the undo area of an image stands
 abbrev pub area_at : Form → List ℕ → ℕ
-area_at f img = word f.order img 44
+area_at f img = word f.order img area_head
 
 -- where it ends
 abbrev pub area_end : Form → List ℕ → ℕ
@@ -27,7 +27,7 @@ old_size f img = key_len_of f.order img (area_at f img)
 pub record SameUndo (f : Form) (a c : List ℕ) : Type 0 where
   pub reach : old_size f a ≤ length c
   pub room : area_end f a ≤ length c
-  pub there : Agree a c 44 48
+  pub there : Agree a c area_head (area_head + 4)
   pub area_bytes : Agree a c (area_at f a) (area_end f a)
   pub others : (i : ℕ) → i < old_size f a → last_covering (entries f a) i ≡ None → slice_index c i ≡ slice_index a i
 
@@ -38,16 +38,16 @@ pub record UndoneAlike (f : Form) (a c : List ℕ) : Type 0 where
   pub reach : old_size f a ≤ length c
   pub room : area_end f a ≤ length c
   pub area_bytes : Agree a c (area_at f a) (area_end f a)
-  pub front : (i : ℕ) → (i < 48) ⊎ ((52 ≤ i) × (i < 64)) → slice_index c i ≡ slice_index a i
+  pub front : (i : ℕ) → (i < sequence_at) ⊎ ((sequence_at + 4 ≤ i) × (i < known_length)) → slice_index c i ≡ slice_index a i
   pub others : (i : ℕ) → i < old_size f a → last_covering (entries f a) i ≡ None → slice_index c i ≡ slice_index a i
 
 -- Image b is image a with all that its entries give back, outside the undo area and the word at 44. The undo area and that word stay;
 -- from the old length on the bytes outside the area may be any.
 pub record Written (f : Form) (a b : List ℕ) : Type 0 where
   pub sized : length b ≡ length a
-  pub inside : (i : ℕ) → i < old_size f a → (i < 44) ⊎ (48 ≤ i) → (i < area_at f a) ⊎ (area_end f a ≤ i)
+  pub inside : (i : ℕ) → i < old_size f a → (i < area_head) ⊎ (area_head + 4 ≤ i) → (i < area_at f a) ⊎ (area_end f a ≤ i)
       → slice_index b i ≡ given_back (last_covering (entries f a) i) i (slice_index a i)
-  pub there : Agree a b 44 48
+  pub there : Agree a b area_head (area_head + 4)
   pub area_bytes : Agree a b (area_at f a) (area_end f a)
 
 -- Image r, which has no undo area, stands in front of image c, but for the word at 44. What follows is an undo area whose gate is
@@ -55,10 +55,10 @@ pub record Written (f : Form) (a b : List ℕ) : Type 0 where
 pub record TailOf (f : Form) (r c : List ℕ) : Type 0 where
   pub longer : length r ≤ length c
   pub sized : length c % 4 ≡ 0
-  pub front : (i : ℕ) → i < length r → (i < 44) ⊎ (48 ≤ i) → slice_index c i ≡ slice_index r i
+  pub front : (i : ℕ) → i < length r → (i < area_head) ⊎ (area_head + 4 ≤ i) → slice_index c i ≡ slice_index r i
   pub area_ok : AreaOk f c
   pub shut : Shut f c
-  pub behind : (word f.order c 44 ≡ 0) ⊎ (length r ≤ word f.order c 44)
+  pub behind : (word f.order c area_head ≡ 0) ⊎ (length r ≤ word f.order c area_head)
   pub zeros : (i : ℕ) → length r ≤ i → i < length c → times (area f.order c) i ≡ 0 → slice_index c i ≡ 0
 
 -- Image c may be left while an image is restored to image r. It opens to the map of r, with the sequence number of r. It has nothing
@@ -94,7 +94,7 @@ AlikeReopens = (a c : List ℕ) → Opens a → Mild a → UndoneAlike (form_of 
 
 -- an accepted image that has no undo area, with a shut one or zeros behind it, reopens
 abbrev pub TailReopens : Type 0
-TailReopens = (r c : List ℕ) → Accept r → word (form_of r).order r 44 ≡ 0 → TailOf (form_of r) r c → Reopens r c
+TailReopens = (r c : List ℕ) → Accept r → word (form_of r).order r area_head ≡ 0 → TailOf (form_of r) r c → Reopens r c
 
 -- and so does an accepted image as it is
 abbrev pub ExactReopens : Type 0
@@ -102,4 +102,4 @@ ExactReopens = (r : List ℕ) → Accept r → Reopens r r
 
 -- so does an image that stays accepted with the same map and the same sequence number
 abbrev pub StaysReopens : Type 0
-StaysReopens = (r c : List ℕ) → StaysAccepted (form_of r) r c → Agree r c 48 52 → Reopens r c
+StaysReopens = (r c : List ℕ) → StaysAccepted (form_of r) r c → Agree r c sequence_at (sequence_at + 4) → Reopens r c

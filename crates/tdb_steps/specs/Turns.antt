@@ -2,6 +2,7 @@
 use Rattle.std.specs.Prelude.{◌≡◌, ℕ, ◌+◌, ◌≤◌, ◌<◌, ◌⊎◌, Bool, true, false, List, [], ◌∷◌, ◌++◌, length, Option, None, Some, Contains}
 use Rattle.std.specs.Map.{update}
 use Rattle.tdb_words.specs.Word.{word}
+use Rattle.tdb_words.specs.Header.{sequence_at}
 use Rattle.tdb_space.specs.Form.{Form}
 use Rattle.tdb_space.specs.Pairs.{map_of, home, same_key}
 use Rattle.tdb_space.specs.Extents.{HandPair}
@@ -26,7 +27,7 @@ use Rattle.tdb_steps.specs.Stages.{hands_in, hands_after, MayBeOut, HoldsChain, 
 
 -- the sequence number of an image
 abbrev pub number_of : Form → List ℕ → ℕ
-number_of f img = word f.order img 48
+number_of f img = word f.order img sequence_at
 
 -- The map after a turn, by whether the change was made before it and is made after it: only the turn that makes the change changes
 -- the map, and at the key alone, to the value that the command leaves there.

@@ -2,6 +2,7 @@
 use Rattle.std.specs.Prelude.{◌≡◌, ℕ, ◌+◌, ◌<◌, ◌≤◌, ◌^◌, List, Result, Ok, Err}
 use Rattle.tdb_disk.specs.History.{History}
 use Rattle.tdb_words.specs.Word.{word}
+use Rattle.tdb_words.specs.Header.{area_head}
 use Rattle.tdb_space.specs.Extents.{Extent}
 use Rattle.tdb_space.specs.Form.{form_of}
 use Rattle.tdb_space.specs.Planned.{content_length}
@@ -36,7 +37,7 @@ pub record AreaReplaced (txn : Txn) (r : List ℕ) (e : Extent) (x b : List ℕ)
 -- A new undo area is wanted, to bring image b into the file, with these runs from image x on: either r has none, and b is the
 -- transaction's image; or the one that it has is too short for the content of all that changes, and is replaced.
 pub data WantsArea (txn : Txn) (r x b : List ℕ) (runs : List Extent) : Type 0 where
-  first : word (form_of r).order r 44 ≡ 0 → x ≡ r → b ≡ txn_image txn r → ChangedRuns r (txn_image txn r) (txn_start txn) (0, 0) runs → WantsArea txn r x b runs
+  first : word (form_of r).order r area_head ≡ 0 → x ≡ r → b ≡ txn_image txn r → ChangedRuns r (txn_image txn r) (txn_start txn) (0, 0) runs → WantsArea txn r x b runs
   other : (e : Extent) (too_much : List Extent) → HasAreaIn (form_of r).order r e → ChangedRuns r (txn_image txn r) (txn_start txn) e too_much
       → e.1 < 24 + content_length too_much → AreaReplaced txn r e x b runs → WantsArea txn r x b runs
 

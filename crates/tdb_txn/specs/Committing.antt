@@ -2,6 +2,7 @@
 use Rattle.std.specs.Prelude.{◌≡◌, ℕ, ◌+◌, ◌≤◌, List, slice_index}
 use Rattle.tdb_words.specs.declared.word.Order.{Order}
 use Rattle.tdb_words.specs.Word.{word}
+use Rattle.tdb_words.specs.Header.{area_head}
 use Rattle.tdb_space.specs.Accepted.{Accept}
 use Rattle.tdb_space.specs.Extents.{Extent, area, extent_at, times}
 use Rattle.tdb_space.specs.Form.{form_of, SameHeader}
@@ -22,8 +23,8 @@ pub record MayCommit (txn : Txn) (r : List ℕ) : Type 0 where
 
 -- the undo area of an image is in this extent
 pub record HasAreaIn (o : Order) (img : List ℕ) (e : Extent) : Type 0 where
-  pub some : word o img 44 ≡ 0 → ⊥
-  pub extent : e ≡ extent_at o img (word o img 44)
+  pub some : word o img area_head ≡ 0 → ⊥
+  pub extent : e ≡ extent_at o img (word o img area_head)
 
 -- The transaction may be committed into r, whose undo area, in this extent, has room for the content of the runs, which are those of the bytes that change
 pub record MayKeep (txn : Txn) (r : List ℕ) (e : Extent) (runs : List Extent) : Type 0 where
@@ -40,7 +41,7 @@ pub record MayPlace (txn : Txn) (r x : List ℕ) (runs : List Extent) : Type 0 w
   pub after : Accept (txn_image txn r)
   pub header : txn_form txn ≡ form_of r
   pub same_header : SameHeader r (txn_image txn r)
-  pub none : word (form_of r).order (txn_image txn r) 44 ≡ 0
+  pub none : word (form_of r).order (txn_image txn r) area_head ≡ 0
   pub inside : (i : ℕ) → 1 ≤ times (area (form_of r).order r) i → slice_index x i ≡ 0
   pub beside : (i : ℕ) → times (area (form_of r).order r) i ≡ 0 → slice_index x i ≡ slice_index r i
   pub pages : (i : ℕ) → byte_over (txn_pages txn) x i ≡ byte_over (txn_pages txn) r i

@@ -4,6 +4,7 @@ use Rattle.tdb_space.specs.Extents.{Extent, once, times}
 use Rattle.tdb_space.specs.Runs.{Changed, Near, InOrder}
 use Rattle.tdb_txn.specs.EndBelow.{EndBelow}
 use Rattle.tdb_txn.specs.declared.found.Found.{Found}
+use Rattle.tdb_words.specs.Header.{area_head}
 
 -- Every byte below place n was looked at, and C says which count. These runs are done; and one may still go on, from one place up to
 -- another, where there is none yet if the two are one place.
@@ -30,7 +31,7 @@ pub record InPlace (found : Found) : Type 0 where
 
 -- a byte at a place counts where it is another one: it is outside the word at 44 and an extent
 pub record Counts (skip : Extent) (i : ℕ) : Type 0 where
-  pub beside : (i < 44) ⊎ (48 ≤ i)
+  pub beside : (i < area_head) ⊎ (area_head + 4 ≤ i)
   pub outside : once skip i ≡ 0
 
 -- from a place on an image has these bytes

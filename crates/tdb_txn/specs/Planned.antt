@@ -3,6 +3,7 @@ use Rattle.std.specs.Prelude.{◌≡◌, ℕ, ◌+◌, ◌%◌, ◌<◌, ◌≤�
 use Rattle.tdb_disk.specs.History.{History, called, grew, seen}
 use Rattle.tdb_disk.specs.Stop.{Quiet}
 use Rattle.tdb_words.specs.Word.{word}
+use Rattle.tdb_words.specs.Header.{area_head, sequence_at}
 use Rattle.tdb_space.specs.Accepted.{Accept}
 use Rattle.tdb_space.specs.Exchange.{Agree}
 use Rattle.tdb_space.specs.Extents.{once, times}
@@ -21,8 +22,8 @@ use Rattle.tdb_txn.specs.declared.planned.Plan.{Plan}
 -- are those of the area, which has room for the content; its runs are the changed bytes; from the old length on the file has zeros
 -- outside the area; and b has the header of a.
 pub record AwaitsContent (p : Scheme) (a b : List ℕ) : Type 0 where
-  pub some : word (form_of a).order a 44 ≡ 0 → ⊥
-  pub there : word (form_of a).order a 44 ≡ p.area
+  pub some : word (form_of a).order a area_head ≡ 0 → ⊥
+  pub there : word (form_of a).order a area_head ≡ p.area
   pub order : p.order ≡ (form_of a).order
   pub long : p.area_length ≡ 24 + rec_len_of (form_of a).order a p.area
   pub fits : content_length p.runs ≤ rec_len_of (form_of a).order a p.area
@@ -46,7 +47,7 @@ pub record IsPlannedOn (plan : Plan) (h : History) (r b : List ℕ) : Type 0 whe
   pub after : Accept b
   pub header : form_in plan.header ≡ form_of r
   pub stays : StaysAccepted (form_of r) r (seen h)
-  pub sequence : Agree r (seen h) 48 52
+  pub sequence : Agree r (seen h) sequence_at (sequence_at + 4)
   pub rest : RestsButGrown r h
   pub awaits : AwaitsContent (scheme_of plan) (seen h) b
   pub size : length b ≡ plan.new_length

@@ -1,6 +1,7 @@
 -- From the plan of a commit to its first state: the undo area is kept, or a new one is placed.
 use Rattle.std.specs.Prelude.{◌≡◌, ℕ, ◌+◌, ◌<◌, ◌≤◌, ◌⊎◌, List, length, slice_index}
 use Rattle.tdb_words.specs.Word.{word}
+use Rattle.tdb_words.specs.Header.{area_head, known_length, sequence_at}
 use Rattle.tdb_space.specs.Accepted.{Accept}
 use Rattle.tdb_space.specs.Extents.{times, area}
 use Rattle.tdb_space.specs.Form.{form_of, form_in, SameHeader}
@@ -14,7 +15,7 @@ use Rattle.tdb_txn.specs.declared.planned.Plan.{Plan}
 -- Image b of a transaction has of image r of the file what a transaction leaves: the bytes by which the header is known, the word at 44,
 -- and the undo area.
 pub record KeepsFront (r b : List ℕ) : Type 0 where
-  pub front : (i : ℕ) → (i < 48) ⊎ ((52 ≤ i) × (i < 64)) → slice_index b i ≡ slice_index r i
+  pub front : (i : ℕ) → (i < sequence_at) ⊎ ((sequence_at + 4 ≤ i) × (i < known_length)) → slice_index b i ≡ slice_index r i
   pub undo_area : (i : ℕ) → 1 ≤ times (area (form_of r).order r) i → slice_index b i ≡ slice_index r i
 
 -- The plan leads from image r of the file to image b of a transaction: both are accepted, with the plan's header and lengths.
@@ -31,8 +32,8 @@ pub record IsPlanFrom (plan : Plan) (r b : List ℕ) : Type 0 where
 pub record KeepsArea (plan : Plan) (r b : List ℕ) : Type 0 where
   pub leads : IsPlanFrom plan r b
   pub keeps : KeepsFront r b
-  pub some : word (form_of r).order r 44 ≡ 0 → ⊥
-  pub there : word (form_of r).order r 44 ≡ plan.area
+  pub some : word (form_of r).order r area_head ≡ 0 → ⊥
+  pub there : word (form_of r).order r area_head ≡ plan.area
   pub long : plan.area_length ≡ 24 + rec_len_of (form_of r).order r plan.area
   pub fits : content_length plan.runs ≤ rec_len_of (form_of r).order r plan.area
   pub runs : ChangedRuns r b plan.old_length (plan.area, plan.area_length) plan.runs
@@ -42,7 +43,7 @@ pub record KeepsArea (plan : Plan) (r b : List ℕ) : Type 0 where
 -- are the bytes that change from x to b, their content fits into the new area, and the pages over x give b.
 pub record PlacesArea (plan : Plan) (r x b : List ℕ) : Type 0 where
   pub leads : IsPlanFrom plan r b
-  pub none : word (form_of r).order b 44 ≡ 0
+  pub none : word (form_of r).order b area_head ≡ 0
   pub at : plan.area ≡ plan.new_length
   pub inside : (i : ℕ) → 1 ≤ times (area (form_of r).order r) i → slice_index x i ≡ 0
   pub beside : (i : ℕ) → times (area (form_of r).order r) i ≡ 0 → slice_index x i ≡ slice_index r i

@@ -6,6 +6,7 @@ use Rattle.tdb_words.specs.declared.what.What.TheVariants.{AreaBad, UndoBad}
 use Rattle.tdb_words.specs.declared.word.Order.{Order}
 use Rattle.tdb_words.specs.Word.{word}
 use Rattle.tdb_words.specs.Record.{rec_at}
+use Rattle.tdb_words.specs.Header.{area_head, header_length}
 use Rattle.tdb_space.specs.Form.{Form, data_start}
 use Rattle.tdb_space.specs.Record.{magic_of}
 use Rattle.tdb_space.specs.FirstFault.{Fault, is_out, is_long}
@@ -13,7 +14,7 @@ use Rattle.tdb_undo.specs.declared.area.Area.{Area}
 
 -- no record header can stand at an offset of a file of so many chains and of this length
 abbrev pub is_out_at : ℕ → ℕ → ℕ → Bool
-is_out_at chains len at = not (at % 4 == 0) || nat_lt at (168 + 4 * (chains + 1)) || nat_lt len (at + 24)
+is_out_at chains len at = not (at % 4 == 0) || nat_lt at (header_length + 4 * (chains + 1)) || nat_lt len (at + 24)
 
 -- what is wrong with an undo area that has this header, at this offset of a file of this length, whatever its gate is
 abbrev pub header_fault_at : Rec → ℕ → ℕ → Option Fault
@@ -26,14 +27,14 @@ header_fault_at r at len =
 -- doesn't fit, its gate word is neither that of an open nor that of a shut gate
 abbrev pub place_fault_at : Form → List ℕ → ℕ → Option Fault
 place_fault_at f img at =
-    if is_out f img at then Some (AreaBad, 44)
+    if is_out f img at then Some (AreaBad, area_head)
     else if is_long f img at then Some (AreaBad, at + 4)
     else if not (magic_of f.order img at == GATE_OPEN) && not (magic_of f.order img at == GATE_SHUT) then Some (AreaBad, at + 20)
     else None
 
 -- the same of the undo area of an image, where it has one
 abbrev pub place_fault : Form → List ℕ → Option Fault
-place_fault f img = if word f.order img 44 == 0 then None else place_fault_at f img (word f.order img 44)
+place_fault f img = if word f.order img area_head == 0 then None else place_fault_at f img (word f.order img area_head)
 
 -- What is wrong with the old length and the length of the content in the header of an undo area at an offset, where the records of a
 -- file of this length begin at this offset
@@ -45,12 +46,12 @@ content_fault_at r at start len =
 
 -- the undo area of an image is this one
 pub record IsAreaOf (o : Order) (img : List ℕ) (a : Area) : Type 0 where
-  pub there : a.at ≡ word o img 44
+  pub there : a.at ≡ word o img area_head
   pub head : a.header ≡ rec_at o img a.at
 
 -- the undo area of an image is this one, or it has none
 abbrev pub AreaSeen : Order → List ℕ → Option Area → Type 0
-AreaSeen o img None = word o img 44 ≡ 0
+AreaSeen o img None = word o img area_head ≡ 0
 AreaSeen o img (Some a) = IsAreaOf o img a
 
 -- an undo area stands in a file of so many bytes, behind the heads of the chains
@@ -63,4 +64,4 @@ pub record Stands (f : Form) (size : ℕ) (a : Area) : Type 0 where
 
 -- the undo area that the word at 44 of an image leads to
 abbrev pub area_of : Order → List ℕ → Area
-area_of o img = record { at = word o img 44; header = rec_at o img (word o img 44) }
+area_of o img = record { at = word o img area_head; header = rec_at o img (word o img area_head) }

@@ -3,6 +3,7 @@ use Rattle.std.specs.Prelude.{◌≡◌, ℕ, ◌+◌, ◌-◌, Bool, true, fals
 use Rattle.tdb_words.specs.declared.word.Order.{Order}
 use Rattle.tdb_space.specs.Opening.{Entry, entries_from, covers, last_covering, given_back, lies_in}
 use Rattle.tdb_undo.specs.declared.area.Area.{Area}
+use Rattle.tdb_words.specs.Header.{known_length}
 
 -- where the content of an undo area ends
 abbrev pub entries_stop : Area → ℕ
@@ -23,7 +24,7 @@ one_back e i byte = if covers i e then slice_index e.olds (i - e.off) else byte
 
 -- a byte of the file that entries may be written to: it lies neither among the first 64 nor in the undo area
 abbrev pub is_writable : Area → ℕ → Bool
-is_writable a i = nat_le 64 i && not (lies_in a.at (24 + a.header.rec_len) i)
+is_writable a i = nat_le known_length i && not (lies_in a.at (24 + a.header.rec_len) i)
 
 -- an entry of so many bytes from an offset on is written to this byte
 abbrev pub is_given : Area → ℕ → ℕ → ℕ → Bool

@@ -10,12 +10,13 @@ use Rattle.tdb_space.specs.Undoing.{area_at, old_size, UndoneAlike, TailOf}
 use Rattle.tdb_space.specs.RecoverySteps.{Behind, TailAt}
 use Rattle.tdb_undo.specs.declared.area.Area.{Area}
 use Rattle.tdb_undo.specs.Area.{IsAreaOf}
+use Rattle.tdb_words.specs.Header.{known_length}
 
 -- what was read of an image before an undo: its undo area, its first 64 bytes, and what the entries give back of these
 pub record ReadFrom (f : Form) (img : List ℕ) (a : Area) (before after : List ℕ) : Type 0 where
   pub area : IsAreaOf f.order img a
-  pub front : (i : ℕ) → i < 64 → slice_index before i ≡ slice_index img i
-  pub given : (i : ℕ) → i < 64 → slice_index after i ≡ given_back (last_covering (entries f img) i) i (slice_index before i)
+  pub front : (i : ℕ) → i < known_length → slice_index before i ≡ slice_index img i
+  pub given : (i : ℕ) → i < known_length → slice_index after i ≡ given_back (last_covering (entries f img) i) i (slice_index before i)
 
 -- What a stop of the recovery of image a leaves: an image that is undone like a, the restored image, or that one in front and behind it
 -- zeros, or an undo area whose gate is shut

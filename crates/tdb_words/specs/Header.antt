@@ -12,6 +12,39 @@ use Rattle.tdb_words.specs.declared.record.TheConstants.{USED}
 use Rattle.tdb_words.specs.Word.{word, bytes_of_word}
 use Rattle.tdb_words.specs.Hash.{h_of}
 
+-- how long a header is, and how much of it says something: what follows is reserved
+abbrev pub header_length : ℕ
+header_length = 168
+
+abbrev pub known_length : ℕ
+known_length = 64
+
+-- The offsets of the words of a header, behind its text: the version, the number of chains, the locks word, where the undo area
+-- stands, the sequence number, the two words of the hash, and the size of the mutexes
+abbrev pub version_at : ℕ
+version_at = 32
+
+abbrev pub chains_at : ℕ
+chains_at = 36
+
+abbrev pub locks_at : ℕ
+locks_at = 40
+
+abbrev pub area_head : ℕ
+area_head = 44
+
+abbrev pub sequence_at : ℕ
+sequence_at = 48
+
+abbrev pub first_hash_at : ℕ
+first_hash_at = 52
+
+abbrev pub second_hash_at : ℕ
+second_hash_at = 56
+
+abbrev pub mutexes_at : ℕ
+mutexes_at = 60
+
 -- the text that a file begins with: `TDB file`, a newline and a zero byte
 abbrev pub food : List ℕ
 food = 84 ∷ 68 ∷ 66 ∷ 32 ∷ 102 ∷ 105 ∷ 108 ∷ 101 ∷ 10 ∷ 0 ∷ []
@@ -29,7 +62,7 @@ mutex_locks = 0x0BAD1A52
 
 -- the byte order in which the word at 32 is the version
 abbrev pub order_named : List ℕ → Option Order
-order_named img = if word Little img 32 == version then Some Little else if word Big img 32 == version then Some Big else None
+order_named img = if word Little img version_at == version then Some Little else if word Big img version_at == version then Some Big else None
 
 -- the two words of a hash are those of the text and of the used magic
 abbrev pub has_words : HashKind → Order → ℕ → ℕ → Bool
@@ -49,35 +82,35 @@ header_order img = unwrap_or (order_named img) Little
 
 -- the hash of an image with a header
 unfoldable pub header_hash : List ℕ → HashKind
-header_hash img = unwrap_or (hash_named (header_order img) (word (header_order img) img 52) (word (header_order img) img 56)) Old
+header_hash img = unwrap_or (hash_named (header_order img) (word (header_order img) img first_hash_at) (word (header_order img) img second_hash_at)) Old
 
 -- the number of chains
 abbrev pub hash_size_of : List ℕ → ℕ
-hash_size_of img = word (header_order img) img 36
+hash_size_of img = word (header_order img) img chains_at
 
 -- where the undo area stands, or 0
 abbrev pub recovery_start_of : List ℕ → ℕ
-recovery_start_of img = word (header_order img) img 44
+recovery_start_of img = word (header_order img) img area_head
 
 -- the sequence number
 abbrev pub sequence_of : List ℕ → ℕ
-sequence_of img = word (header_order img) img 48
+sequence_of img = word (header_order img) img sequence_at
 
 -- where the records begin: past the header, the head of the free list and the heads of the chains
 abbrev pub start : List ℕ → ℕ
-start img = 168 + 4 * (hash_size_of img + 1)
+start img = header_length + 4 * (hash_size_of img + 1)
 
 -- the first of the six conditions that holds of a header, in this order
 unfoldable pub header_fault : List ℕ → Option HeaderFault
 header_fault img =
     let o = header_order img in
-    let locks = word o img 40 in
+    let locks = word o img locks_at in
     if not (starts_with nat_eq img food) then Some NotTdb
     else if is_none (order_named img) then Some Version
     else if not ((locks == 0) || (locks == jenkins_locks) || (locks == mutex_locks)) then Some OldLocks
-    else if (locks == mutex_locks) && not (word o img 60 == 0) then Some Mutexes
-    else if is_none (hash_named o (word o img 52) (word o img 56)) then Some UnknownHash
-    else if word o img 36 == 0 then Some NoBuckets
+    else if (locks == mutex_locks) && not (word o img mutexes_at == 0) then Some Mutexes
+    else if is_none (hash_named o (word o img first_hash_at) (word o img second_hash_at)) then Some UnknownHash
+    else if word o img chains_at == 0 then Some NoBuckets
     else None
 
 -- the word that is printed for a fault
@@ -91,7 +124,7 @@ fault_text NoBuckets = codes "NoBuckets"
 
 -- an image has a header without a fault
 pub record HeaderOk (img : List ℕ) : Type 0 where
-  pub long_enough : 168 ≤ length img
+  pub long_enough : header_length ≤ length img
   pub no_fault : header_fault img ≡ None
 
 -- what the header of an image says

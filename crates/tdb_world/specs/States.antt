@@ -1,6 +1,7 @@
 -- A world in the words of the law (`tdb_law`), and what holds of it between any two calls.
 use Rattle.std.specs.Prelude.{ℕ, ◌+◌, ◌≤◌, ◌≡◌, List, length, slice_get, false, None}
 use Rattle.tdb_words.specs.Word.{word}
+use Rattle.tdb_words.specs.Header.{sequence_at}
 use Rattle.tdb_space.specs.Form.{Form}
 use Rattle.tdb_space.specs.Pairs.{joined}
 use Rattle.tdb_space.specs.Accepted.{AcceptWith}
@@ -28,7 +29,7 @@ state_of f options openers table img = record {
   mark = λ o. record { inside = false; reached = 0; ahead = λ k. false };
   stale = false;
   settled = false;
-  number = word f.order img 48;
+  number = word f.order img sequence_at;
   image_number = λ o. 0;
 }
 

@@ -1,6 +1,7 @@
 -- What one turn of an opener makes of the lock table, of the file and of the opener, in the words of the law (`tdb_law`).
 use Rattle.std.specs.Prelude.{ℕ, ◌+◌, ◌≡◌, ◌≢◌, ◌≤◌, List, [], ◌++◌, Option, Some, false}
 use Rattle.tdb_words.specs.Word.{word}
+use Rattle.tdb_words.specs.Header.{sequence_at}
 use Rattle.tdb_space.specs.Form.{Form}
 use Rattle.tdb_space.specs.Extents.{HandPair}
 use Rattle.tdb_space.specs.Accepted.{AcceptWith}
@@ -54,8 +55,8 @@ pub record TurnsLocks (f : Form) (x y : Own) (c : Command) (n : ℕ) (left : Opt
 -- sequence number.
 pub record TurnsFile (f : Form) (x y : Own) (c : Command) (n : ℕ) (who : ℕ) (old : List Piece) (a b : List ℕ) (turn : Turn) : Type 0 where
   pub effect : Effect f (IsFree (law_table old) who (wants f c x n)) (IsFirstConflict (law_table old) who (wants f c x n))
-      (Finds f (law_table old who) (wants f c x n) (image_map f a)) (word f.order a 48) c n x (image_map f a) turn y (image_map f b)
-  pub number : word f.order b 48 ≡ number_next f c n x turn (word f.order a 48) 0
+      (Finds f (law_table old who) (wants f c x n) (image_map f a)) (word f.order a sequence_at) c n x (image_map f a) turn y (image_map f b)
+  pub number : word f.order b sequence_at ≡ number_next f c n x turn (word f.order a sequence_at) 0
 
 -- The hands of other commands that may be out before a turn: any. But where a wipe or a check has locked all records and the free list
 -- there is none: the locks of whoever had one would conflict.
