@@ -157,13 +157,13 @@ module _ (f : Form) (n b : ℕ) where
   start_base None x m ready = omega (arith, locked_grows start_locks 2 n b (ready refl))
   start_base (Some t) x m ready = omega arith
 
-  left_base : (o : Option Txn) (x : Own) → base f (own_left o x) b ≤ base_by f o x b
-  left_base None x = omega (arith, ended_base x)
-  left_base (Some t) x = cond_base (nat_lt 1 t.depth) (record x { txn = Some (record t { depth = t.depth - 1 }) }) (ended x) (txn_held t b) (le_refl _) (omega (arith, ended_base x))
+  left_base : (o : Option Txn) (x : Own) → x.txn ≡ o → base f (own_left o x) b ≤ base_by f o x b
+  left_base None x e = (let same : base f x b ≡ base_by f None x b = ap (λ p. base_by f p x b) e in omega (arith, same))
+  left_base (Some t) x e = cond_base (nat_lt 1 t.depth) (record x { txn = Some (record t { depth = t.depth - 1 }) }) (ended x) (txn_held t b) (le_refl _) (omega (arith, ended_base x))
 
-  cancel_base : (o : Option Txn) (x : Own) → base f (own_cancelled o x) b ≤ base_by f o x b
-  cancel_base None x = omega (arith, ended_base x)
-  cancel_base (Some t) x = cond_base (nat_lt 1 t.depth) (record x { txn = Some (record t { depth = t.depth - 1; doomed = true }) }) (ended x) (txn_held t b) (le_refl _) (omega (arith, ended_base x))
+  cancel_base : (o : Option Txn) (x : Own) → x.txn ≡ o → base f (own_cancelled o x) b ≤ base_by f o x b
+  cancel_base None x e = (let same : base f x b ≡ base_by f None x b = ap (λ p. base_by f p x b) e in omega (arith, same))
+  cancel_base (Some t) x e = cond_base (nat_lt 1 t.depth) (record x { txn = Some (record t { depth = t.depth - 1; doomed = true }) }) (ended x) (txn_held t b) (le_refl _) (omega (arith, ended_base x))
 
   planned_base : (z : Bool) (t : Txn) → locked (commit_locks t.numbered) (cond z n 0) b ≤ locked (cond z (commit_locks t.numbered) []) n b
   planned_base true t = le_refl _
@@ -183,8 +183,8 @@ module _ (f : Form) (n b : ℕ) where
   own_base_by (Some q) (OnLocks c) x a r m ready = omega arith
   own_base_by (Some q) Seqnum x a r m ready = omega arith
   own_base_by (Some q) (OnGroup Start) x a r m ready = omega arith
-  own_base_by (Some q) (OnGroup Commit) x a r m ready = omega (arith, left_base x.txn x)
-  own_base_by (Some q) (OnGroup Prepare) x a r m ready = omega (arith, left_base x.txn x)
+  own_base_by (Some q) (OnGroup Commit) x a r m ready = omega (arith, left_base x.txn x refl)
+  own_base_by (Some q) (OnGroup Prepare) x a r m ready = omega (arith, left_base x.txn x refl)
   own_base_by (Some q) (OnGroup Cancel) x a r m ready = omega arith
   own_base_by (Some q) (OnWalk c) x a r m ready = omega arith
   own_base_by None (OnMap c) x a r m ready = omega (arith, map_base c x.txn (changed_txn c x.txn) x)
@@ -193,9 +193,9 @@ module _ (f : Form) (n b : ℕ) where
       omega (arith, same, lock_base c x.txn x)
   own_base_by None Seqnum x a r m ready = omega arith
   own_base_by None (OnGroup Start) x a r m ready = omega (arith, start_base x.txn x m ready)
-  own_base_by None (OnGroup Commit) x a r m ready = omega (arith, left_base x.txn x)
+  own_base_by None (OnGroup Commit) x a r m ready = omega (arith, left_base x.txn x refl)
   own_base_by None (OnGroup Prepare) x a r m ready = omega (arith, prepare_base x.txn x refl)
-  own_base_by None (OnGroup Cancel) x a r m ready = omega (arith, cancel_base x.txn x)
+  own_base_by None (OnGroup Cancel) x a r m ready = omega (arith, cancel_base x.txn x refl)
   own_base_by None (OnWalk First) x a r m ready = omega (arith, cursor_base x.txn (own_walked First x r).cursor x)
   own_base_by None (OnWalk Next) x a r m ready = omega (arith, cursor_base x.txn (own_walked Next x r).cursor x)
   own_base_by None (OnWalk EndWalk) x a r m ready = omega (arith, cursor_base x.txn None x)

@@ -161,9 +161,9 @@ cond_kept true y z m one two = one refl
 cond_kept false y z m one two = two refl
 
 -- of a Commit: an inner one leaves the transaction and the map
-left_kept : (o : Option Txn) (x : Own) (m : Map) → Kept m o → Kept m (own_left o x).txn
-left_kept None x m still = ended_kept x m
-left_kept (Some t) x m still =
+left_kept : (o : Option Txn) (x : Own) (m : Map) → x.txn ≡ o → Kept m o → Kept m (own_left o x).txn
+left_kept None x m e still = subst (Kept m) (sym e) still
+left_kept (Some t) x m e still =
     cond_kept (nat_lt 1 t.depth) _ (ended x) m
     (λ inner u e. subst (IsUntouched m) (some_txn _ u e) (same_untouched m t _ refl refl refl (still t refl)))
     (λ outer. ended_kept x m)
@@ -177,16 +177,16 @@ inner_commit t inner m =
     not_outer true e = absurd (omega (arith, leb-true t.depth 1 e, ltb-true 1 t.depth inner))
     not_outer false e = e
 
-commit_kept : (o : Option Txn) (x : Own) (m : Map) → Kept m o → Kept (cond (commits o) (image_or o m) m) (own_left o x).txn
-commit_kept None x m still = ended_kept x m
-commit_kept (Some t) x m still =
+commit_kept : (o : Option Txn) (x : Own) (m : Map) → x.txn ≡ o → Kept m o → Kept (cond (commits o) (image_or o m) m) (own_left o x).txn
+commit_kept None x m e still = subst (Kept m) (sym e) still
+commit_kept (Some t) x m e still =
     cond_kept (nat_lt 1 t.depth) _ (ended x) (cond (commits_in t) t.image m)
     (λ inner u e. subst (λ z. IsUntouched z u) (sym (inner_commit t inner m)) (subst (IsUntouched m) (some_txn _ u e) (same_untouched m t _ refl refl refl (still t refl))))
     (λ outer. ended_kept x _)
 
-cancel_kept : (o : Option Txn) (x : Own) (m : Map) → Kept m o → Kept m (own_cancelled o x).txn
-cancel_kept None x m still = ended_kept x m
-cancel_kept (Some t) x m still =
+cancel_kept : (o : Option Txn) (x : Own) (m : Map) → x.txn ≡ o → Kept m o → Kept m (own_cancelled o x).txn
+cancel_kept None x m e still = subst (Kept m) (sym e) still
+cancel_kept (Some t) x m e still =
     cond_kept (nat_lt 1 t.depth) _ (ended x) m
     (λ inner u e. subst (IsUntouched m) (some_txn _ u e) (same_untouched m t _ refl refl refl (still t refl)))
     (λ outer. ended_kept x m)
@@ -234,8 +234,8 @@ own_kept_by f (Some q) (OnMap c) x n r m plain prep still = still
 own_kept_by f (Some q) (OnLocks c) x n r m plain prep still = still
 own_kept_by f (Some q) Seqnum x n r m plain prep still = still
 own_kept_by f (Some q) (OnGroup Start) x n r m plain prep still = still
-own_kept_by f (Some q) (OnGroup Commit) x n r m plain prep still = left_kept x.txn x m still
-own_kept_by f (Some q) (OnGroup Prepare) x n r m plain prep still = left_kept x.txn x m still
+own_kept_by f (Some q) (OnGroup Commit) x n r m plain prep still = left_kept x.txn x m refl still
+own_kept_by f (Some q) (OnGroup Prepare) x n r m plain prep still = left_kept x.txn x m refl still
 own_kept_by f (Some q) (OnGroup Cancel) x n r m plain prep still = still
 own_kept_by f (Some q) (OnWalk c) x n r m plain prep still = still
 own_kept_by f None (OnMap c) x n r m plain prep still = in_it x.txn (plain c refl refl) still
@@ -246,9 +246,9 @@ own_kept_by f None (OnMap c) x n r m plain prep still = in_it x.txn (plain c ref
 own_kept_by f None (OnLocks c) x n r m plain prep still = locked_kept f c x m still
 own_kept_by f None Seqnum x n r m plain prep still = still
 own_kept_by f None (OnGroup Start) x n r m plain prep still = started_kept x.txn x m still
-own_kept_by f None (OnGroup Commit) x n r m plain prep still = commit_kept x.txn x m still
+own_kept_by f None (OnGroup Commit) x n r m plain prep still = commit_kept x.txn x m refl still
 own_kept_by f None (OnGroup Prepare) x n r m plain prep still = let got = prep refl refl in prepare_kept x.txn x m n got.0 got.1 refl still
-own_kept_by f None (OnGroup Cancel) x n r m plain prep still = cancel_kept x.txn x m still
+own_kept_by f None (OnGroup Cancel) x n r m plain prep still = cancel_kept x.txn x m refl still
 own_kept_by f None (OnWalk First) x n r m plain prep still = still
 own_kept_by f None (OnWalk Next) x n r m plain prep still = still
 own_kept_by f None (OnWalk EndWalk) x n r m plain prep still = still

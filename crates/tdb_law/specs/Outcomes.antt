@@ -107,9 +107,10 @@ abbrev pub own_started : Option Txn → Own → Map → Own
 own_started None x m = record x { txn = Some (begun_txn x m) }
 own_started (Some t) x m = record x { txn = Some (record t { depth = t.depth + 1 }) }
 
--- a Commit or a Prepare that wasn't done: an inner one leaves the depth one less, an outer one ends the transaction
+-- a Commit or a Prepare that wasn't done: without a transaction all stays, an inner one leaves the depth one less, an outer one ends the
+-- transaction
 abbrev pub own_left : Option Txn → Own → Own
-own_left None x = ended x
+own_left None x = x
 own_left (Some t) x = if nat_lt 1 t.depth then record x { txn = Some (record t { depth = t.depth - 1 }) } else ended x
 
 -- an outer Prepare leaves a prepared transaction, with the steps that it had; an inner one does nothing
@@ -117,9 +118,9 @@ abbrev pub own_prepared : Option Txn → Own → ℕ → Own
 own_prepared None x steps = x
 own_prepared (Some t) x steps = if nat_lt 1 t.depth then x else record x { txn = Some (record t { prepared = Some (if plans_in t then steps else 0) }) }
 
--- an inner Cancel lowers the depth and dooms, an outer one ends the transaction
+-- an inner Cancel lowers the depth and dooms, an outer one ends the transaction; without one all stays
 abbrev pub own_cancelled : Option Txn → Own → Own
-own_cancelled None x = ended x
+own_cancelled None x = x
 own_cancelled (Some t) x = if nat_lt 1 t.depth then record x { txn = Some (record t { depth = t.depth - 1; doomed = true }) } else ended x
 
 abbrev pub own_grouped : GroupCommand → Own → ℕ → Map → Own
@@ -139,7 +140,7 @@ own_walked Next x r = record x { cursor = key_shown r }
 own_walked EndWalk x r = record x { cursor = None }
 own_walked Close x r = closed x
 
--- a refused Commit or Prepare leaves the transaction
+-- a refused Commit or Prepare leaves the transaction that there is
 abbrev pub own_refused : Command → Own → Own
 own_refused (OnGroup Commit) x = own_left x.txn x
 own_refused (OnGroup Prepare) x = own_left x.txn x
