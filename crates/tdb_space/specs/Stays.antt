@@ -1,6 +1,6 @@
 -- What a change of an image leaves to others: which chains it may have changed, and that all else by which somebody may know the
 -- file stays.
-use Rattle.std.specs.Prelude.{◌≡◌, ℕ, ◌<◌, ◌≤◌, ◌⊎◌, List, length, slice_index}
+use Rattle.std.specs.Prelude.{◌≡◌, ℕ, ◌+◌, ◌<◌, ◌≤◌, ◌⊎◌, List, length, slice_index}
 use Rattle.tdb_words.specs.Word.{word}
 use Rattle.tdb_words.specs.Header.{sequence_at}
 use Rattle.tdb_space.specs.Form.{Form, chain_head, free_head}
