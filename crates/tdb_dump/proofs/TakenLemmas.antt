@@ -20,7 +20,9 @@ use Rattle.tdb_dump.specs.Expected.{LeadsAll, Ends, Bars, at_step}
 use Rattle.tdb_dump.specs.Partial.{state_of}
 use Rattle.tdb_dump.specs.BadAt.{BeginsWith}
 use Rattle.tdb_dump.specs.Reading.{Going}
-use Rattle.tdb_dump.specs.Taken.{shown, HasKeysOf, Goes, Took, AddsRecord, RefusedAt, EndsBadlyAt}
+use Rattle.tdb_dump.specs.declared.reader.ReadRefusal.{ReadRefusal}
+use Rattle.tdb_dump.specs.declared.reader.ReadRefusal.TheVariants.{Malformed, Memory}
+use Rattle.tdb_dump.specs.Taken.{shown, HasKeysOf, Goes, GoesNoFurther, Took, AddsRecord, RefusedAt, EndsBadlyAt}
 use Rattle.tdb_dump.proofs.ReadingLemmas.{keys_of-append, Going_begin, Going_begin-front, Going_leads_all, Going_ends, Repeats_refused, Bars_refused, Dump_going, Unfinished_going}
 
 pub none_of : {A : Type 0} (o : Option A) → ((x : A) → o ≡ Some x → ⊥) → o ≡ None
@@ -56,6 +58,18 @@ pub Goes_same : (text : List ℕ) (before : List Pair) (r : Reader) (p : Partial
 Goes_same text before r p same goes =
     let going = subst (λ t. (g : Going text before t) × (g.front ≡ goes.going.front)) (sym same) (goes.going, refl) in
     record { going = going.0; keys = goes.keys; start = goes.start ∙ ap (λ t. shown (length t)) (sym going.1); taken = goes.taken }
+
+-- the same keys, and a record at hand in the same state
+pub Goes_stays : (text : List ℕ) (before : List Pair) (r : Reader) (p : Partial) (keys : BTreeSet (List ℕ)) → state_of p ≡ state_of r.partial → keys.keys ≡ r.keys.keys → Goes text before r
+    → Goes text before (record r { partial = p; keys = keys })
+Goes_stays text before r p keys same kept goes =
+    let there = Goes_same text before r p same goes in
+    record {
+      going = there.going;
+      keys = λ q. ap (λ ks. list_any (is_at (slice_cmp nat_cmp q)) ks) kept ∙ goes.keys q;
+      start = there.start;
+      taken = there.taken;
+    }
 
 module _ (text : List ℕ) (before : List Pair) (old new : Reader) (goes : Goes text before old) where
   pub Goes_leads : (xs : List ℕ) → LeadsAll (state_of old.partial) xs (state_of new.partial) → new.keys ≡ old.keys → new.start ≡ old.start → new.taken ≡ shown (old.taken + length xs) → Goes (text ++ xs) (before ++ []) new
@@ -133,4 +147,17 @@ Took_begin r goes none = record {
   begins = Goes_begins [] [] [] r goes;
   goes = λ _. goes;
   refused = λ at e. absurd (cc);
+  wanting = λ e. absurd (cc);
+}
+
+-- a reader refuses a piece behind a text
+pub Took_refused : (text : List ℕ) (pairs : List Pair) (r : Reader) (e : ReadRefusal) → BeginsWith text pairs → ((at : ℕ) → e ≡ Malformed at → RefusedAt text pairs at)
+    → (e ≡ Memory → GoesNoFurther text pairs r) → Took text pairs (record r { refusal = Some e })
+Took_refused text pairs r e begins malformed wanting = record {
+  begins = begins;
+  goes = λ none. absurd (cc);
+  refused = λ at is. malformed at (cc);
+  wanting = λ is.
+      (let (front, rest, split, goes) = wanting (cc) in
+      (front, rest, split, record { going = goes.going; keys = goes.keys; start = goes.start; taken = goes.taken }));
 }

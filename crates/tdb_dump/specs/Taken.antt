@@ -6,7 +6,7 @@ use Rattle.std.specs.BTreeSet.{BTreeSet, contains}
 use Rattle.tdb_dump.specs.declared.pairs.Pair.{Pair}
 use Rattle.tdb_dump.specs.declared.reader.Reader.{Reader}
 use Rattle.tdb_dump.specs.declared.reader.ReadRefusal.{ReadRefusal}
-use Rattle.tdb_dump.specs.declared.reader.ReadRefusal.TheVariants.{Malformed}
+use Rattle.tdb_dump.specs.declared.reader.ReadRefusal.TheVariants.{Malformed, Memory}
 use Rattle.tdb_dump.specs.declared.partial.Field.TheVariants.{Key}
 use Rattle.tdb_dump.specs.declared.partial.Step.TheVariants.{Between}
 use Rattle.tdb_dump.specs.Spelled.{has_key}
@@ -50,9 +50,19 @@ RefusedAt text pairs at = (place : ℕ) × (at ≡ shown place) × Refused text 
 abbrev pub EndsBadlyAt : List ℕ → List Pair → ℕ → Type 0
 EndsBadlyAt text pairs at = (place : ℕ) × (at ≡ shown place) × EndsBadly text pairs place
 
+-- whatever the reader had taken and given, it still has
+abbrev pub StillGoes : Reader → Reader → Type 0
+StillGoes old new = (text : List ℕ) (pairs : List Pair) → Goes text pairs old → Goes text pairs new
+
+-- the reader has taken a front of the text, given the pairs of all records that are whole in it, and taken nothing behind
+abbrev pub GoesNoFurther : List ℕ → List Pair → Reader → Type 0
+GoesNoFurther text pairs r = (front : List ℕ) × (rest : List ℕ) × (text ≡ front ++ rest) × Goes front pairs r
+
 -- The reader has taken the text in some pieces, and given these pairs, of whole records that the text begins with: as
--- long as it refused nothing, of all of them; where it refused the text, of those before the place that it names.
+-- long as it refused nothing, of all of them; where it refused the text, of those before the place that it names; where
+-- memory was wanting, of those before the place at which it was.
 pub record Took (text : List ℕ) (pairs : List Pair) (r : Reader) : Type 0 where
   pub begins : BeginsWith text pairs
   pub goes : refusal_of r ≡ None → Goes text pairs r
   pub refused : (at : ℕ) → refusal_of r ≡ Some (Malformed at) → RefusedAt text pairs at
+  pub wanting : refusal_of r ≡ Some Memory → GoesNoFurther text pairs r

@@ -38,6 +38,13 @@ impl Pairs {
         }
     }
 
+    /// The list of these.
+    pub(crate) fn of(items: Vec<Pair>) -> Self
+        ensures { result ≡ items.items }
+    {
+        Pairs { items }
+    }
+
     /// Puts a pair at the end. Where memory is wanting the list stays as it was.
     pub fn push(&mut self, pair: Pair) -> Result<(), AllocError>
         ensures ok { OnOk result (self.new ≡ self.old ++ pair ∷ []) }

@@ -1,6 +1,6 @@
 //! The record at hand of a dump text that comes in pieces.
 
-ghost use Rattle.std.specs.Prelude.{◌≡◌, ℕ, ◌+◌, ◌*◌, ◌^◌, ◌<◌, ◌≤◌, ◌⊎◌, ◌↔◌, [], ◌∷◌, length, take, slice_index, true, IsTrue, IfOk, OnOk, MatchOption};
+ghost use Rattle.std.specs.Prelude.{◌≡◌, ℕ, ◌+◌, ◌*◌, ◌^◌, ◌<◌, ◌≤◌, ◌⊎◌, ◌↔◌, [], ◌∷◌, length, take, slice_index, true, IsTrue, IfOk, OnOk, OnErr, MatchOption};
 ghost use Rattle.tdb_dump.specs.Escape.{is_plain};
 ghost use Rattle.tdb_dump.specs.Expected.{at_step, Moves, moved, taken_of, with_bytes, TakesByte, LeadsAll};
 
@@ -180,7 +180,8 @@ impl Partial {
 
     /// Puts bytes at the end of the field.
     fn put(&mut self, bytes: &[u8]) -> Result<(), AllocError>
-        ensures { OnOk result (state_of self.new ≡ with_bytes (state_of self.old) bytes.now) }
+        ensures ok { OnOk result (state_of self.new ≡ with_bytes (state_of self.old) bytes.now) }
+        ensures err { OnErr result (state_of self.new ≡ state_of self.old) }
     {
         match self.field {
             Field::Key => self.key.extend_from_slice(bytes),
@@ -192,6 +193,7 @@ impl Partial {
     fn make(&mut self, next: Move) -> Result<Taken, AllocError>
         ensures state { OnOk result (state_of self.new ≡ moved next (state_of self.old)) }
         ensures taken { IfOk result (λ taken. taken ≡ taken_of next) }
+        ensures err { OnErr result (state_of self.new ≡ state_of self.old) }
     {
         match next {
             Move::Refuse => return Ok(Taken::Refused),
@@ -234,9 +236,10 @@ impl Partial {
         }
     }
 
-    /// Takes one byte.
+    /// Takes one byte, or where memory is wanting nothing.
     pub(crate) fn take_byte(&mut self, byte: u8) -> Result<Taken, AllocError>
-        ensures { IfOk result (λ taken. TakesByte (state_of self.old) byte (state_of self.new) taken) }
+        ensures ok { IfOk result (λ taken. TakesByte (state_of self.old) byte (state_of self.new) taken) }
+        ensures err { OnErr result (state_of self.new ≡ state_of self.old) }
     {
         match self.fixed.split_first() {
             Some((first, _)) if *first != byte => Ok(Taken::Refused),
@@ -251,10 +254,12 @@ impl Partial {
         }
     }
 
-    /// Takes the plain bytes of the field that stand at the front of a text, and answers how many they are.
+    /// Takes the plain bytes of the field that stand at the front of a text, and answers how many they are. Where
+    /// memory is wanting it takes none.
     pub(crate) fn take_run(&mut self, text: &[u8]) -> Result<usize, AllocError>
         ensures within { IfOk result (λ n. n ≤ length text.now) }
         ensures leads { IfOk result (λ n. LeadsAll (state_of self.old) (take n text.now) (state_of self.new)) }
+        ensures err { OnErr result (state_of self.new ≡ state_of self.old) }
     {
         let left = match self.step {
             Step::Text(left) if self.fixed.is_empty() => left,

@@ -1,6 +1,6 @@
 //! Dump text, as it is read in pieces.
 
-ghost use Rattle.std.specs.Prelude.{◌≡◌, ◌≤◌, ◌<◌, ℕ, List, [], ◌∷◌, ◌++◌, length, take, true, IfOk, IfErr, OnOk, OnErr, Some, None};
+ghost use Rattle.std.specs.Prelude.{◌≡◌, ◌≤◌, ◌<◌, ℕ, List, [], ◌∷◌, ◌++◌, length, take, true, IfOk, IfErr, OnOk, OnErr, Some, None, vec_len, vec_capacity};
 ghost use Rattle.std.specs.Option.{option_to_list};
 ghost use Rattle.tdb_dump.specs.declared.pairs.Pair.{Pair};
 ghost use Rattle.tdb_dump.specs.declared.reader.ReadRefusal.TheVariants.{Malformed, Memory};
@@ -55,7 +55,7 @@ pub struct Reader {
 }
 
 impl Reader {
-    ghost use Rattle.tdb_dump.specs.Taken.{Goes, Took, RefusedAt, EndsBadlyAt, HasKeysOf, AddsRecord, refusal_of};
+    ghost use Rattle.tdb_dump.specs.Taken.{Goes, StillGoes, GoesNoFurther, Took, RefusedAt, EndsBadlyAt, HasKeysOf, AddsRecord, refusal_of};
 
     /// A reader of a text from its beginning. It takes no memory.
     pub fn new(alloc: Global) -> Self
@@ -73,12 +73,15 @@ impl Reader {
     }
 
     /// Takes the next piece of the text, and gives the pairs that became whole. Where the piece has a fault
-    /// behind such pairs, they are given, and the next call answers the fault. After a refusal every later
-    /// call answers the same. Takes time in the length of the piece, and for each pair in the logarithm of
-    /// the number of keys.
+    /// behind such pairs, or memory is wanting there, they are given, and the next call answers the refusal.
+    /// After a refusal every later call answers the same, and what was read is given in full up to the place
+    /// of it: no record is whole in front of that place but those whose pairs were given. Takes time in the
+    /// length of the piece, and for each pair in the logarithm of the number of keys.
     pub fn feed(&mut self, piece: &[u8]) -> Result<Pairs, ReadRefusal>
         ensures given { IfOk result (λ pairs. (text : List ℕ) (before : List Pair) →
             Took text before self.old → Took (text ++ piece.now) (before ++ pairs) self.new) }
+        ensures refused { OnErr result ((text : List ℕ) (before : List Pair) →
+            Took text before self.old → Took (text ++ piece.now) before self.new) }
         ensures malformed { (text : List ℕ) (before : List Pair) (at : ℕ) →
             Took text before self.old → result ≡ Err (Malformed at) →
             RefusedAt (text ++ piece.now) before at }
@@ -90,15 +93,15 @@ impl Reader {
         if let Some(refusal) = self.refusal {
             return Err(refusal);
         }
-        let mut pairs = Pairs::new(self.alloc);
+        let mut pairs = Vec::new(self.alloc);
         match self.read(piece, &mut pairs) {
-            Ok(()) => Ok(pairs),
+            Ok(()) => Ok(Pairs::of(pairs)),
             Err(refusal) => {
                 self.refusal = Some(refusal);
                 if pairs.is_empty() {
                     Err(refusal)
                 } else {
-                    Ok(pairs)
+                    Ok(Pairs::of(pairs))
                 }
             }
         }
@@ -127,22 +130,26 @@ impl Reader {
         Err(refusal)
     }
 
-    /// Reads a piece to its end, or to its first fault, and puts the pairs that became whole at the end of the list.
-    fn read(&mut self, piece: &[u8], pairs: &mut Pairs) -> Result<(), ReadRefusal>
-        requires { pairs.old ≡ [] }
+    /// Reads a piece to its end, or to its first fault, and puts the pairs that became whole at the end of the list. It
+    /// makes room for a pair before it reads one, so that none is lost where memory is wanting.
+    fn read(&mut self, piece: &[u8], pairs: &mut Vec<Pair>) -> Result<(), ReadRefusal>
+        requires { pairs.old.items ≡ [] }
         ensures goes { OnOk result ((text : List ℕ) (before : List Pair) →
-            Goes text before self.old → Goes (text ++ piece.now) (before ++ pairs.new) self.new) }
+            Goes text before self.old → Goes (text ++ piece.now) (before ++ pairs.new.items) self.new) }
         ensures malformed { (text : List ℕ) (before : List Pair) (at : ℕ) →
             Goes text before self.old → result ≡ Err (Malformed at) →
-            RefusedAt (text ++ piece.now) (before ++ pairs.new) at }
+            RefusedAt (text ++ piece.now) (before ++ pairs.new.items) at }
+        ensures wanting { result ≡ Err Memory → (text : List ℕ) (before : List Pair) → Goes text before self.old →
+            GoesNoFurther (text ++ piece.now) (before ++ pairs.new.items) self.new }
         ensures begins { (text : List ℕ) (before : List Pair) → Goes text before self.old →
-            BeginsWith (text ++ piece.now) (before ++ pairs.new) }
+            BeginsWith (text ++ piece.now) (before ++ pairs.new.items) }
         ensures refusal { refusal_of self.new ≡ refusal_of self.old }
     {
         let mut at = 0;
         while at < piece.len() {
+            pairs.reserve(1)?;
             let (count, pair) = self.advance(&piece[at..])?;
-            add(pairs, pair)?;
+            add(pairs, pair);
             at += count;
         }
         Ok(())
@@ -158,6 +165,7 @@ impl Reader {
         ensures malformed { (text : List ℕ) (before : List Pair) (at : ℕ) →
             Goes text before self.old → result ≡ Err (Malformed at) →
             RefusedAt (text ++ piece.now) before at }
+        ensures wanting { result ≡ Err Memory → StillGoes self.old self.new }
         ensures refusal { refusal_of self.new ≡ refusal_of self.old }
     {
         let run = self.partial.take_run(piece)?;
@@ -178,12 +186,14 @@ impl Reader {
         }
     }
 
-    /// Gives the pair of the record that the next byte ends, unless its key came before.
+    /// Gives the pair of the record that the next byte ends, unless its key came before. Where memory is wanting the
+    /// record stays at hand.
     fn end_record(&mut self) -> Result<Pair, ReadRefusal>
         ensures added { IfOk result (AddsRecord self.old self.new) }
         ensures repeated { (at : ℕ) (before : List Pair) → HasKeysOf self.old.keys before →
             result ≡ Err (Malformed at) →
             (has_key before (state_of self.old.partial).key ≡ true) × (at ≡ self.old.start) }
+        ensures wanting { result ≡ Err Memory → StillGoes self.old self.new }
         ensures refusal { refusal_of self.new ≡ refusal_of self.old }
     {
         let key = Bytes::copy(self.alloc, self.partial.key())?;
@@ -197,12 +207,11 @@ impl Reader {
 }
 
 /// Puts the pair at the end, where there is one.
-fn add(pairs: &mut Pairs, pair: Option<Pair>) -> Result<(), AllocError>
-    ensures ok { OnOk result (pairs.new ≡ pairs.old ++ option_to_list pair) }
-    ensures err { OnErr result (pairs.new ≡ pairs.old) }
+fn add(pairs: &mut Vec<Pair>, pair: Option<Pair>)
+    requires room { vec_len pairs.old < vec_capacity pairs.old }
+    ensures { pairs.new.items ≡ pairs.old.items ++ option_to_list pair }
 {
-    match pair {
-        Some(pair) => pairs.push(pair),
-        None => Ok(()),
+    if let Some(pair) = pair {
+        let _ = pairs.push(pair);
     }
 }

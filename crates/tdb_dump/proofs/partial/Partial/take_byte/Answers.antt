@@ -4,8 +4,8 @@ use Rattle.tdb_dump.proofs.ExpectedLemmas.{empty_list}
 use Rattle.tdb_dump.proofs.MoveLemmas.{takes_move}
 use Rattle.tdb_dump.proofs.partial.Partial.take_byte.Goals as goal
 
-pub returns-in_ok-taken-in-None : goal.returns-in_ok-taken-in-None
-returns-in_ok-taken-in-None c =
+pub returns-in_ok-taken-in-None-clause-ok : goal.returns-in_ok-taken-in-None-clause-ok
+returns-in_ok-taken-in-None-clause-ok c =
     let s = c.args.self.now in
     let none : s.fixed.now ≡ [] = empty_list s.fixed.now c.in-None.ensures.cases in
     let at : List ℕ → State = λ fixed. record { fixed = fixed; step = s.step; field = s.field; key = s.key.items; value = s.value.items } in

@@ -16,6 +16,6 @@ returns-clause-leads c =
     let leads = plain_run_leads run c.in-Text.left c.plain_run-run.result s.field s.key.items s.value.items (omega (arith, length-take c.plain_run-run.result c.args.text.now)) c.plain_run-run.ensures.few (λ k h. rw get_or-take (c.plain_run-run.ensures.plain k h)) in
     let from : List ℕ → Step → State = λ fixed step. record { fixed = fixed; step = step; field = s.field; key = s.key.items; value = s.value.items } in
     let to : State → State = λ t. record t { step = Text (c.in-Text.left - c.plain_run-run.result) } in
-    subst (λ t. LeadsAll (state_of s) run (to t)) (sym c.in_ok-put.ensures)
+    subst (λ t. LeadsAll (state_of s) run (to t)) (sym c.in_ok-put.ensures.ok)
     (subst (λ fixed. LeadsAll (from fixed s.step) run (to (with_bytes (from fixed s.step) run))) (sym none)
     (subst (λ step. LeadsAll (from [] step) run (to (with_bytes (from [] step) run))) (sym c.in-Text.is) leads))

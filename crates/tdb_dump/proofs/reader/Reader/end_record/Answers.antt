@@ -4,7 +4,7 @@ use Rattle.std.specs.BTreeMap.{is_at}
 use Rattle.std.specs.Ordering.{nat_cmp}
 use Rattle.std.specs.Cmp.Lexicographic.{slice_cmp}
 use Rattle.tdb_dump.specs.Spelled.{has_key}
-use Rattle.tdb_dump.proofs.TakenLemmas.{HasKeysOf-push, pair_same, false_from_not}
+use Rattle.tdb_dump.proofs.TakenLemmas.{Goes_stays, HasKeysOf-push, pair_same, false_from_not}
 use Rattle.tdb_dump.proofs.reader.Reader.end_record.Goals as goal
 
 pub returns-clause-added : goal.returns-clause-added
@@ -22,3 +22,6 @@ returns-clause-added c =
       taken = c.saturating_add-self.ensures;
       start = refl;
     }
+
+pub returns-in_err-insert-clause-wanting : goal.returns-in_err-insert-clause-wanting
+returns-in_err-insert-clause-wanting c = λ wanting text pairs goes. Goes_stays text pairs c.args.self.now c.args.self.now.partial c.insert.new.self refl c.in_err-insert.ensures.err goes

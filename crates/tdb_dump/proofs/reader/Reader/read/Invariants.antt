@@ -7,7 +7,7 @@ use Rattle.tdb_dump.proofs.reader.Reader.read.Given as goal
 abbrev pub invariant-loop-at : goal.invariant-loop-at
 invariant-loop-at l = record {
   within : l.at ≤ length l.piece;
-  goes : (text : List ℕ) (before : List Pair) → Goes text before l.fn.self → Goes (text ++ take l.at l.piece) (before ++ l.pairs) l.self;
+  goes : (text : List ℕ) (before : List Pair) → Goes text before l.fn.self → Goes (text ++ take l.at l.piece) (before ++ l.pairs.items) l.self;
   refusal : refusal_of l.self ≡ refusal_of l.fn.self;
 }
 
