@@ -3,8 +3,8 @@
 use crate::wiping::wipe;
 use std::alloc::{AllocError, Global};
 use std::test::Fail;
-use tdb_disk::{Call, MemDisk};
-use tdb_space::{Direct, Io};
+use tdb_disk::MemDisk;
+use tdb_space::Direct;
 use tdb_words::{FREE, HashKind, Header, Order, USED, word_bytes};
 
 fn header(order: Order) -> Header {
@@ -40,8 +40,8 @@ fn record(at: u16) -> [(usize, u32); 8] {
     ]
 }
 
-// A file of so many bytes whose three chains have a record each, and of which the word at 44 leads to an undo area with 12 bytes
-// of content, or to none.
+// A file of so many bytes whose three chains have a record each, and of which the word at 44 leads to an undo area with
+// 12 bytes of content, or to none.
 fn file(
     alloc: Global,
     order: Order,
@@ -140,26 +140,6 @@ fn leaves_out_what_is_no_file(rt: HostRuntime) -> Result<(), Fail> {
         let mut disk = MemDisk::new(alloc, &bytes)?;
         wipe(&mut Direct::new(&mut disk, &header(Order::Little)))?;
         assert_eq!(rt; disk.as_slice(), bytes.as_slice(), "of {len}");
-    }
-    Ok(())
-}
-
-#[test]
-fn hands_faults_on(rt: HostRuntime) -> Result<(), Fail> {
-    let alloc = rt.alloc();
-    for (call, count) in [
-        (Call::Len, 1),
-        (Call::Read, 2),
-        (Call::Write, 5),
-        (Call::WriteWord, 1),
-    ] {
-        for nth in 0..count {
-            let bytes = file(alloc, Order::Big, 316, [184, 216, 284], 248)?;
-            let mut disk = MemDisk::new(alloc, &bytes)?;
-            disk.fail(call, nth)?;
-            let answer = wipe(&mut Direct::new(&mut disk, &header(Order::Big)));
-            assert_eq!(rt; answer, Err(Io), "at {nth}");
-        }
     }
     Ok(())
 }
