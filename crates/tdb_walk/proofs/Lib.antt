@@ -6,6 +6,7 @@ pub mod Searched
 pub mod Locked
 pub mod Ways
 pub mod Placed
+pub mod Unmoved
 pub mod Purged
 pub mod Going
 pub mod Bytes

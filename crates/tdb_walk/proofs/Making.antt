@@ -1,36 +1,33 @@
 -- What a turn makes of the image, and what is known of it where the cursor stands then.
-use Rattle.std.proofs.Common.{◌≡◌, ℕ, ◌+◌, ◌<◌, Bool, true, false, ◌==◌, cond, List, [], ◌∷◌, Option, Some, None, refl, sym, ◌∙◌, ap, subst, inl, inr, nat_lt}
-use Rattle.std.specs.Prelude.{Result, IfOk, if◌then◌else◌}
-use Rattle.std.proofs.lemmas.Bool.{cases_eq, eqb-true}
+use Rattle.std.proofs.Common.{◌≡◌, ℕ, ◌<◌, List, Option, Some, None, refl, sym, ◌∙◌, ap, subst, inl, inr}
+use Rattle.std.specs.Prelude.{Result, IfOk}
+use Rattle.std.proofs.lemmas.Bool.{cases_eq}
 use Rattle.tdb_words.specs.declared.record.TheConstants.{USED}
 use Rattle.tdb_space.specs.Form.{Form}
-use Rattle.tdb_space.specs.Record.{key_at, magic_of}
+use Rattle.tdb_space.specs.Record.{magic_of}
 use Rattle.tdb_space.specs.Chain.{chain_of, Member}
 use Rattle.tdb_space.specs.Extents.{HandPair}
 use Rattle.tdb_space.specs.Accepted.{AcceptWith}
 use Rattle.tdb_free.proofs.TakenAs.{member_without}
 use Rattle.tdb_chain.specs.declared.place.Place.{Place as Found}
-use Rattle.tdb_law.specs.Layout.{Cell, Place, cells, behind, chains_in}
-use Rattle.tdb_law.specs.Layout.Place.{off_chains, before_chain, on_record}
 use Rattle.tdb_locks.specs.HeldLocks.{HeldLocks}
 use Rattle.tdb_locks.specs.declared.piece.Piece.{Piece}
 use Rattle.tdb_locks.specs.declared.turn.Reply.{Reply}
 use Rattle.tdb_locks.specs.declared.turn.Turn.{Turn}
 use Rattle.tdb_locks.specs.declared.turn.Turn.TheVariants.{Blocked, Done}
-use Rattle.tdb_walk.specs.declared.live.Live.{Live}
 use Rattle.tdb_walk.specs.declared.purging.DeadRecord.{DeadRecord}
 use Rattle.tdb_walk.specs.declared.standing.Standing.{Standing}
 use Rattle.tdb_walk.specs.declared.standing.Standing.TheVariants.{Before, On, Past}
 use Rattle.tdb_walk.specs.declared.stage.Stage.{Stage}
 use Rattle.tdb_walk.specs.declared.stage.Stage.TheVariants.{Rested, Reading, Writing, Freeing}
-use Rattle.tdb_walk.specs.NextLive.{first_live, left_in, IsNext, StandsIn}
+use Rattle.tdb_walk.specs.NextLive.{StandsIn}
 use Rattle.tdb_walk.specs.Purging.{IsDeadIn, IsDeadRecord, IsPrepared, IsPurged, PurgesOf}
 use Rattle.tdb_walk.specs.Cursors.{At, Knows, LeaveLed, MoveLed, StepMade, dead_of}
 use Rattle.tdb_walk.specs.Cursors.LeaveLed.{leaves, cannot}
 use Rattle.tdb_walk.specs.Cursors.Came.{shown, barred, wants}
 use Rattle.tdb_walk.specs.Cursors.MoveLed.{comes, stops, ends, gives_up}
 use Rattle.tdb_walk.specs.Cursors.StepMade.{keeps, purges, waits, starves}
-use Rattle.tdb_walk.proofs.Ahead.{none_some, left_here, left_else}
+use Rattle.tdb_walk.proofs.Ahead.{none_some}
 use Rattle.tdb_walk.proofs.Arrived.{met_member}
 use Rattle.tdb_walk.proofs.Coming.{met_used}
 use Rattle.tdb_walk.proofs.Turns.{ok_more}
@@ -77,7 +74,7 @@ made_then told small smaller r f f2 img img2 b at later form image less made =
 
 -- a move that is blocked before a chain leaves the cursor there
 pub stopped_led : (f : Form) (img : List ℕ) (ps : List Piece) (owner : ℕ) (own : HeldLocks) (from : Standing) (at later : At) (turn : Turn) (dead : Option DeadRecord) (chain other byte : ℕ)
-    → MoveLed f img ps owner own from at (record { place = Before chain; stage = Rested }) (Blocked other byte) → LeaveLed dead (Before chain) (Blocked other byte) later turn → MoveLed f img ps owner own from at later turn
+    → MoveLed f img ps owner own from at (record { place = Before chain; stage = Rested }) (Blocked other byte) → LeaveLed dead (Before chain) Past (Blocked other byte) later turn → MoveLed f img ps owner own from at later turn
 stopped_led f img ps owner own from at later turn dead chain other byte led (leaves is there) =
     subst (λ x. MoveLed f img ps owner own from at later x) (sym is) (subst (λ x. MoveLed f img ps owner own from at x (Blocked other byte)) (sym there) led)
 stopped_led f img ps owner own from at later turn dead chain other byte led (cannot some is there) = gives_up is there

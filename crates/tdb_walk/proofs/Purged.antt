@@ -1,10 +1,15 @@
 -- A dead record is taken out of its chain, and then given to the free list.
-use Rattle.std.proofs.Common.{◌≡◌, ℕ, ◌+◌, ◌<◌, ◌≤◌, List, ◌∷◌, ◌∙◌, ap, arith}
+use Rattle.std.proofs.Common.{◌≡◌, ℕ, ◌+◌, ◌<◌, ◌≤◌, ◌^◌, List, ◌∷◌, length, ◌∙◌, ap, subst, arith}
+use Rattle.tdb_words.specs.declared.record.Rec.{Rec}
+use Rattle.tdb_words.specs.declared.record.TheConstants.{USED}
+use Rattle.tdb_words.specs.Header.{sequence_at}
+use Rattle.tdb_words.specs.Word.{word}
 use Rattle.tdb_words.proofs.Words.{word_agrees}
 use Rattle.tdb_space.specs.Form.{Form}
-use Rattle.tdb_space.specs.Record.{rec_len_of}
+use Rattle.tdb_space.specs.Record.{rec_len_of, magic_of}
 use Rattle.tdb_space.specs.Chain.{chain_of, free_of, without, Member}
 use Rattle.tdb_space.specs.Extents.{HandPair, once, extent_at}
+use Rattle.tdb_space.specs.Accepted.{AcceptWith}
 use Rattle.tdb_space.specs.Stays.{ChainsStay, FreeStays}
 use Rattle.tdb_space.proofs.Counts.{once_in}
 use Rattle.tdb_space.proofs.Members.{member_held}
@@ -13,8 +18,9 @@ use Rattle.tdb_free.specs.FreeList.{free_pairs, give_to, GivenBack}
 use Rattle.tdb_free.proofs.TakenAs.{pairs_kept}
 use Rattle.tdb_chain.specs.declared.place.Place.{Place}
 use Rattle.tdb_chain.specs.Place.{IsPlace}
-use Rattle.tdb_chain.specs.Changed.{Purged, hand_at}
+use Rattle.tdb_chain.specs.Changed.{Purged, OldOrWord, hand_at}
 use Rattle.tdb_walk.specs.Purging.{IsPlaceIn, IsPurged}
+use Rattle.tdb_walk.proofs.Unmoved.{led_live, ahead_now, number_led}
 
 -- a place in a chain is a place of the image
 abbrev pub place_of_chain : (f : Form) (img : List ℕ) (chain off : ℕ) (p : Place) → chain < f.chains → IsPlaceIn f img chain off p → IsPlace f img p
@@ -39,11 +45,18 @@ module _ (f : Form) (a m b : List ℕ) (chain off : ℕ) (p : Place) (hand : Han
   hand_is : hand ≡ (off, rec_len_of f.order a off)
   hand_is = taken ∙ (λ j. (p.off, (place.header j).rec_len)) ∙ (λ j. (place.there j, rec_len_of f.order a (place.there j)))
 
-  pub purged_given : Purged f a m chain (without p.off (chain_of f a chain)) hands (hand ∷ hands) → GivenBack f m b hand hands → ChainsStay f m b hands → IsPurged f a b chain off hands
-  purged_given P G S = record {
+  dead_there : (p.rec.magic ≡ USED → ⊥) → magic_of f.order a off ≡ USED → ⊥
+  dead_there dead used = dead (ap (λ (r : Rec). r.magic) place.header ∙ ap (magic_of f.order a) place.there ∙ used)
+
+  pub purged_given : AcceptWith f a hands → (p.rec.magic ≡ USED → ⊥) → p.rec.next < 2 ^ 32 → p.before + 4 ≤ length a → length a ≤ length m → OldOrWord f.order a p.before p.rec.next m
+      → Purged f a m chain (without p.off (chain_of f a chain)) hands (hand ∷ hands) → GivenBack f m b hand hands → ChainsStay f m b hands → word f.order b sequence_at ≡ word f.order m sequence_at → IsPurged f a b chain off hands
+  purged_given A dead fits within longer written P G S number = record {
     accepted = G.accepted;
     map = λ key. S.map key ∙ P.map key;
     offsets = (S.only.chains chain below (λ never. never)).same_offsets ∙ P.changed.offsets ∙ ap (λ x. without x (chain_of f a chain)) place.there;
     only = changes_then f a m b (λ k. k ≡ chain) P.changed.only (changes_weaker f m b (λ k. ⊥) (λ k. k ≡ chain) (λ k never. absurd never) S.only);
+    number = number ∙ number_led f a m chain (without p.off (chain_of f a chain)) hands (hand ∷ hands) A below P.changed;
+    ahead = ahead_now f a m b chain off hands (hand ∷ hands) below A (dead_there dead) (subst (λ x. Purged f a m chain (without x (chain_of f a chain)) hands (hand ∷ hands)) place.there P)
+        (led_live f a m p hands A (place_of_chain f a chain off p below place) fits within longer written) S;
     list = G.list ∙ (λ j. give_to (free_same f a m P.changed.frees j) (hand_is j));
   }

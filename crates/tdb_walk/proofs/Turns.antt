@@ -1,26 +1,18 @@
 -- Ways and turns over lock tables that say the same, and what others hold where a cursor lets go.
-use Rattle.std.proofs.Common.{◌≡◌, ℕ, Bool, true, false, List, Option, Some, None, Ok, Err, refl, ◌∙◌, subst, inl, inr}
-use Rattle.std.specs.Prelude.{◌≢◌, Result, IfOk}
-use Rattle.std.proofs.lemmas.Bool.{ne_eqb}
+use Rattle.std.proofs.Common.{◌≡◌, ℕ, List, Option, Some, None, Ok, Err, refl, subst, inl, inr}
+use Rattle.std.specs.Prelude.{Result, IfOk}
 use Rattle.tdb_space.specs.Form.{Form}
 use Rattle.tdb_locks.specs.HeldLocks.{HeldLocks}
-use Rattle.tdb_locks.specs.LockTable.{held}
-use Rattle.tdb_locks.specs.declared.kind.Kind.{Kind}
 use Rattle.tdb_locks.specs.declared.piece.Piece.{Piece}
 use Rattle.tdb_locks.specs.declared.turn.Turn.{Turn}
 use Rattle.tdb_law.specs.Layout.{Place}
 use Rattle.tdb_walk.specs.declared.live.Live.{Live}
-use Rattle.tdb_walk.specs.declared.standing.Standing.{Standing}
-use Rattle.tdb_walk.specs.declared.standing.Standing.TheVariants.{Before, On, Past}
-use Rattle.tdb_walk.specs.declared.stage.Stage.{Stage}
-use Rattle.tdb_walk.specs.declared.stage.Stage.TheVariants.{Rested, Reading, Writing, Freeing}
 use Rattle.tdb_walk.specs.declared.way.Way.{Way}
 use Rattle.tdb_walk.specs.declared.way.Way.TheVariants.{Met, Blocked as Stopped, End}
 use Rattle.tdb_walk.specs.NextLive.{IsNext}
 use Rattle.tdb_words.specs.Record.{rec_at}
-use Rattle.tdb_walk.specs.Way.{SameLocks, SameOthers, IsWay, lock_byte, reads_chain}
-use Rattle.tdb_walk.specs.ByteLocks.{Holding, with_byte, reads_all}
-use Rattle.tdb_walk.specs.Cursors.{At, let_go, free_byte, Came}
+use Rattle.tdb_walk.specs.Way.{SameLocks, IsWay}
+use Rattle.tdb_walk.specs.Cursors.{At, Came}
 use Rattle.tdb_walk.specs.Cursors.Came.{shown, barred, wants}
 use Rattle.tdb_walk.proofs.Locked.{can_read_then, held_off_then, others_same, free_then, first_then}
 

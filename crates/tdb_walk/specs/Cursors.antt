@@ -123,6 +123,12 @@ from_of First Past = Before 0
 from_of Next place = place
 from_of Leave place = place
 
+-- Where a cursor stands after a command for which memory was wanting: First and Next end it, and a leave leaves it where it stood.
+abbrev pub spared_of : Goal → Standing → Standing
+spared_of First place = Past
+spared_of Next place = Past
+spared_of Leave place = place
+
 -- what the last turn of a command does
 abbrev pub last_of : Goal → Standing → Act
 last_of First place = Move (from_of First place)
@@ -171,29 +177,30 @@ held_moved own owner at (On chain off) (Done reply) h = let_go own owner at.plac
 held_moved own owner at (Before chain) turn h = let_go own owner at.place at.stage (Before chain) h
 held_moved own owner at Past turn h = let_go own owner at.place at.stage Past h
 
--- what is held after a turn that takes a lock
-abbrev pub held_locked : HeldLocks → ℕ → At → StepLock → Turn → Holding → Holding
-held_locked own owner at lock Step h = with_byte (covers own lock) owner (byte_of lock) (Some (kind_of lock)) h
-held_locked own owner at lock (Blocked other byte) h = h
-held_locked own owner at lock (Done reply) h = let_go own owner at.place at.stage Past h
+-- what is held after a turn that takes a lock, where the cursor stands at this place then
+abbrev pub held_locked : HeldLocks → ℕ → At → Standing → StepLock → Turn → Holding → Holding
+held_locked own owner at place lock Step h = with_byte (covers own lock) owner (byte_of lock) (Some (kind_of lock)) h
+held_locked own owner at place lock (Blocked other byte) h = h
+held_locked own owner at place lock (Done reply) h = let_go own owner at.place at.stage place h
 
 -- what is held after a turn that led from one place to another
 abbrev pub held_after : HeldLocks → ℕ → Act → At → At → Turn → Holding → Holding
-held_after own owner (Lock lock) at later turn h = held_locked own owner at lock turn h
+held_after own owner (Lock lock) at later turn h = held_locked own owner at later.place lock turn h
 held_after own owner (Move from) at later turn h = held_moved own owner at later.place turn h
-held_after own owner End at later turn h = let_go own owner at.place at.stage Past h
+held_after own owner End at later turn h = let_go own owner at.place at.stage later.place h
 
 -- A turn that takes a lock: it is taken or was covered, and the cursor is so much further; or the turn is blocked by the first conflict,
--- and the cursor is as it was; or memory is wanting, and the cursor has ended.
-abbrev pub LockLed : List Piece → ℕ → HeldLocks → StepLock → At → At → Turn → Type 0
-LockLed ps owner own lock at later Step = (later ≡ record at { stage = stage_of lock }) × CanHold (covers own lock) ps owner (byte_of lock) (kind_of lock)
-LockLed ps owner own lock at later (Blocked other byte) = (later ≡ at) × IsKeptFrom (covers own lock) ps owner (byte_of lock) (kind_of lock) other byte
-LockLed ps owner own lock at later (Done reply) = (reply ≡ Reply.Memory) × (later ≡ rested Past)
+-- and the cursor is as it was; or memory is wanting, and the cursor is at the place where it is spared.
+abbrev pub LockLed : List Piece → ℕ → HeldLocks → StepLock → Standing → At → At → Turn → Type 0
+LockLed ps owner own lock spared at later Step = (later ≡ record at { stage = stage_of lock }) × CanHold (covers own lock) ps owner (byte_of lock) (kind_of lock)
+LockLed ps owner own lock spared at later (Blocked other byte) = (later ≡ at) × IsKeptFrom (covers own lock) ps owner (byte_of lock) (kind_of lock) other byte
+LockLed ps owner own lock spared at later (Done reply) = (reply ≡ Reply.Memory) × (later ≡ rested spared)
 
--- A turn in which a cursor leaves its record for a place: it does so; or memory is wanting for the purge, and the cursor has ended.
-pub data LeaveLed (dead : Option DeadRecord) (place : Standing) (told : Turn) (later : At) (turn : Turn) : Type 0 where
-  leaves : turn ≡ told → later ≡ rested place → LeaveLed dead place told later turn
-  cannot : (dead ≡ None → ⊥) → turn ≡ Done Reply.Memory → later ≡ rested Past → LeaveLed dead place told later turn
+-- A turn in which a cursor leaves its record for a place: it does so; or memory is wanting for the purge, and the cursor is at the
+-- place where it is spared.
+pub data LeaveLed (dead : Option DeadRecord) (place spared : Standing) (told : Turn) (later : At) (turn : Turn) : Type 0 where
+  leaves : turn ≡ told → later ≡ rested place → LeaveLed dead place spared told later turn
+  cannot : (dead ≡ None → ⊥) → turn ≡ Done Reply.Memory → later ≡ rested spared → LeaveLed dead place spared told later turn
 
 -- A turn at a record to which a move has come: the cursor stands there, reads the record's byte, and the reply is the record's pair; or
 -- another opener holds that byte for writing, and the cursor is as it was; or memory is wanting, and the cursor has ended.
@@ -211,10 +218,10 @@ pub data MoveLed (f : Form) (img : List ℕ) (ps : List Piece) (owner : ℕ) (ow
   gives_up : turn ≡ Done Reply.Memory → later ≡ rested Past → MoveLed f img ps owner own from at later turn
 
 -- what a turn does that needs no bytes of the file
-abbrev pub StepLed : List Piece → ℕ → HeldLocks → Act → At → At → Turn → Type 0
-StepLed ps owner own (Lock lock) at later turn = LockLed ps owner own lock at later turn
-StepLed ps owner own (Move from) at later turn = Unit {0}
-StepLed ps owner own End at later turn = LeaveLed (dead_of at.place at.stage) Past (Done Reply.Ok) later turn
+abbrev pub StepLed : List Piece → ℕ → HeldLocks → Act → Standing → At → At → Turn → Type 0
+StepLed ps owner own (Lock lock) spared at later turn = LockLed ps owner own lock spared at later turn
+StepLed ps owner own (Move from) spared at later turn = Unit {0}
+StepLed ps owner own End spared at later turn = LeaveLed (dead_of at.place at.stage) Past spared (Done Reply.Ok) later turn
 
 -- where a turn moves to
 abbrev pub StepMoved : Form → List ℕ → List Piece → ℕ → HeldLocks → Act → At → At → Turn → Type 0
@@ -226,7 +233,7 @@ StepMoved f img ps owner own End at later turn = Unit {0}
 -- where no command is under way yet, and the turn does what follows from that, from the place, and from how far the command is.
 pub record StepTaken (told : Type 0) (f : Form) (img : List ℕ) (ps now : List Piece) (owner : ℕ) (own : HeldLocks) (stood_on : List ℕ) (goal : Goal) (read_only : Bool) (at later : At) (turn : Turn) : Type 0 where
   pub due : Bool
-  pub led : StepLed ps owner own (act_of goal at.place at.stage due) at later turn
+  pub led : StepLed ps owner own (act_of goal at.place at.stage due) (spared_of goal at.place) at later turn
   pub holds : (o b : ℕ) → held now o b ≡ held_after own owner (act_of goal at.place at.stage due) at later turn (held ps) o b
   pub decided : told → (hands : List HandPair) → AcceptWith f img hands → Knows f img at.place at.stage
       → MatchBool due (HasToPurge f img own stood_on read_only at.place at.stage) (HasToPurge f img own stood_on read_only at.place at.stage → ⊥)

@@ -1,7 +1,9 @@
 -- What a purge of a dead record makes of an image.
 use Rattle.std.specs.Prelude.{◌≡◌, ◌<◌, ℕ, List, Option, None, Some}
 use Rattle.tdb_words.specs.declared.record.TheConstants.{USED}
+use Rattle.tdb_words.specs.Header.{sequence_at}
 use Rattle.tdb_words.specs.Record.{rec_at}
+use Rattle.tdb_words.specs.Word.{word}
 use Rattle.tdb_space.specs.Form.{Form, chain_head}
 use Rattle.tdb_space.specs.Record.{magic_of, rec_len_of}
 use Rattle.tdb_space.specs.Chain.{chain_of, free_of, without, Leads, Member}
@@ -14,6 +16,8 @@ use Rattle.tdb_space.specs.declared.space.Space.{Ghosts}
 use Rattle.tdb_free.specs.FreeList.{free_pairs, give_to}
 use Rattle.tdb_chain.specs.declared.place.Place.{Place}
 use Rattle.tdb_chain.specs.Place.{StandsWithin}
+use Rattle.tdb_law.specs.Layout.{Place as WalkPlace, ahead_of, chains_in}
+use Rattle.tdb_law.specs.Layout.Place.{on_record}
 use Rattle.tdb_walk.specs.declared.purging.DeadRecord.{DeadRecord}
 
 -- a dead record stands in a chain at an offset
@@ -33,12 +37,15 @@ FindsPlace f img chain off None = ⊥
 FindsPlace f img chain off (Some p) = IsPlaceIn f img chain off p
 
 -- From image a to image b the dead record of a chain at an offset went to the free list, as a give of it makes that: it
--- is in no chain, the map stays, no other chain changes, and b is accepted with the same hands.
+-- is in no chain, the map and the sequence number stay, no other chain changes, and b is accepted with the same hands. A walk that
+-- doesn't stand on it has the same keys further on.
 pub record IsPurged (f : Form) (a b : List ℕ) (chain off : ℕ) (hands : List HandPair) : Type 0 where
   pub accepted : AcceptWith f b hands
   pub map : (key : List ℕ) → map_of f b key ≡ map_of f a key
   pub offsets : chain_of f b chain ≡ without off (chain_of f a chain)
   pub only : ChangesOnly f a b (λ k. k ≡ chain)
+  pub number : word f.order b sequence_at ≡ word f.order a sequence_at
+  pub ahead : (place : WalkPlace) → (place ≡ on_record chain off → ⊥) → (k : List ℕ) → ahead_of f (chains_in f b) place k ≡ ahead_of f (chains_in f a) place k
   pub list : free_pairs f b (free_of f b) ≡ give_to (free_pairs f a (free_of f a)) (off, rec_len_of f.order a off)
 
 -- a record that a purge is asked for is dead, and one of a chain

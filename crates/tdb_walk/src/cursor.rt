@@ -133,12 +133,20 @@ impl Cursor {
         self.stage = Stage::Rested;
     }
 
-    /// A turn that takes a lock.
-    fn lock_turn(&mut self, locks: &mut Locks, owner: u32, own: &Held, lock: StepLock) -> Turn
+    /// A turn that takes a lock. Where memory is wanting for it the cursor leaves for the place `spared`.
+    fn lock_turn(
+        &mut self,
+        locks: &mut Locks,
+        owner: u32,
+        own: &Held,
+        lock: StepLock,
+        spared: Standing,
+    ) -> Turn
+        requires placed { IsPlaced spared }
         requires words { HoldsWords own.now owner locks.old }
         ensures words { HoldsWords own.now owner locks.new }
-        ensures led { LockLed locks.old owner own.now lock self.old self.new result }
-        ensures locks { (o b : ℕ) → held locks.new o b ≡ held_locked own.now owner self.old lock result (held locks.old) o b }
+        ensures led { LockLed locks.old owner own.now lock spared self.old self.new result }
+        ensures locks { (o b : ℕ) → held locks.new o b ≡ held_locked own.now owner self.old self.new.place lock result (held locks.old) o b }
     {
         let covered = lock.is_covered(own);
         match take_byte(locks, owner, covered, lock.byte(), lock.kind()) {
@@ -148,13 +156,14 @@ impl Cursor {
             }
             Err(LockRefusal::Conflict { owner, byte, .. }) => Turn::Blocked { owner, byte },
             Err(LockRefusal::Memory) => {
-                self.leave(locks, owner, own, Standing::Past);
+                self.leave(locks, owner, own, spared);
                 Turn::Done(Reply::Memory)
             }
         }
     }
 
     /// Leaves where it stands for a place, and purges the dead record there, if that is due: the turn is then as told.
+    /// Where memory is wanting for the purge it leaves for the place `spared`.
     fn depart<S: Space>(
         &mut self,
         s: &mut S,
@@ -162,13 +171,15 @@ impl Cursor {
         owner: u32,
         own: &Held,
         place: Standing,
+        spared: Standing,
         told: Turn,
     ) -> Result<Turn, Io>
         requires placed { IsPlaced place }
+        requires placed_spared { IsPlaced spared }
         requires spares { told ≡ Done Memory → ⊥ }
         requires words { HoldsWords own.now owner locks.old }
         ensures words { HoldsWords own.now owner locks.new }
-        ensures led { IfOk result (LeaveLed (dead_of self.old.place self.old.stage) place told self.new) }
+        ensures led { IfOk result (LeaveLed (dead_of self.old.place self.old.stage) place spared told self.new) }
         ensures made { IfOk result (λ turn. IsTrue S.tells → S.size s.old < 2 ^ 32 → (hands : List HandPair) → AcceptWith (S.form s.old) (S.image s.old) hands
             → Knows (S.form s.old) (S.image s.old) self.old.place self.old.stage → StepMade (S.form s.old) (S.image s.old) (S.image s.new) hands self.old self.new turn) }
         ensures locks { IfOk result (λ turn. (o b : ℕ) → held locks.new o b ≡ let_go own.now owner self.old.place self.old.stage self.new.place (held locks.old) o b) }
@@ -187,7 +198,7 @@ impl Cursor {
                 Ok(told)
             }
             Err(WalkRefusal::Memory) => {
-                self.leave(locks, owner, own, Standing::Past);
+                self.leave(locks, owner, own, spared);
                 Ok(Turn::Done(Reply::Memory))
             }
             Err(WalkRefusal::Io) => Err(Io),
@@ -292,11 +303,19 @@ impl Cursor {
                 },
             ) => {
                 let told = Turn::Blocked { owner: other, byte };
-                self.depart(s, locks, owner, own, Standing::Before(chain), told)
+                self.depart(
+                    s,
+                    locks,
+                    owner,
+                    own,
+                    Standing::Before(chain),
+                    Standing::Past,
+                    told,
+                )
             }
             Ok(Way::End) => {
                 let told = Turn::Done(Reply::End);
-                self.depart(s, locks, owner, own, Standing::Past, told)
+                self.depart(s, locks, owner, own, Standing::Past, Standing::Past, told)
             }
             Err(WalkRefusal::Memory) => Ok(self.give_up(locks, owner, own)),
             Err(WalkRefusal::Io) => Err(Io),
@@ -317,8 +336,9 @@ impl Cursor {
     ///
     /// A turn is `Blocked` where another opener holds what it wants: the lock of a record, of its chain or of the free
     /// list, and then nothing changes; or the lock of a chain on its way, and then the dead record is purged, and the
-    /// cursor stands before that chain and holds nothing. `Memory` where that is wanting: then the cursor has ended and
-    /// holds nothing, and nothing was written. `Io` where the disk failed: then the cursor stands where it stood, and
+    /// cursor stands before that chain and holds nothing. `Memory` where that is wanting, and nothing was written: then
+    /// First and Next have ended the cursor, which holds nothing, and a leave leaves it on its record, of which it holds
+    /// the byte alone. `Io` where the disk failed: then the cursor stands where it stood, and
     /// in a turn that purges the record may be in its chain, in no list, or in the free list, and the opener may hold
     /// the byte of the next live record.
     ///
@@ -352,12 +372,13 @@ impl Cursor {
         ensures bytes_read { S.bytes_read s.old ≤ S.bytes_read s.new }
     {
         let due = self.has_to_purge(s, own, stood_on, read_only)?;
+        let spared = goal.spared(self.place);
         match Act::of(goal, self.place, self.stage, due) {
-            Act::Lock(lock) => Ok(self.lock_turn(locks, owner, own, lock)),
+            Act::Lock(lock) => Ok(self.lock_turn(locks, owner, own, lock, spared)),
             Act::Move(from) => self.move_turn(alloc, s, locks, owner, own, from),
             Act::End => {
                 let told = Turn::Done(Reply::Ok);
-                self.depart(s, locks, owner, own, Standing::Past, told)
+                self.depart(s, locks, owner, own, Standing::Past, spared, told)
             }
         }
     }

@@ -1,7 +1,7 @@
 // What a cursor is asked for, how far it is with that, and what its next turn does.
 
 ghost use Rattle.std.specs.Prelude.{◌≡◌, ◌+◌, ◌<◌, ◌^◌};
-ghost use Rattle.tdb_walk.specs.Cursors.{act_of, byte_of, kind_of, covers, stage_of, last_of};
+ghost use Rattle.tdb_walk.specs.Cursors.{act_of, byte_of, kind_of, covers, stage_of, last_of, spared_of};
 
 use crate::looking::{lock_byte, may_read};
 use crate::standing::Standing;
@@ -21,6 +21,19 @@ pub enum Goal {
 
     /// To leave the record on which it stands, and to end.
     Leave,
+}
+
+impl Goal {
+    /// Where a cursor that stands at a place stands after a command for which memory was wanting: First and Next end it,
+    /// and a leave leaves it there.
+    pub(crate) fn spared(self, place: Standing) -> Standing
+        ensures { result ≡ spared_of self place }
+    {
+        match self {
+            Goal::First | Goal::Next => Standing::Past,
+            Goal::Leave => place,
+        }
+    }
 }
 
 /// How far a cursor is with the turns of a command.

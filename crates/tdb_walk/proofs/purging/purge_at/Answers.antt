@@ -1,9 +1,11 @@
 -- The record is taken out of its chain and given back.
-use Rattle.std.proofs.Common.{◌≡◌, ◌<◌, ◌^◌, ◌∷◌, ℕ, List, length, refl, arith}
+use Rattle.std.proofs.Common.{◌≡◌, ◌<◌, ◌^◌, [], ◌∷◌, ℕ, List, length, refl, arith, rules}
+use Rattle.tdb_words.proofs.Words.{word_agrees}
 use Rattle.tdb_space.specs.Chain.{free_of}
 use Rattle.tdb_space.specs.Extents.{HandPair}
 use Rattle.tdb_space.specs.Accepted.{AcceptWith}
 use Rattle.tdb_free.specs.FreeList.{CanBeGiven, Given, GivenBack}
+use Rattle.tdb_free.specs.OnlyList.{OnlyListChanges}
 use Rattle.tdb_free.proofs.Accepted.{can_be_given}
 use Rattle.tdb_free.proofs.Traded.{given_stays}
 use Rattle.tdb_walk.proofs.Views.{moved}
@@ -24,4 +26,7 @@ returns-in-Ok-clause-purged g c told small hands A chain off below place =
     let short : length m < 2 ^ 32 = omega (arith, size, g.met.S.Space.told_size c.purge.new.s told) in
     let back = moved (λ x i. (all : List HandPair) → AcceptWith x i (h ∷ all) → GivenBack x i b h all) f (g.S.Space.form c.purge.new.s) m m form refl (c.in-Ok.ensures.kept told size) hands P.changed.accepted in
     let given = moved (λ x i. (offs : List ℕ) → CanBeGiven x i offs h → Given x i b offs h) f (g.S.Space.form c.purge.new.s) m m form refl (c.in-Ok.ensures.given told) (free_of f m) (can_be_given f m h hands P.changed.accepted short) in
-    purged_given f a m b chain off p h hands below place c.in_ok-hand.ensures.hand P back (given_stays f m b h hands P.changed.accepted given)
+    let only = moved (λ x i. (offs : List ℕ) → CanBeGiven x i offs h → OnlyListChanges x i b offs (h ∷ [])) f (g.S.Space.form c.purge.new.s) m m form refl (c.give.ensures.only told) (free_of f m) (can_be_given f m h hands P.changed.accepted short) in
+    let long = g.met.S.Space.told_size c.args.s.now told in
+    purged_given f a m b chain off p h hands below place c.in_ok-hand.ensures.hand A c.requires.can.dead (search rules) (omega (arith, long, c.requires.can.within.led)) (omega (arith, long, g.met.S.Space.told_size c.purge.new.s told, c.in_ok-hand.ensures.size))
+    (c.in_ok-hand.ensures.written told) P back (given_stays f m b h hands P.changed.accepted given) (word_agrees f.order b m 48 (λ i from to. only.header i (omega (arith, to))))

@@ -1,13 +1,16 @@
 -- A turn that moves, and what becomes of the image.
-use Rattle.std.proofs.Common.{◌<◌, ◌^◌, IsTrue, sym, ◌∙◌, ap, arith}
+use Rattle.std.proofs.Common.{◌<◌, ◌^◌, IsTrue, sym, ◌∙◌, ap, subst, arith}
 use Rattle.tdb_space.specs.Accepted.{AcceptWith}
 use Rattle.tdb_walk.specs.declared.stage.Act.TheVariants.{Move}
+use Rattle.tdb_locks.specs.declared.turn.Reply.{Reply}
+use Rattle.tdb_locks.specs.declared.turn.Turn.TheVariants.{Done}
+use Rattle.tdb_walk.specs.declared.standing.Standing.TheVariants.{Past}
 use Rattle.tdb_walk.specs.NextLive.{StandsIn}
-use Rattle.tdb_walk.specs.Cursors.{At, Knows, MoveLed, StepMade, act_of}
+use Rattle.tdb_walk.specs.Cursors.{At, Knows, LeaveLed, MoveLed, StepMade, act_of, dead_of, spared_of}
 use Rattle.tdb_walk.proofs.Views.{moved}
 use Rattle.tdb_walk.proofs.Turns.{ok_two}
 use Rattle.tdb_walk.proofs.Making.{made_then, moved_knows}
-use Rattle.tdb_walk.proofs.Stepping.{from_stands, taken_by}
+use Rattle.tdb_walk.proofs.Stepping.{from_stands, taken_by, left_knows}
 use Rattle.tdb_walk.proofs.cursor.Cursor.step.Goals as goal
 
 pub returns-in-Move-clause-taken : goal.returns-in-Move-clause-taken
@@ -57,3 +60,18 @@ returns-in-End-clause-made g c =
     let looked = c.in_ok-due.ensures.looked in
     made_then (IsTrue g.S.Space.tells) (g.S.Space.size c.args.s.now < 2 ^ 32) (g.S.Space.size c.has_to_purge.new.s < 2 ^ 32) c.depart.result (g.S.Space.form c.args.s.now) (g.S.Space.form c.has_to_purge.new.s) (g.S.Space.image c.args.s.now) (g.S.Space.image c.has_to_purge.new.s)
     (g.S.Space.image c.depart.new.s) c.args.self.now c.depart.new.self looked.form looked.image (λ small. omega (arith, small, looked.size)) c.depart.ensures.made
+
+pub returns-in-End-clause-knows : goal.returns-in-End-clause-knows
+returns-in-End-clause-knows g c =
+    let f = g.S.Space.form c.args.s.now in
+    let img = g.S.Space.image c.args.s.now in
+    let b = g.S.Space.image c.depart.new.s in
+    let at = c.args.self.now in
+    let looked = c.in_ok-due.ensures.looked in
+    let later = c.depart.new.self in
+    ok_two c.depart.result (λ turn led made told small hands A knows.
+    left_knows f img b hands c.args.goal at later (Done Reply.Ok) turn (dead_of at.place at.stage) knows
+    (subst (λ place. LeaveLed (dead_of at.place at.stage) Past place (Done Reply.Ok) later turn) (c.spared-spared.ensures ∙ ap (λ (a : At). spared_of c.args.goal a.place) c.self.view_is) led)
+    (moved (λ x i. AcceptWith x i hands → Knows x i at.place at.stage → StepMade x i b hands at later turn) f (g.S.Space.form c.has_to_purge.new.s) img (g.S.Space.image c.has_to_purge.new.s)
+    looked.form looked.image (made told (omega (arith, small, looked.size)) hands) A knows))
+    c.depart.ensures.led c.depart.ensures.made
