@@ -1,9 +1,9 @@
 -- A move that comes to the next live record goes on to that record's key.
-use Rattle.std.proofs.Common.{◌≡◌, ℕ, ◌+◌, ◌<◌, ◌≤◌, List, [], ◌∷◌, Bool, true, false, cond, ◌==◌, eqb, Option, Some, None, refl, sym, ◌∙◌, ap, subst, inl, inr, ◌⊎◌, arith, nat_lt, le_refl}
+use Rattle.std.proofs.Common.{◌≡◌, ℕ, ◌+◌, ◌<◌, ◌≤◌, List, [], ◌∷◌, Bool, true, false, cond, ◌==◌, eqb, Option, Some, None, refl, sym, ◌∙◌, ap, subst, inl, inr, ◌⊎◌, arith, le_refl}
 use Rattle.std.specs.Prelude.{◌&&◌, ◌||◌, if◌then◌else◌}
 use Rattle.std.specs.Map.{keys_of}
 use Rattle.std.specs.List.{IsDistinct, AllByRecursion}
-use Rattle.std.proofs.lemmas.Bool.{cases_Bool, cases_eq, cases_lt, eq-eqb, ne_eqb, eqb-true, false≢true, or_cases, or_left, or_right}
+use Rattle.std.proofs.lemmas.Bool.{cases_Bool, cases_eq, cases_lt, eq-eqb, ne_eqb, eqb-true, false≢true, or_cases, or_right}
 use Rattle.std.proofs.lemmas.Map.Keys.{IsDistinct-head, IsDistinct-tail}
 use Rattle.tdb_words.specs.declared.record.TheConstants.{USED}
 use Rattle.tdb_words.specs.Word.{word}
@@ -17,9 +17,8 @@ use Rattle.tdb_space.proofs.Maps.{pairs_used, pairs_other, same_key-refl}
 use Rattle.tdb_space.proofs.Walks.{linked_distinct}
 use Rattle.tdb_space.proofs.Removes.{home_of_member}
 use Rattle.tdb_law.specs.Openers.{is_key}
-use Rattle.tdb_law.specs.Layout.{Cell, Chains, Place, cells, behind, chains_in, live_in, ahead_of, reached_of}
+use Rattle.tdb_law.specs.Layout.{Cell, Chains, Place, cells, behind, chains_in, live_in, ahead_of}
 use Rattle.tdb_law.specs.Layout.Place.{off_chains, before_chain, on_record}
-use Rattle.tdb_law.specs.Going.{GoesOn}
 use Rattle.tdb_law.proofs.Maps.{is_key-eq, is_key-refl}
 use Rattle.tdb_walk.specs.declared.live.Live.{Live}
 use Rattle.tdb_walk.specs.NextLive.{first_live, left_in, NoneLive, IsNext}
@@ -177,11 +176,11 @@ behind_twice (x ∷ xs) p c apart e = go (x.place == p) (λ s. behind_twice xs p
     go false rest s = rw (ne_eqb x.place c.place (first_elsewhere x.place (behind xs p) c (free_behind p x.place xs apart.0) s)) (rest s)
 
 -- what is left of a chain that has a live record left: all of it, or what stands behind a record
-data LeftOf (cs : Chains) (place : Place) (j : ℕ) : Type 0 where
+pub data LeftOf (cs : Chains) (place : Place) (j : ℕ) : Type 0 where
   left_whole : left_in cs place j ≡ cs j → IsUnentered place (j + 1) → LeftOf cs place j
   left_part : (p : ℕ) → left_in cs place j ≡ behind (cs j) p → IsUnentered place (j + 1) → LeftOf cs place j
 
-left_of : (cs : Chains) (place : Place) (j : ℕ) (c : Cell) → first_live (left_in cs place j) ≡ Some c → LeftOf cs place j
+pub left_of : (cs : Chains) (place : Place) (j : ℕ) (c : Cell) → first_live (left_in cs place j) ≡ Some c → LeftOf cs place j
 left_of cs off_chains j c e = absurd (none_some e)
 left_of cs (before_chain i) j c e = elim (cases_lt j i) [
   | inl early ↦ absurd (none_some (sym (ap first_live (passed_before cs i j early)) ∙ e))
@@ -195,7 +194,7 @@ left_of cs (on_record i p) j c e = elim (cases_eq j i) [
   ]
 ]
 
-left_unentered : (cs : Chains) (place : Place) (j : ℕ) → LeftOf cs place j → IsUnentered place (j + 1)
+pub left_unentered : (cs : Chains) (place : Place) (j : ℕ) → LeftOf cs place j → IsUnentered place (j + 1)
 left_unentered cs place j (left_whole is un) = un
 left_unentered cs place j (left_part p is un) = un
 

@@ -16,3 +16,14 @@ pub mod Coming
 pub mod Decided
 pub mod Making
 pub mod Stepping
+pub mod Explicit
+pub mod Holding
+pub mod Wanting
+pub mod Rows
+pub mod LockTurned
+pub mod EndTurned
+pub mod MoveTurned
+pub mod OnTurned
+pub mod Lawful
+pub mod WalkShown
+pub mod WalkLawful

@@ -6,3 +6,4 @@ pub mod ByteLocks
 pub mod Cursors
 pub mod Purging
 pub mod Laws
+pub mod InLaw

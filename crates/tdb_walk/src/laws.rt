@@ -1,9 +1,19 @@
-// The law of what the end of a move means for the keys that are further on.
+// The laws of moves, and of the turns of cursors in a world.
 
 ghost use Rattle.tdb_walk.specs.Laws.{MovesAreWalks};
+ghost use Rattle.tdb_walk.specs.InLaw.{CursorIsLawful, WalkIsLawful, OthersStay};
 
 /// Keys that are further on are those of live records that are left; so a move that ends leaves none, and one that is
 /// blocked loses none. The law is over all chains and places; the function does nothing.
 pub fn moves_are_walks()
     ensures law { MovesAreWalks }
+{}
+
+/// A turn of a cursor is one of the law of reports: `turn` says so of its row, of the locks before it and after it as
+/// strengths, of what it wants and which conflict blocks it, and of its effect; `walk` of its own walk. By `others` it
+/// leaves the walks of all other cursors. The law is over all turns; the function does nothing.
+pub fn cursors_are_lawful()
+    ensures turn { CursorIsLawful }
+    ensures walk { WalkIsLawful }
+    ensures others { OthersStay }
 {}
