@@ -1,5 +1,5 @@
 -- The first chain of an image that has a record.
-use Rattle.std.specs.Prelude.{◌≡◌, ℕ, ◌+◌, ◌*◌, ◌≤◌, ◌<◌, List, Option, None, Some}
+use Rattle.std.specs.Prelude.{◌≡◌, ℕ, ◌+◌, ◌-◌, ◌*◌, ◌≤◌, ◌<◌, List, Option, None, Some}
 use Rattle.tdb_words.specs.declared.word.Order.{Order}
 use Rattle.tdb_words.specs.Word.{word}
 use Rattle.tdb_space.specs.Form.{Form, chain_head}
@@ -36,3 +36,13 @@ pub record WordAt (o : Order) (words : List ℕ) (chain i : ℕ) (found : Head) 
 abbrev pub IsFirstWord : Order → List ℕ → ℕ → ℕ → Option Head → Type 0
 IsFirstWord o words count chain None = (j : ℕ) → j < count → word o words (4 * j) ≡ 0
 IsFirstWord o words count chain (Some found) = (i : ℕ) × (i < count) × WordAt o words chain i found
+
+-- How many bytes of heads a search from a chain on reads at most: where none has a record, each head once; else those up to the one that
+-- is found, and one block from there on.
+abbrev pub heads_read : ℕ → ℕ → Option Head → ℕ
+heads_read chains from None = 4 * (chains - from)
+heads_read chains from (Some found) = 4 * (found.chain - from) + 4096
+
+-- no chain of an image from a number on has a record
+abbrev pub NoneFilled : Form → List ℕ → ℕ → Type 0
+NoneFilled f img from = AreEmpty (λ j. word f.order img (chain_head j)) from f.chains

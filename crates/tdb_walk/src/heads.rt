@@ -1,10 +1,10 @@
 // The heads of the chains.
 
 ghost use Rattle.std.specs.Prelude.{◌≡◌, ◌+◌, ◌*◌, ◌≤◌, ◌<◌, ◌^◌, IsTrue, IfOk, IfSome, length};
-ghost use Rattle.tdb_disk.specs.Count.{HasCause};
+ghost use Rattle.tdb_disk.specs.Count.{HasCause, RoseUpTo};
 ghost use Rattle.tdb_space.specs.Frame.{Looked};
 ghost use Rattle.tdb_space.specs.Form.{data_start};
-ghost use Rattle.tdb_walk.specs.Heads.{IsFirstWord, IsFirstFilled};
+ghost use Rattle.tdb_walk.specs.Heads.{IsFirstWord, IsFirstFilled, heads_read};
 
 use tdb_space::{Io, Space, chain_head};
 use tdb_words::{Order, word_in};
@@ -48,6 +48,7 @@ pub(crate) fn first_filled<S: Space>(s: &mut S, len: u64, from: u32) -> Result<O
     ensures within { IfOk result (λ found. IfSome found (λ head. (from ≤ head.chain) × (head.chain < (S.form s.old).chains))) }
     ensures looked { Looked S.Space s.old s.new }
     ensures cause { HasCause (S.faults s.old) (S.faults s.new) result }
+    ensures cost { IfOk result (λ found. RoseUpTo (heads_read (S.form s.old).chains from found) (S.bytes_read s.old) (S.bytes_read s.new)) }
     ensures bytes_read { S.bytes_read s.old ≤ S.bytes_read s.new }
 {
     let chains = s.hash_size();

@@ -33,5 +33,9 @@ loop-chain-preserved g c =
       least = omega (arith, v.least);
       looked = search rules;
       faults = search rules;
-      bytes_read = search rules;
+      most = omega (arith, v.most, c.min-count.ensures, c.loop-chain-test.true);
+      read = record {
+        no_more = omega (arith, v.read.no_more, v.least, c.in_ok-read.ensures.bytes_read.no_more, length-take (4 * count) c.loop-chain.block, c.min-count.ensures, c.min-count.array_long);
+        never_falls = omega (arith, v.read.never_falls, c.in_ok-read.ensures.bytes_read.never_falls);
+      };
     }

@@ -1,5 +1,6 @@
 -- The chains so far have no record, and the view is as it was.
-use Rattle.std.proofs.Common.{◌≡◌, ◌-◌, ◌≤◌, IsTrue}
+use Rattle.std.proofs.Common.{◌≡◌, ◌-◌, ◌*◌, ◌≤◌, max, IsTrue}
+use Rattle.tdb_disk.specs.Count.{RoseUpTo}
 use Rattle.tdb_words.specs.Word.{word}
 use Rattle.tdb_space.specs.Form.{chain_head}
 use Rattle.tdb_space.specs.Frame.{Looked}
@@ -12,7 +13,8 @@ invariant-loop-chain g l = record {
   least : l.from ≤ l.chain;
   looked : Looked g.S.Space l.fn.s l.s;
   faults : g.S.Space.faults l.s ≡ g.S.Space.faults l.fn.s;
-  bytes_read : g.S.Space.bytes_read l.fn.s ≤ g.S.Space.bytes_read l.s;
+  most : l.chain ≤ max l.from l.chains;
+  read : RoseUpTo (4 * (l.chain - l.from)) (g.S.Space.bytes_read l.fn.s) (g.S.Space.bytes_read l.s);
 }
 
 abbrev pub decreases-loop-chain : goal.decreases-loop-chain

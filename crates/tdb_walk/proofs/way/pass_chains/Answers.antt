@@ -1,9 +1,11 @@
 -- One chain more, and where the way ends.
-use Rattle.std.proofs.Common.{◌≤◌, ◌<◌, Some, None, ◌∙◌, ap, subst, arith, rules}
+use Rattle.std.proofs.Common.{◌≡◌, ◌≤◌, ◌<◌, ℕ, List, Some, None, ◌∙◌, ap, subst, arith, rules}
 use Rattle.std.specs.Prelude.{IfSome}
 use Rattle.tdb_walk.specs.declared.heads.Head.{Head}
 use Rattle.tdb_walk.specs.declared.looking.Look.TheVariants.{Seen}
-use Rattle.tdb_walk.specs.Heads.{IsFirstFilled}
+use Rattle.tdb_disk.specs.Count.{RoseUpTo}
+use Rattle.tdb_space.specs.Form.{Form}
+use Rattle.tdb_walk.specs.Heads.{IsFirstFilled, NoneFilled, heads_read}
 use Rattle.tdb_walk.specs.Looks.{Shows}
 use Rattle.tdb_walk.specs.Way.{LooksRightly}
 use Rattle.tdb_walk.proofs.Views.{moved}
@@ -11,6 +13,10 @@ use Rattle.tdb_walk.proofs.Locked.{can_read_then, held_off_then}
 use Rattle.tdb_walk.proofs.Searched.{search_goes_on}
 use Rattle.tdb_walk.proofs.Ways.{way_free, way_ends, way_meets, way_stops}
 use Rattle.tdb_walk.proofs.way.pass_chains.Goals as goal
+
+-- where no chain has a record, the heads alone are read
+filled_never : (f : Form) (img : List ℕ) (from chain : ℕ) (head : Head) → IsFirstFilled f img chain (Some head) → from ≤ chain → NoneFilled f img from → ⊥
+filled_never f img from chain head first late none = first.filled (first.leads ∙ none head.chain (omega (arith, late, first.least)) first.below)
 
 -- no chain further on has a record
 pub returns-in_default-clause-way : goal.returns-in_default-clause-way
@@ -80,8 +86,42 @@ loop-chain-preserved g c =
           way_free f img c.args.locks.now c.args.owner c.args.own.now c.args.from chain (v.free told) head first
           (can_read_then c.args.owner c.args.locks.now c.loop-chain.locks c.args.own.now head.chain v.same (subst (LooksRightly c.loop-chain.locks c.args.owner c.args.own.now head.chain) seen c.in_ok-live.ensures.rightly)));
       same = λ owner byte. c.in_ok-live.ensures.locks owner byte ∙ v.same owner byte;
+      empty = λ told none.
+          (let first = moved (λ x i. IsFirstFilled x i chain (Some head)) f (g.S.Space.form c.loop-chain.s) img (g.S.Space.image c.loop-chain.s) v.looked.form v.looked.image
+          (subst (IsFirstFilled (g.S.Space.form c.loop-chain.s) (g.S.Space.image c.loop-chain.s) chain) c.in-Some.is (c.in_ok-head.ensures.found told)) in
+          absurd (filled_never f img c.args.from chain head first v.least none));
       least = omega (arith, bounds.0, v.least);
       looked = search rules;
       faults = search rules;
       bytes_read = search rules;
     }
+
+pub returns-in_default-clause-empty : goal.returns-in_default-clause-empty
+returns-in_default-clause-empty g c told none =
+    let v = c.loop-chain.invariant in
+    let same = v.empty told none in
+    let cost = subst (λ found. RoseUpTo (heads_read (g.S.Space.form c.loop-chain.s).chains c.loop-chain.chain found) (g.S.Space.bytes_read c.loop-chain.s) (g.S.Space.bytes_read c.first_filled.new.s)) c.in_default.is c.in_ok-head.ensures.cost in
+    let chains : (g.S.Space.form c.loop-chain.s).chains ≡ (g.S.Space.form c.args.s.now).chains = ap (λ (x : Form). x.chains) v.looked.form in
+    record { no_more = omega (arith, cost.no_more, same.0, same.1, chains); never_falls = omega (arith, cost.never_falls, same.1) }
+
+pub returns-in-Seen-Some-clause-empty : goal.returns-in-Seen-Some-clause-empty
+returns-in-Seen-Some-clause-empty g c told none =
+    let f = g.S.Space.form c.args.s.now in
+    let img = g.S.Space.image c.args.s.now in
+    let v = c.loop-chain.invariant in
+    let chain = c.loop-chain.chain in
+    let head = c.in-Some.head in
+    let first = moved (λ x i. IsFirstFilled x i chain (Some head)) f (g.S.Space.form c.loop-chain.s) img (g.S.Space.image c.loop-chain.s) v.looked.form v.looked.image
+    (subst (IsFirstFilled (g.S.Space.form c.loop-chain.s) (g.S.Space.image c.loop-chain.s) chain) c.in-Some.is (c.in_ok-head.ensures.found told)) in
+    absurd (filled_never f img c.args.from chain head first v.least none)
+
+pub returns-in-Stopped-clause-empty : goal.returns-in-Stopped-clause-empty
+returns-in-Stopped-clause-empty g c told none =
+    let f = g.S.Space.form c.args.s.now in
+    let img = g.S.Space.image c.args.s.now in
+    let v = c.loop-chain.invariant in
+    let chain = c.loop-chain.chain in
+    let head = c.in-Some.head in
+    let first = moved (λ x i. IsFirstFilled x i chain (Some head)) f (g.S.Space.form c.loop-chain.s) img (g.S.Space.image c.loop-chain.s) v.looked.form v.looked.image
+    (subst (IsFirstFilled (g.S.Space.form c.loop-chain.s) (g.S.Space.image c.loop-chain.s) chain) c.in-Some.is (c.in_ok-head.ensures.found told)) in
+    absurd (filled_never f img c.args.from chain head first v.least none)

@@ -4,6 +4,7 @@ use Rattle.tdb_space.specs.Extents.{HandPair}
 use Rattle.tdb_space.specs.Accepted.{AcceptWith}
 use Rattle.tdb_space.specs.Frame.{Looked}
 use Rattle.tdb_law.specs.Layout.{chains_in}
+use Rattle.tdb_walk.specs.Heads.{NoneFilled}
 use Rattle.tdb_walk.specs.NextLive.{first_live}
 use Rattle.tdb_walk.specs.Way.{CanReadTo, SameLocks}
 use Rattle.tdb_walk.proofs.way.pass_chains.Given as goal
@@ -17,6 +18,7 @@ invariant-loop-chain g l = record {
   least : l.from ≤ l.chain;
   looked : Looked g.S.Space l.fn.s l.s;
   faults : g.S.Space.faults l.s ≡ g.S.Space.faults l.fn.s;
+  empty : IsTrue g.S.Space.tells → NoneFilled (g.S.Space.form l.fn.s) (g.S.Space.image l.fn.s) l.from → (l.chain ≡ l.from) × (g.S.Space.bytes_read l.s ≡ g.S.Space.bytes_read l.fn.s);
   bytes_read : g.S.Space.bytes_read l.fn.s ≤ g.S.Space.bytes_read l.s;
 }
 
