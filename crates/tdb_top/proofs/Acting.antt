@@ -1,5 +1,5 @@
 -- What acts on a file give, from what their parts gave.
-use Rattle.std.proofs.Common.{◌≡◌, ◌⊎◌, ℕ, ◌≤◌, false, List, Option, None, Some, Result, Ok, Err, refl, sym, ◌∙◌, ap, subst, inl, inr, arith}
+use Rattle.std.proofs.Common.{◌≡◌, ◌⊎◌, ℕ, ◌≤◌, ◌∷◌, false, List, Option, None, Some, Result, Ok, Err, refl, sym, ◌∙◌, ap, subst, inl, inr, arith}
 use Rattle.std.specs.Prelude.{IfOk, IsSome}
 use Rattle.std.proofs.lemmas.Bool.{false≢true}
 use Rattle.tdb_disk.specs.Count.{Rose}
@@ -8,7 +8,7 @@ use Rattle.tdb_disk.specs.declared.files.TakeRefusal.{TakeRefusal}
 use Rattle.tdb_disk.specs.declared.files.TakeRefusal.TheVariants as Take
 use Rattle.tdb_top.specs.declared.act.Act.{Act}
 use Rattle.tdb_top.specs.declared.ask.Task.{Task}
-use Rattle.tdb_top.specs.declared.ask.Task.TheVariants.{Create, On, Read, Restore}
+use Rattle.tdb_top.specs.declared.ask.Task.TheVariants.{Create, On, Read, Restore, Backup}
 use Rattle.tdb_top.specs.declared.commands.create.NewForm.{NewForm}
 use Rattle.tdb_top.specs.declared.commands.create.Creation as Making
 use Rattle.tdb_top.specs.declared.ending.Ending.{Ending}
@@ -24,7 +24,9 @@ use Rattle.tdb_top.specs.Acts.{reply_of, Does, Breaks, Acted, OpenedAndActed}
 use Rattle.tdb_top.specs.Commands.Create.{CreateCause, CreateLeaves}
 use Rattle.tdb_top.specs.Ending.{TaskDue, Replies, Refuses, TaskCause, task_due, task_failed, task_wanting, Untaken, MadeSo, of_halt}
 use Rattle.tdb_top.specs.Left.{ActLeaves, OnLeaves, MakingLeaves, TaskLeaves, Leaving}
+use Rattle.tdb_top.specs.Commands.Backup.{BackupCause}
 use Rattle.tdb_top.specs.Commands.Restore.{of_input, HeardBy}
+use Rattle.tdb_top.specs.Reads.{AskEnds}
 use Rattle.tdb_top.specs.Input.{Input}
 use Rattle.tdb_top.specs.Opening.{opened_bytes, CanOpen, UndoneIfOpen, HaltLeaves, HaltsRightly, of_fault}
 use Rattle.tdb_top.proofs.Openings.{same_or_undone}
@@ -130,16 +132,31 @@ module _ (form : NewForm) (name : List ℕ) (held : Option History) where
   made_left given Making.TheVariants.Memory e left is = subst (λ x. MakingLeaves form held x given) (sym is) left
 
 -- want of memory for the words leaves all as it is
-task_wants : (input : Input) (task : Task) (held : Option History) → TaskLeaves input task held E.NoMemory held
-task_wants input (On act) None = refl
-task_wants input (On act) (Some h) = (h, refl, inr refl)
-task_wants input (Read look) held = refl
-task_wants input (Create form) held = refl
-task_wants input (Restore limit) held = record { left = inl refl; done = λ is. absurd (omega (arith, is)); there = λ some. refl }
+on_wants : (act : Act) (held : Option History) → OnLeaves act held E.NoMemory held
+on_wants act None = refl
+on_wants act (Some h) = (h, refl, inr refl)
+
+task_wants : (input : Input) (task : Task) (file : List ℕ) (held : List ℕ → Option History) → TaskLeaves input task file held E.NoMemory held
+task_wants input (On act) file held = on_wants act (held file)
+task_wants input (Read look) file held = refl
+task_wants input (Create form) file held = refl
+task_wants input (Restore limit) file held = record { left = inl refl; done = λ is. absurd (omega (arith, is)); there = λ some. refl }
+task_wants input (Backup more suffix) file held = record {
+  known = tt;
+  done = λ is. cc;
+  stopped = λ other. inr (record { kept = inl (inl refl); copy = refl; left = inl (inl refl) }, λ name among. refl);
+}
 
 pub words_want : (input : Input) (ask : Option Ask) (held : List ℕ → Option History) → Leaving input ask held E.NoMemory held
 words_want input None held = λ name. refl
-words_want input (Some a) held = (λ other apart. refl, task_wants input a.task (held a.file))
+words_want input (Some a) held = (λ other apart. refl, task_wants input a.task a.file held)
+
+-- why a backup ended so is why its task did
+pub backup_ends : (input : Input) (task : Task) (more : List (List ℕ)) (suffix name : List ℕ) (held : List ℕ → Option History) (before after : ℕ) (e : Ending) → task ≡ Backup more suffix → BackupCause (name ∷ more) held before after e
+    → AskEnds input task name held before after e
+backup_ends input task more suffix name held before after e is (inl ends) = inr (record { more = more; suffix = suffix; backs_up = is; ends = ends })
+backup_ends input task more suffix name held before after e is (inr (inl fault)) = inl (inl (subst (TaskCause task name (held name) before after) (sym fault.0) (task_failed fault.1)))
+backup_ends input task more suffix name held before after e is (inr (inr wanting)) = inl (inl (subst (TaskCause task name (held name) before after) (sym wanting) task_wanting))
 
 -- an ending that tells nothing of the input, which was left as it was
 pub not_heard : (before after : ℕ) (e : Ending) → after ≡ before → of_input e ≡ false → HeardBy before after e

@@ -14,6 +14,8 @@ pub mod Inserts
 pub mod Acting
 pub mod Restoring
 pub mod Looking
+pub mod BackingUp
 pub mod Writing
 pub mod OneAnswer
+pub mod Copies
 pub mod Runs

@@ -8,12 +8,12 @@ use Rattle.tdb_space.specs.Opening.{Opens}
 use Rattle.tdb_top.specs.declared.act.Act.{Act}
 use Rattle.tdb_top.specs.declared.look.Look.{Look}
 use Rattle.tdb_top.specs.declared.ask.Task.{Task}
-use Rattle.tdb_top.specs.declared.ask.Task.TheVariants.{Create, On, Read, Restore}
+use Rattle.tdb_top.specs.declared.ask.Task.TheVariants.{Create, On, Read, Restore, Backup}
 use Rattle.tdb_top.specs.declared.commands.create.NewForm.{NewForm}
 use Rattle.tdb_top.specs.declared.ending.Ending.{Ending}
 use Rattle.tdb_top.specs.declared.ending.Ending.TheVariants.{Replied, Refused, Missing, There, Usage, DeviceFault, InputFault, Malformed, NoMemory}
 use Rattle.tdb_top.specs.declared.ending.Reply.{Reply}
-use Rattle.tdb_top.specs.declared.ending.Reply.TheVariants.{Done, Value, Escaped, Dumped, Restored, KeyMissing, KeyThere, Full, Number}
+use Rattle.tdb_top.specs.declared.ending.Reply.TheVariants.{Done, Value, Escaped, Dumped, Restored, Copied, KeyMissing, KeyThere, Full, Number}
 use Rattle.tdb_top.specs.declared.halt.Refusal.{Refusal}
 use Rattle.tdb_top.specs.declared.halt.Refusal.TheVariants.{TooLong, Header, Corrupt, NeedsRecovery}
 use Rattle.tdb_top.specs.declared.limits.TheConstants.{LONGEST_FILE}
@@ -21,14 +21,16 @@ use Rattle.tdb_top.specs.Ask.{Ask}
 use Rattle.tdb_top.specs.Acts.{reply_of, Left}
 use Rattle.tdb_top.specs.Ending.{status_of, TakesMemory, PrintedFor, Replies, Refuses, LookReplies, RefusesToRead, TaskDue, Due, TaskCause, task_due, task_failed, task_wanting, CountedBy}
 use Rattle.tdb_top.specs.Looks.{look_reply}
-use Rattle.tdb_top.specs.Printed.{TextBefore, ask_tells, Writes}
-use Rattle.tdb_top.specs.Left.{ActLeaves, OnLeaves, MakingLeaves, RestoreLeaves, TaskLeaves, Leaving}
+use Rattle.tdb_top.specs.Printed.{TextBefore, ask_tells, IsSilent, Writes}
+use Rattle.tdb_top.specs.Left.{ActLeaves, OnLeaves, MakingLeaves, RestoreLeaves, TaskLeaves, MayChange, SameElse, Leaving}
 use Rattle.tdb_top.specs.Commands.Restore.{of_input, HeardBy}
+use Rattle.tdb_top.specs.Commands.Backup.{BackupLeaves, EndsBackup}
 use Rattle.tdb_top.specs.Input.{Input}
-use Rattle.tdb_top.specs.Reads.{ask_reads, AskCause}
-use Rattle.tdb_top.specs.Opening.{opened_bytes, OpensToRead, UndoneIfOpen}
-use Rattle.tdb_top.specs.Run.{Run, MayEnd, is_due, is_read, call_failed, memory_wanting, TellsFault, ActsOn, LooksInto, RefusesExactly, KeepsAll, ActRun, MakingRun, RestoringRun, HeldOrUndone, LeavesFiles, Accounted}
+use Rattle.tdb_top.specs.Reads.{ask_reads, AskEnds}
+use Rattle.tdb_top.specs.Opening.{opened_bytes, OpensToRead, HeldOrUndone, UndoneIfOpen}
+use Rattle.tdb_top.specs.Run.{Run, MayEnd, is_due, is_read, is_copied, call_failed, memory_wanting, TellsFault, ActsOn, LooksInto, RefusesExactly, KeepsAll, ActRun, MakingRun, RestoringRun, BackupRun, IsCopyName, LeavesFiles, Accounted}
 use Rattle.tdb_top.proofs.Held.{same_or_other}
+use Rattle.tdb_top.proofs.Copies.{stopped_kept, stopped_weaker, backup_zero}
 use Rattle.tdb_top.proofs.OneAnswer.{due_one, refused_faulty, refused_three, read_faulty, read_three}
 use Rattle.tdb_top.proofs.Openings.{same_or_undone}
 
@@ -46,6 +48,7 @@ reply_status (Value value) = inl refl
 reply_status (Escaped value) = inl refl
 reply_status Dumped = inl refl
 reply_status Restored = inl refl
+reply_status Copied = inl refl
 reply_status (Number n) = inl refl
 reply_status KeyMissing = inr (inl refl)
 reply_status KeyThere = inr (inl refl)
@@ -152,11 +155,19 @@ exits tells run e t printed (inr part) = inr (inr part.exits)
 exits tells run e t (inl same) (inl all) = inl (all.exits ∙ ap status_of same)
 exits tells run e t (inr want) (inl all) = inr (inl (all.exits ∙ ap status_of want.0, want.1))
 
--- a restore that was done writes nothing, and so its status is 0
-pub restored_exits : (tells : Bool) (run : Run) (e t : Ending) → PrintedFor e t → Printed tells run e → t ≡ Replied Restored → run.status ≡ 0
-restored_exits tells run e t (inl same) (inl all) done = all.exits ∙ ap status_of (same ∙ done)
-restored_exits tells run e t (inl same) (inr part) done = absurd (part.writes (same ∙ done))
-restored_exits tells run e t (inr want) prints done = absurd (false≢true (subst TakesMemory done want.1))
+-- a restore or a backup that was done writes nothing, and so its status is 0
+silent_status : (t : Ending) → IsSilent t → status_of t ≡ 0
+silent_status t (inl is) = ap status_of is
+silent_status t (inr is) = ap status_of is
+
+silent_needs : (t : Ending) → IsSilent t → TakesMemory t → ⊥
+silent_needs t (inl is) takes = false≢true (subst TakesMemory is takes)
+silent_needs t (inr is) takes = false≢true (subst TakesMemory is takes)
+
+pub silent_exits : (tells : Bool) (run : Run) (e t : Ending) → PrintedFor e t → Printed tells run e → IsSilent t → run.status ≡ 0
+silent_exits tells run e t (inl same) (inl all) silent = all.exits ∙ ap status_of same ∙ silent_status t silent
+silent_exits tells run e t (inl same) (inr part) silent = absurd (part.writes (subst IsSilent (sym same) silent))
+silent_exits tells run e t (inr want) prints silent = absurd (silent_needs t silent want.1)
 
 -- from the ending that was found to the one that is printed
 pub printed_caused : (ask : Option Ask) (held : List ℕ → Option History) (input : Input) (before after : ℕ) (e t : Ending) → PrintedFor e t → MayEnd ask held input before after t → MayEnd ask held input before after e
@@ -169,10 +180,12 @@ task_caused ask a held input before after _ is (task_due e due) = is_due e (subs
 task_caused ask a held input before after _ is (task_failed rose) = call_failed a (sym is) rose
 task_caused ask a held input before after _ is task_wanting = memory_wanting
 
-pub asked_cause : (ask : Option Ask) (a : Ask) (held : List ℕ → Option History) (input : Input) (before after : ℕ) (e : Ending) → Some a ≡ ask → AskCause input a.task a.file (held a.file) before after e → MayEnd ask held input before after e
-asked_cause ask a held input before after e is (inl cause) = task_caused ask a held input before after e is cause
-asked_cause ask a held input before after e is (inr ends) =
+pub asked_cause : (ask : Option Ask) (a : Ask) (held : List ℕ → Option History) (input : Input) (before after : ℕ) (e : Ending) → Some a ≡ ask → AskEnds input a.task a.file held before after e → MayEnd ask held input before after e
+asked_cause ask a held input before after e is (inl (inl cause)) = task_caused ask a held input before after e is cause
+asked_cause ask a held input before after e is (inl (inr ends)) =
     is_read e ends.limit a.file (sym is ∙ ap (λ t. Some (record { file = a.file; task = t })) ends.restores) ends.none ends.read
+asked_cause ask a held input before after e is (inr ends) =
+    is_copied e ends.more ends.suffix a.file (sym is ∙ ap (λ t. Some (record { file = a.file; task = t })) ends.backs_up) ends.ends
 
 -- the words ask for one thing
 act_or_restore : (ask : Option Ask) (act : Act) (name : List ℕ) (limit : ℕ) (other : List ℕ) → ask ≡ Some (record { file = name; task = On act }) → ask ≡ Some (record { file = other; task = Restore limit }) → ⊥
@@ -181,30 +194,60 @@ act_or_restore ask act name limit other acts restores = false≢true (ap ask_rea
 look_or_restore : (ask : Option Ask) (look : Look) (name : List ℕ) (limit : ℕ) (other : List ℕ) → ask ≡ Some (record { file = name; task = Read look }) → ask ≡ Some (record { file = other; task = Restore limit }) → ⊥
 look_or_restore ask look name limit other looks restores = false≢true (ap ask_reads (sym looks ∙ restores))
 
+-- a backup is neither
+abbrev task_copies : Task → Bool
+task_copies (Backup more suffix) = true
+task_copies (On act) = false
+task_copies (Read look) = false
+task_copies (Create form) = false
+task_copies (Restore limit) = false
+
+abbrev asks_copies : Option Ask → Bool
+asks_copies None = false
+asks_copies (Some ask) = task_copies ask.task
+
+act_or_backup : (ask : Option Ask) (act : Act) (name : List ℕ) (more : List (List ℕ)) (suffix other : List ℕ) → ask ≡ Some (record { file = name; task = On act }) → ask ≡ Some (record { file = other; task = Backup more suffix }) → ⊥
+act_or_backup ask act name more suffix other acts copies = false≢true (ap asks_copies (sym acts ∙ copies))
+
+look_or_backup : (ask : Option Ask) (look : Look) (name : List ℕ) (more : List (List ℕ)) (suffix other : List ℕ) → ask ≡ Some (record { file = name; task = Read look }) → ask ≡ Some (record { file = other; task = Backup more suffix }) → ⊥
+look_or_backup ask look name more suffix other looks copies = false≢true (ap asks_copies (sym looks ∙ copies))
+
 module _ (run : Run) (e : Ending) (cause : MayEnd run.ask run.old run.input run.faults_before run.faults_after e) (tells : Bool) (prints : Printed tells run e) where
-  -- what the ending that is printed says of a status, where it is due, and where a restore is asked for and no file is there
-  status_where : (P : ℕ → Type 0) → (Due run.ask run.old e → P (status_of e)) → ((limit : ℕ) (name : List ℕ) → run.ask ≡ Some (record { file = name; task = Restore limit }) → run.old name ≡ None → P (status_of e)) → P run.status ⊎ TellsFault run.status
-  status_where P due read = of e cause prints due read
+  -- what the ending that is printed says of a status, where it is due, where a restore is asked for and no file is
+  -- there, and where a backup is asked for
+  abbrev Copies : Type 0 → Type 0
+  Copies P = (more : List (List ℕ)) (suffix name : List ℕ) → run.ask ≡ Some (record { file = name; task = Backup more suffix }) → P
+
+  status_where : (P : ℕ → Type 0) → (Due run.ask run.old e → P (status_of e)) → ((limit : ℕ) (name : List ℕ) → run.ask ≡ Some (record { file = name; task = Restore limit }) → run.old name ≡ None → P (status_of e)) → Copies (P (status_of e)) → P run.status ⊎ TellsFault run.status
+  status_where P due read copies = of e cause prints due read copies
     where
       of : (x : Ending) → MayEnd run.ask run.old run.input run.faults_before run.faults_after x → Printed tells run x → (Due run.ask run.old x → P (status_of x))
-          → ((limit : ℕ) (name : List ℕ) → run.ask ≡ Some (record { file = name; task = Restore limit }) → run.old name ≡ None → P (status_of x)) → P run.status ⊎ TellsFault run.status
-      of x c (inr part) due read = inr (inr (inr part.exits))
-      of _ (is_due x d) (inl all) due read = inl (subst P (sym all.exits) (due d))
-      of _ (is_read x limit name asks none so) (inl all) due read = inl (subst P (sym all.exits) (read limit name asks none))
-      of _ (call_failed a asks rose) (inl all) due read = inr (inl all.exits)
-      of _ memory_wanting (inl all) due read = inr (inr (inl all.exits))
+          → ((limit : ℕ) (name : List ℕ) → run.ask ≡ Some (record { file = name; task = Restore limit }) → run.old name ≡ None → P (status_of x)) → Copies (P (status_of x)) → P run.status ⊎ TellsFault run.status
+      of x c (inr part) due read copies = inr (inr (inr part.exits))
+      of _ (is_due x d) (inl all) due read copies = inl (subst P (sym all.exits) (due d))
+      of _ (is_read x limit name asks none so) (inl all) due read copies = inl (subst P (sym all.exits) (read limit name asks none))
+      of _ (is_copied x more suffix name asks ends) (inl all) due read copies = inl (subst P (sym all.exits) (copies more suffix name asks))
+      of _ (call_failed a asks rose) (inl all) due read copies = inr (inl all.exits)
+      of _ memory_wanting (inl all) due read copies = inr (inr (inl all.exits))
 
   -- what is due is what is answered
   pub exactly : (x : Ending) → Due run.ask run.old x → (run.status ≡ status_of x) ⊎ TellsFault run.status
   exactly x due = status_where (λ n. n ≡ status_of x) (λ d. ap status_of (due_one run.ask run.old e x d due))
       (λ limit name asks none. absurd (subst (λ o. TaskDue (Restore limit) name o x) none (subst (λ a. Due a run.old x) asks due)))
+      (λ more suffix name asks. absurd (subst (λ a. Due a run.old x) asks due))
 
-  -- an act or a look isn't a restore
+  -- an act or a look is neither a restore nor a backup
   no_act : (P : Type 0) (act : Act) (name : List ℕ) (h : History) → ActsOn run act name h → (limit : ℕ) (other : List ℕ) → run.ask ≡ Some (record { file = other; task = Restore limit }) → P
   no_act P act name h acts limit other asks = absurd (act_or_restore run.ask act name limit other acts.asks asks)
 
   no_look : (P : Type 0) (look : Look) (name : List ℕ) (h : History) → LooksInto run look name h → (limit : ℕ) (other : List ℕ) → run.ask ≡ Some (record { file = other; task = Restore limit }) → P
   no_look P look name h into limit other asks = absurd (look_or_restore run.ask look name limit other into.asks asks)
+
+  no_act_copies : (P : Type 0) (act : Act) (name : List ℕ) (h : History) → ActsOn run act name h → Copies P
+  no_act_copies P act name h acts more suffix other asks = absurd (act_or_backup run.ask act name more suffix other acts.asks asks)
+
+  no_look_copies : (P : Type 0) (look : Look) (name : List ℕ) (h : History) → LooksInto run look name h → Copies P
+  no_look_copies P look name h into more suffix other asks = absurd (look_or_backup run.ask look name more suffix other into.asks asks)
 
   -- what is due of an act on a file that is there
   act_due : (act : Act) (name : List ℕ) (h : History) → ActsOn run act name h → Due run.ask run.old e → Replies act (seen h) e ⊎ Refuses (seen h) e
@@ -237,13 +280,13 @@ module _ (run : Run) (e : Ending) (cause : MayEnd run.ask run.old run.input run.
   no_three (inr (inr is)) three = absurd (omega (arith, is, three))
 
   only_faulty : (act : Act) (name : List ℕ) (h : History) → ActsOn run act name h → run.status ≡ 3 → Opens (seen h) → ⊥
-  only_faulty act name h acts three opens = elim (status_where (λ n. n ≡ 3 → ⊥) (λ d. not_three act h opens (act_due act name h acts d)) (λ limit other asks none. no_act (status_of e ≡ 3 → ⊥) act name h acts limit other asks)) [
+  only_faulty act name h acts three opens = elim (status_where (λ n. n ≡ 3 → ⊥) (λ d. not_three act h opens (act_due act name h acts d)) (λ limit other asks none. no_act (status_of e ≡ 3 → ⊥) act name h acts limit other asks) (no_act_copies (status_of e ≡ 3 → ⊥) act name h acts)) [
     | inl other ↦ other three
     | inr fault ↦ no_three fault three
   ]
 
   read_only_faulty : (look : Look) (name : List ℕ) (h : History) → LooksInto run look name h → run.status ≡ 3 → OpensToRead (seen h) → ⊥
-  read_only_faulty look name h into three opens = elim (status_where (λ n. n ≡ 3 → ⊥) (λ d. read_not_three look h opens (look_due look name h into d)) (λ limit other asks none. no_look (status_of e ≡ 3 → ⊥) look name h into limit other asks)) [
+  read_only_faulty look name h into three opens = elim (status_where (λ n. n ≡ 3 → ⊥) (λ d. read_not_three look h opens (look_due look name h into d)) (λ limit other asks none. no_look (status_of e ≡ 3 → ⊥) look name h into limit other asks) (no_look_copies (status_of e ≡ 3 → ⊥) look name h into)) [
     | inl other ↦ other three
     | inr fault ↦ no_three fault three
   ]
@@ -251,9 +294,9 @@ module _ (run : Run) (e : Ending) (cause : MayEnd run.ask run.old run.input run.
   pub refuses_exactly : RefusesExactly run
   refuses_exactly = record {
     only = only_faulty;
-    exact = λ act name h acts faulty short. status_where (λ n. n ≡ 3) (λ d. three_due act h faulty short (act_due act name h acts d)) (λ limit other asks none. no_act (status_of e ≡ 3) act name h acts limit other asks);
+    exact = λ act name h acts faulty short. status_where (λ n. n ≡ 3) (λ d. three_due act h faulty short (act_due act name h acts d)) (λ limit other asks none. no_act (status_of e ≡ 3) act name h acts limit other asks) (no_act_copies (status_of e ≡ 3) act name h acts);
     read_only = read_only_faulty;
-    read_exact = λ look name h into faulty short. status_where (λ n. n ≡ 3) (λ d. read_three_due look h faulty short (look_due look name h into d)) (λ limit other asks none. no_look (status_of e ≡ 3) look name h into limit other asks);
+    read_exact = λ look name h into faulty short. status_where (λ n. n ≡ 3) (λ d. read_three_due look h faulty short (look_due look name h into d)) (λ limit other asks none. no_look (status_of e ≡ 3) look name h into limit other asks) (no_look_copies (status_of e ≡ 3) look name h into);
   }
 
 -- an act that didn't reply that it is done left the file as it was opened
@@ -418,9 +461,23 @@ module _ (before after status : ℕ) where
         | inr is ↦ inr (is, counted.failed fault)
       ]
 
-module _ (run : Run) (t : Ending) (out : Exits run.status t) (counted : CountedBy run.faults_before run.faults_after t) (restored : t ≡ Replied Restored → run.status ≡ 0) (left : Leaving run.input run.ask run.old t run.now) where
+  -- what a run leaves at the names of a backup
+  backup_run : (suffix : List ℕ) (files : List (List ℕ)) (old now : List ℕ → Option History) (t : Ending) → Exits status t → CountedBy before after t → (t ≡ Replied Copied → status ≡ 0) → BackupLeaves suffix files old t now
+      → BackupRun suffix files old before after status now
+  backup_run suffix files old now t out counted silent left = record {
+    done = λ is. left.done (ended t left.known out is);
+    stopped = λ other. stopped_weaker suffix old now (t ≡ DeviceFault) (((status ≡ 4) ⊎ (status ≡ 8)) × Rose before after)
+        (λ fault. (fault_exits (subst (Exits status) fault out), counted.failed fault)) files (left.stopped (λ done. other (silent done)));
+  }
+    where
+      ended : (t : Ending) → EndsBackup t → Exits status t → status ≡ 0 → t ≡ Replied Copied
+      ended t known (inl own) is = backup_zero t known (sym own ∙ is)
+      ended t known (inr (inl want)) is = absurd (omega (arith, want.0, is))
+      ended t known (inr (inr eight)) is = absurd (omega (arith, eight, is))
+
+module _ (run : Run) (t : Ending) (out : Exits run.status t) (counted : CountedBy run.faults_before run.faults_after t) (silent : IsSilent t → run.status ≡ 0) (left : Leaving run.input run.ask run.old t run.now) where
   -- what the run leaves at the name of the task that it is asked for
-  asked_left : (task : Task) (name : List ℕ) → run.ask ≡ Some (record { file = name; task = task }) → TaskLeaves run.input task (run.old name) t (run.now name)
+  asked_left : (task : Task) (name : List ℕ) → run.ask ≡ Some (record { file = name; task = task }) → TaskLeaves run.input task name run.old t run.now
   asked_left task name asks = (subst (λ a. Leaving run.input a run.old t run.now) asks left).1
 
   acted : (act : Act) (name : List ℕ) (old : History) → ActsOn run act name old → (h : History) × (run.now name ≡ Some h) × ActRun act old run.faults_before run.faults_after run.status h
@@ -432,38 +489,55 @@ module _ (run : Run) (t : Ending) (out : Exits run.status t) (counted : CountedB
   made form name asks = making_run run.faults_before run.faults_after run.status form (run.old name) (run.now name) t out counted (asked_left (Create form) name asks)
 
   restoring : (limit : ℕ) (name : List ℕ) → run.ask ≡ Some (record { file = name; task = Restore limit }) → RestoringRun run.input (run.old name) run.faults_before run.faults_after run.status (run.now name)
-  restoring limit name asks = restoring_run run.faults_before run.faults_after run.status run.input (run.old name) (run.now name) t out counted restored (asked_left (Restore limit) name asks)
+  restoring limit name asks = restoring_run run.faults_before run.faults_after run.status run.input (run.old name) (run.now name) t out counted (λ done. silent (inl done)) (asked_left (Restore limit) name asks)
 
-  others : (name : List ℕ) → ((ask : Ask) → run.ask ≡ Some ask → ask.file ≡ name → ⊥) → run.now name ≡ run.old name
+  backing_up : (more : List (List ℕ)) (suffix name : List ℕ) → run.ask ≡ Some (record { file = name; task = Backup more suffix }) → BackupRun suffix (name ∷ more) run.old run.faults_before run.faults_after run.status run.now
+  backing_up more suffix name asks = backup_run run.faults_before run.faults_after run.status suffix (name ∷ more) run.old run.now t out counted (λ done. silent (inr done)) (asked_left (Backup more suffix) name asks)
+
+  others : (name : List ℕ) → ((ask : Ask) → run.ask ≡ Some ask → MayChange ask.task ask.file name → ⊥) → run.now name ≡ run.old name
   others name none = of run.ask left none
     where
-      of : (ask : Option Ask) → Leaving run.input ask run.old t run.now → ((a : Ask) → ask ≡ Some a → a.file ≡ name → ⊥) → run.now name ≡ run.old name
+      of : (ask : Option Ask) → Leaving run.input ask run.old t run.now → ((a : Ask) → ask ≡ Some a → MayChange a.task a.file name → ⊥) → run.now name ≡ run.old name
       of None left none = left name
-      of (Some a) left none = left.0 name (λ same. none a refl (sym same))
+      of (Some a) left none = left.0 name (none a refl)
 
-  -- what is held at the name of a task, where the status tells of no change
-  task_kept : KeepsAll run.status → (task : Task) (name : List ℕ) (old : Option History) → TaskLeaves run.input task old t (run.now name) → HeldOrUndone old (run.now name)
-  task_kept keeps (On act) name None at = inl at
-  task_kept keeps (On act) name (Some old) at = elim ((act_run run.faults_before run.faults_after run.status act old at.0 t out counted at.2).kept keeps) [
+  -- what is held at the name of a task on one file, where the status tells of no change
+  on_kept : KeepsAll run.status → (act : Act) (name : List ℕ) (old : Option History) → OnLeaves act old t (run.now name) → HeldOrUndone old (run.now name)
+  on_kept keeps act name None at = inl at
+  on_kept keeps act name (Some old) at = elim ((act_run run.faults_before run.faults_after run.status act old at.0 t out counted at.2).kept keeps) [
     | inl undone ↦ inr (old, at.0, refl, at.1, undone)
     | inr same ↦ inl (at.1 ∙ ap Some same)
   ]
-  task_kept keeps (Read look) name old at = inl at
-  task_kept keeps (Create form) name old at = inl ((making_run run.faults_before run.faults_after run.status form old (run.now name) t out counted at).kept keeps)
-  task_kept keeps (Restore limit) name old at = elim ((restoring_run run.faults_before run.faults_after run.status run.input old (run.now name) t out counted restored at).kept keeps.0 keeps.1) [
-    | inl same ↦ inl same
-    | inr eight ↦ absurd (keeps.2 eight.0)
+
+  -- at each name
+  at_name : (name file : List ℕ) → HeldOrUndone (run.old file) (run.now file) → ((name ≡ file → ⊥) → run.now name ≡ run.old name) → HeldOrUndone (run.old name) (run.now name)
+  at_name name file here other = elim (same_or_other name file) [
+    | inl same ↦ subst (λ n. HeldOrUndone (run.old n) (run.now n)) (sym same) here
+    | inr apart ↦ inl (other apart)
   ]
 
-  kept : KeepsAll run.status → (name : List ℕ) → HeldOrUndone (run.old name) (run.now name)
-  kept keeps name = of run.ask left
+  task_kept : KeepsAll run.status → (task : Task) (file name : List ℕ) → SameElse task file run.old run.now → TaskLeaves run.input task file run.old t run.now
+      → (IsCopyName (Some (record { file = file; task = task })) name → ⊥) → HeldOrUndone (run.old name) (run.now name)
+  task_kept keeps (On act) file name same at copy = at_name name file (on_kept keeps act file (run.old file) at) (same name)
+  task_kept keeps (Read look) file name same at copy = at_name name file (inl at) (same name)
+  task_kept keeps (Create form) file name same at copy = at_name name file (inl ((making_run run.faults_before run.faults_after run.status form (run.old file) (run.now file) t out counted at).kept keeps)) (same name)
+  task_kept keeps (Restore limit) file name same at copy =
+      at_name name file
+      (elim ((restoring_run run.faults_before run.faults_after run.status run.input (run.old file) (run.now file) t out counted (λ done. silent (inl done)) at).kept keeps.0 keeps.1) [
+        | inl held ↦ inl held
+        | inr eight ↦ absurd (keeps.2 eight.0)
+      ])
+      (same name)
+  task_kept keeps (Backup more suffix) file name same at copy =
+      stopped_kept suffix run.old run.now _ (λ broken. elim broken.0 [ inl four ↦ keeps.1 four | inr eight ↦ keeps.2 eight ]) (file ∷ more)
+      ((backup_run run.faults_before run.faults_after run.status suffix (file ∷ more) run.old run.now t out counted (λ done. silent (inr done)) at).stopped keeps.0) name (λ among. copy (more, suffix, file, refl, among)) (same name)
+
+  kept : KeepsAll run.status → (name : List ℕ) → (IsCopyName run.ask name → ⊥) → HeldOrUndone (run.old name) (run.now name)
+  kept keeps name copy = of run.ask left copy
     where
-      of : (ask : Option Ask) → Leaving run.input ask run.old t run.now → HeldOrUndone (run.old name) (run.now name)
-      of None left = inl (left name)
-      of (Some a) left = elim (same_or_other name a.file) [
-        | inl here ↦ subst (λ n. HeldOrUndone (run.old n) (run.now n)) (sym here) (task_kept keeps a.task a.file (run.old a.file) left.1)
-        | inr apart ↦ inl (left.0 name apart)
-      ]
+      of : (ask : Option Ask) → Leaving run.input ask run.old t run.now → (IsCopyName ask name → ⊥) → HeldOrUndone (run.old name) (run.now name)
+      of None left copy = inl (left name)
+      of (Some a) left copy = task_kept keeps a.task a.file name left.0 left.1 copy
 
   pub leaves_files : LeavesFiles run
   leaves_files = record {
@@ -472,6 +546,7 @@ module _ (run : Run) (t : Ending) (out : Exits run.status t) (counted : CountedB
     absent = λ act name asks none. subst (λ o. OnLeaves act o t (run.now name)) none (asked_left (On act) name asks);
     made = made;
     restored = restoring;
+    backed_up = backing_up;
     read = λ look name asks. asked_left (Read look) name asks;
     kept = kept;
   }

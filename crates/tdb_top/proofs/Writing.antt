@@ -8,7 +8,7 @@ use Rattle.tdb_disk.specs.Count.{Rose, HasCause}
 use Rattle.tdb_disk.specs.History.{History}
 use Rattle.tdb_disk.specs.declared.sink.SinkFault.{SinkFault}
 use Rattle.tdb_top.specs.declared.ask.Task.{Task}
-use Rattle.tdb_top.specs.declared.ask.Task.TheVariants.{Create, On, Read, Restore}
+use Rattle.tdb_top.specs.declared.ask.Task.TheVariants.{Create, On, Read, Restore, Backup}
 use Rattle.tdb_top.specs.declared.ending.Ending.{Ending}
 use Rattle.tdb_top.specs.declared.ending.Ending.TheVariants.{Replied, Refused, Missing, There, Usage, DeviceFault, InputFault, Malformed, NoMemory}
 use Rattle.tdb_top.specs.declared.ending.Reply.{Reply}
@@ -17,7 +17,7 @@ use Rattle.tdb_top.specs.declared.look.Look.TheVariants.{Dump, Value}
 use Rattle.tdb_top.specs.Ask.{Ask}
 use Rattle.tdb_top.specs.Ending.{TakesMemory, PrintedFor, output_by, text_of}
 use Rattle.tdb_top.specs.Looks.{StandsBefore, before_reply, ending_of, Began}
-use Rattle.tdb_top.specs.Printed.{TaskText, TextBefore, task_tells, ask_tells, Finishes, Writes}
+use Rattle.tdb_top.specs.Printed.{TaskText, TextBefore, task_tells, ask_tells, IsSilent, Finishes, Writes}
 
 -- before a line that takes memory stands nothing, so nothing stands before the line that tells of its want
 reply_wanting : (text written : List ℕ) (r : Reply) → TakesMemory (Replied r) → written ≡ before_reply r text → written ≡ []
@@ -26,6 +26,7 @@ reply_wanting text written (R.Value value) takes is = is
 reply_wanting text written (R.Escaped value) takes is = is
 reply_wanting text written R.Dumped takes is = absurd (false≢true takes)
 reply_wanting text written R.Restored takes is = is
+reply_wanting text written R.Copied takes is = is
 reply_wanting text written (R.Number n) takes is = is
 reply_wanting text written R.KeyMissing takes is = is
 reply_wanting text written R.KeyThere takes is = is
@@ -46,6 +47,7 @@ task_wanting : (task : Task) (held : Option History) (written : List ℕ) (t : E
 task_wanting (On act) held written t takes text = text
 task_wanting (Create form) held written t takes text = text
 task_wanting (Restore limit) held written t takes text = text
+task_wanting (Backup more suffix) held written t takes text = text
 task_wanting (Read (Value key)) held written t takes text = text
 task_wanting (Read Dump) None written t takes text = text
 task_wanting (Read Dump) (Some h) written t takes text = stands_wanting _ written t takes text
@@ -59,6 +61,7 @@ task_nothing : (task : Task) (held : Option History) → TaskText task held NoMe
 task_nothing (On act) held = refl
 task_nothing (Create form) held = refl
 task_nothing (Restore limit) held = refl
+task_nothing (Backup more suffix) held = refl
 task_nothing (Read (Value key)) held = refl
 task_nothing (Read Dump) None = refl
 task_nothing (Read Dump) (Some h) = (0, refl)
@@ -81,12 +84,22 @@ task_heard : (task : Task) (files output : Bool) → IsTrue (task_tells task fil
 task_heard (On act) files output told = told
 task_heard (Create form) files output told = told
 task_heard (Restore limit) files output told = told
+task_heard (Backup more suffix) files output told = told
 task_heard (Read (Value key)) files output told = told
 task_heard (Read Dump) files output told = and_left output files told
 
 heard : (ask : Option Ask) (files output : Bool) → IsTrue (ask_tells ask files output) → IsTrue output
 heard None files output told = told
 heard (Some ask) files output told = task_heard ask.task files output told
+
+-- an ending that writes nothing has no text, and that of a dump isn't one
+silent_text : (e : Ending) → IsSilent e → text_of e ≡ []
+silent_text e (inl is) = ap text_of is
+silent_text e (inr is) = ap text_of is
+
+dumped_tells : IsSilent (Replied R.Dumped) → ⊥
+dumped_tells (inl is) = cc
+dumped_tells (inr is) = cc
 
 module _ (ask : Option Ask) (held : List ℕ → Option History) (files tells : Bool) (before mid after : List ℕ) (start middle last : ℕ) where
   abbrev Text : Ending → List ℕ → Type 0
@@ -103,7 +116,7 @@ module _ (ask : Option Ask) (held : List ℕ → Option History) (files tells : 
         (b.0, text_printed ask held b.0 e found printed b.1, all.written (heard ask files tells told) ∙ ap (λ x. x ++ text_of e) b.2));
   })
   written (Ok found) e status printed began cause (inr part) = inr (record {
-    writes = λ is. part.some (ap text_of is);
+    writes = λ silent. part.some (silent_text e silent);
     exits = part.exits;
     failed = subst (λ n. Rose n last) cause.done part.failed;
     written = λ told.
@@ -116,7 +129,7 @@ module _ (ask : Option Ask) (held : List ℕ → Option History) (files tells : 
         ));
   })
   written (Err fault) e status printed began cause done = inr (record {
-    writes = λ is. (let both : Replied R.Dumped ≡ Replied R.Restored = sym done.0 ∙ is in cc);
+    writes = λ silent. dumped_tells (subst IsSilent done.0 silent);
     exits = done.1;
     failed = subst (λ n. Rose start n) (sym done.3) cause.failed;
     written = λ told.

@@ -6,13 +6,14 @@ use Rattle.tdb_space.specs.Pairs.{same_key}
 use Rattle.tdb_top.specs.declared.act.Act.{Act}
 use Rattle.tdb_top.specs.declared.act.Act.TheVariants.{Show, Insert, Check}
 use Rattle.tdb_top.specs.declared.ask.Task.{Task}
-use Rattle.tdb_top.specs.declared.ask.Task.TheVariants.{Create, On, Read, Restore}
+use Rattle.tdb_top.specs.declared.ask.Task.TheVariants.{Create, On, Read, Restore, Backup}
 use Rattle.tdb_top.specs.declared.ask.Ask as C
 use Rattle.tdb_top.specs.Words.{is_position}
 use Rattle.tdb_top.specs.Commands.Show.{show_of}
 use Rattle.tdb_top.specs.Commands.Check.{check_of}
 use Rattle.tdb_top.specs.Commands.Insert.{insert_of}
 use Rattle.tdb_top.specs.Commands.Create.{create_of}
+use Rattle.tdb_top.specs.Commands.Backup.{BackupFits}
 use Rattle.tdb_top.specs.Commands.Dump.{dump_of_words, file_alone}
 use Rattle.tdb_top.specs.declared.limits.TheConstants.{LONGEST_FILE}
 use Rattle.tdb_top.specs.Looks.{LookFits}
@@ -54,24 +55,29 @@ dump_asks words = option_map (λ found. record { file = found.0; task = Read fou
 abbrev pub restore_asks : List (List ℕ) → Option Ask
 restore_asks words = option_map (λ file. record { file = file; task = Restore LONGEST_FILE }) (file_alone words)
 
+-- what the words behind `backup` ask for: FILE alone
+abbrev pub backup_asks : List (List ℕ) → Option Ask
+backup_asks words = option_map (λ file. record { file = file; task = Backup [] (codes ".bak") }) (file_alone words)
+
 -- the commands of the program, each by its name with what the words behind it ask for
 abbrev pub commands : List (List ℕ × (List (List ℕ) → Option Ask))
-commands = (codes "tool", tool_of) ∷ (codes "dump", dump_asks) ∷ (codes "restore", restore_asks) ∷ []
+commands = (codes "tool", tool_of) ∷ (codes "dump", dump_asks) ∷ (codes "restore", restore_asks) ∷ (codes "backup", backup_asks) ∷ []
 
 -- what the words of a command line ask for, those behind the program's name
 abbrev pub ask_of : List (List ℕ) → Option Ask
 ask_of [] = None
 ask_of (program ∷ words) = option_and_then (λ read. read words) (lookup (same_key program) commands)
 
--- the keys and the values of an act are short enough for a record, a file is made with some chain, and one that is
--- restored may be no longer than the longest
+-- the keys and the values of an act are short enough for a record, a file is made with some chain, one that is restored
+-- may be no longer than the longest; the names of a backup are all different
 abbrev pub ActFits : Act → Type 0
 ActFits (Show key) = length key < 2 ^ 32
 ActFits (Insert key value) = length key + length value < 2 ^ 32
 ActFits Check = Unit {0}
 
-abbrev pub TaskFits : Task → Type 0
-TaskFits (On act) = ActFits act
-TaskFits (Read look) = LookFits look
-TaskFits (Create form) = 0 < form.size
-TaskFits (Restore limit) = limit ≤ 4294963200
+abbrev pub TaskFits : List ℕ → Task → Type 0
+TaskFits file (On act) = ActFits act
+TaskFits file (Read look) = LookFits look
+TaskFits file (Create form) = 0 < form.size
+TaskFits file (Restore limit) = limit ≤ 4294963200
+TaskFits file (Backup more suffix) = BackupFits suffix (file ∷ more)

@@ -5,3 +5,4 @@ pub mod Insert
 pub mod Create
 pub mod Dump
 pub mod Restore
+pub mod Backup

@@ -10,10 +10,10 @@ use Rattle.tdb_dump.specs.Line.{data_line}
 use Rattle.tdb_top.specs.declared.act.Act.{Act}
 use Rattle.tdb_top.specs.declared.look.Look.{Look}
 use Rattle.tdb_top.specs.declared.ask.Task.{Task}
-use Rattle.tdb_top.specs.declared.ask.Task.TheVariants.{Create, On, Read, Restore}
+use Rattle.tdb_top.specs.declared.ask.Task.TheVariants.{Create, On, Read, Restore, Backup}
 use Rattle.tdb_top.specs.declared.ending.Ending.{Ending}
 use Rattle.tdb_top.specs.declared.ending.Ending.TheVariants.{Replied, Refused, Missing, There, Usage, DeviceFault, InputFault, Malformed, NoMemory}
-use Rattle.tdb_top.specs.declared.ending.Reply.TheVariants.{Done, Value, Escaped, Dumped, Restored, KeyMissing, KeyThere, Full, Number}
+use Rattle.tdb_top.specs.declared.ending.Reply.TheVariants.{Done, Value, Escaped, Dumped, Restored, Copied, KeyMissing, KeyThere, Full, Number}
 use Rattle.tdb_top.specs.declared.halt.Halt as H
 use Rattle.tdb_top.specs.declared.halt.Refusal.{Refusal}
 use Rattle.tdb_top.specs.declared.halt.Refusal.TheVariants.{TooLong, Header, Corrupt, NeedsRecovery}
@@ -47,6 +47,7 @@ answer (Replied (Value value)) = tells 0 (data_line value)
 answer (Replied (Escaped value)) = tells 0 (escaped value)
 answer (Replied Dumped) = exits 0
 answer (Replied Restored) = exits 0
+answer (Replied Copied) = exits 0
 answer (Replied (Number n)) = tells 0 (codes "number " ++ decimal n)
 answer (Replied KeyMissing) = says 1 (codes "noexist")
 answer (Replied KeyThere) = says 1 (codes "exists")
@@ -104,8 +105,8 @@ pub record RefusesToRead (img : List ℕ) (e : Ending) : Type 0 where
   pub refused : e ≡ Refused refusal
 
 -- How a task on the file of this name ends, by what is held there, where no call failed and memory sufficed. An act and
--- a look are on a file that is there; a file is made where none is. How
--- a restore ends where no file is depends on its input, and isn't due to what is held alone.
+-- a look are on a file that is there; a file is made where none is. How a restore ends where no file is depends on its
+-- input, and how a backup ends on all its files (`BackupEnds`), so neither is due to what is held at one name.
 abbrev pub TaskDue : Task → List ℕ → Option History → Ending → Type 0
 TaskDue (On act) name None e = e ≡ Missing name
 TaskDue (On act) name (Some h) e = Replies act (seen h) e ⊎ Refuses (seen h) e
@@ -115,6 +116,7 @@ TaskDue (Create form) name None e = e ≡ Replied Done
 TaskDue (Create form) name (Some h) e = e ≡ There name
 TaskDue (Restore limit) name None e = ⊥
 TaskDue (Restore limit) name (Some h) e = e ≡ There name
+TaskDue (Backup more suffix) name held e = ⊥
 
 -- how a run ends that is asked for this, or for nothing, by what is held at each name
 abbrev pub Due : Option Ask → (List ℕ → Option History) → Ending → Type 0

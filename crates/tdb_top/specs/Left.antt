@@ -1,10 +1,9 @@
 -- What a task leaves at the name of its file, by its ending.
-use Rattle.std.specs.Prelude.{◌≡◌, ◌⊎◌, ℕ, IsTrue, IsSome, Option, None, Some, List}
+use Rattle.std.specs.Prelude.{◌≡◌, ◌⊎◌, ℕ, IsTrue, IsSome, Option, None, Some, List, ◌∷◌}
 use Rattle.tdb_disk.specs.History.{History, seen}
-use Rattle.tdb_disk.specs.Names.{SameBut}
 use Rattle.tdb_top.specs.declared.act.Act.{Act}
 use Rattle.tdb_top.specs.declared.ask.Task.{Task}
-use Rattle.tdb_top.specs.declared.ask.Task.TheVariants.{Create, On, Read, Restore}
+use Rattle.tdb_top.specs.declared.ask.Task.TheVariants.{Create, On, Read, Restore, Backup}
 use Rattle.tdb_top.specs.declared.ending.Ending.{Ending}
 use Rattle.tdb_top.specs.declared.ending.Ending.TheVariants.{Replied, Refused, Missing, There, Usage, DeviceFault, InputFault, Malformed, NoMemory}
 use Rattle.tdb_top.specs.declared.ending.Reply.TheVariants.{Done, Restored}
@@ -12,6 +11,7 @@ use Rattle.tdb_top.specs.declared.commands.create.NewForm.{NewForm}
 use Rattle.tdb_top.specs.declared.commands.create.Creation as Making
 use Rattle.tdb_top.specs.Acts.{reply_of, Left, Interrupted}
 use Rattle.tdb_top.specs.Ask.{Ask}
+use Rattle.tdb_top.specs.Commands.Backup.{IsNameAmong, BackupLeaves}
 use Rattle.tdb_top.specs.Commands.Create.{CreateLeaves}
 use Rattle.tdb_top.specs.Commands.Restore.{IsRestored}
 use Rattle.tdb_top.specs.Ending.{status_of}
@@ -58,14 +58,27 @@ pub record RestoreLeaves (input : Input) (old : Option History) (e : Ending) (no
   pub done : status_of e ≡ 0 → HasRestored input old now
   pub there : IsSome old → now ≡ old
 
--- what a task leaves at the name of its file; a look leaves what is there
-abbrev pub TaskLeaves : Input → Task → Option History → Ending → Option History → Type 0
-TaskLeaves input (On act) old e now = OnLeaves act old e now
-TaskLeaves input (Read look) old e now = now ≡ old
-TaskLeaves input (Create form) old e now = MakingLeaves form old e now
-TaskLeaves input (Restore limit) old e now = RestoreLeaves input old e now
+-- what a task on the file of this name leaves there, and a backup at all its names; a look leaves what is there
+abbrev pub TaskLeaves : Input → Task → List ℕ → (List ℕ → Option History) → Ending → (List ℕ → Option History) → Type 0
+TaskLeaves input (On act) file old e now = OnLeaves act (old file) e (now file)
+TaskLeaves input (Read look) file old e now = now file ≡ old file
+TaskLeaves input (Create form) file old e now = MakingLeaves form (old file) e (now file)
+TaskLeaves input (Restore limit) file old e now = RestoreLeaves input (old file) e (now file)
+TaskLeaves input (Backup more suffix) file old e now = BackupLeaves suffix (file ∷ more) old e now
 
--- what is left of all files by a run that is asked for this, or for nothing: at most the file of its name changes
+-- a task on the file of this name may change what is held at that name: there alone, or at all names of a backup
+abbrev pub MayChange : Task → List ℕ → List ℕ → Type 0
+MayChange (On act) file name = name ≡ file
+MayChange (Read look) file name = name ≡ file
+MayChange (Create form) file name = name ≡ file
+MayChange (Restore limit) file name = name ≡ file
+MayChange (Backup more suffix) file name = IsNameAmong suffix (file ∷ more) name
+
+-- nothing changed at any other name
+abbrev pub SameElse : Task → List ℕ → (List ℕ → Option History) → (List ℕ → Option History) → Type 0
+SameElse task file old now = (name : List ℕ) → (MayChange task file name → ⊥) → now name ≡ old name
+
+-- what is left of all files by a run that is asked for this, or for nothing
 abbrev pub Leaving : Input → Option Ask → (List ℕ → Option History) → Ending → (List ℕ → Option History) → Type 0
 Leaving input None old e now = (name : List ℕ) → now name ≡ old name
-Leaving input (Some ask) old e now = SameBut ask.file old now × TaskLeaves input ask.task (old ask.file) e (now ask.file)
+Leaving input (Some ask) old e now = SameElse ask.task ask.file old now × TaskLeaves input ask.task ask.file old e now

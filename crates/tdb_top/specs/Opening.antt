@@ -1,5 +1,5 @@
 -- Which files are opened, what an opening answers of one, why one is refused, and what an opening leaves of one.
-use Rattle.std.specs.Prelude.{◌≡◌, ◌≢◌, ℕ, ◌<◌, ◌≤◌, ◌⊎◌, Bool, true, false, List, length, Some, None}
+use Rattle.std.specs.Prelude.{◌≡◌, ◌≢◌, ℕ, ◌<◌, ◌≤◌, ◌⊎◌, Bool, true, false, Option, List, length, Some, None}
 use Rattle.tdb_words.specs.declared.what.What.TheVariants.{Short as TooShort, Header as BadHeader}
 use Rattle.tdb_words.specs.Header.{header_at, header_fault}
 use Rattle.tdb_disk.specs.History.{History, seen}
@@ -140,6 +140,14 @@ pub record UndoBroken (old now : History) : Type 0 where
 -- what a look into a file leaves of it where a call failed
 abbrev pub LookBroken : History → History → Type 0
 LookBroken old now = SameOrUndone old now ⊎ UndoBroken old now
+
+-- what is held at a name is as before, or its file was undone
+abbrev pub HeldOrUndone : Option History → Option History → Type 0
+HeldOrUndone old now = (now ≡ old) ⊎ ((h : History) × (k : History) × (old ≡ Some h) × (now ≡ Some k) × Undone h k)
+
+-- a call failed in the midst of the undo of the file at a name
+abbrev pub HeldBroken : Option History → Option History → Type 0
+HeldBroken old now = (h : History) × (k : History) × (old ≡ Some h) × (now ≡ Some k) × UndoBroken h k
 
 -- what an opening that halted leaves
 abbrev pub HaltLeaves : Halt → History → History → Type 0

@@ -1,13 +1,13 @@
 -- What a run prints: a text of its command, if that has one, and the line of its ending behind it.
-use Rattle.std.specs.Prelude.{◌≡◌, ◌≢◌, ◌⊎◌, ℕ, Bool, IsTrue, Option, None, Some, List, [], ◌++◌, take, Result, Ok, Err}
+use Rattle.std.specs.Prelude.{◌≡◌, ◌⊎◌, ℕ, Bool, IsTrue, Option, None, Some, List, [], ◌++◌, take, Result, Ok, Err}
 use Rattle.tdb_disk.specs.Count.{Rose}
 use Rattle.tdb_disk.specs.History.{History}
 use Rattle.tdb_disk.specs.declared.sink.SinkFault.{SinkFault}
 use Rattle.tdb_top.specs.declared.ask.Task.{Task}
-use Rattle.tdb_top.specs.declared.ask.Task.TheVariants.{Create, On, Read, Restore}
+use Rattle.tdb_top.specs.declared.ask.Task.TheVariants.{Create, On, Read, Restore, Backup}
 use Rattle.tdb_top.specs.declared.ending.Ending.{Ending}
 use Rattle.tdb_top.specs.declared.ending.Ending.TheVariants.{Replied}
-use Rattle.tdb_top.specs.declared.ending.Reply.TheVariants.{Dumped, Restored}
+use Rattle.tdb_top.specs.declared.ending.Reply.TheVariants.{Dumped, Restored, Copied}
 use Rattle.tdb_top.specs.Ask.{Ask}
 use Rattle.tdb_top.specs.Ending.{Output, Prints, status_of, text_of}
 use Rattle.tdb_top.specs.Looks.{LookText, look_tells}
@@ -18,6 +18,7 @@ TaskText (On act) held e text = text ≡ []
 TaskText (Read look) held e text = LookText look held e text
 TaskText (Create form) held e text = text ≡ []
 TaskText (Restore limit) held e text = text ≡ []
+TaskText (Backup more suffix) held e text = text ≡ []
 
 -- what a run prints before the line of its ending that is asked for this, or for nothing
 abbrev pub TextBefore : Option Ask → (List ℕ → Option History) → Ending → List ℕ → Type 0
@@ -31,6 +32,7 @@ task_tells (On act) files output = output
 task_tells (Read look) files output = look_tells look files output
 task_tells (Create form) files output = output
 task_tells (Restore limit) files output = output
+task_tells (Backup more suffix) files output = output
 
 abbrev pub ask_tells : Option Ask → Bool → Bool → Bool
 ask_tells None files output = output
@@ -41,9 +43,13 @@ pub record WritesAll (told : Bool) (o : Output) (Text : Ending → List ℕ → 
   pub exits : status ≡ status_of e
   pub written : IsTrue told → (text : List ℕ) × Text e text × (o.after ≡ o.before ++ text ++ text_of e)
 
--- the output failed: it took a part of them, from the first byte on; a restore that was done writes nothing
+-- a restore or a backup that was done, which writes nothing
+abbrev pub IsSilent : Ending → Type 0
+IsSilent e = (e ≡ Replied Restored) ⊎ (e ≡ Replied Copied)
+
+-- the output failed: it took a part of them, from the first byte on; there was something to be written
 pub record WritesPart (told : Bool) (o : Output) (Text : Ending → List ℕ → Type 0) (e : Ending) (status : ℕ) : Type 0 where
-  pub writes : e ≢ Replied Restored
+  pub writes : IsSilent e → ⊥
   pub exits : status ≡ 8
   pub failed : Rose o.faults_before o.faults_after
   pub written : IsTrue told → (text : List ℕ) × Text e text × (n : ℕ) × (o.after ≡ o.before ++ take n (text ++ text_of e))

@@ -1,10 +1,11 @@
--- The tasks that read the input, and why they end.
-use Rattle.std.specs.Prelude.{◌≡◌, ◌⊎◌, ℕ, Bool, true, false, Option, None, Some, List}
+-- The tasks that read the input, and why tasks end.
+use Rattle.std.specs.Prelude.{◌≡◌, ◌⊎◌, ℕ, Bool, true, false, Option, None, Some, List, ◌∷◌}
 use Rattle.tdb_disk.specs.History.{History}
 use Rattle.tdb_top.specs.declared.ask.Task.{Task}
-use Rattle.tdb_top.specs.declared.ask.Task.TheVariants.{Create, On, Read, Restore}
+use Rattle.tdb_top.specs.declared.ask.Task.TheVariants.{Create, On, Read, Restore, Backup}
 use Rattle.tdb_top.specs.declared.ending.Ending.{Ending}
 use Rattle.tdb_top.specs.Ask.{Ask}
+use Rattle.tdb_top.specs.Commands.Backup.{BackupEnds}
 use Rattle.tdb_top.specs.Commands.Restore.{ReadSo}
 use Rattle.tdb_top.specs.Ending.{TaskCause}
 use Rattle.tdb_top.specs.Input.{Input}
@@ -15,6 +16,7 @@ reads_input (On act) = false
 reads_input (Read look) = false
 reads_input (Create form) = false
 reads_input (Restore limit) = true
+reads_input (Backup more suffix) = false
 
 abbrev pub ask_reads : Option Ask → Bool
 ask_reads None = false
@@ -30,3 +32,14 @@ pub record EndsByInput (input : Input) (task : Task) (held : Option History) (e 
 -- why a task ends so, by what is held at its name, by the input, and by how often the files had failed before and after
 abbrev pub AskCause : Input → Task → List ℕ → Option History → ℕ → ℕ → Ending → Type 0
 AskCause input task name held before after e = TaskCause task name held before after e ⊎ EndsByInput input task held e
+
+-- the task is a backup, and ends so by what is held at the names of its files
+pub record EndsByFiles (task : Task) (name : List ℕ) (held : List ℕ → Option History) (e : Ending) : Type 0 where
+  pub more : List (List ℕ)
+  pub suffix : List ℕ
+  pub backs_up : task ≡ Backup more suffix
+  pub ends : BackupEnds (name ∷ more) held e
+
+-- why a task on the file of a name ends so, by what is held at all names
+abbrev pub AskEnds : Input → Task → List ℕ → (List ℕ → Option History) → ℕ → ℕ → Ending → Type 0
+AskEnds input task name held before after e = AskCause input task name (held name) before after e ⊎ EndsByFiles task name held e

@@ -7,7 +7,7 @@ use Rattle.tdb_disk.specs.History.{History, seen}
 use Rattle.tdb_space.specs.Opening.{Opens}
 use Rattle.tdb_top.specs.declared.act.Act.{Act}
 use Rattle.tdb_top.specs.declared.look.Look.{Look}
-use Rattle.tdb_top.specs.declared.ask.Task.TheVariants.{Create, On, Read, Restore}
+use Rattle.tdb_top.specs.declared.ask.Task.TheVariants.{Create, On, Read, Restore, Backup}
 use Rattle.tdb_top.specs.declared.commands.create.NewForm.{NewForm}
 use Rattle.tdb_top.specs.declared.commands.create.Creation.TheVariants.{Made, Device}
 use Rattle.tdb_top.specs.declared.ending.Ending.{Ending}
@@ -17,12 +17,13 @@ use Rattle.tdb_top.specs.Ask.{Ask, ask_of}
 use Rattle.tdb_top.specs.Acts.{reply_of, Left, Interrupted}
 use Rattle.tdb_top.specs.Ending.{Due, status_of, Output}
 use Rattle.tdb_top.specs.Printed.{TextBefore, ask_tells, Writes}
+use Rattle.tdb_top.specs.Commands.Backup.{IsForCopyAmong, CopiedAll, StoppedAt, BackupEnds}
 use Rattle.tdb_top.specs.Commands.Create.{CreateLeaves}
 use Rattle.tdb_top.specs.Commands.Restore.{ReadSo}
 use Rattle.tdb_top.specs.Input.{Input}
-use Rattle.tdb_top.specs.Left.{HasRestored}
+use Rattle.tdb_top.specs.Left.{HasRestored, MayChange}
 use Rattle.tdb_top.specs.Reads.{ask_reads}
-use Rattle.tdb_top.specs.Opening.{opened_bytes, OpensToRead, Undone, SameOrUndone, UndoneIfOpen}
+use Rattle.tdb_top.specs.Opening.{opened_bytes, OpensToRead, HeldOrUndone, SameOrUndone, UndoneIfOpen}
 
 -- a run: what its words ask for, what is held at each name before and after, how often calls of the files had failed
 -- before and after, what the input had, what the output took, and the status that the program exits with
@@ -49,10 +50,12 @@ run_by words old now before after input output status = record {
 }
 
 -- Why a run ends so that is asked for this, or for nothing: it is due; or a restore was asked for, no file was at its
--- name, and its input says so; or it is asked for something and a call failed; or memory was wanting.
+-- name, and its input says so; or a backup was, and its files say so; or it is asked for something and a call failed; or
+-- memory was wanting.
 pub data MayEnd (ask : Option Ask) (held : List ℕ → Option History) (input : Input) (before after : ℕ) : Ending → Type 0 where
   is_due : (e : Ending) → Due ask held e → MayEnd ask held input before after e
   is_read : (e : Ending) (limit : ℕ) (name : List ℕ) → ask ≡ Some (record { file = name; task = Restore limit }) → held name ≡ None → ReadSo input limit e → MayEnd ask held input before after e
+  is_copied : (e : Ending) (more : List (List ℕ)) (suffix name : List ℕ) → ask ≡ Some (record { file = name; task = Backup more suffix }) → BackupEnds (name ∷ more) held e → MayEnd ask held input before after e
   call_failed : (a : Ask) → ask ≡ Some a → Rose before after → MayEnd ask held input before after DeviceFault
   memory_wanting : MayEnd ask held input before after NoMemory
 
@@ -90,8 +93,8 @@ pub record RefusesExactly (run : Run) : Type 0 where
   pub read_only : (look : Look) (name : List ℕ) (h : History) → LooksInto run look name h → run.status ≡ 3 → OpensToRead (seen h) → ⊥
   pub read_exact : (look : Look) (name : List ℕ) (h : History) → LooksInto run look name h → (OpensToRead (seen h) → ⊥) → length (seen h) ≤ LONGEST_FILE → (run.status ≡ 3) ⊎ TellsFault run.status
 
--- a status after which every file is as before or undone, whatever the words ask for: it says neither that it was
--- done, nor that a call of the files or of the output failed
+-- a status after which every file is as before or undone, whatever the words ask for, but for copies: it says neither
+-- that it was done, nor that a call of the files or of the output failed
 abbrev pub KeepsAll : ℕ → Type 0
 KeepsAll status = (status ≢ 0) × (status ≢ 4) × (status ≢ 8)
 
@@ -120,13 +123,19 @@ pub record RestoringRun (input : Input) (old : Option History) (before after sta
   pub there : IsSome old → now ≡ old
   pub kept : status ≢ 0 → status ≢ 4 → (now ≡ old) ⊎ ((status ≡ 8) × Rose before after)
 
--- what is held at a name is as before, or its file was undone
-abbrev pub HeldOrUndone : Option History → Option History → Type 0
-HeldOrUndone old now = (now ≡ old) ⊎ ((h : History) × (k : History) × (old ≡ Some h) × (now ≡ Some k) × Undone h k)
+-- What a run leaves at the names of a backup of these files. Where the status isn't 0 the first ones may be copied. What a
+-- failed call leaves stands only where the status is 4 or 8 and the count of faults rose.
+pub record BackupRun (suffix : List ℕ) (files : List (List ℕ)) (old : List ℕ → Option History) (before after status : ℕ) (now : List ℕ → Option History) : Type 0 where
+  pub done : status ≡ 0 → CopiedAll suffix files old now
+  pub stopped : status ≢ 0 → StoppedAt (((status ≡ 4) ⊎ (status ≡ 8)) × Rose before after) suffix files old now
 
--- What a run leaves of the files: at most the file that it is asked for changes, as the status says.
+-- a name is one for a copy, where a backup is asked for
+abbrev pub IsCopyName : Option Ask → List ℕ → Type 0
+IsCopyName ask name = (more : List (List ℕ)) × (suffix : List ℕ) × (file : List ℕ) × (ask ≡ Some (record { file = file; task = Backup more suffix })) × IsForCopyAmong suffix (file ∷ more) name
+
+-- What a run leaves of the files: at most those that it is asked for change, as the status says.
 pub record LeavesFiles (run : Run) : Type 0 where
-  pub others : (name : List ℕ) → ((ask : Ask) → run.ask ≡ Some ask → ask.file ≢ name) → run.now name ≡ run.old name
+  pub others : (name : List ℕ) → ((ask : Ask) → run.ask ≡ Some ask → MayChange ask.task ask.file name → ⊥) → run.now name ≡ run.old name
   pub acted : (act : Act) (name : List ℕ) (old : History) → ActsOn run act name old
       → (h : History) × (run.now name ≡ Some h) × ActRun act old run.faults_before run.faults_after run.status h
   pub absent : (act : Act) (name : List ℕ) → run.ask ≡ Some (record { file = name; task = On act }) → run.old name ≡ None → run.now name ≡ None
@@ -134,8 +143,10 @@ pub record LeavesFiles (run : Run) : Type 0 where
       → MakingRun form (run.old name) run.faults_before run.faults_after run.status (run.now name)
   pub restored : (limit : ℕ) (name : List ℕ) → run.ask ≡ Some (record { file = name; task = Restore limit })
       → RestoringRun run.input (run.old name) run.faults_before run.faults_after run.status (run.now name)
+  pub backed_up : (more : List (List ℕ)) (suffix name : List ℕ) → run.ask ≡ Some (record { file = name; task = Backup more suffix })
+      → BackupRun suffix (name ∷ more) run.old run.faults_before run.faults_after run.status run.now
   pub read : (look : Look) (name : List ℕ) → run.ask ≡ Some (record { file = name; task = Read look }) → run.now name ≡ run.old name
-  pub kept : KeepsAll run.status → (name : List ℕ) → HeldOrUndone (run.old name) (run.now name)
+  pub kept : KeepsAll run.status → (name : List ℕ) → (IsCopyName run.ask name → ⊥) → HeldOrUndone (run.old name) (run.now name)
 
 -- What a status tells whatever the files and the output tell of what they hold: the usage is answered exactly where the
 -- words ask for nothing, unless memory was wanting or the output failed; and a failed call is told, unless the output

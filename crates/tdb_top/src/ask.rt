@@ -3,25 +3,26 @@
 ghost use Rattle.std.specs.Prelude.{◌≡◌, ℕ, List, false, map, string_bytes, IsTrue, IfOk, IfSome};
 ghost use Rattle.std.specs.Option.{option_map};
 ghost use Rattle.tdb_disk.specs.Count.{HasCause};
-ghost use Rattle.tdb_disk.specs.Names.{SameBut};
 ghost use Rattle.tdb_top.specs.declared.ask.Task.TheVariants.{On as OnIs};
 ghost use Rattle.tdb_top.specs.declared.ending.Ending.TheVariants.{Usage};
-ghost use Rattle.tdb_top.specs.Ask.{asked, ask_of, dump_asks, restore_asks, tool_of as tool_asks, task_of as task_asked, TaskFits};
+ghost use Rattle.tdb_top.specs.Ask.{asked, ask_of, dump_asks, restore_asks, backup_asks, tool_of as tool_asks, task_of as task_asked, TaskFits};
 ghost use Rattle.tdb_top.specs.Commands.Restore.{HeardBy, of_input};
 ghost use Rattle.tdb_top.specs.Ending.{CountedBy};
 ghost use Rattle.tdb_top.specs.Input.{input_by};
-ghost use Rattle.tdb_top.specs.Reads.{AskCause, reads_input};
-ghost use Rattle.tdb_top.specs.Left.{TaskLeaves};
+ghost use Rattle.tdb_top.specs.Reads.{AskEnds, reads_input};
+ghost use Rattle.tdb_top.specs.Left.{TaskLeaves, SameElse};
 ghost use Rattle.tdb_top.specs.Looks.{ending_of, Began};
 ghost use Rattle.tdb_top.specs.Printed.{TaskText, task_tells};
 
 use crate::act::Act;
+use crate::commands::backup::back_up;
 use crate::commands::create::{NewForm, create_file};
 use crate::commands::restore::restore_file;
 use crate::commands::{check, create, dump, insert, show};
 use crate::ending::Ending;
 use crate::limits::LONGEST_FILE;
 use crate::look::Look;
+use crate::names::{Names, Text};
 use crate::words::is_position;
 use std::alloc::{AllocError, Global};
 use tdb_disk::{Files, Sink, SinkFault, Source};
@@ -40,6 +41,9 @@ pub(crate) enum Task {
 
     /// To make it, of the pairs on the input. It may be up to `limit` bytes long.
     Restore { limit: u64 },
+
+    /// To copy it and more files, each to its name and a suffix.
+    Backup { more: Names, suffix: Text },
 }
 
 /// What a command line asks for.
@@ -63,7 +67,7 @@ impl Task {
     /// What the command of this name asks for with these arguments.
     fn named(alloc: Global, command: &str, arguments: &[String]) -> Result<Option<Task>, AllocError>
         ensures read { IfOk result (λ task. task ≡ task_asked command.now (map string_bytes arguments.now)) }
-        ensures fits { IfOk result (λ task. IfSome task TaskFits) }
+        ensures fits { IfOk result (λ task. IfSome task (λ t. (file : List ℕ) → TaskFits file t)) }
     {
         match command {
             "show" => Ok(Task::on(show::read(alloc, arguments)?)),
@@ -82,7 +86,7 @@ impl Ask {
     /// What the words behind `tool` ask for.
     fn of_tool(alloc: Global, words: &[String]) -> Result<Option<Ask>, AllocError>
         ensures read { IfOk result (λ ask. option_map asked ask ≡ tool_asks (map string_bytes words.now)) }
-        ensures fits { IfOk result (λ ask. IfSome ask (λ a. TaskFits a.task)) }
+        ensures fits { IfOk result (λ ask. IfSome ask (λ a. TaskFits (string_bytes a.file) a.task)) }
     {
         let [file, command, arguments @ ..] = words else {
             return Ok(None);
@@ -100,7 +104,7 @@ impl Ask {
     /// What the words behind `dump` ask for.
     fn of_dump(alloc: Global, words: &[String]) -> Result<Option<Ask>, AllocError>
         ensures read { IfOk result (λ ask. option_map asked ask ≡ dump_asks (map string_bytes words.now)) }
-        ensures fits { IfOk result (λ ask. IfSome ask (λ a. TaskFits a.task)) }
+        ensures fits { IfOk result (λ ask. IfSome ask (λ a. TaskFits (string_bytes a.file) a.task)) }
     {
         let Some(line) = dump::Line::of(words) else {
             return Ok(None);
@@ -116,7 +120,7 @@ impl Ask {
     /// What the words behind `restore` ask for.
     fn of_restore(alloc: Global, words: &[String]) -> Result<Option<Ask>, AllocError>
         ensures read { IfOk result (λ ask. option_map asked ask ≡ restore_asks (map string_bytes words.now)) }
-        ensures fits { IfOk result (λ ask. IfSome ask (λ a. TaskFits a.task)) }
+        ensures fits { IfOk result (λ ask. IfSome ask (λ a. TaskFits (string_bytes a.file) a.task)) }
     {
         let Some(file) = dump::file_alone(words) else {
             return Ok(None);
@@ -128,10 +132,26 @@ impl Ask {
         Ok(Some(Ask { file, task }))
     }
 
+    /// What the words behind `backup` ask for.
+    fn of_backup(alloc: Global, words: &[String]) -> Result<Option<Ask>, AllocError>
+        ensures read { IfOk result (λ ask. option_map asked ask ≡ backup_asks (map string_bytes words.now)) }
+        ensures fits { IfOk result (λ ask. IfSome ask (λ a. TaskFits (string_bytes a.file) a.task)) }
+    {
+        let Some(file) = dump::file_alone(words) else {
+            return Ok(None);
+        };
+        let file = String::from_str(alloc, file)?;
+        let task = Task::Backup {
+            more: Names::new(alloc),
+            suffix: Text::copy(alloc, ".bak")?,
+        };
+        Ok(Some(Ask { file, task }))
+    }
+
     /// What the words of a command line ask for, if anything. The memory that it takes is that of their bytes.
     pub(crate) fn of(alloc: Global, words: &[String]) -> Result<Option<Ask>, AllocError>
         ensures read { IfOk result (λ ask. option_map asked ask ≡ ask_of (map string_bytes words.now)) }
-        ensures fits { IfOk result (λ ask. IfSome ask (λ a. TaskFits a.task)) }
+        ensures fits { IfOk result (λ ask. IfSome ask (λ a. TaskFits (string_bytes a.file) a.task)) }
     {
         let [program, rest @ ..] = words else {
             return Ok(None);
@@ -140,6 +160,7 @@ impl Ask {
             "tool" => Ask::of_tool(alloc, rest),
             "dump" => Ask::of_dump(alloc, rest),
             "restore" => Ask::of_restore(alloc, rest),
+            "backup" => Ask::of_backup(alloc, rest),
             _ => Ok(None),
         }
     }
@@ -153,11 +174,11 @@ impl Ask {
         input: &mut S,
         output: &mut K,
     ) -> Result<Ending, SinkFault>
-        requires fits { TaskFits self.now.task }
+        requires fits { TaskFits (string_bytes self.now.file) self.now.task }
         requires free { (name : List ℕ) → F.is_taken files.old name ≡ false }
-        ensures cause { IsTrue F.D.tells → AskCause (input_by S.tells (S.left input.old) (S.faults input.old) (S.faults input.new)) self.now.task (string_bytes self.now.file) (F.held files.old (string_bytes self.now.file)) (F.faults files.old) (F.faults files.new) (ending_of result) }
-        ensures left { IsTrue F.D.tells → TaskLeaves (input_by S.tells (S.left input.old) (S.faults input.old) (S.faults input.new)) self.now.task (F.held files.old (string_bytes self.now.file)) (ending_of result) (F.held files.new (string_bytes self.now.file)) }
-        ensures others { SameBut (string_bytes self.now.file) (F.held files.old) (F.held files.new) }
+        ensures cause { IsTrue F.D.tells → AskEnds (input_by S.tells (S.left input.old) (S.faults input.old) (S.faults input.new)) self.now.task (string_bytes self.now.file) (F.held files.old) (F.faults files.old) (F.faults files.new) (ending_of result) }
+        ensures left { IsTrue F.D.tells → TaskLeaves (input_by S.tells (S.left input.old) (S.faults input.old) (S.faults input.new)) self.now.task (string_bytes self.now.file) (F.held files.old) (ending_of result) (F.held files.new) }
+        ensures others { SameElse self.now.task (string_bytes self.now.file) (F.held files.old) (F.held files.new) }
         ensures given_back { (name : List ℕ) → F.is_taken files.new name ≡ false }
         ensures counted { CountedBy (F.faults files.old) (F.faults files.new) (ending_of result) }
         ensures began { IsTrue (task_tells self.now.task F.D.tells K.tells) → Began (TaskText self.now.task (F.held files.old (string_bytes self.now.file))) (K.written output.old) (K.written output.new) result }
@@ -175,6 +196,9 @@ impl Ask {
                 Ok(Ending::made(alloc, name, creation))
             }
             Task::Restore { limit } => Ok(restore_file(alloc, name, *limit, files, input)),
+            Task::Backup { more, suffix } => {
+                Ok(back_up(alloc, name, more.as_slice(), suffix.as_str(), files))
+            }
         }
     }
 }

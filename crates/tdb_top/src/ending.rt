@@ -1,7 +1,8 @@
 // How a run ends: its status and the line that it prints.
 
-ghost use Rattle.std.specs.Prelude.{◌≡◌, ◌⊎◌, ◌++◌, codes, decimal, None, Some, IfOk, IfSome};
-ghost use Rattle.tdb_top.specs.declared.ending.Ending.TheVariants.{Refused, There, NoMemory};
+ghost use Rattle.std.specs.Prelude.{◌≡◌, ◌⊎◌, ◌++◌, codes, decimal, false, None, Some, IsTrue, IfOk, IfSome};
+ghost use Rattle.tdb_top.specs.declared.ending.Ending.TheVariants.{Replied, Refused, There, NoMemory};
+ghost use Rattle.tdb_top.specs.declared.ending.Reply.TheVariants.{Copied};
 ghost use Rattle.tdb_top.specs.declared.ending.Ending.{Ending as EndingIs};
 ghost use Rattle.tdb_words.specs.What.{what_text};
 ghost use Rattle.tdb_top.specs.Ending.{answer, status_of, text_of, TakesMemory, PrintedFor, Prints, output_by, of_halt, Untaken, MadeSo};
@@ -35,6 +36,9 @@ pub(crate) enum Reply {
 
     /// A file was made of the pairs on the input. No line tells it.
     Restored,
+
+    /// All files were copied. No line tells it.
+    Copied,
 
     /// So many keys.
     Number(u64),
@@ -175,13 +179,25 @@ impl Ending {
         }
     }
 
+    /// Whether all files were copied.
+    pub(crate) fn is_copied(&self) -> bool
+        ensures copied { IsTrue result → self.now ≡ Replied Copied }
+        ensures other { result ≡ false → self.now ≡ Replied Copied → ⊥ }
+    {
+        match self {
+            Ending::Replied(Reply::Copied) => true,
+            _ => false,
+        }
+    }
+
     /// The status that tells it.
     pub(crate) fn status(&self) -> Status
         ensures { result.0 ≡ status_of self.now }
     {
         Status(match self {
             Ending::Replied(Reply::Done | Reply::Value(_) | Reply::Escaped(_)) => 0,
-            Ending::Replied(Reply::Dumped | Reply::Restored | Reply::Number(_)) => 0,
+            Ending::Replied(Reply::Dumped | Reply::Restored | Reply::Copied) => 0,
+            Ending::Replied(Reply::Number(_)) => 0,
             Ending::Replied(Reply::KeyMissing | Reply::KeyThere) => 1,
             Ending::Usage => 2,
             Ending::Refused(Refusal::Header { fault: _ } | Refusal::Corrupt { what: _, at: _ }) => {
@@ -206,7 +222,7 @@ impl Ending {
     {
         match self {
             Ending::Replied(Reply::Done) => Some(b"ok\n"),
-            Ending::Replied(Reply::Dumped | Reply::Restored) => Some(b""),
+            Ending::Replied(Reply::Dumped | Reply::Restored | Reply::Copied) => Some(b""),
             Ending::Replied(Reply::KeyMissing) => Some(b"noexist\n"),
             Ending::Replied(Reply::KeyThere) => Some(b"exists\n"),
             Ending::Usage => Some(b"usage: tdb COMMAND [OPTIONS] FILE [WORDS]\n"),

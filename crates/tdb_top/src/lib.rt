@@ -8,6 +8,7 @@ mod ending;
 mod halt;
 mod limits;
 mod look;
+mod names;
 mod opening;
 mod top;
 mod words;

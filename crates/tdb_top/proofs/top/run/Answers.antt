@@ -3,7 +3,7 @@ use Rattle.tdb_top.specs.Ending.{output_by}
 use Rattle.tdb_top.specs.Input.{input_by}
 use Rattle.tdb_top.specs.Looks.{ending_of}
 use Rattle.tdb_top.specs.Run.{Run, Cause, run_by}
-use Rattle.tdb_top.proofs.Runs.{Printed, exits, restored_exits, printed_caused, exactly, refuses_exactly, leaves_files, accounted}
+use Rattle.tdb_top.proofs.Runs.{Printed, exits, silent_exits, printed_caused, exactly, refuses_exactly, leaves_files, accounted}
 use Rattle.tdb_top.proofs.Writing.{written}
 use Rattle.tdb_top.proofs.top.run.Goals as goal
 use Rattle.tdb_top.proofs.top.run.Goals.{After-finish}
@@ -45,7 +45,7 @@ pub returns-clause-left : goal.returns-clause-left
 returns-clause-left g c told =
     let a = (goal.at.returns-clause-left g c).After-finish in
     leaves_files (ran g a) (ending_of c.answer-answered.result) (exits g.F.D.Disk.tells (ran g a) c.finish.ensures.0 (ending_of c.answer-answered.result) c.finish.ensures.1 (prints g a)) c.answer-answered.ensures.counted
-    (restored_exits g.F.D.Disk.tells (ran g a) c.finish.ensures.0 (ending_of c.answer-answered.result) c.finish.ensures.1 (prints g a)) (c.answer-answered.ensures.left told)
+    (silent_exits g.F.D.Disk.tells (ran g a) c.finish.ensures.0 (ending_of c.answer-answered.result) c.finish.ensures.1 (prints g a)) (c.answer-answered.ensures.left told)
 
 pub returns-clause-accounted : goal.returns-clause-accounted
 returns-clause-accounted g c =

@@ -1,0 +1,64 @@
+// Texts and lists of names, as contracts see them: by their bytes.
+
+ghost use Rattle.std.specs.Prelude.{◌≡◌, ℕ, List, [], ◌∷◌, ◌++◌, map, string_bytes, IfOk, OnOk};
+
+use std::alloc::{AllocError, Global};
+use std::marker::Model;
+
+/// A text. A contract sees it as the list of its bytes.
+#[derive(Debug, Drop)]
+pub(crate) struct Text {
+    text: String,
+}
+
+impl Model for Text {
+    ghost Value = { List ℕ };
+
+    ghost view = { λ t. string_bytes t.text };
+}
+
+impl Text {
+    /// A copy of `from`.
+    pub(crate) fn copy(alloc: Global, from: &str) -> Result<Text, AllocError>
+        ensures { IfOk result (λ text. text ≡ from.now) }
+    {
+        Ok(Text {
+            text: String::from_str(alloc, from)?,
+        })
+    }
+
+    pub(crate) fn as_str(&self) -> &str
+        ensures { result.now ≡ self.now }
+    {
+        self.text.as_str()
+    }
+}
+
+/// A list of names. A contract sees it as the list of their bytes.
+#[derive(Debug, Drop)]
+pub(crate) struct Names {
+    items: Vec<String>,
+}
+
+impl Model for Names {
+    ghost Value = { List (List ℕ) };
+
+    ghost view = { λ n. map string_bytes n.items.items };
+}
+
+impl Names {
+    /// No names. It takes no memory.
+    pub(crate) fn new(alloc: Global) -> Names
+        ensures { result ≡ [] }
+    {
+        Names {
+            items: Vec::new(alloc),
+        }
+    }
+
+    pub(crate) fn as_slice(&self) -> &[String]
+        ensures { map string_bytes result.now ≡ self.now }
+    {
+        self.items.as_slice()
+    }
+}
