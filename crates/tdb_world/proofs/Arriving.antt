@@ -64,10 +64,10 @@ module _ (xs ys : List Opener) (y : Opener) (J : IsJoined xs y ys) where
       before ∙ sym (ap (λ z. holding f (own_of options y) nowhere (law_task z) b) J.idle ∙ ap (λ w. holding f w nowhere None b) (new_own options))
 
 pub join_keeps_world : JoinKeepsWorld
-join_keeps_world f options xs ys ps a size y W J =
+join_keeps_world f options xs ys ps a size y W J few =
     world_set f options xs ys ps ps a a size size (length xs) y W (is_set xs ys y J) (held_still f options xs ps a size (length xs) y W (new_holds xs ys y J f options ps a size W))
     (record { stands = (subst IsWellHeld (sym J.nothing) nothing_well, subst (λ z. TaskStands f (own_of options y) z size) (sym J.idle) tt); busy_live = λ t e. J.live })
-    (le_refl size) W.short
+    (le_refl size) (let more = one_more xs ys y J in omega (arith, more, few)) W.short
 
 pub join_keeps_file : JoinKeepsFile
 join_keeps_file f xs ys a y F J = record {
@@ -131,6 +131,7 @@ empty_stands f options a size chains limit short = record {
     live_joined = λ o e. absurd (never_true e);
     stale = λ e. absurd (cc e);
   };
+  few = omega arith;
   numbered = λ b. refl;
   openers_stand = λ o. tt;
   limit = limit;

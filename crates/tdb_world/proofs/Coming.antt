@@ -32,8 +32,8 @@ is_joined : (xs : List Opener) → IsJoined xs fresh (xs ++ (fresh ∷ []))
 is_joined xs = record { pushed = refl; live = refl; idle = refl; nothing = refl }
 
 module _ (w v : World) (e : v ≡ with_fresh w) (img : List ℕ) where
-  pub stands_joined : (size : ℕ) → Stands w img size → Stands v img size
-  stands_joined size W = subst (λ z. Stands z img size) (sym e) (join_keeps_world (form_in w.header) w.options w.openers _ w.table img size fresh W (is_joined w.openers))
+  pub stands_joined : (size : ℕ) → Stands w img size → length w.openers < 1000 → Stands v img size
+  stands_joined size W few = subst (λ z. Stands z img size) (sym e) (join_keeps_world (form_in w.header) w.options w.openers _ w.table img size fresh W (is_joined w.openers) few)
 
   pub bytes_joined : BytesStand w img → BytesStand v img
   bytes_joined F = subst (λ z. BytesStand z img) (sym e) (join_keeps_file (form_in w.header) w.openers _ img fresh F (is_joined w.openers))

@@ -1,11 +1,12 @@
 -- A command that is given: its opener holds what it held, and no record yet.
-use Rattle.std.proofs.Common.{Bool, Option, ◌≡◌, ℕ, ◌+◌, max, List, [], length, slice_get, Some, None, refl, sym, ◌∙◌, ap, subst, inl, inr, arith, le_refl}
+use Rattle.std.proofs.Common.{Bool, Option, ◌≡◌, ℕ, ◌+◌, ◌≤◌, max, List, [], length, slice_get, Some, None, refl, sym, ◌∙◌, ap, subst, inl, inr, arith, le_refl}
 use Rattle.std.proofs.lemmas.Bool.{cases_eq}
 use Rattle.tdb_space.specs.Form.{Form}
 use Rattle.tdb_space.specs.Pairs.{joined}
 use Rattle.tdb_space.specs.Accepted.{AcceptWith}
 use Rattle.tdb_law.specs.Openers.{Own, nowhere}
 use Rattle.tdb_law.specs.Rows.{map_locks}
+use Rattle.tdb_law.specs.Lines.{most_openers}
 use Rattle.tdb_law.specs.Held.{held, kept, holding}
 use Rattle.tdb_law.proofs.Covered as Covered
 use Rattle.tdb_law.proofs.Locks.{locked_none}
@@ -72,7 +73,7 @@ pub gift_keeps_world : GiftKeepsWorld
 gift_keeps_world f options xs ys ps a size who x y job W there P G K =
     world_set f options xs ys ps ps a a size size who y W (record { there = P.there; others = P.others }) (held_still f options xs ps a size who y W holds)
     (record { stands = (subst IsWellHeld (sym G.same_held) (subst (OpenerStands f options size) there (W.openers_stand who)).0, subst (λ z. TaskStands f (own_of options y) z size) (sym G.task) (subst (λ w. JobStands f w job 0 size) (sym (same_own options x y job G)) K)); busy_live = λ t e. G.same_live ∙ G.live })
-    (le_refl size) W.short
+    (le_refl size) (subst (λ n. n ≤ most_openers) (sym P.same_length) W.few) W.short
   where
     holds : (b : ℕ) → Holds f options ps who (Some y) b
     holds b =

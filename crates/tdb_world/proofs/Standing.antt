@@ -1,5 +1,5 @@
 -- What a turn leaves of a world, whatever the bytes of its file are.
-use Rattle.std.proofs.Common.{◌≡◌, ◌≢◌, ℕ, ◌+◌, ◌≤◌, List, slice_get, true, Option, Some, None, refl, sym, ◌∙◌, ap, subst, inl, inr, arith}
+use Rattle.std.proofs.Common.{◌≡◌, ◌≢◌, ℕ, ◌+◌, ◌≤◌, List, length, slice_get, true, Option, Some, None, refl, sym, ◌∙◌, ap, subst, inl, inr, arith}
 use Rattle.std.proofs.lemmas.Bool.{cases_eq}
 use Rattle.tdb_space.specs.Form.{Form}
 use Rattle.tdb_locks.specs.LockTable.{held}
@@ -8,6 +8,7 @@ use Rattle.tdb_locks.specs.declared.kind.Kind.TheVariants.{Read, Write}
 use Rattle.tdb_locks.specs.declared.piece.Piece.{Piece}
 use Rattle.tdb_law.specs.Openers.{Task as LawTask, nowhere}
 use Rattle.tdb_law.specs.Held.{holding}
+use Rattle.tdb_law.specs.Lines.{most_openers}
 use Rattle.tdb_steps.specs.Holdings.{strength, table_of}
 use Rattle.tdb_world.specs.declared.options.Options.{Options}
 use Rattle.tdb_world.specs.declared.opener.Opener.{Opener}
@@ -90,8 +91,8 @@ module _ (f : Form) (options : Options) (xs ys : List Opener) (ps qs : List Piec
         | inr ne ↦ subst (OpenerStands f options longer) (sym (P.others o ne)) (opener_longer size longer more f options (slice_get xs o) (W.openers_stand o))
       ]
 
-  pub world_set : longer ≤ options.limit → WorldStands f options ys qs b longer
-  world_set less = record {
+  pub world_set : length ys ≤ most_openers → longer ≤ options.limit → WorldStands f options ys qs b longer
+  world_set few less = record {
     sound = record {
       chains = W.sound.chains;
       agrees = agrees;
@@ -101,6 +102,7 @@ module _ (f : Form) (options : Options) (xs ys : List Opener) (ps qs : List Piec
       live_joined = λ o e. live_at options ys o e;
       stale = λ e. absurd (cc e);
     };
+    few = few;
     numbered = λ i. none_held (held qs 0 i) (T.numbered i);
     openers_stand = stand;
     limit = W.limit;
@@ -109,7 +111,8 @@ module _ (f : Form) (options : Options) (xs ys : List Opener) (ps qs : List Piec
 
 pub turn_keeps_world : TurnKeepsWorld
 turn_keeps_world f options xs ys ps qs a b size longer who x y t turn W B P T M more less =
-    world_set f options xs ys ps qs a b size longer who y W (record { there = P.there; others = P.others }) (record { holds = T.holds; others = T.others; apart = T.apart; numbered = T.numbered }) M more less
+    world_set f options xs ys ps qs a b size longer who y W (record { there = P.there; others = P.others }) (record { holds = T.holds; others = T.others; apart = T.apart; numbered = T.numbered }) M more
+    (subst (λ n. n ≤ most_openers) (sym P.same_length) W.few) less
 
 -- where no lock changes, an opener that holds what it held
 pub held_still : (f : Form) (options : Options) (xs : List Opener) (ps : List Piece) (a : List ℕ) (size who : ℕ) (y : Opener) → WorldStands f options xs ps a size

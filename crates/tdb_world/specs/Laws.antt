@@ -86,11 +86,11 @@ pub record IsJoined (old : List Opener) (y : Opener) (new : List Opener) : Type 
   pub idle : y.task ≡ None
   pub nothing : y.held ≡ nothing_held
 
--- It leaves a world that stands and bytes that do, and joins in the words of the law where there is room. Nobody holds the opening
--- lock, which only a transaction takes.
+-- Where there is room it leaves a world that stands, and joins in the words of the law; and it leaves bytes that stand.
+-- Nobody holds the opening lock, which only a transaction takes.
 abbrev pub JoinKeepsWorld : Type 0
 JoinKeepsWorld = (f : Form) (options : Options) (xs ys : List Opener) (ps : List Piece) (a : List ℕ) (size : ℕ) (y : Opener)
-    → WorldStands f options xs ps a size → IsJoined xs y ys → WorldStands f options ys ps a size
+    → WorldStands f options xs ps a size → IsJoined xs y ys → length xs < most_openers → WorldStands f options ys ps a size
 
 abbrev pub JoinKeepsFile : Type 0
 JoinKeepsFile = (f : Form) (xs ys : List Opener) (a : List ℕ) (y : Opener) → FileStands f xs a → IsJoined xs y ys → FileStands f ys a

@@ -10,6 +10,7 @@ use Rattle.tdb_locks.specs.declared.piece.Piece.{Piece}
 use Rattle.tdb_law.specs.Openers.{nowhere}
 use Rattle.tdb_law.specs.World.{State, IsSound}
 use Rattle.tdb_law.specs.Images.{image_map}
+use Rattle.tdb_law.specs.Lines.{most_openers}
 use Rattle.tdb_steps.specs.Holdings.{table_of}
 use Rattle.tdb_world.specs.declared.options.Options.{Options}
 use Rattle.tdb_world.specs.declared.opener.Opener.{Opener}
@@ -33,10 +34,11 @@ state_of f options openers table img = record {
   image_number = λ o. 0;
 }
 
--- What holds of a world whatever the bytes of its file are: it is sound, no lock is of a number below 1, each unfinished command is
--- where its steps have brought it, and the file is no longer than it may be.
+-- What holds of a world whatever the bytes of its file are: it is sound, no more have joined than may, no lock is of a
+-- number below 1, each unfinished command is where its steps have brought it, and the file is no longer than it may be.
 pub record WorldStands (f : Form) (options : Options) (openers : List Opener) (table : List Piece) (img : List ℕ) (size : ℕ) : Type 0 where
   pub sound : IsSound f (state_of f options openers table img)
+  pub few : length openers ≤ most_openers
   pub numbered : (b : ℕ) → held table 0 b ≡ None
   pub openers_stand : (o : ℕ) → OpenerStands f options size (slice_get openers o)
   pub limit : options.limit ≤ 4294963200
