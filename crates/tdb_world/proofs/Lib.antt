@@ -37,3 +37,10 @@ pub mod JobFiles
 pub mod LockingJob
 pub mod Coming
 pub mod Faultless
+pub mod Courses
+pub mod Leading
+pub mod OfPlays
+pub mod Finishing
+pub mod OneTurn
+pub mod Projecting
+pub mod Going

@@ -1,10 +1,13 @@
 -- A turn of the opener with a number, as a turn of its world.
-use Rattle.std.proofs.Common.{Result, Ok, Err, IfOk, OnOk, ◌≡◌, ℕ, ◌+◌, ◌-◌, ◌≤◌, List, slice_index_or, slice_set, Some, sym, ◌∙◌, ap, subst}
+use Rattle.std.proofs.Common.{Result, Ok, Err, IfOk, OnOk, ◌≡◌, ℕ, ◌+◌, ◌-◌, ◌≤◌, List, slice_index_or, slice_set, Option, Some, None, refl, sym, ◌∙◌, ap, subst}
 use Rattle.tdb_words.specs.declared.header.Header.{Header}
 use Rattle.tdb_space.specs.Form.{Form, form_in}
 use Rattle.tdb_space.specs.Extents.{HandPair}
 use Rattle.tdb_locks.specs.declared.piece.Piece.{Piece}
 use Rattle.tdb_locks.specs.declared.turn.Turn.{Turn}
+use Rattle.tdb_locks.specs.declared.turn.Turn.TheVariants.{Step}
+use Rattle.tdb_law.specs.Openers.{Task as LawTask}
+use Rattle.tdb_law.specs.Effects.{task_left}
 use Rattle.tdb_law.specs.Turned.{Turned}
 use Rattle.tdb_plays.specs.InLaw.{law_opener, law_turn}
 use Rattle.tdb_world.specs.declared.options.Options.{Options}
@@ -29,6 +32,11 @@ ok_so (Err e) P Q R both p q = tt
 pub ok_both : {V F : Type 0} (r : Result V F) (P Q : V → Type 0) (R : Type 0) → ((v : V) → P v → Q v → R) → IfOk r P → IfOk r Q → OnOk r R
 ok_both (Ok v) P Q R both p q = both v p q
 ok_both (Err e) P Q R both p q = tt
+
+-- who has a task in the law's words has one
+has_task : (o : Option Task) (l : LawTask) → law_task o ≡ Some l → (u : Task) × (o ≡ Some u)
+has_task None l e = absurd (cc e)
+has_task (Some u) l e = (u, refl)
 
 -- what a turn of the opener d, which is y after it, makes of the lock table
 abbrev pub Locked : Form → Options → Opener → Opener → ℕ → List Piece → List Piece → Turn → Type 0
@@ -75,6 +83,12 @@ module _ (header : Header) (options : Options) (xs : List Opener) (ps : List Pie
 
     locked : TurnsLocks (form_in header) (own_of options d) (own_of options y) (command_in t.job) t.steps (law_task y.task) B.number.place ps qs (law_turn turn)
     locked = L t B.number.place has.busy B.number.counted
+
+    -- after a step the opener has a command
+    pub busy_after : turn ≡ Step → (z : Opener) × (u : Task) × IsBusy (record { header = header; options = options; openers = slice_set xs (who - 1) y; table = qs }) who z u
+    busy_after is =
+        let left = has_task y.task _ (locked.leaves ∙ ap (λ l. task_left (command_in t.job) t.steps (law_turn l)) is) in
+        (y, left.0, record { number = record { place = B.number.place; counted = B.number.counted; there = put.there }; busy = left.1 })
 
     -- after it the world stands
     pub world_after : (longer : ℕ) → MayStand (form_in header) options longer y → size ≤ longer → longer ≤ options.limit → WorldStands (form_in header) options (slice_set xs (who - 1) y) qs b longer

@@ -1,6 +1,6 @@
 -- The commands that openers may give, and how they hold locks between two calls.
-use Rattle.std.specs.Prelude.{ℕ, ◌≡◌, ◌<◌, ◌^◌, Bool, true, false, length, Option, None, Some, IfSome, nat_lt, ◌==◌, ◌&&◌, if◌then◌else◌}
-use Rattle.std.specs.List.{sum}
+use Rattle.std.specs.Prelude.{ℕ, ◌≡◌, ◌<◌, ◌≤◌, ◌^◌, List, Bool, true, false, length, Option, None, Some, IfSome, nat_lt, ◌==◌, ◌&&◌, if◌then◌else◌}
+use Rattle.std.specs.List.{All, sum}
 use Rattle.std.specs.Map.{values_of}
 use Rattle.tdb_locks.specs.HeldLocks.{HeldLocks, AreCounts, total_of}
 use Rattle.tdb_locks.specs.declared.kind.Kind.{Kind}
@@ -8,6 +8,8 @@ use Rattle.tdb_locks.specs.declared.kind.Kind.TheVariants.{Read, Write}
 use Rattle.tdb_locks.specs.declared.turn.Reply.{Reply}
 use Rattle.tdb_plays.specs.declared.command.Command.{Command}
 use Rattle.tdb_plays.specs.declared.command.Command.TheVariants as Given
+use Rattle.tdb_plays.specs.declared.play.Play.{Play}
+use Rattle.tdb_plays.specs.declared.play.Play.TheVariants as Plays
 use Rattle.tdb_world.specs.declared.job.Locking.{Locking}
 use Rattle.tdb_world.specs.declared.job.Locking.TheVariants as Lockings
 
@@ -40,6 +42,19 @@ IsServed Given.First = ⊥
 IsServed Given.Next = ⊥
 IsServed Given.EndWalk = ⊥
 IsServed _ = Unit {0}
+
+-- the plays that are served: an opener is named by a number from 1 on, its command is served and short, and nobody dies
+abbrev pub IsServedPlay : Play → Type 0
+IsServedPlay Plays.Join = Unit {0}
+IsServedPlay Plays.SetLog = Unit {0}
+IsServedPlay (Plays.Give who command) = (1 ≤ who) × IsServed command × IsShortGiven command
+IsServedPlay (Plays.Do who command) = (1 ≤ who) × IsServed command × IsShortGiven command
+IsServedPlay (Plays.Turn who) = 1 ≤ who
+IsServedPlay (Plays.Go who) = 1 ≤ who
+IsServedPlay (Plays.Die who) = ⊥
+
+abbrev pub AreServed : List Play → Type 0
+AreServed plays = All IsServedPlay plays
 
 -- an opener holds a chain explicitly; it holds all records for reading
 abbrev pub holds_chains : HeldLocks → Bool

@@ -8,3 +8,5 @@ pub mod Locked
 pub mod Ended
 pub mod Jobs
 pub mod Checked
+pub mod Played
+pub mod Finished

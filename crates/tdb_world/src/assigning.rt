@@ -12,12 +12,14 @@ ghost use Rattle.tdb_world.specs.Openers.{own_of, command_in, JobStands};
 use crate::job::{Checking, Job, Locking};
 use crate::opener::Opener;
 use crate::options::Options;
+use crate::told::PlainJob;
 use tdb_plays::Command;
-use tdb_steps::{Machine, Plain};
+use tdb_steps::Plain;
 use tdb_words::Header;
 
-/// The job of a command that its opener's own state doesn't refuse. It takes no memory.
-fn job_of(command: Command, header: &Header, seqnum: bool) -> Job
+/// The job of a command that its opener's own state doesn't refuse. `told` is the same command. It takes no memory.
+fn job_of(command: Command, told: Command, header: &Header, seqnum: bool) -> Job
+    requires same { told ≡ command }
     requires served { IsServed command }
     requires short { IsShortGiven command }
     requires chains { 0 < header.now.hash_size }
@@ -25,16 +27,26 @@ fn job_of(command: Command, header: &Header, seqnum: bool) -> Job
     ensures begun { (x : Own) (size : ℕ) → refusal (form_in header.now) (law_command command) x ≡ None → x.options.seqnum ≡ seqnum → JobStands (form_in header.now) x result 0 size }
 {
     match command {
-        Command::Fetch { key } => Job::Plain(Machine::new(Plain::Fetch { key }, header, seqnum)),
-        Command::Has { key } => Job::Plain(Machine::new(Plain::Has { key }, header, seqnum)),
+        Command::Fetch { key } => Job::Plain(PlainJob::new(
+            Plain::Fetch { key },
+            told,
+            header,
+            seqnum,
+        )),
+        Command::Has { key } => Job::Plain(PlainJob::new(Plain::Has { key }, told, header, seqnum)),
         Command::Store { key, value, flag } => {
-            Job::Plain(Machine::new(Plain::Store { key, value, flag }, header, seqnum))
+            Job::Plain(PlainJob::new(Plain::Store { key, value, flag }, told, header, seqnum))
         }
         Command::Append { key, value } => {
-            Job::Plain(Machine::new(Plain::Append { key, value }, header, seqnum))
+            Job::Plain(PlainJob::new(Plain::Append { key, value }, told, header, seqnum))
         }
-        Command::Delete { key } => Job::Plain(Machine::new(Plain::Delete { key }, header, seqnum)),
-        Command::Wipe => Job::Plain(Machine::new(Plain::Wipe, header, seqnum)),
+        Command::Delete { key } => Job::Plain(PlainJob::new(
+            Plain::Delete { key },
+            told,
+            header,
+            seqnum,
+        )),
+        Command::Wipe => Job::Plain(PlainJob::new(Plain::Wipe, told, header, seqnum)),
         Command::Check => Job::Check(Checking::Begun),
         Command::ChainLock { key } => Job::Locking(Locking::Chain { key }),
         Command::ChainLockNb { key } => Job::Locking(Locking::ChainNb { key }),
@@ -55,8 +67,16 @@ fn job_of(command: Command, header: &Header, seqnum: bool) -> Job
 }
 
 impl Opener {
-    /// The job of a command: it is refused where the opener's own state says so. It takes no memory.
-    pub(crate) fn job(&self, options: &Options, command: Command, header: &Header) -> Job
+    /// The job of a command: it is refused where the opener's own state says so. `told` is the same command. It takes
+    /// no memory.
+    pub(crate) fn job(
+        &self,
+        options: &Options,
+        command: Command,
+        told: Command,
+        header: &Header,
+    ) -> Job
+        requires same { told ≡ command }
         requires counts { AreCounts self.now.held.chains }
         requires served { IsServed command }
         requires short { IsShortGiven command }
@@ -66,7 +86,7 @@ impl Opener {
     {
         match self.refusal(options, &command, header) {
             Some(reply) => Job::Refused { command, reply },
-            None => job_of(command, header, options.seqnum),
+            None => job_of(command, told, header, options.seqnum),
         }
     }
 }

@@ -1,8 +1,14 @@
 // An unfinished command.
 
+ghost use Rattle.std.specs.Prelude.{◌≡◌, IfOk};
+ghost use Rattle.tdb_law.specs.Commands.Command.{OnLocks};
+ghost use Rattle.tdb_plays.specs.InLaw.{law_command};
+ghost use Rattle.tdb_world.specs.Openers.{command_in, locking_command};
+
+use crate::told::PlainJob;
+use std::alloc::{AllocError, Global};
 use tdb_locks::Reply;
 use tdb_plays::Command;
-use tdb_steps::Machine;
 use tdb_words::Bytes;
 
 /// A command on the opener's explicit locks, with the key whose chain it is on.
@@ -20,6 +26,28 @@ pub(crate) enum Locking {
     AllRead,
     /// Lets go of all records.
     UnlockAll,
+}
+
+impl Locking {
+    /// The command as a report tells it, at the cost of the key's length.
+    fn told(&self, alloc: Global) -> Result<Command, AllocError>
+        ensures { IfOk result (λ command. law_command command ≡ OnLocks (locking_command self.now)) }
+    {
+        Ok(match self {
+            Locking::Chain { key } => Command::ChainLock {
+                key: Bytes::copy(alloc, key.as_slice())?,
+            },
+            Locking::ChainNb { key } => Command::ChainLockNb {
+                key: Bytes::copy(alloc, key.as_slice())?,
+            },
+            Locking::Unchain { key } => Command::ChainUnlock {
+                key: Bytes::copy(alloc, key.as_slice())?,
+            },
+            Locking::All => Command::LockAll,
+            Locking::AllRead => Command::LockAllRead,
+            Locking::UnlockAll => Command::UnlockAll,
+        })
+    }
 }
 
 /// What a check has locked.
@@ -41,7 +69,7 @@ pub(crate) enum Job {
     /// The opener's own state refuses it: its first turn replies so.
     Refused { command: Command, reply: Reply },
     /// A command on the map.
-    Plain(Machine),
+    Plain(PlainJob),
     /// The number of keys, by a check of the whole file.
     Check(Checking),
     /// A command on explicit locks.
@@ -60,6 +88,20 @@ pub(crate) struct Task {
 }
 
 impl Job {
+    /// The command as a report tells it, at the cost of the key's and the value's length.
+    pub(crate) fn told(&self, alloc: Global) -> Result<Command, AllocError>
+        ensures { IfOk result (λ command. law_command command ≡ command_in self.now) }
+    {
+        match self {
+            Job::Refused { command, .. } => command.copy(alloc),
+            Job::Plain(plain) => plain.told(alloc),
+            Job::Check(_) => Ok(Command::Check),
+            Job::Locking(locking) => locking.told(alloc),
+            Job::Seqnum => Ok(Command::Seqnum),
+            Job::Close => Ok(Command::Close),
+        }
+    }
+
     /// Gives the command up, with the record that it may hold. It takes no memory and makes no call on a disk.
     pub(crate) fn end(self) {
         match self {
@@ -67,7 +109,7 @@ impl Job {
                 command: _,
                 reply: _,
             } => {}
-            Job::Plain(machine) => machine.end(),
+            Job::Plain(plain) => plain.end(),
             Job::Check(_) | Job::Seqnum | Job::Close => {}
             Job::Locking(_) => {}
         }

@@ -3,6 +3,7 @@
 ghost use Rattle.tdb_world.specs.Laws.{EmptyFileStands, EmptyIsLoaded, EmptyStands};
 ghost use Rattle.tdb_world.specs.Laws.{JoinJoins, JoinKeepsFile, JoinKeepsWorld};
 ghost use Rattle.tdb_world.specs.Laws.{GiftIsGiven, GiftKeepsFile, GiftKeepsWorld};
+ghost use Rattle.tdb_world.specs.Finished.{ReportIsLawful, BrokenIsLawful};
 ghost use Rattle.tdb_world.specs.Laws.{ImageIsReady, KeysAreCounted, OpenerIsReady};
 ghost use Rattle.tdb_world.specs.Laws.{TurnIsTurned, TurnKeepsFile, TurnKeepsWorld};
 
@@ -14,8 +15,8 @@ pub fn empty_stands()
     ensures loaded { EmptyIsLoaded }
 {}
 
-/// An opener that joins behind the others, with nothing yet, leaves a world that stands and bytes that do; where
-/// there is room it joins in the words of the law of reports. The law is over all worlds; the function does nothing.
+/// An opener that joins behind the others, with nothing yet, where there is room, leaves a world that stands and bytes
+/// that do, and joins in the words of the law of reports. The law is over all worlds; the function does nothing.
 pub fn join_stands()
     ensures world { JoinKeepsWorld }
     ensures file { JoinKeepsFile }
@@ -67,4 +68,12 @@ pub fn turn_is_turned()
 /// images; the function does nothing.
 pub fn keys_are_counted()
     ensures law { KeysAreCounted }
+{}
+
+/// The report of plays that lead on from a world just loaded is lawful, with the lines of the commands behind it that
+/// aren't done; so are the lines of plays that broke off, as far as they came. The law is over all plays and worlds;
+/// the function does nothing.
+pub fn report_is_lawful()
+    ensures report { ReportIsLawful }
+    ensures broken { BrokenIsLawful }
 {}

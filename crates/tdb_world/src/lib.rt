@@ -1,9 +1,11 @@
 //! One tdb file and its openers, who take turns.
 #![tactic(auto)]
 
+mod advancing;
 mod assigning;
 mod checking;
 mod ending;
+mod fault;
 mod holding;
 mod job;
 mod laws;
@@ -13,12 +15,17 @@ mod opener;
 mod openers;
 mod options;
 mod plain;
+mod playing;
 mod refusing;
+mod starting;
 mod taking;
+mod telling;
+mod told;
 
+pub use crate::fault::RunFault;
 pub use crate::laws::{
     empty_stands, gift_stands, image_is_ready, join_stands, keys_are_counted, opener_is_ready,
-    turn_is_turned, turn_keeps_file, turn_keeps_world,
+    report_is_lawful, turn_is_turned, turn_keeps_file, turn_keeps_world,
 };
 pub use crate::openers::{JoinRefusal, MOST_OPENERS, Openers};
 pub use crate::options::Options;

@@ -1,6 +1,6 @@
 // The openers of one file.
 
-ghost use Rattle.std.specs.Prelude.{◌≡◌, ◌<◌, ◌≤◌, ◌+◌, ◌++◌, ◌∷◌, [], ℕ, List, length, IsTrue, IfSome, IfOk, IfErr, OnOk, OnErr, None};
+ghost use Rattle.std.specs.Prelude.{◌≡◌, ◌<◌, ◌≤◌, ◌+◌, ◌++◌, ◌∷◌, [], ℕ, List, length, IsTrue, IfSome, IfNone, IfOk, IfErr, OnOk, OnErr, None, ◌-◌, slice_get};
 ghost use Rattle.tdb_disk.specs.Count.{HasCause};
 ghost use Rattle.tdb_space.specs.Form.{form_in};
 ghost use Rattle.tdb_space.specs.Frame.{Wrote};
@@ -11,7 +11,9 @@ ghost use Rattle.tdb_law.specs.World.{HasFewChains};
 ghost use Rattle.tdb_law.specs.Beginning.{IsLoaded};
 ghost use Rattle.tdb_law.specs.Events.{Joins, Given};
 ghost use Rattle.tdb_law.specs.Turned.{Turned};
-ghost use Rattle.tdb_world.specs.Openers.{options_of};
+ghost use Rattle.tdb_world.specs.Openers.{options_of, command_in};
+ghost use Rattle.tdb_world.specs.Finished.{unfinished};
+ghost use Rattle.tdb_plays.specs.declared.line.Line.{Line};
 ghost use Rattle.tdb_plays.specs.InLaw.{law_opener, law_command, law_turn};
 ghost use Rattle.tdb_world.specs.declared.job.Task.{Task};
 ghost use Rattle.tdb_world.specs.declared.opener.Opener.{Opener};
@@ -21,10 +23,11 @@ ghost use Rattle.tdb_world.specs.Worlds.{fresh, state_in, law_of_task, Stands, B
 use crate::job::Task;
 use crate::opener::Opener;
 use crate::options::Options;
-use std::alloc::Global;
+use crate::telling::tell_unfinished;
+use std::alloc::{AllocError, Global};
 use std::marker::Model;
 use tdb_locks::{Held, Locks, Turn};
-use tdb_plays::Command;
+use tdb_plays::{Command, TurnReport};
 use tdb_space::{Io, Space};
 use tdb_words::Header;
 use thiserror::Error;
@@ -81,8 +84,9 @@ impl Openers {
     }
 
     /// The opener with this number, if one has it.
-    fn opener(&self, who: u32) -> Option<&Opener>
-        ensures { IfSome result (λ x. IsNumber self.now who x.now) }
+    pub(crate) fn opener(&self, who: u32) -> Option<&Opener>
+        ensures number { IfSome result (λ x. IsNumber self.now who x.now) }
+        ensures none { IfNone result (1 ≤ who → slice_get self.now.openers (who - 1) ≡ None) }
     {
         if who == 0 {
             return None;
@@ -110,6 +114,35 @@ impl Openers {
         match self.opener(who) {
             Some(opener) => opener.task.is_some(),
             None => false,
+        }
+    }
+
+    /// Where it takes its memory.
+    pub(crate) fn alloc(&self) -> Global {
+        self.alloc
+    }
+
+    /// How many openers have joined.
+    pub fn joined(&self) -> u32
+        requires { (img : List ℕ) × (size : ℕ) × Stands self.now img size }
+        ensures { result ≡ length self.now.openers }
+    {
+        self.list.len() as u32
+    }
+
+    /// The command of an opener as a report tells it, at the cost of its key's and its value's length.
+    pub(crate) fn told(&self, who: u32) -> Result<Command, AllocError>
+        requires { (x : Opener) × (t : Task) × IsBusy self.now who x t }
+        ensures { IfOk result (λ command. (x : Opener) (t : Task) → IsBusy self.now who x t → law_command command ≡ command_in t.job) }
+    {
+        match self.opener(who) {
+            Some(
+                Opener {
+                    task: Some(task),
+                    ..
+                },
+            ) => task.job.told(self.alloc),
+            _ => unreachable!(),
         }
     }
 
@@ -157,8 +190,9 @@ impl Openers {
         self.push_opener()
     }
 
-    /// Gives a live opener that has no command this one.
-    fn give(&mut self, who: u32, command: Command)
+    /// Gives a live opener that has no command this one. `told` is the same command.
+    fn give(&mut self, who: u32, command: Command, told: Command)
+        requires same { told ≡ command }
         requires free { (x : Opener) × IsFree self.old who x }
         requires chains { 0 < self.old.header.hash_size }
         requires held { (x : Opener) → IsFree self.old who x → AreCounts x.held.chains }
@@ -175,14 +209,16 @@ impl Openers {
         let Some(opener) = list.get_mut(who as usize - 1) else {
             unreachable!();
         };
-        let job = opener.job(options, command, header);
+        let job = opener.job(options, command, told, header);
         opener.task = Some(Task { steps: 0, job });
     }
 
-    /// Gives a live opener that has no command this one, of which it then takes turns. It takes no memory.
+    /// Gives a live opener that has no command this one, of which it then takes turns. `told` is the same command, of
+    /// which a report's lines are copies. It takes no memory.
     ///
     /// Cost: a hash of the key, and a look-up among the chains that the opener holds.
-    pub fn assign(&mut self, who: u32, command: Command)
+    pub fn assign(&mut self, who: u32, command: Command, told: Command)
+        requires same { told ≡ command }
         requires free { (x : Opener) × IsFree self.old who x }
         requires chains { 0 < self.old.header.hash_size }
         requires stands { (img : List ℕ) × (size : ℕ) × Stands self.old img size }
@@ -194,7 +230,7 @@ impl Openers {
         ensures bytes { (img : List ℕ) → BytesStand self.old img → BytesStand self.new img }
         ensures given { (img : List ℕ) → Given (state_in self.old img) (law_opener who) (law_command command) (state_in self.new img) }
     {
-        self.give(who, command);
+        self.give(who, command, told);
     }
 
     /// Takes one turn of the opener's command, on the bytes of the file. After `Io` the command is given up, and no other turn may be taken
@@ -210,6 +246,7 @@ impl Openers {
         ensures bytes { OnOk result (IsTrue S.tells → BytesStand self.old (S.image s.old) → BytesStand self.new (S.image s.new)) }
         ensures turned { IfOk result (λ turn. IsTrue S.tells → BytesStand self.old (S.image s.old) → (x : Opener) (t : Task) → IsBusy self.old who x t
             → Turned (form_in self.old.header) (state_in self.old (S.image s.old)) (law_opener who) (law_of_task t) (law_turn turn) (state_in self.new (S.image s.new))) }
+        ensures busy { IfOk result (λ turn. turn ≡ Turn.Step → (x : Opener) × (t : Task) × IsBusy self.new who x t) }
         ensures header { self.new.header ≡ self.old.header }
         ensures options { self.new.options ≡ self.old.options }
         ensures longer { S.size s.old ≤ S.size s.new }
@@ -230,5 +267,14 @@ impl Openers {
             unreachable!();
         };
         opener.turn(*alloc, s, locks, who, options, header)
+    }
+
+    /// Tells at the end of a report which openers have a command that isn't done, in order of number.
+    pub fn finish_report(&self, report: &mut TurnReport) -> Result<(), AllocError>
+        requires { (img : List ℕ) × (size : ℕ) × Stands self.now img size }
+        ensures ok { OnOk result (report.new.lines ≡ report.old.lines ++ unfinished 1 self.now.openers) }
+        ensures err { OnErr result ((told : List Line) × (left : List Line) × (report.new.lines ≡ report.old.lines ++ told) × (unfinished 1 self.now.openers ≡ told ++ left)) }
+    {
+        tell_unfinished(self.list.as_slice(), report)
     }
 }

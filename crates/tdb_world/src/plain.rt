@@ -61,6 +61,7 @@ pub(crate) fn plain_turn<S: Space>(
     ensures rightly { IfOk result (λ turn. IsTrue S.tells → S.size s.old < 2 ^ 32 → (IsIdle machine.old.stage → ⊥)
         → ActRightly (S.form s.old) (S.image s.old) (S.image s.new) machine.old machine.new limit [] turn) }
     ensures ended { IfOk result (λ turn. (reply : Reply) → turn ≡ Turn.Done reply → machine.new ≡ begun machine.old.command machine.old.chain machine.old.seqnum) }
+    ensures same { machine.new.command ≡ machine.old.command }
     ensures idle { IsQuiet machine.old → Looked S.Space s.old s.new }
     ensures err { OnErr result (locks.new ≡ locks.old) }
     ensures given_up { OnErr result (machine.new ≡ begun machine.old.command machine.old.chain machine.old.seqnum) }

@@ -22,7 +22,6 @@ use crate::locking::locking_turn;
 use crate::numbering::seqnum_turn;
 use crate::opener::Opener;
 use crate::options::Options;
-use crate::plain::plain_turn;
 use std::alloc::Global;
 use std::mem;
 use tdb_locks::{Held, Locks, Reply, Turn};
@@ -71,7 +70,7 @@ impl Job {
             Job::Refused { command: _, reply } => {
                 Ok(refused_turn(mem::replace(reply, Reply::Memory)))
             }
-            Job::Plain(machine) => plain_turn(alloc, s, locks, owner, held, machine, options.limit),
+            Job::Plain(plain) => plain.turn(alloc, s, locks, owner, held, options.limit),
             Job::Check(checking) => check_turn(alloc, s, locks, owner, held, checking),
             Job::Locking(locking) => Ok(locking_turn(locks, owner, held, header, locking)),
             Job::Seqnum => seqnum_turn(s, locks, owner),

@@ -1,8 +1,14 @@
 -- A turn of the command is one of its machine.
-use Rattle.std.proofs.Common.{subst}
-use Rattle.std.specs.Prelude.{◌<◌, ◌^◌, Result, Ok, Err, IsTrue, IfOk}
+use Rattle.std.proofs.Common.{ap, subst}
+use Rattle.std.specs.Prelude.{◌<◌, ◌^◌, Result, Ok, Err, IsTrue, IfOk, OnErr, ◌≡◌, ℕ}
 use Rattle.tdb_steps.specs.LockTurns.{ActRightly}
 use Rattle.tdb_steps.specs.Stages.{IsIdle}
+use Rattle.tdb_steps.specs.Order.{IsAfter}
+use Rattle.tdb_steps.specs.PlainCommands.{turn_of}
+use Rattle.tdb_steps.specs.Machines.{Doing, begun, Leaves}
+use Rattle.tdb_space.specs.declared.io.Io.{Io}
+use Rattle.tdb_locks.specs.declared.turn.Turn.{Turn}
+use Rattle.tdb_locks.specs.declared.turn.Turn.TheVariants as Turns
 use Rattle.tdb_world.proofs.PlainReady.{ready_alone, ready_holds, ready_turned, ready_file}
 use Rattle.tdb_world.proofs.PlainJob.{left_image}
 use Rattle.tdb_world.proofs.plain.plain_turn.Goals as goal
@@ -55,6 +61,19 @@ returns-clause-image g c =
     let is = J.stands.after in
     left_image f c.args.machine.now c.step-2.new.self n (g.S.Space.image c.args.s.now) (g.S.Space.image c.step-2.new.s) others turn (leaves n is)
     (made told small n others is I.may_be_out I.accepted I.knows)) c.step-2.ensures.made c.step-2.ensures.leaves
+
+-- the command stays, however the turn ended
+same_command : (r : Result Turn Io) (d e : Doing) (n : ℕ) → IfOk r (λ turn. (m : ℕ) → IsAfter d.command d.stage m → Leaves d e m (turn_of turn)) → OnErr r (e ≡ begun d.command d.chain d.seqnum)
+    → IsAfter d.command d.stage n → e.command ≡ d.command
+same_command (Ok Turns.Step) d e n leaves given_up is = (leaves n is).0
+same_command (Ok (Turns.Blocked owner byte)) d e n leaves given_up is = ap (λ z. z.command) (leaves n is)
+same_command (Ok (Turns.Done reply)) d e n leaves given_up is = ap (λ z. z.command) (leaves n is)
+same_command (Err fault) d e n leaves given_up is = ap (λ z. z.command) given_up
+
+pub returns-clause-same : goal.returns-clause-same
+returns-clause-same g c =
+    let w = c.requires.ready in
+    same_command c.step-2.result c.args.machine.now c.step-2.new.self w.2 c.step-2.ensures.leaves c.step-2.ensures.given_up w.4.stands.after
 
 pub returns-clause-rightly : goal.returns-clause-rightly
 returns-clause-rightly g c =

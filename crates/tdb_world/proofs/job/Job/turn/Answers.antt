@@ -8,7 +8,6 @@ use Rattle.tdb_locks.specs.LockTable.{held}
 use Rattle.tdb_world.proofs.CheckReady.{number_alone}
 use Rattle.tdb_world.specs.Turning.{TurnsFile, ImageBefore, OpenerHolds}
 use Rattle.tdb_world.specs.Jobs.{JobIsReady, JobTurned, JobFiled}
-use Rattle.tdb_steps.proofs.Made.{of_both}
 use Rattle.tdb_space.specs.Form.{form_in}
 use Rattle.tdb_law.specs.World.{HasFewChains}
 use Rattle.tdb_world.specs.Given.{IsWellHeld}
@@ -57,20 +56,17 @@ returns-in-Plain-clause-file g c =
     let f = g.S.Space.form c.args.s.now in
     let x = own_with c.args.options.now c.args.live.now c.args.held.now in
     let a = g.S.Space.image c.args.s.now in
-    let b = g.S.Space.image c.plain_turn.new.s in
+    let b = g.S.Space.image c.turn.new.s in
     let size = g.S.Space.size c.args.s.now in
     let within = c.requires.within in
     let limit = c.requires.limit in
-    of_both c.plain_turn.result _ _ _
-    (λ turn file image told n who others J I.
+    IfOk-weaker c.turn.result _ _
+    (λ turn filed told n who others J I.
     let ready = subst (λ j. JobIsReady f x j n who c.args.owner size c.args.locks.now) c.in-Plain.is J in
     let before = subst (λ j. ImageBefore f j a others) c.in-Plain.is I in
     let small : size < 4294967296 = omega (arith, within, limit) in
-    subst (λ j. JobFiled f x x j (Jobs.Plain c.plain_turn.new.machine) n who c.args.locks.now a b others (law_turn turn)) (sym c.in-Plain.is)
-    (record {
-      file = file told small c.args.options.now c.args.live.now n who others ready before;
-      image = image told small c.args.options.now c.args.live.now n who others ready before;
-    })) c.plain_turn.ensures.file c.plain_turn.ensures.image
+    subst (λ j. JobFiled f x x j (Jobs.Plain c.turn.new.self) n who c.args.locks.now a b others (law_turn turn)) (sym c.in-Plain.is)
+    (filed told small c.args.options.now c.args.live.now n who others ready before)) c.turn.ensures.filed
 
 pub returns-in-Locking-clause-turned : goal.returns-in-Locking-clause-turned
 returns-in-Locking-clause-turned g c n who J =

@@ -4,8 +4,8 @@ use Rattle.tdb_world.specs.Worlds.{World, IsNumber}
 use Rattle.tdb_world.proofs.Putting.{has_number}
 use Rattle.tdb_world.proofs.openers.Openers.opener.Goals as goal
 
-pub returns : goal.returns
-returns c =
+pub returns-clause-number : goal.returns-clause-number
+returns-clause-number c =
     let d = c.in-Some.opener.now in
     let w : World = record { header = c.self.inside.header; options = c.self.inside.options; openers = c.self.inside.list.items; table = c.self.inside.locks } in
     let xs = c.deref.ensures.value in

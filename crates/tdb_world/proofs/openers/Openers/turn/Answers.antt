@@ -4,12 +4,13 @@ use Rattle.tdb_space.specs.Form.{form_in}
 use Rattle.tdb_world.specs.Laws.{MayStand, other_hands}
 use Rattle.tdb_law.specs.Turned.{Turned}
 use Rattle.tdb_plays.specs.InLaw.{law_opener, law_turn}
+use Rattle.std.proofs.lemmas.Result.{IfOk-weaker}
 use Rattle.tdb_steps.proofs.Made.{of_both}
 use Rattle.tdb_world.specs.States.{state_of}
 use Rattle.tdb_world.specs.Worlds.{IsBusy, Stands, BytesStand, state_in, law_of_task}
 use Rattle.tdb_world.specs.Turning.{OpenerHolds, ImageBefore}
 use Rattle.tdb_world.specs.Openers.{own_of, command_in}
-use Rattle.tdb_world.proofs.Stepping.{Locked, Filed, ok_so, ok_both, stands_before, holds_before, task_busy, image_before, world_after, file_after, turned_after}
+use Rattle.tdb_world.proofs.Stepping.{Locked, Filed, ok_so, ok_both, stands_before, holds_before, task_busy, busy_after, image_before, world_after, file_after, turned_after}
 use Rattle.tdb_world.proofs.openers.Openers.turn.Goals as goal
 
 pub turn-requires-clause-stands : goal.turn-requires-clause-stands
@@ -82,6 +83,20 @@ returns-clause-turned g c =
     (subst (λ w. BytesStand w a) (sym e) bytes)
     (subst (λ f. Filed f c.self.inside.options d y c.args.who c.self.inside.locks a b turn) form (T told))))
     c.turn.ensures.locks c.turn.ensures.file
+
+pub returns-clause-busy : goal.returns-clause-busy
+returns-clause-busy g c =
+    let e = c.self.view_is in
+    let form = c.requires.form ∙ ap (λ w. form_in w.header) (sym e) in
+    let d = c.in-Some.opener.now in
+    let y = c.turn.new.self in
+    IfOk-weaker c.turn.result (Locked (g.S.Space.form c.args.s.now) c.self.inside.options d y c.args.who c.self.inside.locks c.turn.new.locks) _
+    (λ turn L is. busy_after c.self.inside.header c.self.inside.options c.self.inside.list.items c.self.inside.locks (g.S.Space.image c.args.s.now) (g.S.Space.size c.args.s.now) c.args.who c.requires.busy.0 d c.requires.busy.1
+    (subst (λ w. IsBusy w c.args.who c.requires.busy.0 c.requires.busy.1) (sym e) c.requires.busy.2) c.in-Some.ensures.item.1
+    (subst (λ w. Stands w (g.S.Space.image c.args.s.now) (g.S.Space.size c.args.s.now)) (sym e) c.requires.stands)
+    y c.turn.new.locks (g.S.Space.image c.turn.new.s) turn
+    (subst (λ f. Locked f c.self.inside.options d y c.args.who c.self.inside.locks c.turn.new.locks turn) form L) is)
+    c.turn.ensures.locks
 
 pub returns-clause-cause : goal.returns-clause-cause
 returns-clause-cause g c told bytes =

@@ -1,0 +1,57 @@
+// The lines of a report.
+
+ghost use Rattle.std.specs.Prelude.{◌≡◌, ◌≤◌, ◌+◌, ◌++◌, ◌∷◌, [], ◌<◌, ◌^◌, ◌-◌, List, length, OnOk, OnErr, IfErr};
+ghost use Rattle.tdb_plays.specs.declared.line.Line.{Line};
+ghost use Rattle.tdb_world.specs.Played.{growth};
+ghost use Rattle.tdb_world.specs.Finished.{unfinished};
+
+use crate::fault::RunFault;
+use crate::opener::Opener;
+use std::alloc::AllocError;
+use tdb_plays::{Line, TurnReport};
+
+/// Puts a line behind the others, for which there is room.
+pub(crate) fn put_line(report: &mut TurnReport, line: Line)
+    requires { 1 ≤ report.old.room }
+    ensures lines { report.new.lines ≡ report.old.lines ++ line ∷ [] }
+    ensures room { report.old.room ≤ report.new.room + 1 }
+{
+    match report.push(line) {
+        Ok(()) => {}
+        Err(_) => unreachable!(),
+    }
+}
+
+/// Puts a line behind the others, or finds no memory for it.
+pub(crate) fn tell(report: &mut TurnReport, line: Line) -> Result<(), RunFault>
+    ensures told { OnOk result (report.new.lines ≡ report.old.lines ++ line ∷ []) }
+    ensures err { OnErr result (report.new.lines ≡ report.old.lines) }
+    ensures memory { IfErr result (λ e. e ≡ RunFault.Memory) }
+{
+    report.push(line)?;
+    Ok(())
+}
+
+/// Tells that the file grew, where it did.
+pub(crate) fn tell_growth(report: &mut TurnReport, from: u64, to: u64)
+    requires { 1 ≤ report.old.room }
+    ensures { report.new.lines ≡ report.old.lines ++ growth from to }
+{
+    if from < to {
+        put_line(report, Line::Grew { from, to });
+    }
+}
+
+/// Tells which of these openers, whose numbers begin with 1, have a command that isn't done.
+pub(crate) fn tell_unfinished(openers: &[Opener], report: &mut TurnReport) -> Result<(), AllocError>
+    requires { length openers.now < 2 ^ 32 - 1 }
+    ensures ok { OnOk result (report.new.lines ≡ report.old.lines ++ unfinished 1 openers.now) }
+    ensures err { OnErr result ((told : List Line) × (left : List Line) × (report.new.lines ≡ report.old.lines ++ told) × (unfinished 1 openers.now ≡ told ++ left)) }
+{
+    for (i, opener) in openers.iter().enumerate() {
+        if opener.task.is_some() {
+            report.push(Line::Unfinished { who: i as u32 + 1 })?;
+        }
+    }
+    Ok(())
+}
