@@ -27,3 +27,4 @@ pub mod OnTurned
 pub mod Lawful
 pub mod WalkShown
 pub mod WalkLawful
+pub mod Viewed

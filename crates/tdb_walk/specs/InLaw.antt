@@ -1,9 +1,12 @@
 -- A cursor in the words of the law (`tdb_law`): what the law sees of an opener that has one outside a transaction, and
 -- what each of its turns is there. The law counts openers from 0, the lock table from 1.
-use Rattle.std.specs.Prelude.{ℕ, IsTrue, ◌+◌, ◌≡◌, ◌≢◌, ◌≤◌, ◌<◌, ◌⊎◌, Bool, true, false, List, Option, Some, None, MatchBool, if◌then◌else◌}
+use Rattle.std.specs.Prelude.{ℕ, IsTrue, ◌+◌, ◌≡◌, ◌≢◌, ◌≤◌, ◌<◌, ◌⊎◌, Bool, true, false, not, zero, suc, ◌-◌, ◌/◌, ◌==◌, ◌&&◌, nat_eq, nat_le, nat_lt, is_none, List, Option, Some, None, MatchBool, if◌then◌else◌}
+use Rattle.std.specs.List.{list_any}
+use Rattle.tdb_words.specs.declared.record.TheConstants.{USED}
 use Rattle.tdb_words.specs.Header.{sequence_at}
 use Rattle.tdb_words.specs.Word.{word}
-use Rattle.tdb_space.specs.Form.{Form, data_start}
+use Rattle.tdb_space.specs.Form.{Form, data_start, chain_head}
+use Rattle.tdb_space.specs.Record.{magic_of}
 use Rattle.tdb_space.specs.Pairs.{home}
 use Rattle.tdb_space.specs.Extents.{HandPair}
 use Rattle.tdb_space.specs.Accepted.{AcceptWith}
@@ -27,7 +30,7 @@ use Rattle.tdb_law.specs.Effects.{Effect, IsFree, IsFirstConflict, Finds, SpotLe
 use Rattle.tdb_law.specs.Walks.{Lost, Shift, Walked}
 use Rattle.tdb_law.specs.Turned.{number_next}
 use Rattle.tdb_law.specs.Images.{image_map}
-use Rattle.tdb_law.specs.Layout.{Place, chains_in, mark_of}
+use Rattle.tdb_law.specs.Layout.{Chains, Place, chains_in, mark_of}
 use Rattle.tdb_law.specs.Layout.Place.{on_record}
 use Rattle.tdb_walk.specs.declared.standing.Standing.{Standing}
 use Rattle.tdb_walk.specs.declared.standing.Standing.TheVariants.{Before, On, Past}
@@ -36,7 +39,7 @@ use Rattle.tdb_walk.specs.declared.stage.Stage.TheVariants.{Rested, Reading, Wri
 use Rattle.tdb_walk.specs.declared.stage.Goal.{Goal}
 use Rattle.tdb_walk.specs.declared.stage.Goal.TheVariants as Goals
 use Rattle.tdb_walk.specs.declared.purging.DeadRecord.{DeadRecord}
-use Rattle.tdb_walk.specs.NextLive.{NoneLive, place_of}
+use Rattle.tdb_walk.specs.NextLive.{NoneLive, first_live, left_in, place_of}
 use Rattle.tdb_walk.specs.Way.{IsFilled, SameOthers, lock_byte, next_chain}
 use Rattle.tdb_walk.specs.ByteLocks.{only_reads}
 use Rattle.tdb_walk.specs.Cursors.{At, IsPlaced, HasToPurge, Knows, StepTaken, StepMade, dead_of, free_byte, from_of, spot_of}
@@ -106,6 +109,29 @@ pub record IsView (f : Form) (img : List ℕ) (own : HeldLocks) (stood_on : List
   pub must : MatchBool v.must (HasToPurge f img own stood_on read_only place Rested) (HasToPurge f img own stood_on read_only place Rested → ⊥)
   pub way : (j : ℕ) → IsOnWay f img (from_of goal place) j → v.way (lock_byte j) ≡ true
   pub ways : (b : ℕ) → v.way b ≡ true → (j : ℕ) × (b ≡ lock_byte j) × IsOnWay f img (from_of goal place) j
+
+-- The view of an opener with a cursor, as two tests: whether it has to purge its record, and whether a byte is that of a
+-- chain which its move reads.
+abbrev pub must_purge : Form → List ℕ → HeldLocks → List ℕ → Bool → Standing → Bool
+must_purge f img own stood_on read_only (On chain off) = not (magic_of f.order img off == USED) && (not (list_any (nat_eq off) stood_on) && (not read_only && not (only_reads own)))
+must_purge f img own stood_on read_only place = false
+
+abbrev pub none_live : Chains → Place → ℕ → Bool
+none_live cs place zero = true
+none_live cs place (suc n) = none_live cs place n && is_none (first_live (left_in cs place n))
+
+abbrev pub is_on_way : Form → List ℕ → Standing → ℕ → Bool
+is_on_way f img from j = nat_le (next_chain f from) j && (nat_lt j f.chains && (not (word f.order img (chain_head j) == 0) && none_live (chains_in f img) (place_of from) j))
+
+abbrev pub view_of : Form → List ℕ → HeldLocks → List ℕ → Bool → Goal → Standing → View
+view_of f img own stood_on read_only goal place = record {
+  must = must_purge f img own stood_on read_only place;
+  way = λ b. (b == lock_byte ((b - 168) / 4)) && is_on_way f img (from_of goal place) ((b - 168) / 4);
+}
+
+-- It is the view.
+abbrev pub ViewIsSo : Type 0
+ViewIsSo = (f : Form) (img : List ℕ) (own : HeldLocks) (stood_on : List ℕ) (read_only : Bool) (goal : Goal) (place : Standing) → IsView f img own stood_on read_only goal place (view_of f img own stood_on read_only goal place)
 
 -- what only the world knows of the opener: the record on which its cursor stands, whether it is going to purge that,
 -- and whether a move was blocked
