@@ -84,6 +84,15 @@ const PURGING: [Kinds; 3] = [(WRITE, None, READ), (WRITE, WRITE, READ), NOTHING]
 
 const READING: [Kinds; 2] = [(READ, None, READ), NOTHING];
 
+// The same where the first turn finds a fault, and where the third does.
+const STANDING: [Kinds; 1] = [(None, None, READ)];
+
+const FAULTY: [Kinds; 3] = [
+    (WRITE, None, READ),
+    (WRITE, WRITE, READ),
+    (WRITE, WRITE, READ),
+];
+
 // The last turn of a command, and what is held after each of its turns.
 #[derive(Drop)]
 struct Told {
@@ -223,19 +232,26 @@ fn leaves_the_record_in_its_chain(rt: HostRuntime) -> Result<(), Fail> {
     Ok(())
 }
 
-// Each call of a Next that purges fails in turn.
+// Each call of a Next that purges fails in turn: the one read of its first turn, or one of the calls of its third. The
+// cursor stands where it stood.
 #[test]
 fn hands_each_fault_on(rt: HostRuntime) -> Result<(), Fail> {
     let alloc = rt.alloc();
     let alone = Spots::new(alloc);
-    for (call, count) in [(Call::Read, 9), (Call::WriteWord, 2), (Call::Write, 2)] {
+    for (call, first, count) in [
+        (Call::Read, 1, 9),
+        (Call::WriteWord, 0, 2),
+        (Call::Write, 0, 2),
+    ] {
         for nth in 0..count {
             let mut disk = MemDisk::new(alloc, &killed(alloc)?)?;
             disk.fail(call, nth)?;
             let mut cursor = Cursor::new();
             let told = leave_killed(alloc, &mut disk, &mut cursor, &alone, Goal::Next, false)?;
+            let turns = if nth < first { 1 } else { 3 };
             assert_eq!(rt; told.end, Err(Io), "at {nth} of {call:?}");
             assert_eq!(rt; cursor.spot(), Some(4064), "at {nth} of {call:?}");
+            assert_eq!(rt; told.kinds.len(), turns, "at {nth} of {call:?}");
         }
     }
     Ok(())
@@ -257,7 +273,7 @@ fn stands(
     Ok((cursor.spot(), locks.piece_count()))
 }
 
-// A cursor holds the byte of its record alone, and nothing past the end, from where First begins anew.
+// A cursor holds the byte of its record alone, and nothing past the end and after a leave, from where First begins anew.
 #[test]
 fn walks_through_three_records(rt: HostRuntime) -> Result<(), Fail> {
     let alloc = rt.alloc();
@@ -269,13 +285,17 @@ fn walks_through_three_records(rt: HostRuntime) -> Result<(), Fail> {
     let third = stands(alloc, &mut disk, &mut locks, &mut cursor, Goal::Next)?;
     let end = stands(alloc, &mut disk, &mut locks, &mut cursor, Goal::Next)?;
     let again = stands(alloc, &mut disk, &mut locks, &mut cursor, Goal::First)?;
+    let left = stands(alloc, &mut disk, &mut locks, &mut cursor, Goal::Leave)?;
+    let anew = stands(alloc, &mut disk, &mut locks, &mut cursor, Goal::First)?;
     assert_eq!(rt;
-        [first, same, second, third, end, again],
+        [first, same, second, third, end, again, left, anew],
         [
             (Some(728), 1),
             (Some(728), 1),
             (Some(760), 1),
             (Some(792), 1),
+            (None, 0),
+            (Some(728), 1),
             (None, 0),
             (Some(728), 1)
         ]
