@@ -20,6 +20,8 @@ mod refusing;
 mod starting;
 mod taking;
 mod telling;
+#[cfg(test)]
+mod tests;
 mod told;
 
 pub use crate::fault::RunFault;
