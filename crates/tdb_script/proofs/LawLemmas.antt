@@ -76,7 +76,7 @@ cut_of (first ∷ before) line after (second ∷ others) other rest e =
     more_cut first second before line others other (head_of first second (before ++ line ∷ after) (others ++ other ∷ rest) e)
     (cut_of before line after others other rest (tail_of first second (before ++ line ∷ after) (others ++ other ∷ rest) e))
 
-abbrev Cause : List ℕ → List (List ℕ) → List ℕ → ℕ → Type 0
+abbrev pub Cause : List ℕ → List (List ℕ) → List ℕ → ℕ → Type 0
 Cause text before line place =
     (EndsWithin text before line × SaysNothing (words_of line) × (place ≡ width before)) ⊎ (Crosses text before line × (place ≡ LONGEST_SCRIPT))
 

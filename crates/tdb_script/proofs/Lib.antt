@@ -1,5 +1,6 @@
 pub mod CutLemmas
 pub mod NumberLemmas
+pub mod PartLemmas
 pub mod LawLemmas
 pub mod LoopLemmas
 pub mod ReadLemmas

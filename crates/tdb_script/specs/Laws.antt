@@ -1,5 +1,6 @@
 -- The laws of scripts, over the definitions alone.
-use Rattle.std.specs.Prelude.{◌≡◌, ℕ, List}
+use Rattle.std.specs.Prelude.{◌≡◌, ℕ, ◌<◌, List, ◌++◌, length}
+use Rattle.tdb_script.specs.declared.limits.TheConstants.{LONGEST_SCRIPT}
 use Rattle.tdb_plays.specs.declared.play.Play.{Play}
 use Rattle.tdb_script.specs.Script.{Script, BadAt}
 
@@ -14,3 +15,7 @@ HasOneBadPlace = (text : List ℕ) (place other : ℕ) → BadAt text place → 
 -- and a script stops at none
 abbrev pub HasNoBadPlace : Type 0
 HasNoBadPlace = (text : List ℕ) (plays : List Play) (place : ℕ) → Script text plays → BadAt text place → ⊥
+
+-- a text that is too long stops at the same place whatever stands behind it, so no more of it has to be read
+abbrev pub StaysBad : Type 0
+StaysBad = (text more : List ℕ) (place : ℕ) → LONGEST_SCRIPT < length text → BadAt text place → BadAt (text ++ more) place

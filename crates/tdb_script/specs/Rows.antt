@@ -1,4 +1,5 @@
--- The words of a script, by tables: one row for each word.
+-- The words of a script, by tables: one row for each word. They are those of the commands and plays that a world serves
+-- (`tdb_world`): none of transactions, of cursors, and of openers that die.
 use Rattle.std.specs.Prelude.{ℕ, List, [], ◌∷◌, codes, Option, Some, None, if◌then◌else◌}
 use Rattle.std.specs.Str.{bytes_eq}
 use Rattle.tdb_steps.specs.declared.flag.Flag.{Flag}
@@ -10,16 +11,12 @@ abbrev pub row_of : {A : Type 0} → List (List ℕ × A) → List ℕ → Optio
 row_of [] word = None
 row_of (row ∷ rows) word = if bytes_eq row.0 word then Some row.1 else row_of rows word
 
--- commands of one word on what an opener holds: all records, or a transaction
+-- commands of one word on all records, which an opener holds
 abbrev pub holding_commands : List (List ℕ × Command)
 holding_commands =
     (codes "lockall", Command.LockAll)
     ∷ (codes "lockallread", Command.LockAllRead)
     ∷ (codes "unlockall", Command.UnlockAll)
-    ∷ (codes "start", Command.Start)
-    ∷ (codes "commit", Command.Commit)
-    ∷ (codes "prepare", Command.Prepare)
-    ∷ (codes "cancel", Command.Cancel)
     ∷ []
 
 -- all commands of one word
@@ -28,9 +25,6 @@ bare_commands =
     (codes "wipe", Command.Wipe)
     ∷ (codes "check", Command.Check)
     ∷ (codes "seqnum", Command.Seqnum)
-    ∷ (codes "first", Command.First)
-    ∷ (codes "next", Command.Next)
-    ∷ (codes "endwalk", Command.EndWalk)
     ∷ (codes "close", Command.Close)
     ∷ holding_commands
 
@@ -60,7 +54,7 @@ bare_plays = (codes "open", Play.Join) ∷ (codes "setlog", Play.SetLog) ∷ []
 
 -- plays of an opener
 abbrev pub opener_plays : ℕ → List (List ℕ × Play)
-opener_plays who = (codes "turn", Play.Turn who) ∷ (codes "go", Play.Go who) ∷ (codes "die", Play.Die who) ∷ []
+opener_plays who = (codes "turn", Play.Turn who) ∷ (codes "go", Play.Go who) ∷ []
 
 -- plays of an opener with a command
 abbrev pub command_plays : ℕ → Command → List (List ℕ × Play)

@@ -8,7 +8,7 @@ use tdb_plays::{Command, Play};
 use tdb_steps::Flag;
 use tdb_words::Bytes;
 
-/// The command that is this one word, on all records or on a transaction.
+/// The command on all records that is this one word.
 fn holding_named(text: &str) -> Option<Command>
     ensures { result ≡ row_of holding_commands text.now }
 {
@@ -16,10 +16,6 @@ fn holding_named(text: &str) -> Option<Command>
         "lockall" => Some(Command::LockAll),
         "lockallread" => Some(Command::LockAllRead),
         "unlockall" => Some(Command::UnlockAll),
-        "start" => Some(Command::Start),
-        "commit" => Some(Command::Commit),
-        "prepare" => Some(Command::Prepare),
-        "cancel" => Some(Command::Cancel),
         _ => None,
     }
 }
@@ -32,9 +28,6 @@ fn bare_named(text: &str) -> Option<Command>
         "wipe" => Some(Command::Wipe),
         "check" => Some(Command::Check),
         "seqnum" => Some(Command::Seqnum),
-        "first" => Some(Command::First),
-        "next" => Some(Command::Next),
-        "endwalk" => Some(Command::EndWalk),
         "close" => Some(Command::Close),
         _ => holding_named(text),
     }
@@ -116,7 +109,6 @@ pub(crate) fn opener_play(name: &[u8], who: u32) -> Option<Play>
     match text {
         "turn" => Some(Play::Turn { who }),
         "go" => Some(Play::Go { who }),
-        "die" => Some(Play::Die { who }),
         _ => None,
     }
 }

@@ -20,7 +20,7 @@ fn scripts_are_read(rt: HostRuntime) -> Result<(), Fail> {
         (b"".as_slice(), 0),
         (b"# open\n\n \t\nopen".as_slice(), 1),
         (b" open\t\n#\nsetlog\n".as_slice(), 2),
-        (b"turn 1\ngo 999999999\ndie 2\n".as_slice(), 3),
+        (b"turn 1\ngo 999999999\n".as_slice(), 2),
         (b"do 1 fetch \"\"\ndo 1 seqnum".as_slice(), 2),
         (b"give 1 append \\00 \\fF\n".as_slice(), 1),
     ];
@@ -44,6 +44,9 @@ fn bad_places(rt: HostRuntime) -> Result<(), Fail> {
         (b"give 1".as_slice(), 0),
         (b"do 1 store a b c".as_slice(), 0),
         (b"open\r\n".as_slice(), 0),
+        (b"open\ndo 1 start".as_slice(), 5),
+        (b"do 1 first".as_slice(), 0),
+        (b"die 1".as_slice(), 0),
     ];
     for (text, place) in rows {
         let at = ScriptRefusal::Malformed { at: place };

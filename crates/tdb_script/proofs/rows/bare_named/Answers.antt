@@ -9,8 +9,5 @@ returns-in_default c =
     skip_row (codes "wipe") c.args.text.now Command.Wipe c.in_default.not-wipe (
     skip_row (codes "check") c.args.text.now Command.Check c.in_default.not-check (
     skip_row (codes "seqnum") c.args.text.now Command.Seqnum c.in_default.not-seqnum (
-    skip_row (codes "first") c.args.text.now Command.First c.in_default.not-first (
-    skip_row (codes "next") c.args.text.now Command.Next c.in_default.not-next (
-    skip_row (codes "endwalk") c.args.text.now Command.EndWalk c.in_default.not-endwalk (
     skip_row (codes "close") c.args.text.now Command.Close c.in_default.not-close (
-    c.holding_named.ensures)))))))
+    c.holding_named.ensures))))

@@ -10,8 +10,4 @@ returns-in_default c =
     skip_row (codes "lockall") c.args.text.now Command.LockAll c.in_default.not-lockall (
     skip_row (codes "lockallread") c.args.text.now Command.LockAllRead c.in_default.not-lockallread (
     skip_row (codes "unlockall") c.args.text.now Command.UnlockAll c.in_default.not-unlockall (
-    skip_row (codes "start") c.args.text.now Command.Start c.in_default.not-start (
-    skip_row (codes "commit") c.args.text.now Command.Commit c.in_default.not-commit (
-    skip_row (codes "prepare") c.args.text.now Command.Prepare c.in_default.not-prepare (
-    skip_row (codes "cancel") c.args.text.now Command.Cancel c.in_default.not-cancel (
-    refl)))))))
+    refl)))
