@@ -19,3 +19,8 @@ pub mod Writing
 pub mod OneAnswer
 pub mod Copies
 pub mod Runs
+pub mod Whole
+pub mod Coming
+pub mod Over
+pub mod Served
+pub mod Turning

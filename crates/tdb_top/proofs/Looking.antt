@@ -5,9 +5,9 @@ use Rattle.tdb_disk.specs.Count.{Rose}
 use Rattle.tdb_disk.specs.History.{History, seen}
 use Rattle.tdb_disk.specs.declared.files.TakeRefusal.{TakeRefusal}
 use Rattle.tdb_disk.specs.declared.files.TakeRefusal.TheVariants as Take
-use Rattle.tdb_disk.specs.declared.sink.SinkFault.{SinkFault}
 use Rattle.tdb_top.specs.declared.ask.Task.TheVariants.{Read}
 use Rattle.tdb_top.specs.declared.ending.Ending.{Ending}
+use Rattle.tdb_top.specs.declared.ending.Unprinted.{Unprinted}
 use Rattle.tdb_top.specs.declared.ending.Ending.TheVariants as E
 use Rattle.tdb_top.specs.declared.look.Look.{Look}
 use Rattle.tdb_top.specs.declared.look.Look.TheVariants.{Dump, Value}
@@ -56,6 +56,6 @@ files_counted before mid now start last e took fresh counted sound faulty later 
 }
 
 -- what was written is told in other words
-pub began_as : (T U : Ending → List ℕ → Type 0) (before now : List ℕ) (r : Result Ending SinkFault) → ((e : Ending) (text : List ℕ) → T e text → U e text) → Began T before now r → Began U before now r
+pub began_as : (T U : Ending → List ℕ → Type 0) (before now : List ℕ) (r : Result Ending Unprinted) → ((e : Ending) (text : List ℕ) → T e text → U e text) → Began T before now r → Began U before now r
 began_as T U before now (Ok e) more began = (began.0, more e began.0 began.1, began.2)
-began_as T U before now (Err fault) more began = (began.0, more _ began.0 began.1, began.2, began.3)
+began_as T U before now (Err rest) more began = (began.0, more _ began.0 began.1, began.2, began.3)

@@ -54,7 +54,7 @@ none_held (Some h) other = absurd (other refl)
 
 module _ (input : Input) (limit : ℕ) (name : List ℕ) (held : Option History) (before after : ℕ) (fresh : held ≡ None) where
   by_input : (e : Ending) → ReadSo input limit e → AskCause input (Restore limit) name held before after e
-  by_input e read = inr (record { limit = limit; restores = refl; none = fresh; read = read })
+  by_input e read = inr (inl (record { limit = limit; restores = refl; none = fresh; read = read }))
 
   -- all pairs came into the file
   pub whole_cause : (IsTrue input.tells → (img : List ℕ) × Restored new_form img input.text) → AskCause input (Restore limit) name held before after (E.Replied Reply.Restored)

@@ -8,27 +8,30 @@ use Rattle.tdb_space.specs.Opening.{Opens}
 use Rattle.tdb_top.specs.declared.act.Act.{Act}
 use Rattle.tdb_top.specs.declared.look.Look.{Look}
 use Rattle.tdb_top.specs.declared.ask.Task.{Task}
-use Rattle.tdb_top.specs.declared.ask.Task.TheVariants.{Create, On, Read, Restore, Backup}
+use Rattle.tdb_top.specs.declared.ask.Task.TheVariants.{Create, On, Read, Restore, Backup, Turns}
 use Rattle.tdb_top.specs.declared.commands.create.NewForm.{NewForm}
 use Rattle.tdb_top.specs.declared.ending.Ending.{Ending}
 use Rattle.tdb_top.specs.declared.ending.Ending.TheVariants.{Replied, Refused, Missing, There, Usage, DeviceFault, InputFault, Malformed, NoMemory}
 use Rattle.tdb_top.specs.declared.ending.Reply.{Reply}
-use Rattle.tdb_top.specs.declared.ending.Reply.TheVariants.{Done, Value, Escaped, Dumped, Restored, Copied, KeyMissing, KeyThere, Full, Number}
+use Rattle.tdb_top.specs.declared.ending.Reply.TheVariants.{Done, Value, Escaped, Dumped, Restored, Copied, KeyMissing, KeyThere, Full, Number, Played}
 use Rattle.tdb_top.specs.declared.halt.Refusal.{Refusal}
 use Rattle.tdb_top.specs.declared.halt.Refusal.TheVariants.{TooLong, Header, Corrupt, NeedsRecovery}
 use Rattle.tdb_top.specs.declared.limits.TheConstants.{LONGEST_FILE}
 use Rattle.tdb_top.specs.Ask.{Ask}
 use Rattle.tdb_top.specs.Acts.{reply_of, Left}
-use Rattle.tdb_top.specs.Ending.{status_of, TakesMemory, PrintedFor, Replies, Refuses, LookReplies, RefusesToRead, TaskDue, Due, TaskCause, task_due, task_failed, task_wanting, CountedBy}
+use Rattle.tdb_top.specs.Ending.{status_of, TakesMemory, PrintedFor, Replies, Refuses, LookReplies, RefusesToRead, TaskDue, Due, TaskCause, task_due, task_failed, task_wanting, CountedBy, CountedFor, CountedAsked}
 use Rattle.tdb_top.specs.Looks.{look_reply}
 use Rattle.tdb_top.specs.Printed.{TextBefore, ask_tells, IsSilent, Writes}
 use Rattle.tdb_top.specs.Left.{ActLeaves, OnLeaves, MakingLeaves, RestoreLeaves, TaskLeaves, MayChange, SameElse, Leaving}
 use Rattle.tdb_top.specs.Commands.Restore.{of_input, HeardBy}
 use Rattle.tdb_top.specs.Commands.Backup.{BackupLeaves, EndsBackup}
 use Rattle.tdb_top.specs.Input.{Input}
-use Rattle.tdb_top.specs.Reads.{ask_reads, AskEnds}
-use Rattle.tdb_top.specs.Opening.{opened_bytes, OpensToRead, HeldOrUndone, UndoneIfOpen}
-use Rattle.tdb_top.specs.Run.{Run, MayEnd, is_due, is_read, is_copied, call_failed, memory_wanting, TellsFault, ActsOn, LooksInto, RefusesExactly, KeepsAll, ActRun, MakingRun, RestoringRun, BackupRun, IsCopyName, LeavesFiles, Accounted}
+use Rattle.tdb_top.specs.Output.{Output}
+use Rattle.tdb_top.specs.Reads.{reads_input, ask_reads, AskEnds}
+use Rattle.tdb_top.specs.Commands.Turns.{TurnOpened, IsPlayed, IsPlayedSoFar, TurnsLeft, TurnsLeave}
+use Rattle.tdb_world.specs.declared.options.Options.{Options}
+use Rattle.tdb_top.specs.Opening.{opened_bytes, OpensToRead, HeldOrUndone, SameOrUndone, UndoneIfOpen}
+use Rattle.tdb_top.specs.Run.{Run, MayEnd, is_due, is_read, is_copied, is_played, call_failed, memory_wanting, TellsFault, ActsOn, LooksInto, RefusesExactly, KeepsAll, ActRun, MakingRun, RestoringRun, BackupRun, TurnsRun, IsCopyName, LeavesFiles, Accounted}
 use Rattle.tdb_top.proofs.Held.{same_or_other}
 use Rattle.tdb_top.proofs.Copies.{stopped_kept, stopped_weaker, backup_zero}
 use Rattle.tdb_top.proofs.OneAnswer.{due_one, refused_faulty, refused_three, read_faulty, read_three}
@@ -49,13 +52,14 @@ reply_status (Escaped value) = inl refl
 reply_status Dumped = inl refl
 reply_status Restored = inl refl
 reply_status Copied = inl refl
+reply_status Played = inl refl
 reply_status (Number n) = inl refl
 reply_status KeyMissing = inr (inl refl)
 reply_status KeyThere = inr (inl refl)
 reply_status (Full len need) = inr (inr refl)
 
 -- that of a refusal is 3 or 6
-refusal_status : (r : Refusal) → (status_of (Refused r) ≡ 3) ⊎ (status_of (Refused r) ≡ 6)
+pub refusal_status : (r : Refusal) → (status_of (Refused r) ≡ 3) ⊎ (status_of (Refused r) ≡ 6)
 refusal_status (TooLong len) = inr refl
 refusal_status (Header fault) = inl refl
 refusal_status (Corrupt what at) = inl refl
@@ -182,20 +186,27 @@ task_caused ask a held input before after _ is task_wanting = memory_wanting
 
 pub asked_cause : (ask : Option Ask) (a : Ask) (held : List ℕ → Option History) (input : Input) (before after : ℕ) (e : Ending) → Some a ≡ ask → AskEnds input a.task a.file held before after e → MayEnd ask held input before after e
 asked_cause ask a held input before after e is (inl (inl cause)) = task_caused ask a held input before after e is cause
-asked_cause ask a held input before after e is (inl (inr ends)) =
+asked_cause ask a held input before after e is (inl (inr (inl ends))) =
     is_read e ends.limit a.file (sym is ∙ ap (λ t. Some (record { file = a.file; task = t })) ends.restores) ends.none ends.read
+asked_cause ask a held input before after e is (inl (inr (inr ends))) =
+    is_played e ends.options a.file (sym is ∙ ap (λ t. Some (record { file = a.file; task = t })) ends.turns) ends.why
 asked_cause ask a held input before after e is (inr ends) =
     is_copied e ends.more ends.suffix a.file (sym is ∙ ap (λ t. Some (record { file = a.file; task = t })) ends.backs_up) ends.ends
 
+-- a task that reads the input is no act and no look
+reads_input_alone : (ask : Option Ask) (task : Task) (name : List ℕ) (other : Task) (file : List ℕ) → ask ≡ Some (record { file = name; task = task }) → ask ≡ Some (record { file = file; task = other }) → reads_input task ≡ false → reads_input other ≡ true → ⊥
+reads_input_alone ask task name other file is also unread reads = false≢true (sym unread ∙ ap ask_reads (sym is ∙ also) ∙ reads)
+
 -- the words ask for one thing
 act_or_restore : (ask : Option Ask) (act : Act) (name : List ℕ) (limit : ℕ) (other : List ℕ) → ask ≡ Some (record { file = name; task = On act }) → ask ≡ Some (record { file = other; task = Restore limit }) → ⊥
-act_or_restore ask act name limit other acts restores = false≢true (ap ask_reads (sym acts ∙ restores))
+act_or_restore ask act name limit other acts restores = reads_input_alone ask (On act) name (Restore limit) other acts restores refl refl
 
 look_or_restore : (ask : Option Ask) (look : Look) (name : List ℕ) (limit : ℕ) (other : List ℕ) → ask ≡ Some (record { file = name; task = Read look }) → ask ≡ Some (record { file = other; task = Restore limit }) → ⊥
-look_or_restore ask look name limit other looks restores = false≢true (ap ask_reads (sym looks ∙ restores))
+look_or_restore ask look name limit other looks restores = reads_input_alone ask (Read look) name (Restore limit) other looks restores refl refl
 
 -- a backup is neither
 abbrev task_copies : Task → Bool
+task_copies (Turns options) = false
 task_copies (Backup more suffix) = true
 task_copies (On act) = false
 task_copies (Read look) = false
@@ -214,27 +225,32 @@ look_or_backup ask look name more suffix other looks copies = false≢true (ap a
 
 module _ (run : Run) (e : Ending) (cause : MayEnd run.ask run.old run.input run.faults_before run.faults_after e) (tells : Bool) (prints : Printed tells run e) where
   -- what the ending that is printed says of a status, where it is due, where a restore is asked for and no file is
-  -- there, and where a backup is asked for
+  -- there, and where a backup or turns are asked for
   abbrev Copies : Type 0 → Type 0
   Copies P = (more : List (List ℕ)) (suffix name : List ℕ) → run.ask ≡ Some (record { file = name; task = Backup more suffix }) → P
 
-  status_where : (P : ℕ → Type 0) → (Due run.ask run.old e → P (status_of e)) → ((limit : ℕ) (name : List ℕ) → run.ask ≡ Some (record { file = name; task = Restore limit }) → run.old name ≡ None → P (status_of e)) → Copies (P (status_of e)) → P run.status ⊎ TellsFault run.status
-  status_where P due read copies = of e cause prints due read copies
+  abbrev Plays : Type 0 → Type 0
+  Plays P = (options : Options) (name : List ℕ) → run.ask ≡ Some (record { file = name; task = Turns options }) → P
+
+  status_where : (P : ℕ → Type 0) → (Due run.ask run.old e → P (status_of e)) → ((limit : ℕ) (name : List ℕ) → run.ask ≡ Some (record { file = name; task = Restore limit }) → run.old name ≡ None → P (status_of e)) → Copies (P (status_of e)) → Plays (P (status_of e)) → P run.status ⊎ TellsFault run.status
+  status_where P due read copies play = of e cause prints due read copies play
     where
       of : (x : Ending) → MayEnd run.ask run.old run.input run.faults_before run.faults_after x → Printed tells run x → (Due run.ask run.old x → P (status_of x))
-          → ((limit : ℕ) (name : List ℕ) → run.ask ≡ Some (record { file = name; task = Restore limit }) → run.old name ≡ None → P (status_of x)) → Copies (P (status_of x)) → P run.status ⊎ TellsFault run.status
-      of x c (inr part) due read copies = inr (inr (inr part.exits))
-      of _ (is_due x d) (inl all) due read copies = inl (subst P (sym all.exits) (due d))
-      of _ (is_read x limit name asks none so) (inl all) due read copies = inl (subst P (sym all.exits) (read limit name asks none))
-      of _ (is_copied x more suffix name asks ends) (inl all) due read copies = inl (subst P (sym all.exits) (copies more suffix name asks))
-      of _ (call_failed a asks rose) (inl all) due read copies = inr (inl all.exits)
-      of _ memory_wanting (inl all) due read copies = inr (inr (inl all.exits))
+          → ((limit : ℕ) (name : List ℕ) → run.ask ≡ Some (record { file = name; task = Restore limit }) → run.old name ≡ None → P (status_of x)) → Copies (P (status_of x)) → Plays (P (status_of x)) → P run.status ⊎ TellsFault run.status
+      of x c (inr part) due read copies play = inr (inr (inr part.exits))
+      of _ (is_due x d) (inl all) due read copies play = inl (subst P (sym all.exits) (due d))
+      of _ (is_read x limit name asks none so) (inl all) due read copies play = inl (subst P (sym all.exits) (read limit name asks none))
+      of _ (is_copied x more suffix name asks ends) (inl all) due read copies play = inl (subst P (sym all.exits) (copies more suffix name asks))
+      of _ (is_played x options name asks so) (inl all) due read copies play = inl (subst P (sym all.exits) (play options name asks))
+      of _ (call_failed a asks rose) (inl all) due read copies play = inr (inl all.exits)
+      of _ memory_wanting (inl all) due read copies play = inr (inr (inl all.exits))
 
   -- what is due is what is answered
   pub exactly : (x : Ending) → Due run.ask run.old x → (run.status ≡ status_of x) ⊎ TellsFault run.status
   exactly x due = status_where (λ n. n ≡ status_of x) (λ d. ap status_of (due_one run.ask run.old e x d due))
       (λ limit name asks none. absurd (subst (λ o. TaskDue (Restore limit) name o x) none (subst (λ a. Due a run.old x) asks due)))
       (λ more suffix name asks. absurd (subst (λ a. Due a run.old x) asks due))
+      (λ options name asks. absurd (subst (λ a. Due a run.old x) asks due))
 
   -- an act or a look is neither a restore nor a backup
   no_act : (P : Type 0) (act : Act) (name : List ℕ) (h : History) → ActsOn run act name h → (limit : ℕ) (other : List ℕ) → run.ask ≡ Some (record { file = other; task = Restore limit }) → P
@@ -248,6 +264,13 @@ module _ (run : Run) (e : Ending) (cause : MayEnd run.ask run.old run.input run.
 
   no_look_copies : (P : Type 0) (look : Look) (name : List ℕ) (h : History) → LooksInto run look name h → Copies P
   no_look_copies P look name h into more suffix other asks = absurd (look_or_backup run.ask look name more suffix other into.asks asks)
+
+  -- nor turns
+  act_no_turns : (P : Type 0) (act : Act) (name : List ℕ) (h : History) → ActsOn run act name h → (options : Options) (other : List ℕ) → run.ask ≡ Some (record { file = other; task = Turns options }) → P
+  act_no_turns P act name h acts options other asks = absurd (reads_input_alone run.ask (On act) name (Turns options) other acts.asks asks refl refl)
+
+  look_no_turns : (P : Type 0) (look : Look) (name : List ℕ) (h : History) → LooksInto run look name h → (options : Options) (other : List ℕ) → run.ask ≡ Some (record { file = other; task = Turns options }) → P
+  look_no_turns P look name h into options other asks = absurd (reads_input_alone run.ask (Read look) name (Turns options) other into.asks asks refl refl)
 
   -- what is due of an act on a file that is there
   act_due : (act : Act) (name : List ℕ) (h : History) → ActsOn run act name h → Due run.ask run.old e → Replies act (seen h) e ⊎ Refuses (seen h) e
@@ -280,13 +303,13 @@ module _ (run : Run) (e : Ending) (cause : MayEnd run.ask run.old run.input run.
   no_three (inr (inr is)) three = absurd (omega (arith, is, three))
 
   only_faulty : (act : Act) (name : List ℕ) (h : History) → ActsOn run act name h → run.status ≡ 3 → Opens (seen h) → ⊥
-  only_faulty act name h acts three opens = elim (status_where (λ n. n ≡ 3 → ⊥) (λ d. not_three act h opens (act_due act name h acts d)) (λ limit other asks none. no_act (status_of e ≡ 3 → ⊥) act name h acts limit other asks) (no_act_copies (status_of e ≡ 3 → ⊥) act name h acts)) [
+  only_faulty act name h acts three opens = elim (status_where (λ n. n ≡ 3 → ⊥) (λ d. not_three act h opens (act_due act name h acts d)) (λ limit other asks none. no_act (status_of e ≡ 3 → ⊥) act name h acts limit other asks) (no_act_copies (status_of e ≡ 3 → ⊥) act name h acts) (λ options other asks. act_no_turns (status_of e ≡ 3 → ⊥) act name h acts options other asks)) [
     | inl other ↦ other three
     | inr fault ↦ no_three fault three
   ]
 
   read_only_faulty : (look : Look) (name : List ℕ) (h : History) → LooksInto run look name h → run.status ≡ 3 → OpensToRead (seen h) → ⊥
-  read_only_faulty look name h into three opens = elim (status_where (λ n. n ≡ 3 → ⊥) (λ d. read_not_three look h opens (look_due look name h into d)) (λ limit other asks none. no_look (status_of e ≡ 3 → ⊥) look name h into limit other asks) (no_look_copies (status_of e ≡ 3 → ⊥) look name h into)) [
+  read_only_faulty look name h into three opens = elim (status_where (λ n. n ≡ 3 → ⊥) (λ d. read_not_three look h opens (look_due look name h into d)) (λ limit other asks none. no_look (status_of e ≡ 3 → ⊥) look name h into limit other asks) (no_look_copies (status_of e ≡ 3 → ⊥) look name h into) (λ options other asks. look_no_turns (status_of e ≡ 3 → ⊥) look name h into options other asks)) [
     | inl other ↦ other three
     | inr fault ↦ no_three fault three
   ]
@@ -294,9 +317,9 @@ module _ (run : Run) (e : Ending) (cause : MayEnd run.ask run.old run.input run.
   pub refuses_exactly : RefusesExactly run
   refuses_exactly = record {
     only = only_faulty;
-    exact = λ act name h acts faulty short. status_where (λ n. n ≡ 3) (λ d. three_due act h faulty short (act_due act name h acts d)) (λ limit other asks none. no_act (status_of e ≡ 3) act name h acts limit other asks) (no_act_copies (status_of e ≡ 3) act name h acts);
+    exact = λ act name h acts faulty short. status_where (λ n. n ≡ 3) (λ d. three_due act h faulty short (act_due act name h acts d)) (λ limit other asks none. no_act (status_of e ≡ 3) act name h acts limit other asks) (no_act_copies (status_of e ≡ 3) act name h acts) (λ options other asks. act_no_turns (status_of e ≡ 3) act name h acts options other asks);
     read_only = read_only_faulty;
-    read_exact = λ look name h into faulty short. status_where (λ n. n ≡ 3) (λ d. read_three_due look h faulty short (look_due look name h into d)) (λ limit other asks none. no_look (status_of e ≡ 3) look name h into limit other asks) (no_look_copies (status_of e ≡ 3) look name h into);
+    read_exact = λ look name h into faulty short. status_where (λ n. n ≡ 3) (λ d. read_three_due look h faulty short (look_due look name h into d)) (λ limit other asks none. no_look (status_of e ≡ 3) look name h into limit other asks) (no_look_copies (status_of e ≡ 3) look name h into) (λ options other asks. look_no_turns (status_of e ≡ 3) look name h into options other asks);
   }
 
 -- an act that didn't reply that it is done left the file as it was opened
@@ -475,7 +498,184 @@ module _ (before after status : ℕ) where
       ended t known (inr (inl want)) is = absurd (omega (arith, want.0, is))
       ended t known (inr (inr eight)) is = absurd (omega (arith, eight, is))
 
-module _ (run : Run) (t : Ending) (out : Exits run.status t) (counted : CountedBy run.faults_before run.faults_after t) (silent : IsSilent t → run.status ≡ 0) (left : Leaving run.input run.ask run.old t run.now) where
+-- what an opening for turns leaves is as it was, or undone
+opened_same : (options : Options) (old now : History) → TurnOpened options old now → SameOrUndone old now
+opened_same options old now (inl same) = inr same.1
+opened_same options old now (inr left) = same_or_undone old now left
+
+-- whether a task takes turns
+abbrev pub reads_turns : Task → Bool
+reads_turns (On act) = false
+reads_turns (Read look) = false
+reads_turns (Create form) = false
+reads_turns (Restore limit) = false
+reads_turns (Backup more suffix) = false
+reads_turns (Turns options) = true
+
+turns_of : (task : Task) → reads_turns task ≡ true → (options : Options) × (task ≡ Turns options)
+turns_of (On act) is = absurd (false≢true is)
+turns_of (Read look) is = absurd (false≢true is)
+turns_of (Create form) is = absurd (false≢true is)
+turns_of (Restore limit) is = absurd (false≢true is)
+turns_of (Backup more suffix) is = absurd (false≢true is)
+turns_of (Turns options) is = (options, refl)
+
+-- how often calls of the files had failed by a run that is asked for this: where the files tell, as by every run
+pub asked_counted : (tells : Bool) (ask : Option Ask) (before after : ℕ) (t : Ending) → tells ≡ true → CountedAsked tells ask before after t → CountedBy before after t
+asked_counted tells None before after t told counted = counted
+asked_counted tells (Some ask) before after t told counted = of ask.task counted
+  where
+    of : (task : Task) → CountedFor tells task before after t → CountedBy before after t
+    of (On act) counted = counted
+    of (Read look) counted = counted
+    of (Create form) counted = counted
+    of (Restore limit) counted = counted
+    of (Backup more suffix) counted = counted
+    of (Turns options) counted = record { never_falls = counted.never_falls; failed = λ is. counted.failed is told; sound = counted.sound }
+
+pub asked_failed : (tells : Bool) (ask : Option Ask) (before after : ℕ) (t : Ending) → CountedAsked tells ask before after t → t ≡ DeviceFault → ((options : Options) (name : List ℕ) → ask ≡ Some (record { file = name; task = Turns options }) → ⊥) → Rose before after
+asked_failed tells None before after t counted is none = counted.failed is
+asked_failed tells (Some ask) before after t counted is none = of ask.task refl counted
+  where
+    of : (task : Task) → ask.task ≡ task → CountedFor tells task before after t → Rose before after
+    of (On act) same counted = counted.failed is
+    of (Read look) same counted = counted.failed is
+    of (Create form) same counted = counted.failed is
+    of (Restore limit) same counted = counted.failed is
+    of (Backup more suffix) same counted = counted.failed is
+    of (Turns options) same counted = absurd (none options ask.file (ap (λ task. Some (record { file = ask.file; task = task })) same))
+
+pub asked_sound : (tells : Bool) (ask : Option Ask) (before after : ℕ) (t : Ending) → CountedAsked tells ask before after t → (t ≡ DeviceFault → ⊥) → after ≡ before
+asked_sound tells None before after t counted other = counted.sound other
+asked_sound tells (Some ask) before after t counted other = of ask.task counted
+  where
+    of : (task : Task) → CountedFor tells task before after t → after ≡ before
+    of (On act) counted = counted.sound other
+    of (Read look) counted = counted.sound other
+    of (Create form) counted = counted.sound other
+    of (Restore limit) counted = counted.sound other
+    of (Backup more suffix) counted = counted.sound other
+    of (Turns options) counted = counted.sound other
+
+module _ (before after status : ℕ) where
+  -- turns that were played have status 0 or 8
+  played_exits : (reply : Reply) → reply ≡ Played → Exits status (Replied reply) → (status ≡ 0) ⊎ (status ≡ 8)
+  played_exits reply is (inl own) = inl (own ∙ ap (λ r. status_of (Replied r)) is)
+  played_exits reply is (inr (inl want)) = absurd (false≢true (subst (λ r. TakesMemory (Replied r)) is want.1))
+  played_exits reply is (inr (inr eight)) = inr eight
+
+  unheard_exits : Exits status InputFault → status ≡ 8
+  unheard_exits (inl own) = own
+  unheard_exits (inr (inl want)) = absurd (false≢true want.1)
+  unheard_exits (inr (inr eight)) = eight
+
+  malformed_exits : (at : ℕ) → Exits status (Malformed at) → (status ≡ 7) ⊎ (status ≡ 5) ⊎ (status ≡ 8)
+  malformed_exits at (inl own) = inl own
+  malformed_exits at (inr (inl want)) = inr (inl want.0)
+  malformed_exits at (inr (inr eight)) = inr (inr eight)
+
+  refused_seven : (r : Refusal) → Exits status (Refused r) → status ≡ 7 → ⊥
+  refused_seven r (inl own) seven = refusal_not r 7 (λ z. absurd (omega (arith, z))) (λ z. absurd (omega (arith, z))) (sym own ∙ seven)
+  refused_seven r (inr (inl want)) seven = absurd (omega (arith, want.0, seven))
+  refused_seven r (inr (inr eight)) seven = absurd (omega (arith, eight, seven))
+
+  either_not : (a b n : ℕ) → (a ≡ n → ⊥) → (b ≡ n → ⊥) → (status ≡ a) ⊎ (status ≡ b) → status ≡ n → ⊥
+  either_not a b n p q (inl is) e = p (sym is ∙ e)
+  either_not a b n p q (inr is) e = q (sym is ∙ e)
+
+  malformed_kept : (status ≡ 7) ⊎ (status ≡ 5) ⊎ (status ≡ 8) → KeepsAll status → (status ≡ 5 → ⊥) → (status ≡ 7 → ⊥) → ⊥
+  malformed_kept (inl is) keeps five seven = seven is
+  malformed_kept (inr (inl is)) keeps five seven = five is
+  malformed_kept (inr (inr is)) keeps five seven = keeps.2 is
+
+  malformed_four : (status ≡ 7) ⊎ (status ≡ 5) ⊎ (status ≡ 8) → status ≡ 4 → ⊥
+  malformed_four (inl is) four = absurd (omega (arith, is, four))
+  malformed_four (inr (inl is)) four = absurd (omega (arith, is, four))
+  malformed_four (inr (inr is)) four = absurd (omega (arith, is, four))
+
+  played_kept : (status ≡ 0) ⊎ (status ≡ 8) → KeepsAll status → ⊥
+  played_kept (inl is) keeps = keeps.0 is
+  played_kept (inr is) keeps = keeps.2 is
+
+  -- what a run leaves of the file of turns
+  turns_run : (options : Options) (input : Input) (output : Output) (old now : History) (t : Ending) → Exits status t → CountedBy before after t → (status ≡ 0 → IsPlayed options input output old now) → TurnsLeft options old t now
+      → TurnsRun options input output old before after status now
+  turns_run options input output old now (Replied reply) out counted whole left =
+      let ends = played_exits reply left.0 out in
+      record {
+        any = inr (inl left.1);
+        done = whole;
+        failed = λ is. absurd (either_not 0 8 4 (λ z. absurd (omega (arith, z))) (λ z. absurd (omega (arith, z))) ends is);
+        wanting = λ is. inr left.1;
+        unread = λ is. absurd (either_not 0 8 7 (λ z. absurd (omega (arith, z))) (λ z. absurd (omega (arith, z))) ends is);
+        kept = λ keeps five seven. absurd (played_kept ends keeps);
+      }
+  turns_run options input output old now (Refused r) out counted whole left = record {
+    any = inl (opened_same options old now left);
+    done = whole;
+    failed = λ is. absurd (refusal_apart before after status r out (inr is));
+    wanting = λ is. inl (opened_same options old now left);
+    unread = λ is. absurd (refused_seven r out is);
+    kept = λ keeps five seven. left;
+  }
+  turns_run options input output old now DeviceFault out counted whole left =
+      let ends = fault_exits before after status out in
+      record {
+        any = inr (inr (counted.failed refl));
+        done = whole;
+        failed = λ is. counted.failed refl;
+        wanting = λ is. absurd (either_not 4 8 5 (λ z. absurd (omega (arith, z))) (λ z. absurd (omega (arith, z))) ends is);
+        unread = λ is. absurd (either_not 4 8 7 (λ z. absurd (omega (arith, z))) (λ z. absurd (omega (arith, z))) ends is);
+        kept = λ keeps five seven. absurd (fault_no_keep before after status ends keeps);
+      }
+  turns_run options input output old now NoMemory out counted whole left =
+      let ends = memory_exits before after status out in
+      record {
+        any = elim left [ inl same ↦ inl same | inr came ↦ inr (inl came) ];
+        done = whole;
+        failed = λ is. absurd (either_not 5 8 4 (λ z. absurd (omega (arith, z))) (λ z. absurd (omega (arith, z))) ends is);
+        wanting = λ is. left;
+        unread = λ is. absurd (either_not 5 8 7 (λ z. absurd (omega (arith, z))) (λ z. absurd (omega (arith, z))) ends is);
+        kept = λ keeps five seven. absurd (memory_no_keep before after status ends keeps five);
+      }
+  turns_run options input output old now InputFault out counted whole left =
+      let eight = unheard_exits out in
+      record {
+        any = inl (inr left);
+        done = whole;
+        failed = λ is. absurd (omega (arith, eight, is));
+        wanting = λ is. inl (inr left);
+        unread = λ is. left;
+        kept = λ keeps five seven. absurd (keeps.2 eight);
+      }
+  turns_run options input output old now (Malformed at) out counted whole left =
+      let ends = malformed_exits at out in
+      record {
+        any = inl (inr left);
+        done = whole;
+        failed = λ is. absurd (malformed_four ends is);
+        wanting = λ is. inl (inr left);
+        unread = λ is. left;
+        kept = λ keeps five seven. absurd (malformed_kept ends keeps five seven);
+      }
+  turns_run options input output old now (Missing name) out counted whole left = absurd left
+  turns_run options input output old now (There name) out counted whole left = absurd left
+  turns_run options input output old now Usage out counted whole left = absurd left
+
+  -- which is as it was, or undone, where the status says neither that they were done, nor of a fault, nor of want of memory
+  turns_same : (options : Options) (old now : History) (t : Ending) → Exits status t → KeepsAll status → (status ≡ 5 → ⊥) → TurnsLeft options old t now → SameOrUndone old now
+  turns_same options old now (Replied reply) out keeps five left = absurd (played_kept (played_exits reply left.0 out) keeps)
+  turns_same options old now (Refused r) out keeps five left = opened_same options old now left
+  turns_same options old now DeviceFault out keeps five left = absurd (fault_no_keep before after status (fault_exits before after status out) keeps)
+  turns_same options old now NoMemory out keeps five left = absurd (memory_no_keep before after status (memory_exits before after status out) keeps five)
+  turns_same options old now InputFault out keeps five left = inr left
+  turns_same options old now (Malformed at) out keeps five left = inr left
+  turns_same options old now (Missing name) out keeps five left = absurd left
+  turns_same options old now (There name) out keeps five left = absurd left
+  turns_same options old now Usage out keeps five left = absurd left
+
+module _ (run : Run) (t : Ending) (out : Exits run.status t) (counted : CountedBy run.faults_before run.faults_after t) (silent : IsSilent t → run.status ≡ 0) (left : Leaving run.input run.ask run.old t run.now)
+    (whole : (options : Options) (name : List ℕ) (old now : History) → run.ask ≡ Some (record { file = name; task = Turns options }) → run.old name ≡ Some old → run.now name ≡ Some now → run.status ≡ 0 → IsPlayed options run.input run.output old now) where
   -- what the run leaves at the name of the task that it is asked for
   asked_left : (task : Task) (name : List ℕ) → run.ask ≡ Some (record { file = name; task = task }) → TaskLeaves run.input task name run.old t run.now
   asked_left task name asks = (subst (λ a. Leaving run.input a run.old t run.now) asks left).1
@@ -494,6 +694,12 @@ module _ (run : Run) (t : Ending) (out : Exits run.status t) (counted : CountedB
   backing_up : (more : List (List ℕ)) (suffix name : List ℕ) → run.ask ≡ Some (record { file = name; task = Backup more suffix }) → BackupRun suffix (name ∷ more) run.old run.faults_before run.faults_after run.status run.now
   backing_up more suffix name asks = backup_run run.faults_before run.faults_after run.status suffix (name ∷ more) run.old run.now t out counted (λ done. silent (inr done)) (asked_left (Backup more suffix) name asks)
 
+  turned : (options : Options) (name : List ℕ) (old : History) → run.ask ≡ Some (record { file = name; task = Turns options }) → run.old name ≡ Some old
+      → (h : History) × (run.now name ≡ Some h) × TurnsRun options run.input run.output old run.faults_before run.faults_after run.status h
+  turned options name old asks there =
+      let at = subst (λ o. TurnsLeave options o t (run.now name)) there (asked_left (Turns options) name asks) in
+      (at.0, at.1, turns_run run.faults_before run.faults_after run.status options run.input run.output old at.0 t out counted (whole options name old at.0 asks there at.1) at.2)
+
   others : (name : List ℕ) → ((ask : Ask) → run.ask ≡ Some ask → MayChange ask.task ask.file name → ⊥) → run.now name ≡ run.old name
   others name none = of run.ask left none
     where
@@ -509,6 +715,13 @@ module _ (run : Run) (t : Ending) (out : Exits run.status t) (counted : CountedB
     | inr same ↦ inl (at.1 ∙ ap Some same)
   ]
 
+  -- what is held at the name of a task, where the status tells of no change
+  turns_kept : KeepsAll run.status → (run.status ≡ 5 → ⊥) → (options : Options) (name : List ℕ) (old : History) (at : (h : History) × (run.now name ≡ Some h) × TurnsLeft options old t h) → HeldOrUndone (Some old) (run.now name)
+  turns_kept keeps other options name old at = elim (turns_same run.faults_before run.faults_after run.status options old at.0 t out keeps other at.2) [
+    | inl undone ↦ inr (old, at.0, refl, at.1, undone)
+    | inr same ↦ inl (at.1 ∙ ap Some same)
+  ]
+
   -- at each name
   at_name : (name file : List ℕ) → HeldOrUndone (run.old file) (run.now file) → ((name ≡ file → ⊥) → run.now name ≡ run.old name) → HeldOrUndone (run.old name) (run.now name)
   at_name name file here other = elim (same_or_other name file) [
@@ -516,28 +729,37 @@ module _ (run : Run) (t : Ending) (out : Exits run.status t) (counted : CountedB
     | inr apart ↦ inl (other apart)
   ]
 
-  task_kept : KeepsAll run.status → (task : Task) (file name : List ℕ) → SameElse task file run.old run.now → TaskLeaves run.input task file run.old t run.now
+  file_kept : KeepsAll run.status → (run.status ≡ 5 → ⊥) → (options : Options) (name : List ℕ) (old : Option History) → TurnsLeave options old t (run.now name) → HeldOrUndone old (run.now name)
+  file_kept keeps five options name None at = inl at
+  file_kept keeps five options name (Some old) at = turns_kept keeps five options name old at
+
+  task_kept : KeepsAll run.status → (task : Task) (file name : List ℕ) → (reads_turns task ≡ true → run.status ≡ 5 → ⊥) → SameElse task file run.old run.now → TaskLeaves run.input task file run.old t run.now
       → (IsCopyName (Some (record { file = file; task = task })) name → ⊥) → HeldOrUndone (run.old name) (run.now name)
-  task_kept keeps (On act) file name same at copy = at_name name file (on_kept keeps act file (run.old file) at) (same name)
-  task_kept keeps (Read look) file name same at copy = at_name name file (inl at) (same name)
-  task_kept keeps (Create form) file name same at copy = at_name name file (inl ((making_run run.faults_before run.faults_after run.status form (run.old file) (run.now file) t out counted at).kept keeps)) (same name)
-  task_kept keeps (Restore limit) file name same at copy =
+  task_kept keeps (On act) file name five same at copy = at_name name file (on_kept keeps act file (run.old file) at) (same name)
+  task_kept keeps (Read look) file name five same at copy = at_name name file (inl at) (same name)
+  task_kept keeps (Create form) file name five same at copy = at_name name file (inl ((making_run run.faults_before run.faults_after run.status form (run.old file) (run.now file) t out counted at).kept keeps)) (same name)
+  task_kept keeps (Restore limit) file name five same at copy =
       at_name name file
       (elim ((restoring_run run.faults_before run.faults_after run.status run.input (run.old file) (run.now file) t out counted (λ done. silent (inl done)) at).kept keeps.0 keeps.1) [
         | inl held ↦ inl held
         | inr eight ↦ absurd (keeps.2 eight.0)
       ])
       (same name)
-  task_kept keeps (Backup more suffix) file name same at copy =
+  task_kept keeps (Backup more suffix) file name five same at copy =
       stopped_kept suffix run.old run.now _ (λ broken. elim broken.0 [ inl four ↦ keeps.1 four | inr eight ↦ keeps.2 eight ]) (file ∷ more)
       ((backup_run run.faults_before run.faults_after run.status suffix (file ∷ more) run.old run.now t out counted (λ done. silent (inr done)) at).stopped keeps.0) name (λ among. copy (more, suffix, file, refl, among)) (same name)
 
-  kept : KeepsAll run.status → (name : List ℕ) → (IsCopyName run.ask name → ⊥) → HeldOrUndone (run.old name) (run.now name)
-  kept keeps name copy = of run.ask left copy
+  task_kept keeps (Turns options) file name five same at copy = at_name name file (file_kept keeps (five refl) options file (run.old file) at) (same name)
+
+  kept : KeepsAll run.status → ((options : Options) (name : List ℕ) → run.ask ≡ Some (record { file = name; task = Turns options }) → run.status ≡ 5 → ⊥) → (name : List ℕ) → (IsCopyName run.ask name → ⊥) → HeldOrUndone (run.old name) (run.now name)
+  kept keeps other name copy = of run.ask left copy refl
     where
-      of : (ask : Option Ask) → Leaving run.input ask run.old t run.now → (IsCopyName ask name → ⊥) → HeldOrUndone (run.old name) (run.now name)
-      of None left copy = inl (left name)
-      of (Some a) left copy = task_kept keeps a.task a.file name left.0 left.1 copy
+      wants : (ask : Option Ask) (a : Ask) → run.ask ≡ ask → ask ≡ Some a → reads_turns a.task ≡ true → run.status ≡ 5 → ⊥
+      wants ask a same is turns = let (options, e) = turns_of a.task turns in other options a.file (same ∙ is ∙ ap (λ task. Some (record { file = a.file; task = task })) e)
+
+      of : (ask : Option Ask) → Leaving run.input ask run.old t run.now → (IsCopyName ask name → ⊥) → run.ask ≡ ask → HeldOrUndone (run.old name) (run.now name)
+      of None left copy is = inl (left name)
+      of (Some a) left copy is = task_kept keeps a.task a.file name (wants (Some a) a is refl) left.0 left.1 copy
 
   pub leaves_files : LeavesFiles run
   leaves_files = record {
@@ -548,11 +770,14 @@ module _ (run : Run) (t : Ending) (out : Exits run.status t) (counted : CountedB
     restored = restoring;
     backed_up = backing_up;
     read = λ look name asks. asked_left (Read look) name asks;
+    turned = turned;
+    unturned = λ options name asks none. subst (λ o. TurnsLeave options o t (run.now name)) none (asked_left (Turns options) name asks);
     kept = kept;
   }
 
 -- what a run's status tells whatever the files tell
-module _ (tells : Bool) (run : Run) (e t : Ending) (printed : PrintedFor e t) (prints : Printed tells run e) (counted : CountedBy run.faults_before run.faults_after t) (usage : t ≡ Usage → run.ask ≡ None) (usage_exact : run.ask ≡ None → (t ≡ Usage) ⊎ (t ≡ NoMemory))
+module _ (tells : Bool) (run : Run) (e t : Ending) (printed : PrintedFor e t) (prints : Printed tells run e) (failed : t ≡ DeviceFault → ((options : Options) (name : List ℕ) → run.ask ≡ Some (record { file = name; task = Turns options }) → ⊥) → Rose run.faults_before run.faults_after)
+    (sound : (t ≡ DeviceFault → ⊥) → run.faults_after ≡ run.faults_before) (usage : t ≡ Usage → run.ask ≡ None) (usage_exact : run.ask ≡ None → (t ≡ Usage) ⊎ (t ≡ NoMemory))
     (heard : HeardBy run.input.faults_before run.input.faults_after t) (unread : ask_reads run.ask ≡ false → of_input t ≡ false) where
   -- the ending that is printed is the one that was found, where it isn't want of memory
   found : (e ≡ NoMemory → ⊥) → t ≡ e
@@ -581,13 +806,13 @@ module _ (tells : Bool) (run : Run) (e t : Ending) (printed : PrintedFor e t) (p
       of (inr (inl want)) which = (1, omega arith, sym want.0)
       of (inr (inr eight)) which = (2, omega arith, sym eight)
 
-  fault_rose : run.status ≡ 4 → Rose run.faults_before run.faults_after
-  fault_rose is =
+  fault_rose : run.status ≡ 4 → ((options : Options) (name : List ℕ) → run.ask ≡ Some (record { file = name; task = Turns options }) → ⊥) → Rose run.faults_before run.faults_after
+  fault_rose is none =
       let same : e ≡ DeviceFault = fault_alone e (own_status 4 (λ x. absurd (omega (arith, x))) is) in
-      counted.failed (found (λ wants. let both : DeviceFault ≡ NoMemory = sym same ∙ wants in cc) ∙ same)
+      failed (found (λ wants. let both : DeviceFault ≡ NoMemory = sym same ∙ wants in cc) ∙ same) none
 
   fault_told : (run.status ≡ 4 → ⊥) → (run.status ≡ 8 → ⊥) → run.faults_after ≡ run.faults_before
-  fault_told four eight = counted.sound (λ is. elim (fault_exits run.faults_before run.faults_after run.status (subst (Exits run.status) is (exits tells run e t printed prints))) [
+  fault_told four eight = sound (λ is. elim (fault_exits run.faults_before run.faults_after run.status (subst (Exits run.status) is (exits tells run e t printed prints))) [
     | inl is ↦ four is
     | inr is ↦ eight is
   ])

@@ -1,11 +1,11 @@
--- The number of chains that a word writes is what its digits say.
+-- The number that a word writes is what its digits say.
 use Rattle.std.proofs.Common.{◌≡◌, ℕ, ◌≤◌, Bool, true, false, List, [], ◌∷◌, length, Option, None, Some, refl, sym, ◌∙◌, ap, arith}
 use Rattle.std.specs.Prelude.{◌&&◌, nat_lt, nat_le, IfSome}
 use Rattle.std.specs.Str.Parse.{AllDigits, IsNumeral, digits_value}
 use Rattle.std.specs.Char.{digit_value}
 use Rattle.std.proofs.lemmas.Bool.{and_parts, lt-ltb, ltb-true, le-leb, leb-true, false_from_ne_true}
-use Rattle.tdb_top.specs.declared.limits.TheConstants.{LONGEST_SIZE, MOST_CHAINS}
-use Rattle.tdb_top.specs.Words.{all_digits, is_numeral, is_size, size_of, IsSize}
+use Rattle.tdb_top.specs.declared.limits.TheConstants.{LONGEST_NUMBER}
+use Rattle.tdb_top.specs.Words.{all_digits, is_numeral, is_number, number_of, IsNumber}
 
 digits_are : (word : List ℕ) → all_digits word ≡ true → AllDigits 10 word
 digits_are [] is = tt
@@ -25,37 +25,38 @@ numeral_is word is =
 is_numeral_of : (word : List ℕ) → IsNumeral 10 word → is_numeral word ≡ true
 is_numeral_of word p = rw (lt-ltb 0 (length word) p.0) (are_digits word p.1)
 
-size_is : (word : List ℕ) → is_size word ≡ true → IsSize word (digits_value 10 word)
-size_is word is =
-    let value = digits_value 10 word in
-    let first = and_parts (is_numeral word) (nat_le (length word) LONGEST_SIZE && (nat_le 1 value && nat_le value MOST_CHAINS)) is in
-    let second = and_parts (nat_le (length word) LONGEST_SIZE) (nat_le 1 value && nat_le value MOST_CHAINS) first.1 in
-    let third = and_parts (nat_le 1 value) (nat_le value MOST_CHAINS) second.1 in
-    record {
-      numeral = numeral_is word first.0;
-      short = leb-true (length word) LONGEST_SIZE second.0;
-      value = refl;
-      least = leb-true 1 value third.0;
-      most = leb-true value MOST_CHAINS third.1;
-    }
-
 all_true : (a b c d : Bool) → a ≡ true → b ≡ true → c ≡ true → d ≡ true → (a && (b && (c && d))) ≡ true
 all_true a b c d p q r s = (λ j. p j && (q j && (r j && s j)))
 
-is_size_of : (word : List ℕ) (n : ℕ) → IsSize word n → is_size word ≡ true
-is_size_of word n p =
-    let value = digits_value 10 word in
-    let least : 1 ≤ value = omega (arith, p.value, p.least) in
-    let most : value ≤ MOST_CHAINS = omega (arith, p.value, p.most) in
-    all_true (is_numeral word) (nat_le (length word) LONGEST_SIZE) (nat_le 1 value) (nat_le value MOST_CHAINS)
-    (is_numeral_of word p.numeral) (le-leb (length word) LONGEST_SIZE p.short) (le-leb 1 value least) (le-leb value MOST_CHAINS most)
+module _ (least most : ℕ) where
+  number_is : (word : List ℕ) → is_number least most word ≡ true → IsNumber least most word (digits_value 10 word)
+  number_is word is =
+      let value = digits_value 10 word in
+      let first = and_parts (is_numeral word) (nat_le (length word) LONGEST_NUMBER && (nat_le least value && nat_le value most)) is in
+      let second = and_parts (nat_le (length word) LONGEST_NUMBER) (nat_le least value && nat_le value most) first.1 in
+      let third = and_parts (nat_le least value) (nat_le value most) second.1 in
+      record {
+        numeral = numeral_is word first.0;
+        short = leb-true (length word) LONGEST_NUMBER second.0;
+        value = refl;
+        no_less = leb-true least value third.0;
+        no_more = leb-true value most third.1;
+      }
 
-sized : (word : List ℕ) → is_size word ≡ true → size_of word ≡ Some (digits_value 10 word)
-sized word is = rw is refl
+  is_number_of : (word : List ℕ) (n : ℕ) → IsNumber least most word n → is_number least most word ≡ true
+  is_number_of word n p =
+      let value = digits_value 10 word in
+      let no_less : least ≤ value = omega (arith, p.value, p.no_less) in
+      let no_more : value ≤ most = omega (arith, p.value, p.no_more) in
+      all_true (is_numeral word) (nat_le (length word) LONGEST_NUMBER) (nat_le least value) (nat_le value most)
+      (is_numeral_of word p.numeral) (le-leb (length word) LONGEST_NUMBER p.short) (le-leb least value no_less) (le-leb value most no_more)
 
-unsized : (word : List ℕ) → is_size word ≡ false → size_of word ≡ None
-unsized word is = rw is refl
+  numbered : (word : List ℕ) → is_number least most word ≡ true → number_of least most word ≡ Some (digits_value 10 word)
+  numbered word is = rw is refl
 
-pub size_found : (word : List ℕ) (r : Option ℕ) → IfSome r (λ size. IsSize word size) → (r ≡ None → (size : ℕ) → IsSize word size → ⊥) → r ≡ size_of word
-size_found word None read refused = sym (unsized word (false_from_ne_true (is_size word) (λ is. refused refl (digits_value 10 word) (size_is word is))))
-size_found word (Some n) read refused = ap Some read.value ∙ sym (sized word (is_size_of word n read))
+  unnumbered : (word : List ℕ) → is_number least most word ≡ false → number_of least most word ≡ None
+  unnumbered word is = rw is refl
+
+  pub number_found : (word : List ℕ) (r : Option ℕ) → IfSome r (λ n. IsNumber least most word n) → (r ≡ None → (n : ℕ) → IsNumber least most word n → ⊥) → r ≡ number_of least most word
+  number_found word None read refused = sym (unnumbered word (false_from_ne_true (is_number least most word) (λ is. refused refl (digits_value 10 word) (number_is word is))))
+  number_found word (Some n) read refused = ap Some read.value ∙ sym (numbered word (is_number_of word n read))

@@ -1,22 +1,26 @@
 -- What a run has printed, from the text that was written first and what was written behind it.
-use Rattle.std.proofs.Common.{◌≡◌, ℕ, ◌+◌, true, false, List, [], ◌++◌, length, Option, None, Some, take, Result, Ok, Err, refl, sym, ◌∙◌, ap, subst, inl, inr}
+use Rattle.std.proofs.Common.{◌≡◌, ℕ, ◌+◌, true, false, List, [], ◌++◌, length, Option, None, Some, take, Result, Ok, Err, refl, sym, ◌∙◌, ap, subst, inl, inr, arith}
 use Rattle.std.specs.Prelude.{Bool, ◌&&◌, IsTrue}
-use Rattle.std.proofs.lemmas.Bool.{false≢true}
-use Rattle.std.proofs.lemmas.List.{append-nil, append_assoc}
-use Rattle.std.proofs.Math.Seq.{take-append-add}
+use Rattle.std.proofs.lemmas.Bool.{false≢true, cases_lt}
+use Rattle.std.proofs.lemmas.List.{append_assoc, take-append-le, take_all}
+use Rattle.std.proofs.Math.Seq.{take-append-add, take-append_seam}
 use Rattle.tdb_disk.specs.Count.{Rose, HasCause}
 use Rattle.tdb_disk.specs.History.{History}
-use Rattle.tdb_disk.specs.declared.sink.SinkFault.{SinkFault}
 use Rattle.tdb_top.specs.declared.ask.Task.{Task}
-use Rattle.tdb_top.specs.declared.ask.Task.TheVariants.{Create, On, Read, Restore, Backup}
+use Rattle.tdb_top.specs.declared.ask.Task.TheVariants.{Create, On, Read, Restore, Backup, Turns}
 use Rattle.tdb_top.specs.declared.ending.Ending.{Ending}
 use Rattle.tdb_top.specs.declared.ending.Ending.TheVariants.{Replied, Refused, Missing, There, Usage, DeviceFault, InputFault, Malformed, NoMemory}
+use Rattle.tdb_top.specs.declared.ending.Unprinted.{Unprinted}
+use Rattle.tdb_top.specs.declared.ending.Unprinted.TheVariants as Rest
 use Rattle.tdb_top.specs.declared.ending.Reply.{Reply}
 use Rattle.tdb_top.specs.declared.ending.Reply.TheVariants as R
 use Rattle.tdb_top.specs.declared.look.Look.TheVariants.{Dump, Value}
 use Rattle.tdb_top.specs.Ask.{Ask}
-use Rattle.tdb_top.specs.Ending.{TakesMemory, PrintedFor, output_by, text_of}
-use Rattle.tdb_top.specs.Looks.{StandsBefore, before_reply, ending_of, Began}
+use Rattle.tdb_top.specs.Ending.{TakesMemory, PrintedFor, text_of}
+use Rattle.tdb_top.specs.Output.{output_by}
+use Rattle.tdb_top.specs.Looks.{StandsBefore, before_reply, rest_of, ending_of, Began}
+use Rattle.tdb_top.specs.Commands.Turns.{TurnsText}
+use Rattle.tdb_world.specs.declared.options.Options.{Options}
 use Rattle.tdb_top.specs.Printed.{TaskText, TextBefore, task_tells, ask_tells, IsSilent, Finishes, Writes}
 
 -- before a line that takes memory stands nothing, so nothing stands before the line that tells of its want
@@ -27,6 +31,7 @@ reply_wanting text written (R.Escaped value) takes is = is
 reply_wanting text written R.Dumped takes is = absurd (false≢true takes)
 reply_wanting text written R.Restored takes is = is
 reply_wanting text written R.Copied takes is = is
+reply_wanting text written R.Played takes is = is
 reply_wanting text written (R.Number n) takes is = is
 reply_wanting text written R.KeyMissing takes is = is
 reply_wanting text written R.KeyThere takes is = is
@@ -43,11 +48,25 @@ stands_wanting text written InputFault takes stands = (0, stands)
 stands_wanting text written (Malformed at) takes stands = (0, stands)
 stands_wanting text written NoMemory takes stands = stands
 
+-- so of turns
+turns_wanting : (options : Options) (held : Option History) (written : List ℕ) (t : Ending) → TurnsText options held t written → TurnsText options held NoMemory written
+turns_wanting options None written t text = text
+turns_wanting options (Some h) written (Replied r) text = inr text
+turns_wanting options (Some h) written (Refused refusal) text = inl text
+turns_wanting options (Some h) written (Missing name) text = inl text
+turns_wanting options (Some h) written (There name) text = inl text
+turns_wanting options (Some h) written Usage text = inl text
+turns_wanting options (Some h) written DeviceFault text = text
+turns_wanting options (Some h) written InputFault text = inl text
+turns_wanting options (Some h) written (Malformed at) text = inl text
+turns_wanting options (Some h) written NoMemory text = text
+
 task_wanting : (task : Task) (held : Option History) (written : List ℕ) (t : Ending) → TakesMemory t → TaskText task held t written → TaskText task held NoMemory written
 task_wanting (On act) held written t takes text = text
 task_wanting (Create form) held written t takes text = text
 task_wanting (Restore limit) held written t takes text = text
 task_wanting (Backup more suffix) held written t takes text = text
+task_wanting (Turns options) held written t takes text = turns_wanting options held written t text
 task_wanting (Read (Value key)) held written t takes text = text
 task_wanting (Read Dump) None written t takes text = text
 task_wanting (Read Dump) (Some h) written t takes text = stands_wanting _ written t takes text
@@ -62,6 +81,8 @@ task_nothing (On act) held = refl
 task_nothing (Create form) held = refl
 task_nothing (Restore limit) held = refl
 task_nothing (Backup more suffix) held = refl
+task_nothing (Turns options) None = refl
+task_nothing (Turns options) (Some h) = inl refl
 task_nothing (Read (Value key)) held = refl
 task_nothing (Read Dump) None = refl
 task_nothing (Read Dump) (Some h) = (0, refl)
@@ -85,6 +106,7 @@ task_heard (On act) files output told = told
 task_heard (Create form) files output told = told
 task_heard (Restore limit) files output told = told
 task_heard (Backup more suffix) files output told = told
+task_heard (Turns options) files output told = and_left output files told
 task_heard (Read (Value key)) files output told = told
 task_heard (Read Dump) files output told = and_left output files told
 
@@ -97,16 +119,28 @@ silent_text : (e : Ending) → IsSilent e → text_of e ≡ []
 silent_text e (inl is) = ap text_of is
 silent_text e (inr is) = ap text_of is
 
-dumped_tells : IsSilent (Replied R.Dumped) → ⊥
-dumped_tells (inl is) = cc
-dumped_tells (inr is) = cc
+-- a front of a list is one of a longer list
+front_of_more : (xs ys : List ℕ) (n : ℕ) → (m : ℕ) × (take m (xs ++ ys) ≡ take n xs)
+front_of_more xs ys n = elim (cases_lt n (length xs)) [
+  | inl lt ↦ (n, take-append-le n xs ys (omega arith))
+  | inr le ↦ (length xs, take-append_seam xs ys ∙ sym (take_all n xs le))
+]
+
+-- what is left to be told is written
+rest_tells : (rest : Unprinted) → IsSilent (rest_of rest) → ⊥
+rest_tells Rest.Pairs (inl is) = cc
+rest_tells Rest.Pairs (inr is) = cc
+rest_tells Rest.Report (inl is) = cc
+rest_tells Rest.Report (inr is) = cc
+rest_tells Rest.Fault (inl is) = cc
+rest_tells Rest.Fault (inr is) = cc
 
 module _ (ask : Option Ask) (held : List ℕ → Option History) (files tells : Bool) (before mid after : List ℕ) (start middle last : ℕ) where
   abbrev Text : Ending → List ℕ → Type 0
   Text = TextBefore ask held
 
   -- the text, and then the line or a part of it; or a part of the text, where the output failed in it
-  pub written : (r : Result Ending SinkFault) (e : Ending) (status : ℕ) → PrintedFor e (ending_of r)
+  pub written : (r : Result Ending Unprinted) (e : Ending) (status : ℕ) → PrintedFor e (ending_of r)
       → (IsTrue (ask_tells ask files tells) → Began (TextBefore ask held) before mid r) → HasCause start middle r → Finishes r (output_by tells mid after middle last) e status
       → Writes (ask_tells ask files tells) (output_by tells before after start last) (TextBefore ask held) e status
   written (Ok found) e status printed began cause (inl all) = inl (record {
@@ -129,14 +163,15 @@ module _ (ask : Option Ask) (held : List ℕ → Option History) (files tells : 
         ));
   })
   written (Err fault) e status printed began cause done = inr (record {
-    writes = λ silent. dumped_tells (subst IsSilent done.0 silent);
+    writes = λ silent. rest_tells fault (subst IsSilent done.0 silent);
     exits = done.1;
     failed = subst (λ n. Rose start n) (sym done.3) cause.failed;
     written = λ told.
-        (let b = began told in (
+        (let b = began told in
+        let front = front_of_more b.0 (text_of e) b.2 in (
           b.0,
           subst (λ x. TextBefore ask held x b.0) (sym done.0) b.1,
-          b.2,
-          done.2 ∙ b.3 ∙ ap (λ x. before ++ take b.2 x) (sym (ap (λ x. b.0 ++ text_of x) done.0 ∙ append-nil b.0)),
+          front.0,
+          done.2 ∙ b.3 ∙ ap (λ x. before ++ x) (sym front.1),
         ));
   })

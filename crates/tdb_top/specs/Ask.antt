@@ -6,7 +6,7 @@ use Rattle.tdb_space.specs.Pairs.{same_key}
 use Rattle.tdb_top.specs.declared.act.Act.{Act}
 use Rattle.tdb_top.specs.declared.act.Act.TheVariants.{Show, Insert, Check}
 use Rattle.tdb_top.specs.declared.ask.Task.{Task}
-use Rattle.tdb_top.specs.declared.ask.Task.TheVariants.{Create, On, Read, Restore, Backup}
+use Rattle.tdb_top.specs.declared.ask.Task.TheVariants.{Create, On, Read, Restore, Backup, Turns}
 use Rattle.tdb_top.specs.declared.ask.Ask as C
 use Rattle.tdb_top.specs.Words.{is_position}
 use Rattle.tdb_top.specs.Commands.Show.{show_of}
@@ -15,6 +15,7 @@ use Rattle.tdb_top.specs.Commands.Insert.{insert_of}
 use Rattle.tdb_top.specs.Commands.Create.{create_of}
 use Rattle.tdb_top.specs.Commands.Backup.{BackupFits}
 use Rattle.tdb_top.specs.Commands.Dump.{dump_of_words, file_alone}
+use Rattle.tdb_top.specs.Commands.Turns.{turns_of_words}
 use Rattle.tdb_top.specs.declared.limits.TheConstants.{LONGEST_FILE}
 use Rattle.tdb_top.specs.Looks.{LookFits}
 
@@ -59,9 +60,19 @@ restore_asks words = option_map (λ file. record { file = file; task = Restore L
 abbrev pub backup_asks : List (List ℕ) → Option Ask
 backup_asks words = option_map (λ file. record { file = file; task = Backup [] (codes ".bak") }) (file_alone words)
 
+-- what the words behind `turns` ask for
+abbrev pub turns_asks : List (List ℕ) → Option Ask
+turns_asks words = option_map (λ found. record { file = found.0; task = Turns found.1 }) (turns_of_words words)
+
 -- the commands of the program, each by its name with what the words behind it ask for
 abbrev pub commands : List (List ℕ × (List (List ℕ) → Option Ask))
-commands = (codes "tool", tool_of) ∷ (codes "dump", dump_asks) ∷ (codes "restore", restore_asks) ∷ (codes "backup", backup_asks) ∷ []
+commands =
+    (codes "tool", tool_of)
+    ∷ (codes "dump", dump_asks)
+    ∷ (codes "restore", restore_asks)
+    ∷ (codes "backup", backup_asks)
+    ∷ (codes "turns", turns_asks)
+    ∷ []
 
 -- what the words of a command line ask for, those behind the program's name
 abbrev pub ask_of : List (List ℕ) → Option Ask
@@ -69,7 +80,7 @@ ask_of [] = None
 ask_of (program ∷ words) = option_and_then (λ read. read words) (lookup (same_key program) commands)
 
 -- the keys and the values of an act are short enough for a record, a file is made with some chain, one that is restored
--- may be no longer than the longest; the names of a backup are all different
+-- or over which turns are taken may be no longer than the longest; the names of a backup are all different
 abbrev pub ActFits : Act → Type 0
 ActFits (Show key) = length key < 2 ^ 32
 ActFits (Insert key value) = length key + length value < 2 ^ 32
@@ -81,3 +92,4 @@ TaskFits file (Read look) = LookFits look
 TaskFits file (Create form) = 0 < form.size
 TaskFits file (Restore limit) = limit ≤ 4294963200
 TaskFits file (Backup more suffix) = BackupFits suffix (file ∷ more)
+TaskFits file (Turns options) = options.limit ≤ 4294963200

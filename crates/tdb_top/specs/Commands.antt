@@ -6,3 +6,4 @@ pub mod Create
 pub mod Dump
 pub mod Restore
 pub mod Backup
+pub mod Turns

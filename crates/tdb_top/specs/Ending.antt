@@ -10,10 +10,10 @@ use Rattle.tdb_dump.specs.Line.{data_line}
 use Rattle.tdb_top.specs.declared.act.Act.{Act}
 use Rattle.tdb_top.specs.declared.look.Look.{Look}
 use Rattle.tdb_top.specs.declared.ask.Task.{Task}
-use Rattle.tdb_top.specs.declared.ask.Task.TheVariants.{Create, On, Read, Restore, Backup}
+use Rattle.tdb_top.specs.declared.ask.Task.TheVariants.{Create, On, Read, Restore, Backup, Turns}
 use Rattle.tdb_top.specs.declared.ending.Ending.{Ending}
 use Rattle.tdb_top.specs.declared.ending.Ending.TheVariants.{Replied, Refused, Missing, There, Usage, DeviceFault, InputFault, Malformed, NoMemory}
-use Rattle.tdb_top.specs.declared.ending.Reply.TheVariants.{Done, Value, Escaped, Dumped, Restored, Copied, KeyMissing, KeyThere, Full, Number}
+use Rattle.tdb_top.specs.declared.ending.Reply.TheVariants.{Done, Value, Escaped, Dumped, Restored, Copied, KeyMissing, KeyThere, Full, Number, Played}
 use Rattle.tdb_top.specs.declared.halt.Halt as H
 use Rattle.tdb_top.specs.declared.halt.Refusal.{Refusal}
 use Rattle.tdb_top.specs.declared.halt.Refusal.TheVariants.{TooLong, Header, Corrupt, NeedsRecovery}
@@ -21,6 +21,7 @@ use Rattle.tdb_top.specs.declared.commands.create.Creation as Making
 use Rattle.tdb_top.specs.Ask.{Ask}
 use Rattle.tdb_top.specs.Acts.{reply_of}
 use Rattle.tdb_top.specs.Looks.{look_reply}
+use Rattle.tdb_top.specs.Output.{Output}
 use Rattle.tdb_top.specs.Opening.{opened_bytes, CanOpen, IsRefused, CanRead, IsRefusedToRead}
 
 -- What a run says: the status that it exits with, and the line that it prints, if any, without the newline. A line that
@@ -48,6 +49,7 @@ answer (Replied (Escaped value)) = tells 0 (escaped value)
 answer (Replied Dumped) = exits 0
 answer (Replied Restored) = exits 0
 answer (Replied Copied) = exits 0
+answer (Replied Played) = exits 0
 answer (Replied (Number n)) = tells 0 (codes "number " ++ decimal n)
 answer (Replied KeyMissing) = says 1 (codes "noexist")
 answer (Replied KeyThere) = says 1 (codes "exists")
@@ -106,7 +108,7 @@ pub record RefusesToRead (img : List ℕ) (e : Ending) : Type 0 where
 
 -- How a task on the file of this name ends, by what is held there, where no call failed and memory sufficed. An act and
 -- a look are on a file that is there; a file is made where none is. How a restore ends where no file is depends on its
--- input, and how a backup ends on all its files (`BackupEnds`), so neither is due to what is held at one name.
+-- input, as turns do, and how a backup ends on all its files (`BackupEnds`), so none is due to what is held at one name.
 abbrev pub TaskDue : Task → List ℕ → Option History → Ending → Type 0
 TaskDue (On act) name None e = e ≡ Missing name
 TaskDue (On act) name (Some h) e = Replies act (seen h) e ⊎ Refuses (seen h) e
@@ -117,6 +119,7 @@ TaskDue (Create form) name (Some h) e = e ≡ There name
 TaskDue (Restore limit) name None e = ⊥
 TaskDue (Restore limit) name (Some h) e = e ≡ There name
 TaskDue (Backup more suffix) name held e = ⊥
+TaskDue (Turns options) name held e = ⊥
 
 -- how a run ends that is asked for this, or for nothing, by what is held at each name
 abbrev pub Due : Option Ask → (List ℕ → Option History) → Ending → Type 0
@@ -134,6 +137,26 @@ pub record CountedBy (before after : ℕ) (e : Ending) : Type 0 where
   pub never_falls : before ≤ after
   pub failed : e ≡ DeviceFault → Rose before after
   pub sound : (e ≡ DeviceFault → ⊥) → after ≡ before
+
+-- The same of turns: where the files don't tell what they hold, a check of one that another program wrote to may find a
+-- fault, and ends them as a failed call does.
+pub record CountedIf (tells : Bool) (before after : ℕ) (e : Ending) : Type 0 where
+  pub never_falls : before ≤ after
+  pub failed : e ≡ DeviceFault → IsTrue tells → Rose before after
+  pub sound : (e ≡ DeviceFault → ⊥) → after ≡ before
+
+-- and of a run that is asked for this, or for nothing
+abbrev pub CountedFor : Bool → Task → ℕ → ℕ → Ending → Type 0
+CountedFor tells (On act) before after e = CountedBy before after e
+CountedFor tells (Read look) before after e = CountedBy before after e
+CountedFor tells (Create form) before after e = CountedBy before after e
+CountedFor tells (Restore limit) before after e = CountedBy before after e
+CountedFor tells (Backup more suffix) before after e = CountedBy before after e
+CountedFor tells (Turns options) before after e = CountedIf tells before after e
+
+abbrev pub CountedAsked : Bool → Option Ask → ℕ → ℕ → Ending → Type 0
+CountedAsked tells None before after e = CountedBy before after e
+CountedAsked tells (Some ask) before after e = CountedFor tells ask.task before after e
 
 -- the ending of a look into a file that halted
 abbrev pub of_halt : H.Halt → Ending
@@ -154,18 +177,6 @@ MadeSo name Making.TheVariants.Made e = e ≡ Replied Done
 MadeSo name Making.TheVariants.There e = (e ≡ There name) ⊎ (e ≡ NoMemory)
 MadeSo name Making.TheVariants.Device e = e ≡ DeviceFault
 MadeSo name Making.TheVariants.Memory e = e ≡ NoMemory
-
--- what an output holds before and after, where it tells, and how often its calls had failed
-pub record Output : Type 0 where
-  pub tells : Bool
-  pub before : List ℕ
-  pub after : List ℕ
-  pub faults_before : ℕ
-  pub faults_after : ℕ
-
--- what an output took, from what it held before and after
-abbrev pub output_by : Bool → List ℕ → List ℕ → ℕ → ℕ → Output
-output_by tells before after faults_before faults_after = record { tells = tells; before = before; after = after; faults_before = faults_before; faults_after = faults_after }
 
 -- the output took the whole line
 pub record PrintsAll (o : Output) (e : Ending) (status : ℕ) : Type 0 where

@@ -3,7 +3,7 @@ use Rattle.std.specs.Prelude.{◌≡◌, ◌⊎◌, ℕ, IsTrue, IsSome, Option,
 use Rattle.tdb_disk.specs.History.{History, seen}
 use Rattle.tdb_top.specs.declared.act.Act.{Act}
 use Rattle.tdb_top.specs.declared.ask.Task.{Task}
-use Rattle.tdb_top.specs.declared.ask.Task.TheVariants.{Create, On, Read, Restore, Backup}
+use Rattle.tdb_top.specs.declared.ask.Task.TheVariants.{Create, On, Read, Restore, Backup, Turns}
 use Rattle.tdb_top.specs.declared.ending.Ending.{Ending}
 use Rattle.tdb_top.specs.declared.ending.Ending.TheVariants.{Replied, Refused, Missing, There, Usage, DeviceFault, InputFault, Malformed, NoMemory}
 use Rattle.tdb_top.specs.declared.ending.Reply.TheVariants.{Done, Restored}
@@ -14,6 +14,7 @@ use Rattle.tdb_top.specs.Ask.{Ask}
 use Rattle.tdb_top.specs.Commands.Backup.{IsNameAmong, BackupLeaves}
 use Rattle.tdb_top.specs.Commands.Create.{CreateLeaves}
 use Rattle.tdb_top.specs.Commands.Restore.{IsRestored}
+use Rattle.tdb_top.specs.Commands.Turns.{TurnsLeave}
 use Rattle.tdb_top.specs.Ending.{status_of}
 use Rattle.tdb_top.specs.Input.{Input}
 use Rattle.tdb_top.specs.Opening.{opened_bytes, SameOrUndone, UndoneIfOpen}
@@ -65,6 +66,7 @@ TaskLeaves input (Read look) file old e now = now file ≡ old file
 TaskLeaves input (Create form) file old e now = MakingLeaves form (old file) e (now file)
 TaskLeaves input (Restore limit) file old e now = RestoreLeaves input (old file) e (now file)
 TaskLeaves input (Backup more suffix) file old e now = BackupLeaves suffix (file ∷ more) old e now
+TaskLeaves input (Turns options) file old e now = TurnsLeave options (old file) e (now file)
 
 -- a task on the file of this name may change what is held at that name: there alone, or at all names of a backup
 abbrev pub MayChange : Task → List ℕ → List ℕ → Type 0
@@ -72,6 +74,7 @@ MayChange (On act) file name = name ≡ file
 MayChange (Read look) file name = name ≡ file
 MayChange (Create form) file name = name ≡ file
 MayChange (Restore limit) file name = name ≡ file
+MayChange (Turns options) file name = name ≡ file
 MayChange (Backup more suffix) file name = IsNameAmong suffix (file ∷ more) name
 
 -- nothing changed at any other name

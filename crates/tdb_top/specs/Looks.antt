@@ -1,13 +1,14 @@
 -- What the commands do that read a file alone: what each replies, and what it prints before that.
 use Rattle.std.specs.Prelude.{◌≡◌, ◌++◌, ℕ, ◌<◌, ◌^◌, Bool, ◌&&◌, Option, None, Some, List, [], length, take, Result, Ok, Err}
 use Rattle.tdb_disk.specs.History.{History, seen}
-use Rattle.tdb_disk.specs.declared.sink.SinkFault.{SinkFault}
 use Rattle.tdb_top.specs.declared.look.Look.{Look}
 use Rattle.tdb_top.specs.declared.look.Look.TheVariants.{Dump, Value}
 use Rattle.tdb_top.specs.declared.ending.Ending.{Ending}
 use Rattle.tdb_top.specs.declared.ending.Ending.TheVariants.{Replied, Refused, Missing, There, Usage, DeviceFault, InputFault, Malformed, NoMemory}
+use Rattle.tdb_top.specs.declared.ending.Unprinted.{Unprinted}
+use Rattle.tdb_top.specs.declared.ending.Unprinted.TheVariants as Rest
 use Rattle.tdb_top.specs.declared.ending.Reply.{Reply}
-use Rattle.tdb_top.specs.declared.ending.Reply.TheVariants.{Dumped}
+use Rattle.tdb_top.specs.declared.ending.Reply.TheVariants.{Dumped, Played}
 use Rattle.tdb_top.specs.Opening.{CanRead, IsRefusedToRead}
 use Rattle.tdb_top.specs.Commands.Dump.{value_reply, pairs_text}
 
@@ -58,13 +59,19 @@ abbrev pub look_tells : Look → Bool → Bool → Bool
 look_tells Dump files output = output && files
 look_tells (Value key) files output = output
 
--- how it ended that wrote to the output: where the output failed, all else was to be printed
-abbrev pub ending_of : Result Ending SinkFault → Ending
+-- what was left to be told where the output failed: that all was printed, or that a call of a disk failed
+abbrev pub rest_of : Unprinted → Ending
+rest_of Rest.Pairs = Replied Dumped
+rest_of Rest.Report = Replied Played
+rest_of Rest.Fault = DeviceFault
+
+-- how it ended that wrote to the output
+abbrev pub ending_of : Result Ending Unprinted → Ending
 ending_of (Ok e) = e
-ending_of (Err fault) = Replied Dumped
+ending_of (Err unprinted) = rest_of unprinted
 
 -- What was written before the line of an ending, behind what was there; where the output failed, a part of it, from the
 -- first byte on.
-abbrev pub Began : (Ending → List ℕ → Type 0) → List ℕ → List ℕ → Result Ending SinkFault → Type 0
+abbrev pub Began : (Ending → List ℕ → Type 0) → List ℕ → List ℕ → Result Ending Unprinted → Type 0
 Began Text before now (Ok e) = (text : List ℕ) × Text e text × (now ≡ before ++ text)
-Began Text before now (Err fault) = (text : List ℕ) × Text (Replied Dumped) text × (n : ℕ) × (now ≡ before ++ take n text)
+Began Text before now (Err unprinted) = (text : List ℕ) × Text (rest_of unprinted) text × (n : ℕ) × (now ≡ before ++ take n text)

@@ -1,38 +1,43 @@
 -- What a run prints: a text of its command, if that has one, and the line of its ending behind it.
-use Rattle.std.specs.Prelude.{◌≡◌, ◌⊎◌, ℕ, Bool, IsTrue, Option, None, Some, List, [], ◌++◌, take, Result, Ok, Err}
+use Rattle.std.specs.Prelude.{◌≡◌, ◌⊎◌, ℕ, Bool, ◌&&◌, IsTrue, Option, None, Some, List, [], ◌++◌, take, Result, Ok, Err}
 use Rattle.tdb_disk.specs.Count.{Rose}
 use Rattle.tdb_disk.specs.History.{History}
-use Rattle.tdb_disk.specs.declared.sink.SinkFault.{SinkFault}
+use Rattle.tdb_top.specs.declared.ending.Unprinted.{Unprinted}
 use Rattle.tdb_top.specs.declared.ask.Task.{Task}
-use Rattle.tdb_top.specs.declared.ask.Task.TheVariants.{Create, On, Read, Restore, Backup}
+use Rattle.tdb_top.specs.declared.ask.Task.TheVariants.{Create, On, Read, Restore, Backup, Turns}
 use Rattle.tdb_top.specs.declared.ending.Ending.{Ending}
 use Rattle.tdb_top.specs.declared.ending.Ending.TheVariants.{Replied}
-use Rattle.tdb_top.specs.declared.ending.Reply.TheVariants.{Dumped, Restored, Copied}
+use Rattle.tdb_top.specs.declared.ending.Reply.TheVariants.{Restored, Copied}
 use Rattle.tdb_top.specs.Ask.{Ask}
-use Rattle.tdb_top.specs.Ending.{Output, Prints, status_of, text_of}
-use Rattle.tdb_top.specs.Looks.{LookText, look_tells}
+use Rattle.tdb_top.specs.Ending.{Prints, status_of, text_of}
+use Rattle.tdb_top.specs.Output.{Output}
+use Rattle.tdb_top.specs.Commands.Turns.{TurnsText}
+use Rattle.tdb_top.specs.Looks.{LookText, look_tells, rest_of}
 
--- what a task prints before the line of its ending, by what is held at the name of its file; looks alone print such a text
+-- what a task prints before the line of its ending, by what is held at the name of its file; looks and turns print such a
+-- text
 abbrev pub TaskText : Task → Option History → Ending → List ℕ → Type 0
 TaskText (On act) held e text = text ≡ []
 TaskText (Read look) held e text = LookText look held e text
 TaskText (Create form) held e text = text ≡ []
 TaskText (Restore limit) held e text = text ≡ []
 TaskText (Backup more suffix) held e text = text ≡ []
+TaskText (Turns options) held e text = TurnsText options held e text
 
 -- what a run prints before the line of its ending that is asked for this, or for nothing
 abbrev pub TextBefore : Option Ask → (List ℕ → Option History) → Ending → List ℕ → Type 0
 TextBefore None held e text = text ≡ []
 TextBefore (Some ask) held e text = TaskText ask.task (held ask.file) e text
 
--- whether it is told what a task prints, by whether the files and the output tell; where a file's pairs are printed the
--- files have to tell too
+-- whether it is told what a task prints, by whether the files and the output tell; where a file's pairs or a report of
+-- it are printed the files have to tell too
 abbrev pub task_tells : Task → Bool → Bool → Bool
 task_tells (On act) files output = output
 task_tells (Read look) files output = look_tells look files output
 task_tells (Create form) files output = output
 task_tells (Restore limit) files output = output
 task_tells (Backup more suffix) files output = output
+task_tells (Turns options) files output = output && files
 
 abbrev pub ask_tells : Option Ask → Bool → Bool → Bool
 ask_tells None files output = output
@@ -60,6 +65,6 @@ Writes told o Text e status = WritesAll told o Text e status ⊎ WritesPart told
 
 -- How a run goes on behind the text: the output takes the line of an ending or a part of it; where it failed in the text,
 -- nothing more is written, and the status is 8.
-abbrev pub Finishes : Result Ending SinkFault → Output → Ending → ℕ → Type 0
+abbrev pub Finishes : Result Ending Unprinted → Output → Ending → ℕ → Type 0
 Finishes (Ok found) o e status = Prints o e status
-Finishes (Err fault) o e status = (e ≡ Replied Dumped) × (status ≡ 8) × (o.after ≡ o.before) × (o.faults_after ≡ o.faults_before)
+Finishes (Err unprinted) o e status = (e ≡ rest_of unprinted) × (status ≡ 8) × (o.after ≡ o.before) × (o.faults_after ≡ o.faults_before)

@@ -2,21 +2,24 @@
 use Rattle.std.specs.Prelude.{◌≡◌, ◌⊎◌, ℕ, Bool, true, false, Option, None, Some, List, ◌∷◌}
 use Rattle.tdb_disk.specs.History.{History}
 use Rattle.tdb_top.specs.declared.ask.Task.{Task}
-use Rattle.tdb_top.specs.declared.ask.Task.TheVariants.{Create, On, Read, Restore, Backup}
+use Rattle.tdb_top.specs.declared.ask.Task.TheVariants.{Create, On, Read, Restore, Backup, Turns}
 use Rattle.tdb_top.specs.declared.ending.Ending.{Ending}
 use Rattle.tdb_top.specs.Ask.{Ask}
 use Rattle.tdb_top.specs.Commands.Backup.{BackupEnds}
 use Rattle.tdb_top.specs.Commands.Restore.{ReadSo}
+use Rattle.tdb_top.specs.Commands.Turns.{PlaysSo}
+use Rattle.tdb_world.specs.declared.options.Options.{Options}
 use Rattle.tdb_top.specs.Ending.{TaskCause}
 use Rattle.tdb_top.specs.Input.{Input}
 
--- whether a task reads the input: a restore alone does
+-- whether a task reads the input: a restore and turns do
 abbrev pub reads_input : Task → Bool
 reads_input (On act) = false
 reads_input (Read look) = false
 reads_input (Create form) = false
 reads_input (Restore limit) = true
 reads_input (Backup more suffix) = false
+reads_input (Turns options) = true
 
 abbrev pub ask_reads : Option Ask → Bool
 ask_reads None = false
@@ -29,9 +32,15 @@ pub record EndsByInput (input : Input) (task : Task) (held : Option History) (e 
   pub none : held ≡ None
   pub read : ReadSo input limit e
 
+-- the task is turns, and it ends so by its script and its file
+pub record EndsByPlays (input : Input) (task : Task) (name : List ℕ) (held : Option History) (e : Ending) : Type 0 where
+  pub options : Options
+  pub turns : task ≡ Turns options
+  pub why : PlaysSo input options name held e
+
 -- why a task ends so, by what is held at its name, by the input, and by how often the files had failed before and after
 abbrev pub AskCause : Input → Task → List ℕ → Option History → ℕ → ℕ → Ending → Type 0
-AskCause input task name held before after e = TaskCause task name held before after e ⊎ EndsByInput input task held e
+AskCause input task name held before after e = TaskCause task name held before after e ⊎ EndsByInput input task held e ⊎ EndsByPlays input task name held e
 
 -- the task is a backup, and ends so by what is held at the names of its files
 pub record EndsByFiles (task : Task) (name : List ℕ) (held : List ℕ → Option History) (e : Ending) : Type 0 where

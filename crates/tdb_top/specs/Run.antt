@@ -7,7 +7,7 @@ use Rattle.tdb_disk.specs.History.{History, seen}
 use Rattle.tdb_space.specs.Opening.{Opens}
 use Rattle.tdb_top.specs.declared.act.Act.{Act}
 use Rattle.tdb_top.specs.declared.look.Look.{Look}
-use Rattle.tdb_top.specs.declared.ask.Task.TheVariants.{Create, On, Read, Restore, Backup}
+use Rattle.tdb_top.specs.declared.ask.Task.TheVariants.{Create, On, Read, Restore, Backup, Turns}
 use Rattle.tdb_top.specs.declared.commands.create.NewForm.{NewForm}
 use Rattle.tdb_top.specs.declared.commands.create.Creation.TheVariants.{Made, Device}
 use Rattle.tdb_top.specs.declared.ending.Ending.{Ending}
@@ -15,11 +15,14 @@ use Rattle.tdb_top.specs.declared.ending.Ending.TheVariants.{Replied, DeviceFaul
 use Rattle.tdb_top.specs.declared.limits.TheConstants.{LONGEST_FILE}
 use Rattle.tdb_top.specs.Ask.{Ask, ask_of}
 use Rattle.tdb_top.specs.Acts.{reply_of, Left, Interrupted}
-use Rattle.tdb_top.specs.Ending.{Due, status_of, Output}
+use Rattle.tdb_top.specs.Ending.{Due, status_of}
+use Rattle.tdb_top.specs.Output.{Output}
 use Rattle.tdb_top.specs.Printed.{TextBefore, ask_tells, Writes}
 use Rattle.tdb_top.specs.Commands.Backup.{IsForCopyAmong, CopiedAll, StoppedAt, BackupEnds}
 use Rattle.tdb_top.specs.Commands.Create.{CreateLeaves}
 use Rattle.tdb_top.specs.Commands.Restore.{ReadSo}
+use Rattle.tdb_top.specs.Commands.Turns.{PlaysSo, TurnOpened, IsPlayed, IsPlayedSoFar}
+use Rattle.tdb_world.specs.declared.options.Options.{Options}
 use Rattle.tdb_top.specs.Input.{Input}
 use Rattle.tdb_top.specs.Left.{HasRestored, MayChange}
 use Rattle.tdb_top.specs.Reads.{ask_reads}
@@ -50,12 +53,13 @@ run_by words old now before after input output status = record {
 }
 
 -- Why a run ends so that is asked for this, or for nothing: it is due; or a restore was asked for, no file was at its
--- name, and its input says so; or a backup was, and its files say so; or it is asked for something and a call failed; or
--- memory was wanting.
+-- name, and its input says so; or a backup was, and its files say so; or turns were, and their script and their file say so;
+-- or it is asked for something and a call failed; or memory was wanting.
 pub data MayEnd (ask : Option Ask) (held : List ℕ → Option History) (input : Input) (before after : ℕ) : Ending → Type 0 where
   is_due : (e : Ending) → Due ask held e → MayEnd ask held input before after e
   is_read : (e : Ending) (limit : ℕ) (name : List ℕ) → ask ≡ Some (record { file = name; task = Restore limit }) → held name ≡ None → ReadSo input limit e → MayEnd ask held input before after e
   is_copied : (e : Ending) (more : List (List ℕ)) (suffix name : List ℕ) → ask ≡ Some (record { file = name; task = Backup more suffix }) → BackupEnds (name ∷ more) held e → MayEnd ask held input before after e
+  is_played : (e : Ending) (options : Options) (name : List ℕ) → ask ≡ Some (record { file = name; task = Turns options }) → PlaysSo input options name (held name) e → MayEnd ask held input before after e
   call_failed : (a : Ask) → ask ≡ Some a → Rose before after → MayEnd ask held input before after DeviceFault
   memory_wanting : MayEnd ask held input before after NoMemory
 
@@ -129,6 +133,16 @@ pub record BackupRun (suffix : List ℕ) (files : List (List ℕ)) (old : List �
   pub done : status ≡ 0 → CopiedAll suffix files old now
   pub stopped : status ≢ 0 → StoppedAt (((status ≡ 4) ⊎ (status ≡ 8)) × Rose before after) suffix files old now
 
+-- What a run leaves of the file of turns, which held this. Want of memory, status 5, may come before the file was opened or
+-- in the midst of the plays.
+pub record TurnsRun (options : Options) (input : Input) (output : Output) (old : History) (before after status : ℕ) (now : History) : Type 0 where
+  pub any : SameOrUndone old now ⊎ IsPlayedSoFar options old now ⊎ Rose before after
+  pub done : status ≡ 0 → IsPlayed options input output old now
+  pub failed : status ≡ 4 → Rose before after
+  pub wanting : status ≡ 5 → SameOrUndone old now ⊎ IsPlayedSoFar options old now
+  pub unread : status ≡ 7 → now ≡ old
+  pub kept : KeepsAll status → status ≢ 5 → status ≢ 7 → TurnOpened options old now
+
 -- a name is one for a copy, where a backup is asked for
 abbrev pub IsCopyName : Option Ask → List ℕ → Type 0
 IsCopyName ask name = (more : List (List ℕ)) × (suffix : List ℕ) × (file : List ℕ) × (ask ≡ Some (record { file = file; task = Backup more suffix })) × IsForCopyAmong suffix (file ∷ more) name
@@ -146,15 +160,20 @@ pub record LeavesFiles (run : Run) : Type 0 where
   pub backed_up : (more : List (List ℕ)) (suffix name : List ℕ) → run.ask ≡ Some (record { file = name; task = Backup more suffix })
       → BackupRun suffix (name ∷ more) run.old run.faults_before run.faults_after run.status run.now
   pub read : (look : Look) (name : List ℕ) → run.ask ≡ Some (record { file = name; task = Read look }) → run.now name ≡ run.old name
-  pub kept : KeepsAll run.status → (name : List ℕ) → (IsCopyName run.ask name → ⊥) → HeldOrUndone (run.old name) (run.now name)
+  pub turned : (options : Options) (name : List ℕ) (old : History) → run.ask ≡ Some (record { file = name; task = Turns options }) → run.old name ≡ Some old
+      → (h : History) × (run.now name ≡ Some h) × TurnsRun options run.input run.output old run.faults_before run.faults_after run.status h
+  pub unturned : (options : Options) (name : List ℕ) → run.ask ≡ Some (record { file = name; task = Turns options }) → run.old name ≡ None → run.now name ≡ None
+  pub kept : KeepsAll run.status → ((options : Options) (name : List ℕ) → run.ask ≡ Some (record { file = name; task = Turns options }) → run.status ≢ 5)
+      → (name : List ℕ) → (IsCopyName run.ask name → ⊥) → HeldOrUndone (run.old name) (run.now name)
 
 -- What a status tells whatever the files and the output tell of what they hold: the usage is answered exactly where the
 -- words ask for nothing, unless memory was wanting or the output failed; and a failed call is told, unless the output
--- failed too. Only a restore tells of the input, of which a failed read is told unless a call of the files failed too.
+-- failed too. Turns may end as a failed call ends them where another program wrote to their file (`CountedIf`). Only a
+-- restore and turns tell of the input, of which a failed read is told unless a call of the files failed too.
 pub record Accounted (run : Run) : Type 0 where
   pub usage : run.status ≡ 2 → run.ask ≡ None
   pub usage_exact : run.ask ≡ None → Contains (2 ∷ 5 ∷ 8 ∷ []) run.status
-  pub device_fault : run.status ≡ 4 → Rose run.faults_before run.faults_after
+  pub device_fault : run.status ≡ 4 → ((options : Options) (name : List ℕ) → run.ask ≢ Some (record { file = name; task = Turns options })) → Rose run.faults_before run.faults_after
   pub device_fault_told : run.status ≢ 4 → run.status ≢ 8 → run.faults_after ≡ run.faults_before
   pub output_fault : run.status ≡ 8 → Rose run.output.faults_before run.output.faults_after ⊎ (IsTrue (ask_reads run.ask) × Rose run.input.faults_before run.input.faults_after)
   pub malformed : run.status ≡ 7 → IsTrue (ask_reads run.ask)

@@ -5,7 +5,7 @@ use Rattle.std.specs.Str.Parse.{IsNumeral, digits_value}
 use Rattle.std.specs.Char.{digit_value}
 use Rattle.tdb_dump.specs.Escape.{hex_value}
 use Rattle.tdb_space.specs.Pairs.{same_key}
-use Rattle.tdb_top.specs.declared.limits.TheConstants.{LONGEST_WORD, LONGEST_SIZE, MOST_CHAINS}
+use Rattle.tdb_top.specs.declared.limits.TheConstants.{LONGEST_FILE, LONGEST_WORD, LONGEST_NUMBER, MOST_CHAINS}
 
 -- a word that isn't an option, and not too long: the first byte isn't `-`
 abbrev pub is_position : List ℕ → Bool
@@ -56,21 +56,29 @@ all_digits (c ∷ cs) = nat_lt (digit_value c) 10 && all_digits cs
 abbrev pub is_numeral : List ℕ → Bool
 is_numeral word = nat_lt 0 (length word) && all_digits word
 
--- a word of one to ten decimal digits, which write this number of chains, from 1 to the greatest
-pub record IsSize (word : List ℕ) (size : ℕ) : Type 0 where
+-- a word of one to ten decimal digits, which write this number, from the least to the most that is allowed
+pub record IsNumber (least most : ℕ) (word : List ℕ) (n : ℕ) : Type 0 where
   pub numeral : IsNumeral 10 word
-  pub short : length word ≤ LONGEST_SIZE
-  pub value : size ≡ digits_value 10 word
-  pub least : 1 ≤ size
-  pub most : size ≤ MOST_CHAINS
+  pub short : length word ≤ LONGEST_NUMBER
+  pub value : n ≡ digits_value 10 word
+  pub no_less : least ≤ n
+  pub no_more : n ≤ most
 
--- whether a word is such one, and the number of chains that it writes
-abbrev pub is_size : List ℕ → Bool
-is_size word =
-    is_numeral word && (nat_le (length word) LONGEST_SIZE && (nat_le 1 (digits_value 10 word) && nat_le (digits_value 10 word) MOST_CHAINS))
+-- whether a word is such one, and the number that it writes
+abbrev pub is_number : ℕ → ℕ → List ℕ → Bool
+is_number least most word =
+    is_numeral word && (nat_le (length word) LONGEST_NUMBER && (nat_le least (digits_value 10 word) && nat_le (digits_value 10 word) most))
 
+abbrev pub number_of : ℕ → ℕ → List ℕ → Option ℕ
+number_of least most word = if is_number least most word then Some (digits_value 10 word) else None
+
+-- a number of chains
 abbrev pub size_of : List ℕ → Option ℕ
-size_of word = if is_size word then Some (digits_value 10 word) else None
+size_of word = number_of 1 MOST_CHAINS word
+
+-- the length that a file may have at most: that of a new file of 131 chains, or more
+abbrev pub limit_of : List ℕ → Option ℕ
+limit_of word = number_of 696 LONGEST_FILE word
 
 -- what the one word of a list stands for, or its two words together; nothing where there are more or fewer
 abbrev pub of_one : {A B : Type 0} → (A → Option B) → List A → Option B

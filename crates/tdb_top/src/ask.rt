@@ -3,12 +3,16 @@
 ghost use Rattle.std.specs.Prelude.{◌≡◌, ℕ, List, false, map, string_bytes, IsTrue, IfOk, IfSome};
 ghost use Rattle.std.specs.Option.{option_map};
 ghost use Rattle.tdb_disk.specs.Count.{HasCause};
-ghost use Rattle.tdb_top.specs.declared.ask.Task.TheVariants.{On as OnIs};
-ghost use Rattle.tdb_top.specs.declared.ending.Ending.TheVariants.{Usage};
-ghost use Rattle.tdb_top.specs.Ask.{asked, ask_of, dump_asks, restore_asks, backup_asks, tool_of as tool_asks, task_of as task_asked, TaskFits};
+ghost use Rattle.tdb_top.specs.declared.ask.Task.TheVariants.{On as OnIs, Turns as TurnsIs};
+ghost use Rattle.tdb_top.specs.declared.ending.Ending.TheVariants.{Replied, Usage};
+ghost use Rattle.tdb_top.specs.declared.ending.Reply.TheVariants.{Played};
+ghost use Rattle.tdb_world.specs.declared.options.Options.{Options as WorldOptions};
+ghost use Rattle.tdb_top.specs.Ask.{asked, ask_of, dump_asks, restore_asks, backup_asks, turns_asks, tool_of as tool_asks, task_of as task_asked, TaskFits};
 ghost use Rattle.tdb_top.specs.Commands.Restore.{HeardBy, of_input};
-ghost use Rattle.tdb_top.specs.Ending.{CountedBy};
+ghost use Rattle.tdb_top.specs.Commands.Turns.{AllPlayed};
+ghost use Rattle.tdb_top.specs.Ending.{CountedFor};
 ghost use Rattle.tdb_top.specs.Input.{input_by};
+ghost use Rattle.tdb_top.specs.Output.{output_by};
 ghost use Rattle.tdb_top.specs.Reads.{AskEnds, reads_input};
 ghost use Rattle.tdb_top.specs.Left.{TaskLeaves, SameElse};
 ghost use Rattle.tdb_top.specs.Looks.{ending_of, Began};
@@ -18,14 +22,16 @@ use crate::act::Act;
 use crate::commands::backup::back_up;
 use crate::commands::create::{NewForm, create_file};
 use crate::commands::restore::restore_file;
-use crate::commands::{check, create, dump, insert, show};
-use crate::ending::Ending;
+use crate::commands::turns::turns_on_file;
+use crate::commands::{check, create, dump, insert, show, turns};
+use crate::ending::{Ending, Unprinted};
 use crate::limits::LONGEST_FILE;
 use crate::look::Look;
 use crate::names::{Names, Text};
 use crate::words::is_position;
 use std::alloc::{AllocError, Global};
-use tdb_disk::{Files, Sink, SinkFault, Source};
+use tdb_disk::{Files, Sink, Source};
+use tdb_world::Options;
 
 /// What is to be done with a file.
 #[derive(Debug, Drop)]
@@ -44,6 +50,9 @@ pub(crate) enum Task {
 
     /// To copy it and more files, each to its name and a suffix.
     Backup { more: Names, suffix: Text },
+
+    /// To take the plays of the script on the input over it, which is opened so.
+    Turns(Options),
 }
 
 /// What a command line asks for.
@@ -148,6 +157,19 @@ impl Ask {
         Ok(Some(Ask { file, task }))
     }
 
+    /// What the words behind `turns` ask for.
+    fn of_turns(alloc: Global, words: &[String]) -> Result<Option<Ask>, AllocError>
+        ensures read { IfOk result (λ ask. option_map asked ask ≡ turns_asks (map string_bytes words.now)) }
+        ensures fits { IfOk result (λ ask. IfSome ask (λ a. TaskFits (string_bytes a.file) a.task)) }
+    {
+        let Some(line) = turns::Line::of(words) else {
+            return Ok(None);
+        };
+        let file = String::from_str(alloc, line.file)?;
+        let task = Task::Turns(line.options);
+        Ok(Some(Ask { file, task }))
+    }
+
     /// What the words of a command line ask for, if anything. The memory that it takes is that of their bytes.
     pub(crate) fn of(alloc: Global, words: &[String]) -> Result<Option<Ask>, AllocError>
         ensures read { IfOk result (λ ask. option_map asked ask ≡ ask_of (map string_bytes words.now)) }
@@ -161,6 +183,7 @@ impl Ask {
             "dump" => Ask::of_dump(alloc, rest),
             "restore" => Ask::of_restore(alloc, rest),
             "backup" => Ask::of_backup(alloc, rest),
+            "turns" => Ask::of_turns(alloc, rest),
             _ => Ok(None),
         }
     }
@@ -173,17 +196,19 @@ impl Ask {
         files: &mut F,
         input: &mut S,
         output: &mut K,
-    ) -> Result<Ending, SinkFault>
+    ) -> Result<Ending, Unprinted>
         requires fits { TaskFits (string_bytes self.now.file) self.now.task }
         requires free { (name : List ℕ) → F.is_taken files.old name ≡ false }
         ensures cause { IsTrue F.D.tells → AskEnds (input_by S.tells (S.left input.old) (S.faults input.old) (S.faults input.new)) self.now.task (string_bytes self.now.file) (F.held files.old) (F.faults files.old) (F.faults files.new) (ending_of result) }
         ensures left { IsTrue F.D.tells → TaskLeaves (input_by S.tells (S.left input.old) (S.faults input.old) (S.faults input.new)) self.now.task (string_bytes self.now.file) (F.held files.old) (ending_of result) (F.held files.new) }
         ensures others { SameElse self.now.task (string_bytes self.now.file) (F.held files.old) (F.held files.new) }
         ensures given_back { (name : List ℕ) → F.is_taken files.new name ≡ false }
-        ensures counted { CountedBy (F.faults files.old) (F.faults files.new) (ending_of result) }
+        ensures counted { CountedFor F.D.tells self.now.task (F.faults files.old) (F.faults files.new) (ending_of result) }
         ensures began { IsTrue (task_tells self.now.task F.D.tells K.tells) → Began (TaskText self.now.task (F.held files.old (string_bytes self.now.file))) (K.written output.old) (K.written output.new) result }
         ensures output_cause { HasCause (K.faults output.old) (K.faults output.new) result }
         ensures asked { ending_of result ≡ Usage → ⊥ }
+        ensures played { (options : WorldOptions) → self.now.task ≡ TurnsIs options → IsTrue F.D.tells → result ≡ Ok (Replied Played)
+            → AllPlayed options (input_by S.tells (S.left input.old) (S.faults input.old) (S.faults input.new)) (output_by K.tells (K.written output.old) (K.written output.new) (K.faults output.old) (K.faults output.new)) (F.held files.old (string_bytes self.now.file)) (F.held files.new (string_bytes self.now.file)) }
         ensures heard { HeardBy (S.faults input.old) (S.faults input.new) (ending_of result) }
         ensures unread { reads_input self.now.task ≡ false → (input.new ≡ input.old) × (of_input (ending_of result) ≡ false) }
     {
@@ -199,6 +224,7 @@ impl Ask {
             Task::Backup { more, suffix } => {
                 Ok(back_up(alloc, name, more.as_slice(), suffix.as_str(), files))
             }
+            Task::Turns(options) => turns_on_file(alloc, name, options, files, input, output),
         }
     }
 }

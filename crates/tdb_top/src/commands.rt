@@ -7,3 +7,4 @@ pub(crate) mod dump;
 pub(crate) mod insert;
 pub(crate) mod restore;
 pub(crate) mod show;
+pub(crate) mod turns;

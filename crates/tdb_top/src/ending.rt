@@ -5,7 +5,8 @@ ghost use Rattle.tdb_top.specs.declared.ending.Ending.TheVariants.{Replied, Refu
 ghost use Rattle.tdb_top.specs.declared.ending.Reply.TheVariants.{Copied};
 ghost use Rattle.tdb_top.specs.declared.ending.Ending.{Ending as EndingIs};
 ghost use Rattle.tdb_words.specs.What.{what_text};
-ghost use Rattle.tdb_top.specs.Ending.{answer, status_of, text_of, TakesMemory, PrintedFor, Prints, output_by, of_halt, Untaken, MadeSo};
+ghost use Rattle.tdb_top.specs.Ending.{answer, status_of, text_of, TakesMemory, PrintedFor, Prints, of_halt, Untaken, MadeSo};
+ghost use Rattle.tdb_top.specs.Output.{output_by};
 
 use crate::commands::create::Creation;
 use crate::halt::{Halt, Refusal};
@@ -14,6 +15,7 @@ use std::alloc::{AllocError, Global};
 use tdb_disk::{Sink, TakeRefusal};
 use tdb_dump::{data_line, escape};
 use tdb_words::{Bytes, What};
+use thiserror::Error;
 
 /// The status that the program exits with.
 #[derive(Clone, Copy, Debug, PartialEq, Eq)]
@@ -39,6 +41,9 @@ pub(crate) enum Reply {
 
     /// All files were copied. No line tells it.
     Copied,
+
+    /// All plays of a script were taken, and their report was printed. No line tells it.
+    Played,
 
     /// So many keys.
     Number(u64),
@@ -77,9 +82,25 @@ pub(crate) enum Ending {
     /// A read of the input failed.
     InputFault,
 
-    /// The input isn't dump text, or is too long, from the byte `at` on.
+    /// The input isn't dump text, or no script, or is too long, from the byte `at` on.
     Malformed { at: u64 },
     NoMemory,
+}
+
+/// What was left to be told where the output failed.
+#[derive(Clone, Copy, Debug, PartialEq, Eq, Error)]
+pub(crate) enum Unprinted {
+    /// The rest of the pairs of a file.
+    #[error("pairs aren't printed")]
+    Pairs,
+
+    /// The rest of the report of plays.
+    #[error("a report isn't printed")]
+    Report,
+
+    /// That a call of a disk failed, behind a report.
+    #[error("a fault isn't told")]
+    Fault,
 }
 
 impl From<Halt> for Ending {
@@ -196,7 +217,8 @@ impl Ending {
     {
         Status(match self {
             Ending::Replied(Reply::Done | Reply::Value(_) | Reply::Escaped(_)) => 0,
-            Ending::Replied(Reply::Dumped | Reply::Restored | Reply::Copied) => 0,
+            Ending::Replied(Reply::Dumped | Reply::Restored) => 0,
+            Ending::Replied(Reply::Copied | Reply::Played) => 0,
             Ending::Replied(Reply::Number(_)) => 0,
             Ending::Replied(Reply::KeyMissing | Reply::KeyThere) => 1,
             Ending::Usage => 2,
@@ -222,7 +244,8 @@ impl Ending {
     {
         match self {
             Ending::Replied(Reply::Done) => Some(b"ok\n"),
-            Ending::Replied(Reply::Dumped | Reply::Restored | Reply::Copied) => Some(b""),
+            Ending::Replied(Reply::Dumped | Reply::Restored) => Some(b""),
+            Ending::Replied(Reply::Copied | Reply::Played) => Some(b""),
             Ending::Replied(Reply::KeyMissing) => Some(b"noexist\n"),
             Ending::Replied(Reply::KeyThere) => Some(b"exists\n"),
             Ending::Usage => Some(b"usage: tdb COMMAND [OPTIONS] FILE [WORDS]\n"),

@@ -10,11 +10,15 @@ mod limits;
 mod look;
 mod names;
 mod opening;
+mod playing;
+mod scripts;
 mod top;
 mod words;
 
 pub use ending::Status;
-pub use limits::{DEFAULT_SIZE, LONGEST_FILE, LONGEST_SIZE, LONGEST_WORD, MOST_CHAINS, limits_law};
+pub use limits::{
+    DEFAULT_SIZE, LONGEST_FILE, LONGEST_NUMBER, LONGEST_WORD, MOST_CHAINS, limits_law,
+};
 pub use top::run;
 
 #[cfg(test)]

@@ -8,8 +8,8 @@ pub const LONGEST_FILE: u64 = 4_294_963_200;
 /// The greatest length of a word of the command line, in bytes.
 pub const LONGEST_WORD: usize = 16_777_216;
 
-/// The greatest length of a number of chains, in digits.
-pub const LONGEST_SIZE: usize = 10;
+/// The greatest length of a number on the command line, in digits.
+pub const LONGEST_NUMBER: usize = 10;
 
 /// The number of chains of a new file where none is asked for.
 pub const DEFAULT_SIZE: u32 = 131;

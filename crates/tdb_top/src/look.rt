@@ -12,10 +12,10 @@ ghost use Rattle.tdb_top.specs.Looks.{LookFits, LookEnds, LookText, look_tells, 
 ghost use Rattle.tdb_top.specs.Opening.{CanRead, IsCheckedOn};
 
 use crate::commands::dump::{dump, value};
-use crate::ending::Ending;
+use crate::ending::{Ending, Unprinted};
 use crate::opening::Opened;
 use std::alloc::Global;
-use tdb_disk::{Disk, Files, Sink, SinkFault, Take};
+use tdb_disk::{Disk, Files, Sink, Take};
 use tdb_words::Bytes;
 
 /// What is asked of a file that is read alone.
@@ -36,7 +36,7 @@ impl Look {
         disk: &mut D,
         opened: &Opened,
         output: &mut K,
-    ) -> Result<Ending, SinkFault>
+    ) -> Result<Ending, Unprinted>
         requires fits { LookFits self.now }
         requires can_read { IsTrue D.tells → CanRead (seen (D.history disk.old)) }
         requires opened { IsTrue D.tells → IsCheckedOn (seen (D.history disk.old)) opened.now }
@@ -60,7 +60,7 @@ impl Look {
         alloc: Global,
         disk: &mut D,
         output: &mut K,
-    ) -> Result<Ending, SinkFault>
+    ) -> Result<Ending, Unprinted>
         requires fits { LookFits self.now }
         ensures ends { IsTrue D.tells → LookEnds self.now (seen (D.history disk.old)) (ending_of result) }
         ensures history { D.history disk.new ≡ D.history disk.old }
@@ -83,7 +83,7 @@ impl Look {
         name: &str,
         files: &mut F,
         output: &mut K,
-    ) -> Result<Ending, SinkFault>
+    ) -> Result<Ending, Unprinted>
         requires fits { LookFits self.now }
         requires free { (other : List ℕ) → F.is_taken files.old other ≡ false }
         ensures cause { IsTrue F.D.tells → TaskCause (ReadIs self.now) name.now (F.held files.old name.now) (F.faults files.old) (F.faults files.new) (ending_of result) }

@@ -120,7 +120,7 @@ pub(crate) fn run_words(
 }
 
 /// The same over an input.
-fn run_with(
+pub(crate) fn run_with(
     alloc: Global,
     files: &mut MemFiles,
     text: &[u8],
@@ -161,7 +161,7 @@ fn answer(
 /// The dump of a file of one record.
 const DUMP: &str = "{\nkey(1) = \"a\"\ndata(1) = \"1\"\n}\n";
 
-const USAGE: &str = "usage: tdb COMMAND [OPTIONS] FILE [WORDS]\n";
+pub(crate) const USAGE: &str = "usage: tdb COMMAND [OPTIONS] FILE [WORDS]\n";
 
 #[test]
 fn one_record(rt: HostRuntime) -> Result<(), Fail> {

@@ -1,12 +1,17 @@
 // The top call: it reads the words, answers them over the files and prints the text and the line of that.
 
-ghost use Rattle.std.specs.Prelude.{◌≡◌, ◌⊎◌, ℕ, List, None, false, map, string_bytes, IsTrue};
-ghost use Rattle.tdb_top.specs.declared.ending.Ending.TheVariants.{Usage, NoMemory};
+ghost use Rattle.std.specs.Prelude.{◌≡◌, ◌⊎◌, ℕ, List, None, Some, false, map, string_bytes, IsTrue};
+ghost use Rattle.tdb_top.specs.declared.ask.Task.TheVariants.{Turns as TurnsIs};
+ghost use Rattle.tdb_top.specs.declared.ending.Ending.TheVariants.{Replied, Usage, NoMemory};
+ghost use Rattle.tdb_top.specs.declared.ending.Reply.TheVariants.{Played};
+ghost use Rattle.tdb_world.specs.declared.options.Options.{Options};
 ghost use Rattle.tdb_top.specs.Ask.{ask_of};
 ghost use Rattle.tdb_disk.specs.Count.{HasCause};
 ghost use Rattle.tdb_top.specs.declared.ending.Ending.{Ending as EndingIs};
-ghost use Rattle.tdb_top.specs.Ending.{CountedBy, PrintedFor, output_by};
+ghost use Rattle.tdb_top.specs.Ending.{CountedAsked, PrintedFor};
+ghost use Rattle.tdb_top.specs.Output.{output_by};
 ghost use Rattle.tdb_top.specs.Commands.Restore.{HeardBy, of_input};
+ghost use Rattle.tdb_top.specs.Commands.Turns.{AllPlayed};
 ghost use Rattle.tdb_top.specs.Input.{input_by};
 ghost use Rattle.tdb_top.specs.Left.{Leaving};
 ghost use Rattle.tdb_top.specs.Looks.{ending_of, Began};
@@ -15,9 +20,9 @@ ghost use Rattle.tdb_top.specs.Reads.{ask_reads};
 ghost use Rattle.tdb_top.specs.Run.{run_by, MayEnd, Answered, RefusesExactly, LeavesFiles, Accounted};
 
 use crate::ask::Ask;
-use crate::ending::{Ending, Status, print};
+use crate::ending::{Ending, Status, Unprinted, print};
 use std::alloc::Global;
-use tdb_disk::{Files, Sink, SinkFault, Source};
+use tdb_disk::{Files, Sink, Source};
 
 /// Answers the words over the files. What is printed before the line of the ending is written to the output; where that
 /// fails, the rest isn't.
@@ -27,16 +32,18 @@ fn answer<F: Files, S: Source, K: Sink>(
     files: &mut F,
     input: &mut S,
     output: &mut K,
-) -> Result<Ending, SinkFault>
+) -> Result<Ending, Unprinted>
     requires { (name : List ℕ) → F.is_taken files.old name ≡ false }
     ensures cause { IsTrue F.D.tells → MayEnd (ask_of (map string_bytes words.now)) (F.held files.old) (input_by S.tells (S.left input.old) (S.faults input.old) (S.faults input.new)) (F.faults files.old) (F.faults files.new) (ending_of result) }
     ensures left { IsTrue F.D.tells → Leaving (input_by S.tells (S.left input.old) (S.faults input.old) (S.faults input.new)) (ask_of (map string_bytes words.now)) (F.held files.old) (ending_of result) (F.held files.new) }
     ensures given_back { (name : List ℕ) → F.is_taken files.new name ≡ false }
-    ensures counted { CountedBy (F.faults files.old) (F.faults files.new) (ending_of result) }
+    ensures counted { CountedAsked F.D.tells (ask_of (map string_bytes words.now)) (F.faults files.old) (F.faults files.new) (ending_of result) }
     ensures began { IsTrue (ask_tells (ask_of (map string_bytes words.now)) F.D.tells K.tells) → Began (TextBefore (ask_of (map string_bytes words.now)) (F.held files.old)) (K.written output.old) (K.written output.new) result }
     ensures output_cause { HasCause (K.faults output.old) (K.faults output.new) result }
     ensures heard { HeardBy (S.faults input.old) (S.faults input.new) (ending_of result) }
     ensures unread { ask_reads (ask_of (map string_bytes words.now)) ≡ false → (input.new ≡ input.old) × (of_input (ending_of result) ≡ false) }
+    ensures played { (options : Options) (name : List ℕ) → ask_of (map string_bytes words.now) ≡ Some (record { file = name; task = TurnsIs options }) → IsTrue F.D.tells → result ≡ Ok (Replied Played)
+        → AllPlayed options (input_by S.tells (S.left input.old) (S.faults input.old) (S.faults input.new)) (output_by K.tells (K.written output.old) (K.written output.new) (K.faults output.old) (K.faults output.new)) (F.held files.old name) (F.held files.new name) }
     ensures usage { ending_of result ≡ Usage → ask_of (map string_bytes words.now) ≡ None }
     ensures usage_exact { ask_of (map string_bytes words.now) ≡ None → (ending_of result ≡ Usage) ⊎ (ending_of result ≡ NoMemory) }
 {
@@ -48,7 +55,7 @@ fn answer<F: Files, S: Source, K: Sink>(
 }
 
 /// Prints the line of an ending where the output took all that stands before it, and says the run's status.
-fn finish<K: Sink>(alloc: Global, answered: &Result<Ending, SinkFault>, output: &mut K) -> Status
+fn finish<K: Sink>(alloc: Global, answered: &Result<Ending, Unprinted>, output: &mut K) -> Status
     ensures { (e : EndingIs) × PrintedFor e (ending_of answered.now)
         × Finishes answered.now (output_by K.tells (K.written output.old) (K.written output.new) (K.faults output.old) (K.faults output.new)) e result.0 }
 {
@@ -58,21 +65,22 @@ fn finish<K: Sink>(alloc: Global, answered: &Result<Ending, SinkFault>, output: 
     }
 }
 
-/// Runs the command that `words` ask for, those after the program's name, and prints to `output`: the text of a dump,
-/// and the line of the ending behind it, if that has one.
+/// Runs the command that `words` ask for, those after the program's name, and prints to `output`: the text of a dump
+/// or of a report, and the line of the ending behind it, if that has one.
 ///
 /// | Status | Meaning | Printed |
 /// |---|---|---|
 /// | 0 | the value of the key is shown, the key is added, the file is made, or it is accepted and has `N` keys | `data(N) = "TEXT"`, `ok`, `ok`, `number N` |
 /// | 0 | all pairs are printed, or the value of the one key | their dump text, `TEXT` |
 /// | 0 | the file is made of the pairs on the input | |
+/// | 0 | the plays of the script on the input were taken | their report, line by line |
 /// | 1 | the key isn't there, or is there already | `noexist`, `exists` |
 /// | 2 | the words ask for nothing | the usage |
 /// | 3 | the file is refused for a fault of its header, or for another fault, or a dump would have to undo a change first | `header KIND`, `corrupt WHAT AT`, `needs recovery` |
 /// | 4 | a call of the files or of a disk failed | `device fault` |
 /// | 5 | memory was wanting | `memory` |
 /// | 6 | the file of `LEN` bytes has no room for `NEED` more, or is too long itself | `full LEN NEED`, `toolong LEN` |
-/// | 7 | the input isn't dump text, or is too long, from its byte `N` on | `input malformed at N` |
+/// | 7 | the input isn't dump text, or isn't a script, or is too long, from its byte `N` on | `input malformed at N` |
 /// | 8 | a read of the input failed | `input fault` |
 /// | 8 | the output failed | a part of what was due, from its first byte on |
 /// | 9 | there is no file of this name, or there is one that was to be made | `missing NAME`, `there NAME` |
@@ -99,7 +107,7 @@ pub fn run<F: Files, S: Source, K: Sink>(
 ) -> Status
     requires { (name : List ℕ) → F.is_taken files.old name ≡ false }
 
-    // The run ends in one way and prints the line of it, behind the text of a dump. Where the files tell what they hold
+    // The run ends in one way and prints the line of it, behind the text of a dump or of a report. Where the files tell what they hold
     // it has its cause, and what is due is what is answered.
     ensures answered { Answered F.D.tells (run_by words.now (F.held files.old) (F.held files.new) (F.faults files.old) (F.faults files.new) (input_by S.tells (S.left input.old) (S.faults input.old) (S.faults input.new)) (output_by K.tells (K.written output.old) (K.written output.new) (K.faults output.old) (K.faults output.new)) result.0) }
 
@@ -113,7 +121,7 @@ pub fn run<F: Files, S: Source, K: Sink>(
     // call is told.
     ensures accounted { Accounted (run_by words.now (F.held files.old) (F.held files.new) (F.faults files.old) (F.faults files.new) (input_by S.tells (S.left input.old) (S.faults input.old) (S.faults input.new)) (output_by K.tells (K.written output.old) (K.written output.new) (K.faults output.old) (K.faults output.new)) result.0) }
 
-    // Every disk that was taken is given back, and the input isn't read but by a restore.
+    // Every disk that was taken is given back, and the input isn't read but by a restore and by turns.
     ensures given_back { (name : List ℕ) → F.is_taken files.new name ≡ false }
     ensures input_untouched { ask_reads (ask_of (map string_bytes words.now)) ≡ false → input.new ≡ input.old }
 {

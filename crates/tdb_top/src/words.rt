@@ -4,10 +4,13 @@ ghost use Rattle.std.specs.Prelude.{◌≡◌, ◌≤◌, ℕ, None, IfOk, IfSom
 ghost use Rattle.tdb_top.specs.declared.limits.TheConstants.{LONGEST_WORD as longest};
 ghost use Rattle.tdb_top.specs.Words as W;
 
-use crate::limits::{LONGEST_SIZE, LONGEST_WORD, MOST_CHAINS};
+use crate::limits::{LONGEST_FILE, LONGEST_NUMBER, LONGEST_WORD, MOST_CHAINS};
 use std::alloc::{AllocError, Global};
 use tdb_dump::{WordRefusal, word_bytes_of};
 use tdb_words::Bytes;
+
+/// The least length that a file may be limited to.
+const LEAST_LIMIT: u32 = 696;
 
 /// Whether a word is no option, and not too long.
 pub(crate) fn is_position(word: &str) -> bool
@@ -61,16 +64,16 @@ pub(crate) fn value_of(alloc: Global, word: &str) -> Result<Option<Bytes>, Alloc
     bytes_of(alloc, word.as_bytes())
 }
 
-/// The number of chains that a word writes, from what it parses as.
-fn parsed_size(word: &str) -> Option<u32>
-    ensures read { IfSome result (λ size. W.IsSize word.now size) }
-    ensures refused { result ≡ None → (size : ℕ) → W.IsSize word.now size → ⊥ }
+/// The number from `least` to `most` that a word writes, from what it parses as.
+fn parsed_number(word: &str, least: u32, most: u32) -> Option<u32>
+    ensures read { IfSome result (λ n. W.IsNumber least most word.now n) }
+    ensures refused { result ≡ None → (n : ℕ) → W.IsNumber least most word.now n → ⊥ }
 {
-    if word.len() > LONGEST_SIZE || word.as_bytes().first() == Some(&b'+') {
+    if word.len() > LONGEST_NUMBER || word.as_bytes().first() == Some(&b'+') {
         return None;
     }
     match word.parse::<u32>() {
-        Ok(size) if 1 <= size && size <= MOST_CHAINS => Some(size),
+        Ok(number) if least <= number && number <= most => Some(number),
         _ => None,
     }
 }
@@ -79,5 +82,13 @@ fn parsed_size(word: &str) -> Option<u32>
 pub(crate) fn size_of(word: &str) -> Option<u32>
     ensures { result ≡ W.size_of word.now }
 {
-    parsed_size(word)
+    parsed_number(word, 1, MOST_CHAINS)
+}
+
+/// The length that a file may have at most, which a word writes.
+pub(crate) fn limit_of(word: &str) -> Option<u32>
+    ensures read { result ≡ W.limit_of word.now }
+    ensures fits { IfSome result (λ n. n ≤ 4294963200) }
+{
+    parsed_number(word, LEAST_LIMIT, LONGEST_FILE as u32)
 }

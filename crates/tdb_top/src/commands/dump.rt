@@ -13,14 +13,14 @@ ghost use Rattle.tdb_top.specs.Looks.{LookFits, LookEnds, LookText, ending_of, B
 ghost use Rattle.tdb_top.specs.Opening.{CanRead, IsCheckedOn};
 
 use crate::commands::show::look_up;
-use crate::ending::{Ending, Reply};
+use crate::ending::{Ending, Reply, Unprinted};
 use crate::halt::Fault;
 use crate::look::Look;
 use crate::opening::Opened;
 use crate::words::{bytes_of, is_file, is_option, is_short};
 use std::alloc::{AllocError, Global};
 use tdb_backup::{DumpRefusal, write_pairs};
-use tdb_disk::{Disk, Sink, SinkFault};
+use tdb_disk::{Disk, Sink};
 use tdb_space::Direct;
 
 /// The words of a dump.
@@ -163,7 +163,7 @@ pub(crate) fn dump<D: Disk, K: Sink>(
     disk: &mut D,
     opened: &Opened,
     output: &mut K,
-) -> Result<Ending, SinkFault>
+) -> Result<Ending, Unprinted>
     requires can_read { IsTrue D.tells → CanRead (seen (D.history disk.old)) }
     requires opened { IsTrue D.tells → IsCheckedOn (seen (D.history disk.old)) opened.now }
     ensures ends { IsTrue D.tells → LookEnds Dump (seen (D.history disk.old)) (ending_of result) }
@@ -179,7 +179,7 @@ pub(crate) fn dump<D: Disk, K: Sink>(
         Ok(()) => Ok(Ending::Replied(Reply::Dumped)),
         Err(DumpRefusal::Io) => Ok(Ending::DeviceFault),
         Err(DumpRefusal::Memory) => Ok(Ending::NoMemory),
-        Err(DumpRefusal::Failed) => Err(SinkFault),
+        Err(DumpRefusal::Failed) => Err(Unprinted::Pairs),
     }
 }
 

@@ -1,9 +1,8 @@
 use Rattle.std.proofs.Common.{refl, sym, subst, inl}
 use Rattle.tdb_top.specs.declared.ending.Ending.{Ending as EndingIs}
-use Rattle.tdb_top.specs.declared.ending.Ending.TheVariants.{Replied}
-use Rattle.tdb_top.specs.declared.ending.Reply.TheVariants.{Dumped}
-use Rattle.tdb_top.specs.Ending.{PrintedFor, output_by}
-use Rattle.tdb_top.specs.Looks.{ending_of}
+use Rattle.tdb_top.specs.Ending.{PrintedFor}
+use Rattle.tdb_top.specs.Output.{output_by}
+use Rattle.tdb_top.specs.Looks.{rest_of, ending_of}
 use Rattle.tdb_top.specs.Printed.{Finishes}
 use Rattle.tdb_top.proofs.top.finish.Goals as goal
 
@@ -13,4 +12,4 @@ returns-in-Err g c =
     let w = g.K.Sink.written c.args.output.now in
     let n = g.K.Sink.faults c.args.output.now in
     subst (λ r. (e : EndingIs) × PrintedFor e (ending_of r) × Finishes r (output_by g.K.Sink.tells w w n n) e 8) (sym c.in-Err.is)
-    (Replied Dumped, inl refl, (refl, refl, refl, refl))
+    (rest_of c.in-Err.field-0, inl refl, (refl, refl, refl, refl))

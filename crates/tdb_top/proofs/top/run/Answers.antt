@@ -1,9 +1,10 @@
 use Rattle.std.proofs.Common.{◌≡◌, true}
-use Rattle.tdb_top.specs.Ending.{output_by}
+use Rattle.tdb_top.specs.Output.{output_by}
 use Rattle.tdb_top.specs.Input.{input_by}
 use Rattle.tdb_top.specs.Looks.{ending_of}
 use Rattle.tdb_top.specs.Run.{Run, Cause, run_by}
-use Rattle.tdb_top.proofs.Runs.{Printed, exits, silent_exits, printed_caused, exactly, refuses_exactly, leaves_files, accounted}
+use Rattle.tdb_top.proofs.Runs.{Printed, exits, silent_exits, printed_caused, exactly, refuses_exactly, asked_counted, asked_failed, asked_sound, leaves_files, accounted}
+use Rattle.tdb_top.proofs.Whole.{whole_by}
 use Rattle.tdb_top.proofs.Writing.{written}
 use Rattle.tdb_top.proofs.top.run.Goals as goal
 use Rattle.tdb_top.proofs.top.run.Goals.{After-finish}
@@ -44,13 +45,22 @@ returns-clause-refused g c told =
 pub returns-clause-left : goal.returns-clause-left
 returns-clause-left g c told =
     let a = (goal.at.returns-clause-left g c).After-finish in
-    leaves_files (ran g a) (ending_of c.answer-answered.result) (exits g.F.D.Disk.tells (ran g a) c.finish.ensures.0 (ending_of c.answer-answered.result) c.finish.ensures.1 (prints g a)) c.answer-answered.ensures.counted
+    leaves_files (ran g a) (ending_of c.answer-answered.result) (exits g.F.D.Disk.tells (ran g a) c.finish.ensures.0 (ending_of c.answer-answered.result) c.finish.ensures.1 (prints g a))
+    (asked_counted g.F.D.Disk.tells (ran g a).ask (ran g a).faults_before (ran g a).faults_after (ending_of c.answer-answered.result) told c.answer-answered.ensures.counted)
     (silent_exits g.F.D.Disk.tells (ran g a) c.finish.ensures.0 (ending_of c.answer-answered.result) c.finish.ensures.1 (prints g a)) (c.answer-answered.ensures.left told)
+    (λ options name old now asks there left zero.
+    (let r = ran g a in
+    whole_by options r.input g.K.Sink.tells (g.K.Sink.written c.args.output.now) (g.K.Sink.written c.answer-answered.new.output) (g.K.Sink.written c.finish.new.output)
+    (g.K.Sink.faults c.args.output.now) (g.K.Sink.faults c.answer-answered.new.output) (g.K.Sink.faults c.finish.new.output)
+    r.ask name r.old r.now r.faults_before r.faults_after c.answer-answered.result c.finish.ensures.0 c.finish.result.0 asks (c.answer-answered.ensures.cause told) c.finish.ensures.1 c.finish.ensures.2 zero
+    (λ is. c.answer-answered.ensures.played options name asks told is) old now there left))
 
 pub returns-clause-accounted : goal.returns-clause-accounted
 returns-clause-accounted g c =
     let a = (goal.at.returns-clause-accounted g c).After-finish in
-    accounted g.F.D.Disk.tells (ran g a) c.finish.ensures.0 (ending_of c.answer-answered.result) c.finish.ensures.1 (prints g a) c.answer-answered.ensures.counted c.answer-answered.ensures.usage c.answer-answered.ensures.usage_exact
+    accounted g.F.D.Disk.tells (ran g a) c.finish.ensures.0 (ending_of c.answer-answered.result) c.finish.ensures.1 (prints g a)
+    (asked_failed g.F.D.Disk.tells (ran g a).ask (ran g a).faults_before (ran g a).faults_after (ending_of c.answer-answered.result) c.answer-answered.ensures.counted)
+    (asked_sound g.F.D.Disk.tells (ran g a).ask (ran g a).faults_before (ran g a).faults_after (ending_of c.answer-answered.result) c.answer-answered.ensures.counted) c.answer-answered.ensures.usage c.answer-answered.ensures.usage_exact
     c.answer-answered.ensures.heard (λ unread. (c.answer-answered.ensures.unread unread).1)
 
 pub returns-clause-input_untouched : goal.returns-clause-input_untouched

@@ -1,5 +1,6 @@
-use Rattle.tdb_top.proofs.Sizes.{size_found}
+use Rattle.tdb_top.specs.declared.limits.TheConstants.{MOST_CHAINS}
+use Rattle.tdb_top.proofs.Sizes.{number_found}
 use Rattle.tdb_top.proofs.words.size_of.Goals as goal
 
 pub returns : goal.returns
-returns c = size_found c.args.word.now c.parsed_size.result c.parsed_size.ensures.read c.parsed_size.ensures.refused
+returns c = number_found 1 MOST_CHAINS c.args.word.now c.parsed_number.result c.parsed_number.ensures.read c.parsed_number.ensures.refused

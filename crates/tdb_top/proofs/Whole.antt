@@ -1,0 +1,84 @@
+-- Turns with status 0 were played whole.
+use Rattle.std.proofs.Common.{◌≡◌, ◌⊎◌, ℕ, false, List, ◌++◌, Option, None, Some, Result, Ok, Err, refl, sym, ◌∙◌, ap, subst, inl, inr, arith}
+use Rattle.std.specs.Prelude.{Bool, IsTrue, unwrap_or}
+use Rattle.std.proofs.lemmas.Bool.{false≢true}
+use Rattle.std.proofs.lemmas.List.{append-nil}
+use Rattle.tdb_disk.specs.History.{History}
+use Rattle.tdb_top.specs.declared.ask.Task.TheVariants.{Restore, Turns}
+use Rattle.tdb_top.specs.declared.ending.Ending.{Ending}
+use Rattle.tdb_top.specs.declared.ending.Ending.TheVariants.{Replied, Refused, Missing, DeviceFault, InputFault, Malformed, NoMemory}
+use Rattle.tdb_top.specs.declared.ending.Reply.TheVariants.{Played}
+use Rattle.tdb_top.specs.declared.ending.Unprinted.{Unprinted}
+use Rattle.tdb_top.specs.declared.halt.Refusal.{Refusal}
+use Rattle.tdb_world.specs.declared.options.Options.{Options}
+use Rattle.tdb_top.specs.Ask.{Ask}
+use Rattle.tdb_top.specs.Commands.Turns.{PlaysSo, script_unread, script_bad, no_file, file_refused, file_opened, IsPlayed, AllPlayed}
+use Rattle.tdb_top.specs.Ending.{status_of, text_of, PrintedFor, Due}
+use Rattle.tdb_top.specs.Input.{Input}
+use Rattle.tdb_top.specs.Looks.{ending_of}
+use Rattle.tdb_top.specs.Output.{Output, output_by}
+use Rattle.tdb_top.specs.Printed.{Finishes}
+use Rattle.tdb_top.specs.Run.{MayEnd, is_due, is_read, is_copied, is_played, call_failed, memory_wanting}
+use Rattle.tdb_top.proofs.Runs.{reads_turns, refusal_status}
+
+-- turns are no restore
+abbrev is_turns : Option Ask → Bool
+is_turns None = false
+is_turns (Some ask) = reads_turns ask.task
+
+no_zero : (n : ℕ) → (n ≡ 3) ⊎ (n ≡ 6) → n ≡ 0 → ⊥
+no_zero n (inl is) zero = omega (arith, is, zero)
+no_zero n (inr is) zero = omega (arith, is, zero)
+
+-- what turns end with, where the status is 0
+plays_zero : (input : Input) (options : Options) (name : List ℕ) (held : Option History) (e : Ending) → PlaysSo input options name held e → status_of e ≡ 0 → e ≡ Replied Played
+plays_zero input options name held _ (script_unread rose) zero = absurd (omega (arith, zero))
+plays_zero input options name held _ (script_bad at bad) zero = absurd (omega (arith, zero))
+plays_zero input options name held _ (no_file script none) zero = absurd (omega (arith, zero))
+plays_zero input options name held _ (file_refused h refusal script there is) zero = absurd (no_zero (status_of (Refused refusal)) (refusal_status refusal) zero)
+plays_zero input options name held _ (file_opened h script there opens) zero = refl
+
+ended_zero : (ask : Option Ask) (options : Options) (name : List ℕ) (held : List ℕ → Option History) (input : Input) (before after : ℕ) (e : Ending) → ask ≡ Some (record { file = name; task = Turns options }) → MayEnd ask held input before after e → status_of e ≡ 0 → e ≡ Replied Played
+ended_zero ask options name held input before after _ asks (is_due e due) zero = absurd (subst (λ a. Due a held e) asks due)
+ended_zero ask options name held input before after _ asks (is_read e limit other restores none so) zero = absurd (false≢true (ap is_turns (sym restores ∙ asks)))
+ended_zero ask options name held input before after _ asks (is_copied e more suffix other copies ends) zero = absurd (false≢true (ap is_turns (sym copies ∙ asks)))
+ended_zero ask options name held input before after _ asks (is_played e others other also so) zero = plays_zero input others other (held other) e so zero
+ended_zero ask options name held input before after _ asks (call_failed a is rose) zero = absurd (omega (arith, zero))
+ended_zero ask options name held input before after _ asks memory_wanting zero = absurd (omega (arith, zero))
+
+same_held : (a b : History) (o : Option History) → o ≡ Some a → o ≡ Some b → a ≡ b
+same_held a b o p q = ap (λ x. unwrap_or x a) (sym p ∙ q)
+
+module _ (options : Options) (input : Input) (tells : Bool) (w0 w1 w2 : List ℕ) (f0 f1 f2 : ℕ) where
+  -- what was written behind the report is nothing
+  with_output : (old now : History) → (IsTrue tells → w2 ≡ w1) → IsPlayed options input (output_by tells w0 w1 f0 f1) old now → IsPlayed options input (output_by tells w0 w2 f0 f2) old now
+  with_output old now same p = record {
+    opened = p.opened;
+    is_opened = p.is_opened;
+    plays = p.plays;
+    script = p.script;
+    whole = record {
+      lines = p.whole.lines;
+      world = p.whole.world;
+      leads = p.whole.leads;
+      over = p.whole.over;
+      lawful = p.whole.lawful;
+      printed = λ told. same told ∙ p.whole.printed told;
+    };
+  }
+
+  there : (old now : History) (before after : Option History) → before ≡ Some old → after ≡ Some now → (IsTrue tells → w2 ≡ w1) → AllPlayed options input (output_by tells w0 w1 f0 f1) before after → IsPlayed options input (output_by tells w0 w2 f0 f2) old now
+  there old now before after is left same all =
+      subst (λ (q : History × History). IsPlayed options input (output_by tells w0 w2 f0 f2) q.0 q.1) (λ j. (same_held all.0 old before all.2 is j, same_held all.1 now after all.3 left j)) (with_output all.0 all.1 same all.4)
+
+  pub whole_by : (ask : Option Ask) (name : List ℕ) (held now : List ℕ → Option History) (before after : ℕ) (r : Result Ending Unprinted) (e : Ending) (status : ℕ) → ask ≡ Some (record { file = name; task = Turns options })
+      → MayEnd ask held input before after (ending_of r) → PrintedFor e (ending_of r) → Finishes r (output_by tells w1 w2 f1 f2) e status → status ≡ 0
+      → (r ≡ Ok (Replied Played) → AllPlayed options input (output_by tells w0 w1 f0 f1) (held name) (now name))
+      → (old left : History) → held name ≡ Some old → now name ≡ Some left → IsPlayed options input (output_by tells w0 w2 f0 f2) old left
+  whole_by ask name held now before after (Err rest) e status asks cause printed done zero all old left is then = absurd (omega (arith, done.1, zero))
+  whole_by ask name held now before after (Ok found) e status asks cause printed (inr part) zero all old left is then = absurd (omega (arith, part.exits, zero))
+  whole_by ask name held now before after (Ok found) e status asks cause (inr want) (inl every) zero all old left is then = absurd (omega (arith, ap status_of want.0, every.exits, zero))
+  whole_by ask name held now before after (Ok found) e status asks cause (inl same) (inl every) zero all old left is then =
+      let played : found ≡ Replied Played = ended_zero ask options name held input before after found asks cause (ap status_of (sym same) ∙ sym every.exits ∙ zero) in
+      there old left (held name) (now name) is then
+      (λ told. every.written told ∙ ap (λ x. w1 ++ text_of x) (same ∙ played) ∙ append-nil w1) (all (ap Ok played))

@@ -1,0 +1,46 @@
+use Rattle.std.proofs.Common.{◌≡◌, ◌∙◌, true, Ok, Err, refl, sym, ap, subst}
+use Rattle.std.proofs.lemmas.Result.{err_from_is_err_and}
+use Rattle.tdb_disk.specs.History.{seen}
+use Rattle.tdb_space.specs.Form.{form_of}
+use Rattle.tdb_top.specs.declared.halt.Fault.TheVariants as F
+use Rattle.tdb_top.specs.Playing.{PlaysEnd, PlayedOver, PlayedOn, PlayedFile, file_unplayed, file_played}
+use Rattle.tdb_top.proofs.commands.turns.play_on_disk.Goals as goal
+use Rattle.tdb_top.proofs.commands.turns.play_on_disk.Goals.{After-play_opened}
+
+-- it wasn't opened
+pub returns-in-Err-clause-played : goal.returns-in-Err-clause-played
+returns-in-Err-clause-played g c told =
+    let w = g.K.Sink.written c.args.output.now in
+    subst (λ e. PlayedFile c.args.options.now (g.D.Disk.history c.args.disk.now) (g.D.Disk.history c.open_to_turn.new.disk) c.args.plays.now g.K.Sink.tells w w (Ok e)) (sym c.from.ensures)
+    (file_unplayed c.in-Err.halt (c.in-Err.ensures.opened told) refl)
+
+-- it was, and plays were taken over it
+on : (g : _) (c : After-play_opened g) → g.D.Disk.tells ≡ true → (answer : PlaysEnd) → c.play_opened.result ≡ answer
+    → PlayedOn c.args.options.now (g.D.Disk.history c.args.disk.now) (g.D.Disk.history c.play_opened.new.disk) g.K.Sink.tells (g.K.Sink.written c.args.output.now) (g.K.Sink.written c.play_opened.new.output) answer c.args.plays.now
+on g c told answer is =
+    let opened = g.D.Disk.history c.open_to_turn.new.disk in
+    record {
+      opened = opened;
+      opens = (c.in-Ok.ensures.opened told).0;
+      is_opened = (c.in-Ok.ensures.opened told).1;
+      over = subst (PlayedOver (form_of (seen opened)) c.args.options.now (seen opened) c.args.plays.now (seen (g.D.Disk.history c.play_opened.new.disk)) g.K.Sink.tells (g.K.Sink.written c.args.output.now) (g.K.Sink.written c.play_opened.new.output)) is
+          (c.play_opened.ensures.played told);
+    }
+
+pub returns-in_err-play_opened-clause-played : goal.returns-in_err-play_opened-clause-played
+returns-in_err-play_opened-clause-played g c =
+    let q = err_from_is_err_and c.from_residual.result c.from_residual.ensures.1 in
+    rw (q.1, q.2)
+    (λ told. file_played (Err c.in_err-play_opened.field-0.0) (on g ((goal.at.returns-in_err-play_opened-clause-played g c).After-play_opened) told (Err c.in_err-play_opened.field-0.0) c.in_err-play_opened.was))
+
+pub returns-in-Ok-2-clause-played : goal.returns-in-Ok-2-clause-played
+returns-in-Ok-2-clause-played g c told =
+    file_played (Ok (Ok tt)) (on g ((goal.at.returns-in-Ok-2-clause-played g c).After-play_opened) told (Ok (Ok tt)) (c.in_ok-play_opened.was ∙ ap Ok c.in-Ok-2.is))
+
+pub returns-in-Err-Device-clause-played : goal.returns-in-Err-Device-clause-played
+returns-in-Err-Device-clause-played g c told =
+    file_played (Ok (Err F.Device)) (on g ((goal.at.returns-in-Err-Device-clause-played g c).After-play_opened) told (Ok (Err F.Device)) (c.in_ok-play_opened.was ∙ ap Ok (c.in-Err-Device.is ∙ ap Err c.in-Err-Device.field-0-is)))
+
+pub returns-in-Err-Memory-clause-played : goal.returns-in-Err-Memory-clause-played
+returns-in-Err-Memory-clause-played g c told =
+    file_played (Ok (Err F.Memory)) (on g ((goal.at.returns-in-Err-Memory-clause-played g c).After-play_opened) told (Ok (Err F.Memory)) (c.in_ok-play_opened.was ∙ ap Ok (c.in-Err-Memory.is ∙ ap Err c.in-Err-Memory.field-0-is)))

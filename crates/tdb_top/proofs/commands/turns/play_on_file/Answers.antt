@@ -1,0 +1,64 @@
+use Rattle.std.proofs.Common.{◌≡◌, [], ◌<◌, true, Err, Some, sym, ◌∙◌, ap, arith}
+use Rattle.std.proofs.lemmas.Bool.{and_parts}
+use Rattle.tdb_disk.specs.Count.{Rose}
+use Rattle.tdb_disk.specs.History.{began}
+use Rattle.tdb_disk.specs.declared.files.Take.TheVariants.{Existing, ReadOnly, New}
+use Rattle.tdb_top.specs.declared.ending.Ending.TheVariants.{DeviceFault}
+use Rattle.tdb_top.specs.Looks.{ending_of}
+use Rattle.tdb_top.proofs.Acting.{rose_earlier}
+use Rattle.tdb_top.proofs.Held.{held_there}
+use Rattle.tdb_top.proofs.Turning.{cause_played, left_played, began_played, all_played, untaken_plays}
+use Rattle.tdb_top.proofs.commands.turns.play_on_file.Goals as goal
+use Rattle.tdb_top.proofs.commands.turns.play_on_file.Goals.{After-take, After-give, then-options, else-options}
+
+-- it isn't to be made
+not_new : (g : _) (c : After-take g) → c.if-options.how ≡ New → ⊥
+not_new g c is = elim c.if-options.branch [
+  | then-options w ↦ (let wrong : ReadOnly ≡ New = sym w.how-is ∙ is in cc)
+  | else-options w ↦ (let wrong : Existing ≡ New = sym w.how-is ∙ is in cc)
+]
+
+not_new_given : (g : _) (c : After-give g) → c.if-options.how ≡ New → ⊥
+not_new_given g c is = elim c.if-options.branch [
+  | then-options w ↦ (let wrong : ReadOnly ≡ New = sym w.how-is ∙ is in cc)
+  | else-options w ↦ (let wrong : Existing ≡ New = sym w.how-is ∙ is in cc)
+]
+
+-- the file that was taken is what was held at its name
+there : (g : _) (c : After-give g) → g.F.D.Disk.tells ≡ true → g.F.Files.held c.args.files.now c.args.name.now ≡ Some (g.F.D.Disk.history c.in-Ok.disk)
+there g c told = held_there (g.F.Files.held c.args.files.now c.args.name.now) (began []) (g.F.D.Disk.history c.in-Ok.disk)
+    (λ none. let wrong = (c.in-Ok.ensures.missing told).1 (none, not_new_given g c) in cc) (c.in-Ok.ensures.disk told)
+
+pub returns-in-Ok-clause-cause : goal.returns-in-Ok-clause-cause
+returns-in-Ok-clause-cause g c told =
+    let before = g.F.Files.faults c.args.files.now in
+    let now = g.F.Files.faults c.give.new.self in
+    let rose : ending_of c.play_on_disk-played.result ≡ DeviceFault → Rose before now = λ is.
+    (let failed = c.play_on_disk-played.ensures.counted.failed is told in
+    let some : 0 < g.F.D.Disk.faults c.play_on_disk-played.new.disk = omega (arith, failed, c.in-Ok.ensures.disk_faults) in
+    rose_earlier before (g.F.Files.faults c.take.new.self) now c.in-Ok.ensures.cause.never_falls (c.give.ensures.faulty some)) in
+    cause_played c.args.options.now c.args.name.now (g.F.D.Disk.history c.in-Ok.disk) (g.F.D.Disk.history c.play_on_disk-played.new.disk) c.args.plays.now g.K.Sink.tells (g.K.Sink.written c.args.output.now) (g.K.Sink.written c.play_on_disk-played.new.output)
+    (g.F.Files.held c.args.files.now c.args.name.now) (there g ((goal.at.returns-in-Ok-clause-cause g c).After-give) told) before now c.play_on_disk-played.result (c.play_on_disk-played.ensures.played told) rose
+
+pub returns-in-Ok-clause-left : goal.returns-in-Ok-clause-left
+returns-in-Ok-clause-left g c told =
+    left_played c.args.options.now c.args.name.now (g.F.D.Disk.history c.in-Ok.disk) (g.F.D.Disk.history c.play_on_disk-played.new.disk) c.args.plays.now g.K.Sink.tells (g.K.Sink.written c.args.output.now) (g.K.Sink.written c.play_on_disk-played.new.output)
+    (g.F.Files.held c.args.files.now c.args.name.now) (there g ((goal.at.returns-in-Ok-clause-left g c).After-give) told) (g.F.Files.held c.give.new.self c.args.name.now) c.play_on_disk-played.result (c.give.ensures.held told) (c.play_on_disk-played.ensures.played told)
+
+pub returns-in-Ok-clause-began : goal.returns-in-Ok-clause-began
+returns-in-Ok-clause-began g c both =
+    let parts = and_parts g.K.Sink.tells g.F.D.Disk.tells both in
+    began_played c.args.options.now c.args.name.now (g.F.D.Disk.history c.in-Ok.disk) (g.F.D.Disk.history c.play_on_disk-played.new.disk) c.args.plays.now g.K.Sink.tells (g.K.Sink.written c.args.output.now) (g.K.Sink.written c.play_on_disk-played.new.output)
+    (g.F.Files.held c.args.files.now c.args.name.now) (there g ((goal.at.returns-in-Ok-clause-began g c).After-give) parts.1) c.play_on_disk-played.result parts.0 (c.play_on_disk-played.ensures.played parts.1)
+
+pub returns-in-Ok-clause-whole : goal.returns-in-Ok-clause-whole
+returns-in-Ok-clause-whole g c told is =
+    all_played c.args.options.now c.args.name.now (g.F.D.Disk.history c.in-Ok.disk) (g.F.D.Disk.history c.play_on_disk-played.new.disk) c.args.plays.now g.K.Sink.tells (g.K.Sink.written c.args.output.now) (g.K.Sink.written c.play_on_disk-played.new.output)
+    (g.F.Files.held c.args.files.now c.args.name.now) (there g ((goal.at.returns-in-Ok-clause-whole g c).After-give) told) (g.F.Files.held c.give.new.self c.args.name.now) c.play_on_disk-played.result (c.give.ensures.held told) (c.play_on_disk-played.ensures.played told) is
+
+-- the file wasn't taken
+pub returns-in-Err-clause-cause : goal.returns-in-Err-clause-cause
+returns-in-Err-clause-cause g c told =
+    untaken_plays c.args.options.now c.args.name.now (g.F.Files.held c.args.files.now c.args.name.now) c.in-Err.refusal c.untaken.result
+    (λ is. not_new g ((goal.at.returns-in-Err-clause-cause g c).After-take) (c.in-Err.ensures.there_how (ap Err is))) (λ is. ((c.in-Err.ensures.missing told).0 (ap Err is)).0)
+    _ _ (λ is. c.in-Err.ensures.cause.failed is) c.untaken.ensures

@@ -1,0 +1,251 @@
+-- The command that takes the plays of a script over a file, and prints their report.
+use Rattle.std.specs.Prelude.{◌≡◌, ◌≢◌, ◌⊎◌, ℕ, ◌<◌, ◌≤◌, Bool, true, false, not, if◌then◌else◌, IsTrue, Option, None, Some, is_some, IfSome, List, [], ◌∷◌, ◌++◌, length, take, drop, codes}
+use Rattle.std.specs.Option.{option_map, option_or, option_and_then}
+use Rattle.tdb_words.specs.Word.{word}
+use Rattle.tdb_words.specs.Header.{sequence_at}
+use Rattle.tdb_disk.specs.Count.{Rose}
+use Rattle.tdb_disk.specs.History.{History, seen}
+use Rattle.tdb_space.specs.Form.{Form, form_of}
+use Rattle.tdb_space.specs.Opening.{is_open}
+use Rattle.tdb_space.specs.Pairs.{same_key}
+use Rattle.tdb_law.specs.Beginning.{IsLoaded, beginning}
+use Rattle.tdb_law.specs.Images.{image_map}
+use Rattle.tdb_law.specs.Lines.{IsLawful}
+use Rattle.tdb_law.specs.Plays.{Course}
+use Rattle.tdb_law.specs.Replay.{Replay}
+use Rattle.tdb_law.specs.World.{State}
+use Rattle.tdb_plays.specs.InLaw.{law_plays, law_lines}
+use Rattle.tdb_plays.specs.declared.line.Line.{Line}
+use Rattle.tdb_plays.specs.declared.play.Play.{Play}
+use Rattle.tdb_script.specs.Script.{Script, BadAt}
+use Rattle.tdb_script.specs.Text.{report_text}
+use Rattle.tdb_world.specs.Openers.{options_of}
+use Rattle.tdb_world.specs.Played.{ComesTo}
+use Rattle.tdb_world.specs.Finished.{unfinished}
+use Rattle.tdb_world.specs.Worlds.{World, state_in}
+use Rattle.tdb_world.specs.declared.options.Options.{Options}
+use Rattle.tdb_top.specs.declared.ending.Ending.{Ending}
+use Rattle.tdb_top.specs.declared.ending.Ending.TheVariants.{Replied, Refused, Missing, There, Usage, DeviceFault, InputFault, Malformed, NoMemory}
+use Rattle.tdb_top.specs.declared.ending.Reply.TheVariants.{Played}
+use Rattle.tdb_top.specs.declared.commands.turns.Words as C
+use Rattle.tdb_top.specs.declared.halt.Refusal.{Refusal}
+use Rattle.tdb_top.specs.declared.halt.Refusal.TheVariants.{TooLong}
+use Rattle.tdb_top.specs.declared.limits.TheConstants.{LONGEST_FILE}
+use Rattle.tdb_top.specs.Input.{Input}
+use Rattle.tdb_top.specs.Opening.{opened_bytes, CanOpen, IsRefused, IsRefusedToRead, SameOrUndone, UndoneIfOpen}
+use Rattle.tdb_top.specs.Output.{Output}
+use Rattle.tdb_top.specs.Words.{is_short, is_option, limit_of}
+
+-- Its words, as far as they were read: the file and the options that came. Behind the word `--limit` the next word is
+-- its value, and behind `--` none is an option.
+pub record Words : Type 0 where
+  pub file : Option (List ℕ)
+  pub limit : Option ℕ
+  pub nesting : Bool
+  pub read_only : Bool
+  pub seqnum : Bool
+  pub wants_limit : Bool
+  pub ended : Bool
+
+abbrev pub no_words : Words
+no_words = record { file = None; limit = None; nesting = true; read_only = false; seqnum = false; wants_limit = false; ended = false }
+
+-- the file comes once, and so does each option
+abbrev pub with_file : Words → List ℕ → Option Words
+with_file w name = if is_some w.file then None else if is_short name then Some (record w { file = Some name }) else None
+
+abbrev pub with_limit : Words → Option ℕ → Option Words
+with_limit w None = None
+with_limit w (Some limit) = if is_some w.limit then None else Some (record w { limit = Some limit; wants_limit = false })
+
+-- what is written behind `--limit=` in the same word
+abbrev pub limit_in : List ℕ → Option ℕ
+limit_in name = if same_key (codes "--limit=") (take 8 name) then limit_of (drop 8 name) else None
+
+abbrev pub with_option : Words → List ℕ → Option Words
+with_option w name =
+    if same_key name (codes "--no-nesting") then (if w.nesting then Some (record w { nesting = false }) else None)
+    else if same_key name (codes "--read-only") then (if w.read_only then None else Some (record w { read_only = true }))
+    else if same_key name (codes "--seqnum") then (if w.seqnum then None else Some (record w { seqnum = true }))
+    else if same_key name (codes "--limit") then (if is_some w.limit then None else Some (record w { wants_limit = true }))
+    else with_limit w (limit_in name)
+
+-- one more word
+abbrev pub with_word : Words → List ℕ → Option Words
+with_word w name =
+    if w.ended then with_file w name
+    else if w.wants_limit then (if is_option name then None else with_limit w (limit_of name))
+    else if same_key name (codes "--") then Some (record w { ended = true })
+    else if is_option name then with_option w name
+    else with_file w name
+
+abbrev pub with_words : Words → List (List ℕ) → Option Words
+with_words w [] = Some w
+with_words w (name ∷ names) = option_and_then (λ v. with_words v names) (with_word w name)
+
+-- how the file is opened; no file is longer than the longest
+abbrev pub limit_or : Option ℕ → ℕ
+limit_or None = LONGEST_FILE
+limit_or (Some limit) = limit
+
+abbrev pub options_in : Words → Options
+options_in w = record { limit = limit_or w.limit; nesting = w.nesting; read_only = w.read_only; seqnum = w.seqnum }
+
+-- the file and its options, where the words are whole
+abbrev pub whole_words : Words → Option (List ℕ × Options)
+whole_words w = if w.wants_limit then None else option_map (λ file. (file, options_in w)) w.file
+
+abbrev pub turns_of_words : List (List ℕ) → Option (List ℕ × Options)
+turns_of_words names = option_and_then whole_words (with_words no_words names)
+
+-- a limit, where there is one, is no longer than the longest file
+abbrev pub HasLimit : Option ℕ → Type 0
+HasLimit limit = IfSome limit (λ n. n ≤ 4294963200)
+
+-- the words of the code
+abbrev pub seen_words : C.Words → Words
+seen_words w = record {
+  file = option_map (λ file. file.now) w.file;
+  limit = w.limit;
+  nesting = w.nesting;
+  read_only = w.read_only;
+  seqnum = w.seqnum;
+  wants_limit = w.wants_limit;
+  ended = w.ended;
+}
+
+-- the plays are those of the script on the input, where that tells its text
+abbrev pub HasScript : Input → List Play → Type 0
+HasScript input plays = IsTrue input.tells → Script input.text plays
+
+-- the input has some script
+abbrev pub IsScript : Input → Type 0
+IsScript input = IsTrue input.tells → (plays : List Play) × Script input.text plays
+
+-- a file with these bytes is opened with these options: it isn't too long for them, and where it is to be read alone its
+-- undo gate isn't open
+pub record OpensToTurn (options : Options) (img : List ℕ) : Type 0 where
+  pub can_open : CanOpen img
+  pub within : length img ≤ options.limit
+  pub shut : options.read_only ≡ true → is_open (form_of img) img ≡ false
+
+-- it is refused so: it is too long for them, or any other opening to read it, or to change it, refuses it so
+abbrev pub RefusedBy : Bool → List ℕ → Refusal → Type 0
+RefusedBy true img refusal = IsRefusedToRead img refusal
+RefusedBy false img refusal = IsRefused img refusal
+
+abbrev pub IsRefusedToTurn : Options → List ℕ → Refusal → Type 0
+IsRefusedToTurn options img refusal =
+    ((refusal ≡ TooLong (length img)) × (options.limit < length img)) ⊎ ((length img ≤ options.limit) × RefusedBy options.read_only img refusal)
+
+-- what an opening leaves of a file: where it is to be read alone, or is too long, what it was; and else it was undone,
+-- where it is one to be undone
+abbrev pub TurnOpened : Options → History → History → Type 0
+TurnOpened options old now =
+    (((options.read_only ≡ true) ⊎ (options.limit < length (seen old))) × (now ≡ old)) ⊎ UndoneIfOpen old now
+
+-- why a run of turns ends so, but for a failed call of the files or want of memory: a read of the script failed, or it
+-- stops to be one at a place; it is one, and there is no file, or that is refused, or it is opened
+pub data PlaysSo (input : Input) (options : Options) (name : List ℕ) (held : Option History) : Ending → Type 0 where
+  script_unread : Rose input.faults_before input.faults_after → PlaysSo input options name held InputFault
+  script_bad : (at : ℕ) → (IsTrue input.tells → BadAt input.text at) → PlaysSo input options name held (Malformed at)
+  no_file : IsScript input → held ≡ None → PlaysSo input options name held (Missing name)
+  file_refused : (h : History) (refusal : Refusal) → IsScript input → held ≡ Some h → IsRefusedToTurn options (seen h) refusal
+      → PlaysSo input options name held (Refused refusal)
+  file_opened : (h : History) → IsScript input → held ≡ Some h → OpensToTurn options (seen h) → PlaysSo input options name held (Replied Played)
+
+-- the state is one of a world whose file has these bytes
+pub record IsOver (f : Form) (img : List ℕ) (w : State) : Type 0 where
+  pub file : w.file ≡ image_map f img
+  pub number : w.number ≡ word f.order img sequence_at
+
+-- the replay that begins with the map of an image
+abbrev pub beginning_over : Form → Options → List ℕ → Replay
+beginning_over f options img = beginning (options_of options) (image_map f img) (word f.order img sequence_at)
+
+-- These plays lead, with these lines, from a world just loaded over an image to a state; and they came to one, where they
+-- broke off.
+pub record LeadsTo (f : Form) (options : Options) (img : List ℕ) (plays : List Play) (lines : List Line) (new : State) : Type 0 where
+  pub old : State
+  pub loaded : IsLoaded f old (options_of options)
+  pub over : IsOver f img old
+  pub course : Course f old (law_plays plays) (law_lines lines) new
+
+pub record CameTo (f : Form) (options : Options) (img : List ℕ) (plays : List Play) (lines : List Line) (new : State) : Type 0 where
+  pub old : State
+  pub loaded : IsLoaded f old (options_of options)
+  pub over : IsOver f img old
+  pub came : ComesTo f old (law_plays plays) (law_lines lines) new
+
+-- All plays were taken over the image a, which is b after them, and their report was printed: its lines, and behind them one
+-- for each opener with an unfinished command. The whole report is lawful from the map of a on.
+pub record PlayedWhole (f : Form) (options : Options) (a : List ℕ) (plays : List Play) (b : List ℕ) (told : Bool) (before now : List ℕ) : Type 0 where
+  pub lines : List Line
+  pub world : World
+  pub leads : LeadsTo f options a plays lines (state_in world b)
+  pub over : IsOver f b (state_in world b)
+  pub lawful : IsLawful f (beginning_over f options a) (law_lines (lines ++ unfinished 1 world.openers))
+  pub printed : IsTrue told → now ≡ before ++ report_text (lines ++ unfinished 1 world.openers)
+
+-- Plays were taken over the image a as far as they came, and it is b after them, as they say.
+abbrev pub CameOver : Form → Options → List ℕ → List ℕ → Type 0
+CameOver f options a b = (plays : List Play) × (lines : List Line) × (new : State) × CameTo f options a plays lines new × IsOver f b new
+
+-- The lines of a report over an opened image: those of plays as far as they came, or of all that were to be taken and behind
+-- them those of unfinished commands.
+pub data IsReport (f : Form) (options : Options) (img : List ℕ) : List Line → Type 0 where
+  report_so_far : (plays : List Play) (lines : List Line) (new : State) → CameTo f options img plays lines new → IsReport f options img lines
+  report_whole : (plays : List Play) (lines : List Line) (world : World) (now : List ℕ) → LeadsTo f options img plays lines (state_in world now)
+      → IsReport f options img (lines ++ unfinished 1 world.openers)
+
+-- A file was opened, for turns with these options.
+pub record IsOpened (options : Options) (old opened : History) : Type 0 where
+  pub left : TurnOpened options old opened
+  pub reads : seen opened ≡ opened_bytes (seen old)
+
+-- All plays of the script on the input were taken over a file, and their report was printed. They lead from a world just
+-- loaded over what the file was read as to one over what is left of it.
+pub record IsPlayed (options : Options) (input : Input) (output : Output) (old now : History) : Type 0 where
+  pub opened : History
+  pub is_opened : IsOpened options old opened
+  pub plays : List Play
+  pub script : HasScript input plays
+  pub whole : PlayedWhole (form_of (seen opened)) options (seen opened) plays (seen now) output.tells output.before output.after
+
+-- Plays were taken over a file as far as they came, and it is left as they say.
+pub record IsPlayedSoFar (options : Options) (old now : History) : Type 0 where
+  pub opened : History
+  pub is_opened : IsOpened options old opened
+  pub came : CameOver (form_of (seen opened)) options (seen opened) (seen now)
+
+-- What is printed before the line of an ending: a front of the text of a report, or nothing where no play was taken.
+abbrev pub ReportFront : Options → List ℕ → List ℕ → Type 0
+ReportFront options img text = (lines : List Line) × IsReport (form_of img) options img lines × (n : ℕ) × (text ≡ take n (report_text lines))
+
+abbrev pub TurnsText : Options → Option History → Ending → List ℕ → Type 0
+TurnsText options (Some h) (Replied reply) text = ReportFront options (opened_bytes (seen h)) text
+TurnsText options (Some h) DeviceFault text = (text ≡ []) ⊎ ReportFront options (opened_bytes (seen h)) text
+TurnsText options (Some h) NoMemory text = (text ≡ []) ⊎ ReportFront options (opened_bytes (seen h)) text
+TurnsText options held e text = text ≡ []
+
+-- What is left of a file, which was there, by how its turns end: it is as it was, as an opening leaves it, or as the plays
+-- say, as far as they came. Where a call failed nothing is said.
+abbrev pub TurnsLeft : Options → History → Ending → History → Type 0
+TurnsLeft options old (Replied reply) now = (reply ≡ Played) × IsPlayedSoFar options old now
+TurnsLeft options old (Refused refusal) now = TurnOpened options old now
+TurnsLeft options old DeviceFault now = Unit {0}
+TurnsLeft options old NoMemory now = SameOrUndone old now ⊎ IsPlayedSoFar options old now
+TurnsLeft options old InputFault now = now ≡ old
+TurnsLeft options old (Malformed at) now = now ≡ old
+TurnsLeft options old (Missing name) now = ⊥
+TurnsLeft options old (There name) now = ⊥
+TurnsLeft options old Usage now = ⊥
+
+-- what is left at the name of the file; where none was there is none
+abbrev pub TurnsLeave : Options → Option History → Ending → Option History → Type 0
+TurnsLeave options None e now = now ≡ None
+TurnsLeave options (Some old) e now = (h : History) × (now ≡ Some h) × TurnsLeft options old e h
+
+-- where all plays were taken and printed
+abbrev pub AllPlayed : Options → Input → Output → Option History → Option History → Type 0
+AllPlayed options input output old now = (file : History) × (left : History) × (old ≡ Some file) × (now ≡ Some left) × IsPlayed options input output file left

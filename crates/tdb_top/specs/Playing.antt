@@ -1,0 +1,164 @@
+-- How plays are taken over a view of a file and told on an output, as far as they come.
+use Rattle.std.specs.Prelude.{◌≡◌, ℕ, ◌≤◌, Bool, IsTrue, List, ◌++◌, Option, None, Some, Result, Ok, Err}
+use Rattle.tdb_disk.specs.Count.{Rose}
+use Rattle.tdb_space.specs.Form.{Form, form_in, form_of}
+use Rattle.tdb_backup.specs.Dump.{WroteFront}
+use Rattle.tdb_law.specs.Plays.{Course}
+use Rattle.tdb_law.specs.World.{State}
+use Rattle.tdb_plays.specs.InLaw.{law_plays, law_lines}
+use Rattle.tdb_plays.specs.declared.line.Line.{Line}
+use Rattle.tdb_plays.specs.declared.play.Play.{Play}
+use Rattle.tdb_script.specs.Text.{report_text}
+use Rattle.tdb_world.specs.Played.{ComesTo}
+use Rattle.tdb_world.specs.Worlds.{World, state_in, Stands, BytesStand}
+use Rattle.tdb_top.specs.declared.ending.Unprinted.{Unprinted}
+use Rattle.tdb_top.specs.declared.ending.Unprinted.TheVariants as Rest
+use Rattle.tdb_disk.specs.History.{History, seen}
+use Rattle.tdb_top.specs.declared.ending.Ending.{Ending}
+use Rattle.tdb_top.specs.declared.ending.Ending.TheVariants.{Replied, Refused, Missing, DeviceFault, NoMemory}
+use Rattle.tdb_top.specs.declared.ending.Reply.TheVariants.{Played}
+use Rattle.tdb_top.specs.declared.halt.Refusal.{Refusal}
+use Rattle.tdb_top.specs.declared.halt.Halt.{Halt}
+use Rattle.tdb_top.specs.declared.halt.Halt.TheVariants as H
+use Rattle.tdb_top.specs.declared.opening.Opened.{Opened}
+use Rattle.tdb_top.specs.Ending.{of_halt}
+use Rattle.tdb_top.specs.Opening.{SameOrUndone}
+use Rattle.tdb_top.specs.declared.halt.Fault.{Fault}
+use Rattle.tdb_top.specs.declared.halt.Fault.TheVariants as F
+use Rattle.tdb_dump.specs.declared.writer.WriteRefusal.{WriteRefusal}
+use Rattle.tdb_dump.specs.declared.writer.WriteRefusal.TheVariants as Untold
+use Rattle.tdb_world.specs.declared.fault.RunFault.{RunFault}
+use Rattle.tdb_world.specs.declared.fault.RunFault.TheVariants as Run
+use Rattle.tdb_world.specs.declared.options.Options.{Options}
+use Rattle.tdb_top.specs.Commands.Turns.{PlayedWhole, CameOver, IsReport, OpensToTurn, IsRefusedToTurn, TurnOpened, IsOpened}
+
+-- how plays end: all were taken and told; or they broke off, since the disk failed or memory was wanting; or the output
+-- failed
+abbrev pub PlaysEnd : Type 0
+PlaysEnd = Result (Result (Unit {0}) Fault) Unprinted
+
+-- what holds unless the disk failed, and where it did
+abbrev pub UnlessBroken : PlaysEnd → Type 0 → Type 0
+UnlessBroken (Ok (Err F.Device)) p = Unit {0}
+UnlessBroken (Err Rest.Fault) p = Unit {0}
+UnlessBroken answer p = p
+
+abbrev pub OnBroken : PlaysEnd → Type 0 → Type 0
+OnBroken (Ok (Err F.Device)) p = p
+OnBroken (Err Rest.Fault) p = p
+OnBroken answer p = Unit {0}
+
+-- an end that no failed call of the disk made
+abbrev pub IsUnbroken : PlaysEnd → Type 0
+IsUnbroken (Ok (Err F.Device)) = ⊥
+IsUnbroken (Err Rest.Fault) = ⊥
+IsUnbroken (Err Rest.Pairs) = ⊥
+IsUnbroken answer = Unit {0}
+
+-- All plays were taken from a state to another, and their lines written behind what was there; or they came to a state, and
+-- a front of the text of their lines was written.
+abbrev pub TellsAll : Form → State → List Play → State → Bool → List ℕ → List ℕ → Type 0
+TellsAll f old plays new told before now =
+    (lines : List Line) × Course f old (law_plays plays) (law_lines lines) new × (IsTrue told → now ≡ before ++ report_text lines)
+
+abbrev pub TellsFront : Form → State → List Play → State → Bool → List ℕ → List ℕ → Type 0
+TellsFront f old plays new told before now =
+    (lines : List Line) × ComesTo f old (law_plays plays) (law_lines lines) new × (IsTrue told → WroteFront before (report_text lines) now)
+
+-- by how they end; where the disk failed nothing is said of what is left
+abbrev pub RunsTo : Form → State → List Play → State → Bool → List ℕ → List ℕ → PlaysEnd → Type 0
+RunsTo f old plays new told before now (Ok (Ok v)) = TellsAll f old plays new told before now
+RunsTo f old plays new told before now (Ok (Err F.Device)) = (left : State) × TellsFront f old plays left told before now
+RunsTo f old plays new told before now (Ok (Err F.Memory)) = TellsFront f old plays new told before now
+RunsTo f old plays new told before now (Err Rest.Report) = TellsFront f old plays new told before now
+RunsTo f old plays new told before now (Err Rest.Fault) = (left : State) × TellsFront f old plays left told before now
+RunsTo f old plays new told before now (Err Rest.Pairs) = ⊥
+
+-- A moment of the plays: the world, the bytes and the length of its file, the count of faults of its disk, and what is
+-- written on the output.
+pub record Scene : Type 0 where
+  pub world : World
+  pub image : List ℕ
+  pub size : ℕ
+  pub faults : ℕ
+  pub written : List ℕ
+
+abbrev pub scene : World → List ℕ → ℕ → ℕ → List ℕ → Scene
+scene world image size faults written = record { world = world; image = image; size = size; faults = faults; written = written }
+
+-- Plays led from one moment to another, and ended so, over a disk and an output that tell or don't.
+pub record Ran (disk_tells output_tells : Bool) (old new : Scene) (plays : List Play) (answer : PlaysEnd) : Type 0 where
+  pub header : new.world.header ≡ old.world.header
+  pub options : new.world.options ≡ old.world.options
+  pub stands : UnlessBroken answer (Stands new.world new.image new.size)
+  pub rises : old.faults ≤ new.faults
+  pub quiet : UnlessBroken answer (new.faults ≡ old.faults)
+  pub bytes : IsTrue disk_tells → BytesStand old.world old.image → UnlessBroken answer (BytesStand new.world new.image)
+  pub runs : IsTrue disk_tells → BytesStand old.world old.image
+      → RunsTo (form_in old.world.header) (state_in old.world old.image) plays (state_in new.world new.image) output_tells old.written new.written answer
+  pub rose : IsTrue disk_tells → BytesStand old.world old.image → OnBroken answer (Rose old.faults new.faults)
+
+-- How all plays end, over the image a, which is b after them, on an output that tells what it holds or doesn't.
+abbrev pub PlayedFront : Form → Options → List ℕ → Bool → List ℕ → List ℕ → Type 0
+PlayedFront f options a told before now = (lines : List Line) × IsReport f options a lines × (IsTrue told → WroteFront before (report_text lines) now)
+
+abbrev pub PlayedOver : Form → Options → List ℕ → List Play → List ℕ → Bool → List ℕ → List ℕ → PlaysEnd → Type 0
+PlayedOver f options a plays b told before now (Ok (Ok v)) = PlayedWhole f options a plays b told before now
+PlayedOver f options a plays b told before now (Ok (Err F.Device)) = PlayedFront f options a told before now
+PlayedOver f options a plays b told before now (Ok (Err F.Memory)) = PlayedFront f options a told before now × CameOver f options a b
+PlayedOver f options a plays b told before now (Err Rest.Report) = PlayedFront f options a told before now × CameOver f options a b
+PlayedOver f options a plays b told before now (Err Rest.Fault) = PlayedFront f options a told before now
+PlayedOver f options a plays b told before now (Err Rest.Pairs) = ⊥
+
+-- A file was opened for turns with these options, or wasn't.
+abbrev pub OpenedToTurn : Options → History → History → Result Opened Halt → Type 0
+OpenedToTurn options old now (Ok o) = OpensToTurn options (seen old) × IsOpened options old now
+OpenedToTurn options old now (Err (H.Refused refusal)) = IsRefusedToTurn options (seen old) refusal × TurnOpened options old now
+OpenedToTurn options old now (Err H.Device) = Unit {0}
+OpenedToTurn options old now (Err H.Memory) = SameOrUndone old now
+
+-- How turns over a file end that is there: it is refused, or it is opened and the plays are taken. Nothing was written where
+-- it wasn't opened.
+pub record PlayedOn (options : Options) (old now : History) (told : Bool) (before after : List ℕ) (answer : PlaysEnd) (plays : List Play) : Type 0 where
+  pub opened : History
+  pub opens : OpensToTurn options (seen old)
+  pub is_opened : IsOpened options old opened
+  pub over : PlayedOver (form_of (seen opened)) options (seen opened) plays (seen now) told before after answer
+
+-- how they end, as a run tells it
+abbrev pub end_told : PlaysEnd → Result Ending Unprinted
+end_told (Ok (Ok v)) = Ok (Replied Played)
+end_told (Ok (Err F.Device)) = Ok DeviceFault
+end_told (Ok (Err F.Memory)) = Ok NoMemory
+end_told (Err unprinted) = Err unprinted
+
+pub data PlayedFile (options : Options) (old now : History) (plays : List Play) (told : Bool) (before after : List ℕ) : Result Ending Unprinted → Type 0 where
+  file_unplayed : (halt : Halt) → OpenedToTurn options old now (Err halt) → after ≡ before → PlayedFile options old now plays told before after (Ok (of_halt halt))
+  file_played : (answer : PlaysEnd) → PlayedOn options old now told before after answer plays → PlayedFile options old now plays told before after (end_told answer)
+
+-- all plays were taken over the file that is held, and told
+abbrev pub PlayedAll : Options → List Play → Option History → Option History → Bool → List ℕ → List ℕ → Type 0
+PlayedAll options plays old now told before after =
+    (file : History) × (left : History) × (old ≡ Some file) × (now ≡ Some left) × (opened : History) × IsOpened options file opened
+    × PlayedWhole (form_of (seen opened)) options (seen opened) plays (seen left) told before after
+
+-- Why turns over the file of this name end so that have their script: there is none, or it is refused, or it is opened; or a
+-- call failed, or memory was wanting.
+pub data PlaysCause (options : Options) (name : List ℕ) (held : Option History) (before after : ℕ) : Ending → Type 0 where
+  plays_nowhere : held ≡ None → PlaysCause options name held before after (Missing name)
+  plays_refused : (h : History) (refusal : Refusal) → held ≡ Some h → IsRefusedToTurn options (seen h) refusal → PlaysCause options name held before after (Refused refusal)
+  plays_opened : (h : History) → held ≡ Some h → OpensToTurn options (seen h) → PlaysCause options name held before after (Replied Played)
+  plays_failed : Rose before after → PlaysCause options name held before after DeviceFault
+  plays_wanting : PlaysCause options name held before after NoMemory
+
+-- how plays end, by how they were taken and how they were told
+abbrev pub end_of : Result (Unit {0}) RunFault → Result (Unit {0}) WriteRefusal → PlaysEnd
+end_of (Ok v) (Ok w) = Ok (Ok tt)
+end_of (Ok v) (Err Untold.Memory) = Ok (Err F.Memory)
+end_of (Ok v) (Err Untold.Failed) = Err Rest.Report
+end_of (Err Run.Memory) (Ok w) = Ok (Err F.Memory)
+end_of (Err Run.Memory) (Err Untold.Memory) = Ok (Err F.Memory)
+end_of (Err Run.Memory) (Err Untold.Failed) = Err Rest.Report
+end_of (Err Run.Io) (Ok w) = Ok (Err F.Device)
+end_of (Err Run.Io) (Err Untold.Memory) = Ok (Err F.Device)
+end_of (Err Run.Io) (Err Untold.Failed) = Err Rest.Fault

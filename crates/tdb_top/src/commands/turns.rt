@@ -1,0 +1,375 @@
+// The command that takes the plays of a script over a file, and prints their report.
+
+ghost use Rattle.std.specs.Prelude.{◌≡◌, ◌≢◌, ◌≤◌, ◌+◌, ◌*◌, ◌&&◌, ℕ, List, [], Some, None, Ok, Err, false, true, map, string_bytes, IsTrue, IfOk, IfErr, IfSome, OnOk, length};
+ghost use Rattle.std.specs.Option.{option_map};
+ghost use Rattle.tdb_disk.specs.Count.{HasCause, HasCauseOf, Rose};
+ghost use Rattle.tdb_disk.specs.History.{seen};
+ghost use Rattle.tdb_disk.specs.Names.{SameBut};
+ghost use Rattle.tdb_space.specs.Form.{form_of};
+ghost use Rattle.tdb_world.specs.Given.{AreServed};
+ghost use Rattle.tdb_top.specs.declared.ask.Task.TheVariants.{Turns};
+ghost use Rattle.tdb_top.specs.declared.ending.Ending.TheVariants.{Replied, Usage};
+ghost use Rattle.tdb_top.specs.declared.ending.Reply.TheVariants.{Played};
+ghost use Rattle.tdb_top.specs.declared.halt.Halt.TheVariants.{Device};
+ghost use Rattle.tdb_top.specs.Commands.Restore.{HeardBy, of_input};
+ghost use Rattle.tdb_top.specs.Commands.Turns as T;
+ghost use Rattle.tdb_top.specs.Ending.{CountedIf};
+ghost use Rattle.tdb_top.specs.Input.{input_by};
+ghost use Rattle.tdb_top.specs.Looks.{ending_of, Began};
+ghost use Rattle.tdb_top.specs.Opening.{opened_bytes, IsCheckedOn};
+ghost use Rattle.tdb_top.specs.Output.{output_by};
+ghost use Rattle.tdb_top.specs.Playing.{OpenedToTurn, PlayedOver, PlayedFile, PlayedAll, PlaysCause, UnlessBroken, OnBroken};
+ghost use Rattle.tdb_top.specs.Reads.{AskCause};
+
+use crate::ending::{Ending, Reply, Unprinted};
+use crate::halt::{Fault, Halt, Refusal};
+use crate::limits::LONGEST_FILE;
+use crate::opening::Opened;
+use crate::playing::play_all;
+use crate::scripts::plays_on;
+use crate::words::{is_option, is_short, limit_of};
+use std::alloc::Global;
+use tdb_disk::{Disk, Files, Sink, Source, Take};
+use tdb_plays::Play;
+use tdb_space::Direct;
+use tdb_world::Options;
+
+/// The words of turns.
+#[derive(Clone, Copy, Debug)]
+pub(crate) struct Line<'a> {
+    /// The name of the file.
+    pub(crate) file: &'a str,
+
+    /// How the file is opened.
+    pub(crate) options: Options,
+}
+
+/// The words as far as they were read.
+#[derive(Clone, Copy, Debug)]
+struct Words<'a> {
+    file: Option<&'a str>,
+    limit: Option<u32>,
+    nesting: bool,
+    read_only: bool,
+    seqnum: bool,
+
+    /// The next word is the limit.
+    wants_limit: bool,
+
+    /// No option follows.
+    ended: bool,
+}
+
+/// What is written in one word behind `--limit=`.
+fn limit_in(word: &str) -> Option<u32>
+    ensures read { result ≡ T.limit_in word.now }
+    ensures fits { IfSome result (λ n. n ≤ 4294963200) }
+{
+    match word.strip_prefix("--limit=") {
+        Some(limit) => limit_of(limit),
+        None => None,
+    }
+}
+
+impl<'a> Words<'a> {
+    ghost use Rattle.tdb_top.specs.Commands.Turns.{HasLimit, seen_words, no_words, with_file, with_limit, with_option, with_word, with_words, whole_words};
+
+    /// Before the first word.
+    fn new() -> Words<'a>
+        ensures seen { seen_words result ≡ no_words }
+        ensures fits { HasLimit result.limit }
+    {
+        Words {
+            file: None,
+            limit: None,
+            nesting: true,
+            read_only: false,
+            seqnum: false,
+            wants_limit: false,
+            ended: false,
+        }
+    }
+
+    /// With the name of the file, where none has come.
+    fn with_file(self, word: &'a str) -> Option<Words<'a>>
+        ensures seen { option_map seen_words result ≡ with_file (seen_words self.entry) word.now }
+        ensures fits { HasLimit self.entry.limit → IfSome result (λ w. HasLimit w.limit) }
+    {
+        if self.file.is_some() || !is_short(word.as_bytes()) {
+            return None;
+        }
+        Some(Words {
+            file: Some(word),
+            ..self
+        })
+    }
+
+    /// With the limit, where none has come.
+    fn with_limit(self, limit: Option<u32>) -> Option<Words<'a>>
+        ensures seen { option_map seen_words result ≡ with_limit (seen_words self.entry) limit }
+        ensures fits { HasLimit limit → IfSome result (λ w. HasLimit w.limit) }
+    {
+        if limit.is_none() || self.limit.is_some() {
+            return None;
+        }
+        Some(Words {
+            limit,
+            wants_limit: false,
+            ..self
+        })
+    }
+
+    /// With an option that hasn't come.
+    fn with_option(self, word: &str) -> Option<Words<'a>>
+        ensures seen { option_map seen_words result ≡ with_option (seen_words self.entry) word.now }
+        ensures fits { HasLimit self.entry.limit → IfSome result (λ w. HasLimit w.limit) }
+    {
+        match word {
+            "--no-nesting" if self.nesting => Some(Words {
+                nesting: false,
+                ..self
+            }),
+            "--read-only" if !self.read_only => Some(Words {
+                read_only: true,
+                ..self
+            }),
+            "--seqnum" if !self.seqnum => Some(Words {
+                seqnum: true,
+                ..self
+            }),
+            "--limit" if self.limit.is_none() => Some(Words {
+                wants_limit: true,
+                ..self
+            }),
+            "--no-nesting" | "--read-only" | "--seqnum" | "--limit" => None,
+            _ => self.with_limit(limit_in(word)),
+        }
+    }
+
+    /// With one more word.
+    fn with_word(self, word: &'a str) -> Option<Words<'a>>
+        ensures seen { option_map seen_words result ≡ with_word (seen_words self.entry) word.now }
+        ensures fits { HasLimit self.entry.limit → IfSome result (λ w. HasLimit w.limit) }
+    {
+        if self.ended {
+            return self.with_file(word);
+        }
+        if self.wants_limit {
+            return if is_option(word) {
+                None
+            } else {
+                self.with_limit(limit_of(word))
+            };
+        }
+        if word == "--" {
+            return Some(Words {
+                ended: true,
+                ..self
+            });
+        }
+        if is_option(word) {
+            self.with_option(word)
+        } else {
+            self.with_file(word)
+        }
+    }
+
+    /// With these words more.
+    fn with_words(self, words: &'a [String]) -> Option<Words<'a>>
+        ensures seen { option_map seen_words result ≡ with_words (seen_words self.entry) (map string_bytes words.now) }
+        ensures fits { HasLimit self.entry.limit → IfSome result (λ w. HasLimit w.limit) }
+    {
+        let [word, rest @ ..] = words else {
+            return Some(self);
+        };
+        self.with_word(word.as_str())?.with_words(rest)
+    }
+
+    /// The file and its options, where the words are whole.
+    fn whole(self) -> Option<Line<'a>>
+        ensures seen { option_map (λ line. (line.file.now, line.options)) result ≡ whole_words (seen_words self.entry) }
+        ensures fits { HasLimit self.entry.limit → IfSome result (λ line. line.options.limit ≤ 4294963200) }
+    {
+        if self.wants_limit {
+            return None;
+        }
+        let file = self.file?;
+        let options = Options {
+            limit: match self.limit {
+                Some(limit) => u64::from(limit),
+                None => LONGEST_FILE,
+            },
+            nesting: self.nesting,
+            read_only: self.read_only,
+            seqnum: self.seqnum,
+        };
+        Some(Line { file, options })
+    }
+}
+
+impl<'a> Line<'a> {
+    /// Parts the words behind the command's name: the file, with options before and behind it.
+    pub(crate) fn of(words: &'a [String]) -> Option<Line<'a>>
+        ensures read { option_map (λ line. (line.file.now, line.options)) result ≡ T.turns_of_words (map string_bytes words.now) }
+        ensures fits { IfSome result (λ line. line.options.limit ≤ 4294963200) }
+    {
+        Words::new().with_words(words)?.whole()
+    }
+}
+
+/// Opens the file on a disk, which isn't too long, to read it alone or not.
+fn open_as_asked<D: Disk>(alloc: Global, options: &Options, disk: &mut D) -> Result<Opened, Halt>
+    ensures opened { IsTrue D.tells → length (seen (D.history disk.old)) ≤ options.now.limit → OpenedToTurn options.now (D.history disk.old) (D.history disk.new) result }
+    ensures checked { IfOk result (λ o. IsTrue D.tells → IsCheckedOn (seen (D.history disk.new)) o) }
+    ensures length { IfOk result (λ o. o.len ≡ D.size disk.new) }
+    ensures cause { HasCauseOf Device (D.faults disk.old) (D.faults disk.new) result }
+{
+    if options.read_only {
+        return Opened::open_to_read(alloc, disk);
+    }
+    Opened::open(alloc, disk)
+}
+
+/// Opens the file on a disk for turns with these options. Where it is to be read alone, or nothing has to be undone, it
+/// changes nothing. What an undo gives is no longer than the file was, so that is tested for a file that doesn't tell what
+/// it holds.
+fn open_to_turn<D: Disk>(alloc: Global, options: &Options, disk: &mut D) -> Result<Opened, Halt>
+    ensures opened { IsTrue D.tells → OpenedToTurn options.now (D.history disk.old) (D.history disk.new) result }
+    ensures checked { IfOk result (λ o. IsTrue D.tells → IsCheckedOn (seen (D.history disk.new)) o) }
+    ensures length { IfOk result (λ o. o.len ≡ D.size disk.new) }
+    ensures short { IfOk result (λ o. o.len ≤ options.now.limit) }
+    ensures cause { HasCauseOf Device (D.faults disk.old) (D.faults disk.new) result }
+{
+    let len = disk.len()?;
+    if len > options.limit {
+        return Err(Halt::Refused {
+            refusal: Refusal::TooLong { len },
+        });
+    }
+    let opened = open_as_asked(alloc, options, disk)?;
+    if opened.len > options.limit {
+        return Err(Halt::Refused {
+            refusal: Refusal::TooLong { len: opened.len },
+        });
+    }
+    Ok(opened)
+}
+
+/// Takes plays over the opened file on a disk, and tells them.
+fn play_opened<D: Disk, K: Sink>(
+    alloc: Global,
+    opened: &Opened,
+    options: &Options,
+    plays: &[Play],
+    disk: &mut D,
+    output: &mut K,
+) -> Result<Result<(), Fault>, Unprinted>
+    requires limit { options.now.limit ≤ 4294963200 }
+    requires length { opened.now.len ≡ D.size disk.old }
+    requires short { opened.now.len ≤ options.now.limit }
+    requires checked { IsTrue D.tells → IsCheckedOn (seen (D.history disk.old)) opened.now }
+    requires served { AreServed plays.now }
+    ensures played { IsTrue D.tells → PlayedOver (form_of (seen (D.history disk.old))) options.now (seen (D.history disk.old)) plays.now (seen (D.history disk.new)) K.tells (K.written output.old) (K.written output.new) result }
+    ensures rises { D.faults disk.old ≤ D.faults disk.new }
+    ensures quiet { UnlessBroken result (D.faults disk.new ≡ D.faults disk.old) }
+    ensures rose { IsTrue D.tells → OnBroken result (Rose (D.faults disk.old) (D.faults disk.new)) }
+    ensures cause { HasCause (K.faults output.old) (K.faults output.new) result }
+{
+    let mut space = Direct::new(disk, &opened.header);
+    play_all(alloc, &mut space, &opened.header, options, plays, output)
+}
+
+/// Opens the file on a disk, takes plays over it, and tells them.
+fn play_on_disk<D: Disk, K: Sink>(
+    alloc: Global,
+    options: &Options,
+    plays: &[Play],
+    disk: &mut D,
+    output: &mut K,
+) -> Result<Ending, Unprinted>
+    requires limit { options.now.limit ≤ 4294963200 }
+    requires served { AreServed plays.now }
+    ensures played { IsTrue D.tells → PlayedFile options.now (D.history disk.old) (D.history disk.new) plays.now K.tells (K.written output.old) (K.written output.new) result }
+    ensures counted { CountedIf D.tells (D.faults disk.old) (D.faults disk.new) (ending_of result) }
+    ensures cause { HasCause (K.faults output.old) (K.faults output.new) result }
+    ensures asked { ending_of result ≡ Usage → ⊥ }
+    ensures unread { of_input (ending_of result) ≡ false }
+{
+    let opened = match open_to_turn(alloc, options, disk) {
+        Ok(opened) => opened,
+        Err(halt) => return Ok(Ending::from(halt)),
+    };
+    match play_opened(alloc, &opened, options, plays, disk, output)? {
+        Ok(()) => Ok(Ending::Replied(Reply::Played)),
+        Err(Fault::Device) => Ok(Ending::DeviceFault),
+        Err(Fault::Memory) => Ok(Ending::NoMemory),
+    }
+}
+
+/// Takes plays over the file of this name, and tells them.
+fn play_on_file<F: Files, K: Sink>(
+    alloc: Global,
+    name: &str,
+    options: &Options,
+    plays: &[Play],
+    files: &mut F,
+    output: &mut K,
+) -> Result<Ending, Unprinted>
+    requires limit { options.now.limit ≤ 4294963200 }
+    requires served { AreServed plays.now }
+    requires free { (other : List ℕ) → F.is_taken files.old other ≡ false }
+    ensures cause { IsTrue F.D.tells → PlaysCause options.now name.now (F.held files.old name.now) (F.faults files.old) (F.faults files.new) (ending_of result) }
+    ensures left { IsTrue F.D.tells → T.TurnsLeave options.now (F.held files.old name.now) (ending_of result) (F.held files.new name.now) }
+    ensures others { SameBut name.now (F.held files.old) (F.held files.new) }
+    ensures given_back { (other : List ℕ) → F.is_taken files.new other ≡ false }
+    ensures counted { CountedIf F.D.tells (F.faults files.old) (F.faults files.new) (ending_of result) }
+    ensures began { IsTrue (K.tells && F.D.tells) → Began (T.TurnsText options.now (F.held files.old name.now)) (K.written output.old) (K.written output.new) result }
+    ensures whole { IsTrue F.D.tells → result ≡ Ok (Replied Played) → PlayedAll options.now plays.now (F.held files.old name.now) (F.held files.new name.now) K.tells (K.written output.old) (K.written output.new) }
+    ensures output_cause { HasCause (K.faults output.old) (K.faults output.new) result }
+    ensures asked { ending_of result ≡ Usage → ⊥ }
+    ensures unread { of_input (ending_of result) ≡ false }
+{
+    let how = if options.read_only {
+        Take::ReadOnly
+    } else {
+        Take::Existing
+    };
+    match files.take(alloc, name, how) {
+        Ok(mut disk) => {
+            let played = play_on_disk(alloc, options, plays, &mut disk, output);
+            files.give(name, disk);
+            played
+        }
+        Err(refusal) => Ok(Ending::untaken(alloc, name, refusal)),
+    }
+}
+
+/// Takes the plays of the script on the input over the file of this name, and tells them. The script is read whole before
+/// the file is taken.
+pub(crate) fn turns_on_file<F: Files, S: Source, K: Sink>(
+    alloc: Global,
+    name: &str,
+    options: &Options,
+    files: &mut F,
+    input: &mut S,
+    output: &mut K,
+) -> Result<Ending, Unprinted>
+    requires limit { options.now.limit ≤ 4294963200 }
+    requires free { (other : List ℕ) → F.is_taken files.old other ≡ false }
+    ensures cause { IsTrue F.D.tells → AskCause (input_by S.tells (S.left input.old) (S.faults input.old) (S.faults input.new)) (Turns options.now) name.now (F.held files.old name.now) (F.faults files.old) (F.faults files.new) (ending_of result) }
+    ensures left { IsTrue F.D.tells → T.TurnsLeave options.now (F.held files.old name.now) (ending_of result) (F.held files.new name.now) }
+    ensures others { SameBut name.now (F.held files.old) (F.held files.new) }
+    ensures given_back { (other : List ℕ) → F.is_taken files.new other ≡ false }
+    ensures counted { CountedIf F.D.tells (F.faults files.old) (F.faults files.new) (ending_of result) }
+    ensures began { IsTrue (K.tells && F.D.tells) → Began (T.TurnsText options.now (F.held files.old name.now)) (K.written output.old) (K.written output.new) result }
+    ensures played { IsTrue F.D.tells → result ≡ Ok (Replied Played) → T.AllPlayed options.now (input_by S.tells (S.left input.old) (S.faults input.old) (S.faults input.new))
+        (output_by K.tells (K.written output.old) (K.written output.new) (K.faults output.old) (K.faults output.new)) (F.held files.old name.now) (F.held files.new name.now) }
+    ensures output_cause { HasCause (K.faults output.old) (K.faults output.new) result }
+    ensures asked { ending_of result ≡ Usage → ⊥ }
+    ensures heard { HeardBy (S.faults input.old) (S.faults input.new) (ending_of result) }
+{
+    match plays_on(alloc, input) {
+        Ok(plays) => play_on_file(alloc, name, options, plays.as_slice(), files, output),
+        Err(fault) => Ok(Ending::from(fault)),
+    }
+}
