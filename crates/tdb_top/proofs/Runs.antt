@@ -748,7 +748,6 @@ module _ (run : Run) (t : Ending) (out : Exits run.status t) (counted : CountedB
   task_kept keeps (Backup more suffix) file name five same at copy =
       stopped_kept suffix run.old run.now _ (λ broken. elim broken.0 [ inl four ↦ keeps.1 four | inr eight ↦ keeps.2 eight ]) (file ∷ more)
       ((backup_run run.faults_before run.faults_after run.status suffix (file ∷ more) run.old run.now t out counted (λ done. silent (inr done)) at).stopped keeps.0) name (λ among. copy (more, suffix, file, refl, among)) (same name)
-
   task_kept keeps (Turns options) file name five same at copy = at_name name file (file_kept keeps (five refl) options file (run.old file) at) (same name)
 
   kept : KeepsAll run.status → ((options : Options) (name : List ℕ) → run.ask ≡ Some (record { file = name; task = Turns options }) → run.status ≡ 5 → ⊥) → (name : List ℕ) → (IsCopyName run.ask name → ⊥) → HeldOrUndone (run.old name) (run.now name)

@@ -97,8 +97,8 @@ pub record RefusesExactly (run : Run) : Type 0 where
   pub read_only : (look : Look) (name : List ℕ) (h : History) → LooksInto run look name h → run.status ≡ 3 → OpensToRead (seen h) → ⊥
   pub read_exact : (look : Look) (name : List ℕ) (h : History) → LooksInto run look name h → (OpensToRead (seen h) → ⊥) → length (seen h) ≤ LONGEST_FILE → (run.status ≡ 3) ⊎ TellsFault run.status
 
--- a status after which every file is as before or undone, whatever the words ask for, but for copies: it says neither
--- that it was done, nor that a call of the files or of the output failed
+-- a status after which every file is as before or undone, whatever the words ask for, but for copies, and for turns that
+-- broke off for want of memory: it says neither that it was done, nor that a call of the files or of the output failed
 abbrev pub KeepsAll : ℕ → Type 0
 KeepsAll status = (status ≢ 0) × (status ≢ 4) × (status ≢ 8)
 

@@ -26,4 +26,6 @@ mod create_tests;
 #[cfg(test)]
 mod tests;
 #[cfg(test)]
+mod turns_tests;
+#[cfg(test)]
 mod undo_tests;

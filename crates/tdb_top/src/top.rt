@@ -114,7 +114,8 @@ pub fn run<F: Files, S: Source, K: Sink>(
     // A file is refused exactly where its bytes can't be opened.
     ensures refused { IsTrue F.D.tells → RefusesExactly (run_by words.now (F.held files.old) (F.held files.new) (F.faults files.old) (F.faults files.new) (input_by S.tells (S.left input.old) (S.faults input.old) (S.faults input.new)) (output_by K.tells (K.written output.old) (K.written output.new) (K.faults output.old) (K.faults output.new)) result.0) }
 
-    // At most the file that is asked for changes, and it is left as the status says.
+    // At most the file that is asked for changes, and what stands at the names of a backup, and they are left as the
+    // status says.
     ensures left { IsTrue F.D.tells → LeavesFiles (run_by words.now (F.held files.old) (F.held files.new) (F.faults files.old) (F.faults files.new) (input_by S.tells (S.left input.old) (S.faults input.old) (S.faults input.new)) (output_by K.tells (K.written output.old) (K.written output.new) (K.faults output.old) (K.faults output.new)) result.0) }
 
     // Whatever the files and the output tell: the usage comes exactly where the words ask for nothing, and each failed

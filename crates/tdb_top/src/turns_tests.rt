@@ -1,0 +1,160 @@
+// Scripts of turns: what is printed, and what is left of the file.
+
+use crate::tests::{Change, NEW_FILE, ONE_RECORD, USAGE, change, file_with, run_with};
+use std::alloc::{AllocError, Global};
+use std::test::Fail;
+use tdb_disk::{Call, MemFiles, MemSink};
+
+/// The file that a script runs on.
+#[derive(Clone, Copy, Debug, PartialEq, Eq)]
+enum Base {
+    /// A new one of 696 bytes.
+    New,
+
+    /// One of 4096 bytes with the record of `a`, whose value is `1`.
+    OneRecord,
+}
+
+/// What is there of these words of a file.
+const TWO_RECORDS: [Change; 3] = [(700, 3312), (4044, 1), (4056, 0x4242_3262)];
+
+/// The status of a run of turns on a file `f.tdb`, what it prints, and what is left of the file.
+fn run_script(
+    alloc: Global,
+    base: Base,
+    words: &str,
+    script: &str,
+    failing: Option<(Call, u64)>,
+) -> Result<(u8, Vec<u8>, Vec<u8>), AllocError> {
+    let mut image = file_with(&NEW_FILE);
+    let mut len = 696;
+    if base == Base::OneRecord {
+        change(&mut image, &ONE_RECORD);
+        len = 4096;
+    }
+    let mut files = MemFiles::new(alloc);
+    let mut output = MemSink::new(alloc);
+    files.put("f.tdb", image.get(..len).unwrap_or(&[]))?;
+    if let Some((call, nth)) = failing {
+        files.fail_disk("f.tdb", call, nth)?;
+    }
+    let (status, printed) = run_with(alloc, &mut files, script.as_bytes(), &mut output, words)?;
+    let left = files.get("f.tdb").unwrap_or(&[]).to_vec(alloc)?;
+    Ok((status, printed, left))
+}
+
+/// Two openers store, turn by turn.
+const TWO_STORES: &str =
+    "open\nopen\ngive 1 store a 1\ngive 2 store b 2\nturn 1\nturn 2\nturn 1\nturn 2\nturn 1\nturn 2\ngo 1\ngo 2\n";
+
+const TWO_STORES_TOLD: &str =
+    "1 open\n2 open\n1 step\n2 step\n1 step\n2 step\n1 step\n2 blocked 1 164\n1 step\ngrew 696 4096\n1 step\n1 done ok\n2 step\n2 step\n2 step\n2 done ok\n";
+
+/// One opener's explicit lock is in another's way.
+const LOCKS: &str =
+    "open\nopen\ndo 1 lock a\ndo 2 locknb a\ndo 2 fetch a\ndo 1 unlock a\ndo 1 unlock a\ngo 2\ndo 1 lock a\nturn 2\nturn 5\n";
+
+const LOCKS_TOLD: &str =
+    "1 open\n2 open\n1 done ok\n2 done busy 1 196\n2 blocked 1 196\n1 done ok\n1 done notlocked\n2 step\n2 done data(1) = \"1\"\n1 done ok\n2 idle\n5 absent\n";
+
+/// A file that is only read.
+const READ_ONLY: &str = "open\ndo 1 store a 2\ndo 1 has a\ndo 1 close\ndo 1 check\n";
+
+const READ_ONLY_TOLD: &str = "1 open\n1 done rdonly\n1 step\n1 done yes\n1 done ok\n1 absent\n";
+
+#[test]
+fn reports(rt: HostRuntime) -> Result<(), Fail> {
+    let one = Base::OneRecord;
+    for (base, words, script, failing, status, printed) in [
+        (
+            Base::New,
+            "turns f.tdb",
+            TWO_STORES,
+            None,
+            0,
+            TWO_STORES_TOLD,
+        ),
+        (one, "turns f.tdb", LOCKS, None, 0, LOCKS_TOLD),
+        (
+            one,
+            "turns --read-only f.tdb",
+            READ_ONLY,
+            None,
+            0,
+            READ_ONLY_TOLD,
+        ),
+        (
+            one,
+            "turns f.tdb",
+            "open\ngive 1 store a 2\nturn 1",
+            None,
+            0,
+            "1 open\n1 step\n1 unfinished\n",
+        ),
+        (
+            one,
+            "turns f.tdb --seqnum",
+            "open\ndo 1 delete b\ndo 1 seqnum",
+            None,
+            0,
+            "1 open\n1 step\n1 done noexist\n1 done number 0\n",
+        ),
+        (
+            one,
+            "turns --limit 1000 f.tdb",
+            "",
+            None,
+            6,
+            "toolong 4096\n",
+        ),
+        (one, "turns --limit=4294963200 -- f.tdb", "", None, 0, ""),
+        (
+            one,
+            "turns g.tdb",
+            "open\ndo 1 start",
+            None,
+            7,
+            "input malformed at 5\n",
+        ),
+        (
+            one,
+            "turns g.tdb",
+            "# nothing\n",
+            None,
+            9,
+            "missing g.tdb\n",
+        ),
+        (
+            one,
+            "turns f.tdb",
+            "open\ndo 1 store a 22",
+            Some((Call::Write, 0)),
+            4,
+            "1 open\n1 step\ndevice fault\n",
+        ),
+        (one, "turns --limit 695 f.tdb", "", None, 2, USAGE),
+        (one, "turns --limit -- f.tdb", "", None, 2, USAGE),
+        (one, "turns --seqnum f.tdb --seqnum", "", None, 2, USAGE),
+        (one, "turns --read-only", "", None, 2, USAGE),
+    ] {
+        let (found, bytes, _) = run_script(rt.alloc(), base, words, script, failing)?;
+        assert_eq!(rt; bytes.as_slice(), printed.as_bytes(), "{words}");
+        assert_eq!(rt; found, status, "{words}");
+    }
+    Ok(())
+}
+
+#[test]
+fn what_two_stores_leave(rt: HostRuntime) -> Result<(), Fail> {
+    let (_, _, left) = run_script(rt.alloc(), Base::New, "turns f.tdb", TWO_STORES, None)?;
+    assert_eq!(rt; left.len(), 4096);
+    for (at, word) in TWO_RECORDS {
+        let at = usize::from(at);
+        assert_eq!(rt;
+            left.get(at..at + 4),
+            Some(word.to_le_bytes().as_slice()),
+            "{at}"
+        );
+    }
+    Ok(())
+}
