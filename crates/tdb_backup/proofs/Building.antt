@@ -13,8 +13,8 @@ use Rattle.tdb_space.specs.Form.{Form}
 use Rattle.tdb_space.specs.Extents.{HandPair}
 use Rattle.tdb_space.specs.Accepted.{AcceptWith}
 use Rattle.tdb_space.specs.Pairs.{same_key, map_of, order_of}
-use Rattle.tdb_space.proofs.Orders.{order_distinct}
-use Rattle.tdb_space.proofs.Maps.{same_key-eq, same_key-refl, same_key-other, lookup_append, lookup_absent}
+use Rattle.tdb_space.proofs.Pairs.Orders.{order_distinct}
+use Rattle.tdb_space.proofs.Pairs.Maps.{same_key-eq, same_key-refl, same_key-other, lookup_append, lookup_absent}
 use Rattle.tdb_backup.specs.declared.traversal.Traversal.{Traversal}
 use Rattle.tdb_backup.specs.Traversal.{Gave, pair_at_hand}
 use Rattle.tdb_backup.specs.Filling.{Added, InsertCause, HasNoRoom}

@@ -13,9 +13,9 @@ use Rattle.tdb_space.specs.Record.{IsChained, Fits, key_at, data_at, magic_of}
 use Rattle.tdb_space.specs.Chain.{Chain, IsLink, chain_of}
 use Rattle.tdb_space.specs.Pairs.{pairs, order_of}
 use Rattle.tdb_space.specs.Accepted.{AllFiled, IsFiled}
-use Rattle.tdb_space.proofs.Walks.{linked_short}
-use Rattle.tdb_space.proofs.Listed.{joined_more}
-use Rattle.tdb_space.proofs.Maps.{pairs_used, pairs_other}
+use Rattle.tdb_space.proofs.Chain.Walks.{linked_short}
+use Rattle.tdb_space.proofs.Pairs.Listed.{joined_more}
+use Rattle.tdb_space.proofs.Pairs.Maps.{pairs_used, pairs_other}
 use Rattle.tdb_backup.specs.declared.traversal.Traversal.{Traversal}
 use Rattle.tdb_backup.specs.Held.{IsPairOf}
 use Rattle.tdb_backup.specs.Traversal.{Gave, GaveChains, most_left, pair_at_hand, pairs_below}

@@ -7,8 +7,6 @@ mod filling;
 mod held;
 mod refusal;
 mod restoring;
-#[cfg(test)]
-mod tests;
 mod traversal;
 
 pub use crate::copying::copy_pairs;

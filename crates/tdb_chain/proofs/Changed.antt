@@ -6,8 +6,8 @@ use Rattle.tdb_space.specs.Chain.{chain_of}
 use Rattle.tdb_space.specs.Extents.{HandPair, times, extents, hand_extents}
 use Rattle.tdb_space.specs.Accepted.{AcceptWith}
 use Rattle.tdb_space.specs.Exchange.{Exchanged}
-use Rattle.tdb_space.proofs.Swaps.{exchanged, chain_now}
-use Rattle.tdb_space.proofs.Stays.{exchanged_changes, exchanged_free, changes_then, free_then_stays}
+use Rattle.tdb_space.proofs.Accepted.Swaps.{exchanged, chain_now}
+use Rattle.tdb_space.proofs.Stays.Changes.{exchanged_changes, exchanged_free, changes_then, free_then_stays}
 use Rattle.tdb_chain.specs.Changed.{ChainChanged}
 
 -- one chain and the hands were exchanged, and nothing beside the chain and the caller's own hands was written

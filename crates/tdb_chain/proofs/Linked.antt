@@ -16,12 +16,12 @@ use Rattle.tdb_space.specs.Extents.{HandPair, HandOk, times, extents, hand_exten
 use Rattle.tdb_space.specs.Accepted.{AcceptWith}
 use Rattle.tdb_space.specs.Exchange.{PutInFront, WrittenAt, Filled, LedPast, new_record}
 use Rattle.tdb_space.specs.NewRecord.{record_bytes}
-use Rattle.tdb_space.proofs.Hands.{turn_hands}
-use Rattle.tdb_space.proofs.Links.{link_exchanged, link_map}
-use Rattle.tdb_space.proofs.Maps.{home_below, same_key-refl}
-use Rattle.tdb_space.proofs.Overlaid.{word_length, word_put, outside}
-use Rattle.tdb_space.proofs.RecordBytes.{record_length, record_written, record_padded, written_kept}
-use Rattle.tdb_space.proofs.Written.{filled_written}
+use Rattle.tdb_space.proofs.Accepted.Hands.{turn_hands}
+use Rattle.tdb_space.proofs.Accepted.Links.{link_exchanged, link_map}
+use Rattle.tdb_space.proofs.Pairs.Maps.{home_below, same_key-refl}
+use Rattle.tdb_space.proofs.Exchange.Overlaid.{word_length, word_put, outside}
+use Rattle.tdb_space.proofs.NewRecord.RecordBytes.{record_length, record_written, record_padded, written_kept}
+use Rattle.tdb_space.proofs.Exchange.Written.{filled_written}
 use Rattle.tdb_chain.specs.declared.place.Place.{Place}
 use Rattle.tdb_chain.specs.Place.{HoldsKey, IsFound}
 use Rattle.tdb_chain.specs.Changed.{ChainChanged, KeySet, TookOut, with_hand, without_place, hand_at, hands_back}

@@ -11,12 +11,12 @@ use Rattle.tdb_space.specs.Extents.{HandPair, extent_at}
 use Rattle.tdb_space.specs.Exchange.{Agree}
 use Rattle.tdb_space.specs.Accepted.{AcceptWith}
 use Rattle.tdb_space.specs.Stays.{ChainStays}
-use Rattle.tdb_space.proofs.Counts.{once_in}
-use Rattle.tdb_space.proofs.Kept.{record_left, key_kept, data_kept}
-use Rattle.tdb_space.proofs.Members.{led_member, member_held}
-use Rattle.tdb_space.proofs.Removes.{filed_member}
-use Rattle.tdb_space.proofs.Stays.{map_stays}
-use Rattle.tdb_space.proofs.Walks.{linked_whole}
+use Rattle.tdb_space.proofs.Extents.Counts.{once_in}
+use Rattle.tdb_space.proofs.Exchange.Kept.{record_left, key_kept, data_kept}
+use Rattle.tdb_space.proofs.Chain.Members.{led_member, member_held}
+use Rattle.tdb_space.proofs.Accepted.Removes.{filed_member}
+use Rattle.tdb_space.proofs.Stays.Changes.{map_stays}
+use Rattle.tdb_space.proofs.Chain.Walks.{linked_whole}
 use Rattle.tdb_chain.specs.declared.place.Place.{Place}
 use Rattle.tdb_chain.specs.Place.{IsPlace, HoldsKey, IsFound}
 

@@ -8,8 +8,8 @@ use Rattle.tdb_space.specs.Form.{Form}
 use Rattle.tdb_space.specs.Extents.{HandPair}
 use Rattle.tdb_space.specs.Accepted.{AcceptWith}
 use Rattle.tdb_space.specs.Exchange.{ButSequence}
-use Rattle.tdb_space.proofs.Overlaid.{word_length}
-use Rattle.tdb_space.proofs.Stays.{sequence_stays, sequence_frees}
+use Rattle.tdb_space.proofs.Exchange.Overlaid.{word_length}
+use Rattle.tdb_space.proofs.Stays.Changes.{sequence_stays, sequence_frees}
 use Rattle.tdb_chain.specs.Changed.{OldOrWord}
 use Rattle.tdb_chain.specs.Raised.{OnlySequence}
 

@@ -17,11 +17,11 @@ use Rattle.tdb_space.specs.Pairs.{map_of, home, same_key}
 use Rattle.tdb_space.specs.Extents.{HandPair, times, extents, extent_at, hand_extents}
 use Rattle.tdb_space.specs.Accepted.{AcceptWith}
 use Rattle.tdb_space.specs.Exchange.{Exchanged, Touched}
-use Rattle.tdb_space.proofs.Counts.{once_in}
-use Rattle.tdb_space.proofs.Kept.{part_kept}
-use Rattle.tdb_space.proofs.Members.{member_held}
-use Rattle.tdb_space.proofs.Overlaid.{word_length, word_put, part_overlaid}
-use Rattle.tdb_space.proofs.Updates.{mark_exchanged, mark_map, update_exchanged, update_map}
+use Rattle.tdb_space.proofs.Extents.Counts.{once_in}
+use Rattle.tdb_space.proofs.Exchange.Kept.{part_kept}
+use Rattle.tdb_space.proofs.Chain.Members.{member_held}
+use Rattle.tdb_space.proofs.Exchange.Overlaid.{word_length, word_put, part_overlaid}
+use Rattle.tdb_space.proofs.Accepted.Updates.{mark_exchanged, mark_map, update_exchanged, update_map}
 use Rattle.tdb_chain.specs.declared.place.Place.{Place}
 use Rattle.tdb_chain.specs.Place.{HoldsKey}
 use Rattle.tdb_chain.specs.Changed.{ChainChanged, KeySet}

@@ -15,10 +15,10 @@ use Rattle.tdb_space.specs.Extents.{Extent, HandPair, once, times, extents, exte
 use Rattle.tdb_space.specs.Accepted.{AcceptWith}
 use Rattle.tdb_space.specs.Exchange.{Exchanged, LedPast}
 use Rattle.tdb_space.specs.Stays.{OnlyIn}
-use Rattle.tdb_space.proofs.Counts.{once_in}
-use Rattle.tdb_space.proofs.Members.{led_from, member_held}
-use Rattle.tdb_space.proofs.Overlaid.{led_past_written, only_same, put_only, word_length}
-use Rattle.tdb_space.proofs.Removes.{unlink_exchanged, unlink_map, purge_map, home_of_member}
+use Rattle.tdb_space.proofs.Extents.Counts.{once_in}
+use Rattle.tdb_space.proofs.Chain.Members.{led_from, member_held}
+use Rattle.tdb_space.proofs.Exchange.Overlaid.{led_past_written, only_same, put_only, word_length}
+use Rattle.tdb_space.proofs.Accepted.Removes.{unlink_exchanged, unlink_map, purge_map, home_of_member}
 use Rattle.tdb_chain.specs.declared.place.Place.{Place}
 use Rattle.tdb_chain.specs.Place.{IsPlace}
 use Rattle.tdb_chain.specs.Changed.{ChainChanged, KeySet, Purged, OldOrWord, hand_at}

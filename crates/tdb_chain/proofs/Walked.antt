@@ -13,9 +13,9 @@ use Rattle.tdb_space.specs.Record.{key_at, data_at, key_len_of, magic_of}
 use Rattle.tdb_space.specs.Chain.{chain_of, Leads}
 use Rattle.tdb_space.specs.Pairs.{map_of, home}
 use Rattle.tdb_space.specs.Accepted.{IsFiled}
-use Rattle.tdb_space.proofs.Maps.{home_below}
-use Rattle.tdb_space.proofs.Ahead.{Ahead, Next, ahead_start, ahead_record, ahead_more, ahead_found, ahead_end}
-use Rattle.tdb_space.proofs.Reached.{Reached, reached_start, reached_more, reached_here}
+use Rattle.tdb_space.proofs.Pairs.Maps.{home_below}
+use Rattle.tdb_space.proofs.Chain.Ahead.{Ahead, Next, ahead_start, ahead_record, ahead_more, ahead_found, ahead_end}
+use Rattle.tdb_space.proofs.Chain.Reached.{Reached, reached_start, reached_more, reached_here}
 use Rattle.tdb_chain.specs.declared.place.Place.{Place}
 use Rattle.tdb_chain.specs.Place.{LiesWithin, HoldsKey}
 use Rattle.tdb_chain.specs.Wanted.{IsWanted}

@@ -8,7 +8,7 @@ use Rattle.tdb_words.specs.declared.word.Order.{Order}
 use Rattle.tdb_words.specs.Word.{bytes_of_word}
 use Rattle.tdb_words.specs.Record.{bytes_of_rec}
 use Rattle.tdb_space.specs.NewRecord.{record_bytes}
-use Rattle.tdb_space.proofs.Overlaid.{overlay_both}
+use Rattle.tdb_space.proofs.Exchange.Overlaid.{overlay_both}
 
 -- two writes, the second where the first ended
 pub two_written : (a m b : List ℕ) (at place : ℕ) (xs ys : List ℕ) → place ≡ at + length xs → at + length xs + length ys ≤ length a → m ≡ overlay a at xs → b ≡ overlay m place ys → b ≡ overlay a at (xs ++ ys)

@@ -1,8 +1,6 @@
 //! The chains of a tdb file: where the record of a key stands, and the value that it holds.
 #![tactic(auto)]
 
-#[cfg(test)]
-mod change_tests;
 mod content;
 mod in_place;
 mod linking;
@@ -11,8 +9,6 @@ mod record_writing;
 mod refusal;
 mod removal;
 mod sequence;
-#[cfg(test)]
-mod tests;
 mod walk;
 
 pub use crate::content::value;

@@ -6,7 +6,7 @@ use Rattle.tdb_space.specs.Chain.{chain_of}
 use Rattle.tdb_space.specs.Pairs.{pairs, joined}
 use Rattle.tdb_space.specs.Extents.{extents}
 use Rattle.tdb_space.specs.FirstFault.{Fault, chain_number, Sound, FirstInList}
-use Rattle.tdb_space.proofs.Listed.{joined_more}
+use Rattle.tdb_space.proofs.Pairs.Listed.{joined_more}
 use Rattle.tdb_check.specs.declared.extent.Extent.{Extent}
 use Rattle.tdb_check.specs.Extent.{extents_seen}
 use Rattle.tdb_check.specs.Followed.{ChainFollowed}

@@ -13,9 +13,9 @@ use Rattle.tdb_space.specs.Chain.{Linked, chain_of, free_of}
 use Rattle.tdb_space.specs.Pairs.{joined, pair_of, pairs, order_of}
 use Rattle.tdb_space.specs.Extents.{times, extents}
 use Rattle.tdb_space.specs.FirstFault.{chain_number, free_list, Sound}
-use Rattle.tdb_space.proofs.Counts.{times-append}
-use Rattle.tdb_space.proofs.Passed.{sound_listed}
-use Rattle.tdb_space.proofs.Walks.{walk_meets}
+use Rattle.tdb_space.proofs.Extents.Counts.{times-append}
+use Rattle.tdb_space.proofs.FirstFault.Passed.{sound_listed}
+use Rattle.tdb_space.proofs.Chain.Walks.{walk_meets}
 use Rattle.tdb_check.specs.declared.extent.Extent.{Extent}
 use Rattle.tdb_check.specs.declared.lists.Listed.{Listed}
 use Rattle.tdb_check.specs.Chains.{Shows, ChainsFollowed, chain_extents}

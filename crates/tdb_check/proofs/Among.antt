@@ -7,7 +7,7 @@ use Rattle.tdb_words.specs.declared.record.TheConstants.{PADDING}
 use Rattle.tdb_words.specs.declared.what.What.TheVariants.{Stray}
 use Rattle.tdb_space.specs.Extents.{Extent as Held, times}
 use Rattle.tdb_space.specs.FirstFault.{Fault}
-use Rattle.tdb_space.proofs.Counts.{times-append}
+use Rattle.tdb_space.proofs.Extents.Counts.{times-append}
 use Rattle.tdb_check.specs.Chains.{Shows}
 use Rattle.tdb_check.specs.Stray.{is_stray_among, FirstStrayAmong, NoOverlapAmong, FirstOverlapAmong, FirstAmong, shared, stray, NoFaultAmong}
 

@@ -4,8 +4,8 @@ use Rattle.tdb_space.specs.Form.{form_of, data_start}
 use Rattle.tdb_space.specs.Accepted.{Accept}
 use Rattle.tdb_space.specs.Extents.{Extent as Held, times, area}
 use Rattle.tdb_space.specs.FirstFault.{Fault, HeadsSound, ListsSound, IsFirstFault, in_chain, in_free_list, at_overlap, at_stray, extents_of}
-use Rattle.tdb_space.proofs.Agreed.{no_fault_accepted}
-use Rattle.tdb_space.proofs.Counts.{times-append}
+use Rattle.tdb_space.proofs.FirstFault.Agreed.{no_fault_accepted}
+use Rattle.tdb_space.proofs.Extents.Counts.{times-append}
 use Rattle.tdb_check.specs.declared.lists.Listed.{Listed}
 use Rattle.tdb_check.specs.Chains.{Shows}
 use Rattle.tdb_check.specs.Extent.{extents_seen}

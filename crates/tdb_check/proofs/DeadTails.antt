@@ -10,7 +10,7 @@ use Rattle.tdb_space.specs.Form.{Form}
 use Rattle.tdb_space.specs.Record.{IsChained, magic_of, next_of}
 use Rattle.tdb_space.specs.Chain.{Member, Linked}
 use Rattle.tdb_space.specs.Extents.{Extent as Held, times, extents, extent_at}
-use Rattle.tdb_space.proofs.Walks.{member_cases, member_first, member_other}
+use Rattle.tdb_space.proofs.Chain.Walks.{member_cases, member_first, member_other}
 use Rattle.tdb_check.specs.declared.extent.Extent.{Extent}
 use Rattle.tdb_check.specs.declared.tails.Tails.{Tails}
 use Rattle.tdb_check.specs.Extent.{extent_seen, extents_seen}

@@ -14,8 +14,8 @@ use Rattle.tdb_space.specs.Form.{Form}
 use Rattle.tdb_space.specs.Record.{magic_of}
 use Rattle.tdb_space.specs.Extents.{extents, extent_at}
 use Rattle.tdb_space.specs.FirstFault.{Fault, ListKind, free_list, Passed, FirstInList, record_fault, is_out, is_bad, has_wrong_tailer, is_misfiled, has_twin, out_of, loop_of}
-use Rattle.tdb_space.proofs.Cleared.{none_parts, same_from}
-use Rattle.tdb_space.proofs.Ends.{passed_more, passed_short}
+use Rattle.tdb_space.proofs.FirstFault.Cleared.{none_parts, same_from}
+use Rattle.tdb_space.proofs.Chain.Ends.{passed_more, passed_short}
 use Rattle.tdb_check.specs.declared.extent.Extent.{Extent}
 use Rattle.tdb_check.specs.Extent.{extent_seen, extents_seen}
 use Rattle.tdb_check.specs.Followed.{FollowedTo}

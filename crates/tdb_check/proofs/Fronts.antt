@@ -11,7 +11,7 @@ use Rattle.tdb_words.proofs.Words.{word_of_part}
 use Rattle.tdb_words.proofs.SameHeader.{SameHeader, same_front, same_order, same_hash, same_hash_size, same_fault}
 use Rattle.tdb_space.specs.Form.{form_of}
 use Rattle.tdb_space.specs.FirstFault.{front_fault, is_short}
-use Rattle.tdb_space.proofs.Cleared.{below_to}
+use Rattle.tdb_space.proofs.FirstFault.Cleared.{below_to}
 use Rattle.tdb_check.specs.Front.{is_short_length}
 
 lt_true : (a b : ℕ) → a < b → nat_lt a b ≡ true

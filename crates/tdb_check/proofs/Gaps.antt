@@ -10,7 +10,7 @@ use Rattle.std.proofs.lemmas.List.Sums.{sum_by-append, sum_by-cons}
 use Rattle.std.proofs.Math.Seq.{drop-cons, take-length}
 use Rattle.tdb_words.specs.declared.record.TheConstants.{PADDING}
 use Rattle.tdb_space.specs.Extents.{Extent as Held, times, once}
-use Rattle.tdb_space.proofs.Counts.{once_in, once_out, times-append}
+use Rattle.tdb_space.proofs.Extents.Counts.{once_in, once_out, times-append}
 use Rattle.tdb_check.specs.declared.extent.Extent.{Extent}
 use Rattle.tdb_check.specs.Extent.{extent_seen, extents_seen, off_of}
 use Rattle.tdb_check.specs.Stray.{is_content, NoContent, FirstContent, NoStrayAmong, FirstStrayAmong, held_by_none}

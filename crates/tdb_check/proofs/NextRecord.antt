@@ -2,7 +2,7 @@
 use Rattle.std.proofs.Common.{◌≡◌, ℕ, false, List, None, arith}
 use Rattle.tdb_space.specs.Form.{Form}
 use Rattle.tdb_space.specs.FirstFault.{chain_number, is_out, is_bad, has_wrong_tailer, is_misfiled}
-use Rattle.tdb_space.proofs.Cleared.{none_parts, good_from, filed_from}
+use Rattle.tdb_space.proofs.FirstFault.Cleared.{none_parts, good_from, filed_from}
 use Rattle.tdb_check.specs.Seen.{own_fault}
 use Rattle.tdb_check.specs.Keys.{IsKeyed}
 

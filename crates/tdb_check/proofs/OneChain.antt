@@ -17,13 +17,13 @@ use Rattle.tdb_space.specs.Pairs.{pairs, pair_of, same_key}
 use Rattle.tdb_space.specs.Accepted.{AllFiled, KeysDiffer}
 use Rattle.tdb_space.specs.Extents.{Extent as Held, times, extents, extent_at}
 use Rattle.tdb_space.specs.FirstFault.{Fault, chain_number, Passed, FirstInList, record_fault}
-use Rattle.tdb_space.proofs.Walks.{walk_meets, member_cases, member_first, member_other}
-use Rattle.tdb_space.proofs.Cleared.{clear_from, good_from}
-use Rattle.tdb_space.proofs.Counts.{times-append}
-use Rattle.tdb_space.proofs.Members.{member_held}
-use Rattle.tdb_space.proofs.Maps.{pairs_other}
-use Rattle.tdb_space.proofs.Passed.{AllBelong, passed_linked, passed_filed, sound_from}
-use Rattle.tdb_space.proofs.Listed.{pairs-append, pairs-push}
+use Rattle.tdb_space.proofs.Chain.Walks.{walk_meets, member_cases, member_first, member_other}
+use Rattle.tdb_space.proofs.FirstFault.Cleared.{clear_from, good_from}
+use Rattle.tdb_space.proofs.Extents.Counts.{times-append}
+use Rattle.tdb_space.proofs.Chain.Members.{member_held}
+use Rattle.tdb_space.proofs.Pairs.Maps.{pairs_other}
+use Rattle.tdb_space.proofs.FirstFault.Passed.{AllBelong, passed_linked, passed_filed, sound_from}
+use Rattle.tdb_space.proofs.Pairs.Listed.{pairs-append, pairs-push}
 use Rattle.tdb_check.specs.declared.extent.Extent.{Extent}
 use Rattle.tdb_check.specs.declared.chain.Notes.{Notes}
 use Rattle.tdb_check.specs.Extent.{extent_seen, extents_seen}

@@ -5,9 +5,9 @@ use Rattle.std.proofs.lemmas.Bool.{cases_eq}
 use Rattle.tdb_words.specs.declared.word.Order.{Order}
 use Rattle.tdb_space.specs.Chain.{Member}
 use Rattle.tdb_space.specs.Extents.{Extent as Held, times, once, extents, extent_at}
-use Rattle.tdb_space.proofs.Counts.{times-append, once_in, once_lies}
-use Rattle.tdb_space.proofs.Members.{member_held}
-use Rattle.tdb_space.proofs.Walks.{member_first, member_other}
+use Rattle.tdb_space.proofs.Extents.Counts.{times-append, once_in, once_lies}
+use Rattle.tdb_space.proofs.Chain.Members.{member_held}
+use Rattle.tdb_space.proofs.Chain.Walks.{member_first, member_other}
 use Rattle.tdb_check.specs.Chains.{Shows}
 
 -- the same extents, put behind both

@@ -5,9 +5,9 @@ use Rattle.std.proofs.lemmas.List.{take_more, map-append, take-append-drop, get_
 use Rattle.std.proofs.lemmas.List.Sorted.{IsPermutation-map}
 use Rattle.std.proofs.Math.Seq.{drop-cons, take-length}
 use Rattle.tdb_space.specs.Extents.{Extent as Held, times, once}
-use Rattle.tdb_space.proofs.Counts.{where_is, once_in, times-append}
-use Rattle.tdb_space.proofs.Counts.Lies.{lies, below, above}
-use Rattle.tdb_space.proofs.Sorted.{times_permuted}
+use Rattle.tdb_space.proofs.Extents.Counts.{where_is, once_in, times-append}
+use Rattle.tdb_space.proofs.Extents.Counts.Lies.{lies, below, above}
+use Rattle.tdb_space.proofs.Extents.Sorted.{times_permuted}
 use Rattle.tdb_check.specs.declared.extent.Extent.{Extent}
 use Rattle.tdb_check.specs.Extent.{extent_seen, extents_seen, off_of}
 

@@ -18,10 +18,10 @@ use Rattle.tdb_space.specs.Chain.{Member}
 use Rattle.tdb_space.specs.Pairs.{pairs, same_key}
 use Rattle.tdb_space.specs.Accepted.{KeysDiffer}
 use Rattle.tdb_space.specs.FirstFault.{Fault, ListKind, Passed, FirstInList, is_out, is_bad, has_wrong_tailer, is_misfiled, record_fault, has_twin}
-use Rattle.tdb_space.proofs.Walks.{member_cases}
-use Rattle.tdb_space.proofs.Listed.{pairs-append}
-use Rattle.tdb_space.proofs.Maps.{pairs_used, pairs_other}
-use Rattle.tdb_space.proofs.Cleared.{none_parts, stands_from}
+use Rattle.tdb_space.proofs.Chain.Walks.{member_cases}
+use Rattle.tdb_space.proofs.Pairs.Listed.{pairs-append}
+use Rattle.tdb_space.proofs.Pairs.Maps.{pairs_used, pairs_other}
+use Rattle.tdb_space.proofs.FirstFault.Cleared.{none_parts, stands_from}
 use Rattle.tdb_check.specs.Seen.{own_fault}
 use Rattle.tdb_check.specs.Walked.{fault_but_twin, Walked}
 use Rattle.tdb_check.proofs.Following.{fault_none}

@@ -3,8 +3,6 @@
 
 mod area;
 mod chain;
-#[cfg(test)]
-mod chain_tests;
 mod chains;
 mod extent;
 mod free_list;
@@ -16,18 +14,12 @@ mod lists;
 mod record;
 mod refusal;
 mod report;
-#[cfg(test)]
-mod report_tests;
 mod same_key;
 mod stray;
 mod tails;
-#[cfg(test)]
-mod tests;
 mod trail;
 mod view_front;
 mod whole_file;
-#[cfg(test)]
-mod whole_tests;
 
 pub use crate::area::{can_stand, read_area};
 pub use crate::chains::follow_chains;

@@ -4,7 +4,7 @@ use Rattle.tdb_space.specs.Form.{Form}
 use Rattle.tdb_space.specs.Chain.{free_of}
 use Rattle.tdb_space.specs.Extents.{HandPair}
 use Rattle.tdb_space.specs.Accepted.{AcceptWith}
-use Rattle.tdb_space.proofs.Frees.{free_is, free_apart, trade_accepted, trade_order, trade_list}
+use Rattle.tdb_space.proofs.Accepted.Frees.{free_is, free_apart, trade_accepted, trade_order, trade_list}
 use Rattle.tdb_free.specs.FreeList.{ListedOnce, CanBeGiven, Given, GivenBack, free_pairs}
 use Rattle.tdb_free.specs.TakenFrom.{TakenFrom, TakenKept}
 

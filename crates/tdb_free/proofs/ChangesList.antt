@@ -10,10 +10,10 @@ use Rattle.tdb_space.specs.Chain.{chain_of, free_of}
 use Rattle.tdb_space.specs.Extents.{HandPair, times, extents, hand_extents}
 use Rattle.tdb_space.specs.Accepted.{AcceptWith}
 use Rattle.tdb_space.specs.Stays.{ChangesOnly}
-use Rattle.tdb_space.proofs.Areas.{area_within}
-use Rattle.tdb_space.proofs.Counts.{once_out, times_all, times_member}
-use Rattle.tdb_space.proofs.Kept.{times_within}
-use Rattle.tdb_space.proofs.Stays.{chain_stays}
+use Rattle.tdb_space.proofs.Accepted.Areas.{area_within}
+use Rattle.tdb_space.proofs.Extents.Counts.{once_out, times_all, times_member}
+use Rattle.tdb_space.proofs.Exchange.Kept.{times_within}
+use Rattle.tdb_space.proofs.Stays.Changes.{chain_stays}
 use Rattle.tdb_free.specs.FreeList.{CanBeGiven}
 use Rattle.tdb_free.specs.Growth.{CanBeTaken}
 use Rattle.tdb_free.specs.OnlyList.{OnlyListChanges}

@@ -9,13 +9,13 @@ use Rattle.tdb_space.specs.Record.{Whole, IsFree, rec_len_of}
 use Rattle.tdb_space.specs.Chain.{Member, without}
 use Rattle.tdb_space.specs.Extents.{HandPair, extent_at}
 use Rattle.tdb_space.specs.Exchange.{Agree, FreeExchanged, LedPast, Touched}
-use Rattle.tdb_space.proofs.Counts.{once_in}
-use Rattle.tdb_space.proofs.Kept.{words_kept}
-use Rattle.tdb_space.proofs.Walks.{linked_whole}
-use Rattle.tdb_space.proofs.Members.{led_member, led_from, two_members}
-use Rattle.tdb_space.proofs.Unlinks.{unlinked_bodies}
-use Rattle.tdb_space.proofs.Touches.{touched_beside}
-use Rattle.tdb_space.proofs.Trades.{FreeIs, free_taken, free_cut}
+use Rattle.tdb_space.proofs.Extents.Counts.{once_in}
+use Rattle.tdb_space.proofs.Exchange.Kept.{words_kept}
+use Rattle.tdb_space.proofs.Chain.Walks.{linked_whole}
+use Rattle.tdb_space.proofs.Chain.Members.{led_member, led_from, two_members}
+use Rattle.tdb_space.proofs.Chain.Unlinks.{unlinked_bodies}
+use Rattle.tdb_space.proofs.Chain.Touches.{touched_beside}
+use Rattle.tdb_space.proofs.Chain.Trades.{FreeIs, free_taken, free_cut}
 use Rattle.tdb_space.specs.Stays.{OnlyIn}
 use Rattle.tdb_free.specs.FreeList.{ListedOnce, HoldsNothing, free_pairs, is_long_enough, is_cut, hand_of, left_of, instead, taken, taken_as}
 use Rattle.tdb_free.specs.Search.{IsFirst}

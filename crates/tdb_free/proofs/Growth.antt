@@ -12,9 +12,9 @@ use Rattle.tdb_space.specs.Chain.{Linked}
 use Rattle.tdb_space.specs.Spare.{Spare, RoomUpTo}
 use Rattle.tdb_space.specs.Spare.Spare.{without_bound, bounded}
 use Rattle.tdb_space.specs.Extents.{HandPair, extents, times, once}
-use Rattle.tdb_space.proofs.Counts.{where_is}
-use Rattle.tdb_space.proofs.Counts.Lies.{lies, below, above}
-use Rattle.tdb_space.proofs.Kept.{Still, bodies_still, list_left, extents_kept, times_within, word_kept}
+use Rattle.tdb_space.proofs.Extents.Counts.{where_is}
+use Rattle.tdb_space.proofs.Extents.Counts.Lies.{lies, below, above}
+use Rattle.tdb_space.proofs.Exchange.Kept.{Still, bodies_still, list_left, extents_kept, times_within, word_kept}
 use Rattle.tdb_free.specs.FreeList.{CanBeGiven, Given, ListedOnce, free_pairs, first_fit, taken, taken_as, give_to, with_next, with_previous, without_first, starts_at, ends_at, end_of}
 use Rattle.tdb_free.specs.TakenFrom.{IsTaken}
 use Rattle.tdb_free.specs.Growth.{CanBeTaken, TakenBy, usual_length, grown_length, grown_hand}

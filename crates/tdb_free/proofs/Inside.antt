@@ -7,8 +7,8 @@ use Rattle.tdb_space.specs.Form.{Form}
 use Rattle.tdb_space.specs.Extents.{Extent, once, times, hand_extents}
 use Rattle.tdb_space.specs.Exchange.{InHands}
 use Rattle.tdb_space.specs.Stays.{OnlyIn}
-use Rattle.tdb_space.proofs.Counts.{once_out}
-use Rattle.tdb_space.proofs.Overlaid.{outside, only_then, torn_only, put_only, only_same}
+use Rattle.tdb_space.proofs.Extents.Counts.{once_out}
+use Rattle.tdb_space.proofs.Exchange.Overlaid.{outside, only_then, torn_only, put_only, only_same}
 
 -- a byte that an extent doesn't hold is held by no part of it
 pub among : (at m from n i : ℕ) → at ≤ from → from + n ≤ at + m → once (at, m) i ≡ 0 → once (from, n) i ≡ 0

@@ -7,11 +7,11 @@ use Rattle.tdb_space.specs.Form.{Form, free_head}
 use Rattle.tdb_space.specs.Record.{IsFree, rec_len_of}
 use Rattle.tdb_space.specs.Extents.{HandPair, HandOk, times, once}
 use Rattle.tdb_space.specs.Exchange.{FreeExchanged}
-use Rattle.tdb_space.proofs.Counts.{where_is, once_joined}
-use Rattle.tdb_space.proofs.Counts.Lies.{lies, below, above}
-use Rattle.tdb_space.proofs.Hands.{hands_kept}
-use Rattle.tdb_space.proofs.Kept.{Still, bodies_still, times_within}
-use Rattle.tdb_space.proofs.Trades.{free_given, free_more, free_met_hands, free_then}
+use Rattle.tdb_space.proofs.Extents.Counts.{where_is, once_joined}
+use Rattle.tdb_space.proofs.Extents.Counts.Lies.{lies, below, above}
+use Rattle.tdb_space.proofs.Accepted.Hands.{hands_kept}
+use Rattle.tdb_space.proofs.Exchange.Kept.{Still, bodies_still, times_within}
+use Rattle.tdb_space.proofs.Chain.Trades.{free_given, free_more, free_met_hands, free_then}
 use Rattle.tdb_space.specs.Stays.{OnlyIn}
 use Rattle.tdb_free.specs.FreeList.{CanBeGiven, Given, MadeFirst, free_pairs, without_first, words_at, put_words, end_of, starts_at, ends_at, with_next, with_previous}
 use Rattle.tdb_free.specs.Search.{spot_pair}

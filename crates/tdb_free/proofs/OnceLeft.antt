@@ -10,9 +10,9 @@ use Rattle.tdb_space.specs.Record.{Whole, IsFree, next_of, rec_len_of}
 use Rattle.tdb_space.specs.Chain.{Free, Leads, Member, without}
 use Rattle.tdb_space.specs.Extents.{HandPair}
 use Rattle.tdb_space.specs.Exchange.{LedPast}
-use Rattle.tdb_space.proofs.Walks.{linked_whole, linked_apart, member_first, member_other}
-use Rattle.tdb_space.proofs.Members.{led_member, led_from}
-use Rattle.tdb_space.proofs.Unlinks.{unlinked_bodies}
+use Rattle.tdb_space.proofs.Chain.Walks.{linked_whole, linked_apart, member_first, member_other}
+use Rattle.tdb_space.proofs.Chain.Members.{led_member, led_from}
+use Rattle.tdb_space.proofs.Chain.Unlinks.{unlinked_bodies}
 use Rattle.tdb_free.specs.FreeList.{ListedOnce, free_pairs, without_first, starts_at, ends_at, end_of}
 use Rattle.tdb_free.specs.Search.{IsFirst, IsSpot, SpotWithin, once_left, previous_then, spot_pair}
 use Rattle.tdb_free.specs.Removal.{LeftOut, rest_of}

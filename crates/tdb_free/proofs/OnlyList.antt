@@ -8,9 +8,9 @@ use Rattle.tdb_space.specs.Form.{Form, free_head}
 use Rattle.tdb_space.specs.Record.{IsFree, rec_len_of}
 use Rattle.tdb_space.specs.Extents.{HandPair, once, times, extents}
 use Rattle.tdb_space.specs.Stays.{OnlyIn}
-use Rattle.tdb_space.proofs.Counts.{once_out}
-use Rattle.tdb_space.proofs.Members.{member_held, led_member}
-use Rattle.tdb_space.proofs.Walks.{linked_whole}
+use Rattle.tdb_space.proofs.Extents.Counts.{once_out}
+use Rattle.tdb_space.proofs.Chain.Members.{member_held, led_member}
+use Rattle.tdb_space.proofs.Chain.Walks.{linked_whole}
 use Rattle.tdb_free.specs.FreeList.{ListedOnce, Given}
 use Rattle.tdb_free.specs.Growth.{CanBeTaken, grown_hand, grown_length}
 use Rattle.tdb_free.specs.OnlyList.{OnlyListChanges}

@@ -8,7 +8,7 @@ use Rattle.tdb_words.specs.Record.{rec_at}
 use Rattle.tdb_words.proofs.Words.{word_agrees, word_of_part}
 use Rattle.tdb_space.specs.Form.{Form}
 use Rattle.tdb_space.specs.Record.{next_of}
-use Rattle.tdb_space.proofs.Overlaid.{word_overlaid}
+use Rattle.tdb_space.proofs.Exchange.Overlaid.{word_overlaid}
 use Rattle.tdb_free.specs.Shortened.{Shortened, free_record}
 
 -- the words of a header behind the first are written, and then a tailer

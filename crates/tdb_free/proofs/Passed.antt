@@ -10,7 +10,7 @@ use Rattle.tdb_space.specs.Form.{Form, data_start, free_head}
 use Rattle.tdb_space.specs.Record.{Whole, IsFree, rec_len_of}
 use Rattle.tdb_space.specs.Chain.{Free, Leads, without}
 use Rattle.tdb_space.specs.Extents.{HandPair}
-use Rattle.tdb_space.proofs.Walks.{linked_short}
+use Rattle.tdb_space.proofs.Chain.Walks.{linked_short}
 use Rattle.tdb_free.specs.FreeList.{free_pairs}
 use Rattle.tdb_free.specs.Search.{IsFirst, IsSpot, first_of, spot_pair}
 use Rattle.tdb_free.specs.declared.search.Spot.{Spot}

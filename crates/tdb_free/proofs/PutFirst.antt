@@ -12,8 +12,8 @@ use Rattle.tdb_words.proofs.Words.{word_from_bytes, word_agrees}
 use Rattle.tdb_space.specs.Form.{Form, data_start, free_head}
 use Rattle.tdb_space.specs.Extents.{HandOk, once}
 use Rattle.tdb_space.specs.Exchange.{PutFree}
-use Rattle.tdb_space.proofs.Counts.{where_is}
-use Rattle.tdb_space.proofs.Counts.Lies.{lies, below, above}
+use Rattle.tdb_space.proofs.Extents.Counts.{where_is}
+use Rattle.tdb_space.proofs.Extents.Counts.Lies.{lies, below, above}
 use Rattle.tdb_space.specs.Stays.{OnlyIn}
 use Rattle.tdb_free.specs.FreeList.{MadeFirst, put_words}
 

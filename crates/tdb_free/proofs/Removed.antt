@@ -5,16 +5,16 @@ use Rattle.tdb_words.specs.Word.{word}
 use Rattle.tdb_space.specs.Form.{Form, data_start, free_head}
 use Rattle.tdb_space.specs.Record.{IsFree}
 use Rattle.tdb_space.specs.Exchange.{FreeExchanged, LedPast}
-use Rattle.tdb_space.proofs.Kept.{Bodies, words_kept}
+use Rattle.tdb_space.proofs.Exchange.Kept.{Bodies, words_kept}
 use Rattle.std.proofs.lemmas.Bool.{cases_eq, eq-eqb, ne_eqb, false≢true}
 use Rattle.tdb_space.specs.Chain.{Linked, Leads, Member, without}
 use Rattle.tdb_space.specs.Extents.{HandPair, once, times}
-use Rattle.tdb_space.proofs.Counts.{where_is}
-use Rattle.tdb_space.proofs.Counts.Lies.{lies, below, above}
-use Rattle.tdb_space.proofs.Walks.{member_cases, member_first, member_other, linked_apart}
-use Rattle.tdb_space.proofs.Members.{led_member}
-use Rattle.tdb_space.proofs.Unlinks.{unlinked_bodies}
-use Rattle.tdb_space.proofs.Trades.{FreeIs, free_taken}
+use Rattle.tdb_space.proofs.Extents.Counts.{where_is}
+use Rattle.tdb_space.proofs.Extents.Counts.Lies.{lies, below, above}
+use Rattle.tdb_space.proofs.Chain.Walks.{member_cases, member_first, member_other, linked_apart}
+use Rattle.tdb_space.proofs.Chain.Members.{led_member}
+use Rattle.tdb_space.proofs.Chain.Unlinks.{unlinked_bodies}
+use Rattle.tdb_space.proofs.Chain.Trades.{FreeIs, free_taken}
 use Rattle.tdb_space.specs.Stays.{OnlyIn}
 use Rattle.tdb_free.specs.FreeList.{ListedOnce, free_pairs, without_first, words_at}
 use Rattle.tdb_free.specs.Search.{IsFirst, IsSpot}

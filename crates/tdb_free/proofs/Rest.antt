@@ -5,7 +5,7 @@ use Rattle.tdb_words.specs.Word.{word}
 use Rattle.tdb_space.specs.Form.{Form, free_head}
 use Rattle.tdb_space.specs.Record.{Whole, IsFree}
 use Rattle.tdb_space.specs.Chain.{Free}
-use Rattle.tdb_space.proofs.Walks.{linked_short}
+use Rattle.tdb_space.proofs.Chain.Walks.{linked_short}
 
 -- so many records of a free list were passed, and from this offset on these are left
 pub record Rest (f : Form) (img offs passed left : List ℕ) (turn at : ℕ) : Type 0 where

@@ -10,11 +10,11 @@ use Rattle.tdb_space.specs.Chain.{Free, Linked, free_of}
 use Rattle.tdb_space.specs.Extents.{HandPair, AllHandOk, once, times, extents, hand_extents}
 use Rattle.tdb_space.specs.Accepted.{AcceptWith}
 use Rattle.tdb_space.specs.Exchange.{FreeExchanged, InHands}
-use Rattle.tdb_space.proofs.Counts.{once_out}
-use Rattle.tdb_space.proofs.Frees.{trade_accepted, trade_order}
-use Rattle.tdb_space.proofs.Kept.{Still, bodies_still, extents_kept, list_left}
-use Rattle.tdb_space.proofs.Overlaid.{outside}
-use Rattle.tdb_space.proofs.Trades.{free_then}
+use Rattle.tdb_space.proofs.Extents.Counts.{once_out}
+use Rattle.tdb_space.proofs.Accepted.Frees.{trade_accepted, trade_order}
+use Rattle.tdb_space.proofs.Exchange.Kept.{Still, bodies_still, extents_kept, list_left}
+use Rattle.tdb_space.proofs.Exchange.Overlaid.{outside}
+use Rattle.tdb_space.proofs.Chain.Trades.{free_then}
 use Rattle.tdb_free.specs.FreeList.{CanBeGiven, Given, MadeFirst, free_pairs, without_first, ends_at, with_next, with_previous}
 use Rattle.tdb_free.specs.GiveStopped.{GiveStopped, OnTheWay, StillAccepted}
 use Rattle.tdb_free.specs.GiveStopped.OnTheWay.{as_it_was, without_next, without_both, given}

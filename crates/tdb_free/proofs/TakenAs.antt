@@ -6,10 +6,10 @@ use Rattle.tdb_space.specs.Form.{Form}
 use Rattle.tdb_space.specs.Record.{rec_len_of}
 use Rattle.tdb_space.specs.Chain.{Member, Leads, without}
 use Rattle.tdb_space.specs.Extents.{HandPair, once, times, extents, extent_at}
-use Rattle.tdb_space.proofs.Counts.{once_in}
-use Rattle.tdb_space.proofs.Kept.{Bodies, words_kept}
-use Rattle.tdb_space.proofs.Walks.{member_cases, member_first, member_other}
-use Rattle.tdb_space.proofs.Members.{member_held}
+use Rattle.tdb_space.proofs.Extents.Counts.{once_in}
+use Rattle.tdb_space.proofs.Exchange.Kept.{Bodies, words_kept}
+use Rattle.tdb_space.proofs.Chain.Walks.{member_cases, member_first, member_other}
+use Rattle.tdb_space.proofs.Chain.Members.{member_held}
 use Rattle.tdb_free.specs.FreeList.{free_pairs, instead, words_at}
 use Rattle.tdb_free.proofs.Passed.{find_here, find_later, without_tail}
 

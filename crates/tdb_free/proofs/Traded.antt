@@ -9,9 +9,9 @@ use Rattle.tdb_space.specs.Extents.{HandPair}
 use Rattle.tdb_space.specs.Accepted.{AcceptWith}
 use Rattle.tdb_space.specs.Exchange.{FreeExchanged, GrownBy}
 use Rattle.tdb_space.specs.Stays.{ChainsStay, FreeStays}
-use Rattle.tdb_space.proofs.Frees.{traded, trade_accepted, trade_map, trade_list}
-use Rattle.tdb_space.proofs.Grown.{grow_accepted, grow_map}
-use Rattle.tdb_space.proofs.Stays.{free_changes, grown_changes, grown_free, stays_then}
+use Rattle.tdb_space.proofs.Accepted.Frees.{traded, trade_accepted, trade_map, trade_list}
+use Rattle.tdb_space.proofs.Accepted.Grown.{grow_accepted, grow_map}
+use Rattle.tdb_space.proofs.Stays.Changes.{free_changes, grown_changes, grown_free, stays_then}
 use Rattle.tdb_free.specs.FreeList.{Given}
 use Rattle.tdb_free.specs.TakenFrom.{TakenFrom}
 use Rattle.tdb_free.specs.Growth.{CanBeTaken, TakenBy, TakenGrown, grown_hand}

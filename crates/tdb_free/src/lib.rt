@@ -4,8 +4,6 @@
 mod free_recs;
 mod giving;
 mod growing;
-#[cfg(test)]
-mod growing_tests;
 mod link_word;
 mod list_refusal;
 mod listing;
@@ -16,10 +14,6 @@ mod removal;
 mod search;
 mod stretch;
 mod taking;
-#[cfg(test)]
-mod taking_tests;
-#[cfg(test)]
-mod tests;
 
 pub use crate::free_recs::FreeRecs;
 pub use crate::giving::give;

@@ -8,9 +8,9 @@ use Rattle.tdb_space.specs.Form.{Form}
 use Rattle.tdb_space.specs.Pairs.{joined, order_of, same_key}
 use Rattle.tdb_space.specs.Extents.{HandPair, times, hand_extents, AllHandOk}
 use Rattle.tdb_space.specs.Accepted.{AcceptWith}
-use Rattle.tdb_space.proofs.Hands.{hands_for}
-use Rattle.tdb_space.proofs.Trades.{hands_both}
-use Rattle.tdb_space.proofs.Maps.{same_key-refl, same_key-other}
+use Rattle.tdb_space.proofs.Accepted.Hands.{hands_for}
+use Rattle.tdb_space.proofs.Chain.Trades.{hands_both}
+use Rattle.tdb_space.proofs.Pairs.Maps.{same_key-refl, same_key-other}
 use Rattle.tdb_law.specs.Openers.{bytes_cmp, is_key}
 use Rattle.tdb_law.specs.Images.{ImageMapAnswers, TurnKeepsImage, ImageIsPlain, IdleIsAccepted}
 use Rattle.tdb_law.proofs.Maps.{keys_total, is_key-eq, is_key-refl}

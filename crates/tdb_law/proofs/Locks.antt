@@ -4,7 +4,7 @@ use Rattle.std.specs.Prelude.{◌&&◌, if◌then◌else◌}
 use Rattle.std.proofs.lemmas.Bool.{cases_eq, ltb-true, leb-true, lt-ltb, le-ltb, le-leb, eq-eqb, and_parts}
 use Rattle.tdb_space.specs.Form.{Form, data_start}
 use Rattle.tdb_space.specs.Pairs.{home}
-use Rattle.tdb_space.proofs.Maps.{home_below}
+use Rattle.tdb_space.proofs.Pairs.Maps.{home_below}
 use Rattle.tdb_law.specs.Refusals.{chain_byte}
 use Rattle.tdb_law.specs.Rows.{Lock, lock_all, lock_chain, all_end}
 use Rattle.tdb_law.specs.Held.{covers, strongest, locked, locked_next}

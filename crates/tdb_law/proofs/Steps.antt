@@ -4,7 +4,7 @@ use Rattle.std.specs.Prelude.{◌&&◌}
 use Rattle.std.proofs.lemmas.Bool.{cases_Bool, cases_eq, eqb-true, eqb-false, leb-true, le-leb, ltb-true, lt-ltb, ltb-false}
 use Rattle.tdb_space.specs.Form.{Form}
 use Rattle.tdb_space.specs.Pairs.{home}
-use Rattle.tdb_space.proofs.Maps.{home_below}
+use Rattle.tdb_space.proofs.Pairs.Maps.{home_below}
 use Rattle.tdb_law.specs.Openers.{is_key}
 use Rattle.tdb_law.specs.Layout.{Cell, Chains, live_in, behind}
 use Rattle.tdb_law.specs.Going.{key_met, ToNext, ToFirst, PastLast, PastEmpty, StepsJoin, NoneLeft}

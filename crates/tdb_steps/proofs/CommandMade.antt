@@ -6,7 +6,7 @@ use Rattle.tdb_space.specs.Pairs.{map_of, home}
 use Rattle.tdb_space.specs.Extents.{HandPair}
 use Rattle.tdb_space.specs.Accepted.{AcceptWith}
 use Rattle.tdb_space.specs.Stays.{ChangesOnly}
-use Rattle.tdb_space.proofs.Stays.{changes_weaker}
+use Rattle.tdb_space.proofs.Stays.Changes.{changes_weaker}
 use Rattle.tdb_locks.specs.declared.turn.Reply.{Reply}
 use Rattle.tdb_law.specs.Commands as Law
 use Rattle.tdb_law.specs.Openers.{Map}

@@ -11,8 +11,8 @@ use Rattle.tdb_space.specs.Record.{Whole, IsFree, rec_len_of, magic_of}
 use Rattle.tdb_space.specs.Chain.{Linked}
 use Rattle.tdb_space.specs.Extents.{Extent, once, times, extents, extent_at}
 use Rattle.tdb_space.specs.Runs.{InOrder}
-use Rattle.tdb_space.proofs.Counts.{where_is}
-use Rattle.tdb_space.proofs.Counts.Lies.{lies, below, above}
+use Rattle.tdb_space.proofs.Extents.Counts.{where_is}
+use Rattle.tdb_space.proofs.Extents.Counts.Lies.{lies, below, above}
 use Rattle.tdb_free.specs.FreeList.{HoldsNothing}
 use Rattle.tdb_steps.specs.Wiped.{MadeFree}
 use Rattle.tdb_steps.specs.Wiped.MadeFree.{as_record, as_zeros}

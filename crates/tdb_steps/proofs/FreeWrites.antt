@@ -10,7 +10,7 @@ use Rattle.tdb_words.specs.Word.{word}
 use Rattle.tdb_words.specs.Record.{rec_at}
 use Rattle.tdb_words.proofs.Words.{word_agrees}
 use Rattle.tdb_space.specs.Form.{Form, data_start, free_head}
-use Rattle.tdb_space.proofs.Overlaid.{word_overlaid}
+use Rattle.tdb_space.proofs.Exchange.Overlaid.{word_overlaid}
 use Rattle.tdb_free.specs.Shortened.{free_record}
 use Rattle.tdb_steps.specs.declared.wiping.AreaBounds.{AreaBounds}
 use Rattle.tdb_steps.specs.Wiped.{MadeFree, BoundsStand, AroundStays, FreedAround}

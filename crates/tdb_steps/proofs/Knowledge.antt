@@ -5,7 +5,7 @@ use Rattle.tdb_space.specs.Pairs.{map_of, home}
 use Rattle.tdb_space.specs.Extents.{HandPair}
 use Rattle.tdb_space.specs.Accepted.{AcceptWith}
 use Rattle.tdb_space.specs.Stays.{ChainStays}
-use Rattle.tdb_space.proofs.Stays.{map_stays}
+use Rattle.tdb_space.proofs.Stays.Changes.{map_stays}
 use Rattle.tdb_chain.specs.declared.place.Place.{Place}
 use Rattle.tdb_chain.proofs.PlaceStays.{found_stays}
 use Rattle.tdb_steps.specs.declared.stage.Stage.{Stage}

@@ -5,7 +5,7 @@ use Rattle.std.proofs.lemmas.Bool.{cases_Bool, false_from_ne_true}
 use Rattle.tdb_space.specs.Form.{Form}
 use Rattle.tdb_space.specs.Pairs.{map_of, same_key}
 use Rattle.tdb_space.specs.Extents.{HandPair}
-use Rattle.tdb_space.proofs.Maps.{same_key-eq, same_key-refl}
+use Rattle.tdb_space.proofs.Pairs.Maps.{same_key-eq, same_key-refl}
 use Rattle.tdb_locks.specs.declared.turn.Reply.{Reply}
 use Rattle.tdb_law.specs.Commands as Law
 use Rattle.tdb_law.specs.Openers.{Map, is_key}

@@ -8,12 +8,12 @@ use Rattle.tdb_words.proofs.Words.{word_agrees}
 use Rattle.tdb_space.specs.Form.{Form, chain_head}
 use Rattle.tdb_space.specs.Pairs.{map_of, home, same_key}
 use Rattle.tdb_space.specs.Extents.{HandPair, times, extents, hand_extents}
-use Rattle.tdb_space.proofs.Kept.{times_within}
-use Rattle.tdb_space.proofs.Counts.{once_out}
+use Rattle.tdb_space.proofs.Exchange.Kept.{times_within}
+use Rattle.tdb_space.proofs.Extents.Counts.{once_out}
 use Rattle.tdb_space.specs.Accepted.{AcceptWith}
 use Rattle.tdb_space.specs.Stays.{ChainsStay}
-use Rattle.tdb_space.proofs.Maps.{home_below, same_key-refl}
-use Rattle.tdb_space.proofs.Stays.{changes_none, changes_weaker, changes_then}
+use Rattle.tdb_space.proofs.Pairs.Maps.{home_below, same_key-refl}
+use Rattle.tdb_space.proofs.Stays.Changes.{changes_none, changes_weaker, changes_then}
 use Rattle.tdb_chain.specs.declared.place.Place.{Place}
 use Rattle.tdb_chain.specs.Place.{IsPlace, HoldsKey}
 use Rattle.tdb_chain.specs.Changed.{KeySet, ChainChanged, hand_at}

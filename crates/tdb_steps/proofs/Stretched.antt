@@ -3,7 +3,7 @@ use Rattle.std.proofs.Common.{◌≡◌, ℕ, ◌+◌, ◌-◌, ◌<◌, ◌≤�
 use Rattle.std.proofs.lemmas.Bool.{cases_lt}
 use Rattle.tdb_space.specs.Form.{Form, data_start}
 use Rattle.tdb_space.specs.Extents.{Extent, once, times, area}
-use Rattle.tdb_space.proofs.Counts.{once_in, once_out, once_lies}
+use Rattle.tdb_space.proofs.Extents.Counts.{once_in, once_out, once_lies}
 use Rattle.tdb_steps.specs.declared.wiping.AreaBounds.{AreaBounds}
 use Rattle.tdb_steps.specs.Wiped.{IsStretch, BoundsStand, IsArea}
 

@@ -6,7 +6,7 @@ use Rattle.tdb_space.specs.Pairs.{map_of}
 use Rattle.tdb_space.specs.Extents.{HandPair}
 use Rattle.tdb_space.specs.Accepted.{AcceptWith}
 use Rattle.tdb_space.specs.Stays.{ChangesOnly}
-use Rattle.tdb_space.proofs.Stays.{changes_none, changes_weaker, changes_then}
+use Rattle.tdb_space.proofs.Stays.Changes.{changes_none, changes_weaker, changes_then}
 use Rattle.tdb_locks.specs.HeldLocks.{HeldLocks}
 use Rattle.tdb_locks.specs.declared.piece.Piece.{Piece}
 use Rattle.tdb_locks.specs.declared.turn.Reply.{Reply}

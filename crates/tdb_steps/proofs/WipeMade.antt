@@ -4,7 +4,7 @@ use Rattle.tdb_space.specs.Form.{Form}
 use Rattle.tdb_space.specs.Extents.{HandPair}
 use Rattle.tdb_space.specs.Accepted.{AcceptWith}
 use Rattle.tdb_space.specs.Stays.{FrontStays}
-use Rattle.tdb_space.proofs.Stays.{changes_none}
+use Rattle.tdb_space.proofs.Stays.Changes.{changes_none}
 use Rattle.tdb_steps.specs.Wiped.{Wiped, FrontSame}
 use Rattle.tdb_steps.specs.Stages.{hands_after, HoldsChain, is_changed, is_changed_after}
 use Rattle.tdb_steps.specs.Turns.{MapWiped, WipeMade}

@@ -5,8 +5,8 @@ use Rattle.tdb_disk.specs.Stop.{Torn}
 use Rattle.tdb_words.specs.Word.{word}
 use Rattle.tdb_space.specs.Form.{Form, data_start, free_head, chain_head}
 use Rattle.tdb_space.specs.Accepted.{AcceptWith}
-use Rattle.tdb_space.proofs.Areas.{area_within}
-use Rattle.tdb_space.proofs.Fresh.{word_zero}
+use Rattle.tdb_space.proofs.Accepted.Areas.{area_within}
+use Rattle.tdb_space.proofs.Accepted.Fresh.{word_zero}
 use Rattle.tdb_space.specs.Stays.{FrontStays}
 use Rattle.tdb_steps.specs.declared.wiping.AreaBounds.{AreaBounds}
 use Rattle.tdb_steps.specs.Wiped.{FrontSame, Wiped, WipeStopped, BoundsStand, IsArea, MadeFree, HeadsZeroed, FreedAround, AroundStays}

@@ -14,11 +14,11 @@ use Rattle.tdb_space.specs.Pairs.{joined, order_of, same_key}
 use Rattle.tdb_space.specs.Extents.{Extent, times, once, area, extents, all_extents}
 use Rattle.tdb_space.specs.Accepted.{AcceptWith, LaidOut, AreaOk, Shut}
 use Rattle.tdb_space.specs.Runs.{InOrder}
-use Rattle.tdb_space.proofs.Areas.{area_still}
-use Rattle.tdb_space.proofs.Counts.{times_all}
-use Rattle.tdb_space.proofs.Fresh.{word_zero}
-use Rattle.tdb_space.proofs.Headers.{form_kept, header_kept}
-use Rattle.tdb_space.proofs.Laid.{accepted, free_met, order_met}
+use Rattle.tdb_space.proofs.Accepted.Areas.{area_still}
+use Rattle.tdb_space.proofs.Extents.Counts.{times_all}
+use Rattle.tdb_space.proofs.Accepted.Fresh.{word_zero}
+use Rattle.tdb_space.proofs.Form.Headers.{form_kept, header_kept}
+use Rattle.tdb_space.proofs.Accepted.Laid.{accepted, free_met, order_met}
 use Rattle.tdb_steps.specs.declared.wiping.AreaBounds.{AreaBounds}
 use Rattle.tdb_steps.specs.Wiped.{IsStretch, IsFreed, IsBlank, FrontSame, Wiped, BoundsStand, IsArea, MadeFree}
 use Rattle.tdb_steps.proofs.Stretched.{front, back, held, outside, inside, front_is, back_is, one_of_two}

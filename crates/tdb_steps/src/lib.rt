@@ -15,8 +15,6 @@ mod look;
 mod looking;
 mod looks;
 mod machine;
-#[cfg(test)]
-mod machine_tests;
 mod plain;
 mod rows;
 mod stage;
@@ -25,8 +23,6 @@ mod taking;
 mod unlinking;
 mod wipe_turns;
 mod wiping;
-#[cfg(test)]
-mod wiping_tests;
 
 pub use crate::append_turns::append_turn;
 pub use crate::appending::look_to_append;

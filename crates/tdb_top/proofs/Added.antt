@@ -24,8 +24,8 @@ use Rattle.tdb_space.specs.Chain.{Linked, chain_of}
 use Rattle.tdb_space.specs.Pairs.{home, map_of}
 use Rattle.tdb_space.specs.Accepted.{AcceptWith, Accept}
 use Rattle.tdb_space.specs.Exchange.{GrownBy, PutInFront, Filled}
-use Rattle.tdb_space.proofs.Maps.{home_below}
-use Rattle.tdb_space.proofs.Grown.{add_accepted, add_map}
+use Rattle.tdb_space.proofs.Pairs.Maps.{home_below}
+use Rattle.tdb_space.proofs.Accepted.Grown.{add_accepted, add_map}
 use Rattle.tdb_space.specs.NewRecord.{rec_len_for, new_rec, record_bytes}
 use Rattle.tdb_top.specs.Commands.Insert.{need_for, first_of, inserted, HasAdded}
 use Rattle.tdb_top.proofs.AtEnd.{word_length, overlay_before}

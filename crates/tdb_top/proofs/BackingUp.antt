@@ -10,8 +10,8 @@ use Rattle.tdb_disk.proofs.Runs.{quiet_synced}
 use Rattle.tdb_space.specs.Form.{Form, form_of, form_in}
 use Rattle.tdb_space.specs.Pairs.{order_of, same_key}
 use Rattle.tdb_space.specs.Accepted.{AcceptWith}
-use Rattle.tdb_space.proofs.Undone.{read_as_it_is, old_length}
-use Rattle.tdb_space.proofs.Steps.{restored_length}
+use Rattle.tdb_space.proofs.Opening.Undone.{read_as_it_is, old_length}
+use Rattle.tdb_space.proofs.RecoverySteps.Steps.{restored_length}
 use Rattle.tdb_backup.specs.Building.{HoldsPairs, CopyCause}
 use Rattle.tdb_backup.specs.declared.refusal.CopyRefusal.{CopyRefusal}
 use Rattle.tdb_backup.specs.declared.refusal.CopyRefusal.TheVariants as C

@@ -4,7 +4,7 @@ use Rattle.std.specs.Prelude.{unwrap_or}
 use Rattle.std.proofs.lemmas.Bool.{cases_Bool, false≢true}
 use Rattle.tdb_disk.specs.History.{History}
 use Rattle.tdb_space.specs.Pairs.{same_key}
-use Rattle.tdb_space.proofs.Maps.{same_key-eq, same_key-refl}
+use Rattle.tdb_space.proofs.Pairs.Maps.{same_key-eq, same_key-refl}
 
 -- two names are one, or they differ
 pub same_or_other : (a b : List ℕ) → (a ≡ b) ⊎ (a ≡ b → ⊥)

@@ -6,7 +6,7 @@ use Rattle.std.proofs.lemmas.Bool.{false≢true}
 use Rattle.tdb_space.specs.Form.{form_of}
 use Rattle.tdb_space.specs.Opening.{is_open, Opens}
 use Rattle.tdb_space.specs.OpeningFault.{in_front}
-use Rattle.tdb_space.proofs.OpeningFaults.{one_opening, never_both_ways}
+use Rattle.tdb_space.proofs.OpeningFault.OneFault.{one_opening, never_both_ways}
 use Rattle.tdb_top.specs.declared.act.Act.{Act}
 use Rattle.tdb_top.specs.declared.look.Look.{Look}
 use Rattle.tdb_top.specs.declared.ask.Task.{Task}

@@ -15,9 +15,9 @@ use Rattle.tdb_space.specs.FirstFault.{Fault, is_out, is_long, front_fault, IsFi
 use Rattle.tdb_space.specs.Opening.{is_open, restored, Opens, Mild}
 use Rattle.tdb_space.specs.OpeningFault.{opening_fault, IsOpeningFault, in_front, in_undo_area, in_restored}
 use Rattle.tdb_space.specs.Undoing.{Reopens}
-use Rattle.tdb_space.proofs.Agreed.{front_ok, accepted_no_fault}
-use Rattle.tdb_space.proofs.Faults.{none_first}
-use Rattle.tdb_space.proofs.OpeningFaults.{opens_or_fault}
+use Rattle.tdb_space.proofs.FirstFault.Agreed.{front_ok, accepted_no_fault}
+use Rattle.tdb_space.proofs.FirstFault.Faults.{none_first}
+use Rattle.tdb_space.proofs.OpeningFault.OneFault.{opens_or_fault}
 use Rattle.tdb_check.specs.Front.{Refuses}
 use Rattle.tdb_check.specs.Report.{Counted}
 use Rattle.tdb_check.specs.Seen.{Names}

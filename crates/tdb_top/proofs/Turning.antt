@@ -9,8 +9,8 @@ use Rattle.tdb_disk.specs.declared.files.TakeRefusal.{TakeRefusal}
 use Rattle.tdb_disk.specs.declared.files.TakeRefusal.TheVariants as Take
 use Rattle.tdb_space.specs.Form.{form_of}
 use Rattle.tdb_space.specs.Opening.{Opens}
-use Rattle.tdb_space.proofs.Steps.{restored_length}
-use Rattle.tdb_space.proofs.Undone.{old_length, read_as_it_is}
+use Rattle.tdb_space.proofs.RecoverySteps.Steps.{restored_length}
+use Rattle.tdb_space.proofs.Opening.Undone.{old_length, read_as_it_is}
 use Rattle.tdb_backup.specs.Dump.{WroteFront}
 use Rattle.tdb_plays.specs.declared.play.Play.{Play}
 use Rattle.tdb_script.specs.Script.{Script, BadAt, IsRefused as NoScript}

@@ -7,7 +7,7 @@ use Rattle.tdb_dump.specs.Escape.{hex_value, IsLetter, Letters}
 use Rattle.tdb_dump.specs.Word.{stands_in_word, IsWord, IsBadEscapeAt}
 use Rattle.tdb_dump.proofs.GrammarLemmas.{no_word}
 use Rattle.tdb_space.specs.Pairs.{same_key}
-use Rattle.tdb_space.proofs.Maps.{same_key-eq, same_key-refl, same_key-other}
+use Rattle.tdb_space.proofs.Pairs.Maps.{same_key-eq, same_key-refl, same_key-other}
 use Rattle.tdb_top.specs.Words.{escaped, letters_of, bytes_of}
 
 -- a letter that is a byte itself, in front of what follows

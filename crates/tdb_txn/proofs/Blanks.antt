@@ -4,7 +4,7 @@ use Rattle.std.proofs.lemmas.Bool.{cases_lt}
 use Rattle.tdb_disk.specs.Image.{overlay}
 use Rattle.tdb_disk.proofs.Image.{overlay_below, overlay_in, overlay_above}
 use Rattle.tdb_space.specs.Extents.{Extent, once}
-use Rattle.tdb_space.proofs.Counts.{once_in, once_out, once_lies}
+use Rattle.tdb_space.proofs.Extents.Counts.{once_in, once_out, once_lies}
 use Rattle.tdb_txn.specs.Found.{Blanked}
 
 -- a byte that an extent doesn't hold lies before it or behind it

@@ -7,7 +7,7 @@ use Rattle.tdb_space.specs.Form.{form_of, form_in}
 use Rattle.tdb_space.specs.Runs.{ChangedRuns}
 use Rattle.tdb_space.specs.Record.{rec_len_of}
 use Rattle.tdb_space.specs.Planned.{content_length}
-use Rattle.tdb_space.proofs.Tails.{no_area_held}
+use Rattle.tdb_space.proofs.Undoing.Tails.{no_area_held}
 use Rattle.tdb_txn.specs.Committing.{MayCommit, MayKeep, MayPlace}
 use Rattle.tdb_txn.specs.Pages.{byte_over, length_filled}
 use Rattle.tdb_txn.specs.Planning.{IsPlanFrom, KeepsArea, PlacesArea}

@@ -12,11 +12,11 @@ use Rattle.tdb_space.specs.Form.{Form, data_start}
 use Rattle.tdb_space.specs.Moved.{StaysAccepted}
 use Rattle.tdb_space.specs.NewArea.{GivenUp, HoldsHand}
 use Rattle.tdb_space.specs.Record.{rec_len_of}
-use Rattle.tdb_space.proofs.AreaSets.{gone_moved, area_is_hand}
-use Rattle.tdb_space.proofs.Contents.{area_in, area_out}
-use Rattle.tdb_space.proofs.Counts.{once_in, once_out}
-use Rattle.tdb_space.proofs.Fresh.{word_zero}
-use Rattle.tdb_space.proofs.Moved.{moved_stays}
+use Rattle.tdb_space.proofs.NewArea.AreaSets.{gone_moved, area_is_hand}
+use Rattle.tdb_space.proofs.Gate.Contents.{area_in, area_out}
+use Rattle.tdb_space.proofs.Extents.Counts.{once_in, once_out}
+use Rattle.tdb_space.proofs.Accepted.Fresh.{word_zero}
+use Rattle.tdb_space.proofs.Moved.SameLists.{moved_stays}
 use Rattle.tdb_free.specs.FreeList.{CanBeGiven, Given, GivenBack}
 use Rattle.tdb_free.proofs.Accepted.{can_be_given, given_back}
 use Rattle.tdb_txn.specs.Committing.{HasAreaIn}

@@ -16,12 +16,12 @@ use Rattle.tdb_space.specs.Scheme.{Scheme}
 use Rattle.tdb_space.specs.Runs.{RunsLie}
 use Rattle.tdb_space.specs.Planned.{HasContent, Placed, kept, fresh, IsPlanned}
 use Rattle.tdb_space.specs.Undoing.{area_at, Reopens}
-use Rattle.tdb_space.proofs.Alike.{reopens_again}
-use Rattle.tdb_space.proofs.Counts.{once_in}
-use Rattle.tdb_space.proofs.Headers.{form_kept}
-use Rattle.tdb_space.proofs.Moved.{stays_reopens, stays_then}
-use Rattle.tdb_space.proofs.Stretches.{runs_of_other, runs_lie}
-use Rattle.tdb_space.proofs.Undone.{read_as_it_is}
+use Rattle.tdb_space.proofs.Undoing.Alike.{reopens_again}
+use Rattle.tdb_space.proofs.Extents.Counts.{once_in}
+use Rattle.tdb_space.proofs.Form.Headers.{form_kept}
+use Rattle.tdb_space.proofs.Moved.SameLists.{stays_reopens, stays_then}
+use Rattle.tdb_space.proofs.Runs.Stretches.{runs_of_other, runs_lie}
+use Rattle.tdb_space.proofs.Opening.Undone.{read_as_it_is}
 use Rattle.tdb_undo.specs.Area.{IsAreaOf, area_of}
 use Rattle.tdb_undo.specs.Content.{RunsFit, IsFilled as AreaFilled}
 use Rattle.tdb_undo.specs.Growth.{GrewAtMost}

@@ -14,11 +14,11 @@ use Rattle.tdb_space.specs.Gate.{InContent}
 use Rattle.tdb_space.specs.Moved.{StaysAccepted}
 use Rattle.tdb_space.specs.Scheme.{Within}
 use Rattle.tdb_space.specs.Undoing.{Reopens, area_at, area_end}
-use Rattle.tdb_space.proofs.Contents.{content_free}
-use Rattle.tdb_space.proofs.Moved.{stays_reopens}
-use Rattle.tdb_space.proofs.Overlaid.{word_length, word_put}
-use Rattle.tdb_space.proofs.Ready.{area_within}
-use Rattle.tdb_space.proofs.Schemes.{within_itself}
+use Rattle.tdb_space.proofs.Gate.Contents.{content_free}
+use Rattle.tdb_space.proofs.Moved.SameLists.{stays_reopens}
+use Rattle.tdb_space.proofs.Exchange.Overlaid.{word_length, word_put}
+use Rattle.tdb_space.proofs.Planned.Ready.{area_within}
+use Rattle.tdb_space.proofs.Scheme.WritesUndone.{within_itself}
 use Rattle.tdb_txn.specs.Commit.{scheme_of, opened, Brings, IsPrepared, IsUndone}
 use Rattle.tdb_txn.specs.declared.planned.Plan.{Plan}
 use Rattle.tdb_txn.proofs.Words.{WithWord}

@@ -17,11 +17,11 @@ use Rattle.tdb_space.specs.NewArea.{Longer}
 use Rattle.tdb_space.specs.Planned.{Placed, kept}
 use Rattle.tdb_space.specs.Record.{rec_len_of}
 use Rattle.tdb_space.specs.Undoing.{Reopens}
-use Rattle.tdb_space.proofs.Alike.{exact_reopens}
-use Rattle.tdb_space.proofs.AreaSets.{longer_stays, grown_longer}
-use Rattle.tdb_space.proofs.Contents.{area_in}
-use Rattle.tdb_space.proofs.Moved.{stays_reopens}
-use Rattle.tdb_space.proofs.Stretches.{runs_of_other}
+use Rattle.tdb_space.proofs.Undoing.Alike.{exact_reopens}
+use Rattle.tdb_space.proofs.NewArea.AreaSets.{longer_stays, grown_longer}
+use Rattle.tdb_space.proofs.Gate.Contents.{area_in}
+use Rattle.tdb_space.proofs.Moved.SameLists.{stays_reopens}
+use Rattle.tdb_space.proofs.Runs.Stretches.{runs_of_other}
 use Rattle.tdb_txn.specs.Commit.{scheme_of}
 use Rattle.tdb_txn.specs.Planned.{AwaitsContent, grown, IsPlannedOn}
 use Rattle.tdb_txn.specs.Planning.{KeepsArea}

@@ -11,9 +11,9 @@ use Rattle.tdb_space.specs.Moved.{StaysAccepted}
 use Rattle.tdb_space.specs.Planned.{fresh}
 use Rattle.tdb_space.specs.Record.{rec_len_of}
 use Rattle.tdb_space.specs.Runs.{ChangedRuns, RunsLie}
-use Rattle.tdb_space.proofs.Areas.{area_within}
-use Rattle.tdb_space.proofs.Counts.{once_in, once_out}
-use Rattle.tdb_space.proofs.Stretches.{runs_of_other, runs_lie}
+use Rattle.tdb_space.proofs.Accepted.Areas.{area_within}
+use Rattle.tdb_space.proofs.Extents.Counts.{once_in, once_out}
+use Rattle.tdb_space.proofs.Runs.Stretches.{runs_of_other, runs_lie}
 use Rattle.tdb_undo.specs.Placing.{IsPlaced}
 use Rattle.tdb_txn.specs.Commit.{scheme_of}
 use Rattle.tdb_txn.specs.Planned.{AwaitsContent, rests, IsPlannedOn}

@@ -9,7 +9,7 @@ use Rattle.std.specs.Prelude.{IsSome}
 use Rattle.tdb_disk.specs.Image.{overlay, padded}
 use Rattle.tdb_disk.proofs.Image.{length-overlay, length-padded, overlay_below, overlay_above, overlay_in, padded_below, padded_in}
 use Rattle.tdb_disk.specs.Stop.{Torn}
-use Rattle.tdb_space.proofs.Overlaid.{overlay_both}
+use Rattle.tdb_space.proofs.Exchange.Overlaid.{overlay_both}
 use Rattle.tdb_txn.specs.Pages.{page_size, page_at, byte_in, byte_over, filled, length_filled, contents, ZeroFrom, PutIn, Added, HasPage}
 use Rattle.tdb_txn.specs.declared.page.Page.{Page}
 use Rattle.tdb_txn.proofs.Listed.{page_here, page_past}

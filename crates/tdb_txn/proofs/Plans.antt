@@ -9,7 +9,7 @@ use Rattle.tdb_space.specs.Form.{form_of}
 use Rattle.tdb_space.specs.Planned.{content_length}
 use Rattle.tdb_space.specs.Runs.{Changed, ChangedRuns}
 use Rattle.tdb_space.specs.Undoing.{Reopens}
-use Rattle.tdb_space.proofs.Stretches.{no_run_no_change}
+use Rattle.tdb_space.proofs.Runs.Stretches.{no_run_no_change}
 use Rattle.tdb_txn.specs.Answered.{ChangesNothing, AreaReplaced, first, other, PlannedFor, keeps, places, PlaceRefused, ReplaceRefused, AnsweredRightly}
 use Rattle.tdb_txn.specs.AreaExtent.{IsAreaExtent, none, there}
 use Rattle.tdb_txn.specs.AreaRoom.{new_area_length}

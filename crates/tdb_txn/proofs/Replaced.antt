@@ -14,10 +14,10 @@ use Rattle.tdb_space.specs.Form.{Form, form_of}
 use Rattle.tdb_space.specs.Record.{rec_len_of}
 use Rattle.tdb_space.specs.Runs.{ChangedRuns}
 use Rattle.tdb_space.specs.Undoing.{Reopens}
-use Rattle.tdb_space.proofs.Alike.{exact_reopens}
-use Rattle.tdb_space.proofs.Contents.{area_in}
-use Rattle.tdb_space.proofs.Counts.{once_lies}
-use Rattle.tdb_space.proofs.Headers.{form_kept}
+use Rattle.tdb_space.proofs.Undoing.Alike.{exact_reopens}
+use Rattle.tdb_space.proofs.Gate.Contents.{area_in}
+use Rattle.tdb_space.proofs.Extents.Counts.{once_lies}
+use Rattle.tdb_space.proofs.Form.Headers.{form_kept}
 use Rattle.tdb_txn.specs.Answered.{AreaReplaced}
 use Rattle.tdb_txn.specs.Committing.{HasAreaIn, MayCommit, MayPlace}
 use Rattle.tdb_txn.specs.Found.{Blanked}

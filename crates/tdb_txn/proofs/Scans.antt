@@ -3,7 +3,7 @@ use Rattle.std.proofs.Common.{◌≡◌, ◌∙◌, ℕ, zero, suc, ◌+◌, ◌
 use Rattle.std.proofs.lemmas.Bool.{cases_lt}
 use Rattle.tdb_space.specs.Extents.{Extent, once, times}
 use Rattle.tdb_space.specs.Runs.{Near, InOrder, IsRuns}
-use Rattle.tdb_space.proofs.Counts.{times-append, once_in, once_lies}
+use Rattle.tdb_space.proofs.Extents.Counts.{times-append, once_in, once_lies}
 use Rattle.tdb_txn.specs.EndBelow.{EndBelow}
 use Rattle.tdb_txn.specs.Found.{Scanned}
 

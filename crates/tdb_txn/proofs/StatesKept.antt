@@ -14,10 +14,10 @@ use Rattle.tdb_space.specs.Scheme.{Within, MayWrite, IsClear}
 use Rattle.tdb_space.specs.Planned.{Fills, PutRuns, PutRange, finished}
 use Rattle.tdb_space.specs.Planned.Placed.{kept, fresh}
 use Rattle.tdb_space.specs.Undoing.{Reopens}
-use Rattle.tdb_space.proofs.Alike.{exact_reopens}
-use Rattle.tdb_space.proofs.Overlaid.{word_length}
-use Rattle.tdb_space.proofs.Schemes.{within_itself}
-use Rattle.tdb_space.proofs.Settled.{plan_fills, settled_is}
+use Rattle.tdb_space.proofs.Undoing.Alike.{exact_reopens}
+use Rattle.tdb_space.proofs.Exchange.Overlaid.{word_length}
+use Rattle.tdb_space.proofs.Scheme.WritesUndone.{within_itself}
+use Rattle.tdb_space.proofs.Planned.Settled.{plan_fills, settled_is}
 use Rattle.tdb_txn.specs.Commit.{scheme_of, opened, Brings, IsFilled, IsPrepared, IsApplied, IsSettled, IsFinished}
 use Rattle.tdb_txn.specs.Pages.{byte_over}
 use Rattle.tdb_txn.specs.Stock.{page_list}

@@ -8,11 +8,11 @@ use Rattle.tdb_disk.specs.Stop.{Leaves, LeavesOnly}
 use Rattle.tdb_disk.proofs.Image.{length-overlay, overlay_below, overlay_above, overlay_in}
 use Rattle.tdb_disk.proofs.Runs.{leaves_start, leaves_write}
 use Rattle.tdb_space.specs.Extents.{Extent, once, times}
-use Rattle.tdb_space.proofs.Counts.{where_is, times-append}
-use Rattle.tdb_space.proofs.Counts.Lies.{lies, below, above}
+use Rattle.tdb_space.proofs.Extents.Counts.{where_is, times-append}
+use Rattle.tdb_space.proofs.Extents.Counts.Lies.{lies, below, above}
 use Rattle.tdb_space.specs.Scheme.{Scheme, Within, IsClear, MayWrite}
 use Rattle.tdb_space.specs.Planned.{PutRange, PutRuns}
-use Rattle.tdb_space.proofs.Schemes.{within_torn}
+use Rattle.tdb_space.proofs.Scheme.WritesUndone.{within_torn}
 use Rattle.tdb_txn.specs.Pages.{page_size, page_at, byte_in, byte_over}
 use Rattle.tdb_txn.specs.EndBelow.{EndBelow}
 use Rattle.tdb_txn.specs.declared.page.Page.{Page}

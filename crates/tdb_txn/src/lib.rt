@@ -7,8 +7,6 @@ mod area_kept;
 mod area_placed;
 mod area_room;
 mod changes;
-#[cfg(test)]
-mod commit_tests;
 mod comparing;
 mod filling;
 mod found;
@@ -24,8 +22,6 @@ mod planning;
 mod reading;
 mod refusal;
 mod states;
-#[cfg(test)]
-mod tests;
 mod txn;
 mod writing;
 

@@ -77,6 +77,20 @@ impl Txn {
         self.pages.count()
     }
 
+    /// The length of the file when it started, in bytes.
+    pub fn length_at_start(&self) -> u64
+        ensures { result ≡ txn_start self.now }
+    {
+        self.start
+    }
+
+    /// The length of the file as the transaction has it, in bytes.
+    pub fn length(&self) -> u64
+        ensures { result ≡ txn_size self.now }
+    {
+        self.size
+    }
+
     /// How many transactions are open within it.
     pub fn depth(&self) -> u32
         ensures { result ≡ txn_depth self.now }

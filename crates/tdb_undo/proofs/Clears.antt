@@ -10,7 +10,7 @@ use Rattle.tdb_words.specs.declared.word.Order.TheVariants.{Little, Big}
 use Rattle.tdb_words.specs.declared.record.TheConstants.{GATE_OPEN, GATE_SHUT}
 use Rattle.tdb_words.specs.declared.what.What.TheVariants.{AreaBad}
 use Rattle.tdb_space.specs.FirstFault.{Fault}
-use Rattle.tdb_space.proofs.Cleared.{stands_to, long_to}
+use Rattle.tdb_space.proofs.FirstFault.Cleared.{stands_to, long_to}
 use Rattle.tdb_words.specs.Word.{word}
 use Rattle.tdb_words.specs.Header.{sequence_of}
 use Rattle.tdb_words.proofs.Words.{word_agrees}
@@ -24,11 +24,11 @@ use Rattle.tdb_space.specs.Opening.{lies_in}
 use Rattle.tdb_space.specs.Moved.{StaysAccepted}
 use Rattle.tdb_space.specs.Gate.{InContent}
 use Rattle.tdb_space.specs.Undoing.{area_at, area_end, Reopens}
-use Rattle.tdb_space.proofs.AreaSets.{area_set_stays}
-use Rattle.tdb_space.proofs.Contents.{content_free, area_apart, area_in, area_out, area_not}
-use Rattle.tdb_space.proofs.Fresh.{word_zero}
-use Rattle.tdb_space.proofs.Tails.{no_area_held, area_from}
-use Rattle.tdb_space.proofs.Undone.{accepted_opens, read_as_it_is}
+use Rattle.tdb_space.proofs.NewArea.AreaSets.{area_set_stays}
+use Rattle.tdb_space.proofs.Gate.Contents.{content_free, area_apart, area_in, area_out, area_not}
+use Rattle.tdb_space.proofs.Accepted.Fresh.{word_zero}
+use Rattle.tdb_space.proofs.Undoing.Tails.{no_area_held, area_from}
+use Rattle.tdb_space.proofs.Opening.Undone.{accepted_opens, read_as_it_is}
 use Rattle.tdb_undo.specs.Area.{place_fault}
 use Rattle.tdb_undo.specs.Torn.{TornIn, Put}
 use Rattle.tdb_undo.specs.Recovery.{HeaderTouched}

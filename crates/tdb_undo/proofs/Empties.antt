@@ -16,9 +16,9 @@ use Rattle.tdb_space.specs.Record.{rec_len_of}
 use Rattle.tdb_space.specs.Opening.{lies_in}
 use Rattle.tdb_space.specs.Undoing.{TailOf}
 use Rattle.tdb_space.specs.RecoverySteps.{Behind, TailAt, Emptied, ZerosBehind}
-use Rattle.tdb_space.proofs.Emptying.{tail_torn, tail_emptied, emptied_more, word_cleared, word_beside, emptied_dropped, zeros_shrunk}
-use Rattle.tdb_space.proofs.Fresh.{word_zero}
-use Rattle.tdb_space.proofs.Steps.{shut_is_tail, emptied_is_tail, blank_is_tail}
+use Rattle.tdb_space.proofs.RecoverySteps.Emptying.{tail_torn, tail_emptied, emptied_more, word_cleared, word_beside, emptied_dropped, zeros_shrunk}
+use Rattle.tdb_space.proofs.Accepted.Fresh.{word_zero}
+use Rattle.tdb_space.proofs.RecoverySteps.Steps.{shut_is_tail, emptied_is_tail, blank_is_tail}
 use Rattle.tdb_undo.specs.Torn.{TornIn, Put}
 use Rattle.tdb_undo.specs.Recovery.{HeaderTouched, ZeroAt}
 use Rattle.tdb_undo.proofs.Blocks.{put_none, put_zeros}

@@ -12,10 +12,10 @@ use Rattle.tdb_space.specs.Extents.{times, extents, area}
 use Rattle.tdb_space.specs.Accepted.{AreaInPlace, Accept, AcceptWith}
 use Rattle.tdb_space.specs.Moved.{AreaMoved, StaysAccepted}
 use Rattle.tdb_space.specs.Undoing.{area_at, Reopens}
-use Rattle.tdb_space.proofs.Contents.{chain_in_lists, area_apart, area_in, area_out, area_not, area_same}
-use Rattle.tdb_space.proofs.Fresh.{word_zero}
-use Rattle.tdb_space.proofs.Moved.{moved_stays}
-use Rattle.tdb_space.proofs.Tails.{lists_within, held_past, no_area_held, area_from}
+use Rattle.tdb_space.proofs.Gate.Contents.{chain_in_lists, area_apart, area_in, area_out, area_not, area_same}
+use Rattle.tdb_space.proofs.Accepted.Fresh.{word_zero}
+use Rattle.tdb_space.proofs.Moved.SameLists.{moved_stays}
+use Rattle.tdb_space.proofs.Undoing.Tails.{lists_within, held_past, no_area_held, area_from}
 use Rattle.tdb_undo.specs.Placing.{Placing, LeadsTo, old_area, new_area, IsSet, IsCleared, IsPlaced}
 use Rattle.tdb_undo.proofs.Clears.{stays_reopens, stays_further, place}
 

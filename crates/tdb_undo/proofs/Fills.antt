@@ -16,15 +16,15 @@ use Rattle.tdb_space.specs.Gate.{InContent}
 use Rattle.tdb_space.specs.Moved.{StaysAccepted}
 use Rattle.tdb_space.specs.NewArea.{Longer}
 use Rattle.tdb_space.specs.Undoing.{area_at, Reopens}
-use Rattle.tdb_space.proofs.AreaSets.{longer_stays}
-use Rattle.tdb_space.proofs.Contents.{content_free}
+use Rattle.tdb_space.proofs.NewArea.AreaSets.{longer_stays}
+use Rattle.tdb_space.proofs.Gate.Contents.{content_free}
 use Rattle.tdb_undo.specs.Area.{IsAreaOf, area_of}
 use Rattle.tdb_undo.proofs.Clears.{stays_reopens, stays_further, gate}
 use Rattle.tdb_undo.proofs.Growths.{grew_seen, longer_area, longer_number}
 use Rattle.tdb_undo.proofs.Whole.{same_end}
 use Rattle.tdb_space.specs.Extents.{Extent, times}
 use Rattle.tdb_space.specs.Runs.{InOrder}
-use Rattle.tdb_space.proofs.Counts.{once_in}
+use Rattle.tdb_space.proofs.Extents.Counts.{once_in}
 use Rattle.tdb_space.specs.Opening.{lies_in}
 use Rattle.tdb_undo.specs.declared.area.Area.{Area}
 use Rattle.tdb_undo.specs.Torn.{TornAt, TornIn}
@@ -34,8 +34,8 @@ use Rattle.tdb_undo.proofs.Blocks.{wider_torn, write_torn}
 use Rattle.tdb_undo.proofs.Gives.{stop}
 use Rattle.tdb_undo.proofs.Lies.{lies, lies_not, lies_outside}
 use Rattle.tdb_undo.proofs.Puts.{entries_content}
-use Rattle.tdb_space.proofs.Emptying.{four_bytes}
-use Rattle.tdb_space.proofs.Overlaid.{word_put, word_overlaid}
+use Rattle.tdb_space.proofs.RecoverySteps.Emptying.{four_bytes}
+use Rattle.tdb_space.proofs.Exchange.Overlaid.{word_put, word_overlaid}
 
 -- what isn't filled stays in each of the writes
 not_words : (a : Area) (i : ℕ) → is_content a i ≡ false → (i < a.at + 8) ⊎ (a.at + 16 ≤ i)

@@ -18,11 +18,11 @@ use Rattle.tdb_space.specs.FirstFault.{Fault, is_out, is_long}
 use Rattle.tdb_space.specs.Opening.{entries, entries_end, entry_fault, undo_fault, is_bad_cut, Undoable, is_open, last_covering, given_back, restored, Opens, Mild}
 use Rattle.tdb_space.specs.OpeningFault.{opening_fault}
 use Rattle.tdb_space.specs.Undoing.{area_at, old_size, TailOf, Reopens}
-use Rattle.tdb_space.proofs.Alike.{alike_self, alike_reopens, exact_reopens}
-use Rattle.tdb_space.proofs.Headers.{form_kept}
-use Rattle.tdb_space.proofs.Steps.{restored_no_area, restored_length}
-use Rattle.tdb_space.proofs.Tails.{tail_reopens}
-use Rattle.tdb_space.proofs.Undone.{read_as_it_is}
+use Rattle.tdb_space.proofs.Undoing.Alike.{alike_self, alike_reopens, exact_reopens}
+use Rattle.tdb_space.proofs.Form.Headers.{form_kept}
+use Rattle.tdb_space.proofs.RecoverySteps.Steps.{restored_no_area, restored_length}
+use Rattle.tdb_space.proofs.Undoing.Tails.{tail_reopens}
+use Rattle.tdb_space.proofs.Opening.Undone.{read_as_it_is}
 use Rattle.tdb_undo.specs.declared.area.Area.{Area}
 use Rattle.tdb_undo.specs.Area.{place_fault, place_fault_at, content_fault_at, IsAreaOf, Stands}
 use Rattle.tdb_undo.specs.declared.refusal.UndoRefusal.{UndoRefusal}

@@ -12,9 +12,9 @@ use Rattle.tdb_space.specs.Accepted.{AreaOk, Accept}
 use Rattle.tdb_space.specs.Opening.{Undoable}
 use Rattle.tdb_space.specs.Undoing.{area_at, Reopens}
 use Rattle.tdb_space.specs.Gate.{with_gate_word, gate_opened, IsReadyToOpen}
-use Rattle.tdb_space.proofs.Alike.{exact_reopens}
-use Rattle.tdb_space.proofs.Emptying.{word_beside}
-use Rattle.tdb_space.proofs.OpenGate.{gate_keeps}
+use Rattle.tdb_space.proofs.Undoing.Alike.{exact_reopens}
+use Rattle.tdb_space.proofs.RecoverySteps.Emptying.{word_beside}
+use Rattle.tdb_space.proofs.Gate.OpenGate.{gate_keeps}
 use Rattle.tdb_undo.specs.Gate.{HasGate}
 
 pub undoable_gate : (f : Form) (a : List ℕ) → Undoable f a → HasGate f a

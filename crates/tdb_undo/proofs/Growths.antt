@@ -11,7 +11,7 @@ use Rattle.tdb_space.specs.Form.{Form, form_of}
 use Rattle.tdb_space.specs.Accepted.{Accept, AcceptWith}
 use Rattle.tdb_space.specs.NewArea.{Longer}
 use Rattle.tdb_space.specs.Undoing.{Reopens}
-use Rattle.tdb_space.proofs.AreaSets.{longer_stays, grown_longer}
+use Rattle.tdb_space.proofs.NewArea.AreaSets.{longer_stays, grown_longer}
 use Rattle.tdb_undo.specs.Area.{area_of}
 use Rattle.tdb_undo.specs.Growth.{GrewAtMost}
 use Rattle.tdb_undo.proofs.Clears.{stays_reopens}

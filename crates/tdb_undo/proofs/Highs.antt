@@ -11,9 +11,9 @@ use Rattle.tdb_space.specs.Form.{Form}
 use Rattle.tdb_space.specs.Opening.{Undoable, restored}
 use Rattle.tdb_space.specs.Undoing.{area_at, area_end, old_size, Written}
 use Rattle.tdb_space.specs.RecoverySteps.{IsHarmless, BlankPast, Behind, TailAt}
-use Rattle.tdb_space.proofs.Emptying.{word_cleared, word_beside}
-use Rattle.tdb_space.proofs.Steps.{alike_torn, area_behind, tail_shut, shut_is_tail}
-use Rattle.tdb_space.proofs.Undone.{OldLength, old_length}
+use Rattle.tdb_space.proofs.RecoverySteps.Emptying.{word_cleared, word_beside}
+use Rattle.tdb_space.proofs.RecoverySteps.Steps.{alike_torn, area_behind, tail_shut, shut_is_tail}
+use Rattle.tdb_space.proofs.Opening.Undone.{OldLength, old_length}
 use Rattle.tdb_undo.specs.declared.area.Area.{Area}
 use Rattle.tdb_undo.specs.Area.{IsAreaOf}
 use Rattle.tdb_undo.specs.Torn.{TornIn, Put}

@@ -11,10 +11,10 @@ use Rattle.tdb_words.specs.Word.{word, bytes_of_word}
 use Rattle.tdb_space.specs.Form.{Form}
 use Rattle.tdb_space.specs.Opening.{Undoable, restored}
 use Rattle.tdb_space.specs.Undoing.{area_at, old_size, UndoneAlike, Written}
-use Rattle.tdb_space.proofs.Alike.{alike_shrunk}
-use Rattle.tdb_space.proofs.Emptying.{word_cleared, word_beside}
-use Rattle.tdb_space.proofs.Steps.{low_exact}
-use Rattle.tdb_space.proofs.Undone.{OldLength, old_length}
+use Rattle.tdb_space.proofs.Undoing.Alike.{alike_shrunk}
+use Rattle.tdb_space.proofs.RecoverySteps.Emptying.{word_cleared, word_beside}
+use Rattle.tdb_space.proofs.RecoverySteps.Steps.{low_exact}
+use Rattle.tdb_space.proofs.Opening.Undone.{OldLength, old_length}
 use Rattle.tdb_undo.specs.Recovery.{AllAlike, Undoing, alike, exact}
 
 module _ (f : Form) (a : List ℕ) (u : Undoable f a) (low : area_at f a < old_size f a) (h one two three four five : History) where

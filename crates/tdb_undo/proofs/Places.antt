@@ -11,9 +11,9 @@ use Rattle.tdb_words.specs.declared.word.Order.{Order}
 use Rattle.tdb_words.specs.Word.{word, bytes_of_word}
 use Rattle.tdb_words.proofs.Words.{word_agrees}
 use Rattle.tdb_space.specs.Record.{rec_len_of}
-use Rattle.tdb_space.proofs.Emptying.{word_beside}
-use Rattle.tdb_space.proofs.Fresh.{word_zero}
-use Rattle.tdb_space.proofs.Overlaid.{word_put}
+use Rattle.tdb_space.proofs.RecoverySteps.Emptying.{word_beside}
+use Rattle.tdb_space.proofs.Accepted.Fresh.{word_zero}
+use Rattle.tdb_space.proofs.Exchange.Overlaid.{word_put}
 use Rattle.tdb_undo.specs.Placing.{Placing, old_area, new_area, IsSet}
 
 -- behind the end of an image every byte counts as 0

@@ -12,7 +12,7 @@ use Rattle.tdb_space.specs.Planned.{content_length, HasContent}
 use Rattle.tdb_undo.specs.declared.area.Area.{Area}
 use Rattle.tdb_disk.specs.Image.{overlay}
 use Rattle.tdb_disk.proofs.Image.{length-overlay, overlay_below, overlay_above}
-use Rattle.tdb_space.proofs.Overlaid.{word_overlaid}
+use Rattle.tdb_space.proofs.Exchange.Overlaid.{word_overlaid}
 use Rattle.tdb_undo.specs.Torn.{TornIn, Put}
 use Rattle.tdb_undo.specs.Content.{EntryPut, HasRoom, AllBeside, RunsFit, HasEntries, BesideRest, PutUpTo}
 use Rattle.tdb_undo.proofs.Blocks.{wider_torn, join_torn}

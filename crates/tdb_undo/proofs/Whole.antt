@@ -11,9 +11,9 @@ use Rattle.tdb_space.specs.Form.{Form, data_start, SameHeader}
 use Rattle.tdb_space.specs.Opening.{Entry, entries, entry_fault, Undoable, last_covering, given_back, lies_in, restored}
 use Rattle.tdb_space.specs.Undoing.{area_at, area_end, old_size, UndoneAlike, Written}
 use Rattle.tdb_space.specs.RecoverySteps.{IsHarmless}
-use Rattle.tdb_space.proofs.Steps.{restored_given, alike_torn}
-use Rattle.tdb_space.proofs.Alike.{alike_self, good_entries}
-use Rattle.tdb_space.proofs.Undone.{OldLength, old_length}
+use Rattle.tdb_space.proofs.RecoverySteps.Steps.{restored_given, alike_torn}
+use Rattle.tdb_space.proofs.Undoing.Alike.{alike_self, good_entries}
+use Rattle.tdb_space.proofs.Opening.Undone.{OldLength, old_length}
 use Rattle.tdb_undo.specs.declared.area.Area.{Area}
 use Rattle.tdb_undo.specs.Area.{IsAreaOf}
 use Rattle.tdb_undo.specs.Torn.{TornIn, Put}

@@ -13,8 +13,6 @@ mod recovering;
 mod refusal;
 mod runs;
 mod testing;
-#[cfg(test)]
-mod tests;
 mod undoing;
 mod window;
 mod writing;

@@ -6,7 +6,7 @@ use Rattle.tdb_words.specs.declared.record.TheConstants.{USED}
 use Rattle.tdb_space.specs.Form.{Form}
 use Rattle.tdb_space.specs.Record.{key_at, magic_of}
 use Rattle.tdb_space.specs.Chain.{chain_of, Member}
-use Rattle.tdb_space.proofs.Walks.{member_first, member_other}
+use Rattle.tdb_space.proofs.Chain.Walks.{member_first, member_other}
 use Rattle.tdb_law.specs.Layout.{Cell, Place, cells, behind, chains_in}
 use Rattle.tdb_law.specs.Layout.Place.{off_chains, before_chain, on_record}
 use Rattle.tdb_walk.specs.declared.live.Live.{Live}

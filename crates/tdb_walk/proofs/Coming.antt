@@ -13,9 +13,9 @@ use Rattle.tdb_space.specs.Chain.{chain_of}
 use Rattle.tdb_space.specs.Pairs.{home, pairs, same_key}
 use Rattle.tdb_space.specs.Extents.{HandPair}
 use Rattle.tdb_space.specs.Accepted.{AcceptWith, KeysDiffer}
-use Rattle.tdb_space.proofs.Maps.{pairs_used, pairs_other, same_key-refl}
-use Rattle.tdb_space.proofs.Walks.{linked_distinct}
-use Rattle.tdb_space.proofs.Removes.{home_of_member}
+use Rattle.tdb_space.proofs.Pairs.Maps.{pairs_used, pairs_other, same_key-refl}
+use Rattle.tdb_space.proofs.Chain.Walks.{linked_distinct}
+use Rattle.tdb_space.proofs.Accepted.Removes.{home_of_member}
 use Rattle.tdb_law.specs.Openers.{is_key}
 use Rattle.tdb_law.specs.Layout.{Cell, Chains, Place, cells, behind, chains_in, live_in, ahead_of}
 use Rattle.tdb_law.specs.Layout.Place.{off_chains, before_chain, on_record}

@@ -4,7 +4,7 @@ use Rattle.std.specs.Prelude.{◌&&◌, ◌||◌}
 use Rattle.std.proofs.lemmas.Bool.{cases_eq, cases_lt, eq-eqb, ne_eqb, lt-ltb, le-ltb, le-leb, lt-leb}
 use Rattle.tdb_space.specs.Form.{Form}
 use Rattle.tdb_space.specs.Pairs.{home}
-use Rattle.tdb_space.proofs.Maps.{home_below}
+use Rattle.tdb_space.proofs.Pairs.Maps.{home_below}
 use Rattle.tdb_law.specs.Openers.{is_key}
 use Rattle.tdb_law.specs.Layout.{Cell, Chains, Place, live_in, ahead_of, reached_of}
 use Rattle.tdb_law.specs.Layout.Place.{off_chains, before_chain, on_record}

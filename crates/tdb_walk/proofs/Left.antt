@@ -8,7 +8,7 @@ use Rattle.tdb_space.specs.Form.{Form}
 use Rattle.tdb_space.specs.Record.{Whole, IsChained, key_at, magic_of}
 use Rattle.tdb_space.specs.Chain.{Chain, Member}
 use Rattle.tdb_space.specs.Accepted.{AllFiled, Filed}
-use Rattle.tdb_space.proofs.Walks.{linked_short, member_cases}
+use Rattle.tdb_space.proofs.Chain.Walks.{linked_short, member_cases}
 use Rattle.tdb_law.specs.Layout.{cells, behind}
 use Rattle.tdb_walk.specs.NextLive.{first_live}
 

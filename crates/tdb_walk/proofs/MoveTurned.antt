@@ -16,10 +16,10 @@ use Rattle.tdb_space.specs.Chain.{chain_of, offsets, Member}
 use Rattle.tdb_space.specs.Pairs.{home, pairs, same_key}
 use Rattle.tdb_space.specs.Extents.{HandPair}
 use Rattle.tdb_space.specs.Accepted.{AcceptWith}
-use Rattle.tdb_space.proofs.Laid.{accepted_filed}
-use Rattle.tdb_space.proofs.Maps.{lookup_met, lookup_passed, map_home, pairs_used, pairs_other, same_key-refl}
-use Rattle.tdb_space.proofs.Removes.{home_of_member, key_among}
-use Rattle.tdb_space.proofs.Walks.{member_cases}
+use Rattle.tdb_space.proofs.Accepted.Laid.{accepted_filed}
+use Rattle.tdb_space.proofs.Pairs.Maps.{lookup_met, lookup_passed, map_home, pairs_used, pairs_other, same_key-refl}
+use Rattle.tdb_space.proofs.Accepted.Removes.{home_of_member, key_among}
+use Rattle.tdb_space.proofs.Chain.Walks.{member_cases}
 use Rattle.tdb_locks.specs.HeldLocks.{HeldLocks}
 use Rattle.tdb_locks.specs.LockTable.{held, Conflicts}
 use Rattle.tdb_locks.specs.declared.kind.Kind.{Kind}

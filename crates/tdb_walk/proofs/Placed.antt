@@ -8,7 +8,7 @@ use Rattle.tdb_space.specs.Record.{Whole, IsChained}
 use Rattle.tdb_space.specs.Chain.{Chain, Member, Leads, chain_of}
 use Rattle.tdb_space.specs.Extents.{HandPair}
 use Rattle.tdb_space.specs.Accepted.{AcceptWith}
-use Rattle.tdb_space.proofs.Walks.{linked_short, member_cases}
+use Rattle.tdb_space.proofs.Chain.Walks.{linked_short, member_cases}
 
 -- so many records of a chain were passed, the one at this offset is further on, and the word at `before` leads to the
 -- rest

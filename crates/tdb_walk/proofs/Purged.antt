@@ -11,9 +11,9 @@ use Rattle.tdb_space.specs.Chain.{chain_of, free_of, without, Member}
 use Rattle.tdb_space.specs.Extents.{HandPair, once, extent_at}
 use Rattle.tdb_space.specs.Accepted.{AcceptWith}
 use Rattle.tdb_space.specs.Stays.{ChainsStay, FreeStays}
-use Rattle.tdb_space.proofs.Counts.{once_in}
-use Rattle.tdb_space.proofs.Members.{member_held}
-use Rattle.tdb_space.proofs.Stays.{changes_then, changes_weaker}
+use Rattle.tdb_space.proofs.Extents.Counts.{once_in}
+use Rattle.tdb_space.proofs.Chain.Members.{member_held}
+use Rattle.tdb_space.proofs.Stays.Changes.{changes_then, changes_weaker}
 use Rattle.tdb_free.specs.FreeList.{free_pairs, give_to, GivenBack}
 use Rattle.tdb_free.proofs.TakenAs.{pairs_kept}
 use Rattle.tdb_chain.specs.declared.place.Place.{Place}

@@ -12,11 +12,11 @@ use Rattle.tdb_space.specs.Pairs.{home}
 use Rattle.tdb_space.specs.Extents.{HandPair, times, extents}
 use Rattle.tdb_space.specs.Accepted.{AllFiled, AcceptWith}
 use Rattle.tdb_space.specs.Stays.{ChainStays, ChainsStay}
-use Rattle.tdb_space.proofs.Counts.{times_all, times_member}
-use Rattle.tdb_space.proofs.Kept.{Bodies, words_kept, key_kept, bodies_still, times_within}
-use Rattle.tdb_space.proofs.Members.{bodies_from}
-use Rattle.tdb_space.proofs.Maps.{home_below}
-use Rattle.tdb_space.proofs.Unlinks.{unlinked_bodies}
+use Rattle.tdb_space.proofs.Extents.Counts.{times_all, times_member}
+use Rattle.tdb_space.proofs.Exchange.Kept.{Bodies, words_kept, key_kept, bodies_still, times_within}
+use Rattle.tdb_space.proofs.Chain.Members.{bodies_from}
+use Rattle.tdb_space.proofs.Pairs.Maps.{home_below}
+use Rattle.tdb_space.proofs.Chain.Unlinks.{unlinked_bodies}
 use Rattle.tdb_chain.specs.declared.place.Place.{Place as Found}
 use Rattle.tdb_chain.specs.Place.{IsPlace}
 use Rattle.tdb_chain.specs.Changed.{ChainChanged, Purged, OldOrWord}

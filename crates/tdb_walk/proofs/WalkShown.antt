@@ -11,8 +11,8 @@ use Rattle.tdb_space.specs.Chain.{chain_of}
 use Rattle.tdb_space.specs.Pairs.{home, pairs, same_key}
 use Rattle.tdb_space.specs.Extents.{HandPair}
 use Rattle.tdb_space.specs.Accepted.{AcceptWith}
-use Rattle.tdb_space.proofs.Laid.{accepted_filed}
-use Rattle.tdb_space.proofs.Maps.{map_home, pairs_used, pairs_other, same_key-eq}
+use Rattle.tdb_space.proofs.Accepted.Laid.{accepted_filed}
+use Rattle.tdb_space.proofs.Pairs.Maps.{map_home, pairs_used, pairs_other, same_key-eq}
 use Rattle.tdb_locks.specs.declared.turn.Turn.{Turn}
 use Rattle.tdb_law.specs.Commands.{WalkCommand}
 use Rattle.tdb_law.specs.Commands.WalkCommand.{First, Next, EndWalk, Close}
@@ -36,7 +36,7 @@ use Rattle.tdb_walk.proofs.Ahead.{none_some}
 use Rattle.tdb_walk.proofs.Explicit.{one_off}
 use Rattle.tdb_walk.proofs.Holding.{purge_locks}
 use Rattle.tdb_walk.proofs.Wanting.{bit, wanted_is}
-use Rattle.tdb_space.proofs.Maps.{home_below}
+use Rattle.tdb_space.proofs.Pairs.Maps.{home_below}
 
 -- the keys that are further on stay
 pub ahead_same : (f : Form) (a b : List ℕ) (hands : List HandPair) (at later : At) (did : Turn) (place : Place) → StepMade f a b hands at later did → ((d : DeadRecord) → dead_of at.place at.stage ≡ Some d → place ≡ on_record d.chain d.off → ⊥) → (k : List ℕ)

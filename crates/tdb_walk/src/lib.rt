@@ -2,8 +2,6 @@
 #![tactic(auto)]
 
 mod cursor;
-#[cfg(test)]
-mod cursor_tests;
 mod heads;
 mod laws;
 mod live;
@@ -15,8 +13,6 @@ mod records;
 mod refusal;
 mod stage;
 mod standing;
-#[cfg(test)]
-mod tests;
 mod way;
 
 pub use crate::cursor::Cursor;

@@ -5,8 +5,8 @@ use Rattle.tdb_space.specs.Form.{Form}
 use Rattle.tdb_space.specs.Pairs.{joined}
 use Rattle.tdb_space.specs.Extents.{HandPair, times, hand_extents, AllHandOk}
 use Rattle.tdb_space.specs.Accepted.{AcceptWith}
-use Rattle.tdb_space.proofs.Hands.{hands_for}
-use Rattle.tdb_space.proofs.Trades.{hands_both}
+use Rattle.tdb_space.proofs.Accepted.Hands.{hands_for}
+use Rattle.tdb_space.proofs.Chain.Trades.{hands_both}
 
 hand_times : (xs ys : List HandPair) (i : ℕ) → times (hand_extents (xs ++ ys)) i ≡ times (hand_extents xs) i + times (hand_extents ys) i
 hand_times [] ys i = omega arith

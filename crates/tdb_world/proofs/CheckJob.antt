@@ -5,7 +5,7 @@ use Rattle.tdb_words.specs.Word.{word}
 use Rattle.tdb_space.specs.Form.{Form}
 use Rattle.tdb_space.specs.Extents.{HandPair}
 use Rattle.tdb_space.specs.Accepted.{AcceptWith}
-use Rattle.tdb_space.proofs.Stays.{changes_none}
+use Rattle.tdb_space.proofs.Stays.Changes.{changes_none}
 use Rattle.tdb_locks.specs.HeldLocks.{HeldLocks, AreCounts}
 use Rattle.tdb_locks.specs.declared.piece.Piece.{Piece}
 use Rattle.tdb_locks.specs.declared.turn.Turn.{Turn}

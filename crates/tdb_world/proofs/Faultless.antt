@@ -4,8 +4,8 @@ use Rattle.tdb_words.specs.declared.what.What.{What}
 use Rattle.tdb_space.specs.Form.{Form}
 use Rattle.tdb_space.specs.Accepted.{AcceptWith}
 use Rattle.tdb_space.specs.FirstFault.{IsFirstFault}
-use Rattle.tdb_space.proofs.Faults.{none_first}
-use Rattle.tdb_space.proofs.Agreed.{accepted_no_fault}
+use Rattle.tdb_space.proofs.FirstFault.Faults.{none_first}
+use Rattle.tdb_space.proofs.FirstFault.Agreed.{accepted_no_fault}
 use Rattle.tdb_check.specs.declared.refusal.CheckRefusal.{CheckRefusal}
 use Rattle.tdb_check.specs.declared.refusal.CheckRefusal.TheVariants.{Corrupt}
 use Rattle.tdb_check.specs.Report.{IsFormOf}

@@ -7,7 +7,7 @@ use Rattle.tdb_space.specs.Form.{Form}
 use Rattle.tdb_space.specs.Pairs.{home, joined}
 use Rattle.tdb_space.specs.Accepted.{AcceptWith}
 use Rattle.tdb_space.specs.Stays.{ChainStays}
-use Rattle.tdb_space.proofs.Maps.{home_below}
+use Rattle.tdb_space.proofs.Pairs.Maps.{home_below}
 use Rattle.tdb_locks.specs.declared.piece.Piece.{Piece}
 use Rattle.tdb_law.specs.Commands.{Command, Reply, Turn}
 use Rattle.tdb_law.specs.Openers.{Own, Map, nowhere}

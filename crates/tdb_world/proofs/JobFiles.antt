@@ -3,7 +3,7 @@ use Rattle.std.proofs.Common.{◌≡◌, ℕ, List, [], ◌++◌, sym, ◌∙◌
 use Rattle.tdb_space.specs.Form.{Form}
 use Rattle.tdb_space.specs.Extents.{HandPair}
 use Rattle.tdb_space.specs.Accepted.{AcceptWith}
-use Rattle.tdb_space.proofs.Stays.{changes_none}
+use Rattle.tdb_space.proofs.Stays.Changes.{changes_none}
 use Rattle.tdb_locks.specs.declared.piece.Piece.{Piece}
 use Rattle.tdb_law.specs.Commands.{Turn}
 use Rattle.tdb_law.specs.Commands.Turn.{Step, Blocked, Ends}

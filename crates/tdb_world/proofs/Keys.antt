@@ -6,8 +6,8 @@ use Rattle.std.specs.FinMap.{find, from_entries, get, len, len-empty, len-insert
 use Rattle.std.proofs.lemmas.Bool.{false_from_ne_true}
 use Rattle.std.proofs.lemmas.Map.Keys.{IsDistinct-head, IsDistinct-tail}
 use Rattle.tdb_space.specs.Pairs.{order_of, same_key}
-use Rattle.tdb_space.proofs.Maps.{same_key-refl}
-use Rattle.tdb_space.proofs.Orders.{order_distinct}
+use Rattle.tdb_space.proofs.Pairs.Maps.{same_key-refl}
+use Rattle.tdb_space.proofs.Pairs.Orders.{order_distinct}
 use Rattle.tdb_law.specs.Openers.{bytes_cmp, is_key}
 use Rattle.tdb_law.proofs.Maps.{keys_total, is_key-eq}
 use Rattle.tdb_law.proofs.Tests.{never_true}

@@ -4,7 +4,7 @@ use Rattle.std.specs.Prelude.{◌&&◌, ◌||◌, IfSome, if◌then◌else◌}
 use Rattle.std.proofs.lemmas.Bool.{false_from_ne_true}
 use Rattle.tdb_space.specs.Form.{Form}
 use Rattle.tdb_space.specs.Pairs.{home}
-use Rattle.tdb_space.proofs.Maps.{home_below}
+use Rattle.tdb_space.proofs.Pairs.Maps.{home_below}
 use Rattle.tdb_locks.specs.HeldLocks.{HeldLocks, AreCounts, count_of}
 use Rattle.tdb_locks.specs.LockTable as Table
 use Rattle.tdb_locks.specs.declared.kind.Kind.{Kind}

@@ -20,8 +20,6 @@ mod refusing;
 mod starting;
 mod taking;
 mod telling;
-#[cfg(test)]
-mod tests;
 mod told;
 
 pub use crate::fault::RunFault;

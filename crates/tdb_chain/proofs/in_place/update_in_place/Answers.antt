@@ -3,7 +3,7 @@ use Rattle.std.proofs.Common.{◌≡◌, ◌+◌, List, [], ◌∷◌, length, r
 use Rattle.tdb_disk.specs.Image.{overlay}
 use Rattle.tdb_words.specs.Word.{bytes_of_word}
 use Rattle.tdb_space.specs.Extents.{Extent}
-use Rattle.tdb_space.proofs.Overlaid.{word_length, only_same, only_then, put_only}
+use Rattle.tdb_space.proofs.Exchange.Overlaid.{word_length, only_same, only_then, put_only}
 use Rattle.tdb_chain.proofs.Touched.{updated_set}
 use Rattle.tdb_chain.proofs.in_place.update_in_place.Goals as goal
 

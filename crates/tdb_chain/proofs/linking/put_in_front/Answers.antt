@@ -7,7 +7,7 @@ use Rattle.tdb_words.specs.declared.record.TheConstants.{USED}
 use Rattle.tdb_space.specs.Form.{chain_head}
 use Rattle.tdb_space.specs.Pairs.{home}
 use Rattle.tdb_space.specs.NewRecord.{record_bytes}
-use Rattle.tdb_space.proofs.Maps.{home_below}
+use Rattle.tdb_space.proofs.Pairs.Maps.{home_below}
 use Rattle.tdb_chain.proofs.Linked.{put_in_front, put_padded}
 use Rattle.tdb_chain.proofs.linking.put_in_front.Goals as goal
 

@@ -2,7 +2,7 @@
 use Rattle.std.proofs.Common.{◌≡◌, ◌+◌, length, ◌∙◌, ap, arith}
 use Rattle.tdb_disk.specs.Image.{overlay}
 use Rattle.tdb_words.specs.Record.{bytes_of_rec}
-use Rattle.tdb_space.proofs.RecordBytes.{rec_length}
+use Rattle.tdb_space.proofs.NewRecord.RecordBytes.{rec_length}
 use Rattle.tdb_chain.proofs.Writing.{three_written}
 use Rattle.tdb_chain.proofs.record_writing.write_front.Goals as goal
 

@@ -6,8 +6,8 @@ use Rattle.tdb_disk.specs.Image.{overlay}
 use Rattle.tdb_words.specs.declared.record.TheConstants.{PADDING}
 use Rattle.tdb_words.specs.Word.{bytes_of_word}
 use Rattle.tdb_words.specs.Record.{bytes_of_rec}
-use Rattle.tdb_space.proofs.Overlaid.{word_length}
-use Rattle.tdb_space.proofs.RecordBytes.{rec_length}
+use Rattle.tdb_space.proofs.Exchange.Overlaid.{word_length}
+use Rattle.tdb_space.proofs.NewRecord.RecordBytes.{rec_length}
 use Rattle.tdb_chain.proofs.Writing.{three_written, record_parts}
 use Rattle.tdb_chain.proofs.record_writing.write_long.Goals as goal
 

@@ -2,7 +2,7 @@
 use Rattle.std.proofs.Common.{◌≡◌, ◌∙◌, ap, inl, inr, arith}
 use Rattle.tdb_disk.specs.Image.{overlay}
 use Rattle.tdb_words.specs.Word.{word, bytes_of_word}
-use Rattle.tdb_space.proofs.Overlaid.{word_put}
+use Rattle.tdb_space.proofs.Exchange.Overlaid.{word_put}
 use Rattle.tdb_chain.specs.Raised.{next_number}
 use Rattle.tdb_chain.proofs.Raised.{only_sequence}
 use Rattle.tdb_chain.proofs.sequence.raise_seq.Goals as goal

@@ -7,7 +7,7 @@ use Rattle.tdb_words.specs.Record.{rec_at}
 use Rattle.tdb_words.specs.Hash.{h_of}
 use Rattle.tdb_space.specs.Form.{chain_head}
 use Rattle.tdb_space.specs.Pairs.{home}
-use Rattle.tdb_space.proofs.Laid.{accepted_filed}
+use Rattle.tdb_space.proofs.Accepted.Laid.{accepted_filed}
 use Rattle.tdb_space.specs.Standing.{HeaderStands}
 use Rattle.tdb_chain.specs.Place.{LiesWithin}
 use Rattle.tdb_chain.specs.Wanted.{IsWanted}

@@ -2,8 +2,8 @@
 use Rattle.std.proofs.Common.{◌≡◌, ◌+◌, ◌-◌, length, take, drop, sym, ◌∙◌, ap, subst, inl, inr, arith, true}
 use Rattle.std.specs.Prelude.{MatchBool}
 use Rattle.std.proofs.lemmas.Bool.{cases_Bool, false≢true}
-use Rattle.tdb_space.proofs.Maps.{same_key-eq, same_key-refl}
-use Rattle.tdb_space.proofs.Pieces.{piece_of}
+use Rattle.tdb_space.proofs.Pairs.Maps.{same_key-eq, same_key-refl}
+use Rattle.tdb_space.proofs.Record.Pieces.{piece_of}
 use Rattle.tdb_space.specs.Pairs.{same_key}
 use Rattle.tdb_chain.specs.Wanted.{IsWanted}
 use Rattle.tdb_chain.proofs.walk.is_wanted.Goals as goal

@@ -2,7 +2,7 @@
 use Rattle.std.proofs.Common.{◌≡◌, ◌≤◌, length, take, drop, sym, ◌∙◌, ap, arith}
 use Rattle.tdb_disk.specs.History.{seen}
 use Rattle.tdb_words.specs.Header.{header_at}
-use Rattle.tdb_space.proofs.Agreed.{chains_some}
+use Rattle.tdb_space.proofs.FirstFault.Agreed.{chains_some}
 use Rattle.tdb_check.proofs.Fronts.{front_header, header_whole, header_read, length_short, front_sound, fits_from}
 use Rattle.tdb_check.proofs.front.read_front.Goals as goal
 

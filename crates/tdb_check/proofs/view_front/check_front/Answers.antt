@@ -1,7 +1,7 @@
 -- Each way out, by the bytes that were read and the form of the view.
 use Rattle.std.proofs.Common.{◌≡◌, ◌≤◌, length, take, drop, sym, ◌∙◌, ap, arith}
 use Rattle.tdb_words.specs.Header.{hash_size_of}
-use Rattle.tdb_space.proofs.Agreed.{chains_some}
+use Rattle.tdb_space.proofs.FirstFault.Agreed.{chains_some}
 use Rattle.tdb_check.proofs.Fronts.{front_header, header_whole, length_short, front_sound}
 use Rattle.tdb_check.proofs.view_front.check_front.Goals as goal
 

@@ -14,7 +14,7 @@ use Rattle.tdb_free.specs.Stretch.{pair}
 use Rattle.tdb_free.proofs.Inside.{inside_same, inside_torn, inside_then_torn, inside_both}
 use Rattle.tdb_free.proofs.PutFirst.{made_first}
 use Rattle.tdb_free.proofs.Results.{on_err}
-use Rattle.tdb_space.proofs.Overlaid.{word_length}
+use Rattle.tdb_space.proofs.Exchange.Overlaid.{word_length}
 use Rattle.tdb_free.proofs.giving.put_first.Given as given
 use Rattle.tdb_free.proofs.giving.put_first.Goals as goal
 

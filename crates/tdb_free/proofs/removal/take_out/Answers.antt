@@ -2,7 +2,7 @@
 use Rattle.std.proofs.Common.{◌≡◌, ◌<◌, ◌^◌, IsTrue, ◌⊎◌, sym, subst, inl, inr, arith, rules}
 use Rattle.std.specs.Prelude.{OnOk, OnErr, IfSome}
 use Rattle.std.proofs.lemmas.Result.{on_ok_weaker, on_err_weaker}
-use Rattle.tdb_space.proofs.Overlaid.{led_past_written}
+use Rattle.tdb_space.proofs.Exchange.Overlaid.{led_past_written}
 use Rattle.tdb_free.specs.Removal.{LeftOut}
 use Rattle.tdb_free.specs.Search.{SpotWithin}
 use Rattle.tdb_free.proofs.removal.take_out.Goals as goal

@@ -4,11 +4,11 @@ use Rattle.std.proofs.lemmas.List.{length-take-le, length-drop}
 use Rattle.tdb_words.specs.Word.{word}
 use Rattle.tdb_words.specs.Record.{rec_at}
 use Rattle.tdb_space.specs.Spare.{spent, SpentUpTo}
-use Rattle.tdb_space.proofs.Rooms.{room_spent, room_tried, room_then}
+use Rattle.tdb_space.proofs.SpareLeft.Rooms.{room_spent, room_tried, room_then}
 use Rattle.tdb_disk.specs.Image.{overlay}
 use Rattle.tdb_disk.specs.Stop.{Torn}
 use Rattle.tdb_space.specs.Extents.{Extent}
-use Rattle.tdb_space.proofs.Overlaid.{only_then, torn_only, put_only}
+use Rattle.tdb_space.proofs.Exchange.Overlaid.{only_then, torn_only, put_only}
 use Rattle.tdb_free.proofs.Inside.{among}
 use Rattle.tdb_free.proofs.Results.{on_err}
 use Rattle.tdb_free.specs.Shortened.{Shortened, free_record}

@@ -2,7 +2,7 @@
 use Rattle.std.proofs.Common.{◌≡◌, ◌++◌, [], ◌∷◌, length, length-append, sym, ap, subst, arith}
 use Rattle.tdb_words.specs.Word.{word}
 use Rattle.tdb_space.specs.Form.{form_in}
-use Rattle.tdb_space.proofs.Followed.{Followed, followed_more, followed_end, followed_stuck, followed_long}
+use Rattle.tdb_space.proofs.Chain.Followed.{Followed, followed_more, followed_end, followed_stuck, followed_long}
 use Rattle.tdb_space.proofs.plain.chain_offsets.Goals as goal
 
 pub returns-then-at-eq0-clause-found : goal.returns-then-at-eq0-clause-found

@@ -2,7 +2,7 @@
 use Rattle.std.proofs.Common.{◌≡◌, length}
 use Rattle.tdb_words.specs.Word.{word}
 use Rattle.tdb_space.specs.Form.{form_in}
-use Rattle.tdb_space.proofs.Followed.{Followed}
+use Rattle.tdb_space.proofs.Chain.Followed.{Followed}
 use Rattle.tdb_space.proofs.plain.chain_offsets.Given as goal
 
 abbrev pub invariant-loop-turn : goal.invariant-loop-turn

@@ -6,8 +6,8 @@ use Rattle.tdb_space.specs.Form.{form_in, chain_head}
 use Rattle.tdb_space.specs.Record.{Whole, IsChained, AllFit}
 use Rattle.tdb_space.specs.Chain.{Chain}
 use Rattle.tdb_space.specs.Pairs.{pair_seen, pairs, HasPairs}
-use Rattle.tdb_space.proofs.Walks.{linked_each}
-use Rattle.tdb_space.proofs.Gathered.{gathered_more, unfit}
+use Rattle.tdb_space.proofs.Chain.Walks.{linked_each}
+use Rattle.tdb_space.proofs.Pairs.Gathered.{gathered_more, unfit}
 use Rattle.tdb_space.proofs.plain.pairs_in_order.Goals as goal
 
 pub push_pairs-requires : goal.push_pairs-requires

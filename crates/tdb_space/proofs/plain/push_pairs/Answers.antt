@@ -5,7 +5,7 @@ use Rattle.std.proofs.lemmas.List.Elements.{All-more}
 use Rattle.tdb_words.specs.declared.record.TheConstants.{USED}
 use Rattle.tdb_space.specs.Record.{Fits, magic_of}
 use Rattle.tdb_space.specs.Pairs.{pair_seen, pair_of, pairs}
-use Rattle.tdb_space.proofs.Listed.{pairs_more}
+use Rattle.tdb_space.proofs.Pairs.Listed.{pairs_more}
 use Rattle.tdb_space.proofs.plain.push_pairs.Goals as goal
 
 pub loop-at-preserved : goal.loop-at-preserved

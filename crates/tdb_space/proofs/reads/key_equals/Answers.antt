@@ -1,7 +1,7 @@
 -- One piece more, and a piece that differs.
 use Rattle.std.proofs.Common.{◌≡◌, ◌+◌, ◌-◌, ◌≤◌, length, take, drop, sym, subst, arith, rules}
 use Rattle.std.proofs.lemmas.Bool.{MatchBool-at_true, MatchBool-at_false}
-use Rattle.tdb_space.proofs.Pieces.{part_joined, part_of}
+use Rattle.tdb_space.proofs.Record.Pieces.{part_joined, part_of}
 use Rattle.tdb_space.proofs.reads.key_equals.Goals as goal
 
 pub returns-then-not-branch-clause-equal : goal.returns-then-not-branch-clause-equal

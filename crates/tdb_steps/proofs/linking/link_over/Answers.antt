@@ -2,7 +2,7 @@
 use Rattle.std.proofs.Common.{◌∷◌, [], Some, refl, subst}
 use Rattle.tdb_space.specs.Chain.{chain_of}
 use Rattle.tdb_space.specs.Pairs.{home}
-use Rattle.tdb_space.proofs.Maps.{home_below}
+use Rattle.tdb_space.proofs.Pairs.Maps.{home_below}
 use Rattle.tdb_chain.specs.Changed.{KeySet, with_hand, without_place}
 use Rattle.tdb_steps.specs.Asked.{stores}
 use Rattle.tdb_steps.specs.declared.stage.Stage.TheVariants as Stage

@@ -5,7 +5,7 @@ use Rattle.std.proofs.lemmas.Bool.{cases_lt}
 use Rattle.tdb_disk.proofs.Image.{overlay_below, overlay_in}
 use Rattle.tdb_space.specs.Form.{data_start, free_head}
 use Rattle.tdb_space.specs.Spare.{spent, SpentUpTo}
-use Rattle.tdb_space.proofs.Rooms.{room_for, room_spent, room_tried, room_then, room_more}
+use Rattle.tdb_space.proofs.SpareLeft.Rooms.{room_for, room_spent, room_tried, room_then, room_more}
 use Rattle.tdb_steps.proofs.Rooms.{room_fewer}
 use Rattle.tdb_steps.proofs.FreeWrites.{zeros_of, zeros_long, zero_there, torn_put, torn_wider, torn_then}
 use Rattle.tdb_steps.proofs.wiping.zero_heads.Goals as goal

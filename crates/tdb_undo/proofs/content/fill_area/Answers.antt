@@ -4,7 +4,7 @@ use Rattle.std.specs.Prelude.{IfSome}
 use Rattle.tdb_disk.specs.Count.{RoseBy}
 use Rattle.tdb_disk.specs.History.{seen}
 use Rattle.tdb_disk.proofs.Runs.{quiet_synced}
-use Rattle.tdb_space.proofs.Emptying.{four_bytes}
+use Rattle.tdb_space.proofs.RecoverySteps.Emptying.{four_bytes}
 use Rattle.tdb_undo.specs.Content.{AllPut}
 use Rattle.tdb_undo.proofs.Fills.{fill_two, fill_three, fill_four, filled}
 use Rattle.tdb_undo.proofs.content.fill_area.Goals as goal

@@ -7,7 +7,7 @@ use Rattle.tdb_disk.proofs.Runs.{leaves_quiet}
 use Rattle.tdb_space.specs.Form.{form_in, form_of}
 use Rattle.tdb_space.specs.Accepted.{Accept, AcceptWith}
 use Rattle.tdb_space.specs.Undoing.{Reopens}
-use Rattle.tdb_space.proofs.Alike.{exact_reopens}
+use Rattle.tdb_space.proofs.Undoing.Alike.{exact_reopens}
 use Rattle.tdb_undo.specs.Area.{AreaSeen, IsAreaOf, Stands, place_fault}
 use Rattle.tdb_undo.specs.Refusal.{Names}
 use Rattle.tdb_undo.specs.Placing.{IsCleared}

@@ -4,7 +4,7 @@ use Rattle.tdb_disk.proofs.Runs.{leaves_join, leaves_weaker}
 use Rattle.tdb_space.specs.Form.{form_in}
 use Rattle.tdb_space.specs.Opening.{restored}
 use Rattle.tdb_space.specs.Undoing.{TailOf}
-use Rattle.tdb_space.proofs.Steps.{restored_length, restored_head}
+use Rattle.tdb_space.proofs.RecoverySteps.Steps.{restored_length, restored_head}
 use Rattle.tdb_undo.specs.Recovery.{Undoing, tail}
 use Rattle.tdb_undo.proofs.Whole.{same_old}
 use Rattle.tdb_undo.proofs.undoing.undo_behind.Goals as goal

@@ -1,7 +1,7 @@
 -- The walk stands at the head of the next chain.
 use Rattle.std.proofs.Common.{◌/◌, refl, sym, ◌∙◌, ap}
 use Rattle.tdb_words.specs.Word.{word}
-use Rattle.tdb_space.proofs.Laid.{accepted_filed}
+use Rattle.tdb_space.proofs.Accepted.Laid.{accepted_filed}
 use Rattle.tdb_backup.proofs.Walk.{gave_entered}
 use Rattle.tdb_backup.proofs.traversal.Traversal.enter_chain.Goals as goal
 

@@ -1,7 +1,7 @@
 -- Each byte of the transaction's image is what the pages make of the file's.
 use Rattle.std.proofs.Common.{refl, inr, arith}
 use Rattle.tdb_disk.specs.History.{seen}
-use Rattle.tdb_space.proofs.Counts.{once_out}
+use Rattle.tdb_space.proofs.Extents.Counts.{once_out}
 use Rattle.tdb_txn.specs.Pages.{byte_over}
 use Rattle.tdb_txn.specs.Txn.{txn_image}
 use Rattle.tdb_txn.specs.Stock.{page_list}

@@ -2,7 +2,7 @@
 use Rattle.tdb_disk.specs.History.{seen}
 use Rattle.tdb_disk.proofs.Runs.{leaves_quiet}
 use Rattle.tdb_space.specs.Undoing.{Reopens}
-use Rattle.tdb_space.proofs.Alike.{exact_reopens}
+use Rattle.tdb_space.proofs.Undoing.Alike.{exact_reopens}
 use Rattle.tdb_txn.proofs.txn.Txn.place_new.Goals as goal
 
 pub returns-then-limit-self-clause-stops : goal.returns-then-limit-self-clause-stops

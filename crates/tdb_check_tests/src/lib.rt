@@ -1,0 +1,11 @@
+//! Tests of the check, its parts and its report, over the public calls of `tdb_check`.
+#![tactic(auto)]
+
+#[cfg(test)]
+mod chains;
+#[cfg(test)]
+mod parts;
+#[cfg(test)]
+mod reports;
+#[cfg(test)]
+mod whole_files;

@@ -1,0 +1,9 @@
+//! Tests of the free list: what is given, taken and grown, over the public calls of `tdb_free`.
+#![tactic(auto)]
+
+#[cfg(test)]
+mod giving;
+#[cfg(test)]
+mod growing;
+#[cfg(test)]
+mod taking;

@@ -1,0 +1,3 @@
+-- Laws of extents: how often they hold a byte, and in which order they lie.
+pub mod Counts
+pub mod Sorted

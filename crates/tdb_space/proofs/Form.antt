@@ -1,0 +1,2 @@
+-- Laws of the form that a header states.
+pub mod Headers

@@ -1,0 +1,2 @@
+-- Laws of what an undo gives.
+pub mod Undone

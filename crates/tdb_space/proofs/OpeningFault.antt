@@ -1,0 +1,3 @@
+-- Laws of the first fault of an opening.
+pub mod OneFault
+pub mod HeaderFaults

@@ -1,0 +1,4 @@
+-- Laws of planned commits.
+pub mod Content
+pub mod Ready
+pub mod Settled

@@ -1,0 +1,3 @@
+-- Laws of the steps of a recovery.
+pub mod Steps
+pub mod Emptying

@@ -1,0 +1,2 @@
+-- Laws of the runs of bytes that change.
+pub mod Stretches

@@ -1,0 +1,2 @@
+-- Laws of the writes of a commit.
+pub mod WritesUndone

@@ -1,0 +1,2 @@
+-- Laws of the room that writes leave.
+pub mod Rooms

@@ -1,0 +1,3 @@
+-- Laws of images that are undone alike.
+pub mod Alike
+pub mod Tails

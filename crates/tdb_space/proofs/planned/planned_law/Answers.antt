@@ -1,9 +1,0 @@
--- The laws are the lemmas.
-use Rattle.tdb_space.proofs.Settled.{plan_fills, settled_is}
-use Rattle.tdb_space.proofs.planned.planned_law.Goals as goal
-
-pub returns-clause-fills : goal.returns-clause-fills
-returns-clause-fills c = plan_fills
-
-pub returns-clause-settled : goal.returns-clause-settled
-returns-clause-settled c = settled_is

@@ -1,0 +1,7 @@
+//! Tests of moves and cursors, over the public calls of `tdb_walk`.
+#![tactic(auto)]
+
+#[cfg(test)]
+mod cursors;
+#[cfg(test)]
+mod moves;
