@@ -2,10 +2,11 @@
 //! Where a call of the system failed, it says on standard error why.
 #![tactic(auto)]
 
+use std::io::IsTerminal;
 use std::process::ExitCode;
 use std::{env, io};
 use tdb_disk::Sink;
-use tdb_files::{DirFiles, InSource, OutSink};
+use tdb_files::{DirFiles, InSource, OutSink, Progress};
 use tdb_top::{Status, run};
 
 /// The status of a run in which a call of the files or of a disk failed.
@@ -44,21 +45,44 @@ fn tell_reason<W: io::Write>(rt: &HostRuntime, status: u8, files: &DirFiles, out
     }
 }
 
-fn main(rt: HostRuntime) -> ExitCode {
-    let alloc = rt.alloc();
-    let mut output = OutSink::new(io::writer(&rt));
-    let mut files = DirFiles::new(rt);
-    let status = match words_of(&rt) {
-        Err(error) if error.kind() == io::ErrorKind::OutOfMemory => tell_memory(&mut output),
-        answer => {
-            // A word that is no text makes no command line, and neither do no words.
-            let words = answer.unwrap_or(Vec::new(alloc));
-            let mut input = InSource::new(rt.reader());
-            let Status(status) = run(alloc, &words, &mut files, &mut input, &mut output);
-            status
-        }
-    };
+/// Where a person is told how far the command of these words is, where it may be a long one and somebody looks on.
+fn progress_of(rt: HostRuntime, words: &[String]) -> Option<Progress> {
+    match words.first()?.as_str() {
+        "backup" | "dump" | "restore" => Progress::on_terminal(rt),
+        _ => None,
+    }
+}
+
+/// The same, where standard output is no terminal, whose lines it would stand among.
+fn off_terminal(rt: HostRuntime, progress: Option<Progress>) -> Option<Progress> {
+    if rt.stdout().is_terminal() {
+        return None;
+    }
+    progress
+}
+
+/// Runs the words over the files of the system.
+fn run_words(rt: HostRuntime, words: &[String]) -> u8 {
+    let progress = progress_of(rt, words);
+    let mut files = DirFiles::new(rt).with_progress(progress);
+    let mut input = InSource::new(rt.reader()).with_progress(progress);
+    let mut output = OutSink::new(io::writer(&rt)).with_progress(off_terminal(rt, progress));
+    let Status(status) = run(rt.alloc(), words, &mut files, &mut input, &mut output);
+    if let Some(progress) = progress {
+        progress.clear();
+    }
     tell_reason(&rt, status, &files, &output);
+    status
+}
+
+fn main(rt: HostRuntime) -> ExitCode {
+    let status = match words_of(&rt) {
+        Err(error) if error.kind() == io::ErrorKind::OutOfMemory => {
+            tell_memory(&mut OutSink::new(io::writer(&rt)))
+        }
+        // A word that is no text makes no command line, and neither do no words.
+        answer => run_words(rt, answer.unwrap_or(Vec::new(rt.alloc())).as_slice()),
+    };
     ExitCode::from(status)
 }
 

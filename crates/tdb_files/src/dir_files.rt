@@ -8,6 +8,7 @@ use crate::file_disk::FileDisk;
 use crate::file_fault::FileFault;
 use crate::identity::Identity;
 use crate::opening::{Refusal, open};
+use crate::progress::Progress;
 use crate::reason::{Reason, is_missing};
 use crate::replacing::replace;
 use std::alloc::{AllocError, Global};
@@ -23,6 +24,9 @@ pub struct DirFiles {
     taken: HashSet<String>,
     identities: HashSet<Identity>,
     faults: Faults<FileFault>,
+
+    /// Where a person is told what is read and written.
+    progress: Option<Progress>,
 }
 
 impl DirFiles {
@@ -38,7 +42,16 @@ impl DirFiles {
             taken: HashSet::new(rt.alloc()),
             identities: HashSet::new(rt.alloc()),
             faults: Faults::new(),
+            progress: None,
         }
+    }
+
+    /// The same files, of which a person is told what is read and written, where there is a place for it.
+    pub fn with_progress(self, progress: Option<Progress>) -> DirFiles
+        ensures taken { (name : List ℕ) → name_is_taken result name ≡ name_is_taken self name }
+        ensures faults { dir_faults result ≡ dir_faults self }
+    {
+        DirFiles { progress, ..self }
     }
 
     /// What is known of the last fault, of a call or of a disk that was given back; None where there is none.
@@ -115,7 +128,7 @@ impl Files for DirFiles {
         match open(&self.rt, name, how, &self.identities) {
             Ok(disk) => {
                 self.identities.insert(disk.identity()).unwrap();
-                Ok(Cached::new(alloc, disk))
+                Ok(Cached::new(alloc, disk.with_progress(self.progress)))
             }
             Err(refusal) => {
                 let kept = self.unmark(name);

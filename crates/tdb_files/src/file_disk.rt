@@ -6,6 +6,7 @@ ghost use Rattle.tdb_disk.specs.History.{began};
 
 use crate::faults::Faults;
 use crate::identity::Identity;
+use crate::progress::{Passing, Progress};
 use crate::reason::Reason;
 use std::fs::File;
 use std::os::unix::fs::FileExt;
@@ -25,6 +26,9 @@ pub struct FileDisk {
     faults: Faults<Reason>,
     syncs: u64,
     bytes_read: u64,
+
+    /// Where a person is told what is read and written.
+    progress: Option<Progress>,
     ghost len_fits: { len < 2 ^ 64 },
 }
 
@@ -51,6 +55,24 @@ impl FileDisk {
             faults: Faults::new(),
             syncs: 0,
             bytes_read: 0,
+            progress: None,
+        }
+    }
+
+    /// The same file, of which a person is told what is read and written, where there is a place for it.
+    pub(crate) fn with_progress(mut self, progress: Option<Progress>) -> FileDisk
+        ensures { result ≡ record self { progress = progress } }
+    {
+        self.progress = progress;
+        self
+    }
+
+    /// So many bytes were read or written.
+    fn pass(&mut self, passing: Passing, count: usize)
+        ensures { self.new ≡ record self.old { progress = self.new.progress } }
+    {
+        if let Some(progress) = &mut self.progress {
+            progress.pass(passing, count);
         }
     }
 
@@ -192,12 +214,15 @@ impl Disk for FileDisk {
         let answer = fill(&self.file, off, buf);
         self.count(answer)?;
         self.bytes_read = self.bytes_read.saturating_add(buf.len() as u64);
+        self.pass(Passing::Read, buf.len());
         Ok(())
     }
 
     fn write(&mut self, off: u64, bytes: &[u8]) -> Result<(), DiskFault> {
         let answer = self.put(off, bytes);
-        self.count(answer)
+        self.count(answer)?;
+        self.pass(Passing::Written, bytes.len());
+        Ok(())
     }
 
     fn write_word(&mut self, off: u64, w: [u8; 4]) -> Result<(), DiskFault> {

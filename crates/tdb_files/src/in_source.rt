@@ -2,6 +2,7 @@
 ghost use Rattle.std.specs.Prelude.{◌≡◌, ◌<◌, ◌↔◌, [], false, IsSome};
 
 use crate::faults::Faults;
+use crate::progress::{Passing, Progress};
 use crate::reason::Reason;
 use std::io::Read;
 use tdb_disk::{Source, SourceFault};
@@ -11,6 +12,9 @@ use tdb_disk::{Source, SourceFault};
 pub struct InSource<R> {
     reader: R,
     faults: Faults<Reason>,
+
+    /// Where a person is told what is read.
+    progress: Option<Progress>,
 }
 
 impl<R: Read> InSource<R> {
@@ -23,7 +27,15 @@ impl<R: Read> InSource<R> {
         InSource {
             reader,
             faults: Faults::new(),
+            progress: None,
         }
+    }
+
+    /// The same source, of which a person is told what is read, where there is a place for it.
+    pub fn with_progress(self, progress: Option<Progress>) -> InSource<R>
+        ensures { in_faults result ≡ in_faults self }
+    {
+        InSource { progress, ..self }
     }
 
     /// Why the last read that failed did; None where none did.
@@ -45,7 +57,12 @@ impl<R: Read> Source for InSource<R> {
 
     fn read(&mut self, buf: &mut [u8]) -> Result<usize, SourceFault> {
         match self.reader.read(buf) {
-            Ok(n) => Ok(n),
+            Ok(n) => {
+                if let Some(progress) = &mut self.progress {
+                    progress.pass(Passing::Read, n);
+                }
+                Ok(n)
+            }
             Err(error) => {
                 self.faults.raise(error.into());
                 Err(SourceFault)

@@ -11,6 +11,7 @@ mod in_source;
 mod locks;
 mod opening;
 mod out_sink;
+mod progress;
 mod reason;
 mod replacing;
 #[cfg(test)]
@@ -22,4 +23,5 @@ pub use file_fault::FileFault;
 pub use file_sink::FileSink;
 pub use in_source::InSource;
 pub use out_sink::OutSink;
+pub use progress::Progress;
 pub use reason::{Reason, SystemError};

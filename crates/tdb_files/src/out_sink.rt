@@ -2,6 +2,7 @@
 ghost use Rattle.std.specs.Prelude.{◌≡◌, ◌<◌, ◌↔◌, [], false, IsSome};
 
 use crate::faults::Faults;
+use crate::progress::{Passing, Progress};
 use crate::reason::Reason;
 use std::io::Write;
 use tdb_disk::{Sink, SinkFault};
@@ -11,6 +12,9 @@ use tdb_disk::{Sink, SinkFault};
 pub struct OutSink<W> {
     writer: W,
     faults: Faults<Reason>,
+
+    /// Where a person is told what is written.
+    progress: Option<Progress>,
 }
 
 impl<W: Write> OutSink<W> {
@@ -23,7 +27,15 @@ impl<W: Write> OutSink<W> {
         OutSink {
             writer,
             faults: Faults::new(),
+            progress: None,
         }
+    }
+
+    /// The same sink, of which a person is told what is written, where there is a place for it.
+    pub fn with_progress(self, progress: Option<Progress>) -> OutSink<W>
+        ensures { out_faults result ≡ out_faults self }
+    {
+        OutSink { progress, ..self }
     }
 
     /// Why the last write that failed did; None where none did.
@@ -60,7 +72,12 @@ impl<W: Write> Sink for OutSink<W> {
 
     fn write(&mut self, bytes: &[u8]) -> Result<(), SinkFault> {
         match self.put(bytes) {
-            Ok(()) => Ok(()),
+            Ok(()) => {
+                if let Some(progress) = &mut self.progress {
+                    progress.pass(Passing::Written, bytes.len());
+                }
+                Ok(())
+            }
             Err(reason) => {
                 self.faults.raise(reason);
                 Err(SinkFault)
