@@ -4,7 +4,7 @@ use Rattle.std.specs.Map.{lookup}
 use Rattle.std.specs.Option.{option_map, option_and_then}
 use Rattle.tdb_space.specs.Pairs.{same_key}
 use Rattle.tdb_top.specs.declared.act.Act.{Act}
-use Rattle.tdb_top.specs.declared.act.Act.TheVariants.{Show, Insert, Check}
+use Rattle.tdb_top.specs.declared.act.Act.TheVariants.{Show, Insert, Delete, Erase, Check}
 use Rattle.tdb_top.specs.declared.ask.Task.{Task}
 use Rattle.tdb_top.specs.declared.ask.Task.TheVariants.{Create, On, Read, Restore, Backup, Turns}
 use Rattle.tdb_top.specs.declared.ask.Ask as C
@@ -12,6 +12,8 @@ use Rattle.tdb_top.specs.Words.{is_position}
 use Rattle.tdb_top.specs.Commands.Show.{show_of}
 use Rattle.tdb_top.specs.Commands.Check.{check_of}
 use Rattle.tdb_top.specs.Commands.Insert.{insert_of}
+use Rattle.tdb_top.specs.Commands.Delete.{delete_of}
+use Rattle.tdb_top.specs.Commands.Erase.{erase_of}
 use Rattle.tdb_top.specs.Commands.Create.{create_of}
 use Rattle.tdb_top.specs.Commands.Backup.{BackupFits}
 use Rattle.tdb_top.specs.Commands.Dump.{dump_of_words, file_alone}
@@ -33,6 +35,8 @@ abbrev pub tools : List (List ℕ × (List (List ℕ) → Option Task))
 tools =
     (codes "show", λ arguments. option_map On (show_of arguments))
     ∷ (codes "insert", λ arguments. option_map On (insert_of arguments))
+    ∷ (codes "delete", λ arguments. option_map On (delete_of arguments))
+    ∷ (codes "erase", λ arguments. option_map On (erase_of arguments))
     ∷ (codes "check", λ arguments. option_map On (check_of arguments))
     ∷ (codes "create", λ arguments. option_map Create (create_of arguments))
     ∷ []
@@ -84,6 +88,8 @@ ask_of (program ∷ words) = option_and_then (λ read. read words) (lookup (same
 abbrev pub ActFits : Act → Type 0
 ActFits (Show key) = length key < 2 ^ 32
 ActFits (Insert key value) = length key + length value < 2 ^ 32
+ActFits (Delete key) = length key < 2 ^ 32
+ActFits Erase = Unit {0}
 ActFits Check = Unit {0}
 
 abbrev pub TaskFits : List ℕ → Task → Type 0

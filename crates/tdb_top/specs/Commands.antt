@@ -2,6 +2,8 @@
 pub mod Show
 pub mod Check
 pub mod Insert
+pub mod Delete
+pub mod Erase
 pub mod Create
 pub mod Dump
 pub mod Restore

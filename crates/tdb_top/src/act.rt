@@ -1,6 +1,6 @@
 // The commands on a file that is there: how a file is taken, opened, acted on and given back, once for all of them.
 
-ghost use Rattle.std.specs.Prelude.{◌≡◌, ◌≤◌, ℕ, List, false, IsTrue};
+ghost use Rattle.std.specs.Prelude.{◌≡◌, ◌≤◌, ◌<◌, ◌^◌, ℕ, List, false, length, IsTrue};
 ghost use Rattle.tdb_disk.specs.Count.{HasCauseOf};
 ghost use Rattle.tdb_disk.specs.History.{seen};
 ghost use Rattle.tdb_disk.specs.Names.{SameBut};
@@ -16,6 +16,8 @@ ghost use Rattle.tdb_top.specs.Left.{OnLeaves};
 ghost use Rattle.tdb_top.specs.Opening.{IsCheckedOn};
 
 use crate::commands::check::check;
+use crate::commands::delete::delete;
+use crate::commands::erase::erase;
 use crate::commands::insert::insert;
 use crate::commands::show::show;
 use crate::ending::{Ending, Reply};
@@ -34,6 +36,12 @@ pub(crate) enum Act {
     /// To add a key with a value.
     Insert { key: Bytes, value: Bytes },
 
+    /// To delete a key.
+    Delete { key: Bytes },
+
+    /// To take all keys out.
+    Erase,
+
     /// How many keys it has.
     Check,
 }
@@ -43,6 +51,7 @@ impl Act {
     fn perform<D: Disk>(&self, alloc: Global, disk: &mut D, opened: &Opened) -> Result<Reply, Fault>
         requires fits { ActFits self.now }
         requires length { opened.now.len ≡ D.size disk.old }
+        requires within { IsTrue D.tells → length (seen (D.history disk.old)) < 2 ^ 32 }
         requires opened { IsTrue D.tells → IsCheckedOn (seen (D.history disk.old)) opened.now }
         ensures acted { IsTrue D.tells → Acted self.now (D.history disk.old) (D.history disk.new) result }
         ensures cause { HasCauseOf FaultIs.Device (D.faults disk.old) (D.faults disk.new) result }
@@ -52,6 +61,8 @@ impl Act {
             Act::Insert { key, value } => {
                 insert(alloc, disk, opened, key.as_slice(), value.as_slice())
             }
+            Act::Delete { key } => delete(disk, opened, key.as_slice()),
+            Act::Erase => erase(disk, opened),
             Act::Check => Ok(check(opened)),
         }
     }

@@ -23,7 +23,7 @@ use crate::commands::backup::back_up;
 use crate::commands::create::{NewForm, create_file};
 use crate::commands::restore::restore_file;
 use crate::commands::turns::turns_on_file;
-use crate::commands::{check, create, dump, insert, show, turns};
+use crate::commands::{check, create, delete, dump, erase, insert, show, turns};
 use crate::ending::{Ending, Unprinted};
 use crate::limits::LONGEST_FILE;
 use crate::look::Look;
@@ -81,6 +81,8 @@ impl Task {
         match command {
             "show" => Ok(Task::on(show::read(alloc, arguments)?)),
             "insert" => Ok(Task::on(insert::read(alloc, arguments)?)),
+            "delete" => Ok(Task::on(delete::read(alloc, arguments)?)),
+            "erase" => Ok(Task::on(erase::read(arguments))),
             "check" => Ok(Task::on(check::read(arguments))),
             "create" => match create::read(arguments) {
                 Some(form) => Ok(Some(Task::Create(form))),

@@ -3,7 +3,9 @@
 pub(crate) mod backup;
 pub(crate) mod check;
 pub(crate) mod create;
+pub(crate) mod delete;
 pub(crate) mod dump;
+pub(crate) mod erase;
 pub(crate) mod insert;
 pub(crate) mod restore;
 pub(crate) mod show;

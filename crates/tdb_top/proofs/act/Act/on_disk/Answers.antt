@@ -1,7 +1,10 @@
-use Rattle.std.proofs.Common.{rules, ◌≡◌, Err, sym, subst}
+use Rattle.std.proofs.Common.{rules, ◌≡◌, ◌<◌, Err, length, sym, subst}
+use Rattle.std.specs.Prelude.{◌^◌}
+use Rattle.tdb_disk.specs.History.{seen}
 use Rattle.tdb_top.specs.Acts.{OpenedAndActed}
 use Rattle.tdb_top.specs.Opening.{of_fault}
 use Rattle.tdb_top.proofs.Acting.{halted, replied, faulted}
+use Rattle.tdb_top.proofs.BackingUp.{opened_short}
 use Rattle.tdb_top.proofs.act.Act.on_disk.Goals as goal
 
 -- an opening that halted
@@ -30,3 +33,9 @@ returns-clause-acted g c told =
     let mid = g.D.Disk.history c.open.new.disk in
     let now = g.D.Disk.history c.perform.new.disk in
     replied c.args.self.now old mid now (c.in_ok-opened.ensures.opened told).can_open (c.in_ok-opened.ensures.left told) (c.in_ok-opened.ensures.reads told) _ (c.in_ok-reply.ensures.acted told)
+
+-- what the file was read as is short
+pub perform-requires-clause-within : goal.perform-requires-clause-within
+perform-requires-clause-within g c told =
+    subst (λ img. length img < 2 ^ 32) (sym (c.in_ok-opened.ensures.reads told))
+    (opened_short (seen (g.D.Disk.history c.args.disk.now)) (c.in_ok-opened.ensures.opened told).can_open)

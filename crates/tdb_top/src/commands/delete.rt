@@ -1,0 +1,65 @@
+// The command that deletes a key.
+
+ghost use Rattle.std.specs.Prelude.{◌≡◌, ◌^◌, ◌<◌, ◌≤◌, false, map, string_bytes, length, IsTrue, IfOk, IfSome, OnErr};
+ghost use Rattle.tdb_disk.specs.Count.{HasCause, HasCauseOf};
+ghost use Rattle.tdb_disk.specs.History.{seen};
+ghost use Rattle.tdb_space.specs.Form.{form_of};
+ghost use Rattle.tdb_edit.specs.Edited.{Deleted};
+ghost use Rattle.tdb_top.specs.declared.act.Act.TheVariants.{Delete};
+ghost use Rattle.tdb_top.specs.declared.halt.Fault.TheVariants.{Device};
+ghost use Rattle.tdb_top.specs.Acts.{Acted};
+ghost use Rattle.tdb_top.specs.Ask.{ActFits};
+ghost use Rattle.tdb_top.specs.Commands.Delete.{delete_of, DeleteBroken};
+ghost use Rattle.tdb_top.specs.Opening.{IsCheckedOn};
+
+use crate::act::Act;
+use crate::ending::Reply;
+use crate::halt::Fault;
+use crate::opening::Opened;
+use crate::words::value_of;
+use std::alloc::{AllocError, Global};
+use tdb_disk::Disk;
+use tdb_space::{Direct, Io};
+
+/// Reads its arguments.
+pub(crate) fn read(alloc: Global, arguments: &[String]) -> Result<Option<Act>, AllocError>
+    ensures read { IfOk result (λ act. act ≡ delete_of (map string_bytes arguments.now)) }
+    ensures fits { IfOk result (λ act. IfSome act ActFits) }
+{
+    let [word] = arguments else {
+        return Ok(None);
+    };
+    match value_of(alloc, word.as_str())? {
+        Some(key) => Ok(Some(Act::Delete { key })),
+        None => Ok(None),
+    }
+}
+
+/// Takes a key out of an opened file, and says whether it was there.
+fn take_out<D: Disk>(disk: &mut D, opened: &Opened, key: &[u8]) -> Result<bool, Io>
+    requires short { length key.now < 2 ^ 32 }
+    requires within { IsTrue D.tells → length (seen (D.history disk.old)) < 2 ^ 32 }
+    requires opened { IsTrue D.tells → IsCheckedOn (seen (D.history disk.old)) opened.now }
+    ensures deleted { IfOk result (λ there. IsTrue D.tells → Deleted (form_of (seen (D.history disk.old))) (seen (D.history disk.old)) (seen (D.history disk.new)) key.now there) }
+    ensures absent { IfOk result (λ there. there ≡ false → D.history disk.new ≡ D.history disk.old) }
+    ensures broken { OnErr result (IsTrue D.tells → DeleteBroken key.now (D.history disk.old) (D.history disk.new)) }
+    ensures cause { HasCause (D.faults disk.old) (D.faults disk.new) result }
+{
+    let mut space = Direct::new(disk, &opened.header);
+    tdb_edit::delete(&mut space, key)
+}
+
+/// Deletes a key from an opened file, and brings that to the medium.
+pub(crate) fn delete<D: Disk>(disk: &mut D, opened: &Opened, key: &[u8]) -> Result<Reply, Fault>
+    requires short { length key.now < 2 ^ 32 }
+    requires within { IsTrue D.tells → length (seen (D.history disk.old)) < 2 ^ 32 }
+    requires opened { IsTrue D.tells → IsCheckedOn (seen (D.history disk.old)) opened.now }
+    ensures acted { IsTrue D.tells → Acted (Delete key.now) (D.history disk.old) (D.history disk.new) result }
+    ensures cause { HasCauseOf Device (D.faults disk.old) (D.faults disk.new) result }
+{
+    if !take_out(disk, opened, key)? {
+        return Ok(Reply::KeyMissing);
+    }
+    disk.sync()?;
+    Ok(Reply::Done)
+}

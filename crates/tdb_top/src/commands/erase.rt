@@ -1,0 +1,55 @@
+// The command that takes all keys out of a file.
+
+ghost use Rattle.std.specs.Prelude.{◌≡◌, ◌^◌, ◌<◌, map, string_bytes, length, IsTrue, IfSome, OnOk, OnErr};
+ghost use Rattle.tdb_disk.specs.Count.{HasCause, HasCauseOf};
+ghost use Rattle.tdb_disk.specs.History.{seen};
+ghost use Rattle.tdb_space.specs.Form.{form_of};
+ghost use Rattle.tdb_steps.specs.Wiped.{Wiped};
+ghost use Rattle.tdb_top.specs.declared.act.Act.TheVariants.{Erase};
+ghost use Rattle.tdb_top.specs.declared.halt.Fault.TheVariants.{Device};
+ghost use Rattle.tdb_top.specs.Acts.{Acted};
+ghost use Rattle.tdb_top.specs.Ask.{ActFits};
+ghost use Rattle.tdb_top.specs.Commands.Erase.{erase_of, EraseBroken};
+ghost use Rattle.tdb_top.specs.Opening.{IsCheckedOn};
+
+use crate::act::Act;
+use crate::ending::Reply;
+use crate::halt::Fault;
+use crate::opening::Opened;
+use tdb_disk::Disk;
+use tdb_space::{Direct, Io};
+
+/// Reads its arguments.
+pub(crate) fn read(arguments: &[String]) -> Option<Act>
+    ensures read { result ≡ erase_of (map string_bytes arguments.now) }
+    ensures fits { IfSome result ActFits }
+{
+    match arguments {
+        [] => Some(Act::Erase),
+        _ => None,
+    }
+}
+
+/// Takes all keys out of an opened file.
+fn wipe<D: Disk>(disk: &mut D, opened: &Opened) -> Result<(), Io>
+    requires within { IsTrue D.tells → length (seen (D.history disk.old)) < 2 ^ 32 }
+    requires opened { IsTrue D.tells → IsCheckedOn (seen (D.history disk.old)) opened.now }
+    ensures wiped { OnOk result (IsTrue D.tells → Wiped (form_of (seen (D.history disk.old))) (seen (D.history disk.old)) (seen (D.history disk.new))) }
+    ensures broken { OnErr result (IsTrue D.tells → EraseBroken (D.history disk.old) (D.history disk.new)) }
+    ensures cause { HasCause (D.faults disk.old) (D.faults disk.new) result }
+{
+    let mut space = Direct::new(disk, &opened.header);
+    tdb_steps::wipe(&mut space)
+}
+
+/// Takes all keys out of an opened file, and brings that to the medium.
+pub(crate) fn erase<D: Disk>(disk: &mut D, opened: &Opened) -> Result<Reply, Fault>
+    requires within { IsTrue D.tells → length (seen (D.history disk.old)) < 2 ^ 32 }
+    requires opened { IsTrue D.tells → IsCheckedOn (seen (D.history disk.old)) opened.now }
+    ensures acted { IsTrue D.tells → Acted Erase (D.history disk.old) (D.history disk.new) result }
+    ensures cause { HasCauseOf Device (D.faults disk.old) (D.faults disk.new) result }
+{
+    wipe(disk, opened)?;
+    disk.sync()?;
+    Ok(Reply::Done)
+}
