@@ -18,3 +18,10 @@ pub mod AllChains
 pub mod DeadTails
 pub mod Showing
 pub mod SameViews
+pub mod Rising
+pub mod Pairs
+pub mod Fetched
+pub mod Halving
+pub mod Quarters
+pub mod Walking
+pub mod ChainSums

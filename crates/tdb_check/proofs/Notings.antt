@@ -23,10 +23,10 @@ use Rattle.tdb_check.specs.Keys.{noted_at, notes_of, key_of_noted, mark_of, mixe
 use Rattle.tdb_check.proofs.Walked.{keys_at, keys_used, keys_other, differ_more}
 
 -- of a used record something is noted, and of another nothing
-notes_used : (f : Form) (img : List ℕ) (x : ℕ) (xs : List ℕ) → magic_of f.order img x ≡ USED → notes_of f img (x ∷ xs) ≡ noted_at f img x ∷ notes_of f img xs
+pub notes_used : (f : Form) (img : List ℕ) (x : ℕ) (xs : List ℕ) → magic_of f.order img x ≡ USED → notes_of f img (x ∷ xs) ≡ noted_at f img x ∷ notes_of f img xs
 notes_used f img x xs used = rw (eq-eqb (magic_of f.order img x) USED used) refl
 
-notes_other : (f : Form) (img : List ℕ) (x : ℕ) (xs : List ℕ) → magic_of f.order img x ≢ USED → notes_of f img (x ∷ xs) ≡ notes_of f img xs
+pub notes_other : (f : Form) (img : List ℕ) (x : ℕ) (xs : List ℕ) → magic_of f.order img x ≢ USED → notes_of f img (x ∷ xs) ≡ notes_of f img xs
 notes_other f img x xs other = rw (ne_eqb (magic_of f.order img x) USED other) refl
 
 -- one more record at the end

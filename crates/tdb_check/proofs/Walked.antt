@@ -75,7 +75,7 @@ walked_more f kind img earlier head (y ∷ ys) place x p w some none =
     (p.0, p.1, p.2, walked_more f kind img (earlier ++ y ∷ []) y ys place x p.3 w some (subst (λ zs. fault_but_twin f kind img zs place x ≡ None) (sym (append_assoc earlier (y ∷ []) ys)) none))
 
 -- no offset comes twice among them, each lies in the image and none is 0
-walked_distinct : (f : Form) (kind : ListKind) (img earlier : List ℕ) (head : ℕ) (xs : List ℕ) (last : ℕ) → Walked f kind img earlier head xs last → IsDistinct eqb earlier → IsDistinct eqb (earlier ++ xs)
+pub walked_distinct : (f : Form) (kind : ListKind) (img earlier : List ℕ) (head : ℕ) (xs : List ℕ) (last : ℕ) → Walked f kind img earlier head xs last → IsDistinct eqb earlier → IsDistinct eqb (earlier ++ xs)
 walked_distinct f kind img earlier head [] last p d = subst (IsDistinct eqb) (sym (append-nil earlier)) d
 walked_distinct f kind img earlier head (x ∷ xs) last p d =
     let t = tested_from f kind img earlier head x p.2 in
@@ -89,11 +89,11 @@ walked_below f kind img earlier head (x ∷ xs) last z p m =
       | inr there ↦ walked_below f kind img (earlier ++ x ∷ []) x xs last z p.3 there
     ]
 
-walked_some : (f : Form) (kind : ListKind) (img earlier : List ℕ) (head : ℕ) (xs : List ℕ) (last : ℕ) → Walked f kind img earlier head xs last → AllByRecursion (λ y. eqb 0 y ≡ false) xs
+pub walked_some : (f : Form) (kind : ListKind) (img earlier : List ℕ) (head : ℕ) (xs : List ℕ) (last : ℕ) → Walked f kind img earlier head xs last → AllByRecursion (λ y. eqb 0 y ≡ false) xs
 walked_some f kind img earlier head [] last p = tt
 walked_some f kind img earlier head (x ∷ xs) last p = (ne_eqb 0 x (λ e. p.1 (sym e)), walked_some f kind img (earlier ++ x ∷ []) x xs last p.3)
 
-distinct_none : IsDistinct eqb []
+pub distinct_none : IsDistinct eqb []
 unfolding IsDistinct
 distinct_none = tt
 

@@ -12,3 +12,4 @@ pub mod Keys
 pub mod Walked
 pub mod Notes
 pub mod Tails
+pub mod Reads

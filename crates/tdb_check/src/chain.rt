@@ -1,9 +1,10 @@
 // The walk along one chain.
 
-ghost use Rattle.std.specs.Prelude.{◌≡◌, ℕ, ◌+◌, ◌<◌, ◌≤◌, ◌==◌, if◌then◌else◌, List, [], ◌∷◌, ◌++◌, IsTrue, length, Some, IfOk, IfErr, OnOk};
-ghost use Rattle.tdb_disk.specs.Count.{HasCauseOf};
+ghost use Rattle.std.specs.Prelude.{◌≡◌, ℕ, ◌+◌, ◌<◌, ◌≤◌, ◌==◌, if◌then◌else◌, List, [], ◌∷◌, ◌++◌, IsTrue, length, sum_by, Some, IfOk, IfErr, OnOk};
+ghost use Rattle.tdb_disk.specs.Count.{HasCauseOf, RoseUpTo};
 ghost use Rattle.tdb_words.specs.Word.{word};
 ghost use Rattle.tdb_space.specs.Form.{Form, data_start, chain_head};
+ghost use Rattle.tdb_space.specs.Chain.{chain_of};
 ghost use Rattle.tdb_space.specs.Extents.{Extent as Held};
 ghost use Rattle.tdb_space.specs.FirstFault.{chain_number, FirstInList};
 ghost use Rattle.tdb_check.specs.Seen.{Names};
@@ -12,6 +13,7 @@ ghost use Rattle.tdb_check.specs.Extent.{extents_seen};
 ghost use Rattle.tdb_check.specs.Tails.{TailsOf};
 ghost use Rattle.tdb_check.specs.Walked.{fault_but_twin};
 ghost use Rattle.tdb_check.specs.Notes.{NotesOf, RecordPassed, WalkDone};
+ghost use Rattle.tdb_check.specs.Reads.{record_reads, chain_reads};
 ghost use Rattle.tdb_space.specs.Frame.{Looked};
 ghost use Rattle.tdb_check.specs.declared.refusal.CheckRefusal.TheVariants.{Io};
 
@@ -105,6 +107,7 @@ fn pass_record<S: Space>(
     ensures tails { notes.new.tails ≡ notes.old.tails }
     ensures looked { Looked S.Space s.old s.new }
     ensures cause { HasCauseOf Io (S.faults s.old) (S.faults s.new) result }
+    ensures bytes_read { IsTrue S.tells → length (S.image s.old) ≡ len → RoseUpTo (record_reads (S.form s.old) (S.image s.old) at) (S.bytes_read s.old) (S.bytes_read s.new) }
 {
     if !can_stand(at, len, s.hash_size()) {
         return Err(CheckRefusal::Corrupt {
@@ -179,6 +182,8 @@ fn walk_chain<S: Space>(
     ensures count { IfOk result (λ walk. walk.live + length extents.old.items ≤ length extents.new.items) }
     ensures looked { Looked S.Space s.old s.new }
     ensures cause { HasCauseOf Io (S.faults s.old) (S.faults s.new) result }
+    ensures bytes_read { IsTrue S.tells → length (S.image s.old) ≡ len → word (S.form s.old).order (S.image s.old) (chain_head j) ≡ first
+        → RoseUpTo (sum_by (record_reads (S.form s.old) (S.image s.old)) (chain_of (S.form s.old) (S.image s.old) j)) (S.bytes_read s.old) (S.bytes_read s.new) }
 {
     notes.clear();
     let mut place = 172 + 4 * j as u64;
@@ -252,6 +257,10 @@ pub fn follow_chain<S: Space>(
     ensures count { IfOk result (λ live. live + length extents.old.items ≤ length extents.new.items) }
     ensures looked { Looked S.Space s.old s.new }
     ensures cause { HasCauseOf Io (S.faults s.old) (S.faults s.new) result }
+    ensures bytes_read { OnOk result (IsTrue S.tells → length (S.image s.old) ≡ len → word (S.form s.old).order (S.image s.old) (chain_head j) ≡ first
+        → RoseUpTo (chain_reads 1 (S.form s.old) (S.image s.old) j) (S.bytes_read s.old) (S.bytes_read s.new)) }
+    ensures bytes_in_all { IsTrue S.tells → length (S.image s.old) ≡ len → word (S.form s.old).order (S.image s.old) (chain_head j) ≡ first
+        → RoseUpTo (chain_reads 65 (S.form s.old) (S.image s.old) j) (S.bytes_read s.old) (S.bytes_read s.new) }
 {
     if first == 0 {
         return Ok(0);

@@ -1,12 +1,13 @@
 // The walk along all chains.
 
-ghost use Rattle.std.specs.Prelude.{◌≡◌, ℕ, ◌+◌, ◌*◌, ◌^◌, ◌<◌, ◌≤◌, List, IsTrue, length, take, drop, IfOk, IfErr};
-ghost use Rattle.tdb_disk.specs.Count.{HasCauseOf};
+ghost use Rattle.std.specs.Prelude.{◌≡◌, ℕ, ◌+◌, ◌*◌, ◌^◌, ◌<◌, ◌≤◌, List, IsTrue, length, take, drop, IfOk, IfErr, OnOk};
+ghost use Rattle.tdb_disk.specs.Count.{HasCauseOf, RoseUpTo};
 ghost use Rattle.tdb_space.specs.Form.{data_start, chain_head};
 ghost use Rattle.tdb_check.specs.Seen.{Names};
 ghost use Rattle.tdb_check.specs.Extent.{extents_seen};
 ghost use Rattle.tdb_check.specs.Tails.{TailsOf};
 ghost use Rattle.tdb_check.specs.Chains.{ChainsTo, ChainsFollowed, FirstInChains};
+ghost use Rattle.tdb_check.specs.Reads.{chains_reads};
 ghost use Rattle.tdb_space.specs.Frame.{Looked};
 ghost use Rattle.tdb_check.specs.declared.refusal.CheckRefusal.TheVariants.{Io};
 ghost use Rattle.tdb_check.specs.declared.extent.Extent.{Extent};
@@ -49,6 +50,10 @@ fn follow_block<S: Space>(
     ensures count { IfOk result (λ live. live + length extents.old.items ≤ length extents.new.items) }
     ensures looked { Looked S.Space s.old s.new }
     ensures cause { HasCauseOf Io (S.faults s.old) (S.faults s.new) result }
+    ensures bytes_read { OnOk result (IsTrue S.tells → length (S.image s.old) ≡ len → heads.now ≡ take (4 * count) (drop (chain_head first) (S.image s.old))
+        → RoseUpTo (chains_reads 1 (S.form s.old) (S.image s.old) first count) (S.bytes_read s.old) (S.bytes_read s.new)) }
+    ensures bytes_in_all { IsTrue S.tells → length (S.image s.old) ≡ len → heads.now ≡ take (4 * count) (drop (chain_head first) (S.image s.old))
+        → RoseUpTo (chains_reads 65 (S.form s.old) (S.image s.old) first count) (S.bytes_read s.old) (S.bytes_read s.new) }
 {
     let order = s.order();
     let mut live = 0u64;
@@ -82,6 +87,8 @@ pub fn follow_chains<S: Space>(
     ensures bad { IfErr result (λ e. IsTrue S.tells → length (S.image s.old) ≡ len → Names e (FirstInChains (S.form s.old) (S.image s.old))) }
     ensures looked { Looked S.Space s.old s.new }
     ensures cause { HasCauseOf Io (S.faults s.old) (S.faults s.new) result }
+    ensures bytes_read { OnOk result (IsTrue S.tells → length (S.image s.old) ≡ len → RoseUpTo (4 * (S.form s.old).chains + chains_reads 1 (S.form s.old) (S.image s.old) 0 (S.form s.old).chains) (S.bytes_read s.old) (S.bytes_read s.new)) }
+    ensures bytes_in_all { IsTrue S.tells → length (S.image s.old) ≡ len → RoseUpTo (4 * (S.form s.old).chains + chains_reads 65 (S.form s.old) (S.image s.old) 0 (S.form s.old).chains) (S.bytes_read s.old) (S.bytes_read s.new) }
 {
     let chains = s.hash_size();
     let mut notes = Notes::new(alloc);

@@ -1,11 +1,13 @@
 // The walk along the free list.
 
-ghost use Rattle.std.specs.Prelude.{◌≡◌, ◌<◌, ◌≤◌, IsTrue, length, OnOk, IfErr};
-ghost use Rattle.tdb_disk.specs.Count.{HasCauseOf};
+ghost use Rattle.std.specs.Prelude.{◌≡◌, ◌+◌, sum_by, ◌<◌, ◌≤◌, IsTrue, length, OnOk, IfErr};
+ghost use Rattle.tdb_disk.specs.Count.{HasCauseOf, RoseUpTo};
 ghost use Rattle.tdb_space.specs.Form.{data_start, free_head};
+ghost use Rattle.tdb_space.specs.Chain.{free_of};
 ghost use Rattle.tdb_space.specs.FirstFault.{FirstInList, free_list};
 ghost use Rattle.tdb_check.specs.Seen.{Names};
 ghost use Rattle.tdb_check.specs.Followed.{FollowedTo};
+ghost use Rattle.tdb_check.specs.Reads.{record_reads};
 ghost use Rattle.tdb_space.specs.Frame.{Looked};
 ghost use Rattle.tdb_check.specs.declared.refusal.CheckRefusal.TheVariants.{Io};
 
@@ -34,6 +36,7 @@ pub fn follow_free_list<S: Space>(
     ensures bad { IfErr result (λ e. IsTrue S.tells → length (S.image s.old) ≡ len → Names e (FirstInList (S.form s.old) free_list (S.image s.old) free_head)) }
     ensures looked { Looked S.Space s.old s.new }
     ensures cause { HasCauseOf Io (S.faults s.old) (S.faults s.new) result }
+    ensures bytes_read { IsTrue S.tells → length (S.image s.old) ≡ len → RoseUpTo (4 + sum_by (record_reads (S.form s.old) (S.image s.old)) (free_of (S.form s.old) (S.image s.old))) (S.bytes_read s.old) (S.bytes_read s.new) }
 {
     let mut word = [0u8; 4];
     s.read(168, &mut word)?;

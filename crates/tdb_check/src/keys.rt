@@ -1,13 +1,14 @@
 // The keys of one chain, by what is known of them without reading, and the first of them that an earlier record has.
 
-ghost use Rattle.std.specs.Prelude.{◌≡◌, ℕ, ◌<◌, ◌≤◌, true, List, [], ◌∷◌, ◌++◌, false, map, IsTrue, length, take, IfOk, IfErr, OnOk, MatchBool};
-ghost use Rattle.tdb_disk.specs.Count.{HasCauseOf};
+ghost use Rattle.std.specs.Prelude.{◌≡◌, ℕ, ◌+◌, ◌*◌, None, slice_index_or, sum_by, ◌<◌, ◌≤◌, true, List, [], ◌∷◌, ◌++◌, false, map, IsTrue, length, take, IfOk, IfErr, OnOk, MatchBool};
+ghost use Rattle.tdb_disk.specs.Count.{HasCauseOf, RoseUpTo};
 ghost use Rattle.std.specs.List.Sorted.{IsNonDecreasingBy, IsPermutation};
 ghost use Rattle.tdb_words.specs.Hash.{h_of};
 ghost use Rattle.tdb_words.specs.Record.{rec_at};
 ghost use Rattle.tdb_space.specs.Form.{Form};
 ghost use Rattle.tdb_check.specs.Seen.{Names};
-ghost use Rattle.tdb_check.specs.Keys.{mark_of, mixed, digested, MarksRise, NoLargeGroup, AllNoted, NotedDiffer, TwinAt, NoTwinBefore};
+ghost use Rattle.tdb_check.specs.Keys.{mark_of, notes_of, mixed, digested, MarksRise, NoLargeGroup, AllNoted, NotedDiffer, TwinAt, NoTwinBefore};
+ghost use Rattle.tdb_check.specs.Reads.{key_bytes, shared, shared_by_pairs, twin_reads};
 ghost use Rattle.tdb_space.specs.Frame.{Looked};
 ghost use Rattle.tdb_check.specs.declared.refusal.CheckRefusal.TheVariants.{Io};
 
@@ -83,6 +84,8 @@ impl Keys {
         ensures no_fault { IfErr result (λ e. IsTrue S.tells → length (S.image s.old) ≡ len → (xs : List ℕ) → KeptIn (S.form s.old) (S.image s.old) xs self.old → Names e (λ _. ⊥)) }
         ensures looked { Looked S.Space s.old s.new }
         ensures cause { HasCauseOf Io (S.faults s.old) (S.faults s.new) result }
+        ensures bytes_read { IfOk result (λ twin. twin ≡ None → IsTrue S.tells → length (S.image s.old) ≡ len → (xs : List ℕ) → KeptIn (S.form s.old) (S.image s.old) xs self.old → RoseUpTo (twin_reads (S.form s.old) (S.image s.old) (notes_of (S.form s.old) (S.image s.old) xs)) (S.bytes_read s.old) (S.bytes_read s.new)) }
+        ensures bytes_in_all { IsTrue S.tells → length (S.image s.old) ≡ len → (xs : List ℕ) → KeptIn (S.form s.old) (S.image s.old) xs self.old → RoseUpTo (65 * twin_reads (S.form s.old) (S.image s.old) (notes_of (S.form s.old) (S.image s.old) xs)) (S.bytes_read s.old) (S.bytes_read s.new) }
     {
         let mut most = self.noted.len();
         let twins = match self.has_twins(s, len, most) {
@@ -124,6 +127,8 @@ impl Keys {
         ensures no_fault { IfErr result (λ e. IsTrue S.tells → length (S.image s.old) ≡ len → AllNoted (h_of (S.form s.old).hash) (S.form s.old) (S.image s.old) self.old.noted.items → Names e (λ _. ⊥)) }
         ensures looked { Looked S.Space s.old s.new }
         ensures cause { HasCauseOf Io (S.faults s.old) (S.faults s.new) result }
+        ensures bytes_read { IsTrue S.tells → length (S.image s.old) ≡ len → AllNoted (h_of (S.form s.old).hash) (S.form s.old) (S.image s.old) self.old.noted.items
+            → RoseUpTo (twin_reads (S.form s.old) (S.image s.old) (take count self.old.noted.items)) (S.bytes_read s.old) (S.bytes_read s.new) }
     {
         copy_mixed(&self.noted[..count], &mut self.sorted)?;
         sort_by_mark(&mut self.sorted);
@@ -151,6 +156,8 @@ fn has_digested_twins<S: Space>(
     ensures no_fault { IfErr result (λ e. IsTrue S.tells → length (S.image s.old) ≡ len → AllNoted (h_of (S.form s.old).hash) (S.form s.old) (S.image s.old) noted.now → Names e (λ _. ⊥)) }
     ensures looked { Looked S.Space s.old s.new }
     ensures cause { HasCauseOf Io (S.faults s.old) (S.faults s.new) result }
+    ensures bytes_read { IsTrue S.tells → length (S.image s.old) ≡ len → AllNoted (h_of (S.form s.old).hash) (S.form s.old) (S.image s.old) noted.now
+        → RoseUpTo (key_bytes noted.now + 2 * shared_by_pairs (map (digested (S.form s.old) (S.image s.old)) noted.now)) (S.bytes_read s.old) (S.bytes_read s.new) }
 {
     match copy_digests(s, len, noted, sorted) {
         Ok(()) => {}
@@ -197,6 +204,7 @@ fn copy_digests<S: Space>(
     ensures no_fault { IfErr result (λ e. IsTrue S.tells → length (S.image s.old) ≡ len → (mark : List ℕ → ℕ) → AllNoted mark (S.form s.old) (S.image s.old) noted.now → Names e (λ _. ⊥)) }
     ensures looked { Looked S.Space s.old s.new }
     ensures cause { HasCauseOf Io (S.faults s.old) (S.faults s.new) result }
+    ensures bytes_read { RoseUpTo (key_bytes noted.now) (S.bytes_read s.old) (S.bytes_read s.new) }
 {
     sorted.clear();
     for record in noted {
@@ -260,6 +268,7 @@ fn any_twins<S: Space>(s: &mut S, len: u64, sorted: &[Noted]) -> Result<bool, Ch
     ensures no_fault { IfErr result (λ e. IsTrue S.tells → length (S.image s.old) ≡ len → (mark : List ℕ → ℕ) → AllNoted mark (S.form s.old) (S.image s.old) sorted.now → Names e (λ _. ⊥)) }
     ensures looked { Looked S.Space s.old s.new }
     ensures cause { HasCauseOf Io (S.faults s.old) (S.faults s.new) result }
+    ensures bytes_read { RoseUpTo (2 * shared_by_pairs sorted.now) (S.bytes_read s.old) (S.bytes_read s.new) }
 {
     for i in 0..sorted.len() {
         let twin = match has_twin_before(s, len, sorted, i) {
@@ -288,6 +297,7 @@ fn has_twin_before<S: Space>(
     ensures no_fault { IfErr result (λ e. IsTrue S.tells → length (S.image s.old) ≡ len → (mark : List ℕ → ℕ) → AllNoted mark (S.form s.old) (S.image s.old) sorted.now → Names e (λ _. ⊥)) }
     ensures looked { Looked S.Space s.old s.new }
     ensures cause { HasCauseOf Io (S.faults s.old) (S.faults s.new) result }
+    ensures bytes_read { (d : Noted) → RoseUpTo (2 * sum_by (shared (slice_index_or sorted.now i d)) (take i sorted.now)) (S.bytes_read s.old) (S.bytes_read s.new) }
 {
     let last = sorted[i];
     let mut k = i;

@@ -1,10 +1,11 @@
 // The walks along all lists of a file.
 
-ghost use Rattle.std.specs.Prelude.{◌≡◌, ◌<◌, ◌≤◌, IsTrue, length, IfOk, IfErr};
-ghost use Rattle.tdb_disk.specs.Count.{HasCauseOf};
+ghost use Rattle.std.specs.Prelude.{◌≡◌, ◌<◌, ◌≤◌, IsTrue, length, IfOk, IfErr, OnOk};
+ghost use Rattle.tdb_disk.specs.Count.{HasCauseOf, RoseUpTo};
 ghost use Rattle.tdb_space.specs.Form.{data_start};
 ghost use Rattle.tdb_check.specs.Seen.{Names};
 ghost use Rattle.tdb_check.specs.Lists.{ListsFollowed, FirstInLists};
+ghost use Rattle.tdb_check.specs.Reads.{lists_reads};
 ghost use Rattle.tdb_space.specs.Frame.{Looked};
 ghost use Rattle.tdb_check.specs.declared.refusal.CheckRefusal.TheVariants.{Io};
 
@@ -44,6 +45,8 @@ pub(crate) fn follow_lists<S: Space>(
     ensures bad { IfErr result (λ e. IsTrue S.tells → length (S.image s.old) ≡ len → Names e (FirstInLists (S.form s.old) (S.image s.old))) }
     ensures looked { Looked S.Space s.old s.new }
     ensures cause { HasCauseOf Io (S.faults s.old) (S.faults s.new) result }
+    ensures bytes_read { OnOk result (IsTrue S.tells → length (S.image s.old) ≡ len → RoseUpTo (lists_reads 1 (S.form s.old) (S.image s.old)) (S.bytes_read s.old) (S.bytes_read s.new)) }
+    ensures bytes_in_all { IsTrue S.tells → length (S.image s.old) ≡ len → RoseUpTo (lists_reads 65 (S.form s.old) (S.image s.old)) (S.bytes_read s.old) (S.bytes_read s.new) }
 {
     let mut extents = Vec::new(alloc);
     let live = follow_chains(alloc, s, len, &mut extents)?;

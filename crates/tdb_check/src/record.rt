@@ -1,11 +1,12 @@
 // One record, read and tested by itself.
 
 ghost use Rattle.std.specs.Prelude.{◌≡◌, ◌+◌, ◌≤◌, ◌<◌, ◌^◌, IsTrue, length, take, drop, IfOk, IfErr, None, Some, false};
-ghost use Rattle.tdb_disk.specs.Count.{HasCause, HasCauseOf};
+ghost use Rattle.tdb_disk.specs.Count.{HasCause, HasCauseOf, RoseUpTo};
 ghost use Rattle.tdb_words.specs.Word.{word};
 ghost use Rattle.tdb_words.specs.Hash.{h_of};
 ghost use Rattle.tdb_words.specs.Record.{rec_at};
 ghost use Rattle.tdb_check.specs.Seen.{kind_of, is_bad_header, is_misfiled_header, own_fault, Names};
+ghost use Rattle.tdb_check.specs.Reads.{record_reads};
 ghost use Rattle.tdb_space.specs.Frame.{Looked};
 ghost use Rattle.tdb_check.specs.declared.refusal.CheckRefusal.TheVariants.{Io as DiskFailed};
 
@@ -42,6 +43,7 @@ fn fill<S: Space>(s: &mut S, len: u64, at: u32, buf: &mut [u8; 128]) -> Result<u
     ensures long { length buf.new ≡ 128 }
     ensures looked { Looked S.Space s.old s.new }
     ensures cause { HasCause (S.faults s.old) (S.faults s.new) result }
+    ensures bytes_read { RoseUpTo 128 (S.bytes_read s.old) (S.bytes_read s.new) }
 {
     let held = (len - at as u64).min(WINDOW as u64) as usize;
     s.read(at as u64, &mut buf[..held])?;
@@ -66,6 +68,7 @@ fn tailer_of<S: Space>(s: &mut S, at: u32, rec_len: u32, window: &[u8]) -> Resul
         → t ≡ word (S.form s.old).order (S.image s.old) (at + 20 + rec_len)) }
     ensures looked { Looked S.Space s.old s.new }
     ensures cause { HasCause (S.faults s.old) (S.faults s.new) result }
+    ensures bytes_read { RoseUpTo 4 (S.bytes_read s.old) (S.bytes_read s.new) }
 {
     let mut bytes = [0u8; 4];
     let place = rec_len as usize + 20;
@@ -84,6 +87,7 @@ fn long_hash<S: Space>(s: &mut S, off: u64, key_len: u32) -> Result<u32, Io>
     ensures value { IfOk result (λ h. IsTrue S.tells → h ≡ h_of (S.form s.old).hash (take key_len (drop off (S.image s.old)))) }
     ensures looked { Looked S.Space s.old s.new }
     ensures cause { HasCause (S.faults s.old) (S.faults s.new) result }
+    ensures bytes_read { RoseUpTo key_len (S.bytes_read s.old) (S.bytes_read s.new) }
 {
     let mut buf = [0u8; PIECE];
     let mut run = HashRun::new(s.hash(), key_len);
@@ -106,6 +110,7 @@ fn key_hash<S: Space>(s: &mut S, at: u32, key_len: u32, window: &[u8]) -> Result
         → h ≡ h_of (S.form s.old).hash (take key_len (drop (at + 24) (S.image s.old)))) }
     ensures looked { Looked S.Space s.old s.new }
     ensures cause { HasCause (S.faults s.old) (S.faults s.new) result }
+    ensures bytes_read { RoseUpTo key_len (S.bytes_read s.old) (S.bytes_read s.new) }
 {
     let end = key_len as usize + 24;
     if end <= window.len() {
@@ -143,6 +148,7 @@ pub fn read_record<S: Space>(
         → Names e (λ fault. own_fault (S.form s.old) (kind_of kind) (S.image s.old) at ≡ Some fault)) }
     ensures looked { Looked S.Space s.old s.new }
     ensures cause { HasCauseOf DiskFailed (S.faults s.old) (S.faults s.new) result }
+    ensures bytes_read { IsTrue S.tells → length (S.image s.old) ≡ len → RoseUpTo (record_reads (S.form s.old) (S.image s.old) at) (S.bytes_read s.old) (S.bytes_read s.new) }
 {
     let mut buf = [0u8; WINDOW];
     let held = fill(s, len, at, &mut buf)?;

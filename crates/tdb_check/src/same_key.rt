@@ -1,8 +1,8 @@
 // What is read of keys once two may be the same: a digest of one, and whether two are the same.
 
-ghost use Rattle.std.specs.Prelude.{◌≡◌, ℕ, ◌+◌, ◌<◌, ◌≤◌, ◌^◌, List, IsTrue, length, take, drop, IfOk, IfErr, MatchBool};
+ghost use Rattle.std.specs.Prelude.{◌≡◌, ℕ, ◌+◌, ◌*◌, ◌==◌, if◌then◌else◌, ◌<◌, ◌≤◌, ◌^◌, List, IsTrue, length, take, drop, IfOk, IfErr, MatchBool};
 ghost use Rattle.sha2.specs.Sha256.{sha256};
-ghost use Rattle.tdb_disk.specs.Count.{HasCause, HasCauseOf};
+ghost use Rattle.tdb_disk.specs.Count.{HasCause, HasCauseOf, RoseUpTo};
 ghost use Rattle.tdb_check.specs.Seen.{Names};
 ghost use Rattle.tdb_check.specs.Keys.{key_of_noted, digest_mark, IsNoted};
 ghost use Rattle.tdb_space.specs.Frame.{Looked};
@@ -27,6 +27,7 @@ pub fn same_key<S: Space>(s: &mut S, len: u64, a: &Noted, b: &Noted) -> Result<b
     ensures no_fault { IfErr result (λ e. IsTrue S.tells → length (S.image s.old) ≡ len → (mark : List ℕ → ℕ) → IsNoted mark (S.form s.old) (S.image s.old) a.now → IsNoted mark (S.form s.old) (S.image s.old) b.now → Names e (λ _. ⊥)) }
     ensures looked { Looked S.Space s.old s.new }
     ensures cause { HasCauseOf DiskFailed (S.faults s.old) (S.faults s.new) result }
+    ensures bytes_read { RoseUpTo (2 * (if a.now.key_len == b.now.key_len then a.now.key_len else 0)) (S.bytes_read s.old) (S.bytes_read s.new) }
 {
     if a.key_len != b.key_len {
         return Ok(false);
@@ -59,6 +60,7 @@ fn same_bytes<S: Space>(s: &mut S, first: u64, second: u64, count: u64) -> Resul
         (take count (drop first (S.image s.old)) ≡ take count (drop second (S.image s.old)) → ⊥)) }
     ensures looked { Looked S.Space s.old s.new }
     ensures cause { HasCause (S.faults s.old) (S.faults s.new) result }
+    ensures bytes_read { RoseUpTo (2 * count) (S.bytes_read s.old) (S.bytes_read s.new) }
 {
     let mut buf = [0u8; PIECE];
     let mut done = 0u64;
@@ -82,6 +84,7 @@ pub fn key_digest<S: Space>(s: &mut S, len: u64, record: &Noted) -> Result<u32, 
     ensures no_fault { IfErr result (λ e. IsTrue S.tells → length (S.image s.old) ≡ len → (other : List ℕ → ℕ) → IsNoted other (S.form s.old) (S.image s.old) record.now → Names e (λ _. ⊥)) }
     ensures looked { Looked S.Space s.old s.new }
     ensures cause { HasCauseOf DiskFailed (S.faults s.old) (S.faults s.new) result }
+    ensures bytes_read { RoseUpTo record.now.key_len (S.bytes_read s.old) (S.bytes_read s.new) }
 {
     let from = record.at as u64 + 24;
     let count = record.key_len as u64;
@@ -102,6 +105,7 @@ fn bytes_digest<S: Space>(s: &mut S, from: u64, count: u64) -> Result<[u8; 32], 
     ensures digest { IfOk result (λ digest. IsTrue S.tells → digest ≡ sha256 (take count (drop from (S.image s.old)))) }
     ensures looked { Looked S.Space s.old s.new }
     ensures cause { HasCause (S.faults s.old) (S.faults s.new) result }
+    ensures bytes_read { RoseUpTo count (S.bytes_read s.old) (S.bytes_read s.new) }
 {
     let mut buf = [0u8; PIECE];
     let mut hasher = Sha256::new();

@@ -1,11 +1,12 @@
 // The check of a whole file.
 
-ghost use Rattle.std.specs.Prelude.{IsTrue, IfOk, IfErr};
-ghost use Rattle.tdb_disk.specs.Count.{HasCauseOf};
+ghost use Rattle.std.specs.Prelude.{IsTrue, IfOk, IfErr, OnOk};
+ghost use Rattle.tdb_disk.specs.Count.{HasCauseOf, RoseUpTo};
 ghost use Rattle.tdb_space.specs.Accepted.{Accept};
 ghost use Rattle.tdb_space.specs.FirstFault.{IsFirstFault};
 ghost use Rattle.tdb_check.specs.Seen.{Names};
 ghost use Rattle.tdb_check.specs.Report.{IsFormOf, Counted};
+ghost use Rattle.tdb_check.specs.Reads.{check_reads};
 ghost use Rattle.tdb_space.specs.Frame.{Looked};
 ghost use Rattle.tdb_check.specs.declared.refusal.CheckRefusal.TheVariants.{Io};
 
@@ -29,6 +30,10 @@ use tdb_space::Space;
 /// one length. It keeps 8 bytes a record, and somewhat more for each record of the list that it follows, whatever its keys are. It
 /// changes nothing.
 ///
+/// Of a file that it accepts it reads at most 200 bytes, 4 a chain, 132 a record, each used key 16 times, the length of the file
+/// once, and both keys of each two of one chain that have one length and one first word of their digests. Where a key comes twice
+/// it may look through the keys of a chain 65 times to find the first that does.
+///
 /// It ends whatever the bytes are, also where they change while it reads; then the answer tells what stood at each place when
 /// that was read. `Io` says that the disk failed, and `Memory` that an allocation did.
 pub fn check<S: Space>(alloc: Global, s: &mut S) -> Result<Report, CheckRefusal>
@@ -36,6 +41,8 @@ pub fn check<S: Space>(alloc: Global, s: &mut S) -> Result<Report, CheckRefusal>
     ensures first_fault { IfErr result (λ e. IsTrue S.tells → IsFormOf (S.form s.old) (S.image s.old) → Names e (IsFirstFault (S.image s.old))) }
     ensures looked { Looked S.Space s.old s.new }
     ensures cause { HasCauseOf Io (S.faults s.old) (S.faults s.new) result }
+    ensures bytes_read { OnOk result (IsTrue S.tells → RoseUpTo (check_reads 1 (S.form s.old) (S.image s.old)) (S.bytes_read s.old) (S.bytes_read s.new)) }
+    ensures bytes_in_all { IsTrue S.tells → RoseUpTo (check_reads 65 (S.form s.old) (S.image s.old)) (S.bytes_read s.old) (S.bytes_read s.new) }
 {
     let len = check_front(s)?;
     let area = read_area(s, len)?;

@@ -1,5 +1,5 @@
 -- A twin among the records of the walk comes first; without one they are passed, and the walk's end is the chain's.
-use Rattle.std.proofs.Common.{◌≡◌, [], Option, None, Some, length, refl, sym, ◌∙◌, ap, subst}
+use Rattle.std.proofs.Common.{◌≡◌, [], Option, None, Some, length, refl, sym, ◌∙◌, ap, subst, arith}
 use Rattle.tdb_space.specs.Form.{chain_head}
 use Rattle.tdb_space.specs.Accepted.{KeysDiffer}
 use Rattle.tdb_space.specs.FirstFault.{chain_number, FirstInList}
@@ -10,6 +10,8 @@ use Rattle.tdb_check.specs.Walked.{Walked}
 use Rattle.tdb_check.specs.Notes.{EndsBy}
 use Rattle.tdb_check.specs.Tails.{least_from, KnownTail, TailsOf, Closing}
 use Rattle.tdb_check.proofs.Following.{names_then}
+use Rattle.tdb_check.proofs.Rising.{rose_within}
+use Rattle.tdb_check.proofs.Walking.{chain_read}
 use Rattle.tdb_check.proofs.SameViews.{same_view}
 use Rattle.tdb_check.proofs.Walked.{twin_first}
 use Rattle.tdb_check.proofs.OneChain.{chain_none, going_end, going_fault, going_tail, going_closing, going_known, tails_put}
@@ -111,3 +113,153 @@ returns-in_ok-put-in-Known-clause-sound g c told long is tails =
       going_known f c.args.j img c.walk_chain.new.notes c.args.extents.now.items c.walk_chain.new.extents.items c.in-Ok.walk.live d.place d.at d.so_far differ least c.put.new.extents.items known put,
       tails_put f img c.walk_chain.new.extents.items c.put.new.extents.items least c.keep-in-Known.new.self put (c.in_ok-keep-in-Known.ensures.tails f img (extents_seen c.walk_chain.new.extents.items) closing),
     )
+
+pub returns-in-Err-first_twin-clause-bytes_in_all : goal.returns-in-Err-first_twin-clause-bytes_in_all
+returns-in-Err-first_twin-clause-bytes_in_all g c told long is =
+    let f = g.S.Space.form c.args.s.now in
+    let img = g.S.Space.image c.args.s.now in
+    let f2 = g.S.Space.form c.walk_chain.new.s in
+    let img2 = g.S.Space.image c.walk_chain.new.s in
+    let a = c.in-Ok.ensures in
+    let d = a.walked told long is in
+    let xs = d.so_far.xs in
+    let keys = c.walk_chain.new.notes.keys in
+    let again : length img2 ≡ c.args.len = ap length a.looked.image ∙ long in
+    let there : KeptIn f2 img2 xs keys = same_view (λ h i. KeptIn h i xs keys) f f2 img img2 a.looked.form a.looked.image d.so_far.noted.keys in
+    chain_read f f2 img img2 c.args.j 65 xs d.place _ _ _ (omega (arith, long, c.requires.heads)) a.looked.form a.looked.image d.so_far.walked (a.bytes_read told long is)
+    (c.in-Err-first_twin.ensures.bytes_in_all told again xs there)
+
+pub returns-in-Some-clause-bytes_in_all : goal.returns-in-Some-clause-bytes_in_all
+returns-in-Some-clause-bytes_in_all g c told long is =
+    let f = g.S.Space.form c.args.s.now in
+    let img = g.S.Space.image c.args.s.now in
+    let f2 = g.S.Space.form c.walk_chain.new.s in
+    let img2 = g.S.Space.image c.walk_chain.new.s in
+    let a = c.in-Ok.ensures in
+    let d = a.walked told long is in
+    let xs = d.so_far.xs in
+    let keys = c.walk_chain.new.notes.keys in
+    let again : length img2 ≡ c.args.len = ap length a.looked.image ∙ long in
+    let there : KeptIn f2 img2 xs keys = same_view (λ h i. KeptIn h i xs keys) f f2 img img2 a.looked.form a.looked.image d.so_far.noted.keys in
+    chain_read f f2 img img2 c.args.j 65 xs d.place _ _ _ (omega (arith, long, c.requires.heads)) a.looked.form a.looked.image d.so_far.walked (a.bytes_read told long is)
+    (c.in-Ok-first_twin.ensures.bytes_in_all told again xs there)
+
+pub returns-in_err-keep-in-Last-clause-bytes_in_all : goal.returns-in_err-keep-in-Last-clause-bytes_in_all
+returns-in_err-keep-in-Last-clause-bytes_in_all g c told long is =
+    let f = g.S.Space.form c.args.s.now in
+    let img = g.S.Space.image c.args.s.now in
+    let f2 = g.S.Space.form c.walk_chain.new.s in
+    let img2 = g.S.Space.image c.walk_chain.new.s in
+    let a = c.in-Ok.ensures in
+    let d = a.walked told long is in
+    let xs = d.so_far.xs in
+    let keys = c.walk_chain.new.notes.keys in
+    let again : length img2 ≡ c.args.len = ap length a.looked.image ∙ long in
+    let there : KeptIn f2 img2 xs keys = same_view (λ h i. KeptIn h i xs keys) f f2 img img2 a.looked.form a.looked.image d.so_far.noted.keys in
+    chain_read f f2 img img2 c.args.j 65 xs d.place _ _ _ (omega (arith, long, c.requires.heads)) a.looked.form a.looked.image d.so_far.walked (a.bytes_read told long is)
+    (c.in-Ok-first_twin.ensures.bytes_in_all told again xs there)
+
+pub returns-in_err-keep-in-Known-clause-bytes_in_all : goal.returns-in_err-keep-in-Known-clause-bytes_in_all
+returns-in_err-keep-in-Known-clause-bytes_in_all g c told long is =
+    let f = g.S.Space.form c.args.s.now in
+    let img = g.S.Space.image c.args.s.now in
+    let f2 = g.S.Space.form c.walk_chain.new.s in
+    let img2 = g.S.Space.image c.walk_chain.new.s in
+    let a = c.in-Ok.ensures in
+    let d = a.walked told long is in
+    let xs = d.so_far.xs in
+    let keys = c.walk_chain.new.notes.keys in
+    let again : length img2 ≡ c.args.len = ap length a.looked.image ∙ long in
+    let there : KeptIn f2 img2 xs keys = same_view (λ h i. KeptIn h i xs keys) f f2 img img2 a.looked.form a.looked.image d.so_far.noted.keys in
+    chain_read f f2 img img2 c.args.j 65 xs d.place _ _ _ (omega (arith, long, c.requires.heads)) a.looked.form a.looked.image d.so_far.walked (a.bytes_read told long is)
+    (c.in-Ok-first_twin.ensures.bytes_in_all told again xs there)
+
+pub returns-in_err-put-in-Known-clause-bytes_in_all : goal.returns-in_err-put-in-Known-clause-bytes_in_all
+returns-in_err-put-in-Known-clause-bytes_in_all g c told long is =
+    let f = g.S.Space.form c.args.s.now in
+    let img = g.S.Space.image c.args.s.now in
+    let f2 = g.S.Space.form c.walk_chain.new.s in
+    let img2 = g.S.Space.image c.walk_chain.new.s in
+    let a = c.in-Ok.ensures in
+    let d = a.walked told long is in
+    let xs = d.so_far.xs in
+    let keys = c.walk_chain.new.notes.keys in
+    let again : length img2 ≡ c.args.len = ap length a.looked.image ∙ long in
+    let there : KeptIn f2 img2 xs keys = same_view (λ h i. KeptIn h i xs keys) f f2 img img2 a.looked.form a.looked.image d.so_far.noted.keys in
+    chain_read f f2 img img2 c.args.j 65 xs d.place _ _ _ (omega (arith, long, c.requires.heads)) a.looked.form a.looked.image d.so_far.walked (a.bytes_read told long is)
+    (c.in-Ok-first_twin.ensures.bytes_in_all told again xs there)
+
+pub returns-in-Fault-clause-bytes_in_all : goal.returns-in-Fault-clause-bytes_in_all
+returns-in-Fault-clause-bytes_in_all g c told long is =
+    let f = g.S.Space.form c.args.s.now in
+    let img = g.S.Space.image c.args.s.now in
+    let f2 = g.S.Space.form c.walk_chain.new.s in
+    let img2 = g.S.Space.image c.walk_chain.new.s in
+    let a = c.in-Ok.ensures in
+    let d = a.walked told long is in
+    let xs = d.so_far.xs in
+    let keys = c.walk_chain.new.notes.keys in
+    let again : length img2 ≡ c.args.len = ap length a.looked.image ∙ long in
+    let there : KeptIn f2 img2 xs keys = same_view (λ h i. KeptIn h i xs keys) f f2 img img2 a.looked.form a.looked.image d.so_far.noted.keys in
+    chain_read f f2 img img2 c.args.j 65 xs d.place _ _ _ (omega (arith, long, c.requires.heads)) a.looked.form a.looked.image d.so_far.walked (a.bytes_read told long is)
+    (c.in-Ok-first_twin.ensures.bytes_in_all told again xs there)
+
+pub returns-in_ok-keep-in-Last-clause-bytes_in_all : goal.returns-in_ok-keep-in-Last-clause-bytes_in_all
+returns-in_ok-keep-in-Last-clause-bytes_in_all g c told long is =
+    let f = g.S.Space.form c.args.s.now in
+    let img = g.S.Space.image c.args.s.now in
+    let f2 = g.S.Space.form c.walk_chain.new.s in
+    let img2 = g.S.Space.image c.walk_chain.new.s in
+    let a = c.in-Ok.ensures in
+    let d = a.walked told long is in
+    let xs = d.so_far.xs in
+    let keys = c.walk_chain.new.notes.keys in
+    let again : length img2 ≡ c.args.len = ap length a.looked.image ∙ long in
+    let there : KeptIn f2 img2 xs keys = same_view (λ h i. KeptIn h i xs keys) f f2 img img2 a.looked.form a.looked.image d.so_far.noted.keys in
+    chain_read f f2 img img2 c.args.j 65 xs d.place _ _ _ (omega (arith, long, c.requires.heads)) a.looked.form a.looked.image d.so_far.walked (a.bytes_read told long is)
+    (c.in-Ok-first_twin.ensures.bytes_in_all told again xs there)
+
+pub returns-in_ok-put-in-Known-clause-bytes_in_all : goal.returns-in_ok-put-in-Known-clause-bytes_in_all
+returns-in_ok-put-in-Known-clause-bytes_in_all g c told long is =
+    let f = g.S.Space.form c.args.s.now in
+    let img = g.S.Space.image c.args.s.now in
+    let f2 = g.S.Space.form c.walk_chain.new.s in
+    let img2 = g.S.Space.image c.walk_chain.new.s in
+    let a = c.in-Ok.ensures in
+    let d = a.walked told long is in
+    let xs = d.so_far.xs in
+    let keys = c.walk_chain.new.notes.keys in
+    let again : length img2 ≡ c.args.len = ap length a.looked.image ∙ long in
+    let there : KeptIn f2 img2 xs keys = same_view (λ h i. KeptIn h i xs keys) f f2 img img2 a.looked.form a.looked.image d.so_far.noted.keys in
+    chain_read f f2 img img2 c.args.j 65 xs d.place _ _ _ (omega (arith, long, c.requires.heads)) a.looked.form a.looked.image d.so_far.walked (a.bytes_read told long is)
+    (c.in-Ok-first_twin.ensures.bytes_in_all told again xs there)
+
+pub returns-in_ok-keep-in-Last-clause-bytes_read : goal.returns-in_ok-keep-in-Last-clause-bytes_read
+returns-in_ok-keep-in-Last-clause-bytes_read g c told long is =
+    let f = g.S.Space.form c.args.s.now in
+    let img = g.S.Space.image c.args.s.now in
+    let f2 = g.S.Space.form c.walk_chain.new.s in
+    let img2 = g.S.Space.image c.walk_chain.new.s in
+    let a = c.in-Ok.ensures in
+    let d = a.walked told long is in
+    let xs = d.so_far.xs in
+    let keys = c.walk_chain.new.notes.keys in
+    let again : length img2 ≡ c.args.len = ap length a.looked.image ∙ long in
+    let there : KeptIn f2 img2 xs keys = same_view (λ h i. KeptIn h i xs keys) f f2 img img2 a.looked.form a.looked.image d.so_far.noted.keys in
+    chain_read f f2 img img2 c.args.j 1 xs d.place _ _ _ (omega (arith, long, c.requires.heads)) a.looked.form a.looked.image d.so_far.walked (a.bytes_read told long is)
+    (rose_within _ _ _ _ (c.in-Ok-first_twin.ensures.bytes_read (none_of c.in-Ok-first_twin.twin c.in_default.not-Some) told again xs there) (omega arith))
+
+pub returns-in_ok-put-in-Known-clause-bytes_read : goal.returns-in_ok-put-in-Known-clause-bytes_read
+returns-in_ok-put-in-Known-clause-bytes_read g c told long is =
+    let f = g.S.Space.form c.args.s.now in
+    let img = g.S.Space.image c.args.s.now in
+    let f2 = g.S.Space.form c.walk_chain.new.s in
+    let img2 = g.S.Space.image c.walk_chain.new.s in
+    let a = c.in-Ok.ensures in
+    let d = a.walked told long is in
+    let xs = d.so_far.xs in
+    let keys = c.walk_chain.new.notes.keys in
+    let again : length img2 ≡ c.args.len = ap length a.looked.image ∙ long in
+    let there : KeptIn f2 img2 xs keys = same_view (λ h i. KeptIn h i xs keys) f f2 img img2 a.looked.form a.looked.image d.so_far.noted.keys in
+    chain_read f f2 img img2 c.args.j 1 xs d.place _ _ _ (omega (arith, long, c.requires.heads)) a.looked.form a.looked.image d.so_far.walked (a.bytes_read told long is)
+    (rose_within _ _ _ _ (c.in-Ok-first_twin.ensures.bytes_read (none_of c.in-Ok-first_twin.twin c.in_default.not-Some) told again xs there) (omega arith))

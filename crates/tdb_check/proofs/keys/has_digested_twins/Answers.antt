@@ -4,6 +4,8 @@ use Rattle.std.specs.Prelude.{MatchBool}
 use Rattle.std.proofs.lemmas.List.Sorted.{length_permutation}
 use Rattle.tdb_words.specs.Hash.{h_of}
 use Rattle.tdb_check.specs.Keys.{AllNoted, NotedDiffer, digest_mark}
+use Rattle.tdb_check.proofs.Pairs.{digest_reads}
+use Rattle.tdb_check.proofs.Rising.{rose_then}
 use Rattle.tdb_check.proofs.SameViews.{same_view}
 use Rattle.tdb_check.proofs.Notings.{ok_then, err_then, digest_noted, digest_twins}
 use Rattle.tdb_check.proofs.keys.has_digested_twins.Goals as goal
@@ -45,3 +47,11 @@ returns-clause-no_fault g c =
     let noted = digest_noted (h_of f.hash) f img c.args.noted.now c.copy_digests.new.sorted.items c.sort_by_mark.new.sorted.items seen marked c.sort_by_mark.ensures.same c.deref.ensures.value each in
     none told (ap length a.looked.image ∙ long) digest_mark (same_view (λ h i. AllNoted digest_mark h i seen) f f2 img img2 a.looked.form a.looked.image noted)))
     c.any_twins.ensures.no_fault
+
+pub returns-clause-bytes_read : goal.returns-clause-bytes_read
+returns-clause-bytes_read g c told long each =
+    let f = g.S.Space.form c.args.s.now in
+    let img = g.S.Space.image c.args.s.now in
+    let a = c.in-Ok.ensures in
+    let pairs = digest_reads f img c.args.noted.now c.copy_digests.new.sorted.items c.sort_by_mark.new.sorted.items c.deref.result.now (a.marked told long (h_of f.hash) each) c.sort_by_mark.ensures.same c.deref.ensures.value in
+    rose_then _ _ _ _ _ _ a.bytes_read c.any_twins.ensures.bytes_read (omega (arith, pairs))

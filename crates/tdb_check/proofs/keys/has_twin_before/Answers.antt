@@ -4,6 +4,7 @@ use Rattle.std.proofs.lemmas.Bool.{MatchBool-at_true, MatchBool-at_false}
 use Rattle.tdb_check.specs.declared.keys.Noted.{Noted}
 use Rattle.tdb_check.specs.Keys.{AllNoted, key_of_noted}
 use Rattle.tdb_check.proofs.Notings.{apart_before, one_before, twin_here}
+use Rattle.tdb_check.proofs.Pairs.{one_compared}
 use Rattle.tdb_check.proofs.SameViews.{same_view}
 use Rattle.tdb_check.proofs.keys.has_twin_before.Goals as goal
 
@@ -54,6 +55,8 @@ loop-k-preserved g c =
     let none : Noted = record { mark = 0; key_len = 0; at = 0 } in
     record {
       within = omega arith;
+      no_more = λ d. omega (arith, v.no_more d, one_compared c.args.sorted.now c.args.i c.loop-k.k d none c.loop-k-test.true v.within c.requires.within c.if-other-last.false, c.in-Ok.ensures.bytes_read.no_more);
+      never_falls = omega (arith, v.never_falls, c.in-Ok.ensures.bytes_read.never_falls);
       apart = λ told long mark all.
           (let there : AllNoted mark f2 img2 c.args.sorted.now = same_view (λ h i. AllNoted mark h i c.args.sorted.now) f f2 img img2 v.looked.form v.looked.image all in
           let other = MatchBool-at_false _ _ c.if-same.false (c.in-Ok.ensures.same told mark (there (c.loop-k.k - 1) none before) (there c.args.i none c.requires.within)) in
@@ -66,3 +69,23 @@ loop-k-preserved g c =
 
 pub returns-clause-twin : goal.returns-clause-twin
 returns-clause-twin g c told long mark all k d from under same = c.loop-k.invariant.apart told long mark all k d (omega (arith, from)) under same
+
+pub returns-then-other-last-clause-bytes_read : goal.returns-then-other-last-clause-bytes_read
+returns-then-other-last-clause-bytes_read g c d = let v = c.loop-k.invariant in record { no_more = omega (arith, v.no_more d); never_falls = v.never_falls }
+
+pub returns-in-Err-clause-bytes_read : goal.returns-in-Err-clause-bytes_read
+returns-in-Err-clause-bytes_read g c d =
+    let v = c.loop-k.invariant in
+    let none : Noted = record { mark = 0; key_len = 0; at = 0 } in
+    let one = one_compared c.args.sorted.now c.args.i c.loop-k.k d none c.loop-k-test.true v.within c.requires.within c.if-other-last.false in
+    record { no_more = omega (arith, v.no_more d, one, c.in-Err.ensures.bytes_read.no_more); never_falls = omega (arith, v.never_falls, c.in-Err.ensures.bytes_read.never_falls) }
+
+pub returns-then-same-clause-bytes_read : goal.returns-then-same-clause-bytes_read
+returns-then-same-clause-bytes_read g c d =
+    let v = c.loop-k.invariant in
+    let none : Noted = record { mark = 0; key_len = 0; at = 0 } in
+    let one = one_compared c.args.sorted.now c.args.i c.loop-k.k d none c.loop-k-test.true v.within c.requires.within c.if-other-last.false in
+    record { no_more = omega (arith, v.no_more d, one, c.in-Ok.ensures.bytes_read.no_more); never_falls = omega (arith, v.never_falls, c.in-Ok.ensures.bytes_read.never_falls) }
+
+pub returns-clause-bytes_read : goal.returns-clause-bytes_read
+returns-clause-bytes_read g c d = let v = c.loop-k.invariant in record { no_more = omega (arith, v.no_more d); never_falls = v.never_falls }

@@ -1,10 +1,15 @@
 -- The first fault of the chains, that of the free list, and what both walks leave.
-use Rattle.std.proofs.Common.{◌∙◌, ap, inl, inr, length, refl, rules}
+use Rattle.std.proofs.Common.{◌+◌, ◌∙◌, ap, inl, inr, length, refl, arith, rules}
+use Rattle.std.specs.Prelude.{sum_by}
 use Rattle.std.proofs.lemmas.Result.{err_from_is_err_and}
+use Rattle.tdb_disk.specs.Count.{RoseUpTo}
 use Rattle.tdb_space.specs.Form.{free_head}
+use Rattle.tdb_space.specs.Chain.{free_of}
 use Rattle.tdb_space.specs.FirstFault.{free_list, FirstInList}
 use Rattle.tdb_check.proofs.AllLists.{lists_followed}
 use Rattle.tdb_check.proofs.Following.{names_then}
+use Rattle.tdb_check.specs.Reads.{record_reads}
+use Rattle.tdb_check.proofs.Rising.{rose_then, rose_within}
 use Rattle.tdb_check.proofs.Still.{still_then}
 use Rattle.tdb_check.proofs.lists.follow_lists.Goals as goal
 
@@ -29,3 +34,24 @@ returns-clause-sound g c told long =
     lists_followed (g.S.Space.form c.args.s.now) (g.S.Space.image c.args.s.now) c.new-extents.result.items _ c.in_ok-live.live c.len-chained.result _ c.new-extents.ensures.items (c.in_ok-live.ensures.sound told long)
     looked.form looked.image (c.in_ok-follow_free_list.ensures.sound told (ap length looked.image ∙ long))
     (search rules) refl c.saturating_sub.ensures (search rules)
+
+pub returns-in_err-follow_free_list-clause-bytes_in_all : goal.returns-in_err-follow_free_list-clause-bytes_in_all
+returns-in_err-follow_free_list-clause-bytes_in_all g c told long =
+    let looked = c.in_ok-live.ensures.looked in
+    let free = still_then (λ f i. RoseUpTo (4 + sum_by (record_reads f i) (free_of f i)) (g.S.Space.bytes_read c.follow_chains.new.s) (g.S.Space.bytes_read c.follow_free_list.new.s)) looked.form looked.image (c.in_err-follow_free_list.ensures.bytes_read told (ap length looked.image ∙ long)) in
+    rose_then _ _ _ _ _ _ (c.in_ok-live.ensures.bytes_in_all told long) free (omega arith)
+
+pub returns-clause-bytes_in_all : goal.returns-clause-bytes_in_all
+returns-clause-bytes_in_all g c told long =
+    let looked = c.in_ok-live.ensures.looked in
+    let free = still_then (λ f i. RoseUpTo (4 + sum_by (record_reads f i) (free_of f i)) (g.S.Space.bytes_read c.follow_chains.new.s) (g.S.Space.bytes_read c.follow_free_list.new.s)) looked.form looked.image (c.in_ok-follow_free_list.ensures.bytes_read told (ap length looked.image ∙ long)) in
+    rose_then _ _ _ _ _ _ (c.in_ok-live.ensures.bytes_in_all told long) free (omega arith)
+
+pub returns-clause-bytes_read : goal.returns-clause-bytes_read
+returns-clause-bytes_read g c told long =
+    let looked = c.in_ok-live.ensures.looked in
+    let free = still_then (λ f i. RoseUpTo (4 + sum_by (record_reads f i) (free_of f i)) (g.S.Space.bytes_read c.follow_chains.new.s) (g.S.Space.bytes_read c.follow_free_list.new.s)) looked.form looked.image (c.in_ok-follow_free_list.ensures.bytes_read told (ap length looked.image ∙ long)) in
+    rose_then _ _ _ _ _ _ (c.in_ok-live.ensures.bytes_read told long) free (omega arith)
+
+pub returns-in_err-live-clause-bytes_in_all : goal.returns-in_err-live-clause-bytes_in_all
+returns-in_err-live-clause-bytes_in_all g c told long = rose_within _ _ _ _ (c.in_err-live.ensures.bytes_in_all told long) (omega arith)

@@ -2,6 +2,7 @@
 use Rattle.std.proofs.Common.{◌≡◌, ◌+◌, ◌≤◌, length, take, drop, length-take, ◌∙◌, subst, arith, rules}
 use Rattle.tdb_words.specs.HashRun.{Holds}
 use Rattle.tdb_check.proofs.Windows.{pieces_join}
+use Rattle.tdb_check.proofs.Rising.{rose_then, rose_within}
 use Rattle.tdb_check.proofs.record.long_hash.Goals as goal
 
 pub loop-done-preserved : goal.loop-done-preserved
@@ -15,6 +16,16 @@ loop-done-preserved g c =
           (let piece = c.in_ok-read.ensures.bytes told ∙ (λ j. take (count j) (drop (c.args.off + c.loop-done.done) (c.loop-done.invariant.looked.image j))) in
           subst (Holds c.feed.new.self (g.S.Space.form c.args.s.now).hash c.args.key_len) (pieces_join img c.args.off c.loop-done.done c.min-count.result c.read.new.buf piece)
           (c.feed.ensures (g.S.Space.form c.args.s.now).hash c.args.key_len (take c.loop-done.done (drop c.args.off img)) (c.loop-done.invariant.held told)));
+      bytes_read = rose_then _ _ _ _ _ _ c.loop-done.invariant.bytes_read c.in_ok-read.ensures.bytes_read (omega (arith, count));
       looked = search rules;
       faults = search rules;
     }
+
+pub returns-in_err-read-clause-bytes_read : goal.returns-in_err-read-clause-bytes_read
+returns-in_err-read-clause-bytes_read g c =
+    let within : c.loop-done.done + c.min-count.result ≤ c.args.key_len = omega (arith, c.min-count.ensures) in
+    let count : length (take c.min-count.result c.loop-done.buf) ≡ c.min-count.result = omega (arith, length-take c.min-count.result c.loop-done.buf, c.min-count.ensures, c.min-count.array_long) in
+    rose_then _ _ _ _ _ _ c.loop-done.invariant.bytes_read c.in_err-read.ensures.bytes_read (omega (arith, count, within))
+
+pub returns-clause-bytes_read : goal.returns-clause-bytes_read
+returns-clause-bytes_read g c = rose_within _ _ _ _ c.loop-done.invariant.bytes_read (omega (arith, c.loop-done.invariant.within))

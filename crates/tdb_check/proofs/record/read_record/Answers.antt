@@ -5,6 +5,8 @@ use Rattle.tdb_words.specs.Hash.{h_of}
 use Rattle.tdb_words.specs.Record.{rec_at}
 use Rattle.tdb_check.specs.Seen.{kind_of, is_bad_header, is_misfiled_header}
 use Rattle.tdb_check.proofs.Judged.{header_seen, window_again, bad_found, tailer_found, unused_good, misfiled_found, good_found}
+use Rattle.tdb_check.proofs.Rising.{rose_then}
+use Rattle.tdb_check.proofs.Fetched.{used_reads}
 use Rattle.tdb_check.proofs.record.read_record.Goals as goal
 
 pub returns-then-is_bad-clause-bad : goal.returns-then-is_bad-clause-bad
@@ -92,3 +94,36 @@ returns-clause-good g c told long =
     let placed : c.is_misfiled.result ≡ is_misfiled_header (kind_of c.args.kind) c.header_in-r.result c.in_ok-own_hash.own_hash f.chains =
     c.is_misfiled.ensures ∙ ap (is_misfiled_header (kind_of c.args.kind) c.header_in-r.result c.in_ok-own_hash.own_hash) chains in
     (good_found f (kind_of c.args.kind) img c.args.at c.args.len c.header_in-r.result is long c.in_ok-tailer.tailer c.in_ok-own_hash.own_hash good t c.if-tailer-r.false key c.if-r-ne-USED.false (sym placed ∙ c.if-is_misfiled.false), is)
+
+pub returns-in_err-own_hash-clause-bytes_read : goal.returns-in_err-own_hash-clause-bytes_read
+returns-in_err-own_hash-clause-bytes_read g c told long =
+    let f = g.S.Space.form c.args.s.now in
+    let img = g.S.Space.image c.args.s.now in
+    let a = c.in_ok-held.ensures in
+    let order : c.order.result ≡ f.order = c.order.ensures ∙ ap (λ x. x.order) a.looked.form in
+    let is : c.header_in-r.result ≡ rec_at f.order img c.args.at = c.header_in-r.ensures ∙ (λ j. rec_at (order j) (take c.in_ok-held.held c.fill.new.buf) 0)
+    ∙ header_seen f.order img (take c.in_ok-held.held c.fill.new.buf) c.args.at c.in_ok-held.held a.held.0 (a.shows told) in
+    let all = used_reads f img c.args.at c.header_in-r.result is c.if-r-ne-USED.false in
+    rose_then 132 c.header_in-r.result.key_len _ _ _ _ (rose_then _ _ _ _ _ _ a.bytes_read c.in_ok-tailer.ensures.bytes_read (omega arith)) c.in_err-own_hash.ensures.bytes_read (omega (arith, all))
+
+pub returns-then-is_misfiled-clause-bytes_read : goal.returns-then-is_misfiled-clause-bytes_read
+returns-then-is_misfiled-clause-bytes_read g c told long =
+    let f = g.S.Space.form c.args.s.now in
+    let img = g.S.Space.image c.args.s.now in
+    let a = c.in_ok-held.ensures in
+    let order : c.order.result ≡ f.order = c.order.ensures ∙ ap (λ x. x.order) a.looked.form in
+    let is : c.header_in-r.result ≡ rec_at f.order img c.args.at = c.header_in-r.ensures ∙ (λ j. rec_at (order j) (take c.in_ok-held.held c.fill.new.buf) 0)
+    ∙ header_seen f.order img (take c.in_ok-held.held c.fill.new.buf) c.args.at c.in_ok-held.held a.held.0 (a.shows told) in
+    let all = used_reads f img c.args.at c.header_in-r.result is c.if-r-ne-USED.false in
+    rose_then 132 c.header_in-r.result.key_len _ _ _ _ (rose_then _ _ _ _ _ _ a.bytes_read c.in_ok-tailer.ensures.bytes_read (omega arith)) c.in_ok-own_hash.ensures.bytes_read (omega (arith, all))
+
+pub returns-clause-bytes_read : goal.returns-clause-bytes_read
+returns-clause-bytes_read g c told long =
+    let f = g.S.Space.form c.args.s.now in
+    let img = g.S.Space.image c.args.s.now in
+    let a = c.in_ok-held.ensures in
+    let order : c.order.result ≡ f.order = c.order.ensures ∙ ap (λ x. x.order) a.looked.form in
+    let is : c.header_in-r.result ≡ rec_at f.order img c.args.at = c.header_in-r.ensures ∙ (λ j. rec_at (order j) (take c.in_ok-held.held c.fill.new.buf) 0)
+    ∙ header_seen f.order img (take c.in_ok-held.held c.fill.new.buf) c.args.at c.in_ok-held.held a.held.0 (a.shows told) in
+    let all = used_reads f img c.args.at c.header_in-r.result is c.if-r-ne-USED.false in
+    rose_then 132 c.header_in-r.result.key_len _ _ _ _ (rose_then _ _ _ _ _ _ a.bytes_read c.in_ok-tailer.ensures.bytes_read (omega arith)) c.in_ok-own_hash.ensures.bytes_read (omega (arith, all))

@@ -1,15 +1,18 @@
 -- The first fault of each stage, and the counts where no stage has one.
-use Rattle.std.proofs.Common.{◌≡◌, ◌++◌, None, Some, length, sum_by, sym, ◌∙◌, ap}
+use Rattle.std.proofs.Common.{◌≡◌, ◌+◌, ◌++◌, None, Some, length, sum_by, sym, ◌∙◌, ap, arith}
 use Rattle.std.proofs.lemmas.Result.{err_from_is_err_and}
+use Rattle.tdb_disk.specs.Count.{RoseUpTo}
 use Rattle.tdb_space.specs.Form.{form_of, data_start}
 use Rattle.tdb_space.specs.Extents.{area}
 use Rattle.tdb_space.specs.FirstFault.{HeadsSound, area_fault, at_front, at_area}
 use Rattle.tdb_check.specs.Area.{area_seen}
 use Rattle.tdb_check.specs.Extent.{extents_seen}
 use Rattle.tdb_check.specs.Lists.{ListsFollowed, FirstInLists}
+use Rattle.tdb_check.specs.Reads.{lists_reads}
 use Rattle.tdb_check.specs.Stray.{FirstAmong, NoFaultAmong}
 use Rattle.tdb_check.proofs.Checked.{lists_first, extents_first, all_accepted}
 use Rattle.tdb_check.proofs.Following.{names_then}
+use Rattle.tdb_check.proofs.Rising.{rose_then, rose_within}
 use Rattle.tdb_check.proofs.Still.{still_then}
 use Rattle.tdb_check.proofs.whole_file.check.Goals as goal
 
@@ -85,3 +88,69 @@ returns-clause-accepted g c told same =
     (still_then (λ f i. NoFaultAmong (extents_seen c.put_area.new.extents.items) (data_start f) i c.in_ok-dead_bytes.dead_bytes) (third.form ∙ second.form ∙ first.form ∙ front.1) (third.image ∙ second.image ∙ first.image)
     (c.in_ok-dead_bytes.ensures.clean told (ap length (third.image ∙ second.image ∙ first.image) ∙ long)))
     (c.area_len.ensures ∙ ap (sum_by (λ e. e.1)) there)
+
+pub returns-in_err-len-clause-bytes_in_all : goal.returns-in_err-len-clause-bytes_in_all
+returns-in_err-len-clause-bytes_in_all g c told = rose_within _ _ _ _ c.in_err-len.ensures.bytes_read (omega arith)
+
+pub returns-in_err-area-clause-bytes_in_all : goal.returns-in_err-area-clause-bytes_in_all
+returns-in_err-area-clause-bytes_in_all g c told = rose_within _ _ _ _ (rose_then _ _ 196 _ _ _ c.in_ok-len.ensures.bytes_read c.in_err-area.ensures.bytes_read (omega arith)) (omega arith)
+
+pub returns-in_err-lists-clause-bytes_in_all : goal.returns-in_err-lists-clause-bytes_in_all
+returns-in_err-lists-clause-bytes_in_all g c told =
+    let f = g.S.Space.form c.args.s.now in
+    let img = g.S.Space.image c.args.s.now in
+    let first = c.in_ok-len.ensures.looked in
+    let second = c.in_ok-area.ensures.looked in
+    let long : length img ≡ c.in_ok-len.len = g.met.S.Space.told_size c.args.s.now told ∙ sym c.in_ok-len.ensures.length in
+    let heads = rose_then _ _ 196 _ _ _ c.in_ok-len.ensures.bytes_read c.in_ok-area.ensures.bytes_read (omega arith) in
+    let lists = still_then (λ h i. RoseUpTo (lists_reads 65 h i) (g.S.Space.bytes_read c.read_area.new.s) (g.S.Space.bytes_read c.follow_lists.new.s)) (second.form ∙ first.form) (second.image ∙ first.image)
+    (c.in_err-lists.ensures.bytes_in_all told (ap length (second.image ∙ first.image) ∙ long)) in
+    rose_then _ _ _ _ _ _ heads lists (omega arith)
+
+pub returns-in_err-put_area-clause-bytes_in_all : goal.returns-in_err-put_area-clause-bytes_in_all
+returns-in_err-put_area-clause-bytes_in_all g c told =
+    let f = g.S.Space.form c.args.s.now in
+    let img = g.S.Space.image c.args.s.now in
+    let first = c.in_ok-len.ensures.looked in
+    let second = c.in_ok-area.ensures.looked in
+    let long : length img ≡ c.in_ok-len.len = g.met.S.Space.told_size c.args.s.now told ∙ sym c.in_ok-len.ensures.length in
+    let heads = rose_then _ _ 196 _ _ _ c.in_ok-len.ensures.bytes_read c.in_ok-area.ensures.bytes_read (omega arith) in
+    let lists = still_then (λ h i. RoseUpTo (lists_reads 65 h i) (g.S.Space.bytes_read c.read_area.new.s) (g.S.Space.bytes_read c.follow_lists.new.s)) (second.form ∙ first.form) (second.image ∙ first.image)
+    (c.in_ok-lists.ensures.bytes_in_all told (ap length (second.image ∙ first.image) ∙ long)) in
+    rose_then _ _ _ _ _ _ heads lists (omega arith)
+
+pub returns-in_err-dead_bytes-clause-bytes_in_all : goal.returns-in_err-dead_bytes-clause-bytes_in_all
+returns-in_err-dead_bytes-clause-bytes_in_all g c told =
+    let f = g.S.Space.form c.args.s.now in
+    let img = g.S.Space.image c.args.s.now in
+    let first = c.in_ok-len.ensures.looked in
+    let second = c.in_ok-area.ensures.looked in
+    let long : length img ≡ c.in_ok-len.len = g.met.S.Space.told_size c.args.s.now told ∙ sym c.in_ok-len.ensures.length in
+    let heads = rose_then _ _ 196 _ _ _ c.in_ok-len.ensures.bytes_read c.in_ok-area.ensures.bytes_read (omega arith) in
+    let lists = still_then (λ h i. RoseUpTo (lists_reads 65 h i) (g.S.Space.bytes_read c.read_area.new.s) (g.S.Space.bytes_read c.follow_lists.new.s)) (second.form ∙ first.form) (second.image ∙ first.image)
+    (c.in_ok-lists.ensures.bytes_in_all told (ap length (second.image ∙ first.image) ∙ long)) in
+    rose_then (196 + lists_reads 65 f img) _ _ _ _ _ (rose_then _ _ _ _ _ _ heads lists (omega arith)) c.in_err-dead_bytes.ensures.bytes_read (omega (arith, long))
+
+pub returns-clause-bytes_in_all : goal.returns-clause-bytes_in_all
+returns-clause-bytes_in_all g c told =
+    let f = g.S.Space.form c.args.s.now in
+    let img = g.S.Space.image c.args.s.now in
+    let first = c.in_ok-len.ensures.looked in
+    let second = c.in_ok-area.ensures.looked in
+    let long : length img ≡ c.in_ok-len.len = g.met.S.Space.told_size c.args.s.now told ∙ sym c.in_ok-len.ensures.length in
+    let heads = rose_then _ _ 196 _ _ _ c.in_ok-len.ensures.bytes_read c.in_ok-area.ensures.bytes_read (omega arith) in
+    let lists = still_then (λ h i. RoseUpTo (lists_reads 65 h i) (g.S.Space.bytes_read c.read_area.new.s) (g.S.Space.bytes_read c.follow_lists.new.s)) (second.form ∙ first.form) (second.image ∙ first.image)
+    (c.in_ok-lists.ensures.bytes_in_all told (ap length (second.image ∙ first.image) ∙ long)) in
+    rose_then (196 + lists_reads 65 f img) _ _ _ _ _ (rose_then _ _ _ _ _ _ heads lists (omega arith)) c.in_ok-dead_bytes.ensures.bytes_read (omega (arith, long))
+
+pub returns-clause-bytes_read : goal.returns-clause-bytes_read
+returns-clause-bytes_read g c told =
+    let f = g.S.Space.form c.args.s.now in
+    let img = g.S.Space.image c.args.s.now in
+    let first = c.in_ok-len.ensures.looked in
+    let second = c.in_ok-area.ensures.looked in
+    let long : length img ≡ c.in_ok-len.len = g.met.S.Space.told_size c.args.s.now told ∙ sym c.in_ok-len.ensures.length in
+    let heads = rose_then _ _ 196 _ _ _ c.in_ok-len.ensures.bytes_read c.in_ok-area.ensures.bytes_read (omega arith) in
+    let lists = still_then (λ h i. RoseUpTo (lists_reads 1 h i) (g.S.Space.bytes_read c.read_area.new.s) (g.S.Space.bytes_read c.follow_lists.new.s)) (second.form ∙ first.form) (second.image ∙ first.image)
+    (c.in_ok-lists.ensures.bytes_read told (ap length (second.image ∙ first.image) ∙ long)) in
+    rose_then (196 + lists_reads 1 f img) _ _ _ _ _ (rose_then _ _ _ _ _ _ heads lists (omega arith)) c.in_ok-dead_bytes.ensures.bytes_read (omega (arith, long))

@@ -5,8 +5,10 @@ use Rattle.std.proofs.lemmas.List.{length-map}
 use Rattle.std.proofs.lemmas.List.Elements.{All-take}
 use Rattle.std.proofs.lemmas.List.Sorted.{length_permutation}
 use Rattle.tdb_words.specs.Hash.{h_of}
-use Rattle.tdb_check.specs.Keys.{AllNoted, IsNoted, NotedDiffer, mixed, mixed_mark}
+use Rattle.tdb_check.specs.Keys.{AllNoted, IsNoted, NotedDiffer, NoLargeGroup, mixed, mixed_mark}
 use Rattle.tdb_check.proofs.Notings.{ok_then, err_then, mixed_apart, mixed_noted, mixed_twins}
+use Rattle.tdb_check.proofs.Pairs.{few_reads}
+use Rattle.tdb_check.proofs.Rising.{rose_within}
 use Rattle.tdb_check.proofs.keys.Keys.has_twins.Goals as goal
 
 pub returns-then-not-has_equal_marks-clause-twins : goal.returns-then-not-has_equal_marks-clause-twins
@@ -69,3 +71,14 @@ returns-clause-no_fault g c =
     (mixed_noted f img (take c.args.count all) c.copy_mixed.new.sorted.items c.sort_by_mark.new.sorted.items c.deref-4.result.now copied c.sort_by_mark.ensures.same c.deref-4.ensures.value
     (All-take (IsNoted (h_of f.hash) f img) c.args.count all each)))
     c.any_twins.ensures.no_fault
+
+pub returns-clause-bytes_read : goal.returns-clause-bytes_read
+returns-clause-bytes_read g c told long each =
+    let f = g.S.Space.form c.args.s.now in
+    let img = g.S.Space.image c.args.s.now in
+    let all = c.args.self.now.noted.items in
+    let copied = c.in_ok-copy_mixed.ensures ∙ ap (λ es. map mixed (take c.args.count es)) c.deref.ensures.value in
+    let few : NoLargeGroup c.deref-4.result.now (length c.deref-4.result.now) =
+    subst (λ es. NoLargeGroup es (length es)) (c.deref-3.ensures.value ∙ sym c.deref-4.ensures.value) (c.has_large_group.ensures.small c.if-has_large_group.false) in
+    rose_within _ _ _ _ c.any_twins.ensures.bytes_read
+    (few_reads f img (take c.args.count all) c.copy_mixed.new.sorted.items c.sort_by_mark.new.sorted.items c.deref-4.result.now copied c.sort_by_mark.ensures.same c.deref-4.ensures.value c.sort_by_mark.ensures.ordered few)
