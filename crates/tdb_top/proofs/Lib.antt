@@ -15,6 +15,8 @@ pub mod Acting
 pub mod Restoring
 pub mod Looking
 pub mod BackingUp
+pub mod BackupNames
+pub mod LineWords
 pub mod Writing
 pub mod OneAnswer
 pub mod Copies

@@ -1,5 +1,5 @@
 -- Plays over an opened image, from a world just loaded.
-use Rattle.std.proofs.Common.{◌≡◌, ◌⊎◌, ℕ, true, List, [], ◌++◌, Result, Ok, Err, refl, sym, ◌∙◌, ap, subst, inl, inr, arith}
+use Rattle.std.proofs.Common.{◌≡◌, ℕ, List, ◌++◌, Ok, Err, refl, sym, ◌∙◌, ap, subst}
 use Rattle.std.specs.Prelude.{Bool, IsTrue}
 use Rattle.tdb_space.specs.Form.{Form, form_in}
 use Rattle.tdb_backup.specs.Dump.{WroteFront}
@@ -9,7 +9,6 @@ use Rattle.tdb_law.specs.Openers.{Map}
 use Rattle.tdb_law.specs.Lines.{IsLawful}
 use Rattle.tdb_law.specs.World.{State}
 use Rattle.tdb_plays.specs.InLaw.{law_plays, law_line, law_lines}
-use Rattle.tdb_plays.specs.declared.line.Line.{Line}
 use Rattle.tdb_plays.specs.declared.play.Play.{Play}
 use Rattle.tdb_script.specs.Text.{report_text}
 use Rattle.tdb_world.specs.Openers.{options_of}
@@ -17,7 +16,7 @@ use Rattle.tdb_world.specs.Finished.{unfinished}
 use Rattle.tdb_world.proofs.Finishing.{report_lawful}
 use Rattle.tdb_world.specs.Worlds.{World, state_in}
 use Rattle.tdb_world.specs.declared.options.Options.{Options}
-use Rattle.tdb_top.specs.Commands.Turns.{IsOver, LeadsTo, CameTo, beginning_over, PlayedWhole, CameOver, IsReport, report_so_far, report_whole}
+use Rattle.tdb_top.specs.Commands.Turns.{IsOver, LeadsTo, beginning_over, CameOver, report_so_far, report_whole}
 use Rattle.tdb_top.specs.declared.ending.Unprinted.TheVariants as Rest
 use Rattle.tdb_top.specs.declared.halt.Fault.TheVariants as F
 use Rattle.tdb_top.specs.Playing.{PlaysEnd, IsUnbroken, TellsAll, TellsFront, RunsTo, PlayedFront, PlayedOver}

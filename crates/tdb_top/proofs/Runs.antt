@@ -28,7 +28,7 @@ use Rattle.tdb_top.specs.Commands.Backup.{BackupLeaves, EndsBackup}
 use Rattle.tdb_top.specs.Input.{Input}
 use Rattle.tdb_top.specs.Output.{Output}
 use Rattle.tdb_top.specs.Reads.{reads_input, ask_reads, AskEnds}
-use Rattle.tdb_top.specs.Commands.Turns.{TurnOpened, IsPlayed, IsPlayedSoFar, TurnsLeft, TurnsLeave}
+use Rattle.tdb_top.specs.Commands.Turns.{TurnOpened, IsPlayed, TurnsLeft, TurnsLeave}
 use Rattle.tdb_world.specs.declared.options.Options.{Options}
 use Rattle.tdb_top.specs.Opening.{opened_bytes, OpensToRead, HeldOrUndone, SameOrUndone, UndoneIfOpen}
 use Rattle.tdb_top.specs.Run.{Run, MayEnd, is_due, is_read, is_copied, is_played, call_failed, memory_wanting, TellsFault, ActsOn, LooksInto, RefusesExactly, KeepsAll, ActRun, MakingRun, RestoringRun, BackupRun, TurnsRun, IsCopyName, LeavesFiles, Accounted}

@@ -1,7 +1,6 @@
 -- A world serves the plays of a script: each command of its tables, with a key and a value no longer than the script.
-use Rattle.std.proofs.Common.{◌≡◌, ℕ, ◌<◌, ◌≤◌, List, [], ◌∷◌, length, refl, sym, ◌∙◌, ap, subst, Bool, true, false, Option, Some, None, unwrap_or, inl, inr, arith}
+use Rattle.std.proofs.Common.{◌≡◌, ℕ, ◌<◌, ◌≤◌, List, [], ◌∷◌, length, sym, ap, subst, Bool, true, false, Option, Some, None, unwrap_or, inl, inr, arith}
 use Rattle.std.specs.Prelude.{◌^◌, if◌then◌else◌}
-use Rattle.std.specs.List.{All}
 use Rattle.std.specs.Str.{bytes_eq}
 use Rattle.std.proofs.lemmas.List.Elements.{All-nil, All-cons}
 use Rattle.tdb_dump.specs.Word.{IsWord}

@@ -3,7 +3,7 @@ use Rattle.std.proofs.Common.{◌≡◌, ◌⊎◌, ℕ, ◌<◌, ◌≤◌, tru
 use Rattle.std.specs.Prelude.{Bool, IsTrue, IfOk, IfErr, OnOk}
 use Rattle.std.proofs.lemmas.Bool.{false≢true}
 use Rattle.std.proofs.lemmas.List.{append-nil, take_all}
-use Rattle.tdb_disk.specs.Count.{Rose, HasCauseOf}
+use Rattle.tdb_disk.specs.Count.{Rose}
 use Rattle.tdb_disk.specs.History.{History, seen}
 use Rattle.tdb_disk.specs.declared.files.TakeRefusal.{TakeRefusal}
 use Rattle.tdb_disk.specs.declared.files.TakeRefusal.TheVariants as Take
@@ -11,7 +11,6 @@ use Rattle.tdb_space.specs.Form.{form_of}
 use Rattle.tdb_space.specs.Opening.{Opens}
 use Rattle.tdb_space.proofs.RecoverySteps.Steps.{restored_length}
 use Rattle.tdb_space.proofs.Opening.Undone.{old_length, read_as_it_is}
-use Rattle.tdb_backup.specs.Dump.{WroteFront}
 use Rattle.tdb_plays.specs.declared.play.Play.{Play}
 use Rattle.tdb_script.specs.Script.{Script, BadAt, IsRefused as NoScript}
 use Rattle.tdb_script.specs.declared.script.ScriptRefusal.{ScriptRefusal}
@@ -30,19 +29,18 @@ use Rattle.tdb_top.specs.declared.ending.Unprinted.TheVariants as Rest
 use Rattle.tdb_top.specs.declared.halt.Fault.TheVariants as F
 use Rattle.tdb_top.specs.declared.halt.Halt.{Halt}
 use Rattle.tdb_top.specs.declared.halt.Halt.TheVariants as H
-use Rattle.tdb_top.specs.declared.halt.Refusal.{Refusal}
 use Rattle.tdb_top.specs.declared.halt.Refusal.TheVariants.{TooLong}
 use Rattle.tdb_top.specs.declared.opening.Opened.{Opened}
 use Rattle.tdb_top.specs.declared.scripts.ScriptFault.{ScriptFault}
 use Rattle.tdb_top.specs.declared.scripts.ScriptFault.TheVariants as Bad
 use Rattle.tdb_top.specs.Commands.Restore.{HeardBy, of_input}
-use Rattle.tdb_top.specs.Commands.Turns.{IsScript, OpensToTurn, RefusedBy, IsRefusedToTurn, TurnOpened, PlaysSo, script_unread, script_bad, no_file, file_refused, file_opened, CameTo, PlayedWhole, CameOver, IsReport, report_whole, IsOpened, IsPlayed, IsPlayedSoFar, ReportFront, TurnsText, TurnsLeave, AllPlayed}
-use Rattle.tdb_top.specs.Ending.{TaskCause, task_failed, task_wanting, Untaken, of_halt, CountedIf}
+use Rattle.tdb_top.specs.Commands.Turns.{IsScript, RefusedBy, TurnOpened, PlaysSo, script_unread, script_bad, no_file, file_refused, file_opened, PlayedWhole, CameOver, IsReport, report_whole, IsOpened, IsPlayedSoFar, ReportFront, TurnsText, TurnsLeave, AllPlayed}
+use Rattle.tdb_top.specs.Ending.{task_failed, task_wanting, Untaken, of_halt, CountedIf}
 use Rattle.tdb_top.specs.Input.{Input}
 use Rattle.tdb_top.specs.Looks.{ending_of, Began}
-use Rattle.tdb_top.specs.Opening.{opened_bytes, CanOpen, IsRefused, IsRefusedToRead, CanRead, IsOpenedOn, HaltsRightly, ReadHaltsRightly, HaltLeaves, SameOrUndone, UndoneIfOpen}
+use Rattle.tdb_top.specs.Opening.{opened_bytes, CanOpen, CanRead, IsOpenedOn, HaltsRightly, ReadHaltsRightly, HaltLeaves, UndoneIfOpen}
 use Rattle.tdb_top.specs.Output.{Output}
-use Rattle.tdb_top.specs.Playing.{PlaysEnd, PlayedFront, PlayedOver, OpenedToTurn, PlayedOn, end_told, PlayedFile, file_unplayed, file_played, PlayedAll, PlaysCause, plays_nowhere, plays_refused, plays_opened, plays_failed, plays_wanting}
+use Rattle.tdb_top.specs.Playing.{PlayedFront, OpenedToTurn, PlayedFile, file_unplayed, file_played, PlayedAll, PlaysCause, plays_nowhere, plays_refused, plays_opened, plays_failed, plays_wanting}
 use Rattle.tdb_top.specs.Reads.{AskCause}
 use Rattle.tdb_top.specs.Scripts.{IsUnscripted, of_script, unscripted}
 use Rattle.tdb_top.proofs.Openings.{closed_reads, same_or_undone}

@@ -4,19 +4,18 @@ use Rattle.std.specs.Prelude.{Bool, IsTrue, unwrap_or}
 use Rattle.std.proofs.lemmas.Bool.{false≢true}
 use Rattle.std.proofs.lemmas.List.{append-nil}
 use Rattle.tdb_disk.specs.History.{History}
-use Rattle.tdb_top.specs.declared.ask.Task.TheVariants.{Restore, Turns}
+use Rattle.tdb_top.specs.declared.ask.Task.TheVariants.{Turns}
 use Rattle.tdb_top.specs.declared.ending.Ending.{Ending}
-use Rattle.tdb_top.specs.declared.ending.Ending.TheVariants.{Replied, Refused, Missing, DeviceFault, InputFault, Malformed, NoMemory}
+use Rattle.tdb_top.specs.declared.ending.Ending.TheVariants.{Replied, Refused}
 use Rattle.tdb_top.specs.declared.ending.Reply.TheVariants.{Played}
 use Rattle.tdb_top.specs.declared.ending.Unprinted.{Unprinted}
-use Rattle.tdb_top.specs.declared.halt.Refusal.{Refusal}
 use Rattle.tdb_world.specs.declared.options.Options.{Options}
 use Rattle.tdb_top.specs.Ask.{Ask}
 use Rattle.tdb_top.specs.Commands.Turns.{PlaysSo, script_unread, script_bad, no_file, file_refused, file_opened, IsPlayed, AllPlayed}
 use Rattle.tdb_top.specs.Ending.{status_of, text_of, PrintedFor, Due}
 use Rattle.tdb_top.specs.Input.{Input}
 use Rattle.tdb_top.specs.Looks.{ending_of}
-use Rattle.tdb_top.specs.Output.{Output, output_by}
+use Rattle.tdb_top.specs.Output.{output_by}
 use Rattle.tdb_top.specs.Printed.{Finishes}
 use Rattle.tdb_top.specs.Run.{MayEnd, is_due, is_read, is_copied, is_played, call_failed, memory_wanting}
 use Rattle.tdb_top.proofs.Runs.{reads_turns, refusal_status}

@@ -16,6 +16,7 @@ use Rattle.tdb_top.specs.Commands.Delete.{delete_of}
 use Rattle.tdb_top.specs.Commands.Erase.{erase_of}
 use Rattle.tdb_top.specs.Commands.Create.{create_of}
 use Rattle.tdb_top.specs.Commands.Backup.{BackupFits}
+use Rattle.tdb_top.specs.Commands.BackupLine.{asks_of_words}
 use Rattle.tdb_top.specs.Commands.Dump.{dump_of_words, file_alone}
 use Rattle.tdb_top.specs.Commands.Turns.{turns_of_words}
 use Rattle.tdb_top.specs.declared.limits.TheConstants.{LONGEST_FILE}
@@ -60,9 +61,9 @@ dump_asks words = option_map (λ found. record { file = found.0; task = Read fou
 abbrev pub restore_asks : List (List ℕ) → Option Ask
 restore_asks words = option_map (λ file. record { file = file; task = Restore LONGEST_FILE }) (file_alone words)
 
--- what the words behind `backup` ask for: FILE alone
+-- what the words behind `backup` ask for
 abbrev pub backup_asks : List (List ℕ) → Option Ask
-backup_asks words = option_map (λ file. record { file = file; task = Backup [] (codes ".bak") }) (file_alone words)
+backup_asks words = option_map (λ found. record { file = found.0; task = found.1 }) (asks_of_words words)
 
 -- what the words behind `turns` ask for
 abbrev pub turns_asks : List (List ℕ) → Option Ask

@@ -8,4 +8,5 @@ pub mod Create
 pub mod Dump
 pub mod Restore
 pub mod Backup
+pub mod BackupLine
 pub mod Turns

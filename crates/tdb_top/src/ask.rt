@@ -23,7 +23,7 @@ use crate::commands::backup::back_up;
 use crate::commands::create::{NewForm, create_file};
 use crate::commands::restore::restore_file;
 use crate::commands::turns::turns_on_file;
-use crate::commands::{check, create, delete, dump, erase, insert, show, turns};
+use crate::commands::{backup_line, check, create, delete, dump, erase, insert, show, turns};
 use crate::ending::{Ending, Unprinted};
 use crate::limits::LONGEST_FILE;
 use crate::look::Look;
@@ -148,15 +148,13 @@ impl Ask {
         ensures read { IfOk result (λ ask. option_map asked ask ≡ backup_asks (map string_bytes words.now)) }
         ensures fits { IfOk result (λ ask. IfSome ask (λ a. TaskFits (string_bytes a.file) a.task)) }
     {
-        let Some(file) = dump::file_alone(words) else {
-            return Ok(None);
-        };
-        let file = String::from_str(alloc, file)?;
-        let task = Task::Backup {
-            more: Names::new(alloc),
-            suffix: Text::copy(alloc, ".bak")?,
-        };
-        Ok(Some(Ask { file, task }))
+        match backup_line::read(alloc, words)? {
+            Some((file, task)) => {
+                let file = file.into_string();
+                Ok(Some(Ask { file, task }))
+            }
+            None => Ok(None),
+        }
     }
 
     /// What the words behind `turns` ask for.

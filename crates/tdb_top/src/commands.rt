@@ -1,6 +1,7 @@
 // The commands, each with the reading of its arguments and what it does.
 
 pub(crate) mod backup;
+pub(crate) mod backup_line;
 pub(crate) mod check;
 pub(crate) mod create;
 pub(crate) mod delete;

@@ -1,6 +1,6 @@
 // Texts and lists of names, as contracts see them: by their bytes.
 
-ghost use Rattle.std.specs.Prelude.{◌≡◌, ℕ, List, [], ◌∷◌, ◌++◌, map, string_bytes, IfOk, OnOk};
+ghost use Rattle.std.specs.Prelude.{◌≡◌, ℕ, List, [], ◌∷◌, ◌++◌, string_bytes, IfOk, OnOk};
 
 use std::alloc::{AllocError, Global};
 use std::marker::Model;
@@ -27,23 +27,38 @@ impl Text {
         })
     }
 
+    /// `front` with `rest` behind it.
+    pub(crate) fn joined(alloc: Global, front: &str, rest: &str) -> Result<Text, AllocError>
+        ensures { IfOk result (λ text. text ≡ front.now ++ rest.now) }
+    {
+        let mut text = String::from_str(alloc, front)?;
+        text.push_str(rest)?;
+        Ok(Text { text })
+    }
+
     pub(crate) fn as_str(&self) -> &str
         ensures { result.now ≡ self.now }
     {
         self.text.as_str()
+    }
+
+    pub(crate) fn into_string(self) -> String
+        ensures { string_bytes result ≡ self }
+    {
+        self.text
     }
 }
 
 /// A list of names. A contract sees it as the list of their bytes.
 #[derive(Debug, Drop)]
 pub(crate) struct Names {
-    items: Vec<String>,
+    items: Vec<Text>,
 }
 
 impl Model for Names {
     ghost Value = { List (List ℕ) };
 
-    ghost view = { λ n. map string_bytes n.items.items };
+    ghost view = { λ n. n.items.items };
 }
 
 impl Names {
@@ -56,8 +71,16 @@ impl Names {
         }
     }
 
-    pub(crate) fn as_slice(&self) -> &[String]
-        ensures { map string_bytes result.now ≡ self.now }
+    /// Puts a name at the end.
+    pub(crate) fn push(&mut self, name: Text) -> Result<(), AllocError>
+        ensures { OnOk result (self.new ≡ self.old ++ name ∷ []) }
+    {
+        self.items.push(name)?;
+        Ok(())
+    }
+
+    pub(crate) fn as_slice(&self) -> &[Text]
+        ensures { result.now ≡ self.now }
     {
         self.items.as_slice()
     }

@@ -72,7 +72,7 @@ fn finish<K: Sink>(alloc: Global, answered: &Result<Ending, Unprinted>, output: 
 /// |---|---|---|
 /// | 0 | the value of the key is shown, the key is added, the file is made, or it is accepted and has `N` keys | `data(N) = "TEXT"`, `ok`, `ok`, `number N` |
 /// | 0 | all pairs are printed, or the value of the one key | their dump text, `TEXT` |
-/// | 0 | the file is made of the pairs on the input | |
+/// | 0 | the file is made of the pairs on the input, or all files are copied | |
 /// | 0 | the plays of the script on the input were taken | their report, line by line |
 /// | 1 | the key isn't there, or is there already | `noexist`, `exists` |
 /// | 2 | the words ask for nothing | the usage |
@@ -98,6 +98,11 @@ fn finish<K: Sink>(alloc: Global, answered: &Result<Ending, Unprinted>, output: 
 /// The command `restore FILE` makes a file as `create` does, reads the input in pieces of 64 KiB, adds each pair without
 /// looking its key up, and syncs: time is linear in the text and in the file. It holds all keys, so as to refuse a
 /// second one. Where not all pairs come into the file, it is removed again.
+///
+/// The command `backup [-s SUFFIX] FILE..` opens each file in turn as a show does, makes a new file at FILE, SUFFIX and
+/// `.tmp`, adds each pair without looking its key up, syncs, and renames the new file to FILE and SUFFIX: time is linear
+/// in the file. The first file that isn't copied ends it. The names of all files and of their copies are kept in memory
+/// before, to tell whether they differ: that takes time by the logarithm of their number for each.
 pub fn run<F: Files, S: Source, K: Sink>(
     alloc: Global,
     words: &[String],

@@ -1,6 +1,6 @@
 -- The command that takes the plays of a script over a file, and prints their report.
-use Rattle.std.specs.Prelude.{◌≡◌, ◌≢◌, ◌⊎◌, ℕ, ◌<◌, ◌≤◌, Bool, true, false, not, if◌then◌else◌, IsTrue, Option, None, Some, is_some, IfSome, List, [], ◌∷◌, ◌++◌, length, take, drop, codes}
-use Rattle.std.specs.Option.{option_map, option_or, option_and_then}
+use Rattle.std.specs.Prelude.{◌≡◌, ◌⊎◌, ℕ, ◌<◌, ◌≤◌, Bool, true, false, if◌then◌else◌, IsTrue, Option, None, Some, is_some, IfSome, List, [], ◌∷◌, ◌++◌, length, take, drop, codes}
+use Rattle.std.specs.Option.{option_map, option_and_then}
 use Rattle.tdb_words.specs.Word.{word}
 use Rattle.tdb_words.specs.Header.{sequence_at}
 use Rattle.tdb_disk.specs.Count.{Rose}

@@ -1,6 +1,6 @@
 // The command that copies files, each to a name beside its own.
 
-ghost use Rattle.std.specs.Prelude.{◌≡◌, ◌≢◌, ◌⊎◌, ◌++◌, ◌<◌, ◌^◌, ℕ, List, [], ◌∷◌, length, codes, false, true, map, string_bytes, IsTrue, IfOk, IfErr, OnOk, OnErr};
+ghost use Rattle.std.specs.Prelude.{◌≡◌, ◌≢◌, ◌⊎◌, ◌<◌, ◌^◌, ℕ, List, [], ◌∷◌, length, false, true, IsTrue, IfOk, IfErr, OnOk, OnErr};
 ghost use Rattle.tdb_disk.specs.Count.{HasCause, HasCauseOf, Rose};
 ghost use Rattle.tdb_disk.specs.History.{seen};
 ghost use Rattle.tdb_disk.specs.Names.{SameBut};
@@ -16,8 +16,9 @@ ghost use Rattle.tdb_top.specs.Opening.{IsCheckedOn};
 use crate::commands::create::{NewForm, make};
 use crate::ending::{Ending, Reply};
 use crate::limits::LONGEST_FILE;
+use crate::names::Text;
 use crate::opening::Opened;
-use std::alloc::{AllocError, Global};
+use std::alloc::Global;
 use tdb_backup::{CopyRefusal, copy_pairs};
 use tdb_disk::{Disk, Files, Take};
 use tdb_space::Direct;
@@ -180,15 +181,6 @@ fn copy_opened<F: Files>(alloc: Global, file: &str, name: &str, files: &mut F) -
     ending
 }
 
-/// A name with more behind it.
-fn longer_name(alloc: Global, name: &str, more: &str) -> Result<String, AllocError>
-    ensures { IfOk result (λ text. string_bytes text ≡ name.now ++ more.now) }
-{
-    let mut text = String::from_str(alloc, name)?;
-    text.push_str(more)?;
-    Ok(text)
-}
-
 /// Copies the file of this name: the copy is made at `new`, and then renamed to `copy`.
 fn back_up_as<F: Files>(alloc: Global, file: &str, copy: &str, new: &str, files: &mut F) -> Ending
     requires copy_differs { copy.now ≢ file.now }
@@ -221,10 +213,10 @@ fn back_up_file<F: Files>(alloc: Global, file: &str, suffix: &str, files: &mut F
     ensures others { (other : List ℕ) → (IsNameOf suffix.now file.now other → ⊥) → F.held files.new other ≡ F.held files.old other }
     ensures given_back { (other : List ℕ) → F.is_taken files.new other ≡ false }
 {
-    let Ok(copy) = longer_name(alloc, file, suffix) else {
+    let Ok(copy) = Text::joined(alloc, file, suffix) else {
         return Ending::NoMemory;
     };
-    let Ok(new) = longer_name(alloc, copy.as_str(), ".tmp") else {
+    let Ok(new) = Text::joined(alloc, copy.as_str(), ".tmp") else {
         return Ending::NoMemory;
     };
     back_up_as(alloc, file, copy.as_str(), new.as_str(), files)
@@ -234,16 +226,16 @@ fn back_up_file<F: Files>(alloc: Global, file: &str, suffix: &str, files: &mut F
 pub(crate) fn back_up<F: Files>(
     alloc: Global,
     file: &str,
-    more: &[String],
+    more: &[Text],
     suffix: &str,
     files: &mut F,
 ) -> Ending
-    requires fits { BackupFits suffix.now (file.now ∷ map string_bytes more.now) }
+    requires fits { BackupFits suffix.now (file.now ∷ more.now) }
     requires free { (other : List ℕ) → F.is_taken files.old other ≡ false }
-    ensures done { IsTrue F.D.tells → BackedUp suffix.now (file.now ∷ map string_bytes more.now) (F.held files.old) (F.held files.new) (F.faults files.old) (F.faults files.new) result }
+    ensures done { IsTrue F.D.tells → BackedUp suffix.now (file.now ∷ more.now) (F.held files.old) (F.held files.new) (F.faults files.old) (F.faults files.new) result }
     ensures known { EndsBackup result }
     ensures counted { CountedBy (F.faults files.old) (F.faults files.new) result }
-    ensures others { (other : List ℕ) → (IsNameAmong suffix.now (file.now ∷ map string_bytes more.now) other → ⊥) → F.held files.new other ≡ F.held files.old other }
+    ensures others { (other : List ℕ) → (IsNameAmong suffix.now (file.now ∷ more.now) other → ⊥) → F.held files.new other ≡ F.held files.old other }
     ensures given_back { (other : List ℕ) → F.is_taken files.new other ≡ false }
 {
     let ending = back_up_file(alloc, file, suffix, files);

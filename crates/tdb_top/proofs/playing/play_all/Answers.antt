@@ -1,4 +1,4 @@
-use Rattle.std.proofs.Common.{◌≡◌, ◌∙◌, true, Ok, Err, ap, subst, rules, sym}
+use Rattle.std.proofs.Common.{◌≡◌, ◌∙◌, true, Ok, Err, ap, subst, rules}
 use Rattle.std.proofs.lemmas.Result.{err_from_is_err_and}
 use Rattle.tdb_space.specs.Form.{form_in}
 use Rattle.tdb_law.specs.Beginning.{IsLoaded}

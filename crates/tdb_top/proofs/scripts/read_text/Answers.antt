@@ -1,5 +1,4 @@
 use Rattle.std.proofs.Common.{[], ◌∙◌, ◌++◌, refl, ap, inl, inr, arith}
-use Rattle.std.proofs.lemmas.List.{append-nil}
 use Rattle.tdb_top.proofs.scripts.read_text.Goals as goal
 
 -- the input ended

@@ -1,4 +1,4 @@
-use Rattle.std.proofs.Common.{◌≡◌, ◌∷◌, ◌+◌, ℕ, List, [], drop, map, string_bytes, rules, refl, sym, ◌∙◌, ap, subst, inl, inr, arith}
+use Rattle.std.proofs.Common.{◌≡◌, ◌∷◌, ◌+◌, ℕ, List, [], drop, rules, refl, sym, ◌∙◌, subst, inl, inr, arith}
 use Rattle.std.proofs.Math.ListN.{drop_of_length-le}
 use Rattle.tdb_top.specs.declared.ending.Ending.TheVariants.{Replied, DeviceFault}
 use Rattle.tdb_top.specs.declared.ending.Reply.TheVariants.{Copied}
@@ -11,7 +11,7 @@ pub returns-then-not-is_copied-clause-done : goal.returns-then-not-is_copied-cla
 returns-then-not-is_copied-clause-done g c told =
     let suffix = c.args.suffix.now in
     let call = c.back_up_file-ending in
-    ended_there suffix c.args.file.now (map string_bytes c.args.more.now) c.requires.fits.differ (g.F.Files.held c.args.files.now) (g.F.Files.held call.new.files) (g.F.Files.faults c.args.files.now) (g.F.Files.faults call.new.files)
+    ended_there suffix c.args.file.now c.args.more.now c.requires.fits.differ (g.F.Files.held c.args.files.now) (g.F.Files.held call.new.files) (g.F.Files.faults c.args.files.now) (g.F.Files.faults call.new.files)
     call.ensures.others call.result call.ensures.known (c.is_copied.ensures.other (search rules)) (call.ensures.done told)
 
 -- it was
@@ -19,7 +19,7 @@ pub loop-name-init : goal.loop-name-init
 loop-name-init g c =
     let suffix = c.args.suffix.now in
     let file = c.args.file.now in
-    let names = map string_bytes c.args.more.now in
+    let names = c.args.more.now in
     let call = c.back_up_file-ending in
     let old = g.F.Files.held c.args.files.now in
     let mid = g.F.Files.held call.new.files in
@@ -45,14 +45,14 @@ returns-then-not-is_copied-2-clause-done g c told =
     let xs = c.args.more.now in
     let i = c.loop-name.name-index in
     let x = c.name-item.result in
-    let rest = map string_bytes (drop (i + 1) xs) in
+    let rest = drop (i + 1) xs in
     let call = c.back_up_file-ending-in-loop-name in
     let held = g.F.Files.held in
     let faults = g.F.Files.faults in
-    let all = c.args.file.now ∷ map string_bytes xs in
-    let eq : map string_bytes (drop i xs) ≡ string_bytes x ∷ rest = ap (map string_bytes) (rest_of xs i x (omega (arith, c.loop-name-test.true)) c.name-item.is) in
-    let value : c.as_str.result.now ≡ string_bytes x = c.as_str.ensures.value in
-    carries_end suffix all (held c.args.files.now) (faults c.args.files.now) (string_bytes x) rest (held c.loop-name.files) (held call.new.files) (faults c.loop-name.files) (faults call.new.files)
+    let all = c.args.file.now ∷ xs in
+    let eq : drop i xs ≡ x ∷ rest = rest_of xs i x (omega (arith, c.loop-name-test.true)) c.name-item.is in
+    let value : c.as_str.result.now ≡ x = c.as_str.ensures in
+    carries_end suffix all (held c.args.files.now) (faults c.args.files.now) x rest (held c.loop-name.files) (held call.new.files) (faults c.loop-name.files) (faults call.new.files)
     (subst (NamesDiffer suffix) eq c.loop-name.invariant.differ)
     (subst (λ l. Carries suffix all (held c.args.files.now) (faults c.args.files.now) l (held c.loop-name.files) (faults c.loop-name.files)) eq (c.loop-name.invariant.carries told))
     (λ name other. call.ensures.others name (λ own. other (subst (λ f. IsNameOf suffix f name) value own)))
@@ -66,18 +66,18 @@ loop-name-preserved g c =
     let xs = c.args.more.now in
     let i = c.loop-name.name-index in
     let x = c.name-item.result in
-    let rest = map string_bytes (drop (i + 1) xs) in
+    let rest = drop (i + 1) xs in
     let call = c.back_up_file-ending-in-loop-name in
     let held = g.F.Files.held in
     let faults = g.F.Files.faults in
-    let all = c.args.file.now ∷ map string_bytes xs in
-    let eq : map string_bytes (drop i xs) ≡ string_bytes x ∷ rest = ap (map string_bytes) (rest_of xs i x (omega (arith, c.loop-name-test.true)) c.name-item.is) in
-    let value : c.as_str.result.now ≡ string_bytes x = c.as_str.ensures.value in
+    let all = c.args.file.now ∷ xs in
+    let eq : drop i xs ≡ x ∷ rest = rest_of xs i x (omega (arith, c.loop-name-test.true)) c.name-item.is in
+    let value : c.as_str.result.now ≡ x = c.as_str.ensures in
     let is : call.result ≡ Replied Copied = c.is_copied-in-loop-name.ensures.copied (search rules) in
     let sound : faults call.new.files ≡ faults c.loop-name.files = call.ensures.counted.sound (λ fault. let both : Replied Copied ≡ DeviceFault = sym is ∙ fault in cc) in
-    let differ : NamesDiffer suffix (string_bytes x ∷ rest) = subst (NamesDiffer suffix) eq c.loop-name.invariant.differ in
-    let within : (name : List ℕ) → IsNameAmong suffix (string_bytes x ∷ rest) name → IsNameAmong suffix all name = subst (λ l. (name : List ℕ) → IsNameAmong suffix l name → IsNameAmong suffix all name) eq c.loop-name.invariant.within in
-    let others : (name : List ℕ) → (IsNameOf suffix (string_bytes x) name → ⊥) → held call.new.files name ≡ held c.loop-name.files name = λ name other. call.ensures.others name (λ own. other (subst (λ f. IsNameOf suffix f name) value own)) in
+    let differ : NamesDiffer suffix (x ∷ rest) = subst (NamesDiffer suffix) eq c.loop-name.invariant.differ in
+    let within : (name : List ℕ) → IsNameAmong suffix (x ∷ rest) name → IsNameAmong suffix all name = subst (λ l. (name : List ℕ) → IsNameAmong suffix l name → IsNameAmong suffix all name) eq c.loop-name.invariant.within in
+    let others : (name : List ℕ) → (IsNameOf suffix x name → ⊥) → held call.new.files name ≡ held c.loop-name.files name = λ name other. call.ensures.others name (λ own. other (subst (λ f. IsNameOf suffix f name) value own)) in
     record {
       free = call.ensures.given_back;
       sound = sound ∙ c.loop-name.invariant.sound;
@@ -85,7 +85,7 @@ loop-name-preserved g c =
       differ = differ.1;
       within = λ other among. within other (inr among);
       carries = λ told.
-          carries_on suffix all (held c.args.files.now) (faults c.args.files.now) (string_bytes x) rest (held c.loop-name.files) (held call.new.files) (faults c.loop-name.files) (faults call.new.files)
+          carries_on suffix all (held c.args.files.now) (faults c.args.files.now) x rest (held c.loop-name.files) (held call.new.files) (faults c.loop-name.files) (faults call.new.files)
           differ
           (subst (λ l. Carries suffix all (held c.args.files.now) (faults c.args.files.now) l (held c.loop-name.files) (faults c.loop-name.files)) eq (c.loop-name.invariant.carries told))
           others sound
@@ -101,7 +101,7 @@ returns-clause-done g c told =
     let i = c.loop-name.name-index in
     let held = g.F.Files.held in
     let faults = g.F.Files.faults in
-    let all = c.args.file.now ∷ map string_bytes xs in
-    let none : map string_bytes (drop i xs) ≡ [] = ap (map string_bytes) (drop_of_length-le xs (omega (arith, c.loop-name-test.false))) in
+    let all = c.args.file.now ∷ xs in
+    let none : drop i xs ≡ [] = drop_of_length-le xs (omega (arith, c.loop-name-test.false)) in
     subst (λ l. Carries suffix all (held c.args.files.now) (faults c.args.files.now) l (held c.loop-name.files) (faults c.loop-name.files)) none (c.loop-name.invariant.carries told)
     (held c.loop-name.files) (faults c.loop-name.files) (Replied Copied) (all_done suffix (held c.loop-name.files) (faults c.loop-name.files)) (λ name other. refl)

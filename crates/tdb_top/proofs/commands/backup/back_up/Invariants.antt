@@ -1,5 +1,5 @@
 -- The files that were gone over were copied, so what is left of the others tells what is left of all.
-use Rattle.std.proofs.Common.{◌≡◌, ◌∷◌, ℕ, List, drop, false, map, string_bytes, IsTrue}
+use Rattle.std.proofs.Common.{◌≡◌, ◌∷◌, ℕ, List, drop, false, IsTrue}
 use Rattle.tdb_top.specs.Commands.Backup.{IsNameAmong, NamesDiffer}
 use Rattle.tdb_top.proofs.Copies.{Carries}
 use Rattle.tdb_top.proofs.commands.backup.back_up.Given as goal
@@ -8,8 +8,8 @@ abbrev pub invariant-loop-name : goal.invariant-loop-name
 invariant-loop-name g l = record {
   free : (other : List ℕ) → g.F.Files.is_taken l.files other ≡ false;
   sound : g.F.Files.faults l.files ≡ g.F.Files.faults l.fn.files;
-  others : (other : List ℕ) → (IsNameAmong l.fn.suffix (l.fn.file ∷ map string_bytes l.fn.more) other → ⊥) → g.F.Files.held l.files other ≡ g.F.Files.held l.fn.files other;
-  differ : NamesDiffer l.fn.suffix (map string_bytes (drop l.name-index l.fn.more));
-  within : (other : List ℕ) → IsNameAmong l.fn.suffix (map string_bytes (drop l.name-index l.fn.more)) other → IsNameAmong l.fn.suffix (l.fn.file ∷ map string_bytes l.fn.more) other;
-  carries : IsTrue g.F.D.Disk.tells → Carries l.fn.suffix (l.fn.file ∷ map string_bytes l.fn.more) (g.F.Files.held l.fn.files) (g.F.Files.faults l.fn.files) (map string_bytes (drop l.name-index l.fn.more)) (g.F.Files.held l.files) (g.F.Files.faults l.files);
+  others : (other : List ℕ) → (IsNameAmong l.fn.suffix (l.fn.file ∷ l.fn.more) other → ⊥) → g.F.Files.held l.files other ≡ g.F.Files.held l.fn.files other;
+  differ : NamesDiffer l.fn.suffix (drop l.name-index l.fn.more);
+  within : (other : List ℕ) → IsNameAmong l.fn.suffix (drop l.name-index l.fn.more) other → IsNameAmong l.fn.suffix (l.fn.file ∷ l.fn.more) other;
+  carries : IsTrue g.F.D.Disk.tells → Carries l.fn.suffix (l.fn.file ∷ l.fn.more) (g.F.Files.held l.fn.files) (g.F.Files.faults l.fn.files) (drop l.name-index l.fn.more) (g.F.Files.held l.files) (g.F.Files.faults l.files);
 }
