@@ -1,8 +1,9 @@
 -- Command lines: what words ask for.
-use Rattle.std.specs.Prelude.{ℕ, ◌+◌, ◌<◌, ◌≤◌, ◌^◌, if◌then◌else◌, Option, None, List, [], ◌∷◌, length, codes, string_bytes}
+use Rattle.std.specs.Prelude.{ℕ, ◌+◌, ◌<◌, ◌≤◌, ◌^◌, if◌then◌else◌, Option, None, Some, List, [], ◌∷◌, length, codes, string_bytes}
 use Rattle.std.specs.Map.{lookup}
 use Rattle.std.specs.Option.{option_map, option_and_then}
 use Rattle.tdb_space.specs.Pairs.{same_key}
+use Rattle.tdb_world.specs.declared.options.Options.{Options}
 use Rattle.tdb_top.specs.declared.act.Act.{Act}
 use Rattle.tdb_top.specs.declared.act.Act.TheVariants.{Show, Insert, Delete, Erase, Check}
 use Rattle.tdb_top.specs.declared.ask.Task.{Task}
@@ -17,9 +18,9 @@ use Rattle.tdb_top.specs.Commands.Erase.{erase_of}
 use Rattle.tdb_top.specs.Commands.Create.{create_of}
 use Rattle.tdb_top.specs.Commands.Backup.{BackupFits}
 use Rattle.tdb_top.specs.Commands.BackupLine.{asks_of_words}
-use Rattle.tdb_top.specs.Commands.Dump.{dump_of_words, file_alone}
+use Rattle.tdb_top.specs.Commands.Dump.{dump_of_words}
+use Rattle.tdb_top.specs.Commands.Restore.{is_limit_alone}
 use Rattle.tdb_top.specs.Commands.Turns.{turns_of_words}
-use Rattle.tdb_top.specs.declared.limits.TheConstants.{LONGEST_FILE}
 use Rattle.tdb_top.specs.Looks.{LookFits}
 
 -- what is asked for: a file by its name, and what is to be done with it
@@ -57,9 +58,12 @@ tool_of (file ∷ command ∷ arguments) =
 abbrev pub dump_asks : List (List ℕ) → Option Ask
 dump_asks words = option_map (λ found. record { file = found.0; task = Read found.1 }) (dump_of_words words)
 
--- what the words behind `restore` ask for: FILE alone
+-- what the words behind `restore` ask for: FILE, with the limit of turns and none of their other options
+abbrev pub restore_of : List ℕ × Options → Option Ask
+restore_of found = if is_limit_alone found.1 then Some (record { file = found.0; task = Restore found.1.limit }) else None
+
 abbrev pub restore_asks : List (List ℕ) → Option Ask
-restore_asks words = option_map (λ file. record { file = file; task = Restore LONGEST_FILE }) (file_alone words)
+restore_asks words = option_and_then restore_of (turns_of_words words)
 
 -- what the words behind `backup` ask for
 abbrev pub backup_asks : List (List ℕ) → Option Ask

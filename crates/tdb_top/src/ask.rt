@@ -21,11 +21,10 @@ ghost use Rattle.tdb_top.specs.Printed.{TaskText, task_tells};
 use crate::act::Act;
 use crate::commands::backup::back_up;
 use crate::commands::create::{NewForm, create_file};
-use crate::commands::restore::restore_file;
+use crate::commands::restore::{is_limit_alone, restore_file};
 use crate::commands::turns::turns_on_file;
 use crate::commands::{backup_line, check, create, delete, dump, erase, insert, show, turns};
 use crate::ending::{Ending, Unprinted};
-use crate::limits::LONGEST_FILE;
 use crate::look::Look;
 use crate::names::{Names, Text};
 use crate::words::is_position;
@@ -133,12 +132,15 @@ impl Ask {
         ensures read { IfOk result (λ ask. option_map asked ask ≡ restore_asks (map string_bytes words.now)) }
         ensures fits { IfOk result (λ ask. IfSome ask (λ a. TaskFits (string_bytes a.file) a.task)) }
     {
-        let Some(file) = dump::file_alone(words) else {
+        let Some(line) = turns::Line::of(words) else {
             return Ok(None);
         };
-        let file = String::from_str(alloc, file)?;
+        if !is_limit_alone(&line.options) {
+            return Ok(None);
+        }
+        let file = String::from_str(alloc, line.file)?;
         let task = Task::Restore {
-            limit: LONGEST_FILE,
+            limit: line.options.limit,
         };
         Ok(Some(Ask { file, task }))
     }

@@ -13,7 +13,7 @@ ghost use Rattle.tdb_top.specs.declared.ask.Task.TheVariants.{Restore};
 ghost use Rattle.tdb_top.specs.declared.ending.Ending.TheVariants.{Usage};
 ghost use Rattle.tdb_top.specs.Commands.Create.{IsNewFile};
 ghost use Rattle.tdb_top.specs.declared.limits.TheConstants.{DEFAULT_SIZE};
-ghost use Rattle.tdb_top.specs.Commands.Restore.{new_form, of_restore, IsRestored, TextRefused, HeardBy};
+ghost use Rattle.tdb_top.specs.Commands.Restore.{is_limit_alone as limit_alone, new_form, of_restore, IsRestored, TextRefused, HeardBy};
 ghost use Rattle.tdb_top.specs.Ending.{CountedBy};
 ghost use Rattle.tdb_top.specs.Input.{input_by};
 ghost use Rattle.tdb_top.specs.Left.{RestoreLeaves};
@@ -27,6 +27,7 @@ use tdb_backup::{RestoreRefusal, restore_pairs};
 use tdb_disk::{Disk, Files, Source, Take};
 use tdb_space::Direct;
 use tdb_words::{HashKind, Header, Order};
+use tdb_world::Options;
 
 impl From<RestoreRefusal> for Ending {
     ghost from_gives = { λ refusal ending. ending ≡ of_restore refusal };
@@ -40,6 +41,13 @@ impl From<RestoreRefusal> for Ending {
             RestoreRefusal::Memory => Ending::NoMemory,
         }
     }
+}
+
+/// Whether of the options of turns no other is given than how long the file may be.
+pub(crate) fn is_limit_alone(options: &Options) -> bool
+    ensures { result ≡ limit_alone options.now }
+{
+    options.nesting && !options.read_only && !options.seqnum
 }
 
 /// What the header of the new file says.
