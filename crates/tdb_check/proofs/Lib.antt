@@ -25,3 +25,4 @@ pub mod Halving
 pub mod Quarters
 pub mod Walking
 pub mod ChainSums
+pub mod Linear

@@ -1,10 +1,11 @@
 -- How many bytes of a file a check reads at most.
-use Rattle.std.specs.Prelude.{ℕ, ◌+◌, ◌*◌, ◌==◌, ◌&&◌, if◌then◌else◌, List, [], ◌∷◌, length, map, sum_by}
+use Rattle.std.specs.Prelude.{ℕ, ◌+◌, ◌*◌, ◌<◌, ◌≤◌, ◌≡◌, ◌==◌, ◌&&◌, if◌then◌else◌, List, [], ◌∷◌, length, map, sum_by}
 use Rattle.std.specs.List.{range_with_len}
 use Rattle.tdb_words.specs.declared.record.TheConstants.{USED}
-use Rattle.tdb_space.specs.Form.{Form}
+use Rattle.tdb_space.specs.Form.{Form, form_of}
 use Rattle.tdb_space.specs.Record.{magic_of, key_len_of}
 use Rattle.tdb_space.specs.Chain.{chain_of, free_of}
+use Rattle.tdb_space.specs.Accepted.{Accept}
 use Rattle.tdb_check.specs.declared.keys.Noted.{Noted}
 use Rattle.tdb_check.specs.Keys.{notes_of, digested}
 
@@ -45,3 +46,11 @@ lists_reads rounds f img = 4 * f.chains + chains_reads rounds f img 0 f.chains +
 -- of a whole file: 168 bytes of the header, 28 for the undo area, all lists, and no more than its length for what no record holds
 abbrev pub check_reads : ℕ → Form → List ℕ → ℕ
 check_reads rounds f img = 196 + lists_reads rounds f img + length img
+
+-- no two keys of one chain have one length and one first word of their digests
+abbrev pub NoLikeKeys : Form → List ℕ → Type 0
+NoLikeKeys f img = (j : ℕ) → j < f.chains → shared_by_pairs (map (digested f img) (notes_of f img (chain_of f img j))) ≡ 0
+
+-- then what a check of an accepted image reads is in proportion to its length
+abbrev pub ReadsAreLinear : Type 0
+ReadsAreLinear = (img : List ℕ) → Accept img → NoLikeKeys (form_of img) img → check_reads 1 (form_of img) img ≤ 18 * length img + 28
