@@ -1,0 +1,7 @@
+pub mod Numbers
+pub mod Commands
+pub mod Plays
+pub mod Counts
+pub mod Summary
+pub mod Taking
+pub mod Generated

@@ -1,0 +1,87 @@
+// What is counted of a report.
+
+ghost use Rattle.std.specs.Prelude.{◌≡◌, ◌+◌, ◌++◌, List, [], min};
+ghost use Rattle.tdb_disk.specs.Count.{last_count};
+ghost use Rattle.tdb_plays.specs.declared.line.Line.{Line as LineIs};
+ghost use Rattle.tdb_gen.specs.Counts.{counts_of, counts_with};
+
+use tdb_locks::{Reply, Turn};
+use tdb_plays::{Line, TurnReport};
+
+/// How many commands ended with each reply, and how many turns were blocked. A count stands still at its greatest.
+#[derive(Clone, Copy, Debug, PartialEq, Eq)]
+pub struct Counts {
+    /// The replies `ok`.
+    pub ok: u64,
+    /// The replies with a value.
+    pub values: u64,
+    /// The replies `noexist`: the key isn't there.
+    pub missing: u64,
+    /// The replies `yes`.
+    pub yes: u64,
+    /// The replies `no`.
+    pub no: u64,
+    /// The replies `full`: the file may not grow so far.
+    pub full: u64,
+    /// The replies `memory`.
+    pub memory: u64,
+    /// The turns that another opener's lock blocked.
+    pub blocked: u64,
+}
+
+/// Counts one more.
+fn raise(count: &mut u64)
+    ensures { count.new ≡ min (count.old + 1) last_count }
+{
+    *count = count.saturating_add(1);
+}
+
+impl Counts {
+    /// Nothing was counted.
+    pub(crate) fn new() -> Counts
+        ensures { result ≡ counts_of [] }
+    {
+        Counts {
+            ok: 0,
+            values: 0,
+            missing: 0,
+            yes: 0,
+            no: 0,
+            full: 0,
+            memory: 0,
+            blocked: 0,
+        }
+    }
+
+    /// Counts a line.
+    fn count_line(&mut self, line: &Line)
+        ensures { self.new ≡ counts_with self.old line.now }
+    {
+        let Line::Took { turn, .. } = line else {
+            return;
+        };
+        match turn {
+            Turn::Blocked { .. } => raise(&mut self.blocked),
+            Turn::Done(Reply::Ok) => raise(&mut self.ok),
+            Turn::Done(Reply::Value(_)) => raise(&mut self.values),
+            Turn::Done(Reply::KeyMissing) => raise(&mut self.missing),
+            Turn::Done(Reply::Yes) => raise(&mut self.yes),
+            Turn::Done(Reply::No) => raise(&mut self.no),
+            Turn::Done(Reply::Full { .. }) => raise(&mut self.full),
+            Turn::Done(Reply::Memory) => raise(&mut self.memory),
+            Turn::Step | Turn::Done(_) => {}
+        }
+    }
+
+    /// Counts the lines of a report.
+    pub(crate) fn count(&mut self, report: &TurnReport)
+        ensures { (told : List LineIs) → self.old ≡ counts_of told → self.new ≡ counts_of (told ++ report.now.lines) }
+    {
+        for i in 0..report.len() {
+            let Some(line) = report.get(i) else {
+                unreachable!();
+            };
+            self.count_line(line);
+        }
+    }
+}

@@ -1,0 +1,56 @@
+// Why no summary is given.
+
+use std::alloc::AllocError;
+use tdb_space::Io;
+use tdb_world::RunFault;
+use thiserror::Error;
+
+/// Why there is no summary.
+#[derive(Clone, Copy, Debug, PartialEq, Eq, Error)]
+pub enum GenFault {
+    /// A call of the disk failed, or a check found a fault in the file, which no turn leaves.
+    #[error("the disk failed")]
+    Io,
+    /// There was no memory for an opener, a play, a line, or the copy of a command.
+    #[error("out of memory")]
+    Memory,
+    /// A command wasn't done after all turns of its group.
+    #[error("a command isn't done")]
+    Unfinished,
+}
+
+impl From<Io> for GenFault {
+    ghost use Rattle.std.specs.Prelude.{◌≡◌};
+    ghost use Rattle.tdb_gen.specs.declared.fault.GenFault.TheVariants as GenFaults;
+
+    ghost from_gives = { λ _ e. e ≡ GenFaults.Io };
+
+    fn from(_fault: Io) -> Self {
+        GenFault::Io
+    }
+}
+
+impl From<AllocError> for GenFault {
+    ghost use Rattle.std.specs.Prelude.{◌≡◌};
+    ghost use Rattle.tdb_gen.specs.declared.fault.GenFault.TheVariants as GenFaults;
+
+    ghost from_gives = { λ _ e. e ≡ GenFaults.Memory };
+
+    fn from(_fault: AllocError) -> Self {
+        GenFault::Memory
+    }
+}
+
+impl From<RunFault> for GenFault {
+    ghost use Rattle.std.specs.Prelude.{◌≡◌};
+    ghost use Rattle.tdb_gen.specs.Taking.{of_run};
+
+    ghost from_gives = { λ fault e. e ≡ of_run fault };
+
+    fn from(fault: RunFault) -> Self {
+        match fault {
+            RunFault::Io => GenFault::Io,
+            RunFault::Memory => GenFault::Memory,
+        }
+    }
+}

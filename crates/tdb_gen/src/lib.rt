@@ -1,0 +1,15 @@
+//! Generated commands for three openers of one file: a load whose plays follow from two numbers.
+#![tactic(auto)]
+
+mod counts;
+mod fault;
+mod generation;
+mod generator;
+mod group;
+mod load;
+mod summary;
+
+pub use crate::counts::Counts;
+pub use crate::fault::GenFault;
+pub use crate::load::generate;
+pub use crate::summary::Summary;

@@ -1,0 +1,83 @@
+// Small loads and their summaries, and a larger one that is done twice.
+
+use std::alloc::{AllocError, Global};
+use std::test::Fail;
+use tdb_check::check;
+use tdb_disk::MemDisk;
+use tdb_gen::{GenFault, Summary, generate};
+use tdb_space::{Direct, Space};
+use tdb_words::{HashKind, Header, Order, header_bytes};
+use tdb_world::Options;
+
+const HEADER: Header = Header {
+    order: Order::Little,
+    hash: HashKind::Old,
+    hash_size: 131,
+    recovery_start: 0,
+    sequence: 0,
+};
+
+const OPTIONS: Options = Options {
+    limit: 4294963200,
+    nesting: true,
+    read_only: false,
+    seqnum: false,
+};
+
+// What an empty file gives for no commands.
+const NOTHING: &[u8] =
+    b"commands 0\nok 0\ndata 0\nnoexist 0\nyes 0\nno 0\nfull 0\nmemory 0\nblocked 0\nlive 0\nlength 696\n";
+
+// And for one command from the seed 1, which stores 150 bytes.
+const ONE_STORE: &[u8] =
+    b"commands 1\nok 1\ndata 0\nnoexist 0\nyes 0\nno 0\nfull 0\nmemory 0\nblocked 0\nlive 1\nlength 4096\n";
+
+// A new file of 131 chains.
+fn new_file(alloc: Global) -> Result<MemDisk, AllocError> {
+    let mut bytes = vec![in alloc; 0u8; 696]?;
+    for (byte, from) in bytes
+        .iter_mut()
+        .zip(header_bytes(131, Order::Little, HashKind::Old))
+    {
+        *byte = from;
+    }
+    MemDisk::new(alloc, &bytes)
+}
+
+// Generates commands on a file.
+fn load(alloc: Global, disk: &mut MemDisk, commands: u32, seed: u32) -> Result<Summary, GenFault> {
+    let mut space = Direct::new(disk, &HEADER);
+    if space.len()? > OPTIONS.limit {
+        return Err(GenFault::Io);
+    }
+    generate(alloc, &mut space, &HEADER, &OPTIONS, commands, seed)
+}
+
+// How many keys a check counts.
+fn live(alloc: Global, disk: &mut MemDisk) -> Option<u64> {
+    check(alloc, &mut Direct::new(disk, &HEADER))
+        .ok()
+        .map(|report| report.live)
+}
+
+#[test]
+fn small_loads_have_their_summaries(rt: HostRuntime) -> Result<(), Fail> {
+    let mut file = new_file(rt.alloc())?;
+    let none = load(rt.alloc(), &mut file, 0, 7)?;
+    assert_eq!(rt; none.text(rt.alloc())?.as_slice(), NOTHING);
+    let one = load(rt.alloc(), &mut file, 1, 1)?;
+    assert_eq!(rt; one.text(rt.alloc())?.as_slice(), ONE_STORE);
+    Ok(())
+}
+
+#[test]
+fn a_load_is_the_same_twice(rt: HostRuntime) -> Result<(), Fail> {
+    let mut first = new_file(rt.alloc())?;
+    let mut other = new_file(rt.alloc())?;
+    let summary = load(rt.alloc(), &mut first, 10_000, 1)?;
+    assert_eq!(rt; summary, load(rt.alloc(), &mut other, 10_000, 1)?);
+    assert_eq!(rt; first.as_slice(), other.as_slice());
+    assert_eq!(rt; summary.commands, 10_000);
+    assert_eq!(rt; live(rt.alloc(), &mut first), Some(summary.live));
+    Ok(())
+}
