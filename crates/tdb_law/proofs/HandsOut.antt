@@ -19,7 +19,7 @@ use Rattle.tdb_law.proofs.Plainly.{file_plain}
 use Rattle.tdb_law.proofs.Tests.{never_true}
 
 -- two tests of keys agree
-same_test : (k q : List ℕ) → is_key q k ≡ same_key k q
+pub same_test : (k q : List ℕ) → is_key q k ≡ same_key k q
 same_test k q =
     elim (cases_Bool (is_key q k)) [
       | inl e ↦ e ∙ sym (subst (λ u. same_key k u ≡ true) (is_key-eq q k e) (same_key-refl k))

@@ -19,11 +19,12 @@ use Rattle.tdb_steps.specs.declared.stage.Next.{Next}
 use Rattle.tdb_steps.specs.Asked.{wipes}
 use Rattle.tdb_steps.specs.Stages.{hands_in, hands_after, MayBeOut, HoldsChain, Knows, KnowsAfter, IsJoined, JoinedAfter, Leads}
 use Rattle.tdb_steps.specs.Turns.{number_of, TurnMade, WipeMade}
+use Rattle.tdb_steps.specs.Walks.{KeepsWalks}
 use Rattle.tdb_steps.specs.Order.{InOrder, WipeOrder, LookAfter, StoreAfter, DeleteAfter, WipeAfter, IsAfter}
-use Rattle.tdb_steps.specs.PlainCommands.{key_of, asked_of, command_of, IsMapOf}
+use Rattle.tdb_steps.specs.PlainCommands.{IsKeyed, key_of, asked_of, command_of, IsMapOf}
 use Rattle.tdb_steps.specs.Machines.{HasJoined, CommandMakes, IsOn, MapTurned}
 use Rattle.tdb_steps.specs.Machines.MapTurned.{map_goes_on, map_changes, map_starves, map_finishes}
-use Rattle.tdb_steps.proofs.Lawful.{IsKeyed, next_turn, map_turned}
+use Rattle.tdb_steps.proofs.Lawful.{next_turn, map_turned}
 
 -- the chain of the key, or all chains, are held from the second turn on
 look_late : (n : ℕ) (stage : Stage) → LookAfter stage n → HoldsChain stage → 1 ≤ n
@@ -76,13 +77,14 @@ held_late (Delete k) n stage is holds = delete_late n stage is holds
 held_late Wipe n stage is holds = wipe_late n stage is holds
 
 -- what a turn of a command that has had n steps, and has joined these bytes after it, makes of an image
-pub record CommandMade (f : Form) (a b : List ℕ) (command : Plain) (whole : Option (List ℕ)) (n : ℕ) (next : Next) (others : List HandPair) : Type 0 where
+pub record CommandMade (f : Form) (a b : List ℕ) (command : Plain) (whole : Option (List ℕ)) (n : ℕ) (stage : Stage) (next : Next) (others : List HandPair) : Type 0 where
   pub accepted : AcceptWith f b (hands_after next ++ others)
   pub knows : KnowsAfter f b (key_of command) (asked_of command) next
   pub joined : Leads (HasJoined f b command whole) next
   pub only : ChangesOnly f a b (λ k. IsOn f command k × (1 ≤ n))
   pub map : (m : Map) → IsMapOf f a m → MapTurned f b (command_of command) n m (next_turn next)
   pub number : number_of f b ≡ number_of f a
+  pub walks : IsKeyed command → KeepsWalks f a b (key_of command) stage next
 
 on_key : (command : Plain) → IsKeyed command → (f : Form) (k : ℕ) → k ≡ home f (key_of command) → IsOn f command k
 on_key (Fetch key) keyed f k at_home = at_home
@@ -106,7 +108,7 @@ has_joined f b k v whole (Next.Done r) J = tt
 
 -- a turn of a command that is on a key
 keyed_made : (command : Plain) → IsKeyed command → (f : Form) (a b : List ℕ) (whole : Option (List ℕ)) (n : ℕ) (stage : Stage) (next : Next) (others : List HandPair) → IsAfter command stage n → InOrder command stage next → Knows f a (key_of command) (asked_of command) stage
-    → Leads (HasJoined f b command whole) next → TurnMade f a b (key_of command) (asked_of command) stage next others → CommandMade f a b command whole n next others
+    → Leads (HasJoined f b command whole) next → TurnMade f a b (key_of command) (asked_of command) stage next others → CommandMade f a b command whole n stage next others
 keyed_made command keyed f a b whole n stage next others is order K J T = record {
   accepted = T.accepted;
   knows = T.knows;
@@ -114,6 +116,7 @@ keyed_made command keyed f a b whole n stage next others is order K J T = record
   only = changes_weaker f a b (λ k. (k ≡ home f (key_of command)) × HoldsChain stage) (λ k. IsOn f command k × (1 ≤ n)) (λ k both. (on_key command keyed f k both.0, held_late command n stage is both.1)) T.only;
   map = λ m M. map_turned command keyed f a b stage next n m others M is order K T;
   number = T.number;
+  walks = λ on. T.walks;
 }
 
 -- a turn of a wipe
@@ -156,7 +159,7 @@ module _ (f : Form) (a b : List ℕ) (n : ℕ) (m : Map) (M : IsMapOf f a m) (ot
   ]
   wipe_turned Stage.Ending next is order T = led_to Stage.Ending next (Next.Done Reply.Ok) order T (λ U. map_finishes refl (ap (nat_le 3) is) (same_map U.map))
 
-wipe_made : (f : Form) (a b : List ℕ) (whole : Option (List ℕ)) (n : ℕ) (stage : Stage) (next : Next) (others : List HandPair) → WipeAfter stage n → WipeOrder stage next → WipeMade f a b stage next others → CommandMade f a b Wipe whole n next others
+wipe_made : (f : Form) (a b : List ℕ) (whole : Option (List ℕ)) (n : ℕ) (stage : Stage) (next : Next) (others : List HandPair) → WipeAfter stage n → WipeOrder stage next → WipeMade f a b stage next others → CommandMade f a b Wipe whole n stage next others
 wipe_made f a b whole n stage next others is order T = record {
   accepted = T.accepted;
   knows = wipe_knows f b stage next order;
@@ -164,11 +167,12 @@ wipe_made f a b whole n stage next others is order T = record {
   only = changes_weaker f a b (λ k. HoldsChain stage) (λ k. Unit {0} × (1 ≤ n)) (λ k holds. (tt, wipe_late n stage is holds)) T.only;
   map = λ m M. wipe_turned f a b n m M others stage next is order T;
   number = T.number;
+  walks = λ on. absurd on;
 }
 
 -- every command
 pub command_made : (command : Plain) (f : Form) (a b : List ℕ) (was whole : Option (List ℕ)) (n : ℕ) (stage : Stage) (next : Next) (others : List HandPair) → IsAfter command stage n → InOrder command stage next → MayBeOut stage others → AcceptWith f a (hands_in stage ++ others)
-    → Knows f a (key_of command) (asked_of command) stage → HasJoined f a command was stage → CommandMakes f a b command was whole stage next → CommandMade f a b command whole n next others
+    → Knows f a (key_of command) (asked_of command) stage → HasJoined f a command was stage → CommandMakes f a b command was whole stage next → CommandMade f a b command whole n stage next others
 command_made (Fetch k) f a b was whole n stage next others is order out A K J made = keyed_made (Fetch k) tt f a b whole n stage next others is order K (none_joined f b (Fetch k) whole next (λ q v e. cc)) (made others A K)
 command_made (Has k) f a b was whole n stage next others is order out A K J made = keyed_made (Has k) tt f a b whole n stage next others is order K (none_joined f b (Has k) whole next (λ q v e. cc)) (made others A K)
 command_made (Store k v flag) f a b was whole n stage next others is order out A K J made = keyed_made (Store k v flag) tt f a b whole n stage next others is order K (none_joined f b (Store k v flag) whole next (λ q w e. cc)) (made others A K)

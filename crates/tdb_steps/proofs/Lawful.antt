@@ -22,7 +22,7 @@ use Rattle.tdb_steps.specs.Asked.{Asked, stored, joined}
 use Rattle.tdb_steps.specs.Stages.{Knows, is_done}
 use Rattle.tdb_steps.specs.Turns.{MapBy, TurnMade, IsWant}
 use Rattle.tdb_steps.specs.Turns.IsWant.{memory, full}
-use Rattle.tdb_steps.specs.PlainCommands.{key_of, asked_of, command_of, store_of, reply_of, IsMapOf}
+use Rattle.tdb_steps.specs.PlainCommands.{IsKeyed, key_of, asked_of, command_of, store_of, reply_of, IsMapOf}
 use Rattle.tdb_chain.specs.declared.place.Place.{Place}
 use Rattle.tdb_steps.proofs.Cases.{looks_case, takes_case, links_case, unlinks_case}
 use Rattle.tdb_steps.proofs.Cases.LooksCase.{look_on, look_ends}
@@ -102,11 +102,6 @@ missing m k q e false apart = refl
 delete_refused : (m : Map) (k : List ℕ) (o : Option (List ℕ)) → get m k ≡ o → ((asked_of (Delete k)).reply o ≡ Reply.Ok → ⊥) → (q : List ℕ) → get (after (Law.MapCommand.Delete k) m) q ≡ get m q
 delete_refused m k None e never q = drop_in m k q ∙ missing m k q e (same_key k q) refl
 delete_refused m k (Some v) e never q = absurd (never refl)
-
--- a command that is on a key
-abbrev pub IsKeyed : Plain → Type 0
-IsKeyed Wipe = ⊥
-IsKeyed _ = Unit {0}
 
 pub is_command : (command : Plain) → IsKeyed command → IsCommand (command_of command) (key_of command) (asked_of command)
 is_command (Fetch k) keyed = record { replies = λ m. fetch_replies m k (get m k) refl; granted = λ m ok q. absurd (fetch_never k (get m k) ok); refused = λ m never q. refl }

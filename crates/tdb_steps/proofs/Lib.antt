@@ -1,3 +1,5 @@
+pub mod Cells
+pub mod Walks
 pub mod Made
 pub mod Appended
 pub mod Rooms

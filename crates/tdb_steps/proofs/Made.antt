@@ -16,7 +16,8 @@ use Rattle.tdb_space.proofs.Pairs.Maps.{home_below, same_key-refl}
 use Rattle.tdb_space.proofs.Stays.Changes.{changes_none, changes_weaker, changes_then}
 use Rattle.tdb_chain.specs.declared.place.Place.{Place}
 use Rattle.tdb_chain.specs.Place.{IsPlace, HoldsKey}
-use Rattle.tdb_chain.specs.Changed.{KeySet, ChainChanged, hand_at}
+use Rattle.tdb_chain.specs.Changed.{KeySet, ChainChanged, OldOrWord, hand_at, word_before}
+use Rattle.tdb_chain.proofs.Unlinked.{word_only}
 use Rattle.tdb_chain.proofs.PlaceStays.{found_stays}
 use Rattle.tdb_free.specs.Growth.{CanBeTaken, RefusedRightly, NoRoom, SaysLengths}
 use Rattle.tdb_free.proofs.Traded.{can_take}
@@ -33,6 +34,8 @@ use Rattle.tdb_steps.specs.declared.flag.Flag.{Flag}
 use Rattle.tdb_steps.specs.declared.flag.Flag.TheVariants as Flags
 use Rattle.tdb_steps.specs.Asked.{Asked, appends, joined, deleted, deletes, stored, stores}
 use Rattle.tdb_steps.specs.Stages.{IsKnown, hands_after, HoldsChain, KnowsAfter, is_changed, is_changed_after, IsEnd, JoinedAfter}
+use Rattle.tdb_steps.specs.Walks.{KeepsWalks}
+use Rattle.tdb_steps.proofs.Walks.{ChangesInPlace, stays_walks, in_place_walks, taken_walks, walks_then}
 use Rattle.tdb_steps.specs.Turns.{number_of, MapBy, Says, TurnMade, LinkedOver, LinksRightly, MarksRightly}
 use Rattle.tdb_steps.specs.Turns.IsWant.{full}
 
@@ -84,31 +87,33 @@ map_set false true f a b key asked before after set = set
 map_set false false f a b key asked before after set = absurd (never_true after)
 
 -- a turn that leaves all chains
-pub stays_made : (f : Form) (a b key : List ℕ) (asked : Asked) (old : Stage) (next : Next) (others : List HandPair) → ChainsStay f a b (hands_after next ++ others) → number_of f b ≡ number_of f a → is_changed_after next ≡ is_changed old → KnowsAfter f b key asked next → Says old asked (map_of f a key) next → TurnMade f a b key asked old next others
-stays_made f a b key asked old next others S number same knows says = record {
+pub stays_made : (f : Form) (a b key : List ℕ) (asked : Asked) (old : Stage) (next : Next) (hands others : List HandPair) → AcceptWith f a hands → ChainsStay f a b (hands_after next ++ others) → number_of f b ≡ number_of f a → is_changed_after next ≡ is_changed old → KnowsAfter f b key asked next → Says old asked (map_of f a key) next → TurnMade f a b key asked old next others
+stays_made f a b key asked old next hands others A S number same knows says = record {
   accepted = S.accepted;
   knows = knows;
   only = changes_weaker f a b (λ k. ⊥) (λ k. (k ≡ home f key) × HoldsChain old) (λ k never. absurd never) S.only;
   map = map_left (is_changed old) (is_changed_after next) f a b key asked same S.map;
   says = says;
   number = number;
+  walks = stays_walks f a b key old next hands (hands_after next ++ others) A S same;
 }
 
 -- a turn that leaves the image as it is
 pub same_made : (f : Form) (a b key : List ℕ) (asked : Asked) (old : Stage) (next : Next) (others : List HandPair) → b ≡ a → AcceptWith f a (hands_after next ++ others) → is_changed_after next ≡ is_changed old → KnowsAfter f a key asked next → Says old asked (map_of f a key) next → TurnMade f a b key asked old next others
 same_made f a b key asked old next others stands A same knows says =
     subst (λ img. TurnMade f a img key asked old next others) (sym stands)
-    (stays_made f a a key asked old next others (record { accepted = A; map = λ k. refl; only = changes_none f a (λ k. ⊥) }) refl same knows says)
+    (stays_made f a a key asked old next (hands_after next ++ others) others A (record { accepted = A; map = λ k. refl; only = changes_none f a (λ k. ⊥) }) refl same knows says)
 
 -- a turn that sets the value of the key
-pub set_made : (f : Form) (a b key : List ℕ) (asked : Asked) (old : Stage) (next : Next) (others : List HandPair) (value : Option (List ℕ)) (offs : List ℕ) (own before : List HandPair) → KeySet f a b key value offs own before (hands_after next ++ others) → number_of f b ≡ number_of f a → HoldsChain old → is_changed old ≡ false → is_changed_after next ≡ true → asked.left (map_of f a key) ≡ value → KnowsAfter f b key asked next → Says old asked (map_of f a key) next → TurnMade f a b key asked old next others
-set_made f a b key asked old next others value offs own before K number holds first after left knows says = record {
+pub set_made : (f : Form) (a b key : List ℕ) (asked : Asked) (old : Stage) (next : Next) (others : List HandPair) (value : Option (List ℕ)) (offs : List ℕ) (own before : List HandPair) → KeySet f a b key value offs own before (hands_after next ++ others) → number_of f b ≡ number_of f a → HoldsChain old → is_changed old ≡ false → is_changed_after next ≡ true → asked.left (map_of f a key) ≡ value → KnowsAfter f b key asked next → Says old asked (map_of f a key) next → KeepsWalks f a b key old next → TurnMade f a b key asked old next others
+set_made f a b key asked old next others value offs own before K number holds first after left knows says walks = record {
   accepted = K.changed.accepted;
   knows = knows;
   only = changes_weaker f a b (λ k. k ≡ home f key) (λ k. (k ≡ home f key) × HoldsChain old) (λ k at_home. (at_home, holds)) K.changed.only;
   map = map_set (is_changed old) (is_changed_after next) f a b key asked first after (λ other. K.map other ∙ ap (λ v. update same_key (map_of f a) key v other) (sym left));
   says = says;
   number = number;
+  walks = walks;
 }
 
 -- what was known of the key is still so where its chain stays
@@ -121,7 +126,7 @@ known_stays f a b key asked place hands news A S known = record {
 -- the turn that takes a record
 pub took_made : (f : Form) (a b key : List ℕ) (asked : Asked) (place : Option Place) (h : HandPair) (others : List HandPair) → AcceptWith f a others → IsKnown f a key asked place → ChainsStay f a b (h ∷ others) → number_of f b ≡ number_of f a → TurnMade f a b key asked (Stage.Listed place) (Next.Step (Stage.Taken place h)) others
 took_made f a b key asked place h others A known S number =
-    stays_made f a b key asked (Stage.Listed place) (Next.Step (Stage.Taken place h)) others S number refl (known_stays f a b key asked place others (h ∷ others) A S known) tt
+    stays_made f a b key asked (Stage.Listed place) (Next.Step (Stage.Taken place h)) others others A S number refl (known_stays f a b key asked place others (h ∷ others) A S known) tt
 
 -- and the one that finds none
 pub full_made : (f : Form) (a b key : List ℕ) (asked : Asked) (place : Option Place) (len need : ℕ) (others : List HandPair) → AcceptWith f a others → b ≡ a → TurnMade f a b key asked (Stage.Listed place) (Next.Done (Reply.Full len need)) others
@@ -140,16 +145,18 @@ pub said_lengths : (size m len need : ℕ) (e : FreeRefusal) → e ≡ Refused.F
 said_lengths size m len need e is says = subst (SaysLengths size m) is says
 
 -- the turn of a delete that takes the record out
-pub unlinked_made : (f g : Form) (a v b key : List ℕ) (p : Place) (h : HandPair) (others : List HandPair) → g ≡ f → v ≡ a → ((hands : List HandPair) → AcceptWith g v hands → IsPlace g v p → p.rec.magic ≡ USED → KeySet g v b (key_at g.order v p.off) None (without p.off (chain_of g v (home g (key_at g.order v p.off)))) [] hands (h ∷ hands)) → AcceptWith f a others → IsKnown f a key deletes (Some p) → TurnMade f a b key deletes (Stage.Listed (Some p)) (Next.Step (Stage.Changed h)) others
-unlinked_made f g a v b key p h others same_form same_image clause A known =
+pub unlinked_made : (f g : Form) (a v b key : List ℕ) (p : Place) (h : HandPair) (others : List HandPair) → g ≡ f → v ≡ a → ((hands : List HandPair) → AcceptWith g v hands → IsPlace g v p → p.rec.magic ≡ USED → KeySet g v b (key_at g.order v p.off) None (without p.off (chain_of g v (home g (key_at g.order v p.off)))) [] hands (h ∷ hands)) → h ≡ hand_at p → OldOrWord g.order v p.before p.rec.next b → AcceptWith f a others → IsKnown f a key deletes (Some p) → TurnMade f a b key deletes (Stage.Listed (Some p)) (Next.Step (Stage.Changed h)) others
+unlinked_made f g a v b key p h others same_form same_image clause is_hand written A known =
     let H = known.found in
     let K = moved (λ x img. (hands : List HandPair) → AcceptWith x img hands → IsPlace x img p → p.rec.magic ≡ USED → KeySet x img b (key_at x.order img p.off) None (without p.off (chain_of x img (home x (key_at x.order img p.off)))) [] hands (h ∷ hands)) f g a v same_form same_image clause others A H.place H.used in
     let L = subst (λ q. KeySet f a b q None (without p.off (chain_of f a (home f q))) [] others (h ∷ others)) H.has_key K in
     set_made f a b key deletes (Stage.Listed (Some p)) (Next.Step (Stage.Changed h)) others None (without p.off (chain_of f a (home f key))) [] others L
     (chain_number f a b (home f key) (without p.off (chain_of f a (home f key))) [] others (h ∷ others) A (home_below f key A.some) (λ i under. refl) L.changed) tt refl refl refl tt tt
+    (taken_walks f a b key (Stage.Listed (Some p)) h others (h ∷ others) p A H L refl is_hand
+    (word_only f.order a b p.before p.rec.next (word_before (Some p)) (λ i none. omega (arith, none)) (moved (λ x img. OldOrWord x.order img p.before p.rec.next b) f g a v same_form same_image written)))
 
 -- The turn of a store that marks the old record as dead and links the new one. Between the two the key is missing.
-module _ (f g : Form) (a m b key value : List ℕ) (p : Place) (h : HandPair) (flag : Flag) (next : Next) (others : List HandPair) (offs : List ℕ) (same_form : g ≡ f) (A : AcceptWith f a (h ∷ others)) (K : KeySet f a m key None offs [] (h ∷ others) (h ∷ others)) where
+module _ (f g : Form) (a m b key value : List ℕ) (p : Place) (h : HandPair) (flag : Flag) (next : Next) (others : List HandPair) (same_form : g ≡ f) (A : AcceptWith f a (h ∷ others)) (H : HoldsKey f a key p) (K : KeySet f a m key None (chain_of f a (home f key)) [] (h ∷ others) (h ∷ others)) (written : ChangesInPlace a m p) where
   missing : map_of f m key ≡ None
   missing = K.map key ∙ update_same same_key (map_of f a) key None key (same_key-refl key)
 
@@ -163,7 +170,9 @@ module _ (f g : Form) (a m b key value : List ℕ) (p : Place) (h : HandPair) (f
     only = changes_then f a m b (λ k. (k ≡ home f key) × HoldsChain (Stage.Taken (Some p) h)) (changes_weaker f a m (λ k. k ≡ home f key) (λ k. (k ≡ home f key) × HoldsChain (Stage.Taken (Some p) h)) (λ k at_home. (at_home, tt)) K.changed.only) T.only;
     map = λ q. T.map q ∙ ap (λ o. cond (same_key key q) (Some value) o) (K.map q) ∙ update-update same_key (map_of f a) key None (Some value) q;
     says = tt;
-    number = T.number ∙ chain_number f a m (home f key) offs [] (h ∷ others) (h ∷ others) A (home_below f key A.some) (λ i under. refl) K.changed;
+    number = T.number ∙ chain_number f a m (home f key) (chain_of f a (home f key)) [] (h ∷ others) (h ∷ others) A (home_below f key A.some) (λ i under. refl) K.changed;
+    walks = walks_then f a m b key (Stage.Taken (Some p) h) (Stage.Taken None h) (Next.Step Stage.Ending) (Next.Step Stage.Ending) (h ∷ others) None K refl refl refl refl (λ stands spares. spares)
+        (in_place_walks f a m key (Stage.Taken (Some p) h) (Next.Step Stage.Ending) (h ∷ others) p None A H K refl refl written) T.walks;
   }
 
   pub beside_made : ((hands : List HandPair) → AcceptWith g m (h ∷ hands) → next ≡ Next.Step Stage.Ending) → ((hands : List HandPair) → AcceptWith g m (h ∷ hands) → IsKnown g m key (stores Flags.Replace value) None → TurnMade g m b key (stores Flags.Replace value) (Stage.Taken None h) next hands) → TurnMade f a b key (stores flag value) (Stage.Taken (Some p) h) next others
@@ -184,11 +193,12 @@ module _ (f : Form) (a : List ℕ) (h : HandPair) (stood_on : List ℕ) (found :
   beside_rightly old is stands ended = subst (λ p. LinksRightly f a h stood_on p next) (sym is) (λ key others A holds. inl (stands, ended key others A holds))
 
 -- the turn that changes the record of the key where it stands
-pub in_place_made : (f g : Form) (a v b key : List ℕ) (asked : Asked) (value : Option (List ℕ)) (p : Place) (others : List HandPair) → g ≡ f → v ≡ a → ((hands : List HandPair) (k : List ℕ) → AcceptWith g v hands → HoldsKey g v k p → KeySet g v b k value (chain_of g v (home g k)) [] hands hands) → asked.left (map_of f a key) ≡ value → AcceptWith f a others → IsKnown f a key asked (Some p) → TurnMade f a b key asked Stage.Chained (Next.Done Reply.Ok) others
-in_place_made f g a v b key asked value p others same_form same_image clause left A known =
+pub in_place_made : (f g : Form) (a v b key : List ℕ) (asked : Asked) (value : Option (List ℕ)) (p : Place) (others : List HandPair) → g ≡ f → v ≡ a → ((hands : List HandPair) (k : List ℕ) → AcceptWith g v hands → HoldsKey g v k p → KeySet g v b k value (chain_of g v (home g k)) [] hands hands) → asked.left (map_of f a key) ≡ value → AcceptWith f a others → IsKnown f a key asked (Some p) → ChangesInPlace v b p → TurnMade f a b key asked Stage.Chained (Next.Done Reply.Ok) others
+in_place_made f g a v b key asked value p others same_form same_image clause left A known written =
     let K = moved (λ x img. (hands : List HandPair) (k : List ℕ) → AcceptWith x img hands → HoldsKey x img k p → KeySet x img b k value (chain_of x img (home x k)) [] hands hands) f g a v same_form same_image clause others key A known.found in
     set_made f a b key asked Stage.Chained (Next.Done Reply.Ok) others value (chain_of f a (home f key)) [] others K
     (chain_number f a b (home f key) (chain_of f a (home f key)) [] others others A (home_below f key A.some) (λ i under. refl) K.changed) tt refl refl left tt (inr (sym known.granted))
+    (in_place_walks f a b key Stage.Chained (Next.Done Reply.Ok) others p value A known.found K refl refl (subst (λ img. ChangesInPlace img b p) same_image written))
 
 -- a store of a key that is there is granted but for an Insert, and a delete always
 pub there_granted : (flag : Flag) (there : Option (List ℕ)) (v : List ℕ) → (flag ≡ Flags.Insert → ⊥) → there ≡ Some v → stored flag there ≡ Reply.Ok
@@ -249,6 +259,7 @@ module _ (f : Form) (a b key more bytes : List ℕ) where
     map = as_map (is_changed stage) (is_changed_after next) same T.map;
     says = as_says stage next T.says;
     number = T.number;
+    walks = T.walks;
   }
 
 -- where the map stays, an append still has the bytes that it writes

@@ -28,10 +28,10 @@ use Rattle.tdb_steps.specs.declared.rows.Region.TheVariants.{FreeList}
 use Rattle.tdb_locks.specs.declared.kind.Kind.TheVariants.{Write}
 use Rattle.tdb_law.specs.Rows.{Lock}
 use Rattle.std.proofs.lemmas.Bool.{ne_eqb}
-use Rattle.tdb_steps.specs.Stages.{hands_in, is_done, MayBeOut, IsIdle, first_stage, locked_stage}
+use Rattle.tdb_steps.specs.Stages.{hands_in, is_changed, is_done, MayBeOut, IsIdle, first_stage, locked_stage}
 use Rattle.tdb_steps.specs.Asked.{Asked}
 use Rattle.tdb_steps.specs.Turns.{number_of, Makes}
-use Rattle.tdb_steps.specs.PlainCommands.{asked_of, command_of, reply_of, turn_of}
+use Rattle.tdb_steps.specs.PlainCommands.{key_of, asked_of, command_of, reply_of, turn_of}
 use Rattle.tdb_steps.specs.LockRows.{strength_of, locks_in, rows_of, reader_rows, writer_rows, wipe_rows, row_at}
 use Rattle.tdb_steps.specs.Holdings.{KeptBeside, HoldsBefore}
 use Rattle.tdb_steps.specs.Order.{InOrder, LookOrder, StoreOrder, DeleteOrder, WipeOrder, LookAfter, StoreAfter, DeleteAfter, WipeAfter, IsAfter}
@@ -42,6 +42,9 @@ use Rattle.tdb_locks.specs.declared.turn.Turn.TheVariants as Turns
 use Rattle.tdb_chain.specs.declared.place.Place.{Place}
 use Rattle.tdb_steps.proofs.Made.{same_made}
 use Rattle.tdb_steps.proofs.WipeMade.{wipe_waits}
+use Rattle.tdb_space.proofs.Pairs.Maps.{home_below}
+use Rattle.tdb_steps.specs.Walks.{WalksKept}
+use Rattle.tdb_steps.proofs.Walks.{walks_stay, unmoved_walks}
 use Rattle.tdb_steps.proofs.CommandMade.{CommandMade, command_made}
 use Rattle.tdb_steps.specs.Machines.MapTurned.{map_waits, map_goes_on, map_changes as map_sets, map_answers, map_starves, map_is_full, map_finishes}
 use Rattle.tdb_steps.proofs.Holdings.{want}
@@ -330,11 +333,11 @@ module _ (f : Form) (a m b : List ℕ) (command : Plain) (chain : ℕ) (seqnum :
   abbrev Was : Doing
   Was = record { command = command; chain = chain; seqnum = seqnum; stage = stage; whole = was }
 
-  pub stepped_on : (onto : Stage) → CommandMade f a m command whole n (Next.Step onto) others
+  pub stepped_on : (onto : Stage) → CommandMade f a m command whole n stage (Next.Step onto) others
       → MachineTurned f a m Was (record { command = command; chain = chain; seqnum = seqnum; stage = onto; whole = whole }) n Law.Turn.Step others
-  stepped_on onto T = record { accepted = T.accepted; knows = record { found = T.knows; joined = T.joined }; only = T.only; map = T.map; number = T.number }
+  stepped_on onto T = record { accepted = T.accepted; knows = record { found = T.knows; joined = T.joined }; only = T.only; map = T.map; number = T.number; walks = T.walks }
 
-  pub ended_so : (r : Reply) → CommandMade f a m command whole n (Next.Done r) others → Counted f m b (is_done r && (map_changes (command_of command) && seqnum)) others
+  pub ended_so : (r : Reply) → CommandMade f a m command whole n stage (Next.Done r) others → Counted f m b (is_done r && (map_changes (command_of command) && seqnum)) others
       → MachineTurned f a b Was (begun command chain seqnum) n (Law.Turn.Ends (reply_of r)) others
   ended_so r T C = record {
     accepted = C.stay.accepted;
@@ -342,6 +345,8 @@ module _ (f : Form) (a m b : List ℕ) (command : Plain) (chain : ℕ) (seqnum :
     only = changes_then f a m b (λ k. IsOn f command k × (1 ≤ n)) T.only (changes_weaker f m b (λ k. ⊥) (λ k. IsOn f command k × (1 ≤ n)) (λ k never. absurd never) C.stay.only);
     map = λ p M. moved_map f m b (command_of command) n p (Law.Turn.Ends (reply_of r)) C.stay.map (T.map p M);
     number = C.number ∙ ap (raised (is_done r && (map_changes (command_of command) && seqnum))) T.number ∙ ap (λ d. raised (d && (map_changes (command_of command) && seqnum)) (number_of f a)) (done_alike r);
+    walks = λ on stands stood spares. subst (WalksKept f a b (key_of command) stands (is_changed stage)) (done_alike r)
+        (walks_stay f a m b (key_of command) stands (is_changed stage) (is_done r) others others T.accepted C.stay (home_below f (key_of command) T.accepted.some) (T.walks on stands stood tt));
   }
 
 -- the same of a machine, whose stage and joined bytes were taken out for the turn and put back after it, and the number raised
@@ -350,7 +355,7 @@ module _ (f : Form) (a m : List ℕ) (command : Plain) (chain : ℕ) (seqnum : B
   abbrev From : List ℕ → Doing → Doing → Law.Turn → Type 0
   From b x y turn = IsAfter x.command x.stage n → MayBeOut x.stage others → AcceptWith f a (hands_in x.stage ++ others) → DoingKnows f a x → MachineTurned f a b x y n turn others
 
-  turned_so : (next : Next) → led ≡ next → IsAfter command stage n → MayBeOut stage others → AcceptWith f a (hands_in stage ++ others) → DoingKnows f a (record { command = command; chain = chain; seqnum = seqnum; stage = stage; whole = was }) → CommandMade f a m command whole n next others
+  turned_so : (next : Next) → led ≡ next → IsAfter command stage n → MayBeOut stage others → AcceptWith f a (hands_in stage ++ others) → DoingKnows f a (record { command = command; chain = chain; seqnum = seqnum; stage = stage; whole = was }) → CommandMade f a m command whole n stage next others
   turned_so next on is may A K = command_made command f a m was whole n stage next others is (subst (λ x. InOrder command x next) stage_out (subst (InOrder command taken) on order)) may A K.found K.joined
       (subst (λ x. CommandMakes f a m command was whole x next) stage_out (subst (λ w. CommandMakes f a m command w whole taken next) whole_out (subst (CommandMakes f a m command out whole taken) on made)))
 
@@ -508,6 +513,11 @@ module _ (f : Form) (a : List ℕ) (command : Plain) (chain : ℕ) (seqnum : Boo
   no_hands stage (lock_second found at) = ap hands_in at
   no_hands stage (lock_both at) = ap hands_in at
 
+  not_changed : (stage : Stage) → LockStage stage → is_changed stage ≡ false
+  not_changed stage (lock_first at) = ap is_changed at
+  not_changed stage (lock_second found at) = ap is_changed at
+  not_changed stage (lock_both at) = ap is_changed at
+
   same_only : ChangesOnly f a a (λ k. IsOn f command k × (1 ≤ n))
   same_only = changes_none f a (λ k. IsOn f command k × (1 ≤ n))
 
@@ -518,8 +528,10 @@ module _ (f : Form) (a : List ℕ) (command : Plain) (chain : ℕ) (seqnum : Boo
   lock_turned stage e Turns.Step locks owner old new rows r at L is A K = subst (λ x. MachineTurned f a a (At stage) x n Law.Turn.Step others) (sym L.0) (led stage (lock_stage rows stage r at) is A K)
   lock_turned stage e (Turns.Blocked other byte) locks owner old new rows r at L is A K =
       subst (λ x. MachineTurned f a a (At stage) x n (Law.Turn.Blocked other byte) others) (sym L.0)
-      (record { accepted = A; knows = K; only = same_only; map = λ m M. map_waits other byte refl (unchanged stage (lock_stage rows stage r at) is) M; number = refl })
+      (record { accepted = A; knows = K; only = same_only; map = λ m M. map_waits other byte refl (unchanged stage (lock_stage rows stage r at) is) M; number = refl;
+        walks = λ on stands stood spares. unmoved_walks f a (key_of command) stands (is_changed stage) (is_changed stage) refl })
   lock_turned stage e (Turns.Done reply) locks owner old new rows r at L is A K =
       subst (λ x. MachineTurned f a a (At stage) x n (Law.Turn.Ends (reply_of reply)) others) (sym L.1)
       (subst (λ q. MachineTurned f a a (At stage) (begun command chain seqnum) n (Law.Turn.Ends (reply_of q)) others) (sym L.0)
-      (record { accepted = subst (λ h. AcceptWith f a (h ++ others)) (no_hands stage (lock_stage rows stage r at)) A; knows = begun_knows f a command chain seqnum; only = same_only; map = λ m M. map_starves refl (unchanged stage (lock_stage rows stage r at) is) M; number = refl }))
+      (record { accepted = subst (λ h. AcceptWith f a (h ++ others)) (no_hands stage (lock_stage rows stage r at)) A; knows = begun_knows f a command chain seqnum; only = same_only; map = λ m M. map_starves refl (unchanged stage (lock_stage rows stage r at) is) M; number = refl;
+        walks = λ on stands stood spares. unmoved_walks f a (key_of command) stands (is_changed stage) false (sym (not_changed stage (lock_stage rows stage r at))) }))

@@ -23,9 +23,10 @@ use Rattle.tdb_steps.specs.declared.stage.Stage.{Stage}
 use Rattle.tdb_steps.specs.declared.stage.Stage.TheVariants.{Begun, Ending}
 use Rattle.tdb_steps.specs.declared.stage.Next.{Next}
 use Rattle.tdb_steps.specs.Turns.{number_of, Makes, AppendMakes, WipeMakes, StoresRightly, AppendsRightly, DeletesRightly, WipesRightly, LooksRightly}
-use Rattle.tdb_steps.specs.Stages.{hands_in, is_done, IsIdle, Knows, IsJoined, OfLook, OfStore, OfDelete, OfWipe}
-use Rattle.tdb_steps.specs.PlainCommands.{key_of, asked_of, command_of, IsMapOf}
+use Rattle.tdb_steps.specs.Stages.{hands_in, is_done, is_changed, IsIdle, Knows, IsJoined, OfLook, OfStore, OfDelete, OfWipe}
+use Rattle.tdb_steps.specs.PlainCommands.{IsKeyed, key_of, asked_of, command_of, IsMapOf}
 use Rattle.tdb_steps.specs.Order.{IsAfter}
+use Rattle.tdb_steps.specs.Walks.{StandInChains, SparesStood, WalksKept}
 
 -- the command, the chain of its key, whether its change counts in the sequence number, the stage, and the bytes that an append has
 -- joined
@@ -145,16 +146,28 @@ MapRow c n Step = n < map_last c
 MapRow c n (Blocked o byte) = Unit {0}
 MapRow c n (Ends r) = (map_ends c n r ≡ true) ⊎ ((r ≡ Memory) × (n ≤ map_last c))
 
+-- the change of a command is made after a turn that has led a machine from d to e
+abbrev pub is_changed_then : Doing → Doing → Turn → Bool
+is_changed_then d e Step = is_changed e.stage
+is_changed_then d e (Blocked o byte) = is_changed d.stage
+is_changed_then d e (Ends r) = Law.is_done r
+
+-- the turn hasn't taken out a record on which a cursor stands
+abbrev pub Spares : (ℕ → Bool) → Doing → Turn → Type 0
+Spares stands e Step = SparesStood stands (Next.Step e.stage)
+Spares stands e turn = Unit {0}
+
 -- A turn of a machine led from image a to image b, where other hands are out that stay as they are. The new image is accepted with
 -- them and the machine's own. At most the chain of its key changed, or any by a wipe, and that only after its first turn, which locks
 -- it, or all. The turn is one of the command's row, the map and the reply are as the command says, and the sequence number is raised
--- where the command counts and is done.
+-- where the command counts and is done. Walks through the chain of its key are kept, wherever cursors stand.
 pub record MachineTurned (f : Form) (a b : List ℕ) (d e : Doing) (n : ℕ) (turn : Turn) (others : List HandPair) : Type 0 where
   pub accepted : AcceptWith f b (hands_in e.stage ++ others)
   pub knows : DoingKnows f b e
   pub only : ChangesOnly f a b (λ k. IsOn f d.command k × (1 ≤ n))
   pub map : (m : Map) → IsMapOf f a m → MapTurned f b (command_of d.command) n m turn
   pub number : number_of f b ≡ number_after d.seqnum (command_of d.command) turn (number_of f a)
+  pub walks : IsKeyed d.command → (stands : ℕ → Bool) → StandInChains f a stands → Spares stands e turn → WalksKept f a b (key_of d.command) stands (is_changed d.stage) (is_changed_then d e turn)
 
 -- what a turn leaves of the machine: after a step it has had one more, blocked it is as it was, and at its end it is before its first
 -- turn

@@ -23,6 +23,11 @@ key_of (Append key value) = key
 key_of (Delete key) = key
 key_of Wipe = []
 
+-- a command that is on a key
+abbrev pub IsKeyed : Plain → Type 0
+IsKeyed Wipe = ⊥
+IsKeyed _ = Unit {0}
+
 -- what it asks for of its key, and a wipe of each
 abbrev pub asked_of : Plain → Asked
 asked_of (Fetch key) = fetches

@@ -23,6 +23,7 @@ use Rattle.tdb_steps.specs.declared.stage.Next.{Next}
 use Rattle.tdb_steps.specs.declared.stage.Next.TheVariants.{Step, Done}
 use Rattle.tdb_steps.specs.Asked.{Asked, appends, joined, wipes}
 use Rattle.tdb_steps.specs.Wiped.{Wiped}
+use Rattle.tdb_steps.specs.Walks.{KeepsWalks}
 use Rattle.tdb_steps.specs.Stages.{hands_in, hands_after, MayBeOut, HoldsChain, Knows, KnowsAfter, IsJoined, JoinedAfter, is_changed, is_changed_after, IsEnd}
 
 -- the sequence number of an image
@@ -50,7 +51,7 @@ Says _ asked v (Done reply) = IsWant reply ⊎ (reply ≡ asked.reply v)
 
 -- A turn led from image a to image b, where other hands are out that stay as they are. The new image is accepted with the hands
 -- that the command holds then, and it knows of the new image what its stage says. At most the chain of its key changed, and that
--- only while it is locked; a turn before that changes nothing. The sequence number stays.
+-- only while it is locked; a turn before that changes nothing. The sequence number stays, and walks keep their keys.
 pub record TurnMade (f : Form) (a b key : List ℕ) (asked : Asked) (old : Stage) (next : Next) (others : List HandPair) : Type 0 where
   pub accepted : AcceptWith f b (hands_after next ++ others)
   pub knows : KnowsAfter f b key asked next
@@ -58,6 +59,7 @@ pub record TurnMade (f : Form) (a b key : List ℕ) (asked : Asked) (old : Stage
   pub map : MapBy (is_changed old) (is_changed_after next) f a b key asked
   pub says : Says old asked (map_of f a key) next
   pub number : number_of f b ≡ number_of f a
+  pub walks : KeepsWalks f a b key old next
 
 -- what a turn from this stage makes of an image, for whatever other hands are out
 abbrev pub Makes : Form → List ℕ → List ℕ → List ℕ → Asked → Stage → Next → Type 0

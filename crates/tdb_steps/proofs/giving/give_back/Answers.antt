@@ -1,5 +1,5 @@
 -- The old record goes into the free list, and no chain changes.
-use Rattle.std.proofs.Common.{◌<◌, ◌^◌, length, refl, arith}
+use Rattle.std.proofs.Common.{◌<◌, ◌^◌, ◌∷◌, length, refl, arith}
 use Rattle.tdb_space.specs.Chain.{free_of}
 use Rattle.tdb_free.proofs.Accepted.{can_be_given}
 use Rattle.tdb_free.proofs.Traded.{given_stays}
@@ -15,6 +15,6 @@ returns-in-Ok-clause-made g c told small key asked others A known =
     let b = g.S.Space.image c.give.new.s in
     let h = c.args.hand in
     let short : length a < 2 ^ 32 = omega (arith, g.met.S.Space.told_size c.args.s.now told, small) in
-    stays_made f a b key asked (Stage.Changed h) (Next.Step Stage.Ending) others
+    stays_made f a b key asked (Stage.Changed h) (Next.Step Stage.Ending) (h ∷ others) others A
     (given_stays f a b h others A (c.in-Ok.ensures.given told (free_of f a) (can_be_given f a h others A short)))
     (number_same f a b (c.give.ensures.only told (free_of f a) (can_be_given f a h others A short)).header) refl tt tt

@@ -1,8 +1,6 @@
 -- The old record is marked as dead, and the new one is linked.
 use Rattle.std.proofs.Common.{◌≡◌, ◌+◌, ◌<◌, ◌/◌, ◌∷◌, List, ℕ, arith}
 use Rattle.std.specs.Prelude.{◌^◌, IsTrue, None, Some}
-use Rattle.tdb_space.specs.Chain.{chain_of}
-use Rattle.tdb_space.specs.Pairs.{home}
 use Rattle.tdb_space.specs.Extents.{HandPair}
 use Rattle.tdb_space.specs.Accepted.{AcceptWith}
 use Rattle.tdb_chain.specs.Place.{HoldsKey}
@@ -12,6 +10,8 @@ use Rattle.tdb_steps.specs.declared.flag.Flag.{Flag}
 use Rattle.tdb_steps.specs.declared.flag.Flag.TheVariants.{Replace}
 use Rattle.tdb_steps.specs.declared.stage.Stage.TheVariants as Stage
 use Rattle.tdb_steps.specs.declared.stage.Next.TheVariants as Next
+use Rattle.tdb_words.specs.declared.record.TheConstants.{DEAD}
+use Rattle.tdb_steps.proofs.Walks.{marked_in_place}
 use Rattle.tdb_steps.proofs.Made.{of_both, beside_made, beside_ends}
 use Rattle.tdb_steps.proofs.Rooms.{room_fewer}
 use Rattle.tdb_steps.proofs.linking.link_beside.Goals as goal
@@ -40,8 +40,8 @@ returns-clause-made g c =
     (λ next. IsTrue g.S.Space.tells → g.S.Space.size c.args.s.now < 2 ^ 32 → (flag : Flag) → Makes f a b key (stores flag value) (Stage.Taken (Some old) h) next)
     (λ next made ended told small flag others A known.
     let less : g.S.Space.size c.mark_dead.new.s < 2 ^ 32 = omega (arith, c.mark_dead.ensures.size, small) in
-    beside_made f k a m b key value old h flag next others (chain_of f a (home f key)) c.mark_dead.ensures.wrote.form A (c.in_default.ensures.set told (h ∷ others) key A known.found)
-    (ended told less) (made told less Replace))
+    beside_made f k a m b key value old h flag next others c.mark_dead.ensures.wrote.form A known.found (c.in_default.ensures.set told (h ∷ others) key A known.found)
+    (marked_in_place f a m old DEAD (c.mark_dead.ensures.written told)) (ended told less) (made told less Replace))
     c.link_over.ensures.made c.link_over.ensures.rightly
 
 pub returns-clause-ending : goal.returns-clause-ending
@@ -58,6 +58,6 @@ returns-clause-ending g c =
     (λ next. IsTrue g.S.Space.tells → g.S.Space.size c.args.s.now < 2 ^ 32 → (key : List ℕ) (others : List HandPair) → AcceptWith f a (h ∷ others) → HoldsKey f a key c.args.old → next ≡ Next.Step Stage.Ending)
     (λ next ended _ told small key others A holds.
     let less : g.S.Space.size c.mark_dead.new.s < 2 ^ 32 = omega (arith, c.mark_dead.ensures.size, small) in
-    beside_ends f k a m b key c.args.value.now c.args.old h Replace next others (chain_of f a (home f key)) c.mark_dead.ensures.wrote.form A (c.in_default.ensures.set told (h ∷ others) key A holds)
-    (ended told less))
+    beside_ends f k a m b key c.args.value.now c.args.old h Replace next others c.mark_dead.ensures.wrote.form A holds (c.in_default.ensures.set told (h ∷ others) key A holds)
+    (marked_in_place f a m c.args.old DEAD (c.mark_dead.ensures.written told)) (ended told less))
     c.link_over.ensures.rightly c.link_over.ensures.rightly

@@ -1,5 +1,5 @@
 -- The new record is linked, and the old one was taken out where there was one.
-use Rattle.std.proofs.Common.{◌∷◌, [], Some, refl, subst}
+use Rattle.std.proofs.Common.{◌∷◌, [], Some, refl, ◌∙◌, ap, subst, arith}
 use Rattle.tdb_space.specs.Chain.{chain_of}
 use Rattle.tdb_space.specs.Pairs.{home}
 use Rattle.tdb_space.proofs.Pairs.Maps.{home_below}
@@ -7,6 +7,8 @@ use Rattle.tdb_chain.specs.Changed.{KeySet, with_hand, without_place}
 use Rattle.tdb_steps.specs.Asked.{stores}
 use Rattle.tdb_steps.specs.declared.stage.Stage.TheVariants as Stage
 use Rattle.tdb_steps.specs.declared.stage.Next.TheVariants as Next
+use Rattle.tdb_space.specs.Extents.{HandPair}
+use Rattle.tdb_steps.proofs.Walks.{linked_walks, some_hand, no_hand}
 use Rattle.tdb_steps.proofs.Made.{set_made, chain_number, hand_high}
 use Rattle.tdb_steps.proofs.linking.link_over.Goals as goal
 
@@ -22,6 +24,8 @@ returns-in-Some-clause-made g c told small flag others A known =
     let K = subst (λ out. KeySet f a b key (Some value) offs (h ∷ []) (h ∷ others) (with_hand out others)) c.in-Some.is (c.in_ok-old.ensures.set told small others A known.found) in
     set_made f a b key (stores flag value) (Stage.Taken c.args.over h) (Next.Step (Stage.Changed c.in-Some.old)) others (Some value) offs (h ∷ []) (h ∷ others) K
     (chain_number f a b (home f key) offs (h ∷ []) (h ∷ others) (c.in-Some.old ∷ others) A (home_below f key A.some) (hand_high f a h others A) K.changed) tt refl refl refl tt tt
+    (linked_walks f a b key (Some value) (Stage.Taken c.args.over h) (Next.Step (Stage.Changed c.in-Some.old)) h others (c.in-Some.old ∷ others) A refl refl (let size = K.changed.size in omega (arith, size)) c.args.over known.found K
+    (λ stands spares p is. ap (λ (k : HandPair). stands k.0) (some_hand (c.in_ok-old.ensures.back told small others A) c.in-Some.is is) ∙ spares) (c.link.ensures.written told))
 
 pub returns-in-None-clause-made : goal.returns-in-None-clause-made
 returns-in-None-clause-made g c told small flag others A known =
@@ -35,3 +39,5 @@ returns-in-None-clause-made g c told small flag others A known =
     let K = subst (λ out. KeySet f a b key (Some value) offs (h ∷ []) (h ∷ others) (with_hand out others)) c.in-None.is (c.in_ok-old.ensures.set told small others A known.found) in
     set_made f a b key (stores flag value) (Stage.Taken c.args.over h) (Next.Step Stage.Ending) others (Some value) offs (h ∷ []) (h ∷ others) K
     (chain_number f a b (home f key) offs (h ∷ []) (h ∷ others) others A (home_below f key A.some) (hand_high f a h others A) K.changed) tt refl refl refl tt tt
+    (linked_walks f a b key (Some value) (Stage.Taken c.args.over h) (Next.Step Stage.Ending) h others others A refl refl (let size = K.changed.size in omega (arith, size)) c.args.over known.found K
+    (λ stands spares p is. no_hand (c.in_ok-old.ensures.back told small others A) c.in-None.is is) (c.link.ensures.written told))
