@@ -1,18 +1,18 @@
 -- The cells of a chain of which records stay, one is changed where it stands, one is taken out, or one comes in front.
-use Rattle.std.proofs.Common.{◌≡◌, ℕ, ◌+◌, ◌<◌, ◌≤◌, List, [], ◌∷◌, length, Bool, true, false, cond, ◌==◌, Option, Some, None, is_some, refl, sym, ◌∙◌, ap, subst, inl, inr, arith}
+use Rattle.std.proofs.Common.{◌≡◌, ℕ, ◌<◌, ◌≤◌, List, [], ◌∷◌, length, Bool, true, false, cond, ◌==◌, Option, Some, is_some, refl, sym, ◌∙◌, ap, subst, inl, inr}
 use Rattle.std.specs.Prelude.{◌&&◌, ◌||◌}
 use Rattle.std.specs.Map.{lookup, update}
-use Rattle.std.proofs.lemmas.Bool.{cases_Bool, cases_eq, eq-eqb, ne_eqb, eqb-true, false_from_ne_true}
+use Rattle.std.proofs.lemmas.Bool.{cases_eq, eq-eqb, ne_eqb, eqb-true, false_from_ne_true}
 use Rattle.tdb_words.specs.declared.record.TheConstants.{USED}
 use Rattle.tdb_space.specs.Form.{Form}
 use Rattle.tdb_space.specs.Record.{Whole, Fits, key_at, data_at, magic_of}
 use Rattle.tdb_space.specs.Chain.{Member, chain_of, without}
 use Rattle.tdb_space.specs.Pairs.{home, map_of, pairs, same_key}
 use Rattle.tdb_space.specs.Extents.{HandPair}
-use Rattle.tdb_space.specs.Accepted.{AcceptWith, AllFiled}
+use Rattle.tdb_space.specs.Accepted.{AcceptWith}
 use Rattle.tdb_space.proofs.Exchange.Kept.{Body, words_kept, key_kept}
 use Rattle.tdb_space.proofs.Chain.Walks.{member_first, member_other}
-use Rattle.tdb_space.proofs.Pairs.Maps.{same_key-eq, pairs_used, pairs_other, absent, map_home}
+use Rattle.tdb_space.proofs.Pairs.Maps.{same_key-eq, absent, map_home}
 use Rattle.tdb_law.specs.Openers.{is_key}
 use Rattle.tdb_law.specs.Layout.{Cell, Keeps, HasKeyAt, live_in, behind, unlinked, cells, chains_in}
 use Rattle.tdb_law.proofs.HandsOut.{same_test}
@@ -152,12 +152,14 @@ live_found f img q (x ∷ xs) = elim (cases_eq (magic_of f.order img x) USED) [
     go true v e rest = rw (sym e) refl
     go false v e rest = rw (sym e) rest
 
+-- and so it is of the map at the key's own chain
+pub live_mapped : (f : Form) (img q : List ℕ) (hands : List HandPair) → AcceptWith f img hands → live_in (chains_in f img (home f q)) q ≡ is_some (map_of f img q)
+live_mapped f img q hands I = live_found f img q (chain_of f img (home f q)) ∙ ap is_some (sym (map_home f img q (record { some = I.some; chains = I.chains; filed = I.filed })))
+
 -- so where the map changes at one key alone, the chain of that key keeps every other one
 module _ (f : Form) (a b key : List ℕ) (value : Option (List ℕ)) (hands news : List HandPair) (A : AcceptWith f a hands) (B : AcceptWith f b news) (map : (other : List ℕ) → map_of f b other ≡ update same_key (map_of f a) key value other) (low : home f key < f.chains) where
   found_here : (img : List ℕ) (outs : List HandPair) (q : List ℕ) → AcceptWith f img outs → home f q ≡ home f key → live_in (chains_in f img (home f key)) q ≡ is_some (map_of f img q)
-  found_here img outs q I at_home =
-      subst (λ j. live_in (chains_in f img j) q ≡ is_some (map_of f img q)) at_home
-      (live_found f img q (chain_of f img (home f q)) ∙ ap is_some (sym (map_home f img q (record { some = I.some; chains = I.chains; filed = I.filed }))))
+  found_here img outs q I at_home = subst (λ j. live_in (chains_in f img j) q ≡ is_some (map_of f img q)) at_home (live_mapped f img q outs I)
 
   none_here : (img : List ℕ) (outs : List HandPair) (q : List ℕ) → AcceptWith f img outs → (home f q ≡ home f key → ⊥) → live_in (chains_in f img (home f key)) q ≡ false
   none_here img outs q I apart = live_found f img q (chain_of f img (home f key)) ∙ ap is_some (absent f img q (home f key) (chain_of f img (home f key)) (I.filed (home f key) low) apart)

@@ -19,7 +19,7 @@ use Rattle.tdb_steps.specs.declared.plain.Plain.TheVariants.{Fetch, Has, Store, 
 use Rattle.tdb_steps.specs.declared.stage.Stage.{Stage}
 use Rattle.tdb_steps.specs.declared.stage.Next.{Next}
 use Rattle.tdb_steps.specs.Asked.{Asked, stored, joined}
-use Rattle.tdb_steps.specs.Stages.{Knows, is_done}
+use Rattle.tdb_steps.specs.Stages.{is_changed, Knows, is_done}
 use Rattle.tdb_steps.specs.Turns.{MapBy, TurnMade, IsWant}
 use Rattle.tdb_steps.specs.Turns.IsWant.{memory, full}
 use Rattle.tdb_steps.specs.PlainCommands.{IsKeyed, key_of, asked_of, command_of, store_of, reply_of, IsMapOf}
@@ -250,6 +250,45 @@ pub store_changed : (flag : Flag) (k v : List ℕ) (n : ℕ) → map_changed (st
 store_changed Flags.Replace k v n = refl
 store_changed Flags.Insert k v n = refl
 store_changed Flags.Modify k v n = refl
+
+-- after so many steps the stage of a command tells whether its change is made
+store_stage : (stage : Stage) (n : ℕ) → StoreAfter stage n → is_changed stage ≡ nat_le 5 n
+store_stage Stage.Begun n is = sym (ap (nat_le 5) is)
+store_stage Stage.Chained n is = sym (ap (nat_le 5) is)
+store_stage (Stage.Looked found) n is = sym (ap (nat_le 5) is)
+store_stage (Stage.Listed found) n is = sym (ap (nat_le 5) is)
+store_stage (Stage.Taken found hand) n is = sym (ap (nat_le 5) is)
+store_stage (Stage.Changed hand) n is = sym (ap (nat_le 5) is)
+store_stage (Stage.Wiping locked) n is = absurd is
+store_stage Stage.Ending n is = elim is [ inl five ↦ sym (ap (nat_le 5) five) | inr six ↦ sym (ap (nat_le 5) six) ]
+
+look_stage : (stage : Stage) (n : ℕ) → LookAfter stage n → is_changed stage ≡ false
+look_stage Stage.Begun n is = refl
+look_stage Stage.Chained n is = refl
+look_stage (Stage.Looked found) n is = refl
+look_stage (Stage.Listed found) n is = refl
+look_stage (Stage.Taken found hand) n is = refl
+look_stage (Stage.Changed hand) n is = absurd is
+look_stage (Stage.Wiping locked) n is = refl
+look_stage Stage.Ending n is = absurd is
+
+delete_stage : (stage : Stage) (n : ℕ) → DeleteAfter stage n → is_changed stage ≡ nat_le 4 n
+delete_stage Stage.Begun n is = sym (ap (nat_le 4) is)
+delete_stage Stage.Chained n is = sym (ap (nat_le 4) is)
+delete_stage (Stage.Looked found) n is = sym (ap (nat_le 4) is)
+delete_stage (Stage.Listed found) n is = sym (ap (nat_le 4) is)
+delete_stage (Stage.Taken found hand) n is = absurd is
+delete_stage (Stage.Changed hand) n is = sym (ap (nat_le 4) is)
+delete_stage (Stage.Wiping locked) n is = absurd is
+delete_stage Stage.Ending n is = sym (ap (nat_le 4) is)
+
+pub changed_after : (command : Plain) → IsKeyed command → (stage : Stage) (n : ℕ) → IsAfter command stage n → is_changed stage ≡ map_changed (command_of command) n
+changed_after (Fetch k) keyed stage n is = look_stage stage n is
+changed_after (Has k) keyed stage n is = look_stage stage n is
+changed_after (Store k v flag) keyed stage n is = store_stage stage n is ∙ sym (store_changed flag k v n)
+changed_after (Append k v) keyed stage n is = store_stage stage n is
+changed_after (Delete k) keyed stage n is = delete_stage stage n is
+changed_after Wipe keyed stage n is = absurd keyed
 
 -- every command that is on a key
 pub map_turned : (command : Plain) → IsKeyed command → (f : Form) (a b : List ℕ) (stage : Stage) (next : Next) (n : ℕ) (m : Map) (others : List HandPair) → IsMapOf f a m → IsAfter command stage n → InOrder command stage next → Knows f a (key_of command) (asked_of command) stage

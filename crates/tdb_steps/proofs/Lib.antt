@@ -17,3 +17,4 @@ pub mod Counted
 pub mod Turning
 pub mod Rowed
 pub mod WipeMade
+pub mod Shifts

@@ -528,10 +528,22 @@ module _ (f : Form) (a : List ℕ) (command : Plain) (chain : ℕ) (seqnum : Boo
   lock_turned stage e Turns.Step locks owner old new rows r at L is A K = subst (λ x. MachineTurned f a a (At stage) x n Law.Turn.Step others) (sym L.0) (led stage (lock_stage rows stage r at) is A K)
   lock_turned stage e (Turns.Blocked other byte) locks owner old new rows r at L is A K =
       subst (λ x. MachineTurned f a a (At stage) x n (Law.Turn.Blocked other byte) others) (sym L.0)
-      (record { accepted = A; knows = K; only = same_only; map = λ m M. map_waits other byte refl (unchanged stage (lock_stage rows stage r at) is) M; number = refl;
-        walks = λ on stands stood spares. unmoved_walks f a (key_of command) stands (is_changed stage) (is_changed stage) refl })
+      (record {
+        accepted = A;
+        knows = K;
+        only = same_only;
+        map = λ m M. map_waits other byte refl (unchanged stage (lock_stage rows stage r at) is) M;
+        number = refl;
+        walks = λ on stands stood spares. unmoved_walks f a (key_of command) stands (is_changed stage) (is_changed stage) refl;
+      })
   lock_turned stage e (Turns.Done reply) locks owner old new rows r at L is A K =
       subst (λ x. MachineTurned f a a (At stage) x n (Law.Turn.Ends (reply_of reply)) others) (sym L.1)
       (subst (λ q. MachineTurned f a a (At stage) (begun command chain seqnum) n (Law.Turn.Ends (reply_of q)) others) (sym L.0)
-      (record { accepted = subst (λ h. AcceptWith f a (h ++ others)) (no_hands stage (lock_stage rows stage r at)) A; knows = begun_knows f a command chain seqnum; only = same_only; map = λ m M. map_starves refl (unchanged stage (lock_stage rows stage r at) is) M; number = refl;
-        walks = λ on stands stood spares. unmoved_walks f a (key_of command) stands (is_changed stage) false (sym (not_changed stage (lock_stage rows stage r at))) }))
+      (record {
+        accepted = subst (λ h. AcceptWith f a (h ++ others)) (no_hands stage (lock_stage rows stage r at)) A;
+        knows = begun_knows f a command chain seqnum;
+        only = same_only;
+        map = λ m M. map_starves refl (unchanged stage (lock_stage rows stage r at) is) M;
+        number = refl;
+        walks = λ on stands stood spares. unmoved_walks f a (key_of command) stands (is_changed stage) false (sym (not_changed stage (lock_stage rows stage r at)));
+      }))

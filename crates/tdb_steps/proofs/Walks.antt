@@ -1,17 +1,16 @@
 -- What the changes of an image leave of walks through the chain of a key.
 use Rattle.std.proofs.Common.{◌≡◌, ℕ, ◌+◌, ◌<◌, ◌≤◌, ◌⊎◌, List, [], ◌∷◌, length, Bool, true, false, ◌==◌, Option, Some, None, refl, sym, ◌∙◌, ap, subst, inl, inr, arith}
 use Rattle.std.specs.Prelude.{◌&&◌, slice_index, take, drop}
-use Rattle.std.specs.Map.{update}
 use Rattle.std.proofs.Math.Bool.{and-false}
 use Rattle.std.proofs.lemmas.Bool.{cases_eq, cases_lt, eq-eqb, ne_eqb, false_from_ne_true}
 use Rattle.tdb_words.specs.declared.record.TheConstants.{USED}
 use Rattle.tdb_words.specs.declared.record.Rec.{Rec}
 use Rattle.tdb_words.specs.Word.{word}
 use Rattle.tdb_words.proofs.Words.{word_agrees}
-use Rattle.tdb_space.specs.Form.{Form, chain_head, data_start}
+use Rattle.tdb_space.specs.Form.{Form, chain_head}
 use Rattle.tdb_space.specs.Record.{IsChained, Whole, Fits, key_at, magic_of, rec_len_of, key_len_of}
 use Rattle.tdb_space.specs.Chain.{Member, Leads, chain_of, free_of, without}
-use Rattle.tdb_space.specs.Pairs.{home, map_of, same_key}
+use Rattle.tdb_space.specs.Pairs.{home}
 use Rattle.tdb_space.specs.Extents.{Extent, HandPair, once, times, extents, extent_at, hand_extents}
 use Rattle.tdb_space.specs.Accepted.{AcceptWith}
 use Rattle.tdb_space.specs.Stays.{OnlyIn, ChainStays, ChainsStay}
@@ -23,7 +22,7 @@ use Rattle.tdb_space.proofs.Accepted.Removes.{filed_member}
 use Rattle.tdb_space.proofs.Pairs.Maps.{home_below}
 use Rattle.tdb_free.proofs.TakenAs.{member_without}
 use Rattle.tdb_chain.specs.declared.place.Place.{Place}
-use Rattle.tdb_chain.specs.Place.{IsPlace, HoldsKey, IsFound}
+use Rattle.tdb_chain.specs.Place.{HoldsKey, IsFound}
 use Rattle.tdb_chain.specs.Changed.{KeySet, OldOrWord, hand_at, hands_back, without_place, word_before}
 use Rattle.tdb_chain.proofs.PlaceStays.{place_member}
 use Rattle.tdb_chain.proofs.Unlinked.{place_magic, place_len, word_only}
@@ -34,7 +33,7 @@ use Rattle.tdb_steps.specs.declared.stage.Stage.{Stage}
 use Rattle.tdb_steps.specs.declared.stage.Next.{Next}
 use Rattle.tdb_steps.specs.Stages.{is_changed, is_changed_after}
 use Rattle.tdb_steps.specs.Walks.{StandInChains, SparesStood, KeepsAll, KeepsBy, WalksKept, KeepsWalks}
-use Rattle.tdb_steps.proofs.Cells.{here, here_kept, SameAt, FewerAt, same_from, fewer_from, same_keeps, but_keeps, without_keeps, keeps_then, keeps_then_all, all_keeps, front_keeps, others_kept}
+use Rattle.tdb_steps.proofs.Cells.{here, here_kept, SameAt, same_from, fewer_from, same_keeps, but_keeps, without_keeps, keeps_then, keeps_then_all, all_keeps, front_keeps, others_kept}
 
 -- the records of a chain of an accepted image
 module _ (f : Form) (a b : List ℕ) (hands : List HandPair) (A : AcceptWith f a hands) (longer : length a ≤ length b) (j : ℕ) (low : j < f.chains) where

@@ -9,3 +9,4 @@ pub mod Holdings
 pub mod Order
 pub mod Machines
 pub mod LockTurns
+pub mod Shifts

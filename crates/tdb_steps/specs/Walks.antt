@@ -7,7 +7,7 @@ use Rattle.tdb_law.specs.Layout.{Cell, Keeps, live_in, behind, chains_in}
 use Rattle.tdb_steps.specs.declared.stage.Stage.{Stage}
 use Rattle.tdb_steps.specs.declared.stage.Stage.TheVariants.{Changed}
 use Rattle.tdb_steps.specs.declared.stage.Next.{Next}
-use Rattle.tdb_steps.specs.declared.stage.Next.TheVariants.{Step, Done}
+use Rattle.tdb_steps.specs.declared.stage.Next.TheVariants.{Step}
 use Rattle.tdb_steps.specs.Stages.{is_changed, is_changed_after}
 
 -- each record on which a cursor stands is one of a chain

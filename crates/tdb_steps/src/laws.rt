@@ -1,5 +1,6 @@
-// The law of what a command knows between two turns.
+// The laws of what a command knows between two turns, and of what its turns do to walks.
 
+ghost use Rattle.tdb_steps.specs.Shifts.{TurnsShift};
 ghost use Rattle.tdb_steps.specs.Turns.{KnowledgeStays};
 ghost use Rattle.tdb_steps.specs.Machines.{MachineKnowledgeStays};
 
@@ -8,4 +9,10 @@ ghost use Rattle.tdb_steps.specs.Machines.{MachineKnowledgeStays};
 pub fn knowledge_stays()
     ensures law { KnowledgeStays }
     ensures machine { MachineKnowledgeStays }
+{}
+
+/// Each turn of a machine outside a transaction shifts every walk as the law says, wherever cursors stand. The law is
+/// over all turns and places; the function does nothing.
+pub fn turns_shift()
+    ensures law { TurnsShift }
 {}

@@ -28,7 +28,7 @@ pub use crate::append_turns::append_turn;
 pub use crate::appending::look_to_append;
 pub use crate::deleting::delete_turn;
 pub use crate::flag::Flag;
-pub use crate::laws::knowledge_stays;
+pub use crate::laws::{knowledge_stays, turns_shift};
 pub use crate::locking::{covers, let_go, let_go_of, take_lock};
 pub use crate::looks::{fetch_turn, has_turn};
 pub use crate::machine::Machine;
