@@ -28,3 +28,4 @@ pub mod Lawful
 pub mod WalkShown
 pub mod WalkLawful
 pub mod Viewed
+pub mod Again

@@ -1,8 +1,8 @@
 -- The view of an opener with a cursor, as two tests.
-use Rattle.std.proofs.Common.{◌≡◌, ℕ, zero, suc, ◌+◌, ◌*◌, ◌-◌, ◌<◌, ◌≤◌, List, Bool, true, false, ◌==◌, nat_le, nat_lt, Option, Some, None, Contains, refl, sym, ◌∙◌, ap, subst, inl, inr, ◌⊎◌, arith}
+use Rattle.std.proofs.Common.{◌≡◌, ℕ, zero, suc, ◌-◌, List, Bool, true, false, ◌==◌, nat_le, nat_lt, Option, Some, None, refl, sym, ◌∙◌, ap, subst, inl, inr, arith}
 use Rattle.std.specs.Prelude.{◌&&◌, ◌/◌, not, is_none, nat_eq, MatchBool}
 use Rattle.std.specs.List.{list_any}
-use Rattle.std.proofs.lemmas.Bool.{cases_Bool, cases_eq, cases_lt, eq-eqb, eqb-true, eqb-false, le-leb, leb-true, lt-ltb, ltb-true, false≢true}
+use Rattle.std.proofs.lemmas.Bool.{cases_Bool, cases_lt, eq-eqb, eqb-true, eqb-false, le-leb, leb-true, lt-ltb, ltb-true, false≢true}
 use Rattle.std.proofs.lemmas.Cmp.{nat_eq_equiv}
 use Rattle.std.proofs.lemmas.Map.Views.{list_any-from_Contains, Contains-from_any}
 use Rattle.tdb_words.specs.declared.record.TheConstants.{USED}
@@ -15,12 +15,11 @@ use Rattle.tdb_law.proofs.Tests.{and_both, and_make, from_not, to_not}
 use Rattle.tdb_walk.specs.declared.standing.Standing.{Standing}
 use Rattle.tdb_walk.specs.declared.standing.Standing.TheVariants.{Before, On, Past}
 use Rattle.tdb_walk.specs.declared.stage.Stage.TheVariants.{Rested}
-use Rattle.tdb_walk.specs.declared.stage.Goal.{Goal}
 use Rattle.tdb_walk.specs.NextLive.{NoneLive, first_live, left_in, place_of}
 use Rattle.tdb_walk.specs.Way.{lock_byte, next_chain}
 use Rattle.tdb_walk.specs.ByteLocks.{only_reads}
 use Rattle.tdb_walk.specs.Cursors.{HasToPurge, IsToPurge, from_of}
-use Rattle.tdb_walk.specs.InLaw.{IsOnWay, IsView, ViewIsSo, must_purge, none_live, is_on_way, view_of}
+use Rattle.tdb_walk.specs.InLaw.{IsOnWay, ViewIsSo, must_purge, none_live, is_on_way}
 
 -- a test that holds exactly where a fact does
 by_test : (z : Bool) (X : Type 0) → (z ≡ true → X) → (X → z ≡ true) → MatchBool z X (X → ⊥)

@@ -7,3 +7,4 @@ pub mod Cursors
 pub mod Purging
 pub mod Laws
 pub mod InLaw
+pub mod Again

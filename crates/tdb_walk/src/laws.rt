@@ -1,5 +1,6 @@
 // The laws of moves, and of the turns of cursors in a world.
 
+ghost use Rattle.tdb_walk.specs.Again.{CursorStandsAgain, CursorBegins, CursorLeavesOthers};
 ghost use Rattle.tdb_walk.specs.Laws.{MovesAreWalks};
 ghost use Rattle.tdb_walk.specs.InLaw.{CursorIsLawful, WalkIsLawful, OthersStay, ViewIsSo};
 
@@ -18,4 +19,14 @@ pub fn cursors_are_lawful()
     ensures walk { WalkIsLawful }
     ensures others { OthersStay }
     ensures view { ViewIsSo }
+{}
+
+/// What a turn of a cursor leaves: by `again` it stands so that its next turn is one of the law, or rests where its
+/// command has ended; by `begins` a cursor that rests can be asked for any command. By `others` the image is accepted
+/// with the same hands, and at most a chain of which the cursor purges a record has changed. The law is over all
+/// turns; the function does nothing.
+pub fn cursors_go_on()
+    ensures again { CursorStandsAgain }
+    ensures begins { CursorBegins }
+    ensures others { CursorLeavesOthers }
 {}
