@@ -29,3 +29,4 @@ pub mod WalkShown
 pub mod WalkLawful
 pub mod Viewed
 pub mod Again
+pub mod Walkers

@@ -8,3 +8,4 @@ pub mod Purging
 pub mod Laws
 pub mod InLaw
 pub mod Again
+pub mod Walkers

@@ -2,6 +2,7 @@
 
 ghost use Rattle.tdb_walk.specs.Again.{CursorStandsAgain, CursorBegins, CursorLeavesOthers};
 ghost use Rattle.tdb_walk.specs.Laws.{MovesAreWalks};
+ghost use Rattle.tdb_walk.specs.Walkers.{CursorIsTurned};
 ghost use Rattle.tdb_walk.specs.InLaw.{CursorIsLawful, WalkIsLawful, OthersStay, ViewIsSo};
 
 /// Keys that are further on are those of live records that are left; so a move that ends leaves none, and one that is
@@ -12,13 +13,14 @@ pub fn moves_are_walks()
 
 /// A turn of a cursor is one of the law of reports: `turn` says so of its row, of the locks before it and after it as
 /// strengths, of what it wants and which conflict blocks it, and of its effect; `walk` of its own walk. By `others` it
-/// leaves the walks of all other cursors; `view` gives what the file adds to its opener. The law is over all turns; the
-/// function does nothing.
+/// leaves the walks of all other cursors; `view` gives what the file adds to its opener. By `world` all this is a turn of
+/// a world whose openers have cursors. The law is over all turns; the function does nothing.
 pub fn cursors_are_lawful()
     ensures turn { CursorIsLawful }
     ensures walk { WalkIsLawful }
     ensures others { OthersStay }
     ensures view { ViewIsSo }
+    ensures world { CursorIsTurned }
 {}
 
 /// What a turn of a cursor leaves: by `again` it stands so that its next turn is one of the law, or rests where its
