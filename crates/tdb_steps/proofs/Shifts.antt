@@ -5,6 +5,7 @@ use Rattle.std.specs.FinMap.{get, insert}
 use Rattle.std.proofs.lemmas.Bool.{cases_Bool, cases_eq, eq-eqb, ne_eqb, leb-true, ltb-true}
 use Rattle.tdb_space.specs.Form.{Form}
 use Rattle.tdb_space.specs.Pairs.{home}
+use Rattle.tdb_space.specs.Chain.{Member, chain_of}
 use Rattle.tdb_space.specs.Extents.{HandPair}
 use Rattle.tdb_space.specs.Accepted.{AcceptWith}
 use Rattle.tdb_space.proofs.Pairs.Maps.{home_below}
@@ -34,7 +35,7 @@ use Rattle.tdb_steps.specs.Order.{IsAfter}
 use Rattle.tdb_steps.specs.Walks.{StandInChains, KeepsAll, KeepsBy}
 use Rattle.tdb_steps.specs.Machines.{Doing, MachineTurned, MapTurned, IsOn, Leaves, Spares, is_changed_then}
 use Rattle.tdb_steps.specs.Machines.MapTurned.{map_waits, map_goes_on, map_changes, map_answers, map_starves, map_is_full, map_finishes}
-use Rattle.tdb_steps.specs.Shifts.{StandsBeside, TurnsShift}
+use Rattle.tdb_steps.specs.Shifts.{StandsBeside, StoodStay, TurnsShift}
 use Rattle.tdb_steps.proofs.Cells.{live_mapped}
 use Rattle.tdb_steps.proofs.Lawful.{changed_after}
 use Rattle.tdb_steps.proofs.Walks.{stays_kept}
@@ -307,3 +308,9 @@ module _ (f : Form) (a b : List ℕ) (d e : Doing) (n : ℕ) (turn : Turn) (othe
 
 pub turns_shift : TurnsShift
 turns_shift f a b d e n turn others x stands place mine A T is L out granted stood spares beside = each f a b d e n turn others x stands place mine A T is L out granted d.command refl stood spares beside
+
+pub stood_stay : StoodStay
+stood_stay f a b d e n turn others stands A T keyed stood spares j p low on there = elim (cases_eq j (home f (key_of d.command))) [
+  | inl at_home ↦ subst (λ i. Member p (chain_of f b i)) (sym at_home) ((T.walks keyed stands stood spares).members p on (subst (λ i. Member p (chain_of f a i)) at_home there))
+  | inr apart ↦ subst (Member p) (sym (T.only.chains j low (λ may. apart (on_home d.command keyed f j may.0))).same_offsets) there
+]
