@@ -1,0 +1,97 @@
+//! Small loads and their summaries, and a larger one that is done twice.
+
+use std::alloc::{AllocError, Global};
+use std::test::Fail;
+use tdb_check::{check, read_front};
+use tdb_disk::{Disk, MemDisk};
+use tdb_gen::{Summary, generate};
+use tdb_space::{Direct, Space};
+use tdb_words::{HashKind, Header, Order, header_bytes};
+use tdb_world::Options;
+
+const HEADER: Header = Header {
+    order: Order::Little,
+    hash: HashKind::Old,
+    hash_size: 131,
+    recovery_start: 0,
+    sequence: 0,
+};
+
+const OPTIONS: Options = Options {
+    limit: 4294963200,
+    nesting: true,
+    read_only: false,
+    seqnum: false,
+};
+
+/// What an empty file gives for no commands.
+const NOTHING: &[u8] =
+    b"commands 0\nok 0\ndata 0\nnoexist 0\nyes 0\nno 0\nfull 0\nmemory 0\nblocked 0\nlive 0\nlength 696\n";
+
+/// And for one command from the seed 1, which stores 150 bytes.
+const ONE_STORE: &[u8] =
+    b"commands 1\nok 1\ndata 0\nnoexist 0\nyes 0\nno 0\nfull 0\nmemory 0\nblocked 0\nlive 1\nlength 4096\n";
+
+/// A new file of 131 chains.
+fn new_file(alloc: Global) -> Result<MemDisk, AllocError> {
+    let mut bytes = vec![in alloc; 0u8; 696]?;
+    for (byte, from) in bytes
+        .iter_mut()
+        .zip(header_bytes(131, Order::Little, HashKind::Old))
+    {
+        *byte = from;
+    }
+    MemDisk::new(alloc, &bytes)
+}
+
+/// Generates commands on a file, where that is whole.
+fn load<D: Disk>(alloc: Global, disk: &mut D, commands: u32, seed: u32) -> Option<Summary> {
+    let Ok(header) = read_front(disk) else {
+        return None;
+    };
+    let mut space = Direct::new(disk, &header);
+    let Ok(_) = check(alloc, &mut space) else {
+        return None;
+    };
+    if space.len().ok()? > OPTIONS.limit {
+        return None;
+    }
+    generate(alloc, &mut space, &header, &OPTIONS, commands, seed).ok()
+}
+
+/// How many keys a check counts.
+fn live(alloc: Global, disk: &mut MemDisk) -> Option<u64> {
+    check(alloc, &mut Direct::new(disk, &HEADER))
+        .ok()
+        .map(|report| report.live)
+}
+
+#[test]
+fn small_loads_have_their_summaries(rt: HostRuntime) -> Result<(), Fail> {
+    let alloc = rt.alloc();
+    for (commands, seed, text) in [(0, 7, NOTHING), (1, 1, ONE_STORE)] {
+        let mut file = new_file(alloc)?;
+        let Some(summary) = load(alloc, &mut file, commands, seed) else {
+            panic!(rt; "no summary of {commands} commands");
+        };
+        assert_eq!(rt;
+            summary.text(alloc)?.as_slice(),
+            text,
+            "{commands} commands"
+        );
+    }
+    Ok(())
+}
+
+#[test]
+fn a_load_is_the_same_twice(rt: HostRuntime) -> Result<(), Fail> {
+    let alloc = rt.alloc();
+    let mut first = new_file(alloc)?;
+    let mut other = new_file(alloc)?;
+    let summary = load(alloc, &mut first, 10_000, 1);
+    assert_eq!(rt; summary, load(alloc, &mut other, 10_000, 1));
+    assert_eq!(rt; first.as_slice(), other.as_slice());
+    assert_eq!(rt; summary.map(|s| s.commands), Some(10_000));
+    assert_eq!(rt; summary.map(|s| s.live), live(alloc, &mut first));
+    Ok(())
+}
