@@ -20,12 +20,3 @@ pub use limits::{
     DEFAULT_SIZE, LONGEST_FILE, LONGEST_NUMBER, LONGEST_WORD, MOST_CHAINS, limits_law,
 };
 pub use top::run;
-
-#[cfg(test)]
-mod create_tests;
-#[cfg(test)]
-mod tests;
-#[cfg(test)]
-mod turns_tests;
-#[cfg(test)]
-mod undo_tests;

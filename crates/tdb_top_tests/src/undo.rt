@@ -1,9 +1,9 @@
 // Files whose gate is open: what is printed, and what is left of them.
 
-use crate::tests::{Change, NEW_FILE, ONE_RECORD, change, file_with, run_words};
-use std::alloc::{AllocError, Global};
+use crate::images::{Change, change, one_record};
+use crate::runs::run_on;
 use std::test::Fail;
-use tdb_disk::{Call, MemFiles, MemSink};
+use tdb_disk::Call;
 
 /// The word that says where the undo area is, the sequence number, the header of the area, and behind that two
 /// entries and the length of the file without the area. An entry is an offset, a length, and the old bytes from there
@@ -22,13 +22,6 @@ const OPEN_GATE: [Change; 11] = [
     (4140, 0x0010_0031),
 ];
 
-/// The file of one record.
-fn one_record() -> [u8; 4096] {
-    let mut image = file_with(&NEW_FILE);
-    change(&mut image, &ONE_RECORD);
-    image
-}
-
 /// The file of one record after its value became `9` and its sequence number 5, with an undo area that keeps what was
 /// before. These words are changed in it.
 fn stopped(words: &[Change]) -> [u8; 8192] {
@@ -40,24 +33,6 @@ fn stopped(words: &[Change]) -> [u8; 8192] {
         image[at..at + 4].copy_from_slice(&word.to_le_bytes());
     }
     image
-}
-
-/// The status of a run on a file `f.tdb`, what it prints, and what is left of the file.
-fn run_on(
-    alloc: Global,
-    image: &[u8],
-    words: &str,
-    failing: Option<(Call, u64)>,
-) -> Result<(u8, Vec<u8>, Vec<u8>), AllocError> {
-    let mut files = MemFiles::new(alloc);
-    let mut output = MemSink::new(alloc);
-    files.put("f.tdb", image)?;
-    if let Some((call, nth)) = failing {
-        files.fail_disk("f.tdb", call, nth)?;
-    }
-    let (status, printed) = run_words(alloc, &mut files, &mut output, words)?;
-    let left = files.get("f.tdb").unwrap_or(&[]).to_vec(alloc)?;
-    Ok((status, printed, left))
 }
 
 #[test]
@@ -103,7 +78,7 @@ fn opened_gates(rt: HostRuntime) -> Result<(), Fail> {
         ),
     ] {
         let image = stopped(words);
-        let (found, bytes, after) = run_on(rt.alloc(), &image, line, None)?;
+        let (found, bytes, after) = run_on(rt.alloc(), &image, b"", line, None)?;
         assert_eq!(rt; bytes.as_slice(), printed.as_bytes());
         assert_eq!(rt; found, status, "{printed}");
         match left {
@@ -146,10 +121,10 @@ fn runs_over_an_opened_gate(rt: HostRuntime) -> Result<(), Fail> {
             "number 1\n",
         ),
     ] {
-        let (found, bytes, left) = run_on(alloc, &stopped(&[]), line, failing)?;
+        let (found, bytes, left) = run_on(alloc, &stopped(&[]), b"", line, failing)?;
         assert_eq!(rt; bytes.as_slice(), printed.as_bytes(), "{failing:?}");
         assert_eq!(rt; found, status, "{failing:?}");
-        let (_, bytes, _) = run_on(alloc, &left, "tool f.tdb check", None)?;
+        let (_, bytes, _) = run_on(alloc, &left, b"", "tool f.tdb check", None)?;
         assert_eq!(rt; bytes.as_slice(), then.as_bytes(), "{failing:?}");
     }
     Ok(())

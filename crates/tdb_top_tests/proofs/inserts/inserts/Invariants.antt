@@ -1,6 +1,6 @@
 use Rattle.std.proofs.Common.{◌≡◌, ℕ, List, false}
 use Rattle.tdb_disk.specs.MemFiles.{name_is_taken}
-use Rattle.tdb_top.proofs.tests.inserts.Given as goal
+use Rattle.tdb_top_tests.proofs.inserts.inserts.Given as goal
 
 -- every file that was taken was given back
 abbrev pub invariant-loop-words : goal.invariant-loop-words

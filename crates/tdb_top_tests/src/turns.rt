@@ -1,12 +1,13 @@
 // Scripts of turns: what is printed, and what is left of the file.
 
-use crate::tests::{Change, NEW_FILE, ONE_RECORD, USAGE, change, file_with, run_with};
+use crate::images::{Change, NEW_FILE, file_with, one_record};
+use crate::runs::{USAGE, run_on};
 use std::alloc::{AllocError, Global};
 use std::test::Fail;
-use tdb_disk::{Call, MemFiles, MemSink};
+use tdb_disk::Call;
 
 /// The file that a script runs on.
-#[derive(Clone, Copy, Debug, PartialEq, Eq)]
+#[derive(Clone, Copy)]
 enum Base {
     /// A new one of 696 bytes.
     New,
@@ -26,21 +27,12 @@ fn run_script(
     script: &str,
     failing: Option<(Call, u64)>,
 ) -> Result<(u8, Vec<u8>, Vec<u8>), AllocError> {
-    let mut image = file_with(&NEW_FILE);
-    let mut len = 696;
-    if base == Base::OneRecord {
-        change(&mut image, &ONE_RECORD);
-        len = 4096;
-    }
-    let mut files = MemFiles::new(alloc);
-    let mut output = MemSink::new(alloc);
-    files.put("f.tdb", image.get(..len).unwrap_or(&[]))?;
-    if let Some((call, nth)) = failing {
-        files.fail_disk("f.tdb", call, nth)?;
-    }
-    let (status, printed) = run_with(alloc, &mut files, script.as_bytes(), &mut output, words)?;
-    let left = files.get("f.tdb").unwrap_or(&[]).to_vec(alloc)?;
-    Ok((status, printed, left))
+    let (image, len) = match base {
+        Base::New => (file_with(&NEW_FILE), 696),
+        Base::OneRecord => (one_record(), 4096),
+    };
+    let image = image.get(..len).unwrap_or(&[]);
+    run_on(alloc, image, script.as_bytes(), words, failing)
 }
 
 /// Two openers store, turn by turn.

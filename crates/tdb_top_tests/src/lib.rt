@@ -1,0 +1,19 @@
+//! Tests of whole command lines over the forms in memory, by the public call of `tdb_top`.
+#![tactic(auto)]
+
+#[cfg(test)]
+mod backup;
+#[cfg(test)]
+mod create;
+#[cfg(test)]
+mod images;
+#[cfg(test)]
+mod inserts;
+#[cfg(test)]
+mod lines;
+#[cfg(test)]
+mod runs;
+#[cfg(test)]
+mod turns;
+#[cfg(test)]
+mod undo;
