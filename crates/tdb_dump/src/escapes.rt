@@ -28,7 +28,7 @@ fn upper_digit(value: u8) -> u8
 
 /// What a hexadecimal digit of either case stands for.
 #[tactic(auto, unfolding(crate::specs::Escape::hex_value))]
-pub(crate) fn hex_value(digit: u8) -> Option<u8>
+pub fn hex_value(digit: u8) -> Option<u8>
     ensures value { result ≡ hex_value digit }
     ensures small { IfSome result (λ v. v < 16) }
 {

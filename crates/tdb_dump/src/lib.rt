@@ -10,7 +10,7 @@ mod reader;
 mod words;
 mod writer;
 
-pub use crate::escapes::escape;
+pub use crate::escapes::{escape, hex_value};
 pub use crate::laws::{spelling_law, word_law};
 pub use crate::lines::{data_line, key_line};
 pub use crate::pairs::{Pair, Pairs};

@@ -12,8 +12,8 @@ fn is_blank(byte: u8) -> bool
     byte == b' ' || byte == b'\t'
 }
 
-/// Where the first newline of a text stands.
-fn line_end(text: &[u8]) -> Option<usize>
+/// Where the first newline of a text stands. It looks at no byte behind it.
+pub fn line_end(text: &[u8]) -> Option<usize>
     ensures { result ≡ position is_newline text.now }
 {
     text.iter().position(|byte| *byte == b'\n')
@@ -55,8 +55,9 @@ fn word_len(text: &[u8]) -> usize
     }
 }
 
-/// The first word of a line, and what stands behind it; nothing where the line has no word.
-pub(crate) fn first_word(line: &[u8]) -> Option<(&[u8], &[u8])>
+/// The first word of a line, and what stands behind it; nothing where the line has no word. Spaces and tabs part words.
+/// It looks at no byte behind the word's end.
+pub fn first_word(line: &[u8]) -> Option<(&[u8], &[u8])>
     ensures { MatchOption result (words_of line.now ≡ []) (λ x. words_of line.now ≡ x.0.now ∷ words_of x.1.now) }
 {
     let Some(start) = word_start(line) else {

@@ -1,0 +1,75 @@
+-- A world serves the commands of a session, whose keys and values are no longer than their lines.
+use Rattle.std.proofs.Common.{◌≡◌, ℕ, ◌<◌, ◌≤◌, List, [], ◌∷◌, length, length-append, refl, sym, ap, subst, Bool, true, false, Option, Some, None, unwrap_or, inl, inr, arith}
+use Rattle.std.specs.Prelude.{◌^◌, if◌then◌else◌}
+use Rattle.std.specs.Str.{bytes_eq}
+use Rattle.tdb_dump.specs.Escape.{IsLetter, Letters}
+use Rattle.tdb_dump.specs.Word.{stands_in_word, IsWord}
+use Rattle.tdb_plays.specs.declared.command.Command.{Command}
+use Rattle.tdb_script.specs.Lines.{words_of}
+use Rattle.tdb_script.specs.Rows.{row_of}
+use Rattle.tdb_script.proofs.PartLemmas.{NoLonger, words_no_longer}
+use Rattle.tdb_world.specs.Given.{IsServed, IsShortGiven}
+use Rattle.tdb_tool.specs.declared.order.Order.{Order}
+use Rattle.tdb_tool.specs.Rows.{bare_orders, key_orders, value_orders}
+use Rattle.tdb_tool.specs.Orders.{storehex, IsSpelled, IsOrder}
+use Rattle.tdb_tool.specs.Asking.{Says}
+use Rattle.tdb_tool.proofs.HexLemmas.{hex_short}
+
+-- what holds of each row of a table holds of what a word has there
+abbrev OfRows : {A : Type 0} → (A → Type 0) → List (List ℕ × A) → Type 0
+OfRows P [] = Unit {0}
+OfRows P (row ∷ rows) = P row.1 × OfRows P rows
+
+of_row : {A : Type 0} (P : A → Type 0) (rows : List (List ℕ × A)) (word : List ℕ) (x : A) → OfRows P rows → row_of rows word ≡ Some x → P x
+of_row P [] word x all is = let wrong : None ≡ Some x = is in absurd (cc)
+of_row P (row ∷ rows) word x all is = of (bytes_eq row.0 word) (of_row P rows word x all.1) is
+  where
+    of : (b : Bool) → (row_of rows word ≡ Some x → P x) → (if b then Some row.1 else row_of rows word) ≡ Some x → P x
+    of true rest e = subst P (ap (λ o. unwrap_or o x) e) all.0
+    of false rest e = rest e
+
+-- a word of a command stands for no more bytes than it has
+letters_short : (text bytes : List ℕ) → Letters stands_in_word text bytes → length bytes ≤ length text
+letters_short text [] p = omega arith
+letters_short text (b ∷ bytes) p =
+    let rest = letters_short p.1 bytes p.4 in
+    let some : 0 < length p.0 = letter_length p.0 b p.3 in
+    omega (arith, rest, some, ap length p.2, length-append p.0 p.1)
+  where
+    letter_length : (front : List ℕ) (c : ℕ) → IsLetter stands_in_word front c → 0 < length front
+    letter_length front c (inl l) = omega (arith, ap length l.0)
+    letter_length front c (inr l) = omega (arith, ap length l.4)
+
+word_short : (word bytes : List ℕ) → IsWord word bytes → length bytes ≤ length word
+word_short word bytes (inl p) = omega (arith, ap length p.1)
+word_short word bytes (inr p) = letters_short word bytes p.1
+
+spelled_short : (hex : Bool) (word bytes : List ℕ) → IsSpelled hex word bytes → length bytes ≤ length word
+spelled_short true word bytes p = hex_short word bytes p
+spelled_short false word bytes p = word_short word bytes p
+
+abbrev IsFine : Order → Type 0
+IsFine (Order.Take command) = IsServed command × IsShortGiven command
+IsFine Order.Quit = Unit {0}
+
+module _ (n : ℕ) (few : n < 2 ^ 32) where
+  short : (hex : Bool) (word bytes : List ℕ) → length word ≤ n → IsSpelled hex word bytes → length bytes < 2 ^ 32
+  short hex word bytes within is = omega (arith, few, within, spelled_short hex word bytes is)
+
+  order_fine : (words : List (List ℕ)) (order : Order) → NoLonger n words → IsOrder words order → IsFine order
+  order_fine [] order l p = absurd p
+  order_fine (name ∷ []) order l p = of_row IsFine bare_orders name order ((tt, tt), ((tt, tt), (tt, tt))) p
+  order_fine (name ∷ word ∷ []) order l p =
+      let k = short false word p.0 l.1.0 p.1 in
+      of_row IsFine (key_orders p.0) name order ((tt, k), ((tt, k), tt)) p.2
+  order_fine (name ∷ word ∷ more ∷ []) order l p =
+      let hex = bytes_eq name storehex in
+      let k = short hex word p.0 l.1.0 p.2 in
+      let v = short hex more p.1 l.1.1.0 p.3 in
+      of_row IsFine (value_orders p.0 p.1) name order ((tt, (k, v)), ((tt, (k, v)), ((tt, (k, v)), tt))) p.4
+  order_fine (name ∷ word ∷ more ∷ other ∷ words) order l p = absurd p
+
+pub taken_fine : (at : ℕ) (line : List ℕ) (command : Command) → Says at line (Some (Order.Take command)) → IsServed command × IsShortGiven command
+taken_fine at line command says =
+    let short = says.fits.short in
+    order_fine 16777216 (omega arith) (words_of line) (Order.Take command) (words_no_longer 16777216 line short) says.words

@@ -1,0 +1,51 @@
+use Rattle.std.proofs.Common.{subst, arith}
+use Rattle.std.proofs.lemmas.Result.{err_from_is_err_and}
+use Rattle.tdb_tool.specs.Asked.{NextIs}
+use Rattle.tdb_tool.specs.Lines.{lines_left}
+use Rattle.tdb_tool.specs.Serving.{scene}
+use Rattle.tdb_tool.proofs.Fine.{taken_fine}
+use Rattle.tdb_tool.proofs.Sessions.{not_read, skipped, taken, broken_off}
+use Rattle.tdb_tool.proofs.serving.serve_next.Goals as goal
+
+-- no line was read
+pub returns-in_err-next_asked-clause-next : goal.returns-in_err-next_asked-clause-next
+returns-in_err-next_asked-clause-next g c =
+    let q = err_from_is_err_and c.from_residual.result c.from_residual.ensures.1 in
+    let r = c.args.reader.now in
+    let n = c.next_asked.new.reader in
+    let s = scene c.args.openers.now (g.S.Space.image c.args.space.now) (g.S.Space.size c.args.space.now) (g.S.Space.faults c.args.space.now) (g.K.Sink.written c.args.output.now) in
+    rw (q.1, q.2)
+    (not_read g.S.Space.tells g.I.Source.tells g.K.Sink.tells s s r.at n.at (lines_left r (g.I.Source.left c.args.input.now)) (lines_left n (g.I.Source.left c.next_asked.new.input)) c.in_err-next_asked.field-0.0 c.in_err-next_asked.ensures.fault c.requires.stands)
+
+-- a line was read
+pub take_play-requires-clause-served : goal.take_play-requires-clause-served
+take_play-requires-clause-served g c =
+    let r = c.args.reader.now in
+    let n = c.next_asked.new.reader in
+    let m = subst (λ a. NextIs g.I.Source.tells r.at (lines_left r (g.I.Source.left c.args.input.now)) a n.at (lines_left n (g.I.Source.left c.next_asked.new.input))) c.in-Command.is c.in_ok-next_asked.ensures.is in
+    let fine = taken_fine r.at m.0 c.in-Command.command m.3 in
+    (omega arith, fine.0, fine.1)
+
+pub returns-in_err-take_play-in-Command-clause-next : goal.returns-in_err-take_play-in-Command-clause-next
+returns-in_err-take_play-in-Command-clause-next g c =
+    let q = err_from_is_err_and c.from_residual-in_err-take_play-in-Command.result c.from_residual-in_err-take_play-in-Command.ensures.1 in
+    let r = c.args.reader.now in
+    let n = c.next_asked.new.reader in
+    let m = subst (λ a. NextIs g.I.Source.tells r.at (lines_left r (g.I.Source.left c.args.input.now)) a n.at (lines_left n (g.I.Source.left c.next_asked.new.input))) c.in-Command.is c.in_ok-next_asked.ensures.is in
+    rw (q.1, q.2)
+    (broken_off g.S.Space.tells g.I.Source.tells g.K.Sink.tells _ _ r.at n.at _ _ c.in-Command.command m c.in_err-take_play-in-Command.field-0.0 c.in_err-take_play-in-Command.ensures.ran)
+
+pub returns-in-Nothing-clause-next : goal.returns-in-Nothing-clause-next
+returns-in-Nothing-clause-next g c =
+    let r = c.args.reader.now in
+    let n = c.next_asked.new.reader in
+    let m = subst (λ a. NextIs g.I.Source.tells r.at (lines_left r (g.I.Source.left c.args.input.now)) a n.at (lines_left n (g.I.Source.left c.next_asked.new.input))) c.in-Nothing.is c.in_ok-next_asked.ensures.is in
+    let s = scene c.args.openers.now (g.S.Space.image c.args.space.now) (g.S.Space.size c.args.space.now) (g.S.Space.faults c.args.space.now) (g.K.Sink.written c.args.output.now) in
+    skipped g.S.Space.tells g.I.Source.tells g.K.Sink.tells s s r.at n.at _ _ c.requires.stands m
+
+pub returns-in_ok-take_play-in-Command-clause-next : goal.returns-in_ok-take_play-in-Command-clause-next
+returns-in_ok-take_play-in-Command-clause-next g c =
+    let r = c.args.reader.now in
+    let n = c.next_asked.new.reader in
+    let m = subst (λ a. NextIs g.I.Source.tells r.at (lines_left r (g.I.Source.left c.args.input.now)) a n.at (lines_left n (g.I.Source.left c.next_asked.new.input))) c.in-Command.is c.in_ok-next_asked.ensures.is in
+    taken g.S.Space.tells g.I.Source.tells g.K.Sink.tells _ _ r.at n.at _ _ c.in-Command.command m c.in_ok-take_play-in-Command.ensures.ran

@@ -1,0 +1,9 @@
+pub mod Hex
+pub mod Rows
+pub mod Orders
+pub mod Asking
+pub mod Lines
+pub mod Asked
+pub mod Replies
+pub mod Serving
+pub mod Whole

@@ -1,0 +1,65 @@
+// How a session ends.
+
+ghost use Rattle.std.specs.Prelude.{◌≡◌};
+ghost use Rattle.tdb_tool.specs.declared.fault.SessionFault.TheVariants as FaultIs;
+ghost use Rattle.tdb_tool.specs.Serving.{of_run, of_write};
+
+use std::alloc::AllocError;
+use tdb_dump::WriteRefusal;
+use tdb_world::RunFault;
+use thiserror::Error;
+
+/// How a session ends whose commands were all taken.
+#[derive(Clone, Copy, Debug, PartialEq, Eq)]
+pub enum SessionEnd {
+    /// The input ended, or a line was `quit`.
+    Ended,
+    /// The line that begins at the byte `at` of the input, counted from 0, is no command, or is too long.
+    Malformed { at: u64 },
+}
+
+/// Why a session broke off.
+#[derive(Clone, Copy, Debug, PartialEq, Eq, Error)]
+pub enum SessionFault {
+    /// A read of the input failed.
+    #[error("the input failed")]
+    Input,
+    /// A write of the output failed.
+    #[error("the output failed")]
+    Output,
+    /// A call of the disk failed, or a check found a fault in the file, which no turn leaves.
+    #[error("the disk failed")]
+    Device,
+    #[error("out of memory")]
+    Memory,
+}
+
+impl From<AllocError> for SessionFault {
+    ghost from_gives = { λ _ e. e ≡ FaultIs.Memory };
+
+    fn from(_: AllocError) -> Self {
+        SessionFault::Memory
+    }
+}
+
+impl From<RunFault> for SessionFault {
+    ghost from_gives = { λ fault e. e ≡ of_run fault };
+
+    fn from(fault: RunFault) -> Self {
+        match fault {
+            RunFault::Io => SessionFault::Device,
+            RunFault::Memory => SessionFault::Memory,
+        }
+    }
+}
+
+impl From<WriteRefusal> for SessionFault {
+    ghost from_gives = { λ refusal e. e ≡ of_write refusal };
+
+    fn from(refusal: WriteRefusal) -> Self {
+        match refusal {
+            WriteRefusal::Failed => SessionFault::Output,
+            WriteRefusal::Memory => SessionFault::Memory,
+        }
+    }
+}
