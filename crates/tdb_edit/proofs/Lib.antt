@@ -1,1 +1,4 @@
 pub mod Freeing
+pub mod Fits
+pub mod Putting
+pub mod Setting

@@ -2,5 +2,9 @@
 #![tactic(auto)]
 
 mod deleting;
+mod refusal;
+mod storing;
 
 pub use crate::deleting::delete;
+pub use crate::refusal::StoreRefusal;
+pub use crate::storing::store;

@@ -2,7 +2,7 @@
 use Rattle.std.specs.Prelude.{◌≡◌, ◌≢◌, ◌⊎◌, ℕ, List, Result, Ok, Err}
 use Rattle.tdb_disk.specs.History.{History, seen}
 use Rattle.tdb_top.specs.declared.act.Act.{Act}
-use Rattle.tdb_top.specs.declared.act.Act.TheVariants.{Show, Insert, Delete, Erase, Check}
+use Rattle.tdb_top.specs.declared.act.Act.TheVariants.{Show, Insert, Store, Delete, Erase, Check}
 use Rattle.tdb_top.specs.declared.ending.Reply.{Reply}
 use Rattle.tdb_top.specs.declared.ending.Reply.TheVariants.{Done}
 use Rattle.tdb_top.specs.declared.halt.Fault.{Fault}
@@ -14,6 +14,7 @@ use Rattle.tdb_top.specs.Opening.{opened_bytes, CanOpen, IsRefused, UndoneIfOpen
 use Rattle.tdb_top.specs.Commands.Show.{show_reply}
 use Rattle.tdb_top.specs.Commands.Check.{check_reply}
 use Rattle.tdb_top.specs.Commands.Insert.{insert_reply, Inserts, InsertBroken}
+use Rattle.tdb_top.specs.Commands.Store.{store_reply, Stores}
 use Rattle.tdb_top.specs.Commands.Delete.{delete_reply, Deletes, DeleteBroken}
 use Rattle.tdb_top.specs.Commands.Erase.{erase_reply, Erases, EraseBroken}
 
@@ -21,6 +22,7 @@ use Rattle.tdb_top.specs.Commands.Erase.{erase_reply, Erases, EraseBroken}
 abbrev pub reply_of : Act → List ℕ → Reply
 reply_of (Show key) img = show_reply key img
 reply_of (Insert key value) img = insert_reply LONGEST_FILE key value img
+reply_of (Store key value) img = store_reply LONGEST_FILE key value img
 reply_of (Delete key) img = delete_reply key img
 reply_of Erase img = erase_reply img
 reply_of Check img = check_reply img
@@ -29,14 +31,16 @@ reply_of Check img = check_reply img
 abbrev pub Does : Act → History → History → Type 0
 Does (Show key) old now = now ≡ old
 Does (Insert key value) old now = Inserts key value old now
+Does (Store key value) old now = Stores key value old now
 Does (Delete key) old now = Deletes key old now
 Does Erase old now = Erases old now
 Does Check old now = now ≡ old
 
--- what a call that failed in the midst of an act leaves of an opened file
+-- what a call that failed in the midst of an act leaves of an opened file; of a store nothing is said
 abbrev pub Breaks : Act → History → History → Type 0
 Breaks (Show key) old now = now ≡ old
 Breaks (Insert key value) old now = InsertBroken key value old now
+Breaks (Store key value) old now = Unit {0}
 Breaks (Delete key) old now = DeleteBroken key old now
 Breaks Erase old now = EraseBroken old now
 Breaks Check old now = now ≡ old

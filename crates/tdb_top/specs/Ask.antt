@@ -5,7 +5,7 @@ use Rattle.std.specs.Option.{option_map, option_and_then}
 use Rattle.tdb_space.specs.Pairs.{same_key}
 use Rattle.tdb_world.specs.declared.options.Options.{Options}
 use Rattle.tdb_top.specs.declared.act.Act.{Act}
-use Rattle.tdb_top.specs.declared.act.Act.TheVariants.{Show, Insert, Delete, Erase, Check}
+use Rattle.tdb_top.specs.declared.act.Act.TheVariants.{Show, Insert, Store, Delete, Erase, Check}
 use Rattle.tdb_top.specs.declared.ask.Task.{Task}
 use Rattle.tdb_top.specs.declared.ask.Task.TheVariants.{Create, On, Read, Restore, Backup, Turns}
 use Rattle.tdb_top.specs.declared.ask.Ask as C
@@ -13,6 +13,7 @@ use Rattle.tdb_top.specs.Words.{is_position}
 use Rattle.tdb_top.specs.Commands.Show.{show_of}
 use Rattle.tdb_top.specs.Commands.Check.{check_of}
 use Rattle.tdb_top.specs.Commands.Insert.{insert_of}
+use Rattle.tdb_top.specs.Commands.Store.{store_of}
 use Rattle.tdb_top.specs.Commands.Delete.{delete_of}
 use Rattle.tdb_top.specs.Commands.Erase.{erase_of}
 use Rattle.tdb_top.specs.Commands.Create.{create_of}
@@ -37,6 +38,7 @@ abbrev pub tools : List (List ℕ × (List (List ℕ) → Option Task))
 tools =
     (codes "show", λ arguments. option_map On (show_of arguments))
     ∷ (codes "insert", λ arguments. option_map On (insert_of arguments))
+    ∷ (codes "store", λ arguments. option_map On (store_of arguments))
     ∷ (codes "delete", λ arguments. option_map On (delete_of arguments))
     ∷ (codes "erase", λ arguments. option_map On (erase_of arguments))
     ∷ (codes "check", λ arguments. option_map On (check_of arguments))
@@ -93,6 +95,7 @@ ask_of (program ∷ words) = option_and_then (λ read. read words) (lookup (same
 abbrev pub ActFits : Act → Type 0
 ActFits (Show key) = length key < 2 ^ 32
 ActFits (Insert key value) = length key + length value < 2 ^ 32
+ActFits (Store key value) = length key + length value < 2 ^ 32
 ActFits (Delete key) = length key < 2 ^ 32
 ActFits Erase = Unit {0}
 ActFits Check = Unit {0}

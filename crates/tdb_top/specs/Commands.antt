@@ -2,6 +2,7 @@
 pub mod Show
 pub mod Check
 pub mod Insert
+pub mod Store
 pub mod Delete
 pub mod Erase
 pub mod Create

@@ -20,6 +20,7 @@ use crate::commands::delete::delete;
 use crate::commands::erase::erase;
 use crate::commands::insert::insert;
 use crate::commands::show::show;
+use crate::commands::store::store;
 use crate::ending::{Ending, Reply};
 use crate::halt::{Fault, Halt};
 use crate::opening::Opened;
@@ -35,6 +36,9 @@ pub(crate) enum Act {
 
     /// To add a key with a value.
     Insert { key: Bytes, value: Bytes },
+
+    /// To store a value for a key, in place of the one that it has.
+    Store { key: Bytes, value: Bytes },
 
     /// To delete a key.
     Delete { key: Bytes },
@@ -60,6 +64,9 @@ impl Act {
             Act::Show { key } => show(alloc, disk, opened, key.as_slice()),
             Act::Insert { key, value } => {
                 insert(alloc, disk, opened, key.as_slice(), value.as_slice())
+            }
+            Act::Store { key, value } => {
+                store(alloc, disk, opened, key.as_slice(), value.as_slice())
             }
             Act::Delete { key } => delete(disk, opened, key.as_slice()),
             Act::Erase => erase(disk, opened),

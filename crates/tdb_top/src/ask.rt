@@ -23,7 +23,9 @@ use crate::commands::backup::back_up;
 use crate::commands::create::{NewForm, create_file};
 use crate::commands::restore::{is_limit_alone, restore_file};
 use crate::commands::turns::turns_on_file;
-use crate::commands::{backup_line, check, create, delete, dump, erase, insert, show, turns};
+use crate::commands::{
+    backup_line, check, create, delete, dump, erase, insert, show, store, turns,
+};
 use crate::ending::{Ending, Unprinted};
 use crate::look::Look;
 use crate::names::{Names, Text};
@@ -80,6 +82,7 @@ impl Task {
         match command {
             "show" => Ok(Task::on(show::read(alloc, arguments)?)),
             "insert" => Ok(Task::on(insert::read(alloc, arguments)?)),
+            "store" => Ok(Task::on(store::read(alloc, arguments)?)),
             "delete" => Ok(Task::on(delete::read(alloc, arguments)?)),
             "erase" => Ok(Task::on(erase::read(arguments))),
             "check" => Ok(Task::on(check::read(arguments))),

@@ -10,4 +10,5 @@ pub(crate) mod erase;
 pub(crate) mod insert;
 pub(crate) mod restore;
 pub(crate) mod show;
+pub(crate) mod store;
 pub(crate) mod turns;

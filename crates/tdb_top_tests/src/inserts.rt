@@ -34,6 +34,13 @@ fn inserts(rt: HostRuntime) -> Result<(), Fail> {
             ("tool g.tdb create 7 jenkins big", 0, "ok\n"),
             ("tool g.tdb insert a 1", 0, "ok\n"),
             ("tool g.tdb check", 0, "number 1\n"),
+            ("tool g.tdb store a 22", 0, "ok\n"),
+            ("tool g.tdb show a", 0, "data(2) = \"22\"\n"),
+            ("tool g.tdb store b 3", 0, "ok\n"),
+            ("tool g.tdb store b 0123456789abcdef", 0, "ok\n"),
+            ("tool g.tdb show b", 0, "data(16) = \"0123456789abcdef\"\n"),
+            ("tool g.tdb show a", 0, "data(2) = \"22\"\n"),
+            ("tool g.tdb check", 0, "number 2\n"),
             ("tool g.tdb create", 9, "there g.tdb\n"),
         ] {
             let mut output = MemSink::new(alloc);
@@ -106,6 +113,12 @@ fn restores(rt: HostRuntime) -> Result<(), Fail> {
             "input malformed at 14\n",
         ),
         ("dump g.tdb", "", 9, "missing g.tdb\n"),
+        ("restore --limit 696 h.tdb", DUMP, 6, "full 696 32\n"),
+        ("dump h.tdb", "", 9, "missing h.tdb\n"),
+        ("restore --limit=728 h.tdb", DUMP, 0, ""),
+        ("dump h.tdb", "", 0, DUMP),
+        ("restore --limit 695 i.tdb", DUMP, 2, USAGE),
+        ("restore --read-only i.tdb", DUMP, 2, USAGE),
     ] {
         let mut output = MemSink::new(alloc);
         let (found, bytes) = run_with(alloc, &mut files, text.as_bytes(), &mut output, words)?;

@@ -1,0 +1,122 @@
+//! Sessions over a small file in memory: what they print, how they end, and each kind of failing call.
+
+use std::alloc::{AllocError, Global};
+use std::test::Fail;
+use tdb_check::{check, read_front};
+use tdb_disk::{Call, Disk, MemDisk, MemSink, MemSource, Sink, Source};
+use tdb_space::{Direct, Space};
+use tdb_tool::{SessionEnd, SessionFault, run_session};
+use tdb_words::{HashKind, Order, header_bytes};
+use tdb_world::Options;
+
+const OPTIONS: Options = Options {
+    limit: 4294963200,
+    nesting: true,
+    read_only: false,
+    seqnum: false,
+};
+
+/// A new file of seven chains.
+fn new_file(alloc: Global) -> Result<MemDisk, AllocError> {
+    let mut bytes = vec![in alloc; 0u8; 200]?;
+    for (byte, from) in bytes
+        .iter_mut()
+        .zip(header_bytes(7, Order::Big, HashKind::Jenkins))
+    {
+        *byte = from;
+    }
+    MemDisk::new(alloc, &bytes)
+}
+
+/// How a session over a file ends, where that is whole.
+fn session<D: Disk, S: Source, K: Sink>(
+    alloc: Global,
+    disk: &mut D,
+    input: &mut S,
+    output: &mut K,
+) -> Option<Result<SessionEnd, SessionFault>> {
+    let Ok(header) = read_front(disk) else {
+        return None;
+    };
+    let mut space = Direct::new(disk, &header);
+    let Ok(_) = check(alloc, &mut space) else {
+        return None;
+    };
+    if space.len().ok()? > OPTIONS.limit {
+        return None;
+    }
+    Some(run_session(alloc, &mut space, &header, &OPTIONS, input, output))
+}
+
+#[test]
+fn replies(rt: HostRuntime) -> Result<(), Fail> {
+    let alloc = rt.alloc();
+    let ended = SessionEnd::Ended;
+    for (text, printed, end) in [
+        ("", "", ended),
+        (
+            "store a 1\nshow a\nshow b\ninsert a 2\ndelete a\ndelete a\ncheck\nquit\nshow",
+            "ok\ndata(1) = \"1\"\nnoexist\nexists\nok\nnoexist\nnumber 0\n",
+            ended,
+        ),
+        (
+            " \n\tstorehex  61 00fF\n\nshow \\61\ncheck",
+            "ok\ndata(2) = \"\\00\\FF\"\nnumber 1\n",
+            ended,
+        ),
+        (
+            "insert \"\" x\nerase\nshow \"\"\nquit\n",
+            "ok\nok\nnoexist\n",
+            ended,
+        ),
+        (
+            "store a 1\nfetch a\nshow a\n",
+            "ok\n",
+            SessionEnd::Malformed { at: 10 },
+        ),
+        (
+            "store a 1\n\nstore a 1 2\n",
+            "ok\n",
+            SessionEnd::Malformed { at: 11 },
+        ),
+        ("storehex 6 00", "", SessionEnd::Malformed { at: 0 }),
+        ("show \\6", "", SessionEnd::Malformed { at: 0 }),
+    ] {
+        let mut file = new_file(alloc)?;
+        let mut input = MemSource::new(alloc, text.as_bytes())?;
+        let mut output = MemSink::new(alloc);
+        let answer = session(alloc, &mut file, &mut input, &mut output);
+        assert_eq!(rt; answer, Some(Ok(end)), "{text}");
+        assert_eq!(rt; output.as_slice(), printed.as_bytes(), "{text}");
+    }
+    Ok(())
+}
+
+#[test]
+fn failing_calls(rt: HostRuntime) -> Result<(), Fail> {
+    let alloc = rt.alloc();
+    let text = b"store a 1\nshow a\n".as_slice();
+
+    let mut input = MemSource::new(alloc, text)?;
+    input.fail(Call::Read, 0)?;
+    let mut output = MemSink::new(alloc);
+    let answer = session(alloc, &mut new_file(alloc)?, &mut input, &mut output);
+    assert_eq!(rt; answer, Some(Err(SessionFault::Input)));
+    assert_eq!(rt; output.as_slice(), b"".as_slice());
+
+    let mut output = MemSink::new(alloc);
+    output.fail(Call::Write, 1)?;
+    let mut input = MemSource::new(alloc, text)?;
+    let answer = session(alloc, &mut new_file(alloc)?, &mut input, &mut output);
+    assert_eq!(rt; answer, Some(Err(SessionFault::Output)));
+    assert_eq!(rt; output.as_slice(), b"ok\n".as_slice());
+
+    let mut file = new_file(alloc)?;
+    file.fail(Call::Grow, 0)?;
+    let mut input = MemSource::new(alloc, text)?;
+    let mut output = MemSink::new(alloc);
+    let answer = session(alloc, &mut file, &mut input, &mut output);
+    assert_eq!(rt; answer, Some(Err(SessionFault::Device)));
+    assert_eq!(rt; output.as_slice(), b"".as_slice());
+    Ok(())
+}

@@ -1,0 +1,91 @@
+// The command that stores a value for a key.
+
+ghost use Rattle.std.specs.Prelude.{◌≡◌, ◌≢◌, ◌+◌, ◌^◌, ◌<◌, ◌≤◌, Some, true, map, string_bytes, length, IsTrue, IfOk, IfErr, IfSome, OnOk};
+ghost use Rattle.tdb_disk.specs.Count.{HasCauseOf};
+ghost use Rattle.tdb_disk.specs.History.{seen};
+ghost use Rattle.tdb_space.specs.Form.{form_of};
+ghost use Rattle.tdb_space.specs.NewRecord.{rec_len_for};
+ghost use Rattle.tdb_edit.specs.Edited.{KeyChanged};
+ghost use Rattle.tdb_edit.specs.Stored.{has_room, FullRightly};
+ghost use Rattle.tdb_edit.specs.declared.refusal.StoreRefusal.TheVariants.{Io as IoIs};
+ghost use Rattle.tdb_top.specs.declared.act.Act.TheVariants.{Store};
+ghost use Rattle.tdb_top.specs.declared.halt.Fault.TheVariants.{Device};
+ghost use Rattle.tdb_top.specs.declared.limits.TheConstants.{LONGEST_FILE as LONGEST};
+ghost use Rattle.tdb_top.specs.Acts.{Acted};
+ghost use Rattle.tdb_top.specs.Ask.{ActFits};
+ghost use Rattle.tdb_top.specs.Commands.Store.{store_of};
+ghost use Rattle.tdb_top.specs.Opening.{IsCheckedOn};
+
+use crate::act::Act;
+use crate::ending::Reply;
+use crate::halt::Fault;
+use crate::limits::LONGEST_FILE;
+use crate::opening::Opened;
+use crate::words::value_of;
+use std::alloc::{AllocError, Global};
+use tdb_disk::Disk;
+use tdb_edit::StoreRefusal;
+use tdb_space::Direct;
+
+/// Reads its arguments.
+pub(crate) fn read(alloc: Global, arguments: &[String]) -> Result<Option<Act>, AllocError>
+    ensures read { IfOk result (λ act. act ≡ store_of (map string_bytes arguments.now)) }
+    ensures fits { IfOk result (λ act. IfSome act ActFits) }
+{
+    let [first, second] = arguments else {
+        return Ok(None);
+    };
+    let Some(key) = value_of(alloc, first.as_str())? else {
+        return Ok(None);
+    };
+    match value_of(alloc, second.as_str())? {
+        Some(value) => Ok(Some(Act::Store { key, value })),
+        None => Ok(None),
+    }
+}
+
+/// Puts a value into an opened file.
+fn put<D: Disk>(
+    alloc: Global,
+    disk: &mut D,
+    opened: &Opened,
+    key: &[u8],
+    value: &[u8],
+) -> Result<(), StoreRefusal>
+    requires short { length key.now + length value.now < 2 ^ 32 }
+    requires within { IsTrue D.tells → length (seen (D.history disk.old)) < 2 ^ 32 }
+    requires opened { IsTrue D.tells → IsCheckedOn (seen (D.history disk.old)) opened.now }
+    ensures stored { OnOk result (IsTrue D.tells → KeyChanged (form_of (seen (D.history disk.old))) (seen (D.history disk.old)) (seen (D.history disk.new)) key.now (Some value.now)) }
+    ensures room { OnOk result (IsTrue D.tells → has_room (form_of (seen (D.history disk.old))) (seen (D.history disk.old)) (rec_len_for (length key.now) (length value.now)) LONGEST ≡ true) }
+    ensures full { IfErr result (λ e. IsTrue D.tells → FullRightly (form_of (seen (D.history disk.old))) (seen (D.history disk.old)) (rec_len_for (length key.now) (length value.now)) LONGEST e) }
+    ensures kept { IfErr result (λ e. IsTrue D.tells → e ≢ IoIs → D.history disk.new ≡ D.history disk.old) }
+    ensures cause { HasCauseOf IoIs (D.faults disk.old) (D.faults disk.new) result }
+{
+    let mut space = Direct::new(disk, &opened.header);
+    tdb_edit::store(alloc, &mut space, key, value, LONGEST_FILE)
+}
+
+/// Stores a value for a key in an opened file, and brings that to the medium.
+pub(crate) fn store<D: Disk>(
+    alloc: Global,
+    disk: &mut D,
+    opened: &Opened,
+    key: &[u8],
+    value: &[u8],
+) -> Result<Reply, Fault>
+    requires short { length key.now + length value.now < 2 ^ 32 }
+    requires within { IsTrue D.tells → length (seen (D.history disk.old)) < 2 ^ 32 }
+    requires opened { IsTrue D.tells → IsCheckedOn (seen (D.history disk.old)) opened.now }
+    ensures acted { IsTrue D.tells → Acted (Store key.now value.now) (D.history disk.old) (D.history disk.new) result }
+    ensures cause { HasCauseOf Device (D.faults disk.old) (D.faults disk.new) result }
+{
+    match put(alloc, disk, opened, key, value) {
+        Ok(()) => {
+            disk.sync()?;
+            Ok(Reply::Done)
+        }
+        Err(StoreRefusal::Full { len, need }) => Ok(Reply::Full { len, need }),
+        Err(StoreRefusal::Io) => Err(Fault::Device),
+        Err(StoreRefusal::Memory) => Err(Fault::Memory),
+    }
+}
