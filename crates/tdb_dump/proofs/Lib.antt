@@ -4,3 +4,4 @@ pub mod LetterLemmas
 pub mod MoveLemmas
 pub mod ReadingLemmas
 pub mod TakenLemmas
+pub mod Runs

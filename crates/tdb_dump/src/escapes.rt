@@ -1,6 +1,6 @@
 //! Escapes: how a byte stands in a text.
 
-ghost use Rattle.std.specs.Prelude.{◌≡◌, ◌++◌, ◌<◌, [], ◌∷◌, IfOk, OnOk, IfSome};
+ghost use Rattle.std.specs.Prelude.{◌≡◌, ◌++◌, ◌<◌, ◌≤◌, [], ◌∷◌, length, take, IfOk, OnOk, IfSome};
 ghost use Rattle.tdb_dump.specs.Escape.{is_plain, upper_digit, escaped_byte, escaped, hex_value};
 
 use std::alloc::{AllocError, Global};
@@ -53,12 +53,40 @@ fn push_escaped(text: &mut Vec<u8>, byte: u8) -> Result<(), AllocError>
     Ok(())
 }
 
+/// How many bytes in front stand as they are.
+fn plain_front(bytes: &[u8]) -> usize
+    ensures within { result ≤ length bytes.now }
+    ensures plain { escaped (take result bytes.now) ≡ take result bytes.now }
+{
+    let mut count = 0;
+    while count < bytes.len() && is_plain(bytes[count]) {
+        count += 1;
+    }
+    count
+}
+
+/// Puts the text of the first bytes at the end, up to the first that doesn't stand as it is, and says how many they are.
+fn push_run(text: &mut Vec<u8>, bytes: &[u8]) -> Result<usize, AllocError>
+    requires some { 0 < length bytes.now }
+    ensures more { IfOk result (λ count. (0 < count) × (count ≤ length bytes.now)) }
+    ensures text { IfOk result (λ count. text.new.items ≡ text.old.items ++ escaped (take count bytes.now)) }
+{
+    let plain = plain_front(bytes);
+    text.extend_from_slice(&bytes[..plain])?;
+    let Some(byte) = bytes.get(plain) else {
+        return Ok(plain);
+    };
+    push_escaped(text, *byte)?;
+    Ok(plain + 1)
+}
+
 /// Puts the text of the bytes at the end.
 pub(crate) fn push_all_escaped(text: &mut Vec<u8>, bytes: &[u8]) -> Result<(), AllocError>
     ensures { OnOk result (text.new.items ≡ text.old.items ++ escaped bytes.now) }
 {
-    for byte in bytes {
-        push_escaped(text, *byte)?;
+    let mut done = 0;
+    while done < bytes.len() {
+        done += push_run(text, &bytes[done..])?;
     }
     Ok(())
 }

@@ -1,0 +1,13 @@
+-- All bytes so far stand as they are.
+use Rattle.std.proofs.Common.{◌≡◌, ◌≤◌, ◌-◌, length, take}
+use Rattle.tdb_dump.specs.Escape.{escaped}
+use Rattle.tdb_dump.proofs.escapes.plain_front.Given as goal
+
+abbrev pub invariant-loop-count : goal.invariant-loop-count
+invariant-loop-count l = record {
+  within : l.count ≤ length l.bytes;
+  plain : escaped (take l.count l.bytes) ≡ take l.count l.bytes;
+}
+
+abbrev pub decreases-loop-count : goal.decreases-loop-count
+decreases-loop-count l = length l.bytes - l.count
