@@ -46,13 +46,14 @@ pub record Dies (f : Form) (old : State) (who : ℕ) (new : State) : Type 0 wher
   pub joined : new.joined ≡ old.joined
   pub stale : new.stale ≡ (old.stale || leaves_open f (old.own who) (old.task who))
 
--- A live opener without a command is given one. Nothing else changes.
+-- A live opener without a command is given one. Nothing else changes, but what the file adds to its cursor: which chains a move
+-- wants on its way depends on the command.
 pub record Given (old : State) (who : ℕ) (c : Command) (new : State) : Type 0 where
   pub live : (old.own who).live ≡ true
   pub idle : old.task who ≡ None
   pub task : new.task who ≡ Some (record { command = c; steps = 0 })
   pub others : (o : ℕ) → o ≢ who → new.task o ≡ old.task o
-  pub rest : record new { task = old.task } ≡ old
+  pub rest : record new { task = old.task; view = old.view } ≡ old
 
 -- An open gate that a dead opener left is undone. The file's map, an open gate undone, is as it was; walks lose at most what isn't seen.
 pub record Undoes (f : Form) (old new : State) : Type 0 where

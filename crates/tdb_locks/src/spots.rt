@@ -1,5 +1,5 @@
 // The records on which cursors stand.
-ghost use Rattle.std.specs.Prelude.{◌≡◌, ◌==◌, ◌++◌, ◌∷◌, ◌↔◌, [], Contains, IsTrue, OnErr, OnOk, position};
+ghost use Rattle.std.specs.Prelude.{◌≡◌, ◌==◌, ◌++◌, ◌∷◌, ◌↔◌, ◌<◌, [], Contains, IsTrue, OnErr, OnOk, length, set, position};
 ghost use Rattle.tdb_locks.specs.Spots.{without_first};
 
 use std::alloc::{AllocError, Global};
@@ -44,6 +44,14 @@ impl Spots {
     {
         self.offsets.push(off)?;
         Ok(())
+    }
+
+    /// The entry at this place is `off` from now on. It takes no memory.
+    pub fn set(&mut self, at: usize, off: u32)
+        requires { at < length self.old }
+        ensures { self.new ≡ set self.old at off }
+    {
+        self.offsets[at] = off;
     }
 
     /// Takes out the first entry of `off`, if there is one. Cost: a pass over the cursors.

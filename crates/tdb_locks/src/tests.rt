@@ -143,7 +143,9 @@ fn keeps_spots(rt: HostRuntime) -> Result<(), Fail> {
     spots.push(696)?;
     spots.remove(696);
     assert!(rt; spots.has(696));
-    spots.remove(696);
+    spots.set(0, 4032);
     assert!(rt; !spots.has(696));
+    spots.remove(4032);
+    assert!(rt; !spots.has(4032));
     Ok(())
 }

@@ -29,4 +29,5 @@ pub mod WalkShown
 pub mod WalkLawful
 pub mod Viewed
 pub mod Again
+pub mod Shown
 pub mod Walkers

@@ -7,6 +7,7 @@ use Rattle.tdb_space.specs.Accepted.{AcceptWith}
 use Rattle.tdb_space.specs.Stays.{ChangesOnly}
 use Rattle.tdb_locks.specs.HeldLocks.{HeldLocks}
 use Rattle.tdb_locks.specs.declared.piece.Piece.{Piece}
+use Rattle.tdb_locks.specs.declared.turn.Reply.{Reply}
 use Rattle.tdb_locks.specs.declared.turn.Turn.{Turn}
 use Rattle.tdb_law.specs.Commands.{WalkCommand, Turn as LawTurn}
 use Rattle.tdb_law.specs.Commands.WalkCommand.{Next}
@@ -39,6 +40,25 @@ CursorStandsAgain =
     (f : Form) (own : HeldLocks) (x : Own) (w : WalkCommand) (at later : At) (gone : Bool) (n who : ℕ) (ps qs : List Piece) (a : List ℕ) (hands : List HandPair) (stood_on : List ℕ) (read_only : Bool) (v : View) (did : Turn) (turn : LawTurn) (tells : Bool)
     → IsTrue tells → CursorBefore f own x w at gone n who ps a hands stood_on read_only v → StepTaken (IsTrue tells) f a ps qs (who + 1) own stood_on (goal_of w) read_only at later did → IsTurn did turn
     → StandsAgain f own x w later turn n (image_map f a)
+
+-- The key that was shown last, after a turn that leaves the cursor at a place: that of the pair which the turn shows, and none once the
+-- cursor has ended.
+abbrev pub shown_there : Standing → Reply → Option (List ℕ) → Option (List ℕ)
+shown_there (On chain off) (Reply.Pair key value) old = Some key
+shown_there (On chain off) reply old = old
+shown_there place reply old = None
+
+abbrev pub cursor_after : Turn → Standing → Option (List ℕ) → Option (List ℕ)
+cursor_after (Turn.Done reply) place old = shown_there place reply old
+cursor_after turn place old = old
+
+-- So the key of the last pair, which the law keeps of an opener, is that of the cursor's turns; else the opener stays, but where a Close
+-- ends.
+abbrev pub CursorShows : Type 0
+CursorShows =
+    (f : Form) (own : HeldLocks) (x : Own) (w : WalkCommand) (at later : At) (gone : Bool) (n who : ℕ) (ps qs : List Piece) (a : List ℕ) (hands : List HandPair) (stood_on : List ℕ) (read_only : Bool) (v : View) (did : Turn) (turn : LawTurn) (tells : Bool)
+    → IsTrue tells → CursorBefore f own x w at gone n who ps a hands stood_on read_only v → StepTaken (IsTrue tells) f a ps qs (who + 1) own stood_on (goal_of w) read_only at later did → IsTurn did turn
+    → is_close w ≡ false → own_next f w n x (image_map f a) turn ≡ record x { cursor = cursor_after did later.place x.cursor }
 
 -- A cursor that rests can be asked for any command, and for a Next where it stands on a record.
 abbrev pub CursorBegins : Type 0

@@ -247,3 +247,8 @@ pub data StepMade (f : Form) (a b : List ℕ) (hands : List HandPair) (at later 
   purges : (d : DeadRecord) → dead_of at.place at.stage ≡ Some d → later.stage ≡ Rested → (turn ≡ Done Reply.Memory → ⊥) → IsPurged f a b d.chain d.off hands → StepMade f a b hands at later turn
   waits : (other byte : ℕ) → turn ≡ Blocked other byte → later ≡ at → b ≡ a → StepMade f a b hands at later turn
   starves : turn ≡ Done Reply.Memory → b ≡ a → StepMade f a b hands at later turn
+
+-- The key of the pair that was shown last, after a turn: that of its reply, where it shows one.
+abbrev pub shown_after : List ℕ → Turn → List ℕ
+shown_after old (Done (Reply.Pair key value)) = key
+shown_after old turn = old

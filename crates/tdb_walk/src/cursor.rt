@@ -11,7 +11,7 @@ ghost use Rattle.tdb_locks.specs.LockTable.{held};
 ghost use Rattle.tdb_walk.specs.NextLive.{StandsIn, IsWithin};
 ghost use Rattle.tdb_walk.specs.Way.{SameOthers, SameLocks};
 ghost use Rattle.tdb_walk.specs.ByteLocks.{HoldsWords};
-ghost use Rattle.tdb_walk.specs.Cursors.{rested, IsPlaced, spot_of, dead_of, HasToPurge, Knows, let_go, held_moved, held_locked, LockLed, LeaveLed, Came, MoveLed, StepTaken, StepMade};
+ghost use Rattle.tdb_walk.specs.Cursors.{rested, IsPlaced, spot_of, dead_of, HasToPurge, Knows, let_go, held_moved, held_locked, LockLed, LeaveLed, Came, MoveLed, StepTaken, StepMade, shown_after};
 ghost use Rattle.tdb_locks.specs.declared.turn.Reply.TheVariants.{Memory};
 ghost use Rattle.tdb_locks.specs.declared.turn.Turn.TheVariants.{Done};
 ghost use Rattle.tdb_walk.specs.declared.standing.Standing.TheVariants.{Before, Past};
@@ -19,7 +19,7 @@ ghost use Rattle.tdb_walk.specs.declared.standing.Standing.TheVariants.{Before, 
 use crate::live::Live;
 use crate::locking::{let_go_byte, may_read_all, only_reads, take_byte};
 use crate::looking::{lock_byte, may_read};
-use crate::pair::pair_at;
+use crate::pair::pair_and_key;
 use crate::purging::{DeadRecord, is_dead, prepare_purge, purge_prepared};
 use crate::refusal::WalkRefusal;
 use crate::stage::{Act, FREE_BYTE, Goal, Stage, StepLock};
@@ -29,6 +29,7 @@ use std::alloc::Global;
 use std::marker::Model;
 use tdb_locks::{Held, Kind, LockRefusal, Locks, Reply, Spots, Turn};
 use tdb_space::{Io, Space};
+use tdb_words::Bytes;
 
 /// A cursor on a file: where it stands, and how far it is with the turns of a command.
 #[derive(Debug, Drop)]
@@ -54,6 +55,16 @@ impl Cursor {
     {
         Cursor {
             place: Standing::Before(0),
+            stage: Stage::Rested,
+        }
+    }
+
+    /// A cursor past the last chain, as one that has ended. It holds nothing and takes no memory.
+    pub fn past() -> Cursor
+        ensures { result ≡ rested Past }
+    {
+        Cursor {
+            place: Standing::Past,
             stage: Stage::Rested,
         }
     }
@@ -218,7 +229,7 @@ impl Cursor {
     }
 
     /// Comes to a record: reads its pair, takes its byte for reading, purges the dead record that it leaves, if that is
-    /// due, and lets go of what it held. Memory for all of it is taken before the purge.
+    /// due, and lets go of what it held. `shown` is the pair's key then. Memory for all of it is taken before the purge.
     fn come_to<S: Space>(
         &mut self,
         alloc: Global,
@@ -227,6 +238,7 @@ impl Cursor {
         owner: u32,
         own: &Held,
         live: Live,
+        shown: &mut Bytes,
     ) -> Result<Turn, Io>
         requires within { IsWithin (S.form s.old) (S.size s.old) live }
         requires words { HoldsWords own.now owner locks.old }
@@ -237,6 +249,8 @@ impl Cursor {
             → Knows (S.form s.old) (S.image s.old) self.old.place self.old.stage → StepMade (S.form s.old) (S.image s.old) (S.image s.new) hands self.old self.new turn) }
         ensures locks { IfOk result (λ turn. (o b : ℕ) → held locks.new o b ≡ held_moved own.now owner self.old self.new.place turn (held locks.old) o b) }
         ensures others { SameOthers owner locks.old locks.new }
+        ensures shown { IfOk result (λ turn. shown.new ≡ shown_after shown.old turn) }
+        ensures unshown { OnErr result (shown.new ≡ shown.old) }
         ensures stands { OnErr result (self.new ≡ self.old) }
         ensures kept { OnErr result (dead_of self.old.place self.old.stage ≡ None → locks.new ≡ locks.old) }
         ensures idle { dead_of self.old.place self.old.stage ≡ None → Looked S.Space s.old s.new }
@@ -245,8 +259,8 @@ impl Cursor {
         ensures cause { HasCause (S.faults s.old) (S.faults s.new) result }
         ensures bytes_read { S.bytes_read s.old ≤ S.bytes_read s.new }
     {
-        let reply = match pair_at(alloc, s, &live) {
-            Ok(reply) => reply,
+        let (reply, key) = match pair_and_key(alloc, s, &live) {
+            Ok(pair) => pair,
             Err(WalkRefusal::Io) => return Err(Io),
             Err(WalkRefusal::Memory) => return Ok(self.give_up(locks, owner, own)),
         };
@@ -260,6 +274,7 @@ impl Cursor {
             Ok(()) => {
                 purge_prepared(s, dead)?;
                 self.leave(locks, owner, own, Standing::On(live.chain, live.off));
+                *shown = key;
                 Ok(Turn::Done(reply))
             }
             Err(LockRefusal::Conflict { owner, byte, .. }) => Ok(Turn::Blocked { owner, byte }),
@@ -276,6 +291,7 @@ impl Cursor {
         owner: u32,
         own: &Held,
         from: Standing,
+        shown: &mut Bytes,
     ) -> Result<Turn, Io>
         requires words { HoldsWords own.now owner locks.old }
         ensures words { HoldsWords own.now owner locks.new }
@@ -285,6 +301,8 @@ impl Cursor {
             → Knows (S.form s.old) (S.image s.old) self.old.place self.old.stage → StepMade (S.form s.old) (S.image s.old) (S.image s.new) hands self.old self.new turn) }
         ensures locks { IfOk result (λ turn. (o b : ℕ) → held locks.new o b ≡ held_moved own.now owner self.old self.new.place turn (held locks.old) o b) }
         ensures others { SameOthers owner locks.old locks.new }
+        ensures shown { IfOk result (λ turn. shown.new ≡ shown_after shown.old turn) }
+        ensures unshown { OnErr result (shown.new ≡ shown.old) }
         ensures stands { OnErr result (self.new ≡ self.old) }
         ensures kept { OnErr result (dead_of self.old.place self.old.stage ≡ None → SameLocks locks.old locks.new) }
         ensures idle { dead_of self.old.place self.old.stage ≡ None → Looked S.Space s.old s.new }
@@ -294,7 +312,7 @@ impl Cursor {
         ensures bytes_read { S.bytes_read s.old ≤ S.bytes_read s.new }
     {
         match move_on(s, locks, owner, own, from) {
-            Ok(Way::Met(live)) => self.come_to(alloc, s, locks, owner, own, live),
+            Ok(Way::Met(live)) => self.come_to(alloc, s, locks, owner, own, live, shown),
             Ok(
                 Way::Blocked {
                     chain,
@@ -324,7 +342,8 @@ impl Cursor {
 
     /// Does the next turn of what it is asked for. It is asked for the same until the turn is `Done`. `owner` is the
     /// number of its opener in the lock table, `own` are the locks that this has taken explicitly, and other cursors
-    /// stand on the records at `stood_on`.
+    /// stand on the records at `stood_on`. `shown` is the key of the pair that was shown last: a turn that shows one
+    /// replaces it.
     ///
     /// First and Next end with the pair of the next live record, on which the cursor stands then, or with `End` where
     /// none is left, and Leave with `Ok`. A cursor that leaves a dead record purges it, unless another one stands on
@@ -354,6 +373,7 @@ impl Cursor {
         stood_on: &Spots,
         goal: Goal,
         read_only: bool,
+        shown: &mut Bytes,
     ) -> Result<Turn, Io>
         requires words { HoldsWords own.now owner locks.old }
         ensures words { HoldsWords own.now owner locks.new }
@@ -363,6 +383,8 @@ impl Cursor {
         ensures knows { IfOk result (λ turn. IsTrue S.tells → S.size s.old < 2 ^ 32 → (hands : List HandPair) → AcceptWith (S.form s.old) (S.image s.old) hands
             → Knows (S.form s.old) (S.image s.old) self.old.place self.old.stage → Knows (S.form s.old) (S.image s.new) self.new.place self.new.stage) }
         ensures others { SameOthers owner locks.old locks.new }
+        ensures shown { IfOk result (λ turn. shown.new ≡ shown_after shown.old turn) }
+        ensures unshown { OnErr result (shown.new ≡ shown.old) }
         ensures stands { OnErr result (self.new ≡ self.old) }
         ensures kept { OnErr result (dead_of self.old.place self.old.stage ≡ None → SameLocks locks.old locks.new) }
         ensures idle { dead_of self.old.place self.old.stage ≡ None → Looked S.Space s.old s.new }
@@ -375,7 +397,7 @@ impl Cursor {
         let spared = goal.spared(self.place);
         match Act::of(goal, self.place, self.stage, due) {
             Act::Lock(lock) => Ok(self.lock_turn(locks, owner, own, lock, spared)),
-            Act::Move(from) => self.move_turn(alloc, s, locks, owner, own, from),
+            Act::Move(from) => self.move_turn(alloc, s, locks, owner, own, from, shown),
             Act::End => {
                 let told = Turn::Done(Reply::Ok);
                 self.depart(s, locks, owner, own, Standing::Past, spared, told)

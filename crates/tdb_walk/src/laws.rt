@@ -1,6 +1,6 @@
 // The laws of moves, and of the turns of cursors in a world.
 
-ghost use Rattle.tdb_walk.specs.Again.{CursorStandsAgain, CursorBegins, CursorLeavesOthers};
+ghost use Rattle.tdb_walk.specs.Again.{CursorStandsAgain, CursorShows, CursorBegins, CursorLeavesOthers};
 ghost use Rattle.tdb_walk.specs.Laws.{MovesAreWalks};
 ghost use Rattle.tdb_walk.specs.Walkers.{CursorIsTurned};
 ghost use Rattle.tdb_walk.specs.InLaw.{CursorIsLawful, WalkIsLawful, OthersStay, ViewIsSo};
@@ -24,11 +24,12 @@ pub fn cursors_are_lawful()
 {}
 
 /// What a turn of a cursor leaves: by `again` it stands so that its next turn is one of the law, or rests where its
-/// command has ended; by `begins` a cursor that rests can be asked for any command. By `others` the image is accepted
-/// with the same hands, and at most a chain of which the cursor purges a record has changed. The law is over all
-/// turns; the function does nothing.
+/// command has ended; by `shows` the key that the law keeps of the last pair is that of the turns; by `begins` a cursor
+/// that rests can be asked for any command. By `others` the image is accepted with the same hands, and at most a chain
+/// of which the cursor purges a record has changed. The law is over all turns; the function does nothing.
 pub fn cursors_go_on()
     ensures again { CursorStandsAgain }
+    ensures shows { CursorShows }
     ensures begins { CursorBegins }
     ensures others { CursorLeavesOthers }
 {}

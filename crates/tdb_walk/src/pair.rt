@@ -1,11 +1,11 @@
 // The key and the value of a live record.
 
-ghost use Rattle.std.specs.Prelude.{◌≡◌, ◌+◌, ◌≤◌, IsTrue, IfOk, length, take, drop};
+ghost use Rattle.std.specs.Prelude.{◌≡◌, ◌+◌, ◌≤◌, IsTrue, IfOk, List, ℕ, length, take, drop};
 ghost use Rattle.tdb_disk.specs.Count.{HasCauseOf, RoseUpTo};
 ghost use Rattle.tdb_words.specs.Record.{rec_at};
 ghost use Rattle.tdb_space.specs.Frame.{Looked};
 ghost use Rattle.tdb_space.specs.Record.{key_at, data_at};
-ghost use Rattle.tdb_locks.specs.declared.turn.Reply.TheVariants.{Pair, Memory};
+ghost use Rattle.tdb_locks.specs.declared.turn.Reply.TheVariants.{Pair};
 ghost use Rattle.tdb_walk.specs.NextLive.{IsWithin};
 ghost use Rattle.tdb_walk.specs.declared.refusal.WalkRefusal.TheVariants.{Io};
 
@@ -36,7 +36,7 @@ pub fn pair_at<S: Space>(alloc: Global, s: &mut S, live: &Live) -> Result<Reply,
     requires within { IsWithin (S.form s.old) (S.size s.old) live.now }
     ensures pair { IfOk result (λ reply. IsTrue S.tells → live.now.rec ≡ rec_at (S.form s.old).order (S.image s.old) live.now.off
         → reply ≡ Pair (key_at (S.form s.old).order (S.image s.old) live.now.off) (data_at (S.form s.old).order (S.image s.old) live.now.off)) }
-    ensures shape { IfOk result (λ reply. reply ≡ Memory → ⊥) }
+    ensures shape { IfOk result (λ reply. (key : List ℕ) × (value : List ℕ) × (reply ≡ Pair key value)) }
     ensures looked { Looked S.Space s.old s.new }
     ensures cause { HasCauseOf Io (S.faults s.old) (S.faults s.new) result }
     ensures bytes_read { RoseUpTo (live.now.rec.key_len + live.now.rec.data_len) (S.bytes_read s.old) (S.bytes_read s.new) }
@@ -45,4 +45,26 @@ pub fn pair_at<S: Space>(alloc: Global, s: &mut S, live: &Live) -> Result<Reply,
     let key = bytes_at(alloc, s, off, live.rec.key_len)?;
     let value = bytes_at(alloc, s, off + live.rec.key_len as u64, live.rec.data_len)?;
     Ok(Reply::Pair(key, value))
+}
+
+/// The pair of a live record as the reply to a move, and its key once more.
+pub(crate) fn pair_and_key<S: Space>(
+    alloc: Global,
+    s: &mut S,
+    live: &Live,
+) -> Result<(Reply, Bytes), WalkRefusal>
+    requires within { IsWithin (S.form s.old) (S.size s.old) live.now }
+    ensures pair { IfOk result (λ made. IsTrue S.tells → live.now.rec ≡ rec_at (S.form s.old).order (S.image s.old) live.now.off
+        → made.0 ≡ Pair (key_at (S.form s.old).order (S.image s.old) live.now.off) (data_at (S.form s.old).order (S.image s.old) live.now.off)) }
+    ensures key { IfOk result (λ made. (value : List ℕ) × (made.0 ≡ Pair made.1 value)) }
+    ensures looked { Looked S.Space s.old s.new }
+    ensures cause { HasCauseOf Io (S.faults s.old) (S.faults s.new) result }
+    ensures bytes_read { S.bytes_read s.old ≤ S.bytes_read s.new }
+{
+    let reply = pair_at(alloc, s, live)?;
+    let Reply::Pair(key, _) = &reply else {
+        unreachable!();
+    };
+    let shown = Bytes::copy(alloc, key.as_slice())?;
+    Ok((reply, shown))
 }

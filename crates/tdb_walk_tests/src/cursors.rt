@@ -92,11 +92,12 @@ const FAULTY: [Kinds; 3] = [
     (WRITE, WRITE, READ),
 ];
 
-// The last turn of a command, and what is held after each of its turns.
+// The last turn of a command, what is held after each of its turns, and the key of a pair that it has shown.
 #[derive(Drop)]
 struct Told {
     end: Result<Turn, Io>,
     kinds: Vec<Kinds>,
+    shown: Bytes,
 }
 
 fn put_words(image: &mut [u8], words: &[(usize, u32)]) {
@@ -136,9 +137,12 @@ fn take_turns(
     let own = Held::new(alloc);
     let mut s = Direct::new(disk, header);
     let mut kinds = Vec::new(alloc);
+    let mut shown = Bytes::new(alloc);
     let mut end = Ok(Turn::Step);
     for _turn in 0..4 {
-        end = cursor.step(alloc, &mut s, locks, 1, &own, stood_on, goal, read_only);
+        end = cursor.step(
+            alloc, &mut s, locks, 1, &own, stood_on, goal, read_only, &mut shown,
+        );
         kinds.push((
             locks.kind_of(1, 196),
             locks.kind_of(1, 164),
@@ -148,7 +152,7 @@ fn take_turns(
             break;
         }
     }
-    Ok(Told { end, kinds })
+    Ok(Told { end, kinds, shown })
 }
 
 fn pair(alloc: Global, value: &[u8]) -> Result<Turn, AllocError> {

@@ -45,6 +45,6 @@ returns-in-Ok-take_byte-clause-made g c told small hands A knows =
     let p = c.in-Ok-prepare_purge.ensures in
     let looked = c.in-Ok.ensures.looked in
     purge_made f (g.S.Space.form c.prepare_purge.new.s) img (g.S.Space.image c.prepare_purge.new.s) (g.S.Space.image c.purge_prepared.new.s) hands c.args.self.now c.leave.new.self _
-    c.dead.result c.in-Ok-prepare_purge.dead c.dead.ensures (p.readied.form ∙ looked.form) (p.readied.image ∙ looked.image) (ap (λ (x : At). x.stage) c.leave.ensures.stands) (λ e. c.in-Ok.ensures.shape (reply_same c.in-Ok.reply e))
-    (moved (λ x i. AcceptWith x i hands → IsDeadRecord x i c.dead.result → IsPrepared x i c.dead.result c.in-Ok-prepare_purge.dead) f (g.S.Space.form c.pair_at.new.s) img (g.S.Space.image c.pair_at.new.s) looked.form looked.image (p.found told hands))
+    c.dead.result c.in-Ok-prepare_purge.dead c.dead.ensures (p.readied.form ∙ looked.form) (p.readied.image ∙ looked.image) (ap (λ (x : At). x.stage) c.leave.ensures.stands) (λ e. (let k : Reply.Pair c.in-Ok.pair.1 c.in-Ok.ensures.key.0 ≡ Reply.Memory = sym c.in-Ok.ensures.key.1 ∙ reply_same c.in-Ok.pair.0 e in cc k))
+    (moved (λ x i. AcceptWith x i hands → IsDeadRecord x i c.dead.result → IsPrepared x i c.dead.result c.in-Ok-prepare_purge.dead) f (g.S.Space.form c.pair_and_key.new.s) img (g.S.Space.image c.pair_and_key.new.s) looked.form looked.image (p.found told hands))
     (λ dead B ready. c.in_ok-purge_prepared-in-Ok-take_byte.ensures.purged told (omega (arith, small, p.readied.size, looked.size)) hands B dead ready) A knows
