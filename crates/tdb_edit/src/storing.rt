@@ -11,6 +11,7 @@ ghost use Rattle.tdb_edit.specs.Edited.{KeyChanged};
 ghost use Rattle.tdb_edit.specs.Stored.{has_room as room_in, FoundNoRoom, FullRightly};
 ghost use Rattle.tdb_edit.specs.declared.refusal.StoreRefusal.TheVariants.{Io as IoIs};
 ghost use Rattle.tdb_free.specs.FreeList.{first_fit};
+ghost use Rattle.tdb_free.specs.Growth.{grown_length};
 ghost use Rattle.tdb_free.specs.declared.list_refusal.ListRefusal.TheVariants.{Io as ListIo};
 
 use crate::refusal::StoreRefusal;
@@ -88,6 +89,7 @@ fn put<S: Space>(
     ensures full { IfErr result (λ e. IsTrue S.tells → S.size s.old < 2 ^ 32 → AcceptWith (S.form s.old) (S.image s.old) []
         → FoundNoRoom (S.form s.old) (S.image s.old) (len_for (length key.now) (length value.now)) limit e) }
     ensures wrote { Wrote S.Space s.old s.new }
+    ensures size { (S.size s.new ≡ S.size s.old) ⊎ (grown_length (S.size s.old) (24 + len_for (length key.now) (length value.now)) limit ≡ Some (S.size s.new)) }
     ensures cause { HasCauseOf IoIs (S.faults s.old) (S.faults s.new) result }
     ensures bytes_read { S.bytes_read s.old ≤ S.bytes_read s.new }
 {
@@ -111,6 +113,7 @@ fn set<S: Space>(s: &mut S, key: &[u8], value: &[u8], limit: u64) -> Result<(), 
     ensures full { IfErr result (λ e. IsTrue S.tells → S.size s.old < 2 ^ 32 → AcceptWith (S.form s.old) (S.image s.old) []
         → FoundNoRoom (S.form s.old) (S.image s.old) (len_for (length key.now) (length value.now)) limit e) }
     ensures wrote { Wrote S.Space s.old s.new }
+    ensures size { (S.size s.new ≡ S.size s.old) ⊎ (grown_length (S.size s.old) (24 + len_for (length key.now) (length value.now)) limit ≡ Some (S.size s.new)) }
     ensures cause { HasCauseOf IoIs (S.faults s.old) (S.faults s.new) result }
     ensures bytes_read { S.bytes_read s.old ≤ S.bytes_read s.new }
 {
@@ -132,8 +135,13 @@ fn set<S: Space>(s: &mut S, key: &[u8], value: &[u8], limit: u64) -> Result<(), 
 /// room where it stands; then nothing was written, and so where memory is wanting. `Io` where the disk failed: then the
 /// value may be written in part, and records may stand in no list.
 ///
-/// Cost: a look-up of the key, and one pass along the free list for each record that is taken and given. Memory is taken
-/// only near the limit, 8 bytes for each free record.
+/// The file grows only where a new record is made and no free record is long enough: once, to the greater of its length
+/// with the record and its length with a quarter as much again, in whole pages of 4096 bytes, or by the record alone where
+/// that would pass the limit.
+///
+/// Cost: a look-up of the key; and where a new record is made, one pass along the free list to take it, two more where the
+/// file grows, and one to give the old record back, if there is one. Near the limit there is one pass before all that, which
+/// takes 8 bytes of memory for each free record.
 pub fn store<S: Space>(
     alloc: Global,
     s: &mut S,
@@ -154,6 +162,7 @@ pub fn store<S: Space>(
         → FullRightly (S.form s.old) (S.image s.old) (len_for (length key.now) (length value.now)) limit e) }
     ensures kept { IfErr result (λ e. IsTrue S.tells → S.size s.old < 2 ^ 32 → AcceptWith (S.form s.old) (S.image s.old) [] → e ≢ IoIs → Looked S.Space s.old s.new) }
     ensures wrote { Wrote S.Space s.old s.new }
+    ensures size { (S.size s.new ≡ S.size s.old) ⊎ (grown_length (S.size s.old) (24 + len_for (length key.now) (length value.now)) limit ≡ Some (S.size s.new)) }
     ensures cause { HasCauseOf IoIs (S.faults s.old) (S.faults s.new) result }
     ensures bytes_read { S.bytes_read s.old ≤ S.bytes_read s.new }
 {

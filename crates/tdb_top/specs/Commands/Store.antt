@@ -1,16 +1,18 @@
 -- The command that stores a value for a key, in place of the one that the key has.
-use Rattle.std.specs.Prelude.{◌≡◌, ℕ, if◌then◌else◌, List, length, Option, Some}
+use Rattle.std.specs.Prelude.{◌≡◌, ◌⊎◌, ℕ, if◌then◌else◌, List, length, Option, Some}
 use Rattle.std.specs.Option.{option_map, option_and_then}
 use Rattle.tdb_disk.specs.History.{History, seen}
 use Rattle.tdb_disk.specs.Stop.{Quiet}
 use Rattle.tdb_space.specs.Form.{form_of}
 use Rattle.tdb_space.specs.NewRecord.{rec_len_for}
+use Rattle.tdb_free.specs.Growth.{grown_length}
 use Rattle.tdb_edit.specs.Edited.{KeyChanged}
 use Rattle.tdb_edit.specs.Stored.{has_room}
 use Rattle.tdb_top.specs.declared.act.Act.{Act}
 use Rattle.tdb_top.specs.declared.act.Act.TheVariants.{Store}
 use Rattle.tdb_top.specs.declared.ending.Reply.{Reply}
 use Rattle.tdb_top.specs.declared.ending.Reply.TheVariants.{Done, Full}
+use Rattle.tdb_top.specs.declared.limits.TheConstants.{LONGEST_FILE}
 use Rattle.tdb_top.specs.Words.{value_of, of_two}
 use Rattle.tdb_top.specs.Commands.Insert.{need_for}
 
@@ -26,8 +28,14 @@ store_reply limit key value img =
     if has_room (form_of img) img (rec_len_for (length key) (length value)) limit then Done
     else Full (length img) (need_for key value)
 
+-- a file that had these bytes is as long as before, or as long as a growth for so many bytes makes it, within the longest
+abbrev pub GrewFor : ℕ → List ℕ → List ℕ → Type 0
+GrewFor need old now = (length now ≡ length old) ⊎ (grown_length (length old) need LONGEST_FILE ≡ Some (length now))
+
 -- What a store that was done leaves of a file that had this history: an accepted file of the same form, whose map is the old
--- one with the value at the key. All of it is on the medium. What a call that failed in its midst leaves isn't said.
+-- one with the value at the key, and which grew at most once, for one record. All of it is on the medium. What a call that
+-- failed in its midst leaves isn't said.
 pub record Stores (key value : List ℕ) (old now : History) : Type 0 where
   pub changed : KeyChanged (form_of (seen old)) (seen old) (seen now) key (Some value)
+  pub grown : GrewFor (need_for key value) (seen old) (seen now)
   pub quiet : Quiet now

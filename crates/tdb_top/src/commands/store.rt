@@ -13,7 +13,8 @@ ghost use Rattle.tdb_top.specs.declared.halt.Fault.TheVariants.{Device};
 ghost use Rattle.tdb_top.specs.declared.limits.TheConstants.{LONGEST_FILE as LONGEST};
 ghost use Rattle.tdb_top.specs.Acts.{Acted};
 ghost use Rattle.tdb_top.specs.Ask.{ActFits};
-ghost use Rattle.tdb_top.specs.Commands.Store.{store_of};
+ghost use Rattle.tdb_top.specs.Commands.Insert.{need_for};
+ghost use Rattle.tdb_top.specs.Commands.Store.{store_of, GrewFor};
 ghost use Rattle.tdb_top.specs.Opening.{IsCheckedOn};
 
 use crate::act::Act;
@@ -56,6 +57,7 @@ fn put<D: Disk>(
     requires within { IsTrue D.tells → length (seen (D.history disk.old)) < 2 ^ 32 }
     requires opened { IsTrue D.tells → IsCheckedOn (seen (D.history disk.old)) opened.now }
     ensures stored { OnOk result (IsTrue D.tells → KeyChanged (form_of (seen (D.history disk.old))) (seen (D.history disk.old)) (seen (D.history disk.new)) key.now (Some value.now)) }
+    ensures grown { OnOk result (IsTrue D.tells → GrewFor (need_for key.now value.now) (seen (D.history disk.old)) (seen (D.history disk.new))) }
     ensures room { OnOk result (IsTrue D.tells → has_room (form_of (seen (D.history disk.old))) (seen (D.history disk.old)) (rec_len_for (length key.now) (length value.now)) LONGEST ≡ true) }
     ensures full { IfErr result (λ e. IsTrue D.tells → FullRightly (form_of (seen (D.history disk.old))) (seen (D.history disk.old)) (rec_len_for (length key.now) (length value.now)) LONGEST e) }
     ensures kept { IfErr result (λ e. IsTrue D.tells → e ≢ IoIs → D.history disk.new ≡ D.history disk.old) }
