@@ -17,7 +17,7 @@ use Rattle.tdb_steps.specs.Holdings.{table_of}
 use Rattle.tdb_world.specs.Given.{IsWellHeld}
 use Rattle.tdb_world.specs.declared.options.Options.{Options}
 use Rattle.tdb_world.specs.declared.opener.Opener.{Opener}
-use Rattle.tdb_world.specs.Openers.{options_of, own_of, own_with, own_at, task_at, law_task, hands_of_task, hands_at, TaskStands, TaskKnows, OpenerKnows}
+use Rattle.tdb_world.specs.Openers.{no_cursor, options_of, own_of, own_with, own_at, task_at, law_task, hands_of_task, hands_at, TaskStands, TaskKnows, OpenerKnows}
 use Rattle.tdb_world.specs.States.{WorldStands}
 use Rattle.tdb_world.specs.Laws.{IsJoined, JoinKeepsWorld, JoinKeepsFile, JoinJoins, EmptyStands, EmptyFileStands, EmptyIsLoaded}
 use Rattle.tdb_world.proofs.Standing.{Holds, IsSet, world_set, held_still}
@@ -53,8 +53,8 @@ module _ (xs ys : List Opener) (y : Opener) (J : IsJoined xs y ys) where
   one_more = ap length J.pushed ∙ (length-append xs (y ∷ []) ∙ omega arith)
 
   -- it has what an opener has that hasn't joined, but that it is live
-  new_own : (options : Options) → own_of options y ≡ own_with options true nothing_held
-  new_own options = ap (λ l. own_with options l y.held) J.live ∙ ap (own_with options true) J.nothing
+  new_own : (options : Options) → own_of options y ≡ own_with options true nothing_held no_cursor
+  new_own options = ap (λ l. own_with options l y.held no_cursor) J.live ∙ ap (λ h. own_with options true h no_cursor) J.nothing
 
   -- it holds nothing, as before
   new_holds : (f : Form) (options : Options) (ps : List Piece) (a : List ℕ) (size : ℕ) → WorldStands f options xs ps a size → (b : ℕ) → Holds f options ps (length xs) (Some y) b

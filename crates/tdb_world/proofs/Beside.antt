@@ -1,5 +1,5 @@
 -- What an opener keeps beside a command, at the bytes of a lock of its row.
-use Rattle.std.proofs.Common.{◌≡◌, ℕ, ◌+◌, ◌*◌, ◌<◌, ◌≤◌, max, Bool, true, false, Option, Some, None, nat_lt, sum, unwrap_or, refl, ◌∙◌, ap, inl, inr, arith, zero-le}
+use Rattle.std.proofs.Common.{◌≡◌, ℕ, ◌+◌, ◌*◌, ◌<◌, ◌≤◌, max, Bool, true, false, Option, Some, None, is_some, nat_lt, sum, unwrap_or, refl, ◌∙◌, ap, inl, inr, arith, zero-le}
 use Rattle.std.specs.Prelude.{◌&&◌, ◌||◌, if◌then◌else◌}
 use Rattle.std.specs.Map.{values_of}
 use Rattle.std.specs.BTreeMap.{is_at}
@@ -11,9 +11,9 @@ use Rattle.tdb_space.specs.Form.{Form, data_start}
 use Rattle.tdb_locks.specs.HeldLocks.{HeldLocks, AreCounts, count_of}
 use Rattle.tdb_locks.specs.declared.kind.Kind.{Kind}
 use Rattle.tdb_locks.specs.declared.kind.Kind.TheVariants.{Read, Write}
-use Rattle.tdb_law.specs.Openers.{Own, nowhere, count_at}
+use Rattle.tdb_law.specs.Openers.{Own, count_at}
 use Rattle.tdb_law.specs.Rows.{lock_all, all_end}
-use Rattle.tdb_law.specs.Held.{covers, all_held, kept}
+use Rattle.tdb_law.specs.Held.{covers, all_held, stand_held, kept}
 use Rattle.tdb_law.specs.World.{HasFewChains}
 use Rattle.tdb_law.proofs.Locks.{covers_within, within_covers}
 use Rattle.tdb_law.proofs.Tests.{or_cases}
@@ -21,8 +21,10 @@ use Rattle.tdb_steps.specs.LockRows.{strength_of, covers_all}
 use Rattle.tdb_steps.specs.Holdings.{KeptBeside}
 use Rattle.tdb_steps.specs.declared.rows.Region.TheVariants.{Chain, FreeList, AllRecords}
 use Rattle.tdb_world.specs.declared.options.Options.{Options}
-use Rattle.tdb_world.specs.Openers.{own_with, all_of}
+use Rattle.tdb_world.specs.Openers.{AtRest, own_with, all_of}
 use Rattle.tdb_world.specs.Given.{holds_chains, reads_records}
+use Rattle.tdb_world.specs.Turning.{StandsWell, resting}
+use Rattle.tdb_world.proofs.Rests.{stand_most, stand_below, stand_nowhere}
 use Rattle.tdb_world.proofs.Counts.{no_chain, chain_or_none}
 use Rattle.tdb_world.proofs.Owned.{own_count}
 use Rattle.tdb_world.proofs.Keeping.{counts_keep, kept_is, counted_kept, none_keep, counts_most}
@@ -86,33 +88,37 @@ zero_of n e = grind (arith, nat_tests)
 pub no_counts : (held : HeldLocks) → holds_chains held ≡ false → (chain : ℕ) → count_of held chain ≡ 0
 no_counts held none chain = let less = lookup-le-sum (is_at (nat_cmp chain)) held.chains in let total = zero_of (sum (values_of held.chains)) none in omega (arith, less, total)
 
-module _ (f : Form) (few : HasFewChains f) (options : Options) (live : Bool) (held : HeldLocks) (counts : AreCounts held.chains) where
+module _ (f : Form) (few : HasFewChains f) (options : Options) (live : Bool) (held : HeldLocks) (rest : AtRest) (counts : AreCounts held.chains) (K : StandsWell f rest.shown rest.stands) where
   abbrev pub own : Own
-  own = own_with options live held
+  own = own_with options live held rest
 
   -- who holds no chain has no count at any byte
   pub no_counts_at : holds_chains held ≡ false → (b : ℕ) → count_at own b ≡ 0
   no_counts_at none b = elim (chain_or_none b) [
-    | inl w ↦ ap (count_at own) w.1 ∙ own_count options live held counts w.0 ∙ no_counts held none w.0
+    | inl w ↦ ap (count_at own) w.1 ∙ own_count options live held rest counts w.0 ∙ no_counts held none w.0
     | inr other ↦ ap (λ o. unwrap_or o 0) (no_chain held.chains b other)
   ]
 
-  bare_byte : (b : ℕ) → count_at own b ≡ 0 → all_held (all_of held.all) b ≡ 0 → kept f own nowhere b ≡ 0
-  bare_byte b none zero_all = let whole = kept_is f own refl b in let bare = ap (λ n. counts_keep f n b) none ∙ none_keep f b in omega (arith, whole, bare, zero_all)
+  bare_byte : (b : ℕ) → count_at own b ≡ 0 → all_held (all_of held.all) b ≡ 0 → stand_held rest.stands b ≡ 0 → kept f own (resting rest) b ≡ 0
+  bare_byte b none zero_all off = let whole = kept_is f own (resting rest) refl b in let bare = ap (λ n. counts_keep f n b) none ∙ none_keep f b in omega (arith, whole, bare, zero_all, off)
 
-  all_kept : (b : ℕ) → all_held (all_of held.all) b ≤ kept f own nowhere b
-  all_kept b = let whole = kept_is f own refl b in omega (arith, whole)
+  all_kept : (b : ℕ) → all_held (all_of held.all) b ≤ kept f own (resting rest) b
+  all_kept b = let whole = kept_is f own (resting rest) refl b in omega (arith, whole)
 
   -- nothing is kept more strongly than for writing
-  pub kept_most : (b : ℕ) → kept f own nowhere b ≤ 2
-  kept_most b = let whole = kept_is f own refl b in let c = counts_most (nat_lt b (data_start f) && nat_lt 0 (count_at own b)) in let a = all_most held.all b in omega (arith, whole, c, a)
+  pub kept_most : (b : ℕ) → kept f own (resting rest) b ≤ 2
+  kept_most b = let whole = kept_is f own (resting rest) refl b in let c = counts_most (nat_lt b (data_start f) && nat_lt 0 (count_at own b)) in let a = all_most held.all b in let one = stand_most rest.stands b in omega (arith, whole, c, a, one)
 
-  -- who holds no chain keeps what its lock of all records keeps
-  pub all_alone : holds_chains held ≡ false → (b : ℕ) → kept f own nowhere b ≡ all_held (all_of held.all) b
-  all_alone none b = let whole = kept_is f own refl b in let bare = ap (λ n. counts_keep f n b) (no_counts_at none b) ∙ none_keep f b in omega (arith, whole, bare)
+  -- who holds no chain and has no cursor keeps what its lock of all records keeps
+  pub all_alone : holds_chains held ≡ false → is_some rest.shown ≡ false → (b : ℕ) → kept f own (resting rest) b ≡ all_held (all_of held.all) b
+  all_alone none without b =
+      let whole = kept_is f own (resting rest) refl b in
+      let bare = ap (λ n. counts_keep f n b) (no_counts_at none b) ∙ none_keep f b in
+      let off = ap (λ o. stand_held o b) (stand_nowhere f rest.shown rest.stands K without) in
+      omega (arith, whole, bare, off)
 
   -- a chain
-  pub beside_chain : (turn chain : ℕ) (kind : Kind) → chain < f.chains → (kind ≡ Write → reads_records held.all ≡ false) → KeptBeside held (kept f own nowhere) (record { turn = turn; region = Chain chain; kind = kind })
+  pub beside_chain : (turn chain : ℕ) (kind : Kind) → chain < f.chains → (kind ≡ Write → reads_records held.all ≡ false) → KeptBeside held (kept f own (resting rest)) (record { turn = turn; region = Chain chain; kind = kind })
   beside_chain turn chain kind there apart = record { covered = over; bare = bare }
     where
       at_chain : (b : ℕ) → 168 + 4 * chain ≤ b → b < 168 + 4 * chain + 1 → b ≡ 168 + 4 * chain
@@ -121,12 +127,12 @@ module _ (f : Form) (few : HasFewChains f) (options : Options) (live : Bool) (he
       strong : strength_of kind ≤ 2
       strong = elim kind as (λ k. strength_of k ≤ 2) [ Read ↦ omega arith | Write ↦ omega arith ]
 
-      over : nat_lt 0 (count_of held chain) || covers_all held.all kind ≡ true → (b : ℕ) → 168 + 4 * chain ≤ b → b < 168 + 4 * chain + 1 → strength_of kind ≤ kept f own nowhere b
+      over : nat_lt 0 (count_of held chain) || covers_all held.all kind ≡ true → (b : ℕ) → 168 + 4 * chain ≤ b → b < 168 + 4 * chain + 1 → strength_of kind ≤ kept f own (resting rest) b
       over e b low high = elim (or_cases (nat_lt 0 (count_of held chain)) (covers_all held.all kind) e) [
         | inl some ↦
-            let here : 0 < count_at own (168 + 4 * chain) = let n = own_count options live held counts chain in let m = ltb-true 0 (count_of held chain) some in omega (arith, n, m) in
-            let two = counted_kept f own refl (168 + 4 * chain) (omega (arith, there)) here in
-            let same : kept f own nowhere b ≡ kept f own nowhere (168 + 4 * chain) = ap (kept f own nowhere) (at_chain b low high) in
+            let here : 0 < count_at own (168 + 4 * chain) = let n = own_count options live held rest counts chain in let m = ltb-true 0 (count_of held chain) some in omega (arith, n, m) in
+            let two = counted_kept f own (resting rest) refl (168 + 4 * chain) (omega (arith, there)) here in
+            let same : kept f own (resting rest) b ≡ kept f own (resting rest) (168 + 4 * chain) = ap (kept f own (resting rest)) (at_chain b low high) in
             omega (arith, two, same, strong)
         | inr all ↦
             let more = all_covers held.all kind b all (omega (arith, low)) (omega (arith, high, there, few.few)) in
@@ -134,22 +140,24 @@ module _ (f : Form) (few : HasFewChains f) (options : Options) (live : Bool) (he
             omega (arith, more, least)
       ]
 
-      bare : nat_lt 0 (count_of held chain) || covers_all held.all kind ≡ false → (b : ℕ) → 168 + 4 * chain ≤ b → b < 168 + 4 * chain + 1 → kept f own nowhere b ≡ 0
+      bare : nat_lt 0 (count_of held chain) || covers_all held.all kind ≡ false → (b : ℕ) → 168 + 4 * chain ≤ b → b < 168 + 4 * chain + 1 → kept f own (resting rest) b ≡ 0
       bare e b low high =
           bare_byte b
-          (ap (count_at own) (at_chain b low high) ∙ own_count options live held counts chain ∙ zero_of (count_of held chain) (not_first (nat_lt 0 (count_of held chain)) (covers_all held.all kind) e))
+          (ap (count_at own) (at_chain b low high) ∙ own_count options live held rest counts chain ∙ zero_of (count_of held chain) (not_first (nat_lt 0 (count_of held chain)) (covers_all held.all kind) e))
           (nothing held.all b (all_bare held.all kind (not_second (nat_lt 0 (count_of held chain)) (covers_all held.all kind) e) apart))
+          (stand_below f rest.shown rest.stands b K (omega (arith, there, high)))
 
   -- the free list
-  pub below_bare : (b : ℕ) → b < 168 → kept f own nowhere b ≡ 0
-  below_bare b low = bare_byte b (ap (λ o. unwrap_or o 0) (no_chain held.chains b (λ c e. omega (arith, low, e)))) (all_below held.all b low)
+  pub below_bare : (b : ℕ) → b < 168 → kept f own (resting rest) b ≡ 0
+  below_bare b low = bare_byte b (ap (λ o. unwrap_or o 0) (no_chain held.chains b (λ c e. omega (arith, low, e)))) (all_below held.all b low) (stand_below f rest.shown rest.stands b K (omega (arith, low)))
 
-  pub beside_free : (turn : ℕ) (kind : Kind) → KeptBeside held (kept f own nowhere) (record { turn = turn; region = FreeList; kind = kind })
+  pub beside_free : (turn : ℕ) (kind : Kind) → KeptBeside held (kept f own (resting rest)) (record { turn = turn; region = FreeList; kind = kind })
   beside_free turn kind = record { covered = λ e. absurd (cc e); bare = λ e b low high. below_bare b (omega (arith, high)) }
 
   -- all records
-  pub beside_all : (turn : ℕ) (kind : Kind) → (kind ≡ Write → reads_records held.all ≡ false) → (covers_all held.all kind ≡ false → holds_chains held ≡ false) → KeptBeside held (kept f own nowhere) (record { turn = turn; region = AllRecords; kind = kind })
+  pub beside_all : (turn : ℕ) (kind : Kind) → (kind ≡ Write → reads_records held.all ≡ false) → (covers_all held.all kind ≡ false → (holds_chains held ≡ false) × (is_some rest.shown ≡ false))
+      → KeptBeside held (kept f own (resting rest)) (record { turn = turn; region = AllRecords; kind = kind })
   beside_all turn kind apart alone = record {
     covered = λ e b low high. let more = all_covers held.all kind b e low high in let least = all_kept b in omega (arith, more, least);
-    bare = λ e b low high. bare_byte b (no_counts_at (alone e) b) (nothing held.all b (all_bare held.all kind e apart));
+    bare = λ e b low high. bare_byte b (no_counts_at (alone e).0 b) (nothing held.all b (all_bare held.all kind e apart)) (ap (λ o. stand_held o b) (stand_nowhere f rest.shown rest.stands K (alone e).1));
   }

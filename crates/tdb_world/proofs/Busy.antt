@@ -1,6 +1,6 @@
 -- What a command has locked by its stage: who knows anything of a chain has it locked for writing, and who holds a record has the free
 -- list so.
-use Rattle.std.proofs.Common.{◌≡◌, ℕ, ◌<◌, ◌≤◌, List, [], ◌∷◌, true, false, Option, None, is_none, refl, ◌∙◌, ap, inl, inr, ◌⊎◌, arith, le_trans}
+use Rattle.std.proofs.Common.{◌≡◌, ℕ, ◌<◌, ◌≤◌, List, [], ◌∷◌, true, Option, None, is_none, refl, ◌∙◌, ap, inl, inr, ◌⊎◌, arith, le_trans}
 use Rattle.std.specs.Prelude.{◌&&◌, if◌then◌else◌}
 use Rattle.tdb_space.specs.Form.{Form}
 use Rattle.tdb_space.specs.Pairs.{home}
@@ -9,7 +9,7 @@ use Rattle.tdb_chain.specs.declared.place.Place.{Place}
 use Rattle.tdb_law.specs.Commands.{MapCommand}
 use Rattle.tdb_law.specs.Commands.Command.{OnMap}
 use Rattle.tdb_law.specs.MapCommands.{map_reads, map_touches}
-use Rattle.tdb_law.specs.Openers.{Own, nowhere}
+use Rattle.tdb_law.specs.Openers.{Own, Spot}
 use Rattle.tdb_law.specs.Refusals.{refusal}
 use Rattle.tdb_law.specs.Rows.{lock_all, lock_free, lock_chain, map_locks, locks_by, look_by, look}
 use Rattle.tdb_law.specs.Outcomes.{reads_by, reads, touches_by, touches}
@@ -138,9 +138,9 @@ module _ (f : Form) (n : ℕ) where
 
 -- a command that isn't refused, outside a transaction
 module _ (f : Form) (c : MapCommand) (x : Own) (granted : refusal f (OnMap c) x ≡ None) (free : is_none x.txn ≡ true) where
-  pub held_is : (n b : ℕ) → held f (OnMap c) x nowhere n b ≡ locked (map_locks f c) n b
+  pub held_is : (s : Spot) (n b : ℕ) → held f (OnMap c) x s n b ≡ locked (map_locks f c) n b
   unfolding held
-  held_is n b = ap (λ q. locked (locks_by f q (OnMap c) x false) n b) granted ∙ ap (λ z. locked (if z then map_locks f c else []) n b) free
+  held_is s n b = ap (λ q. locked (locks_by f q (OnMap c) x s.purging) n b) granted ∙ ap (λ z. locked (if z then map_locks f c else []) n b) free
 
   pub look_is : look f (OnMap c) x ≡ 1
   look_is = ap (λ q. look_by q (OnMap c) x) granted ∙ ap (λ z. if z then 1 else 0) free

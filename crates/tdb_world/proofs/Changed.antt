@@ -8,16 +8,16 @@ use Rattle.tdb_locks.specs.HeldLocks.{HeldLocks, AreCounts, Raises, Lowers, Sets
 use Rattle.tdb_locks.specs.declared.kind.Kind.{Kind}
 use Rattle.tdb_law.specs.Openers.{Own, Counts, count_at, count_more, count_less}
 use Rattle.tdb_world.specs.declared.options.Options.{Options}
-use Rattle.tdb_world.specs.Openers.{own_with, counts_of, all_of}
+use Rattle.tdb_world.specs.Openers.{AtRest, own_with, counts_of, all_of}
 use Rattle.tdb_world.proofs.Counts.{counts_put, counts_out, counts_same}
 use Rattle.tdb_world.proofs.Owned.{own_count}
 
-module _ (options : Options) (live : Bool) (old new : HeldLocks) (counts : AreCounts old.chains) (counts_after : AreCounts new.chains) where
+module _ (options : Options) (live : Bool) (old new : HeldLocks) (rest : AtRest) (counts : AreCounts old.chains) (counts_after : AreCounts new.chains) where
   abbrev x : Own
-  x = own_with options live old
+  x = own_with options live old rest
 
   abbrev y : Own
-  y = own_with options live new
+  y = own_with options live new rest
 
   -- equal counts and an equal lock of all records are equal openers
   with_counts : (m : Counts) → counts_of new.chains ≡ m → new.all ≡ old.all → y ≡ record x { counts = m }
@@ -25,14 +25,14 @@ module _ (options : Options) (live : Bool) (old new : HeldLocks) (counts : AreCo
 
   pub own_raised : (chain : ℕ) → Raises old new chain → count_of old chain < 2 ^ 32 - 1 → y ≡ count_more x (168 + 4 * chain)
   own_raised chain R room =
-      let n : count_of new chain ≡ count_at x (168 + 4 * chain) + 1 = let a = own_count options live old counts chain in let r = R.raised in omega (arith, a, r, room) in
+      let n : count_of new chain ≡ count_at x (168 + 4 * chain) + 1 = let a = own_count options live old rest counts chain in let r = R.raised in omega (arith, a, r, room) in
       with_counts _ (counts_put old.chains new.chains counts counts_after chain R.others (count_at x (168 + 4 * chain) + 1) (omega arith) n) R.all
 
   pub own_lowered : (chain : ℕ) → Lowers old new chain → y ≡ count_less x (168 + 4 * chain)
   own_lowered chain L = at (nat_le (count_at x (168 + 4 * chain)) 1) refl
     where
       a : count_at x (168 + 4 * chain) ≡ count_of old chain
-      a = own_count options live old counts chain
+      a = own_count options live old rest counts chain
 
       at : (t : Bool) → nat_le (count_at x (168 + 4 * chain)) 1 ≡ t → y ≡ record x { counts = if t then remove x.counts (168 + 4 * chain) else insert x.counts (168 + 4 * chain) (count_at x (168 + 4 * chain) - 1) }
       at true e =
@@ -58,5 +58,5 @@ module _ (options : Options) (live : Bool) (old new : HeldLocks) (counts : AreCo
       ]
 
 -- all records are held otherwise
-pub own_set : (options : Options) (live : Bool) (old new : HeldLocks) (all : Option (Kind × ℕ)) → SetsAll old new all → own_with options live new ≡ record (own_with options live old) { all = all_of all }
-own_set options live old new all S = λ i. record (own_with options live old) { counts = counts_of (S.chains i); all = all_of (S.now i) }
+pub own_set : (options : Options) (live : Bool) (old new : HeldLocks) (rest : AtRest) (all : Option (Kind × ℕ)) → SetsAll old new all → own_with options live new rest ≡ record (own_with options live old rest) { all = all_of all }
+own_set options live old new rest all S = λ i. record (own_with options live old rest) { counts = counts_of (S.chains i); all = all_of (S.now i) }

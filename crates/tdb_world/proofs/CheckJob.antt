@@ -14,7 +14,7 @@ use Rattle.tdb_law.specs.Commands as Law
 use Rattle.tdb_law.specs.Commands.{is_done}
 use Rattle.tdb_law.specs.Commands.Command.{OnMap}
 use Rattle.tdb_law.specs.Commands.MapCommand.{Check}
-use Rattle.tdb_law.specs.Openers.{nowhere}
+use Rattle.tdb_law.specs.Openers.{View}
 use Rattle.tdb_law.specs.Held.{kept}
 use Rattle.tdb_law.specs.Rows.{map_locks}
 use Rattle.tdb_law.specs.World.{HasFewChains}
@@ -31,8 +31,8 @@ use Rattle.tdb_world.specs.declared.options.Options.{Options}
 use Rattle.tdb_world.specs.declared.job.Job.TheVariants as Jobs
 use Rattle.tdb_world.specs.declared.job.Checking.{Checking}
 use Rattle.tdb_world.specs.declared.job.Checking.TheVariants.{Begun, Records, FreeList, Counted}
-use Rattle.tdb_world.specs.Openers.{own_with, law_task, CheckAfter, TaskStands, JobKnows}
-use Rattle.tdb_world.specs.Turning.{TurnsLocks, TurnsFile, ImageBefore, TurnsImage}
+use Rattle.tdb_world.specs.Openers.{AtRest, own_with, law_task, CheckAfter, TaskStands, JobKnows}
+use Rattle.tdb_world.specs.Turning.{TurnsLocks, TurnsFile, ImageBefore, TurnsImage, resting}
 use Rattle.tdb_world.specs.Jobs.{JobIsReady, JobTurned, task_after}
 use Rattle.tdb_world.specs.Checked.{check_locks, CheckLeaves, HasCounted, HasKeys}
 use Rattle.tdb_world.proofs.CheckReady.{check_alone, check_before}
@@ -100,46 +100,46 @@ step_knows f a FreeList e n others is B next counted =
     counted_knows f a e A (counted A refl)
 step_knows f a (Counted keys) e n others is B next counted = absurd (let late = next.0 in omega (arith, is, late))
 
-module _ (f : Form) (few : HasFewChains f) (options : Options) (live : Bool) (held : HeldLocks) (counts : AreCounts held.chains) (d : Checking) (n who owner size : ℕ) (ps : List Piece)
-    (J : JobIsReady f (own_with options live held) (Jobs.Check d) n who owner size ps) where
+module _ (f : Form) (few : HasFewChains f) (options : Options) (live : Bool) (held : HeldLocks) (rest : AtRest) (counts : AreCounts held.chains) (d : Checking) (n who owner size : ℕ) (ps : List Piece)
+    (J : JobIsReady f (own_with options live held rest) (resting rest) (Jobs.Check d) n who owner size ps) where
   -- its locks stand alone, and it holds what it is to hold
   pub check_ready_alone : AllStandAlone held owner ps check_locks
-  check_ready_alone = subst (λ o. AllStandAlone held o ps check_locks) (sym J.number) (check_alone f few options live held counts n who ps J.stands.0 J.holds)
+  check_ready_alone = subst (λ o. AllStandAlone held o ps check_locks) (sym J.number) (check_alone f few options live held rest counts n who ps J.stands.0 J.holds)
 
-  pub check_ready_holds : HoldsBefore held (kept f (own_with options live held) nowhere) owner n ps check_locks
-  check_ready_holds = subst (λ o. HoldsBefore held (kept f (own_with options live held) nowhere) o n ps check_locks) (sym J.number) (check_before f few options live held counts n who ps J.stands.0 J.holds)
+  pub check_ready_holds : HoldsBefore held (kept f (own_with options live held rest) (resting rest)) owner n ps check_locks
+  check_ready_holds = subst (λ o. HoldsBefore held (kept f (own_with options live held rest) (resting rest)) o n ps check_locks) (sym J.number) (check_before f few options live held rest counts n who ps J.stands.0 J.holds)
 
-  in_law : (new : List Piece) (turn : Law.Turn) → LocksTurned (locks_in check_locks) (kept f (own_with options live held) nowhere) owner n ps new turn
-      → LocksTurned (map_locks f Check) (kept f (own_with options live held) nowhere) (who + 1) n ps new turn
-  in_law new turn L = subst (λ o. LocksTurned (locks_in check_locks) (kept f (own_with options live held) nowhere) o n ps new turn) J.number L
+  in_law : (new : List Piece) (turn : Law.Turn) → LocksTurned (locks_in check_locks) (kept f (own_with options live held rest) (resting rest)) owner n ps new turn
+      → LocksTurned (map_locks f Check) (kept f (own_with options live held rest) (resting rest)) (who + 1) n ps new turn
+  in_law new turn L = subst (λ o. LocksTurned (locks_in check_locks) (kept f (own_with options live held rest) (resting rest)) o n ps new turn) J.number L
 
-  stands_after : (e : Checking) (longer : ℕ) (turn : Turn) → CheckLeaves d e turn → TaskStands f (own_with options live held) (task_after (Jobs.Check e) n (law_turn turn)) longer
+  stands_after : (e : Checking) (longer : ℕ) (turn : Turn) → CheckLeaves d e turn → TaskStands f (own_with options live held rest) (task_after (Jobs.Check e) n (law_turn turn)) longer
   stands_after e longer Turns.Step leaves = (J.stands.0, (leaves n J.stands.1).1)
   stands_after e longer (Turns.Blocked o byte) leaves = (J.stands.0, subst (λ z. CheckAfter z n) (sym leaves) J.stands.1)
   stands_after e longer (Turns.Done r) leaves = tt
 
   -- whatever the bytes are
   pub check_turned : (e : Checking) (new : List Piece) (longer : ℕ) (turn : Turn) → CheckLeaves d e turn → MapRow Check n (turn_of turn)
-      → LocksTurned (locks_in check_locks) (kept f (own_with options live held) nowhere) owner n ps new (turn_of turn)
-      → JobTurned f (own_with options live held) (own_with options live held) (Jobs.Check d) (Jobs.Check e) n who longer ps new (law_turn turn)
+      → LocksTurned (locks_in check_locks) (kept f (own_with options live held rest) (resting rest)) owner n ps new (turn_of turn)
+      → JobTurned f (own_with options live held rest) (own_with options live held rest) (resting rest) (Jobs.Check d) (Jobs.Check e) n who longer ps new (law_turn turn)
   check_turned e new longer turn leaves row L = record {
-    locks = subst (λ z. TurnsLocks f (own_with options live held) (own_with options live held) (OnMap Check) n z who ps new (law_turn turn)) (left_is e n turn)
-        (subst (λ t. TurnsLocks f (own_with options live held) (own_with options live held) (OnMap Check) n (task_left (OnMap Check) n t) who ps new t) (turn_is turn)
-        (plain_locks f Check options live held n who ps J.stands.0 J.holds new (turn_of turn) (in_law new (turn_of turn) L) row));
+    locks = subst (λ z. TurnsLocks f (own_with options live held rest) (own_with options live held rest) (resting rest) (OnMap Check) n z who ps new (law_turn turn)) (left_is e n turn)
+        (subst (λ t. TurnsLocks f (own_with options live held rest) (own_with options live held rest) (resting rest) (OnMap Check) n (task_left (OnMap Check) n t) who ps new t) (turn_is turn)
+        (plain_locks f Check options live held rest n who ps J.stands.0 J.holds new (turn_of turn) (in_law new (turn_of turn) L) row));
     stands = stands_after e longer turn leaves;
     lives = λ t e. refl;
   }
 
   -- of the bytes, which it leaves
-  pub check_file : (new : List Piece) (turn : Turn) (a : List ℕ) → LocksTurned (locks_in check_locks) (kept f (own_with options live held) nowhere) owner n ps new (turn_of turn)
+  pub check_file : (v : View) (new : List Piece) (turn : Turn) (a : List ℕ) → LocksTurned (locks_in check_locks) (kept f (own_with options live held rest) (resting rest)) owner n ps new (turn_of turn)
       → MapTurned f a Check n (image_map f a) (turn_of turn)
-      → TurnsFile f (own_with options live held) (own_with options live held) (OnMap Check) n who ps a a (law_turn turn)
-  check_file new turn a L M = record {
-    effect = subst (Effected f Check options live held n who ps J.stands.0 J.holds a a) (turn_is turn)
-        (plain_effect f Check options live held n who ps J.stands.0 J.holds a a (turn_of turn) (in_law new (turn_of turn) L).rightly M);
+      → TurnsFile f (own_with options live held rest) (own_with options live held rest) (resting rest) v (OnMap Check) n who ps a a (law_turn turn)
+  check_file v new turn a L M = record {
+    effect = subst (Effected f Check options live held rest n who ps J.stands.0 J.holds v a a) (turn_is turn)
+        (plain_effect f Check options live held rest n who ps J.stands.0 J.holds v a a (turn_of turn) (in_law new (turn_of turn) L).rightly M);
     number = number_stays options.seqnum (turn_of turn) (word f.order a 48)
-        ∙ plain_number f Check options live held n who ps J.stands.0 J.holds (turn_of turn) (word f.order a 48)
-        ∙ ap (λ t. number_next f (OnMap Check) n (own_with options live held) t (word f.order a 48) 0) (turn_is turn);
+        ∙ plain_number f Check options live held rest n who ps J.stands.0 J.holds (turn_of turn) (word f.order a 48)
+        ∙ ap (λ t. number_next f (OnMap Check) n (own_with options live held rest) t (word f.order a 48) 0) (turn_is turn);
   }
 
   pub check_image : (e : Checking) (turn : Turn) (a : List ℕ) (others : List HandPair) → CheckLeaves d e turn → ImageBefore f (Jobs.Check d) a others → (AcceptWith f a [] → d ≡ FreeList → HasCounted f a e)

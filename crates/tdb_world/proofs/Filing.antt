@@ -33,9 +33,9 @@ use Rattle.tdb_world.specs.declared.job.Job.{Job}
 use Rattle.tdb_world.specs.declared.job.Job.TheVariants as Jobs
 use Rattle.tdb_world.specs.declared.job.Checking.TheVariants as Checks
 use Rattle.tdb_world.specs.declared.job.Task.{Task}
-use Rattle.tdb_world.specs.Openers.{own_of, command_in, hands_at, JobKnows, TaskKnows, OpenerKnows}
+use Rattle.tdb_world.specs.Openers.{no_cursor, own_of, command_in, hands_at, JobKnows, TaskKnows, OpenerKnows}
 use Rattle.tdb_world.specs.States.{WorldStands, FileStands}
-use Rattle.tdb_world.specs.Turning.{JobIsOn, TurnsFile, TurnsImage}
+use Rattle.tdb_world.specs.Turning.{no_view, resting, JobIsOn, TurnsFile, TurnsImage}
 use Rattle.tdb_world.specs.Laws.{HasTask, IsPut, hands_but, other_hands, TurnKeepsFile}
 use Rattle.tdb_world.proofs.AllHands.{from_front}
 use Rattle.tdb_world.proofs.Busy.{Writes, looked_writes, listed_writes, taken_writes, on_reads}
@@ -64,7 +64,7 @@ doing command chain seqnum stage whole = record { command = command; chain = cha
 
 module _ (f : Form) (options : Options) (xs ys : List Opener) (ps : List Piece) (a b : List ℕ) (size who : ℕ) (x y : Opener) (t : Task) (turn : Turn)
     (W : WorldStands f options xs ps a size) (F : FileStands f xs a) (B : HasTask xs who x t) (P : IsPut xs who y ys)
-    (E : TurnsFile f (own_of options x) (own_of options y) (command_in t.job) t.steps who ps a b turn) (T : TurnsImage f t y.task a b (other_hands xs who)) where
+    (E : TurnsFile f (own_of options x) (own_of options y) (resting no_cursor) no_view (command_in t.job) t.steps who ps a b turn) (T : TurnsImage f t y.task a b (other_hands xs who)) where
   mine : Works f ps size who (own_of options x) t.job t.steps
   mine = works f options xs ps a size W who x t B
 

@@ -23,7 +23,7 @@ use Rattle.tdb_world.specs.declared.opener.Opener.{Opener}
 use Rattle.tdb_world.specs.declared.job.Job.{Job}
 use Rattle.tdb_world.specs.declared.job.Job.TheVariants as Jobs
 use Rattle.tdb_world.specs.declared.job.Checking.TheVariants as Checks
-use Rattle.tdb_world.specs.Openers.{own_of, own_with, own_at, task_at, command_in, law_task, hands_of_job, hands_of_task, hands_at, JobStands, TaskStands, OpenerStands, JobKnows, TaskKnows, OpenerKnows}
+use Rattle.tdb_world.specs.Openers.{no_cursor, own_of, own_with, own_at, task_at, command_in, law_task, hands_of_job, hands_of_task, hands_at, JobStands, TaskStands, OpenerStands, JobKnows, TaskKnows, OpenerKnows}
 use Rattle.tdb_world.specs.States.{state_of}
 use Rattle.tdb_world.specs.Laws.{IsGiven, GiftKeepsWorld, GiftKeepsFile, GiftIsGiven}
 use Rattle.tdb_world.proofs.Standing.{Holds, world_set, held_still}
@@ -32,7 +32,7 @@ use Rattle.tdb_world.proofs.Busy.{hand_frees, looked_writes, listed_writes, take
 
 -- the opener has what it had
 same_own : (options : Options) (x y : Opener) (job : Job) → IsGiven x job y → own_of options y ≡ own_of options x
-same_own options x y job G = ap (λ l. own_with options l y.held) G.same_live ∙ ap (λ h. own_with options x.live h) G.same_held
+same_own options x y job G = ap (λ l. own_with options l y.held no_cursor) G.same_live ∙ ap (λ h. own_with options x.live h no_cursor) G.same_held
 
 -- before the first turn a command holds no record and knows nothing
 bare_stage : (f : Form) (img : List ℕ) (command : Plain) (chain : ℕ) (seqnum : Bool) (stage : Stage) (whole : Option (List ℕ)) → IsAfter command stage 0 → DoingKnows f img (record { command = command; chain = chain; seqnum = seqnum; stage = stage; whole = whole })

@@ -1,5 +1,5 @@
 -- What an opener's explicit locks are where a command isn't refused.
-use Rattle.std.proofs.Common.{◌≡◌, ℕ, ◌+◌, ◌*◌, ◌<◌, List, Bool, true, false, ◌==◌, Option, Some, None, is_none, unwrap_or, refl, sym, ◌∙◌, ap, arith}
+use Rattle.std.proofs.Common.{◌≡◌, ℕ, ◌+◌, ◌*◌, ◌<◌, List, Bool, true, false, ◌==◌, Option, Some, None, is_none, is_some, unwrap_or, refl, sym, ◌∙◌, ap, arith}
 use Rattle.std.specs.Prelude.{◌&&◌, ◌||◌, if◌then◌else◌}
 use Rattle.std.specs.Option.{option_map}
 use Rattle.std.proofs.lemmas.Bool.Decides.{nat_tests}
@@ -10,7 +10,6 @@ use Rattle.tdb_locks.specs.declared.kind.Kind.{Kind}
 use Rattle.tdb_locks.specs.declared.kind.Kind.TheVariants.{Read, Write}
 use Rattle.tdb_locks.specs.declared.turn.Reply.{Reply}
 use Rattle.tdb_law.specs.Commands as Law
-use Rattle.tdb_law.specs.Openers.{nowhere}
 use Rattle.tdb_law.specs.Refusals.{refusal, says}
 use Rattle.tdb_law.specs.Held.{kept, all_held}
 use Rattle.tdb_plays.specs.InLaw.{law_command, law_reply}
@@ -19,9 +18,11 @@ use Rattle.tdb_plays.specs.declared.command.Command.TheVariants as Given
 use Rattle.tdb_steps.specs.Holdings.{strength}
 use Rattle.tdb_steps.specs.LockRows.{covers_all}
 use Rattle.tdb_world.specs.declared.options.Options.{Options}
-use Rattle.tdb_world.specs.Openers.{own_with, all_of}
+use Rattle.tdb_world.specs.Openers.{AtRest, own_with, all_of}
 use Rattle.tdb_world.specs.Given.{holds_chains, reads_records, unlock_all_told, IsWellHeld}
+use Rattle.tdb_world.specs.Turning.{StandsWell, resting}
 use Rattle.tdb_world.proofs.Counts.{no_chain}
+use Rattle.tdb_world.proofs.Rests.{stand_between}
 use Rattle.tdb_world.proofs.Asking.{told_in, told_law}
 use Rattle.tdb_world.proofs.Keeping.{kept_is, counts_keep, none_keep}
 use Rattle.tdb_world.proofs.Beside.{no_counts}
@@ -40,35 +41,38 @@ none_held_there None e = refl
 none_held_there (Some Read) e = absurd (omega (arith, e))
 none_held_there (Some Write) e = absurd (omega (arith, e))
 
-module _ (f : Form) (options : Options) (live : Bool) (held : HeldLocks) (counts : AreCounts held.chains) where
-  pub untold_of : (c : Command) → refusal f (law_command c) (own_with options live held) ≡ None → told_in f options.read_only held c ≡ None
-  untold_of c R = untold (told_in f options.read_only held c) (told_law f options live held counts c ∙ ap (option_map (says (own_with options live held))) R)
+module _ (f : Form) (options : Options) (live : Bool) (held : HeldLocks) (rest : AtRest) (counts : AreCounts held.chains) where
+  pub untold_of : (c : Command) → refusal f (law_command c) (own_with options live held rest) ≡ None → told_in f options.read_only held (is_some rest.shown) c ≡ None
+  untold_of c R = untold (told_in f options.read_only held (is_some rest.shown) c) (told_law f options live held rest counts c ∙ ap (option_map (says (own_with options live held rest))) R)
 
-  pub chain_granted : (key : List ℕ) → refusal f (Law.Command.OnLocks (Law.LockCommand.ChainLock key)) (own_with options live held) ≡ None → reads_records held.all ≡ false
+  pub chain_granted : (key : List ℕ) → refusal f (Law.Command.OnLocks (Law.LockCommand.ChainLock key)) (own_with options live held rest) ≡ None → reads_records held.all ≡ false
   chain_granted key R = not_told (reads_records held.all) _ (untold_of (Given.ChainLock key) R)
 
-  pub chain_nb_granted : (key : List ℕ) → refusal f (Law.Command.OnLocks (Law.LockCommand.ChainLockNb key)) (own_with options live held) ≡ None → reads_records held.all ≡ false
+  pub chain_nb_granted : (key : List ℕ) → refusal f (Law.Command.OnLocks (Law.LockCommand.ChainLockNb key)) (own_with options live held rest) ≡ None → reads_records held.all ≡ false
   chain_nb_granted key R = not_told (reads_records held.all) _ (untold_of (Given.ChainLockNb key) R)
 
-  pub unchain_granted : (key : List ℕ) → refusal f (Law.Command.OnLocks (Law.LockCommand.ChainUnlock key)) (own_with options live held) ≡ None → 0 < count_of held (home f key)
+  pub unchain_granted : (key : List ℕ) → refusal f (Law.Command.OnLocks (Law.LockCommand.ChainUnlock key)) (own_with options live held rest) ≡ None → 0 < count_of held (home f key)
   unchain_granted key R = let e = not_told (count_of held (home f key) == 0) _ (untold_of (Given.ChainUnlock key) R) in grind (arith, nat_tests)
 
-  pub all_granted : refusal f (Law.Command.OnLocks Law.LockCommand.LockAll) (own_with options live held) ≡ None → reads_records held.all || (is_none held.all && holds_chains held) ≡ false
-  all_granted R = not_told (reads_records held.all || (is_none held.all && holds_chains held)) _ (untold_of Given.LockAll R)
+  pub all_granted : refusal f (Law.Command.OnLocks Law.LockCommand.LockAll) (own_with options live held rest) ≡ None
+      → reads_records held.all || (is_none held.all && (holds_chains held || is_some rest.shown)) ≡ false
+  all_granted R = not_told (reads_records held.all || (is_none held.all && (holds_chains held || is_some rest.shown))) _ (untold_of Given.LockAll R)
 
-  pub all_read_granted : refusal f (Law.Command.OnLocks Law.LockCommand.LockAllRead) (own_with options live held) ≡ None → is_none held.all && holds_chains held ≡ false
-  all_read_granted R = not_told (is_none held.all && holds_chains held) _ (untold_of Given.LockAllRead R)
+  pub all_read_granted : refusal f (Law.Command.OnLocks Law.LockCommand.LockAllRead) (own_with options live held rest) ≡ None
+      → is_none held.all && (holds_chains held || is_some rest.shown) ≡ false
+  all_read_granted R = not_told (is_none held.all && (holds_chains held || is_some rest.shown)) _ (untold_of Given.LockAllRead R)
 
-  pub unlock_all_granted : refusal f (Law.Command.OnLocks Law.LockCommand.UnlockAll) (own_with options live held) ≡ None → unlock_all_told held ≡ None
+  pub unlock_all_granted : refusal f (Law.Command.OnLocks Law.LockCommand.UnlockAll) (own_with options live held rest) ≡ None → unlock_all_told held (is_some rest.shown) ≡ None
   unlock_all_granted R = untold_of Given.UnlockAll R
 
   -- between chains nothing is kept where all records aren't
-  pub between_bare : (chain b : ℕ) → b + 1 ≡ 168 + 4 * chain → held.all ≡ None → kept f (own_with options live held) nowhere b ≡ 0
-  between_bare chain b next none =
-      let whole = kept_is f (own_with options live held) refl b in
+  pub between_bare : StandsWell f rest.shown rest.stands → (chain b : ℕ) → b + 1 ≡ 168 + 4 * chain → held.all ≡ None → kept f (own_with options live held rest) (resting rest) b ≡ 0
+  between_bare K chain b next none =
+      let whole = kept_is f (own_with options live held rest) (resting rest) refl b in
+      let off = stand_between f rest.shown rest.stands b K (omega (arith, next)) in
       let bare = ap (λ o. counts_keep f (unwrap_or o 0) b) (no_chain held.chains b (λ c e. omega (arith, next, e))) ∙ none_keep f b in
       let zero_all = ap (λ o. all_held (all_of o) b) none in
-      omega (arith, whole, bare, zero_all)
+      omega (arith, whole, bare, zero_all, off)
 
 -- who holds a chain and not all records for writing holds no records
 pub all_none : (held : HeldLocks) (chain : ℕ) → IsWellHeld held → 0 < count_of held chain → covers_all held.all Write ≡ false → held.all ≡ None

@@ -7,18 +7,18 @@ use Rattle.tdb_space.proofs.Stays.Changes.{changes_none}
 use Rattle.tdb_locks.specs.declared.piece.Piece.{Piece}
 use Rattle.tdb_law.specs.Commands.{Turn}
 use Rattle.tdb_law.specs.Commands.Turn.{Step, Blocked, Ends}
-use Rattle.tdb_law.specs.Openers.{Own}
+use Rattle.tdb_law.specs.Openers.{Own, Spot, View}
 use Rattle.tdb_world.specs.declared.job.Job.{Job}
 use Rattle.tdb_world.specs.Openers.{command_in, hands_of_job, JobKnows}
 use Rattle.tdb_world.specs.Turning.{TurnsFile, TurnsImage}
 use Rattle.tdb_world.specs.Jobs.{task_after, JobFiled}
 
-module _ (f : Form) (x y : Own) (job left : Job) (n who : ℕ) (ps : List Piece) (a : List ℕ) (others : List HandPair) (bare : hands_of_job job ≡ []) (bare_left : hands_of_job left ≡ []) (knows : JobKnows f a left)
+module _ (f : Form) (x y : Own) (s : Spot) (v : View) (job left : Job) (n who : ℕ) (ps : List Piece) (a : List ℕ) (others : List HandPair) (bare : hands_of_job job ≡ []) (bare_left : hands_of_job left ≡ []) (knows : JobKnows f a left)
     (A : AcceptWith f a (hands_of_job job ++ others)) where
   same_image : (turn : Turn) → TurnsImage f (record { steps = n; job = job }) (task_after left n turn) a a others
   same_image Step = record { accepted = subst (λ l. AcceptWith f a (l ++ others)) (bare ∙ sym bare_left) A; knows = knows; only = changes_none f a _ }
   same_image (Blocked owner byte) = record { accepted = subst (λ l. AcceptWith f a (l ++ others)) (bare ∙ sym bare_left) A; knows = knows; only = changes_none f a _ }
   same_image (Ends r) = record { accepted = subst (λ l. AcceptWith f a (l ++ others)) bare A; knows = tt; only = changes_none f a _ }
 
-  pub same_filed : (turn : Turn) → n ≡ 0 → TurnsFile f x y (command_in job) 0 who ps a a turn → JobFiled f x y job left n who ps a a others turn
-  same_filed turn none T = record { file = subst (λ m. TurnsFile f x y (command_in job) m who ps a a turn) (sym none) T; image = same_image turn }
+  pub same_filed : (turn : Turn) → n ≡ 0 → TurnsFile f x y s v (command_in job) 0 who ps a a turn → JobFiled f x y s v job left n who ps a a others turn
+  same_filed turn none T = record { file = subst (λ m. TurnsFile f x y s v (command_in job) m who ps a a turn) (sym none) T; image = same_image turn }

@@ -6,18 +6,18 @@ use Rattle.std.proofs.lemmas.Bool.Decides.{nat_tests}
 use Rattle.std.specs.Cmp.{nat_cmp_total, unsigned_tied}
 use Rattle.std.specs.FinMap.{get, insert, remove, get-insert, get-remove}
 use Rattle.tdb_space.specs.Form.{Form, data_start}
-use Rattle.tdb_law.specs.Openers.{Own, AllLock, Counts, nowhere, count_at, count_more, count_less, all_more, all_less}
+use Rattle.tdb_law.specs.Openers.{Own, AllLock, Counts, Spot, count_at, count_more, count_less, all_more, all_less}
 use Rattle.tdb_law.specs.Rows.{lock, lock_all}
-use Rattle.tdb_law.specs.Held.{covers, locked, all_held, explicit_held, kept, kept_by}
+use Rattle.tdb_law.specs.Held.{covers, locked, all_held, stand_held, kept, kept_by}
 use Rattle.tdb_law.proofs.Locks.{covers_within, within_covers}
 
 -- what counts keep of a byte, and that it is of a chain
 abbrev pub counts_keep : Form → ℕ → ℕ → ℕ
 counts_keep f n b = if nat_lt b (data_start f) && nat_lt 0 n then 2 else 0
 
--- an opener outside a transaction keeps what its counts and its lock of all records keep
-pub kept_is : (f : Form) (x : Own) → x.txn ≡ None → (b : ℕ) → kept f x nowhere b ≡ max (counts_keep f (count_at x b) b) (all_held x.all b)
-kept_is f x out b = let whole : kept f x nowhere b ≡ max (explicit_held f x b) 0 = ap (λ o. kept_by f o x nowhere b) out in omega (arith, whole)
+-- an opener outside a transaction keeps what its counts, its lock of all records and its cursor keep
+pub kept_is : (f : Form) (x : Own) (spot : Spot) → x.txn ≡ None → (b : ℕ) → kept f x spot b ≡ max (max (counts_keep f (count_at x b) b) (all_held x.all b)) (stand_held spot.stands b)
+kept_is f x spot out b = ap (λ o. kept_by f o x spot b) out
 
 pub counts_most : (t : Bool) → (if t then 2 else 0) ≤ 2
 counts_most true = le_refl 2
@@ -55,13 +55,13 @@ none_keep f b = at (nat_lt b (data_start f))
     at true = refl
     at false = refl
 
-module _ (f : Form) (x : Own) (out : x.txn ≡ None) (byte : ℕ) (low : byte < data_start f) where
+module _ (f : Form) (x : Own) (spot : Spot) (out : x.txn ≡ None) (byte : ℕ) (low : byte < data_start f) where
   keeps_two : (n : ℕ) → 0 < n → counts_keep f n byte ≡ 2
   keeps_two n some = rw (lt-ltb byte (data_start f) low, lt-ltb 0 n some) refl
 
   -- a byte that is locked explicitly is kept
-  pub counted_kept : 0 < count_at x byte → 2 ≤ kept f x nowhere byte
-  counted_kept some = let whole = kept_is f x out byte in let two = keeps_two (count_at x byte) some in omega (arith, whole, two)
+  pub counted_kept : 0 < count_at x byte → 2 ≤ kept f x spot byte
+  counted_kept some = let whole = kept_is f x spot out byte in let two = keeps_two (count_at x byte) some in omega (arith, whole, two)
 
   here_covered : (b : ℕ) → b ≡ byte → covers (lock 0 byte (byte + 1) 2) b ≡ true
   here_covered b same = covers_within (lock 0 byte (byte + 1) 2) b (omega (arith, same)) (omega (arith, same))
@@ -70,29 +70,29 @@ module _ (f : Form) (x : Own) (out : x.txn ≡ None) (byte : ℕ) (low : byte < 
   else_bare b differs = false_from_ne_true (covers (lock 0 byte (byte + 1) 2) b) (λ e. let parts = within_covers (lock 0 byte (byte + 1) 2) b e in differs (omega (arith, parts.0, parts.1)))
 
   -- with a count more that byte is kept too
-  pub more_kept : (b : ℕ) → kept f (count_more x byte) nowhere b ≡ max (locked (lock 0 byte (byte + 1) 2 ∷ []) 1 b) (kept f x nowhere b)
+  pub more_kept : (b : ℕ) → kept f (count_more x byte) spot b ≡ max (locked (lock 0 byte (byte + 1) 2 ∷ []) 1 b) (kept f x spot b)
   more_kept b = elim (cases_eq b byte) [
     | inl same ↦
-        let yk = kept_is f (count_more x byte) out b in
+        let yk = kept_is f (count_more x byte) spot out b in
         let two = ap (λ z. counts_keep f (count_at (count_more x byte) z) z) same ∙ ap (λ n. counts_keep f n byte) (more_here x byte) ∙ keeps_two (count_at x byte + 1) (omega arith) in
-        let xk = kept_is f x out b in
+        let xk = kept_is f x spot out b in
         let most = counts_most (nat_lt b (data_start f) && nat_lt 0 (count_at x b)) in
         let over = here_covered b same in
         rw over (omega (arith, yk, two, xk, most))
     | inr differs ↦
-        let yk = kept_is f (count_more x byte) out b in
+        let yk = kept_is f (count_more x byte) spot out b in
         let same = ap (λ n. counts_keep f n b) (more_else x byte b differs) in
-        let xk = kept_is f x out b in
+        let xk = kept_is f x spot out b in
         let bare = else_bare b differs in
         rw bare (omega (arith, yk, same, xk))
   ]
 
   -- with a count less what else is kept stays
-  pub less_kept : (b : ℕ) → b ≢ byte → kept f (count_less x byte) nowhere b ≡ kept f x nowhere b
+  pub less_kept : (b : ℕ) → b ≢ byte → kept f (count_less x byte) spot b ≡ kept f x spot b
   less_kept b differs =
-      let yk = kept_is f (count_less x byte) out b in
+      let yk = kept_is f (count_less x byte) spot out b in
       let same = ap (λ n. counts_keep f n b) (less_else x byte b differs) in
-      let xk = kept_is f x out b in
+      let xk = kept_is f x spot out b in
       omega (arith, yk, same, xk)
 
 -- the lock of all records that is taken once more, with no more strength than it has
@@ -114,30 +114,31 @@ all_less_held a b more = let big : nat_le a.count 1 ≡ false = grind (arith, na
 all_one_held : (a : AllLock) (b : ℕ) → a.count ≤ 1 → all_held (all_less (Some a)) b ≡ 0
 all_one_held a b one = rw (le-leb a.count 1 one) refl
 
-module _ (f : Form) (x : Own) (out : x.txn ≡ None) where
+module _ (f : Form) (x : Own) (spot : Spot) (out : x.txn ≡ None) where
   abbrev pub with_all : Option AllLock → Own
   with_all all = record x { all = all }
 
   -- with a lock more of all records these are kept too
-  pub all_more_kept : (s : ℕ) → IsAtMost s x.all → (b : ℕ) → kept f (with_all (Some (all_more x.all s))) nowhere b ≡ max (locked (lock_all 0 s ∷ []) 1 b) (kept f x nowhere b)
+  pub all_more_kept : (s : ℕ) → IsAtMost s x.all → (b : ℕ) → kept f (with_all (Some (all_more x.all s))) spot b ≡ max (locked (lock_all 0 s ∷ []) 1 b) (kept f x spot b)
   all_more_kept s most b =
-      let yk = kept_is f (with_all (Some (all_more x.all s))) out b in
+      let yk = kept_is f (with_all (Some (all_more x.all s))) spot out b in
       let more = all_more_held x.all s b most in
-      let xk = kept_is f x out b in
+      let xk = kept_is f x spot out b in
       omega (arith, yk, more, xk)
 
   -- with a lock less that isn't the last all is kept
-  pub all_less_kept : (a : AllLock) → x.all ≡ Some a → 1 < a.count → (b : ℕ) → kept f (with_all (all_less x.all)) nowhere b ≡ kept f x nowhere b
+  pub all_less_kept : (a : AllLock) → x.all ≡ Some a → 1 < a.count → (b : ℕ) → kept f (with_all (all_less x.all)) spot b ≡ kept f x spot b
   all_less_kept a is more b =
-      let yk = kept_is f (with_all (all_less x.all)) out b in
+      let yk = kept_is f (with_all (all_less x.all)) spot out b in
       let same = ap (λ o. all_held (all_less o) b) is ∙ all_less_held a b more ∙ ap (λ o. all_held o b) (sym is) in
-      let xk = kept_is f x out b in
+      let xk = kept_is f x spot out b in
       omega (arith, yk, same, xk)
 
-  -- and with the last one no record is, where no chain is locked
-  pub all_last_kept : (a : AllLock) → x.all ≡ Some a → a.count ≤ 1 → (b : ℕ) → count_at x b ≡ 0 → kept f (with_all (all_less x.all)) nowhere b ≡ 0
-  all_last_kept a is last b none =
-      let yk = kept_is f (with_all (all_less x.all)) out b in
+  -- and with the last one no record is, where no chain is locked and the cursor stands on none
+  pub all_last_kept : (a : AllLock) → x.all ≡ Some a → a.count ≤ 1 → (b : ℕ) → count_at x b ≡ 0 → spot.stands ≡ None → kept f (with_all (all_less x.all)) spot b ≡ 0
+  all_last_kept a is last b none off =
+      let yk = kept_is f (with_all (all_less x.all)) spot out b in
       let zero_here = ap (λ o. all_held (all_less o) b) is ∙ all_one_held a b last in
       let bare = ap (λ n. counts_keep f n b) none ∙ none_keep f b in
-      omega (arith, yk, zero_here, bare)
+      let bare_spot = ap (λ o. stand_held o b) off in
+      omega (arith, yk, zero_here, bare, bare_spot)

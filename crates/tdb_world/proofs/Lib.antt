@@ -26,6 +26,7 @@ pub mod Endings
 pub mod Numbered
 pub mod PlainRows
 pub mod Recounted
+pub mod Rests
 pub mod PlainTurned
 pub mod PlainJob
 pub mod PlainReady

@@ -116,9 +116,8 @@ turn_is_turned f options xs ys ps qs a b size who x y t turn W B P T E = record 
   leaves = ap task_at P.there ∙ T.leaves;
   leaves_spot = spot_left f _ _ _ _ _ _ turn;
   effect =
-      subst (λ s. EffectAt f options xs ys ps qs a b size who x y t turn s (slice_get xs who) (slice_get ys who)) (sym (decided_nowhere t.steps))
-      (subst (λ z. EffectAt f options xs ys ps qs a b size who x y t turn nowhere z (slice_get ys who)) (sym B.there)
-      (subst (λ w. EffectAt f options xs ys ps qs a b size who x y t turn nowhere (Some x) w) (sym P.there) E.effect));
+      subst (λ z. EffectAt f options xs ys ps qs a b size who x y t turn (decided nowhere no_view t.steps) z (slice_get ys who)) (sym B.there)
+      (subst (λ w. EffectAt f options xs ys ps qs a b size who x y t turn (decided nowhere no_view t.steps) (Some x) w) (sym P.there) E.effect);
   holds = λ i. T.holds i ∙ sym (ap (λ z. holding f (own_at options z) nowhere (task_at z) i) P.there);
   walks = walks f options xs ys ps qs a b size who x y t W B P turn;
   ready = refl;

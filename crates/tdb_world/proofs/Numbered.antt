@@ -14,39 +14,39 @@ use Rattle.tdb_law.specs.Commands.{Reply}
 use Rattle.tdb_law.specs.Commands.Command.{Seqnum}
 use Rattle.tdb_law.specs.Commands.Reply.{Memory, Number}
 use Rattle.tdb_law.specs.Commands.Turn.{Blocked, Ends}
-use Rattle.tdb_law.specs.Openers.{Own, nowhere}
+use Rattle.tdb_law.specs.Openers.{Own, View}
 use Rattle.tdb_law.specs.Refusals.{refusal}
 use Rattle.tdb_law.specs.Rows.{lock, is_changed, changed_by, locks_by}
 use Rattle.tdb_law.specs.Outcomes.{counts_by}
 use Rattle.tdb_law.specs.Ends.{ends_by, starves_by}
-use Rattle.tdb_law.specs.Held.{covers, wanted, locked_next, kept}
+use Rattle.tdb_law.specs.Held.{covers, wanted, decided, locked_next, kept}
 use Rattle.tdb_law.specs.Effects.{IsFree, IsFirstConflict, task_left}
 use Rattle.tdb_law.specs.Effects.Effect.{effect_waits, effect_starves, effect_numbers}
 use Rattle.tdb_law.proofs.Covered.{none_held}
 use Rattle.tdb_law.proofs.Locks.{covers_within, within_covers}
 use Rattle.tdb_steps.specs.Holdings.{strength, table_of}
 use Rattle.tdb_world.specs.declared.options.Options.{Options}
-use Rattle.tdb_world.specs.Openers.{own_with}
-use Rattle.tdb_world.specs.Turning.{law_table, wants, TurnsLocks, TurnsFile}
+use Rattle.tdb_world.specs.Openers.{AtRest, own_with}
+use Rattle.tdb_world.specs.Turning.{law_table, wants, resting, TurnsLocks, TurnsFile}
 use Rattle.tdb_world.specs.Ended.{MayCount}
 use Rattle.tdb_world.proofs.Beside.{below_bare}
 use Rattle.tdb_world.proofs.Shifted.{apart_less, turned_locks, at_most_two, free_law, first_law}
 
-granted : (f : Form) (options : Options) (live : Bool) (old : HeldLocks) → refusal f Seqnum (own_with options live old) ≡ None
+granted : (f : Form) (options : Options) (live : Bool) (old : HeldLocks) (rest : AtRest) → refusal f Seqnum (own_with options live old rest) ≡ None
 unfolding refusal
-granted f options live old = refl
+granted f options live old rest = refl
 
-unchanged : (f : Form) (options : Options) (live : Bool) (old : HeldLocks) → is_changed f Seqnum (own_with options live old) 0 ≡ false
+unchanged : (f : Form) (options : Options) (live : Bool) (old : HeldLocks) (rest : AtRest) → is_changed f Seqnum (own_with options live old rest) 0 ≡ false
 unfolding is_changed
-unchanged f options live old = ap (λ q. changed_by q Seqnum (own_with options live old) 0) (granted f options live old)
+unchanged f options live old rest = ap (λ q. changed_by q Seqnum (own_with options live old rest) 0) (granted f options live old rest)
 
 -- it wants to read the lock byte of the number
 want_number : ℕ → ℕ
 want_number b = if covers (lock 0 48 49 1) b then 1 else 0
 
-number_wants : (f : Form) (options : Options) (live : Bool) (old : HeldLocks) (b : ℕ) → wants f Seqnum (own_with options live old) 0 b ≡ want_number b
+number_wants : (f : Form) (options : Options) (live : Bool) (old : HeldLocks) (rest : AtRest) (v : View) (b : ℕ) → wants f Seqnum (own_with options live old rest) (resting rest) v 0 b ≡ want_number b
 unfolding wanted want_number
-number_wants f options live old b = ap (λ q. max (locked_next (locks_by f q Seqnum (own_with options live old) false) 0 b) 0) (granted f options live old) ∙ omega arith
+number_wants f options live old rest v b = ap (λ q. max (locked_next (locks_by f q Seqnum (own_with options live old rest) (decided (resting rest) v 0).purging) 0 b) 0) (granted f options live old rest) ∙ omega arith
 
 here : (b : ℕ) → b ≡ 48 → want_number b ≡ 1
 unfolding want_number
@@ -95,21 +95,21 @@ first_number ps owner o byte kind F = record { other = F.conflict.other_owner; c
       | inr n ↦ absurd (let w = elsewhere b n in let most = at_most_two (Table.held ps p b) in omega (arith, w, most, more))
     ]
 
-module _ (f : Form) (options : Options) (live : Bool) (old : HeldLocks) (who : ℕ) (ps : List Piece) (M : MayCount f options live old who ps) where
+module _ (f : Form) (options : Options) (live : Bool) (old : HeldLocks) (rest : AtRest) (who : ℕ) (ps : List Piece) (M : MayCount f options live old rest who ps) where
   abbrev x : Own
-  x = own_with options live old
+  x = own_with options live old rest
 
-  holds_kept : (b : ℕ) → law_table ps who b ≡ kept f x nowhere b
-  holds_kept b = let whole = M.holds.holds b in let none = none_held f Seqnum x nowhere b in omega (arith, whole, none)
+  holds_kept : (b : ℕ) → law_table ps who b ≡ kept f x (resting rest) b
+  holds_kept b = let whole = M.holds.holds b in let none = none_held f Seqnum x (resting rest) b in omega (arith, whole, none)
 
-  free_wants : IsFree (law_table ps) who want_number → IsFree (law_table ps) who (wants f Seqnum x 0)
-  free_wants F = record { free = λ o b differs. let room = F.free o b differs in let w = number_wants f options live old b in omega (arith, room, w) }
+  free_wants : (v : View) → IsFree (law_table ps) who want_number → IsFree (law_table ps) who (wants f Seqnum x (resting rest) v 0)
+  free_wants v F = record { free = λ o b differs. let room = F.free o b differs in let w = number_wants f options live old rest v b in omega (arith, room, w) }
 
-  conflict_wants : (o byte : ℕ) → IsFirstConflict (law_table ps) who want_number o byte → IsFirstConflict (law_table ps) who (wants f Seqnum x 0) o byte
-  conflict_wants o byte C = record {
+  conflict_wants : (v : View) (o byte : ℕ) → IsFirstConflict (law_table ps) who want_number o byte → IsFirstConflict (law_table ps) who (wants f Seqnum x (resting rest) v 0) o byte
+  conflict_wants v o byte C = record {
     other = C.other;
-    conflict = let strong = C.conflict in let w = number_wants f options live old byte in omega (arith, strong, w);
-    least = λ p b differs more. C.least p b differs (let w = number_wants f options live old b in omega (arith, more, w));
+    conflict = let strong = C.conflict in let w = number_wants f options live old rest v byte in omega (arith, strong, w);
+    least = λ p b differs more. C.least p b differs (let w = number_wants f options live old rest v b in omega (arith, more, w));
   }
 
   most : (b : ℕ) → want_number b ≤ 2
@@ -117,14 +117,14 @@ module _ (f : Form) (options : Options) (live : Bool) (old : HeldLocks) (who : �
 
   module _ (qs : List Piece) (same : (b : ℕ) → law_table qs who b ≡ law_table ps who b) (others : (o b : ℕ) → o ≢ who + 1 → table_of qs o b ≡ table_of ps o b) where
     apart : (o b : ℕ) → o ≢ who → law_table qs who b + law_table ps o b ≤ 2
-    apart = apart_less f x x Seqnum 0 who ps qs M.holds (λ b. let e = same b in omega (arith, e))
+    apart = apart_less f x x (resting rest) (resting rest) Seqnum 0 who ps qs M.holds (λ b. let e = same b in omega (arith, e))
 
-    pub ends_locks : (r : Reply) → TurnsLocks f x x Seqnum 0 None who ps qs (Ends r)
-    ends_locks r = turned_locks f x x Seqnum 0 who ps qs M.holds (Ends r) (inl (ap (λ q. ends_by q Seqnum x 0 r) (granted f options live old)))
+    pub ends_locks : (r : Reply) → TurnsLocks f x x (resting rest) Seqnum 0 None who ps qs (Ends r)
+    ends_locks r = turned_locks f x x (resting rest) (resting rest) Seqnum 0 who ps qs M.holds (Ends r) (inl (ap (λ q. ends_by q Seqnum x 0 r) (granted f options live old rest)))
         (λ b. let e = same b in let h = holds_kept b in omega (arith, e, h)) others apart
 
-    pub waits_locks : (o byte : ℕ) → TurnsLocks f x x Seqnum 0 (task_left Seqnum 0 (Blocked o byte)) who ps qs (Blocked o byte)
-    waits_locks o byte = turned_locks f x x Seqnum 0 who ps qs M.holds (Blocked o byte) refl
+    pub waits_locks : (o byte : ℕ) → TurnsLocks f x x (resting rest) Seqnum 0 (task_left Seqnum 0 (Blocked o byte)) who ps qs (Blocked o byte)
+    waits_locks o byte = turned_locks f x x (resting rest) (resting rest) Seqnum 0 who ps qs M.holds (Blocked o byte) refl
         (λ b. let e = same b in let h = M.holds.holds b in omega (arith, e, h)) others apart
 
   -- after the number is read and let go all is held as before
@@ -132,22 +132,22 @@ module _ (f : Form) (options : Options) (live : Bool) (old : HeldLocks) (who : �
   read_same mid qs A B b = elim (cases_lt b 48) [
     | inl low ↦ ap strength (B.below b low ∙ A.below b low)
     | inr from ↦ elim (cases_lt b 49) [
-      | inl to ↦ ap strength (B.inside b from to) ∙ sym (holds_kept b ∙ below_bare f M.few options live old M.counts b (omega (arith, to)))
+      | inl to ↦ ap strength (B.inside b from to) ∙ sym (holds_kept b ∙ below_bare f M.few options live old rest M.counts M.holds.rests b (omega (arith, to)))
       | inr past ↦ ap strength (B.above b past ∙ A.above b past)
     ]
   ]
 
-  pub number_file : (img : List ℕ) → Table.IsFree ps (who + 1) 48 49 Read → (q : ℕ) → q ≡ word f.order img 48 → TurnsFile f x x Seqnum 0 who ps img img (Ends (Number q))
-  number_file img F q e = record {
-    effect = effect_numbers q refl (free_wants (free_law ps who want_number (free_number ps (who + 1) F))) (ap (λ p. counts_by p Seqnum) (granted f options live old)) e refl refl;
+  pub number_file : (v : View) (img : List ℕ) → Table.IsFree ps (who + 1) 48 49 Read → (q : ℕ) → q ≡ word f.order img 48 → TurnsFile f x x (resting rest) v Seqnum 0 who ps img img (Ends (Number q))
+  number_file v img F q e = record {
+    effect = effect_numbers q refl (free_wants v (free_law ps who want_number (free_number ps (who + 1) F))) (ap (λ p. counts_by p Seqnum) (granted f options live old rest)) e refl refl;
     number = refl;
   }
 
-  pub waits_file : (img : List ℕ) (o byte : ℕ) (kind : Kind) → Table.IsFirstConflict ps (who + 1) 48 49 Read o byte kind → TurnsFile f x x Seqnum 0 who ps img img (Blocked (o - 1) byte)
-  waits_file img o byte kind F = record {
-    effect = effect_waits (o - 1) byte refl (conflict_wants (o - 1) byte (first_law ps who want_number o byte M.holds.numbered (most byte) (first_number ps (who + 1) o byte kind F))) (unchanged f options live old) refl refl;
+  pub waits_file : (v : View) (img : List ℕ) (o byte : ℕ) (kind : Kind) → Table.IsFirstConflict ps (who + 1) 48 49 Read o byte kind → TurnsFile f x x (resting rest) v Seqnum 0 who ps img img (Blocked (o - 1) byte)
+  waits_file v img o byte kind F = record {
+    effect = effect_waits (o - 1) byte refl (conflict_wants v (o - 1) byte (first_law ps who want_number o byte M.holds.numbered (most byte) (first_number ps (who + 1) o byte kind F))) (unchanged f options live old rest) refl refl;
     number = refl;
   }
 
-  pub starves_file : (img : List ℕ) → TurnsFile f x x Seqnum 0 who ps img img (Ends Memory)
-  starves_file img = record { effect = effect_starves refl (ap (λ p. starves_by p Seqnum x) (granted f options live old)) (unchanged f options live old) refl refl; number = refl }
+  pub starves_file : (v : View) (img : List ℕ) → TurnsFile f x x (resting rest) v Seqnum 0 who ps img img (Ends Memory)
+  starves_file v img = record { effect = effect_starves refl (ap (λ p. starves_by p Seqnum x) (granted f options live old rest)) (unchanged f options live old rest) refl refl; number = refl }

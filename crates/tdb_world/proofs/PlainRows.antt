@@ -1,5 +1,5 @@
 -- The locks of a plain command: they are those of the law's row, nothing is held before them, and what the opener keeps beside them.
-use Rattle.std.proofs.Common.{◌≡◌, ℕ, ◌+◌, ◌*◌, ◌<◌, ◌≤◌, ◌⊎◌, max, List, [], ◌∷◌, Bool, true, false, Option, None, Some, refl, sym, ◌∙◌, ap, inl, inr, arith, nat_lt}
+use Rattle.std.proofs.Common.{◌≡◌, ℕ, ◌+◌, ◌*◌, ◌<◌, ◌≤◌, ◌⊎◌, max, List, [], ◌∷◌, Bool, true, false, Option, None, Some, is_some, refl, sym, ◌∙◌, ap, inl, inr, arith, nat_lt}
 use Rattle.std.specs.Prelude.{◌&&◌, ◌||◌, IfSome, if◌then◌else◌}
 use Rattle.std.proofs.lemmas.Bool.{false_from_ne_true}
 use Rattle.tdb_space.specs.Form.{Form}
@@ -12,7 +12,6 @@ use Rattle.tdb_locks.specs.declared.kind.Kind.TheVariants.{Read, Write}
 use Rattle.tdb_locks.specs.declared.piece.Piece.{Piece}
 use Rattle.tdb_locks.specs.declared.turn.Reply.{Reply}
 use Rattle.tdb_law.specs.Commands.Command.{OnMap}
-use Rattle.tdb_law.specs.Openers.{nowhere}
 use Rattle.tdb_law.specs.Refusals.{refusal}
 use Rattle.tdb_law.specs.Rows.{Lock, map_locks}
 use Rattle.tdb_law.specs.Held.{covers, locked, kept}
@@ -28,9 +27,9 @@ use Rattle.tdb_steps.specs.declared.plain.Plain.TheVariants.{Fetch, Has, Store, 
 use Rattle.tdb_steps.specs.declared.rows.Region.TheVariants.{Chain, FreeList, AllRecords}
 use Rattle.tdb_steps.specs.declared.rows.Rows.{Rows}
 use Rattle.tdb_world.specs.declared.options.Options.{Options}
-use Rattle.tdb_world.specs.Openers.{own_with}
+use Rattle.tdb_world.specs.Openers.{AtRest, own_with}
 use Rattle.tdb_world.specs.Given.{holds_chains, reads_records}
-use Rattle.tdb_world.specs.Turning.{OpenerHolds}
+use Rattle.tdb_world.specs.Turning.{OpenerHolds, StandsWell, resting}
 use Rattle.tdb_world.proofs.Beside.{all_bare, not_first, not_second, below_bare, beside_chain, beside_free, beside_all}
 use Rattle.tdb_world.proofs.Busy.{held_is}
 use Rattle.tdb_world.proofs.Granted.{not_told, none_held_there, untold_of, between_bare}
@@ -63,50 +62,51 @@ missed : (ls : List Lock) (n b : ℕ) → Misses b ls → locked ls n b ≡ 0
 missed [] n b out = refl
 missed (l ∷ ls) n b out = omega (arith, bare_lock (nat_lt l.turn n) (covers l b) l.strength (not_covered l b out.0), missed ls n b out.1)
 
--- what a command that isn't refused tells of the explicit locks
-abbrev Allows : HeldLocks → Plain → Type 0
-Allows held (Fetch key) = Unit {0}
-Allows held (Has key) = Unit {0}
-Allows held Wipe = (holds_chains held ≡ false) × (reads_records held.all ≡ false)
-Allows held command = reads_records held.all ≡ false
+-- what a command that isn't refused tells of the explicit locks and of the cursor
+abbrev Allows : HeldLocks → Bool → Plain → Type 0
+Allows held walks (Fetch key) = Unit {0}
+Allows held walks (Has key) = Unit {0}
+Allows held walks Wipe = (walks ≡ false) × (holds_chains held ≡ false) × (reads_records held.all ≡ false)
+Allows held walks command = reads_records held.all ≡ false
 
 not_changed : (read_only stands : Bool) (r : Reply) → ◌≡◌ {A = Option Reply} (if read_only then Some Reply.ReadOnly else (if stands then Some r else None)) None → stands ≡ false
 not_changed true stands r e = absurd (cc e)
 not_changed false stands r e = not_told stands r e
 
-module _ (f : Form) (few : HasFewChains f) (options : Options) (live : Bool) (held : HeldLocks) (counts : AreCounts held.chains) where
-  allowed : (command : Plain) → refusal f (OnMap (command_of command)) (own_with options live held) ≡ None → Allows held command
+module _ (f : Form) (few : HasFewChains f) (options : Options) (live : Bool) (held : HeldLocks) (rest : AtRest) (counts : AreCounts held.chains) (K : StandsWell f rest.shown rest.stands) where
+  allowed : (command : Plain) → refusal f (OnMap (command_of command)) (own_with options live held rest) ≡ None → Allows held (is_some rest.shown) command
   allowed (Fetch key) R = tt
   allowed (Has key) R = tt
-  allowed (Store key value Flags.Replace) R = not_changed options.read_only _ _ (untold_of f options live held counts (Given.Store key value Flags.Replace) R)
-  allowed (Store key value Flags.Insert) R = not_changed options.read_only _ _ (untold_of f options live held counts (Given.Store key value Flags.Insert) R)
-  allowed (Store key value Flags.Modify) R = not_changed options.read_only _ _ (untold_of f options live held counts (Given.Store key value Flags.Modify) R)
-  allowed (Append key value) R = not_changed options.read_only _ _ (untold_of f options live held counts (Given.Append key value) R)
-  allowed (Delete key) R = not_changed options.read_only _ _ (untold_of f options live held counts (Given.Delete key) R)
+  allowed (Store key value Flags.Replace) R = not_changed options.read_only _ _ (untold_of f options live held rest counts (Given.Store key value Flags.Replace) R)
+  allowed (Store key value Flags.Insert) R = not_changed options.read_only _ _ (untold_of f options live held rest counts (Given.Store key value Flags.Insert) R)
+  allowed (Store key value Flags.Modify) R = not_changed options.read_only _ _ (untold_of f options live held rest counts (Given.Store key value Flags.Modify) R)
+  allowed (Append key value) R = not_changed options.read_only _ _ (untold_of f options live held rest counts (Given.Append key value) R)
+  allowed (Delete key) R = not_changed options.read_only _ _ (untold_of f options live held rest counts (Given.Delete key) R)
   allowed Wipe R =
-      let none = not_changed options.read_only (holds_chains held || reads_records held.all) _ (untold_of f options live held counts Given.Wipe R) in
-      (not_first (holds_chains held) (reads_records held.all) none, not_second (holds_chains held) (reads_records held.all) none)
+      let none = not_changed options.read_only (is_some rest.shown || holds_chains held || reads_records held.all) _ (untold_of f options live held rest counts Given.Wipe R) in
+      let less = not_first (is_some rest.shown || holds_chains held) (reads_records held.all) none in
+      (not_first (is_some rest.shown) (holds_chains held) less, not_second (is_some rest.shown) (holds_chains held) less, not_second (is_some rest.shown || holds_chains held) (reads_records held.all) none)
 
   -- what the opener keeps beside the rows
   abbrev pub own_kept : ℕ → ℕ
-  own_kept b = kept f (own_with options live held) nowhere b
+  own_kept b = kept f (own_with options live held rest) (resting rest) b
 
   abbrev BothBeside : Rows → Type 0
   BothBeside rows = KeptBeside held own_kept rows.first × IfSome rows.second (KeptBeside held own_kept)
 
   reader_beside : (key : List ℕ) → BothBeside (rows_of (Fetch key) (home f key))
-  reader_beside key = (beside_chain f few options live held counts 0 (home f key) Read (home_below f key few.some) (λ e. absurd (cc e)), tt)
+  reader_beside key = (beside_chain f few options live held rest counts K 0 (home f key) Read (home_below f key few.some) (λ e. absurd (cc e)), tt)
 
   writer_beside : (key : List ℕ) → reads_records held.all ≡ false → BothBeside (rows_of (Delete key) (home f key))
-  writer_beside key none = (beside_chain f few options live held counts 0 (home f key) Write (home_below f key few.some) (λ e. none), beside_free f few options live held counts 2 Write)
+  writer_beside key none = (beside_chain f few options live held rest counts K 0 (home f key) Write (home_below f key few.some) (λ e. none), beside_free f few options live held rest counts K 2 Write)
 
-  beside : (command : Plain) → Allows held command → BothBeside (rows_of command (home f (key_of command)))
+  beside : (command : Plain) → Allows held (is_some rest.shown) command → BothBeside (rows_of command (home f (key_of command)))
   beside (Fetch key) may = reader_beside key
   beside (Has key) may = reader_beside key
   beside (Store key value flag) may = writer_beside key may
   beside (Append key value) may = writer_beside key may
   beside (Delete key) may = writer_beside key may
-  beside Wipe may = (beside_all f few options live held counts 0 Write (λ e. may.1) (λ e. may.0), beside_free f few options live held counts 1 Write)
+  beside Wipe may = (beside_all f few options live held rest counts K 0 Write (λ e. may.2) (λ e. (may.1, may.0)), beside_free f few options live held rest counts K 1 Write)
 
   -- nothing is held at the byte before a lock that isn't covered
   module _ (who : ℕ) (ps : List Piece) (ls : List Lock) (n : ℕ) (whole : (b : ℕ) → table_of ps (who + 1) b ≡ max (locked ls n b) (own_kept b)) where
@@ -115,13 +115,13 @@ module _ (f : Form) (few : HasFewChains f) (options : Options) (live : Bool) (he
 
     alone_chain : (turn chain : ℕ) (kind : Kind) → (kind ≡ Write → reads_records held.all ≡ false) → ((b : ℕ) → b + 1 ≡ 168 + 4 * chain → Misses b ls) → StandsAlone held (who + 1) ps (record { turn = turn; region = Chain chain; kind = kind })
     alone_chain turn chain kind apart out bare b next =
-        nothing_there b (out b next) (between_bare f options live held counts chain b next (all_bare held.all kind (not_second (nat_lt 0 (count_of held chain)) (covers_all held.all kind) bare) apart))
+        nothing_there b (out b next) (between_bare f options live held rest counts K chain b next (all_bare held.all kind (not_second (nat_lt 0 (count_of held chain)) (covers_all held.all kind) bare) apart))
 
     alone_free : (turn : ℕ) (kind : Kind) → ((b : ℕ) → b + 1 ≡ 164 → Misses b ls) → StandsAlone held (who + 1) ps (record { turn = turn; region = FreeList; kind = kind })
-    alone_free turn kind out bare b next = nothing_there b (out b next) (below_bare f few options live held counts b (omega (arith, next)))
+    alone_free turn kind out bare b next = nothing_there b (out b next) (below_bare f few options live held rest counts K b (omega (arith, next)))
 
     alone_all : (turn : ℕ) (kind : Kind) → ((b : ℕ) → b + 1 ≡ 168 → Misses b ls) → StandsAlone held (who + 1) ps (record { turn = turn; region = AllRecords; kind = kind })
-    alone_all turn kind out bare b next = nothing_there b (out b next) (below_bare f few options live held counts b (omega (arith, next)))
+    alone_all turn kind out bare b next = nothing_there b (out b next) (below_bare f few options live held rest counts K b (omega (arith, next)))
 
   module _ (who : ℕ) (ps : List Piece) (n : ℕ) where
     abbrev IsWhole : Rows → Type 0
@@ -139,7 +139,7 @@ module _ (f : Form) (few : HasFewChains f) (options : Options) (live : Bool) (he
       second = alone_free who ps (locks_in (rows_of (Delete key) (home f key))) n whole 2 Write (λ b next. (inl (omega (arith, next)), (inl (omega (arith, next)), tt)));
     }
 
-    alone : (command : Plain) → Allows held command → IsWhole (rows_of command (home f (key_of command))) → AllStandAlone held (who + 1) ps (rows_of command (home f (key_of command)))
+    alone : (command : Plain) → Allows held (is_some rest.shown) command → IsWhole (rows_of command (home f (key_of command))) → AllStandAlone held (who + 1) ps (rows_of command (home f (key_of command)))
     alone (Fetch key) may whole = reader_alone key whole
     alone (Has key) may whole = reader_alone key whole
     alone (Store key value flag) may whole = writer_alone key may whole
@@ -151,10 +151,10 @@ module _ (f : Form) (few : HasFewChains f) (options : Options) (live : Bool) (he
     }
 
   -- before a turn of the command
-  module _ (command : Plain) (n who : ℕ) (ps : List Piece) (R : refusal f (OnMap (command_of command)) (own_with options live held) ≡ None)
-      (H : OpenerHolds f (own_with options live held) (OnMap (command_of command)) n who ps) where
+  module _ (command : Plain) (n who : ℕ) (ps : List Piece) (R : refusal f (OnMap (command_of command)) (own_with options live held rest) ≡ None)
+      (H : OpenerHolds f (own_with options live held rest) (resting rest) (OnMap (command_of command)) n who ps) where
     pub whole : (b : ℕ) → table_of ps (who + 1) b ≡ max (locked (map_locks f (command_of command)) n b) (own_kept b)
-    whole b = H.holds b ∙ ap (λ q. max q (own_kept b)) (held_is f (command_of command) (own_with options live held) R refl n b)
+    whole b = H.holds b ∙ ap (λ q. max q (own_kept b)) (held_is f (command_of command) (own_with options live held rest) R refl (resting rest) n b)
 
     whole_rows : IsWhole who ps n (rows_of command (home f (key_of command)))
     whole_rows b = whole b ∙ ap (λ ls. max (locked ls n b) (own_kept b)) (sym (rows_are f command))
@@ -165,7 +165,7 @@ module _ (f : Form) (few : HasFewChains f) (options : Options) (live : Bool) (he
     pub holds_before : HoldsBefore held own_kept (who + 1) n ps (rows_of command (home f (key_of command)))
     holds_before = let both = beside command (allowed command R) in record {
       holds = whole_rows;
-      apart = λ o b differs. apart_table f (own_with options live held) (own_with options live held) (OnMap (command_of command)) n who ps ps H o b differs;
+      apart = λ o b differs. apart_table f (own_with options live held rest) (own_with options live held rest) (resting rest) (resting rest) (OnMap (command_of command)) n who ps ps H o b differs;
       first = both.0;
       second = both.1;
     }

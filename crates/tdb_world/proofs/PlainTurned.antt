@@ -10,13 +10,13 @@ use Rattle.tdb_law.specs.Commands.MapCommand.{Fetch, Has, Delete, Store, Insert,
 use Rattle.tdb_law.specs.Commands.Command.{OnMap}
 use Rattle.tdb_law.specs.Commands.Reply.{Done, Memory, Full}
 use Rattle.tdb_law.specs.Commands.Turn.{Step, Blocked, Ends}
-use Rattle.tdb_law.specs.Openers.{Own, Map, nowhere}
+use Rattle.tdb_law.specs.Openers.{Own, View, Map}
 use Rattle.tdb_law.specs.Refusals.{refusal}
 use Rattle.tdb_law.specs.Rows.{Lock, map_locks, locks_by, look, is_changed, changed_by, map_changed}
 use Rattle.tdb_law.specs.MapCommands.{reply, after, map_changes as may_change}
 use Rattle.tdb_law.specs.Outcomes.{moves_by, counts_by, told_by, told, map_by, map_after, own_by, own_after, fills_by}
 use Rattle.tdb_law.specs.Ends.{last_by, ends_by, starves_by}
-use Rattle.tdb_law.specs.Held.{covers, locked, locked_next, kept, wanted, holding}
+use Rattle.tdb_law.specs.Held.{covers, locked, locked_next, kept, wanted, decided, holding}
 use Rattle.tdb_law.specs.Effects.{Effect, IsFree, IsFirstConflict, Finds, task_left}
 use Rattle.tdb_law.specs.Effects.Effect.{effect_waits, effect_goes_on, effect_changes, effect_answers, effect_starves, effect_is_full, effect_finishes}
 use Rattle.tdb_law.specs.Counting.{raised, number_by, brings_by}
@@ -30,8 +30,8 @@ use Rattle.tdb_steps.specs.Machines.MapTurned.{map_waits, map_goes_on, map_chang
 use Rattle.tdb_steps.specs.PlainCommands.{IsMapOf}
 use Rattle.tdb_steps.proofs.Holdings.{next_turn}
 use Rattle.tdb_world.specs.declared.options.Options.{Options}
-use Rattle.tdb_world.specs.Openers.{own_with}
-use Rattle.tdb_world.specs.Turning.{law_table, wants, OpenerHolds, TurnsLocks}
+use Rattle.tdb_world.specs.Openers.{AtRest, own_with}
+use Rattle.tdb_world.specs.Turning.{law_table, wants, resting, OpenerHolds, TurnsLocks}
 use Rattle.tdb_world.proofs.Busy.{held_is, look_is}
 use Rattle.tdb_world.proofs.Recounted.{recounted, recounted_reply, told_same, same_ends, same_done}
 use Rattle.tdb_world.proofs.Shifted.{free_law, first_law, apart_less, apart_free, turned_locks}
@@ -61,54 +61,54 @@ map_weak f (Append k v) = (omega arith, (omega arith, tt))
 map_weak f Wipe = (omega arith, (omega arith, tt))
 map_weak f Check = (omega arith, (omega arith, tt))
 
-module _ (f : Form) (c : MapCommand) (options : Options) (live : Bool) (held : HeldLocks) (n who : ℕ) (old : List Piece) (R : refusal f (OnMap c) (own_with options live held) ≡ None)
-    (H : OpenerHolds f (own_with options live held) (OnMap c) n who old) where
+module _ (f : Form) (c : MapCommand) (options : Options) (live : Bool) (held : HeldLocks) (rest : AtRest) (n who : ℕ) (old : List Piece) (R : refusal f (OnMap c) (own_with options live held rest) ≡ None)
+    (H : OpenerHolds f (own_with options live held rest) (resting rest) (OnMap c) n who old) where
   abbrev own : Own
-  own = own_with options live held
+  own = own_with options live held rest
 
   abbrev ls : List Lock
   ls = map_locks f c
 
   abbrev own_kept : ℕ → ℕ
-  own_kept b = kept f own nowhere b
+  own_kept b = kept f own (resting rest) b
 
-  holds_now : (m b : ℕ) → max (locked ls m b) (own_kept b) ≡ holding f own nowhere (Some (record { command = OnMap c; steps = m })) b
-  holds_now m b = ap (λ q. max q (own_kept b)) (sym (held_is f c own R refl m b))
+  holds_now : (m b : ℕ) → max (locked ls m b) (own_kept b) ≡ holding f own (resting rest) (Some (record { command = OnMap c; steps = m })) b
+  holds_now m b = ap (λ q. max q (own_kept b)) (sym (held_is f c own R refl (resting rest) m b))
 
   whole : (b : ℕ) → law_table old who b ≡ max (locked ls n b) (own_kept b)
   whole b = H.holds b ∙ sym (holds_now n b)
 
   -- the lock table
-  pub plain_locks : (new : List Piece) (turn : Turn) → LocksTurned ls own_kept (who + 1) n old new turn → MapRow c n turn → TurnsLocks f own own (OnMap c) n (task_left (OnMap c) n (recounted turn)) who old new (recounted turn)
+  pub plain_locks : (new : List Piece) (turn : Turn) → LocksTurned ls own_kept (who + 1) n old new turn → MapRow c n turn → TurnsLocks f own own (resting rest) (OnMap c) n (task_left (OnMap c) n (recounted turn)) who old new (recounted turn)
   plain_locks new Step L row =
-      turned_locks f own own (OnMap c) n who old new H Step (subst (λ m. n < m) (sym (ap (λ q. last_by q (OnMap c) own) R)) row) (λ b. L.holds b ∙ holds_now (n + 1) b) L.others
-      (apart_free f own own (OnMap c) n who old new H (locked_next ls n) (free_law old who (locked_next ls n) L.rightly) (λ b. let now = L.holds b in let before = whole b in let more = next_turn ls n b in omega (arith, now, before, more)))
+      turned_locks f own own (resting rest) (resting rest) (OnMap c) n who old new H Step (subst (λ m. n < m) (sym (ap (λ q. last_by q (OnMap c) own) R)) row) (λ b. L.holds b ∙ holds_now (n + 1) b) L.others
+      (apart_free f own own (resting rest) (resting rest) (OnMap c) n who old new H (locked_next ls n) (free_law old who (locked_next ls n) L.rightly) (λ b. let now = L.holds b in let before = whole b in let more = next_turn ls n b in omega (arith, now, before, more)))
   plain_locks new (Blocked o byte) L row =
-      turned_locks f own own (OnMap c) n who old new H (Blocked (o - 1) byte) refl (λ b. L.holds b ∙ holds_now n b) L.others
-      (apart_less f own own (OnMap c) n who old new H (λ b. let now = L.holds b in let before = whole b in omega (arith, now, before)))
+      turned_locks f own own (resting rest) (resting rest) (OnMap c) n who old new H (Blocked (o - 1) byte) refl (λ b. L.holds b ∙ holds_now n b) L.others
+      (apart_less f own own (resting rest) (resting rest) (OnMap c) n who old new H (λ b. let now = L.holds b in let before = whole b in omega (arith, now, before)))
   plain_locks new (Ends r) L row =
-      turned_locks f own own (OnMap c) n who old new H (Ends (recounted_reply r))
+      turned_locks f own own (resting rest) (resting rest) (OnMap c) n who old new H (Ends (recounted_reply r))
       (elim row [
         | inl e ↦ inl (ap (λ q. ends_by q (OnMap c) own n (recounted_reply r)) R ∙ (same_ends c n r ∙ e))
         | inr e ↦ inr (ap recounted_reply e.0, ap (λ q. starves_by q (OnMap c) own) R, subst (λ m. n ≤ m) (sym (ap (λ q. last_by q (OnMap c) own) R)) e.1)
       ]) L.holds L.others
-      (apart_less f own own (OnMap c) n who old new H (λ b. let now = L.holds b in let before = whole b in omega (arith, now, before)))
+      (apart_less f own own (resting rest) (resting rest) (OnMap c) n who old new H (λ b. let now = L.holds b in let before = whole b in omega (arith, now, before)))
 
   -- what the turn wants
-  want_is : (b : ℕ) → wants f (OnMap c) own n b ≡ locked_next ls n b
+  want_is : (v : View) (b : ℕ) → wants f (OnMap c) own (resting rest) v n b ≡ locked_next ls n b
   unfolding wanted
-  want_is b = ap (λ q. max (locked_next (locks_by f q (OnMap c) own false) n b) 0) R ∙ omega arith
+  want_is v b = ap (λ q. max (locked_next (locks_by f q (OnMap c) own (decided (resting rest) v n).purging) n b) 0) R ∙ omega arith
 
-  free_want : IsFree (table_of old) (who + 1) (locked_next ls n) → IsFree (law_table old) who (wants f (OnMap c) own n)
-  free_want F = record { free = λ p b differs. let room = (free_law old who (locked_next ls n) F).free p b differs in let same = want_is b in omega (arith, room, same) }
+  free_want : (v : View) → IsFree (table_of old) (who + 1) (locked_next ls n) → IsFree (law_table old) who (wants f (OnMap c) own (resting rest) v n)
+  free_want v F = record { free = λ p b differs. let room = (free_law old who (locked_next ls n) F).free p b differs in let same = want_is v b in omega (arith, room, same) }
 
-  first_want : (o byte : ℕ) → IsFirstConflict (table_of old) (who + 1) (locked_next ls n) o byte → IsFirstConflict (law_table old) who (wants f (OnMap c) own n) (o - 1) byte
-  first_want o byte F =
+  first_want : (v : View) (o byte : ℕ) → IsFirstConflict (table_of old) (who + 1) (locked_next ls n) o byte → IsFirstConflict (law_table old) who (wants f (OnMap c) own (resting rest) v n) (o - 1) byte
+  first_want v o byte F =
       let G = first_law old who (locked_next ls n) o byte H.numbered (next_most ls n byte (map_weak f c)) F in
       record {
         other = G.other;
-        conflict = (let strong = G.conflict in let same = want_is byte in omega (arith, strong, same));
-        least = λ p b differs more. G.least p b differs (let same = want_is b in omega (arith, more, same));
+        conflict = (let strong = G.conflict in let same = want_is v byte in omega (arith, strong, same));
+        least = λ p b differs more. G.least p b differs (let same = want_is v b in omega (arith, more, same));
       }
 
   changed_is : (m : ℕ) → is_changed f (OnMap c) own m ≡ map_changed c m
@@ -128,10 +128,10 @@ module _ (f : Form) (c : MapCommand) (options : Options) (live : Bool) (held : H
   stays r m = sym (ap (λ q. own_by f q (OnMap c) own n r m) R)
 
   -- the map
-  module _ (a b : List ℕ) where
+  module _ (v : View) (a b : List ℕ) where
     abbrev pub Effected : Turn → Type 0
-    Effected turn = Effect f (IsFree (law_table old) who (wants f (OnMap c) own n)) (IsFirstConflict (law_table old) who (wants f (OnMap c) own n))
-        (Finds f (law_table old who) (wants f (OnMap c) own n) (image_map f a)) (word f.order a 48) (OnMap c) n own (image_map f a) turn own (image_map f b)
+    Effected turn = Effect f (IsFree (law_table old) who (wants f (OnMap c) own (resting rest) v n)) (IsFirstConflict (law_table old) who (wants f (OnMap c) own (resting rest) v n))
+        (Finds f (law_table old who) (wants f (OnMap c) own (resting rest) v n) (image_map f a)) (word f.order a 48) (OnMap c) n own (image_map f a) turn own (image_map f b)
 
     map_is : (m : Map) → IsMapOf f b m → image_map f b ≡ m
     map_is m M = maps_equal (image_map f b) m (λ q. image_answers f b q ∙ sym (M q))
@@ -144,25 +144,25 @@ module _ (f : Form) (c : MapCommand) (options : Options) (live : Bool) (held : H
 
     pub plain_effect : (turn : Turn) → GoesRightly old (who + 1) (locked_next ls n) turn → MapTurned f b c n (image_map f a) turn → Effected (recounted turn)
     plain_effect turn G (map_waits o byte e before M) =
-        as_told turn (Blocked o byte) e (effect_waits (o - 1) byte refl (first_want o byte (free_to turn G (Blocked o byte) e)) (changed_is n ∙ before) (map_is (image_map f a) M) refl)
+        as_told turn (Blocked o byte) e (effect_waits (o - 1) byte refl (first_want v o byte (free_to turn G (Blocked o byte) e)) (changed_is n ∙ before) (map_is (image_map f a) M) refl)
     plain_effect turn G (map_goes_on e same M) =
-        as_told turn Step e (effect_goes_on refl (free_want (free_to turn G Step e)) (changed_is (n + 1) ∙ same ∙ sym (changed_is n)) (map_is (image_map f a) M) refl)
+        as_told turn Step e (effect_goes_on refl (free_want v (free_to turn G Step e)) (changed_is (n + 1) ∙ same ∙ sym (changed_is n)) (map_is (image_map f a) M) refl)
     plain_effect turn G (map_changes e late before now done M) =
         as_told turn Step e
-        (effect_changes refl (free_want (free_to turn G Step e)) (ready late) (changed_is n ∙ before) (changed_is (n + 1) ∙ now) (told_is (image_map f a) ∙ done)
+        (effect_changes refl (free_want v (free_to turn G Step e)) (ready late) (changed_is n ∙ before) (changed_is (n + 1) ∙ now) (told_is (image_map f a) ∙ done)
         (map_is (after c (image_map f a)) M ∙ sym (after_is (image_map f a))) refl)
     plain_effect turn G (map_answers r e late before says M) =
         as_told turn (Ends r) e
-        (effect_answers (recounted_reply r) refl (free_want (free_to turn G (Ends r) e)) (ap (λ q. moves_by q (OnMap c) own) R) (ap (λ q. counts_by q (OnMap c)) R) (λ k reading. ready late) (changed_is n ∙ before)
+        (effect_answers (recounted_reply r) refl (free_want v (free_to turn G (Ends r) e)) (ap (λ q. moves_by q (OnMap c) own) R) (ap (λ q. counts_by q (OnMap c)) R) (λ k reading. ready late) (changed_is n ∙ before)
         (ap recounted_reply says ∙ told_same c (image_map f a) ∙ sym (told_is (image_map f a))) (map_is (after c (image_map f a)) M ∙ sym (after_is (image_map f a))) (stays (recounted_reply r) (image_map f a)))
     plain_effect turn G (map_starves e before M) =
         as_told turn (Ends Memory) e (effect_starves refl (ap (λ q. starves_by q (OnMap c) own) R) (changed_is n ∙ before) (map_is (image_map f a) M) refl)
     plain_effect turn G (map_is_full len need e fills late before done M) =
         as_told turn (Ends (Full len need)) e
-        (effect_is_full len need refl (free_want (free_to turn G (Ends (Full len need)) e)) (ap (λ q. fills_by q (OnMap c) own) R ∙ fills) (λ k reading. ready late) (changed_is n ∙ before) (told_is (image_map f a) ∙ done)
+        (effect_is_full len need refl (free_want v (free_to turn G (Ends (Full len need)) e)) (ap (λ q. fills_by q (OnMap c) own) R ∙ fills) (λ k reading. ready late) (changed_is n ∙ before) (told_is (image_map f a) ∙ done)
         (map_is (image_map f a) M) refl)
     plain_effect turn G (map_finishes e made M) =
-        as_told turn (Ends Done) e (effect_finishes refl (free_want (free_to turn G (Ends Done) e)) (changed_is n ∙ made) (map_is (image_map f a) M) (stays Done (image_map f a)))
+        as_told turn (Ends Done) e (effect_finishes refl (free_want v (free_to turn G (Ends Done) e)) (changed_is n ∙ made) (map_is (image_map f a) M) (stays Done (image_map f a)))
 
   -- the sequence number
   number_cases : (done changes counting : Bool) (q : ℕ) → raised (done && (changes && counting)) q ≡ (if done then (if changes then raised counting q else q) else q)

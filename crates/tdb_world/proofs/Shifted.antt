@@ -7,7 +7,7 @@ use Rattle.tdb_locks.specs.declared.kind.Kind.{Kind}
 use Rattle.tdb_locks.specs.declared.kind.Kind.TheVariants.{Read, Write}
 use Rattle.tdb_locks.specs.declared.piece.Piece.{Piece}
 use Rattle.tdb_law.specs.Commands.{Command, Turn}
-use Rattle.tdb_law.specs.Openers.{Own, nowhere}
+use Rattle.tdb_law.specs.Openers.{Own, Spot}
 use Rattle.tdb_law.specs.Ends.{IsRow}
 use Rattle.tdb_law.specs.Held.{holding}
 use Rattle.tdb_law.specs.Effects.{IsFree, IsFirstConflict, task_left}
@@ -41,7 +41,7 @@ module _ (ps : List Piece) (who : ℕ) (want : ℕ → ℕ) where
       back : o - 1 + 1 ≡ o
       back = omega (arith, some)
 
-module _ (f : Form) (x y : Own) (c : Command) (n who : ℕ) (old new : List Piece) (H : OpenerHolds f x c n who old) where
+module _ (f : Form) (x y : Own) (s z : Spot) (c : Command) (n who : ℕ) (old new : List Piece) (H : OpenerHolds f x s c n who old) where
   -- the opener holds no more than it held
   pub apart_less : ((b : ℕ) → law_table new who b ≤ law_table old who b) → (o b : ℕ) → o ≢ who → law_table new who b + law_table old o b ≤ 2
   apart_less less o b differs = let room = H.apart o b differs in let l = less b in omega (arith, room, l)
@@ -50,8 +50,8 @@ module _ (f : Form) (x y : Own) (c : Command) (n who : ℕ) (old new : List Piec
   pub apart_free : (want : ℕ → ℕ) → IsFree (law_table old) who want → ((b : ℕ) → law_table new who b ≤ max (law_table old who b) (want b)) → (o b : ℕ) → o ≢ who → law_table new who b + law_table old o b ≤ 2
   apart_free want F most o b differs = let room = H.apart o b differs in let more = F.free o b differs in let m = most b in omega (arith, room, more, m)
 
-  pub turned_locks : (turn : Turn) → IsRow f c x n turn → ((b : ℕ) → law_table new who b ≡ holding f y nowhere (task_left c n turn) b) → ((o b : ℕ) → o ≢ who + 1 → table_of new o b ≡ table_of old o b)
-      → ((o b : ℕ) → o ≢ who → law_table new who b + law_table old o b ≤ 2) → TurnsLocks f x y c n (task_left c n turn) who old new turn
+  pub turned_locks : (turn : Turn) → IsRow f c x n turn → ((b : ℕ) → law_table new who b ≡ holding f y z (task_left c n turn) b) → ((o b : ℕ) → o ≢ who + 1 → table_of new o b ≡ table_of old o b)
+      → ((o b : ℕ) → o ≢ who → law_table new who b + law_table old o b ≤ 2) → TurnsLocks f x y z c n (task_left c n turn) who old new turn
   turned_locks turn row holds others apart = record {
     row = row;
     leaves = refl;

@@ -36,6 +36,7 @@ opener_is_ready f options xs ps a size who x t W B = record {
       W.sound.agrees who b ∙ (ap (λ z. holding f (own_at options z) nowhere (task_at z) b) B.there ∙ ap (λ z. holding f (own_of options x) nowhere (law_task z) b) B.busy);
   apart = λ o b differs. W.sound.apart who o b (λ e. differs (sym e));
   numbered = λ b. ap strength (W.numbered b);
+  rests = λ place e. absurd (cc e);
 }
 
 -- one opener is another afterwards, in the same list or at the end of it

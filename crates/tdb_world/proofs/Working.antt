@@ -9,7 +9,7 @@ use Rattle.tdb_locks.specs.declared.piece.Piece.{Piece}
 use Rattle.tdb_law.specs.Commands.{MapCommand}
 use Rattle.tdb_law.specs.Commands.Command.{OnMap}
 use Rattle.tdb_law.specs.MapCommands.{map_reads}
-use Rattle.tdb_law.specs.Openers.{Own, nowhere}
+use Rattle.tdb_law.specs.Openers.{Own}
 use Rattle.tdb_law.specs.Refusals.{chain_byte}
 use Rattle.tdb_law.specs.Rows.{lock_all, lock_free}
 use Rattle.tdb_law.specs.Held.{locked, held, kept}
@@ -24,9 +24,9 @@ use Rattle.tdb_world.specs.declared.job.Job.{Job}
 use Rattle.tdb_world.specs.declared.job.Job.TheVariants as Jobs
 use Rattle.tdb_world.specs.declared.job.Checking.TheVariants as Checks
 use Rattle.tdb_world.specs.declared.job.Task.{Task}
-use Rattle.tdb_world.specs.Openers.{own_of, command_in, hands_of_job, hands_of_task, hands_at, JobStands, TaskStands, OpenerStands, TaskKnows, OpenerKnows}
+use Rattle.tdb_world.specs.Openers.{no_cursor, own_of, command_in, hands_of_job, hands_of_task, hands_at, JobStands, TaskStands, OpenerStands, TaskKnows, OpenerKnows}
 use Rattle.tdb_world.specs.States.{WorldStands}
-use Rattle.tdb_world.specs.Turning.{JobMayBeOut}
+use Rattle.tdb_world.specs.Turning.{resting, JobMayBeOut}
 use Rattle.tdb_world.specs.Laws.{HasTask, hands_but, other_hands, ImageIsReady}
 use Rattle.tdb_world.proofs.Standing.{opener_is_ready}
 use Rattle.tdb_world.proofs.AllHands.{joined_none, to_front}
@@ -34,7 +34,7 @@ use Rattle.tdb_world.proofs.Busy.{Writes, hand_frees, stage_may, held_is, look_i
 
 -- the opener o has had n steps of a job, and holds what these have locked and what it keeps
 pub record Works (f : Form) (ps : List Piece) (size o : ℕ) (x : Own) (job : Job) (n : ℕ) : Type 0 where
-  pub holds : (b : ℕ) → table_of ps (o + 1) b ≡ max (held f (command_in job) x nowhere n b) (kept f x nowhere b)
+  pub holds : (b : ℕ) → table_of ps (o + 1) b ≡ max (held f (command_in job) x (resting no_cursor) n b) (kept f x (resting no_cursor) b)
   pub stands : JobStands f x job n size
   pub free : is_none x.txn ≡ true
 
@@ -52,14 +52,14 @@ module _ (f : Form) (options : Options) (xs : List Opener) (ps : List Piece) (a 
       let c = command_of d.command in
       let before = look_is f c x K.stands.granted K.free in
       let start = writes.begun in
-      let two = touched_held f W.sound.chains (OnMap c) x nowhere n (key_of d.command) (touches_is f c x K.stands.granted K.free (key_of d.command) writes.touches_key) (omega (arith, before, start)) in
+      let two = touched_held f W.sound.chains (OnMap c) x (resting no_cursor) n (key_of d.command) (touches_is f c x K.stands.granted K.free (key_of d.command) writes.touches_key) (omega (arith, before, start)) in
       omega (arith, two, K.holds (chain_byte f (key_of d.command)))
 
   pub plain_reads : (o : ℕ) (x : Own) (d : Doing) (n : ℕ) → Works f ps size o x (Jobs.Plain d) n → 1 ≤ n → (k : List ℕ) → map_reads (command_of d.command) k ≡ true → 1 ≤ table_of ps (o + 1) (chain_byte f k)
   plain_reads o x d n K start k e =
       let c = command_of d.command in
       let before = look_is f c x K.stands.granted K.free in
-      let one = read_held f W.sound.chains (OnMap c) x nowhere n k (reads_is f c x K.stands.granted K.free k e) (omega (arith, before, start)) in
+      let one = read_held f W.sound.chains (OnMap c) x (resting no_cursor) n k (reads_is f c x K.stands.granted K.free k e) (omega (arith, before, start)) in
       omega (arith, one, K.holds (chain_byte f k))
 
   -- a check that has counted reads every chain
@@ -67,7 +67,7 @@ module _ (f : Form) (options : Options) (xs : List Opener) (ps : List Piece) (a 
   check_reads o x keys n K k =
       let before = look_is f MapCommand.Check x K.stands.0 K.free in
       let late = K.stands.1 in
-      let one = read_held f W.sound.chains (OnMap MapCommand.Check) x nowhere n k (reads_is f MapCommand.Check x K.stands.0 K.free k refl) (omega (arith, before, late)) in
+      let one = read_held f W.sound.chains (OnMap MapCommand.Check) x (resting no_cursor) n k (reads_is f MapCommand.Check x K.stands.0 K.free k refl) (omega (arith, before, late)) in
       omega (arith, one, K.holds (chain_byte f k))
 
   -- who holds a record has the free list locked for writing
@@ -76,7 +76,7 @@ module _ (f : Form) (options : Options) (xs : List Opener) (ps : List Piece) (a 
   frees o x (Jobs.Plain d) n K =
       elim (hand_frees f n d.command d.stage K.stands.after) [
         | inl none ↦ inl none
-        | inr two ↦ inr (let is = held_is f (command_of d.command) x K.stands.granted K.free n 164 in omega (arith, two, is, K.holds 164))
+        | inr two ↦ inr (let is = held_is f (command_of d.command) x K.stands.granted K.free (resting no_cursor) n 164 in omega (arith, two, is, K.holds 164))
       ]
   frees o x (Jobs.Check checking) n K = inl refl
   frees o x (Jobs.Locking locking) n K = inl refl
@@ -87,7 +87,7 @@ module _ (f : Form) (options : Options) (xs : List Opener) (ps : List Piece) (a 
   may : (o : ℕ) (x : Own) (job : Job) (n : ℕ) → Works f ps size o x job n → (others : List HandPair) → (1 ≤ table_of ps (o + 1) 164 → others ≡ []) → JobMayBeOut job others
   may o x (Jobs.Refused command reply) n K others none = tt
   may o x (Jobs.Plain d) n K others none =
-      stage_may f n d.command d.stage others K.stands.after (λ one. none (let is = held_is f (command_of d.command) x K.stands.granted K.free n 164 in omega (arith, one, is, K.holds 164)))
+      stage_may f n d.command d.stage others K.stands.after (λ one. none (let is = held_is f (command_of d.command) x K.stands.granted K.free (resting no_cursor) n 164 in omega (arith, one, is, K.holds 164)))
   may o x (Jobs.Check Checks.Begun) n K others none = tt
   may o x (Jobs.Check Checks.Records) n K others none = tt
   may o x (Jobs.Check Checks.FreeList) n K others none =
@@ -95,7 +95,7 @@ module _ (f : Form) (options : Options) (xs : List Opener) (ps : List Piece) (a 
       (let late = K.stands.1 in
       let one : 1 ≤ locked (lock_free 1 1 ∷ []) n 164 = first_locked (lock_free 1 1) [] n 164 (omega (arith, late)) refl in
       let both = rest_locked (lock_all 0 1) (lock_free 1 1 ∷ []) n 164 in
-      let is = held_is f MapCommand.Check x K.stands.0 K.free n 164 in
+      let is = held_is f MapCommand.Check x K.stands.0 K.free (resting no_cursor) n 164 in
       omega (arith, one, both, is, K.holds 164))
   may o x (Jobs.Check (Checks.Counted keys)) n K others none = tt
   may o x (Jobs.Locking locking) n K others none = tt

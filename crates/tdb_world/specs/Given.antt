@@ -1,5 +1,5 @@
 -- The commands that openers may give, and how they hold locks between two calls.
-use Rattle.std.specs.Prelude.{ℕ, ◌≡◌, ◌<◌, ◌≤◌, ◌^◌, List, Bool, true, false, length, Option, None, Some, IfSome, nat_lt, ◌==◌, ◌&&◌, if◌then◌else◌}
+use Rattle.std.specs.Prelude.{ℕ, ◌≡◌, ◌<◌, ◌≤◌, ◌+◌, ◌^◌, List, Bool, true, false, length, Option, None, Some, IfSome, nat_lt, ◌==◌, ◌&&◌, ◌||◌, if◌then◌else◌}
 use Rattle.std.specs.List.{All, sum}
 use Rattle.std.specs.Map.{values_of}
 use Rattle.tdb_locks.specs.HeldLocks.{HeldLocks, AreCounts, total_of}
@@ -65,13 +65,18 @@ reads_records None = false
 reads_records (Some (Read, count)) = true
 reads_records (Some (Write, count)) = false
 
--- the reply to an unlock of all records that is refused: they aren't held, or a chain is that only their last lock covers
-abbrev pub unlock_told : HeldLocks → Option (Kind × ℕ) → Option Reply
-unlock_told held None = Some Reply.NotLocked
-unlock_told held (Some all) = if (all.1 == 1) && holds_chains held then Some (Reply.HeldLocks (total_of held)) else None
+-- the count of an opener's locks: its explicit ones, and one more for a cursor
+abbrev pub held_count : HeldLocks → Bool → ℕ
+held_count held walks = total_of held + (if walks then 1 else 0)
 
-abbrev pub unlock_all_told : HeldLocks → Option Reply
-unlock_all_told held = unlock_told held held.all
+-- the reply to an unlock of all records that is refused: they aren't held, or a chain is held or a cursor stands that only their last
+-- lock covers
+abbrev pub unlock_told : HeldLocks → Bool → Option (Kind × ℕ) → Option Reply
+unlock_told held walks None = Some Reply.NotLocked
+unlock_told held walks (Some all) = if (all.1 == 1) && (holds_chains held || walks) then Some (Reply.HeldLocks (held_count held walks)) else None
+
+abbrev pub unlock_all_told : HeldLocks → Bool → Option Reply
+unlock_all_told held walks = unlock_told held walks held.all
 
 -- What holds of an opener's explicit locks between two calls: chains have counts, a lock of all records was taken once at least, and
 -- who holds all records for reading holds no chain.

@@ -19,9 +19,9 @@ use Rattle.tdb_world.specs.declared.options.Options.{Options}
 use Rattle.tdb_world.specs.declared.opener.Opener.{Opener}
 use Rattle.tdb_world.specs.declared.job.Job.{Job}
 use Rattle.tdb_world.specs.declared.job.Task.{Task}
-use Rattle.tdb_world.specs.Openers.{options_of, JobStands, own_of, command_in, law_task, hands_at, OpenerStands}
+use Rattle.tdb_world.specs.Openers.{no_cursor, options_of, JobStands, own_of, command_in, law_task, hands_at, OpenerStands}
 use Rattle.tdb_world.specs.States.{state_of, WorldStands, FileStands}
-use Rattle.tdb_world.specs.Turning.{OpenerHolds, TurnsLocks, TurnsFile, ImageBefore, TurnsImage}
+use Rattle.tdb_world.specs.Turning.{no_view, resting, OpenerHolds, TurnsLocks, TurnsFile, ImageBefore, TurnsImage}
 
 -- among these openers this one has this task
 pub record HasTask (openers : List Opener) (who : ℕ) (x : Opener) (t : Task) : Type 0 where
@@ -49,7 +49,7 @@ pub record MayStand (f : Form) (options : Options) (size : ℕ) (y : Opener) : T
 -- What holds before a turn: the opener holds what its task has locked and what it keeps.
 abbrev pub OpenerIsReady : Type 0
 OpenerIsReady = (f : Form) (options : Options) (xs : List Opener) (ps : List Piece) (a : List ℕ) (size who : ℕ) (x : Opener) (t : Task)
-    → WorldStands f options xs ps a size → HasTask xs who x t → OpenerHolds f (own_of options x) (command_in t.job) t.steps who ps
+    → WorldStands f options xs ps a size → HasTask xs who x t → OpenerHolds f (own_of options x) (resting no_cursor) (command_in t.job) t.steps who ps
 
 -- The image is accepted with the records of its command and with those of all others, and the command knows it.
 abbrev pub ImageIsReady : Type 0
@@ -60,7 +60,7 @@ ImageIsReady = (f : Form) (options : Options) (xs : List Opener) (ps : List Piec
 abbrev pub TurnKeepsWorld : Type 0
 TurnKeepsWorld = (f : Form) (options : Options) (xs ys : List Opener) (ps qs : List Piece) (a b : List ℕ) (size longer who : ℕ) (x y : Opener) (t : Task) (turn : Turn)
     → WorldStands f options xs ps a size → HasTask xs who x t → IsPut xs who y ys
-    → TurnsLocks f (own_of options x) (own_of options y) (command_in t.job) t.steps (law_task y.task) who ps qs turn
+    → TurnsLocks f (own_of options x) (own_of options y) (resting no_cursor) (command_in t.job) t.steps (law_task y.task) who ps qs turn
     → MayStand f options longer y → size ≤ longer → longer ≤ options.limit → WorldStands f options ys qs b longer
 
 -- After a turn that also did to the file what it may, its bytes stand: others still know their chains, since who changes a chain has it
@@ -68,15 +68,15 @@ TurnKeepsWorld = (f : Form) (options : Options) (xs ys : List Opener) (ps qs : L
 abbrev pub TurnKeepsFile : Type 0
 TurnKeepsFile = (f : Form) (options : Options) (xs ys : List Opener) (ps : List Piece) (a b : List ℕ) (size who : ℕ) (x y : Opener) (t : Task) (turn : Turn)
     → WorldStands f options xs ps a size → FileStands f xs a → HasTask xs who x t → IsPut xs who y ys
-    → TurnsFile f (own_of options x) (own_of options y) (command_in t.job) t.steps who ps a b turn
+    → TurnsFile f (own_of options x) (own_of options y) (resting no_cursor) no_view (command_in t.job) t.steps who ps a b turn
     → TurnsImage f t y.task a b (other_hands xs who) → FileStands f ys b
 
 -- And it is a turn of the law.
 abbrev pub TurnIsTurned : Type 0
 TurnIsTurned = (f : Form) (options : Options) (xs ys : List Opener) (ps qs : List Piece) (a b : List ℕ) (size who : ℕ) (x y : Opener) (t : Task) (turn : Turn)
     → WorldStands f options xs ps a size → HasTask xs who x t → IsPut xs who y ys
-    → TurnsLocks f (own_of options x) (own_of options y) (command_in t.job) t.steps (law_task y.task) who ps qs turn
-    → TurnsFile f (own_of options x) (own_of options y) (command_in t.job) t.steps who ps a b turn
+    → TurnsLocks f (own_of options x) (own_of options y) (resting no_cursor) (command_in t.job) t.steps (law_task y.task) who ps qs turn
+    → TurnsFile f (own_of options x) (own_of options y) (resting no_cursor) no_view (command_in t.job) t.steps who ps a b turn
     → Turned f (state_of f options xs ps a) who (record { command = command_in t.job; steps = t.steps }) turn (state_of f options ys qs b)
 
 -- a new opener comes behind these; it has nothing yet

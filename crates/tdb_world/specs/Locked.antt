@@ -9,6 +9,7 @@ use Rattle.tdb_locks.specs.declared.locks.LockRefusal.{LockRefusal}
 use Rattle.tdb_locks.specs.declared.locks.LockRefusal.TheVariants.{Conflict, Memory}
 use Rattle.tdb_locks.specs.declared.piece.Piece.{Piece}
 use Rattle.tdb_law.specs.Commands.{LockCommand, Command, Turn}
+use Rattle.tdb_law.specs.Openers.{View}
 use Rattle.tdb_law.specs.Refusals.{refusal}
 use Rattle.tdb_law.specs.World.{HasFewChains}
 use Rattle.tdb_law.specs.Effects.{task_left}
@@ -18,8 +19,8 @@ use Rattle.tdb_steps.specs.declared.rows.Region.TheVariants.{Chain, AllRecords}
 use Rattle.tdb_locks.specs.declared.turn.Reply.{Reply}
 use Rattle.tdb_locks.specs.declared.turn.Turn.{Turn as Turned}
 use Rattle.tdb_world.specs.declared.options.Options.{Options}
-use Rattle.tdb_world.specs.Openers.{own_with}
-use Rattle.tdb_world.specs.Turning.{OpenerHolds, TurnsLocks, TurnsFile}
+use Rattle.tdb_world.specs.Openers.{AtRest, own_with}
+use Rattle.tdb_world.specs.Turning.{OpenerHolds, TurnsLocks, TurnsFile, resting}
 
 -- the lock of a chain for writing, and that of all records, which a first turn takes
 abbrev pub chain_row : ℕ → LockRow
@@ -55,15 +56,15 @@ less_of None = None
 less_of (Some all) = if nat_lt 1 all.1 then Some (all.0, all.1 - 1) else None
 
 -- Before a turn of a command on explicit locks: it isn't refused, and its opener holds what it keeps.
-pub record MayLock (f : Form) (options : Options) (live : Bool) (held : HeldLocks) (k : LockCommand) (who : ℕ) (ps : List Piece) : Type 0 where
+pub record MayLock (f : Form) (options : Options) (live : Bool) (held : HeldLocks) (rest : AtRest) (k : LockCommand) (who : ℕ) (ps : List Piece) : Type 0 where
   pub few : HasFewChains f
-  pub granted : refusal f (Command.OnLocks k) (own_with options live held) ≡ None
-  pub holds : OpenerHolds f (own_with options live held) (Command.OnLocks k) 0 who ps
+  pub granted : refusal f (Command.OnLocks k) (own_with options live held rest) ≡ None
+  pub holds : OpenerHolds f (own_with options live held rest) (resting rest) (Command.OnLocks k) 0 who ps
 
 -- What such a turn makes of the lock table, of any file, which it leaves, and of the opener, in the words of the law.
-pub record LockingTurned (f : Form) (options : Options) (live : Bool) (old new : HeldLocks) (k : LockCommand) (who : ℕ) (ps qs : List Piece) (turn : Turn) : Type 0 where
-  pub locks : TurnsLocks f (own_with options live old) (own_with options live new) (Command.OnLocks k) 0 (task_left (Command.OnLocks k) 0 turn) who ps qs turn
-  pub file : (img : List ℕ) → TurnsFile f (own_with options live old) (own_with options live new) (Command.OnLocks k) 0 who ps img img turn
+pub record LockingTurned (f : Form) (options : Options) (live : Bool) (old new : HeldLocks) (rest : AtRest) (k : LockCommand) (who : ℕ) (ps qs : List Piece) (turn : Turn) : Type 0 where
+  pub locks : TurnsLocks f (own_with options live old rest) (own_with options live new rest) (resting rest) (Command.OnLocks k) 0 (task_left (Command.OnLocks k) 0 turn) who ps qs turn
+  pub file : (v : View) (img : List ℕ) → TurnsFile f (own_with options live old rest) (own_with options live new rest) (resting rest) v (Command.OnLocks k) 0 who ps img img turn
 
 -- the turn that tells that a lock isn't granted: it waits, or is told at once
 abbrev pub waiting : LockRefusal → Turned

@@ -42,12 +42,21 @@ all_of (Some a) = Some (record { strength = strength_of a.0; count = a.1 })
 abbrev pub options_of : Options → LawOptions
 options_of o = record { nesting = o.nesting; read_only = o.read_only; seqnum = o.seqnum }
 
--- what an opener has: it has neither a transaction nor a cursor
-abbrev pub own_with : Options → Bool → HeldLocks → Own
-own_with options live held = record { options = options_of options; live = live; txn = None; counts = counts_of held.chains; all = all_of held.all; cursor = None }
+-- a cursor between two commands: the key of the pair that it has shown last, and the record on which it stands
+pub record AtRest : Type 0 where
+  pub shown : Option (List ℕ)
+  pub stands : Option ℕ
 
+abbrev pub no_cursor : AtRest
+no_cursor = record { shown = None; stands = None }
+
+-- what an opener with such a cursor has: it has no transaction
+abbrev pub own_with : Options → Bool → HeldLocks → AtRest → Own
+own_with options live held rest = record { options = options_of options; live = live; txn = None; counts = counts_of held.chains; all = all_of held.all; cursor = rest.shown }
+
+-- nobody has a cursor yet
 abbrev pub own_of : Options → Opener → Own
-own_of options x = own_with options x.live x.held
+own_of options x = own_with options x.live x.held no_cursor
 
 abbrev pub own_at : Options → Option Opener → Own
 own_at options None = nobody (options_of options)

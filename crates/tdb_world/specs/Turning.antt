@@ -1,16 +1,16 @@
 -- What one turn of an opener makes of the lock table, of the file and of the opener, in the words of the law (`tdb_law`).
-use Rattle.std.specs.Prelude.{ℕ, ◌+◌, ◌≡◌, ◌≢◌, ◌≤◌, List, [], ◌++◌, Option, Some, false}
+use Rattle.std.specs.Prelude.{ℕ, ◌+◌, ◌%◌, ◌≡◌, ◌≢◌, ◌≤◌, List, [], ◌++◌, Option, Some, is_some, true, false}
 use Rattle.tdb_words.specs.Word.{word}
 use Rattle.tdb_words.specs.Header.{sequence_at}
-use Rattle.tdb_space.specs.Form.{Form}
+use Rattle.tdb_space.specs.Form.{Form, data_start}
 use Rattle.tdb_space.specs.Extents.{HandPair}
 use Rattle.tdb_space.specs.Accepted.{AcceptWith}
 use Rattle.tdb_space.specs.Stays.{ChangesOnly}
 use Rattle.tdb_locks.specs.declared.piece.Piece.{Piece}
 use Rattle.tdb_law.specs.Commands.{Command, Turn}
-use Rattle.tdb_law.specs.Openers.{Own, View, Task as LawTask, nowhere}
+use Rattle.tdb_law.specs.Openers.{Own, Spot, View, Task as LawTask}
 use Rattle.tdb_law.specs.Ends.{IsRow}
-use Rattle.tdb_law.specs.Held.{holding, wanted}
+use Rattle.tdb_law.specs.Held.{holding, wanted, decided}
 use Rattle.tdb_law.specs.Effects.{Effect, IsFree, IsFirstConflict, Finds, task_left}
 use Rattle.tdb_law.specs.Turned.{number_next}
 use Rattle.tdb_law.specs.Images.{image_map}
@@ -21,41 +21,57 @@ use Rattle.tdb_world.specs.declared.job.Job.{Job}
 use Rattle.tdb_world.specs.declared.job.Job.TheVariants.{Plain, Check}
 use Rattle.tdb_world.specs.declared.job.Checking.TheVariants.{FreeList}
 use Rattle.tdb_world.specs.declared.job.Task.{Task}
-use Rattle.tdb_world.specs.Openers.{hands_of_job, hands_of_task, JobKnows, TaskKnows}
+use Rattle.tdb_world.specs.Openers.{AtRest, hands_of_job, hands_of_task, JobKnows, TaskKnows}
 
 -- a lock table in the law's numbers: openers are counted from 0 there, and from 1 in the table
 abbrev pub law_table : List Piece → ℕ → ℕ → ℕ
 law_table ps o b = table_of ps (o + 1) b
 
--- nobody has a cursor, so nothing has to be purged and no move is on its way
+-- what only the world knows of an opener whose cursor rests
+abbrev pub resting : AtRest → Spot
+resting rest = record { stands = rest.stands; purging = false; gone = false }
+
+-- what the file adds to an opener without a cursor: nothing has to be purged, and no move is on its way
 abbrev pub no_view : View
 no_view = record { must = false; way = λ b. false }
 
--- what the next turn of a command wants, of an opener without a cursor
-abbrev pub wants : Form → Command → Own → ℕ → ℕ → ℕ
-wants f c x n b = wanted f c x nowhere no_view n b
+-- what the next turn of a command wants, by what only the world and only the file know of its opener
+abbrev pub wants : Form → Command → Own → Spot → View → ℕ → ℕ → ℕ
+wants f c x s v n b = wanted f c x (decided s v n) v n b
 
--- Before a turn: the opener holds what the steps of its command have locked and what it keeps, and no other's locks conflict with it.
-pub record OpenerHolds (f : Form) (x : Own) (c : Command) (n : ℕ) (who : ℕ) (ps : List Piece) : Type 0 where
-  pub holds : (b : ℕ) → law_table ps who b ≡ holding f x nowhere (Some (record { command = c; steps = n })) b
+-- A cursor that stands on a record, which lies behind the heads of all chains and at a whole word, has shown a key.
+pub record RestsWell (f : Form) (cursor : Option (List ℕ)) (place : ℕ) : Type 0 where
+  pub shown : is_some cursor ≡ true
+  pub above : data_start f ≤ place
+  pub aligned : place % 4 ≡ 0
+
+abbrev pub StandsWell : Form → Option (List ℕ) → Option ℕ → Type 0
+StandsWell f cursor stands = (place : ℕ) → stands ≡ Some place → RestsWell f cursor place
+
+-- Before a turn: the opener holds what the steps of its command have locked and what it keeps, no other's locks conflict with it, and
+-- where its cursor stands on a record it does so well.
+pub record OpenerHolds (f : Form) (x : Own) (s : Spot) (c : Command) (n : ℕ) (who : ℕ) (ps : List Piece) : Type 0 where
+  pub holds : (b : ℕ) → law_table ps who b ≡ holding f x s (Some (record { command = c; steps = n })) b
   pub apart : (o b : ℕ) → o ≢ who → law_table ps who b + law_table ps o b ≤ 2
   pub numbered : (b : ℕ) → table_of ps 0 b ≡ 0
+  pub rests : StandsWell f x.cursor s.stands
 
--- A turn of a command that has had n steps, of an opener x who is y afterwards and has this command left. Whatever the bytes of the
--- file are: the row of the command allows the turn; the opener holds what is left; others hold what they held, and no locks conflict.
-pub record TurnsLocks (f : Form) (x y : Own) (c : Command) (n : ℕ) (left : Option LawTask) (who : ℕ) (old new : List Piece) (turn : Turn) : Type 0 where
+-- A turn of a command that has had n steps, of an opener x who is y afterwards, with this spot and this command left. Whatever the bytes
+-- of the file are: the row of the command allows the turn; the opener holds what is left; others hold what they held, and no locks
+-- conflict.
+pub record TurnsLocks (f : Form) (x y : Own) (z : Spot) (c : Command) (n : ℕ) (left : Option LawTask) (who : ℕ) (old new : List Piece) (turn : Turn) : Type 0 where
   pub row : IsRow f c x n turn
   pub leaves : left ≡ task_left c n turn
-  pub holds : (b : ℕ) → law_table new who b ≡ holding f y nowhere left b
+  pub holds : (b : ℕ) → law_table new who b ≡ holding f y z left b
   pub others : (o b : ℕ) → o ≢ who → table_of new (o + 1) b ≡ table_of old (o + 1) b
   pub apart : (o b : ℕ) → o ≢ who → law_table new who b + law_table new o b ≤ 2
   pub numbered : (b : ℕ) → table_of new 0 b ≡ 0
 
 -- The effect of the turn on the file's bytes, a before it and b after it, is one of the law's kinds, and so is what becomes of the
--- sequence number.
-pub record TurnsFile (f : Form) (x y : Own) (c : Command) (n : ℕ) (who : ℕ) (old : List Piece) (a b : List ℕ) (turn : Turn) : Type 0 where
-  pub effect : Effect f (IsFree (law_table old) who (wants f c x n)) (IsFirstConflict (law_table old) who (wants f c x n))
-      (Finds f (law_table old who) (wants f c x n) (image_map f a)) (word f.order a sequence_at) c n x (image_map f a) turn y (image_map f b)
+-- sequence number; s is the opener's spot before it, and v its view.
+pub record TurnsFile (f : Form) (x y : Own) (s : Spot) (v : View) (c : Command) (n : ℕ) (who : ℕ) (old : List Piece) (a b : List ℕ) (turn : Turn) : Type 0 where
+  pub effect : Effect f (IsFree (law_table old) who (wants f c x s v n)) (IsFirstConflict (law_table old) who (wants f c x s v n))
+      (Finds f (law_table old who) (wants f c x s v n) (image_map f a)) (word f.order a sequence_at) c n x (image_map f a) turn y (image_map f b)
   pub number : word f.order b sequence_at ≡ number_next f c n x turn (word f.order a sequence_at) 0
 
 -- The hands of other commands that may be out before a turn: any. But where a wipe or a check has locked all records and the free list

@@ -5,12 +5,12 @@ ghost use Rattle.tdb_space.specs.Form.{Form};
 ghost use Rattle.tdb_locks.specs.HeldLocks.{nothing_held};
 ghost use Rattle.tdb_locks.specs.declared.piece.Piece.{Piece};
 ghost use Rattle.tdb_law.specs.Commands as Law;
-ghost use Rattle.tdb_law.specs.Openers.{Own};
+ghost use Rattle.tdb_law.specs.Openers.{Own, View};
 ghost use Rattle.tdb_plays.specs.InLaw.{law_command, law_reply};
 ghost use Rattle.tdb_plays.specs.declared.command.Command.{Command};
 ghost use Rattle.tdb_world.specs.Given.{IsServed};
-ghost use Rattle.tdb_world.specs.Openers.{own_with, IsRefused};
-ghost use Rattle.tdb_world.specs.Turning.{OpenerHolds};
+ghost use Rattle.tdb_world.specs.Openers.{AtRest, own_with, no_cursor, IsRefused};
+ghost use Rattle.tdb_world.specs.Turning.{OpenerHolds, resting};
 ghost use Rattle.tdb_world.specs.Ended.{EndTurned};
 ghost use Rattle.tdb_world.specs.declared.options.Options.{Options};
 
@@ -21,8 +21,8 @@ use tdb_locks::{Held, Locks, Reply, Turn};
 /// file.
 pub(crate) fn refused_turn(reply: Reply) -> Turn
     ensures turn { result ≡ Turn.Done reply }
-    ensures turned { (f : Form) (x : Own) (c : Command) (who : ℕ) (ps : List Piece) → IsServed c → IsRefused f x (law_command c) (law_reply reply)
-        → OpenerHolds f x (law_command c) 0 who ps → EndTurned f x x (law_command c) who ps ps (law_reply reply) }
+    ensures turned { (f : Form) (x : Own) (rest : AtRest) (v : View) (c : Command) (who : ℕ) (ps : List Piece) → IsServed c → IsRefused f x (law_command c) (law_reply reply)
+        → OpenerHolds f x (resting rest) (law_command c) 0 who ps → EndTurned f x x (resting rest) v (law_command c) who ps ps (law_reply reply) }
 {
     Turn::Done(reply)
 }
@@ -32,9 +32,9 @@ pub(crate) fn refused_turn(reply: Reply) -> Turn
 pub(crate) fn close_turn(alloc: Global, locks: &mut Locks, owner: u32, held: &mut Held) -> Turn
     ensures turn { result ≡ Turn.Done Reply.Ok }
     ensures held { held.new ≡ nothing_held }
-    ensures turned { (f : Form) (options : Options) (live : Bool) (who : ℕ) → owner ≡ who + 1
-        → OpenerHolds f (own_with options live held.old) (Law.Command.OnWalk Law.WalkCommand.Close) 0 who locks.old
-        → EndTurned f (own_with options live held.old) (own_with options false held.new) (Law.Command.OnWalk Law.WalkCommand.Close) who locks.old locks.new Law.Reply.Done }
+    ensures turned { (f : Form) (options : Options) (live : Bool) (v : View) (who : ℕ) → owner ≡ who + 1
+        → OpenerHolds f (own_with options live held.old no_cursor) (resting no_cursor) (Law.Command.OnWalk Law.WalkCommand.Close) 0 who locks.old
+        → EndTurned f (own_with options live held.old no_cursor) (own_with options false held.new no_cursor) (resting no_cursor) v (Law.Command.OnWalk Law.WalkCommand.Close) who locks.old locks.new Law.Reply.Done }
 {
     locks.drop_owner(owner);
     *held = Held::new(alloc);

@@ -4,7 +4,7 @@ ghost use Rattle.std.specs.Prelude.{◌≡◌, ◌+◌, ◌<◌, ◌^◌, ℕ, B
 ghost use Rattle.tdb_space.specs.Form.{form_in};
 ghost use Rattle.tdb_space.specs.Pairs.{home};
 ghost use Rattle.tdb_plays.specs.InLaw.{law_turn};
-ghost use Rattle.tdb_world.specs.Openers.{locking_command};
+ghost use Rattle.tdb_world.specs.Openers.{AtRest, locking_command};
 ghost use Rattle.tdb_world.specs.Given.{IsShortLocking, IsWellHeld};
 ghost use Rattle.tdb_world.specs.Locked.{MayLock, LockingTurned, waiting, at_once};
 ghost use Rattle.tdb_world.specs.declared.options.Options.{Options};
@@ -64,9 +64,9 @@ pub(crate) fn locking_turn(
     requires chains { 0 < header.now.hash_size }
     requires short { IsShortLocking locking.now }
     requires well { IsWellHeld held.old }
-    requires may { (options : Options) × (live : Bool) × (who : ℕ) × (owner ≡ who + 1) × MayLock (form_in header.now) options live held.old (locking_command locking.now) who locks.old }
-    ensures turned { (options : Options) (live : Bool) (who : ℕ) → owner ≡ who + 1 → MayLock (form_in header.now) options live held.old (locking_command locking.now) who locks.old
-        → LockingTurned (form_in header.now) options live held.old held.new (locking_command locking.now) who locks.old locks.new (law_turn result) }
+    requires may { (options : Options) × (live : Bool) × (rest : AtRest) × (who : ℕ) × (owner ≡ who + 1) × MayLock (form_in header.now) options live held.old rest (locking_command locking.now) who locks.old }
+    ensures turned { (options : Options) (live : Bool) (rest : AtRest) (who : ℕ) → owner ≡ who + 1 → MayLock (form_in header.now) options live held.old rest (locking_command locking.now) who locks.old
+        → LockingTurned (form_in header.now) options live held.old held.new rest (locking_command locking.now) who locks.old locks.new (law_turn result) }
     ensures well { IsWellHeld held.new }
 {
     match locking {

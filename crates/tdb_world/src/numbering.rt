@@ -10,8 +10,9 @@ ghost use Rattle.tdb_locks.specs.LockTable.{ChangesRange, held};
 ghost use Rattle.tdb_law.specs.Commands.Command.{Seqnum};
 ghost use Rattle.tdb_law.specs.Effects.{task_left};
 ghost use Rattle.tdb_plays.specs.InLaw.{law_turn};
-ghost use Rattle.tdb_world.specs.Openers.{own_with};
-ghost use Rattle.tdb_world.specs.Turning.{TurnsLocks, TurnsFile};
+ghost use Rattle.tdb_law.specs.Openers.{View};
+ghost use Rattle.tdb_world.specs.Openers.{AtRest, own_with};
+ghost use Rattle.tdb_world.specs.Turning.{TurnsLocks, TurnsFile, resting};
 ghost use Rattle.tdb_world.specs.Ended.{MayCount};
 ghost use Rattle.tdb_world.specs.declared.options.Options.{Options};
 
@@ -50,11 +51,11 @@ fn let_go_of_number(locks: &mut Locks, owner: u32)
 /// Cost: a pass over the lock table, and a read of 4 bytes.
 pub(crate) fn seqnum_turn<S: Space>(s: &mut S, locks: &mut Locks, owner: u32) -> Result<Turn, Io>
     requires alone { held locks.old owner 47 ≡ None }
-    ensures locks { IfOk result (λ turn. (f : Form) (options : Options) (live : Bool) (held : HeldLocks) (who : ℕ) → owner ≡ who + 1 → MayCount f options live held who locks.old
-        → TurnsLocks f (own_with options live held) (own_with options live held) Seqnum 0 (task_left Seqnum 0 (law_turn turn)) who locks.old locks.new (law_turn turn)) }
-    ensures file { IfOk result (λ turn. IsTrue S.tells → 52 ≤ S.size s.old → (options : Options) (live : Bool) (held : HeldLocks) (who : ℕ) → owner ≡ who + 1
-        → MayCount (S.form s.old) options live held who locks.old
-        → TurnsFile (S.form s.old) (own_with options live held) (own_with options live held) Seqnum 0 who locks.old (S.image s.old) (S.image s.new) (law_turn turn)) }
+    ensures locks { IfOk result (λ turn. (f : Form) (options : Options) (live : Bool) (held : HeldLocks) (rest : AtRest) (who : ℕ) → owner ≡ who + 1 → MayCount f options live held rest who locks.old
+        → TurnsLocks f (own_with options live held rest) (own_with options live held rest) (resting rest) Seqnum 0 (task_left Seqnum 0 (law_turn turn)) who locks.old locks.new (law_turn turn)) }
+    ensures file { IfOk result (λ turn. IsTrue S.tells → 52 ≤ S.size s.old → (options : Options) (live : Bool) (held : HeldLocks) (rest : AtRest) (who : ℕ) → owner ≡ who + 1
+        → (v : View) → MayCount (S.form s.old) options live held rest who locks.old
+        → TurnsFile (S.form s.old) (own_with options live held rest) (own_with options live held rest) (resting rest) v Seqnum 0 who locks.old (S.image s.old) (S.image s.new) (law_turn turn)) }
     ensures looked { Looked S.Space s.old s.new }
     ensures cause { HasCause (S.faults s.old) (S.faults s.new) result }
 {

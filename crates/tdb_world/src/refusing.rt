@@ -1,14 +1,14 @@
 // The refusals of a command by its opener's own state.
 
-ghost use Rattle.std.specs.Prelude.{◌≡◌, ◌<◌, ◌^◌, ◌==◌, ◌&&◌, ◌||◌, is_none, length, if◌then◌else◌};
+ghost use Rattle.std.specs.Prelude.{◌≡◌, ◌<◌, ◌^◌, ◌==◌, ◌&&◌, ◌||◌, is_none, length, false, if◌then◌else◌};
 ghost use Rattle.std.specs.Option.{option_map};
 ghost use Rattle.tdb_space.specs.Form.{form_in};
 ghost use Rattle.tdb_space.specs.Pairs.{home};
-ghost use Rattle.tdb_locks.specs.HeldLocks.{total_of, count_of, AreCounts};
+ghost use Rattle.tdb_locks.specs.HeldLocks.{count_of, AreCounts};
 ghost use Rattle.tdb_law.specs.Refusals.{refusal, says};
 ghost use Rattle.tdb_plays.specs.InLaw.{law_command, law_reply};
 ghost use Rattle.tdb_world.specs.Openers.{own_of};
-ghost use Rattle.tdb_world.specs.Given.{IsShortGiven, holds_chains, reads_records, unlock_all_told};
+ghost use Rattle.tdb_world.specs.Given.{IsShortGiven, held_count, holds_chains, reads_records, unlock_all_told};
 
 use crate::locking::chain_in;
 use crate::opener::Opener;
@@ -58,7 +58,7 @@ fn stops_lock_all(held: &Held) -> bool
 
 /// The reply that so many locks are held, where they stand in the way.
 fn held_if(held: &Held, stand: bool) -> Option<Reply>
-    ensures { result ≡ (if stand then Some (Reply.HeldLocks (total_of held.now)) else None) }
+    ensures { result ≡ (if stand then Some (Reply.HeldLocks (held_count held.now false)) else None) }
 {
     if stand {
         Some(Reply::HeldLocks {
@@ -71,7 +71,7 @@ fn held_if(held: &Held, stand: bool) -> Option<Reply>
 
 /// The reply to a command that changes the file, where nobody may change it, or where locks stand in the way.
 fn change_refusal(options: &Options, held: &Held, stand: bool) -> Option<Reply>
-    ensures { result ≡ (if options.now.read_only then Some Reply.ReadOnly else (if stand then Some (Reply.HeldLocks (total_of held.now)) else None)) }
+    ensures { result ≡ (if options.now.read_only then Some Reply.ReadOnly else (if stand then Some (Reply.HeldLocks (held_count held.now false)) else None)) }
 {
     if options.read_only {
         return Some(Reply::ReadOnly);
@@ -95,7 +95,7 @@ fn unlock_refusal(held: &Held, key: &Bytes, header: &Header) -> Option<Reply>
 /// The reply to the unlock of all records, where they aren't held, or where a chain is that only the last lock of them
 /// covers.
 fn unlock_all_refusal(held: &Held) -> Option<Reply>
-    ensures { result ≡ unlock_all_told held.now }
+    ensures { result ≡ unlock_all_told held.now false }
 {
     match held.all() {
         None => Some(Reply::NotLocked),

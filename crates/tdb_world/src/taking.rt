@@ -7,11 +7,12 @@ ghost use Rattle.tdb_space.specs.Extents.{HandPair};
 ghost use Rattle.tdb_space.specs.Frame.{Wrote};
 ghost use Rattle.tdb_space.specs.Spare.{without_bound};
 ghost use Rattle.tdb_law.specs.World.{HasFewChains};
+ghost use Rattle.tdb_law.specs.Openers.{View};
 ghost use Rattle.tdb_plays.specs.InLaw.{law_turn};
 ghost use Rattle.tdb_world.specs.declared.job.Task.{Task};
 ghost use Rattle.tdb_world.specs.Given.{IsWellHeld};
-ghost use Rattle.tdb_world.specs.Openers.{own_of, own_with, command_in, law_task};
-ghost use Rattle.tdb_world.specs.Turning.{OpenerHolds, TurnsLocks, TurnsFile, ImageBefore, TurnsImage};
+ghost use Rattle.tdb_world.specs.Openers.{own_of, own_with, no_cursor, command_in, law_task};
+ghost use Rattle.tdb_world.specs.Turning.{OpenerHolds, TurnsLocks, TurnsFile, ImageBefore, TurnsImage, resting};
 ghost use Rattle.tdb_world.specs.Jobs.{JobIsReady, JobTurned, JobFiled, task_after};
 ghost use Rattle.tdb_world.specs.Laws.{MayStand};
 
@@ -24,7 +25,7 @@ use crate::opener::Opener;
 use crate::options::Options;
 use std::alloc::Global;
 use std::mem;
-use tdb_locks::{Held, Locks, Reply, Turn};
+use tdb_locks::{Held, Locks, Reply, Spots, Turn};
 use tdb_space::{Io, Space};
 use tdb_words::Header;
 
@@ -47,21 +48,21 @@ impl Job {
         requires within { S.size s.old ≤ options.now.limit }
         requires spare { S.spare s.old ≡ without_bound }
         requires well { IsWellHeld held.old }
-        requires ready { (n : ℕ) × (who : ℕ) × JobIsReady (S.form s.old) (own_with options.now live.old held.old) self.old n who owner (S.size s.old) locks.old }
-        ensures turned { IfOk result (λ turn. (n who : ℕ) → JobIsReady (S.form s.old) (own_with options.now live.old held.old) self.old n who owner (S.size s.old) locks.old
-            → JobTurned (S.form s.old) (own_with options.now live.old held.old) (own_with options.now live.new held.new) self.old self.new n who (S.size s.new)
+        requires ready { (n : ℕ) × (who : ℕ) × JobIsReady (S.form s.old) (own_with options.now live.old held.old no_cursor) (resting no_cursor) self.old n who owner (S.size s.old) locks.old }
+        ensures turned { IfOk result (λ turn. (n who : ℕ) → JobIsReady (S.form s.old) (own_with options.now live.old held.old no_cursor) (resting no_cursor) self.old n who owner (S.size s.old) locks.old
+            → JobTurned (S.form s.old) (own_with options.now live.old held.old no_cursor) (own_with options.now live.new held.new no_cursor) (resting no_cursor) self.old self.new n who (S.size s.new)
             locks.old locks.new (law_turn turn)) }
-        ensures file { IfOk result (λ turn. IsTrue S.tells → (n who : ℕ) (others : List HandPair)
-            → JobIsReady (S.form s.old) (own_with options.now live.old held.old) self.old n who owner (S.size s.old) locks.old
+        ensures file { IfOk result (λ turn. IsTrue S.tells → (v : View) (n who : ℕ) (others : List HandPair)
+            → JobIsReady (S.form s.old) (own_with options.now live.old held.old no_cursor) (resting no_cursor) self.old n who owner (S.size s.old) locks.old
             → ImageBefore (S.form s.old) self.old (S.image s.old) others
-            → JobFiled (S.form s.old) (own_with options.now live.old held.old) (own_with options.now live.new held.new) self.old self.new n who locks.old
+            → JobFiled (S.form s.old) (own_with options.now live.old held.old no_cursor) (own_with options.now live.new held.new no_cursor) (resting no_cursor) v self.old self.new n who locks.old
             (S.image s.old) (S.image s.new) others (law_turn turn)) }
         ensures well { IsWellHeld held.new }
         ensures longer { S.size s.old ≤ S.size s.new }
         ensures within { S.size s.new ≤ options.now.limit }
         ensures wrote { Wrote S.Space s.old s.new }
         ensures cause { IsTrue S.tells → (n who : ℕ) (others : List HandPair)
-            → JobIsReady (S.form s.old) (own_with options.now live.old held.old) self.old n who owner (S.size s.old) locks.old
+            → JobIsReady (S.form s.old) (own_with options.now live.old held.old no_cursor) (resting no_cursor) self.old n who owner (S.size s.old) locks.old
             → ImageBefore (S.form s.old) self.old (S.image s.old) others → HasCause (S.faults s.old) (S.faults s.new) result }
         ensures rises { S.faults s.old ≤ S.faults s.new }
         ensures done { OnOk result (S.faults s.new ≡ S.faults s.old) }
@@ -70,7 +71,17 @@ impl Job {
             Job::Refused { command: _, reply } => {
                 Ok(refused_turn(mem::replace(reply, Reply::Memory)))
             }
-            Job::Plain(plain) => plain.turn(alloc, s, locks, owner, held, options.limit),
+            Job::Plain(plain) => {
+                plain.turn(
+                    alloc,
+                    s,
+                    locks,
+                    owner,
+                    held,
+                    &Spots::new(alloc),
+                    options.limit,
+                )
+            }
             Job::Check(checking) => check_turn(alloc, s, locks, owner, held, checking),
             Job::Locking(locking) => Ok(locking_turn(locks, owner, held, header, locking)),
             Job::Seqnum => seqnum_turn(s, locks, owner),
@@ -115,16 +126,16 @@ impl Opener {
     ) -> Result<Turn, Io>
         requires busy { (t : Task) × (self.old.task ≡ Some t) }
         requires stands { MayStand (S.form s.old) options.now (S.size s.old) self.old }
-        requires holds { (t : Task) → self.old.task ≡ Some t → (who : ℕ) × (owner ≡ who + 1) × OpenerHolds (S.form s.old) (own_of options.now self.old) (command_in t.job) t.steps who locks.old }
+        requires holds { (t : Task) → self.old.task ≡ Some t → (who : ℕ) × (owner ≡ who + 1) × OpenerHolds (S.form s.old) (own_of options.now self.old) (resting no_cursor) (command_in t.job) t.steps who locks.old }
         requires few { HasFewChains (S.form s.old) }
         requires form { S.form s.old ≡ form_in header.now }
         requires limit { options.now.limit ≤ 4294963200 }
         requires within { S.size s.old ≤ options.now.limit }
         requires spare { S.spare s.old ≡ without_bound }
         ensures locks { IfOk result (λ turn. (t : Task) (who : ℕ) → self.old.task ≡ Some t → owner ≡ who + 1
-            → TurnsLocks (S.form s.old) (own_of options.now self.old) (own_of options.now self.new) (command_in t.job) t.steps (law_task self.new.task) who locks.old locks.new (law_turn turn)) }
-        ensures file { IfOk result (λ turn. IsTrue S.tells → (t : Task) (who : ℕ) (others : List HandPair) → self.old.task ≡ Some t → owner ≡ who + 1 → ImageBefore (S.form s.old) t.job (S.image s.old) others
-            → TurnsFile (S.form s.old) (own_of options.now self.old) (own_of options.now self.new) (command_in t.job) t.steps who locks.old (S.image s.old) (S.image s.new) (law_turn turn)
+            → TurnsLocks (S.form s.old) (own_of options.now self.old) (own_of options.now self.new) (resting no_cursor) (command_in t.job) t.steps (law_task self.new.task) who locks.old locks.new (law_turn turn)) }
+        ensures file { IfOk result (λ turn. IsTrue S.tells → (v : View) (t : Task) (who : ℕ) (others : List HandPair) → self.old.task ≡ Some t → owner ≡ who + 1 → ImageBefore (S.form s.old) t.job (S.image s.old) others
+            → TurnsFile (S.form s.old) (own_of options.now self.old) (own_of options.now self.new) (resting no_cursor) v (command_in t.job) t.steps who locks.old (S.image s.old) (S.image s.new) (law_turn turn)
             × TurnsImage (S.form s.old) t self.new.task (S.image s.old) (S.image s.new) others) }
         ensures stands { OnOk result (MayStand (S.form s.old) options.now (S.size s.new) self.new) }
         ensures idle { OnErr result (self.new.task ≡ None) }

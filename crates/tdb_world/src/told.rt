@@ -9,12 +9,13 @@ ghost use Rattle.tdb_space.specs.Frame.{Wrote};
 ghost use Rattle.tdb_space.specs.Spare.{without_bound};
 ghost use Rattle.tdb_law.specs.World.{HasFewChains};
 ghost use Rattle.tdb_law.specs.Commands.Command.{OnMap};
+ghost use Rattle.tdb_law.specs.Openers.{View};
 ghost use Rattle.tdb_plays.specs.InLaw.{law_command, law_turn};
 ghost use Rattle.tdb_steps.specs.PlainCommands.{key_of, command_of};
 ghost use Rattle.tdb_steps.specs.Machines.{begun, IsShort};
 ghost use Rattle.tdb_world.specs.Given.{IsWellHeld};
-ghost use Rattle.tdb_world.specs.Openers.{own_with};
-ghost use Rattle.tdb_world.specs.Turning.{ImageBefore};
+ghost use Rattle.tdb_world.specs.Openers.{AtRest, own_with};
+ghost use Rattle.tdb_world.specs.Turning.{ImageBefore, resting};
 ghost use Rattle.tdb_world.specs.Jobs.{JobIsReady, JobTurned, JobFiled};
 ghost use Rattle.tdb_world.specs.declared.options.Options.{Options};
 ghost use Rattle.tdb_world.specs.declared.job.Job.TheVariants.{Plain};
@@ -22,7 +23,7 @@ ghost use Rattle.tdb_world.specs.declared.job.Job.TheVariants.{Plain};
 use crate::plain::plain_turn;
 use std::alloc::{AllocError, Global};
 use std::marker::Model;
-use tdb_locks::{Held, Locks, Turn};
+use tdb_locks::{Held, Locks, Spots, Turn};
 use tdb_plays::Command;
 use tdb_space::{Io, Space};
 use tdb_steps::{Machine, Plain as PlainCommand};
@@ -77,29 +78,39 @@ impl PlainJob {
         locks: &mut Locks,
         owner: u32,
         held: &Held,
+        stood_on: &Spots,
         limit: u64,
     ) -> Result<Turn, Io>
         requires few { HasFewChains (S.form s.old) }
         requires limit { limit ≤ 4294963200 }
         requires spare { S.spare s.old ≡ without_bound }
         requires well { IsWellHeld held.now }
-        requires ready { (options : Options) × (live : Bool) × (n : ℕ) × (who : ℕ)
-            × JobIsReady (S.form s.old) (own_with options live held.now) (Plain self.old) n who owner (S.size s.old) locks.old }
-        ensures turned { IfOk result (λ turn. (options : Options) (live : Bool) (n who : ℕ)
-            → JobIsReady (S.form s.old) (own_with options live held.now) (Plain self.old) n who owner (S.size s.old) locks.old
-            → JobTurned (S.form s.old) (own_with options live held.now) (own_with options live held.now) (Plain self.old) (Plain self.new) n who (S.size s.new)
+        requires ready { (options : Options) × (live : Bool) × (rest : AtRest) × (n : ℕ) × (who : ℕ)
+            × JobIsReady (S.form s.old) (own_with options live held.now rest) (resting rest) (Plain self.old) n who owner (S.size s.old) locks.old }
+        ensures turned { IfOk result (λ turn. (options : Options) (live : Bool) (rest : AtRest) (n who : ℕ)
+            → JobIsReady (S.form s.old) (own_with options live held.now rest) (resting rest) (Plain self.old) n who owner (S.size s.old) locks.old
+            → JobTurned (S.form s.old) (own_with options live held.now rest) (own_with options live held.now rest) (resting rest) (Plain self.old) (Plain self.new) n who (S.size s.new)
             locks.old locks.new (law_turn turn)) }
-        ensures filed { IfOk result (λ turn. IsTrue S.tells → S.size s.old < 2 ^ 32 → (options : Options) (live : Bool) (n who : ℕ) (others : List HandPair)
-            → JobIsReady (S.form s.old) (own_with options live held.now) (Plain self.old) n who owner (S.size s.old) locks.old
+        ensures filed { IfOk result (λ turn. IsTrue S.tells → S.size s.old < 2 ^ 32 → (options : Options) (live : Bool) (rest : AtRest) (v : View) (n who : ℕ) (others : List HandPair)
+            → JobIsReady (S.form s.old) (own_with options live held.now rest) (resting rest) (Plain self.old) n who owner (S.size s.old) locks.old
             → ImageBefore (S.form s.old) (Plain self.old) (S.image s.old) others
-            → JobFiled (S.form s.old) (own_with options live held.now) (own_with options live held.now) (Plain self.old) (Plain self.new) n who locks.old
+            → JobFiled (S.form s.old) (own_with options live held.now rest) (own_with options live held.now rest) (resting rest) v (Plain self.old) (Plain self.new) n who locks.old
             (S.image s.old) (S.image s.new) others (law_turn turn)) }
         ensures longer { S.size s.old ≤ S.size s.new }
         ensures within { S.size s.old ≤ limit → S.size s.new ≤ limit }
         ensures wrote { Wrote S.Space s.old s.new }
         ensures cause { HasCause (S.faults s.old) (S.faults s.new) result }
     {
-        plain_turn(alloc, s, locks, owner, held, &mut self.machine, limit)
+        plain_turn(
+            alloc,
+            s,
+            locks,
+            owner,
+            held,
+            stood_on,
+            &mut self.machine,
+            limit,
+        )
     }
 
     /// Gives the command up, with the record that it may hold. It takes no memory and makes no call on a disk.

@@ -1,8 +1,6 @@
 -- A turn of the command is one of its machine.
-use Rattle.std.proofs.Common.{ap, subst}
-use Rattle.std.specs.Prelude.{◌<◌, ◌^◌, Result, Ok, Err, IsTrue, IfOk, OnErr, ◌≡◌, ℕ}
-use Rattle.tdb_steps.specs.LockTurns.{ActRightly}
-use Rattle.tdb_steps.specs.Stages.{IsIdle}
+use Rattle.std.proofs.Common.{ap}
+use Rattle.std.specs.Prelude.{Result, Ok, Err, IfOk, OnErr, ◌≡◌, ℕ}
 use Rattle.tdb_steps.specs.Order.{IsAfter}
 use Rattle.tdb_steps.specs.PlainCommands.{turn_of}
 use Rattle.tdb_steps.specs.Machines.{Doing, begun, Leaves}
@@ -25,7 +23,7 @@ by_two (Err e) P Q W then p q = tt
 pub step-requires-clause-alone : goal.step-requires-clause-alone
 step-requires-clause-alone g c =
     let w = c.requires.ready in
-    ready_alone (g.S.Space.form c.args.s.now) c.requires.few w.0 w.1 c.args.held.now c.requires.well.counts c.args.machine.now w.2 w.3 c.args.owner (g.S.Space.size c.args.s.now) c.args.locks.now w.4
+    ready_alone (g.S.Space.form c.args.s.now) c.requires.few w.0 w.1 c.args.held.now w.2 c.requires.well.counts c.args.machine.now w.3 w.4 c.args.owner (g.S.Space.size c.args.s.now) c.args.locks.now w.5
 
 pub returns-clause-turned : goal.returns-clause-turned
 returns-clause-turned g c =
@@ -33,12 +31,12 @@ returns-clause-turned g c =
     let held = c.args.held.now in
     let d = c.args.machine.now in
     let size = g.S.Space.size c.args.s.now in
-    by_four c.step-2.result _ _ _ _ _
-    (λ turn leaves row locks fits options live n who J.
+    by_four c.step.result _ _ _ _ _
+    (λ turn leaves row locks fits options live rest n who J.
     let is = J.stands.after in
-    let H = ready_holds f c.requires.few options live held c.requires.well.counts d n who c.args.owner size c.args.locks.now J in
-    ready_turned f c.requires.few options live held c.requires.well.counts d n who c.args.owner size c.args.locks.now J c.step-2.new.self c.step-2.new.locks (g.S.Space.size c.step-2.new.s)
-    (g.S.Space.spare c.step-2.new.s) turn (leaves n is) (row n is) (locks n _ is H) fits) c.step-2.ensures.leaves c.step-2.ensures.row c.step-2.ensures.locks c.step-2.ensures.fits
+    let H = ready_holds f c.requires.few options live held rest c.requires.well.counts d n who c.args.owner size c.args.locks.now J in
+    ready_turned f c.requires.few options live held rest c.requires.well.counts d n who c.args.owner size c.args.locks.now J c.step.new.self c.step.new.locks (g.S.Space.size c.step.new.s)
+    (g.S.Space.spare c.step.new.s) turn (leaves n is) (row n is) (locks n _ is H) fits) c.step.ensures.leaves c.step.ensures.row c.step.ensures.locks c.step.ensures.fits
 
 pub returns-clause-file : goal.returns-clause-file
 returns-clause-file g c =
@@ -46,21 +44,21 @@ returns-clause-file g c =
     let held = c.args.held.now in
     let d = c.args.machine.now in
     let size = g.S.Space.size c.args.s.now in
-    by_two c.step-2.result _ _ _
-    (λ turn made locks told small options live n who others J I.
+    by_two c.step.result _ _ _
+    (λ turn made locks told small options live rest v n who others J I.
     let is = J.stands.after in
-    let H = ready_holds f c.requires.few options live held c.requires.well.counts d n who c.args.owner size c.args.locks.now J in
-    ready_file f c.requires.few options live held c.requires.well.counts d n who c.args.owner size c.args.locks.now J c.step-2.new.self c.step-2.new.locks turn (g.S.Space.image c.args.s.now)
-    (g.S.Space.image c.step-2.new.s) others (locks n _ is H) (made told small n others is I.may_be_out I.accepted I.knows)) c.step-2.ensures.made c.step-2.ensures.locks
+    let H = ready_holds f c.requires.few options live held rest c.requires.well.counts d n who c.args.owner size c.args.locks.now J in
+    ready_file f c.requires.few options live held rest c.requires.well.counts d n who c.args.owner size c.args.locks.now J v c.step.new.self c.step.new.locks turn (g.S.Space.image c.args.s.now)
+    (g.S.Space.image c.step.new.s) others (locks n _ is H) (made told small n others is I.may_be_out I.accepted I.knows)) c.step.ensures.made c.step.ensures.locks
 
 pub returns-clause-image : goal.returns-clause-image
 returns-clause-image g c =
     let f = g.S.Space.form c.args.s.now in
-    by_two c.step-2.result _ _ _
-    (λ turn made leaves told small options live n who others J I.
+    by_two c.step.result _ _ _
+    (λ turn made leaves told small options live rest n who others J I.
     let is = J.stands.after in
-    left_image f c.args.machine.now c.step-2.new.self n (g.S.Space.image c.args.s.now) (g.S.Space.image c.step-2.new.s) others turn (leaves n is)
-    (made told small n others is I.may_be_out I.accepted I.knows)) c.step-2.ensures.made c.step-2.ensures.leaves
+    left_image f c.args.machine.now c.step.new.self n (g.S.Space.image c.args.s.now) (g.S.Space.image c.step.new.s) others turn (leaves n is)
+    (made told small n others is I.may_be_out I.accepted I.knows)) c.step.ensures.made c.step.ensures.leaves
 
 -- the command stays, however the turn ended
 same_command : (r : Result Turn Io) (d e : Doing) (n : ℕ) → IfOk r (λ turn. (m : ℕ) → IsAfter d.command d.stage m → Leaves d e m (turn_of turn)) → OnErr r (e ≡ begun d.command d.chain d.seqnum)
@@ -73,11 +71,4 @@ same_command (Err fault) d e n leaves given_up is = ap (λ z. z.command) given_u
 pub returns-clause-same : goal.returns-clause-same
 returns-clause-same g c =
     let w = c.requires.ready in
-    same_command c.step-2.result c.args.machine.now c.step-2.new.self w.2 c.step-2.ensures.leaves c.step-2.ensures.given_up w.4.stands.after
-
-pub returns-clause-rightly : goal.returns-clause-rightly
-returns-clause-rightly g c =
-    subst
-    (λ spots. IfOk c.step-2.result
-    (λ turn. IsTrue g.S.Space.tells → g.S.Space.size c.args.s.now < 2 ^ 32 → (IsIdle c.args.machine.now.stage → ⊥)
-    → ActRightly (g.S.Space.form c.args.s.now) (g.S.Space.image c.args.s.now) (g.S.Space.image c.step-2.new.s) c.args.machine.now c.step-2.new.self c.args.limit spots turn)) c.new.ensures c.step-2.ensures.rightly
+    same_command c.step.result c.args.machine.now c.step.new.self w.3 c.step.ensures.leaves c.step.ensures.given_up w.5.stands.after

@@ -8,8 +8,8 @@ use Rattle.std.proofs.lemmas.Result.{IfOk-weaker}
 use Rattle.tdb_steps.proofs.Made.{of_both}
 use Rattle.tdb_world.specs.States.{state_of}
 use Rattle.tdb_world.specs.Worlds.{IsBusy, Stands, BytesStand, state_in, law_of_task}
-use Rattle.tdb_world.specs.Turning.{OpenerHolds, ImageBefore}
-use Rattle.tdb_world.specs.Openers.{own_of, command_in}
+use Rattle.tdb_world.specs.Turning.{resting, OpenerHolds, ImageBefore}
+use Rattle.tdb_world.specs.Openers.{no_cursor, own_of, command_in}
 use Rattle.tdb_world.proofs.Stepping.{Locked, Filed, ok_so, ok_both, stands_before, holds_before, task_busy, busy_after, image_before, world_after, file_after, turned_after}
 use Rattle.tdb_world.proofs.openers.Openers.turn.Goals as goal
 
@@ -26,7 +26,7 @@ pub turn-requires-clause-holds : goal.turn-requires-clause-holds
 turn-requires-clause-holds g c u busy =
     let e = c.self.view_is in
     let form = c.requires.form ∙ ap (λ w. form_in w.header) (sym e) in
-    subst (λ f. (n : ℕ) × (c.args.who ≡ n + 1) × OpenerHolds f (own_of c.self.inside.options c.in-Some.opener.now) (command_in u.job) u.steps n c.self.inside.locks) (sym form)
+    subst (λ f. (n : ℕ) × (c.args.who ≡ n + 1) × OpenerHolds f (own_of c.self.inside.options c.in-Some.opener.now) (resting no_cursor) (command_in u.job) u.steps n c.self.inside.locks) (sym form)
     (holds_before c.self.inside.header c.self.inside.options c.self.inside.list.items c.self.inside.locks (g.S.Space.image c.args.s.now) (g.S.Space.size c.args.s.now) c.args.who c.requires.busy.0 c.in-Some.opener.now c.requires.busy.1
     (subst (λ w. IsBusy w c.args.who c.requires.busy.0 c.requires.busy.1) (sym e) c.requires.busy.2) c.in-Some.ensures.item.1
     (subst (λ w. Stands w (g.S.Space.image c.args.s.now) (g.S.Space.size c.args.s.now)) (sym e) c.requires.stands) u busy)

@@ -7,14 +7,14 @@ use Rattle.tdb_steps.proofs.Made.{of_both}
 use Rattle.tdb_plays.specs.InLaw.{law_turn}
 use Rattle.tdb_world.specs.declared.job.Job.TheVariants.{Plain}
 use Rattle.tdb_world.specs.Openers.{own_with}
-use Rattle.tdb_world.specs.Turning.{ImageBefore}
+use Rattle.tdb_world.specs.Turning.{ImageBefore, resting}
 use Rattle.tdb_world.specs.Jobs.{JobIsReady, JobTurned, JobFiled}
 use Rattle.tdb_world.proofs.told.PlainJob.turn.Goals as goal
 
 pub plain_turn-requires-clause-ready : goal.plain_turn-requires-clause-ready
 plain_turn-requires-clause-ready g c =
     let w = c.requires.ready in
-    (w.0, w.1, w.2, w.3, subst (λ d. JobIsReady (g.S.Space.form c.args.s.now) (own_with w.0 w.1 c.args.held.now) (Plain d) w.2 w.3 c.args.owner (g.S.Space.size c.args.s.now) c.args.locks.now) (sym c.self.view_is) w.4)
+    (w.0, w.1, w.2, w.3, w.4, subst (λ d. JobIsReady (g.S.Space.form c.args.s.now) (own_with w.0 w.1 c.args.held.now w.2) (resting w.2) (Plain d) w.3 w.4 c.args.owner (g.S.Space.size c.args.s.now) c.args.locks.now) (sym c.self.view_is) w.5)
 
 pub invariant_of-self : goal.invariant_of-self
 invariant_of-self g c = c.self.invariant ∙ sym (ap (λ p. OnMap (command_of p)) c.plain_turn.ensures.same)
@@ -27,9 +27,9 @@ returns-clause-turned g c =
     let e = c.self.view_is in
     let new = c.plain_turn.new.machine in
     IfOk-weaker c.plain_turn.result _ _
-    (λ turn turned options live n who J.
-    subst (λ d. JobTurned f (own_with options live held) (own_with options live held) (Plain d) (Plain new) n who (g.S.Space.size c.plain_turn.new.s) c.args.locks.now c.plain_turn.new.locks (law_turn turn)) e
-    (turned options live n who (subst (λ d. JobIsReady f (own_with options live held) (Plain d) n who c.args.owner size c.args.locks.now) (sym e) J))) c.plain_turn.ensures.turned
+    (λ turn turned options live rest n who J.
+    subst (λ d. JobTurned f (own_with options live held rest) (own_with options live held rest) (resting rest) (Plain d) (Plain new) n who (g.S.Space.size c.plain_turn.new.s) c.args.locks.now c.plain_turn.new.locks (law_turn turn)) e
+    (turned options live rest n who (subst (λ d. JobIsReady f (own_with options live held rest) (resting rest) (Plain d) n who c.args.owner size c.args.locks.now) (sym e) J))) c.plain_turn.ensures.turned
 
 pub returns-clause-filed : goal.returns-clause-filed
 returns-clause-filed g c =
@@ -41,8 +41,8 @@ returns-clause-filed g c =
     let e = c.self.view_is in
     let new = c.plain_turn.new.machine in
     of_both c.plain_turn.result _ _ _
-    (λ turn file image told small options live n who others J I.
-    let ready = subst (λ d. JobIsReady f (own_with options live held) (Plain d) n who c.args.owner size c.args.locks.now) (sym e) J in
+    (λ turn file image told small options live rest v n who others J I.
+    let ready = subst (λ d. JobIsReady f (own_with options live held rest) (resting rest) (Plain d) n who c.args.owner size c.args.locks.now) (sym e) J in
     let before = subst (λ d. ImageBefore f (Plain d) a others) (sym e) I in
-    subst (λ d. JobFiled f (own_with options live held) (own_with options live held) (Plain d) (Plain new) n who c.args.locks.now a b others (law_turn turn)) e
-    (record { file = file told small options live n who others ready before; image = image told small options live n who others ready before })) c.plain_turn.ensures.file c.plain_turn.ensures.image
+    subst (λ d. JobFiled f (own_with options live held rest) (own_with options live held rest) (resting rest) v (Plain d) (Plain new) n who c.args.locks.now a b others (law_turn turn)) e
+    (record { file = file told small options live rest v n who others ready before; image = image told small options live rest n who others ready before })) c.plain_turn.ensures.file c.plain_turn.ensures.image
