@@ -2,7 +2,7 @@
 use Rattle.std.proofs.Common.{◌≡◌, ℕ, List, Bool, true, false, refl, arith, ◌∙◌}
 use Rattle.tdb_locks.specs.declared.piece.Piece.{Piece}
 use Rattle.tdb_law.specs.Commands.Reply.{Done}
-use Rattle.tdb_law.specs.Commands.Turn.{Ends}
+use Rattle.tdb_law.specs.Commands.Turn.{Step, Ends}
 use Rattle.tdb_law.specs.Rows.{Lock}
 use Rattle.tdb_law.specs.Held.{locked_next}
 use Rattle.tdb_law.specs.Effects.{IsFirstConflict, IsFree}
@@ -50,6 +50,15 @@ pub row_stays : (row : List Lock) (kept : ℕ → ℕ) (owner n : ℕ) (old : Li
     → RowTurned true row kept owner n old old (Ends Done)
 row_stays row kept owner n old H none = record {
   holds = H;
+  others = λ o b differs. refl;
+  rightly = idle_free old owner (locked_next row n) none;
+}
+
+-- a step without a want
+pub row_steps : (stays : Bool) (row : List Lock) (kept : ℕ → ℕ) (owner n : ℕ) (old : List Piece) → HoldsRow row kept owner n old → ((b : ℕ) → locked_next row n b ≡ 0)
+    → RowTurned stays row kept owner n old old Step
+row_steps stays row kept owner n old H none = record {
+  holds = λ b. let was = H b in let more = next_turn row n b in let e = none b in omega (arith, was, more, e);
   others = λ o b differs. refl;
   rightly = idle_free old owner (locked_next row n) none;
 }

@@ -1,10 +1,10 @@
 -- What an opener holds of the lock bytes through the turns of a command that begins or ends its transaction, as strengths.
-use Rattle.std.specs.Prelude.{ℕ, ◌+◌, ◌≡◌, ◌≢◌, ◌<◌, ◌≤◌, max, List, Bool, ◌&&◌, if◌then◌else◌}
+use Rattle.std.specs.Prelude.{ℕ, ◌+◌, ◌≡◌, ◌≢◌, ◌<◌, ◌≤◌, max, List, Bool, ◌&&◌, ◌==◌, if◌then◌else◌}
 use Rattle.tdb_locks.specs.declared.piece.Piece.{Piece}
 use Rattle.tdb_law.specs.Commands.{Turn, is_done}
 use Rattle.tdb_law.specs.Commands.Reply.{Memory}
 use Rattle.tdb_law.specs.Commands.Turn.{Step, Blocked, Ends}
-use Rattle.tdb_law.specs.Rows.{Lock}
+use Rattle.tdb_law.specs.Rows.{Lock, lock}
 use Rattle.tdb_law.specs.Held.{covers, locked, locked_next}
 use Rattle.tdb_law.specs.Effects.{IsFirstConflict, IsFree}
 use Rattle.tdb_steps.specs.Holdings.{table_of}
@@ -28,6 +28,12 @@ abbrev pub AttemptMade : (ℕ → ℕ) → ℕ → List Piece → List Piece →
 AttemptMade want owner old new Attempt.Taken = IsFree (table_of old) owner want × ((b : ℕ) → table_of new owner b ≡ max (want b) (table_of old owner b))
 AttemptMade want owner old new (Attempt.Blocked o byte) = IsFirstConflict (table_of old) owner want o byte × ((b : ℕ) → table_of new owner b ≡ table_of old owner b)
 AttemptMade want owner old new Attempt.Starved = (b : ℕ) → table_of new owner b ≡ 0
+
+-- The attempt to take the lock byte of the sequence number beside the opening lock: where it is blocked, that is let go.
+abbrev pub NumberMade : ℕ → List Piece → List Piece → Attempt → Type 0
+NumberMade owner old new (Attempt.Blocked o byte) =
+    IsFirstConflict (table_of old) owner (want_of (lock 1 48 49 2)) o byte × ((b : ℕ) → table_of new owner b ≡ (if b == 0 then 0 else table_of old owner b))
+NumberMade owner old new attempt = AttemptMade (want_of (lock 1 48 49 2)) owner old new attempt
 
 -- the turn of a world that an attempt makes
 abbrev pub attempt_turn : Attempt → Turn

@@ -1,2 +1,6 @@
 pub mod Holding
 pub mod Starts
+pub mod Commits
+pub mod Prepares
+pub mod Finishes
+pub mod Committings

@@ -2,4 +2,12 @@
 #![tactic(auto)]
 
 #[cfg(test)]
+mod changes;
+#[cfg(test)]
+mod commits;
+#[cfg(test)]
+mod kinds;
+#[cfg(test)]
+mod prepares;
+#[cfg(test)]
 mod starts;

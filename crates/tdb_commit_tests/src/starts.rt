@@ -1,5 +1,6 @@
 //! Starts over a small file in memory: the locks after each turn, what is in their way, and a sync that fails.
 
+use crate::kinds::kinds;
 use std::alloc::Global;
 use std::test::Fail;
 use tdb_commit::{StartTurn, Starting};
@@ -22,20 +23,6 @@ fn file(alloc: Global) -> Result<MemDisk, Fail> {
     Ok(MemDisk::new(alloc, &bytes)?)
 }
 
-/// What an opener holds of the opening lock, of the lock of transactions, of the free list, of two chains, and of a
-/// record: `r`, `w`, or `-` for nothing.
-fn kinds(locks: &Locks, owner: u32) -> [u8; 6] {
-    let mut kinds = [b'-'; 6];
-    for (kind, byte) in kinds.iter_mut().zip([0, 8, 164, 168, 448, 4064]) {
-        *kind = match locks.kind_of(owner, byte) {
-            Some(Kind::Read) => b'r',
-            Some(Kind::Write) => b'w',
-            None => b'-',
-        };
-    }
-    kinds
-}
-
 /// Takes a turn of opener 1: a word for what it led to, with who is in the way and of which byte; and what opener 1
 /// holds then.
 fn take_turn<D: Disk>(
@@ -43,7 +30,7 @@ fn take_turn<D: Disk>(
     start: Starting,
     disk: &mut D,
     locks: &mut Locks,
-) -> ((&'static str, u32, u64), [u8; 6]) {
+) -> ((&'static str, u32, u64), [u8; 7]) {
     let told = match start.step(alloc, disk, &HEADER, locks, 1) {
         Ok(StartTurn::Step(_)) => ("step", 0, 0),
         Ok(StartTurn::Blocked { owner, byte }) => ("blocked", owner, byte),
@@ -62,9 +49,9 @@ fn locks_of_a_start(rt: HostRuntime) -> Result<(), Fail> {
     let mut disk = file(alloc)?;
     let mut locks = Locks::new(alloc);
     let rows = [
-        (Starting::Begun, ("step", 0, 0), *b"-w----", 0),
-        (Starting::Claimed, ("step", 0, 0), *b"-w-rrr", 0),
-        (Starting::Reading, ("done", 0, 696), *b"-w-rrr", 1),
+        (Starting::Begun, ("step", 0, 0), *b"-w-----", 0),
+        (Starting::Claimed, ("step", 0, 0), *b"-w--rrr", 0),
+        (Starting::Reading, ("done", 0, 696), *b"-w--rrr", 1),
     ];
     for (start, word, held, syncs) in rows {
         assert_eq!(rt;
@@ -84,10 +71,10 @@ fn blocked_by_a_transaction(rt: HostRuntime) -> Result<(), Fail> {
     let mut locks = Locks::new(alloc);
     locks.try_lock(2, 8, Len::Bytes(1), Kind::Write)?;
     let blocked = take_turn(alloc, Starting::Begun, &mut disk, &mut locks);
-    assert_eq!(rt; blocked, (("blocked", 2, 8), *b"------"));
+    assert_eq!(rt; blocked, (("blocked", 2, 8), *b"-------"));
     locks.drop_owner(2);
     let taken = take_turn(alloc, Starting::Begun, &mut disk, &mut locks);
-    assert_eq!(rt; taken, (("step", 0, 0), *b"-w----"));
+    assert_eq!(rt; taken, (("step", 0, 0), *b"-w-----"));
     Ok(())
 }
 
@@ -101,9 +88,9 @@ fn blocked_by_writers(rt: HostRuntime) -> Result<(), Fail> {
     locks.try_lock(3, 448, Len::Bytes(1), Kind::Write)?;
     locks.try_lock(4, 168, Len::Bytes(1), Kind::Read)?;
     let rows = [
-        (3, ("blocked", 3, 448), *b"------"),
-        (2, ("blocked", 2, 4064), *b"------"),
-        (4, ("step", 0, 0), *b"---rrr"),
+        (3, ("blocked", 3, 448), *b"-------"),
+        (2, ("blocked", 2, 4064), *b"-------"),
+        (4, ("step", 0, 0), *b"----rrr"),
     ];
     for (owner, word, held) in rows {
         assert_eq!(rt;
@@ -116,7 +103,7 @@ fn blocked_by_writers(rt: HostRuntime) -> Result<(), Fail> {
 }
 
 /// A turn of a Start of opener 1 that holds all records for reading, on a disk of which no call succeeds.
-fn failing_turn(alloc: Global, inner: MemDisk, locks: &mut Locks) -> (&'static str, [u8; 6]) {
+fn failing_turn(alloc: Global, inner: MemDisk, locks: &mut Locks) -> (&'static str, [u8; 7]) {
     let mut disk = FuseDisk::new(inner, 0);
     let (told, kinds) = take_turn(alloc, Starting::Reading, &mut disk, locks);
     disk.inner();
@@ -130,6 +117,6 @@ fn sync_of_a_start_fails(rt: HostRuntime) -> Result<(), Fail> {
     let mut locks = Locks::new(alloc);
     locks.try_lock(1, 168, Len::ToEnd, Kind::Read)?;
     let told = failing_turn(alloc, file(alloc)?, &mut locks);
-    assert_eq!(rt; told, ("io", *b"---rrr"));
+    assert_eq!(rt; told, ("io", *b"----rrr"));
     Ok(())
 }
