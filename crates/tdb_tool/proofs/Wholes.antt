@@ -169,3 +169,13 @@ module _ (d heard told : Bool) (header : Header) (options : Options) (text : Lis
 
     pub rises_closed : (answer : Option SessionFault) → Closes answer → start.faults ≤ last.faults
     rises_closed answer ran = (let one = served.2.rises in let two = ran.rises in omega (arith, one, two))
+
+-- a session that was taken whole came as far as its end
+pub over_comes : (f : Form) (options : Options) (a : List ℕ) (commands : List Command) (b : List ℕ) (told : Bool) (before now : List ℕ) (p : SessionOver f options a commands b told before now)
+    → SessionCame f options a commands (state_in p.world b) told before now
+over_comes f options a commands b told before now p =
+    came f options a commands p.old p.loaded p.over told before now (state_in p.world b) (p.lines ++ p.last)
+    (subst (λ ls. ComesTo f p.old (law_plays (Play.Join ∷ doings commands) ++ law_plays closing) ls (state_in p.world b)) (sym (map-append law_line p.lines p.last))
+    (whole_comes f (law_plays (Play.Join ∷ doings commands) ++ law_plays closing) p.old (state_in p.world b) (law_lines p.lines ++ law_lines p.last)
+    (course_join f (law_plays (Play.Join ∷ doings commands)) (law_plays closing) p.old p.mid (state_in p.world b) (law_lines p.lines) (law_lines p.last) p.course p.closes)))
+    (λ heard. subst (λ t. WroteFront before t now) (sym (text_more p.lines p.last)) (wrote_more before (replies_text p.lines) (replies_text p.last) now (front_all before (replies_text p.lines) now (p.printed heard))))

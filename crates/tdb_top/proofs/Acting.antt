@@ -8,7 +8,7 @@ use Rattle.tdb_disk.specs.declared.files.TakeRefusal.{TakeRefusal}
 use Rattle.tdb_disk.specs.declared.files.TakeRefusal.TheVariants as Take
 use Rattle.tdb_top.specs.declared.act.Act.{Act}
 use Rattle.tdb_top.specs.declared.ask.Task.{Task}
-use Rattle.tdb_top.specs.declared.ask.Task.TheVariants.{Create, On, Read, Restore, Backup, Turns}
+use Rattle.tdb_top.specs.declared.ask.Task.TheVariants.{Create, On, Read, Restore, Backup, Turns, Session}
 use Rattle.tdb_top.specs.declared.commands.create.NewForm.{NewForm}
 use Rattle.tdb_top.specs.declared.commands.create.Creation as Making
 use Rattle.tdb_top.specs.declared.ending.Ending.{Ending}
@@ -26,6 +26,7 @@ use Rattle.tdb_top.specs.Ending.{TaskDue, Replies, Refuses, TaskCause, task_due,
 use Rattle.tdb_top.specs.Left.{ActLeaves, OnLeaves, MakingLeaves, TaskLeaves, Leaving}
 use Rattle.tdb_top.specs.Commands.Backup.{BackupCause}
 use Rattle.tdb_top.specs.Commands.Restore.{of_input, HeardBy}
+use Rattle.tdb_top.specs.Commands.Session.{StaysThere}
 use Rattle.tdb_top.specs.Commands.Turns.{TurnsLeave}
 use Rattle.tdb_world.specs.declared.options.Options.{Options}
 use Rattle.tdb_top.specs.Reads.{AskEnds}
@@ -142,6 +143,10 @@ turns_want : (options : Options) (held : Option History) → TurnsLeave options 
 turns_want options None = refl
 turns_want options (Some h) = (h, refl, inl (inr refl))
 
+stays_same : (held : Option History) → StaysThere held held
+stays_same None = refl
+stays_same (Some h) = (h, refl)
+
 task_wants : (input : Input) (task : Task) (file : List ℕ) (held : List ℕ → Option History) → TaskLeaves input task file held E.NoMemory held
 task_wants input (On act) file held = on_wants act (held file)
 task_wants input (Read look) file held = refl
@@ -153,6 +158,7 @@ task_wants input (Backup more suffix) file held = record {
   stopped = λ other. inr (record { kept = inl (inl refl); copy = refl; left = inl (inl refl) }, λ name among. refl);
 }
 task_wants input (Turns options) file held = turns_want options (held file)
+task_wants input (Session limit) file held = stays_same (held file)
 
 pub words_want : (input : Input) (ask : Option Ask) (held : List ℕ → Option History) → Leaving input ask held E.NoMemory held
 words_want input None held = λ name. refl

@@ -1,82 +1,32 @@
 -- Plays that are taken one after the other, and told as they are taken.
 use Rattle.std.proofs.Common.{◌≡◌, ℕ, ◌+◌, ◌-◌, ◌<◌, ◌≤◌, List, [], ◌∷◌, ◌++◌, length, length-append, take, drop, take-append-drop, slice_index_or, Result, Ok, Err, refl, sym, ◌∙◌, ap, subst, arith}
 use Rattle.std.specs.Prelude.{Bool, IsTrue, OnOk, OnErr, IfErr}
-use Rattle.std.proofs.lemmas.List.{append_assoc, append-nil, map-append, take_all, drop_more, drop-drop}
+use Rattle.std.proofs.lemmas.List.{append_assoc, append-nil, map-append, drop_more, drop-drop}
 use Rattle.std.proofs.lemmas.List.Concat.{flat_map-cons}
 use Rattle.std.proofs.lemmas.Grind.{flat_map-append}
 use Rattle.std.proofs.lemmas.List.{take-append-le}
-use Rattle.std.proofs.Math.Seq.{take-append-add, take-add}
+use Rattle.std.proofs.Math.Seq.{take-add}
 use Rattle.std.proofs.lemmas.Result.{on_ok_weaker, IfErr-weaker}
 use Rattle.tdb_disk.specs.Count.{Rose, HasCauseOf}
 use Rattle.tdb_space.specs.Form.{Form, form_in}
 use Rattle.tdb_backup.specs.Dump.{WroteFront}
 use Rattle.tdb_dump.specs.declared.writer.WriteRefusal.{WriteRefusal}
 use Rattle.tdb_dump.specs.declared.writer.WriteRefusal.TheVariants as Untold
-use Rattle.tdb_law.specs.Lines.{Line as LawLine}
-use Rattle.tdb_law.specs.Plays.{Play as LawPlay, Course}
+use Rattle.tdb_law.specs.Plays.{Course}
 use Rattle.tdb_law.specs.World.{State}
 use Rattle.tdb_plays.specs.InLaw.{law_play, law_plays, law_line, law_lines}
 use Rattle.tdb_plays.specs.declared.line.Line.{Line}
 use Rattle.tdb_plays.specs.declared.play.Play.{Play}
 use Rattle.tdb_script.specs.Text.{printed_line, report_text}
-use Rattle.tdb_world.specs.Played.{ComesTo, FirstBegun, begun_not, UnlessIo, OnIo}
+use Rattle.tdb_world.specs.Played.{ComesTo, UnlessIo, OnIo}
 use Rattle.tdb_world.specs.Worlds.{World, state_in, Stands, BytesStand}
 use Rattle.tdb_world.specs.declared.fault.RunFault.{RunFault}
 use Rattle.tdb_world.specs.declared.fault.RunFault.TheVariants as Run
+use Rattle.tdb_tool.proofs.Coming.{course_join, whole_comes, comes_more, comes_after}
+use Rattle.tdb_tool.proofs.Telling.{front_all, front_after}
 use Rattle.tdb_top.specs.declared.ending.Unprinted.TheVariants as Rest
 use Rattle.tdb_top.specs.declared.halt.Fault.TheVariants as F
 use Rattle.tdb_top.specs.Playing.{PlaysEnd, UnlessBroken, OnBroken, TellsAll, TellsFront, RunsTo, Scene, scene, Ran, end_of}
-
--- a course that goes on in another one
-course_join : (f : Form) (plays more : List LawPlay) (old mid new : State) (front rest : List LawLine) → Course f old plays front mid → Course f mid more rest new → Course f old (plays ++ more) (front ++ rest) new
-course_join f [] more old mid new front rest C D = subst (λ (q : State × List LawLine). Course f q.0 more q.1 new) (λ j. (C.1 j, sym (ap (λ ls. ls ++ rest) C.0) j)) D
-course_join f (play ∷ plays) more old mid new front rest C D =
-    (C.0, C.1, C.2 ++ rest, ap (λ ls. ls ++ rest) C.3 ∙ append_assoc C.1 C.2 rest, C.4, course_join f plays more C.0 mid new C.2 rest C.5 D)
-
--- one that is whole is as far as it came, and one that broke off may have been that of more plays
-pub whole_comes : (f : Form) (plays : List LawPlay) (old new : State) (lines : List LawLine) → Course f old plays lines new → ComesTo f old plays lines new
-whole_comes f plays old new lines C = record {
-  done = plays;
-  left = [];
-  parts = sym (append-nil plays);
-  mid = new;
-  front = lines;
-  rest = [];
-  told = sym (append-nil lines);
-  course = C;
-  begun = (refl, refl);
-}
-
-more_begun : (f : Form) (mid new : State) (left more : List LawPlay) (rest : List LawLine) → FirstBegun f mid left rest new → FirstBegun f mid (left ++ more) rest new
-more_begun f mid new [] [] rest B = B
-more_begun f mid new [] (play ∷ more) rest B = begun_not B.0 B.1
-more_begun f mid new (play ∷ left) more rest B = B
-
-comes_more : (f : Form) (plays more : List LawPlay) (old new : State) (lines : List LawLine) → ComesTo f old plays lines new → ComesTo f old (plays ++ more) lines new
-comes_more f plays more old new lines C = record {
-  done = C.done;
-  left = C.left ++ more;
-  parts = ap (λ ps. ps ++ more) C.parts ∙ append_assoc C.done C.left more;
-  mid = C.mid;
-  front = C.front;
-  rest = C.rest;
-  told = C.told;
-  course = C.course;
-  begun = more_begun f C.mid new C.left more C.rest C.begun;
-}
-
-comes_after : (f : Form) (plays more : List LawPlay) (old mid new : State) (front rest : List LawLine) → Course f old plays front mid → ComesTo f mid more rest new → ComesTo f old (plays ++ more) (front ++ rest) new
-comes_after f plays more old mid new front rest C D = record {
-  done = plays ++ D.done;
-  left = D.left;
-  parts = ap (λ ps. plays ++ ps) D.parts ∙ sym (append_assoc plays D.done D.left);
-  mid = D.mid;
-  front = front ++ D.front;
-  rest = D.rest;
-  told = ap (λ ls. front ++ ls) D.told ∙ sym (append_assoc front D.front D.rest);
-  course = course_join f plays D.done old mid D.mid front D.front C D.course;
-  begun = D.begun;
-}
 
 -- plays up to a place, the next one, and those behind it
 one_more : (i : ℕ) → i + 1 - i ≡ 1
@@ -96,19 +46,9 @@ slice_more plays i = ap (λ n. take i plays ++ take n (drop i plays)) (one_more 
 pub text_more : (lines more : List Line) → report_text (lines ++ more) ≡ report_text lines ++ report_text more
 text_more lines more = flat_map-append printed_line lines more
 
-pub front_all : (before text now : List ℕ) → now ≡ before ++ text → WroteFront before text now
-front_all before text now e = (length text, omega arith, e ∙ ap (λ t. before ++ t) (sym (take_whole text)))
-  where
-    take_whole : (t : List ℕ) → take (length t) t ≡ t
-    take_whole t = take_all (length t) t (omega arith)
-
 pub front_either : (T : Type 0) (before text now : List ℕ) (r : Result (Unit {0}) WriteRefusal) → OnOk r (T → now ≡ before ++ text) → OnErr r (T → WroteFront before text now) → T → WroteFront before text now
 front_either T before text now (Ok v) all front told = front_all before text now (all told)
 front_either T before text now (Err e) all front told = front told
-
-pub front_after : (before mid now one two : List ℕ) → mid ≡ before ++ one → WroteFront mid two now → WroteFront before (one ++ two) now
-front_after before mid now one two e w =
-    (length one + w.0, omega (arith, w.1, length-append one two), w.2 ∙ ap (λ m. m ++ take w.0 two) e ∙ append_assoc before one (take w.0 two) ∙ ap (λ t. before ++ t) (sym (take-append-add one two w.0)))
 
 -- a front of the text of a line, behind that of the lines before it
 pub told_front : (before mid now : List ℕ) (lines : List Line) (i : ℕ) (line : Line) → i < length lines → line ≡ slice_index_or lines i line → mid ≡ before ++ report_text (take i lines) → WroteFront mid (printed_line line) now → WroteFront before (report_text lines) now

@@ -26,3 +26,5 @@ pub mod Coming
 pub mod Over
 pub mod Served
 pub mod Turning
+pub mod Sessions
+pub mod SessionRuns

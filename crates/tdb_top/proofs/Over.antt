@@ -1,7 +1,7 @@
 -- Plays over an opened image, from a world just loaded.
 use Rattle.std.proofs.Common.{◌≡◌, ℕ, List, ◌++◌, Ok, Err, refl, sym, ◌∙◌, ap, subst}
 use Rattle.std.specs.Prelude.{Bool, IsTrue}
-use Rattle.tdb_space.specs.Form.{Form, form_in}
+use Rattle.tdb_space.specs.Form.{Form}
 use Rattle.tdb_backup.specs.Dump.{WroteFront}
 use Rattle.std.proofs.lemmas.List.{append_assoc, map-append}
 use Rattle.tdb_law.specs.Beginning.{IsLoaded, beginning}
@@ -16,15 +16,14 @@ use Rattle.tdb_world.specs.Finished.{unfinished}
 use Rattle.tdb_world.proofs.Finishing.{report_lawful}
 use Rattle.tdb_world.specs.Worlds.{World, state_in}
 use Rattle.tdb_world.specs.declared.options.Options.{Options}
-use Rattle.tdb_top.specs.Commands.Turns.{IsOver, LeadsTo, beginning_over, CameOver, report_so_far, report_whole}
+use Rattle.tdb_tool.proofs.Coming.{whole_comes}
+use Rattle.tdb_tool.proofs.Telling.{front_after}
+use Rattle.tdb_tool.specs.Whole.{IsOver, beginning_over}
+use Rattle.tdb_top.specs.Commands.Turns.{LeadsTo, CameOver, report_so_far, report_whole}
 use Rattle.tdb_top.specs.declared.ending.Unprinted.TheVariants as Rest
 use Rattle.tdb_top.specs.declared.halt.Fault.TheVariants as F
 use Rattle.tdb_top.specs.Playing.{PlaysEnd, IsUnbroken, TellsAll, TellsFront, RunsTo, PlayedFront, PlayedOver}
-use Rattle.tdb_top.proofs.Coming.{whole_comes, text_more, front_after}
-
--- a world whose header has this form is over the bytes of its file
-pub over_self : (f : Form) (w : World) (img : List ℕ) → form_in w.header ≡ f → IsOver f img (state_in w img)
-over_self f w img is = subst (λ g. IsOver g img (state_in w img)) is (record { file = refl; number = refl })
+use Rattle.tdb_top.proofs.Coming.{text_more}
 
 module _ (f : Form) (options : Options) (a : List ℕ) (plays : List Play) (old : State) (loaded : IsLoaded f old (options_of options)) (over : IsOver f a old) (told : Bool) where
   front_of : (new : State) (before now : List ℕ) → TellsFront f old plays new told before now → PlayedFront f options a told before now

@@ -8,7 +8,7 @@ use Rattle.tdb_space.specs.Opening.{Opens}
 use Rattle.tdb_top.specs.declared.act.Act.{Act}
 use Rattle.tdb_top.specs.declared.look.Look.{Look}
 use Rattle.tdb_top.specs.declared.ask.Task.{Task}
-use Rattle.tdb_top.specs.declared.ask.Task.TheVariants.{Create, On, Read, Restore, Backup, Turns}
+use Rattle.tdb_top.specs.declared.ask.Task.TheVariants.{Create, On, Read, Restore, Backup, Turns, Session}
 use Rattle.tdb_top.specs.declared.commands.create.NewForm.{NewForm}
 use Rattle.tdb_top.specs.declared.ending.Ending.{Ending}
 use Rattle.tdb_top.specs.declared.ending.Ending.TheVariants.{Replied, Refused, Missing, There, Usage, DeviceFault, InputFault, Malformed, NoMemory}
@@ -27,11 +27,12 @@ use Rattle.tdb_top.specs.Commands.Restore.{of_input, HeardBy}
 use Rattle.tdb_top.specs.Commands.Backup.{BackupLeaves, EndsBackup}
 use Rattle.tdb_top.specs.Input.{Input}
 use Rattle.tdb_top.specs.Output.{Output}
-use Rattle.tdb_top.specs.Reads.{reads_input, ask_reads, AskEnds}
+use Rattle.tdb_top.specs.Reads.{reads_input, ask_reads, takes_plays, ask_plays, AskEnds}
+use Rattle.tdb_top.specs.Commands.Session.{session_options, StaysThere}
 use Rattle.tdb_top.specs.Commands.Turns.{TurnOpened, IsPlayed, TurnsLeft, TurnsLeave}
 use Rattle.tdb_world.specs.declared.options.Options.{Options}
 use Rattle.tdb_top.specs.Opening.{opened_bytes, OpensToRead, HeldOrUndone, SameOrUndone, UndoneIfOpen}
-use Rattle.tdb_top.specs.Run.{Run, MayEnd, is_due, is_read, is_copied, is_played, call_failed, memory_wanting, TellsFault, ActsOn, LooksInto, RefusesExactly, KeepsAll, ActRun, MakingRun, RestoringRun, BackupRun, TurnsRun, IsCopyName, LeavesFiles, Accounted}
+use Rattle.tdb_top.specs.Run.{Run, MayEnd, is_due, is_read, is_copied, is_played, is_served, call_failed, memory_wanting, TellsFault, ActsOn, LooksInto, RefusesExactly, KeepsAll, EndsMidway, ActRun, MakingRun, RestoringRun, BackupRun, TurnsRun, SessionRun, IsCopyName, LeavesFiles, Accounted}
 use Rattle.tdb_top.proofs.Held.{same_or_other}
 use Rattle.tdb_top.proofs.Copies.{stopped_kept, stopped_weaker, backup_zero}
 use Rattle.tdb_top.proofs.OneAnswer.{due_one, refused_faulty, refused_three, read_faulty, read_three}
@@ -147,7 +148,7 @@ seven_tells (Missing name) seven = absurd (omega (arith, seven))
 seven_tells (There name) seven = absurd (omega (arith, seven))
 
 -- the status of a run that found this ending: its own; or 5, where there was no memory for a line that takes some; or 8
-abbrev Exits : ℕ → Ending → Type 0
+abbrev pub Exits : ℕ → Ending → Type 0
 Exits status t = (status ≡ status_of t) ⊎ ((status ≡ 5) × TakesMemory t) ⊎ (status ≡ 8)
 
 -- what a run has printed, where the files tell or not
@@ -188,8 +189,10 @@ pub asked_cause : (ask : Option Ask) (a : Ask) (held : List ℕ → Option Histo
 asked_cause ask a held input before after e is (inl (inl cause)) = task_caused ask a held input before after e is cause
 asked_cause ask a held input before after e is (inl (inr (inl ends))) =
     is_read e ends.limit a.file (sym is ∙ ap (λ t. Some (record { file = a.file; task = t })) ends.restores) ends.none ends.read
-asked_cause ask a held input before after e is (inl (inr (inr ends))) =
+asked_cause ask a held input before after e is (inl (inr (inr (inl ends)))) =
     is_played e ends.options a.file (sym is ∙ ap (λ t. Some (record { file = a.file; task = t })) ends.turns) ends.why
+asked_cause ask a held input before after e is (inl (inr (inr (inr ends)))) =
+    is_served e ends.limit a.file (sym is ∙ ap (λ t. Some (record { file = a.file; task = t })) ends.serves) ends.why
 asked_cause ask a held input before after e is (inr ends) =
     is_copied e ends.more ends.suffix a.file (sym is ∙ ap (λ t. Some (record { file = a.file; task = t })) ends.backs_up) ends.ends
 
@@ -207,6 +210,7 @@ look_or_restore ask look name limit other looks restores = reads_input_alone ask
 -- a backup is neither
 abbrev task_copies : Task → Bool
 task_copies (Turns options) = false
+task_copies (Session limit) = false
 task_copies (Backup more suffix) = true
 task_copies (On act) = false
 task_copies (Read look) = false
@@ -223,14 +227,24 @@ act_or_backup ask act name more suffix other acts copies = false≢true (ap asks
 look_or_backup : (ask : Option Ask) (look : Look) (name : List ℕ) (more : List (List ℕ)) (suffix other : List ℕ) → ask ≡ Some (record { file = name; task = Read look }) → ask ≡ Some (record { file = other; task = Backup more suffix }) → ⊥
 look_or_backup ask look name more suffix other looks copies = false≢true (ap asks_copies (sym looks ∙ copies))
 
+-- nothing is due of a task that takes plays
+plays_due : (task : Task) (name : List ℕ) (held : Option History) (e : Ending) → takes_plays task ≡ true → TaskDue task name held e → ⊥
+plays_due (On act) name held e plays due = false≢true plays
+plays_due (Read look) name held e plays due = false≢true plays
+plays_due (Create form) name held e plays due = false≢true plays
+plays_due (Restore limit) name held e plays due = false≢true plays
+plays_due (Backup more suffix) name held e plays due = due
+plays_due (Turns options) name held e plays due = due
+plays_due (Session limit) name held e plays due = due
+
 module _ (run : Run) (e : Ending) (cause : MayEnd run.ask run.old run.input run.faults_before run.faults_after e) (tells : Bool) (prints : Printed tells run e) where
   -- what the ending that is printed says of a status, where it is due, where a restore is asked for and no file is
-  -- there, and where a backup or turns are asked for
+  -- there, and where a backup, turns or a session are asked for
   abbrev Copies : Type 0 → Type 0
   Copies P = (more : List (List ℕ)) (suffix name : List ℕ) → run.ask ≡ Some (record { file = name; task = Backup more suffix }) → P
 
   abbrev Plays : Type 0 → Type 0
-  Plays P = (options : Options) (name : List ℕ) → run.ask ≡ Some (record { file = name; task = Turns options }) → P
+  Plays P = (task : Task) (name : List ℕ) → run.ask ≡ Some (record { file = name; task = task }) → takes_plays task ≡ true → P
 
   status_where : (P : ℕ → Type 0) → (Due run.ask run.old e → P (status_of e)) → ((limit : ℕ) (name : List ℕ) → run.ask ≡ Some (record { file = name; task = Restore limit }) → run.old name ≡ None → P (status_of e)) → Copies (P (status_of e)) → Plays (P (status_of e)) → P run.status ⊎ TellsFault run.status
   status_where P due read copies play = of e cause prints due read copies play
@@ -241,7 +255,8 @@ module _ (run : Run) (e : Ending) (cause : MayEnd run.ask run.old run.input run.
       of _ (is_due x d) (inl all) due read copies play = inl (subst P (sym all.exits) (due d))
       of _ (is_read x limit name asks none so) (inl all) due read copies play = inl (subst P (sym all.exits) (read limit name asks none))
       of _ (is_copied x more suffix name asks ends) (inl all) due read copies play = inl (subst P (sym all.exits) (copies more suffix name asks))
-      of _ (is_played x options name asks so) (inl all) due read copies play = inl (subst P (sym all.exits) (play options name asks))
+      of _ (is_played x options name asks so) (inl all) due read copies play = inl (subst P (sym all.exits) (play (Turns options) name asks refl))
+      of _ (is_served x limit name asks so) (inl all) due read copies play = inl (subst P (sym all.exits) (play (Session limit) name asks refl))
       of _ (call_failed a asks rose) (inl all) due read copies play = inr (inl all.exits)
       of _ memory_wanting (inl all) due read copies play = inr (inr (inl all.exits))
 
@@ -250,7 +265,7 @@ module _ (run : Run) (e : Ending) (cause : MayEnd run.ask run.old run.input run.
   exactly x due = status_where (λ n. n ≡ status_of x) (λ d. ap status_of (due_one run.ask run.old e x d due))
       (λ limit name asks none. absurd (subst (λ o. TaskDue (Restore limit) name o x) none (subst (λ a. Due a run.old x) asks due)))
       (λ more suffix name asks. absurd (subst (λ a. Due a run.old x) asks due))
-      (λ options name asks. absurd (subst (λ a. Due a run.old x) asks due))
+      (λ task name asks plays. absurd (plays_due task name (run.old name) x plays (subst (λ a. Due a run.old x) asks due)))
 
   -- an act or a look is neither a restore nor a backup
   no_act : (P : Type 0) (act : Act) (name : List ℕ) (h : History) → ActsOn run act name h → (limit : ℕ) (other : List ℕ) → run.ask ≡ Some (record { file = other; task = Restore limit }) → P
@@ -265,12 +280,12 @@ module _ (run : Run) (e : Ending) (cause : MayEnd run.ask run.old run.input run.
   no_look_copies : (P : Type 0) (look : Look) (name : List ℕ) (h : History) → LooksInto run look name h → Copies P
   no_look_copies P look name h into more suffix other asks = absurd (look_or_backup run.ask look name more suffix other into.asks asks)
 
-  -- nor turns
-  act_no_turns : (P : Type 0) (act : Act) (name : List ℕ) (h : History) → ActsOn run act name h → (options : Options) (other : List ℕ) → run.ask ≡ Some (record { file = other; task = Turns options }) → P
-  act_no_turns P act name h acts options other asks = absurd (reads_input_alone run.ask (On act) name (Turns options) other acts.asks asks refl refl)
+  -- nor turns, nor a session
+  act_no_plays : (P : Type 0) (act : Act) (name : List ℕ) (h : History) → ActsOn run act name h → Plays P
+  act_no_plays P act name h acts task other asks plays = absurd (false≢true (ap ask_plays (sym acts.asks ∙ asks) ∙ plays))
 
-  look_no_turns : (P : Type 0) (look : Look) (name : List ℕ) (h : History) → LooksInto run look name h → (options : Options) (other : List ℕ) → run.ask ≡ Some (record { file = other; task = Turns options }) → P
-  look_no_turns P look name h into options other asks = absurd (reads_input_alone run.ask (Read look) name (Turns options) other into.asks asks refl refl)
+  look_no_plays : (P : Type 0) (look : Look) (name : List ℕ) (h : History) → LooksInto run look name h → Plays P
+  look_no_plays P look name h into task other asks plays = absurd (false≢true (ap ask_plays (sym into.asks ∙ asks) ∙ plays))
 
   -- what is due of an act on a file that is there
   act_due : (act : Act) (name : List ℕ) (h : History) → ActsOn run act name h → Due run.ask run.old e → Replies act (seen h) e ⊎ Refuses (seen h) e
@@ -303,13 +318,13 @@ module _ (run : Run) (e : Ending) (cause : MayEnd run.ask run.old run.input run.
   no_three (inr (inr is)) three = absurd (omega (arith, is, three))
 
   only_faulty : (act : Act) (name : List ℕ) (h : History) → ActsOn run act name h → run.status ≡ 3 → Opens (seen h) → ⊥
-  only_faulty act name h acts three opens = elim (status_where (λ n. n ≡ 3 → ⊥) (λ d. not_three act h opens (act_due act name h acts d)) (λ limit other asks none. no_act (status_of e ≡ 3 → ⊥) act name h acts limit other asks) (no_act_copies (status_of e ≡ 3 → ⊥) act name h acts) (λ options other asks. act_no_turns (status_of e ≡ 3 → ⊥) act name h acts options other asks)) [
+  only_faulty act name h acts three opens = elim (status_where (λ n. n ≡ 3 → ⊥) (λ d. not_three act h opens (act_due act name h acts d)) (λ limit other asks none. no_act (status_of e ≡ 3 → ⊥) act name h acts limit other asks) (no_act_copies (status_of e ≡ 3 → ⊥) act name h acts) (act_no_plays (status_of e ≡ 3 → ⊥) act name h acts)) [
     | inl other ↦ other three
     | inr fault ↦ no_three fault three
   ]
 
   read_only_faulty : (look : Look) (name : List ℕ) (h : History) → LooksInto run look name h → run.status ≡ 3 → OpensToRead (seen h) → ⊥
-  read_only_faulty look name h into three opens = elim (status_where (λ n. n ≡ 3 → ⊥) (λ d. read_not_three look h opens (look_due look name h into d)) (λ limit other asks none. no_look (status_of e ≡ 3 → ⊥) look name h into limit other asks) (no_look_copies (status_of e ≡ 3 → ⊥) look name h into) (λ options other asks. look_no_turns (status_of e ≡ 3 → ⊥) look name h into options other asks)) [
+  read_only_faulty look name h into three opens = elim (status_where (λ n. n ≡ 3 → ⊥) (λ d. read_not_three look h opens (look_due look name h into d)) (λ limit other asks none. no_look (status_of e ≡ 3 → ⊥) look name h into limit other asks) (no_look_copies (status_of e ≡ 3 → ⊥) look name h into) (look_no_plays (status_of e ≡ 3 → ⊥) look name h into)) [
     | inl other ↦ other three
     | inr fault ↦ no_three fault three
   ]
@@ -317,9 +332,9 @@ module _ (run : Run) (e : Ending) (cause : MayEnd run.ask run.old run.input run.
   pub refuses_exactly : RefusesExactly run
   refuses_exactly = record {
     only = only_faulty;
-    exact = λ act name h acts faulty short. status_where (λ n. n ≡ 3) (λ d. three_due act h faulty short (act_due act name h acts d)) (λ limit other asks none. no_act (status_of e ≡ 3) act name h acts limit other asks) (no_act_copies (status_of e ≡ 3) act name h acts) (λ options other asks. act_no_turns (status_of e ≡ 3) act name h acts options other asks);
+    exact = λ act name h acts faulty short. status_where (λ n. n ≡ 3) (λ d. three_due act h faulty short (act_due act name h acts d)) (λ limit other asks none. no_act (status_of e ≡ 3) act name h acts limit other asks) (no_act_copies (status_of e ≡ 3) act name h acts) (act_no_plays (status_of e ≡ 3) act name h acts);
     read_only = read_only_faulty;
-    read_exact = λ look name h into faulty short. status_where (λ n. n ≡ 3) (λ d. read_three_due look h faulty short (look_due look name h into d)) (λ limit other asks none. no_look (status_of e ≡ 3) look name h into limit other asks) (no_look_copies (status_of e ≡ 3) look name h into) (λ options other asks. look_no_turns (status_of e ≡ 3) look name h into options other asks);
+    read_exact = λ look name h into faulty short. status_where (λ n. n ≡ 3) (λ d. read_three_due look h faulty short (look_due look name h into d)) (λ limit other asks none. no_look (status_of e ≡ 3) look name h into limit other asks) (no_look_copies (status_of e ≡ 3) look name h into) (look_no_plays (status_of e ≡ 3) look name h into);
   }
 
 -- an act that didn't reply that it is done left the file as it was opened
@@ -346,7 +361,7 @@ module _ (before after status : ℕ) where
   own_reply reply (inr (inl want)) is = absurd (omega (arith, want.0, is))
   own_reply reply (inr (inr eight)) is = absurd (omega (arith, eight, is))
 
-  refusal_apart : (r : Refusal) → Exits status (Refused r) → (status ≡ 0) ⊎ (status ≡ 4) → ⊥
+  pub refusal_apart : (r : Refusal) → Exits status (Refused r) → (status ≡ 0) ⊎ (status ≡ 4) → ⊥
   refusal_apart r (inl own) (inl other) = refusal_not r 0 (λ z. absurd (omega (arith, z))) (λ z. absurd (omega (arith, z))) (sym own ∙ other)
   refusal_apart r (inl own) (inr other) = refusal_not r 4 (λ z. absurd (omega (arith, z))) (λ z. absurd (omega (arith, z))) (sym own ∙ other)
   refusal_apart r (inr (inl want)) (inl other) = absurd (omega (arith, want.0, other))
@@ -355,31 +370,31 @@ module _ (before after status : ℕ) where
   refusal_apart r (inr (inr eight)) (inr other) = absurd (omega (arith, eight, other))
 
   -- a failed call has status 4 or 8, and want of memory 5 or 8
-  fault_exits : Exits status DeviceFault → (status ≡ 4) ⊎ (status ≡ 8)
+  pub fault_exits : Exits status DeviceFault → (status ≡ 4) ⊎ (status ≡ 8)
   fault_exits (inl own) = inl own
   fault_exits (inr (inl want)) = absurd (false≢true want.1)
   fault_exits (inr (inr eight)) = inr eight
 
-  memory_exits : Exits status NoMemory → (status ≡ 5) ⊎ (status ≡ 8)
+  pub memory_exits : Exits status NoMemory → (status ≡ 5) ⊎ (status ≡ 8)
   memory_exits (inl own) = inl own
   memory_exits (inr (inl want)) = inl want.0
   memory_exits (inr (inr eight)) = inr eight
 
-  fault_no_done : (status ≡ 4) ⊎ (status ≡ 8) → status ≡ 0 → ⊥
+  pub fault_no_done : (status ≡ 4) ⊎ (status ≡ 8) → status ≡ 0 → ⊥
   fault_no_done (inl is) done = absurd (omega (arith, is, done))
   fault_no_done (inr is) done = absurd (omega (arith, is, done))
 
-  fault_no_keep : (status ≡ 4) ⊎ (status ≡ 8) → KeepsAll status → ⊥
+  pub fault_no_keep : (status ≡ 4) ⊎ (status ≡ 8) → KeepsAll status → ⊥
   fault_no_keep (inl is) keeps = keeps.1 is
   fault_no_keep (inr is) keeps = keeps.2 is
 
-  memory_apart : (status ≡ 5) ⊎ (status ≡ 8) → (status ≡ 0) ⊎ (status ≡ 4) → ⊥
+  pub memory_apart : (status ≡ 5) ⊎ (status ≡ 8) → (status ≡ 0) ⊎ (status ≡ 4) → ⊥
   memory_apart (inl is) (inl other) = absurd (omega (arith, is, other))
   memory_apart (inl is) (inr other) = absurd (omega (arith, is, other))
   memory_apart (inr is) (inl other) = absurd (omega (arith, is, other))
   memory_apart (inr is) (inr other) = absurd (omega (arith, is, other))
 
-  memory_no_keep : (status ≡ 5) ⊎ (status ≡ 8) → KeepsAll status → (status ≡ 5 → ⊥) → ⊥
+  pub memory_no_keep : (status ≡ 5) ⊎ (status ≡ 8) → KeepsAll status → (status ≡ 5 → ⊥) → ⊥
   memory_no_keep (inl is) keeps other = other is
   memory_no_keep (inr is) keeps other = keeps.2 is
 
@@ -499,26 +514,9 @@ module _ (before after status : ℕ) where
       ended t known (inr (inr eight)) is = absurd (omega (arith, eight, is))
 
 -- what an opening for turns leaves is as it was, or undone
-opened_same : (options : Options) (old now : History) → TurnOpened options old now → SameOrUndone old now
+pub opened_same : (options : Options) (old now : History) → TurnOpened options old now → SameOrUndone old now
 opened_same options old now (inl same) = inr same.1
 opened_same options old now (inr left) = same_or_undone old now left
-
--- whether a task takes turns
-abbrev pub reads_turns : Task → Bool
-reads_turns (On act) = false
-reads_turns (Read look) = false
-reads_turns (Create form) = false
-reads_turns (Restore limit) = false
-reads_turns (Backup more suffix) = false
-reads_turns (Turns options) = true
-
-turns_of : (task : Task) → reads_turns task ≡ true → (options : Options) × (task ≡ Turns options)
-turns_of (On act) is = absurd (false≢true is)
-turns_of (Read look) is = absurd (false≢true is)
-turns_of (Create form) is = absurd (false≢true is)
-turns_of (Restore limit) is = absurd (false≢true is)
-turns_of (Backup more suffix) is = absurd (false≢true is)
-turns_of (Turns options) is = (options, refl)
 
 -- how often calls of the files had failed by a run that is asked for this: where the files tell, as by every run
 pub asked_counted : (tells : Bool) (ask : Option Ask) (before after : ℕ) (t : Ending) → tells ≡ true → CountedAsked tells ask before after t → CountedBy before after t
@@ -532,18 +530,20 @@ asked_counted tells (Some ask) before after t told counted = of ask.task counted
     of (Restore limit) counted = counted
     of (Backup more suffix) counted = counted
     of (Turns options) counted = record { never_falls = counted.never_falls; failed = λ is. counted.failed is told; sound = counted.sound }
+    of (Session limit) counted = record { never_falls = counted.never_falls; failed = λ is. counted.failed is told; sound = counted.sound }
 
-pub asked_failed : (tells : Bool) (ask : Option Ask) (before after : ℕ) (t : Ending) → CountedAsked tells ask before after t → t ≡ DeviceFault → ((options : Options) (name : List ℕ) → ask ≡ Some (record { file = name; task = Turns options }) → ⊥) → Rose before after
+pub asked_failed : (tells : Bool) (ask : Option Ask) (before after : ℕ) (t : Ending) → CountedAsked tells ask before after t → t ≡ DeviceFault → ask_plays ask ≡ false → Rose before after
 asked_failed tells None before after t counted is none = counted.failed is
-asked_failed tells (Some ask) before after t counted is none = of ask.task refl counted
+asked_failed tells (Some ask) before after t counted is none = of ask.task none counted
   where
-    of : (task : Task) → ask.task ≡ task → CountedFor tells task before after t → Rose before after
-    of (On act) same counted = counted.failed is
-    of (Read look) same counted = counted.failed is
-    of (Create form) same counted = counted.failed is
-    of (Restore limit) same counted = counted.failed is
-    of (Backup more suffix) same counted = counted.failed is
-    of (Turns options) same counted = absurd (none options ask.file (ap (λ task. Some (record { file = ask.file; task = task })) same))
+    of : (task : Task) → takes_plays task ≡ false → CountedFor tells task before after t → Rose before after
+    of (On act) none counted = counted.failed is
+    of (Read look) none counted = counted.failed is
+    of (Create form) none counted = counted.failed is
+    of (Restore limit) none counted = counted.failed is
+    of (Backup more suffix) none counted = counted.failed is
+    of (Turns options) none counted = absurd (false≢true (sym none))
+    of (Session limit) none counted = absurd (false≢true (sym none))
 
 pub asked_sound : (tells : Bool) (ask : Option Ask) (before after : ℕ) (t : Ending) → CountedAsked tells ask before after t → (t ≡ DeviceFault → ⊥) → after ≡ before
 asked_sound tells None before after t counted other = counted.sound other
@@ -556,44 +556,45 @@ asked_sound tells (Some ask) before after t counted other = of ask.task counted
     of (Restore limit) counted = counted.sound other
     of (Backup more suffix) counted = counted.sound other
     of (Turns options) counted = counted.sound other
+    of (Session limit) counted = counted.sound other
 
 module _ (before after status : ℕ) where
   -- turns that were played have status 0 or 8
-  played_exits : (reply : Reply) → reply ≡ Played → Exits status (Replied reply) → (status ≡ 0) ⊎ (status ≡ 8)
+  pub played_exits : (reply : Reply) → reply ≡ Played → Exits status (Replied reply) → (status ≡ 0) ⊎ (status ≡ 8)
   played_exits reply is (inl own) = inl (own ∙ ap (λ r. status_of (Replied r)) is)
   played_exits reply is (inr (inl want)) = absurd (false≢true (subst (λ r. TakesMemory (Replied r)) is want.1))
   played_exits reply is (inr (inr eight)) = inr eight
 
-  unheard_exits : Exits status InputFault → status ≡ 8
+  pub unheard_exits : Exits status InputFault → status ≡ 8
   unheard_exits (inl own) = own
   unheard_exits (inr (inl want)) = absurd (false≢true want.1)
   unheard_exits (inr (inr eight)) = eight
 
-  malformed_exits : (at : ℕ) → Exits status (Malformed at) → (status ≡ 7) ⊎ (status ≡ 5) ⊎ (status ≡ 8)
+  pub malformed_exits : (at : ℕ) → Exits status (Malformed at) → (status ≡ 7) ⊎ (status ≡ 5) ⊎ (status ≡ 8)
   malformed_exits at (inl own) = inl own
   malformed_exits at (inr (inl want)) = inr (inl want.0)
   malformed_exits at (inr (inr eight)) = inr (inr eight)
 
-  refused_seven : (r : Refusal) → Exits status (Refused r) → status ≡ 7 → ⊥
+  pub refused_seven : (r : Refusal) → Exits status (Refused r) → status ≡ 7 → ⊥
   refused_seven r (inl own) seven = refusal_not r 7 (λ z. absurd (omega (arith, z))) (λ z. absurd (omega (arith, z))) (sym own ∙ seven)
   refused_seven r (inr (inl want)) seven = absurd (omega (arith, want.0, seven))
   refused_seven r (inr (inr eight)) seven = absurd (omega (arith, eight, seven))
 
-  either_not : (a b n : ℕ) → (a ≡ n → ⊥) → (b ≡ n → ⊥) → (status ≡ a) ⊎ (status ≡ b) → status ≡ n → ⊥
+  pub either_not : (a b n : ℕ) → (a ≡ n → ⊥) → (b ≡ n → ⊥) → (status ≡ a) ⊎ (status ≡ b) → status ≡ n → ⊥
   either_not a b n p q (inl is) e = p (sym is ∙ e)
   either_not a b n p q (inr is) e = q (sym is ∙ e)
 
-  malformed_kept : (status ≡ 7) ⊎ (status ≡ 5) ⊎ (status ≡ 8) → KeepsAll status → (status ≡ 5 → ⊥) → (status ≡ 7 → ⊥) → ⊥
+  pub malformed_kept : (status ≡ 7) ⊎ (status ≡ 5) ⊎ (status ≡ 8) → KeepsAll status → (status ≡ 5 → ⊥) → (status ≡ 7 → ⊥) → ⊥
   malformed_kept (inl is) keeps five seven = seven is
   malformed_kept (inr (inl is)) keeps five seven = five is
   malformed_kept (inr (inr is)) keeps five seven = keeps.2 is
 
-  malformed_four : (status ≡ 7) ⊎ (status ≡ 5) ⊎ (status ≡ 8) → status ≡ 4 → ⊥
+  pub malformed_four : (status ≡ 7) ⊎ (status ≡ 5) ⊎ (status ≡ 8) → status ≡ 4 → ⊥
   malformed_four (inl is) four = absurd (omega (arith, is, four))
   malformed_four (inr (inl is)) four = absurd (omega (arith, is, four))
   malformed_four (inr (inr is)) four = absurd (omega (arith, is, four))
 
-  played_kept : (status ≡ 0) ⊎ (status ≡ 8) → KeepsAll status → ⊥
+  pub played_kept : (status ≡ 0) ⊎ (status ≡ 8) → KeepsAll status → ⊥
   played_kept (inl is) keeps = keeps.0 is
   played_kept (inr is) keeps = keeps.2 is
 
@@ -675,7 +676,8 @@ module _ (before after status : ℕ) where
   turns_same options old now Usage out keeps five left = absurd left
 
 module _ (run : Run) (t : Ending) (out : Exits run.status t) (counted : CountedBy run.faults_before run.faults_after t) (silent : IsSilent t → run.status ≡ 0) (left : Leaving run.input run.ask run.old t run.now)
-    (whole : (options : Options) (name : List ℕ) (old now : History) → run.ask ≡ Some (record { file = name; task = Turns options }) → run.old name ≡ Some old → run.now name ≡ Some now → run.status ≡ 0 → IsPlayed options run.input run.output old now) where
+    (whole : (options : Options) (name : List ℕ) (old now : History) → run.ask ≡ Some (record { file = name; task = Turns options }) → run.old name ≡ Some old → run.now name ≡ Some now → run.status ≡ 0 → IsPlayed options run.input run.output old now)
+    (serve : (limit : ℕ) (name : List ℕ) (old now : History) → run.ask ≡ Some (record { file = name; task = Session limit }) → run.old name ≡ Some old → run.now name ≡ Some now → SessionRun limit run.input run.output old run.faults_before run.faults_after run.status now) where
   -- what the run leaves at the name of the task that it is asked for
   asked_left : (task : Task) (name : List ℕ) → run.ask ≡ Some (record { file = name; task = task }) → TaskLeaves run.input task name run.old t run.now
   asked_left task name asks = (subst (λ a. Leaving run.input a run.old t run.now) asks left).1
@@ -699,6 +701,12 @@ module _ (run : Run) (t : Ending) (out : Exits run.status t) (counted : CountedB
   turned options name old asks there =
       let at = subst (λ o. TurnsLeave options o t (run.now name)) there (asked_left (Turns options) name asks) in
       (at.0, at.1, turns_run run.faults_before run.faults_after run.status options run.input run.output old at.0 t out counted (whole options name old at.0 asks there at.1) at.2)
+
+  served : (limit : ℕ) (name : List ℕ) (old : History) → run.ask ≡ Some (record { file = name; task = Session limit }) → run.old name ≡ Some old
+      → (h : History) × (run.now name ≡ Some h) × SessionRun limit run.input run.output old run.faults_before run.faults_after run.status h
+  served limit name old asks there =
+      let at = subst (λ o. StaysThere o (run.now name)) there (asked_left (Session limit) name asks) in
+      (at.0, at.1, serve limit name old at.0 asks there at.1)
 
   others : (name : List ℕ) → ((ask : Ask) → run.ask ≡ Some ask → MayChange ask.task ask.file name → ⊥) → run.now name ≡ run.old name
   others name none = of run.ask left none
@@ -733,32 +741,39 @@ module _ (run : Run) (t : Ending) (out : Exits run.status t) (counted : CountedB
   file_kept keeps five options name None at = inl at
   file_kept keeps five options name (Some old) at = turns_kept keeps five options name old at
 
-  task_kept : KeepsAll run.status → (task : Task) (file name : List ℕ) → (reads_turns task ≡ true → run.status ≡ 5 → ⊥) → SameElse task file run.old run.now → TaskLeaves run.input task file run.old t run.now
+  session_kept : KeepsAll run.status → (limit : ℕ) (name : List ℕ) → (EndsMidway (Session limit) run.status → ⊥) → run.ask ≡ Some (record { file = name; task = Session limit })
+      → (old : Option History) → run.old name ≡ old → StaysThere old (run.now name) → HeldOrUndone old (run.now name)
+  session_kept keeps limit name midway asks None there at = inl at
+  session_kept keeps limit name midway asks (Some old) there at =
+      elim (opened_same (session_options limit) old at.0 ((serve limit name old at.0 asks there at.1).kept keeps (λ is. midway (inl is)) (λ is. midway (inr is)))) [
+        | inl undone ↦ inr (old, at.0, refl, at.1, undone)
+        | inr same ↦ inl (at.1 ∙ ap Some same)
+      ]
+
+  task_kept : KeepsAll run.status → (task : Task) (file name : List ℕ) → run.ask ≡ Some (record { file = file; task = task }) → (EndsMidway task run.status → ⊥) → SameElse task file run.old run.now → TaskLeaves run.input task file run.old t run.now
       → (IsCopyName (Some (record { file = file; task = task })) name → ⊥) → HeldOrUndone (run.old name) (run.now name)
-  task_kept keeps (On act) file name five same at copy = at_name name file (on_kept keeps act file (run.old file) at) (same name)
-  task_kept keeps (Read look) file name five same at copy = at_name name file (inl at) (same name)
-  task_kept keeps (Create form) file name five same at copy = at_name name file (inl ((making_run run.faults_before run.faults_after run.status form (run.old file) (run.now file) t out counted at).kept keeps)) (same name)
-  task_kept keeps (Restore limit) file name five same at copy =
+  task_kept keeps (On act) file name asks midway same at copy = at_name name file (on_kept keeps act file (run.old file) at) (same name)
+  task_kept keeps (Read look) file name asks midway same at copy = at_name name file (inl at) (same name)
+  task_kept keeps (Create form) file name asks midway same at copy = at_name name file (inl ((making_run run.faults_before run.faults_after run.status form (run.old file) (run.now file) t out counted at).kept keeps)) (same name)
+  task_kept keeps (Restore limit) file name asks midway same at copy =
       at_name name file
       (elim ((restoring_run run.faults_before run.faults_after run.status run.input (run.old file) (run.now file) t out counted (λ done. silent (inl done)) at).kept keeps.0 keeps.1) [
         | inl held ↦ inl held
         | inr eight ↦ absurd (keeps.2 eight.0)
       ])
       (same name)
-  task_kept keeps (Backup more suffix) file name five same at copy =
+  task_kept keeps (Backup more suffix) file name asks midway same at copy =
       stopped_kept suffix run.old run.now _ (λ broken. elim broken.0 [ inl four ↦ keeps.1 four | inr eight ↦ keeps.2 eight ]) (file ∷ more)
       ((backup_run run.faults_before run.faults_after run.status suffix (file ∷ more) run.old run.now t out counted (λ done. silent (inr done)) at).stopped keeps.0) name (λ among. copy (more, suffix, file, refl, among)) (same name)
-  task_kept keeps (Turns options) file name five same at copy = at_name name file (file_kept keeps (five refl) options file (run.old file) at) (same name)
+  task_kept keeps (Turns options) file name asks midway same at copy = at_name name file (file_kept keeps midway options file (run.old file) at) (same name)
+  task_kept keeps (Session limit) file name asks midway same at copy = at_name name file (session_kept keeps limit file midway asks (run.old file) refl at) (same name)
 
-  kept : KeepsAll run.status → ((options : Options) (name : List ℕ) → run.ask ≡ Some (record { file = name; task = Turns options }) → run.status ≡ 5 → ⊥) → (name : List ℕ) → (IsCopyName run.ask name → ⊥) → HeldOrUndone (run.old name) (run.now name)
-  kept keeps other name copy = of run.ask left copy refl
+  kept : KeepsAll run.status → ((ask : Ask) → run.ask ≡ Some ask → EndsMidway ask.task run.status → ⊥) → (name : List ℕ) → (IsCopyName run.ask name → ⊥) → HeldOrUndone (run.old name) (run.now name)
+  kept keeps midway name copy = of run.ask left copy refl
     where
-      wants : (ask : Option Ask) (a : Ask) → run.ask ≡ ask → ask ≡ Some a → reads_turns a.task ≡ true → run.status ≡ 5 → ⊥
-      wants ask a same is turns = let (options, e) = turns_of a.task turns in other options a.file (same ∙ is ∙ ap (λ task. Some (record { file = a.file; task = task })) e)
-
       of : (ask : Option Ask) → Leaving run.input ask run.old t run.now → (IsCopyName ask name → ⊥) → run.ask ≡ ask → HeldOrUndone (run.old name) (run.now name)
       of None left copy is = inl (left name)
-      of (Some a) left copy is = task_kept keeps a.task a.file name (wants (Some a) a is refl) left.0 left.1 copy
+      of (Some a) left copy is = task_kept keeps a.task a.file name is (midway a is) left.0 left.1 copy
 
   pub leaves_files : LeavesFiles run
   leaves_files = record {
@@ -771,11 +786,13 @@ module _ (run : Run) (t : Ending) (out : Exits run.status t) (counted : CountedB
     read = λ look name asks. asked_left (Read look) name asks;
     turned = turned;
     unturned = λ options name asks none. subst (λ o. TurnsLeave options o t (run.now name)) none (asked_left (Turns options) name asks);
+    served = served;
+    unserved = λ limit name asks none. subst (λ o. StaysThere o (run.now name)) none (asked_left (Session limit) name asks);
     kept = kept;
   }
 
 -- what a run's status tells whatever the files tell
-module _ (tells : Bool) (run : Run) (e t : Ending) (printed : PrintedFor e t) (prints : Printed tells run e) (failed : t ≡ DeviceFault → ((options : Options) (name : List ℕ) → run.ask ≡ Some (record { file = name; task = Turns options }) → ⊥) → Rose run.faults_before run.faults_after)
+module _ (tells : Bool) (run : Run) (e t : Ending) (printed : PrintedFor e t) (prints : Printed tells run e) (failed : t ≡ DeviceFault → ask_plays run.ask ≡ false → Rose run.faults_before run.faults_after)
     (sound : (t ≡ DeviceFault → ⊥) → run.faults_after ≡ run.faults_before) (usage : t ≡ Usage → run.ask ≡ None) (usage_exact : run.ask ≡ None → (t ≡ Usage) ⊎ (t ≡ NoMemory))
     (heard : HeardBy run.input.faults_before run.input.faults_after t) (unread : ask_reads run.ask ≡ false → of_input t ≡ false) where
   -- the ending that is printed is the one that was found, where it isn't want of memory
@@ -805,7 +822,7 @@ module _ (tells : Bool) (run : Run) (e t : Ending) (printed : PrintedFor e t) (p
       of (inr (inl want)) which = (1, omega arith, sym want.0)
       of (inr (inr eight)) which = (2, omega arith, sym eight)
 
-  fault_rose : run.status ≡ 4 → ((options : Options) (name : List ℕ) → run.ask ≡ Some (record { file = name; task = Turns options }) → ⊥) → Rose run.faults_before run.faults_after
+  fault_rose : run.status ≡ 4 → ask_plays run.ask ≡ false → Rose run.faults_before run.faults_after
   fault_rose is none =
       let same : e ≡ DeviceFault = fault_alone e (own_status 4 (λ x. absurd (omega (arith, x))) is) in
       failed (found (λ wants. let both : DeviceFault ≡ NoMemory = sym same ∙ wants in cc) ∙ same) none

@@ -20,6 +20,7 @@ use Rattle.tdb_script.proofs.PartLemmas.{stays_bad}
 use Rattle.tdb_script.specs.Text.{report_text}
 use Rattle.tdb_world.specs.Finished.{unfinished}
 use Rattle.tdb_world.specs.declared.options.Options.{Options}
+use Rattle.tdb_tool.proofs.Coming.{whole_comes}
 use Rattle.tdb_top.specs.declared.ask.Task.TheVariants.{Turns}
 use Rattle.tdb_top.specs.declared.ending.Ending.{Ending}
 use Rattle.tdb_top.specs.declared.ending.Ending.TheVariants as E
@@ -44,7 +45,6 @@ use Rattle.tdb_top.specs.Playing.{PlayedFront, OpenedToTurn, PlayedFile, file_un
 use Rattle.tdb_top.specs.Reads.{AskCause}
 use Rattle.tdb_top.specs.Scripts.{IsUnscripted, of_script, unscripted}
 use Rattle.tdb_top.proofs.Openings.{closed_reads, same_or_undone}
-use Rattle.tdb_top.proofs.Coming.{whole_comes}
 
 -- what a file is read as is no longer than it is
 pub opened_short : (img : List ℕ) → Opens img → length (opened_bytes img) ≤ length img
@@ -244,7 +244,7 @@ bad_whole slice text more left (Unread.Malformed at) same is (inr long) bad = su
 -- turns whose script was read
 module _ (input : Input) (options : Options) (name : List ℕ) (held : Option History) (before after : ℕ) where
   by_plays : (e : Ending) → PlaysSo input options name held e → AskCause input (Turns options) name held before after e
-  by_plays e so = inr (inr (record { options = options; turns = refl; why = so }))
+  by_plays e so = inr (inr (inl (record { options = options; turns = refl; why = so })))
 
   pub plays_asked : (e : Ending) → IsScript input → PlaysCause options name held before after e → AskCause input (Turns options) name held before after e
   plays_asked _ script (plays_nowhere none) = by_plays (E.Missing name) (no_file script none)

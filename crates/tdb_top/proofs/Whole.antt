@@ -1,10 +1,11 @@
 -- Turns with status 0 were played whole.
-use Rattle.std.proofs.Common.{◌≡◌, ◌⊎◌, ℕ, false, List, ◌++◌, Option, None, Some, Result, Ok, Err, refl, sym, ◌∙◌, ap, subst, inl, inr, arith}
+use Rattle.std.proofs.Common.{◌≡◌, ◌⊎◌, ℕ, true, false, List, ◌++◌, Option, None, Some, Result, Ok, Err, refl, sym, ◌∙◌, ap, subst, inl, inr, arith}
 use Rattle.std.specs.Prelude.{Bool, IsTrue, unwrap_or}
 use Rattle.std.proofs.lemmas.Bool.{false≢true}
 use Rattle.std.proofs.lemmas.List.{append-nil}
 use Rattle.tdb_disk.specs.History.{History}
-use Rattle.tdb_top.specs.declared.ask.Task.TheVariants.{Turns}
+use Rattle.tdb_top.specs.declared.ask.Task.{Task}
+use Rattle.tdb_top.specs.declared.ask.Task.TheVariants.{Create, On, Read, Restore, Backup, Turns, Session}
 use Rattle.tdb_top.specs.declared.ending.Ending.{Ending}
 use Rattle.tdb_top.specs.declared.ending.Ending.TheVariants.{Replied, Refused}
 use Rattle.tdb_top.specs.declared.ending.Reply.TheVariants.{Played}
@@ -17,10 +18,19 @@ use Rattle.tdb_top.specs.Input.{Input}
 use Rattle.tdb_top.specs.Looks.{ending_of}
 use Rattle.tdb_top.specs.Output.{output_by}
 use Rattle.tdb_top.specs.Printed.{Finishes}
-use Rattle.tdb_top.specs.Run.{MayEnd, is_due, is_read, is_copied, is_played, call_failed, memory_wanting}
-use Rattle.tdb_top.proofs.Runs.{reads_turns, refusal_status}
+use Rattle.tdb_top.specs.Run.{MayEnd, is_due, is_read, is_copied, is_played, is_served, call_failed, memory_wanting}
+use Rattle.tdb_top.proofs.Runs.{refusal_status}
 
--- turns are no restore
+-- turns are no other task
+abbrev reads_turns : Task → Bool
+reads_turns (On act) = false
+reads_turns (Read look) = false
+reads_turns (Create form) = false
+reads_turns (Restore limit) = false
+reads_turns (Backup more suffix) = false
+reads_turns (Turns options) = true
+reads_turns (Session limit) = false
+
 abbrev is_turns : Option Ask → Bool
 is_turns None = false
 is_turns (Some ask) = reads_turns ask.task
@@ -42,10 +52,11 @@ ended_zero ask options name held input before after _ asks (is_due e due) zero =
 ended_zero ask options name held input before after _ asks (is_read e limit other restores none so) zero = absurd (false≢true (ap is_turns (sym restores ∙ asks)))
 ended_zero ask options name held input before after _ asks (is_copied e more suffix other copies ends) zero = absurd (false≢true (ap is_turns (sym copies ∙ asks)))
 ended_zero ask options name held input before after _ asks (is_played e others other also so) zero = plays_zero input others other (held other) e so zero
+ended_zero ask options name held input before after _ asks (is_served e limit other serves so) zero = absurd (false≢true (ap is_turns (sym serves ∙ asks)))
 ended_zero ask options name held input before after _ asks (call_failed a is rose) zero = absurd (omega (arith, zero))
 ended_zero ask options name held input before after _ asks memory_wanting zero = absurd (omega (arith, zero))
 
-same_held : (a b : History) (o : Option History) → o ≡ Some a → o ≡ Some b → a ≡ b
+pub same_held : (a b : History) (o : Option History) → o ≡ Some a → o ≡ Some b → a ≡ b
 same_held a b o p q = ap (λ x. unwrap_or x a) (sym p ∙ q)
 
 module _ (options : Options) (input : Input) (tells : Bool) (w0 w1 w2 : List ℕ) (f0 f1 f2 : ℕ) where

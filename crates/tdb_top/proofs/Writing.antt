@@ -7,7 +7,7 @@ use Rattle.std.proofs.Math.Seq.{take-append-add, take-append_seam}
 use Rattle.tdb_disk.specs.Count.{Rose, HasCause}
 use Rattle.tdb_disk.specs.History.{History}
 use Rattle.tdb_top.specs.declared.ask.Task.{Task}
-use Rattle.tdb_top.specs.declared.ask.Task.TheVariants.{Create, On, Read, Restore, Backup, Turns}
+use Rattle.tdb_top.specs.declared.ask.Task.TheVariants.{Create, On, Read, Restore, Backup, Turns, Session}
 use Rattle.tdb_top.specs.declared.ending.Ending.{Ending}
 use Rattle.tdb_top.specs.declared.ending.Ending.TheVariants.{Replied, Refused, Missing, There, Usage, DeviceFault, InputFault, Malformed, NoMemory}
 use Rattle.tdb_top.specs.declared.ending.Unprinted.{Unprinted}
@@ -19,6 +19,7 @@ use Rattle.tdb_top.specs.Ask.{Ask}
 use Rattle.tdb_top.specs.Ending.{TakesMemory, PrintedFor, text_of}
 use Rattle.tdb_top.specs.Output.{output_by}
 use Rattle.tdb_top.specs.Looks.{StandsBefore, before_reply, rest_of, ending_of, Began}
+use Rattle.tdb_top.specs.Commands.Session.{SessionText}
 use Rattle.tdb_top.specs.Commands.Turns.{TurnsText}
 use Rattle.tdb_world.specs.declared.options.Options.{Options}
 use Rattle.tdb_top.specs.Printed.{TaskText, TextBefore, task_tells, ask_tells, IsSilent, Finishes, Writes}
@@ -61,12 +62,26 @@ turns_wanting options (Some h) written InputFault text = inl text
 turns_wanting options (Some h) written (Malformed at) text = inl text
 turns_wanting options (Some h) written NoMemory text = text
 
+-- and of a session
+session_wanting : (limit : ℕ) (held : Option History) (written : List ℕ) (t : Ending) → SessionText limit held t written → SessionText limit held NoMemory written
+session_wanting limit None written t text = text
+session_wanting limit (Some h) written (Replied r) text = inr text
+session_wanting limit (Some h) written (Refused refusal) text = inl text
+session_wanting limit (Some h) written (Missing name) text = inl text
+session_wanting limit (Some h) written (There name) text = inl text
+session_wanting limit (Some h) written Usage text = inl text
+session_wanting limit (Some h) written DeviceFault text = text
+session_wanting limit (Some h) written InputFault text = inr text
+session_wanting limit (Some h) written (Malformed at) text = inr text
+session_wanting limit (Some h) written NoMemory text = text
+
 task_wanting : (task : Task) (held : Option History) (written : List ℕ) (t : Ending) → TakesMemory t → TaskText task held t written → TaskText task held NoMemory written
 task_wanting (On act) held written t takes text = text
 task_wanting (Create form) held written t takes text = text
 task_wanting (Restore limit) held written t takes text = text
 task_wanting (Backup more suffix) held written t takes text = text
 task_wanting (Turns options) held written t takes text = turns_wanting options held written t text
+task_wanting (Session limit) held written t takes text = session_wanting limit held written t text
 task_wanting (Read (Value key)) held written t takes text = text
 task_wanting (Read Dump) None written t takes text = text
 task_wanting (Read Dump) (Some h) written t takes text = stands_wanting _ written t takes text
@@ -83,6 +98,8 @@ task_nothing (Restore limit) held = refl
 task_nothing (Backup more suffix) held = refl
 task_nothing (Turns options) None = refl
 task_nothing (Turns options) (Some h) = inl refl
+task_nothing (Session limit) None = refl
+task_nothing (Session limit) (Some h) = inl refl
 task_nothing (Read (Value key)) held = refl
 task_nothing (Read Dump) None = refl
 task_nothing (Read Dump) (Some h) = (0, refl)
@@ -107,6 +124,7 @@ task_heard (Create form) files output told = told
 task_heard (Restore limit) files output told = told
 task_heard (Backup more suffix) files output told = told
 task_heard (Turns options) files output told = and_left output files told
+task_heard (Session limit) files output told = and_left output files told
 task_heard (Read (Value key)) files output told = told
 task_heard (Read Dump) files output told = and_left output files told
 

@@ -1,13 +1,13 @@
 -- Command lines: what words ask for.
 use Rattle.std.specs.Prelude.{ℕ, ◌+◌, ◌<◌, ◌≤◌, ◌^◌, if◌then◌else◌, Option, None, Some, List, [], ◌∷◌, length, codes, string_bytes}
 use Rattle.std.specs.Map.{lookup}
-use Rattle.std.specs.Option.{option_map, option_and_then}
+use Rattle.std.specs.Option.{option_map, option_and_then, option_or}
 use Rattle.tdb_space.specs.Pairs.{same_key}
 use Rattle.tdb_world.specs.declared.options.Options.{Options}
 use Rattle.tdb_top.specs.declared.act.Act.{Act}
 use Rattle.tdb_top.specs.declared.act.Act.TheVariants.{Show, Insert, Store, Delete, Erase, Check}
 use Rattle.tdb_top.specs.declared.ask.Task.{Task}
-use Rattle.tdb_top.specs.declared.ask.Task.TheVariants.{Create, On, Read, Restore, Backup, Turns}
+use Rattle.tdb_top.specs.declared.ask.Task.TheVariants.{Create, On, Read, Restore, Backup, Turns, Session}
 use Rattle.tdb_top.specs.declared.ask.Ask as C
 use Rattle.tdb_top.specs.Words.{is_position}
 use Rattle.tdb_top.specs.Commands.Show.{show_of}
@@ -49,12 +49,23 @@ tools =
 abbrev pub task_of : List ℕ → List (List ℕ) → Option Task
 task_of command arguments = option_and_then (λ read. read arguments) (lookup (same_key command) tools)
 
--- what the words behind `tool` ask for: FILE COMMAND, and the command's arguments
-abbrev pub tool_of : List (List ℕ) → Option Ask
-tool_of [] = None
-tool_of (file ∷ []) = None
-tool_of (file ∷ command ∷ arguments) =
+-- what words ask for that are FILE COMMAND, and the command's arguments
+abbrev pub command_asks : List (List ℕ) → Option Ask
+command_asks [] = None
+command_asks (file ∷ []) = None
+command_asks (file ∷ command ∷ arguments) =
     if is_position file then option_map (λ task. record { file = file; task = task }) (task_of command arguments) else None
+
+-- what words ask for that are FILE alone, with the limit of turns and none of their other options: a session
+abbrev pub session_of : List ℕ × Options → Option Ask
+session_of found = if is_limit_alone found.1 then Some (record { file = found.0; task = Session found.1.limit }) else None
+
+abbrev pub session_asks : List (List ℕ) → Option Ask
+session_asks words = option_and_then session_of (turns_of_words words)
+
+-- what the words behind `tool` ask for; none of them are both
+abbrev pub tool_of : List (List ℕ) → Option Ask
+tool_of words = option_or (command_asks words) (session_asks words)
 
 -- what the words behind `dump` ask for
 abbrev pub dump_asks : List (List ℕ) → Option Ask
@@ -91,7 +102,7 @@ ask_of [] = None
 ask_of (program ∷ words) = option_and_then (λ read. read words) (lookup (same_key program) commands)
 
 -- the keys and the values of an act are short enough for a record, a file is made with some chain, one that is restored
--- or over which turns are taken may be no longer than the longest; the names of a backup are all different
+-- or over which turns or a session are taken may be no longer than the longest; the names of a backup are all different
 abbrev pub ActFits : Act → Type 0
 ActFits (Show key) = length key < 2 ^ 32
 ActFits (Insert key value) = length key + length value < 2 ^ 32
@@ -107,3 +118,4 @@ TaskFits file (Create form) = 0 < form.size
 TaskFits file (Restore limit) = limit ≤ 4294963200
 TaskFits file (Backup more suffix) = BackupFits suffix (file ∷ more)
 TaskFits file (Turns options) = options.limit ≤ 4294963200
+TaskFits file (Session limit) = limit ≤ 4294963200

@@ -11,3 +11,4 @@ pub mod Restore
 pub mod Backup
 pub mod BackupLine
 pub mod Turns
+pub mod Session

@@ -10,7 +10,7 @@ use Rattle.tdb_dump.specs.Line.{data_line}
 use Rattle.tdb_top.specs.declared.act.Act.{Act}
 use Rattle.tdb_top.specs.declared.look.Look.{Look}
 use Rattle.tdb_top.specs.declared.ask.Task.{Task}
-use Rattle.tdb_top.specs.declared.ask.Task.TheVariants.{Create, On, Read, Restore, Backup, Turns}
+use Rattle.tdb_top.specs.declared.ask.Task.TheVariants.{Create, On, Read, Restore, Backup, Turns, Session}
 use Rattle.tdb_top.specs.declared.ending.Ending.{Ending}
 use Rattle.tdb_top.specs.declared.ending.Ending.TheVariants.{Replied, Refused, Missing, There, Usage, DeviceFault, InputFault, Malformed, NoMemory}
 use Rattle.tdb_top.specs.declared.ending.Reply.TheVariants.{Done, Value, Escaped, Dumped, Restored, Copied, KeyMissing, KeyThere, Full, Number, Played}
@@ -108,7 +108,8 @@ pub record RefusesToRead (img : List ℕ) (e : Ending) : Type 0 where
 
 -- How a task on the file of this name ends, by what is held there, where no call failed and memory sufficed. An act and
 -- a look are on a file that is there; a file is made where none is. How a restore ends where no file is depends on its
--- input, as turns do, and how a backup ends on all its files (`BackupEnds`), so none is due to what is held at one name.
+-- input, as turns and a session do, and how a backup ends on all its files (`BackupEnds`), so none is due to what is
+-- held at one name.
 abbrev pub TaskDue : Task → List ℕ → Option History → Ending → Type 0
 TaskDue (On act) name None e = e ≡ Missing name
 TaskDue (On act) name (Some h) e = Replies act (seen h) e ⊎ Refuses (seen h) e
@@ -120,6 +121,7 @@ TaskDue (Restore limit) name None e = ⊥
 TaskDue (Restore limit) name (Some h) e = e ≡ There name
 TaskDue (Backup more suffix) name held e = ⊥
 TaskDue (Turns options) name held e = ⊥
+TaskDue (Session limit) name held e = ⊥
 
 -- how a run ends that is asked for this, or for nothing, by what is held at each name
 abbrev pub Due : Option Ask → (List ℕ → Option History) → Ending → Type 0
@@ -138,8 +140,8 @@ pub record CountedBy (before after : ℕ) (e : Ending) : Type 0 where
   pub failed : e ≡ DeviceFault → Rose before after
   pub sound : (e ≡ DeviceFault → ⊥) → after ≡ before
 
--- The same of turns: where the files don't tell what they hold, a check of one that another program wrote to may find a
--- fault, and ends them as a failed call does.
+-- The same of turns and of a session: where the files don't tell what they hold, a check of one that another program
+-- wrote to may find a fault, and ends them as a failed call does.
 pub record CountedIf (tells : Bool) (before after : ℕ) (e : Ending) : Type 0 where
   pub never_falls : before ≤ after
   pub failed : e ≡ DeviceFault → IsTrue tells → Rose before after
@@ -153,6 +155,7 @@ CountedFor tells (Create form) before after e = CountedBy before after e
 CountedFor tells (Restore limit) before after e = CountedBy before after e
 CountedFor tells (Backup more suffix) before after e = CountedBy before after e
 CountedFor tells (Turns options) before after e = CountedIf tells before after e
+CountedFor tells (Session limit) before after e = CountedIf tells before after e
 
 abbrev pub CountedAsked : Bool → Option Ask → ℕ → ℕ → Ending → Type 0
 CountedAsked tells None before after e = CountedBy before after e

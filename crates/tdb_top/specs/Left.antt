@@ -3,7 +3,7 @@ use Rattle.std.specs.Prelude.{◌≡◌, ◌⊎◌, ℕ, IsTrue, IsSome, Option,
 use Rattle.tdb_disk.specs.History.{History, seen}
 use Rattle.tdb_top.specs.declared.act.Act.{Act}
 use Rattle.tdb_top.specs.declared.ask.Task.{Task}
-use Rattle.tdb_top.specs.declared.ask.Task.TheVariants.{Create, On, Read, Restore, Backup, Turns}
+use Rattle.tdb_top.specs.declared.ask.Task.TheVariants.{Create, On, Read, Restore, Backup, Turns, Session}
 use Rattle.tdb_top.specs.declared.ending.Ending.{Ending}
 use Rattle.tdb_top.specs.declared.ending.Ending.TheVariants.{Replied, Refused, Missing, There, Usage, DeviceFault, InputFault, Malformed, NoMemory}
 use Rattle.tdb_top.specs.declared.ending.Reply.TheVariants.{Done, Restored}
@@ -14,6 +14,7 @@ use Rattle.tdb_top.specs.Ask.{Ask}
 use Rattle.tdb_top.specs.Commands.Backup.{IsNameAmong, BackupLeaves}
 use Rattle.tdb_top.specs.Commands.Create.{CreateLeaves}
 use Rattle.tdb_top.specs.Commands.Restore.{IsRestored}
+use Rattle.tdb_top.specs.Commands.Session.{StaysThere}
 use Rattle.tdb_top.specs.Commands.Turns.{TurnsLeave}
 use Rattle.tdb_top.specs.Ending.{status_of}
 use Rattle.tdb_top.specs.Input.{Input}
@@ -59,7 +60,8 @@ pub record RestoreLeaves (input : Input) (old : Option History) (e : Ending) (no
   pub done : status_of e ≡ 0 → HasRestored input old now
   pub there : IsSome old → now ≡ old
 
--- what a task on the file of this name leaves there, and a backup at all its names; a look leaves what is there
+-- what a task on the file of this name leaves there, and a backup at all its names; a look leaves what is there; of a
+-- session more is said with what it prints (`SessionHeld`)
 abbrev pub TaskLeaves : Input → Task → List ℕ → (List ℕ → Option History) → Ending → (List ℕ → Option History) → Type 0
 TaskLeaves input (On act) file old e now = OnLeaves act (old file) e (now file)
 TaskLeaves input (Read look) file old e now = now file ≡ old file
@@ -67,6 +69,7 @@ TaskLeaves input (Create form) file old e now = MakingLeaves form (old file) e (
 TaskLeaves input (Restore limit) file old e now = RestoreLeaves input (old file) e (now file)
 TaskLeaves input (Backup more suffix) file old e now = BackupLeaves suffix (file ∷ more) old e now
 TaskLeaves input (Turns options) file old e now = TurnsLeave options (old file) e (now file)
+TaskLeaves input (Session limit) file old e now = StaysThere (old file) (now file)
 
 -- a task on the file of this name may change what is held at that name: there alone, or at all names of a backup
 abbrev pub MayChange : Task → List ℕ → List ℕ → Type 0
@@ -75,6 +78,7 @@ MayChange (Read look) file name = name ≡ file
 MayChange (Create form) file name = name ≡ file
 MayChange (Restore limit) file name = name ≡ file
 MayChange (Turns options) file name = name ≡ file
+MayChange (Session limit) file name = name ≡ file
 MayChange (Backup more suffix) file name = IsNameAmong suffix (file ∷ more) name
 
 -- nothing changed at any other name

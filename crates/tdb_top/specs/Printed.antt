@@ -4,18 +4,19 @@ use Rattle.tdb_disk.specs.Count.{Rose}
 use Rattle.tdb_disk.specs.History.{History}
 use Rattle.tdb_top.specs.declared.ending.Unprinted.{Unprinted}
 use Rattle.tdb_top.specs.declared.ask.Task.{Task}
-use Rattle.tdb_top.specs.declared.ask.Task.TheVariants.{Create, On, Read, Restore, Backup, Turns}
+use Rattle.tdb_top.specs.declared.ask.Task.TheVariants.{Create, On, Read, Restore, Backup, Turns, Session}
 use Rattle.tdb_top.specs.declared.ending.Ending.{Ending}
 use Rattle.tdb_top.specs.declared.ending.Ending.TheVariants.{Replied}
 use Rattle.tdb_top.specs.declared.ending.Reply.TheVariants.{Restored, Copied}
 use Rattle.tdb_top.specs.Ask.{Ask}
 use Rattle.tdb_top.specs.Ending.{Prints, status_of, text_of}
 use Rattle.tdb_top.specs.Output.{Output}
+use Rattle.tdb_top.specs.Commands.Session.{SessionText}
 use Rattle.tdb_top.specs.Commands.Turns.{TurnsText}
 use Rattle.tdb_top.specs.Looks.{LookText, look_tells, rest_of}
 
--- what a task prints before the line of its ending, by what is held at the name of its file; looks and turns print such a
--- text
+-- what a task prints before the line of its ending, by what is held at the name of its file; looks, turns and sessions
+-- print such a text
 abbrev pub TaskText : Task → Option History → Ending → List ℕ → Type 0
 TaskText (On act) held e text = text ≡ []
 TaskText (Read look) held e text = LookText look held e text
@@ -23,14 +24,15 @@ TaskText (Create form) held e text = text ≡ []
 TaskText (Restore limit) held e text = text ≡ []
 TaskText (Backup more suffix) held e text = text ≡ []
 TaskText (Turns options) held e text = TurnsText options held e text
+TaskText (Session limit) held e text = SessionText limit held e text
 
 -- what a run prints before the line of its ending that is asked for this, or for nothing
 abbrev pub TextBefore : Option Ask → (List ℕ → Option History) → Ending → List ℕ → Type 0
 TextBefore None held e text = text ≡ []
 TextBefore (Some ask) held e text = TaskText ask.task (held ask.file) e text
 
--- whether it is told what a task prints, by whether the files and the output tell; where a file's pairs or a report of
--- it are printed the files have to tell too
+-- whether it is told what a task prints, by whether the files and the output tell; where a file's pairs, a report of it
+-- or replies over it are printed the files have to tell too
 abbrev pub task_tells : Task → Bool → Bool → Bool
 task_tells (On act) files output = output
 task_tells (Read look) files output = look_tells look files output
@@ -38,6 +40,7 @@ task_tells (Create form) files output = output
 task_tells (Restore limit) files output = output
 task_tells (Backup more suffix) files output = output
 task_tells (Turns options) files output = output && files
+task_tells (Session limit) files output = output && files
 
 abbrev pub ask_tells : Option Ask → Bool → Bool → Bool
 ask_tells None files output = output

@@ -2,17 +2,18 @@
 use Rattle.std.specs.Prelude.{◌≡◌, ◌⊎◌, ℕ, Bool, true, false, Option, None, Some, List, ◌∷◌}
 use Rattle.tdb_disk.specs.History.{History}
 use Rattle.tdb_top.specs.declared.ask.Task.{Task}
-use Rattle.tdb_top.specs.declared.ask.Task.TheVariants.{Create, On, Read, Restore, Backup, Turns}
+use Rattle.tdb_top.specs.declared.ask.Task.TheVariants.{Create, On, Read, Restore, Backup, Turns, Session}
 use Rattle.tdb_top.specs.declared.ending.Ending.{Ending}
 use Rattle.tdb_top.specs.Ask.{Ask}
 use Rattle.tdb_top.specs.Commands.Backup.{BackupEnds}
 use Rattle.tdb_top.specs.Commands.Restore.{ReadSo}
+use Rattle.tdb_top.specs.Commands.Session.{ServesSo}
 use Rattle.tdb_top.specs.Commands.Turns.{PlaysSo}
 use Rattle.tdb_world.specs.declared.options.Options.{Options}
 use Rattle.tdb_top.specs.Ending.{TaskCause}
 use Rattle.tdb_top.specs.Input.{Input}
 
--- whether a task reads the input: a restore and turns do
+-- whether a task reads the input: a restore, turns and a session do
 abbrev pub reads_input : Task → Bool
 reads_input (On act) = false
 reads_input (Read look) = false
@@ -20,6 +21,7 @@ reads_input (Create form) = false
 reads_input (Restore limit) = true
 reads_input (Backup more suffix) = false
 reads_input (Turns options) = true
+reads_input (Session limit) = true
 
 abbrev pub ask_reads : Option Ask → Bool
 ask_reads None = false
@@ -38,9 +40,30 @@ pub record EndsByPlays (input : Input) (task : Task) (name : List ℕ) (held : O
   pub turns : task ≡ Turns options
   pub why : PlaysSo input options name held e
 
+-- the task is a session, and it ends so by its lines and its file
+pub record EndsByLines (input : Input) (task : Task) (name : List ℕ) (held : Option History) (e : Ending) : Type 0 where
+  pub limit : ℕ
+  pub serves : task ≡ Session limit
+  pub why : ServesSo input limit name held e
+
+-- whether a task takes plays over its file: turns and a session do
+abbrev pub takes_plays : Task → Bool
+takes_plays (On act) = false
+takes_plays (Read look) = false
+takes_plays (Create form) = false
+takes_plays (Restore limit) = false
+takes_plays (Backup more suffix) = false
+takes_plays (Turns options) = true
+takes_plays (Session limit) = true
+
+abbrev pub ask_plays : Option Ask → Bool
+ask_plays None = false
+ask_plays (Some ask) = takes_plays ask.task
+
 -- why a task ends so, by what is held at its name, by the input, and by how often the files had failed before and after
 abbrev pub AskCause : Input → Task → List ℕ → Option History → ℕ → ℕ → Ending → Type 0
-AskCause input task name held before after e = TaskCause task name held before after e ⊎ EndsByInput input task held e ⊎ EndsByPlays input task name held e
+AskCause input task name held before after e =
+    TaskCause task name held before after e ⊎ EndsByInput input task held e ⊎ EndsByPlays input task name held e ⊎ EndsByLines input task name held e
 
 -- the task is a backup, and ends so by what is held at the names of its files
 pub record EndsByFiles (task : Task) (name : List ℕ) (held : List ℕ → Option History) (e : Ending) : Type 0 where

@@ -3,12 +3,13 @@
 ghost use Rattle.std.specs.Prelude.{◌≡◌, ℕ, List, false, map, string_bytes, IsTrue, IfOk, IfSome};
 ghost use Rattle.std.specs.Option.{option_map};
 ghost use Rattle.tdb_disk.specs.Count.{HasCause};
-ghost use Rattle.tdb_top.specs.declared.ask.Task.TheVariants.{On as OnIs, Turns as TurnsIs};
+ghost use Rattle.tdb_top.specs.declared.ask.Task.TheVariants.{On as OnIs, Turns as TurnsIs, Session as SessionIs};
 ghost use Rattle.tdb_top.specs.declared.ending.Ending.TheVariants.{Replied, Usage};
 ghost use Rattle.tdb_top.specs.declared.ending.Reply.TheVariants.{Played};
 ghost use Rattle.tdb_world.specs.declared.options.Options.{Options as WorldOptions};
-ghost use Rattle.tdb_top.specs.Ask.{asked, ask_of, dump_asks, restore_asks, backup_asks, turns_asks, tool_of as tool_asks, task_of as task_asked, TaskFits};
+ghost use Rattle.tdb_top.specs.Ask.{asked, ask_of, dump_asks, restore_asks, backup_asks, turns_asks, command_asks, session_asks, tool_of as tool_asks, task_of as task_asked, TaskFits};
 ghost use Rattle.tdb_top.specs.Commands.Restore.{HeardBy, of_input};
+ghost use Rattle.tdb_top.specs.Commands.Session.{SessionHeld};
 ghost use Rattle.tdb_top.specs.Commands.Turns.{AllPlayed};
 ghost use Rattle.tdb_top.specs.Ending.{CountedFor};
 ghost use Rattle.tdb_top.specs.Input.{input_by};
@@ -22,6 +23,7 @@ use crate::act::Act;
 use crate::commands::backup::back_up;
 use crate::commands::create::{NewForm, create_file};
 use crate::commands::restore::{is_limit_alone, restore_file};
+use crate::commands::session::session_on_file;
 use crate::commands::turns::turns_on_file;
 use crate::commands::{
     backup_line, check, create, delete, dump, erase, insert, show, store, turns,
@@ -54,6 +56,9 @@ pub(crate) enum Task {
 
     /// To take the plays of the script on the input over it, which is opened so.
     Turns(Options),
+
+    /// To take the commands on the lines of the input over it, which may become `limit` bytes long.
+    Session { limit: u64 },
 }
 
 /// What a command line asks for.
@@ -96,9 +101,9 @@ impl Task {
 }
 
 impl Ask {
-    /// What the words behind `tool` ask for.
-    fn of_tool(alloc: Global, words: &[String]) -> Result<Option<Ask>, AllocError>
-        ensures read { IfOk result (λ ask. option_map asked ask ≡ tool_asks (map string_bytes words.now)) }
+    /// What words ask for that are a file, a command and its arguments.
+    fn of_command(alloc: Global, words: &[String]) -> Result<Option<Ask>, AllocError>
+        ensures read { IfOk result (λ ask. option_map asked ask ≡ command_asks (map string_bytes words.now)) }
         ensures fits { IfOk result (λ ask. IfSome ask (λ a. TaskFits (string_bytes a.file) a.task)) }
     {
         let [file, command, arguments @ ..] = words else {
@@ -112,6 +117,35 @@ impl Ask {
         };
         let file = String::from_str(alloc, file.as_str())?;
         Ok(Some(Ask { file, task }))
+    }
+
+    /// What words ask for that are a file, and how long it may become.
+    fn of_session(alloc: Global, words: &[String]) -> Result<Option<Ask>, AllocError>
+        ensures read { IfOk result (λ ask. option_map asked ask ≡ session_asks (map string_bytes words.now)) }
+        ensures fits { IfOk result (λ ask. IfSome ask (λ a. TaskFits (string_bytes a.file) a.task)) }
+    {
+        let Some(line) = turns::Line::of(words) else {
+            return Ok(None);
+        };
+        if !is_limit_alone(&line.options) {
+            return Ok(None);
+        }
+        let file = String::from_str(alloc, line.file)?;
+        let task = Task::Session {
+            limit: line.options.limit,
+        };
+        Ok(Some(Ask { file, task }))
+    }
+
+    /// What the words behind `tool` ask for: a command on a file, or a session.
+    fn of_tool(alloc: Global, words: &[String]) -> Result<Option<Ask>, AllocError>
+        ensures read { IfOk result (λ ask. option_map asked ask ≡ tool_asks (map string_bytes words.now)) }
+        ensures fits { IfOk result (λ ask. IfSome ask (λ a. TaskFits (string_bytes a.file) a.task)) }
+    {
+        match Ask::of_command(alloc, words)? {
+            Some(ask) => Ok(Some(ask)),
+            None => Ask::of_session(alloc, words),
+        }
     }
 
     /// What the words behind `dump` ask for.
@@ -214,6 +248,8 @@ impl Ask {
         ensures asked { ending_of result ≡ Usage → ⊥ }
         ensures played { (options : WorldOptions) → self.now.task ≡ TurnsIs options → IsTrue F.D.tells → result ≡ Ok (Replied Played)
             → AllPlayed options (input_by S.tells (S.left input.old) (S.faults input.old) (S.faults input.new)) (output_by K.tells (K.written output.old) (K.written output.new) (K.faults output.old) (K.faults output.new)) (F.held files.old (string_bytes self.now.file)) (F.held files.new (string_bytes self.now.file)) }
+        ensures served { (limit : ℕ) → self.now.task ≡ SessionIs limit → IsTrue F.D.tells
+            → SessionHeld limit (input_by S.tells (S.left input.old) (S.faults input.old) (S.faults input.new)) (F.held files.old (string_bytes self.now.file)) (F.held files.new (string_bytes self.now.file)) K.tells (K.written output.old) (K.written output.new) result }
         ensures heard { HeardBy (S.faults input.old) (S.faults input.new) (ending_of result) }
         ensures unread { reads_input self.now.task ≡ false → (input.new ≡ input.old) × (of_input (ending_of result) ≡ false) }
     {
@@ -230,6 +266,7 @@ impl Ask {
                 Ok(back_up(alloc, name, more.as_slice(), suffix.as_str(), files))
             }
             Task::Turns(options) => turns_on_file(alloc, name, options, files, input, output),
+            Task::Session { limit } => session_on_file(alloc, name, *limit, files, input, output),
         }
     }
 }

@@ -9,6 +9,7 @@ pub(crate) mod dump;
 pub(crate) mod erase;
 pub(crate) mod insert;
 pub(crate) mod restore;
+pub(crate) mod session;
 pub(crate) mod show;
 pub(crate) mod store;
 pub(crate) mod turns;

@@ -42,7 +42,8 @@ pub(crate) enum Reply {
     /// All files were copied. No line tells it.
     Copied,
 
-    /// All plays of a script were taken, and their report was printed. No line tells it.
+    /// All plays of a script were taken, and their report was printed; or all commands of a session, and their replies.
+    /// No line tells it.
     Played,
 
     /// So many keys.
@@ -82,7 +83,8 @@ pub(crate) enum Ending {
     /// A read of the input failed.
     InputFault,
 
-    /// The input isn't dump text, or no script, or is too long, from the byte `at` on.
+    /// The input isn't dump text, or no script, or has a line that is no command, or is too long, from the byte `at`
+    /// on.
     Malformed { at: u64 },
     NoMemory,
 }
@@ -94,7 +96,7 @@ pub(crate) enum Unprinted {
     #[error("pairs aren't printed")]
     Pairs,
 
-    /// The rest of the report of plays.
+    /// The rest of the report of plays, or of the replies of a session.
     #[error("a report isn't printed")]
     Report,
 

@@ -1,7 +1,7 @@
 // The top call: it reads the words, answers them over the files and prints the text and the line of that.
 
 ghost use Rattle.std.specs.Prelude.{◌≡◌, ◌⊎◌, ℕ, List, None, Some, false, map, string_bytes, IsTrue};
-ghost use Rattle.tdb_top.specs.declared.ask.Task.TheVariants.{Turns as TurnsIs};
+ghost use Rattle.tdb_top.specs.declared.ask.Task.TheVariants.{Turns as TurnsIs, Session as SessionIs};
 ghost use Rattle.tdb_top.specs.declared.ending.Ending.TheVariants.{Replied, Usage, NoMemory};
 ghost use Rattle.tdb_top.specs.declared.ending.Reply.TheVariants.{Played};
 ghost use Rattle.tdb_world.specs.declared.options.Options.{Options};
@@ -11,6 +11,7 @@ ghost use Rattle.tdb_top.specs.declared.ending.Ending.{Ending as EndingIs};
 ghost use Rattle.tdb_top.specs.Ending.{CountedAsked, PrintedFor};
 ghost use Rattle.tdb_top.specs.Output.{output_by};
 ghost use Rattle.tdb_top.specs.Commands.Restore.{HeardBy, of_input};
+ghost use Rattle.tdb_top.specs.Commands.Session.{SessionHeld};
 ghost use Rattle.tdb_top.specs.Commands.Turns.{AllPlayed};
 ghost use Rattle.tdb_top.specs.Input.{input_by};
 ghost use Rattle.tdb_top.specs.Left.{Leaving};
@@ -44,6 +45,8 @@ fn answer<F: Files, S: Source, K: Sink>(
     ensures unread { ask_reads (ask_of (map string_bytes words.now)) ≡ false → (input.new ≡ input.old) × (of_input (ending_of result) ≡ false) }
     ensures played { (options : Options) (name : List ℕ) → ask_of (map string_bytes words.now) ≡ Some (record { file = name; task = TurnsIs options }) → IsTrue F.D.tells → result ≡ Ok (Replied Played)
         → AllPlayed options (input_by S.tells (S.left input.old) (S.faults input.old) (S.faults input.new)) (output_by K.tells (K.written output.old) (K.written output.new) (K.faults output.old) (K.faults output.new)) (F.held files.old name) (F.held files.new name) }
+    ensures served { (limit : ℕ) (name : List ℕ) → ask_of (map string_bytes words.now) ≡ Some (record { file = name; task = SessionIs limit }) → IsTrue F.D.tells
+        → SessionHeld limit (input_by S.tells (S.left input.old) (S.faults input.old) (S.faults input.new)) (F.held files.old name) (F.held files.new name) K.tells (K.written output.old) (K.written output.new) result }
     ensures usage { ending_of result ≡ Usage → ask_of (map string_bytes words.now) ≡ None }
     ensures usage_exact { ask_of (map string_bytes words.now) ≡ None → (ending_of result ≡ Usage) ⊎ (ending_of result ≡ NoMemory) }
 {
@@ -65,8 +68,8 @@ fn finish<K: Sink>(alloc: Global, answered: &Result<Ending, Unprinted>, output: 
     }
 }
 
-/// Runs the command that `words` ask for, those after the program's name, and prints to `output`: the text of a dump
-/// or of a report, and the line of the ending behind it, if that has one.
+/// Runs the command that `words` ask for, those after the program's name, and prints to `output`: the text of a dump,
+/// of a report or of replies, and the line of the ending behind it, if that has one.
 ///
 /// | Status | Meaning | Printed |
 /// |---|---|---|
@@ -74,13 +77,14 @@ fn finish<K: Sink>(alloc: Global, answered: &Result<Ending, Unprinted>, output: 
 /// | 0 | all pairs are printed, or the value of the one key | their dump text, `TEXT` |
 /// | 0 | the file is made of the pairs on the input, or all files are copied | |
 /// | 0 | the plays of the script on the input were taken | their report, line by line |
+/// | 0 | the commands on the lines of the input were taken | their replies, one on each line |
 /// | 1 | the key isn't there, or is there already | `noexist`, `exists` |
 /// | 2 | the words ask for nothing | the usage |
 /// | 3 | the file is refused for a fault of its header, or for another fault, or a dump would have to undo a change first | `header KIND`, `corrupt WHAT AT`, `needs recovery` |
 /// | 4 | a call of the files or of a disk failed | `device fault` |
 /// | 5 | memory was wanting | `memory` |
 /// | 6 | the file of `LEN` bytes has no room for `NEED` more, or is too long itself | `full LEN NEED`, `toolong LEN` |
-/// | 7 | the input isn't dump text, or isn't a script, or is too long, from its byte `N` on | `input malformed at N` |
+/// | 7 | the input isn't dump text, or no script, or no commands, or is too long, from its byte `N` on | `input malformed at N` |
 /// | 8 | a read of the input failed | `input fault` |
 /// | 8 | the output failed | a part of what was due, from its first byte on |
 /// | 9 | there is no file of this name, or there is one that was to be made | `missing NAME`, `there NAME` |
@@ -98,6 +102,10 @@ fn finish<K: Sink>(alloc: Global, answered: &Result<Ending, Unprinted>, output: 
 /// The command `restore FILE` makes a file as `create` does, reads the input in pieces of 64 KiB, adds each pair without
 /// looking its key up, and syncs: time is linear in the text and in the file. It holds all keys, so as to refuse a
 /// second one. Where not all pairs come into the file, it is removed again.
+///
+/// The words `tool [--limit N] FILE` alone open the file as a show does, and read the input in pieces of at most 64 KiB
+/// while its commands are taken, one line each. The replies of those before a bad line, or before a read that fails,
+/// stand before the line of the ending, and the file keeps what they did.
 ///
 /// The command `backup [-s SUFFIX] FILE..` opens each file in turn as a show does, makes a new file at FILE, SUFFIX and
 /// `.tmp`, adds each pair without looking its key up, syncs, and renames the new file to FILE and SUFFIX: time is linear
@@ -127,7 +135,7 @@ pub fn run<F: Files, S: Source, K: Sink>(
     // call is told.
     ensures accounted { Accounted (run_by words.now (F.held files.old) (F.held files.new) (F.faults files.old) (F.faults files.new) (input_by S.tells (S.left input.old) (S.faults input.old) (S.faults input.new)) (output_by K.tells (K.written output.old) (K.written output.new) (K.faults output.old) (K.faults output.new)) result.0) }
 
-    // Every disk that was taken is given back, and the input isn't read but by a restore and by turns.
+    // Every disk that was taken is given back, and the input isn't read but by a restore, by turns and by a session.
     ensures given_back { (name : List ℕ) → F.is_taken files.new name ≡ false }
     ensures input_untouched { ask_reads (ask_of (map string_bytes words.now)) ≡ false → input.new ≡ input.old }
 {

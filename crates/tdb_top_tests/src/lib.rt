@@ -16,6 +16,8 @@ mod lines;
 #[cfg(test)]
 mod runs;
 #[cfg(test)]
+mod sessions;
+#[cfg(test)]
 mod turns;
 #[cfg(test)]
 mod undo;

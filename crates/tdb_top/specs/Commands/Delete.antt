@@ -1,5 +1,5 @@
 -- The command that deletes a key: its record goes to the free list.
-use Rattle.std.specs.Prelude.{◌≡◌, ℕ, if◌then◌else◌, List, Option, None, is_some}
+use Rattle.std.specs.Prelude.{ℕ, if◌then◌else◌, List, Option, None, is_some}
 use Rattle.std.specs.Option.{option_map}
 use Rattle.tdb_disk.specs.History.{History, seen}
 use Rattle.tdb_disk.specs.Stop.{Quiet}

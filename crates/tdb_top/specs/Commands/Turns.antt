@@ -1,18 +1,14 @@
 -- The command that takes the plays of a script over a file, and prints their report.
 use Rattle.std.specs.Prelude.{◌≡◌, ◌⊎◌, ℕ, ◌<◌, ◌≤◌, Bool, true, false, if◌then◌else◌, IsTrue, Option, None, Some, is_some, IfSome, List, [], ◌∷◌, ◌++◌, length, take, drop, codes}
 use Rattle.std.specs.Option.{option_map, option_and_then}
-use Rattle.tdb_words.specs.Word.{word}
-use Rattle.tdb_words.specs.Header.{sequence_at}
 use Rattle.tdb_disk.specs.Count.{Rose}
 use Rattle.tdb_disk.specs.History.{History, seen}
 use Rattle.tdb_space.specs.Form.{Form, form_of}
 use Rattle.tdb_space.specs.Opening.{is_open}
 use Rattle.tdb_space.specs.Pairs.{same_key}
-use Rattle.tdb_law.specs.Beginning.{IsLoaded, beginning}
-use Rattle.tdb_law.specs.Images.{image_map}
+use Rattle.tdb_law.specs.Beginning.{IsLoaded}
 use Rattle.tdb_law.specs.Lines.{IsLawful}
 use Rattle.tdb_law.specs.Plays.{Course}
-use Rattle.tdb_law.specs.Replay.{Replay}
 use Rattle.tdb_law.specs.World.{State}
 use Rattle.tdb_plays.specs.InLaw.{law_plays, law_lines}
 use Rattle.tdb_plays.specs.declared.line.Line.{Line}
@@ -24,6 +20,7 @@ use Rattle.tdb_world.specs.Played.{ComesTo}
 use Rattle.tdb_world.specs.Finished.{unfinished}
 use Rattle.tdb_world.specs.Worlds.{World, state_in}
 use Rattle.tdb_world.specs.declared.options.Options.{Options}
+use Rattle.tdb_tool.specs.Whole.{IsOver, beginning_over}
 use Rattle.tdb_top.specs.declared.ending.Ending.{Ending}
 use Rattle.tdb_top.specs.declared.ending.Ending.TheVariants.{Replied, Refused, Missing, There, Usage, DeviceFault, InputFault, Malformed, NoMemory}
 use Rattle.tdb_top.specs.declared.ending.Reply.TheVariants.{Played}
@@ -153,15 +150,6 @@ pub data PlaysSo (input : Input) (options : Options) (name : List ℕ) (held : O
   file_refused : (h : History) (refusal : Refusal) → IsScript input → held ≡ Some h → IsRefusedToTurn options (seen h) refusal
       → PlaysSo input options name held (Refused refusal)
   file_opened : (h : History) → IsScript input → held ≡ Some h → OpensToTurn options (seen h) → PlaysSo input options name held (Replied Played)
-
--- the state is one of a world whose file has these bytes
-pub record IsOver (f : Form) (img : List ℕ) (w : State) : Type 0 where
-  pub file : w.file ≡ image_map f img
-  pub number : w.number ≡ word f.order img sequence_at
-
--- the replay that begins with the map of an image
-abbrev pub beginning_over : Form → Options → List ℕ → Replay
-beginning_over f options img = beginning (options_of options) (image_map f img) (word f.order img sequence_at)
 
 -- These plays lead, with these lines, from a world just loaded over an image to a state; and they came to one, where they
 -- broke off.

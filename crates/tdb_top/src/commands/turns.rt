@@ -233,7 +233,11 @@ fn open_as_asked<D: Disk>(alloc: Global, options: &Options, disk: &mut D) -> Res
 /// Opens the file on a disk for turns with these options. Where it is to be read alone, or nothing has to be undone, it
 /// changes nothing. What an undo gives is no longer than the file was, so that is tested for a file that doesn't tell what
 /// it holds.
-fn open_to_turn<D: Disk>(alloc: Global, options: &Options, disk: &mut D) -> Result<Opened, Halt>
+pub(crate) fn open_to_turn<D: Disk>(
+    alloc: Global,
+    options: &Options,
+    disk: &mut D,
+) -> Result<Opened, Halt>
     ensures opened { IsTrue D.tells → OpenedToTurn options.now (D.history disk.old) (D.history disk.new) result }
     ensures checked { IfOk result (λ o. IsTrue D.tells → IsCheckedOn (seen (D.history disk.new)) o) }
     ensures length { IfOk result (λ o. o.len ≡ D.size disk.new) }

@@ -5,9 +5,10 @@ use Rattle.tdb_law.specs.Beginning.{IsLoaded}
 use Rattle.tdb_law.specs.World.{HasFewChains}
 use Rattle.tdb_world.specs.Openers.{options_of}
 use Rattle.tdb_world.specs.Worlds.{state_in}
-use Rattle.tdb_top.specs.Commands.Turns.{IsOver}
+use Rattle.tdb_tool.proofs.Wholes.{over_self}
+use Rattle.tdb_tool.specs.Whole.{IsOver}
 use Rattle.tdb_top.specs.Playing.{PlaysEnd, RunsTo, TellsAll, PlayedOver}
-use Rattle.tdb_top.proofs.Over.{over_self, broken_off, finished}
+use Rattle.tdb_top.proofs.Over.{broken_off, finished}
 use Rattle.tdb_top.proofs.playing.play_all.Goals as goal
 use Rattle.tdb_top.proofs.playing.play_all.Goals.{After-play_each}
 

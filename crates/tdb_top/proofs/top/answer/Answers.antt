@@ -12,6 +12,7 @@ use Rattle.tdb_top.specs.Left.{Leaving}
 use Rattle.tdb_top.proofs.Acting.{words_want, not_heard}
 use Rattle.tdb_top.proofs.Looking.{nothing, began_as}
 use Rattle.tdb_top.proofs.Runs.{asked_cause}
+use Rattle.tdb_top.proofs.Sessions.{wants_held}
 use Rattle.tdb_top.proofs.Writing.{nothing_before}
 use Rattle.tdb_top.proofs.top.answer.Goals as goal
 
@@ -54,6 +55,12 @@ returns-in-Err-clause-began g c told =
 
 pub returns-in-Err-clause-left : goal.returns-in-Err-clause-left
 returns-in-Err-clause-left g c told = words_want (input_by g.S.Source.tells (g.S.Source.left c.args.input.now) (g.S.Source.faults c.args.input.now) (g.S.Source.faults c.args.input.now)) (ask_of (map string_bytes c.args.words.now)) (g.F.Files.held c.args.files.now)
+
+pub returns-in-Err-clause-served : goal.returns-in-Err-clause-served
+returns-in-Err-clause-served g c limit name asks told =
+    let n = g.S.Source.faults c.args.input.now in
+    let held = g.F.Files.held c.args.files.now name in
+    wants_held limit (input_by g.S.Source.tells (g.S.Source.left c.args.input.now) n n) name held held held g.K.Sink.tells (g.K.Sink.written c.args.output.now) refl
 
 -- what is heard of the input
 pub returns-in-Ok-Some-clause-unread : goal.returns-in-Ok-Some-clause-unread

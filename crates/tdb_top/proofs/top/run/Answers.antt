@@ -4,6 +4,7 @@ use Rattle.tdb_top.specs.Input.{input_by}
 use Rattle.tdb_top.specs.Looks.{ending_of}
 use Rattle.tdb_top.specs.Run.{Run, Cause, run_by}
 use Rattle.tdb_top.proofs.Runs.{Printed, exits, silent_exits, printed_caused, exactly, refuses_exactly, asked_counted, asked_failed, asked_sound, leaves_files, accounted}
+use Rattle.tdb_top.proofs.SessionRuns.{session_by}
 use Rattle.tdb_top.proofs.Whole.{whole_by}
 use Rattle.tdb_top.proofs.Writing.{written}
 use Rattle.tdb_top.proofs.top.run.Goals as goal
@@ -54,6 +55,14 @@ returns-clause-left g c told =
     (g.K.Sink.faults c.args.output.now) (g.K.Sink.faults c.answer-answered.new.output) (g.K.Sink.faults c.finish.new.output)
     r.ask name r.old r.now r.faults_before r.faults_after c.answer-answered.result c.finish.ensures.0 c.finish.result.0 asks (c.answer-answered.ensures.cause told) c.finish.ensures.1 c.finish.ensures.2 zero
     (λ is. c.answer-answered.ensures.played options name asks told is) old now there left))
+    (λ limit name old now asks there left.
+    (let r = ran g a in
+    session_by limit r.input g.K.Sink.tells (g.K.Sink.written c.args.output.now) (g.K.Sink.written c.answer-answered.new.output) (g.K.Sink.written c.finish.new.output)
+    (g.K.Sink.faults c.args.output.now) (g.K.Sink.faults c.answer-answered.new.output) (g.K.Sink.faults c.finish.new.output)
+    r.faults_before r.faults_after c.finish.ensures.0 c.finish.result.0 c.answer-answered.result c.finish.ensures.1 c.finish.ensures.2
+    (asked_counted g.F.D.Disk.tells r.ask r.faults_before r.faults_after (ending_of c.answer-answered.result) told c.answer-answered.ensures.counted)
+    (exits g.F.D.Disk.tells r c.finish.ensures.0 (ending_of c.answer-answered.result) c.finish.ensures.1 (prints g a))
+    (r.old name) (r.now name) (c.answer-answered.ensures.served limit name asks told) old now there left))
 
 pub returns-clause-accounted : goal.returns-clause-accounted
 returns-clause-accounted g c =

@@ -1,5 +1,5 @@
 use Rattle.std.proofs.Common.{string_bytes}
-use Rattle.tdb_top.proofs.ask.Ask.of_tool.Goals as goal
+use Rattle.tdb_top.proofs.ask.Ask.of_command.Goals as goal
 
 -- what a command asks for fits whatever file it is on
 pub returns-clause-fits : goal.returns-clause-fits

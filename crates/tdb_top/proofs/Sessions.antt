@@ -1,0 +1,123 @@
+-- What a session over a file gives, from what its parts gave.
+use Rattle.std.proofs.Common.{◌≡◌, ℕ, true, List, [], ◌++◌, length, take, Option, None, Some, Result, Ok, Err, refl, sym, ◌∙◌, ap, subst, inl, inr, arith}
+use Rattle.std.specs.Prelude.{Bool, IsTrue}
+use Rattle.std.proofs.lemmas.List.{append-nil, take_all}
+use Rattle.tdb_disk.specs.Count.{Rose}
+use Rattle.tdb_disk.specs.History.{History, seen}
+use Rattle.tdb_disk.specs.declared.files.TakeRefusal.{TakeRefusal}
+use Rattle.tdb_disk.specs.declared.files.TakeRefusal.TheVariants as Take
+use Rattle.tdb_space.specs.Form.{Form, form_of}
+use Rattle.tdb_law.specs.World.{State}
+use Rattle.tdb_plays.specs.declared.command.Command.{Command}
+use Rattle.tdb_tool.proofs.Wholes.{over_comes}
+use Rattle.tdb_tool.specs.Replies.{replies_text}
+use Rattle.tdb_tool.specs.Whole.{SessionCame}
+use Rattle.tdb_tool.specs.declared.fault.SessionEnd.{SessionEnd}
+use Rattle.tdb_tool.specs.declared.fault.SessionEnd.TheVariants as End
+use Rattle.tdb_tool.specs.declared.fault.SessionFault.{SessionFault}
+use Rattle.tdb_tool.specs.declared.fault.SessionFault.TheVariants as F
+use Rattle.tdb_world.specs.declared.options.Options.{Options}
+use Rattle.tdb_top.specs.declared.ask.Task.TheVariants.{Session}
+use Rattle.tdb_top.specs.declared.ending.Ending.{Ending}
+use Rattle.tdb_top.specs.declared.ending.Ending.TheVariants as E
+use Rattle.tdb_top.specs.declared.ending.Reply.TheVariants.{Played}
+use Rattle.tdb_top.specs.declared.ending.Unprinted.{Unprinted}
+use Rattle.tdb_top.specs.declared.halt.Halt.{Halt}
+use Rattle.tdb_top.specs.declared.halt.Halt.TheVariants as H
+use Rattle.tdb_top.specs.Commands.Session.{session_options, ServesSo, no_file, file_refused, file_opened, line_bad, line_unread, RepliesFront, SessionText, SessionOn, SessionFile, file_unopened, session_ran, SessionHeld}
+use Rattle.tdb_top.specs.Ending.{task_failed, task_wanting, Untaken, of_halt}
+use Rattle.tdb_top.specs.Input.{Input}
+use Rattle.tdb_top.specs.Looks.{ending_of, Began}
+use Rattle.tdb_top.specs.Opening.{opened_bytes}
+use Rattle.tdb_top.specs.Reads.{AskCause}
+
+-- why a session ended so
+by_lines : (input : Input) (limit : ℕ) (name : List ℕ) (held : Option History) (before after : ℕ) (e : Ending) → ServesSo input limit name held e → AskCause input (Session limit) name held before after e
+by_lines input limit name held before after e so = inr (inr (inr (record { limit = limit; serves = refl; why = so })))
+
+-- what it wrote is a front of its replies
+wrote_front : (f : Form) (options : Options) (a : List ℕ) (commands : List Command) (new : State) (told : Bool) (before now : List ℕ) → IsTrue told → SessionCame f options a commands new told before now
+    → (text : List ℕ) × SessionCame f options a commands new true [] text × (now ≡ before ++ text)
+wrote_front f options a commands new told before now heard p =
+    let w = p.printed heard in (
+      take w.0 (replies_text p.lines),
+      record { old = p.old; loaded = p.loaded; over = p.over; lines = p.lines; came = p.came; lawful = p.lawful; printed = λ always. (w.0, w.1, refl) },
+      w.2,
+    )
+
+module _ (limit : ℕ) (input : Input) (name : List ℕ) (h now : History) (told : Bool) (w0 w1 : List ℕ) where
+  abbrev On : Result Ending Unprinted → Type 0
+  On r = SessionFile limit input h now told w0 w1 r
+
+  module _ (held : Option History) (there : held ≡ Some h) where
+    pub cause_session : (before after : ℕ) (r : Result Ending Unprinted) → On r → (ending_of r ≡ E.DeviceFault → Rose before after) → (ending_of r ≡ E.InputFault → Rose input.faults_before input.faults_after)
+        → AskCause input (Session limit) name held before after (ending_of r)
+    cause_session before after _ (file_unopened (H.Refused refusal) opened same) rose unread = by_lines input limit name held before after (E.Refused refusal) (file_refused h refusal there opened.0)
+    cause_session before after _ (file_unopened H.Device opened same) rose unread = inl (task_failed (rose refl))
+    cause_session before after _ (file_unopened H.Memory opened same) rose unread = inl task_wanting
+    cause_session before after _ (session_ran (Ok End.Ended) on) rose unread = by_lines input limit name held before after (E.Replied Played) (file_opened h there on.opens)
+    cause_session before after _ (session_ran (Ok (End.Malformed at)) on) rose unread =
+        by_lines input limit name held before after (E.Malformed at) (line_bad h at there on.opens (λ heard. (on.ran.0, on.ran.1 heard)))
+    cause_session before after _ (session_ran (Err F.Input) on) rose unread = by_lines input limit name held before after E.InputFault (line_unread h there on.opens (unread refl))
+    cause_session before after _ (session_ran (Err F.Output) on) rose unread = by_lines input limit name held before after (E.Replied Played) (file_opened h there on.opens)
+    cause_session before after _ (session_ran (Err F.Device) on) rose unread = inl (task_failed (rose refl))
+    cause_session before after _ (session_ran (Err F.Memory) on) rose unread = inl task_wanting
+
+    -- what it wrote
+    module _ (heard : IsTrue told) where
+      abbrev Front : Type 0
+      Front = (text : List ℕ) × RepliesFront limit (opened_bytes (seen h)) text × (w1 ≡ w0 ++ text)
+
+      came_front : (answer : Result SessionEnd SessionFault) (on : SessionOn limit input h now told w0 w1 answer) (commands : List Command) (new : State)
+          → SessionCame (form_of (seen on.opened)) (session_options limit) (seen on.opened) commands new told w0 w1 → Front
+      came_front answer on commands new p =
+          let w = wrote_front (form_of (seen on.opened)) (session_options limit) (seen on.opened) commands new told w0 w1 heard p in
+          (w.0, subst (λ img. RepliesFront limit img w.0) on.is_opened.reads (commands, new, w.1), w.2)
+
+      whole_front : (end : SessionEnd) (on : SessionOn limit input h now told w0 w1 (Ok end)) → Front
+      whole_front end on = came_front (Ok end) on on.ran.0 _ (over_comes (form_of (seen on.opened)) (session_options limit) (seen on.opened) on.ran.0 (seen now) told w0 w1 on.ran.2)
+
+      pub began_session : (r : Result Ending Unprinted) → On r → Began (SessionText limit held) w0 w1 r
+      began_session r on = subst (λ o. Began (SessionText limit o) w0 w1 r) (sym there) (of r on)
+        where
+          none : w1 ≡ w0 → w1 ≡ w0 ++ []
+          none same = same ∙ sym (append-nil w0)
+
+          of : (r : Result Ending Unprinted) → On r → Began (SessionText limit (Some h)) w0 w1 r
+          of _ (file_unopened (H.Refused refusal) opened same) = ([], refl, none same)
+          of _ (file_unopened H.Device opened same) = ([], inl refl, none same)
+          of _ (file_unopened H.Memory opened same) = ([], inl refl, none same)
+          of _ (session_ran (Ok End.Ended) on) = whole_front End.Ended on
+          of _ (session_ran (Ok (End.Malformed at)) on) = whole_front (End.Malformed at) on
+          of _ (session_ran (Err F.Input) on) = came_front (Err F.Input) on on.ran.0 on.ran.2 on.ran.3
+          of _ (session_ran (Err F.Output) on) =
+              let p = came_front (Err F.Output) on on.ran.0 on.ran.2 on.ran.3 in
+              (p.0, p.1, length p.0, p.2 ∙ ap (λ t. w0 ++ t) (sym (take_all (length p.0) p.0 (omega arith))))
+          of _ (session_ran (Err F.Device) on) = let p = came_front (Err F.Device) on on.ran.0 on.ran.2 on.ran.3 in (p.0, inr p.1, p.2)
+          of _ (session_ran (Err F.Memory) on) = let p = came_front (Err F.Memory) on on.ran.0 on.ran.2 on.ran.3 in (p.0, inr p.1, p.2)
+
+-- a file that wasn't taken
+module _ (limit : ℕ) (input : Input) (name : List ℕ) (held : Option History) where
+  module _ (before after : ℕ) where
+    pub untaken_session : (refusal : TakeRefusal) (e : Ending) → (refusal ≡ Take.There → ⊥) → (refusal ≡ Take.Missing → held ≡ None) → (refusal ≡ Take.Failed → Rose before after) → Untaken name refusal e → AskCause input (Session limit) name held before after e
+    untaken_session Take.Missing e free gone rose (inl is) = subst (AskCause input (Session limit) name held before after) (sym is) (by_lines input limit name held before after (E.Missing name) (no_file (gone refl)))
+    untaken_session Take.Missing e free gone rose (inr is) = subst (AskCause input (Session limit) name held before after) (sym is) (inl task_wanting)
+    untaken_session Take.There e free gone rose is = absurd (free refl)
+    untaken_session Take.Failed e free gone rose is = subst (AskCause input (Session limit) name held before after) (sym is) (inl (task_failed (rose refl)))
+    untaken_session Take.Memory e free gone rose is = subst (AskCause input (Session limit) name held before after) (sym is) (inl task_wanting)
+
+  -- what is held where nothing was done
+  unopened_held : (o given : Option History) (told : Bool) (w : List ℕ) (halt : Halt) → given ≡ o → ((h : History) → SessionFile limit input h h told w w (Ok (of_halt halt))) → SessionHeld limit input o given told w w (Ok (of_halt halt))
+  unopened_held None given told w halt same file = same
+  unopened_held (Some h) given told w halt same file = (h, same, file h)
+
+  pub wants_held : (o given : Option History) (told : Bool) (w : List ℕ) → given ≡ o → SessionHeld limit input o given told w w (Ok E.NoMemory)
+  wants_held o given told w same = unopened_held o given told w H.Memory same (λ h. file_unopened H.Memory (inr refl) refl)
+
+  pub untaken_held : (given : Option History) (told : Bool) (w : List ℕ) (refusal : TakeRefusal) (e : Ending) → given ≡ held → (refusal ≡ Take.There → ⊥) → (refusal ≡ Take.Missing → held ≡ None) → Untaken name refusal e
+      → SessionHeld limit input held given told w w (Ok e)
+  untaken_held given told w Take.Missing e same free gone is = subst (λ o. SessionHeld limit input o given told w w (Ok e)) (sym (gone refl)) (same ∙ gone refl)
+  untaken_held given told w Take.There e same free gone is = absurd (free refl)
+  untaken_held given told w Take.Failed e same free gone is =
+      subst (λ x. SessionHeld limit input held given told w w (Ok x)) (sym is) (unopened_held held given told w H.Device same (λ h. file_unopened H.Device tt refl))
+  untaken_held given told w Take.Memory e same free gone is = subst (λ x. SessionHeld limit input held given told w w (Ok x)) (sym is) (wants_held held given told w same)

@@ -1,0 +1,37 @@
+use Rattle.std.proofs.Common.{Ok, Err, refl, sym, subst}
+use Rattle.tdb_disk.specs.History.{seen}
+use Rattle.tdb_space.specs.Form.{form_of}
+use Rattle.tdb_tool.specs.Whole.{SessionRan}
+use Rattle.tdb_top.specs.Commands.Session.{SessionFile, file_unopened, session_ran}
+use Rattle.tdb_top.specs.Commands.Turns.{OpensToTurn, IsOpened}
+use Rattle.tdb_top.specs.Input.{input_by}
+use Rattle.tdb_top.specs.Playing.{OpenedToTurn}
+use Rattle.tdb_top.proofs.commands.session.session_on_disk.Goals as goal
+
+-- it wasn't opened
+pub returns-in-Err-clause-served : goal.returns-in-Err-clause-served
+returns-in-Err-clause-served g c told =
+    let old = g.D.Disk.history c.args.disk.now in
+    let now = g.D.Disk.history c.open_to_turn.new.disk in
+    let w = g.K.Sink.written c.args.output.now in
+    let n = g.S.Source.faults c.args.input.now in
+    subst (λ e. SessionFile c.args.limit (input_by g.S.Source.tells (g.S.Source.left c.args.input.now) n n) old now g.K.Sink.tells w w (Ok e)) (sym c.from.ensures)
+    (file_unopened c.in-Err.halt (subst (λ o. OpenedToTurn o old now (Err c.in-Err.halt)) c.options_within-options.ensures (c.in-Err.ensures.opened told)) refl)
+
+-- it was, and the session ran over it
+pub returns-clause-served : goal.returns-clause-served
+returns-clause-served g c told =
+    let old = g.D.Disk.history c.args.disk.now in
+    let opened = g.D.Disk.history c.open_to_turn.new.disk in
+    let now = g.D.Disk.history c.serve_opened.new.disk in
+    let before = g.K.Sink.written c.args.output.now in
+    let after = g.K.Sink.written c.serve_opened.new.output in
+    let left = g.S.Source.left c.args.input.now in
+    let is = c.options_within-options.ensures in
+    subst (λ r. SessionFile c.args.limit (input_by g.S.Source.tells left (g.S.Source.faults c.args.input.now) (g.S.Source.faults c.serve_opened.new.input)) old now g.K.Sink.tells before after r) (sym c.told.ensures)
+    (session_ran c.serve_opened.result (record {
+      opened = opened;
+      opens = subst (λ o. OpensToTurn o (seen old)) is (c.in-Ok.ensures.opened told).0;
+      is_opened = subst (λ o. IsOpened o old opened) is (c.in-Ok.ensures.opened told).1;
+      ran = subst (λ o. SessionRan (form_of (seen opened)) o (seen opened) (seen now) g.S.Source.tells left g.K.Sink.tells before after c.serve_opened.result) is (c.serve_opened.ensures.ran told);
+    }))

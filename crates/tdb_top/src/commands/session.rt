@@ -1,0 +1,135 @@
+// The command that takes the commands on the lines of the input over a file, and prints their replies.
+
+ghost use Rattle.std.specs.Prelude.{◌≡◌, ◌≤◌, ◌&&◌, ℕ, List, false, IsTrue};
+ghost use Rattle.tdb_disk.specs.Count.{HasCause, HasCauseOf, Rose};
+ghost use Rattle.tdb_disk.specs.History.{seen};
+ghost use Rattle.tdb_disk.specs.Names.{SameBut};
+ghost use Rattle.tdb_space.specs.Form.{form_of};
+ghost use Rattle.tdb_tool.specs.Serving.{fault_of, UnlessBroken, OnBroken};
+ghost use Rattle.tdb_tool.specs.Whole.{SessionRan};
+ghost use Rattle.tdb_tool.specs.declared.fault.SessionFault.TheVariants as FaultIs;
+ghost use Rattle.tdb_top.specs.declared.ask.Task.TheVariants.{Session};
+ghost use Rattle.tdb_top.specs.declared.ending.Ending.TheVariants.{Usage};
+ghost use Rattle.tdb_top.specs.Commands.Restore.{HeardBy};
+ghost use Rattle.tdb_top.specs.Commands.Session.{session_options, session_told, SessionText, SessionFile, SessionHeld, StaysThere};
+ghost use Rattle.tdb_top.specs.Ending.{CountedIf};
+ghost use Rattle.tdb_top.specs.Input.{input_by};
+ghost use Rattle.tdb_top.specs.Looks.{ending_of, Began};
+ghost use Rattle.tdb_top.specs.Opening.{IsCheckedOn};
+ghost use Rattle.tdb_top.specs.Reads.{AskCause};
+
+use crate::commands::turns::open_to_turn;
+use crate::ending::{Ending, Reply, Unprinted};
+use crate::opening::Opened;
+use std::alloc::Global;
+use tdb_disk::{Disk, Files, Sink, Source, Take};
+use tdb_space::Direct;
+use tdb_tool::{SessionEnd, SessionFault, run_session};
+use tdb_world::Options;
+
+/// How a file is opened for a session that may make it so long.
+fn options_within(limit: u64) -> Options
+    ensures { result ≡ session_options limit }
+{
+    Options {
+        limit,
+        nesting: true,
+        read_only: false,
+        seqnum: false,
+    }
+}
+
+/// Takes the commands on the input over the opened file on a disk, and prints their replies.
+fn serve_opened<D: Disk, S: Source, K: Sink>(
+    alloc: Global,
+    opened: &Opened,
+    options: &Options,
+    disk: &mut D,
+    input: &mut S,
+    output: &mut K,
+) -> Result<SessionEnd, SessionFault>
+    requires limit { options.now.limit ≤ 4294963200 }
+    requires length { opened.now.len ≡ D.size disk.old }
+    requires short { opened.now.len ≤ options.now.limit }
+    requires checked { IsTrue D.tells → IsCheckedOn (seen (D.history disk.old)) opened.now }
+    ensures ran { IsTrue D.tells → SessionRan (form_of (seen (D.history disk.old))) options.now (seen (D.history disk.old)) (seen (D.history disk.new)) S.tells (S.left input.old) K.tells (K.written output.old) (K.written output.new) result }
+    ensures rises { D.faults disk.old ≤ D.faults disk.new }
+    ensures quiet { UnlessBroken (fault_of result) (D.faults disk.new ≡ D.faults disk.old) }
+    ensures rose { IsTrue D.tells → OnBroken (fault_of result) (Rose (D.faults disk.old) (D.faults disk.new)) }
+    ensures input_cause { HasCauseOf FaultIs.Input (S.faults input.old) (S.faults input.new) result }
+    ensures cause { HasCauseOf FaultIs.Output (K.faults output.old) (K.faults output.new) result }
+{
+    let mut space = Direct::new(disk, &opened.header);
+    run_session(alloc, &mut space, &opened.header, options, input, output)
+}
+
+/// How a run ends whose session answered so.
+fn told(answer: Result<SessionEnd, SessionFault>) -> Result<Ending, Unprinted>
+    ensures { result ≡ session_told answer }
+{
+    match answer {
+        Ok(SessionEnd::Ended) => Ok(Ending::Replied(Reply::Played)),
+        Ok(SessionEnd::Malformed { at }) => Ok(Ending::Malformed { at }),
+        Err(SessionFault::Input) => Ok(Ending::InputFault),
+        Err(SessionFault::Output) => Err(Unprinted::Report),
+        Err(SessionFault::Device) => Ok(Ending::DeviceFault),
+        Err(SessionFault::Memory) => Ok(Ending::NoMemory),
+    }
+}
+
+/// Opens the file on a disk, and takes the commands on the input over it.
+fn session_on_disk<D: Disk, S: Source, K: Sink>(
+    alloc: Global,
+    limit: u64,
+    disk: &mut D,
+    input: &mut S,
+    output: &mut K,
+) -> Result<Ending, Unprinted>
+    requires limit { limit ≤ 4294963200 }
+    ensures served { IsTrue D.tells → SessionFile limit (input_by S.tells (S.left input.old) (S.faults input.old) (S.faults input.new)) (D.history disk.old) (D.history disk.new) K.tells (K.written output.old) (K.written output.new) result }
+    ensures counted { CountedIf D.tells (D.faults disk.old) (D.faults disk.new) (ending_of result) }
+    ensures cause { HasCause (K.faults output.old) (K.faults output.new) result }
+    ensures asked { ending_of result ≡ Usage → ⊥ }
+    ensures heard { HeardBy (S.faults input.old) (S.faults input.new) (ending_of result) }
+{
+    let options = options_within(limit);
+    let opened = match open_to_turn(alloc, &options, disk) {
+        Ok(opened) => opened,
+        Err(halt) => return Ok(Ending::from(halt)),
+    };
+    told(serve_opened(alloc, &opened, &options, disk, input, output))
+}
+
+/// Takes the commands on the lines of the input over the file of this name, which may become `limit` bytes long, and
+/// prints each reply as soon as it is made. The input is read while the commands are taken, so those before a line that
+/// is none, or before a read that fails, are done and their replies printed.
+pub(crate) fn session_on_file<F: Files, S: Source, K: Sink>(
+    alloc: Global,
+    name: &str,
+    limit: u64,
+    files: &mut F,
+    input: &mut S,
+    output: &mut K,
+) -> Result<Ending, Unprinted>
+    requires limit { limit ≤ 4294963200 }
+    requires free { (other : List ℕ) → F.is_taken files.old other ≡ false }
+    ensures cause { IsTrue F.D.tells → AskCause (input_by S.tells (S.left input.old) (S.faults input.old) (S.faults input.new)) (Session limit) name.now (F.held files.old name.now) (F.faults files.old) (F.faults files.new) (ending_of result) }
+    ensures left { IsTrue F.D.tells → StaysThere (F.held files.old name.now) (F.held files.new name.now) }
+    ensures others { SameBut name.now (F.held files.old) (F.held files.new) }
+    ensures given_back { (other : List ℕ) → F.is_taken files.new other ≡ false }
+    ensures counted { CountedIf F.D.tells (F.faults files.old) (F.faults files.new) (ending_of result) }
+    ensures began { IsTrue (K.tells && F.D.tells) → Began (SessionText limit (F.held files.old name.now)) (K.written output.old) (K.written output.new) result }
+    ensures served { IsTrue F.D.tells → SessionHeld limit (input_by S.tells (S.left input.old) (S.faults input.old) (S.faults input.new)) (F.held files.old name.now) (F.held files.new name.now) K.tells (K.written output.old) (K.written output.new) result }
+    ensures output_cause { HasCause (K.faults output.old) (K.faults output.new) result }
+    ensures asked { ending_of result ≡ Usage → ⊥ }
+    ensures heard { HeardBy (S.faults input.old) (S.faults input.new) (ending_of result) }
+{
+    match files.take(alloc, name, Take::Existing) {
+        Ok(mut disk) => {
+            let served = session_on_disk(alloc, limit, &mut disk, input, output);
+            files.give(name, disk);
+            served
+        }
+        Err(refusal) => Ok(Ending::untaken(alloc, name, refusal)),
+    }
+}
