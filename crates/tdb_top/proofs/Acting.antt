@@ -8,7 +8,7 @@ use Rattle.tdb_disk.specs.declared.files.TakeRefusal.{TakeRefusal}
 use Rattle.tdb_disk.specs.declared.files.TakeRefusal.TheVariants as Take
 use Rattle.tdb_top.specs.declared.act.Act.{Act}
 use Rattle.tdb_top.specs.declared.ask.Task.{Task}
-use Rattle.tdb_top.specs.declared.ask.Task.TheVariants.{Create, On, Read, Restore, Backup, Turns, Session}
+use Rattle.tdb_top.specs.declared.ask.Task.TheVariants.{Create, On, Read, Restore, Backup, Turns, Session, Generate}
 use Rattle.tdb_top.specs.declared.commands.create.NewForm.{NewForm}
 use Rattle.tdb_top.specs.declared.commands.create.Creation as Making
 use Rattle.tdb_top.specs.declared.ending.Ending.{Ending}
@@ -29,7 +29,7 @@ use Rattle.tdb_top.specs.Commands.Restore.{of_input, HeardBy}
 use Rattle.tdb_top.specs.Commands.Session.{StaysThere}
 use Rattle.tdb_top.specs.Commands.Turns.{TurnsLeave}
 use Rattle.tdb_world.specs.declared.options.Options.{Options}
-use Rattle.tdb_top.specs.Reads.{AskEnds}
+use Rattle.tdb_top.specs.Reads.{AskEnds, GenCause}
 use Rattle.tdb_top.specs.Input.{Input}
 use Rattle.tdb_top.specs.Opening.{opened_bytes, CanOpen, UndoneIfOpen, HaltLeaves, HaltsRightly, of_fault}
 use Rattle.tdb_top.proofs.Openings.{same_or_undone}
@@ -159,6 +159,7 @@ task_wants input (Backup more suffix) file held = record {
 }
 task_wants input (Turns options) file held = turns_want options (held file)
 task_wants input (Session limit) file held = stays_same (held file)
+task_wants input (Generate commands seed) file held = refl
 
 pub words_want : (input : Input) (ask : Option Ask) (held : List ℕ → Option History) → Leaving input ask held E.NoMemory held
 words_want input None held = λ name. refl
@@ -167,9 +168,14 @@ words_want input (Some a) held = (λ other apart. refl, task_wants input a.task 
 -- why a backup ended so is why its task did
 pub backup_ends : (input : Input) (task : Task) (more : List (List ℕ)) (suffix name : List ℕ) (held : List ℕ → Option History) (before after : ℕ) (e : Ending) → task ≡ Backup more suffix → BackupCause (name ∷ more) held before after e
     → AskEnds input task name held before after e
-backup_ends input task more suffix name held before after e is (inl ends) = inr (record { more = more; suffix = suffix; backs_up = is; ends = ends })
+backup_ends input task more suffix name held before after e is (inl ends) = inr (inl (record { more = more; suffix = suffix; backs_up = is; ends = ends }))
 backup_ends input task more suffix name held before after e is (inr (inl fault)) = inl (inl (subst (TaskCause task name (held name) before after) (sym fault.0) (task_failed fault.1)))
 backup_ends input task more suffix name held before after e is (inr (inr wanting)) = inl (inl (subst (TaskCause task name (held name) before after) (sym wanting) task_wanting))
+
+-- and why generated commands ended so
+pub gen_ends : (input : Input) (task : Task) (commands seed : ℕ) (name : List ℕ) (held : List ℕ → Option History) (before after : ℕ) (e : Ending) → task ≡ Generate commands seed → GenCause commands seed name (held name) before after e → AskEnds input task name held before after e
+gen_ends input task commands seed name held before after e is (inl cause) = inl (inl (subst (λ t. TaskCause t name (held name) before after e) (sym is) cause))
+gen_ends input task commands seed name held before after e is (inr ends) = inr (inr (record { commands = commands; seed = seed; generates = is; none = ends.0; ends = ends.1 }))
 
 -- an ending that tells nothing of the input, which was left as it was
 pub not_heard : (before after : ℕ) (e : Ending) → after ≡ before → of_input e ≡ false → HeardBy before after e

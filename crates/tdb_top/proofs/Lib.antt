@@ -17,6 +17,7 @@ pub mod Looking
 pub mod BackingUp
 pub mod BackupNames
 pub mod LineWords
+pub mod GenWords
 pub mod Writing
 pub mod OneAnswer
 pub mod Copies
@@ -28,3 +29,4 @@ pub mod Served
 pub mod Turning
 pub mod Sessions
 pub mod SessionRuns
+pub mod Generating

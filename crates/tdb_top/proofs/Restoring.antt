@@ -18,6 +18,7 @@ use Rattle.tdb_backup.specs.declared.refusal.RestoreRefusal.{RestoreRefusal}
 use Rattle.tdb_backup.specs.declared.refusal.RestoreRefusal.TheVariants as R
 use Rattle.tdb_top.specs.declared.limits.TheConstants.{DEFAULT_SIZE}
 use Rattle.tdb_top.specs.Commands.Create.{IsNewFile}
+use Rattle.tdb_top.specs.declared.ask.Task.{Task}
 use Rattle.tdb_top.specs.declared.ask.Task.TheVariants.{Restore}
 use Rattle.tdb_top.specs.declared.ending.Ending.{Ending}
 use Rattle.tdb_top.specs.declared.ending.Ending.TheVariants as E
@@ -74,18 +75,18 @@ module _ (input : Input) (limit : ℕ) (name : List ℕ) (held : Option History)
   refused_cause r e is counted text rose =
       subst (AskCause input (Restore limit) name held before after) (sym is) (refusal_cause r (subst (CountedBy before after) is counted) text rose)
 
--- a file that wasn't taken, and that a restore was to make
-pub untaken_new : (limit : ℕ) (name : List ℕ) (held : Option History) (before after : ℕ) (refusal : TakeRefusal) (e : Ending) → (refusal ≡ Take.Missing → ⊥) → (refusal ≡ Take.There → IsSome held) → (refusal ≡ Take.Failed → Rose before after)
-    → Untaken name refusal e → TaskCause (Restore limit) name held before after e
-untaken_new limit name held before after Take.Missing e free some rose is = absurd (free refl)
-untaken_new limit name held before after Take.There e free some rose (inl is) = task_due e (there held (some refl))
+-- a file that wasn't taken, and that a task was to make
+pub untaken_new : (task : Task) (name : List ℕ) (held : Option History) (before after : ℕ) → ((h : History) → TaskDue task name (Some h) (E.There name)) → (refusal : TakeRefusal) (e : Ending) → (refusal ≡ Take.Missing → ⊥) → (refusal ≡ Take.There → IsSome held) → (refusal ≡ Take.Failed → Rose before after)
+    → Untaken name refusal e → TaskCause task name held before after e
+untaken_new task name held before after due Take.Missing e free some rose is = absurd (free refl)
+untaken_new task name held before after due Take.There e free some rose (inl is) = subst (TaskCause task name held before after) (sym is) (task_due (E.There name) (there held (some refl)))
   where
-    there : (o : Option History) → IsSome o → TaskDue (Restore limit) name o e
+    there : (o : Option History) → IsSome o → TaskDue task name o (E.There name)
     there None some = absurd (false≢true some)
-    there (Some h) some = is
-untaken_new limit name held before after Take.There e free some rose (inr is) = subst (TaskCause (Restore limit) name held before after) (sym is) task_wanting
-untaken_new limit name held before after Take.Failed e free some rose is = subst (TaskCause (Restore limit) name held before after) (sym is) (task_failed (rose refl))
-untaken_new limit name held before after Take.Memory e free some rose is = subst (TaskCause (Restore limit) name held before after) (sym is) task_wanting
+    there (Some h) some = due h
+untaken_new task name held before after due Take.There e free some rose (inr is) = subst (TaskCause task name held before after) (sym is) task_wanting
+untaken_new task name held before after due Take.Failed e free some rose is = subst (TaskCause task name held before after) (sym is) (task_failed (rose refl))
+untaken_new task name held before after due Take.Memory e free some rose is = subst (TaskCause task name held before after) (sym is) task_wanting
 
 -- the ending of a refusal has a status of its own, and isn't the usage
 refusal_status : (r : RestoreRefusal) → status_of (of_restore r) ≡ 0 → ⊥

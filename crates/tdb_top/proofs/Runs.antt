@@ -1,25 +1,26 @@
 -- What a run says and leaves, from how its task ended and from what the output took.
-use Rattle.std.proofs.Common.{◌≡◌, ◌⊎◌, ℕ, ◌<◌, ◌≤◌, true, false, List, [], ◌∷◌, Option, None, Some, length, refl, sym, ◌∙◌, ap, subst, inl, inr, arith}
-use Rattle.std.specs.Prelude.{Contains, Bool}
+use Rattle.std.proofs.Common.{◌≡◌, ◌⊎◌, ℕ, ◌<◌, ◌≤◌, true, false, List, [], ◌∷◌, ◌++◌, Option, None, Some, length, refl, sym, ◌∙◌, ap, subst, inl, inr, arith}
+use Rattle.std.specs.Prelude.{Contains, Bool, IsTrue, IsSome}
 use Rattle.std.proofs.lemmas.Bool.{false≢true}
+use Rattle.std.proofs.lemmas.List.{append-nil}
 use Rattle.tdb_disk.specs.Count.{Rose}
 use Rattle.tdb_disk.specs.History.{History, seen}
 use Rattle.tdb_space.specs.Opening.{Opens}
 use Rattle.tdb_top.specs.declared.act.Act.{Act}
 use Rattle.tdb_top.specs.declared.look.Look.{Look}
 use Rattle.tdb_top.specs.declared.ask.Task.{Task}
-use Rattle.tdb_top.specs.declared.ask.Task.TheVariants.{Create, On, Read, Restore, Backup, Turns, Session}
+use Rattle.tdb_top.specs.declared.ask.Task.TheVariants.{Create, On, Read, Restore, Backup, Turns, Session, Generate}
 use Rattle.tdb_top.specs.declared.commands.create.NewForm.{NewForm}
 use Rattle.tdb_top.specs.declared.ending.Ending.{Ending}
 use Rattle.tdb_top.specs.declared.ending.Ending.TheVariants.{Replied, Refused, Missing, There, Usage, DeviceFault, InputFault, Malformed, NoMemory}
 use Rattle.tdb_top.specs.declared.ending.Reply.{Reply}
-use Rattle.tdb_top.specs.declared.ending.Reply.TheVariants.{Done, Value, Escaped, Dumped, Restored, Copied, KeyMissing, KeyThere, Full, Number, Played}
+use Rattle.tdb_top.specs.declared.ending.Reply.TheVariants.{Done, Value, Escaped, Dumped, Restored, Copied, KeyMissing, KeyThere, Full, Number, Played, Generated, Unfinished}
 use Rattle.tdb_top.specs.declared.halt.Refusal.{Refusal}
 use Rattle.tdb_top.specs.declared.halt.Refusal.TheVariants.{TooLong, Header, Corrupt, NeedsRecovery}
 use Rattle.tdb_top.specs.declared.limits.TheConstants.{LONGEST_FILE}
 use Rattle.tdb_top.specs.Ask.{Ask}
 use Rattle.tdb_top.specs.Acts.{reply_of, Left}
-use Rattle.tdb_top.specs.Ending.{status_of, TakesMemory, PrintedFor, Replies, Refuses, LookReplies, RefusesToRead, TaskDue, Due, TaskCause, task_due, task_failed, task_wanting, CountedBy, CountedFor, CountedAsked}
+use Rattle.tdb_top.specs.Ending.{status_of, text_of, TakesMemory, PrintedFor, Replies, Refuses, LookReplies, RefusesToRead, TaskDue, Due, TaskCause, task_due, task_failed, task_wanting, CountedBy, CountedFor, CountedAsked, has_openers, asks_openers}
 use Rattle.tdb_top.specs.Looks.{look_reply}
 use Rattle.tdb_top.specs.Printed.{TextBefore, ask_tells, IsSilent, Writes}
 use Rattle.tdb_top.specs.Left.{ActLeaves, OnLeaves, MakingLeaves, RestoreLeaves, TaskLeaves, MayChange, SameElse, Leaving}
@@ -27,12 +28,15 @@ use Rattle.tdb_top.specs.Commands.Restore.{of_input, HeardBy}
 use Rattle.tdb_top.specs.Commands.Backup.{BackupLeaves, EndsBackup}
 use Rattle.tdb_top.specs.Input.{Input}
 use Rattle.tdb_top.specs.Output.{Output}
-use Rattle.tdb_top.specs.Reads.{reads_input, ask_reads, takes_plays, ask_plays, AskEnds}
+use Rattle.tdb_top.specs.Reads.{reads_input, ask_reads, AskEnds}
 use Rattle.tdb_top.specs.Commands.Session.{session_options, StaysThere}
 use Rattle.tdb_top.specs.Commands.Turns.{TurnOpened, IsPlayed, TurnsLeft, TurnsLeave}
 use Rattle.tdb_world.specs.declared.options.Options.{Options}
+use Rattle.tdb_gen.specs.declared.summary.Summary.{Summary}
+use Rattle.tdb_gen.specs.Summary.{summary_text}
+use Rattle.tdb_top.specs.Commands.Generate.{HasMade, GenLeaves}
 use Rattle.tdb_top.specs.Opening.{opened_bytes, OpensToRead, HeldOrUndone, SameOrUndone, UndoneIfOpen}
-use Rattle.tdb_top.specs.Run.{Run, MayEnd, is_due, is_read, is_copied, is_played, is_served, call_failed, memory_wanting, TellsFault, ActsOn, LooksInto, RefusesExactly, KeepsAll, EndsMidway, ActRun, MakingRun, RestoringRun, BackupRun, TurnsRun, SessionRun, IsCopyName, LeavesFiles, Accounted}
+use Rattle.tdb_top.specs.Run.{Run, MayEnd, is_due, is_read, is_copied, is_played, is_served, is_generated, call_failed, memory_wanting, TellsFault, ActsOn, LooksInto, RefusesExactly, KeepsAll, EndsMidway, ActRun, MakingRun, RestoringRun, BackupRun, TurnsRun, SessionRun, GeneratingRun, IsCopyName, LeavesFiles, Accounted}
 use Rattle.tdb_top.proofs.Held.{same_or_other}
 use Rattle.tdb_top.proofs.Copies.{stopped_kept, stopped_weaker, backup_zero}
 use Rattle.tdb_top.proofs.OneAnswer.{due_one, refused_faulty, refused_three, read_faulty, read_three}
@@ -54,6 +58,8 @@ reply_status Dumped = inl refl
 reply_status Restored = inl refl
 reply_status Copied = inl refl
 reply_status Played = inl refl
+reply_status (Generated text) = inl refl
+reply_status Unfinished = inr (inl refl)
 reply_status (Number n) = inl refl
 reply_status KeyMissing = inr (inl refl)
 reply_status KeyThere = inr (inl refl)
@@ -193,7 +199,9 @@ asked_cause ask a held input before after e is (inl (inr (inr (inl ends)))) =
     is_played e ends.options a.file (sym is ∙ ap (λ t. Some (record { file = a.file; task = t })) ends.turns) ends.why
 asked_cause ask a held input before after e is (inl (inr (inr (inr ends)))) =
     is_served e ends.limit a.file (sym is ∙ ap (λ t. Some (record { file = a.file; task = t })) ends.serves) ends.why
-asked_cause ask a held input before after e is (inr ends) =
+asked_cause ask a held input before after e is (inr (inr ends)) =
+    is_generated e ends.commands ends.seed a.file (sym is ∙ ap (λ t. Some (record { file = a.file; task = t })) ends.generates) ends.none ends.ends
+asked_cause ask a held input before after e is (inr (inl ends)) =
     is_copied e ends.more ends.suffix a.file (sym is ∙ ap (λ t. Some (record { file = a.file; task = t })) ends.backs_up) ends.ends
 
 -- a task that reads the input is no act and no look
@@ -211,6 +219,7 @@ look_or_restore ask look name limit other looks restores = reads_input_alone ask
 abbrev task_copies : Task → Bool
 task_copies (Turns options) = false
 task_copies (Session limit) = false
+task_copies (Generate commands seed) = false
 task_copies (Backup more suffix) = true
 task_copies (On act) = false
 task_copies (Read look) = false
@@ -227,45 +236,37 @@ act_or_backup ask act name more suffix other acts copies = false≢true (ap asks
 look_or_backup : (ask : Option Ask) (look : Look) (name : List ℕ) (more : List (List ℕ)) (suffix other : List ℕ) → ask ≡ Some (record { file = name; task = Read look }) → ask ≡ Some (record { file = other; task = Backup more suffix }) → ⊥
 look_or_backup ask look name more suffix other looks copies = false≢true (ap asks_copies (sym looks ∙ copies))
 
--- nothing is due of a task that takes plays
-plays_due : (task : Task) (name : List ℕ) (held : Option History) (e : Ending) → takes_plays task ≡ true → TaskDue task name held e → ⊥
-plays_due (On act) name held e plays due = false≢true plays
-plays_due (Read look) name held e plays due = false≢true plays
-plays_due (Create form) name held e plays due = false≢true plays
-plays_due (Restore limit) name held e plays due = false≢true plays
-plays_due (Backup more suffix) name held e plays due = due
-plays_due (Turns options) name held e plays due = due
-plays_due (Session limit) name held e plays due = due
-
 module _ (run : Run) (e : Ending) (cause : MayEnd run.ask run.old run.input run.faults_before run.faults_after e) (tells : Bool) (prints : Printed tells run e) where
   -- what the ending that is printed says of a status, where it is due, where a restore is asked for and no file is
-  -- there, and where a backup, turns or a session are asked for
+  -- there, where a backup is, and where commands of openers are and nothing is due
   abbrev Copies : Type 0 → Type 0
   Copies P = (more : List (List ℕ)) (suffix name : List ℕ) → run.ask ≡ Some (record { file = name; task = Backup more suffix }) → P
 
-  abbrev Plays : Type 0 → Type 0
-  Plays P = (task : Task) (name : List ℕ) → run.ask ≡ Some (record { file = name; task = task }) → takes_plays task ≡ true → P
+  abbrev Undue : Type 0 → Type 0
+  Undue P = (task : Task) (name : List ℕ) → run.ask ≡ Some (record { file = name; task = task }) → has_openers task ≡ true → ((x : Ending) → TaskDue task name (run.old name) x → ⊥) → P
 
-  status_where : (P : ℕ → Type 0) → (Due run.ask run.old e → P (status_of e)) → ((limit : ℕ) (name : List ℕ) → run.ask ≡ Some (record { file = name; task = Restore limit }) → run.old name ≡ None → P (status_of e)) → Copies (P (status_of e)) → Plays (P (status_of e)) → P run.status ⊎ TellsFault run.status
-  status_where P due read copies play = of e cause prints due read copies play
+  status_where : (P : ℕ → Type 0) → (Due run.ask run.old e → P (status_of e)) → ((limit : ℕ) (name : List ℕ) → run.ask ≡ Some (record { file = name; task = Restore limit }) → run.old name ≡ None → P (status_of e)) → Copies (P (status_of e)) → Undue (P (status_of e)) → P run.status ⊎ TellsFault run.status
+  status_where P due read copies undue = of e cause prints due read copies undue
     where
       of : (x : Ending) → MayEnd run.ask run.old run.input run.faults_before run.faults_after x → Printed tells run x → (Due run.ask run.old x → P (status_of x))
-          → ((limit : ℕ) (name : List ℕ) → run.ask ≡ Some (record { file = name; task = Restore limit }) → run.old name ≡ None → P (status_of x)) → Copies (P (status_of x)) → Plays (P (status_of x)) → P run.status ⊎ TellsFault run.status
-      of x c (inr part) due read copies play = inr (inr (inr part.exits))
-      of _ (is_due x d) (inl all) due read copies play = inl (subst P (sym all.exits) (due d))
-      of _ (is_read x limit name asks none so) (inl all) due read copies play = inl (subst P (sym all.exits) (read limit name asks none))
-      of _ (is_copied x more suffix name asks ends) (inl all) due read copies play = inl (subst P (sym all.exits) (copies more suffix name asks))
-      of _ (is_played x options name asks so) (inl all) due read copies play = inl (subst P (sym all.exits) (play (Turns options) name asks refl))
-      of _ (is_served x limit name asks so) (inl all) due read copies play = inl (subst P (sym all.exits) (play (Session limit) name asks refl))
-      of _ (call_failed a asks rose) (inl all) due read copies play = inr (inl all.exits)
-      of _ memory_wanting (inl all) due read copies play = inr (inr (inl all.exits))
+          → ((limit : ℕ) (name : List ℕ) → run.ask ≡ Some (record { file = name; task = Restore limit }) → run.old name ≡ None → P (status_of x)) → Copies (P (status_of x)) → Undue (P (status_of x)) → P run.status ⊎ TellsFault run.status
+      of x c (inr part) due read copies undue = inr (inr (inr part.exits))
+      of _ (is_due x d) (inl all) due read copies undue = inl (subst P (sym all.exits) (due d))
+      of _ (is_read x limit name asks none so) (inl all) due read copies undue = inl (subst P (sym all.exits) (read limit name asks none))
+      of _ (is_copied x more suffix name asks ends) (inl all) due read copies undue = inl (subst P (sym all.exits) (copies more suffix name asks))
+      of _ (is_played x options name asks so) (inl all) due read copies undue = inl (subst P (sym all.exits) (undue (Turns options) name asks refl (λ y none. none)))
+      of _ (is_served x limit name asks so) (inl all) due read copies undue = inl (subst P (sym all.exits) (undue (Session limit) name asks refl (λ y none. none)))
+      of _ (is_generated x commands seed name asks none so) (inl all) due read copies undue =
+          inl (subst P (sym all.exits) (undue (Generate commands seed) name asks refl (λ y due. subst (λ o. TaskDue (Generate commands seed) name o y) none due)))
+      of _ (call_failed a asks rose) (inl all) due read copies undue = inr (inl all.exits)
+      of _ memory_wanting (inl all) due read copies undue = inr (inr (inl all.exits))
 
   -- what is due is what is answered
   pub exactly : (x : Ending) → Due run.ask run.old x → (run.status ≡ status_of x) ⊎ TellsFault run.status
   exactly x due = status_where (λ n. n ≡ status_of x) (λ d. ap status_of (due_one run.ask run.old e x d due))
       (λ limit name asks none. absurd (subst (λ o. TaskDue (Restore limit) name o x) none (subst (λ a. Due a run.old x) asks due)))
       (λ more suffix name asks. absurd (subst (λ a. Due a run.old x) asks due))
-      (λ task name asks plays. absurd (plays_due task name (run.old name) x plays (subst (λ a. Due a run.old x) asks due)))
+      (λ task name asks openers undue. absurd (undue x (subst (λ a. Due a run.old x) asks due)))
 
   -- an act or a look is neither a restore nor a backup
   no_act : (P : Type 0) (act : Act) (name : List ℕ) (h : History) → ActsOn run act name h → (limit : ℕ) (other : List ℕ) → run.ask ≡ Some (record { file = other; task = Restore limit }) → P
@@ -280,12 +281,12 @@ module _ (run : Run) (e : Ending) (cause : MayEnd run.ask run.old run.input run.
   no_look_copies : (P : Type 0) (look : Look) (name : List ℕ) (h : History) → LooksInto run look name h → Copies P
   no_look_copies P look name h into more suffix other asks = absurd (look_or_backup run.ask look name more suffix other into.asks asks)
 
-  -- nor turns, nor a session
-  act_no_plays : (P : Type 0) (act : Act) (name : List ℕ) (h : History) → ActsOn run act name h → Plays P
-  act_no_plays P act name h acts task other asks plays = absurd (false≢true (ap ask_plays (sym acts.asks ∙ asks) ∙ plays))
+  -- nor has it openers
+  act_no_openers : (P : Type 0) (act : Act) (name : List ℕ) (h : History) → ActsOn run act name h → Undue P
+  act_no_openers P act name h acts task other asks openers undue = absurd (false≢true (ap asks_openers (sym acts.asks ∙ asks) ∙ openers))
 
-  look_no_plays : (P : Type 0) (look : Look) (name : List ℕ) (h : History) → LooksInto run look name h → Plays P
-  look_no_plays P look name h into task other asks plays = absurd (false≢true (ap ask_plays (sym into.asks ∙ asks) ∙ plays))
+  look_no_openers : (P : Type 0) (look : Look) (name : List ℕ) (h : History) → LooksInto run look name h → Undue P
+  look_no_openers P look name h into task other asks openers undue = absurd (false≢true (ap asks_openers (sym into.asks ∙ asks) ∙ openers))
 
   -- what is due of an act on a file that is there
   act_due : (act : Act) (name : List ℕ) (h : History) → ActsOn run act name h → Due run.ask run.old e → Replies act (seen h) e ⊎ Refuses (seen h) e
@@ -318,13 +319,13 @@ module _ (run : Run) (e : Ending) (cause : MayEnd run.ask run.old run.input run.
   no_three (inr (inr is)) three = absurd (omega (arith, is, three))
 
   only_faulty : (act : Act) (name : List ℕ) (h : History) → ActsOn run act name h → run.status ≡ 3 → Opens (seen h) → ⊥
-  only_faulty act name h acts three opens = elim (status_where (λ n. n ≡ 3 → ⊥) (λ d. not_three act h opens (act_due act name h acts d)) (λ limit other asks none. no_act (status_of e ≡ 3 → ⊥) act name h acts limit other asks) (no_act_copies (status_of e ≡ 3 → ⊥) act name h acts) (act_no_plays (status_of e ≡ 3 → ⊥) act name h acts)) [
+  only_faulty act name h acts three opens = elim (status_where (λ n. n ≡ 3 → ⊥) (λ d. not_three act h opens (act_due act name h acts d)) (λ limit other asks none. no_act (status_of e ≡ 3 → ⊥) act name h acts limit other asks) (no_act_copies (status_of e ≡ 3 → ⊥) act name h acts) (act_no_openers (status_of e ≡ 3 → ⊥) act name h acts)) [
     | inl other ↦ other three
     | inr fault ↦ no_three fault three
   ]
 
   read_only_faulty : (look : Look) (name : List ℕ) (h : History) → LooksInto run look name h → run.status ≡ 3 → OpensToRead (seen h) → ⊥
-  read_only_faulty look name h into three opens = elim (status_where (λ n. n ≡ 3 → ⊥) (λ d. read_not_three look h opens (look_due look name h into d)) (λ limit other asks none. no_look (status_of e ≡ 3 → ⊥) look name h into limit other asks) (no_look_copies (status_of e ≡ 3 → ⊥) look name h into) (look_no_plays (status_of e ≡ 3 → ⊥) look name h into)) [
+  read_only_faulty look name h into three opens = elim (status_where (λ n. n ≡ 3 → ⊥) (λ d. read_not_three look h opens (look_due look name h into d)) (λ limit other asks none. no_look (status_of e ≡ 3 → ⊥) look name h into limit other asks) (no_look_copies (status_of e ≡ 3 → ⊥) look name h into) (look_no_openers (status_of e ≡ 3 → ⊥) look name h into)) [
     | inl other ↦ other three
     | inr fault ↦ no_three fault three
   ]
@@ -332,9 +333,9 @@ module _ (run : Run) (e : Ending) (cause : MayEnd run.ask run.old run.input run.
   pub refuses_exactly : RefusesExactly run
   refuses_exactly = record {
     only = only_faulty;
-    exact = λ act name h acts faulty short. status_where (λ n. n ≡ 3) (λ d. three_due act h faulty short (act_due act name h acts d)) (λ limit other asks none. no_act (status_of e ≡ 3) act name h acts limit other asks) (no_act_copies (status_of e ≡ 3) act name h acts) (act_no_plays (status_of e ≡ 3) act name h acts);
+    exact = λ act name h acts faulty short. status_where (λ n. n ≡ 3) (λ d. three_due act h faulty short (act_due act name h acts d)) (λ limit other asks none. no_act (status_of e ≡ 3) act name h acts limit other asks) (no_act_copies (status_of e ≡ 3) act name h acts) (act_no_openers (status_of e ≡ 3) act name h acts);
     read_only = read_only_faulty;
-    read_exact = λ look name h into faulty short. status_where (λ n. n ≡ 3) (λ d. read_three_due look h faulty short (look_due look name h into d)) (λ limit other asks none. no_look (status_of e ≡ 3) look name h into limit other asks) (no_look_copies (status_of e ≡ 3) look name h into) (look_no_plays (status_of e ≡ 3) look name h into);
+    read_exact = λ look name h into faulty short. status_where (λ n. n ≡ 3) (λ d. read_three_due look h faulty short (look_due look name h into d)) (λ limit other asks none. no_look (status_of e ≡ 3) look name h into limit other asks) (no_look_copies (status_of e ≡ 3) look name h into) (look_no_openers (status_of e ≡ 3) look name h into);
   }
 
 -- an act that didn't reply that it is done left the file as it was opened
@@ -531,12 +532,13 @@ asked_counted tells (Some ask) before after t told counted = of ask.task counted
     of (Backup more suffix) counted = counted
     of (Turns options) counted = record { never_falls = counted.never_falls; failed = λ is. counted.failed is told; sound = counted.sound }
     of (Session limit) counted = record { never_falls = counted.never_falls; failed = λ is. counted.failed is told; sound = counted.sound }
+    of (Generate commands seed) counted = record { never_falls = counted.never_falls; failed = λ is. counted.failed is told; sound = counted.sound }
 
-pub asked_failed : (tells : Bool) (ask : Option Ask) (before after : ℕ) (t : Ending) → CountedAsked tells ask before after t → t ≡ DeviceFault → ask_plays ask ≡ false → Rose before after
+pub asked_failed : (tells : Bool) (ask : Option Ask) (before after : ℕ) (t : Ending) → CountedAsked tells ask before after t → t ≡ DeviceFault → asks_openers ask ≡ false → Rose before after
 asked_failed tells None before after t counted is none = counted.failed is
 asked_failed tells (Some ask) before after t counted is none = of ask.task none counted
   where
-    of : (task : Task) → takes_plays task ≡ false → CountedFor tells task before after t → Rose before after
+    of : (task : Task) → has_openers task ≡ false → CountedFor tells task before after t → Rose before after
     of (On act) none counted = counted.failed is
     of (Read look) none counted = counted.failed is
     of (Create form) none counted = counted.failed is
@@ -544,6 +546,7 @@ asked_failed tells (Some ask) before after t counted is none = of ask.task none 
     of (Backup more suffix) none counted = counted.failed is
     of (Turns options) none counted = absurd (false≢true (sym none))
     of (Session limit) none counted = absurd (false≢true (sym none))
+    of (Generate commands seed) none counted = absurd (false≢true (sym none))
 
 pub asked_sound : (tells : Bool) (ask : Option Ask) (before after : ℕ) (t : Ending) → CountedAsked tells ask before after t → (t ≡ DeviceFault → ⊥) → after ≡ before
 asked_sound tells None before after t counted other = counted.sound other
@@ -557,6 +560,7 @@ asked_sound tells (Some ask) before after t counted other = of ask.task counted
     of (Backup more suffix) counted = counted.sound other
     of (Turns options) counted = counted.sound other
     of (Session limit) counted = counted.sound other
+    of (Generate commands seed) counted = counted.sound other
 
 module _ (before after status : ℕ) where
   -- turns that were played have status 0 or 8
@@ -675,9 +679,86 @@ module _ (before after status : ℕ) where
   turns_same options old now (There name) out keeps five left = absurd left
   turns_same options old now Usage out keeps five left = absurd left
 
+module _ (before after status : ℕ) where
+  -- the statuses of the endings of generated commands
+  done_exits : (text : List ℕ) → Exits status (Replied (Generated text)) → (status ≡ 0) ⊎ (status ≡ 8)
+  done_exits text (inl own) = inl own
+  done_exits text (inr (inl want)) = absurd (false≢true want.1)
+  done_exits text (inr (inr eight)) = inr eight
+
+  undone_exits : Exits status (Replied Unfinished) → (status ≡ 1) ⊎ (status ≡ 8)
+  undone_exits (inl own) = inl own
+  undone_exits (inr (inl want)) = absurd (false≢true want.1)
+  undone_exits (inr (inr eight)) = inr eight
+
+  there_exits : (name : List ℕ) → Exits status (There name) → (status ≡ 9) ⊎ (status ≡ 5) ⊎ (status ≡ 8)
+  there_exits name (inl own) = inl own
+  there_exits name (inr (inl want)) = inr (inl want.0)
+  there_exits name (inr (inr eight)) = inr (inr eight)
+
+  -- what a run leaves at the name of their file, where nothing was done
+  nothing_made : (commands seed : ℕ) (output : Output) (old now : Option History) → now ≡ old → (status ≡ 0 → ⊥) → (status ≡ 4 → ⊥) → GeneratingRun commands seed output old before after status now
+  nothing_made commands seed output old now same zero four = record {
+    done = λ is. absurd (zero is);
+    there = λ some. same;
+    failed = λ is. absurd (four is);
+    kept = λ undone other. inl same;
+  }
+
+  -- and where all of them were
+  all_made : (commands seed : ℕ) (output : Output) (old now : Option History) (s : Summary) → HasMade commands seed s old now → (status ≡ 0) ⊎ (status ≡ 8) → (status ≡ 0 → IsTrue output.tells → output.after ≡ output.before ++ summary_text s)
+      → GeneratingRun commands seed output old before after status now
+  all_made commands seed output old now s made ends shown = record {
+    done = λ is. (s, made, shown is);
+    there = λ some. absurd (false≢true (subst IsSome made.1 some));
+    failed = λ is. absurd (either_not before after status 0 8 4 (λ z. absurd (omega (arith, z))) (λ z. absurd (omega (arith, z))) ends is);
+    kept = λ undone other. elim ends [ inl zero ↦ absurd (undone zero) | inr eight ↦ inr (eight, inr (s, made)) ];
+  }
+
+  generating_run : (commands seed : ℕ) (output : Output) (old now : Option History) (t : Ending) → Exits status t → CountedBy before after t
+      → ((text : List ℕ) → t ≡ Replied (Generated text) → status ≡ 0 → IsTrue output.tells → output.after ≡ output.before ++ text) → GenLeaves commands seed old t now → GeneratingRun commands seed output old before after status now
+  generating_run commands seed output old now (Replied reply) out counted shown (inl left) =
+      all_made commands seed output old now left.0 left.2 (done_exits (summary_text left.0) (subst (λ r. Exits status (Replied r)) left.1 out)) (shown (summary_text left.0) (ap Replied left.1))
+  generating_run commands seed output old now (Replied reply) out counted shown (inr left) =
+      let ends = undone_exits (subst (λ r. Exits status (Replied r)) left.0 out) in
+      nothing_made commands seed output old now left.1 (either_not before after status 1 8 0 (λ z. absurd (omega (arith, z))) (λ z. absurd (omega (arith, z))) ends) (either_not before after status 1 8 4 (λ z. absurd (omega (arith, z))) (λ z. absurd (omega (arith, z))) ends)
+  generating_run commands seed output old now (There name) out counted shown left = nothing_made commands seed output old now left (λ is. apart (there_exits name out) (inl is)) (λ is. apart (there_exits name out) (inr is))
+    where
+      apart : (status ≡ 9) ⊎ (status ≡ 5) ⊎ (status ≡ 8) → (status ≡ 0) ⊎ (status ≡ 4) → ⊥
+      apart (inl nine) (inl is) = absurd (omega (arith, nine, is))
+      apart (inl nine) (inr is) = absurd (omega (arith, nine, is))
+      apart (inr more) other = memory_apart before after status more other
+  generating_run commands seed output old now DeviceFault out counted shown left =
+      let ends = fault_exits before after status out in
+      record {
+        done = λ is. absurd (fault_no_done before after status ends is);
+        there = left;
+        failed = λ is. counted.failed refl;
+        kept = λ undone four. elim ends [ inl is ↦ absurd (four is) | inr eight ↦ inr (eight, inl (counted.failed refl)) ];
+      }
+  generating_run commands seed output old now NoMemory out counted shown left =
+      let ends = memory_exits before after status out in
+      nothing_made commands seed output old now left (λ is. memory_apart before after status ends (inl is)) (λ is. memory_apart before after status ends (inr is))
+  generating_run commands seed output old now (Refused refusal) out counted shown left = absurd left
+  generating_run commands seed output old now (Missing name) out counted shown left = absurd left
+  generating_run commands seed output old now Usage out counted shown left = absurd left
+  generating_run commands seed output old now InputFault out counted shown left = absurd left
+  generating_run commands seed output old now (Malformed at) out counted shown left = absurd left
+
+-- what was printed where all generated commands were done
+pub summary_shown : (tells : Bool) (run : Run) (e t : Ending) (commands seed : ℕ) (name text : List ℕ) → PrintedFor e t → Printed tells run e → run.ask ≡ Some (record { file = name; task = Generate commands seed }) → t ≡ Replied (Generated text) → run.status ≡ 0 → IsTrue run.output.tells
+    → run.output.after ≡ run.output.before ++ text
+summary_shown tells run e t commands seed name text printed (inr part) asks is zero heard = absurd (omega (arith, part.exits, zero))
+summary_shown tells run e t commands seed name text (inr want) (inl all) asks is zero heard = absurd (false≢true (subst TakesMemory is want.1))
+summary_shown tells run e t commands seed name text (inl same) (inl all) asks is zero heard =
+    let w = all.written (subst (λ a. IsTrue (ask_tells a tells run.output.tells)) (sym asks) heard) in
+    let none : w.0 ≡ [] = subst (λ a. TextBefore a run.old e w.0) asks w.1 in
+    w.2 ∙ (λ j. (run.output.before ++ none j) ++ text_of ((same ∙ is) j)) ∙ ap (λ before. before ++ text) (append-nil run.output.before)
+
 module _ (run : Run) (t : Ending) (out : Exits run.status t) (counted : CountedBy run.faults_before run.faults_after t) (silent : IsSilent t → run.status ≡ 0) (left : Leaving run.input run.ask run.old t run.now)
     (whole : (options : Options) (name : List ℕ) (old now : History) → run.ask ≡ Some (record { file = name; task = Turns options }) → run.old name ≡ Some old → run.now name ≡ Some now → run.status ≡ 0 → IsPlayed options run.input run.output old now)
-    (serve : (limit : ℕ) (name : List ℕ) (old now : History) → run.ask ≡ Some (record { file = name; task = Session limit }) → run.old name ≡ Some old → run.now name ≡ Some now → SessionRun limit run.input run.output old run.faults_before run.faults_after run.status now) where
+    (serve : (limit : ℕ) (name : List ℕ) (old now : History) → run.ask ≡ Some (record { file = name; task = Session limit }) → run.old name ≡ Some old → run.now name ≡ Some now → SessionRun limit run.input run.output old run.faults_before run.faults_after run.status now)
+    (shown : (commands seed : ℕ) (name text : List ℕ) → run.ask ≡ Some (record { file = name; task = Generate commands seed }) → t ≡ Replied (Generated text) → run.status ≡ 0 → IsTrue run.output.tells → run.output.after ≡ run.output.before ++ text) where
   -- what the run leaves at the name of the task that it is asked for
   asked_left : (task : Task) (name : List ℕ) → run.ask ≡ Some (record { file = name; task = task }) → TaskLeaves run.input task name run.old t run.now
   asked_left task name asks = (subst (λ a. Leaving run.input a run.old t run.now) asks left).1
@@ -707,6 +788,10 @@ module _ (run : Run) (t : Ending) (out : Exits run.status t) (counted : CountedB
   served limit name old asks there =
       let at = subst (λ o. StaysThere o (run.now name)) there (asked_left (Session limit) name asks) in
       (at.0, at.1, serve limit name old at.0 asks there at.1)
+
+  generated : (commands seed : ℕ) (name : List ℕ) → run.ask ≡ Some (record { file = name; task = Generate commands seed }) → GeneratingRun commands seed run.output (run.old name) run.faults_before run.faults_after run.status (run.now name)
+  generated commands seed name asks =
+      generating_run run.faults_before run.faults_after run.status commands seed run.output (run.old name) (run.now name) t out counted (λ text is. shown commands seed name text asks is) (asked_left (Generate commands seed) name asks)
 
   others : (name : List ℕ) → ((ask : Ask) → run.ask ≡ Some ask → MayChange ask.task ask.file name → ⊥) → run.now name ≡ run.old name
   others name none = of run.ask left none
@@ -767,6 +852,13 @@ module _ (run : Run) (t : Ending) (out : Exits run.status t) (counted : CountedB
       ((backup_run run.faults_before run.faults_after run.status suffix (file ∷ more) run.old run.now t out counted (λ done. silent (inr done)) at).stopped keeps.0) name (λ among. copy (more, suffix, file, refl, among)) (same name)
   task_kept keeps (Turns options) file name asks midway same at copy = at_name name file (file_kept keeps midway options file (run.old file) at) (same name)
   task_kept keeps (Session limit) file name asks midway same at copy = at_name name file (session_kept keeps limit file midway asks (run.old file) refl at) (same name)
+  task_kept keeps (Generate commands seed) file name asks midway same at copy =
+      at_name name file
+      (elim ((generating_run run.faults_before run.faults_after run.status commands seed run.output (run.old file) (run.now file) t out counted (λ text is zero. absurd (keeps.0 zero)) at).kept keeps.0 keeps.1) [
+        | inl held ↦ inl held
+        | inr eight ↦ absurd (keeps.2 eight.0)
+      ])
+      (same name)
 
   kept : KeepsAll run.status → ((ask : Ask) → run.ask ≡ Some ask → EndsMidway ask.task run.status → ⊥) → (name : List ℕ) → (IsCopyName run.ask name → ⊥) → HeldOrUndone (run.old name) (run.now name)
   kept keeps midway name copy = of run.ask left copy refl
@@ -788,11 +880,12 @@ module _ (run : Run) (t : Ending) (out : Exits run.status t) (counted : CountedB
     unturned = λ options name asks none. subst (λ o. TurnsLeave options o t (run.now name)) none (asked_left (Turns options) name asks);
     served = served;
     unserved = λ limit name asks none. subst (λ o. StaysThere o (run.now name)) none (asked_left (Session limit) name asks);
+    generated = generated;
     kept = kept;
   }
 
 -- what a run's status tells whatever the files tell
-module _ (tells : Bool) (run : Run) (e t : Ending) (printed : PrintedFor e t) (prints : Printed tells run e) (failed : t ≡ DeviceFault → ask_plays run.ask ≡ false → Rose run.faults_before run.faults_after)
+module _ (tells : Bool) (run : Run) (e t : Ending) (printed : PrintedFor e t) (prints : Printed tells run e) (failed : t ≡ DeviceFault → asks_openers run.ask ≡ false → Rose run.faults_before run.faults_after)
     (sound : (t ≡ DeviceFault → ⊥) → run.faults_after ≡ run.faults_before) (usage : t ≡ Usage → run.ask ≡ None) (usage_exact : run.ask ≡ None → (t ≡ Usage) ⊎ (t ≡ NoMemory))
     (heard : HeardBy run.input.faults_before run.input.faults_after t) (unread : ask_reads run.ask ≡ false → of_input t ≡ false) where
   -- the ending that is printed is the one that was found, where it isn't want of memory
@@ -822,7 +915,7 @@ module _ (tells : Bool) (run : Run) (e t : Ending) (printed : PrintedFor e t) (p
       of (inr (inl want)) which = (1, omega arith, sym want.0)
       of (inr (inr eight)) which = (2, omega arith, sym eight)
 
-  fault_rose : run.status ≡ 4 → ask_plays run.ask ≡ false → Rose run.faults_before run.faults_after
+  fault_rose : run.status ≡ 4 → asks_openers run.ask ≡ false → Rose run.faults_before run.faults_after
   fault_rose is none =
       let same : e ≡ DeviceFault = fault_alone e (own_status 4 (λ x. absurd (omega (arith, x))) is) in
       failed (found (λ wants. let both : DeviceFault ≡ NoMemory = sym same ∙ wants in cc) ∙ same) none

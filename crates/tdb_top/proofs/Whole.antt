@@ -5,7 +5,7 @@ use Rattle.std.proofs.lemmas.Bool.{false≢true}
 use Rattle.std.proofs.lemmas.List.{append-nil}
 use Rattle.tdb_disk.specs.History.{History}
 use Rattle.tdb_top.specs.declared.ask.Task.{Task}
-use Rattle.tdb_top.specs.declared.ask.Task.TheVariants.{Create, On, Read, Restore, Backup, Turns, Session}
+use Rattle.tdb_top.specs.declared.ask.Task.TheVariants.{Create, On, Read, Restore, Backup, Turns, Session, Generate}
 use Rattle.tdb_top.specs.declared.ending.Ending.{Ending}
 use Rattle.tdb_top.specs.declared.ending.Ending.TheVariants.{Replied, Refused}
 use Rattle.tdb_top.specs.declared.ending.Reply.TheVariants.{Played}
@@ -18,7 +18,7 @@ use Rattle.tdb_top.specs.Input.{Input}
 use Rattle.tdb_top.specs.Looks.{ending_of}
 use Rattle.tdb_top.specs.Output.{output_by}
 use Rattle.tdb_top.specs.Printed.{Finishes}
-use Rattle.tdb_top.specs.Run.{MayEnd, is_due, is_read, is_copied, is_played, is_served, call_failed, memory_wanting}
+use Rattle.tdb_top.specs.Run.{MayEnd, is_due, is_read, is_copied, is_played, is_served, is_generated, call_failed, memory_wanting}
 use Rattle.tdb_top.proofs.Runs.{refusal_status}
 
 -- turns are no other task
@@ -30,6 +30,7 @@ reads_turns (Restore limit) = false
 reads_turns (Backup more suffix) = false
 reads_turns (Turns options) = true
 reads_turns (Session limit) = false
+reads_turns (Generate commands seed) = false
 
 abbrev is_turns : Option Ask → Bool
 is_turns None = false
@@ -53,6 +54,7 @@ ended_zero ask options name held input before after _ asks (is_read e limit othe
 ended_zero ask options name held input before after _ asks (is_copied e more suffix other copies ends) zero = absurd (false≢true (ap is_turns (sym copies ∙ asks)))
 ended_zero ask options name held input before after _ asks (is_played e others other also so) zero = plays_zero input others other (held other) e so zero
 ended_zero ask options name held input before after _ asks (is_served e limit other serves so) zero = absurd (false≢true (ap is_turns (sym serves ∙ asks)))
+ended_zero ask options name held input before after _ asks (is_generated e commands seed other also none so) zero = absurd (false≢true (ap is_turns (sym also ∙ asks)))
 ended_zero ask options name held input before after _ asks (call_failed a is rose) zero = absurd (omega (arith, zero))
 ended_zero ask options name held input before after _ asks memory_wanting zero = absurd (omega (arith, zero))
 

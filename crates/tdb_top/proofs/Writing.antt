@@ -7,7 +7,7 @@ use Rattle.std.proofs.Math.Seq.{take-append-add, take-append_seam}
 use Rattle.tdb_disk.specs.Count.{Rose, HasCause}
 use Rattle.tdb_disk.specs.History.{History}
 use Rattle.tdb_top.specs.declared.ask.Task.{Task}
-use Rattle.tdb_top.specs.declared.ask.Task.TheVariants.{Create, On, Read, Restore, Backup, Turns, Session}
+use Rattle.tdb_top.specs.declared.ask.Task.TheVariants.{Create, On, Read, Restore, Backup, Turns, Session, Generate}
 use Rattle.tdb_top.specs.declared.ending.Ending.{Ending}
 use Rattle.tdb_top.specs.declared.ending.Ending.TheVariants.{Replied, Refused, Missing, There, Usage, DeviceFault, InputFault, Malformed, NoMemory}
 use Rattle.tdb_top.specs.declared.ending.Unprinted.{Unprinted}
@@ -33,6 +33,8 @@ reply_wanting text written R.Dumped takes is = absurd (false≢true takes)
 reply_wanting text written R.Restored takes is = is
 reply_wanting text written R.Copied takes is = is
 reply_wanting text written R.Played takes is = is
+reply_wanting text written (R.Generated summary) takes is = is
+reply_wanting text written R.Unfinished takes is = is
 reply_wanting text written (R.Number n) takes is = is
 reply_wanting text written R.KeyMissing takes is = is
 reply_wanting text written R.KeyThere takes is = is
@@ -82,6 +84,7 @@ task_wanting (Restore limit) held written t takes text = text
 task_wanting (Backup more suffix) held written t takes text = text
 task_wanting (Turns options) held written t takes text = turns_wanting options held written t text
 task_wanting (Session limit) held written t takes text = session_wanting limit held written t text
+task_wanting (Generate commands seed) held written t takes text = text
 task_wanting (Read (Value key)) held written t takes text = text
 task_wanting (Read Dump) None written t takes text = text
 task_wanting (Read Dump) (Some h) written t takes text = stands_wanting _ written t takes text
@@ -100,6 +103,7 @@ task_nothing (Turns options) None = refl
 task_nothing (Turns options) (Some h) = inl refl
 task_nothing (Session limit) None = refl
 task_nothing (Session limit) (Some h) = inl refl
+task_nothing (Generate commands seed) held = refl
 task_nothing (Read (Value key)) held = refl
 task_nothing (Read Dump) None = refl
 task_nothing (Read Dump) (Some h) = (0, refl)
@@ -125,6 +129,7 @@ task_heard (Restore limit) files output told = told
 task_heard (Backup more suffix) files output told = told
 task_heard (Turns options) files output told = and_left output files told
 task_heard (Session limit) files output told = and_left output files told
+task_heard (Generate commands seed) files output told = told
 task_heard (Read (Value key)) files output told = told
 task_heard (Read Dump) files output told = and_left output files told
 

@@ -7,7 +7,7 @@ use Rattle.tdb_world.specs.declared.options.Options.{Options}
 use Rattle.tdb_top.specs.declared.act.Act.{Act}
 use Rattle.tdb_top.specs.declared.act.Act.TheVariants.{Show, Insert, Store, Delete, Erase, Check}
 use Rattle.tdb_top.specs.declared.ask.Task.{Task}
-use Rattle.tdb_top.specs.declared.ask.Task.TheVariants.{Create, On, Read, Restore, Backup, Turns, Session}
+use Rattle.tdb_top.specs.declared.ask.Task.TheVariants.{Create, On, Read, Restore, Backup, Turns, Session, Generate}
 use Rattle.tdb_top.specs.declared.ask.Ask as C
 use Rattle.tdb_top.specs.Words.{is_position}
 use Rattle.tdb_top.specs.Commands.Show.{show_of}
@@ -22,6 +22,7 @@ use Rattle.tdb_top.specs.Commands.BackupLine.{asks_of_words}
 use Rattle.tdb_top.specs.Commands.Dump.{dump_of_words}
 use Rattle.tdb_top.specs.Commands.Restore.{is_limit_alone}
 use Rattle.tdb_top.specs.Commands.Turns.{turns_of_words}
+use Rattle.tdb_top.specs.Commands.Generate.{gen_of_words}
 use Rattle.tdb_top.specs.Looks.{LookFits}
 
 -- what is asked for: a file by its name, and what is to be done with it
@@ -86,6 +87,10 @@ backup_asks words = option_map (λ found. record { file = found.0; task = found.
 abbrev pub turns_asks : List (List ℕ) → Option Ask
 turns_asks words = option_map (λ found. record { file = found.0; task = Turns found.1 }) (turns_of_words words)
 
+-- what the words behind `gen` ask for
+abbrev pub gen_asks : List (List ℕ) → Option Ask
+gen_asks words = option_map (λ line. record { file = line.file; task = Generate line.commands line.seed }) (gen_of_words words)
+
 -- the commands of the program, each by its name with what the words behind it ask for
 abbrev pub commands : List (List ℕ × (List (List ℕ) → Option Ask))
 commands =
@@ -94,6 +99,7 @@ commands =
     ∷ (codes "restore", restore_asks)
     ∷ (codes "backup", backup_asks)
     ∷ (codes "turns", turns_asks)
+    ∷ (codes "gen", gen_asks)
     ∷ []
 
 -- what the words of a command line ask for, those behind the program's name
@@ -119,3 +125,4 @@ TaskFits file (Restore limit) = limit ≤ 4294963200
 TaskFits file (Backup more suffix) = BackupFits suffix (file ∷ more)
 TaskFits file (Turns options) = options.limit ≤ 4294963200
 TaskFits file (Session limit) = limit ≤ 4294963200
+TaskFits file (Generate n seed) = Unit {0}

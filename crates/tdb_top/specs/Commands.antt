@@ -12,3 +12,4 @@ pub mod Backup
 pub mod BackupLine
 pub mod Turns
 pub mod Session
+pub mod Generate

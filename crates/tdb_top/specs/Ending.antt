@@ -10,10 +10,10 @@ use Rattle.tdb_dump.specs.Line.{data_line}
 use Rattle.tdb_top.specs.declared.act.Act.{Act}
 use Rattle.tdb_top.specs.declared.look.Look.{Look}
 use Rattle.tdb_top.specs.declared.ask.Task.{Task}
-use Rattle.tdb_top.specs.declared.ask.Task.TheVariants.{Create, On, Read, Restore, Backup, Turns, Session}
+use Rattle.tdb_top.specs.declared.ask.Task.TheVariants.{Create, On, Read, Restore, Backup, Turns, Session, Generate}
 use Rattle.tdb_top.specs.declared.ending.Ending.{Ending}
 use Rattle.tdb_top.specs.declared.ending.Ending.TheVariants.{Replied, Refused, Missing, There, Usage, DeviceFault, InputFault, Malformed, NoMemory}
-use Rattle.tdb_top.specs.declared.ending.Reply.TheVariants.{Done, Value, Escaped, Dumped, Restored, Copied, KeyMissing, KeyThere, Full, Number, Played}
+use Rattle.tdb_top.specs.declared.ending.Reply.TheVariants.{Done, Value, Escaped, Dumped, Restored, Copied, KeyMissing, KeyThere, Full, Number, Played, Generated, Unfinished}
 use Rattle.tdb_top.specs.declared.halt.Halt as H
 use Rattle.tdb_top.specs.declared.halt.Refusal.{Refusal}
 use Rattle.tdb_top.specs.declared.halt.Refusal.TheVariants.{TooLong, Header, Corrupt, NeedsRecovery}
@@ -24,22 +24,25 @@ use Rattle.tdb_top.specs.Looks.{look_reply}
 use Rattle.tdb_top.specs.Output.{Output}
 use Rattle.tdb_top.specs.Opening.{opened_bytes, CanOpen, IsRefused, CanRead, IsRefusedToRead}
 
--- What a run says: the status that it exits with, and the line that it prints, if any, without the newline. A line that
--- tells a value, a number or a name takes memory; one that is the same in each run takes none.
+-- What a run says: the status that it exits with, and the text that it prints: a line and its newline, lines, or
+-- nothing. A line that tells a value, a number or a name takes memory; one that is the same in each run takes none.
 pub record Answer : Type 0 where
   pub status : ℕ
-  pub line : Option (List ℕ)
+  pub text : List ℕ
   pub takes_memory : Bool
 
 abbrev pub says : ℕ → List ℕ → Answer
-says status line = record { status = status; line = Some line; takes_memory = false }
+says status line = record { status = status; text = line ++ 10 ∷ []; takes_memory = false }
 
 abbrev pub tells : ℕ → List ℕ → Answer
-tells status line = record { status = status; line = Some line; takes_memory = true }
+tells status line = record { status = status; text = line ++ 10 ∷ []; takes_memory = true }
 
--- the same without a line
+-- the same with lines that are at hand, or with none
+abbrev pub shows : ℕ → List ℕ → Answer
+shows status lines = record { status = status; text = lines; takes_memory = false }
+
 abbrev pub exits : ℕ → Answer
-exits status = record { status = status; line = None; takes_memory = false }
+exits status = shows status []
 
 -- what a run says at each ending; the status of a failed output is 8 whatever the ending is
 abbrev pub answer : Ending → Answer
@@ -50,9 +53,11 @@ answer (Replied Dumped) = exits 0
 answer (Replied Restored) = exits 0
 answer (Replied Copied) = exits 0
 answer (Replied Played) = exits 0
+answer (Replied (Generated text)) = shows 0 text
 answer (Replied (Number n)) = tells 0 (codes "number " ++ decimal n)
 answer (Replied KeyMissing) = says 1 (codes "noexist")
 answer (Replied KeyThere) = says 1 (codes "exists")
+answer (Replied Unfinished) = says 1 (codes "unfinished")
 answer Usage = says 2 (codes "usage: tdb COMMAND [OPTIONS] FILE [WORDS]")
 answer (Refused (Header fault)) = tells 3 (codes "header " ++ fault_text fault)
 answer (Refused (Corrupt what at)) = tells 3 (codes "corrupt " ++ what_text what ++ codes " " ++ decimal at)
@@ -69,13 +74,8 @@ answer (There name) = tells 9 (codes "there " ++ name)
 abbrev pub status_of : Ending → ℕ
 status_of e = (answer e).status
 
--- a line and its newline, or nothing
-abbrev pub ended : Option (List ℕ) → List ℕ
-ended None = []
-ended (Some line) = line ++ 10 ∷ []
-
 abbrev pub text_of : Ending → List ℕ
-text_of e = ended (answer e).line
+text_of e = (answer e).text
 
 abbrev pub TakesMemory : Ending → Type 0
 TakesMemory e = IsTrue (answer e).takes_memory
@@ -108,8 +108,8 @@ pub record RefusesToRead (img : List ℕ) (e : Ending) : Type 0 where
 
 -- How a task on the file of this name ends, by what is held there, where no call failed and memory sufficed. An act and
 -- a look are on a file that is there; a file is made where none is. How a restore ends where no file is depends on its
--- input, as turns and a session do, and how a backup ends on all its files (`BackupEnds`), so none is due to what is
--- held at one name.
+-- input, as turns and a session do, how a backup ends on all its files (`BackupEnds`), and how generated commands end
+-- on how they were done (`GenSo`), so none is due to what is held at one name.
 abbrev pub TaskDue : Task → List ℕ → Option History → Ending → Type 0
 TaskDue (On act) name None e = e ≡ Missing name
 TaskDue (On act) name (Some h) e = Replies act (seen h) e ⊎ Refuses (seen h) e
@@ -122,6 +122,8 @@ TaskDue (Restore limit) name (Some h) e = e ≡ There name
 TaskDue (Backup more suffix) name held e = ⊥
 TaskDue (Turns options) name held e = ⊥
 TaskDue (Session limit) name held e = ⊥
+TaskDue (Generate commands seed) name None e = ⊥
+TaskDue (Generate commands seed) name (Some h) e = e ≡ There name
 
 -- how a run ends that is asked for this, or for nothing, by what is held at each name
 abbrev pub Due : Option Ask → (List ℕ → Option History) → Ending → Type 0
@@ -140,12 +142,27 @@ pub record CountedBy (before after : ℕ) (e : Ending) : Type 0 where
   pub failed : e ≡ DeviceFault → Rose before after
   pub sound : (e ≡ DeviceFault → ⊥) → after ≡ before
 
--- The same of turns and of a session: where the files don't tell what they hold, a check of one that another program
--- wrote to may find a fault, and ends them as a failed call does.
+-- The same of commands of openers: where the files don't tell what they hold, a check of one that another program wrote
+-- to may find a fault, and ends them as a failed call does.
 pub record CountedIf (tells : Bool) (before after : ℕ) (e : Ending) : Type 0 where
   pub never_falls : before ≤ after
   pub failed : e ≡ DeviceFault → IsTrue tells → Rose before after
   pub sound : (e ≡ DeviceFault → ⊥) → after ≡ before
+
+-- the tasks whose commands are those of openers: turns, a session and generated commands
+abbrev pub has_openers : Task → Bool
+has_openers (On act) = false
+has_openers (Read look) = false
+has_openers (Create form) = false
+has_openers (Restore limit) = false
+has_openers (Backup more suffix) = false
+has_openers (Turns options) = true
+has_openers (Session limit) = true
+has_openers (Generate commands seed) = true
+
+abbrev pub asks_openers : Option Ask → Bool
+asks_openers None = false
+asks_openers (Some ask) = has_openers ask.task
 
 -- and of a run that is asked for this, or for nothing
 abbrev pub CountedFor : Bool → Task → ℕ → ℕ → Ending → Type 0
@@ -156,6 +173,7 @@ CountedFor tells (Restore limit) before after e = CountedBy before after e
 CountedFor tells (Backup more suffix) before after e = CountedBy before after e
 CountedFor tells (Turns options) before after e = CountedIf tells before after e
 CountedFor tells (Session limit) before after e = CountedIf tells before after e
+CountedFor tells (Generate commands seed) before after e = CountedIf tells before after e
 
 abbrev pub CountedAsked : Bool → Option Ask → ℕ → ℕ → Ending → Type 0
 CountedAsked tells None before after e = CountedBy before after e

@@ -3,7 +3,7 @@ use Rattle.std.specs.Prelude.{◌≡◌, ◌⊎◌, ℕ, IsTrue, IsSome, Option,
 use Rattle.tdb_disk.specs.History.{History, seen}
 use Rattle.tdb_top.specs.declared.act.Act.{Act}
 use Rattle.tdb_top.specs.declared.ask.Task.{Task}
-use Rattle.tdb_top.specs.declared.ask.Task.TheVariants.{Create, On, Read, Restore, Backup, Turns, Session}
+use Rattle.tdb_top.specs.declared.ask.Task.TheVariants.{Create, On, Read, Restore, Backup, Turns, Session, Generate}
 use Rattle.tdb_top.specs.declared.ending.Ending.{Ending}
 use Rattle.tdb_top.specs.declared.ending.Ending.TheVariants.{Replied, Refused, Missing, There, Usage, DeviceFault, InputFault, Malformed, NoMemory}
 use Rattle.tdb_top.specs.declared.ending.Reply.TheVariants.{Done, Restored}
@@ -16,6 +16,7 @@ use Rattle.tdb_top.specs.Commands.Create.{CreateLeaves}
 use Rattle.tdb_top.specs.Commands.Restore.{IsRestored}
 use Rattle.tdb_top.specs.Commands.Session.{StaysThere}
 use Rattle.tdb_top.specs.Commands.Turns.{TurnsLeave}
+use Rattle.tdb_top.specs.Commands.Generate.{GenLeaves}
 use Rattle.tdb_top.specs.Ending.{status_of}
 use Rattle.tdb_top.specs.Input.{Input}
 use Rattle.tdb_top.specs.Opening.{opened_bytes, SameOrUndone, UndoneIfOpen}
@@ -70,6 +71,7 @@ TaskLeaves input (Restore limit) file old e now = RestoreLeaves input (old file)
 TaskLeaves input (Backup more suffix) file old e now = BackupLeaves suffix (file ∷ more) old e now
 TaskLeaves input (Turns options) file old e now = TurnsLeave options (old file) e (now file)
 TaskLeaves input (Session limit) file old e now = StaysThere (old file) (now file)
+TaskLeaves input (Generate commands seed) file old e now = GenLeaves commands seed (old file) e (now file)
 
 -- a task on the file of this name may change what is held at that name: there alone, or at all names of a backup
 abbrev pub MayChange : Task → List ℕ → List ℕ → Type 0
@@ -79,6 +81,7 @@ MayChange (Create form) file name = name ≡ file
 MayChange (Restore limit) file name = name ≡ file
 MayChange (Turns options) file name = name ≡ file
 MayChange (Session limit) file name = name ≡ file
+MayChange (Generate commands seed) file name = name ≡ file
 MayChange (Backup more suffix) file name = IsNameAmong suffix (file ∷ more) name
 
 -- nothing changed at any other name

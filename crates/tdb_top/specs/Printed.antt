@@ -4,7 +4,7 @@ use Rattle.tdb_disk.specs.Count.{Rose}
 use Rattle.tdb_disk.specs.History.{History}
 use Rattle.tdb_top.specs.declared.ending.Unprinted.{Unprinted}
 use Rattle.tdb_top.specs.declared.ask.Task.{Task}
-use Rattle.tdb_top.specs.declared.ask.Task.TheVariants.{Create, On, Read, Restore, Backup, Turns, Session}
+use Rattle.tdb_top.specs.declared.ask.Task.TheVariants.{Create, On, Read, Restore, Backup, Turns, Session, Generate}
 use Rattle.tdb_top.specs.declared.ending.Ending.{Ending}
 use Rattle.tdb_top.specs.declared.ending.Ending.TheVariants.{Replied}
 use Rattle.tdb_top.specs.declared.ending.Reply.TheVariants.{Restored, Copied}
@@ -25,6 +25,7 @@ TaskText (Restore limit) held e text = text ≡ []
 TaskText (Backup more suffix) held e text = text ≡ []
 TaskText (Turns options) held e text = TurnsText options held e text
 TaskText (Session limit) held e text = SessionText limit held e text
+TaskText (Generate commands seed) held e text = text ≡ []
 
 -- what a run prints before the line of its ending that is asked for this, or for nothing
 abbrev pub TextBefore : Option Ask → (List ℕ → Option History) → Ending → List ℕ → Type 0
@@ -41,6 +42,7 @@ task_tells (Restore limit) files output = output
 task_tells (Backup more suffix) files output = output
 task_tells (Turns options) files output = output && files
 task_tells (Session limit) files output = output && files
+task_tells (Generate commands seed) files output = output
 
 abbrev pub ask_tells : Option Ask → Bool → Bool → Bool
 ask_tells None files output = output

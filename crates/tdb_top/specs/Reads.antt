@@ -2,13 +2,14 @@
 use Rattle.std.specs.Prelude.{◌≡◌, ◌⊎◌, ℕ, Bool, true, false, Option, None, Some, List, ◌∷◌}
 use Rattle.tdb_disk.specs.History.{History}
 use Rattle.tdb_top.specs.declared.ask.Task.{Task}
-use Rattle.tdb_top.specs.declared.ask.Task.TheVariants.{Create, On, Read, Restore, Backup, Turns, Session}
+use Rattle.tdb_top.specs.declared.ask.Task.TheVariants.{Create, On, Read, Restore, Backup, Turns, Session, Generate}
 use Rattle.tdb_top.specs.declared.ending.Ending.{Ending}
 use Rattle.tdb_top.specs.Ask.{Ask}
 use Rattle.tdb_top.specs.Commands.Backup.{BackupEnds}
 use Rattle.tdb_top.specs.Commands.Restore.{ReadSo}
 use Rattle.tdb_top.specs.Commands.Session.{ServesSo}
 use Rattle.tdb_top.specs.Commands.Turns.{PlaysSo}
+use Rattle.tdb_top.specs.Commands.Generate.{GenSo}
 use Rattle.tdb_world.specs.declared.options.Options.{Options}
 use Rattle.tdb_top.specs.Ending.{TaskCause}
 use Rattle.tdb_top.specs.Input.{Input}
@@ -22,6 +23,7 @@ reads_input (Restore limit) = true
 reads_input (Backup more suffix) = false
 reads_input (Turns options) = true
 reads_input (Session limit) = true
+reads_input (Generate commands seed) = false
 
 abbrev pub ask_reads : Option Ask → Bool
 ask_reads None = false
@@ -46,20 +48,6 @@ pub record EndsByLines (input : Input) (task : Task) (name : List ℕ) (held : O
   pub serves : task ≡ Session limit
   pub why : ServesSo input limit name held e
 
--- whether a task takes plays over its file: turns and a session do
-abbrev pub takes_plays : Task → Bool
-takes_plays (On act) = false
-takes_plays (Read look) = false
-takes_plays (Create form) = false
-takes_plays (Restore limit) = false
-takes_plays (Backup more suffix) = false
-takes_plays (Turns options) = true
-takes_plays (Session limit) = true
-
-abbrev pub ask_plays : Option Ask → Bool
-ask_plays None = false
-ask_plays (Some ask) = takes_plays ask.task
-
 -- why a task ends so, by what is held at its name, by the input, and by how often the files had failed before and after
 abbrev pub AskCause : Input → Task → List ℕ → Option History → ℕ → ℕ → Ending → Type 0
 AskCause input task name held before after e =
@@ -72,6 +60,18 @@ pub record EndsByFiles (task : Task) (name : List ℕ) (held : List ℕ → Opti
   pub backs_up : task ≡ Backup more suffix
   pub ends : BackupEnds (name ∷ more) held e
 
+-- why generated commands end so, by what is held at the name of their file
+abbrev pub GenCause : ℕ → ℕ → List ℕ → Option History → ℕ → ℕ → Ending → Type 0
+GenCause commands seed name held before after e = TaskCause (Generate commands seed) name held before after e ⊎ ((held ≡ None) × GenSo commands seed e)
+
+-- the task is gen, no file is at its name, and it ends so by how its commands were done
+pub record EndsByCommands (task : Task) (held : Option History) (e : Ending) : Type 0 where
+  pub commands : ℕ
+  pub seed : ℕ
+  pub generates : task ≡ Generate commands seed
+  pub none : held ≡ None
+  pub ends : GenSo commands seed e
+
 -- why a task on the file of a name ends so, by what is held at all names
 abbrev pub AskEnds : Input → Task → List ℕ → (List ℕ → Option History) → ℕ → ℕ → Ending → Type 0
-AskEnds input task name held before after e = AskCause input task name (held name) before after e ⊎ EndsByFiles task name held e
+AskEnds input task name held before after e = AskCause input task name (held name) before after e ⊎ EndsByFiles task name held e ⊎ EndsByCommands task (held name) e

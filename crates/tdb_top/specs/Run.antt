@@ -1,5 +1,5 @@
 -- What a run is: what it met, what it left, what it printed and how it exits; and what is promised of it.
-use Rattle.std.specs.Prelude.{◌≡◌, ◌≢◌, ◌⊎◌, ℕ, ◌≤◌, false, IsSome, Option, None, Some, List, [], ◌∷◌, length, map, string_bytes, Contains, Bool, IsTrue}
+use Rattle.std.specs.Prelude.{◌≡◌, ◌≢◌, ◌⊎◌, ℕ, ◌≤◌, IsSome, Option, None, Some, List, [], ◌∷◌, ◌++◌, length, map, string_bytes, Contains, Bool, false, IsTrue}
 use Rattle.std.specs.Prelude.{String}
 use Rattle.std.specs.Global.{Global}
 use Rattle.tdb_disk.specs.Count.{Rose}
@@ -8,7 +8,7 @@ use Rattle.tdb_space.specs.Opening.{Opens}
 use Rattle.tdb_top.specs.declared.act.Act.{Act}
 use Rattle.tdb_top.specs.declared.look.Look.{Look}
 use Rattle.tdb_top.specs.declared.ask.Task.{Task}
-use Rattle.tdb_top.specs.declared.ask.Task.TheVariants.{Create, On, Read, Restore, Backup, Turns, Session}
+use Rattle.tdb_top.specs.declared.ask.Task.TheVariants.{Create, On, Read, Restore, Backup, Turns, Session, Generate}
 use Rattle.tdb_top.specs.declared.commands.create.NewForm.{NewForm}
 use Rattle.tdb_top.specs.declared.commands.create.Creation.TheVariants.{Made, Device}
 use Rattle.tdb_top.specs.declared.ending.Ending.{Ending}
@@ -16,7 +16,7 @@ use Rattle.tdb_top.specs.declared.ending.Ending.TheVariants.{Replied, DeviceFaul
 use Rattle.tdb_top.specs.declared.limits.TheConstants.{LONGEST_FILE}
 use Rattle.tdb_top.specs.Ask.{Ask, ask_of}
 use Rattle.tdb_top.specs.Acts.{reply_of, Left, Interrupted}
-use Rattle.tdb_top.specs.Ending.{Due, status_of}
+use Rattle.tdb_top.specs.Ending.{Due, status_of, asks_openers}
 use Rattle.tdb_top.specs.Output.{Output}
 use Rattle.tdb_top.specs.Printed.{TextBefore, ask_tells, Writes}
 use Rattle.tdb_top.specs.Commands.Backup.{IsForCopyAmong, CopiedAll, StoppedAt, BackupEnds}
@@ -25,10 +25,13 @@ use Rattle.tdb_top.specs.Commands.Restore.{ReadSo}
 use Rattle.tdb_top.specs.Commands.Session.{ServesSo, session_options, IsServed, IsServedSoFar}
 use Rattle.tdb_top.specs.Commands.Turns.{PlaysSo, TurnOpened, IsPlayed, IsPlayedSoFar}
 use Rattle.tdb_tool.specs.declared.fault.SessionEnd.TheVariants as End
+use Rattle.tdb_top.specs.Commands.Generate.{GenSo, HasMade}
+use Rattle.tdb_gen.specs.declared.summary.Summary.{Summary}
+use Rattle.tdb_gen.specs.Summary.{summary_text}
 use Rattle.tdb_world.specs.declared.options.Options.{Options}
 use Rattle.tdb_top.specs.Input.{Input}
 use Rattle.tdb_top.specs.Left.{HasRestored, MayChange}
-use Rattle.tdb_top.specs.Reads.{ask_reads, ask_plays}
+use Rattle.tdb_top.specs.Reads.{ask_reads}
 use Rattle.tdb_top.specs.Opening.{opened_bytes, OpensToRead, HeldOrUndone, SameOrUndone, UndoneIfOpen}
 
 -- a run: what its words ask for, what is held at each name before and after, how often calls of the files had failed
@@ -57,14 +60,15 @@ run_by words old now before after input output status = record {
 
 -- Why a run ends so that is asked for this, or for nothing: it is due; or a restore was asked for, no file was at its
 -- name, and its input says so; or a backup was, and its files say so; or turns were, and their script and their file
--- say so; or a session was, and its lines and its file say so; or it is asked for something and a call failed; or
--- memory was wanting.
+-- say so; or a session was, and its lines and its file say so; or generated commands were, no file was at the name, and
+-- it is how they were done; or it is asked for something and a call failed; or memory was wanting.
 pub data MayEnd (ask : Option Ask) (held : List ℕ → Option History) (input : Input) (before after : ℕ) : Ending → Type 0 where
   is_due : (e : Ending) → Due ask held e → MayEnd ask held input before after e
   is_read : (e : Ending) (limit : ℕ) (name : List ℕ) → ask ≡ Some (record { file = name; task = Restore limit }) → held name ≡ None → ReadSo input limit e → MayEnd ask held input before after e
   is_copied : (e : Ending) (more : List (List ℕ)) (suffix name : List ℕ) → ask ≡ Some (record { file = name; task = Backup more suffix }) → BackupEnds (name ∷ more) held e → MayEnd ask held input before after e
   is_played : (e : Ending) (options : Options) (name : List ℕ) → ask ≡ Some (record { file = name; task = Turns options }) → PlaysSo input options name (held name) e → MayEnd ask held input before after e
   is_served : (e : Ending) (limit : ℕ) (name : List ℕ) → ask ≡ Some (record { file = name; task = Session limit }) → ServesSo input limit name (held name) e → MayEnd ask held input before after e
+  is_generated : (e : Ending) (commands seed : ℕ) (name : List ℕ) → ask ≡ Some (record { file = name; task = Generate commands seed }) → held name ≡ None → GenSo commands seed e → MayEnd ask held input before after e
   call_failed : (a : Ask) → ask ≡ Some a → Rose before after → MayEnd ask held input before after DeviceFault
   memory_wanting : MayEnd ask held input before after NoMemory
 
@@ -167,6 +171,14 @@ pub record SessionRun (limit : ℕ) (input : Input) (output : Output) (old : His
   pub wanting : status ≡ 5 → SameOrUndone old now ⊎ IsServedSoFar limit input output old now
   pub kept : KeepsAll status → status ≢ 5 → status ≢ 7 → TurnOpened (session_options limit) old now
 
+-- What a run leaves at the name of a file on which generated commands are to be done. Where the status is neither 0 nor
+-- 4 no file is left that wasn't there, unless the output failed, behind them or behind a failed call.
+pub record GeneratingRun (commands seed : ℕ) (output : Output) (old : Option History) (before after status : ℕ) (now : Option History) : Type 0 where
+  pub done : status ≡ 0 → (s : Summary) × HasMade commands seed s old now × (IsTrue output.tells → output.after ≡ output.before ++ summary_text s)
+  pub there : IsSome old → now ≡ old
+  pub failed : status ≡ 4 → Rose before after
+  pub kept : status ≢ 0 → status ≢ 4 → (now ≡ old) ⊎ ((status ≡ 8) × (Rose before after ⊎ ((s : Summary) × HasMade commands seed s old now)))
+
 -- a name is one for a copy, where a backup is asked for
 abbrev pub IsCopyName : Option Ask → List ℕ → Type 0
 IsCopyName ask name = (more : List (List ℕ)) × (suffix : List ℕ) × (file : List ℕ) × (ask ≡ Some (record { file = file; task = Backup more suffix })) × IsForCopyAmong suffix (file ∷ more) name
@@ -190,18 +202,20 @@ pub record LeavesFiles (run : Run) : Type 0 where
   pub served : (limit : ℕ) (name : List ℕ) (old : History) → run.ask ≡ Some (record { file = name; task = Session limit }) → run.old name ≡ Some old
       → (h : History) × (run.now name ≡ Some h) × SessionRun limit run.input run.output old run.faults_before run.faults_after run.status h
   pub unserved : (limit : ℕ) (name : List ℕ) → run.ask ≡ Some (record { file = name; task = Session limit }) → run.old name ≡ None → run.now name ≡ None
+  pub generated : (commands seed : ℕ) (name : List ℕ) → run.ask ≡ Some (record { file = name; task = Generate commands seed })
+      → GeneratingRun commands seed run.output (run.old name) run.faults_before run.faults_after run.status (run.now name)
   pub kept : KeepsAll run.status → ((ask : Ask) → run.ask ≡ Some ask → EndsMidway ask.task run.status → ⊥)
       → (name : List ℕ) → (IsCopyName run.ask name → ⊥) → HeldOrUndone (run.old name) (run.now name)
 
 -- What a status tells whatever the files and the output tell of what they hold: the usage is answered exactly where the
 -- words ask for nothing, unless memory was wanting or the output failed; and a failed call is told, unless the output
--- failed too. Turns and a session may end as a failed call ends them where another program wrote to their file
+-- failed too. Commands of openers may end as a failed call ends them where another program wrote to their file
 -- (`CountedIf`). Only a restore, turns and a session tell of the input, of which a failed read is told unless a call of
 -- the files failed too.
 pub record Accounted (run : Run) : Type 0 where
   pub usage : run.status ≡ 2 → run.ask ≡ None
   pub usage_exact : run.ask ≡ None → Contains (2 ∷ 5 ∷ 8 ∷ []) run.status
-  pub device_fault : run.status ≡ 4 → ask_plays run.ask ≡ false → Rose run.faults_before run.faults_after
+  pub device_fault : run.status ≡ 4 → asks_openers run.ask ≡ false → Rose run.faults_before run.faults_after
   pub device_fault_told : run.status ≢ 4 → run.status ≢ 8 → run.faults_after ≡ run.faults_before
   pub output_fault : run.status ≡ 8 → Rose run.output.faults_before run.output.faults_after ⊎ (IsTrue (ask_reads run.ask) × Rose run.input.faults_before run.input.faults_after)
   pub malformed : run.status ≡ 7 → IsTrue (ask_reads run.ask)

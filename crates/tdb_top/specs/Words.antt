@@ -80,6 +80,13 @@ size_of word = number_of 1 MOST_CHAINS word
 abbrev pub limit_of : List ℕ → Option ℕ
 limit_of word = number_of 696 LONGEST_FILE word
 
+-- how many commands are to be generated, and the number of 32 bits that they are made of
+abbrev pub commands_of : List ℕ → Option ℕ
+commands_of word = number_of 0 1000000 word
+
+abbrev pub seed_of : List ℕ → Option ℕ
+seed_of word = number_of 0 4294967295 word
+
 -- what the one word of a list stands for, or its two words together; nothing where there are more or fewer
 abbrev pub of_one : {A B : Type 0} → (A → Option B) → List A → Option B
 of_one read [] = None

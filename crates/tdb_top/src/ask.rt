@@ -7,7 +7,7 @@ ghost use Rattle.tdb_top.specs.declared.ask.Task.TheVariants.{On as OnIs, Turns 
 ghost use Rattle.tdb_top.specs.declared.ending.Ending.TheVariants.{Replied, Usage};
 ghost use Rattle.tdb_top.specs.declared.ending.Reply.TheVariants.{Played};
 ghost use Rattle.tdb_world.specs.declared.options.Options.{Options as WorldOptions};
-ghost use Rattle.tdb_top.specs.Ask.{asked, ask_of, dump_asks, restore_asks, backup_asks, turns_asks, command_asks, session_asks, tool_of as tool_asks, task_of as task_asked, TaskFits};
+ghost use Rattle.tdb_top.specs.Ask.{asked, ask_of, dump_asks, restore_asks, backup_asks, turns_asks, gen_asks, command_asks, session_asks, tool_of as tool_asks, task_of as task_asked, TaskFits};
 ghost use Rattle.tdb_top.specs.Commands.Restore.{HeardBy, of_input};
 ghost use Rattle.tdb_top.specs.Commands.Session.{SessionHeld};
 ghost use Rattle.tdb_top.specs.Commands.Turns.{AllPlayed};
@@ -22,11 +22,12 @@ ghost use Rattle.tdb_top.specs.Printed.{TaskText, task_tells};
 use crate::act::Act;
 use crate::commands::backup::back_up;
 use crate::commands::create::{NewForm, create_file};
+use crate::commands::generate::generate_file;
 use crate::commands::restore::{is_limit_alone, restore_file};
 use crate::commands::session::session_on_file;
 use crate::commands::turns::turns_on_file;
 use crate::commands::{
-    backup_line, check, create, delete, dump, erase, insert, show, store, turns,
+    backup_line, check, create, delete, dump, erase, generate, insert, show, store, turns,
 };
 use crate::ending::{Ending, Unprinted};
 use crate::look::Look;
@@ -59,6 +60,9 @@ pub(crate) enum Task {
 
     /// To take the commands on the lines of the input over it, which may become `limit` bytes long.
     Session { limit: u64 },
+
+    /// To make it, and have so many commands done on it that are made of the seed.
+    Generate { commands: u32, seed: u32 },
 }
 
 /// What a command line asks for.
@@ -209,6 +213,22 @@ impl Ask {
         Ok(Some(Ask { file, task }))
     }
 
+    /// What the words behind `gen` ask for.
+    fn of_gen(alloc: Global, words: &[String]) -> Result<Option<Ask>, AllocError>
+        ensures read { IfOk result (λ ask. option_map asked ask ≡ gen_asks (map string_bytes words.now)) }
+        ensures fits { IfOk result (λ ask. IfSome ask (λ a. TaskFits (string_bytes a.file) a.task)) }
+    {
+        let Some(line) = generate::Line::of(words) else {
+            return Ok(None);
+        };
+        let file = String::from_str(alloc, line.file)?;
+        let task = Task::Generate {
+            commands: line.commands,
+            seed: line.seed,
+        };
+        Ok(Some(Ask { file, task }))
+    }
+
     /// What the words of a command line ask for, if anything. The memory that it takes is that of their bytes.
     pub(crate) fn of(alloc: Global, words: &[String]) -> Result<Option<Ask>, AllocError>
         ensures read { IfOk result (λ ask. option_map asked ask ≡ ask_of (map string_bytes words.now)) }
@@ -223,6 +243,7 @@ impl Ask {
             "restore" => Ask::of_restore(alloc, rest),
             "backup" => Ask::of_backup(alloc, rest),
             "turns" => Ask::of_turns(alloc, rest),
+            "gen" => Ask::of_gen(alloc, rest),
             _ => Ok(None),
         }
     }
@@ -267,6 +288,9 @@ impl Ask {
             }
             Task::Turns(options) => turns_on_file(alloc, name, options, files, input, output),
             Task::Session { limit } => session_on_file(alloc, name, *limit, files, input, output),
+            Task::Generate { commands, seed } => {
+                Ok(generate_file(alloc, name, *commands, *seed, files))
+            }
         }
     }
 }

@@ -7,6 +7,7 @@ pub(crate) mod create;
 pub(crate) mod delete;
 pub(crate) mod dump;
 pub(crate) mod erase;
+pub(crate) mod generate;
 pub(crate) mod insert;
 pub(crate) mod restore;
 pub(crate) mod session;

@@ -1,11 +1,11 @@
 // How a run ends: its status and the line that it prints.
 
-ghost use Rattle.std.specs.Prelude.{◌≡◌, ◌⊎◌, ◌++◌, codes, decimal, false, None, Some, IsTrue, IfOk, IfSome};
+ghost use Rattle.std.specs.Prelude.{◌≡◌, ◌⊎◌, ◌++◌, ◌∷◌, [], codes, decimal, false, None, Some, IsTrue, IfOk, IfSome};
 ghost use Rattle.tdb_top.specs.declared.ending.Ending.TheVariants.{Replied, Refused, There, NoMemory};
 ghost use Rattle.tdb_top.specs.declared.ending.Reply.TheVariants.{Copied};
 ghost use Rattle.tdb_top.specs.declared.ending.Ending.{Ending as EndingIs};
 ghost use Rattle.tdb_words.specs.What.{what_text};
-ghost use Rattle.tdb_top.specs.Ending.{answer, status_of, text_of, TakesMemory, PrintedFor, Prints, of_halt, Untaken, MadeSo};
+ghost use Rattle.tdb_top.specs.Ending.{status_of, text_of, TakesMemory, PrintedFor, Prints, of_halt, Untaken, MadeSo};
 ghost use Rattle.tdb_top.specs.Output.{output_by};
 
 use crate::commands::create::Creation;
@@ -45,6 +45,12 @@ pub(crate) enum Reply {
     /// All plays of a script were taken, and their report was printed; or all commands of a session, and their replies.
     /// No line tells it.
     Played,
+
+    /// All generated commands were done, and this text tells the summary of that.
+    Generated(Bytes),
+
+    /// A generated command wasn't done after all turns of its group.
+    Unfinished,
 
     /// So many keys.
     Number(u64),
@@ -152,7 +158,7 @@ fn corrupt_line(alloc: Global, what: What, at: u64) -> Result<Bytes, AllocError>
 impl Refusal {
     /// The line that tells it, without a newline.
     fn line(self, alloc: Global) -> Result<Bytes, AllocError>
-        ensures { IfOk result (λ text. Some text ≡ (answer (Refused self)).line) }
+        ensures { IfOk result (λ text. text ++ 10 ∷ [] ≡ text_of (Refused self)) }
     {
         let mut number = Buffer::new();
         match self {
@@ -220,9 +226,9 @@ impl Ending {
         Status(match self {
             Ending::Replied(Reply::Done | Reply::Value(_) | Reply::Escaped(_)) => 0,
             Ending::Replied(Reply::Dumped | Reply::Restored) => 0,
-            Ending::Replied(Reply::Copied | Reply::Played) => 0,
+            Ending::Replied(Reply::Copied | Reply::Played | Reply::Generated(_)) => 0,
             Ending::Replied(Reply::Number(_)) => 0,
-            Ending::Replied(Reply::KeyMissing | Reply::KeyThere) => 1,
+            Ending::Replied(Reply::KeyMissing | Reply::KeyThere | Reply::Unfinished) => 1,
             Ending::Usage => 2,
             Ending::Refused(Refusal::Header { fault: _ } | Refusal::Corrupt { what: _, at: _ }) => {
                 3
@@ -238,10 +244,10 @@ impl Ending {
         })
     }
 
-    /// The line that tells it, with its newline, or nothing where no line does, if that is the same in each run. Else
-    /// it takes memory.
-    fn constant_text(&self) -> Option<&'static [u8]>
-        ensures constant { IfSome result (λ text. text.now ≡ text_of self.now) }
+    /// The text that tells it, or nothing where none does, if that is the same in each run or at hand. Else it takes
+    /// memory.
+    fn ready_text(&self) -> Option<&[u8]>
+        ensures ready { IfSome result (λ text. text.now ≡ text_of self.now) }
         ensures other { result ≡ None → TakesMemory self.now }
     {
         match self {
@@ -250,6 +256,8 @@ impl Ending {
             Ending::Replied(Reply::Copied | Reply::Played) => Some(b""),
             Ending::Replied(Reply::KeyMissing) => Some(b"noexist\n"),
             Ending::Replied(Reply::KeyThere) => Some(b"exists\n"),
+            Ending::Replied(Reply::Generated(text)) => Some(text.as_slice()),
+            Ending::Replied(Reply::Unfinished) => Some(b"unfinished\n"),
             Ending::Usage => Some(b"usage: tdb COMMAND [OPTIONS] FILE [WORDS]\n"),
             Ending::Refused(Refusal::NeedsRecovery) => Some(b"needs recovery\n"),
             Ending::DeviceFault => Some(b"device fault\n"),
@@ -262,7 +270,7 @@ impl Ending {
     /// The line that tells a value, a number or a name, without a newline.
     fn line(&self, alloc: Global) -> Result<Bytes, AllocError>
         requires { TakesMemory self.now }
-        ensures { IfOk result (λ text. Some text ≡ (answer self.now).line) }
+        ensures { IfOk result (λ text. text ++ 10 ∷ [] ≡ text_of self.now) }
     {
         match self {
             Ending::Replied(Reply::Value(value)) => data_line(alloc, value.as_slice()),
@@ -314,7 +322,7 @@ pub(crate) fn print<K: Sink>(alloc: Global, ending: &Ending, output: &mut K) -> 
     ensures { (e : EndingIs) × PrintedFor e ending.now
         × Prints (output_by K.tells (K.written output.old) (K.written output.new) (K.faults output.old) (K.faults output.new)) e result.0 }
 {
-    if let Some(text) = ending.constant_text() {
+    if let Some(text) = ending.ready_text() {
         return put(output, text, ending.status());
     }
     match ending.text(alloc) {

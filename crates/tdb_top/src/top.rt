@@ -78,7 +78,9 @@ fn finish<K: Sink>(alloc: Global, answered: &Result<Ending, Unprinted>, output: 
 /// | 0 | the file is made of the pairs on the input, or all files are copied | |
 /// | 0 | the plays of the script on the input were taken | their report, line by line |
 /// | 0 | the commands on the lines of the input were taken | their replies, one on each line |
+/// | 0 | the file is made, and all generated commands were done on it | their summary, a line for each number |
 /// | 1 | the key isn't there, or is there already | `noexist`, `exists` |
+/// | 1 | a generated command wasn't done | `unfinished` |
 /// | 2 | the words ask for nothing | the usage |
 /// | 3 | the file is refused for a fault of its header, or for another fault, or a dump would have to undo a change first | `header KIND`, `corrupt WHAT AT`, `needs recovery` |
 /// | 4 | a call of the files or of a disk failed | `device fault` |
@@ -111,6 +113,10 @@ fn finish<K: Sink>(alloc: Global, answered: &Result<Ending, Unprinted>, output: 
 /// `.tmp`, adds each pair without looking its key up, syncs, and renames the new file to FILE and SUFFIX: time is linear
 /// in the file. The first file that isn't copied ends it. The names of all files and of their copies are kept in memory
 /// before, to tell whether they differ: that takes time by the logarithm of their number for each.
+///
+/// The command `gen N SEED FILE` makes a file as `create` does, has N generated commands of three openers done on it,
+/// checks the whole file, and syncs. Its time is that of the commands and of the check. Where not all are done the file
+/// is removed again.
 pub fn run<F: Files, S: Source, K: Sink>(
     alloc: Global,
     words: &[String],

@@ -12,6 +12,9 @@ use tdb_words::Bytes;
 /// The least length that a file may be limited to.
 const LEAST_LIMIT: u32 = 696;
 
+/// How many commands may be generated.
+const MOST_COMMANDS: u32 = 1_000_000;
+
 /// Whether a word is no option, and not too long.
 pub(crate) fn is_position(word: &str) -> bool
     ensures { result ≡ W.is_position word.now }
@@ -91,4 +94,18 @@ pub(crate) fn limit_of(word: &str) -> Option<u32>
     ensures fits { IfSome result (λ n. n ≤ 4294963200) }
 {
     parsed_number(word, LEAST_LIMIT, LONGEST_FILE as u32)
+}
+
+/// How many commands are to be generated, which a word writes.
+pub(crate) fn commands_of(word: &str) -> Option<u32>
+    ensures { result ≡ W.commands_of word.now }
+{
+    parsed_number(word, 0, MOST_COMMANDS)
+}
+
+/// The number that commands are made of, which a word writes.
+pub(crate) fn seed_of(word: &str) -> Option<u32>
+    ensures { result ≡ W.seed_of word.now }
+{
+    parsed_number(word, 0, u32::MAX)
 }

@@ -8,6 +8,8 @@ mod changes;
 #[cfg(test)]
 mod create;
 #[cfg(test)]
+mod generate;
+#[cfg(test)]
 mod images;
 #[cfg(test)]
 mod inserts;

@@ -1,6 +1,6 @@
 // The command that makes a new file.
 
-ghost use Rattle.std.specs.Prelude.{◌≡◌, ◌<◌, ◌≤◌, ℕ, List, false, map, string_bytes, IsTrue, OnOk, OnErr, IfSome};
+ghost use Rattle.std.specs.Prelude.{◌≡◌, ◌<◌, ◌≤◌, ◌+◌, ◌*◌, ℕ, List, false, map, string_bytes, IsTrue, OnOk, OnErr, IfSome};
 ghost use Rattle.std.specs.Map.{lookup};
 ghost use Rattle.tdb_disk.specs.Count.{HasCause, Rose};
 ghost use Rattle.tdb_disk.specs.History.{seen};
@@ -111,6 +111,7 @@ pub(crate) fn make<D: Disk>(disk: &mut D, form: NewForm) -> Result<(), DiskFault
     requires some { 0 < form.size }
     ensures made { OnOk result (IsTrue D.tells → IsMade form.size form.order form.hash (D.history disk.new)) }
     ensures in_part { OnErr result (IsTrue D.tells → MadeInPart form.size (seen (D.history disk.new))) }
+    ensures length { OnOk result (D.size disk.new ≡ 172 + 4 * form.size) }
     ensures cause { HasCause (D.faults disk.old) (D.faults disk.new) result }
 {
     disk.grow(HEADER_LEN + 4 * (u64::from(form.size) + 1))?;

@@ -50,13 +50,20 @@ pub(crate) fn is_limit_alone(options: &Options) -> bool
     options.nesting && !options.read_only && !options.seqnum
 }
 
-/// What the header of the new file says.
-const HEADER: Header = Header {
+/// What the header of a new file says where nothing else is asked for.
+pub(crate) const HEADER: Header = Header {
     order: Order::Little,
     hash: HashKind::Old,
     hash_size: DEFAULT_SIZE,
     recovery_start: 0,
     sequence: 0,
+};
+
+/// What such a file is made with.
+pub(crate) const NEW_FORM: NewForm = NewForm {
+    size: DEFAULT_SIZE,
+    hash: HashKind::Old,
+    order: Order::Little,
 };
 
 /// Adds the pairs of the text on the input to a new file on a disk.
@@ -91,12 +98,7 @@ fn fill<S: Source, D: Disk>(
     ensures read_cause { HasCauseOf InputFails (S.faults input.old) (S.faults input.new) result }
     ensures write_cause { HasCauseOf DiskFails (D.faults disk.old) (D.faults disk.new) result }
 {
-    let form = NewForm {
-        size: HEADER.hash_size,
-        hash: HEADER.hash,
-        order: HEADER.order,
-    };
-    let Ok(()) = make(disk, form) else {
+    let Ok(()) = make(disk, NEW_FORM) else {
         return Err(RestoreRefusal::Io);
     };
     add_all(alloc, input, disk, limit)?;

@@ -3,7 +3,7 @@ use Rattle.tdb_top.specs.Output.{output_by}
 use Rattle.tdb_top.specs.Input.{input_by}
 use Rattle.tdb_top.specs.Looks.{ending_of}
 use Rattle.tdb_top.specs.Run.{Run, Cause, run_by}
-use Rattle.tdb_top.proofs.Runs.{Printed, exits, silent_exits, printed_caused, exactly, refuses_exactly, asked_counted, asked_failed, asked_sound, leaves_files, accounted}
+use Rattle.tdb_top.proofs.Runs.{Printed, exits, silent_exits, printed_caused, exactly, refuses_exactly, summary_shown, asked_counted, asked_failed, asked_sound, leaves_files, accounted}
 use Rattle.tdb_top.proofs.SessionRuns.{session_by}
 use Rattle.tdb_top.proofs.Whole.{whole_by}
 use Rattle.tdb_top.proofs.Writing.{written}
@@ -63,6 +63,7 @@ returns-clause-left g c told =
     (asked_counted g.F.D.Disk.tells r.ask r.faults_before r.faults_after (ending_of c.answer-answered.result) told c.answer-answered.ensures.counted)
     (exits g.F.D.Disk.tells r c.finish.ensures.0 (ending_of c.answer-answered.result) c.finish.ensures.1 (prints g a))
     (r.old name) (r.now name) (c.answer-answered.ensures.served limit name asks told) old now there left))
+    (λ commands seed name text. summary_shown g.F.D.Disk.tells (ran g a) c.finish.ensures.0 (ending_of c.answer-answered.result) commands seed name text c.finish.ensures.1 (prints g a))
 
 pub returns-clause-accounted : goal.returns-clause-accounted
 returns-clause-accounted g c =

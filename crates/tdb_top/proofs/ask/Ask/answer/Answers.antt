@@ -2,10 +2,10 @@ use Rattle.std.proofs.Common.{◌∷◌, ℕ, List, string_bytes, sym, subst, in
 use Rattle.tdb_top.specs.Commands.Create.{CreateCause, CreateLeaves}
 use Rattle.tdb_top.specs.Ending.{MadeSo}
 use Rattle.tdb_top.specs.Input.{input_by}
-use Rattle.tdb_top.specs.Reads.{AskEnds}
+use Rattle.tdb_top.specs.Reads.{AskEnds, GenCause}
 use Rattle.tdb_top.specs.Left.{TaskLeaves}
 use Rattle.tdb_top.specs.Commands.Backup.{BackupCause}
-use Rattle.tdb_top.proofs.Acting.{made_cause, made_left, backup_ends}
+use Rattle.tdb_top.proofs.Acting.{made_cause, made_left, backup_ends, gen_ends}
 use Rattle.tdb_top.proofs.ask.Ask.answer.Goals as goal
 
 -- why a file was made, or wasn't
@@ -43,3 +43,13 @@ returns-in-Backup-clause-cause g c told =
     let e = c.back_up.result in
     backup_ends (input_by g.S.Source.tells (g.S.Source.left c.args.input.now) (g.S.Source.faults c.args.input.now) (g.S.Source.faults c.args.input.now)) c.args.self.now.task c.in-Backup.more c.in-Backup.suffix (string_bytes c.args.self.now.file) held before now e c.in-Backup.is
     (subst (λ (q : List ℕ × List (List ℕ)). BackupCause (q.0 ∷ q.1) held before now e) (λ j. (c.as_str-name.ensures.value j, c.as_slice.ensures j)) (c.back_up.ensures.done told).cause)
+
+-- why generated commands ended so
+pub returns-in-Generate-clause-cause : goal.returns-in-Generate-clause-cause
+returns-in-Generate-clause-cause g c told =
+    let held = g.F.Files.held c.args.files.now in
+    let before = g.F.Files.faults c.args.files.now in
+    let now = g.F.Files.faults c.generate_file.new.files in
+    let e = c.generate_file.result in
+    gen_ends (input_by g.S.Source.tells (g.S.Source.left c.args.input.now) (g.S.Source.faults c.args.input.now) (g.S.Source.faults c.args.input.now)) c.args.self.now.task c.in-Generate.commands c.in-Generate.seed (string_bytes c.args.self.now.file) held before now e c.in-Generate.is
+    (subst (λ n. GenCause c.in-Generate.commands c.in-Generate.seed n (held n) before now e) c.as_str-name.ensures.value (c.generate_file.ensures.cause told))

@@ -3,6 +3,7 @@ use Rattle.std.proofs.lemmas.Result.{IfErr-at_err}
 use Rattle.tdb_disk.specs.Count.{Rose}
 use Rattle.tdb_disk.specs.History.{seen}
 use Rattle.tdb_backup.specs.declared.refusal.RestoreRefusal.TheVariants as R
+use Rattle.tdb_top.specs.declared.ask.Task.TheVariants.{Restore}
 use Rattle.tdb_top.specs.Ending.{task_failed, CountedBy}
 use Rattle.tdb_top.specs.Input.{Input, input_by}
 use Rattle.tdb_top.proofs.Acting.{rose_earlier}
@@ -30,7 +31,7 @@ back g c other = elim (same_or_other other c.args.name.now) [
 -- the file wasn't taken
 pub returns-in-Err-clause-cause : goal.returns-in-Err-clause-cause
 returns-in-Err-clause-cause g c told =
-    inl (untaken_new c.args.limit c.args.name.now (g.F.Files.held c.args.files.now c.args.name.now) _ _ c.in-Err.refusal _
+    inl (untaken_new (Restore c.args.limit) c.args.name.now (g.F.Files.held c.args.files.now c.args.name.now) _ _ (λ h. refl) c.in-Err.refusal _
     (λ is. c.in-Err.ensures.missing_how (ap Err is) refl) (λ is. ((c.in-Err.ensures.there told).0 (ap Err is)).0)
     (λ is. c.in-Err.ensures.cause.failed is) c.untaken.ensures)
 

@@ -1,0 +1,118 @@
+-- The command that makes a new file, has generated commands done on it, and tells their summary.
+use Rattle.std.specs.Prelude.{◌≡◌, ◌⊎◌, ℕ, ◌&&◌, not, if◌then◌else◌, IsSome, Option, None, Some, Result, Ok, Err, List, [], ◌∷◌, codes}
+use Rattle.std.specs.FinMap.{empty}
+use Rattle.std.specs.Option.{option_and_then}
+use Rattle.tdb_words.specs.declared.word.Order.TheVariants.{Little}
+use Rattle.tdb_words.specs.declared.hash.HashKind.TheVariants.{Old}
+use Rattle.tdb_disk.specs.History.{History, seen}
+use Rattle.tdb_disk.specs.Stop.{Quiet}
+use Rattle.tdb_space.specs.Pairs.{same_key}
+use Rattle.tdb_law.specs.Beginning.{beginning}
+use Rattle.tdb_law.specs.Lines.{IsLawful}
+use Rattle.tdb_plays.specs.InLaw.{law_lines}
+use Rattle.tdb_world.specs.Openers.{options_of}
+use Rattle.tdb_world.specs.declared.options.Options.{Options}
+use Rattle.tdb_gen.specs.Generated.{Generated as IsLoad, CameOver}
+use Rattle.tdb_gen.specs.Summary.{summary_text}
+use Rattle.tdb_gen.specs.declared.fault.GenFault.{GenFault}
+use Rattle.tdb_gen.specs.declared.fault.GenFault.TheVariants as F
+use Rattle.tdb_gen.specs.declared.summary.Summary.{Summary}
+use Rattle.tdb_top.specs.declared.commands.generate.Line as C
+use Rattle.tdb_top.specs.declared.ending.Ending.{Ending}
+use Rattle.tdb_top.specs.declared.ending.Ending.TheVariants.{Replied, Refused, Missing, There, Usage, DeviceFault, InputFault, Malformed, NoMemory}
+use Rattle.tdb_top.specs.declared.ending.Reply.TheVariants.{Generated, Unfinished}
+use Rattle.tdb_top.specs.declared.limits.TheConstants.{DEFAULT_SIZE}
+use Rattle.tdb_top.specs.Commands.Create.{new_image}
+use Rattle.tdb_top.specs.Commands.Restore.{new_form}
+use Rattle.tdb_top.specs.Commands.Turns.{no_words, options_in}
+use Rattle.tdb_top.specs.Words.{is_short, is_option, is_file, commands_of, seed_of}
+
+-- what its words tell: how many commands, the number that they are made of, and the file
+pub record Line : Type 0 where
+  pub commands : ℕ
+  pub seed : ℕ
+  pub file : List ℕ
+
+-- the words of the code
+abbrev pub seen_line : C.Line → Line
+seen_line line = record { commands = line.commands; seed = line.seed; file = line.file.now }
+
+-- the name of the file isn't too long
+abbrev pub with_file : ℕ → ℕ → List ℕ → Option Line
+with_file commands seed file = if is_short file then Some (record { commands = commands; seed = seed; file = file }) else None
+
+-- N SEED FILE
+abbrev pub line_of : List ℕ → List ℕ → List ℕ → Option Line
+line_of commands seed file = option_and_then (λ n. option_and_then (λ s. with_file n s file) (seed_of seed)) (commands_of commands)
+
+-- where no more words are
+abbrev pub alone : List ℕ → List ℕ → List ℕ → Option Line
+alone commands seed file = if is_file file then line_of commands seed file else None
+
+-- the same with the word `--` before, between or behind them; FILE may begin with `-` where it stands behind that word
+abbrev pub with_mark : List ℕ → List ℕ → List ℕ → List ℕ → Option Line
+with_mark a b c d =
+    if same_key a (codes "--") then line_of b c d
+    else if same_key b (codes "--") then line_of a c d
+    else if same_key c (codes "--") then line_of a b d
+    else if same_key d (codes "--") && not (is_option c) then line_of a b c
+    else None
+
+abbrev pub gen_of_words : List (List ℕ) → Option Line
+gen_of_words [] = None
+gen_of_words (a ∷ []) = None
+gen_of_words (a ∷ b ∷ []) = None
+gen_of_words (a ∷ b ∷ c ∷ []) = alone a b c
+gen_of_words (a ∷ b ∷ c ∷ d ∷ []) = with_mark a b c d
+gen_of_words (a ∷ b ∷ c ∷ d ∷ e ∷ rest) = None
+
+-- the openers of the commands open the file as turns do where no word says otherwise
+abbrev pub gen_options : Options
+gen_options = options_in no_words
+
+-- the bytes of the file before the commands: those of a new one where nothing else is asked for
+abbrev pub new_file : List ℕ
+new_file = new_image DEFAULT_SIZE Little Old
+
+-- All commands were done on a new file, which has these bytes then: the summary counts the lines of a report that is
+-- lawful from the empty map on, and the file's keys and bytes. All of it is on the medium.
+pub record IsGenerated (commands seed : ℕ) (s : Summary) (now : History) : Type 0 where
+  pub generated : IsLoad new_form gen_options new_file commands seed (seen now) s
+  pub lawful : IsLawful new_form (beginning (options_of gen_options) empty 0) (law_lines generated.lines)
+  pub quiet : Quiet now
+
+-- how the filling of a new file with them ends: with the text of their summary, or without it, as far as they came
+abbrev pub FilledSo : ℕ → ℕ → History → Result (List ℕ) GenFault → Type 0
+FilledSo commands seed now (Ok text) = (s : Summary) × (text ≡ summary_text s) × IsGenerated commands seed s now
+FilledSo commands seed now (Err F.Io) = Unit {0}
+FilledSo commands seed now (Err F.Memory) = Unit {0}
+FilledSo commands seed now (Err F.Unfinished) = CameOver new_form gen_options new_file commands seed (seen now)
+
+-- the ending where they weren't all done
+abbrev pub of_gen : GenFault → Ending
+of_gen F.Io = DeviceFault
+of_gen F.Memory = NoMemory
+of_gen F.Unfinished = Replied Unfinished
+
+-- How generated commands on a new file end, but for a failed call or want of memory: all were done, and their summary
+-- is told; or one wasn't done after all turns of its group.
+pub data GenSo (commands seed : ℕ) (e : Ending) : Type 0 where
+  all_done : (s : Summary) (img : List ℕ) → e ≡ Replied (Generated (summary_text s)) → IsLoad new_form gen_options new_file commands seed img s → GenSo commands seed e
+  one_undone : (img : List ℕ) → e ≡ Replied Unfinished → CameOver new_form gen_options new_file commands seed img → GenSo commands seed e
+
+-- a file was made, where none was, and all commands were done on it
+abbrev pub HasMade : ℕ → ℕ → Summary → Option History → Option History → Type 0
+HasMade commands seed s old now = (h : History) × (old ≡ None) × (now ≡ Some h) × IsGenerated commands seed s h
+
+-- What is left at the name of the file by how they end. Where they weren't all done there is what there was; where a
+-- call failed that holds of a file that was there.
+abbrev pub GenLeaves : ℕ → ℕ → Option History → Ending → Option History → Type 0
+GenLeaves commands seed old (Replied reply) now = ((s : Summary) × (reply ≡ Generated (summary_text s)) × HasMade commands seed s old now) ⊎ ((reply ≡ Unfinished) × (now ≡ old))
+GenLeaves commands seed old (There name) now = now ≡ old
+GenLeaves commands seed old DeviceFault now = IsSome old → now ≡ old
+GenLeaves commands seed old NoMemory now = now ≡ old
+GenLeaves commands seed old (Refused refusal) now = ⊥
+GenLeaves commands seed old (Missing name) now = ⊥
+GenLeaves commands seed old Usage now = ⊥
+GenLeaves commands seed old InputFault now = ⊥
+GenLeaves commands seed old (Malformed at) now = ⊥

@@ -1,0 +1,164 @@
+// Generated commands: the summary that is printed, and the file that is left.
+
+ghost use Rattle.std.specs.Prelude.{◌≡◌, ℕ, List, false};
+ghost use Rattle.tdb_disk.specs.MemFiles.{name_is_taken};
+
+use crate::images::{NEW_FILE, file_with};
+use crate::runs::{USAGE, run_words};
+use std::alloc::{AllocError, Global};
+use std::test::Fail;
+use tdb_disk::{Call, MemFiles, MemSink};
+
+/// The summary of no command.
+const NOTHING: &str =
+    "commands 0\nok 0\ndata 0\nnoexist 0\nyes 0\nno 0\nfull 0\nmemory 0\nblocked 0\nlive 0\nlength 696\n";
+
+/// That of the one command from the seed 1, which stores 150 bytes.
+const ONE_STORE: &str =
+    "commands 1\nok 1\ndata 0\nnoexist 0\nyes 0\nno 0\nfull 0\nmemory 0\nblocked 0\nlive 1\nlength 4096\n";
+
+/// The status of a run of words over files, and what it prints.
+fn said(alloc: Global, files: &mut MemFiles, words: &str) -> Result<(u8, Vec<u8>), AllocError>
+    requires { (name : List ℕ) → name_is_taken files.old name ≡ false }
+    ensures { (name : List ℕ) → name_is_taken files.new name ≡ false }
+{
+    let mut output = MemSink::new(alloc);
+    run_words(alloc, files, &mut output, words)
+}
+
+/// The dump of a file that has the record which the one command from the seed 1 stores.
+fn one_stored(alloc: Global) -> Result<Vec<u8>, AllocError> {
+    let mut dump = Vec::new(alloc);
+    dump.extend_from_slice(b"{\nkey(4) = \"k496\"\ndata(150) = \"")?;
+    let stored = dump.len() + 150;
+    dump.resize(stored, b'c')?;
+    dump.extend_from_slice(b"\"\n}\n")?;
+    Ok(dump)
+}
+
+#[test]
+fn summaries(rt: HostRuntime) -> Result<(), Fail> {
+    let alloc = rt.alloc();
+    let mut files = MemFiles::new(alloc);
+    let stored = one_stored(alloc)?;
+    for (words, status, printed) in [
+        ("gen 1 1 f.tdb", 0, ONE_STORE.as_bytes()),
+        ("dump f.tdb", 0, stored.as_slice()),
+        ("gen 0 7 g.tdb", 0, NOTHING.as_bytes()),
+        ("tool g.tdb check", 0, b"number 0\n".as_slice()),
+        ("gen 0 7 g.tdb", 9, b"there g.tdb\n".as_slice()),
+        ("gen 0 4294967295 -- -h.tdb", 0, NOTHING.as_bytes()),
+        ("gen -- 0000000001 1 --", 0, ONE_STORE.as_bytes()),
+        ("gen 0 -- 0 i.tdb", 0, NOTHING.as_bytes()),
+        ("gen 0 0 j.tdb --", 0, NOTHING.as_bytes()),
+    ] {
+        let (found, bytes) = said(alloc, &mut files, words)?;
+        assert_eq!(rt; bytes.as_slice(), printed, "{words}");
+        assert_eq!(rt; found, status, "{words}");
+    }
+    let image = file_with(&NEW_FILE);
+    assert_eq!(rt; files.get("g.tdb"), image.get(..696));
+    Ok(())
+}
+
+#[test]
+fn words_without_a_reading(rt: HostRuntime) -> Result<(), Fail> {
+    let alloc = rt.alloc();
+    let mut files = MemFiles::new(alloc);
+    for words in [
+        "gen",
+        "gen 1 1",
+        "gen 1 f.tdb",
+        "gen 1000001 1 f.tdb",
+        "gen 00000000001 1 f.tdb",
+        "gen 1 4294967296 f.tdb",
+        "gen -1 1 f.tdb",
+        "gen 1 x f.tdb",
+        "gen 1 1 -f.tdb",
+        "gen 1 1 -f.tdb --",
+        "gen 1 1 --",
+        "gen 1 1 f.tdb g.tdb",
+        "gen -- 1 1 f.tdb g.tdb",
+    ] {
+        let (status, printed) = said(alloc, &mut files, words)?;
+        assert_eq!(rt; status, 2, "{words}");
+        assert_eq!(rt; printed.as_slice(), USAGE.as_bytes(), "{words}");
+        assert!(rt; files.get("f.tdb").is_none(), "{words}");
+    }
+    Ok(())
+}
+
+/// The number behind a word in a summary, with its newline.
+fn number_behind<'a>(summary: &'a [u8], word: &[u8]) -> Option<&'a [u8]> {
+    let at = summary.windows(word.len()).position(|piece| piece == word)?;
+    let rest = summary.get(at + word.len()..)?;
+    let end = rest.iter().position(|byte| *byte == b'\n')?;
+    rest.get(..=end)
+}
+
+#[test]
+fn a_load_is_the_same_twice(rt: HostRuntime) -> Result<(), Fail> {
+    let alloc = rt.alloc();
+    let mut files = MemFiles::new(alloc);
+    let (status, first) = said(alloc, &mut files, "gen 300 1 f.tdb")?;
+    let (other_status, other) = said(alloc, &mut files, "gen 300 1 g.tdb")?;
+    assert_eq!(rt; status, 0);
+    assert_eq!(rt; other_status, 0);
+    assert_eq!(rt; first.as_slice(), other.as_slice());
+    assert_eq!(rt; files.get("f.tdb"), files.get("g.tdb"));
+    let (_, checked) = said(alloc, &mut files, "tool f.tdb check")?;
+    let live = number_behind(&first, b"live ");
+    assert!(rt; live.is_some());
+    assert_eq!(rt; live, checked.strip_prefix(b"number ".as_slice()));
+    Ok(())
+}
+
+// Where a call fails the file stays as that call left it.
+#[test]
+fn failing_calls(rt: HostRuntime) -> Result<(), Fail> {
+    let alloc = rt.alloc();
+    for (call, nth, len) in [
+        (Call::Grow, 0, 0),
+        (Call::Write, 0, 696),
+        (Call::Sync, 0, 696),
+        (Call::Grow, 1, 696),
+        (Call::Write, 1, 4096),
+        (Call::Sync, 1, 4096),
+    ] {
+        let mut files = MemFiles::new(alloc);
+        files.fail_disk("f.tdb", call, nth)?;
+        let (found, bytes) = said(alloc, &mut files, "gen 1 1 f.tdb")?;
+        assert_eq!(rt; found, 4, "{call:?} {nth}");
+        assert_eq!(rt;
+            bytes.as_slice(),
+            b"device fault\n".as_slice(),
+            "{call:?} {nth}"
+        );
+        assert_eq!(rt;
+            files.get("f.tdb").map(|left| left.len()),
+            Some(len),
+            "{call:?} {nth}"
+        );
+    }
+    let mut files = MemFiles::new(alloc);
+    files.fail(Call::Take, 0)?;
+    let (found, bytes) = said(alloc, &mut files, "gen 1 1 f.tdb")?;
+    assert_eq!(rt; found, 4);
+    assert_eq!(rt; bytes.as_slice(), b"device fault\n".as_slice());
+    assert!(rt; files.get("f.tdb").is_none());
+    Ok(())
+}
+
+// Where the output fails, what was done stands.
+#[test]
+fn a_failing_output(rt: HostRuntime) -> Result<(), Fail> {
+    let alloc = rt.alloc();
+    let mut files = MemFiles::new(alloc);
+    let mut output = MemSink::new(alloc);
+    output.fail(Call::Write, 0)?;
+    let (found, printed) = run_words(alloc, &mut files, &mut output, "gen 1 1 f.tdb")?;
+    assert_eq!(rt; found, 8);
+    assert!(rt; printed.is_empty());
+    assert_eq!(rt; files.get("f.tdb").map(|left| left.len()), Some(4096));
+    Ok(())
+}
