@@ -20,5 +20,5 @@ pub(crate) struct LineReader {
     ghost ordered: { start ≤ end },
     ghost within: { end ≤ vec_len piece },
     ghost size: { vec_len piece ≡ 65536 },
-    ghost place: { at ≤ 9223372036854775808 },
+    ghost place: { at ≤ 17179869184 },
 }
