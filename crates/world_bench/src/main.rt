@@ -1,0 +1,176 @@
+//! Commands of the openers of one file, in memory and on a real one: generated commands of three openers, and stores of
+//! one. With a count of commands as its argument it also prints how long they took.
+#![tactic(auto)]
+
+ghost use Rattle.std.specs.Prelude.{◌≡◌, List, ℕ, false, IfOk, OnOk};
+ghost use Rattle.tdb_space.specs.Form.{form_in};
+ghost use Rattle.tdb_space.specs.Spare.{without_bound};
+ghost use Rattle.tdb_world.specs.Given.{IsServedPlay};
+ghost use Rattle.tdb_world.specs.Worlds.{Stands};
+
+use anyhow::{Context, bail};
+use std::alloc::{AllocError, Global};
+use std::env;
+use std::time::Instant;
+use tdb_check::{check, read_front};
+use tdb_disk::{Disk, Files, MemFiles, Take};
+use tdb_files::DirFiles;
+use tdb_gen::generate;
+use tdb_plays::{Command, Play, TurnReport};
+use tdb_space::{Direct, Space};
+use tdb_steps::Flag;
+use tdb_words::{Bytes, HashKind, Order, header_bytes};
+use tdb_world::{Openers, Options};
+
+/// The file.
+const NAME: &str = "world_bench.tdb";
+
+/// How many chains it has.
+const CHAINS: u32 = 131;
+
+const OPTIONS: Options = Options {
+    limit: 4_294_963_200,
+    nesting: true,
+    read_only: false,
+    seqnum: false,
+};
+
+/// Makes an empty file on a disk.
+fn make<D: Disk>(disk: &mut D) -> anyhow::Result<()> {
+    if disk.len()? != 0 {
+        bail!("the file isn't empty");
+    }
+    disk.grow(696)?;
+    disk.write(0, &header_bytes(CHAINS, Order::Little, HashKind::Old))?;
+    Ok(())
+}
+
+/// The play by which the one opener stores a value of 100 bytes at the key of a number.
+fn store(alloc: Global, number: u32) -> Result<Play, AllocError>
+    ensures { IfOk result IsServedPlay }
+{
+    let key = number.wrapping_mul(2_654_435_761).to_le_bytes();
+    Ok(Play::Do {
+        who: 1,
+        command: Command::Store {
+            key: Bytes::copy(alloc, &key)?,
+            value: Bytes::copy(alloc, &[b'v'; 100])?,
+            flag: Flag::Replace,
+        },
+    })
+}
+
+/// Lets one opener store so many values.
+fn take_stores<S: Space>(
+    alloc: Global,
+    openers: &mut Openers,
+    space: &mut S,
+    count: u32,
+) -> anyhow::Result<()>
+    requires form { S.form space.old ≡ form_in openers.old.header }
+    requires stands { Stands openers.old (S.image space.old) (S.size space.old) }
+    requires spare { (view : S) → S.spare view ≡ without_bound }
+{
+    let mut report = TurnReport::new(alloc);
+    for number in 0..count {
+        let plays = [store(alloc, number)?];
+        openers.run(space, &plays, &mut report)?;
+        report.clear();
+    }
+    Ok(())
+}
+
+/// Lets one opener join and store so many values in a new file, and tells how long that is then.
+fn store_all<D: Disk>(alloc: Global, disk: &mut D, count: u32) -> anyhow::Result<u64> {
+    let Ok(header) = read_front(disk) else {
+        bail!("no header");
+    };
+    let mut space = Direct::new(disk, &header);
+    if space.len()? > OPTIONS.limit {
+        bail!("the file is too long");
+    }
+    let mut openers = Openers::new(alloc, &header, &OPTIONS);
+    let Ok(1) = openers.join() else {
+        bail!("nobody joined");
+    };
+    take_stores(alloc, &mut openers, &mut space, count)?;
+    Ok(space.len()?)
+}
+
+/// Does so many generated commands, and tells what came of them.
+fn generate_all<D: Disk>(alloc: Global, disk: &mut D, count: u32) -> anyhow::Result<Bytes> {
+    let Ok(header) = read_front(disk) else {
+        bail!("no header");
+    };
+    let mut space = Direct::new(disk, &header);
+    let Ok(_) = check(alloc, &mut space) else {
+        bail!("a fault");
+    };
+    if space.len()? > OPTIONS.limit {
+        bail!("the file is too long");
+    }
+    let summary = generate(alloc, &mut space, &header, &OPTIONS, count, 1)?;
+    Ok(summary.text(alloc)?)
+}
+
+/// What is done over a new file.
+#[derive(Clone, Copy, Debug)]
+enum Work {
+    /// Generated commands of three openers.
+    Generated(u32),
+
+    /// Stores of one opener.
+    Stores(u32),
+}
+
+impl Work {
+    /// Does it over a disk, and tells what came of it.
+    fn on<D: Disk>(self, alloc: Global, disk: &mut D) -> anyhow::Result<Bytes> {
+        make(disk)?;
+        match self {
+            Work::Generated(count) => generate_all(alloc, disk, count),
+            Work::Stores(count) => {
+                let length = store_all(alloc, disk, count)?;
+                let text = format!(in alloc; "stores {count}\nlength {length}\n")?;
+                Ok(Bytes::copy(alloc, text.as_bytes())?)
+            }
+        }
+    }
+}
+
+/// Does some work over a new file, which is removed again, and prints what came of it, and how long it took where that is
+/// asked for.
+fn measure<F: Files>(rt: HostRuntime, files: &mut F, work: Work, timed: bool) -> anyhow::Result<()>
+    requires { (name : List ℕ) → F.is_taken files.old name ≡ false }
+    ensures { OnOk result ((name : List ℕ) → F.is_taken files.new name ≡ false) }
+{
+    let alloc = rt.alloc();
+    let start = Instant::now(&rt)?;
+    let mut disk = files.take(alloc, NAME, Take::New).ok().context("no file")?;
+    let told = work.on(alloc, &mut disk);
+    files.give(NAME, disk);
+    let taken = start.elapsed(&rt)?;
+    files.remove(NAME).ok().context("the file isn't removed")?;
+    let told = told?;
+    let text = str::from_utf8(told.as_slice())?;
+    print!(rt; "{text}")?;
+    if timed {
+        let taken = taken.as_millis();
+        println!(rt; "milliseconds {taken}")?;
+    }
+    Ok(())
+}
+
+fn main(rt: HostRuntime) -> anyhow::Result<()> {
+    let asked = env::args(&rt)?.nth(1);
+    let count = match &asked {
+        Some(word) => word.parse().context("the number of commands")?,
+        None => 300,
+    };
+    let timed = asked.is_some();
+    for work in [Work::Generated(count), Work::Stores(count / 10)] {
+        measure(rt, &mut MemFiles::new(rt.alloc()), work, timed)?;
+        measure(rt, &mut DirFiles::new(rt), work, timed)?;
+    }
+    Ok(())
+}
