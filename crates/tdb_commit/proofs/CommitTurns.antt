@@ -1,5 +1,5 @@
 -- The turns of a Commit are those of a Prepare, and then those that end it.
-use Rattle.std.proofs.Common.{◌≡◌, ℕ, ◌+◌, List, Bool, true, false, refl, ap, subst, sym, arith, inl, inr}
+use Rattle.std.proofs.Common.{◌≡◌, ℕ, ◌≤◌, ◌+◌, List, Bool, true, false, refl, ap, subst, sym, arith, inl, inr}
 use Rattle.tdb_locks.specs.declared.piece.Piece.{Piece}
 use Rattle.tdb_law.specs.Commands.Reply.{Done}
 use Rattle.tdb_law.specs.Commands.Turn.{Step, Ends}
@@ -9,7 +9,7 @@ use Rattle.tdb_steps.proofs.Holdings.{next_turn}
 use Rattle.tdb_commit.specs.Committings.{commit_after, CommitLeads, unchanged, planned, IsOpened}
 use Rattle.tdb_commit.specs.Finishes.{finish_steps}
 use Rattle.tdb_commit.specs.Holding.{RowTurned}
-use Rattle.tdb_commit.specs.Prepares.{at_stage, prepare_row, prepare_steps, row_of, PrepareLeads}
+use Rattle.tdb_commit.specs.Prepares.{at_stage, IsPlanning, stage_steps, prepare_row, prepare_steps, row_of, PrepareLeads}
 use Rattle.tdb_commit.specs.declared.committing.Committing.TheVariants.{Preparing}
 use Rattle.tdb_commit.specs.declared.finishing.Finishing as Stages
 use Rattle.tdb_commit.specs.declared.finishing.Finishing.TheVariants.{Open, Applied, Settled, Shut}
@@ -58,13 +58,21 @@ finishing_wants false (Settled state) b = refl
 finishing_wants false Shut b = refl
 
 -- the turns of a Prepare lead as those of a Commit
+pub late_planning : (s : PrepareStage) → 2 ≤ stage_steps s → IsPlanning s
+late_planning Unchanged late = absurd (omega (arith, late))
+late_planning (Begun txn) late = tt
+late_planning (Records txn) late = tt
+late_planning (Locked txn) late = tt
+late_planning (Planned state) late = tt
+late_planning (Filled state) late = tt
+
 pub prepare_leads : (p : Prepares.Preparing) (turn : PrepareTurn) → PrepareLeads p turn → CommitLeads (Preparing p) (commit_after turn)
-prepare_leads p (To.Step next) leads = leads.0
-prepare_leads p (To.Blocked owner byte again) leads = (leads.0, ap Preparing leads.1)
+prepare_leads p (To.Step next) leads = (leads.0, leads.1, leads.2)
+prepare_leads p (To.Blocked owner byte again) leads = (leads.0, leads.1, ap Preparing leads.2)
 prepare_leads p To.Nothing leads = elim leads [
   | inl none ↦ unchanged p.numbered (ap (λ s. Preparing (at_stage p.numbered s)) none)
   | inr third ↦ planned third
 ]
-prepare_leads p (To.Full len need) leads = leads
+prepare_leads p (To.Full len need) leads = (late_planning p.stage (omega (arith, leads)), leads)
 prepare_leads p To.Memory leads = leads
-prepare_leads p (To.Done state) leads = omega (arith, leads)
+prepare_leads p (To.Done state) leads = (late_planning p.stage (omega (arith, leads)), tt, omega (arith, leads))

@@ -5,3 +5,4 @@ pub mod CommitLocks
 pub mod Planned
 pub mod Carried
 pub mod CommitTurns
+pub mod Lawful

@@ -10,11 +10,15 @@ use Rattle.tdb_space.specs.Extents.{Extent, area, extent_at, once, times}
 use Rattle.tdb_space.specs.Form.{form_of, SameHeader}
 use Rattle.tdb_space.specs.Pairs.{order_of}
 use Rattle.tdb_space.specs.Undoing.{Reopens}
-use Rattle.tdb_space.proofs.Extents.Counts.{once_lies}
-use Rattle.tdb_space.proofs.Form.Headers.{form_kept}
+use Rattle.tdb_space.proofs.Extents.Counts.{once_lies, once_out}
+use Rattle.tdb_space.specs.Accepted.{Accept, AreaInPlace}
+use Rattle.tdb_space.proofs.Form.Headers.{form_kept, order_kept}
+use Rattle.tdb_words.specs.Header.{header_order, sequence_of}
+use Rattle.tdb_words.proofs.Words.{word_agrees}
 use Rattle.tdb_txn.specs.Answered.{AnsweredRightly, ChangesNothing, WantsArea, first, other, PlannedFor, keeps, places}
 use Rattle.tdb_txn.specs.AreaExtent.{IsAreaExtent, none, there}
-use Rattle.tdb_txn.specs.Committing.{MayCommit}
+use Rattle.tdb_txn.specs.Committing.{HasAreaIn, MayCommit}
+use Rattle.tdb_txn.specs.GivenUp.{AreaGivenUp, ExtentGiven, given, too_short}
 use Rattle.tdb_txn.specs.Pages.{byte_over, length_filled}
 use Rattle.tdb_txn.specs.CommitStates.{planned_plan}
 use Rattle.tdb_txn.specs.Planned.{IsPlannedOn}
@@ -62,6 +66,23 @@ module _ (txn : Txn) (r : List ℕ) (may : MayCommit txn r) (nothing : ChangesNo
       let size : length (txn_image txn r) ≡ length r = length_filled (byte_over (txn_pages txn) r) (txn_size txn) ∙ nothing.size ∙ long in
       ext_get_or 0 (txn_image txn r) r size (λ i low. same_byte i (omega (arith, low, size)))
 
+-- the sequence number stays where an undo area is given up
+module _ (r b x : List ℕ) (e : Extent) (A : Accept r) (has : HasAreaIn (form_of r).order r e) (G : AreaGivenUp (form_of r) b x e) where
+  place : AreaInPlace (form_of r) r (word (form_of r).order r 44)
+  place = elim A.area_ok [ inl absent ↦ absurd (has.some absent) | inr found ↦ found ]
+
+  outside : (i : ℕ) → i < 64 → once e i ≡ 0
+  outside i low = let at : e.0 ≡ word (form_of r).order r 44 = ap (λ (y : Extent). y.0) has.extent in once_out e i (inl (omega (arith, low, at, place.above)))
+
+  given_byte : (i : ℕ) → i < 64 → ExtentGiven (form_of r) G.between x e → slice_index x i ≡ slice_index G.between i
+  given_byte i low (given long to_list) = to_list.exchanged.low i (omega (arith, low)) (inl (omega (arith, low)))
+  given_byte i low (too_short short same) = ap (λ y. slice_index y i) same
+
+  pub number_given : sequence_of x ≡ sequence_of b
+  number_given =
+      ap (λ o. word o x 48) (order_kept b x G.same_header)
+      ∙ word_agrees (header_order b) x b 48 (λ i from to. given_byte i (omega (arith, to)) G.given ∙ G.zeroed.beside i (inr from) (outside i (omega (arith, to))))
+
 -- a plan that is ready carries the transaction
 module _ (txn : Txn) (limit : ℕ) (r : List ℕ) (h : History) (plan : Plan) (may : MayCommit txn r) where
   header : SameHeader r (txn_image txn r)
@@ -71,7 +92,7 @@ module _ (txn : Txn) (limit : ℕ) (r : List ℕ) (h : History) (plan : Plan) (m
   carries x stands state = record { before = r; after = x; reopens = λ c opens. opens; stands = stands; state = state }
 
   itself : IsPlannedOn plan h r (txn_image txn r) → Carries (IsPlannedOn plan) h r (txn_image txn r)
-  itself state = carries (txn_image txn r) (record { accepted = state.after; header = λ i front. refl; same_order = refl }) state
+  itself state = carries (txn_image txn r) (record { accepted = state.after; header = λ i front. refl; number = refl; same_order = refl }) state
 
   wanted : (y x : List ℕ) (runs : List Extent) → WantsArea txn r y x runs → IsPlannedOn plan h r x → Carries (IsPlannedOn plan) h r (txn_image txn r)
   wanted y x runs (first no_area same is changed) state = itself (subst (IsPlannedOn plan h r) is state)
@@ -80,6 +101,7 @@ module _ (txn : Txn) (limit : ℕ) (r : List ℕ) (h : History) (plan : Plan) (m
       carries x (record {
         accepted = state.after;
         header = replaced.given_up.same_header;
+        number = number_given r (txn_image txn r) x e may.before has replaced.given_up;
         same_order = ap (λ f. order_of f x) form ∙ replaced.given_up.same_order ∙ sym (ap (λ f. order_of f (txn_image txn r)) form);
       }) state
 

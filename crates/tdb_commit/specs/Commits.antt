@@ -2,19 +2,21 @@
 use Rattle.std.specs.Prelude.{◌≡◌, List, ℕ}
 use Rattle.tdb_disk.specs.History.{History, seen}
 use Rattle.tdb_disk.specs.Stop.{Quiet}
+use Rattle.tdb_words.specs.Header.{sequence_of}
 use Rattle.tdb_space.specs.Accepted.{Accept}
 use Rattle.tdb_space.specs.Form.{form_of, SameHeader}
 use Rattle.tdb_space.specs.Pairs.{order_of}
 use Rattle.tdb_space.specs.Undoing.{Reopens}
 
--- Image x stands for image b of the transaction: it is accepted, and has the header of b and its pairs in their order. It is b, or b
--- without an undo area that was too short for the commit.
+-- Image x stands for image b of the transaction: it is accepted, and has the header of b, its sequence number, and its pairs in their
+-- order. It is b, or b without an undo area that was too short for the commit.
 pub record StandsFor (b x : List ℕ) : Type 0 where
   pub accepted : Accept x
   pub header : SameHeader b x
+  pub number : sequence_of x ≡ sequence_of b
   pub same_order : order_of (form_of b) x ≡ order_of (form_of b) b
 
--- an image opens to the map of image b
+-- an image opens to the map of image b, with its sequence number
 pub record OpensAs (b c : List ℕ) : Type 0 where
   pub image : List ℕ
   pub stands : StandsFor b image

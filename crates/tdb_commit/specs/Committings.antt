@@ -5,7 +5,7 @@ use Rattle.tdb_space.specs.Undoing.{Reopens}
 use Rattle.tdb_law.specs.Commands.{Reply, Turn}
 use Rattle.tdb_law.specs.Rows.{Lock, commit_locks}
 use Rattle.tdb_commit.specs.Finishes.{finish_steps, FinishFits, FinishSyncs, IsShut, KnowsFinish, MayLeave}
-use Rattle.tdb_commit.specs.Prepares.{prepare_steps, prepare_row, FullRightly, KnowsStage, StageFits, StageSyncs}
+use Rattle.tdb_commit.specs.Prepares.{prepare_steps, prepare_row, FullRightly, IsPlanning, KnowsStage, StageFits, StageSyncs}
 use Rattle.tdb_commit.specs.declared.committing.Committing.{Committing}
 use Rattle.tdb_commit.specs.declared.committing.Committing.TheVariants.{Preparing, Finishing}
 use Rattle.tdb_commit.specs.declared.committing.CommitTurn.{CommitTurn}
@@ -73,12 +73,17 @@ pub data CanEnd (c : Committing) : Type 0 where
   planned : commit_steps c ≡ 2 → CanEnd c
   shut : c ≡ Finishing Shut → CanEnd c
 
+-- it may have more than one turn
+abbrev pub MayGoOn : Committing → Type 0
+MayGoOn (Preparing p) = IsPlanning p.stage
+MayGoOn (Finishing s) = Unit {0}
+
 -- the turns in their order
 abbrev pub CommitLeads : Committing → CommitTurn → Type 0
-CommitLeads c (Step next) = commit_steps next ≡ commit_steps c + 1
-CommitLeads c (Blocked owner byte again) = (commit_steps c < 2) × (again ≡ c)
-CommitLeads c (Full len need) = commit_steps c ≡ 2
-CommitLeads c Memory = commit_steps c < 3
+CommitLeads c (Step next) = MayGoOn c × MayGoOn next × (commit_steps next ≡ commit_steps c + 1)
+CommitLeads c (Blocked owner byte again) = MayGoOn c × (commit_steps c < 2) × (again ≡ c)
+CommitLeads c (Full len need) = MayGoOn c × (commit_steps c ≡ 2)
+CommitLeads c Memory = MayGoOn c × (commit_steps c < 3)
 CommitLeads c Done = CanEnd c
 
 -- the third turn says rightly that there is no room

@@ -4,3 +4,4 @@ pub mod Commits
 pub mod Prepares
 pub mod Finishes
 pub mod Committings
+pub mod Laws

@@ -97,14 +97,19 @@ KnowsStage (Locked txn) h r b = IsReady txn h r b
 KnowsStage (Planned state) h r b = Carries (IsPlannedOn (planned_plan state)) h r b
 KnowsStage (Filled state) h r b = Carries (IsFilled (filled_plan state)) h r b
 
+-- there is something that may have to be planned
+abbrev pub IsPlanning : PrepareStage → Type 0
+IsPlanning Unchanged = ⊥
+IsPlanning _ = Unit {0}
+
 -- The turns in their order. The first ends where nothing was changed; the third ends where nothing is to be committed, where there is
 -- no room, and where the plan finds no memory; the fifth ends.
 abbrev pub PrepareLeads : Preparing → PrepareTurn → Type 0
-PrepareLeads p (To.Step next) = (prepare_steps next ≡ prepare_steps p + 1) × (prepare_row next ≡ prepare_row p) × (next.numbered ≡ p.numbered)
-PrepareLeads p (To.Blocked owner byte again) = (prepare_steps p < 2) × (again ≡ p)
+PrepareLeads p (To.Step next) = IsPlanning p.stage × IsPlanning next.stage × (prepare_steps next ≡ prepare_steps p + 1) × (next.numbered ≡ p.numbered)
+PrepareLeads p (To.Blocked owner byte again) = IsPlanning p.stage × (prepare_steps p < 2) × (again ≡ p)
 PrepareLeads p To.Nothing = (p.stage ≡ Unchanged) ⊎ (prepare_steps p ≡ 2)
 PrepareLeads p (To.Full len need) = prepare_steps p ≡ 2
-PrepareLeads p To.Memory = prepare_steps p < 3
+PrepareLeads p To.Memory = IsPlanning p.stage × (prepare_steps p < 3)
 PrepareLeads p (To.Done state) = prepare_steps p ≡ 4
 
 -- the third turn says rightly that there is no room
