@@ -36,35 +36,57 @@ fn one_stored(alloc: Global) -> Result<Vec<u8>, AllocError> {
     Ok(dump)
 }
 
+// The record of the one command, as a dump shows it.
 #[test]
-fn summaries(rt: HostRuntime) -> Result<(), Fail> {
+fn a_load_and_its_dump(rt: HostRuntime) -> Result<(), Fail> {
     let alloc = rt.alloc();
     let mut files = MemFiles::new(alloc);
-    let stored = one_stored(alloc)?;
-    for (words, status, printed) in [
-        ("gen 1 1 f.tdb", 0, ONE_STORE.as_bytes()),
-        ("dump f.tdb", 0, stored.as_slice()),
-        ("gen 0 7 g.tdb", 0, NOTHING.as_bytes()),
-        ("tool g.tdb check", 0, b"number 0\n".as_slice()),
-        ("gen 0 7 g.tdb", 9, b"there g.tdb\n".as_slice()),
-        ("gen 0 4294967295 -- -h.tdb", 0, NOTHING.as_bytes()),
-        ("gen -- 0000000001 1 --", 0, ONE_STORE.as_bytes()),
-        ("gen 0 -- 0 i.tdb", 0, NOTHING.as_bytes()),
-        ("gen 0 0 j.tdb --", 0, NOTHING.as_bytes()),
-    ] {
-        let (found, bytes) = said(alloc, &mut files, words)?;
-        assert_eq!(rt; bytes.as_slice(), printed, "{words}");
-        assert_eq!(rt; found, status, "{words}");
-    }
+    let (status, printed) = said(alloc, &mut files, "gen 1 1 f.tdb")?;
+    assert_eq!(rt; status, 0);
+    assert_eq!(rt; printed.as_slice(), ONE_STORE.as_bytes());
+    let (status, printed) = said(alloc, &mut files, "dump f.tdb")?;
+    assert_eq!(rt; status, 0);
+    let dump = one_stored(alloc)?;
+    assert_eq!(rt; printed.as_slice(), dump.as_slice());
+    Ok(())
+}
+
+// A file on which no command is done is a new one, and stays where it is to be made again.
+#[test]
+fn a_load_of_nothing(rt: HostRuntime) -> Result<(), Fail> {
+    let alloc = rt.alloc();
+    let mut files = MemFiles::new(alloc);
+    let (status, printed) = said(alloc, &mut files, "gen 0 7 g.tdb")?;
+    assert_eq!(rt; status, 0);
+    assert_eq!(rt; printed.as_slice(), NOTHING.as_bytes());
+    let (status, printed) = said(alloc, &mut files, "gen 0 7 g.tdb")?;
+    assert_eq!(rt; status, 9);
+    assert_eq!(rt; printed.as_slice(), b"there g.tdb\n".as_slice());
     let image = file_with(&NEW_FILE);
     assert_eq!(rt; files.get("g.tdb"), image.get(..696));
     Ok(())
 }
 
 #[test]
+fn words_with_a_reading(rt: HostRuntime) -> Result<(), Fail> {
+    let alloc = rt.alloc();
+    for (words, wanted) in [
+        ("gen 0 4294967295 -- -h.tdb", NOTHING),
+        ("gen -- 0000000001 1 --", ONE_STORE),
+        ("gen 0 -- 0 i.tdb", NOTHING),
+        ("gen 0 0 j.tdb --", NOTHING),
+    ] {
+        let mut files = MemFiles::new(alloc);
+        let (status, printed) = said(alloc, &mut files, words)?;
+        assert_eq!(rt; status, 0, "{words}");
+        assert_eq!(rt; printed.as_slice(), wanted.as_bytes(), "{words}");
+    }
+    Ok(())
+}
+
+#[test]
 fn words_without_a_reading(rt: HostRuntime) -> Result<(), Fail> {
     let alloc = rt.alloc();
-    let mut files = MemFiles::new(alloc);
     for words in [
         "gen",
         "gen 1 1",
@@ -80,6 +102,7 @@ fn words_without_a_reading(rt: HostRuntime) -> Result<(), Fail> {
         "gen 1 1 f.tdb g.tdb",
         "gen -- 1 1 f.tdb g.tdb",
     ] {
+        let mut files = MemFiles::new(alloc);
         let (status, printed) = said(alloc, &mut files, words)?;
         assert_eq!(rt; status, 2, "{words}");
         assert_eq!(rt; printed.as_slice(), USAGE.as_bytes(), "{words}");
@@ -88,28 +111,16 @@ fn words_without_a_reading(rt: HostRuntime) -> Result<(), Fail> {
     Ok(())
 }
 
-/// The number behind a word in a summary, with its newline.
-fn number_behind<'a>(summary: &'a [u8], word: &[u8]) -> Option<&'a [u8]> {
-    let at = summary.windows(word.len()).position(|piece| piece == word)?;
-    let rest = summary.get(at + word.len()..)?;
-    let end = rest.iter().position(|byte| *byte == b'\n')?;
-    rest.get(..=end)
-}
-
 #[test]
 fn a_load_is_the_same_twice(rt: HostRuntime) -> Result<(), Fail> {
     let alloc = rt.alloc();
     let mut files = MemFiles::new(alloc);
     let (status, first) = said(alloc, &mut files, "gen 300 1 f.tdb")?;
-    let (other_status, other) = said(alloc, &mut files, "gen 300 1 g.tdb")?;
     assert_eq!(rt; status, 0);
-    assert_eq!(rt; other_status, 0);
+    let (status, other) = said(alloc, &mut files, "gen 300 1 g.tdb")?;
+    assert_eq!(rt; status, 0);
     assert_eq!(rt; first.as_slice(), other.as_slice());
     assert_eq!(rt; files.get("f.tdb"), files.get("g.tdb"));
-    let (_, checked) = said(alloc, &mut files, "tool f.tdb check")?;
-    let live = number_behind(&first, b"live ");
-    assert!(rt; live.is_some());
-    assert_eq!(rt; live, checked.strip_prefix(b"number ".as_slice()));
     Ok(())
 }
 
