@@ -6,10 +6,10 @@ use Rattle.tdb_disk.specs.Count.{Rose}
 use Rattle.tdb_disk.specs.History.{History, seen}
 use Rattle.tdb_disk.specs.declared.files.TakeRefusal.{TakeRefusal}
 use Rattle.tdb_disk.specs.declared.files.TakeRefusal.TheVariants as Take
-use Rattle.tdb_top.specs.declared.act.Act.{Act}
-use Rattle.tdb_top.specs.declared.ask.Task.{Task}
-use Rattle.tdb_top.specs.declared.ask.Task.TheVariants.{Create, On, Read, Restore, Backup, Turns, Session, Generate}
-use Rattle.tdb_top.specs.declared.commands.create.NewForm.{NewForm}
+use Rattle.tdb_ask.specs.declared.act.Act.{Act}
+use Rattle.tdb_ask.specs.declared.ask.Task.{Task}
+use Rattle.tdb_ask.specs.declared.ask.Task.TheVariants.{Create, On, Read, Restore, Backup, Turns, Session, Generate}
+use Rattle.tdb_ask.specs.declared.lines.create.NewForm.{NewForm}
 use Rattle.tdb_top.specs.declared.commands.create.Creation as Making
 use Rattle.tdb_top.specs.declared.ending.Ending.{Ending}
 use Rattle.tdb_top.specs.declared.ending.Ending.TheVariants as E
@@ -19,7 +19,7 @@ use Rattle.tdb_top.specs.declared.halt.Fault.{Fault}
 use Rattle.tdb_top.specs.declared.halt.Fault.TheVariants as F
 use Rattle.tdb_top.specs.declared.halt.Halt.{Halt}
 use Rattle.tdb_top.specs.declared.halt.Halt.TheVariants.{Refused, Device, Memory}
-use Rattle.tdb_top.specs.Ask.{Ask}
+use Rattle.tdb_ask.specs.Ask.{Ask}
 use Rattle.tdb_top.specs.Acts.{reply_of, Does, Breaks, Acted, OpenedAndActed}
 use Rattle.tdb_top.specs.Commands.Create.{CreateCause, CreateLeaves}
 use Rattle.tdb_top.specs.Ending.{TaskDue, Replies, Refuses, TaskCause, task_due, task_failed, task_wanting, Untaken, MadeSo, of_halt}

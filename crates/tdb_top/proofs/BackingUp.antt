@@ -17,7 +17,7 @@ use Rattle.tdb_backup.specs.declared.refusal.CopyRefusal.{CopyRefusal}
 use Rattle.tdb_backup.specs.declared.refusal.CopyRefusal.TheVariants as C
 use Rattle.tdb_disk.specs.declared.files.TakeRefusal.{TakeRefusal}
 use Rattle.tdb_disk.specs.declared.files.TakeRefusal.TheVariants as Take
-use Rattle.tdb_top.specs.declared.limits.TheConstants.{LONGEST_FILE}
+use Rattle.tdb_ask.specs.declared.limits.TheConstants.{LONGEST_FILE}
 use Rattle.tdb_top.specs.declared.opening.Opened.{Opened}
 use Rattle.tdb_top.specs.declared.ending.Ending.{Ending}
 use Rattle.tdb_top.specs.declared.ending.Ending.TheVariants.{Replied, Refused, Missing, There, DeviceFault, NoMemory}

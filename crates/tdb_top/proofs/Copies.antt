@@ -1,6 +1,5 @@
 -- What is left of the files of a backup, one after the other.
-use Rattle.std.proofs.Common.{◌≡◌, ◌⊎◌, ◌<◌, ◌+◌, ℕ, suc, List, [], ◌∷◌, Option, Some, length, get_or, drop, refl, sym, ◌∙◌, ap, subst, inl, inr, arith}
-use Rattle.std.proofs.Math.Seq.{drop-cons}
+use Rattle.std.proofs.Common.{◌≡◌, ◌⊎◌, ℕ, List, [], ◌∷◌, Option, Some, refl, sym, ◌∙◌, ap, subst, inl, inr, arith}
 use Rattle.tdb_disk.specs.Count.{Rose}
 use Rattle.tdb_disk.specs.History.{History}
 use Rattle.tdb_top.specs.declared.ending.Ending.{Ending}
@@ -8,7 +7,8 @@ use Rattle.tdb_top.specs.declared.ending.Ending.TheVariants.{Replied, Refused, M
 use Rattle.tdb_top.specs.declared.ending.Reply.TheVariants as Reply
 use Rattle.tdb_top.specs.declared.halt.Refusal.{Refusal}
 use Rattle.tdb_top.specs.declared.halt.Refusal.TheVariants.{TooLong, Header, Corrupt, NeedsRecovery}
-use Rattle.tdb_top.specs.Commands.Backup.{copy_name, new_name, IsNameOf, IsNameAmong, IsForCopyAmong, NamesDiffer, Copied, CopiedAll, Stopped, AllStay, StoppedAt, IsLeftOf, WasOpened, EndsAt, BackupEnds, BackupCause, EndsBackup, BackedUpOne, BackedUp}
+use Rattle.tdb_ask.specs.CopyNames.{copy_name, new_name, IsNameOf, IsNameAmong, IsForCopyAmong, NamesDiffer}
+use Rattle.tdb_top.specs.Commands.Backup.{Copied, CopiedAll, Stopped, AllStay, StoppedAt, IsLeftOf, WasOpened, EndsAt, BackupEnds, BackupCause, EndsBackup, BackedUpOne, BackedUp}
 use Rattle.tdb_top.specs.Ending.{status_of}
 use Rattle.tdb_top.specs.Opening.{HeldOrUndone, HeldBroken, UndoneIfOpen}
 use Rattle.tdb_top.proofs.Held.{same_or_other}
@@ -249,7 +249,3 @@ module _ (suffix : List ℕ) (all : List (List ℕ)) (start : Held) (first : ℕ
 
   pub carries_end : (e : Ending) → EndsBackup e → (e ≡ Replied Reply.Copied → ⊥) → BackedUpOne file (copy_name suffix file) (new_name suffix file) old mid before between e → BackedUp suffix all start mid first between e
   carries_end e known other one = carries mid between e (ended_there suffix file files differ old mid before between others e known other one) (λ name none. others name (λ own. none (inl own)))
-
--- a list from a place on is the item there, and the list from the next place on
-pub rest_of : {A : Type 0} (xs : List A) (i : ℕ) (x : A) → i < length xs → x ≡ get_or xs i x → drop i xs ≡ x ∷ drop (i + 1) xs
-rest_of xs i x low is = drop-cons xs i x low ∙ ap (λ y. y ∷ drop (suc i) xs) (sym is) ∙ ap (λ n. x ∷ drop n xs) (let e : suc i ≡ i + 1 = omega arith in e)

@@ -1,7 +1,3 @@
-pub mod ShortWords
-pub mod WordReadings
-pub mod Sizes
-pub mod KeyWord
 pub mod NewFile
 pub mod MakesFile
 pub mod Errors
@@ -15,9 +11,6 @@ pub mod Acting
 pub mod Restoring
 pub mod Looking
 pub mod BackingUp
-pub mod BackupNames
-pub mod LineWords
-pub mod GenWords
 pub mod Writing
 pub mod OneAnswer
 pub mod Copies

@@ -7,16 +7,16 @@ use Rattle.tdb_space.specs.Form.{form_of}
 use Rattle.tdb_space.specs.Opening.{is_open, Opens}
 use Rattle.tdb_space.specs.OpeningFault.{in_front}
 use Rattle.tdb_space.proofs.OpeningFault.OneFault.{one_opening, never_both_ways}
-use Rattle.tdb_top.specs.declared.act.Act.{Act}
-use Rattle.tdb_top.specs.declared.look.Look.{Look}
-use Rattle.tdb_top.specs.declared.ask.Task.{Task}
-use Rattle.tdb_top.specs.declared.ask.Task.TheVariants.{Create, On, Read, Restore, Backup, Turns, Session, Generate}
+use Rattle.tdb_ask.specs.declared.act.Act.{Act}
+use Rattle.tdb_ask.specs.declared.look.Look.{Look}
+use Rattle.tdb_ask.specs.declared.ask.Task.{Task}
+use Rattle.tdb_ask.specs.declared.ask.Task.TheVariants.{Create, On, Read, Restore, Backup, Turns, Session, Generate}
 use Rattle.tdb_top.specs.declared.ending.Ending.{Ending}
 use Rattle.tdb_top.specs.declared.ending.Ending.TheVariants.{Refused}
 use Rattle.tdb_top.specs.declared.halt.Refusal.{Refusal}
 use Rattle.tdb_top.specs.declared.halt.Refusal.TheVariants.{TooLong, Header, Corrupt, NeedsRecovery}
-use Rattle.tdb_top.specs.declared.limits.TheConstants.{LONGEST_FILE}
-use Rattle.tdb_top.specs.Ask.{Ask}
+use Rattle.tdb_ask.specs.declared.limits.TheConstants.{LONGEST_FILE}
+use Rattle.tdb_ask.specs.Ask.{Ask}
 use Rattle.tdb_top.specs.Ending.{status_of, Replies, Refuses, LookReplies, RefusesToRead, TaskDue, Due}
 use Rattle.tdb_top.specs.Opening.{CanOpen, IsRefused, OpensToRead, CanRead, HasOpenGate, IsRefusedToRead}
 

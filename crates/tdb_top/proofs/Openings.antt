@@ -31,7 +31,7 @@ use Rattle.tdb_top.specs.declared.halt.Halt.{Halt}
 use Rattle.tdb_top.specs.declared.halt.Halt.TheVariants.{Refused, Device, Memory}
 use Rattle.tdb_top.specs.declared.halt.Refusal.TheVariants.{TooLong, Header, Corrupt, NeedsRecovery}
 use Rattle.tdb_top.specs.declared.opening.Opened.{Opened}
-use Rattle.tdb_top.specs.declared.limits.TheConstants.{LONGEST_FILE}
+use Rattle.tdb_ask.specs.declared.limits.TheConstants.{LONGEST_FILE}
 use Rattle.tdb_top.specs.Opening.{opened_bytes, CanOpen, CanRead, HasOpenGate, IsOpenedOn, IsCheckedOn, Undone, SameOrUndone, UndoneIfOpen, UndoBroken, HaltsRightly, ReadHaltsRightly, HaltsAtFault, HaltLeaves, asks_for_undo, of_front, of_restored_front, of_undo, of_check}
 
 none_some : (o : Option Fault) (e : Fault) → o ≡ None → o ≡ Some e → ⊥

@@ -11,7 +11,7 @@ use Rattle.tdb_script.specs.Rows.{row_of, bare_commands, key_commands, value_com
 use Rattle.tdb_script.specs.Script.{IsCommand, IsOpenerPlay, IsPlay, Says, LinesSay, with_said, Script}
 use Rattle.tdb_script.proofs.PartLemmas.{NoLonger, lines_no_longer, words_no_longer}
 use Rattle.tdb_world.specs.Given.{IsServed, IsShortGiven, IsServedPlay, AreServed}
-use Rattle.tdb_top.proofs.ShortWords.{word_short}
+use Rattle.tdb_ask.proofs.ShortWords.{word_short}
 
 -- what holds of each row of a table holds of what a word has there
 abbrev OfRows : {A : Type 0} → (A → Type 0) → List (List ℕ × A) → Type 0

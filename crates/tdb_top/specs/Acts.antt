@@ -1,15 +1,15 @@
 -- What the commands do with a file that is there: what each replies, and what it leaves of the file.
 use Rattle.std.specs.Prelude.{◌≡◌, ◌≢◌, ◌⊎◌, ℕ, List, Result, Ok, Err}
 use Rattle.tdb_disk.specs.History.{History, seen}
-use Rattle.tdb_top.specs.declared.act.Act.{Act}
-use Rattle.tdb_top.specs.declared.act.Act.TheVariants.{Show, Insert, Store, Delete, Erase, Check}
+use Rattle.tdb_ask.specs.declared.act.Act.{Act}
+use Rattle.tdb_ask.specs.declared.act.Act.TheVariants.{Show, Insert, Store, Delete, Erase, Check}
 use Rattle.tdb_top.specs.declared.ending.Reply.{Reply}
 use Rattle.tdb_top.specs.declared.ending.Reply.TheVariants.{Done}
 use Rattle.tdb_top.specs.declared.halt.Fault.{Fault}
 use Rattle.tdb_top.specs.declared.halt.Fault.TheVariants as F
 use Rattle.tdb_top.specs.declared.halt.Halt.{Halt}
 use Rattle.tdb_top.specs.declared.halt.Halt.TheVariants.{Refused, Device, Memory}
-use Rattle.tdb_top.specs.declared.limits.TheConstants.{LONGEST_FILE}
+use Rattle.tdb_ask.specs.declared.limits.TheConstants.{LONGEST_FILE}
 use Rattle.tdb_top.specs.Opening.{opened_bytes, CanOpen, IsRefused, UndoneIfOpen, LookBroken}
 use Rattle.tdb_top.specs.Commands.Show.{show_reply}
 use Rattle.tdb_top.specs.Commands.Check.{check_reply}

@@ -1,4 +1,4 @@
--- The commands, each with its arguments, what it replies, and what it leaves of the file.
+-- The commands, each with what it replies, and what it leaves of the file.
 pub mod Show
 pub mod Check
 pub mod Insert
@@ -9,7 +9,6 @@ pub mod Create
 pub mod Dump
 pub mod Restore
 pub mod Backup
-pub mod BackupLine
 pub mod Turns
 pub mod Session
 pub mod Generate

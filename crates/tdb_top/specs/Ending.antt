@@ -7,10 +7,10 @@ use Rattle.tdb_disk.specs.History.{History, seen}
 use Rattle.tdb_disk.specs.declared.files.TakeRefusal as Take
 use Rattle.tdb_dump.specs.Escape.{escaped}
 use Rattle.tdb_dump.specs.Line.{data_line}
-use Rattle.tdb_top.specs.declared.act.Act.{Act}
-use Rattle.tdb_top.specs.declared.look.Look.{Look}
-use Rattle.tdb_top.specs.declared.ask.Task.{Task}
-use Rattle.tdb_top.specs.declared.ask.Task.TheVariants.{Create, On, Read, Restore, Backup, Turns, Session, Generate}
+use Rattle.tdb_ask.specs.declared.act.Act.{Act}
+use Rattle.tdb_ask.specs.declared.look.Look.{Look}
+use Rattle.tdb_ask.specs.declared.ask.Task.{Task}
+use Rattle.tdb_ask.specs.declared.ask.Task.TheVariants.{Create, On, Read, Restore, Backup, Turns, Session, Generate}
 use Rattle.tdb_top.specs.declared.ending.Ending.{Ending}
 use Rattle.tdb_top.specs.declared.ending.Ending.TheVariants.{Replied, Refused, Missing, There, Usage, DeviceFault, InputFault, Malformed, NoMemory}
 use Rattle.tdb_top.specs.declared.ending.Reply.TheVariants.{Done, Value, Escaped, Dumped, Restored, Copied, KeyMissing, KeyThere, Full, Number, Played, Generated, Unfinished}
@@ -18,7 +18,7 @@ use Rattle.tdb_top.specs.declared.halt.Halt as H
 use Rattle.tdb_top.specs.declared.halt.Refusal.{Refusal}
 use Rattle.tdb_top.specs.declared.halt.Refusal.TheVariants.{TooLong, Header, Corrupt, NeedsRecovery}
 use Rattle.tdb_top.specs.declared.commands.create.Creation as Making
-use Rattle.tdb_top.specs.Ask.{Ask}
+use Rattle.tdb_ask.specs.Ask.{Ask}
 use Rattle.tdb_top.specs.Acts.{reply_of}
 use Rattle.tdb_top.specs.Looks.{look_reply}
 use Rattle.tdb_top.specs.Output.{Output}

@@ -1,11 +1,8 @@
-pub mod Limits
-pub mod Words
 pub mod Opening
 pub mod Input
 pub mod Output
 pub mod Commands
 pub mod Looks
-pub mod Ask
 pub mod Acts
 pub mod Ending
 pub mod Playing

@@ -1,8 +1,8 @@
 -- What the commands do that read a file alone: what each replies, and what it prints before that.
-use Rattle.std.specs.Prelude.{◌≡◌, ◌++◌, ℕ, ◌<◌, ◌^◌, Bool, ◌&&◌, Option, None, Some, List, [], length, take, Result, Ok, Err}
+use Rattle.std.specs.Prelude.{◌≡◌, ◌++◌, ℕ, Bool, ◌&&◌, Option, None, Some, List, [], take, Result, Ok, Err}
 use Rattle.tdb_disk.specs.History.{History, seen}
-use Rattle.tdb_top.specs.declared.look.Look.{Look}
-use Rattle.tdb_top.specs.declared.look.Look.TheVariants.{Dump, Value}
+use Rattle.tdb_ask.specs.declared.look.Look.{Look}
+use Rattle.tdb_ask.specs.declared.look.Look.TheVariants.{Dump, Value}
 use Rattle.tdb_top.specs.declared.ending.Ending.{Ending}
 use Rattle.tdb_top.specs.declared.ending.Ending.TheVariants.{Replied, Refused, Missing, There, Usage, DeviceFault, InputFault, Malformed, NoMemory}
 use Rattle.tdb_top.specs.declared.ending.Unprinted.{Unprinted}
@@ -11,11 +11,6 @@ use Rattle.tdb_top.specs.declared.ending.Reply.{Reply}
 use Rattle.tdb_top.specs.declared.ending.Reply.TheVariants.{Dumped, Played}
 use Rattle.tdb_top.specs.Opening.{CanRead, IsRefusedToRead}
 use Rattle.tdb_top.specs.Commands.Dump.{value_reply, pairs_text}
-
--- the keys of a look are short enough for a record
-abbrev pub LookFits : Look → Type 0
-LookFits Dump = Unit {0}
-LookFits (Value key) = length key < 2 ^ 32
 
 -- what a look replies over a file with these bytes
 abbrev pub look_reply : Look → List ℕ → Reply

@@ -21,7 +21,7 @@ use Rattle.tdb_top.specs.declared.halt.Fault as F
 use Rattle.tdb_top.specs.declared.halt.Halt.{Halt}
 use Rattle.tdb_top.specs.declared.halt.Halt.TheVariants.{Refused, Device, Memory}
 use Rattle.tdb_top.specs.declared.opening.Opened.{Opened}
-use Rattle.tdb_top.specs.declared.limits.TheConstants.{LONGEST_FILE}
+use Rattle.tdb_ask.specs.declared.limits.TheConstants.{LONGEST_FILE}
 
 -- the bytes that a file with these is read as: what its undo gives, where the gate of its undo area is open
 abbrev pub opened_bytes : List ℕ → List ℕ

@@ -5,21 +5,22 @@ use Rattle.std.specs.Global.{Global}
 use Rattle.tdb_disk.specs.Count.{Rose}
 use Rattle.tdb_disk.specs.History.{History, seen}
 use Rattle.tdb_space.specs.Opening.{Opens}
-use Rattle.tdb_top.specs.declared.act.Act.{Act}
-use Rattle.tdb_top.specs.declared.look.Look.{Look}
-use Rattle.tdb_top.specs.declared.ask.Task.{Task}
-use Rattle.tdb_top.specs.declared.ask.Task.TheVariants.{Create, On, Read, Restore, Backup, Turns, Session, Generate}
-use Rattle.tdb_top.specs.declared.commands.create.NewForm.{NewForm}
+use Rattle.tdb_ask.specs.declared.act.Act.{Act}
+use Rattle.tdb_ask.specs.declared.look.Look.{Look}
+use Rattle.tdb_ask.specs.declared.ask.Task.{Task}
+use Rattle.tdb_ask.specs.declared.ask.Task.TheVariants.{Create, On, Read, Restore, Backup, Turns, Session, Generate}
+use Rattle.tdb_ask.specs.declared.lines.create.NewForm.{NewForm}
 use Rattle.tdb_top.specs.declared.commands.create.Creation.TheVariants.{Made, Device}
 use Rattle.tdb_top.specs.declared.ending.Ending.{Ending}
 use Rattle.tdb_top.specs.declared.ending.Ending.TheVariants.{Replied, DeviceFault, NoMemory}
-use Rattle.tdb_top.specs.declared.limits.TheConstants.{LONGEST_FILE}
-use Rattle.tdb_top.specs.Ask.{Ask, ask_of}
+use Rattle.tdb_ask.specs.declared.limits.TheConstants.{LONGEST_FILE}
+use Rattle.tdb_ask.specs.Ask.{Ask, ask_of}
 use Rattle.tdb_top.specs.Acts.{reply_of, Left, Interrupted}
 use Rattle.tdb_top.specs.Ending.{Due, status_of, asks_openers}
 use Rattle.tdb_top.specs.Output.{Output}
 use Rattle.tdb_top.specs.Printed.{TextBefore, ask_tells, Writes}
-use Rattle.tdb_top.specs.Commands.Backup.{IsForCopyAmong, CopiedAll, StoppedAt, BackupEnds}
+use Rattle.tdb_ask.specs.CopyNames.{IsForCopyAmong}
+use Rattle.tdb_top.specs.Commands.Backup.{CopiedAll, StoppedAt, BackupEnds}
 use Rattle.tdb_top.specs.Commands.Create.{CreateLeaves}
 use Rattle.tdb_top.specs.Commands.Restore.{ReadSo}
 use Rattle.tdb_top.specs.Commands.Session.{ServesSo, session_options, IsServed, IsServedSoFar}

@@ -1,7 +1,6 @@
-// The commands, each with the reading of its arguments and what it does.
+// The commands, each with what it does.
 
 pub(crate) mod backup;
-pub(crate) mod backup_line;
 pub(crate) mod check;
 pub(crate) mod create;
 pub(crate) mod delete;

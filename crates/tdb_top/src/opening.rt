@@ -11,8 +11,8 @@ ghost use Rattle.tdb_check.specs.Seen.{Names};
 ghost use Rattle.tdb_check.specs.Report.{IsFormOf, Counted};
 
 use crate::halt::{Halt, Refusal};
-use crate::limits::LONGEST_FILE;
 use std::alloc::Global;
+use tdb_ask::LONGEST_FILE;
 use tdb_check::{CheckRefusal, Report, check, read_front};
 use tdb_disk::Disk;
 use tdb_space::Direct;
@@ -48,7 +48,7 @@ fn check_disk<D: Disk>(alloc: Global, disk: &mut D, header: &Header) -> Result<R
 
 impl Opened {
     ghost use Rattle.tdb_top.specs.declared.halt.Halt.TheVariants.{Device};
-    ghost use Rattle.tdb_top.specs.declared.limits.TheConstants.{LONGEST_FILE as LONGEST};
+    ghost use Rattle.tdb_ask.specs.declared.limits.TheConstants.{LONGEST_FILE as LONGEST};
     ghost use Rattle.tdb_top.specs.Opening.{opened_bytes, CanRead, HasOpenGate, asks_for_undo, HaltsRightly, ReadHaltsRightly, HaltsAtFault, HaltLeaves, UndoneIfOpen, IsOpenedOn, IsCheckedOn};
 
     /// Opens the file on a disk after it was undone: its header is read again, and the whole file is checked. It

@@ -1,11 +1,11 @@
 // The top call: it reads the words, answers them over the files and prints the text and the line of that.
 
 ghost use Rattle.std.specs.Prelude.{◌≡◌, ◌⊎◌, ℕ, List, None, Some, false, map, string_bytes, IsTrue};
-ghost use Rattle.tdb_top.specs.declared.ask.Task.TheVariants.{Turns as TurnsIs, Session as SessionIs};
+ghost use Rattle.tdb_ask.specs.declared.ask.Task.TheVariants.{Turns as TurnsIs, Session as SessionIs};
 ghost use Rattle.tdb_top.specs.declared.ending.Ending.TheVariants.{Replied, Usage, NoMemory};
 ghost use Rattle.tdb_top.specs.declared.ending.Reply.TheVariants.{Played};
 ghost use Rattle.tdb_world.specs.declared.options.Options.{Options};
-ghost use Rattle.tdb_top.specs.Ask.{ask_of};
+ghost use Rattle.tdb_ask.specs.Ask.{ask_of};
 ghost use Rattle.tdb_disk.specs.Count.{HasCause};
 ghost use Rattle.tdb_top.specs.declared.ending.Ending.{Ending as EndingIs};
 ghost use Rattle.tdb_top.specs.Ending.{CountedAsked, PrintedFor};
@@ -20,9 +20,10 @@ ghost use Rattle.tdb_top.specs.Printed.{TextBefore, ask_tells, Finishes};
 ghost use Rattle.tdb_top.specs.Reads.{ask_reads};
 ghost use Rattle.tdb_top.specs.Run.{run_by, MayEnd, Answered, RefusesExactly, LeavesFiles, Accounted};
 
-use crate::ask::Ask;
+use crate::answering::answer_ask;
 use crate::ending::{Ending, Status, Unprinted, print};
 use std::alloc::Global;
+use tdb_ask::Ask;
 use tdb_disk::{Files, Sink, Source};
 
 /// Answers the words over the files. What is printed before the line of the ending is written to the output; where that
@@ -51,7 +52,7 @@ fn answer<F: Files, S: Source, K: Sink>(
     ensures usage_exact { ask_of (map string_bytes words.now) ≡ None → (ending_of result ≡ Usage) ⊎ (ending_of result ≡ NoMemory) }
 {
     match Ask::of(alloc, words) {
-        Ok(Some(ask)) => ask.answer(alloc, files, input, output),
+        Ok(Some(ask)) => answer_ask(alloc, &ask, files, input, output),
         Ok(None) => Ok(Ending::Usage),
         Err(_) => Ok(Ending::NoMemory),
     }

@@ -1,16 +1,9 @@
 -- The command that checks a file, and tells how many keys it has.
-use Rattle.std.specs.Prelude.{ℕ, Option, None, Some, List, [], ◌∷◌, length}
+use Rattle.std.specs.Prelude.{ℕ, List, length}
 use Rattle.tdb_space.specs.Form.{form_of}
 use Rattle.tdb_space.specs.Pairs.{order_of}
-use Rattle.tdb_top.specs.declared.act.Act.{Act}
-use Rattle.tdb_top.specs.declared.act.Act.TheVariants.{Check}
 use Rattle.tdb_top.specs.declared.ending.Reply.{Reply}
 use Rattle.tdb_top.specs.declared.ending.Reply.TheVariants.{Number}
-
--- it has no arguments
-abbrev pub check_of : List (List ℕ) → Option Act
-check_of [] = Some Check
-check_of (word ∷ rest) = None
 
 -- what is replied over a file that is read as these bytes, which was checked as it was opened
 abbrev pub check_reply : List ℕ → Reply

@@ -1,50 +1,16 @@
 -- The command that makes a file: its arguments, the bytes of a new file, what making it leaves, and why that ends so.
-use Rattle.std.specs.Prelude.{◌≡◌, ℕ, ◌+◌, ◌*◌, ◌⊎◌, Option, None, Some, IsSome, List, [], ◌∷◌, ◌++◌, length, replicate, codes}
-use Rattle.std.specs.Map.{lookup}
-use Rattle.std.specs.Option.{option_map, option_and_then}
+use Rattle.std.specs.Prelude.{◌≡◌, ℕ, ◌+◌, ◌*◌, ◌⊎◌, Option, None, Some, IsSome, List, [], ◌++◌, length, replicate}
 use Rattle.tdb_words.specs.declared.word.Order.{Order}
-use Rattle.tdb_words.specs.declared.word.Order.TheVariants.{Little, Big}
 use Rattle.tdb_words.specs.declared.hash.HashKind.{HashKind}
-use Rattle.tdb_words.specs.declared.hash.HashKind.TheVariants.{Old, Jenkins}
 use Rattle.tdb_words.specs.Header.{new_header}
 use Rattle.tdb_disk.specs.Count.{Rose}
 use Rattle.tdb_disk.specs.History.{History, seen}
 use Rattle.tdb_disk.specs.Stop.{Quiet}
 use Rattle.tdb_space.specs.Form.{form_of}
-use Rattle.tdb_space.specs.Pairs.{order_of, same_key}
+use Rattle.tdb_space.specs.Pairs.{order_of}
 use Rattle.tdb_space.specs.Accepted.{Accept}
-use Rattle.tdb_top.specs.declared.limits.TheConstants.{DEFAULT_SIZE}
-use Rattle.tdb_top.specs.Words.{size_of}
-use Rattle.tdb_top.specs.declared.commands.create.NewForm.{NewForm}
 use Rattle.tdb_top.specs.declared.commands.create.Creation.{Creation}
 use Rattle.tdb_top.specs.declared.commands.create.Creation.TheVariants.{Made, There, Device, Memory}
-
--- the words that name a hash, and those that name a byte order
-abbrev pub hashes : List (List ℕ × HashKind)
-hashes = (codes "default", Old) ∷ (codes "jenkins", Jenkins) ∷ []
-
-abbrev pub orders : List (List ℕ × Order)
-orders = (codes "little", Little) ∷ (codes "big", Big) ∷ []
-
--- The arguments: [SIZE [default|jenkins [little|big]]]. What isn't written is 131 chains, the default hash and
--- little-endian words.
-abbrev pub order_of_words : List (List ℕ) → Option Order
-order_of_words [] = Some Little
-order_of_words (word ∷ []) = lookup (same_key word) orders
-order_of_words (word ∷ more ∷ rest) = None
-
-abbrev pub hash_of_words : List (List ℕ) → Option (HashKind × Order)
-hash_of_words [] = Some (Old, Little)
-hash_of_words (word ∷ rest) =
-    option_and_then (λ hash. option_map (λ order. (hash, order)) (order_of_words rest)) (lookup (same_key word) hashes)
-
--- a new file with so many chains, this hash and this byte order
-abbrev pub form_with : ℕ → HashKind × Order → NewForm
-form_with size named = record { size = size; hash = named.0; order = named.1 }
-
-abbrev pub create_of : List (List ℕ) → Option NewForm
-create_of [] = Some (form_with DEFAULT_SIZE (Old, Little))
-create_of (word ∷ rest) = option_and_then (λ size. option_map (form_with size) (hash_of_words rest)) (size_of word)
 
 -- how many bytes stand behind the header of a new file: the head of the free list and those of the chains
 abbrev pub heads_length : ℕ → ℕ

@@ -1,20 +1,12 @@
 -- The command that deletes a key: its record goes to the free list.
-use Rattle.std.specs.Prelude.{ℕ, if◌then◌else◌, List, Option, None, is_some}
-use Rattle.std.specs.Option.{option_map}
+use Rattle.std.specs.Prelude.{ℕ, if◌then◌else◌, List, None, is_some}
 use Rattle.tdb_disk.specs.History.{History, seen}
 use Rattle.tdb_disk.specs.Stop.{Quiet}
 use Rattle.tdb_space.specs.Form.{form_of}
 use Rattle.tdb_space.specs.Pairs.{map_of}
 use Rattle.tdb_edit.specs.Edited.{KeyChanged, BrokenOff}
-use Rattle.tdb_top.specs.declared.act.Act.{Act}
-use Rattle.tdb_top.specs.declared.act.Act.TheVariants.{Delete}
 use Rattle.tdb_top.specs.declared.ending.Reply.{Reply}
 use Rattle.tdb_top.specs.declared.ending.Reply.TheVariants.{Done, KeyMissing}
-use Rattle.tdb_top.specs.Words.{value_of, of_one}
-
--- its arguments: KEY
-abbrev pub delete_of : List (List ℕ) → Option Act
-delete_of arguments = of_one (λ word. option_map Delete (value_of word)) arguments
 
 -- what is replied over a file that is read as these bytes: that it is done, or that the map has no such key
 abbrev pub delete_reply : List ℕ → List ℕ → Reply

@@ -1,18 +1,11 @@
 -- The command that takes all keys out of a file.
-use Rattle.std.specs.Prelude.{ℕ, List, [], ◌∷◌, Option, None, Some}
+use Rattle.std.specs.Prelude.{ℕ, List}
 use Rattle.tdb_disk.specs.History.{History, seen}
 use Rattle.tdb_disk.specs.Stop.{Quiet}
 use Rattle.tdb_space.specs.Form.{form_of}
 use Rattle.tdb_steps.specs.Wiped.{Wiped, WipeStopped}
-use Rattle.tdb_top.specs.declared.act.Act.{Act}
-use Rattle.tdb_top.specs.declared.act.Act.TheVariants.{Erase}
 use Rattle.tdb_top.specs.declared.ending.Reply.{Reply}
 use Rattle.tdb_top.specs.declared.ending.Reply.TheVariants.{Done}
-
--- it has no arguments
-abbrev pub erase_of : List (List ℕ) → Option Act
-erase_of [] = Some Erase
-erase_of (word ∷ words) = None
 
 -- what is replied over a file that is read as these bytes: that it is done
 abbrev pub erase_reply : List ℕ → Reply

@@ -1,6 +1,5 @@
 -- The command that adds a key: it stands with its value at the file's end, as a record in front of its chain.
-use Rattle.std.specs.Prelude.{◌≡◌, ℕ, ◌+◌, ◌≤◌, ◌⊎◌, nat_le, if◌then◌else◌, List, ◌++◌, length, Option, Some, is_some}
-use Rattle.std.specs.Option.{option_map, option_and_then}
+use Rattle.std.specs.Prelude.{◌≡◌, ℕ, ◌+◌, ◌≤◌, ◌⊎◌, nat_le, if◌then◌else◌, List, ◌++◌, length, Some, is_some}
 use Rattle.std.specs.Map.{update}
 use Rattle.tdb_disk.specs.History.{History, seen}
 use Rattle.tdb_disk.specs.Image.{overlay}
@@ -11,16 +10,8 @@ use Rattle.tdb_space.specs.Form.{Form, form_of, chain_head}
 use Rattle.tdb_space.specs.NewRecord.{rec_len_for, new_rec, record_bytes}
 use Rattle.tdb_space.specs.Pairs.{home, map_of, same_key}
 use Rattle.tdb_space.specs.Accepted.{Accept}
-use Rattle.tdb_top.specs.declared.act.Act.{Act}
-use Rattle.tdb_top.specs.declared.act.Act.TheVariants.{Insert}
 use Rattle.tdb_top.specs.declared.ending.Reply.{Reply}
 use Rattle.tdb_top.specs.declared.ending.Reply.TheVariants.{Done, KeyThere, Full}
-use Rattle.tdb_top.specs.Words.{value_of, of_two}
-
--- its arguments: KEY DATA
-abbrev pub insert_of : List (List ℕ) → Option Act
-insert_of arguments =
-    of_two (λ first second. option_and_then (λ key. option_map (Insert key) (value_of second)) (value_of first)) arguments
 
 -- how many bytes a new record takes, with its header
 abbrev pub need_for : List ℕ → List ℕ → ℕ

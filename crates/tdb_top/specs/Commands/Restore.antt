@@ -1,5 +1,5 @@
 -- The command that makes a file of the pairs of a dump text: what it leaves, and why it doesn't.
-use Rattle.std.specs.Prelude.{◌≡◌, ◌≢◌, ◌⊎◌, ℕ, Bool, true, false, ◌&&◌, not, IsTrue, List}
+use Rattle.std.specs.Prelude.{◌≡◌, ◌≢◌, ◌⊎◌, ℕ, Bool, true, false, IsTrue, List}
 use Rattle.tdb_words.specs.declared.word.Order.TheVariants.{Little}
 use Rattle.tdb_words.specs.declared.hash.HashKind.TheVariants.{Old}
 use Rattle.tdb_disk.specs.Count.{Rose}
@@ -9,16 +9,11 @@ use Rattle.tdb_space.specs.Form.{Form}
 use Rattle.tdb_backup.specs.Restoring.{Restored, RestoreCause}
 use Rattle.tdb_backup.specs.declared.refusal.RestoreRefusal.{RestoreRefusal}
 use Rattle.tdb_backup.specs.declared.refusal.RestoreRefusal.TheVariants as R
-use Rattle.tdb_top.specs.declared.limits.TheConstants.{DEFAULT_SIZE}
+use Rattle.tdb_ask.specs.declared.limits.TheConstants.{DEFAULT_SIZE}
 use Rattle.tdb_top.specs.declared.ending.Ending.{Ending}
 use Rattle.tdb_top.specs.declared.ending.Ending.TheVariants.{Replied, Refused, Missing, There, Usage, DeviceFault, InputFault, Malformed, NoMemory}
 use Rattle.tdb_top.specs.declared.ending.Reply.TheVariants as Reply
-use Rattle.tdb_world.specs.declared.options.Options.{Options}
 use Rattle.tdb_top.specs.Input.{Input}
-
--- of the options of turns no other is given than how long the file may be
-abbrev pub is_limit_alone : Options → Bool
-is_limit_alone options = options.nesting && (not options.read_only && not options.seqnum)
 
 -- the form of the file: that of a new file where nothing else is asked for
 abbrev pub new_form : Form

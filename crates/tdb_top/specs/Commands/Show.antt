@@ -1,17 +1,9 @@
 -- The command that shows the value of a key.
 use Rattle.std.specs.Prelude.{ℕ, Option, None, Some, List}
-use Rattle.std.specs.Option.{option_map}
 use Rattle.tdb_space.specs.Form.{form_of}
 use Rattle.tdb_space.specs.Pairs.{map_of}
-use Rattle.tdb_top.specs.declared.act.Act.{Act}
-use Rattle.tdb_top.specs.declared.act.Act.TheVariants.{Show}
 use Rattle.tdb_top.specs.declared.ending.Reply.{Reply}
 use Rattle.tdb_top.specs.declared.ending.Reply.TheVariants.{Value, KeyMissing}
-use Rattle.tdb_top.specs.Words.{value_of, of_one}
-
--- its arguments: KEY
-abbrev pub show_of : List (List ℕ) → Option Act
-show_of arguments = of_one (λ word. option_map Show (value_of word)) arguments
 
 -- the value, or that the map has none
 abbrev pub shown : Option (List ℕ) → Reply

@@ -1,6 +1,5 @@
 -- The command that stores a value for a key, in place of the one that the key has.
-use Rattle.std.specs.Prelude.{◌≡◌, ◌⊎◌, ℕ, if◌then◌else◌, List, length, Option, Some}
-use Rattle.std.specs.Option.{option_map, option_and_then}
+use Rattle.std.specs.Prelude.{◌≡◌, ◌⊎◌, ℕ, if◌then◌else◌, List, length, Some}
 use Rattle.tdb_disk.specs.History.{History, seen}
 use Rattle.tdb_disk.specs.Stop.{Quiet}
 use Rattle.tdb_space.specs.Form.{form_of}
@@ -8,18 +7,10 @@ use Rattle.tdb_space.specs.NewRecord.{rec_len_for}
 use Rattle.tdb_free.specs.Growth.{grown_length}
 use Rattle.tdb_edit.specs.Edited.{KeyChanged}
 use Rattle.tdb_edit.specs.Stored.{has_room}
-use Rattle.tdb_top.specs.declared.act.Act.{Act}
-use Rattle.tdb_top.specs.declared.act.Act.TheVariants.{Store}
 use Rattle.tdb_top.specs.declared.ending.Reply.{Reply}
 use Rattle.tdb_top.specs.declared.ending.Reply.TheVariants.{Done, Full}
-use Rattle.tdb_top.specs.declared.limits.TheConstants.{LONGEST_FILE}
-use Rattle.tdb_top.specs.Words.{value_of, of_two}
+use Rattle.tdb_ask.specs.declared.limits.TheConstants.{LONGEST_FILE}
 use Rattle.tdb_top.specs.Commands.Insert.{need_for}
-
--- its arguments: KEY DATA
-abbrev pub store_of : List (List ℕ) → Option Act
-store_of arguments =
-    of_two (λ first second. option_and_then (λ key. option_map (Store key) (value_of second)) (value_of first)) arguments
 
 -- what is replied over a file that is read as these bytes and may have so many: that it is done, where the file has room for
 -- a new record, or that it hasn't

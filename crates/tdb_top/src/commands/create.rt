@@ -1,31 +1,19 @@
 // The command that makes a new file.
 
-ghost use Rattle.std.specs.Prelude.{◌≡◌, ◌<◌, ◌≤◌, ◌+◌, ◌*◌, ℕ, List, false, map, string_bytes, IsTrue, OnOk, OnErr, IfSome};
-ghost use Rattle.std.specs.Map.{lookup};
+ghost use Rattle.std.specs.Prelude.{◌≡◌, ◌<◌, ◌≤◌, ◌+◌, ◌*◌, ℕ, List, false, IsTrue, OnOk, OnErr};
 ghost use Rattle.tdb_disk.specs.Count.{HasCause, Rose};
 ghost use Rattle.tdb_disk.specs.History.{seen};
 ghost use Rattle.tdb_disk.specs.Names.{SameBut};
-ghost use Rattle.tdb_top.specs.Commands.Create.{orders, hashes, order_of_words, hash_of_words, create_of, IsMade, MadeInPart, CreateCause, CreateLeaves};
+ghost use Rattle.tdb_top.specs.Commands.Create.{IsMade, MadeInPart, CreateCause, CreateLeaves};
 ghost use Rattle.tdb_top.specs.declared.commands.create.Creation.TheVariants.{Device as IsDevice};
-ghost use Rattle.tdb_space.specs.Pairs.{same_key};
 
-use crate::limits::DEFAULT_SIZE;
-use crate::words::size_of;
 use std::alloc::Global;
+use tdb_ask::NewForm;
 use tdb_disk::{Disk, DiskFault, Files, Take, TakeRefusal};
-use tdb_words::{HashKind, Order, header_bytes};
+use tdb_words::header_bytes;
 
 /// The length of a header, in bytes.
 const HEADER_LEN: u64 = 168;
-
-/// What a new file is made with.
-#[derive(Clone, Copy, Debug, PartialEq, Eq)]
-pub(crate) struct NewForm {
-    /// The number of chains.
-    pub(crate) size: u32,
-    pub(crate) hash: HashKind,
-    pub(crate) order: Order,
-}
 
 /// How the making of a file ends.
 #[derive(Clone, Copy, Debug, PartialEq, Eq)]
@@ -39,68 +27,6 @@ pub(crate) enum Creation {
     /// A call of the files or of the disk failed.
     Device,
     Memory,
-}
-
-/// The byte order of this name.
-fn order_named(word: &str) -> Option<Order>
-    ensures { result ≡ lookup (same_key word.now) orders }
-{
-    match word {
-        "little" => Some(Order::Little),
-        "big" => Some(Order::Big),
-        _ => None,
-    }
-}
-
-/// The hash of this name.
-fn hash_named(word: &str) -> Option<HashKind>
-    ensures { result ≡ lookup (same_key word.now) hashes }
-{
-    match word {
-        "default" => Some(HashKind::Old),
-        "jenkins" => Some(HashKind::Jenkins),
-        _ => None,
-    }
-}
-
-/// The byte order that the last arguments ask for.
-fn read_order(arguments: &[String]) -> Option<Order>
-    ensures { result ≡ order_of_words (map string_bytes arguments.now) }
-{
-    match arguments {
-        [] => Some(Order::Little),
-        [word] => order_named(word.as_str()),
-        _ => None,
-    }
-}
-
-/// The hash and the byte order that the arguments behind the size ask for.
-fn read_hash(arguments: &[String]) -> Option<(HashKind, Order)>
-    ensures { result ≡ hash_of_words (map string_bytes arguments.now) }
-{
-    let [word, rest @ ..] = arguments else {
-        return Some((HashKind::Old, Order::Little));
-    };
-    let hash = hash_named(word.as_str())?;
-    let order = read_order(rest)?;
-    Some((hash, order))
-}
-
-/// Reads its arguments.
-pub(crate) fn read(arguments: &[String]) -> Option<NewForm>
-    ensures read { result ≡ create_of (map string_bytes arguments.now) }
-    ensures some { IfSome result (λ form. 0 < form.size) }
-{
-    let [word, rest @ ..] = arguments else {
-        return Some(NewForm {
-            size: DEFAULT_SIZE,
-            hash: HashKind::Old,
-            order: Order::Little,
-        });
-    };
-    let size = size_of(word.as_str())?;
-    let (hash, order) = read_hash(rest)?;
-    Some(NewForm { size, hash, order })
 }
 
 /// Makes an empty disk a new file of 172 bytes and 4 for each chain: one call each to grow, to write the header and

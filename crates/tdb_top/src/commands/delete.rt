@@ -1,39 +1,21 @@
 // The command that deletes a key.
 
-ghost use Rattle.std.specs.Prelude.{◌≡◌, ◌^◌, ◌<◌, ◌≤◌, false, map, string_bytes, length, IsTrue, IfOk, IfSome, OnErr};
+ghost use Rattle.std.specs.Prelude.{◌≡◌, ◌^◌, ◌<◌, false, length, IsTrue, IfOk, OnErr};
 ghost use Rattle.tdb_disk.specs.Count.{HasCause, HasCauseOf};
 ghost use Rattle.tdb_disk.specs.History.{seen};
 ghost use Rattle.tdb_space.specs.Form.{form_of};
 ghost use Rattle.tdb_edit.specs.Edited.{Deleted};
-ghost use Rattle.tdb_top.specs.declared.act.Act.TheVariants.{Delete};
+ghost use Rattle.tdb_ask.specs.declared.act.Act.TheVariants.{Delete};
 ghost use Rattle.tdb_top.specs.declared.halt.Fault.TheVariants.{Device};
 ghost use Rattle.tdb_top.specs.Acts.{Acted};
-ghost use Rattle.tdb_top.specs.Ask.{ActFits};
-ghost use Rattle.tdb_top.specs.Commands.Delete.{delete_of, DeleteBroken};
+ghost use Rattle.tdb_top.specs.Commands.Delete.{DeleteBroken};
 ghost use Rattle.tdb_top.specs.Opening.{IsCheckedOn};
 
-use crate::act::Act;
 use crate::ending::Reply;
 use crate::halt::Fault;
 use crate::opening::Opened;
-use crate::words::value_of;
-use std::alloc::{AllocError, Global};
 use tdb_disk::Disk;
 use tdb_space::{Direct, Io};
-
-/// Reads its arguments.
-pub(crate) fn read(alloc: Global, arguments: &[String]) -> Result<Option<Act>, AllocError>
-    ensures read { IfOk result (λ act. act ≡ delete_of (map string_bytes arguments.now)) }
-    ensures fits { IfOk result (λ act. IfSome act ActFits) }
-{
-    let [word] = arguments else {
-        return Ok(None);
-    };
-    match value_of(alloc, word.as_str())? {
-        Some(key) => Ok(Some(Act::Delete { key })),
-        None => Ok(None),
-    }
-}
 
 /// Takes a key out of an opened file, and says whether it was there.
 fn take_out<D: Disk>(disk: &mut D, opened: &Opened, key: &[u8]) -> Result<bool, Io>

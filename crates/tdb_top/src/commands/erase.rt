@@ -1,34 +1,21 @@
 // The command that takes all keys out of a file.
 
-ghost use Rattle.std.specs.Prelude.{◌≡◌, ◌^◌, ◌<◌, map, string_bytes, length, IsTrue, IfSome, OnOk, OnErr};
+ghost use Rattle.std.specs.Prelude.{◌^◌, ◌<◌, length, IsTrue, OnOk, OnErr};
 ghost use Rattle.tdb_disk.specs.Count.{HasCause, HasCauseOf};
 ghost use Rattle.tdb_disk.specs.History.{seen};
 ghost use Rattle.tdb_space.specs.Form.{form_of};
 ghost use Rattle.tdb_steps.specs.Wiped.{Wiped};
-ghost use Rattle.tdb_top.specs.declared.act.Act.TheVariants.{Erase};
+ghost use Rattle.tdb_ask.specs.declared.act.Act.TheVariants.{Erase};
 ghost use Rattle.tdb_top.specs.declared.halt.Fault.TheVariants.{Device};
 ghost use Rattle.tdb_top.specs.Acts.{Acted};
-ghost use Rattle.tdb_top.specs.Ask.{ActFits};
-ghost use Rattle.tdb_top.specs.Commands.Erase.{erase_of, EraseBroken};
+ghost use Rattle.tdb_top.specs.Commands.Erase.{EraseBroken};
 ghost use Rattle.tdb_top.specs.Opening.{IsCheckedOn};
 
-use crate::act::Act;
 use crate::ending::Reply;
 use crate::halt::Fault;
 use crate::opening::Opened;
 use tdb_disk::Disk;
 use tdb_space::{Direct, Io};
-
-/// Reads its arguments.
-pub(crate) fn read(arguments: &[String]) -> Option<Act>
-    ensures read { result ≡ erase_of (map string_bytes arguments.now) }
-    ensures fits { IfSome result ActFits }
-{
-    match arguments {
-        [] => Some(Act::Erase),
-        _ => None,
-    }
-}
 
 /// Takes all keys out of an opened file.
 fn wipe<D: Disk>(disk: &mut D, opened: &Opened) -> Result<(), Io>

@@ -1,7 +1,6 @@
 // The command that makes a new file, has generated commands done on it, and tells their summary.
 
-ghost use Rattle.std.specs.Prelude.{◌≡◌, ◌≤◌, ◌*◌, ◌+◌, ℕ, List, Ok, false, map, string_bytes, IsTrue, IfOk};
-ghost use Rattle.std.specs.Option.{option_map};
+ghost use Rattle.std.specs.Prelude.{◌≡◌, ◌≤◌, ◌*◌, ◌+◌, ℕ, List, Ok, false, IsTrue};
 ghost use Rattle.tdb_disk.specs.Count.{HasCauseOf};
 ghost use Rattle.tdb_disk.specs.History.{seen};
 ghost use Rattle.tdb_disk.specs.Names.{SameBut};
@@ -11,7 +10,7 @@ ghost use Rattle.tdb_gen.specs.Taking.{UnlessIo};
 ghost use Rattle.tdb_gen.specs.Generated.{GeneratedOver};
 ghost use Rattle.tdb_gen.specs.declared.fault.GenFault.TheVariants.{Io};
 ghost use Rattle.tdb_top.specs.declared.ending.Ending.TheVariants.{Usage};
-ghost use Rattle.tdb_top.specs.declared.limits.TheConstants.{DEFAULT_SIZE};
+ghost use Rattle.tdb_ask.specs.declared.limits.TheConstants.{DEFAULT_SIZE};
 ghost use Rattle.tdb_top.specs.Commands.Create.{IsNewFile};
 ghost use Rattle.tdb_top.specs.Commands.Generate as G;
 ghost use Rattle.tdb_top.specs.Commands.Restore.{new_form, of_input};
@@ -21,9 +20,8 @@ ghost use Rattle.tdb_top.specs.Reads.{GenCause};
 use crate::commands::create::make;
 use crate::commands::restore::{HEADER, NEW_FORM};
 use crate::ending::{Ending, Reply};
-use crate::limits::LONGEST_FILE;
-use crate::words::{commands_of, is_file, is_option, is_short, seed_of};
 use std::alloc::Global;
+use tdb_ask::LONGEST_FILE;
 use tdb_disk::{Disk, Files, Take};
 use tdb_gen::{GenFault, Summary, generate};
 use tdb_space::Direct;
@@ -37,88 +35,6 @@ const OPTIONS: Options = Options {
     read_only: false,
     seqnum: false,
 };
-
-/// The words of gen.
-#[derive(Clone, Copy, Debug)]
-pub(crate) struct Line<'a> {
-    /// How many commands are to be generated.
-    pub(crate) commands: u32,
-
-    /// The number that they are made of.
-    pub(crate) seed: u32,
-
-    /// The name of the file.
-    pub(crate) file: &'a str,
-}
-
-impl<'a> Line<'a> {
-    /// From the words at its three places, if these have a reading.
-    fn at_places(commands: &str, seed: &str, file: &'a str) -> Option<Line<'a>>
-        ensures { option_map G.seen_line result ≡ G.line_of commands.now seed.now file.now }
-    {
-        let commands = commands_of(commands)?;
-        let seed = seed_of(seed)?;
-        if !is_short(file.as_bytes()) {
-            return None;
-        }
-        Some(Line {
-            commands,
-            seed,
-            file,
-        })
-    }
-
-    /// From the words alone: a file that begins with `-` has no reading.
-    fn alone(commands: &str, seed: &str, file: &'a str) -> Option<Line<'a>>
-        ensures { option_map G.seen_line result ≡ G.alone commands.now seed.now file.now }
-    {
-        if !is_file(file) {
-            return None;
-        }
-        Line::at_places(commands, seed, file)
-    }
-
-    /// From four words, of which one is the word `--`. A file that begins with `-` may stand behind it alone.
-    fn with_mark(first: &'a str, second: &'a str, third: &'a str, last: &'a str) -> Option<Line<'a>>
-        ensures { option_map G.seen_line result ≡ G.with_mark first.now second.now third.now last.now }
-    {
-        if first == "--" {
-            return Line::at_places(second, third, last);
-        }
-        if second == "--" {
-            return Line::at_places(first, third, last);
-        }
-        if third == "--" {
-            return Line::at_places(first, second, last);
-        }
-        if last == "--" && !is_option(third) {
-            return Line::at_places(first, second, third);
-        }
-        None
-    }
-
-    /// Parts the words behind the command's name: how many commands, the seed and the file, with the word `--` before,
-    /// between or behind them.
-    pub(crate) fn of(words: &'a [String]) -> Option<Line<'a>>
-        ensures { option_map G.seen_line result ≡ G.gen_of_words (map string_bytes words.now) }
-    {
-        let [first, second, third, rest @ ..] = words else {
-            return None;
-        };
-        match rest {
-            [] => Line::alone(first.as_str(), second.as_str(), third.as_str()),
-            [last] => {
-                Line::with_mark(
-                    first.as_str(),
-                    second.as_str(),
-                    third.as_str(),
-                    last.as_str(),
-                )
-            }
-            _ => None,
-        }
-    }
-}
 
 impl From<GenFault> for Ending {
     ghost from_gives = { λ fault ending. ending ≡ G.of_gen fault };

@@ -1,6 +1,6 @@
 // The command that adds a key with a value: the record stands at the end of the file.
 
-ghost use Rattle.std.specs.Prelude.{◌≡◌, ◌≢◌, ◌+◌, ◌*◌, ◌%◌, ◌^◌, ◌<◌, ◌≤◌, [], None, map, string_bytes, length, IsTrue, IsSome, IfSome, IfOk, IfErr, OnOk, OnErr, MatchBool};
+ghost use Rattle.std.specs.Prelude.{◌≡◌, ◌≢◌, ◌+◌, ◌*◌, ◌%◌, ◌^◌, ◌<◌, ◌≤◌, [], None, length, IsTrue, IsSome, IfOk, IfErr, OnOk, OnErr, MatchBool};
 ghost use Rattle.tdb_disk.specs.Count.{HasCause, HasCauseOf};
 ghost use Rattle.tdb_disk.specs.History.{seen};
 ghost use Rattle.tdb_disk.specs.Stop.{Quiet};
@@ -8,21 +8,18 @@ ghost use Rattle.tdb_words.specs.Header.{header_at};
 ghost use Rattle.tdb_space.specs.Form.{form_in, chain_head};
 ghost use Rattle.tdb_space.specs.Pairs.{home, map_of};
 ghost use Rattle.tdb_space.specs.Accepted.{AcceptWith};
-ghost use Rattle.tdb_top.specs.declared.act.Act.TheVariants.{Insert};
+ghost use Rattle.tdb_ask.specs.declared.act.Act.TheVariants.{Insert};
 ghost use Rattle.tdb_top.specs.declared.ending.Reply.TheVariants.{Done as IsDone};
 ghost use Rattle.tdb_top.specs.declared.halt.Fault.TheVariants.{Device, Memory};
 ghost use Rattle.tdb_top.specs.Acts.{Acted};
-ghost use Rattle.tdb_top.specs.Ask.{ActFits};
-ghost use Rattle.tdb_top.specs.Commands.Insert.{insert_of, insert_reply, first_of, need_for, led_to, BrokenOff, IsInserted, Inserts, InsertBroken};
+ghost use Rattle.tdb_top.specs.Commands.Insert.{insert_reply, first_of, need_for, led_to, BrokenOff, IsInserted, Inserts, InsertBroken};
 ghost use Rattle.tdb_top.specs.Opening.{IsCheckedOn};
 
-use crate::act::Act;
 use crate::ending::Reply;
 use crate::halt::Fault;
-use crate::limits::LONGEST_FILE;
 use crate::opening::Opened;
-use crate::words::value_of;
-use std::alloc::{AllocError, Global};
+use std::alloc::Global;
+use tdb_ask::LONGEST_FILE;
 use tdb_chain::find;
 use tdb_disk::{Disk, DiskFault};
 use tdb_space::{Direct, Io, new_rec, rec_len_for, record_bytes};
@@ -30,23 +27,6 @@ use tdb_words::{Header, Order, chain_of, hash_of, word_at, word_bytes};
 
 /// The length of a record's header, in bytes.
 const RECORD_HEADER_LEN: u64 = 24;
-
-/// Reads its arguments.
-pub(crate) fn read(alloc: Global, arguments: &[String]) -> Result<Option<Act>, AllocError>
-    ensures read { IfOk result (λ act. act ≡ insert_of (map string_bytes arguments.now)) }
-    ensures fits { IfOk result (λ act. IfSome act ActFits) }
-{
-    let [first, second] = arguments else {
-        return Ok(None);
-    };
-    let Some(key) = value_of(alloc, first.as_str())? else {
-        return Ok(None);
-    };
-    match value_of(alloc, second.as_str())? {
-        Some(value) => Ok(Some(Act::Insert { key, value })),
-        None => Ok(None),
-    }
-}
 
 /// The offset of the head of the chain of a key.
 fn head_of(opened: &Opened, key: &[u8]) -> u64

@@ -1,7 +1,6 @@
 // The command that makes a new file of the pairs of a dump text.
 
-ghost use Rattle.std.specs.Prelude.{◌≡◌, ◌≢◌, ◌≤◌, ℕ, List, false, map, string_bytes, IsTrue, IfErr, OnOk};
-ghost use Rattle.std.specs.Option.{option_map};
+ghost use Rattle.std.specs.Prelude.{◌≡◌, ◌≤◌, ℕ, List, false, IsTrue, IfErr, OnOk};
 ghost use Rattle.tdb_disk.specs.Count.{HasCauseOf};
 ghost use Rattle.tdb_disk.specs.History.{seen};
 ghost use Rattle.tdb_disk.specs.Names.{SameBut};
@@ -9,25 +8,24 @@ ghost use Rattle.tdb_words.specs.declared.word.Order.TheVariants.{Little};
 ghost use Rattle.tdb_words.specs.declared.hash.HashKind.TheVariants.{Old};
 ghost use Rattle.tdb_backup.specs.Restoring.{Restored};
 ghost use Rattle.tdb_backup.specs.declared.refusal.RestoreRefusal.TheVariants.{Input as InputFails, Io as DiskFails};
-ghost use Rattle.tdb_top.specs.declared.ask.Task.TheVariants.{Restore};
+ghost use Rattle.tdb_ask.specs.declared.ask.Task.TheVariants.{Restore};
 ghost use Rattle.tdb_top.specs.declared.ending.Ending.TheVariants.{Usage};
 ghost use Rattle.tdb_top.specs.Commands.Create.{IsNewFile};
-ghost use Rattle.tdb_top.specs.declared.limits.TheConstants.{DEFAULT_SIZE};
-ghost use Rattle.tdb_top.specs.Commands.Restore.{is_limit_alone as limit_alone, new_form, of_restore, IsRestored, TextRefused, HeardBy};
+ghost use Rattle.tdb_ask.specs.declared.limits.TheConstants.{DEFAULT_SIZE};
+ghost use Rattle.tdb_top.specs.Commands.Restore.{new_form, of_restore, IsRestored, TextRefused, HeardBy};
 ghost use Rattle.tdb_top.specs.Ending.{CountedBy};
 ghost use Rattle.tdb_top.specs.Input.{input_by};
 ghost use Rattle.tdb_top.specs.Left.{RestoreLeaves};
 ghost use Rattle.tdb_top.specs.Reads.{AskCause};
 
-use crate::commands::create::{NewForm, make};
+use crate::commands::create::make;
 use crate::ending::{Ending, Reply};
-use crate::limits::DEFAULT_SIZE;
 use std::alloc::Global;
+use tdb_ask::{DEFAULT_SIZE, NewForm};
 use tdb_backup::{RestoreRefusal, restore_pairs};
 use tdb_disk::{Disk, Files, Source, Take};
 use tdb_space::Direct;
 use tdb_words::{HashKind, Header, Order};
-use tdb_world::Options;
 
 impl From<RestoreRefusal> for Ending {
     ghost from_gives = { λ refusal ending. ending ≡ of_restore refusal };
@@ -41,13 +39,6 @@ impl From<RestoreRefusal> for Ending {
             RestoreRefusal::Memory => Ending::NoMemory,
         }
     }
-}
-
-/// Whether of the options of turns no other is given than how long the file may be.
-pub(crate) fn is_limit_alone(options: &Options) -> bool
-    ensures { result ≡ limit_alone options.now }
-{
-    options.nesting && !options.read_only && !options.seqnum
 }
 
 /// What the header of a new file says where nothing else is asked for.

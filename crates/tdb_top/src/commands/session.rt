@@ -8,7 +8,7 @@ ghost use Rattle.tdb_space.specs.Form.{form_of};
 ghost use Rattle.tdb_tool.specs.Serving.{fault_of, UnlessBroken, OnBroken};
 ghost use Rattle.tdb_tool.specs.Whole.{SessionRan};
 ghost use Rattle.tdb_tool.specs.declared.fault.SessionFault.TheVariants as FaultIs;
-ghost use Rattle.tdb_top.specs.declared.ask.Task.TheVariants.{Session};
+ghost use Rattle.tdb_ask.specs.declared.ask.Task.TheVariants.{Session};
 ghost use Rattle.tdb_top.specs.declared.ending.Ending.TheVariants.{Usage};
 ghost use Rattle.tdb_top.specs.Commands.Restore.{HeardBy};
 ghost use Rattle.tdb_top.specs.Commands.Session.{session_options, session_told, SessionText, SessionFile, SessionHeld, StaysThere};

@@ -1,41 +1,23 @@
 // The command that shows the value of a key.
 
-ghost use Rattle.std.specs.Prelude.{◌≡◌, ◌^◌, ◌<◌, ◌≤◌, map, string_bytes, length, IsTrue, IfOk, IfSome};
+ghost use Rattle.std.specs.Prelude.{◌≡◌, ◌^◌, ◌<◌, length, IsTrue, IfOk};
 ghost use Rattle.tdb_disk.specs.Count.{HasCauseOf};
 ghost use Rattle.tdb_disk.specs.History.{seen};
 ghost use Rattle.tdb_space.specs.Form.{form_of};
 ghost use Rattle.tdb_space.specs.Pairs.{map_of};
-ghost use Rattle.tdb_top.specs.declared.act.Act.TheVariants.{Show};
+ghost use Rattle.tdb_ask.specs.declared.act.Act.TheVariants.{Show};
 ghost use Rattle.tdb_top.specs.declared.halt.Fault.TheVariants.{Device};
 ghost use Rattle.tdb_top.specs.Acts.{Acted};
-ghost use Rattle.tdb_top.specs.Ask.{ActFits};
-ghost use Rattle.tdb_top.specs.Commands.Show.{show_of};
 ghost use Rattle.tdb_top.specs.Opening.{IsCheckedOn};
 
-use crate::act::Act;
 use crate::ending::Reply;
 use crate::halt::Fault;
 use crate::opening::Opened;
-use crate::words::value_of;
-use std::alloc::{AllocError, Global};
+use std::alloc::Global;
 use tdb_chain::{find, value};
 use tdb_disk::Disk;
 use tdb_space::Direct;
 use tdb_words::Bytes;
-
-/// Reads its arguments.
-pub(crate) fn read(alloc: Global, arguments: &[String]) -> Result<Option<Act>, AllocError>
-    ensures read { IfOk result (λ act. act ≡ show_of (map string_bytes arguments.now)) }
-    ensures fits { IfOk result (λ act. IfSome act ActFits) }
-{
-    let [word] = arguments else {
-        return Ok(None);
-    };
-    match value_of(alloc, word.as_str())? {
-        Some(key) => Ok(Some(Act::Show { key })),
-        None => Ok(None),
-    }
-}
 
 /// Looks up the value that an opened file holds for a key, if any. The memory that it takes is that of the value.
 pub(crate) fn look_up<D: Disk>(

@@ -1,6 +1,6 @@
 // The command that stores a value for a key.
 
-ghost use Rattle.std.specs.Prelude.{◌≡◌, ◌≢◌, ◌+◌, ◌^◌, ◌<◌, ◌≤◌, Some, true, map, string_bytes, length, IsTrue, IfOk, IfErr, IfSome, OnOk};
+ghost use Rattle.std.specs.Prelude.{◌≡◌, ◌≢◌, ◌+◌, ◌^◌, ◌<◌, Some, true, length, IsTrue, IfErr, OnOk};
 ghost use Rattle.tdb_disk.specs.Count.{HasCauseOf};
 ghost use Rattle.tdb_disk.specs.History.{seen};
 ghost use Rattle.tdb_space.specs.Form.{form_of};
@@ -8,42 +8,22 @@ ghost use Rattle.tdb_space.specs.NewRecord.{rec_len_for};
 ghost use Rattle.tdb_edit.specs.Edited.{KeyChanged};
 ghost use Rattle.tdb_edit.specs.Stored.{has_room, FullRightly};
 ghost use Rattle.tdb_edit.specs.declared.refusal.StoreRefusal.TheVariants.{Io as IoIs};
-ghost use Rattle.tdb_top.specs.declared.act.Act.TheVariants.{Store};
+ghost use Rattle.tdb_ask.specs.declared.act.Act.TheVariants.{Store};
 ghost use Rattle.tdb_top.specs.declared.halt.Fault.TheVariants.{Device};
-ghost use Rattle.tdb_top.specs.declared.limits.TheConstants.{LONGEST_FILE as LONGEST};
+ghost use Rattle.tdb_ask.specs.declared.limits.TheConstants.{LONGEST_FILE as LONGEST};
 ghost use Rattle.tdb_top.specs.Acts.{Acted};
-ghost use Rattle.tdb_top.specs.Ask.{ActFits};
 ghost use Rattle.tdb_top.specs.Commands.Insert.{need_for};
-ghost use Rattle.tdb_top.specs.Commands.Store.{store_of, GrewFor};
+ghost use Rattle.tdb_top.specs.Commands.Store.{GrewFor};
 ghost use Rattle.tdb_top.specs.Opening.{IsCheckedOn};
 
-use crate::act::Act;
 use crate::ending::Reply;
 use crate::halt::Fault;
-use crate::limits::LONGEST_FILE;
 use crate::opening::Opened;
-use crate::words::value_of;
-use std::alloc::{AllocError, Global};
+use std::alloc::Global;
+use tdb_ask::LONGEST_FILE;
 use tdb_disk::Disk;
 use tdb_edit::StoreRefusal;
 use tdb_space::Direct;
-
-/// Reads its arguments.
-pub(crate) fn read(alloc: Global, arguments: &[String]) -> Result<Option<Act>, AllocError>
-    ensures read { IfOk result (λ act. act ≡ store_of (map string_bytes arguments.now)) }
-    ensures fits { IfOk result (λ act. IfSome act ActFits) }
-{
-    let [first, second] = arguments else {
-        return Ok(None);
-    };
-    let Some(key) = value_of(alloc, first.as_str())? else {
-        return Ok(None);
-    };
-    match value_of(alloc, second.as_str())? {
-        Some(value) => Ok(Some(Act::Store { key, value })),
-        None => Ok(None),
-    }
-}
 
 /// Puts a value into an opened file.
 fn put<D: Disk>(

@@ -7,7 +7,7 @@ use Rattle.tdb_top.specs.Reads.{ask_reads}
 use Rattle.tdb_top.specs.Looks.{ending_of, Began}
 use Rattle.tdb_top.specs.Printed.{TaskText, TextBefore, ask_tells}
 use Rattle.tdb_top.specs.Run.{is_due, memory_wanting}
-use Rattle.tdb_top.specs.Ask.{asked, ask_of}
+use Rattle.tdb_ask.specs.Ask.{asked, ask_of}
 use Rattle.tdb_top.specs.Left.{Leaving}
 use Rattle.tdb_top.proofs.Acting.{words_want, not_heard}
 use Rattle.tdb_top.proofs.Looking.{nothing, began_as}
@@ -20,24 +20,24 @@ use Rattle.tdb_top.proofs.top.answer.Goals as goal
 pub returns-in-Ok-Some-clause-cause : goal.returns-in-Ok-Some-clause-cause
 returns-in-Ok-Some-clause-cause g c told =
     asked_cause (ask_of (map string_bytes c.args.words.now)) (asked c.in-Ok-Some.ask) (g.F.Files.held c.args.files.now)
-    (input_by g.S.Source.tells (g.S.Source.left c.args.input.now) (g.S.Source.faults c.args.input.now) (g.S.Source.faults c.answer.new.input))
-    (g.F.Files.faults c.args.files.now) (g.F.Files.faults c.answer.new.files) (ending_of c.answer.result)
-    (rw c.in-Ok-Some.field-0-is at c.in-Ok-Some.ensures.read) (c.answer.ensures.cause told)
+    (input_by g.S.Source.tells (g.S.Source.left c.args.input.now) (g.S.Source.faults c.args.input.now) (g.S.Source.faults c.answer_ask.new.input))
+    (g.F.Files.faults c.args.files.now) (g.F.Files.faults c.answer_ask.new.files) (ending_of c.answer_ask.result)
+    (rw c.in-Ok-Some.field-0-is at c.in-Ok-Some.ensures.read) (c.answer_ask.ensures.cause told)
 
 pub returns-in-Ok-Some-clause-left : goal.returns-in-Ok-Some-clause-left
 returns-in-Ok-Some-clause-left g c told =
-    subst (λ a. Leaving (input_by g.S.Source.tells (g.S.Source.left c.args.input.now) (g.S.Source.faults c.args.input.now) (g.S.Source.faults c.answer.new.input)) a (g.F.Files.held c.args.files.now) (ending_of c.answer.result) (g.F.Files.held c.answer.new.files))
-    (rw c.in-Ok-Some.field-0-is at c.in-Ok-Some.ensures.read) (c.answer.ensures.others, c.answer.ensures.left told)
+    subst (λ a. Leaving (input_by g.S.Source.tells (g.S.Source.left c.args.input.now) (g.S.Source.faults c.args.input.now) (g.S.Source.faults c.answer_ask.new.input)) a (g.F.Files.held c.args.files.now) (ending_of c.answer_ask.result) (g.F.Files.held c.answer_ask.new.files))
+    (rw c.in-Ok-Some.field-0-is at c.in-Ok-Some.ensures.read) (c.answer_ask.ensures.others, c.answer_ask.ensures.left told)
 
 pub returns-in-Ok-Some-clause-began : goal.returns-in-Ok-Some-clause-began
 returns-in-Ok-Some-clause-began g c =
     let held = g.F.Files.held c.args.files.now in
     let before = g.K.Sink.written c.args.output.now in
-    let now = g.K.Sink.written c.answer.new.output in
+    let now = g.K.Sink.written c.answer_ask.new.output in
     let ask = asked c.in-Ok-Some.ask in
-    subst (λ a. IsTrue (ask_tells a g.F.D.Disk.tells g.K.Sink.tells) → Began (TextBefore a held) before now c.answer.result)
+    subst (λ a. IsTrue (ask_tells a g.F.D.Disk.tells g.K.Sink.tells) → Began (TextBefore a held) before now c.answer_ask.result)
     (rw c.in-Ok-Some.field-0-is at c.in-Ok-Some.ensures.read)
-    (λ told. began_as (TaskText ask.task (held ask.file)) _ before now c.answer.result (λ e text is. is) (c.answer.ensures.began told))
+    (λ told. began_as (TaskText ask.task (held ask.file)) _ before now c.answer_ask.result (λ e text is. is) (c.answer_ask.ensures.began told))
 
 -- nothing was asked for, or there was no memory for the words
 pub returns-in-Ok-None-clause-cause : goal.returns-in-Ok-None-clause-cause
@@ -64,7 +64,7 @@ returns-in-Err-clause-served g c limit name asks told =
 
 -- what is heard of the input
 pub returns-in-Ok-Some-clause-unread : goal.returns-in-Ok-Some-clause-unread
-returns-in-Ok-Some-clause-unread g c unread = c.answer.ensures.unread (ap ask_reads (rw c.in-Ok-Some.field-0-is at c.in-Ok-Some.ensures.read) ∙ unread)
+returns-in-Ok-Some-clause-unread g c unread = c.answer_ask.ensures.unread (ap ask_reads (rw c.in-Ok-Some.field-0-is at c.in-Ok-Some.ensures.read) ∙ unread)
 
 pub returns-in-Ok-None-clause-heard : goal.returns-in-Ok-None-clause-heard
 returns-in-Ok-None-clause-heard g c = not_heard _ _ Usage refl refl

@@ -2,8 +2,10 @@ use Rattle.std.proofs.Common.{◌≡◌, ◌∷◌, ◌+◌, ℕ, List, [], drop
 use Rattle.std.proofs.Math.ListN.{drop_of_length-le}
 use Rattle.tdb_top.specs.declared.ending.Ending.TheVariants.{Replied, DeviceFault}
 use Rattle.tdb_top.specs.declared.ending.Reply.TheVariants.{Copied}
-use Rattle.tdb_top.specs.Commands.Backup.{copy_name, new_name, IsNameOf, IsNameAmong, NamesDiffer, BackedUpOne}
-use Rattle.tdb_top.proofs.Copies.{Carries, all_done, went_on, ended_there, carries_on, carries_end, rest_of}
+use Rattle.tdb_ask.specs.CopyNames.{copy_name, new_name, IsNameOf, IsNameAmong, NamesDiffer}
+use Rattle.tdb_top.specs.Commands.Backup.{BackedUpOne}
+use Rattle.tdb_ask.proofs.Items.{rest_of}
+use Rattle.tdb_top.proofs.Copies.{Carries, all_done, went_on, ended_there, carries_on, carries_end}
 use Rattle.tdb_top.proofs.commands.backup.back_up.Goals as goal
 
 -- the first file wasn't copied

@@ -1,5 +1,5 @@
 use Rattle.std.proofs.Common.{sym, subst}
-use Rattle.tdb_top.specs.declared.ask.Task.TheVariants.{Turns}
+use Rattle.tdb_ask.specs.declared.ask.Task.TheVariants.{Turns}
 use Rattle.tdb_top.specs.Input.{input_by}
 use Rattle.tdb_top.specs.Looks.{ending_of}
 use Rattle.tdb_top.specs.Reads.{AskCause}

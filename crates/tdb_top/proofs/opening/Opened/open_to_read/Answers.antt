@@ -11,7 +11,7 @@ use Rattle.tdb_check.specs.Report.{Counted}
 use Rattle.tdb_check.specs.Seen.{Names}
 use Rattle.tdb_undo.specs.Refusal.{Names as Tells}
 use Rattle.tdb_undo.specs.Area.{place_fault}
-use Rattle.tdb_top.specs.declared.limits.TheConstants.{LONGEST_FILE}
+use Rattle.tdb_ask.specs.declared.limits.TheConstants.{LONGEST_FILE}
 use Rattle.tdb_top.specs.Opening.{ReadHaltsRightly}
 use Rattle.tdb_top.proofs.Errors.{if_this_err}
 use Rattle.tdb_top.proofs.Openings.{front_read, place_read, check_read, can_read}

@@ -1,0 +1,37 @@
+-- The commands on a file that is there: what each asks for with its arguments.
+use Rattle.std.specs.Prelude.{ℕ, Option, None, Some, List, [], ◌∷◌}
+use Rattle.std.specs.Option.{option_map, option_and_then}
+use Rattle.tdb_ask.specs.declared.act.Act.{Act}
+use Rattle.tdb_ask.specs.declared.act.Act.TheVariants.{Show, Insert, Store, Delete, Erase, Check}
+use Rattle.tdb_ask.specs.Words.{value_of, of_one, of_two}
+
+-- `show` KEY
+abbrev pub show_of : List (List ℕ) → Option Act
+show_of arguments = of_one (λ word. option_map Show (value_of word)) arguments
+
+-- KEY DATA: the key and the value that two words stand for
+abbrev pub pair_of : List (List ℕ) → Option (List ℕ × List ℕ)
+pair_of arguments =
+    of_two (λ first second. option_and_then (λ key. option_map (λ value. (key, value)) (value_of second)) (value_of first)) arguments
+
+-- `insert` KEY DATA
+abbrev pub insert_of : List (List ℕ) → Option Act
+insert_of arguments = option_map (λ pair. Insert pair.0 pair.1) (pair_of arguments)
+
+-- `store` KEY DATA
+abbrev pub store_of : List (List ℕ) → Option Act
+store_of arguments = option_map (λ pair. Store pair.0 pair.1) (pair_of arguments)
+
+-- `delete` KEY
+abbrev pub delete_of : List (List ℕ) → Option Act
+delete_of arguments = of_one (λ word. option_map Delete (value_of word)) arguments
+
+-- `erase`, without arguments
+abbrev pub erase_of : List (List ℕ) → Option Act
+erase_of [] = Some Erase
+erase_of (word ∷ words) = None
+
+-- `check`, without arguments
+abbrev pub check_of : List (List ℕ) → Option Act
+check_of [] = Some Check
+check_of (word ∷ rest) = None

@@ -1,0 +1,6 @@
+pub mod Limits
+pub mod Words
+pub mod CopyNames
+pub mod Acts
+pub mod Lines
+pub mod Ask

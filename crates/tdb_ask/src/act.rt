@@ -1,0 +1,123 @@
+// The commands on a file that is there, and the reading of their arguments.
+
+ghost use Rattle.std.specs.Prelude.{◌≡◌, ◌+◌, ◌≤◌, map, string_bytes, length, IfOk, IfSome};
+ghost use Rattle.tdb_ask.specs.Acts.{show_of, pair_of, insert_of, store_of, delete_of, erase_of, check_of};
+ghost use Rattle.tdb_ask.specs.Ask.{ActFits};
+ghost use Rattle.tdb_ask.specs.declared.limits.TheConstants.{LONGEST_WORD as longest};
+
+use crate::words::value_of;
+use std::alloc::{AllocError, Global};
+use tdb_words::Bytes;
+
+/// What is asked of a file that is there.
+#[derive(Debug, Drop)]
+pub enum Act {
+    /// The value that it holds for a key.
+    Show { key: Bytes },
+
+    /// To add a key with a value.
+    Insert { key: Bytes, value: Bytes },
+
+    /// To store a value for a key, in place of the one that it has.
+    Store { key: Bytes, value: Bytes },
+
+    /// To delete a key.
+    Delete { key: Bytes },
+
+    /// To take all keys out.
+    Erase,
+
+    /// How many keys it has.
+    Check,
+}
+
+/// The key and the value that two words stand for, where they are the only ones and have a reading.
+fn key_and_value(alloc: Global, arguments: &[String]) -> Result<Option<(Bytes, Bytes)>, AllocError>
+    ensures read { IfOk result (λ pair. pair ≡ pair_of (map string_bytes arguments.now)) }
+    ensures short { IfOk result (λ pair. IfSome pair (λ p. length p.0 + length p.1 ≤ longest + longest)) }
+{
+    let [first, second] = arguments else {
+        return Ok(None);
+    };
+    let Some(key) = value_of(alloc, first.as_str())? else {
+        return Ok(None);
+    };
+    match value_of(alloc, second.as_str())? {
+        Some(value) => Ok(Some((key, value))),
+        None => Ok(None),
+    }
+}
+
+impl Act {
+    /// Reads the arguments of `show`.
+    pub(crate) fn of_show(alloc: Global, arguments: &[String]) -> Result<Option<Act>, AllocError>
+        ensures read { IfOk result (λ act. act ≡ show_of (map string_bytes arguments.now)) }
+        ensures fits { IfOk result (λ act. IfSome act ActFits) }
+    {
+        let [word] = arguments else {
+            return Ok(None);
+        };
+        match value_of(alloc, word.as_str())? {
+            Some(key) => Ok(Some(Act::Show { key })),
+            None => Ok(None),
+        }
+    }
+
+    /// Reads the arguments of `insert`.
+    pub(crate) fn of_insert(alloc: Global, arguments: &[String]) -> Result<Option<Act>, AllocError>
+        ensures read { IfOk result (λ act. act ≡ insert_of (map string_bytes arguments.now)) }
+        ensures fits { IfOk result (λ act. IfSome act ActFits) }
+    {
+        match key_and_value(alloc, arguments)? {
+            Some((key, value)) => Ok(Some(Act::Insert { key, value })),
+            None => Ok(None),
+        }
+    }
+
+    /// Reads the arguments of `store`.
+    pub(crate) fn of_store(alloc: Global, arguments: &[String]) -> Result<Option<Act>, AllocError>
+        ensures read { IfOk result (λ act. act ≡ store_of (map string_bytes arguments.now)) }
+        ensures fits { IfOk result (λ act. IfSome act ActFits) }
+    {
+        match key_and_value(alloc, arguments)? {
+            Some((key, value)) => Ok(Some(Act::Store { key, value })),
+            None => Ok(None),
+        }
+    }
+
+    /// Reads the arguments of `delete`.
+    pub(crate) fn of_delete(alloc: Global, arguments: &[String]) -> Result<Option<Act>, AllocError>
+        ensures read { IfOk result (λ act. act ≡ delete_of (map string_bytes arguments.now)) }
+        ensures fits { IfOk result (λ act. IfSome act ActFits) }
+    {
+        let [word] = arguments else {
+            return Ok(None);
+        };
+        match value_of(alloc, word.as_str())? {
+            Some(key) => Ok(Some(Act::Delete { key })),
+            None => Ok(None),
+        }
+    }
+
+    /// Reads the arguments of `erase`, which has none.
+    pub(crate) fn of_erase(arguments: &[String]) -> Option<Act>
+        ensures read { result ≡ erase_of (map string_bytes arguments.now) }
+        ensures fits { IfSome result ActFits }
+    {
+        match arguments {
+            [] => Some(Act::Erase),
+            _ => None,
+        }
+    }
+
+    /// Reads the arguments of `check`, which has none.
+    pub(crate) fn of_check(arguments: &[String]) -> Option<Act>
+        ensures read { result ≡ check_of (map string_bytes arguments.now) }
+        ensures fits { IfSome result ActFits }
+    {
+        match arguments {
+            [] => Some(Act::Check),
+            _ => None,
+        }
+    }
+}

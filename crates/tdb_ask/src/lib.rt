@@ -1,0 +1,19 @@
+//! What the words of a command line ask for: a file, and what is to be done with it.
+#![tactic(auto)]
+
+mod act;
+mod ask;
+mod limits;
+mod lines;
+mod look;
+mod names;
+mod words;
+
+pub use act::Act;
+pub use ask::{Ask, Task};
+pub use limits::{
+    DEFAULT_SIZE, LONGEST_FILE, LONGEST_NUMBER, LONGEST_WORD, MOST_CHAINS, limits_law,
+};
+pub use lines::create::NewForm;
+pub use look::Look;
+pub use names::{Names, Text};

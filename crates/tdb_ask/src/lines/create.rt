@@ -1,0 +1,83 @@
+// The arguments of the command that makes a new file: how many chains it gets, its hash and its byte order.
+
+ghost use Rattle.std.specs.Prelude.{◌≡◌, ◌<◌, map, string_bytes, IfSome};
+ghost use Rattle.std.specs.Map.{lookup};
+ghost use Rattle.tdb_space.specs.Pairs.{same_key};
+ghost use Rattle.tdb_ask.specs.Lines.Create.{orders, hashes, order_of_words, hash_of_words, create_of};
+
+use crate::limits::DEFAULT_SIZE;
+use crate::words::size_of;
+use tdb_words::{HashKind, Order};
+
+/// What a new file is made with.
+#[derive(Clone, Copy, Debug, PartialEq, Eq)]
+pub struct NewForm {
+    /// The number of chains.
+    pub size: u32,
+    pub hash: HashKind,
+    pub order: Order,
+}
+
+/// The byte order of this name.
+fn order_named(word: &str) -> Option<Order>
+    ensures { result ≡ lookup (same_key word.now) orders }
+{
+    match word {
+        "little" => Some(Order::Little),
+        "big" => Some(Order::Big),
+        _ => None,
+    }
+}
+
+/// The hash of this name.
+fn hash_named(word: &str) -> Option<HashKind>
+    ensures { result ≡ lookup (same_key word.now) hashes }
+{
+    match word {
+        "default" => Some(HashKind::Old),
+        "jenkins" => Some(HashKind::Jenkins),
+        _ => None,
+    }
+}
+
+/// The byte order that the last arguments ask for.
+fn read_order(arguments: &[String]) -> Option<Order>
+    ensures { result ≡ order_of_words (map string_bytes arguments.now) }
+{
+    match arguments {
+        [] => Some(Order::Little),
+        [word] => order_named(word.as_str()),
+        _ => None,
+    }
+}
+
+/// The hash and the byte order that the arguments behind the size ask for.
+fn read_hash(arguments: &[String]) -> Option<(HashKind, Order)>
+    ensures { result ≡ hash_of_words (map string_bytes arguments.now) }
+{
+    let [word, rest @ ..] = arguments else {
+        return Some((HashKind::Old, Order::Little));
+    };
+    let hash = hash_named(word.as_str())?;
+    let order = read_order(rest)?;
+    Some((hash, order))
+}
+
+impl NewForm {
+    /// Reads the arguments of `create`.
+    pub(crate) fn of(arguments: &[String]) -> Option<NewForm>
+        ensures read { result ≡ create_of (map string_bytes arguments.now) }
+        ensures some { IfSome result (λ form. 0 < form.size) }
+    {
+        let [word, rest @ ..] = arguments else {
+            return Some(NewForm {
+                size: DEFAULT_SIZE,
+                hash: HashKind::Old,
+                order: Order::Little,
+            });
+        };
+        let size = size_of(word.as_str())?;
+        let (hash, order) = read_hash(rest)?;
+        Some(NewForm { size, hash, order })
+    }
+}

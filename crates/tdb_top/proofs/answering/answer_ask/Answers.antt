@@ -1,0 +1,55 @@
+use Rattle.std.proofs.Common.{◌∷◌, ℕ, List, string_bytes, sym, subst, inl}
+use Rattle.tdb_top.specs.Commands.Create.{CreateCause, CreateLeaves}
+use Rattle.tdb_top.specs.Ending.{MadeSo}
+use Rattle.tdb_top.specs.Input.{input_by}
+use Rattle.tdb_top.specs.Reads.{AskEnds, GenCause}
+use Rattle.tdb_top.specs.Left.{TaskLeaves}
+use Rattle.tdb_top.specs.Commands.Backup.{BackupCause}
+use Rattle.tdb_top.proofs.Acting.{made_cause, made_left, backup_ends, gen_ends}
+use Rattle.tdb_top.proofs.answering.answer_ask.Goals as goal
+
+-- why a file was made, or wasn't
+pub returns-in-Create-clause-cause : goal.returns-in-Create-clause-cause
+returns-in-Create-clause-cause g c told =
+    let held = g.F.Files.held c.args.files.now in
+    let before = g.F.Files.faults c.args.files.now in
+    let now = g.F.Files.faults c.create_file-creation.new.files in
+    let name = string_bytes c.args.ask.now.file in
+    let creation = c.create_file-creation.result in
+    subst (λ task. AskEnds (input_by g.S.Source.tells (g.S.Source.left c.args.input.now) (g.S.Source.faults c.args.input.now) (g.S.Source.faults c.args.input.now)) task name held before now c.made.result) (sym c.in-Create.is)
+    (inl (inl (made_cause c.in-Create.form name (held name) before now creation c.made.result
+    (subst (λ n. CreateCause (held n) before now creation) c.as_str-name.ensures.value (c.create_file-creation.ensures.cause told))
+    (subst (λ n. MadeSo n creation c.made.result) c.as_str-name.ensures.value c.made.ensures))))
+
+-- and what is left at its name
+pub returns-in-Create-clause-left : goal.returns-in-Create-clause-left
+returns-in-Create-clause-left g c told =
+    let held = g.F.Files.held c.args.files.now in
+    let given = g.F.Files.held c.create_file-creation.new.files in
+    let name = string_bytes c.args.ask.now.file in
+    let form = c.in-Create.form in
+    let creation = c.create_file-creation.result in
+    subst (λ task. TaskLeaves (input_by g.S.Source.tells (g.S.Source.left c.args.input.now) (g.S.Source.faults c.args.input.now) (g.S.Source.faults c.args.input.now)) task name held c.made.result given) (sym c.in-Create.is)
+    (made_left form name (held name) (given name) creation c.made.result
+    (subst (λ n. CreateLeaves form.size form.order form.hash (held n) creation (given n)) c.as_str-name.ensures.value (c.create_file-creation.ensures.left told))
+    (subst (λ n. MadeSo n creation c.made.result) c.as_str-name.ensures.value c.made.ensures))
+
+-- why files were backed up, or weren't
+pub returns-in-Backup-clause-cause : goal.returns-in-Backup-clause-cause
+returns-in-Backup-clause-cause g c told =
+    let held = g.F.Files.held c.args.files.now in
+    let before = g.F.Files.faults c.args.files.now in
+    let now = g.F.Files.faults c.back_up.new.files in
+    let e = c.back_up.result in
+    backup_ends (input_by g.S.Source.tells (g.S.Source.left c.args.input.now) (g.S.Source.faults c.args.input.now) (g.S.Source.faults c.args.input.now)) c.args.ask.now.task c.in-Backup.more c.in-Backup.suffix (string_bytes c.args.ask.now.file) held before now e c.in-Backup.is
+    (subst (λ (q : List ℕ × List (List ℕ)). BackupCause (q.0 ∷ q.1) held before now e) (λ j. (c.as_str-name.ensures.value j, c.as_slice.ensures j)) (c.back_up.ensures.done told).cause)
+
+-- why generated commands ended so
+pub returns-in-Generate-clause-cause : goal.returns-in-Generate-clause-cause
+returns-in-Generate-clause-cause g c told =
+    let held = g.F.Files.held c.args.files.now in
+    let before = g.F.Files.faults c.args.files.now in
+    let now = g.F.Files.faults c.generate_file.new.files in
+    let e = c.generate_file.result in
+    gen_ends (input_by g.S.Source.tells (g.S.Source.left c.args.input.now) (g.S.Source.faults c.args.input.now) (g.S.Source.faults c.args.input.now)) c.args.ask.now.task c.in-Generate.commands c.in-Generate.seed (string_bytes c.args.ask.now.file) held before now e c.in-Generate.is
+    (subst (λ n. GenCause c.in-Generate.commands c.in-Generate.seed n (held n) before now e) c.as_str-name.ensures.value (c.generate_file.ensures.cause told))

@@ -1,7 +1,0 @@
--- The names of the files that are left come behind those that were pushed.
-use Rattle.std.proofs.Common.{◌≡◌, ◌∷◌, ◌++◌, drop}
-use Rattle.tdb_top.specs.Commands.BackupLine.{all_names}
-use Rattle.tdb_top.proofs.commands.backup_line.all_names.Given as goal
-
-abbrev pub invariant-loop-name : goal.invariant-loop-name
-invariant-loop-name l = l.names ++ all_names l.fn.suffix (drop l.name-index l.fn.more) ≡ all_names l.fn.suffix (l.fn.file ∷ l.fn.more)
