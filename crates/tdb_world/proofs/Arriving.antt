@@ -40,7 +40,7 @@ unfolding IsStrictlySortedBy
 nothing_counts = record { in_order = tt; keys = All-nil _; counts = All-nil _ }
 
 pub nothing_well : IsWellHeld nothing_held
-nothing_well = record { counts = nothing_counts; taken = tt; apart = λ e. absurd (never_true e) }
+nothing_well = record { counts = nothing_counts; taken = tt; apart = λ e. absurd (never_true e); few = omega arith }
 
 module _ (xs ys : List Opener) (y : Opener) (J : IsJoined xs y ys) where
   is_set : IsSet xs (length xs) y ys

@@ -7,7 +7,7 @@ use Rattle.std.specs.Map.{values_of}
 use Rattle.tdb_space.specs.Form.{Form}
 use Rattle.tdb_space.specs.Pairs.{home}
 use Rattle.tdb_space.proofs.Pairs.Maps.{home_below}
-use Rattle.tdb_locks.specs.HeldLocks.{HeldLocks, AreCounts, Raises, Lowers, SetsAll, count_of}
+use Rattle.tdb_locks.specs.HeldLocks.{HeldLocks, AreCounts, Raises, Lowers, SetsAll, count_of, total_of}
 use Rattle.tdb_locks.specs.declared.kind.Kind.{Kind}
 use Rattle.tdb_locks.specs.declared.kind.Kind.TheVariants.{Read, Write}
 use Rattle.tdb_locks.specs.declared.locks.LockRefusal.{LockRefusal}
@@ -283,9 +283,9 @@ module _ (f : Form) (options : Options) (live : Bool) (old new : HeldLocks) (res
   all_read_ends_at {A} owner number M = subst (AllEnds A LockAllRead Read) (sym number) (all_read_ends M)
 
 -- how well locks are held after a lock that came to this
-pub holds_after : {A : Type 0} (old new : HeldLocks) (chain : ℕ) (r : Result A LockRefusal) → IsWellHeld old → AreCounts new.chains → reads_records old.all ≡ false → OnOk r (Raises old new chain) → OnErr r (SameHeld old new) → IsWellHeld new
-holds_after old new chain (Ok u) W counts reads R S = record { counts = counts; taken = subst (λ o. IfSome o (λ a. 0 < a.1)) (sym R.all) W.taken; apart = λ e. absurd (let c : ◌≡◌ {A = Bool} true false = sym e ∙ ap reads_records R.all ∙ reads in cc c) }
-holds_after old new chain (Err e) W counts reads R S = record { counts = counts; taken = subst (λ o. IfSome o (λ a. 0 < a.1)) (sym S.all) W.taken; apart = λ e. absurd (let c : ◌≡◌ {A = Bool} true false = sym e ∙ ap reads_records S.all ∙ reads in cc c) }
+pub holds_after : {A : Type 0} (old new : HeldLocks) (chain : ℕ) (r : Result A LockRefusal) → IsWellHeld old → AreCounts new.chains → total_of new < 2 ^ 64 - 1 → reads_records old.all ≡ false → OnOk r (Raises old new chain) → OnErr r (SameHeld old new) → IsWellHeld new
+holds_after old new chain (Ok u) W counts few reads R S = record { counts = counts; few = few; taken = subst (λ o. IfSome o (λ a. 0 < a.1)) (sym R.all) W.taken; apart = λ e. absurd (let c : ◌≡◌ {A = Bool} true false = sym e ∙ ap reads_records R.all ∙ reads in cc c) }
+holds_after old new chain (Err e) W counts few reads R S = record { counts = counts; few = few; taken = subst (λ o. IfSome o (λ a. 0 < a.1)) (sym S.all) W.taken; apart = λ e. absurd (let c : ◌≡◌ {A = Bool} true false = sym e ∙ ap reads_records S.all ∙ reads in cc c) }
 
 more_taken : (all : Option (Kind × ℕ)) (kind : Kind) → 0 < (more_of all kind).1
 more_taken None kind = omega arith
@@ -301,13 +301,14 @@ and_first true true c e = e
 and_first true false c e = refl
 and_first false b c e = refl
 
-pub holds_all_read : {A : Type 0} (old new : HeldLocks) (walks : Bool) (r : Result A LockRefusal) → IsWellHeld old → is_none old.all && (holds_chains old || walks) ≡ false → OnOk r (SetsAll old new (Some (more_of old.all Read))) → OnErr r (new ≡ old) → IsWellHeld new
-holds_all_read old new walks (Ok u) W alone S E = record {
+pub holds_all_read : {A : Type 0} (old new : HeldLocks) (walks : Bool) (r : Result A LockRefusal) → IsWellHeld old → total_of new < 2 ^ 64 - 1 → is_none old.all && (holds_chains old || walks) ≡ false → OnOk r (SetsAll old new (Some (more_of old.all Read))) → OnErr r (new ≡ old) → IsWellHeld new
+holds_all_read old new walks (Ok u) W few alone S E = record {
   counts = subst AreCounts (sym S.chains) W.counts;
+  few = few;
   taken = subst (λ o. IfSome o (λ a. 0 < a.1)) (sym S.now) (more_taken old.all Read);
   apart = λ e. elim (more_apart old.all (holds_chains old) W.apart (and_first (is_none old.all) (holds_chains old) walks alone)) [
     | inl none ↦ ap (λ es. nat_lt 0 (sum (values_of es))) S.chains ∙ none
     | inr writes ↦ absurd (let c : ◌≡◌ {A = Bool} true false = sym e ∙ ap reads_records S.now ∙ writes in cc c)
   ];
 }
-holds_all_read old new walks (Err e) W alone S E = subst IsWellHeld (sym E) W
+holds_all_read old new walks (Err e) W few alone S E = subst IsWellHeld (sym E) W

@@ -1,5 +1,5 @@
 -- The commands that openers may give, and how they hold locks between two calls.
-use Rattle.std.specs.Prelude.{ℕ, ◌≡◌, ◌<◌, ◌≤◌, ◌+◌, ◌^◌, List, Bool, true, false, length, Option, None, Some, IfSome, nat_lt, ◌==◌, ◌&&◌, ◌||◌, if◌then◌else◌}
+use Rattle.std.specs.Prelude.{ℕ, ◌≡◌, ◌<◌, ◌≤◌, ◌+◌, ◌-◌, ◌^◌, List, Bool, true, false, length, Option, None, Some, IfSome, nat_lt, ◌==◌, ◌&&◌, ◌||◌, if◌then◌else◌}
 use Rattle.std.specs.List.{All, sum}
 use Rattle.std.specs.Map.{values_of}
 use Rattle.tdb_locks.specs.HeldLocks.{HeldLocks, AreCounts, total_of}
@@ -78,9 +78,10 @@ unlock_told held walks (Some all) = if (all.1 == 1) && (holds_chains held || wal
 abbrev pub unlock_all_told : HeldLocks → Bool → Option Reply
 unlock_all_told held walks = unlock_told held walks held.all
 
--- What holds of an opener's explicit locks between two calls: chains have counts, a lock of all records was taken once at least, and
--- who holds all records for reading holds no chain.
+-- What holds of an opener's explicit locks between two calls: chains have counts, a lock of all records was taken once at least, who
+-- holds all records for reading holds no chain, and there are so few that a word of 64 bits counts them and a cursor.
 pub record IsWellHeld (held : HeldLocks) : Type 0 where
   pub counts : AreCounts held.chains
   pub taken : IfSome held.all (λ all. 0 < all.1)
   pub apart : reads_records held.all ≡ true → holds_chains held ≡ false
+  pub few : total_of held < 2 ^ 64 - 1

@@ -1,13 +1,23 @@
 // Explicit locks are taken and let go.
 
-ghost use Rattle.std.specs.Prelude.{◌≡◌, ◌-◌, ◌+◌, ◌^◌, ◌<◌, [], None, Some, OnOk, OnErr, IfErr, MatchOption};
-ghost use Rattle.tdb_locks.specs.HeldLocks.{AreCounts, Raises, Lowers, SetsAll, count_of, count_of_all};
+ghost use Rattle.std.specs.Prelude.{◌≡◌, ◌↔◌, ◌-◌, ◌+◌, ◌^◌, ◌<◌, ◌≤◌, [], None, Some, IsTrue, OnOk, OnErr, IfErr, MatchOption};
+ghost use Rattle.tdb_locks.specs.HeldLocks.{AreCounts, Raises, Lowers, SetsAll, count_of, count_of_all, total_of};
 ghost use Rattle.tdb_locks.specs.LockTable.{held as held_by};
 ghost use Rattle.tdb_steps.specs.LockRows.{IsLetGo, StandsAlone};
 ghost use Rattle.tdb_world.specs.Locked.{chain_row, all_row, IsTaken, IsInTheWay, SameHeld, more_of, less_of};
 
 use tdb_locks::{Held, Kind, LockRefusal, Locks};
 use tdb_steps::{LockRow, Region, covers, let_go_of, take_lock};
+
+/// How many times an opener can hold chains and all records explicitly: the count of its locks has room for a cursor.
+const MOST_HELD: u64 = u64::MAX - 1;
+
+/// Whether nothing more can be held explicitly.
+fn is_full(held: &Held) -> bool
+    ensures { IsTrue result ↔ 2 ^ 64 - 2 ≤ total_of held.now }
+{
+    held.total() >= MOST_HELD
+}
 
 /// The lock of a chain for writing.
 fn row_of_chain(chain: u32) -> LockRow
@@ -33,8 +43,8 @@ fn row_of_all(kind: Kind) -> LockRow
 
 /// Holds a chain once more, and locks it for writing unless the explicit locks cover it.
 ///
-/// `Conflict` is the first one. `Memory` where that is wanting, or where the count is at its greatest. After both all is
-/// as it was.
+/// `Conflict` is the first one. `Memory` where that is wanting, or where the count of the chain or that of all explicit
+/// locks is at its greatest. After both all is as it was.
 pub(crate) fn hold_chain(
     locks: &mut Locks,
     owner: u32,
@@ -42,6 +52,7 @@ pub(crate) fn hold_chain(
     chain: u32,
 ) -> Result<(), LockRefusal>
     requires counts { AreCounts held.old.chains }
+    requires few { total_of held.old < 2 ^ 64 - 1 }
     ensures taken { OnOk result (IsTaken held.old owner locks.old locks.new (chain_row chain)) }
     ensures raised { OnOk result (Raises held.old held.new chain) }
     ensures room { OnOk result (count_of held.old chain < 2 ^ 32 - 1) }
@@ -49,9 +60,13 @@ pub(crate) fn hold_chain(
     ensures err { OnErr result (locks.new ≡ locks.old) }
     ensures same { OnErr result (SameHeld held.old held.new) }
     ensures counts { AreCounts held.new.chains }
+    ensures few { total_of held.new < 2 ^ 64 - 1 }
 {
     let row = row_of_chain(chain);
     if held.chain_count(chain) == u32::MAX {
+        return Err(LockRefusal::Memory);
+    }
+    if is_full(held) {
         return Err(LockRefusal::Memory);
     }
     let covered = covers(held, row);
@@ -91,20 +106,25 @@ fn more(all: Option<(Kind, u32)>, kind: Kind) -> Option<(Kind, u32)>
 
 /// Holds all records once more, and locks them unless the explicit locks cover them. The kind is that of the first time.
 ///
-/// `Conflict` is the first one. `Memory` where that is wanting, or where the count is at its greatest. After both all is
-/// as it was.
+/// `Conflict` is the first one. `Memory` where that is wanting, or where this count or that of all explicit locks is at
+/// its greatest. After both all is as it was.
 pub(crate) fn hold_all(
     locks: &mut Locks,
     owner: u32,
     held: &mut Held,
     kind: Kind,
 ) -> Result<(), LockRefusal>
+    requires few { total_of held.old < 2 ^ 64 - 1 }
     ensures taken { OnOk result (IsTaken held.old owner locks.old locks.new (all_row kind)) }
     ensures set { OnOk result (SetsAll held.old held.new (Some (more_of held.old.all kind))) }
     ensures refused { IfErr result (IsInTheWay locks.old owner (all_row kind)) }
     ensures err { OnErr result (locks.new ≡ locks.old) }
     ensures same { OnErr result (held.new ≡ held.old) }
+    ensures few { total_of held.new < 2 ^ 64 - 1 }
 {
+    if is_full(held) {
+        return Err(LockRefusal::Memory);
+    }
     let Some(now) = more(held.all(), kind) else {
         return Err(LockRefusal::Memory);
     };

@@ -34,7 +34,7 @@ returns-in-Chain-clause-well c =
     let m = c.requires.may in
     let h = c.hold_chain in
     let at = subst (λ l. MayLock f m.0 m.1 old m.2 (locking_command l) m.3 c.args.locks.now) c.in-Chain.is m.5 in
-    holds_after old h.new.held c.chain_in-chain.result h.result c.requires.well h.ensures.counts (chain_granted f m.0 m.1 old m.2 c.requires.well.counts c.in-Chain.key at.granted) h.ensures.raised h.ensures.same
+    holds_after old h.new.held c.chain_in-chain.result h.result c.requires.well h.ensures.counts h.ensures.few (chain_granted f m.0 m.1 old m.2 c.requires.well.counts c.in-Chain.key at.granted) h.ensures.raised h.ensures.same
 
 pub returns-in-ChainNb-clause-turned : goal.returns-in-ChainNb-clause-turned
 returns-in-ChainNb-clause-turned c options live rest who number M =
@@ -54,7 +54,7 @@ returns-in-ChainNb-clause-well c =
     let m = c.requires.may in
     let h = c.hold_chain-in-ChainNb in
     let at = subst (λ l. MayLock f m.0 m.1 old m.2 (locking_command l) m.3 c.args.locks.now) c.in-ChainNb.is m.5 in
-    holds_after old h.new.held c.chain_in-chain-in-ChainNb.result h.result c.requires.well h.ensures.counts (chain_nb_granted f m.0 m.1 old m.2 c.requires.well.counts c.in-ChainNb.key at.granted) h.ensures.raised h.ensures.same
+    holds_after old h.new.held c.chain_in-chain-in-ChainNb.result h.result c.requires.well h.ensures.counts h.ensures.few (chain_nb_granted f m.0 m.1 old m.2 c.requires.well.counts c.in-ChainNb.key at.granted) h.ensures.raised h.ensures.same
 
 pub release_chain-requires-clause-some : goal.release_chain-requires-clause-some
 release_chain-requires-clause-some c =
@@ -121,7 +121,7 @@ returns-in-AllRead-clause-well c =
     let m = c.requires.may in
     let h = c.hold_all-in-AllRead in
     let at = subst (λ l. MayLock f m.0 m.1 old m.2 (locking_command l) m.3 c.args.locks.now) c.in-AllRead.is m.5 in
-    holds_all_read old h.new.held (is_some m.2.shown) h.result c.requires.well (all_read_granted f m.0 m.1 old m.2 c.requires.well.counts at.granted) h.ensures.set h.ensures.same
+    holds_all_read old h.new.held (is_some m.2.shown) h.result c.requires.well h.ensures.few (all_read_granted f m.0 m.1 old m.2 c.requires.well.counts at.granted) h.ensures.set h.ensures.same
 
 pub returns-in-UnlockAll-clause-turned : goal.returns-in-UnlockAll-clause-turned
 returns-in-UnlockAll-clause-turned c options live rest who number M =
