@@ -91,7 +91,7 @@ module _ (f : Form) (own : HeldLocks) (x : Own) (w : WalkCommand) (at later : At
 
 pub cursor_comes_apart : CursorComesApart
 cursor_comes_apart f own x w at later gone n who ps qs a b hands stood_on read_only v did turn tells told B T M O placed says stays chain off is =
-    comes_apart f own x w at later gone n who ps qs (image_map f a) (image_map f b) (word f.order a sequence_at) (word f.order b sequence_at) v B.apart turn
+    comes_apart f own x w at later gone n who ps qs (image_map f a) (image_map f b) (word f.order a sequence_at) (word f.order b sequence_at) v B.ready.apart turn
     (cursor_is_lawful f own x w at later gone n who ps qs a b hands stood_on read_only v did turn tells told B T M O placed says)
     (cursor_stands_again f own x w at later gone n who ps qs a hands stood_on read_only v did turn tells told B T says) stays chain off is
 

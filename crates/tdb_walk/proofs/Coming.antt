@@ -301,6 +301,12 @@ of_next f img place live (cell, next, read) =
 pub met_used : (f : Form) (img : List ℕ) (place : Place) (live : Live) → IsNext f img place (Some live) → magic_of f.order img live.off ≡ USED
 met_used f img place live next = (of_next f img place live next).used
 
+-- so is its key filed in its chain
+pub met_filed : (f : Form) (img : List ℕ) (hands : List HandPair) (place : Place) (live : Live) → AcceptWith f img hands → IsNext f img place (Some live) → home f (key_at f.order img live.off) ≡ live.chain
+met_filed f img hands place live A next =
+    let there = met_member f img place live next in
+    home_of_member f img live.chain (chain_of f img live.chain) live.off (A.filed live.chain there.0) there.1 (met_used f img place live next)
+
 pub comes_rightly : ComesRightly
 comes_rightly f img hands place live A next =
     let o = of_next f img place live next in

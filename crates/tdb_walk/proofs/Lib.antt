@@ -11,6 +11,7 @@ pub mod Purged
 pub mod Going
 pub mod Bytes
 pub mod Turns
+pub mod Went
 pub mod Arrived
 pub mod Coming
 pub mod Decided
@@ -20,6 +21,14 @@ pub mod Explicit
 pub mod Holding
 pub mod Wanting
 pub mod Rows
+pub mod HeldOn
+pub mod TurnKinds
+pub mod HeldAfter
+pub mod Parted
+pub mod Again
+pub mod Shown
+pub mod CursorHeld
+pub mod CursorActs
 pub mod LockTurned
 pub mod EndTurned
 pub mod MoveTurned
@@ -28,6 +37,4 @@ pub mod Lawful
 pub mod WalkShown
 pub mod WalkLawful
 pub mod Viewed
-pub mod Again
-pub mod Shown
 pub mod Walkers

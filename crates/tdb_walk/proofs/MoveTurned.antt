@@ -1,4 +1,4 @@
--- A turn of a cursor that moves is one of the law.
+-- What a turn of a cursor that moves does is of the law's kinds.
 use Rattle.std.proofs.Common.{◌≡◌, ◌≢◌, ℕ, ◌+◌, ◌*◌, ◌<◌, ◌≤◌, max, List, [], ◌∷◌, Bool, true, false, cond, Option, Some, None, refl, sym, ◌∙◌, ap, subst, inl, inr, ◌⊎◌, arith, length, zero, suc}
 use Rattle.std.specs.Prelude.{◌&&◌, ◌/◌}
 use Rattle.std.specs.FinMap.{get}
@@ -32,10 +32,8 @@ use Rattle.tdb_law.specs.Commands.{WalkCommand, Turn as LawTurn, Reply as LawRep
 use Rattle.tdb_law.specs.Commands.Command.{OnWalk}
 use Rattle.tdb_law.specs.Openers.{Own, Spot, View, nowhere}
 use Rattle.tdb_law.specs.Refusals.{chain_byte}
-use Rattle.tdb_law.specs.Rows.{all_end}
-use Rattle.tdb_law.specs.Ends.{walk_ends}
 use Rattle.tdb_law.specs.Outcomes.{walk_moves}
-use Rattle.tdb_law.specs.Held.{explicit_held, stand_held, holding, wanted, decided, is_chain, moves_at}
+use Rattle.tdb_law.specs.Held.{explicit_held, wanted, decided, is_chain, moves_at}
 use Rattle.tdb_law.specs.World.{HasFewChains}
 use Rattle.tdb_law.specs.Effects.{IsFree}
 use Rattle.tdb_law.specs.Effects.Effect.{effect_waits, effect_shows}
@@ -49,20 +47,19 @@ use Rattle.tdb_walk.specs.declared.standing.Standing.TheVariants.{Before, On, Pa
 use Rattle.tdb_walk.specs.declared.way.Way.TheVariants as Way
 use Rattle.tdb_walk.specs.NextLive.{IsNext, place_of}
 use Rattle.tdb_walk.specs.Way.{IsWay, CanRead, IsFilled, lock_byte, next_chain}
-use Rattle.tdb_walk.specs.declared.stage.Stage.{Stage}
-use Rattle.tdb_walk.specs.ByteLocks.{IsKeptFrom, reads_all, with_byte}
-use Rattle.tdb_walk.specs.Cursors.{At, IsPlaced, MoveLed, rested, spot_of, let_go, held_moved}
+use Rattle.tdb_walk.specs.ByteLocks.{IsKeptFrom, reads_all}
+use Rattle.tdb_walk.specs.Cursors.{At, MoveLed, rested}
 use Rattle.tdb_walk.specs.Cursors.Came.{shown, barred, wants}
 use Rattle.tdb_walk.specs.Cursors.MoveLed.{comes, stops, ends, gives_up}
-use Rattle.tdb_walk.specs.InLaw.{HoldsExplicit, IsTurn, IsOnWay, CursorTurned, is_close, spot_in, spot_next, held_next, own_next, strengths}
+use Rattle.tdb_walk.specs.InLaw.{HoldsExplicit, IsTurn, IsOnWay, is_close, spot_in, spot_next, own_next, strengths}
 use Rattle.tdb_walk.proofs.Ahead.{none_some}
 use Rattle.tdb_walk.proofs.Arrived.{met_member}
-use Rattle.tdb_walk.proofs.Coming.{met_used}
+use Rattle.tdb_walk.proofs.Coming.{met_used, met_filed}
 use Rattle.tdb_walk.proofs.Decided.{whole_in}
-use Rattle.tdb_walk.proofs.Explicit.{one, covers_reading, stand_is}
-use Rattle.tdb_walk.proofs.Holding.{holding_is, resting_is}
+use Rattle.tdb_walk.proofs.Explicit.{covers_reading}
 use Rattle.tdb_walk.proofs.Wanting.{bit, on_way, moves_are}
-use Rattle.tdb_walk.proofs.Rows.{unchanged, number_is, own_is, row_end, moves_close, walked_moving, ends_last}
+use Rattle.tdb_walk.proofs.Rows.{unchanged, number_is, own_is, moves_close, walked_moving}
+use Rattle.tdb_walk.proofs.CursorActs.{CursorActs}
 use Rattle.tdb_walk.proofs.EndTurned.{starves_turned}
 
 -- the map has the pair of each used record of a chain
@@ -117,20 +114,19 @@ member_filled : (o : Order) (img : List ℕ) (n at y : ℕ) → at ≡ 0 → Mem
 member_filled o img zero at y e m = false≢true m
 member_filled o img (suc n) at y e m = false≢true (subst (λ z. Member y (cond z [] (at ∷ offsets o img n (word o img at)))) (eq-eqb at 0 e) m)
 
-module _ (f : Form) (few : HasFewChains f) (own : HeldLocks) (x : Own) (outside : x.txn ≡ None) (E : HoldsExplicit own x) (w : WalkCommand) (n who : ℕ) (ps qs : List Piece) (a b : List ℕ) (hands : List HandPair) (v : View) (spot : Spot) (from : Standing)
+module _ (f : Form) (few : HasFewChains f) (own : HeldLocks) (x : Own) (outside : x.txn ≡ None) (E : HoldsExplicit own x) (w : WalkCommand) (n who : ℕ) (ps : List Piece) (a b : List ℕ) (hands : List HandPair) (v : View) (spot : Spot) (from : Standing)
     (A : AcceptWith f a hands) (same_map : image_map f b ≡ image_map f a) (same_number : word f.order b sequence_at ≡ word f.order a sequence_at)
     (least : (z : ℕ) → explicit_held f x z ≤ strengths ps who z)
     (apart : (p z : ℕ) → p ≢ who → strengths ps who z + strengths ps p z ≤ 2)
     (wide : (p z : ℕ) (k : List ℕ) → p ≢ who → data_start f ≤ z → 2 ≤ strengths ps p z → 2 ≤ strengths ps p (chain_byte f k))
-    (others : (p z : ℕ) → p ≢ who → strengths qs p z ≡ strengths ps p z)
     (want_is : (z : ℕ) → wanted f (OnWalk w) x (decided spot v n) v n z ≡ on_way f v z)
     (way : (j : ℕ) → IsOnWay f a from j → v.way (lock_byte j) ≡ true)
     (ways : (z : ℕ) → v.way z ≡ true → (j : ℕ) × (z ≡ lock_byte j) × IsOnWay f a from j)
-    (moving : walk_moves w x ≡ true) (ending : walk_ends w x.cursor n ≡ true)
+    (moving : walk_moves w x ≡ true)
     (own_chain : (live : Live) → live.chain < next_chain f from → IsNext f a (place_of from) (Some live) → 1 ≤ strengths ps who (lock_byte live.chain)) where
-  abbrev TurnedTo : At → LawTurn → Type 0
-  TurnedTo later turn =
-      CursorTurned f x (own_next f w n x (image_map f a) turn) w n who spot (spot_next turn w later) v (strengths ps) (strengths qs) (image_map f a) (image_map f b) (word f.order a sequence_at) (word f.order b sequence_at) turn
+  abbrev ActsTo : At → LawTurn → Type 0
+  ActsTo later turn =
+      CursorActs f x (own_next f w n x (image_map f a) turn) w n who spot (spot_next turn w later) v (strengths ps) (image_map f a) (image_map f b) (word f.order a sequence_at) (word f.order b sequence_at) turn
 
   abbrev want : ℕ → ℕ
   want z = wanted f (OnWalk w) x (decided spot v n) v n z
@@ -169,13 +165,6 @@ module _ (f : Form) (few : HasFewChains f) (own : HeldLocks) (x : Own) (outside 
   spot_is : (place : Standing) (r : LawReply) → spot_next (LawTurn.Ends r) w (rested place) ≡ spot_in (rested place) false
   spot_is place r = ap (λ c. cond c nowhere (spot_in (rested place) false)) not_close
 
-  held_is : (s : ℕ) (r : LawReply) → held_next (LawTurn.Ends r) w s ≡ s
-  held_is s r = ap (λ c. cond c 0 s) not_close
-
-  resting : (y : Own) (cursor : Option (List ℕ)) (place : Standing) (r : LawReply) → y ≡ record x { cursor = cursor } → (z : ℕ)
-      → holding f y (spot_next (LawTurn.Ends r) w (rested place)) None z ≡ max (explicit_held f x z) (stand_held (spot_of place) z)
-  resting y cursor place r is z = (λ i. holding f (is i) (spot_is place r i) None z) ∙ resting_is f (record x { cursor = cursor }) (spot_in (rested place) false) z outside
-
   -- the record that is come to
   module _ (live : Live) (met : IsWay f a ps (who + 1) own (place_of from) (next_chain f from) (Way.Met live)) where
     abbrev key : List ℕ
@@ -191,7 +180,7 @@ module _ (f : Form) (few : HasFewChains f) (own : HeldLocks) (x : Own) (outside 
     used = met_used f a (place_of from) live met.0
 
     filed : home f key ≡ live.chain
-    filed = home_of_member f a live.chain (chain_of f a live.chain) live.off (A.filed live.chain there.0) there.1 used
+    filed = met_filed f a hands (place_of from) live A met.0
 
     pub above : data_start f ≤ live.off
     above = (whole_in f a hands A live.chain live.off there.0 there.1).above
@@ -244,16 +233,8 @@ module _ (f : Form) (few : HasFewChains f) (own : HeldLocks) (x : Own) (outside 
     own_shown : own_next f w n x (image_map f a) told_pair ≡ record x { cursor = Some key }
     own_shown = own_is f w x outside n (LawReply.Pair key value) (image_map f a) ∙ walked_moving w x (LawReply.Pair key value) moving
 
-    pub comes_turned : ((z : ℕ) → strengths qs who z ≡ max (one live.off 1 z) (explicit_held f x z)) → TurnedTo (rested (On live.chain live.off)) told_pair
-    comes_turned holds = record {
-      row = row_end f w x outside n (LawReply.Pair key value) ending;
-      holds = λ z.
-          (let now = holds z in
-          let is = held_is (strengths qs who z) (LawReply.Pair key value) in
-          let after_it = resting (own_next f w n x (image_map f a) told_pair) (Some key) (On live.chain live.off) (LawReply.Pair key value) own_shown z in
-          let stand = stand_is live.off z in
-          omega (arith, now, is, after_it, stand));
-      others = others;
+    pub comes_turned : ActsTo (rested (On live.chain live.off)) told_pair
+    comes_turned = record {
       leaves_spot = (
         stands_on key value live.off refl outside own_shown (ap (λ (s : Spot). s.stands) (spot_is (On live.chain live.off) (LawReply.Pair key value))) above read_there,
         ap (λ (s : Spot). s.gone) (spot_is (On live.chain live.off) (LawReply.Pair key value)),
@@ -263,22 +244,12 @@ module _ (f : Form) (few : HasFewChains f) (own : HeldLocks) (x : Own) (outside 
     }
 
   -- no live record is left
-  pub ends_turned : IsWay f a ps (who + 1) own (place_of from) (next_chain f from) Way.End → ((z : ℕ) → strengths qs who z ≡ explicit_held f x z) → TurnedTo (rested Past) (LawTurn.Ends LawReply.End)
-  ends_turned met holds = record {
-    row = row_end f w x outside n LawReply.End ending;
-    holds = λ z.
-        (let now = holds z in
-        let is = held_is (strengths qs who z) LawReply.End in
-        let after_it = resting (own_next f w n x (image_map f a) (LawTurn.Ends LawReply.End)) None Past LawReply.End ended z in
-        omega (arith, now, is, after_it));
-    others = others;
+  pub ends_turned : IsWay f a ps (who + 1) own (place_of from) (next_chain f from) Way.End → ActsTo (rested Past) (LawTurn.Ends LawReply.End)
+  ends_turned met = record {
     leaves_spot = (stands_nowhere (ap (λ (s : Spot). s.stands) (spot_is Past LawReply.End)), ap (λ (s : Spot). s.gone) (spot_is Past LawReply.End));
     effect = effect_shows LawReply.End refl (free_way (λ j on. met.1 j on.entered on.below on.filled)) (moves_are f w x outside ∙ moving) (finds_end refl) same_map refl;
     number = same_number ∙ sym (number_is f w x outside n (LawTurn.Ends LawReply.End) (word f.order a sequence_at) 0);
   }
-    where
-      ended : own_next f w n x (image_map f a) (LawTurn.Ends LawReply.End) ≡ record x { cursor = None }
-      ended = own_is f w x outside n LawReply.End (image_map f a) ∙ walked_moving w x LawReply.End moving
 
   -- another opener holds a chain on the way for writing
   module _ (moves_now : moves_at f (OnWalk w) x (decided spot v n) n ≡ true) (chain o byte : ℕ) (W : IsWay f a ps (who + 1) own (place_of from) (next_chain f from) (Way.Blocked chain (o + 1) byte)) where
@@ -326,11 +297,8 @@ module _ (f : Form) (few : HasFewChains f) (own : HeldLocks) (x : Own) (outside 
             record { other_owner = λ e. differs (omega (arith, e)); from_start = omega (arith, here); before_end = omega (arith, here); holds = holds; writes = strength-kinds_conflict kind Read (omega (arith, there, is, most, more)) } in
             elim (W.off.conflict.least (p + 1) z kind clash) [ inl less ↦ inl less | inr first ↦ inr (first.0, let le = first.1 in omega (arith, le)) ]
 
-    pub stops_turned : ((z : ℕ) → strengths qs who z ≡ explicit_held f x z) → TurnedTo (rested (Before chain)) (LawTurn.Blocked o byte)
-    stops_turned holds = record {
-      row = refl;
-      holds = λ z. (let now = holds z in let after_it = holding_is f w x (spot_in (rested (Before chain)) true) n z outside in omega (arith, now, after_it));
-      others = others;
+    pub stops_turned : ActsTo (rested (Before chain)) (LawTurn.Blocked o byte)
+    stops_turned = record {
       leaves_spot = inr (moves_now, refl, refl);
       effect = effect_waits o byte refl
           (record {
@@ -344,39 +312,28 @@ module _ (f : Form) (few : HasFewChains f) (own : HeldLocks) (x : Own) (outside 
     }
 
   -- a move
-  module _ (place : Standing) (stage : Stage) (moves_now : moves_at f (OnWalk w) x (decided spot v n) n ≡ true)
-      (gone_to : (later : Standing) → spot_of later ≡ None → (z : ℕ) → strength (let_go own (who + 1) place stage later (held ps) (who + 1) z) ≡ explicit_held f x z)
-      (came_to : (chain2 off2 : ℕ) → data_start f ≤ off2 → off2 < all_end → (z : ℕ) → strength (let_go own (who + 1) place stage (On chain2 off2) (with_byte (reads_all own) (who + 1) off2 (Some Read) (held ps)) (who + 1) z) ≡ max (one off2 1 z) (explicit_held f x z)) where
-    abbrev at : At
-    at = record { place = place; stage = stage }
+  module _ (at : At) (moves_now : moves_at f (OnWalk w) x (decided spot v n) n ≡ true) where
+    carried : (later later2 : At) (turn turn2 : LawTurn) → later ≡ later2 → turn ≡ turn2 → ActsTo later2 turn2 → ActsTo later turn
+    carried later later2 turn turn2 is says done = subst (λ l. ActsTo l turn) (sym is) (subst (λ t. ActsTo later2 t) (sym says) done)
 
-    carried : (later later2 : At) (turn turn2 : LawTurn) → later ≡ later2 → turn ≡ turn2 → TurnedTo later2 turn2 → TurnedTo later turn
-    carried later later2 turn turn2 is says done = subst (λ l. TurnedTo l turn) (sym is) (subst (λ t. TurnedTo later2 t) (sym says) done)
-
-    no_memory : (later : At) (did : Turn) (turn : LawTurn) → did ≡ Turn.Done Reply.Memory → later ≡ rested Past → ((z : ℕ) → held qs (who + 1) z ≡ held_moved own (who + 1) at later.place did (held ps) (who + 1) z) → IsTurn did turn → TurnedTo later turn
-    no_memory later did turn says ended holds told =
+    no_memory : (later : At) (did : Turn) (turn : LawTurn) → did ≡ Turn.Done Reply.Memory → later ≡ rested Past → IsTurn did turn → ActsTo later turn
+    no_memory later did turn says ended told =
         let (r, is, same) = subst (λ d. IsTurn d turn) says told in
-        carried later (rested Past) turn (LawTurn.Ends LawReply.Memory) ended (same ∙ ap LawTurn.Ends is)
-        (starves_turned f x outside w n who ps qs a b v spot same_map same_number others moving (ends_last f w x outside n ending)
-        (λ z. ap strength (holds z) ∙ (λ i. strength (held_moved own (who + 1) at ((ended i).place) (says i) (held ps) (who + 1) z)) ∙ gone_to Past refl z))
+        carried later (rested Past) turn (LawTurn.Ends LawReply.Memory) ended (same ∙ ap LawTurn.Ends is) (starves_turned f x outside n who ps a b v spot same_map same_number w moving)
 
-    pub by_move : (later : At) (did : Turn) (turn : LawTurn) → MoveLed f a ps (who + 1) own from at later did → ((z : ℕ) → held qs (who + 1) z ≡ held_moved own (who + 1) at later.place did (held ps) (who + 1) z) → IsPlaced later.place → IsTurn did turn → TurnedTo later turn
-    by_move later did turn (comes live way_met (shown says stands can)) holds placed told =
+    pub by_move : (later : At) (did : Turn) (turn : LawTurn) → MoveLed f a ps (who + 1) own from at later did → IsTurn did turn → ActsTo later turn
+    by_move later did turn (comes live way_met (shown says stands can)) told =
         let (r, is, same) = subst (λ d. IsTurn d turn) says told in
-        let far = (subst (λ (l : At). IsPlaced l.place) stands placed).1 in
-        carried later (rested (On live.chain live.off)) turn (LawTurn.Ends (LawReply.Pair (key_at f.order a live.off) (data_at f.order a live.off))) stands (same ∙ ap LawTurn.Ends is)
-        (comes_turned live way_met (λ z. ap strength (holds z) ∙ (λ i. strength (held_moved own (who + 1) at ((stands i).place) (says i) (held ps) (who + 1) z)) ∙ came_to live.chain live.off (above live way_met) (omega (arith, far)) z))
-    by_move later did turn (comes live way_met (barred other byte says stays bar)) holds placed told =
+        carried later (rested (On live.chain live.off)) turn (LawTurn.Ends (LawReply.Pair (key_at f.order a live.off) (data_at f.order a live.off))) stands (same ∙ ap LawTurn.Ends is) (comes_turned live way_met)
+    by_move later did turn (comes live way_met (barred other byte says stays bar)) told =
         let (o, is, same) = subst (λ d. IsTurn d turn) says told in
         absurd (never_barred live way_met o byte (subst (λ q. IsKeptFrom (reads_all own) ps (who + 1) live.off Read q byte) is bar))
-    by_move later did turn (comes live way_met (wants says ended)) holds placed told = no_memory later did turn says ended holds told
-    by_move later did turn (stops chain other byte way_stops says stands) holds placed told =
+    by_move later did turn (comes live way_met (wants says ended)) told = no_memory later did turn says ended told
+    by_move later did turn (stops chain other byte way_stops says stands) told =
         let (o, is, same) = subst (λ d. IsTurn d turn) says told in
         carried later (rested (Before chain)) turn (LawTurn.Blocked o byte) stands same
-        (stops_turned moves_now chain o byte (subst (λ q. IsWay f a ps (who + 1) own (place_of from) (next_chain f from) (Way.Blocked chain q byte)) is way_stops)
-        (λ z. ap strength (holds z) ∙ (λ i. strength (held_moved own (who + 1) at ((stands i).place) (says i) (held ps) (who + 1) z)) ∙ gone_to (Before chain) refl z))
-    by_move later did turn (ends way_ends says ended) holds placed told =
+        (stops_turned moves_now chain o byte (subst (λ q. IsWay f a ps (who + 1) own (place_of from) (next_chain f from) (Way.Blocked chain q byte)) is way_stops))
+    by_move later did turn (ends way_ends says ended) told =
         let (r, is, same) = subst (λ d. IsTurn d turn) says told in
-        carried later (rested Past) turn (LawTurn.Ends LawReply.End) ended (same ∙ ap LawTurn.Ends is)
-        (ends_turned way_ends (λ z. ap strength (holds z) ∙ (λ i. strength (held_moved own (who + 1) at ((ended i).place) (says i) (held ps) (who + 1) z)) ∙ gone_to Past refl z))
-    by_move later did turn (gives_up says ended) holds placed told = no_memory later did turn says ended holds told
+        carried later (rested Past) turn (LawTurn.Ends LawReply.End) ended (same ∙ ap LawTurn.Ends is) (ends_turned way_ends)
+    by_move later did turn (gives_up says ended) told = no_memory later did turn says ended told

@@ -124,5 +124,5 @@ module _ (f : Form) (x : Own) (out : x.txn ≡ None) (n : ℕ) (m : Map) (later 
 
 pub cursor_shows : CursorShows
 cursor_shows f own x w at later gone n who ps qs a hands stood_on read_only v did turn tells told B T says stays =
-    turn_shows f x B.outside n (image_map f a) later w turn did stays says
+    turn_shows f x B.ready.outside n (image_map f a) later w turn did stays says
     (λ r is. subst (λ t. StandsAgain f own x w later t n (image_map f a)) is (cursor_stands_again f own x w at later gone n who ps qs a hands stood_on read_only v did turn tells told B T says) stays)

@@ -18,6 +18,7 @@ use Rattle.tdb_walk.specs.declared.stage.Act.{Act}
 use Rattle.tdb_walk.specs.declared.stage.Act.TheVariants.{Lock, Move, End}
 use Rattle.tdb_walk.specs.declared.purging.DeadRecord.{DeadRecord}
 use Rattle.tdb_walk.specs.NextLive.{StandsIn}
+use Rattle.tdb_walk.specs.ByteLocks.{only_reads}
 use Rattle.tdb_walk.specs.Cursors.LeaveLed.{leaves, cannot}
 use Rattle.tdb_walk.specs.Cursors.StepMade.{keeps, purges, waits, starves}
 use Rattle.tdb_walk.specs.Cursors.{At, HasToPurge, Knows, LeaveLed, StepMade, StepLed, StepMoved, StepTaken, act_of, last_of, spared_of, held_after}
@@ -65,14 +66,15 @@ from_stands f img goal place stage due from is knows =
 
 -- a turn that does what the place and the stage ask for
 pub taken_by : (told : Type 0) (f : Form) (img : List ℕ) (ps now : List Piece) (owner : ℕ) (own : HeldLocks) (stood_on : List ℕ) (goal : Goal) (read_only : Bool) (at later : At) (turn : Turn) (due : Bool) (act : Act)
-    → act ≡ act_of goal at.place at.stage due → StepLed ps owner own act (spared_of goal at.place) at later turn → ((o b : ℕ) → held now o b ≡ held_after own owner act at later turn (held ps) o b)
+    → act ≡ act_of goal at.place at.stage due → StepLed f ps owner own act (spared_of goal at.place) at later turn → (due ≡ true → only_reads own ≡ false) → ((o b : ℕ) → held now o b ≡ held_after own owner act at later turn (held ps) o b)
     → (told → (hands : List HandPair) → AcceptWith f img hands → Knows f img at.place at.stage
     → MatchBool due (HasToPurge f img own stood_on read_only at.place at.stage) (HasToPurge f img own stood_on read_only at.place at.stage → ⊥))
     → (told → (hands : List HandPair) → AcceptWith f img hands → Knows f img at.place at.stage → StepMoved f img ps owner own act at later turn)
     → StepTaken told f img ps now owner own stood_on goal read_only at later turn
-taken_by told f img ps now owner own stood_on goal read_only at later turn due act is led holds decided moved = record {
+taken_by told f img ps now owner own stood_on goal read_only at later turn due act is led writes holds decided moved = record {
   due = due;
-  led = subst (λ x. StepLed ps owner own x (spared_of goal at.place) at later turn) is led;
+  led = subst (λ x. StepLed f ps owner own x (spared_of goal at.place) at later turn) is led;
+  writes = writes;
   holds = λ o b. subst (λ x. held now o b ≡ held_after own owner x at later turn (held ps) o b) is (holds o b);
   decided = decided;
   moved = λ t hands A knows. subst (λ x. StepMoved f img ps owner own x at later turn) is (moved t hands A knows);

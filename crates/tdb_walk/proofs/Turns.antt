@@ -55,3 +55,7 @@ ok_more (Err e) more p = p
 pub ok_two : {V E : Type 0} {P Q R : V → Type 0} (r : Result V E) → ((v : V) → P v → Q v → R v) → IfOk r P → IfOk r Q → IfOk r R
 ok_two (Ok v) both p q = both v p q
 ok_two (Err e) both p q = p
+
+pub ok_three : {V E : Type 0} {P Q R S : V → Type 0} (r : Result V E) → ((v : V) → P v → Q v → R v → S v) → IfOk r P → IfOk r Q → IfOk r R → IfOk r S
+ok_three (Ok v) all p q s = all v p q s
+ok_three (Err e) all p q s = p

@@ -63,7 +63,8 @@ use Rattle.tdb_walk.proofs.Explicit.{one_at}
 use Rattle.tdb_walk.proofs.Holding.{stage_is}
 use Rattle.tdb_walk.proofs.Going.{blocks_rightly, ends_rightly}
 use Rattle.tdb_walk.proofs.Making.{dead_known}
-use Rattle.tdb_walk.proofs.OnTurned.{shown_of, memory_reply}
+use Rattle.tdb_walk.proofs.HeldOn.{shown_of}
+use Rattle.tdb_walk.proofs.HeldAfter.{memory_reply}
 use Rattle.tdb_walk.proofs.Rows.{never, own_is, moves_close}
 use Rattle.tdb_walk.proofs.Wanting.{moves_are}
 use Rattle.tdb_walk.proofs.WalkShown.{ahead_same, mapped_ahead, want_high}
@@ -267,7 +268,7 @@ module _ (f : Form) (own : HeldLocks) (x : Own) (w : WalkCommand) (at later : At
   start = begins f (OnWalk w) (old.own who) (old.spot who)
 
   moves_own : moves f (OnWalk w) (old.own who) ≡ walk_moves w x
-  moves_own = ap (λ y. moves f (OnWalk w) y) Z.own ∙ moves_are f w x B.outside
+  moves_own = ap (λ y. moves f (OnWalk w) y) Z.own ∙ moves_are f w x B.ready.outside
 
   old_ahead : (k : List ℕ) → (old.mark who).ahead k ≡ ahead_of f (chains_in f a) place k
   old_ahead k = ap (λ (m : Mark). m.ahead k) Z.mark
@@ -314,7 +315,7 @@ module _ (f : Form) (own : HeldLocks) (x : Own) (w : WalkCommand) (at later : At
   lock_walked lock act d is led = go d is led
     where
       L : IsLocking at.place at.stage over
-      L = act_locks f own x w at.place at.stage over T.due n lock B.stands act
+      L = act_locks f own x w at.place at.stage over T.due n lock B.ready.stands act
 
       unmoved : (k : List ℕ) → ahead_of f (chains_in f b) place k ≡ ahead_of f (chains_in f a) place k
       unmoved k = ahead_same f a b hands at later did place M (λ d e. absurd (none_some (sym L.none ∙ e))) k
@@ -330,7 +331,7 @@ module _ (f : Form) (own : HeldLocks) (x : Own) (w : WalkCommand) (at later : At
           (stays here (ap (λ t. is_dropped t w) same) unmoved)
       go (Turn.Done reply) is led =
           let (r, e, same) = subst (λ d. IsTurn d turn) is says in
-          memory_walked (is ∙ ap Turn.Done led.0) led.1 (λ next. act_shown f own x w at.place at.stage over n B.stands L.on (past_never f own x w over n at.place at.stage B.stands next)) (same ∙ ap LawTurn.Ends (memory_reply reply r led.0 e))
+          memory_walked (is ∙ ap Turn.Done led.0) led.1 (λ next. act_shown f own x w at.place at.stage over n B.ready.stands L.on (past_never f own x w over n at.place at.stage B.ready.stands next)) (same ∙ ap LawTurn.Ends (memory_reply reply r led.0 e))
 
   -- a leave
   end_walked : act_of (goal_of w) at.place at.stage T.due ≡ End → LeaveLed (dead_of at.place at.stage) Past (spared_of (goal_of w) at.place) (Turn.Done Reply.Ok) later did → Walked f old new who (OnWalk w) n turn
@@ -342,10 +343,10 @@ module _ (f : Form) (own : HeldLocks) (x : Own) (w : WalkCommand) (at later : At
       go Next e same = absurd (never_ends Goals.Next next_stays at.place at.stage T.due (subst (λ c. act_of (goal_of c) at.place at.stage T.due ≡ End) e act))
       go EndWalk e same =
           walk_ends LawReply.Done same (moves_own ∙ ap (λ d. walk_moves d x) e)
-          (λ some. absurd (false≢true (sym (ap (λ (y : Own). is_some y.cursor) Z.own_later ∙ (λ i. is_some (own_next f (e i) n x (image_map f a) (same i)).cursor) ∙ ap (λ (y : Own). is_some y.cursor) (own_is f EndWalk x B.outside n LawReply.Done (image_map f a))) ∙ some)))
+          (λ some. absurd (false≢true (sym (ap (λ (y : Own). is_some y.cursor) Z.own_later ∙ (λ i. is_some (own_next f (e i) n x (image_map f a) (same i)).cursor) ∙ ap (λ (y : Own). is_some y.cursor) (own_is f EndWalk x B.ready.outside n LawReply.Done (image_map f a))) ∙ some)))
       go Close e same =
           walk_ends LawReply.Done same (moves_own ∙ ap (λ d. walk_moves d x) e)
-          (λ some. absurd (false≢true (sym (ap (λ (y : Own). is_some y.cursor) Z.own_later ∙ (λ i. is_some (own_next f (e i) n x (image_map f a) (same i)).cursor) ∙ ap (λ (y : Own). is_some y.cursor) (own_is f Close x B.outside n LawReply.Done (image_map f a))) ∙ some)))
+          (λ some. absurd (false≢true (sym (ap (λ (y : Own). is_some y.cursor) Z.own_later ∙ (λ i. is_some (own_next f (e i) n x (image_map f a) (same i)).cursor) ∙ ap (λ (y : Own). is_some y.cursor) (own_is f Close x B.ready.outside n LawReply.Done (image_map f a))) ∙ some)))
   end_walked act (cannot dead is stands) =
       let (r, e, same) = subst (λ d. IsTurn d turn) is says in
       memory_walked is stands (λ next. absurd (never_ends Goals.Next next_stays at.place at.stage T.due (subst (λ c. act_of (goal_of c) at.place at.stage T.due ≡ End) next act))) (same ∙ ap LawTurn.Ends e)
@@ -353,18 +354,18 @@ module _ (f : Form) (own : HeldLocks) (x : Own) (w : WalkCommand) (at later : At
   -- a move
   module _ (act : act_of (goal_of w) at.place at.stage T.due ≡ Move from) where
     moving : walk_moves w x ≡ true
-    moving = act_moves f own x w at.place at.stage over T.due n from B.stands act
+    moving = act_moves f own x w at.place at.stage over T.due n from B.ready.stands act
 
     start_is : start ≡ starts w over
     start_is = λ i. is_first (OnWalk w) && ((moves_own ∙ moving) i && not (Z.spot i).gone)
 
     now_stays : start ≡ false → from ≡ at.place
-    now_stays e = not_begun f own x w at.place at.stage over n B.stands moving (sym start_is ∙ e)
+    now_stays e = not_begun f own x w at.place at.stage over n B.ready.stands moving (sym start_is ∙ e)
 
     holds : start ≡ false → (old.mark who).inside ≡ true → (k : List ℕ) → home f k + 1 ≡ (old.mark who).reached → 1 ≤ old.table who (chain_byte f k)
     holds e inside k here =
         let is = Z.locks (chain_byte f k) in
-        let least = chain_held f own x w at.place at.stage over T.due n who ps from B.outside B.stands B.holds act (sym start_is ∙ e) (sym (ap (λ (m : Mark). m.inside) Z.mark) ∙ inside) k (here ∙ ap (λ (m : Mark). m.reached) Z.mark) in
+        let least = chain_held f own x w at.place at.stage over T.due n who ps from B.ready.outside B.ready.stands B.ready.holds act (sym start_is ∙ e) (sym (ap (λ (m : Mark). m.inside) Z.mark) ∙ inside) k (here ∙ ap (λ (m : Mark). m.reached) Z.mark) in
         omega (arith, is, least)
 
     -- what is due is further on than the place from which it goes
@@ -373,8 +374,8 @@ module _ (f : Form) (own : HeldLocks) (x : Own) (w : WalkCommand) (at later : At
       where
         by_start : (z : Bool) → start ≡ z → (if start then has (seen (old.own who) old.file) k else (old.mark who).ahead k) ≡ true → ahead_of f (chains_in f a) (place_of from) k ≡ true
         by_start true e d =
-            let in_map : has (image_map f a) k ≡ true = sym (λ i. has (image_or (((ap (λ (y : Own). y.txn) Z.own) ∙ B.outside) i) (Z.file i)) k) ∙ sym (ap (λ z. cond z (has (seen (old.own who) old.file) k) ((old.mark who).ahead k)) e) ∙ d in
-            ap (λ p. ahead_of f (chains_in f a) (place_of p) k) (begun_first f own x w at.place at.stage over n B.stands (sym start_is ∙ e)) ∙ mapped_ahead f a hands B.accepted k in_map
+            let in_map : has (image_map f a) k ≡ true = sym (λ i. has (image_or (((ap (λ (y : Own). y.txn) Z.own) ∙ B.ready.outside) i) (Z.file i)) k) ∙ sym (ap (λ z. cond z (has (seen (old.own who) old.file) k) ((old.mark who).ahead k)) e) ∙ d in
+            ap (λ p. ahead_of f (chains_in f a) (place_of p) k) (begun_first f own x w at.place at.stage over n B.ready.stands (sym start_is ∙ e)) ∙ mapped_ahead f a hands B.accepted k in_map
         by_start false e d =
             ap (λ p. ahead_of f (chains_in f a) (place_of p) k) (now_stays e) ∙ sym (old_ahead k) ∙ sym (ap (λ z. cond z (has (seen (old.own who) old.file) k) ((old.mark who).ahead k)) e) ∙ d
 
@@ -428,7 +429,7 @@ module _ (f : Form) (own : HeldLocks) (x : Own) (w : WalkCommand) (at later : At
     stops_walked chain other byte W is there =
         let (o, e, same) = subst (λ d. IsTurn d turn) is says in
         let kept_mark : is_dropped turn w ≡ false = ap (λ t. is_dropped t w) same in
-        let goes = blocks_rightly f (chains_in f a) (place_of from) chain (entered f own x w at.place at.stage over n chain B.stands moving W.above W.below) W.passed in
+        let goes = blocks_rightly f (chains_in f a) (place_of from) chain (entered f own x w at.place at.stage over n chain B.ready.stands moving W.above W.below) W.passed in
         walk_halts o byte same (moves_own ∙ moving) (ap (λ (s : Spot). s.gone) Z.spot_later ∙ (λ i. (spot_next (same i) w (there i)).gone))
         (ap (λ (m : Mark). m.inside) (now (Before chain) None there goes kept_mark (λ d was e. off_record e))) (gone_on (Before chain) None there goes kept_mark (λ d was e. off_record e))
       where
@@ -439,7 +440,7 @@ module _ (f : Form) (own : HeldLocks) (x : Own) (w : WalkCommand) (at later : At
     ends_walked W is =
         let (r, e, same) = subst (λ d. IsTurn d turn) is says in
         walk_finishes (same ∙ ap LawTurn.Ends e) (moves_own ∙ moving)
-        (record { holds = holds; nothing = λ k due. absurd (false≢true (sym (ends_rightly f (chains_in f a) (place_of from) k B.few.some W.0) ∙ due_ahead k due)) })
+        (record { holds = holds; nothing = λ k due. absurd (false≢true (sym (ends_rightly f (chains_in f a) (place_of from) k B.ready.few.some W.0) ∙ due_ahead k due)) })
 
     -- no record's byte blocks it
     never_waits : (live : Live) → IsNext f a (place_of from) (Some live) → (other byte : ℕ) → did ≡ Turn.Blocked other byte → IsKeptFrom (reads_all own) ps (who + 1) live.off Read other byte → ⊥
@@ -452,7 +453,7 @@ module _ (f : Form) (own : HeldLocks) (x : Own) (w : WalkCommand) (at later : At
         by_effect o byte same (omega (arith, above, low)) C.effect
       where
         want_none : (z : ℕ) → data_start f ≤ z → wanted f (OnWalk w) x (decided (spot_in at over) v n) v n z ≡ 0
-        want_none z high = want_high f B.few w x (decided (spot_in at over) v n) v n z B.outside high
+        want_none z high = want_high f B.ready.few w x (decided (spot_in at over) v n) v n z B.ready.outside high
 
         by_effect : (o byte : ℕ) → turn ≡ LawTurn.Blocked o byte → data_start f ≤ byte → Effect f (IsFree (strengths ps) who (wanted f (OnWalk w) x (decided (spot_in at over) v n) v n)) (IsFirstConflict (strengths ps) who (wanted f (OnWalk w) x (decided (spot_in at over) v n) v n))
             (Finds f (strengths ps who) (wanted f (OnWalk w) x (decided (spot_in at over) v n) v n) (image_map f a)) (word f.order a sequence_at) (OnWalk w) n x (image_map f a) turn (own_next f w n x (image_map f a) turn) (image_map f b) → ⊥
@@ -484,7 +485,7 @@ module _ (f : Form) (own : HeldLocks) (x : Own) (w : WalkCommand) (at later : At
     move_walked (ends way is ended) = ends_walked way is
     move_walked (gives_up is ended) = (let (r, e, same) = subst (λ d. IsTurn d turn) is says in walk_fails (same ∙ ap LawTurn.Ends e) (moves_own ∙ moving))
 
-  each_walked : (act : Act) → act_of (goal_of w) at.place at.stage T.due ≡ act → StepLed ps (who + 1) own act (spared_of (goal_of w) at.place) at later did → StepMoved f a ps (who + 1) own act at later did → Walked f old new who (OnWalk w) n turn
+  each_walked : (act : Act) → act_of (goal_of w) at.place at.stage T.due ≡ act → StepLed f ps (who + 1) own act (spared_of (goal_of w) at.place) at later did → StepMoved f a ps (who + 1) own act at later did → Walked f old new who (OnWalk w) n turn
   each_walked (Lock lock) act led moved = lock_walked lock act did refl led
   each_walked (Move place2) act led moved = (let same = act_goes (goal_of w) at.place at.stage T.due place2 act in move_walked (act ∙ ap Move same) (subst (λ p. MoveLed f a ps (who + 1) own p at later did) same moved))
   each_walked End act led moved = end_walked act led

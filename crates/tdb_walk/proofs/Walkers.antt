@@ -80,7 +80,7 @@ module _ (f : Form) (own : HeldLocks) (w : WalkCommand) (at later : At) (gone : 
       subst (λ t. EffectBy t (old.spot who) (new.own who) x.txn) (sym held_so)
       (subst (λ s. EffectBy (strengths ps) s (new.own who) x.txn) (sym S.spot)
       (subst (λ y. EffectBy (strengths ps) (spot_in at gone) y x.txn) (sym S.own_later)
-      (subst (EffectBy (strengths ps) (spot_in at gone) (own_next f w n x m turn)) (sym B.outside) lawful.effect)))
+      (subst (EffectBy (strengths ps) (spot_in at gone) (own_next f w n x m turn)) (sym B.ready.outside) lawful.effect)))
 
   spot_so : SpotBy old.table (old.spot who) (new.own who) (new.spot who)
   spot_so =
@@ -92,12 +92,12 @@ module _ (f : Form) (own : HeldLocks) (w : WalkCommand) (at later : At) (gone : 
   settled_so : (t : LawTurn) → false ≡ settled_after f (OnWalk w) x n t false
   settled_so LawTurn.Step = sym (same_choice _ false)
   settled_so (LawTurn.Blocked o z) = refl
-  settled_so (LawTurn.Ends r) = sym (ap (λ s. cond (is_done r && settles_by s (OnWalk w) x) true false) (granted f w x B.outside) ∙ never_settles (is_done r) false)
+  settled_so (LawTurn.Ends r) = sym (ap (λ s. cond (is_done r && settles_by s (OnWalk w) x) true false) (granted f w x B.ready.outside) ∙ never_settles (is_done r) false)
 
   uncounted : (t : LawTurn) → 0 ≡ image_number_after f (OnWalk w) x t q 0
   uncounted LawTurn.Step = refl
   uncounted (LawTurn.Blocked o z) = refl
-  uncounted (LawTurn.Ends r) = sym (ap (λ s. cond (is_done r) (image_number_by s (OnWalk w) x q 0) 0) (granted f w x B.outside) ∙ same_choice (is_done r) 0)
+  uncounted (LawTurn.Ends r) = sym (ap (λ s. cond (is_done r) (image_number_by s (OnWalk w) x q 0) 0) (granted f w x B.ready.outside) ∙ same_choice (is_done r) 0)
 
   other_table : (o z : ℕ) → o ≢ who → new.table o z ≡ old.table o z
   other_table o z ne = S.table_others o z ne ∙ lawful.others o z ne ∙ sym (S.table o z)

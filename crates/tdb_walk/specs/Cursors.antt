@@ -1,9 +1,10 @@
 -- Where a cursor stands, what it holds, and what each of its turns does.
-use Rattle.std.specs.Prelude.{◌≡◌, ℕ, ◌%◌, ◌<◌, ◌^◌, Bool, false, List, Option, Some, None, Contains, MatchBool, if◌then◌else◌, ◌==◌, ◌||◌}
+use Rattle.std.specs.Prelude.{◌≡◌, ℕ, ◌%◌, ◌≤◌, ◌<◌, ◌^◌, Bool, true, false, List, Option, Some, None, Contains, MatchBool, if◌then◌else◌, ◌==◌, ◌||◌}
 use Rattle.tdb_words.specs.declared.record.TheConstants.{USED}
-use Rattle.tdb_space.specs.Form.{Form}
+use Rattle.tdb_space.specs.Form.{Form, data_start}
 use Rattle.tdb_space.specs.Record.{key_at, data_at, magic_of}
 use Rattle.tdb_space.specs.Chain.{chain_of, Member}
+use Rattle.tdb_space.specs.Pairs.{home}
 use Rattle.tdb_space.specs.Extents.{HandPair}
 use Rattle.tdb_space.specs.Accepted.{AcceptWith}
 use Rattle.tdb_locks.specs.HeldLocks.{HeldLocks}
@@ -217,11 +218,21 @@ pub data MoveLed (f : Form) (img : List ℕ) (ps : List Piece) (owner : ℕ) (ow
   ends : IsWay f img ps owner own (place_of from) (next_chain f from) Way.End → turn ≡ Done Reply.End → later ≡ rested Past → MoveLed f img ps owner own from at later turn
   gives_up : turn ≡ Done Reply.Memory → later ≡ rested Past → MoveLed f img ps owner own from at later turn
 
--- what a turn does that needs no bytes of the file
-abbrev pub StepLed : List Piece → ℕ → HeldLocks → Act → Standing → At → At → Turn → Type 0
-StepLed ps owner own (Lock lock) spared at later turn = LockLed ps owner own lock spared at later turn
-StepLed ps owner own (Move from) spared at later turn = Unit {0}
-StepLed ps owner own End spared at later turn = LeaveLed (dead_of at.place at.stage) Past spared (Done Reply.Ok) later turn
+-- A turn that moves on, whatever the bytes of the file are. It shows a pair, and the cursor stands behind the heads of all chains, on a
+-- record of the chain in which the pair's key is filed, and reads the record's byte; or another opener holds what it wants, and the
+-- cursor is as it was, or stands before a chain; or it ends, or memory is wanting, and the cursor has ended.
+pub data WentTo (f : Form) (ps : List Piece) (owner : ℕ) (own : HeldLocks) (at later : At) (turn : Turn) : Type 0 where
+  arrives : (key value : List ℕ) (off : ℕ) → turn ≡ Done (Reply.Pair key value) → later ≡ rested (On (home f key) off) → data_start f ≤ off → CanHold (reads_all own) ps owner off Read → WentTo f ps owner own at later turn
+  held_up : (other byte : ℕ) → turn ≡ Blocked other byte → later ≡ at → WentTo f ps owner own at later turn
+  halts : (chain other byte : ℕ) → turn ≡ Blocked other byte → later ≡ rested (Before chain) → WentTo f ps owner own at later turn
+  finishes : turn ≡ Done Reply.End → later ≡ rested Past → WentTo f ps owner own at later turn
+  lacks : turn ≡ Done Reply.Memory → later ≡ rested Past → WentTo f ps owner own at later turn
+
+-- what a turn does whatever the bytes of the file are
+abbrev pub StepLed : Form → List Piece → ℕ → HeldLocks → Act → Standing → At → At → Turn → Type 0
+StepLed f ps owner own (Lock lock) spared at later turn = LockLed ps owner own lock spared at later turn
+StepLed f ps owner own (Move from) spared at later turn = WentTo f ps owner own at later turn
+StepLed f ps owner own End spared at later turn = LeaveLed (dead_of at.place at.stage) Past spared (Done Reply.Ok) later turn
 
 -- where a turn moves to
 abbrev pub StepMoved : Form → List ℕ → List Piece → ℕ → HeldLocks → Act → At → At → Turn → Type 0
@@ -230,10 +241,12 @@ StepMoved f img ps owner own (Move from) at later turn = MoveLed f img ps owner 
 StepMoved f img ps owner own End at later turn = Unit {0}
 
 -- A turn of a cursor, over an image that a contract may see: whether the record on which the cursor stands has to be purged is decided
--- where no command is under way yet, and the turn does what follows from that, from the place, and from how far the command is.
+-- where no command is under way yet, never where its opener may change no chain, and the turn does what follows from that, from the
+-- place, and from how far the command is.
 pub record StepTaken (told : Type 0) (f : Form) (img : List ℕ) (ps now : List Piece) (owner : ℕ) (own : HeldLocks) (stood_on : List ℕ) (goal : Goal) (read_only : Bool) (at later : At) (turn : Turn) : Type 0 where
   pub due : Bool
-  pub led : StepLed ps owner own (act_of goal at.place at.stage due) (spared_of goal at.place) at later turn
+  pub led : StepLed f ps owner own (act_of goal at.place at.stage due) (spared_of goal at.place) at later turn
+  pub writes : due ≡ true → only_reads own ≡ false
   pub holds : (o b : ℕ) → held now o b ≡ held_after own owner (act_of goal at.place at.stage due) at later turn (held ps) o b
   pub decided : told → (hands : List HandPair) → AcceptWith f img hands → Knows f img at.place at.stage
       → MatchBool due (HasToPurge f img own stood_on read_only at.place at.stage) (HasToPurge f img own stood_on read_only at.place at.stage → ⊥)

@@ -148,18 +148,23 @@ spot_in at gone = record { stands = spot_of at.place; purging = is_purging at.st
 abbrev pub strengths : List Piece → ℕ → ℕ → ℕ
 strengths ps o b = strength (held ps (o + 1) b)
 
--- Before a turn of a cursor, whose opener is x and has had n steps of a command: what it holds is what the law says;
--- others' locks don't conflict with that, and who holds a record's byte for writing holds every chain's so. The image
--- is accepted, and is as the cursor knows it.
-pub record CursorBefore (f : Form) (own : HeldLocks) (x : Own) (w : WalkCommand) (at : At) (gone : Bool) (n who : ℕ) (ps : List Piece) (img : List ℕ) (hands : List HandPair) (stood_on : List ℕ) (read_only : Bool) (v : View) : Type 0 where
+-- Before a turn of a cursor, whose opener is x and has had n steps of a command, whatever the bytes of the file are: the
+-- cursor stands as after these steps, what its opener holds is what the law says, and others' locks don't conflict with
+-- that.
+pub record CursorReady (f : Form) (own : HeldLocks) (x : Own) (w : WalkCommand) (at : At) (gone : Bool) (n who : ℕ) (ps : List Piece) : Type 0 where
   pub few : HasFewChains f
   pub outside : x.txn ≡ None
   pub explicit : HoldsExplicit own x
   pub placed : IsPlaced at.place
   pub stands : StandsAfter f own x w at.place at.stage gone n
-  pub view : IsView f img own stood_on read_only (goal_of w) at.place v
   pub holds : (b : ℕ) → strengths ps who b ≡ holding f x (spot_in at gone) (Some (record { command = OnWalk w; steps = n })) b
   pub apart : (o b : ℕ) → o ≢ who → strengths ps who b + strengths ps o b ≤ 2
+
+-- Over an image that a contract may see: besides, who holds a record's byte for writing holds every chain's so, and the
+-- image is accepted, and is as the cursor knows it.
+pub record CursorBefore (f : Form) (own : HeldLocks) (x : Own) (w : WalkCommand) (at : At) (gone : Bool) (n who : ℕ) (ps : List Piece) (img : List ℕ) (hands : List HandPair) (stood_on : List ℕ) (read_only : Bool) (v : View) : Type 0 where
+  pub ready : CursorReady f own x w at gone n who ps
+  pub view : IsView f img own stood_on read_only (goal_of w) at.place v
   pub wide : (o b : ℕ) (k : List ℕ) → o ≢ who → data_start f ≤ b → 2 ≤ strengths ps o b → 2 ≤ strengths ps o (chain_byte f k)
   pub accepted : AcceptWith f img hands
   pub known : Knows f img at.place at.stage

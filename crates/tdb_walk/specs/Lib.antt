@@ -8,4 +8,5 @@ pub mod Purging
 pub mod Laws
 pub mod InLaw
 pub mod Again
+pub mod Holds
 pub mod Walkers

@@ -1,17 +1,19 @@
 // A cursor, turn by turn.
 
-ghost use Rattle.std.specs.Prelude.{◌≡◌, ◌≤◌, ◌%◌, ◌<◌, ◌^◌, IsTrue, List, ℕ, None, IfOk, OnErr, MatchBool};
+ghost use Rattle.std.specs.Prelude.{◌≡◌, ◌≤◌, ◌%◌, ◌<◌, ◌^◌, IsTrue, true, false, List, ℕ, None, IfOk, OnErr, MatchBool};
 ghost use Rattle.tdb_disk.specs.Count.{HasCause};
 ghost use Rattle.tdb_words.specs.Record.{rec_at};
 ghost use Rattle.tdb_space.specs.Form.{Form};
 ghost use Rattle.tdb_space.specs.Frame.{Looked, Wrote};
 ghost use Rattle.tdb_space.specs.Extents.{HandPair};
+ghost use Rattle.tdb_space.specs.Record.{key_at};
+ghost use Rattle.tdb_space.specs.Pairs.{home};
 ghost use Rattle.tdb_space.specs.Accepted.{AcceptWith};
 ghost use Rattle.tdb_locks.specs.LockTable.{held};
 ghost use Rattle.tdb_walk.specs.NextLive.{StandsIn, IsWithin};
 ghost use Rattle.tdb_walk.specs.Way.{SameOthers, SameLocks};
-ghost use Rattle.tdb_walk.specs.ByteLocks.{HoldsWords};
-ghost use Rattle.tdb_walk.specs.Cursors.{rested, IsPlaced, spot_of, dead_of, HasToPurge, Knows, let_go, held_moved, held_locked, LockLed, LeaveLed, Came, MoveLed, StepTaken, StepMade, shown_after};
+ghost use Rattle.tdb_walk.specs.ByteLocks.{HoldsWords, only_reads};
+ghost use Rattle.tdb_walk.specs.Cursors.{rested, IsPlaced, spot_of, dead_of, HasToPurge, Knows, let_go, held_moved, held_locked, LockLed, LeaveLed, Came, WentTo, MoveLed, StepTaken, StepMade, shown_after};
 ghost use Rattle.tdb_locks.specs.declared.turn.Reply.TheVariants.{Memory};
 ghost use Rattle.tdb_locks.specs.declared.turn.Turn.TheVariants.{Done};
 ghost use Rattle.tdb_walk.specs.declared.standing.Standing.TheVariants.{Before, Past};
@@ -19,7 +21,7 @@ ghost use Rattle.tdb_walk.specs.declared.standing.Standing.TheVariants.{Before, 
 use crate::live::Live;
 use crate::locking::{let_go_byte, may_read_all, only_reads, take_byte};
 use crate::looking::{lock_byte, may_read};
-use crate::pair::pair_and_key;
+use crate::pair::{is_filed, pair_and_key};
 use crate::purging::{DeadRecord, is_dead, prepare_purge, purge_prepared};
 use crate::refusal::WalkRefusal;
 use crate::stage::{Act, FREE_BYTE, Goal, Stage, StepLock};
@@ -99,6 +101,7 @@ impl Cursor {
         stood_on: &Spots,
         read_only: bool,
     ) -> Result<bool, Io>
+        ensures writes { IfOk result (λ due. due ≡ true → only_reads own.now ≡ false) }
         ensures decided { IfOk result (λ due. IsTrue S.tells → (hands : List HandPair) → AcceptWith (S.form s.old) (S.image s.old) hands → Knows (S.form s.old) (S.image s.old) self.now.place self.now.stage
             → MatchBool due (HasToPurge (S.form s.old) (S.image s.old) own.now stood_on.now read_only self.now.place self.now.stage)
             (HasToPurge (S.form s.old) (S.image s.old) own.now stood_on.now read_only self.now.place self.now.stage → ⊥)) }
@@ -230,6 +233,8 @@ impl Cursor {
 
     /// Comes to a record: reads its pair, takes its byte for reading, purges the dead record that it leaves, if that is
     /// due, and lets go of what it held. `shown` is the pair's key then. Memory for all of it is taken before the purge.
+    /// Where the key is filed in another chain than that of the record, which it isn't in an accepted file, the cursor
+    /// ends instead. That takes a pass over the key.
     fn come_to<S: Space>(
         &mut self,
         alloc: Global,
@@ -244,7 +249,9 @@ impl Cursor {
         requires words { HoldsWords own.now owner locks.old }
         ensures words { HoldsWords own.now owner locks.new }
         ensures came { IfOk result (λ turn. IsTrue S.tells → live.rec ≡ rec_at (S.form s.old).order (S.image s.old) live.off
+            → home (S.form s.old) (key_at (S.form s.old).order (S.image s.old) live.off) ≡ live.chain
             → Came (S.form s.old) (S.image s.old) locks.old owner own.now live self.old self.new turn) }
+        ensures went { IfOk result (WentTo (S.form s.old) locks.old owner own.now self.old self.new) }
         ensures made { IfOk result (λ turn. IsTrue S.tells → S.size s.old < 2 ^ 32 → (hands : List HandPair) → AcceptWith (S.form s.old) (S.image s.old) hands
             → Knows (S.form s.old) (S.image s.old) self.old.place self.old.stage → StepMade (S.form s.old) (S.image s.old) (S.image s.new) hands self.old self.new turn) }
         ensures locks { IfOk result (λ turn. (o b : ℕ) → held locks.new o b ≡ held_moved own.now owner self.old self.new.place turn (held locks.old) o b) }
@@ -264,6 +271,10 @@ impl Cursor {
             Err(WalkRefusal::Io) => return Err(Io),
             Err(WalkRefusal::Memory) => return Ok(self.give_up(locks, owner, own)),
         };
+        if !is_filed(s, live.chain, &key) {
+            let told = Turn::Done(Reply::End);
+            return self.depart(s, locks, owner, own, Standing::Past, Standing::Past, told);
+        }
         let dead = match prepare_purge(s, self.dead()) {
             Ok(dead) => dead,
             Err(WalkRefusal::Io) => return Err(Io),
@@ -297,6 +308,7 @@ impl Cursor {
         ensures words { HoldsWords own.now owner locks.new }
         ensures moved { IfOk result (λ turn. IsTrue S.tells → (hands : List HandPair) → AcceptWith (S.form s.old) (S.image s.old) hands
             → StandsIn (S.form s.old) (S.image s.old) from → MoveLed (S.form s.old) (S.image s.old) locks.old owner own.now from self.old self.new turn) }
+        ensures went { IfOk result (WentTo (S.form s.old) locks.old owner own.now self.old self.new) }
         ensures made { IfOk result (λ turn. IsTrue S.tells → S.size s.old < 2 ^ 32 → (hands : List HandPair) → AcceptWith (S.form s.old) (S.image s.old) hands
             → Knows (S.form s.old) (S.image s.old) self.old.place self.old.stage → StepMade (S.form s.old) (S.image s.old) (S.image s.new) hands self.old self.new turn) }
         ensures locks { IfOk result (λ turn. (o b : ℕ) → held locks.new o b ≡ held_moved own.now owner self.old self.new.place turn (held locks.old) o b) }
@@ -346,7 +358,9 @@ impl Cursor {
     /// replaces it.
     ///
     /// First and Next end with the pair of the next live record, on which the cursor stands then, or with `End` where
-    /// none is left, and Leave with `Ok`. A cursor that leaves a dead record purges it, unless another one stands on
+    /// none is left, and Leave with `Ok`. They end with `End` too at a record whose key is filed in another chain, which
+    /// no accepted file has: so a cursor stands on a record of the chain of the key that it has shown, whatever the bytes
+    /// of the file are. A cursor that leaves a dead record purges it, unless another one stands on
     /// it, or the opener may not change the chain: since the file is `read_only`, or since it holds all records for
     /// reading alone (under which no record can have died). This is decided where no lock of the command is taken yet;
     /// then two turns lock the chain and the free list for writing, and the third one purges the record, with the move
@@ -361,8 +375,8 @@ impl Cursor {
     /// in a turn that purges the record may be in its chain, in no list, or in the free list, and the opener may hold
     /// the byte of the next live record.
     ///
-    /// The cost is that of `move_on`, of reading one pair, and of a purge that of `purge_dead`; where it stands on a
-    /// record 24 bytes more.
+    /// The cost is that of `move_on`, of reading one pair with a pass over its key, and of a purge that of `purge_dead`;
+    /// where it stands on a record 24 bytes more.
     pub fn step<S: Space>(
         &mut self,
         alloc: Global,

@@ -1,6 +1,7 @@
 // The laws of moves, and of the turns of cursors in a world.
 
 ghost use Rattle.tdb_walk.specs.Again.{CursorStandsAgain, CursorShows, CursorBegins, CursorLeavesOthers};
+ghost use Rattle.tdb_walk.specs.Holds.{CursorHolds};
 ghost use Rattle.tdb_walk.specs.Laws.{MovesAreWalks};
 ghost use Rattle.tdb_walk.specs.Walkers.{CursorIsTurned};
 ghost use Rattle.tdb_walk.specs.InLaw.{CursorIsLawful, WalkIsLawful, OthersStay, ViewIsSo};
@@ -32,4 +33,11 @@ pub fn cursors_go_on()
     ensures shows { CursorShows }
     ensures begins { CursorBegins }
     ensures others { CursorLeavesOthers }
+{}
+
+/// What a cursor holds after each turn, and where it stands then, whatever the bytes of the file are: what its opener
+/// holds is what the law of reports says, and its next turn is one of that law again, or it rests. The law is over all
+/// turns; the function does nothing.
+pub fn cursors_hold()
+    ensures law { CursorHolds }
 {}

@@ -16,7 +16,7 @@ mod standing;
 mod way;
 
 pub use crate::cursor::Cursor;
-pub use crate::laws::{cursors_are_lawful, cursors_go_on, moves_are_walks};
+pub use crate::laws::{cursors_are_lawful, cursors_go_on, cursors_hold, moves_are_walks};
 pub use crate::live::Live;
 pub use crate::pair::pair_at;
 pub use crate::purging::purge_dead;

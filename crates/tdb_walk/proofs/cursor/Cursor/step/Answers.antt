@@ -6,9 +6,9 @@ use Rattle.tdb_locks.specs.declared.turn.Reply.{Reply}
 use Rattle.tdb_locks.specs.declared.turn.Turn.TheVariants.{Done}
 use Rattle.tdb_walk.specs.declared.standing.Standing.TheVariants.{Past}
 use Rattle.tdb_walk.specs.NextLive.{StandsIn}
-use Rattle.tdb_walk.specs.Cursors.{At, Knows, LeaveLed, MoveLed, StepMade, act_of, dead_of, spared_of}
+use Rattle.tdb_walk.specs.Cursors.{At, Knows, LeaveLed, MoveLed, StepMade, WentTo, act_of, dead_of, spared_of}
 use Rattle.tdb_walk.proofs.Views.{moved}
-use Rattle.tdb_walk.proofs.Turns.{ok_two}
+use Rattle.tdb_walk.proofs.Turns.{ok_two, ok_three}
 use Rattle.tdb_walk.proofs.Making.{made_then, moved_knows}
 use Rattle.tdb_walk.proofs.Stepping.{from_stands, taken_by, left_knows}
 use Rattle.tdb_walk.proofs.cursor.Cursor.step.Goals as goal
@@ -23,12 +23,13 @@ returns-in-Move-clause-taken g c =
     let looked = c.in_ok-due.ensures.looked in
     let later = c.move_turn.new.self in
     let same = sym c.in-Move.is ∙ c.of.ensures ∙ ap (λ (a : At). act_of c.args.goal a.place a.stage due) c.self.view_is in
-    ok_two c.move_turn.result (λ turn led locks.
-    taken_by (IsTrue g.S.Space.tells) f img c.args.locks.now c.move_turn.new.locks c.args.owner c.args.own.now c.args.stood_on.now c.args.goal c.args.read_only at later turn due (Move from) same tt locks
+    ok_three c.move_turn.result (λ turn led went locks.
+    taken_by (IsTrue g.S.Space.tells) f img c.args.locks.now c.move_turn.new.locks c.args.owner c.args.own.now c.args.stood_on.now c.args.goal c.args.read_only at later turn due (Move from) same
+    (subst (λ h. WentTo h c.args.locks.now c.args.owner c.args.own.now at later turn) looked.form went) c.in_ok-due.ensures.writes locks
     (λ told hands A knows. c.in_ok-due.ensures.decided told hands A knows)
     (λ told hands A knows. moved (λ x i. AcceptWith x i hands → StandsIn x i from → MoveLed x i c.args.locks.now c.args.owner c.args.own.now from at later turn) f (g.S.Space.form c.has_to_purge.new.s) img (g.S.Space.image c.has_to_purge.new.s)
     looked.form looked.image (led told hands) A (from_stands f img c.args.goal at.place at.stage due from same knows)))
-    c.move_turn.ensures.moved c.move_turn.ensures.locks
+    c.move_turn.ensures.moved c.move_turn.ensures.went c.move_turn.ensures.locks
 
 pub returns-in-Move-clause-made : goal.returns-in-Move-clause-made
 returns-in-Move-clause-made g c =
