@@ -3,7 +3,7 @@
 ghost use Rattle.tdb_locks.specs.HeldLocks.{nothing_held};
 ghost use Rattle.tdb_walk.specs.ByteLocks.{HoldsWords};
 
-use crate::moves::{HEADER as SMALL, file as small_file};
+use crate::moves::{HEADER as SMALL, file as small_file, image as small_image, put_word};
 use std::alloc::{AllocError, Global};
 use std::test::Fail;
 use tdb_disk::{Call, MemDisk};
@@ -302,6 +302,26 @@ fn walks_through_three_records(rt: HostRuntime) -> Result<(), Fail> {
             (None, 0),
             (Some(728), 1)
         ]
+    );
+    Ok(())
+}
+
+// Another process writes the key "c" over the "b" of chain 70, where the stock library files it in chain 2: the walk ends
+// there.
+#[test]
+fn ends_at_a_key_of_another_chain(rt: HostRuntime) -> Result<(), Fail> {
+    let alloc = rt.alloc();
+    let mut disk = small_file(alloc)?;
+    let mut image = small_image(alloc)?;
+    put_word(&mut image, 816, 0x6342_4242);
+    let mut written = MemDisk::new(alloc, &image)?;
+    let (mut locks, mut cursor) = (Locks::new(alloc), Cursor::new());
+    let first = stands(alloc, &mut disk, &mut locks, &mut cursor, Goal::First)?;
+    let second = stands(alloc, &mut disk, &mut locks, &mut cursor, Goal::Next)?;
+    let end = stands(alloc, &mut written, &mut locks, &mut cursor, Goal::Next)?;
+    assert_eq!(rt;
+        [first, second, end],
+        [(Some(728), 1), (Some(760), 1), (None, 0)]
     );
     Ok(())
 }

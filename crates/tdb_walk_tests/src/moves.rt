@@ -59,18 +59,22 @@ const WORDS: [(usize, u32); 31] = [
     (820, 32),
 ];
 
-fn put_word(image: &mut [u8], at: usize, word: u32) {
+pub(crate) fn put_word(image: &mut [u8], at: usize, word: u32) {
     if at <= image.len() && image.len() - at >= 4 {
         image[at..at + 4].copy_from_slice(&word_bytes(word, Order::Big));
     }
 }
 
-pub(crate) fn file(alloc: Global) -> Result<MemDisk, AllocError> {
+pub(crate) fn image(alloc: Global) -> Result<Vec<u8>, AllocError> {
     let mut image = vec![in alloc; 0u8; 824]?;
     for (at, word) in &WORDS {
         put_word(&mut image, *at, *word);
     }
-    MemDisk::new(alloc, &image)
+    Ok(image)
+}
+
+pub(crate) fn file(alloc: Global) -> Result<MemDisk, AllocError> {
+    MemDisk::new(alloc, &image(alloc)?)
 }
 
 // The chain and the offset of the record that a move of opener 1 comes to, or the chain, the opener and the byte that
