@@ -17,12 +17,15 @@ use Rattle.tdb_steps.specs.Holdings.{table_of}
 use Rattle.tdb_world.specs.Given.{IsWellHeld}
 use Rattle.tdb_world.specs.declared.options.Options.{Options}
 use Rattle.tdb_world.specs.declared.opener.Opener.{Opener}
-use Rattle.tdb_world.specs.Openers.{no_cursor, options_of, own_of, own_with, own_at, task_at, law_task, hands_of_task, hands_at, TaskStands, TaskKnows, OpenerKnows}
+use Rattle.tdb_law.specs.Layout.{chains_in, mark_of}
+use Rattle.tdb_law.specs.Walks.{Shift}
+use Rattle.tdb_walk.specs.InLaw.{spot_in, is_before}
+use Rattle.tdb_world.specs.Openers.{no_cursor, no_walk, rest_of, options_of, own_of, own_with, own_at, spot_at, place_at, task_at, law_task, hands_of_task, hands_at, TaskStands, TaskKnows, OpenerKnows, WalkStands}
 use Rattle.tdb_world.specs.States.{WorldStands}
 use Rattle.tdb_world.specs.Laws.{IsJoined, JoinKeepsWorld, JoinKeepsFile, JoinJoins, EmptyStands, EmptyFileStands, EmptyIsLoaded}
 use Rattle.tdb_world.proofs.Standing.{Holds, IsSet, world_set, held_still}
 use Rattle.tdb_world.proofs.AllHands.{joined_same}
-use Rattle.tdb_world.proofs.Lifting.{still_shift}
+use Rattle.tdb_world.proofs.StillWalks.{still_shift}
 use Rattle.tdb_world.proofs.Opening.{nobody_holds, nobody_opens}
 
 at_end : (xs : List Opener) (y : Opener) → slice_get (xs ++ (y ∷ [])) (length xs) ≡ Some y
@@ -39,6 +42,9 @@ nothing_counts : AreCounts []
 unfolding IsStrictlySortedBy
 nothing_counts = record { in_order = tt; keys = All-nil _; counts = All-nil _ }
 
+no_walk_stands : (f : Form) → WalkStands f no_walk
+no_walk_stands f = record { placed = tt; rests = (refl, refl); none = refl }
+
 pub nothing_well : IsWellHeld nothing_held
 nothing_well = record { counts = nothing_counts; taken = tt; apart = λ e. absurd (never_true e); few = omega arith }
 
@@ -54,19 +60,25 @@ module _ (xs ys : List Opener) (y : Opener) (J : IsJoined xs y ys) where
 
   -- it has what an opener has that hasn't joined, but that it is live
   new_own : (options : Options) → own_of options y ≡ own_with options true nothing_held no_cursor
-  new_own options = ap (λ l. own_with options l y.held no_cursor) J.live ∙ ap (λ h. own_with options true h no_cursor) J.nothing
+  new_own options =
+      ap (λ l. own_with options l y.held (rest_of y.walk)) J.live ∙ (ap (λ h. own_with options true h (rest_of y.walk)) J.nothing ∙ ap (λ w. own_with options true nothing_held (rest_of w)) J.bare)
+
+  -- its cursor stands nowhere
+  new_spot : spot_at (Some y) ≡ nowhere
+  new_spot = ap (λ w. spot_in w.cursor (is_before w.cursor.place)) J.bare
 
   -- it holds nothing, as before
   new_holds : (f : Form) (options : Options) (ps : List Piece) (a : List ℕ) (size : ℕ) → WorldStands f options xs ps a size → (b : ℕ) → Holds f options ps (length xs) (Some y) b
   new_holds f options ps a size W b =
       let before : table_of ps (length xs + 1) b ≡ holding f (nobody (options_of options)) nowhere None b =
-      W.sound.agrees (length xs) b ∙ ap (λ z. holding f (own_at options z) nowhere (task_at z) b) (slice_get_past xs (length xs) (le_refl (length xs))) in
-      before ∙ sym (ap (λ z. holding f (own_of options y) nowhere (law_task z) b) J.idle ∙ ap (λ w. holding f w nowhere None b) (new_own options))
+      W.sound.agrees (length xs) b ∙ ap (λ z. holding f (own_at options z) (spot_at z) (task_at z) b) (slice_get_past xs (length xs) (le_refl (length xs))) in
+      before
+      ∙ sym (ap (λ z. holding f (own_of options y) (spot_at (Some y)) (law_task z) b) J.idle ∙ (ap (λ w. holding f w (spot_at (Some y)) None b) (new_own options) ∙ ap (λ s. holding f (own_with options true nothing_held no_cursor) s None b) new_spot))
 
 pub join_keeps_world : JoinKeepsWorld
 join_keeps_world f options xs ys ps a size y W J few =
     world_set f options xs ys ps ps a a size size (length xs) y W (is_set xs ys y J) (held_still f options xs ps a size (length xs) y W (new_holds xs ys y J f options ps a size W))
-    (record { stands = (subst IsWellHeld (sym J.nothing) nothing_well, subst (λ z. TaskStands f (own_of options y) z size) (sym J.idle) tt); busy_live = λ t e. J.live })
+    (record { stands = (subst IsWellHeld (sym J.nothing) nothing_well, subst (λ z. TaskStands f (own_of options y) z size) (sym J.idle) tt, subst (WalkStands f) (sym J.bare) (no_walk_stands f)); busy_live = λ t e. J.live })
     (le_refl size) (let more = one_more xs ys y J in omega (arith, more, few)) W.short
 
 pub join_keeps_file : JoinKeepsFile
@@ -97,17 +109,17 @@ join_joins f options xs ys ps a size y W J few = record {
     file = refl;
     task = λ o ne. ap task_at (S.others o ne);
     own = λ o ne. ap (own_at options) (S.others o ne);
-    spot = λ o ne. refl;
+    spot = λ o ne. ap spot_at (S.others o ne);
     table = λ o b ne. refl;
-    walk = λ o ne. still_shift f _ _;
+    walk = λ o ne. subst (λ p. Shift f (λ k. ⊥) (mark_of f (chains_in f a) (place_at (slice_get xs o))) (mark_of f (chains_in f a) p)) (sym (ap place_at (S.others o ne))) (still_shift f _ _);
     number = refl;
     image_number = λ o. refl;
     settled = refl;
   };
   nothing = record {
     task = ap task_at S.there ∙ ap law_task J.idle;
-    spot = refl;
-    table = λ b. W.sound.agrees (length xs) b ∙ (ap (λ z. holding f (own_at options z) nowhere (task_at z) b) nobody_there ∙ nobody_holds f options b);
+    spot = ap spot_at S.there ∙ new_spot xs ys y J;
+    table = λ b. W.sound.agrees (length xs) b ∙ (ap (λ z. holding f (own_at options z) (spot_at z) (task_at z) b) nobody_there ∙ nobody_holds f options b);
   };
   own = ap (own_at options) S.there ∙ (new_own xs ys y J options ∙ sym (ap (λ z. opened (own_at options z)) nobody_there));
   joined = one_more xs ys y J;

@@ -1,13 +1,13 @@
 -- Openers who come to a world, and commands that are given there: it stands as before, and the law says so.
-use Rattle.std.proofs.Common.{◌≡◌, ℕ, ◌+◌, ◌<◌, List, [], ◌∷◌, ◌++◌, length, slice_get, Option, Some, Result, Ok, Err, IfOk, OnOk, refl, sym, ap, subst, arith}
+use Rattle.std.proofs.Common.{◌≡◌, ℕ, ◌+◌, ◌<◌, List, [], ◌∷◌, ◌++◌, length, slice_get, Option, Some, None, Result, Ok, Err, IfOk, OnOk, refl, sym, ap, subst, arith}
 use Rattle.tdb_space.specs.Form.{form_in}
-use Rattle.tdb_locks.specs.HeldLocks.{AreCounts}
 use Rattle.tdb_words.specs.declared.header.Header.{Header}
 use Rattle.tdb_law.specs.Events.{Joins, Given}
 use Rattle.tdb_plays.specs.declared.command.Command.{Command}
 use Rattle.tdb_plays.specs.InLaw.{law_opener, law_command}
 use Rattle.tdb_world.specs.declared.opener.Opener.{Opener}
 use Rattle.tdb_world.specs.declared.job.Task.{Task}
+use Rattle.tdb_world.specs.Given.{IsWellHeld}
 use Rattle.tdb_world.specs.Openers.{OpenerStands, command_in}
 use Rattle.tdb_world.specs.Laws.{IsJoined, IsGiven}
 use Rattle.tdb_world.specs.Worlds.{World, state_in, Stands, BytesStand, fresh, IsFree, IsAssigned}
@@ -29,7 +29,7 @@ abbrev with_fresh : World → World
 with_fresh w = record w { openers = w.openers ++ (fresh ∷ []) }
 
 is_joined : (xs : List Opener) → IsJoined xs fresh (xs ++ (fresh ∷ []))
-is_joined xs = record { pushed = refl; live = refl; idle = refl; nothing = refl }
+is_joined xs = record { pushed = refl; live = refl; idle = refl; nothing = refl; bare = refl }
 
 module _ (w v : World) (e : v ≡ with_fresh w) (img : List ℕ) where
   pub stands_joined : (size : ℕ) → Stands w img size → length w.openers < 1000 → Stands v img size
@@ -44,9 +44,12 @@ module _ (w v : World) (e : v ≡ with_fresh w) (img : List ℕ) where
       (subst (λ o. Joins (form_in w.header) (state_in w img) o (state_in (with_fresh w) img)) (sym (by_number who (length w.openers) number))
       (join_joins (form_in w.header) w.options w.openers _ w.table img size fresh W (is_joined w.openers) few))
 
--- the counts of an opener of a world that stands are counts
-pub counts_free : (w : World) (who : ℕ) (x : Opener) → IsFree w who x → (img : List ℕ) (size : ℕ) → Stands w img size → AreCounts x.held.chains
-counts_free w who x F img size W = (subst (OpenerStands (form_in w.header) w.options size) F.number.there (W.openers_stand F.number.place)).0.counts
+-- an opener of a world that stands holds its explicit locks well, and it has no cursor
+pub held_free : (w : World) (who : ℕ) (x : Opener) → IsFree w who x → (img : List ℕ) (size : ℕ) → Stands w img size → IsWellHeld x.held
+held_free w who x F img size W = (subst (OpenerStands (form_in w.header) w.options size) F.number.there (W.openers_stand F.number.place)).0
+
+pub bare_free : (w : World) (who : ℕ) (x : Opener) → IsFree w who x → (img : List ℕ) (size : ℕ) → Stands w img size → x.walk.shown ≡ None
+bare_free w who x F img size W = (subst (OpenerStands (form_in w.header) w.options size) F.number.there (W.openers_stand F.number.place)).2.none
 
 -- a command that is given
 module _ (w v : World) (who size : ℕ) (x : Opener) (c : Command) (F : IsFree w who x) (A : IsAssigned w who x c size v) (img : List ℕ) where
@@ -66,7 +69,7 @@ module _ (w v : World) (who size : ℕ) (x : Opener) (c : Command) (F : IsFree w
   begun n = Some (record { steps = n; job = task.job })
 
   given : IsGiven x task.job now
-  given = record { live = F.live; idle = F.idle; task = ap begun A.steps; same_live = refl; same_held = refl }
+  given = record { live = F.live; idle = F.idle; task = ap begun A.steps; same_live = refl; same_held = refl; same_walk = refl }
 
   there : slice_get w.openers A.place ≡ Some x
   there = subst (λ p. slice_get w.openers p ≡ Some x) (let one = F.number.counted in let other = A.counted in omega (arith, one, other)) F.number.there

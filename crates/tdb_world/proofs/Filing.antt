@@ -10,7 +10,7 @@ use Rattle.tdb_space.specs.Stays.{ChainStays}
 use Rattle.tdb_space.proofs.Pairs.Maps.{home_below}
 use Rattle.tdb_locks.specs.declared.piece.Piece.{Piece}
 use Rattle.tdb_law.specs.Commands.{Command, Reply, Turn}
-use Rattle.tdb_law.specs.Openers.{Own, Map, nowhere}
+use Rattle.tdb_law.specs.Openers.{Own, Map, View}
 use Rattle.tdb_law.specs.Refusals.{chain_byte}
 use Rattle.tdb_law.specs.Outcomes.{touches, map_after}
 use Rattle.tdb_law.specs.Effects.{Effect, IsReady}
@@ -33,9 +33,9 @@ use Rattle.tdb_world.specs.declared.job.Job.{Job}
 use Rattle.tdb_world.specs.declared.job.Job.TheVariants as Jobs
 use Rattle.tdb_world.specs.declared.job.Checking.TheVariants as Checks
 use Rattle.tdb_world.specs.declared.job.Task.{Task}
-use Rattle.tdb_world.specs.Openers.{no_cursor, own_of, command_in, hands_at, JobKnows, TaskKnows, OpenerKnows}
+use Rattle.tdb_world.specs.Openers.{AtRest, rest_of, own_of, command_in, hands_at, JobKnows, TaskKnows, OpenerKnows}
 use Rattle.tdb_world.specs.States.{WorldStands, FileStands}
-use Rattle.tdb_world.specs.Turning.{no_view, resting, JobIsOn, TurnsFile, TurnsImage}
+use Rattle.tdb_world.specs.Turning.{resting, JobIsOn, TurnsFile, TurnsImage}
 use Rattle.tdb_world.specs.Laws.{HasTask, IsPut, hands_but, other_hands, TurnKeepsFile}
 use Rattle.tdb_world.proofs.AllHands.{from_front}
 use Rattle.tdb_world.proofs.Busy.{Writes, looked_writes, listed_writes, taken_writes, on_reads}
@@ -62,10 +62,10 @@ map_left f free conflict finds number c n x file turn y next E =
 abbrev doing : Plain → ℕ → Bool → Stage → Option (List ℕ) → Doing
 doing command chain seqnum stage whole = record { command = command; chain = chain; seqnum = seqnum; stage = stage; whole = whole }
 
-module _ (f : Form) (options : Options) (xs ys : List Opener) (ps : List Piece) (a b : List ℕ) (size who : ℕ) (x y : Opener) (t : Task) (turn : Turn)
+module _ (f : Form) (options : Options) (xs ys : List Opener) (ps : List Piece) (a b : List ℕ) (size who : ℕ) (x y : Opener) (t : Task) (v : View) (turn : Turn)
     (W : WorldStands f options xs ps a size) (F : FileStands f xs a) (B : HasTask xs who x t) (P : IsPut xs who y ys)
-    (E : TurnsFile f (own_of options x) (own_of options y) (resting no_cursor) no_view (command_in t.job) t.steps who ps a b turn) (T : TurnsImage f t y.task a b (other_hands xs who)) where
-  mine : Works f ps size who (own_of options x) t.job t.steps
+    (E : TurnsFile f (own_of options x) (own_of options y) (resting (rest_of x.walk)) v (command_in t.job) t.steps who ps a b turn) (T : TurnsImage f t y.task a b (other_hands xs who)) where
+  mine : Works f ps size who (own_of options x) (rest_of x.walk) t.job t.steps
   mine = works f options xs ps a size W who x t B
 
   -- where another opener reads every chain, the map stays
@@ -74,7 +74,7 @@ module _ (f : Form) (options : Options) (xs ys : List Opener) (ps : List Piece) 
       elim (map_left f _ _ _ _ (command_in t.job) t.steps (own_of options x) (image_map f a) turn (own_of options y) (image_map f b) E.effect) [
         | inl stays ↦ stays
         | inr made ↦ made.1 ∙ maps_equal (map_after f (command_in t.job) (own_of options x) (image_map f a)) (image_map f a) (λ q. elim (cases_Bool (touches f (command_in t.job) (own_of options x) q)) [
-          | inl e ↦ absurd (let two = touched_held f W.sound.chains (command_in t.job) (own_of options x) nowhere t.steps q e (made.0 q (reads_touched f (command_in t.job) (own_of options x) q e)) in
+          | inl e ↦ absurd (let two = touched_held f W.sound.chains (command_in t.job) (own_of options x) (resting (rest_of x.walk)) t.steps q e (made.0 q (reads_touched f (command_in t.job) (own_of options x) q e)) in
               let room = W.sound.apart o who (chain_byte f q) ne in
               omega (arith, two, room, mine.holds (chain_byte f q), reads q))
           | inr e ↦ untouched f (command_in t.job) (own_of options x) (image_map f a) q e
@@ -82,11 +82,11 @@ module _ (f : Form) (options : Options) (xs ys : List Opener) (ps : List Piece) 
       ]
 
   -- the chain of a key that another opener writes stays
-  on_locked : (job : Job) (n : ℕ) → Works f ps size who (own_of options x) job n → (k : List ℕ) → JobIsOn f job (home f k) → 1 ≤ n → 1 ≤ table_of ps (who + 1) (chain_byte f k)
+  on_locked : (job : Job) (n : ℕ) → Works f ps size who (own_of options x) (rest_of x.walk) job n → (k : List ℕ) → JobIsOn f job (home f k) → 1 ≤ n → 1 ≤ table_of ps (who + 1) (chain_byte f k)
   on_locked (Jobs.Refused command reply) n K k on start = elim on [ ]
   on_locked (Jobs.Plain d) n K k on start =
       let its = on_reads f d.command k on in
-      subst (λ j. 1 ≤ table_of ps (who + 1) (168 + 4 * j)) (sym its.1) (plain_reads f options xs ps a size W who (own_of options x) d n K start its.0 its.2)
+      subst (λ j. 1 ≤ table_of ps (who + 1) (168 + 4 * j)) (sym its.1) (plain_reads f options xs ps a size W who (own_of options x) (rest_of x.walk) d n K start its.0 its.2)
   on_locked (Jobs.Check checking) n K k on start = elim on [ ]
   on_locked (Jobs.Locking locking) n K k on start = elim on [ ]
   on_locked Jobs.Seqnum n K k on start = elim on [ ]
@@ -112,21 +112,21 @@ module _ (f : Form) (options : Options) (xs ys : List Opener) (ps : List Piece) 
   stage_knows command chain seqnum (Wiping locked) whole n is stays known = record { found = tt; joined = λ key value e. tt }
   stage_knows command chain seqnum Ending whole n is stays known = record { found = tt; joined = λ key value e. tt }
 
-  job_knows : (o : ℕ) → o ≢ who → (z : Own) (job : Job) (n : ℕ) → Works f ps size o z job n → JobKnows f a job → JobKnows f b job
-  job_knows o ne z (Jobs.Refused command reply) n K known = tt
-  job_knows o ne z (Jobs.Plain d) n K known =
-      stage_knows d.command d.chain d.seqnum d.stage d.whole n K.stands.after (λ writes. chain_stays o ne (key_of d.command) (plain_writes f options xs ps a size W o z d n K writes)) known
-  job_knows o ne z (Jobs.Check Checks.Begun) n K known = tt
-  job_knows o ne z (Jobs.Check Checks.Records) n K known = tt
-  job_knows o ne z (Jobs.Check Checks.FreeList) n K known = tt
-  job_knows o ne z (Jobs.Check (Checks.Counted keys)) n K known = known ∙ ap len (sym (map_stays o ne (check_reads f options xs ps a size W o z keys n K)))
-  job_knows o ne z (Jobs.Locking locking) n K known = tt
-  job_knows o ne z Jobs.Seqnum n K known = tt
-  job_knows o ne z Jobs.Close n K known = tt
+  job_knows : (o : ℕ) → o ≢ who → (z : Own) (rest : AtRest) (job : Job) (n : ℕ) → Works f ps size o z rest job n → JobKnows f a job → JobKnows f b job
+  job_knows o ne z rest (Jobs.Refused command reply) n K known = tt
+  job_knows o ne z rest (Jobs.Plain d) n K known =
+      stage_knows d.command d.chain d.seqnum d.stage d.whole n K.stands.after (λ writes. chain_stays o ne (key_of d.command) (plain_writes f options xs ps a size W o z rest d n K writes)) known
+  job_knows o ne z rest (Jobs.Check Checks.Begun) n K known = tt
+  job_knows o ne z rest (Jobs.Check Checks.Records) n K known = tt
+  job_knows o ne z rest (Jobs.Check Checks.FreeList) n K known = tt
+  job_knows o ne z rest (Jobs.Check (Checks.Counted keys)) n K known = known ∙ ap len (sym (map_stays o ne (check_reads f options xs ps a size W o z rest keys n K)))
+  job_knows o ne z rest (Jobs.Locking locking) n K known = tt
+  job_knows o ne z rest Jobs.Seqnum n K known = tt
+  job_knows o ne z rest Jobs.Close n K known = tt
 
   task_knows : (o : ℕ) → o ≢ who → (z : Opener) → slice_get xs o ≡ Some z → (u : Option Task) → z.task ≡ u → TaskKnows f a u → TaskKnows f b u
   task_knows o ne z there None busy known = tt
-  task_knows o ne z there (Some u) busy known = job_knows o ne (own_of options z) u.job u.steps (works f options xs ps a size W o z u (record { there = there; busy = busy })) known
+  task_knows o ne z there (Some u) busy known = job_knows o ne (own_of options z) (rest_of z.walk) u.job u.steps (works f options xs ps a size W o z u (record { there = there; busy = busy })) known
 
   opener_knows : (o : ℕ) → o ≢ who → (z : Option Opener) → slice_get xs o ≡ z → OpenerKnows f a z → OpenerKnows f b z
   opener_knows o ne None there known = tt
@@ -146,4 +146,4 @@ module _ (f : Form) (options : Options) (xs ys : List Opener) (ps : List Piece) 
   }
 
 pub turn_keeps_file : TurnKeepsFile
-turn_keeps_file f options xs ys ps a b size who x y t turn W F B P E T = file_stands f options xs ys ps a b size who x y t turn W F B P E T
+turn_keeps_file f options xs ys ps a b size who x y t v turn W F B P E T = file_stands f options xs ys ps a b size who x y t v turn W F B P E T

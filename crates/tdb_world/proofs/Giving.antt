@@ -4,7 +4,7 @@ use Rattle.std.proofs.lemmas.Bool.{cases_eq}
 use Rattle.tdb_space.specs.Form.{Form}
 use Rattle.tdb_space.specs.Pairs.{joined}
 use Rattle.tdb_space.specs.Accepted.{AcceptWith}
-use Rattle.tdb_law.specs.Openers.{Own, nowhere}
+use Rattle.tdb_law.specs.Openers.{Own, Spot}
 use Rattle.tdb_law.specs.Rows.{map_locks}
 use Rattle.tdb_law.specs.Lines.{most_openers}
 use Rattle.tdb_law.specs.Held.{held, kept, holding}
@@ -23,7 +23,9 @@ use Rattle.tdb_world.specs.declared.opener.Opener.{Opener}
 use Rattle.tdb_world.specs.declared.job.Job.{Job}
 use Rattle.tdb_world.specs.declared.job.Job.TheVariants as Jobs
 use Rattle.tdb_world.specs.declared.job.Checking.TheVariants as Checks
-use Rattle.tdb_world.specs.Openers.{no_cursor, own_of, own_with, own_at, task_at, command_in, law_task, hands_of_job, hands_of_task, hands_at, JobStands, TaskStands, OpenerStands, JobKnows, TaskKnows, OpenerKnows}
+use Rattle.tdb_law.specs.Layout.{chains_in, mark_of}
+use Rattle.tdb_walk.specs.InLaw.{spot_in, is_before}
+use Rattle.tdb_world.specs.Openers.{rest_of, own_of, own_with, own_at, spot_at, place_at, task_at, command_in, law_task, hands_of_job, hands_of_task, hands_at, JobStands, TaskStands, OpenerStands, WalkStands, JobKnows, TaskKnows, OpenerKnows}
 use Rattle.tdb_world.specs.States.{state_of}
 use Rattle.tdb_world.specs.Laws.{IsGiven, GiftKeepsWorld, GiftKeepsFile, GiftIsGiven}
 use Rattle.tdb_world.proofs.Standing.{Holds, world_set, held_still}
@@ -32,7 +34,12 @@ use Rattle.tdb_world.proofs.Busy.{hand_frees, looked_writes, listed_writes, take
 
 -- the opener has what it had
 same_own : (options : Options) (x y : Opener) (job : Job) → IsGiven x job y → own_of options y ≡ own_of options x
-same_own options x y job G = ap (λ l. own_with options l y.held no_cursor) G.same_live ∙ ap (λ h. own_with options x.live h no_cursor) G.same_held
+same_own options x y job G =
+    ap (λ l. own_with options l y.held (rest_of y.walk)) G.same_live ∙ ap (λ h. own_with options x.live h (rest_of y.walk)) G.same_held ∙ ap (λ w. own_with options x.live x.held (rest_of w)) G.same_walk
+
+-- and its cursor stands where it stood
+same_cursor : (x y : Opener) (job : Job) → IsGiven x job y → spot_at (Some y) ≡ spot_at (Some x)
+same_cursor x y job G = ap (λ w. spot_in w.cursor (is_before w.cursor.place)) G.same_walk
 
 -- before the first turn a command holds no record and knows nothing
 bare_stage : (f : Form) (img : List ℕ) (command : Plain) (chain : ℕ) (seqnum : Bool) (stage : Stage) (whole : Option (List ℕ)) → IsAfter command stage 0 → DoingKnows f img (record { command = command; chain = chain; seqnum = seqnum; stage = stage; whole = whole })
@@ -72,17 +79,19 @@ module _ (f : Form) (x : Own) (size : ℕ) where
 pub gift_keeps_world : GiftKeepsWorld
 gift_keeps_world f options xs ys ps a size who x y job W there P G K =
     world_set f options xs ys ps ps a a size size who y W (record { there = P.there; others = P.others }) (held_still f options xs ps a size who y W holds)
-    (record { stands = (subst IsWellHeld (sym G.same_held) (subst (OpenerStands f options size) there (W.openers_stand who)).0, subst (λ z. TaskStands f (own_of options y) z size) (sym G.task) (subst (λ w. JobStands f w job 0 size) (sym (same_own options x y job G)) K)); busy_live = λ t e. G.same_live ∙ G.live })
+    (record { stands = (subst IsWellHeld (sym G.same_held) (subst (OpenerStands f options size) there (W.openers_stand who)).0, subst (λ z. TaskStands f (own_of options y) z size) (sym G.task) (subst (λ w. JobStands f w job 0 size) (sym (same_own options x y job G)) K), subst (WalkStands f) (sym G.same_walk) (subst (OpenerStands f options size) there (W.openers_stand who)).2); busy_live = λ t e. G.same_live ∙ G.live })
     (le_refl size) (subst (λ n. n ≤ most_openers) (sym P.same_length) W.few) W.short
   where
     holds : (b : ℕ) → Holds f options ps who (Some y) b
     holds b =
-        let before : table_of ps (who + 1) b ≡ holding f (own_of options x) nowhere None b =
-        W.sound.agrees who b ∙ (ap (λ z. holding f (own_at options z) nowhere (task_at z) b) there ∙ ap (λ z. holding f (own_of options x) nowhere (law_task z) b) G.idle) in
-        let none : held f (command_in job) (own_of options x) nowhere 0 b ≡ 0 = Covered.none_held f (command_in job) (own_of options x) nowhere b in
-        let after : holding f (own_of options y) nowhere (law_task y.task) b ≡ max (held f (command_in job) (own_of options x) nowhere 0 b) (kept f (own_of options x) nowhere b) =
-        ap (λ z. holding f (own_of options y) nowhere (law_task z) b) G.task ∙ ap (λ w. holding f w nowhere (Some (record { command = command_in job; steps = 0 })) b) (same_own options x y job G) in
-        before ∙ (ap (λ n. max n (kept f (own_of options x) nowhere b)) (sym none) ∙ sym after)
+        let s : Spot = spot_at (Some x) in
+        let before : table_of ps (who + 1) b ≡ holding f (own_of options x) s None b =
+        W.sound.agrees who b ∙ (ap (λ z. holding f (own_at options z) (spot_at z) (task_at z) b) there ∙ ap (λ z. holding f (own_of options x) s (law_task z) b) G.idle) in
+        let none : held f (command_in job) (own_of options x) s 0 b ≡ 0 = Covered.none_held f (command_in job) (own_of options x) s b in
+        let after : holding f (own_of options y) (spot_at (Some y)) (law_task y.task) b ≡ max (held f (command_in job) (own_of options x) s 0 b) (kept f (own_of options x) s b) =
+        ap (λ z. holding f (own_of options y) (spot_at (Some y)) (law_task z) b) G.task
+        ∙ (ap (λ w. holding f w (spot_at (Some y)) (Some (record { command = command_in job; steps = 0 })) b) (same_own options x y job G) ∙ ap (λ z. holding f (own_of options x) z (Some (record { command = command_in job; steps = 0 })) b) (same_cursor x y job G)) in
+        before ∙ (ap (λ n. max n (kept f (own_of options x) s b)) (sym none) ∙ sym after)
 
 pub gift_keeps_file : GiftKeepsFile
 gift_keeps_file f options xs ys a size who x y job F there P G K = record {
@@ -111,7 +120,7 @@ gift_is_given f options xs ys ps a who x y job there P G = record {
   idle = ap task_at there ∙ ap law_task G.idle;
   task = ap task_at P.there ∙ ap law_task G.task;
   others = λ o ne. ap task_at (P.others o ne);
-  rest = λ i. record (state_of f options xs ps a) { joined = P.same_length i; own = λ o. same o i };
+  rest = λ i. record (state_of f options xs ps a) { joined = P.same_length i; own = λ o. same o i; spot = λ o. same_spot o i; mark = λ o. mark_of f (chains_in f a) (same_place o i) };
 }
   where
     here : own_at options (slice_get ys who) ≡ own_at options (slice_get xs who)
@@ -122,4 +131,18 @@ gift_is_given f options xs ys ps a who x y job there P G = record {
         elim (cases_eq o who) [
           | inl is ↦ subst (λ p. own_at options (slice_get ys p) ≡ own_at options (slice_get xs p)) (sym is) here
           | inr ne ↦ ap (own_at options) (P.others o ne)
+        ]
+
+    same_spot : (o : ℕ) → spot_at (slice_get ys o) ≡ spot_at (slice_get xs o)
+    same_spot o =
+        elim (cases_eq o who) [
+          | inl is ↦ subst (λ p. spot_at (slice_get ys p) ≡ spot_at (slice_get xs p)) (sym is) (ap spot_at P.there ∙ (same_cursor x y job G ∙ sym (ap spot_at there)))
+          | inr ne ↦ ap spot_at (P.others o ne)
+        ]
+
+    same_place : (o : ℕ) → place_at (slice_get ys o) ≡ place_at (slice_get xs o)
+    same_place o =
+        elim (cases_eq o who) [
+          | inl is ↦ subst (λ p. place_at (slice_get ys p) ≡ place_at (slice_get xs p)) (sym is) (ap place_at P.there ∙ (ap (λ w. place_at (Some (record x { walk = w }))) G.same_walk ∙ sym (ap place_at there)))
+          | inr ne ↦ ap place_at (P.others o ne)
         ]

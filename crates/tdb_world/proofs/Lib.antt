@@ -45,3 +45,6 @@ pub mod Finishing
 pub mod OneTurn
 pub mod Projecting
 pub mod Going
+pub mod FoundOnce
+pub mod StillWalks
+pub mod PlainCursors

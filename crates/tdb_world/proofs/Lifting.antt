@@ -1,5 +1,6 @@
--- A turn of an opener is a turn of the law: nobody has a transaction or a cursor, so spots, views and marks are as before.
-use Rattle.std.proofs.Common.{◌≡◌, ℕ, List, slice_get, true, false, ◌==◌, Option, Some, None, refl, sym, ◌∙◌, ap, subst, inl}
+-- A turn of an opener whose command is on no cursor is a turn of the law: its cursor stays, and so do those of others.
+use Rattle.std.proofs.Common.{◌≡◌, ℕ, List, slice_get, set, Bool, true, false, ◌==◌, Option, Some, None, refl, sym, ◌∙◌, ap, subst, inl, inr}
+use Rattle.std.proofs.lemmas.Bool.{cases_eq}
 use Rattle.std.specs.Prelude.{◌&&◌, if◌then◌else◌}
 use Rattle.std.proofs.Math.Bool.{and-false}
 use Rattle.tdb_words.specs.Word.{word}
@@ -7,15 +8,16 @@ use Rattle.tdb_space.specs.Form.{Form}
 use Rattle.tdb_locks.specs.declared.piece.Piece.{Piece}
 use Rattle.tdb_law.specs.Commands.{Command, Turn, is_done}
 use Rattle.tdb_law.specs.Commands.Turn.{Step, Blocked, Ends}
-use Rattle.tdb_law.specs.Openers.{Own, Spot, Mark, nowhere, seen}
+use Rattle.tdb_law.specs.Commands.Command.{OnMap, OnLocks, Seqnum, OnGroup, OnWalk}
+use Rattle.tdb_law.specs.Openers.{Own, Spot, View, Mark, seen}
 use Rattle.tdb_law.specs.Refusals.{Refusal, refusal}
 use Rattle.tdb_law.specs.Outcomes.{moves_by, moves}
 use Rattle.tdb_law.specs.Counting.{settles_by, settled_after, image_number_by, image_number_after, number_seen}
 use Rattle.tdb_law.specs.Ends.{IsRow}
 use Rattle.tdb_law.specs.Held.{holding, wanted, decided}
 use Rattle.tdb_law.specs.Effects.{Effect, IsFree, IsFirstConflict, Finds, SpotLeft}
-use Rattle.tdb_law.specs.Effects.Stays.{stands_nowhere}
-use Rattle.tdb_law.specs.Walks.{Shift, Walked}
+use Rattle.tdb_law.specs.Effects.Stays.{stands_still}
+use Rattle.tdb_law.specs.Walks.{Lost, Shift, Walked}
 use Rattle.tdb_law.specs.Walks.Walked.{walk_steps, walk_rests, walk_ends}
 use Rattle.tdb_law.specs.Images.{image_map}
 use Rattle.tdb_law.specs.Turned.{number_next}
@@ -24,11 +26,20 @@ use Rattle.tdb_world.specs.declared.opener.Opener.{Opener}
 use Rattle.tdb_world.specs.declared.job.Job.{Job}
 use Rattle.tdb_world.specs.declared.job.Job.TheVariants as Jobs
 use Rattle.tdb_world.specs.declared.job.Task.{Task}
-use Rattle.tdb_world.specs.Openers.{own_of, own_at, task_at, command_in, law_task, JobStands}
-use Rattle.tdb_world.specs.States.{state_of, WorldStands}
-use Rattle.tdb_world.specs.Turning.{law_table, no_view}
-use Rattle.tdb_world.specs.Laws.{HasTask, IsPut, TurnIsTurned}
+use Rattle.tdb_law.specs.Layout.{Place, chains_in, mark_of}
+use Rattle.tdb_law.specs.Layout.Place.{off_chains}
+use Rattle.tdb_walk.specs.declared.standing.Standing.{Standing}
+use Rattle.tdb_walk.specs.declared.standing.Standing.TheVariants.{Past}
+use Rattle.tdb_walk.specs.NextLive.{place_of}
+use Rattle.tdb_walk.specs.InLaw.{must_purge}
+use Rattle.tdb_world.specs.Openers.{rest_of, own_of, own_at, spot_at, place_at, spots_of, task_at, command_in, law_task, JobStands, OpenerStands, WalkStands}
+use Rattle.tdb_world.specs.States.{state_of, view_for, view_under, view_at, WorldStands}
+use Rattle.tdb_world.specs.Turning.{law_table, resting, TurnsWalk}
+use Rattle.tdb_world.specs.Laws.{HasTask, IsPut, TurnIsTurned, view_in}
+use Rattle.tdb_world.proofs.Rests.{spot_rests, walk_past}
+use Rattle.tdb_world.proofs.Standing.{walk_there}
 use Rattle.tdb_world.proofs.Single.{either}
+use Rattle.tdb_world.proofs.StillWalks.{ended_walk}
 use Rattle.tdb_world.proofs.Working.{works}
 
 -- the command neither moves a cursor, nor settles the world, nor counts in an image
@@ -61,20 +72,16 @@ module _ (f : Form) (options : Options) (x : Opener) where
   simple Jobs.Seqnum n size K = granted_simple (command_in Jobs.Seqnum) K.1 refl refl (λ q. refl)
   simple Jobs.Close n size K = granted_simple (command_in Jobs.Close) K.1 refl refl (λ q. refl)
 
--- there is nothing to purge
-decided_nowhere : (n : ℕ) → decided nowhere no_view n ≡ nowhere
-decided_nowhere n = ap (λ p. record nowhere { purging = p }) (either (n == 0) false false refl)
+-- what is decided of a cursor that doesn't purge, where nothing has to be purged
+decided_still : (a : Spot) (v : View) (n : ℕ) → a.purging ≡ false → v.must ≡ false → decided a v n ≡ a
+decided_still a v n still none = ap (λ p. record a { purging = p }) (either (n == 0) v.must a.purging (none ∙ sym still))
 
-unmarked : Mark
-unmarked = record { inside = false; reached = 0; ahead = λ k. false }
-
-pub still_shift : (f : Form) (lost : List ℕ → Type 0) (m : Mark) → Shift f lost m m
-still_shift f lost m = record { inside = refl; reached = refl; fewer = λ k e. inl e; kept = λ k e. inl e }
-
-spot_left : (f : Form) (table want : ℕ → ℕ) (c : Command) (n : ℕ) (x y : Own) (turn : Turn) → SpotLeft f table want c n x y nowhere no_view nowhere turn
-spot_left f table want c n x y Step = sym (decided_nowhere n)
-spot_left f table want c n x y (Blocked o byte) = inl refl
-spot_left f table want c n x y (Ends r) = (stands_nowhere refl, refl)
+-- a cursor that rests stays where it stood
+spot_left : (f : Form) (table want : ℕ → ℕ) (c : Command) (n : ℕ) (x y : Own) (a b : Spot) (v : View) (turn : Turn) → b ≡ a → a.purging ≡ false → a.gone ≡ false → v.must ≡ false → x.txn ≡ None → y.txn ≡ None → y.cursor ≡ x.cursor
+    → SpotLeft f table want c n x y a v b turn
+spot_left f table want c n x y a b v Step same still kept none out out_later shown = same ∙ sym (decided_still a v n still none)
+spot_left f table want c n x y a b v (Blocked o byte) same still kept none out out_later shown = inl same
+spot_left f table want c n x y a b v (Ends r) same still kept none out out_later shown = (stands_still out out_later shown (ap (λ (s : Spot). s.stands) same), ap (λ (s : Spot). s.gone) same ∙ kept)
 
 settled_still : (f : Form) (c : Command) (x : Own) (n : ℕ) (turn : Turn) → Simple f c x → false ≡ settled_after f c x n turn false
 settled_still f c x n Step S = sym (either _ false false refl)
@@ -86,40 +93,95 @@ uncounted_still f c x Step q S = refl
 uncounted_still f c x (Blocked o byte) q S = refl
 uncounted_still f c x (Ends r) q S = sym (either (is_done r) (image_number_by (refusal f c x) c x q 0) 0 (S.uncounted q))
 
+-- no cursor has to purge a record where none stands on one
+nothing_due : (f : Form) (options : Options) (img stood_on : List ℕ) (x : Opener) (c : Command) → x.walk.cursor.place ≡ Past → (view_for f options img stood_on x c).must ≡ false
+nothing_due f options img stood_on x (OnMap c) past = refl
+nothing_due f options img stood_on x (OnLocks c) past = refl
+nothing_due f options img stood_on x Seqnum past = refl
+nothing_due f options img stood_on x (OnGroup g) past = refl
+nothing_due f options img stood_on x (OnWalk w) past = ap (λ p. must_purge f img x.held stood_on options.read_only p) past
+
+opener_past : (f : Form) (options : Options) (size : ℕ) (z : Option Opener) → OpenerStands f options size z → place_at z ≡ off_chains
+opener_past f options size None K = refl
+opener_past f options size (Some x) K = ap place_of (walk_past f x.walk K.2)
+
+-- nobody has a cursor yet, so no turn does anything to one
+pub nobody_walks : (f : Form) (options : Options) (xs : List Opener) (ps : List Piece) (a : List ℕ) (size : ℕ) → WorldStands f options xs ps a size → (o : ℕ) (x : Own) (c : Command) (n : ℕ) (turn : Turn) (b : List ℕ)
+    → TurnsWalk f x c n turn a b (place_at (slice_get xs o))
+nobody_walks f options xs ps a size W o x c n turn b = subst (TurnsWalk f x c n turn a b) (sym (opener_past f options size (slice_get xs o) (W.openers_stand o))) (ended_walk f x c n turn a b)
+
 module _ (f : Form) (options : Options) (xs ys : List Opener) (ps qs : List Piece) (a b : List ℕ) (size who : ℕ) (x y : Opener) (t : Task) where
   -- the effect of the turn, by what is wanted and by the opener before it and after it
-  abbrev EffectAt : Turn → Spot → Option Opener → Option Opener → Type 0
-  EffectAt turn s z w = Effect f (IsFree (law_table ps) who (λ i. wanted f (command_in t.job) (own_at options z) s no_view t.steps i)) (IsFirstConflict (law_table ps) who (λ i. wanted f (command_in t.job) (own_at options z) s no_view t.steps i))
-      (Finds f (law_table ps who) (λ i. wanted f (command_in t.job) (own_at options z) s no_view t.steps i) (seen (own_at options z) (image_map f a))) (number_seen (own_at options z) (word f.order a 48) 0)
+  abbrev EffectAt : Turn → Spot → View → Option Opener → Option Opener → Type 0
+  EffectAt turn s v z w = Effect f (IsFree (law_table ps) who (λ i. wanted f (command_in t.job) (own_at options z) (decided s v t.steps) v t.steps i))
+      (IsFirstConflict (law_table ps) who (λ i. wanted f (command_in t.job) (own_at options z) (decided s v t.steps) v t.steps i))
+      (Finds f (law_table ps who) (λ i. wanted f (command_in t.job) (own_at options z) (decided s v t.steps) v t.steps i) (seen (own_at options z) (image_map f a))) (number_seen (own_at options z) (word f.order a 48) 0)
       (command_in t.job) t.steps (own_at options z) (image_map f a) turn (own_at options w) (image_map f b)
 
-  module _ (W : WorldStands f options xs ps a size) (B : HasTask xs who x t) (P : IsPut xs who y ys) where
+  module _ (W : WorldStands f options xs ps a size) (B : HasTask xs who x t) (P : IsPut xs who y ys) (still : y.walk ≡ x.walk) where
+    S : WalkStands f x.walk
+    S = walk_there f options xs ps a size who x W B.there
+
     its_simple : Simple f (command_in t.job) (own_at options (slice_get xs who))
     its_simple = subst (λ z. Simple f (command_in t.job) (own_at options z)) (sym B.there) (simple f options x t.job t.steps size (works f options xs ps a size W who x t B).stands)
 
-    walks : (turn : Turn) → Walked f (state_of f options xs ps a) (state_of f options ys qs b) who (command_in t.job) t.steps turn
-    walks Step = walk_steps refl (still_shift f _ _)
-    walks (Blocked o byte) = walk_rests o byte refl refl (still_shift f _ _)
-    walks (Ends r) = walk_ends r refl its_simple.still (λ e. still_shift f _ _)
+    -- every cursor stays
+    same_spot : (o : ℕ) → spot_at (slice_get ys o) ≡ spot_at (slice_get xs o)
+    same_spot o = elim (cases_eq o who) [
+      | inl is ↦ subst (λ p. spot_at (slice_get ys p) ≡ spot_at (slice_get xs p)) (sym is) (ap spot_at P.there ∙ (ap (λ w. spot_at (Some (record x { walk = w }))) still ∙ sym (ap spot_at B.there)))
+      | inr ne ↦ ap spot_at (P.others o ne)
+    ]
+
+    same_place : (o : ℕ) → place_at (slice_get ys o) ≡ place_at (slice_get xs o)
+    same_place o = elim (cases_eq o who) [
+      | inl is ↦ subst (λ p. place_at (slice_get ys p) ≡ place_at (slice_get xs p)) (sym is) (ap place_at P.there ∙ (ap (λ w. place_at (Some (record x { walk = w }))) still ∙ sym (ap place_at B.there)))
+      | inr ne ↦ ap place_at (P.others o ne)
+    ]
+
+    own_spot : spot_at (slice_get xs who) ≡ resting (rest_of x.walk)
+    own_spot = ap spot_at B.there ∙ spot_rests f x.walk S
+
+    own_view : view_at f options a (set (spots_of xs) who 0) (slice_get xs who) ≡ view_in f options xs a who x t
+    own_view = ap (view_at f options a (set (spots_of xs) who 0)) B.there ∙ ap (λ u. view_under f options a (set (spots_of xs) who 0) x (law_task u)) B.busy
+
+    module _ (turn : Turn) (K : (o : ℕ) → TurnsWalk f (own_of options x) (command_in t.job) t.steps turn a b (place_at (slice_get xs o))) where
+      shifts : (o : ℕ) (mine : Bool) → Shift f (Lost f (command_in t.job) t.steps (own_at options (slice_get xs who)) turn mine (mark_of f (chains_in f a) (place_at (slice_get xs o))))
+          (mark_of f (chains_in f a) (place_at (slice_get xs o))) (mark_of f (chains_in f b) (place_at (slice_get ys o)))
+      shifts o mine =
+          subst (λ z. Shift f (Lost f (command_in t.job) t.steps (own_at options z) turn mine (mark_of f (chains_in f a) (place_at (slice_get xs o)))) (mark_of f (chains_in f a) (place_at (slice_get xs o))) (mark_of f (chains_in f b) (place_at (slice_get ys o)))) (sym B.there)
+          (subst (λ p. Shift f (Lost f (command_in t.job) t.steps (own_of options x) turn mine (mark_of f (chains_in f a) (place_at (slice_get xs o)))) (mark_of f (chains_in f a) (place_at (slice_get xs o))) (mark_of f (chains_in f b) p)) (sym (same_place o)) (K o mine))
+
+    walks : (turn : Turn) → ((o : ℕ) → TurnsWalk f (own_of options x) (command_in t.job) t.steps turn a b (place_at (slice_get xs o)))
+        → Walked f (state_of f options xs ps a) (state_of f options ys qs b) who (command_in t.job) t.steps turn
+    walks Step K = walk_steps refl (shifts Step K who true)
+    walks (Blocked o byte) K = walk_rests o byte refl (ap (λ (s : Spot). s.gone) (same_spot who)) (shifts (Blocked o byte) K who true)
+    walks (Ends r) K = walk_ends r refl its_simple.still (λ e. shifts (Ends r) K who true)
 
 pub turn_is_turned : TurnIsTurned
-turn_is_turned f options xs ys ps qs a b size who x y t turn W B P T E = record {
+turn_is_turned f options xs ys ps qs a b size who x y t turn W B P T E still K = record {
   mine = ap task_at B.there ∙ ap law_task B.busy;
   joined = P.same_length;
   others = λ o ne. ap task_at (P.others o ne);
   others_own = λ o ne. ap (own_at options) (P.others o ne);
-  others_spot = λ o ne. refl;
+  others_spot = λ o ne. ap spot_at (P.others o ne);
   others_hold = λ o i ne. T.others o i ne;
   others_number = λ o ne. refl;
-  others_walk = λ o ne. still_shift f _ _;
+  others_walk = λ o ne. shifts f options xs ys ps qs a b size who x y t W B P still turn K o false;
   row = subst (λ z. IsRow f (command_in t.job) (own_at options z) t.steps turn) (sym B.there) T.row;
   leaves = ap task_at P.there ∙ T.leaves;
-  leaves_spot = spot_left f _ _ _ _ _ _ turn;
+  leaves_spot = spot_left f _ _ _ _ (own_at options (slice_get xs who)) (own_at options (slice_get ys who)) (spot_at (slice_get xs who)) (spot_at (slice_get ys who)) (view_at f options a (set (spots_of xs) who 0) (slice_get xs who)) turn
+      (same_spot f options xs ys ps qs a b size who x y t W B P still who) (ap (λ (s : Spot). s.purging) spot) (ap (λ (s : Spot). s.gone) spot)
+      (ap (λ (v : View). v.must) view ∙ nothing_due f options a (set (spots_of xs) who 0) x (command_in t.job) (walk_past f x.walk (walk_there f options xs ps a size who x W B.there)))
+      (ap (λ z. (own_at options z).txn) B.there) (ap (λ z. (own_at options z).txn) P.there)
+      (ap (λ z. (own_at options z).cursor) P.there ∙ (ap (λ w. w.shown) still ∙ sym (ap (λ z. (own_at options z).cursor) B.there)));
   effect =
-      subst (λ z. EffectAt f options xs ys ps qs a b size who x y t turn (decided nowhere no_view t.steps) z (slice_get ys who)) (sym B.there)
-      (subst (λ w. EffectAt f options xs ys ps qs a b size who x y t turn (decided nowhere no_view t.steps) (Some x) w) (sym P.there) E.effect);
-  holds = λ i. T.holds i ∙ sym (ap (λ z. holding f (own_at options z) nowhere (task_at z) i) P.there);
-  walks = walks f options xs ys ps qs a b size who x y t W B P turn;
+      subst (λ v. EffectAt f options xs ys ps qs a b size who x y t turn (spot_at (slice_get xs who)) v (slice_get xs who) (slice_get ys who)) (sym view)
+      (subst (λ s. EffectAt f options xs ys ps qs a b size who x y t turn s (view_in f options xs a who x t) (slice_get xs who) (slice_get ys who)) (sym spot)
+      (subst (λ z. EffectAt f options xs ys ps qs a b size who x y t turn (resting (rest_of x.walk)) (view_in f options xs a who x t) z (slice_get ys who)) (sym B.there)
+      (subst (λ w. EffectAt f options xs ys ps qs a b size who x y t turn (resting (rest_of x.walk)) (view_in f options xs a who x t) (Some x) w) (sym P.there) E.effect)));
+  holds = λ i. T.holds i
+      ∙ (ap (λ s. holding f (own_of options y) s (law_task y.task) i) (sym later) ∙ sym (ap (λ z. holding f (own_at options z) (spot_at z) (task_at z) i) P.there));
+  walks = walks f options xs ys ps qs a b size who x y t W B P still turn K;
   ready = refl;
   stale = refl;
   settled = settled_still f (command_in t.job) (own_at options (slice_get xs who)) t.steps turn plain;
@@ -128,4 +190,13 @@ turn_is_turned f options xs ys ps qs a b size who x y t turn W B P T E = record 
 }
   where
     plain : Simple f (command_in t.job) (own_at options (slice_get xs who))
-    plain = its_simple f options xs ys ps qs a b size who x y t W B P
+    plain = its_simple f options xs ys ps qs a b size who x y t W B P still
+
+    spot : spot_at (slice_get xs who) ≡ resting (rest_of x.walk)
+    spot = own_spot f options xs ys ps qs a b size who x y t W B P still
+
+    view : view_at f options a (set (spots_of xs) who 0) (slice_get xs who) ≡ view_in f options xs a who x t
+    view = own_view f options xs ys ps qs a b size who x y t W B P still
+
+    later : spot_at (Some y) ≡ resting (rest_of y.walk)
+    later = spot_rests f y.walk (subst (WalkStands f) (sym still) (walk_there f options xs ps a size who x W B.there))

@@ -63,7 +63,7 @@ missed [] n b out = refl
 missed (l ∷ ls) n b out = omega (arith, bare_lock (nat_lt l.turn n) (covers l b) l.strength (not_covered l b out.0), missed ls n b out.1)
 
 -- what a command that isn't refused tells of the explicit locks and of the cursor
-abbrev Allows : HeldLocks → Bool → Plain → Type 0
+abbrev pub Allows : HeldLocks → Bool → Plain → Type 0
 Allows held walks (Fetch key) = Unit {0}
 Allows held walks (Has key) = Unit {0}
 Allows held walks Wipe = (walks ≡ false) × (holds_chains held ≡ false) × (reads_records held.all ≡ false)
@@ -74,7 +74,7 @@ not_changed true stands r e = absurd (cc e)
 not_changed false stands r e = not_told stands r e
 
 module _ (f : Form) (few : HasFewChains f) (options : Options) (live : Bool) (held : HeldLocks) (rest : AtRest) (counts : AreCounts held.chains) (K : StandsWell f rest.shown rest.stands) where
-  allowed : (command : Plain) → refusal f (OnMap (command_of command)) (own_with options live held rest) ≡ None → Allows held (is_some rest.shown) command
+  pub allowed : (command : Plain) → refusal f (OnMap (command_of command)) (own_with options live held rest) ≡ None → Allows held (is_some rest.shown) command
   allowed (Fetch key) R = tt
   allowed (Has key) R = tt
   allowed (Store key value Flags.Replace) R = not_changed options.read_only _ _ (untold_of f options live held rest counts (Given.Store key value Flags.Replace) R)

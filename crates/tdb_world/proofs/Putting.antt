@@ -1,6 +1,7 @@
 -- An opener in a list of openers, by its number.
 use Rattle.std.proofs.Common.{◌≡◌, ◌≢◌, ℕ, zero, suc, ◌+◌, ◌-◌, ◌<◌, List, [], ◌∷◌, length, slice_get, slice_index_or, slice_set, Some, refl, sym, ◌∙◌, ap, subst, arith}
 use Rattle.std.proofs.lemmas.List.{length-set}
+use Rattle.std.proofs.Math.Seq.{map-set_same}
 use Rattle.std.proofs.lemmas.Option.{get_or_from_slice_get, slice_get_within}
 use Rattle.tdb_words.specs.declared.header.Header.{Header}
 use Rattle.tdb_space.specs.Form.{form_in}
@@ -10,7 +11,8 @@ use Rattle.tdb_plays.specs.InLaw.{law_command}
 use Rattle.tdb_world.specs.declared.options.Options.{Options}
 use Rattle.tdb_world.specs.declared.opener.Opener.{Opener}
 use Rattle.tdb_world.specs.declared.job.Job.{Job}
-use Rattle.tdb_world.specs.Openers.{own_of, command_in, JobStands}
+use Rattle.tdb_cursors.specs.Spots.{spot_number}
+use Rattle.tdb_world.specs.Openers.{own_of, spots_of, command_in, JobStands}
 use Rattle.tdb_world.specs.Worlds.{World, IsNumber, IsFree, IsAssigned}
 use Rattle.tdb_world.specs.Laws.{IsPut}
 
@@ -68,6 +70,10 @@ assigned header options xs table who c size x d job F item command stands =
 -- so it is given in a world that is seen as this one
 pub seen_so : {v w new : World} {who size : ℕ} {c : Command} {x : Opener} → v ≡ w → (IsFree v who x → IsAssigned v who x c size new) → IsFree w who x → IsAssigned w who x c size new
 seen_so {new = new} {who = who} {size = size} {c = c} {x = x} e given F = subst (λ z. IsAssigned z who x c size new) e (given (subst (λ z. IsFree z who x) (sym e) F))
+
+-- the entries in the list of spots stay where another opener with the same cursor is put
+pub spots_still : (xs : List Opener) (i : ℕ) (d y : Opener) → d ≡ slice_index_or xs i d → y.walk ≡ d.walk → spots_of (slice_set xs i y) ≡ spots_of xs
+spots_still xs i d y item still = map-set_same (λ (z : Opener). spot_number z.walk.cursor.place) xs i y d (ap (λ w. spot_number w.cursor.place) still ∙ ap (λ (z : Opener). spot_number z.walk.cursor.place) item)
 
 -- who stands at the place of a number has it
 pub has_number : (w : World) (who : ℕ) (d : Opener) → 0 < who → who - 1 < length w.openers → d ≡ slice_index_or w.openers (who - 1) d → IsNumber w who d

@@ -1,10 +1,19 @@
--- What the byte of the record on which a cursor stands is not: that of a chain, of the free list, or one between two words.
-use Rattle.std.proofs.Common.{◌≡◌, ◌≢◌, ℕ, ◌%◌, ◌<◌, ◌≤◌, List, Bool, true, false, ◌==◌, Option, Some, None, is_some, refl, sym, ◌∙◌, arith, zero-le, le_refl}
+-- A cursor that rests: the byte of its record is not that of a chain, of the free list, or one between two words; and what the law says
+-- of it.
+use Rattle.std.proofs.Common.{◌≡◌, ◌≢◌, ℕ, ◌%◌, ◌<◌, ◌≤◌, List, Bool, true, false, ◌==◌, Option, Some, None, is_some, refl, sym, ◌∙◌, ap, subst, arith, zero-le, le_refl}
 use Rattle.std.specs.Prelude.{if◌then◌else◌}
 use Rattle.std.proofs.lemmas.Bool.Decides.{nat_tests}
 use Rattle.tdb_space.specs.Form.{Form, data_start}
 use Rattle.tdb_law.specs.Held.{stand_held}
-use Rattle.tdb_world.specs.Turning.{StandsWell}
+use Rattle.tdb_walk.specs.declared.standing.Standing.{Standing}
+use Rattle.tdb_walk.specs.declared.standing.Standing.TheVariants.{Before, On, Past}
+use Rattle.tdb_walk.specs.declared.stage.Stage.{Stage}
+use Rattle.tdb_walk.specs.Cursors.{IsPlaced, spot_of}
+use Rattle.tdb_walk.specs.InLaw.{spot_in, is_before, is_purging}
+use Rattle.tdb_walk.specs.Again.{RestsAt}
+use Rattle.tdb_cursors.specs.declared.walk.Walk.{Walk}
+use Rattle.tdb_world.specs.Openers.{AtRest, rest_of, no_cursor, WalkStands}
+use Rattle.tdb_world.specs.Turning.{RestsWell, StandsWell, resting}
 
 stand_else : (place b : ℕ) → place ≢ b → stand_held (Some place) b ≡ 0
 stand_else place b differs = let e : (place == b) ≡ false = grind (arith, nat_tests) in rw e refl
@@ -30,3 +39,36 @@ module _ (f : Form) (cursor : Option (List ℕ)) where
   pub stand_nowhere : (o : Option ℕ) → StandsWell f cursor o → is_some cursor ≡ false → o ≡ None
   stand_nowhere None K none = refl
   stand_nowhere (Some place) K none = absurd (let c : ◌≡◌ {A = Bool} true false = sym (K place refl).shown ∙ none in cc c)
+
+-- a cursor that has shown no key is none
+pub bare_rest : (f : Form) (rest : AtRest) → StandsWell f rest.shown rest.stands → rest.shown ≡ None → rest ≡ no_cursor
+bare_rest f rest K none = λ i. record { shown = none i; stands = stand_nowhere f rest.shown rest.stands K (ap is_some none) i }
+
+-- one that rests neither purges nor has let go of everything
+still_spot : (f : Form) (shown : Option (List ℕ)) (place : Standing) (stage : Stage) → RestsAt f shown place stage → spot_in (record { place = place; stage = stage }) (is_before place) ≡ resting (record { shown = shown; stands = spot_of place })
+still_spot f shown (On chain off) stage R = ap (λ s. record { stands = Some off; purging = is_purging s; gone = false }) R.1
+still_spot f shown (Before chain) stage R = absurd R
+still_spot f shown Past stage R = ap (λ s. record { stands = None; purging = is_purging s; gone = false }) R.1
+
+pub spot_rests : (f : Form) (walk : Walk) → WalkStands f walk → spot_in walk.cursor (is_before walk.cursor.place) ≡ resting (rest_of walk)
+spot_rests f walk S = still_spot f walk.shown walk.cursor.place walk.cursor.stage S.rests
+
+-- it stands on a record behind the heads of all chains and at a whole word, and has shown a key
+place_well : (f : Form) (shown : Option (List ℕ)) (place : Standing) (stage : Stage) → IsPlaced place → RestsAt f shown place stage → StandsWell f shown (spot_of place)
+place_well f shown (On chain off) stage P R off2 e =
+    let same : off ≡ off2 = cc in
+    subst (RestsWell f shown) same (record { shown = ap is_some R.0.shown; above = R.0.above; aligned = P.0 })
+place_well f shown (Before chain) stage P R off e = absurd R
+place_well f shown Past stage P R off e = absurd (cc e)
+
+pub walk_well : (f : Form) (walk : Walk) → WalkStands f walk → StandsWell f walk.shown (spot_of walk.cursor.place)
+walk_well f walk S = place_well f walk.shown walk.cursor.place walk.cursor.stage S.placed S.rests
+
+-- one that has shown no key has ended
+place_past : (f : Form) (shown : Option (List ℕ)) (place : Standing) (stage : Stage) → RestsAt f shown place stage → shown ≡ None → place ≡ Past
+place_past f shown (On chain off) stage R none = absurd (let c : ◌≡◌ {A = Option (List ℕ)} None (Some R.0.key) = sym none ∙ R.0.shown in cc c)
+place_past f shown (Before chain) stage R none = absurd R
+place_past f shown Past stage R none = refl
+
+pub walk_past : (f : Form) (walk : Walk) → WalkStands f walk → walk.cursor.place ≡ Past
+walk_past f walk S = place_past f walk.shown walk.cursor.place walk.cursor.stage S.rests S.none

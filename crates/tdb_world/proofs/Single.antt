@@ -88,7 +88,7 @@ module _ (size longer : ℕ) (le : size ≤ longer) where
 
   pub opener_longer : (f : Form) (options : Options) (z : Option Opener) → OpenerStands f options size z → OpenerStands f options longer z
   opener_longer f options None h = tt
-  opener_longer f options (Some x) h = (h.0, task_longer x.task h.1)
+  opener_longer f options (Some x) h = (h.0, task_longer x.task h.1, h.2)
     where
       task_longer : (task : Option Task) → TaskStands f (own_of options x) task size → TaskStands f (own_of options x) task longer
       task_longer None h = tt

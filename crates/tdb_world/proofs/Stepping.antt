@@ -13,16 +13,16 @@ use Rattle.tdb_plays.specs.InLaw.{law_opener, law_turn}
 use Rattle.tdb_world.specs.declared.options.Options.{Options}
 use Rattle.tdb_world.specs.declared.opener.Opener.{Opener}
 use Rattle.tdb_world.specs.declared.job.Task.{Task}
-use Rattle.tdb_world.specs.Openers.{no_cursor, own_of, own_at, task_at, command_in, law_task, OpenerStands}
+use Rattle.tdb_world.specs.Openers.{rest_of, own_of, own_at, task_at, command_in, law_task, OpenerStands}
 use Rattle.tdb_world.specs.States.{state_of, WorldStands, FileStands}
-use Rattle.tdb_world.specs.Turning.{no_view, resting, OpenerHolds, TurnsLocks, TurnsFile, ImageBefore, TurnsImage}
-use Rattle.tdb_world.specs.Laws.{HasTask, IsPut, MayStand, other_hands}
+use Rattle.tdb_world.specs.Turning.{resting, OpenerHolds, TurnsLocks, TurnsFile, ImageBefore, TurnsImage}
+use Rattle.tdb_world.specs.Laws.{HasTask, IsPut, MayStand, other_hands, view_in}
 use Rattle.tdb_world.specs.Worlds.{IsBusy, law_of_task}
 use Rattle.tdb_world.proofs.Putting.{numbered, put_numbered, by_number}
 use Rattle.tdb_world.proofs.Standing.{opener_is_ready, turn_keeps_world}
 use Rattle.tdb_world.proofs.Working.{image_is_ready}
 use Rattle.tdb_world.proofs.Filing.{turn_keeps_file}
-use Rattle.tdb_world.proofs.Lifting.{turn_is_turned}
+use Rattle.tdb_world.proofs.Lifting.{nobody_walks, turn_is_turned}
 
 -- what holds of an answer that is Ok, by two facts of it; and of each such answer, by two
 pub ok_so : {V F : Type 0} (r : Result V F) (P : V → Type 0) (Q R : Type 0) → ((v : V) → P v → Q → R) → IfOk r P → OnOk r Q → OnOk r R
@@ -41,12 +41,12 @@ has_task (Some u) l e = (u, refl)
 -- what a turn of the opener d, which is y after it, makes of the lock table
 abbrev pub Locked : Form → Options → Opener → Opener → ℕ → List Piece → List Piece → Turn → Type 0
 Locked f options d y who ps qs turn = (t : Task) (n : ℕ) → d.task ≡ Some t → who ≡ n + 1
-    → TurnsLocks f (own_of options d) (own_of options y) (resting no_cursor) (command_in t.job) t.steps (law_task y.task) n ps qs (law_turn turn)
+    → TurnsLocks f (own_of options d) (own_of options y) (resting (rest_of y.walk)) (command_in t.job) t.steps (law_task y.task) n ps qs (law_turn turn)
 
 -- and of the file
 abbrev pub Filed : Form → Options → Opener → Opener → ℕ → List Piece → List ℕ → List ℕ → Turn → Type 0
 Filed f options d y who ps a b turn = (v : View) (t : Task) (n : ℕ) (others : List HandPair) → d.task ≡ Some t → who ≡ n + 1 → ImageBefore f t.job a others
-    → TurnsFile f (own_of options d) (own_of options y) (resting no_cursor) v (command_in t.job) t.steps n ps a b (law_turn turn) × TurnsImage f t y.task a b others
+    → TurnsFile f (own_of options d) (own_of options y) (resting (rest_of d.walk)) v (command_in t.job) t.steps n ps a b (law_turn turn) × TurnsImage f t y.task a b others
 
 module _ (header : Header) (options : Options) (xs : List Opener) (ps : List Piece) (a : List ℕ) (size who : ℕ) (x d : Opener) (t : Task)
     (B : IsBusy (record { header = header; options = options; openers = xs; table = ps }) who x t) (item : d ≡ slice_index_or xs (who - 1) d)
@@ -65,10 +65,10 @@ module _ (header : Header) (options : Options) (xs : List Opener) (ps : List Pie
   }
 
   -- a task of it is this one, at this place
-  holds_at : (u : Task) → d.task ≡ Some u → OpenerHolds (form_in header) (own_of options d) (resting no_cursor) (command_in u.job) u.steps B.number.place ps
+  holds_at : (u : Task) → d.task ≡ Some u → OpenerHolds (form_in header) (own_of options d) (resting (rest_of d.walk)) (command_in u.job) u.steps B.number.place ps
   holds_at u e = opener_is_ready (form_in header) options xs ps a size B.number.place d u W (record { there = has.there; busy = e })
 
-  pub holds_before : (u : Task) → d.task ≡ Some u → (n : ℕ) × (who ≡ n + 1) × OpenerHolds (form_in header) (own_of options d) (resting no_cursor) (command_in u.job) u.steps n ps
+  pub holds_before : (u : Task) → d.task ≡ Some u → (n : ℕ) × (who ≡ n + 1) × OpenerHolds (form_in header) (own_of options d) (resting (rest_of d.walk)) (command_in u.job) u.steps n ps
   holds_before u e = (B.number.place, B.number.counted, holds_at u e)
 
   pub task_busy : d.task ≡ Some t
@@ -81,7 +81,7 @@ module _ (header : Header) (options : Options) (xs : List Opener) (ps : List Pie
     put : IsPut xs B.number.place y (slice_set xs (who - 1) y)
     put = put_numbered xs who B.number.place x y B.number.counted B.number.there
 
-    locked : TurnsLocks (form_in header) (own_of options d) (own_of options y) (resting no_cursor) (command_in t.job) t.steps (law_task y.task) B.number.place ps qs (law_turn turn)
+    locked : TurnsLocks (form_in header) (own_of options d) (own_of options y) (resting (rest_of y.walk)) (command_in t.job) t.steps (law_task y.task) B.number.place ps qs (law_turn turn)
     locked = L t B.number.place has.busy B.number.counted
 
     -- after a step the opener has a command
@@ -95,14 +95,18 @@ module _ (header : Header) (options : Options) (xs : List Opener) (ps : List Pie
     world_after longer M more less = turn_keeps_world (form_in header) options xs (slice_set xs (who - 1) y) ps qs a b size longer B.number.place d y t (law_turn turn) W has put locked M more less
 
     module _ (F : FileStands (form_in header) xs a) (T : Filed (form_in header) options d y who ps a b turn) where
-      filed : TurnsFile (form_in header) (own_of options d) (own_of options y) (resting no_cursor) no_view (command_in t.job) t.steps B.number.place ps a b (law_turn turn) × TurnsImage (form_in header) t y.task a b (other_hands xs B.number.place)
-      filed = T no_view t B.number.place (other_hands xs B.number.place) has.busy B.number.counted (image_is_ready (form_in header) options xs ps a size B.number.place d t W F has)
+      abbrev view : View
+      view = view_in (form_in header) options xs a B.number.place d t
+
+      filed : TurnsFile (form_in header) (own_of options d) (own_of options y) (resting (rest_of d.walk)) view (command_in t.job) t.steps B.number.place ps a b (law_turn turn) × TurnsImage (form_in header) t y.task a b (other_hands xs B.number.place)
+      filed = T view t B.number.place (other_hands xs B.number.place) has.busy B.number.counted (image_is_ready (form_in header) options xs ps a size B.number.place d t W F has)
 
       -- so do the bytes of its file
       pub file_after : FileStands (form_in header) (slice_set xs (who - 1) y) b
-      file_after = turn_keeps_file (form_in header) options xs (slice_set xs (who - 1) y) ps a b size B.number.place d y t (law_turn turn) W F has put filed.0 filed.1
+      file_after = turn_keeps_file (form_in header) options xs (slice_set xs (who - 1) y) ps a b size B.number.place d y t view (law_turn turn) W F has put filed.0 filed.1
 
       -- and it was a turn of the law
-      pub turned_after : Turned (form_in header) (state_of (form_in header) options xs ps a) (law_opener who) (law_of_task t) (law_turn turn) (state_of (form_in header) options (slice_set xs (who - 1) y) qs b)
-      turned_after = subst (λ o. Turned (form_in header) (state_of (form_in header) options xs ps a) o (law_of_task t) (law_turn turn) (state_of (form_in header) options (slice_set xs (who - 1) y) qs b)) (sym (by_number who B.number.place B.number.counted))
-          (turn_is_turned (form_in header) options xs (slice_set xs (who - 1) y) ps qs a b size B.number.place d y t (law_turn turn) W has put locked filed.0)
+      pub turned_after : y.walk ≡ d.walk → Turned (form_in header) (state_of (form_in header) options xs ps a) (law_opener who) (law_of_task t) (law_turn turn) (state_of (form_in header) options (slice_set xs (who - 1) y) qs b)
+      turned_after still = subst (λ o. Turned (form_in header) (state_of (form_in header) options xs ps a) o (law_of_task t) (law_turn turn) (state_of (form_in header) options (slice_set xs (who - 1) y) qs b)) (sym (by_number who B.number.place B.number.counted))
+          (turn_is_turned (form_in header) options xs (slice_set xs (who - 1) y) ps qs a b size B.number.place d y t (law_turn turn) W has put locked filed.0 still
+          (λ o. nobody_walks (form_in header) options xs ps a size W o (own_of options d) (command_in t.job) t.steps (law_turn turn) b))

@@ -16,7 +16,7 @@ use Rattle.tdb_world.specs.declared.job.Job.TheVariants as Jobs
 use Rattle.tdb_world.specs.declared.job.Checking.{Checking}
 use Rattle.tdb_world.specs.declared.job.Checking.TheVariants as Checks
 use Rattle.tdb_world.specs.declared.job.Task.{Task}
-use Rattle.tdb_world.specs.Openers.{no_cursor, own_of, command_in, CheckAfter, JobStands, TaskStands}
+use Rattle.tdb_world.specs.Openers.{rest_of, own_of, command_in, CheckAfter, JobStands, TaskStands}
 use Rattle.tdb_world.specs.Turning.{OpenerHolds, resting}
 use Rattle.tdb_world.specs.Jobs.{JobIsReady}
 use Rattle.tdb_world.specs.Laws.{MayStand}
@@ -86,16 +86,16 @@ steps_few f x Jobs.Seqnum n size K = let none = K.0 in omega (arith, none)
 steps_few f x Jobs.Close n size K = let none = K.0 in omega (arith, none)
 
 module _ (f : Form) (options : Options) (x : Opener) (size owner : ℕ) (ps : List Piece) (M : MayStand f options size x)
-    (holds : (t : Task) → x.task ≡ Some t → (who : ℕ) × (owner ≡ who + 1) × OpenerHolds f (own_of options x) (resting no_cursor) (command_in t.job) t.steps who ps) (t : Task) (busy : x.task ≡ Some t) where
+    (holds : (t : Task) → x.task ≡ Some t → (who : ℕ) × (owner ≡ who + 1) × OpenerHolds f (own_of options x) (resting (rest_of x.walk)) (command_in t.job) t.steps who ps) (t : Task) (busy : x.task ≡ Some t) where
   task_stands : JobStands f (own_of options x) t.job t.steps size
   task_stands = subst (λ z. TaskStands f (own_of options x) z size) busy M.stands.1
 
   pub task_few : t.steps ≤ 6
   task_few = steps_few f (own_of options x) t.job t.steps size task_stands
 
-  pub task_ready : (who : ℕ) → owner ≡ who + 1 → JobIsReady f (own_of options x) (resting no_cursor) t.job t.steps who owner size ps
+  pub task_ready : (who : ℕ) → owner ≡ who + 1 → JobIsReady f (own_of options x) (resting (rest_of x.walk)) t.job t.steps who owner size ps
   task_ready who number = let h = holds t busy in let named = h.1 in record {
     number = number;
     stands = task_stands;
-    holds = subst (λ w. OpenerHolds f (own_of options x) (resting no_cursor) (command_in t.job) t.steps w ps) (omega (arith, named, number)) h.2;
+    holds = subst (λ w. OpenerHolds f (own_of options x) (resting (rest_of x.walk)) (command_in t.job) t.steps w ps) (omega (arith, named, number)) h.2;
   }

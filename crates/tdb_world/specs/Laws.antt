@@ -1,6 +1,6 @@
 -- The laws that lift what an opener does to the world: from what holds between any two calls, to what holds after it, and to the law's
 -- words for it (`tdb_law`).
-use Rattle.std.specs.Prelude.{ℕ, ◌≡◌, ◌≢◌, ◌<◌, ◌≤◌, ◌==◌, List, [], ◌∷◌, ◌++◌, Some, None, true, length, slice_get, if◌then◌else◌}
+use Rattle.std.specs.Prelude.{ℕ, ◌≡◌, ◌≢◌, ◌<◌, ◌≤◌, ◌==◌, List, [], ◌∷◌, ◌++◌, Some, None, true, length, slice_get, set, if◌then◌else◌}
 use Rattle.std.specs.FinMap.{len}
 use Rattle.tdb_space.specs.Form.{Form}
 use Rattle.tdb_space.specs.Pairs.{joined, order_of}
@@ -10,6 +10,7 @@ use Rattle.tdb_locks.specs.HeldLocks.{nothing_held}
 use Rattle.tdb_locks.specs.declared.piece.Piece.{Piece}
 use Rattle.tdb_law.specs.Commands.{Turn}
 use Rattle.tdb_law.specs.Lines.{most_openers}
+use Rattle.tdb_law.specs.Openers.{View}
 use Rattle.tdb_law.specs.Turned.{Turned}
 use Rattle.tdb_law.specs.World.{HasFewChains}
 use Rattle.tdb_law.specs.Events.{Joins, Given}
@@ -19,9 +20,9 @@ use Rattle.tdb_world.specs.declared.options.Options.{Options}
 use Rattle.tdb_world.specs.declared.opener.Opener.{Opener}
 use Rattle.tdb_world.specs.declared.job.Job.{Job}
 use Rattle.tdb_world.specs.declared.job.Task.{Task}
-use Rattle.tdb_world.specs.Openers.{no_cursor, options_of, JobStands, own_of, command_in, law_task, hands_at, OpenerStands}
-use Rattle.tdb_world.specs.States.{state_of, WorldStands, FileStands}
-use Rattle.tdb_world.specs.Turning.{no_view, resting, OpenerHolds, TurnsLocks, TurnsFile, ImageBefore, TurnsImage}
+use Rattle.tdb_world.specs.Openers.{no_walk, rest_of, options_of, JobStands, own_of, command_in, law_task, hands_at, place_at, spots_of, OpenerStands}
+use Rattle.tdb_world.specs.States.{state_of, view_for, WorldStands, FileStands}
+use Rattle.tdb_world.specs.Turning.{resting, OpenerHolds, TurnsLocks, TurnsFile, TurnsWalk, ImageBefore, TurnsImage}
 
 -- among these openers this one has this task
 pub record HasTask (openers : List Opener) (who : ℕ) (x : Opener) (t : Task) : Type 0 where
@@ -49,7 +50,7 @@ pub record MayStand (f : Form) (options : Options) (size : ℕ) (y : Opener) : T
 -- What holds before a turn: the opener holds what its task has locked and what it keeps.
 abbrev pub OpenerIsReady : Type 0
 OpenerIsReady = (f : Form) (options : Options) (xs : List Opener) (ps : List Piece) (a : List ℕ) (size who : ℕ) (x : Opener) (t : Task)
-    → WorldStands f options xs ps a size → HasTask xs who x t → OpenerHolds f (own_of options x) (resting no_cursor) (command_in t.job) t.steps who ps
+    → WorldStands f options xs ps a size → HasTask xs who x t → OpenerHolds f (own_of options x) (resting (rest_of x.walk)) (command_in t.job) t.steps who ps
 
 -- The image is accepted with the records of its command and with those of all others, and the command knows it.
 abbrev pub ImageIsReady : Type 0
@@ -60,23 +61,28 @@ ImageIsReady = (f : Form) (options : Options) (xs : List Opener) (ps : List Piec
 abbrev pub TurnKeepsWorld : Type 0
 TurnKeepsWorld = (f : Form) (options : Options) (xs ys : List Opener) (ps qs : List Piece) (a b : List ℕ) (size longer who : ℕ) (x y : Opener) (t : Task) (turn : Turn)
     → WorldStands f options xs ps a size → HasTask xs who x t → IsPut xs who y ys
-    → TurnsLocks f (own_of options x) (own_of options y) (resting no_cursor) (command_in t.job) t.steps (law_task y.task) who ps qs turn
+    → TurnsLocks f (own_of options x) (own_of options y) (resting (rest_of y.walk)) (command_in t.job) t.steps (law_task y.task) who ps qs turn
     → MayStand f options longer y → size ≤ longer → longer ≤ options.limit → WorldStands f options ys qs b longer
 
 -- After a turn that also did to the file what it may, its bytes stand: others still know their chains, since who changes a chain has it
 -- locked.
 abbrev pub TurnKeepsFile : Type 0
-TurnKeepsFile = (f : Form) (options : Options) (xs ys : List Opener) (ps : List Piece) (a b : List ℕ) (size who : ℕ) (x y : Opener) (t : Task) (turn : Turn)
+TurnKeepsFile = (f : Form) (options : Options) (xs ys : List Opener) (ps : List Piece) (a b : List ℕ) (size who : ℕ) (x y : Opener) (t : Task) (v : View) (turn : Turn)
     → WorldStands f options xs ps a size → FileStands f xs a → HasTask xs who x t → IsPut xs who y ys
-    → TurnsFile f (own_of options x) (own_of options y) (resting no_cursor) no_view (command_in t.job) t.steps who ps a b turn
+    → TurnsFile f (own_of options x) (own_of options y) (resting (rest_of x.walk)) v (command_in t.job) t.steps who ps a b turn
     → TurnsImage f t y.task a b (other_hands xs who) → FileStands f ys b
 
--- And it is a turn of the law.
+-- what the file adds to the cursor of an opener of a world, where its command is this one
+abbrev pub view_in : Form → Options → List Opener → List ℕ → ℕ → Opener → Task → View
+view_in f options xs a who x t = view_for f options a (set (spots_of xs) who 0) x (command_in t.job)
+
+-- And it is a turn of the law, where it leaves its opener's cursor where that stands, and shifts all walks.
 abbrev pub TurnIsTurned : Type 0
 TurnIsTurned = (f : Form) (options : Options) (xs ys : List Opener) (ps qs : List Piece) (a b : List ℕ) (size who : ℕ) (x y : Opener) (t : Task) (turn : Turn)
     → WorldStands f options xs ps a size → HasTask xs who x t → IsPut xs who y ys
-    → TurnsLocks f (own_of options x) (own_of options y) (resting no_cursor) (command_in t.job) t.steps (law_task y.task) who ps qs turn
-    → TurnsFile f (own_of options x) (own_of options y) (resting no_cursor) no_view (command_in t.job) t.steps who ps a b turn
+    → TurnsLocks f (own_of options x) (own_of options y) (resting (rest_of y.walk)) (command_in t.job) t.steps (law_task y.task) who ps qs turn
+    → TurnsFile f (own_of options x) (own_of options y) (resting (rest_of x.walk)) (view_in f options xs a who x t) (command_in t.job) t.steps who ps a b turn
+    → y.walk ≡ x.walk → ((o : ℕ) → TurnsWalk f (own_of options x) (command_in t.job) t.steps turn a b (place_at (slice_get xs o)))
     → Turned f (state_of f options xs ps a) who (record { command = command_in t.job; steps = t.steps }) turn (state_of f options ys qs b)
 
 -- a new opener comes behind these; it has nothing yet
@@ -85,6 +91,7 @@ pub record IsJoined (old : List Opener) (y : Opener) (new : List Opener) : Type 
   pub live : y.live ≡ true
   pub idle : y.task ≡ None
   pub nothing : y.held ≡ nothing_held
+  pub bare : y.walk ≡ no_walk
 
 -- Where there is room it leaves a world that stands, and joins in the words of the law; and it leaves bytes that stand.
 -- Nobody holds the opening lock, which only a transaction takes.
@@ -106,6 +113,7 @@ pub record IsGiven (x : Opener) (job : Job) (y : Opener) : Type 0 where
   pub task : y.task ≡ Some (record { steps = 0; job = job })
   pub same_live : y.live ≡ x.live
   pub same_held : y.held ≡ x.held
+  pub same_walk : y.walk ≡ x.walk
 
 -- A job that stands at its beginning leaves a world that stands and bytes that do, and is given in the words of the law.
 abbrev pub GiftKeepsWorld : Type 0

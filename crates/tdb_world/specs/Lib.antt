@@ -10,3 +10,4 @@ pub mod Jobs
 pub mod Checked
 pub mod Played
 pub mod Finished
+pub mod Cursors

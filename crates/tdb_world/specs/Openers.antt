@@ -1,5 +1,5 @@
 -- An opener in the words of the law (`tdb_law`): what it has, and its unfinished command.
-use Rattle.std.specs.Prelude.{ℕ, ◌+◌, ◌*◌, ◌≡◌, Bool, List, [], ◌∷◌, Option, Some, None, nat_lt, if◌then◌else◌}
+use Rattle.std.specs.Prelude.{ℕ, ◌+◌, ◌*◌, ◌≡◌, Bool, List, [], ◌∷◌, map, Option, Some, None, nat_lt, if◌then◌else◌}
 use Rattle.std.specs.FinMap.{empty, insert, len}
 use Rattle.tdb_space.specs.Form.{Form}
 use Rattle.tdb_space.specs.Pairs.{home}
@@ -8,15 +8,24 @@ use Rattle.tdb_space.specs.Extents.{HandPair}
 use Rattle.tdb_locks.specs.HeldLocks.{HeldLocks}
 use Rattle.tdb_locks.specs.declared.kind.Kind.{Kind}
 use Rattle.tdb_law.specs.Commands as Law
-use Rattle.tdb_law.specs.Openers.{Counts, AllLock, Own, Task as LawTask, Options as LawOptions}
+use Rattle.tdb_law.specs.Openers.{Counts, AllLock, Own, Spot, Task as LawTask, Options as LawOptions, nowhere}
 use Rattle.tdb_law.specs.Refusals.{Refusal, refusal, says}
 use Rattle.tdb_law.specs.Beginning.{nobody}
 use Rattle.tdb_law.specs.Images.{image_map}
+use Rattle.tdb_law.specs.Layout.{Place}
+use Rattle.tdb_law.specs.Layout.Place.{off_chains}
 use Rattle.tdb_steps.specs.LockRows.{strength_of}
 use Rattle.tdb_steps.specs.PlainCommands.{key_of, command_of}
 use Rattle.tdb_steps.specs.Stages.{hands_in}
 use Rattle.tdb_steps.specs.Order.{IsAfter}
 use Rattle.tdb_steps.specs.Machines.{Doing, Fits, DoingKnows}
+use Rattle.tdb_walk.specs.NextLive.{place_of}
+use Rattle.tdb_walk.specs.declared.standing.Standing.TheVariants.{Past}
+use Rattle.tdb_walk.specs.Cursors.{IsPlaced, rested, spot_of}
+use Rattle.tdb_walk.specs.InLaw.{spot_in, is_before}
+use Rattle.tdb_walk.specs.Again.{RestsAt}
+use Rattle.tdb_cursors.specs.declared.walk.Walk.{Walk}
+use Rattle.tdb_cursors.specs.Spots.{spot_number}
 use Rattle.tdb_plays.specs.InLaw.{law_command, law_reply}
 use Rattle.tdb_world.specs.Given.{IsServed, IsShortLocking, IsWellHeld}
 use Rattle.tdb_world.specs.declared.options.Options.{Options}
@@ -50,17 +59,34 @@ pub record AtRest : Type 0 where
 abbrev pub no_cursor : AtRest
 no_cursor = record { shown = None; stands = None }
 
+abbrev pub rest_of : Walk → AtRest
+rest_of walk = record { shown = walk.shown; stands = spot_of walk.cursor.place }
+
+abbrev pub no_walk : Walk
+no_walk = record { cursor = rested Past; shown = None }
+
 -- what an opener with such a cursor has: it has no transaction
 abbrev pub own_with : Options → Bool → HeldLocks → AtRest → Own
 own_with options live held rest = record { options = options_of options; live = live; txn = None; counts = counts_of held.chains; all = all_of held.all; cursor = rest.shown }
 
--- nobody has a cursor yet
 abbrev pub own_of : Options → Opener → Own
-own_of options x = own_with options x.live x.held no_cursor
+own_of options x = own_with options x.live x.held (rest_of x.walk)
 
 abbrev pub own_at : Options → Option Opener → Own
 own_at options None = nobody (options_of options)
 own_at options (Some x) = own_of options x
+
+-- what only the world knows of the cursor of an opener, where it stands in the chains, and the records on which those of all openers stand
+abbrev pub spot_at : Option Opener → Spot
+spot_at None = nowhere
+spot_at (Some x) = spot_in x.walk.cursor (is_before x.walk.cursor.place)
+
+abbrev pub place_at : Option Opener → Place
+place_at None = off_chains
+place_at (Some x) = place_of x.walk.cursor.place
+
+abbrev pub spots_of : List Opener → List ℕ
+spots_of openers = map (λ x. spot_number x.walk.cursor.place) openers
 
 -- the commands of the law
 abbrev pub locking_command : LockingCommand → Law.LockCommand
@@ -123,21 +149,28 @@ pub record PlainStands (f : Form) (x : Own) (d : Doing) (n size : ℕ) : Type 0 
   pub fits : Fits d size without_bound
 
 -- a command of an opener stands after so many steps, in a file of this length, whatever its bytes are: it is refused and had no
--- step, or it isn't, and it is where these steps have brought it
+-- step, or it isn't, and it is where these steps have brought it. No opener with a cursor ends yet.
 abbrev pub JobStands : Form → Own → Job → ℕ → ℕ → Type 0
 JobStands f x (Refused command reply) n size = (n ≡ 0) × IsServed command × IsRefused f x (law_command command) (law_reply reply)
 JobStands f x (Plain doing) n size = PlainStands f x doing n size
 JobStands f x (Check checking) n size = (refusal f (command_in (Check checking)) x ≡ None) × CheckAfter checking n
 JobStands f x (Locking locking) n size = (n ≡ 0) × (refusal f (command_in (Locking locking)) x ≡ None) × IsShortLocking locking
+JobStands f x Close n size = (n ≡ 0) × (refusal f (command_in Close) x ≡ None) × (x.cursor ≡ None)
 JobStands f x job n size = (n ≡ 0) × (refusal f (command_in job) x ≡ None)
 
 abbrev pub TaskStands : Form → Own → Option Task → ℕ → Type 0
 TaskStands f x None size = Unit {0}
 TaskStands f x (Some t) size = JobStands f x t.job t.steps size
 
+-- The cursor of an opener whose command is on no cursor rests; where it stands on a record, that is at a whole word. Nobody has one yet.
+pub record WalkStands (f : Form) (walk : Walk) : Type 0 where
+  pub placed : IsPlaced walk.cursor.place
+  pub rests : RestsAt f walk.shown walk.cursor.place walk.cursor.stage
+  pub none : walk.shown ≡ None
+
 abbrev pub OpenerStands : Form → Options → ℕ → Option Opener → Type 0
 OpenerStands f options size None = Unit {0}
-OpenerStands f options size (Some x) = IsWellHeld x.held × TaskStands f (own_of options x) x.task size
+OpenerStands f options size (Some x) = IsWellHeld x.held × TaskStands f (own_of options x) x.task size × WalkStands f x.walk
 
 -- what a command knows of an image; a check that has counted the keys has their number
 abbrev pub JobKnows : Form → List ℕ → Job → Type 0

@@ -1,38 +1,54 @@
 -- A world in the words of the law (`tdb_law`), and what holds of it between any two calls.
-use Rattle.std.specs.Prelude.{ℕ, ◌+◌, ◌≤◌, ◌≡◌, List, length, slice_get, false, None}
-use Rattle.tdb_words.specs.Word.{word}
-use Rattle.tdb_words.specs.Header.{sequence_at}
+use Rattle.std.specs.Prelude.{ℕ, ◌+◌, ◌≤◌, ◌≡◌, List, length, slice_get, set, Option, Some, None}
 use Rattle.tdb_space.specs.Form.{Form}
 use Rattle.tdb_space.specs.Pairs.{joined}
 use Rattle.tdb_space.specs.Accepted.{AcceptWith}
 use Rattle.tdb_locks.specs.LockTable.{held}
 use Rattle.tdb_locks.specs.declared.piece.Piece.{Piece}
-use Rattle.tdb_law.specs.Openers.{nowhere}
+use Rattle.tdb_law.specs.Commands.{Command}
+use Rattle.tdb_law.specs.Commands.Command.{OnWalk}
+use Rattle.tdb_law.specs.Openers.{View, Task as LawTask}
 use Rattle.tdb_law.specs.World.{State, IsSound}
-use Rattle.tdb_law.specs.Images.{image_map}
 use Rattle.tdb_law.specs.Lines.{most_openers}
 use Rattle.tdb_steps.specs.Holdings.{table_of}
+use Rattle.tdb_walk.specs.InLaw.{goal_of, view_of}
+use Rattle.tdb_walk.specs.Walkers.{Walkers}
+use Rattle.tdb_walk.specs.Walkers as Walking
 use Rattle.tdb_world.specs.declared.options.Options.{Options}
 use Rattle.tdb_world.specs.declared.opener.Opener.{Opener}
-use Rattle.tdb_world.specs.Openers.{own_at, task_at, hands_at, OpenerStands, OpenerKnows}
+use Rattle.tdb_world.specs.Openers.{own_at, law_task, task_at, spot_at, place_at, spots_of, hands_at, OpenerStands, OpenerKnows}
+use Rattle.tdb_world.specs.Turning.{no_view}
 
--- The state of a world with these openers and this lock table, whose file has these bytes. The law counts openers from 0; in the lock
--- table they have numbers from 1. Nobody has a cursor, so no walk is on its way; and no gate stands open.
-abbrev pub state_of : Form → Options → List Opener → List Piece → List ℕ → State
-state_of f options openers table img = record {
-  file = image_map f img;
-  table = λ o b. table_of table (o + 1) b;
+-- What the file adds to the cursor of an opener, where cursors of others stand on these records. It is asked for while a command on the
+-- cursor is under way: else nothing has to be purged, and no move is on its way.
+abbrev pub view_for : Form → Options → List ℕ → List ℕ → Opener → Command → View
+view_for f options img stood_on x (OnWalk w) = view_of f img x.held stood_on options.read_only (goal_of w) x.walk.cursor.place
+view_for f options img stood_on x c = no_view
+
+abbrev pub view_under : Form → Options → List ℕ → List ℕ → Opener → Option LawTask → View
+view_under f options img stood_on x None = no_view
+view_under f options img stood_on x (Some t) = view_for f options img stood_on x t.command
+
+abbrev pub view_at : Form → Options → List ℕ → List ℕ → Option Opener → View
+view_at f options img stood_on None = no_view
+view_at f options img stood_on (Some x) = view_under f options img stood_on x (law_task x.task)
+
+-- The openers of a world with this lock table, whose file has these bytes, as those of a world with cursors (`tdb_walk`). The law counts
+-- openers from 0; in the lock table they have numbers from 1.
+abbrev pub walkers_of : Form → Options → List Opener → List Piece → List ℕ → Walkers
+walkers_of f options openers table img = record {
   joined = length openers;
   task = λ o. task_at (slice_get openers o);
   own = λ o. own_at options (slice_get openers o);
-  spot = λ o. nowhere;
-  view = λ o. record { must = false; way = λ b. false };
-  mark = λ o. record { inside = false; reached = 0; ahead = λ k. false };
-  stale = false;
-  settled = false;
-  number = word f.order img sequence_at;
-  image_number = λ o. 0;
+  spot = λ o. spot_at (slice_get openers o);
+  view = λ o. view_at f options img (set (spots_of openers) o 0) (slice_get openers o);
+  place = λ o. place_at (slice_get openers o);
+  table = λ o b. table_of table (o + 1) b;
 }
+
+-- and the state of that world; no gate stands open
+abbrev pub state_of : Form → Options → List Opener → List Piece → List ℕ → State
+state_of f options openers table img = Walking.state_of f (walkers_of f options openers table img) img
 
 -- What holds of a world whatever the bytes of its file are: it is sound, no more have joined than may, no lock is of a
 -- number below 1, each unfinished command is where its steps have brought it, and the file is no longer than it may be.

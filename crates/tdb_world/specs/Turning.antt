@@ -1,5 +1,5 @@
 -- What one turn of an opener makes of the lock table, of the file and of the opener, in the words of the law (`tdb_law`).
-use Rattle.std.specs.Prelude.{ℕ, ◌+◌, ◌%◌, ◌≡◌, ◌≢◌, ◌≤◌, List, [], ◌++◌, Option, Some, is_some, true, false}
+use Rattle.std.specs.Prelude.{ℕ, ◌+◌, ◌%◌, ◌≡◌, ◌≢◌, ◌≤◌, List, [], ◌++◌, Bool, Option, Some, is_some, true, false}
 use Rattle.tdb_words.specs.Word.{word}
 use Rattle.tdb_words.specs.Header.{sequence_at}
 use Rattle.tdb_space.specs.Form.{Form, data_start}
@@ -13,6 +13,8 @@ use Rattle.tdb_law.specs.Ends.{IsRow}
 use Rattle.tdb_law.specs.Held.{holding, wanted, decided}
 use Rattle.tdb_law.specs.Effects.{Effect, IsFree, IsFirstConflict, Finds, task_left}
 use Rattle.tdb_law.specs.Turned.{number_next}
+use Rattle.tdb_law.specs.Walks.{Lost, Shift}
+use Rattle.tdb_law.specs.Layout.{Place, chains_in, mark_of}
 use Rattle.tdb_law.specs.Images.{image_map}
 use Rattle.tdb_steps.specs.Holdings.{table_of}
 use Rattle.tdb_steps.specs.Stages.{MayBeOut}
@@ -31,7 +33,7 @@ law_table ps o b = table_of ps (o + 1) b
 abbrev pub resting : AtRest → Spot
 resting rest = record { stands = rest.stands; purging = false; gone = false }
 
--- what the file adds to an opener without a cursor: nothing has to be purged, and no move is on its way
+-- what the file adds to an opener whose command is on no cursor: nothing has to be purged, and no move is on its way
 abbrev pub no_view : View
 no_view = record { must = false; way = λ b. false }
 
@@ -73,6 +75,11 @@ pub record TurnsFile (f : Form) (x y : Own) (s : Spot) (v : View) (c : Command) 
   pub effect : Effect f (IsFree (law_table old) who (wants f c x s v n)) (IsFirstConflict (law_table old) who (wants f c x s v n))
       (Finds f (law_table old who) (wants f c x s v n) (image_map f a)) (word f.order a sequence_at) c n x (image_map f a) turn y (image_map f b)
   pub number : word f.order b sequence_at ≡ number_next f c n x turn (word f.order a sequence_at) 0
+
+-- What a turn leaves of a walk at this place, of its own opener or of another: it isn't moved, and what is further on is lost by the turn
+-- alone.
+abbrev pub TurnsWalk : Form → Own → Command → ℕ → Turn → List ℕ → List ℕ → Place → Type 0
+TurnsWalk f x c n turn a b place = (mine : Bool) → Shift f (Lost f c n x turn mine (mark_of f (chains_in f a) place)) (mark_of f (chains_in f a) place) (mark_of f (chains_in f b) place)
 
 -- The hands of other commands that may be out before a turn: any. But where a wipe or a check has locked all records and the free list
 -- there is none: the locks of whoever had one would conflict.

@@ -11,7 +11,7 @@ use Rattle.tdb_plays.specs.InLaw.{law_command}
 use Rattle.tdb_world.specs.declared.options.Options.{Options}
 use Rattle.tdb_world.specs.declared.opener.Opener.{Opener}
 use Rattle.tdb_world.specs.declared.job.Task.{Task}
-use Rattle.tdb_world.specs.Openers.{own_of, command_in, JobStands}
+use Rattle.tdb_world.specs.Openers.{no_walk, own_of, command_in, JobStands}
 use Rattle.tdb_world.specs.States.{state_of, WorldStands, FileStands}
 use Rattle.tdb_world.specs.Laws.{IsPut}
 
@@ -34,7 +34,7 @@ BytesStand w img = FileStands (form_in w.header) w.openers img
 
 -- an opener that has just joined
 abbrev pub fresh : Opener
-fresh = record { live = true; held = nothing_held; task = None }
+fresh = record { live = true; held = nothing_held; task = None; walk = no_walk }
 
 -- The opener with this number, counted from 1, is there.
 pub record IsNumber (w : World) (who : ℕ) (x : Opener) : Type 0 where

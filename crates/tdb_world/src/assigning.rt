@@ -2,11 +2,10 @@
 
 ghost use Rattle.std.specs.Prelude.{◌≡◌, ◌<◌, ℕ, None};
 ghost use Rattle.tdb_space.specs.Form.{form_in};
-ghost use Rattle.tdb_locks.specs.HeldLocks.{AreCounts};
 ghost use Rattle.tdb_plays.specs.InLaw.{law_command};
 ghost use Rattle.tdb_law.specs.Openers.{Own};
 ghost use Rattle.tdb_law.specs.Refusals.{refusal};
-ghost use Rattle.tdb_world.specs.Given.{IsShortGiven, IsServed};
+ghost use Rattle.tdb_world.specs.Given.{IsShortGiven, IsServed, IsWellHeld};
 ghost use Rattle.tdb_world.specs.Openers.{own_of, command_in, JobStands};
 
 use crate::job::{Checking, Job, Locking};
@@ -24,7 +23,7 @@ fn job_of(command: Command, told: Command, header: &Header, seqnum: bool) -> Job
     requires short { IsShortGiven command }
     requires chains { 0 < header.now.hash_size }
     ensures command { command_in result ≡ law_command command }
-    ensures begun { (x : Own) (size : ℕ) → refusal (form_in header.now) (law_command command) x ≡ None → x.options.seqnum ≡ seqnum → JobStands (form_in header.now) x result 0 size }
+    ensures begun { (x : Own) (size : ℕ) → refusal (form_in header.now) (law_command command) x ≡ None → x.options.seqnum ≡ seqnum → x.cursor ≡ None → JobStands (form_in header.now) x result 0 size }
 {
     match command {
         Command::Fetch { key } => Job::Plain(PlainJob::new(
@@ -77,7 +76,8 @@ impl Opener {
         header: &Header,
     ) -> Job
         requires same { told ≡ command }
-        requires counts { AreCounts self.now.held.chains }
+        requires well { IsWellHeld self.now.held }
+        requires bare { self.now.walk.shown ≡ None }
         requires served { IsServed command }
         requires short { IsShortGiven command }
         requires chains { 0 < header.now.hash_size }

@@ -1,6 +1,6 @@
 // The turns that end a command at once: one that is refused, and the end of an opener.
 
-ghost use Rattle.std.specs.Prelude.{◌≡◌, ◌+◌, ℕ, List, Bool, false};
+ghost use Rattle.std.specs.Prelude.{◌≡◌, ◌+◌, ℕ, List, Bool, None, false};
 ghost use Rattle.tdb_space.specs.Form.{Form};
 ghost use Rattle.tdb_locks.specs.HeldLocks.{nothing_held};
 ghost use Rattle.tdb_locks.specs.declared.piece.Piece.{Piece};
@@ -9,7 +9,7 @@ ghost use Rattle.tdb_law.specs.Openers.{Own, View};
 ghost use Rattle.tdb_plays.specs.InLaw.{law_command, law_reply};
 ghost use Rattle.tdb_plays.specs.declared.command.Command.{Command};
 ghost use Rattle.tdb_world.specs.Given.{IsServed};
-ghost use Rattle.tdb_world.specs.Openers.{AtRest, own_with, no_cursor, IsRefused};
+ghost use Rattle.tdb_world.specs.Openers.{AtRest, own_with, IsRefused};
 ghost use Rattle.tdb_world.specs.Turning.{OpenerHolds, resting};
 ghost use Rattle.tdb_world.specs.Ended.{EndTurned};
 ghost use Rattle.tdb_world.specs.declared.options.Options.{Options};
@@ -27,14 +27,14 @@ pub(crate) fn refused_turn(reply: Reply) -> Turn
     Turn::Done(reply)
 }
 
-/// Takes the turn that ends an opener with this number in the lock table: it lets go of all that it holds. The opener
-/// isn't live then. It takes no memory. Cost: a pass over the lock table.
+/// Takes the turn that ends an opener without a cursor, with this number in the lock table: it lets go of all that it
+/// holds. The opener isn't live then. It takes no memory. Cost: a pass over the lock table.
 pub(crate) fn close_turn(alloc: Global, locks: &mut Locks, owner: u32, held: &mut Held) -> Turn
     ensures turn { result ≡ Turn.Done Reply.Ok }
     ensures held { held.new ≡ nothing_held }
-    ensures turned { (f : Form) (options : Options) (live : Bool) (v : View) (who : ℕ) → owner ≡ who + 1
-        → OpenerHolds f (own_with options live held.old no_cursor) (resting no_cursor) (Law.Command.OnWalk Law.WalkCommand.Close) 0 who locks.old
-        → EndTurned f (own_with options live held.old no_cursor) (own_with options false held.new no_cursor) (resting no_cursor) v (Law.Command.OnWalk Law.WalkCommand.Close) who locks.old locks.new Law.Reply.Done }
+    ensures turned { (f : Form) (options : Options) (live : Bool) (rest : AtRest) (v : View) (who : ℕ) → owner ≡ who + 1 → rest.shown ≡ None
+        → OpenerHolds f (own_with options live held.old rest) (resting rest) (Law.Command.OnWalk Law.WalkCommand.Close) 0 who locks.old
+        → EndTurned f (own_with options live held.old rest) (own_with options false held.new rest) (resting rest) v (Law.Command.OnWalk Law.WalkCommand.Close) who locks.old locks.new Law.Reply.Done }
 {
     locks.drop_owner(owner);
     *held = Held::new(alloc);

@@ -1,6 +1,7 @@
 // An opener of the file.
 
 use crate::job::Task;
+use tdb_cursors::Walk;
 use tdb_locks::Held;
 
 /// An opener of the file.
@@ -12,4 +13,6 @@ pub(crate) struct Opener {
     pub(crate) held: Held,
     /// The command that it has, if it has one.
     pub(crate) task: Option<Task>,
+    /// Its cursor.
+    pub(crate) walk: Walk,
 }

@@ -5,7 +5,6 @@ ghost use Rattle.tdb_disk.specs.Count.{HasCause};
 ghost use Rattle.tdb_space.specs.Form.{form_in};
 ghost use Rattle.tdb_space.specs.Frame.{Wrote};
 ghost use Rattle.tdb_space.specs.Spare.{without_bound};
-ghost use Rattle.tdb_locks.specs.HeldLocks.{AreCounts};
 ghost use Rattle.tdb_space.specs.Accepted.{AcceptWith};
 ghost use Rattle.tdb_law.specs.World.{HasFewChains};
 ghost use Rattle.tdb_law.specs.Beginning.{IsLoaded};
@@ -17,7 +16,7 @@ ghost use Rattle.tdb_plays.specs.declared.line.Line.{Line};
 ghost use Rattle.tdb_plays.specs.InLaw.{law_opener, law_command, law_turn};
 ghost use Rattle.tdb_world.specs.declared.job.Task.{Task};
 ghost use Rattle.tdb_world.specs.declared.opener.Opener.{Opener};
-ghost use Rattle.tdb_world.specs.Given.{IsShortGiven, IsServed};
+ghost use Rattle.tdb_world.specs.Given.{IsShortGiven, IsServed, IsWellHeld};
 ghost use Rattle.tdb_world.specs.Worlds.{fresh, state_in, law_of_task, Stands, BytesStand, IsNumber, IsFree, IsBusy, IsAssigned};
 
 use crate::job::Task;
@@ -26,7 +25,8 @@ use crate::options::Options;
 use crate::telling::tell_unfinished;
 use std::alloc::{AllocError, Global};
 use std::marker::Model;
-use tdb_locks::{Held, Locks, Turn};
+use tdb_cursors::Walk;
+use tdb_locks::{Held, Locks, Spots, Turn};
 use tdb_plays::{Command, TurnReport};
 use tdb_space::{Io, Space};
 use tdb_words::Header;
@@ -53,14 +53,20 @@ pub struct Openers {
     options: Options,
     locks: Locks,
     list: Vec<Opener>,
+    /// The records on which their cursors stand: an entry for each opener, which is 0 where its cursor stands on none.
+    spots: Spots,
 }
 
 impl Model for Openers {
+    ghost use Rattle.std.specs.Prelude.{◌≡◌};
+    ghost use Rattle.tdb_world.specs.Openers.{spots_of};
     ghost use Rattle.tdb_world.specs.Worlds.{World};
 
     ghost Value = { World };
 
     ghost view = { λ w. record { header = w.header; options = w.options; openers = w.list.items; table = w.locks } };
+
+    ghost invariant = { λ w. w.spots ≡ spots_of w.list.items };
 }
 
 impl Openers {
@@ -80,6 +86,7 @@ impl Openers {
             options: *options,
             locks: Locks::new(alloc),
             list: Vec::new(alloc),
+            spots: Spots::new(alloc),
         }
     }
 
@@ -146,7 +153,7 @@ impl Openers {
         }
     }
 
-    /// Puts a new opener behind the others.
+    /// Puts a new opener behind the others, whose cursor stands on no record.
     fn push_opener(&mut self) -> Result<u32, JoinRefusal>
         requires { length self.old.openers ≤ 1000 }
         ensures number { IfOk result (λ who. who ≡ length self.old.openers + 1) }
@@ -165,11 +172,16 @@ impl Openers {
             live: true,
             held: Held::new(self.alloc),
             task: None,
+            walk: Walk::new(),
         };
-        match self.list.push(opener) {
-            Ok(()) => Ok(count + 1),
-            Err(_) => Err(JoinRefusal::Memory),
+        let Ok(()) = self.list.push(opener) else {
+            return Err(JoinRefusal::Memory);
+        };
+        if self.spots.push(0).is_err() {
+            self.list.pop();
+            return Err(JoinRefusal::Memory);
         }
+        Ok(count + 1)
     }
 
     /// A new opener joins, and gets the next number. After a refusal nothing has changed.
@@ -195,7 +207,8 @@ impl Openers {
         requires same { told ≡ command }
         requires free { (x : Opener) × IsFree self.old who x }
         requires chains { 0 < self.old.header.hash_size }
-        requires held { (x : Opener) → IsFree self.old who x → AreCounts x.held.chains }
+        requires held { (x : Opener) → IsFree self.old who x → IsWellHeld x.held }
+        requires bare { (x : Opener) → IsFree self.old who x → x.walk.shown ≡ None }
         requires served { IsServed command }
         requires short { IsShortGiven command }
         ensures { (size : ℕ) (x : Opener) → IsFree self.old who x → IsAssigned self.old who x command size self.new }
@@ -261,12 +274,12 @@ impl Openers {
             options,
             locks,
             list,
-            ..
+            spots,
         } = self;
         let Some(opener) = list.get_mut(who as usize - 1) else {
             unreachable!();
         };
-        opener.turn(*alloc, s, locks, who, options, header)
+        opener.turn(*alloc, s, locks, who, spots, options, header)
     }
 
     /// Tells at the end of a report which openers have a command that isn't done, in order of number.

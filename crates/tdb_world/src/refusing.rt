@@ -8,7 +8,7 @@ ghost use Rattle.tdb_locks.specs.HeldLocks.{count_of, total_of, AreCounts};
 ghost use Rattle.tdb_law.specs.Refusals.{refusal, says};
 ghost use Rattle.tdb_plays.specs.InLaw.{law_command, law_reply};
 ghost use Rattle.tdb_world.specs.Openers.{AtRest, own_of, own_with};
-ghost use Rattle.tdb_world.specs.Given.{IsShortGiven, held_count, holds_chains, reads_records, unlock_all_told};
+ghost use Rattle.tdb_world.specs.Given.{IsShortGiven, held_count, holds_chains, reads_records, unlock_all_told, IsWellHeld};
 
 use crate::locking::chain_in;
 use crate::opener::Opener;
@@ -173,20 +173,25 @@ fn refusal_by(
 
 impl Opener {
     /// The reply with which the opener's own state refuses a command on a file with this header, if it does: it is the
-    /// first of the command's table that applies. Nobody has a transaction or a cursor. Cost: a look-up among the chains
-    /// that are held.
+    /// first of the command's table that applies. Nobody has a transaction. Cost: a look-up among the chains that are held.
     pub(crate) fn refusal(
         &self,
         options: &Options,
         command: &Command,
         header: &Header,
     ) -> Option<Reply>
-        requires counts { AreCounts self.now.held.chains }
+        requires well { IsWellHeld self.now.held }
         requires chains { 0 < header.now.hash_size }
         requires short { IsShortGiven command.now }
         ensures { let own = own_of options.now self.now in
             option_map law_reply result ≡ option_map (says own) (refusal (form_in header.now) (law_command command.now) own) }
     {
-        refusal_by(options, &self.held, false, command, header)
+        refusal_by(
+            options,
+            &self.held,
+            self.walk.shown.is_some(),
+            command,
+            header,
+        )
     }
 }

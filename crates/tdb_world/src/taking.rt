@@ -11,7 +11,7 @@ ghost use Rattle.tdb_law.specs.Openers.{View};
 ghost use Rattle.tdb_plays.specs.InLaw.{law_turn};
 ghost use Rattle.tdb_world.specs.declared.job.Task.{Task};
 ghost use Rattle.tdb_world.specs.Given.{IsWellHeld};
-ghost use Rattle.tdb_world.specs.Openers.{own_of, own_with, no_cursor, command_in, law_task};
+ghost use Rattle.tdb_world.specs.Openers.{AtRest, own_of, own_with, rest_of, command_in, law_task};
 ghost use Rattle.tdb_world.specs.Turning.{OpenerHolds, TurnsLocks, TurnsFile, ImageBefore, TurnsImage, resting};
 ghost use Rattle.tdb_world.specs.Jobs.{JobIsReady, JobTurned, JobFiled, task_after};
 ghost use Rattle.tdb_world.specs.Laws.{MayStand};
@@ -31,6 +31,7 @@ use tdb_words::Header;
 
 impl Job {
     /// Takes one turn of the job, of an opener with this number in the lock table, which has taken the locks `held` explicitly.
+    /// Its cursor rests, and the cursors of all openers stand on the records at `spots`.
     fn turn<S: Space>(
         &mut self,
         alloc: Global,
@@ -39,6 +40,7 @@ impl Job {
         owner: u32,
         live: &mut bool,
         held: &mut Held,
+        spots: &Spots,
         options: &Options,
         header: &Header,
     ) -> Result<Turn, Io>
@@ -48,21 +50,21 @@ impl Job {
         requires within { S.size s.old ≤ options.now.limit }
         requires spare { S.spare s.old ≡ without_bound }
         requires well { IsWellHeld held.old }
-        requires ready { (n : ℕ) × (who : ℕ) × JobIsReady (S.form s.old) (own_with options.now live.old held.old no_cursor) (resting no_cursor) self.old n who owner (S.size s.old) locks.old }
-        ensures turned { IfOk result (λ turn. (n who : ℕ) → JobIsReady (S.form s.old) (own_with options.now live.old held.old no_cursor) (resting no_cursor) self.old n who owner (S.size s.old) locks.old
-            → JobTurned (S.form s.old) (own_with options.now live.old held.old no_cursor) (own_with options.now live.new held.new no_cursor) (resting no_cursor) self.old self.new n who (S.size s.new)
+        requires ready { (rest : AtRest) × (n : ℕ) × (who : ℕ) × JobIsReady (S.form s.old) (own_with options.now live.old held.old rest) (resting rest) self.old n who owner (S.size s.old) locks.old }
+        ensures turned { IfOk result (λ turn. (rest : AtRest) (n who : ℕ) → JobIsReady (S.form s.old) (own_with options.now live.old held.old rest) (resting rest) self.old n who owner (S.size s.old) locks.old
+            → JobTurned (S.form s.old) (own_with options.now live.old held.old rest) (own_with options.now live.new held.new rest) (resting rest) self.old self.new n who (S.size s.new)
             locks.old locks.new (law_turn turn)) }
-        ensures file { IfOk result (λ turn. IsTrue S.tells → (v : View) (n who : ℕ) (others : List HandPair)
-            → JobIsReady (S.form s.old) (own_with options.now live.old held.old no_cursor) (resting no_cursor) self.old n who owner (S.size s.old) locks.old
+        ensures file { IfOk result (λ turn. IsTrue S.tells → (rest : AtRest) (v : View) (n who : ℕ) (others : List HandPair)
+            → JobIsReady (S.form s.old) (own_with options.now live.old held.old rest) (resting rest) self.old n who owner (S.size s.old) locks.old
             → ImageBefore (S.form s.old) self.old (S.image s.old) others
-            → JobFiled (S.form s.old) (own_with options.now live.old held.old no_cursor) (own_with options.now live.new held.new no_cursor) (resting no_cursor) v self.old self.new n who locks.old
+            → JobFiled (S.form s.old) (own_with options.now live.old held.old rest) (own_with options.now live.new held.new rest) (resting rest) v self.old self.new n who locks.old
             (S.image s.old) (S.image s.new) others (law_turn turn)) }
         ensures well { IsWellHeld held.new }
         ensures longer { S.size s.old ≤ S.size s.new }
         ensures within { S.size s.new ≤ options.now.limit }
         ensures wrote { Wrote S.Space s.old s.new }
-        ensures cause { IsTrue S.tells → (n who : ℕ) (others : List HandPair)
-            → JobIsReady (S.form s.old) (own_with options.now live.old held.old no_cursor) (resting no_cursor) self.old n who owner (S.size s.old) locks.old
+        ensures cause { IsTrue S.tells → (rest : AtRest) (n who : ℕ) (others : List HandPair)
+            → JobIsReady (S.form s.old) (own_with options.now live.old held.old rest) (resting rest) self.old n who owner (S.size s.old) locks.old
             → ImageBefore (S.form s.old) self.old (S.image s.old) others → HasCause (S.faults s.old) (S.faults s.new) result }
         ensures rises { S.faults s.old ≤ S.faults s.new }
         ensures done { OnOk result (S.faults s.new ≡ S.faults s.old) }
@@ -72,15 +74,7 @@ impl Job {
                 Ok(refused_turn(mem::replace(reply, Reply::Memory)))
             }
             Job::Plain(plain) => {
-                plain.turn(
-                    alloc,
-                    s,
-                    locks,
-                    owner,
-                    held,
-                    &Spots::new(alloc),
-                    options.limit,
-                )
+                plain.turn(alloc, s, locks, owner, held, spots, options.limit)
             }
             Job::Check(checking) => check_turn(alloc, s, locks, owner, held, checking),
             Job::Locking(locking) => Ok(locking_turn(locks, owner, held, header, locking)),
@@ -114,30 +108,33 @@ impl Task {
 
 impl Opener {
     /// Takes one turn of the opener's command. `owner` is its number in the lock table. After a step the command has one more behind
-    /// it, blocked it is as it was, and at its end the opener has none; so it has after `Io`, where the command is given up.
+    /// it, blocked it is as it was, and at its end the opener has none; so it has after `Io`, where the command is given up. Its cursor
+    /// rests and stays; the cursors of all openers stand on the records at `spots`.
     pub(crate) fn turn<S: Space>(
         &mut self,
         alloc: Global,
         s: &mut S,
         locks: &mut Locks,
         owner: u32,
+        spots: &Spots,
         options: &Options,
         header: &Header,
     ) -> Result<Turn, Io>
         requires busy { (t : Task) × (self.old.task ≡ Some t) }
         requires stands { MayStand (S.form s.old) options.now (S.size s.old) self.old }
-        requires holds { (t : Task) → self.old.task ≡ Some t → (who : ℕ) × (owner ≡ who + 1) × OpenerHolds (S.form s.old) (own_of options.now self.old) (resting no_cursor) (command_in t.job) t.steps who locks.old }
+        requires holds { (t : Task) → self.old.task ≡ Some t → (who : ℕ) × (owner ≡ who + 1) × OpenerHolds (S.form s.old) (own_of options.now self.old) (resting (rest_of self.old.walk)) (command_in t.job) t.steps who locks.old }
         requires few { HasFewChains (S.form s.old) }
         requires form { S.form s.old ≡ form_in header.now }
         requires limit { options.now.limit ≤ 4294963200 }
         requires within { S.size s.old ≤ options.now.limit }
         requires spare { S.spare s.old ≡ without_bound }
         ensures locks { IfOk result (λ turn. (t : Task) (who : ℕ) → self.old.task ≡ Some t → owner ≡ who + 1
-            → TurnsLocks (S.form s.old) (own_of options.now self.old) (own_of options.now self.new) (resting no_cursor) (command_in t.job) t.steps (law_task self.new.task) who locks.old locks.new (law_turn turn)) }
+            → TurnsLocks (S.form s.old) (own_of options.now self.old) (own_of options.now self.new) (resting (rest_of self.new.walk)) (command_in t.job) t.steps (law_task self.new.task) who locks.old locks.new (law_turn turn)) }
         ensures file { IfOk result (λ turn. IsTrue S.tells → (v : View) (t : Task) (who : ℕ) (others : List HandPair) → self.old.task ≡ Some t → owner ≡ who + 1 → ImageBefore (S.form s.old) t.job (S.image s.old) others
-            → TurnsFile (S.form s.old) (own_of options.now self.old) (own_of options.now self.new) (resting no_cursor) v (command_in t.job) t.steps who locks.old (S.image s.old) (S.image s.new) (law_turn turn)
+            → TurnsFile (S.form s.old) (own_of options.now self.old) (own_of options.now self.new) (resting (rest_of self.old.walk)) v (command_in t.job) t.steps who locks.old (S.image s.old) (S.image s.new) (law_turn turn)
             × TurnsImage (S.form s.old) t self.new.task (S.image s.old) (S.image s.new) others) }
         ensures stands { OnOk result (MayStand (S.form s.old) options.now (S.size s.new) self.new) }
+        ensures walk { self.new.walk ≡ self.old.walk }
         ensures idle { OnErr result (self.new.task ≡ None) }
         ensures within { S.size s.new ≤ options.now.limit }
         ensures longer { S.size s.old ≤ S.size s.new }
@@ -147,13 +144,18 @@ impl Opener {
         ensures rises { S.faults s.old ≤ S.faults s.new }
         ensures done { OnOk result (S.faults s.new ≡ S.faults s.old) }
     {
-        let Opener { live, held, task } = self;
+        let Opener {
+            live,
+            held,
+            task,
+            walk: _,
+        } = self;
         let Some(mut now) = task.take() else {
             unreachable!();
         };
         let turn = now
             .job
-            .turn(alloc, s, locks, owner, live, held, options, header);
+            .turn(alloc, s, locks, owner, live, held, spots, options, header);
         *task = now.after(&turn);
         turn
     }

@@ -2,7 +2,7 @@
 use Rattle.std.proofs.Common.{None, [], ◌<◌, false, refl, sym, subst, arith, ◌≡◌}
 use Rattle.tdb_world.specs.declared.job.Job.TheVariants as Jobs
 use Rattle.tdb_plays.specs.InLaw.{law_command, law_reply, law_turn}
-use Rattle.tdb_world.specs.Openers.{own_with, no_cursor, command_in, IsRefused}
+use Rattle.tdb_world.specs.Openers.{own_with, command_in, IsRefused}
 use Rattle.std.proofs.lemmas.Result.{IfOk-weaker}
 use Rattle.tdb_locks.specs.LockTable.{held}
 use Rattle.tdb_world.proofs.CheckReady.{number_alone}
@@ -29,120 +29,120 @@ any_view = record { must = false; way = λ b. false }
 pub seqnum_turn-requires : goal.seqnum_turn-requires
 seqnum_turn-requires g c =
     let f = g.S.Space.form c.args.s.now in
-    let x = own_with c.args.options.now c.args.live.now c.args.held.now no_cursor in
     let ps = c.args.locks.now in
     let J = c.requires.ready in
-    let ready = subst (λ j. JobIsReady f x (resting no_cursor) j J.0 J.1 c.args.owner (g.S.Space.size c.args.s.now) ps) c.in-Seqnum.is J.2 in
-    let holds = subst (λ m. OpenerHolds f x (resting no_cursor) (command_in Jobs.Seqnum) m J.1 ps) ready.stands.0 ready.holds in
+    let x = own_with c.args.options.now c.args.live.now c.args.held.now J.0 in
+    let ready = subst (λ j. JobIsReady f x (resting J.0) j J.1 J.2 c.args.owner (g.S.Space.size c.args.s.now) ps) c.in-Seqnum.is J.3 in
+    let holds = subst (λ m. OpenerHolds f x (resting J.0) (command_in Jobs.Seqnum) m J.2 ps) ready.stands.0 ready.holds in
     record {
       alone = subst (λ o. held ps o 47 ≡ None) (sym ready.number)
-          (number_alone f c.args.options.now c.args.live.now c.args.held.now no_cursor J.1 ps (record { few = c.requires.few; counts = c.requires.well.counts; holds = holds }));
+          (number_alone f c.args.options.now c.args.live.now c.args.held.now J.0 J.2 ps (record { few = c.requires.few; counts = c.requires.well.counts; holds = holds }));
     }
 
 pub returns-in-Refused-clause-file : goal.returns-in-Refused-clause-file
-returns-in-Refused-clause-file g c told v n who others J I =
+returns-in-Refused-clause-file g c told rest v n who others J I =
     let f = g.S.Space.form c.args.s.now in
-    let x = own_with c.args.options.now c.args.live.now c.args.held.now no_cursor in
+    let x = own_with c.args.options.now c.args.live.now c.args.held.now rest in
     let a = g.S.Space.image c.args.s.now in
     let ps = c.args.locks.now in
     let job = Jobs.Refused c.in-Refused.command c.in-Refused.reply in
     let left = Jobs.Refused c.in-Refused.command c.replace.new.dest in
-    let ready = subst (λ j. JobIsReady f x (resting no_cursor) j n who c.args.owner (g.S.Space.size c.args.s.now) ps) c.in-Refused.is J in
+    let ready = subst (λ j. JobIsReady f x (resting rest) j n who c.args.owner (g.S.Space.size c.args.s.now) ps) c.in-Refused.is J in
     let before = subst (λ j. ImageBefore f j a others) c.in-Refused.is I in
     let refused = subst (λ r. IsRefused f x (law_command c.in-Refused.command) (law_reply r)) (sym c.replace.ensures.value) ready.stands.2 in
-    let holds = subst (λ m. OpenerHolds f x (resting no_cursor) (command_in job) m who ps) ready.stands.0 ready.holds in
-    let E = c.refused_turn.ensures.turned f x no_cursor v c.in-Refused.command who ps ready.stands.1 refused holds in
-    subst (λ j. JobFiled f x x (resting no_cursor) v j left n who ps a a others (law_turn c.refused_turn.result)) (sym c.in-Refused.is)
-    (subst (λ t. JobFiled f x x (resting no_cursor) v job left n who ps a a others (law_turn t)) (sym c.refused_turn.ensures.turn)
-    (same_filed f x x (resting no_cursor) v job left n who ps a others refl refl tt before.accepted _ ready.stands.0 (E.file a)))
+    let holds = subst (λ m. OpenerHolds f x (resting rest) (command_in job) m who ps) ready.stands.0 ready.holds in
+    let E = c.refused_turn.ensures.turned f x rest v c.in-Refused.command who ps ready.stands.1 refused holds in
+    subst (λ j. JobFiled f x x (resting rest) v j left n who ps a a others (law_turn c.refused_turn.result)) (sym c.in-Refused.is)
+    (subst (λ t. JobFiled f x x (resting rest) v job left n who ps a a others (law_turn t)) (sym c.refused_turn.ensures.turn)
+    (same_filed f x x (resting rest) v job left n who ps a others refl refl tt before.accepted _ ready.stands.0 (E.file a)))
 
 pub returns-in-Plain-clause-file : goal.returns-in-Plain-clause-file
 returns-in-Plain-clause-file g c =
     let f = g.S.Space.form c.args.s.now in
-    let x = own_with c.args.options.now c.args.live.now c.args.held.now no_cursor in
     let a = g.S.Space.image c.args.s.now in
-    let b = g.S.Space.image c.turn-in-Plain.new.s in
+    let b = g.S.Space.image c.turn.new.s in
     let size = g.S.Space.size c.args.s.now in
     let within = c.requires.within in
     let limit = c.requires.limit in
-    IfOk-weaker c.turn-in-Plain.result _ _
-    (λ turn filed told v n who others J I.
-    let ready = subst (λ j. JobIsReady f x (resting no_cursor) j n who c.args.owner size c.args.locks.now) c.in-Plain.is J in
+    IfOk-weaker c.turn.result _ _
+    (λ turn filed told rest v n who others J I.
+    let x = own_with c.args.options.now c.args.live.now c.args.held.now rest in
+    let ready = subst (λ j. JobIsReady f x (resting rest) j n who c.args.owner size c.args.locks.now) c.in-Plain.is J in
     let before = subst (λ j. ImageBefore f j a others) c.in-Plain.is I in
     let small : size < 4294967296 = omega (arith, within, limit) in
-    subst (λ j. JobFiled f x x (resting no_cursor) v j (Jobs.Plain c.turn-in-Plain.new.self) n who c.args.locks.now a b others (law_turn turn)) (sym c.in-Plain.is)
-    (filed told small c.args.options.now c.args.live.now no_cursor v n who others ready before)) c.turn-in-Plain.ensures.filed
+    subst (λ j. JobFiled f x x (resting rest) v j (Jobs.Plain c.turn.new.self) n who c.args.locks.now a b others (law_turn turn)) (sym c.in-Plain.is)
+    (filed told small c.args.options.now c.args.live.now rest v n who others ready before)) c.turn.ensures.filed
 
 pub returns-in-Locking-clause-turned : goal.returns-in-Locking-clause-turned
-returns-in-Locking-clause-turned g c n who J =
+returns-in-Locking-clause-turned g c rest n who J =
     let h = form_in c.args.header.now in
     let form = c.requires.form in
-    let x = own_with c.args.options.now c.args.live.now c.args.held.now no_cursor in
-    let y = own_with c.args.options.now c.args.live.now c.locking_turn.new.held no_cursor in
+    let x = own_with c.args.options.now c.args.live.now c.args.held.now rest in
+    let y = own_with c.args.options.now c.args.live.now c.locking_turn.new.held rest in
     let size = g.S.Space.size c.args.s.now in
     let ps = c.args.locks.now in
     let qs = c.locking_turn.new.locks in
     let job = Jobs.Locking c.in-Locking.locking in
-    let ready = subst (λ f. JobIsReady f x (resting no_cursor) job n who c.args.owner size ps) form (subst (λ j. JobIsReady (g.S.Space.form c.args.s.now) x (resting no_cursor) j n who c.args.owner size ps) c.in-Locking.is J) in
-    let holds = subst (λ m. OpenerHolds h x (resting no_cursor) (command_in job) m who ps) ready.stands.0 ready.holds in
-    let E = c.locking_turn.ensures.turned c.args.options.now c.args.live.now no_cursor who ready.number (record { few = subst HasFewChains form c.requires.few; granted = ready.stands.1; holds = holds }) in
-    subst (λ j. JobTurned (g.S.Space.form c.args.s.now) x y (resting no_cursor) j job n who size ps qs (law_turn c.locking_turn.result)) (sym c.in-Locking.is)
-    (subst (λ f. JobTurned f x y (resting no_cursor) job job n who size ps qs (law_turn c.locking_turn.result)) (sym form)
-    (locking_turned h x y (resting no_cursor) (resting no_cursor) any_view c.in-Locking.locking who size ps qs ready.stands.1 ready.stands.2 refl n (law_turn c.locking_turn.result) ready.stands.0 E.locks (E.file any_view [])))
+    let ready = subst (λ f. JobIsReady f x (resting rest) job n who c.args.owner size ps) form (subst (λ j. JobIsReady (g.S.Space.form c.args.s.now) x (resting rest) j n who c.args.owner size ps) c.in-Locking.is J) in
+    let holds = subst (λ m. OpenerHolds h x (resting rest) (command_in job) m who ps) ready.stands.0 ready.holds in
+    let E = c.locking_turn.ensures.turned c.args.options.now c.args.live.now rest who ready.number (record { few = subst HasFewChains form c.requires.few; granted = ready.stands.1; holds = holds }) in
+    subst (λ j. JobTurned (g.S.Space.form c.args.s.now) x y (resting rest) j job n who size ps qs (law_turn c.locking_turn.result)) (sym c.in-Locking.is)
+    (subst (λ f. JobTurned f x y (resting rest) job job n who size ps qs (law_turn c.locking_turn.result)) (sym form)
+    (locking_turned h x y (resting rest) (resting rest) any_view c.in-Locking.locking who size ps qs ready.stands.1 ready.stands.2 refl n (law_turn c.locking_turn.result) ready.stands.0 E.locks (E.file any_view [])))
 
 pub returns-in-Locking-clause-file : goal.returns-in-Locking-clause-file
-returns-in-Locking-clause-file g c told v n who others J I =
+returns-in-Locking-clause-file g c told rest v n who others J I =
     let h = form_in c.args.header.now in
     let form = c.requires.form in
-    let x = own_with c.args.options.now c.args.live.now c.args.held.now no_cursor in
-    let y = own_with c.args.options.now c.args.live.now c.locking_turn.new.held no_cursor in
+    let x = own_with c.args.options.now c.args.live.now c.args.held.now rest in
+    let y = own_with c.args.options.now c.args.live.now c.locking_turn.new.held rest in
     let a = g.S.Space.image c.args.s.now in
     let ps = c.args.locks.now in
     let job = Jobs.Locking c.in-Locking.locking in
-    let ready = subst (λ f. JobIsReady f x (resting no_cursor) job n who c.args.owner (g.S.Space.size c.args.s.now) ps) form
-    (subst (λ j. JobIsReady (g.S.Space.form c.args.s.now) x (resting no_cursor) j n who c.args.owner (g.S.Space.size c.args.s.now) ps) c.in-Locking.is J) in
+    let ready = subst (λ f. JobIsReady f x (resting rest) job n who c.args.owner (g.S.Space.size c.args.s.now) ps) form
+    (subst (λ j. JobIsReady (g.S.Space.form c.args.s.now) x (resting rest) j n who c.args.owner (g.S.Space.size c.args.s.now) ps) c.in-Locking.is J) in
     let before = subst (λ f. ImageBefore f job a others) form (subst (λ j. ImageBefore (g.S.Space.form c.args.s.now) j a others) c.in-Locking.is I) in
-    let holds = subst (λ m. OpenerHolds h x (resting no_cursor) (command_in job) m who ps) ready.stands.0 ready.holds in
-    let E = c.locking_turn.ensures.turned c.args.options.now c.args.live.now no_cursor who ready.number (record { few = subst HasFewChains form c.requires.few; granted = ready.stands.1; holds = holds }) in
-    subst (λ j. JobFiled (g.S.Space.form c.args.s.now) x y (resting no_cursor) v j job n who ps a a others (law_turn c.locking_turn.result)) (sym c.in-Locking.is)
-    (subst (λ f. JobFiled f x y (resting no_cursor) v job job n who ps a a others (law_turn c.locking_turn.result)) (sym form)
-    (same_filed h x y (resting no_cursor) v job job n who ps a others refl refl tt before.accepted (law_turn c.locking_turn.result) ready.stands.0 (E.file v a)))
+    let holds = subst (λ m. OpenerHolds h x (resting rest) (command_in job) m who ps) ready.stands.0 ready.holds in
+    let E = c.locking_turn.ensures.turned c.args.options.now c.args.live.now rest who ready.number (record { few = subst HasFewChains form c.requires.few; granted = ready.stands.1; holds = holds }) in
+    subst (λ j. JobFiled (g.S.Space.form c.args.s.now) x y (resting rest) v j job n who ps a a others (law_turn c.locking_turn.result)) (sym c.in-Locking.is)
+    (subst (λ f. JobFiled f x y (resting rest) v job job n who ps a a others (law_turn c.locking_turn.result)) (sym form)
+    (same_filed h x y (resting rest) v job job n who ps a others refl refl tt before.accepted (law_turn c.locking_turn.result) ready.stands.0 (E.file v a)))
 
 pub returns-in-Seqnum-clause-file : goal.returns-in-Seqnum-clause-file
 returns-in-Seqnum-clause-file g c =
     let f = g.S.Space.form c.args.s.now in
-    let x = own_with c.args.options.now c.args.live.now c.args.held.now no_cursor in
     let a = g.S.Space.image c.args.s.now in
     let b = g.S.Space.image c.seqnum_turn.new.s in
     let ps = c.args.locks.now in
     let size = g.S.Space.size c.args.s.now in
     IfOk-weaker c.seqnum_turn.result _ _
-    (λ turn file told v n who others J I.
-    let ready = subst (λ j. JobIsReady f x (resting no_cursor) j n who c.args.owner size ps) c.in-Seqnum.is J in
+    (λ turn file told rest v n who others J I.
+    let x = own_with c.args.options.now c.args.live.now c.args.held.now rest in
+    let ready = subst (λ j. JobIsReady f x (resting rest) j n who c.args.owner size ps) c.in-Seqnum.is J in
     let before = subst (λ j. ImageBefore f j a others) c.in-Seqnum.is I in
-    let holds = subst (λ m. OpenerHolds f x (resting no_cursor) (command_in Jobs.Seqnum) m who ps) ready.stands.0 ready.holds in
+    let holds = subst (λ m. OpenerHolds f x (resting rest) (command_in Jobs.Seqnum) m who ps) ready.stands.0 ready.holds in
     let long = before.accepted.long in
     let whole = g.met.S.Space.told_size c.args.s.now told in
-    let made = file told (omega (arith, long, whole)) c.args.options.now c.args.live.now c.args.held.now no_cursor who ready.number v (record { few = c.requires.few; counts = c.requires.well.counts; holds = holds }) in
-    subst (λ j. JobFiled f x x (resting no_cursor) v j j n who ps a b others (law_turn turn)) (sym c.in-Seqnum.is)
-    (subst (λ z. JobFiled f x x (resting no_cursor) v Jobs.Seqnum Jobs.Seqnum n who ps a z others (law_turn turn)) (sym c.seqnum_turn.ensures.looked.image)
-    (same_filed f x x (resting no_cursor) v Jobs.Seqnum Jobs.Seqnum n who ps a others refl refl tt before.accepted (law_turn turn) ready.stands.0
-    (subst (λ z. TurnsFile f x x (resting no_cursor) v (command_in Jobs.Seqnum) 0 who ps a z (law_turn turn)) c.seqnum_turn.ensures.looked.image made)))) c.seqnum_turn.ensures.file
+    let made = file told (omega (arith, long, whole)) c.args.options.now c.args.live.now c.args.held.now rest who ready.number v (record { few = c.requires.few; counts = c.requires.well.counts; holds = holds }) in
+    subst (λ j. JobFiled f x x (resting rest) v j j n who ps a b others (law_turn turn)) (sym c.in-Seqnum.is)
+    (subst (λ z. JobFiled f x x (resting rest) v Jobs.Seqnum Jobs.Seqnum n who ps a z others (law_turn turn)) (sym c.seqnum_turn.ensures.looked.image)
+    (same_filed f x x (resting rest) v Jobs.Seqnum Jobs.Seqnum n who ps a others refl refl tt before.accepted (law_turn turn) ready.stands.0
+    (subst (λ z. TurnsFile f x x (resting rest) v (command_in Jobs.Seqnum) 0 who ps a z (law_turn turn)) c.seqnum_turn.ensures.looked.image made)))) c.seqnum_turn.ensures.file
 
 pub returns-in-Close-clause-file : goal.returns-in-Close-clause-file
-returns-in-Close-clause-file g c told v n who others J I =
+returns-in-Close-clause-file g c told rest v n who others J I =
     let f = g.S.Space.form c.args.s.now in
-    let x = own_with c.args.options.now c.args.live.now c.args.held.now no_cursor in
-    let y = own_with c.args.options.now false c.close_turn.new.held no_cursor in
+    let x = own_with c.args.options.now c.args.live.now c.args.held.now rest in
+    let y = own_with c.args.options.now false c.close_turn.new.held rest in
     let a = g.S.Space.image c.args.s.now in
     let ps = c.args.locks.now in
-    let ready = subst (λ j. JobIsReady f x (resting no_cursor) j n who c.args.owner (g.S.Space.size c.args.s.now) ps) c.in-Close.is J in
+    let ready = subst (λ j. JobIsReady f x (resting rest) j n who c.args.owner (g.S.Space.size c.args.s.now) ps) c.in-Close.is J in
     let before = subst (λ j. ImageBefore f j a others) c.in-Close.is I in
-    let holds = subst (λ m. OpenerHolds f x (resting no_cursor) (command_in Jobs.Close) m who ps) ready.stands.0 ready.holds in
-    let E = c.close_turn.ensures.turned f c.args.options.now c.args.live.now v who ready.number holds in
-    subst (λ j. JobFiled f x y (resting no_cursor) v j j n who ps a a others (law_turn c.close_turn.result)) (sym c.in-Close.is)
-    (subst (λ t. JobFiled f x y (resting no_cursor) v Jobs.Close Jobs.Close n who ps a a others (law_turn t)) (sym c.close_turn.ensures.turn)
-    (same_filed f x y (resting no_cursor) v Jobs.Close Jobs.Close n who ps a others refl refl tt before.accepted _ ready.stands.0 (E.file a)))
+    let holds = subst (λ m. OpenerHolds f x (resting rest) (command_in Jobs.Close) m who ps) ready.stands.0 ready.holds in
+    let E = c.close_turn.ensures.turned f c.args.options.now c.args.live.now rest v who ready.number ready.stands.2 holds in
+    subst (λ j. JobFiled f x y (resting rest) v j j n who ps a a others (law_turn c.close_turn.result)) (sym c.in-Close.is)
+    (subst (λ t. JobFiled f x y (resting rest) v Jobs.Close Jobs.Close n who ps a a others (law_turn t)) (sym c.close_turn.ensures.turn)
+    (same_filed f x y (resting rest) v Jobs.Close Jobs.Close n who ps a others refl refl tt before.accepted _ ready.stands.0 (E.file a)))
 
 pub returns-in-Close-clause-well : goal.returns-in-Close-clause-well
 returns-in-Close-clause-well g c = subst IsWellHeld (sym c.close_turn.ensures.held) nothing_well
@@ -150,49 +150,49 @@ returns-in-Close-clause-well g c = subst IsWellHeld (sym c.close_turn.ensures.he
 pub check_turn-requires : goal.check_turn-requires
 check_turn-requires g c =
     let f = g.S.Space.form c.args.s.now in
-    let x = own_with c.args.options.now c.args.live.now c.args.held.now no_cursor in
     let J = c.requires.ready in
-    let ready = subst (λ j. JobIsReady f x (resting no_cursor) j J.0 J.1 c.args.owner (g.S.Space.size c.args.s.now) c.args.locks.now) c.in-Check.is J.2 in
-    record { alone = check_ready_alone f c.requires.few c.args.options.now c.args.live.now c.args.held.now no_cursor c.requires.well.counts c.in-Check.checking J.0 J.1 c.args.owner (g.S.Space.size c.args.s.now) c.args.locks.now ready }
+    let x = own_with c.args.options.now c.args.live.now c.args.held.now J.0 in
+    let ready = subst (λ j. JobIsReady f x (resting J.0) j J.1 J.2 c.args.owner (g.S.Space.size c.args.s.now) c.args.locks.now) c.in-Check.is J.3 in
+    record { alone = check_ready_alone f c.requires.few c.args.options.now c.args.live.now c.args.held.now J.0 c.requires.well.counts c.in-Check.checking J.1 J.2 c.args.owner (g.S.Space.size c.args.s.now) c.args.locks.now ready }
 
 pub returns-in-Check-clause-turned : goal.returns-in-Check-clause-turned
 returns-in-Check-clause-turned g c =
     let f = g.S.Space.form c.args.s.now in
-    let x = own_with c.args.options.now c.args.live.now c.args.held.now no_cursor in
     let ps = c.args.locks.now in
     let size = g.S.Space.size c.args.s.now in
     of_three c.check_turn.result _ _ _ _
-    (λ turn locks row leaves n who J.
-    let ready = subst (λ j. JobIsReady f x (resting no_cursor) j n who c.args.owner size ps) c.in-Check.is J in
-    subst (λ j. JobTurned f x x (resting no_cursor) j (Jobs.Check c.check_turn.new.checking) n who (g.S.Space.size c.check_turn.new.s) ps c.check_turn.new.locks (law_turn turn)) (sym c.in-Check.is)
-    (check_turned f c.requires.few c.args.options.now c.args.live.now c.args.held.now no_cursor c.requires.well.counts c.in-Check.checking n who c.args.owner size ps ready c.check_turn.new.checking c.check_turn.new.locks (g.S.Space.size c.check_turn.new.s) turn leaves
+    (λ turn locks row leaves rest n who J.
+    let x = own_with c.args.options.now c.args.live.now c.args.held.now rest in
+    let ready = subst (λ j. JobIsReady f x (resting rest) j n who c.args.owner size ps) c.in-Check.is J in
+    subst (λ j. JobTurned f x x (resting rest) j (Jobs.Check c.check_turn.new.checking) n who (g.S.Space.size c.check_turn.new.s) ps c.check_turn.new.locks (law_turn turn)) (sym c.in-Check.is)
+    (check_turned f c.requires.few c.args.options.now c.args.live.now c.args.held.now rest c.requires.well.counts c.in-Check.checking n who c.args.owner size ps ready c.check_turn.new.checking c.check_turn.new.locks (g.S.Space.size c.check_turn.new.s) turn leaves
     (row n ready.stands.1)
-    (locks n (kept f x (resting no_cursor)) ready.stands.1 (check_ready_holds f c.requires.few c.args.options.now c.args.live.now c.args.held.now no_cursor c.requires.well.counts c.in-Check.checking n who c.args.owner size ps ready))))
+    (locks n (kept f x (resting rest)) ready.stands.1 (check_ready_holds f c.requires.few c.args.options.now c.args.live.now c.args.held.now rest c.requires.well.counts c.in-Check.checking n who c.args.owner size ps ready))))
     c.check_turn.ensures.locks c.check_turn.ensures.row c.check_turn.ensures.leaves
 
 pub returns-in-Check-clause-file : goal.returns-in-Check-clause-file
 returns-in-Check-clause-file g c =
     let f = g.S.Space.form c.args.s.now in
-    let x = own_with c.args.options.now c.args.live.now c.args.held.now no_cursor in
     let a = g.S.Space.image c.args.s.now in
     let ps = c.args.locks.now in
     let size = g.S.Space.size c.args.s.now in
     of_four c.check_turn.result _ _ _ _ _
-    (λ turn locks map leaves counted told v n who others J I.
-    let ready = subst (λ j. JobIsReady f x (resting no_cursor) j n who c.args.owner size ps) c.in-Check.is J in
+    (λ turn locks map leaves counted told rest v n who others J I.
+    let x = own_with c.args.options.now c.args.live.now c.args.held.now rest in
+    let ready = subst (λ j. JobIsReady f x (resting rest) j n who c.args.owner size ps) c.in-Check.is J in
     let before = subst (λ j. ImageBefore f j a others) c.in-Check.is I in
-    subst (λ j. JobFiled f x x (resting no_cursor) v j (Jobs.Check c.check_turn.new.checking) n who ps a (g.S.Space.image c.check_turn.new.s) others (law_turn turn)) (sym c.in-Check.is)
-    (subst (λ b. JobFiled f x x (resting no_cursor) v (Jobs.Check c.in-Check.checking) (Jobs.Check c.check_turn.new.checking) n who ps a b others (law_turn turn)) (sym c.check_turn.ensures.looked.image)
+    subst (λ j. JobFiled f x x (resting rest) v j (Jobs.Check c.check_turn.new.checking) n who ps a (g.S.Space.image c.check_turn.new.s) others (law_turn turn)) (sym c.in-Check.is)
+    (subst (λ b. JobFiled f x x (resting rest) v (Jobs.Check c.in-Check.checking) (Jobs.Check c.check_turn.new.checking) n who ps a b others (law_turn turn)) (sym c.check_turn.ensures.looked.image)
     (record {
-      file = check_file f c.requires.few c.args.options.now c.args.live.now c.args.held.now no_cursor c.requires.well.counts c.in-Check.checking n who c.args.owner size ps ready v c.check_turn.new.locks turn a
-          (locks n (kept f x (resting no_cursor)) ready.stands.1 (check_ready_holds f c.requires.few c.args.options.now c.args.live.now c.args.held.now no_cursor c.requires.well.counts c.in-Check.checking n who c.args.owner size ps ready))
+      file = check_file f c.requires.few c.args.options.now c.args.live.now c.args.held.now rest c.requires.well.counts c.in-Check.checking n who c.args.owner size ps ready v c.check_turn.new.locks turn a
+          (locks n (kept f x (resting rest)) ready.stands.1 (check_ready_holds f c.requires.few c.args.options.now c.args.live.now c.args.held.now rest c.requires.well.counts c.in-Check.checking n who c.args.owner size ps ready))
           (map n f a (image_map f a) ready.stands.1 (λ k. image_answers f a k) (has_keys f a c.in-Check.checking before.knows));
-      image = check_image f c.requires.few c.args.options.now c.args.live.now c.args.held.now no_cursor c.requires.well.counts c.in-Check.checking n who c.args.owner size ps ready c.check_turn.new.checking turn a others leaves before (counted told);
+      image = check_image f c.requires.few c.args.options.now c.args.live.now c.args.held.now rest c.requires.well.counts c.in-Check.checking n who c.args.owner size ps ready c.check_turn.new.checking turn a others leaves before (counted told);
     })))
     c.check_turn.ensures.locks c.check_turn.ensures.map c.check_turn.ensures.leaves c.check_turn.ensures.counted
 
 pub returns-in-Check-clause-cause : goal.returns-in-Check-clause-cause
-returns-in-Check-clause-cause g c told n who others J I =
+returns-in-Check-clause-cause g c told rest n who others J I =
     let f = g.S.Space.form c.args.s.now in
     let a = g.S.Space.image c.args.s.now in
     let before = subst (λ j. ImageBefore f j a others) c.in-Check.is I in
@@ -201,75 +201,75 @@ returns-in-Check-clause-cause g c told n who others J I =
 pub turn-requires-clause-ready : goal.turn-requires-clause-ready
 turn-requires-clause-ready g c =
     let f = g.S.Space.form c.args.s.now in
-    let x = own_with c.args.options.now c.args.live.now c.args.held.now no_cursor in
     let J = c.requires.ready in
-    (c.args.options.now, c.args.live.now, no_cursor, J.0, J.1, subst (λ j. JobIsReady f x (resting no_cursor) j J.0 J.1 c.args.owner (g.S.Space.size c.args.s.now) c.args.locks.now) c.in-Plain.is J.2)
+    let x = own_with c.args.options.now c.args.live.now c.args.held.now J.0 in
+    (c.args.options.now, c.args.live.now, J.0, J.1, J.2, subst (λ j. JobIsReady f x (resting J.0) j J.1 J.2 c.args.owner (g.S.Space.size c.args.s.now) c.args.locks.now) c.in-Plain.is J.3)
 
 pub locking_turn-requires-clause-may : goal.locking_turn-requires-clause-may
 locking_turn-requires-clause-may g c =
     let h = form_in c.args.header.now in
     let form = c.requires.form in
-    let x = own_with c.args.options.now c.args.live.now c.args.held.now no_cursor in
     let size = g.S.Space.size c.args.s.now in
     let ps = c.args.locks.now in
     let J = c.requires.ready in
+    let x = own_with c.args.options.now c.args.live.now c.args.held.now J.0 in
     let job = Jobs.Locking c.in-Locking.locking in
-    let ready = subst (λ f. JobIsReady f x (resting no_cursor) job J.0 J.1 c.args.owner size ps) form (subst (λ j. JobIsReady (g.S.Space.form c.args.s.now) x (resting no_cursor) j J.0 J.1 c.args.owner size ps) c.in-Locking.is J.2) in
-    let holds = subst (λ m. OpenerHolds h x (resting no_cursor) (command_in job) m J.1 ps) ready.stands.0 ready.holds in
-    (c.args.options.now, c.args.live.now, no_cursor, J.1, ready.number, record { few = subst HasFewChains form c.requires.few; granted = ready.stands.1; holds = holds })
+    let ready = subst (λ f. JobIsReady f x (resting J.0) job J.1 J.2 c.args.owner size ps) form (subst (λ j. JobIsReady (g.S.Space.form c.args.s.now) x (resting J.0) j J.1 J.2 c.args.owner size ps) c.in-Locking.is J.3) in
+    let holds = subst (λ m. OpenerHolds h x (resting J.0) (command_in job) m J.2 ps) ready.stands.0 ready.holds in
+    (c.args.options.now, c.args.live.now, J.0, J.2, ready.number, record { few = subst HasFewChains form c.requires.few; granted = ready.stands.1; holds = holds })
 
 pub returns-in-Refused-clause-turned : goal.returns-in-Refused-clause-turned
-returns-in-Refused-clause-turned g c n who J =
+returns-in-Refused-clause-turned g c rest n who J =
     let f = g.S.Space.form c.args.s.now in
-    let x = own_with c.args.options.now c.args.live.now c.args.held.now no_cursor in
+    let x = own_with c.args.options.now c.args.live.now c.args.held.now rest in
     let size = g.S.Space.size c.args.s.now in
     let ps = c.args.locks.now in
     let job = Jobs.Refused c.in-Refused.command c.in-Refused.reply in
     let left = Jobs.Refused c.in-Refused.command c.replace.new.dest in
-    let ready = subst (λ j. JobIsReady f x (resting no_cursor) j n who c.args.owner size ps) c.in-Refused.is J in
+    let ready = subst (λ j. JobIsReady f x (resting rest) j n who c.args.owner size ps) c.in-Refused.is J in
     let refused = subst (λ r. IsRefused f x (law_command c.in-Refused.command) (law_reply r)) (sym c.replace.ensures.value) ready.stands.2 in
-    let holds = subst (λ m. OpenerHolds f x (resting no_cursor) (command_in job) m who ps) ready.stands.0 ready.holds in
-    let E = c.refused_turn.ensures.turned f x no_cursor any_view c.in-Refused.command who ps ready.stands.1 refused holds in
-    subst (λ j. JobTurned f x x (resting no_cursor) j left n who size ps ps (law_turn c.refused_turn.result)) (sym c.in-Refused.is)
-    (subst (λ t. JobTurned f x x (resting no_cursor) job left n who size ps ps (law_turn t)) (sym c.refused_turn.ensures.turn)
-    (subst (λ m. JobTurned f x x (resting no_cursor) job left m who size ps ps (Law.Turn.Ends (law_reply c.replace.result))) (sym ready.stands.0) (record { locks = E.locks; stands = tt; lives = λ t e. refl })))
+    let holds = subst (λ m. OpenerHolds f x (resting rest) (command_in job) m who ps) ready.stands.0 ready.holds in
+    let E = c.refused_turn.ensures.turned f x rest any_view c.in-Refused.command who ps ready.stands.1 refused holds in
+    subst (λ j. JobTurned f x x (resting rest) j left n who size ps ps (law_turn c.refused_turn.result)) (sym c.in-Refused.is)
+    (subst (λ t. JobTurned f x x (resting rest) job left n who size ps ps (law_turn t)) (sym c.refused_turn.ensures.turn)
+    (subst (λ m. JobTurned f x x (resting rest) job left m who size ps ps (Law.Turn.Ends (law_reply c.replace.result))) (sym ready.stands.0) (record { locks = E.locks; stands = tt; lives = λ t e. refl })))
 
 pub returns-in-Plain-clause-turned : goal.returns-in-Plain-clause-turned
 returns-in-Plain-clause-turned g c =
     let f = g.S.Space.form c.args.s.now in
-    let x = own_with c.args.options.now c.args.live.now c.args.held.now no_cursor in
     let size = g.S.Space.size c.args.s.now in
     let ps = c.args.locks.now in
-    IfOk-weaker c.turn-in-Plain.result _ _
-    (λ turn turned n who J.
-    subst (λ j. JobTurned f x x (resting no_cursor) j (Jobs.Plain c.turn-in-Plain.new.self) n who (g.S.Space.size c.turn-in-Plain.new.s) ps c.turn-in-Plain.new.locks (law_turn turn)) (sym c.in-Plain.is)
-    (turned c.args.options.now c.args.live.now no_cursor n who (subst (λ j. JobIsReady f x (resting no_cursor) j n who c.args.owner size ps) c.in-Plain.is J))) c.turn-in-Plain.ensures.turned
+    IfOk-weaker c.turn.result _ _
+    (λ turn turned rest n who J.
+    let x = own_with c.args.options.now c.args.live.now c.args.held.now rest in
+    subst (λ j. JobTurned f x x (resting rest) j (Jobs.Plain c.turn.new.self) n who (g.S.Space.size c.turn.new.s) ps c.turn.new.locks (law_turn turn)) (sym c.in-Plain.is)
+    (turned c.args.options.now c.args.live.now rest n who (subst (λ j. JobIsReady f x (resting rest) j n who c.args.owner size ps) c.in-Plain.is J))) c.turn.ensures.turned
 
 pub returns-in-Seqnum-clause-turned : goal.returns-in-Seqnum-clause-turned
 returns-in-Seqnum-clause-turned g c =
     let f = g.S.Space.form c.args.s.now in
-    let x = own_with c.args.options.now c.args.live.now c.args.held.now no_cursor in
     let size = g.S.Space.size c.args.s.now in
     let ps = c.args.locks.now in
     IfOk-weaker c.seqnum_turn.result _ _
-    (λ turn locks n who J.
-    let ready = subst (λ j. JobIsReady f x (resting no_cursor) j n who c.args.owner size ps) c.in-Seqnum.is J in
-    let holds = subst (λ m. OpenerHolds f x (resting no_cursor) (command_in Jobs.Seqnum) m who ps) ready.stands.0 ready.holds in
-    let made = locks f c.args.options.now c.args.live.now c.args.held.now no_cursor who ready.number (record { few = c.requires.few; counts = c.requires.well.counts; holds = holds }) in
-    subst (λ j. JobTurned f x x (resting no_cursor) j j n who (g.S.Space.size c.seqnum_turn.new.s) ps c.seqnum_turn.new.locks (law_turn turn)) (sym c.in-Seqnum.is)
-    (number_turned f x (resting no_cursor) who (g.S.Space.size c.seqnum_turn.new.s) ps c.seqnum_turn.new.locks ready.stands.1 n (law_turn turn) ready.stands.0 made)) c.seqnum_turn.ensures.locks
+    (λ turn locks rest n who J.
+    let x = own_with c.args.options.now c.args.live.now c.args.held.now rest in
+    let ready = subst (λ j. JobIsReady f x (resting rest) j n who c.args.owner size ps) c.in-Seqnum.is J in
+    let holds = subst (λ m. OpenerHolds f x (resting rest) (command_in Jobs.Seqnum) m who ps) ready.stands.0 ready.holds in
+    let made = locks f c.args.options.now c.args.live.now c.args.held.now rest who ready.number (record { few = c.requires.few; counts = c.requires.well.counts; holds = holds }) in
+    subst (λ j. JobTurned f x x (resting rest) j j n who (g.S.Space.size c.seqnum_turn.new.s) ps c.seqnum_turn.new.locks (law_turn turn)) (sym c.in-Seqnum.is)
+    (number_turned f x (resting rest) who (g.S.Space.size c.seqnum_turn.new.s) ps c.seqnum_turn.new.locks ready.stands.1 n (law_turn turn) ready.stands.0 made)) c.seqnum_turn.ensures.locks
 
 pub returns-in-Close-clause-turned : goal.returns-in-Close-clause-turned
-returns-in-Close-clause-turned g c n who J =
+returns-in-Close-clause-turned g c rest n who J =
     let f = g.S.Space.form c.args.s.now in
-    let x = own_with c.args.options.now c.args.live.now c.args.held.now no_cursor in
-    let y = own_with c.args.options.now false c.close_turn.new.held no_cursor in
+    let x = own_with c.args.options.now c.args.live.now c.args.held.now rest in
+    let y = own_with c.args.options.now false c.close_turn.new.held rest in
     let size = g.S.Space.size c.args.s.now in
     let ps = c.args.locks.now in
     let qs = c.close_turn.new.locks in
-    let ready = subst (λ j. JobIsReady f x (resting no_cursor) j n who c.args.owner size ps) c.in-Close.is J in
-    let holds = subst (λ m. OpenerHolds f x (resting no_cursor) (command_in Jobs.Close) m who ps) ready.stands.0 ready.holds in
-    let E = c.close_turn.ensures.turned f c.args.options.now c.args.live.now any_view who ready.number holds in
-    subst (λ j. JobTurned f x y (resting no_cursor) j j n who size ps qs (law_turn c.close_turn.result)) (sym c.in-Close.is)
-    (subst (λ t. JobTurned f x y (resting no_cursor) Jobs.Close Jobs.Close n who size ps qs (law_turn t)) (sym c.close_turn.ensures.turn)
-    (subst (λ m. JobTurned f x y (resting no_cursor) Jobs.Close Jobs.Close m who size ps qs (Law.Turn.Ends Law.Reply.Done)) (sym ready.stands.0) (record { locks = E.locks; stands = tt; lives = λ t e. absurd (cc e) })))
+    let ready = subst (λ j. JobIsReady f x (resting rest) j n who c.args.owner size ps) c.in-Close.is J in
+    let holds = subst (λ m. OpenerHolds f x (resting rest) (command_in Jobs.Close) m who ps) ready.stands.0 ready.holds in
+    let E = c.close_turn.ensures.turned f c.args.options.now c.args.live.now rest any_view who ready.number ready.stands.2 holds in
+    subst (λ j. JobTurned f x y (resting rest) j j n who size ps qs (law_turn c.close_turn.result)) (sym c.in-Close.is)
+    (subst (λ t. JobTurned f x y (resting rest) Jobs.Close Jobs.Close n who size ps qs (law_turn t)) (sym c.close_turn.ensures.turn)
+    (subst (λ m. JobTurned f x y (resting rest) Jobs.Close Jobs.Close m who size ps qs (Law.Turn.Ends Law.Reply.Done)) (sym ready.stands.0) (record { locks = E.locks; stands = tt; lives = λ t e. absurd (cc e) })))

@@ -1,7 +1,7 @@
 -- The turn is one of its task's job, and what is left of the task is put back.
 use Rattle.std.proofs.Common.{◌≡◌, Some, sym, ◌∙◌, ap, subst, arith, unwrap_or}
 use Rattle.tdb_world.specs.Turning.{resting, ImageBefore, TurnsLocks, TurnsFile, TurnsImage}
-use Rattle.tdb_world.specs.Openers.{no_cursor, own_of, command_in, law_task, TaskStands}
+use Rattle.tdb_world.specs.Openers.{rest_of, own_of, command_in, law_task, TaskStands}
 use Rattle.tdb_plays.specs.InLaw.{law_turn}
 use Rattle.tdb_steps.proofs.Made.{of_both}
 use Rattle.tdb_world.proofs.TaskReady.{task_few, task_ready}
@@ -14,6 +14,14 @@ after-requires g c = record {
       omega (arith, six));
 }
 
+pub turn-turn-requires-clause-ready : goal.turn-turn-requires-clause-ready
+turn-turn-requires-clause-ready g c =
+    let now = c.in-Some.now in
+    let busy : c.args.self.now.task ≡ Some now = sym c.take.ensures.value ∙ c.in-Some.is in
+    let h = c.requires.holds now busy in
+    (rest_of c.args.self.now.walk, now.steps, h.0,
+    task_ready (g.S.Space.form c.args.s.now) c.args.options.now c.args.self.now (g.S.Space.size c.args.s.now) c.args.owner c.args.locks.now c.requires.stands c.requires.holds now busy h.0 h.1)
+
 pub returns-clause-file : goal.returns-clause-file
 returns-clause-file g c =
     let f = g.S.Space.form c.args.s.now in
@@ -25,8 +33,8 @@ returns-clause-file g c =
     (λ turn filed left told v t who others e number I.
     let same : now ≡ t = ap (λ o. unwrap_or o now) (sym busy ∙ e) in
     let ready = task_ready f c.args.options.now c.args.self.now (g.S.Space.size c.args.s.now) c.args.owner c.args.locks.now c.requires.stands c.requires.holds now busy who number in
-    let F = filed told v now.steps who others ready (subst (λ u. ImageBefore f u.job a others) (sym same) I) in
-    subst (λ u. TurnsFile f (own_of c.args.options.now c.args.self.now) (own_of c.args.options.now (record { live = c.turn-turn.new.live; held = c.turn-turn.new.held; task = c.after.result })) (resting no_cursor) v (command_in u.job) u.steps who
+    let F = filed told (rest_of c.args.self.now.walk) v now.steps who others ready (subst (λ u. ImageBefore f u.job a others) (sym same) I) in
+    subst (λ u. TurnsFile f (own_of c.args.options.now c.args.self.now) (own_of c.args.options.now (record { live = c.turn-turn.new.live; held = c.turn-turn.new.held; task = c.after.result; walk = c.args.self.now.walk })) (resting (rest_of c.args.self.now.walk)) v (command_in u.job) u.steps who
     c.args.locks.now a b (law_turn turn) × TurnsImage f u c.after.result a b others) same (F.file, subst (λ z. TurnsImage f now z a b others) (sym left) F.image)) c.turn-turn.ensures.file c.after.ensures.left
 
 pub returns-clause-locks : goal.returns-clause-locks
@@ -34,7 +42,7 @@ returns-clause-locks g c =
     let f = g.S.Space.form c.args.s.now in
     let now = c.in-Some.now in
     let x = own_of c.args.options.now c.args.self.now in
-    let y = own_of c.args.options.now (record { live = c.turn-turn.new.live; held = c.turn-turn.new.held; task = c.after.result }) in
+    let y = own_of c.args.options.now (record { live = c.turn-turn.new.live; held = c.turn-turn.new.held; task = c.after.result; walk = c.args.self.now.walk }) in
     let ps = c.args.locks.now in
     let qs = c.turn-turn.new.locks in
     let busy : c.args.self.now.task ≡ Some now = sym c.take.ensures.value ∙ c.in-Some.is in
@@ -42,22 +50,22 @@ returns-clause-locks g c =
     (λ turn turned left t who e number.
     let same : now ≡ t = ap (λ o. unwrap_or o now) (sym busy ∙ e) in
     let ready = task_ready f c.args.options.now c.args.self.now (g.S.Space.size c.args.s.now) c.args.owner ps c.requires.stands c.requires.holds now busy who number in
-    subst (λ u. TurnsLocks f x y (resting no_cursor) (command_in u.job) u.steps (law_task c.after.result) who ps qs (law_turn turn)) same
-    (subst (λ z. TurnsLocks f x y (resting no_cursor) (command_in now.job) now.steps (law_task z) who ps qs (law_turn turn)) (sym left) (turned now.steps who ready).locks)) c.turn-turn.ensures.turned c.after.ensures.left
+    subst (λ u. TurnsLocks f x y (resting (rest_of c.args.self.now.walk)) (command_in u.job) u.steps (law_task c.after.result) who ps qs (law_turn turn)) same
+    (subst (λ z. TurnsLocks f x y (resting (rest_of c.args.self.now.walk)) (command_in now.job) now.steps (law_task z) who ps qs (law_turn turn)) (sym left) (turned (rest_of c.args.self.now.walk) now.steps who ready).locks)) c.turn-turn.ensures.turned c.after.ensures.left
 
 pub returns-clause-stands : goal.returns-clause-stands
 returns-clause-stands g c =
     let f = g.S.Space.form c.args.s.now in
     let now = c.in-Some.now in
-    let y = own_of c.args.options.now (record { live = c.turn-turn.new.live; held = c.turn-turn.new.held; task = c.after.result }) in
+    let y = own_of c.args.options.now (record { live = c.turn-turn.new.live; held = c.turn-turn.new.held; task = c.after.result; walk = c.args.self.now.walk }) in
     let busy : c.args.self.now.task ≡ Some now = sym c.take.ensures.value ∙ c.in-Some.is in
     let h = c.requires.holds now busy in
     of_both c.turn-turn.result _ _ _
     (λ turn turned left.
     let ready = task_ready f c.args.options.now c.args.self.now (g.S.Space.size c.args.s.now) c.args.owner c.args.locks.now c.requires.stands c.requires.holds now busy h.0 h.1 in
-    let T = turned now.steps h.0 ready in
+    let T = turned (rest_of c.args.self.now.walk) now.steps h.0 ready in
     record {
-      stands = (c.turn-turn.ensures.well, subst (λ z. TaskStands f y z (g.S.Space.size c.turn-turn.new.s)) (sym left) T.stands);
+      stands = (c.turn-turn.ensures.well, subst (λ z. TaskStands f y z (g.S.Space.size c.turn-turn.new.s)) (sym left) T.stands, c.requires.stands.stands.2);
       busy_live = λ u e. T.lives u (sym left ∙ e) ∙ c.requires.stands.busy_live now busy;
     }) c.turn-turn.ensures.turned c.after.ensures.left
 
@@ -68,4 +76,4 @@ returns-clause-cause g c told t who others e number I =
     let busy : c.args.self.now.task ≡ Some now = sym c.take.ensures.value ∙ c.in-Some.is in
     let same : now ≡ t = ap (λ o. unwrap_or o now) (sym busy ∙ e) in
     let ready = task_ready f c.args.options.now c.args.self.now (g.S.Space.size c.args.s.now) c.args.owner c.args.locks.now c.requires.stands c.requires.holds now busy who number in
-    c.turn-turn.ensures.cause told now.steps who others ready (subst (λ u. ImageBefore f u.job (g.S.Space.image c.args.s.now) others) (sym same) I)
+    c.turn-turn.ensures.cause told (rest_of c.args.self.now.walk) now.steps who others ready (subst (λ u. ImageBefore f u.job (g.S.Space.image c.args.s.now) others) (sym same) I)

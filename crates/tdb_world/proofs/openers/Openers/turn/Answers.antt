@@ -9,9 +9,18 @@ use Rattle.tdb_steps.proofs.Made.{of_both}
 use Rattle.tdb_world.specs.States.{state_of}
 use Rattle.tdb_world.specs.Worlds.{IsBusy, Stands, BytesStand, state_in, law_of_task}
 use Rattle.tdb_world.specs.Turning.{resting, OpenerHolds, ImageBefore}
-use Rattle.tdb_world.specs.Openers.{no_cursor, own_of, command_in}
+use Rattle.tdb_world.specs.Openers.{rest_of, own_of, command_in}
+use Rattle.tdb_world.proofs.Putting.{spots_still}
 use Rattle.tdb_world.proofs.Stepping.{Locked, Filed, ok_so, ok_both, stands_before, holds_before, task_busy, busy_after, image_before, world_after, file_after, turned_after}
 use Rattle.tdb_world.proofs.openers.Openers.turn.Goals as goal
+
+pub turn-requires-clause-busy : goal.turn-requires-clause-busy
+turn-requires-clause-busy g c =
+    let e = c.self.view_is in
+    (c.requires.busy.1,
+    task_busy c.self.inside.header c.self.inside.options c.self.inside.list.items c.self.inside.locks (g.S.Space.image c.args.s.now) (g.S.Space.size c.args.s.now) c.args.who c.requires.busy.0 c.in-Some.opener.now c.requires.busy.1
+    (subst (λ w. IsBusy w c.args.who c.requires.busy.0 c.requires.busy.1) (sym e) c.requires.busy.2) c.in-Some.ensures.item.1
+    (subst (λ w. Stands w (g.S.Space.image c.args.s.now) (g.S.Space.size c.args.s.now)) (sym e) c.requires.stands))
 
 pub turn-requires-clause-stands : goal.turn-requires-clause-stands
 turn-requires-clause-stands g c =
@@ -26,7 +35,7 @@ pub turn-requires-clause-holds : goal.turn-requires-clause-holds
 turn-requires-clause-holds g c u busy =
     let e = c.self.view_is in
     let form = c.requires.form ∙ ap (λ w. form_in w.header) (sym e) in
-    subst (λ f. (n : ℕ) × (c.args.who ≡ n + 1) × OpenerHolds f (own_of c.self.inside.options c.in-Some.opener.now) (resting no_cursor) (command_in u.job) u.steps n c.self.inside.locks) (sym form)
+    subst (λ f. (n : ℕ) × (c.args.who ≡ n + 1) × OpenerHolds f (own_of c.self.inside.options c.in-Some.opener.now) (resting (rest_of c.in-Some.opener.now.walk)) (command_in u.job) u.steps n c.self.inside.locks) (sym form)
     (holds_before c.self.inside.header c.self.inside.options c.self.inside.list.items c.self.inside.locks (g.S.Space.image c.args.s.now) (g.S.Space.size c.args.s.now) c.args.who c.requires.busy.0 c.in-Some.opener.now c.requires.busy.1
     (subst (λ w. IsBusy w c.args.who c.requires.busy.0 c.requires.busy.1) (sym e) c.requires.busy.2) c.in-Some.ensures.item.1
     (subst (λ w. Stands w (g.S.Space.image c.args.s.now) (g.S.Space.size c.args.s.now)) (sym e) c.requires.stands) u busy)
@@ -81,7 +90,7 @@ returns-clause-turned g c =
     y c.turn.new.locks b turn
     (subst (λ f. Locked f c.self.inside.options d y c.args.who c.self.inside.locks c.turn.new.locks turn) form L)
     (subst (λ w. BytesStand w a) (sym e) bytes)
-    (subst (λ f. Filed f c.self.inside.options d y c.args.who c.self.inside.locks a b turn) form (T told))))
+    (subst (λ f. Filed f c.self.inside.options d y c.args.who c.self.inside.locks a b turn) form (T told)) c.turn.ensures.walk))
     c.turn.ensures.locks c.turn.ensures.file
 
 pub returns-clause-busy : goal.returns-clause-busy
@@ -116,3 +125,6 @@ returns-clause-cause g c told bytes =
     let d = c.in-Some.opener.now in
     c.turn.ensures.cause told t B.number.place (other_hands xs B.number.place) (task_busy header options xs ps a size c.args.who x d t B item W) B.number.counted
     (subst (λ f. ImageBefore f t.job a (other_hands xs B.number.place)) (sym form) (image_before header options xs ps a size c.args.who x d t B item W (subst (λ w. BytesStand w a) (sym e) bytes)))
+
+pub invariant_of-self : goal.invariant_of-self
+invariant_of-self g c = c.self.invariant ∙ sym (spots_still c.self.inside.list.items (c.args.who - 1) c.in-Some.opener.now c.turn.new.self c.in-Some.ensures.item.1 c.turn.ensures.walk)
