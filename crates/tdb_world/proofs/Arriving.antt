@@ -20,10 +20,14 @@ use Rattle.tdb_world.specs.declared.opener.Opener.{Opener}
 use Rattle.tdb_law.specs.Layout.{chains_in, mark_of}
 use Rattle.tdb_law.specs.Walks.{Shift}
 use Rattle.tdb_walk.specs.InLaw.{spot_in, is_before}
-use Rattle.tdb_world.specs.Openers.{no_cursor, no_walk, rest_of, options_of, own_of, own_with, own_at, spot_at, place_at, task_at, law_task, hands_of_task, hands_at, TaskStands, TaskKnows, OpenerKnows, WalkStands}
+use Rattle.tdb_world.specs.Openers.{no_cursor, no_walk, rest_of, options_of, own_of, own_with, own_at, spot_at, place_at, spots_of, task_at, law_task, hands_of_task, hands_at, TaskStands, TaskKnows, OpenerKnows, WalkStands}
 use Rattle.tdb_world.specs.States.{WorldStands}
 use Rattle.tdb_world.specs.Laws.{IsJoined, JoinKeepsWorld, JoinKeepsFile, JoinJoins, EmptyStands, EmptyFileStands, EmptyIsLoaded}
 use Rattle.tdb_world.proofs.Standing.{Holds, IsSet, world_set, held_still}
+use Rattle.tdb_walk.specs.Cursors.{Knows}
+use Rattle.tdb_cursors.specs.Spots.{spot_number}
+use Rattle.tdb_world.specs.Cursors.{is_stood, CursorKnows, TaskSpares, OpenerSpares}
+use Rattle.tdb_world.proofs.Stood.{spots_pushed, stood_pushed}
 use Rattle.tdb_world.proofs.AllHands.{joined_same}
 use Rattle.tdb_world.proofs.StillWalks.{still_shift}
 use Rattle.tdb_world.proofs.Opening.{nobody_holds, nobody_opens}
@@ -89,10 +93,24 @@ join_keeps_file f xs ys a y F J = record {
         | inl is ↦ subst (λ p. OpenerKnows f a (slice_get ys p)) (sym is) (subst (OpenerKnows f a) (sym S.there) (subst (TaskKnows f a) (sym J.idle) tt))
         | inr ne ↦ subst (OpenerKnows f a) (sym (S.others o ne)) (F.known o)
       ]);
+  cursors = λ o.
+      (elim (cases_eq o (length xs)) [
+        | inl is ↦ subst (λ p. CursorKnows f a (slice_get ys p)) (sym is) (subst (CursorKnows f a) (sym S.there) (subst (λ w. Knows f a w.cursor.place w.cursor.stage) (sym J.bare) tt))
+        | inr ne ↦ subst (CursorKnows f a) (sym (S.others o ne)) (F.cursors o)
+      ]);
+  spared = λ o.
+      subst (λ stands. OpenerSpares stands (slice_get ys o)) (sym stand)
+      (elim (cases_eq o (length xs)) [
+        | inl is ↦ subst (λ p. OpenerSpares (is_stood (spots_of xs)) (slice_get ys p)) (sym is) (subst (OpenerSpares (is_stood (spots_of xs))) (sym S.there) (subst (TaskSpares (is_stood (spots_of xs))) (sym J.idle) tt))
+        | inr ne ↦ subst (OpenerSpares (is_stood (spots_of xs))) (sym (S.others o ne)) (F.spared o)
+      ]);
 }
   where
     S : IsSet xs (length xs) y ys
     S = is_set xs ys y J
+
+    stand : is_stood (spots_of ys) ≡ is_stood (spots_of xs)
+    stand = ap is_stood (ap spots_of J.pushed ∙ spots_pushed xs y (ap (λ w. spot_number w.cursor.place) J.bare)) ∙ stood_pushed (spots_of xs)
 
     hands : joined (length ys) (λ o. hands_at (slice_get ys o)) ≡ joined (length xs) (λ o. hands_at (slice_get xs o))
     hands =
@@ -151,7 +169,7 @@ empty_stands f options a size chains limit short = record {
 }
 
 pub empty_file_stands : EmptyFileStands
-empty_file_stands f a A = record { accepted = A; known = λ o. tt }
+empty_file_stands f a A = record { accepted = A; known = λ o. tt; cursors = λ o. tt; spared = λ o. tt }
 
 pub empty_is_loaded : EmptyIsLoaded
 empty_is_loaded f options a chains = record {

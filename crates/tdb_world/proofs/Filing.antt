@@ -33,10 +33,22 @@ use Rattle.tdb_world.specs.declared.job.Job.{Job}
 use Rattle.tdb_world.specs.declared.job.Job.TheVariants as Jobs
 use Rattle.tdb_world.specs.declared.job.Checking.TheVariants as Checks
 use Rattle.tdb_world.specs.declared.job.Task.{Task}
-use Rattle.tdb_world.specs.Openers.{AtRest, rest_of, own_of, command_in, hands_at, JobKnows, TaskKnows, OpenerKnows}
+use Rattle.tdb_world.specs.Openers.{AtRest, rest_of, own_of, command_in, hands_at, place_at, spots_of, JobKnows, TaskKnows, OpenerKnows}
 use Rattle.tdb_world.specs.States.{WorldStands, FileStands}
 use Rattle.tdb_world.specs.Turning.{resting, JobIsOn, TurnsFile, TurnsImage}
 use Rattle.tdb_world.specs.Laws.{HasTask, IsPut, hands_but, other_hands, TurnKeepsFile}
+use Rattle.tdb_world.specs.Cursors.{is_stood, CursorKnows, OpenerSpares, LeavesCursors}
+use Rattle.tdb_law.specs.Layout.{IsStood}
+use Rattle.tdb_walk.specs.declared.standing.Standing.{Standing}
+use Rattle.tdb_walk.specs.declared.standing.Standing.TheVariants.{Before, On, Past}
+use Rattle.tdb_walk.specs.declared.stage.Stage.{Stage as CursorStage}
+use Rattle.tdb_walk.specs.declared.stage.Stage.TheVariants.{Rested}
+use Rattle.tdb_walk.specs.NextLive.{place_of}
+use Rattle.tdb_walk.specs.Cursors.{Knows}
+use Rattle.tdb_walk.specs.Again.{RestsAt}
+use Rattle.tdb_cursors.specs.Spots.{spot_number}
+use Rattle.tdb_world.proofs.Standing.{walk_there}
+use Rattle.tdb_world.proofs.Stood.{place_entry, same_spots, stands_among}
 use Rattle.tdb_world.proofs.AllHands.{from_front}
 use Rattle.tdb_world.proofs.Busy.{Writes, looked_writes, listed_writes, taken_writes, on_reads}
 use Rattle.tdb_world.proofs.Working.{Works, works, plain_writes, plain_reads, check_reads, but_here, but_else}
@@ -64,7 +76,8 @@ doing command chain seqnum stage whole = record { command = command; chain = cha
 
 module _ (f : Form) (options : Options) (xs ys : List Opener) (ps : List Piece) (a b : List ℕ) (size who : ℕ) (x y : Opener) (t : Task) (v : View) (turn : Turn)
     (W : WorldStands f options xs ps a size) (F : FileStands f xs a) (B : HasTask xs who x t) (P : IsPut xs who y ys)
-    (E : TurnsFile f (own_of options x) (own_of options y) (resting (rest_of x.walk)) v (command_in t.job) t.steps who ps a b turn) (T : TurnsImage f t y.task a b (other_hands xs who)) where
+    (E : TurnsFile f (own_of options x) (own_of options y) (resting (rest_of x.walk)) v (command_in t.job) t.steps who ps a b turn) (T : TurnsImage f t y.task a b (other_hands xs who))
+    (still : y.walk ≡ x.walk) (L : LeavesCursors f (own_of options x) t y.task turn a b (is_stood (spots_of xs))) where
   mine : Works f ps size who (own_of options x) (rest_of x.walk) t.job t.steps
   mine = works f options xs ps a size W who x t B
 
@@ -132,6 +145,31 @@ module _ (f : Form) (options : Options) (xs ys : List Opener) (ps : List Piece) 
   opener_knows o ne None there known = tt
   opener_knows o ne (Some z) there known = task_knows o ne z there z.task refl known
 
+  -- each cursor still knows its record, on which it stands
+  cursor_knows : (place : Standing) (stage : CursorStage) → stage ≡ Rested → IsStood (is_stood (spots_of xs)) (place_of place) → Knows f a place stage → Knows f b place stage
+  cursor_knows (On chain off) stage rests on K =
+      let K = subst (Knows f a (On chain off)) rests K in
+      subst (Knows f b (On chain off)) (sym rests) (K.0, L.members chain off K.0 on K.1)
+  cursor_knows (Before chain) stage rests on K = tt
+  cursor_knows Past stage rests on K = tt
+
+  at_rest : (shown : Option (List ℕ)) (place : Standing) (stage : CursorStage) → RestsAt f shown place stage → stage ≡ Rested
+  at_rest shown (On chain off) stage R = R.1
+  at_rest shown (Before chain) stage R = absurd R
+  at_rest shown Past stage R = R.1
+
+  cursors_know : (o : ℕ) (z : Option Opener) → slice_get xs o ≡ z → CursorKnows f a z → CursorKnows f b z
+  cursors_know o None there K = tt
+  cursors_know o (Some z) there K =
+      cursor_knows z.walk.cursor.place z.walk.cursor.stage (at_rest z.walk.shown z.walk.cursor.place z.walk.cursor.stage (walk_there f options xs ps a size o z W there).rests)
+      (subst (λ w. IsStood (is_stood (spots_of xs)) (place_at w)) there (stands_among f options xs ps a size W o)) K
+
+  same_entries : spots_of ys ≡ spots_of xs
+  same_entries = same_spots xs ys (λ o. elim (cases_eq o who) [
+    | inl is ↦ subst (λ p. place_entry (slice_get ys p) ≡ place_entry (slice_get xs p)) (sym is) (ap place_entry P.there ∙ (ap (λ w. Some (spot_number w.cursor.place)) still ∙ sym (ap place_entry B.there)))
+    | inr ne ↦ ap place_entry (P.others o ne)
+  ])
+
   file_stands : FileStands f ys b
   file_stands = record {
     accepted = from_front who (λ o. hands_at (slice_get ys o)) (hands_but xs who) (but_here xs who) (λ o ne. but_else xs who o ne ∙ sym (ap hands_at (P.others o ne))) f b (length ys)
@@ -143,7 +181,18 @@ module _ (f : Form) (options : Options) (xs ys : List Opener) (ps : List Piece) 
           | inl is ↦ subst (λ p. OpenerKnows f b (slice_get ys p)) (sym is) (subst (OpenerKnows f b) (sym P.there) T.knows)
           | inr ne ↦ subst (OpenerKnows f b) (sym (P.others o ne)) (opener_knows o ne (slice_get xs o) refl (F.known o))
         ]);
+    cursors = λ o.
+        (elim (cases_eq o who) [
+          | inl is ↦ subst (λ p. CursorKnows f b (slice_get ys p)) (sym is) (subst (CursorKnows f b) (sym P.there) (subst (λ w. Knows f b w.cursor.place w.cursor.stage) (sym still) (cursors_know who (Some x) B.there (subst (CursorKnows f a) B.there (F.cursors who)))))
+          | inr ne ↦ subst (CursorKnows f b) (sym (P.others o ne)) (cursors_know o (slice_get xs o) refl (F.cursors o))
+        ]);
+    spared = λ o.
+        subst (λ l. OpenerSpares (is_stood l) (slice_get ys o)) (sym same_entries)
+        (elim (cases_eq o who) [
+          | inl is ↦ subst (λ p. OpenerSpares (is_stood (spots_of xs)) (slice_get ys p)) (sym is) (subst (OpenerSpares (is_stood (spots_of xs))) (sym P.there) L.spares)
+          | inr ne ↦ subst (OpenerSpares (is_stood (spots_of xs))) (sym (P.others o ne)) (F.spared o)
+        ]);
   }
 
 pub turn_keeps_file : TurnKeepsFile
-turn_keeps_file f options xs ys ps a b size who x y t v turn W F B P E T = file_stands f options xs ys ps a b size who x y t v turn W F B P E T
+turn_keeps_file f options xs ys ps a b size who x y t v turn W F B P E T still L = file_stands f options xs ys ps a b size who x y t v turn W F B P E T still L

@@ -15,7 +15,8 @@ use Rattle.tdb_steps.specs.declared.plain.Plain.{Plain}
 use Rattle.tdb_steps.specs.declared.stage.Stage.{Stage}
 use Rattle.tdb_steps.specs.declared.stage.Stage.TheVariants.{Begun, Chained, Looked, Listed, Taken, Changed, Wiping, Ending}
 use Rattle.tdb_steps.specs.Machines.{DoingKnows}
-use Rattle.tdb_steps.specs.Order.{IsAfter}
+use Rattle.tdb_steps.specs.declared.plain.Plain.TheVariants.{Fetch, Has, Store, Append, Delete, Wipe}
+use Rattle.tdb_steps.specs.Order.{DeleteAfter, IsAfter}
 use Rattle.tdb_steps.specs.PlainCommands.{command_of}
 use Rattle.tdb_world.specs.Given.{IsWellHeld}
 use Rattle.tdb_world.specs.declared.options.Options.{Options}
@@ -25,10 +26,14 @@ use Rattle.tdb_world.specs.declared.job.Job.TheVariants as Jobs
 use Rattle.tdb_world.specs.declared.job.Checking.TheVariants as Checks
 use Rattle.tdb_law.specs.Layout.{chains_in, mark_of}
 use Rattle.tdb_walk.specs.InLaw.{spot_in, is_before}
-use Rattle.tdb_world.specs.Openers.{rest_of, own_of, own_with, own_at, spot_at, place_at, task_at, command_in, law_task, hands_of_job, hands_of_task, hands_at, JobStands, TaskStands, OpenerStands, WalkStands, JobKnows, TaskKnows, OpenerKnows}
+use Rattle.tdb_world.specs.Openers.{rest_of, own_of, own_with, own_at, spot_at, place_at, spots_of, task_at, command_in, law_task, hands_of_job, hands_of_task, hands_at, JobStands, TaskStands, OpenerStands, WalkStands, JobKnows, TaskKnows, OpenerKnows}
 use Rattle.tdb_world.specs.States.{state_of}
 use Rattle.tdb_world.specs.Laws.{IsGiven, GiftKeepsWorld, GiftKeepsFile, GiftIsGiven}
 use Rattle.tdb_world.proofs.Standing.{Holds, world_set, held_still}
+use Rattle.tdb_walk.specs.Cursors.{Knows}
+use Rattle.tdb_cursors.specs.Spots.{spot_number}
+use Rattle.tdb_world.specs.Cursors.{is_stood, CursorKnows, StageSpares, JobSpares, TaskSpares, OpenerSpares}
+use Rattle.tdb_world.proofs.Stood.{place_entry, same_spots}
 use Rattle.tdb_world.proofs.AllHands.{joined_same}
 use Rattle.tdb_world.proofs.Busy.{hand_frees, looked_writes, listed_writes, taken_writes}
 
@@ -76,6 +81,33 @@ module _ (f : Form) (x : Own) (size : ℕ) where
   bare_knows img Jobs.Seqnum K = tt
   bare_knows img Jobs.Close K = tt
 
+  -- and takes no record out of its chain
+  delete_bare : (key : List ℕ) (stage : Stage) (stands : ℕ → Bool) → DeleteAfter stage 0 → StageSpares stands (Delete key) stage
+  delete_bare key Begun stands is = tt
+  delete_bare key Chained stands is = tt
+  delete_bare key (Looked found) stands is = absurd (omega (arith, is))
+  delete_bare key (Listed found) stands is = absurd (omega (arith, is))
+  delete_bare key (Taken found hand) stands is = tt
+  delete_bare key (Changed hand) stands is = tt
+  delete_bare key (Wiping locked) stands is = tt
+  delete_bare key Ending stands is = tt
+
+  plain_bare : (command : Plain) (stage : Stage) (stands : ℕ → Bool) → IsAfter command stage 0 → StageSpares stands command stage
+  plain_bare (Fetch key) stage stands is = tt
+  plain_bare (Has key) stage stands is = tt
+  plain_bare (Store key value flag) stage stands is = tt
+  plain_bare (Append key value) stage stands is = tt
+  plain_bare (Delete key) stage stands is = delete_bare key stage stands is
+  plain_bare Wipe stage stands is = tt
+
+  bare_spares : (job : Job) (stands : ℕ → Bool) → JobStands f x job 0 size → JobSpares stands job
+  bare_spares (Jobs.Refused command reply) stands K = tt
+  bare_spares (Jobs.Plain d) stands K = plain_bare d.command d.stage stands K.after
+  bare_spares (Jobs.Check checking) stands K = tt
+  bare_spares (Jobs.Locking locking) stands K = tt
+  bare_spares Jobs.Seqnum stands K = tt
+  bare_spares Jobs.Close stands K = tt
+
 pub gift_keeps_world : GiftKeepsWorld
 gift_keeps_world f options xs ys ps a size who x y job W there P G K =
     world_set f options xs ys ps ps a a size size who y W (record { there = P.there; others = P.others }) (held_still f options xs ps a size who y W holds)
@@ -102,8 +134,25 @@ gift_keeps_file f options xs ys a size who x y job F there P G K = record {
         | inl is ↦ subst (λ p. OpenerKnows f a (slice_get ys p)) (sym is) (subst (OpenerKnows f a) (sym P.there) (subst (TaskKnows f a) (sym G.task) (bare_knows f (own_of options x) size a job K)))
         | inr ne ↦ subst (OpenerKnows f a) (sym (P.others o ne)) (F.known o)
       ]);
+  cursors = λ o.
+      (elim (cases_eq o who) [
+        | inl is ↦ subst (λ p. CursorKnows f a (slice_get ys p)) (sym is) (subst (CursorKnows f a) (sym P.there) (subst (λ w. Knows f a w.cursor.place w.cursor.stage) (sym G.same_walk) (subst (CursorKnows f a) there (F.cursors who))))
+        | inr ne ↦ subst (CursorKnows f a) (sym (P.others o ne)) (F.cursors o)
+      ]);
+  spared = λ o.
+      subst (λ l. OpenerSpares (is_stood l) (slice_get ys o)) (sym same_entries)
+      (elim (cases_eq o who) [
+        | inl is ↦ subst (λ p. OpenerSpares (is_stood (spots_of xs)) (slice_get ys p)) (sym is) (subst (OpenerSpares (is_stood (spots_of xs))) (sym P.there) (subst (TaskSpares (is_stood (spots_of xs))) (sym G.task) (bare_spares f (own_of options x) size job (is_stood (spots_of xs)) K)))
+        | inr ne ↦ subst (OpenerSpares (is_stood (spots_of xs))) (sym (P.others o ne)) (F.spared o)
+      ]);
 }
   where
+    same_entries : spots_of ys ≡ spots_of xs
+    same_entries = same_spots xs ys (λ o. elim (cases_eq o who) [
+      | inl is ↦ subst (λ p. place_entry (slice_get ys p) ≡ place_entry (slice_get xs p)) (sym is) (ap place_entry P.there ∙ (ap (λ w. Some (spot_number w.cursor.place)) G.same_walk ∙ sym (ap place_entry there)))
+      | inr ne ↦ ap place_entry (P.others o ne)
+    ])
+
     here : hands_at (slice_get ys who) ≡ hands_at (slice_get xs who)
     here = ap hands_at P.there ∙ (ap hands_of_task G.task ∙ (bare_hands f (own_of options x) size job K ∙ sym (ap hands_at there ∙ ap hands_of_task G.idle)))
 

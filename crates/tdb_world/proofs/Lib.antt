@@ -48,3 +48,4 @@ pub mod Going
 pub mod FoundOnce
 pub mod StillWalks
 pub mod PlainCursors
+pub mod Stood

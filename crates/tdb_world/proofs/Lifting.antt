@@ -9,7 +9,7 @@ use Rattle.tdb_locks.specs.declared.piece.Piece.{Piece}
 use Rattle.tdb_law.specs.Commands.{Command, Turn, is_done}
 use Rattle.tdb_law.specs.Commands.Turn.{Step, Blocked, Ends}
 use Rattle.tdb_law.specs.Commands.Command.{OnMap, OnLocks, Seqnum, OnGroup, OnWalk}
-use Rattle.tdb_law.specs.Openers.{Own, Spot, View, Mark, seen}
+use Rattle.tdb_law.specs.Openers.{Own, Spot, View, seen}
 use Rattle.tdb_law.specs.Refusals.{Refusal, refusal}
 use Rattle.tdb_law.specs.Outcomes.{moves_by, moves}
 use Rattle.tdb_law.specs.Counting.{settles_by, settled_after, image_number_by, image_number_after, number_seen}
@@ -26,20 +26,16 @@ use Rattle.tdb_world.specs.declared.opener.Opener.{Opener}
 use Rattle.tdb_world.specs.declared.job.Job.{Job}
 use Rattle.tdb_world.specs.declared.job.Job.TheVariants as Jobs
 use Rattle.tdb_world.specs.declared.job.Task.{Task}
-use Rattle.tdb_law.specs.Layout.{Place, chains_in, mark_of}
-use Rattle.tdb_law.specs.Layout.Place.{off_chains}
-use Rattle.tdb_walk.specs.declared.standing.Standing.{Standing}
+use Rattle.tdb_law.specs.Layout.{chains_in, mark_of}
 use Rattle.tdb_walk.specs.declared.standing.Standing.TheVariants.{Past}
-use Rattle.tdb_walk.specs.NextLive.{place_of}
 use Rattle.tdb_walk.specs.InLaw.{must_purge}
-use Rattle.tdb_world.specs.Openers.{rest_of, own_of, own_at, spot_at, place_at, spots_of, task_at, command_in, law_task, JobStands, OpenerStands, WalkStands}
+use Rattle.tdb_world.specs.Openers.{rest_of, own_of, own_at, spot_at, place_at, spots_of, task_at, command_in, law_task, JobStands, WalkStands}
 use Rattle.tdb_world.specs.States.{state_of, view_for, view_under, view_at, WorldStands}
 use Rattle.tdb_world.specs.Turning.{law_table, resting, TurnsWalk}
 use Rattle.tdb_world.specs.Laws.{HasTask, IsPut, TurnIsTurned, view_in}
 use Rattle.tdb_world.proofs.Rests.{spot_rests, walk_past}
 use Rattle.tdb_world.proofs.Standing.{walk_there}
 use Rattle.tdb_world.proofs.Single.{either}
-use Rattle.tdb_world.proofs.StillWalks.{ended_walk}
 use Rattle.tdb_world.proofs.Working.{works}
 
 -- the command neither moves a cursor, nor settles the world, nor counts in an image
@@ -100,15 +96,6 @@ nothing_due f options img stood_on x (OnLocks c) past = refl
 nothing_due f options img stood_on x Seqnum past = refl
 nothing_due f options img stood_on x (OnGroup g) past = refl
 nothing_due f options img stood_on x (OnWalk w) past = ap (λ p. must_purge f img x.held stood_on options.read_only p) past
-
-opener_past : (f : Form) (options : Options) (size : ℕ) (z : Option Opener) → OpenerStands f options size z → place_at z ≡ off_chains
-opener_past f options size None K = refl
-opener_past f options size (Some x) K = ap place_of (walk_past f x.walk K.2)
-
--- nobody has a cursor yet, so no turn does anything to one
-pub nobody_walks : (f : Form) (options : Options) (xs : List Opener) (ps : List Piece) (a : List ℕ) (size : ℕ) → WorldStands f options xs ps a size → (o : ℕ) (x : Own) (c : Command) (n : ℕ) (turn : Turn) (b : List ℕ)
-    → TurnsWalk f x c n turn a b (place_at (slice_get xs o))
-nobody_walks f options xs ps a size W o x c n turn b = subst (TurnsWalk f x c n turn a b) (sym (opener_past f options size (slice_get xs o) (W.openers_stand o))) (ended_walk f x c n turn a b)
 
 module _ (f : Form) (options : Options) (xs ys : List Opener) (ps qs : List Piece) (a b : List ℕ) (size who : ℕ) (x y : Opener) (t : Task) where
   -- the effect of the turn, by what is wanted and by the opener before it and after it

@@ -85,13 +85,15 @@ pub nobody_holds : (f : Form) (options : Options) (b : ℕ) → holding f (nobod
 nobody_holds f options b = let none : explicit_held f (nobody (options_of options)) b ≤ 0 = closed_base f 0 b (nobody (options_of options)) in omega (arith, none)
 
 module _ (f : Form) (options : Options) (x : Opener) (S : WalkStands f x.walk) where
+  off_low : stand_held (spot_of x.walk.cursor.place) 0 ≡ 0
+  off_low = stand_below f x.walk.shown (spot_of x.walk.cursor.place) 0 (walk_well f x.walk S) (omega arith)
+
   kept_low : kept f (own_of options x) (resting (rest_of x.walk)) 0 ≡ 0
   kept_low =
       let none : count_at (own_of options x) 0 ≡ 0 = ap (λ o. unwrap_or o 0) (counts_low x.held.chains) in
       let bare : (if nat_lt 0 (data_start f) && nat_lt 0 (count_at (own_of options x) 0) then 2 else 0) ≡ 0 =
       ap (λ n. if nat_lt 0 (data_start f) && nat_lt 0 n then 2 else 0) none ∙ ap (λ z. only z 2) (and-false (nat_lt 0 (data_start f))) in
-      let off : stand_held (spot_of x.walk.cursor.place) 0 ≡ 0 = stand_below f x.walk.shown (spot_of x.walk.cursor.place) 0 (walk_well f x.walk S) (omega arith) in
-      omega (arith, bare, all_low x.held.all, off)
+      omega (arith, bare, all_low x.held.all, off_low)
 
   row_low : (job : Job) (n size : ℕ) → JobStands f (own_of options x) job n size → IsHigh (locks f (command_in job) (own_of options x) false)
   row_low (Jobs.Refused command reply) n size K = subst (λ q. IsHigh (locks_by f q (command_in (Jobs.Refused command reply)) (own_of options x) false)) (sym K.2.refused) tt

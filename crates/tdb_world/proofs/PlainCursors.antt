@@ -1,5 +1,5 @@
 -- What a turn of a plain command leaves of the cursors beside it: a record is taken out of its chain only where none stands on it.
-use Rattle.std.proofs.Common.{◌≡◌, ℕ, ◌+◌, ◌<◌, ◌≤◌, List, ◌∷◌, ◌++◌, Bool, true, false, Option, None, Some, refl, sym, ◌∙◌, ap, subst, inl, inr, arith, ◌⊎◌}
+use Rattle.std.proofs.Common.{◌≡◌, ℕ, ◌+◌, ◌<◌, List, ◌∷◌, ◌++◌, Bool, true, false, Option, None, Some, refl, sym, ◌∙◌, ap, subst, inl, inr, arith}
 use Rattle.std.specs.Prelude.{◌&&◌, nat_eq, nat_lt, length, Contains}
 use Rattle.std.specs.List.{list_any}
 use Rattle.std.proofs.lemmas.Bool.{cases_eq, eqb-true, false_from_ne_true, false≢true}
@@ -13,7 +13,6 @@ use Rattle.tdb_space.specs.Extents.{HandPair}
 use Rattle.tdb_space.specs.Accepted.{AcceptWith}
 use Rattle.tdb_chain.specs.declared.place.Place.{Place as FoundPlace}
 use Rattle.tdb_chain.specs.Place.{HoldsKey, IsFound}
-use Rattle.tdb_chain.specs.Changed.{hand_at}
 use Rattle.tdb_locks.specs.declared.turn.Turn.{Turn}
 use Rattle.tdb_locks.specs.declared.turn.Turn.TheVariants as Turns
 use Rattle.tdb_law.specs.Commands.{Command, Turn as LawTurn}
@@ -44,7 +43,6 @@ use Rattle.tdb_steps.specs.LockTurns.{ActRightly}
 use Rattle.tdb_steps.specs.Shifts.{StandsBeside}
 use Rattle.tdb_steps.proofs.Shifts.{turns_shift, stood_stay}
 use Rattle.tdb_world.specs.declared.job.Job.TheVariants as Jobs
-use Rattle.tdb_world.specs.declared.job.Task.{Task}
 use Rattle.tdb_world.specs.Jobs.{task_after}
 use Rattle.tdb_world.specs.Turning.{TurnsWalk}
 use Rattle.tdb_world.specs.Cursors.{is_stood, StageSpares, TaskSpares, CommandClears, CursorsBeside, LeavesCursors}

@@ -15,7 +15,7 @@ use Rattle.tdb_world.specs.declared.opener.Opener.{Opener}
 use Rattle.tdb_world.specs.Openers.{rest_of, own_of, own_at, spot_at, task_at, law_task, OpenerStands, WalkStands}
 use Rattle.tdb_world.specs.States.{WorldStands}
 use Rattle.tdb_world.specs.Laws.{MayStand, OpenerIsReady, TurnKeepsWorld}
-use Rattle.tdb_world.specs.Turning.{StandsWell, resting}
+use Rattle.tdb_world.specs.Turning.{resting}
 use Rattle.tdb_world.proofs.Single.{opener_longer, busy_at, live_at}
 use Rattle.tdb_world.proofs.Rests.{spot_rests, walk_well}
 

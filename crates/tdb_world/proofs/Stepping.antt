@@ -1,5 +1,5 @@
 -- A turn of the opener with a number, as a turn of its world.
-use Rattle.std.proofs.Common.{Result, Ok, Err, IfOk, OnOk, ◌≡◌, ℕ, ◌+◌, ◌-◌, ◌≤◌, List, slice_index_or, slice_set, Option, Some, None, refl, sym, ◌∙◌, ap, subst}
+use Rattle.std.proofs.Common.{Result, Ok, Err, IfOk, OnOk, ◌≡◌, ℕ, ◌+◌, ◌-◌, ◌≤◌, List, slice_get, slice_index_or, slice_set, Option, Some, None, refl, sym, ◌∙◌, ap, subst}
 use Rattle.tdb_words.specs.declared.header.Header.{Header}
 use Rattle.tdb_space.specs.Form.{Form, form_in}
 use Rattle.tdb_space.specs.Extents.{HandPair}
@@ -13,8 +13,9 @@ use Rattle.tdb_plays.specs.InLaw.{law_opener, law_turn}
 use Rattle.tdb_world.specs.declared.options.Options.{Options}
 use Rattle.tdb_world.specs.declared.opener.Opener.{Opener}
 use Rattle.tdb_world.specs.declared.job.Task.{Task}
-use Rattle.tdb_world.specs.Openers.{rest_of, own_of, own_at, task_at, command_in, law_task, OpenerStands}
+use Rattle.tdb_world.specs.Openers.{rest_of, own_of, own_at, task_at, place_at, spots_of, command_in, law_task, OpenerStands}
 use Rattle.tdb_world.specs.States.{state_of, WorldStands, FileStands}
+use Rattle.tdb_world.specs.Cursors.{is_stood, CursorsBeside, LeavesCursors}
 use Rattle.tdb_world.specs.Turning.{resting, OpenerHolds, TurnsLocks, TurnsFile, ImageBefore, TurnsImage}
 use Rattle.tdb_world.specs.Laws.{HasTask, IsPut, MayStand, other_hands, view_in}
 use Rattle.tdb_world.specs.Worlds.{IsBusy, law_of_task}
@@ -22,7 +23,8 @@ use Rattle.tdb_world.proofs.Putting.{numbered, put_numbered, by_number}
 use Rattle.tdb_world.proofs.Standing.{opener_is_ready, turn_keeps_world}
 use Rattle.tdb_world.proofs.Working.{image_is_ready}
 use Rattle.tdb_world.proofs.Filing.{turn_keeps_file}
-use Rattle.tdb_world.proofs.Lifting.{nobody_walks, turn_is_turned}
+use Rattle.tdb_world.proofs.Stood.{cursors_are_beside, stands_among}
+use Rattle.tdb_world.proofs.Lifting.{turn_is_turned}
 
 -- what holds of an answer that is Ok, by two facts of it; and of each such answer, by two
 pub ok_so : {V F : Type 0} (r : Result V F) (P : V → Type 0) (Q R : Type 0) → ((v : V) → P v → Q → R) → IfOk r P → OnOk r Q → OnOk r R
@@ -44,9 +46,10 @@ Locked f options d y who ps qs turn = (t : Task) (n : ℕ) → d.task ≡ Some t
     → TurnsLocks f (own_of options d) (own_of options y) (resting (rest_of y.walk)) (command_in t.job) t.steps (law_task y.task) n ps qs (law_turn turn)
 
 -- and of the file
-abbrev pub Filed : Form → Options → Opener → Opener → ℕ → List Piece → List ℕ → List ℕ → Turn → Type 0
-Filed f options d y who ps a b turn = (v : View) (t : Task) (n : ℕ) (others : List HandPair) → d.task ≡ Some t → who ≡ n + 1 → ImageBefore f t.job a others
+abbrev pub Filed : Form → Options → Opener → Opener → ℕ → List Piece → List ℕ → List ℕ → List ℕ → Turn → Type 0
+Filed f options d y who ps spots a b turn = (v : View) (t : Task) (n : ℕ) (others : List HandPair) → d.task ≡ Some t → who ≡ n + 1 → ImageBefore f t.job a others
     → TurnsFile f (own_of options d) (own_of options y) (resting (rest_of d.walk)) v (command_in t.job) t.steps n ps a b (law_turn turn) × TurnsImage f t y.task a b others
+    × (CursorsBeside f a (is_stood spots) t → LeavesCursors f (own_of options d) t y.task (law_turn turn) a b (is_stood spots))
 
 module _ (header : Header) (options : Options) (xs : List Opener) (ps : List Piece) (a : List ℕ) (size who : ℕ) (x d : Opener) (t : Task)
     (B : IsBusy (record { header = header; options = options; openers = xs; table = ps }) who x t) (item : d ≡ slice_index_or xs (who - 1) d)
@@ -94,19 +97,23 @@ module _ (header : Header) (options : Options) (xs : List Opener) (ps : List Pie
     pub world_after : (longer : ℕ) → MayStand (form_in header) options longer y → size ≤ longer → longer ≤ options.limit → WorldStands (form_in header) options (slice_set xs (who - 1) y) qs b longer
     world_after longer M more less = turn_keeps_world (form_in header) options xs (slice_set xs (who - 1) y) ps qs a b size longer B.number.place d y t (law_turn turn) W has put locked M more less
 
-    module _ (F : FileStands (form_in header) xs a) (T : Filed (form_in header) options d y who ps a b turn) where
+    module _ (F : FileStands (form_in header) xs a) (T : Filed (form_in header) options d y who ps (spots_of xs) a b turn) (still : y.walk ≡ d.walk) where
       abbrev view : View
       view = view_in (form_in header) options xs a B.number.place d t
 
       filed : TurnsFile (form_in header) (own_of options d) (own_of options y) (resting (rest_of d.walk)) view (command_in t.job) t.steps B.number.place ps a b (law_turn turn) × TurnsImage (form_in header) t y.task a b (other_hands xs B.number.place)
+          × (CursorsBeside (form_in header) a (is_stood (spots_of xs)) t → LeavesCursors (form_in header) (own_of options d) t y.task (law_turn turn) a b (is_stood (spots_of xs)))
       filed = T view t B.number.place (other_hands xs B.number.place) has.busy B.number.counted (image_is_ready (form_in header) options xs ps a size B.number.place d t W F has)
+
+      leaves : LeavesCursors (form_in header) (own_of options d) t y.task (law_turn turn) a b (is_stood (spots_of xs))
+      leaves = filed.2 (cursors_are_beside (form_in header) options xs ps a size B.number.place d t W F has)
 
       -- so do the bytes of its file
       pub file_after : FileStands (form_in header) (slice_set xs (who - 1) y) b
-      file_after = turn_keeps_file (form_in header) options xs (slice_set xs (who - 1) y) ps a b size B.number.place d y t view (law_turn turn) W F has put filed.0 filed.1
+      file_after = turn_keeps_file (form_in header) options xs (slice_set xs (who - 1) y) ps a b size B.number.place d y t view (law_turn turn) W F has put filed.0 filed.1 still leaves
 
       -- and it was a turn of the law
-      pub turned_after : y.walk ≡ d.walk → Turned (form_in header) (state_of (form_in header) options xs ps a) (law_opener who) (law_of_task t) (law_turn turn) (state_of (form_in header) options (slice_set xs (who - 1) y) qs b)
-      turned_after still = subst (λ o. Turned (form_in header) (state_of (form_in header) options xs ps a) o (law_of_task t) (law_turn turn) (state_of (form_in header) options (slice_set xs (who - 1) y) qs b)) (sym (by_number who B.number.place B.number.counted))
+      pub turned_after : Turned (form_in header) (state_of (form_in header) options xs ps a) (law_opener who) (law_of_task t) (law_turn turn) (state_of (form_in header) options (slice_set xs (who - 1) y) qs b)
+      turned_after = subst (λ o. Turned (form_in header) (state_of (form_in header) options xs ps a) o (law_of_task t) (law_turn turn) (state_of (form_in header) options (slice_set xs (who - 1) y) qs b)) (sym (by_number who B.number.place B.number.counted))
           (turn_is_turned (form_in header) options xs (slice_set xs (who - 1) y) ps qs a b size B.number.place d y t (law_turn turn) W has put locked filed.0 still
-          (λ o. nobody_walks (form_in header) options xs ps a size W o (own_of options d) (command_in t.job) t.steps (law_turn turn) b))
+          (λ o. leaves.walks (place_at (slice_get xs o)) (stands_among (form_in header) options xs ps a size W o)))

@@ -1,13 +1,10 @@
 -- Walks that a turn leaves as they are.
-use Rattle.std.proofs.Common.{◌≡◌, ℕ, List, true, false, Option, refl, subst, inl, sym}
+use Rattle.std.proofs.Common.{◌≡◌, ℕ, List, refl, subst, inl, sym}
 use Rattle.tdb_space.specs.Form.{Form}
-use Rattle.tdb_space.specs.Chain.{Member, chain_of}
 use Rattle.tdb_law.specs.Commands.{Command, Turn}
 use Rattle.tdb_law.specs.Openers.{Own, Mark}
 use Rattle.tdb_law.specs.Walks.{Shift}
 use Rattle.tdb_law.specs.Layout.{Place}
-use Rattle.tdb_law.specs.Layout.Place.{off_chains}
-use Rattle.tdb_law.proofs.Tests.{never_true}
 use Rattle.tdb_world.specs.Turning.{TurnsWalk}
 
 pub still_shift : (f : Form) (lost : List ℕ → Type 0) (m : Mark) → Shift f lost m m
@@ -16,7 +13,3 @@ still_shift f lost m = record { inside = refl; reached = refl; fewer = λ k e. i
 -- where the file stays
 pub still_walk : (f : Form) (x : Own) (c : Command) (n : ℕ) (turn : Turn) (a b : List ℕ) (place : Place) → b ≡ a → TurnsWalk f x c n turn a b place
 still_walk f x c n turn a b place same = subst (λ i. TurnsWalk f x c n turn a i place) (sym same) (λ mine. still_shift f _ _)
-
--- a walk that has ended has nothing further on
-pub ended_walk : (f : Form) (x : Own) (c : Command) (n : ℕ) (turn : Turn) (a b : List ℕ) → TurnsWalk f x c n turn a b off_chains
-ended_walk f x c n turn a b mine = record { inside = refl; reached = refl; fewer = λ k e. absurd (never_true e); kept = λ k e. absurd (never_true e) }

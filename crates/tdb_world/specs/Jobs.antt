@@ -9,6 +9,7 @@ use Rattle.tdb_law.specs.Openers.{Own, Spot, View}
 use Rattle.tdb_world.specs.declared.job.Job.{Job}
 use Rattle.tdb_world.specs.declared.job.Task.{Task}
 use Rattle.tdb_world.specs.Openers.{command_in, law_task, JobStands, TaskStands}
+use Rattle.tdb_world.specs.Cursors.{is_stood, CursorsBeside, LeavesCursors}
 use Rattle.tdb_world.specs.Turning.{OpenerHolds, TurnsLocks, TurnsFile, TurnsImage}
 
 -- A job of an opener x has had n steps, in a file of this length. The law counts the opener as `who`, and the lock table as `owner`.
@@ -30,7 +31,8 @@ pub record JobTurned (f : Form) (x y : Own) (z : Spot) (job left : Job) (n who s
   pub stands : TaskStands f y (task_after left n turn) size
   pub lives : (t : Task) → task_after left n turn ≡ Some t → y.live ≡ x.live
 
--- what it does to the image a, which is b after it, where other commands hold these records
-pub record JobFiled (f : Form) (x y : Own) (s : Spot) (v : View) (job left : Job) (n who : ℕ) (old : List Piece) (a b : List ℕ) (others : List HandPair) (turn : Turn) : Type 0 where
+-- what it does to the image a, which is b after it, where other commands hold these records and cursors stand on these
+pub record JobFiled (f : Form) (x y : Own) (s : Spot) (v : View) (job left : Job) (n who : ℕ) (old : List Piece) (a b : List ℕ) (others : List HandPair) (spots : List ℕ) (turn : Turn) : Type 0 where
   pub file : TurnsFile f x y s v (command_in job) n who old a b turn
   pub image : TurnsImage f (record { steps = n; job = job }) (task_after left n turn) a b others
+  pub cursors : CursorsBeside f a (is_stood spots) (record { steps = n; job = job }) → LeavesCursors f x (record { steps = n; job = job }) (task_after left n turn) turn a b (is_stood spots)

@@ -22,6 +22,7 @@ use Rattle.tdb_world.specs.declared.job.Job.{Job}
 use Rattle.tdb_world.specs.declared.job.Task.{Task}
 use Rattle.tdb_world.specs.Openers.{no_walk, rest_of, options_of, JobStands, own_of, command_in, law_task, hands_at, place_at, spots_of, OpenerStands}
 use Rattle.tdb_world.specs.States.{state_of, view_for, WorldStands, FileStands}
+use Rattle.tdb_world.specs.Cursors.{is_stood, CursorsBeside, LeavesCursors}
 use Rattle.tdb_world.specs.Turning.{resting, OpenerHolds, TurnsLocks, TurnsFile, TurnsWalk, ImageBefore, TurnsImage}
 
 -- among these openers this one has this task
@@ -57,6 +58,11 @@ abbrev pub ImageIsReady : Type 0
 ImageIsReady = (f : Form) (options : Options) (xs : List Opener) (ps : List Piece) (a : List ℕ) (size who : ℕ) (x : Opener) (t : Task)
     → WorldStands f options xs ps a size → FileStands f xs a → HasTask xs who x t → ImageBefore f t.job a (other_hands xs who)
 
+-- And the cursors of all openers stand beside it.
+abbrev pub CursorsAreBeside : Type 0
+CursorsAreBeside = (f : Form) (options : Options) (xs : List Opener) (ps : List Piece) (a : List ℕ) (size who : ℕ) (x : Opener) (t : Task)
+    → WorldStands f options xs ps a size → FileStands f xs a → HasTask xs who x t → CursorsBeside f a (is_stood (spots_of xs)) t
+
 -- After a turn that did to the lock table what it may, the world stands, whatever the bytes of the file are.
 abbrev pub TurnKeepsWorld : Type 0
 TurnKeepsWorld = (f : Form) (options : Options) (xs ys : List Opener) (ps qs : List Piece) (a b : List ℕ) (size longer who : ℕ) (x y : Opener) (t : Task) (turn : Turn)
@@ -64,13 +70,13 @@ TurnKeepsWorld = (f : Form) (options : Options) (xs ys : List Opener) (ps qs : L
     → TurnsLocks f (own_of options x) (own_of options y) (resting (rest_of y.walk)) (command_in t.job) t.steps (law_task y.task) who ps qs turn
     → MayStand f options longer y → size ≤ longer → longer ≤ options.limit → WorldStands f options ys qs b longer
 
--- After a turn that also did to the file what it may, its bytes stand: others still know their chains, since who changes a chain has it
--- locked.
+-- After a turn that also did to the file what it may, and left cursors what it may, its bytes stand: others still know their chains, since
+-- who changes a chain has it locked.
 abbrev pub TurnKeepsFile : Type 0
 TurnKeepsFile = (f : Form) (options : Options) (xs ys : List Opener) (ps : List Piece) (a b : List ℕ) (size who : ℕ) (x y : Opener) (t : Task) (v : View) (turn : Turn)
     → WorldStands f options xs ps a size → FileStands f xs a → HasTask xs who x t → IsPut xs who y ys
     → TurnsFile f (own_of options x) (own_of options y) (resting (rest_of x.walk)) v (command_in t.job) t.steps who ps a b turn
-    → TurnsImage f t y.task a b (other_hands xs who) → FileStands f ys b
+    → TurnsImage f t y.task a b (other_hands xs who) → y.walk ≡ x.walk → LeavesCursors f (own_of options x) t y.task turn a b (is_stood (spots_of xs)) → FileStands f ys b
 
 -- what the file adds to the cursor of an opener of a world, where its command is this one
 abbrev pub view_in : Form → Options → List Opener → List ℕ → ℕ → Opener → Task → View

@@ -18,6 +18,7 @@ use Rattle.tdb_world.specs.declared.options.Options.{Options}
 use Rattle.tdb_world.specs.declared.opener.Opener.{Opener}
 use Rattle.tdb_world.specs.Openers.{own_at, law_task, task_at, spot_at, place_at, spots_of, hands_at, OpenerStands, OpenerKnows}
 use Rattle.tdb_world.specs.Turning.{no_view}
+use Rattle.tdb_world.specs.Cursors.{is_stood, CursorKnows, OpenerSpares}
 
 -- What the file adds to the cursor of an opener, where cursors of others stand on these records. It is asked for while a command on the
 -- cursor is under way: else nothing has to be purged, and no move is on its way.
@@ -60,7 +61,10 @@ pub record WorldStands (f : Form) (options : Options) (openers : List Opener) (t
   pub limit : options.limit ≤ 4294963200
   pub short : size ≤ options.limit
 
--- What holds of the bytes of its file: they are accepted with the records that commands hold, and each command knows its chain.
+-- What holds of the bytes of its file: they are accepted with the records that commands hold, each command knows its chain, each cursor its
+-- record, and no cursor stands on one that a command is going to take out of its chain.
 pub record FileStands (f : Form) (openers : List Opener) (img : List ℕ) : Type 0 where
   pub accepted : AcceptWith f img (joined (length openers) (λ o. hands_at (slice_get openers o)))
   pub known : (o : ℕ) → OpenerKnows f img (slice_get openers o)
+  pub cursors : (o : ℕ) → CursorKnows f img (slice_get openers o)
+  pub spared : (o : ℕ) → OpenerSpares (is_stood (spots_of openers)) (slice_get openers o)

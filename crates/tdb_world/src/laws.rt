@@ -4,7 +4,7 @@ ghost use Rattle.tdb_world.specs.Laws.{EmptyFileStands, EmptyIsLoaded, EmptyStan
 ghost use Rattle.tdb_world.specs.Laws.{JoinJoins, JoinKeepsFile, JoinKeepsWorld};
 ghost use Rattle.tdb_world.specs.Laws.{GiftIsGiven, GiftKeepsFile, GiftKeepsWorld};
 ghost use Rattle.tdb_world.specs.Finished.{ReportIsLawful, BrokenIsLawful};
-ghost use Rattle.tdb_world.specs.Laws.{ImageIsReady, KeysAreCounted, OpenerIsReady};
+ghost use Rattle.tdb_world.specs.Laws.{CursorsAreBeside, ImageIsReady, KeysAreCounted, OpenerIsReady};
 ghost use Rattle.tdb_world.specs.Laws.{TurnIsTurned, TurnKeepsFile, TurnKeepsWorld};
 
 /// A world without openers stands, and so do the bytes of an accepted image; in the words of the law of reports it
@@ -45,6 +45,12 @@ pub fn image_is_ready()
     ensures law { ImageIsReady }
 {}
 
+/// Before each turn each record on which a cursor stands is one of a chain; no delete is going to take it out, and
+/// beside a wipe that has locked all records there is none. The law is over all worlds; the function does nothing.
+pub fn cursors_are_beside()
+    ensures law { CursorsAreBeside }
+{}
+
 /// A turn that does to the lock table what its row allows leaves a world that stands, whatever the bytes of the file
 /// are. The law is over all worlds and turns; the function does nothing.
 pub fn turn_keeps_world()
@@ -52,8 +58,8 @@ pub fn turn_keeps_world()
 {}
 
 /// A turn that also does to the file what it may leaves bytes that stand: they are accepted with the records of all
-/// commands, and each command still knows its chain. The law is over all worlds and turns; the function does
-/// nothing.
+/// commands, each command still knows its chain, and each cursor its record. The law is over all worlds and turns; the
+/// function does nothing.
 pub fn turn_keeps_file()
     ensures law { TurnKeepsFile }
 {}

@@ -24,8 +24,8 @@ mod told;
 
 pub use crate::fault::RunFault;
 pub use crate::laws::{
-    empty_stands, gift_stands, image_is_ready, join_stands, keys_are_counted, opener_is_ready,
-    report_is_lawful, turn_is_turned, turn_keeps_file, turn_keeps_world,
+    cursors_are_beside, empty_stands, gift_stands, image_is_ready, join_stands, keys_are_counted,
+    opener_is_ready, report_is_lawful, turn_is_turned, turn_keeps_file, turn_keeps_world,
 };
 pub use crate::openers::{JoinRefusal, MOST_OPENERS, Openers};
 pub use crate::options::Options;

@@ -14,6 +14,7 @@ ghost use Rattle.tdb_steps.specs.LockTurns.{ActRightly};
 ghost use Rattle.tdb_world.specs.Given.{IsWellHeld};
 ghost use Rattle.tdb_world.specs.Openers.{AtRest, own_with, command_in};
 ghost use Rattle.tdb_world.specs.Turning.{TurnsFile, TurnsImage, ImageBefore, resting};
+ghost use Rattle.tdb_world.specs.Cursors.{is_stood, CursorsBeside, LeavesCursors};
 ghost use Rattle.tdb_world.specs.Jobs.{JobIsReady, JobTurned, task_after};
 ghost use Rattle.tdb_world.specs.declared.options.Options.{Options};
 ghost use Rattle.tdb_world.specs.declared.job.Job.TheVariants.{Plain};
@@ -60,6 +61,11 @@ pub(crate) fn plain_turn<S: Space>(
         → JobIsReady (S.form s.old) (own_with options live held.now rest) (resting rest) (Plain machine.old) n who owner (S.size s.old) locks.old
         → ImageBefore (S.form s.old) (Plain machine.old) (S.image s.old) others
         → TurnsImage (S.form s.old) (record { steps = n; job = Plain machine.old }) (task_after (Plain machine.new) n (law_turn turn)) (S.image s.old) (S.image s.new) others) }
+    ensures cursors { IfOk result (λ turn. IsTrue S.tells → S.size s.old < 2 ^ 32 → (options : Options) (live : Bool) (rest : AtRest) (n who : ℕ) (others : List HandPair)
+        → JobIsReady (S.form s.old) (own_with options live held.now rest) (resting rest) (Plain machine.old) n who owner (S.size s.old) locks.old
+        → ImageBefore (S.form s.old) (Plain machine.old) (S.image s.old) others → CursorsBeside (S.form s.old) (S.image s.old) (is_stood stood_on.now) (record { steps = n; job = Plain machine.old })
+        → LeavesCursors (S.form s.old) (own_with options live held.now rest) (record { steps = n; job = Plain machine.old }) (task_after (Plain machine.new) n (law_turn turn)) (law_turn turn)
+        (S.image s.old) (S.image s.new) (is_stood stood_on.now)) }
     ensures rightly { IfOk result (λ turn. IsTrue S.tells → S.size s.old < 2 ^ 32 → (IsIdle machine.old.stage → ⊥)
         → ActRightly (S.form s.old) (S.image s.old) (S.image s.new) machine.old machine.new limit stood_on.now turn) }
     ensures ended { IfOk result (λ turn. (reply : Reply) → turn ≡ Turn.Done reply → machine.new ≡ begun machine.old.command machine.old.chain machine.old.seqnum) }

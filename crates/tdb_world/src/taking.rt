@@ -13,6 +13,7 @@ ghost use Rattle.tdb_world.specs.declared.job.Task.{Task};
 ghost use Rattle.tdb_world.specs.Given.{IsWellHeld};
 ghost use Rattle.tdb_world.specs.Openers.{AtRest, own_of, own_with, rest_of, command_in, law_task};
 ghost use Rattle.tdb_world.specs.Turning.{OpenerHolds, TurnsLocks, TurnsFile, ImageBefore, TurnsImage, resting};
+ghost use Rattle.tdb_world.specs.Cursors.{is_stood, CursorsBeside, LeavesCursors};
 ghost use Rattle.tdb_world.specs.Jobs.{JobIsReady, JobTurned, JobFiled, task_after};
 ghost use Rattle.tdb_world.specs.Laws.{MayStand};
 
@@ -30,8 +31,8 @@ use tdb_space::{Io, Space};
 use tdb_words::Header;
 
 impl Job {
-    /// Takes one turn of the job, of an opener with this number in the lock table, which has taken the locks `held` explicitly.
-    /// Its cursor rests, and the cursors of all openers stand on the records at `spots`.
+    /// Takes one turn of the job, of an opener with this number in the lock table, which has taken the locks `held`
+    /// explicitly. Its cursor rests, and the cursors of all openers stand on the records at `spots`.
     fn turn<S: Space>(
         &mut self,
         alloc: Global,
@@ -58,7 +59,7 @@ impl Job {
             → JobIsReady (S.form s.old) (own_with options.now live.old held.old rest) (resting rest) self.old n who owner (S.size s.old) locks.old
             → ImageBefore (S.form s.old) self.old (S.image s.old) others
             → JobFiled (S.form s.old) (own_with options.now live.old held.old rest) (own_with options.now live.new held.new rest) (resting rest) v self.old self.new n who locks.old
-            (S.image s.old) (S.image s.new) others (law_turn turn)) }
+            (S.image s.old) (S.image s.new) others spots.now (law_turn turn)) }
         ensures well { IsWellHeld held.new }
         ensures longer { S.size s.old ≤ S.size s.new }
         ensures within { S.size s.new ≤ options.now.limit }
@@ -73,9 +74,7 @@ impl Job {
             Job::Refused { command: _, reply } => {
                 Ok(refused_turn(mem::replace(reply, Reply::Memory)))
             }
-            Job::Plain(plain) => {
-                plain.turn(alloc, s, locks, owner, held, spots, options.limit)
-            }
+            Job::Plain(plain) => { plain.turn(alloc, s, locks, owner, held, spots, options.limit) }
             Job::Check(checking) => check_turn(alloc, s, locks, owner, held, checking),
             Job::Locking(locking) => Ok(locking_turn(locks, owner, held, header, locking)),
             Job::Seqnum => seqnum_turn(s, locks, owner),
@@ -107,9 +106,9 @@ impl Task {
 }
 
 impl Opener {
-    /// Takes one turn of the opener's command. `owner` is its number in the lock table. After a step the command has one more behind
-    /// it, blocked it is as it was, and at its end the opener has none; so it has after `Io`, where the command is given up. Its cursor
-    /// rests and stays; the cursors of all openers stand on the records at `spots`.
+    /// Takes one turn of the opener's command. `owner` is its number in the lock table. After a step the command has one
+    /// more behind it, blocked it is as it was, and at its end the opener has none; so it has after `Io`, where the
+    /// command is given up. Its cursor rests and stays; the cursors of all openers stand on the records at `spots`.
     pub(crate) fn turn<S: Space>(
         &mut self,
         alloc: Global,
@@ -132,7 +131,9 @@ impl Opener {
             → TurnsLocks (S.form s.old) (own_of options.now self.old) (own_of options.now self.new) (resting (rest_of self.new.walk)) (command_in t.job) t.steps (law_task self.new.task) who locks.old locks.new (law_turn turn)) }
         ensures file { IfOk result (λ turn. IsTrue S.tells → (v : View) (t : Task) (who : ℕ) (others : List HandPair) → self.old.task ≡ Some t → owner ≡ who + 1 → ImageBefore (S.form s.old) t.job (S.image s.old) others
             → TurnsFile (S.form s.old) (own_of options.now self.old) (own_of options.now self.new) (resting (rest_of self.old.walk)) v (command_in t.job) t.steps who locks.old (S.image s.old) (S.image s.new) (law_turn turn)
-            × TurnsImage (S.form s.old) t self.new.task (S.image s.old) (S.image s.new) others) }
+            × TurnsImage (S.form s.old) t self.new.task (S.image s.old) (S.image s.new) others
+            × (CursorsBeside (S.form s.old) (S.image s.old) (is_stood spots.now) t
+            → LeavesCursors (S.form s.old) (own_of options.now self.old) t self.new.task (law_turn turn) (S.image s.old) (S.image s.new) (is_stood spots.now))) }
         ensures stands { OnOk result (MayStand (S.form s.old) options.now (S.size s.new) self.new) }
         ensures walk { self.new.walk ≡ self.old.walk }
         ensures idle { OnErr result (self.new.task ≡ None) }

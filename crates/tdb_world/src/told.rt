@@ -95,7 +95,7 @@ impl PlainJob {
             → JobIsReady (S.form s.old) (own_with options live held.now rest) (resting rest) (Plain self.old) n who owner (S.size s.old) locks.old
             → ImageBefore (S.form s.old) (Plain self.old) (S.image s.old) others
             → JobFiled (S.form s.old) (own_with options live held.now rest) (own_with options live held.now rest) (resting rest) v (Plain self.old) (Plain self.new) n who locks.old
-            (S.image s.old) (S.image s.new) others (law_turn turn)) }
+            (S.image s.old) (S.image s.new) others stood_on.now (law_turn turn)) }
         ensures longer { S.size s.old ≤ S.size s.new }
         ensures within { S.size s.old ≤ limit → S.size s.new ≤ limit }
         ensures wrote { Wrote S.Space s.old s.new }

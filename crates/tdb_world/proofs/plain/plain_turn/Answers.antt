@@ -1,5 +1,5 @@
 -- A turn of the command is one of its machine.
-use Rattle.std.proofs.Common.{ap}
+use Rattle.std.proofs.Common.{ap, refl}
 use Rattle.std.specs.Prelude.{Result, Ok, Err, IfOk, OnErr, ◌≡◌, ℕ}
 use Rattle.tdb_steps.specs.Order.{IsAfter}
 use Rattle.tdb_steps.specs.PlainCommands.{turn_of}
@@ -8,13 +8,19 @@ use Rattle.tdb_space.specs.declared.io.Io.{Io}
 use Rattle.tdb_locks.specs.declared.turn.Turn.{Turn}
 use Rattle.tdb_locks.specs.declared.turn.Turn.TheVariants as Turns
 use Rattle.tdb_world.proofs.PlainReady.{ready_alone, ready_holds, ready_turned, ready_file}
+use Rattle.tdb_world.specs.Openers.{own_with}
 use Rattle.tdb_world.proofs.PlainJob.{left_image}
+use Rattle.tdb_world.proofs.PlainCursors.{plain_cursors}
 use Rattle.tdb_world.proofs.plain.plain_turn.Goals as goal
 
--- what holds of an answer by four facts, and by two
+-- what holds of an answer by four facts, by three, and by two
 by_four : {T E : Type 0} (r : Result T E) (P Q R S W : T → Type 0) → ((x : T) → P x → Q x → R x → S x → W x) → IfOk r P → IfOk r Q → IfOk r R → IfOk r S → IfOk r W
 by_four (Ok x) P Q R S W then p q s t = then x p q s t
 by_four (Err e) P Q R S W then p q s t = tt
+
+by_three : {T E : Type 0} (r : Result T E) (P Q R W : T → Type 0) → ((x : T) → P x → Q x → R x → W x) → IfOk r P → IfOk r Q → IfOk r R → IfOk r W
+by_three (Ok x) P Q R W then p q s = then x p q s
+by_three (Err e) P Q R W then p q s = tt
 
 by_two : {T E : Type 0} (r : Result T E) (P Q W : T → Type 0) → ((x : T) → P x → Q x → W x) → IfOk r P → IfOk r Q → IfOk r W
 by_two (Ok x) P Q W then p q = then x p q
@@ -72,3 +78,13 @@ pub returns-clause-same : goal.returns-clause-same
 returns-clause-same g c =
     let w = c.requires.ready in
     same_command c.step.result c.args.machine.now c.step.new.self w.3 c.step.ensures.leaves c.step.ensures.given_up w.5.stands.after
+
+pub returns-clause-cursors : goal.returns-clause-cursors
+returns-clause-cursors g c =
+    let f = g.S.Space.form c.args.s.now in
+    by_three c.step.result _ _ _ _
+    (λ turn made leaves rightly told small options live rest n who others J I C.
+    let is = J.stands.after in
+    plain_cursors f (g.S.Space.image c.args.s.now) (g.S.Space.image c.step.new.s) c.args.machine.now c.step.new.self n turn others (own_with options live c.args.held.now rest) c.args.limit c.args.stood_on.now
+    I.accepted I.knows (made told small n others is I.may_be_out I.accepted I.knows) is (leaves n is) refl J.stands.granted (λ quiet. (c.step.ensures.idle quiet).image) (rightly told small) C)
+    c.step.ensures.made c.step.ensures.leaves c.step.ensures.rightly

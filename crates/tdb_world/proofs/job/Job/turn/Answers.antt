@@ -12,7 +12,8 @@ use Rattle.tdb_space.specs.Form.{form_in}
 use Rattle.tdb_law.specs.World.{HasFewChains}
 use Rattle.tdb_world.specs.Given.{IsWellHeld}
 use Rattle.tdb_world.proofs.Arriving.{nothing_well}
-use Rattle.tdb_world.proofs.JobFiles.{same_filed}
+use Rattle.tdb_world.specs.Cursors.{is_stood}
+use Rattle.tdb_world.proofs.JobFiles.{same_filed, same_leaves}
 use Rattle.tdb_world.proofs.LockingJob.{locking_turned, number_turned}
 use Rattle.tdb_law.specs.Commands as Law
 use Rattle.tdb_law.specs.Openers.{View}
@@ -52,9 +53,9 @@ returns-in-Refused-clause-file g c told rest v n who others J I =
     let refused = subst (λ r. IsRefused f x (law_command c.in-Refused.command) (law_reply r)) (sym c.replace.ensures.value) ready.stands.2 in
     let holds = subst (λ m. OpenerHolds f x (resting rest) (command_in job) m who ps) ready.stands.0 ready.holds in
     let E = c.refused_turn.ensures.turned f x rest v c.in-Refused.command who ps ready.stands.1 refused holds in
-    subst (λ j. JobFiled f x x (resting rest) v j left n who ps a a others (law_turn c.refused_turn.result)) (sym c.in-Refused.is)
-    (subst (λ t. JobFiled f x x (resting rest) v job left n who ps a a others (law_turn t)) (sym c.refused_turn.ensures.turn)
-    (same_filed f x x (resting rest) v job left n who ps a others refl refl tt before.accepted _ ready.stands.0 (E.file a)))
+    subst (λ j. JobFiled f x x (resting rest) v j left n who ps a a others c.args.spots.now (law_turn c.refused_turn.result)) (sym c.in-Refused.is)
+    (subst (λ t. JobFiled f x x (resting rest) v job left n who ps a a others c.args.spots.now (law_turn t)) (sym c.refused_turn.ensures.turn)
+    (same_filed f x x (resting rest) v job left n who ps a others c.args.spots.now refl refl tt before.accepted _ ready.stands.0 (λ stands. tt) (E.file a)))
 
 pub returns-in-Plain-clause-file : goal.returns-in-Plain-clause-file
 returns-in-Plain-clause-file g c =
@@ -70,7 +71,7 @@ returns-in-Plain-clause-file g c =
     let ready = subst (λ j. JobIsReady f x (resting rest) j n who c.args.owner size c.args.locks.now) c.in-Plain.is J in
     let before = subst (λ j. ImageBefore f j a others) c.in-Plain.is I in
     let small : size < 4294967296 = omega (arith, within, limit) in
-    subst (λ j. JobFiled f x x (resting rest) v j (Jobs.Plain c.turn.new.self) n who c.args.locks.now a b others (law_turn turn)) (sym c.in-Plain.is)
+    subst (λ j. JobFiled f x x (resting rest) v j (Jobs.Plain c.turn.new.self) n who c.args.locks.now a b others c.args.spots.now (law_turn turn)) (sym c.in-Plain.is)
     (filed told small c.args.options.now c.args.live.now rest v n who others ready before)) c.turn.ensures.filed
 
 pub returns-in-Locking-clause-turned : goal.returns-in-Locking-clause-turned
@@ -104,9 +105,9 @@ returns-in-Locking-clause-file g c told rest v n who others J I =
     let before = subst (λ f. ImageBefore f job a others) form (subst (λ j. ImageBefore (g.S.Space.form c.args.s.now) j a others) c.in-Locking.is I) in
     let holds = subst (λ m. OpenerHolds h x (resting rest) (command_in job) m who ps) ready.stands.0 ready.holds in
     let E = c.locking_turn.ensures.turned c.args.options.now c.args.live.now rest who ready.number (record { few = subst HasFewChains form c.requires.few; granted = ready.stands.1; holds = holds }) in
-    subst (λ j. JobFiled (g.S.Space.form c.args.s.now) x y (resting rest) v j job n who ps a a others (law_turn c.locking_turn.result)) (sym c.in-Locking.is)
-    (subst (λ f. JobFiled f x y (resting rest) v job job n who ps a a others (law_turn c.locking_turn.result)) (sym form)
-    (same_filed h x y (resting rest) v job job n who ps a others refl refl tt before.accepted (law_turn c.locking_turn.result) ready.stands.0 (E.file v a)))
+    subst (λ j. JobFiled (g.S.Space.form c.args.s.now) x y (resting rest) v j job n who ps a a others c.args.spots.now (law_turn c.locking_turn.result)) (sym c.in-Locking.is)
+    (subst (λ f. JobFiled f x y (resting rest) v job job n who ps a a others c.args.spots.now (law_turn c.locking_turn.result)) (sym form)
+    (same_filed h x y (resting rest) v job job n who ps a others c.args.spots.now refl refl tt before.accepted (law_turn c.locking_turn.result) ready.stands.0 (λ stands. tt) (E.file v a)))
 
 pub returns-in-Seqnum-clause-file : goal.returns-in-Seqnum-clause-file
 returns-in-Seqnum-clause-file g c =
@@ -124,9 +125,9 @@ returns-in-Seqnum-clause-file g c =
     let long = before.accepted.long in
     let whole = g.met.S.Space.told_size c.args.s.now told in
     let made = file told (omega (arith, long, whole)) c.args.options.now c.args.live.now c.args.held.now rest who ready.number v (record { few = c.requires.few; counts = c.requires.well.counts; holds = holds }) in
-    subst (λ j. JobFiled f x x (resting rest) v j j n who ps a b others (law_turn turn)) (sym c.in-Seqnum.is)
-    (subst (λ z. JobFiled f x x (resting rest) v Jobs.Seqnum Jobs.Seqnum n who ps a z others (law_turn turn)) (sym c.seqnum_turn.ensures.looked.image)
-    (same_filed f x x (resting rest) v Jobs.Seqnum Jobs.Seqnum n who ps a others refl refl tt before.accepted (law_turn turn) ready.stands.0
+    subst (λ j. JobFiled f x x (resting rest) v j j n who ps a b others c.args.spots.now (law_turn turn)) (sym c.in-Seqnum.is)
+    (subst (λ z. JobFiled f x x (resting rest) v Jobs.Seqnum Jobs.Seqnum n who ps a z others c.args.spots.now (law_turn turn)) (sym c.seqnum_turn.ensures.looked.image)
+    (same_filed f x x (resting rest) v Jobs.Seqnum Jobs.Seqnum n who ps a others c.args.spots.now refl refl tt before.accepted (law_turn turn) ready.stands.0 (λ stands. tt)
     (subst (λ z. TurnsFile f x x (resting rest) v (command_in Jobs.Seqnum) 0 who ps a z (law_turn turn)) c.seqnum_turn.ensures.looked.image made)))) c.seqnum_turn.ensures.file
 
 pub returns-in-Close-clause-file : goal.returns-in-Close-clause-file
@@ -140,9 +141,9 @@ returns-in-Close-clause-file g c told rest v n who others J I =
     let before = subst (λ j. ImageBefore f j a others) c.in-Close.is I in
     let holds = subst (λ m. OpenerHolds f x (resting rest) (command_in Jobs.Close) m who ps) ready.stands.0 ready.holds in
     let E = c.close_turn.ensures.turned f c.args.options.now c.args.live.now rest v who ready.number ready.stands.2 holds in
-    subst (λ j. JobFiled f x y (resting rest) v j j n who ps a a others (law_turn c.close_turn.result)) (sym c.in-Close.is)
-    (subst (λ t. JobFiled f x y (resting rest) v Jobs.Close Jobs.Close n who ps a a others (law_turn t)) (sym c.close_turn.ensures.turn)
-    (same_filed f x y (resting rest) v Jobs.Close Jobs.Close n who ps a others refl refl tt before.accepted _ ready.stands.0 (E.file a)))
+    subst (λ j. JobFiled f x y (resting rest) v j j n who ps a a others c.args.spots.now (law_turn c.close_turn.result)) (sym c.in-Close.is)
+    (subst (λ t. JobFiled f x y (resting rest) v Jobs.Close Jobs.Close n who ps a a others c.args.spots.now (law_turn t)) (sym c.close_turn.ensures.turn)
+    (same_filed f x y (resting rest) v Jobs.Close Jobs.Close n who ps a others c.args.spots.now refl refl tt before.accepted _ ready.stands.0 (λ stands. tt) (E.file a)))
 
 pub returns-in-Close-clause-well : goal.returns-in-Close-clause-well
 returns-in-Close-clause-well g c = subst IsWellHeld (sym c.close_turn.ensures.held) nothing_well
@@ -181,12 +182,13 @@ returns-in-Check-clause-file g c =
     let x = own_with c.args.options.now c.args.live.now c.args.held.now rest in
     let ready = subst (λ j. JobIsReady f x (resting rest) j n who c.args.owner size ps) c.in-Check.is J in
     let before = subst (λ j. ImageBefore f j a others) c.in-Check.is I in
-    subst (λ j. JobFiled f x x (resting rest) v j (Jobs.Check c.check_turn.new.checking) n who ps a (g.S.Space.image c.check_turn.new.s) others (law_turn turn)) (sym c.in-Check.is)
-    (subst (λ b. JobFiled f x x (resting rest) v (Jobs.Check c.in-Check.checking) (Jobs.Check c.check_turn.new.checking) n who ps a b others (law_turn turn)) (sym c.check_turn.ensures.looked.image)
+    subst (λ j. JobFiled f x x (resting rest) v j (Jobs.Check c.check_turn.new.checking) n who ps a (g.S.Space.image c.check_turn.new.s) others c.args.spots.now (law_turn turn)) (sym c.in-Check.is)
+    (subst (λ b. JobFiled f x x (resting rest) v (Jobs.Check c.in-Check.checking) (Jobs.Check c.check_turn.new.checking) n who ps a b others c.args.spots.now (law_turn turn)) (sym c.check_turn.ensures.looked.image)
     (record {
       file = check_file f c.requires.few c.args.options.now c.args.live.now c.args.held.now rest c.requires.well.counts c.in-Check.checking n who c.args.owner size ps ready v c.check_turn.new.locks turn a
           (locks n (kept f x (resting rest)) ready.stands.1 (check_ready_holds f c.requires.few c.args.options.now c.args.live.now c.args.held.now rest c.requires.well.counts c.in-Check.checking n who c.args.owner size ps ready))
           (map n f a (image_map f a) ready.stands.1 (λ k. image_answers f a k) (has_keys f a c.in-Check.checking before.knows));
+      cursors = λ C. same_leaves f x (Jobs.Check c.in-Check.checking) (Jobs.Check c.check_turn.new.checking) n a a (is_stood c.args.spots.now) refl (λ stands. tt) (law_turn turn);
       image = check_image f c.requires.few c.args.options.now c.args.live.now c.args.held.now rest c.requires.well.counts c.in-Check.checking n who c.args.owner size ps ready c.check_turn.new.checking turn a others leaves before (counted told);
     })))
     c.check_turn.ensures.locks c.check_turn.ensures.map c.check_turn.ensures.leaves c.check_turn.ensures.counted

@@ -1,5 +1,6 @@
 -- The turn is one of its task's job, and what is left of the task is put back.
 use Rattle.std.proofs.Common.{◌≡◌, Some, sym, ◌∙◌, ap, subst, arith, unwrap_or}
+use Rattle.tdb_world.specs.Cursors.{is_stood, CursorsBeside, LeavesCursors}
 use Rattle.tdb_world.specs.Turning.{resting, ImageBefore, TurnsLocks, TurnsFile, TurnsImage}
 use Rattle.tdb_world.specs.Openers.{rest_of, own_of, command_in, law_task, TaskStands}
 use Rattle.tdb_plays.specs.InLaw.{law_turn}
@@ -18,9 +19,12 @@ pub turn-turn-requires-clause-ready : goal.turn-turn-requires-clause-ready
 turn-turn-requires-clause-ready g c =
     let now = c.in-Some.now in
     let busy : c.args.self.now.task ≡ Some now = sym c.take.ensures.value ∙ c.in-Some.is in
-    let h = c.requires.holds now busy in
-    (rest_of c.args.self.now.walk, now.steps, h.0,
-    task_ready (g.S.Space.form c.args.s.now) c.args.options.now c.args.self.now (g.S.Space.size c.args.s.now) c.args.owner c.args.locks.now c.requires.stands c.requires.holds now busy h.0 h.1)
+    let h = c.requires.holds now busy in (
+      rest_of c.args.self.now.walk,
+      now.steps,
+      h.0,
+      task_ready (g.S.Space.form c.args.s.now) c.args.options.now c.args.self.now (g.S.Space.size c.args.s.now) c.args.owner c.args.locks.now c.requires.stands c.requires.holds now busy h.0 h.1,
+    )
 
 pub returns-clause-file : goal.returns-clause-file
 returns-clause-file g c =
@@ -35,7 +39,9 @@ returns-clause-file g c =
     let ready = task_ready f c.args.options.now c.args.self.now (g.S.Space.size c.args.s.now) c.args.owner c.args.locks.now c.requires.stands c.requires.holds now busy who number in
     let F = filed told (rest_of c.args.self.now.walk) v now.steps who others ready (subst (λ u. ImageBefore f u.job a others) (sym same) I) in
     subst (λ u. TurnsFile f (own_of c.args.options.now c.args.self.now) (own_of c.args.options.now (record { live = c.turn-turn.new.live; held = c.turn-turn.new.held; task = c.after.result; walk = c.args.self.now.walk })) (resting (rest_of c.args.self.now.walk)) v (command_in u.job) u.steps who
-    c.args.locks.now a b (law_turn turn) × TurnsImage f u c.after.result a b others) same (F.file, subst (λ z. TurnsImage f now z a b others) (sym left) F.image)) c.turn-turn.ensures.file c.after.ensures.left
+    c.args.locks.now a b (law_turn turn) × TurnsImage f u c.after.result a b others
+    × (CursorsBeside f a (is_stood c.args.spots.now) u → LeavesCursors f (own_of c.args.options.now c.args.self.now) u c.after.result (law_turn turn) a b (is_stood c.args.spots.now))) same
+    (F.file, subst (λ z. TurnsImage f now z a b others) (sym left) F.image, λ C. subst (λ z. LeavesCursors f (own_of c.args.options.now c.args.self.now) now z (law_turn turn) a b (is_stood c.args.spots.now)) (sym left) (F.cursors C))) c.turn-turn.ensures.file c.after.ensures.left
 
 pub returns-clause-locks : goal.returns-clause-locks
 returns-clause-locks g c =

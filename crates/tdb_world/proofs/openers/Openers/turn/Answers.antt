@@ -16,11 +16,12 @@ use Rattle.tdb_world.proofs.openers.Openers.turn.Goals as goal
 
 pub turn-requires-clause-busy : goal.turn-requires-clause-busy
 turn-requires-clause-busy g c =
-    let e = c.self.view_is in
-    (c.requires.busy.1,
-    task_busy c.self.inside.header c.self.inside.options c.self.inside.list.items c.self.inside.locks (g.S.Space.image c.args.s.now) (g.S.Space.size c.args.s.now) c.args.who c.requires.busy.0 c.in-Some.opener.now c.requires.busy.1
-    (subst (λ w. IsBusy w c.args.who c.requires.busy.0 c.requires.busy.1) (sym e) c.requires.busy.2) c.in-Some.ensures.item.1
-    (subst (λ w. Stands w (g.S.Space.image c.args.s.now) (g.S.Space.size c.args.s.now)) (sym e) c.requires.stands))
+    let e = c.self.view_is in (
+      c.requires.busy.1,
+      task_busy c.self.inside.header c.self.inside.options c.self.inside.list.items c.self.inside.locks (g.S.Space.image c.args.s.now) (g.S.Space.size c.args.s.now) c.args.who c.requires.busy.0 c.in-Some.opener.now c.requires.busy.1
+          (subst (λ w. IsBusy w c.args.who c.requires.busy.0 c.requires.busy.1) (sym e) c.requires.busy.2) c.in-Some.ensures.item.1
+          (subst (λ w. Stands w (g.S.Space.image c.args.s.now) (g.S.Space.size c.args.s.now)) (sym e) c.requires.stands),
+    )
 
 pub turn-requires-clause-stands : goal.turn-requires-clause-stands
 turn-requires-clause-stands g c =
@@ -63,14 +64,14 @@ returns-clause-bytes g c =
     let y = c.turn.new.self in
     let a = g.S.Space.image c.args.s.now in
     let b = g.S.Space.image c.turn.new.s in
-    ok_both c.turn.result (Locked (g.S.Space.form c.args.s.now) c.self.inside.options d y c.args.who c.self.inside.locks c.turn.new.locks) (λ turn. IsTrue g.S.Space.tells → Filed (g.S.Space.form c.args.s.now) c.self.inside.options d y c.args.who c.self.inside.locks a b turn) _
+    ok_both c.turn.result (Locked (g.S.Space.form c.args.s.now) c.self.inside.options d y c.args.who c.self.inside.locks c.turn.new.locks) (λ turn. IsTrue g.S.Space.tells → Filed (g.S.Space.form c.args.s.now) c.self.inside.options d y c.args.who c.self.inside.locks c.self.inside.spots a b turn) _
     (λ turn L T told bytes. file_after c.self.inside.header c.self.inside.options c.self.inside.list.items c.self.inside.locks a (g.S.Space.size c.args.s.now) c.args.who c.requires.busy.0 d c.requires.busy.1
     (subst (λ w. IsBusy w c.args.who c.requires.busy.0 c.requires.busy.1) (sym e) c.requires.busy.2) c.in-Some.ensures.item.1
     (subst (λ w. Stands w a (g.S.Space.size c.args.s.now)) (sym e) c.requires.stands)
     y c.turn.new.locks b turn
     (subst (λ f. Locked f c.self.inside.options d y c.args.who c.self.inside.locks c.turn.new.locks turn) form L)
     (subst (λ w. BytesStand w a) (sym e) bytes)
-    (subst (λ f. Filed f c.self.inside.options d y c.args.who c.self.inside.locks a b turn) form (T told)))
+    (subst (λ l. Filed (form_in c.self.inside.header) c.self.inside.options d y c.args.who c.self.inside.locks l a b turn) c.self.invariant (subst (λ f. Filed f c.self.inside.options d y c.args.who c.self.inside.locks c.self.inside.spots a b turn) form (T told))) c.turn.ensures.walk)
     c.turn.ensures.locks c.turn.ensures.file
 
 pub returns-clause-turned : goal.returns-clause-turned
@@ -81,7 +82,7 @@ returns-clause-turned g c =
     let y = c.turn.new.self in
     let a = g.S.Space.image c.args.s.now in
     let b = g.S.Space.image c.turn.new.s in
-    of_both c.turn.result (Locked (g.S.Space.form c.args.s.now) c.self.inside.options d y c.args.who c.self.inside.locks c.turn.new.locks) (λ turn. IsTrue g.S.Space.tells → Filed (g.S.Space.form c.args.s.now) c.self.inside.options d y c.args.who c.self.inside.locks a b turn) _
+    of_both c.turn.result (Locked (g.S.Space.form c.args.s.now) c.self.inside.options d y c.args.who c.self.inside.locks c.turn.new.locks) (λ turn. IsTrue g.S.Space.tells → Filed (g.S.Space.form c.args.s.now) c.self.inside.options d y c.args.who c.self.inside.locks c.self.inside.spots a b turn) _
     (λ turn L T told bytes x t B. subst (λ w. Turned (form_in w.header) (state_in w a) (law_opener c.args.who) (law_of_task t) (law_turn turn)
     (state_of (form_in c.self.inside.header) c.self.inside.options (slice_set c.self.inside.list.items (c.args.who - 1) y) c.turn.new.locks b)) e
     (turned_after c.self.inside.header c.self.inside.options c.self.inside.list.items c.self.inside.locks a (g.S.Space.size c.args.s.now) c.args.who x d t
@@ -90,7 +91,7 @@ returns-clause-turned g c =
     y c.turn.new.locks b turn
     (subst (λ f. Locked f c.self.inside.options d y c.args.who c.self.inside.locks c.turn.new.locks turn) form L)
     (subst (λ w. BytesStand w a) (sym e) bytes)
-    (subst (λ f. Filed f c.self.inside.options d y c.args.who c.self.inside.locks a b turn) form (T told)) c.turn.ensures.walk))
+    (subst (λ l. Filed (form_in c.self.inside.header) c.self.inside.options d y c.args.who c.self.inside.locks l a b turn) c.self.invariant (subst (λ f. Filed f c.self.inside.options d y c.args.who c.self.inside.locks c.self.inside.spots a b turn) form (T told))) c.turn.ensures.walk))
     c.turn.ensures.locks c.turn.ensures.file
 
 pub returns-clause-busy : goal.returns-clause-busy

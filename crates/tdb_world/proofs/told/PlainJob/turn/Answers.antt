@@ -3,12 +3,12 @@ use Rattle.std.proofs.Common.{sym, ◌∙◌, ap, subst}
 use Rattle.std.proofs.lemmas.Result.{IfOk-weaker}
 use Rattle.tdb_law.specs.Commands.Command.{OnMap}
 use Rattle.tdb_steps.specs.PlainCommands.{command_of}
-use Rattle.tdb_steps.proofs.Made.{of_both}
 use Rattle.tdb_plays.specs.InLaw.{law_turn}
 use Rattle.tdb_world.specs.declared.job.Job.TheVariants.{Plain}
 use Rattle.tdb_world.specs.Openers.{own_with}
 use Rattle.tdb_world.specs.Turning.{ImageBefore, resting}
 use Rattle.tdb_world.specs.Jobs.{JobIsReady, JobTurned, JobFiled}
+use Rattle.tdb_world.proofs.CheckJob.{of_three}
 use Rattle.tdb_world.proofs.told.PlainJob.turn.Goals as goal
 
 pub plain_turn-requires-clause-ready : goal.plain_turn-requires-clause-ready
@@ -40,9 +40,10 @@ returns-clause-filed g c =
     let size = g.S.Space.size c.args.s.now in
     let e = c.self.view_is in
     let new = c.plain_turn.new.machine in
-    of_both c.plain_turn.result _ _ _
-    (λ turn file image told small options live rest v n who others J I.
+    of_three c.plain_turn.result _ _ _ _
+    (λ turn file image cursors told small options live rest v n who others J I.
     let ready = subst (λ d. JobIsReady f (own_with options live held rest) (resting rest) (Plain d) n who c.args.owner size c.args.locks.now) (sym e) J in
     let before = subst (λ d. ImageBefore f (Plain d) a others) (sym e) I in
-    subst (λ d. JobFiled f (own_with options live held rest) (own_with options live held rest) (resting rest) v (Plain d) (Plain new) n who c.args.locks.now a b others (law_turn turn)) e
-    (record { file = file told small options live rest v n who others ready before; image = image told small options live rest n who others ready before })) c.plain_turn.ensures.file c.plain_turn.ensures.image
+    subst (λ d. JobFiled f (own_with options live held rest) (own_with options live held rest) (resting rest) v (Plain d) (Plain new) n who c.args.locks.now a b others c.args.stood_on.now (law_turn turn)) e
+    (record { file = file told small options live rest v n who others ready before; image = image told small options live rest n who others ready before; cursors = cursors told small options live rest n who others ready before }))
+    c.plain_turn.ensures.file c.plain_turn.ensures.image c.plain_turn.ensures.cursors
