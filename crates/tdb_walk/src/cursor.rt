@@ -232,9 +232,9 @@ impl Cursor {
     }
 
     /// Comes to a record: reads its pair, takes its byte for reading, purges the dead record that it leaves, if that is
-    /// due, and lets go of what it held. `shown` is the pair's key then. Memory for all of it is taken before the purge.
-    /// Where the key is filed in another chain than that of the record, which it isn't in an accepted file, the cursor
-    /// ends instead. That takes a pass over the key.
+    /// due, and lets go of what it held. `shown` is the pair's key then. Memory for all of it is taken before the
+    /// purge. Where the key is filed in another chain than that of the record, which it isn't in an accepted file, the
+    /// cursor ends instead. That takes a pass over the key.
     fn come_to<S: Space>(
         &mut self,
         alloc: Global,
@@ -358,14 +358,14 @@ impl Cursor {
     /// replaces it.
     ///
     /// First and Next end with the pair of the next live record, on which the cursor stands then, or with `End` where
-    /// none is left, and Leave with `Ok`. They end with `End` too at a record whose key is filed in another chain, which
-    /// no accepted file has: so a cursor stands on a record of the chain of the key that it has shown, whatever the bytes
-    /// of the file are. A cursor that leaves a dead record purges it, unless another one stands on
-    /// it, or the opener may not change the chain: since the file is `read_only`, or since it holds all records for
-    /// reading alone (under which no record can have died). This is decided where no lock of the command is taken yet;
-    /// then two turns lock the chain and the free list for writing, and the third one purges the record, with the move
-    /// if there is one. Else Next locks the chain for reading and then moves, and First and Leave need one turn. A lock
-    /// that the explicit ones cover isn't taken, and its turn is a step all the same.
+    /// none is left, and Leave with `Ok`. A record whose key is filed in another chain, which no accepted file has,
+    /// ends the walk too: so a cursor stands on a record of the chain of the key that it has shown, whatever the bytes
+    /// of the file are. A cursor that leaves a dead record purges it, unless another one stands on it, or the opener
+    /// may not change the chain: since the file is `read_only`, or since it holds all records for reading alone (under
+    /// which no record can have died). This is decided where no lock of the command is taken yet; then two turns lock
+    /// the chain and the free list for writing, and the third one purges the record, with the move if there is one.
+    /// Else Next locks the chain for reading and then moves, and First and Leave need one turn. A lock that the
+    /// explicit ones cover isn't taken, and its turn is a step all the same.
     ///
     /// A turn is `Blocked` where another opener holds what it wants: the lock of a record, of its chain or of the free
     /// list, and then nothing changes; or the lock of a chain on its way, and then the dead record is purged, and the
