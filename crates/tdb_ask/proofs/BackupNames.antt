@@ -11,7 +11,7 @@ use Rattle.std.specs.Ordering.{nat_cmp}
 use Rattle.std.specs.Cmp.Lexicographic.{slice_cmp}
 use Rattle.tdb_space.specs.Pairs.{same_key}
 use Rattle.tdb_space.proofs.Pairs.Maps.{same_key-eq, same_key-refl, same_key-other}
-use Rattle.tdb_ask.specs.CopyNames.{copy_name, new_name, IsNameOf, IsNameAmong, NamesDiffer, BackupFits}
+use Rattle.tdb_ask.specs.CopyNames.{copy_name, made_name, temporary_name, IsNameOf, IsNameAmong, NamesDiffer, BackupFits, VerifyFits}
 use Rattle.tdb_ask.specs.Lines.Backup.{is_one_of, all_differ, all_names, HasNames}
 
 -- these names are none of those before, and no one comes twice
@@ -91,31 +91,31 @@ or_first true b is = refl
 or_first false b is = absurd (false≢true is)
 
 -- the names of files are among those of all
-module _ (suffix : List ℕ) where
+module _ (verify : Bool) (suffix : List ℕ) where
   first_name : (file : List ℕ) (names : List (List ℕ)) → is_one_of file (file ∷ names) ≡ true
   first_name file names = or_first (same_key file file) (is_one_of file names) (same_key-refl file)
 
-  among_one : (files : List (List ℕ)) (name : List ℕ) → IsNameAmong suffix files name → is_one_of name (all_names suffix files) ≡ true
+  among_one : (files : List (List ℕ)) (name : List ℕ) → IsNameAmong verify suffix files name → is_one_of name (all_names verify suffix files) ≡ true
   among_one [] name among = absurd among
   among_one (file ∷ files) name (inl (inl is)) =
-      subst (λ n. is_one_of n (all_names suffix (file ∷ files)) ≡ true) (sym is) (first_name file (copy_name suffix file ∷ new_name suffix file ∷ all_names suffix files))
+      subst (λ n. is_one_of n (all_names verify suffix (file ∷ files)) ≡ true) (sym is) (first_name file (copy_name suffix file ∷ made_name verify suffix file ∷ all_names verify suffix files))
   among_one (file ∷ files) name (inl (inr (inl is))) =
-      subst (λ n. is_one_of n (all_names suffix (file ∷ files)) ≡ true) (sym is)
-      (or_true (same_key file (copy_name suffix file)) _ (first_name (copy_name suffix file) (new_name suffix file ∷ all_names suffix files)))
+      subst (λ n. is_one_of n (all_names verify suffix (file ∷ files)) ≡ true) (sym is)
+      (or_true (same_key file (copy_name suffix file)) _ (first_name (copy_name suffix file) (made_name verify suffix file ∷ all_names verify suffix files)))
   among_one (file ∷ files) name (inl (inr (inr is))) =
-      subst (λ n. is_one_of n (all_names suffix (file ∷ files)) ≡ true) (sym is)
-      (or_true (same_key file (new_name suffix file)) _ (or_true (same_key (copy_name suffix file) (new_name suffix file)) _ (first_name (new_name suffix file) (all_names suffix files))))
+      subst (λ n. is_one_of n (all_names verify suffix (file ∷ files)) ≡ true) (sym is)
+      (or_true (same_key file (made_name verify suffix file)) _ (or_true (same_key (copy_name suffix file) (made_name verify suffix file)) _ (first_name (made_name verify suffix file) (all_names verify suffix files))))
   among_one (file ∷ files) name (inr among) =
-      or_true (same_key file name) _ (or_true (same_key (copy_name suffix file) name) _ (or_true (same_key (new_name suffix file) name) _ (among_one files name among)))
+      or_true (same_key file name) _ (or_true (same_key (copy_name suffix file) name) _ (or_true (same_key (made_name verify suffix file) name) _ (among_one files name among)))
 
   -- what is known of the names of a file where those of all differ
   record Apart (file : List ℕ) (files : List (List ℕ)) : Type 0 where
-    own : is_one_of file (copy_name suffix file ∷ new_name suffix file ∷ all_names suffix files) ≡ false
-    copy : is_one_of (copy_name suffix file) (new_name suffix file ∷ all_names suffix files) ≡ false
-    new : is_one_of (new_name suffix file) (all_names suffix files) ≡ false
-    rest : all_differ (all_names suffix files) ≡ true
+    own : is_one_of file (copy_name suffix file ∷ made_name verify suffix file ∷ all_names verify suffix files) ≡ false
+    copy : is_one_of (copy_name suffix file) (made_name verify suffix file ∷ all_names verify suffix files) ≡ false
+    new : is_one_of (made_name verify suffix file) (all_names verify suffix files) ≡ false
+    rest : all_differ (all_names verify suffix files) ≡ true
 
-  apart_of : (file : List ℕ) (files : List (List ℕ)) → all_differ (all_names suffix (file ∷ files)) ≡ true → Apart file files
+  apart_of : (file : List ℕ) (files : List (List ℕ)) → all_differ (all_names verify suffix (file ∷ files)) ≡ true → Apart file files
   apart_of file files differ =
       let one = and_parts _ _ differ in
       let two = and_parts _ _ one.1 in
@@ -125,29 +125,42 @@ module _ (suffix : List ℕ) where
   behind_one : (name other : List ℕ) (others : List (List ℕ)) → is_one_of name (other ∷ others) ≡ false → is_one_of name others ≡ false
   behind_one name other others none = (or_parts (same_key other name) (is_one_of name others) none).1
 
-  own_apart : (file name : List ℕ) (files : List (List ℕ)) → Apart file files → IsNameOf suffix file name → is_one_of name (all_names suffix files) ≡ false
+  own_apart : (file name : List ℕ) (files : List (List ℕ)) → Apart file files → IsNameOf verify suffix file name → is_one_of name (all_names verify suffix files) ≡ false
   own_apart file name files a (inl is) =
-      subst (λ n. is_one_of n (all_names suffix files) ≡ false) (sym is) (behind_one file (new_name suffix file) (all_names suffix files) (behind_one file (copy_name suffix file) (new_name suffix file ∷ all_names suffix files) a.own))
-  own_apart file name files a (inr (inl is)) = subst (λ n. is_one_of n (all_names suffix files) ≡ false) (sym is) (behind_one (copy_name suffix file) (new_name suffix file) (all_names suffix files) a.copy)
-  own_apart file name files a (inr (inr is)) = subst (λ n. is_one_of n (all_names suffix files) ≡ false) (sym is) a.new
+      subst (λ n. is_one_of n (all_names verify suffix files) ≡ false) (sym is) (behind_one file (made_name verify suffix file) (all_names verify suffix files) (behind_one file (copy_name suffix file) (made_name verify suffix file ∷ all_names verify suffix files) a.own))
+  own_apart file name files a (inr (inl is)) = subst (λ n. is_one_of n (all_names verify suffix files) ≡ false) (sym is) (behind_one (copy_name suffix file) (made_name verify suffix file) (all_names verify suffix files) a.copy)
+  own_apart file name files a (inr (inr is)) = subst (λ n. is_one_of n (all_names verify suffix files) ≡ false) (sym is) a.new
 
-  differ_so : (files : List (List ℕ)) → all_differ (all_names suffix files) ≡ true → NamesDiffer suffix files
+  differ_so : (files : List (List ℕ)) → all_differ (all_names verify suffix files) ≡ true → NamesDiffer verify suffix files
   differ_so [] differ = tt
   differ_so (file ∷ files) differ =
       let a = apart_of file files differ in
       (λ name own among. false≢true (sym (own_apart file name files a own) ∙ among_one files name among), differ_so files a.rest)
 
   -- and the suffix isn't empty
-  pub names_fit : (file : List ℕ) (files : List (List ℕ)) → all_differ (all_names suffix (file ∷ files)) ≡ true → BackupFits suffix (file ∷ files)
-  names_fit file files differ =
-      let a = apart_of file files differ in
-      record {
-        some = λ empty.
-            (let copy : copy_name suffix file ≡ file = ap (λ s. file ++ s) empty ∙ append-nil file in
-            let other : same_key (copy_name suffix file) file ≡ false = (or_parts (same_key (copy_name suffix file) file) _ a.own).0 in
-            false≢true (sym other ∙ subst (λ n. same_key n file ≡ true) (sym copy) (same_key-refl file)));
-        differ = differ_so (file ∷ files) differ;
-      }
+  suffix_some : (file : List ℕ) (files : List (List ℕ)) → Apart file files → suffix ≡ [] → ⊥
+  suffix_some file files a empty =
+      let copy : copy_name suffix file ≡ file = ap (λ s. file ++ s) empty ∙ append-nil file in
+      let other : same_key (copy_name suffix file) file ≡ false = (or_parts (same_key (copy_name suffix file) file) _ a.own).0 in
+      false≢true (sym other ∙ subst (λ n. same_key n file ≡ true) (sym copy) (same_key-refl file))
+
+-- so the names fit where files are copied, and where they are verified
+pub names_fit : (suffix file : List ℕ) (files : List (List ℕ)) → all_differ (all_names false suffix (file ∷ files)) ≡ true → BackupFits suffix (file ∷ files)
+names_fit suffix file files differ = record {
+  some = suffix_some false suffix file files (apart_of false suffix file files differ);
+  differ = differ_so false suffix (file ∷ files) differ;
+}
+
+pub verify_names_fit : (suffix file : List ℕ) (files : List (List ℕ)) → all_differ (all_names true suffix (file ∷ files)) ≡ true → VerifyFits suffix (file ∷ files)
+verify_names_fit suffix file files differ =
+    let a = apart_of true suffix file files differ in
+    record {
+      some = suffix_some true suffix file files a;
+      other = λ is.
+          (let other : same_key (temporary_name file) (copy_name suffix file) ≡ false = (or_parts (same_key (temporary_name file) (copy_name suffix file)) _ a.copy).0 in
+          false≢true (sym other ∙ subst (λ s. same_key (temporary_name file) (file ++ s) ≡ true) (sym is) (same_key-refl (temporary_name file))));
+      differ = differ_so true suffix (file ∷ files) differ;
+    }
 
 -- the names that were seen, with one more
 either : (a b : Bool) → cond a true b ≡ (a || b)

@@ -8,12 +8,12 @@ use Rattle.tdb_ask.specs.declared.look.Look.TheVariants.{Dump, Value}
 use Rattle.tdb_ask.specs.declared.act.Act.{Act}
 use Rattle.tdb_ask.specs.declared.act.Act.TheVariants.{Show, Insert, Store, Delete, Erase, Check}
 use Rattle.tdb_ask.specs.declared.ask.Task.{Task}
-use Rattle.tdb_ask.specs.declared.ask.Task.TheVariants.{Create, On, Read, Restore, Backup, Turns, Session, Generate}
+use Rattle.tdb_ask.specs.declared.ask.Task.TheVariants.{Create, On, Read, Restore, Backup, Verify, Turns, Session, Generate}
 use Rattle.tdb_ask.specs.declared.ask.Ask as C
 use Rattle.tdb_ask.specs.Words.{is_position}
 use Rattle.tdb_ask.specs.Acts.{show_of, check_of, insert_of, store_of, delete_of, erase_of}
 use Rattle.tdb_ask.specs.Lines.Create.{create_of}
-use Rattle.tdb_ask.specs.CopyNames.{BackupFits}
+use Rattle.tdb_ask.specs.CopyNames.{BackupFits, VerifyFits}
 use Rattle.tdb_ask.specs.Lines.Backup.{asks_of_words}
 use Rattle.tdb_ask.specs.Lines.Dump.{dump_of_words}
 use Rattle.tdb_ask.specs.Lines.Turns.{turns_of_words, file_and_limit}
@@ -101,7 +101,8 @@ LookFits Dump = Unit {0}
 LookFits (Value key) = length key < 2 ^ 32
 
 -- the keys and the values of an act are short enough for a record, a file is made with some chain, one that is restored
--- or over which turns or a session are taken may be no longer than the longest; the names of a backup are all different
+-- or over which turns or a session are taken may be no longer than the longest; the names of a backup and of a verification are all
+-- different
 abbrev pub ActFits : Act → Type 0
 ActFits (Show key) = length key < 2 ^ 32
 ActFits (Insert key value) = length key + length value < 2 ^ 32
@@ -116,6 +117,7 @@ TaskFits file (Read look) = LookFits look
 TaskFits file (Create form) = 0 < form.size
 TaskFits file (Restore limit) = limit ≤ 4294963200
 TaskFits file (Backup more suffix) = BackupFits suffix (file ∷ more)
+TaskFits file (Verify more suffix) = VerifyFits suffix (file ∷ more)
 TaskFits file (Turns options) = options.limit ≤ 4294963200
 TaskFits file (Session limit) = limit ≤ 4294963200
 TaskFits file (Generate n seed) = Unit {0}

@@ -33,6 +33,9 @@ pub enum Task {
     /// To copy it and more files, each to its name and a suffix.
     Backup { more: Names, suffix: Text },
 
+    /// To tell how many keys it and more files have, and to restore those that are refused, each from its copy.
+    Verify { more: Names, suffix: Text },
+
     /// To take the plays of the script on the input over it, which is opened so.
     Turns(Options),
 

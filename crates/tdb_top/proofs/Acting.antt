@@ -8,7 +8,7 @@ use Rattle.tdb_disk.specs.declared.files.TakeRefusal.{TakeRefusal}
 use Rattle.tdb_disk.specs.declared.files.TakeRefusal.TheVariants as Take
 use Rattle.tdb_ask.specs.declared.act.Act.{Act}
 use Rattle.tdb_ask.specs.declared.ask.Task.{Task}
-use Rattle.tdb_ask.specs.declared.ask.Task.TheVariants.{Create, On, Read, Restore, Backup, Turns, Session, Generate}
+use Rattle.tdb_ask.specs.declared.ask.Task.TheVariants.{Create, On, Read, Restore, Backup, Verify, Turns, Session, Generate}
 use Rattle.tdb_ask.specs.declared.lines.create.NewForm.{NewForm}
 use Rattle.tdb_top.specs.declared.commands.create.Creation as Making
 use Rattle.tdb_top.specs.declared.ending.Ending.{Ending}
@@ -28,6 +28,7 @@ use Rattle.tdb_top.specs.Commands.Backup.{BackupCause}
 use Rattle.tdb_top.specs.Commands.Restore.{of_input, HeardBy}
 use Rattle.tdb_top.specs.Commands.Session.{StaysThere}
 use Rattle.tdb_top.specs.Commands.Turns.{TurnsLeave}
+use Rattle.tdb_top.specs.Commands.Verify.{VerifyCause}
 use Rattle.tdb_world.specs.declared.options.Options.{Options}
 use Rattle.tdb_top.specs.Reads.{AskEnds, GenCause}
 use Rattle.tdb_top.specs.Input.{Input}
@@ -157,6 +158,11 @@ task_wants input (Backup more suffix) file held = record {
   done = λ is. cc;
   stopped = λ other. inr (record { kept = inl (inl refl); copy = refl; left = inl (inl refl) }, λ name among. refl);
 }
+task_wants input (Verify more suffix) file held = record {
+  known = inr tt;
+  done = λ is. cc;
+  stopped = λ other. inr (inl (record { own = inl (inl refl); copy = inl (inl refl); left = inl (inl refl) }), λ name among. refl);
+}
 task_wants input (Turns options) file held = turns_want options (held file)
 task_wants input (Session limit) file held = stays_same (held file)
 task_wants input (Generate commands seed) file held = refl
@@ -172,10 +178,17 @@ backup_ends input task more suffix name held before after e is (inl ends) = inr 
 backup_ends input task more suffix name held before after e is (inr (inl fault)) = inl (inl (subst (TaskCause task name (held name) before after) (sym fault.0) (task_failed fault.1)))
 backup_ends input task more suffix name held before after e is (inr (inr wanting)) = inl (inl (subst (TaskCause task name (held name) before after) (sym wanting) task_wanting))
 
+-- and why a verification ended so
+pub verify_ends : (input : Input) (task : Task) (more : List (List ℕ)) (suffix name : List ℕ) (held : List ℕ → Option History) (before after : ℕ) (e : Ending) → task ≡ Verify more suffix → VerifyCause suffix (name ∷ more) held before after e
+    → AskEnds input task name held before after e
+verify_ends input task more suffix name held before after e is (inl ends) = inr (inr (inl (record { more = more; suffix = suffix; text = ends.0; verifies = is; ends = ends.1 })))
+verify_ends input task more suffix name held before after e is (inr (inl fault)) = inl (inl (subst (TaskCause task name (held name) before after) (sym fault.0) (task_failed fault.1)))
+verify_ends input task more suffix name held before after e is (inr (inr wanting)) = inl (inl (subst (TaskCause task name (held name) before after) (sym wanting) task_wanting))
+
 -- and why generated commands ended so
 pub gen_ends : (input : Input) (task : Task) (commands seed : ℕ) (name : List ℕ) (held : List ℕ → Option History) (before after : ℕ) (e : Ending) → task ≡ Generate commands seed → GenCause commands seed name (held name) before after e → AskEnds input task name held before after e
 gen_ends input task commands seed name held before after e is (inl cause) = inl (inl (subst (λ t. TaskCause t name (held name) before after e) (sym is) cause))
-gen_ends input task commands seed name held before after e is (inr ends) = inr (inr (record { commands = commands; seed = seed; generates = is; none = ends.0; ends = ends.1 }))
+gen_ends input task commands seed name held before after e is (inr ends) = inr (inr (inr (record { commands = commands; seed = seed; generates = is; none = ends.0; ends = ends.1 })))
 
 -- an ending that tells nothing of the input, which was left as it was
 pub not_heard : (before after : ℕ) (e : Ending) → after ≡ before → of_input e ≡ false → HeardBy before after e

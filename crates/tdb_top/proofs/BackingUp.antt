@@ -28,6 +28,7 @@ use Rattle.tdb_top.specs.Commands.Backup.{IsCopyOf, IsNotCopied, of_copy, IsLeft
 use Rattle.tdb_top.specs.Commands.Create.{IsNewFile}
 use Rattle.tdb_top.specs.Ending.{CountedBy, Untaken, of_halt}
 use Rattle.tdb_top.specs.Opening.{opened_bytes, CanOpen, IsCheckedOn, SameOrUndone, UndoneIfOpen, LookBroken, HeldOrUndone, HeldBroken, HaltsRightly, HaltLeaves}
+use Rattle.tdb_top.proofs.Held.{held_kept}
 use Rattle.tdb_top.proofs.Openings.{same_or_undone}
 
 -- what a file is read as is no longer than the longest
@@ -178,6 +179,19 @@ halted_known halt e is = subst EndsBackup (sym is) (of halt)
     of H.Device = tt
     of H.Memory = tt
 
+pub halted_other : (halt : Halt) → of_halt halt ≡ Replied Reply.Copied → ⊥
+halted_other (H.Refused refusal) is = cc
+halted_other H.Device is = cc
+halted_other H.Memory is = cc
+
+pub untaken_other : (file : List ℕ) (refusal : TakeRefusal) (e : Ending) → Untaken file refusal e → e ≡ Replied Reply.Copied → ⊥
+untaken_other file Take.Missing e (inl is) copied = let both : Missing file ≡ Replied Reply.Copied = sym is ∙ copied in cc
+untaken_other file Take.Missing e (inr is) copied = let both : NoMemory ≡ Replied Reply.Copied = sym is ∙ copied in cc
+untaken_other file Take.There e (inl is) copied = let both : There file ≡ Replied Reply.Copied = sym is ∙ copied in cc
+untaken_other file Take.There e (inr is) copied = let both : NoMemory ≡ Replied Reply.Copied = sym is ∙ copied in cc
+untaken_other file Take.Failed e is copied = let both : DeviceFault ≡ Replied Reply.Copied = sym is ∙ copied in cc
+untaken_other file Take.Memory e is copied = let both : NoMemory ≡ Replied Reply.Copied = sym is ∙ copied in cc
+
 -- a file wasn't taken
 pub untaken_file : (file : List ℕ) (old now made_old made_now : Option History) (refusal : TakeRefusal) (e : Ending) → now ≡ old → made_now ≡ made_old → (refusal ≡ Take.Missing → old ≡ None) → (refusal ≡ Take.There → ⊥) → Untaken file refusal e
     → FileCopied file old now made_old made_now e
@@ -237,12 +251,8 @@ module _ (file at_copy at_new : List ℕ) (old mid : List ℕ → Option History
   found e (file_taken was is there stands on_disk) done = disk_found was is e there stands on_disk done
 
   -- why it wasn't copied, and what is left then
-  kept_held : (was is : History) → old file ≡ Some was → mid file ≡ Some is → SameOrUndone was is → HeldOrUndone (old file) (mid file)
-  kept_held was is there stands (inl undone) = inr (was, is, there, stands, undone)
-  kept_held was is there stands (inr same) = inl (stands ∙ ap Some same ∙ sym there)
-
   left_held : (was is : History) → old file ≡ Some was → mid file ≡ Some is → LookBroken was is → HeldOrUndone (old file) (mid file) ⊎ HeldBroken (old file) (mid file)
-  left_held was is there stands (inl kept) = inl (kept_held was is there stands kept)
+  left_held was is there stands (inl kept) = inl (held_kept (old file) (mid file) was is there stands kept)
   left_held was is there stands (inr broken) = inr (was, is, there, stands, broken)
 
   abbrev Here : Ending → Type 0
@@ -255,11 +265,11 @@ module _ (file at_copy at_new : List ℕ) (old mid : List ℕ → Option History
   disk_stopped was is _ there stands (disk_copied copy can undone made copy_of) other rose = absurd (other refl)
   disk_stopped was is _ there stands (disk_refused refusal right kept same) other rose = (
     inl (at_there was (Refused refusal) there (inl (refusal, right, refl))),
-    λ copy. record { kept = inl (kept_held was is there stands kept); copy = copy; left = inl (inl same) },
+    λ copy. record { kept = inl (held_kept (old file) (mid file) was is there stands kept); copy = copy; left = inl (inl same) },
   )
   disk_stopped was is _ there stands (disk_full len need can kept full gone) other rose = (
     inl (at_there was (Replied (Reply.Full len need)) there (inr (record { can_open = can; len = len; need = need; no_room = full; full = refl }))),
-    λ copy. record { kept = inl (kept_held was is there stands kept); copy = copy; left = inl (inr gone) },
+    λ copy. record { kept = inl (held_kept (old file) (mid file) was is there stands kept); copy = copy; left = inl (inr gone) },
   )
   disk_stopped was is _ there stands (disk_failed left) other rose = (
     inr (inl (refl, rose refl)),
@@ -267,7 +277,7 @@ module _ (file at_copy at_new : List ℕ) (old mid : List ℕ → Option History
   )
   disk_stopped was is _ there stands (disk_wanting kept left) other rose = (
     inr (inr refl),
-    λ copy. record { kept = inl (kept_held was is there stands kept); copy = copy; left = inl left },
+    λ copy. record { kept = inl (held_kept (old file) (mid file) was is there stands kept); copy = copy; left = inl left },
   )
 
   untaken_cause : (e : Ending) → IsUntaken file (old file) e → (e ≡ DeviceFault → Rose before between) → BackupCause (file ∷ []) old before between e
@@ -318,7 +328,7 @@ module _ (file at_copy at_new : List ℕ) (old mid : List ℕ → Option History
           cause = inr (inl (refl, rose));
           copied = λ other. cc;
           stopped = λ _. record {
-            kept = inl (subst (λ o. HeldOrUndone (old file) o) (sym (same file)) (kept_held f.was f.is f.there f.stands (same_or_undone f.was f.is f.undone)));
+            kept = inl (subst (λ o. HeldOrUndone (old file) o) (sym (same file)) (held_kept (old file) (mid file) f.was f.is f.there f.stands (same_or_undone f.was f.is f.undone)));
             copy = same at_copy ∙ copy;
             left = inr refl;
           };

@@ -94,6 +94,7 @@ module _ (f : Form) (told : Bool) where
   runs_after plays more rest old mid new before between now (Err Rest.Report) other p q = front_more (plays ++ more) rest old new before now (all_then_front plays more old mid new before between now p q)
   runs_after plays more rest old mid new before between now (Err Rest.Fault) other p q = (q.0, front_more (plays ++ more) rest old q.0 before now (all_then_front plays more old mid q.0 before between now p q.1))
   runs_after plays more rest old mid new before between now (Err Rest.Pairs) other p q = absurd q
+  runs_after plays more rest old mid new before between now (Err Rest.Files) other p q = absurd q
 
 -- what holds unless the disk failed is weakened, or moved
 pub unless_map : {A B : Type 0} (answer : PlaysEnd) → (A → B) → UnlessBroken answer A → UnlessBroken answer B
@@ -103,6 +104,7 @@ unless_map (Ok (Err F.Memory)) h a = h a
 unless_map (Err Rest.Report) h a = h a
 unless_map (Err Rest.Fault) h a = tt
 unless_map (Err Rest.Pairs) h a = h a
+unless_map (Err Rest.Files) h a = h a
 
 pub on_map : {A B : Type 0} (answer : PlaysEnd) → (A → B) → OnBroken answer A → OnBroken answer B
 on_map (Ok (Ok v)) h a = tt
@@ -111,6 +113,7 @@ on_map (Ok (Err F.Memory)) h a = tt
 on_map (Err Rest.Report) h a = tt
 on_map (Err Rest.Fault) h a = h a
 on_map (Err Rest.Pairs) h a = tt
+on_map (Err Rest.Files) h a = tt
 
 module _ (disk_tells told : Bool) where
   -- no play was taken

@@ -1,5 +1,6 @@
 -- What is left of the files of a backup, one after the other.
-use Rattle.std.proofs.Common.{◌≡◌, ◌⊎◌, ℕ, List, [], ◌∷◌, Option, Some, refl, sym, ◌∙◌, ap, subst, inl, inr, arith}
+use Rattle.std.proofs.Common.{◌≡◌, ◌⊎◌, ℕ, false, List, [], ◌∷◌, Option, Some, refl, sym, ◌∙◌, ap, subst, inl, inr, arith}
+use Rattle.std.specs.Prelude.{Bool}
 use Rattle.tdb_disk.specs.Count.{Rose}
 use Rattle.tdb_disk.specs.History.{History}
 use Rattle.tdb_top.specs.declared.ending.Ending.{Ending}
@@ -7,17 +8,17 @@ use Rattle.tdb_top.specs.declared.ending.Ending.TheVariants.{Replied, Refused, M
 use Rattle.tdb_top.specs.declared.ending.Reply.TheVariants as Reply
 use Rattle.tdb_top.specs.declared.halt.Refusal.{Refusal}
 use Rattle.tdb_top.specs.declared.halt.Refusal.TheVariants.{TooLong, Header, Corrupt, NeedsRecovery}
-use Rattle.tdb_ask.specs.CopyNames.{copy_name, new_name, IsNameOf, IsNameAmong, IsForCopyAmong, NamesDiffer}
+use Rattle.tdb_ask.specs.CopyNames.{copy_name, new_name, made_name, IsNameOf, IsNameAmong, IsForCopyAmong, NamesDiffer}
 use Rattle.tdb_top.specs.Commands.Backup.{Copied, CopiedAll, Stopped, AllStay, StoppedAt, IsLeftOf, WasOpened, EndsAt, BackupEnds, BackupCause, EndsBackup, BackedUpOne, BackedUp}
 use Rattle.tdb_top.specs.Ending.{status_of}
-use Rattle.tdb_top.specs.Opening.{HeldOrUndone, HeldBroken, UndoneIfOpen}
-use Rattle.tdb_top.proofs.Held.{same_or_other}
+use Rattle.tdb_top.specs.Opening.{HeldOrUndone, HeldBroken}
+use Rattle.tdb_top.proofs.Held.{same_or_other, held_undone}
 
-abbrev Held : Type 0
+abbrev pub Held : Type 0
 Held = List ℕ → Option History
 
 -- of the endings of a backup one alone has status 0
-refusal_some : (r : Refusal) → status_of (Refused r) ≡ 0 → ⊥
+pub refusal_some : (r : Refusal) → status_of (Refused r) ≡ 0 → ⊥
 refusal_some (TooLong len) is = absurd (omega (arith, is))
 refusal_some (Header fault) is = absurd (omega (arith, is))
 refusal_some (Corrupt what at) is = absurd (omega (arith, is))
@@ -36,26 +37,26 @@ backup_zero InputFault known zero = absurd known
 backup_zero (Malformed at) known zero = absurd known
 
 -- a name is one of these, or it isn't
-name_or_other : (suffix file name : List ℕ) → IsNameOf suffix file name ⊎ (IsNameOf suffix file name → ⊥)
-name_or_other suffix file name = elim (same_or_other name file) [
+name_or_other : (verify : Bool) (suffix file name : List ℕ) → IsNameOf verify suffix file name ⊎ (IsNameOf verify suffix file name → ⊥)
+name_or_other verify suffix file name = elim (same_or_other name file) [
   | inl is ↦ inl (inl is)
   | inr own ↦
       elim (same_or_other name (copy_name suffix file)) [
         | inl is ↦ inl (inr (inl is))
         | inr copy ↦
-            elim (same_or_other name (new_name suffix file)) [
+            elim (same_or_other name (made_name verify suffix file)) [
               | inl is ↦ inl (inr (inr is))
               | inr new ↦ inr (λ one. elim one [ inl is ↦ own is | inr two ↦ elim two [ inl is ↦ copy is | inr is ↦ new is ] ])
             ]
       ]
 ]
 
-among_or_other : (suffix : List ℕ) (files : List (List ℕ)) (name : List ℕ) → IsNameAmong suffix files name ⊎ (IsNameAmong suffix files name → ⊥)
-among_or_other suffix [] name = inr (λ none. none)
-among_or_other suffix (file ∷ files) name = elim (name_or_other suffix file name) [
+pub among_or_other : (verify : Bool) (suffix : List ℕ) (files : List (List ℕ)) (name : List ℕ) → IsNameAmong verify suffix files name ⊎ (IsNameAmong verify suffix files name → ⊥)
+among_or_other verify suffix [] name = inr (λ none. none)
+among_or_other verify suffix (file ∷ files) name = elim (name_or_other verify suffix file name) [
   | inl is ↦ inl (inl is)
   | inr other ↦
-      elim (among_or_other suffix files name) [
+      elim (among_or_other verify suffix files name) [
         | inl is ↦ inl (inr is)
         | inr rest ↦ inr (λ one. elim one [ inl is ↦ other is | inr is ↦ rest is ])
       ]
@@ -63,14 +64,10 @@ among_or_other suffix (file ∷ files) name = elim (name_or_other suffix file na
 
 -- a file that was copied is as it was, or was undone
 copied_kept : (file at_copy at_new : List ℕ) (old now : Held) → Copied file at_copy at_new old now → HeldOrUndone (old file) (now file)
-copied_kept file at_copy at_new old now c = of c.undone
-  where
-    of : UndoneIfOpen c.was c.is → HeldOrUndone (old file) (now file)
-    of (inl undone) = inr (c.was, c.is, c.there, c.stands, undone)
-    of (inr same) = inl (c.stands ∙ ap Some same.1 ∙ sym c.there)
+copied_kept file at_copy at_new old now c = held_undone (old file) (now file) c.was c.is c.there c.stands c.undone
 
 -- a name that is neither a file's own nor one for its copy is none of its names
-not_own : (suffix file name : List ℕ) (files : List (List ℕ)) → (name ≡ file → ⊥) → (IsForCopyAmong suffix (file ∷ files) name → ⊥) → (IsNameAmong suffix files name → ⊥) → IsNameAmong suffix (file ∷ files) name → ⊥
+not_own : (suffix file name : List ℕ) (files : List (List ℕ)) → (name ≡ file → ⊥) → (IsForCopyAmong suffix (file ∷ files) name → ⊥) → (IsNameAmong false suffix files name → ⊥) → IsNameAmong false suffix (file ∷ files) name → ⊥
 not_own suffix file name files apart copy none (inl (inl is)) = apart is
 not_own suffix file name files apart copy none (inl (inr is)) = copy (inl is)
 not_own suffix file name files apart copy none (inr is) = none is
@@ -78,7 +75,7 @@ not_own suffix file name files apart copy none (inr is) = none is
 module _ (suffix : List ℕ) (old now : Held) where
   -- at each name but those for copies
   pub stopped_kept : (broken : Type 0) → (broken → ⊥) → (files : List (List ℕ)) → StoppedAt broken suffix files old now → (name : List ℕ) → (IsForCopyAmong suffix files name → ⊥)
-      → ((IsNameAmong suffix files name → ⊥) → now name ≡ old name) → HeldOrUndone (old name) (now name)
+      → ((IsNameAmong false suffix files name → ⊥) → now name ≡ old name) → HeldOrUndone (old name) (now name)
   stopped_kept broken never [] stopped name copy other = absurd stopped
   stopped_kept broken never (file ∷ files) (inl both) name copy other = elim (same_or_other name file) [
     | inl here ↦ subst (λ n. HeldOrUndone (old n) (now n)) (sym here) (copied_kept file (copy_name suffix file) (new_name suffix file) old now both.0)
@@ -87,7 +84,7 @@ module _ (suffix : List ℕ) (old now : Held) where
   stopped_kept broken never (file ∷ files) (inr both) name copy other = elim (same_or_other name file) [
     | inl here ↦ subst (λ n. HeldOrUndone (old n) (now n)) (sym here) (elim both.0.kept [ inl kept ↦ kept | inr breaks ↦ absurd (never breaks.0) ])
     | inr apart ↦
-        elim (among_or_other suffix files name) [
+        elim (among_or_other false suffix files name) [
           | inl among ↦ inl (both.1 name among)
           | inr none ↦ inl (other (not_own suffix file name files apart copy none))
         ]
@@ -123,7 +120,7 @@ copied_later file at_copy at_new old mid now own copy new c = record {
 
 -- nothing changed before at the names of the files that come then
 module _ (suffix : List ℕ) (old mid now : Held) where
-  pub all_copied_since : (files : List (List ℕ)) → AllStay suffix files old mid → CopiedAll suffix files mid now → CopiedAll suffix files old now
+  pub all_copied_since : (files : List (List ℕ)) → AllStay false suffix files old mid → CopiedAll suffix files mid now → CopiedAll suffix files old now
   all_copied_since [] same copied = tt
   all_copied_since (file ∷ files) same copied =
       let c = copied.0 in (
@@ -149,7 +146,7 @@ module _ (suffix : List ℕ) (old mid now : Held) where
     left = subst (λ o. IsLeftOf o (now at_new) ⊎ broken) new s.left;
   }
 
-  pub all_stopped_since : (broken : Type 0) (files : List (List ℕ)) → AllStay suffix files old mid → StoppedAt broken suffix files mid now → StoppedAt broken suffix files old now
+  pub all_stopped_since : (broken : Type 0) (files : List (List ℕ)) → AllStay false suffix files old mid → StoppedAt broken suffix files mid now → StoppedAt broken suffix files old now
   all_stopped_since broken [] same stopped = stopped
   all_stopped_since broken (file ∷ files) same (inl both) =
       let c = both.0 in
@@ -174,14 +171,14 @@ module _ (suffix : List ℕ) (old mid now : Held) where
         λ name among. both.1 name among ∙ same name (inr among),
       )
 
-  pub ends_since : (files : List (List ℕ)) (e : Ending) → AllStay suffix files old mid → BackupEnds files mid e → BackupEnds files old e
+  pub ends_since : (files : List (List ℕ)) (e : Ending) → AllStay false suffix files old mid → BackupEnds files mid e → BackupEnds files old e
   ends_since [] e same ends = ends
   ends_since (file ∷ files) e same (inl at) = inl (subst (λ o. EndsAt file o e) (same file (inl (inl refl))) at)
   ends_since (file ∷ files) e same (inr both) = inr (subst WasOpened (same file (inl (inl refl))) both.0, ends_since files e (λ name among. same name (inr among)) both.1)
 
 -- one file of a backup, and those behind it
-module _ (suffix file : List ℕ) (files : List (List ℕ)) (differ : NamesDiffer suffix (file ∷ files)) (old mid : Held) (before between : ℕ) (others : (name : List ℕ) → (IsNameOf suffix file name → ⊥) → mid name ≡ old name) where
-  rest_stays : AllStay suffix files old mid
+module _ (suffix file : List ℕ) (files : List (List ℕ)) (differ : NamesDiffer false suffix (file ∷ files)) (old mid : Held) (before between : ℕ) (others : (name : List ℕ) → (IsNameOf false suffix file name → ⊥) → mid name ≡ old name) where
+  rest_stays : AllStay false suffix files old mid
   rest_stays name among = others name (λ own. differ.0 name own among)
 
   -- it wasn't copied, so the others weren't looked at
@@ -202,7 +199,7 @@ module _ (suffix file : List ℕ) (files : List (List ℕ)) (differ : NamesDiffe
 
   -- it was copied, and then the others were backed up
   module _ (counted : between ≡ before) (one : BackedUpOne file (copy_name suffix file) (new_name suffix file) old mid before between (Replied Reply.Copied)) where
-    pub went_on : (now : Held) (after : ℕ) (e : Ending) → BackedUp suffix files mid now between after e → ((name : List ℕ) → (IsNameAmong suffix files name → ⊥) → now name ≡ mid name)
+    pub went_on : (now : Held) (after : ℕ) (e : Ending) → BackedUp suffix files mid now between after e → ((name : List ℕ) → (IsNameAmong false suffix files name → ⊥) → now name ≡ mid name)
         → BackedUp suffix (file ∷ files) old now before after e
     went_on now after e rest later = record {
       cause = cause rest.cause;
@@ -216,7 +213,7 @@ module _ (suffix file : List ℕ) (files : List (List ℕ)) (differ : NamesDiffe
         own : Copied file (copy_name suffix file) (new_name suffix file) old mid
         own = one.copied refl
 
-        at_own : (name : List ℕ) → IsNameOf suffix file name → now name ≡ mid name
+        at_own : (name : List ℕ) → IsNameOf false suffix file name → now name ≡ mid name
         at_own name is = later name (λ among. differ.0 name is among)
 
         first : Copied file (copy_name suffix file) (new_name suffix file) old now
@@ -238,11 +235,11 @@ all_done suffix held count = record {
 -- from what is left of the files that are still to be backed up follows what is left of all
 abbrev pub Carries : List ℕ → List (List ℕ) → Held → ℕ → List (List ℕ) → Held → ℕ → Type 0
 Carries suffix all old before rest mid between =
-    (now : Held) (after : ℕ) (e : Ending) → BackedUp suffix rest mid now between after e → ((name : List ℕ) → (IsNameAmong suffix rest name → ⊥) → now name ≡ mid name) → BackedUp suffix all old now before after e
+    (now : Held) (after : ℕ) (e : Ending) → BackedUp suffix rest mid now between after e → ((name : List ℕ) → (IsNameAmong false suffix rest name → ⊥) → now name ≡ mid name) → BackedUp suffix all old now before after e
 
 -- one more file was backed up, or ended the backup
-module _ (suffix : List ℕ) (all : List (List ℕ)) (start : Held) (first : ℕ) (file : List ℕ) (files : List (List ℕ)) (old mid : Held) (before between : ℕ) (differ : NamesDiffer suffix (file ∷ files)) (carries : Carries suffix all start first (file ∷ files) old before)
-    (others : (name : List ℕ) → (IsNameOf suffix file name → ⊥) → mid name ≡ old name) where
+module _ (suffix : List ℕ) (all : List (List ℕ)) (start : Held) (first : ℕ) (file : List ℕ) (files : List (List ℕ)) (old mid : Held) (before between : ℕ) (differ : NamesDiffer false suffix (file ∷ files)) (carries : Carries suffix all start first (file ∷ files) old before)
+    (others : (name : List ℕ) → (IsNameOf false suffix file name → ⊥) → mid name ≡ old name) where
   pub carries_on : between ≡ before → BackedUpOne file (copy_name suffix file) (new_name suffix file) old mid before between (Replied Reply.Copied) → Carries suffix all start first files mid between
   carries_on counted one now after e rest later =
       carries now after e (went_on suffix file files differ old mid before between others counted one now after e rest later) (λ name none. later name (λ among. none (inr among)) ∙ others name (λ own. none (inl own)))

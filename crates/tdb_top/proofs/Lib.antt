@@ -14,6 +14,7 @@ pub mod BackingUp
 pub mod Writing
 pub mod OneAnswer
 pub mod Copies
+pub mod Verifying
 pub mod Runs
 pub mod Whole
 pub mod Coming

@@ -40,6 +40,7 @@ module _ (f : Form) (options : Options) (a : List ℕ) (plays : List Play) (old 
   broken_off new b before now (Err Rest.Report) other is p = (front_of new before now p, came_of new b before now is p)
   broken_off new b before now (Err Rest.Fault) other is p = front_of p.0 before now p.1
   broken_off new b before now (Err Rest.Pairs) other is p = absurd p
+  broken_off new b before now (Err Rest.Files) other is p = absurd p
 
   -- plays that were taken whole, and then the commands told that are unfinished
   module _ (w : World) (b before mid now : List ℕ) (is : IsOver f b (state_in w b)) (p : TellsAll f old plays (state_in w b) told before mid) where
@@ -79,3 +80,4 @@ module _ (f : Form) (options : Options) (a : List ℕ) (plays : List Play) (old 
     finished (Err Rest.Report) un all front = (whole_front front, whole_came)
     finished (Err Rest.Fault) un all front = absurd un
     finished (Err Rest.Pairs) un all front = absurd un
+    finished (Err Rest.Files) un all front = absurd un

@@ -9,12 +9,12 @@ use Rattle.tdb_space.specs.Opening.{Opens}
 use Rattle.tdb_ask.specs.declared.act.Act.{Act}
 use Rattle.tdb_ask.specs.declared.look.Look.{Look}
 use Rattle.tdb_ask.specs.declared.ask.Task.{Task}
-use Rattle.tdb_ask.specs.declared.ask.Task.TheVariants.{Create, On, Read, Restore, Backup, Turns, Session, Generate}
+use Rattle.tdb_ask.specs.declared.ask.Task.TheVariants.{Create, On, Read, Restore, Backup, Verify, Turns, Session, Generate}
 use Rattle.tdb_ask.specs.declared.lines.create.NewForm.{NewForm}
 use Rattle.tdb_top.specs.declared.ending.Ending.{Ending}
 use Rattle.tdb_top.specs.declared.ending.Ending.TheVariants.{Replied, Refused, Missing, There, Usage, DeviceFault, InputFault, Malformed, NoMemory}
 use Rattle.tdb_top.specs.declared.ending.Reply.{Reply}
-use Rattle.tdb_top.specs.declared.ending.Reply.TheVariants.{Done, Value, Escaped, Dumped, Restored, Copied, KeyMissing, KeyThere, Full, Number, Played, Generated, Unfinished}
+use Rattle.tdb_top.specs.declared.ending.Reply.TheVariants.{Done, Value, Escaped, Dumped, Restored, Copied, Verified, KeyMissing, KeyThere, Full, Number, Played, Generated, Unfinished}
 use Rattle.tdb_top.specs.declared.halt.Refusal.{Refusal}
 use Rattle.tdb_top.specs.declared.halt.Refusal.TheVariants.{TooLong, Header, Corrupt, NeedsRecovery}
 use Rattle.tdb_ask.specs.declared.limits.TheConstants.{LONGEST_FILE}
@@ -26,6 +26,7 @@ use Rattle.tdb_top.specs.Printed.{TextBefore, ask_tells, IsSilent, Writes}
 use Rattle.tdb_top.specs.Left.{ActLeaves, OnLeaves, MakingLeaves, RestoreLeaves, TaskLeaves, MayChange, SameElse, Leaving}
 use Rattle.tdb_top.specs.Commands.Restore.{of_input, HeardBy}
 use Rattle.tdb_top.specs.Commands.Backup.{BackupLeaves, EndsBackup}
+use Rattle.tdb_top.specs.Commands.Verify.{VerifyLeaves, EndsVerify}
 use Rattle.tdb_top.specs.Input.{Input}
 use Rattle.tdb_top.specs.Output.{Output}
 use Rattle.tdb_top.specs.Reads.{reads_input, ask_reads, AskEnds}
@@ -36,9 +37,10 @@ use Rattle.tdb_gen.specs.declared.summary.Summary.{Summary}
 use Rattle.tdb_gen.specs.Summary.{summary_text}
 use Rattle.tdb_top.specs.Commands.Generate.{HasMade, GenLeaves}
 use Rattle.tdb_top.specs.Opening.{opened_bytes, OpensToRead, HeldOrUndone, SameOrUndone, UndoneIfOpen}
-use Rattle.tdb_top.specs.Run.{Run, MayEnd, is_due, is_read, is_copied, is_played, is_served, is_generated, call_failed, memory_wanting, TellsFault, ActsOn, LooksInto, RefusesExactly, KeepsAll, EndsMidway, ActRun, MakingRun, RestoringRun, BackupRun, TurnsRun, SessionRun, GeneratingRun, IsCopyName, LeavesFiles, Accounted}
+use Rattle.tdb_top.specs.Run.{Run, MayEnd, is_due, is_read, is_copied, is_verified, is_played, is_served, is_generated, call_failed, memory_wanting, TellsFault, ActsOn, LooksInto, RefusesExactly, KeepsAll, EndsMidway, ActRun, MakingRun, RestoringRun, BackupRun, VerifyRun, TurnsRun, SessionRun, GeneratingRun, IsCopyName, LeavesFiles, Accounted}
 use Rattle.tdb_top.proofs.Held.{same_or_other}
 use Rattle.tdb_top.proofs.Copies.{stopped_kept, stopped_weaker, backup_zero}
+use Rattle.tdb_top.proofs.Verifying.{verified_zero, all_left_weaker, verify_kept}
 use Rattle.tdb_top.proofs.OneAnswer.{due_one, refused_faulty, refused_three, read_faulty, read_three}
 use Rattle.tdb_top.proofs.Openings.{same_or_undone}
 
@@ -57,6 +59,7 @@ reply_status (Escaped value) = inl refl
 reply_status Dumped = inl refl
 reply_status Restored = inl refl
 reply_status Copied = inl refl
+reply_status Verified = inl refl
 reply_status Played = inl refl
 reply_status (Generated text) = inl refl
 reply_status Unfinished = inr (inl refl)
@@ -166,14 +169,16 @@ exits tells run e t printed (inr part) = inr (inr part.exits)
 exits tells run e t (inl same) (inl all) = inl (all.exits ∙ ap status_of same)
 exits tells run e t (inr want) (inl all) = inr (inl (all.exits ∙ ap status_of want.0, want.1))
 
--- a restore or a backup that was done writes nothing, and so its status is 0
+-- a restore, a backup or a verification that was done has no line, and so its status is 0
 silent_status : (t : Ending) → IsSilent t → status_of t ≡ 0
 silent_status t (inl is) = ap status_of is
-silent_status t (inr is) = ap status_of is
+silent_status t (inr (inl is)) = ap status_of is
+silent_status t (inr (inr is)) = ap status_of is
 
 silent_needs : (t : Ending) → IsSilent t → TakesMemory t → ⊥
 silent_needs t (inl is) takes = false≢true (subst TakesMemory is takes)
-silent_needs t (inr is) takes = false≢true (subst TakesMemory is takes)
+silent_needs t (inr (inl is)) takes = false≢true (subst TakesMemory is takes)
+silent_needs t (inr (inr is)) takes = false≢true (subst TakesMemory is takes)
 
 pub silent_exits : (tells : Bool) (run : Run) (e t : Ending) → PrintedFor e t → Printed tells run e → IsSilent t → run.status ≡ 0
 silent_exits tells run e t (inl same) (inl all) silent = all.exits ∙ ap status_of same ∙ silent_status t silent
@@ -199,7 +204,9 @@ asked_cause ask a held input before after e is (inl (inr (inr (inl ends)))) =
     is_played e ends.options a.file (sym is ∙ ap (λ t. Some (record { file = a.file; task = t })) ends.turns) ends.why
 asked_cause ask a held input before after e is (inl (inr (inr (inr ends)))) =
     is_served e ends.limit a.file (sym is ∙ ap (λ t. Some (record { file = a.file; task = t })) ends.serves) ends.why
-asked_cause ask a held input before after e is (inr (inr ends)) =
+asked_cause ask a held input before after e is (inr (inr (inl ends))) =
+    is_verified e ends.more ends.suffix a.file ends.text (sym is ∙ ap (λ t. Some (record { file = a.file; task = t })) ends.verifies) ends.ends
+asked_cause ask a held input before after e is (inr (inr (inr ends))) =
     is_generated e ends.commands ends.seed a.file (sym is ∙ ap (λ t. Some (record { file = a.file; task = t })) ends.generates) ends.none ends.ends
 asked_cause ask a held input before after e is (inr (inl ends)) =
     is_copied e ends.more ends.suffix a.file (sym is ∙ ap (λ t. Some (record { file = a.file; task = t })) ends.backs_up) ends.ends
@@ -221,6 +228,7 @@ task_copies (Turns options) = false
 task_copies (Session limit) = false
 task_copies (Generate commands seed) = false
 task_copies (Backup more suffix) = true
+task_copies (Verify more suffix) = false
 task_copies (On act) = false
 task_copies (Read look) = false
 task_copies (Create form) = false
@@ -230,6 +238,22 @@ abbrev asks_copies : Option Ask → Bool
 asks_copies None = false
 asks_copies (Some ask) = task_copies ask.task
 
+-- a verification, turns, a session and generated commands are neither too
+abbrev is_other : Task → Bool
+is_other (Verify more suffix) = true
+is_other (Turns options) = true
+is_other (Session limit) = true
+is_other (Generate commands seed) = true
+is_other (Backup more suffix) = false
+is_other (On act) = false
+is_other (Read look) = false
+is_other (Create form) = false
+is_other (Restore limit) = false
+
+abbrev asks_other : Option Ask → Bool
+asks_other None = false
+asks_other (Some ask) = is_other ask.task
+
 act_or_backup : (ask : Option Ask) (act : Act) (name : List ℕ) (more : List (List ℕ)) (suffix other : List ℕ) → ask ≡ Some (record { file = name; task = On act }) → ask ≡ Some (record { file = other; task = Backup more suffix }) → ⊥
 act_or_backup ask act name more suffix other acts copies = false≢true (ap asks_copies (sym acts ∙ copies))
 
@@ -238,12 +262,12 @@ look_or_backup ask look name more suffix other looks copies = false≢true (ap a
 
 module _ (run : Run) (e : Ending) (cause : MayEnd run.ask run.old run.input run.faults_before run.faults_after e) (tells : Bool) (prints : Printed tells run e) where
   -- what the ending that is printed says of a status, where it is due, where a restore is asked for and no file is
-  -- there, where a backup is, and where commands of openers are and nothing is due
+  -- there, where a backup is, and where a verification or commands of openers are and nothing is due
   abbrev Copies : Type 0 → Type 0
   Copies P = (more : List (List ℕ)) (suffix name : List ℕ) → run.ask ≡ Some (record { file = name; task = Backup more suffix }) → P
 
   abbrev Undue : Type 0 → Type 0
-  Undue P = (task : Task) (name : List ℕ) → run.ask ≡ Some (record { file = name; task = task }) → has_openers task ≡ true → ((x : Ending) → TaskDue task name (run.old name) x → ⊥) → P
+  Undue P = (task : Task) (name : List ℕ) → run.ask ≡ Some (record { file = name; task = task }) → is_other task ≡ true → ((x : Ending) → TaskDue task name (run.old name) x → ⊥) → P
 
   status_where : (P : ℕ → Type 0) → (Due run.ask run.old e → P (status_of e)) → ((limit : ℕ) (name : List ℕ) → run.ask ≡ Some (record { file = name; task = Restore limit }) → run.old name ≡ None → P (status_of e)) → Copies (P (status_of e)) → Undue (P (status_of e)) → P run.status ⊎ TellsFault run.status
   status_where P due read copies undue = of e cause prints due read copies undue
@@ -254,6 +278,7 @@ module _ (run : Run) (e : Ending) (cause : MayEnd run.ask run.old run.input run.
       of _ (is_due x d) (inl all) due read copies undue = inl (subst P (sym all.exits) (due d))
       of _ (is_read x limit name asks none so) (inl all) due read copies undue = inl (subst P (sym all.exits) (read limit name asks none))
       of _ (is_copied x more suffix name asks ends) (inl all) due read copies undue = inl (subst P (sym all.exits) (copies more suffix name asks))
+      of _ (is_verified x more suffix name text asks ends) (inl all) due read copies undue = inl (subst P (sym all.exits) (undue (Verify more suffix) name asks refl (λ y none. none)))
       of _ (is_played x options name asks so) (inl all) due read copies undue = inl (subst P (sym all.exits) (undue (Turns options) name asks refl (λ y none. none)))
       of _ (is_served x limit name asks so) (inl all) due read copies undue = inl (subst P (sym all.exits) (undue (Session limit) name asks refl (λ y none. none)))
       of _ (is_generated x commands seed name asks none so) (inl all) due read copies undue =
@@ -281,12 +306,12 @@ module _ (run : Run) (e : Ending) (cause : MayEnd run.ask run.old run.input run.
   no_look_copies : (P : Type 0) (look : Look) (name : List ℕ) (h : History) → LooksInto run look name h → Copies P
   no_look_copies P look name h into more suffix other asks = absurd (look_or_backup run.ask look name more suffix other into.asks asks)
 
-  -- nor has it openers
+  -- nor is it one of those
   act_no_openers : (P : Type 0) (act : Act) (name : List ℕ) (h : History) → ActsOn run act name h → Undue P
-  act_no_openers P act name h acts task other asks openers undue = absurd (false≢true (ap asks_openers (sym acts.asks ∙ asks) ∙ openers))
+  act_no_openers P act name h acts task other asks openers undue = absurd (false≢true (ap asks_other (sym acts.asks ∙ asks) ∙ openers))
 
   look_no_openers : (P : Type 0) (look : Look) (name : List ℕ) (h : History) → LooksInto run look name h → Undue P
-  look_no_openers P look name h into task other asks openers undue = absurd (false≢true (ap asks_openers (sym into.asks ∙ asks) ∙ openers))
+  look_no_openers P look name h into task other asks openers undue = absurd (false≢true (ap asks_other (sym into.asks ∙ asks) ∙ openers))
 
   -- what is due of an act on a file that is there
   act_due : (act : Act) (name : List ℕ) (h : History) → ActsOn run act name h → Due run.ask run.old e → Replies act (seen h) e ⊎ Refuses (seen h) e
@@ -514,6 +539,20 @@ module _ (before after status : ℕ) where
       ended t known (inr (inl want)) is = absurd (omega (arith, want.0, is))
       ended t known (inr (inr eight)) is = absurd (omega (arith, eight, is))
 
+  -- and at those of a verification
+  verify_run : (suffix : List ℕ) (files : List (List ℕ)) (old now : List ℕ → Option History) (t : Ending) → Exits status t → CountedBy before after t → (t ≡ Replied Verified → status ≡ 0) → VerifyLeaves suffix files old t now
+      → VerifyRun suffix files old before after status now
+  verify_run suffix files old now t out counted silent left = record {
+    done = λ is. left.done (ended t left.known out is);
+    stopped = λ other. all_left_weaker suffix old now (t ≡ DeviceFault) (((status ≡ 4) ⊎ (status ≡ 8)) × Rose before after)
+        (λ fault. (fault_exits (subst (Exits status) fault out), counted.failed fault)) files (left.stopped (λ done. other (silent done)));
+  }
+    where
+      ended : (t : Ending) → EndsVerify t → Exits status t → status ≡ 0 → t ≡ Replied Verified
+      ended t known (inl own) is = verified_zero t known (sym own ∙ is)
+      ended t known (inr (inl want)) is = absurd (omega (arith, want.0, is))
+      ended t known (inr (inr eight)) is = absurd (omega (arith, eight, is))
+
 -- what an opening for turns leaves is as it was, or undone
 pub opened_same : (options : Options) (old now : History) → TurnOpened options old now → SameOrUndone old now
 opened_same options old now (inl same) = inr same.1
@@ -530,6 +569,7 @@ asked_counted tells (Some ask) before after t told counted = of ask.task counted
     of (Create form) counted = counted
     of (Restore limit) counted = counted
     of (Backup more suffix) counted = counted
+    of (Verify more suffix) counted = counted
     of (Turns options) counted = record { never_falls = counted.never_falls; failed = λ is. counted.failed is told; sound = counted.sound }
     of (Session limit) counted = record { never_falls = counted.never_falls; failed = λ is. counted.failed is told; sound = counted.sound }
     of (Generate commands seed) counted = record { never_falls = counted.never_falls; failed = λ is. counted.failed is told; sound = counted.sound }
@@ -544,6 +584,7 @@ asked_failed tells (Some ask) before after t counted is none = of ask.task none 
     of (Create form) none counted = counted.failed is
     of (Restore limit) none counted = counted.failed is
     of (Backup more suffix) none counted = counted.failed is
+    of (Verify more suffix) none counted = counted.failed is
     of (Turns options) none counted = absurd (false≢true (sym none))
     of (Session limit) none counted = absurd (false≢true (sym none))
     of (Generate commands seed) none counted = absurd (false≢true (sym none))
@@ -558,6 +599,7 @@ asked_sound tells (Some ask) before after t counted other = of ask.task counted
     of (Create form) counted = counted.sound other
     of (Restore limit) counted = counted.sound other
     of (Backup more suffix) counted = counted.sound other
+    of (Verify more suffix) counted = counted.sound other
     of (Turns options) counted = counted.sound other
     of (Session limit) counted = counted.sound other
     of (Generate commands seed) counted = counted.sound other
@@ -775,7 +817,10 @@ module _ (run : Run) (t : Ending) (out : Exits run.status t) (counted : CountedB
   restoring limit name asks = restoring_run run.faults_before run.faults_after run.status run.input (run.old name) (run.now name) t out counted (λ done. silent (inl done)) (asked_left (Restore limit) name asks)
 
   backing_up : (more : List (List ℕ)) (suffix name : List ℕ) → run.ask ≡ Some (record { file = name; task = Backup more suffix }) → BackupRun suffix (name ∷ more) run.old run.faults_before run.faults_after run.status run.now
-  backing_up more suffix name asks = backup_run run.faults_before run.faults_after run.status suffix (name ∷ more) run.old run.now t out counted (λ done. silent (inr done)) (asked_left (Backup more suffix) name asks)
+  backing_up more suffix name asks = backup_run run.faults_before run.faults_after run.status suffix (name ∷ more) run.old run.now t out counted (λ done. silent (inr (inl done))) (asked_left (Backup more suffix) name asks)
+
+  verifying : (more : List (List ℕ)) (suffix name : List ℕ) → run.ask ≡ Some (record { file = name; task = Verify more suffix }) → VerifyRun suffix (name ∷ more) run.old run.faults_before run.faults_after run.status run.now
+  verifying more suffix name asks = verify_run run.faults_before run.faults_after run.status suffix (name ∷ more) run.old run.now t out counted (λ done. silent (inr (inr done))) (asked_left (Verify more suffix) name asks)
 
   turned : (options : Options) (name : List ℕ) (old : History) → run.ask ≡ Some (record { file = name; task = Turns options }) → run.old name ≡ Some old
       → (h : History) × (run.now name ≡ Some h) × TurnsRun options run.input run.output old run.faults_before run.faults_after run.status h
@@ -849,7 +894,10 @@ module _ (run : Run) (t : Ending) (out : Exits run.status t) (counted : CountedB
       (same name)
   task_kept keeps (Backup more suffix) file name asks midway same at copy =
       stopped_kept suffix run.old run.now _ (λ broken. elim broken.0 [ inl four ↦ keeps.1 four | inr eight ↦ keeps.2 eight ]) (file ∷ more)
-      ((backup_run run.faults_before run.faults_after run.status suffix (file ∷ more) run.old run.now t out counted (λ done. silent (inr done)) at).stopped keeps.0) name (λ among. copy (more, suffix, file, refl, among)) (same name)
+      ((backup_run run.faults_before run.faults_after run.status suffix (file ∷ more) run.old run.now t out counted (λ done. silent (inr (inl done))) at).stopped keeps.0) name (λ among. copy (more, suffix, file, inl (refl, among))) (same name)
+  task_kept keeps (Verify more suffix) file name asks midway same at copy =
+      verify_kept suffix run.old run.now _ (λ broken. elim broken.0 [ inl four ↦ keeps.1 four | inr eight ↦ keeps.2 eight ]) (file ∷ more)
+      ((verify_run run.faults_before run.faults_after run.status suffix (file ∷ more) run.old run.now t out counted (λ done. silent (inr (inr done))) at).stopped keeps.0) name (λ among. copy (more, suffix, file, inr (refl, among))) (same name)
   task_kept keeps (Turns options) file name asks midway same at copy = at_name name file (file_kept keeps midway options file (run.old file) at) (same name)
   task_kept keeps (Session limit) file name asks midway same at copy = at_name name file (session_kept keeps limit file midway asks (run.old file) refl at) (same name)
   task_kept keeps (Generate commands seed) file name asks midway same at copy =
@@ -875,6 +923,7 @@ module _ (run : Run) (t : Ending) (out : Exits run.status t) (counted : CountedB
     made = made;
     restored = restoring;
     backed_up = backing_up;
+    verified = verifying;
     read = λ look name asks. asked_left (Read look) name asks;
     turned = turned;
     unturned = λ options name asks none. subst (λ o. TurnsLeave options o t (run.now name)) none (asked_left (Turns options) name asks);

@@ -25,7 +25,7 @@ use Rattle.tdb_top.specs.Output.{Output, output_by}
 use Rattle.tdb_top.specs.Printed.{Finishes}
 use Rattle.tdb_top.specs.Run.{SessionRun}
 use Rattle.tdb_top.proofs.Runs.{Exits, refusal_apart, refused_seven, fault_exits, fault_no_done, fault_no_keep, memory_exits, memory_apart, memory_no_keep, opened_same, played_exits, played_kept, unheard_exits, malformed_exits, malformed_kept, malformed_four, either_not}
-use Rattle.tdb_top.proofs.Whole.{same_held}
+use Rattle.tdb_top.proofs.Held.{same_held}
 
 module _ (limit : ℕ) (input : Input) (tells : Bool) (w0 w1 w2 : List ℕ) (f0 f1 f2 : ℕ) (old now : History) where
   abbrev Out : Output

@@ -132,6 +132,7 @@ module _ (options : Options) (name : List ℕ) (h now : History) (plays : List P
     cause_played before after _ (file_played (Err Rest.Report) on) rose = plays_opened h there on.opens
     cause_played before after _ (file_played (Err Rest.Fault) on) rose = plays_failed (rose refl)
     cause_played before after _ (file_played (Err Rest.Pairs) on) rose = absurd on.over
+    cause_played before after _ (file_played (Err Rest.Files) on) rose = absurd on.over
 
     -- what they left
     pub left_played : (given : Option History) (r : Result Ending Unprinted) → given ≡ Some now → On r → TurnsLeave options held (ending_of r) given
@@ -147,6 +148,7 @@ module _ (options : Options) (name : List ℕ) (h now : History) (plays : List P
         of _ (file_played (Err Rest.Report) on) = (now, is, (refl, so_far on.opened on.is_opened on.over.1))
         of _ (file_played (Err Rest.Fault) on) = (now, is, tt)
         of _ (file_played (Err Rest.Pairs) on) = absurd on.over
+        of _ (file_played (Err Rest.Files) on) = absurd on.over
 
     -- what they wrote
     front_text : (opened : History) → IsOpened options h opened → IsTrue told → PlayedFront (form_of (seen opened)) options (seen opened) told w0 w1 → (text : List ℕ) × ReportFront options (opened_bytes (seen h)) text × (w1 ≡ w0 ++ text)
@@ -180,6 +182,7 @@ module _ (options : Options) (name : List ℕ) (h now : History) (plays : List P
             let p = front_text on.opened on.is_opened heard on.over in
             (p.0, inr p.1, length p.0, p.2 ∙ ap (λ t. w0 ++ t) (sym (take_all (length p.0) p.0 (omega arith))))
         of _ (file_played (Err Rest.Pairs) on) = absurd on.over
+        of _ (file_played (Err Rest.Files) on) = absurd on.over
 
     -- and where they were played whole
     pub all_played : (given : Option History) (r : Result Ending Unprinted) → given ≡ Some now → On r → r ≡ Ok (E.Replied Played) → PlayedAll options plays held given told w0 w1

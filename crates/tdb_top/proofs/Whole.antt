@@ -1,11 +1,11 @@
 -- Turns with status 0 were played whole.
 use Rattle.std.proofs.Common.{◌≡◌, ◌⊎◌, ℕ, true, false, List, ◌++◌, Option, None, Some, Result, Ok, Err, refl, sym, ◌∙◌, ap, subst, inl, inr, arith}
-use Rattle.std.specs.Prelude.{Bool, IsTrue, unwrap_or}
+use Rattle.std.specs.Prelude.{Bool, IsTrue}
 use Rattle.std.proofs.lemmas.Bool.{false≢true}
 use Rattle.std.proofs.lemmas.List.{append-nil}
 use Rattle.tdb_disk.specs.History.{History}
 use Rattle.tdb_ask.specs.declared.ask.Task.{Task}
-use Rattle.tdb_ask.specs.declared.ask.Task.TheVariants.{Create, On, Read, Restore, Backup, Turns, Session, Generate}
+use Rattle.tdb_ask.specs.declared.ask.Task.TheVariants.{Create, On, Read, Restore, Backup, Verify, Turns, Session, Generate}
 use Rattle.tdb_top.specs.declared.ending.Ending.{Ending}
 use Rattle.tdb_top.specs.declared.ending.Ending.TheVariants.{Replied, Refused}
 use Rattle.tdb_top.specs.declared.ending.Reply.TheVariants.{Played}
@@ -18,7 +18,8 @@ use Rattle.tdb_top.specs.Input.{Input}
 use Rattle.tdb_top.specs.Looks.{ending_of}
 use Rattle.tdb_top.specs.Output.{output_by}
 use Rattle.tdb_top.specs.Printed.{Finishes}
-use Rattle.tdb_top.specs.Run.{MayEnd, is_due, is_read, is_copied, is_played, is_served, is_generated, call_failed, memory_wanting}
+use Rattle.tdb_top.specs.Run.{MayEnd, is_due, is_read, is_copied, is_verified, is_played, is_served, is_generated, call_failed, memory_wanting}
+use Rattle.tdb_top.proofs.Held.{same_held}
 use Rattle.tdb_top.proofs.Runs.{refusal_status}
 
 -- turns are no other task
@@ -28,6 +29,7 @@ reads_turns (Read look) = false
 reads_turns (Create form) = false
 reads_turns (Restore limit) = false
 reads_turns (Backup more suffix) = false
+reads_turns (Verify more suffix) = false
 reads_turns (Turns options) = true
 reads_turns (Session limit) = false
 reads_turns (Generate commands seed) = false
@@ -52,14 +54,12 @@ ended_zero : (ask : Option Ask) (options : Options) (name : List ℕ) (held : Li
 ended_zero ask options name held input before after _ asks (is_due e due) zero = absurd (subst (λ a. Due a held e) asks due)
 ended_zero ask options name held input before after _ asks (is_read e limit other restores none so) zero = absurd (false≢true (ap is_turns (sym restores ∙ asks)))
 ended_zero ask options name held input before after _ asks (is_copied e more suffix other copies ends) zero = absurd (false≢true (ap is_turns (sym copies ∙ asks)))
+ended_zero ask options name held input before after _ asks (is_verified e more suffix other text verifies ends) zero = absurd (false≢true (ap is_turns (sym verifies ∙ asks)))
 ended_zero ask options name held input before after _ asks (is_played e others other also so) zero = plays_zero input others other (held other) e so zero
 ended_zero ask options name held input before after _ asks (is_served e limit other serves so) zero = absurd (false≢true (ap is_turns (sym serves ∙ asks)))
 ended_zero ask options name held input before after _ asks (is_generated e commands seed other also none so) zero = absurd (false≢true (ap is_turns (sym also ∙ asks)))
 ended_zero ask options name held input before after _ asks (call_failed a is rose) zero = absurd (omega (arith, zero))
 ended_zero ask options name held input before after _ asks memory_wanting zero = absurd (omega (arith, zero))
-
-pub same_held : (a b : History) (o : Option History) → o ≡ Some a → o ≡ Some b → a ≡ b
-same_held a b o p q = ap (λ x. unwrap_or x a) (sym p ∙ q)
 
 module _ (options : Options) (input : Input) (tells : Bool) (w0 w1 w2 : List ℕ) (f0 f1 f2 : ℕ) where
   -- what was written behind the report is nothing

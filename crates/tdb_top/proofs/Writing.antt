@@ -1,5 +1,5 @@
 -- What a run has printed, from the text that was written first and what was written behind it.
-use Rattle.std.proofs.Common.{◌≡◌, ℕ, ◌+◌, true, false, List, [], ◌++◌, length, Option, None, Some, take, Result, Ok, Err, refl, sym, ◌∙◌, ap, subst, inl, inr, arith}
+use Rattle.std.proofs.Common.{◌≡◌, ℕ, ◌+◌, true, false, List, [], ◌∷◌, ◌++◌, length, Option, None, Some, take, Result, Ok, Err, refl, sym, ◌∙◌, ap, subst, inl, inr, arith}
 use Rattle.std.specs.Prelude.{Bool, ◌&&◌, IsTrue}
 use Rattle.std.proofs.lemmas.Bool.{false≢true, cases_lt}
 use Rattle.std.proofs.lemmas.List.{append_assoc, take-append-le, take_all}
@@ -7,22 +7,24 @@ use Rattle.std.proofs.Math.Seq.{take-append-add, take-append_seam}
 use Rattle.tdb_disk.specs.Count.{Rose, HasCause}
 use Rattle.tdb_disk.specs.History.{History}
 use Rattle.tdb_ask.specs.declared.ask.Task.{Task}
-use Rattle.tdb_ask.specs.declared.ask.Task.TheVariants.{Create, On, Read, Restore, Backup, Turns, Session, Generate}
+use Rattle.tdb_ask.specs.declared.ask.Task.TheVariants.{Create, On, Read, Restore, Backup, Verify, Turns, Session, Generate}
 use Rattle.tdb_top.specs.declared.ending.Ending.{Ending}
 use Rattle.tdb_top.specs.declared.ending.Ending.TheVariants.{Replied, Refused, Missing, There, Usage, DeviceFault, InputFault, Malformed, NoMemory}
 use Rattle.tdb_top.specs.declared.ending.Unprinted.{Unprinted}
 use Rattle.tdb_top.specs.declared.ending.Unprinted.TheVariants as Rest
 use Rattle.tdb_top.specs.declared.ending.Reply.{Reply}
 use Rattle.tdb_top.specs.declared.ending.Reply.TheVariants as R
+use Rattle.tdb_ask.specs.declared.look.Look.{Look}
 use Rattle.tdb_ask.specs.declared.look.Look.TheVariants.{Dump, Value}
 use Rattle.tdb_ask.specs.Ask.{Ask}
 use Rattle.tdb_top.specs.Ending.{TakesMemory, PrintedFor, text_of}
 use Rattle.tdb_top.specs.Output.{output_by}
-use Rattle.tdb_top.specs.Looks.{StandsBefore, before_reply, rest_of, ending_of, Began}
+use Rattle.tdb_top.specs.Looks.{LookText, StandsBefore, before_reply, rest_of, ending_of, Began}
 use Rattle.tdb_top.specs.Commands.Session.{SessionText}
 use Rattle.tdb_top.specs.Commands.Turns.{TurnsText}
 use Rattle.tdb_world.specs.declared.options.Options.{Options}
 use Rattle.tdb_top.specs.Printed.{TaskText, TextBefore, task_tells, ask_tells, IsSilent, Finishes, Writes}
+use Rattle.tdb_top.proofs.Verifying.{front_wanting}
 
 -- before a line that takes memory stands nothing, so nothing stands before the line that tells of its want
 reply_wanting : (text written : List ℕ) (r : Reply) → TakesMemory (Replied r) → written ≡ before_reply r text → written ≡ []
@@ -32,6 +34,7 @@ reply_wanting text written (R.Escaped value) takes is = is
 reply_wanting text written R.Dumped takes is = absurd (false≢true takes)
 reply_wanting text written R.Restored takes is = is
 reply_wanting text written R.Copied takes is = is
+reply_wanting text written R.Verified takes is = is
 reply_wanting text written R.Played takes is = is
 reply_wanting text written (R.Generated summary) takes is = is
 reply_wanting text written R.Unfinished takes is = is
@@ -77,40 +80,54 @@ session_wanting limit (Some h) written InputFault text = inr text
 session_wanting limit (Some h) written (Malformed at) text = inr text
 session_wanting limit (Some h) written NoMemory text = text
 
-task_wanting : (task : Task) (held : Option History) (written : List ℕ) (t : Ending) → TakesMemory t → TaskText task held t written → TaskText task held NoMemory written
-task_wanting (On act) held written t takes text = text
-task_wanting (Create form) held written t takes text = text
-task_wanting (Restore limit) held written t takes text = text
-task_wanting (Backup more suffix) held written t takes text = text
-task_wanting (Turns options) held written t takes text = turns_wanting options held written t text
-task_wanting (Session limit) held written t takes text = session_wanting limit held written t text
-task_wanting (Generate commands seed) held written t takes text = text
-task_wanting (Read (Value key)) held written t takes text = text
-task_wanting (Read Dump) None written t takes text = text
-task_wanting (Read Dump) (Some h) written t takes text = stands_wanting _ written t takes text
+look_wanting : (look : Look) (held : Option History) (written : List ℕ) (t : Ending) → TakesMemory t → LookText look held t written → LookText look held NoMemory written
+look_wanting (Value key) held written t takes text = text
+look_wanting Dump None written t takes text = text
+look_wanting Dump (Some h) written t takes text = stands_wanting _ written t takes text
+
+task_wanting : (task : Task) (name : List ℕ) (held : List ℕ → Option History) (written : List ℕ) (t : Ending) → TakesMemory t → TaskText task name held t written → TaskText task name held NoMemory written
+task_wanting (On act) name held written t takes text = text
+task_wanting (Create form) name held written t takes text = text
+task_wanting (Restore limit) name held written t takes text = text
+task_wanting (Backup more suffix) name held written t takes text = text
+task_wanting (Verify more suffix) name held written t takes text = front_wanting suffix (name ∷ more) held t written text
+task_wanting (Turns options) name held written t takes text = turns_wanting options (held name) written t text
+task_wanting (Session limit) name held written t takes text = session_wanting limit (held name) written t text
+task_wanting (Generate commands seed) name held written t takes text = text
+task_wanting (Read look) name held written t takes text = look_wanting look (held name) written t takes text
 
 text_wanting : (ask : Option Ask) (held : List ℕ → Option History) (written : List ℕ) (t : Ending) → TakesMemory t → TextBefore ask held t written → TextBefore ask held NoMemory written
 text_wanting None held written t takes text = text
-text_wanting (Some ask) held written t takes text = task_wanting ask.task (held ask.file) written t takes text
+text_wanting (Some ask) held written t takes text = task_wanting ask.task ask.file held written t takes text
 
 -- nothing may stand before the line that tells of want of memory
-task_nothing : (task : Task) (held : Option History) → TaskText task held NoMemory []
-task_nothing (On act) held = refl
-task_nothing (Create form) held = refl
-task_nothing (Restore limit) held = refl
-task_nothing (Backup more suffix) held = refl
-task_nothing (Turns options) None = refl
-task_nothing (Turns options) (Some h) = inl refl
-task_nothing (Session limit) None = refl
-task_nothing (Session limit) (Some h) = inl refl
-task_nothing (Generate commands seed) held = refl
-task_nothing (Read (Value key)) held = refl
-task_nothing (Read Dump) None = refl
-task_nothing (Read Dump) (Some h) = (0, refl)
+look_nothing : (look : Look) (held : Option History) → LookText look held NoMemory []
+look_nothing (Value key) held = refl
+look_nothing Dump None = refl
+look_nothing Dump (Some h) = (0, refl)
+
+turns_nothing : (options : Options) (held : Option History) → TurnsText options held NoMemory []
+turns_nothing options None = refl
+turns_nothing options (Some h) = inl refl
+
+session_nothing : (limit : ℕ) (held : Option History) → SessionText limit held NoMemory []
+session_nothing limit None = refl
+session_nothing limit (Some h) = inl refl
+
+task_nothing : (task : Task) (name : List ℕ) (held : List ℕ → Option History) → TaskText task name held NoMemory []
+task_nothing (On act) name held = refl
+task_nothing (Create form) name held = refl
+task_nothing (Restore limit) name held = refl
+task_nothing (Backup more suffix) name held = refl
+task_nothing (Verify more suffix) name held = inr (inr refl, inl (inl refl))
+task_nothing (Turns options) name held = turns_nothing options (held name)
+task_nothing (Session limit) name held = session_nothing limit (held name)
+task_nothing (Generate commands seed) name held = refl
+task_nothing (Read look) name held = look_nothing look (held name)
 
 pub nothing_before : (ask : Option Ask) (held : List ℕ → Option History) → TextBefore ask held NoMemory []
 nothing_before None held = refl
-nothing_before (Some ask) held = task_nothing ask.task (held ask.file)
+nothing_before (Some ask) held = task_nothing ask.task ask.file held
 
 -- so what was written before the line of the ending that was found stands before the line that is printed
 text_printed : (ask : Option Ask) (held : List ℕ → Option History) (written : List ℕ) (e t : Ending) → PrintedFor e t → TextBefore ask held t written → TextBefore ask held e written
@@ -127,6 +144,7 @@ task_heard (On act) files output told = told
 task_heard (Create form) files output told = told
 task_heard (Restore limit) files output told = told
 task_heard (Backup more suffix) files output told = told
+task_heard (Verify more suffix) files output told = and_left output files told
 task_heard (Turns options) files output told = and_left output files told
 task_heard (Session limit) files output told = and_left output files told
 task_heard (Generate commands seed) files output told = told
@@ -140,7 +158,8 @@ heard (Some ask) files output told = task_heard ask.task files output told
 -- an ending that writes nothing has no text, and that of a dump isn't one
 silent_text : (e : Ending) → IsSilent e → text_of e ≡ []
 silent_text e (inl is) = ap text_of is
-silent_text e (inr is) = ap text_of is
+silent_text e (inr (inl is)) = ap text_of is
+silent_text e (inr (inr is)) = ap text_of is
 
 -- a front of a list is one of a longer list
 front_of_more : (xs ys : List ℕ) (n : ℕ) → (m : ℕ) × (take m (xs ++ ys) ≡ take n xs)
@@ -152,11 +171,17 @@ front_of_more xs ys n = elim (cases_lt n (length xs)) [
 -- what is left to be told is written
 rest_tells : (rest : Unprinted) → IsSilent (rest_of rest) → ⊥
 rest_tells Rest.Pairs (inl is) = cc
-rest_tells Rest.Pairs (inr is) = cc
+rest_tells Rest.Pairs (inr (inl is)) = cc
+rest_tells Rest.Pairs (inr (inr is)) = cc
 rest_tells Rest.Report (inl is) = cc
-rest_tells Rest.Report (inr is) = cc
+rest_tells Rest.Report (inr (inl is)) = cc
+rest_tells Rest.Report (inr (inr is)) = cc
 rest_tells Rest.Fault (inl is) = cc
-rest_tells Rest.Fault (inr is) = cc
+rest_tells Rest.Fault (inr (inl is)) = cc
+rest_tells Rest.Fault (inr (inr is)) = cc
+rest_tells Rest.Files (inl is) = cc
+rest_tells Rest.Files (inr (inl is)) = cc
+rest_tells Rest.Files (inr (inr is)) = cc
 
 module _ (ask : Option Ask) (held : List ℕ → Option History) (files tells : Bool) (before mid after : List ℕ) (start middle last : ℕ) where
   abbrev Text : Ending → List ℕ → Type 0

@@ -9,6 +9,7 @@ pub mod Create
 pub mod Dump
 pub mod Restore
 pub mod Backup
+pub mod Verify
 pub mod Turns
 pub mod Session
 pub mod Generate

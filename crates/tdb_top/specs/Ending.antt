@@ -10,10 +10,10 @@ use Rattle.tdb_dump.specs.Line.{data_line}
 use Rattle.tdb_ask.specs.declared.act.Act.{Act}
 use Rattle.tdb_ask.specs.declared.look.Look.{Look}
 use Rattle.tdb_ask.specs.declared.ask.Task.{Task}
-use Rattle.tdb_ask.specs.declared.ask.Task.TheVariants.{Create, On, Read, Restore, Backup, Turns, Session, Generate}
+use Rattle.tdb_ask.specs.declared.ask.Task.TheVariants.{Create, On, Read, Restore, Backup, Verify, Turns, Session, Generate}
 use Rattle.tdb_top.specs.declared.ending.Ending.{Ending}
 use Rattle.tdb_top.specs.declared.ending.Ending.TheVariants.{Replied, Refused, Missing, There, Usage, DeviceFault, InputFault, Malformed, NoMemory}
-use Rattle.tdb_top.specs.declared.ending.Reply.TheVariants.{Done, Value, Escaped, Dumped, Restored, Copied, KeyMissing, KeyThere, Full, Number, Played, Generated, Unfinished}
+use Rattle.tdb_top.specs.declared.ending.Reply.TheVariants.{Done, Value, Escaped, Dumped, Restored, Copied, Verified, KeyMissing, KeyThere, Full, Number, Played, Generated, Unfinished}
 use Rattle.tdb_top.specs.declared.halt.Halt as H
 use Rattle.tdb_top.specs.declared.halt.Refusal.{Refusal}
 use Rattle.tdb_top.specs.declared.halt.Refusal.TheVariants.{TooLong, Header, Corrupt, NeedsRecovery}
@@ -52,6 +52,7 @@ answer (Replied (Escaped value)) = tells 0 (escaped value)
 answer (Replied Dumped) = exits 0
 answer (Replied Restored) = exits 0
 answer (Replied Copied) = exits 0
+answer (Replied Verified) = exits 0
 answer (Replied Played) = exits 0
 answer (Replied (Generated text)) = shows 0 text
 answer (Replied (Number n)) = tells 0 (codes "number " ++ decimal n)
@@ -108,8 +109,8 @@ pub record RefusesToRead (img : List ℕ) (e : Ending) : Type 0 where
 
 -- How a task on the file of this name ends, by what is held there, where no call failed and memory sufficed. An act and
 -- a look are on a file that is there; a file is made where none is. How a restore ends where no file is depends on its
--- input, as turns and a session do, how a backup ends on all its files (`BackupEnds`), and how generated commands end
--- on how they were done (`GenSo`), so none is due to what is held at one name.
+-- input, as turns and a session do, how a backup and a verification end on all their files (`BackupEnds`, `VerifyEnds`),
+-- and how generated commands end on how they were done (`GenSo`), so none is due to what is held at one name.
 abbrev pub TaskDue : Task → List ℕ → Option History → Ending → Type 0
 TaskDue (On act) name None e = e ≡ Missing name
 TaskDue (On act) name (Some h) e = Replies act (seen h) e ⊎ Refuses (seen h) e
@@ -120,6 +121,7 @@ TaskDue (Create form) name (Some h) e = e ≡ There name
 TaskDue (Restore limit) name None e = ⊥
 TaskDue (Restore limit) name (Some h) e = e ≡ There name
 TaskDue (Backup more suffix) name held e = ⊥
+TaskDue (Verify more suffix) name held e = ⊥
 TaskDue (Turns options) name held e = ⊥
 TaskDue (Session limit) name held e = ⊥
 TaskDue (Generate commands seed) name None e = ⊥
@@ -156,6 +158,7 @@ has_openers (Read look) = false
 has_openers (Create form) = false
 has_openers (Restore limit) = false
 has_openers (Backup more suffix) = false
+has_openers (Verify more suffix) = false
 has_openers (Turns options) = true
 has_openers (Session limit) = true
 has_openers (Generate commands seed) = true
@@ -171,6 +174,7 @@ CountedFor tells (Read look) before after e = CountedBy before after e
 CountedFor tells (Create form) before after e = CountedBy before after e
 CountedFor tells (Restore limit) before after e = CountedBy before after e
 CountedFor tells (Backup more suffix) before after e = CountedBy before after e
+CountedFor tells (Verify more suffix) before after e = CountedBy before after e
 CountedFor tells (Turns options) before after e = CountedIf tells before after e
 CountedFor tells (Session limit) before after e = CountedIf tells before after e
 CountedFor tells (Generate commands seed) before after e = CountedIf tells before after e

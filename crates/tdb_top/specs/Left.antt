@@ -1,9 +1,9 @@
 -- What a task leaves at the name of its file, by its ending.
-use Rattle.std.specs.Prelude.{◌≡◌, ◌⊎◌, ℕ, IsTrue, IsSome, Option, None, Some, List, ◌∷◌}
+use Rattle.std.specs.Prelude.{◌≡◌, ◌⊎◌, ℕ, true, false, IsTrue, IsSome, Option, None, Some, List, ◌∷◌}
 use Rattle.tdb_disk.specs.History.{History, seen}
 use Rattle.tdb_ask.specs.declared.act.Act.{Act}
 use Rattle.tdb_ask.specs.declared.ask.Task.{Task}
-use Rattle.tdb_ask.specs.declared.ask.Task.TheVariants.{Create, On, Read, Restore, Backup, Turns, Session, Generate}
+use Rattle.tdb_ask.specs.declared.ask.Task.TheVariants.{Create, On, Read, Restore, Backup, Verify, Turns, Session, Generate}
 use Rattle.tdb_top.specs.declared.ending.Ending.{Ending}
 use Rattle.tdb_top.specs.declared.ending.Ending.TheVariants.{Replied, Refused, Missing, There, Usage, DeviceFault, InputFault, Malformed, NoMemory}
 use Rattle.tdb_top.specs.declared.ending.Reply.TheVariants.{Done, Restored}
@@ -18,6 +18,7 @@ use Rattle.tdb_top.specs.Commands.Restore.{IsRestored}
 use Rattle.tdb_top.specs.Commands.Session.{StaysThere}
 use Rattle.tdb_top.specs.Commands.Turns.{TurnsLeave}
 use Rattle.tdb_top.specs.Commands.Generate.{GenLeaves}
+use Rattle.tdb_top.specs.Commands.Verify.{VerifyLeaves}
 use Rattle.tdb_top.specs.Ending.{status_of}
 use Rattle.tdb_top.specs.Input.{Input}
 use Rattle.tdb_top.specs.Opening.{opened_bytes, SameOrUndone, UndoneIfOpen}
@@ -62,7 +63,7 @@ pub record RestoreLeaves (input : Input) (old : Option History) (e : Ending) (no
   pub done : status_of e ≡ 0 → HasRestored input old now
   pub there : IsSome old → now ≡ old
 
--- what a task on the file of this name leaves there, and a backup at all its names; a look leaves what is there; of a
+-- what a task on the file of this name leaves there, and a backup or a verification at all its names; a look leaves what is there; of a
 -- session more is said with what it prints (`SessionHeld`)
 abbrev pub TaskLeaves : Input → Task → List ℕ → (List ℕ → Option History) → Ending → (List ℕ → Option History) → Type 0
 TaskLeaves input (On act) file old e now = OnLeaves act (old file) e (now file)
@@ -70,11 +71,13 @@ TaskLeaves input (Read look) file old e now = now file ≡ old file
 TaskLeaves input (Create form) file old e now = MakingLeaves form (old file) e (now file)
 TaskLeaves input (Restore limit) file old e now = RestoreLeaves input (old file) e (now file)
 TaskLeaves input (Backup more suffix) file old e now = BackupLeaves suffix (file ∷ more) old e now
+TaskLeaves input (Verify more suffix) file old e now = VerifyLeaves suffix (file ∷ more) old e now
 TaskLeaves input (Turns options) file old e now = TurnsLeave options (old file) e (now file)
 TaskLeaves input (Session limit) file old e now = StaysThere (old file) (now file)
 TaskLeaves input (Generate commands seed) file old e now = GenLeaves commands seed (old file) e (now file)
 
--- a task on the file of this name may change what is held at that name: there alone, or at all names of a backup
+-- a task on the file of this name may change what is held at that name: there alone, or at all names of a
+-- backup or a verification
 abbrev pub MayChange : Task → List ℕ → List ℕ → Type 0
 MayChange (On act) file name = name ≡ file
 MayChange (Read look) file name = name ≡ file
@@ -83,7 +86,8 @@ MayChange (Restore limit) file name = name ≡ file
 MayChange (Turns options) file name = name ≡ file
 MayChange (Session limit) file name = name ≡ file
 MayChange (Generate commands seed) file name = name ≡ file
-MayChange (Backup more suffix) file name = IsNameAmong suffix (file ∷ more) name
+MayChange (Backup more suffix) file name = IsNameAmong false suffix (file ∷ more) name
+MayChange (Verify more suffix) file name = IsNameAmong true suffix (file ∷ more) name
 
 -- nothing changed at any other name
 abbrev pub SameElse : Task → List ℕ → (List ℕ → Option History) → (List ℕ → Option History) → Type 0

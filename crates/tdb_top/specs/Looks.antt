@@ -54,11 +54,14 @@ abbrev pub look_tells : Look → Bool → Bool → Bool
 look_tells Dump files output = output && files
 look_tells (Value key) files output = output
 
--- what was left to be told where the output failed: that all was printed, or that a call of a disk failed
+-- What was left to be told where the output failed: that all was printed, or that a call of a disk failed. How a
+-- verification of the files would have ended that weren't looked at isn't known, so that it ends as one for which memory
+-- was wanting: that may come at any file, and says nothing of those behind it.
 abbrev pub rest_of : Unprinted → Ending
 rest_of Rest.Pairs = Replied Dumped
 rest_of Rest.Report = Replied Played
 rest_of Rest.Fault = DeviceFault
+rest_of Rest.Files = NoMemory
 
 -- how it ended that wrote to the output
 abbrev pub ending_of : Result Ending Unprinted → Ending

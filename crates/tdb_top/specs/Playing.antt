@@ -53,6 +53,7 @@ abbrev pub IsUnbroken : PlaysEnd → Type 0
 IsUnbroken (Ok (Err F.Device)) = ⊥
 IsUnbroken (Err Rest.Fault) = ⊥
 IsUnbroken (Err Rest.Pairs) = ⊥
+IsUnbroken (Err Rest.Files) = ⊥
 IsUnbroken answer = Unit {0}
 
 -- All plays were taken from a state to another, and their lines written behind what was there; or they came to a state, and
@@ -73,6 +74,7 @@ RunsTo f old plays new told before now (Ok (Err F.Memory)) = TellsFront f old pl
 RunsTo f old plays new told before now (Err Rest.Report) = TellsFront f old plays new told before now
 RunsTo f old plays new told before now (Err Rest.Fault) = (left : State) × TellsFront f old plays left told before now
 RunsTo f old plays new told before now (Err Rest.Pairs) = ⊥
+RunsTo f old plays new told before now (Err Rest.Files) = ⊥
 
 -- A moment of the plays: the world, the bytes and the length of its file, the count of faults of its disk, and what is
 -- written on the output.
@@ -109,6 +111,7 @@ PlayedOver f options a plays b told before now (Ok (Err F.Memory)) = PlayedFront
 PlayedOver f options a plays b told before now (Err Rest.Report) = PlayedFront f options a told before now × CameOver f options a b
 PlayedOver f options a plays b told before now (Err Rest.Fault) = PlayedFront f options a told before now
 PlayedOver f options a plays b told before now (Err Rest.Pairs) = ⊥
+PlayedOver f options a plays b told before now (Err Rest.Files) = ⊥
 
 -- A file was opened for turns with these options, or wasn't.
 abbrev pub OpenedToTurn : Options → History → History → Result Opened Halt → Type 0

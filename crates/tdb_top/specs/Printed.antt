@@ -1,45 +1,48 @@
 -- What a run prints: a text of its command, if that has one, and the line of its ending behind it.
-use Rattle.std.specs.Prelude.{◌≡◌, ◌⊎◌, ℕ, Bool, ◌&&◌, IsTrue, Option, None, Some, List, [], ◌++◌, take, Result, Ok, Err}
+use Rattle.std.specs.Prelude.{◌≡◌, ◌⊎◌, ℕ, Bool, ◌&&◌, IsTrue, Option, None, Some, List, [], ◌∷◌, ◌++◌, take, Result, Ok, Err}
 use Rattle.tdb_disk.specs.Count.{Rose}
 use Rattle.tdb_disk.specs.History.{History}
 use Rattle.tdb_top.specs.declared.ending.Unprinted.{Unprinted}
 use Rattle.tdb_ask.specs.declared.ask.Task.{Task}
-use Rattle.tdb_ask.specs.declared.ask.Task.TheVariants.{Create, On, Read, Restore, Backup, Turns, Session, Generate}
+use Rattle.tdb_ask.specs.declared.ask.Task.TheVariants.{Create, On, Read, Restore, Backup, Verify, Turns, Session, Generate}
 use Rattle.tdb_top.specs.declared.ending.Ending.{Ending}
 use Rattle.tdb_top.specs.declared.ending.Ending.TheVariants.{Replied}
-use Rattle.tdb_top.specs.declared.ending.Reply.TheVariants.{Restored, Copied}
+use Rattle.tdb_top.specs.declared.ending.Reply.TheVariants.{Restored, Copied, Verified}
 use Rattle.tdb_ask.specs.Ask.{Ask}
 use Rattle.tdb_top.specs.Ending.{Prints, status_of, text_of}
 use Rattle.tdb_top.specs.Output.{Output}
 use Rattle.tdb_top.specs.Commands.Session.{SessionText}
 use Rattle.tdb_top.specs.Commands.Turns.{TurnsText}
+use Rattle.tdb_top.specs.Commands.Verify.{VerifyText}
 use Rattle.tdb_top.specs.Looks.{LookText, look_tells, rest_of}
 
--- what a task prints before the line of its ending, by what is held at the name of its file; looks, turns and sessions
--- print such a text
-abbrev pub TaskText : Task → Option History → Ending → List ℕ → Type 0
-TaskText (On act) held e text = text ≡ []
-TaskText (Read look) held e text = LookText look held e text
-TaskText (Create form) held e text = text ≡ []
-TaskText (Restore limit) held e text = text ≡ []
-TaskText (Backup more suffix) held e text = text ≡ []
-TaskText (Turns options) held e text = TurnsText options held e text
-TaskText (Session limit) held e text = SessionText limit held e text
-TaskText (Generate commands seed) held e text = text ≡ []
+-- what a task on the file of this name prints before the line of its ending, by what is held at each name; looks, turns,
+-- sessions and verifications print such a text
+abbrev pub TaskText : Task → List ℕ → (List ℕ → Option History) → Ending → List ℕ → Type 0
+TaskText (On act) name held e text = text ≡ []
+TaskText (Read look) name held e text = LookText look (held name) e text
+TaskText (Create form) name held e text = text ≡ []
+TaskText (Restore limit) name held e text = text ≡ []
+TaskText (Backup more suffix) name held e text = text ≡ []
+TaskText (Verify more suffix) name held e text = VerifyText suffix (name ∷ more) held e text
+TaskText (Turns options) name held e text = TurnsText options (held name) e text
+TaskText (Session limit) name held e text = SessionText limit (held name) e text
+TaskText (Generate commands seed) name held e text = text ≡ []
 
 -- what a run prints before the line of its ending that is asked for this, or for nothing
 abbrev pub TextBefore : Option Ask → (List ℕ → Option History) → Ending → List ℕ → Type 0
 TextBefore None held e text = text ≡ []
-TextBefore (Some ask) held e text = TaskText ask.task (held ask.file) e text
+TextBefore (Some ask) held e text = TaskText ask.task ask.file held e text
 
--- whether it is told what a task prints, by whether the files and the output tell; where a file's pairs, a report of it
--- or replies over it are printed the files have to tell too
+-- whether it is told what a task prints, by whether the files and the output tell; where a file's pairs, a report of it,
+-- replies over it or the number of its keys are printed the files have to tell too
 abbrev pub task_tells : Task → Bool → Bool → Bool
 task_tells (On act) files output = output
 task_tells (Read look) files output = look_tells look files output
 task_tells (Create form) files output = output
 task_tells (Restore limit) files output = output
 task_tells (Backup more suffix) files output = output
+task_tells (Verify more suffix) files output = output && files
 task_tells (Turns options) files output = output && files
 task_tells (Session limit) files output = output && files
 task_tells (Generate commands seed) files output = output
@@ -53,9 +56,9 @@ pub record WritesAll (told : Bool) (o : Output) (Text : Ending → List ℕ → 
   pub exits : status ≡ status_of e
   pub written : IsTrue told → (text : List ℕ) × Text e text × (o.after ≡ o.before ++ text ++ text_of e)
 
--- a restore or a backup that was done, which writes nothing
+-- a restore, a backup or a verification that was done, for which no line is written
 abbrev pub IsSilent : Ending → Type 0
-IsSilent e = (e ≡ Replied Restored) ⊎ (e ≡ Replied Copied)
+IsSilent e = (e ≡ Replied Restored) ⊎ (e ≡ Replied Copied) ⊎ (e ≡ Replied Verified)
 
 -- the output failed: it took a part of them, from the first byte on; there was something to be written
 pub record WritesPart (told : Bool) (o : Output) (Text : Ending → List ℕ → Type 0) (e : Ending) (status : ℕ) : Type 0 where

@@ -2,7 +2,7 @@
 use Rattle.std.specs.Prelude.{◌≡◌, ◌⊎◌, ℕ, Bool, true, false, Option, None, Some, List, ◌∷◌}
 use Rattle.tdb_disk.specs.History.{History}
 use Rattle.tdb_ask.specs.declared.ask.Task.{Task}
-use Rattle.tdb_ask.specs.declared.ask.Task.TheVariants.{Create, On, Read, Restore, Backup, Turns, Session, Generate}
+use Rattle.tdb_ask.specs.declared.ask.Task.TheVariants.{Create, On, Read, Restore, Backup, Verify, Turns, Session, Generate}
 use Rattle.tdb_top.specs.declared.ending.Ending.{Ending}
 use Rattle.tdb_ask.specs.Ask.{Ask}
 use Rattle.tdb_top.specs.Commands.Backup.{BackupEnds}
@@ -10,6 +10,7 @@ use Rattle.tdb_top.specs.Commands.Restore.{ReadSo}
 use Rattle.tdb_top.specs.Commands.Session.{ServesSo}
 use Rattle.tdb_top.specs.Commands.Turns.{PlaysSo}
 use Rattle.tdb_top.specs.Commands.Generate.{GenSo}
+use Rattle.tdb_top.specs.Commands.Verify.{VerifyEnds}
 use Rattle.tdb_world.specs.declared.options.Options.{Options}
 use Rattle.tdb_top.specs.Ending.{TaskCause}
 use Rattle.tdb_top.specs.Input.{Input}
@@ -21,6 +22,7 @@ reads_input (Read look) = false
 reads_input (Create form) = false
 reads_input (Restore limit) = true
 reads_input (Backup more suffix) = false
+reads_input (Verify more suffix) = false
 reads_input (Turns options) = true
 reads_input (Session limit) = true
 reads_input (Generate commands seed) = false
@@ -60,6 +62,14 @@ pub record EndsByFiles (task : Task) (name : List ℕ) (held : List ℕ → Opti
   pub backs_up : task ≡ Backup more suffix
   pub ends : BackupEnds (name ∷ more) held e
 
+-- the task is a verification, and ends so by what is held at the names of its files and of their copies
+pub record EndsByCounts (task : Task) (name : List ℕ) (held : List ℕ → Option History) (e : Ending) : Type 0 where
+  pub more : List (List ℕ)
+  pub suffix : List ℕ
+  pub text : List ℕ
+  pub verifies : task ≡ Verify more suffix
+  pub ends : VerifyEnds suffix (name ∷ more) held e text
+
 -- why generated commands end so, by what is held at the name of their file
 abbrev pub GenCause : ℕ → ℕ → List ℕ → Option History → ℕ → ℕ → Ending → Type 0
 GenCause commands seed name held before after e = TaskCause (Generate commands seed) name held before after e ⊎ ((held ≡ None) × GenSo commands seed e)
@@ -74,4 +84,4 @@ pub record EndsByCommands (task : Task) (held : Option History) (e : Ending) : T
 
 -- why a task on the file of a name ends so, by what is held at all names
 abbrev pub AskEnds : Input → Task → List ℕ → (List ℕ → Option History) → ℕ → ℕ → Ending → Type 0
-AskEnds input task name held before after e = AskCause input task name (held name) before after e ⊎ EndsByFiles task name held e ⊎ EndsByCommands task (held name) e
+AskEnds input task name held before after e = AskCause input task name (held name) before after e ⊎ EndsByFiles task name held e ⊎ EndsByCounts task name held e ⊎ EndsByCommands task (held name) e

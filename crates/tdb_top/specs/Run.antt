@@ -8,7 +8,7 @@ use Rattle.tdb_space.specs.Opening.{Opens}
 use Rattle.tdb_ask.specs.declared.act.Act.{Act}
 use Rattle.tdb_ask.specs.declared.look.Look.{Look}
 use Rattle.tdb_ask.specs.declared.ask.Task.{Task}
-use Rattle.tdb_ask.specs.declared.ask.Task.TheVariants.{Create, On, Read, Restore, Backup, Turns, Session, Generate}
+use Rattle.tdb_ask.specs.declared.ask.Task.TheVariants.{Create, On, Read, Restore, Backup, Verify, Turns, Session, Generate}
 use Rattle.tdb_ask.specs.declared.lines.create.NewForm.{NewForm}
 use Rattle.tdb_top.specs.declared.commands.create.Creation.TheVariants.{Made, Device}
 use Rattle.tdb_top.specs.declared.ending.Ending.{Ending}
@@ -19,7 +19,7 @@ use Rattle.tdb_top.specs.Acts.{reply_of, Left, Interrupted}
 use Rattle.tdb_top.specs.Ending.{Due, status_of, asks_openers}
 use Rattle.tdb_top.specs.Output.{Output}
 use Rattle.tdb_top.specs.Printed.{TextBefore, ask_tells, Writes}
-use Rattle.tdb_ask.specs.CopyNames.{IsForCopyAmong}
+use Rattle.tdb_ask.specs.CopyNames.{IsForCopyAmong, IsForRestoreAmong}
 use Rattle.tdb_top.specs.Commands.Backup.{CopiedAll, StoppedAt, BackupEnds}
 use Rattle.tdb_top.specs.Commands.Create.{CreateLeaves}
 use Rattle.tdb_top.specs.Commands.Restore.{ReadSo}
@@ -27,6 +27,7 @@ use Rattle.tdb_top.specs.Commands.Session.{ServesSo, session_options, IsServed, 
 use Rattle.tdb_top.specs.Commands.Turns.{PlaysSo, TurnOpened, IsPlayed, IsPlayedSoFar}
 use Rattle.tdb_tool.specs.declared.fault.SessionEnd.TheVariants as End
 use Rattle.tdb_top.specs.Commands.Generate.{GenSo, HasMade}
+use Rattle.tdb_top.specs.Commands.Verify.{VerifyEnds, VerifiedAll, LeftAt}
 use Rattle.tdb_gen.specs.declared.summary.Summary.{Summary}
 use Rattle.tdb_gen.specs.Summary.{summary_text}
 use Rattle.tdb_world.specs.declared.options.Options.{Options}
@@ -60,13 +61,14 @@ run_by words old now before after input output status = record {
 }
 
 -- Why a run ends so that is asked for this, or for nothing: it is due; or a restore was asked for, no file was at its
--- name, and its input says so; or a backup was, and its files say so; or turns were, and their script and their file
--- say so; or a session was, and its lines and its file say so; or generated commands were, no file was at the name, and
+-- name, and its input says so; or a backup or a verification was, and its files say so; or turns were, and their script
+-- and their file say so; or a session was, and its lines and its file say so; or generated commands were, no file was at the name, and
 -- it is how they were done; or it is asked for something and a call failed; or memory was wanting.
 pub data MayEnd (ask : Option Ask) (held : List ℕ → Option History) (input : Input) (before after : ℕ) : Ending → Type 0 where
   is_due : (e : Ending) → Due ask held e → MayEnd ask held input before after e
   is_read : (e : Ending) (limit : ℕ) (name : List ℕ) → ask ≡ Some (record { file = name; task = Restore limit }) → held name ≡ None → ReadSo input limit e → MayEnd ask held input before after e
   is_copied : (e : Ending) (more : List (List ℕ)) (suffix name : List ℕ) → ask ≡ Some (record { file = name; task = Backup more suffix }) → BackupEnds (name ∷ more) held e → MayEnd ask held input before after e
+  is_verified : (e : Ending) (more : List (List ℕ)) (suffix name text : List ℕ) → ask ≡ Some (record { file = name; task = Verify more suffix }) → VerifyEnds suffix (name ∷ more) held e text → MayEnd ask held input before after e
   is_played : (e : Ending) (options : Options) (name : List ℕ) → ask ≡ Some (record { file = name; task = Turns options }) → PlaysSo input options name (held name) e → MayEnd ask held input before after e
   is_served : (e : Ending) (limit : ℕ) (name : List ℕ) → ask ≡ Some (record { file = name; task = Session limit }) → ServesSo input limit name (held name) e → MayEnd ask held input before after e
   is_generated : (e : Ending) (commands seed : ℕ) (name : List ℕ) → ask ≡ Some (record { file = name; task = Generate commands seed }) → held name ≡ None → GenSo commands seed e → MayEnd ask held input before after e
@@ -107,8 +109,8 @@ pub record RefusesExactly (run : Run) : Type 0 where
   pub read_only : (look : Look) (name : List ℕ) (h : History) → LooksInto run look name h → run.status ≡ 3 → OpensToRead (seen h) → ⊥
   pub read_exact : (look : Look) (name : List ℕ) (h : History) → LooksInto run look name h → (OpensToRead (seen h) → ⊥) → length (seen h) ≤ LONGEST_FILE → (run.status ≡ 3) ⊎ TellsFault run.status
 
--- a status after which every file is as before or undone, whatever the words ask for, but for copies, and for turns and
--- sessions that ended in their midst (`EndsMidway`): it says neither that it was done, nor that a call of the files or
+-- a status after which every file is as before or undone, whatever the words ask for, but for copies and restored files,
+-- and for turns and sessions that ended in their midst (`EndsMidway`): it says neither that it was done, nor that a call of the files or
 -- of the output failed
 abbrev pub KeepsAll : ℕ → Type 0
 KeepsAll status = (status ≢ 0) × (status ≢ 4) × (status ≢ 8)
@@ -151,6 +153,12 @@ pub record BackupRun (suffix : List ℕ) (files : List (List ℕ)) (old : List �
   pub done : status ≡ 0 → CopiedAll suffix files old now
   pub stopped : status ≢ 0 → StoppedAt (((status ≡ 4) ⊎ (status ≡ 8)) × Rose before after) suffix files old now
 
+-- What a run leaves at the names of a verification of these files, in the same way: where the status isn't 0 the first ones
+-- may be verified.
+pub record VerifyRun (suffix : List ℕ) (files : List (List ℕ)) (old : List ℕ → Option History) (before after status : ℕ) (now : List ℕ → Option History) : Type 0 where
+  pub done : status ≡ 0 → VerifiedAll suffix files old now
+  pub stopped : status ≢ 0 → LeftAt (((status ≡ 4) ⊎ (status ≡ 8)) × Rose before after) suffix files old now
+
 -- What a run leaves of the file of turns, which held this. Want of memory, status 5, may come before the file was opened or
 -- in the midst of the plays.
 pub record TurnsRun (options : Options) (input : Input) (output : Output) (old : History) (before after status : ℕ) (now : History) : Type 0 where
@@ -180,9 +188,11 @@ pub record GeneratingRun (commands seed : ℕ) (output : Output) (old : Option H
   pub failed : status ≡ 4 → Rose before after
   pub kept : status ≢ 0 → status ≢ 4 → (now ≡ old) ⊎ ((status ≡ 8) × (Rose before after ⊎ ((s : Summary) × HasMade commands seed s old now)))
 
--- a name is one for a copy, where a backup is asked for
+-- a name is one for a copy, where a backup is asked for, or one at which a file is restored, where a verification is
 abbrev pub IsCopyName : Option Ask → List ℕ → Type 0
-IsCopyName ask name = (more : List (List ℕ)) × (suffix : List ℕ) × (file : List ℕ) × (ask ≡ Some (record { file = file; task = Backup more suffix })) × IsForCopyAmong suffix (file ∷ more) name
+IsCopyName ask name = (more : List (List ℕ)) × (suffix : List ℕ) × (file : List ℕ)
+    × (((ask ≡ Some (record { file = file; task = Backup more suffix })) × IsForCopyAmong suffix (file ∷ more) name)
+    ⊎ ((ask ≡ Some (record { file = file; task = Verify more suffix })) × IsForRestoreAmong (file ∷ more) name))
 
 -- What a run leaves of the files: at most those that it is asked for change, as the status says.
 pub record LeavesFiles (run : Run) : Type 0 where
@@ -196,6 +206,8 @@ pub record LeavesFiles (run : Run) : Type 0 where
       → RestoringRun run.input (run.old name) run.faults_before run.faults_after run.status (run.now name)
   pub backed_up : (more : List (List ℕ)) (suffix name : List ℕ) → run.ask ≡ Some (record { file = name; task = Backup more suffix })
       → BackupRun suffix (name ∷ more) run.old run.faults_before run.faults_after run.status run.now
+  pub verified : (more : List (List ℕ)) (suffix name : List ℕ) → run.ask ≡ Some (record { file = name; task = Verify more suffix })
+      → VerifyRun suffix (name ∷ more) run.old run.faults_before run.faults_after run.status run.now
   pub read : (look : Look) (name : List ℕ) → run.ask ≡ Some (record { file = name; task = Read look }) → run.now name ≡ run.old name
   pub turned : (options : Options) (name : List ℕ) (old : History) → run.ask ≡ Some (record { file = name; task = Turns options }) → run.old name ≡ Some old
       → (h : History) × (run.now name ≡ Some h) × TurnsRun options run.input run.output old run.faults_before run.faults_after run.status h

@@ -25,6 +25,7 @@ use crate::commands::generate::generate_file;
 use crate::commands::restore::restore_file;
 use crate::commands::session::session_on_file;
 use crate::commands::turns::turns_on_file;
+use crate::commands::verify::verify;
 use crate::ending::{Ending, Unprinted};
 use crate::look::look_on_file;
 use std::alloc::Global;
@@ -47,7 +48,7 @@ pub(crate) fn answer_ask<F: Files, S: Source, K: Sink>(
     ensures others { SameElse ask.now.task (string_bytes ask.now.file) (F.held files.old) (F.held files.new) }
     ensures given_back { (name : List ℕ) → F.is_taken files.new name ≡ false }
     ensures counted { CountedFor F.D.tells ask.now.task (F.faults files.old) (F.faults files.new) (ending_of result) }
-    ensures began { IsTrue (task_tells ask.now.task F.D.tells K.tells) → Began (TaskText ask.now.task (F.held files.old (string_bytes ask.now.file))) (K.written output.old) (K.written output.new) result }
+    ensures began { IsTrue (task_tells ask.now.task F.D.tells K.tells) → Began (TaskText ask.now.task (string_bytes ask.now.file) (F.held files.old)) (K.written output.old) (K.written output.new) result }
     ensures output_cause { HasCause (K.faults output.old) (K.faults output.new) result }
     ensures asked { ending_of result ≡ Usage → ⊥ }
     ensures played { (options : WorldOptions) → ask.now.task ≡ TurnsIs options → IsTrue F.D.tells → result ≡ Ok (Replied Played)
@@ -69,6 +70,14 @@ pub(crate) fn answer_ask<F: Files, S: Source, K: Sink>(
         Task::Backup { more, suffix } => {
             Ok(back_up(alloc, name, more.as_slice(), suffix.as_str(), files))
         }
+        Task::Verify { more, suffix } => verify(
+            alloc,
+            name,
+            more.as_slice(),
+            suffix.as_str(),
+            files,
+            output,
+        ),
         Task::Turns(options) => turns_on_file(alloc, name, options, files, input, output),
         Task::Session { limit } => session_on_file(alloc, name, *limit, files, input, output),
         Task::Generate { commands, seed } => {

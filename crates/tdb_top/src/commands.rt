@@ -13,3 +13,4 @@ pub(crate) mod session;
 pub(crate) mod show;
 pub(crate) mod store;
 pub(crate) mod turns;
+pub(crate) mod verify;

@@ -5,6 +5,7 @@ ghost use Rattle.tdb_top.specs.declared.ending.Ending.TheVariants.{Replied, Refu
 ghost use Rattle.tdb_top.specs.declared.ending.Reply.TheVariants.{Copied};
 ghost use Rattle.tdb_top.specs.declared.ending.Ending.{Ending as EndingIs};
 ghost use Rattle.tdb_words.specs.What.{what_text};
+ghost use Rattle.tdb_top.specs.Commands.Verify.{tells_fault};
 ghost use Rattle.tdb_top.specs.Ending.{status_of, text_of, TakesMemory, PrintedFor, Prints, of_halt, Untaken, MadeSo};
 ghost use Rattle.tdb_top.specs.Output.{output_by};
 
@@ -41,6 +42,9 @@ pub(crate) enum Reply {
 
     /// All files were copied. No line tells it.
     Copied,
+
+    /// All files were verified, and it was told how many keys they have. No line tells more.
+    Verified,
 
     /// All plays of a script were taken, and their report was printed; or all commands of a session, and their replies.
     /// No line tells it.
@@ -109,6 +113,10 @@ pub(crate) enum Unprinted {
     /// That a call of a disk failed, behind a report.
     #[error("a fault isn't told")]
     Fault,
+
+    /// How many keys the files have that are still to be verified: that isn't known yet.
+    #[error("files aren't verified")]
+    Files,
 }
 
 impl From<Halt> for Ending {
@@ -219,6 +227,18 @@ impl Ending {
         }
     }
 
+    /// Whether a file is refused for a fault, and not because it is too long.
+    pub(crate) fn tells_fault(&self) -> bool
+        ensures { result ≡ tells_fault self.now }
+    {
+        match self {
+            Ending::Refused(Refusal::Header { fault: _ } | Refusal::Corrupt { what: _, at: _ }) => {
+                true
+            }
+            _ => false,
+        }
+    }
+
     /// The status that tells it.
     pub(crate) fn status(&self) -> Status
         ensures { result.0 ≡ status_of self.now }
@@ -226,7 +246,8 @@ impl Ending {
         Status(match self {
             Ending::Replied(Reply::Done | Reply::Value(_) | Reply::Escaped(_)) => 0,
             Ending::Replied(Reply::Dumped | Reply::Restored) => 0,
-            Ending::Replied(Reply::Copied | Reply::Played | Reply::Generated(_)) => 0,
+            Ending::Replied(Reply::Copied | Reply::Verified | Reply::Played) => 0,
+            Ending::Replied(Reply::Generated(_)) => 0,
             Ending::Replied(Reply::Number(_)) => 0,
             Ending::Replied(Reply::KeyMissing | Reply::KeyThere | Reply::Unfinished) => 1,
             Ending::Usage => 2,
@@ -253,7 +274,7 @@ impl Ending {
         match self {
             Ending::Replied(Reply::Done) => Some(b"ok\n"),
             Ending::Replied(Reply::Dumped | Reply::Restored) => Some(b""),
-            Ending::Replied(Reply::Copied | Reply::Played) => Some(b""),
+            Ending::Replied(Reply::Copied | Reply::Verified | Reply::Played) => Some(b""),
             Ending::Replied(Reply::KeyMissing) => Some(b"noexist\n"),
             Ending::Replied(Reply::KeyThere) => Some(b"exists\n"),
             Ending::Replied(Reply::Generated(text)) => Some(text.as_slice()),

@@ -77,6 +77,7 @@ fn finish<K: Sink>(alloc: Global, answered: &Result<Ending, Unprinted>, output: 
 /// | 0 | the value of the key is shown, the key is added, the file is made, or it is accepted and has `N` keys | `data(N) = "TEXT"`, `ok`, `ok`, `number N` |
 /// | 0 | all pairs are printed, or the value of the one key | their dump text, `TEXT` |
 /// | 0 | the file is made of the pairs on the input, or all files are copied | |
+/// | 0 | all files are verified: each was opened, or had a fault and was restored from its copy | `FILE : N records`, behind `restoring FILE` where it was restored |
 /// | 0 | the plays of the script on the input were taken | their report, line by line |
 /// | 0 | the commands on the lines of the input were taken | their replies, one on each line |
 /// | 0 | the file is made, and all generated commands were done on it | their summary, a line for each number |
@@ -115,6 +116,10 @@ fn finish<K: Sink>(alloc: Global, answered: &Result<Ending, Unprinted>, output: 
 /// in the file. The first file that isn't copied ends it. The names of all files and of their copies are kept in memory
 /// before, to tell whether they differ: that takes time by the logarithm of their number for each.
 ///
+/// With `-v` each file in turn is opened and given back, and the number of its keys is printed, which the check that opened
+/// it counted. One that is refused for a fault is made anew at FILE and `.tmp`, as a copy of the file at FILE and SUFFIX,
+/// and that is renamed to FILE. The first file that isn't opened or restored ends it.
+///
 /// The command `gen N SEED FILE` makes a file as `create` does, has N generated commands of three openers done on it,
 /// checks the whole file, and syncs. Its time is that of the commands and of the check. Where not all are done the file
 /// is removed again.
@@ -134,8 +139,8 @@ pub fn run<F: Files, S: Source, K: Sink>(
     // A file is refused exactly where its bytes can't be opened.
     ensures refused { IsTrue F.D.tells → RefusesExactly (run_by words.now (F.held files.old) (F.held files.new) (F.faults files.old) (F.faults files.new) (input_by S.tells (S.left input.old) (S.faults input.old) (S.faults input.new)) (output_by K.tells (K.written output.old) (K.written output.new) (K.faults output.old) (K.faults output.new)) result.0) }
 
-    // At most the file that is asked for changes, and what stands at the names of a backup, and they are left as the
-    // status says.
+    // At most the file that is asked for changes, and what stands at the names of a backup or a verification, and they are
+    // left as the status says.
     ensures left { IsTrue F.D.tells → LeavesFiles (run_by words.now (F.held files.old) (F.held files.new) (F.faults files.old) (F.faults files.new) (input_by S.tells (S.left input.old) (S.faults input.old) (S.faults input.new)) (output_by K.tells (K.written output.old) (K.written output.new) (K.faults output.old) (K.faults output.new)) result.0) }
 
     // Whatever the files and the output tell: the usage comes exactly where the words ask for nothing, and each failed

@@ -1,8 +1,9 @@
-// The words of a backup: its options, and the names of its files.
+// The words of a backup or of a verification: the options, and the names of the files.
 
 ghost use Rattle.std.specs.Prelude.{◌≡◌, ◌∷◌, ◌++◌, ℕ, List, not, true, map, string_bytes, IfOk, IfSome, OnOk, MatchBool, Some, None};
 ghost use Rattle.std.specs.Option.{option_map};
 ghost use Rattle.tdb_ask.specs.Ask.{TaskFits};
+ghost use Rattle.tdb_ask.specs.CopyNames.{copy_name, made_name as made_at};
 ghost use Rattle.tdb_ask.specs.Lines.Backup as L;
 ghost use Rattle.tdb_ask.specs.declared.lines.backup.Next.TheVariants.{Any as AnyIs};
 
@@ -30,6 +31,9 @@ pub(crate) enum Next {
 #[derive(Debug, Drop)]
 pub(crate) struct Line {
     pub(crate) next: Next,
+
+    /// Whether `-v` was told.
+    pub(crate) verify: bool,
 
     /// What is written behind `-s`.
     pub(crate) suffix: Option<Text>,
@@ -61,6 +65,7 @@ impl Line {
     {
         Line {
             next: Next::Any,
+            verify: false,
             suffix: None,
             file: None,
             more: Names::new(alloc),
@@ -95,6 +100,17 @@ impl Line {
         Ok(true)
     }
 
+    /// Takes the word that asks for a verification, if that wasn't told.
+    fn add_verify(&mut self) -> bool
+        ensures { MatchBool result (L.with_verify self.old ≡ Some self.new) (L.with_verify self.old ≡ None) }
+    {
+        if self.verify {
+            return false;
+        }
+        self.verify = true;
+        true
+    }
+
     /// Takes a word where an option may stand, if it is one or names a file.
     fn add_any(&mut self, alloc: Global, word: &str) -> Result<bool, AllocError>
         ensures { IfOk result (λ read. MatchBool read (L.with_word AnyIs self.old word.now ≡ Some self.new) (L.with_word AnyIs self.old word.now ≡ None)) }
@@ -106,6 +122,9 @@ impl Line {
         if word == "-s" {
             self.next = Next::Suffix;
             return Ok(true);
+        }
+        if word == "-v" {
+            return Ok(self.add_verify());
         }
         if let Some(suffix) = behind("-s=", word) {
             return self.add_suffix(alloc, suffix);
@@ -141,13 +160,14 @@ impl Line {
         Ok(Some(line))
     }
 
-    /// What the words ask for: the first file, and to copy it and the others.
+    /// What the words ask for: the first file, and to copy or to verify it and the others.
     fn asks(self, alloc: Global) -> Result<Option<(Text, Task)>, AllocError>
         ensures read { IfOk result (λ asked. asked ≡ L.asks_with self.next self) }
         ensures fits { IfOk result (λ asked. IfSome asked (λ a. TaskFits a.0 a.1)) }
     {
         let Line {
             next,
+            verify,
             suffix,
             file,
             more,
@@ -162,15 +182,24 @@ impl Line {
             Some(suffix) => suffix,
             None => Text::copy(alloc, ".bak")?,
         };
-        let names = all_names(alloc, file.as_str(), more.as_slice(), suffix.as_str())?;
+        let names = all_names(
+            alloc,
+            file.as_str(),
+            more.as_slice(),
+            suffix.as_str(),
+            verify,
+        )?;
         if !all_differ(alloc, names.as_slice())? {
             return Ok(None);
+        }
+        if verify {
+            return Ok(Some((file, Task::Verify { more, suffix })));
         }
         Ok(Some((file, Task::Backup { more, suffix })))
     }
 }
 
-/// What the words behind the command's name ask for: the first file, and to copy it and the others.
+/// What the words behind the command's name ask for: the first file, and to copy or to verify it and the others.
 pub(crate) fn read(alloc: Global, words: &[String]) -> Result<Option<(Text, Task)>, AllocError>
     ensures read { IfOk result (λ asked. asked ≡ L.asks_of_words (map string_bytes words.now)) }
     ensures fits { IfOk result (λ asked. IfSome asked (λ a. TaskFits a.0 a.1)) }
@@ -204,26 +233,49 @@ fn all_differ(alloc: Global, names: &[Text]) -> Result<bool, AllocError>
     Ok(true)
 }
 
-/// Adds the names that a file and its copy have.
-fn push_names(alloc: Global, names: &mut Names, file: &str, suffix: &str) -> Result<(), AllocError>
-    ensures { OnOk result (names.new ≡ names.old ++ L.names_of suffix.now file.now) }
+/// The name at which a file is made: beside that of its copy, or where it is verified beside its own.
+fn made_name(alloc: Global, file: &str, copy: &str, verify: bool) -> Result<Text, AllocError>
+    ensures { IfOk result (λ name. (suffix : List ℕ) → copy.now ≡ copy_name suffix file.now → name ≡ made_at verify suffix file.now) }
+{
+    if verify {
+        Text::joined(alloc, file, ".tmp")
+    } else {
+        Text::joined(alloc, copy, ".tmp")
+    }
+}
+
+/// Adds the names that a file and its copy have, and the one at which a file is made.
+fn push_names(
+    alloc: Global,
+    names: &mut Names,
+    file: &str,
+    suffix: &str,
+    verify: bool,
+) -> Result<(), AllocError>
+    ensures { OnOk result (names.new ≡ names.old ++ L.names_of verify suffix.now file.now) }
 {
     let own = Text::copy(alloc, file)?;
     let copy = Text::joined(alloc, file, suffix)?;
-    let temporary = Text::joined(alloc, copy.as_str(), ".tmp")?;
+    let made = made_name(alloc, file, copy.as_str(), verify)?;
     names.push(own)?;
     names.push(copy)?;
-    names.push(temporary)
+    names.push(made)
 }
 
-/// The names that these files and their copies have.
-fn all_names(alloc: Global, file: &str, more: &[Text], suffix: &str) -> Result<Names, AllocError>
-    ensures { IfOk result (λ names. names ≡ L.all_names suffix.now (file.now ∷ more.now)) }
+/// The names that these files and their copies have, and those at which files are made.
+fn all_names(
+    alloc: Global,
+    file: &str,
+    more: &[Text],
+    suffix: &str,
+    verify: bool,
+) -> Result<Names, AllocError>
+    ensures { IfOk result (λ names. names ≡ L.all_names verify suffix.now (file.now ∷ more.now)) }
 {
     let mut names = Names::new(alloc);
-    push_names(alloc, &mut names, file, suffix)?;
+    push_names(alloc, &mut names, file, suffix, verify)?;
     for name in more {
-        push_names(alloc, &mut names, name.as_str(), suffix)?;
+        push_names(alloc, &mut names, name.as_str(), suffix, verify)?;
     }
     Ok(names)
 }

@@ -1,5 +1,5 @@
 -- The command that copies files, each to a name beside its own: what it leaves at the names, and why it ends.
-use Rattle.std.specs.Prelude.{◌≡◌, ◌≢◌, ◌⊎◌, ◌≤◌, ℕ, Bool, IsTrue, Option, None, Some, List, [], ◌∷◌}
+use Rattle.std.specs.Prelude.{◌≡◌, ◌≢◌, ◌⊎◌, ◌≤◌, ℕ, Bool, true, false, IsTrue, Option, None, Some, List, [], ◌∷◌, Result, Ok, Err}
 use Rattle.tdb_disk.specs.Count.{Rose}
 use Rattle.tdb_disk.specs.History.{History, seen}
 use Rattle.tdb_disk.specs.Stop.{Quiet}
@@ -15,6 +15,7 @@ use Rattle.tdb_top.specs.declared.ending.Reply.{Reply}
 use Rattle.tdb_top.specs.declared.halt.Refusal.{Refusal}
 use Rattle.tdb_ask.specs.declared.limits.TheConstants.{LONGEST_FILE}
 use Rattle.tdb_ask.specs.CopyNames.{copy_name, new_name, IsNameAmong}
+use Rattle.tdb_top.specs.Commands.Check.{keys_in}
 use Rattle.tdb_top.specs.Opening.{opened_bytes, CanOpen, IsRefused, SameOrUndone, UndoneIfOpen, LookBroken, HeldOrUndone, HeldBroken}
 
 -- A file is a copy of an image: it is accepted, has the same form and the same map, and all of it is on the medium.
@@ -66,15 +67,15 @@ pub record Stopped (broken : Type 0) (file at_copy at_new : List ℕ) (old now :
   pub left : IsLeftOf (old at_new) (now at_new) ⊎ broken
 
 -- nothing changed at the names of these files
-abbrev pub AllStay : List ℕ → List (List ℕ) → (List ℕ → Option History) → (List ℕ → Option History) → Type 0
-AllStay suffix files old now = (name : List ℕ) → IsNameAmong suffix files name → now name ≡ old name
+abbrev pub AllStay : Bool → List ℕ → List (List ℕ) → (List ℕ → Option History) → (List ℕ → Option History) → Type 0
+AllStay verify suffix files old now = (name : List ℕ) → IsNameAmong verify suffix files name → now name ≡ old name
 
 -- the first of these files were copied, the next one wasn't, and the others weren't looked at
 abbrev pub StoppedAt : Type 0 → List ℕ → List (List ℕ) → (List ℕ → Option History) → (List ℕ → Option History) → Type 0
 StoppedAt broken suffix [] old now = ⊥
 StoppedAt broken suffix (file ∷ files) old now =
     (Copied file (copy_name suffix file) (new_name suffix file) old now × StoppedAt broken suffix files old now)
-    ⊎ (Stopped broken file (copy_name suffix file) (new_name suffix file) old now × AllStay suffix files old now)
+    ⊎ (Stopped broken file (copy_name suffix file) (new_name suffix file) old now × AllStay false suffix files old now)
 
 -- a file is there, and is opened
 pub record WasOpened (held : Option History) : Type 0 where
@@ -151,6 +152,17 @@ IsUntaken file held e = ((held ≡ None) × (e ≡ Missing file)) ⊎ (e ≡ Dev
 pub data FileCopied (file : List ℕ) (old now made_old made_now : Option History) (e : Ending) : Type 0 where
   file_untaken : now ≡ old → made_now ≡ made_old → IsUntaken file old e → FileCopied file old now made_old made_now e
   file_taken : (was is : History) → old ≡ Some was → now ≡ Some is → DiskCopied was is made_old made_now e → FileCopied file old now made_old made_now e
+
+-- the ending of a copy of a file with so many keys
+abbrev pub copy_ending : Result ℕ Ending → Ending
+copy_ending (Ok keys) = Replied Reply.Copied
+copy_ending (Err e) = e
+
+-- what is read as the file at a name has so many keys
+pub record HasKeys (held : Option History) (keys : ℕ) : Type 0 where
+  pub was : History
+  pub there : held ≡ Some was
+  pub number : keys ≡ keys_in (opened_bytes (seen was))
 
 -- one file was backed up, or wasn't: why, and what is left at its names
 pub record BackedUpOne (file at_copy at_new : List ℕ) (old now : List ℕ → Option History) (before after : ℕ) (e : Ending) : Type 0 where

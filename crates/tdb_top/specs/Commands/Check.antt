@@ -5,6 +5,10 @@ use Rattle.tdb_space.specs.Pairs.{order_of}
 use Rattle.tdb_top.specs.declared.ending.Reply.{Reply}
 use Rattle.tdb_top.specs.declared.ending.Reply.TheVariants.{Number}
 
+-- how many keys a file with these bytes has
+abbrev pub keys_in : List ℕ → ℕ
+keys_in img = length (order_of (form_of img) img)
+
 -- what is replied over a file that is read as these bytes, which was checked as it was opened
 abbrev pub check_reply : List ℕ → Reply
-check_reply img = Number (length (order_of (form_of img) img))
+check_reply img = Number (keys_in img)

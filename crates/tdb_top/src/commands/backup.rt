@@ -8,11 +8,14 @@ ghost use Rattle.tdb_space.specs.Form.{form_of};
 ghost use Rattle.tdb_space.specs.Pairs.{order_of};
 ghost use Rattle.tdb_backup.specs.Building.{HoldsPairs};
 ghost use Rattle.tdb_backup.specs.declared.refusal.CopyRefusal.TheVariants.{Read as ReadFails, Write as WriteFails};
+ghost use Rattle.tdb_top.specs.declared.ending.Ending.TheVariants.{Replied};
+ghost use Rattle.tdb_top.specs.declared.ending.Reply.TheVariants.{Copied};
 ghost use Rattle.tdb_ask.specs.CopyNames.{copy_name, new_name, IsNameOf, IsNameAmong, BackupFits};
-ghost use Rattle.tdb_top.specs.Commands.Backup.{IsCopyOf, IsNotCopied, of_copy, IsLeftOf, IsUntakenNew, CopyMade, DiskCopied, FileCopied, BackedUpOne, BackedUp, EndsBackup, CountedBoth};
+ghost use Rattle.tdb_top.specs.Commands.Backup.{copy_ending, HasKeys, IsCopyOf, IsNotCopied, of_copy, IsLeftOf, IsUntakenNew, CopyMade, DiskCopied, FileCopied, BackedUpOne, BackedUp, EndsBackup, CountedBoth};
+ghost use Rattle.tdb_top.specs.Commands.Check.{keys_in};
 ghost use Rattle.tdb_top.specs.Commands.Create.{IsNewFile};
 ghost use Rattle.tdb_top.specs.Ending.{CountedBy};
-ghost use Rattle.tdb_top.specs.Opening.{IsCheckedOn};
+ghost use Rattle.tdb_top.specs.Opening.{opened_bytes, IsCheckedOn};
 
 use crate::commands::create::make;
 use crate::ending::{Ending, Reply};
@@ -147,59 +150,87 @@ fn copy_to<F: Files>(
     }
 }
 
-/// Opens the file on a disk, and makes a new file of this name a copy of it.
-fn copy_disk<F: Files>(alloc: Global, from: &mut F::D, name: &str, files: &mut F) -> Ending
+/// Opens the file on a disk, and makes a new file of this name a copy of it. It gives the number of its keys.
+fn copy_disk<F: Files>(
+    alloc: Global,
+    from: &mut F::D,
+    name: &str,
+    files: &mut F,
+) -> Result<u64, Ending>
     requires free { F.is_taken files.old name.now ≡ false }
-    ensures copied { IsTrue F.D.tells → DiskCopied (F.D.history from.old) (F.D.history from.new) (F.held files.old name.now) (F.held files.new name.now) result }
-    ensures known { EndsBackup result }
-    ensures counted { CountedBoth (F.D.faults from.old) (F.D.faults from.new) (F.faults files.old) (F.faults files.new) result }
+    ensures copied { IsTrue F.D.tells → DiskCopied (F.D.history from.old) (F.D.history from.new) (F.held files.old name.now) (F.held files.new name.now) (copy_ending result) }
+    ensures keys { IfOk result (λ n. IsTrue F.D.tells → n ≡ keys_in (opened_bytes (seen (F.D.history from.old)))) }
+    ensures refused { IfErr result (λ e. e ≢ Replied Copied) }
+    ensures known { EndsBackup (copy_ending result) }
+    ensures counted { CountedBoth (F.D.faults from.old) (F.D.faults from.new) (F.faults files.old) (F.faults files.new) (copy_ending result) }
     ensures others { SameBut name.now (F.held files.old) (F.held files.new) }
     ensures taken { (other : List ℕ) → F.is_taken files.new other ≡ F.is_taken files.old other }
 {
-    match Opened::open(alloc, from) {
-        Ok(opened) => copy_to(alloc, from, &opened, name, files),
-        Err(halt) => Ending::from(halt),
+    let opened = match Opened::open(alloc, from) {
+        Ok(opened) => opened,
+        Err(halt) => return Err(Ending::from(halt)),
+    };
+    let ending = copy_to(alloc, from, &opened, name, files);
+    if ending.is_copied() {
+        Ok(opened.report.live)
+    } else {
+        Err(ending)
     }
 }
 
-/// Opens the file of this name, and makes a new file of another name a copy of it.
-fn copy_opened<F: Files>(alloc: Global, file: &str, name: &str, files: &mut F) -> Ending
+/// Opens the file of this name, and makes a new file of another name a copy of it. It gives the number of its keys.
+fn copy_opened<F: Files>(
+    alloc: Global,
+    file: &str,
+    name: &str,
+    files: &mut F,
+) -> Result<u64, Ending>
     requires differ { name.now ≢ file.now }
     requires free { (other : List ℕ) → F.is_taken files.old other ≡ false }
-    ensures copied { IsTrue F.D.tells → FileCopied file.now (F.held files.old file.now) (F.held files.new file.now) (F.held files.old name.now) (F.held files.new name.now) result }
-    ensures known { EndsBackup result }
-    ensures counted { CountedBy (F.faults files.old) (F.faults files.new) result }
+    ensures copied { IsTrue F.D.tells → FileCopied file.now (F.held files.old file.now) (F.held files.new file.now) (F.held files.old name.now) (F.held files.new name.now) (copy_ending result) }
+    ensures keys { IfOk result (λ n. IsTrue F.D.tells → HasKeys (F.held files.old file.now) n) }
+    ensures refused { IfErr result (λ e. e ≢ Replied Copied) }
+    ensures known { EndsBackup (copy_ending result) }
+    ensures counted { CountedBy (F.faults files.old) (F.faults files.new) (copy_ending result) }
     ensures others { (other : List ℕ) → other ≢ file.now → other ≢ name.now → F.held files.new other ≡ F.held files.old other }
     ensures given_back { (other : List ℕ) → F.is_taken files.new other ≡ false }
 {
     let mut disk = match files.take(alloc, file, Take::Existing) {
         Ok(disk) => disk,
-        Err(refusal) => return Ending::untaken(alloc, file, refusal),
+        Err(refusal) => return Err(Ending::untaken(alloc, file, refusal)),
     };
-    let ending = copy_disk(alloc, &mut disk, name, files);
+    let copied = copy_disk(alloc, &mut disk, name, files);
     files.give(file, disk);
-    ending
+    copied
 }
 
-/// Copies the file of this name: the copy is made at `new`, and then renamed to `copy`.
-fn back_up_as<F: Files>(alloc: Global, file: &str, copy: &str, new: &str, files: &mut F) -> Ending
+/// Copies the file of this name: the copy is made at `new`, and then renamed to `copy`. It gives the number of its keys.
+pub(crate) fn back_up_as<F: Files>(
+    alloc: Global,
+    file: &str,
+    copy: &str,
+    new: &str,
+    files: &mut F,
+) -> Result<u64, Ending>
     requires copy_differs { copy.now ≢ file.now }
     requires new_differs { new.now ≢ file.now }
     requires both_differ { new.now ≢ copy.now }
     requires free { (other : List ℕ) → F.is_taken files.old other ≡ false }
-    ensures done { IsTrue F.D.tells → BackedUpOne file.now copy.now new.now (F.held files.old) (F.held files.new) (F.faults files.old) (F.faults files.new) result }
-    ensures known { EndsBackup result }
-    ensures counted { CountedBy (F.faults files.old) (F.faults files.new) result }
+    ensures done { IsTrue F.D.tells → BackedUpOne file.now copy.now new.now (F.held files.old) (F.held files.new) (F.faults files.old) (F.faults files.new) (copy_ending result) }
+    ensures keys { IfOk result (λ n. IsTrue F.D.tells → HasKeys (F.held files.old file.now) n) }
+    ensures refused { IfErr result (λ e. e ≢ Replied Copied) }
+    ensures known { EndsBackup (copy_ending result) }
+    ensures counted { CountedBy (F.faults files.old) (F.faults files.new) (copy_ending result) }
     ensures others { (other : List ℕ) → other ≢ file.now → other ≢ copy.now → other ≢ new.now → F.held files.new other ≡ F.held files.old other }
     ensures given_back { (other : List ℕ) → F.is_taken files.new other ≡ false }
 {
-    let ending = copy_opened(alloc, file, new, files);
-    if !ending.is_copied() {
-        return ending;
-    }
+    let keys = match copy_opened(alloc, file, new, files) {
+        Ok(keys) => keys,
+        Err(ending) => return Err(ending),
+    };
     match files.rename(new, copy) {
-        Ok(()) => ending,
-        Err(_) => Ending::DeviceFault,
+        Ok(()) => Ok(keys),
+        Err(_) => Err(Ending::DeviceFault),
     }
 }
 
@@ -210,7 +241,7 @@ fn back_up_file<F: Files>(alloc: Global, file: &str, suffix: &str, files: &mut F
     ensures done { IsTrue F.D.tells → BackedUpOne file.now (copy_name suffix.now file.now) (new_name suffix.now file.now) (F.held files.old) (F.held files.new) (F.faults files.old) (F.faults files.new) result }
     ensures known { EndsBackup result }
     ensures counted { CountedBy (F.faults files.old) (F.faults files.new) result }
-    ensures others { (other : List ℕ) → (IsNameOf suffix.now file.now other → ⊥) → F.held files.new other ≡ F.held files.old other }
+    ensures others { (other : List ℕ) → (IsNameOf false suffix.now file.now other → ⊥) → F.held files.new other ≡ F.held files.old other }
     ensures given_back { (other : List ℕ) → F.is_taken files.new other ≡ false }
 {
     let Ok(copy) = Text::joined(alloc, file, suffix) else {
@@ -219,7 +250,10 @@ fn back_up_file<F: Files>(alloc: Global, file: &str, suffix: &str, files: &mut F
     let Ok(new) = Text::joined(alloc, copy.as_str(), ".tmp") else {
         return Ending::NoMemory;
     };
-    back_up_as(alloc, file, copy.as_str(), new.as_str(), files)
+    match back_up_as(alloc, file, copy.as_str(), new.as_str(), files) {
+        Ok(_) => Ending::Replied(Reply::Copied),
+        Err(ending) => ending,
+    }
 }
 
 /// Copies the file of this name and more ones, each to its name and the suffix. The first one that isn't copied ends it.
@@ -235,7 +269,7 @@ pub(crate) fn back_up<F: Files>(
     ensures done { IsTrue F.D.tells → BackedUp suffix.now (file.now ∷ more.now) (F.held files.old) (F.held files.new) (F.faults files.old) (F.faults files.new) result }
     ensures known { EndsBackup result }
     ensures counted { CountedBy (F.faults files.old) (F.faults files.new) result }
-    ensures others { (other : List ℕ) → (IsNameAmong suffix.now (file.now ∷ more.now) other → ⊥) → F.held files.new other ≡ F.held files.old other }
+    ensures others { (other : List ℕ) → (IsNameAmong false suffix.now (file.now ∷ more.now) other → ⊥) → F.held files.new other ≡ F.held files.old other }
     ensures given_back { (other : List ℕ) → F.is_taken files.new other ≡ false }
 {
     let ending = back_up_file(alloc, file, suffix, files);

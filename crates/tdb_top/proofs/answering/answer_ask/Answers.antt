@@ -5,7 +5,9 @@ use Rattle.tdb_top.specs.Input.{input_by}
 use Rattle.tdb_top.specs.Reads.{AskEnds, GenCause}
 use Rattle.tdb_top.specs.Left.{TaskLeaves}
 use Rattle.tdb_top.specs.Commands.Backup.{BackupCause}
-use Rattle.tdb_top.proofs.Acting.{made_cause, made_left, backup_ends, gen_ends}
+use Rattle.tdb_top.specs.Commands.Verify.{VerifyCause}
+use Rattle.tdb_top.specs.Looks.{ending_of}
+use Rattle.tdb_top.proofs.Acting.{made_cause, made_left, backup_ends, verify_ends, gen_ends}
 use Rattle.tdb_top.proofs.answering.answer_ask.Goals as goal
 
 -- why a file was made, or wasn't
@@ -43,6 +45,16 @@ returns-in-Backup-clause-cause g c told =
     let e = c.back_up.result in
     backup_ends (input_by g.S.Source.tells (g.S.Source.left c.args.input.now) (g.S.Source.faults c.args.input.now) (g.S.Source.faults c.args.input.now)) c.args.ask.now.task c.in-Backup.more c.in-Backup.suffix (string_bytes c.args.ask.now.file) held before now e c.in-Backup.is
     (subst (λ (q : List ℕ × List (List ℕ)). BackupCause (q.0 ∷ q.1) held before now e) (λ j. (c.as_str-name.ensures.value j, c.as_slice.ensures j)) (c.back_up.ensures.done told).cause)
+
+-- why files were verified, or weren't
+pub returns-in-Verify-clause-cause : goal.returns-in-Verify-clause-cause
+returns-in-Verify-clause-cause g c told =
+    let held = g.F.Files.held c.args.files.now in
+    let before = g.F.Files.faults c.args.files.now in
+    let now = g.F.Files.faults c.verify.new.files in
+    let e = ending_of c.verify.result in
+    verify_ends (input_by g.S.Source.tells (g.S.Source.left c.args.input.now) (g.S.Source.faults c.args.input.now) (g.S.Source.faults c.args.input.now)) c.args.ask.now.task c.in-Verify.more c.in-Verify.suffix (string_bytes c.args.ask.now.file) held before now e c.in-Verify.is
+    (subst (λ (q : List ℕ × (List ℕ × List (List ℕ))). VerifyCause q.0 (q.1.0 ∷ q.1.1) held before now e) (λ j. (c.as_str.ensures j, (c.as_str-name.ensures.value j, c.as_slice.ensures j))) (c.verify.ensures.cause told))
 
 -- why generated commands ended so
 pub returns-in-Generate-clause-cause : goal.returns-in-Generate-clause-cause

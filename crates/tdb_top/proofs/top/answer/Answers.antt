@@ -37,7 +37,7 @@ returns-in-Ok-Some-clause-began g c =
     let ask = asked c.in-Ok-Some.ask in
     subst (λ a. IsTrue (ask_tells a g.F.D.Disk.tells g.K.Sink.tells) → Began (TextBefore a held) before now c.answer_ask.result)
     (rw c.in-Ok-Some.field-0-is at c.in-Ok-Some.ensures.read)
-    (λ told. began_as (TaskText ask.task (held ask.file)) _ before now c.answer_ask.result (λ e text is. is) (c.answer_ask.ensures.began told))
+    (λ told. began_as (TaskText ask.task ask.file held) _ before now c.answer_ask.result (λ e text is. is) (c.answer_ask.ensures.began told))
 
 -- nothing was asked for, or there was no memory for the words
 pub returns-in-Ok-None-clause-cause : goal.returns-in-Ok-None-clause-cause

@@ -4,4 +4,4 @@ use Rattle.tdb_ask.specs.Lines.Backup.{all_names}
 use Rattle.tdb_ask.proofs.lines.backup.all_names.Given as goal
 
 abbrev pub invariant-loop-name : goal.invariant-loop-name
-invariant-loop-name l = l.names ++ all_names l.fn.suffix (drop l.name-index l.fn.more) ≡ all_names l.fn.suffix (l.fn.file ∷ l.fn.more)
+invariant-loop-name l = l.names ++ all_names l.fn.verify l.fn.suffix (drop l.name-index l.fn.more) ≡ all_names l.fn.verify l.fn.suffix (l.fn.file ∷ l.fn.more)

@@ -1,4 +1,4 @@
-use Rattle.std.proofs.Common.{◌≡◌, ◌∷◌, ◌+◌, ℕ, List, [], drop, rules, refl, sym, ◌∙◌, subst, inl, inr, arith}
+use Rattle.std.proofs.Common.{◌≡◌, ◌∷◌, ◌+◌, ℕ, List, [], false, drop, rules, refl, sym, ◌∙◌, subst, inl, inr, arith}
 use Rattle.std.proofs.Math.ListN.{drop_of_length-le}
 use Rattle.tdb_top.specs.declared.ending.Ending.TheVariants.{Replied, DeviceFault}
 use Rattle.tdb_top.specs.declared.ending.Reply.TheVariants.{Copied}
@@ -55,9 +55,9 @@ returns-then-not-is_copied-2-clause-done g c told =
     let eq : drop i xs ≡ x ∷ rest = rest_of xs i x (omega (arith, c.loop-name-test.true)) c.name-item.is in
     let value : c.as_str.result.now ≡ x = c.as_str.ensures in
     carries_end suffix all (held c.args.files.now) (faults c.args.files.now) x rest (held c.loop-name.files) (held call.new.files) (faults c.loop-name.files) (faults call.new.files)
-    (subst (NamesDiffer suffix) eq c.loop-name.invariant.differ)
+    (subst (NamesDiffer false suffix) eq c.loop-name.invariant.differ)
     (subst (λ l. Carries suffix all (held c.args.files.now) (faults c.args.files.now) l (held c.loop-name.files) (faults c.loop-name.files)) eq (c.loop-name.invariant.carries told))
-    (λ name other. call.ensures.others name (λ own. other (subst (λ f. IsNameOf suffix f name) value own)))
+    (λ name other. call.ensures.others name (λ own. other (subst (λ f. IsNameOf false suffix f name) value own)))
     call.result call.ensures.known (c.is_copied-in-loop-name.ensures.other (search rules))
     (subst (λ f. BackedUpOne f (copy_name suffix f) (new_name suffix f) (held c.loop-name.files) (held call.new.files) (faults c.loop-name.files) (faults call.new.files) call.result) value (call.ensures.done told))
 
@@ -77,9 +77,9 @@ loop-name-preserved g c =
     let value : c.as_str.result.now ≡ x = c.as_str.ensures in
     let is : call.result ≡ Replied Copied = c.is_copied-in-loop-name.ensures.copied (search rules) in
     let sound : faults call.new.files ≡ faults c.loop-name.files = call.ensures.counted.sound (λ fault. let both : Replied Copied ≡ DeviceFault = sym is ∙ fault in cc) in
-    let differ : NamesDiffer suffix (x ∷ rest) = subst (NamesDiffer suffix) eq c.loop-name.invariant.differ in
-    let within : (name : List ℕ) → IsNameAmong suffix (x ∷ rest) name → IsNameAmong suffix all name = subst (λ l. (name : List ℕ) → IsNameAmong suffix l name → IsNameAmong suffix all name) eq c.loop-name.invariant.within in
-    let others : (name : List ℕ) → (IsNameOf suffix x name → ⊥) → held call.new.files name ≡ held c.loop-name.files name = λ name other. call.ensures.others name (λ own. other (subst (λ f. IsNameOf suffix f name) value own)) in
+    let differ : NamesDiffer false suffix (x ∷ rest) = subst (NamesDiffer false suffix) eq c.loop-name.invariant.differ in
+    let within : (name : List ℕ) → IsNameAmong false suffix (x ∷ rest) name → IsNameAmong false suffix all name = subst (λ l. (name : List ℕ) → IsNameAmong false suffix l name → IsNameAmong false suffix all name) eq c.loop-name.invariant.within in
+    let others : (name : List ℕ) → (IsNameOf false suffix x name → ⊥) → held call.new.files name ≡ held c.loop-name.files name = λ name other. call.ensures.others name (λ own. other (subst (λ f. IsNameOf false suffix f name) value own)) in
     record {
       free = call.ensures.given_back;
       sound = sound ∙ c.loop-name.invariant.sound;

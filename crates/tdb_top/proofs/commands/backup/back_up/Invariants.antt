@@ -8,8 +8,8 @@ abbrev pub invariant-loop-name : goal.invariant-loop-name
 invariant-loop-name g l = record {
   free : (other : List ℕ) → g.F.Files.is_taken l.files other ≡ false;
   sound : g.F.Files.faults l.files ≡ g.F.Files.faults l.fn.files;
-  others : (other : List ℕ) → (IsNameAmong l.fn.suffix (l.fn.file ∷ l.fn.more) other → ⊥) → g.F.Files.held l.files other ≡ g.F.Files.held l.fn.files other;
-  differ : NamesDiffer l.fn.suffix (drop l.name-index l.fn.more);
-  within : (other : List ℕ) → IsNameAmong l.fn.suffix (drop l.name-index l.fn.more) other → IsNameAmong l.fn.suffix (l.fn.file ∷ l.fn.more) other;
+  others : (other : List ℕ) → (IsNameAmong false l.fn.suffix (l.fn.file ∷ l.fn.more) other → ⊥) → g.F.Files.held l.files other ≡ g.F.Files.held l.fn.files other;
+  differ : NamesDiffer false l.fn.suffix (drop l.name-index l.fn.more);
+  within : (other : List ℕ) → IsNameAmong false l.fn.suffix (drop l.name-index l.fn.more) other → IsNameAmong false l.fn.suffix (l.fn.file ∷ l.fn.more) other;
   carries : IsTrue g.F.D.Disk.tells → Carries l.fn.suffix (l.fn.file ∷ l.fn.more) (g.F.Files.held l.fn.files) (g.F.Files.faults l.fn.files) (drop l.name-index l.fn.more) (g.F.Files.held l.files) (g.F.Files.faults l.files);
 }

@@ -1,4 +1,4 @@
-use Rattle.std.proofs.Common.{◌≡◌, rules, sym}
+use Rattle.std.proofs.Common.{◌≡◌, refl, sym}
 use Rattle.tdb_top.specs.declared.ending.Ending.TheVariants.{Replied}
 use Rattle.tdb_top.specs.declared.ending.Reply.TheVariants.{Copied}
 use Rattle.tdb_top.proofs.Acting.{rose_earlier}
@@ -6,28 +6,26 @@ use Rattle.tdb_top.proofs.BackingUp.{one_stopped, one_copied, one_unnamed}
 use Rattle.tdb_top.proofs.commands.backup.back_up_as.Goals as goal
 
 -- the file wasn't copied
-pub returns-then-not-is_copied-clause-done : goal.returns-then-not-is_copied-clause-done
-returns-then-not-is_copied-clause-done g c told =
-    one_stopped c.args.file.now c.args.copy.now c.args.new.now (g.F.Files.held c.args.files.now) (g.F.Files.held c.copy_opened-ending.new.files) (g.F.Files.faults c.args.files.now) (g.F.Files.faults c.copy_opened-ending.new.files)
-    c.copy_opened-ending.result (c.copy_opened-ending.ensures.copied told) (c.is_copied.ensures.other (search rules)) c.copy_opened-ending.ensures.counted.failed
-    (c.copy_opened-ending.ensures.others c.args.copy.now c.requires.copy_differs (λ is. c.requires.both_differ (sym is)))
-
--- it was, and the copy got its name
-pub returns-in-Ok-clause-done : goal.returns-in-Ok-clause-done
-returns-in-Ok-clause-done g c told =
-    let is : c.copy_opened-ending.result ≡ Replied Copied = c.is_copied.ensures.copied (search rules) in
-    one_copied c.args.file.now c.args.copy.now c.args.new.now (g.F.Files.held c.args.files.now) (g.F.Files.held c.copy_opened-ending.new.files) (g.F.Files.faults c.args.files.now) (g.F.Files.faults c.copy_opened-ending.new.files)
-    c.copy_opened-ending.result (c.copy_opened-ending.ensures.copied told) (g.F.Files.held c.rename.new.self) (g.F.Files.faults c.rename.new.self) is
-    (c.rename.ensures.others c.args.file.now (λ same. c.requires.new_differs (sym same)) (λ same. c.requires.copy_differs (sym same))) (c.in-Ok.ensures.to told) (c.in-Ok.ensures.from told)
-
--- it didn't get it
 pub returns-in-Err-clause-done : goal.returns-in-Err-clause-done
 returns-in-Err-clause-done g c told =
-    let is : c.copy_opened-ending.result ≡ Replied Copied = c.is_copied.ensures.copied (search rules) in
+    one_stopped c.args.file.now c.args.copy.now c.args.new.now (g.F.Files.held c.args.files.now) (g.F.Files.held c.copy_opened.new.files) (g.F.Files.faults c.args.files.now) (g.F.Files.faults c.copy_opened.new.files)
+    c.in-Err.ending (c.in-Err.ensures.copied told) c.in-Err.ensures.refused c.in-Err.ensures.counted.failed
+    (c.copy_opened.ensures.others c.args.copy.now c.requires.copy_differs (λ is. c.requires.both_differ (sym is)))
+
+-- it was, and the copy got its name
+pub returns-in-Ok-rename-clause-done : goal.returns-in-Ok-rename-clause-done
+returns-in-Ok-rename-clause-done g c told =
+    one_copied c.args.file.now c.args.copy.now c.args.new.now (g.F.Files.held c.args.files.now) (g.F.Files.held c.copy_opened.new.files) (g.F.Files.faults c.args.files.now) (g.F.Files.faults c.copy_opened.new.files)
+    (Replied Copied) (c.in-Ok.ensures.copied told) (g.F.Files.held c.rename.new.self) (g.F.Files.faults c.rename.new.self) refl
+    (c.rename.ensures.others c.args.file.now (λ same. c.requires.new_differs (sym same)) (λ same. c.requires.copy_differs (sym same))) (c.in-Ok-rename.ensures.to told) (c.in-Ok-rename.ensures.from told)
+
+-- it didn't get it
+pub returns-in-Err-rename-clause-done : goal.returns-in-Err-rename-clause-done
+returns-in-Err-rename-clause-done g c told =
     let before = g.F.Files.faults c.args.files.now in
-    let between = g.F.Files.faults c.copy_opened-ending.new.files in
+    let between = g.F.Files.faults c.copy_opened.new.files in
     let after = g.F.Files.faults c.rename.new.self in
-    one_unnamed c.args.file.now c.args.copy.now c.args.new.now (g.F.Files.held c.args.files.now) (g.F.Files.held c.copy_opened-ending.new.files) before between
-    c.copy_opened-ending.result (c.copy_opened-ending.ensures.copied told) (g.F.Files.held c.rename.new.self) after is (λ name. c.in-Err.ensures.kept name)
-    (c.copy_opened-ending.ensures.others c.args.copy.now c.requires.copy_differs (λ same. c.requires.both_differ (sym same)))
-    (rose_earlier before between after c.copy_opened-ending.ensures.counted.never_falls c.in-Err.ensures.cause.failed)
+    one_unnamed c.args.file.now c.args.copy.now c.args.new.now (g.F.Files.held c.args.files.now) (g.F.Files.held c.copy_opened.new.files) before between
+    (Replied Copied) (c.in-Ok.ensures.copied told) (g.F.Files.held c.rename.new.self) after refl (λ name. c.in-Err-rename.ensures.kept name)
+    (c.copy_opened.ensures.others c.args.copy.now c.requires.copy_differs (λ same. c.requires.both_differ (sym same)))
+    (rose_earlier before between after c.copy_opened.ensures.counted.never_falls c.in-Err-rename.ensures.cause.failed)

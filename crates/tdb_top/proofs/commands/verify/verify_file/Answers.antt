@@ -1,0 +1,30 @@
+use Rattle.std.proofs.Common.{◌≡◌, Err, rules}
+use Rattle.std.proofs.lemmas.Result.{on_ok_weaker, IfErr-weaker}
+use Rattle.tdb_top.specs.Commands.Verify.{at_names}
+use Rattle.tdb_top.proofs.Verifying.{count_told, count_untold, line_known, line_cause}
+use Rattle.tdb_top.proofs.commands.verify.verify_file.Goals as goal
+
+-- its keys weren't found
+pub returns-in_err-keys-clause-untold : goal.returns-in_err-keys-clause-untold
+returns-in_err-keys-clause-untold g c =
+    let is : c.from_residual.result ≡ Err c.in_err-keys.field-0.0 = search rules in
+    rw is c.in_err-keys.ensures.unfound
+
+-- they were, and are told
+pub returns-clause-told : goal.returns-clause-told
+returns-clause-told g c = on_ok_weaker c.tell_count.result (λ took told.
+    count_told g.K.Sink.tells c.args.suffix.now c.args.file.now (at_names c.args.suffix.now c.args.file.now (g.F.Files.held c.args.files.now)) (at_names c.args.suffix.now c.args.file.now (g.F.Files.held c.find_keys.new.files))
+    (g.K.Sink.written c.args.output.now) (g.K.Sink.written c.find_keys.new.output) (g.K.Sink.written c.tell_count.new.output) c.in_ok-keys.keys (c.in_ok-keys.ensures.found told) took)
+    c.tell_count.ensures.told
+
+pub returns-clause-untold : goal.returns-clause-untold
+returns-clause-untold g c = IfErr-weaker c.tell_count.result _ _ (λ u line told.
+    count_untold g.K.Sink.tells c.args.suffix.now c.args.file.now (at_names c.args.suffix.now c.args.file.now (g.F.Files.held c.args.files.now)) (at_names c.args.suffix.now c.args.file.now (g.F.Files.held c.find_keys.new.files))
+    (g.K.Sink.written c.args.output.now) (g.K.Sink.written c.find_keys.new.output) (g.K.Sink.written c.tell_count.new.output) c.in_ok-keys.keys (c.in_ok-keys.ensures.found told) u line)
+    c.tell_count.ensures.untold
+
+pub returns-clause-known : goal.returns-clause-known
+returns-clause-known g c = IfErr-weaker c.tell_count.result _ _ line_known c.tell_count.ensures.known
+
+pub returns-clause-cause : goal.returns-clause-cause
+returns-clause-cause g c = line_cause (g.F.Files.faults c.args.files.now) (g.F.Files.faults c.find_keys.new.files) c.tell_count.result c.in_ok-keys.ensures.cause.done c.tell_count.ensures.known
