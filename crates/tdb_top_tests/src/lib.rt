@@ -23,3 +23,5 @@ mod sessions;
 mod turns;
 #[cfg(test)]
 mod undo;
+#[cfg(test)]
+mod verify;
