@@ -10,9 +10,17 @@ is_plain b = nat_le 32 b && nat_le b 126 && not (b == 34) && not (b == 92)
 abbrev pub upper_digit : ℕ → ℕ
 upper_digit v = if nat_lt v 10 then 48 + v else 55 + v
 
+-- a byte as two digits
+abbrev pub hex_byte : ℕ → List ℕ
+hex_byte b = upper_digit (b / 16) ∷ upper_digit (b % 16) ∷ []
+
+-- bytes as digits, two for each
+abbrev pub hex : List ℕ → List ℕ
+hex bytes = flat_map hex_byte bytes
+
 -- a byte as it is written: any byte that isn't plain is `\` and two digits in upper case
 unfoldable pub escaped_byte : ℕ → List ℕ
-escaped_byte b = if is_plain b then b ∷ [] else 92 ∷ upper_digit (b / 16) ∷ upper_digit (b % 16) ∷ []
+escaped_byte b = if is_plain b then b ∷ [] else 92 ∷ hex_byte b
 
 -- bytes as they are written
 abbrev pub escaped : List ℕ → List ℕ

@@ -4,6 +4,7 @@ pub mod Escape
 pub mod Expected
 pub mod Laws
 pub mod Line
+pub mod Listing
 pub mod Partial
 pub mod Reading
 pub mod Spelled

@@ -1,7 +1,7 @@
 //! Escapes: how a byte stands in a text.
 
 ghost use Rattle.std.specs.Prelude.{◌≡◌, ◌++◌, ◌<◌, ◌≤◌, [], ◌∷◌, length, take, IfOk, OnOk, IfSome};
-ghost use Rattle.tdb_dump.specs.Escape.{is_plain, upper_digit, escaped_byte, escaped, hex_value};
+ghost use Rattle.tdb_dump.specs.Escape.{is_plain, upper_digit, hex_byte, hex, escaped_byte, escaped, hex_value};
 
 use std::alloc::{AllocError, Global};
 use tdb_words::Bytes;
@@ -38,6 +38,23 @@ pub fn hex_value(digit: u8) -> Option<u8>
         b'a'..=b'f' => Some(digit - b'a' + 10),
         _ => None,
     }
+}
+
+/// Puts the two digits of one byte at the end.
+fn push_digits(text: &mut Vec<u8>, byte: u8) -> Result<(), AllocError>
+    ensures { OnOk result (text.new.items ≡ text.old.items ++ hex_byte byte) }
+{
+    text.extend_from_slice(&[upper_digit(byte / 16), upper_digit(byte % 16)])
+}
+
+/// Puts the bytes at the end as hexadecimal digits in upper case, two for each.
+pub(crate) fn push_all_digits(text: &mut Vec<u8>, bytes: &[u8]) -> Result<(), AllocError>
+    ensures { OnOk result (text.new.items ≡ text.old.items ++ hex bytes.now) }
+{
+    for byte in bytes {
+        push_digits(text, *byte)?;
+    }
+    Ok(())
 }
 
 /// Puts the text of one byte at the end.

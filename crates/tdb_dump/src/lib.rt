@@ -4,6 +4,7 @@
 mod escapes;
 mod laws;
 mod lines;
+mod listing;
 mod pairs;
 mod partial;
 mod reader;
@@ -12,7 +13,8 @@ mod writer;
 
 pub use crate::escapes::{escape, hex_value};
 pub use crate::laws::{spelling_law, word_law};
-pub use crate::lines::{data_line, key_line};
+pub use crate::lines::{data_line, key_line, pair_line};
+pub use crate::listing::Listing;
 pub use crate::pairs::{Pair, Pairs};
 pub use crate::reader::{ReadRefusal, Reader};
 pub use crate::words::{WordRefusal, word_bytes_of};

@@ -3,8 +3,8 @@
 ghost use Rattle.std.specs.Prelude.{◌≤◌, length};
 
 use crate::{
-    Pairs, ReadRefusal, Reader, WordRefusal, WriteRefusal, data_line, escape, key_line,
-    word_bytes_of, write_pair,
+    Listing, Pairs, ReadRefusal, Reader, WordRefusal, WriteRefusal, data_line, escape, key_line,
+    pair_line, word_bytes_of, write_pair,
 };
 use std::alloc::Global;
 use std::test::Fail;
@@ -46,6 +46,34 @@ fn escapes_and_lines(rt: HostRuntime) -> Result<(), Fail> {
     assert_eq!(rt; line.as_slice(), b"data(1) = \"1\"".as_slice());
     let line = key_line(rt.alloc(), b"\xAB\"")?;
     assert_eq!(rt; line.as_slice(), b"key(2) = \"\\AB\\22\"".as_slice());
+    let line = pair_line(rt.alloc(), b"INFO/version\0", b"\x02\0\0\0")?;
+    assert_eq!(rt;
+        line.as_slice(),
+        b"key(13) = \"INFO/version\\00\" data(4) = \"\\02\\00\\00\\00\"".as_slice()
+    );
+    Ok(())
+}
+
+#[test]
+fn listings(rt: HostRuntime) -> Result<(), Fail> {
+    for (listing, entry) in [
+        (
+            Listing::Pairs,
+            b"{\nkey(13) = \"INFO/version\\00\"\ndata(4) = \"\\02\\00\\00\\00\"\n}\n".as_slice(),
+        ),
+        (
+            Listing::Keys,
+            b"key(13) = \"INFO/version\\00\"\n".as_slice(),
+        ),
+        (
+            Listing::HexKeys,
+            b"key(13) = 494E464F2F76657273696F6E00\n".as_slice(),
+        ),
+    ] {
+        let mut text = Vec::new(rt.alloc());
+        listing.push(&mut text, b"INFO/version\0", b"\x02\0\0\0")?;
+        assert_eq!(rt; text.as_slice(), entry, "{listing:?}");
+    }
     Ok(())
 }
 
