@@ -5,8 +5,9 @@ use Rattle.std.specs.List.{flat_map}
 use Rattle.std.proofs.lemmas.Bool.{cases_eq, MatchBool-at_true, MatchBool-at_false}
 use Rattle.std.proofs.lemmas.List.{length-append, length-take-le, take_at, take-append-le, take-append-drop, map-append}
 use Rattle.std.proofs.lemmas.List.Concat.{flat_map-append}
+use Rattle.tdb_dump.specs.declared.listing.Listing.{Listing}
 use Rattle.tdb_dump.specs.declared.pairs.Pair.{Pair}
-use Rattle.tdb_dump.specs.DumpText.{pair_text}
+use Rattle.tdb_dump.specs.Listing.{entry_text}
 use Rattle.tdb_space.specs.Form.{Form}
 use Rattle.tdb_space.specs.Chain.{chain_of}
 use Rattle.tdb_space.specs.Pairs.{joined, pairs, order_of}
@@ -14,7 +15,7 @@ use Rattle.tdb_space.specs.Extents.{HandPair}
 use Rattle.tdb_space.specs.Accepted.{AcceptWith}
 use Rattle.tdb_backup.specs.declared.traversal.Traversal.{Traversal}
 use Rattle.tdb_backup.specs.Traversal.{Gave, pair_at_hand}
-use Rattle.tdb_backup.specs.Dump.{as_pair, order_text, dump_of, WroteFront, HandedOn}
+use Rattle.tdb_backup.specs.Dump.{as_pair, order_text, listing_of, WroteFront, HandedOn}
 use Rattle.tdb_backup.proofs.Walk.{moved}
 
 -- the front of a list and some of what follows
@@ -26,10 +27,10 @@ take_over xs ys zs n short =
     take-append-le (length xs + n) (xs ++ ys) zs within ∙ ap (take (length xs + n)) split ∙ take_at (xs ++ take n ys) (drop n ys) (length xs + n) long
 
 -- the texts of two lists of pairs follow one another
-order_text_split : (given rest : List (List ℕ × List ℕ)) → order_text (given ++ rest) ≡ order_text given ++ order_text rest
-order_text_split given rest =
-    ap (λ ps. flat_map (λ (q : Pair). pair_text q.key q.value) ps) (map-append as_pair given rest)
-    ∙ flat_map-append (λ (q : Pair). pair_text q.key q.value) (map as_pair given) (map as_pair rest)
+order_text_split : (l : Listing) (given rest : List (List ℕ × List ℕ)) → order_text l (given ++ rest) ≡ order_text l given ++ order_text l rest
+order_text_split l given rest =
+    ap (λ ps. flat_map (λ (q : Pair). entry_text l q.key q.value) ps) (map-append as_pair given rest)
+    ∙ flat_map-append (λ (q : Pair). entry_text l q.key q.value) (map as_pair given) (map as_pair rest)
 
 -- the front of joined lists is that of the first ones
 joined_front : {T : Type 0} (n m : ℕ) (F : ℕ → List T) → n ≤ m → (rest : List T) × (joined m F ≡ joined n F ++ rest)
@@ -49,31 +50,31 @@ gave_front f img given t h =
     (pairs f.order img h.ahead ++ more.0, more.1 ∙ ap (λ ps. ps ++ more.0) h.all ∙ append_assoc given (pairs f.order img h.ahead) more.0)
 
 -- so its text is the front of the dump
-gave_text : (f : Form) (img : List ℕ) (given : List (List ℕ × List ℕ)) (t : Traversal) → Gave f img given t → (rest : List ℕ) × (dump_of f img ≡ order_text given ++ rest)
-gave_text f img given t h = let more = gave_front f img given t h in (order_text more.0, ap order_text more.1 ∙ order_text_split given more.0)
+gave_text : (l : Listing) (f : Form) (img : List ℕ) (given : List (List ℕ × List ℕ)) (t : Traversal) → Gave f img given t → (rest : List ℕ) × (listing_of l f img ≡ order_text l given ++ rest)
+gave_text l f img given t h = let more = gave_front f img given t h in (order_text l more.0, ap (order_text l) more.1 ∙ order_text_split l given more.0)
 
 -- The text of these pairs was written behind what was there, up to what is still held of it
-pub record Dumped (before now held : List ℕ) (given : List (List ℕ × List ℕ)) : Type 0 where
+pub record Dumped (l : Listing) (before now held : List ℕ) (given : List (List ℕ × List ℕ)) : Type 0 where
   pub done : List ℕ
   pub wrote : now ≡ before ++ done
-  pub all : done ++ held ≡ order_text given
+  pub all : done ++ held ≡ order_text l given
 
 -- at first nothing was written, and nothing is held
-pub dumped_start : (before : List ℕ) → Dumped before before [] []
-dumped_start before = record { done = []; wrote = sym (append-nil before); all = refl }
+pub dumped_start : (l : Listing) (before : List ℕ) → Dumped l before before [] []
+dumped_start l before = record { done = []; wrote = sym (append-nil before); all = refl }
 
 -- a pair more is held
-pub dumped_pair : (before now held more : List ℕ) (given : List (List ℕ × List ℕ)) (p : List ℕ × List ℕ) → Dumped before now held given → more ≡ held ++ pair_text p.0 p.1 → Dumped before now more (given ++ p ∷ [])
-dumped_pair before now held more given p d e = record {
+pub dumped_pair : (l : Listing) (before now held more : List ℕ) (given : List (List ℕ × List ℕ)) (p : List ℕ × List ℕ) → Dumped l before now held given → more ≡ held ++ entry_text l p.0 p.1 → Dumped l before now more (given ++ p ∷ [])
+dumped_pair l before now held more given p d e = record {
   done = d.done;
   wrote = d.wrote;
-  all = ap (λ t. d.done ++ t) e ∙ sym (append_assoc d.done held (pair_text p.0 p.1)) ∙ ap (λ t. t ++ pair_text p.0 p.1) d.all
-      ∙ sym (order_text_split given (p ∷ []) ∙ ap (λ t. order_text given ++ t) (append-nil (pair_text p.0 p.1)));
+  all = ap (λ t. d.done ++ t) e ∙ sym (append_assoc d.done held (entry_text l p.0 p.1)) ∙ ap (λ t. t ++ entry_text l p.0 p.1) d.all
+      ∙ sym (order_text_split l given (p ∷ []) ∙ ap (λ t. order_text l given ++ t) (append-nil (entry_text l p.0 p.1)));
 }
 
 -- what was held is handed on
-pub dumped_on : (before now held later left : List ℕ) (given : List (List ℕ × List ℕ)) → Dumped before now held given → HandedOn now held later left → Dumped before later left given
-dumped_on before now held later left given d on =
+pub dumped_on : (l : Listing) (before now held later left : List ℕ) (given : List (List ℕ × List ℕ)) → Dumped l before now held given → HandedOn now held later left → Dumped l before later left given
+dumped_on l before now held later left given d on =
     elim on [
       | inl same ↦ record { done = d.done; wrote = same.0 ∙ d.wrote; all = ap (λ t. d.done ++ t) same.1 ∙ d.all }
       | inr wrote ↦ record {
@@ -84,53 +85,53 @@ dumped_on before now held later left given d on =
     ]
 
 -- where nothing is held any more, all of the text was written
-pub dumped_end : (before now held : List ℕ) (given : List (List ℕ × List ℕ)) → Dumped before now held given → held ≡ [] → now ≡ before ++ order_text given
-dumped_end before now held given d none = d.wrote ∙ ap (λ t. before ++ t) (sym (append-nil d.done) ∙ ap (λ t. d.done ++ t) (sym none) ∙ d.all)
+pub dumped_end : (l : Listing) (before now held : List ℕ) (given : List (List ℕ × List ℕ)) → Dumped l before now held given → held ≡ [] → now ≡ before ++ order_text l given
+dumped_end l before now held given d none = d.wrote ∙ ap (λ t. before ++ t) (sym (append-nil d.done) ∙ ap (λ t. d.done ++ t) (sym none) ∙ d.all)
 
-module _ (f : Form) (img before now held : List ℕ) (given : List (List ℕ × List ℕ)) (t : Traversal) (h : Gave f img given t) (d : Dumped before now held given) where
+module _ (l : Listing) (f : Form) (img before now held : List ℕ) (given : List (List ℕ × List ℕ)) (t : Traversal) (h : Gave f img given t) (d : Dumped l before now held given) where
   -- what was written is a front of the dump
-  pub dumped_front : WroteFront before (dump_of f img) now
+  pub dumped_front : WroteFront before (listing_of l f img) now
   dumped_front =
-      let more = gave_text f img given t h in
-      let whole : dump_of f img ≡ d.done ++ (held ++ more.0) = more.1 ∙ ap (λ x. x ++ more.0) (sym d.all) ∙ append_assoc d.done held more.0 in
-      let cut : take (length d.done) (dump_of f img) ≡ d.done = ap (take (length d.done)) whole ∙ take_at d.done (held ++ more.0) (length d.done) refl in
+      let more = gave_text l f img given t h in
+      let whole : listing_of l f img ≡ d.done ++ (held ++ more.0) = more.1 ∙ ap (λ x. x ++ more.0) (sym d.all) ∙ append_assoc d.done held more.0 in
+      let cut : take (length d.done) (listing_of l f img) ≡ d.done = ap (take (length d.done)) whole ∙ take_at d.done (held ++ more.0) (length d.done) refl in
       (length d.done, omega (arith, ap length whole, length-append d.done (held ++ more.0)), d.wrote ∙ ap (λ x. before ++ x) (sym cut))
 
   -- and so it is where only some of what was held is written
-  pub dumped_failed : (later : List ℕ) → WroteFront now held later → WroteFront before (dump_of f img) later
+  pub dumped_failed : (later : List ℕ) → WroteFront now held later → WroteFront before (listing_of l f img) later
   dumped_failed later wrote =
-      let more = gave_text f img given t h in
+      let more = gave_text l f img given t h in
       let n = wrote.0 in
-      let whole : dump_of f img ≡ d.done ++ held ++ more.0 = more.1 ∙ ap (λ x. x ++ more.0) (sym d.all) in
-      let cut : take (length d.done + n) (dump_of f img) ≡ d.done ++ take n held = ap (take (length d.done + n)) whole ∙ take_over d.done held more.0 n wrote.1 in (
+      let whole : listing_of l f img ≡ d.done ++ held ++ more.0 = more.1 ∙ ap (λ x. x ++ more.0) (sym d.all) in
+      let cut : take (length d.done + n) (listing_of l f img) ≡ d.done ++ take n held = ap (take (length d.done + n)) whole ∙ take_over d.done held more.0 n wrote.1 in (
         length d.done + n,
         omega (arith, wrote.1, ap length whole, length-append (d.done ++ held) more.0, length-append d.done held),
         wrote.2 ∙ ap (λ x. x ++ take n held) d.wrote ∙ append_assoc before d.done (take n held) ∙ ap (λ x. before ++ x) (sym cut),
       )
 
-module _ (f k : Form) (img v : List ℕ) (hands : List HandPair) (before now held : List ℕ) (t u : Traversal) (b : Bool) (form : k ≡ f) (image : v ≡ img) (A : AcceptWith f img hands)
-    (d : (given : List (List ℕ × List ℕ)) × Gave f img given t × Dumped before now held given)
+module _ (l : Listing) (f k : Form) (img v : List ℕ) (hands : List HandPair) (before now held : List ℕ) (t u : Traversal) (b : Bool) (form : k ≡ f) (image : v ≡ img) (A : AcceptWith f img hands)
+    (d : (given : List (List ℕ × List ℕ)) × Gave f img given t × Dumped l before now held given)
     (answer : (hands : List HandPair) → AcceptWith k v hands → (given : List (List ℕ × List ℕ)) → Gave k v given t
     → MatchBool b (Gave k v (given ++ pair_at_hand u ∷ []) u) (Gave k v given u × (order_of k v ≡ given))) where
   told : MatchBool b (Gave k v (d.0 ++ pair_at_hand u ∷ []) u) (Gave k v d.0 u × (order_of k v ≡ d.0))
   told = answer hands (moved (λ x i. AcceptWith x i hands) k f v img (sym form) (sym image) A) d.0 (moved (λ x i. Gave x i d.0 t) k f v img (sym form) (sym image) d.1)
 
   -- a pair more was given, and its text is held
-  pub dump_more : b ≡ true → (key value more : List ℕ) → key ≡ (pair_at_hand u).0 → value ≡ (pair_at_hand u).1 → more ≡ held ++ pair_text key value
-      → (given : List (List ℕ × List ℕ)) × Gave f img given u × Dumped before now more given
+  pub dump_more : b ≡ true → (key value more : List ℕ) → key ≡ (pair_at_hand u).0 → value ≡ (pair_at_hand u).1 → more ≡ held ++ entry_text l key value
+      → (given : List (List ℕ × List ℕ)) × Gave f img given u × Dumped l before now more given
   dump_more another key value more same_key same_value e =
       let next = MatchBool-at_true (Gave k v (d.0 ++ pair_at_hand u ∷ []) u) (Gave k v d.0 u × (order_of k v ≡ d.0)) another told in (
         d.0 ++ pair_at_hand u ∷ [],
         moved (λ x i. Gave x i (d.0 ++ pair_at_hand u ∷ []) u) f k img v form image next,
-        dumped_pair before now held more d.0 (pair_at_hand u) d.2 (e ∙ (λ j. held ++ pair_text (same_key j) (same_value j))),
+        dumped_pair l before now held more d.0 (pair_at_hand u) d.2 (e ∙ (λ j. held ++ entry_text l (same_key j) (same_value j))),
       )
 
   -- no pair is left, and what is held is handed on
-  pub dump_done : b ≡ false → (later left : List ℕ) → HandedOn now held later left → length left < 1 → later ≡ before ++ dump_of f img
+  pub dump_done : b ≡ false → (later left : List ℕ) → HandedOn now held later left → length left < 1 → later ≡ before ++ listing_of l f img
   dump_done ended later left on short =
       let all = MatchBool-at_false (Gave k v (d.0 ++ pair_at_hand u ∷ []) u) (Gave k v d.0 u × (order_of k v ≡ d.0)) ended told in
       let order : order_of f img ≡ d.0 = moved (λ x i. order_of x i ≡ d.0) f k img v form image all.1 in
-      dumped_end before later left d.0 (dumped_on before now held later left d.0 d.2 on) (none left short) ∙ ap (λ ps. before ++ order_text ps) (sym order)
+      dumped_end l before later left d.0 (dumped_on l before now held later left d.0 d.2 on) (none left short) ∙ ap (λ ps. before ++ order_text l ps) (sym order)
     where
       none : (xs : List ℕ) → length xs < 1 → xs ≡ []
       none [] short = refl

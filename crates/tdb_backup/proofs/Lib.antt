@@ -1,6 +1,6 @@
 mod Walk
 mod Bytes
-mod Dumped
+pub mod Dumped
 mod Inserting
 mod Building
 mod Restored

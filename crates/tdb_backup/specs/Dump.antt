@@ -1,8 +1,9 @@
--- The dump text of an image, and what a dump that is refused leaves.
+-- The listing of an image, and what one that is refused leaves.
 use Rattle.std.specs.Prelude.{◌≡◌, ◌⊎◌, ℕ, ◌≤◌, List, [], ◌++◌, length, map, take}
 use Rattle.tdb_chain.specs.declared.refusal.ValueRefusal as Value
+use Rattle.tdb_dump.specs.declared.listing.Listing.{Listing}
 use Rattle.tdb_dump.specs.declared.pairs.Pair.{Pair}
-use Rattle.tdb_dump.specs.DumpText.{dump_text}
+use Rattle.tdb_dump.specs.Listing.{listing_text}
 use Rattle.tdb_space.specs.Form.{Form}
 use Rattle.tdb_space.specs.Pairs.{order_of}
 use Rattle.tdb_backup.specs.declared.refusal.DumpRefusal.{DumpRefusal}
@@ -12,13 +13,13 @@ use Rattle.tdb_backup.specs.declared.refusal.DumpRefusal.TheVariants.{Io, Memory
 abbrev pub as_pair : List ℕ × List ℕ → Pair
 as_pair p = record { key = p.0; value = p.1 }
 
--- the dump text of these keys and values
-abbrev pub order_text : List (List ℕ × List ℕ) → List ℕ
-order_text order = dump_text (map as_pair order)
+-- the listing of these keys and values
+abbrev pub order_text : Listing → List (List ℕ × List ℕ) → List ℕ
+order_text listing order = listing_text listing (map as_pair order)
 
--- the dump text of an image: of all its pairs, in order
-abbrev pub dump_of : Form → List ℕ → List ℕ
-dump_of f img = order_text (order_of f img)
+-- the listing of an image: of all its pairs, in order
+abbrev pub listing_of : Listing → Form → List ℕ → List ℕ
+listing_of listing f img = order_text listing (order_of f img)
 
 -- of a text only some bytes, from its beginning on, were written behind what was there
 abbrev pub WroteFront : List ℕ → List ℕ → List ℕ → Type 0
@@ -28,7 +29,7 @@ WroteFront before text now = (n : ℕ) × (n ≤ length text) × (now ≡ before
 abbrev pub HandedOn : List ℕ → List ℕ → List ℕ → List ℕ → Type 0
 HandedOn before held now left = ((now ≡ before) × (left ≡ held)) ⊎ ((now ≡ before ++ held) × (left ≡ []))
 
--- a dump is refused as the pair that it is to write
+-- a listing is refused as the pair that it is to write
 abbrev pub of_value : Value.ValueRefusal → DumpRefusal
 of_value Value.TheVariants.Io = Io
 of_value Value.TheVariants.Memory = Memory

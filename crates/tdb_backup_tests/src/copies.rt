@@ -8,7 +8,7 @@ use tdb_backup::{
     DumpRefusal, InsertRefusal, RestoreRefusal, copy_pairs, insert_new, restore_pairs, write_pairs,
 };
 use tdb_disk::{Call, MemDisk, MemSink, MemSource};
-use tdb_dump::push_pair;
+use tdb_dump::{Listing, push_pair};
 use tdb_space::Direct;
 use tdb_words::{HashKind, Header, Order};
 
@@ -59,7 +59,7 @@ fn add(disk: &mut MemDisk, key: &[u8], value: &[u8], limit: u64) -> Result<(), I
 }
 
 fn dump(alloc: Global, disk: &mut MemDisk, out: &mut MemSink) -> Result<(), DumpRefusal> {
-    write_pairs(alloc, &mut Direct::new(disk, &HEADER), out)
+    write_pairs(alloc, &mut Direct::new(disk, &HEADER), Listing::Pairs, out)
 }
 
 #[test]

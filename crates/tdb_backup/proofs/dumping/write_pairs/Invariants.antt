@@ -11,7 +11,7 @@ abbrev pub invariant-loop-text : goal.invariant-loop-text
 invariant-loop-text g l = record {
   dumped : IsTrue g.S.Space.tells → IsTrue g.K.Sink.tells → (hands : List HandPair) → AcceptWith (g.S.Space.form l.fn.s) (g.S.Space.image l.fn.s) hands
       → (given : List (List ℕ × List ℕ)) × Gave (g.S.Space.form l.fn.s) (g.S.Space.image l.fn.s) given l.traversal
-      × Dumped (g.K.Sink.written l.fn.out) (g.K.Sink.written l.out) l.text.items given;
+      × Dumped l.listing (g.K.Sink.written l.fn.out) (g.K.Sink.written l.out) l.text.items given;
   looked : Looked g.S.Space l.fn.s l.s;
   faults : g.S.Space.faults l.s ≡ g.S.Space.faults l.fn.s;
   sink_faults : g.K.Sink.faults l.out ≡ g.K.Sink.faults l.fn.out;
