@@ -3,7 +3,7 @@ use Rattle.std.specs.Prelude.{ℕ, List, [], ◌∷◌, ◌++◌, codes, decimal
 use Rattle.std.specs.List.{flat_map}
 use Rattle.tdb_locks.specs.declared.turn.Reply.{Reply}
 use Rattle.tdb_locks.specs.declared.turn.Turn.{Turn}
-use Rattle.tdb_dump.specs.Line.{key_line, data_line}
+use Rattle.tdb_dump.specs.Line.{data_line, pair_line}
 use Rattle.tdb_plays.specs.declared.line.Line.{Line}
 
 -- words with a space between them
@@ -14,7 +14,7 @@ spaced front rest = front ++ codes " " ++ rest
 abbrev pub reply_text : Reply → List ℕ
 reply_text Reply.Ok = codes "ok"
 reply_text (Reply.Value value) = data_line value
-reply_text (Reply.Pair key value) = spaced (key_line key) (data_line value)
+reply_text (Reply.Pair key value) = pair_line key value
 reply_text Reply.End = codes "end"
 reply_text Reply.KeyMissing = codes "noexist"
 reply_text Reply.KeyThere = codes "exists"

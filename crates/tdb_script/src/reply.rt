@@ -1,12 +1,12 @@
 // The texts of replies and turns.
 
 ghost use Rattle.std.specs.Prelude.{◌≡◌, ◌++◌, decimal, IfOk, OnOk};
-ghost use Rattle.tdb_dump.specs.Line.{key_line, data_line};
+ghost use Rattle.tdb_dump.specs.Line.{data_line, pair_line};
 ghost use Rattle.tdb_script.specs.Text.{spaced, reply_text, turn_text};
 
 use itoa::Buffer;
 use std::alloc::{AllocError, Global};
-use tdb_dump::{data_line, key_line};
+use tdb_dump::{data_line, pair_line};
 use tdb_locks::{Reply, Turn};
 use tdb_words::Bytes;
 
@@ -51,11 +51,9 @@ fn push_value(alloc: Global, text: &mut Bytes, value: &[u8]) -> Result<(), Alloc
 
 /// Puts `key(N) = "TEXT" data(M) = "TEXT"` at the end.
 fn push_pair(alloc: Global, text: &mut Bytes, key: &[u8], value: &[u8]) -> Result<(), AllocError>
-    ensures { OnOk result (text.new ≡ text.old ++ spaced (key_line key.now) (data_line value.now)) }
+    ensures { OnOk result (text.new ≡ text.old ++ pair_line key.now value.now) }
 {
-    text.push_all(key_line(alloc, key)?.as_slice())?;
-    text.push_all(b" ")?;
-    push_value(alloc, text, value)
+    text.push_all(pair_line(alloc, key, value)?.as_slice())
 }
 
 /// Puts the text of a reply at the end.
