@@ -2,8 +2,9 @@
 use Rattle.std.specs.Prelude.{ℕ, Option, None, Some, List, [], ◌∷◌}
 use Rattle.std.specs.Option.{option_map, option_and_then}
 use Rattle.tdb_ask.specs.declared.act.Act.{Act}
-use Rattle.tdb_ask.specs.declared.act.Act.TheVariants.{Show, Insert, Store, Delete, Erase, Check}
+use Rattle.tdb_ask.specs.declared.act.Act.TheVariants.{Show, Insert, Store, Delete, Erase, Check, First, Next}
 use Rattle.tdb_ask.specs.Words.{value_of, of_one, of_two}
+use Rattle.tdb_dump.specs.declared.listing.Listing.{Listing}
 
 -- `show` KEY
 abbrev pub show_of : List (List ℕ) → Option Act
@@ -35,3 +36,18 @@ erase_of (word ∷ words) = None
 abbrev pub check_of : List (List ℕ) → Option Act
 check_of [] = Some Check
 check_of (word ∷ rest) = None
+
+-- `first`, without arguments
+abbrev pub first_of : List (List ℕ) → Option Act
+first_of [] = Some First
+first_of (word ∷ rest) = None
+
+-- `next`, without arguments
+abbrev pub next_of : List (List ℕ) → Option Act
+next_of [] = Some Next
+next_of (word ∷ rest) = None
+
+-- `dump`, `keys` and `hexkeys`, without arguments: how the pairs are listed
+abbrev pub print_of : Listing → List (List ℕ) → Option Listing
+print_of listing [] = Some listing
+print_of listing (word ∷ rest) = None

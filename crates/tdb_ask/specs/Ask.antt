@@ -2,16 +2,17 @@
 use Rattle.std.specs.Prelude.{ℕ, ◌+◌, ◌<◌, ◌≤◌, ◌^◌, if◌then◌else◌, Option, None, List, [], ◌∷◌, length, codes, string_bytes}
 use Rattle.std.specs.Map.{lookup}
 use Rattle.std.specs.Option.{option_map, option_and_then, option_or}
+use Rattle.tdb_dump.specs.declared.listing.Listing.TheVariants.{Pairs, Keys, HexKeys}
 use Rattle.tdb_space.specs.Pairs.{same_key}
 use Rattle.tdb_ask.specs.declared.look.Look.{Look}
 use Rattle.tdb_ask.specs.declared.look.Look.TheVariants.{Dump, Value}
 use Rattle.tdb_ask.specs.declared.act.Act.{Act}
-use Rattle.tdb_ask.specs.declared.act.Act.TheVariants.{Show, Insert, Store, Delete, Erase, Check}
+use Rattle.tdb_ask.specs.declared.act.Act.TheVariants.{Show, Insert, Store, Delete, Erase, Check, First, Next}
 use Rattle.tdb_ask.specs.declared.ask.Task.{Task}
-use Rattle.tdb_ask.specs.declared.ask.Task.TheVariants.{Create, On, Read, Restore, Backup, Verify, Turns, Session, Generate}
+use Rattle.tdb_ask.specs.declared.ask.Task.TheVariants.{Create, On, Read, Print, Restore, Backup, Verify, Turns, Session, Generate}
 use Rattle.tdb_ask.specs.declared.ask.Ask as C
 use Rattle.tdb_ask.specs.Words.{is_position}
-use Rattle.tdb_ask.specs.Acts.{show_of, check_of, insert_of, store_of, delete_of, erase_of}
+use Rattle.tdb_ask.specs.Acts.{show_of, check_of, insert_of, store_of, delete_of, erase_of, first_of, next_of, print_of}
 use Rattle.tdb_ask.specs.Lines.Create.{create_of}
 use Rattle.tdb_ask.specs.CopyNames.{BackupFits, VerifyFits}
 use Rattle.tdb_ask.specs.Lines.Backup.{asks_of_words}
@@ -37,6 +38,11 @@ tools =
     ∷ (codes "delete", λ arguments. option_map On (delete_of arguments))
     ∷ (codes "erase", λ arguments. option_map On (erase_of arguments))
     ∷ (codes "check", λ arguments. option_map On (check_of arguments))
+    ∷ (codes "first", λ arguments. option_map On (first_of arguments))
+    ∷ (codes "next", λ arguments. option_map On (next_of arguments))
+    ∷ (codes "dump", λ arguments. option_map Print (print_of Pairs arguments))
+    ∷ (codes "keys", λ arguments. option_map Print (print_of Keys arguments))
+    ∷ (codes "hexkeys", λ arguments. option_map Print (print_of HexKeys arguments))
     ∷ (codes "create", λ arguments. option_map Create (create_of arguments))
     ∷ []
 
@@ -110,10 +116,13 @@ ActFits (Store key value) = length key + length value < 2 ^ 32
 ActFits (Delete key) = length key < 2 ^ 32
 ActFits Erase = Unit {0}
 ActFits Check = Unit {0}
+ActFits First = Unit {0}
+ActFits Next = Unit {0}
 
 abbrev pub TaskFits : List ℕ → Task → Type 0
 TaskFits file (On act) = ActFits act
 TaskFits file (Read look) = LookFits look
+TaskFits file (Print listing) = Unit {0}
 TaskFits file (Create form) = 0 < form.size
 TaskFits file (Restore limit) = limit ≤ 4294963200
 TaskFits file (Backup more suffix) = BackupFits suffix (file ∷ more)

@@ -1,7 +1,7 @@
 // The commands on a file that is there, and the reading of their arguments.
 
 ghost use Rattle.std.specs.Prelude.{◌≡◌, ◌+◌, ◌≤◌, map, string_bytes, length, IfOk, IfSome};
-ghost use Rattle.tdb_ask.specs.Acts.{show_of, pair_of, insert_of, store_of, delete_of, erase_of, check_of};
+ghost use Rattle.tdb_ask.specs.Acts.{show_of, pair_of, insert_of, store_of, delete_of, erase_of, check_of, first_of, next_of};
 ghost use Rattle.tdb_ask.specs.Ask.{ActFits};
 ghost use Rattle.tdb_ask.specs.declared.limits.TheConstants.{LONGEST_WORD as longest};
 
@@ -29,6 +29,12 @@ pub enum Act {
 
     /// How many keys it has.
     Check,
+
+    /// The first pair that it has, in the order of its chains.
+    First,
+
+    /// The pair behind the one that was shown last.
+    Next,
 }
 
 /// The key and the value that two words stand for, where they are the only ones and have a reading.
@@ -117,6 +123,28 @@ impl Act {
     {
         match arguments {
             [] => Some(Act::Check),
+            _ => None,
+        }
+    }
+
+    /// Reads the arguments of `first`, which has none.
+    pub(crate) fn of_first(arguments: &[String]) -> Option<Act>
+        ensures read { result ≡ first_of (map string_bytes arguments.now) }
+        ensures fits { IfSome result ActFits }
+    {
+        match arguments {
+            [] => Some(Act::First),
+            _ => None,
+        }
+    }
+
+    /// Reads the arguments of `next`, which has none.
+    pub(crate) fn of_next(arguments: &[String]) -> Option<Act>
+        ensures read { result ≡ next_of (map string_bytes arguments.now) }
+        ensures fits { IfSome result ActFits }
+    {
+        match arguments {
+            [] => Some(Act::Next),
             _ => None,
         }
     }

@@ -2,7 +2,8 @@
 
 ghost use Rattle.std.specs.Prelude.{◌≡◌, ℕ, List, map, string_bytes, IfOk, IfSome};
 ghost use Rattle.std.specs.Option.{option_map};
-ghost use Rattle.tdb_ask.specs.declared.ask.Task.TheVariants.{On as OnIs};
+ghost use Rattle.tdb_ask.specs.declared.ask.Task.TheVariants.{On as OnIs, Print as PrintIs};
+ghost use Rattle.tdb_ask.specs.Acts.{print_of};
 ghost use Rattle.tdb_ask.specs.Ask.{asked, ask_of, dump_asks, restore_asks, backup_asks, turns_asks, gen_asks, command_asks, session_asks, tool_of as tool_asks, task_of as task_asked, TaskFits};
 
 use crate::act::Act;
@@ -13,6 +14,7 @@ use crate::look::Look;
 use crate::names::{Names, Text};
 use crate::words::is_position;
 use std::alloc::{AllocError, Global};
+use tdb_dump::Listing;
 use tdb_world::Options;
 
 /// What is to be done with a file.
@@ -26,6 +28,9 @@ pub enum Task {
 
     /// A command that reads a file alone.
     Read(Look),
+
+    /// To print its pairs so.
+    Print(Listing),
 
     /// To make it, of the pairs on the input. It may be up to `limit` bytes long.
     Restore { limit: u64 },
@@ -64,6 +69,17 @@ impl Task {
         }
     }
 
+    /// To print the pairs of a file that is there so, where the command has no arguments.
+    fn print(listing: Listing, arguments: &[String]) -> Option<Task>
+        ensures read { result ≡ option_map PrintIs (print_of listing (map string_bytes arguments.now)) }
+        ensures fits { IfSome result (λ task. (file : List ℕ) → TaskFits file task) }
+    {
+        match arguments {
+            [] => Some(Task::Print(listing)),
+            _ => None,
+        }
+    }
+
     /// What the command of this name asks for with these arguments.
     fn named(alloc: Global, command: &str, arguments: &[String]) -> Result<Option<Task>, AllocError>
         ensures read { IfOk result (λ task. task ≡ task_asked command.now (map string_bytes arguments.now)) }
@@ -76,6 +92,11 @@ impl Task {
             "delete" => Ok(Task::on(Act::of_delete(alloc, arguments)?)),
             "erase" => Ok(Task::on(Act::of_erase(arguments))),
             "check" => Ok(Task::on(Act::of_check(arguments))),
+            "first" => Ok(Task::on(Act::of_first(arguments))),
+            "next" => Ok(Task::on(Act::of_next(arguments))),
+            "dump" => Ok(Task::print(Listing::Pairs, arguments)),
+            "keys" => Ok(Task::print(Listing::Keys, arguments)),
+            "hexkeys" => Ok(Task::print(Listing::HexKeys, arguments)),
             "create" => match NewForm::of(arguments) {
                 Some(form) => Ok(Some(Task::Create(form))),
                 None => Ok(None),

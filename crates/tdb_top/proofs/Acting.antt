@@ -8,7 +8,7 @@ use Rattle.tdb_disk.specs.declared.files.TakeRefusal.{TakeRefusal}
 use Rattle.tdb_disk.specs.declared.files.TakeRefusal.TheVariants as Take
 use Rattle.tdb_ask.specs.declared.act.Act.{Act}
 use Rattle.tdb_ask.specs.declared.ask.Task.{Task}
-use Rattle.tdb_ask.specs.declared.ask.Task.TheVariants.{Create, On, Read, Restore, Backup, Verify, Turns, Session, Generate}
+use Rattle.tdb_ask.specs.declared.ask.Task.TheVariants.{Create, On, Read, Print, Restore, Backup, Verify, Turns, Session, Generate}
 use Rattle.tdb_ask.specs.declared.lines.create.NewForm.{NewForm}
 use Rattle.tdb_top.specs.declared.commands.create.Creation as Making
 use Rattle.tdb_top.specs.declared.ending.Ending.{Ending}
@@ -34,6 +34,7 @@ use Rattle.tdb_top.specs.Reads.{AskEnds, GenCause}
 use Rattle.tdb_top.specs.Input.{Input}
 use Rattle.tdb_top.specs.Opening.{opened_bytes, CanOpen, UndoneIfOpen, HaltLeaves, HaltsRightly, of_fault}
 use Rattle.tdb_top.proofs.Openings.{same_or_undone}
+use Rattle.tdb_top.proofs.Printing.{print_wants}
 
 -- an act that left the file as it was, where that is what it is to do, and what a failed call leaves
 pub looked : (act : Act) (old now : History) (r : Result Reply Fault) → Does act old now → Breaks act old now → now ≡ old → IfOk r (λ reply. reply ≡ reply_of act (seen old)) → Acted act old now r
@@ -151,6 +152,7 @@ stays_same (Some h) = (h, refl)
 task_wants : (input : Input) (task : Task) (file : List ℕ) (held : List ℕ → Option History) → TaskLeaves input task file held E.NoMemory held
 task_wants input (On act) file held = on_wants act (held file)
 task_wants input (Read look) file held = refl
+task_wants input (Print listing) file held = print_wants (held file)
 task_wants input (Create form) file held = refl
 task_wants input (Restore limit) file held = record { left = inl refl; done = λ is. absurd (omega (arith, is)); there = λ some. refl }
 task_wants input (Backup more suffix) file held = record {

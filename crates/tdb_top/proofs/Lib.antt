@@ -5,11 +5,13 @@ pub mod Openings
 pub mod AtEnd
 pub mod Held
 pub mod Found
+pub mod FirstPair
 pub mod Added
 pub mod Inserts
 pub mod Acting
 pub mod Restoring
 pub mod Looking
+pub mod Printing
 pub mod BackingUp
 pub mod Writing
 pub mod OneAnswer

@@ -6,6 +6,7 @@ use Rattle.tdb_disk.specs.History.{History, seen}
 use Rattle.tdb_disk.specs.declared.files.TakeRefusal.{TakeRefusal}
 use Rattle.tdb_disk.specs.declared.files.TakeRefusal.TheVariants as Take
 use Rattle.tdb_ask.specs.declared.ask.Task.TheVariants.{Read}
+use Rattle.tdb_dump.specs.declared.listing.Listing.TheVariants.{Pairs}
 use Rattle.tdb_top.specs.declared.ending.Ending.{Ending}
 use Rattle.tdb_top.specs.declared.ending.Unprinted.{Unprinted}
 use Rattle.tdb_top.specs.declared.ending.Ending.TheVariants as E
@@ -14,6 +15,8 @@ use Rattle.tdb_ask.specs.declared.look.Look.TheVariants.{Dump, Value}
 use Rattle.tdb_top.specs.Ending.{TaskDue, TaskCause, task_due, task_failed, task_wanting, CountedBy, Untaken}
 use Rattle.tdb_top.specs.Looks.{LookEnds, LookText, StandsBefore, Began}
 use Rattle.tdb_top.specs.Commands.Dump.{pairs_text}
+use Rattle.tdb_top.specs.Commands.Print.{PrintEnds}
+use Rattle.tdb_top.specs.Opening.{CanRead}
 
 -- how a look ended is why its task ends so
 pub look_cause : (look : Look) (name : List ℕ) (h : History) (held : Option History) (before after : ℕ) (e : Ending) → held ≡ Some h → LookEnds look (seen h) e → CountedBy before after e → TaskCause (Read look) name held before after e
@@ -33,16 +36,31 @@ look_cause look name h held before after (E.Malformed at) there ends counted = a
 pub nothing : (Text : Ending → List ℕ → Type 0) (e : Ending) (written : List ℕ) → Text e [] → Began Text written written (Ok e)
 nothing Text e written none = ([], none, sym (append-nil written))
 
--- a file that wasn't taken
+-- before the line of a file that wasn't taken nothing stands
+pub untaken_stands : (text name : List ℕ) (refusal : TakeRefusal) (e : Ending) → Untaken name refusal e → StandsBefore text e []
+untaken_stands text name Take.Missing e (inl is) = subst (λ x. StandsBefore text x []) (sym is) refl
+untaken_stands text name Take.Missing e (inr is) = subst (λ x. StandsBefore text x []) (sym is) (0, refl)
+untaken_stands text name Take.There e (inl is) = subst (λ x. StandsBefore text x []) (sym is) refl
+untaken_stands text name Take.There e (inr is) = subst (λ x. StandsBefore text x []) (sym is) (0, refl)
+untaken_stands text name Take.Failed e is = subst (λ x. StandsBefore text x []) (sym is) (0, refl)
+untaken_stands text name Take.Memory e is = subst (λ x. StandsBefore text x []) (sym is) (0, refl)
+
 pub untaken_text : (look : Look) (held : Option History) (name : List ℕ) (refusal : TakeRefusal) (e : Ending) → Untaken name refusal e → LookText look held e []
 untaken_text (Value key) held name refusal e is = refl
 untaken_text Dump None name refusal e is = refl
-untaken_text Dump (Some h) name Take.Missing e (inl is) = subst (λ x. StandsBefore (pairs_text (seen h)) x []) (sym is) refl
-untaken_text Dump (Some h) name Take.Missing e (inr is) = subst (λ x. StandsBefore (pairs_text (seen h)) x []) (sym is) (0, refl)
-untaken_text Dump (Some h) name Take.There e (inl is) = subst (λ x. StandsBefore (pairs_text (seen h)) x []) (sym is) refl
-untaken_text Dump (Some h) name Take.There e (inr is) = subst (λ x. StandsBefore (pairs_text (seen h)) x []) (sym is) (0, refl)
-untaken_text Dump (Some h) name Take.Failed e is = subst (λ x. StandsBefore (pairs_text (seen h)) x []) (sym is) (0, refl)
-untaken_text Dump (Some h) name Take.Memory e is = subst (λ x. StandsBefore (pairs_text (seen h)) x []) (sym is) (0, refl)
+untaken_text Dump (Some h) name refusal e is = untaken_stands (pairs_text Pairs (seen h)) name refusal e is
+
+-- a dump ends as its printing does
+pub dump_ends : (img : List ℕ) (e : Ending) → CanRead img → PrintEnds e → LookEnds Dump img e
+dump_ends img (E.Replied reply) can ends = (can, ends)
+dump_ends img E.DeviceFault can ends = tt
+dump_ends img E.NoMemory can ends = tt
+dump_ends img (E.Refused refusal) can ends = absurd ends
+dump_ends img (E.Missing name) can ends = absurd ends
+dump_ends img (E.There name) can ends = absurd ends
+dump_ends img E.Usage can ends = absurd ends
+dump_ends img E.InputFault can ends = absurd ends
+dump_ends img (E.Malformed at) can ends = absurd ends
 
 -- how often the files failed, by how often the disk did that was taken and given back
 pub files_counted : (before mid now start last : ℕ) (e : Ending) → mid ≡ before → start ≡ 0 → CountedBy start last e → (last ≡ 0 → now ≡ mid) → (0 < last → Rose mid now) → mid ≤ now → CountedBy before now e

@@ -10,14 +10,14 @@ use Rattle.tdb_space.proofs.OpeningFault.OneFault.{one_opening, never_both_ways}
 use Rattle.tdb_ask.specs.declared.act.Act.{Act}
 use Rattle.tdb_ask.specs.declared.look.Look.{Look}
 use Rattle.tdb_ask.specs.declared.ask.Task.{Task}
-use Rattle.tdb_ask.specs.declared.ask.Task.TheVariants.{Create, On, Read, Restore, Backup, Verify, Turns, Session, Generate}
+use Rattle.tdb_ask.specs.declared.ask.Task.TheVariants.{Create, On, Read, Print, Restore, Backup, Verify, Turns, Session, Generate}
 use Rattle.tdb_top.specs.declared.ending.Ending.{Ending}
 use Rattle.tdb_top.specs.declared.ending.Ending.TheVariants.{Refused}
 use Rattle.tdb_top.specs.declared.halt.Refusal.{Refusal}
 use Rattle.tdb_top.specs.declared.halt.Refusal.TheVariants.{TooLong, Header, Corrupt, NeedsRecovery}
 use Rattle.tdb_ask.specs.declared.limits.TheConstants.{LONGEST_FILE}
 use Rattle.tdb_ask.specs.Ask.{Ask}
-use Rattle.tdb_top.specs.Ending.{status_of, Replies, Refuses, LookReplies, RefusesToRead, TaskDue, Due}
+use Rattle.tdb_top.specs.Ending.{status_of, Replies, Refuses, LookReplies, RefusesToRead, PrintsPairs, TaskDue, Due}
 use Rattle.tdb_top.specs.Opening.{CanOpen, IsRefused, OpensToRead, CanRead, HasOpenGate, IsRefusedToRead}
 
 -- a file is refused in one way
@@ -100,11 +100,19 @@ act_one act img x y (inl p) (inr q) = absurd (not_both img q.refusal p.can_open 
 act_one act img x y (inr p) (inl q) = absurd (not_both img p.refusal q.can_open p.right)
 act_one act img x y (inr p) (inr q) = p.refused ∙ ap Refused (refusal_one img p.refusal q.refusal p.right q.right) ∙ sym q.refused
 
+print_one : (img : List ℕ) (x y : Ending) → PrintsPairs img x ⊎ Refuses img x → PrintsPairs img y ⊎ Refuses img y → x ≡ y
+print_one img x y (inl p) (inl q) = p.printed ∙ sym q.printed
+print_one img x y (inl p) (inr q) = absurd (not_both img q.refusal p.can_open q.right)
+print_one img x y (inr p) (inl q) = absurd (not_both img p.refusal q.can_open p.right)
+print_one img x y (inr p) (inr q) = p.refused ∙ ap Refused (refusal_one img p.refusal q.refusal p.right q.right) ∙ sym q.refused
+
 task_one : (task : Task) (name : List ℕ) (held : Option History) (x y : Ending) → TaskDue task name held x → TaskDue task name held y → x ≡ y
 task_one (On act) name None x y p q = p ∙ sym q
 task_one (On act) name (Some h) x y p q = act_one act (seen h) x y p q
 task_one (Read look) name None x y p q = p ∙ sym q
 task_one (Read look) name (Some h) x y p q = look_one look (seen h) x y p q
+task_one (Print listing) name None x y p q = p ∙ sym q
+task_one (Print listing) name (Some h) x y p q = print_one (seen h) x y p q
 task_one (Create form) name None x y p q = p ∙ sym q
 task_one (Create form) name (Some h) x y p q = p ∙ sym q
 task_one (Restore limit) name None x y p q = absurd p

@@ -9,21 +9,22 @@ use Rattle.tdb_space.specs.Opening.{Opens}
 use Rattle.tdb_ask.specs.declared.act.Act.{Act}
 use Rattle.tdb_ask.specs.declared.look.Look.{Look}
 use Rattle.tdb_ask.specs.declared.ask.Task.{Task}
-use Rattle.tdb_ask.specs.declared.ask.Task.TheVariants.{Create, On, Read, Restore, Backup, Verify, Turns, Session, Generate}
+use Rattle.tdb_ask.specs.declared.ask.Task.TheVariants.{Create, On, Read, Print, Restore, Backup, Verify, Turns, Session, Generate}
 use Rattle.tdb_ask.specs.declared.lines.create.NewForm.{NewForm}
 use Rattle.tdb_top.specs.declared.ending.Ending.{Ending}
 use Rattle.tdb_top.specs.declared.ending.Ending.TheVariants.{Replied, Refused, Missing, There, Usage, DeviceFault, InputFault, Malformed, NoMemory}
 use Rattle.tdb_top.specs.declared.ending.Reply.{Reply}
-use Rattle.tdb_top.specs.declared.ending.Reply.TheVariants.{Done, Value, Escaped, Dumped, Restored, Copied, Verified, KeyMissing, KeyThere, Full, Number, Played, Generated, Unfinished}
+use Rattle.tdb_top.specs.declared.ending.Reply.TheVariants.{Done, Value, Escaped, Dumped, Restored, Copied, Verified, KeyMissing, KeyThere, Full, Number, Pair, End, Played, Generated, Unfinished}
 use Rattle.tdb_top.specs.declared.halt.Refusal.{Refusal}
 use Rattle.tdb_top.specs.declared.halt.Refusal.TheVariants.{TooLong, Header, Corrupt, NeedsRecovery}
 use Rattle.tdb_ask.specs.declared.limits.TheConstants.{LONGEST_FILE}
 use Rattle.tdb_ask.specs.Ask.{Ask}
 use Rattle.tdb_top.specs.Acts.{reply_of, Left}
-use Rattle.tdb_top.specs.Ending.{status_of, text_of, TakesMemory, PrintedFor, Replies, Refuses, LookReplies, RefusesToRead, TaskDue, Due, TaskCause, task_due, task_failed, task_wanting, CountedBy, CountedFor, CountedAsked, has_openers, asks_openers}
+use Rattle.tdb_top.specs.Ending.{status_of, text_of, TakesMemory, PrintedFor, Replies, Refuses, LookReplies, RefusesToRead, PrintsPairs, TaskDue, Due, TaskCause, task_due, task_failed, task_wanting, CountedBy, CountedFor, CountedAsked, has_openers, asks_openers}
 use Rattle.tdb_top.specs.Looks.{look_reply}
 use Rattle.tdb_top.specs.Printed.{TextBefore, ask_tells, IsSilent, Writes}
 use Rattle.tdb_top.specs.Left.{ActLeaves, OnLeaves, MakingLeaves, RestoreLeaves, TaskLeaves, MayChange, SameElse, Leaving}
+use Rattle.tdb_top.specs.Commands.Print.{PrintLeft, PrintLeaves}
 use Rattle.tdb_top.specs.Commands.Restore.{of_input, HeardBy}
 use Rattle.tdb_top.specs.Commands.Backup.{BackupLeaves, EndsBackup}
 use Rattle.tdb_top.specs.Commands.Verify.{VerifyLeaves, EndsVerify}
@@ -32,12 +33,13 @@ use Rattle.tdb_top.specs.Output.{Output}
 use Rattle.tdb_top.specs.Reads.{reads_input, ask_reads, AskEnds}
 use Rattle.tdb_top.specs.Commands.Session.{session_options, StaysThere}
 use Rattle.tdb_top.specs.Commands.Turns.{TurnOpened, IsPlayed, TurnsLeft, TurnsLeave}
+use Rattle.tdb_dump.specs.declared.listing.Listing.{Listing}
 use Rattle.tdb_world.specs.declared.options.Options.{Options}
 use Rattle.tdb_gen.specs.declared.summary.Summary.{Summary}
 use Rattle.tdb_gen.specs.Summary.{summary_text}
 use Rattle.tdb_top.specs.Commands.Generate.{HasMade, GenLeaves}
 use Rattle.tdb_top.specs.Opening.{opened_bytes, OpensToRead, HeldOrUndone, SameOrUndone, UndoneIfOpen}
-use Rattle.tdb_top.specs.Run.{Run, MayEnd, is_due, is_read, is_copied, is_verified, is_played, is_served, is_generated, call_failed, memory_wanting, TellsFault, ActsOn, LooksInto, RefusesExactly, KeepsAll, EndsMidway, ActRun, MakingRun, RestoringRun, BackupRun, VerifyRun, TurnsRun, SessionRun, GeneratingRun, IsCopyName, LeavesFiles, Accounted}
+use Rattle.tdb_top.specs.Run.{Run, MayEnd, is_due, is_read, is_copied, is_verified, is_played, is_served, is_generated, call_failed, memory_wanting, TellsFault, ActsOn, LooksInto, PrintsOf, RefusesExactly, KeepsAll, EndsMidway, ActRun, PrintRun, MakingRun, RestoringRun, BackupRun, VerifyRun, TurnsRun, SessionRun, GeneratingRun, IsCopyName, LeavesFiles, Accounted}
 use Rattle.tdb_top.proofs.Held.{same_or_other}
 use Rattle.tdb_top.proofs.Copies.{stopped_kept, stopped_weaker, backup_zero}
 use Rattle.tdb_top.proofs.Verifying.{verified_zero, all_left_weaker, verify_kept}
@@ -64,6 +66,8 @@ reply_status Played = inl refl
 reply_status (Generated text) = inl refl
 reply_status Unfinished = inr (inl refl)
 reply_status (Number n) = inl refl
+reply_status (Pair key value) = inl refl
+reply_status End = inl refl
 reply_status KeyMissing = inr (inl refl)
 reply_status KeyThere = inr (inl refl)
 reply_status (Full len need) = inr (inr refl)
@@ -211,18 +215,7 @@ asked_cause ask a held input before after e is (inr (inr (inr ends))) =
 asked_cause ask a held input before after e is (inr (inl ends)) =
     is_copied e ends.more ends.suffix a.file (sym is ∙ ap (λ t. Some (record { file = a.file; task = t })) ends.backs_up) ends.ends
 
--- a task that reads the input is no act and no look
-reads_input_alone : (ask : Option Ask) (task : Task) (name : List ℕ) (other : Task) (file : List ℕ) → ask ≡ Some (record { file = name; task = task }) → ask ≡ Some (record { file = file; task = other }) → reads_input task ≡ false → reads_input other ≡ true → ⊥
-reads_input_alone ask task name other file is also unread reads = false≢true (sym unread ∙ ap ask_reads (sym is ∙ also) ∙ reads)
-
--- the words ask for one thing
-act_or_restore : (ask : Option Ask) (act : Act) (name : List ℕ) (limit : ℕ) (other : List ℕ) → ask ≡ Some (record { file = name; task = On act }) → ask ≡ Some (record { file = other; task = Restore limit }) → ⊥
-act_or_restore ask act name limit other acts restores = reads_input_alone ask (On act) name (Restore limit) other acts restores refl refl
-
-look_or_restore : (ask : Option Ask) (look : Look) (name : List ℕ) (limit : ℕ) (other : List ℕ) → ask ≡ Some (record { file = name; task = Read look }) → ask ≡ Some (record { file = other; task = Restore limit }) → ⊥
-look_or_restore ask look name limit other looks restores = reads_input_alone ask (Read look) name (Restore limit) other looks restores refl refl
-
--- a backup is neither
+-- whether a task copies files
 abbrev task_copies : Task → Bool
 task_copies (Turns options) = false
 task_copies (Session limit) = false
@@ -231,6 +224,7 @@ task_copies (Backup more suffix) = true
 task_copies (Verify more suffix) = false
 task_copies (On act) = false
 task_copies (Read look) = false
+task_copies (Print listing) = false
 task_copies (Create form) = false
 task_copies (Restore limit) = false
 
@@ -238,7 +232,7 @@ abbrev asks_copies : Option Ask → Bool
 asks_copies None = false
 asks_copies (Some ask) = task_copies ask.task
 
--- a verification, turns, a session and generated commands are neither too
+-- a verification, turns, a session and generated commands are due to nothing at one name
 abbrev is_other : Task → Bool
 is_other (Verify more suffix) = true
 is_other (Turns options) = true
@@ -247,18 +241,13 @@ is_other (Generate commands seed) = true
 is_other (Backup more suffix) = false
 is_other (On act) = false
 is_other (Read look) = false
+is_other (Print listing) = false
 is_other (Create form) = false
 is_other (Restore limit) = false
 
 abbrev asks_other : Option Ask → Bool
 asks_other None = false
 asks_other (Some ask) = is_other ask.task
-
-act_or_backup : (ask : Option Ask) (act : Act) (name : List ℕ) (more : List (List ℕ)) (suffix other : List ℕ) → ask ≡ Some (record { file = name; task = On act }) → ask ≡ Some (record { file = other; task = Backup more suffix }) → ⊥
-act_or_backup ask act name more suffix other acts copies = false≢true (ap asks_copies (sym acts ∙ copies))
-
-look_or_backup : (ask : Option Ask) (look : Look) (name : List ℕ) (more : List (List ℕ)) (suffix other : List ℕ) → ask ≡ Some (record { file = name; task = Read look }) → ask ≡ Some (record { file = other; task = Backup more suffix }) → ⊥
-look_or_backup ask look name more suffix other looks copies = false≢true (ap asks_copies (sym looks ∙ copies))
 
 module _ (run : Run) (e : Ending) (cause : MayEnd run.ask run.old run.input run.faults_before run.faults_after e) (tells : Bool) (prints : Printed tells run e) where
   -- what the ending that is printed says of a status, where it is due, where a restore is asked for and no file is
@@ -293,29 +282,23 @@ module _ (run : Run) (e : Ending) (cause : MayEnd run.ask run.old run.input run.
       (λ more suffix name asks. absurd (subst (λ a. Due a run.old x) asks due))
       (λ task name asks openers undue. absurd (undue x (subst (λ a. Due a run.old x) asks due)))
 
-  -- an act or a look is neither a restore nor a backup
-  no_act : (P : Type 0) (act : Act) (name : List ℕ) (h : History) → ActsOn run act name h → (limit : ℕ) (other : List ℕ) → run.ask ≡ Some (record { file = other; task = Restore limit }) → P
-  no_act P act name h acts limit other asks = absurd (act_or_restore run.ask act name limit other acts.asks asks)
+  -- the status of a task that ends as is due to what is held at its name, where no call fails and memory suffices
+  status_due : (P : ℕ → Type 0) (task : Task) (name : List ℕ) → run.ask ≡ Some (record { file = name; task = task }) → reads_input task ≡ false → task_copies task ≡ false → is_other task ≡ false
+      → (TaskDue task name (run.old name) e → P (status_of e)) → P run.status ⊎ TellsFault run.status
+  status_due P task name asks unread alone closed due = status_where P (λ d. due (subst (λ a. Due a run.old e) asks d))
+      (λ limit other restores none. absurd (false≢true (sym unread ∙ ap ask_reads (sym asks ∙ restores))))
+      (λ more suffix other copies. absurd (false≢true (sym alone ∙ ap asks_copies (sym asks ∙ copies))))
+      (λ other file also openers undue. absurd (false≢true (sym closed ∙ ap asks_other (sym asks ∙ also) ∙ openers)))
 
-  no_look : (P : Type 0) (look : Look) (name : List ℕ) (h : History) → LooksInto run look name h → (limit : ℕ) (other : List ℕ) → run.ask ≡ Some (record { file = other; task = Restore limit }) → P
-  no_look P look name h into limit other asks = absurd (look_or_restore run.ask look name limit other into.asks asks)
+  -- so that of an act and of a look
+  act_status : (P : ℕ → Type 0) (act : Act) (name : List ℕ) (h : History) → ActsOn run act name h → (Replies act (seen h) e ⊎ Refuses (seen h) e → P (status_of e)) → P run.status ⊎ TellsFault run.status
+  act_status P act name h acts due = status_due P (On act) name acts.asks refl refl refl (λ d. due (subst (λ o. TaskDue (On act) name o e) acts.there d))
 
-  no_act_copies : (P : Type 0) (act : Act) (name : List ℕ) (h : History) → ActsOn run act name h → Copies P
-  no_act_copies P act name h acts more suffix other asks = absurd (act_or_backup run.ask act name more suffix other acts.asks asks)
+  look_status : (P : ℕ → Type 0) (look : Look) (name : List ℕ) (h : History) → LooksInto run look name h → (LookReplies look (seen h) e ⊎ RefusesToRead (seen h) e → P (status_of e)) → P run.status ⊎ TellsFault run.status
+  look_status P look name h into due = status_due P (Read look) name into.asks refl refl refl (λ d. due (subst (λ o. TaskDue (Read look) name o e) into.there d))
 
-  no_look_copies : (P : Type 0) (look : Look) (name : List ℕ) (h : History) → LooksInto run look name h → Copies P
-  no_look_copies P look name h into more suffix other asks = absurd (look_or_backup run.ask look name more suffix other into.asks asks)
-
-  -- nor is it one of those
-  act_no_openers : (P : Type 0) (act : Act) (name : List ℕ) (h : History) → ActsOn run act name h → Undue P
-  act_no_openers P act name h acts task other asks openers undue = absurd (false≢true (ap asks_other (sym acts.asks ∙ asks) ∙ openers))
-
-  look_no_openers : (P : Type 0) (look : Look) (name : List ℕ) (h : History) → LooksInto run look name h → Undue P
-  look_no_openers P look name h into task other asks openers undue = absurd (false≢true (ap asks_other (sym into.asks ∙ asks) ∙ openers))
-
-  -- what is due of an act on a file that is there
-  act_due : (act : Act) (name : List ℕ) (h : History) → ActsOn run act name h → Due run.ask run.old e → Replies act (seen h) e ⊎ Refuses (seen h) e
-  act_due act name h acts due = subst (λ o. TaskDue (On act) name o e) acts.there (subst (λ a. Due a run.old e) acts.asks due)
+  print_status : (P : ℕ → Type 0) (listing : Listing) (name : List ℕ) (h : History) → PrintsOf run listing name h → (PrintsPairs (seen h) e ⊎ Refuses (seen h) e → P (status_of e)) → P run.status ⊎ TellsFault run.status
+  print_status P listing name h of due = status_due P (Print listing) name of.asks refl refl refl (λ d. due (subst (λ o. TaskDue (Print listing) name o e) of.there d))
 
   -- over bytes that can be opened the status isn't 3, and over others, no more than the most, it is
   not_three : (act : Act) (h : History) → Opens (seen h) → Replies act (seen h) e ⊎ Refuses (seen h) e → status_of e ≡ 3 → ⊥
@@ -326,10 +309,15 @@ module _ (run : Run) (e : Ending) (cause : MayEnd run.ask run.old run.input run.
   three_due act h faulty short (inl p) = absurd (faulty p.can_open.opens)
   three_due act h faulty short (inr p) = ap status_of p.refused ∙ refused_three (seen h) p.refusal p.right short
 
-  -- the same of a look into a file that is there
-  look_due : (look : Look) (name : List ℕ) (h : History) → LooksInto run look name h → Due run.ask run.old e → LookReplies look (seen h) e ⊎ RefusesToRead (seen h) e
-  look_due look name h into due = subst (λ o. TaskDue (Read look) name o e) into.there (subst (λ a. Due a run.old e) into.asks due)
+  print_not_three : (h : History) → Opens (seen h) → PrintsPairs (seen h) e ⊎ Refuses (seen h) e → status_of e ≡ 3 → ⊥
+  print_not_three h opens (inl p) is = absurd (omega (arith, ap status_of p.printed, is))
+  print_not_three h opens (inr p) is = refused_faulty (seen h) p.refusal p.right (sym (ap status_of p.refused) ∙ is) opens
 
+  print_three_due : (h : History) → (Opens (seen h) → ⊥) → length (seen h) ≤ LONGEST_FILE → PrintsPairs (seen h) e ⊎ Refuses (seen h) e → status_of e ≡ 3
+  print_three_due h faulty short (inl p) = absurd (faulty p.can_open.opens)
+  print_three_due h faulty short (inr p) = ap status_of p.refused ∙ refused_three (seen h) p.refusal p.right short
+
+  -- the same of a look
   read_not_three : (look : Look) (h : History) → OpensToRead (seen h) → LookReplies look (seen h) e ⊎ RefusesToRead (seen h) e → status_of e ≡ 3 → ⊥
   read_not_three look h opens (inl p) is = reply_not (look_reply look (seen h)) 3 (omega arith) (λ z. absurd (omega (arith, z))) (sym (ap status_of p.replied) ∙ is)
   read_not_three look h opens (inr p) is = read_faulty (seen h) p.refusal p.right (sym (ap status_of p.refused) ∙ is) opens
@@ -343,24 +331,18 @@ module _ (run : Run) (e : Ending) (cause : MayEnd run.ask run.old run.input run.
   no_three (inr (inl is)) three = absurd (omega (arith, is, three))
   no_three (inr (inr is)) three = absurd (omega (arith, is, three))
 
-  only_faulty : (act : Act) (name : List ℕ) (h : History) → ActsOn run act name h → run.status ≡ 3 → Opens (seen h) → ⊥
-  only_faulty act name h acts three opens = elim (status_where (λ n. n ≡ 3 → ⊥) (λ d. not_three act h opens (act_due act name h acts d)) (λ limit other asks none. no_act (status_of e ≡ 3 → ⊥) act name h acts limit other asks) (no_act_copies (status_of e ≡ 3 → ⊥) act name h acts) (act_no_openers (status_of e ≡ 3 → ⊥) act name h acts)) [
-    | inl other ↦ other three
-    | inr fault ↦ no_three fault three
-  ]
-
-  read_only_faulty : (look : Look) (name : List ℕ) (h : History) → LooksInto run look name h → run.status ≡ 3 → OpensToRead (seen h) → ⊥
-  read_only_faulty look name h into three opens = elim (status_where (λ n. n ≡ 3 → ⊥) (λ d. read_not_three look h opens (look_due look name h into d)) (λ limit other asks none. no_look (status_of e ≡ 3 → ⊥) look name h into limit other asks) (no_look_copies (status_of e ≡ 3 → ⊥) look name h into) (look_no_openers (status_of e ≡ 3 → ⊥) look name h into)) [
-    | inl other ↦ other three
-    | inr fault ↦ no_three fault three
-  ]
+  unless_three : (run.status ≡ 3 → ⊥) ⊎ TellsFault run.status → run.status ≡ 3 → ⊥
+  unless_three (inl other) three = other three
+  unless_three (inr fault) three = no_three fault three
 
   pub refuses_exactly : RefusesExactly run
   refuses_exactly = record {
-    only = only_faulty;
-    exact = λ act name h acts faulty short. status_where (λ n. n ≡ 3) (λ d. three_due act h faulty short (act_due act name h acts d)) (λ limit other asks none. no_act (status_of e ≡ 3) act name h acts limit other asks) (no_act_copies (status_of e ≡ 3) act name h acts) (act_no_openers (status_of e ≡ 3) act name h acts);
-    read_only = read_only_faulty;
-    read_exact = λ look name h into faulty short. status_where (λ n. n ≡ 3) (λ d. read_three_due look h faulty short (look_due look name h into d)) (λ limit other asks none. no_look (status_of e ≡ 3) look name h into limit other asks) (no_look_copies (status_of e ≡ 3) look name h into) (look_no_openers (status_of e ≡ 3) look name h into);
+    only = λ act name h acts three opens. unless_three (act_status (λ n. n ≡ 3 → ⊥) act name h acts (not_three act h opens)) three;
+    exact = λ act name h acts faulty short. act_status (λ n. n ≡ 3) act name h acts (three_due act h faulty short);
+    read_only = λ look name h into three opens. unless_three (look_status (λ n. n ≡ 3 → ⊥) look name h into (read_not_three look h opens)) three;
+    read_exact = λ look name h into faulty short. look_status (λ n. n ≡ 3) look name h into (read_three_due look h faulty short);
+    print_only = λ listing name h of three opens. unless_three (print_status (λ n. n ≡ 3 → ⊥) listing name h of (print_not_three h opens)) three;
+    print_exact = λ listing name h of faulty short. print_status (λ n. n ≡ 3) listing name h of (print_three_due h faulty short);
   }
 
 -- an act that didn't reply that it is done left the file as it was opened
@@ -424,6 +406,10 @@ module _ (before after status : ℕ) where
   memory_no_keep (inl is) keeps other = other is
   memory_no_keep (inr is) keeps other = keeps.2 is
 
+  neither : (n : ℕ) → (status ≡ n → ⊥) → (status ≡ 8 → ⊥) → (status ≡ n) ⊎ (status ≡ 8) → ⊥
+  neither n other eight (inl is) = other is
+  neither n other eight (inr is) = eight is
+
   -- what a run leaves of the file of an act
   act_run : (act : Act) (old now : History) (t : Ending) → Exits status t → CountedBy before after t → ActLeaves act old t now → ActRun act old before after status now
   act_run act old now (Replied reply) out counted left = record {
@@ -463,6 +449,36 @@ module _ (before after status : ℕ) where
   act_run act old now Usage out counted left = absurd left
   act_run act old now InputFault out counted left = absurd left
   act_run act old now (Malformed at) out counted left = absurd left
+
+  -- what a run leaves of the file whose pairs were printed
+  opened_run : (old now : History) → (status ≡ 4 → ⊥) → UndoneIfOpen old now → PrintRun old before after status now
+  opened_run old now four undone = record {
+    any = inl (same_or_undone old now undone);
+    failed = λ is. absurd (four is);
+    kept = λ other eight. same_or_undone old now undone;
+    exact = λ other five eight. undone;
+  }
+
+  print_run : (old now : History) (t : Ending) → Exits status t → CountedBy before after t → PrintLeft old t now → PrintRun old before after status now
+  print_run old now (Replied reply) out counted left = opened_run old now (reply_no_fault reply out) left.2
+  print_run old now (Refused r) out counted left = opened_run old now (λ is. refusal_apart r out (inr is)) left.1
+  print_run old now DeviceFault out counted left = record {
+    any = inr (counted.failed refl, left);
+    failed = λ is. left;
+    kept = λ four eight. absurd (neither 4 four eight (fault_exits out));
+    exact = λ four five eight. absurd (neither 4 four eight (fault_exits out));
+  }
+  print_run old now NoMemory out counted left = record {
+    any = inl left;
+    failed = λ is. absurd (memory_apart (memory_exits out) (inr is));
+    kept = λ four eight. left;
+    exact = λ four five eight. absurd (neither 5 five eight (memory_exits out));
+  }
+  print_run old now (Missing name) out counted left = absurd left
+  print_run old now (There name) out counted left = absurd left
+  print_run old now Usage out counted left = absurd left
+  print_run old now InputFault out counted left = absurd left
+  print_run old now (Malformed at) out counted left = absurd left
 
   -- what a run leaves at the name of a file that was to be made
   making_run : (form : NewForm) (old now : Option History) (t : Ending) → Exits status t → CountedBy before after t → MakingLeaves form old t now → MakingRun form old before after status now
@@ -566,6 +582,7 @@ asked_counted tells (Some ask) before after t told counted = of ask.task counted
     of : (task : Task) → CountedFor tells task before after t → CountedBy before after t
     of (On act) counted = counted
     of (Read look) counted = counted
+    of (Print listing) counted = counted
     of (Create form) counted = counted
     of (Restore limit) counted = counted
     of (Backup more suffix) counted = counted
@@ -581,6 +598,7 @@ asked_failed tells (Some ask) before after t counted is none = of ask.task none 
     of : (task : Task) → has_openers task ≡ false → CountedFor tells task before after t → Rose before after
     of (On act) none counted = counted.failed is
     of (Read look) none counted = counted.failed is
+    of (Print listing) none counted = counted.failed is
     of (Create form) none counted = counted.failed is
     of (Restore limit) none counted = counted.failed is
     of (Backup more suffix) none counted = counted.failed is
@@ -596,6 +614,7 @@ asked_sound tells (Some ask) before after t counted other = of ask.task counted
     of : (task : Task) → CountedFor tells task before after t → after ≡ before
     of (On act) counted = counted.sound other
     of (Read look) counted = counted.sound other
+    of (Print listing) counted = counted.sound other
     of (Create form) counted = counted.sound other
     of (Restore limit) counted = counted.sound other
     of (Backup more suffix) counted = counted.sound other
@@ -822,6 +841,11 @@ module _ (run : Run) (t : Ending) (out : Exits run.status t) (counted : CountedB
   verifying : (more : List (List ℕ)) (suffix name : List ℕ) → run.ask ≡ Some (record { file = name; task = Verify more suffix }) → VerifyRun suffix (name ∷ more) run.old run.faults_before run.faults_after run.status run.now
   verifying more suffix name asks = verify_run run.faults_before run.faults_after run.status suffix (name ∷ more) run.old run.now t out counted (λ done. silent (inr (inr done))) (asked_left (Verify more suffix) name asks)
 
+  printed : (listing : Listing) (name : List ℕ) (old : History) → PrintsOf run listing name old → (h : History) × (run.now name ≡ Some h) × PrintRun old run.faults_before run.faults_after run.status h
+  printed listing name old of =
+      let at = subst (λ o. PrintLeaves o t (run.now name)) of.there (asked_left (Print listing) name of.asks) in
+      (at.0, at.1, print_run run.faults_before run.faults_after run.status old at.0 t out counted at.2)
+
   turned : (options : Options) (name : List ℕ) (old : History) → run.ask ≡ Some (record { file = name; task = Turns options }) → run.old name ≡ Some old
       → (h : History) × (run.now name ≡ Some h) × TurnsRun options run.input run.output old run.faults_before run.faults_after run.status h
   turned options name old asks there =
@@ -849,6 +873,13 @@ module _ (run : Run) (t : Ending) (out : Exits run.status t) (counted : CountedB
   on_kept : KeepsAll run.status → (act : Act) (name : List ℕ) (old : Option History) → OnLeaves act old t (run.now name) → HeldOrUndone old (run.now name)
   on_kept keeps act name None at = inl at
   on_kept keeps act name (Some old) at = elim ((act_run run.faults_before run.faults_after run.status act old at.0 t out counted at.2).kept keeps) [
+    | inl undone ↦ inr (old, at.0, refl, at.1, undone)
+    | inr same ↦ inl (at.1 ∙ ap Some same)
+  ]
+
+  print_kept : KeepsAll run.status → (name : List ℕ) (old : Option History) → PrintLeaves old t (run.now name) → HeldOrUndone old (run.now name)
+  print_kept keeps name None at = inl at
+  print_kept keeps name (Some old) at = elim ((print_run run.faults_before run.faults_after run.status old at.0 t out counted at.2).kept keeps.1 keeps.2) [
     | inl undone ↦ inr (old, at.0, refl, at.1, undone)
     | inr same ↦ inl (at.1 ∙ ap Some same)
   ]
@@ -884,6 +915,7 @@ module _ (run : Run) (t : Ending) (out : Exits run.status t) (counted : CountedB
       → (IsCopyName (Some (record { file = file; task = task })) name → ⊥) → HeldOrUndone (run.old name) (run.now name)
   task_kept keeps (On act) file name asks midway same at copy = at_name name file (on_kept keeps act file (run.old file) at) (same name)
   task_kept keeps (Read look) file name asks midway same at copy = at_name name file (inl at) (same name)
+  task_kept keeps (Print listing) file name asks midway same at copy = at_name name file (print_kept keeps file (run.old file) at) (same name)
   task_kept keeps (Create form) file name asks midway same at copy = at_name name file (inl ((making_run run.faults_before run.faults_after run.status form (run.old file) (run.now file) t out counted at).kept keeps)) (same name)
   task_kept keeps (Restore limit) file name asks midway same at copy =
       at_name name file
@@ -925,6 +957,8 @@ module _ (run : Run) (t : Ending) (out : Exits run.status t) (counted : CountedB
     backed_up = backing_up;
     verified = verifying;
     read = λ look name asks. asked_left (Read look) name asks;
+    printed = printed;
+    unprinted = λ listing name asks none. subst (λ o. PrintLeaves o t (run.now name)) none (asked_left (Print listing) name asks);
     turned = turned;
     unturned = λ options name asks none. subst (λ o. TurnsLeave options o t (run.now name)) none (asked_left (Turns options) name asks);
     served = served;

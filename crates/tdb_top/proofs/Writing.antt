@@ -7,7 +7,7 @@ use Rattle.std.proofs.Math.Seq.{take-append-add, take-append_seam}
 use Rattle.tdb_disk.specs.Count.{Rose, HasCause}
 use Rattle.tdb_disk.specs.History.{History}
 use Rattle.tdb_ask.specs.declared.ask.Task.{Task}
-use Rattle.tdb_ask.specs.declared.ask.Task.TheVariants.{Create, On, Read, Restore, Backup, Verify, Turns, Session, Generate}
+use Rattle.tdb_ask.specs.declared.ask.Task.TheVariants.{Create, On, Read, Print, Restore, Backup, Verify, Turns, Session, Generate}
 use Rattle.tdb_top.specs.declared.ending.Ending.{Ending}
 use Rattle.tdb_top.specs.declared.ending.Ending.TheVariants.{Replied, Refused, Missing, There, Usage, DeviceFault, InputFault, Malformed, NoMemory}
 use Rattle.tdb_top.specs.declared.ending.Unprinted.{Unprinted}
@@ -20,6 +20,8 @@ use Rattle.tdb_ask.specs.Ask.{Ask}
 use Rattle.tdb_top.specs.Ending.{TakesMemory, PrintedFor, text_of}
 use Rattle.tdb_top.specs.Output.{output_by}
 use Rattle.tdb_top.specs.Looks.{LookText, StandsBefore, before_reply, rest_of, ending_of, Began}
+use Rattle.tdb_dump.specs.declared.listing.Listing.{Listing}
+use Rattle.tdb_top.specs.Commands.Print.{PrintText}
 use Rattle.tdb_top.specs.Commands.Session.{SessionText}
 use Rattle.tdb_top.specs.Commands.Turns.{TurnsText}
 use Rattle.tdb_world.specs.declared.options.Options.{Options}
@@ -39,6 +41,8 @@ reply_wanting text written R.Played takes is = is
 reply_wanting text written (R.Generated summary) takes is = is
 reply_wanting text written R.Unfinished takes is = is
 reply_wanting text written (R.Number n) takes is = is
+reply_wanting text written (R.Pair key value) takes is = is
+reply_wanting text written R.End takes is = is
 reply_wanting text written R.KeyMissing takes is = is
 reply_wanting text written R.KeyThere takes is = is
 reply_wanting text written (R.Full len need) takes is = is
@@ -85,6 +89,10 @@ look_wanting (Value key) held written t takes text = text
 look_wanting Dump None written t takes text = text
 look_wanting Dump (Some h) written t takes text = stands_wanting _ written t takes text
 
+print_wanting : (listing : Listing) (held : Option History) (written : List ℕ) (t : Ending) → TakesMemory t → PrintText listing held t written → PrintText listing held NoMemory written
+print_wanting listing None written t takes text = text
+print_wanting listing (Some h) written t takes text = stands_wanting _ written t takes text
+
 task_wanting : (task : Task) (name : List ℕ) (held : List ℕ → Option History) (written : List ℕ) (t : Ending) → TakesMemory t → TaskText task name held t written → TaskText task name held NoMemory written
 task_wanting (On act) name held written t takes text = text
 task_wanting (Create form) name held written t takes text = text
@@ -95,6 +103,7 @@ task_wanting (Turns options) name held written t takes text = turns_wanting opti
 task_wanting (Session limit) name held written t takes text = session_wanting limit (held name) written t text
 task_wanting (Generate commands seed) name held written t takes text = text
 task_wanting (Read look) name held written t takes text = look_wanting look (held name) written t takes text
+task_wanting (Print listing) name held written t takes text = print_wanting listing (held name) written t takes text
 
 text_wanting : (ask : Option Ask) (held : List ℕ → Option History) (written : List ℕ) (t : Ending) → TakesMemory t → TextBefore ask held t written → TextBefore ask held NoMemory written
 text_wanting None held written t takes text = text
@@ -105,6 +114,10 @@ look_nothing : (look : Look) (held : Option History) → LookText look held NoMe
 look_nothing (Value key) held = refl
 look_nothing Dump None = refl
 look_nothing Dump (Some h) = (0, refl)
+
+print_nothing : (listing : Listing) (held : Option History) → PrintText listing held NoMemory []
+print_nothing listing None = refl
+print_nothing listing (Some h) = (0, refl)
 
 turns_nothing : (options : Options) (held : Option History) → TurnsText options held NoMemory []
 turns_nothing options None = refl
@@ -124,6 +137,7 @@ task_nothing (Turns options) name held = turns_nothing options (held name)
 task_nothing (Session limit) name held = session_nothing limit (held name)
 task_nothing (Generate commands seed) name held = refl
 task_nothing (Read look) name held = look_nothing look (held name)
+task_nothing (Print listing) name held = print_nothing listing (held name)
 
 pub nothing_before : (ask : Option Ask) (held : List ℕ → Option History) → TextBefore ask held NoMemory []
 nothing_before None held = refl
@@ -148,6 +162,7 @@ task_heard (Verify more suffix) files output told = and_left output files told
 task_heard (Turns options) files output told = and_left output files told
 task_heard (Session limit) files output told = and_left output files told
 task_heard (Generate commands seed) files output told = told
+task_heard (Print listing) files output told = and_left output files told
 task_heard (Read (Value key)) files output told = told
 task_heard (Read Dump) files output told = and_left output files told
 

@@ -2,7 +2,7 @@
 use Rattle.std.specs.Prelude.{◌≡◌, ◌≢◌, ◌⊎◌, ℕ, List, Result, Ok, Err}
 use Rattle.tdb_disk.specs.History.{History, seen}
 use Rattle.tdb_ask.specs.declared.act.Act.{Act}
-use Rattle.tdb_ask.specs.declared.act.Act.TheVariants.{Show, Insert, Store, Delete, Erase, Check}
+use Rattle.tdb_ask.specs.declared.act.Act.TheVariants.{Show, Insert, Store, Delete, Erase, Check, First, Next}
 use Rattle.tdb_top.specs.declared.ending.Reply.{Reply}
 use Rattle.tdb_top.specs.declared.ending.Reply.TheVariants.{Done}
 use Rattle.tdb_top.specs.declared.halt.Fault.{Fault}
@@ -17,6 +17,7 @@ use Rattle.tdb_top.specs.Commands.Insert.{insert_reply, Inserts, InsertBroken}
 use Rattle.tdb_top.specs.Commands.Store.{store_reply, Stores}
 use Rattle.tdb_top.specs.Commands.Delete.{delete_reply, Deletes, DeleteBroken}
 use Rattle.tdb_top.specs.Commands.Erase.{erase_reply, Erases, EraseBroken}
+use Rattle.tdb_top.specs.Commands.First.{first_reply, next_reply}
 
 -- what an act replies over a file that is read as these bytes
 abbrev pub reply_of : Act → List ℕ → Reply
@@ -26,6 +27,8 @@ reply_of (Store key value) img = store_reply LONGEST_FILE key value img
 reply_of (Delete key) img = delete_reply key img
 reply_of Erase img = erase_reply img
 reply_of Check img = check_reply img
+reply_of First img = first_reply img
+reply_of Next img = next_reply img
 
 -- what an act leaves of an opened file where it replies that it is done; one that changes nothing never replies so
 abbrev pub Does : Act → History → History → Type 0
@@ -35,6 +38,8 @@ Does (Store key value) old now = Stores key value old now
 Does (Delete key) old now = Deletes key old now
 Does Erase old now = Erases old now
 Does Check old now = now ≡ old
+Does First old now = now ≡ old
+Does Next old now = now ≡ old
 
 -- what a call that failed in the midst of an act leaves of an opened file; of a store nothing is said
 abbrev pub Breaks : Act → History → History → Type 0
@@ -44,6 +49,8 @@ Breaks (Store key value) old now = Unit {0}
 Breaks (Delete key) old now = DeleteBroken key old now
 Breaks Erase old now = EraseBroken old now
 Breaks Check old now = now ≡ old
+Breaks First old now = now ≡ old
+Breaks Next old now = now ≡ old
 
 -- what an act leaves of an opened file: what it is to do where it replies that it is done, else the file as it was
 pub record Leaves (act : Act) (old now : History) : Type 0 where

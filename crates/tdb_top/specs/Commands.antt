@@ -5,8 +5,10 @@ pub mod Insert
 pub mod Store
 pub mod Delete
 pub mod Erase
+pub mod First
 pub mod Create
 pub mod Dump
+pub mod Print
 pub mod Restore
 pub mod Backup
 pub mod Verify

@@ -6,14 +6,14 @@ use Rattle.tdb_disk.specs.Count.{Rose}
 use Rattle.tdb_disk.specs.History.{History, seen}
 use Rattle.tdb_disk.specs.declared.files.TakeRefusal as Take
 use Rattle.tdb_dump.specs.Escape.{escaped}
-use Rattle.tdb_dump.specs.Line.{data_line}
+use Rattle.tdb_dump.specs.Line.{data_line, pair_line}
 use Rattle.tdb_ask.specs.declared.act.Act.{Act}
 use Rattle.tdb_ask.specs.declared.look.Look.{Look}
 use Rattle.tdb_ask.specs.declared.ask.Task.{Task}
-use Rattle.tdb_ask.specs.declared.ask.Task.TheVariants.{Create, On, Read, Restore, Backup, Verify, Turns, Session, Generate}
+use Rattle.tdb_ask.specs.declared.ask.Task.TheVariants.{Create, On, Read, Print, Restore, Backup, Verify, Turns, Session, Generate}
 use Rattle.tdb_top.specs.declared.ending.Ending.{Ending}
 use Rattle.tdb_top.specs.declared.ending.Ending.TheVariants.{Replied, Refused, Missing, There, Usage, DeviceFault, InputFault, Malformed, NoMemory}
-use Rattle.tdb_top.specs.declared.ending.Reply.TheVariants.{Done, Value, Escaped, Dumped, Restored, Copied, Verified, KeyMissing, KeyThere, Full, Number, Played, Generated, Unfinished}
+use Rattle.tdb_top.specs.declared.ending.Reply.TheVariants.{Done, Value, Escaped, Dumped, Restored, Copied, Verified, KeyMissing, KeyThere, Full, Number, Pair, End, Played, Generated, Unfinished}
 use Rattle.tdb_top.specs.declared.halt.Halt as H
 use Rattle.tdb_top.specs.declared.halt.Refusal.{Refusal}
 use Rattle.tdb_top.specs.declared.halt.Refusal.TheVariants.{TooLong, Header, Corrupt, NeedsRecovery}
@@ -56,6 +56,8 @@ answer (Replied Verified) = exits 0
 answer (Replied Played) = exits 0
 answer (Replied (Generated text)) = shows 0 text
 answer (Replied (Number n)) = tells 0 (codes "number " ++ decimal n)
+answer (Replied (Pair key value)) = tells 0 (pair_line key value)
+answer (Replied End) = says 0 (codes "end")
 answer (Replied KeyMissing) = says 1 (codes "noexist")
 answer (Replied KeyThere) = says 1 (codes "exists")
 answer (Replied Unfinished) = says 1 (codes "unfinished")
@@ -107,15 +109,23 @@ pub record RefusesToRead (img : List ℕ) (e : Ending) : Type 0 where
   pub right : IsRefusedToRead img refusal
   pub refused : e ≡ Refused refusal
 
--- How a task on the file of this name ends, by what is held there, where no call failed and memory sufficed. An act and
--- a look are on a file that is there; a file is made where none is. How a restore ends where no file is depends on its
--- input, as turns and a session do, how a backup and a verification end on all their files (`BackupEnds`, `VerifyEnds`),
--- and how generated commands end on how they were done (`GenSo`), so none is due to what is held at one name.
+-- the file with these bytes is opened, and its pairs are printed
+pub record PrintsPairs (img : List ℕ) (e : Ending) : Type 0 where
+  pub can_open : CanOpen img
+  pub printed : e ≡ Replied Dumped
+
+-- How a task on the file of this name ends, by what is held there, where no call failed and memory sufficed. An act, a
+-- look and a printing are on a file that is there; a file is made where none is. How a restore ends where no file is
+-- depends on its input, as turns and a session do, how a backup and a verification end on all their files (`BackupEnds`,
+-- `VerifyEnds`), and how generated commands end on how they were done (`GenSo`), so none is due to what is held at one
+-- name.
 abbrev pub TaskDue : Task → List ℕ → Option History → Ending → Type 0
 TaskDue (On act) name None e = e ≡ Missing name
 TaskDue (On act) name (Some h) e = Replies act (seen h) e ⊎ Refuses (seen h) e
 TaskDue (Read look) name None e = e ≡ Missing name
 TaskDue (Read look) name (Some h) e = LookReplies look (seen h) e ⊎ RefusesToRead (seen h) e
+TaskDue (Print listing) name None e = e ≡ Missing name
+TaskDue (Print listing) name (Some h) e = PrintsPairs (seen h) e ⊎ Refuses (seen h) e
 TaskDue (Create form) name None e = e ≡ Replied Done
 TaskDue (Create form) name (Some h) e = e ≡ There name
 TaskDue (Restore limit) name None e = ⊥
@@ -155,6 +165,7 @@ pub record CountedIf (tells : Bool) (before after : ℕ) (e : Ending) : Type 0 w
 abbrev pub has_openers : Task → Bool
 has_openers (On act) = false
 has_openers (Read look) = false
+has_openers (Print listing) = false
 has_openers (Create form) = false
 has_openers (Restore limit) = false
 has_openers (Backup more suffix) = false
@@ -171,6 +182,7 @@ asks_openers (Some ask) = has_openers ask.task
 abbrev pub CountedFor : Bool → Task → ℕ → ℕ → Ending → Type 0
 CountedFor tells (On act) before after e = CountedBy before after e
 CountedFor tells (Read look) before after e = CountedBy before after e
+CountedFor tells (Print listing) before after e = CountedBy before after e
 CountedFor tells (Create form) before after e = CountedBy before after e
 CountedFor tells (Restore limit) before after e = CountedBy before after e
 CountedFor tells (Backup more suffix) before after e = CountedBy before after e

@@ -3,7 +3,7 @@ use Rattle.std.specs.Prelude.{◌≡◌, ◌⊎◌, ℕ, true, false, IsTrue, Is
 use Rattle.tdb_disk.specs.History.{History, seen}
 use Rattle.tdb_ask.specs.declared.act.Act.{Act}
 use Rattle.tdb_ask.specs.declared.ask.Task.{Task}
-use Rattle.tdb_ask.specs.declared.ask.Task.TheVariants.{Create, On, Read, Restore, Backup, Verify, Turns, Session, Generate}
+use Rattle.tdb_ask.specs.declared.ask.Task.TheVariants.{Create, On, Read, Print, Restore, Backup, Verify, Turns, Session, Generate}
 use Rattle.tdb_top.specs.declared.ending.Ending.{Ending}
 use Rattle.tdb_top.specs.declared.ending.Ending.TheVariants.{Replied, Refused, Missing, There, Usage, DeviceFault, InputFault, Malformed, NoMemory}
 use Rattle.tdb_top.specs.declared.ending.Reply.TheVariants.{Done, Restored}
@@ -14,6 +14,7 @@ use Rattle.tdb_ask.specs.Ask.{Ask}
 use Rattle.tdb_ask.specs.CopyNames.{IsNameAmong}
 use Rattle.tdb_top.specs.Commands.Backup.{BackupLeaves}
 use Rattle.tdb_top.specs.Commands.Create.{CreateLeaves}
+use Rattle.tdb_top.specs.Commands.Print.{PrintLeaves}
 use Rattle.tdb_top.specs.Commands.Restore.{IsRestored}
 use Rattle.tdb_top.specs.Commands.Session.{StaysThere}
 use Rattle.tdb_top.specs.Commands.Turns.{TurnsLeave}
@@ -68,6 +69,7 @@ pub record RestoreLeaves (input : Input) (old : Option History) (e : Ending) (no
 abbrev pub TaskLeaves : Input → Task → List ℕ → (List ℕ → Option History) → Ending → (List ℕ → Option History) → Type 0
 TaskLeaves input (On act) file old e now = OnLeaves act (old file) e (now file)
 TaskLeaves input (Read look) file old e now = now file ≡ old file
+TaskLeaves input (Print listing) file old e now = PrintLeaves (old file) e (now file)
 TaskLeaves input (Create form) file old e now = MakingLeaves form (old file) e (now file)
 TaskLeaves input (Restore limit) file old e now = RestoreLeaves input (old file) e (now file)
 TaskLeaves input (Backup more suffix) file old e now = BackupLeaves suffix (file ∷ more) old e now
@@ -81,6 +83,7 @@ TaskLeaves input (Generate commands seed) file old e now = GenLeaves commands se
 abbrev pub MayChange : Task → List ℕ → List ℕ → Type 0
 MayChange (On act) file name = name ≡ file
 MayChange (Read look) file name = name ≡ file
+MayChange (Print listing) file name = name ≡ file
 MayChange (Create form) file name = name ≡ file
 MayChange (Restore limit) file name = name ≡ file
 MayChange (Turns options) file name = name ≡ file

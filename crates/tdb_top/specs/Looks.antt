@@ -3,6 +3,7 @@ use Rattle.std.specs.Prelude.{◌≡◌, ◌++◌, ℕ, Bool, ◌&&◌, Option, 
 use Rattle.tdb_disk.specs.History.{History, seen}
 use Rattle.tdb_ask.specs.declared.look.Look.{Look}
 use Rattle.tdb_ask.specs.declared.look.Look.TheVariants.{Dump, Value}
+use Rattle.tdb_dump.specs.declared.listing.Listing.TheVariants.{Pairs}
 use Rattle.tdb_top.specs.declared.ending.Ending.{Ending}
 use Rattle.tdb_top.specs.declared.ending.Ending.TheVariants.{Replied, Refused, Missing, There, Usage, DeviceFault, InputFault, Malformed, NoMemory}
 use Rattle.tdb_top.specs.declared.ending.Unprinted.{Unprinted}
@@ -46,7 +47,7 @@ StandsBefore text _ written = written ≡ []
 -- what a look prints before its line, by what is held at the name of its file: a dump the text of all pairs
 abbrev pub LookText : Look → Option History → Ending → List ℕ → Type 0
 LookText Dump None e written = written ≡ []
-LookText Dump (Some h) e written = StandsBefore (pairs_text (seen h)) e written
+LookText Dump (Some h) e written = StandsBefore (pairs_text Pairs (seen h)) e written
 LookText (Value key) held e written = written ≡ []
 
 -- whether it is told what a look prints before its line: a dump prints what the file holds, where its disk tells that

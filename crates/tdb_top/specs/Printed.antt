@@ -4,23 +4,25 @@ use Rattle.tdb_disk.specs.Count.{Rose}
 use Rattle.tdb_disk.specs.History.{History}
 use Rattle.tdb_top.specs.declared.ending.Unprinted.{Unprinted}
 use Rattle.tdb_ask.specs.declared.ask.Task.{Task}
-use Rattle.tdb_ask.specs.declared.ask.Task.TheVariants.{Create, On, Read, Restore, Backup, Verify, Turns, Session, Generate}
+use Rattle.tdb_ask.specs.declared.ask.Task.TheVariants.{Create, On, Read, Print, Restore, Backup, Verify, Turns, Session, Generate}
 use Rattle.tdb_top.specs.declared.ending.Ending.{Ending}
 use Rattle.tdb_top.specs.declared.ending.Ending.TheVariants.{Replied}
 use Rattle.tdb_top.specs.declared.ending.Reply.TheVariants.{Restored, Copied, Verified}
 use Rattle.tdb_ask.specs.Ask.{Ask}
 use Rattle.tdb_top.specs.Ending.{Prints, status_of, text_of}
 use Rattle.tdb_top.specs.Output.{Output}
+use Rattle.tdb_top.specs.Commands.Print.{PrintText}
 use Rattle.tdb_top.specs.Commands.Session.{SessionText}
 use Rattle.tdb_top.specs.Commands.Turns.{TurnsText}
 use Rattle.tdb_top.specs.Commands.Verify.{VerifyText}
 use Rattle.tdb_top.specs.Looks.{LookText, look_tells, rest_of}
 
--- what a task on the file of this name prints before the line of its ending, by what is held at each name; looks, turns,
--- sessions and verifications print such a text
+-- what a task on the file of this name prints before the line of its ending, by what is held at each name; looks,
+-- printings, turns, sessions and verifications print such a text
 abbrev pub TaskText : Task → List ℕ → (List ℕ → Option History) → Ending → List ℕ → Type 0
 TaskText (On act) name held e text = text ≡ []
 TaskText (Read look) name held e text = LookText look (held name) e text
+TaskText (Print listing) name held e text = PrintText listing (held name) e text
 TaskText (Create form) name held e text = text ≡ []
 TaskText (Restore limit) name held e text = text ≡ []
 TaskText (Backup more suffix) name held e text = text ≡ []
@@ -39,6 +41,7 @@ TextBefore (Some ask) held e text = TaskText ask.task ask.file held e text
 abbrev pub task_tells : Task → Bool → Bool → Bool
 task_tells (On act) files output = output
 task_tells (Read look) files output = look_tells look files output
+task_tells (Print listing) files output = output && files
 task_tells (Create form) files output = output
 task_tells (Restore limit) files output = output
 task_tells (Backup more suffix) files output = output

@@ -8,7 +8,7 @@ use Rattle.tdb_space.specs.Opening.{Opens}
 use Rattle.tdb_ask.specs.declared.act.Act.{Act}
 use Rattle.tdb_ask.specs.declared.look.Look.{Look}
 use Rattle.tdb_ask.specs.declared.ask.Task.{Task}
-use Rattle.tdb_ask.specs.declared.ask.Task.TheVariants.{Create, On, Read, Restore, Backup, Verify, Turns, Session, Generate}
+use Rattle.tdb_ask.specs.declared.ask.Task.TheVariants.{Create, On, Read, Print, Restore, Backup, Verify, Turns, Session, Generate}
 use Rattle.tdb_ask.specs.declared.lines.create.NewForm.{NewForm}
 use Rattle.tdb_top.specs.declared.commands.create.Creation.TheVariants.{Made, Device}
 use Rattle.tdb_top.specs.declared.ending.Ending.{Ending}
@@ -30,11 +30,12 @@ use Rattle.tdb_top.specs.Commands.Generate.{GenSo, HasMade}
 use Rattle.tdb_top.specs.Commands.Verify.{VerifyEnds, VerifiedAll, LeftAt}
 use Rattle.tdb_gen.specs.declared.summary.Summary.{Summary}
 use Rattle.tdb_gen.specs.Summary.{summary_text}
+use Rattle.tdb_dump.specs.declared.listing.Listing.{Listing}
 use Rattle.tdb_world.specs.declared.options.Options.{Options}
 use Rattle.tdb_top.specs.Input.{Input}
 use Rattle.tdb_top.specs.Left.{HasRestored, MayChange}
 use Rattle.tdb_top.specs.Reads.{ask_reads}
-use Rattle.tdb_top.specs.Opening.{opened_bytes, OpensToRead, HeldOrUndone, SameOrUndone, UndoneIfOpen}
+use Rattle.tdb_top.specs.Opening.{opened_bytes, OpensToRead, HeldOrUndone, SameOrUndone, UndoneIfOpen, LookBroken}
 
 -- a run: what its words ask for, what is held at each name before and after, how often calls of the files had failed
 -- before and after, what the input had, what the output took, and the status that the program exits with
@@ -101,6 +102,11 @@ pub record LooksInto (run : Run) (look : Look) (name : List ℕ) (old : History)
   pub asks : run.ask ≡ Some (record { file = name; task = Read look })
   pub there : run.old name ≡ Some old
 
+-- the words ask to print the pairs of a file that is there and has this history
+pub record PrintsOf (run : Run) (listing : Listing) (name : List ℕ) (old : History) : Type 0 where
+  pub asks : run.ask ≡ Some (record { file = name; task = Print listing })
+  pub there : run.old name ≡ Some old
+
 -- Status 3 comes only over a file whose bytes can't be opened, in the way that the command opens it; and over each that
 -- is no longer than the longest nothing else comes, unless a call failed or memory was wanting.
 pub record RefusesExactly (run : Run) : Type 0 where
@@ -108,6 +114,8 @@ pub record RefusesExactly (run : Run) : Type 0 where
   pub exact : (act : Act) (name : List ℕ) (h : History) → ActsOn run act name h → (Opens (seen h) → ⊥) → length (seen h) ≤ LONGEST_FILE → (run.status ≡ 3) ⊎ TellsFault run.status
   pub read_only : (look : Look) (name : List ℕ) (h : History) → LooksInto run look name h → run.status ≡ 3 → OpensToRead (seen h) → ⊥
   pub read_exact : (look : Look) (name : List ℕ) (h : History) → LooksInto run look name h → (OpensToRead (seen h) → ⊥) → length (seen h) ≤ LONGEST_FILE → (run.status ≡ 3) ⊎ TellsFault run.status
+  pub print_only : (listing : Listing) (name : List ℕ) (h : History) → PrintsOf run listing name h → run.status ≡ 3 → Opens (seen h) → ⊥
+  pub print_exact : (listing : Listing) (name : List ℕ) (h : History) → PrintsOf run listing name h → (Opens (seen h) → ⊥) → length (seen h) ≤ LONGEST_FILE → (run.status ≡ 3) ⊎ TellsFault run.status
 
 -- a status after which every file is as before or undone, whatever the words ask for, but for copies and restored files,
 -- and for turns and sessions that ended in their midst (`EndsMidway`): it says neither that it was done, nor that a call of the files or
@@ -132,6 +140,14 @@ pub record ActRun (act : Act) (old : History) (before after status : ℕ) (now :
   pub failed : status ≡ 4 → Interrupted act old now
   pub kept : KeepsAll status → SameOrUndone old now
   pub exact : KeepsAll status → status ≢ 5 → UndoneIfOpen old now
+
+-- What a run leaves of the file whose pairs are printed, which held this: what its opening leaves. Want of memory, status
+-- 5, may come before the file was opened, and after a fault of the output, status 8, the opening may have failed.
+pub record PrintRun (old : History) (before after status : ℕ) (now : History) : Type 0 where
+  pub any : SameOrUndone old now ⊎ (Rose before after × LookBroken old now)
+  pub failed : status ≡ 4 → LookBroken old now
+  pub kept : status ≢ 4 → status ≢ 8 → SameOrUndone old now
+  pub exact : status ≢ 4 → status ≢ 5 → status ≢ 8 → UndoneIfOpen old now
 
 -- what a run leaves at the name of a file that is to be made, in the same way
 pub record MakingRun (form : NewForm) (old : Option History) (before after status : ℕ) (now : Option History) : Type 0 where
@@ -209,6 +225,9 @@ pub record LeavesFiles (run : Run) : Type 0 where
   pub verified : (more : List (List ℕ)) (suffix name : List ℕ) → run.ask ≡ Some (record { file = name; task = Verify more suffix })
       → VerifyRun suffix (name ∷ more) run.old run.faults_before run.faults_after run.status run.now
   pub read : (look : Look) (name : List ℕ) → run.ask ≡ Some (record { file = name; task = Read look }) → run.now name ≡ run.old name
+  pub printed : (listing : Listing) (name : List ℕ) (old : History) → PrintsOf run listing name old
+      → (h : History) × (run.now name ≡ Some h) × PrintRun old run.faults_before run.faults_after run.status h
+  pub unprinted : (listing : Listing) (name : List ℕ) → run.ask ≡ Some (record { file = name; task = Print listing }) → run.old name ≡ None → run.now name ≡ None
   pub turned : (options : Options) (name : List ℕ) (old : History) → run.ask ≡ Some (record { file = name; task = Turns options }) → run.old name ≡ Some old
       → (h : History) × (run.now name ≡ Some h) × TurnsRun options run.input run.output old run.faults_before run.faults_after run.status h
   pub unturned : (options : Options) (name : List ℕ) → run.ask ≡ Some (record { file = name; task = Turns options }) → run.old name ≡ None → run.now name ≡ None

@@ -18,6 +18,7 @@ ghost use Rattle.tdb_top.specs.Opening.{IsCheckedOn};
 use crate::commands::check::check;
 use crate::commands::delete::delete;
 use crate::commands::erase::erase;
+use crate::commands::first::{first, next};
 use crate::commands::insert::insert;
 use crate::commands::show::show;
 use crate::commands::store::store;
@@ -48,6 +49,8 @@ fn perform<D: Disk>(alloc: Global, act: &Act, disk: &mut D, opened: &Opened) -> 
         Act::Delete { key } => delete(disk, opened, key.as_slice()),
         Act::Erase => erase(disk, opened),
         Act::Check => Ok(check(opened)),
+        Act::First => first(alloc, disk, opened),
+        Act::Next => Ok(next()),
     }
 }
 

@@ -22,6 +22,7 @@ use crate::act::act_on_file;
 use crate::commands::backup::back_up;
 use crate::commands::create::create_file;
 use crate::commands::generate::generate_file;
+use crate::commands::print::print_on_file;
 use crate::commands::restore::restore_file;
 use crate::commands::session::session_on_file;
 use crate::commands::turns::turns_on_file;
@@ -62,6 +63,7 @@ pub(crate) fn answer_ask<F: Files, S: Source, K: Sink>(
     match &ask.task {
         Task::On(act) => Ok(act_on_file(alloc, name, act, files)),
         Task::Read(look) => look_on_file(alloc, name, look, files, output),
+        Task::Print(listing) => print_on_file(alloc, name, *listing, files, output),
         Task::Create(form) => {
             let creation = create_file(alloc, name, *form, files);
             Ok(Ending::made(alloc, name, creation))

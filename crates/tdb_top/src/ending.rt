@@ -14,7 +14,7 @@ use crate::halt::{Halt, Refusal};
 use itoa::Buffer;
 use std::alloc::{AllocError, Global};
 use tdb_disk::{Sink, TakeRefusal};
-use tdb_dump::{data_line, escape};
+use tdb_dump::{data_line, escape, pair_line};
 use tdb_words::{Bytes, What};
 use thiserror::Error;
 
@@ -58,6 +58,12 @@ pub(crate) enum Reply {
 
     /// So many keys.
     Number(u64),
+
+    /// A key and its value.
+    Pair { key: Bytes, value: Bytes },
+
+    /// No pair is left.
+    End,
 
     /// The key isn't there.
     KeyMissing,
@@ -248,7 +254,7 @@ impl Ending {
             Ending::Replied(Reply::Dumped | Reply::Restored) => 0,
             Ending::Replied(Reply::Copied | Reply::Verified | Reply::Played) => 0,
             Ending::Replied(Reply::Generated(_)) => 0,
-            Ending::Replied(Reply::Number(_)) => 0,
+            Ending::Replied(Reply::Number(_) | Reply::Pair { key: _, value: _ } | Reply::End) => 0,
             Ending::Replied(Reply::KeyMissing | Reply::KeyThere | Reply::Unfinished) => 1,
             Ending::Usage => 2,
             Ending::Refused(Refusal::Header { fault: _ } | Refusal::Corrupt { what: _, at: _ }) => {
@@ -275,6 +281,7 @@ impl Ending {
             Ending::Replied(Reply::Done) => Some(b"ok\n"),
             Ending::Replied(Reply::Dumped | Reply::Restored) => Some(b""),
             Ending::Replied(Reply::Copied | Reply::Verified | Reply::Played) => Some(b""),
+            Ending::Replied(Reply::End) => Some(b"end\n"),
             Ending::Replied(Reply::KeyMissing) => Some(b"noexist\n"),
             Ending::Replied(Reply::KeyThere) => Some(b"exists\n"),
             Ending::Replied(Reply::Generated(text)) => Some(text.as_slice()),
@@ -298,6 +305,9 @@ impl Ending {
             Ending::Replied(Reply::Escaped(value)) => escape(alloc, value.as_slice()),
             Ending::Replied(Reply::Number(number)) => {
                 joined(alloc, b"number ", Buffer::new().format(*number).as_bytes())
+            }
+            Ending::Replied(Reply::Pair { key, value }) => {
+                pair_line(alloc, key.as_slice(), value.as_slice())
             }
             Ending::Replied(Reply::Full { len, need }) => full_line(alloc, *len, *need),
             Ending::Refused(refusal) => refusal.line(alloc),

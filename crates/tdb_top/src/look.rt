@@ -12,12 +12,14 @@ ghost use Rattle.tdb_ask.specs.Ask.{LookFits};
 ghost use Rattle.tdb_top.specs.Looks.{LookEnds, LookText, look_tells, ending_of, Began};
 ghost use Rattle.tdb_top.specs.Opening.{CanRead, IsCheckedOn};
 
-use crate::commands::dump::{dump, value};
+use crate::commands::dump::value;
+use crate::commands::print::print_pairs;
 use crate::ending::{Ending, Unprinted};
 use crate::opening::Opened;
 use std::alloc::Global;
 use tdb_ask::Look;
 use tdb_disk::{Disk, Files, Sink, Take};
+use tdb_dump::Listing;
 
 /// Looks into an opened file. What a dump prints is written to the output; where that fails, the rest isn't.
 fn look_into<D: Disk, K: Sink>(
@@ -39,7 +41,7 @@ fn look_into<D: Disk, K: Sink>(
     ensures unread { of_input (ending_of result) ≡ false }
 {
     match look {
-        Look::Dump => dump(alloc, disk, opened, output),
+        Look::Dump => print_pairs(alloc, disk, opened, Listing::Pairs, output),
         Look::Value { key } => Ok(value(alloc, disk, opened, key.as_slice())),
     }
 }

@@ -75,7 +75,8 @@ fn finish<K: Sink>(alloc: Global, answered: &Result<Ending, Unprinted>, output: 
 /// | Status | Meaning | Printed |
 /// |---|---|---|
 /// | 0 | the value of the key is shown, the key is added, the file is made, or it is accepted and has `N` keys | `data(N) = "TEXT"`, `ok`, `ok`, `number N` |
-/// | 0 | all pairs are printed, or the value of the one key | their dump text, `TEXT` |
+/// | 0 | all pairs are printed, or all keys, or the value of the one key | their dump text, a line for each key, `TEXT` |
+/// | 0 | the first pair is shown, or there is none, or none behind the one shown last | `key(N) = "TEXT" data(N) = "TEXT"`, `end`, `end` |
 /// | 0 | the file is made of the pairs on the input, or all files are copied | |
 /// | 0 | all files are verified: each was opened, or had a fault and was restored from its copy | `FILE : N records`, behind `restoring FILE` where it was restored |
 /// | 0 | the plays of the script on the input were taken | their report, line by line |
@@ -102,6 +103,9 @@ fn finish<K: Sink>(alloc: Global, answered: &Result<Ending, Unprinted>, output: 
 /// The command `dump [-k KEY] FILE` opens the file in the same way, but to read it alone: nothing is undone. Then it
 /// reads each record once more, in the order of the chains, and writes the pairs in pieces of at least 64 KiB; it holds
 /// one pair. With `-k` it looks up one value, and prints that.
+///
+/// The commands `tool FILE dump`, `tool FILE keys` and `tool FILE hexkeys` open the file as a show does, and print all
+/// pairs in the same way, or a line for each key. The command `tool FILE first` reads the first pair alone.
 ///
 /// The command `restore FILE` makes a file as `create` does, reads the input in pieces of 64 KiB, adds each pair without
 /// looking its key up, and syncs: time is linear in the text and in the file. It holds all keys, so as to refuse a

@@ -16,6 +16,8 @@ mod inserts;
 #[cfg(test)]
 mod lines;
 #[cfg(test)]
+mod printing;
+#[cfg(test)]
 mod runs;
 #[cfg(test)]
 mod sessions;

@@ -1,7 +1,7 @@
 // Files whose gate is open: what is printed, and what is left of them.
 
 use crate::images::{Change, change, one_record};
-use crate::runs::run_on;
+use crate::runs::{DUMP, run_on};
 use std::test::Fail;
 use tdb_disk::Call;
 
@@ -53,6 +53,20 @@ fn opened_gates(rt: HostRuntime) -> Result<(), Fail> {
             Some([].as_slice()),
         ),
         ([].as_slice(), "dump f.tdb", 3, "needs recovery\n", None),
+        (
+            [].as_slice(),
+            "tool f.tdb dump",
+            0,
+            DUMP,
+            Some([].as_slice()),
+        ),
+        (
+            [].as_slice(),
+            "tool f.tdb first",
+            0,
+            "key(1) = \"a\" data(1) = \"1\"\n",
+            Some([].as_slice()),
+        ),
         // An entry that passes the old length, and an undo area behind the end.
         (
             [(4132, 4096)].as_slice(),
