@@ -11,9 +11,9 @@ use tdb_disk::MemDisk;
 use tdb_locks::{Held, Locks, Reply, Spots, Turn};
 use tdb_space::{Direct, Io, Space};
 use tdb_walk::Goal;
-use tdb_words::{Bytes, FREE, HashKind, Header, Order, USED, word_bytes};
+use tdb_words::{Bytes, FREE, HashKind, Header, Order, USED, header_bytes, word_bytes};
 
-const HEADER: Header = Header {
+pub(crate) const HEADER: Header = Header {
     order: Order::Little,
     hash: HashKind::Old,
     hash_size: 131,
@@ -39,14 +39,23 @@ const WORDS: [(usize, u32); 14] = [
     (4092, 32),
 ];
 
-fn file(alloc: Global) -> Result<MemDisk, AllocError> {
-    let mut image = vec![in alloc; 0u8; 4096]?;
-    for (at, word) in &WORDS {
+pub(crate) fn put_words(image: &mut [u8], words: &[(usize, u32)]) {
+    for (at, word) in words {
         if *at <= image.len() && image.len() - *at >= 4 {
             image[*at..*at + 4].copy_from_slice(&word_bytes(*word, Order::Little));
         }
     }
-    MemDisk::new(alloc, &image)
+}
+
+pub(crate) fn image(alloc: Global) -> Result<Vec<u8>, AllocError> {
+    let mut image = vec![in alloc; 0u8; 4096]?;
+    image[..168].copy_from_slice(&header_bytes(131, Order::Little, HashKind::Old));
+    put_words(&mut image, &WORDS);
+    Ok(image)
+}
+
+fn file(alloc: Global) -> Result<MemDisk, AllocError> {
+    MemDisk::new(alloc, &image(alloc)?)
 }
 
 fn pair(alloc: Global) -> Result<Turn, AllocError> {

@@ -3,3 +3,7 @@
 
 #[cfg(test)]
 mod entries;
+#[cfg(test)]
+mod openers;
+#[cfg(test)]
+mod rows;
