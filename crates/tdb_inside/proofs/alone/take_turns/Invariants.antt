@@ -1,0 +1,21 @@
+-- So many steps were taken, and nothing came between them.
+use Rattle.std.proofs.Common.{◌≡◌, ◌≤◌, [], IsTrue}
+use Rattle.tdb_space.specs.Accepted.{AcceptWith}
+use Rattle.tdb_space.specs.Frame.{Wrote}
+use Rattle.tdb_steps.specs.Machines.{Fits}
+use Rattle.tdb_inside.proofs.Progress.{IsOf, Progress}
+use Rattle.tdb_inside.proofs.alone.take_turns.Given as goal
+
+abbrev pub invariant-loop-taken : goal.invariant-loop-taken
+invariant-loop-taken g l = record {
+  of : IsOf l.fn.machine.command l.fn.machine.seqnum l.machine l._taken;
+  few : l._taken ≤ 6;
+  fits : Fits l.machine (g.S.Space.size l.s) (g.S.Space.spare l.s);
+  made : IsTrue g.S.Space.tells → AcceptWith (g.S.Space.form l.fn.s) (g.S.Space.image l.fn.s) []
+      → Progress (g.S.Space.form l.fn.s) (g.S.Space.image l.fn.s) (g.S.Space.image l.s) l.fn.machine.command l.machine l._taken;
+  longer : g.S.Space.size l.fn.s ≤ g.S.Space.size l.s;
+  within : g.S.Space.size l.s ≤ l.limit;
+  wrote : Wrote g.S.Space l.fn.s l.s;
+  faults : g.S.Space.faults l.s ≡ g.S.Space.faults l.fn.s;
+  bytes_read : g.S.Space.bytes_read l.fn.s ≤ g.S.Space.bytes_read l.s;
+}
