@@ -1,3 +1,6 @@
+pub mod Inside
+pub mod Nested
+pub mod Keys
 pub mod Progress
 pub mod Turned
 pub mod Fronts

@@ -1,7 +1,9 @@
 -- A command on the map inside a transaction, in the words of the law.
-use Rattle.std.proofs.Common.{◌≡◌, ℕ, ◌+◌, max, List, Bool, true, false, None, Some, refl, sym, ◌∙◌, ap, subst, inl, arith}
+use Rattle.std.proofs.Common.{[], ◌≡◌, ℕ, ◌+◌, max, List, Bool, true, false, None, Some, refl, sym, ◌∙◌, ap, subst, inl, arith}
 use Rattle.std.specs.Prelude.{◌&&◌, ◌||◌, if◌then◌else◌}
 use Rattle.tdb_space.specs.Form.{Form}
+use Rattle.tdb_space.specs.Accepted.{AcceptWith}
+use Rattle.tdb_space.proofs.Stays.Changes.{changes_none}
 use Rattle.tdb_law.specs.Commands.{MapCommand, Reply, is_done}
 use Rattle.tdb_law.specs.Commands.Command.{OnMap}
 use Rattle.tdb_law.specs.Commands.Turn.{Ends}
@@ -23,17 +25,14 @@ use Rattle.tdb_inside.specs.OwnTxns.{law_txn, image_of, form_of, own_inside, Sam
 use Rattle.tdb_inside.specs.Done.{MapDone, ImageDone}
 use Rattle.tdb_inside.specs.Done.MapDone.{answers, starves, is_full}
 use Rattle.tdb_inside.specs.Turns.{TurnsInside}
+use Rattle.tdb_inside.proofs.Inside.{same_either}
 
 -- a transaction with this image, in which something was changed or nothing
 abbrev with_image : Txn → Map → Bool → Txn
 with_image t n changed = record t { image = n; changed = changed }
 
-abbrev inside : Own → Txn → Own
+abbrev pub inside : Own → Txn → Own
 inside x t = record x { txn = Some t }
-
-same_either : (p : Bool) (n : ℕ) → (if p then n else n) ≡ n
-same_either true n = refl
-same_either false n = refl
 
 raised_by : (done changes counting : Bool) (p : ℕ) → raised (done && (changes && counting)) p ≡ (if done then (if changes then raised counting p else p) else p)
 raised_by true true counting p = refl
@@ -133,3 +132,30 @@ run_inside x old new base c n r S R D flag =
     let q = number_of f (image_of new base) in
     subst (λ y. TurnsInside f (own_inside x old base) y (OnMap c) n p q r) (own_is x old new base S)
     (map_inside f x (law_txn (image_map f (image_of old base)) old.txn old.changed old.numbered) c refl R n p q m new.changed r D.map flag D.number)
+
+-- a command that only looks, and isn't done by that
+pub look_done : (f : Form) (a : List ℕ) (c : MapCommand) (counting : Bool) (r : Reply) → may_change c ≡ false → AcceptWith f a [] → MapDone c (image_map f a) (image_map f a) r → ImageDone f a a c counting r
+look_done f a c counting r looks A M = record {
+  accepted = A;
+  front = (changes_none f a (λ k. Unit {0})).front;
+  map = M;
+  number = sym (ap (λ b. raised (is_done r && (b && counting)) (number_of f a)) looks ∙ ap (λ b. raised b (number_of f a)) (and_false (is_done r)));
+}
+
+pub looks_inside : (x : Own) (old new : OwnTxn) (base : List ℕ) (c : MapCommand) (n : ℕ) (r : Reply) → SameTxn old new → image_of new base ≡ image_of old base → new.changed ≡ old.changed → may_change c ≡ false
+    → refusal (form_of old) (OnMap c) (own_inside x old base) ≡ None → AcceptWith (form_of old) (image_of old base) []
+    → MapDone c (image_map (form_of old) (image_of old base)) (image_map (form_of old) (image_of old base)) r
+    → TurnsInside (form_of old) (own_inside x old base) (own_inside x new base) (OnMap c) n (number_of (form_of old) (image_of old base)) (number_of (form_of old) (image_of old base)) r
+looks_inside x old new base c n r S same changed looks R A M =
+    let f = form_of old in
+    let a = image_of old base in
+    subst (λ b. TurnsInside f (own_inside x old base) (own_inside x new base) (OnMap c) n (number_of f a) (number_of f b) r) same
+    (run_inside x old new base c n r S R (subst (λ b. ImageDone f a b c old.numbered r) (sym same) (look_done f a c old.numbered r looks A M))
+    (changed ∙ sym (ap (λ b. old.changed || (b && is_done r)) looks ∙ unset old.changed)))
+
+-- where only pages that change no byte came to it, its opener is as before
+pub same_own : (x : Own) (old new : OwnTxn) (base : List ℕ) → SameTxn old new → image_of new base ≡ image_of old base → new.changed ≡ old.changed → own_inside x old base ≡ own_inside x new base
+same_own x old new base S same changed =
+    ap (λ b. inside x (with_image (law_txn (image_map (form_of old) (image_of old base)) old.txn old.changed old.numbered) (image_map (form_of old) b) old.changed)) (sym same)
+    ∙ ap (λ b. inside x (with_image (law_txn (image_map (form_of old) (image_of old base)) old.txn old.changed old.numbered) (image_map (form_of old) (image_of new base)) b)) (sym changed)
+    ∙ own_is x old new base S

@@ -1,3 +1,4 @@
 pub mod Done
 pub mod OwnTxns
 pub mod Turns
+pub mod Laws

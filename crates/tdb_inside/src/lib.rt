@@ -2,7 +2,11 @@
 #![tactic(auto)]
 
 mod alone;
+mod laws;
+mod looks;
+mod nesting;
 mod own_txn;
 mod plain;
 
+pub use crate::laws::nothing_is_done;
 pub use crate::own_txn::OwnTxn;

@@ -1,0 +1,273 @@
+-- The commands on transactions within a transaction, and those that do nothing, in the words of the law.
+use Rattle.std.proofs.Common.{◌≡◌, ℕ, ◌+◌, ◌-◌, ◌<◌, List, [], Bool, true, false, nat_lt, nat_le, Option, None, Some, refl, sym, ◌∙◌, ap, subst, arith}
+use Rattle.std.specs.Prelude.{◌&&◌, if◌then◌else◌}
+use Rattle.std.proofs.lemmas.Bool.{lt-ltb}
+use Rattle.std.proofs.lemmas.Bool.Decides.{nat_tests}
+use Rattle.tdb_space.specs.Form.{Form}
+use Rattle.tdb_law.specs.Commands.{Command, Reply, is_done}
+use Rattle.tdb_law.specs.Commands.GroupCommand.{Start, Commit, Prepare, Cancel}
+use Rattle.tdb_law.specs.Commands.Command.{OnMap, OnLocks, Seqnum, OnGroup, OnWalk}
+use Rattle.tdb_law.specs.Commands.Reply.{Done, Doomed, Number}
+use Rattle.tdb_law.specs.Openers.{Own, Txn, Map, Spot, outside}
+use Rattle.tdb_law.specs.Refusals.{Refusal, refusal, says}
+use Rattle.tdb_law.specs.Refusals.Refusal.{IsDoomed}
+use Rattle.tdb_law.specs.Rows.{Lock, locks_by, look_by, is_changed, changed_by}
+use Rattle.tdb_law.specs.Outcomes.{moves_by, counts_by, told_by, map_by, own_by, own_refused}
+use Rattle.tdb_law.specs.Ends.{ends_by}
+use Rattle.tdb_law.specs.Held.{kept}
+use Rattle.tdb_law.specs.Counting.{number_by, image_number_by, number_seen}
+use Rattle.tdb_law.specs.Effects.Effect.{effect_answers, effect_numbers}
+use Rattle.tdb_law.specs.Images.{image_map}
+use Rattle.tdb_txn.specs.Txn.{txn_depth, txn_doomed, txn_pages, SameView}
+use Rattle.tdb_txn.specs.Pages.{contents}
+use Rattle.tdb_inside.specs.declared.own_txn.OwnTxn.{OwnTxn}
+use Rattle.tdb_inside.specs.OwnTxns.{law_txn, image_of, form_of, own_inside}
+use Rattle.tdb_inside.specs.Laws.{IsEnd, PreparesInside, RefusesInside}
+use Rattle.tdb_inside.specs.Turns.{TurnsInside}
+use Rattle.tdb_inside.proofs.Inside.{same_either, inside_of}
+use Rattle.tdb_inside.proofs.Turned.{inside}
+
+-- What a command with this refusal, or with none, comes to in the law's tables where it is done at once, by an opener who is y afterwards.
+record Comes (f : Form) (x y : Own) (c : Command) (o : Option Refusal) (r : Reply) : Type 0 where
+  ends : ends_by o c x 0 r ≡ true
+  unlocked : (purging : Bool) → ◌≡◌ {A = List Lock} (locks_by f o c x purging) []
+  unmoved : moves_by o c x ≡ false
+  uncounted : counts_by o c ≡ false
+  looks : look_by o c x ≡ 0
+  unchanged : changed_by o c x 0 ≡ false
+  told : (m : Map) → told_by o c x m ≡ r
+  map : (m : Map) → map_by o c x m ≡ m
+  own : (m : Map) → own_by f o c x 0 r m ≡ y
+  number : (n p : ℕ) → number_by o c x n p ≡ n
+  image_number : (n p : ℕ) → image_number_by o c x n p ≡ p
+  kept_same : (a z : Spot) (b : ℕ) → kept f y z b ≡ kept f x a b
+  within : outside x ≡ false
+
+module _ (f : Form) (x y : Own) (c : Command) (o : Option Refusal) (R : refusal f c x ≡ o) (r : Reply) (C : Comes f x y c o r) where
+  changed_none : is_changed f c x 0 ≡ false
+  unfolding is_changed
+  changed_none = ap (λ q. changed_by q c x 0) R ∙ C.unchanged
+
+  answered : (n p : ℕ) → TurnsInside f x y c n p p r
+  answered n p =
+      inside_of f x y c (λ purging. ap (λ q. locks_by f q c x purging) R ∙ C.unlocked purging) C.within n p p r (ap (λ q. ends_by q c x 0 r) R ∙ C.ends)
+      (λ table who want file free reads.
+      effect_answers r refl free (ap (λ q. moves_by q c x) R ∙ C.unmoved) (ap (λ q. counts_by q c) R ∙ C.uncounted)
+      (λ k reading. let early = ap (λ q. look_by q c x) R ∙ C.looks in omega (arith, early)) changed_none
+      (sym (ap (λ q. told_by q c x file) R ∙ C.told file)) (sym (ap (λ q. map_by q c x file) R ∙ C.map file)) (sym (ap (λ q. own_by f q c x 0 r file) R ∙ C.own file)))
+      C.kept_same
+      (ap (λ z. if is_done r then number_by z c x n p else n) R ∙ ap (λ m. if is_done r then m else n) (C.number n p) ∙ same_either (is_done r) n)
+      (sym (ap (λ z. if is_done r then image_number_by z c x n p else p) R ∙ ap (λ m. if is_done r then m else p) (C.image_number n p) ∙ same_either (is_done r) p))
+
+not_flat : (d : ℕ) → 1 < d → nat_le d 1 ≡ false
+not_flat d deep = grind (arith, nat_tests)
+
+flat_and : (b c : Bool) → b ≡ false → (b && c) ≡ false
+flat_and b c e = rw e refl
+
+module _ (f : Form) (x : Own) (t : Txn) (unprepared : t.prepared ≡ None) where
+  abbrev before : Own
+  before = inside x t
+
+  pub start_inside : (n p : ℕ) → refusal f (OnGroup Start) before ≡ None → TurnsInside f before (inside x (record t { depth = t.depth + 1 })) (OnGroup Start) n p p Done
+  start_inside n p R =
+      answered f before (inside x (record t { depth = t.depth + 1 })) (OnGroup Start) None R Done
+      (record {
+        ends = refl;
+        unlocked = λ purging. refl;
+        unmoved = refl;
+        uncounted = refl;
+        looks = refl;
+        unchanged = refl;
+        told = λ m. refl;
+        map = λ m. refl;
+        own = λ m. refl;
+        number = λ n p. refl;
+        image_number = λ n p. refl;
+        kept_same = λ a z b. refl;
+        within = refl;
+      }) n p
+
+  module _ (deep : 1 < t.depth) where
+    nested : nat_lt 1 t.depth ≡ true
+    nested = lt-ltb 1 t.depth deep
+
+    flat : nat_le t.depth 1 ≡ false
+    flat = not_flat t.depth deep
+
+    cancel_granted : refusal f (OnGroup Cancel) before ≡ None
+    unfolding refusal
+    cancel_granted = refl
+
+    pub cancel_inside : (n p : ℕ) → TurnsInside f before (inside x (record t { depth = t.depth - 1; doomed = true })) (OnGroup Cancel) n p p Done
+    cancel_inside n p =
+        answered f before (inside x (record t { depth = t.depth - 1; doomed = true })) (OnGroup Cancel) None cancel_granted Done
+        (record {
+          ends = refl;
+          unlocked = λ purging. refl;
+          unmoved = refl;
+          uncounted = refl;
+          looks = refl;
+          unchanged = refl;
+          told = λ m. refl;
+          map = λ m. refl;
+          own = λ m. rw nested refl;
+          number = λ n p. refl;
+          image_number = λ n p. refl;
+          kept_same = λ a z b. refl;
+          within = refl;
+        }) n p
+
+    commit_refused : (b : Bool) → t.doomed ≡ b → refusal f (OnGroup Commit) before ≡ (if b then Some IsDoomed else None)
+    unfolding refusal
+    commit_refused true e = rw e refl
+    commit_refused false e = rw (e, nested) refl
+
+    abbrev lower : Own
+    lower = inside x (record t { depth = t.depth - 1 })
+
+    pub commit_inside : (n p : ℕ) → t.doomed ≡ false → TurnsInside f before lower (OnGroup Commit) n p p Done
+    commit_inside n p whole =
+        answered f before lower (OnGroup Commit) None (commit_refused false whole) Done
+        (record {
+          ends = rw flat refl;
+          unlocked = λ purging. rw flat refl;
+          unmoved = refl;
+          uncounted = refl;
+          looks = rw flat refl;
+          unchanged = rw flat refl;
+          told = λ m. refl;
+          map = λ m. rw flat refl;
+          own = λ m. rw nested refl;
+          number = λ n p. rw flat refl;
+          image_number = λ n p. refl;
+          kept_same = λ a z b. refl;
+          within = refl;
+        }) n p
+
+    pub doomed_inside : (n p : ℕ) → t.doomed ≡ true → TurnsInside f before lower (OnGroup Commit) n p p Doomed
+    doomed_inside n p doomed =
+        answered f before lower (OnGroup Commit) (Some IsDoomed) (commit_refused true doomed) Doomed
+        (record {
+          ends = refl;
+          unlocked = λ purging. refl;
+          unmoved = refl;
+          uncounted = refl;
+          looks = refl;
+          unchanged = refl;
+          told = λ m. refl;
+          map = λ m. refl;
+          own = λ m. rw nested refl;
+          number = λ n p. refl;
+          image_number = λ n p. refl;
+          kept_same = λ a z b. refl;
+          within = refl;
+        }) n p
+
+-- what does nothing
+prepare_granted : (f : Form) (x : Own) (t : Txn) → x.txn ≡ Some t → t.prepared ≡ None → 1 < t.depth → refusal f (OnGroup Prepare) x ≡ None
+unfolding refusal
+prepare_granted f x t has unprepared deep = rw (has, unprepared, lt-ltb 1 t.depth deep) refl
+
+pub prepares_inside : PreparesInside
+prepares_inside f x t n p has unprepared deep =
+    answered f x x (OnGroup Prepare) None (prepare_granted f x t has unprepared deep) Done
+    (record {
+      ends = rw (has, not_flat t.depth deep) refl;
+      unlocked = λ purging. rw (has, not_flat t.depth deep) refl;
+      unmoved = refl;
+      uncounted = refl;
+      looks = refl;
+      unchanged = refl;
+      told = λ m. refl;
+      map = λ m. refl;
+      own = λ m. rw (has, lt-ltb 1 t.depth deep) refl;
+      number = λ n p. refl;
+      image_number = λ n p. refl;
+      kept_same = λ a z b. rw has refl;
+      within = rw has refl;
+    }) n p
+
+refused_own : (c : Command) (x : Own) → (IsEnd c → ⊥) → own_refused c x ≡ x
+refused_own (OnMap c) x other = refl
+refused_own (OnLocks c) x other = refl
+refused_own Seqnum x other = refl
+refused_own (OnGroup Start) x other = refl
+refused_own (OnGroup Commit) x other = absurd (other tt)
+refused_own (OnGroup Prepare) x other = absurd (other tt)
+refused_own (OnGroup Cancel) x other = refl
+refused_own (OnWalk w) x other = refl
+
+pub refuses_inside : RefusesInside
+refuses_inside f x t c why n p has other R =
+    answered f x x c (Some why) R (says x why)
+    (record {
+      ends = refl;
+      unlocked = λ purging. refl;
+      unmoved = refl;
+      uncounted = refl;
+      looks = refl;
+      unchanged = refl;
+      told = λ m. refl;
+      map = λ m. refl;
+      own = λ m. refused_own c x other;
+      number = λ n p. refl;
+      image_number = λ n p. refl;
+      kept_same = λ a z b. rw has refl;
+      within = rw has refl;
+    }) n p
+
+-- a transaction of which all but its depth stays, and whether it is doomed
+abbrev of_txn : OwnTxn → List ℕ → Txn
+of_txn t base = law_txn (image_map (form_of t) (image_of t base)) t.txn t.changed t.numbered
+
+pub nested_is : (x : Own) (old new : OwnTxn) (base : List ℕ) (depth : ℕ) (doomed : Bool) → SameView old.txn new.txn → txn_depth new.txn + 1 ≡ depth → txn_doomed new.txn ≡ doomed → new.changed ≡ old.changed → new.numbered ≡ old.numbered
+    → inside x (record (of_txn old base) { depth = depth; doomed = doomed }) ≡ own_inside x new base
+nested_is x old new base depth doomed V deep told changed numbered =
+    ap (λ g. inside x (record { image = image_map g (image_of old base); depth = depth; doomed = doomed; prepared = None; changed = old.changed; numbered = old.numbered })) (sym V.form)
+    ∙ ap (λ ps. inside x (record { image = image_map (form_of new) (contents ps base old.txn.size); depth = depth; doomed = doomed; prepared = None; changed = old.changed; numbered = old.numbered })) (sym V.pages)
+    ∙ ap (λ size. inside x (record { image = image_map (form_of new) (contents (txn_pages new.txn) base size); depth = depth; doomed = doomed; prepared = None; changed = old.changed; numbered = old.numbered })) (sym V.size)
+    ∙ ap (λ d. inside x (record { image = image_map (form_of new) (image_of new base); depth = d; doomed = doomed; prepared = None; changed = old.changed; numbered = old.numbered })) (sym deep)
+    ∙ ap (λ b. inside x (record { image = image_map (form_of new) (image_of new base); depth = txn_depth new.txn + 1; doomed = b; prepared = None; changed = old.changed; numbered = old.numbered })) (sym told)
+    ∙ ap (λ b. inside x (record { image = image_map (form_of new) (image_of new base); depth = txn_depth new.txn + 1; doomed = txn_doomed new.txn; prepared = None; changed = b; numbered = old.numbered })) (sym changed)
+    ∙ ap (λ b. inside x (record { image = image_map (form_of new) (image_of new base); depth = txn_depth new.txn + 1; doomed = txn_doomed new.txn; prepared = None; changed = new.changed; numbered = b })) (sym numbered)
+
+-- the inner Start, Commit and Cancel of such a transaction
+module _ (f : Form) (x : Own) (old new : OwnTxn) (base : List ℕ) (n p : ℕ) (V : SameView old.txn new.txn) (changed : new.changed ≡ old.changed) (numbered : new.numbered ≡ old.numbered) where
+  abbrev mine : Own
+  mine = own_inside x old base
+
+  pub started : txn_depth new.txn ≡ txn_depth old.txn + 1 → txn_doomed new.txn ≡ txn_doomed old.txn → refusal f (OnGroup Start) mine ≡ None → TurnsInside f mine (own_inside x new base) (OnGroup Start) n p p Done
+  started deep told R =
+      subst (λ y. TurnsInside f mine y (OnGroup Start) n p p Done)
+      (nested_is x old new base (txn_depth old.txn + 1 + 1) (txn_doomed old.txn) V (ap (λ d. d + 1) deep) told changed numbered)
+      (start_inside f x (of_txn old base) refl n p R)
+
+  module _ (some : 0 < txn_depth old.txn) (deep : txn_depth new.txn + 1 ≡ txn_depth old.txn) where
+    two : 1 < txn_depth old.txn + 1
+    two = omega (arith, some)
+
+    one_less : txn_depth new.txn + 1 ≡ txn_depth old.txn + 1 - 1
+    one_less = omega (arith, deep)
+
+    pub committed : txn_doomed new.txn ≡ txn_doomed old.txn → txn_doomed old.txn ≡ false → TurnsInside f mine (own_inside x new base) (OnGroup Commit) n p p Done
+    committed told whole =
+        subst (λ y. TurnsInside f mine y (OnGroup Commit) n p p Done) (nested_is x old new base (txn_depth old.txn + 1 - 1) (txn_doomed old.txn) V one_less told changed numbered)
+        (commit_inside f x (of_txn old base) refl two n p whole)
+
+    pub refused : txn_doomed new.txn ≡ txn_doomed old.txn → txn_doomed old.txn ≡ true → TurnsInside f mine (own_inside x new base) (OnGroup Commit) n p p Doomed
+    refused told doomed =
+        subst (λ y. TurnsInside f mine y (OnGroup Commit) n p p Doomed) (nested_is x old new base (txn_depth old.txn + 1 - 1) (txn_doomed old.txn) V one_less told changed numbered)
+        (doomed_inside f x (of_txn old base) refl two n p doomed)
+
+    pub cancelled : txn_doomed new.txn ≡ true → TurnsInside f mine (own_inside x new base) (OnGroup Cancel) n p p Done
+    cancelled told =
+        subst (λ y. TurnsInside f mine y (OnGroup Cancel) n p p Done) (nested_is x old new base (txn_depth old.txn + 1 - 1) true V one_less told changed numbered)
+        (cancel_inside f x (of_txn old base) refl two n p)
+
+-- the sequence number that the opener sees
+pub numbers_inside : (f : Form) (x : Own) (t : Txn) (n p q : ℕ) → refusal f Seqnum (inside x t) ≡ None → q ≡ number_seen (inside x t) n p → TurnsInside f (inside x t) (inside x t) Seqnum n p p (Number q)
+numbers_inside f x t n p q R is =
+    inside_of f (inside x t) (inside x t) Seqnum (λ purging. ap (λ o. locks_by f o Seqnum (inside x t) purging) R) refl n p p (Number q) (ap (λ o. ends_by o Seqnum (inside x t) 0 (Number q)) R)
+    (λ table who want file free reads. effect_numbers q refl free (ap (λ o. counts_by o Seqnum) R) is refl refl)
+    (λ a z b. refl) refl refl
