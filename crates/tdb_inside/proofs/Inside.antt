@@ -1,15 +1,18 @@
 -- The turn of a command inside a transaction that isn't prepared, whatever the command is.
-use Rattle.std.proofs.Common.{◌≡◌, ℕ, max, [], Bool, true, false, refl, sym, ◌∙◌, ap, inl, arith}
+use Rattle.std.proofs.Common.{◌≡◌, ℕ, max, List, [], Bool, true, false, Option, refl, sym, ◌∙◌, ap, inl, arith}
 use Rattle.std.specs.Prelude.{◌&&◌, if◌then◌else◌}
 use Rattle.tdb_space.specs.Form.{Form}
-use Rattle.tdb_law.specs.Commands.{Command, Reply}
+use Rattle.tdb_law.specs.Commands.{Command, Reply, is_done}
+use Rattle.tdb_law.specs.Refusals.{Refusal, refusal}
+use Rattle.tdb_law.specs.Outcomes.{moves_by, counts_by, told_by, map_by, own_by}
 use Rattle.tdb_law.specs.Commands.Turn.{Ends}
 use Rattle.tdb_law.specs.Openers.{Own, Map, Spot, View, outside, seen}
-use Rattle.tdb_law.specs.Rows.{locks}
-use Rattle.tdb_law.specs.Ends.{may_end}
+use Rattle.tdb_law.specs.Rows.{Lock, locks, locks_by, look_by, is_changed, changed_by}
+use Rattle.tdb_law.specs.Ends.{ends_by, may_end}
 use Rattle.tdb_law.specs.Held.{is_gone, moves_at, kept, held, wanted}
-use Rattle.tdb_law.specs.Counting.{number_seen, image_number_after}
+use Rattle.tdb_law.specs.Counting.{number_by, image_number_by, number_seen, image_number_after}
 use Rattle.tdb_law.specs.Effects.{Effect, IsFree, IsFirstConflict, Finds}
+use Rattle.tdb_law.specs.Effects.Effect.{effect_answers}
 use Rattle.tdb_law.specs.Turned.{number_next}
 use Rattle.tdb_inside.specs.Turns.{ReadsAll, TurnsInside}
 
@@ -45,3 +48,35 @@ module _ (f : Form) (x y : Own) (c : Command) (unlocked : (purging : Bool) → l
     number = number;
     image_number = image_number;
   }
+
+-- What a command with this refusal, or with none, comes to in the law's tables where it is done at once, by an opener who is y afterwards.
+pub record Comes (f : Form) (x y : Own) (c : Command) (o : Option Refusal) (r : Reply) : Type 0 where
+  pub ends : ends_by o c x 0 r ≡ true
+  pub unlocked : (purging : Bool) → ◌≡◌ {A = List Lock} (locks_by f o c x purging) []
+  pub unmoved : moves_by o c x ≡ false
+  pub uncounted : counts_by o c ≡ false
+  pub looks : look_by o c x ≡ 0
+  pub unchanged : changed_by o c x 0 ≡ false
+  pub told : (m : Map) → told_by o c x m ≡ r
+  pub map : (m : Map) → map_by o c x m ≡ m
+  pub own : (m : Map) → own_by f o c x 0 r m ≡ y
+  pub number : (n p : ℕ) → number_by o c x n p ≡ n
+  pub image_number : (n p : ℕ) → image_number_by o c x n p ≡ p
+  pub kept_same : (a z : Spot) (b : ℕ) → kept f y z b ≡ kept f x a b
+  pub within : outside x ≡ false
+
+module _ (f : Form) (x y : Own) (c : Command) (o : Option Refusal) (R : refusal f c x ≡ o) (r : Reply) (C : Comes f x y c o r) where
+  changed_none : is_changed f c x 0 ≡ false
+  unfolding is_changed
+  changed_none = ap (λ q. changed_by q c x 0) R ∙ C.unchanged
+
+  pub answered : (n p : ℕ) → TurnsInside f x y c n p p r
+  answered n p =
+      inside_of f x y c (λ purging. ap (λ q. locks_by f q c x purging) R ∙ C.unlocked purging) C.within n p p r (ap (λ q. ends_by q c x 0 r) R ∙ C.ends)
+      (λ table who want file free reads.
+      effect_answers r refl free (ap (λ q. moves_by q c x) R ∙ C.unmoved) (ap (λ q. counts_by q c) R ∙ C.uncounted)
+      (λ k reading. let early = ap (λ q. look_by q c x) R ∙ C.looks in omega (arith, early)) changed_none
+      (sym (ap (λ q. told_by q c x file) R ∙ C.told file)) (sym (ap (λ q. map_by q c x file) R ∙ C.map file)) (sym (ap (λ q. own_by f q c x 0 r file) R ∙ C.own file)))
+      C.kept_same
+      (ap (λ z. if is_done r then number_by z c x n p else n) R ∙ ap (λ m. if is_done r then m else n) (C.number n p) ∙ same_either (is_done r) n)
+      (sym (ap (λ z. if is_done r then image_number_by z c x n p else p) R ∙ ap (λ m. if is_done r then m else p) (C.image_number n p) ∙ same_either (is_done r) p))

@@ -1,5 +1,6 @@
 pub mod Inside
 pub mod Nested
+pub mod ExplicitLocks
 pub mod Keys
 pub mod Progress
 pub mod Turned

@@ -1,22 +1,21 @@
 -- The commands on transactions within a transaction, and those that do nothing, in the words of the law.
-use Rattle.std.proofs.Common.{◌≡◌, ℕ, ◌+◌, ◌-◌, ◌<◌, List, [], Bool, true, false, nat_lt, nat_le, Option, None, Some, refl, sym, ◌∙◌, ap, subst, arith}
+use Rattle.std.proofs.Common.{◌≡◌, ℕ, ◌+◌, ◌-◌, ◌<◌, List, Bool, true, false, nat_lt, nat_le, None, Some, refl, sym, ◌∙◌, ap, subst, arith}
 use Rattle.std.specs.Prelude.{◌&&◌, if◌then◌else◌}
 use Rattle.std.proofs.lemmas.Bool.{lt-ltb}
 use Rattle.std.proofs.lemmas.Bool.Decides.{nat_tests}
 use Rattle.tdb_space.specs.Form.{Form}
-use Rattle.tdb_law.specs.Commands.{Command, Reply, is_done}
+use Rattle.tdb_law.specs.Commands.{Command}
 use Rattle.tdb_law.specs.Commands.GroupCommand.{Start, Commit, Prepare, Cancel}
 use Rattle.tdb_law.specs.Commands.Command.{OnMap, OnLocks, Seqnum, OnGroup, OnWalk}
 use Rattle.tdb_law.specs.Commands.Reply.{Done, Doomed, Number}
-use Rattle.tdb_law.specs.Openers.{Own, Txn, Map, Spot, outside}
-use Rattle.tdb_law.specs.Refusals.{Refusal, refusal, says}
+use Rattle.tdb_law.specs.Openers.{Own, Txn}
+use Rattle.tdb_law.specs.Refusals.{refusal, says}
 use Rattle.tdb_law.specs.Refusals.Refusal.{IsDoomed}
-use Rattle.tdb_law.specs.Rows.{Lock, locks_by, look_by, is_changed, changed_by}
-use Rattle.tdb_law.specs.Outcomes.{moves_by, counts_by, told_by, map_by, own_by, own_refused}
+use Rattle.tdb_law.specs.Rows.{locks_by}
+use Rattle.tdb_law.specs.Outcomes.{counts_by, own_refused}
 use Rattle.tdb_law.specs.Ends.{ends_by}
-use Rattle.tdb_law.specs.Held.{kept}
-use Rattle.tdb_law.specs.Counting.{number_by, image_number_by, number_seen}
-use Rattle.tdb_law.specs.Effects.Effect.{effect_answers, effect_numbers}
+use Rattle.tdb_law.specs.Counting.{number_seen}
+use Rattle.tdb_law.specs.Effects.Effect.{effect_numbers}
 use Rattle.tdb_law.specs.Images.{image_map}
 use Rattle.tdb_txn.specs.Txn.{txn_depth, txn_doomed, txn_pages, SameView}
 use Rattle.tdb_txn.specs.Pages.{contents}
@@ -24,40 +23,8 @@ use Rattle.tdb_inside.specs.declared.own_txn.OwnTxn.{OwnTxn}
 use Rattle.tdb_inside.specs.OwnTxns.{law_txn, image_of, form_of, own_inside}
 use Rattle.tdb_inside.specs.Laws.{IsEnd, PreparesInside, RefusesInside}
 use Rattle.tdb_inside.specs.Turns.{TurnsInside}
-use Rattle.tdb_inside.proofs.Inside.{same_either, inside_of}
+use Rattle.tdb_inside.proofs.Inside.{answered, inside_of}
 use Rattle.tdb_inside.proofs.Turned.{inside}
-
--- What a command with this refusal, or with none, comes to in the law's tables where it is done at once, by an opener who is y afterwards.
-record Comes (f : Form) (x y : Own) (c : Command) (o : Option Refusal) (r : Reply) : Type 0 where
-  ends : ends_by o c x 0 r ≡ true
-  unlocked : (purging : Bool) → ◌≡◌ {A = List Lock} (locks_by f o c x purging) []
-  unmoved : moves_by o c x ≡ false
-  uncounted : counts_by o c ≡ false
-  looks : look_by o c x ≡ 0
-  unchanged : changed_by o c x 0 ≡ false
-  told : (m : Map) → told_by o c x m ≡ r
-  map : (m : Map) → map_by o c x m ≡ m
-  own : (m : Map) → own_by f o c x 0 r m ≡ y
-  number : (n p : ℕ) → number_by o c x n p ≡ n
-  image_number : (n p : ℕ) → image_number_by o c x n p ≡ p
-  kept_same : (a z : Spot) (b : ℕ) → kept f y z b ≡ kept f x a b
-  within : outside x ≡ false
-
-module _ (f : Form) (x y : Own) (c : Command) (o : Option Refusal) (R : refusal f c x ≡ o) (r : Reply) (C : Comes f x y c o r) where
-  changed_none : is_changed f c x 0 ≡ false
-  unfolding is_changed
-  changed_none = ap (λ q. changed_by q c x 0) R ∙ C.unchanged
-
-  answered : (n p : ℕ) → TurnsInside f x y c n p p r
-  answered n p =
-      inside_of f x y c (λ purging. ap (λ q. locks_by f q c x purging) R ∙ C.unlocked purging) C.within n p p r (ap (λ q. ends_by q c x 0 r) R ∙ C.ends)
-      (λ table who want file free reads.
-      effect_answers r refl free (ap (λ q. moves_by q c x) R ∙ C.unmoved) (ap (λ q. counts_by q c) R ∙ C.uncounted)
-      (λ k reading. let early = ap (λ q. look_by q c x) R ∙ C.looks in omega (arith, early)) changed_none
-      (sym (ap (λ q. told_by q c x file) R ∙ C.told file)) (sym (ap (λ q. map_by q c x file) R ∙ C.map file)) (sym (ap (λ q. own_by f q c x 0 r file) R ∙ C.own file)))
-      C.kept_same
-      (ap (λ z. if is_done r then number_by z c x n p else n) R ∙ ap (λ m. if is_done r then m else n) (C.number n p) ∙ same_either (is_done r) n)
-      (sym (ap (λ z. if is_done r then image_number_by z c x n p else p) R ∙ ap (λ m. if is_done r then m else p) (C.image_number n p) ∙ same_either (is_done r) p))
 
 not_flat : (d : ℕ) → 1 < d → nat_le d 1 ≡ false
 not_flat d deep = grind (arith, nat_tests)

@@ -1,4 +1,5 @@
 pub mod Done
 pub mod OwnTxns
 pub mod Turns
+pub mod Counted
 pub mod Laws

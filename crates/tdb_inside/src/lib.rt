@@ -2,11 +2,13 @@
 #![tactic(auto)]
 
 mod alone;
+mod counting;
 mod laws;
 mod looks;
 mod nesting;
 mod own_txn;
 mod plain;
 
+pub use crate::counting::{count_all, count_chain, uncount_all, uncount_chain};
 pub use crate::laws::nothing_is_done;
 pub use crate::own_txn::OwnTxn;
