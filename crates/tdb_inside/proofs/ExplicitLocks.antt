@@ -153,9 +153,8 @@ module _ (f : Form) (x : Own) (t : Txn) (I : IsInside x t) where
         own = λ m. refl;
         number = λ n p. refl;
         image_number = λ n p. refl;
-        kept_same = kept_locked k;
         within = rw I.has refl;
-      }) n p
+      }) n p (kept_locked k)
 
   none_changed : (k : LockCommand) → refusal f (OnLocks k) x ≡ None → is_changed f (OnLocks k) x 0 ≡ false
   unfolding is_changed

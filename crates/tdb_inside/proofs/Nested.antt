@@ -8,8 +8,8 @@ use Rattle.tdb_law.specs.Commands.{Command}
 use Rattle.tdb_law.specs.Commands.GroupCommand.{Start, Commit, Prepare, Cancel}
 use Rattle.tdb_law.specs.Commands.Command.{OnMap, OnLocks, Seqnum, OnGroup, OnWalk}
 use Rattle.tdb_law.specs.Commands.Reply.{Done, Doomed, Number}
-use Rattle.tdb_law.specs.Openers.{Own, Txn}
-use Rattle.tdb_law.specs.Refusals.{refusal, says}
+use Rattle.tdb_law.specs.Openers.{Own, Txn, ended}
+use Rattle.tdb_law.specs.Refusals.{refusal, says, Refusal}
 use Rattle.tdb_law.specs.Refusals.Refusal.{IsDoomed}
 use Rattle.tdb_law.specs.Rows.{locks_by}
 use Rattle.tdb_law.specs.Outcomes.{counts_by, own_refused}
@@ -22,8 +22,8 @@ use Rattle.tdb_txn.specs.Pages.{contents}
 use Rattle.tdb_inside.specs.declared.own_txn.OwnTxn.{OwnTxn}
 use Rattle.tdb_inside.specs.OwnTxns.{law_txn, image_of, form_of, own_inside}
 use Rattle.tdb_inside.specs.Laws.{IsEnd, PreparesInside, RefusesInside}
-use Rattle.tdb_inside.specs.Turns.{TurnsInside}
-use Rattle.tdb_inside.proofs.Inside.{answered, inside_of}
+use Rattle.tdb_inside.specs.Turns.{TurnsInside, EndsInside}
+use Rattle.tdb_inside.proofs.Inside.{answered, inside_of, ended_so}
 use Rattle.tdb_inside.proofs.Turned.{inside}
 
 not_flat : (d : ℕ) → 1 < d → nat_le d 1 ≡ false
@@ -51,9 +51,12 @@ module _ (f : Form) (x : Own) (t : Txn) (unprepared : t.prepared ≡ None) where
         own = λ m. refl;
         number = λ n p. refl;
         image_number = λ n p. refl;
-        kept_same = λ a z b. refl;
         within = refl;
-      }) n p
+      }) n p (λ a z b. refl)
+
+  cancel_granted : refusal f (OnGroup Cancel) before ≡ None
+  unfolding refusal
+  cancel_granted = refl
 
   module _ (deep : 1 < t.depth) where
     nested : nat_lt 1 t.depth ≡ true
@@ -61,10 +64,6 @@ module _ (f : Form) (x : Own) (t : Txn) (unprepared : t.prepared ≡ None) where
 
     flat : nat_le t.depth 1 ≡ false
     flat = not_flat t.depth deep
-
-    cancel_granted : refusal f (OnGroup Cancel) before ≡ None
-    unfolding refusal
-    cancel_granted = refl
 
     pub cancel_inside : (n p : ℕ) → TurnsInside f before (inside x (record t { depth = t.depth - 1; doomed = true })) (OnGroup Cancel) n p p Done
     cancel_inside n p =
@@ -81,9 +80,8 @@ module _ (f : Form) (x : Own) (t : Txn) (unprepared : t.prepared ≡ None) where
           own = λ m. rw nested refl;
           number = λ n p. refl;
           image_number = λ n p. refl;
-          kept_same = λ a z b. refl;
           within = refl;
-        }) n p
+        }) n p (λ a z b. refl)
 
     commit_refused : (b : Bool) → t.doomed ≡ b → refusal f (OnGroup Commit) before ≡ (if b then Some IsDoomed else None)
     unfolding refusal
@@ -108,9 +106,8 @@ module _ (f : Form) (x : Own) (t : Txn) (unprepared : t.prepared ≡ None) where
           own = λ m. rw nested refl;
           number = λ n p. rw flat refl;
           image_number = λ n p. refl;
-          kept_same = λ a z b. refl;
           within = refl;
-        }) n p
+        }) n p (λ a z b. refl)
 
     pub doomed_inside : (n p : ℕ) → t.doomed ≡ true → TurnsInside f before lower (OnGroup Commit) n p p Doomed
     doomed_inside n p doomed =
@@ -127,9 +124,59 @@ module _ (f : Form) (x : Own) (t : Txn) (unprepared : t.prepared ≡ None) where
           own = λ m. rw nested refl;
           number = λ n p. refl;
           image_number = λ n p. refl;
-          kept_same = λ a z b. refl;
           within = refl;
-        }) n p
+        }) n p (λ a z b. refl)
+
+  -- the outer end without a commit
+  module _ (outer : t.depth ≡ 1) where
+    last : nat_lt 1 t.depth ≡ false
+    last = ap (nat_lt 1) outer
+
+    pub cancel_ends : (n p : ℕ) → EndsInside f before (OnGroup Cancel) n p Done
+    cancel_ends n p =
+        ended_so f before (ended before) (OnGroup Cancel) None cancel_granted Done
+        (record {
+          ends = refl;
+          unlocked = λ purging. refl;
+          unmoved = refl;
+          uncounted = refl;
+          looks = refl;
+          unchanged = refl;
+          told = λ m. refl;
+          map = λ m. refl;
+          own = λ m. rw last refl;
+          number = λ n p. refl;
+          image_number = λ n p. refl;
+          within = refl;
+        }) n p refl
+
+    left_ended : (c : Command) → IsEnd c → own_refused c before ≡ ended before
+    left_ended (OnMap c) end = absurd end
+    left_ended (OnLocks c) end = absurd end
+    left_ended Seqnum end = absurd end
+    left_ended (OnGroup Start) end = absurd end
+    left_ended (OnGroup Commit) end = rw last refl
+    left_ended (OnGroup Prepare) end = rw last refl
+    left_ended (OnGroup Cancel) end = absurd end
+    left_ended (OnWalk w) end = absurd end
+
+    pub refused_ends : (c : Command) (why : Refusal) (n p : ℕ) → IsEnd c → refusal f c before ≡ Some why → EndsInside f before c n p (says before why)
+    refused_ends c why n p end R =
+        ended_so f before (ended before) c (Some why) R (says before why)
+        (record {
+          ends = refl;
+          unlocked = λ purging. refl;
+          unmoved = refl;
+          uncounted = refl;
+          looks = refl;
+          unchanged = refl;
+          told = λ m. refl;
+          map = λ m. refl;
+          own = λ m. left_ended c end;
+          number = λ n p. refl;
+          image_number = λ n p. refl;
+          within = refl;
+        }) n p refl
 
 -- what does nothing
 prepare_granted : (f : Form) (x : Own) (t : Txn) → x.txn ≡ Some t → t.prepared ≡ None → 1 < t.depth → refusal f (OnGroup Prepare) x ≡ None
@@ -151,9 +198,8 @@ prepares_inside f x t n p has unprepared deep =
       own = λ m. rw (has, lt-ltb 1 t.depth deep) refl;
       number = λ n p. refl;
       image_number = λ n p. refl;
-      kept_same = λ a z b. rw has refl;
       within = rw has refl;
-    }) n p
+    }) n p (λ a z b. rw has refl)
 
 refused_own : (c : Command) (x : Own) → (IsEnd c → ⊥) → own_refused c x ≡ x
 refused_own (OnMap c) x other = refl
@@ -180,9 +226,8 @@ refuses_inside f x t c why n p has other R =
       own = λ m. refused_own c x other;
       number = λ n p. refl;
       image_number = λ n p. refl;
-      kept_same = λ a z b. rw has refl;
       within = rw has refl;
-    }) n p
+    }) n p (λ a z b. rw has refl)
 
 -- a transaction of which all but its depth stays, and whether it is doomed
 abbrev of_txn : OwnTxn → List ℕ → Txn
