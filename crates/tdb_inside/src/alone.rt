@@ -17,7 +17,8 @@ use tdb_steps::Machine;
 /// The number of the opener in a lock table in which nobody else holds a byte.
 const OWNER: u32 = 1;
 
-/// Takes one turn of a command where nobody else holds a lock: it isn't blocked. The locks that it takes are let go at once.
+/// Takes one turn of a command where nobody else holds a lock: it isn't blocked. The locks that it takes are let go
+/// at once.
 fn turn_alone<S: Space>(
     alloc: Global,
     s: &mut S,
@@ -50,8 +51,9 @@ fn turn_alone<S: Space>(
     machine.act_turn(alloc, s, stood_on, limit)
 }
 
-/// Takes all turns of a command that has had none, in a view that may grow to `limit` bytes. The reply is that of the command on the
-/// map, or says that memory or space is wanting; then the map is as it was. `Io` where the disk failed.
+/// Takes all turns of a command that has had none, in a view that may grow to `limit` bytes. The reply is that of the
+/// command on the map, or says that memory or space is wanting; then the map is as it was. `Io` where the disk
+/// failed.
 pub(crate) fn take_turns<S: Space>(
     alloc: Global,
     s: &mut S,

@@ -10,8 +10,8 @@ ghost use Rattle.tdb_inside.specs.Counted.{lock_all_of, one_less, one_more, IsCo
 
 use tdb_locks::{Held, Kind, Reply};
 
-/// Counts a lock of a chain once more. `Memory` where that is wanting, or where the count is at its greatest; then the counts are as
-/// they were. Cost: a look-up among the chains that are held.
+/// Counts a lock of a chain once more. `Memory` where that is wanting, or where the count is at its greatest; then
+/// the counts are as they were. Cost: a look-up among the chains that are held.
 pub fn count_chain(held: &mut Held, chain: u32) -> Reply
     requires counts { AreCounts held.old.chains }
     ensures turned { (f : Form) (x : Own) (t : Txn) (key : List ℕ) → home f key ≡ chain → IsInside x t → IsCounted held.old x → CountsInside f x (ChainLock key) held.new (reply_of result) }
@@ -27,8 +27,8 @@ pub fn count_chain(held: &mut Held, chain: u32) -> Reply
     }
 }
 
-/// Counts a lock of a chain once less. `NotLocked` where the count is 0. It takes no memory. Cost: a look-up among the chains that are
-/// held.
+/// Counts a lock of a chain once less. `NotLocked` where the count is 0. It takes no memory. Cost: a look-up among
+/// the chains that are held.
 pub fn uncount_chain(held: &mut Held, chain: u32) -> Reply
     requires counts { AreCounts held.old.chains }
     ensures turned { (f : Form) (x : Own) (t : Txn) (key : List ℕ) → home f key ≡ chain → IsInside x t → IsCounted held.old x → CountsInside f x (ChainUnlock key) held.new (reply_of result) }
@@ -61,7 +61,8 @@ fn less_of(all: (Kind, u32)) -> Option<(Kind, u32)>
     Some((all.0, all.1 - 1))
 }
 
-/// Counts a lock of all records once more. Its kind is that of the first time. `Memory` where the count is at its greatest.
+/// Counts a lock of all records once more. Its kind is that of the first time. `Memory` where the count is at its
+/// greatest.
 pub fn count_all(held: &mut Held, kind: Kind) -> Reply
     ensures turned { (f : Form) (x : Own) (t : Txn) → IsInside x t → IsCounted held.old x → CountsInside f x (lock_all_of kind) held.new (reply_of result) }
     ensures chains { held.new.chains ≡ held.old.chains }

@@ -31,7 +31,8 @@ const SEQUENCE_AT: u64 = 48;
 
 /// Counts the keys of an image.
 ///
-/// `Io` where the disk failed, and where the image has a fault, which no command leaves: so over an accepted image the disk failed.
+/// `Io` where the disk failed, and where the image has a fault, which no command leaves: so over an accepted image
+/// the disk failed.
 fn count_keys<S: Space>(alloc: Global, s: &mut S) -> Result<Reply, Io>
     ensures done { IfOk result (λ reply. IsTrue S.tells → AcceptWith (S.form s.old) (S.image s.old) []
         → MapDone Check (image_map (S.form s.old) (S.image s.old)) (image_map (S.form s.old) (S.image s.old)) (reply_of reply)) }
@@ -111,7 +112,8 @@ fn number_on_disk<D: Disk>(d: &mut D, h: &Header) -> Result<u32, Io>
     number_in(&mut view)
 }
 
-/// The sequence number that the opener of a transaction sees: that of the image where its changes raise it, and else that of the file.
+/// The sequence number that the opener of a transaction sees: that of the image where its changes raise it, and else
+/// that of the file.
 fn number_seen<D: Disk>(txn: &mut Txn, numbered: bool, d: &mut D, h: &Header) -> Result<u32, Io>
     requires sized { D.size d.old ≡ txn_start txn.old }
     requires header { form_in h.now ≡ txn_form txn.old }
@@ -137,7 +139,8 @@ fn number_seen<D: Disk>(txn: &mut Txn, numbered: bool, d: &mut D, h: &Header) ->
 impl OwnTxn {
     /// Checks the transaction in one turn: the reply is the number of its keys, or `Memory`. No lock is taken.
     ///
-    /// `Io` where the disk failed, and where the image has a fault, which no command leaves: so over an accepted image the disk failed.
+    /// `Io` where the disk failed, and where the image has a fault, which no command leaves: so over an accepted
+    /// image the disk failed.
     ///
     /// Cost: a check of the whole image.
     pub fn check<D: Disk>(&mut self, alloc: Global, d: &mut D) -> Result<Reply, Io>
@@ -159,8 +162,9 @@ impl OwnTxn {
         count_in_pages(&mut self.txn, alloc, d)
     }
 
-    /// Tells the sequence number in one turn: that of the transaction's image where its changes raise it, and else that of the file. No
-    /// lock is taken, and no memory. `h` is the header of the file. `Io` only where the disk failed.
+    /// Tells the sequence number in one turn: that of the transaction's image where its changes raise it, and else
+    /// that of the file. No lock is taken, and no memory. `h` is the header of the file. `Io` only where the disk
+    /// failed.
     pub fn sequence<D: Disk>(&mut self, d: &mut D, h: &Header) -> Result<Reply, Io>
         requires sized { D.size d.old ≡ txn_start self.old.txn }
         requires header { form_in h.now ≡ form_of self.old }

@@ -28,8 +28,8 @@ impl OwnTxn {
         self.txn.nest();
     }
 
-    /// An inner Commit, which is done at once: what was written since its Start is part of the transaction around it. The reply is
-    /// `Doomed` after an inner Cancel.
+    /// An inner Commit, which is done at once: what was written since its Start is part of the transaction around it.
+    /// The reply is `Doomed` after an inner Cancel.
     pub fn commit_inner(&mut self) -> Reply
         requires { 0 < txn_depth self.old.txn }
         ensures turned { (f : Form) (base : List ℕ) (x : Own) (n p : ℕ)
@@ -49,7 +49,8 @@ impl OwnTxn {
         }
     }
 
-    /// An inner Cancel, which is done at once. What was written since its Start stays, and so the transaction can't be committed any more.
+    /// An inner Cancel, which is done at once. What was written since its Start stays, and so the transaction can't
+    /// be committed any more.
     pub fn cancel_inner(&mut self)
         requires { 0 < txn_depth self.old.txn }
         ensures turned { (f : Form) (base : List ℕ) (x : Own) (n p : ℕ)

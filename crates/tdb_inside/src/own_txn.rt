@@ -43,9 +43,9 @@ impl OwnTxn {
         }
     }
 
-    /// Ends the outer transaction without a commit, in one turn: so does an outer Cancel, and an outer Commit or Prepare that is refused.
-    /// `owner` is the number of the opener in the lock table, and `held` are its explicit locks: it lets go of all that it holds, and its
-    /// locks aren't counted any more. No call is made on the disk.
+    /// Ends the outer transaction without a commit, in one turn: so does an outer Cancel, and an outer Commit or
+    /// Prepare that is refused. `owner` is the number of the opener in the lock table, and `held` are its explicit
+    /// locks: it lets go of all that it holds, and its locks aren't counted any more. No call is made on the disk.
     pub fn cancel(self, alloc: Global, locks: &mut Locks, owner: u32, held: &mut Held)
         requires outer { txn_depth self.txn ≡ 0 }
         ensures ends { (f : Form) (base : List ℕ) (x : Own) (n p : ℕ) → EndsInside f (own_inside x self base) (OnGroup Cancel) n p Done }

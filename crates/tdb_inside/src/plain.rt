@@ -72,12 +72,13 @@ fn take_in_pages<D: Disk>(
 }
 
 impl OwnTxn {
-    /// Does a plain command in one turn, in a file that may grow to `limit` bytes, where the opener's own cursor stands on a record at
-    /// `stood_on` if it stands on one. `h` is the header of the file.
+    /// Does a plain command in one turn, in a file that may grow to `limit` bytes, where the opener's own cursor
+    /// stands on a record at `stood_on` if it stands on one. `h` is the header of the file.
     ///
-    /// The reply is that of the command on the map of the transaction, or says that memory or space is wanting, and then that map is as
-    /// it was. Nothing is written to the disk, and no lock is taken. With `Ok` of a command that may change the map there is something
-    /// to commit, and the sequence number is raised where changes count. `Io` only where the disk failed.
+    /// The reply is that of the command on the map of the transaction, or says that memory or space is wanting, and
+    /// then that map is as it was. Nothing is written to the disk, and no lock is taken. With `Ok` of a command that
+    /// may change the map there is something to commit, and the sequence number is raised where changes count. `Io`
+    /// only where the disk failed.
     ///
     /// Cost: the chain of the key, the free list, or the writes, once each.
     pub fn run<D: Disk>(
