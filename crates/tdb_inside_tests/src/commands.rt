@@ -1,0 +1,147 @@
+//! A small file in memory, and commands inside a transaction on it.
+ghost use Rattle.std.specs.Prelude.{ℕ, IfOk, IfSome};
+ghost use Rattle.tdb_disk.specs.MemDisk.{memory_size};
+ghost use Rattle.tdb_steps.specs.Machines.{IsShort};
+ghost use Rattle.tdb_inside_tests.specs.Ready.{IsReady};
+
+use std::alloc::{AllocError, Global};
+use tdb_disk::MemDisk;
+use tdb_inside::OwnTxn;
+use tdb_locks::{Reply, Spots};
+use tdb_space::Io;
+use tdb_steps::{Flag, Plain};
+use tdb_txn::Txn;
+use tdb_words::{Bytes, FREE, HashKind, Header, Order, USED, header_bytes, word_bytes};
+
+/// The header of the file.
+pub(crate) const HEADER: Header = Header {
+    order: Order::Little,
+    hash: HashKind::Old,
+    hash_size: 131,
+    recovery_start: 0,
+    sequence: 0,
+};
+
+/// The greatest length of a file in these tests.
+pub(crate) const LIMIT: u64 = 1 << 20;
+
+/// The words behind the header of a file with one record, `a` with the value `1`, and a free record in front of it.
+const RECORD: [(usize, u32); 12] = [
+    (168, 696),
+    (200, 4064),
+    (700, 3344),
+    (716, FREE),
+    (4060, 3368),
+    (4068, 8),
+    (4072, 1),
+    (4076, 1),
+    (4080, 0x094A_72E9),
+    (4084, USED),
+    (4088, 0x4242_3161),
+    (4092, 32),
+];
+
+/// The bytes of the file with one record.
+pub(crate) fn bytes() -> [u8; 4096] {
+    let mut bytes = [0u8; 4096];
+    bytes[..168].copy_from_slice(&header_bytes(131, Order::Little, HashKind::Old));
+    for (at, word) in RECORD {
+        if at <= 4092 {
+            bytes[at..at + 4].copy_from_slice(&word_bytes(word, Order::Little));
+        }
+    }
+    bytes
+}
+
+/// A transaction on the file that has just begun.
+pub(crate) fn begin(alloc: Global, disk: &mut MemDisk, numbered: bool) -> Option<OwnTxn>
+    ensures { IfSome result (λ own. IsReady own (memory_size disk.new) 0) }
+{
+    let txn = Txn::start(alloc, disk, &HEADER).ok()?;
+    if txn.length() > LIMIT {
+        return None;
+    }
+    Some(OwnTxn::new(txn, numbered))
+}
+
+/// A plain command by its words: a key of one byte, and a value of one byte.
+#[derive(Clone, Copy, Debug)]
+pub(crate) enum Word {
+    Fetch(u8),
+    Has(u8),
+    Store(u8, u8, Flag),
+    Append(u8, u8),
+    Delete(u8),
+    Wipe,
+}
+
+/// The command of a word.
+pub(crate) fn command(alloc: Global, word: Word) -> Result<Plain, AllocError>
+    ensures { IfOk result IsShort }
+{
+    match word {
+        Word::Fetch(key) => Ok(Plain::Fetch {
+            key: Bytes::copy(alloc, &[key])?,
+        }),
+        Word::Has(key) => Ok(Plain::Has {
+            key: Bytes::copy(alloc, &[key])?,
+        }),
+        Word::Store(key, value, flag) => Ok(Plain::Store {
+            key: Bytes::copy(alloc, &[key])?,
+            value: Bytes::copy(alloc, &[value])?,
+            flag,
+        }),
+        Word::Append(key, value) => Ok(Plain::Append {
+            key: Bytes::copy(alloc, &[key])?,
+            value: Bytes::copy(alloc, &[value])?,
+        }),
+        Word::Delete(key) => Ok(Plain::Delete {
+            key: Bytes::copy(alloc, &[key])?,
+        }),
+        Word::Wipe => Ok(Plain::Wipe),
+    }
+}
+
+/// What is told of a reply: a word for it, and two numbers: of a value its first byte and its length.
+pub(crate) type Told = (&'static str, u64, u64);
+
+/// What is told of an answer.
+pub(crate) fn told(answer: &Result<Reply, Io>) -> Told {
+    match answer {
+        Ok(Reply::Ok) => ("ok", 0, 0),
+        Ok(Reply::Value(value)) => {
+            let bytes = value.as_slice();
+            let first = match bytes.first() {
+                Some(byte) => u64::from(*byte),
+                None => 0,
+            };
+            ("value", first, bytes.len() as u64)
+        }
+        Ok(Reply::KeyMissing) => ("noexist", 0, 0),
+        Ok(Reply::KeyThere) => ("exists", 0, 0),
+        Ok(Reply::Doomed) => ("doomed", 0, 0),
+        Ok(Reply::NotLocked) => ("notlocked", 0, 0),
+        Ok(Reply::Full { len, need }) => ("full", *len, *need),
+        Ok(Reply::Memory) => ("memory", 0, 0),
+        Ok(Reply::Yes) => ("yes", 0, 0),
+        Ok(Reply::No) => ("no", 0, 0),
+        Ok(Reply::Number(number)) => ("number", *number, 0),
+        Ok(_) => ("other", 0, 0),
+        Err(_) => ("io", 0, 0),
+    }
+}
+
+/// Does a command in the transaction, and tells its answer. No cursor stands on a record.
+pub(crate) fn play(
+    alloc: Global,
+    own: &mut OwnTxn,
+    disk: &mut MemDisk,
+    word: Word,
+) -> Result<Told, AllocError>
+    requires ready { (deep : ℕ) × IsReady own.old (memory_size disk.old) deep }
+    ensures ready { (deep : ℕ) → IsReady own.old (memory_size disk.old) deep → IsReady own.new (memory_size disk.new) deep }
+{
+    let command = command(alloc, word)?;
+    let stood_on = Spots::new(alloc);
+    Ok(told(&own.run(alloc, disk, &HEADER, command, &stood_on, LIMIT)))
+}
