@@ -7,7 +7,7 @@ ghost use Rattle.tdb_space.specs.Frame.{Looked, Wrote};
 ghost use Rattle.tdb_space.specs.Accepted.{AcceptWith};
 ghost use Rattle.tdb_walk.specs.Way.{SameOthers, SameLocks};
 ghost use Rattle.tdb_walk.specs.ByteLocks.{HoldsWords};
-ghost use Rattle.tdb_walk.specs.Cursors.{Knows, StepTaken, StepMade, dead_of, rested, spot_of};
+ghost use Rattle.tdb_walk.specs.Cursors.{IsPlaced, Knows, StepTaken, StepMade, dead_of, rested, spot_of};
 ghost use Rattle.tdb_walk.specs.Again.{cursor_after, shown_there};
 ghost use Rattle.tdb_walk.specs.declared.standing.Standing.TheVariants.{Past};
 ghost use Rattle.tdb_locks.specs.declared.turn.Reply.{Reply as ReplyIs};
@@ -41,7 +41,8 @@ impl Walk {
 
     /// The offset of the record on which the cursor stands, and 0 where it stands on none.
     pub fn spot(&self) -> u32
-        ensures { result ≡ spot_number self.now.cursor.place }
+        ensures offset { result ≡ spot_number self.now.cursor.place }
+        ensures placed { IsPlaced self.now.cursor.place }
     {
         self.cursor.spot().unwrap_or(0)
     }

@@ -1,19 +1,17 @@
 // The turns of commands on a cursor.
 
-ghost use Rattle.std.specs.Prelude.{◌≡◌, ◌<◌, ◌-◌, ◌^◌, ℕ, List, length, set, Ok, None, true, false, IsTrue, IfOk, OnErr};
+ghost use Rattle.std.specs.Prelude.{◌≡◌, ◌<◌, ◌-◌, length, set, Ok, None, true, false, IfOk, OnErr};
 ghost use Rattle.tdb_disk.specs.Count.{HasCause};
-ghost use Rattle.tdb_space.specs.Extents.{HandPair};
 ghost use Rattle.tdb_space.specs.Frame.{Looked, Wrote};
-ghost use Rattle.tdb_space.specs.Accepted.{AcceptWith};
 ghost use Rattle.tdb_walk.specs.Way.{SameOthers};
 ghost use Rattle.tdb_walk.specs.ByteLocks.{HoldsWords};
 ghost use Rattle.tdb_locks.specs.HeldLocks.{nothing_held};
 ghost use Rattle.tdb_walk.specs.declared.standing.Standing.TheVariants.{Past};
-ghost use Rattle.tdb_walk.specs.Cursors.{Knows, StepTaken, StepMade, dead_of, rested};
+ghost use Rattle.tdb_walk.specs.Cursors.{dead_of, rested};
 ghost use Rattle.tdb_walk.specs.Again.{cursor_after};
 ghost use Rattle.tdb_locks.specs.declared.turn.Reply.TheVariants.{End};
 ghost use Rattle.tdb_locks.specs.declared.turn.Turn.TheVariants.{Done};
-ghost use Rattle.tdb_cursors.specs.Spots.{spot_number, is_last, IsLeft, LacksCursor};
+ghost use Rattle.tdb_cursors.specs.Spots.{spot_number, is_last, IsLeft, LacksCursor, Stepped};
 
 use crate::walk::Walk;
 use std::alloc::Global;
@@ -39,11 +37,7 @@ impl Walk {
         requires there { owner - 1 < length spots.old }
         requires words { HoldsWords held.now owner locks.old }
         ensures words { HoldsWords held.now owner locks.new }
-        ensures taken { IfOk result (StepTaken (IsTrue S.tells) (S.form s.old) (S.image s.old) locks.old locks.new owner held.now (set spots.old (owner - 1) 0) goal read_only self.old.cursor self.new.cursor) }
-        ensures made { IfOk result (λ turn. IsTrue S.tells → S.size s.old < 2 ^ 32 → (hands : List HandPair) → AcceptWith (S.form s.old) (S.image s.old) hands
-            → Knows (S.form s.old) (S.image s.old) self.old.cursor.place self.old.cursor.stage → StepMade (S.form s.old) (S.image s.old) (S.image s.new) hands self.old.cursor self.new.cursor turn) }
-        ensures knows { IfOk result (λ turn. IsTrue S.tells → S.size s.old < 2 ^ 32 → (hands : List HandPair) → AcceptWith (S.form s.old) (S.image s.old) hands
-            → Knows (S.form s.old) (S.image s.old) self.old.cursor.place self.old.cursor.stage → Knows (S.form s.old) (S.image s.new) self.new.cursor.place self.new.cursor.stage) }
+        ensures stepped { IfOk result (Stepped S.tells (S.form s.old) (S.image s.old) (S.image s.new) (S.size s.old) locks.old locks.new owner held.now (set spots.old (owner - 1) 0) goal read_only self.old.cursor self.new.cursor) }
         ensures shown { IfOk result (λ turn. self.new.shown ≡ cursor_after turn self.new.cursor.place self.old.shown) }
         ensures spots { spots.new ≡ set spots.old (owner - 1) (spot_number self.new.cursor.place) }
         ensures others { SameOthers owner locks.old locks.new }
@@ -79,11 +73,8 @@ impl Walk {
         ensures words { HoldsWords held.now owner locks.new }
         ensures told { LacksCursor goal self.old.shown → result ≡ Ok (Done End) }
         ensures same { LacksCursor goal self.old.shown → (self.new ≡ self.old) × (locks.new ≡ locks.old) × (spots.new ≡ spots.old) × Looked S.Space s.old s.new }
-        ensures taken { (LacksCursor goal self.old.shown → ⊥)
-            → IfOk result (StepTaken (IsTrue S.tells) (S.form s.old) (S.image s.old) locks.old locks.new owner held.now (set spots.old (owner - 1) 0) goal read_only self.old.cursor self.new.cursor) }
-        ensures made { (LacksCursor goal self.old.shown → ⊥)
-            → IfOk result (λ turn. IsTrue S.tells → S.size s.old < 2 ^ 32 → (hands : List HandPair) → AcceptWith (S.form s.old) (S.image s.old) hands
-            → Knows (S.form s.old) (S.image s.old) self.old.cursor.place self.old.cursor.stage → StepMade (S.form s.old) (S.image s.old) (S.image s.new) hands self.old.cursor self.new.cursor turn) }
+        ensures stepped { (LacksCursor goal self.old.shown → ⊥)
+            → IfOk result (Stepped S.tells (S.form s.old) (S.image s.old) (S.image s.new) (S.size s.old) locks.old locks.new owner held.now (set spots.old (owner - 1) 0) goal read_only self.old.cursor self.new.cursor) }
         ensures shown { (LacksCursor goal self.old.shown → ⊥) → IfOk result (λ turn. self.new.shown ≡ cursor_after turn self.new.cursor.place self.old.shown) }
         ensures spots { (LacksCursor goal self.old.shown → ⊥) → spots.new ≡ set spots.old (owner - 1) (spot_number self.new.cursor.place) }
         ensures others { SameOthers owner locks.old locks.new }
@@ -117,9 +108,9 @@ pub fn close_turn<S: Space>(
     requires there { owner - 1 < length spots.old }
     requires words { HoldsWords held.old owner locks.old }
     ensures goes_on { IfOk result (λ turn. is_last turn ≡ false → (live.new ≡ live.old) × (held.new ≡ held.old) × HoldsWords held.new owner locks.new × (walk.new.shown ≡ cursor_after turn walk.new.cursor.place walk.old.shown)
-        × StepTaken (IsTrue S.tells) (S.form s.old) (S.image s.old) locks.old locks.new owner held.old (set spots.old (owner - 1) 0) Goal.Leave read_only walk.old.cursor walk.new.cursor turn) }
+        × Stepped S.tells (S.form s.old) (S.image s.old) (S.image s.new) (S.size s.old) locks.old locks.new owner held.old (set spots.old (owner - 1) 0) Goal.Leave read_only walk.old.cursor walk.new.cursor turn) }
     ensures ends { IfOk result (λ turn. is_last turn ≡ true → (live.new ≡ false) × (held.new ≡ nothing_held) × (walk.new.cursor ≡ rested Past) × (walk.new.shown ≡ None)
-        × IsLeft (λ mid later. StepTaken (IsTrue S.tells) (S.form s.old) (S.image s.old) locks.old mid owner held.old (set spots.old (owner - 1) 0) Goal.Leave read_only walk.old.cursor later turn) owner locks.new) }
+        × IsLeft (λ mid later. Stepped S.tells (S.form s.old) (S.image s.old) (S.image s.new) (S.size s.old) locks.old mid owner held.old (set spots.old (owner - 1) 0) Goal.Leave read_only walk.old.cursor later turn) owner locks.new) }
     ensures spots { spots.new ≡ set spots.old (owner - 1) (spot_number walk.new.cursor.place) }
     ensures others { SameOthers owner locks.old locks.new }
     ensures stands { OnErr result ((walk.new ≡ walk.old) × (live.new ≡ live.old) × (held.new ≡ held.old)) }

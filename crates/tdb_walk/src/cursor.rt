@@ -71,9 +71,10 @@ impl Cursor {
         }
     }
 
-    /// The offset of the record on which it stands, if it stands on one.
+    /// The offset of the record on which it stands, if it stands on one: a multiple of 4.
     pub fn spot(&self) -> Option<u32>
-        ensures { result ≡ spot_of self.now.place }
+        ensures offset { result ≡ spot_of self.now.place }
+        ensures placed { IsPlaced self.now.place }
     {
         match self.place {
             Standing::On(_, off) => Some(off),

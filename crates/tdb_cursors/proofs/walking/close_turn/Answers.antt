@@ -11,6 +11,6 @@ returns-clause-spots g c =
     elim c.match-turn.branch [
       | in-Done w ↦
           w.spots-is ∙ w.set.ensures ∙ ap (λ l. set l (c.args.owner - 1) w.spot.result) c.step_among.ensures.spots ∙ set-set c.args.spots.now (c.args.owner - 1) _ w.spot.result
-          ∙ ap (λ n. set c.args.spots.now (c.args.owner - 1) n) (w.spot.ensures ∙ ap (λ (v : Walk). spot_number v.cursor.place) (sym w.walk-is))
+          ∙ ap (λ n. set c.args.spots.now (c.args.owner - 1) n) (w.spot.ensures.offset ∙ ap (λ (v : Walk). spot_number v.cursor.place) (sym w.walk-is))
       | in_default w ↦ w.spots-is ∙ c.step_among.ensures.spots ∙ ap (λ (v : Walk). set c.args.spots.now (c.args.owner - 1) (spot_number v.cursor.place)) (sym w.walk-is)
     ]
