@@ -1,5 +1,5 @@
 -- An opener that joins, and a world without any.
-use Rattle.std.proofs.Common.{◌≡◌, ◌≢◌, ℕ, zero, suc, ◌+◌, List, [], ◌∷◌, ◌++◌, length, slice_get, true, Some, None, refl, sym, ◌∙◌, ap, subst, inl, inr, arith, le_refl, append-nil, length-append}
+use Rattle.std.proofs.Common.{◌≡◌, ◌≢◌, ℕ, zero, suc, ◌+◌, List, [], ◌∷◌, ◌++◌, length, slice_get, true, Option, Some, None, refl, sym, ◌∙◌, ap, subst, inl, inr, arith, le_refl, append-nil, length-append}
 use Rattle.std.specs.List.Sorted.{IsStrictlySortedBy}
 use Rattle.std.proofs.lemmas.List.Elements.{All-nil}
 use Rattle.std.proofs.lemmas.Bool.{cases_eq}
@@ -7,9 +7,9 @@ use Rattle.std.proofs.lemmas.Option.{slice_get_past}
 use Rattle.tdb_space.specs.Form.{Form}
 use Rattle.tdb_space.specs.Pairs.{joined}
 use Rattle.tdb_space.specs.Accepted.{AcceptWith}
-use Rattle.tdb_locks.specs.HeldLocks.{nothing_held, AreCounts}
+use Rattle.tdb_locks.specs.HeldLocks.{HeldLocks, nothing_held, AreCounts}
 use Rattle.tdb_locks.specs.declared.piece.Piece.{Piece}
-use Rattle.tdb_law.specs.Openers.{nowhere, opened}
+use Rattle.tdb_law.specs.Openers.{Own, nowhere, opened}
 use Rattle.tdb_law.specs.Held.{holding}
 use Rattle.tdb_law.specs.Beginning.{nobody}
 use Rattle.tdb_law.proofs.Tests.{never_true}
@@ -19,14 +19,13 @@ use Rattle.tdb_world.specs.declared.options.Options.{Options}
 use Rattle.tdb_world.specs.declared.opener.Opener.{Opener}
 use Rattle.tdb_law.specs.Layout.{chains_in, mark_of}
 use Rattle.tdb_law.specs.Walks.{Shift}
-use Rattle.tdb_walk.specs.InLaw.{spot_in, is_before}
-use Rattle.tdb_world.specs.Openers.{no_cursor, no_walk, rest_of, options_of, own_of, own_with, own_at, spot_at, place_at, spots_of, task_at, law_task, hands_of_task, hands_at, TaskStands, TaskKnows, OpenerKnows, WalkStands}
+use Rattle.tdb_world.specs.Openers.{no_cursor, no_walk, rest_of, options_of, own_of, own_with, own_at, spot_by, walk_of, steps_of, spot_at, place_at, spots_of, task_at, law_task, hands_of_task, hands_at, TaskStands, TaskKnows, OpenerKnows, WalkStands}
 use Rattle.tdb_world.specs.States.{WorldStands}
 use Rattle.tdb_world.specs.Laws.{IsJoined, JoinKeepsWorld, JoinKeepsFile, JoinJoins, EmptyStands, EmptyFileStands, EmptyIsLoaded}
 use Rattle.tdb_world.proofs.Standing.{Holds, IsSet, world_set, held_still}
-use Rattle.tdb_walk.specs.Cursors.{Knows}
+use Rattle.tdb_walk.specs.Cursors.{At, Knows}
 use Rattle.tdb_cursors.specs.Spots.{spot_number}
-use Rattle.tdb_world.specs.Cursors.{is_stood, CursorKnows, TaskSpares, OpenerSpares}
+use Rattle.tdb_world.specs.Cursors.{is_stood, CursorKnows, TaskSpares, OpenerSpares, StandApart, cursor_at}
 use Rattle.tdb_world.proofs.Stood.{spots_pushed, stood_pushed}
 use Rattle.tdb_world.proofs.AllHands.{joined_same}
 use Rattle.tdb_world.proofs.StillWalks.{still_shift}
@@ -46,8 +45,9 @@ nothing_counts : AreCounts []
 unfolding IsStrictlySortedBy
 nothing_counts = record { in_order = tt; keys = All-nil _; counts = All-nil _ }
 
-no_walk_stands : (f : Form) → WalkStands f no_walk
-no_walk_stands f = record { placed = tt; rests = (refl, refl); none = refl }
+-- the cursor of who has none rests
+pub no_walk_stands : (f : Form) (held : HeldLocks) (x : Own) → x.cursor ≡ None → WalkStands f held x None 0 no_walk.cursor
+no_walk_stands f held x none = record { placed = tt; stands = (none, refl) }
 
 pub nothing_well : IsWellHeld nothing_held
 nothing_well = record { counts = nothing_counts; taken = tt; apart = λ e. absurd (never_true e); few = omega arith }
@@ -69,7 +69,7 @@ module _ (xs ys : List Opener) (y : Opener) (J : IsJoined xs y ys) where
 
   -- its cursor stands nowhere
   new_spot : spot_at (Some y) ≡ nowhere
-  new_spot = ap (λ w. spot_in w.cursor (is_before w.cursor.place)) J.bare
+  new_spot = ap (λ w. spot_by w.cursor) J.bare
 
   -- it holds nothing, as before
   new_holds : (f : Form) (options : Options) (ps : List Piece) (a : List ℕ) (size : ℕ) → WorldStands f options xs ps a size → (b : ℕ) → Holds f options ps (length xs) (Some y) b
@@ -82,8 +82,22 @@ module _ (xs ys : List Opener) (y : Opener) (J : IsJoined xs y ys) where
 pub join_keeps_world : JoinKeepsWorld
 join_keeps_world f options xs ys ps a size y W J few =
     world_set f options xs ys ps ps a a size size (length xs) y W (is_set xs ys y J) (held_still f options xs ps a size (length xs) y W (new_holds xs ys y J f options ps a size W))
-    (record { stands = (subst IsWellHeld (sym J.nothing) nothing_well, subst (λ z. TaskStands f (own_of options y) z size) (sym J.idle) tt, subst (WalkStands f) (sym J.bare) (no_walk_stands f)); busy_live = λ t e. J.live })
+    (record { stands = (subst IsWellHeld (sym J.nothing) nothing_well, subst (λ z. TaskStands f (own_of options y) z size) (sym J.idle) tt, joined_walk); busy_live = λ t e. J.live })
     (le_refl size) (let more = one_more xs ys y J in omega (arith, more, few)) W.short
+  where
+    joined_walk : WalkStands f y.held (own_of options y) (walk_of y.task) (steps_of y.task) y.walk.cursor
+    joined_walk =
+        subst (λ t. WalkStands f y.held (own_of options y) (walk_of t) (steps_of t) y.walk.cursor) (sym J.idle)
+        (subst (λ w. WalkStands f y.held (own_of options y) None 0 w.cursor) (sym J.bare) (no_walk_stands f y.held (own_of options y) (ap (λ w. w.shown) J.bare)))
+
+-- who has no cursor purges nothing, and stands nowhere
+pub bare_apart : (z : Option At) → StandApart (Some no_walk.cursor) z
+bare_apart None = tt
+bare_apart (Some other) = λ due off on also. absurd (cc on)
+
+pub apart_bare : (z : Option At) → StandApart z (Some no_walk.cursor)
+apart_bare None = tt
+apart_bare (Some at) = λ due off on also. absurd (cc also)
 
 pub join_keeps_file : JoinKeepsFile
 join_keeps_file f xs ys a y F J = record {
@@ -97,6 +111,14 @@ join_keeps_file f xs ys a y F J = record {
       (elim (cases_eq o (length xs)) [
         | inl is ↦ subst (λ p. CursorKnows f a (slice_get ys p)) (sym is) (subst (CursorKnows f a) (sym S.there) (subst (λ w. Knows f a w.cursor.place w.cursor.stage) (sym J.bare) tt))
         | inr ne ↦ subst (CursorKnows f a) (sym (S.others o ne)) (F.cursors o)
+      ]);
+  alone = λ o p ne.
+      (elim (cases_eq o (length xs)) [
+        | inl is ↦ subst (λ q. StandApart (cursor_at (slice_get ys q)) (cursor_at (slice_get ys p))) (sym is) (subst (λ z. StandApart (cursor_at z) (cursor_at (slice_get ys p))) (sym S.there) (subst (λ w. StandApart (Some w.cursor) (cursor_at (slice_get ys p))) (sym J.bare) (bare_apart (cursor_at (slice_get ys p)))))
+        | inr first ↦ (elim (cases_eq p (length xs)) [
+          | inl is ↦ subst (λ q. StandApart (cursor_at (slice_get ys o)) (cursor_at (slice_get ys q))) (sym is) (subst (λ z. StandApart (cursor_at (slice_get ys o)) (cursor_at z)) (sym S.there) (subst (λ w. StandApart (cursor_at (slice_get ys o)) (Some w.cursor)) (sym J.bare) (apart_bare (cursor_at (slice_get ys o)))))
+          | inr second ↦ subst (λ z. StandApart (cursor_at z) (cursor_at (slice_get ys p))) (sym (S.others o first)) (subst (λ z. StandApart (cursor_at (slice_get xs o)) (cursor_at z)) (sym (S.others p second)) (F.alone o p ne))
+        ])
       ]);
   spared = λ o.
       subst (λ stands. OpenerSpares stands (slice_get ys o)) (sym stand)
@@ -169,7 +191,7 @@ empty_stands f options a size chains limit short = record {
 }
 
 pub empty_file_stands : EmptyFileStands
-empty_file_stands f a A = record { accepted = A; known = λ o. tt; cursors = λ o. tt; spared = λ o. tt }
+empty_file_stands f a A = record { accepted = A; known = λ o. tt; cursors = λ o. tt; spared = λ o. tt; alone = λ o p ne. tt }
 
 pub empty_is_loaded : EmptyIsLoaded
 empty_is_loaded f options a chains = record {

@@ -1,5 +1,5 @@
 -- Openers who come to a world, and commands that are given there: it stands as before, and the law says so.
-use Rattle.std.proofs.Common.{◌≡◌, ℕ, ◌+◌, ◌<◌, List, [], ◌∷◌, ◌++◌, length, slice_get, Option, Some, None, Result, Ok, Err, IfOk, OnOk, refl, sym, ap, subst, arith}
+use Rattle.std.proofs.Common.{◌≡◌, ℕ, ◌+◌, ◌<◌, List, [], ◌∷◌, ◌++◌, length, slice_get, Option, Some, Result, Ok, Err, IfOk, OnOk, refl, sym, ap, subst, arith}
 use Rattle.tdb_space.specs.Form.{form_in}
 use Rattle.tdb_words.specs.declared.header.Header.{Header}
 use Rattle.tdb_law.specs.Events.{Joins, Given}
@@ -47,9 +47,6 @@ module _ (w v : World) (e : v ≡ with_fresh w) (img : List ℕ) where
 -- an opener of a world that stands holds its explicit locks well, and it has no cursor
 pub held_free : (w : World) (who : ℕ) (x : Opener) → IsFree w who x → (img : List ℕ) (size : ℕ) → Stands w img size → IsWellHeld x.held
 held_free w who x F img size W = (subst (OpenerStands (form_in w.header) w.options size) F.number.there (W.openers_stand F.number.place)).0
-
-pub bare_free : (w : World) (who : ℕ) (x : Opener) → IsFree w who x → (img : List ℕ) (size : ℕ) → Stands w img size → x.walk.shown ≡ None
-bare_free w who x F img size W = (subst (OpenerStands (form_in w.header) w.options size) F.number.there (W.openers_stand F.number.place)).2.none
 
 -- a command that is given
 module _ (w v : World) (who size : ℕ) (x : Opener) (c : Command) (F : IsFree w who x) (A : IsAssigned w who x c size v) (img : List ℕ) where

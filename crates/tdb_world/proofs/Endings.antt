@@ -1,40 +1,37 @@
 -- The turns that end a command at once, in the words of the law.
-use Rattle.std.proofs.Common.{◌≡◌, ◌≢◌, ℕ, ◌+◌, List, Bool, true, false, None, Some, unwrap_or, refl, sym, ◌∙◌, ap, inl, arith}
-use Rattle.std.specs.Prelude.{if◌then◌else◌}
-use Rattle.std.specs.FinMap.{get-empty}
-use Rattle.std.specs.Ordering.{nat_cmp}
+use Rattle.std.proofs.Common.{◌≡◌, ℕ, ◌+◌, max, ◌==◌, List, [], Bool, true, false, None, Some, is_some, refl, sym, ◌∙◌, ap, subst, inl, arith}
+use Rattle.std.specs.Prelude.{◌&&◌, if◌then◌else◌}
 use Rattle.tdb_words.specs.Word.{word}
 use Rattle.tdb_space.specs.Form.{Form}
-use Rattle.tdb_locks.specs.HeldLocks.{HeldLocks, nothing_held}
 use Rattle.tdb_locks.specs.LockTable.{held}
 use Rattle.tdb_locks.specs.declared.piece.Piece.{Piece}
 use Rattle.tdb_law.specs.Commands.{Command, Reply, is_done}
 use Rattle.tdb_law.specs.Commands.Command.{OnMap, OnLocks, Seqnum, OnGroup, OnWalk}
-use Rattle.tdb_law.specs.Commands.WalkCommand.{Close}
-use Rattle.tdb_law.specs.Commands.Reply.{Done}
+use Rattle.tdb_law.specs.Commands.WalkCommand.{Next}
+use Rattle.tdb_law.specs.Commands.Reply.{End}
 use Rattle.tdb_law.specs.Commands.Turn.{Ends}
-use Rattle.tdb_law.specs.Openers.{Own, View}
-use Rattle.tdb_law.specs.Refusals.{Refusal, refusal}
-use Rattle.tdb_law.specs.Rows.{is_changed, changed_by}
-use Rattle.tdb_law.specs.Outcomes.{moves_by, counts_by, told_by, map_by, reads_by, own_by, own_refused}
-use Rattle.tdb_law.specs.Ends.{ends_by}
-use Rattle.tdb_law.specs.Held.{wanted, kept}
+use Rattle.tdb_law.specs.Openers.{Own, View, outside}
+use Rattle.tdb_law.specs.Refusals.{Refusal, refusal, says}
+use Rattle.tdb_law.specs.Rows.{is_changed, changed_by, locks, walk_locks}
+use Rattle.tdb_law.specs.Outcomes.{moves, moves_by, counts_by, told_by, map_by, reads_by, own_by, own_refused}
+use Rattle.tdb_law.specs.Ends.{ends_by, walk_ends}
+use Rattle.tdb_law.specs.Held.{wanted, locked_next, move_turn, is_chain}
 use Rattle.tdb_law.specs.Effects.{IsFree}
 use Rattle.tdb_law.specs.Effects.Effect.{effect_answers}
 use Rattle.tdb_law.specs.Counting.{number_by}
 use Rattle.tdb_law.specs.Images.{image_map}
 use Rattle.tdb_law.proofs.Covered.{none_held}
-use Rattle.tdb_steps.specs.Holdings.{strength, table_of}
 use Rattle.tdb_steps.specs.declared.flag.Flag.TheVariants as Flags
 use Rattle.tdb_plays.specs.InLaw.{law_command}
 use Rattle.tdb_plays.specs.declared.command.Command.{Command as GivenCommand}
 use Rattle.tdb_plays.specs.declared.command.Command.TheVariants as Given
-use Rattle.tdb_world.specs.declared.options.Options.{Options}
-use Rattle.tdb_world.specs.Openers.{AtRest, own_with, no_cursor, IsRefused}
+use Rattle.tdb_walk.proofs.Holding.{granted, locks_are}
+use Rattle.tdb_walk.proofs.Rows.{row_end, counts_no, told_is, map_is, own_is, ready, unchanged, number_is}
+use Rattle.tdb_world.specs.Openers.{AtRest, IsRefused}
+use Rattle.tdb_world.specs.Openers.IsRefused.{refuses, has_ended}
 use Rattle.tdb_world.specs.Given.{IsServed}
 use Rattle.tdb_world.specs.Turning.{law_table, wants, resting, OpenerHolds}
 use Rattle.tdb_world.specs.Ended.{EndTurned}
-use Rattle.tdb_world.proofs.Keeping.{kept_is, counts_keep, none_keep}
 use Rattle.tdb_world.proofs.Shifted.{apart_less, turned_locks, at_most_two}
 
 -- a served command that is refused leaves its opener
@@ -69,64 +66,49 @@ same_number : (t : Bool) (n : ℕ) → n ≡ (if t then n else n)
 same_number true n = refl
 same_number false n = refl
 
-pub refused_ends : (f : Form) (x : Own) (rest : AtRest) (v : View) (c : GivenCommand) (who : ℕ) (ps : List Piece) (r : Reply) → IsServed c → IsRefused f x (law_command c) r → OpenerHolds f x (resting rest) (law_command c) 0 who ps → EndTurned f x x (resting rest) v (law_command c) who ps ps r
-refused_ends f x rest v c who ps r s I H = record {
-  locks = turned_locks f x x (resting rest) (resting rest) k 0 who ps ps H (Ends r) (inl (ap (λ q. ends_by q k x 0 r) I.refused)) (λ b. let whole = H.holds b in let none = none_held f k x (resting rest) b in omega (arith, whole, none)) (λ o b differs. refl)
-      (apart_less f x x (resting rest) (resting rest) k 0 who ps ps H (λ b. omega arith));
-  file = λ img. record {
-    effect = effect_answers r refl (nothing_wanted f x rest v k who ps (refused_wants f k x rest v I.why I.refused)) (ap (λ q. moves_by q k x) I.refused) (ap (λ q. counts_by q k) I.refused)
-        (λ key reads. absurd (let e : false ≡ true = sym (ap (λ q. reads_by q k x key) I.refused) ∙ reads in cc e)) (refused_unchanged f k x I.why I.refused)
-        (I.told ∙ sym (ap (λ q. told_by q k x (image_map f img)) I.refused)) (sym (ap (λ q. map_by q k x (image_map f img)) I.refused))
-        (sym (ap (λ q. own_by f q k x 0 r (image_map f img)) I.refused ∙ served_same c s x));
-    number = same_number (is_done r) (word f.order img 48) ∙ ap (λ n. if is_done r then n else word f.order img 48) (sym (ap (λ q. number_by q k x (word f.order img 48) 0) I.refused));
-  };
-}
-  where
-    k : Command
-    k = law_command c
+module _ (f : Form) (x : Own) (rest : AtRest) (v : View) (c : GivenCommand) (who : ℕ) (ps : List Piece) (r : Reply) (s : IsServed c) (H : OpenerHolds f x (resting rest) (law_command c) 0 who ps) where
+  abbrev k : Command
+  k = law_command c
 
--- an opener that ends isn't refused, wants nothing and changes nothing
-close_granted : (f : Form) (x : Own) → refusal f (OnWalk Close) x ≡ None
-unfolding refusal
-close_granted f x = refl
+  why_ends : (why : Refusal) → refusal f k x ≡ Some why → r ≡ says x why → EndTurned f x x (resting rest) v k who ps ps r
+  why_ends why refused told = record {
+    locks = turned_locks f x x (resting rest) (resting rest) k 0 who ps ps H (Ends r) (inl (ap (λ q. ends_by q k x 0 r) refused)) (λ b. let whole = H.holds b in let none = none_held f k x (resting rest) b in omega (arith, whole, none)) (λ o b differs. refl)
+        (apart_less f x x (resting rest) (resting rest) k 0 who ps ps H (λ b. omega arith));
+    file = λ img. record {
+      effect = effect_answers r refl (nothing_wanted f x rest v k who ps (refused_wants f k x rest v why refused)) (ap (λ q. moves_by q k x) refused) (ap (λ q. counts_by q k) refused)
+          (λ key reads. absurd (let e : false ≡ true = sym (ap (λ q. reads_by q k x key) refused) ∙ reads in cc e)) (refused_unchanged f k x why refused)
+          (told ∙ sym (ap (λ q. told_by q k x (image_map f img)) refused)) (sym (ap (λ q. map_by q k x (image_map f img)) refused))
+          (sym (ap (λ q. own_by f q k x 0 r (image_map f img)) refused ∙ served_same c s x));
+      number = same_number (is_done r) (word f.order img 48) ∙ ap (λ n. if is_done r then n else word f.order img 48) (sym (ap (λ q. number_by q k x (word f.order img 48) 0) refused));
+    };
+  }
 
-close_wants : (f : Form) (options : Options) (live : Bool) (old : HeldLocks) (v : View) (b : ℕ) → wants f (OnWalk Close) (own_with options live old no_cursor) (resting no_cursor) v 0 b ≡ 0
+-- a Next without a cursor neither moves nor wants anything
+next_still : (f : Form) (x : Own) → x.txn ≡ None → x.cursor ≡ None → moves f (OnWalk Next) x ≡ false
+next_still f x out none = ap (λ q. moves_by q (OnWalk Next) x) (granted f Next x out) ∙ ap is_some none
+
+next_wants : (f : Form) (x : Own) (rest : AtRest) (v : View) → x.txn ≡ None → x.cursor ≡ None → (b : ℕ) → wants f (OnWalk Next) x (resting rest) v 0 b ≡ 0
 unfolding wanted
-close_wants f options live old v b = rw (close_granted f (own_with options live old no_cursor)) refl
+next_wants f x rest v out none b =
+    let bare : locks f (OnWalk Next) x v.must ≡ [] = locks_are f Next x v.must out ∙ ap (λ o. walk_locks f Next o v.must) none in
+    λ i. max (locked_next (bare i) 0 b) (if (next_still f x out none i && (0 == move_turn Next v.must x.cursor)) && (outside x && (is_chain f b && v.way b)) then 1 else 0)
 
-close_unchanged : (f : Form) (x : Own) → is_changed f (OnWalk Close) x 0 ≡ false
-unfolding is_changed
-close_unchanged f x = ap (λ p. changed_by p (OnWalk Close) x 0) (close_granted f x)
+module _ (f : Form) (x : Own) (rest : AtRest) (v : View) (who : ℕ) (ps : List Piece) (out : x.txn ≡ None) (none : x.cursor ≡ None) (H : OpenerHolds f x (resting rest) (OnWalk Next) 0 who ps) where
+  next_ends : EndTurned f x x (resting rest) v (OnWalk Next) who ps ps End
+  next_ends = record {
+    locks = turned_locks f x x (resting rest) (resting rest) (OnWalk Next) 0 who ps ps H (Ends End) (row_end f Next x out 0 End (ap (λ o. walk_ends Next o 0) none))
+        (λ b. let whole = H.holds b in let bare = none_held f (OnWalk Next) x (resting rest) b in omega (arith, whole, bare)) (λ o b differs. refl)
+        (apart_less f x x (resting rest) (resting rest) (OnWalk Next) 0 who ps ps H (λ b. omega arith));
+    file = λ img. record {
+      effect = effect_answers End refl (nothing_wanted f x rest v (OnWalk Next) who ps (next_wants f x rest v out none)) (next_still f x out none) (counts_no f Next x out) (ready f Next x out 0) (unchanged f Next x out 0)
+          (sym (told_is f Next x out (image_map f img))) (sym (map_is f Next x out (image_map f img)))
+          (sym (own_is f Next x out 0 End (image_map f img) ∙ (λ i. record x { cursor = sym none i })));
+      number = sym (number_is f Next x out 0 (Ends End) (word f.order img 48) 0);
+    };
+  }
 
--- who has nothing keeps nothing
-nothing_kept : (f : Form) (options : Options) (live : Bool) (b : ℕ) → kept f (own_with options live nothing_held no_cursor) (resting no_cursor) b ≡ 0
-nothing_kept f options live b =
-    let whole = kept_is f (own_with options live nothing_held no_cursor) (resting no_cursor) refl b in
-    let bare = ap (λ o. counts_keep f (unwrap_or o 0) b) (get-empty nat_cmp b) ∙ none_keep f b in
-    omega (arith, whole, bare)
-
-pub close_ends : (f : Form) (options : Options) (live : Bool) (old : HeldLocks) (v : View) (who : ℕ) (ps qs : List Piece) → OpenerHolds f (own_with options live old no_cursor) (resting no_cursor) (OnWalk Close) 0 who ps
-    → ((b : ℕ) → held qs (who + 1) b ≡ None) → ((o b : ℕ) → o ≢ who + 1 → held qs o b ≡ held ps o b) → EndTurned f (own_with options live old no_cursor) (own_with options false nothing_held no_cursor) (resting no_cursor) v (OnWalk Close) who ps qs Done
-close_ends f options live old v who ps qs H gone others = record {
-  locks = turned_locks f x y (resting no_cursor) (resting no_cursor) (OnWalk Close) 0 who ps qs H (Ends Done) (inl (ap (λ q. ends_by q (OnWalk Close) x 0 Done) R)) (λ b. let none = empty b in let keeps = nothing_kept f options false b in omega (arith, none, keeps))
-      (λ o b differs. ap strength (others o b differs)) (apart_less f x y (resting no_cursor) (resting no_cursor) (OnWalk Close) 0 who ps qs H (λ b. let none = empty b in omega (arith, none)));
-  file = λ img. record {
-    effect = effect_answers Done refl (nothing_wanted f x no_cursor v (OnWalk Close) who ps (close_wants f options live old v)) (ap (λ q. moves_by q (OnWalk Close) x) R) (ap (λ q. counts_by q (OnWalk Close)) R)
-        (λ key reads. absurd (let e : false ≡ true = sym (ap (λ q. reads_by q (OnWalk Close) x key) R) ∙ reads in cc e)) (close_unchanged f x)
-        (sym (ap (λ q. told_by q (OnWalk Close) x (image_map f img)) R)) (sym (ap (λ q. map_by q (OnWalk Close) x (image_map f img)) R))
-        (sym (ap (λ q. own_by f q (OnWalk Close) x 0 Done (image_map f img)) R));
-    number = sym (ap (λ q. number_by q (OnWalk Close) x (word f.order img 48) 0) R);
-  };
-}
-  where
-    x : Own
-    x = own_with options live old no_cursor
-
-    y : Own
-    y = own_with options false nothing_held no_cursor
-
-    R : refusal f (OnWalk Close) (own_with options live old no_cursor) ≡ None
-    R = close_granted f (own_with options live old no_cursor)
-
-    empty : (b : ℕ) → table_of qs (who + 1) b ≡ 0
-    empty b = ap strength (gone b)
+pub refused_ends : (f : Form) (x : Own) (rest : AtRest) (v : View) (c : GivenCommand) (who : ℕ) (ps : List Piece) (r : Reply) → IsServed c → IsRefused f x (law_command c) r → OpenerHolds f x (resting rest) (law_command c) 0 who ps → EndTurned f x x (resting rest) v (law_command c) who ps ps r
+refused_ends f x rest v c who ps r s (refuses why refused told) H = why_ends f x rest v c who ps r s H why refused told
+refused_ends f x rest v c who ps r s (has_ended is out none told) H =
+    subst (λ z. EndTurned f x x (resting rest) v (law_command c) who ps ps z) (sym told)
+    (subst (λ d. EndTurned f x x (resting rest) v d who ps ps End) (sym is) (next_ends f x rest v who ps out none (subst (λ d. OpenerHolds f x (resting rest) d 0 who ps) is H)))

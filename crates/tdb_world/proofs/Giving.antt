@@ -1,5 +1,5 @@
 -- A command that is given: its opener holds what it held, and no record yet.
-use Rattle.std.proofs.Common.{Bool, Option, ◌≡◌, ℕ, ◌+◌, ◌≤◌, max, List, [], length, slice_get, Some, None, refl, sym, ◌∙◌, ap, subst, inl, inr, arith, le_refl}
+use Rattle.std.proofs.Common.{Bool, true, false, is_some, Option, ◌≡◌, ℕ, ◌+◌, ◌≤◌, max, List, [], length, slice_get, Some, None, refl, sym, ◌∙◌, ap, subst, inl, inr, arith, le_refl}
 use Rattle.std.proofs.lemmas.Bool.{cases_eq}
 use Rattle.tdb_space.specs.Form.{Form}
 use Rattle.tdb_space.specs.Pairs.{joined}
@@ -25,15 +25,24 @@ use Rattle.tdb_world.specs.declared.job.Job.{Job}
 use Rattle.tdb_world.specs.declared.job.Job.TheVariants as Jobs
 use Rattle.tdb_world.specs.declared.job.Checking.TheVariants as Checks
 use Rattle.tdb_law.specs.Layout.{chains_in, mark_of}
-use Rattle.tdb_walk.specs.InLaw.{spot_in, is_before}
-use Rattle.tdb_world.specs.Openers.{rest_of, own_of, own_with, own_at, spot_at, place_at, spots_of, task_at, command_in, law_task, hands_of_job, hands_of_task, hands_at, JobStands, TaskStands, OpenerStands, WalkStands, JobKnows, TaskKnows, OpenerKnows}
+use Rattle.tdb_locks.specs.HeldLocks.{HeldLocks}
+use Rattle.tdb_law.specs.Commands.{WalkCommand}
+use Rattle.tdb_law.specs.Commands.WalkCommand.{First, Next, EndWalk, Close}
+use Rattle.tdb_walk.specs.declared.standing.Standing.{Standing}
+use Rattle.tdb_walk.specs.declared.standing.Standing.TheVariants.{Before, On, Past}
+use Rattle.tdb_walk.specs.declared.stage.Stage.{Stage as CursorStage}
+use Rattle.tdb_walk.specs.InLaw.{StandsAfter, is_before}
+use Rattle.tdb_walk.specs.Again.{RestsAt}
+use Rattle.tdb_walk.proofs.Again.{cursor_begins}
+use Rattle.tdb_world.specs.Openers.{rest_of, own_of, own_with, own_at, spot_by, walk_command, walk_in, walk_of, steps_of, MayAsk, WalkAfter, spot_at, place_at, spots_of, task_at, command_in, law_task, hands_of_job, hands_of_task, hands_at, JobStands, TaskStands, OpenerStands, WalkStands, JobKnows, TaskKnows, OpenerKnows}
 use Rattle.tdb_world.specs.States.{state_of}
 use Rattle.tdb_world.specs.Laws.{IsGiven, GiftKeepsWorld, GiftKeepsFile, GiftIsGiven}
 use Rattle.tdb_world.proofs.Standing.{Holds, world_set, held_still}
-use Rattle.tdb_walk.specs.Cursors.{Knows}
+use Rattle.tdb_walk.specs.Cursors.{At, Knows}
 use Rattle.tdb_cursors.specs.Spots.{spot_number}
-use Rattle.tdb_world.specs.Cursors.{is_stood, CursorKnows, StageSpares, JobSpares, TaskSpares, OpenerSpares}
+use Rattle.tdb_world.specs.Cursors.{is_stood, CursorKnows, StageSpares, JobSpares, TaskSpares, OpenerSpares, StandApart, cursor_at}
 use Rattle.tdb_world.proofs.Stood.{place_entry, same_spots}
+use Rattle.tdb_world.proofs.Rests.{walk_rests}
 use Rattle.tdb_world.proofs.AllHands.{joined_same}
 use Rattle.tdb_world.proofs.Busy.{hand_frees, looked_writes, listed_writes, taken_writes}
 
@@ -44,7 +53,7 @@ same_own options x y job G =
 
 -- and its cursor stands where it stood
 same_cursor : (x y : Opener) (job : Job) → IsGiven x job y → spot_at (Some y) ≡ spot_at (Some x)
-same_cursor x y job G = ap (λ w. spot_in w.cursor (is_before w.cursor.place)) G.same_walk
+same_cursor x y job G = ap (λ w. spot_by w.cursor) G.same_walk
 
 -- before the first turn a command holds no record and knows nothing
 bare_stage : (f : Form) (img : List ℕ) (command : Plain) (chain : ℕ) (seqnum : Bool) (stage : Stage) (whole : Option (List ℕ)) → IsAfter command stage 0 → DoingKnows f img (record { command = command; chain = chain; seqnum = seqnum; stage = stage; whole = whole })
@@ -68,7 +77,7 @@ module _ (f : Form) (x : Own) (size : ℕ) where
   bare_hands (Jobs.Check checking) K = refl
   bare_hands (Jobs.Locking locking) K = refl
   bare_hands Jobs.Seqnum K = refl
-  bare_hands Jobs.Close K = refl
+  bare_hands (Jobs.Walk walking) K = refl
 
   bare_knows : (img : List ℕ) (job : Job) → JobStands f x job 0 size → JobKnows f img job
   bare_knows img (Jobs.Refused command reply) K = tt
@@ -79,7 +88,7 @@ module _ (f : Form) (x : Own) (size : ℕ) where
   bare_knows img (Jobs.Check (Checks.Counted keys)) K = absurd (let late = K.1 in omega (arith, late))
   bare_knows img (Jobs.Locking locking) K = tt
   bare_knows img Jobs.Seqnum K = tt
-  bare_knows img Jobs.Close K = tt
+  bare_knows img (Jobs.Walk walking) K = tt
 
   -- and takes no record out of its chain
   delete_bare : (key : List ℕ) (stage : Stage) (stands : ℕ → Bool) → DeleteAfter stage 0 → StageSpares stands (Delete key) stage
@@ -106,14 +115,47 @@ module _ (f : Form) (x : Own) (size : ℕ) where
   bare_spares (Jobs.Check checking) stands K = tt
   bare_spares (Jobs.Locking locking) stands K = tt
   bare_spares Jobs.Seqnum stands K = tt
-  bare_spares Jobs.Close stands K = tt
+  bare_spares (Jobs.Walk walking) stands K = tt
+
+-- a cursor that rests can be asked for any command
+asks_well : (f : Form) (x : Own) (w : WalkCommand) (place : Standing) (stage : CursorStage) → RestsAt f x.cursor place stage → MayAsk x w → w ≡ Next → place ≡ Past → ⊥
+asks_well f x First place stage R may is past = absurd (cc is)
+asks_well f x Next place stage R may is past = let none = (subst (λ p. RestsAt f x.cursor p stage) past R).0 in let bad : true ≡ false = sym may ∙ ap is_some none in cc bad
+asks_well f x EndWalk place stage R may is past = absurd (cc is)
+asks_well f x Close place stage R may is past = absurd (cc is)
+
+not_before : (f : Form) (cursor : Option (List ℕ)) (place : Standing) (stage : CursorStage) → RestsAt f cursor place stage → is_before place ≡ false
+not_before f cursor (On chain off) stage R = refl
+not_before f cursor (Before chain) stage R = absurd R
+not_before f cursor Past stage R = refl
+
+walk_begins : (f : Form) (held : HeldLocks) (x : Own) (at : At) (size : ℕ) → RestsAt f x.cursor at.place at.stage → (job : Job) → JobStands f x job 0 size → WalkAfter f held x (walk_in job) 0 at
+walk_begins f held x at size R (Jobs.Refused command reply) K = R
+walk_begins f held x at size R (Jobs.Plain d) K = R
+walk_begins f held x at size R (Jobs.Check checking) K = R
+walk_begins f held x at size R (Jobs.Locking locking) K = R
+walk_begins f held x at size R Jobs.Seqnum K = R
+walk_begins f held x at size R (Jobs.Walk walking) K =
+    let w = walk_command walking in
+    subst (λ gone. StandsAfter f held x w at.place at.stage gone 0) (sym (not_before f x.cursor at.place at.stage R)) (cursor_begins f held x w at.place at.stage R (asks_well f x w at.place at.stage R K.1))
 
 pub gift_keeps_world : GiftKeepsWorld
 gift_keeps_world f options xs ys ps a size who x y job W there P G K =
     world_set f options xs ys ps ps a a size size who y W (record { there = P.there; others = P.others }) (held_still f options xs ps a size who y W holds)
-    (record { stands = (subst IsWellHeld (sym G.same_held) (subst (OpenerStands f options size) there (W.openers_stand who)).0, subst (λ z. TaskStands f (own_of options y) z size) (sym G.task) (subst (λ w. JobStands f w job 0 size) (sym (same_own options x y job G)) K), subst (WalkStands f) (sym G.same_walk) (subst (OpenerStands f options size) there (W.openers_stand who)).2); busy_live = λ t e. G.same_live ∙ G.live })
+    (record { stands = (subst IsWellHeld (sym G.same_held) (subst (OpenerStands f options size) there (W.openers_stand who)).0, subst (λ z. TaskStands f (own_of options y) z size) (sym G.task) (subst (λ w. JobStands f w job 0 size) (sym (same_own options x y job G)) K), given_walk); busy_live = λ t e. G.same_live ∙ G.live })
     (le_refl size) (subst (λ n. n ≤ most_openers) (sym P.same_length) W.few) W.short
   where
+    rests : RestsAt f x.walk.shown x.walk.cursor.place x.walk.cursor.stage
+    rests = walk_rests f x.held (own_of options x) (walk_of x.task) (steps_of x.task) x.walk.cursor (subst (OpenerStands f options size) there (W.openers_stand who)).2 (ap walk_of G.idle)
+
+    given_walk : WalkStands f y.held (own_of options y) (walk_of y.task) (steps_of y.task) y.walk.cursor
+    given_walk =
+        subst (λ t. WalkStands f y.held (own_of options y) (walk_of t) (steps_of t) y.walk.cursor) (sym G.task)
+        (subst (λ o. WalkStands f y.held o (walk_in job) 0 y.walk.cursor) (sym (same_own options x y job G))
+        (subst (λ h. WalkStands f h (own_of options x) (walk_in job) 0 y.walk.cursor) (sym G.same_held)
+        (subst (λ w. WalkStands f x.held (own_of options x) (walk_in job) 0 w.cursor) (sym G.same_walk)
+        (record { placed = (subst (OpenerStands f options size) there (W.openers_stand who)).2.placed; stands = walk_begins f x.held (own_of options x) x.walk.cursor size rests job K }))))
+
     holds : (b : ℕ) → Holds f options ps who (Some y) b
     holds b =
         let s : Spot = spot_at (Some x) in
@@ -139,6 +181,7 @@ gift_keeps_file f options xs ys a size who x y job F there P G K = record {
         | inl is ↦ subst (λ p. CursorKnows f a (slice_get ys p)) (sym is) (subst (CursorKnows f a) (sym P.there) (subst (λ w. Knows f a w.cursor.place w.cursor.stage) (sym G.same_walk) (subst (CursorKnows f a) there (F.cursors who))))
         | inr ne ↦ subst (CursorKnows f a) (sym (P.others o ne)) (F.cursors o)
       ]);
+  alone = λ o p ne. subst (λ z. StandApart z (cursor_at (slice_get ys p))) (sym (same_cursors o)) (subst (StandApart (cursor_at (slice_get xs o))) (sym (same_cursors p)) (F.alone o p ne));
   spared = λ o.
       subst (λ l. OpenerSpares (is_stood l) (slice_get ys o)) (sym same_entries)
       (elim (cases_eq o who) [
@@ -147,6 +190,12 @@ gift_keeps_file f options xs ys a size who x y job F there P G K = record {
       ]);
 }
   where
+    same_cursors : (o : ℕ) → cursor_at (slice_get ys o) ≡ cursor_at (slice_get xs o)
+    same_cursors o = elim (cases_eq o who) [
+      | inl is ↦ subst (λ p. cursor_at (slice_get ys p) ≡ cursor_at (slice_get xs p)) (sym is) (ap cursor_at P.there ∙ (ap (λ w. Some w.cursor) G.same_walk ∙ sym (ap cursor_at there)))
+      | inr ne ↦ ap cursor_at (P.others o ne)
+    ]
+
     same_entries : spots_of ys ≡ spots_of xs
     same_entries = same_spots xs ys (λ o. elim (cases_eq o who) [
       | inl is ↦ subst (λ p. place_entry (slice_get ys p) ≡ place_entry (slice_get xs p)) (sym is) (ap place_entry P.there ∙ (ap (λ w. Some (spot_number w.cursor.place)) G.same_walk ∙ sym (ap place_entry there)))

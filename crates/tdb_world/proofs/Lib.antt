@@ -3,6 +3,13 @@ pub mod Standing
 pub mod AllHands
 pub mod Busy
 pub mod Working
+pub mod Purgers
+pub mod Strengths
+pub mod WalkReady
+pub mod WalkHeld
+pub mod WalkFiled
+pub mod WalkLifted
+pub mod WalkStepping
 pub mod Filing
 pub mod Lifting
 pub mod Counts

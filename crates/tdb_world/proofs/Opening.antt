@@ -9,8 +9,9 @@ use Rattle.std.proofs.lemmas.Bool.{false_from_ne_true, ne_eqb}
 use Rattle.tdb_space.specs.Form.{Form, data_start}
 use Rattle.tdb_locks.specs.declared.kind.Kind.{Kind}
 use Rattle.tdb_locks.specs.declared.piece.Piece.{Piece}
-use Rattle.tdb_law.specs.Commands.{MapCommand, LockCommand}
-use Rattle.tdb_law.specs.Commands.WalkCommand.{Close as CloseWalk}
+use Rattle.tdb_law.specs.Commands.{Command, MapCommand, LockCommand, WalkCommand, Reply}
+use Rattle.tdb_law.specs.Commands.Command.{OnWalk}
+use Rattle.tdb_law.specs.Commands.WalkCommand.{First, Next, EndWalk, Close as CloseWalk}
 use Rattle.tdb_law.specs.Openers.{Counts, nowhere, count_at}
 use Rattle.tdb_law.specs.Beginning.{nobody}
 use Rattle.tdb_law.specs.Rows.{Lock, lock_all, map_locks, lock_locks, walk_locks, locks_by, locks}
@@ -20,16 +21,18 @@ use Rattle.tdb_law.proofs.Kept.{closed_base}
 use Rattle.tdb_steps.specs.Holdings.{table_of}
 use Rattle.tdb_steps.specs.LockRows.{strength_of}
 use Rattle.tdb_walk.specs.Cursors.{spot_of}
+use Rattle.tdb_walk.specs.InLaw.{is_purging}
+use Rattle.tdb_walk.proofs.Holding.{locks_are}
+use Rattle.tdb_world.specs.Openers.IsRefused.{refuses, has_ended}
 use Rattle.tdb_world.specs.declared.options.Options.{Options}
 use Rattle.tdb_world.specs.declared.opener.Opener.{Opener}
 use Rattle.tdb_world.specs.declared.job.Job.{Job}
 use Rattle.tdb_world.specs.declared.job.Job.TheVariants as Jobs
 use Rattle.tdb_world.specs.declared.job.Task.{Task}
-use Rattle.tdb_world.specs.Openers.{options_of, rest_of, own_of, own_at, spot_at, all_of, counts_of, task_at, command_in, law_task, JobStands, TaskStands, OpenerStands, WalkStands}
+use Rattle.tdb_world.specs.Openers.{options_of, own_of, own_at, spot_by, spot_at, walk_command, walk_of, steps_of, IsRefused, all_of, counts_of, task_at, command_in, law_task, JobStands, TaskStands, OpenerStands, WalkStands}
 use Rattle.tdb_world.specs.States.{WorldStands}
-use Rattle.tdb_world.specs.Turning.{resting}
 use Rattle.tdb_world.proofs.Single.{either}
-use Rattle.tdb_world.proofs.Rests.{stand_below, spot_rests, walk_well}
+use Rattle.tdb_world.proofs.Rests.{stand_below, walk_well}
 
 -- a number that counts where a test holds
 abbrev only : Bool → ℕ → ℕ
@@ -66,6 +69,17 @@ lock_high f LockCommand.LockAll = (omega arith, tt)
 lock_high f LockCommand.LockAllRead = (omega arith, tt)
 lock_high f LockCommand.UnlockAll = tt
 
+walk_high : (f : Form) (w : WalkCommand) (cursor : Option (List ℕ)) (z : Bool) → IsHigh (walk_locks f w cursor z)
+walk_high f w None z = tt
+walk_high f First (Some k) false = tt
+walk_high f Next (Some k) false = (omega arith, tt)
+walk_high f EndWalk (Some k) false = tt
+walk_high f CloseWalk (Some k) false = tt
+walk_high f First (Some k) true = (omega arith, (omega arith, tt))
+walk_high f Next (Some k) true = (omega arith, (omega arith, tt))
+walk_high f EndWalk (Some k) true = (omega arith, (omega arith, tt))
+walk_high f CloseWalk (Some k) true = (omega arith, (omega arith, tt))
+
 -- explicit locks: a chain's byte isn't 0
 put_low : (m : Counts) (byte v : ℕ) (z : Bool) → 1 ≤ byte → get m 0 ≡ None → get (if z then insert m byte v else m) 0 ≡ None
 put_low m byte v false some none = none
@@ -84,38 +98,45 @@ all_low (Some a) = locked_high (lock_all 0 (strength_of a.0) ∷ []) 1 (omega ar
 pub nobody_holds : (f : Form) (options : Options) (b : ℕ) → holding f (nobody (options_of options)) nowhere None b ≡ 0
 nobody_holds f options b = let none : explicit_held f (nobody (options_of options)) b ≤ 0 = closed_base f 0 b (nobody (options_of options)) in omega (arith, none)
 
-module _ (f : Form) (options : Options) (x : Opener) (S : WalkStands f x.walk) where
+module _ (f : Form) (options : Options) (x : Opener) (S : WalkStands f x.held (own_of options x) (walk_of x.task) (steps_of x.task) x.walk.cursor) where
   off_low : stand_held (spot_of x.walk.cursor.place) 0 ≡ 0
-  off_low = stand_below f x.walk.shown (spot_of x.walk.cursor.place) 0 (walk_well f x.walk S) (omega arith)
+  off_low = stand_below f x.walk.shown (spot_of x.walk.cursor.place) 0 (walk_well f x.held (own_of options x) (walk_of x.task) (steps_of x.task) x.walk.cursor S) (omega arith)
 
-  kept_low : kept f (own_of options x) (resting (rest_of x.walk)) 0 ≡ 0
+  kept_low : kept f (own_of options x) (spot_by x.walk.cursor) 0 ≡ 0
   kept_low =
       let none : count_at (own_of options x) 0 ≡ 0 = ap (λ o. unwrap_or o 0) (counts_low x.held.chains) in
       let bare : (if nat_lt 0 (data_start f) && nat_lt 0 (count_at (own_of options x) 0) then 2 else 0) ≡ 0 =
       ap (λ n. if nat_lt 0 (data_start f) && nat_lt 0 n then 2 else 0) none ∙ ap (λ z. only z 2) (and-false (nat_lt 0 (data_start f))) in
       omega (arith, bare, all_low x.held.all, off_low)
 
-  row_low : (job : Job) (n size : ℕ) → JobStands f (own_of options x) job n size → IsHigh (locks f (command_in job) (own_of options x) false)
-  row_low (Jobs.Refused command reply) n size K = subst (λ q. IsHigh (locks_by f q (command_in (Jobs.Refused command reply)) (own_of options x) false)) (sym K.2.refused) tt
-  row_low (Jobs.Plain d) n size K = subst (λ q. IsHigh (locks_by f q (command_in (Jobs.Plain d)) (own_of options x) false)) (sym K.granted) (map_high f _)
-  row_low (Jobs.Check checking) n size K = subst (λ q. IsHigh (locks_by f q (command_in (Jobs.Check checking)) (own_of options x) false)) (sym K.0) (map_high f MapCommand.Check)
-  row_low (Jobs.Locking locking) n size K = subst (λ q. IsHigh (locks_by f q (command_in (Jobs.Locking locking)) (own_of options x) false)) (sym K.1) (lock_high f _)
-  row_low Jobs.Seqnum n size K = subst (λ q. IsHigh (locks_by f q (command_in Jobs.Seqnum) (own_of options x) false)) (sym K.1) (omega arith, tt)
-  row_low Jobs.Close n size K = subst (λ q. IsHigh (locks_by f q (command_in Jobs.Close) (own_of options x) false)) (sym K.1) (subst (λ c. IsHigh (walk_locks f CloseWalk c false)) (sym K.2) tt)
+  walk_low : (w : WalkCommand) (z : Bool) → IsHigh (locks f (OnWalk w) (own_of options x) z)
+  walk_low w z = subst IsHigh (sym (locks_are f w (own_of options x) z refl)) (walk_high f w x.walk.shown z)
 
-  held_low : (job : Job) (n size : ℕ) → JobStands f (own_of options x) job n size → held f (command_in job) (own_of options x) (resting (rest_of x.walk)) n 0 ≡ 0
+  refused_low : (c : Command) (r : Reply) (z : Bool) → IsRefused f (own_of options x) c r → IsHigh (locks f c (own_of options x) z)
+  refused_low c r z (refuses why is says) = subst (λ q. IsHigh (locks_by f q c (own_of options x) z)) (sym is) tt
+  refused_low c r z (has_ended is out none says) = subst (λ d. IsHigh (locks f d (own_of options x) z)) (sym is) (walk_low Next z)
+
+  row_low : (job : Job) (n size : ℕ) (z : Bool) → JobStands f (own_of options x) job n size → IsHigh (locks f (command_in job) (own_of options x) z)
+  row_low (Jobs.Refused command reply) n size z K = refused_low (command_in (Jobs.Refused command reply)) _ z K.2
+  row_low (Jobs.Plain d) n size z K = subst (λ q. IsHigh (locks_by f q (command_in (Jobs.Plain d)) (own_of options x) z)) (sym K.granted) (map_high f _)
+  row_low (Jobs.Check checking) n size z K = subst (λ q. IsHigh (locks_by f q (command_in (Jobs.Check checking)) (own_of options x) z)) (sym K.0) (map_high f MapCommand.Check)
+  row_low (Jobs.Locking locking) n size z K = subst (λ q. IsHigh (locks_by f q (command_in (Jobs.Locking locking)) (own_of options x) z)) (sym K.1) (lock_high f _)
+  row_low Jobs.Seqnum n size z K = subst (λ q. IsHigh (locks_by f q (command_in Jobs.Seqnum) (own_of options x) z)) (sym K.1) (omega arith, tt)
+  row_low (Jobs.Walk walking) n size z K = walk_low (walk_command walking) z
+
+  held_low : (job : Job) (n size : ℕ) → JobStands f (own_of options x) job n size → held f (command_in job) (own_of options x) (spot_by x.walk.cursor) n 0 ≡ 0
   unfolding held
   held_low job n size K =
-      let none : locked (locks f (command_in job) (own_of options x) false) n 0 ≡ 0 = locked_high (locks f (command_in job) (own_of options x) false) n (row_low job n size K) in
-      either (is_gone (command_in job) (resting (rest_of x.walk))) 0 _ (sym none) ∙ none
+      let none : locked (locks f (command_in job) (own_of options x) (is_purging x.walk.cursor.stage)) n 0 ≡ 0 = locked_high (locks f (command_in job) (own_of options x) (is_purging x.walk.cursor.stage)) n (row_low job n size (is_purging x.walk.cursor.stage) K) in
+      either (is_gone (command_in job) (spot_by x.walk.cursor)) 0 _ (sym none) ∙ none
 
-  task_low : (size : ℕ) (t : Option Task) → TaskStands f (own_of options x) t size → holding f (own_of options x) (resting (rest_of x.walk)) (law_task t) 0 ≡ 0
+  task_low : (size : ℕ) (t : Option Task) → TaskStands f (own_of options x) t size → holding f (own_of options x) (spot_by x.walk.cursor) (law_task t) 0 ≡ 0
   task_low size None K = let none = kept_low in omega (arith, none)
   task_low size (Some t) K = let none = kept_low in let bare = held_low t.job t.steps size K in omega (arith, none, bare)
 
 opener_low : (f : Form) (options : Options) (size : ℕ) (z : Option Opener) → OpenerStands f options size z → holding f (own_at options z) (spot_at z) (task_at z) 0 ≡ 0
 opener_low f options size None K = nobody_holds f options 0
-opener_low f options size (Some x) K = ap (λ s. holding f (own_of options x) s (law_task x.task) 0) (spot_rests f x.walk K.2) ∙ task_low f options x K.2 size x.task K.1
+opener_low f options size (Some x) K = task_low f options x K.2 size x.task K.1
 
 pub nobody_opens : (f : Form) (options : Options) (xs : List Opener) (ps : List Piece) (a : List ℕ) (size : ℕ) → WorldStands f options xs ps a size → (o : ℕ) → table_of ps (o + 1) 0 ≡ 0
 nobody_opens f options xs ps a size W o = W.sound.agrees o 0 ∙ opener_low f options size (slice_get xs o) (W.openers_stand o)

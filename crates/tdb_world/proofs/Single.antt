@@ -84,7 +84,7 @@ module _ (size longer : ℕ) (le : size ≤ longer) where
   job_longer f x (Jobs.Check checking) n h = h
   job_longer f x (Jobs.Locking locking) n h = h
   job_longer f x Jobs.Seqnum n h = h
-  job_longer f x Jobs.Close n h = h
+  job_longer f x (Jobs.Walk walking) n h = h
 
   pub opener_longer : (f : Form) (options : Options) (z : Option Opener) → OpenerStands f options size z → OpenerStands f options longer z
   opener_longer f options None h = tt

@@ -12,12 +12,11 @@ use Rattle.tdb_law.specs.Lines.{most_openers}
 use Rattle.tdb_steps.specs.Holdings.{strength, table_of}
 use Rattle.tdb_world.specs.declared.options.Options.{Options}
 use Rattle.tdb_world.specs.declared.opener.Opener.{Opener}
-use Rattle.tdb_world.specs.Openers.{rest_of, own_of, own_at, spot_at, task_at, law_task, OpenerStands, WalkStands}
+use Rattle.tdb_world.specs.Openers.{own_of, own_at, spot_at, walk_of, steps_of, task_at, law_task, OpenerStands, WalkStands}
 use Rattle.tdb_world.specs.States.{WorldStands}
 use Rattle.tdb_world.specs.Laws.{MayStand, OpenerIsReady, TurnKeepsWorld}
-use Rattle.tdb_world.specs.Turning.{resting}
 use Rattle.tdb_world.proofs.Single.{opener_longer, busy_at, live_at}
-use Rattle.tdb_world.proofs.Rests.{spot_rests, walk_well}
+use Rattle.tdb_world.proofs.Rests.{walk_well}
 
 -- an opener that has a strength of 0 holds nothing
 none_held : (o : Option Kind) → strength o ≡ 0 → o ≡ None
@@ -33,25 +32,18 @@ abbrev Lives : Options → Option Opener → Type 0
 Lives options z = (u : LawTask) → task_at z ≡ Some u → (own_at options z).live ≡ true
 
 -- the cursor of an opener of a world that stands
-pub walk_there : (f : Form) (options : Options) (xs : List Opener) (ps : List Piece) (a : List ℕ) (size o : ℕ) (x : Opener) → WorldStands f options xs ps a size → slice_get xs o ≡ Some x → WalkStands f x.walk
+pub walk_there : (f : Form) (options : Options) (xs : List Opener) (ps : List Piece) (a : List ℕ) (size o : ℕ) (x : Opener) → WorldStands f options xs ps a size → slice_get xs o ≡ Some x → WalkStands f x.held (own_of options x) (walk_of x.task) (steps_of x.task) x.walk.cursor
 walk_there f options xs ps a size o x W there = (subst (OpenerStands f options size) there (W.openers_stand o)).2
-
--- what an opener whose cursor rests holds
-pub rests_hold : (f : Form) (options : Options) (ps : List Piece) (o : ℕ) (x : Opener) (b : ℕ) → WalkStands f x.walk → table_of ps (o + 1) b ≡ holding f (own_of options x) (resting (rest_of x.walk)) (law_task x.task) b → Holds f options ps o (Some x) b
-rests_hold f options ps o x b S e = e ∙ ap (λ s. holding f (own_of options x) s (law_task x.task) b) (sym (spot_rests f x.walk S))
 
 pub opener_is_ready : OpenerIsReady
 opener_is_ready f options xs ps a size who x t W B = record {
   holds = λ b.
       W.sound.agrees who b
-      ∙ (ap (λ z. holding f (own_at options z) (spot_at z) (task_at z) b) B.there ∙ (ap (λ z. holding f (own_of options x) (spot_at (Some x)) (law_task z) b) B.busy ∙ ap (λ s. holding f (own_of options x) s (law_task (Some t)) b) (spot_rests f x.walk S)));
+      ∙ (ap (λ z. holding f (own_at options z) (spot_at z) (task_at z) b) B.there ∙ ap (λ z. holding f (own_of options x) (spot_at (Some x)) (law_task z) b) B.busy);
   apart = λ o b differs. W.sound.apart who o b (λ e. differs (sym e));
   numbered = λ b. ap strength (W.numbered b);
-  rests = walk_well f x.walk S;
+  rests = walk_well f x.held (own_of options x) (walk_of x.task) (steps_of x.task) x.walk.cursor (walk_there f options xs ps a size who x W B.there);
 }
-  where
-    S : WalkStands f x.walk
-    S = walk_there f options xs ps a size who x W B.there
 
 -- a cursor that stands on a record stands there well
 abbrev StandsSoundly : Form → Options → Option Opener → Type 0
@@ -59,7 +51,7 @@ StandsSoundly f options z = (place : ℕ) → (spot_at z).stands ≡ Some place 
 
 stands_soundly : (f : Form) (options : Options) (size : ℕ) (z : Option Opener) → OpenerStands f options size z → StandsSoundly f options z
 stands_soundly f options size None K place e = absurd (cc e)
-stands_soundly f options size (Some x) K place e = let well = walk_well f x.walk K.2 place e in (refl, well.above, well.shown)
+stands_soundly f options size (Some x) K place e = let well = walk_well f x.held (own_of options x) (walk_of x.task) (steps_of x.task) x.walk.cursor K.2 place e in (refl, well.above, well.shown)
 
 -- one opener is another afterwards, in the same list or at the end of it
 pub record IsSet (xs : List Opener) (who : ℕ) (y : Opener) (ys : List Opener) : Type 0 where
@@ -134,7 +126,7 @@ module _ (f : Form) (options : Options) (xs ys : List Opener) (ps qs : List Piec
 
 pub turn_keeps_world : TurnKeepsWorld
 turn_keeps_world f options xs ys ps qs a b size longer who x y t turn W B P T M more less =
-    world_set f options xs ys ps qs a b size longer who y W (record { there = P.there; others = P.others }) (record { holds = λ i. rests_hold f options qs who y i M.stands.2 (T.holds i); others = T.others; apart = T.apart; numbered = T.numbered }) M more
+    world_set f options xs ys ps qs a b size longer who y W (record { there = P.there; others = P.others }) (record { holds = T.holds; others = T.others; apart = T.apart; numbered = T.numbered }) M more
     (subst (λ n. n ≤ most_openers) (sym P.same_length) W.few) less
 
 -- where no lock changes, an opener that holds what it held

@@ -32,8 +32,7 @@ use Rattle.tdb_world.specs.declared.opener.Opener.{Opener}
 use Rattle.tdb_world.specs.declared.job.Job.{Job}
 use Rattle.tdb_world.specs.declared.job.Job.TheVariants as Jobs
 use Rattle.tdb_world.specs.declared.job.Task.{Task}
-use Rattle.tdb_world.specs.Openers.{rest_of, own_of, own_at, spot_at, place_at, spots_of, task_at, command_in, JobStands, OpenerStands}
-use Rattle.tdb_world.specs.Turning.{resting}
+use Rattle.tdb_world.specs.Openers.{rest_of, own_of, own_at, spot_by, walk_of, steps_of, spot_at, place_at, spots_of, task_at, command_in, JobStands, OpenerStands}
 use Rattle.tdb_world.specs.States.{WorldStands, FileStands}
 use Rattle.tdb_world.specs.Cursors.{is_stood, CursorKnows, OpenerSpares, TaskSpares, CommandClears, JobClears, CursorsBeside}
 use Rattle.tdb_world.specs.Laws.{HasTask, CursorsAreBeside}
@@ -46,7 +45,7 @@ use Rattle.tdb_world.proofs.Working.{works}
 abbrev pub entry : Opener → ℕ
 entry x = spot_number x.walk.cursor.place
 
-injected : {A : Type 0} {x y : A} → Some x ≡ Some y → x ≡ y
+pub injected : {A : Type 0} {x y : A} → Some x ≡ Some y → x ≡ y
 injected e = cc
 
 or_second : (a b : Bool) → b ≡ true → a || b ≡ true
@@ -60,12 +59,12 @@ on_place (Before chain) off some e = absurd (omega (arith, some, e))
 on_place Past off some e = absurd (omega (arith, some, e))
 
 -- the opener at a place, whose cursor stands on a record
-record StandsOn (xs : List Opener) (off : ℕ) : Type 0 where
-  place : ℕ
-  opener : Opener
-  chain : ℕ
-  there : slice_get xs place ≡ Some opener
-  on : opener.walk.cursor.place ≡ On chain off
+pub record StandsOn (xs : List Opener) (off : ℕ) : Type 0 where
+  pub place : ℕ
+  pub opener : Opener
+  pub chain : ℕ
+  pub there : slice_get xs place ≡ Some opener
+  pub on : opener.walk.cursor.place ≡ On chain off
 
 found_by : (xs : List Opener) (off : ℕ) → 0 < off → list_any (nat_eq off) (spots_of xs) ≡ true → StandsOn xs off
 found_by [] off some e = absurd (never_true e)
@@ -74,7 +73,7 @@ found_by (x ∷ xs) off some e = elim (or_cases (nat_eq off (entry x)) (list_any
   | inr later ↦ (let w = found_by xs off some later in record { place = suc w.place; opener = w.opener; chain = w.chain; there = w.there; on = w.on })
 ]
 
-stood_by : (xs : List Opener) (off : ℕ) → is_stood (spots_of xs) off ≡ true → StandsOn xs off
+pub stood_by : (xs : List Opener) (off : ℕ) → is_stood (spots_of xs) off ≡ true → StandsOn xs off
 stood_by xs off e = let parts = and_both (nat_lt 0 off) (list_any (nat_eq off) (spots_of xs)) e in found_by xs off (ltb-true 0 off parts.0) parts.1
 
 -- and each cursor on a record has its entry
@@ -118,7 +117,7 @@ stood_pushed l = λ i off. at off i
     at (suc off) = ap (λ t. nat_lt 0 (suc off) && t) (any_pushed (suc off) l (omega arith))
 
 -- what a cursor on a record knows
-knows_in : (f : Form) (img : List ℕ) (chain off : ℕ) (stage : Stage) → Knows f img (On chain off) stage → (chain < f.chains) × Member off (chain_of f img chain)
+pub knows_in : (f : Form) (img : List ℕ) (chain off : ℕ) (stage : Stage) → Knows f img (On chain off) stage → (chain < f.chains) × Member off (chain_of f img chain)
 knows_in f img chain off Rested K = K
 knows_in f img chain off Reading K = K
 knows_in f img chain off Writing K = (K.0, K.1.member)
@@ -143,7 +142,7 @@ module _ (f : Form) (options : Options) (xs : List Opener) (ps : List Piece) (a 
   wipe_alone d is wipes some off stood =
       let w = stood_by xs off stood in
       let S = walk_there f options xs ps a size w.place w.opener W w.there in
-      let well = walk_well f w.opener.walk S off (ap spot_of w.on) in
+      let well = walk_well f w.opener.held (own_of options w.opener) (walk_of w.opener.task) (steps_of w.opener.task) w.opener.walk.cursor S off (ap spot_of w.on) in
       let placed = subst IsPlaced w.on S.placed in
       let K = works f options xs ps a size W who x t B in
       let stands = subst (λ j. JobStands f (own_of options x) j t.steps size) is K.stands in
@@ -152,13 +151,13 @@ module _ (f : Form) (options : Options) (xs : List Opener) (ps : List Piece) (a 
       let low : 168 ≤ off = omega (arith, above) in
       let high : off < all_end = (let p = placed.1 in omega (arith, p)) in
       let first = first_locked (lock_all 0 2) (lock_free 1 2 ∷ []) t.steps off (omega (arith, some)) (covers_within (lock_all 0 2) off low high) in
-      let mine = K.holds off ∙ ap (λ j. max (held f (command_in j) (own_of options x) (resting (rest_of x.walk)) t.steps off) (kept f (own_of options x) (resting (rest_of x.walk)) off)) is in
-      let its : held f (OnMap (command_of d.command)) (own_of options x) (resting (rest_of x.walk)) t.steps off ≡ locked (map_locks f MapCommand.Wipe) t.steps off =
-      ap (λ p. held f (OnMap (command_of p)) (own_of options x) (resting (rest_of x.walk)) t.steps off) wipes ∙ held_is f MapCommand.Wipe (own_of options x) granted refl (resting (rest_of x.walk)) t.steps off in
+      let mine = K.holds off ∙ ap (λ j. max (held f (command_in j) (own_of options x) (spot_by x.walk.cursor) t.steps off) (kept f (own_of options x) (spot_by x.walk.cursor) off)) is in
+      let its : held f (OnMap (command_of d.command)) (own_of options x) (spot_by x.walk.cursor) t.steps off ≡ locked (map_locks f MapCommand.Wipe) t.steps off =
+      ap (λ p. held f (OnMap (command_of p)) (own_of options x) (spot_by x.walk.cursor) t.steps off) wipes ∙ held_is f MapCommand.Wipe (own_of options x) granted refl (spot_by x.walk.cursor) t.steps off in
       elim (cases_eq w.place who) [
         | inl same ↦ (let z : w.opener ≡ x = injected (sym w.there ∙ ap (slice_get xs) same ∙ B.there) in
             let well_held = (subst (OpenerStands f options size) B.there (W.openers_stand who)).0 in
-            let bare = (allowed f W.sound.chains options x.live x.held (rest_of x.walk) well_held.counts (walk_well f x.walk (walk_there f options xs ps a size who x W B.there)) Wipe granted).0 in
+            let bare = (allowed f W.sound.chains options x.live x.held (rest_of x.walk) well_held.counts (walk_well f x.held (own_of options x) (walk_of x.task) (steps_of x.task) x.walk.cursor (walk_there f options xs ps a size who x W B.there)) Wipe granted).0 in
             let shown = subst (λ y. is_some y.walk.shown ≡ true) z well.shown in
             false≢true (sym bare ∙ shown))
         | inr ne ↦ (let one = stands_held w.place w.opener w.chain off w.there w.on in
@@ -180,7 +179,7 @@ module _ (f : Form) (options : Options) (xs : List Opener) (ps : List Piece) (a 
   clears (Jobs.Check checking) is = tt
   clears (Jobs.Locking locking) is = tt
   clears Jobs.Seqnum is = tt
-  clears Jobs.Close is = tt
+  clears (Jobs.Walk walking) is = tt
 
   beside : FileStands f xs a → CursorsBeside f a (is_stood (spots_of xs)) t
   beside F = record {
@@ -198,7 +197,7 @@ stands_among f options xs ps a size W o = at_opener (slice_get xs o) refl
   where
     at_place : (x : Opener) (place : Standing) → slice_get xs o ≡ Some x → x.walk.cursor.place ≡ place → IsStood (is_stood (spots_of xs)) (place_of place)
     at_place x (On chain off) there on =
-        let well = walk_well f x.walk (walk_there f options xs ps a size o x W there) off (ap spot_of on) in
+        let well = walk_well f x.held (own_of options x) (walk_of x.task) (steps_of x.task) x.walk.cursor (walk_there f options xs ps a size o x W there) off (ap spot_of on) in
         let above = well.above in
         stood_at xs o x chain off there on (omega (arith, above))
     at_place x (Before chain) there on = tt

@@ -1,7 +1,9 @@
 -- An opener's task before its turn.
-use Rattle.std.proofs.Common.{◌≡◌, ℕ, ◌+◌, ◌≤◌, List, Some, subst, arith, inl, inr}
+use Rattle.std.proofs.Common.{◌≡◌, ℕ, ◌+◌, ◌≤◌, List, Some, None, refl, subst, arith, inl, inr}
 use Rattle.tdb_space.specs.Form.{Form}
 use Rattle.tdb_locks.specs.declared.piece.Piece.{Piece}
+use Rattle.tdb_law.specs.Commands.{Turn}
+use Rattle.tdb_law.specs.Commands.Turn.{Step, Blocked, Ends}
 use Rattle.tdb_law.specs.Openers.{Own}
 use Rattle.tdb_steps.specs.Order.{LookAfter, StoreAfter, DeleteAfter, WipeAfter, IsAfter}
 use Rattle.tdb_steps.specs.declared.plain.Plain.{Plain}
@@ -16,9 +18,9 @@ use Rattle.tdb_world.specs.declared.job.Job.TheVariants as Jobs
 use Rattle.tdb_world.specs.declared.job.Checking.{Checking}
 use Rattle.tdb_world.specs.declared.job.Checking.TheVariants as Checks
 use Rattle.tdb_world.specs.declared.job.Task.{Task}
-use Rattle.tdb_world.specs.Openers.{rest_of, own_of, command_in, CheckAfter, JobStands, TaskStands}
+use Rattle.tdb_world.specs.Openers.{rest_of, own_of, command_in, walk_in, walk_of, CheckAfter, JobStands, TaskStands}
 use Rattle.tdb_world.specs.Turning.{OpenerHolds, resting}
-use Rattle.tdb_world.specs.Jobs.{JobIsReady}
+use Rattle.tdb_world.specs.Jobs.{JobIsReady, task_after}
 use Rattle.tdb_world.specs.Laws.{MayStand}
 
 -- no command has more than six steps
@@ -83,7 +85,7 @@ steps_few f x (Jobs.Plain d) n size K = plain_few d.command d.stage n K.after
 steps_few f x (Jobs.Check checking) n size K = check_few checking n K.1
 steps_few f x (Jobs.Locking locking) n size K = let none = K.0 in omega (arith, none)
 steps_few f x Jobs.Seqnum n size K = let none = K.0 in omega (arith, none)
-steps_few f x Jobs.Close n size K = let none = K.0 in omega (arith, none)
+steps_few f x (Jobs.Walk walking) n size K = let few = K.0 in omega (arith, few)
 
 module _ (f : Form) (options : Options) (x : Opener) (size owner : ℕ) (ps : List Piece) (M : MayStand f options size x)
     (holds : (t : Task) → x.task ≡ Some t → (who : ℕ) × (owner ≡ who + 1) × OpenerHolds f (own_of options x) (resting (rest_of x.walk)) (command_in t.job) t.steps who ps) (t : Task) (busy : x.task ≡ Some t) where
@@ -99,3 +101,9 @@ module _ (f : Form) (options : Options) (x : Opener) (size owner : ℕ) (ps : Li
     stands = task_stands;
     holds = subst (λ w. OpenerHolds f (own_of options x) (resting (rest_of x.walk)) (command_in t.job) t.steps w ps) (omega (arith, named, number)) h.2;
   }
+
+-- what is left of a task on no cursor is on none
+pub after_beside : (job : Job) (n : ℕ) (turn : Turn) → walk_in job ≡ None → walk_of (task_after job n turn) ≡ None
+after_beside job n Step off = off
+after_beside job n (Blocked owner byte) off = off
+after_beside job n (Ends r) off = refl

@@ -12,7 +12,8 @@ use Rattle.tdb_steps.specs.declared.plain.Plain.TheVariants.{Delete, Wipe}
 use Rattle.tdb_steps.specs.declared.stage.Stage.{Stage}
 use Rattle.tdb_steps.specs.declared.stage.Stage.TheVariants.{Looked, Listed}
 use Rattle.tdb_steps.specs.Walks.{StandInChains}
-use Rattle.tdb_walk.specs.Cursors.{Knows}
+use Rattle.tdb_walk.specs.Cursors.{At, Knows, spot_of}
+use Rattle.tdb_walk.specs.InLaw.{is_purging}
 use Rattle.tdb_world.specs.declared.opener.Opener.{Opener}
 use Rattle.tdb_world.specs.declared.job.Job.{Job}
 use Rattle.tdb_world.specs.declared.job.Job.TheVariants.{Plain}
@@ -72,3 +73,17 @@ pub record LeavesCursors (f : Form) (x : Own) (t : Task) (left : Option Task) (t
 abbrev pub CursorKnows : Form → List ℕ → Option Opener → Type 0
 CursorKnows f img None = Unit {0}
 CursorKnows f img (Some x) = Knows f img x.walk.cursor.place x.walk.cursor.stage
+
+-- A cursor that is going to purge the record on which it stands is the only one there.
+abbrev pub PurgesAlone : At → At → Type 0
+PurgesAlone at other = is_purging at.stage ≡ true → (off : ℕ) → spot_of at.place ≡ Some off → spot_of other.place ≡ Some off → ⊥
+
+abbrev pub StandApart : Option At → Option At → Type 0
+StandApart None other = Unit {0}
+StandApart (Some at) None = Unit {0}
+StandApart (Some at) (Some other) = PurgesAlone at other
+
+-- the cursor of an opener, which has one past the last chain where it has none
+abbrev pub cursor_at : Option Opener → Option At
+cursor_at None = None
+cursor_at (Some x) = Some x.walk.cursor

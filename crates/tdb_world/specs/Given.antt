@@ -32,15 +32,12 @@ IsShortLocking (Lockings.ChainNb key) = length key < 2 ^ 32
 IsShortLocking (Lockings.Unchain key) = length key < 2 ^ 32
 IsShortLocking _ = Unit {0}
 
--- the commands that need neither a transaction nor a cursor
+-- the commands that need no transaction
 abbrev pub IsServed : Command → Type 0
 IsServed Given.Start = ⊥
 IsServed Given.Commit = ⊥
 IsServed Given.Prepare = ⊥
 IsServed Given.Cancel = ⊥
-IsServed Given.First = ⊥
-IsServed Given.Next = ⊥
-IsServed Given.EndWalk = ⊥
 IsServed _ = Unit {0}
 
 -- the plays that are served: an opener is named by a number from 1 on, its command is served and short, and nobody dies

@@ -1,6 +1,6 @@
 -- The laws that lift what an opener does to the world: from what holds between any two calls, to what holds after it, and to the law's
 -- words for it (`tdb_law`).
-use Rattle.std.specs.Prelude.{ℕ, ◌≡◌, ◌≢◌, ◌<◌, ◌≤◌, ◌==◌, List, [], ◌∷◌, ◌++◌, Some, None, true, length, slice_get, set, if◌then◌else◌}
+use Rattle.std.specs.Prelude.{ℕ, IsTrue, Bool, ◌+◌, ◌≡◌, ◌≢◌, ◌<◌, ◌≤◌, ◌==◌, List, [], ◌∷◌, ◌++◌, Some, None, true, length, slice_get, set, if◌then◌else◌}
 use Rattle.std.specs.FinMap.{len}
 use Rattle.tdb_space.specs.Form.{Form}
 use Rattle.tdb_space.specs.Pairs.{joined, order_of}
@@ -8,7 +8,9 @@ use Rattle.tdb_space.specs.Extents.{HandPair}
 use Rattle.tdb_space.specs.Accepted.{AcceptWith}
 use Rattle.tdb_locks.specs.HeldLocks.{nothing_held}
 use Rattle.tdb_locks.specs.declared.piece.Piece.{Piece}
-use Rattle.tdb_law.specs.Commands.{Turn}
+use Rattle.tdb_locks.specs.declared.turn.Turn.{Turn as TurnIs}
+use Rattle.tdb_law.specs.Commands.{WalkCommand, Turn}
+use Rattle.tdb_plays.specs.InLaw.{law_turn}
 use Rattle.tdb_law.specs.Lines.{most_openers}
 use Rattle.tdb_law.specs.Openers.{View}
 use Rattle.tdb_law.specs.Turned.{Turned}
@@ -20,10 +22,11 @@ use Rattle.tdb_world.specs.declared.options.Options.{Options}
 use Rattle.tdb_world.specs.declared.opener.Opener.{Opener}
 use Rattle.tdb_world.specs.declared.job.Job.{Job}
 use Rattle.tdb_world.specs.declared.job.Task.{Task}
-use Rattle.tdb_world.specs.Openers.{no_walk, rest_of, options_of, JobStands, own_of, command_in, law_task, hands_at, place_at, spots_of, OpenerStands}
+use Rattle.tdb_world.specs.Openers.{no_walk, options_of, JobStands, own_of, spot_by, command_in, walk_in, law_task, hands_at, place_at, spots_of, OpenerStands}
 use Rattle.tdb_world.specs.States.{state_of, view_for, WorldStands, FileStands}
 use Rattle.tdb_world.specs.Cursors.{is_stood, CursorsBeside, LeavesCursors}
-use Rattle.tdb_world.specs.Turning.{resting, OpenerHolds, TurnsLocks, TurnsFile, TurnsWalk, ImageBefore, TurnsImage}
+use Rattle.tdb_world.specs.Turning.{OpenerHolds, TurnsLocks, TurnsFile, TurnsWalk, ImageBefore, TurnsImage}
+use Rattle.tdb_world.specs.Walked.{WalkTurned}
 
 -- among these openers this one has this task
 pub record HasTask (openers : List Opener) (who : ℕ) (x : Opener) (t : Task) : Type 0 where
@@ -51,7 +54,7 @@ pub record MayStand (f : Form) (options : Options) (size : ℕ) (y : Opener) : T
 -- What holds before a turn: the opener holds what its task has locked and what it keeps.
 abbrev pub OpenerIsReady : Type 0
 OpenerIsReady = (f : Form) (options : Options) (xs : List Opener) (ps : List Piece) (a : List ℕ) (size who : ℕ) (x : Opener) (t : Task)
-    → WorldStands f options xs ps a size → HasTask xs who x t → OpenerHolds f (own_of options x) (resting (rest_of x.walk)) (command_in t.job) t.steps who ps
+    → WorldStands f options xs ps a size → HasTask xs who x t → OpenerHolds f (own_of options x) (spot_by x.walk.cursor) (command_in t.job) t.steps who ps
 
 -- The image is accepted with the records of its command and with those of all others, and the command knows it.
 abbrev pub ImageIsReady : Type 0
@@ -67,29 +70,47 @@ CursorsAreBeside = (f : Form) (options : Options) (xs : List Opener) (ps : List 
 abbrev pub TurnKeepsWorld : Type 0
 TurnKeepsWorld = (f : Form) (options : Options) (xs ys : List Opener) (ps qs : List Piece) (a b : List ℕ) (size longer who : ℕ) (x y : Opener) (t : Task) (turn : Turn)
     → WorldStands f options xs ps a size → HasTask xs who x t → IsPut xs who y ys
-    → TurnsLocks f (own_of options x) (own_of options y) (resting (rest_of y.walk)) (command_in t.job) t.steps (law_task y.task) who ps qs turn
+    → TurnsLocks f (own_of options x) (own_of options y) (spot_by y.walk.cursor) (command_in t.job) t.steps (law_task y.task) who ps qs turn
     → MayStand f options longer y → size ≤ longer → longer ≤ options.limit → WorldStands f options ys qs b longer
 
--- After a turn that also did to the file what it may, and left cursors what it may, its bytes stand: others still know their chains, since
--- who changes a chain has it locked.
+-- After a turn of a command on no cursor that also did to the file what it may, and left cursors what it may, its bytes stand: others still
+-- know their chains, since who changes a chain has it locked.
 abbrev pub TurnKeepsFile : Type 0
 TurnKeepsFile = (f : Form) (options : Options) (xs ys : List Opener) (ps : List Piece) (a b : List ℕ) (size who : ℕ) (x y : Opener) (t : Task) (v : View) (turn : Turn)
     → WorldStands f options xs ps a size → FileStands f xs a → HasTask xs who x t → IsPut xs who y ys
-    → TurnsFile f (own_of options x) (own_of options y) (resting (rest_of x.walk)) v (command_in t.job) t.steps who ps a b turn
-    → TurnsImage f t y.task a b (other_hands xs who) → y.walk ≡ x.walk → LeavesCursors f (own_of options x) t y.task turn a b (is_stood (spots_of xs)) → FileStands f ys b
+    → TurnsFile f (own_of options x) (own_of options y) (spot_by x.walk.cursor) v (command_in t.job) t.steps who ps a b turn
+    → TurnsImage f t y.task a b (other_hands xs who) → walk_in t.job ≡ None → y.walk ≡ x.walk → LeavesCursors f (own_of options x) t y.task turn a b (is_stood (spots_of xs)) → FileStands f ys b
 
 -- what the file adds to the cursor of an opener of a world, where its command is this one
 abbrev pub view_in : Form → Options → List Opener → List ℕ → ℕ → Opener → Task → View
 view_in f options xs a who x t = view_for f options a (set (spots_of xs) who 0) x (command_in t.job)
 
--- And it is a turn of the law, where it leaves its opener's cursor where that stands, and shifts all walks.
+-- And it is a turn of the law, where its command is on no cursor, and shifts all walks.
 abbrev pub TurnIsTurned : Type 0
 TurnIsTurned = (f : Form) (options : Options) (xs ys : List Opener) (ps qs : List Piece) (a b : List ℕ) (size who : ℕ) (x y : Opener) (t : Task) (turn : Turn)
     → WorldStands f options xs ps a size → HasTask xs who x t → IsPut xs who y ys
-    → TurnsLocks f (own_of options x) (own_of options y) (resting (rest_of y.walk)) (command_in t.job) t.steps (law_task y.task) who ps qs turn
-    → TurnsFile f (own_of options x) (own_of options y) (resting (rest_of x.walk)) (view_in f options xs a who x t) (command_in t.job) t.steps who ps a b turn
-    → y.walk ≡ x.walk → ((o : ℕ) → TurnsWalk f (own_of options x) (command_in t.job) t.steps turn a b (place_at (slice_get xs o)))
+    → TurnsLocks f (own_of options x) (own_of options y) (spot_by y.walk.cursor) (command_in t.job) t.steps (law_task y.task) who ps qs turn
+    → TurnsFile f (own_of options x) (own_of options y) (spot_by x.walk.cursor) (view_in f options xs a who x t) (command_in t.job) t.steps who ps a b turn
+    → walk_in t.job ≡ None → y.walk ≡ x.walk → ((o : ℕ) → TurnsWalk f (own_of options x) (command_in t.job) t.steps turn a b (place_at (slice_get xs o)))
     → Turned f (state_of f options xs ps a) who (record { command = command_in t.job; steps = t.steps }) turn (state_of f options ys qs b)
+
+-- After a turn of a command on the opener's cursor the world stands too, whatever the bytes of the file are; and where a contract sees
+-- these, they stand, and it is a turn of the law.
+abbrev pub WalkKeepsWorld : Type 0
+WalkKeepsWorld = (f : Form) (options : Options) (xs ys : List Opener) (ps qs : List Piece) (a b c : List ℕ) (size longer who : ℕ) (x y : Opener) (t : Task) (w : WalkCommand) (stood_on : List ℕ) (did : TurnIs) (tells : Bool)
+    → WorldStands f options xs ps a size → HasTask xs who x t → walk_in t.job ≡ Some w → IsPut xs who y ys → WalkTurned tells f a b size ps qs (who + 1) stood_on w options.read_only t x y did
+    → size ≤ longer → longer ≤ options.limit → WorldStands f options ys qs c longer
+
+abbrev pub WalkKeepsFile : Type 0
+WalkKeepsFile = (f : Form) (options : Options) (xs ys : List Opener) (ps qs : List Piece) (a b : List ℕ) (size who : ℕ) (x y : Opener) (t : Task) (w : WalkCommand) (did : TurnIs) (tells : Bool)
+    → IsTrue tells → WorldStands f options xs ps a size → FileStands f xs a → HasTask xs who x t → walk_in t.job ≡ Some w → IsPut xs who y ys
+    → WalkTurned tells f a b size ps qs (who + 1) (set (spots_of xs) who 0) w options.read_only t x y did → FileStands f ys b
+
+abbrev pub WalkIsTurned : Type 0
+WalkIsTurned = (f : Form) (options : Options) (xs ys : List Opener) (ps qs : List Piece) (a b : List ℕ) (size who : ℕ) (x y : Opener) (t : Task) (w : WalkCommand) (did : TurnIs) (tells : Bool)
+    → IsTrue tells → WorldStands f options xs ps a size → FileStands f xs a → HasTask xs who x t → walk_in t.job ≡ Some w → IsPut xs who y ys
+    → WalkTurned tells f a b size ps qs (who + 1) (set (spots_of xs) who 0) w options.read_only t x y did
+    → Turned f (state_of f options xs ps a) who (record { command = command_in t.job; steps = t.steps }) (law_turn did) (state_of f options ys qs b)
 
 -- a new opener comes behind these; it has nothing yet
 pub record IsJoined (old : List Opener) (y : Opener) (new : List Opener) : Type 0 where

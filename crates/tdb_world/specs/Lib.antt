@@ -1,6 +1,7 @@
 pub mod Openers
 pub mod States
 pub mod Turning
+pub mod Walked
 pub mod Laws
 pub mod Given
 pub mod Worlds

@@ -1,5 +1,5 @@
 -- An opener in the words of the law (`tdb_law`): what it has, and its unfinished command.
-use Rattle.std.specs.Prelude.{ℕ, ◌+◌, ◌*◌, ◌≡◌, Bool, List, [], ◌∷◌, map, Option, Some, None, nat_lt, if◌then◌else◌}
+use Rattle.std.specs.Prelude.{ℕ, ◌+◌, ◌*◌, ◌≡◌, ◌≤◌, Bool, true, List, [], ◌∷◌, map, Option, Some, None, is_some, nat_lt, if◌then◌else◌}
 use Rattle.std.specs.FinMap.{empty, insert, len}
 use Rattle.tdb_space.specs.Form.{Form}
 use Rattle.tdb_space.specs.Pairs.{home}
@@ -21,8 +21,8 @@ use Rattle.tdb_steps.specs.Order.{IsAfter}
 use Rattle.tdb_steps.specs.Machines.{Doing, Fits, DoingKnows}
 use Rattle.tdb_walk.specs.NextLive.{place_of}
 use Rattle.tdb_walk.specs.declared.standing.Standing.TheVariants.{Past}
-use Rattle.tdb_walk.specs.Cursors.{IsPlaced, rested, spot_of}
-use Rattle.tdb_walk.specs.InLaw.{spot_in, is_before}
+use Rattle.tdb_walk.specs.Cursors.{At, IsPlaced, rested, spot_of}
+use Rattle.tdb_walk.specs.InLaw.{StandsAfter, spot_in, is_before}
 use Rattle.tdb_walk.specs.Again.{RestsAt}
 use Rattle.tdb_cursors.specs.declared.walk.Walk.{Walk}
 use Rattle.tdb_cursors.specs.Spots.{spot_number}
@@ -31,9 +31,11 @@ use Rattle.tdb_world.specs.Given.{IsServed, IsShortLocking, IsWellHeld}
 use Rattle.tdb_world.specs.declared.options.Options.{Options}
 use Rattle.tdb_world.specs.declared.opener.Opener.{Opener}
 use Rattle.tdb_world.specs.declared.job.Job.{Job}
-use Rattle.tdb_world.specs.declared.job.Job.TheVariants.{Refused, Plain, Check, Locking, Seqnum, Close}
+use Rattle.tdb_world.specs.declared.job.Job.TheVariants.{Refused, Plain, Check, Locking, Seqnum, Walk as OnWalk}
 use Rattle.tdb_world.specs.declared.job.Locking.{Locking as LockingCommand}
 use Rattle.tdb_world.specs.declared.job.Locking.TheVariants as Locks
+use Rattle.tdb_world.specs.declared.job.Walking.{Walking}
+use Rattle.tdb_world.specs.declared.job.Walking.TheVariants as Walks
 use Rattle.tdb_world.specs.declared.job.Checking.{Checking}
 use Rattle.tdb_world.specs.declared.job.Checking.TheVariants.{Begun, Records, FreeList, Counted}
 use Rattle.tdb_world.specs.declared.job.Task.{Task}
@@ -77,9 +79,12 @@ own_at options None = nobody (options_of options)
 own_at options (Some x) = own_of options x
 
 -- what only the world knows of the cursor of an opener, where it stands in the chains, and the records on which those of all openers stand
+abbrev pub spot_by : At → Spot
+spot_by at = spot_in at (is_before at.place)
+
 abbrev pub spot_at : Option Opener → Spot
 spot_at None = nowhere
-spot_at (Some x) = spot_in x.walk.cursor (is_before x.walk.cursor.place)
+spot_at (Some x) = spot_by x.walk.cursor
 
 abbrev pub place_at : Option Opener → Place
 place_at None = off_chains
@@ -97,13 +102,32 @@ locking_command Locks.All = Law.LockCommand.LockAll
 locking_command Locks.AllRead = Law.LockCommand.LockAllRead
 locking_command Locks.UnlockAll = Law.LockCommand.UnlockAll
 
+abbrev pub walk_command : Walking → Law.WalkCommand
+walk_command Walks.First = Law.WalkCommand.First
+walk_command Walks.Next = Law.WalkCommand.Next
+walk_command Walks.EndWalk = Law.WalkCommand.EndWalk
+walk_command Walks.Close = Law.WalkCommand.Close
+
 abbrev pub command_in : Job → Law.Command
 command_in (Refused command reply) = law_command command
 command_in (Plain doing) = Law.Command.OnMap (command_of doing.command)
 command_in (Check checking) = Law.Command.OnMap Law.MapCommand.Check
 command_in (Locking locking) = Law.Command.OnLocks (locking_command locking)
 command_in Seqnum = Law.Command.Seqnum
-command_in Close = Law.Command.OnWalk Law.WalkCommand.Close
+command_in (OnWalk walking) = Law.Command.OnWalk (walk_command walking)
+
+-- what a command asks of its opener's cursor, if it is on that; and how many steps a task has had
+abbrev pub walk_in : Job → Option Law.WalkCommand
+walk_in (OnWalk walking) = Some (walk_command walking)
+walk_in job = None
+
+abbrev pub walk_of : Option Task → Option Law.WalkCommand
+walk_of None = None
+walk_of (Some t) = walk_in t.job
+
+abbrev pub steps_of : Option Task → ℕ
+steps_of None = 0
+steps_of (Some t) = t.steps
 
 abbrev pub law_task : Option Task → Option LawTask
 law_task None = None
@@ -133,11 +157,11 @@ CheckAfter Records n = n ≡ 1
 CheckAfter FreeList n = n ≡ 2
 CheckAfter (Counted keys) n = n ≡ 3
 
--- the reply that tells why the opener's own state refuses a command
-pub record IsRefused (f : Form) (x : Own) (c : Law.Command) (r : Law.Reply) : Type 0 where
-  pub why : Refusal
-  pub refused : refusal f c x ≡ Some why
-  pub told : r ≡ says x why
+-- the reply by which the opener's own state answers a command at once: it tells why that is refused, or that a Next without a cursor is
+-- at the end
+pub data IsRefused (f : Form) (x : Own) (c : Law.Command) (r : Law.Reply) : Type 0 where
+  refuses : (why : Refusal) → refusal f c x ≡ Some why → r ≡ says x why → IsRefused f x c r
+  has_ended : c ≡ Law.Command.OnWalk Law.WalkCommand.Next → x.txn ≡ None → x.cursor ≡ None → r ≡ Law.Reply.End → IsRefused f x c r
 
 -- a command on the map stands after so many steps: it isn't refused, its machine is on the chain of its key and counts where the options
 -- say so, and is where these steps have brought it
@@ -148,29 +172,39 @@ pub record PlainStands (f : Form) (x : Own) (d : Doing) (n size : ℕ) : Type 0 
   pub after : IsAfter d.command d.stage n
   pub fits : Fits d size without_bound
 
+-- a Next is asked only of an opener with a cursor
+abbrev pub MayAsk : Own → Law.WalkCommand → Type 0
+MayAsk x Law.WalkCommand.Next = is_some x.cursor ≡ true
+MayAsk x w = Unit {0}
+
 -- a command of an opener stands after so many steps, in a file of this length, whatever its bytes are: it is refused and had no
--- step, or it isn't, and it is where these steps have brought it. No opener with a cursor ends yet.
+-- step, or it isn't, and it is where these steps have brought it. A command on the cursor has two steps at most; where they have
+-- brought the cursor is said of that.
 abbrev pub JobStands : Form → Own → Job → ℕ → ℕ → Type 0
 JobStands f x (Refused command reply) n size = (n ≡ 0) × IsServed command × IsRefused f x (law_command command) (law_reply reply)
 JobStands f x (Plain doing) n size = PlainStands f x doing n size
 JobStands f x (Check checking) n size = (refusal f (command_in (Check checking)) x ≡ None) × CheckAfter checking n
 JobStands f x (Locking locking) n size = (n ≡ 0) × (refusal f (command_in (Locking locking)) x ≡ None) × IsShortLocking locking
-JobStands f x Close n size = (n ≡ 0) × (refusal f (command_in Close) x ≡ None) × (x.cursor ≡ None)
+JobStands f x (OnWalk walking) n size = (n ≤ 2) × MayAsk x (walk_command walking)
 JobStands f x job n size = (n ≡ 0) × (refusal f (command_in job) x ≡ None)
 
 abbrev pub TaskStands : Form → Own → Option Task → ℕ → Type 0
 TaskStands f x None size = Unit {0}
 TaskStands f x (Some t) size = JobStands f x t.job t.steps size
 
--- The cursor of an opener whose command is on no cursor rests; where it stands on a record, that is at a whole word. Nobody has one yet.
-pub record WalkStands (f : Form) (walk : Walk) : Type 0 where
-  pub placed : IsPlaced walk.cursor.place
-  pub rests : RestsAt f walk.shown walk.cursor.place walk.cursor.stage
-  pub none : walk.shown ≡ None
+-- A cursor stands as after so many steps of the command on it, where there is one; else it rests.
+abbrev pub WalkAfter : Form → HeldLocks → Own → Option Law.WalkCommand → ℕ → At → Type 0
+WalkAfter f held x None n at = RestsAt f x.cursor at.place at.stage
+WalkAfter f held x (Some w) n at = StandsAfter f held x w at.place at.stage (is_before at.place) n
+
+-- It stands so, and where it stands on a record, that is at a whole word.
+pub record WalkStands (f : Form) (held : HeldLocks) (x : Own) (w : Option Law.WalkCommand) (n : ℕ) (at : At) : Type 0 where
+  pub placed : IsPlaced at.place
+  pub stands : WalkAfter f held x w n at
 
 abbrev pub OpenerStands : Form → Options → ℕ → Option Opener → Type 0
 OpenerStands f options size None = Unit {0}
-OpenerStands f options size (Some x) = IsWellHeld x.held × TaskStands f (own_of options x) x.task size × WalkStands f x.walk
+OpenerStands f options size (Some x) = IsWellHeld x.held × TaskStands f (own_of options x) x.task size × WalkStands f x.held (own_of options x) (walk_of x.task) (steps_of x.task) x.walk.cursor
 
 -- what a command knows of an image; a check that has counted the keys has their number
 abbrev pub JobKnows : Form → List ℕ → Job → Type 0

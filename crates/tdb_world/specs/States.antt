@@ -1,5 +1,5 @@
 -- A world in the words of the law (`tdb_law`), and what holds of it between any two calls.
-use Rattle.std.specs.Prelude.{ℕ, ◌+◌, ◌≤◌, ◌≡◌, List, length, slice_get, set, Option, Some, None}
+use Rattle.std.specs.Prelude.{ℕ, ◌+◌, ◌≤◌, ◌≡◌, ◌≢◌, List, length, slice_get, set, Option, Some, None}
 use Rattle.tdb_space.specs.Form.{Form}
 use Rattle.tdb_space.specs.Pairs.{joined}
 use Rattle.tdb_space.specs.Accepted.{AcceptWith}
@@ -18,7 +18,7 @@ use Rattle.tdb_world.specs.declared.options.Options.{Options}
 use Rattle.tdb_world.specs.declared.opener.Opener.{Opener}
 use Rattle.tdb_world.specs.Openers.{own_at, law_task, task_at, spot_at, place_at, spots_of, hands_at, OpenerStands, OpenerKnows}
 use Rattle.tdb_world.specs.Turning.{no_view}
-use Rattle.tdb_world.specs.Cursors.{is_stood, CursorKnows, OpenerSpares}
+use Rattle.tdb_world.specs.Cursors.{is_stood, CursorKnows, OpenerSpares, StandApart, cursor_at}
 
 -- What the file adds to the cursor of an opener, where cursors of others stand on these records. It is asked for while a command on the
 -- cursor is under way: else nothing has to be purged, and no move is on its way.
@@ -62,9 +62,10 @@ pub record WorldStands (f : Form) (options : Options) (openers : List Opener) (t
   pub short : size ≤ options.limit
 
 -- What holds of the bytes of its file: they are accepted with the records that commands hold, each command knows its chain, each cursor its
--- record, and no cursor stands on one that a command is going to take out of its chain.
+-- record, and no cursor stands on one that a command, or another cursor, is going to take out of its chain.
 pub record FileStands (f : Form) (openers : List Opener) (img : List ℕ) : Type 0 where
   pub accepted : AcceptWith f img (joined (length openers) (λ o. hands_at (slice_get openers o)))
   pub known : (o : ℕ) → OpenerKnows f img (slice_get openers o)
   pub cursors : (o : ℕ) → CursorKnows f img (slice_get openers o)
   pub spared : (o : ℕ) → OpenerSpares (is_stood (spots_of openers)) (slice_get openers o)
+  pub alone : (o p : ℕ) → o ≢ p → StandApart (cursor_at (slice_get openers o)) (cursor_at (slice_get openers p))

@@ -1,29 +1,48 @@
 // A command is given to an opener.
 
-ghost use Rattle.std.specs.Prelude.{◌≡◌, ◌<◌, ℕ, None};
-ghost use Rattle.tdb_space.specs.Form.{form_in};
+ghost use Rattle.std.specs.Prelude.{◌≡◌, ◌<◌, ℕ, None, is_some};
+ghost use Rattle.tdb_space.specs.Form.{Form, form_in};
+ghost use Rattle.tdb_law.specs.Commands.Command.{OnWalk};
+ghost use Rattle.tdb_law.specs.Commands.WalkCommand.{Next};
 ghost use Rattle.tdb_plays.specs.InLaw.{law_command};
 ghost use Rattle.tdb_law.specs.Openers.{Own};
 ghost use Rattle.tdb_law.specs.Refusals.{refusal};
 ghost use Rattle.tdb_world.specs.Given.{IsShortGiven, IsServed, IsWellHeld};
 ghost use Rattle.tdb_world.specs.Openers.{own_of, command_in, JobStands};
 
-use crate::job::{Checking, Job, Locking};
+use crate::job::{Checking, Job, Locking, Walking};
 use crate::opener::Opener;
 use crate::options::Options;
 use crate::told::PlainJob;
+use tdb_locks::Reply;
 use tdb_plays::Command;
 use tdb_steps::Plain;
 use tdb_words::Header;
 
-/// The job of a command that its opener's own state doesn't refuse. `told` is the same command. It takes no memory.
-fn job_of(command: Command, told: Command, header: &Header, seqnum: bool) -> Job
+/// The job of a Next: without a cursor it is told the end. It takes no memory.
+fn next_job(walks: bool) -> Job
+    ensures command { command_in result ≡ OnWalk Next }
+    ensures begun { (f : Form) (x : Own) (size : ℕ) → x.txn ≡ None → is_some x.cursor ≡ walks → JobStands f x result 0 size }
+{
+    if walks {
+        Job::Walk(Walking::Next)
+    } else {
+        Job::Refused {
+            command: Command::Next,
+            reply: Reply::End,
+        }
+    }
+}
+
+/// The job of a command that its opener's own state doesn't refuse. `told` is the same command, and `walks` tells whether
+/// the opener has a cursor. It takes no memory.
+fn job_of(command: Command, told: Command, header: &Header, seqnum: bool, walks: bool) -> Job
     requires same { told ≡ command }
     requires served { IsServed command }
     requires short { IsShortGiven command }
     requires chains { 0 < header.now.hash_size }
     ensures command { command_in result ≡ law_command command }
-    ensures begun { (x : Own) (size : ℕ) → refusal (form_in header.now) (law_command command) x ≡ None → x.options.seqnum ≡ seqnum → x.cursor ≡ None → JobStands (form_in header.now) x result 0 size }
+    ensures begun { (x : Own) (size : ℕ) → refusal (form_in header.now) (law_command command) x ≡ None → x.options.seqnum ≡ seqnum → x.txn ≡ None → is_some x.cursor ≡ walks → JobStands (form_in header.now) x result 0 size }
 {
     match command {
         Command::Fetch { key } => Job::Plain(PlainJob::new(
@@ -54,20 +73,17 @@ fn job_of(command: Command, told: Command, header: &Header, seqnum: bool) -> Job
         Command::LockAllRead => Job::Locking(Locking::AllRead),
         Command::UnlockAll => Job::Locking(Locking::UnlockAll),
         Command::Seqnum => Job::Seqnum,
-        Command::Close => Job::Close,
-        Command::Commit
-        | Command::Prepare
-        | Command::Cancel
-        | Command::Start
-        | Command::First
-        | Command::Next
-        | Command::EndWalk => unreachable!(),
+        Command::First => Job::Walk(Walking::First),
+        Command::Next => next_job(walks),
+        Command::EndWalk => Job::Walk(Walking::EndWalk),
+        Command::Close => Job::Walk(Walking::Close),
+        Command::Commit | Command::Prepare | Command::Cancel | Command::Start => unreachable!(),
     }
 }
 
 impl Opener {
-    /// The job of a command: it is refused where the opener's own state says so. `told` is the same command. It takes
-    /// no memory.
+    /// The job of a command: it is refused where the opener's own state says so, and a Next without a cursor is told
+    /// the end. `told` is the same command. It takes no memory.
     pub(crate) fn job(
         &self,
         options: &Options,
@@ -77,7 +93,6 @@ impl Opener {
     ) -> Job
         requires same { told ≡ command }
         requires well { IsWellHeld self.now.held }
-        requires bare { self.now.walk.shown ≡ None }
         requires served { IsServed command }
         requires short { IsShortGiven command }
         requires chains { 0 < header.now.hash_size }
@@ -86,7 +101,13 @@ impl Opener {
     {
         match self.refusal(options, &command, header) {
             Some(reply) => Job::Refused { command, reply },
-            None => job_of(command, told, header, options.seqnum),
+            None => job_of(
+                command,
+                told,
+                header,
+                options.seqnum,
+                self.walk.shown.is_some(),
+            ),
         }
     }
 }

@@ -1,14 +1,16 @@
 // An unfinished command.
 
 ghost use Rattle.std.specs.Prelude.{◌≡◌, IfOk};
-ghost use Rattle.tdb_law.specs.Commands.Command.{OnLocks};
+ghost use Rattle.tdb_law.specs.Commands.Command.{OnLocks, OnWalk};
 ghost use Rattle.tdb_plays.specs.InLaw.{law_command};
-ghost use Rattle.tdb_world.specs.Openers.{command_in, locking_command};
+ghost use Rattle.tdb_walk.specs.InLaw.{goal_of};
+ghost use Rattle.tdb_world.specs.Openers.{command_in, locking_command, walk_command};
 
 use crate::told::PlainJob;
 use std::alloc::{AllocError, Global};
 use tdb_locks::Reply;
 use tdb_plays::Command;
+use tdb_walk::Goal;
 use tdb_words::Bytes;
 
 /// A command on the opener's explicit locks, with the key whose chain it is on.
@@ -63,10 +65,48 @@ pub(crate) enum Checking {
     Counted(u64),
 }
 
+/// A command on the opener's cursor.
+#[derive(Clone, Copy, Debug, PartialEq, Eq)]
+pub(crate) enum Walking {
+    /// Begins a walk, with the move to the first pair.
+    First,
+    /// Moves to the next pair.
+    Next,
+    /// Ends the walk.
+    EndWalk,
+    /// Ends the opener, and its walk before.
+    Close,
+}
+
+impl Walking {
+    /// The command as a report tells it.
+    fn told(self) -> Command
+        ensures { law_command result ≡ OnWalk (walk_command self) }
+    {
+        match self {
+            Walking::First => Command::First,
+            Walking::Next => Command::Next,
+            Walking::EndWalk => Command::EndWalk,
+            Walking::Close => Command::Close,
+        }
+    }
+
+    /// What the cursor is asked for.
+    pub(crate) fn goal(self) -> Goal
+        ensures { result ≡ goal_of (walk_command self) }
+    {
+        match self {
+            Walking::First => Goal::First,
+            Walking::Next => Goal::Next,
+            Walking::EndWalk | Walking::Close => Goal::Leave,
+        }
+    }
+}
+
 /// What an unfinished command is done by.
 #[derive(Debug)]
 pub(crate) enum Job {
-    /// The opener's own state refuses it: its first turn replies so.
+    /// The opener's own state refuses it, or it is a Next without a cursor: its first turn replies so.
     Refused { command: Command, reply: Reply },
     /// A command on the map.
     Plain(PlainJob),
@@ -76,8 +116,8 @@ pub(crate) enum Job {
     Locking(Locking),
     /// The sequence number.
     Seqnum,
-    /// The end of the opener.
-    Close,
+    /// A command on the cursor.
+    Walk(Walking),
 }
 
 /// An unfinished command, and how many steps it has had.
@@ -98,7 +138,7 @@ impl Job {
             Job::Check(_) => Ok(Command::Check),
             Job::Locking(locking) => locking.told(alloc),
             Job::Seqnum => Ok(Command::Seqnum),
-            Job::Close => Ok(Command::Close),
+            Job::Walk(walking) => Ok(walking.told()),
         }
     }
 
@@ -110,7 +150,7 @@ impl Job {
                 reply: _,
             } => {}
             Job::Plain(plain) => plain.end(),
-            Job::Check(_) | Job::Seqnum | Job::Close => {}
+            Job::Check(_) | Job::Seqnum | Job::Walk(_) => {}
             Job::Locking(_) => {}
         }
     }

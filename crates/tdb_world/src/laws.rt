@@ -6,6 +6,7 @@ ghost use Rattle.tdb_world.specs.Laws.{GiftIsGiven, GiftKeepsFile, GiftKeepsWorl
 ghost use Rattle.tdb_world.specs.Finished.{ReportIsLawful, BrokenIsLawful};
 ghost use Rattle.tdb_world.specs.Laws.{CursorsAreBeside, ImageIsReady, KeysAreCounted, OpenerIsReady};
 ghost use Rattle.tdb_world.specs.Laws.{TurnIsTurned, TurnKeepsFile, TurnKeepsWorld};
+ghost use Rattle.tdb_world.specs.Laws.{WalkIsTurned, WalkKeepsFile, WalkKeepsWorld};
 
 /// A world without openers stands, and so do the bytes of an accepted image; in the words of the law of reports it
 /// is just loaded. The law is over all images; the function does nothing.
@@ -64,8 +65,25 @@ pub fn turn_keeps_file()
     ensures law { TurnKeepsFile }
 {}
 
-/// A turn that does to the lock table and to the file what it may is a turn of the law of reports. The law is over
+/// After a turn of a command on its opener's cursor the world stands, whatever the bytes of the file are. The law is over
 /// all worlds and turns; the function does nothing.
+pub fn walk_keeps_world()
+    ensures law { WalkKeepsWorld }
+{}
+
+/// And where the bytes of the file are told, they stand: no cursor stands on a record that another is going to purge. The
+/// law is over all worlds and turns; the function does nothing.
+pub fn walk_keeps_file()
+    ensures law { WalkKeepsFile }
+{}
+
+/// And it is a turn of the law of reports. The law is over all worlds and turns; the function does nothing.
+pub fn walk_is_turned()
+    ensures law { WalkIsTurned }
+{}
+
+/// A turn on no cursor that does to the lock table and to the file what it may is a turn of the law of reports. The law
+/// is over all worlds and turns; the function does nothing.
 pub fn turn_is_turned()
     ensures law { TurnIsTurned }
 {}

@@ -208,7 +208,6 @@ impl Openers {
         requires free { (x : Opener) × IsFree self.old who x }
         requires chains { 0 < self.old.header.hash_size }
         requires held { (x : Opener) → IsFree self.old who x → IsWellHeld x.held }
-        requires bare { (x : Opener) → IsFree self.old who x → x.walk.shown ≡ None }
         requires served { IsServed command }
         requires short { IsShortGiven command }
         ensures { (size : ℕ) (x : Opener) → IsFree self.old who x → IsAssigned self.old who x command size self.new }
@@ -279,6 +278,9 @@ impl Openers {
         let Some(opener) = list.get_mut(who as usize - 1) else {
             unreachable!();
         };
+        if let Some(walking) = opener.walking() {
+            return opener.walk_turn(*alloc, s, locks, who, spots, walking, options.read_only);
+        }
         opener.turn(*alloc, s, locks, who, spots, options, header)
     }
 

@@ -11,14 +11,14 @@ ghost use Rattle.tdb_law.specs.Openers.{View};
 ghost use Rattle.tdb_plays.specs.InLaw.{law_turn};
 ghost use Rattle.tdb_world.specs.declared.job.Task.{Task};
 ghost use Rattle.tdb_world.specs.Given.{IsWellHeld};
-ghost use Rattle.tdb_world.specs.Openers.{AtRest, own_of, own_with, rest_of, command_in, law_task};
+ghost use Rattle.tdb_world.specs.Openers.{AtRest, own_of, own_with, rest_of, command_in, walk_in, walk_of, law_task};
 ghost use Rattle.tdb_world.specs.Turning.{OpenerHolds, TurnsLocks, TurnsFile, ImageBefore, TurnsImage, resting};
 ghost use Rattle.tdb_world.specs.Cursors.{is_stood, CursorsBeside, LeavesCursors};
 ghost use Rattle.tdb_world.specs.Jobs.{JobIsReady, JobTurned, JobFiled, task_after};
 ghost use Rattle.tdb_world.specs.Laws.{MayStand};
 
 use crate::checking::check_turn;
-use crate::ending::{close_turn, refused_turn};
+use crate::ending::refused_turn;
 use crate::job::{Job, Task};
 use crate::locking::locking_turn;
 use crate::numbering::seqnum_turn;
@@ -31,7 +31,7 @@ use tdb_space::{Io, Space};
 use tdb_words::Header;
 
 impl Job {
-    /// Takes one turn of the job, of an opener with this number in the lock table, which has taken the locks `held`
+    /// Takes one turn of a job that is on no cursor, of an opener with this number in the lock table, which has taken the locks `held`
     /// explicitly. Its cursor rests, and the cursors of all openers stand on the records at `spots`.
     fn turn<S: Space>(
         &mut self,
@@ -39,33 +39,35 @@ impl Job {
         s: &mut S,
         locks: &mut Locks,
         owner: u32,
-        live: &mut bool,
+        live: bool,
         held: &mut Held,
         spots: &Spots,
         options: &Options,
         header: &Header,
     ) -> Result<Turn, Io>
+        requires beside { walk_in self.old ≡ None }
         requires few { HasFewChains (S.form s.old) }
         requires form { S.form s.old ≡ form_in header.now }
         requires limit { options.now.limit ≤ 4294963200 }
         requires within { S.size s.old ≤ options.now.limit }
         requires spare { S.spare s.old ≡ without_bound }
         requires well { IsWellHeld held.old }
-        requires ready { (rest : AtRest) × (n : ℕ) × (who : ℕ) × JobIsReady (S.form s.old) (own_with options.now live.old held.old rest) (resting rest) self.old n who owner (S.size s.old) locks.old }
-        ensures turned { IfOk result (λ turn. (rest : AtRest) (n who : ℕ) → JobIsReady (S.form s.old) (own_with options.now live.old held.old rest) (resting rest) self.old n who owner (S.size s.old) locks.old
-            → JobTurned (S.form s.old) (own_with options.now live.old held.old rest) (own_with options.now live.new held.new rest) (resting rest) self.old self.new n who (S.size s.new)
+        requires ready { (rest : AtRest) × (n : ℕ) × (who : ℕ) × JobIsReady (S.form s.old) (own_with options.now live held.old rest) (resting rest) self.old n who owner (S.size s.old) locks.old }
+        ensures turned { IfOk result (λ turn. (rest : AtRest) (n who : ℕ) → JobIsReady (S.form s.old) (own_with options.now live held.old rest) (resting rest) self.old n who owner (S.size s.old) locks.old
+            → JobTurned (S.form s.old) (own_with options.now live held.old rest) (own_with options.now live held.new rest) (resting rest) self.old self.new n who (S.size s.new)
             locks.old locks.new (law_turn turn)) }
         ensures file { IfOk result (λ turn. IsTrue S.tells → (rest : AtRest) (v : View) (n who : ℕ) (others : List HandPair)
-            → JobIsReady (S.form s.old) (own_with options.now live.old held.old rest) (resting rest) self.old n who owner (S.size s.old) locks.old
+            → JobIsReady (S.form s.old) (own_with options.now live held.old rest) (resting rest) self.old n who owner (S.size s.old) locks.old
             → ImageBefore (S.form s.old) self.old (S.image s.old) others
-            → JobFiled (S.form s.old) (own_with options.now live.old held.old rest) (own_with options.now live.new held.new rest) (resting rest) v self.old self.new n who locks.old
+            → JobFiled (S.form s.old) (own_with options.now live held.old rest) (own_with options.now live held.new rest) (resting rest) v self.old self.new n who locks.old
             (S.image s.old) (S.image s.new) others spots.now (law_turn turn)) }
+        ensures beside { walk_in self.new ≡ None }
         ensures well { IsWellHeld held.new }
         ensures longer { S.size s.old ≤ S.size s.new }
         ensures within { S.size s.new ≤ options.now.limit }
         ensures wrote { Wrote S.Space s.old s.new }
         ensures cause { IsTrue S.tells → (rest : AtRest) (n who : ℕ) (others : List HandPair)
-            → JobIsReady (S.form s.old) (own_with options.now live.old held.old rest) (resting rest) self.old n who owner (S.size s.old) locks.old
+            → JobIsReady (S.form s.old) (own_with options.now live held.old rest) (resting rest) self.old n who owner (S.size s.old) locks.old
             → ImageBefore (S.form s.old) self.old (S.image s.old) others → HasCause (S.faults s.old) (S.faults s.new) result }
         ensures rises { S.faults s.old ≤ S.faults s.new }
         ensures done { OnOk result (S.faults s.new ≡ S.faults s.old) }
@@ -78,10 +80,7 @@ impl Job {
             Job::Check(checking) => check_turn(alloc, s, locks, owner, held, checking),
             Job::Locking(locking) => Ok(locking_turn(locks, owner, held, header, locking)),
             Job::Seqnum => seqnum_turn(s, locks, owner),
-            Job::Close => {
-                *live = false;
-                Ok(close_turn(alloc, locks, owner, held))
-            }
+            Job::Walk(_) => unreachable!(),
         }
     }
 }
@@ -89,7 +88,7 @@ impl Job {
 impl Task {
     /// What is left of the task after a turn of its job: it has had a step more, or is the same, or it is at its end, as after a fault of
     /// the disk.
-    fn after(mut self, turn: &Result<Turn, Io>) -> Option<Task>
+    pub(crate) fn after(mut self, turn: &Result<Turn, Io>) -> Option<Task>
         requires few { self.steps < 2 ^ 32 - 1 }
         ensures left { IfOk turn.now (λ turn. result ≡ task_after self.job self.steps (law_turn turn)) }
         ensures none { OnErr turn.now (result ≡ None) }
@@ -106,9 +105,9 @@ impl Task {
 }
 
 impl Opener {
-    /// Takes one turn of the opener's command. `owner` is its number in the lock table. After a step the command has one
-    /// more behind it, blocked it is as it was, and at its end the opener has none; so it has after `Io`, where the
-    /// command is given up. Its cursor rests and stays; the cursors of all openers stand on the records at `spots`.
+    /// Takes one turn of the opener's command, which is on no cursor. `owner` is its number in the lock table. After a step the command has one more behind
+    /// it, blocked it is as it was, and at its end the opener has none; so it has after `Io`, where the command is given up. Its cursor
+    /// rests and stays; the cursors of all openers stand on the records at `spots`.
     pub(crate) fn turn<S: Space>(
         &mut self,
         alloc: Global,
@@ -120,6 +119,7 @@ impl Opener {
         header: &Header,
     ) -> Result<Turn, Io>
         requires busy { (t : Task) × (self.old.task ≡ Some t) }
+        requires beside { walk_of self.old.task ≡ None }
         requires stands { MayStand (S.form s.old) options.now (S.size s.old) self.old }
         requires holds { (t : Task) → self.old.task ≡ Some t → (who : ℕ) × (owner ≡ who + 1) × OpenerHolds (S.form s.old) (own_of options.now self.old) (resting (rest_of self.old.walk)) (command_in t.job) t.steps who locks.old }
         requires few { HasFewChains (S.form s.old) }
@@ -154,9 +154,7 @@ impl Opener {
         let Some(mut now) = task.take() else {
             unreachable!();
         };
-        let turn = now
-            .job
-            .turn(alloc, s, locks, owner, live, held, spots, options, header);
+        let turn = now.job.turn(alloc, s, locks, owner, *live, held, spots, options, header);
         *task = now.after(&turn);
         turn
     }

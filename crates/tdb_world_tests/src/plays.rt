@@ -29,7 +29,7 @@ const OPTIONS: Options = Options {
     seqnum: false,
 };
 
-// A command on a key of one byte.
+// A command, on a key of one byte where it is on one.
 #[derive(Clone, Copy)]
 enum Word {
     Store(u8, &'static [u8]),
@@ -37,6 +37,11 @@ enum Word {
     Lock(u8),
     LockNb(u8),
     Unlock(u8),
+    Delete(u8),
+    Wipe,
+    First,
+    Next,
+    EndWalk,
 }
 
 // A play of a row.
@@ -57,6 +62,9 @@ enum Said {
     Blocked(u32, u32, u64),
     Ok(u32),
     Value(u32, &'static [u8]),
+    Pair(u32, &'static [u8], &'static [u8]),
+    End(u32),
+    Held(u32, u64),
     Busy(u32, u32, u64),
     NotLocked(u32),
     Grew(u64, u64),
@@ -152,6 +160,60 @@ const STORE_AND_FETCH_SAID: [Said; 7] = [
     Said::Value(2, b"22"),
 ];
 
+// A cursor that stands on a record which another opener deletes: it purges it where it leaves.
+const PURGE: [Step; 7] = [
+    Step::Open,
+    Step::Open,
+    Step::Do(1, Word::First),
+    Step::Do(2, Word::Delete(b'a')),
+    Step::Do(2, Word::Store(b'a', b"2")),
+    Step::Do(1, Word::Next),
+    Step::Do(1, Word::Fetch(b'a')),
+];
+
+const PURGE_SAID: [Said; 16] = [
+    Said::Opened(1),
+    Said::Opened(2),
+    Said::Pair(1, b"a", b"1"),
+    Said::Step(2),
+    Said::Ok(2),
+    Said::Step(2),
+    Said::Step(2),
+    Said::Step(2),
+    Said::Step(2),
+    Said::Step(2),
+    Said::Ok(2),
+    Said::Step(1),
+    Said::Step(1),
+    Said::End(1),
+    Said::Step(1),
+    Said::Value(1, b"2"),
+];
+
+// A cursor counts as a lock until it ends.
+const FIRST_WALK: [Step; 7] = [
+    Step::Open,
+    Step::Do(1, Word::Next),
+    Step::Do(1, Word::First),
+    Step::Do(1, Word::Wipe),
+    Step::Do(1, Word::EndWalk),
+    Step::Do(1, Word::Wipe),
+    Step::Do(1, Word::First),
+];
+
+const FIRST_WALK_SAID: [Said; 10] = [
+    Said::Opened(1),
+    Said::End(1),
+    Said::Pair(1, b"a", b"1"),
+    Said::Held(1, 1),
+    Said::Ok(1),
+    Said::Step(1),
+    Said::Step(1),
+    Said::Step(1),
+    Said::Ok(1),
+    Said::End(1),
+];
+
 // At most nine bytes of a value.
 fn short(value: &[u8]) -> &[u8]
     ensures { length result.now < 2 ^ 32 }
@@ -181,6 +243,13 @@ fn command(alloc: Global, word: Word) -> Result<Command, AllocError>
         Word::Unlock(key) => Ok(Command::ChainUnlock {
             key: Bytes::copy(alloc, &[key])?,
         }),
+        Word::Delete(key) => Ok(Command::Delete {
+            key: Bytes::copy(alloc, &[key])?,
+        }),
+        Word::Wipe => Ok(Command::Wipe),
+        Word::First => Ok(Command::First),
+        Word::Next => Ok(Command::Next),
+        Word::EndWalk => Ok(Command::EndWalk),
     }
 }
 
@@ -237,7 +306,13 @@ fn run(
 // Whether the end of a command tells this.
 fn is_end(reply: &Reply, said: Said) -> bool {
     match (reply, said) {
-        (Reply::Ok, Said::Ok(_)) | (Reply::NotLocked, Said::NotLocked(_)) => true,
+        (Reply::Ok, Said::Ok(_))
+        | (Reply::NotLocked, Said::NotLocked(_))
+        | (Reply::End, Said::End(_)) => true,
+        (Reply::Pair(key, value), Said::Pair(_, one, two)) => {
+            key.as_slice() == one && value.as_slice() == two
+        }
+        (Reply::HeldLocks { count }, Said::Held(_, locks)) => *count == locks,
         (Reply::Value(value), Said::Value(_, bytes)) => value.as_slice() == bytes,
         (Reply::Busy { owner, byte }, Said::Busy(_, one, at)) => *owner == one && *byte == at,
         _ => false,
@@ -253,7 +328,13 @@ fn is_turn(who: u32, turn: &Turn, said: Said) -> bool {
         }
         (
             Turn::Done(reply),
-            Said::Ok(one) | Said::Value(one, _) | Said::Busy(one, _, _) | Said::NotLocked(one),
+            Said::Ok(one)
+            | Said::Value(one, _)
+            | Said::Pair(one, _, _)
+            | Said::End(one)
+            | Said::Held(one, _)
+            | Said::Busy(one, _, _)
+            | Said::NotLocked(one),
         ) => who == one && is_end(reply, said),
         _ => false,
     }
@@ -324,6 +405,26 @@ fn rows_are_reported(rt: HostRuntime) -> Result<(), Fail> {
     assert!(rt; gives(rt.alloc(), &STORED, &EXPLICIT_LOCKS, &EXPLICIT_LOCKS_SAID)?);
     assert!(rt; gives(rt.alloc(), &STORED, &STORE_AND_FETCH, &STORE_AND_FETCH_SAID)?);
     assert!(rt; gives(rt.alloc(), &[], &given, &unfinished)?);
+    Ok(())
+}
+
+#[test]
+fn cursors_are_reported(rt: HostRuntime) -> Result<(), Fail> {
+    assert!(rt; gives(rt.alloc(), &STORED, &PURGE, &PURGE_SAID)?);
+    assert!(rt; gives(rt.alloc(), &STORED, &FIRST_WALK, &FIRST_WALK_SAID)?);
+    Ok(())
+}
+
+#[test]
+fn a_purge_leaves_these_bytes(rt: HostRuntime) -> Result<(), Fail> {
+    let mut disk = empty_file(rt.alloc())?;
+    let mut report = TurnReport::new(rt.alloc());
+    assert_eq!(rt; run(rt.alloc(), &mut disk, &STORED, &mut report)?, Ok(()));
+    assert_eq!(rt; run(rt.alloc(), &mut disk, &PURGE, &mut report)?, Ok(()));
+    assert!(rt; has_bytes(&disk, 200, &[0xc0, 0x0f, 0, 0]));
+    assert!(rt; has_bytes(&disk, 168, &[0xe0, 0x0f, 0, 0]));
+    assert!(rt; has_bytes(&disk, 4064, &[0xb8, 0x02, 0, 0, 8, 0, 0, 0]));
+    assert!(rt; has_bytes(&disk, 696, &[0, 0, 0, 0, 0xf0, 0x0c, 0, 0]));
     Ok(())
 }
 

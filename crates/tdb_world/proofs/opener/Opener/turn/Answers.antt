@@ -2,10 +2,11 @@
 use Rattle.std.proofs.Common.{◌≡◌, Some, sym, ◌∙◌, ap, subst, arith, unwrap_or}
 use Rattle.tdb_world.specs.Cursors.{is_stood, CursorsBeside, LeavesCursors}
 use Rattle.tdb_world.specs.Turning.{resting, ImageBefore, TurnsLocks, TurnsFile, TurnsImage}
-use Rattle.tdb_world.specs.Openers.{rest_of, own_of, command_in, law_task, TaskStands}
+use Rattle.tdb_world.specs.Openers.{rest_of, own_of, command_in, walk_of, steps_of, law_task, TaskStands}
 use Rattle.tdb_plays.specs.InLaw.{law_turn}
 use Rattle.tdb_steps.proofs.Made.{of_both}
-use Rattle.tdb_world.proofs.TaskReady.{task_few, task_ready}
+use Rattle.tdb_world.proofs.TaskReady.{task_few, task_ready, after_beside}
+use Rattle.tdb_world.proofs.Rests.{walk_still, walk_rests}
 use Rattle.tdb_world.proofs.opener.Opener.turn.Goals as goal
 
 pub after-requires : goal.after-requires
@@ -26,6 +27,11 @@ turn-turn-requires-clause-ready g c =
       task_ready (g.S.Space.form c.args.s.now) c.args.options.now c.args.self.now (g.S.Space.size c.args.s.now) c.args.owner c.args.locks.now c.requires.stands c.requires.holds now busy h.0 h.1,
     )
 
+pub turn-turn-requires-clause-beside : goal.turn-turn-requires-clause-beside
+turn-turn-requires-clause-beside g c =
+    let busy : c.args.self.now.task ≡ Some c.in-Some.now = sym c.take.ensures.value ∙ c.in-Some.is in
+    sym (ap walk_of busy) ∙ c.requires.beside
+
 pub returns-clause-file : goal.returns-clause-file
 returns-clause-file g c =
     let f = g.S.Space.form c.args.s.now in
@@ -38,7 +44,7 @@ returns-clause-file g c =
     let same : now ≡ t = ap (λ o. unwrap_or o now) (sym busy ∙ e) in
     let ready = task_ready f c.args.options.now c.args.self.now (g.S.Space.size c.args.s.now) c.args.owner c.args.locks.now c.requires.stands c.requires.holds now busy who number in
     let F = filed told (rest_of c.args.self.now.walk) v now.steps who others ready (subst (λ u. ImageBefore f u.job a others) (sym same) I) in
-    subst (λ u. TurnsFile f (own_of c.args.options.now c.args.self.now) (own_of c.args.options.now (record { live = c.turn-turn.new.live; held = c.turn-turn.new.held; task = c.after.result; walk = c.args.self.now.walk })) (resting (rest_of c.args.self.now.walk)) v (command_in u.job) u.steps who
+    subst (λ u. TurnsFile f (own_of c.args.options.now c.args.self.now) (own_of c.args.options.now (record { live = c.args.self.now.live; held = c.turn-turn.new.held; task = c.after.result; walk = c.args.self.now.walk })) (resting (rest_of c.args.self.now.walk)) v (command_in u.job) u.steps who
     c.args.locks.now a b (law_turn turn) × TurnsImage f u c.after.result a b others
     × (CursorsBeside f a (is_stood c.args.spots.now) u → LeavesCursors f (own_of c.args.options.now c.args.self.now) u c.after.result (law_turn turn) a b (is_stood c.args.spots.now))) same
     (F.file, subst (λ z. TurnsImage f now z a b others) (sym left) F.image, λ C. subst (λ z. LeavesCursors f (own_of c.args.options.now c.args.self.now) now z (law_turn turn) a b (is_stood c.args.spots.now)) (sym left) (F.cursors C))) c.turn-turn.ensures.file c.after.ensures.left
@@ -48,7 +54,7 @@ returns-clause-locks g c =
     let f = g.S.Space.form c.args.s.now in
     let now = c.in-Some.now in
     let x = own_of c.args.options.now c.args.self.now in
-    let y = own_of c.args.options.now (record { live = c.turn-turn.new.live; held = c.turn-turn.new.held; task = c.after.result; walk = c.args.self.now.walk }) in
+    let y = own_of c.args.options.now (record { live = c.args.self.now.live; held = c.turn-turn.new.held; task = c.after.result; walk = c.args.self.now.walk }) in
     let ps = c.args.locks.now in
     let qs = c.turn-turn.new.locks in
     let busy : c.args.self.now.task ≡ Some now = sym c.take.ensures.value ∙ c.in-Some.is in
@@ -63,7 +69,7 @@ pub returns-clause-stands : goal.returns-clause-stands
 returns-clause-stands g c =
     let f = g.S.Space.form c.args.s.now in
     let now = c.in-Some.now in
-    let y = own_of c.args.options.now (record { live = c.turn-turn.new.live; held = c.turn-turn.new.held; task = c.after.result; walk = c.args.self.now.walk }) in
+    let y = own_of c.args.options.now (record { live = c.args.self.now.live; held = c.turn-turn.new.held; task = c.after.result; walk = c.args.self.now.walk }) in
     let busy : c.args.self.now.task ≡ Some now = sym c.take.ensures.value ∙ c.in-Some.is in
     let h = c.requires.holds now busy in
     of_both c.turn-turn.result _ _ _
@@ -71,7 +77,13 @@ returns-clause-stands g c =
     let ready = task_ready f c.args.options.now c.args.self.now (g.S.Space.size c.args.s.now) c.args.owner c.args.locks.now c.requires.stands c.requires.holds now busy h.0 h.1 in
     let T = turned (rest_of c.args.self.now.walk) now.steps h.0 ready in
     record {
-      stands = (c.turn-turn.ensures.well, subst (λ z. TaskStands f y z (g.S.Space.size c.turn-turn.new.s)) (sym left) T.stands, c.requires.stands.stands.2);
+      stands = (
+        c.turn-turn.ensures.well,
+        subst (λ z. TaskStands f y z (g.S.Space.size c.turn-turn.new.s)) (sym left) T.stands,
+        walk_still f c.turn-turn.new.held y (walk_of c.after.result) (steps_of c.after.result) c.args.self.now.walk.cursor c.requires.stands.stands.2.placed
+            (walk_rests f c.args.self.now.held (own_of c.args.options.now c.args.self.now) (walk_of c.args.self.now.task) (steps_of c.args.self.now.task) c.args.self.now.walk.cursor c.requires.stands.stands.2 c.requires.beside)
+            (ap walk_of left ∙ after_beside c.turn-turn.new.self now.steps (law_turn turn) c.turn-turn.ensures.beside),
+      );
       busy_live = λ u e. T.lives u (sym left ∙ e) ∙ c.requires.stands.busy_live now busy;
     }) c.turn-turn.ensures.turned c.after.ensures.left
 

@@ -1,12 +1,9 @@
 -- It is given as the law says, and the world stands as before.
-use Rattle.tdb_world.proofs.Coming.{held_free, bare_free, same_header, stands_given, bytes_given, is_given}
+use Rattle.tdb_world.proofs.Coming.{held_free, same_header, stands_given, bytes_given, is_given}
 use Rattle.tdb_world.proofs.openers.Openers.assign.Goals as goal
 
 pub give-requires-clause-held : goal.give-requires-clause-held
 give-requires-clause-held c x F = held_free c.args.self.now c.args.who x F c.requires.stands.0 c.requires.stands.1 c.requires.stands.2
-
-pub give-requires-clause-bare : goal.give-requires-clause-bare
-give-requires-clause-bare c x F = bare_free c.args.self.now c.args.who x F c.requires.stands.0 c.requires.stands.1 c.requires.stands.2
 
 pub returns-clause-stands : goal.returns-clause-stands
 returns-clause-stands c img size W =

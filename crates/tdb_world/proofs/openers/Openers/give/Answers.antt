@@ -1,5 +1,5 @@
 -- The opener that is given the command is the one with the number.
-use Rattle.std.proofs.Common.{◌≡◌, ◌-◌, None, slice_get, refl, sym, ap, subst, ◌∙◌}
+use Rattle.std.proofs.Common.{◌-◌, slice_get, refl, sym, ap, subst, ◌∙◌}
 use Rattle.tdb_world.specs.Given.{IsWellHeld}
 use Rattle.tdb_world.proofs.Putting.{numbered, assigned, seen_so, spots_still}
 use Rattle.tdb_world.proofs.openers.Openers.give.Goals as goal
@@ -11,14 +11,6 @@ job-job-requires-clause-well c =
     let there = ap (λ w. slice_get w.openers F.number.place) c.self.view_is ∙ F.number.there in
     let same = numbered c.self.inside.list.items c.args.who F.number.place x c.in-Some.opener.now F.number.counted there c.in-Some.ensures.item.1 in
     subst (λ z. IsWellHeld z.held) (sym same) (c.requires.held x F)
-
-pub job-job-requires-clause-bare : goal.job-job-requires-clause-bare
-job-job-requires-clause-bare c =
-    let x = c.requires.free.0 in
-    let F = c.requires.free.1 in
-    let there = ap (λ w. slice_get w.openers F.number.place) c.self.view_is ∙ F.number.there in
-    let same = numbered c.self.inside.list.items c.args.who F.number.place x c.in-Some.opener.now F.number.counted there c.in-Some.ensures.item.1 in
-    subst (λ z. z.walk.shown ≡ None) (sym same) (c.requires.bare x F)
 
 pub invariant_of-self : goal.invariant_of-self
 invariant_of-self c = c.self.invariant ∙ sym (spots_still c.self.inside.list.items (c.args.who - 1) c.in-Some.opener.now _ c.in-Some.ensures.item.1 refl)

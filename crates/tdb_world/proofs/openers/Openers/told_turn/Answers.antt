@@ -1,11 +1,13 @@
 -- A turn with its lines leads on as the law says.
-use Rattle.std.proofs.Common.{◌++◌, ◌∷◌, [], refl, sym, ◌∙◌, ap, subst, inl, arith}
+use Rattle.std.proofs.Common.{◌++◌, ◌∷◌, [], ◌≡◌, true, refl, sym, ◌∙◌, ap, subst, inl, arith}
 use Rattle.std.proofs.lemmas.Result.{err_from_is_err_and}
 use Rattle.tdb_disk.specs.Count.{Rose}
 use Rattle.tdb_space.specs.Form.{form_in}
 use Rattle.tdb_plays.specs.declared.line.Line.TheVariants as Lines
 use Rattle.tdb_world.specs.Worlds.{Stands, BytesStand}
-use Rattle.tdb_world.specs.Played.{growth}
+use Rattle.tdb_locks.specs.declared.turn.Turn.{Turn}
+use Rattle.tdb_locks.specs.declared.turn.Turn.TheVariants as Turns
+use Rattle.tdb_world.specs.Played.{growth, is_step}
 use Rattle.tdb_world.proofs.OneTurn.{nothing_led, failed_led, took_led, took_io, turned_at}
 use Rattle.tdb_world.proofs.openers.Openers.told_turn.Goals as goal
 
@@ -96,3 +98,12 @@ returns-clause-led g c =
     (λ told B. turned_at f w v a b _ _ c.args.who t turn looked.image (sym c.len.ensures.image) (c.in_ok-turn.ensures.turned told (subst (BytesStand w) (sym looked.image) B) x t busy))
     (g.S.Space.faults c.len.new.self) _ _ (c.in_ok-to.ensures.cause.done ∙ done) (subst (λ z. Stands v z to) (sym c.len.ensures.image) (subst (Stands v (g.S.Space.image c.turn.new.s)) (sym kept) c.in_ok-turn.ensures.stands))
     (λ told B. subst (BytesStand v) (sym c.len.ensures.image) (c.in_ok-turn.ensures.bytes told (subst (BytesStand w) (sym looked.image) B))) told_growth)
+
+-- after a step the opener has its command still
+step_is : (turn : Turn) → is_step turn ≡ true → turn ≡ Turns.Step
+step_is Turns.Step e = refl
+step_is (Turns.Blocked owner byte) e = absurd (cc e)
+step_is (Turns.Done reply) e = absurd (cc e)
+
+pub returns-clause-busy : goal.returns-clause-busy
+returns-clause-busy g c more = c.in_ok-turn.ensures.busy (step_is c.in_ok-turn.turn (sym c.was_step-more.ensures ∙ more))

@@ -1,5 +1,5 @@
 -- A turn of the opener with the number is a turn of the world.
-use Rattle.std.proofs.Common.{◌≡◌, ◌+◌, ◌-◌, ℕ, slice_set, IsTrue, sym, ap, subst, ◌∙◌}
+use Rattle.std.proofs.Common.{◌≡◌, ◌+◌, ◌-◌, ℕ, set, slice_set, IsTrue, sym, ap, subst, ◌∙◌}
 use Rattle.tdb_space.specs.Form.{form_in}
 use Rattle.tdb_world.specs.Laws.{MayStand, other_hands}
 use Rattle.tdb_law.specs.Turned.{Turned}
@@ -10,8 +10,12 @@ use Rattle.tdb_world.specs.States.{state_of}
 use Rattle.tdb_world.specs.Worlds.{IsBusy, Stands, BytesStand, state_in, law_of_task}
 use Rattle.tdb_world.specs.Turning.{resting, OpenerHolds, ImageBefore}
 use Rattle.tdb_world.specs.Openers.{rest_of, own_of, command_in}
+use Rattle.tdb_cursors.specs.Spots.{spot_number}
 use Rattle.tdb_world.proofs.Putting.{spots_still}
 use Rattle.tdb_world.proofs.Stepping.{Locked, Filed, ok_so, ok_both, stands_before, holds_before, task_busy, busy_after, image_before, world_after, file_after, turned_after}
+use Rattle.std.specs.Option.{option_map}
+use Rattle.tdb_world.specs.Openers.{walk_command}
+use Rattle.tdb_world.proofs.WalkStepping.{Walks, ok_of, spots_put, walk_busy, words_before, asked_before, walk_busy_after, walk_world_after, walk_file_after, walk_turned_after}
 use Rattle.tdb_world.proofs.openers.Openers.turn.Goals as goal
 
 pub turn-requires-clause-busy : goal.turn-requires-clause-busy
@@ -20,7 +24,7 @@ turn-requires-clause-busy g c =
       c.requires.busy.1,
       task_busy c.self.inside.header c.self.inside.options c.self.inside.list.items c.self.inside.locks (g.S.Space.image c.args.s.now) (g.S.Space.size c.args.s.now) c.args.who c.requires.busy.0 c.in-Some.opener.now c.requires.busy.1
           (subst (λ w. IsBusy w c.args.who c.requires.busy.0 c.requires.busy.1) (sym e) c.requires.busy.2) c.in-Some.ensures.item.1
-          (subst (λ w. Stands w (g.S.Space.image c.args.s.now) (g.S.Space.size c.args.s.now)) (sym e) c.requires.stands),
+          (subst (λ w. Stands w (g.S.Space.image c.args.s.now) (g.S.Space.size c.args.s.now)) (sym e) c.requires.stands) (sym c.walking.ensures ∙ ap (option_map walk_command) c.in_default-walking.is),
     )
 
 pub turn-requires-clause-stands : goal.turn-requires-clause-stands
@@ -30,7 +34,7 @@ turn-requires-clause-stands g c =
     subst (λ f. MayStand f c.self.inside.options (g.S.Space.size c.args.s.now) c.in-Some.opener.now) (sym form)
     (stands_before c.self.inside.header c.self.inside.options c.self.inside.list.items c.self.inside.locks (g.S.Space.image c.args.s.now) (g.S.Space.size c.args.s.now) c.args.who c.requires.busy.0 c.in-Some.opener.now c.requires.busy.1
     (subst (λ w. IsBusy w c.args.who c.requires.busy.0 c.requires.busy.1) (sym e) c.requires.busy.2) c.in-Some.ensures.item.1
-    (subst (λ w. Stands w (g.S.Space.image c.args.s.now) (g.S.Space.size c.args.s.now)) (sym e) c.requires.stands))
+    (subst (λ w. Stands w (g.S.Space.image c.args.s.now) (g.S.Space.size c.args.s.now)) (sym e) c.requires.stands) (sym c.walking.ensures ∙ ap (option_map walk_command) c.in_default-walking.is))
 
 pub turn-requires-clause-holds : goal.turn-requires-clause-holds
 turn-requires-clause-holds g c u busy =
@@ -39,7 +43,7 @@ turn-requires-clause-holds g c u busy =
     subst (λ f. (n : ℕ) × (c.args.who ≡ n + 1) × OpenerHolds f (own_of c.self.inside.options c.in-Some.opener.now) (resting (rest_of c.in-Some.opener.now.walk)) (command_in u.job) u.steps n c.self.inside.locks) (sym form)
     (holds_before c.self.inside.header c.self.inside.options c.self.inside.list.items c.self.inside.locks (g.S.Space.image c.args.s.now) (g.S.Space.size c.args.s.now) c.args.who c.requires.busy.0 c.in-Some.opener.now c.requires.busy.1
     (subst (λ w. IsBusy w c.args.who c.requires.busy.0 c.requires.busy.1) (sym e) c.requires.busy.2) c.in-Some.ensures.item.1
-    (subst (λ w. Stands w (g.S.Space.image c.args.s.now) (g.S.Space.size c.args.s.now)) (sym e) c.requires.stands) u busy)
+    (subst (λ w. Stands w (g.S.Space.image c.args.s.now) (g.S.Space.size c.args.s.now)) (sym e) c.requires.stands) (sym c.walking.ensures ∙ ap (option_map walk_command) c.in_default-walking.is) u busy)
 
 pub returns-clause-stands : goal.returns-clause-stands
 returns-clause-stands g c =
@@ -50,9 +54,9 @@ returns-clause-stands g c =
     ok_so c.turn.result (Locked (g.S.Space.form c.args.s.now) c.self.inside.options d y c.args.who c.self.inside.locks c.turn.new.locks) (MayStand (g.S.Space.form c.args.s.now) c.self.inside.options (g.S.Space.size c.turn.new.s) y) _
     (λ turn L M. world_after c.self.inside.header c.self.inside.options c.self.inside.list.items c.self.inside.locks (g.S.Space.image c.args.s.now) (g.S.Space.size c.args.s.now) c.args.who c.requires.busy.0 d c.requires.busy.1
     (subst (λ w. IsBusy w c.args.who c.requires.busy.0 c.requires.busy.1) (sym e) c.requires.busy.2) c.in-Some.ensures.item.1
-    (subst (λ w. Stands w (g.S.Space.image c.args.s.now) (g.S.Space.size c.args.s.now)) (sym e) c.requires.stands)
+    (subst (λ w. Stands w (g.S.Space.image c.args.s.now) (g.S.Space.size c.args.s.now)) (sym e) c.requires.stands) (sym c.walking.ensures ∙ ap (option_map walk_command) c.in_default-walking.is)
     y c.turn.new.locks (g.S.Space.image c.turn.new.s) turn
-    (subst (λ f. Locked f c.self.inside.options d y c.args.who c.self.inside.locks c.turn.new.locks turn) form L) (g.S.Space.size c.turn.new.s)
+    (subst (λ f. Locked f c.self.inside.options d y c.args.who c.self.inside.locks c.turn.new.locks turn) form L) c.turn.ensures.walk (g.S.Space.size c.turn.new.s)
     (subst (λ f. MayStand f c.self.inside.options (g.S.Space.size c.turn.new.s) y) form M) c.turn.ensures.longer c.turn.ensures.within)
     c.turn.ensures.locks c.turn.ensures.stands
 
@@ -67,11 +71,11 @@ returns-clause-bytes g c =
     ok_both c.turn.result (Locked (g.S.Space.form c.args.s.now) c.self.inside.options d y c.args.who c.self.inside.locks c.turn.new.locks) (λ turn. IsTrue g.S.Space.tells → Filed (g.S.Space.form c.args.s.now) c.self.inside.options d y c.args.who c.self.inside.locks c.self.inside.spots a b turn) _
     (λ turn L T told bytes. file_after c.self.inside.header c.self.inside.options c.self.inside.list.items c.self.inside.locks a (g.S.Space.size c.args.s.now) c.args.who c.requires.busy.0 d c.requires.busy.1
     (subst (λ w. IsBusy w c.args.who c.requires.busy.0 c.requires.busy.1) (sym e) c.requires.busy.2) c.in-Some.ensures.item.1
-    (subst (λ w. Stands w a (g.S.Space.size c.args.s.now)) (sym e) c.requires.stands)
+    (subst (λ w. Stands w a (g.S.Space.size c.args.s.now)) (sym e) c.requires.stands) (sym c.walking.ensures ∙ ap (option_map walk_command) c.in_default-walking.is)
     y c.turn.new.locks b turn
-    (subst (λ f. Locked f c.self.inside.options d y c.args.who c.self.inside.locks c.turn.new.locks turn) form L)
+    (subst (λ f. Locked f c.self.inside.options d y c.args.who c.self.inside.locks c.turn.new.locks turn) form L) c.turn.ensures.walk
     (subst (λ w. BytesStand w a) (sym e) bytes)
-    (subst (λ l. Filed (form_in c.self.inside.header) c.self.inside.options d y c.args.who c.self.inside.locks l a b turn) c.self.invariant (subst (λ f. Filed f c.self.inside.options d y c.args.who c.self.inside.locks c.self.inside.spots a b turn) form (T told))) c.turn.ensures.walk)
+    (subst (λ l. Filed (form_in c.self.inside.header) c.self.inside.options d y c.args.who c.self.inside.locks l a b turn) c.self.invariant (subst (λ f. Filed f c.self.inside.options d y c.args.who c.self.inside.locks c.self.inside.spots a b turn) form (T told))))
     c.turn.ensures.locks c.turn.ensures.file
 
 pub returns-clause-turned : goal.returns-clause-turned
@@ -87,11 +91,11 @@ returns-clause-turned g c =
     (state_of (form_in c.self.inside.header) c.self.inside.options (slice_set c.self.inside.list.items (c.args.who - 1) y) c.turn.new.locks b)) e
     (turned_after c.self.inside.header c.self.inside.options c.self.inside.list.items c.self.inside.locks a (g.S.Space.size c.args.s.now) c.args.who x d t
     (subst (λ w. IsBusy w c.args.who x t) (sym e) B) c.in-Some.ensures.item.1
-    (subst (λ w. Stands w a (g.S.Space.size c.args.s.now)) (sym e) c.requires.stands)
+    (subst (λ w. Stands w a (g.S.Space.size c.args.s.now)) (sym e) c.requires.stands) (sym c.walking.ensures ∙ ap (option_map walk_command) c.in_default-walking.is)
     y c.turn.new.locks b turn
-    (subst (λ f. Locked f c.self.inside.options d y c.args.who c.self.inside.locks c.turn.new.locks turn) form L)
+    (subst (λ f. Locked f c.self.inside.options d y c.args.who c.self.inside.locks c.turn.new.locks turn) form L) c.turn.ensures.walk
     (subst (λ w. BytesStand w a) (sym e) bytes)
-    (subst (λ l. Filed (form_in c.self.inside.header) c.self.inside.options d y c.args.who c.self.inside.locks l a b turn) c.self.invariant (subst (λ f. Filed f c.self.inside.options d y c.args.who c.self.inside.locks c.self.inside.spots a b turn) form (T told))) c.turn.ensures.walk))
+    (subst (λ l. Filed (form_in c.self.inside.header) c.self.inside.options d y c.args.who c.self.inside.locks l a b turn) c.self.invariant (subst (λ f. Filed f c.self.inside.options d y c.args.who c.self.inside.locks c.self.inside.spots a b turn) form (T told)))))
     c.turn.ensures.locks c.turn.ensures.file
 
 pub returns-clause-busy : goal.returns-clause-busy
@@ -103,9 +107,9 @@ returns-clause-busy g c =
     IfOk-weaker c.turn.result (Locked (g.S.Space.form c.args.s.now) c.self.inside.options d y c.args.who c.self.inside.locks c.turn.new.locks) _
     (λ turn L is. busy_after c.self.inside.header c.self.inside.options c.self.inside.list.items c.self.inside.locks (g.S.Space.image c.args.s.now) (g.S.Space.size c.args.s.now) c.args.who c.requires.busy.0 d c.requires.busy.1
     (subst (λ w. IsBusy w c.args.who c.requires.busy.0 c.requires.busy.1) (sym e) c.requires.busy.2) c.in-Some.ensures.item.1
-    (subst (λ w. Stands w (g.S.Space.image c.args.s.now) (g.S.Space.size c.args.s.now)) (sym e) c.requires.stands)
+    (subst (λ w. Stands w (g.S.Space.image c.args.s.now) (g.S.Space.size c.args.s.now)) (sym e) c.requires.stands) (sym c.walking.ensures ∙ ap (option_map walk_command) c.in_default-walking.is)
     y c.turn.new.locks (g.S.Space.image c.turn.new.s) turn
-    (subst (λ f. Locked f c.self.inside.options d y c.args.who c.self.inside.locks c.turn.new.locks turn) form L) is)
+    (subst (λ f. Locked f c.self.inside.options d y c.args.who c.self.inside.locks c.turn.new.locks turn) form L) c.turn.ensures.walk is)
     c.turn.ensures.locks
 
 pub returns-clause-cause : goal.returns-clause-cause
@@ -122,10 +126,122 @@ returns-clause-cause g c told bytes =
     let t = c.requires.busy.1 in
     let B = subst (λ w. IsBusy w c.args.who x t) (sym e) c.requires.busy.2 in
     let W = subst (λ w. Stands w a size) (sym e) c.requires.stands in
+    let off = sym c.walking.ensures ∙ ap (option_map walk_command) c.in_default-walking.is in
     let item = c.in-Some.ensures.item.1 in
     let d = c.in-Some.opener.now in
-    c.turn.ensures.cause told t B.number.place (other_hands xs B.number.place) (task_busy header options xs ps a size c.args.who x d t B item W) B.number.counted
-    (subst (λ f. ImageBefore f t.job a (other_hands xs B.number.place)) (sym form) (image_before header options xs ps a size c.args.who x d t B item W (subst (λ w. BytesStand w a) (sym e) bytes)))
+    c.turn.ensures.cause told t B.number.place (other_hands xs B.number.place) (task_busy header options xs ps a size c.args.who x d t B item W off) B.number.counted
+    (subst (λ f. ImageBefore f t.job a (other_hands xs B.number.place)) (sym form) (image_before header options xs ps a size c.args.who x d t B item W off (subst (λ w. BytesStand w a) (sym e) bytes)))
+
+pub invariant_of-self-2 : goal.invariant_of-self-2
+invariant_of-self-2 g c = c.self.invariant ∙ sym (spots_still c.self.inside.list.items (c.args.who - 1) c.in-Some.opener.now c.turn.new.self c.in-Some.ensures.item.1 c.turn.ensures.walk)
+
+-- A turn of a command on its cursor.
+pub walk_turn-requires-clause-busy : goal.walk_turn-requires-clause-busy
+walk_turn-requires-clause-busy g c =
+    let e = c.self.view_is in
+    walk_busy c.self.inside.header c.self.inside.options c.self.inside.list.items c.self.inside.locks (g.S.Space.image c.args.s.now) (g.S.Space.size c.args.s.now) c.args.who c.requires.busy.0 c.in-Some.opener.now c.requires.busy.1
+    (subst (λ w. IsBusy w c.args.who c.requires.busy.0 c.requires.busy.1) (sym e) c.requires.busy.2) c.in-Some.ensures.item.1
+    (subst (λ w. Stands w (g.S.Space.image c.args.s.now) (g.S.Space.size c.args.s.now)) (sym e) c.requires.stands) (walk_command c.in-Some-walking.walking)
+    (sym c.walking.ensures ∙ ap (option_map walk_command) c.in-Some-walking.is)
+
+pub walk_turn-requires-clause-words : goal.walk_turn-requires-clause-words
+walk_turn-requires-clause-words g c =
+    let e = c.self.view_is in
+    words_before c.self.inside.header c.self.inside.options c.self.inside.list.items c.self.inside.locks (g.S.Space.image c.args.s.now) (g.S.Space.size c.args.s.now) c.args.who c.requires.busy.0 c.in-Some.opener.now c.requires.busy.1
+    (subst (λ w. IsBusy w c.args.who c.requires.busy.0 c.requires.busy.1) (sym e) c.requires.busy.2) c.in-Some.ensures.item.1
+    (subst (λ w. Stands w (g.S.Space.image c.args.s.now) (g.S.Space.size c.args.s.now)) (sym e) c.requires.stands) (walk_command c.in-Some-walking.walking)
+    (sym c.walking.ensures ∙ ap (option_map walk_command) c.in-Some-walking.is)
+
+pub walk_turn-requires-clause-asked : goal.walk_turn-requires-clause-asked
+walk_turn-requires-clause-asked g c =
+    let e = c.self.view_is in
+    asked_before c.self.inside.header c.self.inside.options c.self.inside.list.items c.self.inside.locks (g.S.Space.image c.args.s.now) (g.S.Space.size c.args.s.now) c.args.who c.requires.busy.0 c.in-Some.opener.now c.requires.busy.1
+    (subst (λ w. IsBusy w c.args.who c.requires.busy.0 c.requires.busy.1) (sym e) c.requires.busy.2) c.in-Some.ensures.item.1
+    (subst (λ w. Stands w (g.S.Space.image c.args.s.now) (g.S.Space.size c.args.s.now)) (sym e) c.requires.stands) (walk_command c.in-Some-walking.walking)
+    (sym c.walking.ensures ∙ ap (option_map walk_command) c.in-Some-walking.is)
 
 pub invariant_of-self : goal.invariant_of-self
-invariant_of-self g c = c.self.invariant ∙ sym (spots_still c.self.inside.list.items (c.args.who - 1) c.in-Some.opener.now c.turn.new.self c.in-Some.ensures.item.1 c.turn.ensures.walk)
+invariant_of-self g c =
+    c.walk_turn.ensures.spots
+    ∙ (ap (λ l. set l (c.args.who - 1) (spot_number c.walk_turn.new.self.walk.cursor.place)) c.self.invariant ∙ sym (spots_put c.self.inside.list.items (c.args.who - 1) c.walk_turn.new.self))
+
+pub returns-in-Some-walking-clause-stands : goal.returns-in-Some-walking-clause-stands
+returns-in-Some-walking-clause-stands g c =
+    let e = c.self.view_is in
+    let form = c.requires.form ∙ ap (λ w. form_in w.header) (sym e) in
+    let d = c.in-Some.opener.now in
+    let y = c.walk_turn.new.self in
+    let w = walk_command c.in-Some-walking.walking in
+    let a = g.S.Space.image c.args.s.now in
+    let b = g.S.Space.image c.walk_turn.new.s in
+    let size = g.S.Space.size c.args.s.now in
+    ok_of c.walk_turn.result (Walks g.S.Space.tells (g.S.Space.form c.args.s.now) c.self.inside.options.read_only d y c.args.who c.self.inside.locks c.walk_turn.new.locks c.self.inside.spots w a b size) _
+    (λ turn T. walk_world_after c.self.inside.header c.self.inside.options c.self.inside.list.items c.self.inside.locks a size c.args.who c.requires.busy.0 d c.requires.busy.1
+    (subst (λ w. IsBusy w c.args.who c.requires.busy.0 c.requires.busy.1) (sym e) c.requires.busy.2) c.in-Some.ensures.item.1
+    (subst (λ w. Stands w a size) (sym e) c.requires.stands) w (sym c.walking.ensures ∙ ap (option_map walk_command) c.in-Some-walking.is) g.S.Space.tells
+    y c.walk_turn.new.locks b turn
+    (subst (λ l. Walks g.S.Space.tells (form_in c.self.inside.header) c.self.inside.options.read_only d y c.args.who c.self.inside.locks c.walk_turn.new.locks l w a b size turn) c.self.invariant
+    (subst (λ f. Walks g.S.Space.tells f c.self.inside.options.read_only d y c.args.who c.self.inside.locks c.walk_turn.new.locks c.self.inside.spots w a b size turn) form T))
+    b (g.S.Space.size c.walk_turn.new.s) c.walk_turn.ensures.size)
+    c.walk_turn.ensures.turned
+
+pub returns-in-Some-walking-clause-bytes : goal.returns-in-Some-walking-clause-bytes
+returns-in-Some-walking-clause-bytes g c =
+    let e = c.self.view_is in
+    let form = c.requires.form ∙ ap (λ w. form_in w.header) (sym e) in
+    let d = c.in-Some.opener.now in
+    let y = c.walk_turn.new.self in
+    let w = walk_command c.in-Some-walking.walking in
+    let a = g.S.Space.image c.args.s.now in
+    let b = g.S.Space.image c.walk_turn.new.s in
+    let size = g.S.Space.size c.args.s.now in
+    ok_of c.walk_turn.result (Walks g.S.Space.tells (g.S.Space.form c.args.s.now) c.self.inside.options.read_only d y c.args.who c.self.inside.locks c.walk_turn.new.locks c.self.inside.spots w a b size) _
+    (λ turn T told bytes. walk_file_after c.self.inside.header c.self.inside.options c.self.inside.list.items c.self.inside.locks a size c.args.who c.requires.busy.0 d c.requires.busy.1
+    (subst (λ w. IsBusy w c.args.who c.requires.busy.0 c.requires.busy.1) (sym e) c.requires.busy.2) c.in-Some.ensures.item.1
+    (subst (λ w. Stands w a size) (sym e) c.requires.stands) w (sym c.walking.ensures ∙ ap (option_map walk_command) c.in-Some-walking.is) g.S.Space.tells
+    y c.walk_turn.new.locks b turn
+    (subst (λ l. Walks g.S.Space.tells (form_in c.self.inside.header) c.self.inside.options.read_only d y c.args.who c.self.inside.locks c.walk_turn.new.locks l w a b size turn) c.self.invariant
+    (subst (λ f. Walks g.S.Space.tells f c.self.inside.options.read_only d y c.args.who c.self.inside.locks c.walk_turn.new.locks c.self.inside.spots w a b size turn) form T))
+    told (subst (λ w. BytesStand w a) (sym e) bytes))
+    c.walk_turn.ensures.turned
+
+pub returns-in-Some-walking-clause-turned : goal.returns-in-Some-walking-clause-turned
+returns-in-Some-walking-clause-turned g c =
+    let e = c.self.view_is in
+    let form = c.requires.form ∙ ap (λ w. form_in w.header) (sym e) in
+    let d = c.in-Some.opener.now in
+    let y = c.walk_turn.new.self in
+    let w = walk_command c.in-Some-walking.walking in
+    let a = g.S.Space.image c.args.s.now in
+    let b = g.S.Space.image c.walk_turn.new.s in
+    let size = g.S.Space.size c.args.s.now in
+    IfOk-weaker c.walk_turn.result (Walks g.S.Space.tells (g.S.Space.form c.args.s.now) c.self.inside.options.read_only d y c.args.who c.self.inside.locks c.walk_turn.new.locks c.self.inside.spots w a b size) _
+    (λ turn T told bytes x t B. subst (λ v. Turned (form_in v.header) (state_in v a) (law_opener c.args.who) (law_of_task t) (law_turn turn)
+    (state_of (form_in c.self.inside.header) c.self.inside.options (slice_set c.self.inside.list.items (c.args.who - 1) y) c.walk_turn.new.locks b)) e
+    (walk_turned_after c.self.inside.header c.self.inside.options c.self.inside.list.items c.self.inside.locks a size c.args.who x d t
+    (subst (λ w. IsBusy w c.args.who x t) (sym e) B) c.in-Some.ensures.item.1
+    (subst (λ w. Stands w a size) (sym e) c.requires.stands) w (sym c.walking.ensures ∙ ap (option_map walk_command) c.in-Some-walking.is) g.S.Space.tells
+    y c.walk_turn.new.locks b turn
+    (subst (λ l. Walks g.S.Space.tells (form_in c.self.inside.header) c.self.inside.options.read_only d y c.args.who c.self.inside.locks c.walk_turn.new.locks l w a b size turn) c.self.invariant
+    (subst (λ f. Walks g.S.Space.tells f c.self.inside.options.read_only d y c.args.who c.self.inside.locks c.walk_turn.new.locks c.self.inside.spots w a b size turn) form T))
+    told (subst (λ w. BytesStand w a) (sym e) bytes)))
+    c.walk_turn.ensures.turned
+
+pub returns-in-Some-walking-clause-busy : goal.returns-in-Some-walking-clause-busy
+returns-in-Some-walking-clause-busy g c =
+    let e = c.self.view_is in
+    let form = c.requires.form ∙ ap (λ w. form_in w.header) (sym e) in
+    let d = c.in-Some.opener.now in
+    let y = c.walk_turn.new.self in
+    let w = walk_command c.in-Some-walking.walking in
+    let a = g.S.Space.image c.args.s.now in
+    let b = g.S.Space.image c.walk_turn.new.s in
+    let size = g.S.Space.size c.args.s.now in
+    IfOk-weaker c.walk_turn.result (Walks g.S.Space.tells (g.S.Space.form c.args.s.now) c.self.inside.options.read_only d y c.args.who c.self.inside.locks c.walk_turn.new.locks c.self.inside.spots w a b size) _
+    (λ turn T is. walk_busy_after c.self.inside.header c.self.inside.options c.self.inside.list.items c.self.inside.locks a size c.args.who c.requires.busy.0 d c.requires.busy.1
+    (subst (λ w. IsBusy w c.args.who c.requires.busy.0 c.requires.busy.1) (sym e) c.requires.busy.2) c.in-Some.ensures.item.1
+    (subst (λ w. Stands w a size) (sym e) c.requires.stands) w (sym c.walking.ensures ∙ ap (option_map walk_command) c.in-Some-walking.is) g.S.Space.tells
+    y c.walk_turn.new.locks b turn
+    (subst (λ l. Walks g.S.Space.tells (form_in c.self.inside.header) c.self.inside.options.read_only d y c.args.who c.self.inside.locks c.walk_turn.new.locks l w a b size turn) c.self.invariant
+    (subst (λ f. Walks g.S.Space.tells f c.self.inside.options.read_only d y c.args.who c.self.inside.locks c.walk_turn.new.locks c.self.inside.spots w a b size turn) form T)) is)
+    c.walk_turn.ensures.turned
