@@ -1,5 +1,5 @@
 -- The words of a script, by tables: one row for each word. They are those of the commands and plays that a world serves
--- (`tdb_world`): none of transactions, of cursors, and of openers that die.
+-- (`tdb_world`): none of transactions, and of openers that die.
 use Rattle.std.specs.Prelude.{ℕ, List, [], ◌∷◌, codes, Option, Some, None, if◌then◌else◌}
 use Rattle.std.specs.Str.{bytes_eq}
 use Rattle.tdb_steps.specs.declared.flag.Flag.{Flag}
@@ -11,13 +11,21 @@ abbrev pub row_of : {A : Type 0} → List (List ℕ × A) → List ℕ → Optio
 row_of [] word = None
 row_of (row ∷ rows) word = if bytes_eq row.0 word then Some row.1 else row_of rows word
 
--- commands of one word on all records, which an opener holds
+-- commands of one word on the opener's cursor
+abbrev pub walking_commands : List (List ℕ × Command)
+walking_commands =
+    (codes "first", Command.First)
+    ∷ (codes "next", Command.Next)
+    ∷ (codes "endwalk", Command.EndWalk)
+    ∷ []
+
+-- and those on all records, which an opener holds
 abbrev pub holding_commands : List (List ℕ × Command)
 holding_commands =
     (codes "lockall", Command.LockAll)
     ∷ (codes "lockallread", Command.LockAllRead)
     ∷ (codes "unlockall", Command.UnlockAll)
-    ∷ []
+    ∷ walking_commands
 
 -- all commands of one word
 abbrev pub bare_commands : List (List ℕ × Command)

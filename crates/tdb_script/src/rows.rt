@@ -1,14 +1,26 @@
 // The words of a script: one arm for each.
 
 ghost use Rattle.std.specs.Prelude.{◌≡◌};
-ghost use Rattle.tdb_script.specs.Rows.{row_of, holding_commands, bare_commands, key_commands, value_commands, bare_plays, opener_plays, command_plays};
+ghost use Rattle.tdb_script.specs.Rows.{row_of, walking_commands, holding_commands, bare_commands, key_commands, value_commands, bare_plays, opener_plays, command_plays};
 
 use crate::text::text_of;
 use tdb_plays::{Command, Play};
 use tdb_steps::Flag;
 use tdb_words::Bytes;
 
-/// The command on all records that is this one word.
+/// The command on the opener's cursor that is this one word.
+fn walking_named(text: &str) -> Option<Command>
+    ensures { result ≡ row_of walking_commands text.now }
+{
+    match text {
+        "first" => Some(Command::First),
+        "next" => Some(Command::Next),
+        "endwalk" => Some(Command::EndWalk),
+        _ => None,
+    }
+}
+
+/// The command on all records, or on the opener's cursor, that is this one word.
 fn holding_named(text: &str) -> Option<Command>
     ensures { result ≡ row_of holding_commands text.now }
 {
@@ -16,7 +28,7 @@ fn holding_named(text: &str) -> Option<Command>
         "lockall" => Some(Command::LockAll),
         "lockallread" => Some(Command::LockAllRead),
         "unlockall" => Some(Command::UnlockAll),
-        _ => None,
+        _ => walking_named(text),
     }
 }
 

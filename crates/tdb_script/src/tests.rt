@@ -45,7 +45,7 @@ fn bad_places(rt: HostRuntime) -> Result<(), Fail> {
         (b"do 1 store a b c".as_slice(), 0),
         (b"open\r\n".as_slice(), 0),
         (b"open\ndo 1 start".as_slice(), 5),
-        (b"do 1 first".as_slice(), 0),
+        (b"do 1 first a".as_slice(), 0),
         (b"die 1".as_slice(), 0),
     ];
     for (text, place) in rows {

@@ -35,7 +35,7 @@ module _ (n : ℕ) (few : n < 2 ^ 32) where
 
   command_fine : (words : List (List ℕ)) (command : Command) → NoLonger n words → IsCommand words command → IsFine command
   command_fine [] command l p = absurd p
-  command_fine (name ∷ []) command l p = of_row IsFine bare_commands name command ((tt, tt), ((tt, tt), ((tt, tt), ((tt, tt), ((tt, tt), ((tt, tt), ((tt, tt), tt))))))) p
+  command_fine (name ∷ []) command l p = of_row IsFine bare_commands name command ((tt, tt), ((tt, tt), ((tt, tt), ((tt, tt), ((tt, tt), ((tt, tt), ((tt, tt), ((tt, tt), ((tt, tt), ((tt, tt), tt)))))))))) p
   command_fine (name ∷ word ∷ []) command l p =
       let k = short word p.0 l.1.0 p.1 in
       of_row IsFine (key_commands p.0) name command ((tt, k), ((tt, k), ((tt, k), ((tt, k), ((tt, k), ((tt, k), tt)))))) p.2

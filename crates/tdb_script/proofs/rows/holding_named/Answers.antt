@@ -1,4 +1,3 @@
-use Rattle.std.proofs.Common.{refl}
 use Rattle.std.specs.Prelude.{codes}
 use Rattle.tdb_plays.specs.declared.command.Command.{Command}
 use Rattle.tdb_script.proofs.RowLemmas.{skip_row}
@@ -10,4 +9,4 @@ returns-in_default c =
     skip_row (codes "lockall") c.args.text.now Command.LockAll c.in_default.not-lockall (
     skip_row (codes "lockallread") c.args.text.now Command.LockAllRead c.in_default.not-lockallread (
     skip_row (codes "unlockall") c.args.text.now Command.UnlockAll c.in_default.not-unlockall (
-    refl)))
+    c.walking_named.ensures)))
