@@ -1,13 +1,13 @@
 -- The commands on a file that is there: what each asks for with its arguments.
 use Rattle.std.specs.Prelude.{ℕ, Option, None, Some, List, [], ◌∷◌}
 use Rattle.std.specs.Option.{option_map, option_and_then}
-use Rattle.tdb_ask.specs.declared.act.Act.{Act}
-use Rattle.tdb_ask.specs.declared.act.Act.TheVariants.{Show, Insert, Store, Delete, Erase, Check, First, Next}
+use Rattle.tdb_ask.specs.declared.act.Verb.{Verb}
+use Rattle.tdb_ask.specs.declared.act.Verb.TheVariants.{Show, Insert, Store, Delete, Erase, Check, First, Next}
 use Rattle.tdb_ask.specs.Words.{value_of, of_one, of_two}
 use Rattle.tdb_dump.specs.declared.listing.Listing.{Listing}
 
 -- `show` KEY
-abbrev pub show_of : List (List ℕ) → Option Act
+abbrev pub show_of : List (List ℕ) → Option Verb
 show_of arguments = of_one (λ word. option_map Show (value_of word)) arguments
 
 -- KEY DATA: the key and the value that two words stand for
@@ -16,34 +16,34 @@ pair_of arguments =
     of_two (λ first second. option_and_then (λ key. option_map (λ value. (key, value)) (value_of second)) (value_of first)) arguments
 
 -- `insert` KEY DATA
-abbrev pub insert_of : List (List ℕ) → Option Act
+abbrev pub insert_of : List (List ℕ) → Option Verb
 insert_of arguments = option_map (λ pair. Insert pair.0 pair.1) (pair_of arguments)
 
 -- `store` KEY DATA
-abbrev pub store_of : List (List ℕ) → Option Act
+abbrev pub store_of : List (List ℕ) → Option Verb
 store_of arguments = option_map (λ pair. Store pair.0 pair.1) (pair_of arguments)
 
 -- `delete` KEY
-abbrev pub delete_of : List (List ℕ) → Option Act
+abbrev pub delete_of : List (List ℕ) → Option Verb
 delete_of arguments = of_one (λ word. option_map Delete (value_of word)) arguments
 
 -- `erase`, without arguments
-abbrev pub erase_of : List (List ℕ) → Option Act
+abbrev pub erase_of : List (List ℕ) → Option Verb
 erase_of [] = Some Erase
 erase_of (word ∷ words) = None
 
 -- `check`, without arguments
-abbrev pub check_of : List (List ℕ) → Option Act
+abbrev pub check_of : List (List ℕ) → Option Verb
 check_of [] = Some Check
 check_of (word ∷ rest) = None
 
 -- `first`, without arguments
-abbrev pub first_of : List (List ℕ) → Option Act
+abbrev pub first_of : List (List ℕ) → Option Verb
 first_of [] = Some First
 first_of (word ∷ rest) = None
 
 -- `next`, without arguments
-abbrev pub next_of : List (List ℕ) → Option Act
+abbrev pub next_of : List (List ℕ) → Option Verb
 next_of [] = Some Next
 next_of (word ∷ rest) = None
 

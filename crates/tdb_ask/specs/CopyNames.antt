@@ -1,5 +1,10 @@
 -- The names of a backup and of a verification: those of the files, of their copies, and those at which files are made.
-use Rattle.std.specs.Prelude.{◌≡◌, ◌≢◌, ◌⊎◌, ℕ, Bool, true, false, List, [], ◌∷◌, ◌++◌, codes}
+use Rattle.std.specs.Prelude.{◌≡◌, ◌≢◌, ◌⊎◌, ℕ, Bool, true, false, Option, None, Some, List, [], ◌∷◌, ◌++◌, codes}
+
+-- the first of these names, and those behind it
+abbrev pub first_and_rest : List (List ℕ) → Option (List ℕ × List (List ℕ))
+first_and_rest [] = None
+first_and_rest (name ∷ names) = Some (name, names)
 
 -- the name of the copy of a file, the one at which the copy is made, and the one at which the file is made anew where
 -- it is restored

@@ -1,6 +1,7 @@
 pub mod Limits
 pub mod Words
 pub mod CopyNames
+pub mod Options
 pub mod Acts
 pub mod Lines
 pub mod Ask

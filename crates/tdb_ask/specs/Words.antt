@@ -1,16 +1,11 @@
 -- What single words of a command line stand for.
-use Rattle.std.specs.Prelude.{◌≡◌, ℕ, ◌≤◌, ◌+◌, ◌*◌, ◌==◌, Bool, true, ◌&&◌, not, nat_lt, nat_le, if◌then◌else◌, Option, None, Some, List, [], ◌∷◌, length, slice_index}
+use Rattle.std.specs.Prelude.{◌≡◌, ℕ, ◌≤◌, ◌+◌, ◌*◌, ◌==◌, Bool, true, ◌&&◌, nat_lt, nat_le, if◌then◌else◌, Option, None, Some, List, [], ◌∷◌, length, slice_index}
 use Rattle.std.specs.Option.{option_map}
 use Rattle.std.specs.Str.Parse.{IsNumeral, digits_value}
 use Rattle.std.specs.Char.{digit_value}
 use Rattle.tdb_dump.specs.Escape.{hex_value}
 use Rattle.tdb_space.specs.Pairs.{same_key}
 use Rattle.tdb_ask.specs.declared.limits.TheConstants.{LONGEST_FILE, LONGEST_WORD, LONGEST_NUMBER, MOST_CHAINS}
-
--- a word that isn't an option, and not too long: the first byte isn't `-`
-abbrev pub is_position : List ℕ → Bool
-is_position [] = true
-is_position (b ∷ bytes) = not (b == 45) && nat_le (length (b ∷ bytes)) LONGEST_WORD
 
 -- a word that isn't too long
 abbrev pub is_short : List ℕ → Bool
@@ -19,10 +14,6 @@ is_short word = nat_le (length word) LONGEST_WORD
 -- where options may stand: a word that begins with `-` and is longer is one, and no other is
 abbrev pub is_option : List ℕ → Bool
 is_option word = nat_lt 1 (length word) && (slice_index word 0 == 45)
-
--- a word that names a file there
-abbrev pub is_file : List ℕ → Bool
-is_file word = not (is_option word) && is_short word
 
 -- the byte that two hexadecimal digits write, in front of what the rest stands for
 abbrev pub escaped : Option ℕ → Option ℕ → Option (List ℕ) → Option (List ℕ)
@@ -46,7 +37,7 @@ bytes_of word = if same_key word (34 ∷ 34 ∷ []) then Some [] else letters_of
 
 -- the bytes of a word that stands for a key or a value
 abbrev pub value_of : List ℕ → Option (List ℕ)
-value_of word = if is_position word then bytes_of word else None
+value_of word = if is_short word then bytes_of word else None
 
 -- a word of one digit or more and nothing else
 abbrev pub all_digits : List ℕ → Bool
@@ -87,7 +78,7 @@ commands_of word = number_of 0 1000000 word
 abbrev pub seed_of : List ℕ → Option ℕ
 seed_of word = number_of 0 4294967295 word
 
--- what the one word of a list stands for, or its two words together; nothing where there are more or fewer
+-- what the one word of a list stands for, or its two or three words together; nothing where there are more or fewer
 abbrev pub of_one : {A B : Type 0} → (A → Option B) → List A → Option B
 of_one read [] = None
 of_one read (word ∷ []) = read word
@@ -98,3 +89,10 @@ of_two read [] = None
 of_two read (word ∷ []) = None
 of_two read (first ∷ second ∷ []) = read first second
 of_two read (first ∷ second ∷ more ∷ rest) = None
+
+abbrev pub of_three : {A B : Type 0} → (A → A → A → Option B) → List A → Option B
+of_three read [] = None
+of_three read (word ∷ []) = None
+of_three read (first ∷ second ∷ []) = None
+of_three read (first ∷ second ∷ third ∷ []) = read first second third
+of_three read (first ∷ second ∷ third ∷ more ∷ rest) = None

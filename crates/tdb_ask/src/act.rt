@@ -1,17 +1,18 @@
 // The commands on a file that is there, and the reading of their arguments.
 
-ghost use Rattle.std.specs.Prelude.{◌≡◌, ◌+◌, ◌≤◌, map, string_bytes, length, IfOk, IfSome};
+ghost use Rattle.std.specs.Prelude.{◌≡◌, ◌+◌, ◌≤◌, length, IfOk, IfSome};
 ghost use Rattle.tdb_ask.specs.Acts.{show_of, pair_of, insert_of, store_of, delete_of, erase_of, check_of, first_of, next_of};
-ghost use Rattle.tdb_ask.specs.Ask.{ActFits};
+ghost use Rattle.tdb_ask.specs.Ask.{VerbFits};
 ghost use Rattle.tdb_ask.specs.declared.limits.TheConstants.{LONGEST_WORD as longest};
 
+use crate::names::Text;
 use crate::words::value_of;
 use std::alloc::{AllocError, Global};
 use tdb_words::Bytes;
 
-/// What is asked of a file that is there.
+/// What is done with a file that is there.
 #[derive(Debug, Drop)]
-pub enum Act {
+pub enum Verb {
     /// The value that it holds for a key.
     Show { key: Bytes },
 
@@ -37,9 +38,18 @@ pub enum Act {
     Next,
 }
 
+/// What is asked of a file that is there.
+#[derive(Debug, Drop)]
+pub struct Act {
+    pub verb: Verb,
+
+    /// How many bytes the file may have.
+    pub limit: u64,
+}
+
 /// The key and the value that two words stand for, where they are the only ones and have a reading.
-fn key_and_value(alloc: Global, arguments: &[String]) -> Result<Option<(Bytes, Bytes)>, AllocError>
-    ensures read { IfOk result (λ pair. pair ≡ pair_of (map string_bytes arguments.now)) }
+fn key_and_value(alloc: Global, arguments: &[Text]) -> Result<Option<(Bytes, Bytes)>, AllocError>
+    ensures read { IfOk result (λ pair. pair ≡ pair_of arguments.now) }
     ensures short { IfOk result (λ pair. IfSome pair (λ p. length p.0 + length p.1 ≤ longest + longest)) }
 {
     let [first, second] = arguments else {
@@ -54,97 +64,97 @@ fn key_and_value(alloc: Global, arguments: &[String]) -> Result<Option<(Bytes, B
     }
 }
 
-impl Act {
+impl Verb {
     /// Reads the arguments of `show`.
-    pub(crate) fn of_show(alloc: Global, arguments: &[String]) -> Result<Option<Act>, AllocError>
-        ensures read { IfOk result (λ act. act ≡ show_of (map string_bytes arguments.now)) }
-        ensures fits { IfOk result (λ act. IfSome act ActFits) }
+    pub(crate) fn of_show(alloc: Global, arguments: &[Text]) -> Result<Option<Verb>, AllocError>
+        ensures read { IfOk result (λ verb. verb ≡ show_of arguments.now) }
+        ensures fits { IfOk result (λ verb. IfSome verb VerbFits) }
     {
         let [word] = arguments else {
             return Ok(None);
         };
         match value_of(alloc, word.as_str())? {
-            Some(key) => Ok(Some(Act::Show { key })),
+            Some(key) => Ok(Some(Verb::Show { key })),
             None => Ok(None),
         }
     }
 
     /// Reads the arguments of `insert`.
-    pub(crate) fn of_insert(alloc: Global, arguments: &[String]) -> Result<Option<Act>, AllocError>
-        ensures read { IfOk result (λ act. act ≡ insert_of (map string_bytes arguments.now)) }
-        ensures fits { IfOk result (λ act. IfSome act ActFits) }
+    pub(crate) fn of_insert(alloc: Global, arguments: &[Text]) -> Result<Option<Verb>, AllocError>
+        ensures read { IfOk result (λ verb. verb ≡ insert_of arguments.now) }
+        ensures fits { IfOk result (λ verb. IfSome verb VerbFits) }
     {
         match key_and_value(alloc, arguments)? {
-            Some((key, value)) => Ok(Some(Act::Insert { key, value })),
+            Some((key, value)) => Ok(Some(Verb::Insert { key, value })),
             None => Ok(None),
         }
     }
 
     /// Reads the arguments of `store`.
-    pub(crate) fn of_store(alloc: Global, arguments: &[String]) -> Result<Option<Act>, AllocError>
-        ensures read { IfOk result (λ act. act ≡ store_of (map string_bytes arguments.now)) }
-        ensures fits { IfOk result (λ act. IfSome act ActFits) }
+    pub(crate) fn of_store(alloc: Global, arguments: &[Text]) -> Result<Option<Verb>, AllocError>
+        ensures read { IfOk result (λ verb. verb ≡ store_of arguments.now) }
+        ensures fits { IfOk result (λ verb. IfSome verb VerbFits) }
     {
         match key_and_value(alloc, arguments)? {
-            Some((key, value)) => Ok(Some(Act::Store { key, value })),
+            Some((key, value)) => Ok(Some(Verb::Store { key, value })),
             None => Ok(None),
         }
     }
 
     /// Reads the arguments of `delete`.
-    pub(crate) fn of_delete(alloc: Global, arguments: &[String]) -> Result<Option<Act>, AllocError>
-        ensures read { IfOk result (λ act. act ≡ delete_of (map string_bytes arguments.now)) }
-        ensures fits { IfOk result (λ act. IfSome act ActFits) }
+    pub(crate) fn of_delete(alloc: Global, arguments: &[Text]) -> Result<Option<Verb>, AllocError>
+        ensures read { IfOk result (λ verb. verb ≡ delete_of arguments.now) }
+        ensures fits { IfOk result (λ verb. IfSome verb VerbFits) }
     {
         let [word] = arguments else {
             return Ok(None);
         };
         match value_of(alloc, word.as_str())? {
-            Some(key) => Ok(Some(Act::Delete { key })),
+            Some(key) => Ok(Some(Verb::Delete { key })),
             None => Ok(None),
         }
     }
 
     /// Reads the arguments of `erase`, which has none.
-    pub(crate) fn of_erase(arguments: &[String]) -> Option<Act>
-        ensures read { result ≡ erase_of (map string_bytes arguments.now) }
-        ensures fits { IfSome result ActFits }
+    pub(crate) fn of_erase(arguments: &[Text]) -> Option<Verb>
+        ensures read { result ≡ erase_of arguments.now }
+        ensures fits { IfSome result VerbFits }
     {
         match arguments {
-            [] => Some(Act::Erase),
+            [] => Some(Verb::Erase),
             _ => None,
         }
     }
 
     /// Reads the arguments of `check`, which has none.
-    pub(crate) fn of_check(arguments: &[String]) -> Option<Act>
-        ensures read { result ≡ check_of (map string_bytes arguments.now) }
-        ensures fits { IfSome result ActFits }
+    pub(crate) fn of_check(arguments: &[Text]) -> Option<Verb>
+        ensures read { result ≡ check_of arguments.now }
+        ensures fits { IfSome result VerbFits }
     {
         match arguments {
-            [] => Some(Act::Check),
+            [] => Some(Verb::Check),
             _ => None,
         }
     }
 
     /// Reads the arguments of `first`, which has none.
-    pub(crate) fn of_first(arguments: &[String]) -> Option<Act>
-        ensures read { result ≡ first_of (map string_bytes arguments.now) }
-        ensures fits { IfSome result ActFits }
+    pub(crate) fn of_first(arguments: &[Text]) -> Option<Verb>
+        ensures read { result ≡ first_of arguments.now }
+        ensures fits { IfSome result VerbFits }
     {
         match arguments {
-            [] => Some(Act::First),
+            [] => Some(Verb::First),
             _ => None,
         }
     }
 
     /// Reads the arguments of `next`, which has none.
-    pub(crate) fn of_next(arguments: &[String]) -> Option<Act>
-        ensures read { result ≡ next_of (map string_bytes arguments.now) }
-        ensures fits { IfSome result ActFits }
+    pub(crate) fn of_next(arguments: &[Text]) -> Option<Verb>
+        ensures read { result ≡ next_of arguments.now }
+        ensures fits { IfSome result VerbFits }
     {
         match arguments {
-            [] => Some(Act::Next),
+            [] => Some(Verb::Next),
             _ => None,
         }
     }

@@ -1,18 +1,18 @@
 // Command lines: what the words after the program's name ask for.
 
-ghost use Rattle.std.specs.Prelude.{◌≡◌, ℕ, List, map, string_bytes, IfOk, IfSome};
+ghost use Rattle.std.specs.Prelude.{◌≡◌, ◌≤◌, ℕ, List, map, string_bytes, IfOk, IfSome};
 ghost use Rattle.std.specs.Option.{option_map};
-ghost use Rattle.tdb_ask.specs.declared.ask.Task.TheVariants.{On as OnIs, Print as PrintIs};
 ghost use Rattle.tdb_ask.specs.Acts.{print_of};
-ghost use Rattle.tdb_ask.specs.Ask.{asked, ask_of, dump_asks, restore_asks, backup_asks, turns_asks, gen_asks, command_asks, session_asks, tool_of as tool_asks, task_of as task_asked, TaskFits};
+ghost use Rattle.tdb_ask.specs.Ask.{asked, asks, on_file, print_file, tool_task, ask_of, words_ask, tool_asks, dump_asks, restore_asks, backup_asks, turns_asks, gen_asks, task_of as task_asked, VerbFits, TaskFits};
 
-use crate::act::Act;
+use crate::act::{Act, Verb};
 use crate::lines::create::NewForm;
-use crate::lines::turns::file_and_limit;
-use crate::lines::{backup, dump, generate, turns};
+use crate::lines::dump::look_of;
+use crate::lines::turns::options_in;
+use crate::lines::{backup, generate};
 use crate::look::Look;
 use crate::names::{Names, Text};
-use crate::words::is_position;
+use crate::options::{Command, Line};
 use std::alloc::{AllocError, Global};
 use tdb_dump::Listing;
 use tdb_world::Options;
@@ -29,8 +29,8 @@ pub enum Task {
     /// A command that reads a file alone.
     Read(Look),
 
-    /// To print its pairs so.
-    Print(Listing),
+    /// To print its pairs so, where it is there and may have `limit` bytes.
+    Print { listing: Listing, limit: u64 },
 
     /// To make it, of the pairs on the input. It may be up to `limit` bytes long.
     Restore { limit: u64 },
@@ -59,131 +59,132 @@ pub struct Ask {
 }
 
 impl Task {
-    /// A command on a file that is there, if it is one.
-    fn on(act: Option<Act>) -> Option<Task>
-        ensures { result ≡ option_map OnIs act }
+    /// A command on a file that is there and may have so many bytes, if it is one.
+    fn on(limit: u64, verb: Option<Verb>) -> Option<Task>
+        requires limit { limit ≤ 4294963200 }
+        requires fits { IfSome verb VerbFits }
+        ensures read { result ≡ option_map (on_file limit) verb }
+        ensures fits { IfSome result (λ task. (file : List ℕ) → TaskFits file task) }
     {
-        match act {
-            Some(act) => Some(Task::On(act)),
+        match verb {
+            Some(verb) => Some(Task::On(Act { verb, limit })),
             None => None,
         }
     }
 
-    /// To print the pairs of a file that is there so, where the command has no arguments.
-    fn print(listing: Listing, arguments: &[String]) -> Option<Task>
-        ensures read { result ≡ option_map PrintIs (print_of listing (map string_bytes arguments.now)) }
+    /// To print the pairs of a file that is there and may have so many bytes, where the command has no arguments.
+    fn print(limit: u64, listing: Listing, arguments: &[Text]) -> Option<Task>
+        requires limit { limit ≤ 4294963200 }
+        ensures read { result ≡ option_map (print_file limit) (print_of listing arguments.now) }
         ensures fits { IfSome result (λ task. (file : List ℕ) → TaskFits file task) }
     {
         match arguments {
-            [] => Some(Task::Print(listing)),
+            [] => Some(Task::Print { listing, limit }),
             _ => None,
         }
     }
 
-    /// What the command of this name asks for with these arguments.
-    fn named(alloc: Global, command: &str, arguments: &[String]) -> Result<Option<Task>, AllocError>
-        ensures read { IfOk result (λ task. task ≡ task_asked command.now (map string_bytes arguments.now)) }
+    /// What the command of this name asks for with these arguments, where the file may have so many bytes.
+    fn named(
+        alloc: Global,
+        limit: u64,
+        command: &str,
+        arguments: &[Text],
+    ) -> Result<Option<Task>, AllocError>
+        requires limit { limit ≤ 4294963200 }
+        ensures read { IfOk result (λ task. task ≡ task_asked limit command.now arguments.now) }
         ensures fits { IfOk result (λ task. IfSome task (λ t. (file : List ℕ) → TaskFits file t)) }
     {
         match command {
-            "show" => Ok(Task::on(Act::of_show(alloc, arguments)?)),
-            "insert" => Ok(Task::on(Act::of_insert(alloc, arguments)?)),
-            "store" => Ok(Task::on(Act::of_store(alloc, arguments)?)),
-            "delete" => Ok(Task::on(Act::of_delete(alloc, arguments)?)),
-            "erase" => Ok(Task::on(Act::of_erase(arguments))),
-            "check" => Ok(Task::on(Act::of_check(arguments))),
-            "first" => Ok(Task::on(Act::of_first(arguments))),
-            "next" => Ok(Task::on(Act::of_next(arguments))),
-            "dump" => Ok(Task::print(Listing::Pairs, arguments)),
-            "keys" => Ok(Task::print(Listing::Keys, arguments)),
-            "hexkeys" => Ok(Task::print(Listing::HexKeys, arguments)),
-            "create" => match NewForm::of(arguments) {
+            "show" => Ok(Task::on(limit, Verb::of_show(alloc, arguments)?)),
+            "insert" => Ok(Task::on(limit, Verb::of_insert(alloc, arguments)?)),
+            "store" => Ok(Task::on(limit, Verb::of_store(alloc, arguments)?)),
+            "delete" => Ok(Task::on(limit, Verb::of_delete(alloc, arguments)?)),
+            "erase" => Ok(Task::on(limit, Verb::of_erase(arguments))),
+            "check" => Ok(Task::on(limit, Verb::of_check(arguments))),
+            "first" => Ok(Task::on(limit, Verb::of_first(arguments))),
+            "next" => Ok(Task::on(limit, Verb::of_next(arguments))),
+            "dump" => Ok(Task::print(limit, Listing::Pairs, arguments)),
+            "keys" => Ok(Task::print(limit, Listing::Keys, arguments)),
+            "hexkeys" => Ok(Task::print(limit, Listing::HexKeys, arguments)),
+            "create" => match NewForm::of(limit, arguments) {
                 Some(form) => Ok(Some(Task::Create(form))),
                 None => Ok(None),
             },
             _ => Ok(None),
         }
     }
+
+    /// What the words behind the file of `tool` ask for, where the file may have so many bytes.
+    fn of_tool(alloc: Global, limit: u64, words: &[Text]) -> Result<Option<Task>, AllocError>
+        requires limit { limit ≤ 4294963200 }
+        ensures read { IfOk result (λ task. task ≡ tool_task limit words.now) }
+        ensures fits { IfOk result (λ task. IfSome task (λ t. (file : List ℕ) → TaskFits file t)) }
+    {
+        match words {
+            [] => Ok(Some(Task::Session { limit })),
+            [command, arguments @ ..] => Task::named(alloc, limit, command.as_str(), arguments),
+        }
+    }
 }
 
 impl Ask {
-    /// What words ask for that are a file, a command and its arguments.
-    fn of_command(alloc: Global, words: &[String]) -> Result<Option<Ask>, AllocError>
-        ensures read { IfOk result (λ ask. option_map asked ask ≡ command_asks (map string_bytes words.now)) }
+    /// What a line of `tool` asks for: a command on a file, or a session.
+    fn of_tool(alloc: Global, line: &Line) -> Result<Option<Ask>, AllocError>
+        ensures read { IfOk result (λ ask. option_map asked ask ≡ tool_asks line.now) }
         ensures fits { IfOk result (λ ask. IfSome ask (λ a. TaskFits (string_bytes a.file) a.task)) }
     {
-        let [file, command, arguments @ ..] = words else {
+        let Some(limit) = line.limit() else {
             return Ok(None);
         };
-        if !is_position(file.as_str()) {
+        let [file, words @ ..] = line.positions.as_slice() else {
             return Ok(None);
-        }
-        let Some(task) = Task::named(alloc, command.as_str(), arguments)? else {
+        };
+        let Some(task) = Task::of_tool(alloc, limit, words)? else {
             return Ok(None);
         };
         let file = String::from_str(alloc, file.as_str())?;
         Ok(Some(Ask { file, task }))
     }
 
-    /// What words ask for that are a file, and how long it may become.
-    fn of_session(alloc: Global, words: &[String]) -> Result<Option<Ask>, AllocError>
-        ensures read { IfOk result (λ ask. option_map asked ask ≡ session_asks (map string_bytes words.now)) }
+    /// What a line of `dump` asks for.
+    fn of_dump(alloc: Global, line: &Line) -> Result<Option<Ask>, AllocError>
+        ensures read { IfOk result (λ ask. option_map asked ask ≡ dump_asks line.now) }
         ensures fits { IfOk result (λ ask. IfSome ask (λ a. TaskFits (string_bytes a.file) a.task)) }
     {
-        let Some((file, limit)) = file_and_limit(words) else {
+        let [file] = line.positions.as_slice() else {
             return Ok(None);
         };
-        let file = String::from_str(alloc, file)?;
-        let task = Task::Session { limit };
-        Ok(Some(Ask { file, task }))
-    }
-
-    /// What the words behind `tool` ask for: a command on a file, or a session.
-    fn of_tool(alloc: Global, words: &[String]) -> Result<Option<Ask>, AllocError>
-        ensures read { IfOk result (λ ask. option_map asked ask ≡ tool_asks (map string_bytes words.now)) }
-        ensures fits { IfOk result (λ ask. IfSome ask (λ a. TaskFits (string_bytes a.file) a.task)) }
-    {
-        match Ask::of_command(alloc, words)? {
-            Some(ask) => Ok(Some(ask)),
-            None => Ask::of_session(alloc, words),
-        }
-    }
-
-    /// What the words behind `dump` ask for.
-    fn of_dump(alloc: Global, words: &[String]) -> Result<Option<Ask>, AllocError>
-        ensures read { IfOk result (λ ask. option_map asked ask ≡ dump_asks (map string_bytes words.now)) }
-        ensures fits { IfOk result (λ ask. IfSome ask (λ a. TaskFits (string_bytes a.file) a.task)) }
-    {
-        let Some(line) = dump::Line::of(words) else {
+        let Some(look) = look_of(alloc, line.value_of("-k"))? else {
             return Ok(None);
         };
-        let Some(look) = dump::look_of(alloc, line.key)? else {
-            return Ok(None);
-        };
-        let file = String::from_str(alloc, line.file)?;
+        let file = String::from_str(alloc, file.as_str())?;
         let task = Task::Read(look);
         Ok(Some(Ask { file, task }))
     }
 
-    /// What the words behind `restore` ask for.
-    fn of_restore(alloc: Global, words: &[String]) -> Result<Option<Ask>, AllocError>
-        ensures read { IfOk result (λ ask. option_map asked ask ≡ restore_asks (map string_bytes words.now)) }
+    /// What a line of `restore` asks for.
+    fn of_restore(alloc: Global, line: &Line) -> Result<Option<Ask>, AllocError>
+        ensures read { IfOk result (λ ask. option_map asked ask ≡ restore_asks line.now) }
         ensures fits { IfOk result (λ ask. IfSome ask (λ a. TaskFits (string_bytes a.file) a.task)) }
     {
-        let Some((file, limit)) = file_and_limit(words) else {
+        let [file] = line.positions.as_slice() else {
             return Ok(None);
         };
-        let file = String::from_str(alloc, file)?;
+        let Some(limit) = line.limit() else {
+            return Ok(None);
+        };
+        let file = String::from_str(alloc, file.as_str())?;
         let task = Task::Restore { limit };
         Ok(Some(Ask { file, task }))
     }
 
-    /// What the words behind `backup` ask for.
-    fn of_backup(alloc: Global, words: &[String]) -> Result<Option<Ask>, AllocError>
-        ensures read { IfOk result (λ ask. option_map asked ask ≡ backup_asks (map string_bytes words.now)) }
+    /// What a line of `backup` asks for.
+    fn of_backup(alloc: Global, line: Line) -> Result<Option<Ask>, AllocError>
+        ensures read { IfOk result (λ ask. option_map asked ask ≡ backup_asks line) }
         ensures fits { IfOk result (λ ask. IfSome ask (λ a. TaskFits (string_bytes a.file) a.task)) }
     {
-        match backup::read(alloc, words)? {
+        match backup::asks_of(alloc, line)? {
             Some((file, task)) => {
                 let file = file.into_string();
                 Ok(Some(Ask { file, task }))
@@ -192,33 +193,57 @@ impl Ask {
         }
     }
 
-    /// What the words behind `turns` ask for.
-    fn of_turns(alloc: Global, words: &[String]) -> Result<Option<Ask>, AllocError>
-        ensures read { IfOk result (λ ask. option_map asked ask ≡ turns_asks (map string_bytes words.now)) }
+    /// What a line of `turns` asks for.
+    fn of_turns(alloc: Global, line: &Line) -> Result<Option<Ask>, AllocError>
+        ensures read { IfOk result (λ ask. option_map asked ask ≡ turns_asks line.now) }
         ensures fits { IfOk result (λ ask. IfSome ask (λ a. TaskFits (string_bytes a.file) a.task)) }
     {
-        let Some(line) = turns::Line::of(words) else {
+        let [file] = line.positions.as_slice() else {
             return Ok(None);
         };
-        let file = String::from_str(alloc, line.file)?;
-        let task = Task::Turns(line.options);
+        let Some(options) = options_in(line) else {
+            return Ok(None);
+        };
+        let file = String::from_str(alloc, file.as_str())?;
+        let task = Task::Turns(options);
         Ok(Some(Ask { file, task }))
     }
 
-    /// What the words behind `gen` ask for.
-    fn of_gen(alloc: Global, words: &[String]) -> Result<Option<Ask>, AllocError>
-        ensures read { IfOk result (λ ask. option_map asked ask ≡ gen_asks (map string_bytes words.now)) }
+    /// What a line of `gen` asks for.
+    fn of_gen(alloc: Global, line: &Line) -> Result<Option<Ask>, AllocError>
+        ensures read { IfOk result (λ ask. option_map asked ask ≡ gen_asks line.now) }
         ensures fits { IfOk result (λ ask. IfSome ask (λ a. TaskFits (string_bytes a.file) a.task)) }
     {
-        let Some(line) = generate::Line::of(words) else {
+        let [commands, seed, file] = line.positions.as_slice() else {
             return Ok(None);
         };
-        let file = String::from_str(alloc, line.file)?;
-        let task = Task::Generate {
-            commands: line.commands,
-            seed: line.seed,
+        let Some(task) = generate::task_of(commands.as_str(), seed.as_str()) else {
+            return Ok(None);
         };
+        let file = String::from_str(alloc, file.as_str())?;
         Ok(Some(Ask { file, task }))
+    }
+
+    /// What the words behind the name of a command ask for.
+    fn of_words(
+        alloc: Global,
+        command: Command,
+        words: &[String],
+    ) -> Result<Option<Ask>, AllocError>
+        ensures read { IfOk result (λ ask. option_map asked ask ≡ words_ask command (map string_bytes words.now)) }
+        ensures fits { IfOk result (λ ask. IfSome ask (λ a. TaskFits (string_bytes a.file) a.task)) }
+    {
+        let Some(line) = Line::of(alloc, command, words)? else {
+            return Ok(None);
+        };
+        match command {
+            Command::Tool => Ask::of_tool(alloc, &line),
+            Command::Dump => Ask::of_dump(alloc, &line),
+            Command::Restore => Ask::of_restore(alloc, &line),
+            Command::Backup => Ask::of_backup(alloc, line),
+            Command::Turns => Ask::of_turns(alloc, &line),
+            Command::Generate => Ask::of_gen(alloc, &line),
+        }
     }
 
     /// What the words of a command line ask for, if anything. The memory that it takes is that of their bytes.
@@ -229,14 +254,9 @@ impl Ask {
         let [program, rest @ ..] = words else {
             return Ok(None);
         };
-        match program.as_str() {
-            "tool" => Ask::of_tool(alloc, rest),
-            "dump" => Ask::of_dump(alloc, rest),
-            "restore" => Ask::of_restore(alloc, rest),
-            "backup" => Ask::of_backup(alloc, rest),
-            "turns" => Ask::of_turns(alloc, rest),
-            "gen" => Ask::of_gen(alloc, rest),
-            _ => Ok(None),
+        match Command::named(program.as_str()) {
+            Some(command) => Ask::of_words(alloc, command, rest),
+            None => Ok(None),
         }
     }
 }

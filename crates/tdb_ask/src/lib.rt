@@ -7,9 +7,10 @@ mod limits;
 mod lines;
 mod look;
 mod names;
+mod options;
 mod words;
 
-pub use act::Act;
+pub use act::{Act, Verb};
 pub use ask::{Ask, Task};
 pub use limits::{
     DEFAULT_SIZE, LONGEST_FILE, LONGEST_NUMBER, LONGEST_WORD, MOST_CHAINS, limits_law,

@@ -1,6 +1,7 @@
 // Texts and lists of names, as contracts see them: by their bytes.
 
 ghost use Rattle.std.specs.Prelude.{◌≡◌, ℕ, List, [], ◌∷◌, ◌++◌, string_bytes, IfOk, OnOk};
+ghost use Rattle.tdb_ask.specs.CopyNames.{first_and_rest};
 
 use std::alloc::{AllocError, Global};
 use std::marker::Model;
@@ -83,5 +84,17 @@ impl Names {
         ensures { result.now ≡ self.now }
     {
         self.items.as_slice()
+    }
+
+    /// The first name, and those behind it.
+    pub(crate) fn split_first(self) -> Option<(Text, Names)>
+        ensures { result ≡ first_and_rest self }
+    {
+        if self.items.is_empty() {
+            return None;
+        }
+        let mut items = self.items;
+        let first = items.remove(0);
+        Some((first, Names { items }))
     }
 }

@@ -15,15 +15,8 @@ const LEAST_LIMIT: u32 = 696;
 /// How many commands may be generated.
 const MOST_COMMANDS: u32 = 1_000_000;
 
-/// Whether a word is no option, and not too long.
-pub(crate) fn is_position(word: &str) -> bool
-    ensures { result ≡ W.is_position word.now }
-{
-    word.as_bytes().first() != Some(&b'-') && word.len() <= LONGEST_WORD
-}
-
 /// Whether a word isn't too long.
-pub(crate) fn is_short(word: &[u8]) -> bool
+pub(crate) fn is_short(word: &str) -> bool
     ensures { result ≡ W.is_short word.now }
 {
     word.len() <= LONGEST_WORD
@@ -37,15 +30,8 @@ pub(crate) fn is_option(word: &str) -> bool
     bytes.len() > 1 && bytes[0] == b'-'
 }
 
-/// Whether a word names a file, where options may stand.
-pub(crate) fn is_file(word: &str) -> bool
-    ensures { result ≡ W.is_file word.now }
-{
-    !is_option(word) && is_short(word.as_bytes())
-}
-
 /// The bytes that a word stands for, where it has a reading.
-pub(crate) fn bytes_of(alloc: Global, word: &[u8]) -> Result<Option<Bytes>, AllocError>
+fn bytes_of(alloc: Global, word: &[u8]) -> Result<Option<Bytes>, AllocError>
     ensures read { IfOk result (λ bytes. bytes ≡ W.bytes_of word.now) }
     ensures short { IfOk result (λ bytes. IfSome bytes (λ b. length b ≤ length word.now)) }
 {
@@ -61,7 +47,7 @@ pub(crate) fn value_of(alloc: Global, word: &str) -> Result<Option<Bytes>, Alloc
     ensures read { IfOk result (λ bytes. bytes ≡ W.value_of word.now) }
     ensures short { IfOk result (λ bytes. IfSome bytes (λ b. length b ≤ longest)) }
 {
-    if !is_position(word) {
+    if !is_short(word) {
         return Ok(None);
     }
     bytes_of(alloc, word.as_bytes())

@@ -1,5 +1,5 @@
 -- What acts on a file give, from what their parts gave.
-use Rattle.std.proofs.Common.{◌≡◌, ◌⊎◌, ℕ, ◌≤◌, ◌∷◌, false, List, Option, None, Some, Result, Ok, Err, refl, sym, ◌∙◌, ap, subst, inl, inr, arith}
+use Rattle.std.proofs.Common.{◌≡◌, ◌⊎◌, ℕ, ◌≤◌, ◌∷◌, false, length, List, Option, None, Some, Result, Ok, Err, refl, sym, ◌∙◌, ap, subst, inl, inr, arith}
 use Rattle.std.specs.Prelude.{IfOk, IsSome}
 use Rattle.std.proofs.lemmas.Bool.{false≢true}
 use Rattle.tdb_disk.specs.Count.{Rose}
@@ -7,6 +7,8 @@ use Rattle.tdb_disk.specs.History.{History, seen}
 use Rattle.tdb_disk.specs.declared.files.TakeRefusal.{TakeRefusal}
 use Rattle.tdb_disk.specs.declared.files.TakeRefusal.TheVariants as Take
 use Rattle.tdb_ask.specs.declared.act.Act.{Act}
+use Rattle.tdb_ask.specs.declared.act.Verb.{Verb}
+use Rattle.tdb_top.specs.declared.halt.Refusal.TheVariants.{TooLong}
 use Rattle.tdb_ask.specs.declared.ask.Task.{Task}
 use Rattle.tdb_ask.specs.declared.ask.Task.TheVariants.{Create, On, Read, Print, Restore, Backup, Verify, Turns, Session, Generate}
 use Rattle.tdb_ask.specs.declared.lines.create.NewForm.{NewForm}
@@ -20,7 +22,7 @@ use Rattle.tdb_top.specs.declared.halt.Fault.TheVariants as F
 use Rattle.tdb_top.specs.declared.halt.Halt.{Halt}
 use Rattle.tdb_top.specs.declared.halt.Halt.TheVariants.{Refused, Device, Memory}
 use Rattle.tdb_ask.specs.Ask.{Ask}
-use Rattle.tdb_top.specs.Acts.{reply_of, Does, Breaks, Acted, OpenedAndActed}
+use Rattle.tdb_top.specs.Acts.{verb_reply, reply_of, Does, Breaks, Acted, OpenedAndActed}
 use Rattle.tdb_top.specs.Commands.Create.{CreateCause, CreateLeaves}
 use Rattle.tdb_top.specs.Ending.{TaskDue, Replies, Refuses, TaskCause, task_due, task_failed, task_wanting, Untaken, MadeSo, of_halt}
 use Rattle.tdb_top.specs.Left.{ActLeaves, OnLeaves, MakingLeaves, TaskLeaves, Leaving}
@@ -32,37 +34,37 @@ use Rattle.tdb_top.specs.Commands.Verify.{VerifyCause}
 use Rattle.tdb_world.specs.declared.options.Options.{Options}
 use Rattle.tdb_top.specs.Reads.{AskEnds, GenCause}
 use Rattle.tdb_top.specs.Input.{Input}
-use Rattle.tdb_top.specs.Opening.{opened_bytes, CanOpen, UndoneIfOpen, HaltLeaves, HaltsRightly, of_fault}
+use Rattle.tdb_top.specs.Opening.{opened_bytes, CanOpen, UndoneIfOpen, HaltsBelow, LeavesBelow, of_fault}
 use Rattle.tdb_top.proofs.Openings.{same_or_undone}
 use Rattle.tdb_top.proofs.Printing.{print_wants}
 
 -- an act that left the file as it was, where that is what it is to do, and what a failed call leaves
-pub looked : (act : Act) (old now : History) (r : Result Reply Fault) → Does act old now → Breaks act old now → now ≡ old → IfOk r (λ reply. reply ≡ reply_of act (seen old)) → Acted act old now r
-looked act old now (Ok reply) does breaks same is = (is, record { done = λ e. does; kept = λ e. same })
-looked act old now (Err F.Device) does breaks same is = breaks
-looked act old now (Err F.Memory) does breaks same is = same
+pub looked : (limit : ℕ) (verb : Verb) (old now : History) (r : Result Reply Fault) → Does limit verb old now → Breaks verb old now → now ≡ old → IfOk r (λ reply. reply ≡ verb_reply limit verb (seen old)) → Acted limit verb old now r
+looked limit verb old now (Ok reply) does breaks same is = (is, record { done = λ e. does; kept = λ e. same })
+looked limit verb old now (Err F.Device) does breaks same is = breaks
+looked limit verb old now (Err F.Memory) does breaks same is = same
 
 -- an act that changes a file
-pub changed : (act : Act) (old now : History) (r : Result Reply Fault)
-    → IfOk r (λ reply. reply ≡ reply_of act (seen old)) → IfOk r (λ reply. reply ≡ Done → Does act old now) → IfOk r (λ reply. (reply ≡ Done → ⊥) → now ≡ old)
-    → (r ≡ Err F.Device → Breaks act old now) → (r ≡ Err F.Memory → now ≡ old) → Acted act old now r
-changed act old now (Ok reply) is done kept broken as_before = (is, record { done = λ e. done (is ∙ e); kept = λ other. kept (λ e. other (sym is ∙ e)) })
-changed act old now (Err F.Device) is done kept broken as_before = broken refl
-changed act old now (Err F.Memory) is done kept broken as_before = as_before refl
+pub changed : (limit : ℕ) (verb : Verb) (old now : History) (r : Result Reply Fault)
+    → IfOk r (λ reply. reply ≡ verb_reply limit verb (seen old)) → IfOk r (λ reply. reply ≡ Done → Does limit verb old now) → IfOk r (λ reply. (reply ≡ Done → ⊥) → now ≡ old)
+    → (r ≡ Err F.Device → Breaks verb old now) → (r ≡ Err F.Memory → now ≡ old) → Acted limit verb old now r
+changed limit verb old now (Ok reply) is done kept broken as_before = (is, record { done = λ e. done (is ∙ e); kept = λ other. kept (λ e. other (sym is ∙ e)) })
+changed limit verb old now (Err F.Device) is done kept broken as_before = broken refl
+changed limit verb old now (Err F.Memory) is done kept broken as_before = as_before refl
 
 module _ (act : Act) (old : History) where
   -- an opening that halted
-  pub halted : (now : History) (halt : Halt) → HaltsRightly (seen old) halt → HaltLeaves halt old now → OpenedAndActed act old now (Err halt)
+  pub halted : (now : History) (halt : Halt) → HaltsBelow act.limit (seen old) halt → LeavesBelow act.limit halt old now → OpenedAndActed act old now (Err halt)
   halted now (Refused refusal) right left = (right, left)
   halted now Device right left = inl left
   halted now Memory right left = left
 
-  module _ (mid now : History) (can : CanOpen (seen old)) (undone : UndoneIfOpen old mid) (reads : seen mid ≡ opened_bytes (seen old)) where
+  module _ (within : length (seen old) ≤ act.limit) (mid now : History) (can : CanOpen (seen old)) (undone : UndoneIfOpen old mid) (reads : seen mid ≡ opened_bytes (seen old)) where
     -- an act that replied over the opened file, and one that didn't
-    pub replied : (reply : Reply) → Acted act mid now (Ok reply) → OpenedAndActed act old now (Ok reply)
-    replied reply acted = (can, acted.0 ∙ ap (reply_of act) reads, record { opened = mid; undone = undone; reads = reads; leaves = acted.1 })
+    pub replied : (reply : Reply) → Acted act.limit act.verb mid now (Ok reply) → OpenedAndActed act old now (Ok reply)
+    replied reply acted = (within, can, acted.0 ∙ ap (reply_of act) reads, record { opened = mid; undone = undone; reads = reads; leaves = acted.1 })
 
-    pub faulted : (fault : Fault) → Acted act mid now (Err fault) → OpenedAndActed act old now (Err (of_fault fault))
+    pub faulted : (fault : Fault) → Acted act.limit act.verb mid now (Err fault) → OpenedAndActed act old now (Err (of_fault fault))
     faulted F.Device acted = inr (record { opened = mid; undone = undone; reads = reads; breaks = acted })
     faulted F.Memory acted = subst (UndoneIfOpen old) (sym acted) undone
 
@@ -72,7 +74,7 @@ rose_earlier before mid now later rose = omega arith
 
 module _ (act : Act) (name : List ℕ) (held : Option History) (before after : ℕ) where
   module _ (h : History) (there : held ≡ Some h) where
-    due_there : (e : Ending) → Replies act (seen h) e ⊎ Refuses (seen h) e → TaskCause (On act) name held before after e
+    due_there : (e : Ending) → Replies act (seen h) e ⊎ Refuses act.limit (seen h) e → TaskCause (On act) name held before after e
     due_there e due = task_due e (subst (λ o. TaskDue (On act) name o e) (sym there) due)
 
     left_there : (given : Option History) (e : Ending) (now : History) → given ≡ Some now → ActLeaves act h e now → OnLeaves act held e given
@@ -80,10 +82,10 @@ module _ (act : Act) (name : List ℕ) (held : Option History) (before after : �
 
     -- a file that was opened and acted on
     pub replied_cause : (now : History) (reply : Reply) → OpenedAndActed act h now (Ok reply) → TaskCause (On act) name held before after (E.Replied reply)
-    replied_cause now reply acted = due_there (E.Replied reply) (inl (record { can_open = acted.0; replied = ap E.Replied acted.1 }))
+    replied_cause now reply acted = due_there (E.Replied reply) (inl (record { within = acted.0; can_open = acted.1; replied = ap E.Replied acted.2 }))
 
     pub replied_left : (given : Option History) (now : History) (reply : Reply) → given ≡ Some now → OpenedAndActed act h now (Ok reply) → OnLeaves act held (E.Replied reply) given
-    replied_left given now reply is acted = left_there given (E.Replied reply) now is (acted.1, acted.2)
+    replied_left given now reply is acted = left_there given (E.Replied reply) now is (acted.2, acted.3)
 
     -- one that wasn't
     pub halted_cause : (now : History) (halt : Halt) → OpenedAndActed act h now (Err halt) → (halt ≡ Device → Rose before after) → TaskCause (On act) name held before after (of_halt halt)
@@ -118,23 +120,26 @@ untaken_left act name held given Take.Memory e same gone free is = subst (λ x. 
 
 -- a file that was to be made
 module _ (form : NewForm) (name : List ℕ) (held : Option History) where
-  pub made_cause : (before after : ℕ) (creation : Making.Creation) (e : Ending) → CreateCause held before after creation → MadeSo name creation e → TaskCause (Create form) name held before after e
-  made_cause before after Making.TheVariants.Made e cause is = task_due e (subst (λ o. TaskDue (Create form) name o e) (sym cause) is)
+  pub made_cause : (before after : ℕ) (creation : Making.Creation) (e : Ending) → CreateCause form held before after creation → MadeSo name creation e → TaskCause (Create form) name held before after e
+  made_cause before after Making.TheVariants.Made e cause is = task_due e (subst (λ o. TaskDue (Create form) name o e) (sym cause.0) (inl (cause.1, is)))
   made_cause before after Making.TheVariants.There e cause (inl is) = task_due e (there held cause)
     where
       there : (o : Option History) → IsSome o → TaskDue (Create form) name o e
       there None some = absurd (false≢true some)
       there (Some h) some = is
   made_cause before after Making.TheVariants.There e cause (inr is) = subst (TaskCause (Create form) name held before after) (sym is) task_wanting
+  made_cause before after (Making.TheVariants.TooLong len) e cause is =
+      task_due e (subst (λ o. TaskDue (Create form) name o e) (sym cause.0) (inr (cause.2, is ∙ ap (λ n. E.Refused (TooLong n)) cause.1)))
   made_cause before after Making.TheVariants.Device e cause is = subst (TaskCause (Create form) name held before after) (sym is) (task_failed cause)
   made_cause before after Making.TheVariants.Memory e cause is = subst (TaskCause (Create form) name held before after) (sym is) task_wanting
 
-  pub made_left : (given : Option History) (creation : Making.Creation) (e : Ending) → CreateLeaves form.size form.order form.hash held creation given → MadeSo name creation e → MakingLeaves form held e given
-  made_left given Making.TheVariants.Made e left is = subst (λ x. MakingLeaves form held x given) (sym is) (refl, left)
-  made_left given Making.TheVariants.There e left (inl is) = subst (λ x. MakingLeaves form held x given) (sym is) left
-  made_left given Making.TheVariants.There e left (inr is) = subst (λ x. MakingLeaves form held x given) (sym is) left
-  made_left given Making.TheVariants.Device e left is = subst (λ x. MakingLeaves form held x given) (sym is) left
-  made_left given Making.TheVariants.Memory e left is = subst (λ x. MakingLeaves form held x given) (sym is) left
+  pub made_left : (before after : ℕ) (given : Option History) (creation : Making.Creation) (e : Ending) → CreateCause form held before after creation → CreateLeaves form.size form.order form.hash held creation given → MadeSo name creation e → MakingLeaves form held e given
+  made_left before after given Making.TheVariants.Made e cause left is = subst (λ x. MakingLeaves form held x given) (sym is) (refl, left)
+  made_left before after given Making.TheVariants.There e cause left (inl is) = subst (λ x. MakingLeaves form held x given) (sym is) left
+  made_left before after given Making.TheVariants.There e cause left (inr is) = subst (λ x. MakingLeaves form held x given) (sym is) left
+  made_left before after given (Making.TheVariants.TooLong len) e cause left is = subst (λ x. MakingLeaves form held x given) (sym is) (ap TooLong cause.1, cause.2, left)
+  made_left before after given Making.TheVariants.Device e cause left is = subst (λ x. MakingLeaves form held x given) (sym is) left
+  made_left before after given Making.TheVariants.Memory e cause left is = subst (λ x. MakingLeaves form held x given) (sym is) left
 
 -- want of memory for the words leaves all as it is
 on_wants : (act : Act) (held : Option History) → OnLeaves act held E.NoMemory held
@@ -152,7 +157,7 @@ stays_same (Some h) = (h, refl)
 task_wants : (input : Input) (task : Task) (file : List ℕ) (held : List ℕ → Option History) → TaskLeaves input task file held E.NoMemory held
 task_wants input (On act) file held = on_wants act (held file)
 task_wants input (Read look) file held = refl
-task_wants input (Print listing) file held = print_wants (held file)
+task_wants input (Print listing limit) file held = print_wants limit (held file)
 task_wants input (Create form) file held = refl
 task_wants input (Restore limit) file held = record { left = inl refl; done = λ is. absurd (omega (arith, is)); there = λ some. refl }
 task_wants input (Backup more suffix) file held = record {

@@ -17,8 +17,9 @@ use Rattle.tdb_top.specs.declared.halt.Refusal.{Refusal}
 use Rattle.tdb_top.specs.declared.halt.Refusal.TheVariants.{TooLong, Header, Corrupt, NeedsRecovery}
 use Rattle.tdb_ask.specs.declared.limits.TheConstants.{LONGEST_FILE}
 use Rattle.tdb_ask.specs.Ask.{Ask}
-use Rattle.tdb_top.specs.Ending.{status_of, Replies, Refuses, LookReplies, RefusesToRead, PrintsPairs, TaskDue, Due}
-use Rattle.tdb_top.specs.Opening.{CanOpen, IsRefused, OpensToRead, CanRead, HasOpenGate, IsRefusedToRead}
+use Rattle.tdb_top.specs.Ending.{status_of, Replies, Refuses, LookReplies, RefusesToRead, PrintsPairs, MakingDue, TaskDue, Due}
+use Rattle.tdb_ask.specs.declared.lines.create.NewForm.{NewForm}
+use Rattle.tdb_top.specs.Opening.{CanOpen, IsRefused, OpensToRead, CanRead, HasOpenGate, IsRefusedToRead, IsRefusedBelow}
 
 -- a file is refused in one way
 refusal_one : (img : List ℕ) (r s : Refusal) → IsRefused img r → IsRefused img s → r ≡ s
@@ -44,11 +45,19 @@ refused_faulty img (Corrupt w at) p three opens = never_both_ways img (w, at) p.
 refused_faulty img NeedsRecovery p three opens = p
 
 -- and one that is no longer than the longest is refused so
+pub below_faulty : (limit : ℕ) (img : List ℕ) (r : Refusal) → IsRefusedBelow limit img r → status_of (Refused r) ≡ 3 → Opens img → ⊥
+below_faulty limit img r (inl p) three opens = let six : status_of (Refused r) ≡ 6 = ap (λ x. status_of (Refused x)) p.0 in absurd (omega (arith, three, six))
+below_faulty limit img r (inr p) three opens = refused_faulty img r p.1 three opens
+
 pub refused_three : (img : List ℕ) (r : Refusal) → IsRefused img r → length img ≤ LONGEST_FILE → status_of (Refused r) ≡ 3
 refused_three img (TooLong len) p short = absurd (omega (arith, p.0, p.1, short))
 refused_three img (Header f) p short = refl
 refused_three img (Corrupt w at) p short = refl
 refused_three img NeedsRecovery p short = refl
+
+pub below_three : (limit : ℕ) (img : List ℕ) (r : Refusal) → IsRefusedBelow limit img r → length img ≤ LONGEST_FILE → length img ≤ limit → status_of (Refused r) ≡ 3
+below_three limit img r (inl p) short within = absurd (omega (arith, p.1, within))
+below_three limit img r (inr p) short within = refused_three img r p.1 short
 
 not_both : (img : List ℕ) (r : Refusal) → CanOpen img → IsRefused img r → ⊥
 not_both img r can p = refused_faulty img r p (refused_three img r p can.within) can.opens
@@ -94,26 +103,43 @@ look_one look img x y (inl p) (inr q) = absurd (not_both_read img q.refusal p.ca
 look_one look img x y (inr p) (inl q) = absurd (not_both_read img p.refusal q.can_read p.right)
 look_one look img x y (inr p) (inr q) = p.refused ∙ ap Refused (read_refusal_one img p.refusal q.refusal p.right q.right) ∙ sym q.refused
 
-act_one : (act : Act) (img : List ℕ) (x y : Ending) → Replies act img x ⊎ Refuses img x → Replies act img y ⊎ Refuses img y → x ≡ y
-act_one act img x y (inl p) (inl q) = p.replied ∙ sym q.replied
-act_one act img x y (inl p) (inr q) = absurd (not_both img q.refusal p.can_open q.right)
-act_one act img x y (inr p) (inl q) = absurd (not_both img p.refusal q.can_open p.right)
-act_one act img x y (inr p) (inr q) = p.refused ∙ ap Refused (refusal_one img p.refusal q.refusal p.right q.right) ∙ sym q.refused
+-- a file that may have so many bytes is refused in one way, and not where it has no more and is opened
+below_one : (limit : ℕ) (img : List ℕ) (r s : Refusal) → IsRefusedBelow limit img r → IsRefusedBelow limit img s → r ≡ s
+below_one limit img r s (inl p) (inl q) = p.0 ∙ sym q.0
+below_one limit img r s (inl p) (inr q) = absurd (omega (arith, p.1, q.0))
+below_one limit img r s (inr p) (inl q) = absurd (omega (arith, q.1, p.0))
+below_one limit img r s (inr p) (inr q) = refusal_one img r s p.1 q.1
 
-print_one : (img : List ℕ) (x y : Ending) → PrintsPairs img x ⊎ Refuses img x → PrintsPairs img y ⊎ Refuses img y → x ≡ y
-print_one img x y (inl p) (inl q) = p.printed ∙ sym q.printed
-print_one img x y (inl p) (inr q) = absurd (not_both img q.refusal p.can_open q.right)
-print_one img x y (inr p) (inl q) = absurd (not_both img p.refusal q.can_open p.right)
-print_one img x y (inr p) (inr q) = p.refused ∙ ap Refused (refusal_one img p.refusal q.refusal p.right q.right) ∙ sym q.refused
+below_opened : (limit : ℕ) (img : List ℕ) (r : Refusal) → length img ≤ limit → CanOpen img → IsRefusedBelow limit img r → ⊥
+below_opened limit img r within can (inl p) = absurd (omega (arith, p.1, within))
+below_opened limit img r within can (inr p) = not_both img r can p.1
+
+act_one : (act : Act) (img : List ℕ) (x y : Ending) → Replies act img x ⊎ Refuses act.limit img x → Replies act img y ⊎ Refuses act.limit img y → x ≡ y
+act_one act img x y (inl p) (inl q) = p.replied ∙ sym q.replied
+act_one act img x y (inl p) (inr q) = absurd (below_opened act.limit img q.refusal p.within p.can_open q.right)
+act_one act img x y (inr p) (inl q) = absurd (below_opened act.limit img p.refusal q.within q.can_open p.right)
+act_one act img x y (inr p) (inr q) = p.refused ∙ ap Refused (below_one act.limit img p.refusal q.refusal p.right q.right) ∙ sym q.refused
+
+making_one : (form : NewForm) (x y : Ending) → MakingDue form x → MakingDue form y → x ≡ y
+making_one form x y (inl p) (inl q) = p.1 ∙ sym q.1
+making_one form x y (inl p) (inr q) = absurd (omega (arith, p.0, q.0))
+making_one form x y (inr p) (inl q) = absurd (omega (arith, p.0, q.0))
+making_one form x y (inr p) (inr q) = p.1 ∙ sym q.1
+
+print_one : (limit : ℕ) (img : List ℕ) (x y : Ending) → PrintsPairs limit img x ⊎ Refuses limit img x → PrintsPairs limit img y ⊎ Refuses limit img y → x ≡ y
+print_one limit img x y (inl p) (inl q) = p.printed ∙ sym q.printed
+print_one limit img x y (inl p) (inr q) = absurd (below_opened limit img q.refusal p.within p.can_open q.right)
+print_one limit img x y (inr p) (inl q) = absurd (below_opened limit img p.refusal q.within q.can_open p.right)
+print_one limit img x y (inr p) (inr q) = p.refused ∙ ap Refused (below_one limit img p.refusal q.refusal p.right q.right) ∙ sym q.refused
 
 task_one : (task : Task) (name : List ℕ) (held : Option History) (x y : Ending) → TaskDue task name held x → TaskDue task name held y → x ≡ y
 task_one (On act) name None x y p q = p ∙ sym q
 task_one (On act) name (Some h) x y p q = act_one act (seen h) x y p q
 task_one (Read look) name None x y p q = p ∙ sym q
 task_one (Read look) name (Some h) x y p q = look_one look (seen h) x y p q
-task_one (Print listing) name None x y p q = p ∙ sym q
-task_one (Print listing) name (Some h) x y p q = print_one (seen h) x y p q
-task_one (Create form) name None x y p q = p ∙ sym q
+task_one (Print listing limit) name None x y p q = p ∙ sym q
+task_one (Print listing limit) name (Some h) x y p q = print_one limit (seen h) x y p q
+task_one (Create form) name None x y p q = making_one form x y p q
 task_one (Create form) name (Some h) x y p q = p ∙ sym q
 task_one (Restore limit) name None x y p q = absurd p
 task_one (Restore limit) name (Some h) x y p q = p ∙ sym q

@@ -1,6 +1,6 @@
 -- What an opening answers and leaves, from what its parts found.
 use Rattle.std.proofs.Common.{◌≡◌, ◌≢◌, ℕ, ◌+◌, ◌⊎◌, ◌≤◌, true, false, List, length, Option, Some, None, refl, sym, ◌∙◌, ap, subst, inl, inr, arith}
-use Rattle.std.specs.Prelude.{◌%◌, Bool, ◌==◌, ◌&&◌, not, if◌then◌else◌}
+use Rattle.std.specs.Prelude.{◌<◌, ◌%◌, Bool, ◌==◌, ◌&&◌, not, if◌then◌else◌, Result, Ok, Err, IfErr, OnOk}
 use Rattle.std.proofs.lemmas.Bool.{cases_eq, false≢true}
 use Rattle.tdb_disk.specs.History.{History, seen}
 use Rattle.tdb_disk.specs.Stop.{Quiet, LeavesOnly}
@@ -32,7 +32,7 @@ use Rattle.tdb_top.specs.declared.halt.Halt.TheVariants.{Refused, Device, Memory
 use Rattle.tdb_top.specs.declared.halt.Refusal.TheVariants.{TooLong, Header, Corrupt, NeedsRecovery}
 use Rattle.tdb_top.specs.declared.opening.Opened.{Opened}
 use Rattle.tdb_ask.specs.declared.limits.TheConstants.{LONGEST_FILE}
-use Rattle.tdb_top.specs.Opening.{opened_bytes, CanOpen, CanRead, HasOpenGate, IsOpenedOn, IsCheckedOn, Undone, SameOrUndone, UndoneIfOpen, UndoBroken, HaltsRightly, ReadHaltsRightly, HaltsAtFault, HaltLeaves, asks_for_undo, of_front, of_restored_front, of_undo, of_check}
+use Rattle.tdb_top.specs.Opening.{opened_bytes, CanOpen, CanRead, HasOpenGate, IsOpenedOn, IsCheckedOn, Undone, SameOrUndone, UndoneIfOpen, UndoBroken, HaltsRightly, ReadHaltsRightly, HaltsAtFault, HaltLeaves, asks_for_undo, of_front, of_restored_front, of_undo, of_check, OpenedBelow, HaltsBelow, LeavesBelow}
 
 none_some : (o : Option Fault) (e : Fault) → o ≡ None → o ≡ Some e → ⊥
 none_some o e none some = cc
@@ -247,3 +247,43 @@ module _ (old mid now : History) (f : Form) (same : mid ≡ old) (form : f ≡ f
 -- bytes that were checked, after calls that left them
 pub checked_still : (old now : History) (o : Opened) → now ≡ old → Accept (seen old) → o.header ≡ header_at (seen old) → Counted (seen old) o.report → IsCheckedOn (seen now) o
 checked_still old now o same accepted header counted = subst (λ h. IsCheckedOn (seen h) o) (sym same) (record { accepted = accepted; header = header; counted = counted })
+
+-- a file that may have so many bytes is refused where it has more
+pub long_halts : (limit len : ℕ) (img : List ℕ) → len ≡ length img → limit < len → HaltsBelow limit img (Refused (TooLong len))
+long_halts limit len img is past = let long : limit < length img = omega (arith, is, past) in inl (ap TooLong is, long)
+
+pub long_leaves : (limit len : ℕ) (old now : History) → len ≡ length (seen old) → limit < len → now ≡ old → OpenedBelow limit old now
+long_leaves limit len old now is past same = let long : limit < length (seen old) = omega (arith, is, past) in inl (long, same)
+
+-- and else as any opening refuses it
+below_halts : (limit : ℕ) (img : List ℕ) (halt : Halt) → length img ≤ limit → HaltsRightly img halt → HaltsBelow limit img halt
+below_halts limit img (Refused refusal) within right = inr (within, right)
+below_halts limit img Device within right = tt
+below_halts limit img Memory within right = tt
+
+below_leaves : (limit : ℕ) (old now : History) (halt : Halt) → HaltLeaves halt old now → LeavesBelow limit halt old now
+below_leaves limit old now (Refused refusal) left = inr left
+below_leaves limit old now Device left = left
+below_leaves limit old now Memory left = left
+
+module _ (told : Type 0) (limit : ℕ) (r : Result Opened Halt) where
+  pub within_opened : (img : List ℕ) → (told → length img ≤ limit) → OnOk r (told → length img ≤ limit)
+  within_opened img within = of r
+    where
+      of : (r : Result Opened Halt) → OnOk r (told → length img ≤ limit)
+      of (Ok o) = within
+      of (Err halt) = tt
+
+  pub halted_below : (img : List ℕ) → (told → length img ≤ limit) → IfErr r (λ halt. told → HaltsRightly img halt) → IfErr r (λ halt. told → HaltsBelow limit img halt)
+  halted_below img within = of r
+    where
+      of : (r : Result Opened Halt) → IfErr r (λ halt. told → HaltsRightly img halt) → IfErr r (λ halt. told → HaltsBelow limit img halt)
+      of (Ok o) right = tt
+      of (Err halt) right = λ is. below_halts limit img halt (within is) (right is)
+
+  pub left_below : (old now : History) → IfErr r (λ halt. told → HaltLeaves halt old now) → IfErr r (λ halt. told → LeavesBelow limit halt old now)
+  left_below old now = of r
+    where
+      of : (r : Result Opened Halt) → IfErr r (λ halt. told → HaltLeaves halt old now) → IfErr r (λ halt. told → LeavesBelow limit halt old now)
+      of (Ok o) left = tt
+      of (Err halt) left = λ is. below_leaves limit old now halt (left is)

@@ -1,5 +1,5 @@
 -- What the printing of a file's pairs gives, from what its parts gave.
-use Rattle.std.proofs.Common.{◌≡◌, ℕ, List, [], Option, None, Some, refl, sym, ◌∙◌, ap, subst, inl, inr}
+use Rattle.std.proofs.Common.{◌≡◌, ◌≤◌, ℕ, length, List, [], Option, None, Some, refl, sym, ◌∙◌, ap, subst, inl, inr}
 use Rattle.tdb_disk.specs.History.{History, seen}
 use Rattle.tdb_disk.specs.declared.files.TakeRefusal.{TakeRefusal}
 use Rattle.tdb_disk.specs.declared.files.TakeRefusal.TheVariants as Take
@@ -13,7 +13,7 @@ use Rattle.tdb_top.specs.Commands.Dump.{pairs_text}
 use Rattle.tdb_top.specs.Commands.Print.{PrintEnds, PrintLeft, PrintLeaves, PrintText}
 use Rattle.tdb_top.specs.Ending.{TaskDue, TaskCause, task_due, task_failed, task_wanting, CountedBy, Untaken, of_halt}
 use Rattle.tdb_top.specs.Looks.{StandsBefore}
-use Rattle.tdb_top.specs.Opening.{opened_bytes, CanOpen, HaltsRightly, HaltLeaves, UndoneIfOpen}
+use Rattle.tdb_top.specs.Opening.{opened_bytes, CanOpen, HaltsBelow, LeavesBelow, UndoneIfOpen}
 use Rattle.tdb_top.proofs.Looking.{untaken_stands}
 use Rattle.tdb_top.proofs.Openings.{same_or_undone}
 
@@ -24,30 +24,30 @@ halted_stands text H.Device = (0, refl)
 halted_stands text H.Memory = (0, refl)
 
 -- what is left of a file whose opening halted
-pub halted_print : (old now : History) (halt : Halt) → HaltsRightly (seen old) halt → HaltLeaves halt old now → PrintLeft old (of_halt halt) now
-halted_print old now (H.Refused refusal) right left = (right, left)
-halted_print old now H.Device right left = left
-halted_print old now H.Memory right left = same_or_undone old now left
+pub halted_print : (limit : ℕ) (old now : History) (halt : Halt) → HaltsBelow limit (seen old) halt → LeavesBelow limit halt old now → PrintLeft limit old (of_halt halt) now
+halted_print limit old now (H.Refused refusal) right left = (right, left)
+halted_print limit old now H.Device right left = left
+halted_print limit old now H.Memory right left = same_or_undone old now left
 
 -- and of one that was opened, and whose pairs were printed or not
-pub opened_print : (old now : History) (e : Ending) → CanOpen (seen old) → UndoneIfOpen old now → PrintEnds e → PrintLeft old e now
-opened_print old now (E.Replied reply) can undone ends = (can, ends, undone)
-opened_print old now E.DeviceFault can undone ends = inl (same_or_undone old now undone)
-opened_print old now E.NoMemory can undone ends = same_or_undone old now undone
-opened_print old now (E.Refused refusal) can undone ends = absurd ends
-opened_print old now (E.Missing name) can undone ends = absurd ends
-opened_print old now (E.There name) can undone ends = absurd ends
-opened_print old now E.Usage can undone ends = absurd ends
-opened_print old now E.InputFault can undone ends = absurd ends
-opened_print old now (E.Malformed at) can undone ends = absurd ends
+pub opened_print : (limit : ℕ) (old now : History) (e : Ending) → length (seen old) ≤ limit → CanOpen (seen old) → UndoneIfOpen old now → PrintEnds e → PrintLeft limit old e now
+opened_print limit old now (E.Replied reply) within can undone ends = (within, can, ends, undone)
+opened_print limit old now E.DeviceFault within can undone ends = inl (same_or_undone old now undone)
+opened_print limit old now E.NoMemory within can undone ends = same_or_undone old now undone
+opened_print limit old now (E.Refused refusal) within can undone ends = absurd ends
+opened_print limit old now (E.Missing name) within can undone ends = absurd ends
+opened_print limit old now (E.There name) within can undone ends = absurd ends
+opened_print limit old now E.Usage within can undone ends = absurd ends
+opened_print limit old now E.InputFault within can undone ends = absurd ends
+opened_print limit old now (E.Malformed at) within can undone ends = absurd ends
 
 -- how it ended is why its task ends so
-module _ (listing : Listing) (name : List ℕ) (held : Option History) (h : History) (there : held ≡ Some h) (before after : ℕ) where
-  due_there : (e : Ending) → TaskDue (Print listing) name (Some h) e → TaskCause (Print listing) name held before after e
-  due_there e due = task_due e (subst (λ o. TaskDue (Print listing) name o e) (sym there) due)
+module _ (listing : Listing) (limit : ℕ) (name : List ℕ) (held : Option History) (h : History) (there : held ≡ Some h) (before after : ℕ) where
+  due_there : (e : Ending) → TaskDue (Print listing limit) name (Some h) e → TaskCause (Print listing limit) name held before after e
+  due_there e due = task_due e (subst (λ o. TaskDue (Print listing limit) name o e) (sym there) due)
 
-  pub print_cause : (now : History) (e : Ending) → PrintLeft h e now → CountedBy before after e → TaskCause (Print listing) name held before after e
-  print_cause now (E.Replied reply) left counted = due_there (E.Replied reply) (inl (record { can_open = left.0; printed = ap E.Replied left.1 }))
+  pub print_cause : (now : History) (e : Ending) → PrintLeft limit h e now → CountedBy before after e → TaskCause (Print listing limit) name held before after e
+  print_cause now (E.Replied reply) left counted = due_there (E.Replied reply) (inl (record { within = left.0; can_open = left.1; printed = ap E.Replied left.2 }))
   print_cause now (E.Refused refusal) left counted = due_there (E.Refused refusal) (inr (record { refusal = refusal; right = left.0; refused = refl }))
   print_cause now E.DeviceFault left counted = task_failed (counted.failed refl)
   print_cause now E.NoMemory left counted = task_wanting
@@ -58,23 +58,23 @@ module _ (listing : Listing) (name : List ℕ) (held : Option History) (h : Hist
   print_cause now (E.Malformed at) left counted = absurd left
 
 -- what is left at its name
-pub print_left : (held given : Option History) (h now : History) (e : Ending) → held ≡ Some h → given ≡ Some now → PrintLeft h e now → PrintLeaves held e given
-print_left held given h now e there is left = subst (λ o. PrintLeaves o e given) (sym there) (now, is, left)
+pub print_left : (limit : ℕ) (held given : Option History) (h now : History) (e : Ending) → held ≡ Some h → given ≡ Some now → PrintLeft limit h e now → PrintLeaves limit held e given
+print_left limit held given h now e there is left = subst (λ o. PrintLeaves limit o e given) (sym there) (now, is, left)
 
 -- and where nothing was done
-print_same : (held given : Option History) (e : Ending) → given ≡ held → ((h : History) → PrintLeft h e h) → PrintLeaves held e given
-print_same None given e same left = same
-print_same (Some h) given e same left = (h, same, left h)
+print_same : (limit : ℕ) (held given : Option History) (e : Ending) → given ≡ held → ((h : History) → PrintLeft limit h e h) → PrintLeaves limit held e given
+print_same limit None given e same left = same
+print_same limit (Some h) given e same left = (h, same, left h)
 
-pub print_wants : (held : Option History) → PrintLeaves held E.NoMemory held
-print_wants held = print_same held held E.NoMemory refl (λ h. inr refl)
+pub print_wants : (limit : ℕ) (held : Option History) → PrintLeaves limit held E.NoMemory held
+print_wants limit held = print_same limit held held E.NoMemory refl (λ h. inr refl)
 
 -- a file that wasn't taken
-pub untaken_print : (name : List ℕ) (held given : Option History) (refusal : TakeRefusal) (e : Ending) → given ≡ held → (refusal ≡ Take.Missing → held ≡ None) → (refusal ≡ Take.There → ⊥) → Untaken name refusal e → PrintLeaves held e given
-untaken_print name held given Take.Missing e same gone free is = subst (λ o. PrintLeaves o e given) (sym (gone refl)) (same ∙ gone refl)
-untaken_print name held given Take.There e same gone free is = absurd (free refl)
-untaken_print name held given Take.Failed e same gone free is = subst (λ x. PrintLeaves held x given) (sym is) (print_same held given E.DeviceFault same (λ h. inl (inr refl)))
-untaken_print name held given Take.Memory e same gone free is = subst (λ x. PrintLeaves held x given) (sym is) (print_same held given E.NoMemory same (λ h. inr refl))
+pub untaken_print : (limit : ℕ) (name : List ℕ) (held given : Option History) (refusal : TakeRefusal) (e : Ending) → given ≡ held → (refusal ≡ Take.Missing → held ≡ None) → (refusal ≡ Take.There → ⊥) → Untaken name refusal e → PrintLeaves limit held e given
+untaken_print limit name held given Take.Missing e same gone free is = subst (λ o. PrintLeaves limit o e given) (sym (gone refl)) (same ∙ gone refl)
+untaken_print limit name held given Take.There e same gone free is = absurd (free refl)
+untaken_print limit name held given Take.Failed e same gone free is = subst (λ x. PrintLeaves limit held x given) (sym is) (print_same limit held given E.DeviceFault same (λ h. inl (inr refl)))
+untaken_print limit name held given Take.Memory e same gone free is = subst (λ x. PrintLeaves limit held x given) (sym is) (print_same limit held given E.NoMemory same (λ h. inr refl))
 
 pub untaken_print_text : (listing : Listing) (held : Option History) (name : List ℕ) (refusal : TakeRefusal) (e : Ending) → Untaken name refusal e → PrintText listing held e []
 untaken_print_text listing None name refusal e is = refl

@@ -38,12 +38,12 @@ use Rattle.tdb_world.specs.declared.options.Options.{Options}
 use Rattle.tdb_gen.specs.declared.summary.Summary.{Summary}
 use Rattle.tdb_gen.specs.Summary.{summary_text}
 use Rattle.tdb_top.specs.Commands.Generate.{HasMade, GenLeaves}
-use Rattle.tdb_top.specs.Opening.{opened_bytes, OpensToRead, HeldOrUndone, SameOrUndone, UndoneIfOpen}
+use Rattle.tdb_top.specs.Opening.{opened_bytes, OpensToRead, HeldOrUndone, SameOrUndone, UndoneIfOpen, OpenedBelow}
 use Rattle.tdb_top.specs.Run.{Run, MayEnd, is_due, is_read, is_copied, is_verified, is_played, is_served, is_generated, call_failed, memory_wanting, TellsFault, ActsOn, LooksInto, PrintsOf, RefusesExactly, KeepsAll, EndsMidway, ActRun, PrintRun, MakingRun, RestoringRun, BackupRun, VerifyRun, TurnsRun, SessionRun, GeneratingRun, IsCopyName, LeavesFiles, Accounted}
 use Rattle.tdb_top.proofs.Held.{same_or_other}
 use Rattle.tdb_top.proofs.Copies.{stopped_kept, stopped_weaker, backup_zero}
 use Rattle.tdb_top.proofs.Verifying.{verified_zero, all_left_weaker, verify_kept}
-use Rattle.tdb_top.proofs.OneAnswer.{due_one, refused_faulty, refused_three, read_faulty, read_three}
+use Rattle.tdb_top.proofs.OneAnswer.{due_one, below_faulty, below_three, read_faulty, read_three}
 use Rattle.tdb_top.proofs.Openings.{same_or_undone}
 
 -- the statuses of the table
@@ -224,7 +224,7 @@ task_copies (Backup more suffix) = true
 task_copies (Verify more suffix) = false
 task_copies (On act) = false
 task_copies (Read look) = false
-task_copies (Print listing) = false
+task_copies (Print listing limit) = false
 task_copies (Create form) = false
 task_copies (Restore limit) = false
 
@@ -241,7 +241,7 @@ is_other (Generate commands seed) = true
 is_other (Backup more suffix) = false
 is_other (On act) = false
 is_other (Read look) = false
-is_other (Print listing) = false
+is_other (Print listing limit) = false
 is_other (Create form) = false
 is_other (Restore limit) = false
 
@@ -291,31 +291,31 @@ module _ (run : Run) (e : Ending) (cause : MayEnd run.ask run.old run.input run.
       (λ other file also openers undue. absurd (false≢true (sym closed ∙ ap asks_other (sym asks ∙ also) ∙ openers)))
 
   -- so that of an act and of a look
-  act_status : (P : ℕ → Type 0) (act : Act) (name : List ℕ) (h : History) → ActsOn run act name h → (Replies act (seen h) e ⊎ Refuses (seen h) e → P (status_of e)) → P run.status ⊎ TellsFault run.status
+  act_status : (P : ℕ → Type 0) (act : Act) (name : List ℕ) (h : History) → ActsOn run act name h → (Replies act (seen h) e ⊎ Refuses act.limit (seen h) e → P (status_of e)) → P run.status ⊎ TellsFault run.status
   act_status P act name h acts due = status_due P (On act) name acts.asks refl refl refl (λ d. due (subst (λ o. TaskDue (On act) name o e) acts.there d))
 
   look_status : (P : ℕ → Type 0) (look : Look) (name : List ℕ) (h : History) → LooksInto run look name h → (LookReplies look (seen h) e ⊎ RefusesToRead (seen h) e → P (status_of e)) → P run.status ⊎ TellsFault run.status
   look_status P look name h into due = status_due P (Read look) name into.asks refl refl refl (λ d. due (subst (λ o. TaskDue (Read look) name o e) into.there d))
 
-  print_status : (P : ℕ → Type 0) (listing : Listing) (name : List ℕ) (h : History) → PrintsOf run listing name h → (PrintsPairs (seen h) e ⊎ Refuses (seen h) e → P (status_of e)) → P run.status ⊎ TellsFault run.status
-  print_status P listing name h of due = status_due P (Print listing) name of.asks refl refl refl (λ d. due (subst (λ o. TaskDue (Print listing) name o e) of.there d))
+  print_status : (P : ℕ → Type 0) (listing : Listing) (limit : ℕ) (name : List ℕ) (h : History) → PrintsOf run listing limit name h → (PrintsPairs limit (seen h) e ⊎ Refuses limit (seen h) e → P (status_of e)) → P run.status ⊎ TellsFault run.status
+  print_status P listing limit name h of due = status_due P (Print listing limit) name of.asks refl refl refl (λ d. due (subst (λ o. TaskDue (Print listing limit) name o e) of.there d))
 
   -- over bytes that can be opened the status isn't 3, and over others, no more than the most, it is
-  not_three : (act : Act) (h : History) → Opens (seen h) → Replies act (seen h) e ⊎ Refuses (seen h) e → status_of e ≡ 3 → ⊥
+  not_three : (act : Act) (h : History) → Opens (seen h) → Replies act (seen h) e ⊎ Refuses act.limit (seen h) e → status_of e ≡ 3 → ⊥
   not_three act h opens (inl p) is = reply_not (reply_of act (opened_bytes (seen h))) 3 (omega arith) (λ z. absurd (omega (arith, z))) (sym (ap status_of p.replied) ∙ is)
-  not_three act h opens (inr p) is = refused_faulty (seen h) p.refusal p.right (sym (ap status_of p.refused) ∙ is) opens
+  not_three act h opens (inr p) is = below_faulty act.limit (seen h) p.refusal p.right (sym (ap status_of p.refused) ∙ is) opens
 
-  three_due : (act : Act) (h : History) → (Opens (seen h) → ⊥) → length (seen h) ≤ LONGEST_FILE → Replies act (seen h) e ⊎ Refuses (seen h) e → status_of e ≡ 3
-  three_due act h faulty short (inl p) = absurd (faulty p.can_open.opens)
-  three_due act h faulty short (inr p) = ap status_of p.refused ∙ refused_three (seen h) p.refusal p.right short
+  three_due : (act : Act) (h : History) → (Opens (seen h) → ⊥) → length (seen h) ≤ LONGEST_FILE → length (seen h) ≤ act.limit → Replies act (seen h) e ⊎ Refuses act.limit (seen h) e → status_of e ≡ 3
+  three_due act h faulty short within (inl p) = absurd (faulty p.can_open.opens)
+  three_due act h faulty short within (inr p) = ap status_of p.refused ∙ below_three act.limit (seen h) p.refusal p.right short within
 
-  print_not_three : (h : History) → Opens (seen h) → PrintsPairs (seen h) e ⊎ Refuses (seen h) e → status_of e ≡ 3 → ⊥
-  print_not_three h opens (inl p) is = absurd (omega (arith, ap status_of p.printed, is))
-  print_not_three h opens (inr p) is = refused_faulty (seen h) p.refusal p.right (sym (ap status_of p.refused) ∙ is) opens
+  print_not_three : (limit : ℕ) (h : History) → Opens (seen h) → PrintsPairs limit (seen h) e ⊎ Refuses limit (seen h) e → status_of e ≡ 3 → ⊥
+  print_not_three limit h opens (inl p) is = let zero : status_of e ≡ 0 = ap status_of p.printed in absurd (omega (arith, zero, is))
+  print_not_three limit h opens (inr p) is = below_faulty limit (seen h) p.refusal p.right (sym (ap status_of p.refused) ∙ is) opens
 
-  print_three_due : (h : History) → (Opens (seen h) → ⊥) → length (seen h) ≤ LONGEST_FILE → PrintsPairs (seen h) e ⊎ Refuses (seen h) e → status_of e ≡ 3
-  print_three_due h faulty short (inl p) = absurd (faulty p.can_open.opens)
-  print_three_due h faulty short (inr p) = ap status_of p.refused ∙ refused_three (seen h) p.refusal p.right short
+  print_three_due : (limit : ℕ) (h : History) → (Opens (seen h) → ⊥) → length (seen h) ≤ LONGEST_FILE → length (seen h) ≤ limit → PrintsPairs limit (seen h) e ⊎ Refuses limit (seen h) e → status_of e ≡ 3
+  print_three_due limit h faulty short within (inl p) = absurd (faulty p.can_open.opens)
+  print_three_due limit h faulty short within (inr p) = ap status_of p.refused ∙ below_three limit (seen h) p.refusal p.right short within
 
   -- the same of a look
   read_not_three : (look : Look) (h : History) → OpensToRead (seen h) → LookReplies look (seen h) e ⊎ RefusesToRead (seen h) e → status_of e ≡ 3 → ⊥
@@ -338,17 +338,22 @@ module _ (run : Run) (e : Ending) (cause : MayEnd run.ask run.old run.input run.
   pub refuses_exactly : RefusesExactly run
   refuses_exactly = record {
     only = λ act name h acts three opens. unless_three (act_status (λ n. n ≡ 3 → ⊥) act name h acts (not_three act h opens)) three;
-    exact = λ act name h acts faulty short. act_status (λ n. n ≡ 3) act name h acts (three_due act h faulty short);
+    exact = λ act name h acts faulty short within. act_status (λ n. n ≡ 3) act name h acts (three_due act h faulty short within);
     read_only = λ look name h into three opens. unless_three (look_status (λ n. n ≡ 3 → ⊥) look name h into (read_not_three look h opens)) three;
     read_exact = λ look name h into faulty short. look_status (λ n. n ≡ 3) look name h into (read_three_due look h faulty short);
-    print_only = λ listing name h of three opens. unless_three (print_status (λ n. n ≡ 3 → ⊥) listing name h of (print_not_three h opens)) three;
-    print_exact = λ listing name h of faulty short. print_status (λ n. n ≡ 3) listing name h of (print_three_due h faulty short);
+    print_only = λ listing limit name h of three opens. unless_three (print_status (λ n. n ≡ 3 → ⊥) listing limit name h of (print_not_three limit h opens)) three;
+    print_exact = λ listing limit name h of faulty short within. print_status (λ n. n ≡ 3) listing limit name h of (print_three_due limit h faulty short within);
   }
 
 -- an act that didn't reply that it is done left the file as it was opened
 unchanged : (act : Act) (old now : History) (reply : Reply) → reply ≡ reply_of act (opened_bytes (seen old)) → Left act old now → (reply ≡ Done → ⊥) → UndoneIfOpen old now
 unchanged act old now reply is left other =
     subst (UndoneIfOpen old) (sym (left.leaves.kept (λ done. other (is ∙ ap (reply_of act) (sym left.reads) ∙ done)))) left.undone
+
+-- a file that was opened, if it had no more bytes than it may, is as it was or undone
+below_same : (limit : ℕ) (old now : History) → OpenedBelow limit old now → SameOrUndone old now
+below_same limit old now (inl long) = inr long.1
+below_same limit old now (inr opened) = same_or_undone old now opened
 
 -- a status after which all is kept isn't that of a reply that something was done
 not_done : (status : ℕ) (reply : Reply) → Exits status (Replied reply) → KeepsAll status → reply ≡ Done → ⊥
@@ -418,14 +423,14 @@ module _ (before after status : ℕ) where
     done = λ is. left.1;
     failed = λ is. absurd (reply_no_fault reply out is);
     kept = λ keeps. same_or_undone old now (unchanged act old now reply left.0 left.1 (not_done status reply out keeps));
-    exact = λ keeps other. unchanged act old now reply left.0 left.1 (not_done status reply out keeps);
+    exact = λ keeps other. inr (unchanged act old now reply left.0 left.1 (not_done status reply out keeps));
   }
   act_run act old now (Refused r) out counted left = record {
-    any = inl (same_or_undone old now left);
+    any = inl (below_same act.limit old now left);
     replied = λ is. absurd (refusal_apart r out (inl is));
     done = λ is. absurd (refusal_apart r out (inl is));
     failed = λ is. absurd (refusal_apart r out (inr is));
-    kept = λ keeps. same_or_undone old now left;
+    kept = λ keeps. below_same act.limit old now left;
     exact = λ keeps other. left;
   }
   act_run act old now DeviceFault out counted left = record {
@@ -451,34 +456,34 @@ module _ (before after status : ℕ) where
   act_run act old now (Malformed at) out counted left = absurd left
 
   -- what a run leaves of the file whose pairs were printed
-  opened_run : (old now : History) → (status ≡ 4 → ⊥) → UndoneIfOpen old now → PrintRun old before after status now
-  opened_run old now four undone = record {
-    any = inl (same_or_undone old now undone);
+  opened_run : (limit : ℕ) (old now : History) → (status ≡ 4 → ⊥) → OpenedBelow limit old now → PrintRun limit old before after status now
+  opened_run limit old now four opened = record {
+    any = inl (below_same limit old now opened);
     failed = λ is. absurd (four is);
-    kept = λ other eight. same_or_undone old now undone;
-    exact = λ other five eight. undone;
+    kept = λ other eight. below_same limit old now opened;
+    exact = λ other five eight. opened;
   }
 
-  print_run : (old now : History) (t : Ending) → Exits status t → CountedBy before after t → PrintLeft old t now → PrintRun old before after status now
-  print_run old now (Replied reply) out counted left = opened_run old now (reply_no_fault reply out) left.2
-  print_run old now (Refused r) out counted left = opened_run old now (λ is. refusal_apart r out (inr is)) left.1
-  print_run old now DeviceFault out counted left = record {
+  print_run : (limit : ℕ) (old now : History) (t : Ending) → Exits status t → CountedBy before after t → PrintLeft limit old t now → PrintRun limit old before after status now
+  print_run limit old now (Replied reply) out counted left = opened_run limit old now (reply_no_fault reply out) (inr left.3)
+  print_run limit old now (Refused r) out counted left = opened_run limit old now (λ is. refusal_apart r out (inr is)) left.1
+  print_run limit old now DeviceFault out counted left = record {
     any = inr (counted.failed refl, left);
     failed = λ is. left;
     kept = λ four eight. absurd (neither 4 four eight (fault_exits out));
     exact = λ four five eight. absurd (neither 4 four eight (fault_exits out));
   }
-  print_run old now NoMemory out counted left = record {
+  print_run limit old now NoMemory out counted left = record {
     any = inl left;
     failed = λ is. absurd (memory_apart (memory_exits out) (inr is));
     kept = λ four eight. left;
     exact = λ four five eight. absurd (neither 5 five eight (memory_exits out));
   }
-  print_run old now (Missing name) out counted left = absurd left
-  print_run old now (There name) out counted left = absurd left
-  print_run old now Usage out counted left = absurd left
-  print_run old now InputFault out counted left = absurd left
-  print_run old now (Malformed at) out counted left = absurd left
+  print_run limit old now (Missing name) out counted left = absurd left
+  print_run limit old now (There name) out counted left = absurd left
+  print_run limit old now Usage out counted left = absurd left
+  print_run limit old now InputFault out counted left = absurd left
+  print_run limit old now (Malformed at) out counted left = absurd left
 
   -- what a run leaves at the name of a file that was to be made
   making_run : (form : NewForm) (old now : Option History) (t : Ending) → Exits status t → CountedBy before after t → MakingLeaves form old t now → MakingRun form old before after status now
@@ -486,35 +491,61 @@ module _ (before after status : ℕ) where
     any = inr (inl left.1);
     done = λ is. left.1;
     failed = λ is. absurd (reply_no_fault reply out is);
+    too_long = λ is. absurd (done_no_six out is);
     kept = λ keeps. absurd (not_done status reply out keeps left.0);
   }
+    where
+      done_no_six : Exits status (Replied reply) → status ≡ 6 → ⊥
+      done_no_six (inl own) is = let zero : status ≡ 0 = own ∙ ap (λ r. status_of (Replied r)) left.0 in absurd (omega (arith, zero, is))
+      done_no_six (inr (inl want)) is = absurd (omega (arith, want.0, is))
+      done_no_six (inr (inr eight)) is = absurd (omega (arith, eight, is))
   making_run form old now (There name) out counted left = record {
     any = inl left;
     done = λ is. absurd (there_apart out (inl is));
-    failed = λ is. absurd (there_apart out (inr is));
-    kept = λ keeps. left;
+    failed = λ is. absurd (there_apart out (inr (inl is)));
+    too_long = λ is. absurd (there_apart out (inr (inr is)));
+    kept = λ keeps. inl left;
   }
     where
-      there_apart : Exits status (There name) → (status ≡ 0) ⊎ (status ≡ 4) → ⊥
+      there_apart : Exits status (There name) → (status ≡ 0) ⊎ (status ≡ 4) ⊎ (status ≡ 6) → ⊥
       there_apart (inl own) (inl other) = absurd (omega (arith, own, other))
-      there_apart (inl own) (inr other) = absurd (omega (arith, own, other))
+      there_apart (inl own) (inr (inl other)) = absurd (omega (arith, own, other))
+      there_apart (inl own) (inr (inr other)) = absurd (omega (arith, own, other))
       there_apart (inr (inl want)) (inl other) = absurd (omega (arith, want.0, other))
-      there_apart (inr (inl want)) (inr other) = absurd (omega (arith, want.0, other))
+      there_apart (inr (inl want)) (inr (inl other)) = absurd (omega (arith, want.0, other))
+      there_apart (inr (inl want)) (inr (inr other)) = absurd (omega (arith, want.0, other))
       there_apart (inr (inr eight)) (inl other) = absurd (omega (arith, eight, other))
-      there_apart (inr (inr eight)) (inr other) = absurd (omega (arith, eight, other))
+      there_apart (inr (inr eight)) (inr (inl other)) = absurd (omega (arith, eight, other))
+      there_apart (inr (inr eight)) (inr (inr other)) = absurd (omega (arith, eight, other))
+  making_run form old now (Refused r) out counted left = record {
+    any = inr (inr (inr (left.1, left.2)));
+    done = λ is. absurd (refusal_apart r out (inl is));
+    failed = λ is. absurd (refusal_apart r out (inr is));
+    too_long = λ is. (left.1, left.2);
+    kept = λ keeps. inr (left.1, left.2);
+  }
   making_run form old now DeviceFault out counted left = record {
-    any = inr (inr (counted.failed refl, left));
+    any = inr (inr (inl (counted.failed refl, left)));
     done = λ is. absurd (fault_no_done (fault_exits out) is);
     failed = λ is. left;
+    too_long = λ is. absurd (six (fault_exits out) is);
     kept = λ keeps. absurd (fault_no_keep (fault_exits out) keeps);
   }
+    where
+      six : (status ≡ 4) ⊎ (status ≡ 8) → status ≡ 6 → ⊥
+      six (inl own) is = absurd (omega (arith, own, is))
+      six (inr own) is = absurd (omega (arith, own, is))
   making_run form old now NoMemory out counted left = record {
     any = inl left;
     done = λ is. absurd (memory_apart (memory_exits out) (inl is));
     failed = λ is. absurd (memory_apart (memory_exits out) (inr is));
-    kept = λ keeps. left;
+    too_long = λ is. absurd (six (memory_exits out) is);
+    kept = λ keeps. inl left;
   }
-  making_run form old now (Refused r) out counted left = absurd left
+    where
+      six : (status ≡ 5) ⊎ (status ≡ 8) → status ≡ 6 → ⊥
+      six (inl own) is = absurd (omega (arith, own, is))
+      six (inr own) is = absurd (omega (arith, own, is))
   making_run form old now (Missing name) out counted left = absurd left
   making_run form old now Usage out counted left = absurd left
   making_run form old now InputFault out counted left = absurd left
@@ -582,7 +613,7 @@ asked_counted tells (Some ask) before after t told counted = of ask.task counted
     of : (task : Task) → CountedFor tells task before after t → CountedBy before after t
     of (On act) counted = counted
     of (Read look) counted = counted
-    of (Print listing) counted = counted
+    of (Print listing limit) counted = counted
     of (Create form) counted = counted
     of (Restore limit) counted = counted
     of (Backup more suffix) counted = counted
@@ -598,7 +629,7 @@ asked_failed tells (Some ask) before after t counted is none = of ask.task none 
     of : (task : Task) → has_openers task ≡ false → CountedFor tells task before after t → Rose before after
     of (On act) none counted = counted.failed is
     of (Read look) none counted = counted.failed is
-    of (Print listing) none counted = counted.failed is
+    of (Print listing limit) none counted = counted.failed is
     of (Create form) none counted = counted.failed is
     of (Restore limit) none counted = counted.failed is
     of (Backup more suffix) none counted = counted.failed is
@@ -614,7 +645,7 @@ asked_sound tells (Some ask) before after t counted other = of ask.task counted
     of : (task : Task) → CountedFor tells task before after t → after ≡ before
     of (On act) counted = counted.sound other
     of (Read look) counted = counted.sound other
-    of (Print listing) counted = counted.sound other
+    of (Print listing limit) counted = counted.sound other
     of (Create form) counted = counted.sound other
     of (Restore limit) counted = counted.sound other
     of (Backup more suffix) counted = counted.sound other
@@ -841,10 +872,10 @@ module _ (run : Run) (t : Ending) (out : Exits run.status t) (counted : CountedB
   verifying : (more : List (List ℕ)) (suffix name : List ℕ) → run.ask ≡ Some (record { file = name; task = Verify more suffix }) → VerifyRun suffix (name ∷ more) run.old run.faults_before run.faults_after run.status run.now
   verifying more suffix name asks = verify_run run.faults_before run.faults_after run.status suffix (name ∷ more) run.old run.now t out counted (λ done. silent (inr (inr done))) (asked_left (Verify more suffix) name asks)
 
-  printed : (listing : Listing) (name : List ℕ) (old : History) → PrintsOf run listing name old → (h : History) × (run.now name ≡ Some h) × PrintRun old run.faults_before run.faults_after run.status h
-  printed listing name old of =
-      let at = subst (λ o. PrintLeaves o t (run.now name)) of.there (asked_left (Print listing) name of.asks) in
-      (at.0, at.1, print_run run.faults_before run.faults_after run.status old at.0 t out counted at.2)
+  printed : (listing : Listing) (limit : ℕ) (name : List ℕ) (old : History) → PrintsOf run listing limit name old → (h : History) × (run.now name ≡ Some h) × PrintRun limit old run.faults_before run.faults_after run.status h
+  printed listing limit name old of =
+      let at = subst (λ o. PrintLeaves limit o t (run.now name)) of.there (asked_left (Print listing limit) name of.asks) in
+      (at.0, at.1, print_run run.faults_before run.faults_after run.status limit old at.0 t out counted at.2)
 
   turned : (options : Options) (name : List ℕ) (old : History) → run.ask ≡ Some (record { file = name; task = Turns options }) → run.old name ≡ Some old
       → (h : History) × (run.now name ≡ Some h) × TurnsRun options run.input run.output old run.faults_before run.faults_after run.status h
@@ -877,9 +908,9 @@ module _ (run : Run) (t : Ending) (out : Exits run.status t) (counted : CountedB
     | inr same ↦ inl (at.1 ∙ ap Some same)
   ]
 
-  print_kept : KeepsAll run.status → (name : List ℕ) (old : Option History) → PrintLeaves old t (run.now name) → HeldOrUndone old (run.now name)
-  print_kept keeps name None at = inl at
-  print_kept keeps name (Some old) at = elim ((print_run run.faults_before run.faults_after run.status old at.0 t out counted at.2).kept keeps.1 keeps.2) [
+  print_kept : KeepsAll run.status → (limit : ℕ) (name : List ℕ) (old : Option History) → PrintLeaves limit old t (run.now name) → HeldOrUndone old (run.now name)
+  print_kept keeps limit name None at = inl at
+  print_kept keeps limit name (Some old) at = elim ((print_run run.faults_before run.faults_after run.status limit old at.0 t out counted at.2).kept keeps.1 keeps.2) [
     | inl undone ↦ inr (old, at.0, refl, at.1, undone)
     | inr same ↦ inl (at.1 ∙ ap Some same)
   ]
@@ -915,8 +946,14 @@ module _ (run : Run) (t : Ending) (out : Exits run.status t) (counted : CountedB
       → (IsCopyName (Some (record { file = file; task = task })) name → ⊥) → HeldOrUndone (run.old name) (run.now name)
   task_kept keeps (On act) file name asks midway same at copy = at_name name file (on_kept keeps act file (run.old file) at) (same name)
   task_kept keeps (Read look) file name asks midway same at copy = at_name name file (inl at) (same name)
-  task_kept keeps (Print listing) file name asks midway same at copy = at_name name file (print_kept keeps file (run.old file) at) (same name)
-  task_kept keeps (Create form) file name asks midway same at copy = at_name name file (inl ((making_run run.faults_before run.faults_after run.status form (run.old file) (run.now file) t out counted at).kept keeps)) (same name)
+  task_kept keeps (Print listing limit) file name asks midway same at copy = at_name name file (print_kept keeps limit file (run.old file) at) (same name)
+  task_kept keeps (Create form) file name asks midway same at copy =
+      at_name name file
+      (elim ((making_run run.faults_before run.faults_after run.status form (run.old file) (run.now file) t out counted at).kept keeps) [
+        | inl held ↦ inl held
+        | inr empty ↦ absurd (midway empty.0)
+      ])
+      (same name)
   task_kept keeps (Restore limit) file name asks midway same at copy =
       at_name name file
       (elim ((restoring_run run.faults_before run.faults_after run.status run.input (run.old file) (run.now file) t out counted (λ done. silent (inl done)) at).kept keeps.0 keeps.1) [
@@ -958,7 +995,7 @@ module _ (run : Run) (t : Ending) (out : Exits run.status t) (counted : CountedB
     verified = verifying;
     read = λ look name asks. asked_left (Read look) name asks;
     printed = printed;
-    unprinted = λ listing name asks none. subst (λ o. PrintLeaves o t (run.now name)) none (asked_left (Print listing) name asks);
+    unprinted = λ listing limit name asks none. subst (λ o. PrintLeaves limit o t (run.now name)) none (asked_left (Print listing limit) name asks);
     turned = turned;
     unturned = λ options name asks none. subst (λ o. TurnsLeave options o t (run.now name)) none (asked_left (Turns options) name asks);
     served = served;

@@ -26,7 +26,7 @@ use Rattle.tdb_top.proofs.Runs.{refusal_status}
 abbrev reads_turns : Task → Bool
 reads_turns (On act) = false
 reads_turns (Read look) = false
-reads_turns (Print listing) = false
+reads_turns (Print listing limit) = false
 reads_turns (Create form) = false
 reads_turns (Restore limit) = false
 reads_turns (Backup more suffix) = false

@@ -103,7 +103,7 @@ task_wanting (Turns options) name held written t takes text = turns_wanting opti
 task_wanting (Session limit) name held written t takes text = session_wanting limit (held name) written t text
 task_wanting (Generate commands seed) name held written t takes text = text
 task_wanting (Read look) name held written t takes text = look_wanting look (held name) written t takes text
-task_wanting (Print listing) name held written t takes text = print_wanting listing (held name) written t takes text
+task_wanting (Print listing limit) name held written t takes text = print_wanting listing (held name) written t takes text
 
 text_wanting : (ask : Option Ask) (held : List ℕ → Option History) (written : List ℕ) (t : Ending) → TakesMemory t → TextBefore ask held t written → TextBefore ask held NoMemory written
 text_wanting None held written t takes text = text
@@ -137,7 +137,7 @@ task_nothing (Turns options) name held = turns_nothing options (held name)
 task_nothing (Session limit) name held = session_nothing limit (held name)
 task_nothing (Generate commands seed) name held = refl
 task_nothing (Read look) name held = look_nothing look (held name)
-task_nothing (Print listing) name held = print_nothing listing (held name)
+task_nothing (Print listing limit) name held = print_nothing listing (held name)
 
 pub nothing_before : (ask : Option Ask) (held : List ℕ → Option History) → TextBefore ask held NoMemory []
 nothing_before None held = refl
@@ -162,7 +162,7 @@ task_heard (Verify more suffix) files output told = and_left output files told
 task_heard (Turns options) files output told = and_left output files told
 task_heard (Session limit) files output told = and_left output files told
 task_heard (Generate commands seed) files output told = told
-task_heard (Print listing) files output told = and_left output files told
+task_heard (Print listing limit) files output told = and_left output files told
 task_heard (Read (Value key)) files output told = told
 task_heard (Read Dump) files output told = and_left output files told
 

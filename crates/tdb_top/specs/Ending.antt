@@ -1,5 +1,5 @@
 -- How a run ends: the status and the line of each ending, and what each is due to.
-use Rattle.std.specs.Prelude.{◌≡◌, ◌≢◌, ℕ, ◌≤◌, Bool, true, false, Option, None, Some, IsTrue, List, [], ◌∷◌, ◌++◌, ◌⊎◌, take, codes, decimal}
+use Rattle.std.specs.Prelude.{◌≡◌, ◌≢◌, ℕ, ◌<◌, ◌≤◌, Bool, true, false, Option, None, Some, IsTrue, List, [], ◌∷◌, ◌++◌, ◌⊎◌, length, take, codes, decimal}
 use Rattle.tdb_words.specs.Header.{fault_text}
 use Rattle.tdb_words.specs.What.{what_text}
 use Rattle.tdb_disk.specs.Count.{Rose}
@@ -19,10 +19,12 @@ use Rattle.tdb_top.specs.declared.halt.Refusal.{Refusal}
 use Rattle.tdb_top.specs.declared.halt.Refusal.TheVariants.{TooLong, Header, Corrupt, NeedsRecovery}
 use Rattle.tdb_top.specs.declared.commands.create.Creation as Making
 use Rattle.tdb_ask.specs.Ask.{Ask}
+use Rattle.tdb_ask.specs.declared.lines.create.NewForm.{NewForm}
+use Rattle.tdb_top.specs.Commands.Create.{new_length}
 use Rattle.tdb_top.specs.Acts.{reply_of}
 use Rattle.tdb_top.specs.Looks.{look_reply}
 use Rattle.tdb_top.specs.Output.{Output}
-use Rattle.tdb_top.specs.Opening.{opened_bytes, CanOpen, IsRefused, CanRead, IsRefusedToRead}
+use Rattle.tdb_top.specs.Opening.{opened_bytes, CanOpen, CanRead, IsRefusedToRead, IsRefusedBelow}
 
 -- What a run says: the status that it exits with, and the text that it prints: a line and its newline, lines, or
 -- nothing. A line that tells a value, a number or a name takes memory; one that is the same in each run takes none.
@@ -87,15 +89,16 @@ TakesMemory e = IsTrue (answer e).takes_memory
 abbrev pub PrintedFor : Ending → Ending → Type 0
 PrintedFor e found = (e ≡ found) ⊎ ((e ≡ NoMemory) × TakesMemory found)
 
--- the file with these bytes is opened, and an act replies over what it is read as
+-- the file with these bytes is opened, of which it has no more than it may, and an act replies over what it is read as
 pub record Replies (act : Act) (img : List ℕ) (e : Ending) : Type 0 where
+  pub within : length img ≤ act.limit
   pub can_open : CanOpen img
   pub replied : e ≡ Replied (reply_of act (opened_bytes img))
 
--- the file with these bytes is refused
-pub record Refuses (img : List ℕ) (e : Ending) : Type 0 where
+-- the file with these bytes, which may have so many, is refused
+pub record Refuses (limit : ℕ) (img : List ℕ) (e : Ending) : Type 0 where
   pub refusal : Refusal
-  pub right : IsRefused img refusal
+  pub right : IsRefusedBelow limit img refusal
   pub refused : e ≡ Refused refusal
 
 -- the file with these bytes is opened to be read alone, and a look replies over them
@@ -109,10 +112,16 @@ pub record RefusesToRead (img : List ℕ) (e : Ending) : Type 0 where
   pub right : IsRefusedToRead img refusal
   pub refused : e ≡ Refused refusal
 
--- the file with these bytes is opened, and its pairs are printed
-pub record PrintsPairs (img : List ℕ) (e : Ending) : Type 0 where
+-- the file with these bytes, which may have so many, is opened, and its pairs are printed
+pub record PrintsPairs (limit : ℕ) (img : List ℕ) (e : Ending) : Type 0 where
+  pub within : length img ≤ limit
   pub can_open : CanOpen img
   pub printed : e ≡ Replied Dumped
+
+-- a file is made where none is, or would have more bytes than it may
+abbrev pub MakingDue : NewForm → Ending → Type 0
+MakingDue form e =
+    ((new_length form ≤ form.limit) × (e ≡ Replied Done)) ⊎ ((form.limit < new_length form) × (e ≡ Refused (TooLong (new_length form))))
 
 -- How a task on the file of this name ends, by what is held there, where no call failed and memory sufficed. An act, a
 -- look and a printing are on a file that is there; a file is made where none is. How a restore ends where no file is
@@ -121,12 +130,12 @@ pub record PrintsPairs (img : List ℕ) (e : Ending) : Type 0 where
 -- name.
 abbrev pub TaskDue : Task → List ℕ → Option History → Ending → Type 0
 TaskDue (On act) name None e = e ≡ Missing name
-TaskDue (On act) name (Some h) e = Replies act (seen h) e ⊎ Refuses (seen h) e
+TaskDue (On act) name (Some h) e = Replies act (seen h) e ⊎ Refuses act.limit (seen h) e
 TaskDue (Read look) name None e = e ≡ Missing name
 TaskDue (Read look) name (Some h) e = LookReplies look (seen h) e ⊎ RefusesToRead (seen h) e
-TaskDue (Print listing) name None e = e ≡ Missing name
-TaskDue (Print listing) name (Some h) e = PrintsPairs (seen h) e ⊎ Refuses (seen h) e
-TaskDue (Create form) name None e = e ≡ Replied Done
+TaskDue (Print listing limit) name None e = e ≡ Missing name
+TaskDue (Print listing limit) name (Some h) e = PrintsPairs limit (seen h) e ⊎ Refuses limit (seen h) e
+TaskDue (Create form) name None e = MakingDue form e
 TaskDue (Create form) name (Some h) e = e ≡ There name
 TaskDue (Restore limit) name None e = ⊥
 TaskDue (Restore limit) name (Some h) e = e ≡ There name
@@ -165,7 +174,7 @@ pub record CountedIf (tells : Bool) (before after : ℕ) (e : Ending) : Type 0 w
 abbrev pub has_openers : Task → Bool
 has_openers (On act) = false
 has_openers (Read look) = false
-has_openers (Print listing) = false
+has_openers (Print listing limit) = false
 has_openers (Create form) = false
 has_openers (Restore limit) = false
 has_openers (Backup more suffix) = false
@@ -182,7 +191,7 @@ asks_openers (Some ask) = has_openers ask.task
 abbrev pub CountedFor : Bool → Task → ℕ → ℕ → Ending → Type 0
 CountedFor tells (On act) before after e = CountedBy before after e
 CountedFor tells (Read look) before after e = CountedBy before after e
-CountedFor tells (Print listing) before after e = CountedBy before after e
+CountedFor tells (Print listing limit) before after e = CountedBy before after e
 CountedFor tells (Create form) before after e = CountedBy before after e
 CountedFor tells (Restore limit) before after e = CountedBy before after e
 CountedFor tells (Backup more suffix) before after e = CountedBy before after e
@@ -212,6 +221,7 @@ Untaken name Take.TheVariants.Memory e = e ≡ NoMemory
 abbrev pub MadeSo : List ℕ → Making.Creation → Ending → Type 0
 MadeSo name Making.TheVariants.Made e = e ≡ Replied Done
 MadeSo name Making.TheVariants.There e = (e ≡ There name) ⊎ (e ≡ NoMemory)
+MadeSo name (Making.TheVariants.TooLong len) e = e ≡ Refused (TooLong len)
 MadeSo name Making.TheVariants.Device e = e ≡ DeviceFault
 MadeSo name Making.TheVariants.Memory e = e ≡ NoMemory
 

@@ -1,5 +1,5 @@
 -- What a task leaves at the name of its file, by its ending.
-use Rattle.std.specs.Prelude.{◌≡◌, ◌⊎◌, ℕ, true, false, IsTrue, IsSome, Option, None, Some, List, ◌∷◌}
+use Rattle.std.specs.Prelude.{◌≡◌, ◌<◌, ◌⊎◌, ℕ, true, false, IsTrue, IsSome, Option, None, Some, List, ◌∷◌}
 use Rattle.tdb_disk.specs.History.{History, seen}
 use Rattle.tdb_ask.specs.declared.act.Act.{Act}
 use Rattle.tdb_ask.specs.declared.ask.Task.{Task}
@@ -7,13 +7,14 @@ use Rattle.tdb_ask.specs.declared.ask.Task.TheVariants.{Create, On, Read, Print,
 use Rattle.tdb_top.specs.declared.ending.Ending.{Ending}
 use Rattle.tdb_top.specs.declared.ending.Ending.TheVariants.{Replied, Refused, Missing, There, Usage, DeviceFault, InputFault, Malformed, NoMemory}
 use Rattle.tdb_top.specs.declared.ending.Reply.TheVariants.{Done, Restored}
+use Rattle.tdb_top.specs.declared.halt.Refusal.TheVariants.{TooLong}
 use Rattle.tdb_ask.specs.declared.lines.create.NewForm.{NewForm}
 use Rattle.tdb_top.specs.declared.commands.create.Creation as Making
 use Rattle.tdb_top.specs.Acts.{reply_of, Left, Interrupted}
 use Rattle.tdb_ask.specs.Ask.{Ask}
 use Rattle.tdb_ask.specs.CopyNames.{IsNameAmong}
 use Rattle.tdb_top.specs.Commands.Backup.{BackupLeaves}
-use Rattle.tdb_top.specs.Commands.Create.{CreateLeaves}
+use Rattle.tdb_top.specs.Commands.Create.{new_length, LeftEmpty, CreateLeaves}
 use Rattle.tdb_top.specs.Commands.Print.{PrintLeaves}
 use Rattle.tdb_top.specs.Commands.Restore.{IsRestored}
 use Rattle.tdb_top.specs.Commands.Session.{StaysThere}
@@ -22,12 +23,12 @@ use Rattle.tdb_top.specs.Commands.Generate.{GenLeaves}
 use Rattle.tdb_top.specs.Commands.Verify.{VerifyLeaves}
 use Rattle.tdb_top.specs.Ending.{status_of}
 use Rattle.tdb_top.specs.Input.{Input}
-use Rattle.tdb_top.specs.Opening.{opened_bytes, SameOrUndone, UndoneIfOpen}
+use Rattle.tdb_top.specs.Opening.{opened_bytes, SameOrUndone, OpenedBelow}
 
 -- What an act leaves of its file, which was there, where it ends so. It doesn't end as other tasks do.
 abbrev pub ActLeaves : Act → History → Ending → History → Type 0
 ActLeaves act old (Replied reply) now = (reply ≡ reply_of act (opened_bytes (seen old))) × Left act old now
-ActLeaves act old (Refused refusal) now = UndoneIfOpen old now
+ActLeaves act old (Refused refusal) now = OpenedBelow act.limit old now
 ActLeaves act old DeviceFault now = Interrupted act old now
 ActLeaves act old NoMemory now = SameOrUndone old now
 ActLeaves act old (Missing name) now = ⊥
@@ -42,7 +43,7 @@ MakingLeaves form old (Replied reply) now = (reply ≡ Done) × CreateLeaves for
 MakingLeaves form old (There name) now = CreateLeaves form.size form.order form.hash old Making.TheVariants.There now
 MakingLeaves form old DeviceFault now = CreateLeaves form.size form.order form.hash old Making.TheVariants.Device now
 MakingLeaves form old NoMemory now = CreateLeaves form.size form.order form.hash old Making.TheVariants.Memory now
-MakingLeaves form old (Refused refusal) now = ⊥
+MakingLeaves form old (Refused refusal) now = (refusal ≡ TooLong (new_length form)) × (form.limit < new_length form) × LeftEmpty old now
 MakingLeaves form old (Missing name) now = ⊥
 MakingLeaves form old Usage now = ⊥
 MakingLeaves form old InputFault now = ⊥
@@ -69,7 +70,7 @@ pub record RestoreLeaves (input : Input) (old : Option History) (e : Ending) (no
 abbrev pub TaskLeaves : Input → Task → List ℕ → (List ℕ → Option History) → Ending → (List ℕ → Option History) → Type 0
 TaskLeaves input (On act) file old e now = OnLeaves act (old file) e (now file)
 TaskLeaves input (Read look) file old e now = now file ≡ old file
-TaskLeaves input (Print listing) file old e now = PrintLeaves (old file) e (now file)
+TaskLeaves input (Print listing limit) file old e now = PrintLeaves limit (old file) e (now file)
 TaskLeaves input (Create form) file old e now = MakingLeaves form (old file) e (now file)
 TaskLeaves input (Restore limit) file old e now = RestoreLeaves input (old file) e (now file)
 TaskLeaves input (Backup more suffix) file old e now = BackupLeaves suffix (file ∷ more) old e now
@@ -83,7 +84,7 @@ TaskLeaves input (Generate commands seed) file old e now = GenLeaves commands se
 abbrev pub MayChange : Task → List ℕ → List ℕ → Type 0
 MayChange (On act) file name = name ≡ file
 MayChange (Read look) file name = name ≡ file
-MayChange (Print listing) file name = name ≡ file
+MayChange (Print listing limit) file name = name ≡ file
 MayChange (Create form) file name = name ≡ file
 MayChange (Restore limit) file name = name ≡ file
 MayChange (Turns options) file name = name ≡ file

@@ -155,6 +155,25 @@ HaltLeaves (Refused refusal) old now = UndoneIfOpen old now
 HaltLeaves Device old now = LookBroken old now
 HaltLeaves Memory old now = UndoneIfOpen old now
 
+-- a file with these bytes, which may have so many, is refused so: it has more, or any other opening refuses it so
+abbrev pub IsRefusedBelow : ℕ → List ℕ → Refusal → Type 0
+IsRefusedBelow limit img refusal = ((refusal ≡ TooLong (length img)) × (limit < length img)) ⊎ ((length img ≤ limit) × IsRefused img refusal)
+
+-- what its opening leaves of it: what it was, where it has more, and else it was undone, where it is one to be undone
+abbrev pub OpenedBelow : ℕ → History → History → Type 0
+OpenedBelow limit old now = ((limit < length (seen old)) × (now ≡ old)) ⊎ UndoneIfOpen old now
+
+-- where a file that may have so many bytes wasn't opened, it is refused so, and this is left of it
+abbrev pub HaltsBelow : ℕ → List ℕ → Halt → Type 0
+HaltsBelow limit img (Refused refusal) = IsRefusedBelow limit img refusal
+HaltsBelow limit img Device = Unit {0}
+HaltsBelow limit img Memory = Unit {0}
+
+abbrev pub LeavesBelow : ℕ → Halt → History → History → Type 0
+LeavesBelow limit (Refused refusal) old now = OpenedBelow limit old now
+LeavesBelow limit Device old now = LookBroken old now
+LeavesBelow limit Memory old now = UndoneIfOpen old now
+
 -- how a look halts where the front is refused
 abbrev pub of_front : Front.FrontRefusal → Halt
 of_front (Front.TheVariants.Short len) = Refused (Corrupt TooShort len)

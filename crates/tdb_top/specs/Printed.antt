@@ -22,7 +22,7 @@ use Rattle.tdb_top.specs.Looks.{LookText, look_tells, rest_of}
 abbrev pub TaskText : Task → List ℕ → (List ℕ → Option History) → Ending → List ℕ → Type 0
 TaskText (On act) name held e text = text ≡ []
 TaskText (Read look) name held e text = LookText look (held name) e text
-TaskText (Print listing) name held e text = PrintText listing (held name) e text
+TaskText (Print listing limit) name held e text = PrintText listing (held name) e text
 TaskText (Create form) name held e text = text ≡ []
 TaskText (Restore limit) name held e text = text ≡ []
 TaskText (Backup more suffix) name held e text = text ≡ []
@@ -41,7 +41,7 @@ TextBefore (Some ask) held e text = TaskText ask.task ask.file held e text
 abbrev pub task_tells : Task → Bool → Bool → Bool
 task_tells (On act) files output = output
 task_tells (Read look) files output = look_tells look files output
-task_tells (Print listing) files output = output && files
+task_tells (Print listing limit) files output = output && files
 task_tells (Create form) files output = output
 task_tells (Restore limit) files output = output
 task_tells (Backup more suffix) files output = output

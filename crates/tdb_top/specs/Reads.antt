@@ -19,7 +19,7 @@ use Rattle.tdb_top.specs.Input.{Input}
 abbrev pub reads_input : Task → Bool
 reads_input (On act) = false
 reads_input (Read look) = false
-reads_input (Print listing) = false
+reads_input (Print listing limit) = false
 reads_input (Create form) = false
 reads_input (Restore limit) = true
 reads_input (Backup more suffix) = false

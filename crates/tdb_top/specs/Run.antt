@@ -1,5 +1,5 @@
 -- What a run is: what it met, what it left, what it printed and how it exits; and what is promised of it.
-use Rattle.std.specs.Prelude.{◌≡◌, ◌≢◌, ◌⊎◌, ℕ, ◌≤◌, IsSome, Option, None, Some, List, [], ◌∷◌, ◌++◌, length, map, string_bytes, Contains, Bool, false, IsTrue}
+use Rattle.std.specs.Prelude.{◌≡◌, ◌≢◌, ◌⊎◌, ℕ, ◌<◌, ◌≤◌, IsSome, Option, None, Some, List, [], ◌∷◌, ◌++◌, length, map, string_bytes, Contains, Bool, false, IsTrue}
 use Rattle.std.specs.Prelude.{String}
 use Rattle.std.specs.Global.{Global}
 use Rattle.tdb_disk.specs.Count.{Rose}
@@ -21,7 +21,7 @@ use Rattle.tdb_top.specs.Output.{Output}
 use Rattle.tdb_top.specs.Printed.{TextBefore, ask_tells, Writes}
 use Rattle.tdb_ask.specs.CopyNames.{IsForCopyAmong, IsForRestoreAmong}
 use Rattle.tdb_top.specs.Commands.Backup.{CopiedAll, StoppedAt, BackupEnds}
-use Rattle.tdb_top.specs.Commands.Create.{CreateLeaves}
+use Rattle.tdb_top.specs.Commands.Create.{new_length, LeftEmpty, CreateLeaves}
 use Rattle.tdb_top.specs.Commands.Restore.{ReadSo}
 use Rattle.tdb_top.specs.Commands.Session.{ServesSo, session_options, IsServed, IsServedSoFar}
 use Rattle.tdb_top.specs.Commands.Turns.{PlaysSo, TurnOpened, IsPlayed, IsPlayedSoFar}
@@ -35,7 +35,7 @@ use Rattle.tdb_world.specs.declared.options.Options.{Options}
 use Rattle.tdb_top.specs.Input.{Input}
 use Rattle.tdb_top.specs.Left.{HasRestored, MayChange}
 use Rattle.tdb_top.specs.Reads.{ask_reads}
-use Rattle.tdb_top.specs.Opening.{opened_bytes, OpensToRead, HeldOrUndone, SameOrUndone, UndoneIfOpen, LookBroken}
+use Rattle.tdb_top.specs.Opening.{opened_bytes, OpensToRead, HeldOrUndone, SameOrUndone, LookBroken, OpenedBelow}
 
 -- a run: what its words ask for, what is held at each name before and after, how often calls of the files had failed
 -- before and after, what the input had, what the output took, and the status that the program exits with
@@ -103,19 +103,19 @@ pub record LooksInto (run : Run) (look : Look) (name : List ℕ) (old : History)
   pub there : run.old name ≡ Some old
 
 -- the words ask to print the pairs of a file that is there and has this history
-pub record PrintsOf (run : Run) (listing : Listing) (name : List ℕ) (old : History) : Type 0 where
-  pub asks : run.ask ≡ Some (record { file = name; task = Print listing })
+pub record PrintsOf (run : Run) (listing : Listing) (limit : ℕ) (name : List ℕ) (old : History) : Type 0 where
+  pub asks : run.ask ≡ Some (record { file = name; task = Print listing limit })
   pub there : run.old name ≡ Some old
 
 -- Status 3 comes only over a file whose bytes can't be opened, in the way that the command opens it; and over each that
 -- is no longer than the longest nothing else comes, unless a call failed or memory was wanting.
 pub record RefusesExactly (run : Run) : Type 0 where
   pub only : (act : Act) (name : List ℕ) (h : History) → ActsOn run act name h → run.status ≡ 3 → Opens (seen h) → ⊥
-  pub exact : (act : Act) (name : List ℕ) (h : History) → ActsOn run act name h → (Opens (seen h) → ⊥) → length (seen h) ≤ LONGEST_FILE → (run.status ≡ 3) ⊎ TellsFault run.status
+  pub exact : (act : Act) (name : List ℕ) (h : History) → ActsOn run act name h → (Opens (seen h) → ⊥) → length (seen h) ≤ LONGEST_FILE → length (seen h) ≤ act.limit → (run.status ≡ 3) ⊎ TellsFault run.status
   pub read_only : (look : Look) (name : List ℕ) (h : History) → LooksInto run look name h → run.status ≡ 3 → OpensToRead (seen h) → ⊥
   pub read_exact : (look : Look) (name : List ℕ) (h : History) → LooksInto run look name h → (OpensToRead (seen h) → ⊥) → length (seen h) ≤ LONGEST_FILE → (run.status ≡ 3) ⊎ TellsFault run.status
-  pub print_only : (listing : Listing) (name : List ℕ) (h : History) → PrintsOf run listing name h → run.status ≡ 3 → Opens (seen h) → ⊥
-  pub print_exact : (listing : Listing) (name : List ℕ) (h : History) → PrintsOf run listing name h → (Opens (seen h) → ⊥) → length (seen h) ≤ LONGEST_FILE → (run.status ≡ 3) ⊎ TellsFault run.status
+  pub print_only : (listing : Listing) (limit : ℕ) (name : List ℕ) (h : History) → PrintsOf run listing limit name h → run.status ≡ 3 → Opens (seen h) → ⊥
+  pub print_exact : (listing : Listing) (limit : ℕ) (name : List ℕ) (h : History) → PrintsOf run listing limit name h → (Opens (seen h) → ⊥) → length (seen h) ≤ LONGEST_FILE → length (seen h) ≤ limit → (run.status ≡ 3) ⊎ TellsFault run.status
 
 -- a status after which every file is as before or undone, whatever the words ask for, but for copies and restored files,
 -- and for turns and sessions that ended in their midst (`EndsMidway`): it says neither that it was done, nor that a call of the files or
@@ -124,10 +124,11 @@ abbrev pub KeepsAll : ℕ → Type 0
 KeepsAll status = (status ≢ 0) × (status ≢ 4) × (status ≢ 8)
 
 -- a task may end with this status when some of its plays were taken: memory may be wanting, and a line of a session
--- none
+-- none; or when an empty file was made in place of one that would be too long
 abbrev pub EndsMidway : Task → ℕ → Type 0
 EndsMidway (Turns options) status = status ≡ 5
 EndsMidway (Session limit) status = (status ≡ 5) ⊎ (status ≡ 7)
+EndsMidway (Create form) status = form.limit < new_length form
 EndsMidway task status = ⊥
 
 -- What a run leaves of the file of an act, which held this, by its status. Want of memory, status 5, may come before
@@ -139,22 +140,27 @@ pub record ActRun (act : Act) (old : History) (before after status : ℕ) (now :
   pub done : status ≡ 0 → Left act old now
   pub failed : status ≡ 4 → Interrupted act old now
   pub kept : KeepsAll status → SameOrUndone old now
-  pub exact : KeepsAll status → status ≢ 5 → UndoneIfOpen old now
+  pub exact : KeepsAll status → status ≢ 5 → OpenedBelow act.limit old now
+
+-- a file was to be made that would have more bytes than it may: it is empty
+abbrev pub IsLeftEmpty : NewForm → Option History → Option History → Type 0
+IsLeftEmpty form old now = (form.limit < new_length form) × LeftEmpty old now
 
 -- What a run leaves of the file whose pairs are printed, which held this: what its opening leaves. Want of memory, status
 -- 5, may come before the file was opened, and after a fault of the output, status 8, the opening may have failed.
-pub record PrintRun (old : History) (before after status : ℕ) (now : History) : Type 0 where
+pub record PrintRun (limit : ℕ) (old : History) (before after status : ℕ) (now : History) : Type 0 where
   pub any : SameOrUndone old now ⊎ (Rose before after × LookBroken old now)
   pub failed : status ≡ 4 → LookBroken old now
   pub kept : status ≢ 4 → status ≢ 8 → SameOrUndone old now
-  pub exact : status ≢ 4 → status ≢ 5 → status ≢ 8 → UndoneIfOpen old now
+  pub exact : status ≢ 4 → status ≢ 5 → status ≢ 8 → OpenedBelow limit old now
 
 -- what a run leaves at the name of a file that is to be made, in the same way
 pub record MakingRun (form : NewForm) (old : Option History) (before after status : ℕ) (now : Option History) : Type 0 where
-  pub any : (now ≡ old) ⊎ CreateLeaves form.size form.order form.hash old Made now ⊎ (Rose before after × CreateLeaves form.size form.order form.hash old Device now)
+  pub any : (now ≡ old) ⊎ CreateLeaves form.size form.order form.hash old Made now ⊎ (Rose before after × CreateLeaves form.size form.order form.hash old Device now) ⊎ IsLeftEmpty form old now
   pub done : status ≡ 0 → CreateLeaves form.size form.order form.hash old Made now
   pub failed : status ≡ 4 → CreateLeaves form.size form.order form.hash old Device now
-  pub kept : KeepsAll status → now ≡ old
+  pub too_long : status ≡ 6 → IsLeftEmpty form old now
+  pub kept : KeepsAll status → (now ≡ old) ⊎ IsLeftEmpty form old now
 
 -- What a run leaves at the name of a file that is to be made of the pairs on the input. Where the status is neither 0 nor 4
 -- no file is left that wasn't there, unless a call of the files failed and then the output too.
@@ -225,9 +231,9 @@ pub record LeavesFiles (run : Run) : Type 0 where
   pub verified : (more : List (List ℕ)) (suffix name : List ℕ) → run.ask ≡ Some (record { file = name; task = Verify more suffix })
       → VerifyRun suffix (name ∷ more) run.old run.faults_before run.faults_after run.status run.now
   pub read : (look : Look) (name : List ℕ) → run.ask ≡ Some (record { file = name; task = Read look }) → run.now name ≡ run.old name
-  pub printed : (listing : Listing) (name : List ℕ) (old : History) → PrintsOf run listing name old
-      → (h : History) × (run.now name ≡ Some h) × PrintRun old run.faults_before run.faults_after run.status h
-  pub unprinted : (listing : Listing) (name : List ℕ) → run.ask ≡ Some (record { file = name; task = Print listing }) → run.old name ≡ None → run.now name ≡ None
+  pub printed : (listing : Listing) (limit : ℕ) (name : List ℕ) (old : History) → PrintsOf run listing limit name old
+      → (h : History) × (run.now name ≡ Some h) × PrintRun limit old run.faults_before run.faults_after run.status h
+  pub unprinted : (listing : Listing) (limit : ℕ) (name : List ℕ) → run.ask ≡ Some (record { file = name; task = Print listing limit }) → run.old name ≡ None → run.now name ≡ None
   pub turned : (options : Options) (name : List ℕ) (old : History) → run.ask ≡ Some (record { file = name; task = Turns options }) → run.old name ≡ Some old
       → (h : History) × (run.now name ≡ Some h) × TurnsRun options run.input run.output old run.faults_before run.faults_after run.status h
   pub unturned : (options : Options) (name : List ℕ) → run.ask ≡ Some (record { file = name; task = Turns options }) → run.old name ≡ None → run.now name ≡ None

@@ -26,7 +26,7 @@ use crate::ending::{Ending, Reply};
 use crate::halt::{Fault, Halt};
 use crate::opening::Opened;
 use std::alloc::Global;
-use tdb_ask::Act;
+use tdb_ask::{Act, Verb};
 use tdb_disk::{Disk, Files, Take};
 
 /// Acts on an opened file.
@@ -35,32 +35,46 @@ fn perform<D: Disk>(alloc: Global, act: &Act, disk: &mut D, opened: &Opened) -> 
     requires length { opened.now.len ≡ D.size disk.old }
     requires within { IsTrue D.tells → length (seen (D.history disk.old)) < 2 ^ 32 }
     requires opened { IsTrue D.tells → IsCheckedOn (seen (D.history disk.old)) opened.now }
-    ensures acted { IsTrue D.tells → Acted act.now (D.history disk.old) (D.history disk.new) result }
+    ensures acted { IsTrue D.tells → Acted act.now.limit act.now.verb (D.history disk.old) (D.history disk.new) result }
     ensures cause { HasCauseOf FaultIs.Device (D.faults disk.old) (D.faults disk.new) result }
 {
-    match act {
-        Act::Show { key } => show(alloc, disk, opened, key.as_slice()),
-        Act::Insert { key, value } => {
-            insert(alloc, disk, opened, key.as_slice(), value.as_slice())
+    match &act.verb {
+        Verb::Show { key } => show(alloc, disk, opened, key.as_slice()),
+        Verb::Insert { key, value } => {
+            insert(
+                alloc,
+                disk,
+                opened,
+                key.as_slice(),
+                value.as_slice(),
+                act.limit,
+            )
         }
-        Act::Store { key, value } => {
-            store(alloc, disk, opened, key.as_slice(), value.as_slice())
+        Verb::Store { key, value } => {
+            store(
+                alloc,
+                disk,
+                opened,
+                key.as_slice(),
+                value.as_slice(),
+                act.limit,
+            )
         }
-        Act::Delete { key } => delete(disk, opened, key.as_slice()),
-        Act::Erase => erase(disk, opened),
-        Act::Check => Ok(check(opened)),
-        Act::First => first(alloc, disk, opened),
-        Act::Next => Ok(next()),
+        Verb::Delete { key } => delete(disk, opened, key.as_slice()),
+        Verb::Erase => erase(disk, opened),
+        Verb::Check => Ok(check(opened)),
+        Verb::First => first(alloc, disk, opened),
+        Verb::Next => Ok(next()),
     }
 }
 
-/// Opens the file on a disk, and acts on it.
+/// Opens the file on a disk, unless it has more bytes than it may, and acts on it.
 fn act_on_disk<D: Disk>(alloc: Global, act: &Act, disk: &mut D) -> Result<Reply, Halt>
     requires fits { ActFits act.now }
     ensures acted { IsTrue D.tells → OpenedAndActed act.now (D.history disk.old) (D.history disk.new) result }
     ensures cause { HasCauseOf HaltIs.Device (D.faults disk.old) (D.faults disk.new) result }
 {
-    let opened = Opened::open(alloc, disk)?;
+    let opened = Opened::open_below(alloc, disk, act.limit)?;
     let reply = perform(alloc, act, disk, &opened)?;
     Ok(reply)
 }

@@ -63,7 +63,9 @@ pub(crate) fn answer_ask<F: Files, S: Source, K: Sink>(
     match &ask.task {
         Task::On(act) => Ok(act_on_file(alloc, name, act, files)),
         Task::Read(look) => look_on_file(alloc, name, look, files, output),
-        Task::Print(listing) => print_on_file(alloc, name, *listing, files, output),
+        Task::Print { listing, limit } => {
+            print_on_file(alloc, name, *listing, *limit, files, output)
+        }
         Task::Create(form) => {
             let creation = create_file(alloc, name, *form, files);
             Ok(Ending::made(alloc, name, creation))

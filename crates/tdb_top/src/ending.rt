@@ -217,6 +217,7 @@ impl Ending {
         match creation {
             Creation::Made => Ending::Replied(Reply::Done),
             Creation::There => Ending::is_there(alloc, name),
+            Creation::TooLong { len } => Ending::Refused(Refusal::TooLong { len }),
             Creation::Device => Ending::DeviceFault,
             Creation::Memory => Ending::NoMemory,
         }

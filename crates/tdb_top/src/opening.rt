@@ -1,6 +1,6 @@
 // The opening of a file: an unfinished change is undone, and no file is used before the whole of it is checked.
 
-ghost use Rattle.std.specs.Prelude.{◌≡◌, ◌+◌, ◌*◌, ◌<◌, ◌≤◌, true, IsTrue, IfOk, IfErr, OnOk};
+ghost use Rattle.std.specs.Prelude.{◌≡◌, ◌+◌, ◌*◌, ◌<◌, ◌≤◌, true, length, IsTrue, IfOk, IfErr, OnOk};
 ghost use Rattle.tdb_disk.specs.Count.{HasCauseOf};
 ghost use Rattle.tdb_disk.specs.History.{seen};
 ghost use Rattle.tdb_space.specs.Form.{form_in};
@@ -49,7 +49,7 @@ fn check_disk<D: Disk>(alloc: Global, disk: &mut D, header: &Header) -> Result<R
 impl Opened {
     ghost use Rattle.tdb_top.specs.declared.halt.Halt.TheVariants.{Device};
     ghost use Rattle.tdb_ask.specs.declared.limits.TheConstants.{LONGEST_FILE as LONGEST};
-    ghost use Rattle.tdb_top.specs.Opening.{opened_bytes, CanRead, HasOpenGate, asks_for_undo, HaltsRightly, ReadHaltsRightly, HaltsAtFault, HaltLeaves, UndoneIfOpen, IsOpenedOn, IsCheckedOn};
+    ghost use Rattle.tdb_top.specs.Opening.{opened_bytes, CanRead, HasOpenGate, asks_for_undo, HaltsRightly, ReadHaltsRightly, HaltsAtFault, HaltLeaves, HaltsBelow, LeavesBelow, UndoneIfOpen, IsOpenedOn, IsCheckedOn};
 
     /// Opens the file on a disk after it was undone: its header is read again, and the whole file is checked. It
     /// changes nothing.
@@ -146,5 +146,30 @@ impl Opened {
             return Opened::recovered(alloc, disk);
         }
         Err(halt)
+    }
+
+    /// Opens it so unless it has more than so many bytes, and then leaves it as it is.
+    pub(crate) fn open_below<D: Disk>(
+        alloc: Global,
+        disk: &mut D,
+        limit: u64,
+    ) -> Result<Opened, Halt>
+        ensures within { OnOk result (IsTrue D.tells → length (seen (D.history disk.old)) ≤ limit) }
+        ensures opened { IfOk result (λ o. IsTrue D.tells → IsOpenedOn (seen (D.history disk.old)) o) }
+        ensures checked { IfOk result (λ o. IsTrue D.tells → IsCheckedOn (seen (D.history disk.new)) o) }
+        ensures length { IfOk result (λ o. o.len ≡ D.size disk.new) }
+        ensures reads { OnOk result (IsTrue D.tells → seen (D.history disk.new) ≡ opened_bytes (seen (D.history disk.old))) }
+        ensures left { OnOk result (IsTrue D.tells → UndoneIfOpen (D.history disk.old) (D.history disk.new)) }
+        ensures refused { IfErr result (λ halt. IsTrue D.tells → HaltsBelow limit (seen (D.history disk.old)) halt) }
+        ensures halted { IfErr result (λ halt. IsTrue D.tells → LeavesBelow limit halt (D.history disk.old) (D.history disk.new)) }
+        ensures cause { HasCauseOf Device (D.faults disk.old) (D.faults disk.new) result }
+    {
+        let len = disk.len()?;
+        if len > limit {
+            return Err(Halt::Refused {
+                refusal: Refusal::TooLong { len },
+            });
+        }
+        Opened::open(alloc, disk)
     }
 }

@@ -14,7 +14,11 @@ mod images;
 #[cfg(test)]
 mod inserts;
 #[cfg(test)]
+mod limits;
+#[cfg(test)]
 mod lines;
+#[cfg(test)]
+mod options;
 #[cfg(test)]
 mod printing;
 #[cfg(test)]

@@ -135,7 +135,11 @@ fn prints_to_a_failing_output(rt: HostRuntime) -> Result<(), Fail> {
         let (found, printed) = run_words(alloc, &mut files, &mut output, words)?;
         assert_eq!(rt; found, 8, "{words}");
         assert!(rt; printed.is_empty(), "{words}");
-        assert_eq!(rt; files.get("f.tdb").unwrap_or(&[]), one_record().as_slice(), "{words}");
+        assert_eq!(rt;
+            files.get("f.tdb").unwrap_or(&[]),
+            one_record().as_slice(),
+            "{words}"
+        );
     }
     Ok(())
 }

@@ -30,10 +30,10 @@ hash_of_words [] = Some (Old, Little)
 hash_of_words (word ∷ rest) =
     option_and_then (λ hash. option_map (λ order. (hash, order)) (order_of_words rest)) (lookup (same_key word) hashes)
 
--- a new file with so many chains, this hash and this byte order
-abbrev pub form_with : ℕ → HashKind × Order → NewForm
-form_with size named = record { size = size; hash = named.0; order = named.1 }
+-- a new file that may have so many bytes, with so many chains, this hash and this byte order
+abbrev pub form_with : ℕ → ℕ → HashKind × Order → NewForm
+form_with limit size named = record { size = size; hash = named.0; order = named.1; limit = limit }
 
-abbrev pub create_of : List (List ℕ) → Option NewForm
-create_of [] = Some (form_with DEFAULT_SIZE (Old, Little))
-create_of (word ∷ rest) = option_and_then (λ size. option_map (form_with size) (hash_of_words rest)) (size_of word)
+abbrev pub create_of : ℕ → List (List ℕ) → Option NewForm
+create_of limit [] = Some (form_with limit DEFAULT_SIZE (Old, Little))
+create_of limit (word ∷ rest) = option_and_then (λ size. option_map (form_with limit size) (hash_of_words rest)) (size_of word)

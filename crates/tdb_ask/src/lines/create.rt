@@ -1,11 +1,12 @@
 // The arguments of the command that makes a new file: how many chains it gets, its hash and its byte order.
 
-ghost use Rattle.std.specs.Prelude.{◌≡◌, ◌<◌, map, string_bytes, IfSome};
+ghost use Rattle.std.specs.Prelude.{◌≡◌, ◌<◌, IfSome};
 ghost use Rattle.std.specs.Map.{lookup};
 ghost use Rattle.tdb_space.specs.Pairs.{same_key};
 ghost use Rattle.tdb_ask.specs.Lines.Create.{orders, hashes, order_of_words, hash_of_words, create_of};
 
 use crate::limits::DEFAULT_SIZE;
+use crate::names::Text;
 use crate::words::size_of;
 use tdb_words::{HashKind, Order};
 
@@ -16,6 +17,9 @@ pub struct NewForm {
     pub size: u32,
     pub hash: HashKind,
     pub order: Order,
+
+    /// How many bytes the file may have.
+    pub limit: u64,
 }
 
 /// The byte order of this name.
@@ -41,8 +45,8 @@ fn hash_named(word: &str) -> Option<HashKind>
 }
 
 /// The byte order that the last arguments ask for.
-fn read_order(arguments: &[String]) -> Option<Order>
-    ensures { result ≡ order_of_words (map string_bytes arguments.now) }
+fn read_order(arguments: &[Text]) -> Option<Order>
+    ensures { result ≡ order_of_words arguments.now }
 {
     match arguments {
         [] => Some(Order::Little),
@@ -52,8 +56,8 @@ fn read_order(arguments: &[String]) -> Option<Order>
 }
 
 /// The hash and the byte order that the arguments behind the size ask for.
-fn read_hash(arguments: &[String]) -> Option<(HashKind, Order)>
-    ensures { result ≡ hash_of_words (map string_bytes arguments.now) }
+fn read_hash(arguments: &[Text]) -> Option<(HashKind, Order)>
+    ensures { result ≡ hash_of_words arguments.now }
 {
     let [word, rest @ ..] = arguments else {
         return Some((HashKind::Old, Order::Little));
@@ -64,9 +68,9 @@ fn read_hash(arguments: &[String]) -> Option<(HashKind, Order)>
 }
 
 impl NewForm {
-    /// Reads the arguments of `create`.
-    pub(crate) fn of(arguments: &[String]) -> Option<NewForm>
-        ensures read { result ≡ create_of (map string_bytes arguments.now) }
+    /// Reads the arguments of `create`, where the file may have so many bytes.
+    pub(crate) fn of(limit: u64, arguments: &[Text]) -> Option<NewForm>
+        ensures read { result ≡ create_of limit arguments.now }
         ensures some { IfSome result (λ form. 0 < form.size) }
     {
         let [word, rest @ ..] = arguments else {
@@ -74,10 +78,16 @@ impl NewForm {
                 size: DEFAULT_SIZE,
                 hash: HashKind::Old,
                 order: Order::Little,
+                limit,
             });
         };
         let size = size_of(word.as_str())?;
         let (hash, order) = read_hash(rest)?;
-        Some(NewForm { size, hash, order })
+        Some(NewForm {
+            size,
+            hash,
+            order,
+            limit,
+        })
     }
 }

@@ -1,5 +1,5 @@
 -- The command that makes a new file, has generated commands done on it, and tells their summary.
-use Rattle.std.specs.Prelude.{◌≡◌, ◌⊎◌, ℕ, IsSome, Option, None, Some, Result, Ok, Err, List}
+use Rattle.std.specs.Prelude.{◌≡◌, ◌⊎◌, ℕ, IsSome, Option, None, Some, Result, Ok, Err, List, []}
 use Rattle.std.specs.FinMap.{empty}
 use Rattle.tdb_words.specs.declared.word.Order.TheVariants.{Little}
 use Rattle.tdb_words.specs.declared.hash.HashKind.TheVariants.{Old}
@@ -18,14 +18,14 @@ use Rattle.tdb_gen.specs.declared.summary.Summary.{Summary}
 use Rattle.tdb_top.specs.declared.ending.Ending.{Ending}
 use Rattle.tdb_top.specs.declared.ending.Ending.TheVariants.{Replied, Refused, Missing, There, Usage, DeviceFault, InputFault, Malformed, NoMemory}
 use Rattle.tdb_top.specs.declared.ending.Reply.TheVariants.{Generated, Unfinished}
-use Rattle.tdb_ask.specs.declared.limits.TheConstants.{DEFAULT_SIZE}
+use Rattle.tdb_ask.specs.declared.limits.TheConstants.{DEFAULT_SIZE, LONGEST_FILE}
 use Rattle.tdb_top.specs.Commands.Create.{new_image}
 use Rattle.tdb_top.specs.Commands.Restore.{new_form}
-use Rattle.tdb_ask.specs.Lines.Turns.{no_words, options_in}
+use Rattle.tdb_ask.specs.Lines.Turns.{options_with}
 
--- the openers of the commands open the file as turns do where no word says otherwise
+-- the openers of the commands open the file as turns do where no option says otherwise
 abbrev pub gen_options : Options
-gen_options = options_in no_words
+gen_options = options_with [] LONGEST_FILE
 
 -- the bytes of the file before the commands: those of a new one where nothing else is asked for
 abbrev pub new_file : List ℕ

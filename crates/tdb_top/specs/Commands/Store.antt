@@ -9,7 +9,6 @@ use Rattle.tdb_edit.specs.Edited.{KeyChanged}
 use Rattle.tdb_edit.specs.Stored.{has_room}
 use Rattle.tdb_top.specs.declared.ending.Reply.{Reply}
 use Rattle.tdb_top.specs.declared.ending.Reply.TheVariants.{Done, Full}
-use Rattle.tdb_ask.specs.declared.limits.TheConstants.{LONGEST_FILE}
 use Rattle.tdb_top.specs.Commands.Insert.{need_for}
 
 -- what is replied over a file that is read as these bytes and may have so many: that it is done, where the file has room for
@@ -19,15 +18,14 @@ store_reply limit key value img =
     if has_room (form_of img) img (rec_len_for (length key) (length value)) limit then Done
     else Full (length img) (need_for key value)
 
--- a file that had these bytes is as long as before, or as long as a growth for so many bytes makes it, within the
--- longest
-abbrev pub GrewFor : ℕ → List ℕ → List ℕ → Type 0
-GrewFor need old now = (length now ≡ length old) ⊎ (grown_length (length old) need LONGEST_FILE ≡ Some (length now))
+-- a file that had these bytes and may have so many is as long as before, or as long as a growth for `need` bytes makes it
+abbrev pub GrewFor : ℕ → ℕ → List ℕ → List ℕ → Type 0
+GrewFor limit need old now = (length now ≡ length old) ⊎ (grown_length (length old) need limit ≡ Some (length now))
 
 -- What a store that was done leaves of a file that had this history: an accepted file of the same form, whose map is
 -- the old one with the value at the key, and which grew at most once, for one record. All of it is on the medium. What
 -- a call that failed in its midst leaves isn't said.
-pub record Stores (key value : List ℕ) (old now : History) : Type 0 where
+pub record Stores (limit : ℕ) (key value : List ℕ) (old now : History) : Type 0 where
   pub changed : KeyChanged (form_of (seen old)) (seen old) (seen now) key (Some value)
-  pub grown : GrewFor (need_for key value) (seen old) (seen now)
+  pub grown : GrewFor limit (need_for key value) (seen old) (seen now)
   pub quiet : Quiet now

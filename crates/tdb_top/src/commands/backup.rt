@@ -81,6 +81,7 @@ fn copy_file<D: Disk>(
         size: opened.header.hash_size,
         hash: opened.header.hash,
         order: opened.header.order,
+        limit: LONGEST_FILE,
     };
     let Ok(()) = make(to, form) else {
         return Err(CopyRefusal::Write);

@@ -4,7 +4,7 @@ ghost use Rattle.std.specs.Prelude.{◌≡◌, ◌<◌, ◌≤◌, ◌+◌, ◌*
 ghost use Rattle.tdb_disk.specs.Count.{HasCause, Rose};
 ghost use Rattle.tdb_disk.specs.History.{seen};
 ghost use Rattle.tdb_disk.specs.Names.{SameBut};
-ghost use Rattle.tdb_top.specs.Commands.Create.{IsMade, MadeInPart, CreateCause, CreateLeaves};
+ghost use Rattle.tdb_top.specs.Commands.Create.{new_length, IsMade, MadeInPart, CreateCause, CreateLeaves};
 ghost use Rattle.tdb_top.specs.declared.commands.create.Creation.TheVariants.{Device as IsDevice};
 
 use std::alloc::Global;
@@ -24,14 +24,23 @@ pub(crate) enum Creation {
     /// There is a file of this name.
     There,
 
+    /// The file would have so many bytes, which are more than it may; an empty one is left.
+    TooLong { len: u64 },
+
     /// A call of the files or of the disk failed.
     Device,
     Memory,
 }
 
+/// How many bytes a new file has.
+fn length_of(form: NewForm) -> u64
+    ensures { result ≡ new_length form }
+{
+    HEADER_LEN + 4 * (u64::from(form.size) + 1)
+}
+
 /// Makes an empty disk a new file of 172 bytes and 4 for each chain: one call each to grow, to write the header and
-/// to sync. The
-/// heads of the free list and of the chains are the zeros that growing puts there.
+/// to sync. The heads of the free list and of the chains are the zeros that growing puts there.
 pub(crate) fn make<D: Disk>(disk: &mut D, form: NewForm) -> Result<(), DiskFault>
     requires empty { D.size disk.old ≡ 0 }
     requires some { 0 < form.size }
@@ -40,12 +49,12 @@ pub(crate) fn make<D: Disk>(disk: &mut D, form: NewForm) -> Result<(), DiskFault
     ensures length { OnOk result (D.size disk.new ≡ 172 + 4 * form.size) }
     ensures cause { HasCause (D.faults disk.old) (D.faults disk.new) result }
 {
-    disk.grow(HEADER_LEN + 4 * (u64::from(form.size) + 1))?;
+    disk.grow(length_of(form))?;
     disk.write(0, &header_bytes(form.size, form.order, form.hash))?;
     disk.sync()
 }
 
-/// Makes a file of this name where there is none.
+/// Makes a file of this name where there is none. Where it would have more bytes than it may, it is left empty.
 pub(crate) fn create_file<F: Files>(
     alloc: Global,
     name: &str,
@@ -54,7 +63,7 @@ pub(crate) fn create_file<F: Files>(
 ) -> Creation
     requires some { 0 < form.size }
     requires free { (other : List ℕ) → F.is_taken files.old other ≡ false }
-    ensures cause { IsTrue F.D.tells → CreateCause (F.held files.old name.now) (F.faults files.old) (F.faults files.new) result }
+    ensures cause { IsTrue F.D.tells → CreateCause form (F.held files.old name.now) (F.faults files.old) (F.faults files.new) result }
     ensures device { result ≡ IsDevice → Rose (F.faults files.old) (F.faults files.new) }
     ensures sound { (result ≡ IsDevice → ⊥) → F.faults files.new ≡ F.faults files.old }
     ensures given_back { (other : List ℕ) → F.is_taken files.new other ≡ false }
@@ -63,6 +72,12 @@ pub(crate) fn create_file<F: Files>(
     ensures faults { F.faults files.old ≤ F.faults files.new }
 {
     match files.take(alloc, name, Take::New) {
+        Ok(disk) if length_of(form) > form.limit => {
+            files.give(name, disk);
+            Creation::TooLong {
+                len: length_of(form),
+            }
+        }
         Ok(mut disk) => {
             let made = make(&mut disk, form);
             files.give(name, disk);

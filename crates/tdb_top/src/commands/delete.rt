@@ -1,11 +1,11 @@
 // The command that deletes a key.
 
-ghost use Rattle.std.specs.Prelude.{◌≡◌, ◌^◌, ◌<◌, false, length, IsTrue, IfOk, OnErr};
+ghost use Rattle.std.specs.Prelude.{◌≡◌, ◌^◌, ◌<◌, false, ℕ, length, IsTrue, IfOk, OnErr};
 ghost use Rattle.tdb_disk.specs.Count.{HasCause, HasCauseOf};
 ghost use Rattle.tdb_disk.specs.History.{seen};
 ghost use Rattle.tdb_space.specs.Form.{form_of};
 ghost use Rattle.tdb_edit.specs.Edited.{Deleted};
-ghost use Rattle.tdb_ask.specs.declared.act.Act.TheVariants.{Delete};
+ghost use Rattle.tdb_ask.specs.declared.act.Verb.TheVariants.{Delete};
 ghost use Rattle.tdb_top.specs.declared.halt.Fault.TheVariants.{Device};
 ghost use Rattle.tdb_top.specs.Acts.{Acted};
 ghost use Rattle.tdb_top.specs.Commands.Delete.{DeleteBroken};
@@ -36,7 +36,7 @@ pub(crate) fn delete<D: Disk>(disk: &mut D, opened: &Opened, key: &[u8]) -> Resu
     requires short { length key.now < 2 ^ 32 }
     requires within { IsTrue D.tells → length (seen (D.history disk.old)) < 2 ^ 32 }
     requires opened { IsTrue D.tells → IsCheckedOn (seen (D.history disk.old)) opened.now }
-    ensures acted { IsTrue D.tells → Acted (Delete key.now) (D.history disk.old) (D.history disk.new) result }
+    ensures acted { (limit : ℕ) → IsTrue D.tells → Acted limit (Delete key.now) (D.history disk.old) (D.history disk.new) result }
     ensures cause { HasCauseOf Device (D.faults disk.old) (D.faults disk.new) result }
 {
     if !take_out(disk, opened, key)? {

@@ -1,11 +1,11 @@
 // The command that takes all keys out of a file.
 
-ghost use Rattle.std.specs.Prelude.{◌^◌, ◌<◌, length, IsTrue, OnOk, OnErr};
+ghost use Rattle.std.specs.Prelude.{◌^◌, ◌<◌, ℕ, length, IsTrue, OnOk, OnErr};
 ghost use Rattle.tdb_disk.specs.Count.{HasCause, HasCauseOf};
 ghost use Rattle.tdb_disk.specs.History.{seen};
 ghost use Rattle.tdb_space.specs.Form.{form_of};
 ghost use Rattle.tdb_steps.specs.Wiped.{Wiped};
-ghost use Rattle.tdb_ask.specs.declared.act.Act.TheVariants.{Erase};
+ghost use Rattle.tdb_ask.specs.declared.act.Verb.TheVariants.{Erase};
 ghost use Rattle.tdb_top.specs.declared.halt.Fault.TheVariants.{Device};
 ghost use Rattle.tdb_top.specs.Acts.{Acted};
 ghost use Rattle.tdb_top.specs.Commands.Erase.{EraseBroken};
@@ -33,7 +33,7 @@ fn wipe<D: Disk>(disk: &mut D, opened: &Opened) -> Result<(), Io>
 pub(crate) fn erase<D: Disk>(disk: &mut D, opened: &Opened) -> Result<Reply, Fault>
     requires within { IsTrue D.tells → length (seen (D.history disk.old)) < 2 ^ 32 }
     requires opened { IsTrue D.tells → IsCheckedOn (seen (D.history disk.old)) opened.now }
-    ensures acted { IsTrue D.tells → Acted Erase (D.history disk.old) (D.history disk.new) result }
+    ensures acted { (limit : ℕ) → IsTrue D.tells → Acted limit Erase (D.history disk.old) (D.history disk.new) result }
     ensures cause { HasCauseOf Device (D.faults disk.old) (D.faults disk.new) result }
 {
     wipe(disk, opened)?;

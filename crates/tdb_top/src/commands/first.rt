@@ -1,12 +1,15 @@
 // The commands that show the first pair of a file, and the one behind it.
 
-ghost use Rattle.std.specs.Prelude.{◌≡◌, IsTrue};
+ghost use Rattle.std.specs.Prelude.{◌≡◌, ℕ, IsTrue, IfOk};
 ghost use Rattle.tdb_disk.specs.Count.{HasCauseOf};
 ghost use Rattle.tdb_disk.specs.History.{seen};
-ghost use Rattle.tdb_ask.specs.declared.act.Act.TheVariants.{First};
+ghost use Rattle.tdb_space.specs.Form.{form_of};
+ghost use Rattle.tdb_space.specs.Pairs.{order_of};
+ghost use Rattle.tdb_ask.specs.declared.act.Verb.TheVariants.{First};
 ghost use Rattle.tdb_top.specs.declared.ending.Reply.TheVariants.{End};
 ghost use Rattle.tdb_top.specs.declared.halt.Fault.TheVariants.{Device};
 ghost use Rattle.tdb_top.specs.Acts.{Acted};
+ghost use Rattle.tdb_top.specs.Commands.First.{first_pair_of};
 ghost use Rattle.tdb_top.specs.Opening.{IsCheckedOn};
 
 use crate::ending::Reply;
@@ -18,25 +21,38 @@ use tdb_disk::Disk;
 use tdb_space::Direct;
 use tdb_words::Bytes;
 
-/// Replies the first pair of an opened file in the order of its chains, if it has one. It reads the heads of the chains
-/// up to the first that has a pair, and takes the memory of that pair.
-pub(crate) fn first<D: Disk>(
+/// Reads the first pair of an opened file in the order of its chains, if it has one. It reads the heads of the chains up
+/// to the first that has a pair, and takes the memory of that pair.
+fn first_pair<D: Disk>(
     alloc: Global,
     disk: &mut D,
     opened: &Opened,
-) -> Result<Reply, Fault>
+) -> Result<Option<(Bytes, Bytes)>, Fault>
     requires opened { IsTrue D.tells → IsCheckedOn (seen (D.history disk.old)) opened.now }
-    ensures acted { IsTrue D.tells → Acted First (D.history disk.old) (D.history disk.new) result }
+    ensures found { IfOk result (λ pair. IsTrue D.tells → first_pair_of (order_of (form_of (seen (D.history disk.old))) (seen (D.history disk.old))) ≡ pair) }
+    ensures history { D.history disk.new ≡ D.history disk.old }
     ensures cause { HasCauseOf Device (D.faults disk.old) (D.faults disk.new) result }
 {
     let mut space = Direct::new(disk, &opened.header);
     let mut traversal = Traversal::new(alloc);
     if !traversal.advance(&mut space)? {
-        return Ok(Reply::End);
+        return Ok(None);
     }
     let key = Bytes::copy(alloc, traversal.key())?;
     let value = Bytes::copy(alloc, traversal.value())?;
-    Ok(Reply::Pair { key, value })
+    Ok(Some((key, value)))
+}
+
+/// Replies the first pair of an opened file, or that it has none.
+pub(crate) fn first<D: Disk>(alloc: Global, disk: &mut D, opened: &Opened) -> Result<Reply, Fault>
+    requires opened { IsTrue D.tells → IsCheckedOn (seen (D.history disk.old)) opened.now }
+    ensures acted { (limit : ℕ) → IsTrue D.tells → Acted limit First (D.history disk.old) (D.history disk.new) result }
+    ensures cause { HasCauseOf Device (D.faults disk.old) (D.faults disk.new) result }
+{
+    match first_pair(alloc, disk, opened)? {
+        Some((key, value)) => Ok(Reply::Pair { key, value }),
+        None => Ok(Reply::End),
+    }
 }
 
 /// Replies that there is no pair behind the one that was shown last, since a command alone has shown none.

@@ -8,7 +8,7 @@ ghost use Rattle.tdb_words.specs.Header.{header_at};
 ghost use Rattle.tdb_space.specs.Form.{form_in, chain_head};
 ghost use Rattle.tdb_space.specs.Pairs.{home, map_of};
 ghost use Rattle.tdb_space.specs.Accepted.{AcceptWith};
-ghost use Rattle.tdb_ask.specs.declared.act.Act.TheVariants.{Insert};
+ghost use Rattle.tdb_ask.specs.declared.act.Verb.TheVariants.{Insert};
 ghost use Rattle.tdb_top.specs.declared.ending.Reply.TheVariants.{Done as IsDone};
 ghost use Rattle.tdb_top.specs.declared.halt.Fault.TheVariants.{Device, Memory};
 ghost use Rattle.tdb_top.specs.Acts.{Acted};
@@ -19,7 +19,6 @@ use crate::ending::Reply;
 use crate::halt::Fault;
 use crate::opening::Opened;
 use std::alloc::Global;
-use tdb_ask::LONGEST_FILE;
 use tdb_chain::find;
 use tdb_disk::{Disk, DiskFault};
 use tdb_space::{Direct, Io, new_rec, rec_len_for, record_bytes};
@@ -149,19 +148,21 @@ pub(crate) fn insert_below<D: Disk>(
     Ok(Reply::Done)
 }
 
-/// Adds a key and its value to an opened file.
+/// Adds a key and its value to an opened file, which may have so many bytes.
 pub(crate) fn insert<D: Disk>(
     alloc: Global,
     disk: &mut D,
     opened: &Opened,
     key: &[u8],
     value: &[u8],
+    limit: u64,
 ) -> Result<Reply, Fault>
     requires short { length key.now + length value.now < 2 ^ 32 }
+    requires limit { limit ≤ 4294963200 }
     requires length { opened.now.len ≡ D.size disk.old }
     requires opened { IsTrue D.tells → IsCheckedOn (seen (D.history disk.old)) opened.now }
-    ensures acted { IsTrue D.tells → Acted (Insert key.now value.now) (D.history disk.old) (D.history disk.new) result }
+    ensures acted { IsTrue D.tells → Acted limit (Insert key.now value.now) (D.history disk.old) (D.history disk.new) result }
     ensures cause { HasCauseOf Device (D.faults disk.old) (D.faults disk.new) result }
 {
-    insert_below(alloc, disk, opened, key, value, LONGEST_FILE)
+    insert_below(alloc, disk, opened, key, value, limit)
 }

@@ -48,38 +48,40 @@ pub(crate) fn print_pairs<D: Disk, K: Sink>(
     }
 }
 
-/// Opens the file on a disk, and prints its pairs so.
+/// Opens the file on a disk, unless it has more than so many bytes, and prints its pairs so.
 fn print_on_disk<D: Disk, K: Sink>(
     alloc: Global,
     listing: Listing,
+    limit: u64,
     disk: &mut D,
     output: &mut K,
 ) -> Result<Ending, Unprinted>
-    ensures left { IsTrue D.tells → PrintLeft (D.history disk.old) (ending_of result) (D.history disk.new) }
+    ensures left { IsTrue D.tells → PrintLeft limit (D.history disk.old) (ending_of result) (D.history disk.new) }
     ensures counted { CountedBy (D.faults disk.old) (D.faults disk.new) (ending_of result) }
     ensures began { IsTrue D.tells → IsTrue K.tells → Began (PrintText listing (Some (D.history disk.old))) (K.written output.old) (K.written output.new) result }
     ensures output_cause { HasCause (K.faults output.old) (K.faults output.new) result }
     ensures asked { ending_of result ≡ Usage → ⊥ }
     ensures unread { of_input (ending_of result) ≡ false }
 {
-    match Opened::open(alloc, disk) {
+    match Opened::open_below(alloc, disk, limit) {
         Ok(opened) => print_pairs(alloc, disk, &opened, listing, output),
         Err(halt) => Ok(Ending::from(halt)),
     }
 }
 
-/// Opens the file of this name, and prints its pairs so. What an unfinished change left is undone first; else the file
+/// Opens the file of this name, unless it has more than so many bytes, and prints its pairs so. What an unfinished change left is undone first; else the file
 /// stays as it is.
 pub(crate) fn print_on_file<F: Files, K: Sink>(
     alloc: Global,
     name: &str,
     listing: Listing,
+    limit: u64,
     files: &mut F,
     output: &mut K,
 ) -> Result<Ending, Unprinted>
     requires free { (other : List ℕ) → F.is_taken files.old other ≡ false }
-    ensures cause { IsTrue F.D.tells → TaskCause (Print listing) name.now (F.held files.old name.now) (F.faults files.old) (F.faults files.new) (ending_of result) }
-    ensures left { IsTrue F.D.tells → PrintLeaves (F.held files.old name.now) (ending_of result) (F.held files.new name.now) }
+    ensures cause { IsTrue F.D.tells → TaskCause (Print listing limit) name.now (F.held files.old name.now) (F.faults files.old) (F.faults files.new) (ending_of result) }
+    ensures left { IsTrue F.D.tells → PrintLeaves limit (F.held files.old name.now) (ending_of result) (F.held files.new name.now) }
     ensures others { SameBut name.now (F.held files.old) (F.held files.new) }
     ensures given_back { (other : List ℕ) → F.is_taken files.new other ≡ false }
     ensures counted { CountedBy (F.faults files.old) (F.faults files.new) (ending_of result) }
@@ -90,7 +92,7 @@ pub(crate) fn print_on_file<F: Files, K: Sink>(
 {
     match files.take(alloc, name, Take::Existing) {
         Ok(mut disk) => {
-            let printed = print_on_disk(alloc, listing, &mut disk, output);
+            let printed = print_on_disk(alloc, listing, limit, &mut disk, output);
             files.give(name, disk);
             printed
         }

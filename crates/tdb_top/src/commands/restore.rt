@@ -21,7 +21,7 @@ ghost use Rattle.tdb_top.specs.Reads.{AskCause};
 use crate::commands::create::make;
 use crate::ending::{Ending, Reply};
 use std::alloc::Global;
-use tdb_ask::{DEFAULT_SIZE, NewForm};
+use tdb_ask::{DEFAULT_SIZE, LONGEST_FILE, NewForm};
 use tdb_backup::{RestoreRefusal, restore_pairs};
 use tdb_disk::{Disk, Files, Source, Take};
 use tdb_space::Direct;
@@ -55,6 +55,7 @@ pub(crate) const NEW_FORM: NewForm = NewForm {
     size: DEFAULT_SIZE,
     hash: HashKind::Old,
     order: Order::Little,
+    limit: LONGEST_FILE,
 };
 
 /// Adds the pairs of the text on the input to a new file on a disk.

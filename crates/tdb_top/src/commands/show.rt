@@ -1,11 +1,11 @@
 // The command that shows the value of a key.
 
-ghost use Rattle.std.specs.Prelude.{◌≡◌, ◌^◌, ◌<◌, length, IsTrue, IfOk};
+ghost use Rattle.std.specs.Prelude.{◌≡◌, ◌^◌, ◌<◌, ℕ, length, IsTrue, IfOk};
 ghost use Rattle.tdb_disk.specs.Count.{HasCauseOf};
 ghost use Rattle.tdb_disk.specs.History.{seen};
 ghost use Rattle.tdb_space.specs.Form.{form_of};
 ghost use Rattle.tdb_space.specs.Pairs.{map_of};
-ghost use Rattle.tdb_ask.specs.declared.act.Act.TheVariants.{Show};
+ghost use Rattle.tdb_ask.specs.declared.act.Verb.TheVariants.{Show};
 ghost use Rattle.tdb_top.specs.declared.halt.Fault.TheVariants.{Device};
 ghost use Rattle.tdb_top.specs.Acts.{Acted};
 ghost use Rattle.tdb_top.specs.Opening.{IsCheckedOn};
@@ -48,7 +48,7 @@ pub(crate) fn show<D: Disk>(
 ) -> Result<Reply, Fault>
     requires short { length key.now < 2 ^ 32 }
     requires opened { IsTrue D.tells → IsCheckedOn (seen (D.history disk.old)) opened.now }
-    ensures acted { IsTrue D.tells → Acted (Show key.now) (D.history disk.old) (D.history disk.new) result }
+    ensures acted { (limit : ℕ) → IsTrue D.tells → Acted limit (Show key.now) (D.history disk.old) (D.history disk.new) result }
     ensures cause { HasCauseOf Device (D.faults disk.old) (D.faults disk.new) result }
 {
     match look_up(alloc, disk, opened, key)? {

@@ -11,7 +11,7 @@ use Rattle.tdb_top.proofs.act.act_on_disk.Goals as goal
 pub returns-in_err-opened-clause-acted : goal.returns-in_err-opened-clause-acted
 returns-in_err-opened-clause-acted g c told =
     let old = g.D.Disk.history c.args.disk.now in
-    let now = g.D.Disk.history c.open.new.disk in
+    let now = g.D.Disk.history c.open_below.new.disk in
     let is : c.from_residual.result ≡ Err c.in_err-opened.field-0.0 = search rules in
     subst (OpenedAndActed c.args.act.now old now) (sym is)
     (halted c.args.act.now old now c.in_err-opened.field-0.0 (c.in_err-opened.ensures.refused told) (c.in_err-opened.ensures.halted told))
@@ -20,19 +20,19 @@ returns-in_err-opened-clause-acted g c told =
 pub returns-in_err-reply-clause-acted : goal.returns-in_err-reply-clause-acted
 returns-in_err-reply-clause-acted g c told =
     let old = g.D.Disk.history c.args.disk.now in
-    let mid = g.D.Disk.history c.open.new.disk in
+    let mid = g.D.Disk.history c.open_below.new.disk in
     let now = g.D.Disk.history c.perform.new.disk in
     let is : c.from_residual-in_err-reply.result ≡ Err (of_fault c.in_err-reply.field-0.0) = search rules in
     subst (OpenedAndActed c.args.act.now old now) (sym is)
-    (faulted c.args.act.now old mid now (c.in_ok-opened.ensures.opened told).can_open (c.in_ok-opened.ensures.left told) (c.in_ok-opened.ensures.reads told) c.in_err-reply.field-0.0 (c.in_err-reply.ensures.acted told))
+    (faulted c.args.act.now old (c.in_ok-opened.ensures.within told) mid now (c.in_ok-opened.ensures.opened told).can_open (c.in_ok-opened.ensures.left told) (c.in_ok-opened.ensures.reads told) c.in_err-reply.field-0.0 (c.in_err-reply.ensures.acted told))
 
 -- one that replied
 pub returns-clause-acted : goal.returns-clause-acted
 returns-clause-acted g c told =
     let old = g.D.Disk.history c.args.disk.now in
-    let mid = g.D.Disk.history c.open.new.disk in
+    let mid = g.D.Disk.history c.open_below.new.disk in
     let now = g.D.Disk.history c.perform.new.disk in
-    replied c.args.act.now old mid now (c.in_ok-opened.ensures.opened told).can_open (c.in_ok-opened.ensures.left told) (c.in_ok-opened.ensures.reads told) _ (c.in_ok-reply.ensures.acted told)
+    replied c.args.act.now old (c.in_ok-opened.ensures.within told) mid now (c.in_ok-opened.ensures.opened told).can_open (c.in_ok-opened.ensures.left told) (c.in_ok-opened.ensures.reads told) _ (c.in_ok-reply.ensures.acted told)
 
 -- what the file was read as is short
 pub perform-requires-clause-within : goal.perform-requires-clause-within

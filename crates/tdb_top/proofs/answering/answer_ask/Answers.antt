@@ -1,12 +1,16 @@
 use Rattle.std.proofs.Common.{◌∷◌, ℕ, List, string_bytes, sym, subst, inl}
+use Rattle.std.specs.Prelude.{IsTrue}
 use Rattle.tdb_top.specs.Commands.Create.{CreateCause, CreateLeaves}
 use Rattle.tdb_top.specs.Ending.{MadeSo}
 use Rattle.tdb_top.specs.Input.{input_by}
 use Rattle.tdb_top.specs.Reads.{AskEnds, GenCause}
 use Rattle.tdb_top.specs.Left.{TaskLeaves}
 use Rattle.tdb_top.specs.Commands.Backup.{BackupCause}
-use Rattle.tdb_top.specs.Commands.Verify.{VerifyCause}
-use Rattle.tdb_top.specs.Looks.{ending_of}
+use Rattle.tdb_ask.specs.declared.ask.Task.TheVariants.{Verify}
+use Rattle.tdb_top.specs.Commands.Verify.{VerifyText, VerifyCause}
+use Rattle.tdb_top.specs.Looks.{ending_of, Began}
+use Rattle.tdb_top.specs.Printed.{TaskText, task_tells}
+use Rattle.tdb_top.proofs.Looking.{began_as}
 use Rattle.tdb_top.proofs.Acting.{made_cause, made_left, backup_ends, verify_ends, gen_ends}
 use Rattle.tdb_top.proofs.answering.answer_ask.Goals as goal
 
@@ -20,7 +24,7 @@ returns-in-Create-clause-cause g c told =
     let creation = c.create_file-creation.result in
     subst (λ task. AskEnds (input_by g.S.Source.tells (g.S.Source.left c.args.input.now) (g.S.Source.faults c.args.input.now) (g.S.Source.faults c.args.input.now)) task name held before now c.made.result) (sym c.in-Create.is)
     (inl (inl (made_cause c.in-Create.form name (held name) before now creation c.made.result
-    (subst (λ n. CreateCause (held n) before now creation) c.as_str-name.ensures.value (c.create_file-creation.ensures.cause told))
+    (subst (λ n. CreateCause c.in-Create.form (held n) before now creation) c.as_str-name.ensures.value (c.create_file-creation.ensures.cause told))
     (subst (λ n. MadeSo n creation c.made.result) c.as_str-name.ensures.value c.made.ensures))))
 
 -- and what is left at its name
@@ -30,9 +34,12 @@ returns-in-Create-clause-left g c told =
     let given = g.F.Files.held c.create_file-creation.new.files in
     let name = string_bytes c.args.ask.now.file in
     let form = c.in-Create.form in
+    let before = g.F.Files.faults c.args.files.now in
+    let now = g.F.Files.faults c.create_file-creation.new.files in
     let creation = c.create_file-creation.result in
     subst (λ task. TaskLeaves (input_by g.S.Source.tells (g.S.Source.left c.args.input.now) (g.S.Source.faults c.args.input.now) (g.S.Source.faults c.args.input.now)) task name held c.made.result given) (sym c.in-Create.is)
-    (made_left form name (held name) (given name) creation c.made.result
+    (made_left form name (held name) before now (given name) creation c.made.result
+    (subst (λ n. CreateCause form (held n) before now creation) c.as_str-name.ensures.value (c.create_file-creation.ensures.cause told))
     (subst (λ n. CreateLeaves form.size form.order form.hash (held n) creation (given n)) c.as_str-name.ensures.value (c.create_file-creation.ensures.left told))
     (subst (λ n. MadeSo n creation c.made.result) c.as_str-name.ensures.value c.made.ensures))
 
@@ -54,7 +61,20 @@ returns-in-Verify-clause-cause g c told =
     let now = g.F.Files.faults c.verify.new.files in
     let e = ending_of c.verify.result in
     verify_ends (input_by g.S.Source.tells (g.S.Source.left c.args.input.now) (g.S.Source.faults c.args.input.now) (g.S.Source.faults c.args.input.now)) c.args.ask.now.task c.in-Verify.more c.in-Verify.suffix (string_bytes c.args.ask.now.file) held before now e c.in-Verify.is
-    (subst (λ (q : List ℕ × (List ℕ × List (List ℕ))). VerifyCause q.0 (q.1.0 ∷ q.1.1) held before now e) (λ j. (c.as_str.ensures j, (c.as_str-name.ensures.value j, c.as_slice.ensures j))) (c.verify.ensures.cause told))
+    (subst (λ (q : List ℕ × (List ℕ × List (List ℕ))). VerifyCause q.0 (q.1.0 ∷ q.1.1) held before now e) (λ j. (c.as_str-in-Verify.ensures j, (c.as_str-name.ensures.value j, c.as_slice-in-Verify.ensures j))) (c.verify.ensures.cause told))
+
+-- and what was printed of them
+pub returns-in-Verify-clause-began : goal.returns-in-Verify-clause-began
+returns-in-Verify-clause-began g c =
+    let held = g.F.Files.held c.args.files.now in
+    let before = g.K.Sink.written c.args.output.now in
+    let now = g.K.Sink.written c.verify.new.output in
+    let r = c.verify.result in
+    let name = string_bytes c.args.ask.now.file in
+    subst (λ t. IsTrue (task_tells t g.F.D.Disk.tells g.K.Sink.tells) → Began (TaskText t name held) before now r) (sym c.in-Verify.is)
+    (λ told. began_as (VerifyText c.as_str-in-Verify.result.now (c.as_str-name.result.now ∷ c.as_slice-in-Verify.result.now) held) (TaskText (Verify c.in-Verify.more c.in-Verify.suffix) name held) before now r
+    (λ e text is. subst (λ (q : List ℕ × (List ℕ × List (List ℕ))). VerifyText q.0 (q.1.0 ∷ q.1.1) held e text) (λ j. (c.as_str-in-Verify.ensures j, (c.as_str-name.ensures.value j, c.as_slice-in-Verify.ensures j))) is)
+    (c.verify.ensures.began told))
 
 -- why generated commands ended so
 pub returns-in-Generate-clause-cause : goal.returns-in-Generate-clause-cause

@@ -1,4 +1,4 @@
-use Rattle.std.proofs.Common.{Some, sym, subst}
+use Rattle.std.proofs.Common.{[], Some, sym, subst}
 use Rattle.tdb_disk.specs.History.{seen}
 use Rattle.tdb_top.specs.Commands.Dump.{pairs_text}
 use Rattle.tdb_top.specs.Commands.Print.{PrintLeft, PrintText}
@@ -13,13 +13,13 @@ use Rattle.tdb_top.proofs.commands.print.print_on_disk.Goals as goal
 pub returns-in-Ok-clause-left : goal.returns-in-Ok-clause-left
 returns-in-Ok-clause-left g c told =
     let old = g.D.Disk.history c.args.disk.now in
-    opened_print old (g.D.Disk.history c.print_pairs.new.disk) (ending_of c.print_pairs.result) (c.in-Ok.ensures.opened told).can_open
+    opened_print c.args.limit old (g.D.Disk.history c.print_pairs.new.disk) (ending_of c.print_pairs.result) (c.in-Ok.ensures.within told) (c.in-Ok.ensures.opened told).can_open
     (subst (UndoneIfOpen old) (sym c.print_pairs.ensures.history) (c.in-Ok.ensures.left told)) c.print_pairs.ensures.ends
 
 pub returns-in-Ok-clause-began : goal.returns-in-Ok-clause-began
 returns-in-Ok-clause-began g c told heard =
     let old = g.D.Disk.history c.args.disk.now in
-    let opened = seen (g.D.Disk.history c.open.new.disk) in
+    let opened = seen (g.D.Disk.history c.open_below.new.disk) in
     began_as (StandsBefore (pairs_text c.args.listing opened)) (PrintText c.args.listing (Some old)) (g.K.Sink.written c.args.output.now) (g.K.Sink.written c.print_pairs.new.output) c.print_pairs.result
     (λ e text stands. subst (λ img. StandsBefore (pairs_text c.args.listing img) e text) (c.in-Ok.ensures.reads told) stands) (c.print_pairs.ensures.began told heard)
 
@@ -27,8 +27,8 @@ returns-in-Ok-clause-began g c told heard =
 pub returns-in-Err-clause-left : goal.returns-in-Err-clause-left
 returns-in-Err-clause-left g c told =
     let old = g.D.Disk.history c.args.disk.now in
-    let now = g.D.Disk.history c.open.new.disk in
-    subst (λ e. PrintLeft old e now) (sym c.from.ensures) (halted_print old now c.in-Err.halt (c.in-Err.ensures.refused told) (c.in-Err.ensures.halted told))
+    let now = g.D.Disk.history c.open_below.new.disk in
+    subst (λ e. PrintLeft c.args.limit old e now) (sym c.from.ensures) (halted_print c.args.limit old now c.in-Err.halt (c.in-Err.ensures.refused told) (c.in-Err.ensures.halted told))
 
 pub returns-in-Err-clause-began : goal.returns-in-Err-clause-began
 returns-in-Err-clause-began g c told heard =

@@ -1,4 +1,4 @@
-use Rattle.std.proofs.Common.{◌≡◌, [], true, Err, Some, ap}
+use Rattle.std.proofs.Common.{◌≡◌, [], true, Err, Some, refl, ap}
 use Rattle.std.proofs.lemmas.Bool.{and_parts}
 use Rattle.tdb_disk.specs.History.{began}
 use Rattle.tdb_disk.specs.declared.files.Take.TheVariants.{Existing, New}
@@ -24,14 +24,14 @@ there g c told = held_there (g.F.Files.held c.args.files.now c.args.name.now) (b
 pub returns-in-Ok-clause-cause : goal.returns-in-Ok-clause-cause
 returns-in-Ok-clause-cause g c told =
     let e = ending_of c.print_on_disk-printed.result in
-    print_cause c.args.listing c.args.name.now (g.F.Files.held c.args.files.now c.args.name.now) (g.F.D.Disk.history c.in-Ok.disk) (there g ((goal.at.returns-in-Ok-clause-cause g c).After-give) told)
+    print_cause c.args.listing c.args.limit c.args.name.now (g.F.Files.held c.args.files.now c.args.name.now) (g.F.D.Disk.history c.in-Ok.disk) (there g ((goal.at.returns-in-Ok-clause-cause g c).After-give) told)
     (g.F.Files.faults c.args.files.now) (g.F.Files.faults c.give.new.self) (g.F.D.Disk.history c.print_on_disk-printed.new.disk) e (c.print_on_disk-printed.ensures.left told)
     (files_counted (g.F.Files.faults c.args.files.now) (g.F.Files.faults c.take.new.self) (g.F.Files.faults c.give.new.self) (g.F.D.Disk.faults c.in-Ok.disk) (g.F.D.Disk.faults c.print_on_disk-printed.new.disk) e
     c.in-Ok.ensures.cause.done c.in-Ok.ensures.disk_faults c.print_on_disk-printed.ensures.counted c.give.ensures.sound c.give.ensures.faulty c.give.ensures.faults)
 
 pub returns-in-Ok-clause-left : goal.returns-in-Ok-clause-left
 returns-in-Ok-clause-left g c told =
-    print_left (g.F.Files.held c.args.files.now c.args.name.now) (g.F.Files.held c.give.new.self c.args.name.now) (g.F.D.Disk.history c.in-Ok.disk) (g.F.D.Disk.history c.print_on_disk-printed.new.disk) (ending_of c.print_on_disk-printed.result)
+    print_left c.args.limit (g.F.Files.held c.args.files.now c.args.name.now) (g.F.Files.held c.give.new.self c.args.name.now) (g.F.D.Disk.history c.in-Ok.disk) (g.F.D.Disk.history c.print_on_disk-printed.new.disk) (ending_of c.print_on_disk-printed.result)
     (there g ((goal.at.returns-in-Ok-clause-left g c).After-give) told) (c.give.ensures.held told) (c.print_on_disk-printed.ensures.left told)
 
 pub returns-in-Ok-clause-began : goal.returns-in-Ok-clause-began
@@ -42,13 +42,13 @@ returns-in-Ok-clause-began g c both =
 -- the file wasn't taken
 pub returns-in-Err-clause-cause : goal.returns-in-Err-clause-cause
 returns-in-Err-clause-cause g c told =
-    untaken_cause (Print c.args.listing) c.args.name.now (g.F.Files.held c.args.files.now c.args.name.now) _ _ refl c.in-Err.refusal _
+    untaken_cause (Print c.args.listing c.args.limit) c.args.name.now (g.F.Files.held c.args.files.now c.args.name.now) _ _ refl c.in-Err.refusal _
     (λ is. ((c.in-Err.ensures.missing told).0 (ap Err is)).0) (λ is. not_new (c.in-Err.ensures.there_how (ap Err is)))
     (λ is. c.in-Err.ensures.cause.failed is) c.untaken.ensures
 
 pub returns-in-Err-clause-left : goal.returns-in-Err-clause-left
 returns-in-Err-clause-left g c told =
-    untaken_print c.args.name.now (g.F.Files.held c.args.files.now c.args.name.now) (g.F.Files.held c.take.new.self c.args.name.now) c.in-Err.refusal c.untaken.result
+    untaken_print c.args.limit c.args.name.now (g.F.Files.held c.args.files.now c.args.name.now) (g.F.Files.held c.take.new.self c.args.name.now) c.in-Err.refusal c.untaken.result
     (c.in-Err.ensures.refused_held c.args.name.now) (λ is. ((c.in-Err.ensures.missing told).0 (ap Err is)).0) (λ is. not_new (c.in-Err.ensures.there_how (ap Err is))) c.untaken.ensures
 
 pub returns-in-Err-clause-began : goal.returns-in-Err-clause-began

@@ -1,0 +1,124 @@
+-- The words behind a command's name: its options, each with its value or without one, and its positions.
+use Rattle.std.specs.Prelude.{ℕ, ◌==◌, Bool, true, false, not, nat_lt, if◌then◌else◌, Option, None, Some, List, [], ◌∷◌, ◌++◌, length, codes}
+use Rattle.std.specs.List.{position_or_len, before_first, after_first}
+use Rattle.std.specs.Map.{lookup}
+use Rattle.std.specs.Option.{option_and_then}
+use Rattle.tdb_space.specs.Pairs.{same_key}
+use Rattle.tdb_ask.specs.declared.limits.TheConstants.{LONGEST_FILE}
+use Rattle.tdb_ask.specs.declared.options.Command.{Command}
+use Rattle.tdb_ask.specs.declared.options.Command.TheVariants.{Tool, Dump, Restore, Backup, Turns, Generate}
+use Rattle.tdb_ask.specs.declared.options.Kind.{Kind}
+use Rattle.tdb_ask.specs.declared.options.Kind.TheVariants.{Valued, Flag}
+use Rattle.tdb_ask.specs.declared.options.GivenOption.{GivenOption}
+use Rattle.tdb_ask.specs.declared.options.Line.{Line}
+use Rattle.tdb_ask.specs.Words.{is_short, is_option, limit_of}
+
+-- the commands of the program, each by its name
+abbrev pub commands : List (List ℕ × Command)
+commands =
+    (codes "tool", Tool)
+    ∷ (codes "dump", Dump)
+    ∷ (codes "restore", Restore)
+    ∷ (codes "backup", Backup)
+    ∷ (codes "turns", Turns)
+    ∷ (codes "gen", Generate)
+    ∷ []
+
+-- the options of each command by their names: those that take a value, and flags, which take none
+abbrev pub options_of : Command → List (List ℕ × Kind)
+options_of Tool = (codes "--limit", Valued) ∷ []
+options_of Dump = (codes "-k", Valued) ∷ []
+options_of Restore = (codes "--limit", Valued) ∷ []
+options_of Backup = (codes "-s", Valued) ∷ (codes "-v", Flag) ∷ []
+options_of Turns =
+    (codes "--limit", Valued) ∷ (codes "--no-nesting", Flag) ∷ (codes "--read-only", Flag) ∷ (codes "--seqnum", Flag) ∷ []
+options_of Generate = []
+
+abbrev pub kind_of : Command → List ℕ → Option Kind
+kind_of command name = lookup (same_key name) (options_of command)
+
+-- an option of this name is among those that were given; and the value that was given with it
+abbrev pub is_given : List ℕ → List GivenOption → Bool
+is_given name [] = false
+is_given name (first ∷ rest) = if same_key first.name name then true else is_given name rest
+
+abbrev pub told : List ℕ → List GivenOption → Option (List ℕ)
+told name [] = None
+told name (first ∷ rest) = if same_key first.name name then first.value else told name rest
+
+-- a word NAME=VALUE, parted at its first `=`
+abbrev pub parted : List ℕ → Option (List ℕ × List ℕ)
+parted word =
+    if nat_lt (position_or_len (λ b. b == 61) word) (length word) then Some (before_first (λ b. b == 61) word, after_first (λ b. b == 61) word)
+    else None
+
+-- What the words say, as far as they were read: the options that were given, in their order, the positions, the option whose
+-- value is the next word, and whether `--` has come. No word was read yet:
+abbrev pub unread : Line
+unread = record { options = []; positions = []; waiting = None; ended = false }
+
+-- one more position
+abbrev pub with_position : Line → List ℕ → Option Line
+with_position line word = Some (record line { positions = line.positions ++ word ∷ [] })
+
+-- one more option, which wasn't given yet
+abbrev pub with_option : Line → List ℕ → Option (List ℕ) → Option Line
+with_option line name value =
+    if is_given name line.options then None
+    else Some (record line { options = line.options ++ record { name = name; value = value } ∷ [] })
+
+-- an option that takes a value, with one that stands in its own word, behind `=`, and isn't empty
+abbrev pub with_value : Option Kind → Line → List ℕ → List ℕ → Option Line
+with_value (Some Valued) line name value = if length value == 0 then None else with_option line name (Some value)
+with_value (Some Flag) line name value = None
+with_value None line name value = None
+
+abbrev pub with_parted : Option (List ℕ × List ℕ) → Command → Line → Option Line
+with_parted (Some found) command line = with_value (kind_of command found.0) line found.0 found.1
+with_parted None command line = None
+
+-- a word that is an option: one whose value is the next word, a flag, or one with its value
+abbrev pub with_option_word : Option Kind → Command → Line → List ℕ → Option Line
+with_option_word (Some Valued) command line word = Some (record line { waiting = Some word })
+with_option_word (Some Flag) command line word = with_option line word None
+with_option_word None command line word = with_parted (parted word) command line
+
+-- a word where an option may stand: `--`, behind which none does, an option, or a position
+abbrev pub with_any : Command → Line → List ℕ → Option Line
+with_any command line word =
+    if same_key word (codes "--") then Some (record line { ended = true })
+    else if is_option word then with_option_word (kind_of command word) command line word
+    else with_position line word
+
+-- a word behind an option that takes a value is that value, and no option; behind any other it may be all
+abbrev pub with_next : Option (List ℕ) → Command → Line → List ℕ → Option Line
+with_next (Some name) command line word = if is_option word then None else with_option line name (Some word)
+with_next None command line word = with_any command line word
+
+-- one more word; none may be too long
+abbrev pub with_word : Command → Line → List ℕ → Option Line
+with_word command line word =
+    if not (is_short word) then None
+    else if line.ended then with_position line word
+    else with_next line.waiting command (record line { waiting = None }) word
+
+-- all words, where each has a reading
+abbrev pub with_words : Command → Line → List (List ℕ) → Option Line
+with_words command line [] = Some line
+with_words command line (word ∷ words) = option_and_then (λ more. with_words command more words) (with_word command line word)
+
+-- and no option lacks its value at the end
+abbrev pub whole : Option (List ℕ) → Line → Option Line
+whole (Some name) line = None
+whole None line = Some line
+
+abbrev pub line_of : Command → List (List ℕ) → Option Line
+line_of command words = option_and_then (λ line. whole line.waiting line) (with_words command unread words)
+
+-- how long the file may be: what `--limit` tells, or that of the longest file; nothing where what it tells is no limit
+abbrev pub limit_told : Option (List ℕ) → Option ℕ
+limit_told None = Some LONGEST_FILE
+limit_told (Some word) = limit_of word
+
+abbrev pub limit_in : Line → Option ℕ
+limit_in line = limit_told (told (codes "--limit") line.options)
