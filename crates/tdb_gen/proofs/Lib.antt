@@ -1,5 +1,8 @@
 pub mod Coming
 pub mod Takings
+mod Waiting
+mod Turns
+mod Rounds
 mod Numbering
 mod Grouping
 mod Counting

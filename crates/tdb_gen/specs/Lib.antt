@@ -4,4 +4,5 @@ pub mod Plays
 pub mod Counts
 pub mod Summary
 pub mod Taking
+pub mod Rounds
 pub mod Generated

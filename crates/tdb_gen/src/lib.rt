@@ -6,10 +6,12 @@ mod fault;
 mod generation;
 mod generator;
 mod group;
+mod laws;
 mod load;
 mod summary;
 
 pub use crate::counts::Counts;
 pub use crate::fault::GenFault;
+pub use crate::laws::groups_end;
 pub use crate::load::generate;
 pub use crate::summary::Summary;
