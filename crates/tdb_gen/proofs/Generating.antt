@@ -16,12 +16,13 @@ use Rattle.tdb_world.specs.declared.opener.Opener.{Opener}
 use Rattle.tdb_world.specs.declared.options.Options.{Options}
 use Rattle.tdb_gen.specs.declared.counts.Counts.{Counts}
 use Rattle.tdb_gen.specs.declared.fault.GenFault.{GenFault}
-use Rattle.tdb_gen.specs.declared.fault.GenFault.TheVariants.{Io, Memory, Unfinished}
+use Rattle.tdb_gen.specs.declared.fault.GenFault.TheVariants.{Io, Memory}
 use Rattle.tdb_gen.specs.declared.summary.Summary.{Summary}
 use Rattle.tdb_gen.specs.Counts.{counts_of}
 use Rattle.tdb_gen.specs.Generated.{IsFirst, CameOver, GeneratedOver}
 use Rattle.tdb_gen.specs.Plays.{joins, groups, group_list, together, gen_plays}
-use Rattle.tdb_gen.specs.Taking.{IsIdle, Counted, Came, TakesTo}
+use Rattle.tdb_gen.specs.Rounds.{IsIdle}
+use Rattle.tdb_gen.specs.Taking.{Counted, Came, TakesTo}
 use Rattle.tdb_gen.proofs.Takings.{parts_join, parts_course, came_whole}
 
 -- where nobody has an unfinished command no record is out of the lists
@@ -48,7 +49,6 @@ module _ (f : Form) (options : Options) (a : List ℕ) (n seed : ℕ) (first : W
   pub broke_over : (before after : Counts) (e : GenFault) → TakesTo f (state_in first a) (joins ∷ group_list n seed (groups n)) (state_in last b) before after (Err e) → GeneratedOver f options a n seed b (Err e)
   broke_over before after Io C = tt
   broke_over before after Memory C = came_over C
-  broke_over before after Unfinished C = came_over C
 
   -- or they are done
   module _ (mid : World) (m : List ℕ) (before between after : Counts) (none : before ≡ counts_of []) (three : length mid.openers ≡ 3)
@@ -74,7 +74,6 @@ module _ (f : Form) (options : Options) (a : List ℕ) (n seed : ℕ) (first : W
     }
     done_over (Err Io) A is = tt
     done_over (Err Memory) A is = came_over whole
-    done_over (Err Unfinished) A is = came_over whole
 
 -- what holds of the value of an answer that has one
 pub at_ok : (r : Result Summary GenFault) (P : Summary → Type 0) → IfOk r P → (s : Summary) → r ≡ Ok s → P s

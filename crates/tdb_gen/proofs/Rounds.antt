@@ -24,8 +24,7 @@ use Rattle.tdb_plays.specs.declared.command.Command.{Command}
 use Rattle.tdb_gen.specs.Commands.{kind_of, command_of}
 use Rattle.tdb_gen.specs.Numbers.{number_at}
 use Rattle.tdb_gen.specs.Plays.{joins, gift, gifts, round, rounds, group_plays}
-use Rattle.tdb_gen.specs.Rounds.{IsOnKey, IsBare, IsUnderWay, OnKeys, turns_left, left_of_three, OnlyThree, IsReady, JoinsAreDone, GroupsAreDone}
-use Rattle.tdb_gen.specs.Taking.{IsIdle}
+use Rattle.tdb_gen.specs.Rounds.{IsOnKey, IsBare, IsUnderWay, OnKeys, turns_left, left_of_three, OnlyThree, IsIdle, IsReady, JoinsAreDone, GroupsAreDone}
 use Rattle.tdb_gen.proofs.Turns.{IsBelow, Moves, moves_on, stays, Took, no_task, same_task, turn_took}
 use Rattle.tdb_gen.proofs.Waiting.{bare_kept}
 

@@ -15,9 +15,10 @@ use Rattle.tdb_world.specs.Played.{ComesTo}
 use Rattle.tdb_world.specs.Worlds.{Stands, BytesStand}
 use Rattle.tdb_gen.specs.declared.counts.Counts.{Counts}
 use Rattle.tdb_gen.specs.declared.fault.GenFault.{GenFault}
-use Rattle.tdb_gen.specs.declared.fault.GenFault.TheVariants.{Io, Memory, Unfinished}
+use Rattle.tdb_gen.specs.declared.fault.GenFault.TheVariants.{Io, Memory}
 use Rattle.tdb_gen.specs.Counts.{counts_of}
 use Rattle.tdb_gen.specs.Plays.{together}
+use Rattle.tdb_gen.specs.Rounds.{IsReady}
 use Rattle.tdb_gen.specs.Taking.{Parts, Counted, Came, TakesTo, Place, state_at, Taken}
 use Rattle.tdb_gen.proofs.Coming.{course_join, whole_comes, comes_more, comes_after}
 
@@ -61,38 +62,40 @@ takes_join f ps qs old mid new before between after A (Ok v) B = (
 )
 takes_join f ps qs old mid new before between after A (Err Io) B = tt
 takes_join f ps qs old mid new before between after A (Err Memory) B = came_after f ps qs old mid new A.0 A.1 B
-takes_join f ps qs old mid new before between after A (Err Unfinished) B = came_after f ps qs old mid new A.0 A.1 B
 
 takes_more : (f : Form) (ps qs : List (List Play)) (old new : State) (before after : Counts) (e : GenFault) → TakesTo f old ps new before after (Err e) → TakesTo f old (ps ++ qs) new before after (Err e)
 takes_more f ps qs old new before after Io B = tt
 takes_more f ps qs old new before after Memory B = came_more f ps qs old new B
-takes_more f ps qs old new before after Unfinished B = came_more f ps qs old new B
 
 -- no part yet
 pub taken_none : (t : Bool) (p : Place) → Stands p.world p.image p.size → Taken t p p [] (Ok tt)
 taken_none t p W = record {
   header = refl;
   stands = W;
-  idle = λ I. I;
+  ready = λ told B R. R;
   rises = le_refl p.faults;
   quiet = refl;
   bytes = λ told B. B;
-  told = λ told B. ([], (refl, refl), λ lines e. e ∙ ap counts_of (sym (append-nil lines)));
+  told = λ told B R. ([], (refl, refl), λ lines e. e ∙ ap counts_of (sym (append-nil lines)));
   rose = λ told B. tt;
 }
 
 -- parts behind others, and others that weren't begun
 module _ (t : Bool) (old mid new : Place) (ps : List (List Play)) (A : Taken t old mid ps (Ok tt)) where
-  told_join : (r : Result (Unit {0}) GenFault) (qs : List (List Play)) → Taken t mid new qs r → IsTrue t → BytesStand old.world old.image → TakesTo (form_in old.world.header) (state_at old) (ps ++ qs) (state_at new) old.counts new.counts r
-  told_join r qs B told S =
-      takes_join (form_in old.world.header) ps qs (state_at old) (state_at mid) (state_at new) old.counts mid.counts new.counts (A.told told S) r
-      (subst (λ h. TakesTo (form_in h) (state_at mid) qs (state_at new) mid.counts new.counts r) A.header (B.told told (A.bytes told S)))
+  between : IsTrue t → BytesStand old.world old.image → IsReady (form_in old.world.header) (state_at old) → IsReady (form_in mid.world.header) (state_at mid)
+  between told S R = A.ready told S R
+
+  told_join : (r : Result (Unit {0}) GenFault) (qs : List (List Play)) → Taken t mid new qs r → IsTrue t → BytesStand old.world old.image → IsReady (form_in old.world.header) (state_at old)
+      → TakesTo (form_in old.world.header) (state_at old) (ps ++ qs) (state_at new) old.counts new.counts r
+  told_join r qs B told S R =
+      takes_join (form_in old.world.header) ps qs (state_at old) (state_at mid) (state_at new) old.counts mid.counts new.counts (A.told told S R) r
+      (subst (λ h. TakesTo (form_in h) (state_at mid) qs (state_at new) mid.counts new.counts r) A.header (B.told told (A.bytes told S) (between told S R)))
 
   pub taken_join : (r : Result (Unit {0}) GenFault) (qs : List (List Play)) → Taken t mid new qs r → Taken t old new (ps ++ qs) r
   taken_join (Ok v) qs B = record {
     header = B.header ∙ A.header;
     stands = B.stands;
-    idle = λ I. B.idle (A.idle I);
+    ready = λ told S R. B.ready told (A.bytes told S) (between told S R);
     rises = let one = A.rises in let two = B.rises in omega (arith, one, two);
     quiet = B.quiet ∙ A.quiet;
     bytes = λ told S. B.bytes told (A.bytes told S);
@@ -102,7 +105,7 @@ module _ (t : Bool) (old mid new : Place) (ps : List (List Play)) (A : Taken t o
   taken_join (Err Io) qs B = record {
     header = B.header ∙ A.header;
     stands = tt;
-    idle = tt;
+    ready = λ told S R. tt;
     rises = let one = A.rises in let two = B.rises in omega (arith, one, two);
     quiet = tt;
     bytes = λ told S. tt;
@@ -112,21 +115,11 @@ module _ (t : Bool) (old mid new : Place) (ps : List (List Play)) (A : Taken t o
   taken_join (Err Memory) qs B = record {
     header = B.header ∙ A.header;
     stands = B.stands;
-    idle = tt;
+    ready = λ told S R. tt;
     rises = let one = A.rises in let two = B.rises in omega (arith, one, two);
     quiet = B.quiet ∙ A.quiet;
     bytes = λ told S. B.bytes told (A.bytes told S);
     told = told_join (Err Memory) qs B;
-    rose = λ told S. tt;
-  }
-  taken_join (Err Unfinished) qs B = record {
-    header = B.header ∙ A.header;
-    stands = B.stands;
-    idle = tt;
-    rises = let one = A.rises in let two = B.rises in omega (arith, one, two);
-    quiet = B.quiet ∙ A.quiet;
-    bytes = λ told S. B.bytes told (A.bytes told S);
-    told = told_join (Err Unfinished) qs B;
     rose = λ told S. tt;
   }
 
@@ -134,11 +127,11 @@ pub taken_more : (t : Bool) (old new : Place) (ps qs : List (List Play)) (e : Ge
 taken_more t old new ps qs e A = record {
   header = A.header;
   stands = A.stands;
-  idle = A.idle;
+  ready = λ told S R. tt;
   rises = A.rises;
   quiet = A.quiet;
   bytes = A.bytes;
-  told = λ told S. takes_more (form_in old.world.header) ps qs (state_at old) (state_at new) old.counts new.counts e (A.told told S);
+  told = λ told S R. takes_more (form_in old.world.header) ps qs (state_at old) (state_at new) old.counts new.counts e (A.told told S R);
   rose = A.rose;
 }
 
@@ -147,11 +140,11 @@ pub taken_short : (t : Bool) (old new : Place) (ps : List (List Play)) → Taken
 taken_short t old new ps A = record {
   header = A.header;
   stands = A.stands;
-  idle = tt;
+  ready = λ told S R. tt;
   rises = A.rises;
   quiet = A.quiet;
   bytes = A.bytes;
-  told = λ told S. let C = A.told told S in came_whole (form_in old.world.header) ps (state_at old) (state_at new) C.0 C.1;
+  told = λ told S R. let C = A.told told S R in came_whole (form_in old.world.header) ps (state_at old) (state_at new) C.0 C.1;
   rose = λ told S. tt;
 }
 

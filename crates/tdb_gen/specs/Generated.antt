@@ -14,7 +14,7 @@ use Rattle.tdb_world.specs.Openers.{options_of}
 use Rattle.tdb_world.specs.Played.{ComesTo}
 use Rattle.tdb_world.specs.Worlds.{World, state_in}
 use Rattle.tdb_gen.specs.declared.fault.GenFault.{GenFault}
-use Rattle.tdb_gen.specs.declared.fault.GenFault.TheVariants.{Io, Memory, Unfinished}
+use Rattle.tdb_gen.specs.declared.fault.GenFault.TheVariants.{Io, Memory}
 use Rattle.tdb_gen.specs.declared.summary.Summary.{Summary}
 use Rattle.tdb_gen.specs.Counts.{counts_of}
 use Rattle.tdb_gen.specs.Plays.{joins, groups, group_list, gen_plays}
@@ -65,4 +65,3 @@ abbrev pub GeneratedOver : Form → Options → List ℕ → ℕ → ℕ → Lis
 GeneratedOver f options a n seed b (Ok summary) = Generated f options a n seed b summary
 GeneratedOver f options a n seed b (Err Io) = Unit {0}
 GeneratedOver f options a n seed b (Err Memory) = CameOver f options a n seed b
-GeneratedOver f options a n seed b (Err Unfinished) = CameOver f options a n seed b

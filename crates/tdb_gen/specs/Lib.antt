@@ -3,6 +3,6 @@ pub mod Commands
 pub mod Plays
 pub mod Counts
 pub mod Summary
-pub mod Taking
 pub mod Rounds
+pub mod Taking
 pub mod Generated

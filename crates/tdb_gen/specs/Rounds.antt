@@ -13,7 +13,10 @@ use Rattle.tdb_law.specs.World.{State}
 use Rattle.tdb_plays.specs.InLaw.{law_plays}
 use Rattle.tdb_plays.specs.declared.play.Play.{Play}
 use Rattle.tdb_gen.specs.Plays.{joins, round, group_plays}
-use Rattle.tdb_gen.specs.Taking.{IsIdle}
+
+-- nobody has an unfinished command
+abbrev pub IsIdle : State → Type 0
+IsIdle w = (o : ℕ) → w.task o ≡ None
 
 -- a command on one key
 abbrev pub IsOnKey : Command → Type 0

@@ -1,5 +1,5 @@
 -- How plays are taken part by part and counted, as far as they come.
-use Rattle.std.specs.Prelude.{ℕ, ◌≡◌, ◌≤◌, Bool, IsTrue, List, [], ◌∷◌, ◌++◌, None, Result, Ok, Err, OnOk}
+use Rattle.std.specs.Prelude.{ℕ, ◌≡◌, ◌≤◌, Bool, IsTrue, List, [], ◌∷◌, ◌++◌, Result, Ok, Err, OnOk}
 use Rattle.tdb_disk.specs.Count.{Rose}
 use Rattle.tdb_space.specs.Form.{Form, form_in}
 use Rattle.tdb_law.specs.World.{State}
@@ -14,9 +14,10 @@ use Rattle.tdb_world.specs.Played.{ComesTo}
 use Rattle.tdb_world.specs.Worlds.{World, state_in, Stands, BytesStand}
 use Rattle.tdb_gen.specs.declared.counts.Counts.{Counts}
 use Rattle.tdb_gen.specs.declared.fault.GenFault.{GenFault}
-use Rattle.tdb_gen.specs.declared.fault.GenFault.TheVariants.{Io, Memory, Unfinished}
+use Rattle.tdb_gen.specs.declared.fault.GenFault.TheVariants.{Io, Memory}
 use Rattle.tdb_gen.specs.Counts.{counts_of}
 use Rattle.tdb_gen.specs.Plays.{together}
+use Rattle.tdb_gen.specs.Rounds.{IsIdle, IsReady}
 
 -- why plays broke off, as a generation tells it
 abbrev pub of_run : RunFault → GenFault
@@ -28,17 +29,11 @@ abbrev pub UnlessIo : {V : Type 0} → Result V GenFault → Type 0 → Type 0
 UnlessIo (Ok v) p = p
 UnlessIo (Err Io) p = Unit {0}
 UnlessIo (Err Memory) p = p
-UnlessIo (Err Unfinished) p = p
 
 abbrev pub OnIo : {V : Type 0} → Result V GenFault → Type 0 → Type 0
 OnIo (Ok v) p = Unit {0}
 OnIo (Err Io) p = p
 OnIo (Err Memory) p = Unit {0}
-OnIo (Err Unfinished) p = Unit {0}
-
--- nobody has an unfinished command
-abbrev pub IsIdle : State → Type 0
-IsIdle w = (o : ℕ) → w.task o ≡ None
 
 -- Lists of plays were taken one after the other, each whole, and behind each nobody had an unfinished command.
 abbrev pub Parts : Form → State → List (List Play) → List Line → State → Type 0
@@ -59,7 +54,6 @@ abbrev pub TakesTo : Form → State → List (List Play) → State → Counts �
 TakesTo f old parts new before after (Ok v) = Counted f old parts new before after
 TakesTo f old parts new before after (Err Io) = Unit {0}
 TakesTo f old parts new before after (Err Memory) = Came f old parts new
-TakesTo f old parts new before after (Err Unfinished) = Came f old parts new
 
 -- A place between plays: the world, the bytes and the length of its file, the count of faults of the disk, and what was
 -- counted.
@@ -76,13 +70,14 @@ place world image size faults counts = record { world = world; image = image; si
 abbrev pub state_at : Place → State
 state_at p = state_in p.world p.image
 
--- Parts led from one place to another, and ended so, over a disk that tells its bytes or doesn't.
+-- Parts led from one place to another, and ended so, over a disk that tells its bytes or doesn't. What they did is said where
+-- nobody had an unfinished command before them, and all was ready for commands on keys; so it is then behind them.
 pub record Taken (tells : Bool) (old new : Place) (parts : List (List Play)) (answer : Result (Unit {0}) GenFault) : Type 0 where
   pub header : new.world.header ≡ old.world.header
   pub stands : UnlessIo answer (Stands new.world new.image new.size)
-  pub idle : OnOk answer (IsIdle (state_at old) → IsIdle (state_at new))
+  pub ready : IsTrue tells → BytesStand old.world old.image → IsReady (form_in old.world.header) (state_at old) → OnOk answer (IsReady (form_in new.world.header) (state_at new))
   pub rises : old.faults ≤ new.faults
   pub quiet : UnlessIo answer (new.faults ≡ old.faults)
   pub bytes : IsTrue tells → BytesStand old.world old.image → UnlessIo answer (BytesStand new.world new.image)
-  pub told : IsTrue tells → BytesStand old.world old.image → TakesTo (form_in old.world.header) (state_at old) parts (state_at new) old.counts new.counts answer
+  pub told : IsTrue tells → BytesStand old.world old.image → IsReady (form_in old.world.header) (state_at old) → TakesTo (form_in old.world.header) (state_at old) parts (state_at new) old.counts new.counts answer
   pub rose : IsTrue tells → BytesStand old.world old.image → OnIo answer (Rose old.faults new.faults)

@@ -14,9 +14,6 @@ pub enum GenFault {
     /// There was no memory for an opener, a play, a line, or the copy of a command.
     #[error("out of memory")]
     Memory,
-    /// A command wasn't done after all turns of its group.
-    #[error("a command isn't done")]
-    Unfinished,
 }
 
 impl From<Io> for GenFault {

@@ -1,6 +1,6 @@
 // Generated commands that openers do, group by group.
 
-ghost use Rattle.std.specs.Prelude.{◌≡◌, ◌<◌, ◌≤◌, ◌+◌, ◌*◌, ◌∷◌, [], ℕ, List, false, IsTrue, IfOk, IfErr, OnOk, length, min};
+ghost use Rattle.std.specs.Prelude.{◌≡◌, ◌<◌, ◌≤◌, ◌+◌, ◌*◌, ◌∷◌, [], ℕ, List, IsTrue, IfOk, OnOk, length, min};
 ghost use Rattle.tdb_disk.specs.Count.{HasCauseOf};
 ghost use Rattle.tdb_space.specs.Form.{form_in};
 ghost use Rattle.tdb_space.specs.Frame.{Wrote, Looked};
@@ -15,7 +15,8 @@ ghost use Rattle.tdb_world.specs.Worlds.{state_in, Stands, BytesStand};
 ghost use Rattle.tdb_gen.specs.Counts.{counts_of};
 ghost use Rattle.tdb_gen.specs.Numbers.{IsFrom};
 ghost use Rattle.tdb_gen.specs.Plays.{joins, groups, group_plays, group_list};
-ghost use Rattle.tdb_gen.specs.Taking.{place, Taken, IsIdle, UnlessIo};
+ghost use Rattle.tdb_gen.specs.Rounds.{AreDone};
+ghost use Rattle.tdb_gen.specs.Taking.{place, Taken, UnlessIo};
 ghost use Rattle.tdb_gen.specs.declared.fault.GenFault.TheVariants as Faults;
 
 use crate::counts::Counts;
@@ -71,7 +72,6 @@ impl Generation {
         ensures stands { (img : List ℕ) (size : ℕ) → HasFewChains (form_in header.now) → options.now.limit ≤ 4294963200 → size ≤ options.now.limit → Stands result.openers img size }
         ensures bytes { (img : List ℕ) → AcceptWith (form_in header.now) img [] → BytesStand result.openers img }
         ensures loaded { (img : List ℕ) → HasFewChains (form_in header.now) → IsLoaded (form_in header.now) (state_in result.openers img) (options_of options.now) }
-        ensures idle { (img : List ℕ) → IsIdle (state_in result.openers img) }
         ensures index { result.generator.index ≡ 0 }
         ensures from { IsFrom seed result.generator }
         ensures counts { result.counts ≡ counts_of [] }
@@ -86,28 +86,16 @@ impl Generation {
         }
     }
 
-    /// Whether a command isn't done.
-    fn has_unfinished(&mut self) -> Result<bool, GenFault>
-        requires { (img : List ℕ) × (size : ℕ) × Stands self.old.openers img size }
-        ensures idle { IfOk result (λ left. left ≡ false → (img : List ℕ) → IsIdle (state_in self.old.openers img)) }
-        ensures memory { IfErr result (λ e. e ≡ Faults.Memory) }
-        ensures openers { self.new.openers ≡ self.old.openers }
-        ensures generator { self.new.generator ≡ self.old.generator }
-        ensures counts { self.new.counts ≡ self.old.counts }
-    {
-        self.report.clear();
-        self.openers.finish_report(&mut self.report)?;
-        Ok(!self.report.is_empty())
-    }
-
-    /// Takes the plays, and counts what they tell. Behind them every command is done.
+    /// Takes the plays, and counts what they tell. Behind plays that say so every command is done.
     fn take<S: Space>(&mut self, space: &mut S) -> Result<(), GenFault>
         requires form { S.form space.old ≡ form_in self.old.openers.header }
         requires stands { Stands self.old.openers (S.image space.old) (S.size space.old) }
         requires spare { (view : S) → S.spare view ≡ without_bound }
         requires served { AreServed self.old.plays }
-        ensures taken { Taken S.tells (place self.old.openers (S.image space.old) (S.size space.old) (S.faults space.old) self.old.counts)
+        ensures taken { AreDone self.old.plays → Taken S.tells (place self.old.openers (S.image space.old) (S.size space.old) (S.faults space.old) self.old.counts)
             (place self.new.openers (S.image space.new) (S.size space.new) (S.faults space.new) self.new.counts) (self.old.plays ∷ []) result }
+        ensures stands { OnOk result (Stands self.new.openers (S.image space.new) (S.size space.new)) }
+        ensures header { self.new.openers.header ≡ self.old.openers.header }
         ensures generator { self.new.generator ≡ self.old.generator }
         ensures wrote { Wrote S.Space space.old space.new }
     {
@@ -115,9 +103,6 @@ impl Generation {
         self.openers
             .run(space, self.plays.as_slice(), &mut self.report)?;
         self.counts.count(&self.report);
-        if self.has_unfinished()? {
-            return Err(GenFault::Unfinished);
-        }
         Ok(())
     }
 

@@ -22,8 +22,7 @@ use tdb_world::Options;
 /// of them. The same numbers, on the same bytes, give the same bytes and the same summary.
 ///
 /// `Io` where the disk failed, and where a check at the end finds a fault, which no command leaves; then nothing is said of
-/// the file. After `Memory` and `Unfinished` the commands were done as far as they came. That a group's turns always end
-/// its commands isn't proved: where they don't, the answer is `Unfinished`.
+/// the file. After `Memory` the commands were done as far as they came.
 ///
 /// Cost: that of the commands and of one check of the file. It holds the lines of one group's plays, which are 75 at most.
 pub fn generate<S: Space>(

@@ -36,7 +36,7 @@ use Rattle.tdb_top.specs.declared.ending.Ending.TheVariants as E
 use Rattle.tdb_top.specs.declared.ending.Reply.TheVariants as Reply
 use Rattle.tdb_ask.specs.declared.limits.TheConstants.{DEFAULT_SIZE}
 use Rattle.tdb_top.specs.Commands.Create.{IsNewFile}
-use Rattle.tdb_top.specs.Commands.Generate.{gen_options, new_file, IsGenerated, FilledSo, of_gen, all_done, one_undone, GenLeaves}
+use Rattle.tdb_top.specs.Commands.Generate.{gen_options, new_file, IsGenerated, FilledSo, of_gen, all_done, GenLeaves}
 use Rattle.tdb_top.specs.Commands.Restore.{new_form, of_input}
 use Rattle.tdb_top.specs.Ending.{task_failed, task_wanting, Untaken, CountedIf}
 use Rattle.tdb_top.specs.Reads.{GenCause}
@@ -73,7 +73,6 @@ module _ (commands seed : ℕ) where
   pub filled_broken : (e : GenFault) (now : History) → GeneratedOver new_form gen_options new_file commands seed (seen now) (Err e) → FilledSo commands seed now (Err e)
   filled_broken F.Io now is = tt
   filled_broken F.Memory now is = tt
-  filled_broken F.Unfinished now is = is
 
   module _ (name : List ℕ) (held : Option History) (before after : ℕ) where
     abbrev Cause : Ending → Type 0
@@ -86,11 +85,10 @@ module _ (commands seed : ℕ) where
     pub broken_cause : held ≡ None → (fault : GenFault) (e : Ending) (now : History) → e ≡ of_gen fault → FilledSo commands seed now (Err fault) → (fault ≡ F.Io → Rose before after) → Cause e
     broken_cause fresh F.Io e now is filled rose = subst Cause (sym is) (inl (task_failed (rose refl)))
     broken_cause fresh F.Memory e now is filled rose = subst Cause (sym is) (inl task_wanting)
-    broken_cause fresh F.Unfinished e now is filled rose = inr (fresh, one_undone (seen now) is filled)
 
   -- what is left
   pub done_left : (held given : Option History) (text : List ℕ) (now : History) → held ≡ None → given ≡ Some now → FilledSo commands seed now (Ok text) → GenLeaves commands seed held (E.Replied (Reply.Generated text)) given
-  done_left held given text now fresh is filled = inl (filled.0, ap Reply.Generated filled.1, (now, fresh, is, filled.2))
+  done_left held given text now fresh is filled = (filled.0, ap Reply.Generated filled.1, (now, fresh, is, filled.2))
 
   pub broken_left : (held given : Option History) (fault : GenFault) (e : Ending) → held ≡ None → given ≡ None → e ≡ of_gen fault → GenLeaves commands seed held e given
   broken_left held given fault e fresh gone is = subst (λ x. GenLeaves commands seed held x given) (sym is) (of fault)
@@ -98,7 +96,6 @@ module _ (commands seed : ℕ) where
       of : (fault : GenFault) → GenLeaves commands seed held (of_gen fault) given
       of F.Io = λ some. gone ∙ sym fresh
       of F.Memory = gone ∙ sym fresh
-      of F.Unfinished = inr (refl, gone ∙ sym fresh)
 
   pub failed_left : (held given : Option History) → held ≡ None → GenLeaves commands seed held E.DeviceFault given
   failed_left held given fresh some = absurd (false≢true (subst IsSome fresh some))
@@ -114,18 +111,15 @@ module _ (commands seed : ℕ) where
 pub broken_asked : (fault : GenFault) (e : Ending) → e ≡ of_gen fault → e ≡ E.Usage → ⊥
 broken_asked F.Io e is usage = let wrong : E.DeviceFault ≡ E.Usage = sym is ∙ usage in cc
 broken_asked F.Memory e is usage = let wrong : E.NoMemory ≡ E.Usage = sym is ∙ usage in cc
-broken_asked F.Unfinished e is usage = let wrong : E.Replied Reply.Unfinished ≡ E.Usage = sym is ∙ usage in cc
 
 pub broken_unread : (fault : GenFault) (e : Ending) → e ≡ of_gen fault → of_input e ≡ false
 broken_unread F.Io e is = ap of_input is
 broken_unread F.Memory e is = ap of_input is
-broken_unread F.Unfinished e is = ap of_input is
 
 -- how often the disk had failed where they weren't all done
 pub broken_counted : (tells : Bool) (start last : ℕ) (fault : GenFault) (e : Ending) → e ≡ of_gen fault → start ≤ last → (IsTrue tells → fault ≡ F.Io → Rose start last) → UnlessIo {V = List ℕ} (Err fault) (last ≡ start) → CountedIf tells start last e
 broken_counted tells start last F.Io e is low rose quiet = record { never_falls = low; failed = λ device told. rose told refl; sound = λ other. absurd (other is) }
 broken_counted tells start last F.Memory e is low rose quiet = record { never_falls = low; failed = λ device. (let wrong : E.NoMemory ≡ E.DeviceFault = sym is ∙ device in cc); sound = λ other. quiet }
-broken_counted tells start last F.Unfinished e is low rose quiet = record { never_falls = low; failed = λ device. (let wrong : E.Replied Reply.Unfinished ≡ E.DeviceFault = sym is ∙ device in cc); sound = λ other. quiet }
 
 -- how often the files had, by how often the disk had that was taken and given back
 pub given_counted : (tells : Bool) (before mid now start last : ℕ) (e : Ending) → mid ≡ before → start ≡ 0 → CountedIf tells start last e → (last ≡ 0 → now ≡ mid) → (0 < last → Rose mid now) → mid ≤ now → CountedIf tells before now e

@@ -14,7 +14,7 @@ use Rattle.tdb_ask.specs.declared.lines.create.NewForm.{NewForm}
 use Rattle.tdb_top.specs.declared.ending.Ending.{Ending}
 use Rattle.tdb_top.specs.declared.ending.Ending.TheVariants.{Replied, Refused, Missing, There, Usage, DeviceFault, InputFault, Malformed, NoMemory}
 use Rattle.tdb_top.specs.declared.ending.Reply.{Reply}
-use Rattle.tdb_top.specs.declared.ending.Reply.TheVariants.{Done, Value, Escaped, Dumped, Restored, Copied, Verified, KeyMissing, KeyThere, Full, Number, Pair, End, Played, Generated, Unfinished}
+use Rattle.tdb_top.specs.declared.ending.Reply.TheVariants.{Done, Value, Escaped, Dumped, Restored, Copied, Verified, KeyMissing, KeyThere, Full, Number, Pair, End, Played, Generated}
 use Rattle.tdb_top.specs.declared.halt.Refusal.{Refusal}
 use Rattle.tdb_top.specs.declared.halt.Refusal.TheVariants.{TooLong, Header, Corrupt, NeedsRecovery}
 use Rattle.tdb_ask.specs.declared.limits.TheConstants.{LONGEST_FILE}
@@ -64,7 +64,6 @@ reply_status Copied = inl refl
 reply_status Verified = inl refl
 reply_status Played = inl refl
 reply_status (Generated text) = inl refl
-reply_status Unfinished = inr (inl refl)
 reply_status (Number n) = inl refl
 reply_status (Pair key value) = inl refl
 reply_status End = inl refl
@@ -778,11 +777,6 @@ module _ (before after status : ℕ) where
   done_exits text (inr (inl want)) = absurd (false≢true want.1)
   done_exits text (inr (inr eight)) = inr eight
 
-  undone_exits : Exits status (Replied Unfinished) → (status ≡ 1) ⊎ (status ≡ 8)
-  undone_exits (inl own) = inl own
-  undone_exits (inr (inl want)) = absurd (false≢true want.1)
-  undone_exits (inr (inr eight)) = inr eight
-
   there_exits : (name : List ℕ) → Exits status (There name) → (status ≡ 9) ⊎ (status ≡ 5) ⊎ (status ≡ 8)
   there_exits name (inl own) = inl own
   there_exits name (inr (inl want)) = inr (inl want.0)
@@ -809,11 +803,8 @@ module _ (before after status : ℕ) where
 
   generating_run : (commands seed : ℕ) (output : Output) (old now : Option History) (t : Ending) → Exits status t → CountedBy before after t
       → ((text : List ℕ) → t ≡ Replied (Generated text) → status ≡ 0 → IsTrue output.tells → output.after ≡ output.before ++ text) → GenLeaves commands seed old t now → GeneratingRun commands seed output old before after status now
-  generating_run commands seed output old now (Replied reply) out counted shown (inl left) =
+  generating_run commands seed output old now (Replied reply) out counted shown left =
       all_made commands seed output old now left.0 left.2 (done_exits (summary_text left.0) (subst (λ r. Exits status (Replied r)) left.1 out)) (shown (summary_text left.0) (ap Replied left.1))
-  generating_run commands seed output old now (Replied reply) out counted shown (inr left) =
-      let ends = undone_exits (subst (λ r. Exits status (Replied r)) left.0 out) in
-      nothing_made commands seed output old now left.1 (either_not before after status 1 8 0 (λ z. absurd (omega (arith, z))) (λ z. absurd (omega (arith, z))) ends) (either_not before after status 1 8 4 (λ z. absurd (omega (arith, z))) (λ z. absurd (omega (arith, z))) ends)
   generating_run commands seed output old now (There name) out counted shown left = nothing_made commands seed output old now left (λ is. apart (there_exits name out) (inl is)) (λ is. apart (there_exits name out) (inr is))
     where
       apart : (status ≡ 9) ⊎ (status ≡ 5) ⊎ (status ≡ 8) → (status ≡ 0) ⊎ (status ≡ 4) → ⊥

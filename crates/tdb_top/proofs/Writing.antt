@@ -39,7 +39,6 @@ reply_wanting text written R.Copied takes is = is
 reply_wanting text written R.Verified takes is = is
 reply_wanting text written R.Played takes is = is
 reply_wanting text written (R.Generated summary) takes is = is
-reply_wanting text written R.Unfinished takes is = is
 reply_wanting text written (R.Number n) takes is = is
 reply_wanting text written (R.Pair key value) takes is = is
 reply_wanting text written R.End takes is = is

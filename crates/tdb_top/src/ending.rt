@@ -53,9 +53,6 @@ pub(crate) enum Reply {
     /// All generated commands were done, and this text tells the summary of that.
     Generated(Bytes),
 
-    /// A generated command wasn't done after all turns of its group.
-    Unfinished,
-
     /// So many keys.
     Number(u64),
 
@@ -256,7 +253,7 @@ impl Ending {
             Ending::Replied(Reply::Copied | Reply::Verified | Reply::Played) => 0,
             Ending::Replied(Reply::Generated(_)) => 0,
             Ending::Replied(Reply::Number(_) | Reply::Pair { key: _, value: _ } | Reply::End) => 0,
-            Ending::Replied(Reply::KeyMissing | Reply::KeyThere | Reply::Unfinished) => 1,
+            Ending::Replied(Reply::KeyMissing | Reply::KeyThere) => 1,
             Ending::Usage => 2,
             Ending::Refused(Refusal::Header { fault: _ } | Refusal::Corrupt { what: _, at: _ }) => {
                 3
@@ -286,7 +283,6 @@ impl Ending {
             Ending::Replied(Reply::KeyMissing) => Some(b"noexist\n"),
             Ending::Replied(Reply::KeyThere) => Some(b"exists\n"),
             Ending::Replied(Reply::Generated(text)) => Some(text.as_slice()),
-            Ending::Replied(Reply::Unfinished) => Some(b"unfinished\n"),
             Ending::Usage => Some(b"usage: tdb COMMAND [OPTIONS] FILE [WORDS]\n"),
             Ending::Refused(Refusal::NeedsRecovery) => Some(b"needs recovery\n"),
             Ending::DeviceFault => Some(b"device fault\n"),

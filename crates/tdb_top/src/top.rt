@@ -83,7 +83,6 @@ fn finish<K: Sink>(alloc: Global, answered: &Result<Ending, Unprinted>, output: 
 /// | 0 | the commands on the lines of the input were taken | their replies, one on each line |
 /// | 0 | the file is made, and all generated commands were done on it | their summary, a line for each number |
 /// | 1 | the key isn't there, or is there already | `noexist`, `exists` |
-/// | 1 | a generated command wasn't done | `unfinished` |
 /// | 2 | the words ask for nothing | the usage |
 /// | 3 | the file is refused for a fault of its header, or for another fault, or a dump would have to undo a change first | `header KIND`, `corrupt WHAT AT`, `needs recovery` |
 /// | 4 | a call of the files or of a disk failed | `device fault` |

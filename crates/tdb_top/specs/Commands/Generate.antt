@@ -1,5 +1,5 @@
 -- The command that makes a new file, has generated commands done on it, and tells their summary.
-use Rattle.std.specs.Prelude.{◌≡◌, ◌⊎◌, ℕ, IsSome, Option, None, Some, Result, Ok, Err, List, []}
+use Rattle.std.specs.Prelude.{◌≡◌, ℕ, IsSome, Option, None, Some, Result, Ok, Err, List, []}
 use Rattle.std.specs.FinMap.{empty}
 use Rattle.tdb_words.specs.declared.word.Order.TheVariants.{Little}
 use Rattle.tdb_words.specs.declared.hash.HashKind.TheVariants.{Old}
@@ -10,14 +10,14 @@ use Rattle.tdb_law.specs.Lines.{IsLawful}
 use Rattle.tdb_plays.specs.InLaw.{law_lines}
 use Rattle.tdb_world.specs.Openers.{options_of}
 use Rattle.tdb_world.specs.declared.options.Options.{Options}
-use Rattle.tdb_gen.specs.Generated.{Generated as IsLoad, CameOver}
+use Rattle.tdb_gen.specs.Generated.{Generated as IsLoad}
 use Rattle.tdb_gen.specs.Summary.{summary_text}
 use Rattle.tdb_gen.specs.declared.fault.GenFault.{GenFault}
 use Rattle.tdb_gen.specs.declared.fault.GenFault.TheVariants as F
 use Rattle.tdb_gen.specs.declared.summary.Summary.{Summary}
 use Rattle.tdb_top.specs.declared.ending.Ending.{Ending}
 use Rattle.tdb_top.specs.declared.ending.Ending.TheVariants.{Replied, Refused, Missing, There, Usage, DeviceFault, InputFault, Malformed, NoMemory}
-use Rattle.tdb_top.specs.declared.ending.Reply.TheVariants.{Generated, Unfinished}
+use Rattle.tdb_top.specs.declared.ending.Reply.TheVariants.{Generated}
 use Rattle.tdb_ask.specs.declared.limits.TheConstants.{DEFAULT_SIZE, LONGEST_FILE}
 use Rattle.tdb_top.specs.Commands.Create.{new_image}
 use Rattle.tdb_top.specs.Commands.Restore.{new_form}
@@ -38,24 +38,21 @@ pub record IsGenerated (commands seed : ℕ) (s : Summary) (now : History) : Typ
   pub lawful : IsLawful new_form (beginning (options_of gen_options) empty 0) (law_lines generated.lines)
   pub quiet : Quiet now
 
--- how the filling of a new file with them ends: with the text of their summary, or without it, as far as they came
+-- how the filling of a new file with them ends, where it does: with the text of their summary
 abbrev pub FilledSo : ℕ → ℕ → History → Result (List ℕ) GenFault → Type 0
 FilledSo commands seed now (Ok text) = (s : Summary) × (text ≡ summary_text s) × IsGenerated commands seed s now
 FilledSo commands seed now (Err F.Io) = Unit {0}
 FilledSo commands seed now (Err F.Memory) = Unit {0}
-FilledSo commands seed now (Err F.Unfinished) = CameOver new_form gen_options new_file commands seed (seen now)
 
 -- the ending where they weren't all done
 abbrev pub of_gen : GenFault → Ending
 of_gen F.Io = DeviceFault
 of_gen F.Memory = NoMemory
-of_gen F.Unfinished = Replied Unfinished
 
 -- How generated commands on a new file end, but for a failed call or want of memory: all were done, and their summary
--- is told; or one wasn't done after all turns of its group.
+-- is told.
 pub data GenSo (commands seed : ℕ) (e : Ending) : Type 0 where
   all_done : (s : Summary) (img : List ℕ) → e ≡ Replied (Generated (summary_text s)) → IsLoad new_form gen_options new_file commands seed img s → GenSo commands seed e
-  one_undone : (img : List ℕ) → e ≡ Replied Unfinished → CameOver new_form gen_options new_file commands seed img → GenSo commands seed e
 
 -- a file was made, where none was, and all commands were done on it
 abbrev pub HasMade : ℕ → ℕ → Summary → Option History → Option History → Type 0
@@ -64,7 +61,7 @@ HasMade commands seed s old now = (h : History) × (old ≡ None) × (now ≡ So
 -- What is left at the name of the file by how they end. Where they weren't all done there is what there was; where a
 -- call failed that holds of a file that was there.
 abbrev pub GenLeaves : ℕ → ℕ → Option History → Ending → Option History → Type 0
-GenLeaves commands seed old (Replied reply) now = ((s : Summary) × (reply ≡ Generated (summary_text s)) × HasMade commands seed s old now) ⊎ ((reply ≡ Unfinished) × (now ≡ old))
+GenLeaves commands seed old (Replied reply) now = (s : Summary) × (reply ≡ Generated (summary_text s)) × HasMade commands seed s old now
 GenLeaves commands seed old (There name) now = now ≡ old
 GenLeaves commands seed old DeviceFault now = IsSome old → now ≡ old
 GenLeaves commands seed old NoMemory now = now ≡ old

@@ -43,7 +43,6 @@ impl From<GenFault> for Ending {
         match fault {
             GenFault::Io => Ending::DeviceFault,
             GenFault::Memory => Ending::NoMemory,
-            GenFault::Unfinished => Ending::Replied(Reply::Unfinished),
         }
     }
 }
@@ -86,8 +85,8 @@ fn fill<D: Disk>(alloc: Global, disk: &mut D, commands: u32, seed: u32) -> Resul
     }
 }
 
-/// Makes a file of this name, where there is none, and has so many generated commands done on it. Where not all were
-/// done and no call of the files failed, there is none again.
+/// Makes a file of this name, where there is none, and has so many generated commands done on it. Where memory was
+/// wanting there is none again.
 pub(crate) fn generate_file<F: Files>(
     alloc: Global,
     name: &str,

@@ -1,5 +1,5 @@
 -- The plays were taken as far as they came, and what they tell was counted.
-use Rattle.std.proofs.Common.{◌≡◌, ◌++◌, ◌∷◌, [], ◌∙◌, List, Result, Ok, Err, sym, ap, subst}
+use Rattle.std.proofs.Common.{◌≡◌, ◌++◌, ◌∙◌, List, ap, subst}
 use Rattle.std.specs.Prelude.{IsTrue}
 use Rattle.std.proofs.lemmas.Result.{err_from_is_err_and}
 use Rattle.tdb_space.specs.Form.{form_in}
@@ -9,16 +9,14 @@ use Rattle.tdb_plays.specs.declared.line.Line.{Line}
 use Rattle.tdb_world.specs.Played.{ComesTo}
 use Rattle.tdb_world.specs.Worlds.{World, state_in, BytesStand}
 use Rattle.tdb_gen.specs.declared.counts.Counts.{Counts}
-use Rattle.tdb_gen.specs.declared.fault.GenFault.{GenFault}
-use Rattle.tdb_gen.specs.declared.fault.GenFault.TheVariants.{Memory}
 use Rattle.tdb_gen.specs.Counts.{counts_of}
-use Rattle.tdb_gen.specs.Taking.{Place, place, Taken}
-use Rattle.tdb_gen.proofs.Endings.{run_short, run_unfinished, run_done, run_broken}
+use Rattle.tdb_gen.specs.Taking.{Place, place}
+use Rattle.tdb_gen.proofs.Endings.{run_done, run_broken}
 use Rattle.tdb_gen.proofs.generation.Generation.take.Goals as goal
-use Rattle.tdb_gen.proofs.generation.Generation.take.Goals.{After-has_unfinished}
+use Rattle.tdb_gen.proofs.generation.Generation.take.Goals.{After-count}
 
 pub returns-in_err-run-clause-taken : goal.returns-in_err-run-clause-taken
-returns-in_err-run-clause-taken g c =
+returns-in_err-run-clause-taken g c done =
     let q = err_from_is_err_and c.from_residual.result c.from_residual.ensures.1 in
     let e = c.in_err-run.ensures in
     rw (q.1, q.2)
@@ -27,13 +25,13 @@ returns-in_err-run-clause-taken g c =
     (λ is told S. let C = e.broke is told S in (law_lines C.0, subst (λ ps. ComesTo (form_in c.args.self.now.openers.header) (state_in c.args.self.now.openers (g.S.Space.image c.args.space.now)) (law_plays ps) (law_lines C.0) (state_in c.run.new.self (g.S.Space.image c.run.new.s))) c.as_slice.ensures C.2)) (λ told S is. (e.cause told S).failed is))
 
 -- before the plays and behind them
-abbrev first : (g : _) (c : After-has_unfinished g) → Place
+abbrev first : (g : _) (c : After-count g) → Place
 first g c = place c.args.self.now.openers (g.S.Space.image c.args.space.now) (g.S.Space.size c.args.space.now) (g.S.Space.faults c.args.space.now) c.args.self.now.counts
 
-abbrev last : (g : _) (c : After-has_unfinished g) → World → Counts → Place
+abbrev last : (g : _) (c : After-count g) → World → Counts → Place
 last g c w counts = place w (g.S.Space.image c.run.new.s) (g.S.Space.size c.run.new.s) (g.S.Space.faults c.run.new.s) counts
 
-course : (g : _) (c : After-has_unfinished g) → IsTrue g.S.Space.tells → BytesStand c.args.self.now.openers (g.S.Space.image c.args.space.now)
+course : (g : _) (c : After-count g) → IsTrue g.S.Space.tells → BytesStand c.args.self.now.openers (g.S.Space.image c.args.space.now)
     → (lines : List Line) × Course (form_in c.args.self.now.openers.header) (state_in c.args.self.now.openers (g.S.Space.image c.args.space.now)) (law_plays c.args.self.now.plays) (law_lines lines) (state_in c.run.new.self (g.S.Space.image c.run.new.s))
     × ((told : List Line) → c.args.self.now.counts ≡ counts_of told → c.count.new.self ≡ counts_of (told ++ lines))
 course g c told S =
@@ -41,30 +39,8 @@ course g c told S =
     let is : c.run.new.report.lines ≡ C.0 = C.1 ∙ ap (λ ls. ls ++ C.0) c.clear.ensures in
     (C.0, subst (λ ps. Course (form_in c.args.self.now.openers.header) (state_in c.args.self.now.openers (g.S.Space.image c.args.space.now)) (law_plays ps) (law_lines C.0) (state_in c.run.new.self (g.S.Space.image c.run.new.s))) c.as_slice.ensures C.2, λ before e. c.count.ensures before e ∙ ap (λ ls. counts_of (before ++ ls)) is)
 
--- nobody's command is touched where the report is finished
-moved : (g : _) (c : After-has_unfinished g) (r : Result (Unit {0}) GenFault) → Taken g.S.Space.tells (first g c) (last g c c.run.new.self c.count.new.self) (c.args.self.now.plays ∷ []) r
-    → Taken g.S.Space.tells (first g c) (last g c c.has_unfinished.new.self.openers c.has_unfinished.new.self.counts) (c.args.self.now.plays ∷ []) r
-moved g c r A =
-    subst (λ w. Taken g.S.Space.tells (first g c) (last g c w c.has_unfinished.new.self.counts) (c.args.self.now.plays ∷ []) r) (sym c.has_unfinished.ensures.openers)
-    (subst (λ k. Taken g.S.Space.tells (first g c) (last g c c.run.new.self k) (c.args.self.now.plays ∷ []) r) (sym c.has_unfinished.ensures.counts) A)
-
-pub returns-in_err-has_unfinished-clause-taken : goal.returns-in_err-has_unfinished-clause-taken
-returns-in_err-has_unfinished-clause-taken g c =
-    let q = err_from_is_err_and c.from_residual-in_err-has_unfinished.result c.from_residual-in_err-has_unfinished.ensures.1 in
-    let a = (goal.at.returns-in_err-has_unfinished-clause-taken g c).After-has_unfinished in
-    let e = c.in_ok-run.ensures in
-    rw (q.1, q.2, c.in_err-has_unfinished.ensures.memory)
-    (moved g a (Err Memory) (run_short g.S.Space.tells (first g a) (last g a c.run.new.self c.count.new.self) c.args.self.now.plays e.header e.stands e.done e.bytes (course g a)))
-
-pub returns-then-branch-clause-taken : goal.returns-then-branch-clause-taken
-returns-then-branch-clause-taken g c =
-    let a = (goal.at.returns-then-branch-clause-taken g c).After-has_unfinished in
-    let e = c.in_ok-run.ensures in
-    moved g a _ (run_unfinished g.S.Space.tells (first g a) (last g a c.run.new.self c.count.new.self) c.args.self.now.plays e.header e.stands e.done e.bytes (course g a))
-
 pub returns-clause-taken : goal.returns-clause-taken
-returns-clause-taken g c =
-    let a = (goal.at.returns-clause-taken g c).After-has_unfinished in
+returns-clause-taken g c done =
+    let a = (goal.at.returns-clause-taken g c).After-count in
     let e = c.in_ok-run.ensures in
-    moved g a (Ok tt)
-    (run_done g.S.Space.tells (first g a) (last g a c.run.new.self c.count.new.self) c.args.self.now.plays e.header e.stands e.done e.bytes (course g a) (c.in_ok-has_unfinished.ensures.idle c.if-branch.false (g.S.Space.image c.run.new.s)))
+    run_done g.S.Space.tells (first g a) (last g a c.run.new.self c.count.new.self) c.args.self.now.plays e.header e.stands e.done e.bytes (course g a) done

@@ -1,10 +1,11 @@
 -- The plays of the group were taken, or memory was wanting.
-use Rattle.std.proofs.Common.{◌++◌, ◌∷◌, [], ◌∙◌, ap, subst}
+use Rattle.std.proofs.Common.{◌≡◌, ◌++◌, ◌∷◌, [], ◌∙◌, sym, ap, subst}
 use Rattle.std.proofs.lemmas.Result.{err_from_is_err_and}
 use Rattle.tdb_gen.specs.Plays.{group_plays}
 use Rattle.tdb_gen.specs.Taking.{place, Taken}
 use Rattle.tdb_gen.proofs.Takings.{taken_not}
-use Rattle.tdb_gen.proofs.Endings.{on_ok}
+use Rattle.tdb_gen.specs.Rounds.{AreDone}
+use Rattle.tdb_gen.proofs.Rounds.{groups_done}
 use Rattle.tdb_gen.proofs.generation.Generation.take_group.Goals as goal
 
 pub returns-in_err-push_group-clause-taken : goal.returns-in_err-push_group-clause-taken
@@ -15,12 +16,7 @@ returns-in_err-push_group-clause-taken g c seed group from at =
 
 pub returns-clause-taken : goal.returns-clause-taken
 returns-clause-taken g c seed group from at =
+    let are : c.push_group.new.plays ≡ group_plays c.args.commands seed group = c.in_ok-push_group.ensures.group seed group from at ∙ ap (λ ps. ps ++ group_plays c.args.commands seed group) c.clear.ensures in
     subst (λ ps. Taken g.S.Space.tells (place c.args.self.now.openers (g.S.Space.image c.args.space.now) (g.S.Space.size c.args.space.now) (g.S.Space.faults c.args.space.now) c.args.self.now.counts)
     (place c.take.new.self.openers (g.S.Space.image c.take.new.space) (g.S.Space.size c.take.new.space) (g.S.Space.faults c.take.new.space) c.take.new.self.counts) (ps ∷ []) c.take.result)
-    (c.in_ok-push_group.ensures.group seed group from at ∙ ap (λ ps. ps ++ group_plays c.args.commands seed group) c.clear.ensures) c.take.ensures.taken
-
-pub returns-clause-stands : goal.returns-clause-stands
-returns-clause-stands g c = on_ok c.take.result _ c.take.ensures.taken.stands
-
-pub returns-clause-header : goal.returns-clause-header
-returns-clause-header g c = c.take.ensures.taken.header
+    are (c.take.ensures.taken (subst AreDone (sym are) (groups_done c.args.commands seed group)))
