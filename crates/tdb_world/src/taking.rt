@@ -31,8 +31,8 @@ use tdb_space::{Io, Space};
 use tdb_words::Header;
 
 impl Job {
-    /// Takes one turn of a job that is on no cursor, of an opener with this number in the lock table, which has taken the locks `held`
-    /// explicitly. Its cursor rests, and the cursors of all openers stand on the records at `spots`.
+    /// Takes one turn of a job that is on no cursor, of an opener with this number in the lock table, which has taken the
+    /// locks `held` explicitly. Its cursor rests, and the cursors of all openers stand on the records at `spots`.
     fn turn<S: Space>(
         &mut self,
         alloc: Global,
@@ -105,9 +105,10 @@ impl Task {
 }
 
 impl Opener {
-    /// Takes one turn of the opener's command, which is on no cursor. `owner` is its number in the lock table. After a step the command has one more behind
-    /// it, blocked it is as it was, and at its end the opener has none; so it has after `Io`, where the command is given up. Its cursor
-    /// rests and stays; the cursors of all openers stand on the records at `spots`.
+    /// Takes one turn of the opener's command, which is on no cursor. `owner` is its number in the lock table. After a
+    /// step the command has one more behind it, blocked it is as it was, and at its end the opener has none; so it has
+    /// after `Io`, where the command is given up. Its cursor rests and stays; the cursors of all openers stand on the
+    /// records at `spots`.
     pub(crate) fn turn<S: Space>(
         &mut self,
         alloc: Global,
