@@ -27,9 +27,19 @@ fn nest(
     let Some(mut own) = begin(alloc, disk, false) else {
         return Ok(None);
     };
-    let first = play(alloc, &mut own, disk, Word::Store(b'a', b'2', Flag::Replace))?;
+    let first = play(
+        alloc,
+        &mut own,
+        disk,
+        Word::Store(b'a', b'2', Flag::Replace),
+    )?;
     own.start_inner();
-    let second = play(alloc, &mut own, disk, Word::Store(b'b', b'3', Flag::Replace))?;
+    let second = play(
+        alloc,
+        &mut own,
+        disk,
+        Word::Store(b'b', b'3', Flag::Replace),
+    )?;
     own.cancel_inner();
     let third = play(alloc, &mut own, disk, Word::Fetch(b'a'))?;
     let last = play(alloc, &mut own, disk, Word::Fetch(b'b'))?;
@@ -89,7 +99,15 @@ fn counted_locks(rt: HostRuntime) -> Result<(), Fail> {
         told(&Ok(count_chain(&mut held, 7))),
         told(&Ok(uncount_chain(&mut held, 7))),
     ];
-    assert!(rt; chain == [("notlocked", 0, 0), ("ok", 0, 0), ("ok", 0, 0), ("ok", 0, 0)]);
+    assert!(rt;
+        chain
+            == [
+                ("notlocked", 0, 0),
+                ("ok", 0, 0),
+                ("ok", 0, 0),
+                ("ok", 0, 0)
+            ]
+    );
     let all = [
         told(&Ok(uncount_all(&mut held))),
         told(&Ok(count_all(&mut held, Kind::Read))),

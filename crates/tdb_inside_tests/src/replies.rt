@@ -83,8 +83,18 @@ fn numbers(
     };
     let first_keys = keys(alloc, &mut own, disk);
     let first = number(&mut own, disk);
-    play(alloc, &mut own, disk, Word::Store(b'b', b'2', Flag::Replace))?;
-    play(alloc, &mut own, disk, Word::Store(b'a', b'2', Flag::Replace))?;
+    play(
+        alloc,
+        &mut own,
+        disk,
+        Word::Store(b'b', b'2', Flag::Replace),
+    )?;
+    play(
+        alloc,
+        &mut own,
+        disk,
+        Word::Store(b'a', b'2', Flag::Replace),
+    )?;
     let last_keys = keys(alloc, &mut own, disk);
     let last = number(&mut own, disk);
     Ok(Some((first_keys, first, last_keys, last)))
@@ -97,7 +107,12 @@ fn numbers_of_an_image(rt: HostRuntime) -> Result<(), Fail> {
     for (numbered, last) in [(false, 0), (true, 2)] {
         let mut disk = MemDisk::new(alloc, &bytes())?;
         let zero = ("number", 0, 0);
-        let want = (("number", 1, 0), zero, ("number", 2, 0), ("number", last, 0));
+        let want = (
+            ("number", 1, 0),
+            zero,
+            ("number", 2, 0),
+            ("number", last, 0),
+        );
         assert!(rt; numbers(alloc, &mut disk, numbered)? == Some(want));
     }
     Ok(())
