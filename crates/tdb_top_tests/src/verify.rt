@@ -68,67 +68,44 @@ fn restores_a_copied_file(rt: HostRuntime) -> Result<(), Fail> {
     Ok(())
 }
 
+// Whether a verification has this status, prints this, and leaves this file beside its copy.
+fn tells(
+    alloc: Global,
+    file: Option<&[u8]>,
+    copy: Option<&[u8]>,
+    status: u8,
+    printed: &str,
+    left: Option<&[u8]>,
+) -> Result<bool, Fail> {
+    let mut files = files_of(alloc, file, copy)?;
+    let mut output = MemSink::new(alloc);
+    let (found, bytes) = run_words(alloc, &mut files, &mut output, "backup -v f.tdb")?;
+    Ok(
+        found == status
+            && bytes.as_slice() == printed.as_bytes()
+            && files.get("f.tdb") == left
+            && files.get("f.tdb.bak") == copy
+            && files.get("f.tdb.tmp").is_none(),
+    )
+}
+
 #[test]
 fn verifies(rt: HostRuntime) -> Result<(), Fail> {
     let alloc = rt.alloc();
-    let image = one_record();
-    let stray = stray_record();
-    let version = other_version();
-    let short = image.get(..100).unwrap_or(&[]);
-    for (file, copy, status, printed, left) in [
-        (
-            Some(image.as_slice()),
-            None,
-            0,
-            COUNTED,
-            Some(image.as_slice()),
-        ),
-        (
-            Some(stray.as_slice()),
-            Some(image.as_slice()),
-            0,
-            RESTORED,
-            Some(image.as_slice()),
-        ),
-        (
-            Some(version.as_slice()),
-            Some(image.as_slice()),
-            0,
-            RESTORED,
-            Some(image.as_slice()),
-        ),
-        (
-            Some(short),
-            Some(image.as_slice()),
-            0,
-            RESTORED,
-            Some(image.as_slice()),
-        ),
-        (
-            Some(stray.as_slice()),
-            None,
-            9,
-            "restoring f.tdb\nmissing f.tdb.bak\n",
-            Some(stray.as_slice()),
-        ),
-        (
-            Some(stray.as_slice()),
-            Some(version.as_slice()),
-            3,
-            "restoring f.tdb\nheader Version\n",
-            Some(stray.as_slice()),
-        ),
-        (None, Some(image.as_slice()), 9, "missing f.tdb\n", None),
-    ] {
-        let mut files = files_of(alloc, file, copy)?;
-        let mut output = MemSink::new(alloc);
-        let (found, bytes) = run_words(alloc, &mut files, &mut output, "backup -v f.tdb")?;
-        assert_eq!(rt; found, status, "{printed}");
-        assert_eq!(rt; bytes.as_slice(), printed.as_bytes(), "{printed}");
-        assert_eq!(rt; files.get("f.tdb"), left, "{printed}");
-        assert_eq!(rt; files.get("f.tdb.bak"), copy, "{printed}");
-        assert_eq!(rt; files.get("f.tdb.tmp"), None, "{printed}");
-    }
+    let (image, stray, version) = (one_record(), stray_record(), other_version());
+    let whole = Some(image.as_slice());
+    let lost = Some(stray.as_slice());
+    let other = Some(version.as_slice());
+    let short = image.get(..100);
+    let missing = "restoring f.tdb\nmissing f.tdb.bak\n";
+    let refused = "restoring f.tdb\nheader Version\n";
+    assert!(rt; tells(alloc, whole, None, 0, COUNTED, whole)?);
+    assert!(rt; tells(alloc, lost, whole, 0, RESTORED, whole)?);
+    assert!(rt; tells(alloc, other, whole, 0, RESTORED, whole)?);
+    assert!(rt; tells(alloc, short, whole, 0, RESTORED, whole)?);
+    assert!(rt; tells(alloc, lost, None, 9, missing, lost)?);
+    assert!(rt; tells(alloc, lost, other, 3, refused, lost)?);
+    assert!(rt; tells(alloc, None, whole, 9, "missing f.tdb\n", None)?);
     Ok(())
 }
 
