@@ -1,0 +1,6 @@
+//! The state of a world in which one opener has a transaction beside all others: laws over definitions alone.
+#![tactic(auto)]
+
+mod turns;
+
+pub use crate::turns::{end_is_turned, waiting_is_turned};

@@ -1,0 +1,16 @@
+// The laws of turns that change nothing, and of turns of the openers that aren't aside.
+
+ghost use Rattle.tdb_beside.specs.Laws.{WaitingIsTurned, EndIsTurned};
+
+/// A command that meets a conflict and waits has taken a turn of the law by being blocked. The law is over all worlds;
+/// the function does nothing.
+pub fn waiting_is_turned()
+    ensures law { WaitingIsTurned }
+{}
+
+/// A command that ends at its first turn and changes nothing has taken a turn of the law: it is refused, its lock is
+/// held and it doesn't wait, it tells the file's sequence number, or it is a Next without a cursor. The law is over all
+/// worlds; the function does nothing.
+pub fn end_is_turned()
+    ensures law { EndIsTurned }
+{}
