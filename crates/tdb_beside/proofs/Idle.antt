@@ -57,7 +57,7 @@ waiting_is_turned f w who t owner byte S ready mine waiting unchanged conflict =
 }
 
 -- a command that moves no cursor moves none at its next turn; and where its row has no lock it wants nothing
-unmoved : (f : Form) (c : Command) (x : Own) (a : Spot) (n : ℕ) → moves f c x ≡ false → moves_at f c x a n ≡ false
+pub unmoved : (f : Form) (c : Command) (x : Own) (a : Spot) (n : ℕ) → moves f c x ≡ false → moves_at f c x a n ≡ false
 unmoved f (OnMap c) x a n still = refl
 unmoved f (OnLocks c) x a n still = refl
 unmoved f Seqnum x a n still = refl

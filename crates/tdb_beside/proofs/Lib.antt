@@ -1,1 +1,4 @@
 pub mod Idle
+pub mod Ungrouped
+pub mod Alike
+pub mod Beside

@@ -1,18 +1,34 @@
 -- What turns leave of a world in parts, and the ends by which a command changes nothing.
-use Rattle.std.specs.Prelude.{ℕ, List, ◌≡◌, Some, None}
+use Rattle.std.specs.Prelude.{ℕ, List, ◌≡◌, ◌⊎◌, false, Some, None}
 use Rattle.tdb_space.specs.Form.{Form}
-use Rattle.tdb_law.specs.Commands.{Reply}
+use Rattle.tdb_law.specs.Commands.{Command, Reply, Turn}
 use Rattle.tdb_law.specs.Commands.LockCommand.{ChainLockNb}
 use Rattle.tdb_law.specs.Commands.WalkCommand.{Next}
-use Rattle.tdb_law.specs.Commands.Command.{OnLocks, Seqnum, OnWalk}
+use Rattle.tdb_law.specs.Commands.Command.{OnGroup, OnLocks, Seqnum, OnWalk}
 use Rattle.tdb_law.specs.Commands.Reply.{Busy, End, Number}
 use Rattle.tdb_law.specs.Openers.{Task}
 use Rattle.tdb_law.specs.Refusals.{Refusal, refusal, says}
-use Rattle.tdb_law.specs.Outcomes.{own_refused}
+use Rattle.tdb_law.specs.Outcomes.{moves, own_refused}
+use Rattle.tdb_law.specs.Counting.{settled_after}
 use Rattle.tdb_law.specs.World.{State}
 use Rattle.tdb_law.specs.Effects.{IsFree, IsFirstConflict}
 use Rattle.tdb_law.specs.Turned.{want}
-use Rattle.tdb_beside.specs.Sides.{but_at}
+use Rattle.tdb_beside.specs.Sides.{Past, Side, but_at}
+
+-- a command that is on no transaction
+abbrev pub IsUngrouped : Command → Type 0
+IsUngrouped (OnGroup g) = ⊥
+IsUngrouped c = Unit {0}
+
+-- what a plain state doesn't have after a turn of a command: the world may be settled then, or be so no longer
+abbrev pub past_after : Form → State → ℕ → Task → Turn → Past → Past
+past_after f p who t turn past = record past { settled = settled_after f t.command (p.own who) t.steps turn past.settled }
+
+-- The opener aside is no matter to the next turn of a command: it doesn't shut the others out, or the command neither moves a cursor nor
+-- has a dead record to purge; and it doesn't hold the byte of the sequence number, or the command doesn't want that.
+pub record IsClear (f : Form) (p : State) (s : Side) (who : ℕ) (t : Task) : Type 0 where
+  pub sight : (s.shuts ≡ false) ⊎ ((moves f t.command (p.own who) ≡ false) × ((p.view who).must ≡ false))
+  pub number : (s.table 48 ≡ 0) ⊎ (want f p who t 48 ≡ 0)
 
 -- the world where an opener's command has ended, and nothing else has changed
 abbrev pub without_task : State → ℕ → State

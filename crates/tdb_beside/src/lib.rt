@@ -3,4 +3,4 @@
 
 mod turns;
 
-pub use crate::turns::{end_is_turned, waiting_is_turned};
+pub use crate::turns::{alone_turns, beside_turns, end_is_turned, waiting_is_turned};

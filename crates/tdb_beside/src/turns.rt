@@ -1,6 +1,6 @@
 // The laws of turns that change nothing, and of turns of the openers that aren't aside.
 
-ghost use Rattle.tdb_beside.specs.Laws.{WaitingIsTurned, EndIsTurned};
+ghost use Rattle.tdb_beside.specs.Laws.{WaitingIsTurned, EndIsTurned, AloneTurns, BesideTurns};
 
 /// A command that meets a conflict and waits has taken a turn of the law by being blocked. The law is over all worlds;
 /// the function does nothing.
@@ -13,4 +13,16 @@ pub fn waiting_is_turned()
 /// worlds; the function does nothing.
 pub fn end_is_turned()
     ensures law { EndIsTurned }
+{}
+
+/// Where nobody is aside, a turn in a plain state, of a command that is on no transaction, is one of the whole world.
+/// The law is over all states; the function does nothing.
+pub fn alone_turns()
+    ensures law { AloneTurns }
+{}
+
+/// So it is beside an opener that is no matter to the command, which stands aside of the others afterwards too. The law
+/// is over all states; the function does nothing.
+pub fn beside_turns()
+    ensures law { BesideTurns }
 {}

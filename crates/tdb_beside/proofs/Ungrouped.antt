@@ -1,0 +1,185 @@
+-- Commands that are on no transaction: what they leave of one, of the numbers, and which bytes they want.
+use Rattle.std.proofs.Common.{◌≡◌, ℕ, ◌<◌, ◌≤◌, List, [], ◌∷◌, Bool, true, false, nat_lt, ◌==◌, Option, Some, None, is_none, refl, sym, ◌∙◌, ap, arith}
+use Rattle.std.specs.Prelude.{◌&&◌, if◌then◌else◌}
+use Rattle.std.proofs.lemmas.Bool.{lt-leb}
+use Rattle.std.proofs.Math.Bool.{and-false}
+use Rattle.tdb_space.specs.Form.{Form, data_start}
+use Rattle.tdb_law.specs.Commands.{MapCommand, LockCommand, WalkCommand, Command, Reply, Turn, is_done}
+use Rattle.tdb_law.specs.Commands.MapCommand.{Fetch, Has, Delete, Store, Insert, Modify, Append, Wipe, Check}
+use Rattle.tdb_law.specs.Commands.LockCommand.{ChainLock, ChainLockNb, ChainUnlock, LockAll, LockAllRead, UnlockAll}
+use Rattle.tdb_law.specs.Commands.WalkCommand.{First, Next, EndWalk, Close}
+use Rattle.tdb_law.specs.Commands.Command.{OnMap, OnLocks, Seqnum, OnGroup, OnWalk}
+use Rattle.tdb_law.specs.Commands.Turn.{Step, Blocked, Ends}
+use Rattle.tdb_law.specs.Openers.{Own, Map, Spot, View}
+use Rattle.tdb_law.specs.Refusals.{Refusal, refusal}
+use Rattle.tdb_law.specs.Rows.{Lock, map_locks, lock_locks, walk_locks, locks_by, locks}
+use Rattle.tdb_law.specs.Outcomes.{changed_txn, own_by, own_after, own_refused, own_spared}
+use Rattle.tdb_law.specs.Counting.{brings_by, number_by, image_number_by, image_number_after}
+use Rattle.tdb_law.specs.Held.{is_chain, covers, strongest, locked_next, is_gone, wanted, moves_at}
+use Rattle.tdb_law.specs.Effects.{Effect}
+use Rattle.tdb_law.specs.Effects.Effect.{effect_waits, effect_goes_on, effect_changes, effect_answers, effect_shows, effect_starves, effect_is_full, effect_is_busy, effect_numbers, effect_finishes}
+use Rattle.tdb_law.specs.Turned.{number_next}
+use Rattle.tdb_beside.specs.Turns.{IsUngrouped}
+
+-- outside a transaction none of them begins one
+refused_out : (c : Command) (x : Own) → IsUngrouped c → x.txn ≡ None → (own_refused c x).txn ≡ None
+refused_out (OnMap c) x apart out = out
+refused_out (OnLocks c) x apart out = out
+refused_out Seqnum x apart out = out
+refused_out (OnGroup g) x apart out = absurd apart
+refused_out (OnWalk w) x apart out = out
+
+after_out : (f : Form) (q : Option Refusal) (c : Command) (x : Own) (n : ℕ) (r : Reply) (m : Map) → IsUngrouped c → x.txn ≡ None → (own_by f q c x n r m).txn ≡ None
+after_out f (Some q) c x n r m apart out = refused_out c x apart out
+after_out f None (OnMap c) x n r m apart out = ap (changed_txn c) out
+after_out f None (OnLocks (ChainLock k)) x n r m apart out = out
+after_out f None (OnLocks (ChainLockNb k)) x n r m apart out = out
+after_out f None (OnLocks (ChainUnlock k)) x n r m apart out = out
+after_out f None (OnLocks LockAll) x n r m apart out = out
+after_out f None (OnLocks LockAllRead) x n r m apart out = out
+after_out f None (OnLocks UnlockAll) x n r m apart out = out
+after_out f None Seqnum x n r m apart out = out
+after_out f None (OnGroup g) x n r m apart out = absurd apart
+after_out f None (OnWalk First) x n r m apart out = out
+after_out f None (OnWalk Next) x n r m apart out = out
+after_out f None (OnWalk EndWalk) x n r m apart out = out
+after_out f None (OnWalk Close) x n r m apart out = refl
+
+spared_out : (c : Command) (x : Own) → IsUngrouped c → x.txn ≡ None → (own_spared c x).txn ≡ None
+spared_out (OnMap c) x apart out = out
+spared_out (OnLocks c) x apart out = out
+spared_out Seqnum x apart out = out
+spared_out (OnGroup g) x apart out = absurd apart
+spared_out (OnWalk First) x apart out = out
+spared_out (OnWalk Next) x apart out = out
+spared_out (OnWalk EndWalk) x apart out = out
+spared_out (OnWalk Close) x apart out = refl
+
+module _ (f : Form) (c : Command) (n : ℕ) (x y : Own) (apart : IsUngrouped c) (out : x.txn ≡ None) where
+  same_out : y ≡ x → y.txn ≡ None
+  same_out e = ap (λ z. z.txn) e ∙ out
+
+  ended_out : (r : Reply) (m : Map) → y ≡ own_after f c x n r m → y.txn ≡ None
+  ended_out r m e = ap (λ z. z.txn) e ∙ after_out f (refusal f c x) c x n r m apart out
+
+  bare_out : y ≡ own_spared c x → y.txn ≡ None
+  bare_out e = ap (λ z. z.txn) e ∙ spared_out c x apart out
+
+  pub stays_out : {free : Type 0} {conflict : ℕ → ℕ → Type 0} {finds : Reply → Type 0} (number : ℕ) (file next : Map) (turn : Turn) → Effect f free conflict finds number c n x file turn y next → y.txn ≡ None
+  stays_out number file next turn (effect_waits o b e conflict unchanged same own) = same_out own
+  stays_out number file next turn (effect_goes_on e free unchanged same own) = same_out own
+  stays_out number file next turn (effect_changes e free late unchanged made done changed own) = same_out own
+  stays_out number file next turn (effect_answers r e free still uncounted ready unchanged says changed own) = ended_out r file own
+  stays_out number file next turn (effect_shows r e free moving found same own) = ended_out r file own
+  stays_out number file next turn (effect_starves e starving unchanged same own) = bare_out own
+  stays_out number file next turn (effect_is_full len need e free filling ready unchanged done same own) = bare_out own
+  stays_out number file next turn (effect_is_busy o b e conflict busy same own) = bare_out own
+  stays_out number file next turn (effect_numbers q e free counting says same own) = same_out own
+  stays_out number file next turn (effect_finishes e free made same own) = ended_out Reply.Done file own
+
+-- the file's number doesn't depend on that of an image, and that of an image stays
+brings_none : (q : Option Refusal) (c : Command) (x : Own) → IsUngrouped c → brings_by q c x ≡ false
+brings_none (Some q) c x apart = refl
+brings_none None (OnMap c) x apart = refl
+brings_none None (OnLocks c) x apart = refl
+brings_none None Seqnum x apart = refl
+brings_none None (OnGroup g) x apart = absurd apart
+brings_none None (OnWalk w) x apart = refl
+
+number_apart : (r : Option Refusal) (c : Command) (x : Own) (q u v : ℕ) → IsUngrouped c → number_by r c x q u ≡ number_by r c x q v
+number_apart (Some r) c x q u v apart = refl
+number_apart None (OnMap c) x q u v apart = refl
+number_apart None (OnLocks c) x q u v apart = refl
+number_apart None Seqnum x q u v apart = refl
+number_apart None (OnGroup g) x q u v apart = absurd apart
+number_apart None (OnWalk w) x q u v apart = refl
+
+pub next_apart : (f : Form) (c : Command) (n : ℕ) (x : Own) (turn : Turn) (q u v : ℕ) → IsUngrouped c → number_next f c n x turn q u ≡ number_next f c n x turn q v
+next_apart f c n x Step q u v apart = rw (brings_none (refusal f c x) c x apart) refl
+next_apart f c n x (Blocked o b) q u v apart = refl
+next_apart f c n x (Ends r) q u v apart = ap (λ z. if is_done r then z else q) (number_apart (refusal f c x) c x q u v apart)
+
+image_apart : (r : Option Refusal) (c : Command) (x : Own) (q u : ℕ) → IsUngrouped c → x.txn ≡ None → image_number_by r c x q u ≡ u
+image_apart (Some r) c x q u apart out = refl
+image_apart None (OnMap c) x q u apart out = rw out refl
+image_apart None (OnLocks c) x q u apart out = refl
+image_apart None Seqnum x q u apart out = refl
+image_apart None (OnGroup g) x q u apart out = absurd apart
+image_apart None (OnWalk w) x q u apart out = refl
+
+pub image_stays : (f : Form) (c : Command) (x : Own) (turn : Turn) (q u : ℕ) → IsUngrouped c → x.txn ≡ None → u ≡ image_number_after f c x turn q u
+image_stays f c x Step q u apart out = refl
+image_stays f c x (Blocked o b) q u apart out = refl
+image_stays f c x (Ends r) q u apart out = by_done (is_done r)
+  where
+    by_done : (z : Bool) → u ≡ (if z then image_number_by (refusal f c x) c x q u else u)
+    by_done true = sym (image_apart (refusal f c x) c x q u apart out)
+    by_done false = refl
+
+-- No lock of their rows is at a byte below 48, of the sequence number.
+abbrev AllFrom : ℕ → List Lock → Type 0
+AllFrom start [] = Unit {0}
+AllFrom start (l ∷ ls) = (start ≤ l.start) × AllFrom start ls
+
+none_below : (picks : Lock → Bool) (start b : ℕ) (ls : List Lock) → AllFrom start ls → b < start → strongest picks ls b ≡ 0
+none_below picks start b [] from low = refl
+none_below picks start b (l ∷ ls) from low =
+    let off : covers l b ≡ false = ap (λ z. z && nat_lt b l.end) (lt-leb l.start b (omega (arith, low, from.0))) in
+    let none : (if picks l && covers l b then l.strength else 0) ≡ 0 = ap (λ z. if picks l && z then l.strength else 0) off ∙ ap (λ z. if z then l.strength else 0) (and-false (picks l)) in
+    omega (arith, none, none_below picks start b ls from.1 low)
+
+map_from : (f : Form) (c : MapCommand) → AllFrom 48 (map_locks f c)
+map_from f (Fetch k) = (omega arith, tt)
+map_from f (Has k) = (omega arith, tt)
+map_from f (Delete k) = (omega arith, (omega arith, tt))
+map_from f (Store k v) = (omega arith, (omega arith, tt))
+map_from f (Insert k v) = (omega arith, (omega arith, tt))
+map_from f (Modify k v) = (omega arith, (omega arith, tt))
+map_from f (Append k v) = (omega arith, (omega arith, tt))
+map_from f Wipe = (omega arith, (omega arith, tt))
+map_from f Check = (omega arith, (omega arith, tt))
+
+lock_from : (f : Form) (c : LockCommand) → AllFrom 48 (lock_locks f c)
+lock_from f (ChainLock k) = (omega arith, tt)
+lock_from f (ChainLockNb k) = (omega arith, tt)
+lock_from f (ChainUnlock k) = tt
+lock_from f LockAll = (omega arith, tt)
+lock_from f LockAllRead = (omega arith, tt)
+lock_from f UnlockAll = tt
+
+walk_from : (f : Form) (w : WalkCommand) (k : Option (List ℕ)) (purging : Bool) → AllFrom 48 (walk_locks f w k purging)
+walk_from f w None purging = tt
+walk_from f First (Some k) false = tt
+walk_from f Next (Some k) false = (omega arith, tt)
+walk_from f EndWalk (Some k) false = tt
+walk_from f Close (Some k) false = tt
+walk_from f w (Some k) true = (omega arith, (omega arith, tt))
+
+-- a row outside a transaction, or none
+or_none : (z : Bool) (ls : List Lock) → AllFrom 48 ls → AllFrom 48 (if z then ls else [])
+or_none true ls from = from
+or_none false ls from = tt
+
+locks_from : (f : Form) (q : Option Refusal) (c : Command) (x : Own) (purging : Bool) → IsUngrouped c → AllFrom 48 (locks_by f q c x purging)
+locks_from f (Some q) c x purging apart = tt
+locks_from f None (OnMap c) x purging apart = or_none (is_none x.txn) _ (map_from f c)
+locks_from f None (OnLocks c) x purging apart = or_none (is_none x.txn) _ (lock_from f c)
+locks_from f None Seqnum x purging apart = or_none (is_none x.txn) _ (omega arith, tt)
+locks_from f None (OnGroup g) x purging apart = absurd apart
+locks_from f None (OnWalk w) x purging apart = or_none (is_none x.txn) _ (walk_from f w x.cursor purging)
+
+pub wants_low : (f : Form) (c : Command) (x : Own) (a : Spot) (v : View) (n b : ℕ) → IsUngrouped c → b < 48 → wanted f c x a v n b ≡ 0
+unfolding wanted
+wants_low f c x a v n b apart low =
+    let row = none_below (λ l. l.turn == n) 48 b (locks f c x a.purging) (locks_from f (refusal f c x) c x a.purging apart) low in
+    let way : is_chain f b ≡ false = ap (λ z. z && nat_lt b (data_start f)) (lt-leb 168 b (omega (arith, low))) in
+    omega (arith, row_part (is_gone c a) row, way_part (moves_at f c x a n) (is_none x.txn) (v.way b) way)
+  where
+    row_part : (g : Bool) → locked_next (locks f c x a.purging) n b ≡ 0 → (if g then 0 else locked_next (locks f c x a.purging) n b) ≡ 0
+    row_part true e = refl
+    row_part false e = e
+
+    way_part : (m o w : Bool) → is_chain f b ≡ false → ◌≡◌ {A = ℕ} (if m && (o && (is_chain f b && w)) then 1 else 0) 0
+    way_part true true w e = rw e refl
+    way_part true false w e = refl
+    way_part false o w e = refl
