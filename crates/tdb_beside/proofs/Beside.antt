@@ -4,7 +4,7 @@ use Rattle.std.specs.Prelude.{if◌then◌else◌}
 use Rattle.std.proofs.lemmas.Bool.{cases_eq, cases_lt}
 use Rattle.tdb_space.specs.Form.{Form}
 use Rattle.tdb_law.specs.Commands.{Command, Turn}
-use Rattle.tdb_law.specs.Openers.{Own, Mark, Spot, Task, View, nowhere}
+use Rattle.tdb_law.specs.Openers.{Own, Spot, Task, View, nowhere}
 use Rattle.tdb_law.specs.World.{State, IsSound}
 use Rattle.tdb_law.specs.Counting.{takes, settled_after}
 use Rattle.tdb_law.specs.Outcomes.{moves}
@@ -16,8 +16,9 @@ use Rattle.tdb_law.proofs.Walking.{put_here, put_else}
 use Rattle.tdb_beside.specs.Sides.{Past, Side, everywhere, alone, beside, IsPlain, StandsAside}
 use Rattle.tdb_beside.specs.Turns.{IsUngrouped, IsClear, past_after}
 use Rattle.tdb_beside.specs.Laws.{AloneTurns, BesideTurns}
+use Rattle.tdb_beside.proofs.Choices.{shift_choice, hold_choice, aside_stays}
 use Rattle.tdb_beside.proofs.Ungrouped.{stays_out, wants_low}
-use Rattle.tdb_beside.proofs.Idle.{still_shift, unmoved}
+use Rattle.tdb_beside.proofs.Idle.{unmoved}
 use Rattle.tdb_beside.proofs.Alike.{here_of, turned_alike}
 
 module _ (f : Form) (p later : State) (past : Past) (who : ℕ) (t : Task) (turn : Turn) (P : IsPlain p) (apart : IsUngrouped t.command) (T : Turned f p who t turn later) where
@@ -55,15 +56,6 @@ module _ (f : Form) (p later : State) (past : Past) (who : ℕ) (t : Task) (turn
 pub alone_turns : AloneTurns
 alone_turns f p later past who t turn P apart T = (plain_after f p later past who t turn P apart T, alone_turned f p later past who t turn P apart T)
 
--- beside an opener that has another mark, or the same, a walk shifts
-shift_choice : (f : Form) (z : Bool) (lost : Mark → List ℕ → Type 0) (m a b : Mark) → Shift f (lost a) a b → Shift f (lost (cond z m a)) (cond z m a) (cond z m b)
-shift_choice f true lost m a b shift = still_shift f (lost m) m
-shift_choice f false lost m a b shift = shift
-
-hold_choice : (z : Bool) (m g h : ℕ → ℕ) (b : ℕ) → g b ≡ h b → cond z m g b ≡ cond z m h b
-hold_choice true m g h b same = refl
-hold_choice false m g h b same = same
-
 -- a command that moves no cursor wants the same whichever chains are on the way
 unseen : (f : Form) (c : Command) (x : Own) (a : Spot) (u v : View) (n b : ℕ) → moves f c x ≡ false → wanted f c x a u n b ≡ wanted f c x a v n b
 unfolding wanted
@@ -87,14 +79,7 @@ module _ (f : Form) (p later : State) (past : Past) (s : Side) (who : ℕ) (t : 
   its_own = put_else p.own s.here s.own who ne
 
   aside_after : StandsAside later s
-  aside_after = record {
-    joined = subst (λ n. s.here < n) (sym T.joined) A.joined;
-    idle = T.others s.here here_else ∙ A.idle;
-    spot = T.others_spot s.here here_else ∙ A.spot;
-    records = λ b from. A.records b from ∙ sym (T.others_hold s.here b here_else);
-    below = λ b under. T.others_hold s.here b here_else ∙ A.below b under;
-    shuts = A.shuts;
-  }
+  aside_after = aside_stays p later s A (omega (arith, T.joined)) (T.others s.here here_else) (T.others_spot s.here here_else) (λ b. T.others_hold s.here b here_else)
 
   -- the world is alike at an opener that isn't aside
   before_here : here_of q who ≡ here_of p who

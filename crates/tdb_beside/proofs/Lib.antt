@@ -1,4 +1,6 @@
 pub mod Idle
 pub mod Ungrouped
+pub mod Choices
 pub mod Alike
 pub mod Beside
+pub mod Happening

@@ -1,7 +1,7 @@
 -- The laws of a world in which one opener is aside.
-use Rattle.std.specs.Prelude.{ℕ, ◌≡◌, ◌≢◌, true, false, Some}
+use Rattle.std.specs.Prelude.{ℕ, ◌≡◌, ◌≢◌, true, false, Option, Some}
 use Rattle.tdb_space.specs.Form.{Form}
-use Rattle.tdb_law.specs.Commands.{Reply, Turn}
+use Rattle.tdb_law.specs.Commands.{Command, Reply, Turn}
 use Rattle.tdb_law.specs.Commands.Turn.{Blocked, Ends}
 use Rattle.tdb_law.specs.Openers.{Task}
 use Rattle.tdb_law.specs.Rows.{is_changed}
@@ -9,7 +9,9 @@ use Rattle.tdb_law.specs.Ends.{waits}
 use Rattle.tdb_law.specs.World.{State, IsSound}
 use Rattle.tdb_law.specs.Effects.{IsFirstConflict}
 use Rattle.tdb_law.specs.Turned.{Turned, want}
-use Rattle.tdb_beside.specs.Sides.{Past, Side, alone, beside, IsPlain, StandsAside}
+use Rattle.tdb_law.specs.Events.{Joins, Dies, Given}
+use Rattle.tdb_beside.specs.Sides.{Past, Side, alone, beside, whole, IsPlain, StandsAside}
+use Rattle.tdb_beside.specs.Events.{StandsBy, IsElse}
 use Rattle.tdb_beside.specs.Turns.{IsUngrouped, IsClear, past_after, EndsAtOnce, without_task}
 
 -- In a sound world that isn't stale, a command that waits, of which the file doesn't have the change, and that meets a conflict has
@@ -34,3 +36,17 @@ abbrev pub BesideTurns : Type 0
 BesideTurns = (f : Form) (p later : State) (past : Past) (s : Side) (who : ℕ) (t : Task) (turn : Turn) → IsSound f (beside p past s) → IsPlain p → StandsAside p s → IsClear f p s who t → who ≢ s.here
     → IsUngrouped t.command → Turned f p who t turn later
     → IsPlain later × StandsAside later s × Turned f (beside p past s) who t turn (beside later (past_after f p who t turn past) s)
+
+-- An opener that joins the plain world joins the whole world, where nobody at all holds the opening lock, whoever is aside.
+abbrev pub JoinsBeside : Type 0
+JoinsBeside = (f : Form) (p later : State) (past : Past) (side : Option Side) (who : ℕ) → StandsBy p side → ((o : ℕ) → (whole p past side).table o 0 ≡ 0) → Joins f p who later
+    → StandsBy later side × Joins f (whole p past side) who (whole later past side)
+
+-- So it is with a command that is given to an opener that isn't aside, and with the death of one.
+abbrev pub GivenBeside : Type 0
+GivenBeside = (p later : State) (past : Past) (side : Option Side) (who : ℕ) (c : Command) → StandsBy p side → IsElse side who → Given p who c later
+    → StandsBy later side × Given (whole p past side) who c (whole later past side)
+
+abbrev pub DiesBeside : Type 0
+DiesBeside = (f : Form) (p later : State) (past : Past) (side : Option Side) (who : ℕ) → StandsBy p side → IsElse side who → Dies f p who later
+    → StandsBy later side × Dies f (whole p past side) who (whole later past side)

@@ -1,6 +1,8 @@
 //! The state of a world in which one opener has a transaction beside all others: laws over definitions alone.
 #![tactic(auto)]
 
+mod events;
 mod turns;
 
+pub use crate::events::events_beside;
 pub use crate::turns::{alone_turns, beside_turns, end_is_turned, waiting_is_turned};
