@@ -4,3 +4,4 @@ pub mod Choices
 pub mod Alike
 pub mod Beside
 pub mod Happening
+pub mod Committed

@@ -1,14 +1,21 @@
 -- The laws of a world in which one opener is aside.
-use Rattle.std.specs.Prelude.{ℕ, ◌≡◌, ◌≢◌, true, false, Option, Some}
+use Rattle.std.specs.Prelude.{ℕ, ◌+◌, List, ◌≡◌, ◌≢◌, true, false, Option, Some}
 use Rattle.tdb_space.specs.Form.{Form}
+use Rattle.tdb_space.specs.Extents.{HandPair}
+use Rattle.tdb_space.specs.Accepted.{AcceptWith}
 use Rattle.tdb_law.specs.Commands.{Command, Reply, Turn}
-use Rattle.tdb_law.specs.Commands.Turn.{Blocked, Ends}
-use Rattle.tdb_law.specs.Openers.{Task}
+use Rattle.tdb_law.specs.Commands.GroupCommand.{Commit}
+use Rattle.tdb_law.specs.Commands.Command.{OnGroup}
+use Rattle.tdb_law.specs.Commands.Turn.{Step, Blocked, Ends}
+use Rattle.tdb_law.specs.Openers.{Own, Txn, Task, has}
 use Rattle.tdb_law.specs.Rows.{is_changed}
 use Rattle.tdb_law.specs.Ends.{waits}
 use Rattle.tdb_law.specs.World.{State, IsSound}
 use Rattle.tdb_law.specs.Effects.{IsFirstConflict}
 use Rattle.tdb_law.specs.Turned.{Turned, want}
+use Rattle.tdb_law.specs.Walks.{Lost, Shift}
+use Rattle.tdb_law.specs.Images.{image_map}
+use Rattle.tdb_law.specs.Layout.{Place, IsOffRecords, chains_in, mark_of}
 use Rattle.tdb_law.specs.Events.{Joins, Dies, Given}
 use Rattle.tdb_beside.specs.Sides.{Past, Side, alone, beside, whole, IsPlain, StandsAside}
 use Rattle.tdb_beside.specs.Events.{StandsBy, IsElse}
@@ -50,3 +57,15 @@ GivenBeside = (p later : State) (past : Past) (side : Option Side) (who : ℕ) (
 abbrev pub DiesBeside : Type 0
 DiesBeside = (f : Form) (p later : State) (past : Past) (side : Option Side) (who : ℕ) → StandsBy p side → IsElse side who → Dies f p who later
     → StandsBy later side × Dies f (whole p past side) who (whole later past side)
+
+-- Where a commit puts another image into the file, a walk that stands on no record shifts: each key further on that the new image has is
+-- further on still.
+abbrev pub CommitShifts : Type 0
+CommitShifts = (f : Form) (a b : List ℕ) (hands : List HandPair) (place : Place) → AcceptWith f b hands → IsOffRecords place
+    → Shift f (λ k. has (image_map f b) k ≡ false) (mark_of f (chains_in f a) place) (mark_of f (chains_in f b) place)
+
+-- So it does by the step after which the file has the change of a Commit, whose image has that map: others' walks lose no key but by it.
+abbrev pub GateShifts : Type 0
+GateShifts = (f : Form) (x : Own) (txn : Txn) (n : ℕ) (a b : List ℕ) (hands : List HandPair) (place : Place) → x.txn ≡ Some txn → txn.image ≡ image_map f b → is_changed f (OnGroup Commit) x (n + 1) ≡ true
+    → AcceptWith f b hands → IsOffRecords place
+    → Shift f (Lost f (OnGroup Commit) n x Step false (mark_of f (chains_in f a) place)) (mark_of f (chains_in f a) place) (mark_of f (chains_in f b) place)

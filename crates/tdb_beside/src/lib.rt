@@ -1,8 +1,10 @@
 //! The state of a world in which one opener has a transaction beside all others: laws over definitions alone.
 #![tactic(auto)]
 
+mod commits;
 mod events;
 mod turns;
 
+pub use crate::commits::commit_shifts;
 pub use crate::events::events_beside;
 pub use crate::turns::{alone_turns, beside_turns, end_is_turned, waiting_is_turned};
