@@ -5,3 +5,4 @@ pub mod Alike
 pub mod Beside
 pub mod Happening
 pub mod Committed
+pub mod Shut

@@ -1,5 +1,5 @@
 -- The laws of a world in which one opener is aside.
-use Rattle.std.specs.Prelude.{ℕ, ◌+◌, List, ◌≡◌, ◌≢◌, true, false, Option, Some}
+use Rattle.std.specs.Prelude.{ℕ, ◌+◌, ◌≤◌, ◌<◌, ◌^◌, List, ◌≡◌, ◌≢◌, true, false, Option, Some}
 use Rattle.tdb_space.specs.Form.{Form}
 use Rattle.tdb_space.specs.Extents.{HandPair}
 use Rattle.tdb_space.specs.Accepted.{AcceptWith}
@@ -19,6 +19,7 @@ use Rattle.tdb_law.specs.Layout.{Place, IsOffRecords, chains_in, mark_of}
 use Rattle.tdb_law.specs.Events.{Joins, Dies, Given}
 use Rattle.tdb_beside.specs.Sides.{Past, Side, alone, beside, whole, IsPlain, StandsAside}
 use Rattle.tdb_beside.specs.Events.{StandsBy, IsElse}
+use Rattle.tdb_beside.specs.Shutting.{HasRecords, IsShutOut}
 use Rattle.tdb_beside.specs.Turns.{IsUngrouped, IsClear, past_after, EndsAtOnce, without_task}
 
 -- In a sound world that isn't stale, a command that waits, of which the file doesn't have the change, and that meets a conflict has
@@ -69,3 +70,15 @@ abbrev pub GateShifts : Type 0
 GateShifts = (f : Form) (x : Own) (txn : Txn) (n : ℕ) (a b : List ℕ) (hands : List HandPair) (place : Place) → x.txn ≡ Some txn → txn.image ≡ image_map f b → is_changed f (OnGroup Commit) x (n + 1) ≡ true
     → AcceptWith f b hands → IsOffRecords place
     → Shift f (Lost f (OnGroup Commit) n x Step false (mark_of f (chains_in f a) place)) (mark_of f (chains_in f a) place) (mark_of f (chains_in f b) place)
+
+-- Who is aside holds all records, for reading at least, once it has had its two locks.
+abbrev pub RecordsAreHeld : Type 0
+RecordsAreHeld = (f : Form) (p : State) (past : Past) (s : Side) (b : ℕ) → IsSound f (beside p past s) → HasRecords f s → 168 ≤ b → b < 2 ^ 63 → 1 ≤ s.table b
+
+-- What it holds no other opener holds for writing.
+abbrev pub OthersOnlyRead : Type 0
+OthersOnlyRead = (f : Form) (p : State) (past : Past) (s : Side) (who b : ℕ) → IsSound f (beside p past s) → who ≢ s.here → 1 ≤ s.table b → p.table who b ≤ 1
+
+-- And while it shuts the others out they hold no record at all.
+abbrev pub OthersAreShutOut : Type 0
+OthersAreShutOut = (f : Form) (p : State) (past : Past) (s : Side) (who : ℕ) → IsSound f (beside p past s) → StandsAside p s → s.shuts ≡ true → who ≢ s.here → IsShutOut f p who

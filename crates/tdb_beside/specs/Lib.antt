@@ -1,4 +1,5 @@
 pub mod Sides
 pub mod Turns
 pub mod Events
+pub mod Shutting
 pub mod Laws
