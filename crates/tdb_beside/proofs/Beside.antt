@@ -17,7 +17,8 @@ use Rattle.tdb_beside.specs.Sides.{Past, Side, everywhere, alone, beside, IsPlai
 use Rattle.tdb_beside.specs.Turns.{IsUngrouped, IsClear, past_after}
 use Rattle.tdb_beside.specs.Laws.{AloneTurns, BesideTurns}
 use Rattle.tdb_beside.proofs.Choices.{shift_choice, hold_choice, aside_stays}
-use Rattle.tdb_beside.proofs.Ungrouped.{stays_out, wants_low}
+use Rattle.tdb_beside.proofs.Ungrouped.{stays_out}
+use Rattle.tdb_beside.proofs.Wants.{wants_low}
 use Rattle.tdb_beside.proofs.Idle.{unmoved}
 use Rattle.tdb_beside.proofs.Alike.{here_of, turned_alike}
 

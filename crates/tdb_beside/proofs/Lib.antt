@@ -1,5 +1,6 @@
 pub mod Idle
 pub mod Ungrouped
+pub mod Wants
 pub mod Choices
 pub mod Alike
 pub mod Beside

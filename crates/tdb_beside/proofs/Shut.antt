@@ -1,7 +1,7 @@
 -- What the locks of an opener aside leave to the others.
 use Rattle.std.proofs.Common.{◌≡◌, ◌≢◌, ℕ, ◌+◌, ◌<◌, ◌≤◌, ◌^◌, List, [], ◌∷◌, Bool, true, false, Some, None, is_none, refl, sym, ◌∙◌, ap, subst, inl, inr, arith, le_refl}
 use Rattle.std.specs.Prelude.{if◌then◌else◌, All}
-use Rattle.std.proofs.lemmas.Bool.{cases_lt, eq-eqb}
+use Rattle.std.proofs.lemmas.Bool.{cases_eq, cases_lt, eq-eqb}
 use Rattle.std.proofs.lemmas.List.Elements.{All-nil, All-cons}
 use Rattle.tdb_space.specs.Form.{Form}
 use Rattle.tdb_law.specs.Commands.{MapCommand, Command}
@@ -11,14 +11,18 @@ use Rattle.tdb_law.specs.Commands.Command.{OnMap, OnGroup}
 use Rattle.tdb_law.specs.Openers.{Own, Spot, Task, nowhere}
 use Rattle.tdb_law.specs.Refusals.{refusal, chain_byte}
 use Rattle.tdb_law.specs.Rows.{Lock, lock, lock_all, lock_free, lock_chain, start_locks, group_locks, map_locks, locks_by, locks}
-use Rattle.tdb_law.specs.Held.{locked, txn_held, stand_held, kept_by, kept, is_gone, held, task_held, holding}
+use Rattle.tdb_law.specs.Held.{locked, txn_held, stand_held, decided, kept_by, kept, is_gone, held, task_held, holding}
 use Rattle.tdb_law.specs.World.{State, IsSound, HasFewChains}
+use Rattle.tdb_law.specs.Effects.{IsFirstConflict}
+use Rattle.tdb_law.specs.Turned.{want}
 use Rattle.tdb_law.proofs.Locks.{first_locked, rest_locked, covers_within, chain_place, chain_covered}
 use Rattle.tdb_law.proofs.Walking.{put_here, put_else}
 use Rattle.tdb_beside.specs.Sides.{Past, Side, beside, StandsAside}
 use Rattle.tdb_beside.specs.Shutting.{HasRecords, IsToCome, IsShutOut}
 use Rattle.tdb_beside.specs.Shutting.HasRecords.{by_transaction, by_start}
-use Rattle.tdb_beside.specs.Laws.{RecordsAreHeld, OthersOnlyRead, OthersAreShutOut}
+use Rattle.tdb_beside.specs.Turns.{IsUngrouped}
+use Rattle.tdb_beside.specs.Laws.{RecordsAreHeld, OthersOnlyRead, OthersAreShutOut, ShutOutMeets}
+use Rattle.tdb_beside.proofs.Wants.{wants_most}
 
 -- two steps of a Start take all records
 start_held : (n b : ℕ) → 2 ≤ n → 168 ≤ b → b < 2 ^ 63 → 1 ≤ locked start_locks n b
@@ -141,6 +145,33 @@ module _ (f : Form) (p : State) (past : Past) (s : Side) (S : IsSound f (beside 
       new = λ c n has out granted. map_new f S.chains n c (subst (All (IsToCome n)) (map_row f c (p.own who) (p.spot who).purging out granted) (row (record { command = OnMap c; steps = n }) has refl));
     }
 
+    -- the first record that its command wants
+    module _ (t : Task) (byte : ℕ) (apart : IsUngrouped t.command) (from : 168 ≤ byte) (below : byte < 2 ^ 63) (wants : 1 ≤ want f q who t byte) (first : (b : ℕ) → b < byte → want f q who t b ≡ 0) where
+      -- another opener's locks alone never conflict
+      table_most : (o b : ℕ) → o ≢ who → q.table o b ≤ 2
+      table_most o b other = omega (arith, S.apart o who b other)
+
+      -- at its byte no third opener holds anything
+      meets_here : (o : ℕ) → o ≢ who → 2 < want f q who t byte + q.table o byte → s.here ≤ o
+      meets_here o other over = elim (cases_eq o s.here) [
+        | inl is ↦ omega (arith, is)
+        | inr third ↦ absurd (omega (arith, over, wants_most f t.command (q.own who) (decided (q.spot who) (q.view who) t.steps) (q.view who) t.steps byte apart, table_else o byte third, both o byte third, A.shuts shut byte from below))
+      ]
+
+      meets : IsFirstConflict q.table who (want f q who t) s.here byte
+      meets = record {
+        other = λ e. ne (sym e);
+        conflict = omega (arith, wants, table_here byte, A.shuts shut byte from below);
+        least = λ o b other over.
+            (elim (cases_lt b byte) [
+              | inl lower ↦ absurd (omega (arith, over, first b lower, table_most o b other))
+              | inr up ↦ elim (cases_eq byte b) [
+                | inl is ↦ inr (is, meets_here o other (subst (λ z. 2 < want f q who t z + q.table o z) (sym is) over))
+                | inr apart_of ↦ inl (omega (arith, up, apart_of))
+              ]
+            ]);
+      }
+
 pub records_held : RecordsAreHeld
 records_held f p past s b S R from below = records_by f p past s S b R from below
 
@@ -149,3 +180,6 @@ others_only_read f p past s who b S ne held = omega (arith, both f p past s S wh
 
 pub others_shut_out : OthersAreShutOut
 others_shut_out f p past s who S A shut ne = shut_out f p past s S A shut who ne
+
+pub shut_out_meets : ShutOutMeets
+shut_out_meets f p past s who t byte S A shut ne apart from below wants first = meets f p past s S A shut who ne t byte apart from below wants first

@@ -1,21 +1,16 @@
--- Commands that are on no transaction: what they leave of one, of the numbers, and which bytes they want.
-use Rattle.std.proofs.Common.{◌≡◌, ℕ, ◌<◌, ◌≤◌, List, [], ◌∷◌, Bool, true, false, nat_lt, ◌==◌, Option, Some, None, is_none, refl, sym, ◌∙◌, ap, arith}
-use Rattle.std.specs.Prelude.{◌&&◌, if◌then◌else◌}
-use Rattle.std.proofs.lemmas.Bool.{lt-leb}
-use Rattle.std.proofs.Math.Bool.{and-false}
-use Rattle.tdb_space.specs.Form.{Form, data_start}
-use Rattle.tdb_law.specs.Commands.{MapCommand, LockCommand, WalkCommand, Command, Reply, Turn, is_done}
-use Rattle.tdb_law.specs.Commands.MapCommand.{Fetch, Has, Delete, Store, Insert, Modify, Append, Wipe, Check}
+-- Commands that are on no transaction: they begin none, and need no number of an image.
+use Rattle.std.proofs.Common.{◌≡◌, ℕ, Bool, true, false, Option, Some, None, refl, sym, ◌∙◌, ap}
+use Rattle.std.specs.Prelude.{if◌then◌else◌}
+use Rattle.tdb_space.specs.Form.{Form}
+use Rattle.tdb_law.specs.Commands.{Command, Reply, Turn, is_done}
 use Rattle.tdb_law.specs.Commands.LockCommand.{ChainLock, ChainLockNb, ChainUnlock, LockAll, LockAllRead, UnlockAll}
 use Rattle.tdb_law.specs.Commands.WalkCommand.{First, Next, EndWalk, Close}
 use Rattle.tdb_law.specs.Commands.Command.{OnMap, OnLocks, Seqnum, OnGroup, OnWalk}
 use Rattle.tdb_law.specs.Commands.Turn.{Step, Blocked, Ends}
-use Rattle.tdb_law.specs.Openers.{Own, Map, Spot, View}
+use Rattle.tdb_law.specs.Openers.{Own, Map}
 use Rattle.tdb_law.specs.Refusals.{Refusal, refusal}
-use Rattle.tdb_law.specs.Rows.{Lock, map_locks, lock_locks, walk_locks, locks_by, locks}
 use Rattle.tdb_law.specs.Outcomes.{changed_txn, own_by, own_after, own_refused, own_spared}
 use Rattle.tdb_law.specs.Counting.{brings_by, number_by, image_number_by, image_number_after}
-use Rattle.tdb_law.specs.Held.{is_chain, covers, strongest, locked_next, is_gone, wanted, moves_at}
 use Rattle.tdb_law.specs.Effects.{Effect}
 use Rattle.tdb_law.specs.Effects.Effect.{effect_waits, effect_goes_on, effect_changes, effect_answers, effect_shows, effect_starves, effect_is_full, effect_is_busy, effect_numbers, effect_finishes}
 use Rattle.tdb_law.specs.Turned.{number_next}
@@ -115,71 +110,3 @@ image_stays f c x (Ends r) q u apart out = by_done (is_done r)
     by_done : (z : Bool) → u ≡ (if z then image_number_by (refusal f c x) c x q u else u)
     by_done true = sym (image_apart (refusal f c x) c x q u apart out)
     by_done false = refl
-
--- No lock of their rows is at a byte below 48, of the sequence number.
-abbrev AllFrom : ℕ → List Lock → Type 0
-AllFrom start [] = Unit {0}
-AllFrom start (l ∷ ls) = (start ≤ l.start) × AllFrom start ls
-
-none_below : (picks : Lock → Bool) (start b : ℕ) (ls : List Lock) → AllFrom start ls → b < start → strongest picks ls b ≡ 0
-none_below picks start b [] from low = refl
-none_below picks start b (l ∷ ls) from low =
-    let off : covers l b ≡ false = ap (λ z. z && nat_lt b l.end) (lt-leb l.start b (omega (arith, low, from.0))) in
-    let none : (if picks l && covers l b then l.strength else 0) ≡ 0 = ap (λ z. if picks l && z then l.strength else 0) off ∙ ap (λ z. if z then l.strength else 0) (and-false (picks l)) in
-    omega (arith, none, none_below picks start b ls from.1 low)
-
-map_from : (f : Form) (c : MapCommand) → AllFrom 48 (map_locks f c)
-map_from f (Fetch k) = (omega arith, tt)
-map_from f (Has k) = (omega arith, tt)
-map_from f (Delete k) = (omega arith, (omega arith, tt))
-map_from f (Store k v) = (omega arith, (omega arith, tt))
-map_from f (Insert k v) = (omega arith, (omega arith, tt))
-map_from f (Modify k v) = (omega arith, (omega arith, tt))
-map_from f (Append k v) = (omega arith, (omega arith, tt))
-map_from f Wipe = (omega arith, (omega arith, tt))
-map_from f Check = (omega arith, (omega arith, tt))
-
-lock_from : (f : Form) (c : LockCommand) → AllFrom 48 (lock_locks f c)
-lock_from f (ChainLock k) = (omega arith, tt)
-lock_from f (ChainLockNb k) = (omega arith, tt)
-lock_from f (ChainUnlock k) = tt
-lock_from f LockAll = (omega arith, tt)
-lock_from f LockAllRead = (omega arith, tt)
-lock_from f UnlockAll = tt
-
-walk_from : (f : Form) (w : WalkCommand) (k : Option (List ℕ)) (purging : Bool) → AllFrom 48 (walk_locks f w k purging)
-walk_from f w None purging = tt
-walk_from f First (Some k) false = tt
-walk_from f Next (Some k) false = (omega arith, tt)
-walk_from f EndWalk (Some k) false = tt
-walk_from f Close (Some k) false = tt
-walk_from f w (Some k) true = (omega arith, (omega arith, tt))
-
--- a row outside a transaction, or none
-or_none : (z : Bool) (ls : List Lock) → AllFrom 48 ls → AllFrom 48 (if z then ls else [])
-or_none true ls from = from
-or_none false ls from = tt
-
-locks_from : (f : Form) (q : Option Refusal) (c : Command) (x : Own) (purging : Bool) → IsUngrouped c → AllFrom 48 (locks_by f q c x purging)
-locks_from f (Some q) c x purging apart = tt
-locks_from f None (OnMap c) x purging apart = or_none (is_none x.txn) _ (map_from f c)
-locks_from f None (OnLocks c) x purging apart = or_none (is_none x.txn) _ (lock_from f c)
-locks_from f None Seqnum x purging apart = or_none (is_none x.txn) _ (omega arith, tt)
-locks_from f None (OnGroup g) x purging apart = absurd apart
-locks_from f None (OnWalk w) x purging apart = or_none (is_none x.txn) _ (walk_from f w x.cursor purging)
-
-pub wants_low : (f : Form) (c : Command) (x : Own) (a : Spot) (v : View) (n b : ℕ) → IsUngrouped c → b < 48 → wanted f c x a v n b ≡ 0
-unfolding wanted
-wants_low f c x a v n b apart low =
-    let row = none_below (λ l. l.turn == n) 48 b (locks f c x a.purging) (locks_from f (refusal f c x) c x a.purging apart) low in
-    let way : is_chain f b ≡ false = ap (λ z. z && nat_lt b (data_start f)) (lt-leb 168 b (omega (arith, low))) in
-    omega (arith, row_part (is_gone c a) row, way_part (moves_at f c x a n) (is_none x.txn) (v.way b) way)
-  where
-    row_part : (g : Bool) → locked_next (locks f c x a.purging) n b ≡ 0 → (if g then 0 else locked_next (locks f c x a.purging) n b) ≡ 0
-    row_part true e = refl
-    row_part false e = e
-
-    way_part : (m o w : Bool) → is_chain f b ≡ false → ◌≡◌ {A = ℕ} (if m && (o && (is_chain f b && w)) then 1 else 0) 0
-    way_part true true w e = rw e refl
-    way_part true false w e = refl
-    way_part false o w e = refl

@@ -82,3 +82,9 @@ OthersOnlyRead = (f : Form) (p : State) (past : Past) (s : Side) (who b : ℕ) �
 -- And while it shuts the others out they hold no record at all.
 abbrev pub OthersAreShutOut : Type 0
 OthersAreShutOut = (f : Form) (p : State) (past : Past) (s : Side) (who : ℕ) → IsSound f (beside p past s) → StandsAside p s → s.shuts ≡ true → who ≢ s.here → IsShutOut f p who
+
+-- So a command that wants a record, and no byte below, meets the opener aside there, and nobody before.
+abbrev pub ShutOutMeets : Type 0
+ShutOutMeets = (f : Form) (p : State) (past : Past) (s : Side) (who : ℕ) (t : Task) (byte : ℕ) → IsSound f (beside p past s) → StandsAside p s → s.shuts ≡ true → who ≢ s.here → IsUngrouped t.command
+    → 168 ≤ byte → byte < 2 ^ 63 → 1 ≤ want f (beside p past s) who t byte → ((b : ℕ) → b < byte → want f (beside p past s) who t b ≡ 0)
+    → IsFirstConflict (beside p past s).table who (want f (beside p past s) who t) s.here byte

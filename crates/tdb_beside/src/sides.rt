@@ -1,6 +1,6 @@
 // The laws of what the locks of an opener aside leave to the others.
 
-ghost use Rattle.tdb_beside.specs.Laws.{RecordsAreHeld, OthersOnlyRead, OthersAreShutOut};
+ghost use Rattle.tdb_beside.specs.Laws.{RecordsAreHeld, OthersOnlyRead, OthersAreShutOut, ShutOutMeets};
 
 /// In a sound world the opener aside holds all records, for reading at least, from the second step of its Start on; what
 /// it holds no other opener holds for writing; and while it shuts the others out they hold no record, no cursor of
@@ -9,4 +9,5 @@ pub fn joined_side()
     ensures held { RecordsAreHeld }
     ensures readers { OthersOnlyRead }
     ensures shut { OthersAreShutOut }
+    ensures meets { ShutOutMeets }
 {}
