@@ -20,7 +20,7 @@ abbrev pub IsUngrouped : Command → Type 0
 IsUngrouped (OnGroup g) = ⊥
 IsUngrouped c = Unit {0}
 
--- what a plain state doesn't have after a turn of a command: the world may be settled then, or be so no longer
+-- what a plain state doesn't have, after a turn: the images keep their numbers, and the turn may unsettle the world
 abbrev pub past_after : Form → State → ℕ → Task → Turn → Past → Past
 past_after f p who t turn past = record past { settled = settled_after f t.command (p.own who) t.steps turn past.settled }
 
