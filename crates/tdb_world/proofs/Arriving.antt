@@ -1,12 +1,10 @@
 -- An opener that joins, and a world without any.
-use Rattle.std.proofs.Common.{◌≡◌, ◌≢◌, ℕ, zero, suc, ◌+◌, List, [], ◌∷◌, ◌++◌, length, slice_get, true, Option, Some, None, refl, sym, ◌∙◌, ap, subst, inl, inr, arith, le_refl, append-nil, length-append}
+use Rattle.std.proofs.Common.{◌≡◌, ◌≢◌, ℕ, zero, suc, ◌+◌, List, [], ◌∷◌, ◌++◌, length, slice_get, true, Option, Some, None, refl, sym, ◌∙◌, ap, subst, arith, le_refl, append-nil, length-append}
 use Rattle.std.specs.List.Sorted.{IsStrictlySortedBy}
 use Rattle.std.proofs.lemmas.List.Elements.{All-nil}
-use Rattle.std.proofs.lemmas.Bool.{cases_eq}
 use Rattle.std.proofs.lemmas.Option.{slice_get_past}
 use Rattle.tdb_space.specs.Form.{Form}
 use Rattle.tdb_space.specs.Pairs.{joined}
-use Rattle.tdb_space.specs.Accepted.{AcceptWith}
 use Rattle.tdb_locks.specs.HeldLocks.{HeldLocks, nothing_held, AreCounts}
 use Rattle.tdb_locks.specs.declared.piece.Piece.{Piece}
 use Rattle.tdb_law.specs.Openers.{Own, nowhere, opened}
@@ -19,15 +17,16 @@ use Rattle.tdb_world.specs.declared.options.Options.{Options}
 use Rattle.tdb_world.specs.declared.opener.Opener.{Opener}
 use Rattle.tdb_law.specs.Layout.{chains_in, mark_of}
 use Rattle.tdb_law.specs.Walks.{Shift}
-use Rattle.tdb_world.specs.Openers.{no_cursor, no_walk, rest_of, options_of, own_of, own_with, own_at, spot_by, walk_of, steps_of, spot_at, place_at, spots_of, task_at, law_task, hands_of_task, hands_at, TaskStands, TaskKnows, OpenerKnows, WalkStands}
+use Rattle.tdb_world.specs.Openers.{no_cursor, no_walk, rest_of, options_of, own_of, own_with, own_at, spot_by, walk_of, steps_of, spot_at, place_at, spots_of, task_at, law_task, hands_of_task, hands_at, TaskStands, TaskKnows, WalkStands}
 use Rattle.tdb_world.specs.States.{WorldStands}
 use Rattle.tdb_world.specs.Laws.{IsJoined, JoinKeepsWorld, JoinKeepsFile, JoinJoins, EmptyStands, EmptyFileStands, EmptyIsLoaded}
 use Rattle.tdb_world.proofs.Standing.{Holds, IsSet, world_set, held_still}
 use Rattle.tdb_walk.specs.Cursors.{At, Knows}
 use Rattle.tdb_cursors.specs.Spots.{spot_number}
-use Rattle.tdb_world.specs.Cursors.{is_stood, CursorKnows, TaskSpares, OpenerSpares, StandApart, cursor_at}
+use Rattle.tdb_world.specs.Cursors.{is_stood, TaskSpares, StandApart, cursor_at}
 use Rattle.tdb_world.proofs.Stood.{spots_pushed, stood_pushed}
 use Rattle.tdb_world.proofs.AllHands.{joined_same}
+use Rattle.tdb_world.proofs.Replacing.{file_set}
 use Rattle.tdb_world.proofs.StillWalks.{still_shift}
 use Rattle.tdb_world.proofs.Opening.{nobody_holds, nobody_opens}
 
@@ -100,33 +99,10 @@ apart_bare None = tt
 apart_bare (Some at) = λ due off on also. absurd (cc also)
 
 pub join_keeps_file : JoinKeepsFile
-join_keeps_file f xs ys a y F J = record {
-  accepted = subst (AcceptWith f a) (sym hands) F.accepted;
-  known = λ o.
-      (elim (cases_eq o (length xs)) [
-        | inl is ↦ subst (λ p. OpenerKnows f a (slice_get ys p)) (sym is) (subst (OpenerKnows f a) (sym S.there) (subst (TaskKnows f a) (sym J.idle) tt))
-        | inr ne ↦ subst (OpenerKnows f a) (sym (S.others o ne)) (F.known o)
-      ]);
-  cursors = λ o.
-      (elim (cases_eq o (length xs)) [
-        | inl is ↦ subst (λ p. CursorKnows f a (slice_get ys p)) (sym is) (subst (CursorKnows f a) (sym S.there) (subst (λ w. Knows f a w.cursor.place w.cursor.stage) (sym J.bare) tt))
-        | inr ne ↦ subst (CursorKnows f a) (sym (S.others o ne)) (F.cursors o)
-      ]);
-  alone = λ o p ne.
-      (elim (cases_eq o (length xs)) [
-        | inl is ↦ subst (λ q. StandApart (cursor_at (slice_get ys q)) (cursor_at (slice_get ys p))) (sym is) (subst (λ z. StandApart (cursor_at z) (cursor_at (slice_get ys p))) (sym S.there) (subst (λ w. StandApart (Some w.cursor) (cursor_at (slice_get ys p))) (sym J.bare) (bare_apart (cursor_at (slice_get ys p)))))
-        | inr first ↦ (elim (cases_eq p (length xs)) [
-          | inl is ↦ subst (λ q. StandApart (cursor_at (slice_get ys o)) (cursor_at (slice_get ys q))) (sym is) (subst (λ z. StandApart (cursor_at (slice_get ys o)) (cursor_at z)) (sym S.there) (subst (λ w. StandApart (cursor_at (slice_get ys o)) (Some w.cursor)) (sym J.bare) (apart_bare (cursor_at (slice_get ys o)))))
-          | inr second ↦ subst (λ z. StandApart (cursor_at z) (cursor_at (slice_get ys p))) (sym (S.others o first)) (subst (λ z. StandApart (cursor_at (slice_get xs o)) (cursor_at z)) (sym (S.others p second)) (F.alone o p ne))
-        ])
-      ]);
-  spared = λ o.
-      subst (λ stands. OpenerSpares stands (slice_get ys o)) (sym stand)
-      (elim (cases_eq o (length xs)) [
-        | inl is ↦ subst (λ p. OpenerSpares (is_stood (spots_of xs)) (slice_get ys p)) (sym is) (subst (OpenerSpares (is_stood (spots_of xs))) (sym S.there) (subst (TaskSpares (is_stood (spots_of xs))) (sym J.idle) tt))
-        | inr ne ↦ subst (OpenerSpares (is_stood (spots_of xs))) (sym (S.others o ne)) (F.spared o)
-      ]);
-}
+join_keeps_file f xs ys a y F J =
+    file_set xs ys (length xs) y S f a F hands (λ off e. subst (λ stands. stands off ≡ true) stand e) (subst (TaskKnows f a) (sym J.idle) tt) (subst (λ w. Knows f a w.cursor.place w.cursor.stage) (sym J.bare) tt)
+    (subst (TaskSpares (is_stood (spots_of ys))) (sym J.idle) tt)
+    (λ o ne. subst (λ w. StandApart (Some w.cursor) (cursor_at (slice_get xs o)) × StandApart (cursor_at (slice_get xs o)) (Some w.cursor)) (sym J.bare) (bare_apart (cursor_at (slice_get xs o)), apart_bare (cursor_at (slice_get xs o))))
   where
     S : IsSet xs (length xs) y ys
     S = is_set xs ys y J

@@ -1,9 +1,7 @@
 -- A command that is given: its opener holds what it held, and no record yet.
 use Rattle.std.proofs.Common.{Bool, true, false, is_some, Option, ◌≡◌, ℕ, ◌+◌, ◌≤◌, max, List, [], length, slice_get, Some, None, refl, sym, ◌∙◌, ap, subst, inl, inr, arith, le_refl}
-use Rattle.std.proofs.lemmas.Bool.{cases_eq}
 use Rattle.tdb_space.specs.Form.{Form}
 use Rattle.tdb_space.specs.Pairs.{joined}
-use Rattle.tdb_space.specs.Accepted.{AcceptWith}
 use Rattle.tdb_law.specs.Openers.{Own, Spot}
 use Rattle.tdb_law.specs.Rows.{map_locks}
 use Rattle.tdb_law.specs.Lines.{most_openers}
@@ -34,16 +32,16 @@ use Rattle.tdb_walk.specs.declared.stage.Stage.{Stage as CursorStage}
 use Rattle.tdb_walk.specs.InLaw.{StandsAfter, is_before}
 use Rattle.tdb_walk.specs.Again.{RestsAt}
 use Rattle.tdb_walk.proofs.Again.{cursor_begins}
-use Rattle.tdb_world.specs.Openers.{rest_of, own_of, own_with, own_at, spot_by, walk_command, walk_in, walk_of, steps_of, MayAsk, WalkAfter, spot_at, place_at, spots_of, task_at, command_in, law_task, hands_of_job, hands_of_task, hands_at, JobStands, TaskStands, OpenerStands, WalkStands, JobKnows, TaskKnows, OpenerKnows}
+use Rattle.tdb_world.specs.Openers.{rest_of, own_of, own_with, own_at, spot_by, walk_command, walk_in, walk_of, steps_of, MayAsk, WalkAfter, spot_at, place_at, spots_of, task_at, command_in, law_task, hands_of_job, hands_of_task, hands_at, JobStands, TaskStands, OpenerStands, WalkStands, JobKnows, TaskKnows}
 use Rattle.tdb_world.specs.States.{state_of}
 use Rattle.tdb_world.specs.Laws.{IsGiven, GiftKeepsWorld, GiftKeepsFile, GiftIsGiven}
-use Rattle.tdb_world.proofs.Standing.{Holds, world_set, held_still}
+use Rattle.tdb_world.proofs.Standing.{Holds, IsSet, put_set, world_set, held_still}
 use Rattle.tdb_walk.specs.Cursors.{At, Knows}
 use Rattle.tdb_cursors.specs.Spots.{spot_number}
-use Rattle.tdb_world.specs.Cursors.{is_stood, CursorKnows, StageSpares, JobSpares, TaskSpares, OpenerSpares, StandApart, cursor_at}
+use Rattle.tdb_world.specs.Cursors.{is_stood, CursorKnows, StageSpares, JobSpares, TaskSpares, StandApart, cursor_at}
 use Rattle.tdb_world.proofs.Stood.{place_entry, same_spots}
 use Rattle.tdb_world.proofs.Rests.{walk_rests}
-use Rattle.tdb_world.proofs.AllHands.{joined_same}
+use Rattle.tdb_world.proofs.Replacing.{at_each, hands_set, file_set}
 use Rattle.tdb_world.proofs.Busy.{hand_frees, looked_writes, listed_writes, taken_writes}
 
 -- the opener has what it had
@@ -141,7 +139,7 @@ walk_begins f held x at size R (Jobs.Walk walking) K =
 
 pub gift_keeps_world : GiftKeepsWorld
 gift_keeps_world f options xs ys ps a size who x y job W there P G K =
-    world_set f options xs ys ps ps a a size size who y W (record { there = P.there; others = P.others }) (held_still f options xs ps a size who y W holds)
+    world_set f options xs ys ps ps a a size size who y W (put_set xs ys who y P) (held_still f options xs ps a size who y W holds)
     (record { stands = (subst IsWellHeld (sym G.same_held) (subst (OpenerStands f options size) there (W.openers_stand who)).0, subst (λ z. TaskStands f (own_of options y) z size) (sym G.task) (subst (λ w. JobStands f w job 0 size) (sym (same_own options x y job G)) K), given_walk); busy_live = λ t e. G.same_live ∙ G.live })
     (le_refl size) (subst (λ n. n ≤ most_openers) (sym P.same_length) W.few) W.short
   where
@@ -168,49 +166,25 @@ gift_keeps_world f options xs ys ps a size who x y job W there P G K =
         before ∙ (ap (λ n. max n (kept f (own_of options x) s b)) (sym none) ∙ sym after)
 
 pub gift_keeps_file : GiftKeepsFile
-gift_keeps_file f options xs ys a size who x y job F there P G K = record {
-  accepted =
-      subst (AcceptWith f a) (ap (λ n. joined n (λ o. hands_at (slice_get xs o))) (sym P.same_length) ∙ sym (joined_same (length ys) (λ o. hands_at (slice_get xs o)) (λ o. hands_at (slice_get ys o)) (λ o low. same_hands o))) F.accepted;
-  known = λ o.
-      (elim (cases_eq o who) [
-        | inl is ↦ subst (λ p. OpenerKnows f a (slice_get ys p)) (sym is) (subst (OpenerKnows f a) (sym P.there) (subst (TaskKnows f a) (sym G.task) (bare_knows f (own_of options x) size a job K)))
-        | inr ne ↦ subst (OpenerKnows f a) (sym (P.others o ne)) (F.known o)
-      ]);
-  cursors = λ o.
-      (elim (cases_eq o who) [
-        | inl is ↦ subst (λ p. CursorKnows f a (slice_get ys p)) (sym is) (subst (CursorKnows f a) (sym P.there) (subst (λ w. Knows f a w.cursor.place w.cursor.stage) (sym G.same_walk) (subst (CursorKnows f a) there (F.cursors who))))
-        | inr ne ↦ subst (CursorKnows f a) (sym (P.others o ne)) (F.cursors o)
-      ]);
-  alone = λ o p ne. subst (λ z. StandApart z (cursor_at (slice_get ys p))) (sym (same_cursors o)) (subst (StandApart (cursor_at (slice_get xs o))) (sym (same_cursors p)) (F.alone o p ne));
-  spared = λ o.
-      subst (λ l. OpenerSpares (is_stood l) (slice_get ys o)) (sym same_entries)
-      (elim (cases_eq o who) [
-        | inl is ↦ subst (λ p. OpenerSpares (is_stood (spots_of xs)) (slice_get ys p)) (sym is) (subst (OpenerSpares (is_stood (spots_of xs))) (sym P.there) (subst (TaskSpares (is_stood (spots_of xs))) (sym G.task) (bare_spares f (own_of options x) size job (is_stood (spots_of xs)) K)))
-        | inr ne ↦ subst (OpenerSpares (is_stood (spots_of xs))) (sym (P.others o ne)) (F.spared o)
-      ]);
-}
+gift_keeps_file f options xs ys a size who x y job F there P G K =
+    file_set xs ys who y set f a F same_hands (λ off e. subst (λ l. is_stood l off ≡ true) same_entries e) (subst (TaskKnows f a) (sym G.task) (bare_knows f (own_of options x) size a job K))
+    (subst (λ w. Knows f a w.cursor.place w.cursor.stage) (sym G.same_walk) (subst (CursorKnows f a) there (F.cursors who))) (subst (TaskSpares (is_stood (spots_of ys))) (sym G.task) (bare_spares f (own_of options x) size job (is_stood (spots_of ys)) K))
+    (λ o ne. subst (λ z. StandApart z (cursor_at (slice_get xs o)) × StandApart (cursor_at (slice_get xs o)) z) its_cursor (F.alone who o (λ e. ne (sym e)), F.alone o who ne))
   where
-    same_cursors : (o : ℕ) → cursor_at (slice_get ys o) ≡ cursor_at (slice_get xs o)
-    same_cursors o = elim (cases_eq o who) [
-      | inl is ↦ subst (λ p. cursor_at (slice_get ys p) ≡ cursor_at (slice_get xs p)) (sym is) (ap cursor_at P.there ∙ (ap (λ w. Some w.cursor) G.same_walk ∙ sym (ap cursor_at there)))
-      | inr ne ↦ ap cursor_at (P.others o ne)
-    ]
+    set : IsSet xs who y ys
+    set = put_set xs ys who y P
+
+    its_cursor : cursor_at (slice_get xs who) ≡ Some y.walk.cursor
+    its_cursor = ap cursor_at there ∙ ap (λ w. Some w.cursor) (sym G.same_walk)
 
     same_entries : spots_of ys ≡ spots_of xs
-    same_entries = same_spots xs ys (λ o. elim (cases_eq o who) [
-      | inl is ↦ subst (λ p. place_entry (slice_get ys p) ≡ place_entry (slice_get xs p)) (sym is) (ap place_entry P.there ∙ (ap (λ w. Some (spot_number w.cursor.place)) G.same_walk ∙ sym (ap place_entry there)))
-      | inr ne ↦ ap place_entry (P.others o ne)
-    ])
+    same_entries = same_spots xs ys (λ o. at_each xs ys who y set (λ o z. place_entry z ≡ place_entry (slice_get xs o)) (ap (λ w. Some (spot_number w.cursor.place)) G.same_walk ∙ sym (ap place_entry there)) (λ o ne. refl) o)
 
-    here : hands_at (slice_get ys who) ≡ hands_at (slice_get xs who)
-    here = ap hands_at P.there ∙ (ap hands_of_task G.task ∙ (bare_hands f (own_of options x) size job K ∙ sym (ap hands_at there ∙ ap hands_of_task G.idle)))
+    here : hands_at (Some y) ≡ hands_at (slice_get xs who)
+    here = ap hands_of_task G.task ∙ (bare_hands f (own_of options x) size job K ∙ sym (ap hands_at there ∙ ap hands_of_task G.idle))
 
-    same_hands : (o : ℕ) → hands_at (slice_get ys o) ≡ hands_at (slice_get xs o)
-    same_hands o =
-        elim (cases_eq o who) [
-          | inl is ↦ subst (λ p. hands_at (slice_get ys p) ≡ hands_at (slice_get xs p)) (sym is) here
-          | inr ne ↦ ap hands_at (P.others o ne)
-        ]
+    same_hands : joined (length ys) (λ o. hands_at (slice_get ys o)) ≡ joined (length xs) (λ o. hands_at (slice_get xs o))
+    same_hands = hands_set xs ys who y set P.same_length here
 
 pub gift_is_given : GiftIsGiven
 gift_is_given f options xs ys ps a who x y job there P G = record {
@@ -221,26 +195,14 @@ gift_is_given f options xs ys ps a who x y job there P G = record {
   rest = λ i. record (state_of f options xs ps a) { joined = P.same_length i; own = λ o. same o i; spot = λ o. same_spot o i; mark = λ o. mark_of f (chains_in f a) (same_place o i) };
 }
   where
-    here : own_at options (slice_get ys who) ≡ own_at options (slice_get xs who)
-    here = ap (own_at options) P.there ∙ (same_own options x y job G ∙ sym (ap (own_at options) there))
+    set : IsSet xs who y ys
+    set = put_set xs ys who y P
 
     same : (o : ℕ) → own_at options (slice_get ys o) ≡ own_at options (slice_get xs o)
-    same o =
-        elim (cases_eq o who) [
-          | inl is ↦ subst (λ p. own_at options (slice_get ys p) ≡ own_at options (slice_get xs p)) (sym is) here
-          | inr ne ↦ ap (own_at options) (P.others o ne)
-        ]
+    same = at_each xs ys who y set (λ o z. own_at options z ≡ own_at options (slice_get xs o)) (same_own options x y job G ∙ sym (ap (own_at options) there)) (λ o ne. refl)
 
     same_spot : (o : ℕ) → spot_at (slice_get ys o) ≡ spot_at (slice_get xs o)
-    same_spot o =
-        elim (cases_eq o who) [
-          | inl is ↦ subst (λ p. spot_at (slice_get ys p) ≡ spot_at (slice_get xs p)) (sym is) (ap spot_at P.there ∙ (same_cursor x y job G ∙ sym (ap spot_at there)))
-          | inr ne ↦ ap spot_at (P.others o ne)
-        ]
+    same_spot = at_each xs ys who y set (λ o z. spot_at z ≡ spot_at (slice_get xs o)) (same_cursor x y job G ∙ sym (ap spot_at there)) (λ o ne. refl)
 
     same_place : (o : ℕ) → place_at (slice_get ys o) ≡ place_at (slice_get xs o)
-    same_place o =
-        elim (cases_eq o who) [
-          | inl is ↦ subst (λ p. place_at (slice_get ys p) ≡ place_at (slice_get xs p)) (sym is) (ap place_at P.there ∙ (ap (λ w. place_at (Some (record x { walk = w }))) G.same_walk ∙ sym (ap place_at there)))
-          | inr ne ↦ ap place_at (P.others o ne)
-        ]
+    same_place = at_each xs ys who y set (λ o z. place_at z ≡ place_at (slice_get xs o)) (ap (λ w. place_at (Some (record x { walk = w }))) G.same_walk ∙ sym (ap place_at there)) (λ o ne. refl)

@@ -56,3 +56,5 @@ pub mod FoundOnce
 pub mod StillWalks
 pub mod PlainCursors
 pub mod Stood
+pub mod Replacing
+pub mod Deaths

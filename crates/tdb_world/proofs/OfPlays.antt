@@ -162,12 +162,12 @@ memory_led tells w img size faults old new Memory Whole Part Last memory W lines
 }
 memory_led tells w img size faults old new Io Whole Part Last memory W lines part = absurd (cc memory)
 
--- a join, or why there is none
-pub joined_led : {V : Type 0} (tells : Bool) (w v : World) (img : List ℕ) (size faults : ℕ) (line : Line) (old new : List Line) (u : V) → v.header ≡ w.header → v.options ≡ w.options → Stands v img size
-    → (BytesStand w img → BytesStand v img) → Gives (form_in w.header) (state_in w img) LawPlay.Join (law_line line ∷ []) (state_in v img) → Lengths size (line ∷ []) size → new ≡ old ++ line ∷ []
-    → Led {V = V} tells (moment w img size faults old) (moment v img size faults new) (Ok u) (λ _. Gives (form_in w.header) (state_in w img) LawPlay.Join) (Begun (form_in w.header) (state_in w img) LawPlay.Join)
-    (PlaysLast (form_in w.header) (state_in w img) LawPlay.Join)
-joined_led tells w v img size faults line old new u header options W bytes gives short lines = record {
+-- a play that is taken, and gives one line
+pub told_led : {V : Type 0} (tells : Bool) (w v : World) (img : List ℕ) (size faults : ℕ) (play : LawPlay) (line : Line) (old new : List Line) (u : V) → v.header ≡ w.header → v.options ≡ w.options → Stands v img size
+    → (BytesStand w img → BytesStand v img) → Gives (form_in w.header) (state_in w img) play (law_line line ∷ []) (state_in v img) → Lengths size (line ∷ []) size → new ≡ old ++ line ∷ []
+    → Led {V = V} tells (moment w img size faults old) (moment v img size faults new) (Ok u) (λ _. Gives (form_in w.header) (state_in w img) play) (Begun (form_in w.header) (state_in w img) play)
+    (PlaysLast (form_in w.header) (state_in w img) play)
+told_led tells w v img size faults play line old new u header options W bytes gives short lines = record {
   header = header;
   options = options;
   longer = le_refl size;

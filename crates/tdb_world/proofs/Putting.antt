@@ -1,6 +1,6 @@
 -- An opener in a list of openers, by its number.
 use Rattle.std.proofs.Common.{◌≡◌, ◌≢◌, ℕ, zero, suc, ◌+◌, ◌-◌, ◌<◌, List, [], ◌∷◌, length, slice_get, slice_index_or, slice_set, Some, refl, sym, ◌∙◌, ap, subst, arith}
-use Rattle.std.proofs.lemmas.List.{length-set}
+use Rattle.std.proofs.lemmas.List.{length-set, length-map}
 use Rattle.std.proofs.Math.Seq.{map-set_same}
 use Rattle.std.proofs.lemmas.Option.{get_or_from_slice_get, slice_get_within}
 use Rattle.tdb_words.specs.declared.header.Header.{Header}
@@ -78,3 +78,7 @@ spots_still xs i d y item still = map-set_same (λ (z : Opener). spot_number z.w
 -- who stands at the place of a number has it
 pub has_number : (w : World) (who : ℕ) (d : Opener) → 0 < who → who - 1 < length w.openers → d ≡ slice_index_or w.openers (who - 1) d → IsNumber w who d
 has_number w who d some low item = record { place = who - 1; counted = omega (arith, some); there = get_is w.openers (who - 1) d low ∙ ap Some (sym item) }
+
+-- and the list of spots has an entry for it
+pub has_spot : (xs : List Opener) (who place : ℕ) (x : Opener) → who ≡ place + 1 → slice_get xs place ≡ Some x → who - 1 < length (spots_of xs)
+has_spot xs who place x counted there = let low = slice_get_within xs place x there in let same = length-map xs (λ (z : Opener). spot_number z.walk.cursor.place) in omega (arith, counted, low, same)

@@ -14,7 +14,7 @@ use Rattle.tdb_world.specs.declared.options.Options.{Options}
 use Rattle.tdb_world.specs.declared.opener.Opener.{Opener}
 use Rattle.tdb_world.specs.Openers.{own_of, own_at, spot_at, walk_of, steps_of, task_at, law_task, OpenerStands, WalkStands}
 use Rattle.tdb_world.specs.States.{WorldStands}
-use Rattle.tdb_world.specs.Laws.{MayStand, OpenerIsReady, TurnKeepsWorld}
+use Rattle.tdb_world.specs.Laws.{IsPut, MayStand, OpenerIsReady, TurnKeepsWorld}
 use Rattle.tdb_world.proofs.Single.{opener_longer, busy_at, live_at}
 use Rattle.tdb_world.proofs.Rests.{walk_well}
 
@@ -57,6 +57,9 @@ stands_soundly f options size (Some x) K place e = let well = walk_well f x.held
 pub record IsSet (xs : List Opener) (who : ℕ) (y : Opener) (ys : List Opener) : Type 0 where
   pub there : slice_get ys who ≡ Some y
   pub others : (o : ℕ) → o ≢ who → slice_get ys o ≡ slice_get xs o
+
+pub put_set : (xs ys : List Opener) (who : ℕ) (y : Opener) → IsPut xs who y ys → IsSet xs who y ys
+put_set xs ys who y P = record { there = P.there; others = P.others }
 
 -- it holds what it is to hold, and others what they held
 pub record HoldsRightly (f : Form) (options : Options) (who : ℕ) (y : Opener) (ps qs : List Piece) : Type 0 where
@@ -126,7 +129,7 @@ module _ (f : Form) (options : Options) (xs ys : List Opener) (ps qs : List Piec
 
 pub turn_keeps_world : TurnKeepsWorld
 turn_keeps_world f options xs ys ps qs a b size longer who x y t turn W B P T M more less =
-    world_set f options xs ys ps qs a b size longer who y W (record { there = P.there; others = P.others }) (record { holds = T.holds; others = T.others; apart = T.apart; numbered = T.numbered }) M more
+    world_set f options xs ys ps qs a b size longer who y W (put_set xs ys who y P) (record { holds = T.holds; others = T.others; apart = T.apart; numbered = T.numbered }) M more
     (subst (λ n. n ≤ most_openers) (sym P.same_length) W.few) less
 
 -- where no lock changes, an opener that holds what it held

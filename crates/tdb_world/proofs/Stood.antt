@@ -73,8 +73,12 @@ found_by (x ∷ xs) off some e = elim (or_cases (nat_eq off (entry x)) (list_any
   | inr later ↦ (let w = found_by xs off some later in record { place = suc w.place; opener = w.opener; chain = w.chain; there = w.there; on = w.on })
 ]
 
+-- no record has the offset 0
+pub some_off : (l : List ℕ) (off : ℕ) → is_stood l off ≡ true → 0 < off
+some_off l off e = ltb-true 0 off (and_both (nat_lt 0 off) (list_any (nat_eq off) l) e).0
+
 pub stood_by : (xs : List Opener) (off : ℕ) → is_stood (spots_of xs) off ≡ true → StandsOn xs off
-stood_by xs off e = let parts = and_both (nat_lt 0 off) (list_any (nat_eq off) (spots_of xs)) e in found_by xs off (ltb-true 0 off parts.0) parts.1
+stood_by xs off e = found_by xs off (some_off (spots_of xs) off e) (and_both (nat_lt 0 off) (list_any (nat_eq off) (spots_of xs)) e).1
 
 -- and each cursor on a record has its entry
 has_entry : (xs : List Opener) (o : ℕ) (x : Opener) (off : ℕ) → slice_get xs o ≡ Some x → off ≡ entry x → list_any (nat_eq off) (spots_of xs) ≡ true

@@ -1,10 +1,8 @@
 -- What a turn of a command on an opener's cursor leaves of the bytes of a world's file, where they are told: nobody else comes to a record that
 -- a delete or another cursor is going to take out of its chain.
 use Rattle.std.proofs.Common.{◌≡◌, ◌≢◌, ℕ, zero, suc, ◌+◌, ◌-◌, ◌*◌, ◌<◌, ◌≤◌, ◌⊎◌, ◌++◌, IsTrue, List, [], ◌∷◌, length, slice_get, slice_index_or, set, Bool, true, false, Option, Some, None, refl, sym, ◌∙◌, ap, subst, inl, inr, arith}
-use Rattle.std.specs.Prelude.{Contains, MatchBool, ◌^◌, nat_eq, nat_lt}
-use Rattle.std.specs.List.{list_any}
-use Rattle.std.proofs.lemmas.Bool.{cases_eq, cases_Bool, false_from_ne_true, ltb-true}
-use Rattle.tdb_law.proofs.Tests.{and_both}
+use Rattle.std.specs.Prelude.{Contains, MatchBool, ◌^◌}
+use Rattle.std.proofs.lemmas.Bool.{cases_eq, cases_Bool, false_from_ne_true}
 use Rattle.tdb_space.specs.Form.{Form}
 use Rattle.tdb_space.specs.Chain.{Member, chain_of}
 use Rattle.tdb_space.specs.Pairs.{home}
@@ -78,7 +76,7 @@ use Rattle.tdb_world.proofs.Strengths.{strengths_are}
 use Rattle.tdb_world.proofs.Purgers.{one_chain, purger_locks}
 use Rattle.tdb_world.proofs.Busy.{looked_writes, listed_writes, Writes}
 use Rattle.tdb_world.proofs.Working.{Works, works, plain_writes}
-use Rattle.tdb_world.proofs.Stood.{entry, injected, knows_in, stood_at, stood_by}
+use Rattle.tdb_world.proofs.Stood.{entry, injected, knows_in, some_off, stood_at, stood_by}
 use Rattle.tdb_world.proofs.Filing.{KeepsFile, file_kept, map_left}
 use Rattle.tdb_world.proofs.WalkReady.{image_accepted, no_hands, walk_before}
 use Rattle.tdb_world.proofs.WalkHeld.{says_turn}
@@ -129,9 +127,6 @@ on_spot : (place : Standing) (off : ℕ) → spot_of place ≡ Some off → (cha
 on_spot (On chain o) off e = (chain, ap (On chain) (injected e))
 on_spot (Before c) off e = absurd (cc e)
 on_spot Past off e = absurd (cc e)
-
-some_off : (l : List ℕ) (off : ℕ) → is_stood l off ≡ true → 0 < off
-some_off l off e = ltb-true 0 off (and_both (nat_lt 0 off) (list_any (nat_eq off) l) e).0
 
 -- the entry of another opener
 entry_among : (xs : List Opener) (o : ℕ) (z : Opener) → slice_get xs o ≡ Some z → (o < length (spots_of xs)) × (slice_index_or (spots_of xs) o (entry z) ≡ entry z)

@@ -40,7 +40,7 @@ IsServed Given.Prepare = ⊥
 IsServed Given.Cancel = ⊥
 IsServed _ = Unit {0}
 
--- the plays that are served: an opener is named by a number from 1 on, its command is served and short, and nobody dies
+-- the plays that are served: an opener is named by a number from 1 on, and its command is served and short
 abbrev pub IsServedPlay : Play → Type 0
 IsServedPlay Plays.Join = Unit {0}
 IsServedPlay Plays.SetLog = Unit {0}
@@ -48,7 +48,7 @@ IsServedPlay (Plays.Give who command) = (1 ≤ who) × IsServed command × IsSho
 IsServedPlay (Plays.Do who command) = (1 ≤ who) × IsServed command × IsShortGiven command
 IsServedPlay (Plays.Turn who) = 1 ≤ who
 IsServedPlay (Plays.Go who) = 1 ≤ who
-IsServedPlay (Plays.Die who) = ⊥
+IsServedPlay (Plays.Die who) = 1 ≤ who
 
 abbrev pub AreServed : List Play → Type 0
 AreServed plays = All IsServedPlay plays

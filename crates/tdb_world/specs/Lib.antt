@@ -12,3 +12,4 @@ pub mod Checked
 pub mod Played
 pub mod Finished
 pub mod Cursors
+pub mod Died

@@ -4,6 +4,7 @@
 mod advancing;
 mod assigning;
 mod checking;
+mod dying;
 mod ending;
 mod fault;
 mod holding;

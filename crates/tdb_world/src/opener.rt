@@ -1,6 +1,10 @@
 // An opener of the file.
 
+ghost use Rattle.std.specs.Prelude.{◌≡◌};
+ghost use Rattle.tdb_world.specs.Worlds.{fresh};
+
 use crate::job::Task;
+use std::alloc::Global;
 use tdb_cursors::Walk;
 use tdb_locks::Held;
 
@@ -15,4 +19,18 @@ pub(crate) struct Opener {
     pub(crate) task: Option<Task>,
     /// Its cursor.
     pub(crate) walk: Walk,
+}
+
+impl Opener {
+    /// An opener that has nothing: it has just joined, or has died and isn't live. It takes no memory.
+    pub(crate) fn bare(alloc: Global, live: bool) -> Opener
+        ensures { result ≡ record fresh { live = live } }
+    {
+        Opener {
+            live,
+            held: Held::new(alloc),
+            task: None,
+            walk: Walk::new(),
+        }
+    }
 }

@@ -12,6 +12,7 @@ ghost use Rattle.tdb_law.specs.Events.{Joins, Given};
 ghost use Rattle.tdb_law.specs.Turned.{Turned};
 ghost use Rattle.tdb_world.specs.Openers.{options_of, command_in};
 ghost use Rattle.tdb_world.specs.Finished.{unfinished};
+ghost use Rattle.tdb_world.specs.Died.{HasDied};
 ghost use Rattle.tdb_plays.specs.declared.line.Line.{Line};
 ghost use Rattle.tdb_plays.specs.InLaw.{law_opener, law_command, law_turn};
 ghost use Rattle.tdb_world.specs.declared.job.Task.{Task};
@@ -25,8 +26,7 @@ use crate::options::Options;
 use crate::telling::tell_unfinished;
 use std::alloc::{AllocError, Global};
 use std::marker::Model;
-use tdb_cursors::Walk;
-use tdb_locks::{Held, Locks, Spots, Turn};
+use tdb_locks::{Locks, Spots, Turn};
 use tdb_plays::{Command, TurnReport};
 use tdb_space::{Io, Space};
 use tdb_words::Header;
@@ -168,13 +168,7 @@ impl Openers {
         if count == MOST_OPENERS {
             return Err(JoinRefusal::Many { count });
         }
-        let opener = Opener {
-            live: true,
-            held: Held::new(self.alloc),
-            task: None,
-            walk: Walk::new(),
-        };
-        let Ok(()) = self.list.push(opener) else {
+        let Ok(()) = self.list.push(Opener::bare(self.alloc, true)) else {
             return Err(JoinRefusal::Memory);
         };
         if self.spots.push(0).is_err() {
@@ -182,6 +176,18 @@ impl Openers {
             return Err(JoinRefusal::Memory);
         }
         Ok(count + 1)
+    }
+
+    /// Takes all from the opener with this number: it isn't live any more, and holds no lock, and its cursor stands on no
+    /// record. Cost: one pass over the lock table.
+    pub(crate) fn strip(&mut self, who: u32)
+        requires { (x : Opener) × IsNumber self.old who x }
+        ensures { HasDied self.old who self.new }
+    {
+        let place = who as usize - 1;
+        self.list[place] = Opener::bare(self.alloc, false);
+        self.spots.set(place, 0);
+        self.locks.drop_owner(who);
     }
 
     /// A new opener joins, and gets the next number. After a refusal nothing has changed.

@@ -79,7 +79,7 @@ impl Openers {
             Play::Turn { who } => self.play_turn(s, *who, report),
             Play::Go { who } => self.play_go(s, *who, report),
             Play::SetLog => tell(report, Line::LogsLeft { count: 0 }),
-            Play::Die { .. } => unreachable!(),
+            Play::Die { who } => self.play_die(*who, report),
         }
     }
 
@@ -107,7 +107,7 @@ impl Openers {
         Ok(())
     }
 
-    /// Takes one play, and adds what it gives to the report. An opener is named by a number from 1 on, and nobody dies.
+    /// Takes one play, and adds what it gives to the report. An opener is named by a number from 1 on.
     ///
     /// Room for a line, and for the copy of a command, is made before anything is done: so after `Memory` all that was
     /// done has its lines. After `Io` the world may not be used any more.
@@ -145,7 +145,7 @@ impl Openers {
     }
 
     /// Takes plays in their order, and adds what they give to the report, up to the first that finds no memory or at
-    /// which the disk fails. Openers are named by numbers from 1 on, and nobody dies.
+    /// which the disk fails. Openers are named by numbers from 1 on.
     ///
     /// Room for a line, and for the copy of a command, is made before anything is done: so after `Memory` all that was
     /// done has its lines. After `Io` the world may not be used any more.

@@ -52,6 +52,7 @@ enum Step {
     Do(u32, Word),
     Turn(u32),
     Go(u32),
+    Die(u32),
 }
 
 // What a line tells.
@@ -70,6 +71,8 @@ enum Said {
     Grew(u64, u64),
     Idle(u32),
     Absent(u32),
+    Occupied(u32),
+    Died(u32),
     Unfinished(u32),
 }
 
@@ -214,6 +217,46 @@ const FIRST_WALK_SAID: [Said; 10] = [
     Said::End(1),
 ];
 
+// Who dies has no command, and is gone then.
+const DEATHS: [Step; 7] = [
+    Step::Open,
+    Step::Give(1, Word::Store(b'a', b"2")),
+    Step::Turn(1),
+    Step::Die(1),
+    Step::Go(1),
+    Step::Die(1),
+    Step::Die(1),
+];
+
+const DEATHS_SAID: [Said; 6] = [
+    Said::Opened(1),
+    Said::Step(1),
+    Said::Occupied(1),
+    Said::Ok(1),
+    Said::Died(1),
+    Said::Absent(1),
+];
+
+// Another gets the lock of who died.
+const LOCK_OF_THE_DEAD: [Step; 6] = [
+    Step::Open,
+    Step::Open,
+    Step::Do(1, Word::Lock(b'a')),
+    Step::Do(2, Word::Fetch(b'a')),
+    Step::Die(1),
+    Step::Go(2),
+];
+
+const LOCK_OF_THE_DEAD_SAID: [Said; 7] = [
+    Said::Opened(1),
+    Said::Opened(2),
+    Said::Ok(1),
+    Said::Blocked(2, 1, 196),
+    Said::Died(1),
+    Said::Step(2),
+    Said::Value(2, b"1"),
+];
+
 // At most nine bytes of a value.
 fn short(value: &[u8]) -> &[u8]
     ensures { length result.now < 2 ^ 32 }
@@ -268,6 +311,7 @@ fn play(alloc: Global, step: Step) -> Result<Play, AllocError>
         }),
         Step::Turn(who) => Ok(Play::Turn { who: who.max(1) }),
         Step::Go(who) => Ok(Play::Go { who: who.max(1) }),
+        Step::Die(who) => Ok(Play::Die { who: who.max(1) }),
     }
 }
 
@@ -347,6 +391,8 @@ fn is_said(line: &Line, said: Said) -> bool {
         (Line::Joined { who }, Said::Opened(one))
         | (Line::Idle { who }, Said::Idle(one))
         | (Line::Absent { who }, Said::Absent(one))
+        | (Line::Occupied { who }, Said::Occupied(one))
+        | (Line::Died { who }, Said::Died(one))
         | (Line::Unfinished { who }, Said::Unfinished(one)) => *who == one,
         (Line::Grew { from, to }, Said::Grew(one, two)) => *from == one && *to == two,
         _ => false,
@@ -412,6 +458,20 @@ fn rows_are_reported(rt: HostRuntime) -> Result<(), Fail> {
 fn cursors_are_reported(rt: HostRuntime) -> Result<(), Fail> {
     assert!(rt; gives(rt.alloc(), &STORED, &PURGE, &PURGE_SAID)?);
     assert!(rt; gives(rt.alloc(), &STORED, &FIRST_WALK, &FIRST_WALK_SAID)?);
+    Ok(())
+}
+
+#[test]
+fn deaths_are_reported(rt: HostRuntime) -> Result<(), Fail> {
+    assert!(rt; gives(rt.alloc(), &STORED, &DEATHS, &DEATHS_SAID)?);
+    assert!(rt;
+        gives(
+            rt.alloc(),
+            &STORED,
+            &LOCK_OF_THE_DEAD,
+            &LOCK_OF_THE_DEAD_SAID
+        )?
+    );
     Ok(())
 }
 
@@ -483,5 +543,21 @@ fn one_play_is_taken(rt: HostRuntime) -> Result<(), Fail> {
     let mut report = TurnReport::new(rt.alloc());
     assert_eq!(rt; joined_by_play(rt.alloc(), &mut disk, &mut report), 1);
     assert_eq!(rt; report.get(0), Some(&Line::Joined { who: 1 }));
+    Ok(())
+}
+
+// Whether the one opener of a world may die, and is gone then.
+fn dies_once(alloc: Global) -> bool {
+    let mut openers = Openers::new(alloc, &HEADER, &OPTIONS);
+    if openers.join() != Ok(1) || !openers.may_die(1) {
+        return false;
+    }
+    openers.die(1);
+    !openers.is_free(1)
+}
+
+#[test]
+fn an_opener_dies_once(rt: HostRuntime) -> Result<(), Fail> {
+    assert!(rt; dies_once(rt.alloc()));
     Ok(())
 }

@@ -58,3 +58,11 @@ returns-in-SetLog-clause-led g c =
     (moment c.args.self.now (g.S.Space.image c.args.s.now) (g.S.Space.size c.args.s.now) (g.S.Space.faults c.args.s.now) c.tell.new.report.lines) c.tell.result (λ _. Gives f z (law_play p)) (Begun f z (law_play p)) (PlaysLast f z (law_play p))) (sym c.in-SetLog.is)
     (answered g.S.Space.tells c.args.self.now (g.S.Space.image c.args.s.now) (g.S.Space.size c.args.s.now) (g.S.Space.faults c.args.s.now) LawPlay.SetLog (Lines.LogsLeft 0) c.args.report.now.lines c.tell.new.report.lines
     c.requires.stands tt refl c.tell.result c.tell.ensures.told c.tell.ensures.err c.tell.ensures.memory)
+
+pub returns-in-Die-clause-led : goal.returns-in-Die-clause-led
+returns-in-Die-clause-led g c =
+    let f = form_in c.args.self.now.header in
+    let z = state_in c.args.self.now (g.S.Space.image c.args.s.now) in
+    subst (λ p. Led g.S.Space.tells (moment c.args.self.now (g.S.Space.image c.args.s.now) (g.S.Space.size c.args.s.now) (g.S.Space.faults c.args.s.now) c.args.report.now.lines)
+    (moment c.play_die.new.self (g.S.Space.image c.args.s.now) (g.S.Space.size c.args.s.now) (g.S.Space.faults c.args.s.now) c.play_die.new.report.lines) c.play_die.result (λ _. Gives f z (law_play p)) (Begun f z (law_play p)) (PlaysLast f z (law_play p))) (sym c.in-Die.is)
+    (c.play_die.ensures.led g.S.Space.tells (g.S.Space.image c.args.s.now) (g.S.Space.size c.args.s.now) (g.S.Space.faults c.args.s.now) c.requires.stands)

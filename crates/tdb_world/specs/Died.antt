@@ -1,0 +1,26 @@
+-- What the death of an opener makes of a world.
+use Rattle.std.specs.Prelude.{ℕ, ◌+◌, ◌≡◌, ◌≢◌, true, false, None}
+use Rattle.tdb_locks.specs.LockTable.{held}
+use Rattle.tdb_law.specs.World.{State}
+use Rattle.tdb_law.specs.Lines.{MayDie}
+use Rattle.tdb_world.specs.declared.opener.Opener.{Opener}
+use Rattle.tdb_world.specs.Laws.{IsPut}
+use Rattle.tdb_world.specs.Worlds.{World, fresh}
+
+-- an opener that has died: it isn't live, and has nothing
+abbrev pub died : Opener
+died = record fresh { live = false }
+
+-- The opener with this number has died, and holds no lock any more; the other openers and their locks stay.
+pub record HasDied (old : World) (who : ℕ) (new : World) : Type 0 where
+  pub place : ℕ
+  pub counted : who ≡ place + 1
+  pub put : IsPut old.openers place died new.openers
+  pub lost : (b : ℕ) → held new.table who b ≡ None
+  pub others : (o b : ℕ) → o ≢ who → held new.table o b ≡ held old.table o b
+  pub rest : record new { openers = old.openers; table = old.table } ≡ old
+
+-- an opener of the law is live, and may die
+pub record MayDieIn (w : State) (who : ℕ) : Type 0 where
+  pub live : (w.own who).live ≡ true
+  pub may_die : MayDie (w.task who)

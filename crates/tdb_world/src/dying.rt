@@ -1,0 +1,72 @@
+// Openers that die, and what is told of it.
+
+ghost use Rattle.std.specs.Prelude.{◌≡◌, ◌≤◌, ℕ, Bool, List, IsTrue, false};
+ghost use Rattle.tdb_space.specs.Form.{form_in};
+ghost use Rattle.tdb_law.specs.Events.{Dies};
+ghost use Rattle.tdb_law.specs.Plays.{Gives};
+ghost use Rattle.tdb_law.specs.Plays.{Play as LawPlay};
+ghost use Rattle.tdb_plays.specs.InLaw.{law_opener};
+ghost use Rattle.tdb_world.specs.declared.opener.Opener.{Opener};
+ghost use Rattle.tdb_world.specs.Worlds.{state_in, Stands, BytesStand, IsFree};
+ghost use Rattle.tdb_world.specs.Died.{MayDieIn};
+ghost use Rattle.tdb_world.specs.Played.{moment, Led, PlaysLast, Begun};
+
+use crate::fault::RunFault;
+use crate::openers::Openers;
+use crate::starting::Standing;
+use crate::telling::{put_line, tell};
+use tdb_plays::{Line, TurnReport};
+
+impl Openers {
+    /// Whether the opener with this number, from 1 on, may die: it is live and has no command. Nobody has a
+    /// transaction, in whose commit an opener might die too.
+    pub fn may_die(&self, who: u32) -> bool
+        requires named { 1 ≤ who }
+        requires stands { (img : List ℕ) × (size : ℕ) × Stands self.now img size }
+        ensures free { IsTrue result → (x : Opener) × IsFree self.now who x }
+        ensures may { IsTrue result → (img : List ℕ) → MayDieIn (state_in self.now img) (law_opener who) }
+        ensures may_not { result ≡ false → (img : List ℕ) → MayDieIn (state_in self.now img) (law_opener who) → ⊥ }
+    {
+        match self.standing(who) {
+            Standing::Idle => true,
+            Standing::Absent | Standing::Busy => false,
+        }
+    }
+
+    /// An opener dies, as a process that is killed: it isn't live any more, and holds no lock. A dead record on which
+    /// its cursor stands stays in its chain. It takes no memory, and the file stays.
+    ///
+    /// Cost: one pass over the lock table.
+    pub fn die(&mut self, who: u32)
+        requires free { (x : Opener) × IsFree self.old who x }
+        ensures dies { (img : List ℕ) → Dies (form_in self.old.header) (state_in self.old img) (law_opener who) (state_in self.new img) }
+        ensures stands { (img : List ℕ) (size : ℕ) → Stands self.old img size → Stands self.new img size }
+        ensures bytes { (img : List ℕ) → BytesStand self.old img → BytesStand self.new img }
+        ensures header { self.new.header ≡ self.old.header }
+        ensures options { self.new.options ≡ self.old.options }
+    {
+        self.strip(who);
+    }
+
+    /// An opener dies, or the report says why it doesn't.
+    pub(crate) fn play_die(&mut self, who: u32, report: &mut TurnReport) -> Result<(), RunFault>
+        requires named { 1 ≤ who }
+        requires stands { (img : List ℕ) × (size : ℕ) × Stands self.old img size }
+        ensures led { (tells : Bool) (img : List ℕ) (size faults : ℕ) → Stands self.old img size
+            → Led tells (moment self.old img size faults report.old.lines) (moment self.new img size faults report.new.lines) result
+            (λ _. Gives (form_in self.old.header) (state_in self.old img) (LawPlay.Die (law_opener who)))
+            (Begun (form_in self.old.header) (state_in self.old img) (LawPlay.Die (law_opener who)))
+            (PlaysLast (form_in self.old.header) (state_in self.old img) (LawPlay.Die (law_opener who))) }
+    {
+        match self.standing(who) {
+            Standing::Absent => tell(report, Line::Absent { who }),
+            Standing::Busy => tell(report, Line::Occupied { who }),
+            Standing::Idle => {
+                report.reserve(1)?;
+                self.die(who);
+                put_line(report, Line::Died { who });
+                Ok(())
+            }
+        }
+    }
+}
