@@ -1,6 +1,6 @@
 // A turn of a command without its locks.
 
-ghost use Rattle.std.specs.Prelude.{◌≡◌, ◌≤◌, ◌<◌, ◌^◌, true, IsTrue, IfOk};
+ghost use Rattle.std.specs.Prelude.{◌≡◌, ◌≤◌, ◌<◌, ◌^◌, true, false, IsTrue, IfOk};
 ghost use Rattle.tdb_disk.specs.Count.{HasCause};
 ghost use Rattle.tdb_space.specs.Frame.{Looked, Wrote};
 ghost use Rattle.tdb_steps.specs.Stages.{Leads, IsIdle, CanCount};
@@ -45,6 +45,7 @@ pub(crate) fn act<S: Space>(
     ensures whole { IsShortWhole whole.new }
     ensures room { IfOk result (λ next. map_changes (command_of command.now) ≡ true → CanCount (S.spare s.new) next) }
     ensures idle { IsIdle stage → Looked S.Space s.old s.new }
+    ensures looked { map_changes (command_of command.now) ≡ false → Looked S.Space s.old s.new }
     ensures longer { S.size s.old ≤ S.size s.new }
     ensures within { S.size s.old ≤ limit → S.size s.new ≤ limit }
     ensures wrote { Wrote S.Space s.old s.new }

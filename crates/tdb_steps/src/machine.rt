@@ -1,12 +1,13 @@
 // A plain command that is done turn by turn, with its locks.
 
-ghost use Rattle.std.specs.Prelude.{◌≡◌, ◌≤◌, ◌<◌, ◌++◌, ◌^◌, ℕ, List, IsTrue, IfOk, OnErr};
+ghost use Rattle.std.specs.Prelude.{◌≡◌, ◌≤◌, ◌<◌, ◌++◌, ◌^◌, ℕ, List, false, IsTrue, IfOk, OnErr};
 ghost use Rattle.tdb_disk.specs.Count.{HasCause};
 ghost use Rattle.tdb_space.specs.Form.{form_in};
 ghost use Rattle.tdb_space.specs.Pairs.{home};
 ghost use Rattle.tdb_space.specs.Frame.{Looked, Wrote};
 ghost use Rattle.tdb_space.specs.Extents.{HandPair};
 ghost use Rattle.tdb_space.specs.Accepted.{AcceptWith};
+ghost use Rattle.tdb_law.specs.MapCommands.{map_changes};
 ghost use Rattle.tdb_steps.specs.Stages.{hands_in, MayBeOut, IsIdle};
 ghost use Rattle.tdb_steps.specs.Order.{IsAfter};
 ghost use Rattle.tdb_steps.specs.PlainCommands.{key_of, command_of, turn_of};
@@ -172,6 +173,7 @@ impl Machine {
         ensures fits { IfOk result (λ turn. Fits self.new (S.size s.new) (S.spare s.new)) }
         ensures given_up { OnErr result (self.new ≡ begun self.old.command self.old.chain self.old.seqnum) }
         ensures idle { IsQuiet self.old → Looked S.Space s.old s.new }
+        ensures looked { map_changes (command_of self.old.command) ≡ false → Looked S.Space s.old s.new }
         ensures longer { S.size s.old ≤ S.size s.new }
         ensures within { S.size s.old ≤ limit → S.size s.new ≤ limit }
         ensures wrote { Wrote S.Space s.old s.new }
@@ -242,6 +244,7 @@ impl Machine {
             → LocksTurned (locks_in (rows_of self.old.command self.old.chain)) kept owner n locks.old locks.new (turn_of turn)) }
         ensures fits { IfOk result (λ turn. Fits self.new (S.size s.new) (S.spare s.new)) }
         ensures idle { IsQuiet self.old → Looked S.Space s.old s.new }
+        ensures looked { map_changes (command_of self.old.command) ≡ false → Looked S.Space s.old s.new }
         ensures err { OnErr result (locks.new ≡ locks.old) }
         ensures given_up { OnErr result (self.new ≡ begun self.old.command self.old.chain self.old.seqnum) }
         ensures longer { S.size s.old ≤ S.size s.new }
