@@ -29,7 +29,7 @@ use Rattle.tdb_steps.specs.PlainCommands.{key_of, store_of, command_of}
 use Rattle.tdb_steps.specs.Machines.{IsOn}
 
 -- a store touches its key
-store_touches : (flag : Flag) (key value : List ℕ) → map_touches (store_of flag key value) key ≡ true
+pub store_touches : (flag : Flag) (key value : List ℕ) → map_touches (store_of flag key value) key ≡ true
 store_touches Flags.Replace key value = is_key-refl key
 store_touches Flags.Insert key value = is_key-refl key
 store_touches Flags.Modify key value = is_key-refl key

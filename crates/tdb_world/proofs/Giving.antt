@@ -3,19 +3,16 @@ use Rattle.std.proofs.Common.{Bool, true, false, is_some, Option, ◌≡◌, ℕ
 use Rattle.tdb_space.specs.Form.{Form}
 use Rattle.tdb_space.specs.Pairs.{joined}
 use Rattle.tdb_law.specs.Openers.{Own, Spot}
-use Rattle.tdb_law.specs.Rows.{map_locks}
 use Rattle.tdb_law.specs.Lines.{most_openers}
 use Rattle.tdb_law.specs.Held.{held, kept, holding}
 use Rattle.tdb_law.proofs.Covered as Covered
-use Rattle.tdb_law.proofs.Locks.{locked_none}
 use Rattle.tdb_steps.specs.Holdings.{table_of}
 use Rattle.tdb_steps.specs.declared.plain.Plain.{Plain}
 use Rattle.tdb_steps.specs.declared.stage.Stage.{Stage}
-use Rattle.tdb_steps.specs.declared.stage.Stage.TheVariants.{Begun, Chained, Looked, Listed, Taken, Changed, Wiping, Ending}
 use Rattle.tdb_steps.specs.Machines.{DoingKnows}
 use Rattle.tdb_steps.specs.declared.plain.Plain.TheVariants.{Fetch, Has, Store, Append, Delete, Wipe}
-use Rattle.tdb_steps.specs.Order.{DeleteAfter, IsAfter}
-use Rattle.tdb_steps.specs.PlainCommands.{command_of}
+use Rattle.tdb_steps.specs.Order.{IsAfter}
+use Rattle.tdb_steps.specs.Stages.{hands_in}
 use Rattle.tdb_world.specs.Given.{IsWellHeld}
 use Rattle.tdb_world.specs.declared.options.Options.{Options}
 use Rattle.tdb_world.specs.declared.opener.Opener.{Opener}
@@ -43,6 +40,8 @@ use Rattle.tdb_world.proofs.Stood.{place_entry, same_spots}
 use Rattle.tdb_world.proofs.Rests.{walk_rests}
 use Rattle.tdb_world.proofs.Replacing.{at_each, hands_set, file_set}
 use Rattle.tdb_world.proofs.Busy.{hand_frees, looked_writes, listed_writes, taken_writes}
+use Rattle.tdb_world.proofs.AllHands.{joined_same}
+use Rattle.tdb_world.proofs.Begun.{begun_stage}
 
 -- the opener has what it had
 same_own : (options : Options) (x y : Opener) (job : Job) → IsGiven x job y → own_of options y ≡ own_of options x
@@ -55,23 +54,13 @@ same_cursor x y job G = ap (λ w. spot_by w.cursor) G.same_walk
 
 -- before the first turn a command holds no record and knows nothing
 bare_stage : (f : Form) (img : List ℕ) (command : Plain) (chain : ℕ) (seqnum : Bool) (stage : Stage) (whole : Option (List ℕ)) → IsAfter command stage 0 → DoingKnows f img (record { command = command; chain = chain; seqnum = seqnum; stage = stage; whole = whole })
-bare_stage f img command chain seqnum Begun whole is = record { found = tt; joined = λ key value e. tt }
-bare_stage f img command chain seqnum Chained whole is = record { found = tt; joined = λ key value e. tt }
-bare_stage f img command chain seqnum (Changed hand) whole is = record { found = tt; joined = λ key value e. tt }
-bare_stage f img command chain seqnum (Wiping locked) whole is = record { found = tt; joined = λ key value e. tt }
-bare_stage f img command chain seqnum Ending whole is = record { found = tt; joined = λ key value e. tt }
-bare_stage f img command chain seqnum (Looked found) whole is = absurd (let late = (looked_writes command found 0 is).begun in omega (arith, late))
-bare_stage f img command chain seqnum (Listed found) whole is = absurd (let late = (listed_writes command found 0 is).begun in omega (arith, late))
-bare_stage f img command chain seqnum (Taken found hand) whole is = absurd (let late = (taken_writes command found hand 0 is).begun in omega (arith, late))
+bare_stage f img command chain seqnum stage whole is =
+    subst (λ z. DoingKnows f img (record { command = command; chain = chain; seqnum = seqnum; stage = z; whole = whole })) (sym (begun_stage command stage is)) (record { found = tt; joined = λ key value e. tt })
 
 module _ (f : Form) (x : Own) (size : ℕ) where
   bare_hands : (job : Job) → JobStands f x job 0 size → hands_of_job job ≡ []
   bare_hands (Jobs.Refused command reply) K = refl
-  bare_hands (Jobs.Plain d) K =
-      elim (hand_frees f 0 d.command d.stage K.after) [
-        | inl none ↦ none
-        | inr two ↦ absurd (let nothing = locked_none (map_locks f (command_of d.command)) 164 in omega (arith, two, nothing))
-      ]
+  bare_hands (Jobs.Plain d) K = ap hands_in (begun_stage d.command d.stage K.after)
   bare_hands (Jobs.Check checking) K = refl
   bare_hands (Jobs.Locking locking) K = refl
   bare_hands Jobs.Seqnum K = refl
@@ -89,22 +78,12 @@ module _ (f : Form) (x : Own) (size : ℕ) where
   bare_knows img (Jobs.Walk walking) K = tt
 
   -- and takes no record out of its chain
-  delete_bare : (key : List ℕ) (stage : Stage) (stands : ℕ → Bool) → DeleteAfter stage 0 → StageSpares stands (Delete key) stage
-  delete_bare key Begun stands is = tt
-  delete_bare key Chained stands is = tt
-  delete_bare key (Looked found) stands is = absurd (omega (arith, is))
-  delete_bare key (Listed found) stands is = absurd (omega (arith, is))
-  delete_bare key (Taken found hand) stands is = tt
-  delete_bare key (Changed hand) stands is = tt
-  delete_bare key (Wiping locked) stands is = tt
-  delete_bare key Ending stands is = tt
-
   plain_bare : (command : Plain) (stage : Stage) (stands : ℕ → Bool) → IsAfter command stage 0 → StageSpares stands command stage
   plain_bare (Fetch key) stage stands is = tt
   plain_bare (Has key) stage stands is = tt
   plain_bare (Store key value flag) stage stands is = tt
   plain_bare (Append key value) stage stands is = tt
-  plain_bare (Delete key) stage stands is = delete_bare key stage stands is
+  plain_bare (Delete key) stage stands is = subst (StageSpares stands (Delete key)) (sym (begun_stage (Delete key) stage is)) tt
   plain_bare Wipe stage stands is = tt
 
   bare_spares : (job : Job) (stands : ℕ → Bool) → JobStands f x job 0 size → JobSpares stands job

@@ -2,8 +2,10 @@ pub mod Single
 pub mod Standing
 pub mod AllHands
 pub mod Busy
+pub mod Begun
 pub mod Working
 pub mod Purgers
+pub mod Calm
 pub mod Strengths
 pub mod WalkReady
 pub mod WalkHeld

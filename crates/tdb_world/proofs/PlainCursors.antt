@@ -30,11 +30,10 @@ use Rattle.tdb_steps.specs.declared.plain.Plain.{Plain}
 use Rattle.tdb_steps.specs.declared.plain.Plain.TheVariants.{Fetch, Has, Store, Append, Delete, Wipe}
 use Rattle.tdb_steps.specs.declared.stage.Stage.{Stage}
 use Rattle.tdb_steps.specs.declared.stage.Stage.TheVariants.{Begun, Chained, Looked, Listed, Taken, Changed, Wiping, Ending}
-use Rattle.tdb_steps.specs.declared.stage.WipeStage.TheVariants as Wipes
 use Rattle.tdb_steps.specs.declared.stage.Next.{Next}
 use Rattle.tdb_steps.specs.Asked.{Asked, joined}
 use Rattle.tdb_steps.specs.Stages.{hands_in, IsIdle, Knows}
-use Rattle.tdb_steps.specs.Order.{StoreAfter, DeleteAfter, WipeAfter, IsAfter}
+use Rattle.tdb_steps.specs.Order.{StoreAfter, DeleteAfter, IsAfter}
 use Rattle.tdb_steps.specs.PlainCommands.{IsKeyed, asked_of, command_of, turn_of}
 use Rattle.tdb_steps.specs.Turns.{LinksRightly, StoresRightly, DeletesRightly, MarksRightly}
 use Rattle.tdb_steps.specs.Walks.{SparesStood}
@@ -46,6 +45,7 @@ use Rattle.tdb_world.specs.declared.job.Job.TheVariants as Jobs
 use Rattle.tdb_world.specs.Jobs.{task_after}
 use Rattle.tdb_world.specs.Turning.{TurnsWalk}
 use Rattle.tdb_world.specs.Cursors.{is_stood, StageSpares, TaskSpares, CommandClears, CursorsBeside, LeavesCursors}
+use Rattle.tdb_world.proofs.Begun.{begun_stage}
 use Rattle.tdb_world.proofs.FoundOnce.{found_once}
 use Rattle.tdb_world.proofs.Recounted.{recounted, turn_is, same_done}
 use Rattle.tdb_world.proofs.StillWalks.{still_walk}
@@ -183,18 +183,6 @@ module _ (f : Form) (a b : List ℕ) (limit : ℕ) (spots : List ℕ) (others : 
     stage_left (Delete key) stage later is late A K L same R S = delete_left key stage later is late A K L same R S
     stage_left Wipe stage later is late A K L same R S = tt
 
--- a wipe that has had no step is at its beginning
-wipe_begun : (stage : Stage) → WipeAfter stage 0 → stage ≡ Begun
-wipe_begun Begun is = refl
-wipe_begun Chained is = elim is [ ]
-wipe_begun (Looked found) is = elim is [ ]
-wipe_begun (Listed found) is = elim is [ ]
-wipe_begun (Taken found hand) is = elim is [ ]
-wipe_begun (Changed hand) is = elim is [ ]
-wipe_begun (Wiping Wipes.Records) is = absurd (omega (arith, is))
-wipe_begun (Wiping Wipes.FreeList) is = absurd (omega (arith, is))
-wipe_begun Ending is = absurd (omega (arith, is))
-
 -- a walk that stands on no record on which a cursor stands, where none does, is off all records
 off_records : (stands : ℕ → Bool) → ((off : ℕ) → stands off ≡ false) → (place : Place) → IsStood stands place → IsOffRecords place
 off_records stands none off_chains on = tt
@@ -260,7 +248,7 @@ module _ (f : Form) (a b : List ℕ) (d e : Doing) (n : ℕ) (turn : Turn) (othe
   -- a wipe changes nothing before it has all records locked
   wipe_waits : d.command ≡ Wipe → n ≡ 0 → b ≡ a
   wipe_waits same none =
-      let at = wipe_begun d.stage (subst (WipeAfter d.stage) none (subst (λ p. IsAfter p d.stage n) same is)) in
+      let at = begun_stage d.command d.stage (subst (IsAfter d.command d.stage) none is) in
       quiet_stays (subst IsIdle (sym at) tt) (begun_not at)
 
   keyed_walks : (place : Place) → StandsBeside d.command stands place → TurnsWalk f x (OnMap (command_of d.command)) n (turn_of turn) a b place

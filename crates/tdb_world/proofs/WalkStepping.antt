@@ -1,5 +1,5 @@
 -- A turn of a command on the cursor of the opener with a number, as a turn of its world.
-use Rattle.std.proofs.Common.{Result, Ok, Err, IfOk, OnOk, IsTrue, ◌≡◌, ℕ, zero, suc, ◌+◌, ◌-◌, ◌≤◌, List, [], ◌∷◌, set, slice_index_or, slice_set, Bool, Some, refl, sym, ◌∙◌, ap, subst, arith}
+use Rattle.std.proofs.Common.{Result, Ok, Err, IfOk, OnOk, IsTrue, ◌≡◌, ℕ, zero, suc, ◌+◌, ◌-◌, ◌≤◌, List, [], ◌∷◌, set, slice_index_or, slice_set, Bool, Some, None, refl, sym, ◌∙◌, ap, subst, arith}
 use Rattle.tdb_words.specs.declared.header.Header.{Header}
 use Rattle.tdb_space.specs.Form.{Form, form_in}
 use Rattle.tdb_locks.specs.declared.piece.Piece.{Piece}
@@ -9,6 +9,7 @@ use Rattle.tdb_law.specs.Commands.{WalkCommand}
 use Rattle.tdb_law.specs.Turned.{Turned}
 use Rattle.tdb_plays.specs.InLaw.{law_opener, law_turn}
 use Rattle.tdb_walk.specs.ByteLocks.{HoldsWords}
+use Rattle.tdb_walk.specs.Cursors.{dead_of}
 use Rattle.tdb_walk.specs.InLaw.{goal_of}
 use Rattle.tdb_cursors.specs.Spots.{LacksCursor, spot_number}
 use Rattle.tdb_world.specs.declared.options.Options.{Options}
@@ -18,9 +19,11 @@ use Rattle.tdb_world.specs.Openers.{spots_of, walk_in, walk_of}
 use Rattle.tdb_world.specs.States.{state_of, WorldStands, FileStands}
 use Rattle.tdb_world.specs.Jobs.{task_after}
 use Rattle.tdb_world.specs.Laws.{HasTask, IsPut}
+use Rattle.tdb_world.specs.Calm.{WritesNoRecord}
 use Rattle.tdb_world.specs.Walked.{WalkTurned}
 use Rattle.tdb_world.specs.Worlds.{IsBusy, law_of_task}
 use Rattle.tdb_world.proofs.Putting.{numbered, put_numbered, by_number}
+use Rattle.tdb_world.proofs.Calm.{walk_calm}
 use Rattle.tdb_world.proofs.WalkReady.{walk_words_held, walk_asked, walk_few}
 use Rattle.tdb_world.proofs.WalkHeld.{walk_keeps_world}
 use Rattle.tdb_world.proofs.WalkFiled.{walk_keeps_file}
@@ -58,6 +61,10 @@ module _ (header : Header) (options : Options) (xs : List Opener) (ps : List Pie
 
   pub words_before : HoldsWords d.held who ps
   words_before = subst (λ o. HoldsWords d.held o ps) (sym B.number.counted) (walk_words_held (form_in header) options xs ps a size B.number.place d t w W has on)
+
+  -- an opener that holds no record for writing isn't going to purge one
+  pub calm_before : WritesNoRecord ps (law_opener who) → dead_of d.walk.cursor.place d.walk.cursor.stage ≡ None
+  calm_before calm = walk_calm (form_in header) options xs ps a size B.number.place d W has.there (subst (WritesNoRecord ps) (by_number who B.number.place B.number.counted) calm)
 
   pub asked_before : LacksCursor (goal_of w) d.walk.shown → ⊥
   asked_before = walk_asked (form_in header) options xs ps a size B.number.place d t w W has on

@@ -13,3 +13,4 @@ pub mod Played
 pub mod Finished
 pub mod Cursors
 pub mod Died
+pub mod Calm

@@ -17,6 +17,7 @@ ghost use Rattle.tdb_plays.specs.declared.line.Line.{Line};
 ghost use Rattle.tdb_plays.specs.InLaw.{law_opener, law_command, law_turn};
 ghost use Rattle.tdb_world.specs.declared.job.Task.{Task};
 ghost use Rattle.tdb_world.specs.declared.opener.Opener.{Opener};
+ghost use Rattle.tdb_world.specs.Calm.{IsCalm};
 ghost use Rattle.tdb_world.specs.Given.{IsShortGiven, IsServed, IsWellHeld};
 ghost use Rattle.tdb_world.specs.Worlds.{fresh, state_in, law_of_task, Stands, BytesStand, IsNumber, IsFree, IsBusy, IsAssigned};
 
@@ -254,6 +255,8 @@ impl Openers {
     /// Takes one turn of the opener's command, on the bytes of the file. After `Io` the command is given up, and no other turn may be taken
     /// in the world: the disk failed, or a check found a fault in the file, which no turn leaves.
     ///
+    /// An opener that holds no record for writing before the turn only looks at the file.
+    ///
     /// Cost: that of the command's turn, and a search in the lock table; nothing is passed over that doesn't belong to it.
     pub fn turn<S: Space>(&mut self, s: &mut S, who: u32) -> Result<Turn, Io>
         requires busy { (x : Opener) × (t : Task) × IsBusy self.old who x t }
@@ -264,6 +267,7 @@ impl Openers {
         ensures bytes { OnOk result (IsTrue S.tells → BytesStand self.old (S.image s.old) → BytesStand self.new (S.image s.new)) }
         ensures turned { IfOk result (λ turn. IsTrue S.tells → BytesStand self.old (S.image s.old) → (x : Opener) (t : Task) → IsBusy self.old who x t
             → Turned (form_in self.old.header) (state_in self.old (S.image s.old)) (law_opener who) (law_of_task t) (law_turn turn) (state_in self.new (S.image s.new))) }
+        ensures calm { IsCalm S.Space s.old s.new self.old.table (law_opener who) }
         ensures busy { IfOk result (λ turn. turn ≡ Turn.Step → (x : Opener) × (t : Task) × IsBusy self.new who x t) }
         ensures header { self.new.header ≡ self.old.header }
         ensures options { self.new.options ≡ self.old.options }

@@ -3,17 +3,18 @@
 ghost use Rattle.std.specs.Prelude.{◌≡◌, ◌≤◌, ◌<◌, ◌^◌, ℕ, Bool, List, IsTrue, IfOk, OnErr};
 ghost use Rattle.tdb_disk.specs.Count.{HasCause};
 ghost use Rattle.tdb_space.specs.Extents.{HandPair};
-ghost use Rattle.tdb_space.specs.Frame.{Looked, Wrote};
+ghost use Rattle.tdb_space.specs.Frame.{Wrote};
 ghost use Rattle.tdb_space.specs.Spare.{without_bound};
 ghost use Rattle.tdb_law.specs.World.{HasFewChains};
 ghost use Rattle.tdb_law.specs.Openers.{View};
 ghost use Rattle.tdb_plays.specs.InLaw.{law_turn};
 ghost use Rattle.tdb_steps.specs.Stages.{IsIdle};
-ghost use Rattle.tdb_steps.specs.Machines.{begun, IsQuiet};
+ghost use Rattle.tdb_steps.specs.Machines.{begun};
 ghost use Rattle.tdb_steps.specs.LockTurns.{ActRightly};
 ghost use Rattle.tdb_world.specs.Given.{IsWellHeld};
 ghost use Rattle.tdb_world.specs.Openers.{AtRest, own_with, command_in};
 ghost use Rattle.tdb_world.specs.Turning.{TurnsFile, TurnsImage, ImageBefore, resting};
+ghost use Rattle.tdb_world.specs.Calm.{IsCalm};
 ghost use Rattle.tdb_world.specs.Cursors.{is_stood, CursorsBeside, LeavesCursors};
 ghost use Rattle.tdb_world.specs.Jobs.{JobIsReady, JobTurned, task_after};
 ghost use Rattle.tdb_world.specs.declared.options.Options.{Options};
@@ -70,7 +71,8 @@ pub(crate) fn plain_turn<S: Space>(
         → ActRightly (S.form s.old) (S.image s.old) (S.image s.new) machine.old machine.new limit stood_on.now turn) }
     ensures ended { IfOk result (λ turn. (reply : Reply) → turn ≡ Turn.Done reply → machine.new ≡ begun machine.old.command machine.old.chain machine.old.seqnum) }
     ensures same { machine.new.command ≡ machine.old.command }
-    ensures idle { IsQuiet machine.old → Looked S.Space s.old s.new }
+    ensures calm { (options : Options) (live : Bool) (rest : AtRest) (n who : ℕ)
+        → JobIsReady (S.form s.old) (own_with options live held.now rest) (resting rest) (Plain machine.old) n who owner (S.size s.old) locks.old → IsCalm S.Space s.old s.new locks.old who }
     ensures err { OnErr result (locks.new ≡ locks.old) }
     ensures given_up { OnErr result (machine.new ≡ begun machine.old.command machine.old.chain machine.old.seqnum) }
     ensures longer { S.size s.old ≤ S.size s.new }

@@ -13,6 +13,7 @@ ghost use Rattle.tdb_world.specs.declared.job.Task.{Task};
 ghost use Rattle.tdb_world.specs.Given.{IsWellHeld};
 ghost use Rattle.tdb_world.specs.Openers.{AtRest, own_of, own_with, rest_of, command_in, walk_in, walk_of, law_task};
 ghost use Rattle.tdb_world.specs.Turning.{OpenerHolds, TurnsLocks, TurnsFile, ImageBefore, TurnsImage, resting};
+ghost use Rattle.tdb_world.specs.Calm.{IsCalm};
 ghost use Rattle.tdb_world.specs.Cursors.{is_stood, CursorsBeside, LeavesCursors};
 ghost use Rattle.tdb_world.specs.Jobs.{JobIsReady, JobTurned, JobFiled, task_after};
 ghost use Rattle.tdb_world.specs.Laws.{MayStand};
@@ -61,6 +62,8 @@ impl Job {
             → ImageBefore (S.form s.old) self.old (S.image s.old) others
             → JobFiled (S.form s.old) (own_with options.now live held.old rest) (own_with options.now live held.new rest) (resting rest) v self.old self.new n who locks.old
             (S.image s.old) (S.image s.new) others spots.now (law_turn turn)) }
+        ensures calm { (rest : AtRest) (n who : ℕ) → JobIsReady (S.form s.old) (own_with options.now live held.old rest) (resting rest) self.old n who owner (S.size s.old) locks.old
+            → IsCalm S.Space s.old s.new locks.old who }
         ensures beside { walk_in self.new ≡ None }
         ensures well { IsWellHeld held.new }
         ensures longer { S.size s.old ≤ S.size s.new }
@@ -136,6 +139,7 @@ impl Opener {
             × (CursorsBeside (S.form s.old) (S.image s.old) (is_stood spots.now) t
             → LeavesCursors (S.form s.old) (own_of options.now self.old) t self.new.task (law_turn turn) (S.image s.old) (S.image s.new) (is_stood spots.now))) }
         ensures stands { OnOk result (MayStand (S.form s.old) options.now (S.size s.new) self.new) }
+        ensures calm { (who : ℕ) → owner ≡ who + 1 → IsCalm S.Space s.old s.new locks.old who }
         ensures walk { self.new.walk ≡ self.old.walk }
         ensures idle { OnErr result (self.new.task ≡ None) }
         ensures within { S.size s.new ≤ options.now.limit }

@@ -13,6 +13,7 @@ ghost use Rattle.tdb_law.specs.Openers.{View};
 ghost use Rattle.tdb_plays.specs.InLaw.{law_command, law_turn};
 ghost use Rattle.tdb_steps.specs.PlainCommands.{key_of, command_of};
 ghost use Rattle.tdb_steps.specs.Machines.{begun, IsShort};
+ghost use Rattle.tdb_world.specs.Calm.{IsCalm};
 ghost use Rattle.tdb_world.specs.Given.{IsWellHeld};
 ghost use Rattle.tdb_world.specs.Openers.{AtRest, own_with};
 ghost use Rattle.tdb_world.specs.Turning.{ImageBefore, resting};
@@ -96,6 +97,8 @@ impl PlainJob {
             → ImageBefore (S.form s.old) (Plain self.old) (S.image s.old) others
             → JobFiled (S.form s.old) (own_with options live held.now rest) (own_with options live held.now rest) (resting rest) v (Plain self.old) (Plain self.new) n who locks.old
             (S.image s.old) (S.image s.new) others stood_on.now (law_turn turn)) }
+        ensures calm { (options : Options) (live : Bool) (rest : AtRest) (n who : ℕ)
+            → JobIsReady (S.form s.old) (own_with options live held.now rest) (resting rest) (Plain self.old) n who owner (S.size s.old) locks.old → IsCalm S.Space s.old s.new locks.old who }
         ensures longer { S.size s.old ≤ S.size s.new }
         ensures within { S.size s.old ≤ limit → S.size s.new ≤ limit }
         ensures wrote { Wrote S.Space s.old s.new }

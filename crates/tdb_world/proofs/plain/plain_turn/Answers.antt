@@ -1,5 +1,5 @@
 -- A turn of the command is one of its machine.
-use Rattle.std.proofs.Common.{ap, refl}
+use Rattle.std.proofs.Common.{ap, refl, inl, inr}
 use Rattle.std.specs.Prelude.{Result, Ok, Err, IfOk, OnErr, ◌≡◌, ℕ}
 use Rattle.tdb_steps.specs.Order.{IsAfter}
 use Rattle.tdb_steps.specs.PlainCommands.{turn_of}
@@ -9,6 +9,8 @@ use Rattle.tdb_locks.specs.declared.turn.Turn.{Turn}
 use Rattle.tdb_locks.specs.declared.turn.Turn.TheVariants as Turns
 use Rattle.tdb_world.proofs.PlainReady.{ready_alone, ready_holds, ready_turned, ready_file}
 use Rattle.tdb_world.specs.Openers.{own_with}
+use Rattle.tdb_world.specs.Turning.{resting}
+use Rattle.tdb_world.proofs.Calm.{plain_calm}
 use Rattle.tdb_world.proofs.PlainJob.{left_image}
 use Rattle.tdb_world.proofs.PlainCursors.{plain_cursors}
 use Rattle.tdb_world.proofs.plain.plain_turn.Goals as goal
@@ -88,3 +90,11 @@ returns-clause-cursors g c =
     plain_cursors f (g.S.Space.image c.args.s.now) (g.S.Space.image c.step.new.s) c.args.machine.now c.step.new.self n turn others (own_with options live c.args.held.now rest) c.args.limit c.args.stood_on.now
     I.accepted I.knows (made told small n others is I.may_be_out I.accepted I.knows) is (leaves n is) refl J.stands.granted (λ quiet. (c.step.ensures.idle quiet).image) (rightly told small) C)
     c.step.ensures.made c.step.ensures.leaves c.step.ensures.rightly
+
+-- a machine that isn't quiet, and may change the map, holds its chain for writing
+pub returns-clause-calm : goal.returns-clause-calm
+returns-clause-calm g c options live rest n who J calm =
+    elim (plain_calm (g.S.Space.form c.args.s.now) c.requires.few (own_with options live c.args.held.now rest) (resting rest) c.args.machine.now n who c.args.locks.now refl J.stands.granted J.stands.after J.holds calm) [
+      | inl looks ↦ c.step.ensures.looked looks
+      | inr quiet ↦ c.step.ensures.idle quiet
+    ]

@@ -240,3 +240,8 @@ returns-in-Seqnum-clause-turned g c =
     let made = locks f c.args.options.now c.args.live c.args.held.now rest who ready.number (record { few = c.requires.few; counts = c.requires.well.counts; holds = holds }) in
     subst (λ j. JobTurned f x x (resting rest) j j n who (g.S.Space.size c.seqnum_turn.new.s) ps c.seqnum_turn.new.locks (law_turn turn)) (sym c.in-Seqnum.is)
     (number_turned f x (resting rest) who (g.S.Space.size c.seqnum_turn.new.s) ps c.seqnum_turn.new.locks ready.stands.1 n (law_turn turn) ready.stands.0 made)) c.seqnum_turn.ensures.locks
+
+pub returns-in-Plain-clause-calm : goal.returns-in-Plain-clause-calm
+returns-in-Plain-clause-calm g c rest n who J =
+    let x = own_with c.args.options.now c.args.live c.args.held.now rest in
+    c.turn.ensures.calm c.args.options.now c.args.live rest n who (subst (λ j. JobIsReady (g.S.Space.form c.args.s.now) x (resting rest) j n who c.args.owner (g.S.Space.size c.args.s.now) c.args.locks.now) c.in-Plain.is J)

@@ -95,3 +95,10 @@ returns-clause-cause g c told t who others e number I =
     let same : now ≡ t = ap (λ o. unwrap_or o now) (sym busy ∙ e) in
     let ready = task_ready f c.args.options.now c.args.self.now (g.S.Space.size c.args.s.now) c.args.owner c.args.locks.now c.requires.stands c.requires.holds now busy who number in
     c.turn-turn.ensures.cause told (rest_of c.args.self.now.walk) now.steps who others ready (subst (λ u. ImageBefore f u.job (g.S.Space.image c.args.s.now) others) (sym same) I)
+
+pub returns-clause-calm : goal.returns-clause-calm
+returns-clause-calm g c who number =
+    let now = c.in-Some.now in
+    let busy : c.args.self.now.task ≡ Some now = sym c.take.ensures.value ∙ c.in-Some.is in
+    c.turn-turn.ensures.calm (rest_of c.args.self.now.walk) now.steps who
+    (task_ready (g.S.Space.form c.args.s.now) c.args.options.now c.args.self.now (g.S.Space.size c.args.s.now) c.args.owner c.args.locks.now c.requires.stands c.requires.holds now busy who number)

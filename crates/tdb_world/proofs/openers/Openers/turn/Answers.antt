@@ -1,5 +1,5 @@
 -- A turn of the opener with the number is a turn of the world.
-use Rattle.std.proofs.Common.{◌≡◌, ◌+◌, ◌-◌, ℕ, set, slice_set, IsTrue, sym, ap, subst, ◌∙◌}
+use Rattle.std.proofs.Common.{◌≡◌, ◌+◌, ◌-◌, ℕ, set, slice_set, IsTrue, sym, ap, subst, ◌∙◌, arith}
 use Rattle.tdb_space.specs.Form.{form_in}
 use Rattle.tdb_world.specs.Laws.{MayStand, other_hands}
 use Rattle.tdb_law.specs.Turned.{Turned}
@@ -9,13 +9,14 @@ use Rattle.tdb_steps.proofs.Made.{of_both}
 use Rattle.tdb_world.specs.States.{state_of}
 use Rattle.tdb_world.specs.Worlds.{IsBusy, Stands, BytesStand, state_in, law_of_task}
 use Rattle.tdb_world.specs.Turning.{resting, OpenerHolds, ImageBefore}
+use Rattle.tdb_world.specs.Calm.{WritesNoRecord}
 use Rattle.tdb_world.specs.Openers.{rest_of, own_of, command_in}
 use Rattle.tdb_cursors.specs.Spots.{spot_number}
 use Rattle.tdb_world.proofs.Putting.{spots_still}
 use Rattle.tdb_world.proofs.Stepping.{Locked, Filed, ok_so, ok_both, stands_before, holds_before, task_busy, busy_after, image_before, world_after, file_after, turned_after}
 use Rattle.std.specs.Option.{option_map}
 use Rattle.tdb_world.specs.Openers.{walk_command}
-use Rattle.tdb_world.proofs.WalkStepping.{Walks, ok_of, spots_put, walk_busy, words_before, asked_before, walk_busy_after, walk_world_after, walk_file_after, walk_turned_after}
+use Rattle.tdb_world.proofs.WalkStepping.{Walks, calm_before, ok_of, spots_put, walk_busy, words_before, asked_before, walk_busy_after, walk_world_after, walk_file_after, walk_turned_after}
 use Rattle.tdb_world.proofs.openers.Openers.turn.Goals as goal
 
 pub turn-requires-clause-busy : goal.turn-requires-clause-busy
@@ -245,3 +246,19 @@ returns-in-Some-walking-clause-busy g c =
     (subst (λ l. Walks g.S.Space.tells (form_in c.self.inside.header) c.self.inside.options.read_only d y c.args.who c.self.inside.locks c.walk_turn.new.locks l w a b size turn) c.self.invariant
     (subst (λ f. Walks g.S.Space.tells f c.self.inside.options.read_only d y c.args.who c.self.inside.locks c.walk_turn.new.locks c.self.inside.spots w a b size turn) form T)) is)
     c.walk_turn.ensures.turned
+
+-- An opener that holds no record for writing only looks at the file.
+pub returns-clause-calm : goal.returns-clause-calm
+returns-clause-calm g c calm =
+    let number = c.requires.busy.2.number.counted in
+    c.turn.ensures.calm (law_opener c.args.who) (omega (arith, number)) (subst (λ w. WritesNoRecord w.table (law_opener c.args.who)) (sym c.self.view_is) calm)
+
+pub returns-in-Some-walking-clause-calm : goal.returns-in-Some-walking-clause-calm
+returns-in-Some-walking-clause-calm g c calm =
+    let e = c.self.view_is in
+    c.walk_turn.ensures.idle
+    (calm_before c.self.inside.header c.self.inside.options c.self.inside.list.items c.self.inside.locks (g.S.Space.image c.args.s.now) (g.S.Space.size c.args.s.now) c.args.who c.requires.busy.0 c.in-Some.opener.now c.requires.busy.1
+    (subst (λ w. IsBusy w c.args.who c.requires.busy.0 c.requires.busy.1) (sym e) c.requires.busy.2) c.in-Some.ensures.item.1
+    (subst (λ w. Stands w (g.S.Space.image c.args.s.now) (g.S.Space.size c.args.s.now)) (sym e) c.requires.stands) (walk_command c.in-Some-walking.walking)
+    (sym c.walking.ensures ∙ ap (option_map walk_command) c.in-Some-walking.is)
+    (subst (λ w. WritesNoRecord w.table (law_opener c.args.who)) (sym e) calm))

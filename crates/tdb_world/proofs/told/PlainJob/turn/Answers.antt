@@ -47,3 +47,8 @@ returns-clause-filed g c =
     subst (λ d. JobFiled f (own_with options live held rest) (own_with options live held rest) (resting rest) v (Plain d) (Plain new) n who c.args.locks.now a b others c.args.stood_on.now (law_turn turn)) e
     (record { file = file told small options live rest v n who others ready before; image = image told small options live rest n who others ready before; cursors = cursors told small options live rest n who others ready before }))
     c.plain_turn.ensures.file c.plain_turn.ensures.image c.plain_turn.ensures.cursors
+
+pub returns-clause-calm : goal.returns-clause-calm
+returns-clause-calm g c options live rest n who J =
+    c.plain_turn.ensures.calm options live rest n who
+    (subst (λ d. JobIsReady (g.S.Space.form c.args.s.now) (own_with options live c.args.held.now rest) (resting rest) (Plain d) n who c.args.owner (g.S.Space.size c.args.s.now) c.args.locks.now) (sym c.self.view_is) J)
