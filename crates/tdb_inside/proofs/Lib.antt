@@ -5,3 +5,6 @@ pub mod Keys
 pub mod Progress
 pub mod Turned
 pub mod Fronts
+pub mod Cursors
+pub mod Walked
+pub mod Overlays

@@ -153,9 +153,9 @@ looks_inside x old new base c n r S same changed looks R A M =
     (run_inside x old new base c n r S R (subst (λ b. ImageDone f a b c old.numbered r) (sym same) (look_done f a c old.numbered r looks A M))
     (changed ∙ sym (ap (λ b. old.changed || (b && is_done r)) looks ∙ unset old.changed)))
 
--- where only pages that change no byte came to it, its opener is as before
-pub same_own : (x : Own) (old new : OwnTxn) (base : List ℕ) → SameTxn old new → image_of new base ≡ image_of old base → new.changed ≡ old.changed → own_inside x old base ≡ own_inside x new base
+-- where its map stays, its opener is as before
+pub same_own : (x : Own) (old new : OwnTxn) (base : List ℕ) → SameTxn old new → image_map (form_of old) (image_of new base) ≡ image_map (form_of old) (image_of old base) → new.changed ≡ old.changed → own_inside x old base ≡ own_inside x new base
 same_own x old new base S same changed =
-    ap (λ b. inside x (with_image (law_txn (image_map (form_of old) (image_of old base)) old.txn old.changed old.numbered) (image_map (form_of old) b) old.changed)) (sym same)
+    ap (λ m. inside x (with_image (law_txn (image_map (form_of old) (image_of old base)) old.txn old.changed old.numbered) m old.changed)) (sym same)
     ∙ ap (λ b. inside x (with_image (law_txn (image_map (form_of old) (image_of old base)) old.txn old.changed old.numbered) (image_map (form_of old) (image_of new base)) b)) (sym changed)
     ∙ own_is x old new base S

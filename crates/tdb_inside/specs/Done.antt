@@ -25,3 +25,11 @@ pub record ImageDone (f : Form) (a b : List ℕ) (c : MapCommand) (counting : Bo
   pub front : FrontStays f a b
   pub map : MapDone c (image_map f a) (image_map f b) r
   pub number : number_of f b ≡ raised (is_done r && (map_changes c && counting)) (number_of f a)
+
+-- From image a to image b, which no hand is out of, the map stays: b is accepted, and the header, the undo area and the sequence number
+-- stay too.
+pub record ImageKept (f : Form) (a b : List ℕ) : Type 0 where
+  pub accepted : AcceptWith f b []
+  pub front : FrontStays f a b
+  pub map : image_map f b ≡ image_map f a
+  pub number : number_of f b ≡ number_of f a

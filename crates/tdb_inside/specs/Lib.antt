@@ -3,3 +3,4 @@ pub mod OwnTxns
 pub mod Turns
 pub mod Counted
 pub mod Laws
+pub mod Walks

@@ -15,7 +15,7 @@ use tdb_space::{Io, Space};
 use tdb_steps::Machine;
 
 /// The number of the opener in a lock table in which nobody else holds a byte.
-const OWNER: u32 = 1;
+pub(crate) const OWNER: u32 = 1;
 
 /// Takes one turn of a command where nobody else holds a lock: it isn't blocked. The locks that it takes are let go
 /// at once.

@@ -8,6 +8,8 @@ mod looks;
 mod nesting;
 mod own_txn;
 mod plain;
+mod walk_alone;
+mod walking;
 
 pub use crate::counting::{count_all, count_chain, uncount_all, uncount_chain};
 pub use crate::laws::nothing_is_done;

@@ -1,8 +1,8 @@
 -- A turn takes the lock that it wants in a table in which nobody holds any, or looks or changes the file.
 use Rattle.std.proofs.Common.{[], sym, ◌∙◌, subst}
-use Rattle.std.specs.Prelude.{Result, Ok, Err, IfOk}
 use Rattle.tdb_steps.specs.LockTurns.{LockLed}
 use Rattle.tdb_steps.proofs.Turning.{lock_turned}
+use Rattle.tdb_inside.proofs.Overlays.{weaker}
 use Rattle.tdb_inside.proofs.Progress.{never_blocked}
 use Rattle.tdb_inside.proofs.alone.turn_alone.Goals as goal
 
@@ -16,11 +16,6 @@ pub returns-in-Some-clause-free : goal.returns-in-Some-clause-free
 returns-in-Some-clause-free g c =
     never_blocked c.new-held.result 1 c.lock_turn.new.locks c.rows-rows.result c.in-Some.row c.args.machine.now c.lock_turn.new.self c.lock_turn.result
     (subst (λ ps. LockLed c.new-held.result 1 ps c.lock_turn.new.locks c.rows-rows.result c.in-Some.row c.args.machine.now c.lock_turn.new.self c.lock_turn.result) c.new-locks.ensures c.lock_turn.ensures.led)
-
--- what holds of an answer by a fact of it
-weaker : {V F : Type 0} (r : Result V F) (P Q : V → Type 0) → ((v : V) → P v → Q v) → IfOk r P → IfOk r Q
-weaker (Ok v) P Q then p = then v p
-weaker (Err e) P Q then p = tt
 
 pub returns-clause-made : goal.returns-clause-made
 returns-clause-made g c = weaker c.act_turn.result _ _ (λ turn made told small n is may A K. made told small n [] is may A K) c.act_turn.ensures.made

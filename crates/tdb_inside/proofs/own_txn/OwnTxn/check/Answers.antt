@@ -1,17 +1,13 @@
 -- The count in the words of the law.
 use Rattle.std.proofs.Common.{refl}
-use Rattle.std.specs.Prelude.{Result, Ok, Err, IfOk}
 use Rattle.tdb_disk.specs.History.{seen}
 use Rattle.tdb_law.specs.Commands.MapCommand.{Check}
 use Rattle.tdb_steps.specs.PlainCommands.{reply_of}
 use Rattle.tdb_steps.specs.Turns.{number_of}
 use Rattle.tdb_inside.specs.OwnTxns.{form_of}
+use Rattle.tdb_inside.proofs.Overlays.{weaker}
 use Rattle.tdb_inside.proofs.Turned.{looks_inside}
 use Rattle.tdb_inside.proofs.own_txn.OwnTxn.check.Goals as goal
-
-weaker : {V F : Type 0} (r : Result V F) (P Q : V → Type 0) → ((v : V) → P v → Q v) → IfOk r P → IfOk r Q
-weaker (Ok v) P Q then p = then v p
-weaker (Err e) P Q then p = tt
 
 pub returns-clause-turned : goal.returns-clause-turned
 returns-clause-turned g c =

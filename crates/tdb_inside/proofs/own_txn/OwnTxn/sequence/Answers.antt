@@ -1,5 +1,5 @@
 -- The number that the opener sees, in the words of the law.
-use Rattle.std.proofs.Common.{refl, ◌∙◌, subst}
+use Rattle.std.proofs.Common.{refl, ◌∙◌, ap, subst}
 use Rattle.tdb_disk.specs.History.{seen}
 use Rattle.tdb_law.specs.Commands.Command.{Seqnum}
 use Rattle.tdb_law.specs.Commands.Reply.{Number}
@@ -20,5 +20,5 @@ returns-clause-turned g c told whole longer x R =
     let e = c.in_ok-number.ensures in
     subst (λ y. TurnsInside f (own_inside x old base) y Seqnum (number_of f base) p p (Number c.from.result))
     (same_own x old (record { txn = c.number_seen.new.txn; changed = old.changed; numbered = old.numbered }) base
-    (record { form = e.form; start = e.start; depth = e.depth; doomed = e.doomed; numbered = refl }) e.image refl)
+    (record { form = e.form; start = e.start; depth = e.depth; doomed = e.doomed; numbered = refl }) (ap (image_map f) e.image) refl)
     (numbers_inside f x (law_txn (image_map f (image_of old base)) old.txn old.changed old.numbered) (number_of f base) p c.from.result R (c.from.ensures ∙ e.value told whole longer))

@@ -1,0 +1,129 @@
+-- Each step leads further on the same record, and the last turn ends.
+use Rattle.std.proofs.Common.{◌≡◌, ◌<◌, ℕ, List, [], false, IsTrue, refl, sym, ◌∙◌, ap, subst, arith}
+use Rattle.std.specs.Prelude.{◌^◌}
+use Rattle.tdb_space.specs.Form.{Form}
+use Rattle.tdb_space.specs.Accepted.{AcceptWith}
+use Rattle.tdb_locks.specs.declared.turn.Reply.{Reply}
+use Rattle.tdb_steps.specs.PlainCommands.{reply_of}
+use Rattle.tdb_walk.specs.declared.standing.Standing.{Standing}
+use Rattle.tdb_walk.specs.declared.stage.Stage.{Stage}
+use Rattle.tdb_walk.specs.declared.stage.Goal.{Goal}
+use Rattle.tdb_walk.specs.Cursors.{Knows, StepTaken, StepMade, act_of, spared_of}
+use Rattle.tdb_walk.specs.Again.{RestsAt, cursor_after}
+use Rattle.tdb_cursors.specs.declared.walk.Walk.{Walk}
+use Rattle.tdb_inside.specs.Walks.{CursorDone, RestsIn, all_written}
+use Rattle.tdb_inside.proofs.Cursors.{Led, cursor_done, far_few, never_waits, rests_again, steps_on}
+use Rattle.tdb_inside.proofs.walk_alone.take_walk.Goals as goal
+
+-- what is known over a view is known over one of the same form and image
+module _ (f h : Form) (a d : List ℕ) (form : h ≡ f) (image : d ≡ a) where
+  accepted_there : AcceptWith f a [] → AcceptWith h d []
+  accepted_there A = subst (λ x. AcceptWith x d []) (sym form) (subst (λ y. AcceptWith f y []) (sym image) A)
+
+  known_there : (place : Standing) (stage : Stage) → Knows f a place stage → Knows h d place stage
+  known_there place stage K = subst (λ x. Knows x d place stage) (sym form) (subst (λ y. Knows f y place stage) (sym image) K)
+
+  known_here : (place : Standing) (stage : Stage) → Knows h d place stage → Knows f a place stage
+  known_here place stage K = subst (λ x. Knows x a place stage) form (subst (λ y. Knows h y place stage) image K)
+
+  rests_there : (walk : Walk) → RestsIn f a walk → RestsIn h d walk
+  rests_there walk R = subst (λ x. RestsIn x d walk) (sym form) (subst (λ y. RestsIn f y walk) (sym image) R)
+
+  done_here : (b : List ℕ) (goal : Goal) (old new : Walk) (reply : Reply) → CursorDone h d b goal old new (reply_of reply) → CursorDone f a b goal old new (reply_of reply)
+  done_here b goal old new reply D = subst (λ x. CursorDone x a b goal old new (reply_of reply)) form (subst (λ y. CursorDone h y b goal old new (reply_of reply)) image D)
+
+pub loop-taken-init : goal.loop-taken-init
+loop-taken-init g c = record {
+  counted = omega arith;
+  few = far_few c.args.walk.now.cursor.stage;
+  place = refl;
+  shown = refl;
+  image = refl;
+  size = refl;
+  wrote = record { form = refl; disk = λ e. refl; under = refl };
+  faults = refl;
+  knows = λ told small A K. K;
+}
+
+pub loop-taken-preserved : goal.loop-taken-preserved
+loop-taken-preserved g c =
+    let S = g.S.Space in
+    let a = c.args.s.now in
+    let b = c.loop-taken.s in
+    let was = c.loop-taken.walk in
+    let now = c.step_alone.new.walk in
+    let I = c.loop-taken.invariant in
+    let e = c.in_ok-turn.ensures in
+    let W = e.wrote in
+    let P = steps_on (S.form b) now.cursor c.args.goal was.cursor.place was.cursor.stage e.taken.1.due
+    (subst (λ t. Led (S.form b) now.cursor c.args.goal was.cursor.place was.cursor.stage e.taken.1.due t) c.in-Step.is e.taken.1.led) in
+    let L = e.idle P.nothing in
+    let more = P.further in
+    let before = I.counted in
+    record {
+      counted = omega (arith, more, before);
+      few = P.few;
+      place = P.here ∙ I.place;
+      shown = e.shown ∙ ap (λ t. cursor_after t now.cursor.place was.shown) c.in-Step.is ∙ I.shown;
+      image = L.image ∙ I.image;
+      size = e.size ∙ I.size;
+      wrote = record { form = W.form ∙ I.wrote.form; disk = λ z. W.disk z ∙ I.wrote.disk z; under = W.under ∙ I.wrote.under };
+      faults = e.cause.done ∙ I.faults;
+      knows = λ told small A K.
+          let form = I.wrote.form in
+          known_here (S.form a) (S.form b) (S.image a) (S.image c.step_alone.new.s) form (L.image ∙ I.image) now.cursor.place now.cursor.stage
+          (e.knows told (subst (λ n. n < 2 ^ 32) (sym I.size) small) [] (accepted_there (S.form a) (S.form b) (S.image a) (S.image b) form I.image A)
+          (known_there (S.form a) (S.form b) (S.image a) (S.image b) form I.image was.cursor.place was.cursor.stage (I.knows told small A K)));
+    }
+
+pub returns-in-Done-clause-rests : goal.returns-in-Done-clause-rests
+returns-in-Done-clause-rests g c R =
+    let S = g.S.Space in
+    let was = c.loop-taken.walk in
+    let now = c.step_alone.new.walk in
+    let I = c.loop-taken.invariant in
+    let e = c.in_ok-turn.ensures in
+    let f = S.form c.loop-taken.s in
+    let d = S.image c.loop-taken.s in
+    let T = subst (λ t. StepTaken (IsTrue S.tells) f d [] e.taken.0 1 all_written [] c.args.goal false was.cursor now.cursor t) c.in-Done.is e.taken.1 in
+    subst (λ x. RestsAt x now.shown now.cursor.place now.cursor.stage) I.wrote.form
+    (rests_again f d (S.image c.step_alone.new.s) c.args.goal c.args.walk.now was now c.in-Done.reply e.taken.0 (IsTrue S.tells) I.place I.shown
+    (e.shown ∙ ap (λ t. cursor_after t now.cursor.place was.shown) c.in-Done.is) T
+    (subst (λ x. RestsAt x c.args.walk.now.shown c.args.walk.now.cursor.place c.args.walk.now.cursor.stage) (sym I.wrote.form) R))
+
+pub returns-in-Done-clause-done : goal.returns-in-Done-clause-done
+returns-in-Done-clause-done g c told small A R =
+    let S = g.S.Space in
+    let was = c.loop-taken.walk in
+    let now = c.step_alone.new.walk in
+    let I = c.loop-taken.invariant in
+    let e = c.in_ok-turn.ensures in
+    let f = S.form c.loop-taken.s in
+    let d = S.image c.loop-taken.s in
+    let b = S.image c.step_alone.new.s in
+    let F = S.form c.args.s.now in
+    let a = S.image c.args.s.now in
+    let form = I.wrote.form in
+    let T = subst (λ t. StepTaken (IsTrue S.tells) f d [] e.taken.0 1 all_written [] c.args.goal false was.cursor now.cursor t) c.in-Done.is e.taken.1 in
+    let few = subst (λ n. n < 2 ^ 32) (sym I.size) small in
+    let A2 = accepted_there F f a d form I.image A in
+    let K2 = known_there F f a d form I.image was.cursor.place was.cursor.stage (I.knows told small A R.knows) in
+    done_here F f a d form I.image b c.args.goal c.args.walk.now now c.in-Done.reply
+    (cursor_done f d b c.args.goal c.args.walk.now was now c.in-Done.reply e.taken.0 (IsTrue S.tells) I.place I.shown
+    (e.shown ∙ ap (λ t. cursor_after t now.cursor.place was.shown) c.in-Done.is) T told A2 (rests_there F f a d form I.image c.args.walk.now R) K2
+    (subst (λ t. StepMade f d b [] was.cursor now.cursor t) c.in-Done.is (e.made told few [] A2 K2)) (e.knows told few [] A2 K2))
+
+pub returns-in-Blocked-clause-done : goal.returns-in-Blocked-clause-done
+returns-in-Blocked-clause-done g c told small A R =
+    let S = g.S.Space in
+    let was = c.loop-taken.walk in
+    let now = c.step_alone.new.walk in
+    let I = c.loop-taken.invariant in
+    let e = c.in_ok-turn.ensures in
+    let f = S.form c.loop-taken.s in
+    let d = S.image c.loop-taken.s in
+    let form = I.wrote.form in
+    let T = subst (λ t. StepTaken (IsTrue S.tells) f d [] e.taken.0 1 all_written [] c.args.goal false was.cursor now.cursor t) c.in-Blocked.is e.taken.1 in
+    let A2 = accepted_there (S.form c.args.s.now) f (S.image c.args.s.now) d form I.image A in
+    let K2 = known_there (S.form c.args.s.now) f (S.image c.args.s.now) d form I.image was.cursor.place was.cursor.stage (I.knows told small A R.knows) in
+    absurd (never_waits f now.cursor d (act_of c.args.goal was.cursor.place was.cursor.stage T.due) (spared_of c.args.goal was.cursor.place) was.cursor c.in-Blocked.owner c.in-Blocked.byte T.led (T.moved told [] A2 K2))
