@@ -1,5 +1,5 @@
 -- The turn of a command inside a transaction that isn't prepared, whatever the command is.
-use Rattle.std.proofs.Common.{◌≡◌, ℕ, max, List, [], Bool, true, false, nat_lt, Option, refl, sym, ◌∙◌, ap, subst, inl, arith, None}
+use Rattle.std.proofs.Common.{◌≡◌, ℕ, max, List, [], Bool, true, false, nat_lt, Option, refl, sym, ◌∙◌, ap, inl, arith, None}
 use Rattle.std.specs.Prelude.{◌&&◌, if◌then◌else◌}
 use Rattle.std.specs.Ordering.{nat_cmp}
 use Rattle.std.specs.FinMap.{get-empty, get, empty}
@@ -16,7 +16,7 @@ use Rattle.tdb_law.specs.Counting.{number_by, image_number_by, number_seen, imag
 use Rattle.tdb_law.specs.Effects.{Effect, IsFree, IsFirstConflict, Finds}
 use Rattle.tdb_law.specs.Effects.Effect.{effect_answers}
 use Rattle.tdb_law.specs.Turned.{number_next}
-use Rattle.tdb_inside.specs.Turns.{ReadsAll, TurnsInside, EndsInside}
+use Rattle.tdb_inside.specs.Turns.{ReadsAll, TurnsInside, LeavesInside}
 
 pub same_either : {T : Type 0} (b : Bool) (v : T) → (if b then v else v) ≡ v
 same_either true v = refl
@@ -52,7 +52,7 @@ module _ (f : Form) (x y : Own) (c : Command) (unlocked : (purging : Bool) → l
   }
 
 -- an opener without transaction, explicit locks and cursor holds nothing
-nothing_held : (f : Form) (x : Own) (b : ℕ) → holding f (ended x) nowhere None b ≡ 0
+pub nothing_held : (f : Form) (x : Own) (b : ℕ) → holding f (ended x) nowhere None b ≡ 0
 nothing_held f x b = let none : get (empty {X = ℕ} {R = nat_cmp}) b ≡ None = get-empty nat_cmp b in rw none (go (nat_lt b (data_start f)))
   where
     go : (z : Bool) → ◌≡◌ {A = ℕ} (max 0 (max (max (if z && false then 2 else 0) 0) 0)) 0
@@ -104,12 +104,11 @@ module _ (f : Form) (x y : Own) (c : Command) (o : Option Refusal) (R : refusal 
   answered n p same = inside_of f x y c unlocked C.within n p p r row (λ table who want file free reads. effect n p table who want file free) same (number n p) (sym (image_number n p))
 
   -- its transaction is ended, and it holds nothing
-  pub ended_so : (n p : ℕ) → y ≡ ended x → EndsInside f x c n p r
-  ended_so n p is = record {
+  pub left_so : (n p : ℕ) → ((b : ℕ) → holding f y nowhere None b ≡ 0) → LeavesInside f x y c n p r
+  left_so n p nothing = record {
     row = inl row;
-    effect = λ table who want file free. subst (λ z. Effect f (IsFree table who want) (IsFirstConflict table who want) (Finds f (table who) want (seen x file)) (number_seen x n p) c 0 x file (Ends r) z file) is
-        (effect n p table who want file free);
+    effect = λ table who want file free. effect n p table who want file free;
     wants = wants_none f x y c unlocked C.within;
-    holds = λ b. nothing_held f x b;
+    holds = nothing;
     number = number n p;
   }

@@ -8,3 +8,4 @@ pub mod Fronts
 pub mod Cursors
 pub mod Walked
 pub mod Overlays
+pub mod Lifted

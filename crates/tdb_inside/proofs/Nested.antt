@@ -6,9 +6,10 @@ use Rattle.std.proofs.lemmas.Bool.Decides.{nat_tests}
 use Rattle.tdb_space.specs.Form.{Form}
 use Rattle.tdb_law.specs.Commands.{Command}
 use Rattle.tdb_law.specs.Commands.GroupCommand.{Start, Commit, Prepare, Cancel}
+use Rattle.tdb_law.specs.Commands.WalkCommand.{Close}
 use Rattle.tdb_law.specs.Commands.Command.{OnMap, OnLocks, Seqnum, OnGroup, OnWalk}
 use Rattle.tdb_law.specs.Commands.Reply.{Done, Doomed, Number}
-use Rattle.tdb_law.specs.Openers.{Own, Txn, ended}
+use Rattle.tdb_law.specs.Openers.{Own, Txn, closed, ended}
 use Rattle.tdb_law.specs.Refusals.{refusal, says, Refusal}
 use Rattle.tdb_law.specs.Refusals.Refusal.{IsDoomed}
 use Rattle.tdb_law.specs.Rows.{locks_by}
@@ -22,8 +23,8 @@ use Rattle.tdb_txn.specs.Pages.{contents}
 use Rattle.tdb_inside.specs.declared.own_txn.OwnTxn.{OwnTxn}
 use Rattle.tdb_inside.specs.OwnTxns.{law_txn, image_of, form_of, own_inside}
 use Rattle.tdb_inside.specs.Laws.{IsEnd, PreparesInside, RefusesInside}
-use Rattle.tdb_inside.specs.Turns.{TurnsInside, EndsInside}
-use Rattle.tdb_inside.proofs.Inside.{answered, inside_of, ended_so}
+use Rattle.tdb_inside.specs.Turns.{TurnsInside, EndsInside, ClosesInside}
+use Rattle.tdb_inside.proofs.Inside.{answered, inside_of, left_so, nothing_held}
 use Rattle.tdb_inside.proofs.Turned.{inside}
 
 not_flat : (d : ℕ) → 1 < d → nat_le d 1 ≡ false
@@ -134,7 +135,7 @@ module _ (f : Form) (x : Own) (t : Txn) (unprepared : t.prepared ≡ None) where
 
     pub cancel_ends : (n p : ℕ) → EndsInside f before (OnGroup Cancel) n p Done
     cancel_ends n p =
-        ended_so f before (ended before) (OnGroup Cancel) None cancel_granted Done
+        left_so f before (ended before) (OnGroup Cancel) None cancel_granted Done
         (record {
           ends = refl;
           unlocked = λ purging. refl;
@@ -148,7 +149,7 @@ module _ (f : Form) (x : Own) (t : Txn) (unprepared : t.prepared ≡ None) where
           number = λ n p. refl;
           image_number = λ n p. refl;
           within = refl;
-        }) n p refl
+        }) n p (nothing_held f before)
 
     left_ended : (c : Command) → IsEnd c → own_refused c before ≡ ended before
     left_ended (OnMap c) end = absurd end
@@ -162,7 +163,7 @@ module _ (f : Form) (x : Own) (t : Txn) (unprepared : t.prepared ≡ None) where
 
     pub refused_ends : (c : Command) (why : Refusal) (n p : ℕ) → IsEnd c → refusal f c before ≡ Some why → EndsInside f before c n p (says before why)
     refused_ends c why n p end R =
-        ended_so f before (ended before) c (Some why) R (says before why)
+        left_so f before (ended before) c (Some why) R (says before why)
         (record {
           ends = refl;
           unlocked = λ purging. refl;
@@ -176,7 +177,30 @@ module _ (f : Form) (x : Own) (t : Txn) (unprepared : t.prepared ≡ None) where
           number = λ n p. refl;
           image_number = λ n p. refl;
           within = refl;
-        }) n p refl
+        }) n p (nothing_held f before)
+
+  -- the end of the opener
+  close_granted : refusal f (OnWalk Close) before ≡ None
+  unfolding refusal
+  close_granted = refl
+
+  pub closes_inside : (n p : ℕ) → ClosesInside f before n p
+  closes_inside n p =
+      left_so f before (closed before) (OnWalk Close) None close_granted Done
+      (record {
+        ends = refl;
+        unlocked = λ purging. refl;
+        unmoved = refl;
+        uncounted = refl;
+        looks = refl;
+        unchanged = refl;
+        told = λ m. refl;
+        map = λ m. refl;
+        own = λ m. refl;
+        number = λ n p. refl;
+        image_number = λ n p. refl;
+        within = refl;
+      }) n p (nothing_held f before)
 
 -- what does nothing
 prepare_granted : (f : Form) (x : Own) (t : Txn) → x.txn ≡ Some t → t.prepared ≡ None → 1 < t.depth → refusal f (OnGroup Prepare) x ≡ None

@@ -4,7 +4,6 @@ use Rattle.std.specs.Prelude.{[], ◌&&◌, if◌then◌else◌}
 use Rattle.std.proofs.lemmas.Bool.{false≢true}
 use Rattle.tdb_space.specs.Form.{Form}
 use Rattle.tdb_space.specs.Accepted.{AcceptWith}
-use Rattle.tdb_space.proofs.Pairs.Maps.{home_below}
 use Rattle.tdb_law.specs.Commands.{Reply, WalkCommand, is_done, is_first}
 use Rattle.tdb_law.specs.Commands.WalkCommand.{First, Next, EndWalk, Close}
 use Rattle.tdb_law.specs.Commands.Command.{OnWalk}
@@ -35,6 +34,7 @@ use Rattle.tdb_inside.specs.Walks.{ArrivesInside, CursorCame, CursorDone, Finish
 use Rattle.tdb_inside.specs.Walks.CursorCame.{comes, passes, starves as starved, leaves, stays}
 use Rattle.tdb_inside.specs.Walks.WalkedInside.{shifts, arrives, finishes, fails}
 use Rattle.tdb_inside.proofs.Inside.{answered, inside_of, same_either}
+use Rattle.tdb_inside.proofs.Lifted.{reads_chain}
 use Rattle.tdb_inside.proofs.Turned.{same_own}
 
 -- an opener inside a transaction that isn't prepared, with a cursor that shows this key
@@ -101,11 +101,7 @@ module _ (f : Form) (x : Own) (t : Txn) (unprepared : t.prepared ≡ None) where
         Effect f (IsFree table who want) (IsFirstConflict table who want) (Finds f (table who) want (seen (showing was) file)) number (OnWalk (command_for goal)) 0 (showing was) file (Ends r) (showing now) file
 
     chain_read : (k : List ℕ) → 1 ≤ max (table who (chain_byte f k)) (want (chain_byte f k))
-    chain_read k =
-        let low = home_below f k few.some in
-        let most = few.few in
-        let least : 1 ≤ table who (chain_byte f k) = reads (chain_byte f k) (omega arith) (omega (arith, low, most)) in
-        omega (arith, least)
+    chain_read k = let least = reads_chain f table who k few reads in omega (arith, least)
 
     ends_leave : (goal : Goal) (was now : Option (List ℕ)) → is_leave goal ≡ true → now ≡ None → Effected goal was now Done
     ends_leave Goals.First was now e is = absurd (false≢true e)

@@ -12,5 +12,5 @@ mod walk_alone;
 mod walking;
 
 pub use crate::counting::{count_all, count_chain, uncount_all, uncount_chain};
-pub use crate::laws::nothing_is_done;
+pub use crate::laws::{nothing_is_done, walks_are_lawful};
 pub use crate::own_txn::OwnTxn;

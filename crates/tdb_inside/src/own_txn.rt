@@ -1,5 +1,5 @@
 //! The transaction of an opener.
-ghost use Rattle.std.specs.Prelude.{◌≡◌, ◌≢◌, ℕ, List, Some, false};
+ghost use Rattle.std.specs.Prelude.{◌≡◌, ◌≢◌, ℕ, List, None, Some, false};
 ghost use Rattle.tdb_locks.specs.HeldLocks.{nothing_held};
 ghost use Rattle.tdb_law.specs.Commands.{Command};
 ghost use Rattle.tdb_law.specs.Commands.GroupCommand.{Cancel};
@@ -10,11 +10,14 @@ ghost use Rattle.tdb_law.specs.Refusals.{Refusal, refusal, says};
 ghost use Rattle.tdb_space.specs.Form.{Form};
 ghost use Rattle.tdb_steps.specs.Holdings.{table_of};
 ghost use Rattle.tdb_txn.specs.Txn.{txn_depth};
+ghost use Rattle.tdb_walk.specs.declared.standing.Standing.TheVariants.{Past};
+ghost use Rattle.tdb_walk.specs.Cursors.{rested};
 ghost use Rattle.tdb_inside.specs.Laws.{IsEnd};
 ghost use Rattle.tdb_inside.specs.OwnTxns.{own_inside};
-ghost use Rattle.tdb_inside.specs.Turns.{EndsInside};
+ghost use Rattle.tdb_inside.specs.Turns.{ClosesInside, EndsInside};
 
 use std::alloc::Global;
+use tdb_cursors::Walk;
 use tdb_locks::{Held, Locks};
 use tdb_txn::Txn;
 
@@ -29,6 +32,16 @@ pub struct OwnTxn {
 
     /// Whether its changes raise the sequence number.
     pub numbered: bool,
+}
+
+/// Lets go of all that an opener holds, and of its explicit locks, which are counted no more.
+fn let_go(alloc: Global, locks: &mut Locks, owner: u32, held: &mut Held)
+    ensures gone { (b : ℕ) → table_of locks.new owner b ≡ 0 }
+    ensures others { (o b : ℕ) → o ≢ owner → table_of locks.new o b ≡ table_of locks.old o b }
+    ensures held { held.new ≡ nothing_held }
+{
+    locks.drop_owner(owner);
+    *held = Held::new(alloc);
 }
 
 impl OwnTxn {
@@ -55,7 +68,31 @@ impl OwnTxn {
         ensures others { (o b : ℕ) → o ≢ owner → table_of locks.new o b ≡ table_of locks.old o b }
         ensures held { held.new ≡ nothing_held }
     {
-        locks.drop_owner(owner);
-        *held = Held::new(alloc);
+        let_go(alloc, locks, owner, held);
+    }
+
+    /// Ends the opener, and with it its transaction and its cursor, in one turn: so does a Close. `owner` is the number
+    /// of the opener in the lock table, and `held` are its explicit locks: it lets go of all that it holds, and isn't
+    /// live any more. A dead record on which the cursor stood goes with the transaction. No call is made on the disk.
+    pub fn close(
+        self,
+        alloc: Global,
+        locks: &mut Locks,
+        owner: u32,
+        live: &mut bool,
+        held: &mut Held,
+        walk: &mut Walk,
+    )
+        ensures closes { (f : Form) (base : List ℕ) (x : Own) (n p : ℕ) → ClosesInside f (own_inside x self base) n p }
+        ensures gone { (b : ℕ) → table_of locks.new owner b ≡ 0 }
+        ensures others { (o b : ℕ) → o ≢ owner → table_of locks.new o b ≡ table_of locks.old o b }
+        ensures live { live.new ≡ false }
+        ensures held { held.new ≡ nothing_held }
+        ensures cursor { walk.new.cursor ≡ rested Past }
+        ensures shown { walk.new.shown ≡ None }
+    {
+        let_go(alloc, locks, owner, held);
+        *live = false;
+        *walk = Walk::new();
     }
 }
