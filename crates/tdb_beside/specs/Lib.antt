@@ -3,3 +3,4 @@ pub mod Turns
 pub mod Events
 pub mod Shutting
 pub mod Laws
+pub mod Own
