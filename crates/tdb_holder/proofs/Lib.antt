@@ -1,1 +1,12 @@
 pub mod Lifting
+pub mod Turning
+pub mod GroupCounts
+pub mod GroupEffects
+pub mod Keeping
+pub mod Ending
+pub mod StartTurns
+pub mod Planned
+pub mod CommitTurns
+pub mod PrepareTurns
+pub mod FinishTurns
+pub mod InsideTurns

@@ -1,6 +1,8 @@
-//! The opener aside as a value: its turns, and the laws that make them turns of a world.
+//! The opener aside, which has a transaction: the laws that make its turns those of a world.
 #![tactic(auto)]
 
+mod ends;
 mod lifts;
 
+pub use crate::ends::{ends_are_own, inside_is_own, machines_are_own};
 pub use crate::lifts::side_turns;
