@@ -1,6 +1,6 @@
 -- The turns of commands that are done in one turn inside a transaction, or end it so, are turns of the opener aside.
-use Rattle.std.proofs.Common.{◌≡◌, ℕ, ◌≤◌, ◌<◌, false, nat_lt, Some, None, refl, sym, ap, ◌∙◌, inl, arith}
-use Rattle.std.specs.Prelude.{is_none}
+use Rattle.std.proofs.Common.{◌≡◌, ℕ, ◌≤◌, ◌<◌, true, false, nat_lt, Some, None, refl, sym, ap, ◌∙◌, subst, inl, arith}
+use Rattle.std.specs.Prelude.{is_none, is_some}
 use Rattle.std.proofs.lemmas.Bool.{le-leb, lt-ltb}
 use Rattle.tdb_space.specs.Form.{Form}
 use Rattle.tdb_law.specs.Commands.{Command}
@@ -9,17 +9,19 @@ use Rattle.tdb_law.specs.Commands.WalkCommand.{Close}
 use Rattle.tdb_law.specs.Commands.Command.{OnMap, OnLocks, Seqnum, OnGroup, OnWalk}
 use Rattle.tdb_law.specs.Commands.Reply.{Done}
 use Rattle.tdb_law.specs.Commands.Turn.{Ends}
-use Rattle.tdb_law.specs.Openers.{Map, Own, Txn, closed, ended, nowhere}
+use Rattle.tdb_law.specs.Openers.{Map, Mark, Own, Txn, closed, ended, nowhere}
 use Rattle.tdb_law.specs.Refusals.{refusal, says}
 use Rattle.tdb_law.specs.Rows.{all_end, changed_by, is_changed, start_locks}
-use Rattle.tdb_law.specs.Outcomes.{own_refused, reads}
+use Rattle.tdb_law.specs.Outcomes.{moves, own_refused, reads}
 use Rattle.tdb_law.specs.Effects.Effect.{effect_answers}
+use Rattle.tdb_law.specs.Walks.{Lost, Shift}
+use Rattle.tdb_law.specs.Walks.Walked.{walk_ends}
 use Rattle.tdb_law.specs.Held.{holding, kept, locked, txn_held}
 use Rattle.tdb_inside.specs.Laws.{IsEnd}
 use Rattle.tdb_inside.specs.Turns.{ReadsAll}
 use Rattle.tdb_inside.proofs.Inside.{ended_so}
 use Rattle.tdb_beside.specs.Sides.{Side}
-use Rattle.tdb_holder.specs.Ends.{CancelEnds, RefusalEnds, EndIsOwn, CloseIsOwn, InsideIsOwn, GoesOnHolding, task_of}
+use Rattle.tdb_holder.specs.Ends.{CancelEnds, RefusalEnds, EndIsOwn, CloseIsOwn, InsideIsOwn, WalkShifts, GoesOnHolding, task_of}
 use Rattle.tdb_holder.proofs.GroupCounts.{end_settles, image_kept}
 use Rattle.tdb_holder.proofs.Keeping.{keeps_nothing}
 use Rattle.tdb_holder.proofs.Turning.{EffectIs, own_turned, still_turned, rests, group_still}
@@ -125,3 +127,16 @@ inside_is_own f table m n q old new s z x y txn c r has I G walks B L =
     I.row (λ free. I.effect table s.here _ m free (reads_all f table s z x txn has B.own G))
     (λ b. G.goes_on b ∙ G.holds b ∙ ap (λ o. holding f o nowhere s.task b) B.own ∙ ap (λ u. holding f x nowhere u b) B.task ∙ sym (I.holds nowhere nowhere b)) walks
     (sym (end_settles f x (ap is_none has) c 0 r old.settled)) (sym I.number) I.image_number
+
+pub walk_shifts : WalkShifts
+walk_shifts f m mm s z x y c n r is later here still shift w v W V =
+    walk_ends r refl (ap (moves f c) own_before ∙ still) (λ shown.
+    subst (λ h. ShiftBy (w.own s.here) (w.mark s.here) (v.mark h)) here
+    (subst (λ b. ShiftBy (w.own s.here) (w.mark s.here) b) (sym V.mark) (subst (λ a. ShiftBy (w.own s.here) a z.mark) (sym W.mark) (subst (λ o. ShiftBy o s.mark z.mark) (sym own_before)
+    (shift (sym (ap (λ (o : Own). is_some o.cursor) (ap (λ h. v.own h) (sym here) ∙ V.own ∙ later)) ∙ shown))))))
+  where
+    own_before : w.own s.here ≡ x
+    own_before = W.own ∙ is
+
+    ShiftBy : Own → Mark → Mark → Type 0
+    ShiftBy o a b = Shift f (Lost f c n o (Ends r) true a) a b

@@ -10,3 +10,4 @@ pub mod CommitTurns
 pub mod PrepareTurns
 pub mod FinishTurns
 pub mod InsideTurns
+pub mod Waiting

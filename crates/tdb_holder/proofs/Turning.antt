@@ -20,7 +20,7 @@ use Rattle.tdb_beside.specs.Own.{OwnTurned, ShowsSide, side_wants}
 use Rattle.tdb_holder.specs.Ends.{MarkRests, TurnBegins, TurnLeaves}
 
 -- a walk that isn't moved
-still_shift : (f : Form) (lost : List ℕ → Type 0) (mark later : Mark) → later ≡ mark → Shift f lost mark later
+pub still_shift : (f : Form) (lost : List ℕ → Type 0) (mark later : Mark) → later ≡ mark → Shift f lost mark later
 still_shift f lost mark later same = subst (λ z. Shift f lost mark z) (sym same) (record { inside = refl; reached = refl; fewer = λ k e. inl e; kept = λ k e. inl e })
 
 -- The effect of a turn on the file and on the opener, whatever is wanted, found and seen.

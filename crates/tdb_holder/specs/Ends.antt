@@ -12,11 +12,11 @@ use Rattle.tdb_law.specs.Commands.Turn.{Step, Blocked, Ends}
 use Rattle.tdb_law.specs.Openers.{Map, Mark, Own, Task, Txn, closed, ended, nowhere}
 use Rattle.tdb_law.specs.Refusals.{Refusal, refusal, says}
 use Rattle.tdb_law.specs.Rows.{commits_in, start_locks}
-use Rattle.tdb_law.specs.Outcomes.{begun_txn}
+use Rattle.tdb_law.specs.Outcomes.{begun_txn, moves}
 use Rattle.tdb_law.specs.Held.{holding, kept, txn_held}
 use Rattle.tdb_law.specs.World.{State}
 use Rattle.tdb_law.specs.Effects.{IsFree, task_left}
-use Rattle.tdb_law.specs.Walks.{Walked}
+use Rattle.tdb_law.specs.Walks.{Lost, Shift, Walked}
 use Rattle.tdb_steps.specs.Holdings.{table_of}
 use Rattle.tdb_commit.specs.Holding.{RowTurned}
 use Rattle.tdb_commit.specs.Starts.{start_steps, start_turn, StartLeads}
@@ -192,10 +192,16 @@ pub record GoesOnHolding (f : Form) (table : ℕ → ℕ → ℕ) (s z : Side) :
   pub holds : (b : ℕ) → s.table b ≡ holding f s.own nowhere s.task b
   pub goes_on : (b : ℕ) → z.table b ≡ s.table b
 
--- A command inside a transaction, done in one turn, where that is what the law wants of the walk of the opener's own cursor.
+-- A command inside a transaction, done in one turn, that does to the walk of the opener's own cursor what the law wants.
 abbrev pub InsideIsOwn : Type 0
 InsideIsOwn = (f : Form) (table : ℕ → ℕ → ℕ) (m : Map) (n q : ℕ) (old new : Past) (s z : Side) (x y : Own) (txn : Txn) (c : Command) (r : Reply)
     → let t = task_of c 0 in
     x.txn ≡ Some txn → TurnsInside f x y c n (old.numbers s.here) q r → GoesOnHolding f table s z
     → ((w v : State) → ShowsSide w s m → ShowsSide v z m → Walked f w v s.here c 0 (Ends r))
     → TurnBegins f table s x t → TurnLeaves old new s z t (Ends r) y old.settled q → OwnTurned f table m m n n old new s z t (Ends r)
+
+-- So does one that is no move, where the walk shifts as by its own command, or the opener has no cursor afterwards.
+abbrev pub WalkShifts : Type 0
+WalkShifts = (f : Form) (m mm : Map) (s z : Side) (x y : Own) (c : Command) (n : ℕ) (r : Reply)
+    → s.own ≡ x → z.own ≡ y → z.here ≡ s.here → moves f c x ≡ false → (is_some y.cursor ≡ true → Shift f (Lost f c n x (Ends r) true s.mark) s.mark z.mark)
+    → (w v : State) → ShowsSide w s m → ShowsSide v z mm → Walked f w v s.here c n (Ends r)

@@ -1,2 +1,3 @@
 pub mod Lifts
 pub mod Ends
+pub mod Waits

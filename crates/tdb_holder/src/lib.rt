@@ -3,6 +3,8 @@
 
 mod ends;
 mod lifts;
+mod waits;
 
 pub use crate::ends::{ends_are_own, inside_is_own, machines_are_own};
 pub use crate::lifts::side_turns;
+pub use crate::waits::blocks_are_own;
