@@ -39,7 +39,7 @@ unshut t free n within = ap (λ b. commits_in t && b) (open_early t free n withi
 
 pub commit_is_own : CommitIsOwn
 commit_is_own f table m mm q qq owner old new s z x txn c (Steps next) ps rs O free unblocked plan numbered leads R H F B L M =
-    still_turned f table m mm q qq old new s z x x (task_of (OnGroup Commit) (commit_steps c)) Step old.settled (old.numbers s.here) B L (group_still f Commit x) M
+    still_turned f table m mm q qq old new s z x x (task_of (OnGroup Commit) (commit_steps c)) Step old.settled (old.numbers s.here) B L (group_still f Commit x) (M refl)
     row (commit_step f x txn O 7 (commit_steps c) (old.numbers s.here) q qq m mm (shuts_at_seven txn free) change F within)
     (λ b. let e = H b in let held = subst (λ l. table_of rs owner b ≡ max (locked l (commit_steps c + 1) b) (start_held b)) (going_row c txn.numbered leads.0 numbered) (R.holds b) in
     let same = (commit_holds f x txn nowhere s.view Commit (commit_steps c + 1) b commits O.granted O.has plans).0 in omega (arith, e, held, same))

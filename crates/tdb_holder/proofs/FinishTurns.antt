@@ -37,7 +37,7 @@ module _ (t : Txn) (steps : ℕ) (is : t.prepared ≡ Some steps) where
 
 pub finish_is_own : FinishIsOwn
 finish_is_own f table m mm q qq owner steps old new s z x txn c (Steps next) ps rs O is opened commits leads R H F B L M =
-    still_turned f table m mm q qq old new s z x x (task_of (OnGroup Commit) (finish_steps c)) Step old.settled (old.numbers s.here) B L (group_still f Commit x) M
+    still_turned f table m mm q qq old new s z x x (task_of (OnGroup Commit) (finish_steps c)) Step old.settled (old.numbers s.here) B L (group_still f Commit x) (M refl)
     row (commit_step f x txn O 2 (finish_steps c) (old.numbers s.here) q qq m mm (shuts_at_two txn steps is opened) commits F within)
     (λ b. let e = H b in let held = R.holds b in let same = (finish_holds f x txn nowhere s.view steps (finish_steps c + 1) b O.has is).0 in omega (arith, e, held, same))
     (sym (step_settles f Commit x (finish_steps c) old.settled))

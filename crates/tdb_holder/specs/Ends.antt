@@ -92,14 +92,15 @@ abbrev pub start_number : Turn → ℕ → ℕ → ℕ
 start_number (Ends Done) q p = q
 start_number turn q p = p
 
--- Each turn of a Start that isn't blocked, of an opener that has no transaction and keeps no lock.
+-- Each turn of a Start that isn't blocked, of an opener that has no transaction and keeps no lock. It has no cursor, so of the mark of its
+-- walk nothing is asked after the end.
 abbrev pub StartIsOwn : Type 0
 StartIsOwn = (f g : Form) (table : ℕ → ℕ → ℕ) (m : Map) (q len owner : ℕ) (old new : Past) (s z : Side) (x : Own) (start : Starting) (turn : StartTurn) (ps rs : List Piece)
     → let t = task_of (OnGroup Start) (start_steps start) in let u = start_turn turn in
     x.txn ≡ None → refusal f (OnGroup Start) x ≡ None → ((b : ℕ) → kept f x nowhere b ≡ 0) → (IsBlocked u → ⊥)
     → StartLeads g len start turn → RowTurned true start_locks (λ b. 0) owner t.steps ps rs u → HoldsIn rs owner z
     → TurnBegins f table s x t → TurnLeaves old new s z t u (started u x m) (start_settles u old.settled) (start_number u q (old.numbers s.here))
-    → MarkRests (started u x m) u s.mark z.mark → OwnTurned f table m m q q old new s z t u
+    → (u ≡ Step → z.mark ≡ s.mark) → OwnTurned f table m m q q old new s z t u
 
 -- A turn after so many steps shuts the gate of a commit, whose last step but this had so many.
 abbrev pub shuts : ℕ → ℕ → Turn → Bool
@@ -123,14 +124,15 @@ abbrev pub committed : Turn → Own → Own
 committed (Ends r) x = ended x
 committed turn x = x
 
--- Each turn of an outer Commit that isn't blocked, of a transaction that isn't prepared; its eighth turn shuts the gate.
+-- Each turn of an outer Commit that isn't blocked, of a transaction that isn't prepared; its eighth turn shuts the gate. It leaves no cursor
+-- at its end.
 abbrev pub CommitIsOwn : Type 0
 CommitIsOwn = (f : Form) (table : ℕ → ℕ → ℕ) (m mm : Map) (q qq owner : ℕ) (old new : Past) (s z : Side) (x : Own) (txn : Txn) (c : Committing) (turn : CommitTurn) (ps rs : List Piece)
     → let t = task_of (OnGroup Commit) (commit_steps c) in let u = commit_turn turn in
     IsOuter f x txn Commit → txn.prepared ≡ None → (IsBlocked u → ⊥)
     → HasChange txn c → IsNumbered c txn.numbered → CommitLeads c turn → RowTurned false (commit_row c txn.numbered) start_held owner t.steps ps rs u → HoldsIn rs owner z
     → CommitsFile 7 t.steps u txn (old.numbers s.here) m mm q qq
-    → TurnBegins f table s x t → TurnLeaves old new s z t u (committed u x) old.settled (old.numbers s.here) → MarkRests (committed u x) u s.mark z.mark
+    → TurnBegins f table s x t → TurnLeaves old new s z t u (committed u x) old.settled (old.numbers s.here) → (u ≡ Step → z.mark ≡ s.mark)
     → OwnTurned f table m mm q qq old new s z t u
 
 -- A Prepare that is done leaves a prepared transaction, with the steps that it had; one without room or memory ends the transaction.
@@ -155,7 +157,7 @@ FinishIsOwn = (f : Form) (table : ℕ → ℕ → ℕ) (m mm : Map) (q qq owner 
     IsOuter f x txn Commit → txn.prepared ≡ Some steps → 4 ≤ steps → commits_in txn ≡ true
     → FinishLeads c turn → RowTurned false [] (txn_held txn) owner t.steps ps rs u → HoldsIn rs owner z
     → CommitsFile 2 t.steps u txn (old.numbers s.here) m mm q qq
-    → TurnBegins f table s x t → TurnLeaves old new s z t u (committed u x) old.settled (old.numbers s.here) → MarkRests (committed u x) u s.mark z.mark
+    → TurnBegins f table s x t → TurnLeaves old new s z t u (committed u x) old.settled (old.numbers s.here) → (u ≡ Step → z.mark ≡ s.mark)
     → OwnTurned f table m mm q qq old new s z t u
 
 -- A Commit after a Prepare that found nothing to commit is done at once, and lets go of all that the opener holds.
