@@ -1,5 +1,5 @@
 -- A turn of the opener aside is a turn of the whole state.
-use Rattle.std.proofs.Common.{◌≡◌, ◌≢◌, ℕ, Bool, true, false, ◌==◌, refl, sym, ap, ◌∙◌, subst, inl}
+use Rattle.std.proofs.Common.{◌≡◌, ◌≢◌, ℕ, false, ◌==◌, refl, sym, ap, ◌∙◌, subst, inl}
 use Rattle.std.specs.Prelude.{if◌then◌else◌}
 use Rattle.std.proofs.Math.Path.{fun_ext}
 use Rattle.std.proofs.lemmas.Bool.{eq-eqb, ne_eqb}
@@ -15,13 +15,10 @@ use Rattle.tdb_law.specs.Effects.{Effect, IsFree, IsFirstConflict, Finds, SpotLe
 use Rattle.tdb_law.specs.Effects.Stays.{stands_nowhere}
 use Rattle.tdb_law.specs.Turned.{Turned, number_next, want}
 use Rattle.tdb_law.specs.Walks.{Lost, Shift}
+use Rattle.tdb_inside.proofs.Inside.{same_either}
 use Rattle.tdb_beside.specs.Sides.{Past, Side, alone, beside, but_at, everywhere}
 use Rattle.tdb_beside.specs.Own.{OwnTurned, side_wants}
 use Rattle.tdb_holder.specs.Lifts.{Shows, ShownTurns, OthersKeep, IsBack, BesideTurns, BesideEnds, BesideBegins}
-
-same_either : {T : Type 0} (b : Bool) (v : T) → (if b then v else v) ≡ v
-same_either true v = refl
-same_either false v = refl
 
 -- where nothing has to be purged nothing is decided
 decides_nothing : (v : View) (n : ℕ) → v.must ≡ false → decided nowhere v n ≡ nowhere
