@@ -1,18 +1,17 @@
--- A world serves the commands of a session, whose keys and values are no longer than their lines.
-use Rattle.std.proofs.Common.{◌≡◌, ℕ, ◌<◌, ◌≤◌, List, [], ◌∷◌, length, length-append, refl, sym, ap, subst, Bool, true, false, Option, Some, None, unwrap_or, inl, inr, arith}
+-- A world serves the orders of a session, whose keys and values are no longer than their lines.
+use Rattle.std.proofs.Common.{◌≡◌, ℕ, ◌<◌, ◌≤◌, List, [], ◌∷◌, length, length-append, ap, subst, Bool, true, false, Some, None, unwrap_or, inl, inr, arith}
 use Rattle.std.specs.Prelude.{◌^◌, if◌then◌else◌}
 use Rattle.std.specs.Str.{bytes_eq}
 use Rattle.tdb_dump.specs.Escape.{IsLetter, Letters}
 use Rattle.tdb_dump.specs.Word.{stands_in_word, IsWord}
-use Rattle.tdb_plays.specs.declared.command.Command.{Command}
 use Rattle.tdb_script.specs.Lines.{words_of}
 use Rattle.tdb_script.specs.Rows.{row_of}
 use Rattle.tdb_script.proofs.PartLemmas.{NoLonger, words_no_longer}
-use Rattle.tdb_world.specs.Given.{IsServed, IsShortGiven}
 use Rattle.tdb_tool.specs.declared.order.Order.{Order}
 use Rattle.tdb_tool.specs.Rows.{bare_orders, key_orders, value_orders}
 use Rattle.tdb_tool.specs.Orders.{storehex, IsSpelled, IsOrder}
 use Rattle.tdb_tool.specs.Asking.{Says}
+use Rattle.tdb_tool.specs.Parts.{IsServedOrder}
 use Rattle.tdb_tool.proofs.HexLemmas.{hex_short}
 
 -- what holds of each row of a table holds of what a word has there
@@ -48,28 +47,24 @@ spelled_short : (hex : Bool) (word bytes : List ℕ) → IsSpelled hex word byte
 spelled_short true word bytes p = hex_short word bytes p
 spelled_short false word bytes p = word_short word bytes p
 
-abbrev IsFine : Order → Type 0
-IsFine (Order.Take command) = IsServed command × IsShortGiven command
-IsFine Order.Quit = Unit {0}
-
 module _ (n : ℕ) (few : n < 2 ^ 32) where
   short : (hex : Bool) (word bytes : List ℕ) → length word ≤ n → IsSpelled hex word bytes → length bytes < 2 ^ 32
   short hex word bytes within is = omega (arith, few, within, spelled_short hex word bytes is)
 
-  order_fine : (words : List (List ℕ)) (order : Order) → NoLonger n words → IsOrder words order → IsFine order
+  order_fine : (words : List (List ℕ)) (order : Order) → NoLonger n words → IsOrder words order → IsServedOrder order
   order_fine [] order l p = absurd p
-  order_fine (name ∷ []) order l p = of_row IsFine bare_orders name order ((tt, tt), ((tt, tt), (tt, tt))) p
+  order_fine (name ∷ []) order l p = of_row IsServedOrder bare_orders name order ((tt, tt), ((tt, tt), ((tt, tt), ((tt, tt), (tt, (tt, (tt, (tt, tt)))))))) p
   order_fine (name ∷ word ∷ []) order l p =
       let k = short false word p.0 l.1.0 p.1 in
-      of_row IsFine (key_orders p.0) name order ((tt, k), ((tt, k), tt)) p.2
+      of_row IsServedOrder (key_orders p.0) name order ((tt, k), ((tt, k), tt)) p.2
   order_fine (name ∷ word ∷ more ∷ []) order l p =
       let hex = bytes_eq name storehex in
       let k = short hex word p.0 l.1.0 p.2 in
       let v = short hex more p.1 l.1.1.0 p.3 in
-      of_row IsFine (value_orders p.0 p.1) name order ((tt, (k, v)), ((tt, (k, v)), ((tt, (k, v)), tt))) p.4
+      of_row IsServedOrder (value_orders p.0 p.1) name order ((tt, (k, v)), ((tt, (k, v)), ((tt, (k, v)), tt))) p.4
   order_fine (name ∷ word ∷ more ∷ other ∷ words) order l p = absurd p
 
-pub taken_fine : (at : ℕ) (line : List ℕ) (command : Command) → Says at line (Some (Order.Take command)) → IsServed command × IsShortGiven command
-taken_fine at line command says =
+pub said_fine : (at : ℕ) (line : List ℕ) (order : Order) → Says at line (Some order) → IsServedOrder order
+said_fine at line order says =
     let short = says.fits.short in
-    order_fine 16777216 (omega arith) (words_of line) (Order.Take command) (words_no_longer 16777216 line short) says.words
+    order_fine 16777216 (omega arith) (words_of line) order (words_no_longer 16777216 line short) says.words

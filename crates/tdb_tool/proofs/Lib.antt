@@ -2,6 +2,13 @@ pub mod Telling
 pub mod HexLemmas
 pub mod LineLemmas
 pub mod Coming
+pub mod PartLemmas
+pub mod Plays
+pub mod Moves
+pub mod FewPairs
+pub mod Endless
+pub mod Lists
+pub mod PartsRan
 pub mod Sessions
 pub mod Fine
 pub mod Wholes

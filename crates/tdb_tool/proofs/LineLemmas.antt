@@ -1,7 +1,7 @@
 -- A line that is put together from the bytes up to its newline.
-use Rattle.std.proofs.Common.{◌≡◌, ◌⊎◌, ℕ, zero, suc, ◌+◌, ◌-◌, ◌<◌, ◌≤◌, true, false, Bool, List, [], ◌∷◌, ◌++◌, length, get_or, take, drop, take-append-drop, Option, None, Some, refl, sym, ◌∙◌, ap, subst, inl, inr, arith, length-append, if◌then◌else◌}
+use Rattle.std.proofs.Common.{◌≡◌, ℕ, zero, suc, ◌+◌, ◌-◌, ◌<◌, ◌≤◌, true, false, Bool, List, [], ◌∷◌, ◌++◌, length, get_or, take, drop, take-append-drop, None, Some, refl, sym, ◌∙◌, ap, subst, inl, inr, arith, length-append, if◌then◌else◌}
 use Rattle.std.specs.Prelude.{position}
-use Rattle.std.specs.List.{All, slice_split, position_or_len, onto_first}
+use Rattle.std.specs.List.{All, slice_split, onto_first}
 use Rattle.std.proofs.lemmas.List.{append_assoc, append-nil, drop_more, drop-drop, drop-take, get_or-take, length-take}
 use Rattle.std.proofs.lemmas.List.Elements.{All-append}
 use Rattle.std.proofs.lemmas.List.Splits.{slice_split_at, slice_split_none, slice_split-cons_yes, slice_split-cons_no}

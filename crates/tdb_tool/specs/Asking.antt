@@ -1,6 +1,5 @@
 -- What the text of a session asks for.
-use Rattle.std.specs.Prelude.{◌≡◌, ◌+◌, ◌<◌, ◌≤◌, ℕ, List, [], ◌∷◌, ◌++◌, length, Option, None, Some}
-use Rattle.tdb_plays.specs.declared.command.Command.{Command}
+use Rattle.std.specs.Prelude.{◌≡◌, ◌≢◌, ◌+◌, ◌<◌, ◌≤◌, ℕ, List, [], ◌∷◌, ◌++◌, length, Option, None, Some}
 use Rattle.tdb_script.specs.Lines.{lines_of, words_of, width}
 use Rattle.tdb_tool.specs.declared.fault.SessionEnd.{SessionEnd}
 use Rattle.tdb_tool.specs.declared.fault.SessionEnd.TheVariants.{Ended, Malformed}
@@ -27,20 +26,16 @@ pub record Says (at : ℕ) (line : List ℕ) (said : Option Order) : Type 0 wher
 abbrev pub IsBad : ℕ → List ℕ → Type 0
 IsBad at line = (said : Option Order) → Says at line said → ⊥
 
--- the order to take a command, if there is one; and a command in front of others
-abbrev pub taking : Option Command → Option Order
-taking None = None
-taking (Some command) = Some (Order.Take command)
+-- an order in front of others, if there is one
+abbrev pub with_said : Option Order → List Order → List Order
+with_said None orders = orders
+with_said (Some order) orders = order ∷ orders
 
-abbrev pub with_asked : Option Command → List Command → List Command
-with_asked None commands = commands
-with_asked (Some command) commands = command ∷ commands
-
--- lines, of which the first begins at this place, ask for these commands, in order
-abbrev pub LinesAsk : ℕ → List (List ℕ) → List Command → Type 0
-LinesAsk at [] commands = commands ≡ []
-LinesAsk at (line ∷ lines) commands =
-    (asked : Option Command) × (rest : List Command) × Says at line (taking asked) × LinesAsk (at + length line + 1) lines rest × (commands ≡ with_asked asked rest)
+-- lines, of which the first begins at this place, ask for these orders, in order, and none of them says `quit`
+abbrev pub LinesAsk : ℕ → List (List ℕ) → List Order → Type 0
+LinesAsk at [] orders = orders ≡ []
+LinesAsk at (line ∷ lines) orders =
+    (said : Option Order) × (rest : List Order) × Says at line said × (said ≢ Some Order.Quit) × LinesAsk (at + length line + 1) lines rest × (orders ≡ with_said said rest)
 
 -- A session ends before these lines, of which the first begins at this place: there is none, or it says `quit`; or it is
 -- bad.
@@ -50,17 +45,17 @@ EndsBefore at [] (Malformed place) = ⊥
 EndsBefore at (line ∷ lines) Ended = Says at line (Some Order.Quit)
 EndsBefore at (line ∷ lines) (Malformed place) = IsBad at line × (place ≡ at)
 
--- The text of a session: its lines ask for these commands, and then it ends so.
-pub record Session (text : List ℕ) (commands : List Command) (end : SessionEnd) : Type 0 where
+-- The text of a session: its lines ask for these orders, and then it ends so.
+pub record Session (text : List ℕ) (orders : List Order) (end : SessionEnd) : Type 0 where
   pub before : List (List ℕ)
   pub after : List (List ℕ)
   pub lines : lines_of text ≡ before ++ after
-  pub ask : LinesAsk 0 before commands
+  pub ask : LinesAsk 0 before orders
   pub ends : EndsBefore (width before) after end
 
--- A text that begins by asking for these commands.
-pub record BeginsBy (text : List ℕ) (commands : List Command) : Type 0 where
+-- A text that begins by asking for these orders.
+pub record BeginsBy (text : List ℕ) (orders : List Order) : Type 0 where
   pub before : List (List ℕ)
   pub after : List (List ℕ)
   pub lines : lines_of text ≡ before ++ after
-  pub ask : LinesAsk 0 before commands
+  pub ask : LinesAsk 0 before orders

@@ -5,5 +5,6 @@ pub mod Asking
 pub mod Lines
 pub mod Asked
 pub mod Replies
+pub mod Parts
 pub mod Serving
 pub mod Whole

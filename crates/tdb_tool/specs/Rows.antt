@@ -1,5 +1,6 @@
 -- The words of a session, by tables: one row for each word.
 use Rattle.std.specs.Prelude.{ℕ, List, [], ◌∷◌, codes}
+use Rattle.tdb_dump.specs.declared.listing.Listing.{Listing}
 use Rattle.tdb_steps.specs.declared.flag.Flag.{Flag}
 use Rattle.tdb_plays.specs.declared.command.Command.{Command}
 use Rattle.tdb_tool.specs.declared.order.Order.{Order}
@@ -9,6 +10,11 @@ abbrev pub bare_orders : List (List ℕ × Order)
 bare_orders =
     (codes "erase", Order.Take Command.Wipe)
     ∷ (codes "check", Order.Take Command.Check)
+    ∷ (codes "first", Order.Take Command.First)
+    ∷ (codes "next", Order.Take Command.Next)
+    ∷ (codes "dump", Order.List Listing.Pairs)
+    ∷ (codes "keys", Order.List Listing.Keys)
+    ∷ (codes "hexkeys", Order.List Listing.HexKeys)
     ∷ (codes "quit", Order.Quit)
     ∷ []
 

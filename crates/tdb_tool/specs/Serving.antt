@@ -1,26 +1,28 @@
--- How plays are taken over a view of a file and their replies printed, as far as they come.
-use Rattle.std.specs.Prelude.{◌≡◌, ℕ, ◌<◌, ◌≤◌, ◌+◌, Bool, IsTrue, List, ◌∷◌, ◌++◌, map, Option, None, Some, Result, Ok, Err}
+-- How parts of a session are done over a view of a file, as far as they come, and their text is written.
+use Rattle.std.specs.Prelude.{◌≡◌, ℕ, ◌<◌, ◌≤◌, ◌+◌, Bool, IsTrue, List, ◌∷◌, ◌++◌, Option, None, Some, Result, Ok, Err, IfOk}
 use Rattle.tdb_disk.specs.Count.{Rose}
 use Rattle.tdb_space.specs.Form.{Form, form_in}
 use Rattle.tdb_backup.specs.Dump.{WroteFront}
+use Rattle.tdb_dump.specs.declared.listing.Listing.{Listing}
 use Rattle.tdb_dump.specs.declared.writer.WriteRefusal.{WriteRefusal}
 use Rattle.tdb_dump.specs.declared.writer.WriteRefusal.TheVariants as Untold
-use Rattle.tdb_law.specs.Plays.{Course}
+use Rattle.tdb_law.specs.Plays.{Gives}
 use Rattle.tdb_law.specs.World.{State}
-use Rattle.tdb_plays.specs.InLaw.{law_plays, law_lines}
-use Rattle.tdb_plays.specs.declared.command.Command.{Command}
+use Rattle.tdb_plays.specs.InLaw.{law_play, law_lines}
 use Rattle.tdb_plays.specs.declared.line.Line.{Line}
 use Rattle.tdb_plays.specs.declared.play.Play.{Play}
-use Rattle.tdb_world.specs.Played.{ComesTo}
+use Rattle.tdb_world.specs.Played.{PlaysLast}
 use Rattle.tdb_world.specs.Worlds.{World, state_in, Stands, BytesStand}
 use Rattle.tdb_world.specs.declared.fault.RunFault.{RunFault}
 use Rattle.tdb_world.specs.declared.fault.RunFault.TheVariants as Run
 use Rattle.tdb_tool.specs.declared.fault.SessionEnd.{SessionEnd}
 use Rattle.tdb_tool.specs.declared.fault.SessionFault.{SessionFault}
 use Rattle.tdb_tool.specs.declared.fault.SessionFault.TheVariants as F
+use Rattle.tdb_tool.specs.declared.order.Order.{Order}
 use Rattle.tdb_script.specs.Lines.{width}
 use Rattle.tdb_tool.specs.Asking.{LinesAsk, EndsBefore, Session, BeginsBy}
-use Rattle.tdb_tool.specs.Replies.{replies_text}
+use Rattle.tdb_tool.specs.Parts.{Part, Silent, parts_of, AllDone, AllCame}
+use Rattle.tdb_tool.specs.Replies.{lines_text, tell_pair}
 
 -- the fault of a session, by that of its plays and of its output
 abbrev pub of_run : RunFault → SessionFault
@@ -51,26 +53,28 @@ OnBroken (Some F.Output) p = Unit {0}
 OnBroken (Some F.Device) p = p
 OnBroken (Some F.Memory) p = Unit {0}
 
--- All plays were taken from a state to another, and their replies were written behind what was there; or they came to a
--- state, and a front of the text of their replies was written.
-abbrev pub TellsAll : Form → State → List Play → State → Bool → List ℕ → List ℕ → Type 0
-TellsAll f old plays new told before now =
-    (lines : List Line) × Course f old (law_plays plays) (law_lines lines) new × (IsTrue told → now ≡ before ++ replies_text lines)
+-- What may be done from a state on: the lines that it gives, the text that is printed of them, and the state to which it
+-- leads.
+abbrev pub Deed : Type 1
+Deed = Form → State → List Line → List ℕ → State → Type 0
 
-abbrev pub TellsFront : Form → State → List Play → State → Bool → List ℕ → List ℕ → Type 0
-TellsFront f old plays new told before now =
-    (lines : List Line) × ComesTo f old (law_plays plays) (law_lines lines) new × (IsTrue told → WroteFront before (replies_text lines) now)
+-- It was done from a state to another, and its text was written behind what was there; or of its text a front was.
+abbrev pub TellsAll : Deed → Form → State → State → Bool → List ℕ → List ℕ → Type 0
+TellsAll deed f old new told before now = (lines : List Line) × (text : List ℕ) × deed f old lines text new × (IsTrue told → now ≡ before ++ text)
 
--- By why they broke off. Where the disk failed nothing is said of what is left; where the input did, all were taken and
--- told.
-abbrev pub RunsTo : Form → State → List Play → State → Bool → List ℕ → List ℕ → Option SessionFault → Type 0
-RunsTo f old plays new told before now None = TellsAll f old plays new told before now
-RunsTo f old plays new told before now (Some F.Input) = TellsAll f old plays new told before now
-RunsTo f old plays new told before now (Some F.Output) = TellsFront f old plays new told before now
-RunsTo f old plays new told before now (Some F.Device) = (left : State) × TellsFront f old plays left told before now
-RunsTo f old plays new told before now (Some F.Memory) = TellsFront f old plays new told before now
+abbrev pub TellsFront : Deed → Form → State → State → Bool → List ℕ → List ℕ → Type 0
+TellsFront deed f old new told before now = (lines : List Line) × (text : List ℕ) × deed f old lines text new × (IsTrue told → WroteFront before text now)
 
--- A moment of the plays: the world, the bytes and the length of its file, the count of faults of its disk, and what is
+-- What was done, by why it broke off: the whole, or a part. Where the disk failed nothing is said of what is left; where the
+-- input did, the whole was done and told.
+abbrev pub RunsTo : Deed → Deed → Form → State → State → Bool → List ℕ → List ℕ → Option SessionFault → Type 0
+RunsTo whole part f old new told before now None = TellsAll whole f old new told before now
+RunsTo whole part f old new told before now (Some F.Input) = TellsAll whole f old new told before now
+RunsTo whole part f old new told before now (Some F.Output) = TellsFront part f old new told before now
+RunsTo whole part f old new told before now (Some F.Device) = (left : State) × TellsFront part f old left told before now
+RunsTo whole part f old new told before now (Some F.Memory) = TellsFront part f old new told before now
+
+-- A moment of a session: the world, the bytes and the length of its file, the count of faults of its disk, and what is
 -- written on the output.
 pub record Scene : Type 0 where
   pub world : World
@@ -82,8 +86,8 @@ pub record Scene : Type 0 where
 abbrev pub scene : World → List ℕ → ℕ → ℕ → List ℕ → Scene
 scene world image size faults written = record { world = world; image = image; size = size; faults = faults; written = written }
 
--- Plays led from one moment to another, and ended so, over a disk and an output that tell or don't.
-pub record Ran (disk_tells output_tells : Bool) (old new : Scene) (plays : List Play) (answer : Option SessionFault) : Type 0 where
+-- What was done led from one moment to another, and ended so, over a disk and an output that tell or don't.
+pub record Led (disk_tells output_tells : Bool) (whole part : Deed) (old new : Scene) (answer : Option SessionFault) : Type 0 where
   pub header : new.world.header ≡ old.world.header
   pub options : new.world.options ≡ old.world.options
   pub stands : UnlessBroken answer (Stands new.world new.image new.size)
@@ -91,35 +95,42 @@ pub record Ran (disk_tells output_tells : Bool) (old new : Scene) (plays : List 
   pub quiet : UnlessBroken answer (new.faults ≡ old.faults)
   pub bytes : IsTrue disk_tells → BytesStand old.world old.image → UnlessBroken answer (BytesStand new.world new.image)
   pub runs : IsTrue disk_tells → BytesStand old.world old.image
-      → RunsTo (form_in old.world.header) (state_in old.world old.image) plays (state_in new.world new.image) output_tells old.written new.written answer
+      → RunsTo whole part (form_in old.world.header) (state_in old.world old.image) (state_in new.world new.image) output_tells old.written new.written answer
   pub rose : IsTrue disk_tells → BytesStand old.world old.image → OnBroken answer (Rose old.faults new.faults)
 
--- the plays by which the one opener takes commands
-abbrev pub doing : Command → Play
-doing command = Play.Do 1 command
+-- parts of a session did
+abbrev pub Ran : (disk_tells output_tells : Bool) (old new : Scene) → List Part → Option SessionFault → Type 0
+Ran d o old new parts answer = Led d o (AllDone parts) (AllCame parts) old new answer
 
-abbrev pub doings : List Command → List Play
-doings commands = map doing commands
+-- one play did, of whose lines so much is printed; it tells whether it gave a pair
+abbrev pub PlayDone : Play → Option Listing → Result Bool SessionFault → Deed
+PlayDone play listing answer f old lines text new = Gives f old (law_play play) (law_lines lines) new × (text ≡ lines_text listing lines) × IfOk answer (λ pair. pair ≡ tell_pair lines)
 
--- What the next lines ask for was taken, and the others are left, of which the first begins at the next place; or the
+abbrev pub PlayBegun : Play → Option Listing → Deed
+PlayBegun play listing f old lines text new = PlaysLast f old (law_play play) (law_lines lines) new × (text ≡ lines_text listing lines)
+
+abbrev pub Played : (disk_tells output_tells : Bool) (old new : Scene) → Play → Option Listing → Result Bool SessionFault → Option SessionFault → Type 0
+Played d o old new play listing answer fault = Led d o (PlayDone play listing answer) (PlayBegun play listing) old new fault
+
+-- What the next lines ask for was done, and the others are left, of which the first begins at the next place; or the
 -- session ends before them; or what was asked for broke off.
 abbrev pub ServedNext : (disk_tells input_tells output_tells : Bool) (old new : Scene) (at : ℕ) (before : List (List ℕ)) (next : ℕ) (after : List (List ℕ)) → Result (Option SessionEnd) SessionFault → Type 0
 ServedNext d i o old new at before next after (Ok None) =
-    (commands : List Command) × (read : List (List ℕ)) × LinesAsk at read commands × (IsTrue i → before ≡ read ++ after) × (next ≡ at + width read) × (at < next)
-    × Ran d o old new (doings commands) None
+    (orders : List Order) × (read : List (List ℕ)) × LinesAsk at read orders × (IsTrue i → before ≡ read ++ after) × (next ≡ at + width read) × (at < next)
+    × Ran d o old new (parts_of orders) None
 ServedNext d i o old new at before next after (Ok (Some end)) = (IsTrue i → EndsBefore at before end) × (new ≡ old)
 ServedNext d i o old new at before next after (Err fault) =
-    (commands : List Command) × (read : List (List ℕ)) × (left : List (List ℕ)) × LinesAsk at read commands × (IsTrue i → before ≡ read ++ left)
-    × Ran d o old new (doings commands) (Some fault)
+    (orders : List Order) × (read : List (List ℕ)) × (left : List (List ℕ)) × LinesAsk at read orders × (IsTrue i → before ≡ read ++ left)
+    × Ran d o old new (parts_of orders) (Some fault)
 
--- the text asks for these commands, and the session ends so; or it begins by asking for them
-abbrev pub AsksFor : List ℕ → List Command → Result SessionEnd SessionFault → Type 0
-AsksFor text commands (Ok end) = Session text commands end
-AsksFor text commands (Err fault) = BeginsBy text commands
+-- the text asks for these orders, and the session ends so; or it begins by asking for them
+abbrev pub AsksFor : List ℕ → List Order → Result SessionEnd SessionFault → Type 0
+AsksFor text orders (Ok end) = Session text orders end
+AsksFor text orders (Err fault) = BeginsBy text orders
 
--- The commands that the text asks for were taken, as far as they came; and so they were behind a join.
+-- The orders that the text asks for were done, as far as they came; and so they were behind a join.
 abbrev pub Served : (disk_tells input_tells output_tells : Bool) (old new : Scene) (text : List ℕ) → Result SessionEnd SessionFault → Type 0
-Served d i o old new text answer = (commands : List Command) × (IsTrue i → AsksFor text commands answer) × Ran d o old new (doings commands) (fault_of answer)
+Served d i o old new text answer = (orders : List Order) × (IsTrue i → AsksFor text orders answer) × Ran d o old new (parts_of orders) (fault_of answer)
 
 abbrev pub ServedAll : (disk_tells input_tells output_tells : Bool) (old new : Scene) (text : List ℕ) → Result SessionEnd SessionFault → Type 0
-ServedAll d i o old new text answer = (commands : List Command) × (IsTrue i → AsksFor text commands answer) × Ran d o old new (Play.Join ∷ doings commands) (fault_of answer)
+ServedAll d i o old new text answer = (orders : List Order) × (IsTrue i → AsksFor text orders answer) × Ran d o old new (Silent Play.Join ∷ parts_of orders) (fault_of answer)

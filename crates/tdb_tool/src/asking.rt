@@ -13,7 +13,6 @@ use crate::order::{Order, read_order};
 use crate::reader::LineReader;
 use std::alloc::{AllocError, Global};
 use tdb_disk::Source;
-use tdb_plays::Command;
 use tdb_script::first_word;
 
 /// What a line asks for.
@@ -21,8 +20,8 @@ use tdb_script::first_word;
 pub(crate) enum Asked {
     /// Nothing: it has no words.
     Nothing,
-    /// A command.
-    Command(Command),
+    /// What it orders, which isn't to quit.
+    Order(Order),
     /// The end of the session.
     End(SessionEnd),
 }
@@ -36,8 +35,8 @@ fn asked_by(alloc: Global, line: &[u8], at: u64) -> Result<Asked, AllocError>
         return Ok(Asked::Nothing);
     }
     Ok(match read_order(alloc, line)? {
-        Some(Order::Take(command)) => Asked::Command(command),
         Some(Order::Quit) => Asked::End(SessionEnd::Ended),
+        Some(order) => Asked::Order(order),
         None => Asked::End(SessionEnd::Malformed { at }),
     })
 }

@@ -12,8 +12,9 @@ mod replies;
 mod rows;
 mod serving;
 mod session;
+mod taking;
 
 pub use crate::fault::{SessionEnd, SessionFault};
-pub use crate::limits::{LONGEST_LINE, LONGEST_SESSION};
+pub use crate::limits::{LONGEST_LINE, LONGEST_SESSION, MOST_MOVES};
 pub use crate::order::{Order, read_order};
 pub use crate::session::run_session;

@@ -8,7 +8,7 @@ ghost use Rattle.tdb_tool.specs.Orders.{storehex, ReadsAs, BytesRead};
 use crate::hex::hex_bytes_of;
 use crate::rows::{bare_order, key_order, value_order};
 use std::alloc::{AllocError, Global};
-use tdb_dump::{WordRefusal, word_bytes_of};
+use tdb_dump::{Listing, WordRefusal, word_bytes_of};
 use tdb_plays::Command;
 use tdb_script::first_word;
 use tdb_words::Bytes;
@@ -18,6 +18,8 @@ use tdb_words::Bytes;
 pub enum Order {
     /// To take a command, and to print its reply.
     Take(Command),
+    /// To list all pairs of the file so.
+    List(Listing),
     /// To end the session.
     Quit,
 }

@@ -5,6 +5,7 @@ ghost use Rattle.tdb_script.specs.Rows.{row_of};
 ghost use Rattle.tdb_tool.specs.Rows.{bare_orders, key_orders, value_orders};
 
 use crate::order::Order;
+use tdb_dump::Listing;
 use tdb_plays::Command;
 use tdb_script::text_of;
 use tdb_steps::Flag;
@@ -20,6 +21,11 @@ pub(crate) fn bare_order(name: &[u8]) -> Option<Order>
     match text {
         "erase" => Some(Order::Take(Command::Wipe)),
         "check" => Some(Order::Take(Command::Check)),
+        "first" => Some(Order::Take(Command::First)),
+        "next" => Some(Order::Take(Command::Next)),
+        "dump" => Some(Order::List(Listing::Pairs)),
+        "keys" => Some(Order::List(Listing::Keys)),
+        "hexkeys" => Some(Order::List(Listing::HexKeys)),
         "quit" => Some(Order::Quit),
         _ => None,
     }

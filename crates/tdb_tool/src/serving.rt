@@ -1,55 +1,25 @@
-// Commands that are taken as they are asked for.
+// Orders that are done as they are asked for.
 
-ghost use Rattle.std.specs.Prelude.{◌≡◌, ◌≢◌, ◌∷◌, [], IfErr};
+ghost use Rattle.std.specs.Prelude.{◌≡◌};
 ghost use Rattle.tdb_disk.specs.Count.{HasCauseOf};
 ghost use Rattle.tdb_space.specs.Form.{form_in};
 ghost use Rattle.tdb_space.specs.Frame.{Wrote};
 ghost use Rattle.tdb_space.specs.Spare.{without_bound};
 ghost use Rattle.tdb_tool.specs.declared.fault.SessionFault.TheVariants as FaultIs;
-ghost use Rattle.tdb_world.specs.Given.{IsServedPlay};
 ghost use Rattle.tdb_world.specs.Worlds.{Stands};
 ghost use Rattle.tdb_tool.specs.Lines.{lines_left};
-ghost use Rattle.tdb_tool.specs.Serving.{scene, fault_of, Ran, ServedNext, Served};
+ghost use Rattle.tdb_tool.specs.Serving.{scene, ServedNext, Served};
 
 use crate::asking::{Asked, next_asked};
 use crate::fault::{SessionEnd, SessionFault};
 use crate::reader::LineReader;
-use crate::replies::write_replies;
+use crate::taking::take_order;
 use std::alloc::Global;
 use tdb_disk::{Sink, Source};
-use tdb_plays::{Play, TurnReport};
 use tdb_space::Space;
 use tdb_world::Openers;
 
-/// The number of the opener that takes the commands.
-pub(crate) const OPENER: u32 = 1;
-
-/// Takes a play, and prints the replies that its report tells.
-pub(crate) fn take_play<S: Space, K: Sink>(
-    alloc: Global,
-    openers: &mut Openers,
-    space: &mut S,
-    play: Play,
-    output: &mut K,
-) -> Result<(), SessionFault>
-    requires form { S.form space.old ≡ form_in openers.old.header }
-    requires stands { Stands openers.old (S.image space.old) (S.size space.old) }
-    requires spare { (view : S) → S.spare view ≡ without_bound }
-    requires served { IsServedPlay play }
-    ensures ran { Ran S.tells K.tells (scene openers.old (S.image space.old) (S.size space.old) (S.faults space.old) (K.written output.old))
-        (scene openers.new (S.image space.new) (S.size space.new) (S.faults space.new) (K.written output.new)) (play ∷ []) (fault_of result) }
-    ensures wrote { Wrote S.Space space.old space.new }
-    ensures fault { IfErr result (λ e. e ≢ FaultIs.Input) }
-    ensures cause { HasCauseOf FaultIs.Output (K.faults output.old) (K.faults output.new) result }
-{
-    let mut report = TurnReport::new(alloc);
-    let plays = [play];
-    openers.run(space, &plays, &mut report)?;
-    write_replies(alloc, &report, output)?;
-    Ok(())
-}
-
-/// Takes what the next line asks for. Answers how the session ends, where it does.
+/// Does what the next line asks for. Answers how the session ends, where it does.
 fn serve_next<S: Space, I: Source, K: Sink>(
     alloc: Global,
     openers: &mut Openers,
@@ -71,16 +41,14 @@ fn serve_next<S: Space, I: Source, K: Sink>(
     match next_asked(alloc, reader, input)? {
         Asked::Nothing => Ok(None),
         Asked::End(end) => Ok(Some(end)),
-        Asked::Command(command) => {
-            let who = OPENER;
-            take_play(alloc, openers, space, Play::Do { who, command }, output)?;
+        Asked::Order(order) => {
+            take_order(alloc, openers, space, order, output)?;
             Ok(None)
         }
     }
 }
 
-/// Takes the commands that the lines of the input ask for, up to the end of the session, and prints each reply when it
-/// is made.
+/// Does what the lines of the input order, up to the end of the session, and prints each reply when it is made.
 pub(crate) fn serve<S: Space, I: Source, K: Sink>(
     alloc: Global,
     openers: &mut Openers,

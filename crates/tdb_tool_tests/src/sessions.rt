@@ -92,6 +92,43 @@ fn replies(rt: HostRuntime) -> Result<(), Fail> {
     Ok(())
 }
 
+// In seven chains `a` is in the first, and `b` and `c` in the last, with the one in front that came later.
+#[test]
+fn cursors_and_lists(rt: HostRuntime) -> Result<(), Fail> {
+    let alloc = rt.alloc();
+    for (text, printed) in [
+        ("first\nnext\ndump\nkeys\nhexkeys\n", "end\nend\n"),
+        (
+            "store a 1\nfirst\nnext\nnext",
+            "ok\nkey(1) = \"a\" data(1) = \"1\"\nend\nend\n",
+        ),
+        (
+            "store c 3\nstore a 1\nstore b \\0A\ndump\nnext\n",
+            "ok\nok\nok\n{\nkey(1) = \"a\"\ndata(1) = \"1\"\n}\n{\nkey(1) = \"b\"\ndata(1) = \"\\0A\"\n}\n{\nkey(1) = \"c\"\ndata(1) = \"3\"\n}\nend\n",
+        ),
+        (
+            "store b 2\nstore INFO/version\\00 \"\"\nkeys\nhexkeys\ncheck\n",
+            "ok\nok\nkey(13) = \"INFO/version\\00\"\nkey(1) = \"b\"\nkey(13) = 494E464F2F76657273696F6E00\nkey(1) = 62\nnumber 2\n",
+        ),
+        (
+            "store a 1\nstore b 2\nfirst\ncheck\nerase\nkeys\nerase\nfirst\n",
+            "ok\nok\nkey(1) = \"a\" data(1) = \"1\"\nheld 1\nheld 1\nkey(1) = \"a\"\nkey(1) = \"b\"\nok\nend\n",
+        ),
+        (
+            "store a 1\nstore b 2\nfirst\ndelete a\nkeys\ncheck\n",
+            "ok\nok\nkey(1) = \"a\" data(1) = \"1\"\nok\nkey(1) = \"b\"\nnumber 1\n",
+        ),
+    ] {
+        let mut file = new_file(alloc)?;
+        let mut input = MemSource::new(alloc, text.as_bytes())?;
+        let mut output = MemSink::new(alloc);
+        let answer = session(alloc, &mut file, &mut input, &mut output);
+        assert_eq!(rt; answer, Some(Ok(SessionEnd::Ended)), "{text}");
+        assert_eq!(rt; output.as_slice(), printed.as_bytes(), "{text}");
+    }
+    Ok(())
+}
+
 #[test]
 fn failing_calls(rt: HostRuntime) -> Result<(), Fail> {
     let alloc = rt.alloc();
@@ -110,6 +147,13 @@ fn failing_calls(rt: HostRuntime) -> Result<(), Fail> {
     let answer = session(alloc, &mut new_file(alloc)?, &mut input, &mut output);
     assert_eq!(rt; answer, Some(Err(SessionFault::Output)));
     assert_eq!(rt; output.as_slice(), b"ok\n".as_slice());
+
+    let mut output = MemSink::new(alloc);
+    output.fail(Call::Write, 3)?;
+    let mut input = MemSource::new(alloc, b"store a 1\nstore b 2\nkeys\n".as_slice())?;
+    let answer = session(alloc, &mut new_file(alloc)?, &mut input, &mut output);
+    assert_eq!(rt; answer, Some(Err(SessionFault::Output)));
+    assert_eq!(rt; output.as_slice(), b"ok\nok\nkey(1) = \"a\"\n".as_slice());
 
     let mut file = new_file(alloc)?;
     file.fail(Call::Grow, 0)?;

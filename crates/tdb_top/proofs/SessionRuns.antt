@@ -5,7 +5,7 @@ use Rattle.std.proofs.lemmas.Bool.{false≢true}
 use Rattle.std.proofs.lemmas.List.{append-nil}
 use Rattle.tdb_disk.specs.History.{History, seen}
 use Rattle.tdb_space.specs.Form.{form_of}
-use Rattle.tdb_tool.proofs.Wholes.{over_comes}
+use Rattle.tdb_tool.proofs.Wholes.{begins, over_comes}
 use Rattle.tdb_tool.specs.Whole.{CameSo}
 use Rattle.tdb_tool.specs.declared.fault.SessionEnd.{SessionEnd}
 use Rattle.tdb_tool.specs.declared.fault.SessionEnd.TheVariants as End
@@ -45,7 +45,7 @@ module _ (limit : ℕ) (input : Input) (tells : Bool) (w0 w1 w2 : List ℕ) (f0 
   whole_came end on more =
       so_far (Ok end) on (
         on.ran.0,
-        λ heard. (let s = on.ran.1 heard in record { before = s.before; after = s.after; lines = s.lines; ask = s.ask }),
+        λ heard. begins input.text on.ran.0 end (on.ran.1 heard),
         state_in on.ran.2.world (seen now),
         over_comes (form_of (seen on.opened)) (session_options limit) (seen on.opened) on.ran.0 (seen now) tells w0 w1 on.ran.2,
         on.ran.2.left,
@@ -62,7 +62,7 @@ module _ (limit : ℕ) (input : Input) (tells : Bool) (w0 w1 w2 : List ℕ) (f0 
     whole end on same all = record {
       opened = on.opened;
       is_opened = on.is_opened;
-      commands = on.ran.0;
+      orders = on.ran.0;
       asks = on.ran.1;
       told = w1;
       over = on.ran.2;

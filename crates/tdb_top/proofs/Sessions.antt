@@ -8,14 +8,13 @@ use Rattle.tdb_disk.specs.declared.files.TakeRefusal.{TakeRefusal}
 use Rattle.tdb_disk.specs.declared.files.TakeRefusal.TheVariants as Take
 use Rattle.tdb_space.specs.Form.{Form, form_of}
 use Rattle.tdb_law.specs.World.{State}
-use Rattle.tdb_plays.specs.declared.command.Command.{Command}
 use Rattle.tdb_tool.proofs.Wholes.{over_comes}
-use Rattle.tdb_tool.specs.Replies.{replies_text}
 use Rattle.tdb_tool.specs.Whole.{SessionCame}
 use Rattle.tdb_tool.specs.declared.fault.SessionEnd.{SessionEnd}
 use Rattle.tdb_tool.specs.declared.fault.SessionEnd.TheVariants as End
 use Rattle.tdb_tool.specs.declared.fault.SessionFault.{SessionFault}
 use Rattle.tdb_tool.specs.declared.fault.SessionFault.TheVariants as F
+use Rattle.tdb_tool.specs.declared.order.Order.{Order}
 use Rattle.tdb_world.specs.declared.options.Options.{Options}
 use Rattle.tdb_ask.specs.declared.ask.Task.TheVariants.{Session}
 use Rattle.tdb_top.specs.declared.ending.Ending.{Ending}
@@ -35,13 +34,13 @@ use Rattle.tdb_top.specs.Reads.{AskCause}
 by_lines : (input : Input) (limit : ℕ) (name : List ℕ) (held : Option History) (before after : ℕ) (e : Ending) → ServesSo input limit name held e → AskCause input (Session limit) name held before after e
 by_lines input limit name held before after e so = inr (inr (inr (record { limit = limit; serves = refl; why = so })))
 
--- what it wrote is a front of its replies
-wrote_front : (f : Form) (options : Options) (a : List ℕ) (commands : List Command) (new : State) (told : Bool) (before now : List ℕ) → IsTrue told → SessionCame f options a commands new told before now
-    → (text : List ℕ) × SessionCame f options a commands new true [] text × (now ≡ before ++ text)
-wrote_front f options a commands new told before now heard p =
+-- what it wrote is a front of its text
+wrote_front : (f : Form) (options : Options) (a : List ℕ) (orders : List Order) (new : State) (told : Bool) (before now : List ℕ) → IsTrue told → SessionCame f options a orders new told before now
+    → (text : List ℕ) × SessionCame f options a orders new true [] text × (now ≡ before ++ text)
+wrote_front f options a orders new told before now heard p =
     let w = p.printed heard in (
-      take w.0 (replies_text p.lines),
-      record { old = p.old; loaded = p.loaded; over = p.over; lines = p.lines; came = p.came; lawful = p.lawful; printed = λ always. (w.0, w.1, refl) },
+      take w.0 p.text,
+      record { old = p.old; loaded = p.loaded; over = p.over; lines = p.lines; text = p.text; came = p.came; lawful = p.lawful; printed = λ always. (w.0, w.1, refl) },
       w.2,
     )
 
@@ -68,11 +67,11 @@ module _ (limit : ℕ) (input : Input) (name : List ℕ) (h now : History) (told
       abbrev Front : Type 0
       Front = (text : List ℕ) × RepliesFront limit (opened_bytes (seen h)) text × (w1 ≡ w0 ++ text)
 
-      came_front : (answer : Result SessionEnd SessionFault) (on : SessionOn limit input h now told w0 w1 answer) (commands : List Command) (new : State)
-          → SessionCame (form_of (seen on.opened)) (session_options limit) (seen on.opened) commands new told w0 w1 → Front
-      came_front answer on commands new p =
-          let w = wrote_front (form_of (seen on.opened)) (session_options limit) (seen on.opened) commands new told w0 w1 heard p in
-          (w.0, subst (λ img. RepliesFront limit img w.0) on.is_opened.reads (commands, new, w.1), w.2)
+      came_front : (answer : Result SessionEnd SessionFault) (on : SessionOn limit input h now told w0 w1 answer) (orders : List Order) (new : State)
+          → SessionCame (form_of (seen on.opened)) (session_options limit) (seen on.opened) orders new told w0 w1 → Front
+      came_front answer on orders new p =
+          let w = wrote_front (form_of (seen on.opened)) (session_options limit) (seen on.opened) orders new told w0 w1 heard p in
+          (w.0, subst (λ img. RepliesFront limit img w.0) on.is_opened.reads (orders, new, w.1), w.2)
 
       whole_front : (end : SessionEnd) (on : SessionOn limit input h now told w0 w1 (Ok end)) → Front
       whole_front end on = came_front (Ok end) on on.ran.0 _ (over_comes (form_of (seen on.opened)) (session_options limit) (seen on.opened) on.ran.0 (seen now) told w0 w1 on.ran.2)

@@ -45,6 +45,13 @@ fn replies(rt: HostRuntime) -> Result<(), Fail> {
             0,
             "ok\nnoexist\n",
         ),
+        (
+            "tool f.tdb",
+            "first\nnext\ndump\nkeys\nhexkeys\nnext\n",
+            None,
+            0,
+            "key(1) = \"a\" data(1) = \"1\"\nend\n{\nkey(1) = \"a\"\ndata(1) = \"1\"\n}\nkey(1) = \"a\"\nkey(1) = 61\nend\n",
+        ),
         ("tool --limit=4095 f.tdb", "", None, 6, "toolong 4096\n"),
         ("tool g.tdb", "frob", None, 9, "missing g.tdb\n"),
         (
@@ -134,6 +141,7 @@ fn failing_streams(rt: HostRuntime) -> Result<(), Fail> {
         ),
         (text, None, Some(1), "ok\n"),
         (text, None, Some(0), ""),
+        (b"store a 1\ndump\nstore a 2\n", None, Some(1), "ok\n"),
     ] {
         let (status, bytes, left) = session_on(alloc, text, read, write)?;
         assert_eq!(rt; status, 8);

@@ -1,16 +1,16 @@
--- The command that takes the commands on the lines of the input over a file, and prints their replies.
+-- The command that does what the lines of the input order over a file, and prints the replies.
 use Rattle.std.specs.Prelude.{◌≡◌, ◌⊎◌, ℕ, Bool, true, false, IsTrue, Option, None, Some, List, [], ◌++◌, Result, Ok, Err}
 use Rattle.tdb_disk.specs.Count.{Rose}
 use Rattle.tdb_disk.specs.History.{History, seen}
 use Rattle.tdb_space.specs.Form.{form_of}
 use Rattle.tdb_law.specs.World.{State}
-use Rattle.tdb_plays.specs.declared.command.Command.{Command}
 use Rattle.tdb_tool.specs.Asking.{Session}
 use Rattle.tdb_tool.specs.Whole.{SessionOver, SessionCame, CameSo, SessionRan}
 use Rattle.tdb_tool.specs.declared.fault.SessionEnd.{SessionEnd}
 use Rattle.tdb_tool.specs.declared.fault.SessionEnd.TheVariants as End
 use Rattle.tdb_tool.specs.declared.fault.SessionFault.{SessionFault}
 use Rattle.tdb_tool.specs.declared.fault.SessionFault.TheVariants as F
+use Rattle.tdb_tool.specs.declared.order.Order.{Order}
 use Rattle.tdb_world.specs.declared.options.Options.{Options}
 use Rattle.tdb_top.specs.declared.ending.Ending.{Ending}
 use Rattle.tdb_top.specs.declared.ending.Ending.TheVariants.{Replied, Refused, Missing, DeviceFault, InputFault, Malformed, NoMemory}
@@ -30,25 +30,25 @@ use Rattle.tdb_top.specs.Playing.{OpenedToTurn}
 abbrev pub session_options : ℕ → Options
 session_options limit = record { limit = limit; nesting = true; read_only = false; seqnum = false }
 
--- the ending of a session whose commands were all taken
+-- the ending of a session whose orders were all done
 abbrev pub of_end : SessionEnd → Ending
 of_end End.Ended = Replied Played
 of_end (End.Malformed at) = Malformed at
 
 -- Why a session ends so, but for a failed call of the files or want of memory: there is no file, or it is refused; or
--- it is opened, and all commands may be taken, or a line is none, or a read of the input failed.
+-- it is opened, and all orders may be done, or a line is none, or a read of the input failed.
 pub data ServesSo (input : Input) (limit : ℕ) (name : List ℕ) (held : Option History) : Ending → Type 0 where
   no_file : held ≡ None → ServesSo input limit name held (Missing name)
   file_refused : (h : History) (refusal : Refusal) → held ≡ Some h → IsRefusedToTurn (session_options limit) (seen h) refusal → ServesSo input limit name held (Refused refusal)
   file_opened : (h : History) → held ≡ Some h → OpensToTurn (session_options limit) (seen h) → ServesSo input limit name held (Replied Played)
-  line_bad : (h : History) (at : ℕ) → held ≡ Some h → OpensToTurn (session_options limit) (seen h) → (IsTrue input.tells → (commands : List Command) × Session input.text commands (End.Malformed at))
+  line_bad : (h : History) (at : ℕ) → held ≡ Some h → OpensToTurn (session_options limit) (seen h) → (IsTrue input.tells → (orders : List Order) × Session input.text orders (End.Malformed at))
       → ServesSo input limit name held (Malformed at)
   line_unread : (h : History) → held ≡ Some h → OpensToTurn (session_options limit) (seen h) → Rose input.faults_before input.faults_after → ServesSo input limit name held InputFault
 
--- What is printed before the line of an ending: a front of the replies of a session over the opened image, or nothing
--- where no command was taken.
+-- What is printed before the line of an ending: a front of the text of a session over the opened image, or nothing where
+-- none was begun.
 abbrev pub RepliesFront : ℕ → List ℕ → List ℕ → Type 0
-RepliesFront limit img text = (commands : List Command) × (new : State) × SessionCame (form_of img) (session_options limit) img commands new true [] text
+RepliesFront limit img text = (orders : List Order) × (new : State) × SessionCame (form_of img) (session_options limit) img orders new true [] text
 
 abbrev pub SessionText : ℕ → Option History → Ending → List ℕ → Type 0
 SessionText limit (Some h) (Replied reply) text = RepliesFront limit (opened_bytes (seen h)) text
@@ -63,20 +63,20 @@ abbrev pub StaysThere : Option History → Option History → Type 0
 StaysThere None now = now ≡ None
 StaysThere (Some old) now = (h : History) × (now ≡ Some h)
 
--- A session over a file was taken to its end: the file was opened, the commands are those that the text of the input
--- asks for before it ends so, and they were taken, with a join before and a close behind them; their replies were
--- printed, and the line of the ending behind them, where one tells it.
+-- A session over a file was taken to its end: the file was opened, the orders are those that the text of the input asks
+-- for before it ends so, and they were done, with a join before and a close behind them; their text was printed, and the
+-- line of the ending behind it, where one tells it.
 pub record IsServed (limit : ℕ) (input : Input) (output : Output) (end : SessionEnd) (old now : History) : Type 0 where
   pub opened : History
   pub is_opened : IsOpened (session_options limit) old opened
-  pub commands : List Command
-  pub asks : IsTrue input.tells → Session input.text commands end
+  pub orders : List Order
+  pub asks : IsTrue input.tells → Session input.text orders end
   pub told : List ℕ
-  pub over : SessionOver (form_of (seen opened)) (session_options limit) (seen opened) commands (seen now) output.tells output.before told
+  pub over : SessionOver (form_of (seen opened)) (session_options limit) (seen opened) orders (seen now) output.tells output.before told
   pub line : IsTrue output.tells → output.after ≡ told ++ text_of (of_end end)
 
--- One was taken as far as it came: the text begins by asking for its commands, and the file is left as they say; a
--- front of their replies was printed, and maybe more behind it, of the line of the ending.
+-- One was taken as far as it came: the text begins by asking for its orders, and the file is left as they say; a front of
+-- their text was printed, and maybe more behind it, of the line of the ending.
 pub record IsServedSoFar (limit : ℕ) (input : Input) (output : Output) (old now : History) : Type 0 where
   pub opened : History
   pub is_opened : IsOpened (session_options limit) old opened

@@ -1,4 +1,4 @@
-// The command that takes the commands on the lines of the input over a file, and prints their replies.
+// The command that does what the lines of the input order over a file, and prints the replies.
 
 ghost use Rattle.std.specs.Prelude.{◌≡◌, ◌≤◌, ◌&&◌, ℕ, List, false, IsTrue};
 ghost use Rattle.tdb_disk.specs.Count.{HasCause, HasCauseOf, Rose};
@@ -39,7 +39,7 @@ fn options_within(limit: u64) -> Options
     }
 }
 
-/// Takes the commands on the input over the opened file on a disk, and prints their replies.
+/// Does what the lines of the input order over the opened file on a disk, and prints the replies.
 fn serve_opened<D: Disk, S: Source, K: Sink>(
     alloc: Global,
     opened: &Opened,
@@ -77,7 +77,7 @@ fn told(answer: Result<SessionEnd, SessionFault>) -> Result<Ending, Unprinted>
     }
 }
 
-/// Opens the file on a disk, and takes the commands on the input over it.
+/// Opens the file on a disk, and does what the lines of the input order over it.
 fn session_on_disk<D: Disk, S: Source, K: Sink>(
     alloc: Global,
     limit: u64,
@@ -100,9 +100,9 @@ fn session_on_disk<D: Disk, S: Source, K: Sink>(
     told(serve_opened(alloc, &opened, &options, disk, input, output))
 }
 
-/// Takes the commands on the lines of the input over the file of this name, which may become `limit` bytes long, and
-/// prints each reply as soon as it is made. The input is read while the commands are taken, so those before a line that
-/// is none, or before a read that fails, are done and their replies printed.
+/// Does what the lines of the input order over the file of this name, which may become `limit` bytes long, and prints
+/// each reply as soon as it is made. The input is read while the orders are done, so those before a line that is none, or
+/// before a read that fails, are done and their replies printed.
 pub(crate) fn session_on_file<F: Files, S: Source, K: Sink>(
     alloc: Global,
     name: &str,

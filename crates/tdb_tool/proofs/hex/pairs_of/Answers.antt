@@ -1,4 +1,4 @@
-use Rattle.std.proofs.Common.{◌≡◌, ◌∙◌, ◌<◌, ◌≤◌, ◌++◌, [], length, drop, ap, refl, sym, subst, rules, arith, Some}
+use Rattle.std.proofs.Common.{◌≡◌, ◌∙◌, ◌<◌, ◌≤◌, ◌++◌, length, drop, ap, refl, sym, subst, rules, arith, Some}
 use Rattle.std.specs.Option.{option_map}
 use Rattle.tdb_script.proofs.CutLemmas.{rest_behind}
 use Rattle.tdb_tool.specs.Hex.{hex_pairs}

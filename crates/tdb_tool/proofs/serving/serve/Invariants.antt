@@ -1,5 +1,5 @@
 -- The commands so far are those that the lines read so far ask for.
-use Rattle.std.proofs.Common.{◌≡◌, ◌-◌, ◌++◌, IsTrue, None, List}
+use Rattle.std.proofs.Common.{◌≡◌, ◌-◌}
 use Rattle.tdb_space.specs.Frame.{Wrote}
 use Rattle.tdb_tool.specs.Lines.{lines_left}
 use Rattle.tdb_tool.specs.Serving.{scene}

@@ -1,9 +1,9 @@
-use Rattle.std.proofs.Common.{subst, arith}
+use Rattle.std.proofs.Common.{subst}
 use Rattle.std.proofs.lemmas.Result.{err_from_is_err_and}
 use Rattle.tdb_tool.specs.Asked.{NextIs}
 use Rattle.tdb_tool.specs.Lines.{lines_left}
 use Rattle.tdb_tool.specs.Serving.{scene}
-use Rattle.tdb_tool.proofs.Fine.{taken_fine}
+use Rattle.tdb_tool.proofs.Fine.{said_fine}
 use Rattle.tdb_tool.proofs.Sessions.{not_read, skipped, taken, broken_off}
 use Rattle.tdb_tool.proofs.serving.serve_next.Goals as goal
 
@@ -18,22 +18,21 @@ returns-in_err-next_asked-clause-next g c =
     (not_read g.S.Space.tells g.I.Source.tells g.K.Sink.tells s s r.at n.at (lines_left r (g.I.Source.left c.args.input.now)) (lines_left n (g.I.Source.left c.next_asked.new.input)) c.in_err-next_asked.field-0.0 c.in_err-next_asked.ensures.fault c.requires.stands)
 
 -- a line was read
-pub take_play-requires-clause-served : goal.take_play-requires-clause-served
-take_play-requires-clause-served g c =
+pub take_order-requires-clause-served : goal.take_order-requires-clause-served
+take_order-requires-clause-served g c =
     let r = c.args.reader.now in
     let n = c.next_asked.new.reader in
-    let m = subst (λ a. NextIs g.I.Source.tells r.at (lines_left r (g.I.Source.left c.args.input.now)) a n.at (lines_left n (g.I.Source.left c.next_asked.new.input))) c.in-Command.is c.in_ok-next_asked.ensures.is in
-    let fine = taken_fine r.at m.0 c.in-Command.command m.3 in
-    (omega arith, fine.0, fine.1)
+    let m = subst (λ a. NextIs g.I.Source.tells r.at (lines_left r (g.I.Source.left c.args.input.now)) a n.at (lines_left n (g.I.Source.left c.next_asked.new.input))) c.in-Order.is c.in_ok-next_asked.ensures.is in
+    said_fine r.at m.0 c.in-Order.order m.3.0
 
-pub returns-in_err-take_play-in-Command-clause-next : goal.returns-in_err-take_play-in-Command-clause-next
-returns-in_err-take_play-in-Command-clause-next g c =
-    let q = err_from_is_err_and c.from_residual-in_err-take_play-in-Command.result c.from_residual-in_err-take_play-in-Command.ensures.1 in
+pub returns-in_err-take_order-in-Order-clause-next : goal.returns-in_err-take_order-in-Order-clause-next
+returns-in_err-take_order-in-Order-clause-next g c =
+    let q = err_from_is_err_and c.from_residual-in_err-take_order-in-Order.result c.from_residual-in_err-take_order-in-Order.ensures.1 in
     let r = c.args.reader.now in
     let n = c.next_asked.new.reader in
-    let m = subst (λ a. NextIs g.I.Source.tells r.at (lines_left r (g.I.Source.left c.args.input.now)) a n.at (lines_left n (g.I.Source.left c.next_asked.new.input))) c.in-Command.is c.in_ok-next_asked.ensures.is in
+    let m = subst (λ a. NextIs g.I.Source.tells r.at (lines_left r (g.I.Source.left c.args.input.now)) a n.at (lines_left n (g.I.Source.left c.next_asked.new.input))) c.in-Order.is c.in_ok-next_asked.ensures.is in
     rw (q.1, q.2)
-    (broken_off g.S.Space.tells g.I.Source.tells g.K.Sink.tells _ _ r.at n.at _ _ c.in-Command.command m c.in_err-take_play-in-Command.field-0.0 c.in_err-take_play-in-Command.ensures.ran)
+    (broken_off g.S.Space.tells g.I.Source.tells g.K.Sink.tells (scene c.args.openers.now (g.S.Space.image c.args.space.now) (g.S.Space.size c.args.space.now) (g.S.Space.faults c.args.space.now) (g.K.Sink.written c.args.output.now)) (scene c.take_order.new.openers (g.S.Space.image c.take_order.new.space) (g.S.Space.size c.take_order.new.space) (g.S.Space.faults c.take_order.new.space) (g.K.Sink.written c.take_order.new.output)) r.at n.at _ _ c.in-Order.order m c.in_err-take_order-in-Order.field-0.0 c.in_err-take_order-in-Order.ensures.ran)
 
 pub returns-in-Nothing-clause-next : goal.returns-in-Nothing-clause-next
 returns-in-Nothing-clause-next g c =
@@ -43,9 +42,9 @@ returns-in-Nothing-clause-next g c =
     let s = scene c.args.openers.now (g.S.Space.image c.args.space.now) (g.S.Space.size c.args.space.now) (g.S.Space.faults c.args.space.now) (g.K.Sink.written c.args.output.now) in
     skipped g.S.Space.tells g.I.Source.tells g.K.Sink.tells s s r.at n.at _ _ c.requires.stands m
 
-pub returns-in_ok-take_play-in-Command-clause-next : goal.returns-in_ok-take_play-in-Command-clause-next
-returns-in_ok-take_play-in-Command-clause-next g c =
+pub returns-in_ok-take_order-in-Order-clause-next : goal.returns-in_ok-take_order-in-Order-clause-next
+returns-in_ok-take_order-in-Order-clause-next g c =
     let r = c.args.reader.now in
     let n = c.next_asked.new.reader in
-    let m = subst (λ a. NextIs g.I.Source.tells r.at (lines_left r (g.I.Source.left c.args.input.now)) a n.at (lines_left n (g.I.Source.left c.next_asked.new.input))) c.in-Command.is c.in_ok-next_asked.ensures.is in
-    taken g.S.Space.tells g.I.Source.tells g.K.Sink.tells _ _ r.at n.at _ _ c.in-Command.command m c.in_ok-take_play-in-Command.ensures.ran
+    let m = subst (λ a. NextIs g.I.Source.tells r.at (lines_left r (g.I.Source.left c.args.input.now)) a n.at (lines_left n (g.I.Source.left c.next_asked.new.input))) c.in-Order.is c.in_ok-next_asked.ensures.is in
+    taken g.S.Space.tells g.I.Source.tells g.K.Sink.tells (scene c.args.openers.now (g.S.Space.image c.args.space.now) (g.S.Space.size c.args.space.now) (g.S.Space.faults c.args.space.now) (g.K.Sink.written c.args.output.now)) (scene c.take_order.new.openers (g.S.Space.image c.take_order.new.space) (g.S.Space.size c.take_order.new.space) (g.S.Space.faults c.take_order.new.space) (g.K.Sink.written c.take_order.new.output)) r.at n.at _ _ c.in-Order.order m c.in_ok-take_order-in-Order.ensures.ran

@@ -1,4 +1,4 @@
-use Rattle.std.proofs.Common.{Ok, ap, sym, ◌∙◌, ◌++◌, subst, arith}
+use Rattle.std.proofs.Common.{Ok, ap, ◌∙◌, ◌++◌, subst, arith}
 use Rattle.tdb_tool.specs.Lines.{MovedOn, unread}
 use Rattle.tdb_tool.proofs.LineLemmas.{read_ended, read_last, first_long, used}
 use Rattle.tdb_tool.proofs.reader.LineReader.read_line.Goals as goal

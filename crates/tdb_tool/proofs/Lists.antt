@@ -1,0 +1,179 @@
+-- Lists of pairs, move by move.
+use Rattle.std.proofs.Common.{◌≡◌, ℕ, zero, suc, ◌+◌, ◌≤◌, Bool, true, false, List, [], ◌∷◌, ◌++◌, length, Option, None, Some, Result, Ok, Err, refl, sym, ◌∙◌, ap, subst, inr, add-one, arith}
+use Rattle.std.specs.Prelude.{IsTrue, ◌||◌, slice_get}
+use Rattle.std.specs.List.{list_any}
+use Rattle.std.proofs.lemmas.List.{map-append}
+use Rattle.std.proofs.lemmas.Grind.{flat_map-append}
+use Rattle.tdb_dump.specs.declared.listing.Listing.{Listing}
+use Rattle.tdb_law.specs.Commands.Command.{OnWalk}
+use Rattle.tdb_law.specs.Images.{image_map}
+use Rattle.tdb_law.specs.Openers.{image_or}
+use Rattle.tdb_law.specs.Plays.{Play as LawPlay, Gives}
+use Rattle.tdb_law.specs.World.{State}
+use Rattle.tdb_locks.specs.declared.turn.Reply.{Reply}
+use Rattle.tdb_locks.specs.declared.turn.Turn.{Turn}
+use Rattle.tdb_plays.specs.InLaw.{law_turn, law_line, law_lines, law_play}
+use Rattle.tdb_plays.specs.declared.line.Line.{Line}
+use Rattle.tdb_plays.specs.declared.play.Play.{Play}
+use Rattle.tdb_space.specs.Form.{Form, form_in}
+use Rattle.tdb_world.specs.Openers.{own_at}
+use Rattle.tdb_world.specs.Worlds.{World, state_in, BytesStand}
+use Rattle.tdb_world.specs.declared.opener.Opener.{Opener}
+use Rattle.tdb_world.specs.declared.options.Options.{Options}
+use Rattle.tdb_tool.specs.declared.limits.TheConstants.{MOST_MOVES}
+use Rattle.tdb_tool.specs.declared.fault.SessionFault.{SessionFault}
+use Rattle.tdb_tool.specs.declared.fault.SessionFault.TheVariants as F
+use Rattle.tdb_tool.specs.Parts.{Listed, move, Going, AllDone, AllCame}
+use Rattle.tdb_tool.specs.Replies.{ends_with_pair, tells_pair, tell_pair, line_text, lines_text}
+use Rattle.tdb_tool.specs.Serving.{Deed, Scene, Led, Ran, PlayDone, PlayBegun, Played}
+use Rattle.tdb_tool.proofs.Coming.{Follows, led_on, led_but_input}
+use Rattle.tdb_tool.proofs.Endless.{move_at, Moved as LawMoved, moves_fit}
+use Rattle.tdb_tool.proofs.Moves.{ends_pair, shows, sight}
+use Rattle.tdb_tool.proofs.PartLemmas.{one_done, one_begun}
+
+-- so many moves of a list, each of which gave a pair, with their text
+abbrev pub Moved : Listing → ℕ → Deed
+Moved listing n f old lines text new = Going f (Listed listing) old n lines new × (text ≡ lines_text (Some listing) lines)
+
+module _ (listing : Listing) where
+  both_texts : (front rest : List Line) (text more : List ℕ) → text ≡ lines_text (Some listing) front → more ≡ lines_text (Some listing) rest → lines_text (Some listing) (front ++ rest) ≡ text ++ more
+  both_texts front rest text more e u = flat_map-append (line_text (Some listing)) front rest ∙ ap (λ t. t ++ lines_text (Some listing) rest) (sym e) ∙ ap (λ t. text ++ t) (sym u)
+
+  -- none were made, and one more is
+  pub no_moves : (f : Form) (old : State) → Moved listing 0 f old [] [] old
+  no_moves f old = ((refl, refl), refl)
+
+  pub one_more : (n : ℕ) → Follows (Moved listing n) (PlayDone (move n) (Some listing) (Ok true)) (Moved listing (suc n))
+  one_more n f old mid new front rest text more (going, e) (gives, u, pair) = ((mid, front, rest, refl, going, gives, sym pair), sym (both_texts front rest text more e u))
+
+  -- the last one gave no pair
+  pub list_ends : (n : ℕ) → Follows (Moved listing n) (PlayDone (move n) (Some listing) (Ok false)) (AllDone (Listed listing ∷ []))
+  list_ends n f old mid new front rest text more (going, e) (gives, u, pair) =
+      subst (λ t. AllDone (Listed listing ∷ []) f old (front ++ rest) t new) (both_texts front rest text more e u)
+      (one_done f (Listed listing) old new (front ++ rest) (record { count = n; mid = mid; front = front; rest = rest; lines_cut = refl; going = going; last = gives; ends = sym pair }))
+
+  -- or it broke off
+  pub list_breaks : (n : ℕ) → Follows (Moved listing n) (PlayBegun (move n) (Some listing)) (AllCame (Listed listing ∷ []))
+  list_breaks n f old mid new front rest text more (going, e) (last, u) =
+      subst (λ t. AllCame (Listed listing ∷ []) f old (front ++ rest) t new) (both_texts front rest text more e u)
+      (one_begun f (Listed listing) old new (front ++ rest) (record { count = n; mid = mid; front = front; rest = rest; lines_cut = refl; going = going; last = last }))
+
+  last_begun : (n : ℕ) (answer : Result Bool SessionFault) → Follows (Moved listing n) (PlayDone (move n) (Some listing) answer) (AllCame (Listed listing ∷ []))
+  last_begun n answer f old mid new front rest text more moved (gives, u, pair) = list_breaks n f old mid new front rest text more moved (inr gives, u)
+
+-- a list goes on, ends, or breaks off, at a moment to which so many moves have led
+module _ (disk_tells told : Bool) (listing : Listing) where
+  abbrev Came : Deed
+  Came = AllCame (Listed listing ∷ [])
+
+  abbrev pub SoFar : ℕ → Scene → Scene → Type 0
+  SoFar n start now = Led disk_tells told (Moved listing n) Came start now None
+
+  module _ (n : ℕ) (start mid now : Scene) (so_far : SoFar n start mid) (play : Play) (is : play ≡ move n) where
+    the_move : (answer : Result Bool SessionFault) (fault : Option SessionFault) → Played disk_tells told mid now play (Some listing) answer fault → Played disk_tells told mid now (move n) (Some listing) answer fault
+    the_move answer fault p = subst (λ m. Played disk_tells told mid now m (Some listing) answer fault) is p
+
+    behind : (answer : Result Bool SessionFault) (both : Deed) (fault : Option SessionFault) → Follows (Moved listing n) (PlayDone (move n) (Some listing) answer) both → Played disk_tells told mid now play (Some listing) answer fault
+        → Led disk_tells told both Came start now fault
+    behind answer both fault follows p =
+        led_on disk_tells told (Moved listing n) Came (PlayDone (move n) (Some listing) answer) (PlayBegun (move n) (Some listing)) both Came follows (list_breaks listing n) start mid now so_far fault (the_move answer fault p)
+
+    pub list_on : (pair : Bool) → pair ≡ true → Played disk_tells told mid now play (Some listing) (Ok pair) None → SoFar (n + 1) start now
+    list_on pair gave p = subst (λ m. SoFar m start now) (sym (add-one n)) (behind (Ok pair) (Moved listing (suc n)) None (subst (λ b. Follows (Moved listing n) (PlayDone (move n) (Some listing) (Ok b)) (Moved listing (suc n))) (sym gave) (one_more listing n)) p)
+
+    pub list_end : (pair : Bool) → pair ≡ false → Played disk_tells told mid now play (Some listing) (Ok pair) None → Ran disk_tells told start now (Listed listing ∷ []) None
+    list_end pair no_more p =
+        behind (Ok pair) (AllDone (Listed listing ∷ [])) None (subst (λ b. Follows (Moved listing n) (PlayDone (move n) (Some listing) (Ok b)) (AllDone (Listed listing ∷ []))) (sym no_more) (list_ends listing n)) p
+
+    pub list_broke : (fault : SessionFault) → (fault ≡ F.Input → ⊥) → Played disk_tells told mid now play (Some listing) (Err fault) (Some fault) → Ran disk_tells told start now (Listed listing ∷ []) (Some fault)
+    list_broke fault other p = led_but_input disk_tells told Came (AllDone (Listed listing ∷ [])) Came start now fault other (behind (Err fault) Came (Some fault) (last_begun listing n (Err fault)) p)
+
+-- lines tell a pair where they do in the words of the law
+line_shows : (line : Line) → shows (law_line line) ≡ tells_pair line
+line_shows (Line.Took who command Turn.Step) = refl
+line_shows (Line.Took who command (Turn.Blocked owner byte)) = refl
+line_shows (Line.Took who command (Turn.Done reply)) = of reply
+  where
+    of : (reply : Reply) → ends_pair (law_turn (Turn.Done reply)) ≡ ends_with_pair (Turn.Done reply)
+    of Reply.Ok = refl
+    of (Reply.Value value) = refl
+    of (Reply.Pair key value) = refl
+    of Reply.End = refl
+    of Reply.KeyMissing = refl
+    of Reply.KeyThere = refl
+    of (Reply.Busy owner byte) = refl
+    of Reply.ReadOnly = refl
+    of Reply.NoTransaction = refl
+    of Reply.InTransaction = refl
+    of Reply.Nesting = refl
+    of Reply.Doomed = refl
+    of (Reply.HeldLocks count) = refl
+    of Reply.NotLocked = refl
+    of (Reply.Full len need) = refl
+    of Reply.Memory = refl
+    of Reply.Yes = refl
+    of Reply.No = refl
+    of (Reply.Number n) = refl
+line_shows (Line.Joined who) = refl
+line_shows (Line.JoinBlocked owner) = refl
+line_shows Line.JoinMany = refl
+line_shows Line.JoinMemory = refl
+line_shows (Line.Grew from to) = refl
+line_shows (Line.Absent who) = refl
+line_shows (Line.Idle who) = refl
+line_shows (Line.Occupied who) = refl
+line_shows (Line.LogsLeft count) = refl
+line_shows (Line.Unfinished who) = refl
+line_shows (Line.Died who) = refl
+line_shows (Line.Undone bytes to) = refl
+
+lines_show : (lines : List Line) → list_any shows (law_lines lines) ≡ tell_pair lines
+lines_show [] = refl
+lines_show (line ∷ lines) = ap (λ b. b || list_any shows (law_lines lines)) (line_shows line) ∙ ap (λ b. tells_pair line || b) (lines_show lines)
+
+going_moved : (f : Form) (listing : Listing) (n : ℕ) (old new : State) (lines : List Line) → Going f (Listed listing) old n lines new → LawMoved f 0 n old (law_lines lines) new
+going_moved f listing zero old new lines g = (ap law_lines g.0, g.1)
+going_moved f listing (suc n) old new lines (mid, front, rest, cut, going, gives, pair) = (
+  mid,
+  law_lines front,
+  law_lines rest,
+  ap law_lines cut ∙ map-append law_line front rest,
+  going_moved f listing n old mid front going,
+  move_in n gives,
+  lines_show rest ∙ pair,
+)
+  where
+    move_in : (n : ℕ) → Gives f mid (law_play (move n)) (law_lines rest) new → Gives f mid (LawPlay.Do 0 (OnWalk (move_at n))) (law_lines rest) new
+    move_in zero gives = gives
+    move_in (suc n) gives = gives
+
+-- an opener of a world sees the map of the file's bytes
+no_txn : (options : Options) (o : Option Opener) → (own_at options o).txn ≡ None
+no_txn options None = refl
+no_txn options (Some x) = refl
+
+sees_file : (w : World) (img : List ℕ) → sight (form_in w.header) 0 (state_in w img) ≡ image_map (form_in w.header) img
+sees_file w img = ap (λ t. image_or t (image_map (form_in w.header) img)) (no_txn w.options (slice_get w.openers 0))
+
+-- so many moves can't all have given pairs over a file that isn't too long
+module _ (disk_tells told : Bool) (listing : Listing) (n : ℕ) (start now : Scene) (so_far : SoFar disk_tells told listing n start now) (many : MOST_MOVES ≤ n) (sized : IsTrue disk_tells → length start.image ≡ start.size) (short : start.size ≤ 4294963200) where
+  too_many : IsTrue disk_tells → BytesStand start.world start.image → ⊥
+  too_many heard known =
+      let p = so_far.runs heard known in
+      let f = form_in start.world.header in
+      let s = state_in start.world start.image in
+      let few = moves_fit f 0 n s (state_in now.world now.image) (law_lines p.0) start.image _ known.accepted (sees_file start.world start.image) (going_moved f listing n s (state_in now.world now.image) p.0 p.2.0) in
+      let size = sized heard in
+      omega (arith, few, short, size, many)
+
+  pub list_full : Ran disk_tells told start now (Listed listing ∷ []) None
+  list_full = record {
+    header = so_far.header;
+    options = so_far.options;
+    stands = so_far.stands;
+    rises = so_far.rises;
+    quiet = so_far.quiet;
+    bytes = so_far.bytes;
+    runs = λ heard known. absurd (too_many heard known);
+    rose = so_far.rose;
+  }
