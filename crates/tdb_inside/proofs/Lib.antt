@@ -9,3 +9,6 @@ pub mod Cursors
 pub mod Walked
 pub mod Overlays
 pub mod Lifted
+pub mod Spared
+pub mod WalkKept
+pub mod PlainWalks

@@ -1,4 +1,5 @@
 pub mod Done
+pub mod Spared
 pub mod OwnTxns
 pub mod Turns
 pub mod Counted

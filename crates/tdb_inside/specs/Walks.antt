@@ -1,6 +1,6 @@
 -- What a command that is done in one turn inside its opener's own transaction does to the walk of the opener's own cursor, in the words of
 -- the law (`tdb_law`).
-use Rattle.std.specs.Prelude.{ℕ, ◌≡◌, ◌≤◌, ◌<◌, ◌⊎◌, List, [], Bool, true, false, Option, Some, None, is_some, if◌then◌else◌}
+use Rattle.std.specs.Prelude.{ℕ, ◌≡◌, ◌≤◌, ◌<◌, ◌⊎◌, List, [], Bool, true, false, Option, Some, None, is_some, Contains, if◌then◌else◌}
 use Rattle.std.specs.FinMap.{get}
 use Rattle.tdb_space.specs.Form.{Form}
 use Rattle.tdb_space.specs.Pairs.{home}
@@ -19,6 +19,8 @@ use Rattle.tdb_locks.specs.HeldLocks.{HeldLocks}
 use Rattle.tdb_locks.specs.declared.kind.Kind.TheVariants.{Write}
 use Rattle.tdb_walk.specs.declared.stage.Goal.{Goal}
 use Rattle.tdb_walk.specs.declared.stage.Goal.TheVariants as Goals
+use Rattle.tdb_walk.specs.declared.standing.Standing.{Standing}
+use Rattle.tdb_walk.specs.declared.standing.Standing.TheVariants.{On}
 use Rattle.tdb_walk.specs.NextLive.{place_of}
 use Rattle.tdb_walk.specs.Cursors.{Knows}
 use Rattle.tdb_walk.specs.Again.{RestsAt}
@@ -37,6 +39,11 @@ pub record RestsIn (f : Form) (img : List ℕ) (walk : Walk) : Type 0 where
 pub record RestsInside (t : OwnTxn) (base : List ℕ) (walk : Walk) : Type 0 where
   pub accepted : AcceptWith (form_of t) (image_of t base) []
   pub cursor : RestsIn (form_of t) (image_of t base) walk
+
+-- the record on which it rests is one of these
+abbrev pub IsEntered : List ℕ → Standing → Type 0
+IsEntered stood_on (On chain off) = Contains stood_on off
+IsEntered stood_on place = Unit {0}
 
 -- where its walk has come in an image
 abbrev pub mark_in : Form → List ℕ → Walk → Mark

@@ -1,5 +1,5 @@
 //! A plain command inside a transaction.
-ghost use Rattle.std.specs.Prelude.{◌≡◌, ◌≤◌, ◌<◌, ◌&&◌, ◌||◌, List, ℕ, [], None, IsTrue, IfOk, OnOk};
+ghost use Rattle.std.specs.Prelude.{◌≡◌, ◌≤◌, ◌<◌, ◌&&◌, ◌||◌, List, ℕ, [], Contains, None, IsTrue, IfOk, OnOk};
 ghost use Rattle.tdb_disk.specs.Count.{HasCause};
 ghost use Rattle.tdb_disk.specs.History.{seen};
 ghost use Rattle.tdb_space.specs.Form.{form_in};
@@ -10,13 +10,18 @@ ghost use Rattle.tdb_law.specs.MapCommands.{map_changes};
 ghost use Rattle.tdb_law.specs.Openers.{Own};
 ghost use Rattle.tdb_law.specs.Refusals.{refusal};
 ghost use Rattle.tdb_steps.specs.Machines.{begun, IsShort, Fits};
-ghost use Rattle.tdb_steps.specs.PlainCommands.{command_of, reply_of};
+ghost use Rattle.tdb_steps.specs.PlainCommands.{IsKeyed, command_of, reply_of};
 ghost use Rattle.tdb_steps.specs.Turns.{number_of};
 ghost use Rattle.tdb_txn.specs.Committing.{MayCommit};
 ghost use Rattle.tdb_txn.specs.Txn.{txn_form, txn_image, txn_start, txn_size, txn_spare, txn_depth, txn_doomed};
+ghost use Rattle.tdb_walk.specs.declared.standing.Standing.TheVariants.{On};
+ghost use Rattle.tdb_walk.specs.NextLive.{StandsIn};
+ghost use Rattle.tdb_cursors.specs.declared.walk.Walk.{Walk};
 ghost use Rattle.tdb_inside.specs.Done.{ImageDone};
 ghost use Rattle.tdb_inside.specs.OwnTxns.{form_of, image_of, own_inside, SameTxn};
+ghost use Rattle.tdb_inside.specs.Spared.{WalkKept};
 ghost use Rattle.tdb_inside.specs.Turns.{TurnsInside};
+ghost use Rattle.tdb_inside.specs.Walks.{with_cursor, IsEntered, RestsInside, WalksInside};
 
 use crate::alone::take_turns;
 use crate::own_txn::OwnTxn;
@@ -55,6 +60,9 @@ fn take_in_pages<D: Disk>(
     requires fits { Fits machine.old (txn_size txn.old) (txn_spare txn.old) }
     ensures done { IfOk result (λ reply. IsTrue D.tells → let base = seen (D.history d.old) in AcceptWith (txn_form txn.old) (txn_image txn.old base) []
         → ImageDone (txn_form txn.old) (txn_image txn.old base) (txn_image txn.new base) (command_of machine.old.command) machine.old.seqnum (reply_of reply)) }
+    ensures walks { IfOk result (λ reply. IsTrue D.tells → let base = seen (D.history d.old) in AcceptWith (txn_form txn.old) (txn_image txn.old base) []
+        → IsKeyed machine.old.command → (chain off : ℕ) → Contains stood_on.now off → StandsIn (txn_form txn.old) (txn_image txn.old base) (On chain off)
+        → WalkKept (txn_form txn.old) (txn_image txn.old base) (txn_image txn.new base) chain off (command_of machine.old.command) (reply_of reply)) }
     ensures form { txn_form txn.new ≡ txn_form txn.old }
     ensures start { txn_start txn.new ≡ txn_start txn.old }
     ensures depth { txn_depth txn.new ≡ txn_depth txn.old }
@@ -77,8 +85,9 @@ impl OwnTxn {
     ///
     /// The reply is that of the command on the map of the transaction, or says that memory or space is wanting, and
     /// then that map is as it was. Nothing is written to the disk, and no lock is taken. With `Ok` of a command that
-    /// may change the map there is something to commit, and the sequence number is raised where changes count. `Io`
-    /// only where the disk failed.
+    /// may change the map there is something to commit, and the sequence number is raised where changes count. The cursor
+    /// rests on its record still, which is marked as dead where its key was deleted or stored anew. `Io` only where the
+    /// disk failed.
     ///
     /// Cost: the chain of the key, the free list, or the writes, once each.
     pub fn run<D: Disk>(
@@ -102,6 +111,9 @@ impl OwnTxn {
             (number_of (form_of self.old) base) (number_of (form_of self.old) (image_of self.old base)) (number_of (form_of self.old) (image_of self.new base)) (reply_of reply)) }
         ensures done { IfOk result (λ reply. IsTrue D.tells → let base = seen (D.history d.old) in AcceptWith (form_of self.old) (image_of self.old base) []
             → ImageDone (form_of self.old) (image_of self.old base) (image_of self.new base) (command_of command) self.old.numbered (reply_of reply)) }
+        ensures walks { IfOk result (λ reply. IsTrue D.tells → let base = seen (D.history d.old) in (walk : Walk) → RestsInside self.old base walk → IsEntered stood_on.now walk.cursor.place
+            → (x : Own) → refusal (form_of self.old) (OnMap (command_of command)) (own_inside (with_cursor x walk) self.old base) ≡ None
+            → WalksInside x self.old self.new base walk walk (OnMap (command_of command)) (reply_of reply)) }
         ensures commits { OnOk result (IsTrue D.tells → let base = seen (D.history d.old) in MayCommit self.old.txn base → MayCommit self.new.txn base) }
         ensures changed { IfOk result (λ reply. self.new.changed ≡ (self.old.changed || (map_changes (command_of command) && is_done (reply_of reply)))) }
         ensures same { SameTxn self.old self.new }
