@@ -1,5 +1,6 @@
 -- The turns of a cursor one after the other, where nobody else holds a lock.
 use Rattle.std.proofs.Common.{◌≡◌, ℕ, ◌+◌, ◌<◌, ◌≤◌, List, [], Bool, true, false, Option, Some, None, is_some, refl, sym, ◌∙◌, ap, subst, inl, inr, arith}
+use Rattle.std.specs.Prelude.{MatchBool}
 use Rattle.std.proofs.lemmas.Bool.{false≢true}
 use Rattle.tdb_space.specs.Form.{Form}
 use Rattle.tdb_space.specs.Pairs.{home}
@@ -32,8 +33,8 @@ use Rattle.tdb_walk.specs.declared.stage.Goal.TheVariants.{First, Next, Leave}
 use Rattle.tdb_walk.specs.declared.stage.Act.{Act}
 use Rattle.tdb_walk.specs.declared.stage.Act.TheVariants.{Lock, Move, End}
 use Rattle.tdb_walk.specs.NextLive.{IsNext, NoneLive, place_of}
-use Rattle.tdb_walk.specs.Purging.{IsDeadRecord}
-use Rattle.tdb_walk.specs.Cursors.{At, Knows, LeaveLed, MoveLed, StepLed, StepMoved, StepMade, StepTaken, WentTo, act_of, dead_of, rested, spared_of}
+use Rattle.tdb_walk.specs.Purging.{IsDeadIn, IsDeadRecord, IsPurged}
+use Rattle.tdb_walk.specs.Cursors.{At, HasToPurge, Knows, LeaveLed, MoveLed, StepLed, StepMoved, StepMade, StepTaken, WentTo, act_of, dead_of, rested, spared_of}
 use Rattle.tdb_walk.specs.Cursors.LeaveLed.{leaves as left, cannot}
 use Rattle.tdb_walk.specs.Cursors.Came.{shown, barred, wants}
 use Rattle.tdb_walk.specs.Cursors.MoveLed.{comes as came_to, stops, ends, gives_up}
@@ -42,13 +43,15 @@ use Rattle.tdb_walk.specs.Cursors.StepMade.{keeps, purges, waits, starves as unw
 use Rattle.tdb_walk.specs.InLaw.{IsShown}
 use Rattle.tdb_walk.specs.Again.{RestsAt, shown_there}
 use Rattle.tdb_walk.proofs.Again.{cursor_leaves}
+use Rattle.tdb_walk.proofs.Ahead.{none_some}
 use Rattle.tdb_walk.proofs.Arrived.{met_member}
 use Rattle.tdb_walk.proofs.Coming.{met_used, comes_rightly}
 use Rattle.tdb_walk.proofs.Going.{ends_rightly}
 use Rattle.tdb_walk.proofs.Making.{dead_known}
 use Rattle.tdb_walk.proofs.MoveTurned.{mapped}
 use Rattle.tdb_walk.proofs.WalkShown.{ahead_same, mapped_ahead}
-use Rattle.tdb_inside.specs.Walks.{CursorCame, CursorDone, DueInside, FinishesInside, RestsIn, all_written, command_for, is_leave, mark_in}
+use Rattle.tdb_inside.specs.Walks.{CursorCame, CursorDone, DueInside, FinishesInside, RestsIn, all_written, command_for, is_leave, mark_in, PurgesDead}
+use Rattle.tdb_inside.specs.Walks.PurgesDead.{purges as purged, keeps as unpurged}
 use Rattle.tdb_inside.specs.Walks.CursorCame.{comes, passes, starves, leaves, stays}
 
 -- how far a cursor is with its turns, as a number that each step raises
@@ -322,6 +325,84 @@ same_number f a b at later turn (purges d is over never gone) = gone.number
 same_number f a b at later turn (waits other byte is still same) = ap (number_of f) same
 same_number f a b at later turn (unwritten is same) = ap (number_of f) same
 
+-- A cursor that has only its chain locked for reading stands on a record that isn't dead.
+abbrev pub IsAlive : Form → List ℕ → Standing → Stage → Type 0
+IsAlive f a (On chain off) Reading = IsDeadIn f a chain off → ⊥
+IsAlive f a place stage = Unit {0}
+
+-- whether it has to purge its record
+abbrev IsDue : Form → List ℕ → Standing → Stage → Bool → Type 0
+IsDue f a place stage due = MatchBool due (HasToPurge f a all_written [] false place stage) (HasToPurge f a all_written [] false place stage → ⊥)
+
+-- one that hasn't to, where nobody else stands on it, isn't dead
+not_due : (f : Form) (a : List ℕ) (chain off : ℕ) → IsDue f a (On chain off) Rested false → IsDeadIn f a chain off → ⊥
+not_due f a chain off isnt D = isnt (record { dead = D.dead; alone = λ c. omega (arith, c.1); writable = refl; writes = refl })
+
+-- so it is where no command is under way
+pub alive_first : (f : Form) (a : List ℕ) (walk : Walk) → RestsIn f a walk → IsAlive f a walk.cursor.place walk.cursor.stage
+alive_first f a walk R = go walk.cursor.place walk.cursor.stage R.rests
+  where
+    go : (place : Standing) (stage : Stage) → RestsAt f walk.shown place stage → IsAlive f a place stage
+    go (On chain off) stage rests = subst (IsAlive f a (On chain off)) (sym rests.1) tt
+    go (Before chain) stage rests = tt
+    go Past stage rests = tt
+
+module _ (f : Form) (a : List ℕ) (later : At) where
+  alive_as : (place : Standing) (stage : Stage) → later ≡ at_ place stage → IsAlive f a place stage → IsAlive f a later.place later.stage
+  alive_as place stage is alive = subst (λ (l : At). IsAlive f a l.place l.stage) (sym is) alive
+
+  pub alive_on : (goal : Goal) (place : Standing) (stage : Stage) (due : Bool) → IsDue f a place stage due → Led f later goal place stage due Turns.Step → IsAlive f a later.place later.stage
+  alive_on goal (On chain off) Rested true decided led = alive_as (On chain off) Writing led.0 tt
+  alive_on First (On chain off) Rested false decided led = absurd (move_ends f later _ led)
+  alive_on Next (On chain off) Rested false decided led = alive_as (On chain off) Reading led.0 (not_due f a chain off decided)
+  alive_on Leave (On chain off) Rested false decided led = absurd (leave_ends f later led)
+  alive_on First (On chain off) Reading due decided led = absurd (move_ends f later _ led)
+  alive_on Next (On chain off) Reading due decided led = absurd (move_ends f later _ led)
+  alive_on Leave (On chain off) Reading due decided led = absurd (leave_ends f later led)
+  alive_on goal (On chain off) Writing due decided led = alive_as (On chain off) Freeing led.0 tt
+  alive_on First (On chain off) Freeing due decided led = absurd (move_ends f later _ led)
+  alive_on Next (On chain off) Freeing due decided led = absurd (move_ends f later _ led)
+  alive_on Leave (On chain off) Freeing due decided led = absurd (leave_ends f later led)
+  alive_on First (Before chain) stage due decided led = absurd (move_ends f later _ led)
+  alive_on Next (Before chain) stage due decided led = absurd (move_ends f later _ led)
+  alive_on Leave (Before chain) stage due decided led = absurd (leave_ends f later led)
+  alive_on First Past stage due decided led = absurd (move_ends f later _ led)
+  alive_on Next Past stage due decided led = absurd (move_ends f later _ led)
+  alive_on Leave Past stage due decided led = absurd (leave_ends f later led)
+
+  -- a dead record that is left without a purge is left for want of memory
+  left_dead : (goal : Goal) (chain off : ℕ) (stage : Stage) (due : Bool) (reply : Reply) → IsDue f a (On chain off) stage due → IsAlive f a (On chain off) stage → dead_of (On chain off) stage ≡ None
+      → Led f later goal (On chain off) stage due (Turns.Done reply) → IsDeadIn f a chain off → reply ≡ Replies.Memory
+  left_dead goal chain off Rested true reply decided alive none led D = led.0
+  left_dead goal chain off Rested false reply decided alive none led D = absurd (not_due f a chain off decided D)
+  left_dead goal chain off Reading due reply decided alive none led D = absurd (alive D)
+  left_dead goal chain off Writing due reply decided alive none led D = led.0
+  left_dead goal chain off Freeing due reply decided alive none led D = absurd (none_some (sym none))
+
+  pub purges_dead : (b : List ℕ) (goal : Goal) (place : Standing) (stage : Stage) (due : Bool) (reply : Reply) → IsDue f a place stage due → IsAlive f a place stage → Knows f a place stage → Led f later goal place stage due (Turns.Done reply)
+      → StepMade f a b [] (at_ place stage) later (Turns.Done reply) → PurgesDead f a b place (reply_of reply)
+  purges_dead b goal place stage due reply decided alive K led (keeps none same) = unpurged (λ chain off here D. ap reply_of (go chain off here D)) same
+    where
+      go : (chain off : ℕ) → place ≡ On chain off → IsDeadIn f a chain off → reply ≡ Replies.Memory
+      go chain off here D =
+          left_dead goal chain off stage due reply (subst (λ p. IsDue f a p stage due) here decided) (subst (λ p. IsAlive f a p stage) here alive) (sym (ap (λ p. dead_of p stage) here) ∙ none)
+          (subst (λ p. Led f later goal p stage due (Turns.Done reply)) here led) D
+  purges_dead b goal (On chain off) Freeing due reply decided alive K led (purges d is over never_memory gone) =
+      purged chain off refl K.1 (subst (λ (e : DeadRecord). IsPurged f a b e.chain e.off []) (some_in (sym is)) gone)
+    where
+      some_in : {p q : DeadRecord} → ◌≡◌ {A = Option DeadRecord} (Some p) (Some q) → p ≡ q
+      some_in e = cc
+  purges_dead b goal (On chain off) Rested due reply decided alive K led (purges d is over never_memory gone) = absurd (none_some is)
+  purges_dead b goal (On chain off) Reading due reply decided alive K led (purges d is over never_memory gone) = absurd (none_some is)
+  purges_dead b goal (On chain off) Writing due reply decided alive K led (purges d is over never_memory gone) = absurd (none_some is)
+  purges_dead b goal (Before chain) stage due reply decided alive K led (purges d is over never_memory gone) = absurd (none_some is)
+  purges_dead b goal Past stage due reply decided alive K led (purges d is over never_memory gone) = absurd (none_some is)
+  purges_dead b goal place stage due reply decided alive K led (waits other byte is still same) = cc is
+  purges_dead b goal place stage due reply decided alive K led (unwritten is same) = unpurged (λ chain off here D. ap reply_of (reply_in is)) same
+    where
+      reply_in : {p q : Reply} → Turns.Done p ≡ Turns.Done q → p ≡ q
+      reply_in e = cc
+
 -- The last turn, of a cursor that has taken steps on the same record: it had this walk before them, and rested.
 module _ (f : Form) (a b : List ℕ) (goal : Goal) (old mid new : Walk) (reply : Reply) (now : List Piece) (told : Type 0) (here : mid.cursor.place ≡ old.cursor.place) (same : mid.shown ≡ old.shown)
     (shows : new.shown ≡ shown_there new.cursor.place reply mid.shown) (T : StepTaken told f a [] now 1 all_written [] goal false mid.cursor new.cursor (Turns.Done reply)) where
@@ -331,9 +412,9 @@ module _ (f : Form) (a b : List ℕ) (goal : Goal) (old mid new : Walk) (reply :
   pub rests_again : RestsAt f old.shown old.cursor.place old.cursor.stage → RestsAt f new.shown new.cursor.place new.cursor.stage
   rests_again R = subst (λ k. RestsAt f k new.cursor.place new.cursor.stage) (sym shows) (rests_then f new.cursor reply mid.shown goal mid.cursor.place mid.cursor.stage T.due (rested_mid R) T.led)
 
-  pub cursor_done : told → AcceptWith f a [] → RestsIn f a old → Knows f a mid.cursor.place mid.cursor.stage → StepMade f a b [] mid.cursor new.cursor (Turns.Done reply) → Knows f b new.cursor.place new.cursor.stage
+  pub cursor_done : told → AcceptWith f a [] → RestsIn f a old → Knows f a mid.cursor.place mid.cursor.stage → IsAlive f a mid.cursor.place mid.cursor.stage → StepMade f a b [] mid.cursor new.cursor (Turns.Done reply) → Knows f b new.cursor.place new.cursor.stage
       → CursorDone f a b goal old new (reply_of reply)
-  cursor_done tells A R K M knows =
+  cursor_done tells A R K alive M knows =
       let L = cursor_leaves f a b [] mid.cursor new.cursor (Turns.Done reply) A M in
       let C = came_then f a b goal mid.cursor.place mid.cursor.stage T.due new.cursor reply mid.shown A.some A K (rested_mid R.rests) M T.led (T.moved tells [] A K) in
       let m = image_map f a in
@@ -342,6 +423,8 @@ module _ (f : Form) (a b : List ℕ) (goal : Goal) (old mid new : Walk) (reply :
         came = subst (λ p. CursorCame f m goal (mark_of f (chains_in f a) (place_of p)) later old.shown new.shown (reply_of reply)) here
             (subst (λ k. CursorCame f m goal (mark_of f (chains_in f a) (place_of mid.cursor.place)) later k new.shown (reply_of reply)) same
             (subst (λ k. CursorCame f m goal (mark_of f (chains_in f a) (place_of mid.cursor.place)) later mid.shown k (reply_of reply)) (sym shows) C));
+        purge = subst (λ p. PurgesDead f a b p (reply_of reply)) here
+            (purges_dead f a new.cursor b goal mid.cursor.place mid.cursor.stage T.due reply (T.decided tells [] A K) alive K T.led M);
         image = record { accepted = L.accepted; front = L.only.front; map = same_map f a b mid.cursor new.cursor (Turns.Done reply) M; number = same_number f a b mid.cursor new.cursor (Turns.Done reply) M };
         rests = record { rests = rests_again R.rests; knows = knows };
       }

@@ -22,6 +22,7 @@ use Rattle.tdb_walk.specs.declared.stage.Goal.TheVariants as Goals
 use Rattle.tdb_walk.specs.declared.standing.Standing.{Standing}
 use Rattle.tdb_walk.specs.declared.standing.Standing.TheVariants.{On}
 use Rattle.tdb_walk.specs.NextLive.{place_of}
+use Rattle.tdb_walk.specs.Purging.{IsDeadIn, IsPurged}
 use Rattle.tdb_walk.specs.Cursors.{Knows}
 use Rattle.tdb_walk.specs.Again.{RestsAt}
 use Rattle.tdb_cursors.specs.declared.walk.Walk.{Walk}
@@ -116,8 +117,15 @@ pub data CursorCame (f : Form) (m : Map) (goal : Goal) (mark later : Mark) (was 
   leaves : r ≡ Done → is_leave goal ≡ true → now ≡ None → CursorCame f m goal mark later was now r
   stays : r ≡ Memory → is_leave goal ≡ true → is_some was ≡ true → now ≡ was → later ≡ mark → CursorCame f m goal mark later was now r
 
+-- What a cursor that stood at this place makes of image a, which is b then: a dead record on which it stood is purged, unless memory was
+-- wanting; else nothing changes.
+pub data PurgesDead (f : Form) (a b : List ℕ) (place : Standing) (r : Reply) : Type 0 where
+  purges : (chain off : ℕ) → place ≡ On chain off → IsDeadIn f a chain off → IsPurged f a b chain off [] → PurgesDead f a b place r
+  keeps : ((chain off : ℕ) → place ≡ On chain off → IsDeadIn f a chain off → r ≡ Memory) → b ≡ a → PurgesDead f a b place r
+
 -- So it has from image a to image b, and it rests.
 pub record CursorDone (f : Form) (a b : List ℕ) (goal : Goal) (old new : Walk) (r : Reply) : Type 0 where
   pub came : CursorCame f (image_map f a) goal (mark_in f a old) (mark_in f b new) old.shown new.shown r
+  pub purge : PurgesDead f a b old.cursor.place r
   pub image : ImageKept f a b
   pub rests : RestsIn f b new

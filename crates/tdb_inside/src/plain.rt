@@ -85,9 +85,11 @@ impl OwnTxn {
     ///
     /// The reply is that of the command on the map of the transaction, or says that memory or space is wanting, and
     /// then that map is as it was. Nothing is written to the disk, and no lock is taken. With `Ok` of a command that
-    /// may change the map there is something to commit, and the sequence number is raised where changes count. The cursor
-    /// rests on its record still, which is marked as dead where its key was deleted or stored anew. `Io` only where the
-    /// disk failed.
+    /// may change the map there is something to commit, and the sequence number is raised where changes count. `Io`
+    /// only where the disk failed.
+    ///
+    /// The cursor rests where it did: its record is marked as dead where the command deletes it or links another one
+    /// in its place, and stays in its chain.
     ///
     /// Cost: the chain of the key, the free list, or the writes, once each.
     pub fn run<D: Disk>(

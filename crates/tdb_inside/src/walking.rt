@@ -13,7 +13,7 @@ ghost use Rattle.tdb_walk.specs.Again.{RestsAt};
 ghost use Rattle.tdb_inside.specs.Done.{ImageKept};
 ghost use Rattle.tdb_inside.specs.OwnTxns.{form_of, image_of, own_inside, SameTxn};
 ghost use Rattle.tdb_inside.specs.Turns.{TurnsInside};
-ghost use Rattle.tdb_inside.specs.Walks.{command_for, with_cursor, CursorDone, RestsIn, RestsInside, WalksInside};
+ghost use Rattle.tdb_inside.specs.Walks.{command_for, with_cursor, CursorDone, PurgesDead, RestsIn, RestsInside, WalksInside};
 
 use crate::own_txn::OwnTxn;
 use crate::walk_alone::take_walk;
@@ -54,17 +54,17 @@ fn walk_in_pages<D: Disk>(
 }
 
 impl OwnTxn {
-    /// Does a First, a Next or an EndWalk of the opener's cursor in one turn, over the image of the transaction, so a walk
-    /// sees what was changed in it. The cursor rests before and after it, and keeps the key of the pair that it shows.
+    /// Does a First, a Next or an EndWalk of the opener's cursor in one turn, over the image of the transaction: so a
+    /// walk sees what was changed there. The cursor rests before and after it, and keeps the key that it shows.
     ///
-    /// The reply of a First and a Next is the pair of the next live record, on which the cursor stands then, or `End`
-    /// where none is left, and then it has ended; so it has with `Memory`, where that is wanting. A Next without a cursor
-    /// is told `End`. That of an EndWalk is `Ok`; with `Memory` the cursor stays. A dead record that the cursor leaves is
-    /// purged: the map stays. Nothing is written to the disk, and no lock is taken. `Io` only where the disk failed:
-    /// then the cursor stands where it stood.
+    /// First and Next are told the pair of the next live record, on which the cursor stands then, or `End` where none
+    /// is left, or `Memory`; then it has ended. A Next without a cursor is told `End`. An EndWalk is told `Ok`, and the
+    /// cursor has ended, or `Memory`, and it stays. A dead record that the cursor leaves is purged, but with `Memory`;
+    /// the map stays. Nothing is written to the disk, and no lock is taken. `Io` only where the disk failed: then the
+    /// cursor stands where it stood.
     ///
-    /// Cost: the heads of the chains on the way, of each record up to the next live one 24 bytes, and its pair; where a
-    /// dead record is left, its chain and the free list.
+    /// Cost: the heads of the chains on the way, 24 bytes of each record up to the next live one, and its pair; and
+    /// where a dead record is left its chain, and the free list.
     pub fn walk<D: Disk>(
         &mut self,
         alloc: Global,
@@ -79,6 +79,8 @@ impl OwnTxn {
             (number_of (form_of self.old) base) (number_of (form_of self.old) (image_of self.old base)) (number_of (form_of self.old) (image_of self.new base)) (reply_of reply)) }
         ensures walks { IfOk result (λ reply. IsTrue D.tells → let base = seen (D.history d.old) in RestsInside self.old base walk.old → (x : Own)
             → WalksInside x self.old self.new base walk.old walk.new (OnWalk (command_for goal)) (reply_of reply)) }
+        ensures purges { IfOk result (λ reply. IsTrue D.tells → let base = seen (D.history d.old) in RestsInside self.old base walk.old
+            → PurgesDead (form_of self.old) (image_of self.old base) (image_of self.new base) walk.old.cursor.place (reply_of reply)) }
         ensures image { OnOk result (IsTrue D.tells → let base = seen (D.history d.old) in RestsInside self.old base walk.old → ImageKept (form_of self.old) (image_of self.old base) (image_of self.new base)) }
         ensures commits { OnOk result (IsTrue D.tells → let base = seen (D.history d.old) in RestsInside self.old base walk.old → MayCommit self.old.txn base → MayCommit self.new.txn base) }
         ensures rests { OnOk result (RestsAt (form_of self.old) walk.old.shown walk.old.cursor.place walk.old.cursor.stage → RestsAt (form_of self.old) walk.new.shown walk.new.cursor.place walk.new.cursor.stage) }

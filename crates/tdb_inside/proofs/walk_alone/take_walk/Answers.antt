@@ -12,7 +12,7 @@ use Rattle.tdb_walk.specs.Cursors.{Knows, StepTaken, StepMade, act_of, spared_of
 use Rattle.tdb_walk.specs.Again.{RestsAt, cursor_after}
 use Rattle.tdb_cursors.specs.declared.walk.Walk.{Walk}
 use Rattle.tdb_inside.specs.Walks.{CursorDone, RestsIn, all_written}
-use Rattle.tdb_inside.proofs.Cursors.{Led, cursor_done, far_few, never_waits, rests_again, steps_on}
+use Rattle.tdb_inside.proofs.Cursors.{IsAlive, Led, alive_first, alive_on, cursor_done, far_few, never_waits, rests_again, steps_on}
 use Rattle.tdb_inside.proofs.walk_alone.take_walk.Goals as goal
 
 -- what is known over a view is known over one of the same form and image
@@ -25,6 +25,12 @@ module _ (f h : Form) (a d : List ℕ) (form : h ≡ f) (image : d ≡ a) where
 
   known_here : (place : Standing) (stage : Stage) → Knows h d place stage → Knows f a place stage
   known_here place stage K = subst (λ x. Knows x a place stage) form (subst (λ y. Knows h y place stage) image K)
+
+  alive_there : (place : Standing) (stage : Stage) → IsAlive f a place stage → IsAlive h d place stage
+  alive_there place stage L = subst (λ x. IsAlive x d place stage) (sym form) (subst (λ y. IsAlive f y place stage) (sym image) L)
+
+  alive_here : (place : Standing) (stage : Stage) → IsAlive h d place stage → IsAlive f a place stage
+  alive_here place stage L = subst (λ x. IsAlive x a place stage) form (subst (λ y. IsAlive h y place stage) image L)
 
   rests_there : (walk : Walk) → RestsIn f a walk → RestsIn h d walk
   rests_there walk R = subst (λ x. RestsIn x d walk) (sym form) (subst (λ y. RestsIn f y walk) (sym image) R)
@@ -43,6 +49,7 @@ loop-taken-init g c = record {
   wrote = record { form = refl; disk = λ e. refl; under = refl };
   faults = refl;
   knows = λ told small A K. K;
+  alive = λ told small A R. alive_first (g.S.Space.form c.args.s.now) (g.S.Space.image c.args.s.now) c.args.walk.now R;
 }
 
 pub loop-taken-preserved : goal.loop-taken-preserved
@@ -74,6 +81,13 @@ loop-taken-preserved g c =
           known_here (S.form a) (S.form b) (S.image a) (S.image c.step_alone.new.s) form (L.image ∙ I.image) now.cursor.place now.cursor.stage
           (e.knows told (subst (λ n. n < 2 ^ 32) (sym I.size) small) [] (accepted_there (S.form a) (S.form b) (S.image a) (S.image b) form I.image A)
           (known_there (S.form a) (S.form b) (S.image a) (S.image b) form I.image was.cursor.place was.cursor.stage (I.knows told small A K)));
+      alive = λ told small A R.
+          let form = I.wrote.form in
+          alive_here (S.form a) (S.form b) (S.image a) (S.image b) form I.image now.cursor.place now.cursor.stage
+          (alive_on (S.form b) (S.image b) now.cursor c.args.goal was.cursor.place was.cursor.stage e.taken.1.due
+          (e.taken.1.decided told [] (accepted_there (S.form a) (S.form b) (S.image a) (S.image b) form I.image A)
+          (known_there (S.form a) (S.form b) (S.image a) (S.image b) form I.image was.cursor.place was.cursor.stage (I.knows told small A R.knows)))
+          (subst (λ t. Led (S.form b) now.cursor c.args.goal was.cursor.place was.cursor.stage e.taken.1.due t) c.in-Step.is e.taken.1.led));
     }
 
 pub returns-in-Done-clause-rests : goal.returns-in-Done-clause-rests
@@ -111,6 +125,7 @@ returns-in-Done-clause-done g c told small A R =
     done_here F f a d form I.image b c.args.goal c.args.walk.now now c.in-Done.reply
     (cursor_done f d b c.args.goal c.args.walk.now was now c.in-Done.reply e.taken.0 (IsTrue S.tells) I.place I.shown
     (e.shown ∙ ap (λ t. cursor_after t now.cursor.place was.shown) c.in-Done.is) T told A2 (rests_there F f a d form I.image c.args.walk.now R) K2
+    (alive_there F f a d form I.image was.cursor.place was.cursor.stage (I.alive told small A R))
     (subst (λ t. StepMade f d b [] was.cursor now.cursor t) c.in-Done.is (e.made told few [] A2 K2)) (e.knows told few [] A2 K2))
 
 pub returns-in-Blocked-clause-done : goal.returns-in-Blocked-clause-done

@@ -3,7 +3,8 @@ use Rattle.std.proofs.Common.{◌≡◌, ◌<◌, ◌≤◌, ◌^◌, [], IsTrue
 use Rattle.tdb_space.specs.Accepted.{AcceptWith}
 use Rattle.tdb_space.specs.Frame.{Wrote}
 use Rattle.tdb_walk.specs.Cursors.{Knows}
-use Rattle.tdb_inside.proofs.Cursors.{far}
+use Rattle.tdb_inside.specs.Walks.{RestsIn}
+use Rattle.tdb_inside.proofs.Cursors.{IsAlive, far}
 use Rattle.tdb_inside.proofs.walk_alone.take_walk.Given as goal
 
 abbrev pub invariant-loop-taken : goal.invariant-loop-taken
@@ -18,4 +19,6 @@ invariant-loop-taken g l = record {
   faults : g.S.Space.faults l.s ≡ g.S.Space.faults l.fn.s;
   knows : IsTrue g.S.Space.tells → g.S.Space.size l.fn.s < 2 ^ 32 → AcceptWith (g.S.Space.form l.fn.s) (g.S.Space.image l.fn.s) []
       → Knows (g.S.Space.form l.fn.s) (g.S.Space.image l.fn.s) l.fn.walk.cursor.place l.fn.walk.cursor.stage → Knows (g.S.Space.form l.fn.s) (g.S.Space.image l.fn.s) l.walk.cursor.place l.walk.cursor.stage;
+  alive : IsTrue g.S.Space.tells → g.S.Space.size l.fn.s < 2 ^ 32 → AcceptWith (g.S.Space.form l.fn.s) (g.S.Space.image l.fn.s) [] → RestsIn (g.S.Space.form l.fn.s) (g.S.Space.image l.fn.s) l.fn.walk
+      → IsAlive (g.S.Space.form l.fn.s) (g.S.Space.image l.fn.s) l.walk.cursor.place l.walk.cursor.stage;
 }

@@ -48,6 +48,9 @@ returns-clause-walks g c =
     walk_walks x old (record { txn = c.walk_in_pages.new.txn; changed = old.changed; numbered = old.numbered }) base c.args.walk.now c.walk_in_pages.new.walk
     (record { form = e.form; start = e.start; depth = e.depth; doomed = e.doomed; numbered = refl }) refl c.args.goal (reply_of reply) has_shown (done told R.accepted R.cursor)) e.done
 
+pub returns-clause-purges : goal.returns-clause-purges
+returns-clause-purges g c = weaker c.walk_in_pages.result _ _ (λ reply done told R. (done told R.accepted R.cursor).purge) c.walk_in_pages.ensures.done
+
 pub returns-clause-image : goal.returns-clause-image
 returns-clause-image g c = ok_so c.walk_in_pages.result _ _ (λ reply done told R. (done told R.accepted R.cursor).image) c.walk_in_pages.ensures.done
 
