@@ -155,45 +155,35 @@ module _ (locks : HeldLocks) (kept : ℕ → ℕ) (owner n : ℕ) (old new : Lis
 pub idle_free : (ps : List Piece) (owner : ℕ) (wanted : ℕ → ℕ) → ((b : ℕ) → wanted b ≡ 0) → IsFree (table_of ps) owner wanted
 idle_free ps owner wanted none = record { free = λ p b differs. let zero_here = none b in let two = at_most_two (held ps p b) in omega (arith, zero_here, two) }
 
-module _ (locks : HeldLocks) (kept : ℕ → ℕ) (owner n : ℕ) (old : List Piece) (rows : Rows) (H : HoldsBefore locks kept owner n old rows) (r : LockRow) (K : KeptBeside locks kept r) (next : (b : ℕ) → locked_next (locks_in rows) n b ≡ want r b) where
-  -- a lock that is covered or free conflicts with nothing
-  pub lock_free : (is_covered locks r ≡ false → Table.IsFree old owner (start_of r.region) (end_of r.region) r.kind) → IsFree (table_of old) owner (locked_next (locks_in rows) n)
-  lock_free free = record { free = at }
+module _ (owner : ℕ) (old : List Piece) (r : LockRow) where
+  -- a lock that is free conflicts with nothing
+  pub row_free : Table.IsFree old owner (start_of r.region) (end_of r.region) r.kind → IsFree (table_of old) owner (want r)
+  row_free free = record { free = at }
     where
-      bare_at : is_covered locks r ≡ false → (p b : ℕ) → p ≢ owner → want r b + table_of old p b ≤ 2
-      bare_at bare p b differs = elim (place r b) [
+      at : (p b : ℕ) → p ≢ owner → want r b + table_of old p b ≤ 2
+      at p b differs = elim (place r b) [
         | inl inside ↦
-            let room = Kinds.strength-free old owner (start_of r.region) (end_of r.region) r.kind (free bare) p b differs inside.0 inside.1 in
+            let room = Kinds.strength-free old owner (start_of r.region) (end_of r.region) r.kind free p b differs inside.0 inside.1 in
             let one = same_strength (held old p b) in
             let two = same_strength (Some r.kind) in
             omega (arith, room, one, two, inside.2)
         | inr outside ↦ let two = at_most_two (held old p b) in omega (arith, outside.1, two)
       ]
 
-      at : (p b : ℕ) → p ≢ owner → locked_next (locks_in rows) n b + table_of old p b ≤ 2
-      at p b differs = elim (cases_Bool (is_covered locks r)) [
-        | inl over ↦
-            let enough = kept_enough locks kept owner old old r K over b in
-            let whole = H.holds b in
-            let room = H.apart p b differs in
-            omega (arith, next b, enough, whole, room)
-        | inr bare ↦ let room = bare_at bare p b differs in omega (arith, next b, room)
-      ]
-
-  -- and the first conflict of the lock is that of what the turn wants
-  pub lock_blocked : (other byte : ℕ) (kind : Kind) → Table.IsFirstConflict old owner (start_of r.region) (end_of r.region) r.kind other byte kind → IsFirstConflict (table_of old) owner (locked_next (locks_in rows) n) other byte
-  lock_blocked other byte kind F = record { other = F.conflict.other_owner; conflict = strong; least = least }
+  -- and its first conflict is that of what it wants
+  pub row_blocked : (other byte : ℕ) (kind : Kind) → Table.IsFirstConflict old owner (start_of r.region) (end_of r.region) r.kind other byte kind → IsFirstConflict (table_of old) owner (want r) other byte
+  row_blocked other byte kind F = record { other = F.conflict.other_owner; conflict = strong; least = least }
     where
       wanted : want r byte ≡ strength_of r.kind
       wanted = let e : covers (lock_of r) byte ≡ true = covers_within (lock_of r) byte F.conflict.from_start F.conflict.before_end in rw e refl
 
-      strong : 2 < locked_next (locks_in rows) n byte + table_of old other byte
+      strong : 2 < want r byte + table_of old other byte
       strong =
           let more = Kinds.kinds_conflict-strength kind r.kind F.conflict.writes in
           let one = same_strength (Some kind) in
           let two = same_strength (Some r.kind) in
           let holds : table_of old other byte ≡ strength (Some kind) = ap strength F.conflict.holds in
-          omega (arith, next byte, wanted, more, one, two, holds)
+          omega (arith, wanted, more, one, two, holds)
 
       at : (p b : ℕ) → p ≢ owner → 2 < want r b + table_of old p b → (there : Option Kind) → held old p b ≡ there → (byte < b) ⊎ ((byte ≡ b) × (other ≤ p))
       at p b differs more None holds = let none : table_of old p b ≡ 0 = ap strength holds in let most = at_most_two (Some r.kind) in absurd (elim (place r b) [ inl inside ↦ omega (arith, more, none, most, inside.2) | inr outside ↦ omega (arith, more, none, outside.1) ])
@@ -206,8 +196,34 @@ module _ (locks : HeldLocks) (kept : ℕ → ℕ) (owner n : ℕ) (old : List Pi
         | inr outside ↦ let most = at_most_two (held old p b) in absurd (omega (arith, more, outside.1, most))
       ]
 
-      least : (p b : ℕ) → p ≢ owner → 2 < locked_next (locks_in rows) n b + table_of old p b → (byte < b) ⊎ ((byte ≡ b) × (other ≤ p))
-      least p b differs more = at p b differs (omega (arith, more, next b)) (held old p b) refl
+      least : (p b : ℕ) → p ≢ owner → 2 < want r b + table_of old p b → (byte < b) ⊎ ((byte ≡ b) × (other ≤ p))
+      least p b differs more = at p b differs more (held old p b) refl
+
+module _ (locks : HeldLocks) (kept : ℕ → ℕ) (owner n : ℕ) (old : List Piece) (rows : Rows) (H : HoldsBefore locks kept owner n old rows) (r : LockRow) (K : KeptBeside locks kept r) (next : (b : ℕ) → locked_next (locks_in rows) n b ≡ want r b) where
+  -- a lock that is covered or free conflicts with nothing
+  pub lock_free : (is_covered locks r ≡ false → Table.IsFree old owner (start_of r.region) (end_of r.region) r.kind) → IsFree (table_of old) owner (locked_next (locks_in rows) n)
+  lock_free free = record { free = at }
+    where
+      at : (p b : ℕ) → p ≢ owner → locked_next (locks_in rows) n b + table_of old p b ≤ 2
+      at p b differs = elim (cases_Bool (is_covered locks r)) [
+        | inl over ↦
+            let enough = kept_enough locks kept owner old old r K over b in
+            let whole = H.holds b in
+            let room = H.apart p b differs in
+            omega (arith, next b, enough, whole, room)
+        | inr bare ↦ let room = (row_free owner old r (free bare)).free p b differs in omega (arith, next b, room)
+      ]
+
+  -- and the first conflict of the lock is that of what the turn wants
+  pub lock_blocked : (other byte : ℕ) (kind : Kind) → Table.IsFirstConflict old owner (start_of r.region) (end_of r.region) r.kind other byte kind → IsFirstConflict (table_of old) owner (locked_next (locks_in rows) n) other byte
+  lock_blocked other byte kind F = record {
+    other = first.other;
+    conflict = let strong = first.conflict in omega (arith, next byte, strong);
+    least = λ p b differs more. first.least p b differs (omega (arith, more, next b));
+  }
+    where
+      first : IsFirstConflict (table_of old) owner (want r) other byte
+      first = row_blocked owner old r other byte kind F
 
   -- what is held where it was taken
   pub lock_holds : (new : List Piece) → ((b : ℕ) → locked (locks_in rows) n b ≤ strength_of r.kind) → (is_covered locks r ≡ true → new ≡ old) → (is_covered locks r ≡ false → ChangesRange old new owner (start_of r.region) (end_of r.region) (Some r.kind)) → (b : ℕ) → table_of new owner b ≡ max (locked (locks_in rows) (n + 1) b) (kept b)
