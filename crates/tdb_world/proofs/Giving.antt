@@ -7,18 +7,11 @@ use Rattle.tdb_law.specs.Lines.{most_openers}
 use Rattle.tdb_law.specs.Held.{held, kept, holding}
 use Rattle.tdb_law.proofs.Covered as Covered
 use Rattle.tdb_steps.specs.Holdings.{table_of}
-use Rattle.tdb_steps.specs.declared.plain.Plain.{Plain}
-use Rattle.tdb_steps.specs.declared.stage.Stage.{Stage}
-use Rattle.tdb_steps.specs.Machines.{DoingKnows}
-use Rattle.tdb_steps.specs.declared.plain.Plain.TheVariants.{Fetch, Has, Store, Append, Delete, Wipe}
-use Rattle.tdb_steps.specs.Order.{IsAfter}
-use Rattle.tdb_steps.specs.Stages.{hands_in}
 use Rattle.tdb_world.specs.Given.{IsWellHeld}
 use Rattle.tdb_world.specs.declared.options.Options.{Options}
 use Rattle.tdb_world.specs.declared.opener.Opener.{Opener}
 use Rattle.tdb_world.specs.declared.job.Job.{Job}
 use Rattle.tdb_world.specs.declared.job.Job.TheVariants as Jobs
-use Rattle.tdb_world.specs.declared.job.Checking.TheVariants as Checks
 use Rattle.tdb_law.specs.Layout.{chains_in, mark_of}
 use Rattle.tdb_locks.specs.HeldLocks.{HeldLocks}
 use Rattle.tdb_law.specs.Commands.{WalkCommand}
@@ -41,7 +34,7 @@ use Rattle.tdb_world.proofs.Rests.{walk_rests}
 use Rattle.tdb_world.proofs.Replacing.{at_each, hands_set, file_set}
 use Rattle.tdb_world.proofs.Busy.{hand_frees, looked_writes, listed_writes, taken_writes}
 use Rattle.tdb_world.proofs.AllHands.{joined_same}
-use Rattle.tdb_world.proofs.Begun.{begun_stage}
+use Rattle.tdb_world.proofs.Begun.{bare_hands, bare_knows, bare_spares}
 
 -- the opener has what it had
 same_own : (options : Options) (x y : Opener) (job : Job) → IsGiven x job y → own_of options y ≡ own_of options x
@@ -51,48 +44,6 @@ same_own options x y job G =
 -- and its cursor stands where it stood
 same_cursor : (x y : Opener) (job : Job) → IsGiven x job y → spot_at (Some y) ≡ spot_at (Some x)
 same_cursor x y job G = ap (λ w. spot_by w.cursor) G.same_walk
-
--- before the first turn a command holds no record and knows nothing
-bare_stage : (f : Form) (img : List ℕ) (command : Plain) (chain : ℕ) (seqnum : Bool) (stage : Stage) (whole : Option (List ℕ)) → IsAfter command stage 0 → DoingKnows f img (record { command = command; chain = chain; seqnum = seqnum; stage = stage; whole = whole })
-bare_stage f img command chain seqnum stage whole is =
-    subst (λ z. DoingKnows f img (record { command = command; chain = chain; seqnum = seqnum; stage = z; whole = whole })) (sym (begun_stage command stage is)) (record { found = tt; joined = λ key value e. tt })
-
-module _ (f : Form) (x : Own) (size : ℕ) where
-  bare_hands : (job : Job) → JobStands f x job 0 size → hands_of_job job ≡ []
-  bare_hands (Jobs.Refused command reply) K = refl
-  bare_hands (Jobs.Plain d) K = ap hands_in (begun_stage d.command d.stage K.after)
-  bare_hands (Jobs.Check checking) K = refl
-  bare_hands (Jobs.Locking locking) K = refl
-  bare_hands Jobs.Seqnum K = refl
-  bare_hands (Jobs.Walk walking) K = refl
-
-  bare_knows : (img : List ℕ) (job : Job) → JobStands f x job 0 size → JobKnows f img job
-  bare_knows img (Jobs.Refused command reply) K = tt
-  bare_knows img (Jobs.Plain d) K = bare_stage f img d.command d.chain d.seqnum d.stage d.whole K.after
-  bare_knows img (Jobs.Check Checks.Begun) K = tt
-  bare_knows img (Jobs.Check Checks.Records) K = tt
-  bare_knows img (Jobs.Check Checks.FreeList) K = tt
-  bare_knows img (Jobs.Check (Checks.Counted keys)) K = absurd (let late = K.1 in omega (arith, late))
-  bare_knows img (Jobs.Locking locking) K = tt
-  bare_knows img Jobs.Seqnum K = tt
-  bare_knows img (Jobs.Walk walking) K = tt
-
-  -- and takes no record out of its chain
-  plain_bare : (command : Plain) (stage : Stage) (stands : ℕ → Bool) → IsAfter command stage 0 → StageSpares stands command stage
-  plain_bare (Fetch key) stage stands is = tt
-  plain_bare (Has key) stage stands is = tt
-  plain_bare (Store key value flag) stage stands is = tt
-  plain_bare (Append key value) stage stands is = tt
-  plain_bare (Delete key) stage stands is = subst (StageSpares stands (Delete key)) (sym (begun_stage (Delete key) stage is)) tt
-  plain_bare Wipe stage stands is = tt
-
-  bare_spares : (job : Job) (stands : ℕ → Bool) → JobStands f x job 0 size → JobSpares stands job
-  bare_spares (Jobs.Refused command reply) stands K = tt
-  bare_spares (Jobs.Plain d) stands K = plain_bare d.command d.stage stands K.after
-  bare_spares (Jobs.Check checking) stands K = tt
-  bare_spares (Jobs.Locking locking) stands K = tt
-  bare_spares Jobs.Seqnum stands K = tt
-  bare_spares (Jobs.Walk walking) stands K = tt
 
 -- a cursor that rests can be asked for any command
 asks_well : (f : Form) (x : Own) (w : WalkCommand) (place : Standing) (stage : CursorStage) → RestsAt f x.cursor place stage → MayAsk x w → w ≡ Next → place ≡ Past → ⊥

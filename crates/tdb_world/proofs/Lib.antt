@@ -31,6 +31,7 @@ pub mod Effected
 pub mod Lockings
 pub mod Granted
 pub mod LockEnds
+pub mod Aside
 pub mod Endings
 pub mod Numbered
 pub mod PlainRows

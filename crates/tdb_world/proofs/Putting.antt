@@ -47,6 +47,9 @@ put_numbered xs who place x y counted there =
     subst (λ i. IsPut xs place y (slice_set xs i y)) (sym (by_number who place counted))
     (record { same_length = length-set xs place y; there = set_there xs place y (slice_get_within xs place x there); others = λ o ne. set_else xs place o y ne })
 
+pub others_put : (xs : List Opener) (who place : ℕ) (x y : Opener) → who ≡ place + 1 → slice_get xs place ≡ Some x → (o : ℕ) → o ≢ who - 1 → slice_get (slice_set xs (who - 1) y) o ≡ slice_get xs o
+others_put xs who place x y counted there o ne = (put_numbered xs who place x y counted there).others o (λ e. ne (e ∙ sym (by_number who place counted)))
+
 -- a job is given to the opener with a number
 pub assigned : (header : Header) (options : Options) (xs : List Opener) (table : List Piece) (who : ℕ) (c : Command) (size : ℕ) (x d : Opener) (job : Job)
     → IsFree (record { header = header; options = options; openers = xs; table = table }) who x → d ≡ slice_index_or xs (who - 1) d → command_in job ≡ law_command c

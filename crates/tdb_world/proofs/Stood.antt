@@ -133,14 +133,14 @@ in_chains f a xs known off e =
     let K = knows_in f a w.chain off w.opener.walk.cursor.stage (subst (λ p. Knows f a p w.opener.walk.cursor.stage) w.on (subst (CursorKnows f a) w.there (known w.place))) in
     (w.chain, K.0, K.1)
 
-module _ (f : Form) (options : Options) (xs : List Opener) (ps : List Piece) (a : List ℕ) (size who : ℕ) (x : Opener) (t : Task) (W : WorldStands f options xs ps a size) (B : HasTask xs who x t) where
-  -- a cursor holds the byte of its record
-  stands_held : (o : ℕ) (z : Opener) (chain off : ℕ) → slice_get xs o ≡ Some z → z.walk.cursor.place ≡ On chain off → 1 ≤ table_of ps (o + 1) off
-  stands_held o z chain off there on =
-      let whole = W.sound.agrees o off ∙ ap (λ y. holding f (own_at options y) (spot_at y) (task_at y) off) there in
-      let own : stand_held (spot_of z.walk.cursor.place) off ≡ 1 = ap (λ p. stand_held (spot_of p) off) on ∙ (rw (eq-eqb off off refl) refl) in
-      omega (arith, whole, own)
+-- a cursor holds the byte of its record
+pub stands_held : (f : Form) (options : Options) (xs : List Opener) (ps : List Piece) (a : List ℕ) (size : ℕ) → WorldStands f options xs ps a size → (o : ℕ) (z : Opener) (chain off : ℕ) → slice_get xs o ≡ Some z → z.walk.cursor.place ≡ On chain off → 1 ≤ table_of ps (o + 1) off
+stands_held f options xs ps a size W o z chain off there on =
+    let whole = W.sound.agrees o off ∙ ap (λ y. holding f (own_at options y) (spot_at y) (task_at y) off) there in
+    let own : stand_held (spot_of z.walk.cursor.place) off ≡ 1 = ap (λ p. stand_held (spot_of p) off) on ∙ (rw (eq-eqb off off refl) refl) in
+    omega (arith, whole, own)
 
+module _ (f : Form) (options : Options) (xs : List Opener) (ps : List Piece) (a : List ℕ) (size who : ℕ) (x : Opener) (t : Task) (W : WorldStands f options xs ps a size) (B : HasTask xs who x t) where
   -- a wipe that has had a step has all records locked, so no cursor stands on one
   wipe_alone : (d : Doing) → t.job ≡ Jobs.Plain d → d.command ≡ Wipe → 1 ≤ t.steps → (off : ℕ) → is_stood (spots_of xs) off ≡ true → ⊥
   wipe_alone d is wipes some off stood =
@@ -164,7 +164,7 @@ module _ (f : Form) (options : Options) (xs : List Opener) (ps : List Piece) (a 
             let bare = (allowed f W.sound.chains options x.live x.held (rest_of x.walk) well_held.counts (walk_well f x.held (own_of options x) (walk_of x.task) (steps_of x.task) x.walk.cursor (walk_there f options xs ps a size who x W B.there)) Wipe granted).0 in
             let shown = subst (λ y. is_some y.walk.shown ≡ true) z well.shown in
             false≢true (sym bare ∙ shown))
-        | inr ne ↦ (let one = stands_held w.place w.opener w.chain off w.there w.on in
+        | inr ne ↦ (let one = stands_held f options xs ps a size W w.place w.opener w.chain off w.there w.on in
             let room = W.sound.apart w.place who off ne in
             omega (arith, one, room, first, mine, its))
       ]

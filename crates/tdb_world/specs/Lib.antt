@@ -14,3 +14,4 @@ pub mod Finished
 pub mod Cursors
 pub mod Died
 pub mod Calm
+pub mod Aside

@@ -31,7 +31,7 @@ fn row_of_chain(chain: u32) -> LockRow
 }
 
 /// The lock of all records.
-fn row_of_all(kind: Kind) -> LockRow
+pub(crate) fn row_of_all(kind: Kind) -> LockRow
     ensures { result ≡ all_row kind }
 {
     LockRow {

@@ -1,6 +1,6 @@
 // The openers of one file.
 
-ghost use Rattle.std.specs.Prelude.{◌≡◌, ◌<◌, ◌≤◌, ◌+◌, ◌++◌, ◌∷◌, [], ℕ, List, length, IsTrue, IfSome, IfNone, IfOk, IfErr, OnOk, OnErr, None, ◌-◌, slice_get};
+ghost use Rattle.std.specs.Prelude.{◌≡◌, ◌≢◌, ◌<◌, ◌≤◌, ◌+◌, ◌++◌, ◌∷◌, [], ℕ, List, length, IsTrue, IfSome, IfNone, IfOk, IfErr, OnOk, OnErr, None, ◌-◌, ◌↔◌, slice_get};
 ghost use Rattle.tdb_disk.specs.Count.{HasCause};
 ghost use Rattle.tdb_space.specs.Form.{form_in};
 ghost use Rattle.tdb_space.specs.Frame.{Wrote};
@@ -18,6 +18,7 @@ ghost use Rattle.tdb_plays.specs.InLaw.{law_opener, law_command, law_turn};
 ghost use Rattle.tdb_world.specs.declared.job.Task.{Task};
 ghost use Rattle.tdb_world.specs.declared.opener.Opener.{Opener};
 ghost use Rattle.tdb_world.specs.Calm.{IsCalm};
+ghost use Rattle.tdb_world.specs.Aside.{IsBare, HoldsRecords, AreFree, AreBarred};
 ghost use Rattle.tdb_world.specs.Given.{IsShortGiven, IsServed, IsWellHeld};
 ghost use Rattle.tdb_world.specs.Worlds.{fresh, state_in, law_of_task, Stands, BytesStand, IsNumber, IsFree, IsBusy, IsAssigned};
 
@@ -27,7 +28,7 @@ use crate::options::Options;
 use crate::telling::tell_unfinished;
 use std::alloc::{AllocError, Global};
 use std::marker::Model;
-use tdb_locks::{Locks, Spots, Turn};
+use tdb_locks::{Kind, LockRefusal, Locks, Spots, Turn};
 use tdb_plays::{Command, TurnReport};
 use tdb_space::{Io, Space};
 use tdb_words::Header;
@@ -269,6 +270,7 @@ impl Openers {
             → Turned (form_in self.old.header) (state_in self.old (S.image s.old)) (law_opener who) (law_of_task t) (law_turn turn) (state_in self.new (S.image s.new))) }
         ensures calm { IsCalm S.Space s.old s.new self.old.table (law_opener who) }
         ensures busy { IfOk result (λ turn. turn ≡ Turn.Step → (x : Opener) × (t : Task) × IsBusy self.new who x t) }
+        ensures others { (o : ℕ) → o ≢ law_opener who → slice_get self.new.openers o ≡ slice_get self.old.openers o }
         ensures header { self.new.header ≡ self.old.header }
         ensures options { self.new.options ≡ self.old.options }
         ensures longer { S.size s.old ≤ S.size s.new }
@@ -292,6 +294,75 @@ impl Openers {
             return opener.walk_turn(*alloc, s, locks, who, spots, walking, options.read_only);
         }
         opener.turn(*alloc, s, locks, who, spots, options, header)
+    }
+
+    /// Whether the opener with this number is live, and has no command, no cursor, and no explicit lock but one of all records.
+    pub fn is_bare(&self, who: u32) -> bool
+        ensures { IsTrue result ↔ ((x : Opener) × IsNumber self.now who x × IsBare x) }
+    {
+        match self.opener(who) {
+            Some(opener) => opener.is_bare(),
+            None => false,
+        }
+    }
+
+    /// Locks all records for an opener, as `lock_records` does.
+    fn claim_records(&mut self, who: u32, kind: Kind) -> Result<(), LockRefusal>
+        requires bare { (x : Opener) × IsNumber self.old who x × IsBare x }
+        requires stands { (img : List ℕ) × (size : ℕ) × Stands self.old img size }
+        ensures taken { OnOk result ((x : Opener) → IsNumber self.old who x → HoldsRecords self.old who x (Some (kind, 1)) self.new) }
+        ensures free { OnOk result (AreFree self.old who kind) }
+        ensures barred { IfErr result (AreBarred self.old who kind) }
+        ensures err { OnErr result (self.new ≡ self.old) }
+        ensures header { self.new.header ≡ self.old.header }
+        ensures options { self.new.options ≡ self.old.options }
+    {
+        let Openers { locks, list, .. } = self;
+        let Some(opener) = list.get_mut(who as usize - 1) else {
+            unreachable!();
+        };
+        opener.lock_records(locks, who, kind)
+    }
+
+    /// Locks all records for an opener that has no command, no cursor, and no explicit lock but that of all records, whose
+    /// kind is this one then; it was taken once. So a second call raises or lowers it.
+    ///
+    /// `Conflict` is the first one, and `Memory` says that it is wanting. After both nothing has changed.
+    ///
+    /// Cost: a pass over the lock table.
+    pub fn lock_records(&mut self, who: u32, kind: Kind) -> Result<(), LockRefusal>
+        requires bare { (x : Opener) × IsNumber self.old who x × IsBare x }
+        requires stands { (img : List ℕ) × (size : ℕ) × Stands self.old img size }
+        ensures taken { OnOk result ((x : Opener) → IsNumber self.old who x → HoldsRecords self.old who x (Some (kind, 1)) self.new) }
+        ensures free { OnOk result (AreFree self.old who kind) }
+        ensures barred { IfErr result (AreBarred self.old who kind) }
+        ensures err { OnErr result (self.new ≡ self.old) }
+        ensures stands { (img : List ℕ) (size : ℕ) → Stands self.old img size → Stands self.new img size }
+        ensures bytes { (img : List ℕ) → BytesStand self.old img → BytesStand self.new img }
+        ensures header { self.new.header ≡ self.old.header }
+        ensures options { self.new.options ≡ self.old.options }
+    {
+        self.claim_records(who, kind)
+    }
+
+    /// Lets go of all records for an opener that has no command, no cursor, and no explicit lock but that of all records. It
+    /// takes no memory.
+    ///
+    /// Cost: a search in the lock table.
+    pub fn let_go_of_records(&mut self, who: u32)
+        requires bare { (x : Opener) × IsNumber self.old who x × IsBare x }
+        requires stands { (img : List ℕ) × (size : ℕ) × Stands self.old img size }
+        ensures let_go { (x : Opener) → IsNumber self.old who x → HoldsRecords self.old who x None self.new }
+        ensures stands { (img : List ℕ) (size : ℕ) → Stands self.old img size → Stands self.new img size }
+        ensures bytes { (img : List ℕ) → BytesStand self.old img → BytesStand self.new img }
+        ensures header { self.new.header ≡ self.old.header }
+        ensures options { self.new.options ≡ self.old.options }
+    {
+        let Openers { locks, list, .. } = self;
+        let Some(opener) = list.get_mut(who as usize - 1) else {
+            unreachable!();
+        };
+        opener.let_go_of_records(locks, who);
     }
 
     /// Tells at the end of a report which openers have a command that isn't done, in order of number.

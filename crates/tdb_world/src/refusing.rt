@@ -18,7 +18,7 @@ use tdb_plays::Command;
 use tdb_words::{Bytes, Header};
 
 /// Whether a chain is held explicitly.
-fn has_chains(held: &Held) -> bool
+pub(crate) fn has_chains(held: &Held) -> bool
     ensures { result ≡ holds_chains held.now }
 {
     let all = match held.all() {

@@ -2,4 +2,6 @@
 #![tactic(auto)]
 
 #[cfg(test)]
+mod claims;
+#[cfg(test)]
 mod plays;

@@ -1,5 +1,5 @@
 -- A turn of the opener with the number is a turn of the world.
-use Rattle.std.proofs.Common.{◌≡◌, ◌+◌, ◌-◌, ℕ, set, slice_set, IsTrue, sym, ap, subst, ◌∙◌, arith}
+use Rattle.std.proofs.Common.{◌≡◌, ◌+◌, ◌-◌, ℕ, set, slice_get, slice_set, IsTrue, sym, ap, subst, ◌∙◌, arith}
 use Rattle.tdb_space.specs.Form.{form_in}
 use Rattle.tdb_world.specs.Laws.{MayStand, other_hands}
 use Rattle.tdb_law.specs.Turned.{Turned}
@@ -12,7 +12,7 @@ use Rattle.tdb_world.specs.Turning.{resting, OpenerHolds, ImageBefore}
 use Rattle.tdb_world.specs.Calm.{WritesNoRecord}
 use Rattle.tdb_world.specs.Openers.{rest_of, own_of, command_in}
 use Rattle.tdb_cursors.specs.Spots.{spot_number}
-use Rattle.tdb_world.proofs.Putting.{spots_still}
+use Rattle.tdb_world.proofs.Putting.{others_put, spots_still}
 use Rattle.tdb_world.proofs.Stepping.{Locked, Filed, ok_so, ok_both, stands_before, holds_before, task_busy, busy_after, image_before, world_after, file_after, turned_after}
 use Rattle.std.specs.Option.{option_map}
 use Rattle.tdb_world.specs.Openers.{walk_command}
@@ -262,3 +262,14 @@ returns-in-Some-walking-clause-calm g c calm =
     (subst (λ w. Stands w (g.S.Space.image c.args.s.now) (g.S.Space.size c.args.s.now)) (sym e) c.requires.stands) (walk_command c.in-Some-walking.walking)
     (sym c.walking.ensures ∙ ap (option_map walk_command) c.in-Some-walking.is)
     (subst (λ w. WritesNoRecord w.table (law_opener c.args.who)) (sym e) calm))
+
+-- The other openers stay.
+pub returns-clause-others : goal.returns-clause-others
+returns-clause-others g c o ne =
+    let N = c.requires.busy.2.number in
+    others_put c.self.inside.list.items c.args.who N.place c.requires.busy.0 c.turn.new.self N.counted (ap (λ w. slice_get w.openers N.place) c.self.view_is ∙ N.there) o ne ∙ ap (λ w. slice_get w.openers o) c.self.view_is
+
+pub returns-in-Some-walking-clause-others : goal.returns-in-Some-walking-clause-others
+returns-in-Some-walking-clause-others g c o ne =
+    let N = c.requires.busy.2.number in
+    others_put c.self.inside.list.items c.args.who N.place c.requires.busy.0 c.walk_turn.new.self N.counted (ap (λ w. slice_get w.openers N.place) c.self.view_is ∙ N.there) o ne ∙ ap (λ w. slice_get w.openers o) c.self.view_is
