@@ -32,6 +32,7 @@ pub mod Lockings
 pub mod Granted
 pub mod LockEnds
 pub mod Aside
+pub mod Images
 pub mod Endings
 pub mod Numbered
 pub mod PlainRows

@@ -1,5 +1,6 @@
 // The laws that lift what an opener does to the world.
 
+ghost use Rattle.tdb_world.specs.Aside.{ImageKeepsWorld, ImageKeepsFile, LockKeepsFile};
 ghost use Rattle.tdb_world.specs.Laws.{EmptyFileStands, EmptyIsLoaded, EmptyStands};
 ghost use Rattle.tdb_world.specs.Laws.{JoinJoins, JoinKeepsFile, JoinKeepsWorld};
 ghost use Rattle.tdb_world.specs.Laws.{GiftIsGiven, GiftKeepsFile, GiftKeepsWorld};
@@ -50,6 +51,15 @@ pub fn image_is_ready()
 /// beside a wipe that has locked all records there is none. The law is over all worlds; the function does nothing.
 pub fn cursors_are_beside()
     ensures law { CursorsAreBeside }
+{}
+
+/// A world stands over any bytes of its file, which may be longer. Where no opener's command has locked a record, and no
+/// cursor stands on one, the bytes of any accepted image stand: so they do while an opener that has nothing else holds all
+/// records for writing. The law is over all worlds and images; the function does nothing.
+pub fn image_is_replaced()
+    ensures world { ImageKeepsWorld }
+    ensures file { ImageKeepsFile }
+    ensures locked { LockKeepsFile }
 {}
 
 /// A turn that does to the lock table what its row allows leaves a world that stands, whatever the bytes of the file

@@ -27,7 +27,7 @@ mod walking;
 
 pub use crate::fault::RunFault;
 pub use crate::laws::{
-    cursors_are_beside, empty_stands, gift_stands, image_is_ready, join_stands,
+    cursors_are_beside, empty_stands, gift_stands, image_is_ready, image_is_replaced, join_stands,
     keys_are_counted, opener_is_ready, report_is_lawful, turn_is_turned, turn_keeps_file,
     turn_keeps_world, walk_is_turned, walk_keeps_file, walk_keeps_world,
 };
