@@ -1,12 +1,10 @@
 -- An opener without a command that takes all records, or lets go of them: it holds nothing else, and the world stands as before.
-use Rattle.std.proofs.Common.{◌≡◌, ◌≢◌, ℕ, ◌+◌, ◌-◌, ◌<◌, ◌≤◌, max, List, length, slice_get, Bool, true, false, nat_lt, sum, Option, Some, None, is_some, slice_index_or, slice_set, Result, Ok, Err, OnOk, OnErr, IfErr, refl, sym, ◌∙◌, ap, subst, inl, inr, arith, le_refl}
+use Rattle.std.proofs.Common.{◌≡◌, ◌≢◌, ℕ, ◌+◌, ◌-◌, ◌<◌, ◌≤◌, max, List, slice_get, Bool, true, false, nat_lt, sum, Option, Some, None, is_some, slice_index_or, slice_set, Result, Ok, Err, OnOk, OnErr, IfErr, refl, sym, ◌∙◌, ap, subst, inl, inr, arith, le_refl}
 use Rattle.std.specs.Prelude.{IfSome, if◌then◌else◌}
-use Rattle.std.proofs.lemmas.Bool.{cases_Bool, cases_eq}
+use Rattle.std.proofs.lemmas.Bool.{cases_Bool}
 use Rattle.std.proofs.lemmas.Bool.Decides.{nat_tests}
 use Rattle.std.specs.Map.{values_of}
 use Rattle.tdb_space.specs.Form.{Form, form_in}
-use Rattle.tdb_space.specs.Pairs.{joined}
-use Rattle.tdb_space.specs.Accepted.{AcceptWith}
 use Rattle.tdb_locks.specs.HeldLocks.{HeldLocks, AreCounts, nothing_held}
 use Rattle.tdb_locks.specs.LockTable.{ChangesRange, held}
 use Rattle.tdb_locks.specs.LockTable as Table
@@ -35,14 +33,13 @@ use Rattle.tdb_world.specs.Turning.{law_table}
 use Rattle.tdb_world.specs.Worlds.{World, IsNumber, Stands, BytesStand}
 use Rattle.tdb_world.specs.declared.opener.Opener.{Opener}
 use Rattle.tdb_world.specs.declared.options.Options.{Options}
-use Rattle.tdb_world.proofs.AllHands.{joined_same}
 use Rattle.tdb_world.proofs.Beside.{all_alone}
 use Rattle.tdb_world.proofs.Granted.{none_held_there}
 use Rattle.tdb_world.proofs.Putting.{by_number, numbered, put_numbered}
 use Rattle.tdb_world.proofs.Replacing.{at_each, file_set, hands_set}
 use Rattle.tdb_world.proofs.Rests.{spot_rests, walk_rests, walk_still, walk_well}
 use Rattle.tdb_world.proofs.Shifted.{at_most_two, free_law, first_law}
-use Rattle.tdb_world.proofs.Standing.{world_set}
+use Rattle.tdb_world.proofs.Standing.{IsSet, put_set, world_set}
 use Rattle.tdb_world.proofs.Stood.{injected, place_entry, same_spots}
 
 -- a lock of all records is of this many bytes, and holds nothing elsewhere
@@ -149,7 +146,7 @@ module _ (f : Form) (options : Options) (xs : List Opener) (ps : List Piece) (a 
 -- the bytes stand too, since commands and cursors are those that were there
 module _ (f : Form) (xs ys : List Opener) (a : List ℕ) (who : ℕ) (x : Opener) (all : Option (Kind × ℕ)) (there : slice_get xs who ≡ Some x) (P : IsPut xs who (with_records x all) ys) where
   set : IsSet xs who (with_records x all) ys
-  set = put_set xs who (with_records x all) ys P
+  set = put_set xs ys who (with_records x all) P
 
   same_entries : spots_of ys ≡ spots_of xs
   same_entries = same_spots xs ys (at_each xs ys who (with_records x all) set (λ o z. place_entry z ≡ place_entry (slice_get xs o)) (sym (ap place_entry there)) (λ o ne. refl))

@@ -1,5 +1,5 @@
 -- A command that is given: its opener holds what it held, and no record yet.
-use Rattle.std.proofs.Common.{Bool, true, false, is_some, Option, ◌≡◌, ℕ, ◌+◌, ◌≤◌, max, List, [], length, slice_get, Some, None, refl, sym, ◌∙◌, ap, subst, inl, inr, arith, le_refl}
+use Rattle.std.proofs.Common.{true, false, is_some, Option, ◌≡◌, ℕ, ◌+◌, ◌≤◌, max, List, length, slice_get, Some, None, refl, sym, ◌∙◌, ap, subst, le_refl}
 use Rattle.tdb_space.specs.Form.{Form}
 use Rattle.tdb_space.specs.Pairs.{joined}
 use Rattle.tdb_law.specs.Openers.{Own, Spot}
@@ -22,18 +22,16 @@ use Rattle.tdb_walk.specs.declared.stage.Stage.{Stage as CursorStage}
 use Rattle.tdb_walk.specs.InLaw.{StandsAfter, is_before}
 use Rattle.tdb_walk.specs.Again.{RestsAt}
 use Rattle.tdb_walk.proofs.Again.{cursor_begins}
-use Rattle.tdb_world.specs.Openers.{rest_of, own_of, own_with, own_at, spot_by, walk_command, walk_in, walk_of, steps_of, MayAsk, WalkAfter, spot_at, place_at, spots_of, task_at, command_in, law_task, hands_of_job, hands_of_task, hands_at, JobStands, TaskStands, OpenerStands, WalkStands, JobKnows, TaskKnows}
+use Rattle.tdb_world.specs.Openers.{rest_of, own_of, own_with, own_at, spot_by, walk_command, walk_in, walk_of, steps_of, MayAsk, WalkAfter, spot_at, place_at, spots_of, task_at, command_in, law_task, hands_of_task, hands_at, JobStands, TaskStands, OpenerStands, WalkStands, TaskKnows}
 use Rattle.tdb_world.specs.States.{state_of}
 use Rattle.tdb_world.specs.Laws.{IsGiven, GiftKeepsWorld, GiftKeepsFile, GiftIsGiven}
 use Rattle.tdb_world.proofs.Standing.{Holds, IsSet, put_set, world_set, held_still}
 use Rattle.tdb_walk.specs.Cursors.{At, Knows}
 use Rattle.tdb_cursors.specs.Spots.{spot_number}
-use Rattle.tdb_world.specs.Cursors.{is_stood, CursorKnows, StageSpares, JobSpares, TaskSpares, StandApart, cursor_at}
+use Rattle.tdb_world.specs.Cursors.{is_stood, CursorKnows, TaskSpares, StandApart, cursor_at}
 use Rattle.tdb_world.proofs.Stood.{place_entry, same_spots}
 use Rattle.tdb_world.proofs.Rests.{walk_rests}
 use Rattle.tdb_world.proofs.Replacing.{at_each, hands_set, file_set}
-use Rattle.tdb_world.proofs.Busy.{hand_frees, looked_writes, listed_writes, taken_writes}
-use Rattle.tdb_world.proofs.AllHands.{joined_same}
 use Rattle.tdb_world.proofs.Begun.{bare_hands, bare_knows, bare_spares}
 
 -- the opener has what it had
