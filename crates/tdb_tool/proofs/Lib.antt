@@ -6,7 +6,7 @@ pub mod PartLemmas
 pub mod Plays
 pub mod Moves
 pub mod FewPairs
-pub mod Endless
+pub mod WalkEnds
 pub mod Lists
 pub mod PartsRan
 pub mod Sessions

@@ -25,9 +25,9 @@ use Rattle.tdb_tool.specs.declared.fault.SessionFault.{SessionFault}
 use Rattle.tdb_tool.specs.declared.fault.SessionFault.TheVariants as F
 use Rattle.tdb_tool.specs.Parts.{Listed, move, Going, AllDone, AllCame}
 use Rattle.tdb_tool.specs.Replies.{ends_with_pair, tells_pair, tell_pair, line_text, lines_text}
-use Rattle.tdb_tool.specs.Serving.{Deed, Scene, Led, Ran, PlayDone, PlayBegun, Played}
+use Rattle.tdb_tool.specs.Serving.{fault_of, Deed, Scene, Led, Ran, PlayDone, PlayBegun, Played}
 use Rattle.tdb_tool.proofs.Coming.{Follows, led_on, led_but_input}
-use Rattle.tdb_tool.proofs.Endless.{move_at, Moved as LawMoved, moves_fit}
+use Rattle.tdb_tool.proofs.WalkEnds.{move_at, Moved as LawMoved, moves_fit}
 use Rattle.tdb_tool.proofs.Moves.{ends_pair, shows, sight}
 use Rattle.tdb_tool.proofs.PartLemmas.{one_done, one_begun}
 
@@ -70,23 +70,20 @@ module _ (disk_tells told : Bool) (listing : Listing) where
   SoFar n start now = Led disk_tells told (Moved listing n) Came start now None
 
   module _ (n : ℕ) (start mid now : Scene) (so_far : SoFar n start mid) (play : Play) (is : play ≡ move n) where
-    the_move : (answer : Result Bool SessionFault) (fault : Option SessionFault) → Played disk_tells told mid now play (Some listing) answer fault → Played disk_tells told mid now (move n) (Some listing) answer fault
-    the_move answer fault p = subst (λ m. Played disk_tells told mid now m (Some listing) answer fault) is p
+    behind : (answer : Result Bool SessionFault) (both : Deed) → Follows (Moved listing n) (PlayDone (move n) (Some listing) answer) both → Played disk_tells told mid now play (Some listing) answer → Led disk_tells told both Came start now (fault_of answer)
+    behind answer both follows p =
+        led_on disk_tells told (Moved listing n) Came (PlayDone (move n) (Some listing) answer) (PlayBegun (move n) (Some listing)) both Came follows (list_breaks listing n) start mid now so_far (fault_of answer)
+        (subst (λ m. Played disk_tells told mid now m (Some listing) answer) is p)
 
-    behind : (answer : Result Bool SessionFault) (both : Deed) (fault : Option SessionFault) → Follows (Moved listing n) (PlayDone (move n) (Some listing) answer) both → Played disk_tells told mid now play (Some listing) answer fault
-        → Led disk_tells told both Came start now fault
-    behind answer both fault follows p =
-        led_on disk_tells told (Moved listing n) Came (PlayDone (move n) (Some listing) answer) (PlayBegun (move n) (Some listing)) both Came follows (list_breaks listing n) start mid now so_far fault (the_move answer fault p)
+    pub list_on : (pair : Bool) → pair ≡ true → Played disk_tells told mid now play (Some listing) (Ok pair) → SoFar (n + 1) start now
+    list_on pair gave p = subst (λ m. SoFar m start now) (sym (add-one n)) (behind (Ok pair) (Moved listing (suc n)) (subst (λ b. Follows (Moved listing n) (PlayDone (move n) (Some listing) (Ok b)) (Moved listing (suc n))) (sym gave) (one_more listing n)) p)
 
-    pub list_on : (pair : Bool) → pair ≡ true → Played disk_tells told mid now play (Some listing) (Ok pair) None → SoFar (n + 1) start now
-    list_on pair gave p = subst (λ m. SoFar m start now) (sym (add-one n)) (behind (Ok pair) (Moved listing (suc n)) None (subst (λ b. Follows (Moved listing n) (PlayDone (move n) (Some listing) (Ok b)) (Moved listing (suc n))) (sym gave) (one_more listing n)) p)
+    pub list_end : (pair : Bool) → pair ≡ false → Played disk_tells told mid now play (Some listing) (Ok pair) → Ran disk_tells told start now (Listed listing ∷ []) None
+    list_end pair gave_none p =
+        behind (Ok pair) (AllDone (Listed listing ∷ [])) (subst (λ b. Follows (Moved listing n) (PlayDone (move n) (Some listing) (Ok b)) (AllDone (Listed listing ∷ []))) (sym gave_none) (list_ends listing n)) p
 
-    pub list_end : (pair : Bool) → pair ≡ false → Played disk_tells told mid now play (Some listing) (Ok pair) None → Ran disk_tells told start now (Listed listing ∷ []) None
-    list_end pair no_more p =
-        behind (Ok pair) (AllDone (Listed listing ∷ [])) None (subst (λ b. Follows (Moved listing n) (PlayDone (move n) (Some listing) (Ok b)) (AllDone (Listed listing ∷ []))) (sym no_more) (list_ends listing n)) p
-
-    pub list_broke : (fault : SessionFault) → (fault ≡ F.Input → ⊥) → Played disk_tells told mid now play (Some listing) (Err fault) (Some fault) → Ran disk_tells told start now (Listed listing ∷ []) (Some fault)
-    list_broke fault other p = led_but_input disk_tells told Came (AllDone (Listed listing ∷ [])) Came start now fault other (behind (Err fault) Came (Some fault) (last_begun listing n (Err fault)) p)
+    pub list_broke : (fault : SessionFault) → (fault ≡ F.Input → ⊥) → Played disk_tells told mid now play (Some listing) (Err fault) → Ran disk_tells told start now (Listed listing ∷ []) (Some fault)
+    list_broke fault other p = led_but_input disk_tells told Came (AllDone (Listed listing ∷ [])) Came start now fault other (behind (Err fault) Came (last_begun listing n (Err fault)) p)
 
 -- lines tell a pair where they do in the words of the law
 line_shows : (line : Line) → shows (law_line line) ≡ tells_pair line

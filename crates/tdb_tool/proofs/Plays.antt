@@ -22,7 +22,7 @@ use Rattle.tdb_tool.specs.declared.fault.SessionFault.{SessionFault}
 use Rattle.tdb_tool.specs.declared.order.Order.{Order}
 use Rattle.tdb_tool.specs.Parts.{Silent, Told, doing, part_of, AllDone, AllCame}
 use Rattle.tdb_tool.specs.Replies.{lines_text, tell_pair}
-use Rattle.tdb_tool.specs.Serving.{of_run, of_write, Deed, Scene, scene, Led, Ran, PlayDone, PlayBegun, Played}
+use Rattle.tdb_tool.specs.Serving.{of_run, of_write, fault_of, Deed, Scene, scene, Led, Ran, PlayDone, PlayBegun, Played}
 use Rattle.tdb_tool.proofs.Coming.{IsToo, led_as}
 use Rattle.tdb_tool.proofs.PartLemmas.{one_done, one_begun}
 
@@ -104,7 +104,7 @@ module _ (disk_tells told : Bool) (a b : World) (x y : List ℕ) (size longer fa
 
     module _ (listing : Option Listing) (now : List ℕ) where
       -- and its text was written
-      pub play_told : (IsTrue told → now ≡ written ++ lines_text listing lines) → (pair : Bool) → pair ≡ tell_pair lines → Played disk_tells told (scene a x size faults written) (scene b y longer later now) play listing (Ok pair) None
+      pub play_told : (IsTrue told → now ≡ written ++ lines_text listing lines) → (pair : Bool) → pair ≡ tell_pair lines → Played disk_tells told (scene a x size faults written) (scene b y longer later now) play listing (Ok pair)
       play_told all pair tells = record {
         header = header;
         options = options;
@@ -117,13 +117,13 @@ module _ (disk_tells told : Bool) (a b : World) (x y : List ℕ) (size longer fa
       }
 
       -- or a front of it
-      pub play_untold : (refusal : WriteRefusal) → (IsTrue told → WroteFront written (lines_text listing lines) now) → Played disk_tells told (scene a x size faults written) (scene b y longer later now) play listing (Err (of_write refusal)) (Some (of_write refusal))
+      pub play_untold : (refusal : WriteRefusal) → (IsTrue told → WroteFront written (lines_text listing lines) now) → Played disk_tells told (scene a x size faults written) (scene b y longer later now) play listing (Err (of_write refusal))
       play_untold refusal front = of refusal
         where
           runs : Knows ((ls : List Line) × (text : List ℕ) × PlayBegun play listing (form_in a.header) (state_in a x) ls text (state_in b y) × (IsTrue told → WroteFront written text now))
           runs heard known = (lines, lines_text listing lines, (inr (gave heard known), refl), front)
 
-          of : (refusal : WriteRefusal) → Played disk_tells told (scene a x size faults written) (scene b y longer later now) play listing (Err (of_write refusal)) (Some (of_write refusal))
+          of : (refusal : WriteRefusal) → Played disk_tells told (scene a x size faults written) (scene b y longer later now) play listing (Err (of_write refusal))
           of Untold.Failed = record { header = header; options = options; stands = stands; rises = rises; quiet = quiet; bytes = bytes; runs = runs; rose = λ heard known. tt }
           of Untold.Memory = record { header = header; options = options; stands = stands; rises = rises; quiet = quiet; bytes = bytes; runs = runs; rose = λ heard known. tt }
 
@@ -145,9 +145,8 @@ module _ (disk_tells told : Bool) (old new : Scene) where
       subst (λ t. AllCame (Told play ∷ []) f a lines t b) (sym u) (one_begun f (Told play) a b lines (record { count = 0; mid = a; front = []; rest = lines; lines_cut = refl; going = (refl, refl); last = last }))
 
   -- so is the play of an order that takes a command
-  pub play_ordered : (order : Order) (command : Command) (play : Play) → order ≡ Order.Take command → play ≡ doing command → (answer : Result Bool SessionFault) (fault : Option SessionFault) → Played disk_tells told old new play None answer fault
-      → Ran disk_tells told old new (part_of order) fault
-  play_ordered order command play is this answer fault p =
-      subst (λ o. Ran disk_tells told old new (part_of o) fault) (sym is)
-      (subst (λ q. Ran disk_tells told old new (Told q ∷ []) fault) this
-      (led_as disk_tells told (PlayDone play None answer) (PlayBegun play None) (AllDone (Told play ∷ [])) (AllCame (Told play ∷ [])) (told_done play answer) (told_begun play) old new fault p))
+  pub play_ordered : (order : Order) (command : Command) (play : Play) → order ≡ Order.Take command → play ≡ doing command → (answer : Result Bool SessionFault) → Played disk_tells told old new play None answer → Ran disk_tells told old new (part_of order) (fault_of answer)
+  play_ordered order command play is this answer p =
+      subst (λ o. Ran disk_tells told old new (part_of o) (fault_of answer)) (sym is)
+      (subst (λ q. Ran disk_tells told old new (Told q ∷ []) (fault_of answer)) this
+      (led_as disk_tells told (PlayDone play None answer) (PlayBegun play None) (AllDone (Told play ∷ [])) (AllCame (Told play ∷ [])) (told_done play answer) (told_begun play) old new (fault_of answer) p))

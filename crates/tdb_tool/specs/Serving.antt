@@ -98,19 +98,20 @@ pub record Led (disk_tells output_tells : Bool) (whole part : Deed) (old new : S
       → RunsTo whole part (form_in old.world.header) (state_in old.world old.image) (state_in new.world new.image) output_tells old.written new.written answer
   pub rose : IsTrue disk_tells → BytesStand old.world old.image → OnBroken answer (Rose old.faults new.faults)
 
--- parts of a session did
+-- Parts of a session were done, as far as they came.
 abbrev pub Ran : (disk_tells output_tells : Bool) (old new : Scene) → List Part → Option SessionFault → Type 0
 Ran d o old new parts answer = Led d o (AllDone parts) (AllCame parts) old new answer
 
--- one play did, of whose lines so much is printed; it tells whether it gave a pair
+-- A play was taken, and its text printed, where pairs are listed so or aren't; the answer tells whether it gave a pair. Or
+-- it was begun.
 abbrev pub PlayDone : Play → Option Listing → Result Bool SessionFault → Deed
 PlayDone play listing answer f old lines text new = Gives f old (law_play play) (law_lines lines) new × (text ≡ lines_text listing lines) × IfOk answer (λ pair. pair ≡ tell_pair lines)
 
 abbrev pub PlayBegun : Play → Option Listing → Deed
 PlayBegun play listing f old lines text new = PlaysLast f old (law_play play) (law_lines lines) new × (text ≡ lines_text listing lines)
 
-abbrev pub Played : (disk_tells output_tells : Bool) (old new : Scene) → Play → Option Listing → Result Bool SessionFault → Option SessionFault → Type 0
-Played d o old new play listing answer fault = Led d o (PlayDone play listing answer) (PlayBegun play listing) old new fault
+abbrev pub Played : (disk_tells output_tells : Bool) (old new : Scene) → Play → Option Listing → Result Bool SessionFault → Type 0
+Played d o old new play listing answer = Led d o (PlayDone play listing answer) (PlayBegun play listing) old new (fault_of answer)
 
 -- What the next lines ask for was done, and the others are left, of which the first begins at the next place; or the
 -- session ends before them; or what was asked for broke off.

@@ -68,7 +68,7 @@ fn take_play<S: Space, K: Sink>(
     requires spare { (view : S) → S.spare view ≡ without_bound }
     requires served { IsServedPlay play }
     ensures played { Played S.tells K.tells (scene openers.old (S.image space.old) (S.size space.old) (S.faults space.old) (K.written output.old))
-        (scene openers.new (S.image space.new) (S.size space.new) (S.faults space.new) (K.written output.new)) play listing result (fault_of result) }
+        (scene openers.new (S.image space.new) (S.size space.new) (S.faults space.new) (K.written output.new)) play listing result }
     ensures wrote { Wrote S.Space space.old space.new }
     ensures fault { IfErr result (λ e. e ≢ FaultIs.Input) }
     ensures cause { HasCauseOf FaultIs.Output (K.faults output.old) (K.faults output.new) result }
@@ -91,8 +91,7 @@ fn list_move(moves: u32) -> Play
 }
 
 /// Lists all pairs: takes First, and then Next up to a move that gives no pair, and prints each pair before the next move.
-/// No move gives no pair only where the bytes of the file change by themselves: then it takes so many moves as there may
-/// be.
+/// Where the bytes of the file change by themselves a walk might never end: the list is cut off then.
 fn take_list<S: Space, K: Sink>(
     alloc: Global,
     openers: &mut Openers,

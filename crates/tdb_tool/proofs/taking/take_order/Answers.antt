@@ -1,4 +1,4 @@
-use Rattle.std.proofs.Common.{Ok, Err, None, Some, sym, subst}
+use Rattle.std.proofs.Common.{Ok, Err, None, sym, subst}
 use Rattle.std.proofs.lemmas.Result.{err_from_is_err_and}
 use Rattle.tdb_tool.specs.Parts.{part_of}
 use Rattle.tdb_tool.specs.Serving.{scene, Ran}
@@ -10,14 +10,13 @@ use Rattle.tdb_tool.proofs.taking.take_order.Goals as goal
 pub returns-in_err-take_play-in-Take-clause-ran : goal.returns-in_err-take_play-in-Take-clause-ran
 returns-in_err-take_play-in-Take-clause-ran g c =
     let q = err_from_is_err_and c.from_residual.result c.from_residual.ensures.1 in
-    let fault = c.in_err-take_play-in-Take.field-0.0 in
     rw (q.1, q.2)
-    (play_ordered g.S.Space.tells g.K.Sink.tells (scene c.args.openers.now (g.S.Space.image c.args.space.now) (g.S.Space.size c.args.space.now) (g.S.Space.faults c.args.space.now) (g.K.Sink.written c.args.output.now)) (scene c.take_play.new.openers (g.S.Space.image c.take_play.new.space) (g.S.Space.size c.take_play.new.space) (g.S.Space.faults c.take_play.new.space) (g.K.Sink.written c.take_play.new.output)) c.args.order c.in-Take.command c.doing.result c.in-Take.is c.doing.ensures (Err fault) (Some fault) c.in_err-take_play-in-Take.ensures.played)
+    (play_ordered g.S.Space.tells g.K.Sink.tells (scene c.args.openers.now (g.S.Space.image c.args.space.now) (g.S.Space.size c.args.space.now) (g.S.Space.faults c.args.space.now) (g.K.Sink.written c.args.output.now)) (scene c.take_play.new.openers (g.S.Space.image c.take_play.new.space) (g.S.Space.size c.take_play.new.space) (g.S.Space.faults c.take_play.new.space) (g.K.Sink.written c.take_play.new.output)) c.args.order c.in-Take.command c.doing.result c.in-Take.is c.doing.ensures (Err c.in_err-take_play-in-Take.field-0.0) c.in_err-take_play-in-Take.ensures.played)
 
 -- it was taken
 pub returns-in_ok-take_play-in-Take-clause-ran : goal.returns-in_ok-take_play-in-Take-clause-ran
 returns-in_ok-take_play-in-Take-clause-ran g c =
-    play_ordered g.S.Space.tells g.K.Sink.tells (scene c.args.openers.now (g.S.Space.image c.args.space.now) (g.S.Space.size c.args.space.now) (g.S.Space.faults c.args.space.now) (g.K.Sink.written c.args.output.now)) (scene c.take_play.new.openers (g.S.Space.image c.take_play.new.space) (g.S.Space.size c.take_play.new.space) (g.S.Space.faults c.take_play.new.space) (g.K.Sink.written c.take_play.new.output)) c.args.order c.in-Take.command c.doing.result c.in-Take.is c.doing.ensures (Ok c.in_ok-take_play-in-Take.field-0) None c.in_ok-take_play-in-Take.ensures.played
+    play_ordered g.S.Space.tells g.K.Sink.tells (scene c.args.openers.now (g.S.Space.image c.args.space.now) (g.S.Space.size c.args.space.now) (g.S.Space.faults c.args.space.now) (g.K.Sink.written c.args.output.now)) (scene c.take_play.new.openers (g.S.Space.image c.take_play.new.space) (g.S.Space.size c.take_play.new.space) (g.S.Space.faults c.take_play.new.space) (g.K.Sink.written c.take_play.new.output)) c.args.order c.in-Take.command c.doing.result c.in-Take.is c.doing.ensures (Ok c.in_ok-take_play-in-Take.field-0) c.in_ok-take_play-in-Take.ensures.played
 
 -- nothing is done to quit
 pub returns-in-Quit-clause-ran : goal.returns-in-Quit-clause-ran
