@@ -102,21 +102,25 @@ pub(crate) fn command(alloc: Global, word: Word) -> Result<Plain, AllocError>
     }
 }
 
-/// What is told of a reply: a word for it, and two numbers: of a value its first byte and its length.
+/// What is told of a reply: a word for it, and two numbers: of a value its first byte and its length, of a pair the first
+/// bytes of its key and its value.
 pub(crate) type Told = (&'static str, u64, u64);
+
+/// The first byte, and 0 where there is none.
+fn first(bytes: &Bytes) -> u64 {
+    match bytes.as_slice().first() {
+        Some(byte) => u64::from(*byte),
+        None => 0,
+    }
+}
 
 /// What is told of an answer.
 pub(crate) fn told(answer: &Result<Reply, Io>) -> Told {
     match answer {
         Ok(Reply::Ok) => ("ok", 0, 0),
-        Ok(Reply::Value(value)) => {
-            let bytes = value.as_slice();
-            let first = match bytes.first() {
-                Some(byte) => u64::from(*byte),
-                None => 0,
-            };
-            ("value", first, bytes.len() as u64)
-        }
+        Ok(Reply::Value(value)) => ("value", first(value), value.as_slice().len() as u64),
+        Ok(Reply::Pair(key, value)) => ("pair", first(key), first(value)),
+        Ok(Reply::End) => ("end", 0, 0),
         Ok(Reply::KeyMissing) => ("noexist", 0, 0),
         Ok(Reply::KeyThere) => ("exists", 0, 0),
         Ok(Reply::Doomed) => ("doomed", 0, 0),
@@ -131,6 +135,21 @@ pub(crate) fn told(answer: &Result<Reply, Io>) -> Told {
     }
 }
 
+/// Does a command in the transaction, where the opener's cursor stands on one of these records, and tells its answer.
+pub(crate) fn play_beside(
+    alloc: Global,
+    own: &mut OwnTxn,
+    disk: &mut MemDisk,
+    word: Word,
+    stood_on: &Spots,
+) -> Result<Told, AllocError>
+    requires ready { (deep : ℕ) × IsReady own.old (memory_size disk.old) deep }
+    ensures ready { (deep : ℕ) → IsReady own.old (memory_size disk.old) deep → IsReady own.new (memory_size disk.new) deep }
+{
+    let command = command(alloc, word)?;
+    Ok(told(&own.run(alloc, disk, &HEADER, command, stood_on, LIMIT)))
+}
+
 /// Does a command in the transaction, and tells its answer. No cursor stands on a record.
 pub(crate) fn play(
     alloc: Global,
@@ -141,7 +160,6 @@ pub(crate) fn play(
     requires ready { (deep : ℕ) × IsReady own.old (memory_size disk.old) deep }
     ensures ready { (deep : ℕ) → IsReady own.old (memory_size disk.old) deep → IsReady own.new (memory_size disk.new) deep }
 {
-    let command = command(alloc, word)?;
     let stood_on = Spots::new(alloc);
-    Ok(told(&own.run(alloc, disk, &HEADER, command, &stood_on, LIMIT)))
+    play_beside(alloc, own, disk, word, &stood_on)
 }

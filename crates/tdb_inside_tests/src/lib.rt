@@ -7,3 +7,5 @@ mod commands;
 mod nesting;
 #[cfg(test)]
 mod replies;
+#[cfg(test)]
+mod walks;

@@ -9,7 +9,7 @@ use tdb_locks::{Held, Kind, Len, LockRefusal, Locks};
 use tdb_steps::Flag;
 
 /// What opener 1 holds in its transaction.
-fn start_locks(alloc: Global) -> Result<Locks, LockRefusal> {
+pub(crate) fn start_locks(alloc: Global) -> Result<Locks, LockRefusal> {
     let mut locks = Locks::new(alloc);
     locks.try_lock(1, 8, Len::Bytes(1), Kind::Write)?;
     locks.try_lock(1, 168, Len::ToEnd, Kind::Read)?;
