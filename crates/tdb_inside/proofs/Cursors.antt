@@ -61,6 +61,9 @@ far Reading = 2
 far Writing = 1
 far Freeing = 2
 
+reply_in : {p q : Reply} → Turns.Done p ≡ Turns.Done q → p ≡ q
+reply_in e = cc
+
 -- A step leads further on the same record, which isn't purged yet.
 pub record Steps (place : Standing) (stage : Stage) (later : At) : Type 0 where
   pub here : later.place ≡ place
@@ -136,9 +139,6 @@ module _ (f : Form) (later : At) where
 
     rests_as : (l : At) (r : Reply) → later ≡ l → Turns.Done reply ≡ Turns.Done r → RestsAt f (shown_there l.place r key) l.place l.stage → Rests
     rests_as l r there is R = subst (λ (z : At). RestsAt f (shown_there z.place reply key) z.place z.stage) (sym there) (subst (λ q. RestsAt f (shown_there l.place q key) l.place l.stage) (sym (reply_in is)) R)
-      where
-        reply_in : {p q : Reply} → Turns.Done p ≡ Turns.Done q → p ≡ q
-        reply_in e = cc
 
     move_rests : (at : At) → WentTo f [] 1 all_written at later (Turns.Done reply) → Rests
     move_rests at (went k v off is there above can) = rests_as (rested (On (home f k) off)) (Replies.Pair k v) there is (record { key = k; shown = refl; filed = refl; above = above }, refl)
@@ -192,9 +192,6 @@ module _ (f : Form) (a b : List ℕ) (place : Standing) (stage : Stage) (later :
 
   came_as : (goal : Goal) (to : Standing) (r : Reply) → later ≡ rested to → Turns.Done reply ≡ Turns.Done r → Came_ goal to r → Came goal
   came_as goal to r there is C = subst (λ (z : At). Came_ goal z.place reply) (sym there) (subst (Came_ goal to) (sym (reply_in is)) C)
-    where
-      reply_in : {p q : Reply} → Turns.Done p ≡ Turns.Done q → p ≡ q
-      reply_in e = cc
 
   -- for want of memory nothing is written
   same_image : Turns.Done reply ≡ Turns.Done Replies.Memory → b ≡ a
@@ -274,9 +271,6 @@ module _ (f : Form) (a b : List ℕ) (place : Standing) (stage : Stage) (later :
     where
       go : (p : Standing) → place ≡ p → Came Leave
       go (On chain off) here = spared_came Leave chain off here there (reply_in is)
-        where
-          reply_in : {p q : Reply} → Turns.Done p ≡ Turns.Done q → p ≡ q
-          reply_in e = cc
       go (Before chain) here = absurd (dead (ap (λ p. dead_of p stage) here))
       go Past here = absurd (dead (ap (λ p. dead_of p stage) here))
 
@@ -399,9 +393,6 @@ module _ (f : Form) (a : List ℕ) (later : At) where
   purges_dead b goal Past stage due reply decided alive K led (purges d is over never_memory gone) = absurd (none_some is)
   purges_dead b goal place stage due reply decided alive K led (waits other byte is still same) = cc is
   purges_dead b goal place stage due reply decided alive K led (unwritten is same) = unpurged (λ chain off here D. ap reply_of (reply_in is)) same
-    where
-      reply_in : {p q : Reply} → Turns.Done p ≡ Turns.Done q → p ≡ q
-      reply_in e = cc
 
 -- The last turn, of a cursor that has taken steps on the same record: it had this walk before them, and rested.
 module _ (f : Form) (a b : List ℕ) (goal : Goal) (old mid new : Walk) (reply : Reply) (now : List Piece) (told : Type 0) (here : mid.cursor.place ≡ old.cursor.place) (same : mid.shown ≡ old.shown)

@@ -102,8 +102,8 @@ pub(crate) fn command(alloc: Global, word: Word) -> Result<Plain, AllocError>
     }
 }
 
-/// What is told of a reply: a word for it, and two numbers: of a value its first byte and its length, of a pair the first
-/// bytes of its key and its value.
+/// What is told of a reply: a word for it, and two numbers: of a value its first byte and its length, of a pair the
+/// first bytes of its key and its value.
 pub(crate) type Told = (&'static str, u64, u64);
 
 /// The first byte, and 0 where there is none.
@@ -135,7 +135,8 @@ pub(crate) fn told(answer: &Result<Reply, Io>) -> Told {
     }
 }
 
-/// Does a command in the transaction, where the opener's cursor stands on one of these records, and tells its answer.
+/// Does a command in the transaction, where the opener's cursor stands on one of these records, and tells its
+/// answer.
 pub(crate) fn play_beside(
     alloc: Global,
     own: &mut OwnTxn,

@@ -10,6 +10,7 @@ use Rattle.tdb_inside.proofs.Fronts.{may_commit_still}
 use Rattle.tdb_inside.proofs.Walked.{next_turns, walk_turns, walk_walks}
 use Rattle.tdb_inside.proofs.Overlays.{ok_so, weaker}
 use Rattle.tdb_inside.proofs.own_txn.OwnTxn.walk.Goals.{else-eq-via-then-eq+else-is_none, else-eq-via-else-eq}
+use Rattle.tdb_inside.proofs.own_txn.OwnTxn.walk.Given as Given
 use Rattle.tdb_inside.proofs.own_txn.OwnTxn.walk.Goals as goal
 
 pub returns-then-is_none-clause-turned : goal.returns-then-is_none-clause-turned
@@ -20,33 +21,32 @@ returns-then-is_none-clause-turned g c told R x =
     let none : c.args.walk.now.shown ≡ None = search rules in
     next_turns x old old base c.args.walk.now c.args.walk.now (record { form = refl; start = refl; depth = refl; doomed = refl; numbered = refl }) refl c.args.goal (number_of (form_of old) base) next none
 
+-- a Next behind the test is one of a cursor that has shown a pair
+has_shown : (g : Given.Over) (c : goal.After-walk_in_pages g) → c.args.goal ≡ Next → is_some c.args.walk.now.shown ≡ true
+has_shown g c = elim c.else-eq.branch [
+  | else-eq-via-then-eq+else-is_none w ↦ λ next. search rules
+  | else-eq-via-else-eq w ↦ λ next. search rules
+]
+
 pub returns-clause-turned : goal.returns-clause-turned
 returns-clause-turned g c =
     let old = c.args.self.now in
     let base = seen (g.D.Disk.history c.args.d.now) in
     let e = c.walk_in_pages.ensures in
-    let has_shown : c.args.goal ≡ Next → is_some c.args.walk.now.shown ≡ true = elim c.else-eq.branch [
-      | else-eq-via-then-eq+else-is_none w ↦ λ next. search rules
-      | else-eq-via-else-eq w ↦ λ next. search rules
-    ] in
     weaker c.walk_in_pages.result _ _
     (λ reply done told R x.
     walk_turns x old (record { txn = c.walk_in_pages.new.txn; changed = old.changed; numbered = old.numbered }) base c.args.walk.now c.walk_in_pages.new.walk
-    (record { form = e.form; start = e.start; depth = e.depth; doomed = e.doomed; numbered = refl }) refl c.args.goal (number_of (form_of old) base) (reply_of reply) c.requires.short has_shown R (done told R.accepted R.cursor)) e.done
+    (record { form = e.form; start = e.start; depth = e.depth; doomed = e.doomed; numbered = refl }) refl c.args.goal (number_of (form_of old) base) (reply_of reply) c.requires.short (has_shown g c) R (done told R.accepted R.cursor)) e.done
 
 pub returns-clause-walks : goal.returns-clause-walks
 returns-clause-walks g c =
     let old = c.args.self.now in
     let base = seen (g.D.Disk.history c.args.d.now) in
     let e = c.walk_in_pages.ensures in
-    let has_shown : c.args.goal ≡ Next → is_some c.args.walk.now.shown ≡ true = elim c.else-eq.branch [
-      | else-eq-via-then-eq+else-is_none w ↦ λ next. search rules
-      | else-eq-via-else-eq w ↦ λ next. search rules
-    ] in
     weaker c.walk_in_pages.result _ _
     (λ reply done told R x.
     walk_walks x old (record { txn = c.walk_in_pages.new.txn; changed = old.changed; numbered = old.numbered }) base c.args.walk.now c.walk_in_pages.new.walk
-    (record { form = e.form; start = e.start; depth = e.depth; doomed = e.doomed; numbered = refl }) refl c.args.goal (reply_of reply) has_shown (done told R.accepted R.cursor)) e.done
+    (record { form = e.form; start = e.start; depth = e.depth; doomed = e.doomed; numbered = refl }) refl c.args.goal (reply_of reply) (has_shown g c) (done told R.accepted R.cursor)) e.done
 
 pub returns-clause-purges : goal.returns-clause-purges
 returns-clause-purges g c = weaker c.walk_in_pages.result _ _ (λ reply done told R. (done told R.accepted R.cursor).purge) c.walk_in_pages.ensures.done
