@@ -19,7 +19,7 @@ use Rattle.tdb_law.specs.Walks.Walked.{walk_ends}
 use Rattle.tdb_law.specs.Held.{holding, kept, locked, txn_held}
 use Rattle.tdb_inside.specs.Laws.{IsEnd}
 use Rattle.tdb_inside.specs.Turns.{ReadsAll}
-use Rattle.tdb_inside.proofs.Inside.{ended_so}
+use Rattle.tdb_inside.proofs.Inside.{left_so, nothing_held}
 use Rattle.tdb_beside.specs.Sides.{Side}
 use Rattle.tdb_holder.specs.Ends.{CancelEnds, RefusalEnds, EndIsOwn, CloseIsOwn, InsideIsOwn, WalkShifts, GoesOnHolding, task_of}
 use Rattle.tdb_holder.proofs.GroupCounts.{end_settles, image_kept}
@@ -33,7 +33,7 @@ cancel_granted f x txn has = rw has refl
 
 pub cancel_ends : CancelEnds
 cancel_ends f x txn n p has outer =
-    ended_so f x (ended x) (OnGroup Cancel) None (cancel_granted f x txn has) Done
+    left_so f x (ended x) (OnGroup Cancel) None (cancel_granted f x txn has) Done
     (record {
       ends = refl;
       unlocked = λ purging. refl;
@@ -47,11 +47,11 @@ cancel_ends f x txn n p has outer =
       number = λ n p. refl;
       image_number = λ n p. refl;
       within = ap is_none has;
-    }) n p refl
+    }) n p (nothing_held f x)
 
 pub refusal_ends : RefusalEnds
 refusal_ends f x txn c why n p has outer end R =
-    ended_so f x (ended x) c (Some why) R (says x why)
+    left_so f x (ended x) c (Some why) R (says x why)
     (record {
       ends = refl;
       unlocked = λ purging. refl;
@@ -65,7 +65,7 @@ refusal_ends f x txn c why n p has outer end R =
       number = λ n p. refl;
       image_number = λ n p. refl;
       within = ap is_none has;
-    }) n p refl
+    }) n p (nothing_held f x)
   where
     last : nat_lt 1 txn.depth ≡ false
     last = ap (nat_lt 1) outer
