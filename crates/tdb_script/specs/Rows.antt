@@ -1,5 +1,5 @@
 -- The words of a script, by tables: one row for each word. They are those of the commands and plays that a world serves
--- (`tdb_world`): none of transactions, and of openers that die.
+-- (`tdb_world`): none of transactions.
 use Rattle.std.specs.Prelude.{ℕ, List, [], ◌∷◌, codes, Option, Some, None, if◌then◌else◌}
 use Rattle.std.specs.Str.{bytes_eq}
 use Rattle.tdb_steps.specs.declared.flag.Flag.{Flag}
@@ -62,7 +62,7 @@ bare_plays = (codes "open", Play.Join) ∷ (codes "setlog", Play.SetLog) ∷ []
 
 -- plays of an opener
 abbrev pub opener_plays : ℕ → List (List ℕ × Play)
-opener_plays who = (codes "turn", Play.Turn who) ∷ (codes "go", Play.Go who) ∷ []
+opener_plays who = (codes "turn", Play.Turn who) ∷ (codes "go", Play.Go who) ∷ (codes "die", Play.Die who) ∷ []
 
 -- plays of an opener with a command
 abbrev pub command_plays : ℕ → Command → List (List ℕ × Play)

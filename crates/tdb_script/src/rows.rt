@@ -121,6 +121,7 @@ pub(crate) fn opener_play(name: &[u8], who: u32) -> Option<Play>
     match text {
         "turn" => Some(Play::Turn { who }),
         "go" => Some(Play::Go { who }),
+        "die" => Some(Play::Die { who }),
         _ => None,
     }
 }

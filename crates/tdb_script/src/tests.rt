@@ -20,7 +20,7 @@ fn scripts_are_read(rt: HostRuntime) -> Result<(), Fail> {
         (b"".as_slice(), 0),
         (b"# open\n\n \t\nopen".as_slice(), 1),
         (b" open\t\n#\nsetlog\n".as_slice(), 2),
-        (b"turn 1\ngo 999999999\n".as_slice(), 2),
+        (b"turn 1\ndie 7\ngo 999999999\n".as_slice(), 3),
         (b"do 1 fetch \"\"\ndo 1 seqnum".as_slice(), 2),
         (b"give 1 append \\00 \\fF\n".as_slice(), 1),
     ];
@@ -46,7 +46,7 @@ fn bad_places(rt: HostRuntime) -> Result<(), Fail> {
         (b"open\r\n".as_slice(), 0),
         (b"open\ndo 1 start".as_slice(), 5),
         (b"do 1 first a".as_slice(), 0),
-        (b"die 1".as_slice(), 0),
+        (b"die".as_slice(), 0),
     ];
     for (text, place) in rows {
         let at = ScriptRefusal::Malformed { at: place };
@@ -142,8 +142,10 @@ fn lines_of_worked_reports(rt: HostRuntime) -> Result<(), Fail> {
     write_line(alloc, &mut out, &Line::Idle { who: 2 })?;
     write_line(alloc, &mut out, &Line::Absent { who: 5 })?;
     write_line(alloc, &mut out, &Line::LogsLeft { count: 0 })?;
+    write_line(alloc, &mut out, &Line::Occupied { who: 1 })?;
+    write_line(alloc, &mut out, &Line::Died { who: 1 })?;
     let expected =
-        b"1 open\n1 step\n2 blocked 1 164\ngrew 696 4096\n1 done ok\n2 idle\n5 absent\nlog 0\n";
+        b"1 open\n1 step\n2 blocked 1 164\ngrew 696 4096\n1 done ok\n2 idle\n5 absent\nlog 0\n1 occupied\n1 died\n";
     assert_eq!(rt; out.as_slice(), expected.as_slice());
     Ok(())
 }

@@ -46,7 +46,7 @@ module _ (n : ℕ) (few : n < 2 ^ 32) where
   command_fine (name ∷ word ∷ more ∷ other ∷ words) command l p = absurd p
 
   opener_served : (name : List ℕ) (who : ℕ) (words : List (List ℕ)) (play : Play) → 1 ≤ who → NoLonger n words → IsOpenerPlay name who words play → IsServedPlay play
-  opener_served name who words play one l (inl p) = of_row IsServedPlay (opener_plays who) name play (one, (one, tt)) p.1
+  opener_served name who words play one l (inl p) = of_row IsServedPlay (opener_plays who) name play (one, (one, (one, tt))) p.1
   opener_served name who words play one l (inr p) =
       let fine = command_fine words p.0 l p.1 in
       of_row IsServedPlay (command_plays who p.0) name play ((one, fine.0, fine.1), ((one, fine.0, fine.1), tt)) p.2

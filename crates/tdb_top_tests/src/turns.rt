@@ -54,6 +54,11 @@ const READ_ONLY: &str = "open\ndo 1 store a 2\ndo 1 has a\ndo 1 close\ndo 1 chec
 
 const READ_ONLY_TOLD: &str = "1 open\n1 done rdonly\n1 step\n1 done yes\n1 done ok\n1 absent\n";
 
+/// An opener dies, but not in the middle of a command.
+const DEATHS: &str = "open\ngive 1 store a 2\nturn 1\ndie 1\ngo 1\ndie 1\ndie 1\n";
+
+const DEATHS_TOLD: &str = "1 open\n1 step\n1 occupied\n1 done ok\n1 died\n1 absent\n";
+
 #[test]
 fn reports(rt: HostRuntime) -> Result<(), Fail> {
     let one = Base::OneRecord;
@@ -75,6 +80,7 @@ fn reports(rt: HostRuntime) -> Result<(), Fail> {
             0,
             READ_ONLY_TOLD,
         ),
+        (one, "turns f.tdb", DEATHS, None, 0, DEATHS_TOLD),
         (
             one,
             "turns f.tdb",
