@@ -50,7 +50,7 @@ use Rattle.tdb_walk.proofs.Going.{ends_rightly}
 use Rattle.tdb_walk.proofs.Making.{dead_known}
 use Rattle.tdb_walk.proofs.MoveTurned.{mapped}
 use Rattle.tdb_walk.proofs.WalkShown.{ahead_same, mapped_ahead}
-use Rattle.tdb_inside.specs.Walks.{CursorCame, CursorDone, DueInside, FinishesInside, RestsIn, all_written, command_for, is_leave, mark_in, PurgesDead}
+use Rattle.tdb_inside.specs.Walks.{CursorCame, CursorDone, DueInside, FinishesInside, RestsIn, all_written, command_for, shown_by, is_leave, mark_in, PurgesDead}
 use Rattle.tdb_inside.specs.Walks.PurgesDead.{purges as purged, keeps as unpurged}
 use Rattle.tdb_inside.specs.Walks.CursorCame.{comes, passes, starves, leaves, stays}
 
@@ -174,6 +174,71 @@ module _ (f : Form) (later : At) where
     rests_then First Past stage due R led = move_rests _ led
     rests_then Next Past stage due R led = move_rests _ led
     rests_then Leave Past stage due R led = leave_rests Past stage R led
+
+    -- and shows the key that its reply says
+    abbrev Shows : Goal → Type 0
+    Shows goal = shown_there later.place reply key ≡ shown_by goal (reply_of reply) key
+
+    shows_as : (goal : Goal) (place : Standing) (r : Reply) → later ≡ rested place → Turns.Done reply ≡ Turns.Done r → shown_there place r key ≡ shown_by goal (reply_of r) key → Shows goal
+    shows_as goal place r there is e = subst (λ (z : At). shown_there z.place reply key ≡ shown_by goal (reply_of reply) key) (sym there) (subst (λ q. shown_there place q key ≡ shown_by goal (reply_of q) key) (sym (reply_in is)) e)
+
+    first_shows : (at : At) → WentTo f [] 1 all_written at later (Turns.Done reply) → Shows First
+    first_shows at (went k v off is there above can) = shows_as First (On (home f k) off) (Replies.Pair k v) there is refl
+    first_shows at (held_up other byte is there) = cc is
+    first_shows at (halts chain other byte is there) = cc is
+    first_shows at (passed is there) = shows_as First Past Replies.End there is refl
+    first_shows at (lacks is there) = shows_as First Past Replies.Memory there is refl
+
+    next_shows : (at : At) → WentTo f [] 1 all_written at later (Turns.Done reply) → Shows Next
+    next_shows at (went k v off is there above can) = shows_as Next (On (home f k) off) (Replies.Pair k v) there is refl
+    next_shows at (held_up other byte is there) = cc is
+    next_shows at (halts chain other byte is there) = cc is
+    next_shows at (passed is there) = shows_as Next Past Replies.End there is refl
+    next_shows at (lacks is there) = shows_as Next Past Replies.Memory there is refl
+
+    spared_shows : (goal : Goal) (chain off : ℕ) → later ≡ rested (spared_of goal (On chain off)) → reply ≡ Replies.Memory → Shows goal
+    spared_shows First chain off there is = shows_as First Past Replies.Memory there (ap Turns.Done is) refl
+    spared_shows Next chain off there is = shows_as Next Past Replies.Memory there (ap Turns.Done is) refl
+    spared_shows Leave chain off there is = shows_as Leave (On chain off) Replies.Memory there (ap Turns.Done is) refl
+
+    leave_shows : (place : Standing) (stage : Stage) → LeaveLed (dead_of place stage) Past (spared_of Leave place) (Turns.Done Replies.Ok) later (Turns.Done reply) → Shows Leave
+    leave_shows place stage (left is there) = shows_as Leave Past Replies.Ok there is refl
+    leave_shows (On chain off) stage (cannot dead is there) = shows_as Leave (On chain off) Replies.Memory there is refl
+    leave_shows (Before chain) stage (cannot dead is there) = absurd (dead refl)
+    leave_shows Past stage (cannot dead is there) = absurd (dead refl)
+
+    pub shows_then : (goal : Goal) (place : Standing) (stage : Stage) (due : Bool) → Led goal place stage due (Turns.Done reply) → Shows goal
+    shows_then goal (On chain off) Rested true led = spared_shows goal chain off led.1 led.0
+    shows_then First (On chain off) Rested false led = first_shows _ led
+    shows_then Next (On chain off) Rested false led = spared_shows Next chain off led.1 led.0
+    shows_then Leave (On chain off) Rested false led = leave_shows (On chain off) Rested led
+    shows_then First (On chain off) Reading due led = first_shows _ led
+    shows_then Next (On chain off) Reading due led = next_shows _ led
+    shows_then Leave (On chain off) Reading due led = leave_shows (On chain off) Reading led
+    shows_then goal (On chain off) Writing due led = spared_shows goal chain off led.1 led.0
+    shows_then First (On chain off) Freeing due led = first_shows _ led
+    shows_then Next (On chain off) Freeing due led = next_shows _ led
+    shows_then Leave (On chain off) Freeing due led = leave_shows (On chain off) Freeing led
+    shows_then First (Before chain) stage due led = first_shows _ led
+    shows_then Next (Before chain) stage due led = next_shows _ led
+    shows_then Leave (Before chain) stage due led = leave_shows (Before chain) stage led
+    shows_then First Past stage due led = first_shows _ led
+    shows_then Next Past stage due led = next_shows _ led
+    shows_then Leave Past stage due led = leave_shows Past stage led
+
+  -- a leave is never blocked, whatever the bytes of the file are
+  leave_waits : {d : Option DeadRecord} {p s : Standing} (other byte : ℕ) → LeaveLed d p s (Turns.Done Replies.Ok) later (Turns.Blocked other byte) → ⊥
+  leave_waits other byte (left is there) = cc is
+  leave_waits other byte (cannot dead is there) = cc is
+
+  pub never_leave_waits : (place : Standing) (stage : Stage) (due : Bool) (other byte : ℕ) → Led Leave place stage due (Turns.Blocked other byte) → ⊥
+  never_leave_waits (On chain off) Rested true other byte led = cc led.1.conflict.conflict.holds
+  never_leave_waits (On chain off) Rested false other byte led = leave_waits other byte led
+  never_leave_waits (On chain off) Reading due other byte led = leave_waits other byte led
+  never_leave_waits (On chain off) Writing due other byte led = cc led.1.conflict.conflict.holds
+  never_leave_waits (On chain off) Freeing due other byte led = leave_waits other byte led
+  never_leave_waits (Before chain) stage due other byte led = leave_waits other byte led
+  never_leave_waits Past stage due other byte led = leave_waits other byte led
 
 -- What a cursor comes to with the reply, in an accepted image a that is b then. It stood at this place, and had shown this key.
 module _ (f : Form) (a b : List ℕ) (place : Standing) (stage : Stage) (later : At) (reply : Reply) (key : Option (List ℕ)) (few : 0 < f.chains) (A : AcceptWith f a []) (K : Knows f a place stage) (R : RestsAt f key place Rested)

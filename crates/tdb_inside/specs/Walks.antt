@@ -60,6 +60,14 @@ command_for Goals.First = First
 command_for Goals.Next = Next
 command_for Goals.Leave = EndWalk
 
+-- The key that a cursor has shown last once it was asked for something and got this reply: that of the pair, none where it has ended, and
+-- the same where memory was wanting for a leave.
+abbrev pub shown_by : Goal → Reply → Option (List ℕ) → Option (List ℕ)
+shown_by Goals.Leave Memory key = key
+shown_by Goals.Leave r key = None
+shown_by goal (Pair k v) key = Some k
+shown_by goal r key = None
+
 -- the keys of map m that a move must come to: each where it begins a walk, else those further on
 abbrev pub DueInside : Map → Mark → Bool → List ℕ → Type 0
 DueInside m mark start k = (if start then has m k else mark.ahead k) ≡ true

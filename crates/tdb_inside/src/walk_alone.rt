@@ -8,7 +8,7 @@ ghost use Rattle.tdb_locks.specs.declared.piece.Piece.{Piece};
 ghost use Rattle.tdb_steps.specs.PlainCommands.{reply_of};
 ghost use Rattle.tdb_walk.specs.Cursors.{Knows, StepTaken, StepMade, dead_of};
 ghost use Rattle.tdb_walk.specs.Again.{RestsAt, cursor_after};
-ghost use Rattle.tdb_inside.specs.Walks.{all_written, CursorDone, RestsIn};
+ghost use Rattle.tdb_inside.specs.Walks.{all_written, shown_by, CursorDone, RestsIn};
 
 use crate::alone::OWNER;
 use std::alloc::Global;
@@ -42,7 +42,7 @@ fn step_alone<S: Space>(alloc: Global, s: &mut S, walk: &mut Walk, goal: Goal) -
 /// Takes all turns of what a cursor is asked for that rests. The reply is `Pair`, `End` or `Ok`, or `Memory` where that
 /// is wanting. `Io` where the disk failed: then the cursor stands where it stood.
 ///
-/// No turn is blocked, since nobody else holds a lock. The contract of a turn says so only where the bytes of the file
+/// No turn is blocked, since nobody else holds a lock. The contract of a move says so only where the bytes of the file
 /// are told; for others a block would end the cursor, as want of memory does.
 pub(crate) fn take_walk<S: Space>(
     alloc: Global,
@@ -53,6 +53,7 @@ pub(crate) fn take_walk<S: Space>(
     ensures done { IfOk result (λ reply. IsTrue S.tells → S.size s.old < 2 ^ 32 → AcceptWith (S.form s.old) (S.image s.old) [] → RestsIn (S.form s.old) (S.image s.old) walk.old
         → CursorDone (S.form s.old) (S.image s.old) (S.image s.new) goal walk.old walk.new (reply_of reply)) }
     ensures rests { IfOk result (λ reply. RestsAt (S.form s.old) walk.old.shown walk.old.cursor.place walk.old.cursor.stage → RestsAt (S.form s.old) walk.new.shown walk.new.cursor.place walk.new.cursor.stage) }
+    ensures shown { IfOk result (λ reply. walk.new.shown ≡ shown_by goal (reply_of reply) walk.old.shown) }
     ensures stands { OnErr result ((walk.new.cursor.place ≡ walk.old.cursor.place) × (walk.new.shown ≡ walk.old.shown)) }
     ensures size { S.size s.new ≡ S.size s.old }
     ensures wrote { Wrote S.Space s.old s.new }

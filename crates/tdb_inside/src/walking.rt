@@ -13,7 +13,7 @@ ghost use Rattle.tdb_walk.specs.Again.{RestsAt};
 ghost use Rattle.tdb_inside.specs.Done.{ImageKept};
 ghost use Rattle.tdb_inside.specs.OwnTxns.{form_of, image_of, own_inside, SameTxn};
 ghost use Rattle.tdb_inside.specs.Turns.{TurnsInside};
-ghost use Rattle.tdb_inside.specs.Walks.{command_for, with_cursor, CursorDone, PurgesDead, RestsIn, RestsInside, WalksInside};
+ghost use Rattle.tdb_inside.specs.Walks.{command_for, shown_by, with_cursor, CursorDone, PurgesDead, RestsIn, RestsInside, WalksInside};
 
 use crate::own_txn::OwnTxn;
 use crate::walk_alone::take_walk;
@@ -38,6 +38,7 @@ fn walk_in_pages<D: Disk>(
     ensures done { IfOk result (λ reply. IsTrue D.tells → let base = seen (D.history d.old) in AcceptWith (txn_form txn.old) (txn_image txn.old base) [] → RestsIn (txn_form txn.old) (txn_image txn.old base) walk.old
         → CursorDone (txn_form txn.old) (txn_image txn.old base) (txn_image txn.new base) goal walk.old walk.new (reply_of reply)) }
     ensures rests { IfOk result (λ reply. RestsAt (txn_form txn.old) walk.old.shown walk.old.cursor.place walk.old.cursor.stage → RestsAt (txn_form txn.old) walk.new.shown walk.new.cursor.place walk.new.cursor.stage) }
+    ensures shown { IfOk result (λ reply. walk.new.shown ≡ shown_by goal (reply_of reply) walk.old.shown) }
     ensures stands { OnErr result ((walk.new.cursor.place ≡ walk.old.cursor.place) × (walk.new.shown ≡ walk.old.shown)) }
     ensures form { txn_form txn.new ≡ txn_form txn.old }
     ensures start { txn_start txn.new ≡ txn_start txn.old }
@@ -84,6 +85,7 @@ impl OwnTxn {
         ensures image { OnOk result (IsTrue D.tells → let base = seen (D.history d.old) in RestsInside self.old base walk.old → ImageKept (form_of self.old) (image_of self.old base) (image_of self.new base)) }
         ensures commits { OnOk result (IsTrue D.tells → let base = seen (D.history d.old) in RestsInside self.old base walk.old → MayCommit self.old.txn base → MayCommit self.new.txn base) }
         ensures rests { OnOk result (RestsAt (form_of self.old) walk.old.shown walk.old.cursor.place walk.old.cursor.stage → RestsAt (form_of self.old) walk.new.shown walk.new.cursor.place walk.new.cursor.stage) }
+        ensures shown { IfOk result (λ reply. walk.new.shown ≡ shown_by goal (reply_of reply) walk.old.shown) }
         ensures stands { OnErr result ((walk.new.cursor.place ≡ walk.old.cursor.place) × (walk.new.shown ≡ walk.old.shown)) }
         ensures same { SameTxn self.old self.new }
         ensures changed { self.new.changed ≡ self.old.changed }

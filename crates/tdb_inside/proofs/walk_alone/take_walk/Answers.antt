@@ -1,18 +1,21 @@
 -- Each step leads further on the same record, and the last turn ends.
-use Rattle.std.proofs.Common.{◌≡◌, ◌<◌, ℕ, List, [], false, IsTrue, refl, sym, ◌∙◌, ap, subst, arith}
+use Rattle.std.proofs.Common.{◌≡◌, ◌<◌, ℕ, Bool, List, [], Option, None, false, IsTrue, refl, sym, ◌∙◌, ap, subst, arith}
 use Rattle.std.specs.Prelude.{◌^◌}
 use Rattle.tdb_space.specs.Form.{Form}
 use Rattle.tdb_space.specs.Accepted.{AcceptWith}
 use Rattle.tdb_locks.specs.declared.turn.Reply.{Reply}
+use Rattle.tdb_locks.specs.declared.turn.Turn.TheVariants as Turns
+use Rattle.tdb_law.specs.Commands.Reply.{Memory}
 use Rattle.tdb_steps.specs.PlainCommands.{reply_of}
 use Rattle.tdb_walk.specs.declared.standing.Standing.{Standing}
 use Rattle.tdb_walk.specs.declared.stage.Stage.{Stage}
 use Rattle.tdb_walk.specs.declared.stage.Goal.{Goal}
-use Rattle.tdb_walk.specs.Cursors.{Knows, StepTaken, StepMade, act_of, spared_of}
+use Rattle.tdb_walk.specs.declared.stage.Goal.TheVariants.{First, Next, Leave}
+use Rattle.tdb_walk.specs.Cursors.{At, Knows, StepTaken, StepMade, act_of, spared_of}
 use Rattle.tdb_walk.specs.Again.{RestsAt, cursor_after}
 use Rattle.tdb_cursors.specs.declared.walk.Walk.{Walk}
-use Rattle.tdb_inside.specs.Walks.{CursorDone, RestsIn, all_written}
-use Rattle.tdb_inside.proofs.Cursors.{IsAlive, Led, alive_first, alive_on, cursor_done, far_few, never_waits, rests_again, steps_on}
+use Rattle.tdb_inside.specs.Walks.{CursorDone, RestsIn, all_written, shown_by}
+use Rattle.tdb_inside.proofs.Cursors.{IsAlive, Led, alive_first, alive_on, cursor_done, far_few, never_leave_waits, never_waits, rests_again, shows_then, steps_on}
 use Rattle.tdb_inside.proofs.walk_alone.take_walk.Goals as goal
 
 -- what is known over a view is known over one of the same form and image
@@ -142,3 +145,32 @@ returns-in-Blocked-clause-done g c told small A R =
     let A2 = accepted_there (S.form c.args.s.now) f (S.image c.args.s.now) d form I.image A in
     let K2 = known_there (S.form c.args.s.now) f (S.image c.args.s.now) d form I.image was.cursor.place was.cursor.stage (I.knows told small A R.knows) in
     absurd (never_waits f now.cursor d (act_of c.args.goal was.cursor.place was.cursor.stage T.due) (spared_of c.args.goal was.cursor.place) was.cursor c.in-Blocked.owner c.in-Blocked.byte T.led (T.moved told [] A2 K2))
+
+pub returns-in-Done-clause-shown : goal.returns-in-Done-clause-shown
+returns-in-Done-clause-shown g c =
+    let f = g.S.Space.form c.loop-taken.s in
+    let was = c.loop-taken.walk in
+    let now = c.step_alone.new.walk in
+    let I = c.loop-taken.invariant in
+    let e = c.in_ok-turn.ensures in
+    let r = c.in-Done.reply in
+    e.shown ∙ ap (λ t. cursor_after t now.cursor.place was.shown) c.in-Done.is
+    ∙ shows_then f now.cursor r was.shown c.args.goal was.cursor.place was.cursor.stage e.taken.1.due
+    (subst (λ t. Led f now.cursor c.args.goal was.cursor.place was.cursor.stage e.taken.1.due t) c.in-Done.is e.taken.1.led)
+    ∙ ap (shown_by c.args.goal (reply_of r)) I.shown
+
+-- a leave isn't blocked, and a move that were would end the cursor
+blocked_shows : (f : Form) (goal : Goal) (place : Standing) (stage : Stage) (due : Bool) (later : At) (other byte : ℕ) (key : Option (List ℕ)) → Led f later goal place stage due (Turns.Blocked other byte) → None ≡ shown_by goal Memory key
+blocked_shows f First place stage due later other byte key led = refl
+blocked_shows f Next place stage due later other byte key led = refl
+blocked_shows f Leave place stage due later other byte key led = absurd (never_leave_waits f later place stage due other byte led)
+
+pub returns-in-Blocked-clause-shown : goal.returns-in-Blocked-clause-shown
+returns-in-Blocked-clause-shown g c =
+    let f = g.S.Space.form c.loop-taken.s in
+    let was = c.loop-taken.walk in
+    let later = c.step_alone.new.walk.cursor in
+    let T = c.in_ok-turn.ensures.taken.1 in
+    c.new.ensures.shown
+    ∙ blocked_shows f c.args.goal was.cursor.place was.cursor.stage T.due later c.in-Blocked.owner c.in-Blocked.byte c.args.walk.now.shown
+    (subst (λ t. Led f later c.args.goal was.cursor.place was.cursor.stage T.due t) c.in-Blocked.is T.led)
