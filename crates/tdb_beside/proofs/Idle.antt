@@ -1,5 +1,5 @@
 -- Turns that change nothing: one that is blocked, and the end of a command at its first turn.
-use Rattle.std.proofs.Common.{◌≡◌, ◌≢◌, ℕ, ◌≤◌, max, List, [], Bool, true, false, Option, Some, None, is_none, is_some, refl, sym, ◌∙◌, ap, subst, inl, arith}
+use Rattle.std.proofs.Common.{◌≡◌, ℕ, max, List, [], Bool, true, false, Option, Some, None, is_none, is_some, refl, sym, ◌∙◌, ap, subst, inl, arith}
 use Rattle.std.specs.Prelude.{if◌then◌else◌}
 use Rattle.tdb_space.specs.Form.{Form}
 use Rattle.tdb_law.specs.Commands.{Command, Reply, is_done}
@@ -87,19 +87,16 @@ stays : (f : Form) (w : State) (who : ℕ) (table want : ℕ → ℕ) (r : Reply
 stays f w who table want r S None e = stands_nowhere e
 stays f w who table want r S (Some place) e = let out = (S.stands who place e).0 in stands_still out out refl refl
 
+-- nothing is in the way of a command that wants nothing, since another opener's locks alone never conflict
+pub nothing_free : (f : Form) (w : State) (who : ℕ) (t : Task) → IsSound f w → ((b : ℕ) → want f w who t b ≡ 0) → IsFree w.table who (want f w who t)
+nothing_free f w who t S none = record { free = λ p b ne. omega (arith, none b, S.apart p who b ne) }
+
 module _ (f : Form) (w : State) (who : ℕ) (c : Command) (r : Reply) (S : IsSound f w) (ready : w.stale ≡ false) (mine : w.task who ≡ Some (record { command = c; steps = 0 })) (near : (w.spot who).gone ≡ false) where
   abbrev x : Own
   x = w.own who
 
   abbrev t : Task
   t = record { command = c; steps = 0 }
-
-  -- another opener's locks alone never conflict
-  at_most_two : (p b : ℕ) → p ≢ who → w.table p b ≤ 2
-  at_most_two p b ne = omega (arith, S.apart p who b ne)
-
-  free_of : ((b : ℕ) → want f w who t b ≡ 0) → IsFree w.table who (want f w who t)
-  free_of none = record { free = λ p b ne. omega (arith, none b, at_most_two p b ne) }
 
   abbrev EffectHere : Type 0
   EffectHere = Effect f (IsFree w.table who (want f w who t)) (IsFirstConflict w.table who (want f w who t)) (Finds f (w.table who) (want f w who t) (seen x w.file)) (number_seen x w.number (w.image_number who)) c 0 x w.file (Ends r) x w.file
@@ -135,7 +132,7 @@ module _ (f : Form) (w : State) (who : ℕ) (c : Command) (r : Reply) (S : IsSou
   refused : (why : Refusal) → refusal f c x ≡ Some why → own_refused c x ≡ x → r ≡ says x why → Turned f w who t (Ends r) (without_task w who)
   unfolding is_changed
   refused why is stays says_why = ended (ap (λ q. ends_by q c x 0 r) is) (ap is_done says_why ∙ refused_undone x why) still
-      (effect_answers r refl (free_of (λ b. wants_nothing f c x a (w.view who) 0 b still (ap (λ q. locks_by f q c x a.purging) is)))
+      (effect_answers r refl (nothing_free f w who t S (λ b. wants_nothing f c x a (w.view who) 0 b still (ap (λ q. locks_by f q c x a.purging) is)))
       still (ap (λ q. counts_by q c) is) (λ k reading. absurd (never_true (sym (ap (λ q. reads_by q c x k) is) ∙ reading))) (ap (λ q. changed_by q c x 0) is)
       (says_why ∙ sym (ap (λ q. told_by q c x w.file) is)) (sym (ap (λ q. map_by q c x w.file) is)) (sym (ap (λ q. own_by f q c x 0 r w.file) is ∙ stays)))
     where
@@ -156,7 +153,7 @@ module _ (f : Form) (w : State) (who : ℕ) (c : Command) (r : Reply) (S : IsSou
     unfolding is_changed
     past is out none says_end =
         ended (ap (λ q. ends_by q c x 0 r) granted ∙ ap (λ d. ends_by None d x 0 r) is ∙ ap (λ o. ends_in o x.cursor) out ∙ ap (ends_in None) none) (ap is_done says_end) still
-        (effect_answers r refl (free_of (λ b. wants_nothing f c x a (w.view who) 0 b still (ap (λ q. locks_by f q c x a.purging) granted ∙ ap (λ d. locks_by f None d x a.purging) is ∙ ap (λ o. locks_in o x.cursor) out ∙ ap (locks_in None) none)))
+        (effect_answers r refl (nothing_free f w who t S (λ b. wants_nothing f c x a (w.view who) 0 b still (ap (λ q. locks_by f q c x a.purging) granted ∙ ap (λ d. locks_by f None d x a.purging) is ∙ ap (λ o. locks_in o x.cursor) out ∙ ap (locks_in None) none)))
         still (ap (λ q. counts_by q c) granted ∙ ap (counts_by None) is) (λ k reading. absurd (never_true (sym (ap (λ q. reads_by q c x k) granted ∙ ap (λ d. reads_by None d x k) is) ∙ reading)))
         (ap (λ q. changed_by q c x 0) granted ∙ ap (λ d. changed_by None d x 0) is) (says_end ∙ sym (ap (λ q. told_by q c x w.file) granted ∙ ap (λ d. told_by None d x w.file) is))
         (sym (ap (λ q. map_by q c x w.file) granted ∙ ap (λ d. map_by None d x w.file) is)) (sym (ap (λ q. own_by f q c x 0 r w.file) granted ∙ ap (λ d. own_by f None d x 0 r w.file) is ∙ ap (λ s. record x { cursor = key_shown s }) says_end ∙ ap (λ o. record x { cursor = o }) (sym none))))

@@ -1,4 +1,5 @@
 pub mod Idle
+pub mod Leaving
 pub mod Ungrouped
 pub mod Wants
 pub mod Choices

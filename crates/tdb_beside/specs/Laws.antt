@@ -3,9 +3,10 @@ use Rattle.std.specs.Prelude.{ℕ, ◌+◌, ◌≤◌, ◌<◌, ◌^◌, List, �
 use Rattle.tdb_space.specs.Form.{Form}
 use Rattle.tdb_space.specs.Extents.{HandPair}
 use Rattle.tdb_space.specs.Accepted.{AcceptWith}
-use Rattle.tdb_law.specs.Commands.{Command, Reply, Turn}
+use Rattle.tdb_law.specs.Commands.{WalkCommand, Command, Reply, Turn}
 use Rattle.tdb_law.specs.Commands.GroupCommand.{Commit}
-use Rattle.tdb_law.specs.Commands.Command.{OnGroup}
+use Rattle.tdb_law.specs.Commands.Command.{OnGroup, OnWalk}
+use Rattle.tdb_law.specs.Commands.Reply.{Done}
 use Rattle.tdb_law.specs.Commands.Turn.{Step, Blocked, Ends}
 use Rattle.tdb_law.specs.Openers.{Own, Txn, Task, has}
 use Rattle.tdb_law.specs.Rows.{is_changed}
@@ -20,7 +21,7 @@ use Rattle.tdb_law.specs.Events.{Joins, Dies, Given}
 use Rattle.tdb_beside.specs.Sides.{Past, Side, alone, beside, whole, IsPlain, StandsAside}
 use Rattle.tdb_beside.specs.Events.{StandsBy, IsElse}
 use Rattle.tdb_beside.specs.Shutting.{HasRecords, IsShutOut}
-use Rattle.tdb_beside.specs.Turns.{IsUngrouped, IsClear, past_after, EndsAtOnce, without_task}
+use Rattle.tdb_beside.specs.Turns.{IsUngrouped, IsClear, past_after, EndsAtOnce, without_task, LeavesNothing, IsLeave, without_cursor}
 
 -- In a sound world that isn't stale, a command that waits, of which the file doesn't have the change, and that meets a conflict has
 -- taken a turn by being blocked, and nothing has changed.
@@ -32,6 +33,12 @@ WaitingIsTurned = (f : Form) (w : State) (who : ℕ) (t : Task) (owner byte : �
 abbrev pub EndIsTurned : Type 0
 EndIsTurned = (f : Form) (w : State) (who : ℕ) (t : Task) (r : Reply) → IsSound f w → w.stale ≡ false → w.task who ≡ Some t → t.steps ≡ 0 → (w.spot who).gone ≡ false
     → EndsAtOnce f w who t r → Turned f w who t (Ends r) (without_task w who)
+
+-- So has an EndWalk or a Close that is done at its first turn, where the cursor stands on no record: the cursor has ended, and by a Close
+-- the opener, which holds nothing any more.
+abbrev pub LeavingIsTurned : Type 0
+LeavingIsTurned = (f : Form) (w : State) (who : ℕ) (t : Task) (c : WalkCommand) → IsSound f w → w.stale ≡ false → w.task who ≡ Some t → t.steps ≡ 0 → t.command ≡ OnWalk c → IsLeave c → LeavesNothing w who
+    → Turned f w who t (Ends Done) (without_cursor c w who)
 
 -- A turn of an opener that isn't aside, of a command that is on no transaction, is a turn of the whole world where nobody is aside.
 abbrev pub AloneTurns : Type 0

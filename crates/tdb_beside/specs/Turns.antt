@@ -1,14 +1,14 @@
--- What turns leave of a world in parts, and the ends by which a command changes nothing.
+-- What turns leave of a world in parts, the ends by which a command changes nothing, and those by which it leaves a cursor on no record.
 use Rattle.std.specs.Prelude.{ℕ, List, ◌≡◌, ◌⊎◌, false, Some, None}
 use Rattle.tdb_space.specs.Form.{Form}
-use Rattle.tdb_law.specs.Commands.{Command, Reply, Turn}
+use Rattle.tdb_law.specs.Commands.{WalkCommand, Command, Reply, Turn}
 use Rattle.tdb_law.specs.Commands.LockCommand.{ChainLockNb}
-use Rattle.tdb_law.specs.Commands.WalkCommand.{Next}
+use Rattle.tdb_law.specs.Commands.WalkCommand.{Next, EndWalk, Close}
 use Rattle.tdb_law.specs.Commands.Command.{OnGroup, OnLocks, Seqnum, OnWalk}
-use Rattle.tdb_law.specs.Commands.Reply.{Busy, End, Number}
+use Rattle.tdb_law.specs.Commands.Reply.{Busy, Done, End, Number}
 use Rattle.tdb_law.specs.Openers.{Task}
 use Rattle.tdb_law.specs.Refusals.{Refusal, refusal, says}
-use Rattle.tdb_law.specs.Outcomes.{moves, own_refused}
+use Rattle.tdb_law.specs.Outcomes.{moves, own_refused, own_walked}
 use Rattle.tdb_law.specs.Counting.{settled_after}
 use Rattle.tdb_law.specs.World.{State}
 use Rattle.tdb_law.specs.Effects.{IsFree, IsFirstConflict}
@@ -43,3 +43,26 @@ pub data EndsAtOnce (f : Form) (w : State) (who : ℕ) (t : Task) (r : Reply) : 
       → EndsAtOnce f w who t r
   ends_numbered : t.command ≡ Seqnum → refusal f t.command (w.own who) ≡ None → (w.own who).txn ≡ None → IsFree w.table who (want f w who t) → r ≡ Number w.number → EndsAtOnce f w who t r
   ends_past : t.command ≡ OnWalk Next → refusal f t.command (w.own who) ≡ None → (w.own who).txn ≡ None → (w.own who).cursor ≡ None → r ≡ End → EndsAtOnce f w who t r
+
+-- Nothing is left to do when an opener's cursor ends: it is outside a transaction, its cursor stands on no record, none has to be purged,
+-- and no block has let go of its locks.
+pub record LeavesNothing (w : State) (who : ℕ) : Type 0 where
+  pub outside : (w.own who).txn ≡ None
+  pub stands : (w.spot who).stands ≡ None
+  pub near : (w.spot who).gone ≡ false
+  pub clean : (w.view who).must ≡ false
+
+-- the commands that end a cursor
+abbrev pub IsLeave : WalkCommand → Type 0
+IsLeave EndWalk = Unit {0}
+IsLeave Close = Unit {0}
+IsLeave w = ⊥
+
+-- what an opener that holds so much still holds after one of them: after a Close nothing
+abbrev pub held_after : WalkCommand → (ℕ → ℕ) → ℕ → ℕ
+held_after Close held b = 0
+held_after w held b = held b
+
+-- the world where the command has ended that ended an opener's cursor, and by a Close the opener
+abbrev pub without_cursor : WalkCommand → State → ℕ → State
+without_cursor c w who = record (without_task w who) { own = but_at who (own_walked c (w.own who) Done) w.own; table = but_at who (held_after c (w.table who)) w.table }

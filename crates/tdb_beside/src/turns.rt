@@ -1,6 +1,6 @@
-// The laws of turns that change nothing, and of turns of the openers that aren't aside.
+// The laws of turns that change nothing of the file, and of turns of the openers that aren't aside.
 
-ghost use Rattle.tdb_beside.specs.Laws.{WaitingIsTurned, EndIsTurned, AloneTurns, BesideTurns};
+ghost use Rattle.tdb_beside.specs.Laws.{WaitingIsTurned, EndIsTurned, LeavingIsTurned, AloneTurns, BesideTurns};
 
 /// A command that meets a conflict and waits has taken a turn of the law by being blocked. The law is over all worlds;
 /// the function does nothing.
@@ -13,6 +13,12 @@ pub fn waiting_is_turned()
 /// worlds; the function does nothing.
 pub fn end_is_turned()
     ensures law { EndIsTurned }
+{}
+
+/// An EndWalk or a Close that is done at its first turn, where the cursor stands on no record, has taken a turn of the law:
+/// the cursor has ended, and by a Close the opener. The law is over all worlds; the function does nothing.
+pub fn leaving_is_turned()
+    ensures law { LeavingIsTurned }
 {}
 
 /// Where nobody is aside, a turn in a plain state, of a command that is on no transaction, is one of the whole world.
