@@ -8,3 +8,4 @@ pub mod Beside
 pub mod Happening
 pub mod Committed
 pub mod Shut
+pub mod Parted

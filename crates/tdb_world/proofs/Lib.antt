@@ -62,3 +62,5 @@ pub mod PlainCursors
 pub mod Stood
 pub mod Replacing
 pub mod Deaths
+pub mod Replaced
+pub mod Meeting

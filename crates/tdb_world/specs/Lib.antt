@@ -15,3 +15,4 @@ pub mod Cursors
 pub mod Died
 pub mod Calm
 pub mod Aside
+pub mod ShutOut

@@ -19,6 +19,7 @@ mod options;
 mod plain;
 mod playing;
 mod refusing;
+mod shut_out;
 mod starting;
 mod taking;
 mod telling;

@@ -20,6 +20,10 @@ ghost use Rattle.tdb_world.specs.declared.opener.Opener.{Opener};
 ghost use Rattle.tdb_world.specs.Calm.{IsCalm};
 ghost use Rattle.tdb_world.specs.Aside.{IsBare, HoldsRecords, AreFree, AreBarred};
 ghost use Rattle.tdb_world.specs.Given.{IsShortGiven, IsServed, IsWellHeld};
+ghost use Rattle.tdb_world.specs.Given.{IsShortGiven, IsShortLocking, IsServed, IsWellHeld};
+ghost use Rattle.tdb_world.specs.declared.job.Job.TheVariants as Jobs;
+ghost use Rattle.tdb_world.specs.declared.job.Locking.{Locking};
+ghost use Rattle.tdb_world.specs.ShutOut.{IsReplaced, JobMeets, MayMeet, opener_after};
 ghost use Rattle.tdb_world.specs.Worlds.{fresh, state_in, law_of_task, Stands, BytesStand, IsNumber, IsFree, IsBusy, IsAssigned};
 
 use crate::job::Task;
@@ -372,5 +376,38 @@ impl Openers {
         ensures err { OnErr result ((told : List Line) × (left : List Line) × (report.new.lines ≡ report.old.lines ++ told) × (unfinished 1 self.now.openers ≡ told ++ left)) }
     {
         tell_unfinished(self.list.as_slice(), report)
+    }
+
+    /// Takes a turn of the opener's command, which isn't one that asks for the sequence number, while the opener
+    /// `holder` holds all records for writing.
+    pub(crate) fn meet(&mut self, who: u32, holder: u32) -> Turn
+        requires busy { (x : Opener) × (t : Task) × IsBusy self.old who x t }
+        requires chains { 0 < self.old.header.hash_size }
+        requires short { (x : Opener) (t : Task) (locking : Locking) → IsBusy self.old who x t → t.job ≡ Jobs.Locking locking → IsShortLocking locking }
+        requires meets { (x : Opener) (t : Task) → IsBusy self.old who x t → MayMeet t.job }
+        ensures meets { (x : Opener) (t : Task) → IsBusy self.old who x t → JobMeets (form_in self.old.header) t.job holder result }
+        ensures replaced { (x : Opener) (t : Task) → IsBusy self.old who x t → IsReplaced self.old who (opener_after result t.job x) self.new }
+    {
+        let Openers {
+            alloc,
+            header,
+            list,
+            ..
+        } = self;
+        let Some(opener) = list.get_mut(who as usize - 1) else {
+            unreachable!();
+        };
+        opener.turn_shut_out(*alloc, header, holder)
+    }
+
+    /// Takes its command from the opener with this number.
+    pub(crate) fn drop_task(&mut self, who: u32)
+        requires { (x : Opener) × IsNumber self.old who x }
+        ensures { (x : Opener) → IsNumber self.old who x → IsReplaced self.old who (record x { task = None }) self.new }
+    {
+        let Some(opener) = self.list.get_mut(who as usize - 1) else {
+            unreachable!();
+        };
+        opener.task = None;
     }
 }

@@ -11,6 +11,7 @@ ghost use Rattle.tdb_law.specs.World.{HasFewChains};
 ghost use Rattle.tdb_law.specs.Commands.Command.{OnMap};
 ghost use Rattle.tdb_law.specs.Openers.{View};
 ghost use Rattle.tdb_plays.specs.InLaw.{law_command, law_turn};
+ghost use Rattle.tdb_steps.specs.LockRows.{rows_of};
 ghost use Rattle.tdb_steps.specs.PlainCommands.{key_of, command_of};
 ghost use Rattle.tdb_steps.specs.Machines.{begun, IsShort};
 ghost use Rattle.tdb_world.specs.Calm.{IsCalm};
@@ -27,7 +28,7 @@ use std::marker::Model;
 use tdb_locks::{Held, Locks, Spots, Turn};
 use tdb_plays::Command;
 use tdb_space::{Io, Space};
-use tdb_steps::{Machine, Plain as PlainCommand};
+use tdb_steps::{Machine, Plain as PlainCommand, Rows};
 use tdb_words::Header;
 
 /// A plain command that is done turn by turn, and the same command as a report tells it. Contracts see its machine
@@ -114,6 +115,13 @@ impl PlainJob {
             &mut self.machine,
             limit,
         )
+    }
+
+    /// The locks of the command.
+    pub(crate) fn rows(&self) -> Rows
+        ensures { result ≡ rows_of self.now.command self.now.chain }
+    {
+        self.machine.rows()
     }
 
     /// Gives the command up, with the record that it may hold. It takes no memory and makes no call on a disk.
