@@ -35,7 +35,7 @@ use Rattle.tdb_world.specs.Ended.{EndTurned}
 use Rattle.tdb_world.proofs.Shifted.{apart_less, turned_locks, at_most_two}
 
 -- a served command that is refused leaves its opener
-served_same : (c : GivenCommand) → IsServed c → (x : Own) → own_refused (law_command c) x ≡ x
+pub served_same : (c : GivenCommand) → IsServed c → (x : Own) → own_refused (law_command c) x ≡ x
 served_same (Given.Store key value Flags.Replace) s x = refl
 served_same (Given.Store key value Flags.Insert) s x = refl
 served_same (Given.Store key value Flags.Modify) s x = refl

@@ -63,4 +63,8 @@ pub mod Stood
 pub mod Replacing
 pub mod Deaths
 pub mod Replaced
+pub mod Wanting
 pub mod Meeting
+pub mod ShutOut
+pub mod ShutTurns
+pub mod ShutWorlds

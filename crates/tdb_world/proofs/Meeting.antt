@@ -71,5 +71,17 @@ kept_walk Step job x = refl
 kept_walk (Blocked owner byte) job x = refl
 kept_walk (Done reply) job x = job_walk job x
 
+-- and it has no command
+pub job_done : (job : Job) (x : Opener) → (after_job job x).task ≡ None
+job_done (Jobs.Refused command reply) x = refl
+job_done (Jobs.Plain d) x = refl
+job_done (Jobs.Check checking) x = refl
+job_done (Jobs.Locking locking) x = refl
+job_done Jobs.Seqnum x = refl
+job_done (Jobs.Walk Walks.First) x = refl
+job_done (Jobs.Walk Walks.Next) x = refl
+job_done (Jobs.Walk Walks.EndWalk) x = refl
+job_done (Jobs.Walk Walks.Close) x = refl
+
 pub same_job : (o : Option Task) (now t : Task) → o ≡ Some now → o ≡ Some t → now.job ≡ t.job
 same_job o now t one other = let same : now ≡ t = cc in ap (λ (u : Task). u.job) same
