@@ -19,7 +19,6 @@ ghost use Rattle.tdb_world.specs.declared.job.Task.{Task};
 ghost use Rattle.tdb_world.specs.declared.opener.Opener.{Opener};
 ghost use Rattle.tdb_world.specs.Calm.{IsCalm};
 ghost use Rattle.tdb_world.specs.Aside.{IsBare, HoldsRecords, AreFree, AreBarred};
-ghost use Rattle.tdb_world.specs.Given.{IsShortGiven, IsServed, IsWellHeld};
 ghost use Rattle.tdb_world.specs.Given.{IsShortGiven, IsShortLocking, IsServed, IsWellHeld};
 ghost use Rattle.tdb_world.specs.declared.job.Job.TheVariants as Jobs;
 ghost use Rattle.tdb_world.specs.declared.job.Locking.{Locking};
