@@ -64,7 +64,9 @@ pub mod Replacing
 pub mod Deaths
 pub mod Replaced
 pub mod Wanting
+pub mod Occupied
 pub mod Meeting
 pub mod ShutOut
 pub mod ShutTurns
 pub mod ShutWorlds
+pub mod AskedNumber

@@ -26,6 +26,10 @@ use Rattle.tdb_world.proofs.Putting.{by_number, numbered, put_numbered}
 use Rattle.tdb_world.proofs.Standing.{Holds, world_set, held_still}
 use Rattle.tdb_world.proofs.Stood.{place_entry, same_spots}
 
+-- nothing else has changed
+pub replaced_rest : {old new : World} {who : ℕ} {y : Opener} → IsReplaced old who y new → record old { openers = new.openers } ≡ new
+replaced_rest {new = new} R = sym (ap (λ (z : World). record z { openers = new.openers }) R.rest)
+
 -- the opener with a number is replaced where another one is put there, in a world that is seen as another
 module _ (v w : World) (e : v ≡ w) (who : ℕ) (x d : Opener) (N : IsNumber w who x) (item : d ≡ slice_index_or v.openers (who - 1) d) where
   there : slice_get v.openers N.place ≡ Some x
@@ -53,7 +57,7 @@ module _ (xs ys : List Opener) (who : ℕ) (x y : Opener) (found : slice_get xs 
     | inr ne ↦ subst Q (sym (P.others o ne)) q
   ]
 
-  same_at : {A : Type 0} (g : Option Opener → A) → g (Some y) ≡ g (Some x) → (o : ℕ) → g (slice_get ys o) ≡ g (slice_get xs o)
+  pub same_at : {A : Type 0} (g : Option Opener → A) → g (Some y) ≡ g (Some x) → (o : ℕ) → g (slice_get ys o) ≡ g (slice_get xs o)
   same_at g same o = with_another (λ z. g z ≡ g (slice_get xs o)) (λ e. same ∙ e) o refl
 
   other_at : {A : Type 0} (g : Option Opener → A) (o : ℕ) → g (slice_get ys o) ≡ but_at who (g (Some y)) (λ p. g (slice_get xs p)) o
@@ -69,7 +73,11 @@ module _ (xs ys : List Opener) (who : ℕ) (x y : Opener) (found : slice_get xs 
       (subst (λ n. n ≤ most_openers) (sym P.same_length) W.few) W.short
 
   module _ (walk : y.walk ≡ x.walk) where
-    -- and so do they, where the opener has its command still, or has none, which held no record
+    -- cursors stand on the same records
+    pub same_entries : spots_of ys ≡ spots_of xs
+    same_entries = same_spots xs ys (λ o. same_at place_entry (ap (λ w. place_entry (Some (record x { walk = w }))) walk) o)
+
+    -- and so do the bytes, where the opener has its command still, or has none, which held no record
     pub file_replaced : (f : Form) (a : List ℕ) → (y.task ≡ x.task) ⊎ ((y.task ≡ None) × (hands_of_task x.task ≡ [])) → FileStands f xs a → FileStands f ys a
     file_replaced f a left F = record {
       accepted = subst (AcceptWith f a) (ap (λ n. joined n (λ o. hands_at (slice_get xs o))) (sym P.same_length)
@@ -88,9 +96,6 @@ module _ (xs ys : List Opener) (who : ℕ) (x y : Opener) (found : slice_get xs 
 
         same_cursor : cursor_at (Some y) ≡ cursor_at (Some x)
         same_cursor = ap (λ w. Some w.cursor) walk
-
-        same_entries : spots_of ys ≡ spots_of xs
-        same_entries = same_spots xs ys (λ o. same_at place_entry (ap (λ w. place_entry (Some (record x { walk = w }))) walk) o)
 
     -- in the law's words only its command changes, and what it has
     pub state_replaced : (f : Form) (options : Options) (ps : List Piece) (img : List ℕ) (views : ℕ → View) → let old = state_of f options xs ps img in

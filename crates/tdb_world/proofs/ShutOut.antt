@@ -38,82 +38,65 @@ use Rattle.tdb_world.specs.Worlds.{World, state_in, law_of_task, Stands, IsBusy}
 use Rattle.tdb_world.proofs.Beside.{all_past, below_bare}
 use Rattle.tdb_world.proofs.Granted.{unchain_granted, unlock_all_granted}
 use Rattle.tdb_world.proofs.Keeping.{counts_keep, kept_is, counted_kept}
+use Rattle.tdb_world.proofs.Occupied.{found, task_here, own_here, spot_here, stands, job_at, cursor_at, holds}
 use Rattle.tdb_world.proofs.Owned.{own_count}
 use Rattle.tdb_world.proofs.Putting.{by_number}
 use Rattle.tdb_world.proofs.Rests.{walk_well}
 use Rattle.tdb_world.proofs.Standing.{opener_is_ready}
 
-module _ (w : World) (img : List ℕ) (past : Past) (s : Side) (holder who : ℕ) (x : Opener) (t : Task) (B : IsBusy w who x t) (other : holder ≢ who) (O : ShutsOut w img past s holder)
-    (any : List ℕ) (size : ℕ) (W : Stands w any size) where
-  abbrev pub f : Form
+-- An opener with a command is shut out of a world that stands.
+pub record IsBarred (w : World) (img : List ℕ) (past : Past) (s : Side) (holder who : ℕ) (x : Opener) (t : Task) (any : List ℕ) (size : ℕ) : Type 0 where
+  pub busy : IsBusy w who x t
+  pub other : holder ≢ who
+  pub shuts : ShutsOut w img past s holder
+  pub stands : Stands w any size
+
+module _ {w : World} {img : List ℕ} {past : Past} {s : Side} {holder who : ℕ} {x : Opener} {t : Task} {any : List ℕ} {size : ℕ} (C : IsBarred w img past s holder who x t any size) where
+  abbrev f : Form
   f = form_in w.header
 
-  abbrev pub l : ℕ
+  abbrev l : ℕ
   l = law_opener who
 
-  abbrev pub own : Own
+  abbrev own : Own
   own = own_of w.options x
 
-  abbrev pub spot : Spot
+  abbrev spot : Spot
   spot = spot_by x.walk.cursor
 
-  abbrev pub lt : LawTask
-  lt = law_of_task t
-
-  abbrev pub p : State
+  abbrev p : State
   p = state_in w img
 
-  abbrev pub q : State
+  abbrev q : State
   q = beside p past s
 
-  pub found : slice_get w.openers l ≡ Some x
-  found = subst (λ o. slice_get w.openers o ≡ Some x) (sym (by_number who B.number.place B.number.counted)) B.number.there
-
   pub apart : l ≢ s.here
-  apart e = other (let one = O.counted in let two = B.number.counted in omega (arith, one, two, e))
+  apart e = C.other (let one = C.shuts.counted in let two = C.busy.number.counted in omega (arith, one, two, e))
 
-  -- what it has, in the plain state and in the whole one
-  own_here : p.own l ≡ own
-  own_here = ap (own_at w.options) found
-
-  spot_here : p.spot l ≡ spot
-  spot_here = ap spot_at found
-
-  pub task_here : p.task l ≡ Some lt
-  task_here = ap task_at found ∙ ap law_task B.busy
-
+  -- what it has in the whole state
   pub its_own : q.own l ≡ own
-  its_own = put_else p.own s.here s.own l apart ∙ own_here
+  its_own = put_else p.own s.here s.own l apart ∙ own_here C.busy img
 
   pub its_spot : q.spot l ≡ spot
-  its_spot = put_else p.spot s.here nowhere l apart ∙ spot_here
+  its_spot = put_else p.spot s.here nowhere l apart ∙ spot_here C.busy img
 
-  pub its_task : q.task l ≡ Some lt
-  its_task = put_else p.task s.here s.task l apart ∙ task_here
+  pub its_task : q.task l ≡ Some (law_of_task t)
+  its_task = put_else p.task s.here s.task l apart ∙ task_here C.busy img
 
   pub its_view : q.view l ≡ everywhere
-  its_view = put_else (if s.shuts then (λ o. everywhere) else p.view) s.here s.view l apart ∙ ap (λ z. (if z then (λ (o : ℕ). everywhere) else p.view) l) O.shuts
+  its_view = put_else (if s.shuts then (λ o. everywhere) else p.view) s.here s.view l apart ∙ ap (λ z. (if z then (λ (o : ℕ). everywhere) else p.view) l) C.shuts.shuts
 
   -- it stands in the world as one without records
   shut : IsShutOut f p l
-  shut = others_shut_out f p past s l O.sound O.aside O.shuts apart
+  shut = others_shut_out f p past s l C.shuts.sound C.shuts.aside C.shuts.shuts apart
 
   pub few : HasFewChains f
-  few = W.sound.chains
-
-  pub stands : OpenerStands f w.options size (Some x)
-  stands = subst (OpenerStands f w.options size) found (W.openers_stand l)
-
-  pub job : JobStands f own t.job t.steps size
-  job = subst (λ z. TaskStands f own z size) B.busy stands.1
-
-  pub cursor : WalkStands f x.held own (walk_in t.job) t.steps x.walk.cursor
-  cursor = subst (λ z. WalkStands f x.held own (walk_of z) (steps_of z) x.walk.cursor) B.busy stands.2
+  few = C.stands.sound.chains
 
   pub off_records : (chain off : ℕ) → x.walk.cursor.place ≡ On chain off → ⊥
   off_records chain off on =
-      let far = shut.stands off (ap (λ (z : Spot). z.stands) spot_here ∙ ap spot_of on) in
-      let placed = subst IsPlaced on cursor.placed in
+      let far = shut.stands off (ap (λ (z : Spot). z.stands) (spot_here C.busy img) ∙ ap spot_of on) in
+      let placed = subst IsPlaced on (cursor_at C.busy C.stands t.job refl).placed in
       let below = placed.1 in
       omega (arith, far, below)
 
@@ -127,16 +110,13 @@ module _ (w : World) (img : List ℕ) (past : Past) (s : Side) (holder who : ℕ
       at PastChains on = refl
 
   -- and it keeps none
-  pub holds : (b : ℕ) → law_table w.table l b ≡ holding f own spot (Some lt) b
-  holds = (opener_is_ready f w.options w.openers w.table any size l x t W (record { there = found; busy = B.busy })).holds
-
   kept_none : (b : ℕ) → 168 ≤ b → b < 2 ^ 63 → kept f own spot b ≡ 0
-  kept_none b from below = let none = shut.holds b from below in let whole = holds b in omega (arith, none, whole)
+  kept_none b from below = let none = shut.holds b from below in let whole = holds C.busy C.stands b in omega (arith, none, whole)
 
   -- nor anything else
   keeps_none : (b : ℕ) → kept f own spot b ≡ 0
   keeps_none b = elim (cases_lt b 168) [
-    | inl low ↦ below_bare f few w.options x.live x.held (rest_of x.walk) stands.0.counts (walk_well f x.held own (walk_in t.job) t.steps x.walk.cursor cursor) b low
+    | inl low ↦ below_bare f few w.options x.live x.held (rest_of x.walk) (stands C.busy C.stands).0.counts (walk_well f x.held own (walk_in t.job) t.steps x.walk.cursor (cursor_at C.busy C.stands t.job refl)) b low
     | inr from ↦ elim (cases_lt b (2 ^ 63)) [
       | inl below ↦ kept_none b from below
       | inr past ↦ (let whole = kept_is f own spot refl b in
@@ -151,7 +131,7 @@ module _ (w : World) (img : List ℕ) (past : Past) (s : Side) (holder who : ℕ
   -- so before its first step it holds nothing
   pub holds_none : t.steps ≡ 0 → (b : ℕ) → law_table w.table l b ≡ 0
   holds_none new b =
-      let whole = holds b in
+      let whole = holds C.busy C.stands b in
       let bare = ap (λ n. held f (command_in t.job) own spot n b) new ∙ none_held f (command_in t.job) own spot b in
       let keeps = keeps_none b in
       omega (arith, whole, bare, keeps)
@@ -165,7 +145,7 @@ module _ (w : World) (img : List ℕ) (past : Past) (s : Side) (holder who : ℕ
   no_count key some =
       let low = home_below f key few.some in
       let many = few.few in
-      let n = own_count w.options x.live x.held (rest_of x.walk) stands.0.counts (home f key) in
+      let n = own_count w.options x.live x.held (rest_of x.walk) (stands C.busy C.stands).0.counts (home f key) in
       let two = counted_kept f own spot refl (168 + 4 * home f key) (omega (arith, low)) (omega (arith, n, some)) in
       let none = kept_none (168 + 4 * home f key) (omega arith) (omega (arith, low, many)) in
       omega (arith, two, none)
@@ -178,21 +158,21 @@ module _ (w : World) (img : List ℕ) (past : Past) (s : Side) (holder who : ℕ
   may_meet (Jobs.Locking (Locks.Chain key)) is ne = tt
   may_meet (Jobs.Locking (Locks.ChainNb key)) is ne = tt
   may_meet (Jobs.Locking (Locks.Unchain key)) is ne =
-      let J = subst (λ j. JobStands f own j t.steps size) is job in
-      no_count key (unchain_granted f w.options x.live x.held (rest_of x.walk) stands.0.counts key J.1)
+      let J = job_at C.busy C.stands _ is in
+      no_count key (unchain_granted f w.options x.live x.held (rest_of x.walk) (stands C.busy C.stands).0.counts key J.1)
   may_meet (Jobs.Locking Locks.All) is ne = tt
   may_meet (Jobs.Locking Locks.AllRead) is ne = tt
   may_meet (Jobs.Locking Locks.UnlockAll) is ne =
-      let J = subst (λ j. JobStands f own j t.steps size) is job in
-      let untold = unlock_all_granted f w.options x.live x.held (rest_of x.walk) stands.0.counts J.1 in
+      let J = job_at C.busy C.stands _ is in
+      let untold = unlock_all_granted f w.options x.live x.held (rest_of x.walk) (stands C.busy C.stands).0.counts J.1 in
       let bad = ap (unlock_told x.held (is_some x.walk.shown)) (sym (no_all x.held.all refl)) ∙ untold in
       cc bad
   may_meet Jobs.Seqnum is ne = absurd (ne refl)
   may_meet (Jobs.Walk walking) is ne = tt
 
   pub short_lock : (locking : _) → t.job ≡ Jobs.Locking locking → IsShortLocking locking
-  short_lock locking is = (subst (λ j. JobStands f own j t.steps size) is job).2
+  short_lock locking is = (job_at C.busy C.stands (Jobs.Locking locking) is).2
 
   -- a command on the map has had no step
   pub map_new : (c : MapCommand) → command_in t.job ≡ OnMap c → refusal f (OnMap c) own ≡ None → t.steps ≡ 0
-  map_new c is granted = shut.new c t.steps (task_here ∙ ap (λ d. Some (record { command = d; steps = t.steps })) is) (ap (λ (z : Own). z.txn) own_here) (subst (λ z. refusal f (OnMap c) z ≡ None) (sym own_here) granted)
+  map_new c is granted = shut.new c t.steps (task_here C.busy img ∙ ap (λ d. Some (record { command = d; steps = t.steps })) is) (ap (λ (z : Own). z.txn) (own_here C.busy img)) (subst (λ z. refusal f (OnMap c) z ≡ None) (sym (own_here C.busy img)) granted)

@@ -1,12 +1,14 @@
 // Turns of openers while another one holds all records for writing, so that nobody else may look at the file.
 
-ghost use Rattle.std.specs.Prelude.{◌≡◌, ◌≢◌, ◌<◌, ℕ, IfNone, IfSome, MatchBool, None, Some};
+ghost use Rattle.std.specs.Prelude.{◌≡◌, ◌≢◌, ◌<◌, ℕ, List, IfNone, IfSome, MatchBool, None, Some};
 ghost use Rattle.tdb_space.specs.Form.{form_in};
+ghost use Rattle.tdb_law.specs.Commands.Command.{Seqnum};
 ghost use Rattle.tdb_law.specs.Commands.Turn.{Ends};
 ghost use Rattle.tdb_law.specs.Commands.Reply.{Number};
 ghost use Rattle.tdb_law.specs.Effects.{IsFree};
 ghost use Rattle.tdb_law.specs.Turned.{want};
 ghost use Rattle.tdb_beside.specs.Sides.{Past, Side, beside};
+ghost use Rattle.tdb_beside.specs.Turns.{without_task};
 ghost use Rattle.tdb_plays.specs.InLaw.{law_opener, law_turn};
 ghost use Rattle.tdb_steps.specs.LockRows.{start_of};
 ghost use Rattle.tdb_world.specs.declared.job.Job.TheVariants as Jobs;
@@ -14,6 +16,7 @@ ghost use Rattle.tdb_world.specs.declared.job.Locking.{Locking as LockingIs};
 ghost use Rattle.tdb_world.specs.declared.job.Task.{Task};
 ghost use Rattle.tdb_world.specs.declared.opener.Opener.{Opener};
 ghost use Rattle.tdb_world.specs.Given.{IsShortLocking};
+ghost use Rattle.tdb_world.specs.Openers.{command_in};
 ghost use Rattle.tdb_world.specs.ShutOut.{ShutsOut, IsTurnBeside, LockingMeets, WalkMeets, JobMeets, MayMeet, after_job, opener_after};
 ghost use Rattle.tdb_world.specs.Worlds.{state_in, law_of_task, Stands, BytesStand, IsBusy};
 
@@ -141,5 +144,52 @@ impl Openers {
                 ..
             })
         )
+    }
+
+    /// Takes one turn of the opener's command while the opener `holder`, which is aside with its transaction, holds all
+    /// records for writing: nobody else reads the file then, so no call is made on it. None where the command asks for
+    /// the sequence number, which is the caller's to read: then nothing has changed.
+    ///
+    /// A command that wants records is blocked by `holder` at the first byte that it wants: that of its chain, or 168, the
+    /// first of all chains, where it locks all records or moves a cursor. A chain lock that doesn't wait is told that it
+    /// is busy there. A refused command is told so, and an EndWalk or a Close is done at once, since no cursor stands on a
+    /// record. It takes no memory.
+    ///
+    /// Cost: for a lock of a chain a hash of its key.
+    pub fn turn_shut_out(&mut self, who: u32, holder: u32) -> Option<Turn>
+        requires busy { (x : Opener) × (t : Task) × IsBusy self.old who x t }
+        requires other { holder ≢ who }
+        requires stands { (img : List ℕ) × (size : ℕ) × Stands self.old img size }
+        requires shut { (img : List ℕ) × (past : Past) × (s : Side) × ShutsOut self.old img past s holder }
+        ensures turned { IfSome result (λ turn. (img : List ℕ) (past : Past) (s : Side) (x : Opener) (t : Task) → IsBusy self.old who x t → ShutsOut self.old img past s holder
+            → IsTurnBeside self.old self.new img past s (law_opener who) (law_of_task t) (law_turn turn)) }
+        ensures asks { IfNone result ((x : Opener) (t : Task) → IsBusy self.old who x t → law_of_task t ≡ record { command = Seqnum; steps = 0 }) }
+        ensures same { IfNone result (self.new ≡ self.old) }
+        ensures stands { (img : List ℕ) (size : ℕ) → Stands self.old img size → Stands self.new img size }
+        ensures bytes { (img : List ℕ) → BytesStand self.old img → BytesStand self.new img }
+        ensures header { self.new.header ≡ self.old.header }
+        ensures options { self.new.options ≡ self.old.options }
+    {
+        if self.asks_number(who) {
+            return None;
+        }
+        Some(self.meet(who, holder))
+    }
+
+    /// Ends the command of an opener that asks for the sequence number, which the caller has read. Beside an opener that
+    /// holds all records for writing, and doesn't stand in the way of the number, it is the turn that tells the number.
+    pub fn end_seqnum(&mut self, who: u32)
+        requires asks { (x : Opener) × (t : Task) × IsBusy self.old who x t × (command_in t.job ≡ Seqnum) }
+        requires stands { (img : List ℕ) × (size : ℕ) × Stands self.old img size }
+        ensures ended { (img : List ℕ) → state_in self.new img ≡ without_task (state_in self.old img) (law_opener who) }
+        ensures turned { (holder : ℕ) (img : List ℕ) (past : Past) (s : Side) (x : Opener) (t : Task) → IsBusy self.old who x t → holder ≢ who → ShutsOut self.old img past s holder
+            → let whole = beside (state_in self.old img) past s in IsFree whole.table (law_opener who) (want (form_in self.old.header) whole (law_opener who) (law_of_task t))
+            → IsTurnBeside self.old self.new img past s (law_opener who) (law_of_task t) (Ends (Number whole.number)) }
+        ensures stands { (img : List ℕ) (size : ℕ) → Stands self.old img size → Stands self.new img size }
+        ensures bytes { (img : List ℕ) → BytesStand self.old img → BytesStand self.new img }
+        ensures header { self.new.header ≡ self.old.header }
+        ensures options { self.new.options ≡ self.old.options }
+    {
+        self.drop_task(who);
     }
 }

@@ -5,8 +5,6 @@ use Rattle.tdb_world.specs.declared.job.Task.{Task}
 use Rattle.tdb_space.specs.Form.{form_in}
 use Rattle.tdb_world.specs.ShutOut.{JobMeets, opener_after}
 use Rattle.tdb_world.specs.Worlds.{World}
-use Rattle.tdb_world.proofs.Wanting.{FirstAt}
-use Rattle.tdb_world.proofs.ShutWorlds.{turned_to}
 use Rattle.tdb_world.proofs.Meeting.{kept_walk}
 use Rattle.tdb_world.proofs.Putting.{spots_still}
 use Rattle.tdb_world.proofs.Replaced.{is_numbered, replaced, busy_there}
