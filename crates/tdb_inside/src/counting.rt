@@ -1,6 +1,6 @@
 //! The commands on explicit locks inside a transaction, which are only counted: nothing comes into the lock table.
-ghost use Rattle.std.specs.Prelude.{◌≡◌, ℕ, List, IfSome};
-ghost use Rattle.tdb_locks.specs.HeldLocks.{AreCounts};
+ghost use Rattle.std.specs.Prelude.{◌≡◌, ◌≤◌, ◌+◌, ℕ, List, IfSome};
+ghost use Rattle.tdb_locks.specs.HeldLocks.{total_of, AreCounts};
 ghost use Rattle.tdb_space.specs.Form.{Form};
 ghost use Rattle.tdb_space.specs.Pairs.{home};
 ghost use Rattle.tdb_law.specs.Commands.LockCommand.{ChainLock, ChainLockNb, ChainUnlock, UnlockAll};
@@ -17,6 +17,7 @@ pub fn count_chain(held: &mut Held, chain: u32) -> Reply
     ensures turned { (f : Form) (x : Own) (t : Txn) (key : List ℕ) → home f key ≡ chain → IsInside x t → IsCounted held.old x → CountsInside f x (ChainLock key) held.new (reply_of result) }
     ensures at_once { (f : Form) (x : Own) (t : Txn) (key : List ℕ) → home f key ≡ chain → IsInside x t → IsCounted held.old x → CountsInside f x (ChainLockNb key) held.new (reply_of result) }
     ensures counts { AreCounts held.new.chains }
+    ensures total { total_of held.new ≤ total_of held.old + 1 }
 {
     if held.chain_count(chain) == u32::MAX {
         return Reply::Memory;
@@ -33,6 +34,7 @@ pub fn uncount_chain(held: &mut Held, chain: u32) -> Reply
     requires counts { AreCounts held.old.chains }
     ensures turned { (f : Form) (x : Own) (t : Txn) (key : List ℕ) → home f key ≡ chain → IsInside x t → IsCounted held.old x → CountsInside f x (ChainUnlock key) held.new (reply_of result) }
     ensures counts { AreCounts held.new.chains }
+    ensures total { total_of held.new ≤ total_of held.old }
 {
     if held.chain_count(chain) == 0 {
         return Reply::NotLocked;
@@ -66,6 +68,7 @@ fn less_of(all: (Kind, u32)) -> Option<(Kind, u32)>
 pub fn count_all(held: &mut Held, kind: Kind) -> Reply
     ensures turned { (f : Form) (x : Own) (t : Txn) → IsInside x t → IsCounted held.old x → CountsInside f x (lock_all_of kind) held.new (reply_of result) }
     ensures chains { held.new.chains ≡ held.old.chains }
+    ensures total { total_of held.new ≤ total_of held.old + 1 }
 {
     let Some(now) = more_of(held.all(), kind) else {
         return Reply::Memory;
@@ -78,6 +81,7 @@ pub fn count_all(held: &mut Held, kind: Kind) -> Reply
 pub fn uncount_all(held: &mut Held) -> Reply
     ensures turned { (f : Form) (x : Own) (t : Txn) → IsInside x t → IsCounted held.old x → CountsInside f x UnlockAll held.new (reply_of result) }
     ensures chains { held.new.chains ≡ held.old.chains }
+    ensures total { total_of held.new ≤ total_of held.old }
 {
     let Some(all) = held.all() else {
         return Reply::NotLocked;
