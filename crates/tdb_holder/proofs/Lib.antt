@@ -11,3 +11,7 @@ pub mod PrepareTurns
 pub mod FinishTurns
 pub mod InsideTurns
 pub mod Waiting
+pub mod Counts
+pub mod Asked
+pub mod Replies
+pub mod Opened

@@ -4,7 +4,11 @@
 mod ends;
 mod lifts;
 mod waits;
+mod open_txn;
+mod options;
+mod refusing;
 
 pub use crate::ends::{ends_are_own, inside_is_own, machines_are_own};
 pub use crate::lifts::side_turns;
 pub use crate::waits::blocks_are_own;
+pub use crate::options::Options;
