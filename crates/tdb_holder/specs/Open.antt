@@ -1,5 +1,5 @@
 -- An opener inside its transaction, which isn't prepared, in the words of the law.
-use Rattle.std.specs.Prelude.{◌≡◌, ℕ, ◌≤◌, ◌<◌, ◌-◌, ◌^◌, List, Some, None}
+use Rattle.std.specs.Prelude.{◌≡◌, ℕ, ◌≤◌, List, Some, None}
 use Rattle.tdb_words.specs.declared.header.Header.{Header}
 use Rattle.tdb_space.specs.Form.{form_in}
 use Rattle.tdb_law.specs.Commands.{Command as LawCommand, Reply}
@@ -10,8 +10,6 @@ use Rattle.tdb_txn.specs.Txn.{txn_size, txn_start}
 use Rattle.tdb_inside.specs.Counted.{IsCounted}
 use Rattle.tdb_inside.specs.OwnTxns.{law_txn, image_of, form_of}
 use Rattle.tdb_inside.specs.Turns.{TurnsInside}
-use Rattle.tdb_plays.specs.declared.command.Command.{Command}
-use Rattle.tdb_plays.specs.declared.command.Command.TheVariants as Given
 use Rattle.tdb_holder.specs.declared.options.Options.{Options}
 use Rattle.tdb_holder.specs.declared.open_txn.OpenTxn.{OpenTxn}
 use Rattle.tdb_holder.specs.Refusing.{options_of}
@@ -36,40 +34,3 @@ pub record OpenFits (t : OpenTxn) (h : Header) (limit size : ℕ) : Type 0 where
   pub header : form_in h ≡ form_of t.own
   pub sized : size ≡ txn_start t.own.txn
   pub within : txn_size t.own.txn ≤ limit
-
--- a command on explicit locks, and one on transactions
-abbrev pub IsLocking : Command → Type 0
-IsLocking (Given.ChainLock key) = Unit {0}
-IsLocking (Given.ChainLockNb key) = Unit {0}
-IsLocking (Given.ChainUnlock key) = Unit {0}
-IsLocking Given.LockAll = Unit {0}
-IsLocking Given.LockAllRead = Unit {0}
-IsLocking Given.UnlockAll = Unit {0}
-IsLocking _ = ⊥
-
--- a command on the map, but a check
-abbrev pub IsMapped : Command → Type 0
-IsMapped (Given.Fetch key) = Unit {0}
-IsMapped (Given.Has key) = Unit {0}
-IsMapped (Given.Store key value flag) = Unit {0}
-IsMapped (Given.Append key value) = Unit {0}
-IsMapped (Given.Delete key) = Unit {0}
-IsMapped Given.Wipe = Unit {0}
-IsMapped _ = ⊥
-
--- A command that may leave the transaction open, where so many are open within it, but a Commit and a Prepare. The count of those within
--- it has room for a Start, and a Cancel ends one of them.
-abbrev pub IsPlainInside : Command → ℕ → Type 0
-IsPlainInside Given.Start depth = depth < 2 ^ 32 - 1
-IsPlainInside Given.Cancel depth = 0 < depth
-IsPlainInside Given.Commit depth = ⊥
-IsPlainInside Given.Prepare depth = ⊥
-IsPlainInside Given.First depth = ⊥
-IsPlainInside Given.Close depth = ⊥
-IsPlainInside command depth = Unit {0}
-
--- so may a Commit and a Prepare of one within it
-abbrev pub IsInside : Command → ℕ → Type 0
-IsInside Given.Commit depth = 0 < depth
-IsInside Given.Prepare depth = 0 < depth
-IsInside command depth = IsPlainInside command depth
