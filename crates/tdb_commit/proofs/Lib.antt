@@ -6,3 +6,4 @@ pub mod Planned
 pub mod Carried
 pub mod CommitTurns
 pub mod Lawful
+pub mod Shutting

@@ -1,8 +1,10 @@
 -- The turns that end a commit whose gate is open: the last four of a Commit, and those of a Commit after a Prepare.
-use Rattle.std.specs.Prelude.{ℕ, ◌+◌, ◌≡◌, ◌⊎◌, List}
+use Rattle.std.specs.Prelude.{ℕ, ◌+◌, ◌≡◌, ◌⊎◌, List, []}
 use Rattle.tdb_disk.specs.Count.{RoseBy}
 use Rattle.tdb_disk.specs.History.{History, seen}
 use Rattle.tdb_disk.specs.Stop.{Quiet}
+use Rattle.tdb_space.specs.Accepted.{AcceptWith}
+use Rattle.tdb_space.specs.Form.{form_of}
 use Rattle.tdb_space.specs.Undoing.{Reopens}
 use Rattle.tdb_law.specs.Commands.{Reply, Turn}
 use Rattle.tdb_txn.specs.Commit.{IsPrepared, IsApplied, IsSettled}
@@ -32,9 +34,10 @@ FinishFits (Applied state) size = size ≡ plan_length (applied_plan state)
 FinishFits (Settled state) size = size ≡ plan_length (settled_plan state)
 FinishFits Shut size = Unit {0}
 
--- The commit is done but for its end: a stop leaves the file as it is, and it opens to the map of the transaction's image b.
+-- The commit is done but for its end: a stop leaves the file as it is, and it is accepted, in the form of the transaction's image b, and opens to the map of that.
 pub record IsShut (h : History) (b : List ℕ) : Type 0 where
   pub quiet : Quiet h
+  pub accepted : AcceptWith (form_of b) (seen h) []
   pub opens : OpensAs b (seen h)
 
 -- what is known at each stage, of image r of the file before the commit and image b of the transaction
