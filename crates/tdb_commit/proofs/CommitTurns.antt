@@ -1,5 +1,5 @@
 -- The turns of a Commit are those of a Prepare, and then those that end it.
-use Rattle.std.proofs.Common.{◌≡◌, ℕ, ◌≤◌, ◌+◌, List, Bool, true, false, refl, ap, subst, sym, arith, inl, inr}
+use Rattle.std.proofs.Common.{◌≡◌, ℕ, ◌≤◌, ◌+◌, List, Bool, true, false, refl, ap, subst, sym, ◌∙◌, arith, inl, inr}
 use Rattle.tdb_locks.specs.declared.piece.Piece.{Piece}
 use Rattle.tdb_law.specs.Commands.Reply.{Done}
 use Rattle.tdb_law.specs.Commands.Turn.{Step, Ends}
@@ -67,7 +67,7 @@ late_planning (Planned state) late = tt
 late_planning (Filled state) late = tt
 
 pub prepare_leads : (p : Prepares.Preparing) (turn : PrepareTurn) → PrepareLeads p turn → CommitLeads (Preparing p) (commit_after turn)
-prepare_leads p (To.Step next) leads = (leads.0, leads.1, leads.2)
+prepare_leads p (To.Step next) leads = (leads.0, leads.1, leads.2, λ numbered same. leads.3 ∙ same)
 prepare_leads p (To.Blocked owner byte again) leads = (leads.0, leads.1, ap Preparing leads.2)
 prepare_leads p To.Nothing leads = elim leads [
   | inl none ↦ unchanged p.numbered (ap (λ s. Preparing (at_stage p.numbered s)) none)
@@ -75,4 +75,4 @@ prepare_leads p To.Nothing leads = elim leads [
 ]
 prepare_leads p (To.Full len need) leads = (late_planning p.stage (omega (arith, leads)), leads)
 prepare_leads p To.Memory leads = leads
-prepare_leads p (To.Done state) leads = (late_planning p.stage (omega (arith, leads)), tt, omega (arith, leads))
+prepare_leads p (To.Done state) leads = (late_planning p.stage (omega (arith, leads)), tt, omega (arith, leads), λ numbered same. tt)

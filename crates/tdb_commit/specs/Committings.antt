@@ -78,9 +78,9 @@ abbrev pub MayGoOn : Committing → Type 0
 MayGoOn (Preparing p) = IsPlanning p.stage
 MayGoOn (Finishing s) = Unit {0}
 
--- the turns in their order
+-- the turns in their order; whether its changes raise the sequence number stays
 abbrev pub CommitLeads : Committing → CommitTurn → Type 0
-CommitLeads c (Step next) = MayGoOn c × MayGoOn next × (commit_steps next ≡ commit_steps c + 1)
+CommitLeads c (Step next) = MayGoOn c × MayGoOn next × (commit_steps next ≡ commit_steps c + 1) × ((numbered : Bool) → IsNumbered c numbered → IsNumbered next numbered)
 CommitLeads c (Blocked owner byte again) = MayGoOn c × (commit_steps c < 2) × (again ≡ c)
 CommitLeads c (Full len need) = MayGoOn c × (commit_steps c ≡ 2)
 CommitLeads c Memory = MayGoOn c × (commit_steps c < 3)
