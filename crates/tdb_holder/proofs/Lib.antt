@@ -15,3 +15,7 @@ pub mod Counts
 pub mod Asked
 pub mod Replies
 pub mod Opened
+pub mod Resting
+pub mod Rows
+pub mod Sided
+pub mod Committed

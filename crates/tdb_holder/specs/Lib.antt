@@ -5,3 +5,6 @@ pub mod Short
 pub mod Given
 pub mod Refusing
 pub mod Open
+pub mod Stages
+pub mod Turned
+pub mod Wents

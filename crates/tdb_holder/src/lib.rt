@@ -1,12 +1,15 @@
 //! The opener aside, which has a transaction: the laws that make its turns those of a world.
 #![tactic(auto)]
 
+mod committing;
 mod ends;
 mod lifts;
 mod waits;
 mod open_txn;
 mod options;
 mod refusing;
+mod stage;
+mod waits;
 
 pub use crate::ends::{ends_are_own, inside_is_own, machines_are_own};
 pub use crate::lifts::side_turns;

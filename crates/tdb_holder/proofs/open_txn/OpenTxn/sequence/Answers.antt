@@ -1,5 +1,5 @@
 -- The number in the words of the law.
-use Rattle.std.proofs.Common.{◌+◌, refl, arith}
+use Rattle.std.proofs.Common.{refl, arith}
 use Rattle.tdb_disk.specs.History.{seen}
 use Rattle.tdb_law.specs.Commands.Command.{Seqnum}
 use Rattle.tdb_holder.proofs.Opened.{goes_still, granted_as, weaker}

@@ -1,0 +1,30 @@
+-- A side before a turn of a Start, a Commit or a Prepare, and after it.
+use Rattle.std.proofs.Common.{◌≡◌, ℕ, List, Option, Some, refl, ◌∙◌}
+use Rattle.tdb_space.specs.Form.{Form}
+use Rattle.tdb_locks.specs.declared.piece.Piece.{Piece}
+use Rattle.tdb_law.specs.Commands.{Turn}
+use Rattle.tdb_law.specs.Openers.{Own, Task}
+use Rattle.tdb_law.specs.Effects.{task_left}
+use Rattle.tdb_steps.specs.Holdings.{table_of}
+use Rattle.tdb_beside.specs.Sides.{Past, Side}
+use Rattle.tdb_holder.specs.declared.options.Options.{Options}
+use Rattle.tdb_holder.specs.declared.stage.Stage.{Stage}
+use Rattle.tdb_holder.specs.Ends.{TurnBegins, TurnLeaves}
+use Rattle.tdb_holder.specs.Stages.{stage_task, Known, IsSide}
+use Rattle.tdb_holder.specs.Turned.{MayTurn}
+
+-- the side with other locks, another task and another opener
+abbrev pub side_after : Side → ℕ → List Piece → Own → Option Task → Side
+side_after s owner rs y task = record s { table = table_of rs owner; task = task; own = y }
+
+pub begins : (f : Form) (o : Options) (table : ℕ → ℕ → ℕ) (owner : ℕ) (ps : List Piece) (stage : Stage) (k : Known) (past : Past) (s : Side) (t : Task)
+    → IsSide f o owner ps stage k past s → stage_task stage ≡ Some t → MayTurn f table s t → TurnBegins f table s s.own t
+begins f o table owner ps stage k past s t S has M = record { own = refl; task = S.task ∙ has; keeps = S.keeps; free = M.free }
+
+-- what a turn leaves that counts nothing and settles nothing
+pub leaves : (past : Past) (s : Side) (t : Task) (turn : Turn) (owner : ℕ) (rs : List Piece) (y : Own)
+    → TurnLeaves past past s (side_after s owner rs y (task_left t.command t.steps turn)) t turn y past.settled (past.numbers s.here)
+leaves past s t turn owner rs y = record { here = refl; own = refl; task = refl; settled = refl; number = refl; others = λ o differs. refl }
+
+pub same_task : (t u : Task) → Some t ≡ Some u → t ≡ u
+same_task t u e = cc

@@ -1,0 +1,165 @@
+-- An opener with a transaction at each stage: what the law sees of it, and what is known of the file.
+use Rattle.std.specs.Prelude.{◌≡◌, ℕ, ◌+◌, ◌-◌, ◌^◌, ◌<◌, ◌≤◌, List, Bool, true, false, Option, None, Some}
+use Rattle.tdb_disk.specs.History.{History, seen}
+use Rattle.tdb_words.specs.declared.header.Header.{Header}
+use Rattle.tdb_space.specs.Form.{Form, form_of}
+use Rattle.tdb_locks.specs.declared.piece.Piece.{Piece}
+use Rattle.tdb_law.specs.Commands.{GroupCommand}
+use Rattle.tdb_law.specs.Commands.GroupCommand.{Start, Commit, Prepare}
+use Rattle.tdb_law.specs.Commands.Command.{OnGroup}
+use Rattle.tdb_law.specs.Openers.{Own, Txn, Task, nowhere}
+use Rattle.tdb_law.specs.Held.{holding}
+use Rattle.tdb_law.specs.Images.{image_map}
+use Rattle.tdb_law.specs.Refusals.{refusal}
+use Rattle.tdb_steps.specs.Turns.{number_of}
+use Rattle.tdb_txn.specs.Commit.{IsPrepared}
+use Rattle.tdb_txn.specs.CommitStates.{prepared_plan, plan_length}
+use Rattle.tdb_txn.specs.Txn.{txn_depth}
+use Rattle.tdb_commit.specs.Commits.{Carries, RestsAt}
+use Rattle.tdb_commit.specs.Starts.{start_steps}
+use Rattle.tdb_commit.specs.Prepares.{prepare_steps, IsReady, KnowsStage, StageFits}
+use Rattle.tdb_commit.specs.Finishes.{finish_steps, FinishFits, KnowsFinish}
+use Rattle.tdb_commit.specs.Committings.{commit_steps, CommitFits, IsNumbered, KnowsCommit}
+use Rattle.tdb_commit.specs.Laws.{HasChange, HasPlan}
+use Rattle.tdb_commit.specs.declared.committing.Committing.{Committing}
+use Rattle.tdb_commit.specs.declared.preparing.Preparing.{Preparing}
+use Rattle.tdb_plays.specs.InLaw.{law_command}
+use Rattle.tdb_plays.specs.declared.command.Command.{Command}
+use Rattle.tdb_plays.specs.declared.command.Command.TheVariants as Given
+use Rattle.tdb_beside.specs.Sides.{Past, Side}
+use Rattle.tdb_holder.specs.declared.options.Options.{Options}
+use Rattle.tdb_holder.specs.declared.stage.PreparedTxn.{PreparedTxn}
+use Rattle.tdb_holder.specs.declared.stage.PreparedTxn.TheVariants.{Opened, Nothing}
+use Rattle.tdb_holder.specs.declared.stage.Stage.{Stage}
+use Rattle.tdb_holder.specs.declared.stage.Stage.TheVariants as At
+use Rattle.tdb_holder.specs.Ends.{task_of, HoldsIn, IsOuter}
+use Rattle.tdb_holder.specs.Given.{IsShortCommand}
+use Rattle.tdb_holder.specs.Open.{HasOpen, OpenFits}
+use Rattle.tdb_holder.specs.Refusing.{options_of}
+use Rattle.tdb_holder.specs.Waits.{IsAlone}
+
+-- the command of an opener, and the steps that it has had
+abbrev pub given_task : Option Command → Option Task
+given_task None = None
+given_task (Some c) = Some (task_of (law_command c) 0)
+
+abbrev pub stage_task : Stage → Option Task
+stage_task (At.Starting s) = Some (task_of (OnGroup Start) (start_steps s))
+stage_task (At.Open txn command) = given_task command
+stage_task (At.Committing c) = Some (task_of (OnGroup Commit) (commit_steps c))
+stage_task (At.Preparing p) = Some (task_of (OnGroup Prepare) (prepare_steps p))
+stage_task (At.Prepared left command) = given_task command
+stage_task (At.Finishing s) = Some (task_of (OnGroup Commit) (finish_steps s))
+
+-- The image whose map and number the file has, an open gate undone; and the image of the transaction.
+pub record Known : Type 0 where
+  pub file : List ℕ
+  pub image : List ℕ
+
+-- The opener has an outer transaction with this image, and its own state doesn't refuse this command of it.
+pub record HasOuter (f : Form) (image : List ℕ) (g : GroupCommand) (prepared : Option ℕ) (txn : Txn) (x : Own) : Type 0 where
+  pub outer : IsOuter f x txn g
+  pub map : txn.image ≡ image_map f image
+  pub prepared_is : txn.prepared ≡ prepared
+
+-- how many steps a Prepare had, and whether something was changed in its transaction
+abbrev pub prepared_steps : PreparedTxn → ℕ
+prepared_steps (Opened state) = 4
+prepared_steps (Nothing true) = 2
+prepared_steps (Nothing false) = 0
+
+abbrev pub was_changed : PreparedTxn → Bool
+was_changed (Opened state) = true
+was_changed (Nothing changed) = changed
+
+-- what the opener has at each stage
+pub record StartsWith (f : Form) (x : Own) : Type 0 where
+  pub outside : x.txn ≡ None
+  pub granted : refusal f (OnGroup Start) x ≡ None
+
+pub record CommitsWith (f : Form) (image : List ℕ) (c : Committing) (x : Own) : Type 0 where
+  pub txn : Txn
+  pub has : HasOuter f image Commit None txn x
+  pub change : HasChange txn c
+  pub numbered : IsNumbered c txn.numbered
+
+pub record PreparesWith (f : Form) (image : List ℕ) (p : Preparing) (x : Own) : Type 0 where
+  pub txn : Txn
+  pub has : HasOuter f image Prepare None txn x
+  pub plan : HasPlan txn p.stage
+  pub numbered : p.numbered ≡ txn.numbered
+
+pub record IsPreparedWith (f : Form) (image : List ℕ) (steps : ℕ) (changed : Bool) (x : Own) : Type 0 where
+  pub txn : Txn
+  pub has : HasOuter f image Commit (Some steps) txn x
+  pub change : txn.changed ≡ changed
+
+abbrev pub OwnIs : Form → Options → Known → Stage → Own → Type 0
+OwnIs f o k (At.Starting s) x = StartsWith f x
+OwnIs f o k (At.Open txn command) x = HasOpen o txn k.file x
+OwnIs f o k (At.Committing c) x = CommitsWith f k.image c x
+OwnIs f o k (At.Preparing p) x = PreparesWith f k.image p x
+OwnIs f o k (At.Prepared left command) x = IsPreparedWith f k.image (prepared_steps left) (was_changed left) x
+OwnIs f o k (At.Finishing s) x = IsPreparedWith f k.image 4 true x
+
+-- What is known of the file. From the turn on that shuts the gate the file has the image.
+abbrev pub KnowsAt : Form → Stage → History → Known → Type 0
+KnowsAt f (At.Starting s) h k = seen h ≡ k.file
+KnowsAt f (At.Open txn command) h k = IsReady txn.own.txn h k.file k.image
+KnowsAt f (At.Committing c) h k = KnowsCommit c h k.file k.image × (8 ≤ commit_steps c → k.file ≡ k.image)
+KnowsAt f (At.Preparing p) h k = KnowsStage p.stage h k.file k.image
+KnowsAt f (At.Prepared (Opened state) command) h k = Carries (IsPrepared (prepared_plan state)) h k.file k.image
+KnowsAt f (At.Prepared (Nothing changed) command) h k = RestsAt h k.file × (changed ≡ true → k.image ≡ k.file)
+KnowsAt f (At.Finishing s) h k = KnowsFinish s h k.file k.image × (3 ≤ finish_steps s → k.file ≡ k.image)
+
+-- both images have the form of the file, once there is a transaction
+abbrev pub HasForms : Form → Stage → Known → Type 0
+HasForms f (At.Starting s) k = Unit {0}
+HasForms f stage k = (form_of k.file ≡ f) × (form_of k.image ≡ f)
+
+pub record KnowsFile (f : Form) (stage : Stage) (h : History) (k : Known) : Type 0 where
+  pub at : KnowsAt f stage h k
+  pub forms : HasForms f stage k
+
+-- The numbers of the world are those of the images: that of the opener's image, where it has a transaction; where changes don't count there
+-- the number stays that of the file.
+pub record HasNumbers (f : Form) (k : Known) (number : ℕ) (x : Own) : Type 0 where
+  pub image : (t : Txn) → x.txn ≡ Some t → number ≡ number_of f k.image
+  pub still : (t : Txn) → x.txn ≡ Some t → t.numbered ≡ false → number_of f k.image ≡ number_of f k.file
+
+-- The opener with this number, whose locks these are, at this stage: it is the side of a state. It is alone in its lock table.
+pub record IsSide (f : Form) (o : Options) (owner : ℕ) (ps : List Piece) (stage : Stage) (k : Known) (past : Past) (s : Side) : Type 0 where
+  pub here : owner ≡ s.here + 1
+  pub alone : IsAlone owner ps
+  pub table : HoldsIn ps owner s
+  pub holds : (b : ℕ) → s.table b ≡ holding f s.own nowhere s.task b
+  pub task : s.task ≡ stage_task stage
+  pub keeps : s.view.must ≡ false
+  pub live : s.own.live ≡ true
+  pub options : s.own.options ≡ options_of o
+  pub own : OwnIs f o k stage s.own
+  pub numbers : HasNumbers f k (past.numbers s.here) s.own
+
+-- a command that may be given to an opener inside so many transactions more
+abbrev pub MayBeGiven : Command → ℕ → Type 0
+MayBeGiven Given.Start depth = depth < 2 ^ 32 - 1
+MayBeGiven Given.First depth = ⊥
+MayBeGiven command depth = Unit {0}
+
+abbrev pub CommandFits : Option Command → ℕ → Type 0
+CommandFits None depth = Unit {0}
+CommandFits (Some command) depth = IsShortCommand command × MayBeGiven command depth
+
+-- what a stage asks of the file's header and length, where it may get so many bytes, and of the command
+abbrev pub IsFit : Stage → Header → ℕ → ℕ → Type 0
+IsFit (At.Starting s) h limit size = Unit {0}
+IsFit (At.Open txn command) h limit size = OpenFits txn h limit size × CommandFits command (txn_depth txn.own.txn)
+IsFit (At.Committing c) h limit size = CommitFits c size limit
+IsFit (At.Preparing p) h limit size = StageFits p.stage size limit
+IsFit (At.Prepared (Opened state) command) h limit size = (size ≡ plan_length (prepared_plan state)) × CommandFits command 0
+IsFit (At.Prepared (Nothing changed) command) h limit size = CommandFits command 0
+IsFit (At.Finishing s) h limit size = FinishFits s size
+
+abbrev pub IsFitLeft : Option Stage → Header → ℕ → ℕ → Type 0
+IsFitLeft None h limit size = Unit {0}
+IsFitLeft (Some stage) h limit size = IsFit stage h limit size
