@@ -15,17 +15,15 @@ use Rattle.tdb_law.specs.Held.{holding, locked}
 use Rattle.tdb_law.specs.Images.{image_map}
 use Rattle.tdb_law.specs.Rows.{commits_in, plans_in}
 use Rattle.tdb_commit.specs.Holding.{held_after, HoldsRow, RowTurned}
-use Rattle.tdb_commit.specs.Prepares.{start_held, stage_steps, IsPlanning, KnowsStage}
+use Rattle.tdb_commit.specs.Prepares.{start_held}
 use Rattle.tdb_commit.specs.Committings.{commit_row, commit_steps, commit_turn, CommitLeads, CommitMade, IsNumbered, KnowsCommit, MayGoOn, CanEnd, unchanged, planned, shut}
-use Rattle.tdb_commit.specs.Laws.{HasChange, HasPlan, commits}
+use Rattle.tdb_commit.specs.Laws.{HasChange, commits}
 use Rattle.tdb_commit.proofs.Lawful.{commit_holds}
 use Rattle.tdb_commit.specs.declared.committing.Committing.{Committing}
 use Rattle.tdb_commit.specs.declared.committing.Committing.TheVariants.{Preparing, Finishing}
 use Rattle.tdb_commit.specs.declared.committing.CommitTurn.{CommitTurn}
 use Rattle.tdb_commit.specs.declared.committing.CommitTurn.TheVariants.{Step, Blocked, Full, Memory, Done}
 use Rattle.tdb_commit.specs.declared.finishing.Finishing.TheVariants.{Open, Applied, Settled, Shut}
-use Rattle.tdb_commit.specs.declared.preparing.PrepareStage.{PrepareStage}
-use Rattle.tdb_commit.specs.declared.preparing.PrepareStage.TheVariants.{Unchanged, Begun, Records, Locked, Planned, Filled}
 use Rattle.tdb_steps.specs.Turns.{number_of}
 use Rattle.tdb_plays.specs.InLaw.{law_turn}
 use Rattle.tdb_beside.specs.Sides.{Past, Side}
@@ -38,8 +36,9 @@ use Rattle.tdb_holder.specs.Turned.{IsBackAs, MayTurn, StageTurned, RestsLike}
 use Rattle.tdb_holder.specs.Waits.{IsAlone, of_commit}
 use Rattle.tdb_holder.specs.Wents.{commit_went}
 use Rattle.tdb_holder.proofs.Sided.{begins, leaves, side_after}
+use Rattle.tdb_holder.proofs.PlanStages.{early_like, few_planning, going_or_none, plan_goes}
 use Rattle.tdb_holder.proofs.Planned.{going_row, has_change, plans_commits}
-use Rattle.tdb_holder.proofs.Resting.{ready_like, rests_like, shut_like}
+use Rattle.tdb_holder.proofs.Resting.{rests_like, shut_like}
 use Rattle.tdb_holder.proofs.Rows.{holds_at_first}
 use Rattle.tdb_holder.proofs.Waiting.{alone_goes}
 use Rattle.tdb_holder.proofs.CommitTurns.{commit_is_own}
@@ -51,27 +50,11 @@ other_number : (n m : ℕ) → (n == m) ≡ false → n ≡ m → ⊥
 other_number n m e same = grind (arith, nat_tests)
 
 -- a Commit goes on, or nothing was changed
-going_or_none : (c : Committing) → MayGoOn c ⊎ ((commit_steps c ≡ 0) × ((numbered : Bool) → commit_row c numbered ≡ []))
-going_or_none (Finishing s) = inl tt
-going_or_none (Preparing p) = by_stage p.stage refl
-  where
-    by_stage : (s : PrepareStage) → p.stage ≡ s → MayGoOn (Preparing p) ⊎ ((commit_steps (Preparing p) ≡ 0) × ((numbered : Bool) → commit_row (Preparing p) numbered ≡ []))
-    by_stage Unchanged is = inr (rw is refl, λ numbered. rw is refl)
-    by_stage (Begun txn) is = inl (rw is tt)
-    by_stage (Records txn) is = inl (rw is tt)
-    by_stage (Locked txn) is = inl (rw is tt)
-    by_stage (Planned state) is = inl (rw is tt)
-    by_stage (Filled state) is = inl (rw is tt)
+going : (c : Committing) → MayGoOn c ⊎ ((commit_steps c ≡ 0) × ((numbered : Bool) → commit_row c numbered ≡ []))
+going (Preparing p) = elim (going_or_none p.stage) [ inl some ↦ inl some | inr none ↦ inr (none.0, λ numbered. none.1 p.numbered) ]
+going (Finishing s) = inl tt
 
 -- and so the next one has the change
-plan_goes : (t : Txn) (s : PrepareStage) → IsPlanning s → plans_in t ≡ true → HasPlan t s
-plan_goes t Unchanged some plans = absurd some
-plan_goes t (Begun txn) some plans = plans
-plan_goes t (Records txn) some plans = plans
-plan_goes t (Locked txn) some plans = plans
-plan_goes t (Planned state) some plans = plans
-plan_goes t (Filled state) some plans = plans
-
 change_goes : (t : Txn) (c : Committing) → MayGoOn c → plans_in t ≡ true → HasChange t c
 change_goes t (Preparing p) some plans = plan_goes t p.stage some plans
 change_goes t (Finishing s) some plans = plans
@@ -85,10 +68,10 @@ module _ (f : Form) (o : Options) (table : ℕ → ℕ → ℕ) (owner limit : �
   numbered = S.own.txn.numbered
 
   holds_row : HoldsRow (commit_row c numbered) start_held owner (commit_steps c) ps
-  holds_row b = sym (S.table b) ∙ S.holds b ∙ ap (λ task. holding f s.own nowhere task b) S.task ∙ elim (going_or_none c) [
-    | inl going ↦
-        (commit_holds f s.own txn nowhere s.view Commit (commit_steps c) b commits S.own.has.outer.granted S.own.has.outer.has (has_change txn c going S.own.change)).0
-        ∙ ap (λ row. max (locked row (commit_steps c) b) (start_held b)) (sym (going_row c numbered going S.own.numbered))
+  holds_row b = sym (S.table b) ∙ S.holds b ∙ ap (λ task. holding f s.own nowhere task b) S.task ∙ elim (going c) [
+    | inl some ↦
+        (commit_holds f s.own txn nowhere s.view Commit (commit_steps c) b commits S.own.has.outer.granted S.own.has.outer.has (has_change txn c some S.own.change)).0
+        ∙ ap (λ row. max (locked row (commit_steps c) b) (start_held b)) (sym (going_row c numbered some S.own.numbered))
     | inr none ↦
         ap (λ n. holding f s.own nowhere (Some (task_of (OnGroup Commit) n)) b) none.0
         ∙ holds_at_first f s.own txn Commit b S.own.has.outer.has S.own.has.prepared_is
@@ -124,15 +107,7 @@ module _ (f : Form) (o : Options) (table : ℕ → ℕ → ℕ) (owner limit : �
   numbers_by true = record { image = S.numbers.image; still = λ t has counts. refl }
   numbers_by false = S.numbers
 
--- up to the open gate it has no more than four steps, and eight in all
-few_planning : (s : PrepareStage) → stage_steps s ≤ 4
-few_planning Unchanged = omega arith
-few_planning (Begun txn) = omega arith
-few_planning (Records txn) = omega arith
-few_planning (Locked txn) = omega arith
-few_planning (Planned state) = omega arith
-few_planning (Filled state) = omega arith
-
+-- it has eight steps in all
 few_in_all : (c : Committing) → commit_steps c ≤ 8
 few_in_all (Preparing p) = let few = few_planning p.stage in omega (arith, few)
 few_in_all (Finishing (Open state)) = omega arith
@@ -148,18 +123,10 @@ shut_next (Finishing (Applied state)) h r b late K = absurd (omega (arith, late)
 shut_next (Finishing (Settled state)) h r b late K = absurd (omega (arith, late))
 shut_next (Finishing Shut) h r b late K = K
 
--- up to its plan it is ready
-early_like : (f : Form) (c : Committing) (h : History) (r b : List ℕ) → form_of r ≡ f → MayGoOn c → commit_steps c ≤ 2 → KnowsCommit c h r b → RestsLike f h r
-early_like f (Finishing s) h r b form going early K = absurd (omega (arith, early))
-early_like f (Preparing p) h r b form going early K = by_stage p.stage going early K
-  where
-    by_stage : (s : PrepareStage) → IsPlanning s → stage_steps s ≤ 2 → KnowsStage s h r b → RestsLike f h r
-    by_stage Unchanged going early K = absurd going
-    by_stage (Begun txn) going early K = ready_like f txn h r b form K
-    by_stage (Records txn) going early K = ready_like f txn h r b form K
-    by_stage (Locked txn) going early K = ready_like f txn h r b form K
-    by_stage (Planned state) going early K = absurd (omega (arith, early))
-    by_stage (Filled state) going early K = absurd (omega (arith, early))
+-- up to its plan the file is as it was before
+early : (f : Form) (c : Committing) (h : History) (r b : List ℕ) → form_of r ≡ f → MayGoOn c → commit_steps c ≤ 2 → KnowsCommit c h r b → RestsLike f h r
+early f (Preparing p) h r b form some third K = early_like f p.stage h r b form some third K
+early f (Finishing s) h r b form some third K = absurd (omega (arith, third))
 
 module _ (f : Form) (o : Options) (table : ℕ → ℕ → ℕ) (owner limit : ℕ) (ps rs : List Piece) (c : Committing) (h new : History) (k : Known) (past : Past) (s : Side)
     (S : IsSide f o owner ps (At.Committing c) k past s) (K : KnowsFile f (At.Committing c) h k) (M : MayTurn f table s (task_of (OnGroup Commit) (commit_steps c))) where
@@ -284,8 +251,8 @@ module _ (f : Form) (o : Options) (table : ℕ → ℕ → ℕ) (owner limit : �
   rests : CanEnd c → CommitMade limit k.file k.image h new c Done → RestsLike f new k.file
   rests (unchanged none is) made =
       subst (λ d. RestsLike f d k.file) (sym made.0) (rests_like f h k.file K.forms.0 (subst (λ d. KnowsCommit d h k.file k.image) is K.at.0))
-  rests (planned third) made = elim (going_or_none c) [
-    | inl going ↦ subst (λ d. RestsLike f d k.file) (sym made.0) (early_like f c h k.file k.image K.forms.0 going (omega (arith, third)) K.at.0)
+  rests (planned third) made = elim (going c) [
+    | inl some ↦ subst (λ d. RestsLike f d k.file) (sym made.0) (early f c h k.file k.image K.forms.0 some (omega (arith, third)) K.at.0)
     | inr none ↦ absurd (let first = none.0 in omega (arith, third, first))
   ]
   rests (shut is) made =
@@ -297,8 +264,8 @@ module _ (f : Form) (o : Options) (table : ℕ → ℕ → ℕ) (owner limit : �
   commit_turned (Blocked other byte again) locks leads made = absurd ((alone (Blocked other byte again) locks).0 tt)
   commit_turned (Full len need) locks leads made =
       over (Full len need) locks (Reply.Full len need) refl leads (λ ends. absurd (cc ends))
-      (subst (λ d. RestsLike f d k.file) (sym made.0) (early_like f c h k.file k.image K.forms.0 leads.0 (let third = leads.1 in omega (arith, third)) K.at.0))
+      (subst (λ d. RestsLike f d k.file) (sym made.0) (early f c h k.file k.image K.forms.0 leads.0 (let third = leads.1 in omega (arith, third)) K.at.0))
   commit_turned Memory locks leads made =
       over Memory locks Reply.Memory refl leads (λ ends. absurd (cc ends))
-      (subst (λ d. RestsLike f d k.file) (sym made) (early_like f c h k.file k.image K.forms.0 leads.0 (let third = leads.1 in omega (arith, third)) K.at.0))
+      (subst (λ d. RestsLike f d k.file) (sym made) (early f c h k.file k.image K.forms.0 leads.0 (let third = leads.1 in omega (arith, third)) K.at.0))
   commit_turned Done locks leads made = over Done locks Reply.Done refl leads (λ ends. finds_same leads made.1) (rests leads made)

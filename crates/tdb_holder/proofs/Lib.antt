@@ -16,6 +16,8 @@ pub mod Asked
 pub mod Replies
 pub mod Opened
 pub mod Resting
+pub mod PlanStages
 pub mod Rows
 pub mod Sided
 pub mod Committed
+pub mod Readied

@@ -3,7 +3,7 @@ use Rattle.std.proofs.Common.{◌≡◌, ℕ, List, Option, Some, refl, ◌∙�
 use Rattle.tdb_space.specs.Form.{Form}
 use Rattle.tdb_locks.specs.declared.piece.Piece.{Piece}
 use Rattle.tdb_law.specs.Commands.{Turn}
-use Rattle.tdb_law.specs.Openers.{Own, Task}
+use Rattle.tdb_law.specs.Openers.{Own, Task, Txn}
 use Rattle.tdb_law.specs.Effects.{task_left}
 use Rattle.tdb_steps.specs.Holdings.{table_of}
 use Rattle.tdb_beside.specs.Sides.{Past, Side}
@@ -28,3 +28,6 @@ leaves past s t turn owner rs y = record { here = refl; own = refl; task = refl;
 
 pub same_task : (t u : Task) → Some t ≡ Some u → t ≡ u
 same_task t u e = cc
+
+pub same_txn : (t u : Txn) → Some t ≡ Some u → t ≡ u
+same_txn t u e = cc

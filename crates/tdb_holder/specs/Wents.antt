@@ -1,9 +1,16 @@
 -- What the turns of a Start, a Commit or a Prepare lead to.
-use Rattle.std.specs.Prelude.{None, Some}
+use Rattle.std.specs.Prelude.{Bool, true, false, None, Some}
 use Rattle.tdb_locks.specs.declared.turn.Reply.{Reply}
 use Rattle.tdb_locks.specs.declared.turn.Turn.{Turn}
 use Rattle.tdb_commit.specs.declared.committing.CommitTurn.{CommitTurn}
 use Rattle.tdb_commit.specs.declared.committing.CommitTurn.TheVariants as Commits
+use Rattle.tdb_commit.specs.declared.preparing.PrepareStage.{PrepareStage}
+use Rattle.tdb_commit.specs.declared.preparing.PrepareStage.TheVariants.{Unchanged}
+use Rattle.tdb_commit.specs.declared.preparing.PrepareTurn.{PrepareTurn}
+use Rattle.tdb_commit.specs.declared.preparing.PrepareTurn.TheVariants as Prepares
+use Rattle.tdb_commit.specs.declared.finishing.FinishTurn.{FinishTurn}
+use Rattle.tdb_commit.specs.declared.finishing.FinishTurn.TheVariants as Finishes
+use Rattle.tdb_holder.specs.declared.stage.PreparedTxn.TheVariants.{Opened, Nothing}
 use Rattle.tdb_holder.specs.declared.stage.Stage.TheVariants as At
 use Rattle.tdb_holder.specs.declared.stage.Stage.{Stage}
 use Rattle.tdb_holder.specs.declared.stage.Went.{Went}
@@ -21,3 +28,21 @@ commit_went (Commits.Blocked owner byte again) = goes_on (Turn.Blocked owner byt
 commit_went (Commits.Full len need) = is_over (Reply.Full len need)
 commit_went Commits.Memory = is_over Reply.Memory
 commit_went Commits.Done = is_over Reply.Ok
+
+-- a Prepare of a transaction in which something was changed, or nothing
+abbrev pub prepare_went : Bool → PrepareTurn → Went
+prepare_went changed (Prepares.Step next) = goes_on Turn.Step (At.Preparing next)
+prepare_went changed (Prepares.Blocked owner byte again) = goes_on (Turn.Blocked owner byte) (At.Preparing again)
+prepare_went changed Prepares.Nothing = goes_on (Turn.Done Reply.Ok) (At.Prepared (Nothing changed) None)
+prepare_went changed (Prepares.Full len need) = is_over (Reply.Full len need)
+prepare_went changed Prepares.Memory = is_over Reply.Memory
+prepare_went changed (Prepares.Done state) = goes_on (Turn.Done Reply.Ok) (At.Prepared (Opened state) None)
+
+abbrev pub has_changed : PrepareStage → Bool
+has_changed Unchanged = false
+has_changed _ = true
+
+-- a Commit of a prepared transaction
+abbrev pub finish_went : FinishTurn → Went
+finish_went (Finishes.Step next) = goes_on Turn.Step (At.Finishing next)
+finish_went Finishes.Done = is_over Reply.Ok

@@ -7,6 +7,7 @@ mod lifts;
 mod waits;
 mod open_txn;
 mod options;
+mod preparing;
 mod refusing;
 mod stage;
 mod waits;
