@@ -1,7 +1,6 @@
 -- A turn of an outer Commit, as a turn of the opener aside.
 use Rattle.std.proofs.Common.{◌≡◌, ℕ, ◌≤◌, ◌⊎◌, max, List, [], Bool, true, false, None, Some, refl, sym, ◌∙◌, ap, subst, inl, inr, arith}
-use Rattle.std.specs.Prelude.{◌&&◌, ◌==◌, if◌then◌else◌}
-use Rattle.std.proofs.lemmas.Bool.Decides.{nat_tests}
+use Rattle.std.specs.Prelude.{◌==◌}
 use Rattle.tdb_disk.specs.History.{History}
 use Rattle.tdb_space.specs.Form.{Form, form_of}
 use Rattle.tdb_locks.specs.declared.piece.Piece.{Piece}
@@ -30,24 +29,19 @@ use Rattle.tdb_beside.specs.Sides.{Past, Side}
 use Rattle.tdb_beside.specs.Own.{OwnTurned}
 use Rattle.tdb_holder.specs.declared.options.Options.{Options}
 use Rattle.tdb_holder.specs.declared.stage.Stage.TheVariants as At
-use Rattle.tdb_holder.specs.Ends.{task_of, committed, shuts, CommitsFile, IsBlocked}
-use Rattle.tdb_holder.specs.Stages.{HasNumbers, HasOuter, Known, IsSide, KnowsFile}
+use Rattle.tdb_holder.specs.Ends.{task_of, committed, shuts, IsBlocked}
+use Rattle.tdb_holder.specs.Stages.{HasOuter, Known, IsSide, KnowsFile}
 use Rattle.tdb_holder.specs.Turned.{IsBackAs, MayTurn, StageTurned, RestsLike}
 use Rattle.tdb_holder.specs.Waits.{IsAlone, of_commit}
 use Rattle.tdb_holder.specs.Wents.{commit_went}
 use Rattle.tdb_holder.proofs.Sided.{begins, leaves, side_after}
 use Rattle.tdb_holder.proofs.PlanStages.{early_like, few_planning, going_or_none, plan_goes}
+use Rattle.tdb_holder.proofs.Filed.{file_by, known_by, numbers_by, other_number, same_number}
 use Rattle.tdb_holder.proofs.Planned.{going_row, has_change, plans_commits}
 use Rattle.tdb_holder.proofs.Resting.{rests_like, shut_like}
 use Rattle.tdb_holder.proofs.Rows.{holds_at_first}
 use Rattle.tdb_holder.proofs.Waiting.{alone_goes}
 use Rattle.tdb_holder.proofs.CommitTurns.{commit_is_own}
-
-same_number : (n m : ℕ) → (n == m) ≡ true → n ≡ m
-same_number n m e = grind (arith, nat_tests)
-
-other_number : (n m : ℕ) → (n == m) ≡ false → n ≡ m → ⊥
-other_number n m e same = grind (arith, nat_tests)
 
 -- a Commit goes on, or nothing was changed
 going : (c : Committing) → MayGoOn c ⊎ ((commit_steps c ≡ 0) × ((numbered : Bool) → commit_row c numbered ≡ []))
@@ -77,35 +71,6 @@ module _ (f : Form) (o : Options) (table : ℕ → ℕ → ℕ) (owner limit : �
         ∙ holds_at_first f s.own txn Commit b S.own.has.outer.has S.own.has.prepared_is
         ∙ (let e = ap (λ row. locked row (commit_steps c) b) (none.1 numbered) in omega (arith, e))
   ]
-
-  number_is : past.numbers s.here ≡ number_of f k.image
-  number_is = S.numbers.image txn S.own.has.outer.has
-
-  -- from the turn on that shuts the gate the file has the image
-  abbrev known_by : Bool → Known
-  known_by b = if b then record { file = k.image; image = k.image } else k
-
-  module _ (last : ℕ) (n : ℕ) (u : Turn) where
-    file_by : (u ≡ Ends Reply.Done → commits_in txn ≡ true → k.image ≡ k.file)
-        → CommitsFile last n u txn (past.numbers s.here) (image_map f k.file) (image_map f (known_by (shuts last n u)).file) (number_of f k.file) (number_of f (known_by (shuts last n u)).file)
-    file_by done = record {
-      map = map_by (shuts last n u);
-      number = number_by (shuts last n u) numbered refl;
-      done = λ ends change. (let same = done ends change in record { map = S.own.has.map ∙ ap (image_map f) same; number = λ counts. ap (number_of f) (sym same) ∙ sym number_is });
-    }
-      where
-        map_by : (b : Bool) → image_map f (known_by b).file ≡ (if b then txn.image else image_map f k.file)
-        map_by true = sym S.own.has.map
-        map_by false = refl
-
-        number_by : (b counts : Bool) → numbered ≡ counts → number_of f (known_by b).file ≡ (if b && numbered then past.numbers s.here else number_of f k.file)
-        number_by false counts is = refl
-        number_by true true is = rw is (sym number_is)
-        number_by true false is = rw is (S.numbers.still txn S.own.has.outer.has is)
-
-  numbers_by : (b : Bool) → HasNumbers f (known_by b) (past.numbers s.here) s.own
-  numbers_by true = record { image = S.numbers.image; still = λ t has counts. refl }
-  numbers_by false = S.numbers
 
 -- it has eight steps in all
 few_in_all : (c : Committing) → commit_steps c ≤ 8
@@ -154,13 +119,13 @@ module _ (f : Form) (o : Options) (table : ℕ → ℕ → ℕ) (owner limit : �
     later = side_after s owner rs (committed (commit_turn turn) s.own) (task_left (OnGroup Commit) (commit_steps c) (commit_turn turn))
 
     own_turned : CommitLeads c turn → (commit_turn turn ≡ Ends Reply.Done → commits_in has_txn ≡ true → k.image ≡ k.file)
-        → let after = known_by f o table owner limit ps c h k past s S (shuts 7 (commit_steps c) (commit_turn turn)) in
+        → let after = known_by k (shuts 7 (commit_steps c) (commit_turn turn)) in
         OwnTurned f table (image_map f k.file) (image_map f after.file) (number_of f k.file) (number_of f after.file) past past s later (task_of (OnGroup Commit) (commit_steps c)) (commit_turn turn)
     own_turned leads done =
-        let after = known_by f o table owner limit ps c h k past s S (shuts 7 steps (commit_turn turn)) in
+        let after = known_by k (shuts 7 steps (commit_turn turn)) in
         commit_is_own f table (image_map f k.file) (image_map f after.file) (number_of f k.file) (number_of f after.file) owner past past s later s.own has_txn c turn ps rs
         S.own.has.outer S.own.has.prepared_is alone.0 S.own.change S.own.numbered leads row_turned (λ b. refl)
-        (file_by f o table owner limit ps c h k past s S 7 steps (commit_turn turn) done)
+        (file_by f k s.own has_txn (past.numbers s.here) S.own.has.outer.has S.own.has.map S.numbers 7 steps (commit_turn turn) done)
         (begins f o table owner ps (At.Committing c) k past s (task_of (OnGroup Commit) steps) S refl M)
         (leaves past s (task_of (OnGroup Commit) steps) (commit_turn turn) owner rs (committed (commit_turn turn) s.own))
         (λ step. refl)
@@ -185,7 +150,7 @@ module _ (f : Form) (o : Options) (table : ℕ → ℕ → ℕ) (owner limit : �
       left = back r ends;
       file = rests;
       turned = subst
-          (λ u. let after = known_by f o table owner limit ps c h k past s S (shuts 7 steps u) in
+          (λ u. let after = known_by k (shuts 7 steps u) in
           OwnTurned f table (image_map f k.file) (image_map f after.file) (number_of f k.file) (number_of f after.file) past past s later (task_of (OnGroup Commit) (commit_steps c)) u)
           ends (own_turned leads (λ is. done (sym ends ∙ is)));
     }
@@ -194,15 +159,15 @@ module _ (f : Form) (o : Options) (table : ℕ → ℕ → ℕ) (owner limit : �
   stepped : (next : Committing) → Locks (Step next) → CommitLeads c (Step next) → CommitMade limit k.file k.image h new c (Step next) → Goal (Step next)
   stepped next locks leads made = by_last (commit_steps c == 7) refl
     where
-      turned : (b : Bool) → (commit_steps c == 7) ≡ b → let after = known_by f o table owner limit ps c h k past s S b in
+      turned : (b : Bool) → (commit_steps c == 7) ≡ b → let after = known_by k b in
           OwnTurned f table (image_map f k.file) (image_map f after.file) (number_of f k.file) (number_of f after.file) past past s (later (Step next) locks) (task_of (OnGroup Commit) (commit_steps c)) Turn.Step
       turned b is = subst
-          (λ last. let after = known_by f o table owner limit ps c h k past s S last in
+          (λ last. let after = known_by k last in
           OwnTurned f table (image_map f k.file) (image_map f after.file) (number_of f k.file) (number_of f after.file) past past s (later (Step next) locks) (task_of (OnGroup Commit) (commit_steps c)) Turn.Step)
           is (own_turned (Step next) locks leads (λ ends. absurd (cc ends)))
 
-      side : (b : Bool) → (commit_steps c == 7) ≡ b → (known_by f o table owner limit ps c h k past s S b).image ≡ k.image
-          → IsSide f o owner rs (At.Committing next) (known_by f o table owner limit ps c h k past s S b) past (later (Step next) locks)
+      side : (b : Bool) → (commit_steps c == 7) ≡ b → (known_by k b).image ≡ k.image
+          → IsSide f o owner rs (At.Committing next) (known_by k b) past (later (Step next) locks)
       side b is same = record {
         here = S.here;
         alone = (alone (Step next) locks).1;
@@ -218,7 +183,7 @@ module _ (f : Form) (o : Options) (table : ℕ → ℕ → ℕ) (owner limit : �
           change = change_goes has_txn next leads.1 (has_change has_txn c leads.0 S.own.change);
           numbered = leads.3 has_txn.numbered S.own.numbered;
         };
-        numbers = numbers_by f o table owner limit ps c h k past s S b;
+        numbers = numbers_by f k s.own has_txn (past.numbers s.here) S.own.has.outer.has S.own.has.map S.numbers b;
       }
 
       by_last : (b : Bool) → (commit_steps c == 7) ≡ b → Goal (Step next)

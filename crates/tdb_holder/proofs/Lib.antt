@@ -19,5 +19,7 @@ pub mod Resting
 pub mod PlanStages
 pub mod Rows
 pub mod Sided
+pub mod Filed
 pub mod Committed
 pub mod Readied
+pub mod Finished

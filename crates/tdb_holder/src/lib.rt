@@ -3,6 +3,7 @@
 
 mod committing;
 mod ends;
+mod finishing;
 mod lifts;
 mod waits;
 mod open_txn;
