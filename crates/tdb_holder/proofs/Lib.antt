@@ -1,4 +1,8 @@
 pub mod Lifting
+pub mod Counts
+pub mod Asked
+pub mod Replies
+pub mod Opened
 pub mod Turning
 pub mod GroupCounts
 pub mod GroupEffects
@@ -11,10 +15,6 @@ pub mod PrepareTurns
 pub mod FinishTurns
 pub mod InsideTurns
 pub mod Waiting
-pub mod Counts
-pub mod Asked
-pub mod Replies
-pub mod Opened
 pub mod Resting
 pub mod PlanStages
 pub mod Rows

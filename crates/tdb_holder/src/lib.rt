@@ -5,7 +5,6 @@ mod committing;
 mod ends;
 mod finishing;
 mod lifts;
-mod waits;
 mod open_txn;
 mod options;
 mod preparing;
@@ -15,5 +14,5 @@ mod waits;
 
 pub use crate::ends::{ends_are_own, inside_is_own, machines_are_own};
 pub use crate::lifts::side_turns;
-pub use crate::waits::blocks_are_own;
 pub use crate::options::Options;
+pub use crate::waits::blocks_are_own;
