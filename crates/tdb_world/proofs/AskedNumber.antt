@@ -25,7 +25,8 @@ use Rattle.tdb_world.specs.ShutOut.{IsTurnBeside, IsReplaced}
 use Rattle.tdb_world.specs.States.{view_for, view_under, view_at}
 use Rattle.tdb_world.specs.Worlds.{World, state_in, law_of_task, Stands, BytesStand, IsBusy}
 use Rattle.tdb_world.proofs.Occupied.{Rests, found, own_here, job_at, near_at, rests_by, world_ended, bytes_ended}
-use Rattle.tdb_world.proofs.Replaced.{replaced_rest, state_replaced, same_at, same_entries}
+use Rattle.tdb_world.proofs.Putting.{replaced_rest}
+use Rattle.tdb_world.proofs.Replacing.{state_replaced, same_at, same_entries}
 use Rattle.tdb_world.proofs.ShutOut.{IsBarred, its_own, its_spot, its_task}
 use Rattle.tdb_world.proofs.ShutWorlds.{ended_beside, beside_by}
 

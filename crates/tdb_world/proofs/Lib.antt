@@ -62,7 +62,6 @@ pub mod PlainCursors
 pub mod Stood
 pub mod Replacing
 pub mod Deaths
-pub mod Replaced
 pub mod Wanting
 pub mod Occupied
 pub mod Meeting

@@ -17,9 +17,10 @@ use Rattle.tdb_world.specs.Given.{IsWellHeld}
 use Rattle.tdb_world.specs.Laws.{IsPut, MayStand}
 use Rattle.tdb_world.specs.Openers.{rest_of, own_with, own_of, own_at, spot_by, spot_at, task_at, law_task, walk_in, walk_of, steps_of, hands_of_job, hands_of_task, command_in, JobStands, TaskStands, OpenerStands, WalkStands}
 use Rattle.tdb_world.specs.Turning.{law_table}
-use Rattle.tdb_world.specs.Worlds.{World, law_of_task, state_in, Stands, BytesStand, IsNumber, IsBusy}
+use Rattle.tdb_world.specs.Worlds.{World, law_of_task, state_in, Stands, BytesStand, IsBusy}
+use Rattle.tdb_world.proofs.Aside.{one_number}
 use Rattle.tdb_world.proofs.Putting.{by_number}
-use Rattle.tdb_world.proofs.Replaced.{world_replaced, file_replaced}
+use Rattle.tdb_world.proofs.Replacing.{world_replaced, file_replaced}
 use Rattle.tdb_world.proofs.Rests.{walk_rests, walk_still}
 use Rattle.tdb_world.proofs.Standing.{Holds, opener_is_ready}
 use Rattle.tdb_world.proofs.Stood.{injected}
@@ -45,16 +46,7 @@ module _ {w : World} {who : ℕ} {x : Opener} {t : Task} (B : IsBusy w who x t) 
 
   -- the command is the one that the opener with the number has
   pub one_task : {y : Opener} {u : Task} → IsBusy w who y u → t ≡ u
-  one_task {y = y} {u = u} D =
-      let same : N.place ≡ D.number.place = by_counts in
-      let one : x ≡ y = injected (sym N.there ∙ ap (slice_get w.openers) same ∙ D.number.there) in
-      injected (sym B.busy ∙ ap (λ (z : Opener). z.task) one ∙ D.busy)
-    where
-      N : IsNumber w who x
-      N = B.number
-
-      by_counts : N.place ≡ D.number.place
-      by_counts = let mine = N.counted in let its = D.number.counted in omega (arith, mine, its)
+  one_task {y = y} D = injected (sym B.busy ∙ ap (λ (z : Opener). z.task) (one_number w who x y B.number D.number) ∙ D.busy)
 
   module _ {any : List ℕ} {size : ℕ} (W : Stands w any size) where
     pub stands : OpenerStands (form_in w.header) w.options size (Some x)

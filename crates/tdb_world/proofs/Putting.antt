@@ -7,13 +7,15 @@ use Rattle.tdb_words.specs.declared.header.Header.{Header}
 use Rattle.tdb_space.specs.Form.{form_in}
 use Rattle.tdb_locks.specs.declared.piece.Piece.{Piece}
 use Rattle.tdb_plays.specs.declared.command.Command.{Command}
-use Rattle.tdb_plays.specs.InLaw.{law_command}
+use Rattle.tdb_plays.specs.InLaw.{law_opener, law_command}
 use Rattle.tdb_world.specs.declared.options.Options.{Options}
 use Rattle.tdb_world.specs.declared.opener.Opener.{Opener}
 use Rattle.tdb_world.specs.declared.job.Job.{Job}
 use Rattle.tdb_cursors.specs.Spots.{spot_number}
 use Rattle.tdb_world.specs.Openers.{own_of, spots_of, command_in, JobStands}
-use Rattle.tdb_world.specs.Worlds.{World, IsNumber, IsFree, IsAssigned}
+use Rattle.tdb_world.specs.declared.job.Task.{Task}
+use Rattle.tdb_world.specs.ShutOut.{IsReplaced}
+use Rattle.tdb_world.specs.Worlds.{World, IsNumber, IsFree, IsBusy, IsAssigned}
 use Rattle.tdb_world.specs.Laws.{IsPut}
 
 set_there : (xs : List Opener) (i : ℕ) (y : Opener) → i < length xs → slice_get (slice_set xs i y) i ≡ Some y
@@ -85,3 +87,26 @@ has_number w who d some low item = record { place = who - 1; counted = omega (ar
 -- and the list of spots has an entry for it
 pub has_spot : (xs : List Opener) (who place : ℕ) (x : Opener) → who ≡ place + 1 → slice_get xs place ≡ Some x → who - 1 < length (spots_of xs)
 has_spot xs who place x counted there = let low = slice_get_within xs place x there in let same = length-map xs (λ (z : Opener). spot_number z.walk.cursor.place) in omega (arith, counted, low, same)
+
+-- where an opener is replaced nothing else has changed
+pub replaced_rest : {old new : World} {who : ℕ} {y : Opener} → IsReplaced old who y new → record old { openers = new.openers } ≡ new
+replaced_rest {new = new} R = sym (ap (λ (z : World). record z { openers = new.openers }) R.rest)
+
+-- the opener with a number is replaced where another one is put there, in a world that is seen as another
+module _ (v w : World) (e : v ≡ w) (who : ℕ) (x d : Opener) (N : IsNumber w who x) (item : d ≡ slice_index_or v.openers (who - 1) d) where
+  there : slice_get v.openers N.place ≡ Some x
+  there = ap (λ (z : World). slice_get z.openers N.place) e ∙ N.there
+
+  pub is_numbered : d ≡ x
+  is_numbered = numbered v.openers who N.place x d N.counted there item
+
+  pub replaced : (y z : Opener) → z ≡ y → IsReplaced w who y (record v { openers = slice_set v.openers (who - 1) z })
+  replaced y z is = subst (λ u. IsReplaced u who y (record v { openers = slice_set v.openers (who - 1) z })) e (record {
+    put = subst (λ u. IsPut v.openers (law_opener who) u (slice_set v.openers (who - 1) z)) is
+        (subst (λ p. IsPut v.openers p z (slice_set v.openers (who - 1) z)) (sym (by_number who N.place N.counted)) (put_numbered v.openers who N.place x z N.counted there));
+    rest = refl;
+  })
+
+  -- and its command is the one that stands there
+  pub busy_there : (u : Task) → d.task ≡ Some u → IsBusy w who x u
+  busy_there u busy = record { number = N; busy = ap (λ (z : Opener). z.task) (sym is_numbered) ∙ busy }

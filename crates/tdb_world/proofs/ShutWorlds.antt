@@ -31,7 +31,8 @@ use Rattle.tdb_world.specs.Worlds.{World, state_in, law_of_task, Stands, BytesSt
 use Rattle.tdb_world.proofs.Arriving.{nothing_well}
 use Rattle.tdb_world.proofs.Meeting.{kept_walk, job_done}
 use Rattle.tdb_world.proofs.Occupied.{Rests, found, own_here, task_here, stands, job_at, rests_by, world_by, world_same, world_ended, may_end, bytes_ended}
-use Rattle.tdb_world.proofs.Replaced.{file_replaced, state_replaced, replaced_rest}
+use Rattle.tdb_world.proofs.Putting.{replaced_rest}
+use Rattle.tdb_world.proofs.Replacing.{file_replaced, state_replaced}
 use Rattle.tdb_world.proofs.ShutOut.{IsBarred, apart, holds_none, stands_on_none}
 use Rattle.tdb_world.proofs.ShutTurns.{Ended, state_after, cursor_ended, turned}
 

@@ -3,7 +3,7 @@ use Rattle.std.proofs.Common.{◌-◌, None, refl, sym, ap, ◌∙◌}
 use Rattle.tdb_world.specs.declared.opener.Opener.{Opener}
 use Rattle.tdb_world.specs.Worlds.{World}
 use Rattle.tdb_world.proofs.Putting.{spots_still}
-use Rattle.tdb_world.proofs.Replaced.{is_numbered, replaced}
+use Rattle.tdb_world.proofs.Putting.{is_numbered, replaced}
 use Rattle.tdb_world.proofs.openers.Openers.drop_task.Goals as goal
 
 pub invariant_of-self : goal.invariant_of-self

@@ -40,3 +40,6 @@ returns-clause-header c = let R = c.drop_task.ensures c.requires.asks.0 c.requir
 
 pub returns-clause-options : goal.returns-clause-options
 returns-clause-options c = let R = c.drop_task.ensures c.requires.asks.0 c.requires.asks.2.number in ap (λ (z : World). z.options) R.rest
+
+pub returns-clause-others : goal.returns-clause-others
+returns-clause-others c = let R = c.drop_task.ensures c.requires.asks.0 c.requires.asks.2.number in R.put.others

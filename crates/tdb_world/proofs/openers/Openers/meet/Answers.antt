@@ -7,7 +7,7 @@ use Rattle.tdb_world.specs.ShutOut.{JobMeets, opener_after}
 use Rattle.tdb_world.specs.Worlds.{World}
 use Rattle.tdb_world.proofs.Meeting.{kept_walk}
 use Rattle.tdb_world.proofs.Putting.{spots_still}
-use Rattle.tdb_world.proofs.Replaced.{is_numbered, replaced, busy_there}
+use Rattle.tdb_world.proofs.Putting.{is_numbered, replaced, busy_there}
 use Rattle.tdb_world.proofs.openers.Openers.meet.Goals as goal
 
 pub turn_shut_out-requires-clause-busy : goal.turn_shut_out-requires-clause-busy

@@ -56,3 +56,6 @@ returns-clause-header c = let R = c.meet.ensures.replaced c.requires.busy.0 c.re
 
 pub returns-clause-options : goal.returns-clause-options
 returns-clause-options c = let R = c.meet.ensures.replaced c.requires.busy.0 c.requires.busy.1 c.requires.busy.2 in ap (λ (z : World). z.options) R.rest
+
+pub returns-clause-others : goal.returns-clause-others
+returns-clause-others c = let R = c.meet.ensures.replaced c.requires.busy.0 c.requires.busy.1 c.requires.busy.2 in R.put.others
