@@ -19,6 +19,7 @@ pub mod Resting
 pub mod PlanStages
 pub mod Rows
 pub mod Sided
+pub mod ReadAs
 pub mod Filed
 pub mod Committed
 pub mod Readied

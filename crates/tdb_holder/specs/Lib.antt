@@ -7,3 +7,4 @@ pub mod Open
 pub mod Stages
 pub mod Turned
 pub mod Wents
+pub mod Reads

@@ -1,0 +1,159 @@
+-- As what the file is read while a transaction is committed into it.
+use Rattle.std.proofs.Common.{◌≡◌, ℕ, ◌<◌, ◌≤◌, List, sym, ap, ◌∙◌, subst, inl, inr, arith}
+use Rattle.std.specs.FinMap.{from_entries}
+use Rattle.tdb_disk.specs.History.{History, seen}
+use Rattle.tdb_disk.proofs.Stop.{leaves_seen}
+use Rattle.tdb_words.specs.Word.{word}
+use Rattle.tdb_words.specs.declared.record.TheConstants.{GATE_OPEN}
+use Rattle.tdb_space.specs.Accepted.{Accept}
+use Rattle.tdb_space.specs.Form.{Form, form_of, SameHeader}
+use Rattle.tdb_space.specs.Opening.{restored}
+use Rattle.tdb_space.specs.Pairs.{map_of}
+use Rattle.tdb_space.specs.Planned.{IsPlanned}
+use Rattle.tdb_space.specs.Scheme.{Scheme, Within, with_gate}
+use Rattle.tdb_space.specs.Undoing.{Reopens}
+use Rattle.tdb_space.proofs.Form.Headers.{form_kept}
+use Rattle.tdb_space.proofs.Moved.SameLists.{stays_reopens}
+use Rattle.tdb_space.proofs.Opening.Undone.{read_as_it_is}
+use Rattle.tdb_space.proofs.Planned.Ready.{area_within, plan_lies}
+use Rattle.tdb_space.proofs.RecoverySteps.Emptying.{word_beside}
+use Rattle.tdb_space.proofs.Scheme.WritesUndone.{within_itself}
+use Rattle.tdb_space.proofs.Undoing.Alike.{exact_reopens}
+use Rattle.tdb_law.specs.Images.{image_map}
+use Rattle.tdb_law.proofs.HandsOut.{image_answers}
+use Rattle.tdb_law.proofs.Maps.{maps_equal}
+use Rattle.tdb_steps.specs.Turns.{number_of}
+use Rattle.tdb_txn.specs.Commit.{Brings, IsPrepared, opened, scheme_of}
+use Rattle.tdb_txn.specs.Planned.{IsPlannedOn}
+use Rattle.tdb_txn.specs.declared.planned.Plan.{Plan}
+use Rattle.tdb_txn.proofs.StatesKept.{fills_of}
+use Rattle.tdb_commit.specs.Commits.{Carries, OpensAs, RestsAt}
+use Rattle.tdb_commit.specs.Committings.{commit_steps, KnowsCommit}
+use Rattle.tdb_commit.specs.Finishes.{finish_steps, IsShut, KnowsFinish}
+use Rattle.tdb_commit.specs.Prepares.{stage_steps, KnowsStage}
+use Rattle.tdb_commit.specs.declared.committing.Committing.{Committing}
+use Rattle.tdb_commit.specs.declared.committing.Committing.TheVariants as Commits
+use Rattle.tdb_commit.specs.declared.finishing.Finishing.{Finishing}
+use Rattle.tdb_commit.specs.declared.finishing.Finishing.TheVariants as Finishes
+use Rattle.tdb_commit.specs.declared.preparing.PrepareStage.{PrepareStage}
+use Rattle.tdb_commit.specs.declared.preparing.PrepareStage.TheVariants as Prepares
+use Rattle.tdb_commit.proofs.Carried.{ready_rests}
+use Rattle.tdb_holder.specs.Reads.{IsReadAs}
+
+-- images with the same map, at each key, are the same as maps
+maps_alike : (f g : Form) (a b : List ℕ) → ((key : List ℕ) → map_of f a key ≡ map_of g b key) → image_map f a ≡ image_map g b
+maps_alike f g a b same = maps_equal (image_map f a) (image_map g b) (λ key. image_answers f a key ∙ same key ∙ sym (image_answers g b key))
+
+-- an image that opens to the map of another one, by its own form
+module _ (r c : List ℕ) (R : Reopens r c) where
+  abbrev img : List ℕ
+  img = restored (form_of c) c
+
+  restored_form : form_of img ≡ form_of c
+  restored_form = elim R.again [ inl shut ↦ ap form_of (read_as_it_is (form_of c) c shut) | inr mild ↦ form_kept c img mild.header ]
+
+  own_map_read : image_map (form_of c) img ≡ image_map (form_of r) r
+  own_map_read = maps_alike (form_of c) (form_of r) img r (λ key. ap (λ g. map_of g img key) (sym restored_form) ∙ R.opens.holds key)
+
+  own_number_read : number_of (form_of c) img ≡ number_of (form_of r) r
+  own_number_read = ap (λ (g : Form). word g.order img 48) (sym restored_form) ∙ R.sequence
+
+-- and by a form that both have
+reopens_reads : (f : Form) (h : History) (r : List ℕ) → form_of r ≡ f → form_of (seen h) ≡ f → Reopens r (seen h) → IsReadAs f h r
+reopens_reads f h r old now R = record {
+  map = ap (λ g. image_map g (restored g (seen h))) (sym now) ∙ own_map_read r (seen h) R ∙ ap (λ g. image_map g r) old;
+  number = ap (λ g. number_of g (restored g (seen h))) (sym now) ∙ own_number_read r (seen h) R ∙ ap (λ g. number_of g r) old;
+}
+
+-- so is one that opens as the transaction's image
+opened_reads : (f : Form) (h : History) (b : List ℕ) → form_of b ≡ f → form_of (seen h) ≡ f → OpensAs b (seen h) → IsReadAs f h b
+opened_reads f h b form now O =
+    let stands = O.stands in
+    let here : form_of O.image ≡ form_of b = form_kept b O.image stands.header in
+    let read = reopens_reads f h O.image (here ∙ form) now O.opens in record {
+      map = read.map ∙ ap (λ g. image_map g O.image) (sym form) ∙ ap from_entries stands.same_order ∙ ap (λ g. image_map g b) form;
+      number = read.number ∙ ap (λ (g : Form). word g.order O.image 48) (sym (here ∙ form)) ∙ stands.number ∙ ap (λ (g : Form). word g.order b 48) form;
+    }
+
+-- what is written within a plan leaves the header
+within_form : (p : Scheme) (a b d : List ℕ) → Accept a → Accept b → IsPlanned p a b → Within p (with_gate GATE_OPEN p a) d → form_of d ≡ form_of a
+within_form p a b d A B h W = form_kept a d header
+  where
+    header : SameHeader a d
+    header i front =
+        let low : i < 64 = elim front [ inl lt ↦ omega (arith, lt) | inr le ↦ omega (arith, le) ] in
+        W.others i (omega (arith, low, h.old_above)) ((plan_lies p a b A h).front i (elim front [ inl lt ↦ inl (omega (arith, lt)) | inr le ↦ inr (omega (arith, le)) ]))
+        ∙ word_beside p.order a p.gate GATE_OPEN i (inl (omega (arith, low, h.gate, (area_within p a b A h).1)))
+
+-- an image of the file opens to the map of the first of two images, and has the form of the second
+record IsLike (x y c : List ℕ) : Type 0 where
+  form : form_of c ≡ form_of y
+  reopens : Reopens x c
+
+-- with the gate open, whatever is written within the plan
+open_like : (plan : Plan) (x y c : List ℕ) → Brings plan x y → Within (scheme_of plan) (opened plan x) c → IsLike x y c
+open_like plan x y c brings W = record {
+  form = within_form (scheme_of plan) x y c brings.before brings.after brings.planned W ∙ sym (form_kept x y brings.planned.header);
+  reopens = (fills_of plan x y brings).undoes c W;
+}
+
+prepared_like : (plan : Plan) (h : History) (x y : List ℕ) → IsPrepared plan h x y → IsLike x y (seen h)
+prepared_like plan h x y S = open_like plan x y (seen h) S.brings (subst (Within (scheme_of plan) (opened plan x)) (sym S.file) (within_itself (scheme_of plan) (opened plan x)))
+
+planned_like : (plan : Plan) (h : History) (x y : List ℕ) → IsPlannedOn plan h x y → IsLike x y (seen h)
+planned_like plan h x y S = record { form = sym (form_kept (seen h) y S.awaits.header); reopens = stays_reopens x (seen h) S.stays S.sequence }
+
+-- so the file is read as the image before the commit, at each state that is like it
+carried_reads : (State : History → List ℕ → List ℕ → Type 0) (f : Form) (h : History) (r b : List ℕ) → form_of r ≡ f → Carries State h r b
+    → ((x y : List ℕ) → State h x y → IsLike x y (seen h)) → IsReadAs f h r
+carried_reads State f h r b form C like =
+    let L = like C.before C.after C.state in
+    reopens_reads f h r form (L.form ∙ form_kept b C.after C.stands.header ∙ form_kept r b C.header ∙ form) (C.reopens (seen h) L.reopens)
+
+pub prepared_reads : (f : Form) (plan : Plan) (h : History) (r b : List ℕ) → form_of r ≡ f → Carries (IsPrepared plan) h r b → IsReadAs f h r
+prepared_reads f plan h r b form C = carried_reads (IsPrepared plan) f h r b form C (prepared_like plan h)
+
+pub rest_reads : (f : Form) (h : History) (r : List ℕ) → form_of r ≡ f → RestsAt h r → IsReadAs f h r
+rest_reads f h r form R = reopens_reads f h r form (R.accepted.form ∙ form) R.opens
+
+pub end_reads : (f : Form) (h : History) (b : List ℕ) → form_of b ≡ f → IsShut h b → IsReadAs f h b
+end_reads f h b form S = opened_reads f h b form (S.accepted.form ∙ form) S.opens
+
+pub prepare_reads : (f : Form) (s : PrepareStage) (h : History) (r b : List ℕ) → form_of r ≡ f → KnowsStage s h r b → IsReadAs f h r
+prepare_reads f Prepares.Unchanged h r b form K = rest_reads f h r form K
+prepare_reads f (Prepares.Begun txn) h r b form K = rest_reads f h r form (ready_rests txn h r b K)
+prepare_reads f (Prepares.Records txn) h r b form K = rest_reads f h r form (ready_rests txn h r b K)
+prepare_reads f (Prepares.Locked txn) h r b form K = rest_reads f h r form (ready_rests txn h r b K)
+prepare_reads f (Prepares.Planned state) h r b form K = carried_reads _ f h r b form K (planned_like _ h)
+prepare_reads f (Prepares.Filled state) h r b form K =
+    carried_reads _ f h r b form K
+    (λ x y S. record { form = ap form_of S.file ∙ sym (form_kept x y S.brings.planned.header); reopens = subst (Reopens x) (sym S.file) (exact_reopens x S.brings.before) })
+
+pub finish_reads : (f : Form) (s : Finishing) (h : History) (r b : List ℕ) → form_of r ≡ f → finish_steps s < 3 → KnowsFinish s h r b → IsReadAs f h r
+finish_reads f (Finishes.Open state) h r b form few K = prepared_reads f _ h r b form K
+finish_reads f (Finishes.Applied state) h r b form few K = carried_reads _ f h r b form K (λ x y S. open_like _ x y (seen h) S.brings (S.within (seen h) (leaves_seen h)))
+finish_reads f (Finishes.Settled state) h r b form few K = carried_reads _ f h r b form K (λ x y S. open_like _ x y (seen h) S.brings S.within)
+finish_reads f Finishes.Shut h r b form few K = absurd (omega (arith, few))
+
+pub shut_finish_reads : (f : Form) (s : Finishing) (h : History) (r b : List ℕ) → form_of b ≡ f → 3 ≤ finish_steps s → KnowsFinish s h r b → IsReadAs f h b
+shut_finish_reads f (Finishes.Open state) h r b form late K = absurd (omega (arith, late))
+shut_finish_reads f (Finishes.Applied state) h r b form late K = absurd (omega (arith, late))
+shut_finish_reads f (Finishes.Settled state) h r b form late K = absurd (omega (arith, late))
+shut_finish_reads f Finishes.Shut h r b form late K = end_reads f h b form K
+
+pub commit_reads : (f : Form) (c : Committing) (h : History) (r b : List ℕ) → form_of r ≡ f → commit_steps c < 8 → KnowsCommit c h r b → IsReadAs f h r
+commit_reads f (Commits.Preparing p) h r b form few K = prepare_reads f p.stage h r b form K
+commit_reads f (Commits.Finishing s) h r b form few K = finish_reads f s h r b form (omega (arith, few)) K
+
+-- a Prepare has four steps at most before its last turn
+few_steps : (s : PrepareStage) → stage_steps s < 8
+few_steps Prepares.Unchanged = omega arith
+few_steps (Prepares.Begun txn) = omega arith
+few_steps (Prepares.Records txn) = omega arith
+few_steps (Prepares.Locked txn) = omega arith
+few_steps (Prepares.Planned state) = omega arith
+few_steps (Prepares.Filled state) = omega arith
+
+pub shut_commit_reads : (f : Form) (c : Committing) (h : History) (r b : List ℕ) → form_of b ≡ f → 8 ≤ commit_steps c → KnowsCommit c h r b → IsReadAs f h b
+shut_commit_reads f (Commits.Preparing p) h r b form late K = absurd (omega (arith, late, few_steps p.stage))
+shut_commit_reads f (Commits.Finishing s) h r b form late K = shut_finish_reads f s h r b form (omega (arith, late)) K
