@@ -24,3 +24,4 @@ pub mod Filed
 pub mod Committed
 pub mod Readied
 pub mod Finished
+pub mod Started

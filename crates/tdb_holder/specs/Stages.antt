@@ -7,7 +7,7 @@ use Rattle.tdb_locks.specs.declared.piece.Piece.{Piece}
 use Rattle.tdb_law.specs.Commands.{GroupCommand}
 use Rattle.tdb_law.specs.Commands.GroupCommand.{Start, Commit, Prepare}
 use Rattle.tdb_law.specs.Commands.Command.{OnGroup}
-use Rattle.tdb_law.specs.Openers.{Own, Txn, Task, nowhere}
+use Rattle.tdb_law.specs.Openers.{Own, Txn, Task, ended, nowhere}
 use Rattle.tdb_law.specs.Held.{holding}
 use Rattle.tdb_law.specs.Images.{image_map}
 use Rattle.tdb_law.specs.Refusals.{refusal}
@@ -74,7 +74,7 @@ was_changed (Nothing changed) = changed
 
 -- what the opener has at each stage
 pub record StartsWith (f : Form) (x : Own) : Type 0 where
-  pub outside : x.txn ≡ None
+  pub bare : ended x ≡ x
   pub granted : refusal f (OnGroup Start) x ≡ None
 
 pub record CommitsWith (f : Form) (image : List ℕ) (c : Committing) (x : Own) : Type 0 where
@@ -152,7 +152,7 @@ CommandFits (Some command) depth = IsShortCommand command × MayBeGiven command 
 
 -- what a stage asks of the file's header and length, where it may get so many bytes, and of the command
 abbrev pub IsFit : Stage → Header → ℕ → ℕ → Type 0
-IsFit (At.Starting s) h limit size = Unit {0}
+IsFit (At.Starting s) h limit size = size ≤ limit
 IsFit (At.Open txn command) h limit size = OpenFits txn h limit size × CommandFits command (txn_depth txn.own.txn)
 IsFit (At.Committing c) h limit size = CommitFits c size limit
 IsFit (At.Preparing p) h limit size = StageFits p.stage size limit

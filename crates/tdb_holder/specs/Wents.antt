@@ -1,5 +1,5 @@
 -- What the turns of a Start, a Commit or a Prepare lead to.
-use Rattle.std.specs.Prelude.{Bool, true, false, None, Some}
+use Rattle.std.specs.Prelude.{◌≡◌, Bool, true, false, None, Some}
 use Rattle.tdb_locks.specs.declared.turn.Reply.{Reply}
 use Rattle.tdb_locks.specs.declared.turn.Turn.{Turn}
 use Rattle.tdb_commit.specs.declared.committing.CommitTurn.{CommitTurn}
@@ -8,8 +8,13 @@ use Rattle.tdb_commit.specs.declared.preparing.PrepareStage.{PrepareStage}
 use Rattle.tdb_commit.specs.declared.preparing.PrepareStage.TheVariants.{Unchanged}
 use Rattle.tdb_commit.specs.declared.preparing.PrepareTurn.{PrepareTurn}
 use Rattle.tdb_commit.specs.declared.preparing.PrepareTurn.TheVariants as Prepares
+use Rattle.tdb_locks.specs.HeldLocks.{nothing_held}
+use Rattle.tdb_commit.specs.declared.starting.Starting.{Starting}
+use Rattle.tdb_commit.specs.declared.starting.StartTurn.{StartTurn}
+use Rattle.tdb_commit.specs.declared.starting.StartTurn.TheVariants as Starts
 use Rattle.tdb_commit.specs.declared.finishing.FinishTurn.{FinishTurn}
 use Rattle.tdb_commit.specs.declared.finishing.FinishTurn.TheVariants as Finishes
+use Rattle.tdb_holder.specs.declared.open_txn.OpenTxn.{OpenTxn}
 use Rattle.tdb_holder.specs.declared.stage.PreparedTxn.TheVariants.{Opened, Nothing}
 use Rattle.tdb_holder.specs.declared.stage.Stage.TheVariants as At
 use Rattle.tdb_holder.specs.declared.stage.Stage.{Stage}
@@ -46,3 +51,11 @@ has_changed _ = true
 abbrev pub finish_went : FinishTurn → Went
 finish_went (Finishes.Step next) = goes_on Turn.Step (At.Finishing next)
 finish_went Finishes.Done = is_over Reply.Ok
+
+-- A Start: with its end the transaction is there, whose changes raise the sequence number or not, and in which nothing is counted.
+abbrev pub StartWent : Bool → Starting → StartTurn → Went → Type 0
+StartWent numbered s (Starts.Step next) went = went ≡ goes_on Turn.Step (At.Starting next)
+StartWent numbered s (Starts.Blocked owner byte) went = went ≡ goes_on (Turn.Blocked owner byte) (At.Starting s)
+StartWent numbered s Starts.Memory went = went ≡ is_over Reply.Memory
+StartWent numbered s (Starts.Done txn) went =
+    (t : OpenTxn) × (t.own ≡ record { txn = txn; changed = false; numbered = numbered }) × (t.held ≡ nothing_held) × (went ≡ goes_on (Turn.Done Reply.Ok) (At.Open t None))

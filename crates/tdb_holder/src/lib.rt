@@ -11,6 +11,7 @@ mod preparing;
 mod reads;
 mod refusing;
 mod stage;
+mod starting;
 mod waits;
 
 pub use crate::ends::{ends_are_own, inside_is_own, machines_are_own};
