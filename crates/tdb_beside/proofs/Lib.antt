@@ -9,3 +9,4 @@ pub mod Happening
 pub mod Committed
 pub mod Shut
 pub mod Parted
+pub mod Starting

@@ -1,10 +1,10 @@
 -- The laws of a world in which one opener is aside.
-use Rattle.std.specs.Prelude.{ℕ, ◌+◌, ◌≤◌, ◌<◌, ◌^◌, List, ◌≡◌, ◌≢◌, true, false, Option, Some}
+use Rattle.std.specs.Prelude.{ℕ, ◌+◌, ◌≤◌, ◌<◌, ◌^◌, List, ◌≡◌, ◌≢◌, Bool, true, false, Option, Some, None}
 use Rattle.tdb_space.specs.Form.{Form}
 use Rattle.tdb_space.specs.Extents.{HandPair}
 use Rattle.tdb_space.specs.Accepted.{AcceptWith}
 use Rattle.tdb_law.specs.Commands.{WalkCommand, Command, Reply, Turn}
-use Rattle.tdb_law.specs.Commands.GroupCommand.{Commit}
+use Rattle.tdb_law.specs.Commands.GroupCommand.{Start, Commit}
 use Rattle.tdb_law.specs.Commands.Command.{OnGroup, OnWalk}
 use Rattle.tdb_law.specs.Commands.Reply.{Done}
 use Rattle.tdb_law.specs.Commands.Turn.{Step, Blocked, Ends}
@@ -18,9 +18,10 @@ use Rattle.tdb_law.specs.Walks.{Lost, Shift}
 use Rattle.tdb_law.specs.Images.{image_map}
 use Rattle.tdb_law.specs.Layout.{Place, IsOffRecords, chains_in, mark_of}
 use Rattle.tdb_law.specs.Events.{Joins, Dies, Given}
-use Rattle.tdb_beside.specs.Sides.{Past, Side, alone, beside, whole, IsPlain, StandsAside}
+use Rattle.tdb_beside.specs.Sides.{Past, Side, but_at, alone, beside, whole, IsPlain, StandsAside}
 use Rattle.tdb_beside.specs.Events.{StandsBy, IsElse}
 use Rattle.tdb_beside.specs.Shutting.{HasRecords, IsShutOut}
+use Rattle.tdb_beside.specs.Starts.{with_starts, MayStart}
 use Rattle.tdb_beside.specs.Turns.{IsUngrouped, IsClear, past_after, EndsAtOnce, without_task, LeavesNothing, IsLeave, without_cursor}
 
 -- In a sound world that isn't stale, a command that waits, of which the file doesn't have the change, and that meets a conflict has
@@ -95,3 +96,51 @@ abbrev pub ShutOutMeets : Type 0
 ShutOutMeets = (f : Form) (p : State) (past : Past) (s : Side) (who : ℕ) (t : Task) (byte : ℕ) → IsSound f (beside p past s) → StandsAside p s → s.shuts ≡ true → who ≢ s.here → IsUngrouped t.command
     → 168 ≤ byte → byte < 2 ^ 63 → 1 ≤ want f (beside p past s) who t byte → ((b : ℕ) → b < byte → want f (beside p past s) who t b ≡ 0)
     → IsFirstConflict (beside p past s).table who (want f (beside p past s) who t) s.here byte
+
+-- Where openers that are live and have no command are given a Start, the state is as sound as it was before a step of it, also beside an
+-- opener that is aside.
+abbrev pub StartsAreSound : Type 0
+StartsAreSound = (f : Form) (p : State) (starts : ℕ → Bool) → MayStart starts p → IsSound f p → IsSound f (with_starts starts p)
+
+abbrev pub WholeStartsAreSound : Type 0
+WholeStartsAreSound = (f : Form) (p : State) (past : Past) (side : Option Side) (starts : ℕ → Bool) → MayStart starts p → IsSound f (whole p past side) → IsSound f (whole (with_starts starts p) past side)
+
+-- It is as plain, and who stands aside and isn't one of them goes on to.
+abbrev pub StartsArePlain : Type 0
+StartsArePlain = (p : State) (starts : ℕ → Bool) → IsPlain p → IsPlain (with_starts starts p)
+
+abbrev pub StartsStandAside : Type 0
+StartsStandAside = (p : State) (starts : ℕ → Bool) (s : Side) → starts s.here ≡ false → StandsAside p s → StandsAside (with_starts starts p) s
+
+-- A turn of another opener is the same turn beside such Starts, whose openers go on to have no other command.
+abbrev pub StartsTurn : Type 0
+StartsTurn = (f : Form) (p later : State) (starts : ℕ → Bool) (who : ℕ) (t : Task) (turn : Turn) → MayStart starts p → starts who ≡ false → Turned f p who t turn later
+    → MayStart starts later × Turned f (with_starts starts p) who t turn (with_starts starts later)
+
+-- So it is when another opener joins, is given a command or dies.
+abbrev pub StartsJoin : Type 0
+StartsJoin = (f : Form) (p later : State) (starts : ℕ → Bool) (who : ℕ) → MayStart starts p → starts who ≡ false → Joins f p who later
+    → MayStart starts later × Joins f (with_starts starts p) who (with_starts starts later)
+
+abbrev pub StartsGiven : Type 0
+StartsGiven = (p later : State) (starts : ℕ → Bool) (who : ℕ) (c : Command) → MayStart starts p → starts who ≡ false → Given p who c later
+    → MayStart starts later × Given (with_starts starts p) who c (with_starts starts later)
+
+abbrev pub StartsDie : Type 0
+StartsDie = (f : Form) (p later : State) (starts : ℕ → Bool) (who : ℕ) → MayStart starts p → starts who ≡ false → Dies f p who later
+    → MayStart starts later × Dies f (with_starts starts p) who (with_starts starts later)
+
+-- One more opener that is live and has no command is given a Start.
+abbrev pub StartIsGiven : Type 0
+StartIsGiven = (p : State) (starts : ℕ → Bool) (who : ℕ) → MayStart starts p → starts who ≡ false → (p.own who).live ≡ true → p.task who ≡ None
+    → MayStart (but_at who true starts) p × Given (with_starts starts p) who (OnGroup Start) (with_starts (but_at who true starts) p)
+
+-- Where the command of one of them ends and nothing else changes, the others still have their Start.
+abbrev pub StartEnds : Type 0
+StartEnds = (p : State) (starts : ℕ → Bool) (who : ℕ) → p.task who ≡ None
+    → without_task (with_starts starts p) who ≡ with_starts (but_at who false starts) p
+
+-- An opener that is aside has its own command there, so a Start that it had before is no matter.
+abbrev pub AsideHidesStart : Type 0
+AsideHidesStart = (p : State) (past : Past) (s : Side) (starts : ℕ → Bool)
+    → beside (with_starts starts p) past s ≡ beside (with_starts (but_at s.here false starts) p) past s

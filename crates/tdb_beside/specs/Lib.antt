@@ -4,3 +4,4 @@ pub mod Events
 pub mod Shutting
 pub mod Laws
 pub mod Own
+pub mod Starts
