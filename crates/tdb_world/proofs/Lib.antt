@@ -69,3 +69,4 @@ pub mod ShutOut
 pub mod ShutTurns
 pub mod ShutWorlds
 pub mod AskedNumber
+pub mod Closed

@@ -1,8 +1,10 @@
 -- What the death of an opener makes of a world.
 use Rattle.std.specs.Prelude.{ℕ, ◌+◌, ◌≡◌, ◌≢◌, true, false, None}
 use Rattle.tdb_locks.specs.LockTable.{held}
+use Rattle.tdb_law.specs.Openers.{closed}
 use Rattle.tdb_law.specs.World.{State}
 use Rattle.tdb_law.specs.Lines.{MayDie}
+use Rattle.tdb_beside.specs.Sides.{but_at}
 use Rattle.tdb_world.specs.declared.opener.Opener.{Opener}
 use Rattle.tdb_world.specs.Laws.{IsPut}
 use Rattle.tdb_world.specs.Worlds.{World, fresh}
@@ -24,3 +26,7 @@ pub record HasDied (old : World) (who : ℕ) (new : World) : Type 0 where
 pub record MayDieIn (w : State) (who : ℕ) : Type 0 where
   pub live : (w.own who).live ≡ true
   pub may_die : MayDie (w.task who)
+
+-- the state of the law in which this opener has ended, and holds nothing; all else is as it was
+abbrev pub without_opener : State → ℕ → State
+without_opener w who = record w { own = but_at who (closed (w.own who)) w.own; table = but_at who (λ b. 0) w.table }

@@ -5,6 +5,7 @@ mod advancing;
 mod assigning;
 mod checking;
 mod claiming;
+mod closing;
 mod dying;
 mod ending;
 mod fault;
