@@ -29,7 +29,7 @@ use Rattle.tdb_world.proofs.Counts.{no_chain, chain_or_none}
 use Rattle.tdb_world.proofs.Owned.{own_count}
 use Rattle.tdb_world.proofs.Keeping.{counts_keep, kept_is, counted_kept, none_keep, counts_most}
 
-all_here : (k : Kind) (count b : ℕ) → 168 ≤ b → b < all_end → all_held (all_of (Some (k, count))) b ≡ strength_of k
+pub all_here : (k : Kind) (count b : ℕ) → 168 ≤ b → b < all_end → all_held (all_of (Some (k, count))) b ≡ strength_of k
 all_here k count b low high = let over : covers (lock_all 0 (strength_of k)) b ≡ true = covers_within (lock_all 0 (strength_of k)) b low high in rw over (omega arith)
 
 -- a lock of all records keeps nothing below them

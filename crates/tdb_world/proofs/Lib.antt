@@ -70,3 +70,4 @@ pub mod ShutTurns
 pub mod ShutWorlds
 pub mod AskedNumber
 pub mod Closed
+pub mod OwnSide

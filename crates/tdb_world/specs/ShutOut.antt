@@ -1,8 +1,9 @@
 -- Turns of openers whom another one shuts out: that one is aside of the world, and holds all records for writing.
-use Rattle.std.specs.Prelude.{ℕ, ◌+◌, ◌*◌, ◌≡◌, List, true, false, None}
+use Rattle.std.specs.Prelude.{ℕ, ◌+◌, ◌*◌, ◌≡◌, List, true, false, None, Some}
 use Rattle.tdb_space.specs.Form.{Form, form_in}
 use Rattle.tdb_space.specs.Pairs.{home}
 use Rattle.tdb_locks.specs.HeldLocks.{nothing_held}
+use Rattle.tdb_locks.specs.declared.kind.Kind.TheVariants.{Write}
 use Rattle.tdb_locks.specs.declared.turn.Reply.{Reply}
 use Rattle.tdb_locks.specs.declared.turn.Turn.{Turn}
 use Rattle.tdb_locks.specs.declared.turn.Turn.TheVariants.{Step, Blocked, Done}
@@ -21,8 +22,9 @@ use Rattle.tdb_world.specs.declared.job.Locking.{Locking as LockingCommand}
 use Rattle.tdb_world.specs.declared.job.Locking.TheVariants as Locks
 use Rattle.tdb_world.specs.declared.job.Walking.{Walking}
 use Rattle.tdb_world.specs.declared.job.Walking.TheVariants as Walks
+use Rattle.tdb_world.specs.Aside.{IsBare}
 use Rattle.tdb_world.specs.Laws.{IsPut}
-use Rattle.tdb_world.specs.Worlds.{World, state_in}
+use Rattle.tdb_world.specs.Worlds.{World, state_in, IsNumber}
 
 -- The opener aside, which has this number, shuts the others out of a world over these bytes.
 pub record ShutsOut (w : World) (img : List ℕ) (past : Past) (s : Side) (holder : ℕ) : Type 0 where
@@ -30,6 +32,14 @@ pub record ShutsOut (w : World) (img : List ℕ) (past : Past) (s : Side) (holde
   pub shuts : s.shuts ≡ true
   pub sound : IsSound (form_in w.header) (beside (state_in w img) past s)
   pub aside : StandsAside (state_in w img) s
+
+-- The opener with this number has nothing but all records, which it holds for writing: nobody else holds one then.
+pub record HoldsAll (w : World) (holder : ℕ) : Type 0 where
+  pub opener : Opener
+  pub number : IsNumber w holder opener
+  pub bare : IsBare opener
+  pub count : ℕ
+  pub all : opener.held.all ≡ Some (Write, count)
 
 -- A turn of one of the others leads from one world to another over the same bytes: it is a turn of the whole state, and who is aside
 -- stands so afterwards.

@@ -17,7 +17,7 @@ ghost use Rattle.tdb_world.specs.declared.job.Task.{Task};
 ghost use Rattle.tdb_world.specs.declared.opener.Opener.{Opener};
 ghost use Rattle.tdb_world.specs.Given.{IsShortLocking};
 ghost use Rattle.tdb_world.specs.Openers.{command_in};
-ghost use Rattle.tdb_world.specs.ShutOut.{ShutsOut, IsTurnBeside, LockingMeets, WalkMeets, JobMeets, MayMeet, after_job, opener_after};
+ghost use Rattle.tdb_world.specs.ShutOut.{HoldsAll, ShutsOut, IsTurnBeside, LockingMeets, WalkMeets, JobMeets, MayMeet, after_job, opener_after};
 ghost use Rattle.tdb_world.specs.Worlds.{state_in, law_of_task, Stands, BytesStand, IsBusy};
 
 use crate::ending::refused_turn;
@@ -160,7 +160,7 @@ impl Openers {
         requires busy { (x : Opener) × (t : Task) × IsBusy self.old who x t }
         requires other { holder ≢ who }
         requires stands { (img : List ℕ) × (size : ℕ) × Stands self.old img size }
-        requires shut { (img : List ℕ) × (past : Past) × (s : Side) × ShutsOut self.old img past s holder }
+        requires shut { HoldsAll self.old holder }
         ensures turned { IfSome result (λ turn. (img : List ℕ) (past : Past) (s : Side) (x : Opener) (t : Task) → IsBusy self.old who x t → ShutsOut self.old img past s holder
             → IsTurnBeside self.old self.new img past s (law_opener who) (law_of_task t) (law_turn turn)) }
         ensures asks { IfNone result ((x : Opener) (t : Task) → IsBusy self.old who x t → law_of_task t ≡ record { command = Seqnum; steps = 0 }) }

@@ -4,6 +4,7 @@ use Rattle.tdb_world.specs.declared.job.Job.TheVariants as Jobs
 use Rattle.tdb_world.specs.Openers.{command_in}
 use Rattle.tdb_world.specs.Worlds.{World}
 use Rattle.tdb_world.proofs.AskedNumber.{asks_new}
+use Rattle.tdb_world.proofs.OwnSide.{own_barred}
 use Rattle.tdb_world.proofs.ShutOut.{IsBarred, may_meet, short_lock}
 use Rattle.tdb_world.proofs.ShutWorlds.{meets_beside, meets_world, meets_bytes}
 use Rattle.tdb_world.proofs.openers.Openers.turn_shut_out.Goals as goal
@@ -18,14 +19,12 @@ meet-requires-clause-chains c = let W = c.requires.stands.2 in W.sound.chains.so
 
 pub meet-requires-clause-short : goal.meet-requires-clause-short
 meet-requires-clause-short c x t locking B is =
-    let O = c.requires.shut in
-    let C : IsBarred c.args.self.now O.0 O.1 O.2 c.args.holder c.args.who x t c.requires.stands.0 c.requires.stands.1 = record { busy = B; other = c.requires.other; shuts = O.3; stands = c.requires.stands.2 } in
+    let C = own_barred c.requires.shut c.requires.other B c.requires.stands.2 in
     short_lock C locking is
 
 pub meet-requires-clause-meets : goal.meet-requires-clause-meets
 meet-requires-clause-meets c x t B =
-    let O = c.requires.shut in
-    let C : IsBarred c.args.self.now O.0 O.1 O.2 c.args.holder c.args.who x t c.requires.stands.0 c.requires.stands.1 = record { busy = B; other = c.requires.other; shuts = O.3; stands = c.requires.stands.2 } in
+    let C = own_barred c.requires.shut c.requires.other B c.requires.stands.2 in
     may_meet C t.job refl (subst (λ z. MatchBool z (t.job ≡ Jobs.Seqnum) (t.job ≢ Jobs.Seqnum)) c.if-asks_number.false (c.asks_number.ensures x t B))
 
 pub returns-clause-turned : goal.returns-clause-turned
@@ -38,8 +37,7 @@ returns-clause-stands c img size W =
     let x = c.requires.busy.0 in
     let t = c.requires.busy.1 in
     let B = c.requires.busy.2 in
-    let O = c.requires.shut in
-    let C : IsBarred c.args.self.now O.0 O.1 O.2 c.args.holder c.args.who x t img size = record { busy = B; other = c.requires.other; shuts = O.3; stands = W } in
+    let C = own_barred c.requires.shut c.requires.other B W in
     meets_world C c.meet.result (c.meet.ensures.meets x t B) (c.meet.ensures.replaced x t B)
 
 pub returns-clause-bytes : goal.returns-clause-bytes
@@ -47,8 +45,7 @@ returns-clause-bytes c img F =
     let x = c.requires.busy.0 in
     let t = c.requires.busy.1 in
     let B = c.requires.busy.2 in
-    let O = c.requires.shut in
-    let C : IsBarred c.args.self.now O.0 O.1 O.2 c.args.holder c.args.who x t c.requires.stands.0 c.requires.stands.1 = record { busy = B; other = c.requires.other; shuts = O.3; stands = c.requires.stands.2 } in
+    let C = own_barred c.requires.shut c.requires.other B c.requires.stands.2 in
     meets_bytes C c.meet.result (c.meet.ensures.meets x t B) (c.meet.ensures.replaced x t B) img F
 
 pub returns-clause-header : goal.returns-clause-header
