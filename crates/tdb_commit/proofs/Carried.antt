@@ -28,14 +28,14 @@ carried_stops State h new r b C stops = leaves_weaker h new (Reopens C.before) (
 -- the next state is of the same images
 pub carried_on : (State Next : History → List ℕ → List ℕ → Type 0) (h new : History) (r b : List ℕ) → Carries State h r b
     → ((x y : List ℕ) → State h x y → Next new x y) → Carries Next new r b
-carried_on State Next h new r b C next = record { before = C.before; after = C.after; reopens = C.reopens; stands = C.stands; header = C.header; state = next C.before C.after C.state }
+carried_on State Next h new r b C next = record { before = C.before; after = C.after; reopens = C.reopens; stands = C.stands; accepted = C.accepted; header = C.header; state = next C.before C.after C.state }
 
 -- once the undo area is filled, of the file as it is then
 pub carried_filled : (R : Type 0) (plan next : Plan) (h new : History) (r b : List ℕ) → Carries (IsPlannedOn plan) h r b
     → ((x y : List ℕ) → IsPlannedOn plan h x y → IsFilledFrom next new x y × R) → Carries (IsFilled next) new r b
 carried_filled R plan next h new r b C filled =
     let F = (filled C.before C.after C.state).0 in
-    record { before = seen new; after = C.after; reopens = λ c opens. C.reopens c (F.reopens c opens); stands = C.stands; header = C.header; state = F.filled }
+    record { before = seen new; after = C.after; reopens = λ c opens. C.reopens c (F.reopens c opens); stands = C.stands; accepted = C.accepted; header = C.header; state = F.filled }
 
 -- a turn that makes no call leaves a quiet disk
 pub rests_stops : (h : History) (r : List ℕ) → RestsAt h r → LeavesOnly h h (Reopens r)

@@ -89,7 +89,7 @@ module _ (txn : Txn) (limit : ℕ) (r : List ℕ) (h : History) (plan : Plan) (m
   header i front = may.keeps.front i (elim front [ inl low ↦ inl (omega (arith, low)) | inr high ↦ inr high ])
 
   carries : (x : List ℕ) → StandsFor (txn_image txn r) x → IsPlannedOn plan h r x → Carries (IsPlannedOn plan) h r (txn_image txn r)
-  carries x stands state = record { before = r; after = x; reopens = λ c opens. opens; stands = stands; header = header; state = state }
+  carries x stands state = record { before = r; after = x; reopens = λ c opens. opens; stands = stands; accepted = may.after; header = header; state = state }
 
   itself : IsPlannedOn plan h r (txn_image txn r) → Carries (IsPlannedOn plan) h r (txn_image txn r)
   itself state = carries (txn_image txn r) (record { accepted = state.after; header = λ i front. refl; number = refl; same_order = refl }) state

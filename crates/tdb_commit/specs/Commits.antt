@@ -23,12 +23,13 @@ pub record OpensAs (b c : List ℕ) : Type 0 where
   pub opens : Reopens image c
 
 -- A commit from image r of the file to image b of the transaction has come to a state, which speaks of an image of the file and of one that is written:
--- what opens to the map of the first opens to that of r, and the second stands for b. Image b has the header of r.
+-- what opens to the map of the first opens to that of r, and the second stands for b. Image b is accepted, and has the header of r.
 pub record Carries (State : History → List ℕ → List ℕ → Type 0) (h : History) (r b : List ℕ) : Type 0 where
   pub before : List ℕ
   pub after : List ℕ
   pub reopens : (c : List ℕ) → Reopens before c → Reopens r c
   pub stands : StandsFor b after
+  pub accepted : Accept b
   pub header : SameHeader r b
   pub state : State h before after
 
