@@ -1,8 +1,10 @@
 -- A turn of an outer Commit, as a turn of the opener aside.
-use Rattle.std.proofs.Common.{◌≡◌, ℕ, ◌≤◌, ◌⊎◌, max, List, [], Bool, true, false, None, Some, refl, sym, ◌∙◌, ap, subst, inl, inr, arith}
+use Rattle.std.proofs.Common.{◌≡◌, ℕ, ◌≤◌, ◌+◌, ◌⊎◌, max, List, [], Bool, true, false, None, Some, refl, sym, ◌∙◌, ap, subst, inl, inr, arith}
 use Rattle.std.specs.Prelude.{◌==◌}
 use Rattle.tdb_disk.specs.History.{History}
+use Rattle.tdb_space.specs.Accepted.{Accept, AcceptWith}
 use Rattle.tdb_space.specs.Form.{Form, form_of}
+use Rattle.tdb_locks.specs.declared.kind.Kind.TheVariants.{Write}
 use Rattle.tdb_locks.specs.declared.piece.Piece.{Piece}
 use Rattle.tdb_law.specs.Commands.{Reply, Turn}
 use Rattle.tdb_law.specs.Commands.Turn.{Ends}
@@ -30,13 +32,15 @@ use Rattle.tdb_beside.specs.Own.{OwnTurned}
 use Rattle.tdb_holder.specs.declared.options.Options.{Options}
 use Rattle.tdb_holder.specs.declared.stage.Stage.TheVariants as At
 use Rattle.tdb_holder.specs.Ends.{task_of, committed, shuts, IsBlocked}
-use Rattle.tdb_holder.specs.Stages.{HasOuter, Known, IsSide, KnowsFile}
-use Rattle.tdb_holder.specs.Turned.{IsBackAs, MayTurn, StageTurned, RestsLike}
+use Rattle.tdb_holder.specs.Stages.{stage_records, HasOuter, Known, IsSide, KnowsFile}
+use Rattle.tdb_holder.specs.Turned.{IsBackAs, MayTurn, StageTurned, RestsLike, keeps, brings}
 use Rattle.tdb_holder.specs.Waits.{IsAlone, of_commit}
 use Rattle.tdb_holder.specs.Wents.{commit_went}
 use Rattle.tdb_holder.proofs.Sided.{begins, leaves, side_after}
-use Rattle.tdb_holder.proofs.PlanStages.{early_like, few_planning, going_or_none, plan_goes}
+use Rattle.tdb_holder.proofs.PlanStages.{early_like, few_planning, going_or_none, plan_goes, planned_writes}
 use Rattle.tdb_holder.proofs.Filed.{file_by, known_by, numbers_by, other_number, same_number}
+use Rattle.tdb_holder.proofs.Finished.{settled_accepted}
+use Rattle.tdb_holder.proofs.GroupEffects.{changed_is}
 use Rattle.tdb_holder.proofs.Planned.{going_row, has_change, plans_commits}
 use Rattle.tdb_holder.proofs.Resting.{rests_like, shut_like}
 use Rattle.tdb_holder.proofs.Rows.{holds_at_first}
@@ -88,6 +92,16 @@ shut_next (Finishing (Applied state)) h r b late K = absurd (omega (arith, late)
 shut_next (Finishing (Settled state)) h r b late K = absurd (omega (arith, late))
 shut_next (Finishing Shut) h r b late K = K
 
+-- one that has had a step holds all records for writing
+step_writes : (c : Committing) → MayGoOn c → 1 ≤ commit_steps c → stage_records (At.Committing c) ≡ Some Write
+step_writes (Preparing p) some begun = ap Some (planned_writes p.stage some begun)
+step_writes (Finishing s) some begun = refl
+
+-- the image of one whose next step shuts the gate is accepted
+seventh_accepted : (c : Committing) (h : History) (r b : List ℕ) → commit_steps c ≡ 7 → KnowsCommit c h r b → Accept b
+seventh_accepted (Preparing p) h r b seventh K = absurd (let few = few_planning p.stage in omega (arith, seventh, few))
+seventh_accepted (Finishing s) h r b seventh K = settled_accepted s h r b (omega (arith, seventh)) K
+
 -- up to its plan the file is as it was before
 early : (f : Form) (c : Committing) (h : History) (r b : List ℕ) → form_of r ≡ f → MayGoOn c → commit_steps c ≤ 2 → KnowsCommit c h r b → RestsLike f h r
 early f (Preparing p) h r b form some third K = early_like f p.stage h r b form some third K
@@ -131,7 +145,7 @@ module _ (f : Form) (o : Options) (table : ℕ → ℕ → ℕ) (owner limit : �
         (λ step. refl)
 
     -- where the command ends the opener is back
-    back : (r : Reply) → commit_turn turn ≡ Ends r → IsBackAs owner rs later
+    back : (r : Reply) → commit_turn turn ≡ Ends r → IsBackAs o true owner rs later
     back r ends = record {
       here = S.here;
       alone = alone.1;
@@ -139,16 +153,19 @@ module _ (f : Form) (o : Options) (table : ℕ → ℕ → ℕ) (owner limit : �
       nothing = λ b. row_turned.holds b ∙ ap (λ u. held_after false (commit_row c has_txn.numbered) start_held steps u b) ends;
       task = ap (task_left (OnGroup Commit) steps) ends;
       own = ap (λ u. ended (committed u s.own)) ends ∙ sym (ap (λ u. committed u s.own) ends);
+      live = ap (λ u. (committed u s.own).live) ends ∙ S.live;
+      options = ap (λ u. (committed u s.own).options) ends ∙ S.options;
     }
 
-    over : (r : Reply) → commit_turn turn ≡ Ends r → CommitLeads c turn → (Ends r ≡ Ends Reply.Done → commits_in has_txn ≡ true → k.image ≡ k.file) → RestsLike f new k.file
+    over : (r : Reply) → commit_turn turn ≡ Ends r → CommitLeads c turn → (Ends r ≡ Ends Reply.Done → commits_in has_txn ≡ true → k.image ≡ k.file) → new ≡ h → RestsLike f new k.file
         → StageTurned f o table owner rs (At.Committing c) None h new k past s (task_of (OnGroup Commit) (commit_steps c)) (Ends r)
-    over r ends leads done rests = record {
+    over r ends leads done same rests = record {
       known = k;
       later = past;
       side = later;
       left = back r ends;
-      file = rests;
+      file = (rests, λ reads. same);
+      kept = keeps refl;
       turned = subst
           (λ u. let after = known_by k (shuts 7 steps u) in
           OwnTurned f table (image_map f k.file) (image_map f after.file) (number_of f k.file) (number_of f after.file) past past s later (task_of (OnGroup Commit) (commit_steps c)) u)
@@ -192,7 +209,12 @@ module _ (f : Form) (o : Options) (table : ℕ → ℕ → ℕ) (owner limit : �
         later = past;
         side = later (Step next) locks;
         left = side true is refl;
-        file = record { at = (shut_next next new k.file k.image (let seventh = same_number (commit_steps c) 7 is in omega (arith, seventh, leads.2)) made, λ late. refl); forms = (K.forms.1, K.forms.1) };
+        file = record { at = (shut_next next new k.file k.image (let seventh = same_number (commit_steps c) 7 is in omega (arith, seventh, leads.2)) made, λ late. refl); forms = (K.forms.1, K.forms.1); reads = λ only. absurd (only (step_writes next leads.1 (let more = leads.2 in omega (arith, more)))) };
+        kept =
+            let seventh = same_number (commit_steps c) 7 is in
+            brings has_txn refl refl S.own.has.outer.has S.own.has.map
+            (changed_is f s.own has_txn S.own.has.outer (steps + 1) ∙ rw (plans_commits has_txn S.own.has.prepared_is, has_change has_txn c leads.0 S.own.change, S.own.has.prepared_is, seventh) refl)
+            (subst (λ g. AcceptWith g k.image []) K.forms.1 (seventh_accepted c h k.file k.image seventh K.at.0)) refl;
         turned = turned true is;
       }
       by_last false is = record {
@@ -200,7 +222,8 @@ module _ (f : Form) (o : Options) (table : ℕ → ℕ → ℕ) (owner limit : �
         later = past;
         side = later (Step next) locks;
         left = side false is refl;
-        file = record { at = (made, λ late. absurd (let few = few_in_all next in other_number (commit_steps c) 7 is (omega (arith, few, late, leads.2)))); forms = K.forms };
+        file = record { at = (made, λ late. absurd (let few = few_in_all next in other_number (commit_steps c) 7 is (omega (arith, few, late, leads.2)))); forms = K.forms; reads = λ only. absurd (only (step_writes next leads.1 (let more = leads.2 in omega (arith, more)))) };
+        kept = keeps refl;
         turned = turned false is;
       }
 
@@ -228,9 +251,9 @@ module _ (f : Form) (o : Options) (table : ℕ → ℕ → ℕ) (owner limit : �
   commit_turned (Step next) locks leads made = stepped next locks leads made
   commit_turned (Blocked other byte again) locks leads made = absurd ((alone (Blocked other byte again) locks).0 tt)
   commit_turned (Full len need) locks leads made =
-      over (Full len need) locks (Reply.Full len need) refl leads (λ ends. absurd (cc ends))
+      over (Full len need) locks (Reply.Full len need) refl leads (λ ends. absurd (cc ends)) made.0
       (subst (λ d. RestsLike f d k.file) (sym made.0) (early f c h k.file k.image K.forms.0 leads.0 (let third = leads.1 in omega (arith, third)) K.at.0))
   commit_turned Memory locks leads made =
-      over Memory locks Reply.Memory refl leads (λ ends. absurd (cc ends))
+      over Memory locks Reply.Memory refl leads (λ ends. absurd (cc ends)) made
       (subst (λ d. RestsLike f d k.file) (sym made) (early f c h k.file k.image K.forms.0 leads.0 (let third = leads.1 in omega (arith, third)) K.at.0))
-  commit_turned Done locks leads made = over Done locks Reply.Done refl leads (λ ends. finds_same leads made.1) (rests leads made)
+  commit_turned Done locks leads made = over Done locks Reply.Done refl leads (λ ends. finds_same leads made.1) made.0 (rests leads made)

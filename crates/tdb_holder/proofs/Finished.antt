@@ -1,8 +1,9 @@
 -- A turn of a Commit of a prepared transaction whose gate was opened, as a turn of the opener aside.
-use Rattle.std.proofs.Common.{◌≡◌, ℕ, ◌≤◌, List, [], Bool, true, false, nat_le, Some, refl, sym, ◌∙◌, ap, subst, arith}
+use Rattle.std.proofs.Common.{◌≡◌, ℕ, ◌≤◌, ◌+◌, List, [], Bool, true, false, nat_le, Some, refl, sym, ◌∙◌, ap, subst, arith}
 use Rattle.std.specs.Prelude.{◌==◌}
 use Rattle.std.proofs.lemmas.Bool.Decides.{nat_tests}
 use Rattle.tdb_disk.specs.History.{History}
+use Rattle.tdb_space.specs.Accepted.{Accept, AcceptWith}
 use Rattle.tdb_space.specs.Form.{Form}
 use Rattle.tdb_locks.specs.declared.piece.Piece.{Piece}
 use Rattle.tdb_law.specs.Commands.{Reply, Turn}
@@ -29,7 +30,7 @@ use Rattle.tdb_holder.specs.declared.options.Options.{Options}
 use Rattle.tdb_holder.specs.declared.stage.Stage.TheVariants as At
 use Rattle.tdb_holder.specs.Ends.{task_of, committed, shuts, IsBlocked}
 use Rattle.tdb_holder.specs.Stages.{HasOuter, Known, IsSide, KnowsFile}
-use Rattle.tdb_holder.specs.Turned.{MayTurn, RestsLike, StageTurned}
+use Rattle.tdb_holder.specs.Turned.{MayTurn, RestsLike, StageTurned, keeps, brings}
 use Rattle.tdb_holder.specs.Waits.{IsAlone, of_finish}
 use Rattle.tdb_holder.specs.Wents.{finish_went}
 use Rattle.tdb_holder.proofs.Filed.{file_by, known_by, numbers_by, other_number, same_number}
@@ -37,6 +38,7 @@ use Rattle.tdb_holder.proofs.Resting.{shut_like}
 use Rattle.tdb_holder.proofs.Sided.{begins, leaves, side_after}
 use Rattle.tdb_holder.proofs.Waiting.{alone_goes}
 use Rattle.tdb_holder.proofs.FinishTurns.{finish_is_own}
+use Rattle.tdb_holder.proofs.GroupEffects.{changed_is}
 
 -- an outer prepared transaction in which something was changed is one to commit
 prepared_commits : (t : Txn) (steps : ℕ) → t.depth ≡ 1 → t.changed ≡ true → t.prepared ≡ Some steps → 1 ≤ steps → commits_in t ≡ true
@@ -57,6 +59,13 @@ shut_next (Open state) h r b late K = absurd (omega (arith, late))
 shut_next (Applied state) h r b late K = absurd (omega (arith, late))
 shut_next (Settled state) h r b late K = absurd (omega (arith, late))
 shut_next Shut h r b late K = K
+
+-- the image of a commit whose gate is open is accepted
+pub settled_accepted : (s : Finishing) (h : History) (r b : List ℕ) → finish_steps s ≡ 2 → KnowsFinish s h r b → Accept b
+settled_accepted (Open state) h r b third K = K.accepted
+settled_accepted (Applied state) h r b third K = K.accepted
+settled_accepted (Settled state) h r b third K = K.accepted
+settled_accepted Shut h r b third K = absurd (omega (arith, third))
 
 module _ (f : Form) (o : Options) (table : ℕ → ℕ → ℕ) (owner : ℕ) (ps rs : List Piece) (c : Finishing) (h new : History) (k : Known) (past : Past) (s : Side)
     (S : IsSide f o owner ps (At.Finishing c) k past s) (K : KnowsFile f (At.Finishing c) h k) (M : MayTurn f table s (task_of (OnGroup Commit) (finish_steps c))) where
@@ -126,7 +135,12 @@ module _ (f : Form) (o : Options) (table : ℕ → ℕ → ℕ) (owner : ℕ) (p
       later = past;
       side = later (Step next) locks;
       left = side true is refl;
-      file = record { at = (shut_next next new k.file k.image (let third = same_number (finish_steps c) 2 is in omega (arith, third, leads)) made, λ late. refl); forms = (K.forms.1, K.forms.1) };
+      file = record { at = (shut_next next new k.file k.image (let third = same_number (finish_steps c) 2 is in omega (arith, third, leads)) made, λ late. refl); forms = (K.forms.1, K.forms.1); reads = λ only. absurd (only refl) };
+      kept =
+          let third = same_number (finish_steps c) 2 is in
+          brings txn refl refl S.own.has.outer.has S.own.has.map
+          (changed_is f s.own txn S.own.has.outer (steps + 1) ∙ rw (commits, S.own.has.prepared_is, third) refl)
+          (subst (λ g. AcceptWith g k.image []) K.forms.1 (settled_accepted c h k.file k.image third K.at.0)) refl;
       turned = turned true is;
     }
     by_last false is = record {
@@ -134,7 +148,8 @@ module _ (f : Form) (o : Options) (table : ℕ → ℕ → ℕ) (owner : ℕ) (p
       later = past;
       side = later (Step next) locks;
       left = side false is refl;
-      file = record { at = (made, λ late. absurd (let few = few_steps next in other_number (finish_steps c) 2 is (omega (arith, few, late, leads)))); forms = K.forms };
+      file = record { at = (made, λ late. absurd (let few = few_steps next in other_number (finish_steps c) 2 is (omega (arith, few, late, leads)))); forms = K.forms; reads = λ only. absurd (only refl) };
+      kept = keeps refl;
       turned = turned false is;
     }
 
@@ -146,7 +161,8 @@ module _ (f : Form) (o : Options) (table : ℕ → ℕ → ℕ) (owner : ℕ) (p
         known = k;
         later = past;
         side = later Done locks;
-        left = record { here = S.here; alone = (alone Done locks).1; table = λ b. refl; nothing = (row_turned Done locks).holds; task = refl; own = refl };
-        file = subst (RestsLike f new) (sym same) (shut_like f new k.image K.forms.1 made.1);
+        left = record { here = S.here; alone = (alone Done locks).1; table = λ b. refl; nothing = (row_turned Done locks).holds; task = refl; own = refl; live = S.live; options = S.options };
+        file = (subst (RestsLike f new) (sym same) (shut_like f new k.image K.forms.1 made.1), λ reads. made.0);
+        kept = keeps refl;
         turned = own_turned Done locks leads (λ ends change. sym same);
       }

@@ -107,7 +107,7 @@ module _ (f : Form) (x : Own) (t : Txn) (O : IsOuter f x t Commit) where
   alone : nat_lt 1 t.depth ≡ false
   alone = ap (nat_lt 1) O.outer
 
-  changed_is : (n : ℕ) → is_changed f (OnGroup Commit) x n ≡ (commits_in t && gate_shut t.prepared n)
+  pub changed_is : (n : ℕ) → is_changed f (OnGroup Commit) x n ≡ (commits_in t && gate_shut t.prepared n)
   unfolding is_changed
   changed_is n = ap (λ o. changed_by o (OnGroup Commit) x n) allowed ∙ ap (λ o. commit_changed o n) its_txn
 

@@ -2,12 +2,14 @@
 use Rattle.std.proofs.Common.{◌≡◌, ℕ, ◌≤◌, ◌⊎◌, List, [], Bool, true, refl, inl, inr, arith}
 use Rattle.tdb_disk.specs.History.{History}
 use Rattle.tdb_space.specs.Form.{Form, form_of}
+use Rattle.tdb_locks.specs.declared.kind.Kind.TheVariants.{Write}
 use Rattle.tdb_law.specs.Openers.{Txn}
 use Rattle.tdb_law.specs.Rows.{plans_in}
 use Rattle.tdb_commit.specs.Laws.{HasPlan}
 use Rattle.tdb_commit.specs.Prepares.{row_of, stage_steps, IsPlanning, KnowsStage}
 use Rattle.tdb_commit.specs.declared.preparing.PrepareStage.{PrepareStage}
 use Rattle.tdb_commit.specs.declared.preparing.PrepareStage.TheVariants.{Unchanged, Begun, Records, Locked, Planned, Filled}
+use Rattle.tdb_holder.specs.Stages.{plan_records}
 use Rattle.tdb_holder.specs.Turned.{RestsLike}
 use Rattle.tdb_holder.proofs.Resting.{ready_like}
 
@@ -28,6 +30,15 @@ plan_goes t (Records txn) some plans = plans
 plan_goes t (Locked txn) some plans = plans
 plan_goes t (Planned state) some plans = plans
 plan_goes t (Filled state) some plans = plans
+
+-- after a step it holds all records for writing
+pub planned_writes : (s : PrepareStage) → IsPlanning s → 1 ≤ stage_steps s → plan_records s ≡ Write
+planned_writes Unchanged some begun = absurd some
+planned_writes (Begun txn) some begun = absurd (omega (arith, begun))
+planned_writes (Records txn) some begun = refl
+planned_writes (Locked txn) some begun = refl
+planned_writes (Planned state) some begun = refl
+planned_writes (Filled state) some begun = refl
 
 -- it has no more than four steps
 pub few_planning : (s : PrepareStage) → stage_steps s ≤ 4

@@ -1,8 +1,10 @@
 -- A turn of an outer Prepare, as a turn of the opener aside.
 use Rattle.std.proofs.Common.{◌≡◌, ℕ, ◌⊎◌, max, List, Bool, true, false, None, Some, refl, sym, ◌∙◌, ap, subst, inl, inr, arith}
-use Rattle.std.specs.Prelude.{◌&&◌, if◌then◌else◌}
-use Rattle.tdb_disk.specs.History.{History}
+use Rattle.std.specs.Prelude.{◌≢◌, ◌==◌, ◌&&◌, if◌then◌else◌}
+use Rattle.tdb_disk.specs.History.{History, seen}
 use Rattle.tdb_space.specs.Form.{Form}
+use Rattle.tdb_locks.specs.declared.kind.Kind.{Kind}
+use Rattle.tdb_locks.specs.declared.kind.Kind.TheVariants.{Read, Write}
 use Rattle.tdb_locks.specs.declared.piece.Piece.{Piece}
 use Rattle.tdb_law.specs.Commands.{Reply, Turn, is_done}
 use Rattle.tdb_law.specs.Commands.Turn.{Ends}
@@ -34,13 +36,13 @@ use Rattle.tdb_holder.specs.declared.stage.PreparedTxn.{PreparedTxn}
 use Rattle.tdb_holder.specs.declared.stage.PreparedTxn.TheVariants.{Opened, Nothing}
 use Rattle.tdb_holder.specs.declared.stage.Stage.TheVariants as At
 use Rattle.tdb_holder.specs.Ends.{task_of, prepared, IsBlocked, IsOuter, MarkRests}
-use Rattle.tdb_holder.specs.Stages.{prepared_steps, was_changed, HasNumbers, HasOuter, Known, IsSide, KnowsFile}
-use Rattle.tdb_holder.specs.Turned.{MayTurn, StageTurned, RestsLike}
+use Rattle.tdb_holder.specs.Stages.{plan_records, prepared_steps, was_changed, HasNumbers, HasOuter, Known, IsSide, KnowsFile}
+use Rattle.tdb_holder.specs.Turned.{MayTurn, StageTurned, RestsLike, keeps}
 use Rattle.tdb_holder.specs.Waits.{IsAlone, of_prepare}
 use Rattle.tdb_holder.specs.Wents.{has_changed, prepare_went}
 use Rattle.tdb_holder.proofs.Sided.{begins, leaves, same_txn, side_after}
 use Rattle.tdb_holder.proofs.Planned.{has_plan, planning_row}
-use Rattle.tdb_holder.proofs.PlanStages.{early_like, going_or_none, plan_goes}
+use Rattle.tdb_holder.proofs.PlanStages.{early_like, going_or_none, plan_goes, planned_writes}
 use Rattle.tdb_holder.proofs.Rows.{holds_at_first}
 use Rattle.tdb_holder.proofs.Waiting.{alone_goes}
 use Rattle.tdb_holder.proofs.PrepareTurns.{prepare_is_own}
@@ -101,6 +103,12 @@ nothing_rests s h r b (inr third) K = by_stage s third K
 nothing_changed : (s : PrepareStage) → (s ≡ Unchanged) ⊎ (stage_steps s ≡ 2) → has_changed s ≡ true → stage_steps s ≡ 2
 nothing_changed s (inl none) changed = absurd (let e : false ≡ true = ap has_changed (sym none) ∙ changed in cc)
 nothing_changed s (inr third) changed = third
+
+-- where nothing was changed others may still read the file, which stays
+nothing_reads : (s : PrepareStage) {h new : History} {r : List ℕ} → (s ≡ Unchanged) ⊎ (stage_steps s ≡ 2) → new ≡ h → (Some (plan_records s) ≢ Some Write → seen h ≡ r)
+    → Some (if prepared_steps (Nothing (has_changed s)) == 0 then Read else Write) ≢ Some Write → seen new ≡ r
+nothing_reads s (inl none) same reads only = ap seen same ∙ reads (λ write. absurd (let e = ap (λ u. Some (plan_records u)) (sym none) ∙ write in cc e))
+nothing_reads s (inr third) same reads only = absurd (only (ap (λ n. Some (if n == 0 then Read else Write)) (nothing_steps s (inr third) ∙ third)))
 
 late_changed : (s : PrepareStage) → stage_steps s ≡ 4 → has_changed s ≡ true
 late_changed Unchanged late = absurd (omega (arith, late))
@@ -179,7 +187,8 @@ module _ (f : Form) (o : Options) (table : ℕ → ℕ → ℕ) (owner limit : �
       own = record { txn = txn; has = S.own.has; plan = plan_goes txn next.stage leads.1 (has_plan txn p.stage leads.0 S.own.plan); numbered = leads.3 ∙ S.own.numbered };
       numbers = S.numbers;
     };
-    file = record { at = made; forms = K.forms };
+    file = record { at = made; forms = K.forms; reads = λ only. absurd (only (ap Some (planned_writes next.stage leads.1 (let more = leads.2 in omega (arith, more))))) };
+    kept = keeps refl;
     turned = own_turned (To.Step next) locks leads;
   }
 
@@ -217,9 +226,9 @@ module _ (f : Form) (o : Options) (table : ℕ → ℕ → ℕ) (owner limit : �
   }
 
   -- one without room or memory ends the transaction
-  over : (turn : PrepareTurn) (locks : Locks turn) (r : Reply) → prepare_turn turn ≡ Ends r → is_done r ≡ false → PrepareLeads p turn → prepared (Ends r) s.own S.own.txn (prepare_steps p) ≡ ended s.own → RestsLike f new k.file
+  over : (turn : PrepareTurn) (locks : Locks turn) (r : Reply) → prepare_turn turn ≡ Ends r → is_done r ≡ false → PrepareLeads p turn → prepared (Ends r) s.own S.own.txn (prepare_steps p) ≡ ended s.own → new ≡ h → RestsLike f new k.file
       → StageTurned f o table owner rs (At.Preparing p) None h new k past s (task_of (OnGroup Prepare) (prepare_steps p)) (Ends r)
-  over turn locks r ends undone leads gone like = record {
+  over turn locks r ends undone leads gone same like = record {
     known = k;
     later = past;
     side = later turn locks;
@@ -230,8 +239,11 @@ module _ (f : Form) (o : Options) (table : ℕ → ℕ → ℕ) (owner limit : �
       nothing = λ b. (row_turned turn locks).holds b ∙ ap (λ u. held_after true (prepare_row p) start_held steps u b) ends ∙ ap (λ done. if done then max (locked (prepare_row p) steps b) (start_held b) else 0) undone;
       task = ap (task_left (OnGroup Prepare) steps) ends;
       own = let is = ap (λ u. prepared u s.own txn steps) ends ∙ gone in ap ended is ∙ sym is;
+      live = ap (λ x. x.live) (ap (λ u. prepared u s.own txn steps) ends ∙ gone) ∙ S.live;
+      options = ap (λ x. x.options) (ap (λ u. prepared u s.own txn steps) ends ∙ gone) ∙ S.options;
     };
-    file = like;
+    file = (like, λ reads. same);
+    kept = keeps refl;
     turned = subst (λ u. OwnTurned f table (image_map f k.file) (image_map f k.file) (number_of f k.file) (number_of f k.file) past past s (later turn locks) (task_of (OnGroup Prepare) (prepare_steps p)) u) ends (own_turned turn locks leads);
   }
 
@@ -254,13 +266,15 @@ module _ (f : Form) (o : Options) (table : ℕ → ℕ → ℕ) (owner limit : �
         file = record {
           at = (subst (λ d. RestsAt d k.file) (sym made.0) (nothing_rests p.stage h k.file k.image leads K.at), λ changed. made.1 (nothing_changed p.stage leads changed));
           forms = K.forms;
+          reads = nothing_reads p.stage leads made.0 K.reads;
         };
+        kept = keeps refl;
         turned = T;
       }
   prepare_turned (To.Full len need) locks leads made =
-      over (To.Full len need) locks (Reply.Full len need) refl refl leads refl (subst (λ d. RestsLike f d k.file) (sym made.0) (planning_before leads))
+      over (To.Full len need) locks (Reply.Full len need) refl refl leads refl made.0 (subst (λ d. RestsLike f d k.file) (sym made.0) (planning_before leads))
   prepare_turned To.Memory locks leads made =
-      over To.Memory locks Reply.Memory refl refl leads refl
+      over To.Memory locks Reply.Memory refl refl leads refl made
       (subst (λ d. RestsLike f d k.file) (sym made) (early_like f p.stage h k.file k.image K.forms.0 leads.0 (let early = leads.1 in omega (arith, early)) K.at))
   prepare_turned (To.Done state) locks leads made =
       let T = own_turned (To.Done state) locks leads in
@@ -269,6 +283,7 @@ module _ (f : Form) (o : Options) (table : ℕ → ℕ → ℕ) (owner limit : �
         later = past;
         side = is_ready;
         left = readied (Opened state) (alone (To.Done state) locks).1 T (sym leads) (sym (late_changed p.stage leads));
-        file = record { at = made; forms = K.forms };
+        file = record { at = made; forms = K.forms; reads = λ only. absurd (only refl) };
+        kept = keeps refl;
         turned = T;
       }

@@ -42,7 +42,7 @@ use Rattle.tdb_holder.specs.declared.stage.Stage.TheVariants as At
 use Rattle.tdb_holder.specs.declared.stage.Went.{Went}
 use Rattle.tdb_holder.specs.Ends.{task_of, started, start_number, start_settles, IsBlocked, TurnLeaves}
 use Rattle.tdb_holder.specs.Stages.{Known, IsSide, KnowsFile}
-use Rattle.tdb_holder.specs.Turned.{BeginsOn, MayTurn, StageTurned}
+use Rattle.tdb_holder.specs.Turned.{BeginsOn, MayTurn, StageTurned, keeps}
 use Rattle.tdb_holder.specs.Waits.{IsAlone, of_start}
 use Rattle.tdb_holder.specs.Wents.{StartWent}
 use Rattle.tdb_holder.proofs.Keeping.{keeps_nothing}
@@ -105,11 +105,11 @@ module _ (f : Form) (o : Options) (table : ℕ → ℕ → ℕ) (owner len : ℕ
   outside : s.own.txn ≡ None
   outside = sym (ap (λ x. x.txn) S.own.bare)
 
-  keeps : (b : ℕ) → kept f s.own nowhere b ≡ 0
-  keeps = keeps_nothing f s.own outside (sym (ap (λ x. x.counts) S.own.bare)) (sym (ap (λ x. x.all) S.own.bare))
+  keeps_none : (b : ℕ) → kept f s.own nowhere b ≡ 0
+  keeps_none = keeps_nothing f s.own outside (sym (ap (λ x. x.counts) S.own.bare)) (sym (ap (λ x. x.all) S.own.bare))
 
   holds_row : HoldsRow start_locks (λ b. 0) owner steps ps
-  holds_row b = sym (S.table b) ∙ S.holds b ∙ ap (λ task. holding f s.own nowhere task b) S.task ∙ (start_holds f s.own nowhere s.view steps b S.own.granted outside).0 ∙ ap (max (locked start_locks steps b)) (keeps b)
+  holds_row b = sym (S.table b) ∙ S.holds b ∙ ap (λ task. holding f s.own nowhere task b) S.task ∙ (start_holds f s.own nowhere s.view steps b S.own.granted outside).0 ∙ ap (max (locked start_locks steps b)) (keeps_none b)
 
   module _ (turn : StartTurn) (locks : Locks turn) where
     row_turned : RowTurned true start_locks (λ b. 0) owner steps ps rs (start_turn turn)
@@ -132,7 +132,7 @@ module _ (f : Form) (o : Options) (table : ℕ → ℕ → ℕ) (owner len : ℕ
         → Turned then_past
     own_turned then_past leads L =
         start_is_own f f table (image_map f k.file) (number_of f k.file) len owner past then_past s side_then s.own start turn ps rs
-        outside S.own.granted keeps alone.0 leads row_turned (λ b. refl)
+        outside S.own.granted keeps_none alone.0 leads row_turned (λ b. refl)
         (begins f o table owner ps (At.Starting start) k past s (task_of (OnGroup Start) steps) S refl M) L (λ step. refl)
 
   abbrev Goal : Went → Type 0
@@ -157,7 +157,8 @@ module _ (f : Form) (o : Options) (table : ℕ → ℕ → ℕ) (owner len : ℕ
           own = S.own;
           numbers = S.numbers;
         };
-        file = record { at = ap seen made ∙ K.at; forms = tt };
+        file = record { at = ap seen made ∙ K.at; forms = tt; reads = λ only. ap seen made ∙ K.at };
+        kept = keeps refl;
         turned = T;
       }
 
@@ -168,8 +169,9 @@ module _ (f : Form) (o : Options) (table : ℕ → ℕ → ℕ) (owner len : ℕ
         known = k;
         later = past;
         side = side_then Memory locks;
-        left = record { here = S.here; alone = (alone Memory locks).1; table = λ b. refl; nothing = (row_turned Memory locks).holds; task = refl; own = S.own.bare };
+        left = record { here = S.here; alone = (alone Memory locks).1; table = λ b. refl; nothing = (row_turned Memory locks).holds; task = refl; own = S.own.bare; live = S.live; options = S.options };
         file = made;
+        kept = keeps refl;
         turned = T;
       }
 
@@ -219,7 +221,8 @@ module _ (f : Form) (o : Options) (table : ℕ → ℕ → ℕ) (owner len : ℕ
             };
             numbers = record { image = λ u has. put_here s.here (number_of f k.file) past.numbers; still = λ u has counts. refl };
           };
-          file = record { at = subst (λ own. IsReady own.txn new k.file k.file) (sym is) ready; forms = (A.form, A.form) };
+          file = record { at = subst (λ own. IsReady own.txn new k.file k.file) (sym is) ready; forms = (A.form, A.form); reads = λ only. ready.file };
+          kept = keeps refl;
           turned = T;
         }
 

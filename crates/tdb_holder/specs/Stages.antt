@@ -1,8 +1,10 @@
 -- An opener with a transaction at each stage: what the law sees of it, and what is known of the file.
-use Rattle.std.specs.Prelude.{◌≡◌, ℕ, ◌+◌, ◌-◌, ◌^◌, ◌<◌, ◌≤◌, List, Bool, true, false, Option, None, Some}
+use Rattle.std.specs.Prelude.{◌≡◌, ℕ, ◌+◌, ◌-◌, ◌^◌, ◌<◌, ◌≤◌, ◌≢◌, ◌==◌, List, Bool, true, false, Option, None, Some, if◌then◌else◌}
 use Rattle.tdb_disk.specs.History.{History, seen}
 use Rattle.tdb_words.specs.declared.header.Header.{Header}
 use Rattle.tdb_space.specs.Form.{Form, form_of}
+use Rattle.tdb_locks.specs.declared.kind.Kind.{Kind}
+use Rattle.tdb_locks.specs.declared.kind.Kind.TheVariants.{Read, Write}
 use Rattle.tdb_locks.specs.declared.piece.Piece.{Piece}
 use Rattle.tdb_law.specs.Commands.{GroupCommand}
 use Rattle.tdb_law.specs.Commands.GroupCommand.{Start, Commit, Prepare}
@@ -22,7 +24,11 @@ use Rattle.tdb_commit.specs.Finishes.{finish_steps, FinishFits, KnowsFinish}
 use Rattle.tdb_commit.specs.Committings.{commit_steps, CommitFits, IsNumbered, KnowsCommit}
 use Rattle.tdb_commit.specs.Laws.{HasChange, HasPlan}
 use Rattle.tdb_commit.specs.declared.committing.Committing.{Committing}
+use Rattle.tdb_commit.specs.declared.committing.Committing.TheVariants as Commits
+use Rattle.tdb_commit.specs.declared.preparing.PrepareStage.{PrepareStage}
+use Rattle.tdb_commit.specs.declared.preparing.PrepareStage.TheVariants.{Unchanged, Begun}
 use Rattle.tdb_commit.specs.declared.preparing.Preparing.{Preparing}
+use Rattle.tdb_commit.specs.declared.starting.Starting.TheVariants.{Reading}
 use Rattle.tdb_plays.specs.InLaw.{law_command}
 use Rattle.tdb_plays.specs.declared.command.Command.{Command}
 use Rattle.tdb_plays.specs.declared.command.Command.TheVariants as Given
@@ -72,6 +78,33 @@ abbrev pub was_changed : PreparedTxn → Bool
 was_changed (Opened state) = true
 was_changed (Nothing changed) = changed
 
+-- How the opener holds all records at a stage, if it does: for reading from the second step of its Start on, and for writing from the first
+-- step of a Commit or Prepare of a changed transaction on.
+abbrev pub plan_records : PrepareStage → Kind
+plan_records Unchanged = Read
+plan_records (Begun txn) = Read
+plan_records _ = Write
+
+abbrev pub stage_records : Stage → Option Kind
+stage_records (At.Starting Reading) = Some Read
+stage_records (At.Starting s) = None
+stage_records (At.Open txn command) = Some Read
+stage_records (At.Committing (Commits.Preparing p)) = Some (plan_records p.stage)
+stage_records (At.Committing (Commits.Finishing s)) = Some Write
+stage_records (At.Preparing p) = Some (plan_records p.stage)
+stage_records (At.Prepared left command) = Some (if prepared_steps left == 0 then Read else Write)
+stage_records (At.Finishing s) = Some Write
+
+-- its command ends the opener itself
+abbrev pub is_close : Option Command → Bool
+is_close (Some Given.Close) = true
+is_close _ = false
+
+abbrev pub is_closing : Stage → Bool
+is_closing (At.Open txn command) = is_close command
+is_closing (At.Prepared left command) = is_close command
+is_closing _ = false
+
 -- what the opener has at each stage
 pub record StartsWith (f : Form) (x : Own) : Type 0 where
   pub bare : ended x ≡ x
@@ -117,9 +150,11 @@ abbrev pub HasForms : Form → Stage → Known → Type 0
 HasForms f (At.Starting s) k = Unit {0}
 HasForms f stage k = (form_of k.file ≡ f) × (form_of k.image ≡ f)
 
+-- What is known of the file at a stage. Where others may read it, it is the image.
 pub record KnowsFile (f : Form) (stage : Stage) (h : History) (k : Known) : Type 0 where
   pub at : KnowsAt f stage h k
   pub forms : HasForms f stage k
+  pub reads : stage_records stage ≢ Some Write → seen h ≡ k.file
 
 -- The numbers of the world are those of the images: that of the opener's image, where it has a transaction; where changes don't count there
 -- the number stays that of the file.

@@ -1,12 +1,17 @@
 -- What one turn of an opener with a transaction leads to, in the words of the law.
-use Rattle.std.specs.Prelude.{◌≡◌, ℕ, ◌+◌, List, [], Option, None, Some}
+use Rattle.std.specs.Prelude.{◌≡◌, ◌≢◌, ℕ, ◌+◌, List, [], Bool, true, Option, None, Some, not}
 use Rattle.tdb_disk.specs.History.{History, seen}
 use Rattle.tdb_disk.specs.Stop.{Quiet}
 use Rattle.tdb_space.specs.Accepted.{AcceptWith}
 use Rattle.tdb_space.specs.Form.{Form}
+use Rattle.tdb_locks.specs.declared.kind.Kind.TheVariants.{Write}
 use Rattle.tdb_locks.specs.declared.piece.Piece.{Piece}
 use Rattle.tdb_law.specs.Commands.{Turn}
-use Rattle.tdb_law.specs.Openers.{Task, ended}
+use Rattle.tdb_law.specs.Commands.GroupCommand.{Commit}
+use Rattle.tdb_law.specs.Commands.Command.{OnGroup}
+use Rattle.tdb_law.specs.Commands.Turn.{Step}
+use Rattle.tdb_law.specs.Openers.{Task, Txn, ended}
+use Rattle.tdb_law.specs.Rows.{is_changed}
 use Rattle.tdb_law.specs.Effects.{IsFree}
 use Rattle.tdb_law.specs.Images.{image_map}
 use Rattle.tdb_steps.specs.Turns.{number_of}
@@ -17,7 +22,8 @@ use Rattle.tdb_holder.specs.declared.options.Options.{Options}
 use Rattle.tdb_holder.specs.declared.stage.Stage.{Stage}
 use Rattle.tdb_holder.specs.declared.stage.Stage.TheVariants as At
 use Rattle.tdb_holder.specs.Ends.{HoldsIn}
-use Rattle.tdb_holder.specs.Stages.{Known, KnowsFile, IsSide}
+use Rattle.tdb_holder.specs.Refusing.{options_of}
+use Rattle.tdb_holder.specs.Stages.{is_closing, stage_records, Known, KnowsFile, IsSide}
 use Rattle.tdb_holder.specs.Waits.{IsAlone}
 
 -- Nobody else stands in the way of the turn of a side, which holds among all what it holds by itself.
@@ -37,24 +43,34 @@ pub record RestsLike (f : Form) (h : History) (r : List ℕ) : Type 0 where
   pub map : image_map f (seen h) ≡ image_map f r
   pub number : number_of f (seen h) ≡ number_of f r
 
--- The opener has no transaction any more. It has no explicit lock and no cursor, and holds nothing.
-pub record IsBackAs (owner : ℕ) (ps : List Piece) (s : Side) : Type 0 where
+-- The opener has no transaction any more. It has no explicit lock and no cursor, and holds nothing; it is live, unless it has ended.
+pub record IsBackAs (o : Options) (stays : Bool) (owner : ℕ) (ps : List Piece) (s : Side) : Type 0 where
   pub here : owner ≡ s.here + 1
   pub alone : IsAlone owner ps
   pub table : HoldsIn ps owner s
   pub nothing : (b : ℕ) → s.table b ≡ 0
   pub task : s.task ≡ None
   pub own : ended s.own ≡ s.own
+  pub live : s.own.live ≡ stays
+  pub options : s.own.options ≡ options_of o
 
--- what is left after a turn: the opener at another stage, or back among the others
-abbrev pub IsLeft : Form → Options → ℕ → List Piece → Option Stage → Known → Past → Side → Type 0
-IsLeft f o owner ps None k past s = IsBackAs owner ps s
-IsLeft f o owner ps (Some stage) k past s = IsSide f o owner ps stage k past s
+-- what is left after a turn from a stage: the opener at another one, or back among the others
+abbrev pub IsLeft : Form → Options → ℕ → List Piece → Stage → Option Stage → Known → Past → Side → Type 0
+IsLeft f o owner ps before None k past s = IsBackAs o (not (is_closing before)) owner ps s
+IsLeft f o owner ps before (Some stage) k past s = IsSide f o owner ps stage k past s
 
+-- and of the file: where others could read it, the end of a transaction makes no call that changes it
 abbrev pub KnowsLeft : Form → Stage → Option Stage → History → History → Known → Type 0
 KnowsLeft f (At.Starting s) None old new k = new ≡ old
-KnowsLeft f before None old new k = RestsLike f new k.file
+KnowsLeft f before None old new k = RestsLike f new k.file × (stage_records before ≢ Some Write → new ≡ old)
 KnowsLeft f before (Some stage) old new k = KnowsFile f stage new k
+
+-- The image that the file is read as stays by a turn; or the turn shuts the gate of a Commit, and the transaction's image, which is accepted,
+-- takes its place.
+pub data KeepsFile (f : Form) (s : Side) (t : Task) (turn : Turn) (old new : Known) : Type 0 where
+  keeps : new.file ≡ old.file → KeepsFile f s t turn old new
+  brings : (txn : Txn) → t.command ≡ OnGroup Commit → turn ≡ Step → s.own.txn ≡ Some txn → txn.image ≡ image_map f old.image → is_changed f t.command s.own (t.steps + 1) ≡ true
+      → AcceptWith f old.image [] → new.file ≡ old.image → KeepsFile f s t turn old new
 
 -- A turn from side s, at a stage with what is known of the file, to another side and stage, in a file that had one history and has the other:
 -- it is a turn of the law by itself.
@@ -62,6 +78,7 @@ pub record StageTurned (f : Form) (o : Options) (table : ℕ → ℕ → ℕ) (o
   pub known : Known
   pub later : Past
   pub side : Side
-  pub left : IsLeft f o owner rs after known later side
+  pub left : IsLeft f o owner rs before after known later side
   pub file : KnowsLeft f before after old new known
+  pub kept : KeepsFile f s t turn k known
   pub turned : OwnTurned f table (image_map f k.file) (image_map f known.file) (number_of f k.file) (number_of f known.file) past later s side t turn
