@@ -201,6 +201,7 @@ module _ (f : Form) (o : Options) (table : ℕ → ℕ → ℕ) (owner limit : �
           numbered = leads.3 has_txn.numbered S.own.numbered;
         };
         numbers = numbers_by f k s.own has_txn (past.numbers s.here) S.own.has.outer.has S.own.has.map S.numbers b;
+        mark = tt;
       }
 
       by_last : (b : Bool) → (commit_steps c == 7) ≡ b → Goal (Step next)

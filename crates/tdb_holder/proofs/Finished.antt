@@ -127,6 +127,7 @@ module _ (f : Form) (o : Options) (table : ℕ → ℕ → ℕ) (owner : ℕ) (p
       options = S.options;
       own = record { txn = txn; has = subst (λ image. HasOuter f image Commit (Some 4) txn s.own) (sym same) S.own.has; change = S.own.change };
       numbers = numbers_by f k s.own txn (past.numbers s.here) S.own.has.outer.has S.own.has.map S.numbers b;
+      mark = tt;
     }
 
     by_last : (b : Bool) → (finish_steps c == 2) ≡ b → Goal (Step next)

@@ -116,7 +116,7 @@ close_is_own f table m q old new s z x txn has none B L =
 reads_locked : (b : ℕ) → 168 ≤ b → b < all_end → 1 ≤ locked start_locks 2 b
 reads_locked b above below = rw (le-leb 168 b above, lt-ltb b all_end below) (omega arith)
 
-reads_all : (f : Form) (table : ℕ → ℕ → ℕ) (s z : Side) (x : Own) (txn : Txn) → x.txn ≡ Some txn → s.own ≡ x → GoesOnHolding f table s z → ReadsAll table s.here
+pub reads_all : (f : Form) (table : ℕ → ℕ → ℕ) (s z : Side) (x : Own) (txn : Txn) → x.txn ≡ Some txn → s.own ≡ x → GoesOnHolding f table s z → ReadsAll table s.here
 reads_all f table s z x txn has is G b above below =
     let e = G.in_table b in let held = G.holds b in let same = ap (λ o. holding f o nowhere s.task b) is in
     let mine : kept f x nowhere b ≡ txn_held txn b = rw has refl in let some = reads_locked b above below in omega (arith, e, held, same, mine, some)

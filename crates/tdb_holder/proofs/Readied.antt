@@ -186,6 +186,7 @@ module _ (f : Form) (o : Options) (table : ℕ → ℕ → ℕ) (owner limit : �
       options = S.options;
       own = record { txn = txn; has = S.own.has; plan = plan_goes txn next.stage leads.1 (has_plan txn p.stage leads.0 S.own.plan); numbered = leads.3 ∙ S.own.numbered };
       numbers = S.numbers;
+      mark = tt;
     };
     file = record { at = made; forms = K.forms; reads = λ only. absurd (only (ap Some (planned_writes next.stage leads.1 (let more = leads.2 in omega (arith, more))))) };
     kept = keeps refl;
@@ -223,6 +224,7 @@ module _ (f : Form) (o : Options) (table : ℕ → ℕ → ℕ) (owner limit : �
       change = has_change txn p.stage S.own.has.outer.outer S.own.has.prepared_is S.own.plan ∙ sym changed;
     };
     numbers = numbers_after steps;
+    mark = tt;
   }
 
   -- one without room or memory ends the transaction

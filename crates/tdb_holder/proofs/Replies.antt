@@ -1,5 +1,5 @@
 -- Inside a transaction no command is told that it is busy, so that the reply in the law's words is the same by both tables.
-use Rattle.std.proofs.Common.{◌≡◌, ℕ, List, Bool, true, false, Option, Some, None, refl, ◌∙◌, ap, subst, arith}
+use Rattle.std.proofs.Common.{◌≡◌, ℕ, List, Bool, true, false, Option, Some, None, refl, ◌∙◌, ap, arith}
 use Rattle.std.specs.Prelude.{if◌then◌else◌}
 use Rattle.std.specs.FinMap.{get, empty}
 use Rattle.tdb_space.specs.Form.{Form}
@@ -126,6 +126,3 @@ same_reply Reply.Memory idle = refl
 same_reply Reply.Yes idle = refl
 same_reply Reply.No idle = refl
 same_reply (Reply.Number n) idle = refl
-
-pub reply_inside : (f : Form) (x y : Own) (c : Command) (n p q : ℕ) (r : Reply) → TurnsInside f x y c n p q (reply_of r) → TurnsInside f x y c n p q (law_reply r)
-reply_inside f x y c n p q r T = subst (TurnsInside f x y c n p q) (same_reply r (idle_inside f x y c n p q (reply_of r) T)) T

@@ -1,12 +1,14 @@
 -- A side before a turn of a Start, a Commit or a Prepare, and after it.
-use Rattle.std.proofs.Common.{◌≡◌, ℕ, List, Option, Some, refl, ◌∙◌}
+use Rattle.std.proofs.Common.{◌≡◌, ◌≢◌, ℕ, List, Option, Some, refl, ap, ◌∙◌}
+use Rattle.std.specs.Prelude.{if◌then◌else◌}
+use Rattle.std.proofs.lemmas.Bool.{eq-eqb, ne_eqb}
 use Rattle.tdb_space.specs.Form.{Form}
 use Rattle.tdb_locks.specs.declared.piece.Piece.{Piece}
 use Rattle.tdb_law.specs.Commands.{Turn}
 use Rattle.tdb_law.specs.Openers.{Own, Task, Txn}
 use Rattle.tdb_law.specs.Effects.{task_left}
 use Rattle.tdb_steps.specs.Holdings.{table_of}
-use Rattle.tdb_beside.specs.Sides.{Past, Side}
+use Rattle.tdb_beside.specs.Sides.{Past, Side, but_at}
 use Rattle.tdb_holder.specs.declared.options.Options.{Options}
 use Rattle.tdb_holder.specs.declared.stage.Stage.{Stage}
 use Rattle.tdb_holder.specs.Ends.{TurnBegins, TurnLeaves}
@@ -31,3 +33,10 @@ same_task t u e = cc
 
 pub same_txn : (t u : Txn) → Some t ≡ Some u → t ≡ u
 same_txn t u e = cc
+
+-- a list of numbers with another one at one opener
+pub put_here : (here x : ℕ) (g : ℕ → ℕ) → but_at here x g here ≡ x
+put_here here x g = ap (λ b. if b then x else g here) (eq-eqb here here refl)
+
+pub put_other : (here x o : ℕ) (g : ℕ → ℕ) → o ≢ here → but_at here x g o ≡ g o
+put_other here x o g differs = ap (λ b. if b then x else g o) (ne_eqb o here differs)

@@ -1,7 +1,6 @@
 -- A turn of an outer Start, as a turn of the opener aside.
-use Rattle.std.proofs.Common.{◌≡◌, ◌≢◌, ℕ, ◌+◌, ◌*◌, max, List, [], Bool, true, false, Option, None, Some, unwrap_or, refl, sym, ◌∙◌, ap, subst, arith}
-use Rattle.std.specs.Prelude.{if◌then◌else◌, slice_index}
-use Rattle.std.proofs.lemmas.Bool.{eq-eqb, ne_eqb}
+use Rattle.std.proofs.Common.{◌≡◌, ℕ, ◌+◌, ◌*◌, max, List, [], Bool, true, false, Option, None, Some, unwrap_or, refl, sym, ◌∙◌, ap, subst, arith}
+use Rattle.std.specs.Prelude.{slice_index}
 use Rattle.std.specs.Ordering.{nat_cmp}
 use Rattle.std.specs.FinMap.{get, empty, get-empty}
 use Rattle.tdb_disk.specs.History.{History, seen}
@@ -15,7 +14,7 @@ use Rattle.tdb_law.specs.Commands.{Reply, Turn}
 use Rattle.tdb_law.specs.Commands.Turn.{Ends}
 use Rattle.tdb_law.specs.Commands.GroupCommand.{Start}
 use Rattle.tdb_law.specs.Commands.Command.{OnGroup}
-use Rattle.tdb_law.specs.Openers.{Own, nowhere}
+use Rattle.tdb_law.specs.Openers.{Mark, Own, nowhere}
 use Rattle.tdb_law.specs.Outcomes.{begun_txn}
 use Rattle.tdb_law.specs.Effects.{task_left}
 use Rattle.tdb_law.specs.Held.{holding, kept, locked}
@@ -32,7 +31,13 @@ use Rattle.tdb_commit.specs.declared.starting.Starting.{Starting}
 use Rattle.tdb_commit.specs.declared.starting.Starting.TheVariants.{Begun, Claimed, Reading}
 use Rattle.tdb_commit.specs.declared.starting.StartTurn.{StartTurn}
 use Rattle.tdb_commit.specs.declared.starting.StartTurn.TheVariants.{Step, Blocked, Memory, Done}
+use Rattle.tdb_walk.specs.Again.{RestsAt}
+use Rattle.tdb_walk.specs.Cursors.{At, Knows, rested}
+use Rattle.tdb_walk.specs.declared.standing.Standing.TheVariants.{Past as Nowhere}
+use Rattle.tdb_cursors.specs.declared.walk.Walk.{Walk}
 use Rattle.tdb_inside.specs.Counted.{IsCounted}
+use Rattle.tdb_inside.specs.Walks.{mark_in, RestsIn, RestsInside}
+use Rattle.tdb_inside.specs.declared.own_txn.OwnTxn.{OwnTxn}
 use Rattle.tdb_plays.specs.InLaw.{law_turn}
 use Rattle.tdb_beside.specs.Sides.{Past, Side, but_at}
 use Rattle.tdb_beside.specs.Own.{OwnTurned}
@@ -47,7 +52,7 @@ use Rattle.tdb_holder.specs.Waits.{IsAlone, of_start}
 use Rattle.tdb_holder.specs.Wents.{StartWent}
 use Rattle.tdb_holder.proofs.Keeping.{keeps_nothing}
 use Rattle.tdb_holder.proofs.Opened.{txn_of}
-use Rattle.tdb_holder.proofs.Sided.{begins, leaves, side_after}
+use Rattle.tdb_holder.proofs.Sided.{begins, leaves, put_here, put_other, side_after}
 use Rattle.tdb_holder.proofs.Waiting.{alone_goes}
 use Rattle.tdb_holder.proofs.StartTurns.{start_is_own}
 
@@ -81,18 +86,24 @@ new_ready f old new txn r len A file N B =
       image = sym image;
     }
 
+-- an opener without a cursor
+rests_new : (f : Form) (img : List ℕ) (walk : Walk) → walk.cursor ≡ rested Nowhere → walk.shown ≡ None → RestsIn f img walk
+rests_new f img walk cursor shown = record {
+  rests = subst (λ (at : At). RestsAt f walk.shown at.place at.stage) (sym cursor) (shown, refl);
+  knows = subst (λ (at : At). Knows f img at.place at.stage) (sym cursor) tt;
+}
+
+rests_first : (f : Form) (txn : OwnTxn) (walk : Walk) (r : List ℕ) → AcceptWith f r [] → txn_form txn.txn ≡ f → txn_image txn.txn r ≡ r → walk.cursor ≡ rested Nowhere → walk.shown ≡ None → RestsInside txn r walk
+rests_first f txn walk r A form image cursor shown = record {
+  accepted = subst (λ img. AcceptWith (txn_form txn.txn) img []) (sym image) (subst (λ g. AcceptWith g r []) (sym form) A);
+  cursor = rests_new (txn_form txn.txn) (txn_image txn.txn r) walk cursor shown;
+}
+
 -- its third turn is taken on an accepted file
 reading : (f : Form) (start : Starting) (file : List ℕ) → start_steps start ≡ 2 → BeginsOn f (At.Starting start) file → AcceptWith f file []
 reading f Begun file third accepted = absurd (omega (arith, third))
 reading f Claimed file third accepted = absurd (omega (arith, third))
 reading f Reading file third accepted = accepted
-
--- a list of numbers with another one at one opener
-put_here : (here x : ℕ) (g : ℕ → ℕ) → but_at here x g here ≡ x
-put_here here x g = ap (λ b. if b then x else g here) (eq-eqb here here refl)
-
-put_other : (here x o : ℕ) (g : ℕ → ℕ) → o ≢ here → but_at here x g o ≡ g o
-put_other here x o g differs = ap (λ b. if b then x else g o) (ne_eqb o here differs)
 
 module _ (f : Form) (o : Options) (table : ℕ → ℕ → ℕ) (owner len : ℕ) (ps rs : List Piece) (start : Starting) (h new : History) (k : Known) (past : Past) (s : Side)
     (S : IsSide f o owner ps (At.Starting start) k past s) (K : KnowsFile f (At.Starting start) h k) (M : MayTurn f table s (task_of (OnGroup Start) (start_steps start))) where
@@ -121,30 +132,30 @@ module _ (f : Form) (o : Options) (table : ℕ → ℕ → ℕ) (owner len : ℕ
     abbrev own_after : Own
     own_after = started (start_turn turn) s.own (image_map f k.file)
 
-    abbrev side_then : Side
-    side_then = side_after s owner rs (started (start_turn turn) s.own (image_map f k.file)) (task_left (OnGroup Start) (start_steps start) (start_turn turn))
+    abbrev side_then : Mark → Side
+    side_then mark = record (side_after s owner rs (started (start_turn turn) s.own (image_map f k.file)) (task_left (OnGroup Start) (start_steps start) (start_turn turn))) { mark = mark }
 
-    abbrev Turned : Past → Type 0
-    Turned then_past = OwnTurned f table (image_map f k.file) (image_map f k.file) (number_of f k.file) (number_of f k.file) past then_past s side_then (task_of (OnGroup Start) (start_steps start)) (start_turn turn)
+    abbrev Turned : Past → Mark → Type 0
+    Turned then_past mark = OwnTurned f table (image_map f k.file) (image_map f k.file) (number_of f k.file) (number_of f k.file) past then_past s (side_then mark) (task_of (OnGroup Start) (start_steps start)) (start_turn turn)
 
-    own_turned : (then_past : Past) → StartLeads f len start turn
-        → TurnLeaves past then_past s side_then (task_of (OnGroup Start) (start_steps start)) (start_turn turn) own_after (start_settles (start_turn turn) past.settled) (start_number (start_turn turn) (number_of f k.file) (past.numbers s.here))
-        → Turned then_past
-    own_turned then_past leads L =
-        start_is_own f f table (image_map f k.file) (number_of f k.file) len owner past then_past s side_then s.own start turn ps rs
+    own_turned : (then_past : Past) (mark : Mark) → StartLeads f len start turn
+        → TurnLeaves past then_past s (side_then mark) (task_of (OnGroup Start) (start_steps start)) (start_turn turn) own_after (start_settles (start_turn turn) past.settled) (start_number (start_turn turn) (number_of f k.file) (past.numbers s.here))
+        → (start_turn turn ≡ Turn.Step → mark ≡ s.mark) → Turned then_past mark
+    own_turned then_past mark leads L stays =
+        start_is_own f f table (image_map f k.file) (number_of f k.file) len owner past then_past s (side_then mark) s.own start turn ps rs
         outside S.own.granted keeps_none alone.0 leads row_turned (λ b. refl)
-        (begins f o table owner ps (At.Starting start) k past s (task_of (OnGroup Start) steps) S refl M) L (λ step. refl)
+        (begins f o table owner ps (At.Starting start) k past s (task_of (OnGroup Start) steps) S refl M) L stays
 
   abbrev Goal : Went → Type 0
   Goal went = StageTurned f o table owner rs (At.Starting start) went.stage h new k past s (task_of (OnGroup Start) (start_steps start)) (law_turn went.turn)
 
   stepped : (next : Starting) → Locks (Step next) → StartLeads f len start (Step next) → new ≡ h → Goal (record { turn = TurnIs.Step; stage = Some (At.Starting next) })
   stepped next locks leads made =
-      let T = own_turned (Step next) locks past leads (leaves past s (task_of (OnGroup Start) steps) Turn.Step owner rs s.own) in
+      let T = own_turned (Step next) locks past s.mark leads (leaves past s (task_of (OnGroup Start) steps) Turn.Step owner rs s.own) (λ step. refl) in
       record {
         known = k;
         later = past;
-        side = side_then (Step next) locks;
+        side = side_then (Step next) locks s.mark;
         left = record {
           here = S.here;
           alone = (alone (Step next) locks).1;
@@ -156,6 +167,7 @@ module _ (f : Form) (o : Options) (table : ℕ → ℕ → ℕ) (owner len : ℕ
           options = S.options;
           own = S.own;
           numbers = S.numbers;
+          mark = tt;
         };
         file = record { at = ap seen made ∙ K.at; forms = tt; reads = λ only. ap seen made ∙ K.at };
         kept = keeps refl;
@@ -164,18 +176,19 @@ module _ (f : Form) (o : Options) (table : ℕ → ℕ → ℕ) (owner len : ℕ
 
   starved : Locks Memory → StartLeads f len start Memory → new ≡ h → Goal (record { turn = TurnIs.Done ReplyIs.Memory; stage = None })
   starved locks leads made =
-      let T = own_turned Memory locks past leads (leaves past s (task_of (OnGroup Start) steps) (Ends Reply.Memory) owner rs s.own) in
+      let T = own_turned Memory locks past s.mark leads (leaves past s (task_of (OnGroup Start) steps) (Ends Reply.Memory) owner rs s.own) (λ step. refl) in
       record {
         known = k;
         later = past;
-        side = side_then Memory locks;
+        side = side_then Memory locks s.mark;
         left = record { here = S.here; alone = (alone Memory locks).1; table = λ b. refl; nothing = (row_turned Memory locks).holds; task = refl; own = S.own.bare; live = S.live; options = S.options };
         file = made;
         kept = keeps refl;
         turned = T;
       }
 
-  module _ (txn : Txn) (t : OpenTxn) (numbered : Bool) (counting : numbered ≡ o.seqnum) (is : t.own ≡ record { txn = txn; changed = false; numbered = numbered }) (held : t.held ≡ nothing_held) where
+  module _ (txn : Txn) (t : OpenTxn) (numbered : Bool) (counting : numbered ≡ o.seqnum) (is : t.own ≡ record { txn = txn; changed = false; numbered = numbered }) (held : t.held ≡ nothing_held)
+      (cursor : t.walk.cursor ≡ rested Nowhere) (shown : t.walk.shown ≡ None) where
     abbrev then_past : Past
     then_past = record { settled = true; numbers = but_at s.here (number_of f k.file) past.numbers }
 
@@ -192,18 +205,19 @@ module _ (f : Form) (o : Options) (table : ℕ → ℕ → ℕ) (owner len : ℕ
     begun locks leads accepted made =
         let A = reading f start k.file leads.0 accepted in
         let ready = new_ready f h new txn k.file len A K.at leads.1 made in
-        let T = own_turned (Done txn) locks then_past leads (record {
+        let ready_then = subst (λ own. IsReady own.txn new k.file k.file) (sym is) ready in
+        let T = own_turned (Done txn) locks then_past (mark_in f k.file t.walk) leads (record {
           here = refl;
           own = refl;
           task = refl;
           settled = refl;
           number = put_here s.here (number_of f k.file) past.numbers;
           others = λ p differs. put_other s.here (number_of f k.file) p past.numbers differs;
-        }) in
+        }) (λ step. absurd (cc step)) in
         record {
           known = record { file = k.file; image = k.file };
           later = then_past;
-          side = side_then (Done txn) locks;
+          side = side_then (Done txn) locks (mark_in f k.file t.walk);
           left = record {
             here = S.here;
             alone = (alone (Done txn) locks).1;
@@ -217,11 +231,12 @@ module _ (f : Form) (o : Options) (table : ℕ → ℕ → ℕ) (owner len : ℕ
               options = S.options;
               txn = ap Some (own_is leads.1 (sym ready.image));
               counted = subst (λ counts. IsCounted counts (own_after (Done txn) locks)) (sym held) (counts_none (own_after (Done txn) locks) (sym (ap (λ x. x.counts) S.own.bare)) (sym (ap (λ x. x.all) S.own.bare)));
-              cursor = sym (ap (λ x. x.cursor) S.own.bare);
+              cursor = sym (ap (λ x. x.cursor) S.own.bare) ∙ sym shown;
             };
             numbers = record { image = λ u has. put_here s.here (number_of f k.file) past.numbers; still = λ u has counts. refl };
+            mark = refl;
           };
-          file = record { at = subst (λ own. IsReady own.txn new k.file k.file) (sym is) ready; forms = (A.form, A.form); reads = λ only. ready.file };
+          file = record { at = (ready_then, rests_first f t.own t.walk k.file A (ap (λ own. txn_form own.txn) is ∙ leads.1.form) (sym ready_then.image) cursor shown); forms = (A.form, A.form); reads = λ only. ready_then.file };
           kept = keeps refl;
           turned = T;
         }
@@ -230,4 +245,4 @@ module _ (f : Form) (o : Options) (table : ℕ → ℕ → ℕ) (owner len : ℕ
   start_turned (Step next) numbered went counting W locks leads accepted made = subst Goal (sym W) (stepped next locks leads made)
   start_turned (Blocked other byte) numbered went counting W locks leads accepted made = absurd ((alone (Blocked other byte) locks).0 tt)
   start_turned Memory numbered went counting W locks leads accepted made = subst Goal (sym W) (starved locks leads made)
-  start_turned (Done txn) numbered went counting W locks leads accepted made = subst Goal (sym W.3) (begun txn W.0 numbered counting W.1 W.2 locks leads accepted made)
+  start_turned (Done txn) numbered went counting W locks leads accepted made = subst Goal (sym W.5) (begun txn W.0 numbered counting W.1 W.2 W.3 W.4 locks leads accepted made)

@@ -42,7 +42,6 @@ IsPlainInside Given.Start depth = depth < 2 ^ 32 - 1
 IsPlainInside Given.Cancel depth = 0 < depth
 IsPlainInside Given.Commit depth = ⊥
 IsPlainInside Given.Prepare depth = ⊥
-IsPlainInside Given.First depth = ⊥
 IsPlainInside Given.Close depth = ⊥
 IsPlainInside command depth = Unit {0}
 

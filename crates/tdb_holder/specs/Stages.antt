@@ -29,6 +29,7 @@ use Rattle.tdb_commit.specs.declared.preparing.PrepareStage.{PrepareStage}
 use Rattle.tdb_commit.specs.declared.preparing.PrepareStage.TheVariants.{Unchanged, Begun}
 use Rattle.tdb_commit.specs.declared.preparing.Preparing.{Preparing}
 use Rattle.tdb_commit.specs.declared.starting.Starting.TheVariants.{Reading}
+use Rattle.tdb_inside.specs.Walks.{mark_in, RestsInside}
 use Rattle.tdb_plays.specs.InLaw.{law_command}
 use Rattle.tdb_plays.specs.declared.command.Command.{Command}
 use Rattle.tdb_plays.specs.declared.command.Command.TheVariants as Given
@@ -138,7 +139,7 @@ OwnIs f o k (At.Finishing s) x = IsPreparedWith f k.image 4 true x
 -- What is known of the file. From the turn on that shuts the gate the file has the image.
 abbrev pub KnowsAt : Form → Stage → History → Known → Type 0
 KnowsAt f (At.Starting s) h k = seen h ≡ k.file
-KnowsAt f (At.Open txn command) h k = IsReady txn.own.txn h k.file k.image
+KnowsAt f (At.Open txn command) h k = IsReady txn.own.txn h k.file k.image × RestsInside txn.own k.file txn.walk
 KnowsAt f (At.Committing c) h k = KnowsCommit c h k.file k.image × (8 ≤ commit_steps c → k.file ≡ k.image)
 KnowsAt f (At.Preparing p) h k = KnowsStage p.stage h k.file k.image
 KnowsAt f (At.Prepared (Opened state) command) h k = Carries (IsPrepared (prepared_plan state)) h k.file k.image
@@ -162,6 +163,11 @@ pub record HasNumbers (f : Form) (k : Known) (number : ℕ) (x : Own) : Type 0 w
   pub image : (t : Txn) → x.txn ≡ Some t → number ≡ number_of f k.image
   pub still : (t : Txn) → x.txn ≡ Some t → t.numbered ≡ false → number_of f k.image ≡ number_of f k.file
 
+-- Inside its transaction the walk of its cursor has come to where the cursor stands in the image.
+abbrev pub MarkIs : Form → Known → Stage → Side → Type 0
+MarkIs f k (At.Open txn command) s = s.mark ≡ mark_in f k.image txn.walk
+MarkIs f k stage s = Unit {0}
+
 -- The opener with this number, whose locks these are, at this stage: it is the side of a state. It is alone in its lock table.
 pub record IsSide (f : Form) (o : Options) (owner : ℕ) (ps : List Piece) (stage : Stage) (k : Known) (past : Past) (s : Side) : Type 0 where
   pub here : owner ≡ s.here + 1
@@ -174,11 +180,11 @@ pub record IsSide (f : Form) (o : Options) (owner : ℕ) (ps : List Piece) (stag
   pub options : s.own.options ≡ options_of o
   pub own : OwnIs f o k stage s.own
   pub numbers : HasNumbers f k (past.numbers s.here) s.own
+  pub mark : MarkIs f k stage s
 
 -- a command that may be given to an opener inside so many transactions more
 abbrev pub MayBeGiven : Command → ℕ → Type 0
 MayBeGiven Given.Start depth = depth < 2 ^ 32 - 1
-MayBeGiven Given.First depth = ⊥
 MayBeGiven command depth = Unit {0}
 
 abbrev pub CommandFits : Option Command → ℕ → Type 0

@@ -1,5 +1,8 @@
 -- What the turns of a Start, a Commit or a Prepare lead to.
-use Rattle.std.specs.Prelude.{◌≡◌, Bool, true, false, None, Some}
+use Rattle.std.specs.Prelude.{◌≡◌, ℕ, List, Bool, true, false, None, Some}
+use Rattle.tdb_disk.specs.History.{History}
+use Rattle.tdb_space.specs.Form.{Form}
+use Rattle.tdb_locks.specs.declared.piece.Piece.{Piece}
 use Rattle.tdb_locks.specs.declared.turn.Reply.{Reply}
 use Rattle.tdb_locks.specs.declared.turn.Turn.{Turn}
 use Rattle.tdb_commit.specs.declared.committing.CommitTurn.{CommitTurn}
@@ -9,11 +12,19 @@ use Rattle.tdb_commit.specs.declared.preparing.PrepareStage.TheVariants.{Unchang
 use Rattle.tdb_commit.specs.declared.preparing.PrepareTurn.{PrepareTurn}
 use Rattle.tdb_commit.specs.declared.preparing.PrepareTurn.TheVariants as Prepares
 use Rattle.tdb_locks.specs.HeldLocks.{nothing_held}
+use Rattle.tdb_walk.specs.Cursors.{rested}
+use Rattle.tdb_walk.specs.declared.standing.Standing.TheVariants.{Past as Nowhere}
 use Rattle.tdb_commit.specs.declared.starting.Starting.{Starting}
 use Rattle.tdb_commit.specs.declared.starting.StartTurn.{StartTurn}
 use Rattle.tdb_commit.specs.declared.starting.StartTurn.TheVariants as Starts
 use Rattle.tdb_commit.specs.declared.finishing.FinishTurn.{FinishTurn}
 use Rattle.tdb_commit.specs.declared.finishing.FinishTurn.TheVariants as Finishes
+use Rattle.tdb_law.specs.Openers.{Task}
+use Rattle.tdb_plays.specs.InLaw.{law_turn}
+use Rattle.tdb_beside.specs.Sides.{Past, Side}
+use Rattle.tdb_holder.specs.declared.options.Options.{Options}
+use Rattle.tdb_holder.specs.Stages.{stage_task, Known, IsSide, KnowsFile}
+use Rattle.tdb_holder.specs.Turned.{MayTurn, StageTurned}
 use Rattle.tdb_holder.specs.declared.open_txn.OpenTxn.{OpenTxn}
 use Rattle.tdb_holder.specs.declared.stage.PreparedTxn.TheVariants.{Opened, Nothing}
 use Rattle.tdb_holder.specs.declared.stage.Stage.TheVariants as At
@@ -52,10 +63,17 @@ abbrev pub finish_went : FinishTurn → Went
 finish_went (Finishes.Step next) = goes_on Turn.Step (At.Finishing next)
 finish_went Finishes.Done = is_over Reply.Ok
 
--- A Start: with its end the transaction is there, whose changes raise the sequence number or not, and in which nothing is counted.
+-- A Start: with its end the transaction is there, whose changes raise the sequence number or not, in which nothing is counted, and with no
+-- cursor.
 abbrev pub StartWent : Bool → Starting → StartTurn → Went → Type 0
 StartWent numbered s (Starts.Step next) went = went ≡ goes_on Turn.Step (At.Starting next)
 StartWent numbered s (Starts.Blocked owner byte) went = went ≡ goes_on (Turn.Blocked owner byte) (At.Starting s)
 StartWent numbered s Starts.Memory went = went ≡ is_over Reply.Memory
 StartWent numbered s (Starts.Done txn) went =
-    (t : OpenTxn) × (t.own ≡ record { txn = txn; changed = false; numbered = numbered }) × (t.held ≡ nothing_held) × (went ≡ goes_on (Turn.Done Reply.Ok) (At.Open t None))
+    (t : OpenTxn) × (t.own ≡ record { txn = txn; changed = false; numbered = numbered }) × (t.held ≡ nothing_held) × (t.walk.cursor ≡ rested Nowhere) × (t.walk.shown ≡ None) × (went ≡ goes_on (Turn.Done Reply.Ok) (At.Open t None))
+
+-- A turn from this stage is one of the opener aside, whatever its state and what is known of the file, which had one history and has the other.
+abbrev pub TurnsFrom : Form → Options → ℕ → List Piece → List Piece → Stage → Went → History → History → Type 0
+TurnsFrom f o owner ps rs stage went h new =
+    (table : ℕ → ℕ → ℕ) (k : Known) (past : Past) (s : Side) (t : Task) → IsSide f o owner ps stage k past s → KnowsFile f stage h k → stage_task stage ≡ Some t → MayTurn f table s t
+    → StageTurned f o table owner rs stage went.stage h new k past s t (law_turn went.turn)

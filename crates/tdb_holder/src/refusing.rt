@@ -87,7 +87,7 @@ impl Level {
     }
 
     /// The reply to a Commit, or to a Prepare of the outer transaction, that is refused.
-    fn commit_refusal(self, held: &Held) -> Option<Reply>
+    pub(crate) fn commit_refusal(self, held: &Held) -> Option<Reply>
         requires few { total_of held.now < 2 ^ 64 - 1 }
         ensures { result ≡ commit_told self held.now }
     {

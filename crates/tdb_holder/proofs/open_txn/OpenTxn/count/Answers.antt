@@ -12,7 +12,7 @@ returns-in-ChainUnlock-clause-turned c o base x H =
     let t = c.args.self.now in
     let key = c.in-ChainUnlock.key in
     goes_as o t _ base x c.args.command.now _ (law_reply c.uncount_chain.result) c.in-ChainUnlock.is
-    (counts_by o t.own t _ base x (ChainUnlock key) c.uncount_chain.result refl refl H
+    (counts_by o t.own t _ base x (ChainUnlock key) c.uncount_chain.result refl refl refl H
     (c.uncount_chain.ensures.turned (form_of t.own) x (txn_of t.own base) key (ap (λ f. home f key) (sym c.requires.header) ∙ sym c.chain_in.ensures) (is_inside o t base x H) H.counted))
 
 pub returns-in-LockAll-clause-turned : goal.returns-in-LockAll-clause-turned
@@ -27,7 +27,7 @@ pub returns-in-UnlockAll-clause-turned : goal.returns-in-UnlockAll-clause-turned
 returns-in-UnlockAll-clause-turned c o base x H =
     let t = c.args.self.now in
     goes_as o t _ base x c.args.command.now _ (law_reply c.uncount_all.result) c.in-UnlockAll.is
-    (counts_by o t.own t _ base x UnlockAll c.uncount_all.result refl refl H (c.uncount_all.ensures.turned (form_of t.own) x (txn_of t.own base) (is_inside o t base x H) H.counted))
+    (counts_by o t.own t _ base x UnlockAll c.uncount_all.result refl refl refl H (c.uncount_all.ensures.turned (form_of t.own) x (txn_of t.own base) (is_inside o t base x H) H.counted))
 
 pub returns-in-ChainLock-clause-turned : goal.returns-in-ChainLock-clause-turned
 returns-in-ChainLock-clause-turned c o base x H =

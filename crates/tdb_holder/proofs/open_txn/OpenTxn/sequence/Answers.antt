@@ -2,6 +2,7 @@
 use Rattle.std.proofs.Common.{refl, arith}
 use Rattle.tdb_disk.specs.History.{seen}
 use Rattle.tdb_law.specs.Commands.Command.{Seqnum}
+use Rattle.tdb_inside.specs.Walks.{with_cursor}
 use Rattle.tdb_holder.proofs.Opened.{goes_still, granted_as, weaker}
 use Rattle.tdb_holder.proofs.open_txn.OpenTxn.sequence.Goals as goal
 
@@ -14,5 +15,5 @@ returns-clause-turned g c =
     let size = g.met.D.Disk.told_size c.args.d.now told in
     let long = M.before.long in
     let sized = c.requires.fits.sized in
-    goes_still o t _ base x Seqnum reply H refl c.sequence.ensures.image
-    (turned told (omega (arith, size, long, sized)) t.own.txn.longer x (granted_as o t base x Seqnum H R))) c.sequence.ensures.turned
+    goes_still o t _ base x Seqnum reply H refl tt c.sequence.ensures.image c.sequence.ensures.same.form refl
+    (turned told (omega (arith, size, long, sized)) t.own.txn.longer (with_cursor x t.walk) (granted_as o t base x Seqnum H R))) c.sequence.ensures.turned

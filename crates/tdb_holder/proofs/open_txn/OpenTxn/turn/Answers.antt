@@ -13,19 +13,19 @@ use Rattle.tdb_holder.proofs.Opened.{goes_as, prepare_still, refused_still, stay
 use Rattle.tdb_holder.proofs.open_txn.OpenTxn.turn.Goals as goal
 
 pub returns-in-Commit-clause-turned : goal.returns-in-Commit-clause-turned
-returns-in-Commit-clause-turned g c told x H M =
+returns-in-Commit-clause-turned g c told x H Rest M =
     let base = seen (g.D.Disk.history c.args.d.now) in
     goes_as c.args.options.now c.args.self.now c.commit_inner.new.self base x c.args.command Given.Commit (law_reply c.commit_inner.result) c.in-Commit.is (c.commit_inner.ensures.turned c.args.options.now base x H)
 
 pub returns-in-Prepare-clause-turned : goal.returns-in-Prepare-clause-turned
-returns-in-Prepare-clause-turned g c told x H M =
+returns-in-Prepare-clause-turned g c told x H Rest M =
     let base = seen (g.D.Disk.history c.args.d.now) in
     let t = c.args.self.now in
     goes_as c.args.options.now t t base x c.args.command Given.Prepare Law.Reply.Done c.in-Prepare.is
     (prepare_still c.args.options.now t base x H (subst (λ k. IsInside k t.own.txn.depth) c.in-Prepare.is c.requires.inside))
 
 pub returns-in-Some-clause-turned : goal.returns-in-Some-clause-turned
-returns-in-Some-clause-turned g c told x H M =
+returns-in-Some-clause-turned g c told x H Rest M =
     let o = c.args.options.now in
     let base = seen (g.D.Disk.history c.args.d.now) in
     let t = c.args.self.now in
@@ -42,7 +42,7 @@ returns-in-None-clause-turned g c =
     let f = form_in c.args.header.now in
     let command = law_command c.args.command in
     weaker c.granted_turn.result _ _
-    (λ reply turned told x H M.
-    turned told o x H M
+    (λ reply turned told x H Rest M.
+    turned told o x H Rest M
     (subst (λ form. refusal form command x ≡ None) c.requires.fits.header
     (told_none f x command (refusal f command x) refl (ap (option_map law_reply) (sym c.in-None.is) ∙ c.refusal.ensures base x H)))) c.granted_turn.ensures.turned
