@@ -25,3 +25,5 @@ pub mod Committed
 pub mod Readied
 pub mod Finished
 pub mod Started
+pub mod OpenTurns
+pub mod OpenEnds

@@ -4,6 +4,7 @@
 mod committing;
 mod ends;
 mod finishing;
+mod inside;
 mod lifts;
 mod open_txn;
 mod options;

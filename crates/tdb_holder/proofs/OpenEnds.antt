@@ -1,0 +1,219 @@
+-- The turns by which a transaction that is open ends, or begins to be committed or prepared, as turns of the opener aside.
+use Rattle.std.proofs.Common.{◌≡◌, ◌≢◌, ℕ, ◌+◌, List, Bool, true, false, None, Some, refl, sym, ◌∙◌, ap, subst, arith}
+use Rattle.std.specs.Prelude.{◌&&◌, if◌then◌else◌}
+use Rattle.tdb_disk.specs.History.{History}
+use Rattle.tdb_disk.specs.Stop.{LeavesOnly}
+use Rattle.tdb_space.specs.Undoing.{Reopens}
+use Rattle.tdb_space.specs.Form.{Form}
+use Rattle.tdb_locks.specs.declared.piece.Piece.{Piece}
+use Rattle.tdb_law.specs.Commands.{GroupCommand, Reply}
+use Rattle.tdb_law.specs.Commands.Command.{OnGroup, OnWalk}
+use Rattle.tdb_law.specs.Commands.GroupCommand.{Cancel, Commit, Prepare}
+use Rattle.tdb_law.specs.Commands.WalkCommand.{Close}
+use Rattle.tdb_law.specs.Commands.Turn.{Ends}
+use Rattle.tdb_law.specs.Images.{image_map}
+use Rattle.tdb_law.specs.Openers.{Task, Txn, closed, ended}
+use Rattle.tdb_law.specs.Refusals.{Refusal, refusal, says}
+use Rattle.tdb_law.specs.Rows.{plans_in}
+use Rattle.tdb_beside.specs.Sides.{Past, Side}
+use Rattle.tdb_steps.specs.Holdings.{table_of}
+use Rattle.tdb_steps.specs.Turns.{number_of}
+use Rattle.tdb_txn.specs.Txn.{txn_depth}
+use Rattle.tdb_txn.specs.declared.txn.Txn.{Txn as Pages}
+use Rattle.tdb_commit.specs.Commits.{RestsAt}
+use Rattle.tdb_commit.specs.Laws.{HasPlan}
+use Rattle.tdb_commit.specs.Prepares.{begun_with, stage_steps, KnowsStage, MayPlan, StageFits}
+use Rattle.tdb_commit.proofs.Carried.{ready_rests, rests_stops}
+use Rattle.tdb_commit.specs.declared.committing.Committing.TheVariants.{Preparing as PreparingFirst}
+use Rattle.tdb_commit.specs.declared.preparing.Preparing.{Preparing}
+use Rattle.tdb_commit.specs.declared.preparing.PrepareStage.TheVariants.{Unchanged, Begun}
+use Rattle.tdb_inside.specs.OwnTxns.{image_of}
+use Rattle.tdb_inside.specs.Laws.{IsEnd}
+use Rattle.tdb_inside.specs.Turns.{EndsInside}
+use Rattle.tdb_plays.specs.InLaw.{law_command, law_turn}
+use Rattle.tdb_plays.specs.declared.command.Command.{Command as Given}
+use Rattle.tdb_plays.specs.declared.command.Command.TheVariants as Names
+use Rattle.tdb_holder.specs.declared.open_txn.OpenTxn.{OpenTxn}
+use Rattle.tdb_holder.specs.declared.options.Options.{Options}
+use Rattle.tdb_holder.specs.declared.stage.Stage.{Stage}
+use Rattle.tdb_holder.specs.declared.stage.Stage.TheVariants as At
+use Rattle.tdb_holder.specs.declared.stage.Went.{Went}
+use Rattle.tdb_holder.specs.Ends.{task_of}
+use Rattle.tdb_holder.specs.Stages.{HasOuter, Known, IsSide, KnowsFile}
+use Rattle.tdb_holder.specs.Turned.{MayTurn, StageTurned}
+use Rattle.tdb_holder.specs.Wents.{TurnsFrom}
+use Rattle.tdb_holder.proofs.InsideTurns.{cancel_ends, close_is_own, end_is_own, refusal_ends}
+use Rattle.tdb_holder.proofs.Opened.{txn_of}
+use Rattle.tdb_holder.proofs.Resting.{ready_like}
+use Rattle.tdb_holder.proofs.Sided.{begins, leaves, side_after}
+
+-- Its opener lets go of all that it holds, and the file stays.
+module _ (f : Form) (o : Options) (table : ℕ → ℕ → ℕ) (owner : ℕ) (ps rs : List Piece) (h : History) (old : OpenTxn) (command : Given) (k : Known) (past : Past) (s : Side)
+    (gone : (b : ℕ) → table_of rs owner b ≡ 0) (others : (p b : ℕ) → p ≢ owner → table_of rs p b ≡ table_of ps p b)
+    (S : IsSide f o owner ps (At.Open old (Some command)) k past s) (K : KnowsFile f (At.Open old (Some command)) h k) where
+  abbrev txn : Txn
+  txn = txn_of old.own k.file
+
+  module _ (g : GroupCommand) (is : law_command command ≡ OnGroup g) (M : MayTurn f table s (task_of (OnGroup g) 0)) where
+    pub open_ends : (r : Reply) → EndsInside f s.own (OnGroup g) (number_of f k.file) (past.numbers s.here) r
+        → StageTurned f o table owner rs (At.Open old (Some command)) None h h k past s (task_of (OnGroup g) 0) (Ends r)
+    open_ends r E =
+        let z = side_after s owner rs (ended s.own) None in
+        record {
+          known = k;
+          later = past;
+          side = z;
+          left = record { here = S.here; alone = λ p b differs. others p b differs ∙ S.alone p b differs; table = λ b. refl; nothing = gone; task = refl; own = refl };
+          file = ready_like f old.own.txn h k.file k.image K.forms.0 K.at.0;
+          turned =
+              end_is_own f table (image_map f k.file) (number_of f k.file) past past s z s.own txn g r S.own.txn E gone
+              (begins f o table owner ps (At.Open old (Some command)) k past s (task_of (OnGroup g) 0) S (ap (λ c. Some (task_of c 0)) is) M)
+              (leaves past s (task_of (OnGroup g) 0) (Ends r) owner rs (ended s.own));
+        }
+
+    module _ (outer : txn_depth old.own.txn ≡ 0) where
+      depth : txn.depth ≡ 1
+      depth = ap (λ d. d + 1) outer
+
+      pub cancels : g ≡ Cancel → StageTurned f o table owner rs (At.Open old (Some command)) None h h k past s (task_of (OnGroup g) 0) (Ends Reply.Done)
+      cancels cancel =
+          open_ends Reply.Done
+          (subst (λ e. EndsInside f s.own (OnGroup e) (number_of f k.file) (past.numbers s.here) Reply.Done) (sym cancel)
+          (cancel_ends f s.own txn (number_of f k.file) (past.numbers s.here) S.own.txn depth))
+
+      pub refuses : IsEnd (OnGroup g) → (why : Refusal) (r : Reply) → refusal f (OnGroup g) s.own ≡ Some why → r ≡ says s.own why
+          → StageTurned f o table owner rs (At.Open old (Some command)) None h h k past s (task_of (OnGroup g) 0) (Ends r)
+      refuses end why r R told =
+          open_ends r
+          (subst (EndsInside f s.own (OnGroup g) (number_of f k.file) (past.numbers s.here)) (sym told)
+          (refusal_ends f s.own txn (OnGroup g) why (number_of f k.file) (past.numbers s.here) S.own.txn depth end R))
+
+  -- a Close ends the opener too
+  pub open_closes : law_command command ≡ OnWalk Close → MayTurn f table s (task_of (OnWalk Close) 0)
+      → StageTurned f o table owner rs (At.Open old (Some command)) None h h k past s (task_of (OnWalk Close) 0) (Ends Reply.Done)
+  open_closes is M =
+      let z = side_after s owner rs (closed s.own) None in
+      record {
+        known = k;
+        later = past;
+        side = z;
+        left = record { here = S.here; alone = λ p b differs. others p b differs ∙ S.alone p b differs; table = λ b. refl; nothing = gone; task = refl; own = refl };
+        file = ready_like f old.own.txn h k.file k.image K.forms.0 K.at.0;
+        turned =
+            close_is_own f table (image_map f k.file) (number_of f k.file) past past s z s.own txn S.own.txn gone
+            (begins f o table owner ps (At.Open old (Some command)) k past s (task_of (OnWalk Close) 0) S (ap (λ c. Some (task_of c 0)) is) M)
+            (leaves past s (task_of (OnWalk Close) 0) (Ends Reply.Done) owner rs (closed s.own));
+      }
+
+-- what is known of the file before the first turn of an outer Commit or Prepare, of a transaction in which something was changed, or nothing
+pub knows_first : (f : Form) (h : History) (old : OpenTxn) (command : Given) (k : Known) → KnowsFile f (At.Open old (Some command)) h k → (b : Bool) → KnowsStage (if b then Begun old.own.txn else Unchanged) h k.file k.image
+knows_first f h old command k K true = K.at.0
+knows_first f h old command k K false = ready_rests old.own.txn h k.file k.image K.at.0
+
+pub first_rests : (pages : Pages) (b : Bool) (h : History) (r image : List ℕ) → KnowsStage (if b then Begun pages else Unchanged) h r image → RestsAt h r
+first_rests pages true h r image K = ready_rests pages h r image K
+first_rests pages false h r image K = K
+
+pub first_fits : (pages : Pages) (b : Bool) (size limit : ℕ) → MayPlan pages size limit → StageFits (if b then Begun pages else Unchanged) size limit
+first_fits pages true size limit plan = plan
+first_fits pages false size limit plan = tt
+
+-- An outer Commit or Prepare that isn't refused, before its first turn.
+module _ (o : Options) (owner : ℕ) (ps : List Piece) (h : History) (old : OpenTxn) (k : Known) (past : Past) (s : Side) (outer : txn_depth old.own.txn ≡ 0) where
+  abbrev first : Preparing
+  first = begun_with old.own.txn old.own.changed old.own.numbered
+
+  abbrev started : Txn
+  started = txn_of old.own k.file
+
+  no_steps : (b : Bool) → stage_steps (if b then Begun old.own.txn else Unchanged) ≡ 0
+  no_steps true = refl
+  no_steps false = refl
+
+  flat : started.depth ≡ 1
+  flat = ap (λ d. d + 1) outer
+
+  plans : plans_in started ≡ old.own.changed
+  plans = rw outer (go old.own.changed)
+    where
+      go : (b : Bool) → (true && (b && true)) ≡ b
+      go true = refl
+      go false = refl
+
+  has_plan : (b : Bool) → plans_in started ≡ b → HasPlan started (if b then Begun old.own.txn else Unchanged)
+  has_plan true is = is
+  has_plan false is = is
+
+  module _ (f : Form) (command : Given) (K : KnowsFile f (At.Open old (Some command)) h k) where
+    pub commit_file : KnowsFile f (At.Committing (PreparingFirst first)) h k
+    commit_file = record { at = (knows_first f h old command k K old.own.changed, λ late. absurd (let none = no_steps old.own.changed in omega (arith, none, late))); forms = K.forms }
+
+    pub prepare_file : KnowsFile f (At.Preparing first) h k
+    prepare_file = record { at = knows_first f h old command k K old.own.changed; forms = K.forms }
+
+    has_outer : (g : GroupCommand) → IsSide f o owner ps (At.Open old (Some command)) k past s → refusal f (OnGroup g) s.own ≡ None
+        → HasOuter f k.image g None started s.own
+    has_outer g S granted = record {
+      outer = record { has = S.own.txn; outer = flat; granted = granted };
+      map = ap (λ g. image_map g (image_of old.own k.file)) (K.at.0.may.header ∙ K.forms.0) ∙ ap (image_map f) (sym K.at.0.image);
+      prepared_is = refl;
+    }
+
+    pub commit_side : law_command command ≡ OnGroup Commit → IsSide f o owner ps (At.Open old (Some command)) k past s → refusal f (OnGroup Commit) s.own ≡ None
+        → IsSide f o owner ps (At.Committing (PreparingFirst first)) k past s
+    commit_side is S granted = record {
+      here = S.here;
+      alone = S.alone;
+      table = S.table;
+      holds = S.holds;
+      task = S.task ∙ ap (λ c. Some (task_of c 0)) is ∙ ap (λ n. Some (task_of (OnGroup Commit) n)) (sym (no_steps old.own.changed));
+      keeps = S.keeps;
+      live = S.live;
+      options = S.options;
+      own = record { txn = started; has = has_outer Commit S granted; change = has_plan old.own.changed plans; numbered = refl };
+      numbers = S.numbers;
+      mark = tt;
+    }
+
+    pub prepare_side : law_command command ≡ OnGroup Prepare → IsSide f o owner ps (At.Open old (Some command)) k past s → refusal f (OnGroup Prepare) s.own ≡ None
+        → IsSide f o owner ps (At.Preparing first) k past s
+    prepare_side is S granted = record {
+      here = S.here;
+      alone = S.alone;
+      table = S.table;
+      holds = S.holds;
+      task = S.task ∙ ap (λ c. Some (task_of c 0)) is ∙ ap (λ n. Some (task_of (OnGroup Prepare) n)) (sym (no_steps old.own.changed));
+      keeps = S.keeps;
+      live = S.live;
+      options = S.options;
+      own = record { txn = started; has = has_outer Prepare S granted; plan = has_plan old.own.changed plans; numbered = refl };
+      numbers = S.numbers;
+      mark = tt;
+    }
+
+  pub first_task : (g : GroupCommand) → Some (task_of (OnGroup g) (stage_steps first.stage)) ≡ Some (task_of (OnGroup g) 0)
+  first_task g = ap (λ n. Some (task_of (OnGroup g) n)) (no_steps old.own.changed)
+
+-- Their first turn is one from the stage inside the transaction.
+module _ (f : Form) (o : Options) (owner : ℕ) (ps rs : List Piece) (h new : History) (old : OpenTxn) (went : Went) (outer : txn_depth old.own.txn ≡ 0)
+    (table : ℕ → ℕ → ℕ) (k : Known) (past : Past) (s : Side) (t : Task) where
+  abbrev Goes : Stage → Type 0
+  Goes stage = StageTurned f o table owner rs stage went.stage h new k past s t (law_turn went.turn)
+
+  pub commit_goes : TurnsFrom f o owner ps rs (At.Committing (PreparingFirst (begun_with old.own.txn old.own.changed old.own.numbered))) went h new
+      → refusal f (OnGroup Commit) s.own ≡ None → IsSide f o owner ps (At.Open old (Some Names.Commit)) k past s → KnowsFile f (At.Open old (Some Names.Commit)) h k
+      → Some (task_of (OnGroup Commit) 0) ≡ Some t → MayTurn f table s t → Goes (At.Open old (Some Names.Commit))
+  commit_goes turned granted S K has M =
+      let T = turned table k past s t (commit_side o owner ps h old k past s outer f Names.Commit K refl S granted) (commit_file o owner ps h old k past s outer f Names.Commit K) (first_task o owner ps h old k past s outer Commit ∙ has) M in
+      record { known = T.known; later = T.later; side = T.side; left = T.left; file = T.file; turned = T.turned }
+
+  pub prepare_goes : TurnsFrom f o owner ps rs (At.Preparing (begun_with old.own.txn old.own.changed old.own.numbered)) went h new
+      → refusal f (OnGroup Prepare) s.own ≡ None → IsSide f o owner ps (At.Open old (Some Names.Prepare)) k past s → KnowsFile f (At.Open old (Some Names.Prepare)) h k
+      → Some (task_of (OnGroup Prepare) 0) ≡ Some t → MayTurn f table s t → Goes (At.Open old (Some Names.Prepare))
+  prepare_goes turned granted S K has M =
+      let T = turned table k past s t (prepare_side o owner ps h old k past s outer f Names.Prepare K refl S granted) (prepare_file o owner ps h old k past s outer f Names.Prepare K) (first_task o owner ps h old k past s outer Prepare ∙ has) M in
+      record { known = T.known; later = T.later; side = T.side; left = T.left; file = T.file; turned = T.turned }
+
+-- where no call changes the file
+pub open_stops : (f : Form) (h : History) (old : OpenTxn) (command : Given) (k : Known) → KnowsFile f (At.Open old (Some command)) h k → LeavesOnly h h (Reopens k.file)
+open_stops f h old command k K = rests_stops h k.file (ready_rests old.own.txn h k.file k.image K.at.0)
