@@ -44,6 +44,7 @@ use Rattle.tdb_holder.proofs.GroupEffects.{changed_is}
 use Rattle.tdb_holder.proofs.Planned.{going_row, has_change, plans_commits}
 use Rattle.tdb_holder.proofs.Resting.{rests_like, shut_like}
 use Rattle.tdb_holder.proofs.Rows.{holds_at_first}
+use Rattle.tdb_holder.proofs.Turning.{group_still}
 use Rattle.tdb_holder.proofs.Waiting.{alone_goes}
 use Rattle.tdb_holder.proofs.CommitTurns.{commit_is_own}
 
@@ -166,6 +167,7 @@ module _ (f : Form) (o : Options) (table : ℕ → ℕ → ℕ) (owner limit : �
       left = back r ends;
       file = (rests, λ reads. same);
       kept = keeps refl;
+      still = group_still f Commit s.own;
       turned = subst
           (λ u. let after = known_by k (shuts 7 steps u) in
           OwnTurned f table (image_map f k.file) (image_map f after.file) (number_of f k.file) (number_of f after.file) past past s later (task_of (OnGroup Commit) (commit_steps c)) u)
@@ -216,6 +218,7 @@ module _ (f : Form) (o : Options) (table : ℕ → ℕ → ℕ) (owner limit : �
             brings has_txn refl refl S.own.has.outer.has S.own.has.map
             (changed_is f s.own has_txn S.own.has.outer (steps + 1) ∙ rw (plans_commits has_txn S.own.has.prepared_is, has_change has_txn c leads.0 S.own.change, S.own.has.prepared_is, seventh) refl)
             (subst (λ g. AcceptWith g k.image []) K.forms.1 (seventh_accepted c h k.file k.image seventh K.at.0)) refl;
+        still = tt;
         turned = turned true is;
       }
       by_last false is = record {
@@ -225,6 +228,7 @@ module _ (f : Form) (o : Options) (table : ℕ → ℕ → ℕ) (owner limit : �
         left = side false is refl;
         file = record { at = (made, λ late. absurd (let few = few_in_all next in other_number (commit_steps c) 7 is (omega (arith, few, late, leads.2)))); forms = K.forms; reads = λ only. absurd (only (step_writes next leads.1 (let more = leads.2 in omega (arith, more)))) };
         kept = keeps refl;
+        still = tt;
         turned = turned false is;
       }
 

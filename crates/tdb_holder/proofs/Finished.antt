@@ -36,6 +36,7 @@ use Rattle.tdb_holder.specs.Wents.{finish_went}
 use Rattle.tdb_holder.proofs.Filed.{file_by, known_by, numbers_by, other_number, same_number}
 use Rattle.tdb_holder.proofs.Resting.{shut_like}
 use Rattle.tdb_holder.proofs.Sided.{begins, leaves, side_after}
+use Rattle.tdb_holder.proofs.Turning.{group_still}
 use Rattle.tdb_holder.proofs.Waiting.{alone_goes}
 use Rattle.tdb_holder.proofs.FinishTurns.{finish_is_own}
 use Rattle.tdb_holder.proofs.GroupEffects.{changed_is}
@@ -142,6 +143,7 @@ module _ (f : Form) (o : Options) (table : ℕ → ℕ → ℕ) (owner : ℕ) (p
           brings txn refl refl S.own.has.outer.has S.own.has.map
           (changed_is f s.own txn S.own.has.outer (steps + 1) ∙ rw (commits, S.own.has.prepared_is, third) refl)
           (subst (λ g. AcceptWith g k.image []) K.forms.1 (settled_accepted c h k.file k.image third K.at.0)) refl;
+      still = tt;
       turned = turned true is;
     }
     by_last false is = record {
@@ -151,6 +153,7 @@ module _ (f : Form) (o : Options) (table : ℕ → ℕ → ℕ) (owner : ℕ) (p
       left = side false is refl;
       file = record { at = (made, λ late. absurd (let few = few_steps next in other_number (finish_steps c) 2 is (omega (arith, few, late, leads)))); forms = K.forms; reads = λ only. absurd (only refl) };
       kept = keeps refl;
+      still = tt;
       turned = turned false is;
     }
 
@@ -165,5 +168,6 @@ module _ (f : Form) (o : Options) (table : ℕ → ℕ → ℕ) (owner : ℕ) (p
         left = record { here = S.here; alone = (alone Done locks).1; table = λ b. refl; nothing = (row_turned Done locks).holds; task = refl; own = refl; live = S.live; options = S.options };
         file = (subst (RestsLike f new) (sym same) (shut_like f new k.image K.forms.1 made.1), λ reads. made.0);
         kept = keeps refl;
+        still = group_still f Commit s.own;
         turned = own_turned Done locks leads (λ ends change. sym same);
       }

@@ -1,10 +1,11 @@
 -- The turns by which a transaction that is open ends, or begins to be committed or prepared, as turns of the opener aside.
 use Rattle.std.proofs.Common.{◌≡◌, ◌≢◌, ℕ, ◌+◌, List, Bool, true, false, None, Some, refl, sym, ◌∙◌, ap, subst, arith}
-use Rattle.std.specs.Prelude.{◌&&◌, if◌then◌else◌}
-use Rattle.tdb_disk.specs.History.{History}
+use Rattle.std.specs.Prelude.{◌&&◌, if◌then◌else◌, not, Option}
+use Rattle.tdb_disk.specs.History.{History, seen}
 use Rattle.tdb_disk.specs.Stop.{LeavesOnly}
 use Rattle.tdb_space.specs.Undoing.{Reopens}
 use Rattle.tdb_space.specs.Form.{Form}
+use Rattle.tdb_locks.specs.declared.kind.Kind.TheVariants.{Read}
 use Rattle.tdb_locks.specs.declared.piece.Piece.{Piece}
 use Rattle.tdb_law.specs.Commands.{GroupCommand, Reply}
 use Rattle.tdb_law.specs.Commands.Command.{OnGroup, OnWalk}
@@ -17,6 +18,7 @@ use Rattle.tdb_law.specs.Refusals.{Refusal, refusal, says}
 use Rattle.tdb_law.specs.Rows.{plans_in}
 use Rattle.tdb_beside.specs.Sides.{Past, Side}
 use Rattle.tdb_steps.specs.Holdings.{table_of}
+use Rattle.tdb_steps.specs.declared.flag.Flag.{Flag}
 use Rattle.tdb_steps.specs.Turns.{number_of}
 use Rattle.tdb_txn.specs.Txn.{txn_depth}
 use Rattle.tdb_txn.specs.declared.txn.Txn.{Txn as Pages}
@@ -39,13 +41,65 @@ use Rattle.tdb_holder.specs.declared.stage.Stage.{Stage}
 use Rattle.tdb_holder.specs.declared.stage.Stage.TheVariants as At
 use Rattle.tdb_holder.specs.declared.stage.Went.{Went}
 use Rattle.tdb_holder.specs.Ends.{task_of}
-use Rattle.tdb_holder.specs.Stages.{HasOuter, Known, IsSide, KnowsFile}
-use Rattle.tdb_holder.specs.Turned.{MayTurn, StageTurned}
+use Rattle.tdb_holder.specs.Stages.{is_close, is_closing, plan_records, stage_records, HasOuter, Known, IsSide, KnowsFile}
+use Rattle.tdb_holder.specs.Turned.{IsBackAs, IsLeft, KnowsLeft, MayTurn, StageTurned, keeps}
 use Rattle.tdb_holder.specs.Wents.{TurnsFrom}
 use Rattle.tdb_holder.proofs.InsideTurns.{cancel_ends, close_is_own, end_is_own, refusal_ends}
 use Rattle.tdb_holder.proofs.Opened.{txn_of}
 use Rattle.tdb_holder.proofs.Resting.{ready_like}
 use Rattle.tdb_holder.proofs.Sided.{begins, leaves, side_after}
+use Rattle.tdb_holder.proofs.Turning.{close_still, group_still}
+
+-- which commands end the opener itself
+no_close : (c : Given) (g : GroupCommand) → law_command c ≡ OnGroup g → is_close (Some c) ≡ false
+no_close Names.Close g is = absurd (cc is)
+no_close (Names.Fetch key) g is = refl
+no_close (Names.Has key) g is = refl
+no_close (Names.Store key value flag) g is = refl
+no_close (Names.Append key value) g is = refl
+no_close (Names.Delete key) g is = refl
+no_close Names.Wipe g is = refl
+no_close (Names.ChainLock key) g is = refl
+no_close (Names.ChainLockNb key) g is = refl
+no_close (Names.ChainUnlock key) g is = refl
+no_close Names.LockAll g is = refl
+no_close Names.LockAllRead g is = refl
+no_close Names.UnlockAll g is = refl
+no_close Names.Start g is = refl
+no_close Names.Commit g is = refl
+no_close Names.Prepare g is = refl
+no_close Names.Cancel g is = refl
+no_close Names.First g is = refl
+no_close Names.Next g is = refl
+no_close Names.EndWalk g is = refl
+no_close Names.Check g is = refl
+no_close Names.Seqnum g is = refl
+
+pub its_close : (c : Given) → law_command c ≡ OnWalk Close → is_close (Some c) ≡ true
+its_close Names.Close is = refl
+its_close (Names.Fetch key) is = absurd (cc is)
+its_close (Names.Has key) is = absurd (cc is)
+its_close (Names.Store key value Flag.Replace) is = absurd (cc is)
+its_close (Names.Store key value Flag.Insert) is = absurd (cc is)
+its_close (Names.Store key value Flag.Modify) is = absurd (cc is)
+its_close (Names.Append key value) is = absurd (cc is)
+its_close (Names.Delete key) is = absurd (cc is)
+its_close Names.Wipe is = absurd (cc is)
+its_close (Names.ChainLock key) is = absurd (cc is)
+its_close (Names.ChainLockNb key) is = absurd (cc is)
+its_close (Names.ChainUnlock key) is = absurd (cc is)
+its_close Names.LockAll is = absurd (cc is)
+its_close Names.LockAllRead is = absurd (cc is)
+its_close Names.UnlockAll is = absurd (cc is)
+its_close Names.Start is = absurd (cc is)
+its_close Names.Commit is = absurd (cc is)
+its_close Names.Prepare is = absurd (cc is)
+its_close Names.Cancel is = absurd (cc is)
+its_close Names.First is = absurd (cc is)
+its_close Names.Next is = absurd (cc is)
+its_close Names.EndWalk is = absurd (cc is)
+its_close Names.Check is = absurd (cc is)
+its_close Names.Seqnum is = absurd (cc is)
 
 -- Its opener lets go of all that it holds, and the file stays.
 module _ (f : Form) (o : Options) (table : ℕ → ℕ → ℕ) (owner : ℕ) (ps rs : List Piece) (h : History) (old : OpenTxn) (command : Given) (k : Known) (past : Past) (s : Side)
@@ -63,8 +117,10 @@ module _ (f : Form) (o : Options) (table : ℕ → ℕ → ℕ) (owner : ℕ) (p
           known = k;
           later = past;
           side = z;
-          left = record { here = S.here; alone = λ p b differs. others p b differs ∙ S.alone p b differs; table = λ b. refl; nothing = gone; task = refl; own = refl };
-          file = ready_like f old.own.txn h k.file k.image K.forms.0 K.at.0;
+          left = record { here = S.here; alone = λ p b differs. others p b differs ∙ S.alone p b differs; table = λ b. refl; nothing = gone; task = refl; own = refl; live = S.live ∙ sym (ap not (no_close command g is)); options = S.options };
+          file = (ready_like f old.own.txn h k.file k.image K.forms.0 K.at.0, λ reads. refl);
+          kept = keeps refl;
+          still = group_still f g s.own;
           turned =
               end_is_own f table (image_map f k.file) (number_of f k.file) past past s z s.own txn g r S.own.txn E gone
               (begins f o table owner ps (At.Open old (Some command)) k past s (task_of (OnGroup g) 0) S (ap (λ c. Some (task_of c 0)) is) M)
@@ -97,13 +153,23 @@ module _ (f : Form) (o : Options) (table : ℕ → ℕ → ℕ) (owner : ℕ) (p
         known = k;
         later = past;
         side = z;
-        left = record { here = S.here; alone = λ p b differs. others p b differs ∙ S.alone p b differs; table = λ b. refl; nothing = gone; task = refl; own = refl };
-        file = ready_like f old.own.txn h k.file k.image K.forms.0 K.at.0;
+        left = record { here = S.here; alone = λ p b differs. others p b differs ∙ S.alone p b differs; table = λ b. refl; nothing = gone; task = refl; own = refl; live = sym (ap not (its_close command is)); options = S.options };
+        file = (ready_like f old.own.txn h k.file k.image K.forms.0 K.at.0, λ reads. refl);
+        kept = keeps refl;
+        still = close_still f s.own;
         turned =
             close_is_own f table (image_map f k.file) (number_of f k.file) past past s z s.own txn S.own.txn gone
             (begins f o table owner ps (At.Open old (Some command)) k past s (task_of (OnWalk Close) 0) S (ap (λ c. Some (task_of c 0)) is) M)
             (leaves past s (task_of (OnWalk Close) 0) (Ends Reply.Done) owner rs (closed s.own));
       }
+
+-- others may read the file before the first turn
+reads_still : (f : Form) (h : History) (old : OpenTxn) (command : Given) (k : Known) → KnowsFile f (At.Open old (Some command)) h k → seen h ≡ k.file
+reads_still f h old command k K = K.at.0.file
+
+first_reads : (pages : Pages) (b : Bool) → plan_records (if b then Begun pages else Unchanged) ≡ Read
+first_reads pages true = refl
+first_reads pages false = refl
 
 -- what is known of the file before the first turn of an outer Commit or Prepare, of a transaction in which something was changed, or nothing
 pub knows_first : (f : Form) (h : History) (old : OpenTxn) (command : Given) (k : Known) → KnowsFile f (At.Open old (Some command)) h k → (b : Bool) → KnowsStage (if b then Begun old.own.txn else Unchanged) h k.file k.image
@@ -146,10 +212,10 @@ module _ (o : Options) (owner : ℕ) (ps : List Piece) (h : History) (old : Open
 
   module _ (f : Form) (command : Given) (K : KnowsFile f (At.Open old (Some command)) h k) where
     pub commit_file : KnowsFile f (At.Committing (PreparingFirst first)) h k
-    commit_file = record { at = (knows_first f h old command k K old.own.changed, λ late. absurd (let none = no_steps old.own.changed in omega (arith, none, late))); forms = K.forms }
+    commit_file = record { at = (knows_first f h old command k K old.own.changed, λ late. absurd (let none = no_steps old.own.changed in omega (arith, none, late))); forms = K.forms; reads = λ only. reads_still f h old command k K }
 
     pub prepare_file : KnowsFile f (At.Preparing first) h k
-    prepare_file = record { at = knows_first f h old command k K old.own.changed; forms = K.forms }
+    prepare_file = record { at = knows_first f h old command k K old.own.changed; forms = K.forms; reads = λ only. reads_still f h old command k K }
 
     has_outer : (g : GroupCommand) → IsSide f o owner ps (At.Open old (Some command)) k past s → refusal f (OnGroup g) s.own ≡ None
         → HasOuter f k.image g None started s.own
@@ -194,25 +260,56 @@ module _ (o : Options) (owner : ℕ) (ps : List Piece) (h : History) (old : Open
   pub first_task : (g : GroupCommand) → Some (task_of (OnGroup g) (stage_steps first.stage)) ≡ Some (task_of (OnGroup g) 0)
   first_task g = ap (λ n. Some (task_of (OnGroup g) n)) (no_steps old.own.changed)
 
+-- a stage that isn't in a Start
+abbrev IsBegun : Stage → Type 0
+IsBegun (At.Starting start) = ⊥
+IsBegun stage = Unit {0}
+
 -- Their first turn is one from the stage inside the transaction.
 module _ (f : Form) (o : Options) (owner : ℕ) (ps rs : List Piece) (h new : History) (old : OpenTxn) (went : Went) (outer : txn_depth old.own.txn ≡ 0)
     (table : ℕ → ℕ → ℕ) (k : Known) (past : Past) (s : Side) (t : Task) where
   abbrev Goes : Stage → Type 0
   Goes stage = StageTurned f o table owner rs stage went.stage h new k past s t (law_turn went.turn)
 
+  left_from : (first : Stage) (command : Given) (after : Option Stage) (k : Known) (past : Past) (s : Side) → is_closing first ≡ false → is_close (Some command) ≡ false
+      → IsLeft f o owner rs first after k past s → IsLeft f o owner rs (At.Open old (Some command)) after k past s
+  left_from first command None k past s ongoing stays L = subst (λ b. IsBackAs o (not b) owner rs s) (ongoing ∙ sym stays) L
+  left_from first command (Some stage) k past s ongoing stays L = L
+
+  file_from : (first : Stage) (command : Given) (after : Option Stage) (k : Known) → IsBegun first → stage_records first ≡ Some Read → KnowsLeft f first after h new k → KnowsLeft f (At.Open old (Some command)) after h new k
+  file_from (At.Starting start) command None k begun reads K = absurd begun
+  file_from (At.Open txn other) command None k begun reads K = K
+  file_from (At.Committing c) command None k begun reads K = (K.0, λ only. K.1 (λ e. only (sym reads ∙ e)))
+  file_from (At.Preparing p) command None k begun reads K = (K.0, λ only. K.1 (λ e. only (sym reads ∙ e)))
+  file_from (At.Prepared left other) command None k begun reads K = (K.0, λ only. K.1 (λ e. only (sym reads ∙ e)))
+  file_from (At.Finishing c) command None k begun reads K = (K.0, λ only. K.1 (λ e. only (sym reads ∙ e)))
+  file_from first command (Some stage) k begun reads K = K
+
+  from_first : (first : Stage) (command : Given) → is_closing first ≡ false → stage_records first ≡ Some Read → is_close (Some command) ≡ false → IsBegun first → Goes first → Goes (At.Open old (Some command))
+  from_first first command ongoing reads stays begun T = record {
+    known = T.known;
+    later = T.later;
+    side = T.side;
+    left = left_from first command went.stage T.known T.later T.side ongoing stays T.left;
+    file = file_from first command went.stage T.known begun reads T.file;
+    kept = T.kept;
+    still = T.still;
+    turned = T.turned;
+  }
+
   pub commit_goes : TurnsFrom f o owner ps rs (At.Committing (PreparingFirst (begun_with old.own.txn old.own.changed old.own.numbered))) went h new
       → refusal f (OnGroup Commit) s.own ≡ None → IsSide f o owner ps (At.Open old (Some Names.Commit)) k past s → KnowsFile f (At.Open old (Some Names.Commit)) h k
       → Some (task_of (OnGroup Commit) 0) ≡ Some t → MayTurn f table s t → Goes (At.Open old (Some Names.Commit))
   commit_goes turned granted S K has M =
       let T = turned table k past s t (commit_side o owner ps h old k past s outer f Names.Commit K refl S granted) (commit_file o owner ps h old k past s outer f Names.Commit K) (first_task o owner ps h old k past s outer Commit ∙ has) M in
-      record { known = T.known; later = T.later; side = T.side; left = T.left; file = T.file; turned = T.turned }
+      from_first (At.Committing (PreparingFirst (begun_with old.own.txn old.own.changed old.own.numbered))) Names.Commit refl (ap Some (first_reads old.own.txn old.own.changed)) refl tt T
 
   pub prepare_goes : TurnsFrom f o owner ps rs (At.Preparing (begun_with old.own.txn old.own.changed old.own.numbered)) went h new
       → refusal f (OnGroup Prepare) s.own ≡ None → IsSide f o owner ps (At.Open old (Some Names.Prepare)) k past s → KnowsFile f (At.Open old (Some Names.Prepare)) h k
       → Some (task_of (OnGroup Prepare) 0) ≡ Some t → MayTurn f table s t → Goes (At.Open old (Some Names.Prepare))
   prepare_goes turned granted S K has M =
       let T = turned table k past s t (prepare_side o owner ps h old k past s outer f Names.Prepare K refl S granted) (prepare_file o owner ps h old k past s outer f Names.Prepare K) (first_task o owner ps h old k past s outer Prepare ∙ has) M in
-      record { known = T.known; later = T.later; side = T.side; left = T.left; file = T.file; turned = T.turned }
+      from_first (At.Preparing (begun_with old.own.txn old.own.changed old.own.numbered)) Names.Prepare refl (ap Some (first_reads old.own.txn old.own.changed)) refl tt T
 
 -- where no call changes the file
 pub open_stops : (f : Form) (h : History) (old : OpenTxn) (command : Given) (k : Known) → KnowsFile f (At.Open old (Some command)) h k → LeavesOnly h h (Reopens k.file)

@@ -38,7 +38,7 @@ use Rattle.tdb_holder.specs.declared.stage.Stage.TheVariants as At
 use Rattle.tdb_holder.specs.Ends.{task_of, TurnLeaves}
 use Rattle.tdb_holder.specs.Open.{GoesOn}
 use Rattle.tdb_holder.specs.Stages.{Known, HasNumbers, IsSide, KnowsFile}
-use Rattle.tdb_holder.specs.Turned.{MayTurn, StageTurned}
+use Rattle.tdb_holder.specs.Turned.{MayTurn, StageTurned, keeps}
 use Rattle.tdb_holder.proofs.InsideTurns.{inside_is_own, reads_all}
 use Rattle.tdb_holder.proofs.Opened.{txn_of}
 use Rattle.tdb_holder.proofs.Sided.{begins, put_here, put_other, same_txn, side_after}
@@ -172,6 +172,8 @@ module _ (o : Options) (table : ℕ → ℕ → ℕ) (owner : ℕ) (ps : List Pi
           numbers = numbers;
           mark = refl;
         };
-        file = record { at = (ready, rests); forms = (K.forms.0, rests.accepted.form ∙ form) };
+        file = record { at = (ready, rests); forms = (K.forms.0, rests.accepted.form ∙ form); reads = λ only. ap bytes_seen same ∙ K.at.0.file };
+        kept = keeps refl;
+        still = tt;
         turned = own_goes;
       }

@@ -44,6 +44,7 @@ use Rattle.tdb_holder.proofs.Sided.{begins, leaves, same_txn, side_after}
 use Rattle.tdb_holder.proofs.Planned.{has_plan, planning_row}
 use Rattle.tdb_holder.proofs.PlanStages.{early_like, going_or_none, plan_goes, planned_writes}
 use Rattle.tdb_holder.proofs.Rows.{holds_at_first}
+use Rattle.tdb_holder.proofs.Turning.{group_still}
 use Rattle.tdb_holder.proofs.Waiting.{alone_goes}
 use Rattle.tdb_holder.proofs.PrepareTurns.{prepare_is_own}
 
@@ -190,6 +191,7 @@ module _ (f : Form) (o : Options) (table : ℕ → ℕ → ℕ) (owner limit : �
     };
     file = record { at = made; forms = K.forms; reads = λ only. absurd (only (ap Some (planned_writes next.stage leads.1 (let more = leads.2 in omega (arith, more))))) };
     kept = keeps refl;
+    still = tt;
     turned = own_turned (To.Step next) locks leads;
   }
 
@@ -246,6 +248,7 @@ module _ (f : Form) (o : Options) (table : ℕ → ℕ → ℕ) (owner limit : �
     };
     file = (like, λ reads. same);
     kept = keeps refl;
+    still = group_still f Prepare s.own;
     turned = subst (λ u. OwnTurned f table (image_map f k.file) (image_map f k.file) (number_of f k.file) (number_of f k.file) past past s (later turn locks) (task_of (OnGroup Prepare) (prepare_steps p)) u) ends (own_turned turn locks leads);
   }
 
@@ -271,6 +274,7 @@ module _ (f : Form) (o : Options) (table : ℕ → ℕ → ℕ) (owner limit : �
           reads = nothing_reads p.stage leads made.0 K.reads;
         };
         kept = keeps refl;
+        still = tt;
         turned = T;
       }
   prepare_turned (To.Full len need) locks leads made =
@@ -287,5 +291,6 @@ module _ (f : Form) (o : Options) (table : ℕ → ℕ → ℕ) (owner limit : �
         left = readied (Opened state) (alone (To.Done state) locks).1 T (sym leads) (sym (late_changed p.stage leads));
         file = record { at = made; forms = K.forms; reads = λ only. absurd (only refl) };
         kept = keeps refl;
+        still = tt;
         turned = T;
       }

@@ -53,6 +53,7 @@ use Rattle.tdb_holder.specs.Wents.{StartWent}
 use Rattle.tdb_holder.proofs.Keeping.{keeps_nothing}
 use Rattle.tdb_holder.proofs.Opened.{txn_of}
 use Rattle.tdb_holder.proofs.Sided.{begins, leaves, put_here, put_other, side_after}
+use Rattle.tdb_holder.proofs.Turning.{group_still}
 use Rattle.tdb_holder.proofs.Waiting.{alone_goes}
 use Rattle.tdb_holder.proofs.StartTurns.{start_is_own}
 
@@ -171,6 +172,7 @@ module _ (f : Form) (o : Options) (table : ℕ → ℕ → ℕ) (owner len : ℕ
         };
         file = record { at = ap seen made ∙ K.at; forms = tt; reads = λ only. ap seen made ∙ K.at };
         kept = keeps refl;
+        still = tt;
         turned = T;
       }
 
@@ -184,6 +186,7 @@ module _ (f : Form) (o : Options) (table : ℕ → ℕ → ℕ) (owner len : ℕ
         left = record { here = S.here; alone = (alone Memory locks).1; table = λ b. refl; nothing = (row_turned Memory locks).holds; task = refl; own = S.own.bare; live = S.live; options = S.options };
         file = made;
         kept = keeps refl;
+        still = group_still f Start s.own;
         turned = T;
       }
 
@@ -238,6 +241,7 @@ module _ (f : Form) (o : Options) (table : ℕ → ℕ → ℕ) (owner len : ℕ
           };
           file = record { at = (ready_then, rests_first f t.own t.walk k.file A (ap (λ own. txn_form own.txn) is ∙ leads.1.form) (sym ready_then.image) cursor shown); forms = (A.form, A.form); reads = λ only. ready_then.file };
           kept = keeps refl;
+          still = tt;
           turned = T;
         }
 

@@ -2,7 +2,8 @@
 use Rattle.std.proofs.Common.{◌≡◌, ℕ, List, Bool, true, false, Option, Some, None, is_some, refl, sym, ap, ◌∙◌, subst, inl}
 use Rattle.tdb_space.specs.Form.{Form}
 use Rattle.tdb_law.specs.Commands.{Command, GroupCommand, Reply, Turn}
-use Rattle.tdb_law.specs.Commands.Command.{OnGroup}
+use Rattle.tdb_law.specs.Commands.WalkCommand.{Close}
+use Rattle.tdb_law.specs.Commands.Command.{OnGroup, OnWalk}
 use Rattle.tdb_law.specs.Commands.Turn.{Step, Blocked, Ends}
 use Rattle.tdb_law.specs.Openers.{Own, Map, Mark, Spot, Task, nowhere, seen}
 use Rattle.tdb_law.specs.Refusals.{Refusal, refusal}
@@ -78,6 +79,14 @@ module _ (f : Form) (table : ℕ → ℕ → ℕ) (m mm : Map) (q qq : ℕ) (old
       → settled ≡ settled_after f t.command x t.steps turn old.settled → qq ≡ number_next f t.command t.steps x turn q (old.numbers s.here)
       → number ≡ image_number_after f t.command x turn q (old.numbers s.here) → OwnTurned f table m mm q qq old new s z t turn
   still_turned still M row effect holds settles counts numbers = own_turned row (effect _ _ _ _) holds (rests still M) settles counts numbers
+
+-- a Close is no move
+pub close_still : (f : Form) (x : Own) → moves f (OnWalk Close) x ≡ false
+close_still f x = go (refusal f (OnWalk Close) x)
+  where
+    go : (o : Option Refusal) → moves_by o (OnWalk Close) x ≡ false
+    go None = refl
+    go (Some why) = refl
 
 -- a command on the transaction is no move
 pub group_still : (f : Form) (g : GroupCommand) (x : Own) → moves f (OnGroup g) x ≡ false

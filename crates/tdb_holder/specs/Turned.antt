@@ -1,5 +1,5 @@
 -- What one turn of an opener with a transaction leads to, in the words of the law.
-use Rattle.std.specs.Prelude.{◌≡◌, ◌≢◌, ℕ, ◌+◌, List, [], Bool, true, Option, None, Some, not}
+use Rattle.std.specs.Prelude.{◌≡◌, ◌≢◌, ℕ, ◌+◌, List, [], Bool, true, false, Option, None, Some, not}
 use Rattle.tdb_disk.specs.History.{History, seen}
 use Rattle.tdb_disk.specs.Stop.{Quiet}
 use Rattle.tdb_space.specs.Accepted.{AcceptWith}
@@ -11,6 +11,7 @@ use Rattle.tdb_law.specs.Commands.GroupCommand.{Commit}
 use Rattle.tdb_law.specs.Commands.Command.{OnGroup}
 use Rattle.tdb_law.specs.Commands.Turn.{Step}
 use Rattle.tdb_law.specs.Openers.{Task, Txn, ended}
+use Rattle.tdb_law.specs.Outcomes.{moves}
 use Rattle.tdb_law.specs.Rows.{is_changed}
 use Rattle.tdb_law.specs.Effects.{IsFree}
 use Rattle.tdb_law.specs.Images.{image_map}
@@ -72,6 +73,11 @@ pub data KeepsFile (f : Form) (s : Side) (t : Task) (turn : Turn) (old new : Kno
   brings : (txn : Txn) → t.command ≡ OnGroup Commit → turn ≡ Step → s.own.txn ≡ Some txn → txn.image ≡ image_map f old.image → is_changed f t.command s.own (t.steps + 1) ≡ true
       → AcceptWith f old.image [] → new.file ≡ old.image → KeepsFile f s t turn old new
 
+-- by the turn after which the opener is back its cursor doesn't move
+abbrev pub IsStill : Form → Side → Task → Option Stage → Type 0
+IsStill f s t None = moves f t.command s.own ≡ false
+IsStill f s t (Some stage) = Unit {0}
+
 -- A turn from side s, at a stage with what is known of the file, to another side and stage, in a file that had one history and has the other:
 -- it is a turn of the law by itself.
 pub record StageTurned (f : Form) (o : Options) (table : ℕ → ℕ → ℕ) (owner : ℕ) (rs : List Piece) (before : Stage) (after : Option Stage) (old new : History) (k : Known) (past : Past) (s : Side) (t : Task) (turn : Turn) : Type 0 where
@@ -81,4 +87,5 @@ pub record StageTurned (f : Form) (o : Options) (table : ℕ → ℕ → ℕ) (o
   pub left : IsLeft f o owner rs before after known later side
   pub file : KnowsLeft f before after old new known
   pub kept : KeepsFile f s t turn k known
+  pub still : IsStill f s t after
   pub turned : OwnTurned f table (image_map f k.file) (image_map f known.file) (number_of f k.file) (number_of f known.file) past later s side t turn
