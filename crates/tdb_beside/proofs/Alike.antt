@@ -6,7 +6,7 @@ use Rattle.tdb_space.specs.Pairs.{home}
 use Rattle.tdb_law.specs.Commands.{Command, Reply, Turn}
 use Rattle.tdb_law.specs.Commands.Turn.{Step, Blocked, Ends}
 use Rattle.tdb_law.specs.Openers.{Own, Map, Spot, Mark, Task, seen, has}
-use Rattle.tdb_law.specs.Refusals.{chain_byte}
+use Rattle.tdb_law.specs.Refusals.{chain_byte, refusal}
 use Rattle.tdb_law.specs.Ends.{IsRow}
 use Rattle.tdb_law.specs.Outcomes.{moves}
 use Rattle.tdb_law.specs.Counting.{number_seen, number_or, settled_after}
@@ -17,7 +17,7 @@ use Rattle.tdb_law.specs.Effects.Effect.{effect_waits, effect_goes_on, effect_ch
 use Rattle.tdb_law.specs.Turned.{Turned, want, number_next}
 use Rattle.tdb_law.specs.Walks.{Lost, Shift, TakenBy, Taken, Moves, Arrives, Finishes, Walked, begins}
 use Rattle.tdb_law.specs.Walks.Walked.{walk_steps, walk_rests, walk_ends, walk_arrives, walk_finishes, walk_halts, walk_fails}
-use Rattle.tdb_beside.specs.Turns.{IsUngrouped}
+use Rattle.tdb_beside.specs.Turns.{IsApart}
 use Rattle.tdb_beside.proofs.Ungrouped.{next_apart, image_stays}
 
 -- An effect is one where its opener finds the same free, in its way and further on, and sees the same number.
@@ -64,7 +64,7 @@ pub record Leaves (f : Form) (old : State) (who : ℕ) (t : Task) (turn : Turn) 
   pub settled : new.settled ≡ settled_after f t.command (old.own who) t.steps turn old.settled
 
 module _ (f : Form) (p later q after : State) (who : ℕ) (t : Task) (turn : Turn) (T : Turned f p who t turn later) (A : here_of q who ≡ here_of p who) (B : here_of after who ≡ here_of later who)
-    (out : (p.own who).txn ≡ None) (ungrouped : IsUngrouped t.command) (wants : want f q who t ≡ want f p who t) (must : (q.view who).must ≡ (p.view who).must)
+    (out : (p.own who).txn ≡ None) (apart : IsApart (refusal f t.command (p.own who)) t.command) (wants : want f q who t ≡ want f p who t) (must : (q.view who).must ≡ (p.view who).must)
     (to_free : IsFree p.table who (want f p who t) → IsFree q.table who (want f p who t)) (to_conflict : (o b : ℕ) → IsFirstConflict p.table who (want f p who t) o b → IsFirstConflict q.table who (want f p who t) o b)
     (taken_by : (o : ℕ) (k : List ℕ) → TakenBy f p o k → TakenBy f q o k) where
   abbrev c : Command
@@ -165,6 +165,6 @@ module _ (f : Form) (p later q after : State) (who : ℕ) (t : Task) (turn : Tur
     ready = L.ready;
     stale = L.stale;
     settled = L.settled;
-    number = subst₂ (λ h l. l.number ≡ number_next f c n h.own turn h.number (q.image_number who)) (sym A) (sym B) (T.number ∙ next_apart f c n (p.own who) turn p.number (p.image_number who) (q.image_number who) ungrouped);
-    image_number = L.image_number who ∙ image_stays f c (q.own who) turn q.number (q.image_number who) ungrouped (ap (λ h. h.own.txn) A ∙ out);
+    number = subst₂ (λ h l. l.number ≡ number_next f c n h.own turn h.number (q.image_number who)) (sym A) (sym B) (T.number ∙ next_apart f c n (p.own who) turn p.number (p.image_number who) (q.image_number who) apart);
+    image_number = L.image_number who ∙ image_stays f c (q.own who) turn q.number (q.image_number who) (subst (λ h. IsApart (refusal f c h.own) c) (sym A) apart) (ap (λ h. h.own.txn) A ∙ out);
   }

@@ -7,6 +7,7 @@ use Rattle.tdb_law.specs.Commands.{Command, Turn}
 use Rattle.tdb_law.specs.Openers.{Own, Spot, Task, View, nowhere}
 use Rattle.tdb_law.specs.World.{State, IsSound}
 use Rattle.tdb_law.specs.Counting.{takes, settled_after}
+use Rattle.tdb_law.specs.Refusals.{refusal}
 use Rattle.tdb_law.specs.Outcomes.{moves}
 use Rattle.tdb_law.specs.Effects.{IsFree, IsFirstConflict}
 use Rattle.tdb_law.specs.Held.{wanted, decided}
@@ -14,7 +15,7 @@ use Rattle.tdb_law.specs.Turned.{Turned, want}
 use Rattle.tdb_law.specs.Walks.{Lost, Shift, TakenBy}
 use Rattle.tdb_law.proofs.Walking.{put_here, put_else}
 use Rattle.tdb_beside.specs.Sides.{Past, Side, everywhere, alone, beside, IsPlain, StandsAside}
-use Rattle.tdb_beside.specs.Turns.{IsUngrouped, IsClear, past_after}
+use Rattle.tdb_beside.specs.Turns.{IsApart, IsClear, past_after}
 use Rattle.tdb_beside.specs.Laws.{AloneTurns, BesideTurns}
 use Rattle.tdb_beside.proofs.Choices.{shift_choice, hold_choice, aside_stays}
 use Rattle.tdb_beside.proofs.Ungrouped.{stays_out}
@@ -22,7 +23,7 @@ use Rattle.tdb_beside.proofs.Wants.{wants_low}
 use Rattle.tdb_beside.proofs.Idle.{unmoved}
 use Rattle.tdb_beside.proofs.Alike.{here_of, turned_alike}
 
-module _ (f : Form) (p later : State) (past : Past) (who : ℕ) (t : Task) (turn : Turn) (P : IsPlain p) (apart : IsUngrouped t.command) (T : Turned f p who t turn later) where
+module _ (f : Form) (p later : State) (past : Past) (who : ℕ) (t : Task) (turn : Turn) (P : IsPlain p) (apart : IsApart (refusal f t.command (p.own who)) t.command) (T : Turned f p who t turn later) where
   -- nobody has a transaction afterwards
   pub plain_after : IsPlain later
   plain_after = record {
@@ -63,7 +64,7 @@ unfolding wanted
 unseen f c x a u v n b still = rw (unmoved f c x a n still) refl
 
 module _ (f : Form) (p later : State) (past : Past) (s : Side) (who : ℕ) (t : Task) (turn : Turn) (S : IsSound f (beside p past s)) (P : IsPlain p) (A : StandsAside p s) (C : IsClear f p s who t)
-    (ne : who ≢ s.here) (apart : IsUngrouped t.command) (T : Turned f p who t turn later) where
+    (ne : who ≢ s.here) (apart : IsApart (refusal f t.command (p.own who)) t.command) (T : Turned f p who t turn later) where
   here_else : s.here ≢ who
   here_else e = ne (sym e)
 

@@ -22,6 +22,7 @@ use Rattle.tdb_beside.specs.Shutting.{HasRecords, IsToCome, IsShutOut}
 use Rattle.tdb_beside.specs.Shutting.HasRecords.{by_transaction, by_start}
 use Rattle.tdb_beside.specs.Turns.{IsUngrouped}
 use Rattle.tdb_beside.specs.Laws.{RecordsAreHeld, OthersOnlyRead, OthersAreShutOut, ShutOutMeets}
+use Rattle.tdb_beside.proofs.Ungrouped.{ungrouped_apart}
 use Rattle.tdb_beside.proofs.Wants.{wants_most}
 
 -- two steps of a Start take all records
@@ -155,7 +156,7 @@ module _ (f : Form) (p : State) (past : Past) (s : Side) (S : IsSound f (beside 
       meets_here : (o : ℕ) → o ≢ who → 2 < want f q who t byte + q.table o byte → s.here ≤ o
       meets_here o other over = elim (cases_eq o s.here) [
         | inl is ↦ omega (arith, is)
-        | inr third ↦ absurd (omega (arith, over, wants_most f t.command (q.own who) (decided (q.spot who) (q.view who) t.steps) (q.view who) t.steps byte apart, table_else o byte third, both o byte third, A.shuts shut byte from below))
+        | inr third ↦ absurd (omega (arith, over, wants_most f t.command (q.own who) (decided (q.spot who) (q.view who) t.steps) (q.view who) t.steps byte (ungrouped_apart (refusal f t.command (q.own who)) t.command apart), table_else o byte third, both o byte third, A.shuts shut byte from below))
       ]
 
       meets : IsFirstConflict q.table who (want f q who t) s.here byte

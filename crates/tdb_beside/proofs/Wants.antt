@@ -13,7 +13,7 @@ use Rattle.tdb_law.specs.Openers.{Own, Spot, View}
 use Rattle.tdb_law.specs.Refusals.{Refusal, refusal}
 use Rattle.tdb_law.specs.Rows.{Lock, map_locks, lock_locks, walk_locks, locks_by, locks}
 use Rattle.tdb_law.specs.Held.{is_chain, covers, strongest, locked_next, is_gone, wanted, moves_at}
-use Rattle.tdb_beside.specs.Turns.{IsUngrouped}
+use Rattle.tdb_beside.specs.Turns.{IsApart}
 
 -- Each lock of a row begins at the byte of the sequence number at least, and is for reading or writing.
 abbrev AllWell : List Lock → Type 0
@@ -67,7 +67,7 @@ or_none : (z : Bool) (ls : List Lock) → AllWell ls → AllWell (if z then ls e
 or_none true ls well = well
 or_none false ls well = tt
 
-locks_well : (f : Form) (q : Option Refusal) (c : Command) (x : Own) (purging : Bool) → IsUngrouped c → AllWell (locks_by f q c x purging)
+locks_well : (f : Form) (q : Option Refusal) (c : Command) (x : Own) (purging : Bool) → IsApart q c → AllWell (locks_by f q c x purging)
 locks_well f (Some q) c x purging apart = tt
 locks_well f None (OnMap c) x purging apart = or_none (is_none x.txn) _ (map_well f c)
 locks_well f None (OnLocks c) x purging apart = or_none (is_none x.txn) _ (lock_well f c)
@@ -75,7 +75,7 @@ locks_well f None Seqnum x purging apart = or_none (is_none x.txn) _ (omega arit
 locks_well f None (OnGroup g) x purging apart = absurd apart
 locks_well f None (OnWalk w) x purging apart = or_none (is_none x.txn) _ (walk_well f w x.cursor purging)
 
-module _ (f : Form) (c : Command) (x : Own) (a : Spot) (v : View) (n b : ℕ) (apart : IsUngrouped c) where
+module _ (f : Form) (c : Command) (x : Own) (a : Spot) (v : View) (n b : ℕ) (apart : IsApart (refusal f c x) c) where
   well : AllWell (locks f c x a.purging)
   well = locks_well f (refusal f c x) c x a.purging apart
 

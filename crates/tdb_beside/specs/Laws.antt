@@ -9,6 +9,7 @@ use Rattle.tdb_law.specs.Commands.Command.{OnGroup, OnWalk}
 use Rattle.tdb_law.specs.Commands.Reply.{Done}
 use Rattle.tdb_law.specs.Commands.Turn.{Step, Blocked, Ends}
 use Rattle.tdb_law.specs.Openers.{Own, Txn, Task, has}
+use Rattle.tdb_law.specs.Refusals.{refusal}
 use Rattle.tdb_law.specs.Rows.{is_changed}
 use Rattle.tdb_law.specs.Ends.{waits}
 use Rattle.tdb_law.specs.World.{State, IsSound}
@@ -22,7 +23,7 @@ use Rattle.tdb_beside.specs.Sides.{Past, Side, but_at, alone, beside, whole, IsP
 use Rattle.tdb_beside.specs.Events.{StandsBy, IsElse}
 use Rattle.tdb_beside.specs.Shutting.{HasRecords, IsShutOut}
 use Rattle.tdb_beside.specs.Starts.{with_starts, MayStart}
-use Rattle.tdb_beside.specs.Turns.{IsUngrouped, IsClear, past_after, EndsAtOnce, without_task, LeavesNothing, IsLeave, without_cursor}
+use Rattle.tdb_beside.specs.Turns.{IsApart, IsUngrouped, IsClear, past_after, EndsAtOnce, without_task, LeavesNothing, IsLeave, without_cursor}
 
 -- In a sound world that isn't stale, a command that waits, of which the file doesn't have the change, and that meets a conflict has
 -- taken a turn by being blocked, and nothing has changed.
@@ -41,16 +42,16 @@ abbrev pub LeavingIsTurned : Type 0
 LeavingIsTurned = (f : Form) (w : State) (who : ℕ) (t : Task) (c : WalkCommand) → IsSound f w → w.stale ≡ false → w.task who ≡ Some t → t.steps ≡ 0 → t.command ≡ OnWalk c → IsLeave c → LeavesNothing w who
     → Turned f w who t (Ends Done) (without_cursor c w who)
 
--- A turn of an opener that isn't aside, of a command that is on no transaction, is a turn of the whole world where nobody is aside.
+-- A turn of an opener that isn't aside, of a command that begins and ends no transaction, is a turn of the whole world where nobody is aside.
 abbrev pub AloneTurns : Type 0
-AloneTurns = (f : Form) (p later : State) (past : Past) (who : ℕ) (t : Task) (turn : Turn) → IsPlain p → IsUngrouped t.command → Turned f p who t turn later
+AloneTurns = (f : Form) (p later : State) (past : Past) (who : ℕ) (t : Task) (turn : Turn) → IsPlain p → IsApart (refusal f t.command (p.own who)) t.command → Turned f p who t turn later
     → IsPlain later × Turned f (alone p past) who t turn (alone later (past_after f p who t turn past))
 
 -- So it is where an opener is aside that is no matter to the command. Of the bytes below the records it may hold any, since such a
 -- command wants none of them but that of the sequence number.
 abbrev pub BesideTurns : Type 0
 BesideTurns = (f : Form) (p later : State) (past : Past) (s : Side) (who : ℕ) (t : Task) (turn : Turn) → IsSound f (beside p past s) → IsPlain p → StandsAside p s → IsClear f p s who t → who ≢ s.here
-    → IsUngrouped t.command → Turned f p who t turn later
+    → IsApart (refusal f t.command (p.own who)) t.command → Turned f p who t turn later
     → IsPlain later × StandsAside later s × Turned f (beside p past s) who t turn (beside later (past_after f p who t turn past) s)
 
 -- An opener that joins the plain world joins the whole world, where nobody at all holds the opening lock, whoever is aside.

@@ -1,5 +1,5 @@
 -- What turns leave of a world in parts, the ends by which a command changes nothing, and those by which it leaves a cursor on no record.
-use Rattle.std.specs.Prelude.{ℕ, List, ◌≡◌, ◌⊎◌, false, Some, None}
+use Rattle.std.specs.Prelude.{ℕ, List, ◌≡◌, ◌⊎◌, false, Option, Some, None}
 use Rattle.tdb_space.specs.Form.{Form}
 use Rattle.tdb_law.specs.Commands.{WalkCommand, Command, Reply, Turn}
 use Rattle.tdb_law.specs.Commands.LockCommand.{ChainLockNb}
@@ -19,6 +19,11 @@ use Rattle.tdb_beside.specs.Sides.{Past, Side, but_at}
 abbrev pub IsUngrouped : Command → Type 0
 IsUngrouped (OnGroup g) = ⊥
 IsUngrouped c = Unit {0}
+
+-- A command that begins and ends no transaction: it is on none, or its opener's own state refuses it.
+abbrev pub IsApart : Option Refusal → Command → Type 0
+IsApart None c = IsUngrouped c
+IsApart (Some why) c = Unit {0}
 
 -- what a plain state doesn't have, after a turn: the images keep their numbers, and the turn may unsettle the world
 abbrev pub past_after : Form → State → ℕ → Task → Turn → Past → Past
