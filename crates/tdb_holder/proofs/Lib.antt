@@ -27,3 +27,6 @@ pub mod Finished
 pub mod Started
 pub mod OpenTurns
 pub mod OpenEnds
+pub mod Recorded
+pub mod Wanted
+pub mod RecordsHeld

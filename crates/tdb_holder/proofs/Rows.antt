@@ -15,7 +15,7 @@ never_below : (n : ℕ) → nat_lt n 0 ≡ false
 never_below n = grind (arith, nat_tests)
 
 -- no turn was taken, and so no lock
-locked_none : (ls : List Lock) (b : ℕ) → locked ls 0 b ≡ 0
+pub locked_none : (ls : List Lock) (b : ℕ) → locked ls 0 b ≡ 0
 locked_none [] b = refl
 locked_none (l ∷ ls) b = ap (λ t. max (if t && covers l b then l.strength else 0) (locked ls 0 b)) (never_below l.turn) ∙ ap (max 0) (locked_none ls b) ∙ omega arith
 

@@ -37,7 +37,7 @@ picked : (p : Bool) (strength rest : ℕ) → strength ≤ 2 → rest ≤ 2 → 
 picked true strength rest weak few = omega arith
 picked false strength rest weak few = omega arith
 
-commit_wants : (numbered : Bool) (n b : ℕ) → locked_next (commit_locks numbered) n b ≤ 2
+pub commit_wants : (numbered : Bool) (n b : ℕ) → locked_next (commit_locks numbered) n b ≤ 2
 commit_wants true n b = picked _ 2 _ (omega arith) (picked _ 2 _ (omega arith) (picked _ 2 0 (omega arith) (omega arith)))
 commit_wants false n b = picked _ 2 _ (omega arith) (picked _ 2 0 (omega arith) (omega arith))
 

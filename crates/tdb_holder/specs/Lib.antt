@@ -8,3 +8,4 @@ pub mod Stages
 pub mod Turned
 pub mod Wents
 pub mod Reads
+pub mod Wanting

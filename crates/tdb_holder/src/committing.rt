@@ -13,6 +13,7 @@ ghost use Rattle.tdb_holder.specs.declared.options.Options.{Options};
 ghost use Rattle.tdb_holder.specs.declared.stage.Stage.TheVariants as Stage;
 ghost use Rattle.tdb_holder.specs.Stages.{stage_task, Known, IsFitLeft, IsSide, KnowsFile};
 ghost use Rattle.tdb_holder.specs.Turned.{MayTurn, StageTurned};
+ghost use Rattle.tdb_holder.specs.Wanting.{RecordsGo};
 
 use crate::stage::{Stage, Went};
 use tdb_commit::{CommitTurn, Committing};
@@ -49,6 +50,7 @@ pub(crate) fn commit_turn<D: Disk>(
         IsSide f o owner locks.old stage k past s → KnowsFile f stage (D.history d.old) k → stage_task stage ≡ Some t → MayTurn f table s t
         → StageTurned f o table owner locks.new stage went.stage (D.history d.old) (D.history d.new) k past s t (law_turn went.turn)) }
     ensures fits { IfOk result (λ went. (h : Header) → IsFitLeft went.stage h limit (D.size d.new)) }
+    ensures records { IfOk result (λ went. RecordsGo (Stage.Committing commit) went.turn went.stage) }
     ensures stops { IsTrue D.tells → (r b : List ℕ) → KnowsCommit commit (D.history d.old) r b → LeavesOnly (D.history d.old) (D.history d.new) (CommitMayLeave commit r b) }
     ensures cause { HasCause (D.faults d.old) (D.faults d.new) result }
 {

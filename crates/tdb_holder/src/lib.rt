@@ -14,9 +14,11 @@ mod refusing;
 mod stage;
 mod starting;
 mod waits;
+mod wanting;
 
 pub use crate::ends::{ends_are_own, inside_is_own, machines_are_own};
 pub use crate::lifts::side_turns;
 pub use crate::options::Options;
 pub use crate::reads::files_are_read;
 pub use crate::waits::blocks_are_own;
+pub use crate::wanting::Wants;

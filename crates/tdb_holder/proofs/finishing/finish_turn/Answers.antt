@@ -10,6 +10,8 @@ use Rattle.tdb_holder.specs.Turned.{MayTurn, StageTurned}
 use Rattle.tdb_holder.specs.Wents.{finish_went}
 use Rattle.tdb_holder.proofs.Finished.{finish_turned}
 use Rattle.tdb_holder.proofs.Sided.{same_task}
+use Rattle.tdb_holder.specs.Wanting.{RecordsGo}
+use Rattle.tdb_holder.proofs.Recorded.{finish_goes}
 use Rattle.tdb_holder.proofs.finishing.finish_turn.Goals as goal
 
 pub returns-clause-turned : goal.returns-clause-turned
@@ -24,3 +26,7 @@ returns-clause-turned g c told f o table k past s t S K has M =
     (subst (λ u. StageTurned f o table a.owner c.step.new.locks stage (finish_went i.turn).stage h new k past s u (law_turn (finish_went i.turn).turn)) mine
     (finish_turned f o table a.owner a.locks.now c.step.new.locks a.finishing h new k past s S K (subst (MayTurn f table s) (sym mine) M) i.turn i.ensures.locks i.ensures.leads
     (i.ensures.made told k.file k.image K.at.0)))
+
+pub returns-clause-records : goal.returns-clause-records
+returns-clause-records g c =
+    subst (λ went. RecordsGo (Stage.Finishing c.args.finishing) went.turn went.stage) (sym c.finish_left.ensures) (finish_goes c.args.finishing c.in_ok-turn.turn)

@@ -10,6 +10,8 @@ use Rattle.tdb_holder.specs.Turned.{MayTurn, StageTurned}
 use Rattle.tdb_holder.specs.Wents.{has_changed, prepare_went}
 use Rattle.tdb_holder.proofs.Readied.{prepare_turned}
 use Rattle.tdb_holder.proofs.Sided.{same_task}
+use Rattle.tdb_holder.specs.Wanting.{RecordsGo}
+use Rattle.tdb_holder.proofs.Recorded.{prepare_goes}
 use Rattle.tdb_holder.proofs.preparing.prepare_turn.Goals as goal
 
 pub returns-clause-turned : goal.returns-clause-turned
@@ -24,3 +26,9 @@ returns-clause-turned g c told f o table k past s t S K has M =
     (subst (λ u. StageTurned f o table a.owner c.step.new.locks stage (prepare_went (has_changed a.preparing.stage) i.turn).stage h new k past s u (law_turn (prepare_went (has_changed a.preparing.stage) i.turn).turn)) mine
     (prepare_turned f o table a.owner a.limit a.locks.now c.step.new.locks a.preparing h new k past s S K (subst (MayTurn f table s) (sym mine) M) i.turn i.ensures.locks i.ensures.leads
     (i.ensures.made told k.file k.image K.at)))
+
+pub returns-clause-records : goal.returns-clause-records
+returns-clause-records g c =
+    let i = c.in_ok-turn in
+    subst (λ went. RecordsGo (Stage.Preparing c.args.preparing) went.turn went.stage)
+    (sym (c.prepare_left.ensures ∙ ap (λ changed. prepare_went changed i.turn) c.has_change-changed.ensures)) (prepare_goes c.args.preparing i.turn i.ensures.leads)

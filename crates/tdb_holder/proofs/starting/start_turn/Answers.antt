@@ -8,6 +8,7 @@ use Rattle.tdb_plays.specs.InLaw.{law_turn}
 use Rattle.tdb_holder.specs.declared.stage.Stage.TheVariants as Stage
 use Rattle.tdb_holder.specs.Ends.{task_of}
 use Rattle.tdb_holder.specs.Turned.{MayTurn, StageTurned}
+use Rattle.tdb_holder.proofs.Recorded.{start_goes}
 use Rattle.tdb_holder.proofs.Started.{start_turned}
 use Rattle.tdb_holder.proofs.Sided.{same_task}
 use Rattle.tdb_holder.proofs.starting.start_turn.Goals as goal
@@ -25,3 +26,8 @@ returns-clause-turned g c told table k past s t S K accepted has M =
     subst (λ u. StageTurned f o table a.owner c.step.new.locks (Stage.Starting a.starting) went.stage h new k past s u (law_turn went.turn)) mine
     (start_turned f o table a.owner (g.D.Disk.size a.d.now) a.locks.now c.step.new.locks a.starting h new k past s S K (subst (MayTurn f table s) (sym mine) M) i.turn o.seqnum went refl c.start_left.ensures i.ensures.locks i.ensures.leads accepted
     (i.ensures.made told))
+
+pub returns-clause-records : goal.returns-clause-records
+returns-clause-records g c =
+    let a = c.args in
+    start_goes (form_in a.header.now) (g.D.Disk.size a.d.now) a.options.now.seqnum a.starting c.in_ok-turn.turn c.start_left.result c.in_ok-turn.ensures.leads c.start_left.ensures
