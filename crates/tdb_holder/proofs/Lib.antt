@@ -27,6 +27,8 @@ pub mod Finished
 pub mod Started
 pub mod OpenTurns
 pub mod OpenEnds
+pub mod PreparedTold
+pub mod PreparedTurns
 pub mod Recorded
 pub mod Wanted
 pub mod RecordsHeld

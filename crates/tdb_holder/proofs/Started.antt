@@ -58,7 +58,7 @@ use Rattle.tdb_holder.proofs.Waiting.{alone_goes}
 use Rattle.tdb_holder.proofs.StartTurns.{start_is_own}
 
 -- no lock is counted in a transaction that has just begun
-counts_none : (x : Own) → x.counts ≡ empty → x.all ≡ None → IsCounted nothing_held x
+pub counts_none : (x : Own) → x.counts ≡ empty → x.all ≡ None → IsCounted nothing_held x
 counts_none x none all = record {
   chains = λ chain. ap (λ o. unwrap_or o 0) (absent (168 + 4 * chain));
   some = λ b n is. absurd (let no = absent b in let e : ◌≡◌ {A = Option ℕ} None (Some n) = sym no ∙ is in cc e);

@@ -8,4 +8,5 @@ pub mod Stages
 pub mod Turned
 pub mod Wents
 pub mod Reads
+pub mod Prepared
 pub mod Wanting

@@ -8,6 +8,7 @@ mod inside;
 mod lifts;
 mod open_txn;
 mod options;
+mod prepared;
 mod preparing;
 mod reads;
 mod refusing;
