@@ -32,3 +32,4 @@ pub mod PreparedTurns
 pub mod Recorded
 pub mod Wanted
 pub mod RecordsHeld
+pub mod HolderTurns

@@ -10,3 +10,4 @@ pub mod Wents
 pub mod Reads
 pub mod Prepared
 pub mod Wanting
+pub mod Holders

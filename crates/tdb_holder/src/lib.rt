@@ -4,6 +4,7 @@
 mod committing;
 mod ends;
 mod finishing;
+mod holder;
 mod inside;
 mod lifts;
 mod open_txn;
@@ -18,6 +19,7 @@ mod waits;
 mod wanting;
 
 pub use crate::ends::{ends_are_own, inside_is_own, machines_are_own};
+pub use crate::holder::{Holder, Moved};
 pub use crate::lifts::side_turns;
 pub use crate::options::Options;
 pub use crate::reads::files_are_read;
