@@ -32,12 +32,12 @@ use Rattle.tdb_beside.specs.Own.{OwnTurned}
 use Rattle.tdb_holder.specs.declared.options.Options.{Options}
 use Rattle.tdb_holder.specs.declared.stage.Stage.TheVariants as At
 use Rattle.tdb_holder.specs.Ends.{task_of, committed, shuts, IsBlocked}
-use Rattle.tdb_holder.specs.Stages.{stage_records, HasOuter, Known, IsSide, KnowsFile}
+use Rattle.tdb_holder.specs.Stages.{HasOuter, Known, IsSide, KnowsFile}
 use Rattle.tdb_holder.specs.Turned.{IsBackAs, MayTurn, StageTurned, RestsLike, keeps, brings}
 use Rattle.tdb_holder.specs.Waits.{IsAlone, of_commit}
 use Rattle.tdb_holder.specs.Wents.{commit_went}
 use Rattle.tdb_holder.proofs.Sided.{begins, leaves, side_after}
-use Rattle.tdb_holder.proofs.PlanStages.{early_like, few_planning, going_or_none, plan_goes, planned_writes}
+use Rattle.tdb_holder.proofs.PlanStages.{early_like, few_planning, going_or_none, plan_goes, commit_writes}
 use Rattle.tdb_holder.proofs.Filed.{file_by, known_by, numbers_by, other_number, same_number}
 use Rattle.tdb_holder.proofs.Finished.{settled_accepted}
 use Rattle.tdb_holder.proofs.GroupEffects.{changed_is}
@@ -92,11 +92,6 @@ shut_next (Finishing (Open state)) h r b late K = absurd (omega (arith, late))
 shut_next (Finishing (Applied state)) h r b late K = absurd (omega (arith, late))
 shut_next (Finishing (Settled state)) h r b late K = absurd (omega (arith, late))
 shut_next (Finishing Shut) h r b late K = K
-
--- one that has had a step holds all records for writing
-step_writes : (c : Committing) → MayGoOn c → 1 ≤ commit_steps c → stage_records (At.Committing c) ≡ Some Write
-step_writes (Preparing p) some begun = ap Some (planned_writes p.stage some begun)
-step_writes (Finishing s) some begun = refl
 
 -- the image of one whose next step shuts the gate is accepted
 seventh_accepted : (c : Committing) (h : History) (r b : List ℕ) → commit_steps c ≡ 7 → KnowsCommit c h r b → Accept b
@@ -212,7 +207,7 @@ module _ (f : Form) (o : Options) (table : ℕ → ℕ → ℕ) (owner limit : �
         later = past;
         side = later (Step next) locks;
         left = side true is refl;
-        file = record { at = (shut_next next new k.file k.image (let seventh = same_number (commit_steps c) 7 is in omega (arith, seventh, leads.2)) made, λ late. refl); forms = (K.forms.1, K.forms.1); reads = λ only. absurd (only (step_writes next leads.1 (let more = leads.2 in omega (arith, more)))) };
+        file = record { at = (shut_next next new k.file k.image (let seventh = same_number (commit_steps c) 7 is in omega (arith, seventh, leads.2)) made, λ late. refl); forms = (K.forms.1, K.forms.1); reads = λ only. absurd (only (ap Some (commit_writes next leads.1 (let more = leads.2 in omega (arith, more))))) };
         kept =
             let seventh = same_number (commit_steps c) 7 is in
             brings has_txn refl refl S.own.has.outer.has S.own.has.map
@@ -226,7 +221,7 @@ module _ (f : Form) (o : Options) (table : ℕ → ℕ → ℕ) (owner limit : �
         later = past;
         side = later (Step next) locks;
         left = side false is refl;
-        file = record { at = (made, λ late. absurd (let few = few_in_all next in other_number (commit_steps c) 7 is (omega (arith, few, late, leads.2)))); forms = K.forms; reads = λ only. absurd (only (step_writes next leads.1 (let more = leads.2 in omega (arith, more)))) };
+        file = record { at = (made, λ late. absurd (let few = few_in_all next in other_number (commit_steps c) 7 is (omega (arith, few, late, leads.2)))); forms = K.forms; reads = λ only. absurd (only (ap Some (commit_writes next leads.1 (let more = leads.2 in omega (arith, more))))) };
         kept = keeps refl;
         still = tt;
         turned = turned false is;

@@ -4,7 +4,7 @@ use Rattle.std.specs.Prelude.{◌&&◌, not, if◌then◌else◌}
 use Rattle.std.proofs.lemmas.Bool.Decides.{nat_tests}
 use Rattle.tdb_disk.specs.History.{History}
 use Rattle.tdb_words.specs.declared.header.Header.{Header}
-use Rattle.tdb_space.specs.Form.{Form}
+use Rattle.tdb_space.specs.Form.{Form, form_in}
 use Rattle.tdb_locks.specs.HeldLocks.{total_of}
 use Rattle.tdb_locks.specs.declared.kind.Kind.{Kind}
 use Rattle.tdb_locks.specs.declared.kind.Kind.TheVariants.{Read, Write}
@@ -19,6 +19,7 @@ use Rattle.tdb_law.specs.Effects.Effect.{effect_waits, effect_goes_on, effect_ch
 use Rattle.tdb_law.specs.Held.{holding}
 use Rattle.tdb_law.specs.Images.{image_map}
 use Rattle.tdb_law.specs.Openers.{Map, Own, Task, Txn, ended, nowhere}
+use Rattle.tdb_law.specs.Outcomes.{moves}
 use Rattle.tdb_law.specs.Rows.{Lock, plans_in, start_locks}
 use Rattle.tdb_steps.specs.Holdings.{table_of}
 use Rattle.tdb_steps.specs.LockRows.{strength_of}
@@ -55,9 +56,9 @@ use Rattle.tdb_holder.specs.declared.wanting.Wants.TheVariants as Wants
 use Rattle.tdb_holder.specs.Ends.{task_of, IsBlocked, IsOuter}
 use Rattle.tdb_holder.specs.Given.{IsShortCommand}
 use Rattle.tdb_holder.specs.Holders.{is_idle, stage_depth, with_command}
-use Rattle.tdb_holder.specs.Open.{HasOpen}
-use Rattle.tdb_holder.specs.Stages.{stage_task, Known, IsFit, IsSide, KnowsFile, MayBeGiven}
-use Rattle.tdb_holder.specs.Turned.{BeginsOn, KnowsLeft, MayTurn, StageTurned}
+use Rattle.tdb_holder.specs.Open.{HasOpen, OpenFits}
+use Rattle.tdb_holder.specs.Stages.{is_closing, stage_task, Known, IsFit, IsSide, KnowsFile, MayBeGiven}
+use Rattle.tdb_holder.specs.Turned.{BeginsOn, KnowsLeft, MayTurn, StageTurned, keeps}
 use Rattle.tdb_holder.specs.Wanting.{given_wants, plans_open, plan_wants, stage_wants, start_wants, wanted_by}
 use Rattle.tdb_holder.proofs.CommitTurns.{commit_is_own}
 use Rattle.tdb_holder.proofs.Keeping.{keeps_nothing}
@@ -68,6 +69,7 @@ use Rattle.tdb_holder.proofs.RecordsHeld.{holds_given}
 use Rattle.tdb_holder.proofs.PlanStages.{early_like}
 use Rattle.tdb_holder.proofs.Resting.{ready_like}
 use Rattle.tdb_holder.proofs.Sided.{begins, leaves, same_task, side_after}
+use Rattle.tdb_holder.proofs.Turning.{group_still}
 use Rattle.tdb_holder.proofs.StartTurns.{start_is_own}
 use Rattle.tdb_holder.proofs.Waiting.{commit_wants}
 use Rattle.tdb_holder.proofs.Wanted.{commit_why, outer_plans, prepare_why, wanted_law}
@@ -139,6 +141,7 @@ module _ (f : Form) (o : Options) (owner : ℕ) (ps : List Piece) (k : Known) (p
     options = S.options;
     own = S.own;
     numbers = S.numbers;
+    mark = S.mark;
   }
   given_side (At.Open txn (Some before)) idle S = absurd (cc idle)
   given_side (At.Committing before) idle S = absurd (cc idle)
@@ -154,16 +157,17 @@ module _ (f : Form) (o : Options) (owner : ℕ) (ps : List Piece) (k : Known) (p
     options = S.options;
     own = S.own;
     numbers = S.numbers;
+    mark = tt;
   }
   given_side (At.Prepared left (Some before)) idle S = absurd (cc idle)
   given_side (At.Finishing before) idle S = absurd (cc idle)
 
 pub given_known : (f : Form) (stage : Stage) (c : Command) (h : History) (k : Known) → KnowsFile f stage h k → KnowsFile f (with_command stage c) h k
 given_known f (At.Starting st) c h k K = K
-given_known f (At.Open txn command) c h k K = record { at = K.at; forms = K.forms }
+given_known f (At.Open txn command) c h k K = record { at = K.at; forms = K.forms; reads = K.reads }
 given_known f (At.Committing before) c h k K = K
 given_known f (At.Preparing p) c h k K = K
-given_known f (At.Prepared left command) c h k K = record { at = known_with f left command (Some c) h k K.at; forms = K.forms }
+given_known f (At.Prepared left command) c h k K = record { at = known_with f left command (Some c) h k K.at; forms = K.forms; reads = K.reads }
 given_known f (At.Finishing before) c h k K = K
 
 pub given_fits : (stage : Stage) (c : Command) (h : Header) (limit size : ℕ) → is_idle stage ≡ true → IsShortCommand c → MayBeGiven c (stage_depth stage) → IsFit stage h limit size
@@ -250,13 +254,15 @@ module _ (f : Form) (o : Options) (table : ℕ → ℕ → ℕ) (owner : ℕ) (p
   abbrev z : Side
   z = side_after s owner [] (ended s.own) None
 
-  starved : (t : Task) → KnowsLeft f stage None h h k → OwnTurned f table m m q q past past s z t (Ends Memory) → Starved t
-  starved t file turned = record {
+  starved : (t : Task) → is_closing stage ≡ false → moves f t.command s.own ≡ false → KnowsLeft f stage None h h k → OwnTurned f table m m q q past past s z t (Ends Memory) → Starved t
+  starved t goes calm file turned = record {
     known = k;
     later = past;
     side = z;
-    left = record { here = S.here; alone = λ p b differs. refl; table = λ b. refl; nothing = λ b. refl; task = refl; own = refl };
+    left = record { here = S.here; alone = λ p b differs. refl; table = λ b. refl; nothing = λ b. refl; task = refl; own = refl; live = S.live ∙ sym (ap not goes); options = S.options };
     file = file;
+    kept = keeps refl;
+    still = calm;
     turned = turned;
   }
 
@@ -344,8 +350,10 @@ module _ (f : Form) (o : Options) (table : ℕ → ℕ → ℕ) (owner : ℕ) (p
         known = k;
         later = past;
         side = z;
-        left = record { here = S.here; alone = λ p b differs. refl; table = λ b. refl; nothing = λ b. refl; task = refl; own = bare };
+        left = record { here = S.here; alone = λ p b differs. refl; table = λ b. refl; nothing = λ b. refl; task = refl; own = bare; live = S.live; options = S.options };
         file = refl;
+        kept = keeps refl;
+        still = group_still f Start s.own;
         turned =
             start_is_own f f table m q 0 owner past past s z s.own st StartTurn.Memory ps [] out S.own.granted
             (keeps_nothing f s.own out (ap (λ (x : Own). x.counts) (sym bare)) (ap (λ (x : Own). x.all) (sym bare))) (λ e. e) (omega (arith, early))
@@ -378,14 +386,14 @@ module _ (f : Form) (o : Options) (table : ℕ → ℕ → ℕ) (owner : ℕ) (p
       let stage = At.Open txn (Some Given.Commit) in
       let plans = plans_so txn (plans_open txn) refl some in
       let has = txn_of txn.own k.file in
-      starved f o table owner ps stage h k past s S (task_of (OnGroup Commit) 0) (ready_like f txn.own.txn h k.file k.image K.forms.0 K.at)
+      starved f o table owner ps stage h k past s S (task_of (OnGroup Commit) 0) refl (group_still f Commit s.own) (ready_like f txn.own.txn h k.file k.image K.forms.0 K.at.0, λ only. refl)
       (commit_starved f o table owner ps stage h k past s S has (Commits.Preparing (begun_with txn.own.txn true txn.own.numbered)) (open_commit f o txn k.file s.own S.own plans) refl
       (open_plans f o txn k.file s.own S.own plans) refl tt (omega arith) refl M)
   open_starved txn Given.Prepare some S K M =
       let stage = At.Open txn (Some Given.Prepare) in
       let plans = plans_so txn (plans_open txn) refl some in
       let has = txn_of txn.own k.file in
-      starved f o table owner ps stage h k past s S (task_of (OnGroup Prepare) 0) (ready_like f txn.own.txn h k.file k.image K.forms.0 K.at)
+      starved f o table owner ps stage h k past s S (task_of (OnGroup Prepare) 0) refl (group_still f Prepare s.own) (ready_like f txn.own.txn h k.file k.image K.forms.0 K.at.0, λ only. refl)
       (prepare_starved f o table owner ps stage h k past s S has (begun_with txn.own.txn true txn.own.numbered) (open_prepare f o txn k.file s.own S.own plans)
       (open_plans f o txn k.file s.own S.own plans) refl tt (omega arith) refl M)
   open_starved txn _ some S K M = absurd (some refl)
@@ -404,7 +412,7 @@ module _ (f : Form) (o : Options) (table : ℕ → ℕ → ℕ) (owner : ℕ) (p
       let mine = same_task (task_of (OnGroup Commit) (prepare_steps p)) t has in
       let going = plan_starves p.numbered p.stage some in
       subst (At_stage stage) mine
-      (starved f o table owner ps stage h k past s S (task_of (OnGroup Commit) (prepare_steps p)) (early_like f p.stage h k.file k.image K.forms.0 going.0 (let few = going.1 in omega (arith, few)) K.at.0)
+      (starved f o table owner ps stage h k past s S (task_of (OnGroup Commit) (prepare_steps p)) refl (group_still f Commit s.own) (early_like f p.stage h k.file k.image K.forms.0 going.0 (let few = going.1 in omega (arith, few)) K.at.0, λ only. refl)
       (commit_starved f o table owner ps stage h k past s S S.own.txn (Commits.Preparing p) S.own.has.outer S.own.has.prepared_is S.own.change S.own.numbered going.0
       (let few = going.1 in omega (arith, few)) refl (subst (MayTurn f table s) (sym mine) M)))
   stage_starved (At.Committing (Commits.Finishing c)) t some S K has M = absurd (some refl)
@@ -413,11 +421,15 @@ module _ (f : Form) (o : Options) (table : ℕ → ℕ → ℕ) (owner : ℕ) (p
       let mine = same_task (task_of (OnGroup Prepare) (prepare_steps p)) t has in
       let going = plan_starves p.numbered p.stage some in
       subst (At_stage stage) mine
-      (starved f o table owner ps stage h k past s S (task_of (OnGroup Prepare) (prepare_steps p)) (early_like f p.stage h k.file k.image K.forms.0 going.0 (let few = going.1 in omega (arith, few)) K.at)
+      (starved f o table owner ps stage h k past s S (task_of (OnGroup Prepare) (prepare_steps p)) refl (group_still f Prepare s.own) (early_like f p.stage h k.file k.image K.forms.0 going.0 (let few = going.1 in omega (arith, few)) K.at, λ only. refl)
       (prepare_starved f o table owner ps stage h k past s S S.own.txn p S.own.has.outer S.own.plan S.own.numbered going.0
       (let few = going.1 in omega (arith, few)) refl (subst (MayTurn f table s) (sym mine) M)))
   stage_starved (At.Prepared left command) t some S K has M = absurd (some refl)
   stage_starved (At.Finishing c) t some S K has M = absurd (some refl)
+
+-- inside a transaction the header tells the form of the file
+pub open_form : (f : Form) (header : Header) (limit size : ℕ) (txn : OpenTxn) (c : Command) (h : History) (k : Known) → OpenFits txn header limit size → KnowsFile f (At.Open txn (Some c)) h k → f ≡ form_in header
+open_form f header limit size txn c h k fits K = sym K.forms.0 ∙ sym K.at.0.may.header ∙ sym fits.header
 
 -- a turn at a stage, that led to this, is one of the law's
 abbrev pub TurnsAt : Form → Options → ℕ → List Piece → List Piece → Stage → History → History → Went → Type 0

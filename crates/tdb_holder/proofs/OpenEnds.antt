@@ -1,12 +1,15 @@
 -- The turns by which a transaction that is open ends, or begins to be committed or prepared, as turns of the opener aside.
 use Rattle.std.proofs.Common.{◌≡◌, ◌≢◌, ℕ, ◌+◌, List, Bool, true, false, None, Some, refl, sym, ◌∙◌, ap, subst, arith}
-use Rattle.std.specs.Prelude.{◌&&◌, if◌then◌else◌, not, Option}
+use Rattle.std.specs.Prelude.{◌<◌, ◌&&◌, if◌then◌else◌, nat_lt, not, Option, IfSome}
+use Rattle.std.proofs.lemmas.Bool.Decides.{nat_tests}
 use Rattle.tdb_disk.specs.History.{History, seen}
 use Rattle.tdb_disk.specs.Stop.{LeavesOnly}
 use Rattle.tdb_space.specs.Undoing.{Reopens}
 use Rattle.tdb_space.specs.Form.{Form}
-use Rattle.tdb_locks.specs.declared.kind.Kind.TheVariants.{Read}
+use Rattle.tdb_locks.specs.declared.kind.Kind.TheVariants.{Read, Write}
+use Rattle.tdb_locks.specs.HeldLocks.{total_of}
 use Rattle.tdb_locks.specs.declared.piece.Piece.{Piece}
+use Rattle.tdb_locks.specs.declared.turn.Turn.{Turn as TurnIs}
 use Rattle.tdb_law.specs.Commands.{GroupCommand, Reply}
 use Rattle.tdb_law.specs.Commands.Command.{OnGroup, OnWalk}
 use Rattle.tdb_law.specs.Commands.GroupCommand.{Cancel, Commit, Prepare}
@@ -20,7 +23,7 @@ use Rattle.tdb_beside.specs.Sides.{Past, Side}
 use Rattle.tdb_steps.specs.Holdings.{table_of}
 use Rattle.tdb_steps.specs.declared.flag.Flag.{Flag}
 use Rattle.tdb_steps.specs.Turns.{number_of}
-use Rattle.tdb_txn.specs.Txn.{txn_depth}
+use Rattle.tdb_txn.specs.Txn.{txn_depth, txn_doomed}
 use Rattle.tdb_txn.specs.declared.txn.Txn.{Txn as Pages}
 use Rattle.tdb_commit.specs.Commits.{RestsAt}
 use Rattle.tdb_commit.specs.Laws.{HasPlan}
@@ -43,6 +46,9 @@ use Rattle.tdb_holder.specs.declared.stage.Went.{Went}
 use Rattle.tdb_holder.specs.Ends.{task_of}
 use Rattle.tdb_holder.specs.Stages.{is_close, is_closing, plan_records, stage_records, HasOuter, Known, IsSide, KnowsFile}
 use Rattle.tdb_holder.specs.Turned.{IsBackAs, IsLeft, KnowsLeft, MayTurn, StageTurned, keeps}
+use Rattle.tdb_holder.specs.Given.{IsInside}
+use Rattle.tdb_holder.specs.Wanting.{given_wants, open_wants, plan_wants, plans_open, records_by, records_with, RecordsGo}
+use Rattle.tdb_holder.specs.declared.wanting.Wants.TheVariants as Wants
 use Rattle.tdb_holder.specs.Wents.{TurnsFrom}
 use Rattle.tdb_holder.proofs.InsideTurns.{cancel_ends, close_is_own, end_is_own, refusal_ends}
 use Rattle.tdb_holder.proofs.Opened.{txn_of}
@@ -170,6 +176,62 @@ reads_still f h old command k K = K.at.0.file
 first_reads : (pages : Pages) (b : Bool) → plan_records (if b then Begun pages else Unchanged) ≡ Read
 first_reads pages true = refl
 first_reads pages false = refl
+
+-- what is wanted of all records, and held, is the same before that turn as inside the transaction
+wants_first : (pages : Pages) (numbered b : Bool) → plan_wants numbered (if b then Begun pages else Unchanged) ≡ (if b then Wants.Records Write else Wants.Nothing)
+wants_first pages numbered true = refl
+wants_first pages numbered false = refl
+
+module _ (t : OpenTxn) (outer : txn_depth t.own.txn ≡ 0) (whole : txn_doomed t.own.txn ≡ false) (unlocked : nat_lt 0 (total_of t.held) ≡ false) where
+  plans_as : plans_open t ≡ t.own.changed
+  plans_as = rw (outer, whole, unlocked) refl
+
+  wants_as : plan_wants t.own.numbered (if t.own.changed then Begun t.own.txn else Unchanged) ≡ open_wants t
+  wants_as = wants_first t.own.txn t.own.numbered t.own.changed ∙ sym (ap (λ b. if b then Wants.Records Write else Wants.Nothing) plans_as)
+
+  records_as : (turn : TurnIs) → records_by turn (plan_wants t.own.numbered (if t.own.changed then Begun t.own.txn else Unchanged)) (Some (plan_records (if t.own.changed then Begun t.own.txn else Unchanged))) ≡ records_by turn (open_wants t) (Some Read)
+  records_as turn = ap (λ w. records_by turn w (Some (plan_records (if t.own.changed then Begun t.own.txn else Unchanged)))) wants_as ∙ ap (λ k. records_by turn (open_wants t) (Some k)) (first_reads t.own.txn t.own.changed)
+
+  pub commit_records_go : (turn : TurnIs) (after : Option Stage) → RecordsGo (At.Committing (PreparingFirst (begun_with t.own.txn t.own.changed t.own.numbered))) turn after → RecordsGo (At.Open t (Some Names.Commit)) turn after
+  commit_records_go turn after R = subst (λ r. IfSome after (λ later. stage_records later ≡ r)) (records_as turn) R
+
+  pub prepare_records_go : (turn : TurnIs) (after : Option Stage) → RecordsGo (At.Preparing (begun_with t.own.txn t.own.changed t.own.numbered)) turn after → RecordsGo (At.Open t (Some Names.Prepare)) turn after
+  prepare_records_go turn after R = subst (λ r. IfSome after (λ later. stage_records later ≡ r)) (records_as turn) R
+
+-- a command that leaves the transaction open wants none
+deep_none : (t : OpenTxn) → 0 < txn_depth t.own.txn → plans_open t ≡ false
+deep_none t deep = ap (λ b. not (txn_doomed t.own.txn) && (not b && (not (nat_lt 0 (total_of t.held)) && t.own.changed))) (lt-true deep) ∙ and_none (not (txn_doomed t.own.txn))
+  where
+    lt-true : 0 < txn_depth t.own.txn → nat_lt 0 (txn_depth t.own.txn) ≡ true
+    lt-true more = grind (arith, nat_tests)
+
+    and_none : (b : Bool) → (b && false) ≡ false
+    and_none true = refl
+    and_none false = refl
+
+pub stay_records : (t : OpenTxn) (c : Given) → IsInside c (txn_depth t.own.txn) → records_with (given_wants t (Some c)) (Some Read) ≡ Some Read
+stay_records t Names.Commit deep = ap (λ b. records_with (if b then Wants.Records Write else Wants.Nothing) (Some Read)) (deep_none t deep)
+stay_records t Names.Prepare deep = ap (λ b. records_with (if b then Wants.Records Write else Wants.Nothing) (Some Read)) (deep_none t deep)
+stay_records t Names.Close inside = refl
+stay_records t (Names.Fetch key) inside = refl
+stay_records t (Names.Has key) inside = refl
+stay_records t (Names.Store key value flag) inside = refl
+stay_records t (Names.Append key value) inside = refl
+stay_records t (Names.Delete key) inside = refl
+stay_records t Names.Wipe inside = refl
+stay_records t (Names.ChainLock key) inside = refl
+stay_records t (Names.ChainLockNb key) inside = refl
+stay_records t (Names.ChainUnlock key) inside = refl
+stay_records t Names.LockAll inside = refl
+stay_records t Names.LockAllRead inside = refl
+stay_records t Names.UnlockAll inside = refl
+stay_records t Names.Start inside = refl
+stay_records t Names.Cancel inside = refl
+stay_records t Names.First inside = refl
+stay_records t Names.Next inside = refl
+stay_records t Names.EndWalk inside = refl
+stay_records t Names.Check inside = refl
+stay_records t Names.Seqnum inside = refl
 
 -- what is known of the file before the first turn of an outer Commit or Prepare, of a transaction in which something was changed, or nothing
 pub knows_first : (f : Form) (h : History) (old : OpenTxn) (command : Given) (k : Known) → KnowsFile f (At.Open old (Some command)) h k → (b : Bool) → KnowsStage (if b then Begun old.own.txn else Unchanged) h k.file k.image

@@ -5,11 +5,14 @@ use Rattle.tdb_space.specs.Form.{Form, form_of}
 use Rattle.tdb_locks.specs.declared.kind.Kind.TheVariants.{Write}
 use Rattle.tdb_law.specs.Openers.{Txn}
 use Rattle.tdb_law.specs.Rows.{plans_in}
+use Rattle.tdb_commit.specs.Committings.{commit_steps, MayGoOn}
 use Rattle.tdb_commit.specs.Laws.{HasPlan}
 use Rattle.tdb_commit.specs.Prepares.{row_of, stage_steps, IsPlanning, KnowsStage}
+use Rattle.tdb_commit.specs.declared.committing.Committing.{Committing}
+use Rattle.tdb_commit.specs.declared.committing.Committing.TheVariants.{Preparing, Finishing}
 use Rattle.tdb_commit.specs.declared.preparing.PrepareStage.{PrepareStage}
 use Rattle.tdb_commit.specs.declared.preparing.PrepareStage.TheVariants.{Unchanged, Begun, Records, Locked, Planned, Filled}
-use Rattle.tdb_holder.specs.Stages.{plan_records}
+use Rattle.tdb_holder.specs.Stages.{commit_records, plan_records}
 use Rattle.tdb_holder.specs.Turned.{RestsLike}
 use Rattle.tdb_holder.proofs.Resting.{ready_like}
 
@@ -39,6 +42,10 @@ planned_writes (Records txn) some begun = refl
 planned_writes (Locked txn) some begun = refl
 planned_writes (Planned state) some begun = refl
 planned_writes (Filled state) some begun = refl
+
+pub commit_writes : (c : Committing) → MayGoOn c → 1 ≤ commit_steps c → commit_records c ≡ Write
+commit_writes (Preparing p) some begun = planned_writes p.stage some begun
+commit_writes (Finishing s) some begun = refl
 
 -- it has no more than four steps
 pub few_planning : (s : PrepareStage) → stage_steps s ≤ 4

@@ -1,11 +1,12 @@
 -- The turns of an opener whose transaction is prepared are turns of the opener aside.
 use Rattle.std.proofs.Common.{◌≡◌, ℕ, ◌<◌, List, Bool, true, false, Option, Some, None, Result, Ok, Err, refl, sym, ◌∙◌, ap, subst, arith}
-use Rattle.std.specs.Prelude.{◌&&◌, IfOk, OnOk}
+use Rattle.std.specs.Prelude.{◌≢◌, ◌&&◌, IfOk, OnOk, not}
 use Rattle.tdb_disk.specs.History.{History}
 use Rattle.tdb_disk.specs.Stop.{LeavesOnly}
 use Rattle.tdb_disk.proofs.Runs.{leaves_quiet}
 use Rattle.tdb_words.specs.declared.header.Header.{Header}
 use Rattle.tdb_space.specs.Form.{Form}
+use Rattle.tdb_locks.specs.declared.kind.Kind.TheVariants.{Write}
 use Rattle.tdb_locks.specs.declared.piece.Piece.{Piece}
 use Rattle.tdb_locks.specs.declared.turn.Reply.{Reply}
 use Rattle.tdb_locks.specs.declared.turn.Turn.{Turn}
@@ -15,7 +16,7 @@ use Rattle.tdb_law.specs.Commands.Command.{OnGroup}
 use Rattle.tdb_law.specs.Commands.Turn.{Ends}
 use Rattle.tdb_law.specs.Openers.{Own, Task, Txn, closed, ended}
 use Rattle.tdb_law.specs.Images.{image_map}
-use Rattle.tdb_law.specs.Outcomes.{moves_by}
+use Rattle.tdb_law.specs.Outcomes.{moves, moves_by}
 use Rattle.tdb_law.specs.Refusals.{refusal, says}
 use Rattle.tdb_law.specs.Refusals.Refusal.{IsPrepared}
 use Rattle.tdb_law.specs.Walks.{Lost}
@@ -48,15 +49,15 @@ use Rattle.tdb_holder.specs.Ends.{task_of}
 use Rattle.tdb_holder.specs.Given.{IsShortCommand}
 use Rattle.tdb_holder.specs.Prepared.{prepared_told, KnowsPrepared, PreparedFits}
 use Rattle.tdb_holder.specs.Refusing.{passes_prepared}
-use Rattle.tdb_holder.specs.Stages.{prepared_steps, Known, IsFit, IsSide, KnowsAt, KnowsFile}
-use Rattle.tdb_holder.specs.Turned.{KnowsLeft, MayTurn, StageTurned}
+use Rattle.tdb_holder.specs.Stages.{is_close, prepared_records, prepared_steps, Known, IsFit, IsSide, KnowsAt, KnowsFile}
+use Rattle.tdb_holder.specs.Turned.{IsLeft, KnowsLeft, MayTurn, StageTurned, keeps}
 use Rattle.tdb_holder.proofs.Filed.{file_by}
 use Rattle.tdb_holder.proofs.FinishTurns.{nothing_is_own}
 use Rattle.tdb_holder.proofs.InsideTurns.{cancel_ends, close_is_own, end_is_own, inside_is_own, refusal_ends, walk_shifts}
 use Rattle.tdb_holder.proofs.PreparedTold.{prepared_why, told_prepared, why_prepared}
 use Rattle.tdb_holder.proofs.Resting.{rests_like}
 use Rattle.tdb_holder.proofs.Sided.{begins, leaves, side_after}
-use Rattle.tdb_holder.proofs.Turning.{still_shift}
+use Rattle.tdb_holder.proofs.Turning.{close_still, group_still, still_shift}
 
 -- what is known and asked whatever the command is
 pub file_known : (f : Form) (left : PreparedTxn) (command : Option Command) (h : History) (k : Known) → KnowsAt f (At.Prepared left command) h k → KnowsPrepared left h k.file k.image
@@ -117,6 +118,11 @@ not_taken Given.EndWalk commit cancel close = refl
 not_taken Given.Seqnum commit cancel close = refl
 not_taken Given.Close commit cancel close = absurd (close refl)
 
+-- where others may read the file an end makes no call that changes it
+pub still_read : (left : PreparedTxn) (old new : History) → ((changed : Bool) → left ≡ Nothing changed → new ≡ old) → Some (prepared_records left) ≢ Some Write → new ≡ old
+still_read (Opened state) old new same only = absurd (only refl)
+still_read (Nothing changed) old new same only = same changed refl
+
 -- the replies with which a command ends the transaction without a commit
 abbrev pub EndsPrepared : Command → Reply → Type 0
 EndsPrepared Given.Cancel r = r ≡ Reply.Ok
@@ -149,46 +155,49 @@ module _ (f : Form) (o : Options) (table : ℕ → ℕ → ℕ) (owner : ℕ) (p
   Left c r = StageTurned f o table owner rs (at c) None h new k past s (task_of (law_command c) 0) (Ends r)
 
   -- the transaction is over, and the opener holds nothing
-  module _ (c : Command) (S : IsSide f o owner ps (at c) k past s) (K : KnowsFile f (at c) h k) (gone : (b : ℕ) → table_of rs owner b ≡ 0) (others : OthersHold owner ps rs) (rests : RestsAt new k.file) where
-    over : (y : Own) (r : Law.Reply) → ended y ≡ y → OwnBy c y r → Left c r
-    over y r out turned = record {
+  module _ (c : Command) (S : IsSide f o owner ps (at c) k past s) (K : KnowsFile f (at c) h k) (gone : (b : ℕ) → table_of rs owner b ≡ 0) (others : OthersHold owner ps rs) (rests : RestsAt new k.file)
+      (reads : Some (prepared_records left) ≢ Some Write → new ≡ h) (calm : moves f (law_command c) s.own ≡ false) where
+    over : (y : Own) (r : Law.Reply) → ended y ≡ y → y.live ≡ not (is_close (Some c)) → y.options ≡ s.own.options → OwnBy c y r → Left c r
+    over y r out live same turned = record {
       known = k;
       later = past;
       side = side_after s owner rs y None;
-      left = record { here = S.here; alone = λ p b differs. others p b differs ∙ S.alone p b differs; table = λ b. refl; nothing = gone; task = refl; own = out };
-      file = rests_like f new k.file K.forms.0 rests;
+      left = record { here = S.here; alone = λ p b differs. others p b differs ∙ S.alone p b differs; table = λ b. refl; nothing = gone; task = refl; own = out; live = live; options = same ∙ S.options };
+      file = (rests_like f new k.file K.forms.0 rests, reads);
+      kept = keeps refl;
+      still = calm;
       turned = turned;
     }
 
   -- a Cancel, a Close or another Prepare
   pub end_turned : (c : Command) (r : Reply) → EndsPrepared c r → IsSide f o owner ps (at c) k past s → KnowsFile f (at c) h k → MayTurn f table s (task_of (law_command c) 0)
-      → ((b : ℕ) → table_of rs owner b ≡ 0) → OthersHold owner ps rs → RestsAt new k.file → Left c (law_reply r)
-  end_turned Given.Cancel r is S K M gone others rests =
+      → ((b : ℕ) → table_of rs owner b ≡ 0) → OthersHold owner ps rs → RestsAt new k.file → (Some (prepared_records left) ≢ Some Write → new ≡ h) → Left c (law_reply r)
+  end_turned Given.Cancel r is S K M gone others rests reads =
       let t = task_of (OnGroup Cancel) 0 in
       let q = number_of f k.file in
       let O = S.own.has.outer in
       subst (λ r. Left Given.Cancel (law_reply r)) (sym is)
-      (over Given.Cancel S K gone others rests (ended s.own) Law.Reply.Done refl
+      (over Given.Cancel S K gone others rests reads (group_still f Cancel s.own) (ended s.own) Law.Reply.Done refl S.live refl
       (end_is_own f table (image_map f k.file) q past past s (side_after s owner rs (ended s.own) None) s.own S.own.txn Cancel Law.Reply.Done O.has
       (cancel_ends f s.own S.own.txn q (past.numbers s.here) O.has O.outer) gone (begins f o table owner ps (at Given.Cancel) k past s t S refl M)
       (leaves past s t (Ends Law.Reply.Done) owner rs (ended s.own))))
-  end_turned Given.Prepare r is S K M gone others rests =
+  end_turned Given.Prepare r is S K M gone others rests reads =
       let t = task_of (OnGroup Prepare) 0 in
       let q = number_of f k.file in
       let O = S.own.has.outer in
       subst (λ r. Left Given.Prepare (law_reply r)) (sym is)
-      (over Given.Prepare S K gone others rests (ended s.own) Law.Reply.InTransaction refl
+      (over Given.Prepare S K gone others rests reads (group_still f Prepare s.own) (ended s.own) Law.Reply.InTransaction refl S.live refl
       (end_is_own f table (image_map f k.file) q past past s (side_after s owner rs (ended s.own) None) s.own S.own.txn Prepare Law.Reply.InTransaction O.has
       (refusal_ends f s.own S.own.txn (OnGroup Prepare) IsPrepared q (past.numbers s.here) O.has O.outer tt
       (prepare_why f s.own S.own.txn (prepared_steps left) O.has S.own.has.prepared_is)) gone (begins f o table owner ps (at Given.Prepare) k past s t S refl M)
       (leaves past s t (Ends Law.Reply.InTransaction) owner rs (ended s.own))))
-  end_turned Given.Close r is S K M gone others rests =
+  end_turned Given.Close r is S K M gone others rests reads =
       let t = task_of (law_command Given.Close) 0 in
       subst (λ r. Left Given.Close (law_reply r)) (sym is)
-      (over Given.Close S K gone others rests (closed s.own) Law.Reply.Done refl
+      (over Given.Close S K gone others rests reads (close_still f s.own) (closed s.own) Law.Reply.Done refl refl refl
       (close_is_own f table (image_map f k.file) (number_of f k.file) past past s (side_after s owner rs (closed s.own) None) s.own S.own.txn S.own.has.outer.has gone
       (begins f o table owner ps (at Given.Close) k past s t S refl M) (leaves past s t (Ends Law.Reply.Done) owner rs (closed s.own))))
-  end_turned _ r is S K M gone others rests = absurd is
+  end_turned _ r is S K M gone others rests reads = absurd is
 
 -- a Commit where nothing is to be committed
 pub nothing_turned : (f : Form) (o : Options) (table : ℕ → ℕ → ℕ) (owner : ℕ) (ps rs : List Piece) (changed : Bool) (h : History) (k : Known) (past : Past) (s : Side)
@@ -201,7 +210,7 @@ nothing_turned f o table owner ps rs changed h k past s S K M gone others =
     let q = number_of f k.file in
     let txn = S.own.txn in
     let O = S.own.has.outer in
-    over f o table owner ps rs (Nothing changed) h h k past s Given.Commit S K gone others K.at.0 (ended s.own) Law.Reply.Done refl
+    over f o table owner ps rs (Nothing changed) h h k past s Given.Commit S K gone others K.at.0 (λ only. refl) (group_still f Commit s.own) (ended s.own) Law.Reply.Done refl S.live refl
     (nothing_is_own f table m q (prepared_steps (Nothing changed)) past past s (side_after s owner rs (ended s.own) None) s.own txn O S.own.has.prepared_is (few_steps changed)
     (λ commits. (file_by f k s.own txn (past.numbers s.here) O.has S.own.has.map S.numbers 7 0 (Ends Law.Reply.Done)
     (λ ends change. K.at.1 (sym S.own.change ∙ changed_in _ _ _ change))).done refl commits) gone
@@ -228,17 +237,22 @@ module _ (f : Form) (o : Options) (table : ℕ → ℕ → ℕ) (owner : ℕ) (p
     options = S.options;
     own = S.own;
     numbers = S.numbers;
+    mark = tt;
   }
 
   pub open_known : KnowsFile f given h k → KnowsFile f first h k
-  open_known K = record { at = (K.at, λ late. absurd (omega (arith, late))); forms = K.forms }
+  open_known K = record { at = (K.at, λ late. absurd (omega (arith, late))); forms = K.forms; reads = λ only. absurd (only refl) }
+
+  side_left : (after : Option Stage) (known : Known) (later : Past) (z : Side) → IsLeft f o owner rs first after known later z → IsLeft f o owner rs given after known later z
+  side_left None known later z L = L
+  side_left (Some stage) known later z L = L
 
   open_left : (after : Option Stage) (known : Known) → KnowsLeft f first after h new known → KnowsLeft f given after h new known
   open_left None known L = L
   open_left (Some stage) known L = L
 
   pub open_turned : (after : Option Stage) (t : Task) (u : Law.Turn) → StageTurned f o table owner rs first after h new k past s t u → StageTurned f o table owner rs given after h new k past s t u
-  open_turned after t u T = record { known = T.known; later = T.later; side = T.side; left = T.left; file = open_left after T.known T.file; turned = T.turned }
+  open_turned after t u T = record { known = T.known; later = T.later; side = T.side; left = side_left after T.known T.later T.side T.left; file = open_left after T.known T.file; kept = T.kept; still = T.still; turned = T.turned }
 
 -- a command that is refused
 module _ (f : Form) (o : Options) (table : ℕ → ℕ → ℕ) (owner : ℕ) (ps : List Piece) (left : PreparedTxn) (c : Command) (h : History) (k : Known) (past : Past) (s : Side)
@@ -284,7 +298,10 @@ module _ (f : Form) (o : Options) (table : ℕ → ℕ → ℕ) (owner : ℕ) (p
           options = S.options;
           own = S.own;
           numbers = S.numbers;
+          mark = tt;
         };
-        file = record { at = known_with f left (Some c) None h k K.at; forms = K.forms };
+        file = record { at = known_with f left (Some c) None h k K.at; forms = K.forms; reads = K.reads };
+        kept = keeps refl;
+        still = tt;
         turned = still;
       })

@@ -36,7 +36,7 @@ use Rattle.tdb_holder.specs.declared.stage.PreparedTxn.{PreparedTxn}
 use Rattle.tdb_holder.specs.declared.stage.PreparedTxn.TheVariants.{Opened, Nothing}
 use Rattle.tdb_holder.specs.declared.stage.Stage.TheVariants as At
 use Rattle.tdb_holder.specs.Ends.{task_of, prepared, IsBlocked, IsOuter, MarkRests}
-use Rattle.tdb_holder.specs.Stages.{plan_records, prepared_steps, was_changed, HasNumbers, HasOuter, Known, IsSide, KnowsFile}
+use Rattle.tdb_holder.specs.Stages.{plan_records, prepared_records, prepared_steps, was_changed, HasNumbers, HasOuter, Known, IsSide, KnowsFile}
 use Rattle.tdb_holder.specs.Turned.{MayTurn, StageTurned, RestsLike, keeps}
 use Rattle.tdb_holder.specs.Waits.{IsAlone, of_prepare}
 use Rattle.tdb_holder.specs.Wents.{has_changed, prepare_went}
@@ -105,11 +105,20 @@ nothing_changed : (s : PrepareStage) → (s ≡ Unchanged) ⊎ (stage_steps s �
 nothing_changed s (inl none) changed = absurd (let e : false ≡ true = ap has_changed (sym none) ∙ changed in cc)
 nothing_changed s (inr third) changed = third
 
+-- where something was changed all records are held for writing
+third_writes : (s : PrepareStage) → stage_steps s ≡ 2 → prepared_records (Nothing (has_changed s)) ≡ Write
+third_writes Unchanged third = absurd (omega (arith, third))
+third_writes (Begun txn) third = refl
+third_writes (Records txn) third = refl
+third_writes (Locked txn) third = refl
+third_writes (Planned state) third = refl
+third_writes (Filled state) third = refl
+
 -- where nothing was changed others may still read the file, which stays
 nothing_reads : (s : PrepareStage) {h new : History} {r : List ℕ} → (s ≡ Unchanged) ⊎ (stage_steps s ≡ 2) → new ≡ h → (Some (plan_records s) ≢ Some Write → seen h ≡ r)
-    → Some (if prepared_steps (Nothing (has_changed s)) == 0 then Read else Write) ≢ Some Write → seen new ≡ r
+    → Some (prepared_records (Nothing (has_changed s))) ≢ Some Write → seen new ≡ r
 nothing_reads s (inl none) same reads only = ap seen same ∙ reads (λ write. absurd (let e = ap (λ u. Some (plan_records u)) (sym none) ∙ write in cc e))
-nothing_reads s (inr third) same reads only = absurd (only (ap (λ n. Some (if n == 0 then Read else Write)) (nothing_steps s (inr third) ∙ third)))
+nothing_reads s (inr third) same reads only = absurd (only (ap Some (third_writes s third)))
 
 late_changed : (s : PrepareStage) → stage_steps s ≡ 4 → has_changed s ≡ true
 late_changed Unchanged late = absurd (omega (arith, late))

@@ -25,18 +25,12 @@ use Rattle.tdb_commit.specs.declared.starting.StartTurn.TheVariants as Starts
 use Rattle.tdb_holder.specs.declared.stage.PreparedTxn.TheVariants.{Nothing}
 use Rattle.tdb_holder.specs.declared.stage.Stage.TheVariants as Stages
 use Rattle.tdb_holder.specs.declared.stage.Went.{Went}
-use Rattle.tdb_holder.specs.Wanting.{commit_records, commit_wants, plan_records, plan_wants, prepared_records, records_with, stage_records, start_records, start_wants, RecordsGo}
+use Rattle.tdb_holder.specs.Wanting.{commit_wants, plan_wants, records_with, start_wants, RecordsGo}
+use Rattle.tdb_holder.specs.Stages.{commit_records, plan_records, prepared_records, stage_records, start_records}
+use Rattle.tdb_holder.proofs.PlanStages.{commit_writes, planned_writes}
 use Rattle.tdb_holder.specs.Wents.{commit_went, finish_went, has_changed, prepare_went, StartWent}
 
--- what goes on from its first step has all records for writing
-planning_late : (s : PrepareStage) → IsPlanning s → 1 ≤ stage_steps s → plan_records s ≡ Write
-planning_late Unchanged some late = absurd some
-planning_late (Begun txn) some late = absurd (omega (arith, late))
-planning_late (Records txn) some late = refl
-planning_late (Locked txn) some late = refl
-planning_late (Planned state) some late = refl
-planning_late (Filled state) some late = refl
-
+-- what goes on takes all records for writing, or has them
 planning_takes : (numbered : Bool) (s : PrepareStage) → IsPlanning s → records_with (plan_wants numbered s) (Some (plan_records s)) ≡ Some Write
 planning_takes numbered Unchanged some = absurd some
 planning_takes numbered (Begun txn) some = refl
@@ -44,10 +38,6 @@ planning_takes numbered (Records txn) some = refl
 planning_takes numbered (Locked txn) some = refl
 planning_takes numbered (Planned state) some = refl
 planning_takes numbered (Filled state) some = refl
-
-commit_late : (c : Committing) → MayGoOn c → 1 ≤ commit_steps c → commit_records c ≡ Write
-commit_late (Preparing p) some late = planning_late p.stage some late
-commit_late (Finishing s) some late = refl
 
 commit_takes : (c : Committing) → MayGoOn c → records_with (commit_wants c) (Some (commit_records c)) ≡ Some Write
 commit_takes (Preparing p) some = planning_takes p.numbered p.stage some
@@ -57,7 +47,7 @@ some_of : (a b : Kind) → a ≡ b → Some a ≡ Some b
 some_of a b e = ap (λ k. Some k) e
 
 pub commit_goes : (c : Committing) (turn : CommitTurn) → CommitLeads c turn → RecordsGo (Stages.Committing c) (commit_went turn).turn (commit_went turn).stage
-commit_goes c (Commits.Step next) leads = some_of (commit_records next) Write (commit_late next leads.1 (let more = leads.2 in omega (arith, more))) ∙ sym (commit_takes c leads.0)
+commit_goes c (Commits.Step next) leads = some_of (commit_records next) Write (commit_writes next leads.1 (let more = leads.2 in omega (arith, more))) ∙ sym (commit_takes c leads.0)
 commit_goes c (Commits.Blocked owner byte again) leads = ap (λ d. stage_records (Stages.Committing d)) leads.2
 commit_goes c (Commits.Full len need) leads = tt
 commit_goes c Commits.Memory leads = tt
@@ -83,7 +73,7 @@ opened_goes numbered (Filled state) last = refl
 pub prepare_goes : (p : Prepare.Preparing) (turn : PrepareTurn) → PrepareLeads p turn
     → RecordsGo (Stages.Preparing p) (prepare_went (has_changed p.stage) turn).turn (prepare_went (has_changed p.stage) turn).stage
 prepare_goes p (To.Step next) leads =
-    some_of (plan_records next.stage) Write (planning_late next.stage leads.1 (let more = leads.2 in omega (arith, more))) ∙ sym (planning_takes p.numbered p.stage leads.0)
+    some_of (plan_records next.stage) Write (planned_writes next.stage leads.1 (let more = leads.2 in omega (arith, more))) ∙ sym (planning_takes p.numbered p.stage leads.0)
 prepare_goes p (To.Blocked owner byte again) leads = ap (λ d. stage_records (Stages.Preparing d)) leads.2
 prepare_goes p To.Nothing leads = nothing_goes p.numbered p.stage
 prepare_goes p (To.Full len need) leads = tt
@@ -116,4 +106,4 @@ pub start_goes : (f : Form) (len : ℕ) (numbered : Bool) (s : Starting) (turn :
 start_goes f len numbered s (Starts.Step next) went leads is = subst (λ (w : Went). RecordsGo (Stages.Starting s) w.turn w.stage) (sym is) (start_next s next leads)
 start_goes f len numbered s (Starts.Blocked owner byte) went leads is = subst (λ (w : Went). RecordsGo (Stages.Starting s) w.turn w.stage) (sym is) refl
 start_goes f len numbered s Starts.Memory went leads is = subst (λ (w : Went). RecordsGo (Stages.Starting s) w.turn w.stage) (sym is) tt
-start_goes f len numbered s (Starts.Done txn) went leads is = subst (λ (w : Went). RecordsGo (Stages.Starting s) w.turn w.stage) (sym is.3) (start_done s leads.0)
+start_goes f len numbered s (Starts.Done txn) went leads is = subst (λ (w : Went). RecordsGo (Stages.Starting s) w.turn w.stage) (sym is.5) (start_done s leads.0)

@@ -34,8 +34,8 @@ use Rattle.tdb_holder.specs.declared.stage.PreparedTxn.TheVariants.{Opened, Noth
 use Rattle.tdb_holder.specs.declared.stage.Stage.{Stage}
 use Rattle.tdb_holder.specs.declared.stage.Stage.TheVariants as At
 use Rattle.tdb_holder.specs.Ends.{task_of}
-use Rattle.tdb_holder.specs.Stages.{prepared_steps, stage_task, Known, IsSide}
-use Rattle.tdb_holder.specs.Wanting.{plan_records, prepared_records, records_at, stage_records, start_records}
+use Rattle.tdb_holder.specs.Stages.{plan_records, prepared_records, prepared_steps, stage_records, stage_task, start_records, Known, IsSide}
+use Rattle.tdb_holder.specs.Wanting.{records_at}
 use Rattle.tdb_holder.proofs.Keeping.{keeps_nothing}
 use Rattle.tdb_holder.proofs.Planned.{has_plan}
 use Rattle.tdb_holder.proofs.Rows.{locked_none}

@@ -32,16 +32,6 @@ is_idle (At.Open txn command) = is_none command
 is_idle (At.Prepared left command) = is_none command
 is_idle _ = false
 
--- its command is a Close that has had no turn
-abbrev pub is_close : Option Command → Bool
-is_close (Some Given.Close) = true
-is_close _ = false
-
-abbrev pub closes_now : Stage → Bool
-closes_now (At.Open txn command) = is_close command
-closes_now (At.Prepared left command) = is_close command
-closes_now _ = false
-
 -- how many transactions are open within the one that takes commands
 abbrev pub stage_depth : Stage → ℕ
 stage_depth (At.Open txn command) = txn_depth txn.own.txn

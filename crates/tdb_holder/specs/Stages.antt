@@ -28,7 +28,8 @@ use Rattle.tdb_commit.specs.declared.committing.Committing.TheVariants as Commit
 use Rattle.tdb_commit.specs.declared.preparing.PrepareStage.{PrepareStage}
 use Rattle.tdb_commit.specs.declared.preparing.PrepareStage.TheVariants.{Unchanged, Begun}
 use Rattle.tdb_commit.specs.declared.preparing.Preparing.{Preparing}
-use Rattle.tdb_commit.specs.declared.starting.Starting.TheVariants.{Reading}
+use Rattle.tdb_commit.specs.declared.starting.Starting.{Starting}
+use Rattle.tdb_commit.specs.declared.starting.Starting.TheVariants as Starts
 use Rattle.tdb_inside.specs.Walks.{mark_in, RestsInside}
 use Rattle.tdb_plays.specs.InLaw.{law_command}
 use Rattle.tdb_plays.specs.declared.command.Command.{Command}
@@ -79,21 +80,32 @@ abbrev pub was_changed : PreparedTxn → Bool
 was_changed (Opened state) = true
 was_changed (Nothing changed) = changed
 
--- How the opener holds all records at a stage, if it does: for reading from the second step of its Start on, and for writing from the first
--- step of a Commit or Prepare of a changed transaction on.
+-- How it holds all records: the second step of a Start reads them, and the first of a Commit or a Prepare that has a change writes them.
+abbrev pub start_records : Starting → Option Kind
+start_records Starts.Begun = None
+start_records Starts.Claimed = None
+start_records Starts.Reading = Some Read
+
 abbrev pub plan_records : PrepareStage → Kind
 plan_records Unchanged = Read
 plan_records (Begun txn) = Read
 plan_records _ = Write
 
+abbrev pub commit_records : Committing → Kind
+commit_records (Commits.Preparing p) = plan_records p.stage
+commit_records (Commits.Finishing s) = Write
+
+abbrev pub prepared_records : PreparedTxn → Kind
+prepared_records (Opened state) = Write
+prepared_records (Nothing true) = Write
+prepared_records (Nothing false) = Read
+
 abbrev pub stage_records : Stage → Option Kind
-stage_records (At.Starting Reading) = Some Read
-stage_records (At.Starting s) = None
+stage_records (At.Starting s) = start_records s
 stage_records (At.Open txn command) = Some Read
-stage_records (At.Committing (Commits.Preparing p)) = Some (plan_records p.stage)
-stage_records (At.Committing (Commits.Finishing s)) = Some Write
+stage_records (At.Committing c) = Some (commit_records c)
 stage_records (At.Preparing p) = Some (plan_records p.stage)
-stage_records (At.Prepared left command) = Some (if prepared_steps left == 0 then Read else Write)
+stage_records (At.Prepared left command) = Some (prepared_records left)
 stage_records (At.Finishing s) = Some Write
 
 -- its command ends the opener itself

@@ -22,6 +22,7 @@ use Rattle.tdb_holder.specs.declared.stage.PreparedTxn.{PreparedTxn}
 use Rattle.tdb_holder.specs.declared.stage.PreparedTxn.TheVariants.{Opened, Nothing}
 use Rattle.tdb_holder.specs.declared.stage.Stage.{Stage}
 use Rattle.tdb_holder.specs.declared.stage.Stage.TheVariants as At
+use Rattle.tdb_holder.specs.Stages.{stage_records}
 use Rattle.tdb_holder.specs.declared.wanting.Wants.{Wants}
 use Rattle.tdb_holder.specs.declared.wanting.Wants.TheVariants as Wants
 
@@ -72,34 +73,6 @@ stage_wants (At.Preparing p) = plan_wants p.numbered p.stage
 stage_wants (At.Prepared left command) = Wants.Nothing
 stage_wants (At.Finishing s) = Wants.Nothing
 
--- How it holds all records: the second step of a Start reads them, and the first of a Commit or a Prepare that has a change writes them.
-abbrev pub start_records : Starting → Option Kind
-start_records Begun = None
-start_records Claimed = None
-start_records Reading = Some Read
-
-abbrev pub plan_records : PrepareStage → Kind
-plan_records Plans.Unchanged = Read
-plan_records (Plans.Begun txn) = Read
-plan_records _ = Write
-
-abbrev pub commit_records : Committing → Kind
-commit_records (Preparing p) = plan_records p.stage
-commit_records (Finishing s) = Write
-
-abbrev pub prepared_records : PreparedTxn → Kind
-prepared_records (Opened state) = Write
-prepared_records (Nothing true) = Write
-prepared_records (Nothing false) = Read
-
-abbrev pub stage_records : Stage → Option Kind
-stage_records (At.Starting s) = start_records s
-stage_records (At.Open txn command) = Some Read
-stage_records (At.Committing c) = Some (commit_records c)
-stage_records (At.Preparing p) = Some (plan_records p.stage)
-stage_records (At.Prepared left command) = Some (prepared_records left)
-stage_records (At.Finishing s) = Some Write
-
 -- so much of a byte beyond that of the sequence number it holds then
 abbrev pub records_at : Option Kind → ℕ → ℕ
 records_at None b = 0
@@ -110,9 +83,12 @@ abbrev pub records_with : Wants → Option Kind → Option Kind
 records_with (Wants.Records kind) held = Some kind
 records_with _ held = held
 
+abbrev pub records_by : Turn → Wants → Option Kind → Option Kind
+records_by (Turn.Blocked owner byte) wants held = held
+records_by _ wants held = records_with wants held
+
 abbrev pub records_after : Stage → Turn → Option Kind
-records_after stage (Turn.Blocked owner byte) = stage_records stage
-records_after stage _ = records_with (stage_wants stage) (stage_records stage)
+records_after stage turn = records_by turn (stage_wants stage) (stage_records stage)
 
 abbrev pub RecordsGo : Stage → Turn → Option Stage → Type 0
 RecordsGo stage turn after = IfSome after (λ later. stage_records later ≡ records_after stage turn)

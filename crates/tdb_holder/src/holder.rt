@@ -19,10 +19,10 @@ ghost use Rattle.tdb_holder.specs.declared.stage.Stage.TheVariants as Stage;
 ghost use Rattle.tdb_holder.specs.declared.wanting.Wants.TheVariants as Wants;
 ghost use Rattle.tdb_holder.specs.Ends.{task_of, IsBlocked};
 ghost use Rattle.tdb_holder.specs.Given.{IsShortCommand};
-ghost use Rattle.tdb_holder.specs.Holders.{closes_now, is_idle, left_stage, stage_depth, with_command, HolderTurned, StageMayLeave};
-ghost use Rattle.tdb_holder.specs.Stages.{stage_task, Known, IsFit, IsFitLeft, IsSide, KnowsFile, MayBeGiven};
+ghost use Rattle.tdb_holder.specs.Holders.{is_idle, left_stage, stage_depth, with_command, HolderTurned, StageMayLeave};
+ghost use Rattle.tdb_holder.specs.Stages.{is_closing, stage_records, stage_task, Known, IsFit, IsFitLeft, IsSide, KnowsFile, MayBeGiven};
 ghost use Rattle.tdb_holder.specs.Turned.{BeginsOn, MayTurn, StageTurned};
-ghost use Rattle.tdb_holder.specs.Wanting.{records_at, stage_records, stage_wants, wanted_by, RecordsGo};
+ghost use Rattle.tdb_holder.specs.Wanting.{records_at, stage_wants, wanted_by, RecordsGo};
 
 use crate::committing::commit_turn;
 use crate::finishing::finish_turn;
@@ -209,7 +209,7 @@ impl Holder {
 
     /// Whether its command is a Close.
     pub fn closes(&self) -> bool
-        ensures { result ≡ closes_now self.now.stage }
+        ensures { result ≡ is_closing self.now.stage }
     {
         matches!(
             &self.stage,

@@ -127,6 +127,7 @@ impl OpenTxn {
         ensures told { (f : Form) (o : Options) (base : List ℕ) (x : Own) (g : GroupCommand) → Ends g → HasOpen o self.now base x
             → option_map law_reply result ≡ option_map (says x) (refusal f (OnGroup g) x) }
         ensures whole { result ≡ None → txn_doomed self.now.own.txn ≡ false }
+        ensures unlocked { result ≡ None → nat_lt 0 (total_of self.now.held) ≡ false }
     {
         self.level().commit_refusal(&self.held)
     }

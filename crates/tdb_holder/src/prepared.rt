@@ -1,5 +1,5 @@
 //! The turns of an opener whose transaction is prepared.
-ghost use Rattle.std.specs.Prelude.{◌≡◌, ◌<◌, List, ℕ, Some, false, IsTrue, IfOk, OnOk};
+ghost use Rattle.std.specs.Prelude.{◌≡◌, ◌<◌, List, ℕ, Bool, Some, false, IsTrue, IfOk, OnOk};
 ghost use Rattle.tdb_disk.specs.Count.{HasCause};
 ghost use Rattle.tdb_disk.specs.Stop.{LeavesOnly};
 ghost use Rattle.tdb_space.specs.Form.{Form, form_in};
@@ -57,6 +57,7 @@ fn end_with<D: Disk>(
     ensures others { OthersHold owner locks.old locks.new }
     ensures undone { OnOk result (IsTrue D.tells → (r b : List ℕ) → KnowsPrepared left (D.history d.old) r b → RestsAt (D.history d.new) r) }
     ensures stops { IsTrue D.tells → (r b : List ℕ) → KnowsPrepared left (D.history d.old) r b → LeavesOnly (D.history d.old) (D.history d.new) (Reopens r) }
+    ensures still { (changed : Bool) → left ≡ PreparedTxn.Nothing changed → D.history d.new ≡ D.history d.old }
     ensures size { D.size d.new ≡ D.size d.old }
     ensures cause { HasCause (D.faults d.old) (D.faults d.new) result }
 {

@@ -1,5 +1,6 @@
 //! What the next turn of the opener aside wants of the lock bytes, and how it holds all records.
 ghost use Rattle.std.specs.Prelude.{◌≡◌, Some};
+ghost use Rattle.tdb_holder.specs.Stages as Stages;
 ghost use Rattle.tdb_holder.specs.Wanting as Spec;
 
 use crate::open_txn::OpenTxn;
@@ -72,7 +73,7 @@ fn plan_wants(preparing: &Preparing) -> Wants
 }
 
 fn start_records(starting: Starting) -> Option<Kind>
-    ensures { result ≡ Spec.start_records starting }
+    ensures { result ≡ Stages.start_records starting }
 {
     match starting {
         Starting::Begun | Starting::Claimed => None,
@@ -81,7 +82,7 @@ fn start_records(starting: Starting) -> Option<Kind>
 }
 
 fn plan_records(stage: &PrepareStage) -> Kind
-    ensures { result ≡ Spec.plan_records stage.now }
+    ensures { result ≡ Stages.plan_records stage.now }
 {
     match stage {
         PrepareStage::Unchanged | PrepareStage::Begun(_) => Kind::Read,
@@ -90,7 +91,7 @@ fn plan_records(stage: &PrepareStage) -> Kind
 }
 
 fn prepared_records(left: &PreparedTxn) -> Kind
-    ensures { result ≡ Spec.prepared_records left.now }
+    ensures { result ≡ Stages.prepared_records left.now }
 {
     match left {
         PreparedTxn::Nothing { changed: false } => Kind::Read,
@@ -121,7 +122,7 @@ impl Stage {
 
     /// How the opener holds all records, where it does.
     pub(crate) fn records(&self) -> Option<Kind>
-        ensures { result ≡ Spec.stage_records self.now }
+        ensures { result ≡ Stages.stage_records self.now }
     {
         match self {
             Stage::Starting(starting) => start_records(*starting),

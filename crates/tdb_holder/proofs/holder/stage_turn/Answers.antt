@@ -1,12 +1,14 @@
 -- Each stage turns as its own function does.
 use Rattle.std.proofs.Common.{◌≡◌, ℕ, List, Some, sym, ◌∙◌, ap, subst}
+use Rattle.tdb_disk.specs.Count.{HasCause}
 use Rattle.tdb_disk.specs.History.{History}
 use Rattle.tdb_disk.specs.Stop.{LeavesOnly}
 use Rattle.tdb_space.specs.Form.{Form, form_in}
+use Rattle.tdb_txn.specs.Committing.{MayCommit}
 use Rattle.tdb_holder.specs.declared.stage.Stage.TheVariants as Stage
 use Rattle.tdb_holder.specs.Holders.{StageMayLeave}
-use Rattle.tdb_holder.specs.Stages.{KnowsFile}
-use Rattle.tdb_holder.proofs.HolderTurns.{TurnsAt}
+use Rattle.tdb_holder.specs.Stages.{IsFit, KnowsFile}
+use Rattle.tdb_holder.proofs.HolderTurns.{open_form, TurnsAt}
 use Rattle.tdb_holder.proofs.Opened.{weaker}
 use Rattle.tdb_holder.proofs.PreparedTurns.{file_known}
 use Rattle.tdb_holder.proofs.holder.stage_turn.Goals as goal
@@ -15,7 +17,16 @@ pub returns-in-Open-clause-stops : goal.returns-in-Open-clause-stops
 returns-in-Open-clause-stops g c told f k =
     let h = g.D.Disk.history c.args.d.now in
     subst (λ stage. KnowsFile f stage h k → LeavesOnly h (g.D.Disk.history c.open_turn.new.d) (StageMayLeave stage h k)) (sym (c.in-Open.is ∙ ap (Stage.Open c.in-Open.txn) c.given-command.ensures))
-    (λ K. c.open_turn.ensures.stops told f k K)
+    (λ K.
+    let same = open_form f c.args.header.now c.args.options.now.limit (g.D.Disk.size c.args.d.now) c.in-Open.txn c.given-command.result h k
+    (subst (λ stage. IsFit stage c.args.header.now c.args.options.now.limit (g.D.Disk.size c.args.d.now)) (c.in-Open.is ∙ ap (Stage.Open c.in-Open.txn) c.given-command.ensures) c.requires.fits).0 K in
+    c.open_turn.ensures.stops told k (subst (λ g. KnowsFile g (Stage.Open c.in-Open.txn (Some c.given-command.result)) h k) same K))
+
+pub returns-in-Open-clause-cause : goal.returns-in-Open-clause-cause
+returns-in-Open-clause-cause g c told f k =
+    let h = g.D.Disk.history c.args.d.now in
+    subst (λ stage. KnowsFile f stage h k → HasCause (g.D.Disk.faults c.args.d.now) (g.D.Disk.faults c.open_turn.new.d) c.open_turn.result) (sym (c.in-Open.is ∙ ap (Stage.Open c.in-Open.txn) c.given-command.ensures))
+    (λ K. c.open_turn.ensures.cause told (subst (λ img. MayCommit c.in-Open.txn.own.txn img) (sym K.at.0.file) K.at.0.may))
 
 pub returns-in-Committing-clause-turned : goal.returns-in-Committing-clause-turned
 returns-in-Committing-clause-turned g c =

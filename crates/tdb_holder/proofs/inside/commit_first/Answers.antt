@@ -8,6 +8,7 @@ use Rattle.tdb_holder.specs.declared.options.Options.{Options}
 use Rattle.tdb_holder.specs.declared.stage.Stage.TheVariants as Stage
 use Rattle.tdb_holder.specs.Wents.{TurnsFrom}
 use Rattle.tdb_holder.proofs.OpenEnds.{first_fits, first_rests}
+use Rattle.tdb_holder.specs.Wanting.{RecordsGo}
 use Rattle.tdb_holder.proofs.inside.commit_first.Goals as goal
 
 pub returns-clause-turned : goal.returns-clause-turned
@@ -36,3 +37,7 @@ returns-clause-stops g c told r image =
     let h = g.D.Disk.history c.args.d.now in
     let new = g.D.Disk.history c.commit_turn.new.d in
     subst (λ m. KnowsCommit m h r image → LeavesOnly h new (CommitMayLeave m r image)) c.new.ensures (c.commit_turn.ensures.stops told r image)
+
+pub returns-clause-records : goal.returns-clause-records
+returns-clause-records g c =
+    subst (λ m. IfOk c.commit_turn.result (λ went. RecordsGo (Stage.Committing m) went.turn went.stage)) c.new.ensures c.commit_turn.ensures.records

@@ -11,7 +11,7 @@ use Rattle.tdb_plays.specs.declared.command.Command.TheVariants as Given
 use Rattle.tdb_holder.specs.declared.stage.Stage.TheVariants as Stage
 use Rattle.tdb_holder.specs.Ends.{task_of}
 use Rattle.tdb_holder.specs.Turned.{MayTurn, StageTurned}
-use Rattle.tdb_holder.proofs.OpenEnds.{commit_goes, knows_first, open_stops, refuses}
+use Rattle.tdb_holder.proofs.OpenEnds.{commit_goes, knows_first, open_stops, refuses, commit_records_go}
 use Rattle.tdb_holder.proofs.Opened.{told_none, told_why, weaker}
 use Rattle.tdb_holder.proofs.Sided.{same_task}
 use Rattle.tdb_holder.proofs.inside.commit_outer.Goals as goal
@@ -48,3 +48,9 @@ returns-clause-stops g c told f k K =
     let a = c.args in
     let h = g.D.Disk.history a.d.now in
     c.commit_first.ensures.stops told k.file k.image (knows_first f h a.txn Given.Commit k K a.txn.own.changed)
+
+pub returns-clause-records : goal.returns-clause-records
+returns-clause-records g c =
+    let a = c.args in
+    weaker c.commit_first.result _ _
+    (λ went go. commit_records_go a.txn c.requires.outer (c.end_refusal.ensures.whole c.in_default.is) (c.end_refusal.ensures.unlocked c.in_default.is) went.turn went.stage go) c.commit_first.ensures.records

@@ -1,5 +1,5 @@
 -- Each command is what takes its turn.
-use Rattle.std.proofs.Common.{Some, sym, subst}
+use Rattle.std.proofs.Common.{Some, sym, subst, IfOk}
 use Rattle.tdb_disk.specs.Stop.{LeavesOnly}
 use Rattle.tdb_space.specs.Form.{form_in}
 use Rattle.tdb_space.specs.Undoing.{Reopens}
@@ -8,6 +8,7 @@ use Rattle.tdb_holder.specs.Stages.{KnowsFile}
 use Rattle.tdb_holder.specs.Wents.{TurnsFrom}
 use Rattle.tdb_holder.proofs.OpenEnds.{open_stops}
 use Rattle.tdb_holder.proofs.Opened.{stays_outer, weaker}
+use Rattle.tdb_holder.specs.Wanting.{RecordsGo}
 use Rattle.tdb_holder.proofs.inside.outer_turn.Goals as goal
 
 pub returns-in-Close-clause-turned : goal.returns-in-Close-clause-turned
@@ -75,3 +76,11 @@ returns-in_default-clause-stops g c told k K =
 pub stay_turn-requires-clause-inside : goal.stay_turn-requires-clause-inside
 stay_turn-requires-clause-inside g c =
     let d = c.in_default in stays_outer c.args.command _ d.not-Close d.not-Cancel d.not-Commit d.not-Prepare c.requires.fits.1.1
+
+pub returns-in-Commit-clause-records : goal.returns-in-Commit-clause-records
+returns-in-Commit-clause-records g c =
+    subst (λ k. IfOk c.commit_outer.result (λ went. RecordsGo (Stage.Open c.args.txn (Some k)) went.turn went.stage)) (sym c.in-Commit.is) c.commit_outer.ensures.records
+
+pub returns-in-Prepare-clause-records : goal.returns-in-Prepare-clause-records
+returns-in-Prepare-clause-records g c =
+    subst (λ k. IfOk c.prepare_outer.result (λ went. RecordsGo (Stage.Open c.args.txn (Some k)) went.turn went.stage)) (sym c.in-Prepare.is) c.prepare_outer.ensures.records

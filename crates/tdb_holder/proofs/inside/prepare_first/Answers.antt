@@ -8,6 +8,7 @@ use Rattle.tdb_holder.specs.declared.options.Options.{Options}
 use Rattle.tdb_holder.specs.declared.stage.Stage.TheVariants as Stage
 use Rattle.tdb_holder.specs.Wents.{TurnsFrom}
 use Rattle.tdb_holder.proofs.OpenEnds.{first_fits, first_rests}
+use Rattle.tdb_holder.specs.Wanting.{RecordsGo}
 use Rattle.tdb_holder.proofs.inside.prepare_first.Goals as goal
 
 pub returns-clause-turned : goal.returns-clause-turned
@@ -30,3 +31,7 @@ prepare_turn-requires g c =
     let most = q.limit in
     let plan = c.if-not-may_plan.ensures.plan (search rules) size a.limit q.outer q.whole q.sized q.within (omega (arith, most)) in
     record { fits = subst (λ (p : Preparing). StageFits p.stage size a.limit) (sym c.new.ensures) (first_fits a.own.txn a.own.changed size a.limit plan) }
+
+pub returns-clause-records : goal.returns-clause-records
+returns-clause-records g c =
+    subst (λ m. IfOk c.prepare_turn.result (λ went. RecordsGo (Stage.Preparing m) went.turn went.stage)) c.new.ensures c.prepare_turn.ensures.records

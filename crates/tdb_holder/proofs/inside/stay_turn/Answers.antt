@@ -14,6 +14,8 @@ use Rattle.tdb_holder.specs.Turned.{MayTurn, StageTurned}
 use Rattle.tdb_holder.specs.Wents.{TurnsFrom}
 use Rattle.tdb_holder.proofs.OpenTurns.{stays_turned}
 use Rattle.tdb_holder.proofs.Sided.{same_task}
+use Rattle.tdb_holder.proofs.OpenEnds.{stay_records}
+use Rattle.tdb_holder.specs.Wanting.{RecordsGo}
 use Rattle.tdb_holder.proofs.inside.stay_turn.Goals as goal
 
 pub returns-clause-turned : goal.returns-clause-turned
@@ -40,3 +42,8 @@ returns-clause-turned g c told owner ps =
     subst (λ went. StageTurned f o table owner ps stage went.stage h new k past s t (law_turn went.turn)) (sym c.on.ensures)
     (subst (λ u. StageTurned f o table owner ps stage (Some (Stage.Open next None)) h new k past s u (Ends (law_reply i.reply))) mine
     (stays_turned o table owner ps h new old next a.command i.reply k past s c.turn.ensures.history form c.turn.ensures.numbered short S K (subst (MayTurn f table s) (sym mine) M) (still K.at.1 may) (goes S.own K.at.1 may))))
+
+pub returns-clause-records : goal.returns-clause-records
+returns-clause-records g c =
+    let a = c.args in
+    subst (λ went. RecordsGo (Stage.Open a.txn (Some a.command)) went.turn went.stage) (sym c.on.ensures) (sym (stay_records a.txn a.command c.requires.inside))

@@ -11,7 +11,7 @@ use Rattle.tdb_holder.specs.Stages.{stage_task, IsFitLeft, IsSide, KnowsFile}
 use Rattle.tdb_holder.specs.Turned.{MayTurn, StageTurned}
 use Rattle.tdb_holder.specs.Wanting.{RecordsGo}
 use Rattle.tdb_holder.proofs.Opened.{stays_open, weaker}
-use Rattle.tdb_holder.proofs.PreparedTurns.{end_turned, file_known, fits_without, not_taken, over_with, prepared_stops, refused_turned, EndsPrepared}
+use Rattle.tdb_holder.proofs.PreparedTurns.{end_turned, file_known, fits_without, not_taken, over_with, prepared_stops, refused_turned, still_read, EndsPrepared}
 use Rattle.tdb_holder.proofs.Sided.{same_task}
 use Rattle.tdb_holder.proofs.prepared.prepared_turn.Goals as goal
 
@@ -46,7 +46,7 @@ returns-in-Cancel-clause-turned g c =
     subst (λ (w : Went). StageTurned f o table a.owner rs stage w.stage h new k past s t (law_turn w.turn)) (sym is)
     (subst (λ u. StageTurned f o table a.owner rs stage None h new k past s u (Ends (law_reply Reply.Ok))) mine
     (end_turned f o table a.owner a.locks.now rs a.left h new k past s a.command Reply.Ok ends S K (subst (MayTurn f table s) (sym mine) M) gone c.end_with.ensures.others
-    (undone told k.file k.image (file_known f a.left (Some a.command) h k K.at)))))
+    (undone told k.file k.image (file_known f a.left (Some a.command) h k K.at)) (still_read a.left h new c.end_with.ensures.still))))
 
 pub returns-in-Prepare-clause-turned : goal.returns-in-Prepare-clause-turned
 returns-in-Prepare-clause-turned g c =
@@ -64,7 +64,7 @@ returns-in-Prepare-clause-turned g c =
     subst (λ (w : Went). StageTurned f o table a.owner rs stage w.stage h new k past s t (law_turn w.turn)) (sym is)
     (subst (λ u. StageTurned f o table a.owner rs stage None h new k past s u (Ends (law_reply Reply.InTransaction))) mine
     (end_turned f o table a.owner a.locks.now rs a.left h new k past s a.command Reply.InTransaction ends S K (subst (MayTurn f table s) (sym mine) M) gone c.end_with-in-Prepare.ensures.others
-    (undone told k.file k.image (file_known f a.left (Some a.command) h k K.at)))))
+    (undone told k.file k.image (file_known f a.left (Some a.command) h k K.at)) (still_read a.left h new c.end_with-in-Prepare.ensures.still))))
 
 pub returns-in_default : goal.returns-in_default
 returns-in_default g c =

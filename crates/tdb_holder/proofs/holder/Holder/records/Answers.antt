@@ -1,7 +1,8 @@
 -- So it holds all records.
 use Rattle.std.proofs.Common.{sym, ◌∙◌, ap}
 use Rattle.tdb_holder.specs.Holders.{HolderState}
-use Rattle.tdb_holder.specs.Wanting.{records_at, stage_records}
+use Rattle.tdb_holder.specs.Wanting.{records_at}
+use Rattle.tdb_holder.specs.Stages.{stage_records}
 use Rattle.tdb_holder.proofs.RecordsHeld.{records_law}
 use Rattle.tdb_holder.proofs.holder.Holder.records.Goals as goal
 
