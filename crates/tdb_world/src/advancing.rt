@@ -16,7 +16,7 @@ ghost use Rattle.tdb_world.specs.Played.{moment, Led, Nothing, TakesOne, TakesLa
 
 use crate::fault::RunFault;
 use crate::openers::Openers;
-use crate::starting::Standing;
+use crate::starting::OpenerStanding;
 use crate::telling::{put_line, tell, tell_growth};
 use tdb_locks::Turn;
 use tdb_plays::{Command, Line, TurnReport};
@@ -131,9 +131,9 @@ impl Openers {
         ensures wrote { Wrote S.Space s.old s.new }
     {
         match self.standing(who) {
-            Standing::Absent => tell(report, Line::Absent { who }),
-            Standing::Idle => tell(report, Line::Idle { who }),
-            Standing::Busy => match self.told_turn(s, who, report) {
+            OpenerStanding::Absent => tell(report, Line::Absent { who }),
+            OpenerStanding::Idle => tell(report, Line::Idle { who }),
+            OpenerStanding::Busy => match self.told_turn(s, who, report) {
                 Ok(_) => Ok(()),
                 Err(fault) => Err(fault),
             },
@@ -159,9 +159,9 @@ impl Openers {
         ensures wrote { Wrote S.Space s.old s.new }
     {
         match self.standing(who) {
-            Standing::Absent => tell(report, Line::Absent { who }),
-            Standing::Idle => tell(report, Line::Idle { who }),
-            Standing::Busy => self.go_on(s, who, report),
+            OpenerStanding::Absent => tell(report, Line::Absent { who }),
+            OpenerStanding::Idle => tell(report, Line::Idle { who }),
+            OpenerStanding::Busy => self.go_on(s, who, report),
         }
     }
 }

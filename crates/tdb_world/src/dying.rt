@@ -13,7 +13,7 @@ ghost use Rattle.tdb_world.specs.Played.{moment, Led, PlaysLast, Begun};
 
 use crate::fault::RunFault;
 use crate::openers::Openers;
-use crate::starting::Standing;
+use crate::starting::OpenerStanding;
 use crate::telling::{put_line, tell};
 use tdb_plays::{Line, TurnReport};
 
@@ -28,8 +28,8 @@ impl Openers {
         ensures may_not { result ≡ false → (img : List ℕ) → MayDieIn (state_in self.now img) (law_opener who) → ⊥ }
     {
         match self.standing(who) {
-            Standing::Idle => true,
-            Standing::Absent | Standing::Busy => false,
+            OpenerStanding::Idle => true,
+            OpenerStanding::Absent | OpenerStanding::Busy => false,
         }
     }
 
@@ -59,9 +59,9 @@ impl Openers {
             (PlaysLast (form_in self.old.header) (state_in self.old img) (LawPlay.Die (law_opener who))) }
     {
         match self.standing(who) {
-            Standing::Absent => tell(report, Line::Absent { who }),
-            Standing::Busy => tell(report, Line::Occupied { who }),
-            Standing::Idle => {
+            OpenerStanding::Absent => tell(report, Line::Absent { who }),
+            OpenerStanding::Busy => tell(report, Line::Occupied { who }),
+            OpenerStanding::Idle => {
                 report.reserve(1)?;
                 self.die(who);
                 put_line(report, Line::Died { who });

@@ -35,3 +35,4 @@ pub use crate::laws::{
 };
 pub use crate::openers::{JoinRefusal, MOST_OPENERS, Openers};
 pub use crate::options::Options;
+pub use crate::starting::OpenerStanding;

@@ -130,8 +130,22 @@ impl Openers {
     }
 
     /// Where it takes its memory.
-    pub(crate) fn alloc(&self) -> Global {
+    pub fn alloc(&self) -> Global {
         self.alloc
+    }
+
+    /// The header of the file.
+    pub fn header(&self) -> &Header
+        ensures { result.now ≡ self.now.header }
+    {
+        &self.header
+    }
+
+    /// How the file is used.
+    pub fn options(&self) -> &Options
+        ensures { result.now ≡ self.now.options }
+    {
+        &self.options
     }
 
     /// How many openers have joined.
@@ -142,8 +156,9 @@ impl Openers {
         self.list.len() as u32
     }
 
-    /// The command of an opener as a report tells it, at the cost of its key's and its value's length.
-    pub(crate) fn told(&self, who: u32) -> Result<Command, AllocError>
+    /// The command of an opener as a report tells it. `AllocError` where there is no memory for the copies of its key and
+    /// its value. Cost: their length.
+    pub fn told(&self, who: u32) -> Result<Command, AllocError>
         requires { (x : Opener) × (t : Task) × IsBusy self.now who x t }
         ensures { IfOk result (λ command. (x : Opener) (t : Task) → IsBusy self.now who x t → law_command command ≡ command_in t.job) }
     {

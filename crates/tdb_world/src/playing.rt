@@ -16,7 +16,7 @@ ghost use Rattle.tdb_world.specs.Played.{moment, Led, PlaysLast, Begun, ComesTo,
 
 use crate::fault::RunFault;
 use crate::openers::Openers;
-use crate::starting::Standing;
+use crate::starting::OpenerStanding;
 use crate::telling::tell;
 use tdb_plays::{Command, Line, Play, TurnReport};
 use tdb_space::Space;
@@ -45,9 +45,9 @@ impl Openers {
         ensures wrote { Wrote S.Space s.old s.new }
     {
         match self.standing(who) {
-            Standing::Absent => tell(report, Line::Absent { who }),
-            Standing::Busy => tell(report, Line::Occupied { who }),
-            Standing::Idle => match self.give_copy(who, command) {
+            OpenerStanding::Absent => tell(report, Line::Absent { who }),
+            OpenerStanding::Busy => tell(report, Line::Occupied { who }),
+            OpenerStanding::Idle => match self.give_copy(who, command) {
                 Ok(()) => self.go_on(s, who, report),
                 Err(fault) => Err(fault),
             },

@@ -18,26 +18,29 @@ use tdb_plays::{Command, Line, TurnReport};
 
 /// How the opener with a number stands: it isn't live, it has no command, or it has one.
 #[derive(Clone, Copy, Debug, PartialEq, Eq)]
-pub(crate) enum Standing {
+pub enum OpenerStanding {
+    /// No live opener has the number.
     Absent,
+    /// It is live, and has no command.
     Idle,
+    /// It is live, and has a command that isn't done.
     Busy,
 }
 
 impl Openers {
-    /// How the opener with this number stands.
-    pub(crate) fn standing(&self, who: u32) -> Standing
+    /// How the opener with this number, counted from 1, stands.
+    pub fn standing(&self, who: u32) -> OpenerStanding
         requires { 1 ≤ who }
-        ensures absent { result ≡ Standing.Absent → (img : List ℕ) → ((state_in self.now img).own (law_opener who)).live ≡ false }
-        ensures idle { result ≡ Standing.Idle → (x : Opener) × IsFree self.now who x }
-        ensures busy { result ≡ Standing.Busy → (x : Opener) × (t : Task) × IsBusy self.now who x t × (x.live ≡ true) }
+        ensures absent { result ≡ OpenerStanding.Absent → (img : List ℕ) → ((state_in self.now img).own (law_opener who)).live ≡ false }
+        ensures idle { result ≡ OpenerStanding.Idle → (x : Opener) × IsFree self.now who x }
+        ensures busy { result ≡ OpenerStanding.Busy → (x : Opener) × (t : Task) × IsBusy self.now who x t × (x.live ≡ true) }
     {
         match self.opener(who) {
             Some(opener) if opener.live => match opener.task {
-                Some(_) => Standing::Busy,
-                None => Standing::Idle,
+                Some(_) => OpenerStanding::Busy,
+                None => OpenerStanding::Idle,
             },
-            _ => Standing::Absent,
+            _ => OpenerStanding::Absent,
         }
     }
 
@@ -108,9 +111,9 @@ impl Openers {
             (PlaysLast (form_in self.old.header) (state_in self.old img) (LawPlay.Give (law_opener who) (law_command command.now))) }
     {
         match self.standing(who) {
-            Standing::Absent => tell(report, Line::Absent { who }),
-            Standing::Busy => tell(report, Line::Occupied { who }),
-            Standing::Idle => self.give_copy(who, command),
+            OpenerStanding::Absent => tell(report, Line::Absent { who }),
+            OpenerStanding::Busy => tell(report, Line::Occupied { who }),
+            OpenerStanding::Idle => self.give_copy(who, command),
         }
     }
 }
