@@ -47,7 +47,7 @@ rows_are f (Delete key) = refl
 rows_are f Wipe = refl
 
 -- no lock of a list covers a byte
-abbrev Misses : ℕ → List Lock → Type 0
+abbrev pub Misses : ℕ → List Lock → Type 0
 Misses b [] = Unit {0}
 Misses b (l ∷ ls) = ((b < l.start) ⊎ (l.end ≤ b)) × Misses b ls
 
@@ -58,7 +58,7 @@ bare_lock : (p v : Bool) (s : ℕ) → v ≡ false → (if p && v then s else 0)
 bare_lock true v s e = rw e refl
 bare_lock false v s e = refl
 
-missed : (ls : List Lock) (n b : ℕ) → Misses b ls → locked ls n b ≡ 0
+pub missed : (ls : List Lock) (n b : ℕ) → Misses b ls → locked ls n b ≡ 0
 missed [] n b out = refl
 missed (l ∷ ls) n b out = omega (arith, bare_lock (nat_lt l.turn n) (covers l b) l.strength (not_covered l b out.0), missed ls n b out.1)
 

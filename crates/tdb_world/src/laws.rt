@@ -1,6 +1,7 @@
 // The laws that lift what an opener does to the world.
 
 ghost use Rattle.tdb_world.specs.Aside.{ImageKeepsWorld, ImageKeepsFile, LockKeepsFile};
+ghost use Rattle.tdb_world.specs.Aside.{LowIsFree};
 ghost use Rattle.tdb_world.specs.Laws.{EmptyFileStands, EmptyIsLoaded, EmptyStands};
 ghost use Rattle.tdb_world.specs.Laws.{JoinJoins, JoinKeepsFile, JoinKeepsWorld};
 ghost use Rattle.tdb_world.specs.Laws.{GiftIsGiven, GiftKeepsFile, GiftKeepsWorld};
@@ -60,6 +61,12 @@ pub fn image_is_replaced()
     ensures world { ImageKeepsWorld }
     ensures file { ImageKeepsFile }
     ensures locked { LockKeepsFile }
+{}
+
+/// Between two turns no opener holds a lock byte below that of the free list: not those of the opening lock and of the
+/// transaction lock, nor that of the sequence number. The law is over all worlds; the function does nothing.
+pub fn low_is_free()
+    ensures law { LowIsFree }
 {}
 
 /// A turn that does to the lock table what its row allows leaves a world that stands, whatever the bytes of the file
