@@ -50,7 +50,7 @@ all_off (Some a) b off = ap (λ z. max (if z then strength_of a.0 else 0) 0) off
 once_held : (kind : Kind) (count b : ℕ) → all_held (all_of (Some (kind, count))) b ≡ wants_all kind b
 once_held kind count b = omega arith
 
-strong_some : (kind : Kind) → (0 < strength_of kind) × (strength_of kind ≤ 2)
+pub strong_some : (kind : Kind) → (0 < strength_of kind) × (strength_of kind ≤ 2)
 strong_some Read = (omega arith, omega arith)
 strong_some Write = (omega arith, omega arith)
 

@@ -33,6 +33,7 @@ pub mod Granted
 pub mod LockEnds
 pub mod Aside
 pub mod Images
+pub mod Sharing
 pub mod Endings
 pub mod Numbered
 pub mod PlainRows

@@ -17,6 +17,7 @@ use Rattle.tdb_steps.specs.Holdings.{table_of}
 use Rattle.tdb_steps.specs.LockRows.{strength_of}
 use Rattle.tdb_world.specs.declared.opener.Opener.{Opener}
 use Rattle.tdb_world.specs.declared.options.Options.{Options}
+use Rattle.tdb_world.specs.Calm.{WritesNoRecord}
 use Rattle.tdb_world.specs.Given.{holds_chains}
 use Rattle.tdb_world.specs.Openers.{all_of}
 use Rattle.tdb_world.specs.States.{state_of, WorldStands, FileStands}
@@ -81,3 +82,13 @@ LockKeepsFile = (f : Form) (options : Options) (xs : List Opener) (ps : List Pie
 abbrev pub LowIsFree : Type 0
 LowIsFree = (f : Form) (options : Options) (xs : List Opener) (ps : List Piece) (a : List ℕ) (size : ℕ)
     → WorldStands f options xs ps a size → (o b : ℕ) → b < 164 → table_of ps o b ≡ 0
+
+-- While an opener that has nothing else holds all records, for reading or for writing, no other opener writes one,
+abbrev pub OthersWriteNone : Type 0
+OthersWriteNone = (f : Form) (options : Options) (xs : List Opener) (ps : List Piece) (a : List ℕ) (size who count : ℕ) (kind : Kind) (x : Opener)
+    → WorldStands f options xs ps a size → slice_get xs who ≡ Some x → IsBare x → x.held.all ≡ Some (kind, count) → (o : ℕ) → o ≢ who → WritesNoRecord ps o
+
+-- and no command holds one that is in no list, so the image is accepted as it is.
+abbrev pub RecordsAreFree : Type 0
+RecordsAreFree = (f : Form) (options : Options) (xs : List Opener) (ps : List Piece) (a : List ℕ) (size who count : ℕ) (kind : Kind) (x : Opener)
+    → WorldStands f options xs ps a size → slice_get xs who ≡ Some x → IsBare x → x.held.all ≡ Some (kind, count) → FileStands f xs a → AcceptWith f a []

@@ -1,7 +1,7 @@
 // The laws that lift what an opener does to the world.
 
 ghost use Rattle.tdb_world.specs.Aside.{ImageKeepsWorld, ImageKeepsFile, LockKeepsFile};
-ghost use Rattle.tdb_world.specs.Aside.{LowIsFree};
+ghost use Rattle.tdb_world.specs.Aside.{LowIsFree, OthersWriteNone, RecordsAreFree};
 ghost use Rattle.tdb_world.specs.Laws.{EmptyFileStands, EmptyIsLoaded, EmptyStands};
 ghost use Rattle.tdb_world.specs.Laws.{JoinJoins, JoinKeepsFile, JoinKeepsWorld};
 ghost use Rattle.tdb_world.specs.Laws.{GiftIsGiven, GiftKeepsFile, GiftKeepsWorld};
@@ -61,6 +61,14 @@ pub fn image_is_replaced()
     ensures world { ImageKeepsWorld }
     ensures file { ImageKeepsFile }
     ensures locked { LockKeepsFile }
+{}
+
+/// While an opener that has nothing else holds all records, for reading or for writing, no other opener holds a record's
+/// byte for writing, and no command holds a record that is in no list: the image is accepted as it is. The law is over all
+/// worlds; the function does nothing.
+pub fn records_are_free()
+    ensures write { OthersWriteNone }
+    ensures accepted { RecordsAreFree }
 {}
 
 /// Between two turns no opener holds a lock byte below that of the free list: not those of the opening lock and of the

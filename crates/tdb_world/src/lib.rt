@@ -30,8 +30,9 @@ mod walking;
 pub use crate::fault::RunFault;
 pub use crate::laws::{
     cursors_are_beside, empty_stands, gift_stands, image_is_ready, image_is_replaced, join_stands,
-    keys_are_counted, low_is_free, opener_is_ready, report_is_lawful, turn_is_turned,
-    turn_keeps_file, turn_keeps_world, walk_is_turned, walk_keeps_file, walk_keeps_world,
+    keys_are_counted, low_is_free, opener_is_ready, records_are_free, report_is_lawful,
+    turn_is_turned, turn_keeps_file, turn_keeps_world, walk_is_turned, walk_keeps_file,
+    walk_keeps_world,
 };
 pub use crate::openers::{JoinRefusal, MOST_OPENERS, Openers};
 pub use crate::options::Options;
