@@ -41,7 +41,7 @@ refused_else f x c r out (has_ended is free none told) asks = let bad = sym asks
 
 -- so its job asks for the number
 asks_job : (f : Form) (x : Own) (job : Job) (n size : ℕ) → x.txn ≡ None → JobStands f x job n size → command_in job ≡ Seqnum → job ≡ Jobs.Seqnum
-asks_job f x (Jobs.Refused command reply) n size out K asks = absurd (refused_else f x (law_command command) _ out K.2 asks)
+asks_job f x (Jobs.Refused command reply) n size out K asks = absurd (refused_else f x (law_command command) _ out K.1 asks)
 asks_job f x (Jobs.Plain d) n size out K asks = absurd (cc asks)
 asks_job f x (Jobs.Check checking) n size out K asks = absurd (cc asks)
 asks_job f x (Jobs.Locking locking) n size out K asks = absurd (cc asks)

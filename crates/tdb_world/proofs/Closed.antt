@@ -4,6 +4,7 @@ use Rattle.std.proofs.lemmas.Bool.{cases_eq}
 use Rattle.tdb_space.specs.Form.{form_in}
 use Rattle.tdb_locks.specs.LockTable.{held}
 use Rattle.tdb_law.specs.Openers.{View, closed}
+use Rattle.tdb_law.specs.Lines.{MayDie}
 use Rattle.tdb_law.specs.World.{State}
 use Rattle.tdb_law.proofs.Walking.{put_here, put_else}
 use Rattle.tdb_beside.specs.Sides.{but_at}
@@ -15,19 +16,19 @@ use Rattle.tdb_walk.specs.declared.stage.Stage.TheVariants.{Rested}
 use Rattle.tdb_walk.specs.Again.{RestsAt}
 use Rattle.tdb_world.specs.declared.opener.Opener.{Opener}
 use Rattle.tdb_world.specs.Aside.{IsBare}
-use Rattle.tdb_world.specs.Died.{died, HasDied, without_opener}
+use Rattle.tdb_world.specs.Died.{died, HasDied, CanDie, without_opener}
 use Rattle.tdb_world.specs.Laws.{IsPut}
 use Rattle.tdb_world.specs.Openers.{no_walk, own_of, own_at, spots_of, task_at, law_task}
 use Rattle.tdb_world.specs.States.{view_under, view_at}
-use Rattle.tdb_world.specs.Worlds.{World, state_in, Stands, IsNumber, IsFree}
+use Rattle.tdb_world.specs.Worlds.{World, state_in, Stands, IsNumber}
 use Rattle.tdb_world.proofs.Aside.{rests}
 use Rattle.tdb_world.proofs.Putting.{by_number}
 use Rattle.tdb_world.proofs.Replacing.{same_at, same_entries, state_replaced}
 use Rattle.tdb_world.proofs.Rests.{rests_past}
 
--- it may be given a command
-pub bare_free : {w : World} {who : ℕ} {x : Opener} → IsNumber w who x → IsBare x → IsFree w who x
-bare_free N B = record { number = N; live = B.live; idle = B.idle }
+-- it may die
+pub bare_can_die : {w : World} {who : ℕ} {x : Opener} → IsNumber w who x → IsBare x → CanDie w who x
+bare_can_die N B = record { number = N; live = B.live; may_die = subst MayDie (sym (ap law_task B.idle)) tt }
 
 module _ (w : World) (who : ℕ) (x : Opener) (N : IsNumber w who x) (B : IsBare x) where
   abbrev l : ℕ

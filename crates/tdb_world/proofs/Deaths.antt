@@ -1,46 +1,54 @@
 -- An opener that dies: it has and holds nothing any more, and the others lose nothing.
-use Rattle.std.proofs.Common.{◌≡◌, ◌≢◌, ℕ, ◌+◌, ◌-◌, ◌≤◌, List, length, slice_get, slice_set, true, Some, None, refl, sym, ◌∙◌, ap, subst, inl, inr, arith, le_refl}
+use Rattle.std.proofs.Common.{◌≡◌, ◌≢◌, ℕ, ◌+◌, ◌-◌, ◌≤◌, List, [], length, Option, slice_get, slice_set, true, Some, None, refl, sym, ◌∙◌, ap, subst, inl, inr, arith, le_refl}
 use Rattle.std.proofs.lemmas.Bool.{cases_eq}
 use Rattle.tdb_space.specs.Form.{Form, form_in}
 use Rattle.tdb_space.specs.Pairs.{joined}
 use Rattle.tdb_locks.specs.HeldLocks.{nothing_held}
 use Rattle.tdb_locks.specs.LockTable.{held}
 use Rattle.tdb_locks.specs.declared.piece.Piece.{Piece}
-use Rattle.tdb_law.specs.Openers.{Own, closed}
+use Rattle.tdb_law.specs.Openers.{closed}
 use Rattle.tdb_law.specs.Lines.{most_openers, EndsTransaction, MayDie, leaves_open}
 use Rattle.tdb_law.specs.Layout.{chains_in, mark_of}
 use Rattle.tdb_law.specs.Walks.{Shift}
 use Rattle.tdb_law.specs.Events.{Dies}
-use Rattle.tdb_plays.specs.declared.command.Command.{Command}
-use Rattle.tdb_plays.specs.declared.command.Command.TheVariants as Given
-use Rattle.tdb_plays.specs.InLaw.{law_opener, law_command}
+use Rattle.tdb_law.proofs.Tests.{never_true}
+use Rattle.tdb_plays.specs.InLaw.{law_opener}
 use Rattle.tdb_steps.specs.Holdings.{strength, table_of}
-use Rattle.tdb_steps.specs.declared.flag.Flag.{Flag}
-use Rattle.tdb_steps.specs.declared.flag.Flag.TheVariants.{Replace, Insert, Modify}
 use Rattle.tdb_walk.specs.declared.standing.Standing.TheVariants.{On, Past}
 use Rattle.tdb_world.specs.declared.options.Options.{Options}
 use Rattle.tdb_world.specs.declared.opener.Opener.{Opener}
 use Rattle.tdb_world.specs.declared.job.Job.{Job}
 use Rattle.tdb_world.specs.declared.job.Job.TheVariants as Jobs
 use Rattle.tdb_world.specs.declared.job.Task.{Task}
-use Rattle.tdb_world.specs.Given.{IsServed}
-use Rattle.tdb_world.specs.Openers.{own_of, own_at, spot_at, place_at, spots_of, task_at, law_task, command_in, hands_of_task, hands_at, JobStands, TaskStands, OpenerStands}
+use Rattle.tdb_world.specs.Openers.{own_of, own_at, spot_at, place_at, spots_of, task_at, law_task, command_in, hands_of_job, hands_of_task, hands_at}
 use Rattle.tdb_world.specs.States.{state_of, WorldStands, FileStands}
 use Rattle.tdb_world.specs.Cursors.{is_stood, cursor_at}
 use Rattle.tdb_world.specs.Laws.{IsPut}
-use Rattle.tdb_world.specs.Worlds.{World, state_in, Stands, BytesStand, IsNumber, IsFree, IsBusy}
-use Rattle.tdb_world.specs.Died.{died, HasDied, MayDieIn}
+use Rattle.tdb_world.specs.Worlds.{World, state_in, Stands, BytesStand, IsNumber}
+use Rattle.tdb_world.specs.Died.{died, HasDied, CanDie, MayDieIn}
 use Rattle.tdb_world.proofs.Arriving.{nothing_well, no_walk_stands, bare_apart, apart_bare}
 use Rattle.tdb_world.proofs.Opening.{nobody_holds}
-use Rattle.tdb_world.proofs.OfPlays.{free_live, free_idle}
 use Rattle.tdb_world.proofs.Putting.{by_number, put_numbered}
 use Rattle.tdb_world.proofs.Replacing.{hands_set, file_set}
 use Rattle.tdb_world.proofs.Standing.{IsSet, put_set, world_set}
 use Rattle.tdb_world.proofs.StillWalks.{still_shift}
 use Rattle.tdb_world.proofs.Stood.{injected, some_off, stood_at, stood_by}
 
--- an opener without a task dies, in the words of the law
-module _ (f : Form) (options : Options) (xs ys : List Opener) (ps qs : List Piece) (a : List ℕ) (who : ℕ) (x : Opener) (there : slice_get xs who ≡ Some x) (idle : x.task ≡ None) (P : IsPut xs who died ys)
+-- who may die holds no record: a command that would end a transaction is refused
+mortal_job : (job : Job) → EndsTransaction (command_in job) → hands_of_job job ≡ []
+mortal_job (Jobs.Refused command reply) ends = refl
+mortal_job (Jobs.Plain d) ends = absurd ends
+mortal_job (Jobs.Check checking) ends = refl
+mortal_job (Jobs.Locking locking) ends = refl
+mortal_job Jobs.Seqnum ends = refl
+mortal_job (Jobs.Walk walking) ends = refl
+
+mortal_hands : (t : Option Task) → MayDie (law_task t) → hands_of_task t ≡ []
+mortal_hands None may = refl
+mortal_hands (Some t) may = mortal_job t.job may
+
+-- an opener that may die does so, in the words of the law
+module _ (f : Form) (options : Options) (xs ys : List Opener) (ps qs : List Piece) (a : List ℕ) (who : ℕ) (x : Opener) (there : slice_get xs who ≡ Some x) (may : MayDie (law_task x.task)) (P : IsPut xs who died ys)
     (lost : (b : ℕ) → held qs (who + 1) b ≡ None) (kept : (o b : ℕ) → o ≢ who + 1 → held qs o b ≡ held ps o b) where
   set : IsSet xs who died ys
   set = put_set xs ys who died P
@@ -65,7 +73,7 @@ module _ (f : Form) (options : Options) (xs ys : List Opener) (ps qs : List Piec
 
   -- it held no record of the free list
   same_hands : joined (length ys) (λ o. hands_at (slice_get ys o)) ≡ joined (length xs) (λ o. hands_at (slice_get xs o))
-  same_hands = hands_set xs ys who died set P.same_length (sym (ap hands_at there ∙ ap hands_of_task idle))
+  same_hands = hands_set xs ys who died set P.same_length (sym (ap hands_at there ∙ mortal_hands x.task may))
 
   -- and its cursor stands on none
   still_stood : (off : ℕ) → is_stood (spots_of ys) off ≡ true → is_stood (spots_of xs) off ≡ true
@@ -84,7 +92,7 @@ module _ (f : Form) (options : Options) (xs ys : List Opener) (ps qs : List Piec
   pub death_dies : x.live ≡ true → Dies f (state_of f options xs ps a) who (state_of f options ys qs a)
   death_dies live = record {
     live = ap (λ z. (own_at options z).live) there ∙ live;
-    may_die = subst MayDie (sym (ap task_at there ∙ ap law_task idle)) tt;
+    may_die = subst MayDie (sym (ap task_at there)) may;
     stay = record {
       file = refl;
       task = λ o ne. ap task_at (P.others o ne);
@@ -114,8 +122,8 @@ has_died w who x d qs N is lost others = record {
   rest = refl;
 }
 
--- so a world with a free opener that dies stands as before
-module _ (w v : World) (who : ℕ) (x : Opener) (F : IsFree w who x) (D : HasDied w who v) (img : List ℕ) where
+-- so a world with an opener that dies stands as before
+module _ (w v : World) (who : ℕ) (x : Opener) (F : CanDie w who x) (D : HasDied w who v) (img : List ℕ) where
   there : slice_get w.openers D.place ≡ Some x
   there = subst (λ p. slice_get w.openers p ≡ Some x) (let one = F.number.counted in let other = D.counted in omega (arith, one, other)) F.number.there
 
@@ -132,62 +140,29 @@ module _ (w v : World) (who : ℕ) (x : Opener) (F : IsFree w who x) (D : HasDie
   same_rest = ap with_openers D.rest
 
   pub stands_died : (size : ℕ) → Stands w img size → Stands v img size
-  stands_died size W = subst (λ z. Stands z img size) (sym same_rest) (death_keeps_world (form_in w.header) w.options w.openers v.openers w.table v.table img D.place x there F.idle D.put lost kept size W)
+  stands_died size W = subst (λ z. Stands z img size) (sym same_rest) (death_keeps_world (form_in w.header) w.options w.openers v.openers w.table v.table img D.place x there F.may_die D.put lost kept size W)
 
   pub bytes_died : BytesStand w img → BytesStand v img
-  bytes_died B = subst (λ z. BytesStand z img) (sym same_rest) (death_keeps_file (form_in w.header) w.options w.openers v.openers w.table v.table img D.place x there F.idle D.put lost kept B)
+  bytes_died B = subst (λ z. BytesStand z img) (sym same_rest) (death_keeps_file (form_in w.header) w.options w.openers v.openers w.table v.table img D.place x there F.may_die D.put lost kept B)
 
   pub dies_died : Dies (form_in w.header) (state_in w img) (law_opener who) (state_in v img)
   dies_died =
       subst (λ z. Dies (form_in w.header) (state_in w img) (law_opener who) (state_in z img)) (sym same_rest)
       (subst (λ o. Dies (form_in w.header) (state_in w img) o (state_in (with_openers w) img)) (sym (by_number who D.place D.counted))
-      (death_dies (form_in w.header) w.options w.openers v.openers w.table v.table img D.place x there F.idle D.put lost kept F.live))
+      (death_dies (form_in w.header) w.options w.openers v.openers w.table v.table img D.place x there F.may_die D.put lost kept F.live))
 
--- no command that is served ends a transaction
-store_stays : (flag : Flag) (key value : List ℕ) → EndsTransaction (law_command (Given.Store key value flag)) → ⊥
-store_stays Replace key value e = e
-store_stays Insert key value e = e
-store_stays Modify key value e = e
+-- in the law's words it is the opener that may die
+pub can_die_in : (w : World) (img : List ℕ) (who : ℕ) (x : Opener) → CanDie w who x → MayDieIn (state_in w img) (law_opener who)
+can_die_in w img who x F =
+    let there : slice_get w.openers (law_opener who) ≡ Some x = ap (slice_get w.openers) (by_number who F.number.place F.number.counted) ∙ F.number.there in
+    record { live = ap (λ z. (own_at w.options z).live) there ∙ F.live; may_die = subst MayDie (sym (ap task_at there)) F.may_die }
 
-served_stays : (c : Command) → IsServed c → EndsTransaction (law_command c) → ⊥
-served_stays (Given.Fetch key) s e = e
-served_stays (Given.Has key) s e = e
-served_stays (Given.Store key value flag) s e = store_stays flag key value e
-served_stays (Given.Append key value) s e = e
-served_stays (Given.Delete key) s e = e
-served_stays Given.Wipe s e = e
-served_stays (Given.ChainLock key) s e = e
-served_stays (Given.ChainLockNb key) s e = e
-served_stays (Given.ChainUnlock key) s e = e
-served_stays Given.LockAll s e = e
-served_stays Given.LockAllRead s e = e
-served_stays Given.UnlockAll s e = e
-served_stays Given.Start s e = s
-served_stays Given.Commit s e = s
-served_stays Given.Prepare s e = s
-served_stays Given.Cancel s e = s
-served_stays Given.First s e = e
-served_stays Given.Next s e = e
-served_stays Given.EndWalk s e = e
-served_stays Given.Check s e = e
-served_stays Given.Seqnum s e = e
-served_stays Given.Close s e = e
+-- who isn't there may not
+pub none_may : (w : World) (img : List ℕ) (who : ℕ) → slice_get w.openers (law_opener who) ≡ None → MayDieIn (state_in w img) (law_opener who) → ⊥
+none_may w img who none M = never_true (ap (λ z. (own_at w.options z).live) (sym none) ∙ M.live)
 
-job_stays : (f : Form) (x : Own) (job : Job) (n size : ℕ) → JobStands f x job n size → EndsTransaction (command_in job) → ⊥
-job_stays f x (Jobs.Refused command reply) n size K e = served_stays command K.1 e
-job_stays f x (Jobs.Plain d) n size K e = e
-job_stays f x (Jobs.Check checking) n size K e = e
-job_stays f x (Jobs.Locking locking) n size K e = e
-job_stays f x Jobs.Seqnum n size K e = e
-job_stays f x (Jobs.Walk walking) n size K e = e
-
--- so who has a command may not die
-pub busy_stays : (w : World) (img any : List ℕ) (size who : ℕ) (x : Opener) (t : Task) → Stands w any size → IsBusy w who x t → MayDie ((state_in w img).task (law_opener who)) → ⊥
-busy_stays w img any size who x t W B may =
-    let S = (subst (OpenerStands (form_in w.header) w.options size) B.number.there (W.openers_stand B.number.place)).1 in
-    job_stays (form_in w.header) (own_of w.options x) t.job t.steps size (subst (λ z. TaskStands (form_in w.header) (own_of w.options x) z size) B.busy S)
-    (subst MayDie (ap (λ o. task_at (slice_get w.openers o)) (by_number who B.number.place B.number.counted) ∙ (ap task_at B.number.there ∙ ap law_task B.busy)) may)
-
--- and who has none may
-pub free_may_die : (w : World) (img : List ℕ) (who : ℕ) (x : Opener) → IsFree w who x → MayDieIn (state_in w img) (law_opener who)
-free_may_die w img who x F = record { live = free_live w img who x F; may_die = subst MayDie (sym (free_idle w img who x F)) tt }
+-- nor is who is there but isn't live, or has another command
+pub there_may : (w : World) (img : List ℕ) (who : ℕ) (x : Opener) → IsNumber w who x → MayDieIn (state_in w img) (law_opener who) → (x.live ≡ true) × MayDie (law_task x.task)
+there_may w img who x N M =
+    let there : slice_get w.openers (law_opener who) ≡ Some x = ap (slice_get w.openers) (by_number who N.place N.counted) ∙ N.there in
+    (ap (λ z. (own_at w.options z).live) (sym there) ∙ M.live, subst MayDie (ap task_at there) M.may_die)

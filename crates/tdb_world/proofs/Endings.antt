@@ -7,13 +7,14 @@ use Rattle.tdb_locks.specs.LockTable.{held}
 use Rattle.tdb_locks.specs.declared.piece.Piece.{Piece}
 use Rattle.tdb_law.specs.Commands.{Command, Reply, is_done}
 use Rattle.tdb_law.specs.Commands.Command.{OnMap, OnLocks, Seqnum, OnGroup, OnWalk}
+use Rattle.tdb_law.specs.Commands.GroupCommand.{Start, Commit, Prepare, Cancel}
 use Rattle.tdb_law.specs.Commands.WalkCommand.{Next}
 use Rattle.tdb_law.specs.Commands.Reply.{End}
 use Rattle.tdb_law.specs.Commands.Turn.{Ends}
 use Rattle.tdb_law.specs.Openers.{Own, View, outside}
 use Rattle.tdb_law.specs.Refusals.{Refusal, refusal, says}
 use Rattle.tdb_law.specs.Rows.{is_changed, changed_by, locks, walk_locks}
-use Rattle.tdb_law.specs.Outcomes.{moves, moves_by, counts_by, told_by, map_by, reads_by, own_by, own_refused}
+use Rattle.tdb_law.specs.Outcomes.{moves, moves_by, counts_by, told_by, map_by, reads_by, own_by, own_left, own_refused}
 use Rattle.tdb_law.specs.Ends.{ends_by, walk_ends}
 use Rattle.tdb_law.specs.Held.{wanted, locked_next, move_turn, is_chain}
 use Rattle.tdb_law.specs.Effects.{IsFree}
@@ -21,27 +22,26 @@ use Rattle.tdb_law.specs.Effects.Effect.{effect_answers}
 use Rattle.tdb_law.specs.Counting.{number_by}
 use Rattle.tdb_law.specs.Images.{image_map}
 use Rattle.tdb_law.proofs.Covered.{none_held}
-use Rattle.tdb_steps.specs.declared.flag.Flag.TheVariants as Flags
 use Rattle.tdb_plays.specs.InLaw.{law_command}
 use Rattle.tdb_plays.specs.declared.command.Command.{Command as GivenCommand}
-use Rattle.tdb_plays.specs.declared.command.Command.TheVariants as Given
 use Rattle.tdb_walk.proofs.Holding.{granted, locks_are}
 use Rattle.tdb_walk.proofs.Rows.{row_end, counts_no, told_is, map_is, own_is, ready, unchanged, number_is}
 use Rattle.tdb_world.specs.Openers.{AtRest, IsRefused}
 use Rattle.tdb_world.specs.Openers.IsRefused.{refuses, has_ended}
-use Rattle.tdb_world.specs.Given.{IsServed}
 use Rattle.tdb_world.specs.Turning.{law_table, wants, resting, OpenerHolds}
 use Rattle.tdb_world.specs.Ended.{EndTurned}
 use Rattle.tdb_world.proofs.Shifted.{apart_less, turned_locks, at_most_two}
 
--- a served command that is refused leaves its opener
-pub served_same : (c : GivenCommand) → IsServed c → (x : Own) → own_refused (law_command c) x ≡ x
-served_same (Given.Store key value Flags.Replace) s x = refl
-served_same (Given.Store key value Flags.Insert) s x = refl
-served_same (Given.Store key value Flags.Modify) s x = refl
-served_same Given.Commit s x = absurd s
-served_same Given.Prepare s x = absurd s
-served_same _ s x = refl
+-- a command that is refused leaves an opener that has no transaction
+pub refused_same : (c : Command) (x : Own) → x.txn ≡ None → own_refused c x ≡ x
+refused_same (OnMap c) x out = refl
+refused_same (OnLocks c) x out = refl
+refused_same Seqnum x out = refl
+refused_same (OnGroup Start) x out = refl
+refused_same (OnGroup Commit) x out = ap (λ o. own_left o x) out
+refused_same (OnGroup Prepare) x out = ap (λ o. own_left o x) out
+refused_same (OnGroup Cancel) x out = refl
+refused_same (OnWalk w) x out = refl
 
 -- a refused command wants nothing
 refused_wants : (f : Form) (c : Command) (x : Own) (rest : AtRest) (v : View) (q : Refusal) → refusal f c x ≡ Some q → (b : ℕ) → wants f c x (resting rest) v 0 b ≡ 0
@@ -66,7 +66,7 @@ same_number : (t : Bool) (n : ℕ) → n ≡ (if t then n else n)
 same_number true n = refl
 same_number false n = refl
 
-module _ (f : Form) (x : Own) (rest : AtRest) (v : View) (c : GivenCommand) (who : ℕ) (ps : List Piece) (r : Reply) (s : IsServed c) (H : OpenerHolds f x (resting rest) (law_command c) 0 who ps) where
+module _ (f : Form) (x : Own) (rest : AtRest) (v : View) (c : GivenCommand) (who : ℕ) (ps : List Piece) (r : Reply) (out : x.txn ≡ None) (H : OpenerHolds f x (resting rest) (law_command c) 0 who ps) where
   abbrev k : Command
   k = law_command c
 
@@ -78,7 +78,7 @@ module _ (f : Form) (x : Own) (rest : AtRest) (v : View) (c : GivenCommand) (who
       effect = effect_answers r refl (nothing_wanted f x rest v k who ps (refused_wants f k x rest v why refused)) (ap (λ q. moves_by q k x) refused) (ap (λ q. counts_by q k) refused)
           (λ key reads. absurd (let e : false ≡ true = sym (ap (λ q. reads_by q k x key) refused) ∙ reads in cc e)) (refused_unchanged f k x why refused)
           (told ∙ sym (ap (λ q. told_by q k x (image_map f img)) refused)) (sym (ap (λ q. map_by q k x (image_map f img)) refused))
-          (sym (ap (λ q. own_by f q k x 0 r (image_map f img)) refused ∙ served_same c s x));
+          (sym (ap (λ q. own_by f q k x 0 r (image_map f img)) refused ∙ refused_same k x out));
       number = same_number (is_done r) (word f.order img 48) ∙ ap (λ n. if is_done r then n else word f.order img 48) (sym (ap (λ q. number_by q k x (word f.order img 48) 0) refused));
     };
   }
@@ -107,8 +107,8 @@ module _ (f : Form) (x : Own) (rest : AtRest) (v : View) (who : ℕ) (ps : List 
     };
   }
 
-pub refused_ends : (f : Form) (x : Own) (rest : AtRest) (v : View) (c : GivenCommand) (who : ℕ) (ps : List Piece) (r : Reply) → IsServed c → IsRefused f x (law_command c) r → OpenerHolds f x (resting rest) (law_command c) 0 who ps → EndTurned f x x (resting rest) v (law_command c) who ps ps r
-refused_ends f x rest v c who ps r s (refuses why refused told) H = why_ends f x rest v c who ps r s H why refused told
-refused_ends f x rest v c who ps r s (has_ended is out none told) H =
+pub refused_ends : (f : Form) (x : Own) (rest : AtRest) (v : View) (c : GivenCommand) (who : ℕ) (ps : List Piece) (r : Reply) → x.txn ≡ None → IsRefused f x (law_command c) r → OpenerHolds f x (resting rest) (law_command c) 0 who ps → EndTurned f x x (resting rest) v (law_command c) who ps ps r
+refused_ends f x rest v c who ps r free (refuses why refused told) H = why_ends f x rest v c who ps r free H why refused told
+refused_ends f x rest v c who ps r free (has_ended is out none told) H =
     subst (λ z. EndTurned f x x (resting rest) v (law_command c) who ps ps z) (sym told)
     (subst (λ d. EndTurned f x x (resting rest) v d who ps ps End) (sym is) (next_ends f x rest v who ps out none (subst (λ d. OpenerHolds f x (resting rest) d 0 who ps) is H)))

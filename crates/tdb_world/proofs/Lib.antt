@@ -72,3 +72,4 @@ pub mod ShutWorlds
 pub mod AskedNumber
 pub mod Closed
 pub mod OwnSide
+pub mod Beginning

@@ -71,7 +71,7 @@ module _ (f : Form) (options : Options) (x : Opener) where
   answered_simple c r (has_ended is out none says) = subst (λ d. Simple f d (own_of options x)) (sym is) (next_simple none)
 
   simple : (job : Job) (n size : ℕ) → walk_in job ≡ None → JobStands f (own_of options x) job n size → Simple f (command_in job) (own_of options x)
-  simple (Jobs.Refused command reply) n size off K = answered_simple (command_in (Jobs.Refused command reply)) _ K.2
+  simple (Jobs.Refused command reply) n size off K = answered_simple (command_in (Jobs.Refused command reply)) _ K.1
   simple (Jobs.Plain d) n size off K = granted_simple (command_in (Jobs.Plain d)) K.granted refl refl (λ q. refl)
   simple (Jobs.Check checking) n size off K = granted_simple (command_in (Jobs.Check checking)) K.0 refl refl (λ q. refl)
   simple (Jobs.Locking locking) n size off K = granted_simple (command_in (Jobs.Locking locking)) K.1 refl refl (λ q. refl)
@@ -110,7 +110,7 @@ module _ (f : Form) (options : Options) (img stood_on : List ℕ) (x : Opener) (
   answer_spares (OnWalk w) r (has_ended is out none says) = ap (λ p. must_purge f img x.held stood_on options.read_only p) (rests_past f x.walk.shown x.walk.cursor.place x.walk.cursor.stage R none)
 
   nothing_due : (job : Job) (n size : ℕ) → walk_in job ≡ None → JobStands f (own_of options x) job n size → (view_for f options img stood_on x (command_in job)).must ≡ false
-  nothing_due (Jobs.Refused command reply) n size off K = answer_spares (command_in (Jobs.Refused command reply)) _ K.2
+  nothing_due (Jobs.Refused command reply) n size off K = answer_spares (command_in (Jobs.Refused command reply)) _ K.1
   nothing_due (Jobs.Plain d) n size off K = refl
   nothing_due (Jobs.Check checking) n size off K = refl
   nothing_due (Jobs.Locking locking) n size off K = refl

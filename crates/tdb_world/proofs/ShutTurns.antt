@@ -1,22 +1,22 @@
 -- The turns of an opener that is shut out are turns of the law in the whole state.
-use Rattle.std.proofs.Common.{◌≡◌, ◌≢◌, ℕ, ◌+◌, ◌*◌, ◌-◌, ◌<◌, ◌≤◌, List, [], Bool, true, false, ◌==◌, Option, Some, None, is_none, is_some, refl, sym, ◌∙◌, ap, subst, inl, inr, arith}
+use Rattle.std.proofs.Common.{◌≡◌, ℕ, ◌+◌, ◌*◌, ◌≤◌, List, true, false, Some, None, refl, sym, ◌∙◌, ap, subst, inl, inr, arith}
 use Rattle.std.specs.Prelude.{◌&&◌, if◌then◌else◌}
 use Rattle.tdb_space.specs.Form.{Form, form_in}
 use Rattle.tdb_space.specs.Pairs.{home}
 use Rattle.tdb_locks.specs.HeldLocks.{HeldLocks}
 use Rattle.tdb_locks.specs.declared.turn.Reply.{Reply}
 use Rattle.tdb_locks.specs.declared.turn.Turn.{Turn}
-use Rattle.tdb_locks.specs.declared.turn.Turn.TheVariants.{Step, Blocked, Done}
+use Rattle.tdb_locks.specs.declared.turn.Turn.TheVariants.{Blocked, Done}
 use Rattle.tdb_law.specs.Commands as Law
 use Rattle.tdb_law.specs.Commands.{Command, WalkCommand, LockCommand}
 use Rattle.tdb_law.specs.Commands.Command.{OnMap, OnLocks, OnWalk}
 use Rattle.tdb_law.specs.Commands.WalkCommand.{First, Next, EndWalk, Close}
 use Rattle.tdb_law.specs.Openers.{Own, Spot, Task as LawTask, View}
 use Rattle.tdb_law.specs.Refusals.{refusal, says}
-use Rattle.tdb_law.specs.Rows.{Lock, walk_locks, locks, is_changed, changed_by}
+use Rattle.tdb_law.specs.Rows.{walk_locks, locks, is_changed}
 use Rattle.tdb_law.specs.Ends.{waits}
 use Rattle.tdb_law.specs.Outcomes.{moves, moves_by, walk_moves, own_refused}
-use Rattle.tdb_law.specs.Held.{wanted, decided, locked_next, moves_at, move_turn}
+use Rattle.tdb_law.specs.Held.{wanted, decided, locked_next, moves_at}
 use Rattle.tdb_law.specs.World.{State}
 use Rattle.tdb_law.specs.Effects.{IsFirstConflict}
 use Rattle.tdb_law.specs.Turned.{Turned, want}
@@ -29,12 +29,10 @@ use Rattle.tdb_beside.proofs.Leaving.{leaving_is_turned}
 use Rattle.tdb_beside.proofs.Parted.{put_back}
 use Rattle.tdb_beside.proofs.Shut.{shut_out_meets}
 use Rattle.tdb_plays.specs.InLaw.{law_opener, law_command, law_reply, law_turn}
-use Rattle.tdb_plays.specs.declared.command.Command.{Command as GivenCommand}
 use Rattle.tdb_steps.specs.LockRows.{start_of, rows_of}
 use Rattle.tdb_steps.specs.Order.{IsAfter}
-use Rattle.tdb_steps.specs.PlainCommands.{key_of, command_of}
+use Rattle.tdb_steps.specs.PlainCommands.{command_of}
 use Rattle.tdb_steps.specs.Machines.{Doing}
-use Rattle.tdb_steps.specs.declared.stage.Stage.TheVariants.{Begun}
 use Rattle.tdb_walk.specs.declared.standing.Standing.{Standing}
 use Rattle.tdb_walk.specs.declared.standing.Standing.TheVariants.{Before, On, Past as PastChains}
 use Rattle.tdb_walk.specs.declared.stage.Stage.{Stage}
@@ -51,15 +49,13 @@ use Rattle.tdb_world.specs.declared.job.Locking.TheVariants as Locks
 use Rattle.tdb_world.specs.declared.job.Walking.{Walking}
 use Rattle.tdb_world.specs.declared.job.Walking.TheVariants as Walks
 use Rattle.tdb_world.specs.declared.job.Task.{Task}
-use Rattle.tdb_world.specs.Given.{IsServed}
-use Rattle.tdb_world.specs.Openers.{own_of, spot_by, command_in, locking_command, walk_command, walk_in, IsRefused, JobStands, WalkAfter, WalkStands}
+use Rattle.tdb_world.specs.Openers.{own_of, spot_by, command_in, locking_command, walk_command, IsRefused}
 use Rattle.tdb_world.specs.Openers.IsRefused.{refuses, has_ended}
 use Rattle.tdb_world.specs.ShutOut.{LockingMeets, WalkMeets, JobMeets}
 use Rattle.tdb_world.specs.Worlds.{World, state_in, law_of_task}
 use Rattle.tdb_world.proofs.Begun.{begun_stage}
-use Rattle.tdb_world.proofs.Endings.{served_same}
+use Rattle.tdb_world.proofs.Endings.{refused_same}
 use Rattle.tdb_world.proofs.Occupied.{job_at, cursor_at, near_at}
-use Rattle.tdb_world.proofs.Rests.{walk_rests}
 use Rattle.tdb_world.proofs.ShutOut.{IsBarred, apart, its_own, its_spot, its_task, its_view, few, stands_on_none, map_new}
 use Rattle.tdb_world.proofs.Wanting.{FirstAt, plain_first, check_first, chain_first, busy_first, all_first, all_read_first, move_first}
 
@@ -266,7 +262,7 @@ module _ {w : World} {img : List ℕ} {past : Past} {s : Side} {holder who : ℕ
   turned (Jobs.Refused command reply) turn is M =
       let J = job_at C.busy C.stands (Jobs.Refused command reply) is in
       ended_so (Jobs.Refused command reply) reply turn M
-      (ended (law_command command) (law_reply reply) (same_task (Jobs.Refused command reply) 0 is J.0) (near_at C.busy C.stands (Jobs.Refused command reply) is refl) (refused (law_command command) (law_reply reply) (served_same command J.1 (q.own l)) J.2))
+      (ended (law_command command) (law_reply reply) (same_task (Jobs.Refused command reply) 0 is J.0) (near_at C.busy C.stands (Jobs.Refused command reply) is refl) (refused (law_command command) (law_reply reply) (refused_same (law_command command) (q.own l) (ap (λ (z : Own). z.txn) (its_own C))) J.1))
   turned (Jobs.Plain d) turn is M = plain_turned d turn is M
   turned (Jobs.Check checking) turn is M =
       let J = job_at C.busy C.stands (Jobs.Check checking) is in

@@ -7,7 +7,8 @@ use Rattle.tdb_law.specs.Lines.{MayDie}
 use Rattle.tdb_beside.specs.Sides.{but_at}
 use Rattle.tdb_world.specs.declared.opener.Opener.{Opener}
 use Rattle.tdb_world.specs.Laws.{IsPut}
-use Rattle.tdb_world.specs.Worlds.{World, fresh}
+use Rattle.tdb_world.specs.Openers.{law_task}
+use Rattle.tdb_world.specs.Worlds.{World, fresh, IsNumber}
 
 -- an opener that has died: it isn't live, and has nothing
 abbrev pub died : Opener
@@ -21,6 +22,12 @@ pub record HasDied (old : World) (who : ℕ) (new : World) : Type 0 where
   pub lost : (b : ℕ) → held new.table who b ≡ None
   pub others : (o b : ℕ) → o ≢ who → held new.table o b ≡ held old.table o b
   pub rest : record new { openers = old.openers; table = old.table } ≡ old
+
+-- The opener with this number is live, and may die: it has no command, or one that would end a transaction and is refused.
+pub record CanDie (w : World) (who : ℕ) (x : Opener) : Type 0 where
+  pub number : IsNumber w who x
+  pub live : x.live ≡ true
+  pub may_die : MayDie (law_task x.task)
 
 -- an opener of the law is live, and may die
 pub record MayDieIn (w : State) (who : ℕ) : Type 0 where

@@ -2,10 +2,14 @@
 use Rattle.std.specs.Prelude.{ℕ, ◌≡◌, ◌<◌, ◌≤◌, ◌+◌, ◌-◌, ◌^◌, List, Bool, true, false, length, Option, None, Some, IfSome, nat_lt, ◌==◌, ◌&&◌, ◌||◌, if◌then◌else◌}
 use Rattle.std.specs.List.{All, sum}
 use Rattle.std.specs.Map.{values_of}
+use Rattle.tdb_space.specs.Form.{Form}
 use Rattle.tdb_locks.specs.HeldLocks.{HeldLocks, AreCounts, total_of}
 use Rattle.tdb_locks.specs.declared.kind.Kind.{Kind}
 use Rattle.tdb_locks.specs.declared.kind.Kind.TheVariants.{Read, Write}
 use Rattle.tdb_locks.specs.declared.turn.Reply.{Reply}
+use Rattle.tdb_law.specs.Openers.{Own}
+use Rattle.tdb_law.specs.Refusals.{refusal}
+use Rattle.tdb_plays.specs.InLaw.{law_command}
 use Rattle.tdb_plays.specs.declared.command.Command.{Command}
 use Rattle.tdb_plays.specs.declared.command.Command.TheVariants as Given
 use Rattle.tdb_plays.specs.declared.play.Play.{Play}
@@ -39,6 +43,11 @@ IsServed Given.Commit = ⊥
 IsServed Given.Prepare = ⊥
 IsServed Given.Cancel = ⊥
 IsServed _ = Unit {0}
+
+-- The command begins a transaction: it is a Start, and the opener's own state doesn't refuse it.
+pub record IsBeginning (f : Form) (x : Own) (c : Command) : Type 0 where
+  pub start : c ≡ Given.Start
+  pub granted : refusal f (law_command c) x ≡ None
 
 -- the plays that are served: an opener is named by a number from 1 on, and its command is served and short
 abbrev pub IsServedPlay : Play → Type 0

@@ -27,7 +27,7 @@ use Rattle.tdb_walk.specs.Again.{RestsAt}
 use Rattle.tdb_cursors.specs.declared.walk.Walk.{Walk}
 use Rattle.tdb_cursors.specs.Spots.{spot_number}
 use Rattle.tdb_plays.specs.InLaw.{law_command, law_reply}
-use Rattle.tdb_world.specs.Given.{IsServed, IsShortLocking, IsWellHeld}
+use Rattle.tdb_world.specs.Given.{IsShortLocking, IsWellHeld}
 use Rattle.tdb_world.specs.declared.options.Options.{Options}
 use Rattle.tdb_world.specs.declared.opener.Opener.{Opener}
 use Rattle.tdb_world.specs.declared.job.Job.{Job}
@@ -181,7 +181,7 @@ MayAsk x w = Unit {0}
 -- step, or it isn't, and it is where these steps have brought it. A command on the cursor has two steps at most; where they have
 -- brought the cursor is said of that.
 abbrev pub JobStands : Form → Own → Job → ℕ → ℕ → Type 0
-JobStands f x (Refused command reply) n size = (n ≡ 0) × IsServed command × IsRefused f x (law_command command) (law_reply reply)
+JobStands f x (Refused command reply) n size = (n ≡ 0) × IsRefused f x (law_command command) (law_reply reply)
 JobStands f x (Plain doing) n size = PlainStands f x doing n size
 JobStands f x (Check checking) n size = (refusal f (command_in (Check checking)) x ≡ None) × CheckAfter checking n
 JobStands f x (Locking locking) n size = (n ≡ 0) × (refusal f (command_in (Locking locking)) x ≡ None) × IsShortLocking locking

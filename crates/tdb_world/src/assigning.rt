@@ -1,13 +1,13 @@
 // A command is given to an opener.
 
-ghost use Rattle.std.specs.Prelude.{◌≡◌, ◌<◌, ℕ, None, is_some};
+ghost use Rattle.std.specs.Prelude.{◌≡◌, ◌<◌, ℕ, None, is_some, MatchBool};
 ghost use Rattle.tdb_space.specs.Form.{Form, form_in};
 ghost use Rattle.tdb_law.specs.Commands.Command.{OnWalk};
 ghost use Rattle.tdb_law.specs.Commands.WalkCommand.{Next};
 ghost use Rattle.tdb_plays.specs.InLaw.{law_command};
 ghost use Rattle.tdb_law.specs.Openers.{Own};
 ghost use Rattle.tdb_law.specs.Refusals.{refusal};
-ghost use Rattle.tdb_world.specs.Given.{IsShortGiven, IsServed, IsWellHeld};
+ghost use Rattle.tdb_world.specs.Given.{IsBeginning, IsShortGiven, IsServed, IsWellHeld};
 ghost use Rattle.tdb_world.specs.Openers.{own_of, command_in, JobStands};
 
 use crate::job::{Checking, Job, Locking, Walking};
@@ -82,8 +82,21 @@ fn job_of(command: Command, told: Command, header: &Header, seqnum: bool, walks:
 }
 
 impl Opener {
-    /// The job of a command: it is refused where the opener's own state says so, and a Next without a cursor is told
-    /// the end. `told` is the same command. It takes no memory.
+    /// Whether the command begins a transaction: it is a Start, and the opener's own state doesn't refuse it.
+    pub(crate) fn begins(&self, options: &Options, command: &Command, header: &Header) -> bool
+        requires well { IsWellHeld self.now.held }
+        requires chains { 0 < header.now.hash_size }
+        ensures { let own = own_of options.now self.now in
+            MatchBool result (IsBeginning (form_in header.now) own command.now) (IsBeginning (form_in header.now) own command.now → ⊥) }
+    {
+        if let Command::Start = command {
+            return self.refusal(options, command, header).is_none();
+        }
+        false
+    }
+
+    /// The job of a command that doesn't begin a transaction: it is refused where the opener's own state says so, and a
+    /// Next without a cursor is told the end. `told` is the same command. It takes no memory.
     pub(crate) fn job(
         &self,
         options: &Options,
@@ -93,7 +106,7 @@ impl Opener {
     ) -> Job
         requires same { told ≡ command }
         requires well { IsWellHeld self.now.held }
-        requires served { IsServed command }
+        requires begun { IsBeginning (form_in header.now) (own_of options.now self.now) command → ⊥ }
         requires short { IsShortGiven command }
         requires chains { 0 < header.now.hash_size }
         ensures command { command_in result ≡ law_command command }

@@ -1,35 +1,62 @@
 // Openers that die, and what is told of it.
 
-ghost use Rattle.std.specs.Prelude.{◌≡◌, ◌≤◌, ℕ, Bool, List, IsTrue, false};
+ghost use Rattle.std.specs.Prelude.{◌≡◌, ◌≤◌, ℕ, Bool, List, IsTrue, MatchBool, false};
 ghost use Rattle.tdb_space.specs.Form.{form_in};
 ghost use Rattle.tdb_law.specs.Events.{Dies};
+ghost use Rattle.tdb_law.specs.Lines.{EndsTransaction, MayDie};
 ghost use Rattle.tdb_law.specs.Plays.{Gives};
 ghost use Rattle.tdb_law.specs.Plays.{Play as LawPlay};
 ghost use Rattle.tdb_plays.specs.InLaw.{law_opener};
 ghost use Rattle.tdb_world.specs.declared.opener.Opener.{Opener};
-ghost use Rattle.tdb_world.specs.Worlds.{state_in, Stands, BytesStand, IsFree};
-ghost use Rattle.tdb_world.specs.Died.{MayDieIn};
+ghost use Rattle.tdb_world.specs.Openers.{command_in, law_task};
+ghost use Rattle.tdb_world.specs.Worlds.{state_in, Stands, BytesStand};
+ghost use Rattle.tdb_world.specs.Died.{CanDie, MayDieIn};
 ghost use Rattle.tdb_world.specs.Played.{moment, Led, PlaysLast, Begun};
 
 use crate::fault::RunFault;
+use crate::job::Job;
+use crate::opener::Opener;
 use crate::openers::Openers;
 use crate::starting::OpenerStanding;
 use crate::telling::{put_line, tell};
-use tdb_plays::{Line, TurnReport};
+use tdb_plays::{Command, Line, TurnReport};
+
+impl Job {
+    /// Whether the command would end a transaction: it is a Commit or a Prepare, which is refused, since nobody has one.
+    fn ends_transaction(&self) -> bool
+        ensures { MatchBool result (EndsTransaction (command_in self.now)) (EndsTransaction (command_in self.now) → ⊥) }
+    {
+        match self {
+            Job::Refused { command, .. } => matches!(command, Command::Commit | Command::Prepare),
+            Job::Plain(_) | Job::Check(_) | Job::Locking(_) | Job::Seqnum | Job::Walk(_) => false,
+        }
+    }
+}
+
+impl Opener {
+    /// Whether the opener may die, where it is live: it has no command, or one that would end a transaction.
+    fn may_die(&self) -> bool
+        ensures { MatchBool result (MayDie (law_task self.now.task)) (MayDie (law_task self.now.task) → ⊥) }
+    {
+        match &self.task {
+            Some(task) => task.job.ends_transaction(),
+            None => true,
+        }
+    }
+}
 
 impl Openers {
-    /// Whether the opener with this number, from 1 on, may die: it is live and has no command. Nobody has a
-    /// transaction, in whose commit an opener might die too.
+    /// Whether the opener with this number, from 1 on, may die: it is live, and has no command, or a refused Commit or
+    /// Prepare.
     pub fn may_die(&self, who: u32) -> bool
         requires named { 1 ≤ who }
-        requires stands { (img : List ℕ) × (size : ℕ) × Stands self.now img size }
-        ensures free { IsTrue result → (x : Opener) × IsFree self.now who x }
+        ensures can { IsTrue result → (x : Opener) × CanDie self.now who x }
         ensures may { IsTrue result → (img : List ℕ) → MayDieIn (state_in self.now img) (law_opener who) }
         ensures may_not { result ≡ false → (img : List ℕ) → MayDieIn (state_in self.now img) (law_opener who) → ⊥ }
     {
-        match self.standing(who) {
-            OpenerStanding::Idle => true,
-            OpenerStanding::Absent | OpenerStanding::Busy => false,
+        match self.opener(who) {
+            Some(opener) => opener.live && opener.may_die(),
+            None => false,
         }
     }
 
@@ -38,7 +65,7 @@ impl Openers {
     ///
     /// Cost: one pass over the lock table.
     pub fn die(&mut self, who: u32)
-        requires free { (x : Opener) × IsFree self.old who x }
+        requires can { (x : Opener) × CanDie self.old who x }
         ensures dies { (img : List ℕ) → Dies (form_in self.old.header) (state_in self.old img) (law_opener who) (state_in self.new img) }
         ensures stands { (img : List ℕ) (size : ℕ) → Stands self.old img size → Stands self.new img size }
         ensures bytes { (img : List ℕ) → BytesStand self.old img → BytesStand self.new img }
@@ -58,15 +85,15 @@ impl Openers {
             (Begun (form_in self.old.header) (state_in self.old img) (LawPlay.Die (law_opener who)))
             (PlaysLast (form_in self.old.header) (state_in self.old img) (LawPlay.Die (law_opener who))) }
     {
+        if self.may_die(who) {
+            report.reserve(1)?;
+            self.die(who);
+            put_line(report, Line::Died { who });
+            return Ok(());
+        }
         match self.standing(who) {
             OpenerStanding::Absent => tell(report, Line::Absent { who }),
-            OpenerStanding::Busy => tell(report, Line::Occupied { who }),
-            OpenerStanding::Idle => {
-                report.reserve(1)?;
-                self.die(who);
-                put_line(report, Line::Died { who });
-                Ok(())
-            }
+            OpenerStanding::Idle | OpenerStanding::Busy => tell(report, Line::Occupied { who }),
         }
     }
 }

@@ -1,12 +1,11 @@
 // The turn of a command that the opener's own state answers at once.
 
-ghost use Rattle.std.specs.Prelude.{◌≡◌, ℕ, List};
+ghost use Rattle.std.specs.Prelude.{◌≡◌, ℕ, List, None};
 ghost use Rattle.tdb_space.specs.Form.{Form};
 ghost use Rattle.tdb_locks.specs.declared.piece.Piece.{Piece};
 ghost use Rattle.tdb_law.specs.Openers.{Own, View};
 ghost use Rattle.tdb_plays.specs.InLaw.{law_command, law_reply};
 ghost use Rattle.tdb_plays.specs.declared.command.Command.{Command};
-ghost use Rattle.tdb_world.specs.Given.{IsServed};
 ghost use Rattle.tdb_world.specs.Openers.{AtRest, IsRefused};
 ghost use Rattle.tdb_world.specs.Turning.{OpenerHolds, resting};
 ghost use Rattle.tdb_world.specs.Ended.{EndTurned};
@@ -17,7 +16,7 @@ use tdb_locks::{Reply, Turn};
 /// without a cursor. It takes no lock and touches no file.
 pub(crate) fn refused_turn(reply: Reply) -> Turn
     ensures turn { result ≡ Turn.Done reply }
-    ensures turned { (f : Form) (x : Own) (rest : AtRest) (v : View) (c : Command) (who : ℕ) (ps : List Piece) → IsServed c → IsRefused f x (law_command c) (law_reply reply)
+    ensures turned { (f : Form) (x : Own) (rest : AtRest) (v : View) (c : Command) (who : ℕ) (ps : List Piece) → x.txn ≡ None → IsRefused f x (law_command c) (law_reply reply)
         → OpenerHolds f x (resting rest) (law_command c) 0 who ps → EndTurned f x x (resting rest) v (law_command c) who ps ps (law_reply reply) }
 {
     Turn::Done(reply)

@@ -1,6 +1,6 @@
 // The openers of one file.
 
-ghost use Rattle.std.specs.Prelude.{◌≡◌, ◌≢◌, ◌<◌, ◌≤◌, ◌+◌, ◌++◌, ◌∷◌, [], ℕ, List, length, IsTrue, IfSome, IfNone, IfOk, IfErr, OnOk, OnErr, None, ◌-◌, ◌↔◌, slice_get};
+ghost use Rattle.std.specs.Prelude.{◌≡◌, ◌≢◌, ◌<◌, ◌≤◌, ◌+◌, ◌++◌, ◌∷◌, [], ℕ, List, length, IsTrue, MatchBool, IfSome, IfNone, IfOk, IfErr, OnOk, OnErr, None, ◌-◌, ◌↔◌, slice_get};
 ghost use Rattle.tdb_disk.specs.Count.{HasCause};
 ghost use Rattle.tdb_space.specs.Form.{form_in};
 ghost use Rattle.tdb_space.specs.Frame.{Wrote};
@@ -10,7 +10,7 @@ ghost use Rattle.tdb_law.specs.World.{HasFewChains};
 ghost use Rattle.tdb_law.specs.Beginning.{IsLoaded};
 ghost use Rattle.tdb_law.specs.Events.{Joins, Given};
 ghost use Rattle.tdb_law.specs.Turned.{Turned};
-ghost use Rattle.tdb_world.specs.Openers.{options_of, command_in};
+ghost use Rattle.tdb_world.specs.Openers.{options_of, own_of, command_in};
 ghost use Rattle.tdb_world.specs.Finished.{unfinished};
 ghost use Rattle.tdb_world.specs.Died.{HasDied};
 ghost use Rattle.tdb_plays.specs.declared.line.Line.{Line};
@@ -19,7 +19,7 @@ ghost use Rattle.tdb_world.specs.declared.job.Task.{Task};
 ghost use Rattle.tdb_world.specs.declared.opener.Opener.{Opener};
 ghost use Rattle.tdb_world.specs.Calm.{IsCalm};
 ghost use Rattle.tdb_world.specs.Aside.{IsBare, HoldsRecords, AreFree, AreBarred};
-ghost use Rattle.tdb_world.specs.Given.{IsShortGiven, IsShortLocking, IsServed, IsWellHeld};
+ghost use Rattle.tdb_world.specs.Given.{IsBeginning, IsShortGiven, IsShortLocking, IsWellHeld};
 ghost use Rattle.tdb_world.specs.declared.job.Job.TheVariants as Jobs;
 ghost use Rattle.tdb_world.specs.declared.job.Locking.{Locking};
 ghost use Rattle.tdb_world.specs.ShutOut.{IsReplaced, JobMeets, MayMeet, opener_after};
@@ -228,13 +228,26 @@ impl Openers {
         self.push_opener()
     }
 
+    /// Whether the command begins a transaction of the opener with this number: it is a Start, and the opener's own state
+    /// doesn't refuse it.
+    pub fn begins(&self, who: u32, command: &Command) -> bool
+        requires stands { (img : List ℕ) × (size : ℕ) × Stands self.now img size }
+        ensures { (x : Opener) → IsNumber self.now who x → let own = own_of self.now.options x in
+            MatchBool result (IsBeginning (form_in self.now.header) own command.now) (IsBeginning (form_in self.now.header) own command.now → ⊥) }
+    {
+        match self.opener(who) {
+            Some(opener) => opener.begins(&self.options, command, &self.header),
+            None => false,
+        }
+    }
+
     /// Gives a live opener that has no command this one. `told` is the same command.
     fn give(&mut self, who: u32, command: Command, told: Command)
         requires same { told ≡ command }
         requires free { (x : Opener) × IsFree self.old who x }
         requires chains { 0 < self.old.header.hash_size }
         requires held { (x : Opener) → IsFree self.old who x → IsWellHeld x.held }
-        requires served { IsServed command }
+        requires begun { (x : Opener) → IsFree self.old who x → IsBeginning (form_in self.old.header) (own_of self.old.options x) command → ⊥ }
         requires short { IsShortGiven command }
         ensures { (size : ℕ) (x : Opener) → IsFree self.old who x → IsAssigned self.old who x command size self.new }
     {
@@ -252,7 +265,8 @@ impl Openers {
     }
 
     /// Gives a live opener that has no command this one, of which it then takes turns. `told` is the same command, of
-    /// which a report's lines are copies. It takes no memory.
+    /// which a report's lines are copies. A command on a transaction is one that the opener's own state refuses, since the
+    /// opener has none here. It takes no memory.
     ///
     /// Cost: a hash of the key, and a look-up among the chains that the opener holds.
     pub fn assign(&mut self, who: u32, command: Command, told: Command)
@@ -260,7 +274,7 @@ impl Openers {
         requires free { (x : Opener) × IsFree self.old who x }
         requires chains { 0 < self.old.header.hash_size }
         requires stands { (img : List ℕ) × (size : ℕ) × Stands self.old img size }
-        requires served { IsServed command }
+        requires begun { (x : Opener) → IsFree self.old who x → IsBeginning (form_in self.old.header) (own_of self.old.options x) command → ⊥ }
         requires short { IsShortGiven command }
         ensures assigned { (size : ℕ) (x : Opener) → IsFree self.old who x → IsAssigned self.old who x command size self.new }
         ensures header { self.new.header ≡ self.old.header }

@@ -48,9 +48,9 @@ returns-in-Refused-clause-file g c told rest v n who others J I =
     let left = Jobs.Refused c.in-Refused.command c.replace.new.dest in
     let ready = subst (λ j. JobIsReady f x (resting rest) j n who c.args.owner (g.S.Space.size c.args.s.now) ps) c.in-Refused.is J in
     let before = subst (λ j. ImageBefore f j a others) c.in-Refused.is I in
-    let refused = subst (λ r. IsRefused f x (law_command c.in-Refused.command) (law_reply r)) (sym c.replace.ensures.value) ready.stands.2 in
+    let refused = subst (λ r. IsRefused f x (law_command c.in-Refused.command) (law_reply r)) (sym c.replace.ensures.value) ready.stands.1 in
     let holds = subst (λ m. OpenerHolds f x (resting rest) (command_in job) m who ps) ready.stands.0 ready.holds in
-    let E = c.refused_turn.ensures.turned f x rest v c.in-Refused.command who ps ready.stands.1 refused holds in
+    let E = c.refused_turn.ensures.turned f x rest v c.in-Refused.command who ps refl refused holds in
     subst (λ j. JobFiled f x x (resting rest) v j left n who ps a a others c.args.spots.now (law_turn c.refused_turn.result)) (sym c.in-Refused.is)
     (subst (λ t. JobFiled f x x (resting rest) v job left n who ps a a others c.args.spots.now (law_turn t)) (sym c.refused_turn.ensures.turn)
     (same_filed f x x (resting rest) v job left n who ps a others c.args.spots.now refl refl tt before.accepted _ ready.stands.0 (λ stands. tt) (E.file a)))
@@ -209,9 +209,9 @@ returns-in-Refused-clause-turned g c rest n who J =
     let job = Jobs.Refused c.in-Refused.command c.in-Refused.reply in
     let left = Jobs.Refused c.in-Refused.command c.replace.new.dest in
     let ready = subst (λ j. JobIsReady f x (resting rest) j n who c.args.owner size ps) c.in-Refused.is J in
-    let refused = subst (λ r. IsRefused f x (law_command c.in-Refused.command) (law_reply r)) (sym c.replace.ensures.value) ready.stands.2 in
+    let refused = subst (λ r. IsRefused f x (law_command c.in-Refused.command) (law_reply r)) (sym c.replace.ensures.value) ready.stands.1 in
     let holds = subst (λ m. OpenerHolds f x (resting rest) (command_in job) m who ps) ready.stands.0 ready.holds in
-    let E = c.refused_turn.ensures.turned f x rest any_view c.in-Refused.command who ps ready.stands.1 refused holds in
+    let E = c.refused_turn.ensures.turned f x rest any_view c.in-Refused.command who ps refl refused holds in
     subst (λ j. JobTurned f x x (resting rest) j left n who size ps ps (law_turn c.refused_turn.result)) (sym c.in-Refused.is)
     (subst (λ t. JobTurned f x x (resting rest) job left n who size ps ps (law_turn t)) (sym c.refused_turn.ensures.turn)
     (subst (λ m. JobTurned f x x (resting rest) job left m who size ps ps (Law.Turn.Ends (law_reply c.replace.result))) (sym ready.stands.0) (record { locks = E.locks; stands = tt; lives = λ t e. refl })))
