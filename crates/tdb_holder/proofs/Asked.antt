@@ -16,7 +16,7 @@ use Rattle.tdb_inside.specs.Counted.{all_lock}
 use Rattle.tdb_plays.specs.InLaw.{law_command, law_reply}
 use Rattle.tdb_plays.specs.declared.command.Command.{Command}
 use Rattle.tdb_plays.specs.declared.command.Command.TheVariants as Given
-use Rattle.tdb_holder.specs.declared.options.Options.{Options}
+use Rattle.tdb_plays.specs.declared.options.Options.{Options}
 use Rattle.tdb_holder.specs.declared.refusing.Level.{Level}
 use Rattle.tdb_holder.specs.Refusing.{StandsAt, is_writer, passes_prepared, counted_with, commit_told, inside_told}
 use Rattle.tdb_holder.proofs.Counts.{total_counted}

@@ -33,7 +33,7 @@ use Rattle.tdb_inside.proofs.Lifted.{walks_are_lawful}
 use Rattle.tdb_plays.specs.InLaw.{law_command, law_reply}
 use Rattle.tdb_plays.specs.declared.command.Command.{Command as Given}
 use Rattle.tdb_holder.specs.declared.open_txn.OpenTxn.{OpenTxn}
-use Rattle.tdb_holder.specs.declared.options.Options.{Options}
+use Rattle.tdb_plays.specs.declared.options.Options.{Options}
 use Rattle.tdb_holder.specs.declared.stage.Stage.TheVariants as At
 use Rattle.tdb_holder.specs.Ends.{task_of, TurnLeaves}
 use Rattle.tdb_holder.specs.Open.{GoesOn}

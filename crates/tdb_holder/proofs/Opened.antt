@@ -38,7 +38,7 @@ use Rattle.tdb_plays.specs.declared.command.Command.{Command as Given}
 use Rattle.tdb_plays.specs.declared.command.Command.TheVariants as Names
 use Rattle.tdb_steps.specs.declared.flag.Flag.TheVariants as Flags
 use Rattle.std.specs.Option.{option_map}
-use Rattle.tdb_holder.specs.declared.options.Options.{Options}
+use Rattle.tdb_plays.specs.declared.options.Options.{Options}
 use Rattle.tdb_holder.specs.declared.open_txn.OpenTxn.{OpenTxn}
 use Rattle.tdb_holder.specs.Given.{IsInside as StaysInside}
 use Rattle.tdb_holder.specs.Open.{HasOpen, GoesOn}

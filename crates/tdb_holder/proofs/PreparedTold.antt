@@ -15,7 +15,7 @@ use Rattle.tdb_inside.specs.Counted.{IsCounted}
 use Rattle.tdb_plays.specs.InLaw.{law_command, law_reply}
 use Rattle.tdb_plays.specs.declared.command.Command.{Command}
 use Rattle.tdb_plays.specs.declared.command.Command.TheVariants as Given
-use Rattle.tdb_holder.specs.declared.options.Options.{Options}
+use Rattle.tdb_plays.specs.declared.options.Options.{Options}
 use Rattle.tdb_holder.specs.declared.refusing.Level.{Level}
 use Rattle.tdb_holder.specs.Prepared.{prepared_told}
 use Rattle.tdb_holder.specs.Refusing.{is_writer, options_of, passes_prepared, StandsAt}

@@ -31,7 +31,7 @@ use Rattle.tdb_steps.specs.Turns.{number_of}
 use Rattle.tdb_plays.specs.InLaw.{law_turn}
 use Rattle.tdb_beside.specs.Sides.{Past, Side}
 use Rattle.tdb_beside.specs.Own.{OwnTurned}
-use Rattle.tdb_holder.specs.declared.options.Options.{Options}
+use Rattle.tdb_plays.specs.declared.options.Options.{Options}
 use Rattle.tdb_holder.specs.declared.stage.PreparedTxn.{PreparedTxn}
 use Rattle.tdb_holder.specs.declared.stage.PreparedTxn.TheVariants.{Opened, Nothing}
 use Rattle.tdb_holder.specs.declared.stage.Stage.TheVariants as At

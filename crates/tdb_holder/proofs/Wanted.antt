@@ -38,7 +38,7 @@ use Rattle.tdb_plays.specs.InLaw.{law_command}
 use Rattle.tdb_plays.specs.declared.command.Command.{Command}
 use Rattle.tdb_plays.specs.declared.command.Command.TheVariants as Given
 use Rattle.tdb_holder.specs.declared.open_txn.OpenTxn.{OpenTxn}
-use Rattle.tdb_holder.specs.declared.options.Options.{Options}
+use Rattle.tdb_plays.specs.declared.options.Options.{Options}
 use Rattle.tdb_holder.specs.declared.stage.PreparedTxn.TheVariants.{Nothing}
 use Rattle.tdb_holder.specs.declared.stage.Stage.{Stage}
 use Rattle.tdb_holder.specs.declared.stage.Stage.TheVariants as At

@@ -11,7 +11,7 @@ use Rattle.tdb_inside.specs.Counted.{IsCounted}
 use Rattle.tdb_inside.specs.OwnTxns.{law_txn, image_of, form_of}
 use Rattle.tdb_inside.specs.Turns.{TurnsInside}
 use Rattle.tdb_inside.specs.Walks.{mark_in, RestsInside, WalkedInside}
-use Rattle.tdb_holder.specs.declared.options.Options.{Options}
+use Rattle.tdb_plays.specs.declared.options.Options.{Options}
 use Rattle.tdb_holder.specs.declared.open_txn.OpenTxn.{OpenTxn}
 use Rattle.tdb_holder.specs.Refusing.{options_of}
 

@@ -9,7 +9,7 @@ use Rattle.tdb_txn.specs.CommitStates.{prepared_plan, plan_length}
 use Rattle.tdb_commit.specs.Commits.{Carries, RestsAt}
 use Rattle.tdb_plays.specs.InLaw.{law_reply}
 use Rattle.tdb_plays.specs.declared.command.Command.{Command}
-use Rattle.tdb_holder.specs.declared.options.Options.{Options}
+use Rattle.tdb_plays.specs.declared.options.Options.{Options}
 use Rattle.tdb_holder.specs.declared.stage.PreparedTxn.{PreparedTxn}
 use Rattle.tdb_holder.specs.declared.stage.PreparedTxn.TheVariants.{Opened, Nothing}
 use Rattle.tdb_holder.specs.declared.stage.Stage.TheVariants as At

@@ -8,7 +8,7 @@ use Rattle.tdb_law.specs.Openers.{Own, Txn, Options as LawOptions}
 use Rattle.tdb_inside.specs.Counted.{IsCounted}
 use Rattle.tdb_plays.specs.declared.command.Command.{Command}
 use Rattle.tdb_plays.specs.declared.command.Command.TheVariants as Given
-use Rattle.tdb_holder.specs.declared.options.Options.{Options}
+use Rattle.tdb_plays.specs.declared.options.Options.{Options}
 use Rattle.tdb_holder.specs.declared.refusing.Level.{Level}
 
 -- the options in the law's words

@@ -35,7 +35,7 @@ use Rattle.tdb_plays.specs.InLaw.{law_command}
 use Rattle.tdb_plays.specs.declared.command.Command.{Command}
 use Rattle.tdb_plays.specs.declared.command.Command.TheVariants as Given
 use Rattle.tdb_beside.specs.Sides.{Past, Side}
-use Rattle.tdb_holder.specs.declared.options.Options.{Options}
+use Rattle.tdb_plays.specs.declared.options.Options.{Options}
 use Rattle.tdb_holder.specs.declared.stage.PreparedTxn.{PreparedTxn}
 use Rattle.tdb_holder.specs.declared.stage.PreparedTxn.TheVariants.{Opened, Nothing}
 use Rattle.tdb_holder.specs.declared.stage.Stage.{Stage}

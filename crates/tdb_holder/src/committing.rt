@@ -9,7 +9,7 @@ ghost use Rattle.tdb_commit.specs.Committings.{commit_steps, CommitFits, CommitM
 ghost use Rattle.tdb_plays.specs.InLaw.{law_turn};
 ghost use Rattle.tdb_holder.specs.Wents.{commit_went};
 ghost use Rattle.tdb_words.specs.declared.header.Header.{Header};
-ghost use Rattle.tdb_holder.specs.declared.options.Options.{Options};
+ghost use Rattle.tdb_plays.specs.declared.options.Options.{Options};
 ghost use Rattle.tdb_holder.specs.declared.stage.Stage.TheVariants as Stage;
 ghost use Rattle.tdb_holder.specs.Stages.{stage_task, Known, IsFitLeft, IsSide, KnowsFile};
 ghost use Rattle.tdb_holder.specs.Turned.{MayTurn, StageTurned};

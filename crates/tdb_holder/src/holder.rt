@@ -13,7 +13,7 @@ ghost use Rattle.tdb_beside.specs.Own.{side_wants};
 ghost use Rattle.tdb_beside.specs.Sides.{Past, Side};
 ghost use Rattle.tdb_commit.specs.declared.starting.Starting.TheVariants as Starting;
 ghost use Rattle.tdb_plays.specs.InLaw.{law_command, law_turn};
-ghost use Rattle.tdb_holder.specs.declared.options.Options.{Options};
+ghost use Rattle.tdb_plays.specs.declared.options.Options.{Options};
 ghost use Rattle.tdb_holder.specs.declared.stage.Stage.{Stage};
 ghost use Rattle.tdb_holder.specs.declared.stage.Stage.TheVariants as Stage;
 ghost use Rattle.tdb_holder.specs.declared.wanting.Wants.TheVariants as Wants;
@@ -27,7 +27,6 @@ ghost use Rattle.tdb_holder.specs.Wanting.{records_at, stage_wants, wanted_by, R
 use crate::committing::commit_turn;
 use crate::finishing::finish_turn;
 use crate::inside::open_turn;
-use crate::options::Options;
 use crate::prepared::prepared_turn;
 use crate::preparing::prepare_turn;
 use crate::stage::{Stage, Went};
@@ -38,7 +37,7 @@ use std::marker::Model;
 use tdb_commit::Starting;
 use tdb_disk::Disk;
 use tdb_locks::{Kind, Locks, Reply, Turn};
-use tdb_plays::Command;
+use tdb_plays::{Command, Options};
 use tdb_space::Io;
 use tdb_words::Header;
 

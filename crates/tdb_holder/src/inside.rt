@@ -21,7 +21,6 @@ ghost use Rattle.tdb_holder.specs.Wents.{TurnsFrom};
 
 use crate::committing::commit_turn;
 use crate::open_txn::OpenTxn;
-use crate::options::Options;
 use crate::preparing::prepare_turn;
 use crate::stage::{Stage, Went};
 use std::alloc::Global;
@@ -29,7 +28,7 @@ use tdb_commit::{Committing, Preparing};
 use tdb_disk::Disk;
 use tdb_inside::OwnTxn;
 use tdb_locks::{Locks, Reply, Turn};
-use tdb_plays::Command;
+use tdb_plays::{Command, Options};
 use tdb_space::Io;
 use tdb_txn::Txn;
 use tdb_words::Header;

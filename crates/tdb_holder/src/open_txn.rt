@@ -26,16 +26,15 @@ ghost use Rattle.tdb_inside.specs.OwnTxns.{form_of};
 ghost use Rattle.tdb_inside.specs.Walks.{command_for, IsEntered, RestsInside};
 ghost use Rattle.tdb_plays.specs.InLaw.{law_command, law_reply};
 ghost use Rattle.tdb_holder.specs.Given.{IsInside, IsLocking, IsMapped, IsPlainInside, IsShortCommand};
-ghost use Rattle.tdb_holder.specs.declared.options.Options.{Options};
+ghost use Rattle.tdb_plays.specs.declared.options.Options.{Options};
 
-use crate::options::Options;
 use crate::refusing::{Level, chain_in};
 use std::alloc::{AllocError, Global};
 use tdb_cursors::Walk;
 use tdb_disk::Disk;
 use tdb_inside::{OwnTxn, count_all, count_chain, uncount_all, uncount_chain};
 use tdb_locks::{Held, Kind, Reply, Spots};
-use tdb_plays::Command;
+use tdb_plays::{Command, Options};
 use tdb_space::Io;
 use tdb_steps::Plain;
 use tdb_walk::Goal;

@@ -12,7 +12,7 @@ ghost use Rattle.tdb_commit.specs.Commits.{RestsAt};
 ghost use Rattle.tdb_commit.specs.Holding.{OthersHold};
 ghost use Rattle.tdb_plays.specs.InLaw.{law_turn};
 ghost use Rattle.tdb_plays.specs.declared.command.Command.TheVariants as Given;
-ghost use Rattle.tdb_holder.specs.declared.options.Options.{Options};
+ghost use Rattle.tdb_plays.specs.declared.options.Options.{Options};
 ghost use Rattle.tdb_holder.specs.declared.stage.Stage.TheVariants as Stage;
 ghost use Rattle.tdb_holder.specs.Given.{IsShortCommand};
 ghost use Rattle.tdb_holder.specs.Prepared.{IsRefused, KnowsPrepared, PreparedFits};
@@ -23,14 +23,13 @@ ghost use Rattle.tdb_holder.specs.Wanting.{RecordsGo};
 ghost use Rattle.tdb_holder.specs.Wents.{is_over};
 
 use crate::finishing::finish_turn;
-use crate::options::Options;
 use crate::refusing::Level;
 use crate::stage::{PreparedTxn, Stage, Went};
 use std::alloc::Global;
 use tdb_commit::{Finishing, undo_prepared};
 use tdb_disk::Disk;
 use tdb_locks::{Held, Locks, Reply, Turn};
-use tdb_plays::Command;
+use tdb_plays::{Command, Options};
 use tdb_space::Io;
 use tdb_words::Header;
 

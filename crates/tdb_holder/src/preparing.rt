@@ -9,7 +9,7 @@ ghost use Rattle.tdb_law.specs.Openers.{Task};
 ghost use Rattle.tdb_beside.specs.Sides.{Past, Side};
 ghost use Rattle.tdb_commit.specs.Prepares.{KnowsStage, StageFits};
 ghost use Rattle.tdb_plays.specs.InLaw.{law_turn};
-ghost use Rattle.tdb_holder.specs.declared.options.Options.{Options};
+ghost use Rattle.tdb_plays.specs.declared.options.Options.{Options};
 ghost use Rattle.tdb_holder.specs.declared.stage.Stage.TheVariants as Stage;
 ghost use Rattle.tdb_holder.specs.Stages.{stage_task, Known, IsFitLeft, IsSide, KnowsFile};
 ghost use Rattle.tdb_holder.specs.Turned.{MayTurn, StageTurned};

@@ -10,9 +10,8 @@ ghost use Rattle.tdb_plays.specs.InLaw.{law_command, law_reply};
 ghost use Rattle.tdb_holder.specs.Refusing.{commit_told, counted_with, inside_told, is_writer, passes_prepared, StandsAt};
 ghost use Rattle.tdb_holder.specs.Given.{IsShortCommand};
 
-use crate::options::Options;
 use tdb_locks::{Held, Reply};
-use tdb_plays::Command;
+use tdb_plays::{Command, Options};
 use tdb_words::{Bytes, Header, chain_of, hash_of};
 
 /// What of an opener's transaction, and of its cursor, decides which of its commands are refused.

@@ -13,13 +13,13 @@ ghost use Rattle.tdb_holder.specs.Wents.{StartWent};
 ghost use Rattle.tdb_holder.specs.Wanting.{RecordsGo};
 
 use crate::open_txn::OpenTxn;
-use crate::options::Options;
 use crate::stage::{Stage, Went};
 use std::alloc::Global;
 use tdb_commit::{StartTurn, Starting};
 use tdb_disk::Disk;
 use tdb_inside::OwnTxn;
 use tdb_locks::{Locks, Reply, Turn};
+use tdb_plays::Options;
 use tdb_space::Io;
 use tdb_words::Header;
 

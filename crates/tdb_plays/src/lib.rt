@@ -4,6 +4,7 @@
 mod command;
 mod laws;
 mod line;
+mod options;
 mod play;
 mod plays;
 mod report;
@@ -13,6 +14,7 @@ mod tests;
 pub use crate::command::Command;
 pub use crate::laws::law_names;
 pub use crate::line::Line;
+pub use crate::options::Options;
 pub use crate::play::Play;
 pub use crate::plays::Plays;
 pub use crate::report::TurnReport;

@@ -19,7 +19,7 @@ use Rattle.tdb_space.specs.Form.{Form, form_in}
 use Rattle.tdb_world.specs.Openers.{own_at}
 use Rattle.tdb_world.specs.Worlds.{World, state_in, BytesStand}
 use Rattle.tdb_world.specs.declared.opener.Opener.{Opener}
-use Rattle.tdb_world.specs.declared.options.Options.{Options}
+use Rattle.tdb_plays.specs.declared.options.Options.{Options}
 use Rattle.tdb_tool.specs.declared.limits.TheConstants.{MOST_MOVES}
 use Rattle.tdb_tool.specs.declared.fault.SessionFault.{SessionFault}
 use Rattle.tdb_tool.specs.declared.fault.SessionFault.TheVariants as F

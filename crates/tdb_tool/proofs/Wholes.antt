@@ -17,7 +17,7 @@ use Rattle.tdb_world.specs.Finished.{unfinished}
 use Rattle.tdb_world.specs.Openers.{options_of}
 use Rattle.tdb_words.specs.declared.header.Header.{Header}
 use Rattle.tdb_world.specs.Worlds.{World, state_in, BytesStand}
-use Rattle.tdb_world.specs.declared.options.Options.{Options}
+use Rattle.tdb_plays.specs.declared.options.Options.{Options}
 use Rattle.tdb_tool.specs.declared.fault.SessionEnd.{SessionEnd}
 use Rattle.tdb_tool.specs.declared.fault.SessionFault.{SessionFault}
 use Rattle.tdb_tool.specs.declared.fault.SessionFault.TheVariants as F

@@ -23,7 +23,7 @@ use Rattle.tdb_law.proofs.Plainly.{beginning_lawful}
 use Rattle.tdb_plays.specs.InLaw.{law_plays, law_lines}
 use Rattle.tdb_world.specs.Openers.{options_of}
 use Rattle.tdb_world.specs.Worlds.{state_in}
-use Rattle.tdb_world.specs.declared.options.Options.{Options}
+use Rattle.tdb_plays.specs.declared.options.Options.{Options}
 use Rattle.tdb_gen.specs.Generated.{Generated as IsLoad, GeneratedOver}
 use Rattle.tdb_gen.specs.Plays.{gen_plays}
 use Rattle.tdb_gen.specs.Taking.{UnlessIo}

@@ -15,7 +15,7 @@ use Rattle.tdb_world.specs.Openers.{options_of}
 use Rattle.tdb_world.specs.Finished.{unfinished}
 use Rattle.tdb_world.proofs.Finishing.{report_lawful}
 use Rattle.tdb_world.specs.Worlds.{World, state_in}
-use Rattle.tdb_world.specs.declared.options.Options.{Options}
+use Rattle.tdb_plays.specs.declared.options.Options.{Options}
 use Rattle.tdb_tool.proofs.Coming.{whole_comes}
 use Rattle.tdb_tool.proofs.Telling.{front_after}
 use Rattle.tdb_tool.specs.Whole.{IsOver, beginning_over}

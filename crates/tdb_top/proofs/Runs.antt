@@ -34,7 +34,7 @@ use Rattle.tdb_top.specs.Reads.{reads_input, ask_reads, AskEnds}
 use Rattle.tdb_top.specs.Commands.Session.{session_options, StaysThere}
 use Rattle.tdb_top.specs.Commands.Turns.{TurnOpened, IsPlayed, TurnsLeft, TurnsLeave}
 use Rattle.tdb_dump.specs.declared.listing.Listing.{Listing}
-use Rattle.tdb_world.specs.declared.options.Options.{Options}
+use Rattle.tdb_plays.specs.declared.options.Options.{Options}
 use Rattle.tdb_gen.specs.declared.summary.Summary.{Summary}
 use Rattle.tdb_gen.specs.Summary.{summary_text}
 use Rattle.tdb_top.specs.Commands.Generate.{HasMade, GenLeaves}

@@ -29,7 +29,7 @@ use Rattle.tdb_dump.specs.declared.writer.WriteRefusal.{WriteRefusal}
 use Rattle.tdb_dump.specs.declared.writer.WriteRefusal.TheVariants as Untold
 use Rattle.tdb_world.specs.declared.fault.RunFault.{RunFault}
 use Rattle.tdb_world.specs.declared.fault.RunFault.TheVariants as Run
-use Rattle.tdb_world.specs.declared.options.Options.{Options}
+use Rattle.tdb_plays.specs.declared.options.Options.{Options}
 use Rattle.tdb_top.specs.Commands.Turns.{PlayedWhole, CameOver, IsReport, OpensToTurn, IsRefusedToTurn, TurnOpened, IsOpened}
 
 -- how plays end: all were taken and told; or they broke off, since the disk failed or memory was wanting; or the output

@@ -31,7 +31,7 @@ use Rattle.tdb_top.specs.Commands.Verify.{VerifyEnds, VerifiedAll, LeftAt}
 use Rattle.tdb_gen.specs.declared.summary.Summary.{Summary}
 use Rattle.tdb_gen.specs.Summary.{summary_text}
 use Rattle.tdb_dump.specs.declared.listing.Listing.{Listing}
-use Rattle.tdb_world.specs.declared.options.Options.{Options}
+use Rattle.tdb_plays.specs.declared.options.Options.{Options}
 use Rattle.tdb_top.specs.Input.{Input}
 use Rattle.tdb_top.specs.Left.{HasRestored, MayChange}
 use Rattle.tdb_top.specs.Reads.{ask_reads}

@@ -32,7 +32,7 @@ use Rattle.tdb_world.specs.States.{WorldStands, FileStands}
 use Rattle.tdb_world.specs.Turning.{law_table}
 use Rattle.tdb_world.specs.Worlds.{World, IsNumber, Stands, BytesStand}
 use Rattle.tdb_world.specs.declared.opener.Opener.{Opener}
-use Rattle.tdb_world.specs.declared.options.Options.{Options}
+use Rattle.tdb_plays.specs.declared.options.Options.{Options}
 use Rattle.tdb_world.proofs.Beside.{all_alone}
 use Rattle.tdb_world.proofs.Granted.{none_held_there}
 use Rattle.tdb_world.proofs.Putting.{by_number, numbered, put_numbered}

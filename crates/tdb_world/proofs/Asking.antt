@@ -17,7 +17,7 @@ use Rattle.tdb_steps.specs.declared.flag.Flag.TheVariants as Flags
 use Rattle.tdb_plays.specs.InLaw.{law_command, law_reply}
 use Rattle.tdb_plays.specs.declared.command.Command.{Command}
 use Rattle.tdb_plays.specs.declared.command.Command.TheVariants as Given
-use Rattle.tdb_world.specs.declared.options.Options.{Options}
+use Rattle.tdb_plays.specs.declared.options.Options.{Options}
 use Rattle.tdb_world.specs.Openers.{AtRest, own_with, all_of}
 use Rattle.tdb_world.specs.Given.{held_count, holds_chains, reads_records, unlock_told, unlock_all_told}
 use Rattle.tdb_world.proofs.Owned.{has_read, own_has, own_count, own_total}

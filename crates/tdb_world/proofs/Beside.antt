@@ -20,7 +20,7 @@ use Rattle.tdb_law.proofs.Tests.{or_cases}
 use Rattle.tdb_steps.specs.LockRows.{strength_of, covers_all}
 use Rattle.tdb_steps.specs.Holdings.{KeptBeside}
 use Rattle.tdb_steps.specs.declared.rows.Region.TheVariants.{Chain, FreeList, AllRecords}
-use Rattle.tdb_world.specs.declared.options.Options.{Options}
+use Rattle.tdb_plays.specs.declared.options.Options.{Options}
 use Rattle.tdb_world.specs.Openers.{AtRest, own_with, all_of}
 use Rattle.tdb_world.specs.Given.{holds_chains, reads_records}
 use Rattle.tdb_world.specs.Turning.{StandsWell, resting}

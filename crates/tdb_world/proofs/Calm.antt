@@ -25,7 +25,7 @@ use Rattle.tdb_walk.specs.declared.stage.Stage.TheVariants.{Rested, Reading, Wri
 use Rattle.tdb_walk.specs.Cursors.{dead_of}
 use Rattle.tdb_walk.specs.InLaw.{is_purging}
 use Rattle.tdb_world.specs.Calm.{WritesNoRecord}
-use Rattle.tdb_world.specs.declared.options.Options.{Options}
+use Rattle.tdb_plays.specs.declared.options.Options.{Options}
 use Rattle.tdb_world.specs.declared.opener.Opener.{Opener}
 use Rattle.tdb_world.specs.States.{WorldStands}
 use Rattle.tdb_world.specs.Turning.{OpenerHolds}

@@ -7,7 +7,7 @@ use Rattle.std.specs.FinMap.{insert, remove}
 use Rattle.tdb_locks.specs.HeldLocks.{HeldLocks, AreCounts, Raises, Lowers, SetsAll, count_of}
 use Rattle.tdb_locks.specs.declared.kind.Kind.{Kind}
 use Rattle.tdb_law.specs.Openers.{Own, Counts, count_at, count_more, count_less}
-use Rattle.tdb_world.specs.declared.options.Options.{Options}
+use Rattle.tdb_plays.specs.declared.options.Options.{Options}
 use Rattle.tdb_world.specs.Openers.{AtRest, own_with, counts_of, all_of}
 use Rattle.tdb_world.proofs.Counts.{counts_put, counts_out, counts_same}
 use Rattle.tdb_world.proofs.Owned.{own_count}

@@ -27,7 +27,7 @@ use Rattle.tdb_steps.specs.Holdings.{HoldsBefore, LocksTurned}
 use Rattle.tdb_steps.specs.LockRows.{locks_in, AllStandAlone}
 use Rattle.tdb_steps.specs.Machines.{MapRow, MapTurned, number_after}
 use Rattle.tdb_steps.specs.PlainCommands.{turn_of}
-use Rattle.tdb_world.specs.declared.options.Options.{Options}
+use Rattle.tdb_plays.specs.declared.options.Options.{Options}
 use Rattle.tdb_world.specs.declared.job.Job.TheVariants as Jobs
 use Rattle.tdb_world.specs.declared.job.Checking.{Checking}
 use Rattle.tdb_world.specs.declared.job.Checking.TheVariants.{Begun, Records, FreeList, Counted}

@@ -19,7 +19,7 @@ use Rattle.tdb_steps.specs.LockRows.{locks_in, lock_of, start_of, end_of, AllSta
 use Rattle.tdb_steps.specs.declared.rows.LockRow.{LockRow}
 use Rattle.std.proofs.lemmas.Bool.{false_from_ne_true}
 use Rattle.tdb_steps.specs.Holdings.{table_of, HoldsBefore}
-use Rattle.tdb_world.specs.declared.options.Options.{Options}
+use Rattle.tdb_plays.specs.declared.options.Options.{Options}
 use Rattle.tdb_world.specs.Openers.{AtRest, own_with}
 use Rattle.tdb_world.specs.Given.{holds_chains}
 use Rattle.tdb_world.specs.Turning.{OpenerHolds, resting}

@@ -15,7 +15,7 @@ use Rattle.tdb_law.proofs.Tests.{never_true}
 use Rattle.tdb_plays.specs.InLaw.{law_opener}
 use Rattle.tdb_steps.specs.Holdings.{strength, table_of}
 use Rattle.tdb_walk.specs.declared.standing.Standing.TheVariants.{On, Past}
-use Rattle.tdb_world.specs.declared.options.Options.{Options}
+use Rattle.tdb_plays.specs.declared.options.Options.{Options}
 use Rattle.tdb_world.specs.declared.opener.Opener.{Opener}
 use Rattle.tdb_world.specs.declared.job.Job.{Job}
 use Rattle.tdb_world.specs.declared.job.Job.TheVariants as Jobs

@@ -17,7 +17,7 @@ use Rattle.tdb_plays.specs.declared.command.Command.{Command}
 use Rattle.tdb_plays.specs.declared.command.Command.TheVariants as Given
 use Rattle.tdb_steps.specs.Holdings.{strength}
 use Rattle.tdb_steps.specs.LockRows.{covers_all}
-use Rattle.tdb_world.specs.declared.options.Options.{Options}
+use Rattle.tdb_plays.specs.declared.options.Options.{Options}
 use Rattle.tdb_world.specs.Openers.{AtRest, own_with, all_of}
 use Rattle.tdb_world.specs.Given.{holds_chains, reads_records, unlock_all_told, IsWellHeld}
 use Rattle.tdb_world.specs.Turning.{StandsWell, resting}

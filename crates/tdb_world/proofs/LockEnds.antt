@@ -28,7 +28,7 @@ use Rattle.tdb_steps.specs.LockRows.{lock_of, strength_of, is_covered, covers_al
 use Rattle.tdb_steps.proofs.Holdings.{want, let_go_at, others_changed}
 use Rattle.tdb_steps.specs.Holdings.{table_of, strength, KeptBeside}
 use Rattle.tdb_law.specs.Rows.{all_end}
-use Rattle.tdb_world.specs.declared.options.Options.{Options}
+use Rattle.tdb_plays.specs.declared.options.Options.{Options}
 use Rattle.tdb_world.specs.Openers.{AtRest, own_with, all_of}
 use Rattle.tdb_world.specs.Given.{holds_chains, reads_records, unlock_told, IsWellHeld}
 use Rattle.tdb_world.specs.Locked.{IsTaken, IsInTheWay, SameHeld, MayLock, LockingTurned, chain_row, all_row, waiting, at_once, more_of, less_of}

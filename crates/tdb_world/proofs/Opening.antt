@@ -18,7 +18,7 @@ use Rattle.tdb_steps.specs.PlainCommands.{command_of}
 use Rattle.tdb_walk.specs.Cursors.{spot_of}
 use Rattle.tdb_walk.specs.InLaw.{is_purging}
 use Rattle.tdb_walk.proofs.Holding.{locks_are}
-use Rattle.tdb_world.specs.declared.options.Options.{Options}
+use Rattle.tdb_plays.specs.declared.options.Options.{Options}
 use Rattle.tdb_world.specs.declared.opener.Opener.{Opener}
 use Rattle.tdb_world.specs.declared.job.Job.{Job}
 use Rattle.tdb_world.specs.declared.job.Job.TheVariants as Jobs

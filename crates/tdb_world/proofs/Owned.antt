@@ -8,7 +8,7 @@ use Rattle.tdb_locks.specs.declared.kind.Kind.TheVariants.{Read, Write}
 use Rattle.tdb_law.specs.Openers.{chain_locks, all_count, count_at}
 use Rattle.tdb_law.specs.Refusals.{has_chains, has_all}
 use Rattle.tdb_law.specs.Refusals as Law
-use Rattle.tdb_world.specs.declared.options.Options.{Options}
+use Rattle.tdb_plays.specs.declared.options.Options.{Options}
 use Rattle.tdb_world.specs.Openers.{AtRest, own_with, all_of}
 use Rattle.tdb_world.specs.Given.{held_count, holds_chains, reads_records}
 use Rattle.tdb_world.proofs.Counts.{counted, sum_counted}

@@ -22,7 +22,7 @@ use Rattle.tdb_steps.specs.Holdings.{HoldsBefore, LocksTurned}
 use Rattle.tdb_steps.specs.LockRows.{locks_in, rows_of, AllStandAlone}
 use Rattle.tdb_steps.specs.Machines.{Doing, Fits, Leaves, MachineTurned, MapRow, number_after}
 use Rattle.tdb_steps.specs.PlainCommands.{command_of, turn_of}
-use Rattle.tdb_world.specs.declared.options.Options.{Options}
+use Rattle.tdb_plays.specs.declared.options.Options.{Options}
 use Rattle.tdb_world.specs.declared.job.Job.TheVariants as Jobs
 use Rattle.tdb_world.specs.Openers.{AtRest, own_with}
 use Rattle.tdb_world.specs.Turning.{TurnsLocks, TurnsFile, resting}

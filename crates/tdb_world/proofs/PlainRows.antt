@@ -26,7 +26,7 @@ use Rattle.tdb_steps.specs.declared.plain.Plain.{Plain}
 use Rattle.tdb_steps.specs.declared.plain.Plain.TheVariants.{Fetch, Has, Store, Append, Delete, Wipe}
 use Rattle.tdb_steps.specs.declared.rows.Region.TheVariants.{Chain, FreeList, AllRecords}
 use Rattle.tdb_steps.specs.declared.rows.Rows.{Rows}
-use Rattle.tdb_world.specs.declared.options.Options.{Options}
+use Rattle.tdb_plays.specs.declared.options.Options.{Options}
 use Rattle.tdb_world.specs.Openers.{AtRest, own_with}
 use Rattle.tdb_world.specs.Given.{holds_chains, reads_records}
 use Rattle.tdb_world.specs.Turning.{OpenerHolds, StandsWell, resting}

@@ -25,7 +25,7 @@ use Rattle.tdb_world.specs.declared.job.Job.{Job}
 use Rattle.tdb_world.specs.declared.job.Job.TheVariants as Jobs
 use Rattle.tdb_world.specs.declared.job.Task.{Task}
 use Rattle.tdb_world.specs.declared.opener.Opener.{Opener}
-use Rattle.tdb_world.specs.declared.options.Options.{Options}
+use Rattle.tdb_plays.specs.declared.options.Options.{Options}
 use Rattle.tdb_world.proofs.AllHands.{joined_none}
 use Rattle.tdb_world.proofs.Aside.{held_before, strong_some}
 use Rattle.tdb_world.proofs.Beside.{all_here}

@@ -10,7 +10,7 @@ use Rattle.tdb_law.specs.Openers.{View, Task as LawTask}
 use Rattle.tdb_law.specs.Effects.{task_left}
 use Rattle.tdb_law.specs.Turned.{Turned}
 use Rattle.tdb_plays.specs.InLaw.{law_opener, law_turn}
-use Rattle.tdb_world.specs.declared.options.Options.{Options}
+use Rattle.tdb_plays.specs.declared.options.Options.{Options}
 use Rattle.tdb_world.specs.declared.opener.Opener.{Opener}
 use Rattle.tdb_world.specs.declared.job.Task.{Task}
 use Rattle.tdb_world.specs.Openers.{rest_of, own_of, own_at, spot_by, walk_in, walk_of, steps_of, task_at, place_at, spots_of, command_in, law_task, OpenerStands}

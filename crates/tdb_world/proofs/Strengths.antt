@@ -8,7 +8,7 @@ use Rattle.tdb_locks.specs.declared.piece.Piece.{Piece}
 use Rattle.tdb_locks.proofs.Strengths as Locks
 use Rattle.tdb_steps.specs.Holdings.{strength}
 use Rattle.tdb_walk.specs.InLaw.{IsAll, HoldsExplicit, strengths}
-use Rattle.tdb_world.specs.declared.options.Options.{Options}
+use Rattle.tdb_plays.specs.declared.options.Options.{Options}
 use Rattle.tdb_world.specs.Openers.{AtRest, all_of, own_with}
 use Rattle.tdb_world.specs.Turning.{law_table}
 use Rattle.tdb_world.proofs.Counts.{no_chain}

@@ -61,7 +61,7 @@ use Rattle.tdb_walk.proofs.Again.{cursor_leaves}
 use Rattle.tdb_walk.proofs.Lawful.{cursor_is_lawful}
 use Rattle.tdb_walk.proofs.Rows.{map_is}
 use Rattle.tdb_cursors.proofs.Apart.{cursor_comes_apart}
-use Rattle.tdb_world.specs.declared.options.Options.{Options}
+use Rattle.tdb_plays.specs.declared.options.Options.{Options}
 use Rattle.tdb_world.specs.declared.opener.Opener.{Opener}
 use Rattle.tdb_world.specs.declared.job.Job.{Job}
 use Rattle.tdb_world.specs.declared.job.Job.TheVariants as Jobs

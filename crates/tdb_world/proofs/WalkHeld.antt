@@ -36,7 +36,7 @@ use Rattle.tdb_walk.specs.Holds.{CursorHeld}
 use Rattle.tdb_walk.proofs.Rows.{last_is, own_is}
 use Rattle.tdb_walk.proofs.CursorHeld.{cursor_holds}
 use Rattle.tdb_world.specs.Given.{IsWellHeld}
-use Rattle.tdb_world.specs.declared.options.Options.{Options}
+use Rattle.tdb_plays.specs.declared.options.Options.{Options}
 use Rattle.tdb_world.specs.declared.opener.Opener.{Opener}
 use Rattle.tdb_world.specs.declared.job.Job.{Job}
 use Rattle.tdb_world.specs.declared.job.Job.TheVariants as Jobs

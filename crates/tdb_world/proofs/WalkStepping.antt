@@ -12,7 +12,7 @@ use Rattle.tdb_walk.specs.ByteLocks.{HoldsWords}
 use Rattle.tdb_walk.specs.Cursors.{dead_of}
 use Rattle.tdb_walk.specs.InLaw.{goal_of}
 use Rattle.tdb_cursors.specs.Spots.{LacksCursor, spot_number}
-use Rattle.tdb_world.specs.declared.options.Options.{Options}
+use Rattle.tdb_plays.specs.declared.options.Options.{Options}
 use Rattle.tdb_world.specs.declared.opener.Opener.{Opener}
 use Rattle.tdb_world.specs.declared.job.Task.{Task}
 use Rattle.tdb_world.specs.Openers.{spots_of, walk_in, walk_of}

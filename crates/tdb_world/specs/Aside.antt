@@ -16,7 +16,7 @@ use Rattle.tdb_plays.specs.InLaw.{law_opener}
 use Rattle.tdb_steps.specs.Holdings.{table_of}
 use Rattle.tdb_steps.specs.LockRows.{strength_of}
 use Rattle.tdb_world.specs.declared.opener.Opener.{Opener}
-use Rattle.tdb_world.specs.declared.options.Options.{Options}
+use Rattle.tdb_plays.specs.declared.options.Options.{Options}
 use Rattle.tdb_world.specs.Calm.{WritesNoRecord}
 use Rattle.tdb_world.specs.Given.{holds_chains}
 use Rattle.tdb_world.specs.Openers.{all_of}

@@ -18,7 +18,7 @@ use Rattle.tdb_law.specs.World.{HasFewChains}
 use Rattle.tdb_law.specs.Events.{Joins, Given}
 use Rattle.tdb_law.specs.Beginning.{IsLoaded}
 use Rattle.tdb_law.specs.Images.{image_map}
-use Rattle.tdb_world.specs.declared.options.Options.{Options}
+use Rattle.tdb_plays.specs.declared.options.Options.{Options}
 use Rattle.tdb_world.specs.declared.opener.Opener.{Opener}
 use Rattle.tdb_world.specs.declared.job.Job.{Job}
 use Rattle.tdb_world.specs.declared.job.Task.{Task}

@@ -28,7 +28,7 @@ use Rattle.tdb_cursors.specs.declared.walk.Walk.{Walk}
 use Rattle.tdb_cursors.specs.Spots.{spot_number}
 use Rattle.tdb_plays.specs.InLaw.{law_command, law_reply}
 use Rattle.tdb_world.specs.Given.{IsShortLocking, IsWellHeld}
-use Rattle.tdb_world.specs.declared.options.Options.{Options}
+use Rattle.tdb_plays.specs.declared.options.Options.{Options}
 use Rattle.tdb_world.specs.declared.opener.Opener.{Opener}
 use Rattle.tdb_world.specs.declared.job.Job.{Job}
 use Rattle.tdb_world.specs.declared.job.Job.TheVariants.{Refused, Plain, Check, Locking, Seqnum, Walk as OnWalk}

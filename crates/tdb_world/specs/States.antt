@@ -14,7 +14,7 @@ use Rattle.tdb_steps.specs.Holdings.{table_of}
 use Rattle.tdb_walk.specs.InLaw.{goal_of, view_of}
 use Rattle.tdb_walk.specs.Walkers.{Walkers}
 use Rattle.tdb_walk.specs.Walkers as Walking
-use Rattle.tdb_world.specs.declared.options.Options.{Options}
+use Rattle.tdb_plays.specs.declared.options.Options.{Options}
 use Rattle.tdb_world.specs.declared.opener.Opener.{Opener}
 use Rattle.tdb_world.specs.Openers.{own_at, law_task, task_at, spot_at, place_at, spots_of, hands_at, OpenerStands, OpenerKnows}
 use Rattle.tdb_world.specs.Turning.{no_view}

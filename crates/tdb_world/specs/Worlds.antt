@@ -8,7 +8,7 @@ use Rattle.tdb_law.specs.Openers.{Task as LawTask}
 use Rattle.tdb_law.specs.World.{State}
 use Rattle.tdb_plays.specs.declared.command.Command.{Command}
 use Rattle.tdb_plays.specs.InLaw.{law_command}
-use Rattle.tdb_world.specs.declared.options.Options.{Options}
+use Rattle.tdb_plays.specs.declared.options.Options.{Options}
 use Rattle.tdb_world.specs.declared.opener.Opener.{Opener}
 use Rattle.tdb_world.specs.declared.job.Task.{Task}
 use Rattle.tdb_world.specs.Openers.{no_walk, own_of, command_in, JobStands}

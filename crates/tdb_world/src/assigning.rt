@@ -12,10 +12,9 @@ ghost use Rattle.tdb_world.specs.Openers.{own_of, command_in, JobStands};
 
 use crate::job::{Checking, Job, Locking, Walking};
 use crate::opener::Opener;
-use crate::options::Options;
 use crate::told::PlainJob;
 use tdb_locks::Reply;
-use tdb_plays::Command;
+use tdb_plays::{Command, Options};
 use tdb_steps::Plain;
 use tdb_words::Header;
 

@@ -16,7 +16,6 @@ mod locking;
 mod numbering;
 mod opener;
 mod openers;
-mod options;
 mod plain;
 mod playing;
 mod refusing;
@@ -35,5 +34,5 @@ pub use crate::laws::{
     walk_keeps_world,
 };
 pub use crate::openers::{JoinRefusal, MOST_OPENERS, Openers};
-pub use crate::options::Options;
 pub use crate::starting::OpenerStanding;
+pub use tdb_plays::Options;

@@ -7,7 +7,7 @@ ghost use Rattle.tdb_plays.specs.InLaw.{law_turn};
 ghost use Rattle.tdb_world.specs.Openers.{AtRest, locking_command};
 ghost use Rattle.tdb_world.specs.Given.{IsShortLocking, IsWellHeld};
 ghost use Rattle.tdb_world.specs.Locked.{MayLock, LockingTurned, waiting, at_once};
-ghost use Rattle.tdb_world.specs.declared.options.Options.{Options};
+ghost use Rattle.tdb_plays.specs.declared.options.Options.{Options};
 
 use crate::holding::{hold_all, hold_chain, release_all, release_chain};
 use crate::job::Locking;

@@ -14,7 +14,7 @@ ghost use Rattle.tdb_law.specs.Openers.{View};
 ghost use Rattle.tdb_world.specs.Openers.{AtRest, own_with};
 ghost use Rattle.tdb_world.specs.Turning.{TurnsLocks, TurnsFile, resting};
 ghost use Rattle.tdb_world.specs.Ended.{MayCount};
-ghost use Rattle.tdb_world.specs.declared.options.Options.{Options};
+ghost use Rattle.tdb_plays.specs.declared.options.Options.{Options};
 
 use tdb_locks::{Kind, Len, LockRefusal, Locks, Reply, Turn};
 use tdb_space::{Io, Space, read_word};

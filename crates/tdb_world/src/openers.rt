@@ -27,12 +27,11 @@ ghost use Rattle.tdb_world.specs.Worlds.{fresh, state_in, law_of_task, Stands, B
 
 use crate::job::Task;
 use crate::opener::Opener;
-use crate::options::Options;
 use crate::telling::tell_unfinished;
 use std::alloc::{AllocError, Global};
 use std::marker::Model;
 use tdb_locks::{Kind, LockRefusal, Locks, Spots, Turn};
-use tdb_plays::{Command, TurnReport};
+use tdb_plays::{Command, Options, TurnReport};
 use tdb_space::{Io, Space};
 use tdb_words::Header;
 use thiserror::Error;

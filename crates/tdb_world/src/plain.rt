@@ -17,7 +17,7 @@ ghost use Rattle.tdb_world.specs.Turning.{TurnsFile, TurnsImage, ImageBefore, re
 ghost use Rattle.tdb_world.specs.Calm.{IsCalm};
 ghost use Rattle.tdb_world.specs.Cursors.{is_stood, CursorsBeside, LeavesCursors};
 ghost use Rattle.tdb_world.specs.Jobs.{JobIsReady, JobTurned, task_after};
-ghost use Rattle.tdb_world.specs.declared.options.Options.{Options};
+ghost use Rattle.tdb_plays.specs.declared.options.Options.{Options};
 ghost use Rattle.tdb_world.specs.declared.job.Job.TheVariants.{Plain};
 
 use std::alloc::Global;

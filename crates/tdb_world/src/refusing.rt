@@ -12,9 +12,8 @@ ghost use Rattle.tdb_world.specs.Given.{IsShortGiven, held_count, holds_chains, 
 
 use crate::locking::chain_in;
 use crate::opener::Opener;
-use crate::options::Options;
 use tdb_locks::{Held, Kind, Reply};
-use tdb_plays::Command;
+use tdb_plays::{Command, Options};
 use tdb_words::{Bytes, Header};
 
 /// Whether a chain is held explicitly.

@@ -24,10 +24,10 @@ use crate::job::{Job, Task};
 use crate::locking::locking_turn;
 use crate::numbering::seqnum_turn;
 use crate::opener::Opener;
-use crate::options::Options;
 use std::alloc::Global;
 use std::mem;
 use tdb_locks::{Held, Locks, Reply, Spots, Turn};
+use tdb_plays::Options;
 use tdb_space::{Io, Space};
 use tdb_words::Header;
 

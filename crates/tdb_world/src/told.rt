@@ -19,7 +19,7 @@ ghost use Rattle.tdb_world.specs.Given.{IsWellHeld};
 ghost use Rattle.tdb_world.specs.Openers.{AtRest, own_with};
 ghost use Rattle.tdb_world.specs.Turning.{ImageBefore, resting};
 ghost use Rattle.tdb_world.specs.Jobs.{JobIsReady, JobTurned, JobFiled};
-ghost use Rattle.tdb_world.specs.declared.options.Options.{Options};
+ghost use Rattle.tdb_plays.specs.declared.options.Options.{Options};
 ghost use Rattle.tdb_world.specs.declared.job.Job.TheVariants.{Plain};
 
 use crate::plain::plain_turn;

@@ -9,7 +9,7 @@ use Rattle.tdb_law.specs.Beginning.{beginning}
 use Rattle.tdb_law.specs.Lines.{IsLawful}
 use Rattle.tdb_plays.specs.InLaw.{law_lines}
 use Rattle.tdb_world.specs.Openers.{options_of}
-use Rattle.tdb_world.specs.declared.options.Options.{Options}
+use Rattle.tdb_plays.specs.declared.options.Options.{Options}
 use Rattle.tdb_gen.specs.Generated.{Generated as IsLoad}
 use Rattle.tdb_gen.specs.Summary.{summary_text}
 use Rattle.tdb_gen.specs.declared.fault.GenFault.{GenFault}

@@ -11,7 +11,7 @@ use Rattle.tdb_tool.specs.declared.fault.SessionEnd.TheVariants as End
 use Rattle.tdb_tool.specs.declared.fault.SessionFault.{SessionFault}
 use Rattle.tdb_tool.specs.declared.fault.SessionFault.TheVariants as F
 use Rattle.tdb_tool.specs.declared.order.Order.{Order}
-use Rattle.tdb_world.specs.declared.options.Options.{Options}
+use Rattle.tdb_plays.specs.declared.options.Options.{Options}
 use Rattle.tdb_top.specs.declared.ending.Ending.{Ending}
 use Rattle.tdb_top.specs.declared.ending.Ending.TheVariants.{Replied, Refused, Missing, DeviceFault, InputFault, Malformed, NoMemory}
 use Rattle.tdb_top.specs.declared.ending.Reply.TheVariants.{Played}

@@ -17,7 +17,7 @@ use Rattle.tdb_world.specs.Openers.{options_of}
 use Rattle.tdb_world.specs.Played.{ComesTo}
 use Rattle.tdb_world.specs.Finished.{unfinished}
 use Rattle.tdb_world.specs.Worlds.{World, state_in}
-use Rattle.tdb_world.specs.declared.options.Options.{Options}
+use Rattle.tdb_plays.specs.declared.options.Options.{Options}
 use Rattle.tdb_tool.specs.Whole.{IsOver, beginning_over}
 use Rattle.tdb_top.specs.declared.ending.Ending.{Ending}
 use Rattle.tdb_top.specs.declared.ending.Ending.TheVariants.{Replied, Refused, Missing, There, Usage, DeviceFault, InputFault, Malformed, NoMemory}

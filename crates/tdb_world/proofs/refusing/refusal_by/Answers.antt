@@ -8,7 +8,7 @@ use Rattle.tdb_locks.specs.declared.turn.Reply.{Reply}
 use Rattle.tdb_law.specs.Refusals.{refusal, says}
 use Rattle.tdb_plays.specs.InLaw.{law_command, law_reply}
 use Rattle.tdb_plays.specs.declared.command.Command.{Command}
-use Rattle.tdb_world.specs.declared.options.Options.{Options}
+use Rattle.tdb_plays.specs.declared.options.Options.{Options}
 use Rattle.tdb_world.specs.Openers.{AtRest, own_with}
 use Rattle.tdb_world.proofs.Asking.{change_told, held_told, told_in, told_law}
 use Rattle.tdb_world.proofs.refusing.refusal_by.Goals as goal
