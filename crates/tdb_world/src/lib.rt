@@ -33,6 +33,7 @@ pub use crate::laws::{
     turn_is_turned, turn_keeps_file, turn_keeps_world, walk_is_turned, walk_keeps_file,
     walk_keeps_world,
 };
+pub use crate::numbering::number_in;
 pub use crate::openers::{JoinRefusal, MOST_OPENERS, Openers};
 pub use crate::starting::OpenerStanding;
 pub use tdb_plays::Options;

@@ -19,8 +19,8 @@ ghost use Rattle.tdb_plays.specs.declared.options.Options.{Options};
 use tdb_locks::{Kind, Len, LockRefusal, Locks, Reply, Turn};
 use tdb_space::{Io, Space, read_word};
 
-/// The sequence number of a file: the word at 48, and 0 where the file ends before it.
-fn number_in<S: Space>(s: &mut S) -> Result<u32, Io>
+/// The sequence number of a file: the word at 48, and 0 where the file ends before it. `Io` where the disk failed.
+pub fn number_in<S: Space>(s: &mut S) -> Result<u32, Io>
     ensures value { IfOk result (λ w. IsTrue S.tells → 52 ≤ S.size s.old → w ≡ word (S.form s.old).order (S.image s.old) 48) }
     ensures looked { Looked S.Space s.old s.new }
     ensures cause { HasCause (S.faults s.old) (S.faults s.new) result }
