@@ -1,6 +1,7 @@
 -- The text of bytes run by run: those that stand as they are are copied at once.
-use Rattle.std.proofs.Common.{◌≡◌, ◌<◌, ◌+◌, ◌-◌, ℕ, List, [], ◌∷◌, ◌++◌, length, take, drop, true, refl, sym, ◌∙◌, ap}
+use Rattle.std.proofs.Common.{◌≡◌, ◌<◌, ◌+◌, ◌-◌, ℕ, List, [], ◌∷◌, ◌++◌, length, take, drop, true, cond, Result, Ok, Err, OnOk, refl, sym, ◌∙◌, ap}
 use Rattle.std.specs.Prelude.{slice_index}
+use Rattle.std.specs.Result.{is_ok}
 use Rattle.std.proofs.Math.Seq.{take-add, take-length}
 use Rattle.std.proofs.lemmas.List.{drop_more, length-drop, append_assoc}
 use Rattle.std.proofs.lemmas.List.Concat.{flat_map-cons}
@@ -32,3 +33,17 @@ run_put bs old mid new done n before more =
     ∙ ap (λ t. t ++ escaped (take n (take (length bs - done) (drop done bs)))) before
     ∙ append_assoc old (escaped (take done bs)) (escaped (take n (take (length bs - done) (drop done bs))))
     ∙ ap (λ t. old ++ t) (ap (λ l. escaped (take done bs) ++ escaped (take n l)) whole ∙ sym (escaped_add done n bs))
+
+-- a text behind which two counted fields and an end were put, which are these bytes together
+pub fields_put : {V E : Type 0} (r : Result V E) (old mid next new front count between key gap size value end whole : List ℕ)
+    → mid ≡ old ++ front ++ count ++ between ++ key → next ≡ mid ++ gap ++ size ++ between ++ value → new ≡ cond (is_ok r) (next ++ end) next
+    → front ++ (count ++ (between ++ (key ++ (gap ++ (size ++ (between ++ (value ++ end))))))) ≡ whole → OnOk r (new ≡ old ++ whole)
+fields_put (Ok v) old mid next new front count between key gap size value end whole first second third are =
+    third ∙ ap (λ t. t ++ end) (second ∙ ap (λ t. t ++ gap ++ size ++ between ++ value) first) ∙ (simp append_assoc) ∙ ap (λ t. old ++ t) are
+fields_put (Err e) old mid next new front count between key gap size value end whole first second third are = tt
+
+-- two lines between an opening and a closing text, by their parts
+pub pair_parts : (opening label paren count between key quote newline other size value closing : List ℕ)
+    → (opening ++ label ++ paren) ++ (count ++ (between ++ (key ++ ((quote ++ newline ++ other ++ paren) ++ (size ++ (between ++ (value ++ (quote ++ closing))))))))
+    ≡ opening ++ (label ++ paren ++ count ++ between ++ key ++ quote) ++ newline ++ (other ++ paren ++ size ++ between ++ value ++ quote) ++ closing
+pair_parts opening label paren count between key quote newline other size value closing = simp append_assoc

@@ -1,10 +1,13 @@
 //! Escapes: how a byte stands in a text.
 
-ghost use Rattle.std.specs.Prelude.{◌≡◌, ◌++◌, ◌<◌, ◌≤◌, [], ◌∷◌, length, take, IfOk, OnOk, IfSome};
+ghost use Rattle.std.specs.Prelude.{◌≡◌, ◌+◌, ◌++◌, ◌<◌, ◌≤◌, [], ◌∷◌, true, length, take, IfOk, OnOk, IfSome};
 ghost use Rattle.tdb_dump.specs.Escape.{is_plain, upper_digit, hex_byte, hex, escaped_byte, escaped, hex_value};
 
 use std::alloc::{AllocError, Global};
 use tdb_words::Bytes;
+
+/// How many bytes are put at the end of a text at once: their text is at most three times as long.
+const RUN: usize = 64;
 
 /// Whether a byte stands as it is: 0x20 to 0x7E, other than `"` and `\`.
 #[tactic(auto, unfolding(crate::specs::Escape::is_plain))]
@@ -57,44 +60,63 @@ pub(crate) fn push_all_digits(text: &mut Vec<u8>, bytes: &[u8]) -> Result<(), Al
     Ok(())
 }
 
-/// Puts the text of one byte at the end.
+/// Whether all the bytes stand as they are. It looks at each of them and doesn't stop at one that doesn't, so that one
+/// instruction looks at several.
+fn are_plain(bytes: &[u8]) -> bool
+    ensures { result ≡ true → escaped bytes.now ≡ bytes.now }
+{
+    let mut plain = true;
+    for byte in bytes {
+        plain = is_plain(*byte) & plain;
+    }
+    plain
+}
+
+/// Writes the text of one byte into a block behind its first `end` bytes, and says where it ends.
 #[tactic(auto, unfolding(crate::specs::Escape::escaped_byte))]
-fn push_escaped(text: &mut Vec<u8>, byte: u8) -> Result<(), AllocError>
-    ensures { OnOk result (text.new.items ≡ text.old.items ++ escaped_byte byte) }
+fn write_escaped(block: &mut [u8], end: usize, byte: u8) -> usize
+    requires { end + 3 ≤ length block.old }
+    ensures text { take result block.new ≡ take end block.old ++ escaped_byte byte }
+    ensures short { result ≤ end + 3 }
 {
     if is_plain(byte) {
-        text.push(byte)?;
+        block[end] = byte;
+        end + 1
     } else {
-        text.extend_from_slice(&[b'\\', upper_digit(byte / 16), upper_digit(byte % 16)])?;
+        block[end] = b'\\';
+        block[end + 1] = upper_digit(byte / 16);
+        block[end + 2] = upper_digit(byte % 16);
+        end + 3
     }
-    Ok(())
 }
 
-/// How many bytes in front stand as they are.
-fn plain_front(bytes: &[u8]) -> usize
-    ensures within { result ≤ length bytes.now }
-    ensures plain { escaped (take result bytes.now) ≡ take result bytes.now }
+/// Puts the text of the bytes of a run at the end. It's gathered first, and put there at once.
+fn push_gathered(text: &mut Vec<u8>, bytes: &[u8]) -> Result<(), AllocError>
+    requires { length bytes.now ≤ RUN }
+    ensures { OnOk result (text.new.items ≡ text.old.items ++ escaped bytes.now) }
 {
-    let mut count = 0;
-    while count < bytes.len() && is_plain(bytes[count]) {
-        count += 1;
+    let mut block = [0; 3 * RUN];
+    let mut end = 0;
+    for byte in bytes {
+        end = write_escaped(&mut block, end, *byte);
     }
-    count
+    text.extend_from_slice(&block[..end])
 }
 
-/// Puts the text of the first bytes at the end, up to the first that doesn't stand as it is, and says how many they are.
+/// Puts the text of the first bytes at the end, of a run or of all that there are, and says how many they are.
 fn push_run(text: &mut Vec<u8>, bytes: &[u8]) -> Result<usize, AllocError>
     requires some { 0 < length bytes.now }
     ensures more { IfOk result (λ count. (0 < count) × (count ≤ length bytes.now)) }
     ensures text { IfOk result (λ count. text.new.items ≡ text.old.items ++ escaped (take count bytes.now)) }
 {
-    let plain = plain_front(bytes);
-    text.extend_from_slice(&bytes[..plain])?;
-    let Some(byte) = bytes.get(plain) else {
-        return Ok(plain);
-    };
-    push_escaped(text, *byte)?;
-    Ok(plain + 1)
+    let count = bytes.len().min(RUN);
+    let run = &bytes[..count];
+    if are_plain(run) {
+        text.extend_from_slice(run)?;
+    } else {
+        push_gathered(text, run)?;
+    }
+    Ok(count)
 }
 
 /// Puts the text of the bytes at the end.

@@ -3,7 +3,7 @@
 ghost use Rattle.std.specs.Prelude.{◌≡◌, ◌++◌, OnOk};
 ghost use Rattle.tdb_dump.specs.Listing.{entry_text};
 
-use crate::lines::{push_hex_key, push_labelled};
+use crate::lines::{push_hex_key, push_key_line};
 use crate::writer::push_pair;
 use std::alloc::AllocError;
 
@@ -27,10 +27,7 @@ impl Listing {
     {
         match self {
             Listing::Pairs => push_pair(text, key, value),
-            Listing::Keys => {
-                push_labelled(text, b"key", key)?;
-                text.extend_from_slice(b"\n")
-            }
+            Listing::Keys => push_key_line(text, key),
             Listing::HexKeys => {
                 push_hex_key(text, key)?;
                 text.extend_from_slice(b"\n")

@@ -4,7 +4,7 @@ ghost use Rattle.std.specs.Prelude.{◌≡◌, ◌≤◌, ℕ, ◌++◌, length,
 ghost use Rattle.tdb_disk.specs.Count.{HasCauseOf};
 ghost use Rattle.tdb_dump.specs.DumpText.{pair_text};
 
-use crate::lines::push_labelled;
+use crate::lines::push_behind;
 use std::alloc::{AllocError, Global};
 use tdb_disk::Sink;
 use thiserror::Error;
@@ -23,11 +23,9 @@ pub enum WriteRefusal {
 pub fn push_pair(text: &mut Vec<u8>, key: &[u8], value: &[u8]) -> Result<(), AllocError>
     ensures { OnOk result (text.new.items ≡ text.old.items ++ pair_text key.now value.now) }
 {
-    text.extend_from_slice(b"{\n")?;
-    push_labelled(text, b"key", key)?;
-    text.extend_from_slice(b"\n")?;
-    push_labelled(text, b"data", value)?;
-    text.extend_from_slice(b"\n}\n")
+    push_behind(text, b"{\nkey(", key)?;
+    push_behind(text, b"\"\ndata(", value)?;
+    text.extend_from_slice(b"\"\n}\n")
 }
 
 /// The text of one pair.
