@@ -73,3 +73,4 @@ pub mod AskedNumber
 pub mod Closed
 pub mod OwnSide
 pub mod Beginning
+pub mod Unreported

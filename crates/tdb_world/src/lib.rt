@@ -24,6 +24,7 @@ mod starting;
 mod taking;
 mod telling;
 mod told;
+mod untold;
 mod walking;
 
 pub use crate::fault::RunFault;
