@@ -73,7 +73,7 @@ fn end_with<D: Disk>(
 }
 
 /// The first turn of a Commit: it writes, where the gate is open, and else the Commit is done.
-fn commit_left<D: Disk>(
+fn commit_prepared<D: Disk>(
     left: PreparedTxn,
     d: &mut D,
     locks: &mut Locks,
@@ -150,7 +150,7 @@ pub(crate) fn prepared_turn<D: Disk>(
     ensures cause { HasCause (D.faults d.old) (D.faults d.new) result }
 {
     match command {
-        Command::Commit => commit_left(left, d, locks, owner),
+        Command::Commit => commit_prepared(left, d, locks, owner),
         Command::Cancel | Command::Close => end_with(left, d, locks, owner, Reply::Ok),
         Command::Prepare => end_with(left, d, locks, owner, Reply::InTransaction),
         command => Ok(refused(left, &command, alloc, header, options)),

@@ -17,18 +17,18 @@ use Rattle.tdb_holder.proofs.prepared.prepared_turn.Goals as goal
 
 pub returns-in-Commit-clause-turned : goal.returns-in-Commit-clause-turned
 returns-in-Commit-clause-turned g c =
-    weaker c.commit_left.result _ _
+    weaker c.commit_prepared.result _ _
     (λ went turn told table k past s t S K has M.
     let a = c.args in
     let f = form_in a.header.now in
     let o = a.options.now in
     let h = g.D.Disk.history a.d.now in
-    let new = g.D.Disk.history c.commit_left.new.d in
-    let rs = c.commit_left.new.locks in
+    let new = g.D.Disk.history c.commit_prepared.new.d in
+    let rs = c.commit_prepared.new.locks in
     let is = c.in-Commit.is in
     subst (λ command. StageTurned f o table a.owner rs (Stage.Prepared a.left (Some command)) went.stage h new k past s t (law_turn went.turn)) (sym is)
     (turn told f o table k past s t (subst (λ command. IsSide f o a.owner a.locks.now (Stage.Prepared a.left (Some command)) k past s) is S)
-    (subst (λ command. KnowsFile f (Stage.Prepared a.left (Some command)) h k) is K) (subst (λ command. stage_task (Stage.Prepared a.left (Some command)) ≡ Some t) is has) M)) c.commit_left.ensures.turned
+    (subst (λ command. KnowsFile f (Stage.Prepared a.left (Some command)) h k) is K) (subst (λ command. stage_task (Stage.Prepared a.left (Some command)) ≡ Some t) is has) M)) c.commit_prepared.ensures.turned
 
 pub returns-in-Cancel-clause-turned : goal.returns-in-Cancel-clause-turned
 returns-in-Cancel-clause-turned g c =

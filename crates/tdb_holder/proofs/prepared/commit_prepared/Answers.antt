@@ -17,7 +17,7 @@ use Rattle.tdb_holder.specs.Turned.{MayTurn, StageTurned}
 use Rattle.tdb_holder.proofs.Opened.{weaker}
 use Rattle.tdb_holder.proofs.PreparedTurns.{nothing_turned, open_known, open_side, open_turned}
 use Rattle.tdb_holder.proofs.Sided.{same_task}
-use Rattle.tdb_holder.proofs.prepared.commit_left.Goals as goal
+use Rattle.tdb_holder.proofs.prepared.commit_prepared.Goals as goal
 
 pub returns-in-Opened-clause-turned : goal.returns-in-Opened-clause-turned
 returns-in-Opened-clause-turned g c =
