@@ -33,8 +33,8 @@ use tdb_plays::{Command, Options};
 use tdb_space::Io;
 use tdb_words::Header;
 
-/// A prepared transaction as a refusal sees it. It has no explicit locks, and what it doesn't take is told the same with
-/// a cursor and without one.
+/// A prepared transaction as a refusal sees it. It has no explicit locks, and what it doesn't take is told the same
+/// with a cursor and without one.
 const PREPARED: Level = Level {
     prepared: true,
     nested: false,
