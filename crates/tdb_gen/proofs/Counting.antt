@@ -16,7 +16,7 @@ raised a m false = omega arith
 counted_more : (is : Line → Bool) (lines : List Line) (line : Line) → counted is (lines ++ line ∷ []) ≡ more (counted is lines) (is line)
 counted_more is lines line = ap (λ n. min n last_count) (sum_by-append (λ x. cond (is x) 1 0) lines (line ∷ [])) ∙ raised (count_by is lines) last_count (is line)
 
-counts_more : (lines : List Line) (line : Line) → counts_of (lines ++ line ∷ []) ≡ counts_with (counts_of lines) line
+pub counts_more : (lines : List Line) (line : Line) → counts_of (lines ++ line ∷ []) ≡ counts_with (counts_of lines) line
 counts_more lines line = λ j. record {
   ok = counted_more (is_end is_ok) lines line j;
   values = counted_more (is_end is_value) lines line j;

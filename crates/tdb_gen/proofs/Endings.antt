@@ -26,7 +26,7 @@ use Rattle.tdb_gen.specs.Taking.{of_run, Came, Place, place, state_at, Taken}
 one_part : (plays : List Play) → together (plays ∷ []) ≡ plays
 one_part plays = flat_map-cons (λ p. p) plays [] ∙ append-nil plays
 
-one_came : (f : Form) (old new : State) (plays : List Play) (lines : List LawLine) → ComesTo f old (law_plays plays) lines new → Came f old (plays ∷ []) new
+pub one_came : (f : Form) (old new : State) (plays : List Play) (lines : List LawLine) → ComesTo f old (law_plays plays) lines new → Came f old (plays ∷ []) new
 one_came f old new plays lines C = (lines, subst (λ ps. ComesTo f old (law_plays ps) lines new) (sym (one_part plays)) C)
 
 -- plays that were taken whole

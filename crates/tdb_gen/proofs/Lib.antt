@@ -8,3 +8,4 @@ mod Grouping
 mod Counting
 mod Endings
 mod Generating
+mod Playing

@@ -70,6 +70,24 @@ place world image size faults counts = record { world = world; image = image; si
 abbrev pub state_at : Place → State
 state_at p = state_in p.world p.image
 
+-- Plays were taken and their lines counted behind others; or they broke off, and came to a state. Where the disk failed nothing is
+-- said.
+abbrev pub RunsTo : Form → State → List Play → State → Counts → Counts → Result (Unit {0}) GenFault → Type 0
+RunsTo f old plays new before after (Ok v) =
+    (lines : List Line) × Course f old (law_plays plays) (law_lines lines) new × ((told : List Line) → before ≡ counts_of told → after ≡ counts_of (told ++ lines))
+RunsTo f old plays new before after (Err Io) = Unit {0}
+RunsTo f old plays new before after (Err Memory) = (lines : List LawLine) × ComesTo f old (law_plays plays) lines new
+
+-- Plays, of one part or of less, led from one place to another, and ended so, over a disk that tells its bytes or doesn't.
+pub record Played (tells : Bool) (old new : Place) (plays : List Play) (answer : Result (Unit {0}) GenFault) : Type 0 where
+  pub header : new.world.header ≡ old.world.header
+  pub stands : UnlessIo answer (Stands new.world new.image new.size)
+  pub rises : old.faults ≤ new.faults
+  pub quiet : UnlessIo answer (new.faults ≡ old.faults)
+  pub bytes : IsTrue tells → BytesStand old.world old.image → UnlessIo answer (BytesStand new.world new.image)
+  pub told : IsTrue tells → BytesStand old.world old.image → RunsTo (form_in old.world.header) (state_at old) plays (state_at new) old.counts new.counts answer
+  pub rose : IsTrue tells → BytesStand old.world old.image → OnIo answer (Rose old.faults new.faults)
+
 -- Parts led from one place to another, and ended so, over a disk that tells its bytes or doesn't. What they did is said where
 -- nobody had an unfinished command before them, and all was ready for commands on keys; so it is then behind them.
 pub record Taken (tells : Bool) (old new : Place) (parts : List (List Play)) (answer : Result (Unit {0}) GenFault) : Type 0 where

@@ -1,8 +1,10 @@
 // What is counted of a report.
 
-ghost use Rattle.std.specs.Prelude.{◌≡◌, ◌+◌, ◌++◌, List, [], min};
+ghost use Rattle.std.specs.Prelude.{◌≡◌, ℕ, ◌+◌, ◌++◌, List, [], min};
 ghost use Rattle.tdb_disk.specs.Count.{last_count};
+ghost use Rattle.tdb_plays.specs.declared.command.Command.{Command};
 ghost use Rattle.tdb_plays.specs.declared.line.Line.{Line as LineIs};
+ghost use Rattle.tdb_plays.specs.declared.line.Line.TheVariants as Lines;
 ghost use Rattle.tdb_gen.specs.Counts.{counts_of, counts_with};
 
 use tdb_locks::{Reply, Turn};
@@ -53,13 +55,10 @@ impl Counts {
         }
     }
 
-    /// Counts a line.
-    fn count_line(&mut self, line: &Line)
-        ensures { self.new ≡ counts_with self.old line.now }
+    /// Counts a turn.
+    pub(crate) fn count_turn(&mut self, turn: &Turn)
+        ensures { (who : ℕ) (command : Command) → self.new ≡ counts_with self.old (Lines.Took who command turn.now) }
     {
-        let Line::Took { turn, .. } = line else {
-            return;
-        };
         match turn {
             Turn::Blocked { .. } => raise(&mut self.blocked),
             Turn::Done(Reply::Ok) => raise(&mut self.ok),
@@ -70,6 +69,15 @@ impl Counts {
             Turn::Done(Reply::Full { .. }) => raise(&mut self.full),
             Turn::Done(Reply::Memory) => raise(&mut self.memory),
             Turn::Step | Turn::Done(_) => {}
+        }
+    }
+
+    /// Counts a line.
+    fn count_line(&mut self, line: &Line)
+        ensures { self.new ≡ counts_with self.old line.now }
+    {
+        if let Line::Took { turn, .. } = line {
+            self.count_turn(turn);
         }
     }
 

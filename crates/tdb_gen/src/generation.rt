@@ -1,6 +1,6 @@
 // Generated commands that openers do, group by group.
 
-ghost use Rattle.std.specs.Prelude.{◌≡◌, ◌<◌, ◌≤◌, ◌+◌, ◌*◌, ◌∷◌, [], ℕ, List, IsTrue, IfOk, OnOk, length, min};
+ghost use Rattle.std.specs.Prelude.{◌≡◌, ◌<◌, ◌≤◌, ◌+◌, ◌-◌, ◌*◌, ◌^◌, ◌∷◌, [], ℕ, Bool, List, IsTrue, IfOk, OnOk, length, min};
 ghost use Rattle.tdb_disk.specs.Count.{HasCauseOf};
 ghost use Rattle.tdb_space.specs.Form.{form_in};
 ghost use Rattle.tdb_space.specs.Frame.{Wrote, Looked};
@@ -14,15 +14,16 @@ ghost use Rattle.tdb_world.specs.Openers.{options_of};
 ghost use Rattle.tdb_world.specs.Worlds.{state_in, Stands, BytesStand};
 ghost use Rattle.tdb_gen.specs.Counts.{counts_of};
 ghost use Rattle.tdb_gen.specs.Numbers.{IsFrom};
-ghost use Rattle.tdb_gen.specs.Plays.{joins, groups, group_plays, group_list};
+ghost use Rattle.tdb_gen.specs.Plays.{joins, gift, gifts, round, rounds, groups, group_plays, group_list};
+ghost use Rattle.tdb_plays.specs.declared.play.Play.TheVariants.{Turn};
 ghost use Rattle.tdb_gen.specs.Rounds.{AreDone};
-ghost use Rattle.tdb_gen.specs.Taking.{place, Taken, UnlessIo};
+ghost use Rattle.tdb_gen.specs.Taking.{place, Played, Taken, UnlessIo};
 ghost use Rattle.tdb_gen.specs.declared.fault.GenFault.TheVariants as Faults;
 
 use crate::counts::Counts;
 use crate::fault::GenFault;
 use crate::generator::{Generator, OPENERS};
-use crate::group::{push_group, push_joins};
+use crate::joining::push_joins;
 use crate::summary::Summary;
 use std::alloc::Global;
 use tdb_check::{CheckRefusal, check};
@@ -31,6 +32,9 @@ use tdb_space::Space;
 use tdb_words::Header;
 use tdb_world::{Openers, Options};
 
+/// How many rounds of turns a group has.
+const ROUNDS: u32 = 24;
+
 /// The openers of a file who do generated commands, and what was counted of their report.
 #[derive(Debug, Drop)]
 pub(crate) struct Generation {
@@ -38,7 +42,7 @@ pub(crate) struct Generation {
     openers: Openers,
     generator: Generator,
 
-    /// The plays of a group.
+    /// The joins.
     plays: Plays,
 
     /// What they tell.
@@ -126,6 +130,89 @@ impl Generation {
         Ok(())
     }
 
+    /// Gives the next command to its opener.
+    fn give_next(&mut self) -> Result<(), GenFault>
+        requires few { self.old.generator.index < 2 ^ 32 - 1 }
+        requires stands { (img : List ℕ) × (size : ℕ) × Stands self.old.openers img size }
+        ensures played { (tells : Bool) (img : List ℕ) (size faults seed : ℕ) → Stands self.old.openers img size → IsFrom seed self.old.generator
+            → Played tells (place self.old.openers img size faults self.old.counts) (place self.new.openers img size faults self.new.counts) (gift seed self.old.generator.index ∷ []) result }
+        ensures stands { (img : List ℕ) (size : ℕ) → Stands self.old.openers img size → Stands self.new.openers img size }
+        ensures header { self.new.openers.header ≡ self.old.openers.header }
+        ensures index { self.new.generator.index ≡ self.old.generator.index + 1 }
+        ensures from { (seed : ℕ) → IsFrom seed self.old.generator → IsFrom seed self.new.generator }
+    {
+        let who = self.generator.owner();
+        let command = self.generator.next_command(self.alloc)?;
+        let told = command.copy(self.alloc)?;
+        self.openers.try_assign(who, command, told);
+        Ok(())
+    }
+
+    /// Gives the next commands to their openers, up to this index.
+    fn give_commands(&mut self, end: u32) -> Result<(), GenFault>
+        requires left { self.old.generator.index ≤ end }
+        requires stands { (img : List ℕ) × (size : ℕ) × Stands self.old.openers img size }
+        ensures played { (tells : Bool) (img : List ℕ) (size faults seed : ℕ) → Stands self.old.openers img size → IsFrom seed self.old.generator
+            → Played tells (place self.old.openers img size faults self.old.counts) (place self.new.openers img size faults self.new.counts) (gifts seed self.old.generator.index (end - self.old.generator.index)) result }
+        ensures stands { (img : List ℕ) (size : ℕ) → Stands self.old.openers img size → Stands self.new.openers img size }
+        ensures header { self.new.openers.header ≡ self.old.openers.header }
+        ensures index { OnOk result (self.new.generator.index ≡ end) }
+        ensures from { (seed : ℕ) → IsFrom seed self.old.generator → IsFrom seed self.new.generator }
+    {
+        for _ in self.generator.index()..end {
+            self.give_next()?;
+        }
+        Ok(())
+    }
+
+    /// Lets an opener take a turn of its command, if it has one, and counts it.
+    fn take_turn<S: Space>(&mut self, space: &mut S, who: u32) -> Result<(), GenFault>
+        requires named { 1 ≤ who }
+        requires form { S.form space.old ≡ form_in self.old.openers.header }
+        requires stands { Stands self.old.openers (S.image space.old) (S.size space.old) }
+        requires spare { (view : S) → S.spare view ≡ without_bound }
+        ensures played { Played S.tells (place self.old.openers (S.image space.old) (S.size space.old) (S.faults space.old) self.old.counts)
+            (place self.new.openers (S.image space.new) (S.size space.new) (S.faults space.new) self.new.counts) (Turn who ∷ []) result }
+        ensures generator { self.new.generator ≡ self.old.generator }
+        ensures wrote { Wrote S.Space space.old space.new }
+    {
+        if let Some(turn) = self.openers.try_turn(space, who)? {
+            self.counts.count_turn(&turn);
+        }
+        Ok(())
+    }
+
+    /// Lets each opener take a turn.
+    fn take_round<S: Space>(&mut self, space: &mut S) -> Result<(), GenFault>
+        requires form { S.form space.old ≡ form_in self.old.openers.header }
+        requires stands { Stands self.old.openers (S.image space.old) (S.size space.old) }
+        requires spare { (view : S) → S.spare view ≡ without_bound }
+        ensures played { Played S.tells (place self.old.openers (S.image space.old) (S.size space.old) (S.faults space.old) self.old.counts)
+            (place self.new.openers (S.image space.new) (S.size space.new) (S.faults space.new) self.new.counts) round result }
+        ensures generator { self.new.generator ≡ self.old.generator }
+        ensures wrote { Wrote S.Space space.old space.new }
+    {
+        self.take_turn(space, 1)?;
+        self.take_turn(space, 2)?;
+        self.take_turn(space, 3)
+    }
+
+    /// Takes all rounds of turns of a group.
+    fn take_rounds<S: Space>(&mut self, space: &mut S) -> Result<(), GenFault>
+        requires form { S.form space.old ≡ form_in self.old.openers.header }
+        requires stands { Stands self.old.openers (S.image space.old) (S.size space.old) }
+        requires spare { (view : S) → S.spare view ≡ without_bound }
+        ensures played { Played S.tells (place self.old.openers (S.image space.old) (S.size space.old) (S.faults space.old) self.old.counts)
+            (place self.new.openers (S.image space.new) (S.size space.new) (S.faults space.new) self.new.counts) (rounds 24) result }
+        ensures generator { self.new.generator ≡ self.old.generator }
+        ensures wrote { Wrote S.Space space.old space.new }
+    {
+        for _ in 0..ROUNDS {
+            self.take_round(space)?;
+        }
+        Ok(())
+    }
+
     /// Takes the plays of the next group, of so many commands in all.
     fn take_group<S: Space>(&mut self, space: &mut S, commands: u32) -> Result<(), GenFault>
         requires left { self.old.generator.index ≤ commands }
@@ -141,9 +228,10 @@ impl Generation {
         ensures from { OnOk result ((seed : ℕ) → IsFrom seed self.old.generator → IsFrom seed self.new.generator) }
         ensures wrote { Wrote S.Space space.old space.new }
     {
-        self.plays.clear();
-        push_group(self.alloc, &mut self.generator, commands, &mut self.plays)?;
-        self.take(space)
+        let next = self.generator.index();
+        let end = next + (commands - next).min(OPENERS);
+        self.give_commands(end)?;
+        self.take_rounds(space)
     }
 
     /// Takes the plays of all groups, of so many commands in all.

@@ -1,14 +1,13 @@
 // The commands that are made of numbers.
 
-ghost use Rattle.std.specs.Prelude.{◌≡◌, ◌<◌, ◌≤◌, ◌+◌, ◌-◌, ◌^◌, ℕ, IfOk, length};
-ghost use Rattle.tdb_world.specs.Given.{IsServed, IsShortGiven, IsServedPlay};
-ghost use Rattle.tdb_gen.specs.Numbers.{next_number, IsFrom};
+ghost use Rattle.std.specs.Prelude.{◌≡◌, ◌<◌, ◌≤◌, ◌+◌, ◌-◌, ◌%◌, ◌^◌, ℕ, IfOk, length};
+ghost use Rattle.tdb_world.specs.Given.{IsServed, IsShortGiven};
+ghost use Rattle.tdb_gen.specs.Numbers.{next_number, number_at, IsFrom};
 ghost use Rattle.tdb_gen.specs.Commands.{key_number, key_of, value_of, value_length, kind_of, command_of};
-ghost use Rattle.tdb_gen.specs.Plays.{gift};
 
 use itoa::Buffer;
 use std::alloc::{AllocError, Global};
-use tdb_plays::{Command, Play};
+use tdb_plays::Command;
 use tdb_steps::Flag;
 use tdb_words::Bytes;
 
@@ -17,6 +16,9 @@ pub(crate) const OPENERS: u32 = 3;
 
 /// How many keys there are.
 const KEYS: u32 = 1000;
+
+/// The longest key, in bytes.
+const LONGEST_KEY: usize = 4;
 
 /// The longest value of a store, in bytes.
 const LONGEST_VALUE: usize = 255;
@@ -53,9 +55,10 @@ fn key(alloc: Global, number: u32) -> Result<Bytes, AllocError>
     ensures key { IfOk result (λ key. key ≡ key_of number) }
     ensures short { IfOk result (λ key. length key < 2 ^ 32) }
 {
-    let mut key = Bytes::copy(alloc, b"k")?;
-    key.push_all(Buffer::new().format(key_in(number)).as_bytes())?;
-    Ok(key)
+    let mut key = Vec::with_capacity(alloc, LONGEST_KEY)?;
+    key.push(b'k')?;
+    key.extend_from_slice(Buffer::new().format(key_in(number)).as_bytes())?;
+    Ok(Bytes::from(key))
 }
 
 /// A value of so many bytes, each the small letter of the key.
@@ -111,20 +114,24 @@ impl Generator {
         self.index
     }
 
-    /// The play that gives the next command to its opener.
-    pub(crate) fn next_gift(&mut self, alloc: Global) -> Result<Play, AllocError>
+    /// Which opener gets the next command. Openers are counted from 1.
+    pub(crate) fn owner(&self) -> u32
+        ensures { result ≡ 1 + self.now.index % 3 }
+    {
+        1 + self.index % OPENERS
+    }
+
+    /// The next command.
+    pub(crate) fn next_command(&mut self, alloc: Global) -> Result<Command, AllocError>
         requires { self.old.index < 2 ^ 32 - 1 }
         ensures index { self.new.index ≡ self.old.index + 1 }
         ensures from { (seed : ℕ) → IsFrom seed self.old → IsFrom seed self.new }
-        ensures gift { IfOk result (λ play. (seed : ℕ) → IsFrom seed self.old → play ≡ gift seed self.old.index) }
-        ensures served { IfOk result IsServedPlay }
+        ensures made { IfOk result (λ command. (seed : ℕ) → IsFrom seed self.old → command ≡ command_of (number_at seed self.old.index)) }
+        ensures served { IfOk result IsServed }
+        ensures short { IfOk result IsShortGiven }
     {
-        let who = 1 + self.index % OPENERS;
         self.number = number_behind(self.number);
         self.index += 1;
-        Ok(Play::Give {
-            who,
-            command: command(alloc, self.number)?,
-        })
+        command(alloc, self.number)
     }
 }

@@ -5,7 +5,7 @@ mod counts;
 mod fault;
 mod generation;
 mod generator;
-mod group;
+mod joining;
 mod laws;
 mod load;
 mod summary;
