@@ -164,6 +164,7 @@ impl Openers {
         ensures turned { IfSome result (λ turn. (img : List ℕ) (past : Past) (s : Side) (x : Opener) (t : Task) → IsBusy self.old who x t → ShutsOut self.old img past s holder
             → IsTurnBeside self.old self.new img past s (law_opener who) (law_of_task t) (law_turn turn)) }
         ensures asks { IfNone result ((x : Opener) (t : Task) → IsBusy self.old who x t → law_of_task t ≡ record { command = Seqnum; steps = 0 }) }
+        ensures step { IfSome result (λ turn. turn ≡ Turn.Step → ⊥) }
         ensures same { IfNone result (self.new ≡ self.old) }
         ensures others { (o : ℕ) → o ≢ law_opener who → slice_get self.new.openers o ≡ slice_get self.old.openers o }
         ensures stands { (img : List ℕ) (size : ℕ) → Stands self.old img size → Stands self.new img size }

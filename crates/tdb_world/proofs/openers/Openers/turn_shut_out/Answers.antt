@@ -1,13 +1,36 @@
 -- The turn is one of the opener's job, which is a turn of the law beside who is aside.
-use Rattle.std.proofs.Common.{◌≡◌, ◌≢◌, MatchBool, refl, ap, subst}
+use Rattle.std.proofs.Common.{◌≡◌, ◌≢◌, ℕ, MatchBool, refl, ap, subst}
+use Rattle.tdb_locks.specs.declared.turn.Turn.TheVariants.{Step}
+use Rattle.tdb_space.specs.Form.{Form, form_in}
+use Rattle.tdb_world.specs.declared.job.Job.{Job}
 use Rattle.tdb_world.specs.declared.job.Job.TheVariants as Jobs
+use Rattle.tdb_world.specs.declared.job.Locking.TheVariants as Locks
+use Rattle.tdb_world.specs.declared.job.Walking.TheVariants as Walks
 use Rattle.tdb_world.specs.Openers.{command_in}
+use Rattle.tdb_world.specs.ShutOut.{JobMeets}
 use Rattle.tdb_world.specs.Worlds.{World}
 use Rattle.tdb_world.proofs.AskedNumber.{asks_new}
 use Rattle.tdb_world.proofs.OwnSide.{own_barred}
 use Rattle.tdb_world.proofs.ShutOut.{IsBarred, may_meet, short_lock}
 use Rattle.tdb_world.proofs.ShutWorlds.{meets_beside, meets_world, meets_bytes}
 use Rattle.tdb_world.proofs.openers.Openers.turn_shut_out.Goals as goal
+
+-- no job has a step then
+never_steps : (f : Form) (job : Job) (holder : ℕ) → JobMeets f job holder Step → ⊥
+never_steps f (Jobs.Refused command reply) holder M = cc M
+never_steps f (Jobs.Plain doing) holder M = cc M
+never_steps f (Jobs.Check checking) holder M = cc M
+never_steps f (Jobs.Locking (Locks.Chain key)) holder M = cc M
+never_steps f (Jobs.Locking (Locks.ChainNb key)) holder M = cc M
+never_steps f (Jobs.Locking (Locks.Unchain key)) holder M = M
+never_steps f (Jobs.Locking Locks.All) holder M = cc M
+never_steps f (Jobs.Locking Locks.AllRead) holder M = cc M
+never_steps f (Jobs.Locking Locks.UnlockAll) holder M = M
+never_steps f Jobs.Seqnum holder M = M
+never_steps f (Jobs.Walk Walks.First) holder M = cc M
+never_steps f (Jobs.Walk Walks.Next) holder M = cc M
+never_steps f (Jobs.Walk Walks.EndWalk) holder M = cc M
+never_steps f (Jobs.Walk Walks.Close) holder M = cc M
 
 pub returns-then-asks_number-clause-asks : goal.returns-then-asks_number-clause-asks
 returns-then-asks_number-clause-asks c x t B =
@@ -56,3 +79,9 @@ returns-clause-options c = let R = c.meet.ensures.replaced c.requires.busy.0 c.r
 
 pub returns-clause-others : goal.returns-clause-others
 returns-clause-others c = let R = c.meet.ensures.replaced c.requires.busy.0 c.requires.busy.1 c.requires.busy.2 in R.put.others
+
+pub returns-clause-step : goal.returns-clause-step
+returns-clause-step c is =
+    let t = c.requires.busy.1 in
+    let f = form_in c.args.self.now.header in
+    never_steps f t.job c.args.holder (subst (JobMeets f t.job c.args.holder) is (c.meet.ensures.meets c.requires.busy.0 t c.requires.busy.2))
