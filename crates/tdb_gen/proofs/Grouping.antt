@@ -1,13 +1,11 @@
 -- Plays of a group, one after the other.
-use Rattle.std.proofs.Common.{◌≡◌, ℕ, zero, suc, ◌+◌, ◌-◌, ◌*◌, ◌/◌, ◌%◌, ◌≤◌, ◌<◌, min, drop, List, [], ◌∷◌, ◌++◌, sym, ◌∙◌, ap, subst, arith}
+use Rattle.std.proofs.Common.{◌≡◌, ℕ, zero, suc, ◌+◌, ◌-◌, ◌*◌, ◌/◌, ◌%◌, ◌≤◌, ◌<◌, min, drop, List, [], ◌∷◌, ◌++◌, sym, ◌∙◌, ap, arith}
 use Rattle.std.specs.List.{flat_map, range_with_len}
 use Rattle.std.proofs.lemmas.List.{append_assoc, append-nil, flat_map_more}
 use Rattle.std.proofs.lemmas.List.FromFn.{map-range_with_len_more}
 use Rattle.std.proofs.lemmas.List.{take-append-drop}
-use Rattle.std.proofs.lemmas.List.Elements.{All-append}
 use Rattle.std.proofs.lemmas.List.FromFn.{take-map-range_with_len}
 use Rattle.tdb_plays.specs.declared.play.Play.{Play}
-use Rattle.tdb_world.specs.Given.{IsServedPlay, AreServed}
 use Rattle.tdb_gen.specs.Plays.{gift, gifts, round, rounds, groups, group_plays, group_list}
 
 range_behind : (a n : ℕ) → range_with_len a (suc n) ≡ range_with_len a n ++ (a + n) ∷ []
@@ -26,14 +24,6 @@ gifts_more seed start i old low =
     append_assoc old (gifts seed start (i - start)) (gift seed i ∷ [])
     ∙ ap (λ ps. old ++ ps) (sym (map-range_with_len_more (gift seed) start (i - start) i (let e : start + (i - start) ≡ i = omega (arith, low) in e)))
     ∙ ap (λ n. old ++ gifts seed start n) (let e : i - start + 1 ≡ i + 1 - start = omega (arith, low) in e)
-
--- they are served, where the one more is
-one_served : (play : Play) → IsServedPlay play → AreServed (play ∷ [])
-one_served play P zero d low = P
-one_served play P (suc k) d low = absurd (omega (arith, low))
-
-pub served_more : (old new : List Play) (play : Play) → new ≡ old ++ play ∷ [] → AreServed old → IsServedPlay play → AreServed new
-served_more old new play e A P = subst AreServed (sym e) (All-append IsServedPlay old (play ∷ []) A (one_served play P))
 
 -- one group more
 pub groups_more : (n seed i : ℕ) → group_list n seed i ++ group_plays n seed i ∷ [] ≡ group_list n seed (i + 1)
