@@ -223,7 +223,7 @@ module _ (f : Form) (options : Options) (xs : List Opener) (ps : List Piece) (a 
     cursor = ap (λ z. (spot_at z).stands) there ∙ ap spot_of (rests_past f x.walk.shown x.walk.cursor.place x.walk.cursor.stage (rests f options xs ps a size who x W there B) B.no_cursor);
   }
 
-  locks_none : (o : ℕ) → LocksNoRecord f (state_of f options xs ps a) o
+  pub locks_none : (o : ℕ) → LocksNoRecord f (state_of f options xs ps a) o
   locks_none o = elim (cases_eq o who) [
     | inl is ↦ subst (LocksNoRecord f (state_of f options xs ps a)) (sym is) its_own
     | inr ne ↦ record { command = λ b from to. their_command o b ne from to; cursor = their_cursor o (slice_get xs o) ne refl }
