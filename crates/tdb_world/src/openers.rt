@@ -301,6 +301,7 @@ impl Openers {
             → Turned (form_in self.old.header) (state_in self.old (S.image s.old)) (law_opener who) (law_of_task t) (law_turn turn) (state_in self.new (S.image s.new))) }
         ensures calm { IsCalm S.Space s.old s.new self.old.table (law_opener who) }
         ensures busy { IfOk result (λ turn. turn ≡ Turn.Step → (x : Opener) × (t : Task) × IsBusy self.new who x t) }
+        ensures joined { length self.new.openers ≡ length self.old.openers }
         ensures others { (o : ℕ) → o ≢ law_opener who → slice_get self.new.openers o ≡ slice_get self.old.openers o }
         ensures header { self.new.header ≡ self.old.header }
         ensures options { self.new.options ≡ self.old.options }

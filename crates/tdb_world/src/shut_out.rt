@@ -1,6 +1,6 @@
 // Turns of openers while another one holds all records for writing, so that nobody else may look at the file.
 
-ghost use Rattle.std.specs.Prelude.{◌≡◌, ◌≢◌, ◌<◌, ℕ, List, IfNone, IfSome, MatchBool, None, Some, slice_get};
+ghost use Rattle.std.specs.Prelude.{◌≡◌, ◌≢◌, ◌<◌, ℕ, List, length, IfNone, IfSome, MatchBool, None, Some, slice_get};
 ghost use Rattle.tdb_space.specs.Form.{form_in};
 ghost use Rattle.tdb_law.specs.Commands.Command.{Seqnum};
 ghost use Rattle.tdb_law.specs.Commands.Turn.{Ends};
@@ -166,6 +166,7 @@ impl Openers {
         ensures asks { IfNone result ((x : Opener) (t : Task) → IsBusy self.old who x t → law_of_task t ≡ record { command = Seqnum; steps = 0 }) }
         ensures step { IfSome result (λ turn. turn ≡ Turn.Step → ⊥) }
         ensures same { IfNone result (self.new ≡ self.old) }
+        ensures joined { length self.new.openers ≡ length self.old.openers }
         ensures others { (o : ℕ) → o ≢ law_opener who → slice_get self.new.openers o ≡ slice_get self.old.openers o }
         ensures stands { (img : List ℕ) (size : ℕ) → Stands self.old img size → Stands self.new img size }
         ensures bytes { (img : List ℕ) → BytesStand self.old img → BytesStand self.new img }
@@ -187,6 +188,7 @@ impl Openers {
         ensures turned { (holder : ℕ) (img : List ℕ) (past : Past) (s : Side) (x : Opener) (t : Task) → IsBusy self.old who x t → holder ≢ who → ShutsOut self.old img past s holder
             → let whole = beside (state_in self.old img) past s in IsFree whole.table (law_opener who) (want (form_in self.old.header) whole (law_opener who) (law_of_task t))
             → IsTurnBeside self.old self.new img past s (law_opener who) (law_of_task t) (Ends (Number whole.number)) }
+        ensures joined { length self.new.openers ≡ length self.old.openers }
         ensures others { (o : ℕ) → o ≢ law_opener who → slice_get self.new.openers o ≡ slice_get self.old.openers o }
         ensures stands { (img : List ℕ) (size : ℕ) → Stands self.old img size → Stands self.new img size }
         ensures bytes { (img : List ℕ) → BytesStand self.old img → BytesStand self.new img }

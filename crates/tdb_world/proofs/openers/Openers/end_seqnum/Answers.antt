@@ -43,3 +43,6 @@ returns-clause-options c = let R = c.drop_task.ensures c.requires.asks.0 c.requi
 
 pub returns-clause-others : goal.returns-clause-others
 returns-clause-others c = let R = c.drop_task.ensures c.requires.asks.0 c.requires.asks.2.number in R.put.others
+
+pub returns-clause-joined : goal.returns-clause-joined
+returns-clause-joined c = let R = c.drop_task.ensures c.requires.asks.0 c.requires.asks.2.number in R.put.same_length

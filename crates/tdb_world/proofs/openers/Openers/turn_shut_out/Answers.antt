@@ -85,3 +85,6 @@ returns-clause-step c is =
     let t = c.requires.busy.1 in
     let f = form_in c.args.self.now.header in
     never_steps f t.job c.args.holder (subst (JobMeets f t.job c.args.holder) is (c.meet.ensures.meets c.requires.busy.0 t c.requires.busy.2))
+
+pub returns-clause-joined : goal.returns-clause-joined
+returns-clause-joined c = let R = c.meet.ensures.replaced c.requires.busy.0 c.requires.busy.1 c.requires.busy.2 in R.put.same_length
