@@ -1,0 +1,116 @@
+//! Turns of an opener by itself.
+ghost use Rattle.std.specs.Prelude.{◌≡◌, ℕ, false, IfOk, IfSome};
+ghost use Rattle.tdb_disk.specs.MemDisk.{memory_size};
+ghost use Rattle.tdb_holder.specs.Holders.{is_idle};
+ghost use Rattle.tdb_holder.specs.Stages.{IsFit};
+
+use crate::rows::{IO, Row, state_of, told};
+use crate::small::{HEADER, LIMIT};
+use crate::words::{Word, command};
+use std::alloc::{AllocError, Global};
+use tdb_disk::MemDisk;
+use tdb_holder::{Holder, Moved, Options};
+use tdb_space::Io;
+
+/// Takes a turn of the opener's command, where changes raise the sequence number or not: what is told of it, and the
+/// opener after it.
+fn take_turn(
+    alloc: Global,
+    holder: Holder,
+    disk: &mut MemDisk,
+    numbered: bool,
+) -> (Row, Option<Holder>)
+    requires fits { IsFit holder.stage HEADER LIMIT (memory_size disk.old) }
+    requires busy { is_idle holder.stage ≡ false }
+    ensures { IfSome result.1 (λ next. IsFit next.stage HEADER LIMIT (memory_size disk.new)) }
+{
+    let options = Options {
+        limit: LIMIT,
+        nesting: true,
+        read_only: false,
+        seqnum: numbered,
+    };
+    let wants = holder.wants();
+    let (told, next) = match holder.turn(alloc, disk, &HEADER, &options) {
+        Ok(Moved { turn, holder }) => (told(&turn), holder),
+        Err(Io) => (IO, None),
+    };
+    let file = state_of(disk);
+    (Row { wants, told, file }, next)
+}
+
+/// Adds a row. Where memory is wanting the opener is given up.
+fn logged(rows: &mut Vec<Row>, row: Row, left: Option<Holder>) -> Result<Option<Holder>, AllocError>
+    ensures { IfOk result (λ kept. kept ≡ left) }
+{
+    match rows.push(row) {
+        Ok(()) => Ok(left),
+        Err(fault) => {
+            end_left(left);
+            Err(fault.into())
+        }
+    }
+}
+
+/// Gives up the opener that is left: whether one was.
+pub(crate) fn end_left(left: Option<Holder>) -> bool {
+    match left {
+        Some(holder) => {
+            holder.end();
+            true
+        }
+        None => false,
+    }
+}
+
+/// Takes so many turns of the opener's command, or fewer, up to the one with which it is done. A row for each.
+pub(crate) fn go(
+    alloc: Global,
+    holder: Option<Holder>,
+    disk: &mut MemDisk,
+    numbered: bool,
+    turns: u32,
+    rows: &mut Vec<Row>,
+) -> Result<Option<Holder>, AllocError>
+    requires { IfSome holder (λ now. IsFit now.stage HEADER LIMIT (memory_size disk.old)) }
+    ensures { IfOk result (λ left. IfSome left (λ next. IsFit next.stage HEADER LIMIT (memory_size disk.new))) }
+{
+    let mut left = holder;
+    for _ in 0..turns {
+        let Some(holder) = left else {
+            return Ok(None);
+        };
+        if holder.is_idle() {
+            return Ok(Some(holder));
+        }
+        let (row, next) = take_turn(alloc, holder, disk, numbered);
+        left = logged(rows, row, next)?;
+    }
+    Ok(left)
+}
+
+/// Gives the opener that is left a command. It is given up where memory is wanting, or where it may not get one.
+pub(crate) fn assigned(
+    alloc: Global,
+    left: Option<Holder>,
+    word: Word,
+) -> Result<Option<Holder>, AllocError>
+    ensures { IfOk result (λ given. IfSome given (λ next. (size : ℕ) → IfSome left (λ now. IsFit now.stage HEADER LIMIT size) → IsFit next.stage HEADER LIMIT size)) }
+{
+    let Some(mut holder) = left else {
+        return Ok(None);
+    };
+    let command = match command(alloc, word) {
+        Ok(command) => command,
+        Err(fault) => {
+            holder.end();
+            return Err(fault);
+        }
+    };
+    if !holder.is_idle() || !holder.may_be_given(&command) {
+        holder.end();
+        return Ok(None);
+    }
+    holder.assign(command);
+    Ok(Some(holder))
+}
