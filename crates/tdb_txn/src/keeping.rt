@@ -42,6 +42,7 @@ impl Txn {
             → IsPlannedOn (planned_plan next) (D.history d.new) r (txn_image self r)) }
         ensures runs { IfOk result (λ next. (planned_plan next).runs ≡ runs) }
         ensures size { IfOk result (λ next. D.size d.new ≡ plan_length (planned_plan next)) }
+        ensures file { IfOk result (λ next. plan_length (planned_plan next) ≡ txn_size self) }
         ensures cause { HasCause (D.faults d.old) (D.faults d.new) result }
         ensures syncs { D.syncs d.new ≡ D.syncs d.old }
     {
@@ -76,6 +77,7 @@ impl Txn {
         ensures runs { IfOk result (λ next. (planned_plan next).runs ≡ runs) }
         ensures length { IfOk result (λ next. (planned_plan next).area_length ≡ length) }
         ensures size { IfOk result (λ next. D.size d.new ≡ plan_length (planned_plan next)) }
+        ensures file { IfOk result (λ next. plan_length (planned_plan next) ≡ txn_size self + length) }
         ensures cause { HasCause (D.faults d.old) (D.faults d.new) result }
         ensures syncs { OnOk result (RoseBy 3 (D.syncs d.old) (D.syncs d.new) ⊎ RoseBy 5 (D.syncs d.old) (D.syncs d.new)) }
     {

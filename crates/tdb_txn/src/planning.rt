@@ -55,6 +55,7 @@ impl Txn {
         ensures still { IfErr result (λ refusal. refusal ≢ TxnRefusal.Io → D.history d.new ≡ D.history d.old) }
         ensures still_long { IfErr result (λ refusal. refusal ≢ TxnRefusal.Io → D.size d.new ≡ D.size d.old) }
         ensures size { IfOk result (λ next. D.size d.new ≡ plan_length (planned_plan next)) }
+        ensures file { IfOk result (λ next. (txn_start self ≤ plan_length (planned_plan next)) × (plan_length (planned_plan next) ≤ limit)) }
         ensures cause { HasCauseOf TxnRefusal.Io (D.faults d.old) (D.faults d.new) result }
         ensures syncs { OnOk result (RoseBy 3 (D.syncs d.old) (D.syncs d.new) ⊎ RoseBy 5 (D.syncs d.old) (D.syncs d.new)) }
     {
@@ -93,6 +94,7 @@ impl Txn {
         ensures still { IfErr result (λ refusal. refusal ≢ TxnRefusal.Io → D.history d.new ≡ D.history d.old) }
         ensures still_long { IfErr result (λ refusal. refusal ≢ TxnRefusal.Io → D.size d.new ≡ D.size d.old) }
         ensures size { IfOk result (λ next. D.size d.new ≡ plan_length (planned_plan next)) }
+        ensures file { IfOk result (λ next. (txn_start self ≤ plan_length (planned_plan next)) × (plan_length (planned_plan next) ≤ limit)) }
         ensures cause { HasCauseOf TxnRefusal.Io (D.faults d.old) (D.faults d.new) result }
         ensures syncs { OnOk result (RoseBy 3 (D.syncs d.old) (D.syncs d.new) ⊎ RoseBy 5 (D.syncs d.old) (D.syncs d.new)) }
     {
@@ -127,6 +129,7 @@ impl Txn {
         ensures answered { IsTrue D.tells → let r = seen (D.history d.old) in Quiet (D.history d.old) → MayCommit self r
             → AnsweredRightly self limit r (D.history d.new) result }
         ensures left { LeftFor (D.history d.old) (D.size d.old) (D.history d.new) (D.size d.new) result }
+        ensures length { OnOk result ((D.size d.old ≤ D.size d.new) × (D.size d.new ≤ limit)) }
         ensures cause { HasCauseOf TxnRefusal.Io (D.faults d.old) (D.faults d.new) result }
         ensures syncs { OnOk result ((D.syncs d.new ≡ D.syncs d.old) ⊎ RoseBy 3 (D.syncs d.old) (D.syncs d.new) ⊎ RoseBy 5 (D.syncs d.old) (D.syncs d.new)) }
     {
