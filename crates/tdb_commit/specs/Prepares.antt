@@ -133,6 +133,10 @@ PrepareLeaves limit before now (To.Step next) = StageFits next.stage now limit
 PrepareLeaves limit before now (To.Done state) = now ≡ plan_length (prepared_plan state)
 PrepareLeaves limit before now _ = now ≡ before
 
+-- the file gets no shorter, and no longer than a limit
+abbrev pub KeepsWithin : ℕ → ℕ → ℕ → Type 0
+KeepsWithin limit before now = (before ≤ now) × (before ≤ limit → now ≤ limit)
+
 -- How many syncs a turn makes: the plan none where the undo area is kept or nothing is to be committed, three where a first one is placed,
 -- and five where another one is replaced; each of the next two turns one. Of a plan that is refused nothing is said.
 abbrev pub StageSyncs : PrepareStage → ℕ → ℕ → Type 0

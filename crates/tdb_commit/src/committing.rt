@@ -1,5 +1,5 @@
 //! The turns of an outer Commit.
-ghost use Rattle.std.specs.Prelude.{◌≡◌, List, ℕ, Bool, true, false, IsTrue, IfOk, OnErr};
+ghost use Rattle.std.specs.Prelude.{◌≡◌, List, ℕ, Bool, true, false, IsTrue, IfOk, OnOk, OnErr};
 ghost use Rattle.tdb_disk.specs.Count.{HasCause};
 ghost use Rattle.tdb_disk.specs.Stop.{LeavesOnly};
 ghost use Rattle.tdb_locks.specs.declared.piece.Piece.{Piece};
@@ -8,7 +8,7 @@ ghost use Rattle.tdb_law.specs.Held.{locked_next};
 ghost use Rattle.tdb_commit.specs.Committings.{commit_after, commit_steps, commit_row, commit_turn, IsNumbered, IsOpened, CommitFits, KnowsCommit, CommitMayLeave, CommitLeads, CommitMade, CommitLeaves, CommitSyncs};
 ghost use Rattle.tdb_commit.specs.declared.committing.Committing.TheVariants as Committing;
 ghost use Rattle.tdb_commit.specs.Holding.{HoldsRow, RowTurned};
-ghost use Rattle.tdb_commit.specs.Prepares.{begun_with, prepare_turn, start_held};
+ghost use Rattle.tdb_commit.specs.Prepares.{begun_with, prepare_turn, start_held, KeepsWithin};
 
 use crate::finishing::{FinishTurn, Finishing};
 use crate::preparing::{PrepareTurn, Preparing};
@@ -116,6 +116,7 @@ impl Committing {
         ensures made { IfOk result (λ turn. IsTrue D.tells → (r b : List ℕ) → KnowsCommit self (D.history d.old) r b
             → CommitMade limit r b (D.history d.old) (D.history d.new) self turn) }
         ensures leaves { IfOk result (CommitLeaves limit (D.size d.old) (D.size d.new)) }
+        ensures length { OnOk result (KeepsWithin limit (D.size d.old) (D.size d.new)) }
         ensures err { OnErr result (locks.new ≡ locks.old) }
         ensures cause { HasCause (D.faults d.old) (D.faults d.new) result }
         ensures syncs { IfOk result (CommitSyncs self (D.syncs d.old) (D.syncs d.new)) }

@@ -1,12 +1,12 @@
 //! The turns of an outer Prepare.
-ghost use Rattle.std.specs.Prelude.{◌≡◌, List, ℕ, true, IsTrue, IfOk, OnErr};
+ghost use Rattle.std.specs.Prelude.{◌≡◌, List, ℕ, true, IsTrue, IfOk, OnOk, OnErr};
 ghost use Rattle.tdb_disk.specs.Count.{HasCause};
 ghost use Rattle.tdb_disk.specs.History.{History};
 ghost use Rattle.tdb_disk.specs.Stop.{LeavesOnly};
 ghost use Rattle.tdb_space.specs.Undoing.{Reopens};
 ghost use Rattle.tdb_law.specs.Rows.{commit_locks};
 ghost use Rattle.tdb_commit.specs.Holding.{HoldsRow, RowTurned};
-ghost use Rattle.tdb_commit.specs.Prepares.{at_stage, begun_with, prepare_steps, prepare_row, prepare_turn, start_held, MayPlan, StageFits, IsReady, KnowsStage, PrepareLeads, PrepareMade, PrepareLeaves, PrepareSyncs};
+ghost use Rattle.tdb_commit.specs.Prepares.{at_stage, begun_with, prepare_steps, prepare_row, prepare_turn, start_held, MayPlan, StageFits, KeepsWithin, IsReady, KnowsStage, PrepareLeads, PrepareMade, PrepareLeaves, PrepareSyncs};
 ghost use Rattle.tdb_commit.specs.declared.preparing.PrepareStage.TheVariants as PrepareStage;
 
 use crate::taking::{ALL_RECORDS, Attempt, take, take_opening};
@@ -135,6 +135,7 @@ fn plan_turn<D: Disk>(
     ensures made { IfOk result (λ turn. IsTrue D.tells → (r b : List ℕ) → IsReady txn (D.history d.old) r b
         → PrepareMade limit r b (D.history d.old) (D.history d.new) (at_stage numbered (PrepareStage.Locked txn)) turn) }
     ensures leaves { IfOk result (PrepareLeaves limit (D.size d.old) (D.size d.new)) }
+    ensures length { OnOk result (KeepsWithin limit (D.size d.old) (D.size d.new)) }
     ensures err { OnErr result (locks.new ≡ locks.old) }
     ensures cause { HasCause (D.faults d.old) (D.faults d.new) result }
     ensures syncs { IfOk result (PrepareSyncs (PrepareStage.Locked txn) (D.syncs d.old) (D.syncs d.new)) }
@@ -212,6 +213,7 @@ impl Preparing {
         ensures made { IfOk result (λ turn. IsTrue D.tells → (r b : List ℕ) → KnowsStage self.stage (D.history d.old) r b
             → PrepareMade limit r b (D.history d.old) (D.history d.new) self turn) }
         ensures leaves { IfOk result (PrepareLeaves limit (D.size d.old) (D.size d.new)) }
+        ensures length { OnOk result (KeepsWithin limit (D.size d.old) (D.size d.new)) }
         ensures err { OnErr result (locks.new ≡ locks.old) }
         ensures cause { HasCause (D.faults d.old) (D.faults d.new) result }
         ensures syncs { IfOk result (PrepareSyncs self.stage (D.syncs d.old) (D.syncs d.new)) }
