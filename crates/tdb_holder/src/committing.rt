@@ -1,11 +1,12 @@
 //! The turns of an outer Commit.
-ghost use Rattle.std.specs.Prelude.{◌≡◌, ◌<◌, ◌≤◌, ◌^◌, ℕ, List, IsTrue, IfOk, Some};
+ghost use Rattle.std.specs.Prelude.{◌≡◌, ◌<◌, ◌≤◌, ◌^◌, ℕ, List, IsTrue, IfOk, OnOk, Some};
 ghost use Rattle.tdb_disk.specs.Count.{HasCause};
 ghost use Rattle.tdb_disk.specs.Stop.{LeavesOnly};
 ghost use Rattle.tdb_space.specs.Form.{Form};
 ghost use Rattle.tdb_law.specs.Openers.{Task};
 ghost use Rattle.tdb_beside.specs.Sides.{Past, Side};
 ghost use Rattle.tdb_commit.specs.Committings.{commit_steps, CommitFits, CommitMayLeave, KnowsCommit};
+ghost use Rattle.tdb_commit.specs.Prepares.{KeepsWithin};
 ghost use Rattle.tdb_plays.specs.InLaw.{law_turn};
 ghost use Rattle.tdb_holder.specs.Wents.{commit_went};
 ghost use Rattle.tdb_words.specs.declared.header.Header.{Header};
@@ -50,6 +51,7 @@ pub(crate) fn commit_turn<D: Disk>(
         IsSide f o owner locks.old stage k past s → KnowsFile f stage (D.history d.old) k → stage_task stage ≡ Some t → MayTurn f table s t
         → StageTurned f o table owner locks.new stage went.stage (D.history d.old) (D.history d.new) k past s t (law_turn went.turn)) }
     ensures fits { IfOk result (λ went. (h : Header) → IsFitLeft went.stage h limit (D.size d.new)) }
+    ensures length { OnOk result (KeepsWithin limit (D.size d.old) (D.size d.new)) }
     ensures records { IfOk result (λ went. RecordsGo (Stage.Committing commit) went.turn went.stage) }
     ensures stops { IsTrue D.tells → (r b : List ℕ) → KnowsCommit commit (D.history d.old) r b → LeavesOnly (D.history d.old) (D.history d.new) (CommitMayLeave commit r b) }
     ensures cause { HasCause (D.faults d.old) (D.faults d.new) result }

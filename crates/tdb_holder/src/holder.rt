@@ -1,5 +1,5 @@
 //! The opener aside as one value: its lock table, and how far it is.
-ghost use Rattle.std.specs.Prelude.{◌≡◌, ◌≢◌, ◌≤◌, ◌<◌, ◌↔◌, ℕ, [], true, false, is_none, None, Some, IsTrue, IfOk, IfSome};
+ghost use Rattle.std.specs.Prelude.{◌≡◌, ◌≢◌, ◌≤◌, ◌<◌, ◌↔◌, ℕ, [], true, false, is_none, None, Some, IsTrue, IfOk, IfSome, OnOk};
 ghost use Rattle.tdb_disk.specs.Count.{HasCause};
 ghost use Rattle.tdb_disk.specs.History.{History};
 ghost use Rattle.tdb_disk.specs.Stop.{LeavesOnly};
@@ -11,6 +11,7 @@ ghost use Rattle.tdb_law.specs.Openers.{Task};
 ghost use Rattle.tdb_steps.specs.Holdings.{table_of};
 ghost use Rattle.tdb_beside.specs.Own.{side_wants};
 ghost use Rattle.tdb_beside.specs.Sides.{Past, Side};
+ghost use Rattle.tdb_commit.specs.Prepares.{KeepsWithin};
 ghost use Rattle.tdb_commit.specs.declared.starting.Starting.TheVariants as Starting;
 ghost use Rattle.tdb_plays.specs.InLaw.{law_command, law_turn};
 ghost use Rattle.tdb_plays.specs.declared.options.Options.{Options};
@@ -135,6 +136,7 @@ fn stage_turn<D: Disk>(
         IsSide f options.now owner locks.old stage k past s → KnowsFile f stage (D.history d.old) k → BeginsOn f stage k.file → stage_task stage ≡ Some t → MayTurn f table s t
         → StageTurned f options.now table owner locks.new stage went.stage (D.history d.old) (D.history d.new) k past s t (law_turn went.turn)) }
     ensures fits { IfOk result (λ went. IsFitLeft went.stage header.now options.now.limit (D.size d.new)) }
+    ensures length { OnOk result (KeepsWithin options.now.limit (D.size d.old) (D.size d.new)) }
     ensures records { IfOk result (λ went. RecordsGo stage went.turn went.stage) }
     ensures stops { IsTrue D.tells → (f : Form) (k : Known) → KnowsFile f stage (D.history d.old) k → LeavesOnly (D.history d.old) (D.history d.new) (StageMayLeave stage (D.history d.old) k) }
     ensures cause { IsTrue D.tells → (f : Form) (k : Known) → KnowsFile f stage (D.history d.old) k → HasCause (D.faults d.old) (D.faults d.new) result }
@@ -336,6 +338,7 @@ impl Holder {
         ensures blocked { IfOk result (λ moved. IsTrue D.tells → (k : Known) (past : Past) (s : Side) → let f = form_in header.now in
             IsSide f options.now self.owner self.locks self.stage k past s → KnowsFile f self.stage (D.history d.old) k → BeginsOn f self.stage k.file → IsBlocked (law_turn moved.turn) → ⊥) }
         ensures fits { IfOk result (λ moved. IsFitLeft (left_stage moved.holder) header.now options.now.limit (D.size d.new)) }
+        ensures length { OnOk result (KeepsWithin options.now.limit (D.size d.old) (D.size d.new)) }
         ensures owner { IfOk result (λ moved. IfSome moved.holder (λ h. h.owner ≡ self.owner)) }
         ensures records { IfOk result (λ moved. RecordsGo self.stage moved.turn (left_stage moved.holder)) }
         ensures stops { IsTrue D.tells → (f : Form) (k : Known) → KnowsFile f self.stage (D.history d.old) k → LeavesOnly (D.history d.old) (D.history d.new) (StageMayLeave self.stage (D.history d.old) k) }

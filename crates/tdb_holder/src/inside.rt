@@ -1,5 +1,5 @@
 //! A turn of an opener inside its transaction, with a command that has had none.
-ghost use Rattle.std.specs.Prelude.{◌≡◌, ◌≢◌, ◌≤◌, ◌<◌, ◌^◌, ℕ, List, length, false, IsTrue, IfOk, Some};
+ghost use Rattle.std.specs.Prelude.{◌≡◌, ◌≢◌, ◌≤◌, ◌<◌, ◌^◌, ℕ, List, length, false, IsTrue, IfOk, OnOk, Some};
 ghost use Rattle.tdb_disk.specs.Count.{HasCause};
 ghost use Rattle.tdb_disk.specs.History.{History, seen};
 ghost use Rattle.tdb_disk.specs.Stop.{LeavesOnly};
@@ -9,7 +9,7 @@ ghost use Rattle.tdb_locks.specs.declared.piece.Piece.{Piece};
 ghost use Rattle.tdb_steps.specs.Holdings.{table_of};
 ghost use Rattle.tdb_txn.specs.Committing.{MayCommit};
 ghost use Rattle.tdb_txn.specs.Txn.{txn_depth, txn_doomed, txn_size, txn_start};
-ghost use Rattle.tdb_commit.specs.Prepares.{begun_with, KnowsStage, MayPlan};
+ghost use Rattle.tdb_commit.specs.Prepares.{begun_with, KeepsWithin, KnowsStage, MayPlan};
 ghost use Rattle.tdb_commit.specs.declared.committing.Committing.TheVariants as Committing;
 ghost use Rattle.tdb_plays.specs.declared.command.Command.TheVariants as Command;
 ghost use Rattle.tdb_holder.specs.declared.stage.Stage.TheVariants as Stage;
@@ -113,6 +113,7 @@ fn commit_first<D: Disk>(
     ensures turned { IfOk result (λ went. IsTrue D.tells → (f : Form) (o : Options) → let stage = Stage.Committing (Committing.Preparing (begun_with own.txn own.changed own.numbered)) in
         TurnsFrom f o owner locks.old locks.new stage went (D.history d.old) (D.history d.new)) }
     ensures fits { IfOk result (λ went. (h : Header) → IsFitLeft went.stage h limit (D.size d.new)) }
+    ensures length { OnOk result (KeepsWithin limit (D.size d.old) (D.size d.new)) }
     ensures records { IfOk result (λ went. RecordsGo (Stage.Committing (Committing.Preparing (begun_with own.txn own.changed own.numbered))) went.turn went.stage) }
     ensures stops { IsTrue D.tells → (r b : List ℕ) → KnowsStage (begun_with own.txn own.changed own.numbered).stage (D.history d.old) r b → LeavesOnly (D.history d.old) (D.history d.new) (Reopens r) }
     ensures cause { IsTrue D.tells → MayCommit own.txn (seen (D.history d.old)) → HasCause (D.faults d.old) (D.faults d.new) result }
@@ -151,6 +152,7 @@ fn prepare_first<D: Disk>(
     ensures turned { IfOk result (λ went. IsTrue D.tells → (f : Form) (o : Options) → let stage = Stage.Preparing (begun_with own.txn own.changed own.numbered) in
         TurnsFrom f o owner locks.old locks.new stage went (D.history d.old) (D.history d.new)) }
     ensures fits { IfOk result (λ went. (h : Header) → IsFitLeft went.stage h limit (D.size d.new)) }
+    ensures length { OnOk result (KeepsWithin limit (D.size d.old) (D.size d.new)) }
     ensures records { IfOk result (λ went. RecordsGo (Stage.Preparing (begun_with own.txn own.changed own.numbered)) went.turn went.stage) }
     ensures stops { IsTrue D.tells → (r b : List ℕ) → KnowsStage (begun_with own.txn own.changed own.numbered).stage (D.history d.old) r b → LeavesOnly (D.history d.old) (D.history d.new) (Reopens r) }
     ensures cause { IsTrue D.tells → MayCommit own.txn (seen (D.history d.old)) → HasCause (D.faults d.old) (D.faults d.new) result }
@@ -188,6 +190,7 @@ fn commit_outer<D: Disk>(
     requires limit { limit ≤ 4294963200 }
     ensures turned { IfOk result (λ went. IsTrue D.tells → (f : Form) (o : Options) → TurnsFrom f o owner locks.old locks.new (Stage.Open txn (Some Command.Commit)) went (D.history d.old) (D.history d.new)) }
     ensures fits { IfOk result (λ went. (h : Header) → IsFitLeft went.stage h limit (D.size d.new)) }
+    ensures length { OnOk result (KeepsWithin limit (D.size d.old) (D.size d.new)) }
     ensures records { IfOk result (λ went. RecordsGo (Stage.Open txn (Some Command.Commit)) went.turn went.stage) }
     ensures stops { IsTrue D.tells → (f : Form) (k : Known) → KnowsFile f (Stage.Open txn (Some Command.Commit)) (D.history d.old) k → LeavesOnly (D.history d.old) (D.history d.new) (Reopens k.file) }
     ensures cause { IsTrue D.tells → MayCommit txn.own.txn (seen (D.history d.old)) → HasCause (D.faults d.old) (D.faults d.new) result }
@@ -220,6 +223,7 @@ fn prepare_outer<D: Disk>(
     requires limit { limit ≤ 4294963200 }
     ensures turned { IfOk result (λ went. IsTrue D.tells → (f : Form) (o : Options) → TurnsFrom f o owner locks.old locks.new (Stage.Open txn (Some Command.Prepare)) went (D.history d.old) (D.history d.new)) }
     ensures fits { IfOk result (λ went. (h : Header) → IsFitLeft went.stage h limit (D.size d.new)) }
+    ensures length { OnOk result (KeepsWithin limit (D.size d.old) (D.size d.new)) }
     ensures records { IfOk result (λ went. RecordsGo (Stage.Open txn (Some Command.Prepare)) went.turn went.stage) }
     ensures stops { IsTrue D.tells → (f : Form) (k : Known) → KnowsFile f (Stage.Open txn (Some Command.Prepare)) (D.history d.old) k → LeavesOnly (D.history d.old) (D.history d.new) (Reopens k.file) }
     ensures cause { IsTrue D.tells → MayCommit txn.own.txn (seen (D.history d.old)) → HasCause (D.faults d.old) (D.faults d.new) result }
@@ -254,6 +258,7 @@ fn stay_turn<D: Disk>(
     ensures fits { IfOk result (λ went. IsFitLeft went.stage header.now options.now.limit (D.size d.new)) }
     ensures records { IfOk result (λ went. RecordsGo (Stage.Open txn (Some command)) went.turn went.stage) }
     ensures history { D.history d.new ≡ D.history d.old }
+    ensures size { D.size d.new ≡ D.size d.old }
     ensures cause { IsTrue D.tells → MayCommit txn.own.txn (seen (D.history d.old)) → HasCause (D.faults d.old) (D.faults d.new) result }
     ensures rises { D.faults d.old ≤ D.faults d.new }
 {
@@ -278,6 +283,7 @@ fn outer_turn<D: Disk>(
     requires limit { options.now.limit ≤ 4294963200 }
     ensures turned { IfOk result (λ went. IsTrue D.tells → TurnsFrom (form_in header.now) options.now owner locks.old locks.new (Stage.Open txn (Some command)) went (D.history d.old) (D.history d.new)) }
     ensures fits { IfOk result (λ went. IsFitLeft went.stage header.now options.now.limit (D.size d.new)) }
+    ensures length { OnOk result (KeepsWithin options.now.limit (D.size d.old) (D.size d.new)) }
     ensures records { IfOk result (λ went. RecordsGo (Stage.Open txn (Some command)) went.turn went.stage) }
     ensures stops { IsTrue D.tells → (k : Known) → KnowsFile (form_in header.now) (Stage.Open txn (Some command)) (D.history d.old) k → LeavesOnly (D.history d.old) (D.history d.new) (Reopens k.file) }
     ensures cause { IsTrue D.tells → MayCommit txn.own.txn (seen (D.history d.old)) → HasCause (D.faults d.old) (D.faults d.new) result }
@@ -309,6 +315,7 @@ fn inner_turn<D: Disk>(
     requires limit { options.now.limit ≤ 4294963200 }
     ensures turned { IfOk result (λ went. IsTrue D.tells → TurnsFrom (form_in header.now) options.now owner locks.old locks.new (Stage.Open txn (Some command)) went (D.history d.old) (D.history d.new)) }
     ensures fits { IfOk result (λ went. IsFitLeft went.stage header.now options.now.limit (D.size d.new)) }
+    ensures length { OnOk result (KeepsWithin options.now.limit (D.size d.old) (D.size d.new)) }
     ensures records { IfOk result (λ went. RecordsGo (Stage.Open txn (Some command)) went.turn went.stage) }
     ensures stops { IsTrue D.tells → (k : Known) → KnowsFile (form_in header.now) (Stage.Open txn (Some command)) (D.history d.old) k → LeavesOnly (D.history d.old) (D.history d.new) (Reopens k.file) }
     ensures cause { IsTrue D.tells → MayCommit txn.own.txn (seen (D.history d.old)) → HasCause (D.faults d.old) (D.faults d.new) result }
@@ -339,6 +346,7 @@ pub(crate) fn open_turn<D: Disk>(
     requires limit { options.now.limit ≤ 4294963200 }
     ensures turned { IfOk result (λ went. IsTrue D.tells → TurnsFrom (form_in header.now) options.now owner locks.old locks.new (Stage.Open txn (Some command)) went (D.history d.old) (D.history d.new)) }
     ensures fits { IfOk result (λ went. IsFitLeft went.stage header.now options.now.limit (D.size d.new)) }
+    ensures length { OnOk result (KeepsWithin options.now.limit (D.size d.old) (D.size d.new)) }
     ensures records { IfOk result (λ went. RecordsGo (Stage.Open txn (Some command)) went.turn went.stage) }
     ensures stops { IsTrue D.tells → (k : Known) → KnowsFile (form_in header.now) (Stage.Open txn (Some command)) (D.history d.old) k → LeavesOnly (D.history d.old) (D.history d.new) (Reopens k.file) }
     ensures cause { IsTrue D.tells → MayCommit txn.own.txn (seen (D.history d.old)) → HasCause (D.faults d.old) (D.faults d.new) result }

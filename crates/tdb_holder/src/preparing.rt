@@ -1,5 +1,5 @@
 //! The turns of an outer Prepare.
-ghost use Rattle.std.specs.Prelude.{◌≡◌, ℕ, Bool, List, IsTrue, IfOk, Some};
+ghost use Rattle.std.specs.Prelude.{◌≡◌, ℕ, Bool, List, IsTrue, IfOk, OnOk, Some};
 ghost use Rattle.tdb_disk.specs.Count.{HasCause};
 ghost use Rattle.tdb_disk.specs.Stop.{LeavesOnly};
 ghost use Rattle.tdb_words.specs.declared.header.Header.{Header};
@@ -7,7 +7,7 @@ ghost use Rattle.tdb_space.specs.Form.{Form};
 ghost use Rattle.tdb_space.specs.Undoing.{Reopens};
 ghost use Rattle.tdb_law.specs.Openers.{Task};
 ghost use Rattle.tdb_beside.specs.Sides.{Past, Side};
-ghost use Rattle.tdb_commit.specs.Prepares.{KnowsStage, StageFits};
+ghost use Rattle.tdb_commit.specs.Prepares.{KeepsWithin, KnowsStage, StageFits};
 ghost use Rattle.tdb_plays.specs.InLaw.{law_turn};
 ghost use Rattle.tdb_plays.specs.declared.options.Options.{Options};
 ghost use Rattle.tdb_holder.specs.declared.stage.Stage.TheVariants as Stage;
@@ -71,6 +71,7 @@ pub(crate) fn prepare_turn<D: Disk>(
         IsSide f o owner locks.old stage k past s → KnowsFile f stage (D.history d.old) k → stage_task stage ≡ Some t → MayTurn f table s t
         → StageTurned f o table owner locks.new stage went.stage (D.history d.old) (D.history d.new) k past s t (law_turn went.turn)) }
     ensures fits { IfOk result (λ went. (h : Header) → IsFitLeft went.stage h limit (D.size d.new)) }
+    ensures length { OnOk result (KeepsWithin limit (D.size d.old) (D.size d.new)) }
     ensures records { IfOk result (λ went. RecordsGo (Stage.Preparing preparing) went.turn went.stage) }
     ensures stops { IsTrue D.tells → (r b : List ℕ) → KnowsStage preparing.stage (D.history d.old) r b → LeavesOnly (D.history d.old) (D.history d.new) (Reopens r) }
     ensures cause { HasCause (D.faults d.old) (D.faults d.new) result }
