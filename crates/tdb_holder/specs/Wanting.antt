@@ -22,6 +22,7 @@ use Rattle.tdb_holder.specs.declared.stage.PreparedTxn.{PreparedTxn}
 use Rattle.tdb_holder.specs.declared.stage.PreparedTxn.TheVariants.{Opened, Nothing}
 use Rattle.tdb_holder.specs.declared.stage.Stage.{Stage}
 use Rattle.tdb_holder.specs.declared.stage.Stage.TheVariants as At
+use Rattle.tdb_holder.specs.Holders.{is_idle}
 use Rattle.tdb_holder.specs.Stages.{stage_records}
 use Rattle.tdb_holder.specs.declared.wanting.Wants.{Wants}
 use Rattle.tdb_holder.specs.declared.wanting.Wants.TheVariants as Wants
@@ -92,3 +93,9 @@ records_after stage turn = records_by turn (stage_wants stage) (stage_records st
 
 abbrev pub RecordsGo : Stage → Turn → Option Stage → Type 0
 RecordsGo stage turn after = IfSome after (λ later. stage_records later ≡ records_after stage turn)
+
+-- after a step the opener is aside still, and its command isn't done
+abbrev pub StepGoesOn : Turn → Option Stage → Type 0
+StepGoesOn Turn.Step None = ⊥
+StepGoesOn Turn.Step (Some stage) = is_idle stage ≡ false
+StepGoesOn _ after = Unit {0}

@@ -13,7 +13,7 @@ ghost use Rattle.tdb_holder.specs.declared.stage.Stage.TheVariants as Stage;
 ghost use Rattle.tdb_holder.specs.Stages.{stage_task, Known, IsFitLeft, IsSide, KnowsFile};
 ghost use Rattle.tdb_holder.specs.Turned.{MayTurn, StageTurned};
 ghost use Rattle.tdb_holder.specs.Wents.{finish_went};
-ghost use Rattle.tdb_holder.specs.Wanting.{RecordsGo};
+ghost use Rattle.tdb_holder.specs.Wanting.{RecordsGo, StepGoesOn};
 
 use crate::stage::{Stage, Went};
 use tdb_commit::{FinishTurn, Finishing};
@@ -45,6 +45,7 @@ pub(crate) fn finish_turn<D: Disk>(
         → StageTurned f o table owner locks.new stage went.stage (D.history d.old) (D.history d.new) k past s t (law_turn went.turn)) }
     ensures fits { IfOk result (λ went. (h : Header) (limit : ℕ) → IsFitLeft went.stage h limit (D.size d.new)) }
     ensures records { IfOk result (λ went. RecordsGo (Stage.Finishing finishing) went.turn went.stage) }
+    ensures goes_on { IfOk result (λ went. StepGoesOn went.turn went.stage) }
     ensures stops { IsTrue D.tells → (r b : List ℕ) → KnowsFinish finishing (D.history d.old) r b → LeavesOnly (D.history d.old) (D.history d.new) (MayLeave finishing r b) }
     ensures size { D.size d.new ≡ D.size d.old }
     ensures cause { HasCause (D.faults d.old) (D.faults d.new) result }

@@ -23,7 +23,7 @@ ghost use Rattle.tdb_holder.specs.Given.{IsShortCommand};
 ghost use Rattle.tdb_holder.specs.Holders.{is_idle, left_stage, stage_depth, with_command, HolderTurned, StageMayLeave};
 ghost use Rattle.tdb_holder.specs.Stages.{is_closing, stage_records, stage_task, Known, IsFit, IsFitLeft, IsSide, KnowsFile, MayBeGiven};
 ghost use Rattle.tdb_holder.specs.Turned.{BeginsOn, MayTurn, StageTurned};
-ghost use Rattle.tdb_holder.specs.Wanting.{records_at, stage_wants, wanted_by, RecordsGo};
+ghost use Rattle.tdb_holder.specs.Wanting.{records_at, stage_wants, wanted_by, RecordsGo, StepGoesOn};
 
 use crate::committing::commit_turn;
 use crate::finishing::finish_turn;
@@ -138,6 +138,7 @@ fn stage_turn<D: Disk>(
     ensures fits { IfOk result (λ went. IsFitLeft went.stage header.now options.now.limit (D.size d.new)) }
     ensures length { OnOk result (KeepsWithin options.now.limit (D.size d.old) (D.size d.new)) }
     ensures records { IfOk result (λ went. RecordsGo stage went.turn went.stage) }
+    ensures goes_on { IfOk result (λ went. StepGoesOn went.turn went.stage) }
     ensures stops { IsTrue D.tells → (f : Form) (k : Known) → KnowsFile f stage (D.history d.old) k → LeavesOnly (D.history d.old) (D.history d.new) (StageMayLeave stage (D.history d.old) k) }
     ensures cause { IsTrue D.tells → (f : Form) (k : Known) → KnowsFile f stage (D.history d.old) k → HasCause (D.faults d.old) (D.faults d.new) result }
     ensures rises { D.faults d.old ≤ D.faults d.new }
@@ -341,6 +342,7 @@ impl Holder {
         ensures length { OnOk result (KeepsWithin options.now.limit (D.size d.old) (D.size d.new)) }
         ensures owner { IfOk result (λ moved. IfSome moved.holder (λ h. h.owner ≡ self.owner)) }
         ensures records { IfOk result (λ moved. RecordsGo self.stage moved.turn (left_stage moved.holder)) }
+        ensures goes_on { IfOk result (λ moved. StepGoesOn moved.turn (left_stage moved.holder)) }
         ensures stops { IsTrue D.tells → (f : Form) (k : Known) → KnowsFile f self.stage (D.history d.old) k → LeavesOnly (D.history d.old) (D.history d.new) (StageMayLeave self.stage (D.history d.old) k) }
         ensures cause { IsTrue D.tells → (f : Form) (k : Known) → KnowsFile f self.stage (D.history d.old) k → HasCause (D.faults d.old) (D.faults d.new) result }
         ensures rises { D.faults d.old ≤ D.faults d.new }

@@ -16,7 +16,7 @@ ghost use Rattle.tdb_holder.specs.declared.stage.Stage.TheVariants as Stage;
 ghost use Rattle.tdb_holder.specs.Given.{IsInside};
 ghost use Rattle.tdb_holder.specs.Stages.{Known, CommandFits, IsFit, IsFitLeft, KnowsFile};
 ghost use Rattle.tdb_holder.specs.Open.{OpenFits};
-ghost use Rattle.tdb_holder.specs.Wanting.{RecordsGo};
+ghost use Rattle.tdb_holder.specs.Wanting.{RecordsGo, StepGoesOn};
 ghost use Rattle.tdb_holder.specs.Wents.{TurnsFrom};
 
 use crate::committing::commit_turn;
@@ -81,6 +81,7 @@ fn close_turn(txn: OpenTxn, alloc: Global, locks: &mut Locks, owner: u32) -> Wen
     ensures turned { (f : Form) (o : Options) (h : History) → TurnsFrom f o owner locks.old locks.new (Stage.Open txn (Some Command.Close)) result h h }
     ensures fits { (h : Header) (limit size : ℕ) → IsFitLeft result.stage h limit size }
     ensures records { RecordsGo (Stage.Open txn (Some Command.Close)) result.turn result.stage }
+    ensures goes_on { StepGoesOn result.turn result.stage }
 {
     txn.close(alloc, locks, owner);
     Went::over(Reply::Ok)
@@ -92,6 +93,7 @@ fn cancel_turn(txn: OpenTxn, alloc: Global, locks: &mut Locks, owner: u32) -> We
     ensures turned { (f : Form) (o : Options) (h : History) → TurnsFrom f o owner locks.old locks.new (Stage.Open txn (Some Command.Cancel)) result h h }
     ensures fits { (h : Header) (limit size : ℕ) → IsFitLeft result.stage h limit size }
     ensures records { RecordsGo (Stage.Open txn (Some Command.Cancel)) result.turn result.stage }
+    ensures goes_on { StepGoesOn result.turn result.stage }
 {
     txn.end(alloc, locks, owner);
     Went::over(Reply::Ok)
@@ -115,6 +117,7 @@ fn commit_first<D: Disk>(
     ensures fits { IfOk result (λ went. (h : Header) → IsFitLeft went.stage h limit (D.size d.new)) }
     ensures length { OnOk result (KeepsWithin limit (D.size d.old) (D.size d.new)) }
     ensures records { IfOk result (λ went. RecordsGo (Stage.Committing (Committing.Preparing (begun_with own.txn own.changed own.numbered))) went.turn went.stage) }
+    ensures goes_on { IfOk result (λ went. StepGoesOn went.turn went.stage) }
     ensures stops { IsTrue D.tells → (r b : List ℕ) → KnowsStage (begun_with own.txn own.changed own.numbered).stage (D.history d.old) r b → LeavesOnly (D.history d.old) (D.history d.new) (Reopens r) }
     ensures cause { IsTrue D.tells → MayCommit own.txn (seen (D.history d.old)) → HasCause (D.faults d.old) (D.faults d.new) result }
     ensures rises { D.faults d.old ≤ D.faults d.new }
@@ -154,6 +157,7 @@ fn prepare_first<D: Disk>(
     ensures fits { IfOk result (λ went. (h : Header) → IsFitLeft went.stage h limit (D.size d.new)) }
     ensures length { OnOk result (KeepsWithin limit (D.size d.old) (D.size d.new)) }
     ensures records { IfOk result (λ went. RecordsGo (Stage.Preparing (begun_with own.txn own.changed own.numbered)) went.turn went.stage) }
+    ensures goes_on { IfOk result (λ went. StepGoesOn went.turn went.stage) }
     ensures stops { IsTrue D.tells → (r b : List ℕ) → KnowsStage (begun_with own.txn own.changed own.numbered).stage (D.history d.old) r b → LeavesOnly (D.history d.old) (D.history d.new) (Reopens r) }
     ensures cause { IsTrue D.tells → MayCommit own.txn (seen (D.history d.old)) → HasCause (D.faults d.old) (D.faults d.new) result }
     ensures rises { D.faults d.old ≤ D.faults d.new }
@@ -192,6 +196,7 @@ fn commit_outer<D: Disk>(
     ensures fits { IfOk result (λ went. (h : Header) → IsFitLeft went.stage h limit (D.size d.new)) }
     ensures length { OnOk result (KeepsWithin limit (D.size d.old) (D.size d.new)) }
     ensures records { IfOk result (λ went. RecordsGo (Stage.Open txn (Some Command.Commit)) went.turn went.stage) }
+    ensures goes_on { IfOk result (λ went. StepGoesOn went.turn went.stage) }
     ensures stops { IsTrue D.tells → (f : Form) (k : Known) → KnowsFile f (Stage.Open txn (Some Command.Commit)) (D.history d.old) k → LeavesOnly (D.history d.old) (D.history d.new) (Reopens k.file) }
     ensures cause { IsTrue D.tells → MayCommit txn.own.txn (seen (D.history d.old)) → HasCause (D.faults d.old) (D.faults d.new) result }
     ensures rises { D.faults d.old ≤ D.faults d.new }
@@ -225,6 +230,7 @@ fn prepare_outer<D: Disk>(
     ensures fits { IfOk result (λ went. (h : Header) → IsFitLeft went.stage h limit (D.size d.new)) }
     ensures length { OnOk result (KeepsWithin limit (D.size d.old) (D.size d.new)) }
     ensures records { IfOk result (λ went. RecordsGo (Stage.Open txn (Some Command.Prepare)) went.turn went.stage) }
+    ensures goes_on { IfOk result (λ went. StepGoesOn went.turn went.stage) }
     ensures stops { IsTrue D.tells → (f : Form) (k : Known) → KnowsFile f (Stage.Open txn (Some Command.Prepare)) (D.history d.old) k → LeavesOnly (D.history d.old) (D.history d.new) (Reopens k.file) }
     ensures cause { IsTrue D.tells → MayCommit txn.own.txn (seen (D.history d.old)) → HasCause (D.faults d.old) (D.faults d.new) result }
     ensures rises { D.faults d.old ≤ D.faults d.new }
@@ -257,6 +263,7 @@ fn stay_turn<D: Disk>(
     ensures turned { IfOk result (λ went. IsTrue D.tells → (owner : ℕ) (ps : List Piece) → TurnsFrom (form_in header.now) options.now owner ps ps (Stage.Open txn (Some command)) went (D.history d.old) (D.history d.new)) }
     ensures fits { IfOk result (λ went. IsFitLeft went.stage header.now options.now.limit (D.size d.new)) }
     ensures records { IfOk result (λ went. RecordsGo (Stage.Open txn (Some command)) went.turn went.stage) }
+    ensures goes_on { IfOk result (λ went. StepGoesOn went.turn went.stage) }
     ensures history { D.history d.new ≡ D.history d.old }
     ensures size { D.size d.new ≡ D.size d.old }
     ensures cause { IsTrue D.tells → MayCommit txn.own.txn (seen (D.history d.old)) → HasCause (D.faults d.old) (D.faults d.new) result }
@@ -285,6 +292,7 @@ fn outer_turn<D: Disk>(
     ensures fits { IfOk result (λ went. IsFitLeft went.stage header.now options.now.limit (D.size d.new)) }
     ensures length { OnOk result (KeepsWithin options.now.limit (D.size d.old) (D.size d.new)) }
     ensures records { IfOk result (λ went. RecordsGo (Stage.Open txn (Some command)) went.turn went.stage) }
+    ensures goes_on { IfOk result (λ went. StepGoesOn went.turn went.stage) }
     ensures stops { IsTrue D.tells → (k : Known) → KnowsFile (form_in header.now) (Stage.Open txn (Some command)) (D.history d.old) k → LeavesOnly (D.history d.old) (D.history d.new) (Reopens k.file) }
     ensures cause { IsTrue D.tells → MayCommit txn.own.txn (seen (D.history d.old)) → HasCause (D.faults d.old) (D.faults d.new) result }
     ensures rises { D.faults d.old ≤ D.faults d.new }
@@ -317,6 +325,7 @@ fn inner_turn<D: Disk>(
     ensures fits { IfOk result (λ went. IsFitLeft went.stage header.now options.now.limit (D.size d.new)) }
     ensures length { OnOk result (KeepsWithin options.now.limit (D.size d.old) (D.size d.new)) }
     ensures records { IfOk result (λ went. RecordsGo (Stage.Open txn (Some command)) went.turn went.stage) }
+    ensures goes_on { IfOk result (λ went. StepGoesOn went.turn went.stage) }
     ensures stops { IsTrue D.tells → (k : Known) → KnowsFile (form_in header.now) (Stage.Open txn (Some command)) (D.history d.old) k → LeavesOnly (D.history d.old) (D.history d.new) (Reopens k.file) }
     ensures cause { IsTrue D.tells → MayCommit txn.own.txn (seen (D.history d.old)) → HasCause (D.faults d.old) (D.faults d.new) result }
     ensures rises { D.faults d.old ≤ D.faults d.new }
@@ -348,6 +357,7 @@ pub(crate) fn open_turn<D: Disk>(
     ensures fits { IfOk result (λ went. IsFitLeft went.stage header.now options.now.limit (D.size d.new)) }
     ensures length { OnOk result (KeepsWithin options.now.limit (D.size d.old) (D.size d.new)) }
     ensures records { IfOk result (λ went. RecordsGo (Stage.Open txn (Some command)) went.turn went.stage) }
+    ensures goes_on { IfOk result (λ went. StepGoesOn went.turn went.stage) }
     ensures stops { IsTrue D.tells → (k : Known) → KnowsFile (form_in header.now) (Stage.Open txn (Some command)) (D.history d.old) k → LeavesOnly (D.history d.old) (D.history d.new) (Reopens k.file) }
     ensures cause { IsTrue D.tells → MayCommit txn.own.txn (seen (D.history d.old)) → HasCause (D.faults d.old) (D.faults d.new) result }
     ensures rises { D.faults d.old ≤ D.faults d.new }

@@ -19,7 +19,7 @@ ghost use Rattle.tdb_holder.specs.Prepared.{IsRefused, KnowsPrepared, PreparedFi
 ghost use Rattle.tdb_holder.specs.Refusing.{passes_prepared};
 ghost use Rattle.tdb_holder.specs.Stages.{stage_task, Known, IsFit, IsFitLeft, IsSide, KnowsFile};
 ghost use Rattle.tdb_holder.specs.Turned.{MayTurn, StageTurned};
-ghost use Rattle.tdb_holder.specs.Wanting.{RecordsGo};
+ghost use Rattle.tdb_holder.specs.Wanting.{RecordsGo, StepGoesOn};
 ghost use Rattle.tdb_holder.specs.Wents.{is_over};
 
 use crate::finishing::finish_turn;
@@ -85,6 +85,7 @@ fn commit_prepared<D: Disk>(
         → StageTurned f o table owner locks.new stage went.stage (D.history d.old) (D.history d.new) k past s t (law_turn went.turn)) }
     ensures fits { IfOk result (λ went. (h : Header) (limit : ℕ) → IsFitLeft went.stage h limit (D.size d.new)) }
     ensures records { IfOk result (λ went. RecordsGo (Stage.Prepared left (Some Given.Commit)) went.turn went.stage) }
+    ensures goes_on { IfOk result (λ went. StepGoesOn went.turn went.stage) }
     ensures stops { IsTrue D.tells → (r b : List ℕ) → KnowsPrepared left (D.history d.old) r b → LeavesOnly (D.history d.old) (D.history d.new) (Reopens r) }
     ensures size { D.size d.new ≡ D.size d.old }
     ensures cause { HasCause (D.faults d.old) (D.faults d.new) result }
@@ -145,6 +146,7 @@ pub(crate) fn prepared_turn<D: Disk>(
         → StageTurned f options.now table owner locks.new stage went.stage (D.history d.old) (D.history d.new) k past s t (law_turn went.turn)) }
     ensures fits { IfOk result (λ went. IsFitLeft went.stage header.now options.now.limit (D.size d.new)) }
     ensures records { IfOk result (λ went. RecordsGo (Stage.Prepared left (Some command)) went.turn went.stage) }
+    ensures goes_on { IfOk result (λ went. StepGoesOn went.turn went.stage) }
     ensures stops { IsTrue D.tells → (r b : List ℕ) → KnowsPrepared left (D.history d.old) r b → LeavesOnly (D.history d.old) (D.history d.new) (Reopens r) }
     ensures size { D.size d.new ≡ D.size d.old }
     ensures cause { HasCause (D.faults d.old) (D.faults d.new) result }

@@ -14,7 +14,7 @@ ghost use Rattle.tdb_holder.specs.declared.stage.Stage.TheVariants as Stage;
 ghost use Rattle.tdb_holder.specs.Stages.{stage_task, Known, IsFitLeft, IsSide, KnowsFile};
 ghost use Rattle.tdb_holder.specs.Turned.{MayTurn, StageTurned};
 ghost use Rattle.tdb_holder.specs.Wents.{has_changed, prepare_went};
-ghost use Rattle.tdb_holder.specs.Wanting.{RecordsGo};
+ghost use Rattle.tdb_holder.specs.Wanting.{RecordsGo, StepGoesOn};
 
 use crate::stage::{PreparedTxn, Stage, Went};
 use tdb_commit::{PrepareStage, PrepareTurn, Preparing};
@@ -73,6 +73,7 @@ pub(crate) fn prepare_turn<D: Disk>(
     ensures fits { IfOk result (λ went. (h : Header) → IsFitLeft went.stage h limit (D.size d.new)) }
     ensures length { OnOk result (KeepsWithin limit (D.size d.old) (D.size d.new)) }
     ensures records { IfOk result (λ went. RecordsGo (Stage.Preparing preparing) went.turn went.stage) }
+    ensures goes_on { IfOk result (λ went. StepGoesOn went.turn went.stage) }
     ensures stops { IsTrue D.tells → (r b : List ℕ) → KnowsStage preparing.stage (D.history d.old) r b → LeavesOnly (D.history d.old) (D.history d.new) (Reopens r) }
     ensures cause { HasCause (D.faults d.old) (D.faults d.new) result }
 {

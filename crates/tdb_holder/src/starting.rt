@@ -10,7 +10,7 @@ ghost use Rattle.tdb_holder.specs.declared.stage.Stage.TheVariants as Stage;
 ghost use Rattle.tdb_holder.specs.Stages.{stage_task, Known, IsFitLeft, IsSide, KnowsFile};
 ghost use Rattle.tdb_holder.specs.Turned.{BeginsOn, MayTurn, StageTurned};
 ghost use Rattle.tdb_holder.specs.Wents.{StartWent};
-ghost use Rattle.tdb_holder.specs.Wanting.{RecordsGo};
+ghost use Rattle.tdb_holder.specs.Wanting.{RecordsGo, StepGoesOn};
 
 use crate::open_txn::OpenTxn;
 use crate::stage::{Stage, Went};
@@ -60,6 +60,7 @@ pub(crate) fn start_turn<D: Disk>(
         → StageTurned f options.now table owner locks.new stage went.stage (D.history d.old) (D.history d.new) k past s t (law_turn went.turn)) }
     ensures fits { IfOk result (λ went. IsFitLeft went.stage header.now options.now.limit (D.size d.new)) }
     ensures records { IfOk result (λ went. RecordsGo (Stage.Starting starting) went.turn went.stage) }
+    ensures goes_on { IfOk result (λ went. StepGoesOn went.turn went.stage) }
     ensures stops { LeavesOnly (D.history d.old) (D.history d.new) (Leaves (D.history d.old)) }
     ensures size { D.size d.new ≡ D.size d.old }
     ensures cause { HasCause (D.faults d.old) (D.faults d.new) result }

@@ -63,3 +63,12 @@ returns-in-Finishing-clause-turned g c =
     weaker c.finish_turn.result _ _
     (λ went turn told. subst (λ stage. TurnsAt f o a.owner a.locks.now c.finish_turn.new.locks stage (g.D.Disk.history a.d.now) (g.D.Disk.history c.finish_turn.new.d) went) (sym c.in-Finishing.is)
     (λ table k past s t S K begins has M. turn told f o table k past s t S K has M)) c.finish_turn.ensures.turned
+
+pub returns-in-Preparing-clause-turned : goal.returns-in-Preparing-clause-turned
+returns-in-Preparing-clause-turned g c =
+    let a = c.args in
+    let f = form_in a.header.now in
+    let o = a.options.now in
+    weaker c.prepare_turn.result _ _
+    (λ went turn told. subst (λ stage. TurnsAt f o a.owner a.locks.now c.prepare_turn.new.locks stage (g.D.Disk.history a.d.now) (g.D.Disk.history c.prepare_turn.new.d) went) (sym c.in-Preparing.is)
+    (λ table k past s t S K begins has M. turn told f o table k past s t S K has M)) c.prepare_turn.ensures.turned

@@ -9,7 +9,7 @@ use Rattle.tdb_holder.specs.declared.stage.Went.{Went}
 use Rattle.tdb_holder.specs.Ends.{task_of}
 use Rattle.tdb_holder.specs.Stages.{stage_task, IsFitLeft, IsSide, KnowsFile}
 use Rattle.tdb_holder.specs.Turned.{MayTurn, StageTurned}
-use Rattle.tdb_holder.specs.Wanting.{RecordsGo}
+use Rattle.tdb_holder.specs.Wanting.{RecordsGo, StepGoesOn}
 use Rattle.tdb_holder.proofs.Opened.{stays_open, weaker}
 use Rattle.tdb_holder.proofs.PreparedTurns.{end_turned, file_known, fits_without, not_taken, over_with, prepared_stops, refused_turned, still_read, EndsPrepared}
 use Rattle.tdb_holder.proofs.Sided.{same_task}
@@ -87,6 +87,7 @@ returns-in_default g c =
           let size = g.D.Disk.size a.d.now in
           subst (λ (w : Went). IsFitLeft w.stage a.header.now o.limit size) (sym R.2) (fits_without a.left a.command a.header.now o.limit size c.requires.fits);
       records = subst (λ (w : Went). RecordsGo stage w.turn w.stage) (sym R.2) refl;
+      goes_on = subst (λ (w : Went). StepGoesOn w.turn w.stage) (sym R.2) tt;
       stops = λ told r b K. prepared_stops a.left h r b K;
       size = refl;
       cause = record { never_falls = omega arith; failed = tt; done = refl };
