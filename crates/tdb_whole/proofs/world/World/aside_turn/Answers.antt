@@ -1,0 +1,34 @@
+-- The one aside takes its turn.
+use Rattle.std.proofs.Common.{◌≡◌, Some, IsTrue, IfOk, sym, ◌∙◌, ap, subst}
+use Rattle.tdb_locks.specs.declared.turn.Turn.TheVariants as Turn
+use Rattle.tdb_plays.specs.InLaw.{law_turn}
+use Rattle.tdb_holder.specs.Holders.{HolderState}
+use Rattle.tdb_whole.specs.contracts.world.World.{the_view}
+use Rattle.tdb_whole.specs.Whole.{Whole}
+use Rattle.tdb_whole.specs.States.{IsStateOf}
+use Rattle.tdb_whole.specs.Steps.{with_aside, HasCommand, TurnLeads}
+use Rattle.tdb_whole.proofs.Settled.{put_back, same_holder}
+use Rattle.tdb_whole.proofs.world.World.aside_turn.Given
+use Rattle.tdb_whole.proofs.world.World.aside_turn.Goals as goal
+
+module _ (g : Given.Over) (c : goal.After-step_aside g) where
+  aside : c.args.self.now.aside ≡ Some c.in-Some.holder
+  aside = sym (ap (λ (w : Whole). w.aside) c.self.view_is) ∙ sym c.take.ensures.value ∙ c.in-Some.is
+
+  before : with_aside (the_view c.self.inside) c.in-Some.holder ≡ c.args.self.now
+  before = ap (λ (w : Whole). with_aside w c.in-Some.holder) c.self.view_is ∙ put_back c.args.self.now c.in-Some.holder aside
+
+  owner : c.in-Some.holder.owner ≡ c.args.who
+  owner = let h = c.requires.aside in ap (λ (z : HolderState). z.owner) (same_holder c.args.self.now.aside c.in-Some.holder h.0 aside h.1) ∙ sym h.2
+
+pub returns-clause-turned : goal.returns-clause-turned
+returns-clause-turned g c =
+    subst (λ o. IfOk c.step_aside.result (λ turn. IsTrue g.D.Disk.tells → TurnLeads c.args.self.now c.step_aside.new.self (g.D.Disk.history c.args.d.now) (g.D.Disk.history c.step_aside.new.d) o (law_turn turn))) (owner g c)
+    (subst (λ w. IfOk c.step_aside.result (λ turn. IsTrue g.D.Disk.tells → TurnLeads w c.step_aside.new.self (g.D.Disk.history c.args.d.now) (g.D.Disk.history c.step_aside.new.d) c.in-Some.holder.owner (law_turn turn)))
+    (before g c) c.step_aside.ensures.turned)
+
+pub returns-clause-busy : goal.returns-clause-busy
+returns-clause-busy g c = subst (λ o. IfOk c.step_aside.result (λ turn. turn ≡ Turn.Step → HasCommand c.step_aside.new.self o)) (owner g c) c.step_aside.ensures.busy
+
+pub returns-clause-cause : goal.returns-clause-cause
+returns-clause-cause g c = λ tells state S. c.step_aside.ensures.cause tells state (subst (λ w. IsStateOf w (g.D.Disk.history c.args.d.now) state) (sym (before g c)) S)

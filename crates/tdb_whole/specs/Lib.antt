@@ -1,0 +1,5 @@
+pub mod Whole
+pub mod States
+pub mod Steps
+pub mod Claims
+pub mod Shut

@@ -1,0 +1,44 @@
+//! One turn of an opener.
+ghost use Rattle.std.specs.Prelude.{◌≡◌, ◌≤◌, ℕ, IsTrue, IfOk, OnOk, false};
+ghost use Rattle.tdb_disk.specs.Count.{HasCause};
+ghost use Rattle.tdb_disk.specs.History.{seen};
+ghost use Rattle.tdb_law.specs.World.{State};
+ghost use Rattle.tdb_plays.specs.InLaw.{law_turn};
+ghost use Rattle.tdb_whole.specs.Whole.{WorldFits};
+ghost use Rattle.tdb_whole.specs.States.{IsStateOf};
+ghost use Rattle.tdb_whole.specs.Steps.{HasCommand, TurnLeads};
+
+use crate::world::World;
+use tdb_disk::Disk;
+use tdb_locks::Turn;
+use tdb_space::Io;
+
+impl World {
+    /// Takes one turn of the opener's command. After `Io` no other turn may be taken in the world: the disk failed, or
+    /// a check found a fault in the file, which no turn leaves.
+    ///
+    /// Cost: that of the command's turn, and a search in the lock table; nothing is passed over that doesn't belong to
+    /// it.
+    pub fn turn<D: Disk>(&mut self, d: &mut D, who: u32) -> Result<Turn, Io>
+        requires named { 1 ≤ who }
+        requires busy { HasCommand self.old who }
+        requires fresh { self.old.stale ≡ false }
+        requires fits { WorldFits self.old (seen (D.history d.old)) (D.size d.old) }
+        ensures fits { OnOk result (WorldFits self.new (seen (D.history d.new)) (D.size d.new)) }
+        ensures fresh { OnOk result (self.new.stale ≡ false) }
+        ensures turned { IfOk result (λ turn. IsTrue D.tells → TurnLeads self.old self.new (D.history d.old) (D.history d.new) who (law_turn turn)) }
+        ensures busy { IfOk result (λ turn. turn ≡ Turn.Step → HasCommand self.new who) }
+        ensures header { OnOk result (self.new.openers.header ≡ self.old.openers.header) }
+        ensures options { OnOk result (self.new.openers.options ≡ self.old.openers.options) }
+        ensures cause { IsTrue D.tells → (state : State) → IsStateOf self.old (D.history d.old) state → HasCause (D.faults d.old) (D.faults d.new) result }
+        ensures rises { D.faults d.old ≤ D.faults d.new }
+    {
+        if self.is_aside(who) {
+            return self.aside_turn(d, who);
+        }
+        if self.is_starting(who) {
+            return self.start_turn(d, who);
+        }
+        self.other_turn(d, who)
+    }
+}
