@@ -12,7 +12,7 @@ use Rattle.tdb_law.specs.Plays.Play.{TakeTurn, Go, Do}
 use Rattle.tdb_law.specs.Plays.Clears.{clears_nothing, clears_gate}
 use Rattle.tdb_law.specs.Plays.Gives.{gives_turn, gives_turns, gives_all}
 use Rattle.tdb_law.proofs.Joining.{commands_end}
-use Rattle.tdb_world.specs.Played.{Steps, FirstBegun, ComesTo, Nothing, IsLast, TakesOne, TakesLast, GoesSome, GoesLast, PlaysLast}
+use Rattle.tdb_world.specs.Played.{Steps, StepsThenClears, FirstBegun, ComesTo, Nothing, IsLast, TakesOne, TakesLast, GoesSome, GoesLast, PlaysLast}
 use Rattle.tdb_world.specs.Played.Begun.{begun_not, begun_turns, begun_command}
 
 -- a turn that isn't a step ends turns that may be this many
@@ -43,6 +43,10 @@ pub steps_step : (f : Form) (n : ℕ) (old mid new : State) (who : ℕ) (front r
 steps_step f n old mid new who front rest S T =
     let more : Steps f (suc n) old who (front ++ rest) new = (mid, front, rest, refl, S, T) in
     subst (λ k. Steps f k old who (front ++ rest) new) (let e : suc n ≡ n + 1 = omega arith in e) more
+
+-- steps, behind which no gate was undone
+pub steps_only : (f : Form) (n : ℕ) (old new : State) (who : ℕ) (lines : List Line) → Steps f n old who lines new → StepsThenClears f n old who lines new
+steps_only f n old new who lines S = (new, lines, [], sym (append-nil lines), S, inl (refl, refl))
 
 -- how many steps a command has had that has had a step
 record Had (w : State) (who n : ℕ) : Type 0 where
@@ -96,11 +100,11 @@ module _ (f : Form) (old : State) where
   turn_last who lines new (inr one) = inr (turn_gives who one.0 lines new one.1)
 
   pub go_last : (who : ℕ) (lines : List Line) (new : State) → GoesLast f old who lines new → PlaysLast f old (Go who) lines new
-  go_last who lines new (inl some) = inl (begun_turns who some.0 refl some.1)
+  go_last who lines new (inl some) = inl (begun_turns who some.0 refl (steps_only f some.0 old new who lines some.1))
   go_last who lines new (inr all) = inr (gives_turns who refl all)
 
   pub do_last : (who : ℕ) (c : Command) (mid : State) → Given old who c mid → (lines : List Line) (new : State) → GoesLast f mid who lines new → PlaysLast f old (Do who c) lines new
-  do_last who c mid G lines new (inl some) = inl (begun_command who some.0 c mid refl G some.1)
+  do_last who c mid G lines new (inl some) = inl (begun_command who some.0 c mid refl G (steps_only f some.0 mid new who lines some.1))
   do_last who c mid G lines new (inr all) = inr (gives_all who c mid refl G all)
 
 -- the last of some turns

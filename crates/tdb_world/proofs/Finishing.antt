@@ -1,6 +1,6 @@
 -- Reports at their end: the lines of what isn't done are lawful behind those of a course.
-use Rattle.std.proofs.Common.{◌≡◌, ℕ, zero, suc, ◌+◌, ◌-◌, ◌<◌, Bool, true, false, List, [], ◌∷◌, ◌++◌, length, take-append-drop, le_of_lt, take, drop, slice_get, get_or, Option, Some, None, is_some, refl, sym, ◌∙◌, ap, subst, arith, append_assoc, append-nil}
-use Rattle.std.specs.Prelude.{if◌then◌else◌}
+use Rattle.std.proofs.Common.{◌≡◌, ℕ, zero, suc, ◌+◌, ◌-◌, ◌<◌, Bool, true, false, List, [], ◌∷◌, ◌++◌, length, take-append-drop, le_of_lt, take, drop, slice_get, get_or, Option, Some, None, is_some, refl, sym, ◌∙◌, ap, subst, arith, append_assoc, append-nil, inl, inr}
+use Rattle.std.specs.Prelude.{◌⊎◌, if◌then◌else◌}
 use Rattle.std.proofs.lemmas.List.{take_more, length-take-le}
 use Rattle.tdb_space.specs.Form.{Form}
 use Rattle.tdb_law.specs.Commands.Turn.{Step}
@@ -8,12 +8,14 @@ use Rattle.tdb_law.specs.World.{State, IsSound}
 use Rattle.tdb_law.specs.Replay.{Replay}
 use Rattle.tdb_law.specs.Standing.{Stands}
 use Rattle.tdb_law.specs.Lines.{Line as LawLine, IsFollowed, IsLawful, next_line, replay}
-use Rattle.tdb_law.specs.Plays.{Play, Course}
+use Rattle.tdb_law.specs.Plays.{Play, Clears, Course}
+use Rattle.tdb_law.specs.Plays.Clears.{clears_nothing, clears_gate}
 use Rattle.tdb_law.specs.Plays.Play.{SetLog, TakeTurn, Give}
 use Rattle.tdb_law.specs.Plays.Gives.{gives_answer, gives_command, gives_turn}
 use Rattle.tdb_law.specs.Laws.{IsTold}
 use Rattle.tdb_law.proofs.Joining.{course_lawful}
 use Rattle.tdb_law.proofs.Happening.{told_lawful}
+use Rattle.tdb_law.proofs.Undoing.{undo_lawful}
 use Rattle.tdb_law.proofs.Plainly.{beginning_lawful}
 use Rattle.tdb_plays.specs.declared.line.Line.{Line}
 use Rattle.tdb_plays.specs.declared.line.Line.TheVariants.{Unfinished}
@@ -23,7 +25,7 @@ use Rattle.tdb_world.specs.declared.job.Task.{Task}
 use Rattle.tdb_world.specs.Openers.{task_at, law_task}
 use Rattle.tdb_world.specs.Worlds.{World, state_in, law_of_task}
 use Rattle.tdb_world.specs.Played.{Steps, Begun, FirstBegun}
-use Rattle.tdb_world.specs.Played.Begun.{begun_not, begun_turns, begun_command}
+use Rattle.tdb_world.specs.Played.Begun.{begun_not, begun_turn, begun_turns, begun_command}
 use Rattle.tdb_world.specs.Finished.{unfinished, ReportIsLawful, BrokenIsLawful}
 use Rattle.tdb_world.proofs.Courses.{course_then}
 
@@ -90,13 +92,18 @@ module _ (f : Form) (w : World) (img : List ℕ) (S : IsSound f (state_in w img)
       by_task x (unfinished (k + 1 + 1) xs) k s P (sym (same 0 ∙ ap (slice_get w.openers) (let e : k + 0 ≡ k = omega arith in e)))
       (rest_lawful xs (k + 1) (λ o. same (suc o) ∙ ap (slice_get w.openers) (let e : k + suc o ≡ k + 1 + o = omega arith in e))) x.task refl
 
+-- the lines of a course may be followed by one that asks for nothing in front of it
+followed_lawful : (f : Form) (old new : State) (plays : List Play) (lines : List LawLine) (s : Replay) → IsSound f old → Stands f old s → Course f old plays lines new
+    → IsLawful f s (lines ++ LawLine.LogsLeft 0 ∷ [])
+followed_lawful f old new plays lines s S P C =
+    (course_lawful f old new (plays ++ SetLog ∷ []) (lines ++ LawLine.LogsLeft 0 ∷ []) s S P
+    (course_then f plays SetLog old new new lines (LawLine.LogsLeft 0 ∷ []) C (gives_answer (LawLine.LogsLeft 0) refl refl tt))).lawful
+
 pub report_lawful : ReportIsLawful
 report_lawful f options old w img plays lines B C =
     let begun = beginning_lawful f old options B in
     let end = course_lawful f old (state_in w img) plays lines _ begun.0 begun.1 C in
-    let set = course_lawful f old (state_in w img) (plays ++ SetLog ∷ []) (lines ++ LawLine.LogsLeft 0 ∷ []) _ begun.0 begun.1
-    (course_then f plays SetLog old (state_in w img) (state_in w img) lines (LawLine.LogsLeft 0 ∷ []) C (gives_answer (LawLine.LogsLeft 0) refl refl tt)) in
-    lawful_with f _ lines (law_lines (unfinished 1 w.openers)) set.lawful (rest_lawful f w img end.sound w.openers 0 (λ o. ap (slice_get w.openers) (let e : o ≡ 0 + o = omega arith in e)) _ end.stands)
+    lawful_with f _ lines (law_lines (unfinished 1 w.openers)) (followed_lawful f old (state_in w img) plays lines _ begun.0 begun.1 C) (rest_lawful f w img end.sound w.openers 0 (λ o. ap (slice_get w.openers) (let e : o ≡ 0 + o = omega arith in e)) _ end.stands)
 
 -- turns as plays of their own
 abbrev turns : ℕ → ℕ → List Play
@@ -114,21 +121,62 @@ course_join f [] rest old mid new one two A B = subst (λ ls. Course f old rest 
 course_join f (p ∷ front) rest old mid new one two A B =
     (A.0, A.1, A.2 ++ two, ap (λ ls. ls ++ two) A.3 ∙ append_assoc A.1 A.2 two, A.4, course_join f front rest A.0 mid new A.2 two A.5 B)
 
--- what was begun of a play, as plays that were taken whole
-begun_course : (f : Form) (old new : State) (play : Play) (lines : List LawLine) → Begun f old play lines new → (plays : List Play) × Course f old plays lines new
-begun_course f old new play lines (begun_not none same) = ([], (none, same))
-begun_course f old new play lines (begun_turns who n is S) = (turns n who, steps_course f n old new who lines S)
-begun_course f old new play lines (begun_command who n c mid is G S) = (Give who c ∷ turns n who, (mid, [], lines, refl, gives_command who c refl refl G, steps_course f n mid new who lines S))
+-- Plays that were taken whole, and behind them an open gate may have been undone, with a line of its own.
+record Cleared (f : Form) (old : State) (lines : List LawLine) (new : State) : Type 0 where
+  plays : List Play
+  mid : State
+  front : List LawLine
+  rest : List LawLine
+  told : lines ≡ front ++ rest
+  course : Course f old plays front mid
+  last : ((rest ≡ []) × (new ≡ mid)) ⊎ Clears f mid rest new
 
-first_course : (f : Form) (left : List Play) (old new : State) (lines : List LawLine) → FirstBegun f old left lines new → (plays : List Play) × Course f old plays lines new
-first_course f [] old new lines B = ([], B)
-first_course f (play ∷ left) old new lines B = begun_course f old new play lines B
+-- what was begun of a play, as such plays
+begun_cleared : (f : Form) (old new : State) (play : Play) (lines : List LawLine) → Begun f old play lines new → Cleared f old lines new
+begun_cleared f old new play lines (begun_not none same) =
+    record { plays = []; mid = old; front = []; rest = lines; told = refl; course = (refl, refl); last = inl (none, same) }
+begun_cleared f old new play lines (begun_turn who is C) =
+    record { plays = []; mid = old; front = []; rest = lines; told = refl; course = (refl, refl); last = inr C }
+begun_cleared f old new play lines (begun_turns who n is S) =
+    record { plays = turns n who; mid = S.0; front = S.1; rest = S.2; told = S.3; course = steps_course f n old S.0 who S.1 S.4; last = S.5 }
+begun_cleared f old new play lines (begun_command who n c mid is G S) = record {
+  plays = Give who c ∷ turns n who;
+  mid = S.0;
+  front = S.1;
+  rest = S.2;
+  told = S.3;
+  course = (mid, [], S.1, refl, gives_command who c refl refl G, steps_course f n mid S.0 who S.1 S.4);
+  last = S.5;
+}
+
+first_cleared : (f : Form) (left : List Play) (old new : State) (lines : List LawLine) → FirstBegun f old left lines new → Cleared f old lines new
+first_cleared f [] old new lines B = record { plays = []; mid = old; front = []; rest = lines; told = refl; course = (refl, refl); last = inl B }
+first_cleared f (play ∷ left) old new lines B = begun_cleared f old new play lines B
+
+-- The lines of a course, behind which a gate may have been undone, are lawful: that line ends them.
+module _ (f : Form) (old mid new : State) (plays : List Play) (front : List LawLine) (s : Replay) (S : IsSound f old) (P : Stands f old s) (C : Course f old plays front mid) where
+  alone_lawful : (rest : List LawLine) → rest ≡ [] → IsLawful f s (front ++ rest)
+  alone_lawful rest none = subst (IsLawful f s) (sym (ap (λ ls. front ++ ls) none ∙ append-nil front)) (course_lawful f old mid plays front s S P C).lawful
+
+  cleared_lawful : (rest : List LawLine) → Clears f mid rest new → IsLawful f s (front ++ rest)
+  cleared_lawful rest (clears_nothing fresh none same) = alone_lawful rest none
+  cleared_lawful rest (clears_gate bytes to is U) =
+      let end = course_lawful f old mid plays front s S P C in
+      let gate = undo_lawful f mid new bytes to (replay f s front) end.sound end.stands U in
+      subst (λ ls. IsLawful f s (front ++ ls)) (sym is)
+      (lawful_with f s front (LawLine.Undone bytes to ∷ []) (followed_lawful f old mid plays front s S P C) (gate.allowed, tt, tt))
+
+  last_lawful : (rest : List LawLine) → ((rest ≡ []) × (new ≡ mid)) ⊎ Clears f mid rest new → IsLawful f s (front ++ rest)
+  last_lawful rest (inl none) = alone_lawful rest none.0
+  last_lawful rest (inr clears) = cleared_lawful rest clears
 
 pub broken_lawful : BrokenIsLawful
 broken_lawful f options old new plays lines B T =
     let begun = beginning_lawful f old options B in
-    let more = first_course f T.left T.mid new T.rest T.begun in
-    subst (IsLawful f _) (sym T.told) (course_lawful f old new (T.done ++ more.0) (T.front ++ T.rest) _ begun.0 begun.1 (course_join f T.done more.0 old T.mid new T.front T.rest T.course more.1)).lawful
+    let more = first_cleared f T.left T.mid new T.rest T.begun in
+    let parts : lines ≡ (T.front ++ more.front) ++ more.rest = T.told ∙ (ap (λ ls. T.front ++ ls) more.told ∙ sym (append_assoc T.front more.front more.rest)) in
+    subst (IsLawful f _) (sym parts)
+    (last_lawful f old more.mid new (T.done ++ more.plays) (T.front ++ more.front) _ begun.0 begun.1 (course_join f T.done more.plays old T.mid more.mid T.front more.front T.course more.course) more.rest more.last)
 
 -- one opener more was told
 pub told_more : (old lines new : List Line) (xs : List Opener) (i : ℕ) (d : Opener) (z : Bool) → i < length xs → d ≡ get_or xs i d → is_some d.task ≡ z → lines ≡ old ++ unfinished 1 (take i xs) → new ≡ lines ++ line_of (i + 1) z

@@ -15,7 +15,7 @@ use Rattle.tdb_plays.specs.InLaw.{law_play, law_plays}
 use Rattle.tdb_world.specs.declared.fault.RunFault.{RunFault}
 use Rattle.tdb_world.specs.Played.{Steps, Moment, state_at, Led, Nothing, TakesOne, TakesLast, GoesSome, GoesLast, PlaysLast, Begun, ComesTo}
 use Rattle.tdb_world.specs.Played.Begun.{begun_not, begun_turns, begun_command}
-use Rattle.tdb_world.proofs.Courses.{steps_step, steps_last, steps_then, steps_nothing, turn_gives, turn_last, go_last, do_last, course_then, course_begun, course_last}
+use Rattle.tdb_world.proofs.Courses.{steps_step, steps_last, steps_then, steps_nothing, steps_only, turn_gives, turn_last, go_last, do_last, course_then, course_begun, course_last}
 use Rattle.tdb_world.proofs.Leading.{led_whole, led_fault, led_join}
 
 -- steps, and then a turn
@@ -50,7 +50,7 @@ module _ (tells : Bool) (old new : Moment) (who : ℕ) where
   pub go_led : (r : Result (Unit {0}) RunFault) → Led tells old new r (λ _. Goes (form_in old.world.header) most_turns (state_at old) who) (GoesSome (form_in old.world.header) (state_at old) who) (GoesLast (form_in old.world.header) (state_at old) who)
       → Led tells old new r (λ _. Gives (form_in old.world.header) (state_at old) (Go who)) (Begun (form_in old.world.header) (state_at old) (Go who)) (PlaysLast (form_in old.world.header) (state_at old) (Go who))
   go_led (Ok v) A = led_whole tells old new _ _ _ _ _ _ v v A (λ lines z G. gives_turns who refl G)
-  go_led (Err e) A = led_fault {V = Unit {0}} tells old new _ _ _ _ _ _ e A (λ lines z some. begun_turns who some.0 refl some.1) (λ lines z G. go_last (form_in old.world.header) (state_at old) who lines z G)
+  go_led (Err e) A = led_fault {V = Unit {0}} tells old new _ _ _ _ _ _ e A (λ lines z some. begun_turns who some.0 refl (steps_only (form_in old.world.header) some.0 (state_at old) z who lines some.1)) (λ lines z G. go_last (form_in old.world.header) (state_at old) who lines z G)
 
 -- a command that is given, and then its turns
 module _ (tells : Bool) (old mid new : Moment) (who : ℕ) (c : Command) (PA LA : List Line → State → Type 0)
@@ -61,7 +61,7 @@ module _ (tells : Bool) (old mid new : Moment) (who : ℕ) (c : Command) (PA LA 
       led_join tells old mid new tt _ _ _ _ _ _ _ _ _ A r
       (subst (λ h. Led tells mid new r (λ _. Goes (form_in h) most_turns (state_at mid) who) (GoesSome (form_in h) (state_at mid) who) (GoesLast (form_in h) (state_at mid) who)) A.header B)
       (λ v front rest z G T. subst (λ ls. Gives (form_in old.world.header) (state_at old) (Do who c) (ls ++ rest) z) (sym G.0) (gives_all who c (state_at mid) refl G.1 T))
-      (λ front rest z G T. subst (λ ls. Begun (form_in old.world.header) (state_at old) (Do who c) (ls ++ rest) z) (sym G.0) (begun_command who T.0 c (state_at mid) refl G.1 T.1))
+      (λ front rest z G T. subst (λ ls. Begun (form_in old.world.header) (state_at old) (Do who c) (ls ++ rest) z) (sym G.0) (begun_command who T.0 c (state_at mid) refl G.1 (steps_only (form_in old.world.header) T.0 (state_at mid) z who rest T.1)))
       (λ front rest z G T. subst (λ ls. PlaysLast (form_in old.world.header) (state_at old) (Do who c) (ls ++ rest) z) (sym G.0) (do_last (form_in old.world.header) (state_at old) who c (state_at mid) G.1 rest z T))
 
 -- plays, and then another in front of those that are left

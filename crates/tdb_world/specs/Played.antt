@@ -9,8 +9,8 @@ use Rattle.tdb_law.specs.Commands.Turn.{Step, Blocked, Ends}
 use Rattle.tdb_law.specs.World.{State}
 use Rattle.tdb_law.specs.Events.{Given}
 use Rattle.tdb_law.specs.Lines.{Line as LawLine}
-use Rattle.tdb_law.specs.Plays.{Play, Advances, Goes, Gives, Course, most_turns}
-use Rattle.tdb_law.specs.Plays.Play.{Go, Do}
+use Rattle.tdb_law.specs.Plays.{Play, Clears, Advances, Goes, Gives, Course, most_turns}
+use Rattle.tdb_law.specs.Plays.Play.{TakeTurn, Go, Do}
 use Rattle.tdb_plays.specs.declared.line.Line.{Line}
 use Rattle.tdb_plays.specs.declared.line.Line.TheVariants.{Grew}
 use Rattle.tdb_plays.specs.InLaw.{law_opener, law_lines}
@@ -26,12 +26,19 @@ Steps f zero old who lines new = (lines ≡ []) × (new ≡ old)
 Steps f (suc n) old who lines new =
     (mid : State) × (front : List LawLine) × (rest : List LawLine) × (lines ≡ front ++ rest) × Steps f n old who front mid × Advances f mid who Step rest new
 
--- A play that was begun and isn't done: nothing was done of it; or turns were taken, all of them steps; or a command
--- was given, and then turns were taken, all of them steps.
+-- So many turns of an opener were taken, all of them steps; and then nothing was done, or an open gate was undone for the next turn.
+abbrev pub StepsThenClears : Form → ℕ → State → ℕ → List LawLine → State → Type 0
+StepsThenClears f n old who lines new =
+    (mid : State) × (front : List LawLine) × (rest : List LawLine) × (lines ≡ front ++ rest) × Steps f n old who front mid
+    × (((rest ≡ []) × (new ≡ mid)) ⊎ Clears f mid rest new)
+
+-- A play that was begun and isn't done: nothing was done of it; or an open gate was undone for its one turn; or turns were taken, all
+-- of them steps, and then an open gate may have been undone; or a command was given, and then turns were taken so.
 pub data Begun (f : Form) (old : State) (play : Play) (lines : List LawLine) (new : State) : Type 0 where
   begun_not : lines ≡ [] → new ≡ old → Begun f old play lines new
-  begun_turns : (who n : ℕ) → play ≡ Go who → Steps f n old who lines new → Begun f old play lines new
-  begun_command : (who n : ℕ) (c : Command) (mid : State) → play ≡ Do who c → Given old who c mid → Steps f n mid who lines new → Begun f old play lines new
+  begun_turn : (who : ℕ) → play ≡ TakeTurn who → Clears f old lines new → Begun f old play lines new
+  begun_turns : (who n : ℕ) → play ≡ Go who → StepsThenClears f n old who lines new → Begun f old play lines new
+  begun_command : (who n : ℕ) (c : Command) (mid : State) → play ≡ Do who c → Given old who c mid → StepsThenClears f n mid who lines new → Begun f old play lines new
 
 -- of plays that are left the first was begun
 abbrev pub FirstBegun : Form → State → List Play → List LawLine → State → Type 0

@@ -12,28 +12,17 @@ ghost use Rattle.tdb_world.specs.declared.job.Task.{Task};
 ghost use Rattle.tdb_world.specs.declared.opener.Opener.{Opener};
 ghost use Rattle.tdb_world.specs.Openers.{command_in};
 ghost use Rattle.tdb_world.specs.Worlds.{state_in, Stands, IsBusy};
-ghost use Rattle.tdb_world.specs.Played.{moment, Led, Nothing, TakesOne, TakesLast, GoesSome, GoesLast, PlaysLast, Begun, is_step};
+ghost use Rattle.tdb_world.specs.Played.{moment, Led, Nothing, TakesOne, TakesLast, GoesSome, GoesLast, PlaysLast, Begun};
 
 use crate::fault::RunFault;
 use crate::openers::Openers;
 use crate::starting::OpenerStanding;
-use crate::telling::{put_line, tell, tell_growth};
-use tdb_locks::Turn;
+use crate::telling::{put_line, tell, tell_growth, was_step};
 use tdb_plays::{Command, Line, TurnReport};
 use tdb_space::Space;
 
 /// How many turns of a command there are at most that aren't blocked.
-const MOST_TURNS: u32 = 9;
-
-/// Whether a turn was a step.
-fn was_step(turn: &Turn) -> bool
-    ensures { result ≡ is_step turn.now }
-{
-    match turn {
-        Turn::Step => true,
-        Turn::Blocked { .. } | Turn::Done(_) => false,
-    }
-}
+pub const MOST_TURNS: u32 = 9;
 
 impl Openers {
     /// All that a turn needs before it is taken: room for its lines and the copy of its command, and the length of the

@@ -25,6 +25,6 @@ impl Openers {
         ensures header { self.new.header ≡ self.old.header }
         ensures options { self.new.options ≡ self.old.options }
     {
-        self.strip(who);
+        self.die(who);
     }
 }

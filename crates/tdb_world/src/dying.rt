@@ -10,7 +10,7 @@ ghost use Rattle.tdb_plays.specs.InLaw.{law_opener};
 ghost use Rattle.tdb_world.specs.declared.opener.Opener.{Opener};
 ghost use Rattle.tdb_world.specs.Openers.{command_in, law_task};
 ghost use Rattle.tdb_world.specs.Worlds.{state_in, Stands, BytesStand};
-ghost use Rattle.tdb_world.specs.Died.{CanDie, MayDieIn};
+ghost use Rattle.tdb_world.specs.Died.{CanDie, HasDied, MayDieIn};
 ghost use Rattle.tdb_world.specs.Played.{moment, Led, PlaysLast, Begun};
 
 use crate::fault::RunFault;
@@ -66,6 +66,7 @@ impl Openers {
     /// Cost: one pass over the lock table.
     pub fn die(&mut self, who: u32)
         requires can { (x : Opener) × CanDie self.old who x }
+        ensures died { HasDied self.old who self.new }
         ensures dies { (img : List ℕ) → Dies (form_in self.old.header) (state_in self.old img) (law_opener who) (state_in self.new img) }
         ensures stands { (img : List ℕ) (size : ℕ) → Stands self.old img size → Stands self.new img size }
         ensures bytes { (img : List ℕ) → BytesStand self.old img → BytesStand self.new img }

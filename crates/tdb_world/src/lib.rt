@@ -27,6 +27,7 @@ mod told;
 mod untold;
 mod walking;
 
+pub use crate::advancing::MOST_TURNS;
 pub use crate::fault::RunFault;
 pub use crate::laws::{
     cursors_are_beside, empty_stands, gift_stands, image_is_ready, image_is_replaced, join_stands,
@@ -37,4 +38,5 @@ pub use crate::laws::{
 pub use crate::numbering::number_in;
 pub use crate::openers::{JoinRefusal, MOST_OPENERS, Openers};
 pub use crate::starting::OpenerStanding;
+pub use crate::telling::{put_line, tell, tell_growth, was_step};
 pub use tdb_plays::Options;

@@ -1,6 +1,6 @@
 // The turn that asks for the sequence number.
 
-ghost use Rattle.std.specs.Prelude.{◌≡◌, ◌+◌, ◌≤◌, ℕ, Bool, None, IsTrue, IfOk, OnErr};
+ghost use Rattle.std.specs.Prelude.{◌≡◌, ◌+◌, ◌<◌, ◌≤◌, ℕ, Bool, None, IsTrue, IfOk, OnErr};
 ghost use Rattle.tdb_words.specs.Word.{word};
 ghost use Rattle.tdb_disk.specs.Count.{HasCause};
 ghost use Rattle.tdb_space.specs.Form.{Form};
@@ -22,6 +22,7 @@ use tdb_space::{Io, Space, read_word};
 /// The sequence number of a file: the word at 48, and 0 where the file ends before it. `Io` where the disk failed.
 pub fn number_in<S: Space>(s: &mut S) -> Result<u32, Io>
     ensures value { IfOk result (λ w. IsTrue S.tells → 52 ≤ S.size s.old → w ≡ word (S.form s.old).order (S.image s.old) 48) }
+    ensures short { IfOk result (λ w. S.size s.old < 52 → w ≡ 0) }
     ensures looked { Looked S.Space s.old s.new }
     ensures cause { HasCause (S.faults s.old) (S.faults s.new) result }
 {

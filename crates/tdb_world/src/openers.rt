@@ -1,6 +1,6 @@
 // The openers of one file.
 
-ghost use Rattle.std.specs.Prelude.{◌≡◌, ◌≢◌, ◌<◌, ◌≤◌, ◌+◌, ◌++◌, ◌∷◌, [], ℕ, List, length, IsTrue, MatchBool, IfSome, IfNone, IfOk, IfErr, OnOk, OnErr, None, ◌-◌, ◌↔◌, slice_get};
+ghost use Rattle.std.specs.Prelude.{◌≡◌, ◌≢◌, ◌<◌, ◌≤◌, ◌+◌, ◌++◌, ◌∷◌, [], ℕ, List, length, IsTrue, MatchBool, IfSome, IfNone, IfOk, IfErr, OnOk, OnErr, None, false, ◌-◌, ◌↔◌, slice_get};
 ghost use Rattle.tdb_disk.specs.Count.{HasCause};
 ghost use Rattle.tdb_space.specs.Form.{form_in};
 ghost use Rattle.tdb_space.specs.Frame.{Wrote};
@@ -228,11 +228,12 @@ impl Openers {
     }
 
     /// Whether the command begins a transaction of the opener with this number: it is a Start, and the opener's own state
-    /// doesn't refuse it.
+    /// doesn't refuse it. It begins none where no opener has the number.
     pub fn begins(&self, who: u32, command: &Command) -> bool
         requires stands { (img : List ℕ) × (size : ℕ) × Stands self.now img size }
-        ensures { (x : Opener) → IsNumber self.now who x → let own = own_of self.now.options x in
+        ensures opener { (x : Opener) → IsNumber self.now who x → let own = own_of self.now.options x in
             MatchBool result (IsBeginning (form_in self.now.header) own command.now) (IsBeginning (form_in self.now.header) own command.now → ⊥) }
+        ensures nobody { ((x : Opener) → IsNumber self.now who x → ⊥) → result ≡ false }
     {
         match self.opener(who) {
             Some(opener) => opener.begins(&self.options, command, &self.header),
@@ -277,6 +278,7 @@ impl Openers {
         requires short { IsShortGiven command }
         ensures assigned { (size : ℕ) (x : Opener) → IsFree self.old who x → IsAssigned self.old who x command size self.new }
         ensures header { self.new.header ≡ self.old.header }
+        ensures options { self.new.options ≡ self.old.options }
         ensures stands { (img : List ℕ) (size : ℕ) → Stands self.old img size → Stands self.new img size }
         ensures bytes { (img : List ℕ) → BytesStand self.old img → BytesStand self.new img }
         ensures given { (img : List ℕ) → Given (state_in self.old img) (law_opener who) (law_command command) (state_in self.new img) }

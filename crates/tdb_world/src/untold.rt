@@ -1,6 +1,6 @@
 // Plays of which no report is made.
 
-ghost use Rattle.std.specs.Prelude.{◌≡◌, ◌≤◌, ℕ, List, IsTrue, IfOk, OnOk};
+ghost use Rattle.std.specs.Prelude.{◌≡◌, ◌≤◌, ℕ, List, None, IsTrue, IfOk, OnOk};
 ghost use Rattle.tdb_disk.specs.Count.{HasCause};
 ghost use Rattle.tdb_space.specs.Form.{form_in};
 ghost use Rattle.tdb_space.specs.Frame.{Wrote};
@@ -33,6 +33,7 @@ impl Openers {
         requires spare { S.spare s.old ≡ without_bound }
         ensures gives { IfOk result (λ turn. IsTrue S.tells → BytesStand self.old (S.image s.old) → (lines : List Line) × TurnLines who turn (S.size s.old) (S.size s.new) lines
             × Gives (form_in self.old.header) (state_in self.old (S.image s.old)) (LawPlay.TakeTurn (law_opener who)) (law_lines lines) (state_in self.new (S.image s.new))) }
+        ensures none { IfOk result (λ turn. turn ≡ None → (self.new ≡ self.old) × (s.new ≡ s.old)) }
         ensures stands { OnOk result (Stands self.new (S.image s.new) (S.size s.new)) }
         ensures bytes { OnOk result (IsTrue S.tells → BytesStand self.old (S.image s.old) → BytesStand self.new (S.image s.new)) }
         ensures header { self.new.header ≡ self.old.header }
@@ -69,6 +70,7 @@ impl Openers {
         ensures stands { (img : List ℕ) (size : ℕ) → Stands self.old img size → Stands self.new img size }
         ensures bytes { (img : List ℕ) → BytesStand self.old img → BytesStand self.new img }
         ensures header { self.new.header ≡ self.old.header }
+        ensures options { self.new.options ≡ self.old.options }
     {
         match self.standing(who) {
             OpenerStanding::Absent => false,

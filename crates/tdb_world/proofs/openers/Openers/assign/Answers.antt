@@ -1,4 +1,6 @@
 -- It is given as the law says, and the world stands as before.
+use Rattle.std.proofs.Common.{ap}
+use Rattle.tdb_world.specs.Worlds.{World}
 use Rattle.tdb_world.proofs.Coming.{held_free, same_header, stands_given, bytes_given, is_given}
 use Rattle.tdb_world.proofs.openers.Openers.assign.Goals as goal
 
@@ -22,3 +24,8 @@ returns-clause-given c img =
 
 pub returns-clause-header : goal.returns-clause-header
 returns-clause-header c = let free = c.requires.free in same_header (c.give.ensures 0 free.0 free.1)
+
+pub returns-clause-options : goal.returns-clause-options
+returns-clause-options c =
+    let free = c.requires.free in
+    ap (λ (w : World). w.options) (c.give.ensures 0 free.0 free.1).rest
