@@ -32,4 +32,5 @@ pub mod PreparedTurns
 pub mod Recorded
 pub mod Wanted
 pub mod RecordsHeld
+pub mod Gates
 pub mod HolderTurns

@@ -49,7 +49,7 @@ module _ (r c : List ℕ) (R : Reopens r c) where
   abbrev img : List ℕ
   img = restored (form_of c) c
 
-  restored_form : form_of img ≡ form_of c
+  pub restored_form : form_of img ≡ form_of c
   restored_form = elim R.again [ inl shut ↦ ap form_of (read_as_it_is (form_of c) c shut) | inr mild ↦ form_kept c img mild.header ]
 
   own_map_read : image_map (form_of c) img ≡ image_map (form_of r) r
@@ -103,37 +103,58 @@ prepared_like plan h x y S = open_like plan x y (seen h) S.brings (subst (Within
 planned_like : (plan : Plan) (h : History) (x y : List ℕ) → IsPlannedOn plan h x y → IsLike x y (seen h)
 planned_like plan h x y S = record { form = sym (form_kept (seen h) y S.awaits.header); reopens = stays_reopens x (seen h) S.stays S.sequence }
 
--- so the file is read as the image before the commit, at each state that is like it
-carried_reads : (State : History → List ℕ → List ℕ → Type 0) (f : Form) (h : History) (r b : List ℕ) → form_of r ≡ f → Carries State h r b
-    → ((x y : List ℕ) → State h x y → IsLike x y (seen h)) → IsReadAs f h r
-carried_reads State f h r b form C like =
+-- the file has a form, and opens to the map of an image
+pub record OpensIn (f : Form) (h : History) (r : List ℕ) : Type 0 where
+  pub form : form_of (seen h) ≡ f
+  pub reopens : Reopens r (seen h)
+
+-- so it opens to that of the image before the commit, at each state that is like it
+carried_opens : (State : History → List ℕ → List ℕ → Type 0) (f : Form) (h : History) (r b : List ℕ) → form_of r ≡ f → Carries State h r b
+    → ((x y : List ℕ) → State h x y → IsLike x y (seen h)) → OpensIn f h r
+carried_opens State f h r b form C like =
     let L = like C.before C.after C.state in
-    reopens_reads f h r form (L.form ∙ form_kept b C.after C.stands.header ∙ form_kept r b C.header ∙ form) (C.reopens (seen h) L.reopens)
+    record { form = L.form ∙ form_kept b C.after C.stands.header ∙ form_kept r b C.header ∙ form; reopens = C.reopens (seen h) L.reopens }
+
+pub prepared_opens : (f : Form) (plan : Plan) (h : History) (r b : List ℕ) → form_of r ≡ f → Carries (IsPrepared plan) h r b → OpensIn f h r
+prepared_opens f plan h r b form C = carried_opens (IsPrepared plan) f h r b form C (prepared_like plan h)
+
+rest_opens : (f : Form) (h : History) (r : List ℕ) → form_of r ≡ f → RestsAt h r → OpensIn f h r
+rest_opens f h r form R = record { form = R.accepted.form ∙ form; reopens = R.opens }
+
+pub prepare_opens : (f : Form) (s : PrepareStage) (h : History) (r b : List ℕ) → form_of r ≡ f → KnowsStage s h r b → OpensIn f h r
+prepare_opens f Prepares.Unchanged h r b form K = rest_opens f h r form K
+prepare_opens f (Prepares.Begun txn) h r b form K = rest_opens f h r form (ready_rests txn h r b K)
+prepare_opens f (Prepares.Records txn) h r b form K = rest_opens f h r form (ready_rests txn h r b K)
+prepare_opens f (Prepares.Locked txn) h r b form K = rest_opens f h r form (ready_rests txn h r b K)
+prepare_opens f (Prepares.Planned state) h r b form K = carried_opens _ f h r b form K (planned_like _ h)
+prepare_opens f (Prepares.Filled state) h r b form K =
+    carried_opens _ f h r b form K
+    (λ x y S. record { form = ap form_of S.file ∙ sym (form_kept x y S.brings.planned.header); reopens = subst (Reopens x) (sym S.file) (exact_reopens x S.brings.before) })
+
+pub finish_opens : (f : Form) (s : Finishing) (h : History) (r b : List ℕ) → form_of r ≡ f → finish_steps s < 3 → KnowsFinish s h r b → OpensIn f h r
+finish_opens f (Finishes.Open state) h r b form few K = prepared_opens f _ h r b form K
+finish_opens f (Finishes.Applied state) h r b form few K = carried_opens _ f h r b form K (λ x y S. open_like _ x y (seen h) S.brings (S.within (seen h) (leaves_seen h)))
+finish_opens f (Finishes.Settled state) h r b form few K = carried_opens _ f h r b form K (λ x y S. open_like _ x y (seen h) S.brings S.within)
+finish_opens f Finishes.Shut h r b form few K = absurd (omega (arith, few))
+
+-- and is read as it
+pub opens_reads : (f : Form) (h : History) (r : List ℕ) → form_of r ≡ f → OpensIn f h r → IsReadAs f h r
+opens_reads f h r form O = reopens_reads f h r form O.form O.reopens
 
 pub prepared_reads : (f : Form) (plan : Plan) (h : History) (r b : List ℕ) → form_of r ≡ f → Carries (IsPrepared plan) h r b → IsReadAs f h r
-prepared_reads f plan h r b form C = carried_reads (IsPrepared plan) f h r b form C (prepared_like plan h)
+prepared_reads f plan h r b form C = opens_reads f h r form (prepared_opens f plan h r b form C)
 
 pub rest_reads : (f : Form) (h : History) (r : List ℕ) → form_of r ≡ f → RestsAt h r → IsReadAs f h r
-rest_reads f h r form R = reopens_reads f h r form (R.accepted.form ∙ form) R.opens
+rest_reads f h r form R = opens_reads f h r form (rest_opens f h r form R)
 
 pub end_reads : (f : Form) (h : History) (b : List ℕ) → form_of b ≡ f → IsShut h b → IsReadAs f h b
 end_reads f h b form S = opened_reads f h b form (S.accepted.form ∙ form) S.opens
 
 pub prepare_reads : (f : Form) (s : PrepareStage) (h : History) (r b : List ℕ) → form_of r ≡ f → KnowsStage s h r b → IsReadAs f h r
-prepare_reads f Prepares.Unchanged h r b form K = rest_reads f h r form K
-prepare_reads f (Prepares.Begun txn) h r b form K = rest_reads f h r form (ready_rests txn h r b K)
-prepare_reads f (Prepares.Records txn) h r b form K = rest_reads f h r form (ready_rests txn h r b K)
-prepare_reads f (Prepares.Locked txn) h r b form K = rest_reads f h r form (ready_rests txn h r b K)
-prepare_reads f (Prepares.Planned state) h r b form K = carried_reads _ f h r b form K (planned_like _ h)
-prepare_reads f (Prepares.Filled state) h r b form K =
-    carried_reads _ f h r b form K
-    (λ x y S. record { form = ap form_of S.file ∙ sym (form_kept x y S.brings.planned.header); reopens = subst (Reopens x) (sym S.file) (exact_reopens x S.brings.before) })
+prepare_reads f s h r b form K = opens_reads f h r form (prepare_opens f s h r b form K)
 
 pub finish_reads : (f : Form) (s : Finishing) (h : History) (r b : List ℕ) → form_of r ≡ f → finish_steps s < 3 → KnowsFinish s h r b → IsReadAs f h r
-finish_reads f (Finishes.Open state) h r b form few K = prepared_reads f _ h r b form K
-finish_reads f (Finishes.Applied state) h r b form few K = carried_reads _ f h r b form K (λ x y S. open_like _ x y (seen h) S.brings (S.within (seen h) (leaves_seen h)))
-finish_reads f (Finishes.Settled state) h r b form few K = carried_reads _ f h r b form K (λ x y S. open_like _ x y (seen h) S.brings S.within)
-finish_reads f Finishes.Shut h r b form few K = absurd (omega (arith, few))
+finish_reads f s h r b form few K = opens_reads f h r form (finish_opens f s h r b form few K)
 
 pub shut_finish_reads : (f : Form) (s : Finishing) (h : History) (r b : List ℕ) → form_of b ≡ f → 3 ≤ finish_steps s → KnowsFinish s h r b → IsReadAs f h b
 shut_finish_reads f (Finishes.Open state) h r b form late K = absurd (omega (arith, late))

@@ -11,10 +11,15 @@ use Rattle.tdb_space.specs.Form.{Form}
 use Rattle.tdb_txn.specs.Txn.{txn_depth}
 use Rattle.tdb_commit.specs.Committings.{CommitMayLeave}
 use Rattle.tdb_commit.specs.Finishes.{MayLeave}
+use Rattle.tdb_commit.specs.declared.committing.Committing.{Committing}
+use Rattle.tdb_commit.specs.declared.committing.Committing.TheVariants as Commits
+use Rattle.tdb_commit.specs.declared.finishing.Finishing.{Finishing}
+use Rattle.tdb_commit.specs.declared.finishing.Finishing.TheVariants.{Shut}
 use Rattle.tdb_plays.specs.declared.command.Command.{Command}
-use Rattle.tdb_plays.specs.declared.command.Command.TheVariants as Given
 use Rattle.tdb_beside.specs.Sides.{Past, Side}
 use Rattle.tdb_plays.specs.declared.options.Options.{Options}
+use Rattle.tdb_holder.specs.declared.stage.PreparedTxn.{PreparedTxn}
+use Rattle.tdb_holder.specs.declared.stage.PreparedTxn.TheVariants.{Opened, Nothing}
 use Rattle.tdb_holder.specs.declared.stage.Stage.{Stage}
 use Rattle.tdb_holder.specs.declared.stage.Stage.TheVariants as At
 use Rattle.tdb_holder.specs.Stages.{Known}
@@ -42,6 +47,25 @@ abbrev pub with_command : Stage → Command → Stage
 with_command (At.Open txn command) c = At.Open txn (Some c)
 with_command (At.Prepared left command) c = At.Prepared left (Some c)
 with_command stage c = stage
+
+-- It would leave an open gate if it died: its Prepare opened it, or its Commit did and hasn't shut it yet.
+abbrev pub finish_gate : Finishing → Bool
+finish_gate Shut = false
+finish_gate _ = true
+
+abbrev pub commit_gate : Committing → Bool
+commit_gate (Commits.Preparing p) = false
+commit_gate (Commits.Finishing s) = finish_gate s
+
+abbrev pub prepared_gate : PreparedTxn → Bool
+prepared_gate (Opened state) = true
+prepared_gate (Nothing changed) = false
+
+abbrev pub stage_gate : Stage → Bool
+stage_gate (At.Committing c) = commit_gate c
+stage_gate (At.Prepared left command) = prepared_gate left
+stage_gate (At.Finishing s) = finish_gate s
+stage_gate _ = false
 
 -- What a stop in the next turn may leave: a Start leaves what there is, and each other stage what opens to the map of the file before, but
 -- for a Commit from the turn on that shuts the gate.

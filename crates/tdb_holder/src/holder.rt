@@ -1,5 +1,5 @@
 //! The opener aside as one value: its lock table, and how far it is.
-ghost use Rattle.std.specs.Prelude.{◌≡◌, ◌≢◌, ◌≤◌, ◌<◌, ◌↔◌, ℕ, [], true, false, is_none, None, Some, IsTrue, IfOk, IfSome, OnOk};
+ghost use Rattle.std.specs.Prelude.{◌≡◌, ◌≢◌, ◌≤◌, ◌<◌, ◌↔◌, ℕ, [], true, false, is_none, None, Some, IsTrue, IfOk, IfSome, MatchBool, OnOk};
 ghost use Rattle.tdb_disk.specs.Count.{HasCause};
 ghost use Rattle.tdb_disk.specs.History.{History};
 ghost use Rattle.tdb_disk.specs.Stop.{LeavesOnly};
@@ -7,6 +7,7 @@ ghost use Rattle.tdb_words.specs.declared.header.Header.{Header};
 ghost use Rattle.tdb_space.specs.Form.{Form, form_in};
 ghost use Rattle.tdb_locks.specs.declared.turn.Reply.TheVariants as Reply;
 ghost use Rattle.tdb_locks.specs.declared.turn.Turn.TheVariants as Turn;
+ghost use Rattle.tdb_law.specs.Lines.{leaves_open, MayDie};
 ghost use Rattle.tdb_law.specs.Openers.{Task};
 ghost use Rattle.tdb_steps.specs.Holdings.{table_of};
 ghost use Rattle.tdb_beside.specs.Own.{side_wants};
@@ -20,7 +21,7 @@ ghost use Rattle.tdb_holder.specs.declared.stage.Stage.TheVariants as Stage;
 ghost use Rattle.tdb_holder.specs.declared.wanting.Wants.TheVariants as Wants;
 ghost use Rattle.tdb_holder.specs.Ends.{task_of, IsBlocked};
 ghost use Rattle.tdb_holder.specs.Given.{IsShortCommand};
-ghost use Rattle.tdb_holder.specs.Holders.{is_idle, left_stage, stage_depth, with_command, HolderTurned, StageMayLeave};
+ghost use Rattle.tdb_holder.specs.Holders.{is_idle, left_stage, stage_depth, stage_gate, with_command, HolderTurned, StageMayLeave};
 ghost use Rattle.tdb_holder.specs.Stages.{is_closing, stage_records, stage_task, Known, IsFit, IsFitLeft, IsSide, KnowsFile, MayBeGiven};
 ghost use Rattle.tdb_holder.specs.Turned.{BeginsOn, MayTurn, StageTurned};
 ghost use Rattle.tdb_holder.specs.Wanting.{records_at, stage_wants, wanted_by, RecordsGo, StepGoesOn};
@@ -141,6 +142,7 @@ fn stage_turn<D: Disk>(
     ensures goes_on { IfOk result (λ went. StepGoesOn went.turn went.stage) }
     ensures stops { IsTrue D.tells → (f : Form) (k : Known) → KnowsFile f stage (D.history d.old) k → LeavesOnly (D.history d.old) (D.history d.new) (StageMayLeave stage (D.history d.old) k) }
     ensures cause { IsTrue D.tells → (f : Form) (k : Known) → KnowsFile f stage (D.history d.old) k → HasCause (D.faults d.old) (D.faults d.new) result }
+    ensures done { OnOk result (D.faults d.new ≡ D.faults d.old) }
     ensures rises { D.faults d.old ≤ D.faults d.new }
 {
     match stage {
@@ -223,6 +225,23 @@ impl Holder {
                 ..
             }
         )
+    }
+
+    /// Whether it may die now: it has no command, or a Commit or a Prepare.
+    pub fn may_die(&self) -> bool
+        ensures { MatchBool result (MayDie (stage_task self.now.stage)) (MayDie (stage_task self.now.stage) → ⊥) }
+    {
+        self.stage.may_die()
+    }
+
+    /// Whether it would leave an open gate if it died now: its Prepare opened it, or its Commit did and hasn't shut it
+    /// yet.
+    pub fn leaves_gate(&self) -> bool
+        ensures stage { result ≡ stage_gate self.now.stage }
+        ensures law { (f : Form) (o : Options) (k : Known) (past : Past) (s : Side)
+            → IsSide f o self.now.owner self.now.locks self.now.stage k past s → leaves_open f s.own s.task ≡ result }
+    {
+        self.stage.leaves_gate()
     }
 
     /// Whether the command may be given: a Start finds room in the count of the transactions within another.
@@ -345,6 +364,7 @@ impl Holder {
         ensures goes_on { IfOk result (λ moved. StepGoesOn moved.turn (left_stage moved.holder)) }
         ensures stops { IsTrue D.tells → (f : Form) (k : Known) → KnowsFile f self.stage (D.history d.old) k → LeavesOnly (D.history d.old) (D.history d.new) (StageMayLeave self.stage (D.history d.old) k) }
         ensures cause { IsTrue D.tells → (f : Form) (k : Known) → KnowsFile f self.stage (D.history d.old) k → HasCause (D.faults d.old) (D.faults d.new) result }
+        ensures done { OnOk result (D.faults d.new ≡ D.faults d.old) }
         ensures rises { D.faults d.old ≤ D.faults d.new }
     {
         let Holder {

@@ -120,6 +120,7 @@ fn commit_first<D: Disk>(
     ensures goes_on { IfOk result (λ went. StepGoesOn went.turn went.stage) }
     ensures stops { IsTrue D.tells → (r b : List ℕ) → KnowsStage (begun_with own.txn own.changed own.numbered).stage (D.history d.old) r b → LeavesOnly (D.history d.old) (D.history d.new) (Reopens r) }
     ensures cause { IsTrue D.tells → MayCommit own.txn (seen (D.history d.old)) → HasCause (D.faults d.old) (D.faults d.new) result }
+    ensures done { OnOk result (D.faults d.new ≡ D.faults d.old) }
     ensures rises { D.faults d.old ≤ D.faults d.new }
 {
     let OwnTxn {
@@ -160,6 +161,7 @@ fn prepare_first<D: Disk>(
     ensures goes_on { IfOk result (λ went. StepGoesOn went.turn went.stage) }
     ensures stops { IsTrue D.tells → (r b : List ℕ) → KnowsStage (begun_with own.txn own.changed own.numbered).stage (D.history d.old) r b → LeavesOnly (D.history d.old) (D.history d.new) (Reopens r) }
     ensures cause { IsTrue D.tells → MayCommit own.txn (seen (D.history d.old)) → HasCause (D.faults d.old) (D.faults d.new) result }
+    ensures done { OnOk result (D.faults d.new ≡ D.faults d.old) }
     ensures rises { D.faults d.old ≤ D.faults d.new }
 {
     let OwnTxn {
@@ -199,6 +201,7 @@ fn commit_outer<D: Disk>(
     ensures goes_on { IfOk result (λ went. StepGoesOn went.turn went.stage) }
     ensures stops { IsTrue D.tells → (f : Form) (k : Known) → KnowsFile f (Stage.Open txn (Some Command.Commit)) (D.history d.old) k → LeavesOnly (D.history d.old) (D.history d.new) (Reopens k.file) }
     ensures cause { IsTrue D.tells → MayCommit txn.own.txn (seen (D.history d.old)) → HasCause (D.faults d.old) (D.faults d.new) result }
+    ensures done { OnOk result (D.faults d.new ≡ D.faults d.old) }
     ensures rises { D.faults d.old ≤ D.faults d.new }
 {
     if let Some(reply) = txn.end_refusal() {
@@ -233,6 +236,7 @@ fn prepare_outer<D: Disk>(
     ensures goes_on { IfOk result (λ went. StepGoesOn went.turn went.stage) }
     ensures stops { IsTrue D.tells → (f : Form) (k : Known) → KnowsFile f (Stage.Open txn (Some Command.Prepare)) (D.history d.old) k → LeavesOnly (D.history d.old) (D.history d.new) (Reopens k.file) }
     ensures cause { IsTrue D.tells → MayCommit txn.own.txn (seen (D.history d.old)) → HasCause (D.faults d.old) (D.faults d.new) result }
+    ensures done { OnOk result (D.faults d.new ≡ D.faults d.old) }
     ensures rises { D.faults d.old ≤ D.faults d.new }
 {
     if let Some(reply) = txn.end_refusal() {
@@ -267,6 +271,7 @@ fn stay_turn<D: Disk>(
     ensures history { D.history d.new ≡ D.history d.old }
     ensures size { D.size d.new ≡ D.size d.old }
     ensures cause { IsTrue D.tells → MayCommit txn.own.txn (seen (D.history d.old)) → HasCause (D.faults d.old) (D.faults d.new) result }
+    ensures done { OnOk result (D.faults d.new ≡ D.faults d.old) }
     ensures rises { D.faults d.old ≤ D.faults d.new }
 {
     let reply = txn.turn(alloc, d, header, options, command)?;
@@ -295,6 +300,7 @@ fn outer_turn<D: Disk>(
     ensures goes_on { IfOk result (λ went. StepGoesOn went.turn went.stage) }
     ensures stops { IsTrue D.tells → (k : Known) → KnowsFile (form_in header.now) (Stage.Open txn (Some command)) (D.history d.old) k → LeavesOnly (D.history d.old) (D.history d.new) (Reopens k.file) }
     ensures cause { IsTrue D.tells → MayCommit txn.own.txn (seen (D.history d.old)) → HasCause (D.faults d.old) (D.faults d.new) result }
+    ensures done { OnOk result (D.faults d.new ≡ D.faults d.old) }
     ensures rises { D.faults d.old ≤ D.faults d.new }
 {
     match command {
@@ -328,6 +334,7 @@ fn inner_turn<D: Disk>(
     ensures goes_on { IfOk result (λ went. StepGoesOn went.turn went.stage) }
     ensures stops { IsTrue D.tells → (k : Known) → KnowsFile (form_in header.now) (Stage.Open txn (Some command)) (D.history d.old) k → LeavesOnly (D.history d.old) (D.history d.new) (Reopens k.file) }
     ensures cause { IsTrue D.tells → MayCommit txn.own.txn (seen (D.history d.old)) → HasCause (D.faults d.old) (D.faults d.new) result }
+    ensures done { OnOk result (D.faults d.new ≡ D.faults d.old) }
     ensures rises { D.faults d.old ≤ D.faults d.new }
 {
     match command {
@@ -360,6 +367,7 @@ pub(crate) fn open_turn<D: Disk>(
     ensures goes_on { IfOk result (λ went. StepGoesOn went.turn went.stage) }
     ensures stops { IsTrue D.tells → (k : Known) → KnowsFile (form_in header.now) (Stage.Open txn (Some command)) (D.history d.old) k → LeavesOnly (D.history d.old) (D.history d.new) (Reopens k.file) }
     ensures cause { IsTrue D.tells → MayCommit txn.own.txn (seen (D.history d.old)) → HasCause (D.faults d.old) (D.faults d.new) result }
+    ensures done { OnOk result (D.faults d.new ≡ D.faults d.old) }
     ensures rises { D.faults d.old ≤ D.faults d.new }
 {
     if txn.own.txn.depth() > 0 {

@@ -2,6 +2,7 @@
 #![tactic(auto)]
 
 mod committing;
+mod dying;
 mod ends;
 mod finishing;
 mod holder;

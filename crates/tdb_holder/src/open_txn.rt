@@ -244,6 +244,7 @@ impl OpenTxn {
         ensures size { D.size d.new ≡ D.size d.old }
         ensures syncs { D.syncs d.new ≡ D.syncs d.old }
         ensures cause { IsTrue D.tells → MayCommit self.old.own.txn (seen (D.history d.old)) → HasCause (D.faults d.old) (D.faults d.new) result }
+        ensures done { OnOk result (D.faults d.new ≡ D.faults d.old) }
         ensures rises { D.faults d.old ≤ D.faults d.new }
     {
         self.own.check(alloc, d)
@@ -344,6 +345,7 @@ impl OpenTxn {
         ensures size { D.size d.new ≡ D.size d.old }
         ensures syncs { D.syncs d.new ≡ D.syncs d.old }
         ensures cause { IsTrue D.tells → MayCommit self.old.own.txn (seen (D.history d.old)) → HasCause (D.faults d.old) (D.faults d.new) result }
+        ensures done { OnOk result (D.faults d.new ≡ D.faults d.old) }
         ensures rises { D.faults d.old ≤ D.faults d.new }
     {
         match command {
@@ -389,6 +391,7 @@ impl OpenTxn {
         ensures size { D.size d.new ≡ D.size d.old }
         ensures syncs { D.syncs d.new ≡ D.syncs d.old }
         ensures cause { IsTrue D.tells → MayCommit self.old.own.txn (seen (D.history d.old)) → HasCause (D.faults d.old) (D.faults d.new) result }
+        ensures done { OnOk result (D.faults d.new ≡ D.faults d.old) }
         ensures rises { D.faults d.old ≤ D.faults d.new }
     {
         match command {

@@ -1,5 +1,5 @@
 //! The commands that look at a transaction as a whole: its check, and its sequence number.
-ghost use Rattle.std.specs.Prelude.{◌≡◌, ◌≤◌, [], None, IsTrue, IfOk, if◌then◌else◌};
+ghost use Rattle.std.specs.Prelude.{◌≡◌, ◌≤◌, [], None, IsTrue, IfOk, OnOk, if◌then◌else◌};
 ghost use Rattle.tdb_disk.specs.Count.{HasCause};
 ghost use Rattle.tdb_disk.specs.History.{seen};
 ghost use Rattle.tdb_space.specs.Form.{form_in};
@@ -38,6 +38,7 @@ fn count_keys<S: Space>(alloc: Global, s: &mut S) -> Result<Reply, Io>
         → MapDone Check (image_map (S.form s.old) (S.image s.old)) (image_map (S.form s.old) (S.image s.old)) (reply_of reply)) }
     ensures looked { Looked S.Space s.old s.new }
     ensures cause { IsTrue S.tells → AcceptWith (S.form s.old) (S.image s.old) [] → HasCause (S.faults s.old) (S.faults s.new) result }
+    ensures quiet { OnOk result (S.faults s.new ≡ S.faults s.old) }
     ensures rises { S.faults s.old ≤ S.faults s.new }
 {
     match check(alloc, s) {
@@ -75,6 +76,7 @@ fn count_in_pages<D: Disk>(txn: &mut Txn, alloc: Global, d: &mut D) -> Result<Re
     ensures size { D.size d.new ≡ D.size d.old }
     ensures syncs { D.syncs d.new ≡ D.syncs d.old }
     ensures cause { IsTrue D.tells → AcceptWith (txn_form txn.old) (txn_image txn.old (seen (D.history d.old))) [] → HasCause (D.faults d.old) (D.faults d.new) result }
+    ensures quiet { OnOk result (D.faults d.new ≡ D.faults d.old) }
     ensures rises { D.faults d.old ≤ D.faults d.new }
 {
     let mut view = OverlayOn::new(txn, d);
@@ -157,6 +159,7 @@ impl OwnTxn {
         ensures size { D.size d.new ≡ D.size d.old }
         ensures syncs { D.syncs d.new ≡ D.syncs d.old }
         ensures cause { IsTrue D.tells → AcceptWith (form_of self.old) (image_of self.old (seen (D.history d.old))) [] → HasCause (D.faults d.old) (D.faults d.new) result }
+        ensures quiet { OnOk result (D.faults d.new ≡ D.faults d.old) }
         ensures rises { D.faults d.old ≤ D.faults d.new }
     {
         count_in_pages(&mut self.txn, alloc, d)
