@@ -15,6 +15,7 @@ use Rattle.tdb_law.specs.World.{State, IsSound}
 use Rattle.tdb_law.proofs.Emptied.{before_event, other_event, sound_event}
 use Rattle.tdb_law.proofs.Kept.{opened_base}
 use Rattle.tdb_law.proofs.Walking.{put_here, put_else}
+use Rattle.tdb_steps.specs.Turns.{number_of}
 use Rattle.tdb_plays.specs.InLaw.{law_opener}
 use Rattle.tdb_beside.specs.Sides.{Past, Side, alone, whole}
 use Rattle.tdb_beside.specs.Starts.{with_starts, MayStart}
@@ -94,6 +95,10 @@ joined_fits w img size few F = record {
   each = let each = F.each in simp length-append (omega (arith, each));
   starts = λ o e. start_stays w o (F.starts o (sym (pushed_false w.starts o) ∙ e));
   aside = holder_stays w w.aside size F.aside;
+  stale = λ e. record {
+    nobody = (F.stale e).nobody;
+    lengths = λ i n short. join_keeps_world (form_at w) w.openers.options w.openers.openers (with_fresh w.openers).openers w.openers.table i n fresh ((F.stale e).lengths i n short) (comes w.openers) few;
+  };
 }
 
 -- A state of the world is one of that.
@@ -224,6 +229,8 @@ module _ (w : Whole) (any : List ℕ) (size : ℕ) (few : length w.openers.opene
         image = S.image;
         past = S.past;
         undone = S.undone;
+        form = S.form;
+        reopens = S.reopens;
         accepted = S.accepted;
         apart = apart;
         sound = joined_sound f (stale_at (before S.image)) (stale_at (later S.image)) who S.sound stale_joins;
@@ -321,5 +328,5 @@ module _ (w : Whole) (header : Header) (options : Options) (same_header : w.open
     image_number = λ o. refl;
   }
 
-  pub empty_state : (state : State) × IsStateOf w h state × IsLoaded (form_in header) state (options_of options) × (state.file ≡ image_map (form_in header) (seen h))
-  empty_state = (empty, of_whole empty_is, empty_loaded, ap (λ z. image_map (form_in z) (seen h)) same_header)
+  pub empty_state : (state : State) × IsStateOf w h state × IsLoaded (form_in header) state (options_of options) × (state.file ≡ image_map (form_in header) (seen h)) × (state.number ≡ number_of (form_in header) (seen h))
+  empty_state = (empty, of_whole empty_is, empty_loaded, ap (λ z. image_map (form_in z) (seen h)) same_header, ap (λ z. number_of (form_in z) (seen h)) same_header)

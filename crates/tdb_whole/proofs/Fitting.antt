@@ -71,6 +71,7 @@ module _ (w0 : Whole) (h : HolderState) (any : List ℕ) (size : ℕ) (F : World
             writes = ap (λ (q : World). q.options.read_only) list ∙ S.writes;
           });
       aside = A;
+      stale = λ e. absurd (let both : Some h ≡ None = (F.stale e).nobody in cc both);
     }
 
   abbrev x : Opener

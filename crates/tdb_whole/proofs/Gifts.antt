@@ -106,7 +106,7 @@ module _ (f : Form) (old new : State) (who : ℕ) (c : Command) (S : IsSound f o
   }
 
 -- The one aside isn't an opener among the others.
-apart_holder : (w : Whole) (who : ℕ) → 1 ≤ who → IsAmong w who → (h : HolderState) → w.aside ≡ Some h → (place : ℕ) → h.owner ≡ place + 1 → place ≢ law_opener who
+pub apart_holder : (w : Whole) (who : ℕ) → 1 ≤ who → IsAmong w who → (h : HolderState) → w.aside ≡ Some h → (place : ℕ) → h.owner ≡ place + 1 → place ≢ law_opener who
 apart_holder w who named (among_all none) h e place counted same = let both : None ≡ Some h = sym none ∙ e in cc both
 apart_holder w who named (among_others g some other) h e place counted same =
     let owner : g.owner ≡ h.owner = ap (λ (z : HolderState). z.owner) (same_holder w h g e some) in
@@ -174,12 +174,13 @@ module _ (w : Whole) (who : ℕ) (named : 1 ≤ who) (among : IsAmong w who) (ne
   still_numbered : StillNumbered w v.openers
   still_numbered h x e N = record { place = N.place; counted = N.counted; there = sym (P.others N.place (apart_holder w who named among h e N.place N.counted)) ∙ N.there }
 
-  pub put_fits : (img : List ℕ) (size : ℕ) → Stands v.openers img size → WorldFits w img size → WorldFits v img size
-  put_fits img size W F = record {
-    openers = W;
+  pub put_fits : ((img : List ℕ) (size : ℕ) → Stands w.openers img size → Stands v.openers img size) → (img : List ℕ) (size : ℕ) → WorldFits w img size → WorldFits v img size
+  put_fits keeps img size F = record {
+    openers = keeps img size F.openers;
     each = F.each ∙ sym P.same_length;
     starts = λ o e. start_else o e (F.starts o e);
     aside = holder_else w.aside refl size F.aside;
+    stale = λ e. record { nobody = (F.stale e).nobody; lengths = λ i n short. keeps i n ((F.stale e).lengths i n short) };
   }
 
   module _ (c : Command) (any : List ℕ) (size : ℕ) (F : WorldFits w any size) (h : History) (bytes : (img : List ℕ) → BytesStand w.openers img → BytesStand v.openers img)
@@ -243,6 +244,8 @@ module _ (w : Whole) (who : ℕ) (named : 1 ≤ who) (among : IsAmong w who) (ne
         image = S.image;
         past = S.past;
         undone = S.undone;
+        form = S.form;
+        reopens = S.reopens;
         accepted = S.accepted;
         apart = apart;
         sound = given_sound (form_at w) (stale_at (state_in w.openers S.image)) (stale_at (state_in v.openers S.image)) (law_opener who) c S.sound stale_given;
@@ -349,6 +352,7 @@ module _ (w : Whole) (who : ℕ) (named : 1 ≤ who) (among : IsAmong w who) (ne
     each = length-set w.starts l true ∙ F.each;
     starts = start_begun img size F;
     aside = holder_begun w.aside refl size F.aside;
+    stale = λ e. record { nobody = (F.stale e).nobody; lengths = (F.stale e).lengths };
   }
 
   pub begun_busy : (img : List ℕ) (size : ℕ) → WorldFits w img size → HasCommand begun who
@@ -387,7 +391,7 @@ module _ (w : Whole) (who : ℕ) (named : 1 ≤ who) (among : IsAmong w who) (ne
     begun_given (of_stale S) =
         let p = record (alone (state_in w.openers S.image) S.past) { stale = true } in (
           with_starts (is_starting begun.starts) p,
-          of_stale (record { stale = S.stale; nobody = S.nobody; image = S.image; past = S.past; undone = S.undone; accepted = S.accepted; apart = S.apart; sound = S.sound; is = refl }),
+          of_stale (record { stale = S.stale; nobody = S.nobody; image = S.image; past = S.past; undone = S.undone; form = S.form; reopens = S.reopens; accepted = S.accepted; apart = S.apart; sound = S.sound; is = refl }),
           begins_at p (let M = may_start w any size F S.image in record { live = M.live; idle = M.idle }) (ap (λ z. (own_at w.openers.options z).live) there ∙ X.live) (ap task_at there ∙ ap law_task X.idle) S.is,
         )
 
@@ -412,7 +416,7 @@ module _ (w : Whole) (who : ℕ) (named : 1 ≤ who) (among : IsAmong w who) (ne
   pub assigned_fits : ((img : List ℕ) (size : ℕ) → Stands w.openers img size → Stands ws img size) → (img : List ℕ) (size : ℕ) → WorldFits w img size → WorldFits after_world img size
   assigned_fits stands img size F =
       subst (λ z. WorldFits z img size) back
-      (put_fits w who named among ne ws.openers (record x { task = Some A.task }) put_there img size (subst (λ z. Stands z img size) same_world (stands img size F.openers)) F)
+      (put_fits w who named among ne ws.openers (record x { task = Some A.task }) put_there (λ i n W. subst (λ z. Stands z i n) same_world (stands i n W)) img size F)
 
   pub assigned_busy : HasCommand after_world who
   assigned_busy = by_job (record x { task = Some A.task }) A.task (record { number = record { place = A.place; counted = A.counted; there = A.put.there }; busy = refl }) ne (among_same w after_world who refl among)
@@ -481,6 +485,7 @@ module _ (w : Whole) (h : HolderState) (e : w.aside ≡ Some h) (c : Asked) wher
     each = F.each;
     starts = λ o s. (let S = F.starts o s in record { opener = S.opener; there = S.there; bare = S.bare; none = S.none; writes = S.writes });
     aside = holder_given size fit (holder_of size F.aside);
+    stale = λ s. absurd (let both : None ≡ Some h = sym (F.stale s).nobody ∙ e in cc both);
   }
 
   pub aside_given_busy : is_idle h.stage ≡ true → (who : ℕ) → who ≡ h.owner → HasCommand aside_given_world who

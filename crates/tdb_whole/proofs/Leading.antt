@@ -98,7 +98,7 @@ off_place (On chain off) none = absurd (cc none)
 off_place (Before chain) none = tt
 off_place Behind none = tt
 
-off_by : (z : Option Opener) → (spot_at z).stands ≡ None → IsOffRecords (place_at z)
+pub off_by : (z : Option Opener) → (spot_at z).stands ≡ None → IsOffRecords (place_at z)
 off_by None none = tt
 off_by (Some x) none = off_place x.walk.cursor.place none
 

@@ -45,7 +45,7 @@ use Rattle.tdb_whole.specs.Steps.{IsAmong}
 use Rattle.tdb_whole.specs.Steps.IsAmong.{among_all, among_others}
 use Rattle.tdb_whole.specs.Whole.{Whole, form_at, options_at, is_starting, AsideFits, HolderFits, StartFits, WorldFits}
 use Rattle.tdb_whole.proofs.NumberHeld.{number_held}
-use Rattle.tdb_whole.proofs.Standby.{plain, there, here_is, stands_aside, alone_may, beside_may}
+use Rattle.tdb_whole.proofs.Standings.{aside_here, may_start_whole, plain, stands_aside, there_named}
 
 -- Only this opener changes.
 pub record OnlyOne (w v : World) (l : ℕ) : Type 0 where
@@ -107,12 +107,13 @@ module _ (w : Whole) (v : World) (l : ℕ) (K : OnlyOne w.openers v l) where
     begun = H.begun;
   }
 
-  pub fits_kept : (a b : List ℕ) (size longer : ℕ) → is_starting w.starts l ≡ false → WorldFits w a size → Stands v b longer → AsideFits left w.aside longer → WorldFits left b longer
-  fits_kept a b size longer begun F W aside = record {
+  pub fits_kept : (a b : List ℕ) (size longer : ℕ) → w.stale ≡ false → is_starting w.starts l ≡ false → WorldFits w a size → Stands v b longer → AsideFits left w.aside longer → WorldFits left b longer
+  fits_kept a b size longer fresh begun F W aside = record {
     openers = W;
     each = F.each ∙ sym K.joined;
     starts = λ o e. start_kept o (λ is. never_true (sym begun ∙ ap (is_starting w.starts) (sym is) ∙ e)) (F.starts o e);
     aside = aside;
+    stale = λ e. absurd (never_true (sym fresh ∙ e));
   }
 
 -- The world stands by such a turn: nobody shuts the others out, and the file has got longer at most where no record was held; or the
@@ -123,18 +124,18 @@ module _ (w : Whole) (v : World) (who : ℕ) (named : 1 ≤ who) (among : IsAmon
   aside_kept size longer fit None is H = tt
   aside_kept size longer fit (Some h) is H = holder_kept w v (law_opener who) K h size longer (else_where w who h H.opener named among is H.number) (fit h is H) H
 
-  pub same_fits : (img : List ℕ) (size : ℕ) → WorldFits w img size → Stands v img size → WorldFits (with_openers w v) img size
-  same_fits img size F W = fits_kept w v (law_opener who) K img img size size begun F W (aside_kept size size (λ h is H fit. fit) w.aside refl F.aside)
+  pub same_fits : w.stale ≡ false → (img : List ℕ) (size : ℕ) → WorldFits w img size → Stands v img size → WorldFits (with_openers w v) img size
+  same_fits fresh img size F W = fits_kept w v (law_opener who) K img img size size fresh begun F W (aside_kept size size (λ h is H fit. fit) w.aside refl F.aside)
 
-  pub open_fits : IsOpen w → (a b : List ℕ) (size longer : ℕ) → (WritesNoRecord w.openers.table (law_opener who) → longer ≡ size) → WorldFits w a size → Stands v b longer → WorldFits (with_openers w v) b longer
-  open_fits nobody a b size longer calm F W = fits_kept w v (law_opener who) K a b size longer begun F W (aside_kept size longer
+  pub open_fits : w.stale ≡ false → IsOpen w → (a b : List ℕ) (size longer : ℕ) → (WritesNoRecord w.openers.table (law_opener who) → longer ≡ size) → WorldFits w a size → Stands v b longer → WorldFits (with_openers w v) b longer
+  open_fits fresh nobody a b size longer calm F W = fits_kept w v (law_opener who) K a b size longer fresh begun F W (aside_kept size longer
       (λ h is H fit. fit_open h.stage w.openers.header w.openers.options.limit size longer (nobody h is) (λ reads. calm (reads_calm h is H reads)) (let short = W.short in let limit = ap (λ (z : Options). z.limit) K.options in omega (arith, short, limit)) fit)
       w.aside refl F.aside)
     where
       reads_calm : (h : HolderState) → w.aside ≡ Some h → HolderFits w h size → stage_records h.stage ≡ Some Read → WritesNoRecord w.openers.table (law_opener who)
       reads_calm h is H reads =
           let R = H.reads reads in
-          others_write_none (form_at w) (options_at w) w.openers.openers w.openers.table a size (law_opener h.owner) 1 R.0 H.opener F.openers (there w h a size size F.openers H) H.bare R.1 (law_opener who)
+          others_write_none (form_at w) (options_at w) w.openers.openers w.openers.table a size (law_opener h.owner) 1 R.0 H.opener F.openers (there_named w.openers h.owner H.opener H.number) H.bare R.1 (law_opener who)
           (λ e. else_where w who h H.opener named among is H.number (sym e))
 
   pub still_among : IsAmong (with_openers w v) who
@@ -261,16 +262,16 @@ module _ (w : Whole) (v : World) (who : ℕ) (x : Opener) (t : Task) (turn : Tur
 
     module _ (history : History) (img : List ℕ) (past : Past) (s : Side) (A : IsAside w h history img past s) where
       stands : StandsAside (state_in w.openers img) s
-      stands = stands_aside w h any size size F.openers fits img A.known past s A.side A.shuts (A.records fits.opener fits.number)
+      stands = stands_aside w h any size F.openers fits history img past s A
 
       its_here : law_opener h.owner ≡ s.here
-      its_here = here_is w h any size size F.openers fits img A.known past s A.side A.shuts (A.records fits.opener fits.number)
+      its_here = aside_here w h any size F.openers fits history img past s A
 
       else_there : l ≢ s.here
       else_there e = apart_from (its_here ∙ sym e)
 
       may : MayStart (is_starting w.starts) (beside (state_in w.openers img) past s)
-      may = beside_may w img any size F past s (ap (is_starting w.starts) (sym its_here) ∙ fits.begun)
+      may = may_start_whole w any size F img (Some h) fits history past (Some s) A
 
       -- it is aside of the openers that are left, in a file that is known so
       abbrev Stays : History → List ℕ → Known → Bool → Type 0
@@ -306,7 +307,7 @@ module _ (w : Whole) (v : World) (who : ℕ) (x : Opener) (t : Task) (turn : Tur
       after = past_after f (state_in w.openers img) l lt turn past;
       is_side = subst (λ a. SideIs then_ a later (seen later) (past_after f (state_in w.openers img) l lt turn past) None) (sym is) (seen_at img N);
       turned = (alone_turns f (state_in w.openers img) (state_in v (seen later)) past l lt turn (plain w.openers img) (apart img) (turned_at img N)).1;
-      may = alone_may w img any size F past;
+      may = may_start_whole w any size F img None tt h past None N;
     }
 
     module _ (hd : HolderState) (is : w.aside ≡ Some hd) (img : List ℕ) (past : Past) (s : Side) (A : IsAside w hd h img past s) where
@@ -336,7 +337,7 @@ module _ (w : Whole) (v : World) (who : ℕ) (x : Opener) (t : Task) (turn : Tur
       aside_by (Some Read) reads =
           let H = fits hd is in
           let same : later ≡ h =
-          calm (others_write_none f (options_at w) w.openers.openers w.openers.table any size (law_opener hd.owner) 1 Read H.opener F.openers (there w hd any size size F.openers H) H.bare (A.records H.opener H.number ∙ ap once reads) l
+          calm (others_write_none f (options_at w) w.openers.openers w.openers.table any size (law_opener hd.owner) 1 Read H.opener F.openers (there_named w.openers hd.owner H.opener H.number) H.bare (A.records H.opener H.number ∙ ap once reads) l
           (λ e. apart_from hd is (sym e))) in
           stays hd is h img past s A later (seen later) A.known z A.side (subst (λ y. KnowsFile f hd.stage y A.known) (sym same) A.file) (ap seen same ∙ (sym N.image ∙ A.image))
           (λ some. subst (λ y. AcceptWith f y []) (N.image ∙ ap seen (sym same)) (A.accepted some)) (λ e. seen_at img N) (λ writes e. not_writing writes)

@@ -54,7 +54,7 @@ use Rattle.tdb_whole.specs.States.{state_with, IsAside, IsSeen, IsStateOf, SideI
 use Rattle.tdb_whole.specs.States.IsStateOf.{of_whole, of_stale}
 use Rattle.tdb_whole.specs.Steps.{with_aside}
 use Rattle.tdb_whole.specs.Whole.{Whole, form_at, options_at, is_starting, AsideFits, HolderFits, StartFits, WorldFits}
-use Rattle.tdb_whole.proofs.Standby.{beside_may}
+use Rattle.tdb_whole.proofs.Standings.{may_start_whole}
 
 -- where one has no Start any more, the others have theirs
 pub gone_there : (xs : List Bool) (o : ℕ) → is_starting (slice_set xs o false) o ≡ false
@@ -250,11 +250,11 @@ module _ (w : Whole) (o : ℕ) (img : List ℕ) (size : ℕ) (F : WorldFits w im
   aside_still (Some h) H = record { opener = H.opener; number = record { place = H.number.place; counted = H.number.counted; there = H.number.there }; bare = H.bare; writes = H.writes; reads = H.reads; fit = H.fit; begun = gone_from (law_opener h.owner) H.begun }
 
   pub dropped_fits : WorldFits dropped_now img size
-  dropped_fits = record { openers = F.openers; each = length-set w.starts o false ∙ F.each; starts = start_still dropped_now refl refl; aside = aside_still w.aside F.aside }
+  dropped_fits = record { openers = F.openers; each = length-set w.starts o false ∙ F.each; starts = start_still dropped_now refl refl; aside = aside_still w.aside F.aside; stale = λ e. record { nobody = (F.stale e).nobody; lengths = (F.stale e).lengths } }
 
   -- also where its opener goes aside
-  pub aside_fits : is_starting w.starts o ≡ true → (who : ℕ) → who ≡ o + 1 → WorldFits (with_aside dropped_now (record { owner = who; locks = []; stage = At.Starting Starts.Begun })) img size
-  aside_fits begun who named =
+  pub aside_fits : w.stale ≡ false → is_starting w.starts o ≡ true → (who : ℕ) → who ≡ o + 1 → WorldFits (with_aside dropped_now (record { owner = who; locks = []; stage = At.Starting Starts.Begun })) img size
+  aside_fits fresh begun who named =
       let S = F.starts o begun in
       let h : HolderState = record { owner = who; locks = []; stage = At.Starting Starts.Begun } in
       record {
@@ -270,6 +270,7 @@ module _ (w : Whole) (o : ℕ) (img : List ℕ) (size : ℕ) (F : WorldFits w im
           fit = F.openers.short;
           begun = ap (is_starting (slice_set w.starts o false)) (omega (arith, named)) ∙ gone_there w.starts o;
         };
+        stale = λ e. absurd (never_true (sym fresh ∙ e));
       }
 
   -- a state in which nobody is aside is one in which it is
@@ -323,7 +324,7 @@ module _ (w : Whole) (o : ℕ) (any : List ℕ) (size : ℕ) (F : WorldFits w an
     other e = never_true (sym not_starting ∙ (ap starts (sym e) ∙ begun))
 
     sound_q : IsSound g q
-    sound_q = starts_sound g r starts (beside_may w img any size F past s not_starting) sound
+    sound_q = starts_sound g r starts (may_start_whole w any size F img (Some hd) fits_aside h past (Some s) A) sound
 
     own_q : q.own o ≡ own w o any size F begun
     own_q = put_else (state_in w.openers img).own s.here s.own o other ∙ own_is w o any size F begun img past

@@ -81,7 +81,7 @@ pub record IsBackIn (old : World) (who : ℕ) (stays : Bool) (zs : List Opener) 
   pub bytes : (img : List ℕ) → BytesStand old img → BytesStand (with_list old zs rs) img
 
 -- Where two accepted images have the same map, a walk that stands on no record stays where it is.
-same_map_shift : (f : Form) (a b : List ℕ) (place : Place) (lost : List ℕ → Type 0) → AcceptWith f a [] → AcceptWith f b [] → image_map f b ≡ image_map f a → IsOffRecords place
+pub same_map_shift : (f : Form) (a b : List ℕ) (place : Place) (lost : List ℕ → Type 0) → AcceptWith f a [] → AcceptWith f b [] → image_map f b ≡ image_map f a → IsOffRecords place
     → Shift f lost (mark_of f (chains_in f a) place) (mark_of f (chains_in f b) place)
 same_map_shift f a b place lost A B same off =
     let S = all_shift f (λ k. false) (chains_in f a) (chains_in f b) place off

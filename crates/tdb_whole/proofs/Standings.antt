@@ -3,16 +3,17 @@ use Rattle.std.proofs.Common.{◌≡◌, ◌≢◌, ◌≤◌, ℕ, max, List, s
 use Rattle.tdb_disk.specs.History.{History}
 use Rattle.tdb_space.specs.Form.{form_in}
 use Rattle.tdb_locks.specs.declared.kind.Kind.{Kind}
-use Rattle.tdb_locks.specs.declared.kind.Kind.TheVariants.{Read, Write}
+use Rattle.tdb_locks.specs.declared.kind.Kind.TheVariants.{Write}
 use Rattle.tdb_law.specs.Held.{all_held, covers}
 use Rattle.tdb_law.specs.Rows.{lock_all}
 use Rattle.tdb_law.specs.World.{State}
 use Rattle.tdb_law.proofs.Tests.{never_true}
 use Rattle.tdb_law.proofs.Walking.{put_here, put_else}
 use Rattle.tdb_plays.specs.InLaw.{law_opener}
+use Rattle.tdb_plays.specs.declared.options.Options.{Options}
 use Rattle.tdb_steps.specs.LockRows.{strength_of}
 use Rattle.tdb_beside.specs.Events.{StandsBy, IsElse}
-use Rattle.tdb_beside.specs.Sides.{Past, Side, alone, beside, whole, StandsAside}
+use Rattle.tdb_beside.specs.Sides.{Past, Side, alone, beside, whole, IsPlain, StandsAside}
 use Rattle.tdb_beside.specs.Starts.{MayStart, new_start, with_starts}
 use Rattle.tdb_beside.proofs.Starting.{task_is, task_not}
 use Rattle.tdb_holder.specs.Holders.{HolderState}
@@ -36,10 +37,19 @@ use Rattle.tdb_whole.specs.Steps.HasCommand.{by_aside, by_start, by_job}
 use Rattle.tdb_whole.specs.Steps.HasNoCommand.{idle_aside, idle_among}
 use Rattle.tdb_whole.specs.Steps.IsAmong.{among_all, among_others}
 use Rattle.tdb_whole.specs.Whole.{Whole, AsideFits, HolderFits, WorldFits, form_at, is_starting}
+use Rattle.tdb_whole.proofs.Staged.{writing_is}
 
 -- the openers stand over any bytes
 pub any_image : (w : World) (a b : List ℕ) (size : ℕ) → Stands w a size → Stands w b size
 any_image w a b size W = image_keeps_world (form_in w.header) w.options w.openers w.table a b size size W (le_refl size) W.short
+
+outside : (options : Options) (x : Option Opener) → (own_at options x).txn ≡ None
+outside options None = refl
+outside options (Some x) = refl
+
+-- none of the openers has a transaction
+pub plain : (w : World) (img : List ℕ) → IsPlain (state_in w img)
+plain w img = record { outside = λ o. outside w.options (slice_get w.openers o); ready = refl }
 
 -- a lock of all records is held as it is at that byte
 once_held : (r : Option Kind) (b : ℕ) → all_held (all_of (once r)) b ≡ records_at r b
@@ -49,11 +59,6 @@ once_held (Some kind) b = at (covers (lock_all 0 (strength_of kind)) b)
     at : (z : Bool) → max (if z then strength_of kind else 0) 0 ≡ (if z then strength_of kind else 0)
     at true = omega arith
     at false = omega arith
-
-all_writing : (r : Option Kind) → writes_all r ≡ true → r ≡ Some Write
-all_writing None e = absurd (cc e)
-all_writing (Some Read) e = absurd (cc e)
-all_writing (Some Write) e = refl
 
 -- the one aside, in a state
 module _ (w : Whole) (h : HolderState) (any : List ℕ) (size : ℕ) (W : Stands w.openers any size) (F : HolderFits w h size) (history : History) (img : List ℕ) (past : Past) (s : Side) (A : IsAside w h history img past s) where
@@ -84,7 +89,7 @@ module _ (w : Whole) (h : HolderState) (any : List ℕ) (size : ℕ) (W : Stands
     records = λ b from. records_law (form_at w) w.openers.options h.owner h.locks h.stage A.known past s A.side b from ∙ (sym (once_held (stage_records h.stage) b) ∙ sym (holds b));
     below = λ b under. holds b ∙ all_below (once (stage_records h.stage)) b (omega (arith, under));
     shuts = λ e b from upto.
-        let all = all_writing (stage_records h.stage) (sym A.shuts ∙ e) in
+        let all = writing_is (stage_records h.stage) (sym A.shuts ∙ e) in
         records_law (form_at w) w.openers.options h.owner h.locks h.stage A.known past s A.side b (omega (arith, from))
         ∙ (sym (once_held (stage_records h.stage) b) ∙ (ap (λ r. all_held (all_of (once r)) b) all ∙ all_here Write 1 b from upto));
   }
@@ -183,7 +188,7 @@ aside_task w h any size F e history state (of_whole S) =
 aside_task w h any size F e history state (of_stale S) = absurd (let none : None ≡ Some h = sym S.nobody ∙ e in cc none)
 
 -- an opener isn't aside and among the others
-never_both : (w : Whole) (who : ℕ) (h : HolderState) → w.aside ≡ Some h → who ≡ h.owner → IsAmong w who → ⊥
+pub never_both : (w : Whole) (who : ℕ) (h : HolderState) → w.aside ≡ Some h → who ≡ h.owner → IsAmong w who → ⊥
 never_both w who h e is (among_all none) = let both : None ≡ Some h = sym none ∙ e in cc both
 never_both w who h e is (among_others g some other) = other (is ∙ ap (λ (z : HolderState). z.owner) (sym (same_holder w h g e some)))
 

@@ -3,3 +3,4 @@ pub mod States
 pub mod Steps
 pub mod Claims
 pub mod Shut
+pub mod Died

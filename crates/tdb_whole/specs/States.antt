@@ -2,7 +2,9 @@
 use Rattle.std.specs.Prelude.{ℕ, ◌≡◌, List, [], Bool, true, false, Option, None, Some, is_some}
 use Rattle.tdb_disk.specs.History.{History, seen}
 use Rattle.tdb_space.specs.Accepted.{AcceptWith}
+use Rattle.tdb_space.specs.Form.{form_of}
 use Rattle.tdb_space.specs.Opening.{restored}
+use Rattle.tdb_space.specs.Undoing.{Reopens}
 use Rattle.tdb_locks.specs.declared.kind.Kind.{Kind}
 use Rattle.tdb_locks.specs.declared.kind.Kind.TheVariants.{Write}
 use Rattle.tdb_law.specs.World.{State, IsSound}
@@ -69,6 +71,8 @@ pub record IsStaleState (w : Whole) (h : History) (state : State) : Type 0 where
   pub image : List ℕ
   pub past : Past
   pub undone : image ≡ restored (form_at w) (seen h)
+  pub form : form_of (seen h) ≡ form_at w
+  pub reopens : Reopens image (seen h)
   pub accepted : AcceptWith (form_at w) image []
   pub apart : (o : ℕ) → LocksNoRecord (form_at w) (state_in w.openers image) o
   pub sound : IsSound (form_at w) (record (alone (state_in w.openers image) past) { stale = true })

@@ -1,5 +1,5 @@
 -- What contracts see of a world: its openers, which of them have a Start that has had no turn, and the one that has a transaction.
-use Rattle.std.specs.Prelude.{ℕ, ◌≡◌, List, Bool, true, false, Option, None, Some, slice_get, length}
+use Rattle.std.specs.Prelude.{ℕ, ◌≡◌, ◌≤◌, List, Bool, true, false, Option, None, Some, slice_get, length}
 use Rattle.tdb_locks.specs.declared.kind.Kind.{Kind}
 use Rattle.tdb_locks.specs.declared.kind.Kind.TheVariants.{Read, Write}
 use Rattle.tdb_plays.specs.InLaw.{law_opener}
@@ -57,9 +57,15 @@ pub record StartFits (w : Whole) (o : ℕ) : Type 0 where
   pub none : opener.held.all ≡ None
   pub writes : w.openers.options.read_only ≡ false
 
+-- In a stale world nobody is aside, and since no command holds a record the openers stand over a file of any length up to the limit.
+pub record StaleFits (w : Whole) : Type 0 where
+  pub nobody : w.aside ≡ None
+  pub lengths : (img : List ℕ) (size : ℕ) → size ≤ w.openers.options.limit → Stands w.openers img size
+
 -- What holds of a world between any two calls whatever the bytes of its file are, where the file has this length.
 pub record WorldFits (w : Whole) (img : List ℕ) (size : ℕ) : Type 0 where
   pub openers : Stands w.openers img size
   pub each : length w.starts ≡ length w.openers.openers
   pub starts : (o : ℕ) → is_starting w.starts o ≡ true → StartFits w o
   pub aside : AsideFits w w.aside size
+  pub stale : w.stale ≡ true → StaleFits w

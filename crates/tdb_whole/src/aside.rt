@@ -95,7 +95,9 @@ impl World {
         ensures header { OnOk result (self.new.openers.header ≡ self.old.openers.header) }
         ensures options { OnOk result (self.new.openers.options ≡ self.old.openers.options) }
         ensures cause { IsTrue D.tells → (state : State) → IsStateOf (with_aside self.old holder) (D.history d.old) state → HasCause (D.faults d.old) (D.faults d.new) result }
+        ensures done { OnOk result (D.faults d.new ≡ D.faults d.old) }
         ensures rises { D.faults d.old ≤ D.faults d.new }
+        ensures longer { OnOk result (D.size d.old ≤ D.size d.new) }
     {
         let who = holder.owner();
         let wants = holder.wants();
@@ -127,7 +129,9 @@ impl World {
         ensures options { OnOk result (self.new.openers.options ≡ self.old.openers.options) }
         ensures cause { IsTrue D.tells → (before : Openers) (x : Opener) (state : State) → ClaimStands self.old holder (seen (D.history d.old)) (D.size d.old) before x
             → IsStateOf (record self.old { openers = before; aside = Some holder }) (D.history d.old) state → HasCause (D.faults d.old) (D.faults d.new) result }
+        ensures done { OnOk result (D.faults d.new ≡ D.faults d.old) }
         ensures rises { D.faults d.old ≤ D.faults d.new }
+        ensures longer { OnOk result (D.size d.old ≤ D.size d.new) }
     {
         let who = holder.owner();
         let closes = holder.closes();
@@ -189,7 +193,9 @@ impl World {
         ensures header { OnOk result (self.new.openers.header ≡ self.old.openers.header) }
         ensures options { OnOk result (self.new.openers.options ≡ self.old.openers.options) }
         ensures cause { IsTrue D.tells → (state : State) → IsStateOf self.old (D.history d.old) state → HasCause (D.faults d.old) (D.faults d.new) result }
+        ensures done { OnOk result (D.faults d.new ≡ D.faults d.old) }
         ensures rises { D.faults d.old ≤ D.faults d.new }
+        ensures longer { OnOk result (D.size d.old ≤ D.size d.new) }
     {
         let Some(holder) = self.aside.take() else {
             unreachable!();

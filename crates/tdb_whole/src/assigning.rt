@@ -7,12 +7,12 @@ ghost use Rattle.tdb_plays.specs.InLaw.{law_opener, law_command};
 ghost use Rattle.tdb_world.specs.Given.{IsShortGiven};
 ghost use Rattle.tdb_whole.specs.Whole.{is_starting, WorldFits};
 ghost use Rattle.tdb_whole.specs.States.{IsStateOf};
-ghost use Rattle.tdb_whole.specs.Steps.{GiftLeads, HasCommand, HasNoCommand, IsAmong};
+ghost use Rattle.tdb_whole.specs.Steps.{GiftLeads, HasCommand, HasNoCommand, HasRoom, IsAmong};
 ghost use Rattle.tdb_beside.specs.Sides.{Past, Side};
 ghost use Rattle.tdb_holder.specs.Ends.{task_of};
 ghost use Rattle.tdb_holder.specs.Given.{IsShortCommand};
-ghost use Rattle.tdb_holder.specs.Holders.{is_idle, with_command, HolderState};
-ghost use Rattle.tdb_holder.specs.Stages.{Known, IsFit, IsSide, KnowsFile};
+ghost use Rattle.tdb_holder.specs.Holders.{is_idle, stage_depth, with_command, HolderState};
+ghost use Rattle.tdb_holder.specs.Stages.{Known, IsFit, IsSide, KnowsFile, MayBeGiven};
 ghost use Rattle.tdb_plays.specs.declared.options.Options.{Options};
 ghost use Rattle.tdb_space.specs.Form.{Form};
 ghost use Rattle.tdb_words.specs.declared.header.Header.{Header};
@@ -34,6 +34,8 @@ fn give_holder(holder: &mut Holder, command: Command) -> Result<(), AllocError>
         → IsSide f o holder.new.owner holder.new.locks holder.new.stage k past (record s { task = Some (task_of (law_command command) 0) })) }
     ensures file { OnOk result ((f : Form) (h : History) (k : Known) → KnowsFile f holder.old.stage h k → KnowsFile f holder.new.stage h k) }
     ensures fits { OnOk result ((h : Header) (limit size : ℕ) → IsFit holder.old.stage h limit size → IsFit holder.new.stage h limit size) }
+    ensures may { OnOk result (MayBeGiven command (stage_depth holder.old.stage)) }
+    ensures full { OnErr result (MayBeGiven command (stage_depth holder.old.stage) → ⊥) }
     ensures err { OnErr result (holder.new ≡ holder.old) }
 {
     if !holder.may_be_given(&command) {
@@ -45,7 +47,7 @@ fn give_holder(holder: &mut Holder, command: Command) -> Result<(), AllocError>
 
 impl World {
     /// The opener with this number, where it is aside.
-    fn holder(&self, who: u32) -> Option<&Holder>
+    pub(crate) fn holder(&self, who: u32) -> Option<&Holder>
         ensures some { IfSome result (λ h. (self.now.aside ≡ Some h.now) × (who ≡ h.now.owner)) }
         ensures none { IfNone result (IsAmong self.now who) }
     {
@@ -78,6 +80,7 @@ impl World {
         requires named { 1 ≤ who }
         requires fits { (img : List ℕ) × (size : ℕ) × WorldFits self.now img size }
         ensures absent { result ≡ OpenerStanding.Absent → (h : History) (state : State) → IsStateOf self.now h state → (state.own (law_opener who)).live ≡ false }
+        ensures nobody { result ≡ OpenerStanding.Absent → HasCommand self.now who → ⊥ }
         ensures idle { result ≡ OpenerStanding.Idle → HasNoCommand self.now who }
         ensures busy { result ≡ OpenerStanding.Busy → HasCommand self.now who }
     {
@@ -116,6 +119,8 @@ impl World {
         requires fits { (img : List ℕ) × (size : ℕ) × WorldFits self.old img size }
         requires short { IsShortCommand command }
         ensures fits { (img : List ℕ) (size : ℕ) → WorldFits self.old img size → WorldFits self.new img size }
+        ensures may { OnOk result (HasRoom self.old who command) }
+        ensures full { OnErr result (HasRoom self.old who command → ⊥) }
         ensures busy { OnOk result (HasCommand self.new who) }
         ensures given { OnOk result ((h : History) → GiftLeads self.old self.new h who (law_command command)) }
         ensures header { self.new.openers.header ≡ self.old.openers.header }
@@ -170,8 +175,9 @@ impl World {
         requires free { HasNoCommand self.old who }
         requires fits { (img : List ℕ) × (size : ℕ) × WorldFits self.old img size }
         requires short { IsShortGiven command }
-        requires shorter { IsShortCommand command }
         ensures fits { (img : List ℕ) (size : ℕ) → WorldFits self.old img size → WorldFits self.new img size }
+        ensures may { OnOk result (HasRoom self.old who command) }
+        ensures full { OnErr result (HasRoom self.old who command → ⊥) }
         ensures busy { OnOk result (HasCommand self.new who) }
         ensures given { OnOk result ((h : History) → GiftLeads self.old self.new h who (law_command command)) }
         ensures header { self.new.openers.header ≡ self.old.openers.header }

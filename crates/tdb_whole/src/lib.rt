@@ -4,9 +4,14 @@
 mod aside;
 mod assigning;
 mod beginning;
+mod dying;
+mod laws;
 mod others;
 mod turning;
+mod undoing;
 mod world;
 
+pub use crate::laws::states_are_read;
+pub use crate::undoing::Undone;
 pub use crate::world::{JoinRefusal, World};
 pub use tdb_world::OpenerStanding;

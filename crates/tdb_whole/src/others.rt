@@ -68,7 +68,9 @@ impl World {
         ensures header { self.new.openers.header ≡ self.old.openers.header }
         ensures options { self.new.openers.options ≡ self.old.openers.options }
         ensures cause { IsTrue D.tells → BytesStand self.old.openers (seen (D.history d.old)) → HasCause (D.faults d.old) (D.faults d.new) result }
+        ensures done { OnOk result (D.faults d.new ≡ D.faults d.old) }
         ensures rises { D.faults d.old ≤ D.faults d.new }
+        ensures longer { OnOk result (D.size d.old ≤ D.size d.new) }
     {
         let header = *self.openers.header();
         let mut view = Direct::new(d, &header);
@@ -122,7 +124,9 @@ impl World {
         ensures header { OnOk result (self.new.openers.header ≡ self.old.openers.header) }
         ensures options { OnOk result (self.new.openers.options ≡ self.old.openers.options) }
         ensures cause { IsTrue D.tells → (state : State) → IsStateOf self.old (D.history d.old) state → HasCause (D.faults d.old) (D.faults d.new) result }
+        ensures done { OnOk result (D.faults d.new ≡ D.faults d.old) }
         ensures rises { D.faults d.old ≤ D.faults d.new }
+        ensures longer { OnOk result (D.size d.old ≤ D.size d.new) }
     {
         match self.shutter() {
             Some(Shutter { owner, bars }) => Ok(self.shut_out_turn(who, owner, bars)),

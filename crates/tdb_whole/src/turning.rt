@@ -31,7 +31,9 @@ impl World {
         ensures header { OnOk result (self.new.openers.header ≡ self.old.openers.header) }
         ensures options { OnOk result (self.new.openers.options ≡ self.old.openers.options) }
         ensures cause { IsTrue D.tells → (state : State) → IsStateOf self.old (D.history d.old) state → HasCause (D.faults d.old) (D.faults d.new) result }
+        ensures done { OnOk result (D.faults d.new ≡ D.faults d.old) }
         ensures rises { D.faults d.old ≤ D.faults d.new }
+        ensures longer { OnOk result (D.size d.old ≤ D.size d.new) }
     {
         if self.is_aside(who) {
             return self.aside_turn(d, who);

@@ -7,6 +7,7 @@ ghost use Rattle.tdb_law.specs.Beginning.{IsLoaded};
 ghost use Rattle.tdb_law.specs.Images.{image_map};
 ghost use Rattle.tdb_law.specs.World.{State, HasFewChains};
 ghost use Rattle.tdb_plays.specs.InLaw.{law_opener};
+ghost use Rattle.tdb_steps.specs.Turns.{number_of};
 ghost use Rattle.tdb_world.specs.Openers.{options_of};
 ghost use Rattle.tdb_holder.specs.Holders.{HolderState};
 ghost use Rattle.tdb_whole.specs.Whole.{is_starting, WorldFits};
@@ -74,7 +75,7 @@ impl World {
         ensures fresh { result.stale ≡ false }
         ensures fits { (img : List ℕ) (size : ℕ) → HasFewChains (form_in header.now) → options.now.limit ≤ 4294963200 → size ≤ options.now.limit → WorldFits result img size }
         ensures state { (h : History) → let f = form_in header.now in HasFewChains f → options.now.limit ≤ 4294963200 → AcceptWith f (seen h) []
-            → (state : State) × IsStateOf result h state × IsLoaded f state (options_of options.now) × (state.file ≡ image_map f (seen h)) }
+            → (state : State) × IsStateOf result h state × IsLoaded f state (options_of options.now) × (state.file ≡ image_map f (seen h)) × (state.number ≡ number_of f (seen h)) }
     {
         World {
             openers: Openers::new(alloc, header, options),
@@ -98,6 +99,11 @@ impl World {
             Some(holder) => holder.end(),
             None => {}
         }
+    }
+
+    /// Its allocator, of which copies of commands are made.
+    pub fn alloc(&self) -> Global {
+        self.openers.alloc()
     }
 
     /// How many openers have joined.

@@ -37,7 +37,7 @@ module _ (c : goal.Joined-command) where
   beginning : IsBeginning (form_in w.openers.header) (own_of w.openers.options x) c.args.command
   beginning =
       subst (λ (z : World). IsBeginning (form_in z.header) (own_of z.options x) c.args.command) same
-      (c.if-begins.ensures x (subst (λ z. IsFree z c.args.who x) (sym same) free).number)
+      (c.if-begins.ensures.opener x (subst (λ z. IsFree z c.args.who x) (sym same) free).number)
 
   granted : refusal (form_in w.openers.header) (OnGroup Start) (own_of w.openers.options x) ≡ None
   granted = subst (λ k. refusal (form_in w.openers.header) (law_command k) (own_of w.openers.options x) ≡ None) beginning.start beginning.granted

@@ -8,14 +8,15 @@ use Rattle.tdb_plays.specs.declared.options.Options.{Options}
 use Rattle.tdb_words.specs.declared.header.Header.{Header}
 use Rattle.tdb_beside.specs.Sides.{Past, Side}
 use Rattle.tdb_holder.specs.Ends.{task_of}
-use Rattle.tdb_holder.specs.Holders.{HolderState}
-use Rattle.tdb_holder.specs.Stages.{stage_task, IsFit, IsSide, KnowsFile, Known}
+use Rattle.tdb_holder.specs.Holders.{stage_depth, HolderState}
+use Rattle.tdb_holder.specs.Stages.{stage_task, IsFit, IsSide, KnowsFile, Known, MayBeGiven}
 use Rattle.tdb_world.proofs.Aside.{either_way, on_both, on_one}
 use Rattle.tdb_whole.specs.States.{IsStateOf}
-use Rattle.tdb_whole.specs.Steps.{GiftLeads, HasCommand}
+use Rattle.tdb_whole.specs.Steps.{GiftLeads, HasCommand, HasRoom}
 use Rattle.tdb_whole.specs.Whole.{Whole, WorldFits}
 use Rattle.tdb_whole.specs.contracts.world.World.{the_view}
 use Rattle.tdb_whole.proofs.Gifts.{aside_given, aside_given_busy, aside_given_fits, given_holder, idle_stage}
+use Rattle.tdb_whole.proofs.Rooms.{aside_room, on_err}
 use Rattle.tdb_whole.proofs.Standings.{idle_holder, same_holder}
 use Rattle.tdb_whole.proofs.world.World.assign_aside.Goals as goal
 
@@ -73,6 +74,14 @@ returns-clause-fits c = λ img size F.
     subst (λ z. WorldFits z img size) (sym (later c))
     (either_way c.give_holder.result (Made c) (Fits c (new c)) (WorldFits (record (w c) { aside = Some (new c) }) img size) (new c ≡ old c) (fits_then c img size F) (fits_still c img size F) c.give_holder.ensures.given
     c.give_holder.ensures.fits c.give_holder.ensures.err)
+
+pub returns-clause-may : goal.returns-clause-may
+returns-clause-may c =
+    on_one c.give_holder.result (MayBeGiven c.args.command (stage_depth (old c).stage)) (HasRoom (w c) c.args.who c.args.command) (aside_room (w c) (old c) c.args.who c.args.command (aside c)) c.give_holder.ensures.may
+
+pub returns-clause-full : goal.returns-clause-full
+returns-clause-full c =
+    on_err c.give_holder.result (MayBeGiven c.args.command (stage_depth (old c).stage) → ⊥) (HasRoom (w c) c.args.who c.args.command → ⊥) (λ never room. never (room (old c) (aside c) (owner c))) c.give_holder.ensures.full
 
 pub returns-clause-busy : goal.returns-clause-busy
 returns-clause-busy c = on_one c.give_holder.result (Made c) _ (λ made. subst (λ z. HasCommand z c.args.who) (sym (later c)) (busy_then c made)) c.give_holder.ensures.given

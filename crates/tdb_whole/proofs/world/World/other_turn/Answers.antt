@@ -27,7 +27,7 @@ returns-in-Some-clause-fits g c =
     let size = g.D.Disk.size c.args.d.now in
     let K : OnlyOne old.openers new.openers (law_opener c.args.who) = record { header = E.header; options = E.options; joined = E.joined; others = E.others } in
     subst (λ z. WorldFits z img size) (sym (put_openers old new E.rest))
-    (same_fits old new.openers c.args.who c.requires.named c.requires.among c.requires.begun K img size c.requires.fits (E.openers img size c.requires.fits.openers))
+    (same_fits old new.openers c.args.who c.requires.named c.requires.among c.requires.begun K c.requires.fresh img size c.requires.fits (E.openers img size c.requires.fits.openers))
 
 pub returns-in-Some-clause-turned : goal.returns-in-Some-clause-turned
 returns-in-Some-clause-turned g c told state S =
@@ -55,7 +55,7 @@ returns-in-None-clause-fits g c =
     let K : OnlyOne old.openers new.openers (law_opener c.args.who) = record { header = E.header; options = E.options; joined = E.joined; others = E.others } in
     on_one c.turn_in_file.result (Stands new.openers b longer) (WorldFits new b longer)
     (λ W. subst (λ z. WorldFits z b longer) (sym (put_openers old new E.rest))
-    (open_fits old new.openers c.args.who c.requires.named c.requires.among c.requires.begun K c.in-None.ensures.none a b size longer (λ calm. (E.calm calm).1) c.requires.fits W))
+    (open_fits old new.openers c.args.who c.requires.named c.requires.among c.requires.begun K c.requires.fresh c.in-None.ensures.none a b size longer (λ calm. (E.calm calm).1) c.requires.fits W))
     E.stands
 
 pub returns-in-None-clause-turned : goal.returns-in-None-clause-turned

@@ -1,13 +1,14 @@
 -- How an opener stands is how it stands in the state.
 use Rattle.std.proofs.Common.{[], slice_get, sym, ◌∙◌, ap, subst}
 use Rattle.tdb_law.specs.Openers.{Own}
+use Rattle.tdb_law.proofs.Tests.{never_true}
 use Rattle.tdb_plays.specs.InLaw.{law_opener}
-use Rattle.tdb_world.specs.Openers.{own_at}
-use Rattle.tdb_world.specs.Worlds.{IsBusy, IsFree}
+use Rattle.tdb_world.specs.Openers.{law_task, own_at, task_at}
+use Rattle.tdb_world.specs.Worlds.{law_of_task, IsBusy, IsFree}
 use Rattle.tdb_whole.specs.Steps.HasCommand.{by_aside, by_start, by_job}
 use Rattle.tdb_whole.specs.Steps.HasNoCommand.{idle_aside, idle_among}
 use Rattle.tdb_whole.specs.Whole.{Whole}
-use Rattle.tdb_whole.proofs.Standings.{own_in}
+use Rattle.tdb_whole.proofs.Standings.{busy_among, own_in, there_named}
 use Rattle.tdb_whole.proofs.world.World.standing.Goals as goal
 
 pub returns-then-is_idle-clause-idle : goal.returns-then-is_idle-clause-idle
@@ -28,3 +29,11 @@ returns-clause-idle c = λ e. let X = c.standing.ensures.idle e in idle_among X.
 
 pub returns-clause-busy : goal.returns-clause-busy
 returns-clause-busy c = λ e. let X = c.standing.ensures.busy e in by_job X.0 X.1 (subst (λ z. IsBusy z c.args.who X.0 X.1) (ap (λ (z : Whole). z.openers) c.self.view_is) X.2) (sym c.is_starting.ensures ∙ c.if-is_starting.false) c.in_default.ensures.none
+
+pub returns-clause-nobody : goal.returns-clause-nobody
+returns-clause-nobody c = λ e busy.
+    let w = c.args.self.now in
+    let B = busy_among w c.args.who c.in_default.ensures.none (sym c.is_starting.ensures ∙ c.if-is_starting.false) busy in
+    let live = c.requires.fits.2.openers.sound.busy_there (law_opener c.args.who) (law_of_task B.1) (ap task_at (there_named w.openers c.args.who B.0 B.2.number) ∙ ap law_task B.2.busy) in
+    let dead = ap (λ z. (own_at z.options (slice_get z.openers (law_opener c.args.who))).live) (ap (λ (z : Whole). z.openers) (sym c.self.view_is)) ∙ c.standing.ensures.absent e [] in
+    never_true (sym dead ∙ live)

@@ -48,7 +48,7 @@ step_aside-requires-clause-fits g c =
     let img = seen (g.D.Disk.history c.args.d.now) in
     let size = g.D.Disk.size c.args.d.now in
     subst (λ z. WorldFits z img size) (sym (aside_is c.args.who w c.drop_start.new.self c.start-holder.result c.drop_start.ensures c.start-holder.ensures))
-    (aside_fits w (law_opener c.args.who) img size c.requires.fits c.requires.begun c.args.who (number_is c.args.who c.requires.named))
+    (aside_fits w (law_opener c.args.who) img size c.requires.fits c.requires.fresh c.requires.begun c.args.who (number_is c.args.who c.requires.named))
 
 pub returns-clause-turned : goal.returns-clause-turned
 returns-clause-turned g c =

@@ -1,0 +1,6 @@
+pub mod Playable
+pub mod Led
+pub mod Turns
+pub mod Told
+pub mod Unfinished
+pub mod Laws

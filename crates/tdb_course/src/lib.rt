@@ -1,0 +1,15 @@
+//! Plays in a world of openers, transactions among them, and the report of them.
+#![tactic(auto)]
+
+mod advancing;
+mod dying;
+mod ending;
+mod laws;
+mod playing;
+mod starting;
+mod turning;
+
+pub use crate::ending::finish_report;
+pub use crate::laws::report_is_lawful;
+pub use crate::playing::{play, run};
+pub use tdb_world::RunFault;

@@ -1,0 +1,100 @@
+//! Plays, and the report of them.
+ghost use Rattle.std.specs.Prelude.{◌≤◌, ℕ};
+ghost use Rattle.tdb_disk.specs.History.{seen};
+ghost use Rattle.tdb_law.specs.Plays.{Gives, Course};
+ghost use Rattle.tdb_law.specs.Plays.{Play as LawPlay};
+ghost use Rattle.tdb_plays.specs.InLaw.{law_opener, law_command, law_play, law_plays};
+ghost use Rattle.tdb_world.specs.Given.{IsShortGiven};
+ghost use Rattle.tdb_world.specs.Played.{Begun, ComesTo, PlaysLast};
+ghost use Rattle.tdb_whole.specs.Whole.{form_at, WorldFits};
+ghost use Rattle.tdb_course.specs.Led.{moment, Led};
+ghost use Rattle.tdb_course.specs.Playable.{IsPlayable, ArePlayable};
+ghost use Rattle.tdb_course.specs.Told.{PlayLed};
+
+use crate::advancing::{go_on, play_go, play_turn};
+use crate::dying::play_die;
+use crate::starting::{give_copy, play_give, play_join};
+use tdb_disk::Disk;
+use tdb_plays::{Command, Line, Play, TurnReport};
+use tdb_whole::{OpenerStanding, World};
+use tdb_world::{RunFault, tell};
+
+/// An opener is given a command and takes turns of it up to the first that isn't a step, or the report says why not.
+fn play_do<D: Disk>(
+    world: &mut World,
+    d: &mut D,
+    who: u32,
+    command: &Command,
+    report: &mut TurnReport,
+) -> Result<(), RunFault>
+    requires named { 1 ≤ who }
+    requires fits { WorldFits world.old (seen (D.history d.old)) (D.size d.old) }
+    requires short { IsShortGiven command.now }
+    ensures led { PlayLed D.tells (moment world.old (D.history d.old) (D.size d.old) (D.faults d.old) report.old.lines)
+        (moment world.new (D.history d.new) (D.size d.new) (D.faults d.new) report.new.lines) result (LawPlay.Do (law_opener who) (law_command command.now)) }
+{
+    match world.standing(who) {
+        OpenerStanding::Absent => tell(report, Line::Absent { who }),
+        OpenerStanding::Busy => tell(report, Line::Occupied { who }),
+        OpenerStanding::Idle => match give_copy(world, who, command) {
+            Ok(()) => go_on(world, d, who, report),
+            Err(fault) => Err(fault),
+        },
+    }
+}
+
+/// Takes one play, and adds what it gives to the report.
+///
+/// In a stale world the open gate is undone before a turn. Room for a line, and for the copy of a command, is made
+/// before anything is done: so after `Memory` all that was done has its lines. After `Io` the world may not be used any
+/// more.
+///
+/// Cost: that of its turns, of which there are nine at most, and of the copies of the command, one for each turn.
+pub fn play<D: Disk>(
+    world: &mut World,
+    d: &mut D,
+    play: &Play,
+    report: &mut TurnReport,
+) -> Result<(), RunFault>
+    requires fits { WorldFits world.old (seen (D.history d.old)) (D.size d.old) }
+    requires playable { IsPlayable play.now }
+    ensures led { Led D.tells (moment world.old (D.history d.old) (D.size d.old) (D.faults d.old) report.old.lines)
+        (moment world.new (D.history d.new) (D.size d.new) (D.faults d.new) report.new.lines) result
+        (λ state _. Gives (form_at world.old) state (law_play play.now))
+        (λ state. Begun (form_at world.old) state (law_play play.now))
+        (λ state. PlaysLast (form_at world.old) state (law_play play.now)) }
+{
+    match play {
+        Play::Join => play_join(world, report),
+        Play::Give { who, command } => play_give(world, *who, command, report),
+        Play::Do { who, command } => play_do(world, d, *who, command, report),
+        Play::Turn { who } => play_turn(world, d, *who, report),
+        Play::Go { who } => play_go(world, d, *who, report),
+        Play::SetLog => tell(report, Line::LogsLeft { count: 0 }),
+        Play::Die { who } => play_die(world, *who, report),
+    }
+}
+
+/// Takes plays in their order, and adds what they give to the report, up to the first that finds no memory or at which
+/// the disk fails; `play` says more.
+///
+/// Cost: that of its turns, of which a play has nine at most, and of the copies of the commands, one for each turn.
+pub fn run<D: Disk>(
+    world: &mut World,
+    d: &mut D,
+    plays: &[Play],
+    report: &mut TurnReport,
+) -> Result<(), RunFault>
+    requires fits { WorldFits world.old (seen (D.history d.old)) (D.size d.old) }
+    requires playable { ArePlayable plays.now }
+    ensures led { Led D.tells (moment world.old (D.history d.old) (D.size d.old) (D.faults d.old) report.old.lines)
+        (moment world.new (D.history d.new) (D.size d.new) (D.faults d.new) report.new.lines) result
+        (λ state _. Course (form_at world.old) state (law_plays plays.now))
+        (λ state. ComesTo (form_at world.old) state (law_plays plays.now))
+        (λ state. ComesTo (form_at world.old) state (law_plays plays.now)) }
+{
+    for next in plays {
+        play(world, d, next, report)?;
+    }
+    Ok(())
+}

@@ -1,0 +1,224 @@
+-- As what the file is read beside the one aside: it opens to the map of the side's image, an open gate undone.
+use Rattle.std.proofs.Common.{◌≡◌, ℕ, ◌<◌, ◌≤◌, List, [], true, false, Option, None, Some, is_some, refl, sym, ◌∙◌, ap, subst, inl, inr, arith}
+use Rattle.std.specs.FinMap.{from_entries, get}
+use Rattle.std.proofs.lemmas.Bool.{cases_lt}
+use Rattle.tdb_disk.specs.History.{History, seen}
+use Rattle.tdb_disk.proofs.Stop.{leaves_seen}
+use Rattle.tdb_words.specs.declared.record.TheConstants.{GATE_OPEN}
+use Rattle.tdb_space.specs.Accepted.{Accept, AcceptWith, Shut}
+use Rattle.tdb_space.specs.Form.{Form, form_of, SameHeader}
+use Rattle.tdb_space.specs.Opening.{own_map, restored}
+use Rattle.tdb_space.specs.Pairs.{map_of, order_of}
+use Rattle.tdb_space.specs.Planned.{IsPlanned}
+use Rattle.tdb_space.specs.Scheme.{Scheme, Within, with_gate}
+use Rattle.tdb_space.specs.Undoing.{Reopens}
+use Rattle.tdb_space.proofs.Form.Headers.{form_kept}
+use Rattle.tdb_space.proofs.Moved.SameLists.{stays_reopens}
+use Rattle.tdb_space.proofs.Opening.Undone.{read_as_it_is}
+use Rattle.tdb_space.proofs.Planned.Ready.{area_within, plan_lies}
+use Rattle.tdb_space.proofs.RecoverySteps.Emptying.{word_beside}
+use Rattle.tdb_space.proofs.Scheme.WritesUndone.{within_itself}
+use Rattle.tdb_space.proofs.Undoing.Alike.{exact_reopens}
+use Rattle.tdb_undo.proofs.Found.{reopens_itself}
+use Rattle.tdb_law.specs.Images.{image_map}
+use Rattle.tdb_law.specs.Lines.{MayDie}
+use Rattle.tdb_law.specs.Openers.{Map}
+use Rattle.tdb_law.proofs.HandsOut.{image_answers}
+use Rattle.tdb_steps.specs.Turns.{number_of}
+use Rattle.tdb_txn.specs.Commit.{Brings, IsApplied, IsFilled, IsPrepared, IsSettled, opened, scheme_of}
+use Rattle.tdb_txn.specs.CommitStates.{applied_plan, filled_plan, planned_plan, prepared_plan, settled_plan}
+use Rattle.tdb_txn.specs.Planned.{IsPlannedOn}
+use Rattle.tdb_txn.specs.declared.planned.Plan.{Plan}
+use Rattle.tdb_txn.proofs.StatesKept.{fills_of}
+use Rattle.tdb_commit.specs.Commits.{Carries, OpensAs, RestsAt, StandsFor}
+use Rattle.tdb_commit.specs.Committings.{commit_steps, KnowsCommit}
+use Rattle.tdb_commit.specs.Finishes.{finish_steps, IsShut, KnowsFinish}
+use Rattle.tdb_commit.specs.Prepares.{IsReady, KnowsStage}
+use Rattle.tdb_commit.specs.declared.committing.Committing.{Committing}
+use Rattle.tdb_commit.specs.declared.committing.Committing.TheVariants as Commits
+use Rattle.tdb_commit.specs.declared.finishing.Finishing.{Finishing}
+use Rattle.tdb_commit.specs.declared.finishing.Finishing.TheVariants as Finishes
+use Rattle.tdb_commit.specs.declared.preparing.PrepareStage.{PrepareStage}
+use Rattle.tdb_commit.specs.declared.preparing.PrepareStage.TheVariants as Prepares
+use Rattle.tdb_commit.specs.declared.starting.Starting.{Starting}
+use Rattle.tdb_commit.specs.declared.starting.Starting.TheVariants as Starts
+use Rattle.tdb_commit.proofs.Carried.{ready_rests}
+use Rattle.tdb_beside.specs.Sides.{Past, Side}
+use Rattle.tdb_holder.specs.Holders.{HolderState}
+use Rattle.tdb_holder.specs.Reads.{IsReadAs as IsReadFrom}
+use Rattle.tdb_holder.specs.Stages.{start_records, stage_records, stage_task, Known, KnowsFile}
+use Rattle.tdb_holder.specs.declared.stage.PreparedTxn.TheVariants.{Opened, Nothing}
+use Rattle.tdb_holder.specs.declared.stage.Stage.{Stage}
+use Rattle.tdb_holder.specs.declared.stage.Stage.TheVariants as At
+use Rattle.tdb_holder.proofs.ReadAs.{commit_reads, finish_reads, prepare_reads, prepared_reads, rest_reads, shut_commit_reads, shut_finish_reads}
+use Rattle.tdb_whole.specs.Died.{IsReadAs, StatesAreRead}
+use Rattle.tdb_whole.specs.States.{state_with, writes_all, IsAside, SideIs}
+use Rattle.tdb_whole.specs.States.IsStateOf.{of_stale, of_whole}
+use Rattle.tdb_whole.specs.Whole.{form_at, Whole}
+
+-- An image of the file has this form, and opens to the map of image r.
+pub record OpensIn (f : Form) (r c : List ℕ) : Type 0 where
+  pub form : form_of c ≡ f
+  pub reopens : Reopens r c
+
+-- What an undo gives has the form of the file before it; it is accepted, and the file opens to its map.
+module _ (f : Form) (r c : List ℕ) (O : OpensIn f r c) where
+  own_form : form_of (restored (form_of c) c) ≡ form_of c
+  own_form = elim O.reopens.again [ inl shut ↦ ap form_of (read_as_it_is (form_of c) c shut) | inr mild ↦ form_kept c (restored (form_of c) c) mild.header ]
+
+  pub restored_accepted : AcceptWith f (restored f c) []
+  restored_accepted =
+      subst (λ g. AcceptWith f (restored g c) []) O.form
+      (subst (λ g. AcceptWith g (restored (form_of c) c) []) (own_form ∙ O.form) O.reopens.opens.opens.accepted)
+
+  pub restored_opens : Reopens (restored f c) c
+  restored_opens = reopens_itself f c O.reopens.opens.opens O.reopens.again O.form
+
+-- what stands for an image has its map
+stands_map : (b x : List ℕ) → StandsFor b x → (key : List ℕ) → own_map x key ≡ own_map b key
+stands_map b x S key =
+    let same : image_map (form_of b) x ≡ image_map (form_of b) b = ap from_entries S.same_order in
+    ap (λ g. map_of g x key) (form_kept b x S.header) ∙ sym (image_answers (form_of b) x key) ∙ ap (λ (m : Map). get m key) same ∙ image_answers (form_of b) b key
+
+-- so what opens as the transaction's image opens to the map of that
+opens_as : (b c : List ℕ) → OpensAs b c → Reopens b c
+opens_as b c O = record {
+  opens = record { opens = O.opens.opens.opens; holds = λ key. O.opens.opens.holds key ∙ stands_map b O.image O.stands key };
+  again = O.opens.again;
+  sequence = O.opens.sequence ∙ O.stands.number;
+}
+
+-- what is written within a plan leaves the header
+within_form : (p : Scheme) (a b d : List ℕ) → Accept a → Accept b → IsPlanned p a b → Within p (with_gate GATE_OPEN p a) d → form_of d ≡ form_of a
+within_form p a b d A B h W = form_kept a d header
+  where
+    header : SameHeader a d
+    header i front =
+        let low : i < 64 = elim front [ inl lt ↦ omega (arith, lt) | inr le ↦ omega (arith, le) ] in
+        W.others i (omega (arith, low, h.old_above)) ((plan_lies p a b A h).front i (elim front [ inl lt ↦ inl (omega (arith, lt)) | inr le ↦ inr (omega (arith, le)) ]))
+        ∙ word_beside p.order a p.gate GATE_OPEN i (inl (omega (arith, low, h.gate, (area_within p a b A h).1)))
+
+-- The states of a commit: an image of the file has the form of what is written, and opens to the map of what was there.
+open_in : (plan : Plan) (x y c : List ℕ) → Brings plan x y → Within (scheme_of plan) (opened plan x) c → OpensIn (form_of y) x c
+open_in plan x y c brings W = record {
+  form = within_form (scheme_of plan) x y c brings.before brings.after brings.planned W ∙ sym (form_kept x y brings.planned.header);
+  reopens = (fills_of plan x y brings).undoes c W;
+}
+
+planned_in : (plan : Plan) (h : History) (x y : List ℕ) → IsPlannedOn plan h x y → OpensIn (form_of y) x (seen h)
+planned_in plan h x y S = record { form = sym (form_kept (seen h) y S.awaits.header); reopens = stays_reopens x (seen h) S.stays S.sequence }
+
+filled_in : (plan : Plan) (h : History) (x y : List ℕ) → IsFilled plan h x y → OpensIn (form_of y) x (seen h)
+filled_in plan h x y S = record { form = ap form_of S.file ∙ sym (form_kept x y S.brings.planned.header); reopens = subst (Reopens x) (sym S.file) (exact_reopens x S.brings.before) }
+
+prepared_in : (plan : Plan) (h : History) (x y : List ℕ) → IsPrepared plan h x y → OpensIn (form_of y) x (seen h)
+prepared_in plan h x y S = open_in plan x y (seen h) S.brings (subst (Within (scheme_of plan) (opened plan x)) (sym S.file) (within_itself (scheme_of plan) (opened plan x)))
+
+applied_in : (plan : Plan) (h : History) (x y : List ℕ) → IsApplied plan h x y → OpensIn (form_of y) x (seen h)
+applied_in plan h x y S = open_in plan x y (seen h) S.brings (S.within (seen h) (leaves_seen h))
+
+settled_in : (plan : Plan) (h : History) (x y : List ℕ) → IsSettled plan h x y → OpensIn (form_of y) x (seen h)
+settled_in plan h x y S = open_in plan x y (seen h) S.brings S.within
+
+-- so each of them opens to the map of the file before the commit
+module _ (f : Form) (h : History) (r b : List ℕ) (form : form_of r ≡ f) where
+  carried_in : (State : History → List ℕ → List ℕ → Type 0) → Carries State h r b → ((x y : List ℕ) → State h x y → OpensIn (form_of y) x (seen h)) → OpensIn f r (seen h)
+  carried_in State C state =
+      let S = state C.before C.after C.state in
+      record { form = S.form ∙ form_kept b C.after C.stands.header ∙ form_kept r b C.header ∙ form; reopens = C.reopens (seen h) S.reopens }
+
+  rest_in : RestsAt h r → OpensIn f r (seen h)
+  rest_in R = record { form = R.accepted.form ∙ form; reopens = R.opens }
+
+  prepare_in : (s : PrepareStage) → KnowsStage s h r b → OpensIn f r (seen h)
+  prepare_in Prepares.Unchanged K = rest_in K
+  prepare_in (Prepares.Begun txn) K = rest_in (ready_rests txn h r b K)
+  prepare_in (Prepares.Records txn) K = rest_in (ready_rests txn h r b K)
+  prepare_in (Prepares.Locked txn) K = rest_in (ready_rests txn h r b K)
+  prepare_in (Prepares.Planned state) K = carried_in (IsPlannedOn (planned_plan state)) K (planned_in (planned_plan state) h)
+  prepare_in (Prepares.Filled state) K = carried_in (IsFilled (filled_plan state)) K (filled_in (filled_plan state) h)
+
+  finish_in : (s : Finishing) → KnowsFinish s h r b → (3 ≤ finish_steps s → r ≡ b) → OpensIn f r (seen h)
+  finish_in (Finishes.Open state) K late = carried_in (IsPrepared (prepared_plan state)) K (prepared_in (prepared_plan state) h)
+  finish_in (Finishes.Applied state) K late = carried_in (IsApplied (applied_plan state)) K (applied_in (applied_plan state) h)
+  finish_in (Finishes.Settled state) K late = carried_in (IsSettled (settled_plan state)) K (settled_in (settled_plan state) h)
+  finish_in Finishes.Shut K late =
+      let same : r ≡ b = late (omega arith) in
+      record { form = K.accepted.form ∙ ap form_of (sym same) ∙ form; reopens = subst (λ i. Reopens i (seen h)) (sym same) (opens_as b (seen h) K.opens) }
+
+  commit_in : (c : Committing) → KnowsCommit c h r b → (8 ≤ commit_steps c → r ≡ b) → OpensIn f r (seen h)
+  commit_in (Commits.Preparing p) K late = prepare_in p.stage K
+  commit_in (Commits.Finishing s) K late = finish_in s K (λ few. late (omega (arith, few)))
+
+-- At each stage at which the opener has all records the file opens so. Before that others may have a record in hand.
+stage_in : (f : Form) (stage : Stage) (h : History) (k : Known) → is_some (stage_records stage) ≡ true → AcceptWith f k.file [] → KnowsFile f stage h k → OpensIn f k.file (seen h)
+stage_in f (At.Starting s) h k has A K =
+    record { form = ap form_of K.at ∙ A.form; reopens = subst (Reopens k.file) (sym K.at) (exact_reopens k.file (subst (λ g. AcceptWith g k.file []) (sym A.form) A)) }
+stage_in f (At.Open txn command) h k has A K = rest_in f h k.file k.image K.forms.0 (ready_rests txn.own.txn h k.file k.image K.at.0)
+stage_in f (At.Committing c) h k has A K = commit_in f h k.file k.image K.forms.0 c K.at.0 K.at.1
+stage_in f (At.Preparing p) h k has A K = prepare_in f h k.file k.image K.forms.0 p.stage K.at
+stage_in f (At.Prepared (Opened state) command) h k has A K = carried_in f h k.file k.image K.forms.0 (IsPrepared (prepared_plan state)) K.at (prepared_in (prepared_plan state) h)
+stage_in f (At.Prepared (Nothing changed) command) h k has A K = rest_in f h k.file k.image K.forms.0 K.at.0
+stage_in f (At.Finishing s) h k has A K = finish_in f h k.file k.image K.forms.0 s K.at.0 K.at.1
+
+-- who may die has all records
+pub dying_records : (stage : Stage) → MayDie (stage_task stage) → is_some (stage_records stage) ≡ true
+dying_records (At.Starting s) may = absurd may
+dying_records (At.Open txn command) may = refl
+dying_records (At.Committing c) may = refl
+dying_records (At.Preparing p) may = refl
+dying_records (At.Prepared left command) may = refl
+dying_records (At.Finishing s) may = refl
+
+-- Where the one aside has all records the file opens to the map of the side's image.
+module _ (w : Whole) (holder : HolderState) (h : History) (img : List ℕ) (past : Past) (s : Side) (A : IsAside w holder h img past s) (has : is_some (stage_records holder.stage) ≡ true) where
+  pub aside_opens : OpensIn (form_at w) img (seen h)
+  aside_opens =
+      subst (λ i. OpensIn (form_at w) i (seen h)) (sym A.image)
+      (stage_in (form_at w) holder.stage h A.known has (subst (λ i. AcceptWith (form_at w) i []) A.image (A.accepted has)) A.file)
+
+  pub aside_reopens : Reopens img (seen h)
+  aside_reopens = aside_opens.reopens
+
+-- At each stage the file is read as the image that is known of it.
+starts_reading : (s : Starting) → writes_all (start_records s) ≡ false
+starts_reading Starts.Begun = refl
+starts_reading Starts.Claimed = refl
+starts_reading Starts.Reading = refl
+
+shut_reads : (f : Form) (h : History) (img : List ℕ) → img ≡ seen h → Shut f img → IsReadFrom f h img
+shut_reads f h img is shut =
+    let same : restored f (seen h) ≡ img = ap (restored f) (sym is) ∙ read_as_it_is f img shut in
+    record { map = ap (image_map f) same; number = ap (number_of f) same }
+
+stage_reads : (f : Form) (stage : Stage) (h : History) (k : Known) → (writes_all (stage_records stage) ≡ false → Shut f k.file) → KnowsFile f stage h k → IsReadFrom f h k.file
+stage_reads f (At.Starting s) h k shut K = shut_reads f h k.file (sym K.at) (shut (starts_reading s))
+stage_reads f (At.Open txn command) h k shut K = rest_reads f h k.file K.forms.0 (ready_rests txn.own.txn h k.file k.image K.at.0)
+stage_reads f (At.Committing c) h k shut K = elim (cases_lt (commit_steps c) 8) [
+  | inl few ↦ commit_reads f c h k.file k.image K.forms.0 few K.at.0
+  | inr late ↦ subst (IsReadFrom f h) (sym (K.at.1 late)) (shut_commit_reads f c h k.file k.image K.forms.1 late K.at.0)
+]
+stage_reads f (At.Preparing p) h k shut K = prepare_reads f p.stage h k.file k.image K.forms.0 K.at
+stage_reads f (At.Prepared (Opened state) command) h k shut K = prepared_reads f (prepared_plan state) h k.file k.image K.forms.0 K.at
+stage_reads f (At.Prepared (Nothing changed) command) h k shut K = rest_reads f h k.file K.forms.0 K.at.0
+stage_reads f (At.Finishing s) h k shut K = elim (cases_lt (finish_steps s) 3) [
+  | inl few ↦ finish_reads f s h k.file k.image K.forms.0 few K.at.0
+  | inr late ↦ subst (IsReadFrom f h) (sym (K.at.1 late)) (shut_finish_reads f s h k.file k.image K.forms.1 late K.at.0)
+]
+
+pub aside_reads : (w : Whole) (holder : HolderState) (h : History) (img : List ℕ) (past : Past) (s : Side) → IsAside w holder h img past s → IsReadFrom (form_at w) h img
+aside_reads w holder h img past s A =
+    subst (IsReadFrom (form_at w) h) (sym A.image)
+    (stage_reads (form_at w) holder.stage h A.known (λ e. subst (Shut (form_at w)) A.image (A.others e).bytes.accepted.shut) A.file)
+
+-- So it is read as each state says.
+side_reads : (w : Whole) (holder : Option HolderState) (h : History) (img : List ℕ) (past : Past) (side : Option Side) → SideIs w holder h img past side → IsReadAs (form_at w) (seen h) (state_with w img past side)
+side_reads w None h img past None S = let R = shut_reads (form_at w) h img S.image S.bytes.accepted.shut in record { file = sym R.map; number = sym R.number }
+side_reads w None h img past (Some s) S = absurd S
+side_reads w (Some holder) h img past None A = absurd A
+side_reads w (Some holder) h img past (Some s) A = let R = aside_reads w holder h img past s A in record { file = sym R.map; number = sym R.number }
+
+pub state_reopens : StatesAreRead
+state_reopens w h state (of_whole S) = subst (IsReadAs (form_at w) (seen h)) (sym S.is) (side_reads w w.aside h S.image S.past S.side S.is_side)
+state_reopens w h state (of_stale S) =
+    subst (IsReadAs (form_at w) (seen h)) (sym S.is) (record { file = ap (image_map (form_at w)) S.undone; number = ap (number_of (form_at w)) S.undone })
