@@ -1,5 +1,4 @@
--- The words of a script, by tables: one row for each word. They are those of the commands and plays that a world serves
--- (`tdb_world`): none of transactions.
+-- The words of a script, by tables: one row for each word.
 use Rattle.std.specs.Prelude.{ℕ, List, [], ◌∷◌, codes, Option, Some, None, if◌then◌else◌}
 use Rattle.std.specs.Str.{bytes_eq}
 use Rattle.tdb_steps.specs.declared.flag.Flag.{Flag}
@@ -27,6 +26,15 @@ holding_commands =
     ∷ (codes "unlockall", Command.UnlockAll)
     ∷ walking_commands
 
+-- and those of transactions
+abbrev pub group_commands : List (List ℕ × Command)
+group_commands =
+    (codes "start", Command.Start)
+    ∷ (codes "commit", Command.Commit)
+    ∷ (codes "prepare", Command.Prepare)
+    ∷ (codes "cancel", Command.Cancel)
+    ∷ holding_commands
+
 -- all commands of one word
 abbrev pub bare_commands : List (List ℕ × Command)
 bare_commands =
@@ -34,7 +42,7 @@ bare_commands =
     ∷ (codes "check", Command.Check)
     ∷ (codes "seqnum", Command.Seqnum)
     ∷ (codes "close", Command.Close)
-    ∷ holding_commands
+    ∷ group_commands
 
 -- commands on a key
 abbrev pub key_commands : List ℕ → List (List ℕ × Command)

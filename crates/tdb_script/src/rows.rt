@@ -1,7 +1,7 @@
 // The words of a script: one arm for each.
 
 ghost use Rattle.std.specs.Prelude.{◌≡◌};
-ghost use Rattle.tdb_script.specs.Rows.{row_of, walking_commands, holding_commands, bare_commands, key_commands, value_commands, bare_plays, opener_plays, command_plays};
+ghost use Rattle.tdb_script.specs.Rows.{row_of, walking_commands, holding_commands, group_commands, bare_commands, key_commands, value_commands, bare_plays, opener_plays, command_plays};
 
 use crate::text::text_of;
 use tdb_plays::{Command, Play};
@@ -32,6 +32,19 @@ fn holding_named(text: &str) -> Option<Command>
     }
 }
 
+/// The command of transactions, on all records, or on the opener's cursor, that is this one word.
+fn group_named(text: &str) -> Option<Command>
+    ensures { result ≡ row_of group_commands text.now }
+{
+    match text {
+        "start" => Some(Command::Start),
+        "commit" => Some(Command::Commit),
+        "prepare" => Some(Command::Prepare),
+        "cancel" => Some(Command::Cancel),
+        _ => holding_named(text),
+    }
+}
+
 /// The command that is this one word.
 fn bare_named(text: &str) -> Option<Command>
     ensures { result ≡ row_of bare_commands text.now }
@@ -41,7 +54,7 @@ fn bare_named(text: &str) -> Option<Command>
         "check" => Some(Command::Check),
         "seqnum" => Some(Command::Seqnum),
         "close" => Some(Command::Close),
-        _ => holding_named(text),
+        _ => group_named(text),
     }
 }
 

@@ -23,6 +23,10 @@ fn scripts_are_read(rt: HostRuntime) -> Result<(), Fail> {
         (b"turn 1\ndie 7\ngo 999999999\n".as_slice(), 3),
         (b"do 1 fetch \"\"\ndo 1 seqnum".as_slice(), 2),
         (b"give 1 append \\00 \\fF\n".as_slice(), 1),
+        (b"do 1 start\n".as_slice(), 1),
+        (b"do 1 commit\n".as_slice(), 1),
+        (b"give 1 prepare\n".as_slice(), 1),
+        (b"do 1 cancel".as_slice(), 1),
     ];
     for (text, count) in rows {
         assert_eq!(rt; count_of(rt.alloc(), text), Ok(count));
@@ -44,7 +48,7 @@ fn bad_places(rt: HostRuntime) -> Result<(), Fail> {
         (b"give 1".as_slice(), 0),
         (b"do 1 store a b c".as_slice(), 0),
         (b"open\r\n".as_slice(), 0),
-        (b"open\ndo 1 start".as_slice(), 5),
+        (b"open\ndo 1 start a".as_slice(), 5),
         (b"do 1 first a".as_slice(), 0),
         (b"die".as_slice(), 0),
     ];

@@ -10,4 +10,4 @@ returns-in_default c =
     skip_row (codes "check") c.args.text.now Command.Check c.in_default.not-check (
     skip_row (codes "seqnum") c.args.text.now Command.Seqnum c.in_default.not-seqnum (
     skip_row (codes "close") c.args.text.now Command.Close c.in_default.not-close (
-    c.holding_named.ensures))))
+    c.group_named.ensures))))
