@@ -9,10 +9,10 @@ use Rattle.tdb_law.specs.Plays.{Play as LawPlay, Course}
 use Rattle.tdb_law.specs.World.{State}
 use Rattle.tdb_plays.specs.declared.line.Line.{Line}
 use Rattle.tdb_world.specs.Played.{ComesTo, FirstBegun, begun_not}
-use Rattle.tdb_world.specs.Worlds.{state_in, Stands}
+use Rattle.tdb_whole.specs.Whole.{form_at}
 use Rattle.tdb_tool.specs.declared.fault.SessionFault.{SessionFault}
 use Rattle.tdb_tool.specs.declared.fault.SessionFault.TheVariants as F
-use Rattle.tdb_tool.specs.Serving.{UnlessBroken, OnBroken, Deed, TellsAll, TellsFront, RunsTo, Scene, Led}
+use Rattle.tdb_tool.specs.Serving.{UnlessBroken, OnBroken, Deed, TellsAll, TellsFront, LeavesAll, LeavesFront, RunsTo, Scene, IsStateAt, FitsAt, Led}
 use Rattle.tdb_tool.proofs.Telling.{front_all, front_after}
 
 -- a course that goes on in another one
@@ -102,21 +102,38 @@ module _ (f : Form) (told : Bool) where
   pub all_is_front : (deed : Deed) (old new : State) (before now : List ℕ) → TellsAll deed f old new told before now → TellsFront deed f old new told before now
   all_is_front deed old new before now p = (p.0, p.1, p.2, λ heard. front_all before p.1 now (p.3 heard))
 
-  -- what was done behind something else, as far as it came
-  runs_after : (first whole part both half : Deed) → Follows first whole both → Follows first part half → (old mid new : State) (before between now : List ℕ) (answer : Option SessionFault)
-      → TellsAll first f old mid told before between → RunsTo whole part f mid new told between now answer → RunsTo both half f old new told before now answer
-  runs_after first whole part both half all some old mid new before between now None p q = all_then_all first whole both all old mid new before between now p q
-  runs_after first whole part both half all some old mid new before between now (Some F.Input) p q = all_then_all first whole both all old mid new before between now p q
-  runs_after first whole part both half all some old mid new before between now (Some F.Output) p q = all_then_front first part half some old mid new before between now p q
-  runs_after first whole part both half all some old mid new before between now (Some F.Device) p q = (q.0, all_then_front first part half some old mid q.0 before between now p q.1)
-  runs_after first whole part both half all some old mid new before between now (Some F.Memory) p q = all_then_front first part half some old mid new before between now p q
+  -- and so what leaves a state that may be left
+  module _ (IsLeft : State → Type 0) where
+    left_as : (one two : Deed) → IsToo one two → (old : State) (before now : List ℕ) → LeavesAll one f old IsLeft told before now → LeavesAll two f old IsLeft told before now
+    left_as one two too old before now p = (p.0, p.1, all_as one two too old p.0 before now p.2)
 
-  runs_as : (whole part all some : Deed) → IsToo whole all → IsToo part some → (old new : State) (before now : List ℕ) (answer : Option SessionFault) → RunsTo whole part f old new told before now answer → RunsTo all some f old new told before now answer
-  runs_as whole part all some w p old new before now None q = all_as whole all w old new before now q
-  runs_as whole part all some w p old new before now (Some F.Input) q = all_as whole all w old new before now q
-  runs_as whole part all some w p old new before now (Some F.Output) q = front_as part some p old new before now q
-  runs_as whole part all some w p old new before now (Some F.Device) q = (q.0, front_as part some p old q.0 before now q.1)
-  runs_as whole part all some w p old new before now (Some F.Memory) q = front_as part some p old new before now q
+    pub left_front_as : (one two : Deed) → IsToo one two → (old : State) (before now : List ℕ) → LeavesFront one f old IsLeft told before now → LeavesFront two f old IsLeft told before now
+    left_front_as one two too old before now p = (p.0, p.1, front_as one two too old p.0 before now p.2)
+
+    pub left_front : (deed : Deed) (old : State) (before now : List ℕ) → LeavesAll deed f old IsLeft told before now → LeavesFront deed f old IsLeft told before now
+    left_front deed old before now p = (p.0, p.1, all_is_front deed old p.0 before now p.2)
+
+    left_on : (first next both : Deed) → Follows first next both → (old mid : State) (before between now : List ℕ) → TellsAll first f old mid told before between → LeavesAll next f mid IsLeft told between now → LeavesAll both f old IsLeft told before now
+    left_on first next both follows old mid before between now p q = (q.0, q.1, all_then_all first next both follows old mid q.0 before between now p q.2)
+
+    left_front_on : (first next both : Deed) → Follows first next both → (old mid : State) (before between now : List ℕ) → TellsAll first f old mid told before between → LeavesFront next f mid IsLeft told between now → LeavesFront both f old IsLeft told before now
+    left_front_on first next both follows old mid before between now p q = (q.0, q.1, all_then_front first next both follows old mid q.0 before between now p q.2)
+
+    -- what was done behind something else, as far as it came
+    runs_after : (first whole part both half : Deed) → Follows first whole both → Follows first part half → (old mid : State) (before between now : List ℕ) (answer : Option SessionFault)
+        → TellsAll first f old mid told before between → RunsTo whole part f mid IsLeft told between now answer → RunsTo both half f old IsLeft told before now answer
+    runs_after first whole part both half all some old mid before between now None p q = left_on first whole both all old mid before between now p q
+    runs_after first whole part both half all some old mid before between now (Some F.Input) p q = left_on first whole both all old mid before between now p q
+    runs_after first whole part both half all some old mid before between now (Some F.Output) p q = left_front_on first part half some old mid before between now p q
+    runs_after first whole part both half all some old mid before between now (Some F.Device) p q = (q.0, all_then_front first part half some old mid q.0 before between now p q.1)
+    runs_after first whole part both half all some old mid before between now (Some F.Memory) p q = left_front_on first part half some old mid before between now p q
+
+    runs_as : (whole part all some : Deed) → IsToo whole all → IsToo part some → (old : State) (before now : List ℕ) (answer : Option SessionFault) → RunsTo whole part f old IsLeft told before now answer → RunsTo all some f old IsLeft told before now answer
+    runs_as whole part all some w p old before now None q = left_as whole all w old before now q
+    runs_as whole part all some w p old before now (Some F.Input) q = left_as whole all w old before now q
+    runs_as whole part all some w p old before now (Some F.Output) q = left_front_as part some p old before now q
+    runs_as whole part all some w p old before now (Some F.Device) q = (q.0, front_as part some p old q.0 before now q.1)
+    runs_as whole part all some w p old before now (Some F.Memory) q = left_front_as part some p old before now q
 
 -- what holds unless the disk failed is weakened, or moved
 pub unless_map : {A B : Type 0} (answer : Option SessionFault) → (A → B) → UnlessBroken answer A → UnlessBroken answer B
@@ -135,16 +152,15 @@ on_map (Some F.Memory) h a = tt
 
 module _ (disk_tells told : Bool) where
   -- nothing was done, which is something
-  pub led_nowhere : (whole part : Deed) (start : Scene) → ((f : Form) (old : State) → whole f old [] [] old) → Stands start.world start.image start.size → Led disk_tells told whole part start start None
-  led_nowhere whole part start nothing stands = record {
+  pub led_nowhere : (whole part : Deed) (start : Scene) → ((f : Form) (old : State) → whole f old [] [] old) → FitsAt start → Led disk_tells told whole part start start None
+  led_nowhere whole part start nothing fits = record {
     header = refl;
     options = refl;
-    stands = stands;
+    fits = fits;
     rises = omega arith;
     quiet = refl;
-    bytes = λ heard known. known;
-    runs = λ heard known. ([], [], nothing (form_in start.world.header) (state_in start.world start.image), λ out. sym (append-nil start.written));
-    rose = λ heard known. tt;
+    runs = λ heard state is. (state, is, ([], [], nothing (form_at start.world) state, λ out. sym (append-nil start.written)));
+    rose = λ heard state is. tt;
   }
 
   -- the whole was done, and then the input failed, or memory was wanting
@@ -152,26 +168,24 @@ module _ (disk_tells told : Bool) where
   led_input whole part start new led = record {
     header = led.header;
     options = led.options;
-    stands = led.stands;
+    fits = led.fits;
     rises = led.rises;
     quiet = led.quiet;
-    bytes = led.bytes;
     runs = led.runs;
-    rose = λ heard known. tt;
+    rose = λ heard state is. tt;
   }
 
   pub led_memory : (whole part : Deed) → IsToo whole part → (start new : Scene) → Led disk_tells told whole part start new None → Led disk_tells told whole part start new (Some F.Memory)
   led_memory whole part too start new led = record {
     header = led.header;
     options = led.options;
-    stands = led.stands;
+    fits = led.fits;
     rises = led.rises;
     quiet = led.quiet;
-    bytes = led.bytes;
-    runs = λ heard known.
-        front_as (form_in start.world.header) told whole part too (state_in start.world start.image) (state_in new.world new.image) start.written new.written
-        (all_is_front (form_in start.world.header) told whole (state_in start.world start.image) (state_in new.world new.image) start.written new.written (led.runs heard known));
-    rose = λ heard known. tt;
+    runs = λ heard state is.
+        left_front_as (form_at start.world) told (IsStateAt new) whole part too state start.written new.written
+        (left_front (form_at start.world) told (IsStateAt new) whole state start.written new.written (led.runs heard state is));
+    rose = λ heard state is. tt;
   }
 
   -- what was done is something else too
@@ -179,11 +193,10 @@ module _ (disk_tells told : Bool) where
   led_as whole part all some w p start new answer led = record {
     header = led.header;
     options = led.options;
-    stands = led.stands;
+    fits = led.fits;
     rises = led.rises;
     quiet = led.quiet;
-    bytes = led.bytes;
-    runs = λ heard known. runs_as (form_in start.world.header) told whole part all some w p (state_in start.world start.image) (state_in new.world new.image) start.written new.written answer (led.runs heard known);
+    runs = λ heard state is. runs_as (form_at start.world) told (IsStateAt new) whole part all some w p state start.written new.written answer (led.runs heard state is);
     rose = led.rose;
   }
 
@@ -192,37 +205,35 @@ module _ (disk_tells told : Bool) where
   led_but_input whole other part start new fault but led = record {
     header = led.header;
     options = led.options;
-    stands = led.stands;
+    fits = led.fits;
     rises = led.rises;
     quiet = led.quiet;
-    bytes = led.bytes;
-    runs = λ heard known. of fault but (led.runs heard known);
+    runs = λ heard state is. of state fault but (led.runs heard state is);
     rose = led.rose;
   }
     where
-      of : (fault : SessionFault) → (fault ≡ F.Input → ⊥)
-          → RunsTo whole part (form_in start.world.header) (state_in start.world start.image) (state_in new.world new.image) told start.written new.written (Some fault)
-          → RunsTo other part (form_in start.world.header) (state_in start.world start.image) (state_in new.world new.image) told start.written new.written (Some fault)
-      of F.Input but runs = absurd (but refl)
-      of F.Output but runs = runs
-      of F.Device but runs = runs
-      of F.Memory but runs = runs
+      of : (state : State) (fault : SessionFault) → (fault ≡ F.Input → ⊥) → RunsTo whole part (form_at start.world) state (IsStateAt new) told start.written new.written (Some fault)
+          → RunsTo other part (form_at start.world) state (IsStateAt new) told start.written new.written (Some fault)
+      of state F.Input but runs = absurd (but refl)
+      of state F.Output but runs = runs
+      of state F.Device but runs = runs
+      of state F.Memory but runs = runs
 
   -- something was done, and then something else
   module _ (first begun whole part both half : Deed) (all : Follows first whole both) (some : Follows first part half) (start mid new : Scene) (before : Led disk_tells told first begun start mid None) where
-    same_form : form_in mid.world.header ≡ form_in start.world.header
+    same_form : form_at mid.world ≡ form_at start.world
     same_form = ap form_in before.header
 
     pub led_on : (answer : Option SessionFault) → Led disk_tells told whole part mid new answer → Led disk_tells told both half start new answer
     led_on answer next = record {
-      header = next.header ∙ before.header;
-      options = next.options ∙ before.options;
-      stands = next.stands;
+      header = unless_map answer (λ same. same ∙ before.header) next.header;
+      options = unless_map answer (λ same. same ∙ before.options) next.options;
+      fits = next.fits;
       rises = (let one = before.rises in let two = next.rises in omega (arith, one, two));
       quiet = unless_map answer (λ same. same ∙ before.quiet) next.quiet;
-      bytes = λ heard known. next.bytes heard (before.bytes heard known);
-      runs = λ heard known.
-          runs_after (form_in start.world.header) told first whole part both half all some (state_in start.world start.image) (state_in mid.world mid.image) (state_in new.world new.image) start.written mid.written new.written answer
-          (before.runs heard known) (subst (λ f. RunsTo whole part f (state_in mid.world mid.image) (state_in new.world new.image) told mid.written new.written answer) same_form (next.runs heard (before.bytes heard known)));
-      rose = λ heard known. on_map answer (λ rose. subst (λ n. Rose n new.faults) before.quiet rose) (next.rose heard (before.bytes heard known));
+      runs = λ heard state is.
+          (let r = before.runs heard state is in
+          runs_after (form_at start.world) told (IsStateAt new) first whole part both half all some state r.0 start.written mid.written new.written answer r.2
+          (subst (λ f. RunsTo whole part f r.0 (IsStateAt new) told mid.written new.written answer) same_form (next.runs heard r.0 r.1)));
+      rose = λ heard state is. (let r = before.runs heard state is in on_map answer (λ rose. subst (λ n. Rose n new.faults) before.quiet rose) (next.rose heard r.0 r.1));
     }

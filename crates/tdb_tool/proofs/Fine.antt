@@ -53,15 +53,15 @@ module _ (n : ℕ) (few : n < 2 ^ 32) where
 
   order_fine : (words : List (List ℕ)) (order : Order) → NoLonger n words → IsOrder words order → IsServedOrder order
   order_fine [] order l p = absurd p
-  order_fine (name ∷ []) order l p = of_row IsServedOrder bare_orders name order ((tt, tt), ((tt, tt), ((tt, tt), ((tt, tt), (tt, (tt, (tt, (tt, tt)))))))) p
+  order_fine (name ∷ []) order l p = of_row IsServedOrder bare_orders name order (tt, (tt, (tt, (tt, (tt, (tt, (tt, (tt, (tt, (tt, (tt, tt))))))))))) p
   order_fine (name ∷ word ∷ []) order l p =
       let k = short false word p.0 l.1.0 p.1 in
-      of_row IsServedOrder (key_orders p.0) name order ((tt, k), ((tt, k), tt)) p.2
+      of_row IsServedOrder (key_orders p.0) name order (k, (k, tt)) p.2
   order_fine (name ∷ word ∷ more ∷ []) order l p =
       let hex = bytes_eq name storehex in
       let k = short hex word p.0 l.1.0 p.2 in
       let v = short hex more p.1 l.1.1.0 p.3 in
-      of_row IsServedOrder (value_orders p.0 p.1) name order ((tt, (k, v)), ((tt, (k, v)), ((tt, (k, v)), tt))) p.4
+      of_row IsServedOrder (value_orders p.0 p.1) name order ((k, v), ((k, v), ((k, v), tt))) p.4
   order_fine (name ∷ word ∷ more ∷ other ∷ words) order l p = absurd p
 
 pub said_fine : (at : ℕ) (line : List ℕ) (order : Order) → Says at line (Some order) → IsServedOrder order

@@ -7,6 +7,7 @@ pub mod Plays
 pub mod Moves
 pub mod FewPairs
 pub mod WalkEnds
+pub mod Sights
 pub mod Lists
 pub mod PartsRan
 pub mod Sessions

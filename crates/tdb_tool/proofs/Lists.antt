@@ -1,13 +1,12 @@
 -- Lists of pairs, move by move.
-use Rattle.std.proofs.Common.{◌≡◌, ℕ, zero, suc, ◌+◌, ◌≤◌, Bool, true, false, List, [], ◌∷◌, ◌++◌, length, Option, None, Some, Result, Ok, Err, refl, sym, ◌∙◌, ap, subst, inr, add-one, arith}
-use Rattle.std.specs.Prelude.{IsTrue, ◌||◌, slice_get}
+use Rattle.std.proofs.Common.{◌≡◌, ℕ, zero, suc, ◌+◌, ◌-◌, ◌≤◌, Bool, true, false, List, [], ◌∷◌, ◌++◌, length, None, Some, Result, Ok, Err, refl, sym, ◌∙◌, ap, subst, inr, add-one, arith}
+use Rattle.std.specs.Prelude.{IsTrue, ◌||◌}
 use Rattle.std.specs.List.{list_any}
 use Rattle.std.proofs.lemmas.List.{map-append}
 use Rattle.std.proofs.lemmas.Grind.{flat_map-append}
+use Rattle.tdb_disk.specs.History.{seen}
 use Rattle.tdb_dump.specs.declared.listing.Listing.{Listing}
 use Rattle.tdb_law.specs.Commands.Command.{OnWalk}
-use Rattle.tdb_law.specs.Images.{image_map}
-use Rattle.tdb_law.specs.Openers.{image_or}
 use Rattle.tdb_law.specs.Plays.{Play as LawPlay, Gives}
 use Rattle.tdb_law.specs.World.{State}
 use Rattle.tdb_locks.specs.declared.turn.Reply.{Reply}
@@ -15,21 +14,19 @@ use Rattle.tdb_locks.specs.declared.turn.Turn.{Turn}
 use Rattle.tdb_plays.specs.InLaw.{law_turn, law_line, law_lines, law_play}
 use Rattle.tdb_plays.specs.declared.line.Line.{Line}
 use Rattle.tdb_plays.specs.declared.play.Play.{Play}
-use Rattle.tdb_space.specs.Form.{Form, form_in}
-use Rattle.tdb_world.specs.Openers.{own_at}
-use Rattle.tdb_world.specs.Worlds.{World, state_in, BytesStand}
-use Rattle.tdb_world.specs.declared.opener.Opener.{Opener}
-use Rattle.tdb_plays.specs.declared.options.Options.{Options}
+use Rattle.tdb_space.specs.Form.{Form}
+use Rattle.tdb_whole.specs.Whole.{form_at}
 use Rattle.tdb_tool.specs.declared.limits.TheConstants.{MOST_MOVES}
 use Rattle.tdb_tool.specs.declared.fault.SessionFault.{SessionFault}
 use Rattle.tdb_tool.specs.declared.fault.SessionFault.TheVariants as F
 use Rattle.tdb_tool.specs.Parts.{Listed, move, Going, AllDone, AllCame}
 use Rattle.tdb_tool.specs.Replies.{ends_with_pair, tells_pair, tell_pair, line_text, lines_text}
-use Rattle.tdb_tool.specs.Serving.{fault_of, Deed, Scene, Led, Ran, PlayDone, PlayBegun, Played}
+use Rattle.tdb_tool.specs.Serving.{fault_of, Deed, Scene, IsStateAt, FitsAt, Led, Ran, PlayDone, PlayBegun, Played}
 use Rattle.tdb_tool.proofs.Coming.{Follows, led_on, led_but_input}
-use Rattle.tdb_tool.proofs.WalkEnds.{move_at, Moved as LawMoved, moves_fit}
-use Rattle.tdb_tool.proofs.Moves.{ends_pair, shows, sight}
+use Rattle.tdb_tool.proofs.WalkEnds.{move_at, Moved as LawMoved, first_moves, moves_fit}
+use Rattle.tdb_tool.proofs.Moves.{ends_pair, shows}
 use Rattle.tdb_tool.proofs.PartLemmas.{one_done, one_begun}
+use Rattle.tdb_tool.proofs.Sights.{sees_within}
 
 -- so many moves of a list, each of which gave a pair, with their text
 abbrev pub Moved : Listing → ℕ → Deed
@@ -144,33 +141,32 @@ going_moved f listing (suc n) old new lines (mid, front, rest, cut, going, gives
     move_in zero gives = gives
     move_in (suc n) gives = gives
 
--- an opener of a world sees the map of the file's bytes
-no_txn : (options : Options) (o : Option Opener) → (own_at options o).txn ≡ None
-no_txn options None = refl
-no_txn options (Some x) = refl
-
-sees_file : (w : World) (img : List ℕ) → sight (form_in w.header) 0 (state_in w img) ≡ image_map (form_in w.header) img
-sees_file w img = ap (λ t. image_or t (image_map (form_in w.header) img)) (no_txn w.options (slice_get w.openers 0))
-
 -- so many moves can't all have given pairs over a file that isn't too long
-module _ (disk_tells told : Bool) (listing : Listing) (n : ℕ) (start now : Scene) (so_far : SoFar disk_tells told listing n start now) (many : MOST_MOVES ≤ n) (sized : IsTrue disk_tells → length start.image ≡ start.size) (short : start.size ≤ 4294963200) where
-  too_many : IsTrue disk_tells → BytesStand start.world start.image → ⊥
-  too_many heard known =
-      let p = so_far.runs heard known in
-      let f = form_in start.world.header in
-      let s = state_in start.world start.image in
-      let few = moves_fit f 0 n s (state_in now.world now.image) (law_lines p.0) start.image _ known.accepted (sees_file start.world start.image) (going_moved f listing n s (state_in now.world now.image) p.0 p.2.0) in
-      let size = sized heard in
-      omega (arith, few, short, size, many)
+module _ (disk_tells told : Bool) (listing : Listing) (n : ℕ) (start now : Scene) (so_far : SoFar disk_tells told listing n start now) (many : MOST_MOVES ≤ n) (fits : FitsAt start)
+    (sized : IsTrue disk_tells → length (seen start.history) ≡ start.size) where
+  too_many : IsTrue disk_tells → (state : State) → IsStateAt start state → ⊥
+  too_many heard state is =
+      let f = form_at start.world in
+      let p = so_far.runs heard state is in
+      let lines = law_lines p.2.0 in
+      let moved = going_moved f listing n state p.0 p.2.0 p.2.2.0 in
+      let some : suc (n - 1) ≡ n = omega (arith, many) in
+      let first = first_moves f 0 (n - 1) state p.0 lines (subst (λ m. LawMoved f 0 m state lines p.0) (sym some) moved) in
+      let short = fits.openers.short in
+      let limit = fits.openers.limit in
+      let size : length (seen start.history) ≤ 4294963200 = (let same = sized heard in omega (arith, same, short, limit)) in
+      let S = sees_within start.world start.history start.size 4294963200 fits size limit state is first.0 first.1 in
+      let few = moves_fit f 0 n state p.0 lines S.image S.hands S.accepted S.map moved in
+      let within = S.short in
+      omega (arith, few, within, many)
 
   pub list_full : Ran disk_tells told start now (Listed listing ∷ []) None
   list_full = record {
     header = so_far.header;
     options = so_far.options;
-    stands = so_far.stands;
+    fits = so_far.fits;
     rises = so_far.rises;
     quiet = so_far.quiet;
-    bytes = so_far.bytes;
-    runs = λ heard known. absurd (too_many heard known);
+    runs = λ heard state is. absurd (too_many heard state is);
     rose = so_far.rose;
   }

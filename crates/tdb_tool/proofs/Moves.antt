@@ -55,8 +55,9 @@ module _ (f : Form) (who : ℕ) where
   abbrev pub sight : State → Map
   sight w = seen (w.own who) w.file
 
-  -- something happened in which the opener's sight stays, and nothing comes ahead again
+  -- something happened in which the opener and its sight stay, and nothing comes ahead again
   record Stays (old new : State) : Type 0 where
+    own : new.own who ≡ old.own who
     sees : sight new ≡ sight old
     passed : (k : List ℕ) → Passed old k → Passed new k
 
@@ -72,12 +73,13 @@ module _ (f : Form) (who : ℕ) where
 
   clears_stay : (old new : State) (lines : List Line) → Clears f old lines new → Stays old new × (new.task who ≡ old.task who) × (list_any shows lines ≡ false)
   clears_stay old new lines (clears_nothing live none same) = (
-    record { sees = ap sight same; passed = λ k p. subst (λ w. Passed w k) (sym same) p },
+    record { own = ap (λ w. w.own who) same; sees = ap sight same; passed = λ k p. subst (λ w. Passed w k) (sym same) p },
     ap (λ w. w.task who) same,
     ap (list_any shows) none,
   )
   clears_stay old new lines (clears_gate bytes to is undoes) = (
     record {
+      own = ap (λ w. w.own who) undoes.rest;
       sees = same_sight old new (ap (λ w. (w.own who).txn) undoes.rest) (ap (λ w. w.file) undoes.rest);
       passed = shift_passed _ old new (undoes.walk who);
     },
@@ -136,6 +138,18 @@ module _ (f : Form) (who : ℕ) where
       effect_txn (effect_numbers q is c t u same own) = ap (λ z. z.txn) own
       effect_txn (effect_finishes is c u same own) = ap (λ z. z.txn) own ∙ txn_stays (refusal f (OnWalk w) x) w move x n Done file
 
+      step_own : turn ≡ Step → Does → y ≡ x
+      step_own step (effect_waits o b is c u same own) = absurd (cc)
+      step_own step (effect_goes_on is c u same own) = own
+      step_own step (effect_changes is c l u v d same own) = own
+      step_own step (effect_answers r is c m t l u d same own) = absurd (cc)
+      step_own step (effect_shows r is c m t same own) = absurd (cc)
+      step_own step (effect_starves is s u same own) = absurd (cc)
+      step_own step (effect_is_full len need is c l t u d same own) = absurd (cc)
+      step_own step (effect_is_busy o b is c s same own) = absurd (cc)
+      step_own step (effect_numbers q is c t u same own) = absurd (cc)
+      step_own step (effect_finishes is c u same own) = absurd (cc)
+
       -- a pair is told by a move that has found it
       no_pair : (q : Option Refusal) (k v : List ℕ) → Pair k v ≡ told_by q (OnWalk w) x file → ⊥
       no_pair None k v is = of w is
@@ -176,6 +190,9 @@ module _ (f : Form) (who : ℕ) where
           let same = effect_file free conflict finds number n x y file next turn effect_here in
           ap (λ (q : Option Txn × Map). image_or q.0 q.1) (λ j. (txn j, same j))
 
+      own_here : turn ≡ Step → y ≡ x
+      own_here step = step_own free conflict finds number n x y file next turn step effect_here
+
       pair_here : (k v : List ℕ) → turn ≡ Ends (Pair k v) → finds (Pair k v) × (moves f (OnWalk w) x ≡ true)
       pair_here k v ends = effect_pair free conflict finds number n x y file next turn k v ends effect_here
 
@@ -192,8 +209,10 @@ module _ (f : Form) (who : ℕ) where
     arrives old new n k v moving (walk_halts o b is m g i M) = absurd (cc)
     arrives old new n k v moving (walk_fails is m) = absurd (cc)
 
-    -- A move came to a key of the opener's sight; a Next to one that the walk hadn't passed, and what it had passed it has passed still.
+    -- A move that wasn't refused came to a key of the opener's sight; a Next to one that the walk hadn't passed, and what it had passed it
+    -- has passed still.
     pub record Comes (old new : State) : Type 0 where
+      pub moving : moves f (OnWalk w) (old.own who) ≡ true
       pub key : List ℕ
       pub value : List ℕ
       pub there : get (sight old) key ≡ Some value
@@ -204,6 +223,7 @@ module _ (f : Form) (who : ℕ) where
 
     comes_behind : (old mid new : State) → Stays old mid → Comes mid new → Comes old new
     comes_behind old mid new s c = record {
+      moving = subst (λ x. moves f (OnWalk w) x ≡ true) s.own c.moving;
       key = c.key;
       value = c.value;
       there = ap (λ m. get m c.key) (sym s.sees) ∙ c.there;
@@ -216,7 +236,7 @@ module _ (f : Form) (who : ℕ) where
     -- one turn
     module _ (old new : State) (task : Task) (is : task.command ≡ OnWalk w) where
       step_stays : Turned f old who task Step new → Stays old new
-      step_stays t = record { sees = sight_here _ _ _ _ _ _ _ _ _ _ _ is t.effect; passed = of t.walks }
+      step_stays t = record { own = own_here _ _ _ _ _ _ _ _ _ _ _ is t.effect refl; sees = sight_here _ _ _ _ _ _ _ _ _ _ _ is t.effect; passed = of t.walks }
         where
           of : Walked f old new who task.command task.steps Step → (k : List ℕ) → Passed old k → Passed new k
           of (walk_steps e s) = shift_passed _ old new s
@@ -232,6 +252,7 @@ module _ (f : Form) (who : ℕ) where
           let p = pair_here _ _ _ _ _ _ _ _ _ _ _ is t.effect k v refl in
           let A = arrives old new task.steps k v p.1 (subst (λ c. Walked f old new who c task.steps (Ends (Pair k v))) is t.walks) in
           record {
+            moving = p.1;
             key = k;
             value = v;
             there = found _ _ (sight old) k v p.0;
@@ -303,6 +324,7 @@ module _ (f : Form) (who : ℕ) where
     -- a play of a move that gave a pair
     given_stays : (old new : State) (c : Command) → Given old who c new → Stays old new
     given_stays old new c g = record {
+      own = ap (λ s. s.own who) g.rest;
       sees = same_sight old new (ap (λ s. (s.own who).txn) g.rest) (ap (λ s. s.file) g.rest);
       passed = λ k p. subst (λ (m : Mark). (m.ahead k ≡ false) × (home f k < m.reached)) (sym (ap (λ s. s.mark who) g.rest)) p;
     }
@@ -330,3 +352,13 @@ module _ (f : Form) (who : ℕ) where
         let g = subst (λ p. Given old p c mid) mine given in
         comes_behind old mid new (given_stays old mid c g) (goes_comes most_turns mid new lines (record { command = c; steps = 0 }) g.task this (subst (λ p. Goes f most_turns mid p lines new) mine goes) shown)
     play_comes old new lines (gives_death o e l d) shown = absurd (cc)
+
+    -- its opener had no command before
+    pub play_idle : (old new : State) (lines : List Line) → Gives f old (Do who (OnWalk w)) lines new → list_any shows lines ≡ true → old.task who ≡ None
+    play_idle old new lines (gives_answer line e same is) shown = absurd (no_answer old line is (one_line line (ap (list_any shows) (sym e) ∙ shown)))
+    play_idle old new lines (gives_opener o e l joins) shown = absurd (cc)
+    play_idle old new lines (gives_command o c e l g) shown = absurd (cc)
+    play_idle old new lines (gives_turn o turn e a) shown = absurd (cc)
+    play_idle old new lines (gives_turns o e g) shown = absurd (cc)
+    play_idle old new lines (gives_all o c mid e given goes) shown = (let mine : o ≡ who = cc in subst (λ p. old.task p ≡ None) mine given.idle)
+    play_idle old new lines (gives_death o e l d) shown = absurd (cc)

@@ -1,5 +1,5 @@
 -- A walk of one opener over the pairs of a file ends.
-use Rattle.std.proofs.Common.{◌≡◌, ℕ, zero, suc, ◌+◌, ◌/◌, ◌≤◌, Bool, true, false, List, [], ◌∷◌, ◌++◌, length, Option, Some, refl, sym, ◌∙◌, ap, subst, arith}
+use Rattle.std.proofs.Common.{◌≡◌, ℕ, zero, suc, ◌+◌, ◌/◌, ◌≤◌, Bool, true, false, List, [], ◌∷◌, ◌++◌, length, Option, None, Some, refl, sym, ◌∙◌, ap, subst, arith}
 use Rattle.std.specs.Prelude.{◌||◌, IsSome}
 use Rattle.std.specs.FinMap.{get}
 use Rattle.std.specs.List.{AllByRecursion, IsDistinct, list_any}
@@ -19,10 +19,11 @@ use Rattle.tdb_law.specs.Commands.Command.{OnWalk}
 use Rattle.tdb_law.specs.Commands.WalkCommand.{First, Next}
 use Rattle.tdb_law.specs.Images.{image_map}
 use Rattle.tdb_law.specs.Lines.{Line}
+use Rattle.tdb_law.specs.Outcomes.{moves}
 use Rattle.tdb_law.specs.Plays.{Gives}
 use Rattle.tdb_law.specs.Plays.Play.{Do}
 use Rattle.tdb_law.specs.World.{State}
-use Rattle.tdb_tool.proofs.Moves.{IsMove, Passed, sight, shows, Comes, play_comes}
+use Rattle.tdb_tool.proofs.Moves.{IsMove, Passed, sight, shows, Comes, play_comes, play_idle}
 use Rattle.tdb_tool.proofs.FewPairs.{pairs_fit}
 
 -- First, and then Next
@@ -86,6 +87,13 @@ module _ (f : Form) (who : ℕ) where
   moved_shown : (n : ℕ) (old new : State) (lines : List Line) → Moved f who n old lines new → Shown n old new
   moved_shown zero old new lines m = record { keys = []; count = refl; apart = none_apart; there = tt; passed = tt; sees = ap (sight f who) m.1 }
   moved_shown (suc n) old new lines (mid, front, rest, cut, before, last, pair) = shown_more n old mid new (moved_shown n old mid front before) (play_comes f who (move_at n) (is_move n) mid new rest last pair)
+
+  -- before the first of them the opener had no command, and a First wasn't refused
+  pub first_moves : (n : ℕ) (old new : State) (lines : List Line) → Moved f who (suc n) old lines new → (old.task who ≡ None) × (moves f (OnWalk First) (old.own who) ≡ true)
+  first_moves zero old new lines (mid, front, rest, cut, before, last, pair) =
+      subst (λ (s : State). (s.task who ≡ None) × (moves f (OnWalk First) (s.own who) ≡ true)) before.1
+      (play_idle f who First tt mid new rest last pair, (play_comes f who First tt mid new rest last pair).moving)
+  first_moves (suc n) old new lines (mid, front, rest, cut, before, last, pair) = first_moves n old mid front before
 
   -- no more moves give pairs than a file has room for
   pub moves_fit : (n : ℕ) (old new : State) (lines : List Line) (img : List ℕ) (hands : List HandPair) → AcceptWith f img hands → sight f who old ≡ image_map f img → Moved f who n old lines new → n ≤ length img / 28 + 1

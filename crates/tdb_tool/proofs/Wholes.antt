@@ -1,32 +1,39 @@
 -- A session from its beginning to its end, from what its parts gave.
-use Rattle.std.proofs.Common.{◌≡◌, ◌⊎◌, ℕ, List, [], ◌∷◌, Option, None, Some, Result, Ok, Err, refl, sym, ◌∙◌, ap, subst, inl, inr}
+use Rattle.std.proofs.Common.{◌≡◌, ℕ, zero, suc, List, [], ◌∷◌, Option, None, Some, Result, Ok, Err, refl, sym, ◌∙◌, ap, subst, inl, inr}
 use Rattle.std.specs.Prelude.{Bool, IsTrue}
 use Rattle.std.proofs.lemmas.List.{map-append}
-use Rattle.tdb_disk.specs.Count.{Rose}
+use Rattle.tdb_disk.specs.History.{seen}
 use Rattle.tdb_space.specs.Form.{Form, form_in}
+use Rattle.tdb_words.specs.declared.header.Header.{Header}
 use Rattle.tdb_law.specs.Beginning.{IsLoaded, beginning}
+use Rattle.tdb_law.specs.Images.{image_map}
 use Rattle.tdb_law.specs.Lines.{Line as LawLine, IsLawful}
-use Rattle.tdb_law.specs.Openers.{Map}
+use Rattle.tdb_law.specs.Openers.{Map, Task}
 use Rattle.tdb_law.specs.World.{State}
+use Rattle.tdb_steps.specs.Turns.{number_of}
 use Rattle.tdb_plays.specs.InLaw.{law_line, law_lines}
 use Rattle.tdb_plays.specs.declared.command.Command.{Command}
+use Rattle.tdb_plays.specs.declared.line.Line.{Line}
+use Rattle.tdb_plays.specs.declared.line.Line.TheVariants.{Unfinished}
+use Rattle.tdb_plays.specs.declared.options.Options.{Options}
 use Rattle.tdb_plays.specs.declared.play.Play.{Play}
 use Rattle.tdb_script.specs.Lines.{lines_of}
-use Rattle.tdb_world.proofs.Finishing.{report_lawful, broken_lawful}
-use Rattle.tdb_world.specs.Finished.{unfinished}
+use Rattle.tdb_world.proofs.Finishing.{broken_lawful}
 use Rattle.tdb_world.specs.Openers.{options_of}
-use Rattle.tdb_words.specs.declared.header.Header.{Header}
-use Rattle.tdb_world.specs.Worlds.{World, state_in, BytesStand}
-use Rattle.tdb_plays.specs.declared.options.Options.{Options}
+use Rattle.tdb_world.specs.Worlds.{World, state_in}
+use Rattle.tdb_whole.specs.Died.{IsReadAs}
+use Rattle.tdb_whole.proofs.Reopening.{state_reopens}
+use Rattle.tdb_course.proofs.Finishing.{report_lawful}
+use Rattle.tdb_course.specs.Unfinished.{TellsUnfinished, EndsWith}
 use Rattle.tdb_tool.specs.declared.fault.SessionEnd.{SessionEnd}
 use Rattle.tdb_tool.specs.declared.fault.SessionFault.{SessionFault}
 use Rattle.tdb_tool.specs.declared.fault.SessionFault.TheVariants as F
 use Rattle.tdb_tool.specs.declared.order.Order.{Order}
 use Rattle.tdb_tool.specs.Asking.{Session, BeginsBy}
-use Rattle.tdb_tool.specs.Parts.{Part, Silent, doing, parts_of, AllDone, AllCame}
-use Rattle.tdb_tool.specs.Serving.{OnBroken, TellsAll, TellsFront, RunsTo, Scene, Ran, Served, ServedAll}
-use Rattle.tdb_tool.specs.Whole.{closing, session_parts, IsOver, beginning_over, SessionOver, SessionCame, SessionRan}
-use Rattle.tdb_tool.proofs.Coming.{all_is_front, front_as}
+use Rattle.tdb_tool.specs.Parts.{Silent, doing, parts_of, AllDone, AllCame}
+use Rattle.tdb_tool.specs.Serving.{fault_of, UnlessBroken, TellsAll, TellsFront, RunsTo, Scene, IsStateAt, Ran, AsksFor, Served, ServedAll}
+use Rattle.tdb_tool.specs.Whole.{closing, session_parts, SessionLed, SessionDeed, IsOver, beginning_over, SessionOver, SessionCame, SessionRan}
+use Rattle.tdb_tool.proofs.Coming.{IsToo, all_is_front, unless_map, led_as}
 use Rattle.tdb_tool.proofs.PartLemmas.{all_came, came_more, all_course, came_comes}
 use Rattle.tdb_tool.proofs.PartsRan.{ran_on, ran_memory}
 use Rattle.tdb_tool.proofs.Telling.{front_all}
@@ -45,36 +52,80 @@ module _ (d i o : Bool) (start mid later : Scene) (text : List ℕ) where
   pub join_served : (answer : Result SessionEnd SessionFault) → Ran d o start mid (Silent Play.Join ∷ []) None → Served d i o mid later text answer → ServedAll d i o start later text answer
   join_served answer first (orders, asks, ran) = (orders, asks, ran_on d o start mid later (Silent Play.Join ∷ []) (parts_of orders) first _ ran)
 
+pub begins : (text : List ℕ) (orders : List Order) (end : SessionEnd) → Session text orders end → BeginsBy text orders
+begins text orders end s = record { before = s.before; after = s.after; lines = s.lines; ask = s.ask }
+
+-- a session that broke off before its close, or in it, or was closed
+module _ (d i o : Bool) (start mid last : Scene) (text : List ℕ) where
+  front_came : (orders : List Order) → IsToo (AllCame (Silent Play.Join ∷ parts_of orders)) (AllCame (session_parts orders))
+  front_came orders f old new lines text came = came_more f (Silent Play.Join ∷ parts_of orders) closing old new lines text came
+
+  pub session_broke : (fault : SessionFault) → ServedAll d i o start mid text (Err fault) → SessionLed d i o start mid text (Err fault)
+  session_broke fault (orders, asks, ran) = (
+    orders,
+    asks,
+    led_as d o (AllDone (Silent Play.Join ∷ parts_of orders)) (AllCame (Silent Play.Join ∷ parts_of orders)) (AllCame (session_parts orders)) (AllCame (session_parts orders))
+        (λ f old new lines text done. front_came orders f old new lines text (all_came f (Silent Play.Join ∷ parts_of orders) old new lines text done)) (front_came orders) start mid (Some fault) ran,
+  )
+
+  module _ (end : SessionEnd) (served : ServedAll d i o start mid text (Ok end)) (close : Play) (is : close ≡ doing Command.Close) where
+    -- its close, and all of it
+    all_ran : (answer : Option SessionFault) → Ran d o mid last (Silent close ∷ []) answer → Ran d o start last (session_parts served.0) answer
+    all_ran answer ran = ran_on d o start mid last (Silent Play.Join ∷ parts_of served.0) closing served.2 answer (subst (λ p. Ran d o mid last (Silent p ∷ []) answer) is ran)
+
+    pub session_closed : Ran d o mid last (Silent close ∷ []) None → SessionLed d i o start last text (Ok end)
+    session_closed ran = (served.0, served.1, all_ran None ran)
+
+    pub session_unclosed : (fault : SessionFault) → Ran d o mid last (Silent close ∷ []) (Some fault) → SessionLed d i o start last text (Err fault)
+    session_unclosed fault ran = (
+      served.0,
+      λ heard. begins text served.0 end (served.1 heard),
+      led_as d o (AllDone (session_parts served.0)) (AllCame (session_parts served.0)) (AllCame (session_parts served.0)) (AllCame (session_parts served.0))
+          (λ f old new lines text done. all_came f (session_parts served.0) old new lines text done) (λ f old new lines text came. came) start last (Some fault) (all_ran (Some fault) ran),
+    )
+
 -- a world whose header has this form is over the bytes of its file
 pub over_self : (f : Form) (w : World) (img : List ℕ) → form_in w.header ≡ f → IsOver f img (state_in w img)
 over_self f w img is = subst (λ g. IsOver g img (state_in w img)) is (record { file = refl; number = refl })
 
-pub begins : (text : List ℕ) (orders : List Order) (end : SessionEnd) → Session text orders end → BeginsBy text orders
-begins text orders end s = record { before = s.before; after = s.after; lines = s.lines; ask = s.ask }
+-- the lines of what isn't done in a state
+unfinished_from : (s : State) (o n : ℕ) → (lines : List Line) × TellsUnfinished s o n lines
+unfinished_from s o zero = ([], refl)
+unfinished_from s o (suc n) = of (s.task o) refl (unfinished_from s (suc o) n)
+  where
+    of : (t : Option Task) → s.task o ≡ t → (lines : List Line) × TellsUnfinished s (suc o) n lines → (lines : List Line) × TellsUnfinished s o (suc n) lines
+    of None e rest = (rest.0, inr (e, rest.1))
+    of (Some t) e rest = (Unfinished (suc o) ∷ rest.0, inl (λ none. (let wrong : Some t ≡ None = sym e ∙ none in absurd (cc)), rest.0, refl, rest.1))
+
+ends_some : (s : State) → (more : List Line) × EndsWith s more
+ends_some s = unfinished_from s 0 s.joined
 
 module _ (f : Form) (options : Options) (a : List ℕ) (orders : List Order) (old : State) (loaded : IsLoaded f old (options_of options)) (over : IsOver f a old) (told : Bool) (before now : List ℕ) where
   from_map : (lines : List LawLine) → IsLawful f (beginning (options_of options) old.file old.number) lines → IsLawful f (beginning_over f options a) lines
   from_map lines lawful = subst (λ (q : Map × ℕ). IsLawful f (beginning (options_of options) q.0 q.1) lines) (λ j. (over.file j, over.number j)) lawful
 
   -- all of it was done
-  pub whole : (w : World) (b : List ℕ) → IsOver f b (state_in w b) → TellsAll (AllDone (session_parts orders)) f old (state_in w b) told before now → SessionOver f options a orders b told before now
-  whole w b is (lines, text, done, printed) =
-      let course = all_course f (session_parts orders) old (state_in w b) lines text done in
+  whole : (new : State) (b : List ℕ) → IsReadAs f b new → TellsAll (AllDone (session_parts orders)) f old new told before now → SessionOver f options a orders b told before now
+  whole new b read (lines, text, done, printed) =
+      let course = all_course f (session_parts orders) old new lines text done in
+      let end = ends_some new in
       record {
         old = old;
         loaded = loaded;
         over = over;
-        world = w;
+        new = new;
         lines = lines;
         text = text;
         done = done;
-        left = is;
-        lawful = subst (λ ls. IsLawful f (beginning_over f options a) ls) (sym (map-append law_line lines (unfinished 1 w.openers))) (from_map _ (report_lawful f (options_of options) old w b course.0 (law_lines lines) loaded course.1));
+        left = read;
+        more = end.0;
+        ends = end.1;
+        lawful = subst (λ ls. IsLawful f (beginning_over f options a) ls) (sym (map-append law_line lines end.0)) (from_map _ (report_lawful f (options_of options) old new course.0 (law_lines lines) end.0 loaded course.1 end.1));
         printed = printed;
       }
 
   -- it came to a state
-  pub came : (new : State) → TellsFront (AllCame (session_parts orders)) f old new told before now → SessionCame f options a orders new told before now
+  came : (new : State) → TellsFront (AllCame (session_parts orders)) f old new told before now → SessionCame f options a orders new told before now
   came new (lines, text, comes, printed) =
       let coming = came_comes f (session_parts orders) old new lines text comes in
       record {
@@ -88,78 +139,31 @@ module _ (f : Form) (options : Options) (a : List ℕ) (orders : List Order) (ol
         printed = printed;
       }
 
-  -- in its parts before the close, or in that
-  came_front : (new : State) → TellsFront (AllCame (Silent Play.Join ∷ parts_of orders)) f old new told before now → SessionCame f options a orders new told before now
-  came_front new p =
-      came new (front_as f told (AllCame (Silent Play.Join ∷ parts_of orders)) (AllCame (session_parts orders)) (λ g x y lines text c. came_more g (Silent Play.Join ∷ parts_of orders) closing x y lines text c) old new before now p)
-
-  all_front : (new : State) → TellsAll (AllDone (Silent Play.Join ∷ parts_of orders)) f old new told before now → SessionCame f options a orders new told before now
-  all_front new p =
-      came_front new (front_as f told (AllDone (Silent Play.Join ∷ parts_of orders)) (AllCame (Silent Play.Join ∷ parts_of orders)) (λ g x y lines text c. all_came g (Silent Play.Join ∷ parts_of orders) x y lines text c) old new before now
-      (all_is_front f told (AllDone (Silent Play.Join ∷ parts_of orders)) old new before now p))
-
-  module _ (heard : Bool) (text : List ℕ) (new : State) (b : List ℕ) (is : IsOver f b new) where
-    pub broke : (fault : SessionFault) → (IsTrue heard → BeginsBy text orders) → RunsTo (AllDone (Silent Play.Join ∷ parts_of orders)) (AllCame (Silent Play.Join ∷ parts_of orders)) f old new told before now (Some fault)
-        → SessionRan f options a b heard text told before now (Err fault)
-    broke F.Input asks runs = (orders, asks, new, all_front new runs, is)
-    broke F.Output asks runs = (orders, asks, new, came_front new runs, is)
-    broke F.Device asks runs = (orders, asks, runs.0, came_front runs.0 runs.1)
-    broke F.Memory asks runs = (orders, asks, new, came_front new runs, is)
-
-    pub broke_closing : (fault : SessionFault) → (fault ≡ F.Device) ⊎ (fault ≡ F.Memory) → (IsTrue heard → BeginsBy text orders) → RunsTo (AllDone (session_parts orders)) (AllCame (session_parts orders)) f old new told before now (Some fault)
-        → SessionRan f options a b heard text told before now (Err fault)
-    broke_closing F.Input (inl e) asks runs = absurd (cc)
-    broke_closing F.Input (inr e) asks runs = absurd (cc)
-    broke_closing F.Output (inl e) asks runs = absurd (cc)
-    broke_closing F.Output (inr e) asks runs = absurd (cc)
-    broke_closing F.Device kind asks runs = (orders, asks, runs.0, came runs.0 runs.1)
-    broke_closing F.Memory kind asks runs = (orders, asks, new, came new runs, is)
+  -- so it ran, by its answer
+  ran_by : (heard : Bool) (text b : List ℕ) (IsLeft : State → Type 0) (answer : Result SessionEnd SessionFault) → (IsTrue heard → AsksFor text orders answer) → UnlessBroken (fault_of answer) ((new : State) → IsLeft new → IsReadAs f b new)
+      → RunsTo (SessionDeed orders answer) (AllCame (session_parts orders)) f old IsLeft told before now (fault_of answer) → SessionRan f options a b heard text told before now answer
+  ran_by heard text b IsLeft (Ok end) asks read (new, is, done) = (orders, asks, whole new b (read new is) done)
+  ran_by heard text b IsLeft (Err F.Input) asks read (new, is, done) = (orders, asks, new, came new (all_is_front f told (AllCame (session_parts orders)) old new before now done), read new is)
+  ran_by heard text b IsLeft (Err F.Output) asks read (new, is, front) = (orders, asks, new, came new front, read new is)
+  ran_by heard text b IsLeft (Err F.Device) asks read (left, front) = (orders, asks, left, came left front)
+  ran_by heard text b IsLeft (Err F.Memory) asks read (new, is, front) = (orders, asks, new, came new front, read new is)
 
 -- the same, from what the calls say of the moments
-module _ (d heard told : Bool) (header : Header) (options : Options) (text : List ℕ) (start mid : Scene) (same : start.world.header ≡ header)
-    (loaded : IsLoaded (form_in header) (state_in start.world start.image) (options_of options)) (known : IsTrue d → BytesStand start.world start.image) where
-  over : IsOver (form_in header) start.image (state_in start.world start.image)
-  over = over_self (form_in header) start.world start.image (ap form_in same)
+module _ (d heard told : Bool) (header : Header) (options : Options) (text : List ℕ) (start last : Scene) (same : start.world.openers.header ≡ header) (answer : Result SessionEnd SessionFault)
+    (led : SessionLed d heard told start last text answer) (tells : IsTrue d) (state : State) (is : IsStateAt start state) where
+  abbrev Begins : Type 0
+  Begins = IsLoaded (form_in header) state (options_of options) × (state.file ≡ image_map (form_in header) (seen start.history)) × (state.number ≡ number_of (form_in header) (seen start.history))
 
-  runs_in : (parts : List Part) (answer : Option SessionFault) (new : Scene) → Ran d told start new parts answer → IsTrue d
-      → RunsTo (AllDone parts) (AllCame parts) (form_in header) (state_in start.world start.image) (state_in new.world new.image) told start.written new.written answer
-  runs_in parts answer new ran tells =
-      subst (λ h. RunsTo (AllDone parts) (AllCame parts) (form_in h) (state_in start.world start.image) (state_in new.world new.image) told start.written new.written answer) same (ran.runs tells (known tells))
+  left_read : UnlessBroken (fault_of answer) ((new : State) → IsStateAt last new → IsReadAs (form_in header) (seen last.history) new)
+  left_read = unless_map (fault_of answer) (λ kept new left. subst (λ f. IsReadAs f (seen last.history) new) (ap form_in (kept ∙ same)) (state_reopens last.world last.history new left)) led.2.header
 
-  over_end : (parts : List Part) (answer : Option SessionFault) (new : Scene) → Ran d told start new parts answer → IsOver (form_in header) new.image (state_in new.world new.image)
-  over_end parts answer new ran = over_self (form_in header) new.world new.image (ap form_in (ran.header ∙ same))
-
-  pub session_broke : (fault : SessionFault) → ServedAll d heard told start mid text (Err fault) → IsTrue d → SessionRan (form_in header) options start.image mid.image heard text told start.written mid.written (Err fault)
-  session_broke fault (orders, asks, ran) tells =
-      broke (form_in header) options start.image orders (state_in start.world start.image) loaded over told start.written mid.written heard text (state_in mid.world mid.image) mid.image
-      (over_end (Silent Play.Join ∷ parts_of orders) (Some fault) mid ran) fault asks (runs_in (Silent Play.Join ∷ parts_of orders) (Some fault) mid ran tells)
-
-  module _ (end : SessionEnd) (served : ServedAll d heard told start mid text (Ok end)) (last : Scene) (close : Play) (is : close ≡ doing Command.Close) where
-    -- its close, and all of it
-    abbrev Closes : Option SessionFault → Type 0
-    Closes answer = Ran d told mid last (Silent close ∷ []) answer
-
-    pub closed : (answer : Option SessionFault) → Closes answer → Ran d told start last (session_parts served.0) answer
-    closed answer ran = ran_on d told start mid last (Silent Play.Join ∷ parts_of served.0) closing served.2 answer (subst (λ p. Ran d told mid last (Silent p ∷ []) answer) is ran)
-
-    pub session_closed : Closes None → IsTrue d → SessionRan (form_in header) options start.image last.image heard text told start.written last.written (Ok end)
-    session_closed ran tells = (
-      served.0,
-      served.1,
-      whole (form_in header) options start.image served.0 (state_in start.world start.image) loaded over told start.written last.written last.world last.image (over_end (session_parts served.0) None last (closed None ran))
-          (runs_in (session_parts served.0) None last (closed None ran) tells),
-    )
-
-    pub session_unclosed : (fault : SessionFault) → (fault ≡ F.Device) ⊎ (fault ≡ F.Memory) → Closes (Some fault) → IsTrue d → SessionRan (form_in header) options start.image last.image heard text told start.written last.written (Err fault)
-    session_unclosed fault kind ran tells =
-        broke_closing (form_in header) options start.image served.0 (state_in start.world start.image) loaded over told start.written last.written heard text (state_in last.world last.image) last.image
-        (over_end (session_parts served.0) (Some fault) last (closed (Some fault) ran)) fault kind (λ said. begins text served.0 end (served.1 said)) (runs_in (session_parts served.0) (Some fault) last (closed (Some fault) ran) tells)
-
-    pub rose_unclosed : (answer : Option SessionFault) → Closes answer → IsTrue d → OnBroken answer (Rose start.faults last.faults)
-    rose_unclosed answer ran tells = (closed answer ran).rose tells (known tells)
+  pub session_ran : Begins → SessionRan (form_in header) options (seen start.history) (seen last.history) heard text told start.written last.written answer
+  session_ran (loaded, file, number) =
+      ran_by (form_in header) options (seen start.history) led.0 state loaded (record { file = file; number = number }) told start.written last.written heard text (seen last.history) (IsStateAt last) answer led.1 left_read
+      (subst (λ h. RunsTo (SessionDeed led.0 answer) (AllCame (session_parts led.0)) (form_in h) state (IsStateAt last) told start.written last.written (fault_of answer)) same (led.2.runs tells state is))
 
 -- a session that was taken whole came as far as its end
-pub over_comes : (f : Form) (options : Options) (a : List ℕ) (orders : List Order) (b : List ℕ) (told : Bool) (before now : List ℕ) (p : SessionOver f options a orders b told before now) → SessionCame f options a orders (state_in p.world b) told before now
+pub over_comes : (f : Form) (options : Options) (a : List ℕ) (orders : List Order) (b : List ℕ) (told : Bool) (before now : List ℕ) (p : SessionOver f options a orders b told before now) → SessionCame f options a orders p.new told before now
 over_comes f options a orders b told before now p =
-    came f options a orders p.old p.loaded p.over told before now (state_in p.world b)
-    (p.lines, p.text, all_came f (session_parts orders) p.old (state_in p.world b) p.lines p.text p.done, λ heard. front_all before p.text now (p.printed heard))
+    came f options a orders p.old p.loaded p.over told before now p.new
+    (p.lines, p.text, all_came f (session_parts orders) p.old p.new p.lines p.text p.done, λ heard. front_all before p.text now (p.printed heard))

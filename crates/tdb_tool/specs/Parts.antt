@@ -9,7 +9,7 @@ use Rattle.tdb_plays.specs.declared.command.Command.{Command}
 use Rattle.tdb_plays.specs.declared.line.Line.{Line}
 use Rattle.tdb_plays.specs.declared.play.Play.{Play}
 use Rattle.tdb_space.specs.Form.{Form}
-use Rattle.tdb_world.specs.Given.{IsServed, IsShortGiven}
+use Rattle.tdb_world.specs.Given.{IsShortGiven}
 use Rattle.tdb_world.specs.Played.{PlaysLast}
 use Rattle.tdb_tool.specs.declared.order.Order.{Order}
 use Rattle.tdb_tool.specs.Replies.{lines_text, tell_pair}
@@ -32,9 +32,9 @@ part_of Order.Quit = []
 abbrev pub parts_of : List Order → List Part
 parts_of orders = flat_map part_of orders
 
--- a world serves the command of an order, if it has one
+-- the key and the value of the command of an order, if it has one, are short enough for the words of a file
 abbrev pub IsServedOrder : Order → Type 0
-IsServedOrder (Order.Take command) = IsServed command × IsShortGiven command
+IsServedOrder (Order.Take command) = IsShortGiven command
 IsServedOrder order = Unit {0}
 
 -- the moves of a list: First, and then Next

@@ -15,6 +15,9 @@ bare_orders =
     ∷ (codes "dump", Order.List Listing.Pairs)
     ∷ (codes "keys", Order.List Listing.Keys)
     ∷ (codes "hexkeys", Order.List Listing.HexKeys)
+    ∷ (codes "transaction_start", Order.Take Command.Start)
+    ∷ (codes "transaction_commit", Order.Take Command.Commit)
+    ∷ (codes "transaction_cancel", Order.Take Command.Cancel)
     ∷ (codes "quit", Order.Quit)
     ∷ []
 

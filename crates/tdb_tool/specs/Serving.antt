@@ -1,7 +1,8 @@
--- How parts of a session are done over a view of a file, as far as they come, and their text is written.
+-- How parts of a session are done over a file, as far as they come, and their text is written.
 use Rattle.std.specs.Prelude.{◌≡◌, ℕ, ◌<◌, ◌≤◌, ◌+◌, Bool, IsTrue, List, ◌∷◌, ◌++◌, Option, None, Some, Result, Ok, Err, IfOk}
 use Rattle.tdb_disk.specs.Count.{Rose}
-use Rattle.tdb_space.specs.Form.{Form, form_in}
+use Rattle.tdb_disk.specs.History.{History, seen}
+use Rattle.tdb_space.specs.Form.{Form}
 use Rattle.tdb_backup.specs.Dump.{WroteFront}
 use Rattle.tdb_dump.specs.declared.listing.Listing.{Listing}
 use Rattle.tdb_dump.specs.declared.writer.WriteRefusal.{WriteRefusal}
@@ -12,7 +13,8 @@ use Rattle.tdb_plays.specs.InLaw.{law_play, law_lines}
 use Rattle.tdb_plays.specs.declared.line.Line.{Line}
 use Rattle.tdb_plays.specs.declared.play.Play.{Play}
 use Rattle.tdb_world.specs.Played.{PlaysLast}
-use Rattle.tdb_world.specs.Worlds.{World, state_in, Stands, BytesStand}
+use Rattle.tdb_whole.specs.Whole.{Whole, form_at, WorldFits}
+use Rattle.tdb_whole.specs.States.{IsStateOf}
 use Rattle.tdb_world.specs.declared.fault.RunFault.{RunFault}
 use Rattle.tdb_world.specs.declared.fault.RunFault.TheVariants as Run
 use Rattle.tdb_tool.specs.declared.fault.SessionEnd.{SessionEnd}
@@ -65,38 +67,52 @@ TellsAll deed f old new told before now = (lines : List Line) × (text : List �
 abbrev pub TellsFront : Deed → Form → State → State → Bool → List ℕ → List ℕ → Type 0
 TellsFront deed f old new told before now = (lines : List Line) × (text : List ℕ) × deed f old lines text new × (IsTrue told → WroteFront before text now)
 
--- What was done, by why it broke off: the whole, or a part. Where the disk failed nothing is said of what is left; where the
--- input did, the whole was done and told.
-abbrev pub RunsTo : Deed → Deed → Form → State → State → Bool → List ℕ → List ℕ → Option SessionFault → Type 0
-RunsTo whole part f old new told before now None = TellsAll whole f old new told before now
-RunsTo whole part f old new told before now (Some F.Input) = TellsAll whole f old new told before now
-RunsTo whole part f old new told before now (Some F.Output) = TellsFront part f old new told before now
-RunsTo whole part f old new told before now (Some F.Device) = (left : State) × TellsFront part f old left told before now
-RunsTo whole part f old new told before now (Some F.Memory) = TellsFront part f old new told before now
+-- It was done, or a part of it, from a state to one that is left.
+abbrev pub LeavesAll : Deed → Form → State → (State → Type 0) → Bool → List ℕ → List ℕ → Type 0
+LeavesAll deed f old IsLeft told before now = (new : State) × IsLeft new × TellsAll deed f old new told before now
 
--- A moment of a session: the world, the bytes and the length of its file, the count of faults of its disk, and what is
+abbrev pub LeavesFront : Deed → Form → State → (State → Type 0) → Bool → List ℕ → List ℕ → Type 0
+LeavesFront deed f old IsLeft told before now = (new : State) × IsLeft new × TellsFront deed f old new told before now
+
+-- What was done from a state on, by why it broke off: the whole, or a part. Where the disk failed nothing is said of what is
+-- left; where the input did, the whole was done and told.
+abbrev pub RunsTo : Deed → Deed → Form → State → (State → Type 0) → Bool → List ℕ → List ℕ → Option SessionFault → Type 0
+RunsTo whole part f old IsLeft told before now None = LeavesAll whole f old IsLeft told before now
+RunsTo whole part f old IsLeft told before now (Some F.Input) = LeavesAll whole f old IsLeft told before now
+RunsTo whole part f old IsLeft told before now (Some F.Output) = LeavesFront part f old IsLeft told before now
+RunsTo whole part f old IsLeft told before now (Some F.Device) = (left : State) × TellsFront part f old left told before now
+RunsTo whole part f old IsLeft told before now (Some F.Memory) = LeavesFront part f old IsLeft told before now
+
+-- A moment of a session: the world, the history and the length of its file, the count of faults of its disk, and what is
 -- written on the output.
 pub record Scene : Type 0 where
-  pub world : World
-  pub image : List ℕ
+  pub world : Whole
+  pub history : History
   pub size : ℕ
   pub faults : ℕ
   pub written : List ℕ
 
-abbrev pub scene : World → List ℕ → ℕ → ℕ → List ℕ → Scene
-scene world image size faults written = record { world = world; image = image; size = size; faults = faults; written = written }
+abbrev pub scene : Whole → History → ℕ → ℕ → List ℕ → Scene
+scene world history size faults written = record { world = world; history = history; size = size; faults = faults; written = written }
 
--- What was done led from one moment to another, and ended so, over a disk and an output that tell or don't.
+-- a state of the world at a moment; and the world fits the file there
+abbrev pub IsStateAt : Scene → State → Type 0
+IsStateAt s state = IsStateOf s.world s.history state
+
+abbrev pub FitsAt : Scene → Type 0
+FitsAt s = WorldFits s.world (seen s.history) s.size
+
+-- What was done led from one moment to another, and ended so, over a disk and an output that tell or don't: from each state
+-- that the world may have had to one that it has afterwards. Unless the disk failed the world fits the file, and the count
+-- of faults is as it was.
 pub record Led (disk_tells output_tells : Bool) (whole part : Deed) (old new : Scene) (answer : Option SessionFault) : Type 0 where
-  pub header : new.world.header ≡ old.world.header
-  pub options : new.world.options ≡ old.world.options
-  pub stands : UnlessBroken answer (Stands new.world new.image new.size)
+  pub header : UnlessBroken answer (new.world.openers.header ≡ old.world.openers.header)
+  pub options : UnlessBroken answer (new.world.openers.options ≡ old.world.openers.options)
+  pub fits : UnlessBroken answer (FitsAt new)
   pub rises : old.faults ≤ new.faults
   pub quiet : UnlessBroken answer (new.faults ≡ old.faults)
-  pub bytes : IsTrue disk_tells → BytesStand old.world old.image → UnlessBroken answer (BytesStand new.world new.image)
-  pub runs : IsTrue disk_tells → BytesStand old.world old.image
-      → RunsTo whole part (form_in old.world.header) (state_in old.world old.image) (state_in new.world new.image) output_tells old.written new.written answer
-  pub rose : IsTrue disk_tells → BytesStand old.world old.image → OnBroken answer (Rose old.faults new.faults)
+  pub runs : IsTrue disk_tells → (state : State) → IsStateAt old state → RunsTo whole part (form_at old.world) state (IsStateAt new) output_tells old.written new.written answer
+  pub rose : IsTrue disk_tells → (state : State) → IsStateAt old state → OnBroken answer (Rose old.faults new.faults)
 
 -- Parts of a session were done, as far as they came.
 abbrev pub Ran : (disk_tells output_tells : Bool) (old new : Scene) → List Part → Option SessionFault → Type 0

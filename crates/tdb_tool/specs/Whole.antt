@@ -13,9 +13,9 @@ use Rattle.tdb_plays.specs.InLaw.{law_lines}
 use Rattle.tdb_plays.specs.declared.command.Command.{Command}
 use Rattle.tdb_plays.specs.declared.line.Line.{Line}
 use Rattle.tdb_plays.specs.declared.play.Play.{Play}
-use Rattle.tdb_world.specs.Finished.{unfinished}
 use Rattle.tdb_world.specs.Openers.{options_of}
-use Rattle.tdb_world.specs.Worlds.{World, state_in}
+use Rattle.tdb_whole.specs.Died.{IsReadAs}
+use Rattle.tdb_course.specs.Unfinished.{EndsWith}
 use Rattle.tdb_plays.specs.declared.options.Options.{Options}
 use Rattle.tdb_tool.specs.declared.fault.SessionEnd.{SessionEnd}
 use Rattle.tdb_tool.specs.declared.fault.SessionFault.{SessionFault}
@@ -23,6 +23,7 @@ use Rattle.tdb_tool.specs.declared.fault.SessionFault.TheVariants as F
 use Rattle.tdb_tool.specs.declared.order.Order.{Order}
 use Rattle.tdb_tool.specs.Asking.{Session, BeginsBy}
 use Rattle.tdb_tool.specs.Parts.{Part, Silent, doing, parts_of, AllDone, AllCame}
+use Rattle.tdb_tool.specs.Serving.{Deed, fault_of, Scene, Led, AsksFor}
 
 -- the part by which a session ends, and all parts of one: the opener joins, its orders are done, and it closes
 abbrev pub closing : List Part
@@ -30,6 +31,15 @@ closing = Silent (doing Command.Close) ∷ []
 
 abbrev pub session_parts : List Order → List Part
 session_parts orders = (Silent Play.Join ∷ parts_of orders) ++ closing
+
+-- The parts of a session were done by one that joins and closes: all of them where it ended, else as far as it came.
+abbrev pub SessionDeed : List Order → Result SessionEnd SessionFault → Deed
+SessionDeed orders (Ok end) = AllDone (session_parts orders)
+SessionDeed orders (Err fault) = AllCame (session_parts orders)
+
+-- A session of what the text asks for led from one moment to another.
+abbrev pub SessionLed : (disk_tells input_tells output_tells : Bool) (old new : Scene) (text : List ℕ) → Result SessionEnd SessionFault → Type 0
+SessionLed d i o old new text answer = (orders : List Order) × (IsTrue i → AsksFor text orders answer) × Led d o (SessionDeed orders answer) (AllCame (session_parts orders)) old new (fault_of answer)
 
 -- the state is one of a world whose file has these bytes
 pub record IsOver (f : Form) (img : List ℕ) (w : State) : Type 0 where
@@ -41,17 +51,20 @@ abbrev pub beginning_over : Form → Options → List ℕ → Replay
 beginning_over f options img = beginning (options_of options) (image_map f img) (word f.order img sequence_at)
 
 -- All parts of a session were done over the image a, which is b after them, from a world just loaded, and their text was
--- printed. The whole report is lawful from the map of a on.
+-- printed; an open gate undone, b has the map of the state to which they led. The whole report, with the lines of what isn't
+-- done behind it, is lawful from the map of a on.
 pub record SessionOver (f : Form) (options : Options) (a : List ℕ) (orders : List Order) (b : List ℕ) (told : Bool) (before now : List ℕ) : Type 0 where
   pub old : State
   pub loaded : IsLoaded f old (options_of options)
   pub over : IsOver f a old
-  pub world : World
+  pub new : State
   pub lines : List Line
   pub text : List ℕ
-  pub done : AllDone (session_parts orders) f old lines text (state_in world b)
-  pub left : IsOver f b (state_in world b)
-  pub lawful : IsLawful f (beginning_over f options a) (law_lines (lines ++ unfinished 1 world.openers))
+  pub done : AllDone (session_parts orders) f old lines text new
+  pub left : IsReadAs f b new
+  pub more : List Line
+  pub ends : EndsWith new more
+  pub lawful : IsLawful f (beginning_over f options a) (law_lines (lines ++ more))
   pub printed : IsTrue told → now ≡ before ++ text
 
 -- The parts of a session came to a state, and a front of their text was printed. The lines so far are lawful.
@@ -65,10 +78,11 @@ pub record SessionCame (f : Form) (options : Options) (a : List ℕ) (orders : L
   pub lawful : IsLawful f (beginning_over f options a) (law_lines lines)
   pub printed : IsTrue told → WroteFront before text now
 
--- The text begins by asking for orders, and a session of them came so far; the image b is what it says.
+-- The text begins by asking for orders, and a session of them came so far; an open gate undone, the image b has the map of
+-- the state to which it came.
 abbrev pub CameSo : Form → Options → List ℕ → List ℕ → Bool → List ℕ → Bool → List ℕ → List ℕ → Type 0
 CameSo f options a b heard text told before now =
-    (orders : List Order) × (IsTrue heard → BeginsBy text orders) × (new : State) × SessionCame f options a orders new told before now × IsOver f b new
+    (orders : List Order) × (IsTrue heard → BeginsBy text orders) × (new : State) × SessionCame f options a orders new told before now × IsReadAs f b new
 
 -- A session over the image a, which is b after it, by how it ended. Where the disk failed nothing is said of what is left.
 abbrev pub SessionRan : Form → Options → List ℕ → List ℕ → Bool → List ℕ → Bool → List ℕ → List ℕ → Result SessionEnd SessionFault → Type 0

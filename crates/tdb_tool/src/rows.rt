@@ -26,6 +26,9 @@ pub(crate) fn bare_order(name: &[u8]) -> Option<Order>
         "dump" => Some(Order::List(Listing::Pairs)),
         "keys" => Some(Order::List(Listing::Keys)),
         "hexkeys" => Some(Order::List(Listing::HexKeys)),
+        "transaction_start" => Some(Order::Take(Command::Start)),
+        "transaction_commit" => Some(Order::Take(Command::Commit)),
+        "transaction_cancel" => Some(Order::Take(Command::Cancel)),
         "quit" => Some(Order::Quit),
         _ => None,
     }

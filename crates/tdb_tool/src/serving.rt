@@ -1,12 +1,9 @@
 // Orders that are done as they are asked for.
 
-ghost use Rattle.std.specs.Prelude.{◌≡◌};
 ghost use Rattle.tdb_disk.specs.Count.{HasCauseOf};
-ghost use Rattle.tdb_space.specs.Form.{form_in};
-ghost use Rattle.tdb_space.specs.Frame.{Wrote};
-ghost use Rattle.tdb_space.specs.Spare.{without_bound};
+ghost use Rattle.tdb_disk.specs.History.{seen};
+ghost use Rattle.tdb_whole.specs.Whole.{WorldFits};
 ghost use Rattle.tdb_tool.specs.declared.fault.SessionFault.TheVariants as FaultIs;
-ghost use Rattle.tdb_world.specs.Worlds.{Stands};
 ghost use Rattle.tdb_tool.specs.Lines.{lines_left};
 ghost use Rattle.tdb_tool.specs.Serving.{scene, ServedNext, Served};
 
@@ -15,26 +12,22 @@ use crate::fault::{SessionEnd, SessionFault};
 use crate::reader::LineReader;
 use crate::taking::take_order;
 use std::alloc::Global;
-use tdb_disk::{Sink, Source};
-use tdb_space::Space;
-use tdb_world::Openers;
+use tdb_disk::{Disk, Sink, Source};
+use tdb_whole::World;
 
 /// Does what the next line asks for. Answers how the session ends, where it does.
-fn serve_next<S: Space, I: Source, K: Sink>(
+fn serve_next<D: Disk, I: Source, K: Sink>(
     alloc: Global,
-    openers: &mut Openers,
-    space: &mut S,
+    world: &mut World,
+    disk: &mut D,
     reader: &mut LineReader,
     input: &mut I,
     output: &mut K,
 ) -> Result<Option<SessionEnd>, SessionFault>
-    requires form { S.form space.old ≡ form_in openers.old.header }
-    requires stands { Stands openers.old (S.image space.old) (S.size space.old) }
-    requires spare { (view : S) → S.spare view ≡ without_bound }
-    ensures next { ServedNext S.tells I.tells K.tells (scene openers.old (S.image space.old) (S.size space.old) (S.faults space.old) (K.written output.old))
-        (scene openers.new (S.image space.new) (S.size space.new) (S.faults space.new) (K.written output.new))
+    requires fits { WorldFits world.old (seen (D.history disk.old)) (D.size disk.old) }
+    ensures next { ServedNext D.tells I.tells K.tells (scene world.old (D.history disk.old) (D.size disk.old) (D.faults disk.old) (K.written output.old))
+        (scene world.new (D.history disk.new) (D.size disk.new) (D.faults disk.new) (K.written output.new))
         reader.old.at (lines_left reader.old (I.left input.old)) reader.new.at (lines_left reader.new (I.left input.new)) result }
-    ensures wrote { Wrote S.Space space.old space.new }
     ensures input_cause { HasCauseOf FaultIs.Input (I.faults input.old) (I.faults input.new) result }
     ensures cause { HasCauseOf FaultIs.Output (K.faults output.old) (K.faults output.new) result }
 {
@@ -42,32 +35,29 @@ fn serve_next<S: Space, I: Source, K: Sink>(
         Asked::Nothing => Ok(None),
         Asked::End(end) => Ok(Some(end)),
         Asked::Order(order) => {
-            take_order(alloc, openers, space, order, output)?;
+            take_order(alloc, world, disk, order, output)?;
             Ok(None)
         }
     }
 }
 
 /// Does what the lines of the input order, up to the end of the session, and prints each reply when it is made.
-pub(crate) fn serve<S: Space, I: Source, K: Sink>(
+pub(crate) fn serve<D: Disk, I: Source, K: Sink>(
     alloc: Global,
-    openers: &mut Openers,
-    space: &mut S,
+    world: &mut World,
+    disk: &mut D,
     input: &mut I,
     output: &mut K,
 ) -> Result<SessionEnd, SessionFault>
-    requires form { S.form space.old ≡ form_in openers.old.header }
-    requires stands { Stands openers.old (S.image space.old) (S.size space.old) }
-    requires spare { (view : S) → S.spare view ≡ without_bound }
-    ensures served { Served S.tells I.tells K.tells (scene openers.old (S.image space.old) (S.size space.old) (S.faults space.old) (K.written output.old))
-        (scene openers.new (S.image space.new) (S.size space.new) (S.faults space.new) (K.written output.new)) (I.left input.old) result }
-    ensures wrote { Wrote S.Space space.old space.new }
+    requires fits { WorldFits world.old (seen (D.history disk.old)) (D.size disk.old) }
+    ensures served { Served D.tells I.tells K.tells (scene world.old (D.history disk.old) (D.size disk.old) (D.faults disk.old) (K.written output.old))
+        (scene world.new (D.history disk.new) (D.size disk.new) (D.faults disk.new) (K.written output.new)) (I.left input.old) result }
     ensures input_cause { HasCauseOf FaultIs.Input (I.faults input.old) (I.faults input.new) result }
     ensures cause { HasCauseOf FaultIs.Output (K.faults output.old) (K.faults output.new) result }
 {
     let mut reader = LineReader::new(alloc)?;
     loop {
-        if let Some(end) = serve_next(alloc, openers, space, &mut reader, input, output)? {
+        if let Some(end) = serve_next(alloc, world, disk, &mut reader, input, output)? {
             return Ok(end);
         }
     }

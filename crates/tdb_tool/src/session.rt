@@ -2,47 +2,62 @@
 
 ghost use Rattle.std.specs.Prelude.{◌≡◌, ◌≤◌, ◌<◌, [], IsTrue};
 ghost use Rattle.tdb_disk.specs.Count.{HasCauseOf, Rose};
+ghost use Rattle.tdb_disk.specs.History.{seen};
 ghost use Rattle.tdb_space.specs.Accepted.{AcceptWith};
 ghost use Rattle.tdb_space.specs.Form.{form_in};
-ghost use Rattle.tdb_space.specs.Frame.{Wrote};
-ghost use Rattle.tdb_space.specs.Spare.{without_bound};
+ghost use Rattle.tdb_whole.specs.Whole.{WorldFits};
 ghost use Rattle.tdb_tool.specs.declared.fault.SessionFault.TheVariants as FaultIs;
-ghost use Rattle.tdb_world.specs.Worlds.{Stands};
 ghost use Rattle.tdb_tool.specs.Serving.{scene, fault_of, UnlessBroken, OnBroken, ServedAll};
-ghost use Rattle.tdb_tool.specs.Whole.{SessionRan};
+ghost use Rattle.tdb_tool.specs.Whole.{SessionLed, SessionRan};
 
 use crate::fault::{SessionEnd, SessionFault};
 use crate::serving::serve;
 use crate::taking::{OPENER, doing, take_silently};
 use std::alloc::Global;
-use tdb_disk::{Sink, Source};
+use tdb_disk::{Disk, Sink, Source};
 use tdb_plays::{Command, Play};
-use tdb_space::Space;
+use tdb_whole::{OpenerStanding, World};
 use tdb_words::Header;
-use tdb_world::{Openers, Options};
+use tdb_world::Options;
 
 /// An opener joins, and does what the lines of the input order.
-fn join_and_serve<S: Space, I: Source, K: Sink>(
+fn join_and_serve<D: Disk, I: Source, K: Sink>(
     alloc: Global,
-    openers: &mut Openers,
-    space: &mut S,
+    world: &mut World,
+    disk: &mut D,
     input: &mut I,
     output: &mut K,
 ) -> Result<SessionEnd, SessionFault>
-    requires form { S.form space.old ≡ form_in openers.old.header }
-    requires stands { Stands openers.old (S.image space.old) (S.size space.old) }
-    requires spare { (view : S) → S.spare view ≡ without_bound }
-    ensures served { ServedAll S.tells I.tells K.tells (scene openers.old (S.image space.old) (S.size space.old) (S.faults space.old) (K.written output.old))
-        (scene openers.new (S.image space.new) (S.size space.new) (S.faults space.new) (K.written output.new)) (I.left input.old) result }
-    ensures wrote { Wrote S.Space space.old space.new }
+    requires fits { WorldFits world.old (seen (D.history disk.old)) (D.size disk.old) }
+    ensures served { ServedAll D.tells I.tells K.tells (scene world.old (D.history disk.old) (D.size disk.old) (D.faults disk.old) (K.written output.old))
+        (scene world.new (D.history disk.new) (D.size disk.new) (D.faults disk.new) (K.written output.new)) (I.left input.old) result }
     ensures input_cause { HasCauseOf FaultIs.Input (I.faults input.old) (I.faults input.new) result }
     ensures cause { HasCauseOf FaultIs.Output (K.faults output.old) (K.faults output.new) result }
 {
-    take_silently(alloc, openers, space, Play::Join)?;
-    if !openers.is_free(OPENER) {
+    take_silently(alloc, world, disk, Play::Join)?;
+    if world.standing(OPENER) != OpenerStanding::Idle {
         return Err(SessionFault::Memory);
     }
-    serve(alloc, openers, space, input, output)
+    serve(alloc, world, disk, input, output)
+}
+
+/// An opener joins, does what the lines of the input order, and closes.
+fn serve_and_close<D: Disk, I: Source, K: Sink>(
+    alloc: Global,
+    world: &mut World,
+    disk: &mut D,
+    input: &mut I,
+    output: &mut K,
+) -> Result<SessionEnd, SessionFault>
+    requires fits { WorldFits world.old (seen (D.history disk.old)) (D.size disk.old) }
+    ensures led { SessionLed D.tells I.tells K.tells (scene world.old (D.history disk.old) (D.size disk.old) (D.faults disk.old) (K.written output.old))
+        (scene world.new (D.history disk.new) (D.size disk.new) (D.faults disk.new) (K.written output.new)) (I.left input.old) result }
+    ensures input_cause { HasCauseOf FaultIs.Input (I.faults input.old) (I.faults input.new) result }
+    ensures cause { HasCauseOf FaultIs.Output (K.faults output.old) (K.faults output.new) result }
+{
+    let end = join_and_serve(alloc, world, disk, input, output)?;
+    take_silently(alloc, world, disk, doing(Command::Close))?;
+    Ok(end)
 }
 
 /// Does what the lines of the input order, over an opened file, by one opener that joins first and closes at the end. The
@@ -50,38 +65,35 @@ fn join_and_serve<S: Space, I: Source, K: Sink>(
 ///
 /// The input is read in pieces, and no further than the next order's line as long as that is at hand. A session ends
 /// where the input does, at `quit`, or before a line that is no order, ends beyond `LONGEST_SESSION` bytes, or is longer
-/// than `LONGEST_LINE`.
+/// than `LONGEST_LINE`. A transaction that is open then isn't committed.
 ///
 /// `Input` where a read failed, with all orders up to there done; `Output` where a write failed, which no command
 /// follows; `Device` where the disk did; `Memory` where that was wanting. Then the opener isn't closed.
 ///
-/// Cost: that of the commands, and one pass over the text; memory for a piece of the input, the line at hand, and of a
-/// list one pair.
-pub fn run_session<S: Space, I: Source, K: Sink>(
+/// Cost: that of the commands, and one pass over the text; memory for a piece of the input, the line at hand, of a list
+/// one pair, and the pages of the file that a transaction changes.
+pub fn run_session<D: Disk, I: Source, K: Sink>(
     alloc: Global,
-    space: &mut S,
+    disk: &mut D,
     header: &Header,
     options: &Options,
     input: &mut I,
     output: &mut K,
 ) -> Result<SessionEnd, SessionFault>
-    requires form { S.form space.old ≡ form_in header.now }
     requires chains { 0 < header.now.hash_size }
     requires limit { options.now.limit ≤ 4294963200 }
-    requires short { S.size space.old ≤ options.now.limit }
-    requires accepted { IsTrue S.tells → AcceptWith (form_in header.now) (S.image space.old) [] }
-    requires spare { (view : S) → S.spare view ≡ without_bound }
-    ensures session { IsTrue S.tells → SessionRan (form_in header.now) options.now (S.image space.old) (S.image space.new) I.tells (I.left input.old)
+    requires short { D.size disk.old ≤ options.now.limit }
+    requires accepted { IsTrue D.tells → AcceptWith (form_in header.now) (seen (D.history disk.old)) [] }
+    ensures session { IsTrue D.tells → SessionRan (form_in header.now) options.now (seen (D.history disk.old)) (seen (D.history disk.new)) I.tells (I.left input.old)
         K.tells (K.written output.old) (K.written output.new) result }
-    ensures rises { S.faults space.old ≤ S.faults space.new }
-    ensures quiet { UnlessBroken (fault_of result) (S.faults space.new ≡ S.faults space.old) }
-    ensures rose { IsTrue S.tells → OnBroken (fault_of result) (Rose (S.faults space.old) (S.faults space.new)) }
-    ensures wrote { Wrote S.Space space.old space.new }
+    ensures rises { D.faults disk.old ≤ D.faults disk.new }
+    ensures quiet { UnlessBroken (fault_of result) (D.faults disk.new ≡ D.faults disk.old) }
+    ensures rose { IsTrue D.tells → OnBroken (fault_of result) (Rose (D.faults disk.old) (D.faults disk.new)) }
     ensures input_cause { HasCauseOf FaultIs.Input (I.faults input.old) (I.faults input.new) result }
     ensures cause { HasCauseOf FaultIs.Output (K.faults output.old) (K.faults output.new) result }
 {
-    let mut openers = Openers::new(alloc, header, options);
-    let end = join_and_serve(alloc, &mut openers, space, input, output)?;
-    take_silently(alloc, &mut openers, space, doing(Command::Close))?;
-    Ok(end)
+    let mut world = World::new(alloc, header, options);
+    let answer = serve_and_close(alloc, &mut world, disk, input, output);
+    world.end();
+    answer
 }

@@ -1,12 +1,18 @@
 //! Sessions over a small file in memory: what they print, how they end, and each kind of failing call.
 
+ghost use Rattle.std.specs.Prelude.{◌≡◌, ◌<◌, [], IsTrue};
+ghost use Rattle.tdb_check.specs.Report.{IsFormOf};
+ghost use Rattle.tdb_disk.specs.History.{seen};
+ghost use Rattle.tdb_space.specs.Accepted.{AcceptWith};
+ghost use Rattle.tdb_space.specs.Form.{form_in};
+
 use std::alloc::{AllocError, Global};
 use std::test::Fail;
 use tdb_check::{check, read_front};
 use tdb_disk::{Call, Disk, MemDisk, MemSink, MemSource, Sink, Source};
-use tdb_space::{Direct, Space};
+use tdb_space::Direct;
 use tdb_tool::{SessionEnd, SessionFault, run_session};
-use tdb_words::{HashKind, Order, header_bytes};
+use tdb_words::{HashKind, Header, Order, header_bytes};
 use tdb_world::Options;
 
 const OPTIONS: Options = Options {
@@ -28,6 +34,17 @@ fn new_file(alloc: Global) -> Result<MemDisk, AllocError> {
     MemDisk::new(alloc, &bytes)
 }
 
+/// Whether the file on a disk, whose header says this, is whole.
+fn is_whole<D: Disk>(alloc: Global, disk: &mut D, header: &Header) -> bool
+    requires { 0 < header.now.hash_size }
+    ensures accepted { IsTrue result → IsTrue D.tells → IsFormOf (form_in header.now) (seen (D.history disk.old)) → AcceptWith (form_in header.now) (seen (D.history disk.old)) [] }
+    ensures size { D.size disk.new ≡ D.size disk.old }
+    ensures history { D.history disk.new ≡ D.history disk.old }
+{
+    let mut space = Direct::new(disk, header);
+    check(alloc, &mut space).is_ok()
+}
+
 /// How a session over a file ends, where that is whole.
 fn session<D: Disk, S: Source, K: Sink>(
     alloc: Global,
@@ -38,14 +55,13 @@ fn session<D: Disk, S: Source, K: Sink>(
     let Ok(header) = read_front(disk) else {
         return None;
     };
-    let mut space = Direct::new(disk, &header);
-    let Ok(_) = check(alloc, &mut space) else {
-        return None;
-    };
-    if space.len().ok()? > OPTIONS.limit {
+    if !is_whole(alloc, disk, &header) {
         return None;
     }
-    Some(run_session(alloc, &mut space, &header, &OPTIONS, input, output))
+    if disk.len().ok()? > OPTIONS.limit {
+        return None;
+    }
+    Some(run_session(alloc, disk, &header, &OPTIONS, input, output))
 }
 
 #[test]
@@ -78,6 +94,16 @@ fn replies(rt: HostRuntime) -> Result<(), Fail> {
             "store a 1\n\nstore a 1 2\n",
             "ok\n",
             SessionEnd::Malformed { at: 11 },
+        ),
+        (
+            "transaction_start\nstore a 1\ntransaction_start\nstore a 2\ntransaction_cancel\nshow a\ntransaction_commit\nshow a",
+            "ok\nok\nok\nok\nok\ndata(1) = \"2\"\ndoomed\nnoexist\n",
+            ended,
+        ),
+        (
+            "store a 1\ntransaction_start\nstore b 2\ndump\ntransaction_commit\ntransaction_commit\nkeys\ntransaction_start\nerase\nkeys",
+            "ok\nok\nok\n{\nkey(1) = \"a\"\ndata(1) = \"1\"\n}\n{\nkey(1) = \"b\"\ndata(1) = \"2\"\n}\nok\nnotransaction\nkey(1) = \"a\"\nkey(1) = \"b\"\nok\nok\n",
+            ended,
         ),
         ("storehex 6 00", "", SessionEnd::Malformed { at: 0 }),
         ("show \\6", "", SessionEnd::Malformed { at: 0 }),

@@ -25,4 +25,7 @@ returns-in_default-text c =
     skip_row (codes "dump") text (Order.List Listing.Pairs) not.not-dump (
     skip_row (codes "keys") text (Order.List Listing.Keys) not.not-keys (
     skip_row (codes "hexkeys") text (Order.List Listing.HexKeys) not.not-hexkeys (
-    skip_row (codes "quit") text Order.Quit not.not-quit refl))))))))
+    skip_row (codes "transaction_start") text (Order.Take Command.Start) not.not-transaction_start (
+    skip_row (codes "transaction_commit") text (Order.Take Command.Commit) not.not-transaction_commit (
+    skip_row (codes "transaction_cancel") text (Order.Take Command.Cancel) not.not-transaction_cancel (
+    skip_row (codes "quit") text Order.Quit not.not-quit refl)))))))))))

@@ -1,6 +1,5 @@
 -- The commands so far are those that the lines read so far ask for.
 use Rattle.std.proofs.Common.{◌≡◌, ◌-◌}
-use Rattle.tdb_space.specs.Frame.{Wrote}
 use Rattle.tdb_tool.specs.Lines.{lines_left}
 use Rattle.tdb_tool.specs.Serving.{scene}
 use Rattle.tdb_tool.specs.declared.limits.TheConstants.{LONGEST_SESSION}
@@ -9,9 +8,8 @@ use Rattle.tdb_tool.proofs.serving.serve.Given as goal
 
 abbrev pub invariant-loop-reader : goal.invariant-loop-reader
 invariant-loop-reader g l = record {
-  serving : Serving g.S.Space.tells g.I.Source.tells g.K.Sink.tells (scene l.fn.openers (g.S.Space.image l.fn.space) (g.S.Space.size l.fn.space) (g.S.Space.faults l.fn.space) (g.K.Sink.written l.fn.output))
-      (scene l.openers (g.S.Space.image l.space) (g.S.Space.size l.space) (g.S.Space.faults l.space) (g.K.Sink.written l.output)) (g.I.Source.left l.fn.input) l.reader.at (lines_left l.reader (g.I.Source.left l.input));
-  wrote : Wrote g.S.Space l.fn.space l.space;
+  serving : Serving g.D.Disk.tells g.I.Source.tells g.K.Sink.tells (scene l.fn.world (g.D.Disk.history l.fn.disk) (g.D.Disk.size l.fn.disk) (g.D.Disk.faults l.fn.disk) (g.K.Sink.written l.fn.output))
+      (scene l.world (g.D.Disk.history l.disk) (g.D.Disk.size l.disk) (g.D.Disk.faults l.disk) (g.K.Sink.written l.output)) (g.I.Source.left l.fn.input) l.reader.at (lines_left l.reader (g.I.Source.left l.input));
   heard : g.I.Source.faults l.input ≡ g.I.Source.faults l.fn.input;
   out : g.K.Sink.faults l.output ≡ g.K.Sink.faults l.fn.output;
 }
