@@ -1,17 +1,18 @@
 -- Plays that are taken one after the other, and told as they are taken.
-use Rattle.std.proofs.Common.{◌≡◌, ℕ, ◌+◌, ◌-◌, ◌<◌, ◌≤◌, List, [], ◌∷◌, ◌++◌, length, length-append, take, drop, take-append-drop, slice_index_or, Result, Ok, Err, refl, sym, ◌∙◌, ap, subst, arith}
-use Rattle.std.specs.Prelude.{Bool, IsTrue, OnOk, OnErr, IfErr}
+use Rattle.std.proofs.Common.{◌≡◌, ℕ, ◌+◌, ◌-◌, ◌<◌, List, [], ◌∷◌, ◌++◌, length, length-append, take, drop, take-append-drop, slice_index_or, Result, Ok, Err, refl, sym, ◌∙◌, ap, subst, arith}
+use Rattle.std.specs.Prelude.{Bool, IsTrue, OnOk, OnErr}
 use Rattle.std.proofs.lemmas.List.{append_assoc, append-nil, map-append, drop_more, drop-drop}
 use Rattle.std.proofs.lemmas.List.Concat.{flat_map-cons}
 use Rattle.std.proofs.lemmas.Grind.{flat_map-append}
 use Rattle.std.proofs.lemmas.List.{take-append-le}
 use Rattle.std.proofs.Math.Seq.{take-add}
-use Rattle.std.proofs.lemmas.Result.{on_ok_weaker, IfErr-weaker}
-use Rattle.tdb_disk.specs.Count.{Rose, HasCauseOf}
+use Rattle.tdb_disk.specs.Count.{Rose}
+use Rattle.tdb_disk.specs.History.{History, seen}
 use Rattle.tdb_space.specs.Form.{Form, form_in}
 use Rattle.tdb_backup.specs.Dump.{WroteFront}
 use Rattle.tdb_dump.specs.declared.writer.WriteRefusal.{WriteRefusal}
 use Rattle.tdb_dump.specs.declared.writer.WriteRefusal.TheVariants as Untold
+use Rattle.tdb_law.specs.Lines.{Line as LawLine}
 use Rattle.tdb_law.specs.Plays.{Course}
 use Rattle.tdb_law.specs.World.{State}
 use Rattle.tdb_plays.specs.InLaw.{law_play, law_plays, law_line, law_lines}
@@ -19,14 +20,17 @@ use Rattle.tdb_plays.specs.declared.line.Line.{Line}
 use Rattle.tdb_plays.specs.declared.play.Play.{Play}
 use Rattle.tdb_script.specs.Text.{printed_line, report_text}
 use Rattle.tdb_world.specs.Played.{ComesTo, UnlessIo, OnIo}
-use Rattle.tdb_world.specs.Worlds.{World, state_in, Stands, BytesStand}
 use Rattle.tdb_world.specs.declared.fault.RunFault.{RunFault}
 use Rattle.tdb_world.specs.declared.fault.RunFault.TheVariants as Run
+use Rattle.tdb_whole.specs.Whole.{Whole, form_at, WorldFits}
+use Rattle.tdb_whole.specs.States.{IsStateOf}
+use Rattle.tdb_course.specs.Led.{moment, Comes, Led}
+use Rattle.tdb_course.specs.Unfinished.{IsEnd}
 use Rattle.tdb_tool.proofs.Coming.{course_join, whole_comes, comes_more, comes_after}
 use Rattle.tdb_tool.proofs.Telling.{front_all, front_after}
 use Rattle.tdb_top.specs.declared.ending.Unprinted.TheVariants as Rest
 use Rattle.tdb_top.specs.declared.halt.Fault.TheVariants as F
-use Rattle.tdb_top.specs.Playing.{PlaysEnd, UnlessBroken, OnBroken, TellsAll, TellsFront, RunsTo, Scene, scene, Ran, end_of}
+use Rattle.tdb_top.specs.Playing.{PlaysEnd, UnlessBroken, OnBroken, TellsAll, TellsFront, RunsTo, Scene, scene, IsStateAt, Ran, EndTold, end_of}
 
 -- plays up to a place, the next one, and those behind it
 one_more : (i : ℕ) → i + 1 - i ≡ 1
@@ -87,14 +91,15 @@ module _ (f : Form) (told : Bool) where
   )
 
   -- as far as plays came behind others, with still more that weren't begun
-  runs_after : (plays more rest : List Play) (old mid new : State) (before between now : List ℕ) (answer : PlaysEnd) → (answer ≡ Ok (Ok tt) → ⊥) → TellsAll f old plays mid told before between → RunsTo f mid more new told between now answer → RunsTo f old ((plays ++ more) ++ rest) new told before now answer
-  runs_after plays more rest old mid new before between now (Ok (Ok v)) other p q = absurd (other refl)
-  runs_after plays more rest old mid new before between now (Ok (Err F.Device)) other p q = (q.0, front_more (plays ++ more) rest old q.0 before now (all_then_front plays more old mid q.0 before between now p q.1))
-  runs_after plays more rest old mid new before between now (Ok (Err F.Memory)) other p q = front_more (plays ++ more) rest old new before now (all_then_front plays more old mid new before between now p q)
-  runs_after plays more rest old mid new before between now (Err Rest.Report) other p q = front_more (plays ++ more) rest old new before now (all_then_front plays more old mid new before between now p q)
-  runs_after plays more rest old mid new before between now (Err Rest.Fault) other p q = (q.0, front_more (plays ++ more) rest old q.0 before now (all_then_front plays more old mid q.0 before between now p q.1))
-  runs_after plays more rest old mid new before between now (Err Rest.Pairs) other p q = absurd q
-  runs_after plays more rest old mid new before between now (Err Rest.Files) other p q = absurd q
+  runs_after : (plays more rest : List Play) (old mid : State) (IsLeft : State → Type 0) (before between now : List ℕ) (answer : PlaysEnd) → (answer ≡ Ok (Ok tt) → ⊥) → TellsAll f old plays mid told before between → RunsTo f mid more IsLeft told between now answer
+      → RunsTo f old ((plays ++ more) ++ rest) IsLeft told before now answer
+  runs_after plays more rest old mid IsLeft before between now (Ok (Ok v)) other p q = absurd (other refl)
+  runs_after plays more rest old mid IsLeft before between now (Ok (Err F.Device)) other p q = (q.0, front_more (plays ++ more) rest old q.0 before now (all_then_front plays more old mid q.0 before between now p q.1))
+  runs_after plays more rest old mid IsLeft before between now (Ok (Err F.Memory)) other p q = (q.0, q.1, front_more (plays ++ more) rest old q.0 before now (all_then_front plays more old mid q.0 before between now p q.2))
+  runs_after plays more rest old mid IsLeft before between now (Err Rest.Report) other p q = (q.0, q.1, front_more (plays ++ more) rest old q.0 before now (all_then_front plays more old mid q.0 before between now p q.2))
+  runs_after plays more rest old mid IsLeft before between now (Err Rest.Fault) other p q = (q.0, front_more (plays ++ more) rest old q.0 before now (all_then_front plays more old mid q.0 before between now p q.1))
+  runs_after plays more rest old mid IsLeft before between now (Err Rest.Pairs) other p q = absurd q
+  runs_after plays more rest old mid IsLeft before between now (Err Rest.Files) other p q = absurd q
 
 -- what holds unless the disk failed is weakened, or moved
 pub unless_map : {A B : Type 0} (answer : PlaysEnd) → (A → B) → UnlessBroken answer A → UnlessBroken answer B
@@ -117,49 +122,50 @@ on_map (Err Rest.Files) h a = tt
 
 module _ (disk_tells told : Bool) where
   -- no play was taken
-  pub ran_none : (start : Scene) → Stands start.world start.image start.size → Ran disk_tells told start start [] (Ok (Ok tt))
-  ran_none start stands = record {
+  pub ran_none : (start : Scene) → WorldFits start.world (seen start.history) start.size → Ran disk_tells told start start [] (Ok (Ok tt))
+  ran_none start fits = record {
     header = refl;
     options = refl;
-    stands = stands;
+    fits = fits;
     rises = omega arith;
     quiet = refl;
-    bytes = λ heard known. known;
-    runs = λ heard known. ([], (refl, refl), λ out. sym (append-nil start.written));
-    rose = λ heard known. tt;
+    runs = λ heard state is. (state, is, ([], (refl, refl), λ out. sym (append-nil start.written)));
+    rose = λ heard state is. tt;
   }
 
   -- plays, and then others, up to those that broke off
   module _ (start mid new : Scene) (plays more : List Play) (first : Ran disk_tells told start mid plays (Ok (Ok tt))) where
-    same_form : form_in mid.world.header ≡ form_in start.world.header
-    same_form = ap form_in first.header
+    -- the others go on from a state that the first led to
+    next_runs : (answer : PlaysEnd) → Ran disk_tells told mid new more answer → IsTrue disk_tells → (state : State) → IsStateAt mid state → RunsTo (form_at start.world) state more (IsStateAt new) told mid.written new.written answer
+    next_runs answer next heard state is = subst (λ f. RunsTo f state more (IsStateAt new) told mid.written new.written answer) (ap form_in first.header) (next.runs heard state is)
 
     pub ran_on : Ran disk_tells told mid new more (Ok (Ok tt)) → Ran disk_tells told start new (plays ++ more) (Ok (Ok tt))
     ran_on next = record {
       header = next.header ∙ first.header;
       options = next.options ∙ first.options;
-      stands = next.stands;
+      fits = next.fits;
       rises = omega (arith, first.rises, next.rises);
       quiet = next.quiet ∙ first.quiet;
-      bytes = λ heard known. next.bytes heard (first.bytes heard known);
-      runs = λ heard known.
-          all_then_all (form_in start.world.header) told plays more (state_in start.world start.image) (state_in mid.world mid.image) (state_in new.world new.image) start.written mid.written new.written
-          (first.runs heard known) (subst (λ f. TellsAll f (state_in mid.world mid.image) more (state_in new.world new.image) told mid.written new.written) same_form (next.runs heard (first.bytes heard known)));
-      rose = λ heard known. tt;
+      runs = λ heard state is.
+          (let p = first.runs heard state is in
+          let q = next_runs (Ok (Ok tt)) next heard p.0 p.1 in
+          (q.0, q.1, all_then_all (form_at start.world) told plays more state p.0 q.0 start.written mid.written new.written p.2 q.2));
+      rose = λ heard state is. tt;
     }
 
     pub ran_off : (rest : List Play) (answer : PlaysEnd) → (answer ≡ Ok (Ok tt) → ⊥) → Ran disk_tells told mid new more answer → Ran disk_tells told start new ((plays ++ more) ++ rest) answer
     ran_off rest answer other next = record {
-      header = next.header ∙ first.header;
-      options = next.options ∙ first.options;
-      stands = next.stands;
+      header = unless_map answer (λ same. same ∙ first.header) next.header;
+      options = unless_map answer (λ same. same ∙ first.options) next.options;
+      fits = next.fits;
       rises = omega (arith, first.rises, next.rises);
       quiet = unless_map answer (λ same. same ∙ first.quiet) next.quiet;
-      bytes = λ heard known. next.bytes heard (first.bytes heard known);
-      runs = λ heard known.
-          runs_after (form_in start.world.header) told plays more rest (state_in start.world start.image) (state_in mid.world mid.image) (state_in new.world new.image) start.written mid.written new.written answer other
-          (first.runs heard known) (subst (λ f. RunsTo f (state_in mid.world mid.image) more (state_in new.world new.image) told mid.written new.written answer) same_form (next.runs heard (first.bytes heard known)));
-      rose = λ heard known. on_map answer (λ rose. subst (λ n. Rose n new.faults) first.quiet rose) (next.rose heard (first.bytes heard known));
+      runs = λ heard state is.
+          (let p = first.runs heard state is in
+          runs_after (form_at start.world) told plays more rest state p.0 (IsStateAt new) start.written mid.written new.written answer other p.2 (next_runs answer next heard p.0 p.1));
+      rose = λ heard state is.
+          (let p = first.runs heard state is in
+          on_map answer (λ rose. subst (λ n. Rose n new.faults) first.quiet rose) (next.rose heard p.0 p.1));
     }
 
 -- how plays ended that were taken and told, by both
@@ -185,70 +191,74 @@ on_end P (Err Run.Io) (Ok w) p = p
 on_end P (Err Run.Io) (Err Untold.Memory) p = p
 on_end P (Err Run.Io) (Err Untold.Failed) p = p
 
-module _ (f : Form) (told : Bool) (plays : List Play) (old new : State) (lines : List Line) (before now : List ℕ) where
-  abbrev Whole : Type 0
-  Whole = Course f old (law_plays plays) (law_lines lines) new
+module _ (f : Form) (told : Bool) (plays : List Play) (old : State) (IsLeft : State → Type 0) (lines : List Line) (before now : List ℕ) where
+  abbrev Whole-of : Unit {0} → List LawLine → State → Type 0
+  Whole-of v ls s = Course f old (law_plays plays) ls s
 
-  abbrev Part : State → Type 0
-  Part s = ComesTo f old (law_plays plays) (law_lines lines) s
+  abbrev Part : List LawLine → State → Type 0
+  Part ls s = ComesTo f old (law_plays plays) ls s
 
-  part : Whole → Part new
-  part C = whole_comes f (law_plays plays) old new (law_lines lines) C
+  part : (s : State) → Whole-of tt (law_lines lines) s → Part (law_lines lines) s
+  part s C = whole_comes f (law_plays plays) old s (law_lines lines) C
 
-  runs_by : (played : Result (Unit {0}) RunFault) (untold : Result (Unit {0}) WriteRefusal)
-      → OnOk played Whole → IfErr played (λ e. e ≡ Run.Memory → Part new) → IfErr played (λ e. e ≡ Run.Io → (left : State) × Part left)
+  runs_by : (played : Result (Unit {0}) RunFault) (untold : Result (Unit {0}) WriteRefusal) → Comes played IsLeft Whole-of Part Part (law_lines lines)
       → OnOk untold (IsTrue told → now ≡ before ++ report_text lines) → OnErr untold (IsTrue told → WroteFront before (report_text lines) now)
-      → RunsTo f old plays new told before now (end_of played untold)
-  runs_by (Ok v) (Ok w) C B I all front = (lines, C, all)
-  runs_by (Ok v) (Err Untold.Memory) C B I all front = (lines, part C, front)
-  runs_by (Ok v) (Err Untold.Failed) C B I all front = (lines, part C, front)
-  runs_by (Err Run.Memory) (Ok w) C B I all front = (lines, B refl, λ heard. front_all before (report_text lines) now (all heard))
-  runs_by (Err Run.Memory) (Err Untold.Memory) C B I all front = (lines, B refl, front)
-  runs_by (Err Run.Memory) (Err Untold.Failed) C B I all front = (lines, B refl, front)
-  runs_by (Err Run.Io) (Ok w) C B I all front = let i = I refl in (i.0, (lines, i.1, λ heard. front_all before (report_text lines) now (all heard)))
-  runs_by (Err Run.Io) (Err Untold.Memory) C B I all front = let i = I refl in (i.0, (lines, i.1, front))
-  runs_by (Err Run.Io) (Err Untold.Failed) C B I all front = let i = I refl in (i.0, (lines, i.1, front))
-
--- a count that rose where the disk failed
-on_io : (faults later : ℕ) (played : Result (Unit {0}) RunFault) → HasCauseOf Run.Io faults later played → OnIo played (Rose faults later)
-on_io faults later (Ok v) cause = tt
-on_io faults later (Err Run.Memory) cause = tt
-on_io faults later (Err Run.Io) cause = cause.failed refl
+      → RunsTo f old plays IsLeft told before now (end_of played untold)
+  runs_by (Ok v) (Ok w) C all front = (C.0, C.1, (lines, C.2, all))
+  runs_by (Ok v) (Err Untold.Memory) C all front = (C.0, C.1, (lines, part C.0 C.2, front))
+  runs_by (Ok v) (Err Untold.Failed) C all front = (C.0, C.1, (lines, part C.0 C.2, front))
+  runs_by (Err Run.Memory) (Ok w) C all front = (C.0, C.1, (lines, C.2, λ heard. front_all before (report_text lines) now (all heard)))
+  runs_by (Err Run.Memory) (Err Untold.Memory) C all front = (C.0, C.1, (lines, C.2, front))
+  runs_by (Err Run.Memory) (Err Untold.Failed) C all front = (C.0, C.1, (lines, C.2, front))
+  runs_by (Err Run.Io) (Ok w) C all front = (C.0, (lines, C.1, λ heard. front_all before (report_text lines) now (all heard)))
+  runs_by (Err Run.Io) (Err Untold.Memory) C all front = (C.0, (lines, C.1, front))
+  runs_by (Err Run.Io) (Err Untold.Failed) C all front = (C.0, (lines, C.1, front))
 
 -- plays that were taken together, and then told
-module _ (disk_tells told : Bool) (a b : World) (x y : List ℕ) (size longer faults later : ℕ) (first lines : List Line) (empty : first ≡ []) (plays : List Play) (before now : List ℕ) (played : Result (Unit {0}) RunFault) (untold : Result (Unit {0}) WriteRefusal) where
-  abbrev Knows : Type 0 → Type 0
-  Knows P = IsTrue disk_tells → BytesStand a x → P
+module _ (disk_tells told : Bool) (a b : Whole) (h later : History) (size longer faults risen : ℕ) (first lines : List Line) (empty : first ≡ []) (plays : List Play) (before now : List ℕ) (played : Result (Unit {0}) RunFault) (untold : Result (Unit {0}) WriteRefusal) where
+  abbrev Taken : State → List LawLine → State → Type 0
+  Taken s ls t = ComesTo (form_at a) s (law_plays plays) ls t
 
-  abbrev Taken : List Line → State → Type 0
-  Taken ls s = ComesTo (form_in a.header) (state_in a x) (law_plays plays) (law_lines ls) s
-
-  pub ran_of : b.header ≡ a.header → b.options ≡ a.options → UnlessIo played (Stands b y longer) → UnlessIo played (Knows (BytesStand b y)) → faults ≤ later → UnlessIo played (later ≡ faults)
-      → Knows (HasCauseOf Run.Io faults later played)
-      → OnOk played (Knows ((ls : List Line) × (lines ≡ first ++ ls) × Course (form_in a.header) (state_in a x) (law_plays plays) (law_lines ls) (state_in b y)))
-      → IfErr played (λ e. e ≡ Run.Memory → Knows ((ls : List Line) × (lines ≡ first ++ ls) × Taken ls (state_in b y)))
-      → IfErr played (λ e. e ≡ Run.Io → Knows ((ls : List Line) × (lines ≡ first ++ ls) × (left : State) × Taken ls left))
+  pub ran_of : Led disk_tells (moment a h size faults first) (moment b later longer risen lines) played (λ s v. Course (form_at a) s (law_plays plays)) Taken Taken
       → OnOk untold (IsTrue told → now ≡ before ++ report_text lines) → OnErr untold (IsTrue told → WroteFront before (report_text lines) now)
-      → Ran disk_tells told (scene a x size faults before) (scene b y longer later now) plays (end_of played untold)
-  ran_of header options stands bytes rises quiet cause course broke io all front = record {
-    header = header;
-    options = options;
-    stands = unless_end _ played untold stands;
-    rises = rises;
-    quiet = unless_end _ played untold quiet;
-    bytes = λ heard known. unless_end _ played untold (unless_known played heard known bytes);
-    runs = λ heard known.
-        runs_by (form_in a.header) told plays (state_in a x) (state_in b y) lines before now played untold
-        (on_ok_weaker played (λ k. (let c = k heard known in subst (λ ls. Course (form_in a.header) (state_in a x) (law_plays plays) (law_lines ls) (state_in b y)) (sym (alone c.0 c.1)) c.2)) course)
-        (IfErr-weaker played _ _ (λ e k is. (let c = k is heard known in subst (λ ls. Taken ls (state_in b y)) (sym (alone c.0 c.1)) c.2)) broke)
-        (IfErr-weaker played _ _ (λ e k is. (let c = k is heard known in (c.2, subst (λ ls. Taken ls c.2) (sym (alone c.0 c.1)) c.3))) io) all front;
-    rose = λ heard known. on_end _ played untold (on_io faults later played (cause heard known));
+      → Ran disk_tells told (scene a h size faults before) (scene b later longer risen now) plays (end_of played untold)
+  ran_of led all front = record {
+    header = unless_end _ played untold led.header;
+    options = unless_end _ played untold led.options;
+    fits = unless_end _ played untold led.fits;
+    rises = led.rises;
+    quiet = unless_end _ played untold led.quiet;
+    runs = λ heard s is.
+        runs_by (form_at a) told plays s (IsStateOf b later) lines before now played untold
+        (subst (λ ls. Comes played (IsStateOf b later) (λ v. Course (form_at a) s (law_plays plays)) (Taken s) (Taken s) (law_lines ls)) (sym alone) (led.told heard s is)) all front;
+    rose = λ heard s is. on_end _ played untold (led.rose heard s is);
   }
     where
-      alone : (ls : List Line) → lines ≡ first ++ ls → lines ≡ ls
-      alone ls e = e ∙ ap (λ f. f ++ ls) empty
+      alone : lines ≡ led.added
+      alone = led.lines ∙ ap (λ f. f ++ led.added) empty
 
-      unless_known : (r : Result (Unit {0}) RunFault) → IsTrue disk_tells → BytesStand a x → UnlessIo r (Knows (BytesStand b y)) → UnlessIo r (BytesStand b y)
-      unless_known (Ok v) heard known k = k heard known
-      unless_known (Err Run.Memory) heard known k = k heard known
-      unless_known (Err Run.Io) heard known k = tt
+-- the lines of all commands that aren't done were made, and then written, or a front of them
+module _ (w : Whole) (told : Bool) (before : List ℕ) where
+  pub end_told : (now : List ℕ) (first lines : List Line) → first ≡ [] → (more : List Line) × (lines ≡ first ++ more) × IsEnd w more
+      → (untold : Result (Unit {0}) WriteRefusal) → OnOk untold (IsTrue told → now ≡ before ++ report_text lines) → OnErr untold (IsTrue told → WroteFront before (report_text lines) now)
+      → EndTold w told before now (end_of (Ok tt) untold)
+  end_told now first lines empty made untold all front = record {
+    lines = lines;
+    is_end = subst (IsEnd w) (sym (made.1 ∙ ap (λ f. f ++ made.0) empty)) made.2;
+    whole = whole untold all;
+    front = front_either (IsTrue told) before (report_text lines) now untold all front;
+  }
+    where
+      whole : (r : Result (Unit {0}) WriteRefusal) → OnOk r (IsTrue told → now ≡ before ++ report_text lines) → end_of (Ok tt) r ≡ Ok (Ok tt) → IsTrue told → now ≡ before ++ report_text lines
+      whole (Ok v) all is heard = all heard
+      whole (Err Untold.Memory) all is heard = let wrong : Ok (Err F.Memory) ≡ Ok (Ok tt) = is in absurd (cc)
+      whole (Err Untold.Failed) all is heard = let wrong : Err Rest.Report ≡ Ok (Ok tt) = is in absurd (cc)
+
+  -- not all of them were made
+  pub end_untold : (made left : List Line) → IsEnd w (made ++ left) → EndTold w told before before (Ok (Err F.Memory))
+  end_untold made left end = record {
+    lines = made ++ left;
+    is_end = end;
+    whole = λ is. (let wrong : Ok (Err F.Memory) ≡ Ok (Ok tt) = is in absurd (cc));
+    front = λ heard. (0, omega arith, sym (append-nil before));
+  }

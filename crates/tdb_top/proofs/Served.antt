@@ -1,4 +1,4 @@
--- A world serves the plays of a script: each command of its tables, with a key and a value no longer than the script.
+-- The plays of a script may be taken: each command of its tables has a key and a value no longer than the script.
 use Rattle.std.proofs.Common.{◌≡◌, ℕ, ◌<◌, ◌≤◌, List, [], ◌∷◌, length, sym, ap, subst, Bool, true, false, Option, Some, None, unwrap_or, inl, inr, arith}
 use Rattle.std.specs.Prelude.{◌^◌, if◌then◌else◌}
 use Rattle.std.specs.Str.{bytes_eq}
@@ -10,7 +10,8 @@ use Rattle.tdb_script.specs.Lines.{lines_of, words_of}
 use Rattle.tdb_script.specs.Rows.{row_of, bare_commands, key_commands, value_commands, bare_plays, opener_plays, command_plays}
 use Rattle.tdb_script.specs.Script.{IsCommand, IsOpenerPlay, IsPlay, Says, LinesSay, with_said, Script}
 use Rattle.tdb_script.proofs.PartLemmas.{NoLonger, lines_no_longer, words_no_longer}
-use Rattle.tdb_world.specs.Given.{IsServed, IsShortGiven, IsServedPlay, AreServed}
+use Rattle.tdb_world.specs.Given.{IsShortGiven}
+use Rattle.tdb_course.specs.Playable.{IsPlayable, ArePlayable}
 use Rattle.tdb_ask.proofs.ShortWords.{word_short}
 
 -- what holds of each row of a table holds of what a word has there
@@ -26,44 +27,42 @@ of_row P (row ∷ rows) word x all is = of (bytes_eq row.0 word) (of_row P rows 
     of true rest e = subst P (ap (λ o. unwrap_or o x) e) all.0
     of false rest e = rest e
 
-abbrev IsFine : Command → Type 0
-IsFine command = IsServed command × IsShortGiven command
-
 module _ (n : ℕ) (few : n < 2 ^ 32) where
   short : (word bytes : List ℕ) → length word ≤ n → IsWord word bytes → length bytes < 2 ^ 32
   short word bytes within is = omega (arith, few, within, word_short word bytes is)
 
-  command_fine : (words : List (List ℕ)) (command : Command) → NoLonger n words → IsCommand words command → IsFine command
-  command_fine [] command l p = absurd p
-  command_fine (name ∷ []) command l p = of_row IsFine bare_commands name command ((tt, tt), ((tt, tt), ((tt, tt), ((tt, tt), ((tt, tt), ((tt, tt), ((tt, tt), ((tt, tt), ((tt, tt), ((tt, tt), tt)))))))))) p
-  command_fine (name ∷ word ∷ []) command l p =
+  command_short : (words : List (List ℕ)) (command : Command) → NoLonger n words → IsCommand words command → IsShortGiven command
+  command_short [] command l p = absurd p
+  command_short (name ∷ []) command l p =
+      of_row IsShortGiven bare_commands name command (tt, (tt, (tt, (tt, (tt, (tt, (tt, (tt, (tt, (tt, (tt, (tt, (tt, (tt, tt)))))))))))))) p
+  command_short (name ∷ word ∷ []) command l p =
       let k = short word p.0 l.1.0 p.1 in
-      of_row IsFine (key_commands p.0) name command ((tt, k), ((tt, k), ((tt, k), ((tt, k), ((tt, k), ((tt, k), tt)))))) p.2
-  command_fine (name ∷ word ∷ more ∷ []) command l p =
+      of_row IsShortGiven (key_commands p.0) name command (k, (k, (k, (k, (k, (k, tt)))))) p.2
+  command_short (name ∷ word ∷ more ∷ []) command l p =
       let k = short word p.0 l.1.0 p.2 in
       let v = short more p.1 l.1.1.0 p.3 in
-      of_row IsFine (value_commands p.0 p.1) name command ((tt, (k, v)), ((tt, (k, v)), ((tt, (k, v)), ((tt, (k, v)), tt)))) p.4
-  command_fine (name ∷ word ∷ more ∷ other ∷ words) command l p = absurd p
+      of_row IsShortGiven (value_commands p.0 p.1) name command ((k, v), ((k, v), ((k, v), ((k, v), tt)))) p.4
+  command_short (name ∷ word ∷ more ∷ other ∷ words) command l p = absurd p
 
-  opener_served : (name : List ℕ) (who : ℕ) (words : List (List ℕ)) (play : Play) → 1 ≤ who → NoLonger n words → IsOpenerPlay name who words play → IsServedPlay play
-  opener_served name who words play one l (inl p) = of_row IsServedPlay (opener_plays who) name play (one, (one, (one, tt))) p.1
-  opener_served name who words play one l (inr p) =
-      let fine = command_fine words p.0 l p.1 in
-      of_row IsServedPlay (command_plays who p.0) name play ((one, fine.0, fine.1), ((one, fine.0, fine.1), tt)) p.2
+  opener_playable : (name : List ℕ) (who : ℕ) (words : List (List ℕ)) (play : Play) → 1 ≤ who → NoLonger n words → IsOpenerPlay name who words play → IsPlayable play
+  opener_playable name who words play one l (inl p) = of_row IsPlayable (opener_plays who) name play (one, (one, (one, tt))) p.1
+  opener_playable name who words play one l (inr p) =
+      let s = command_short words p.0 l p.1 in
+      of_row IsPlayable (command_plays who p.0) name play ((one, s), ((one, s), tt)) p.2
 
-  play_served : (words : List (List ℕ)) (play : Play) → NoLonger n words → IsPlay words play → IsServedPlay play
-  play_served [] play l p = absurd p
-  play_served (name ∷ []) play l p = of_row IsServedPlay bare_plays name play (tt, (tt, tt)) p
-  play_served (name ∷ number ∷ words) play l p = opener_served name p.0 words play p.1.least l.1.1 p.2
+  play_playable : (words : List (List ℕ)) (play : Play) → NoLonger n words → IsPlay words play → IsPlayable play
+  play_playable [] play l p = absurd p
+  play_playable (name ∷ []) play l p = of_row IsPlayable bare_plays name play (tt, (tt, tt)) p
+  play_playable (name ∷ number ∷ words) play l p = opener_playable name p.0 words play p.1.least l.1.1 p.2
 
-  said_served : (words : List (List ℕ)) (said : Option Play) (plays : List Play) → NoLonger n words → Says words said → AreServed plays → AreServed (with_said said plays)
-  said_served words None plays l says all = all
-  said_served words (Some play) plays l says all = All-cons IsServedPlay play plays (play_served words play l says.1) all
+  said_playable : (words : List (List ℕ)) (said : Option Play) (plays : List Play) → NoLonger n words → Says words said → ArePlayable plays → ArePlayable (with_said said plays)
+  said_playable words None plays l says all = all
+  said_playable words (Some play) plays l says all = All-cons IsPlayable play plays (play_playable words play l says.1) all
 
-  lines_served : (lines : List (List ℕ)) (plays : List Play) → NoLonger n lines → LinesSay lines plays → AreServed plays
-  lines_served [] plays l p = subst AreServed (sym p) (All-nil IsServedPlay)
-  lines_served (line ∷ lines) plays l p =
-      subst AreServed (sym p.4) (said_served (words_of line) p.0 p.1 (words_no_longer n line l.0) p.2 (lines_served lines p.1 l.1 p.3))
+  lines_playable : (lines : List (List ℕ)) (plays : List Play) → NoLonger n lines → LinesSay lines plays → ArePlayable plays
+  lines_playable [] plays l p = subst ArePlayable (sym p) (All-nil IsPlayable)
+  lines_playable (line ∷ lines) plays l p =
+      subst ArePlayable (sym p.4) (said_playable (words_of line) p.0 p.1 (words_no_longer n line l.0) p.2 (lines_playable lines p.1 l.1 p.3))
 
-pub script_served : (text : List ℕ) (plays : List Play) → Script text plays → AreServed plays
-script_served text plays p = lines_served (length text) (let fits = p.fits in omega (arith, fits)) (lines_of text) plays (lines_no_longer text) p.says
+pub script_playable : (text : List ℕ) (plays : List Play) → Script text plays → ArePlayable plays
+script_playable text plays p = lines_playable (length text) (let fits = p.fits in omega (arith, fits)) (lines_of text) plays (lines_no_longer text) p.says

@@ -11,7 +11,6 @@ use Rattle.tdb_tool.specs.declared.fault.SessionEnd.{SessionEnd}
 use Rattle.tdb_tool.specs.declared.fault.SessionEnd.TheVariants as End
 use Rattle.tdb_tool.specs.declared.fault.SessionFault.{SessionFault}
 use Rattle.tdb_tool.specs.declared.fault.SessionFault.TheVariants as F
-use Rattle.tdb_world.specs.Worlds.{state_in}
 use Rattle.tdb_top.specs.declared.ending.Ending.{Ending}
 use Rattle.tdb_top.specs.declared.ending.Ending.TheVariants.{Replied, DeviceFault, InputFault, Malformed, NoMemory}
 use Rattle.tdb_top.specs.declared.ending.Reply.TheVariants.{Played}
@@ -46,7 +45,7 @@ module _ (limit : ℕ) (input : Input) (tells : Bool) (w0 w1 w2 : List ℕ) (f0 
       so_far (Ok end) on (
         on.ran.0,
         λ heard. begins input.text on.ran.0 end (on.ran.1 heard),
-        state_in on.ran.2.world (seen now),
+        on.ran.2.new,
         over_comes (form_of (seen on.opened)) (session_options limit) (seen on.opened) on.ran.0 (seen now) tells w0 w1 on.ran.2,
         on.ran.2.left,
       ) more

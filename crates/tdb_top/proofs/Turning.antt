@@ -18,7 +18,6 @@ use Rattle.tdb_script.specs.declared.script.ScriptRefusal.TheVariants as Unread
 use Rattle.tdb_script.specs.declared.limits.TheConstants.{LONGEST_SCRIPT}
 use Rattle.tdb_script.proofs.PartLemmas.{stays_bad}
 use Rattle.tdb_script.specs.Text.{report_text}
-use Rattle.tdb_world.specs.Finished.{unfinished}
 use Rattle.tdb_plays.specs.declared.options.Options.{Options}
 use Rattle.tdb_tool.proofs.Coming.{whole_comes}
 use Rattle.tdb_ask.specs.declared.ask.Task.TheVariants.{Turns}
@@ -115,7 +114,7 @@ module _ (options : Options) (name : List ℕ) (h now : History) (plays : List P
   On r = PlayedFile options h now plays told w0 w1 r
 
   came_whole : (f : _) (img b : List ℕ) (before after : List ℕ) → PlayedWhole f options img plays b told before after → CameOver f options img b
-  came_whole f img b before after p = (plays, p.lines, _, record { old = p.leads.old; loaded = p.leads.loaded; over = p.leads.over; came = whole_comes f _ p.leads.old _ _ p.leads.course }, p.over)
+  came_whole f img b before after p = (plays, p.lines, p.left, record { old = p.leads.old; loaded = p.leads.loaded; over = p.leads.over; came = whole_comes f _ p.leads.old _ _ p.leads.course }, p.over)
 
   so_far : (opened : History) → IsOpened options h opened → CameOver (form_of (seen opened)) options (seen opened) (seen now) → IsPlayedSoFar options h now
   so_far opened is came = record { opened = opened; is_opened = is; came = came }
@@ -168,9 +167,9 @@ module _ (options : Options) (name : List ℕ) (h now : History) (plays : List P
         of _ (file_unplayed H.Memory opened same) = ([], inl refl, none same)
         of _ (file_played (Ok (Ok v)) on) =
             let p = on.over in
-            let text = report_text (p.lines ++ unfinished 1 p.world.openers) in (
+            let text = report_text (p.lines ++ p.more) in (
               text,
-              (p.lines ++ unfinished 1 p.world.openers, subst (λ img. IsReport (form_of img) options img (p.lines ++ unfinished 1 p.world.openers)) on.is_opened.reads (report_whole plays p.lines p.world (seen now) p.leads), length text, sym (take_all (length text) text (omega arith))),
+              (p.lines ++ p.more, subst (λ img. IsReport (form_of img) options img (p.lines ++ p.more)) on.is_opened.reads (report_whole plays p.lines p.more p.left p.leads p.ends), length text, sym (take_all (length text) text (omega arith))),
               p.printed heard,
             )
         of _ (file_played (Ok (Err F.Device)) on) = let p = front_text on.opened on.is_opened heard on.over in (p.0, inr p.1, p.2)

@@ -72,9 +72,11 @@ module _ (options : Options) (input : Input) (tells : Bool) (w0 w1 w2 : List ℕ
     script = p.script;
     whole = record {
       lines = p.whole.lines;
-      world = p.whole.world;
+      left = p.whole.left;
       leads = p.whole.leads;
       over = p.whole.over;
+      more = p.whole.more;
+      ends = p.whole.ends;
       lawful = p.whole.lawful;
       printed = λ told. same told ∙ p.whole.printed told;
     };

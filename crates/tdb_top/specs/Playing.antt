@@ -1,8 +1,9 @@
--- How plays are taken over a view of a file and told on an output, as far as they come.
+-- How plays are taken over a file and told on an output, as far as they come.
 use Rattle.std.specs.Prelude.{◌≡◌, ℕ, ◌≤◌, Bool, IsTrue, List, ◌++◌, Option, None, Some, Result, Ok, Err}
 use Rattle.tdb_disk.specs.Count.{Rose}
-use Rattle.tdb_space.specs.Form.{Form, form_in, form_of}
+use Rattle.tdb_space.specs.Form.{Form, form_of}
 use Rattle.tdb_backup.specs.Dump.{WroteFront}
+use Rattle.tdb_law.specs.Beginning.{IsLoaded}
 use Rattle.tdb_law.specs.Plays.{Course}
 use Rattle.tdb_law.specs.World.{State}
 use Rattle.tdb_plays.specs.InLaw.{law_plays, law_lines}
@@ -10,7 +11,11 @@ use Rattle.tdb_plays.specs.declared.line.Line.{Line}
 use Rattle.tdb_plays.specs.declared.play.Play.{Play}
 use Rattle.tdb_script.specs.Text.{report_text}
 use Rattle.tdb_world.specs.Played.{ComesTo}
-use Rattle.tdb_world.specs.Worlds.{World, state_in, Stands, BytesStand}
+use Rattle.tdb_world.specs.Openers.{options_of}
+use Rattle.tdb_whole.specs.Whole.{Whole, form_at, options_at, WorldFits}
+use Rattle.tdb_whole.specs.States.{IsStateOf}
+use Rattle.tdb_course.specs.Unfinished.{IsEnd}
+use Rattle.tdb_tool.specs.Whole.{IsOver}
 use Rattle.tdb_top.specs.declared.ending.Unprinted.{Unprinted}
 use Rattle.tdb_top.specs.declared.ending.Unprinted.TheVariants as Rest
 use Rattle.tdb_disk.specs.History.{History, seen}
@@ -66,41 +71,58 @@ abbrev pub TellsFront : Form → State → List Play → State → Bool → List
 TellsFront f old plays new told before now =
     (lines : List Line) × ComesTo f old (law_plays plays) (law_lines lines) new × (IsTrue told → WroteFront before (report_text lines) now)
 
--- by how they end; where the disk failed nothing is said of what is left
-abbrev pub RunsTo : Form → State → List Play → State → Bool → List ℕ → List ℕ → PlaysEnd → Type 0
-RunsTo f old plays new told before now (Ok (Ok v)) = TellsAll f old plays new told before now
-RunsTo f old plays new told before now (Ok (Err F.Device)) = (left : State) × TellsFront f old plays left told before now
-RunsTo f old plays new told before now (Ok (Err F.Memory)) = TellsFront f old plays new told before now
-RunsTo f old plays new told before now (Err Rest.Report) = TellsFront f old plays new told before now
-RunsTo f old plays new told before now (Err Rest.Fault) = (left : State) × TellsFront f old plays left told before now
-RunsTo f old plays new told before now (Err Rest.Pairs) = ⊥
-RunsTo f old plays new told before now (Err Rest.Files) = ⊥
+-- by how they end; the state is one that is left, but where the disk failed, when nothing is said of it
+abbrev pub RunsTo : Form → State → List Play → (State → Type 0) → Bool → List ℕ → List ℕ → PlaysEnd → Type 0
+RunsTo f old plays IsLeft told before now (Ok (Ok v)) = (new : State) × IsLeft new × TellsAll f old plays new told before now
+RunsTo f old plays IsLeft told before now (Ok (Err F.Device)) = (new : State) × TellsFront f old plays new told before now
+RunsTo f old plays IsLeft told before now (Ok (Err F.Memory)) = (new : State) × IsLeft new × TellsFront f old plays new told before now
+RunsTo f old plays IsLeft told before now (Err Rest.Report) = (new : State) × IsLeft new × TellsFront f old plays new told before now
+RunsTo f old plays IsLeft told before now (Err Rest.Fault) = (new : State) × TellsFront f old plays new told before now
+RunsTo f old plays IsLeft told before now (Err Rest.Pairs) = ⊥
+RunsTo f old plays IsLeft told before now (Err Rest.Files) = ⊥
 
--- A moment of the plays: the world, the bytes and the length of its file, the count of faults of its disk, and what is
+-- A moment of the plays: the world, the history and the length of its file, the count of faults of its disk, and what is
 -- written on the output.
 pub record Scene : Type 0 where
-  pub world : World
-  pub image : List ℕ
+  pub world : Whole
+  pub history : History
   pub size : ℕ
   pub faults : ℕ
   pub written : List ℕ
 
-abbrev pub scene : World → List ℕ → ℕ → ℕ → List ℕ → Scene
-scene world image size faults written = record { world = world; image = image; size = size; faults = faults; written = written }
+abbrev pub scene : Whole → History → ℕ → ℕ → List ℕ → Scene
+scene world history size faults written = record { world = world; history = history; size = size; faults = faults; written = written }
 
--- Plays led from one moment to another, and ended so, over a disk and an output that tell or don't.
+-- a state that the world may have at a moment
+abbrev pub IsStateAt : Scene → State → Type 0
+IsStateAt s state = IsStateOf s.world s.history state
+
+-- Plays led from one moment to another, and ended so, over a disk and an output that tell or don't: from each state that
+-- the world may have to one that it may have afterwards.
 pub record Ran (disk_tells output_tells : Bool) (old new : Scene) (plays : List Play) (answer : PlaysEnd) : Type 0 where
-  pub header : new.world.header ≡ old.world.header
-  pub options : new.world.options ≡ old.world.options
-  pub stands : UnlessBroken answer (Stands new.world new.image new.size)
+  pub header : UnlessBroken answer (new.world.openers.header ≡ old.world.openers.header)
+  pub options : UnlessBroken answer (new.world.openers.options ≡ old.world.openers.options)
+  pub fits : UnlessBroken answer (WorldFits new.world (seen new.history) new.size)
   pub rises : old.faults ≤ new.faults
   pub quiet : UnlessBroken answer (new.faults ≡ old.faults)
-  pub bytes : IsTrue disk_tells → BytesStand old.world old.image → UnlessBroken answer (BytesStand new.world new.image)
-  pub runs : IsTrue disk_tells → BytesStand old.world old.image
-      → RunsTo (form_in old.world.header) (state_in old.world old.image) plays (state_in new.world new.image) output_tells old.written new.written answer
-  pub rose : IsTrue disk_tells → BytesStand old.world old.image → OnBroken answer (Rose old.faults new.faults)
+  pub runs : IsTrue disk_tells → (state : State) → IsStateAt old state
+      → RunsTo (form_at old.world) state plays (IsStateAt new) output_tells old.written new.written answer
+  pub rose : IsTrue disk_tells → (state : State) → IsStateAt old state → OnBroken answer (Rose old.faults new.faults)
 
--- How all plays end, over the image a, which is b after them, on an output that tells what it holds or doesn't.
+-- The lines of all commands that aren't done in a world were written, or a front of their text where that broke off.
+pub record EndTold (w : Whole) (told : Bool) (before now : List ℕ) (answer : PlaysEnd) : Type 0 where
+  pub lines : List Line
+  pub is_end : IsEnd w lines
+  pub whole : answer ≡ Ok (Ok tt) → IsTrue told → now ≡ before ++ report_text lines
+  pub front : IsTrue told → WroteFront before (report_text lines) now
+
+-- The state is one of a world that is just loaded over what its file holds.
+pub record IsJustLoaded (w : Whole) (h : History) (state : State) : Type 0 where
+  pub of_world : IsStateOf w h state
+  pub loaded : IsLoaded (form_at w) state (options_of (options_at w))
+  pub over : IsOver (form_at w) (seen h) state
+
+-- How all plays end, over the image a, after which b is left, on an output that tells what it holds or doesn't.
 abbrev pub PlayedFront : Form → Options → List ℕ → Bool → List ℕ → List ℕ → Type 0
 PlayedFront f options a told before now = (lines : List Line) × IsReport f options a lines × (IsTrue told → WroteFront before (report_text lines) now)
 

@@ -1,30 +1,28 @@
 // Plays that are taken over a file, and told line by line.
 
-ghost use Rattle.std.specs.Prelude.{◌≡◌, ◌≢◌, ◌<◌, ◌≤◌, ◌++◌, ◌^◌, ◌∷◌, [], ℕ, List, true, length, take, IsTrue, IfOk, IfErr, OnOk, OnErr, Ok, Err};
+ghost use Rattle.std.specs.Prelude.{◌≡◌, ◌<◌, ◌≤◌, ◌++◌, [], ℕ, List, IsTrue, OnOk, OnErr};
 ghost use Rattle.tdb_disk.specs.Count.{HasCause, HasCauseOf, Rose};
+ghost use Rattle.tdb_disk.specs.History.{seen};
+ghost use Rattle.tdb_law.specs.World.{State};
 ghost use Rattle.tdb_space.specs.Accepted.{AcceptWith};
 ghost use Rattle.tdb_space.specs.Form.{form_in};
-ghost use Rattle.tdb_space.specs.Frame.{Wrote};
-ghost use Rattle.tdb_space.specs.Spare.{without_bound};
 ghost use Rattle.tdb_backup.specs.Dump.{WroteFront};
 ghost use Rattle.tdb_dump.specs.declared.writer.WriteRefusal.TheVariants.{Failed};
-ghost use Rattle.tdb_plays.specs.declared.line.Line.{Line as LineIs};
 ghost use Rattle.tdb_script.specs.Text.{report_text};
-ghost use Rattle.tdb_world.specs.Given.{AreServed};
-ghost use Rattle.tdb_world.specs.Finished.{unfinished};
-ghost use Rattle.tdb_world.specs.Worlds.{Stands};
-ghost use Rattle.tdb_top.specs.Playing.{UnlessBroken, OnBroken, IsUnbroken, PlayedOver, scene, Ran, end_of};
+ghost use Rattle.tdb_whole.specs.Whole.{form_at, options_at, WorldFits};
+ghost use Rattle.tdb_course.specs.Playable.{ArePlayable};
+ghost use Rattle.tdb_top.specs.Playing.{UnlessBroken, OnBroken, IsUnbroken, PlayedOver, scene, Ran, EndTold, IsJustLoaded, end_of};
 
 use crate::ending::Unprinted;
 use crate::halt::Fault;
 use std::alloc::Global;
-use tdb_disk::Sink;
+use tdb_course::{RunFault, finish_report, run};
+use tdb_disk::{Disk, Sink};
 use tdb_dump::WriteRefusal;
-use tdb_plays::{Play, TurnReport};
+use tdb_plays::{Options, Play, TurnReport};
 use tdb_script::write_line;
-use tdb_space::Space;
+use tdb_whole::World;
 use tdb_words::Header;
-use tdb_world::{Openers, Options, RunFault};
 
 /// Writes the lines of a report, each in one call. Where the output fails, or memory is wanting, a front of their text
 /// was written.
@@ -60,47 +58,41 @@ fn ended(
 }
 
 /// Takes plays, and tells them.
-fn play_some<S: Space, K: Sink>(
+fn play_some<D: Disk, K: Sink>(
     alloc: Global,
-    openers: &mut Openers,
-    space: &mut S,
+    world: &mut World,
+    disk: &mut D,
     plays: &[Play],
     output: &mut K,
 ) -> Result<Result<(), Fault>, Unprinted>
-    requires form { S.form space.old ≡ form_in openers.old.header }
-    requires stands { Stands openers.old (S.image space.old) (S.size space.old) }
-    requires spare { (view : S) → S.spare view ≡ without_bound }
-    requires served { AreServed plays.now }
-    ensures ran { Ran S.tells K.tells (scene openers.old (S.image space.old) (S.size space.old) (S.faults space.old) (K.written output.old))
-        (scene openers.new (S.image space.new) (S.size space.new) (S.faults space.new) (K.written output.new)) plays.now result }
-    ensures wrote { Wrote S.Space space.old space.new }
+    requires fits { WorldFits world.old (seen (D.history disk.old)) (D.size disk.old) }
+    requires playable { ArePlayable plays.now }
+    ensures ran { Ran D.tells K.tells (scene world.old (D.history disk.old) (D.size disk.old) (D.faults disk.old) (K.written output.old))
+        (scene world.new (D.history disk.new) (D.size disk.new) (D.faults disk.new) (K.written output.new)) plays.now result }
     ensures cause { HasCause (K.faults output.old) (K.faults output.new) result }
 {
     let mut report = TurnReport::new(alloc);
-    let played = openers.run(space, plays, &mut report);
+    let played = run(world, disk, plays, &mut report);
     let told = tell(alloc, &report, output);
     ended(played, told)
 }
 
 /// Takes plays one after the other, and tells each as it is taken.
-fn play_each<S: Space, K: Sink>(
+fn play_each<D: Disk, K: Sink>(
     alloc: Global,
-    openers: &mut Openers,
-    space: &mut S,
+    world: &mut World,
+    disk: &mut D,
     plays: &[Play],
     output: &mut K,
 ) -> Result<Result<(), Fault>, Unprinted>
-    requires form { S.form space.old ≡ form_in openers.old.header }
-    requires stands { Stands openers.old (S.image space.old) (S.size space.old) }
-    requires spare { (view : S) → S.spare view ≡ without_bound }
-    requires served { AreServed plays.now }
-    ensures ran { Ran S.tells K.tells (scene openers.old (S.image space.old) (S.size space.old) (S.faults space.old) (K.written output.old))
-        (scene openers.new (S.image space.new) (S.size space.new) (S.faults space.new) (K.written output.new)) plays.now result }
-    ensures wrote { Wrote S.Space space.old space.new }
+    requires fits { WorldFits world.old (seen (D.history disk.old)) (D.size disk.old) }
+    requires playable { ArePlayable plays.now }
+    ensures ran { Ran D.tells K.tells (scene world.old (D.history disk.old) (D.size disk.old) (D.faults disk.old) (K.written output.old))
+        (scene world.new (D.history disk.new) (D.size disk.new) (D.faults disk.new) (K.written output.new)) plays.now result }
     ensures cause { HasCause (K.faults output.old) (K.faults output.new) result }
 {
     for i in 0..plays.len() {
-        match play_some(alloc, openers, space, &plays[i..i + 1], output)? {
+        match play_some(alloc, world, disk, &plays[i..i + 1], output)? {
             Ok(()) => {}
             Err(fault) => return Ok(Err(fault)),
         }
@@ -111,49 +103,67 @@ fn play_each<S: Space, K: Sink>(
 /// Tells which openers have an unfinished command.
 fn tell_unfinished<K: Sink>(
     alloc: Global,
-    openers: &Openers,
+    world: &World,
     output: &mut K,
 ) -> Result<Result<(), Fault>, Unprinted>
-    requires { (img : List ℕ) × (size : ℕ) × Stands openers.now img size }
-    ensures whole { result ≡ Ok (Ok tt) → IsTrue K.tells → K.written output.new ≡ K.written output.old ++ report_text (unfinished 1 openers.now.openers) }
-    ensures front { IsTrue K.tells → WroteFront (K.written output.old) (report_text (unfinished 1 openers.now.openers)) (K.written output.new) }
-    ensures ends { IsUnbroken result }
+    requires { (img : List ℕ) × (size : ℕ) × WorldFits world.now img size }
+    ensures told { EndTold world.now K.tells (K.written output.old) (K.written output.new) result }
+    ensures unbroken { IsUnbroken result }
     ensures cause { HasCause (K.faults output.old) (K.faults output.new) result }
 {
     let mut report = TurnReport::new(alloc);
-    let Ok(()) = openers.finish_report(&mut report) else {
+    let Ok(()) = finish_report(world, &mut report) else {
         return Ok(Err(Fault::Memory));
     };
     let told = tell(alloc, &report, output);
     ended(Ok(()), told)
 }
 
-/// Takes all plays over an opened file, and tells them and the commands that are unfinished then.
-pub(crate) fn play_all<S: Space, K: Sink>(
+/// Takes all plays in a world, and tells them and the commands that are unfinished then.
+fn play_in<D: Disk, K: Sink>(
     alloc: Global,
-    space: &mut S,
+    world: &mut World,
+    disk: &mut D,
+    plays: &[Play],
+    output: &mut K,
+) -> Result<Result<(), Fault>, Unprinted>
+    requires fits { WorldFits world.old (seen (D.history disk.old)) (D.size disk.old) }
+    requires playable { ArePlayable plays.now }
+    ensures played { IsTrue D.tells → (state : State) → IsJustLoaded world.old (D.history disk.old) state
+        → PlayedOver (form_at world.old) (options_at world.old) (seen (D.history disk.old)) plays.now (seen (D.history disk.new)) K.tells (K.written output.old) (K.written output.new) result }
+    ensures rises { D.faults disk.old ≤ D.faults disk.new }
+    ensures quiet { UnlessBroken result (D.faults disk.new ≡ D.faults disk.old) }
+    ensures rose { IsTrue D.tells → (state : State) → IsJustLoaded world.old (D.history disk.old) state → OnBroken result (Rose (D.faults disk.old) (D.faults disk.new)) }
+    ensures cause { HasCause (K.faults output.old) (K.faults output.new) result }
+{
+    match play_each(alloc, world, disk, plays, output)? {
+        Ok(()) => tell_unfinished(alloc, world, output),
+        Err(fault) => Ok(Err(fault)),
+    }
+}
+
+/// Takes all plays over the opened file on a disk, and tells them and the commands that are unfinished then.
+pub(crate) fn play_all<D: Disk, K: Sink>(
+    alloc: Global,
+    disk: &mut D,
     header: &Header,
     options: &Options,
     plays: &[Play],
     output: &mut K,
 ) -> Result<Result<(), Fault>, Unprinted>
-    requires form { S.form space.old ≡ form_in header.now }
     requires chains { 0 < header.now.hash_size }
     requires limit { options.now.limit ≤ 4294963200 }
-    requires short { S.size space.old ≤ options.now.limit }
-    requires accepted { IsTrue S.tells → AcceptWith (form_in header.now) (S.image space.old) [] }
-    requires spare { (view : S) → S.spare view ≡ without_bound }
-    requires served { AreServed plays.now }
-    ensures played { IsTrue S.tells → PlayedOver (form_in header.now) options.now (S.image space.old) plays.now (S.image space.new) K.tells (K.written output.old) (K.written output.new) result }
-    ensures rises { S.faults space.old ≤ S.faults space.new }
-    ensures quiet { UnlessBroken result (S.faults space.new ≡ S.faults space.old) }
-    ensures rose { IsTrue S.tells → OnBroken result (Rose (S.faults space.old) (S.faults space.new)) }
-    ensures wrote { Wrote S.Space space.old space.new }
+    requires short { D.size disk.old ≤ options.now.limit }
+    requires accepted { IsTrue D.tells → AcceptWith (form_in header.now) (seen (D.history disk.old)) [] }
+    requires playable { ArePlayable plays.now }
+    ensures played { IsTrue D.tells → PlayedOver (form_in header.now) options.now (seen (D.history disk.old)) plays.now (seen (D.history disk.new)) K.tells (K.written output.old) (K.written output.new) result }
+    ensures rises { D.faults disk.old ≤ D.faults disk.new }
+    ensures quiet { UnlessBroken result (D.faults disk.new ≡ D.faults disk.old) }
+    ensures rose { IsTrue D.tells → OnBroken result (Rose (D.faults disk.old) (D.faults disk.new)) }
     ensures cause { HasCause (K.faults output.old) (K.faults output.new) result }
 {
-    let mut openers = Openers::new(alloc, header, options);
-    match play_each(alloc, &mut openers, space, plays, output)? {
-        Ok(()) => tell_unfinished(alloc, &openers, output),
-        Err(fault) => Ok(Err(fault)),
-    }
+    let mut world = World::new(alloc, header, options);
+    let played = play_in(alloc, &mut world, disk, plays, output);
+    world.end();
+    played
 }

@@ -6,7 +6,7 @@ ghost use Rattle.tdb_script.specs.Script.{Script};
 ghost use Rattle.tdb_script.specs.declared.limits.TheConstants.{LONGEST_SCRIPT as LONGEST};
 ghost use Rattle.tdb_top.specs.Scripts.{IsUnscripted, of_script, unscripted};
 ghost use Rattle.tdb_top.specs.declared.scripts.ScriptFault.TheVariants as FaultIs;
-ghost use Rattle.tdb_world.specs.Given.{AreServed};
+ghost use Rattle.tdb_course.specs.Playable.{ArePlayable};
 
 use crate::ending::Ending;
 use std::alloc::{AllocError, Global};
@@ -109,7 +109,7 @@ fn text_on<S: Source>(alloc: Global, input: &mut S) -> Result<Bytes, ScriptFault
 /// The plays of the script on the input, which is read whole.
 pub(crate) fn plays_on<S: Source>(alloc: Global, input: &mut S) -> Result<Plays, ScriptFault>
     ensures script { IfOk result (λ plays. IsTrue S.tells → Script (S.left input.old) plays) }
-    ensures served { IfOk result AreServed }
+    ensures playable { IfOk result ArePlayable }
     ensures refused { IfErr result (λ e. IsTrue S.tells → IsUnscripted (S.left input.old) e) }
     ensures cause { HasCauseOf FaultIs.Input (S.faults input.old) (S.faults input.new) result }
 {

@@ -59,6 +59,65 @@ const DEATHS: &str = "open\ngive 1 store a 2\nturn 1\ndie 1\ngo 1\ndie 1\ndie 1\
 
 const DEATHS_TOLD: &str = "1 open\n1 step\n1 occupied\n1 done ok\n1 died\n1 absent\n";
 
+/// A commit takes turns, and another opener's turns lie between them.
+const COMMIT: &str =
+    "open\nopen\ndo 1 start\ndo 1 store a 9\ndo 2 fetch a\ngive 2 store b 2\nturn 2\ndo 1 commit\ngo 2\ndo 2 fetch a\n";
+
+const COMMIT_TOLD: &str =
+    "1 open\n2 open\n1 step\n1 step\n1 done ok\n1 done ok\n2 step\n2 done data(1) = \"1\"\n2 blocked 1 448\n1 step\n1 step\n1 step\ngrew 4096 8192\n1 step\n1 step\n1 step\n1 step\n1 step\n1 done ok\n2 step\n2 step\n2 step\n2 step\n2 step\n2 done ok\n2 step\n2 done data(1) = \"9\"\n";
+
+/// A transaction within another is cancelled, which dooms that.
+const DOOMED: &str =
+    "open\ndo 1 start\ndo 1 store a 2\ndo 1 start\ndo 1 store b 3\ndo 1 cancel\ndo 1 commit\ndo 1 fetch a\n";
+
+const DOOMED_TOLD: &str =
+    "1 open\n1 step\n1 step\n1 done ok\n1 done ok\n1 done ok\n1 done ok\n1 done ok\n1 done doomed\n1 step\n1 done data(1) = \"1\"\n";
+
+/// The opener of a prepared transaction dies, and its gate is undone before the next turn.
+const PREPARED: &str =
+    "open\nopen\ndo 1 start\ndo 1 store a 9\ndo 1 prepare\ngive 2 fetch a\nturn 2\ndie 1\ngo 2\n";
+
+const PREPARED_TOLD: &str =
+    "1 open\n2 open\n1 step\n1 step\n1 done ok\n1 done ok\n1 step\n1 step\n1 step\ngrew 4096 8192\n1 step\n1 done ok\n2 blocked 1 196\n1 died\nundone 1 4096\n2 step\n2 done data(1) = \"1\"\n";
+
+/// An opener dies in the turn of its commit before the one that shuts the gate.
+const DEATH_BEFORE: &str =
+    "open\nopen\ndo 1 start\ndo 1 store a 9\ngive 1 commit\nturn 1\nturn 1\nturn 1\nturn 1\nturn 1\nturn 1\nturn 1\ndie 1\ndo 2 fetch a\n";
+
+const DEATH_BEFORE_TOLD: &str =
+    "1 open\n2 open\n1 step\n1 step\n1 done ok\n1 done ok\n1 step\n1 step\n1 step\ngrew 4096 8192\n1 step\n1 step\n1 step\n1 step\n1 died\nundone 1 4096\n2 step\n2 done data(1) = \"1\"\n";
+
+/// It dies in the turn behind that.
+const DEATH_BEHIND: &str =
+    "open\nopen\ndo 1 start\ndo 1 store a 9\ngive 1 commit\nturn 1\nturn 1\nturn 1\nturn 1\nturn 1\nturn 1\nturn 1\nturn 1\ndie 1\ndo 2 fetch a\n";
+
+const DEATH_BEHIND_TOLD: &str =
+    "1 open\n2 open\n1 step\n1 step\n1 done ok\n1 done ok\n1 step\n1 step\n1 step\ngrew 4096 8192\n1 step\n1 step\n1 step\n1 step\n1 step\n1 died\n2 step\n2 done data(1) = \"9\"\n";
+
+#[test]
+fn transactions(rt: HostRuntime) -> Result<(), Fail> {
+    for (script, printed, stays) in [
+        (COMMIT, COMMIT_TOLD, false),
+        (DOOMED, DOOMED_TOLD, true),
+        (PREPARED, PREPARED_TOLD, true),
+        (DEATH_BEFORE, DEATH_BEFORE_TOLD, true),
+        (DEATH_BEHIND, DEATH_BEHIND_TOLD, false),
+    ] {
+        let (found, bytes, left) = run_script(
+            rt.alloc(),
+            Base::OneRecord,
+            "turns f.tdb",
+            script,
+            None,
+        )?;
+        assert_eq!(rt; bytes.as_slice(), printed.as_bytes());
+        assert_eq!(rt; found, 0);
+        let same = left.as_slice() == one_record().as_slice();
+        assert_eq!(rt; same, stays, "{script}");
+    }
+    Ok(())
+}
+
 #[test]
 fn reports(rt: HostRuntime) -> Result<(), Fail> {
     let one = Base::OneRecord;
@@ -109,7 +168,7 @@ fn reports(rt: HostRuntime) -> Result<(), Fail> {
         (
             one,
             "turns g.tdb",
-            "open\ndo 1 start",
+            "open\ndo 1 begin",
             None,
             7,
             "input malformed at 5\n",

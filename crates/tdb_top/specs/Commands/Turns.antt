@@ -15,8 +15,8 @@ use Rattle.tdb_script.specs.Script.{Script, BadAt}
 use Rattle.tdb_script.specs.Text.{report_text}
 use Rattle.tdb_world.specs.Openers.{options_of}
 use Rattle.tdb_world.specs.Played.{ComesTo}
-use Rattle.tdb_world.specs.Finished.{unfinished}
-use Rattle.tdb_world.specs.Worlds.{World, state_in}
+use Rattle.tdb_whole.specs.Died.{IsReadAs}
+use Rattle.tdb_course.specs.Unfinished.{EndsWith}
 use Rattle.tdb_plays.specs.declared.options.Options.{Options}
 use Rattle.tdb_tool.specs.Whole.{IsOver, beginning_over}
 use Rattle.tdb_top.specs.declared.ending.Ending.{Ending}
@@ -82,26 +82,29 @@ pub record CameTo (f : Form) (options : Options) (img : List ℕ) (plays : List 
   pub over : IsOver f img old
   pub came : ComesTo f old (law_plays plays) (law_lines lines) new
 
--- All plays were taken over the image a, which is b after them, and their report was printed: its lines, and behind them one
--- for each opener with an unfinished command. The whole report is lawful from the map of a on.
+-- All plays were taken over the image a, and b is read after them as the file of the state that they led to. Their report
+-- was printed: its lines, and behind them one for each opener with an unfinished command. The whole report is lawful from
+-- the map of a on.
 pub record PlayedWhole (f : Form) (options : Options) (a : List ℕ) (plays : List Play) (b : List ℕ) (told : Bool) (before now : List ℕ) : Type 0 where
   pub lines : List Line
-  pub world : World
-  pub leads : LeadsTo f options a plays lines (state_in world b)
-  pub over : IsOver f b (state_in world b)
-  pub lawful : IsLawful f (beginning_over f options a) (law_lines (lines ++ unfinished 1 world.openers))
-  pub printed : IsTrue told → now ≡ before ++ report_text (lines ++ unfinished 1 world.openers)
+  pub left : State
+  pub leads : LeadsTo f options a plays lines left
+  pub over : IsReadAs f b left
+  pub more : List Line
+  pub ends : EndsWith left more
+  pub lawful : IsLawful f (beginning_over f options a) (law_lines (lines ++ more))
+  pub printed : IsTrue told → now ≡ before ++ report_text (lines ++ more)
 
--- Plays were taken over the image a as far as they came, and it is b after them, as they say.
+-- Plays were taken over the image a as far as they came, and b is read after them as the file of the state that they led to.
 abbrev pub CameOver : Form → Options → List ℕ → List ℕ → Type 0
-CameOver f options a b = (plays : List Play) × (lines : List Line) × (new : State) × CameTo f options a plays lines new × IsOver f b new
+CameOver f options a b = (plays : List Play) × (lines : List Line) × (new : State) × CameTo f options a plays lines new × IsReadAs f b new
 
 -- The lines of a report over an opened image: those of plays as far as they came, or of all that were to be taken and behind
 -- them those of unfinished commands.
 pub data IsReport (f : Form) (options : Options) (img : List ℕ) : List Line → Type 0 where
   report_so_far : (plays : List Play) (lines : List Line) (new : State) → CameTo f options img plays lines new → IsReport f options img lines
-  report_whole : (plays : List Play) (lines : List Line) (world : World) (now : List ℕ) → LeadsTo f options img plays lines (state_in world now)
-      → IsReport f options img (lines ++ unfinished 1 world.openers)
+  report_whole : (plays : List Play) (lines more : List Line) (new : State) → LeadsTo f options img plays lines new → EndsWith new more
+      → IsReport f options img (lines ++ more)
 
 -- A file was opened, for turns with these options.
 pub record IsOpened (options : Options) (old opened : History) : Type 0 where
@@ -109,7 +112,7 @@ pub record IsOpened (options : Options) (old opened : History) : Type 0 where
   pub reads : seen opened ≡ opened_bytes (seen old)
 
 -- All plays of the script on the input were taken over a file, and their report was printed. They lead from a world just
--- loaded over what the file was read as to one over what is left of it.
+-- loaded over what the file was read as to a state as whose file what is left of it is read.
 pub record IsPlayed (options : Options) (input : Input) (output : Output) (old now : History) : Type 0 where
   pub opened : History
   pub is_opened : IsOpened options old opened
@@ -117,7 +120,7 @@ pub record IsPlayed (options : Options) (input : Input) (output : Output) (old n
   pub script : HasScript input plays
   pub whole : PlayedWhole (form_of (seen opened)) options (seen opened) plays (seen now) output.tells output.before output.after
 
--- Plays were taken over a file as far as they came, and it is left as they say.
+-- Plays were taken over a file as far as they came, and what is left of it is read as they say.
 pub record IsPlayedSoFar (options : Options) (old now : History) : Type 0 where
   pub opened : History
   pub is_opened : IsOpened options old opened

@@ -23,7 +23,6 @@ use crate::ending::{Ending, Reply, Unprinted};
 use crate::opening::Opened;
 use std::alloc::Global;
 use tdb_disk::{Disk, Files, Sink, Source, Take};
-use tdb_space::Direct;
 use tdb_tool::{SessionEnd, SessionFault, run_session};
 use tdb_world::Options;
 
@@ -59,8 +58,7 @@ fn serve_opened<D: Disk, S: Source, K: Sink>(
     ensures input_cause { HasCauseOf FaultIs.Input (S.faults input.old) (S.faults input.new) result }
     ensures cause { HasCauseOf FaultIs.Output (K.faults output.old) (K.faults output.new) result }
 {
-    let mut space = Direct::new(disk, &opened.header);
-    run_session(alloc, &mut space, &opened.header, options, input, output)
+    run_session(alloc, disk, &opened.header, options, input, output)
 }
 
 /// How a run ends whose session answered so.

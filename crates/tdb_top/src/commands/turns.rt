@@ -5,7 +5,7 @@ ghost use Rattle.tdb_disk.specs.Count.{HasCause, HasCauseOf, Rose};
 ghost use Rattle.tdb_disk.specs.History.{seen};
 ghost use Rattle.tdb_disk.specs.Names.{SameBut};
 ghost use Rattle.tdb_space.specs.Form.{form_of};
-ghost use Rattle.tdb_world.specs.Given.{AreServed};
+ghost use Rattle.tdb_course.specs.Playable.{ArePlayable};
 ghost use Rattle.tdb_ask.specs.declared.ask.Task.TheVariants.{Turns};
 ghost use Rattle.tdb_top.specs.declared.ending.Ending.TheVariants.{Replied, Usage};
 ghost use Rattle.tdb_top.specs.declared.ending.Reply.TheVariants.{Played};
@@ -28,7 +28,6 @@ use crate::scripts::plays_on;
 use std::alloc::Global;
 use tdb_disk::{Disk, Files, Sink, Source, Take};
 use tdb_plays::Play;
-use tdb_space::Direct;
 use tdb_world::Options;
 
 /// Opens the file on a disk, which isn't too long, to read it alone or not.
@@ -86,15 +85,14 @@ fn play_opened<D: Disk, K: Sink>(
     requires length { opened.now.len ≡ D.size disk.old }
     requires short { opened.now.len ≤ options.now.limit }
     requires checked { IsTrue D.tells → IsCheckedOn (seen (D.history disk.old)) opened.now }
-    requires served { AreServed plays.now }
+    requires playable { ArePlayable plays.now }
     ensures played { IsTrue D.tells → PlayedOver (form_of (seen (D.history disk.old))) options.now (seen (D.history disk.old)) plays.now (seen (D.history disk.new)) K.tells (K.written output.old) (K.written output.new) result }
     ensures rises { D.faults disk.old ≤ D.faults disk.new }
     ensures quiet { UnlessBroken result (D.faults disk.new ≡ D.faults disk.old) }
     ensures rose { IsTrue D.tells → OnBroken result (Rose (D.faults disk.old) (D.faults disk.new)) }
     ensures cause { HasCause (K.faults output.old) (K.faults output.new) result }
 {
-    let mut space = Direct::new(disk, &opened.header);
-    play_all(alloc, &mut space, &opened.header, options, plays, output)
+    play_all(alloc, disk, &opened.header, options, plays, output)
 }
 
 /// Opens the file on a disk, takes plays over it, and tells them.
@@ -106,7 +104,7 @@ fn play_on_disk<D: Disk, K: Sink>(
     output: &mut K,
 ) -> Result<Ending, Unprinted>
     requires limit { options.now.limit ≤ 4294963200 }
-    requires served { AreServed plays.now }
+    requires playable { ArePlayable plays.now }
     ensures played { IsTrue D.tells → PlayedFile options.now (D.history disk.old) (D.history disk.new) plays.now K.tells (K.written output.old) (K.written output.new) result }
     ensures counted { CountedIf D.tells (D.faults disk.old) (D.faults disk.new) (ending_of result) }
     ensures cause { HasCause (K.faults output.old) (K.faults output.new) result }
@@ -134,7 +132,7 @@ fn play_on_file<F: Files, K: Sink>(
     output: &mut K,
 ) -> Result<Ending, Unprinted>
     requires limit { options.now.limit ≤ 4294963200 }
-    requires served { AreServed plays.now }
+    requires playable { ArePlayable plays.now }
     requires free { (other : List ℕ) → F.is_taken files.old other ≡ false }
     ensures cause { IsTrue F.D.tells → PlaysCause options.now name.now (F.held files.old name.now) (F.faults files.old) (F.faults files.new) (ending_of result) }
     ensures left { IsTrue F.D.tells → T.TurnsLeave options.now (F.held files.old name.now) (ending_of result) (F.held files.new name.now) }

@@ -1,59 +1,36 @@
-use Rattle.std.proofs.Common.{◌≡◌, ◌∙◌, true, Ok, Err, ap, subst, rules}
-use Rattle.std.proofs.lemmas.Result.{err_from_is_err_and}
+use Rattle.std.proofs.Common.{◌≡◌, true, subst, rules}
+use Rattle.tdb_words.specs.declared.header.Header.{Header}
+use Rattle.tdb_disk.specs.History.{seen}
+use Rattle.tdb_law.specs.World.{State, HasFewChains}
+use Rattle.tdb_plays.specs.declared.options.Options.{Options}
 use Rattle.tdb_space.specs.Form.{form_in}
-use Rattle.tdb_law.specs.Beginning.{IsLoaded}
-use Rattle.tdb_law.specs.World.{HasFewChains}
-use Rattle.tdb_world.specs.Openers.{options_of}
-use Rattle.tdb_world.specs.Worlds.{state_in}
-use Rattle.tdb_tool.proofs.Wholes.{over_self}
-use Rattle.tdb_tool.specs.Whole.{IsOver}
-use Rattle.tdb_top.specs.Playing.{PlaysEnd, RunsTo, TellsAll, PlayedOver}
-use Rattle.tdb_top.proofs.Over.{broken_off, finished}
+use Rattle.tdb_top.specs.Playing.{IsJustLoaded, PlayedOver}
+use Rattle.tdb_top.proofs.Over.{just_loaded}
 use Rattle.tdb_top.proofs.playing.play_all.Goals as goal
-use Rattle.tdb_top.proofs.playing.play_all.Goals.{After-play_each}
+use Rattle.tdb_top.proofs.playing.play_all.Goals.{After-new-world}
 
--- the world began just loaded over the image
-loaded : (g : _) (c : After-play_each g) → IsLoaded (form_in c.args.header.now) (state_in c.new-openers.result (g.S.Space.image c.args.space.now)) (options_of c.args.options.now)
-loaded g c = let few : HasFewChains (form_in c.args.header.now) = search rules in c.new-openers.ensures.loaded (g.S.Space.image c.args.space.now) few
+few : (g : _) (c : After-new-world g) → HasFewChains (form_in c.args.header.now)
+few g c = search rules
 
-over : (g : _) (c : After-play_each g) → IsOver (form_in c.args.header.now) (g.S.Space.image c.args.space.now) (state_in c.new-openers.result (g.S.Space.image c.args.space.now))
-over g c = over_self (form_in c.args.header.now) c.new-openers.result (g.S.Space.image c.args.space.now) (ap form_in c.new-openers.ensures.header)
+pub play_in-played-requires-clause-fits : goal.play_in-played-requires-clause-fits
+play_in-played-requires-clause-fits g c =
+    c.new-world.ensures.fits (seen (g.D.Disk.history c.args.disk.now)) (g.D.Disk.size c.args.disk.now) (few g ((goal.at.play_in-played-requires-clause-fits g c).After-new-world)) c.requires.limit c.requires.short
 
-is_over : (g : _) (c : After-play_each g) → IsOver (form_in c.args.header.now) (g.S.Space.image c.play_each.new.space) (state_in c.play_each.new.openers (g.S.Space.image c.play_each.new.space))
-is_over g c = over_self (form_in c.args.header.now) c.play_each.new.openers (g.S.Space.image c.play_each.new.space) (ap form_in (c.play_each.ensures.ran.header ∙ c.new-openers.ensures.header))
-
--- the plays, as they ended
-runs : (g : _) (c : After-play_each g) → g.S.Space.tells ≡ true → RunsTo (form_in c.args.header.now) (state_in c.new-openers.result (g.S.Space.image c.args.space.now)) c.args.plays.now (state_in c.play_each.new.openers (g.S.Space.image c.play_each.new.space)) g.K.Sink.tells (g.K.Sink.written c.args.output.now) (g.K.Sink.written c.play_each.new.output) c.play_each.result
-runs g c told =
-    subst (λ f. RunsTo f (state_in c.new-openers.result (g.S.Space.image c.args.space.now)) c.args.plays.now (state_in c.play_each.new.openers (g.S.Space.image c.play_each.new.space)) g.K.Sink.tells (g.K.Sink.written c.args.output.now) (g.K.Sink.written c.play_each.new.output) c.play_each.result)
-    (ap form_in c.new-openers.ensures.header)
-    (c.play_each.ensures.ran.runs told (c.new-openers.ensures.bytes (g.S.Space.image c.args.space.now) (c.requires.accepted told)))
-
--- they broke off
-broken : (g : _) (c : After-play_each g) (answer : PlaysEnd) → g.S.Space.tells ≡ true → c.play_each.result ≡ answer → (answer ≡ Ok (Ok tt) → ⊥)
-    → PlayedOver (form_in c.args.header.now) c.args.options.now (g.S.Space.image c.args.space.now) c.args.plays.now (g.S.Space.image c.play_each.new.space) g.K.Sink.tells (g.K.Sink.written c.args.output.now) (g.K.Sink.written c.play_each.new.output) answer
-broken g c answer told is other =
-    broken_off (form_in c.args.header.now) c.args.options.now (g.S.Space.image c.args.space.now) c.args.plays.now (state_in c.new-openers.result (g.S.Space.image c.args.space.now)) (loaded g c) (over g c) g.K.Sink.tells
-    (state_in c.play_each.new.openers (g.S.Space.image c.play_each.new.space)) (g.S.Space.image c.play_each.new.space) (g.K.Sink.written c.args.output.now) (g.K.Sink.written c.play_each.new.output) answer other (is_over g c)
-    (subst (RunsTo (form_in c.args.header.now) (state_in c.new-openers.result (g.S.Space.image c.args.space.now)) c.args.plays.now (state_in c.play_each.new.openers (g.S.Space.image c.play_each.new.space)) g.K.Sink.tells (g.K.Sink.written c.args.output.now) (g.K.Sink.written c.play_each.new.output)) is (runs g c told))
-
-pub returns-in_err-play_each-clause-played : goal.returns-in_err-play_each-clause-played
-returns-in_err-play_each-clause-played g c =
-    let q = err_from_is_err_and c.from_residual.result c.from_residual.ensures.1 in
-    rw (q.1, q.2)
-    (λ told. broken g ((goal.at.returns-in_err-play_each-clause-played g c).After-play_each) (Err c.in_err-play_each.field-0.0) told c.in_err-play_each.was (λ is. cc))
+-- the world began just loaded over what the file holds
+just : (g : _) (c : After-new-world g) → g.D.Disk.tells ≡ true → (state : State) × IsJustLoaded c.new-world.result (g.D.Disk.history c.args.disk.now) state
+just g c told =
+    let h = g.D.Disk.history c.args.disk.now in
+    let s = c.new-world.ensures.state h (few g c) c.requires.limit (c.requires.accepted told) in
+    (s.0, just_loaded c.new-world.result h c.args.header.now c.args.options.now s.0 c.new-world.ensures.header c.new-world.ensures.options s.1 s.2 s.3 s.4)
 
 pub returns-clause-played : goal.returns-clause-played
-returns-clause-played g c told = broken g ((goal.at.returns-clause-played g c).After-play_each) (Ok (Err c.in-Err.fault)) told (c.in_ok-play_each.was ∙ ap Ok c.in-Err.is) (λ is. cc)
+returns-clause-played g c told =
+    let j = just g ((goal.at.returns-clause-played g c).After-new-world) told in
+    subst (λ (q : Header × Options). PlayedOver (form_in q.0) q.1 (seen (g.D.Disk.history c.args.disk.now)) c.args.plays.now (seen (g.D.Disk.history c.play_in-played.new.disk)) g.K.Sink.tells (g.K.Sink.written c.args.output.now) (g.K.Sink.written c.play_in-played.new.output) c.play_in-played.result)
+    (λ i. (c.new-world.ensures.header i, c.new-world.ensures.options i))
+    (c.play_in-played.ensures.played told j.0 j.1)
 
--- they were all taken
-pub returns-in-Ok-clause-played : goal.returns-in-Ok-clause-played
-returns-in-Ok-clause-played g c told =
-    let a = (goal.at.returns-in-Ok-clause-played g c).After-play_each in
-    let b = g.S.Space.image c.play_each.new.space in
-    let p : TellsAll (form_in c.args.header.now) (state_in c.new-openers.result (g.S.Space.image c.args.space.now)) c.args.plays.now (state_in c.play_each.new.openers b) g.K.Sink.tells (g.K.Sink.written c.args.output.now) (g.K.Sink.written c.play_each.new.output) =
-    subst (RunsTo (form_in c.args.header.now) (state_in c.new-openers.result (g.S.Space.image c.args.space.now)) c.args.plays.now (state_in c.play_each.new.openers b) g.K.Sink.tells (g.K.Sink.written c.args.output.now) (g.K.Sink.written c.play_each.new.output))
-    (c.in_ok-play_each.was ∙ ap Ok c.in-Ok.is) (runs g a told) in
-    finished (form_in c.args.header.now) c.args.options.now (g.S.Space.image c.args.space.now) c.args.plays.now (state_in c.new-openers.result (g.S.Space.image c.args.space.now)) (loaded g a) (over g a) g.K.Sink.tells
-    c.play_each.new.openers b (g.K.Sink.written c.args.output.now) (g.K.Sink.written c.play_each.new.output) (g.K.Sink.written c.tell_unfinished.new.output) (is_over g a) p c.tell_unfinished.result
-    c.tell_unfinished.ensures.ends c.tell_unfinished.ensures.whole c.tell_unfinished.ensures.front
+pub returns-clause-rose : goal.returns-clause-rose
+returns-clause-rose g c told =
+    let j = just g ((goal.at.returns-clause-rose g c).After-new-world) told in
+    c.play_in-played.ensures.rose told j.0 j.1

@@ -1,33 +1,43 @@
-use Rattle.std.proofs.Common.{◌≡◌, ◌+◌, ◌-◌, ◌∙◌, take, drop, Ok, Err, sym, ap, subst, rules}
+use Rattle.std.proofs.Common.{◌≡◌, ◌+◌, ◌-◌, ◌∙◌, take, drop, Ok, Err, refl, subst}
+use Rattle.std.proofs.lemmas.List.{take_all}
 use Rattle.std.proofs.lemmas.Result.{err_from_is_err_and}
-use Rattle.tdb_space.specs.Form.{form_in}
 use Rattle.tdb_top.specs.Playing.{Scene, scene, Ran, PlaysEnd}
-use Rattle.tdb_top.proofs.Coming.{ran_on, ran_off, next_slice, slice_more}
+use Rattle.tdb_top.proofs.Coming.{ran_none, ran_on, ran_off, next_slice, slice_more}
 use Rattle.tdb_top.proofs.playing.play_each.Goals as goal
 use Rattle.tdb_top.proofs.playing.play_each.Goals.{After-play_some}
 
-pub play_some-requires-clause-form : goal.play_some-requires-clause-form
-play_some-requires-clause-form g c = c.loop-i.invariant.wrote.form ∙ c.requires.form ∙ sym (ap form_in c.loop-i.invariant.ran.header)
+pub play_some-requires-clause-fits : goal.play_some-requires-clause-fits
+play_some-requires-clause-fits g c = c.loop-i.invariant.ran.fits
 
-pub play_some-requires-clause-stands : goal.play_some-requires-clause-stands
-play_some-requires-clause-stands g c = c.loop-i.invariant.ran.stands
+-- none was taken, and all were
+pub loop-i-init : goal.loop-i-init
+loop-i-init g c = record {
+  ran = ran_none g.D.Disk.tells g.K.Sink.tells (scene c.args.world.now (g.D.Disk.history c.args.disk.now) (g.D.Disk.size c.args.disk.now) (g.D.Disk.faults c.args.disk.now) (g.K.Sink.written c.args.output.now)) c.requires.fits;
+  out = refl;
+}
+
+pub returns-clause-ran : goal.returns-clause-ran
+returns-clause-ran g c =
+    subst (λ ps. Ran g.D.Disk.tells g.K.Sink.tells (scene c.args.world.now (g.D.Disk.history c.args.disk.now) (g.D.Disk.size c.args.disk.now) (g.D.Disk.faults c.args.disk.now) (g.K.Sink.written c.args.output.now))
+    (scene c.loop-i.world (g.D.Disk.history c.loop-i.disk) (g.D.Disk.size c.loop-i.disk) (g.D.Disk.faults c.loop-i.disk) (g.K.Sink.written c.loop-i.output)) ps (Ok (Ok tt)))
+    (take_all c.loop-i.i c.args.plays.now c.loop-i-test.false) c.loop-i.invariant.ran
 
 -- before all plays, before the next one, and after it
 abbrev start : (g : _) (c : After-play_some g) → Scene
-start g c = scene c.args.openers.now (g.S.Space.image c.args.space.now) (g.S.Space.size c.args.space.now) (g.S.Space.faults c.args.space.now) (g.K.Sink.written c.args.output.now)
+start g c = scene c.args.world.now (g.D.Disk.history c.args.disk.now) (g.D.Disk.size c.args.disk.now) (g.D.Disk.faults c.args.disk.now) (g.K.Sink.written c.args.output.now)
 
 abbrev mid : (g : _) (c : After-play_some g) → Scene
-mid g c = scene c.loop-i.openers (g.S.Space.image c.loop-i.space) (g.S.Space.size c.loop-i.space) (g.S.Space.faults c.loop-i.space) (g.K.Sink.written c.loop-i.output)
+mid g c = scene c.loop-i.world (g.D.Disk.history c.loop-i.disk) (g.D.Disk.size c.loop-i.disk) (g.D.Disk.faults c.loop-i.disk) (g.K.Sink.written c.loop-i.output)
 
 abbrev last : (g : _) (c : After-play_some g) → Scene
-last g c = scene c.play_some.new.openers (g.S.Space.image c.play_some.new.space) (g.S.Space.size c.play_some.new.space) (g.S.Space.faults c.play_some.new.space) (g.K.Sink.written c.play_some.new.output)
+last g c = scene c.play_some.new.world (g.D.Disk.history c.play_some.new.disk) (g.D.Disk.size c.play_some.new.disk) (g.D.Disk.faults c.play_some.new.disk) (g.K.Sink.written c.play_some.new.output)
 
 -- they broke off
 broken : (g : _) (c : After-play_some g) (answer : PlaysEnd) → (answer ≡ Ok (Ok tt) → ⊥)
-    → Ran g.S.Space.tells g.K.Sink.tells (mid g c) (last g c) (take (c.loop-i.i + 1 - c.loop-i.i) (drop c.loop-i.i c.args.plays.now)) answer → Ran g.S.Space.tells g.K.Sink.tells (start g c) (last g c) c.args.plays.now answer
+    → Ran g.D.Disk.tells g.K.Sink.tells (mid g c) (last g c) (take (c.loop-i.i + 1 - c.loop-i.i) (drop c.loop-i.i c.args.plays.now)) answer → Ran g.D.Disk.tells g.K.Sink.tells (start g c) (last g c) c.args.plays.now answer
 broken g c answer other next =
-    subst (λ ps. Ran g.S.Space.tells g.K.Sink.tells (start g c) (last g c) ps answer) (next_slice c.args.plays.now c.loop-i.i)
-    (ran_off g.S.Space.tells g.K.Sink.tells (start g c) (mid g c) (last g c) (take c.loop-i.i c.args.plays.now) (take (c.loop-i.i + 1 - c.loop-i.i) (drop c.loop-i.i c.args.plays.now)) c.loop-i.invariant.ran (drop (c.loop-i.i + 1) c.args.plays.now) answer other next)
+    subst (λ ps. Ran g.D.Disk.tells g.K.Sink.tells (start g c) (last g c) ps answer) (next_slice c.args.plays.now c.loop-i.i)
+    (ran_off g.D.Disk.tells g.K.Sink.tells (start g c) (mid g c) (last g c) (take c.loop-i.i c.args.plays.now) (take (c.loop-i.i + 1 - c.loop-i.i) (drop c.loop-i.i c.args.plays.now)) c.loop-i.invariant.ran (drop (c.loop-i.i + 1) c.args.plays.now) answer other next)
 
 pub returns-in_err-play_some-clause-ran : goal.returns-in_err-play_some-clause-ran
 returns-in_err-play_some-clause-ran g c =
@@ -39,16 +49,15 @@ pub returns-in-Err-clause-ran : goal.returns-in-Err-clause-ran
 returns-in-Err-clause-ran g c =
     let a = (goal.at.returns-in-Err-clause-ran g c).After-play_some in
     broken g a (Ok (Err c.in-Err.fault)) (λ is. cc)
-    (subst (λ r. Ran g.S.Space.tells g.K.Sink.tells (mid g a) (last g a) (take (c.loop-i.i + 1 - c.loop-i.i) (drop c.loop-i.i c.args.plays.now)) (Ok r)) c.in-Err.is c.in_ok-play_some.ensures.ran)
+    (subst (λ r. Ran g.D.Disk.tells g.K.Sink.tells (mid g a) (last g a) (take (c.loop-i.i + 1 - c.loop-i.i) (drop c.loop-i.i c.args.plays.now)) (Ok r)) c.in-Err.is c.in_ok-play_some.ensures.ran)
 
 -- the next one was taken
 pub loop-i-preserved : goal.loop-i-preserved
 loop-i-preserved g c =
     let a = (goal.at.loop-i-preserved g c).After-play_some in
     record {
-      ran = subst (λ ps. Ran g.S.Space.tells g.K.Sink.tells (start g a) (last g a) ps (Ok (Ok tt))) (slice_more c.args.plays.now c.loop-i.i)
-          (ran_on g.S.Space.tells g.K.Sink.tells (start g a) (mid g a) (last g a) (take c.loop-i.i c.args.plays.now) (take (c.loop-i.i + 1 - c.loop-i.i) (drop c.loop-i.i c.args.plays.now)) c.loop-i.invariant.ran
-          (subst (λ r. Ran g.S.Space.tells g.K.Sink.tells (mid g a) (last g a) (take (c.loop-i.i + 1 - c.loop-i.i) (drop c.loop-i.i c.args.plays.now)) (Ok r)) c.in-Ok.is c.in_ok-play_some.ensures.ran));
-      wrote = search rules;
+      ran = subst (λ ps. Ran g.D.Disk.tells g.K.Sink.tells (start g a) (last g a) ps (Ok (Ok tt))) (slice_more c.args.plays.now c.loop-i.i)
+          (ran_on g.D.Disk.tells g.K.Sink.tells (start g a) (mid g a) (last g a) (take c.loop-i.i c.args.plays.now) (take (c.loop-i.i + 1 - c.loop-i.i) (drop c.loop-i.i c.args.plays.now)) c.loop-i.invariant.ran
+          (subst (λ r. Ran g.D.Disk.tells g.K.Sink.tells (mid g a) (last g a) (take (c.loop-i.i + 1 - c.loop-i.i) (drop c.loop-i.i c.args.plays.now)) (Ok r)) c.in-Ok.is c.in_ok-play_some.ensures.ran));
       out = c.in_ok-play_some.ensures.cause.done ∙ c.loop-i.invariant.out;
     }

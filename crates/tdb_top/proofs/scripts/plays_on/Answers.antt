@@ -1,5 +1,5 @@
 use Rattle.std.proofs.lemmas.Result.{err_from_is_err_and}
-use Rattle.tdb_top.proofs.Served.{script_served}
+use Rattle.tdb_top.proofs.Served.{script_playable}
 use Rattle.tdb_top.proofs.Turning.{bad_whole}
 use Rattle.tdb_top.proofs.scripts.plays_on.Goals as goal
 
@@ -19,6 +19,6 @@ returns-in_err-plays-clause-refused g c =
     (let (more, left, end) = c.in_ok-text.ensures.text told in
     bad_whole c.as_slice.result.now c.in_ok-text.text more (g.S.Source.left c.args.input.now) c.in_err-plays.field-0.0 c.as_slice.ensures left end c.in_err-plays.ensures.refused))
 
--- a world serves it
-pub returns-clause-served : goal.returns-clause-served
-returns-clause-served g c = script_served c.as_slice.result.now c.in_ok-plays.plays c.in_ok-plays.ensures.read
+-- its plays may be taken
+pub returns-clause-playable : goal.returns-clause-playable
+returns-clause-playable g c = script_playable c.as_slice.result.now c.in_ok-plays.plays c.in_ok-plays.ensures.read

@@ -1,0 +1,72 @@
+use Rattle.std.proofs.Common.{◌≡◌, ◌∙◌, true, Ok, Err, ap, subst}
+use Rattle.std.proofs.lemmas.Result.{err_from_is_err_and}
+use Rattle.tdb_disk.specs.Count.{Rose}
+use Rattle.tdb_disk.specs.History.{seen}
+use Rattle.tdb_space.specs.Form.{form_in}
+use Rattle.tdb_law.specs.World.{State}
+use Rattle.tdb_whole.specs.Died.{IsReadAs}
+use Rattle.tdb_whole.specs.States.{IsStateOf}
+use Rattle.tdb_whole.specs.Whole.{form_at, options_at, WorldFits}
+use Rattle.tdb_whole.proofs.Reopening.{state_reopens}
+use Rattle.tdb_course.proofs.Finishing.{report_lawful, ends_alike}
+use Rattle.tdb_top.specs.Playing.{PlaysEnd, UnlessBroken, OnBroken, RunsTo, PlayedOver, IsJustLoaded}
+use Rattle.tdb_top.proofs.Coming.{unless_map}
+use Rattle.tdb_top.proofs.Over.{broken_off, finished}
+use Rattle.tdb_top.proofs.playing.play_in.Goals as goal
+use Rattle.tdb_top.proofs.playing.play_in.Goals.{After-play_each}
+
+-- the file is read as that of each state that the world may have afterwards
+is_read : (g : _) (c : After-play_each g) (new : State) → IsStateOf c.play_each.new.world (g.D.Disk.history c.play_each.new.disk) new
+    → UnlessBroken c.play_each.result (IsReadAs (form_at c.args.world.now) (seen (g.D.Disk.history c.play_each.new.disk)) new)
+is_read g c new is =
+    unless_map c.play_each.result (λ same. subst (λ f. IsReadAs f (seen (g.D.Disk.history c.play_each.new.disk)) new) (ap form_in same) (state_reopens c.play_each.new.world (g.D.Disk.history c.play_each.new.disk) new is)) c.play_each.ensures.ran.header
+
+-- they broke off
+broken : (g : _) (c : After-play_each g) (answer : PlaysEnd) → g.D.Disk.tells ≡ true → c.play_each.result ≡ answer → (answer ≡ Ok (Ok tt) → ⊥) → (state : State) → IsJustLoaded c.args.world.now (g.D.Disk.history c.args.disk.now) state
+    → PlayedOver (form_at c.args.world.now) (options_at c.args.world.now) (seen (g.D.Disk.history c.args.disk.now)) c.args.plays.now (seen (g.D.Disk.history c.play_each.new.disk)) g.K.Sink.tells (g.K.Sink.written c.args.output.now) (g.K.Sink.written c.play_each.new.output) answer
+broken g c answer told is other state just =
+    let left = IsStateOf c.play_each.new.world (g.D.Disk.history c.play_each.new.disk) in
+    broken_off (form_at c.args.world.now) (options_at c.args.world.now) (seen (g.D.Disk.history c.args.disk.now)) c.args.plays.now state just.loaded just.over g.K.Sink.tells
+    left (seen (g.D.Disk.history c.play_each.new.disk)) (g.K.Sink.written c.args.output.now) (g.K.Sink.written c.play_each.new.output) answer other
+    (λ new at. subst (λ r. UnlessBroken r (IsReadAs (form_at c.args.world.now) (seen (g.D.Disk.history c.play_each.new.disk)) new)) is (is_read g c new at))
+    (subst (RunsTo (form_at c.args.world.now) state c.args.plays.now left g.K.Sink.tells (g.K.Sink.written c.args.output.now) (g.K.Sink.written c.play_each.new.output)) is
+    (c.play_each.ensures.ran.runs told state just.of_world))
+
+pub returns-in_err-play_each-clause-played : goal.returns-in_err-play_each-clause-played
+returns-in_err-play_each-clause-played g c =
+    let q = err_from_is_err_and c.from_residual.result c.from_residual.ensures.1 in
+    rw (q.1, q.2)
+    (λ told. broken g ((goal.at.returns-in_err-play_each-clause-played g c).After-play_each) (Err c.in_err-play_each.field-0.0) told c.in_err-play_each.was (λ is. cc))
+
+pub returns-in-Err-clause-played : goal.returns-in-Err-clause-played
+returns-in-Err-clause-played g c told = broken g ((goal.at.returns-in-Err-clause-played g c).After-play_each) (Ok (Err c.in-Err.fault)) told (c.in_ok-play_each.was ∙ ap Ok c.in-Err.is) (λ is. cc)
+
+-- the disk failed only where they broke off
+rose : (g : _) (c : After-play_each g) (answer : PlaysEnd) → g.D.Disk.tells ≡ true → c.play_each.result ≡ answer → (state : State) → IsJustLoaded c.args.world.now (g.D.Disk.history c.args.disk.now) state
+    → OnBroken answer (Rose (g.D.Disk.faults c.args.disk.now) (g.D.Disk.faults c.play_each.new.disk))
+rose g c answer told is state just =
+    subst (λ r. OnBroken r (Rose (g.D.Disk.faults c.args.disk.now) (g.D.Disk.faults c.play_each.new.disk))) is (c.play_each.ensures.ran.rose told state just.of_world)
+
+pub returns-in_err-play_each-clause-rose : goal.returns-in_err-play_each-clause-rose
+returns-in_err-play_each-clause-rose g c =
+    let q = err_from_is_err_and c.from_residual.result c.from_residual.ensures.1 in
+    rw (q.1, q.2)
+    (λ told. rose g ((goal.at.returns-in_err-play_each-clause-rose g c).After-play_each) (Err c.in_err-play_each.field-0.0) told c.in_err-play_each.was)
+
+pub returns-in-Err-clause-rose : goal.returns-in-Err-clause-rose
+returns-in-Err-clause-rose g c told = rose g ((goal.at.returns-in-Err-clause-rose g c).After-play_each) (Ok (Err c.in-Err.fault)) told (c.in_ok-play_each.was ∙ ap Ok c.in-Err.is)
+
+-- they were all taken
+pub returns-in-Ok-clause-played : goal.returns-in-Ok-clause-played
+returns-in-Ok-clause-played g c told state just =
+    let a = (goal.at.returns-in-Ok-clause-played g c).After-play_each in
+    let h = g.D.Disk.history c.play_each.new.disk in
+    let left = IsStateOf c.play_each.new.world h in
+    let all = c.in_ok-play_each.was ∙ ap Ok c.in-Ok.is in
+    let p = subst (RunsTo (form_at c.args.world.now) state c.args.plays.now left g.K.Sink.tells (g.K.Sink.written c.args.output.now) (g.K.Sink.written c.play_each.new.output)) all (c.play_each.ensures.ran.runs told state just.of_world) in
+    let read = subst (λ r. UnlessBroken r (IsReadAs (form_at c.args.world.now) (seen h) p.0)) all (is_read g a p.0 p.1) in
+    let fits = subst (λ r. UnlessBroken r (WorldFits c.play_each.new.world (seen h) (g.D.Disk.size c.play_each.new.disk))) all c.play_each.ensures.ran.fits in
+    let e = c.tell_unfinished.ensures.told in
+    finished (form_at c.args.world.now) (options_at c.args.world.now) (seen (g.D.Disk.history c.args.disk.now)) c.args.plays.now state just.loaded just.over g.K.Sink.tells
+    p.0 e.lines (ends_alike c.play_each.new.world (seen h) (g.D.Disk.size c.play_each.new.disk) h p.0 e.lines fits p.1 e.is_end) (seen h) (g.K.Sink.written c.args.output.now) (g.K.Sink.written c.play_each.new.output) (g.K.Sink.written c.tell_unfinished.new.output) read p.2 report_lawful
+    c.tell_unfinished.result c.tell_unfinished.ensures.unbroken e.whole e.front
