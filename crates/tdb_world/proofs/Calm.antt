@@ -1,10 +1,14 @@
 -- Who holds no record for writing is about to make no change: a command on the map that may change it is before its first turn, and a
--- cursor isn't going to purge.
-use Rattle.std.proofs.Common.{◌≡◌, ℕ, List, [], slice_get, true, false, Some, None, is_none, refl, sym, ◌∙◌, ap, subst, inl, inr, ◌⊎◌, arith}
+-- cursor isn't going to purge. So is who isn't in the middle of a change.
+use Rattle.std.proofs.Common.{◌≡◌, ℕ, List, [], slice_get, Bool, true, false, Some, None, is_none, refl, sym, ◌∙◌, ap, subst, inl, inr, ◌⊎◌, arith}
+use Rattle.std.specs.Prelude.{◌&&◌}
 use Rattle.std.proofs.lemmas.Bool.{cases_Bool, cases_eq}
 use Rattle.tdb_space.specs.Form.{Form}
+use Rattle.tdb_locks.specs.HeldLocks.{HeldLocks}
 use Rattle.tdb_locks.specs.declared.piece.Piece.{Piece}
-use Rattle.tdb_law.specs.Commands.Command.{OnMap}
+use Rattle.tdb_law.specs.Commands.{WalkCommand}
+use Rattle.tdb_law.specs.Commands.Command.{OnMap, OnWalk}
+use Rattle.tdb_law.specs.Counting.{unsettles_by}
 use Rattle.tdb_law.specs.MapCommands.{map_changes, map_touches}
 use Rattle.tdb_law.specs.Openers.{Own, Spot}
 use Rattle.tdb_law.specs.Refusals.{chain_byte, refusal}
@@ -23,8 +27,9 @@ use Rattle.tdb_walk.specs.declared.standing.Standing.TheVariants.{Before, On, Pa
 use Rattle.tdb_walk.specs.declared.stage.Stage.{Stage as CursorStage}
 use Rattle.tdb_walk.specs.declared.stage.Stage.TheVariants.{Rested, Reading, Writing, Freeing}
 use Rattle.tdb_walk.specs.Cursors.{dead_of}
-use Rattle.tdb_walk.specs.InLaw.{is_purging}
-use Rattle.tdb_world.specs.Calm.{WritesNoRecord}
+use Rattle.tdb_walk.specs.InLaw.{StandsAfter, is_purging}
+use Rattle.tdb_walk.proofs.Holding.{granted}
+use Rattle.tdb_world.specs.Calm.{WritesNoRecord, IsMidway}
 use Rattle.tdb_plays.specs.declared.options.Options.{Options}
 use Rattle.tdb_world.specs.declared.opener.Opener.{Opener}
 use Rattle.tdb_world.specs.States.{WorldStands}
@@ -81,3 +86,32 @@ walk_calm f options xs ps a size who x W there calm = at x.walk.cursor.place x.w
     at (On chain off) Freeing on is = absurd (never chain off on (ap is_purging is))
     at (Before chain) stage on is = refl
     at Past stage on is = refl
+
+-- a command on the map that isn't in the middle of a change
+pub plain_spared : (f : Form) (x : Own) (d : Doing) (n : ℕ) → is_none x.txn ≡ true → refusal f (OnMap (command_of d.command)) x ≡ None → IsAfter d.command d.stage n
+    → (IsMidway f x (record { command = OnMap (command_of d.command); steps = n }) → ⊥) → (map_changes (command_of d.command) ≡ false) ⊎ IsQuiet d
+plain_spared f x d n out granted is spares = elim (cases_Bool (map_changes (command_of d.command))) [
+  | inr looks ↦ inl looks
+  | inl changes ↦ elim (cases_eq n 0) [
+    | inl none ↦ inr (begun_quiet d (begun_stage d.command d.stage (subst (IsAfter d.command d.stage) none is)))
+    | inr some ↦ absurd (let c = command_of d.command in spares (record {
+      step = 0;
+      taken = omega (arith, some);
+      unsettles = ap (λ q. unsettles_by q (OnMap c) x 0) granted ∙ (ap (λ z. z && map_changes c) out ∙ changes);
+    }))
+  ]
+]
+
+-- a command on the cursor that isn't: it has had a step at most, and takes out a dead record only after the second
+pub walk_spared : (f : Form) (held : HeldLocks) (x : Own) (w : WalkCommand) (place : Standing) (stage : CursorStage) (gone : Bool) (n : ℕ) → x.txn ≡ None → StandsAfter f held x w place stage gone n
+    → (IsMidway f x (record { command = OnWalk w; steps = n }) → ⊥) → dead_of place stage ≡ None
+walk_spared f held x w (On chain off) Rested gone n out S spares = refl
+walk_spared f held x w (On chain off) Reading gone n out S spares = refl
+walk_spared f held x w (On chain off) Writing gone n out S spares = refl
+walk_spared f held x w (On chain off) Freeing gone n out S spares = absurd (let two = S.2 in spares (record {
+  step = 1;
+  taken = omega (arith, two);
+  unsettles = ap (λ q. unsettles_by q (OnWalk w) x 1) (granted f w x out);
+}))
+walk_spared f held x w (Before chain) stage gone n out S spares = refl
+walk_spared f held x w Past stage gone n out S spares = refl

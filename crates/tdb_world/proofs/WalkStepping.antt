@@ -10,21 +10,22 @@ use Rattle.tdb_law.specs.Turned.{Turned}
 use Rattle.tdb_plays.specs.InLaw.{law_opener, law_turn}
 use Rattle.tdb_walk.specs.ByteLocks.{HoldsWords}
 use Rattle.tdb_walk.specs.Cursors.{dead_of}
-use Rattle.tdb_walk.specs.InLaw.{goal_of}
+use Rattle.tdb_walk.specs.InLaw.{goal_of, is_before}
 use Rattle.tdb_cursors.specs.Spots.{LacksCursor, spot_number}
 use Rattle.tdb_plays.specs.declared.options.Options.{Options}
 use Rattle.tdb_world.specs.declared.opener.Opener.{Opener}
 use Rattle.tdb_world.specs.declared.job.Task.{Task}
-use Rattle.tdb_world.specs.Openers.{spots_of, walk_in, walk_of}
+use Rattle.tdb_world.specs.Openers.{own_of, spots_of, walk_in, walk_of}
 use Rattle.tdb_world.specs.States.{state_of, WorldStands, FileStands}
 use Rattle.tdb_world.specs.Jobs.{task_after}
 use Rattle.tdb_world.specs.Laws.{HasTask, IsPut}
-use Rattle.tdb_world.specs.Calm.{WritesNoRecord}
+use Rattle.tdb_world.specs.Calm.{WritesNoRecord, IsMidway}
 use Rattle.tdb_world.specs.Walked.{WalkTurned}
 use Rattle.tdb_world.specs.Worlds.{IsBusy, law_of_task}
 use Rattle.tdb_world.proofs.Putting.{numbered, put_numbered, by_number}
-use Rattle.tdb_world.proofs.Calm.{walk_calm}
-use Rattle.tdb_world.proofs.WalkReady.{walk_words_held, walk_asked, walk_few}
+use Rattle.tdb_world.proofs.Calm.{walk_calm, walk_spared}
+use Rattle.tdb_world.proofs.Purgers.{walks_command}
+use Rattle.tdb_world.proofs.WalkReady.{walk_ready, walk_words_held, walk_asked, walk_few}
 use Rattle.tdb_world.proofs.WalkHeld.{walk_keeps_world}
 use Rattle.tdb_world.proofs.WalkFiled.{walk_keeps_file}
 use Rattle.tdb_world.proofs.WalkLifted.{walk_is_turned}
@@ -65,6 +66,14 @@ module _ (header : Header) (options : Options) (xs : List Opener) (ps : List Pie
   -- an opener that holds no record for writing isn't going to purge one
   pub calm_before : WritesNoRecord ps (law_opener who) → dead_of d.walk.cursor.place d.walk.cursor.stage ≡ None
   calm_before calm = walk_calm (form_in header) options xs ps a size B.number.place d W has.there (subst (WritesNoRecord ps) (by_number who B.number.place B.number.counted) calm)
+
+  -- nor is one that isn't in the middle of a change
+  pub spared_before : (IsMidway (form_in header) (own_of options x) (law_of_task t) → ⊥) → dead_of d.walk.cursor.place d.walk.cursor.stage ≡ None
+  spared_before spares =
+      walk_spared (form_in header) d.held (own_of options d) w d.walk.cursor.place d.walk.cursor.stage (is_before d.walk.cursor.place) t.steps refl
+      (walk_ready (form_in header) options xs ps a size B.number.place d t w W has on).stands
+      (subst (λ c. IsMidway (form_in header) (own_of options d) (record { command = c; steps = t.steps }) → ⊥) (walks_command t.job w on)
+      (subst (λ z. IsMidway (form_in header) (own_of options z) (law_of_task t) → ⊥) (sym same) spares))
 
   pub asked_before : LacksCursor (goal_of w) d.walk.shown → ⊥
   asked_before = walk_asked (form_in header) options xs ps a size B.number.place d t w W has on

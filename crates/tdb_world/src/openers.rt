@@ -17,7 +17,7 @@ ghost use Rattle.tdb_plays.specs.declared.line.Line.{Line};
 ghost use Rattle.tdb_plays.specs.InLaw.{law_opener, law_command, law_turn};
 ghost use Rattle.tdb_world.specs.declared.job.Task.{Task};
 ghost use Rattle.tdb_world.specs.declared.opener.Opener.{Opener};
-ghost use Rattle.tdb_world.specs.Calm.{IsCalm};
+ghost use Rattle.tdb_world.specs.Calm.{IsCalm, IsSparing};
 ghost use Rattle.tdb_world.specs.Aside.{IsBare, HoldsRecords, AreFree, AreBarred};
 ghost use Rattle.tdb_world.specs.Given.{IsBeginning, IsShortGiven, IsShortLocking, IsWellHeld};
 ghost use Rattle.tdb_world.specs.declared.job.Job.TheVariants as Jobs;
@@ -289,7 +289,8 @@ impl Openers {
     /// Takes one turn of the opener's command, on the bytes of the file. After `Io` the command is given up, and no other turn may be taken
     /// in the world: the disk failed, or a check found a fault in the file, which no turn leaves.
     ///
-    /// An opener that holds no record for writing before the turn only looks at the file.
+    /// An opener that holds no record for writing before the turn only looks at the file, and so does one that isn't in the
+    /// middle of a change.
     ///
     /// Cost: that of the command's turn, and a search in the lock table; nothing is passed over that doesn't belong to it.
     pub fn turn<S: Space>(&mut self, s: &mut S, who: u32) -> Result<Turn, Io>
@@ -302,6 +303,7 @@ impl Openers {
         ensures turned { IfOk result (λ turn. IsTrue S.tells → BytesStand self.old (S.image s.old) → (x : Opener) (t : Task) → IsBusy self.old who x t
             → Turned (form_in self.old.header) (state_in self.old (S.image s.old)) (law_opener who) (law_of_task t) (law_turn turn) (state_in self.new (S.image s.new))) }
         ensures calm { IsCalm S.Space s.old s.new self.old.table (law_opener who) }
+        ensures spared { (x : Opener) (t : Task) → IsBusy self.old who x t → IsSparing S.Space s.old s.new (form_in self.old.header) (own_of self.old.options x) (law_of_task t) }
         ensures busy { IfOk result (λ turn. turn ≡ Turn.Step → (x : Opener) × (t : Task) × IsBusy self.new who x t) }
         ensures joined { length self.new.openers ≡ length self.old.openers }
         ensures others { (o : ℕ) → o ≢ law_opener who → slice_get self.new.openers o ≡ slice_get self.old.openers o }

@@ -14,7 +14,7 @@ ghost use Rattle.tdb_steps.specs.LockTurns.{ActRightly};
 ghost use Rattle.tdb_world.specs.Given.{IsWellHeld};
 ghost use Rattle.tdb_world.specs.Openers.{AtRest, own_with, command_in};
 ghost use Rattle.tdb_world.specs.Turning.{TurnsFile, TurnsImage, ImageBefore, resting};
-ghost use Rattle.tdb_world.specs.Calm.{IsCalm};
+ghost use Rattle.tdb_world.specs.Calm.{IsCalm, IsSparing};
 ghost use Rattle.tdb_world.specs.Cursors.{is_stood, CursorsBeside, LeavesCursors};
 ghost use Rattle.tdb_world.specs.Jobs.{JobIsReady, JobTurned, task_after};
 ghost use Rattle.tdb_plays.specs.declared.options.Options.{Options};
@@ -73,6 +73,9 @@ pub(crate) fn plain_turn<S: Space>(
     ensures same { machine.new.command ≡ machine.old.command }
     ensures calm { (options : Options) (live : Bool) (rest : AtRest) (n who : ℕ)
         → JobIsReady (S.form s.old) (own_with options live held.now rest) (resting rest) (Plain machine.old) n who owner (S.size s.old) locks.old → IsCalm S.Space s.old s.new locks.old who }
+    ensures spared { (options : Options) (live : Bool) (rest : AtRest) (n who : ℕ)
+        → JobIsReady (S.form s.old) (own_with options live held.now rest) (resting rest) (Plain machine.old) n who owner (S.size s.old) locks.old
+        → IsSparing S.Space s.old s.new (S.form s.old) (own_with options live held.now rest) (record { command = command_in (Plain machine.old); steps = n }) }
     ensures err { OnErr result (locks.new ≡ locks.old) }
     ensures given_up { OnErr result (machine.new ≡ begun machine.old.command machine.old.chain machine.old.seqnum) }
     ensures longer { S.size s.old ≤ S.size s.new }

@@ -13,10 +13,11 @@ ghost use Rattle.tdb_world.specs.declared.job.Task.{Task};
 ghost use Rattle.tdb_world.specs.Given.{IsWellHeld};
 ghost use Rattle.tdb_world.specs.Openers.{AtRest, own_of, own_with, rest_of, command_in, walk_in, walk_of, law_task};
 ghost use Rattle.tdb_world.specs.Turning.{OpenerHolds, TurnsLocks, TurnsFile, ImageBefore, TurnsImage, resting};
-ghost use Rattle.tdb_world.specs.Calm.{IsCalm};
+ghost use Rattle.tdb_world.specs.Calm.{IsCalm, IsSparing};
 ghost use Rattle.tdb_world.specs.Cursors.{is_stood, CursorsBeside, LeavesCursors};
 ghost use Rattle.tdb_world.specs.Jobs.{JobIsReady, JobTurned, JobFiled, task_after};
 ghost use Rattle.tdb_world.specs.Laws.{MayStand};
+ghost use Rattle.tdb_world.specs.Worlds.{law_of_task};
 
 use crate::checking::check_turn;
 use crate::ending::refused_turn;
@@ -64,6 +65,8 @@ impl Job {
             (S.image s.old) (S.image s.new) others spots.now (law_turn turn)) }
         ensures calm { (rest : AtRest) (n who : ℕ) → JobIsReady (S.form s.old) (own_with options.now live held.old rest) (resting rest) self.old n who owner (S.size s.old) locks.old
             → IsCalm S.Space s.old s.new locks.old who }
+        ensures spared { (rest : AtRest) (n who : ℕ) → JobIsReady (S.form s.old) (own_with options.now live held.old rest) (resting rest) self.old n who owner (S.size s.old) locks.old
+            → IsSparing S.Space s.old s.new (S.form s.old) (own_with options.now live held.old rest) (record { command = command_in self.old; steps = n }) }
         ensures beside { walk_in self.new ≡ None }
         ensures well { IsWellHeld held.new }
         ensures longer { S.size s.old ≤ S.size s.new }
@@ -140,6 +143,7 @@ impl Opener {
             → LeavesCursors (S.form s.old) (own_of options.now self.old) t self.new.task (law_turn turn) (S.image s.old) (S.image s.new) (is_stood spots.now))) }
         ensures stands { OnOk result (MayStand (S.form s.old) options.now (S.size s.new) self.new) }
         ensures calm { (who : ℕ) → owner ≡ who + 1 → IsCalm S.Space s.old s.new locks.old who }
+        ensures spared { (t : Task) → self.old.task ≡ Some t → IsSparing S.Space s.old s.new (S.form s.old) (own_of options.now self.old) (law_of_task t) }
         ensures walk { self.new.walk ≡ self.old.walk }
         ensures idle { OnErr result (self.new.task ≡ None) }
         ensures within { S.size s.new ≤ options.now.limit }

@@ -14,9 +14,9 @@ ghost use Rattle.tdb_plays.specs.InLaw.{law_command, law_turn};
 ghost use Rattle.tdb_steps.specs.LockRows.{rows_of};
 ghost use Rattle.tdb_steps.specs.PlainCommands.{key_of, command_of};
 ghost use Rattle.tdb_steps.specs.Machines.{begun, IsShort};
-ghost use Rattle.tdb_world.specs.Calm.{IsCalm};
+ghost use Rattle.tdb_world.specs.Calm.{IsCalm, IsSparing};
 ghost use Rattle.tdb_world.specs.Given.{IsWellHeld};
-ghost use Rattle.tdb_world.specs.Openers.{AtRest, own_with};
+ghost use Rattle.tdb_world.specs.Openers.{AtRest, own_with, command_in};
 ghost use Rattle.tdb_world.specs.Turning.{ImageBefore, resting};
 ghost use Rattle.tdb_world.specs.Jobs.{JobIsReady, JobTurned, JobFiled};
 ghost use Rattle.tdb_plays.specs.declared.options.Options.{Options};
@@ -100,6 +100,9 @@ impl PlainJob {
             (S.image s.old) (S.image s.new) others stood_on.now (law_turn turn)) }
         ensures calm { (options : Options) (live : Bool) (rest : AtRest) (n who : ℕ)
             → JobIsReady (S.form s.old) (own_with options live held.now rest) (resting rest) (Plain self.old) n who owner (S.size s.old) locks.old → IsCalm S.Space s.old s.new locks.old who }
+        ensures spared { (options : Options) (live : Bool) (rest : AtRest) (n who : ℕ)
+            → JobIsReady (S.form s.old) (own_with options live held.now rest) (resting rest) (Plain self.old) n who owner (S.size s.old) locks.old
+            → IsSparing S.Space s.old s.new (S.form s.old) (own_with options live held.now rest) (record { command = command_in (Plain self.old); steps = n }) }
         ensures longer { S.size s.old ≤ S.size s.new }
         ensures within { S.size s.old ≤ limit → S.size s.new ≤ limit }
         ensures wrote { Wrote S.Space s.old s.new }

@@ -10,7 +10,7 @@ use Rattle.tdb_locks.specs.declared.turn.Turn.TheVariants as Turns
 use Rattle.tdb_world.proofs.PlainReady.{ready_alone, ready_holds, ready_turned, ready_file}
 use Rattle.tdb_world.specs.Openers.{own_with}
 use Rattle.tdb_world.specs.Turning.{resting}
-use Rattle.tdb_world.proofs.Calm.{plain_calm}
+use Rattle.tdb_world.proofs.Calm.{plain_calm, plain_spared}
 use Rattle.tdb_world.proofs.PlainJob.{left_image}
 use Rattle.tdb_world.proofs.PlainCursors.{plain_cursors}
 use Rattle.tdb_world.proofs.plain.plain_turn.Goals as goal
@@ -95,6 +95,14 @@ returns-clause-cursors g c =
 pub returns-clause-calm : goal.returns-clause-calm
 returns-clause-calm g c options live rest n who J calm =
     elim (plain_calm (g.S.Space.form c.args.s.now) c.requires.few (own_with options live c.args.held.now rest) (resting rest) c.args.machine.now n who c.args.locks.now refl J.stands.granted J.stands.after J.holds calm) [
+      | inl looks ↦ c.step.ensures.looked looks
+      | inr quiet ↦ c.step.ensures.idle quiet
+    ]
+
+-- one that isn't in the middle of a change is quiet, or doesn't change the map
+pub returns-clause-spared : goal.returns-clause-spared
+returns-clause-spared g c options live rest n who J spares =
+    elim (plain_spared (g.S.Space.form c.args.s.now) (own_with options live c.args.held.now rest) c.args.machine.now n refl J.stands.granted J.stands.after spares) [
       | inl looks ↦ c.step.ensures.looked looks
       | inr quiet ↦ c.step.ensures.idle quiet
     ]

@@ -7,6 +7,7 @@ use Rattle.std.proofs.lemmas.Result.{IfOk-weaker}
 use Rattle.tdb_locks.specs.LockTable.{held}
 use Rattle.tdb_world.proofs.CheckReady.{number_alone}
 use Rattle.tdb_world.specs.Turning.{TurnsFile, ImageBefore, OpenerHolds, resting}
+use Rattle.tdb_world.specs.Calm.{IsMidway}
 use Rattle.tdb_world.specs.Jobs.{JobIsReady, JobTurned, JobFiled}
 use Rattle.tdb_space.specs.Form.{form_in}
 use Rattle.tdb_law.specs.World.{HasFewChains}
@@ -245,3 +246,10 @@ pub returns-in-Plain-clause-calm : goal.returns-in-Plain-clause-calm
 returns-in-Plain-clause-calm g c rest n who J =
     let x = own_with c.args.options.now c.args.live c.args.held.now rest in
     c.turn.ensures.calm c.args.options.now c.args.live rest n who (subst (λ j. JobIsReady (g.S.Space.form c.args.s.now) x (resting rest) j n who c.args.owner (g.S.Space.size c.args.s.now) c.args.locks.now) c.in-Plain.is J)
+
+pub returns-in-Plain-clause-spared : goal.returns-in-Plain-clause-spared
+returns-in-Plain-clause-spared g c rest n who J spares =
+    let f = g.S.Space.form c.args.s.now in
+    let x = own_with c.args.options.now c.args.live c.args.held.now rest in
+    c.turn.ensures.spared c.args.options.now c.args.live rest n who (subst (λ j. JobIsReady f x (resting rest) j n who c.args.owner (g.S.Space.size c.args.s.now) c.args.locks.now) c.in-Plain.is J)
+    (subst (λ j. IsMidway f x (record { command = command_in j; steps = n }) → ⊥) c.in-Plain.is spares)

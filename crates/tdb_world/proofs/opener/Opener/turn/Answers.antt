@@ -2,7 +2,9 @@
 use Rattle.std.proofs.Common.{◌≡◌, Some, sym, ◌∙◌, ap, subst, arith, unwrap_or}
 use Rattle.tdb_world.specs.Cursors.{is_stood, CursorsBeside, LeavesCursors}
 use Rattle.tdb_world.specs.Turning.{resting, ImageBefore, TurnsLocks, TurnsFile, TurnsImage}
+use Rattle.tdb_world.specs.Calm.{IsMidway}
 use Rattle.tdb_world.specs.Openers.{rest_of, own_of, command_in, walk_of, steps_of, law_task, TaskStands}
+use Rattle.tdb_world.specs.Worlds.{law_of_task}
 use Rattle.tdb_plays.specs.InLaw.{law_turn}
 use Rattle.tdb_steps.proofs.Made.{of_both}
 use Rattle.tdb_world.proofs.TaskReady.{task_few, task_ready, after_beside}
@@ -102,3 +104,14 @@ returns-clause-calm g c who number =
     let busy : c.args.self.now.task ≡ Some now = sym c.take.ensures.value ∙ c.in-Some.is in
     c.turn-turn.ensures.calm (rest_of c.args.self.now.walk) now.steps who
     (task_ready (g.S.Space.form c.args.s.now) c.args.options.now c.args.self.now (g.S.Space.size c.args.s.now) c.args.owner c.args.locks.now c.requires.stands c.requires.holds now busy who number)
+
+pub returns-clause-spared : goal.returns-clause-spared
+returns-clause-spared g c t e spares =
+    let f = g.S.Space.form c.args.s.now in
+    let now = c.in-Some.now in
+    let busy : c.args.self.now.task ≡ Some now = sym c.take.ensures.value ∙ c.in-Some.is in
+    let same : now ≡ t = ap (λ o. unwrap_or o now) (sym busy ∙ e) in
+    let h = c.requires.holds now busy in
+    c.turn-turn.ensures.spared (rest_of c.args.self.now.walk) now.steps h.0
+    (task_ready f c.args.options.now c.args.self.now (g.S.Space.size c.args.s.now) c.args.owner c.args.locks.now c.requires.stands c.requires.holds now busy h.0 h.1)
+    (subst (λ u. IsMidway f (own_of c.args.options.now c.args.self.now) (law_of_task u) → ⊥) (sym same) spares)

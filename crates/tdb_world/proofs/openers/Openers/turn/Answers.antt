@@ -9,14 +9,15 @@ use Rattle.tdb_steps.proofs.Made.{of_both}
 use Rattle.tdb_world.specs.States.{state_of}
 use Rattle.tdb_world.specs.Worlds.{IsBusy, Stands, BytesStand, state_in, law_of_task}
 use Rattle.tdb_world.specs.Turning.{resting, OpenerHolds, ImageBefore}
-use Rattle.tdb_world.specs.Calm.{WritesNoRecord}
+use Rattle.tdb_world.specs.Calm.{WritesNoRecord, IsMidway}
 use Rattle.tdb_world.specs.Openers.{rest_of, own_of, command_in}
 use Rattle.tdb_cursors.specs.Spots.{spot_number}
-use Rattle.tdb_world.proofs.Putting.{others_put, spots_still}
+use Rattle.tdb_world.proofs.Putting.{numbered, others_put, spots_still}
 use Rattle.tdb_world.proofs.Stepping.{Locked, Filed, ok_so, ok_both, stands_before, holds_before, task_busy, busy_after, image_before, world_after, file_after, turned_after}
 use Rattle.std.specs.Option.{option_map}
 use Rattle.tdb_world.specs.Openers.{walk_command}
-use Rattle.tdb_world.proofs.WalkStepping.{Walks, calm_before, ok_of, spots_put, walk_busy, words_before, asked_before, walk_busy_after, walk_world_after, walk_file_after, walk_turned_after}
+use Rattle.tdb_world.proofs.WalkStepping.{calm_before, spared_before}
+use Rattle.tdb_world.proofs.WalkStepping.{Walks, ok_of, spots_put, walk_busy, words_before, asked_before, walk_busy_after, walk_world_after, walk_file_after, walk_turned_after}
 use Rattle.tdb_world.proofs.openers.Openers.turn.Goals as goal
 
 pub turn-requires-clause-busy : goal.turn-requires-clause-busy
@@ -262,6 +263,38 @@ returns-in-Some-walking-clause-calm g c calm =
     (subst (λ w. Stands w (g.S.Space.image c.args.s.now) (g.S.Space.size c.args.s.now)) (sym e) c.requires.stands) (walk_command c.in-Some-walking.walking)
     (sym c.walking.ensures ∙ ap (option_map walk_command) c.in-Some-walking.is)
     (subst (λ w. WritesNoRecord w.table (law_opener c.args.who)) (sym e) calm))
+
+-- So does one that isn't in the middle of a change.
+pub returns-clause-spared : goal.returns-clause-spared
+returns-clause-spared g c x t B spares =
+    let e = c.self.view_is in
+    let form = c.requires.form ∙ ap (λ w. form_in w.header) (sym e) in
+    let header = c.self.inside.header in
+    let options = c.self.inside.options in
+    let xs = c.self.inside.list.items in
+    let ps = c.self.inside.locks in
+    let a = g.S.Space.image c.args.s.now in
+    let size = g.S.Space.size c.args.s.now in
+    let d = c.in-Some.opener.now in
+    let K = subst (λ w. IsBusy w c.args.who x t) (sym e) B in
+    let W = subst (λ w. Stands w a size) (sym e) c.requires.stands in
+    let off = sym c.walking.ensures ∙ ap (option_map walk_command) c.in_default-walking.is in
+    let item = c.in-Some.ensures.item.1 in
+    c.turn.ensures.spared t (task_busy header options xs ps a size c.args.who x d t K item W off)
+    (subst (λ f. IsMidway f (own_of options d) (law_of_task t) → ⊥) (sym form)
+    (subst (λ z. IsMidway (form_in header) (own_of options z) (law_of_task t) → ⊥) (sym (numbered xs c.args.who K.number.place x d K.number.counted K.number.there item))
+    (subst (λ w. IsMidway (form_in w.header) (own_of w.options x) (law_of_task t) → ⊥) (sym e) spares)))
+
+pub returns-in-Some-walking-clause-spared : goal.returns-in-Some-walking-clause-spared
+returns-in-Some-walking-clause-spared g c x t B spares =
+    let e = c.self.view_is in
+    c.walk_turn.ensures.idle
+    (spared_before c.self.inside.header c.self.inside.options c.self.inside.list.items c.self.inside.locks (g.S.Space.image c.args.s.now) (g.S.Space.size c.args.s.now)
+    c.args.who x c.in-Some.opener.now t
+    (subst (λ w. IsBusy w c.args.who x t) (sym e) B) c.in-Some.ensures.item.1
+    (subst (λ w. Stands w (g.S.Space.image c.args.s.now) (g.S.Space.size c.args.s.now)) (sym e) c.requires.stands) (walk_command c.in-Some-walking.walking)
+    (sym c.walking.ensures ∙ ap (option_map walk_command) c.in-Some-walking.is)
+    (subst (λ w. IsMidway (form_in w.header) (own_of w.options x) (law_of_task t) → ⊥) (sym e) spares))
 
 -- The other openers stay.
 pub returns-clause-others : goal.returns-clause-others

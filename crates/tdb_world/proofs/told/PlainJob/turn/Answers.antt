@@ -5,8 +5,9 @@ use Rattle.tdb_law.specs.Commands.Command.{OnMap}
 use Rattle.tdb_steps.specs.PlainCommands.{command_of}
 use Rattle.tdb_plays.specs.InLaw.{law_turn}
 use Rattle.tdb_world.specs.declared.job.Job.TheVariants.{Plain}
-use Rattle.tdb_world.specs.Openers.{own_with}
+use Rattle.tdb_world.specs.Openers.{own_with, command_in}
 use Rattle.tdb_world.specs.Turning.{ImageBefore, resting}
+use Rattle.tdb_world.specs.Calm.{IsMidway}
 use Rattle.tdb_world.specs.Jobs.{JobIsReady, JobTurned, JobFiled}
 use Rattle.tdb_world.proofs.CheckJob.{of_three}
 use Rattle.tdb_world.proofs.told.PlainJob.turn.Goals as goal
@@ -52,3 +53,11 @@ pub returns-clause-calm : goal.returns-clause-calm
 returns-clause-calm g c options live rest n who J =
     c.plain_turn.ensures.calm options live rest n who
     (subst (λ d. JobIsReady (g.S.Space.form c.args.s.now) (own_with options live c.args.held.now rest) (resting rest) (Plain d) n who c.args.owner (g.S.Space.size c.args.s.now) c.args.locks.now) (sym c.self.view_is) J)
+
+pub returns-clause-spared : goal.returns-clause-spared
+returns-clause-spared g c options live rest n who J spares =
+    let f = g.S.Space.form c.args.s.now in
+    let x = own_with options live c.args.held.now rest in
+    c.plain_turn.ensures.spared options live rest n who
+    (subst (λ d. JobIsReady f x (resting rest) (Plain d) n who c.args.owner (g.S.Space.size c.args.s.now) c.args.locks.now) (sym c.self.view_is) J)
+    (subst (λ d. IsMidway f x (record { command = command_in (Plain d); steps = n }) → ⊥) (sym c.self.view_is) spares)
