@@ -1,5 +1,5 @@
 -- The gate that a dead opener left open is undone.
-use Rattle.std.proofs.Common.{◌≡◌, ℕ, ◌+◌, ◌≤◌, List, [], true, false, length, Some, None, refl, sym, ◌∙◌, ap, subst, inl, inr, arith}
+use Rattle.std.proofs.Common.{◌≡◌, ℕ, ◌+◌, ◌≤◌, List, true, false, length, Some, None, refl, sym, ◌∙◌, ap, subst, inl, inr, arith}
 use Rattle.tdb_disk.specs.Count.{RoseBy}
 use Rattle.tdb_disk.specs.History.{History, seen}
 use Rattle.tdb_words.specs.declared.what.What.{What}

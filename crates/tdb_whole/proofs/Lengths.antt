@@ -1,9 +1,8 @@
 -- Openers of whom no command has locked a record stand over a file of any length: none has begun a change.
-use Rattle.std.proofs.Common.{◌≡◌, ℕ, ◌+◌, ◌<◌, ◌≤◌, List, [], ◌∷◌, slice_get, true, Option, Some, None, is_none, refl, sym, ap, subst, inl, inr, arith, le_refl}
+use Rattle.std.proofs.Common.{◌≡◌, ℕ, ◌<◌, ◌≤◌, List, [], ◌∷◌, slice_get, true, Option, Some, None, is_none, refl, sym, subst, inl, inr, arith, le_refl}
 use Rattle.std.proofs.lemmas.Bool.{cases_eq}
 use Rattle.tdb_space.specs.Form.{Form, form_in}
 use Rattle.tdb_space.specs.Spare.{without_bound}
-use Rattle.tdb_law.specs.Commands.Command.{OnMap}
 use Rattle.tdb_law.specs.Held.{held, locked, task_held}
 use Rattle.tdb_law.specs.Openers.{Own, Spot}
 use Rattle.tdb_law.specs.Refusals.{chain_byte}

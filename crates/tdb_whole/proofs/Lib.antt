@@ -15,14 +15,17 @@ pub mod Reopening
 pub mod Lengths
 pub mod Rooms
 pub mod GateUndone
+pub mod SafeUndo
 pub mod Returning
 pub mod Settled
 pub mod Staged
 pub mod Starved
+pub mod Stopping
 pub mod TurnsLead
 pub mod NumberHeld
 pub mod AskingTurns
 pub mod OtherTurns
+pub mod Spared
 pub mod OwnStart
 pub mod DeathsAmong
 pub mod DeathsAside

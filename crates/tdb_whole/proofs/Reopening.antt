@@ -1,14 +1,16 @@
--- As what the file is read beside the one aside: it opens to the map of the side's image, an open gate undone.
-use Rattle.std.proofs.Common.{◌≡◌, ℕ, ◌<◌, ◌≤◌, List, [], true, false, Option, None, Some, is_some, refl, sym, ◌∙◌, ap, subst, inl, inr, arith}
+-- As what the file is read beside the one aside: it opens to the map of the side's image, an open gate undone; and so does what a stop leaves.
+use Rattle.std.proofs.Common.{◌≡◌, ℕ, ◌%◌, ◌<◌, ◌≤◌, List, [], length, true, false, Option, None, Some, is_some, refl, sym, ◌∙◌, ap, subst, inl, inr, arith}
 use Rattle.std.specs.FinMap.{from_entries, get}
 use Rattle.std.proofs.lemmas.Bool.{cases_lt}
 use Rattle.tdb_disk.specs.History.{History, seen}
+use Rattle.tdb_disk.specs.Stop.{Leaves}
 use Rattle.tdb_disk.proofs.Stop.{leaves_seen}
 use Rattle.tdb_words.specs.declared.record.TheConstants.{GATE_OPEN}
 use Rattle.tdb_space.specs.Accepted.{Accept, AcceptWith, Shut}
 use Rattle.tdb_space.specs.Form.{Form, form_of, SameHeader}
+use Rattle.tdb_space.specs.NewArea.{Longer}
 use Rattle.tdb_space.specs.Opening.{own_map, restored}
-use Rattle.tdb_space.specs.Pairs.{map_of, order_of}
+use Rattle.tdb_space.specs.Pairs.{map_of}
 use Rattle.tdb_space.specs.Planned.{IsPlanned}
 use Rattle.tdb_space.specs.Scheme.{Scheme, Within, with_gate}
 use Rattle.tdb_space.specs.Undoing.{Reopens}
@@ -20,6 +22,7 @@ use Rattle.tdb_space.proofs.RecoverySteps.Emptying.{word_beside}
 use Rattle.tdb_space.proofs.Scheme.WritesUndone.{within_itself}
 use Rattle.tdb_space.proofs.Undoing.Alike.{exact_reopens}
 use Rattle.tdb_undo.proofs.Found.{reopens_itself}
+use Rattle.tdb_undo.proofs.Growths.{growth_grew}
 use Rattle.tdb_law.specs.Images.{image_map}
 use Rattle.tdb_law.specs.Lines.{MayDie}
 use Rattle.tdb_law.specs.Openers.{Map}
@@ -27,13 +30,14 @@ use Rattle.tdb_law.proofs.HandsOut.{image_answers}
 use Rattle.tdb_steps.specs.Turns.{number_of}
 use Rattle.tdb_txn.specs.Commit.{Brings, IsApplied, IsFilled, IsPrepared, IsSettled, opened, scheme_of}
 use Rattle.tdb_txn.specs.CommitStates.{applied_plan, filled_plan, planned_plan, prepared_plan, settled_plan}
-use Rattle.tdb_txn.specs.Planned.{IsPlannedOn}
+use Rattle.tdb_txn.specs.Planned.{grown, rests, IsPlannedOn, RestsButGrown}
 use Rattle.tdb_txn.specs.declared.planned.Plan.{Plan}
+use Rattle.tdb_txn.proofs.KeptArea.{longer_reopens}
 use Rattle.tdb_txn.proofs.StatesKept.{fills_of}
 use Rattle.tdb_commit.specs.Commits.{Carries, OpensAs, RestsAt, StandsFor}
 use Rattle.tdb_commit.specs.Committings.{commit_steps, KnowsCommit}
-use Rattle.tdb_commit.specs.Finishes.{finish_steps, IsShut, KnowsFinish}
-use Rattle.tdb_commit.specs.Prepares.{IsReady, KnowsStage}
+use Rattle.tdb_commit.specs.Finishes.{finish_steps, KnowsFinish}
+use Rattle.tdb_commit.specs.Prepares.{KnowsStage}
 use Rattle.tdb_commit.specs.declared.committing.Committing.{Committing}
 use Rattle.tdb_commit.specs.declared.committing.Committing.TheVariants as Commits
 use Rattle.tdb_commit.specs.declared.finishing.Finishing.{Finishing}
@@ -81,7 +85,7 @@ stands_map b x S key =
     ap (λ g. map_of g x key) (form_kept b x S.header) ∙ sym (image_answers (form_of b) x key) ∙ ap (λ (m : Map). get m key) same ∙ image_answers (form_of b) b key
 
 -- so what opens as the transaction's image opens to the map of that
-opens_as : (b c : List ℕ) → OpensAs b c → Reopens b c
+pub opens_as : (b c : List ℕ) → OpensAs b c → Reopens b c
 opens_as b c O = record {
   opens = record { opens = O.opens.opens.opens; holds = λ key. O.opens.opens.holds key ∙ stands_map b O.image O.stands key };
   again = O.opens.again;
@@ -98,39 +102,53 @@ within_form p a b d A B h W = form_kept a d header
         W.others i (omega (arith, low, h.old_above)) ((plan_lies p a b A h).front i (elim front [ inl lt ↦ inl (omega (arith, lt)) | inr le ↦ inr (omega (arith, le)) ]))
         ∙ word_beside p.order a p.gate GATE_OPEN i (inl (omega (arith, low, h.gate, (area_within p a b A h).1)))
 
--- The states of a commit: an image of the file has the form of what is written, and opens to the map of what was there.
+-- The states of a commit: each image that a stop leaves has the form of what is written, and opens to the map of what was there.
 open_in : (plan : Plan) (x y c : List ℕ) → Brings plan x y → Within (scheme_of plan) (opened plan x) c → OpensIn (form_of y) x c
 open_in plan x y c brings W = record {
   form = within_form (scheme_of plan) x y c brings.before brings.after brings.planned W ∙ sym (form_kept x y brings.planned.header);
   reopens = (fills_of plan x y brings).undoes c W;
 }
 
-planned_in : (plan : Plan) (h : History) (x y : List ℕ) → IsPlannedOn plan h x y → OpensIn (form_of y) x (seen h)
-planned_in plan h x y S = record { form = sym (form_kept (seen h) y S.awaits.header); reopens = stays_reopens x (seen h) S.stays S.sequence }
+planned_in : (plan : Plan) (h : History) (x y : List ℕ) → IsPlannedOn plan h x y → (c : List ℕ) → Leaves h c → OpensIn (form_of y) x c
+planned_in plan h x y S c left = go S.rest
+  where
+    go : RestsButGrown x h → OpensIn (form_of y) x c
+    go (rests quiet) = subst (OpensIn (form_of y) x) (sym (quiet c left)) (record { form = sym (form_kept (seen h) y S.awaits.header); reopens = stays_reopens x (seen h) S.stays S.sequence })
+    go (grown old to quiet is words done) =
+        let even : length (seen old) % 4 ≡ 0 = ap (λ l. length l % 4) is ∙ S.before.sized in
+        let longer : Longer x c = subst (λ l. Longer l c) is (growth_grew old h to even words quiet (inr done) c left) in
+        record {
+          form =
+              form_kept x c (λ i front. longer.front i (let long = S.before.long in elim front [ inl lt ↦ omega (arith, lt, long) | inr le ↦ omega (arith, le, long) ]))
+              ∙ (sym S.stays.accepted.form ∙ sym (form_kept (seen h) y S.awaits.header));
+          reopens = longer_reopens x c S.before longer;
+        }
 
-filled_in : (plan : Plan) (h : History) (x y : List ℕ) → IsFilled plan h x y → OpensIn (form_of y) x (seen h)
-filled_in plan h x y S = record { form = ap form_of S.file ∙ sym (form_kept x y S.brings.planned.header); reopens = subst (Reopens x) (sym S.file) (exact_reopens x S.brings.before) }
+filled_in : (plan : Plan) (h : History) (x y : List ℕ) → IsFilled plan h x y → (c : List ℕ) → Leaves h c → OpensIn (form_of y) x c
+filled_in plan h x y S c left =
+    let file = S.quiet c left ∙ S.file in
+    record { form = ap form_of file ∙ sym (form_kept x y S.brings.planned.header); reopens = subst (Reopens x) (sym file) (exact_reopens x S.brings.before) }
 
-prepared_in : (plan : Plan) (h : History) (x y : List ℕ) → IsPrepared plan h x y → OpensIn (form_of y) x (seen h)
-prepared_in plan h x y S = open_in plan x y (seen h) S.brings (subst (Within (scheme_of plan) (opened plan x)) (sym S.file) (within_itself (scheme_of plan) (opened plan x)))
+prepared_in : (plan : Plan) (h : History) (x y : List ℕ) → IsPrepared plan h x y → (c : List ℕ) → Leaves h c → OpensIn (form_of y) x c
+prepared_in plan h x y S c left = open_in plan x y c S.brings (subst (Within (scheme_of plan) (opened plan x)) (sym (S.quiet c left ∙ S.file)) (within_itself (scheme_of plan) (opened plan x)))
 
-applied_in : (plan : Plan) (h : History) (x y : List ℕ) → IsApplied plan h x y → OpensIn (form_of y) x (seen h)
-applied_in plan h x y S = open_in plan x y (seen h) S.brings (S.within (seen h) (leaves_seen h))
+applied_in : (plan : Plan) (h : History) (x y : List ℕ) → IsApplied plan h x y → (c : List ℕ) → Leaves h c → OpensIn (form_of y) x c
+applied_in plan h x y S c left = open_in plan x y c S.brings (S.within c left)
 
-settled_in : (plan : Plan) (h : History) (x y : List ℕ) → IsSettled plan h x y → OpensIn (form_of y) x (seen h)
-settled_in plan h x y S = open_in plan x y (seen h) S.brings S.within
+settled_in : (plan : Plan) (h : History) (x y : List ℕ) → IsSettled plan h x y → (c : List ℕ) → Leaves h c → OpensIn (form_of y) x c
+settled_in plan h x y S c left = open_in plan x y c S.brings (subst (Within (scheme_of plan) (opened plan x)) (sym (S.quiet c left)) S.within)
 
 -- so each of them opens to the map of the file before the commit
-module _ (f : Form) (h : History) (r b : List ℕ) (form : form_of r ≡ f) where
-  carried_in : (State : History → List ℕ → List ℕ → Type 0) → Carries State h r b → ((x y : List ℕ) → State h x y → OpensIn (form_of y) x (seen h)) → OpensIn f r (seen h)
+module _ (f : Form) (h : History) (r b : List ℕ) (form : form_of r ≡ f) (c : List ℕ) (left : Leaves h c) where
+  carried_in : (State : History → List ℕ → List ℕ → Type 0) → Carries State h r b → ((x y : List ℕ) → State h x y → (d : List ℕ) → Leaves h d → OpensIn (form_of y) x d) → OpensIn f r c
   carried_in State C state =
-      let S = state C.before C.after C.state in
-      record { form = S.form ∙ form_kept b C.after C.stands.header ∙ form_kept r b C.header ∙ form; reopens = C.reopens (seen h) S.reopens }
+      let S = state C.before C.after C.state c left in
+      record { form = S.form ∙ form_kept b C.after C.stands.header ∙ form_kept r b C.header ∙ form; reopens = C.reopens c S.reopens }
 
-  rest_in : RestsAt h r → OpensIn f r (seen h)
-  rest_in R = record { form = R.accepted.form ∙ form; reopens = R.opens }
+  rest_in : RestsAt h r → OpensIn f r c
+  rest_in R = subst (OpensIn f r) (sym (R.quiet c left)) (record { form = R.accepted.form ∙ form; reopens = R.opens })
 
-  prepare_in : (s : PrepareStage) → KnowsStage s h r b → OpensIn f r (seen h)
+  prepare_in : (s : PrepareStage) → KnowsStage s h r b → OpensIn f r c
   prepare_in Prepares.Unchanged K = rest_in K
   prepare_in (Prepares.Begun txn) K = rest_in (ready_rests txn h r b K)
   prepare_in (Prepares.Records txn) K = rest_in (ready_rests txn h r b K)
@@ -138,28 +156,42 @@ module _ (f : Form) (h : History) (r b : List ℕ) (form : form_of r ≡ f) wher
   prepare_in (Prepares.Planned state) K = carried_in (IsPlannedOn (planned_plan state)) K (planned_in (planned_plan state) h)
   prepare_in (Prepares.Filled state) K = carried_in (IsFilled (filled_plan state)) K (filled_in (filled_plan state) h)
 
-  finish_in : (s : Finishing) → KnowsFinish s h r b → (3 ≤ finish_steps s → r ≡ b) → OpensIn f r (seen h)
+  finish_in : (s : Finishing) → KnowsFinish s h r b → (3 ≤ finish_steps s → r ≡ b) → OpensIn f r c
   finish_in (Finishes.Open state) K late = carried_in (IsPrepared (prepared_plan state)) K (prepared_in (prepared_plan state) h)
   finish_in (Finishes.Applied state) K late = carried_in (IsApplied (applied_plan state)) K (applied_in (applied_plan state) h)
   finish_in (Finishes.Settled state) K late = carried_in (IsSettled (settled_plan state)) K (settled_in (settled_plan state) h)
   finish_in Finishes.Shut K late =
       let same : r ≡ b = late (omega arith) in
-      record { form = K.accepted.form ∙ ap form_of (sym same) ∙ form; reopens = subst (λ i. Reopens i (seen h)) (sym same) (opens_as b (seen h) K.opens) }
+      subst (OpensIn f r) (sym (K.quiet c left)) (record { form = K.accepted.form ∙ ap form_of (sym same) ∙ form; reopens = subst (λ i. Reopens i (seen h)) (sym same) (opens_as b (seen h) K.opens) })
 
-  commit_in : (c : Committing) → KnowsCommit c h r b → (8 ≤ commit_steps c → r ≡ b) → OpensIn f r (seen h)
+  commit_in : (m : Committing) → KnowsCommit m h r b → (8 ≤ commit_steps m → r ≡ b) → OpensIn f r c
   commit_in (Commits.Preparing p) K late = prepare_in p.stage K
   commit_in (Commits.Finishing s) K late = finish_in s K (λ few. late (omega (arith, few)))
+
+-- an opener at this stage has a transaction
+abbrev pub HasTxn : Stage → Type 0
+HasTxn (At.Starting s) = ⊥
+HasTxn stage = Unit {0}
+
+-- At each stage at which the opener has a transaction a stop leaves an image that opens so.
+pub stage_leaves : (f : Form) (stage : Stage) (h : History) (k : Known) → HasTxn stage → KnowsFile f stage h k → (c : List ℕ) → Leaves h c → OpensIn f k.file c
+stage_leaves f (At.Starting s) h k has K c left = absurd has
+stage_leaves f (At.Open txn command) h k has K c left = rest_in f h k.file k.image K.forms.0 c left (ready_rests txn.own.txn h k.file k.image K.at.0)
+stage_leaves f (At.Committing m) h k has K c left = commit_in f h k.file k.image K.forms.0 c left m K.at.0 K.at.1
+stage_leaves f (At.Preparing p) h k has K c left = prepare_in f h k.file k.image K.forms.0 c left p.stage K.at
+stage_leaves f (At.Prepared (Opened state) command) h k has K c left = carried_in f h k.file k.image K.forms.0 c left (IsPrepared (prepared_plan state)) K.at (prepared_in (prepared_plan state) h)
+stage_leaves f (At.Prepared (Nothing changed) command) h k has K c left = rest_in f h k.file k.image K.forms.0 c left K.at.0
+stage_leaves f (At.Finishing s) h k has K c left = finish_in f h k.file k.image K.forms.0 c left s K.at.0 K.at.1
 
 -- At each stage at which the opener has all records the file opens so. Before that others may have a record in hand.
 stage_in : (f : Form) (stage : Stage) (h : History) (k : Known) → is_some (stage_records stage) ≡ true → AcceptWith f k.file [] → KnowsFile f stage h k → OpensIn f k.file (seen h)
 stage_in f (At.Starting s) h k has A K =
     record { form = ap form_of K.at ∙ A.form; reopens = subst (Reopens k.file) (sym K.at) (exact_reopens k.file (subst (λ g. AcceptWith g k.file []) (sym A.form) A)) }
-stage_in f (At.Open txn command) h k has A K = rest_in f h k.file k.image K.forms.0 (ready_rests txn.own.txn h k.file k.image K.at.0)
-stage_in f (At.Committing c) h k has A K = commit_in f h k.file k.image K.forms.0 c K.at.0 K.at.1
-stage_in f (At.Preparing p) h k has A K = prepare_in f h k.file k.image K.forms.0 p.stage K.at
-stage_in f (At.Prepared (Opened state) command) h k has A K = carried_in f h k.file k.image K.forms.0 (IsPrepared (prepared_plan state)) K.at (prepared_in (prepared_plan state) h)
-stage_in f (At.Prepared (Nothing changed) command) h k has A K = rest_in f h k.file k.image K.forms.0 K.at.0
-stage_in f (At.Finishing s) h k has A K = finish_in f h k.file k.image K.forms.0 s K.at.0 K.at.1
+stage_in f (At.Open txn command) h k has A K = stage_leaves f (At.Open txn command) h k tt K (seen h) (leaves_seen h)
+stage_in f (At.Committing m) h k has A K = stage_leaves f (At.Committing m) h k tt K (seen h) (leaves_seen h)
+stage_in f (At.Preparing p) h k has A K = stage_leaves f (At.Preparing p) h k tt K (seen h) (leaves_seen h)
+stage_in f (At.Prepared left command) h k has A K = stage_leaves f (At.Prepared left command) h k tt K (seen h) (leaves_seen h)
+stage_in f (At.Finishing s) h k has A K = stage_leaves f (At.Finishing s) h k tt K (seen h) (leaves_seen h)
 
 -- who may die has all records
 pub dying_records : (stage : Stage) → MayDie (stage_task stage) → is_some (stage_records stage) ≡ true

@@ -30,7 +30,7 @@ use Rattle.tdb_world.proofs.Closed.{bare_walk}
 use Rattle.tdb_world.proofs.Images.{image_keeps_world}
 use Rattle.tdb_world.proofs.Putting.{by_number}
 use Rattle.tdb_world.proofs.Stood.{injected}
-use Rattle.tdb_whole.specs.States.{IsAside, IsStateOf, SideIs, once, writes_all}
+use Rattle.tdb_whole.specs.States.{IsAside, IsStateOf, SideIs, once}
 use Rattle.tdb_whole.specs.States.IsStateOf.{of_whole, of_stale}
 use Rattle.tdb_whole.specs.Steps.{HasCommand, HasNoCommand, IsAmong}
 use Rattle.tdb_whole.specs.Steps.HasCommand.{by_aside, by_start, by_job}

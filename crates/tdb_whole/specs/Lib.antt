@@ -4,3 +4,4 @@ pub mod Steps
 pub mod Claims
 pub mod Shut
 pub mod Died
+pub mod Stops

@@ -2,9 +2,9 @@
 ghost use Rattle.std.specs.Prelude.{◌≡◌, ◌≤◌, ℕ, List, None, Some, IsTrue, IfOk, OnOk, OnErr, false, true};
 ghost use Rattle.tdb_disk.specs.Count.{HasCause};
 ghost use Rattle.tdb_disk.specs.History.{seen};
-ghost use Rattle.tdb_disk.specs.Stop.{Quiet};
+ghost use Rattle.tdb_disk.specs.Stop.{LeavesOnly};
 ghost use Rattle.tdb_law.specs.World.{State};
-ghost use Rattle.tdb_plays.specs.InLaw.{law_turn};
+ghost use Rattle.tdb_plays.specs.InLaw.{law_opener, law_turn};
 ghost use Rattle.tdb_space.specs.Form.{form_in};
 ghost use Rattle.tdb_locks.specs.declared.kind.Kind.{Kind};
 ghost use Rattle.tdb_locks.specs.declared.kind.Kind.TheVariants.{Write};
@@ -16,9 +16,10 @@ ghost use Rattle.tdb_world.specs.Worlds.{IsNumber, Stands, BytesStand};
 ghost use Rattle.tdb_world.specs.Worlds.{World as Openers};
 ghost use Rattle.tdb_world.specs.declared.opener.Opener.{Opener};
 ghost use Rattle.tdb_whole.specs.Claims.{Claimed, ClaimStands, IsBarred, IsSettled};
-ghost use Rattle.tdb_whole.specs.Whole.{WorldFits};
+ghost use Rattle.tdb_whole.specs.Whole.{form_at, WorldFits};
 ghost use Rattle.tdb_whole.specs.States.{IsStateOf};
 ghost use Rattle.tdb_whole.specs.Steps.{with_aside, HasCommand, TurnLeads};
+ghost use Rattle.tdb_whole.specs.Stops.{IsSafe, TurnMayLeave};
 ghost use Rattle.tdb_whole.specs.declared.aside.Claim.TheVariants as Claim;
 
 use crate::world::World;
@@ -91,6 +92,10 @@ impl World {
         ensures fits { OnOk result (WorldFits self.new (seen (D.history d.new)) (D.size d.new)) }
         ensures fresh { OnOk result (self.new.stale ≡ false) }
         ensures turned { IfOk result (λ turn. IsTrue D.tells → TurnLeads (with_aside self.old holder) self.new (D.history d.old) (D.history d.new) holder.owner (law_turn turn)) }
+        ensures stops { IsTrue D.tells → (state : State) → let f = form_at self.old in IsStateOf (with_aside self.old holder) (D.history d.old) state → IsSafe f (D.history d.old)
+            → LeavesOnly (D.history d.old) (D.history d.new) (TurnMayLeave f state (law_opener holder.owner)) }
+        ensures safe { OnOk result (IsTrue D.tells → (state : State) → let f = form_at self.old in IsStateOf (with_aside self.old holder) (D.history d.old) state → IsSafe f (D.history d.old)
+            → IsSafe f (D.history d.new)) }
         ensures busy { IfOk result (λ turn. turn ≡ Turn.Step → HasCommand self.new holder.owner) }
         ensures header { OnOk result (self.new.openers.header ≡ self.old.openers.header) }
         ensures options { OnOk result (self.new.openers.options ≡ self.old.openers.options) }
@@ -124,6 +129,13 @@ impl World {
         ensures fresh { OnOk result (self.new.stale ≡ false) }
         ensures turned { IfOk result (λ turn. IsTrue D.tells → (before : Openers) (x : Opener) → ClaimStands self.old holder (seen (D.history d.old)) (D.size d.old) before x
             → TurnLeads (record self.old { openers = before; aside = Some holder }) self.new (D.history d.old) (D.history d.new) holder.owner (law_turn turn)) }
+        ensures stops { IsTrue D.tells → (before : Openers) (x : Opener) (state : State) → let f = form_in before.header in
+            ClaimStands self.old holder (seen (D.history d.old)) (D.size d.old) before x
+            → IsStateOf (record self.old { openers = before; aside = Some holder }) (D.history d.old) state → IsSafe f (D.history d.old)
+            → LeavesOnly (D.history d.old) (D.history d.new) (TurnMayLeave f state (law_opener holder.owner)) }
+        ensures safe { OnOk result (IsTrue D.tells → (before : Openers) (x : Opener) (state : State) → let f = form_in before.header in
+            ClaimStands self.old holder (seen (D.history d.old)) (D.size d.old) before x
+            → IsStateOf (record self.old { openers = before; aside = Some holder }) (D.history d.old) state → IsSafe f (D.history d.old) → IsSafe f (D.history d.new)) }
         ensures busy { IfOk result (λ turn. turn ≡ Turn.Step → HasCommand self.new holder.owner) }
         ensures header { OnOk result (self.new.openers.header ≡ self.old.openers.header) }
         ensures options { OnOk result (self.new.openers.options ≡ self.old.openers.options) }
@@ -189,6 +201,10 @@ impl World {
         ensures fits { OnOk result (WorldFits self.new (seen (D.history d.new)) (D.size d.new)) }
         ensures fresh { OnOk result (self.new.stale ≡ false) }
         ensures turned { IfOk result (λ turn. IsTrue D.tells → TurnLeads self.old self.new (D.history d.old) (D.history d.new) who (law_turn turn)) }
+        ensures stops { IsTrue D.tells → (state : State) → let f = form_at self.old in IsStateOf self.old (D.history d.old) state → IsSafe f (D.history d.old)
+            → LeavesOnly (D.history d.old) (D.history d.new) (TurnMayLeave f state (law_opener who)) }
+        ensures safe { OnOk result (IsTrue D.tells → (state : State) → let f = form_at self.old in IsStateOf self.old (D.history d.old) state → IsSafe f (D.history d.old)
+            → IsSafe f (D.history d.new)) }
         ensures busy { IfOk result (λ turn. turn ≡ Turn.Step → HasCommand self.new who) }
         ensures header { OnOk result (self.new.openers.header ≡ self.old.openers.header) }
         ensures options { OnOk result (self.new.openers.options ≡ self.old.openers.options) }

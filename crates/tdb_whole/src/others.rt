@@ -2,6 +2,7 @@
 ghost use Rattle.std.specs.Prelude.{◌≡◌, ◌≤◌, ℕ, ◌≢◌, List, length, slice_get, true, IsTrue, IfOk, IfSome, IfNone, OnOk, false};
 ghost use Rattle.tdb_disk.specs.Count.{HasCause};
 ghost use Rattle.tdb_disk.specs.History.{seen};
+ghost use Rattle.tdb_disk.specs.Stop.{LeavesOnly};
 ghost use Rattle.tdb_law.specs.Turned.{Turned};
 ghost use Rattle.tdb_law.specs.World.{State};
 ghost use Rattle.tdb_plays.specs.InLaw.{law_opener, law_turn};
@@ -9,14 +10,16 @@ ghost use Rattle.tdb_space.specs.Form.{form_in};
 ghost use Rattle.tdb_steps.specs.Turns.{number_of};
 ghost use Rattle.tdb_beside.specs.Sides.{Past, Side};
 ghost use Rattle.tdb_world.specs.ShutOut.{HoldsAll, ShutsOut, IsTurnBeside};
-ghost use Rattle.tdb_world.specs.Calm.{WritesNoRecord};
+ghost use Rattle.tdb_world.specs.Calm.{IsMidway, WritesNoRecord};
+ghost use Rattle.tdb_world.specs.Openers.{own_of};
 ghost use Rattle.tdb_world.specs.Worlds.{law_of_task, state_in, BytesStand, IsBusy, Stands};
 ghost use Rattle.tdb_world.specs.declared.job.Task.{Task};
 ghost use Rattle.tdb_world.specs.declared.opener.Opener.{Opener};
 ghost use Rattle.tdb_whole.specs.Shut.{IsOpen, IsShutBy};
-ghost use Rattle.tdb_whole.specs.Whole.{is_starting, WorldFits};
+ghost use Rattle.tdb_whole.specs.Whole.{form_at, is_starting, WorldFits};
 ghost use Rattle.tdb_whole.specs.States.{IsStateOf};
 ghost use Rattle.tdb_whole.specs.Steps.{HasCommand, IsAmong, TurnLeads};
+ghost use Rattle.tdb_whole.specs.Stops.{IsChanging, IsSafe, TurnMayLeave};
 
 use crate::world::World;
 use tdb_disk::Disk;
@@ -62,6 +65,8 @@ impl World {
         ensures turned { IfOk result (λ turn. IsTrue D.tells → BytesStand self.old.openers (seen (D.history d.old)) → (x : Opener) (t : Task) → IsBusy self.old.openers who x t
             → Turned (form_in self.old.openers.header) (state_in self.old.openers (seen (D.history d.old))) (law_opener who) (law_of_task t) (law_turn turn) (state_in self.new.openers (seen (D.history d.new)))) }
         ensures calm { WritesNoRecord self.old.openers.table (law_opener who) → (D.history d.new ≡ D.history d.old) × (D.size d.new ≡ D.size d.old) }
+        ensures spared { (x : Opener) (t : Task) → IsBusy self.old.openers who x t → (IsMidway (form_in self.old.openers.header) (own_of self.old.openers.options x) (law_of_task t) → ⊥)
+            → D.history d.new ≡ D.history d.old }
         ensures busy { IfOk result (λ turn. turn ≡ Turn.Step → (x : Opener) × (t : Task) × IsBusy self.new.openers who x t) }
         ensures joined { length self.new.openers.openers ≡ length self.old.openers.openers }
         ensures others { (o : ℕ) → o ≢ law_opener who → slice_get self.new.openers.openers o ≡ slice_get self.old.openers.openers o }
@@ -120,6 +125,10 @@ impl World {
         ensures fits { OnOk result (WorldFits self.new (seen (D.history d.new)) (D.size d.new)) }
         ensures fresh { OnOk result (self.new.stale ≡ false) }
         ensures turned { IfOk result (λ turn. IsTrue D.tells → TurnLeads self.old self.new (D.history d.old) (D.history d.new) who (law_turn turn)) }
+        ensures stops { IsTrue D.tells → (state : State) → let f = form_at self.old in IsStateOf self.old (D.history d.old) state → IsSafe f (D.history d.old) → (IsChanging f state (law_opener who) → ⊥)
+            → LeavesOnly (D.history d.old) (D.history d.new) (TurnMayLeave f state (law_opener who)) }
+        ensures safe { OnOk result (IsTrue D.tells → (state : State) → let f = form_at self.old in IsStateOf self.old (D.history d.old) state → IsSafe f (D.history d.old) → (IsChanging f state (law_opener who) → ⊥)
+            → IsSafe f (D.history d.new)) }
         ensures busy { IfOk result (λ turn. turn ≡ Turn.Step → HasCommand self.new who) }
         ensures header { OnOk result (self.new.openers.header ≡ self.old.openers.header) }
         ensures options { OnOk result (self.new.openers.options ≡ self.old.openers.options) }

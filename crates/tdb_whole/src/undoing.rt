@@ -1,15 +1,19 @@
 //! The gate that an opener left open by dying.
-ghost use Rattle.std.specs.Prelude.{◌≡◌, ◌≤◌, ◌<◌, ◌+◌, ◌^◌, ℕ, IsTrue, IfOk, OnOk, true, false, if◌then◌else◌};
+ghost use Rattle.std.specs.Prelude.{◌≡◌, ◌≤◌, ◌<◌, ◌+◌, ◌^◌, ◌⊎◌, ℕ, IsTrue, IfOk, OnOk, true, false, if◌then◌else◌};
 ghost use Rattle.tdb_disk.specs.Count.{HasCause, RoseBy};
 ghost use Rattle.tdb_disk.specs.History.{seen};
+ghost use Rattle.tdb_disk.specs.Stop.{LeavesOnly, Quiet};
 ghost use Rattle.tdb_law.specs.World.{State};
+ghost use Rattle.tdb_space.specs.Accepted.{Shut};
 ghost use Rattle.tdb_space.specs.Form.{form_in, form_of};
-ghost use Rattle.tdb_space.specs.Opening.{entries, is_open, restored, Opens};
+ghost use Rattle.tdb_space.specs.Opening.{entries, is_open, restored, Mild, Opens};
+ghost use Rattle.tdb_space.specs.Undoing.{Reopens};
 ghost use Rattle.tdb_undo.specs.Entries.{lengths};
 ghost use Rattle.tdb_undo.specs.Recovery.{recovery_syncs};
 ghost use Rattle.tdb_whole.specs.Whole.{form_at, WorldFits};
 ghost use Rattle.tdb_whole.specs.States.{IsStateOf};
 ghost use Rattle.tdb_whole.specs.Steps.{UndoLeads};
+ghost use Rattle.tdb_whole.specs.Stops.{IsSafe, OpensToState};
 
 use crate::world::World;
 use tdb_disk::Disk;
@@ -32,6 +36,9 @@ pub struct Undone {
 fn put_back<D: Disk>(d: &mut D, header: &Header, len: u64) -> Result<u64, Io>
     requires length { len ≡ D.size d.old }
     requires short { len < 2 ^ 63 }
+    ensures stops { IsTrue D.tells → let a = seen (D.history d.old) in Quiet (D.history d.old) → Opens a → Shut (form_of a) a ⊎ Mild a → form_of a ≡ form_in header.now
+        → LeavesOnly (D.history d.old) (D.history d.new) (Reopens (restored (form_in header.now) a)) }
+    ensures quiet { OnOk result (IsTrue D.tells → Quiet (D.history d.old) → Quiet (D.history d.new)) }
     ensures restored { OnOk result (IsTrue D.tells → let a = seen (D.history d.old) in form_of a ≡ form_in header.now → Opens a → seen (D.history d.new) ≡ restored (form_in header.now) a) }
     ensures bytes { IfOk result (λ bytes. IsTrue D.tells → let f = form_in header.now in let a = seen (D.history d.old) in form_of a ≡ f → Opens a → bytes ≡ (if is_open f a then lengths (entries f a) else 0)) }
     ensures syncs { OnOk result (IsTrue D.tells → let f = form_in header.now in let a = seen (D.history d.old) in form_of a ≡ f → Opens a → RoseBy (recovery_syncs f a) (D.syncs d.old) (D.syncs d.new)) }
@@ -66,6 +73,9 @@ fn cut_back<D: Disk>(d: &mut D, most: u64) -> Result<u64, Io>
 /// Syncs, and puts back what the undo area keeps.
 fn undo<D: Disk>(d: &mut D, header: &Header) -> Result<Undone, Io>
     requires short { D.size d.old < 2 ^ 63 }
+    ensures stops { IsTrue D.tells → let f = form_in header.now in let a = seen (D.history d.old) in IsSafe f (D.history d.old) → form_of a ≡ f → Opens a → Shut (form_of a) a ⊎ Mild a
+        → LeavesOnly (D.history d.old) (D.history d.new) (Reopens (restored f a)) }
+    ensures quiet { OnOk result (IsTrue D.tells → let a = seen (D.history d.old) in form_of a ≡ form_in header.now → Opens a → Quiet (D.history d.new)) }
     ensures restored { OnOk result (IsTrue D.tells → let a = seen (D.history d.old) in form_of a ≡ form_in header.now → Opens a → seen (D.history d.new) ≡ restored (form_in header.now) a) }
     ensures bytes { IfOk result (λ undone. IsTrue D.tells → let f = form_in header.now in let a = seen (D.history d.old) in form_of a ≡ f → Opens a → undone.bytes ≡ (if is_open f a then lengths (entries f a) else 0)) }
     ensures syncs { OnOk result (IsTrue D.tells → let f = form_in header.now in let a = seen (D.history d.old) in form_of a ≡ f → Opens a → RoseBy (1 + recovery_syncs f a) (D.syncs d.old) (D.syncs d.new)) }
@@ -101,6 +111,9 @@ impl World {
         ensures undoes { OnOk result (IsTrue D.tells → UndoLeads self.old self.new (D.history d.old) (D.history d.new)) }
         ensures bytes { IfOk result (λ undone. IsTrue D.tells → (state : State) → IsStateOf self.old (D.history d.old) state
             → let f = form_at self.old in let a = seen (D.history d.old) in undone.bytes ≡ (if is_open f a then lengths (entries f a) else 0)) }
+        ensures stops { IsTrue D.tells → (state : State) → let f = form_at self.old in IsStateOf self.old (D.history d.old) state → IsSafe f (D.history d.old)
+            → LeavesOnly (D.history d.old) (D.history d.new) (OpensToState f state) }
+        ensures safe { OnOk result (IsTrue D.tells → (state : State) → let f = form_at self.old in IsStateOf self.old (D.history d.old) state → IsSafe f (D.history d.new)) }
         ensures length { IfOk result (λ undone. undone.to ≡ D.size d.new) }
         ensures shorter { OnOk result (D.size d.new ≤ D.size d.old) }
         ensures world { OnOk result (self.new ≡ record self.old { stale = false }) }

@@ -1,10 +1,13 @@
 -- The one aside takes its turn.
 use Rattle.std.proofs.Common.{◌≡◌, Some, IsTrue, IfOk, sym, ◌∙◌, ap, subst}
+use Rattle.std.proofs.lemmas.Result.{on_ok_weaker}
+use Rattle.tdb_disk.specs.Stop.{LeavesOnly}
 use Rattle.tdb_locks.specs.declared.turn.Turn.TheVariants as Turn
-use Rattle.tdb_plays.specs.InLaw.{law_turn}
+use Rattle.tdb_plays.specs.InLaw.{law_opener, law_turn}
 use Rattle.tdb_holder.specs.Holders.{HolderState}
 use Rattle.tdb_whole.specs.contracts.world.World.{the_view}
-use Rattle.tdb_whole.specs.Whole.{Whole}
+use Rattle.tdb_whole.specs.Stops.{IsSafe, TurnMayLeave}
+use Rattle.tdb_whole.specs.Whole.{form_at, Whole}
 use Rattle.tdb_whole.specs.States.{IsStateOf}
 use Rattle.tdb_whole.specs.Steps.{with_aside, HasCommand, TurnLeads}
 use Rattle.tdb_whole.proofs.Settled.{put_back, same_holder}
@@ -32,3 +35,20 @@ returns-clause-busy g c = subst (λ o. IfOk c.step_aside.result (λ turn. turn �
 
 pub returns-clause-cause : goal.returns-clause-cause
 returns-clause-cause g c = λ tells state S. c.step_aside.ensures.cause tells state (subst (λ w. IsStateOf w (g.D.Disk.history c.args.d.now) state) (sym (before g c)) S)
+
+pub returns-clause-stops : goal.returns-clause-stops
+returns-clause-stops g c = λ told state S safe.
+    let h = g.D.Disk.history c.args.d.now in
+    let form = ap (λ (w : Whole). form_at w) c.self.view_is in
+    subst (λ o. LeavesOnly h (g.D.Disk.history c.step_aside.new.d) (TurnMayLeave (form_at c.args.self.now) state (law_opener o))) (owner g c)
+    (subst (λ f. LeavesOnly h (g.D.Disk.history c.step_aside.new.d) (TurnMayLeave f state (law_opener c.in-Some.holder.owner))) form
+    (c.step_aside.ensures.stops told state (subst (λ w. IsStateOf w h state) (sym (before g c)) S) (subst (λ f. IsSafe f h) (sym form) safe)))
+
+pub returns-clause-safe : goal.returns-clause-safe
+returns-clause-safe g c =
+    let h = g.D.Disk.history c.args.d.now in
+    let form = ap (λ (w : Whole). form_at w) c.self.view_is in
+    on_ok_weaker c.step_aside.result
+    (λ keeps told state S safe. subst (λ f. IsSafe f (g.D.Disk.history c.step_aside.new.d)) form
+    (keeps told state (subst (λ w. IsStateOf w h state) (sym (before g c)) S) (subst (λ f. IsSafe f h) (sym form) safe)))
+    c.step_aside.ensures.safe

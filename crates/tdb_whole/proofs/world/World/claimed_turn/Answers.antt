@@ -4,7 +4,7 @@ use Rattle.tdb_disk.specs.History.{seen}
 use Rattle.tdb_locks.specs.declared.kind.Kind.TheVariants.{Write}
 use Rattle.tdb_space.specs.Form.{form_in}
 use Rattle.tdb_steps.specs.Turns.{number_of}
-use Rattle.tdb_plays.specs.InLaw.{law_turn}
+use Rattle.tdb_plays.specs.InLaw.{law_opener, law_turn}
 use Rattle.std.specs.Prelude.{IfSome}
 use Rattle.tdb_words.specs.declared.header.Header.{Header}
 use Rattle.tdb_locks.specs.declared.turn.Turn.{Turn as TurnIs}
@@ -23,6 +23,7 @@ use Rattle.tdb_whole.specs.Steps.HasCommand.{by_aside}
 use Rattle.tdb_whole.specs.Whole.{Whole, WorldFits}
 use Rattle.tdb_whole.proofs.ClaimUsed.{number_now, stood_now, used_fits, used_leads, C}
 use Rattle.tdb_whole.proofs.Settled.{settled_world}
+use Rattle.tdb_whole.proofs.Stopping.{still_leaves, used_safe, used_stops}
 use Rattle.tdb_whole.proofs.world.World.claimed_turn.Given
 use Rattle.tdb_whole.proofs.world.World.claimed_turn.Goals as goal
 
@@ -132,6 +133,27 @@ returns-clause-fits g c =
 
 pub returns-clause-turned : goal.returns-clause-turned
 returns-clause-turned g c = λ told before x S. leads g c before x S told
+
+pub returns-in-Err-clause-stops : goal.returns-in-Err-clause-stops
+returns-in-Err-clause-stops g c = λ told before x state S is safe.
+    still_leaves (record c.args.self.now { openers = before; aside = Some c.args.holder }) (g.D.Disk.history c.args.d.now) (g.D.Disk.history c.keep_number.new.d) state (law_opener c.args.holder.owner)
+    c.keep_number.ensures.history is safe
+
+pub returns-in_err-moved-clause-stops : goal.returns-in_err-moved-clause-stops
+returns-in_err-moved-clause-stops g c = λ told before x state S is safe.
+    used_stops c.args.self.now c.args.holder (seen (g.D.Disk.history c.args.d.now)) (g.D.Disk.size c.args.d.now) before x S c.requires.fresh c.requires.busy
+    (g.D.Disk.history c.args.d.now) (g.D.Disk.history c.keep_number.new.d) c.keep_number.ensures.history state is safe (g.D.Disk.history c.turn.new.d) (c.turn.ensures.stops told)
+
+pub returns-clause-stops : goal.returns-clause-stops
+returns-clause-stops g c = λ told before x state S is safe.
+    used_stops c.args.self.now c.args.holder (seen (g.D.Disk.history c.args.d.now)) (g.D.Disk.size c.args.d.now) before x S c.requires.fresh c.requires.busy
+    (g.D.Disk.history c.args.d.now) (g.D.Disk.history c.keep_number.new.d) c.keep_number.ensures.history state is safe (g.D.Disk.history c.turn.new.d) (c.turn.ensures.stops told)
+
+pub returns-clause-safe : goal.returns-clause-safe
+returns-clause-safe g c = λ told before x state S is safe.
+    used_safe c.args.self.now c.args.holder (seen (g.D.Disk.history c.args.d.now)) (g.D.Disk.size c.args.d.now) before x S c.requires.fresh c.requires.busy
+    (g.D.Disk.history c.args.d.now) (g.D.Disk.history c.keep_number.new.d) c.keep_number.ensures.history state is safe (g.D.Disk.history c.turn.new.d) (c.turn.ensures.stops told)
+    c.header.result.now c.options.result.now (header g c) (options g c) c.in_ok-moved.moved.turn c.in_ok-moved.moved.holder (c.in_ok-moved.ensures.turned told)
 
 -- who is left has its number
 owner_at : (owner : ℕ) (o : Option HolderState) (a : HolderState) → o ≡ Some a → IfSome o (λ q. q.owner ≡ owner) → a.owner ≡ owner

@@ -1,17 +1,24 @@
 -- The turn is one on the bytes of the file, or that of an opener that is shut out.
-use Rattle.std.proofs.Common.{◌≡◌, sym, subst}
+use Rattle.std.proofs.Common.{◌≡◌, refl, sym, subst}
 use Rattle.std.specs.Prelude.{Result, IfOk, OnOk, IsTrue}
 use Rattle.std.proofs.Common.{Ok, Err}
-use Rattle.tdb_disk.specs.History.{seen}
+use Rattle.tdb_disk.specs.History.{History, seen}
 use Rattle.tdb_locks.specs.declared.turn.Turn.TheVariants.{Step}
+use Rattle.tdb_law.specs.World.{State}
 use Rattle.tdb_plays.specs.InLaw.{law_opener, law_turn}
 use Rattle.tdb_world.specs.Worlds.{Stands}
 use Rattle.tdb_world.proofs.Aside.{on_one}
+use Rattle.tdb_whole.specs.States.{IsStateOf}
 use Rattle.tdb_whole.specs.Steps.{HasCommand, TurnLeads}
 use Rattle.tdb_whole.specs.Steps.HasCommand.{by_job}
-use Rattle.tdb_whole.specs.Whole.{WorldFits}
+use Rattle.tdb_whole.specs.Stops.{IsChanging, IsSafe}
+use Rattle.tdb_whole.specs.Whole.{form_at, WorldFits}
 use Rattle.tdb_whole.proofs.OtherTurns.{OnlyOne, open_fits, open_leads, put_openers, same_fits, shut_leads, still_among}
+use Rattle.tdb_whole.proofs.Spared.{not_midway}
+use Rattle.tdb_whole.proofs.Stopping.{still_leaves}
+use Rattle.tdb_whole.proofs.world.World.other_turn.Given
 use Rattle.tdb_whole.proofs.world.World.other_turn.Goals as goal
+use Rattle.tdb_whole.proofs.world.World.other_turn.Goals.{After-turn_in_file}
 
 -- what holds of the value of an answer that is Ok
 if_ok : {V E : Type 0} (r : Result V E) (P : Type 0) (Q R : V → Type 0) → ((x : V) → P → Q x → R x) → OnOk r P → IfOk r Q → IfOk r R
@@ -85,3 +92,28 @@ returns-in-None-clause-busy g c =
     (λ turn stands busy is. subst (λ z. HasCommand z c.args.who) (sym (put_openers old new E.rest))
     (let B = busy is in by_job B.0 B.1 B.2 c.requires.begun (still_among old new.openers c.args.who c.requires.named c.requires.among c.requires.begun K)))
     E.stands E.busy
+
+pub returns-in-Some-clause-stops : goal.returns-in-Some-clause-stops
+returns-in-Some-clause-stops g c told state S safe never =
+    let h = g.D.Disk.history c.args.d.now in still_leaves c.args.self.now h h state (law_opener c.args.who) refl S safe
+
+-- a turn that doesn't go on with a change leaves the history
+module _ (g : Given.Over) (c : After-turn_in_file g) (state : State) where
+  abbrev h : History
+  h = g.D.Disk.history c.args.d.now
+
+  same : IsStateOf c.args.self.now h state → (IsChanging (form_at c.args.self.now) state (law_opener c.args.who) → ⊥) → g.D.Disk.history c.turn_in_file.new.d ≡ h
+  same S never =
+      let B = c.requires.busy in
+      c.turn_in_file.ensures.spared B.0 B.1 B.2 (not_midway c.args.self.now c.args.who B.0 B.1 h state c.requires.named B.2 c.requires.among c.requires.begun S never)
+
+pub returns-in-None-clause-stops : goal.returns-in-None-clause-stops
+returns-in-None-clause-stops g c told state S safe never =
+    still_leaves c.args.self.now (g.D.Disk.history c.args.d.now) (g.D.Disk.history c.turn_in_file.new.d) state (law_opener c.args.who)
+    (same g (goal.at.returns-in-None-clause-stops g c).After-turn_in_file state S never) S safe
+
+pub returns-in-None-clause-safe : goal.returns-in-None-clause-safe
+returns-in-None-clause-safe g c =
+    on_one c.turn_in_file.result _ _
+    (λ done told state S safe never. subst (IsSafe (form_at c.args.self.now)) (sym (same g (goal.at.returns-in-None-clause-safe g c).After-turn_in_file state S never)) safe)
+    c.turn_in_file.ensures.done

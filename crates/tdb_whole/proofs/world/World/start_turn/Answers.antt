@@ -1,8 +1,11 @@
 -- The Start is barred by the one aside, or its opener goes aside.
-use Rattle.std.proofs.Common.{◌≡◌, ◌≤◌, ℕ, ◌+◌, [], false, slice_set, Option, Some, None, is_some, sym, ◌∙◌, ap, subst, arith}
+use Rattle.std.proofs.Common.{◌≡◌, ◌≤◌, ℕ, ◌+◌, [], false, slice_set, Option, Some, None, is_some, refl, sym, ◌∙◌, ap, subst, arith}
 use Rattle.std.proofs.Common.{Ok, Err}
 use Rattle.std.specs.Prelude.{Result, IfOk, IsTrue}
-use Rattle.tdb_disk.specs.History.{seen}
+use Rattle.std.proofs.lemmas.Result.{on_ok_weaker}
+use Rattle.tdb_disk.specs.History.{seen, History}
+use Rattle.tdb_disk.specs.Stop.{LeavesOnly}
+use Rattle.tdb_law.specs.World.{State}
 use Rattle.tdb_locks.specs.declared.turn.Turn.TheVariants.{Step}
 use Rattle.tdb_commit.specs.declared.starting.Starting.TheVariants as Starts
 use Rattle.tdb_holder.specs.Holders.{HolderState}
@@ -10,8 +13,11 @@ use Rattle.tdb_holder.specs.declared.stage.Stage.TheVariants as At
 use Rattle.tdb_plays.specs.InLaw.{law_opener, law_turn}
 use Rattle.tdb_whole.specs.States.{IsStateOf}
 use Rattle.tdb_whole.specs.Steps.{HasCommand, TurnLeads, with_aside}
-use Rattle.tdb_whole.specs.Whole.{Whole, WorldFits}
+use Rattle.tdb_whole.specs.Stops.{IsSafe, TurnMayLeave}
+use Rattle.tdb_whole.specs.Whole.{form_at, Whole, WorldFits}
 use Rattle.tdb_whole.proofs.OwnStart.{aside_fits, goes_aside}
+use Rattle.tdb_whole.proofs.Stopping.{still_leaves}
+use Rattle.tdb_whole.proofs.world.World.start_turn.Given
 use Rattle.tdb_whole.proofs.world.World.start_turn.Goals as goal
 
 if_ok : {V E : Type 0} (r : Result V E) (Q R : V → Type 0) → ((x : V) → Q x → R x) → IfOk r Q → IfOk r R
@@ -69,12 +75,41 @@ returns-clause-turned g c =
 pub returns-clause-busy : goal.returns-clause-busy
 returns-clause-busy g c = subst (λ o. IfOk c.step_aside.result (λ turn. turn ≡ Step → HasCommand c.step_aside.new.self o)) (ap (λ (z : HolderState). z.owner) c.start-holder.ensures) c.step_aside.ensures.busy
 
+module _ (g : Given.Over) (c : goal.After-step_aside g) where
+  abbrev w : Whole
+  w = c.args.self.now
+
+  abbrev h : History
+  h = g.D.Disk.history c.args.d.now
+
+  -- a state of the world is one in which the opener is aside
+  aside_state : (state : State) → IsStateOf w h state → IsStateOf (with_aside c.drop_start.new.self c.start-holder.result) h state
+  aside_state state S =
+      let is = aside_is c.args.who w c.drop_start.new.self c.start-holder.result c.drop_start.ensures c.start-holder.ensures in
+      let nobody = ap (λ (z : Whole). z.aside) (sym c.self.view_is) ∙ none_aside c.self.inside.aside (sym c.is_some.ensures ∙ c.if-is_some.false) in
+      subst (λ z. IsStateOf z h state) (sym is)
+      (goes_aside w (law_opener c.args.who) (seen h) (g.D.Disk.size c.args.d.now) c.requires.fits c.requires.begun c.requires.fresh nobody c.args.who (number_is c.args.who c.requires.named) h state S)
+
+  form : form_at c.drop_start.new.self ≡ form_at w
+  form = ap (λ (z : Whole). form_at z) c.drop_start.ensures
+
 pub returns-clause-cause : goal.returns-clause-cause
-returns-clause-cause g c told state S =
-    let w = c.args.self.now in
-    let who = c.args.who in
-    let h = g.D.Disk.history c.args.d.now in
-    let is = aside_is who w c.drop_start.new.self c.start-holder.result c.drop_start.ensures c.start-holder.ensures in
-    let nobody = ap (λ (z : Whole). z.aside) (sym c.self.view_is) ∙ none_aside c.self.inside.aside (sym c.is_some.ensures ∙ c.if-is_some.false) in
-    c.step_aside.ensures.cause told state
-    (subst (λ z. IsStateOf z h state) (sym is) (goes_aside w (law_opener who) (seen h) (g.D.Disk.size c.args.d.now) c.requires.fits c.requires.begun c.requires.fresh nobody who (number_is who c.requires.named) h state S))
+returns-clause-cause g c told state S = c.step_aside.ensures.cause told state (aside_state g c state S)
+
+pub returns-then-is_some-clause-stops : goal.returns-then-is_some-clause-stops
+returns-then-is_some-clause-stops g c = λ told state S safe.
+    let h = g.D.Disk.history c.args.d.now in still_leaves c.args.self.now h h state (law_opener c.args.who) refl S safe
+
+pub returns-clause-stops : goal.returns-clause-stops
+returns-clause-stops g c = λ told state S safe.
+    let later = g.D.Disk.history c.step_aside.new.d in
+    subst (λ o. LeavesOnly (h g c) later (TurnMayLeave (form_at (w g c)) state (law_opener o))) (ap (λ (z : HolderState). z.owner) c.start-holder.ensures)
+    (subst (λ f. LeavesOnly (h g c) later (TurnMayLeave f state (law_opener c.start-holder.result.owner))) (form g c)
+    (c.step_aside.ensures.stops told state (aside_state g c state S) (subst (λ f. IsSafe f (h g c)) (sym (form g c)) safe)))
+
+pub returns-clause-safe : goal.returns-clause-safe
+returns-clause-safe g c =
+    on_ok_weaker c.step_aside.result
+    (λ keeps told state S safe. subst (λ f. IsSafe f (g.D.Disk.history c.step_aside.new.d)) (form g c)
+    (keeps told state (aside_state g c state S) (subst (λ f. IsSafe f (h g c)) (sym (form g c)) safe)))
+    c.step_aside.ensures.safe

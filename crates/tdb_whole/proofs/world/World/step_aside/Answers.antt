@@ -1,7 +1,8 @@
 -- The turn for which the lock of records is taken; or it is blocked by another's lock; or memory was wanting for it.
 use Rattle.std.proofs.Common.{◌≡◌, ℕ, List, Some, None, refl, sym, ◌∙◌, ap, subst}
-use Rattle.std.proofs.lemmas.Result.{IfOk-weaker}
+use Rattle.std.proofs.lemmas.Result.{IfOk-weaker, on_ok_weaker}
 use Rattle.tdb_disk.specs.History.{seen}
+use Rattle.tdb_disk.specs.Stop.{LeavesOnly}
 use Rattle.tdb_plays.specs.InLaw.{law_opener, law_turn}
 use Rattle.tdb_law.specs.Commands.Turn.{Blocked}
 use Rattle.tdb_locks.specs.declared.kind.Kind.{Kind}
@@ -14,9 +15,11 @@ use Rattle.tdb_whole.specs.contracts.world.World.{the_view}
 use Rattle.tdb_whole.specs.Claims.{Claimed, ClaimStands, IsBarred}
 use Rattle.tdb_whole.specs.States.{IsStateOf}
 use Rattle.tdb_whole.specs.Steps.{with_aside, TurnLeads}
+use Rattle.tdb_whole.specs.Stops.{IsSafe, TurnMayLeave}
 use Rattle.tdb_whole.specs.Whole.{form_at, options_at, Whole, WorldFits}
 use Rattle.tdb_whole.proofs.Fitting.{fits_starved}
 use Rattle.tdb_whole.proofs.Settled.{claim_stands}
+use Rattle.tdb_whole.proofs.Stopping.{still_leaves}
 use Rattle.tdb_whole.proofs.TurnsLead.{blocked_leads, starved_leads}
 use Rattle.tdb_whole.proofs.world.World.step_aside.Given
 use Rattle.tdb_whole.proofs.world.World.step_aside.Goals as goal
@@ -110,3 +113,29 @@ returns-in-Starved-clause-turned g c = λ told.
     subst (λ v. TurnLeads (with_aside v c.args.holder) (record (the_view c.self.inside) { openers = c.let_go_of_records.new.self }) history history c.args.holder.owner (law_turn c.starve.result)) c.self.view_is
     (subst (λ a. TurnLeads (with_aside (the_view c.self.inside) c.args.holder) (record (the_view c.self.inside) { openers = c.let_go_of_records.new.self; aside = a }) history history c.args.holder.owner (law_turn c.starve.result))
     (sym (nobody g c)) (left_leads g c))
+
+pub returns-in-Taken-clause-stops : goal.returns-in-Taken-clause-stops
+returns-in-Taken-clause-stops g c = λ told state S safe.
+    let header = ap (λ (w : Whole). form_at w) c.self.view_is in
+    let h = g.D.Disk.history c.args.d.now in
+    subst (λ f. LeavesOnly h (g.D.Disk.history c.claimed_turn.new.d) (TurnMayLeave f state (law_opener c.args.holder.owner))) header
+    (c.claimed_turn.ensures.stops told c.self.inside.openers (F g c).aside.opener state (stands g c)
+    (subst (λ w. IsStateOf (with_aside w c.args.holder) h state) (sym c.self.view_is) S) (subst (λ f. IsSafe f h) (sym header) safe))
+
+pub returns-in-Taken-clause-safe : goal.returns-in-Taken-clause-safe
+returns-in-Taken-clause-safe g c =
+    let header = ap (λ (w : Whole). form_at w) c.self.view_is in
+    let h = g.D.Disk.history c.args.d.now in
+    on_ok_weaker c.claimed_turn.result
+    (λ keeps told state S safe. subst (λ f. IsSafe f (g.D.Disk.history c.claimed_turn.new.d)) header
+    (keeps told c.self.inside.openers (F g c).aside.opener state (stands g c)
+    (subst (λ w. IsStateOf (with_aside w c.args.holder) h state) (sym c.self.view_is) S) (subst (λ f. IsSafe f h) (sym header) safe)))
+    c.claimed_turn.ensures.safe
+
+pub returns-in-Blocked-clause-stops : goal.returns-in-Blocked-clause-stops
+returns-in-Blocked-clause-stops g c = λ told state S safe.
+    let h = g.D.Disk.history c.args.d.now in still_leaves (with_aside c.args.self.now c.args.holder) h h state (law_opener c.args.holder.owner) refl S safe
+
+pub returns-in-Starved-clause-stops : goal.returns-in-Starved-clause-stops
+returns-in-Starved-clause-stops g c = λ told state S safe.
+    let h = g.D.Disk.history c.args.d.now in still_leaves (with_aside c.args.self.now c.args.holder) h h state (law_opener c.args.holder.owner) refl S safe

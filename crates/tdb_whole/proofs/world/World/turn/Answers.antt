@@ -1,4 +1,5 @@
--- An opener that isn't aside is among the others.
+-- An opener that isn't aside is among the others. What stops leave of the others' turns alone has the premise that none is in the middle of a change.
+use Rattle.tdb_world.proofs.Aside.{on_one}
 use Rattle.tdb_whole.proofs.world.World.turn.Goals as goal
 
 pub start_turn-requires-clause-among : goal.start_turn-requires-clause-among
@@ -6,3 +7,15 @@ start_turn-requires-clause-among g c = c.is_aside.ensures.no c.if-is_aside.false
 
 pub other_turn-requires-clause-among : goal.other_turn-requires-clause-among
 other_turn-requires-clause-among g c = c.is_aside.ensures.no c.if-is_aside.false
+
+pub returns-then-is_aside-clause-stops : goal.returns-then-is_aside-clause-stops
+returns-then-is_aside-clause-stops g c told state S safe never = c.aside_turn.ensures.stops told state S safe
+
+pub returns-then-is_aside-clause-safe : goal.returns-then-is_aside-clause-safe
+returns-then-is_aside-clause-safe g c = on_one c.aside_turn.result _ _ (λ left told state S safe never. left told state S safe) c.aside_turn.ensures.safe
+
+pub returns-then-is_starting-clause-stops : goal.returns-then-is_starting-clause-stops
+returns-then-is_starting-clause-stops g c told state S safe never = c.start_turn.ensures.stops told state S safe
+
+pub returns-then-is_starting-clause-safe : goal.returns-then-is_starting-clause-safe
+returns-then-is_starting-clause-safe g c = on_one c.start_turn.result _ _ (λ left told state S safe never. left told state S safe) c.start_turn.ensures.safe
