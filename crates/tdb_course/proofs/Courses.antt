@@ -3,7 +3,6 @@ use Rattle.std.proofs.Common.{◌≡◌, ℕ, ◌+◌, ◌<◌, List, [], ◌∷
 use Rattle.tdb_space.specs.Form.{Form}
 use Rattle.tdb_law.specs.Commands.{Command, Turn}
 use Rattle.tdb_law.specs.Commands.Turn.{Step}
-use Rattle.tdb_law.specs.Openers.{Task}
 use Rattle.tdb_law.specs.World.{State}
 use Rattle.tdb_law.specs.Events.{Given}
 use Rattle.tdb_law.specs.Lines.{Line}

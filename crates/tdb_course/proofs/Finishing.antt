@@ -19,7 +19,7 @@ use Rattle.tdb_world.proofs.Courses.{course_then}
 use Rattle.tdb_whole.specs.Whole.{Whole, WorldFits}
 use Rattle.tdb_whole.specs.States.{IsStateOf}
 use Rattle.tdb_whole.specs.Steps.{HasCommand}
-use Rattle.tdb_course.specs.Unfinished.{AreUnfinished, IsEnd, TellsUnfinished, EndsWith}
+use Rattle.tdb_course.specs.Unfinished.{AreUnfinished, TellsUnfinished}
 use Rattle.tdb_course.specs.Laws.{ReportIsLawful, EndsAlike}
 use Rattle.tdb_course.proofs.Standings.{joined_in, has_or_not, busy_never_idle, never_busy_idle}
 

@@ -1,5 +1,5 @@
 -- Turns of an opener and plays, one after the other, as they lead from one moment to the next.
-use Rattle.std.proofs.Common.{◌≡◌, ℕ, suc, take, drop, length, get_or, ◌+◌, ◌<◌, Bool, true, false, List, [], ◌∷◌, ◌++◌, Result, Ok, Err, refl, sym, ◌∙◌, ap, subst, inl}
+use Rattle.std.proofs.Common.{◌≡◌, ℕ, suc, take, drop, length, get_or, ◌+◌, ◌<◌, Bool, List, [], ◌∷◌, ◌++◌, Result, Ok, Err, refl, sym, ◌∙◌, ap, subst}
 use Rattle.std.proofs.lemmas.List.{take_more, map-append}
 use Rattle.std.proofs.Math.Seq.{split_at}
 use Rattle.tdb_space.specs.Form.{Form, form_in}

@@ -1,7 +1,11 @@
 pub mod Leading
+pub mod Stopping
 pub mod Standings
 pub mod Finishing
 pub mod Courses
 pub mod Answered
+pub mod StoppedPlays
 pub mod OneTurn
+pub mod StoppedTurns
 pub mod Going
+pub mod Changes

@@ -1,11 +1,11 @@
 -- A turn of an opener and its lines, as they lead from one moment to the next.
-use Rattle.std.proofs.Common.{◌≡◌, ℕ, ◌≤◌, Bool, true, false, IsTrue, List, [], ◌∷◌, ◌++◌, Option, Some, None, Result, Ok, Err, refl, sym, ◌∙◌, ap, subst, inl, inr, arith, append_assoc, append-nil, le_refl}
+use Rattle.std.proofs.Common.{◌≡◌, ℕ, ◌≤◌, Bool, false, IsTrue, List, [], ◌∷◌, ◌++◌, Option, Some, None, Result, Ok, Err, refl, sym, ◌∙◌, ap, subst, inl, inr, arith, append_assoc, append-nil}
 use Rattle.tdb_disk.specs.Count.{Rose, HasCauseOf}
 use Rattle.tdb_disk.specs.History.{History, seen}
 use Rattle.tdb_space.specs.Form.{Form, form_in}
 use Rattle.tdb_locks.specs.declared.turn.Turn.{Turn}
 use Rattle.tdb_locks.specs.declared.turn.Turn.TheVariants as Turns
-use Rattle.tdb_law.specs.Commands.{Command as LawCommand, Turn as LawTurn}
+use Rattle.tdb_law.specs.Commands.{Command as LawCommand}
 use Rattle.tdb_law.specs.Openers.{Task}
 use Rattle.tdb_law.specs.World.{State}
 use Rattle.tdb_law.specs.Turned.{Turned}

@@ -1,5 +1,5 @@
 -- How the openers of a world stand in its states.
-use Rattle.std.proofs.Common.{◌≡◌, ◌≤◌, ◌<◌, ◌+◌, ℕ, zero, suc, List, length, slice_get, Option, Bool, true, false, Some, None, refl, sym, ◌∙◌, ap, subst, arith, inl, inr, ◌⊎◌}
+use Rattle.std.proofs.Common.{◌≡◌, ◌≤◌, ℕ, List, length, slice_get, Option, true, false, Some, None, refl, sym, ◌∙◌, ap, subst, arith, inl, inr, ◌⊎◌}
 use Rattle.std.proofs.lemmas.Bool.{cases_Bool, cases_eq}
 use Rattle.tdb_disk.specs.History.{History}
 use Rattle.tdb_law.specs.Openers.{Own, Task}
@@ -12,7 +12,7 @@ use Rattle.tdb_holder.specs.Holders.{HolderState}
 use Rattle.tdb_holder.specs.Stages.{stage_task}
 use Rattle.tdb_plays.specs.InLaw.{law_opener}
 use Rattle.tdb_world.specs.Openers.{law_task, own_at, task_at}
-use Rattle.tdb_world.specs.Worlds.{state_in, law_of_task, IsBusy, IsFree, IsNumber, Stands}
+use Rattle.tdb_world.specs.Worlds.{state_in, law_of_task, IsBusy, IsFree, IsNumber}
 use Rattle.tdb_world.specs.declared.job.Task.{Task as JobTask}
 use Rattle.tdb_world.specs.declared.opener.Opener.{Opener}
 use Rattle.tdb_whole.specs.States.{IsStateOf, SideIs}

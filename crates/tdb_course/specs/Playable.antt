@@ -1,5 +1,5 @@
 -- Which plays may be taken.
-use Rattle.std.specs.Prelude.{ℕ, ◌≤◌, List}
+use Rattle.std.specs.Prelude.{◌≤◌, List}
 use Rattle.std.specs.List.{All}
 use Rattle.tdb_plays.specs.declared.play.Play.{Play}
 use Rattle.tdb_plays.specs.declared.play.Play.TheVariants as Plays

@@ -3,7 +3,6 @@ use Rattle.std.specs.Prelude.{ℕ, ◌≡◌, List, [], ◌∷◌, Bool, Result}
 use Rattle.tdb_disk.specs.History.{History, seen}
 use Rattle.tdb_law.specs.Commands.{Command}
 use Rattle.tdb_law.specs.World.{State}
-use Rattle.tdb_law.specs.Lines.{Line as LawLine}
 use Rattle.tdb_law.specs.Plays.{Play, Gives, IsAnswer}
 use Rattle.tdb_plays.specs.declared.line.Line.{Line}
 use Rattle.tdb_plays.specs.InLaw.{law_line}

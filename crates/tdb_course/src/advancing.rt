@@ -8,6 +8,7 @@ ghost use Rattle.tdb_world.specs.Played.{GoesSome};
 ghost use Rattle.tdb_whole.specs.Whole.{form_at, WorldFits};
 ghost use Rattle.tdb_whole.specs.Steps.{HasCommand};
 ghost use Rattle.tdb_course.specs.Led.{moment, Led};
+ghost use Rattle.tdb_course.specs.Stops.{StopsLed};
 ghost use Rattle.tdb_course.specs.Turns.{GoesOrClears};
 ghost use Rattle.tdb_course.specs.Told.{PlayLed};
 
@@ -32,6 +33,8 @@ pub(crate) fn go_on<D: Disk>(
         (λ state _. Goes (form_at world.old) most_turns state (law_opener who))
         (λ state. GoesSome (form_at world.old) state (law_opener who))
         (λ state. GoesOrClears (form_at world.old) state (law_opener who)) }
+    ensures stops { StopsLed D.tells (moment world.old (D.history d.old) (D.size d.old) (D.faults d.old) report.old.lines)
+        (moment world.new (D.history d.new) (D.size d.new) (D.faults d.new) report.new.lines) result }
 {
     for _taken in 0..MOST_TURNS {
         if !told_turn(world, d, who, report)? {
@@ -52,6 +55,8 @@ pub(crate) fn play_turn<D: Disk>(
     requires fits { WorldFits world.old (seen (D.history d.old)) (D.size d.old) }
     ensures led { PlayLed D.tells (moment world.old (D.history d.old) (D.size d.old) (D.faults d.old) report.old.lines)
         (moment world.new (D.history d.new) (D.size d.new) (D.faults d.new) report.new.lines) result (LawPlay.TakeTurn (law_opener who)) }
+    ensures stops { StopsLed D.tells (moment world.old (D.history d.old) (D.size d.old) (D.faults d.old) report.old.lines)
+        (moment world.new (D.history d.new) (D.size d.new) (D.faults d.new) report.new.lines) result }
 {
     match world.standing(who) {
         OpenerStanding::Absent => tell(report, Line::Absent { who }),
@@ -74,6 +79,8 @@ pub(crate) fn play_go<D: Disk>(
     requires fits { WorldFits world.old (seen (D.history d.old)) (D.size d.old) }
     ensures led { PlayLed D.tells (moment world.old (D.history d.old) (D.size d.old) (D.faults d.old) report.old.lines)
         (moment world.new (D.history d.new) (D.size d.new) (D.faults d.new) report.new.lines) result (LawPlay.Go (law_opener who)) }
+    ensures stops { StopsLed D.tells (moment world.old (D.history d.old) (D.size d.old) (D.faults d.old) report.old.lines)
+        (moment world.new (D.history d.new) (D.size d.new) (D.faults d.new) report.new.lines) result }
 {
     match world.standing(who) {
         OpenerStanding::Absent => tell(report, Line::Absent { who }),

@@ -8,6 +8,7 @@ ghost use Rattle.tdb_world.specs.Given.{IsShortGiven};
 ghost use Rattle.tdb_world.specs.Played.{Begun, ComesTo, PlaysLast};
 ghost use Rattle.tdb_whole.specs.Whole.{form_at, WorldFits};
 ghost use Rattle.tdb_course.specs.Led.{moment, Led};
+ghost use Rattle.tdb_course.specs.Stops.{StopsLed};
 ghost use Rattle.tdb_course.specs.Playable.{IsPlayable, ArePlayable};
 ghost use Rattle.tdb_course.specs.Told.{PlayLed};
 
@@ -32,6 +33,8 @@ fn play_do<D: Disk>(
     requires short { IsShortGiven command.now }
     ensures led { PlayLed D.tells (moment world.old (D.history d.old) (D.size d.old) (D.faults d.old) report.old.lines)
         (moment world.new (D.history d.new) (D.size d.new) (D.faults d.new) report.new.lines) result (LawPlay.Do (law_opener who) (law_command command.now)) }
+    ensures stops { StopsLed D.tells (moment world.old (D.history d.old) (D.size d.old) (D.faults d.old) report.old.lines)
+        (moment world.new (D.history d.new) (D.size d.new) (D.faults d.new) report.new.lines) result }
 {
     match world.standing(who) {
         OpenerStanding::Absent => tell(report, Line::Absent { who }),
@@ -63,6 +66,8 @@ pub fn play<D: Disk>(
         (λ state _. Gives (form_at world.old) state (law_play play.now))
         (λ state. Begun (form_at world.old) state (law_play play.now))
         (λ state. PlaysLast (form_at world.old) state (law_play play.now)) }
+    ensures stops { StopsLed D.tells (moment world.old (D.history d.old) (D.size d.old) (D.faults d.old) report.old.lines)
+        (moment world.new (D.history d.new) (D.size d.new) (D.faults d.new) report.new.lines) result }
 {
     match play {
         Play::Join => play_join(world, report),
@@ -92,6 +97,8 @@ pub fn run<D: Disk>(
         (λ state _. Course (form_at world.old) state (law_plays plays.now))
         (λ state. ComesTo (form_at world.old) state (law_plays plays.now))
         (λ state. ComesTo (form_at world.old) state (law_plays plays.now)) }
+    ensures stops { StopsLed D.tells (moment world.old (D.history d.old) (D.size d.old) (D.faults d.old) report.old.lines)
+        (moment world.new (D.history d.new) (D.size d.new) (D.faults d.new) report.new.lines) result }
 {
     for next in plays {
         play(world, d, next, report)?;

@@ -1,7 +1,8 @@
 //! One turn of an opener, and what is told of it.
-ghost use Rattle.std.specs.Prelude.{◌≡◌, ◌≤◌, ◌+◌, ℕ, List, Some, true, false, IfOk, OnOk};
+ghost use Rattle.std.specs.Prelude.{◌≡◌, ◌≤◌, ◌+◌, ℕ, List, Some, true, false, IsTrue, IfOk, OnOk};
 ghost use Rattle.tdb_disk.specs.Count.{HasCause, HasCauseOf};
 ghost use Rattle.tdb_disk.specs.History.{History, seen};
+ghost use Rattle.tdb_disk.specs.Stop.{LeavesOnly};
 ghost use Rattle.tdb_law.specs.Openers.{Task};
 ghost use Rattle.tdb_law.specs.Plays.{Clears};
 ghost use Rattle.tdb_law.specs.World.{State};
@@ -10,7 +11,9 @@ ghost use Rattle.tdb_world.specs.Played.{Nothing, TakesLast, TakesOne};
 ghost use Rattle.tdb_whole.specs.Whole.{form_at, WorldFits};
 ghost use Rattle.tdb_whole.specs.States.{IsStateOf};
 ghost use Rattle.tdb_whole.specs.Steps.{HasCommand};
+ghost use Rattle.tdb_whole.specs.Stops.{IsChanging, IsSafe, OpensToState, TurnMayLeave};
 ghost use Rattle.tdb_course.specs.Led.{moment, Led};
+ghost use Rattle.tdb_course.specs.Stops.{StopsLed};
 ghost use Rattle.tdb_course.specs.Turns.{IsToldOf, Never, TakesOrClears};
 
 use tdb_disk::Disk;
@@ -68,6 +71,9 @@ fn clear_gate<D: Disk>(
         (λ state _. Clears (form_at world.old) state)
         Never
         Nothing }
+    ensures stops { IsTrue D.tells → (state : State) → let f = form_at world.old in IsStateOf world.old (D.history d.old) state → IsSafe f (D.history d.old)
+        → LeavesOnly (D.history d.old) (D.history d.new) (OpensToState f state) }
+    ensures safe { OnOk result (IsTrue D.tells → (state : State) → let f = form_at world.old in IsStateOf world.old (D.history d.old) state → IsSafe f (D.history d.old) → IsSafe f (D.history d.new)) }
     ensures length { IfOk result (λ n. n ≡ D.size d.new) }
     ensures room { OnOk result (report.old.room ≤ report.new.room + 1) }
     ensures fresh { OnOk result (world.new.stale ≡ false) }
@@ -103,6 +109,10 @@ fn take_turn<D: Disk>(
         (λ state more lines new. IsToldOf state (law_opener who) (law_command command) → TakesOne (form_at world.old) state (law_opener who) more lines new)
         Never
         (λ state lines new. IsToldOf state (law_opener who) (law_command command) → TakesLast (form_at world.old) state (law_opener who) lines new) }
+    ensures stops { IsTrue D.tells → (state : State) → let f = form_at world.old in IsStateOf world.old (D.history d.old) state → IsSafe f (D.history d.old) → (IsChanging f state (law_opener who) → ⊥)
+        → LeavesOnly (D.history d.old) (D.history d.new) (TurnMayLeave f state (law_opener who)) }
+    ensures safe { OnOk result (IsTrue D.tells → (state : State) → let f = form_at world.old in IsStateOf world.old (D.history d.old) state → IsSafe f (D.history d.old)
+        → (IsChanging f state (law_opener who) → ⊥) → IsSafe f (D.history d.new)) }
     ensures busy { IfOk result (λ more. more ≡ true → HasCommand world.new who) }
 {
     let turn = world.turn(d, who)?;
@@ -129,6 +139,8 @@ pub(crate) fn told_turn<D: Disk>(
         (λ state. TakesOne (form_at world.old) state (law_opener who))
         Nothing
         (λ state. TakesOrClears (form_at world.old) state (law_opener who)) }
+    ensures stops { StopsLed D.tells (moment world.old (D.history d.old) (D.size d.old) (D.faults d.old) report.old.lines)
+        (moment world.new (D.history d.new) (D.size d.new) (D.faults d.new) report.new.lines) result }
     ensures busy { IfOk result (λ more. more ≡ true → HasCommand world.new who) }
 {
     let (command, length) = before_turn(world, d, who, report)?;

@@ -1,5 +1,5 @@
 -- Each turn goes on from the steps before it, and there are fewer than nine.
-use Rattle.std.proofs.Common.{◌≡◌, Ok, Err, true, false, refl, ◌∙◌, subst, arith}
+use Rattle.std.proofs.Common.{◌≡◌, Ok, Err, true, false, refl, subst, arith}
 use Rattle.std.proofs.lemmas.Result.{err_from_is_err_and}
 use Rattle.tdb_plays.specs.InLaw.{law_opener}
 use Rattle.tdb_world.specs.Played.{Nothing, Steps, TakesOne}
@@ -9,12 +9,15 @@ use Rattle.tdb_course.specs.Led.{moment, Led}
 use Rattle.tdb_course.specs.Turns.{TakesOrClears}
 use Rattle.tdb_course.proofs.Leading.{led_none, led_whole, led_fault}
 use Rattle.tdb_course.proofs.Going.{turn_joined}
+use Rattle.tdb_course.proofs.Stopping.{stops_fault, stops_join, stops_none, stops_whole}
 use Rattle.tdb_course.proofs.advancing.go_on.Goals as goal
 
 pub loop-taken-init : goal.loop-taken-init
 loop-taken-init g c = record {
   busy = c.requires.busy;
   led = led_none g.D.Disk.tells (moment c.args.world.now (g.D.Disk.history c.args.d.now) (g.D.Disk.size c.args.d.now) (g.D.Disk.faults c.args.d.now) c.args.report.now.lines) tt _ _ _ c.requires.fits (λ state is. (refl, refl));
+  stops = stops_none g.D.Disk.tells (moment c.args.world.now (g.D.Disk.history c.args.d.now) (g.D.Disk.size c.args.d.now) (g.D.Disk.faults c.args.d.now) c.args.report.now.lines)
+      (moment c.args.world.now (g.D.Disk.history c.args.d.now) (g.D.Disk.size c.args.d.now) (g.D.Disk.faults c.args.d.now) c.args.report.now.lines) (Ok tt) refl refl refl;
 }
 
 pub returns-in_err-told_turn : goal.returns-in_err-told_turn
@@ -28,6 +31,11 @@ returns-in_err-told_turn g c =
           (led_fault g.D.Disk.tells old new _ _ _ _ _ _ c.in_err-told_turn.field-0.0
           (turn_joined g.D.Disk.tells old mid new (law_opener c.args.who) c.loop-taken._taken c.loop-taken-test.true c.loop-taken.invariant.led (Err c.in_err-told_turn.field-0.0) c.in_err-told_turn.ensures.led)
           (λ state lines z is T. T) (λ state lines z is T. T));
+      stops = rw (q.1, q.2)
+          (stops_fault g.D.Disk.tells old new c.in_err-told_turn.field-0.0
+          (stops_join g.D.Disk.tells old mid new tt c.loop-taken.invariant.led.added c.in_err-told_turn.ensures.led.added
+          c.loop-taken.invariant.led.header c.loop-taken.invariant.led.lines c.in_err-told_turn.ensures.led.lines
+          (Err c.in_err-told_turn.field-0.0) c.loop-taken.invariant.stops c.in_err-told_turn.ensures.stops));
     }
 
 pub returns-then-not-branch : goal.returns-then-not-branch
@@ -41,6 +49,10 @@ returns-then-not-branch g c =
       led = led_whole g.D.Disk.tells old new _ _ _ _ _ _ false tt
           (turn_joined g.D.Disk.tells old mid new o c.loop-taken._taken c.loop-taken-test.true c.loop-taken.invariant.led (Ok false)
           (subst (λ more. Led g.D.Disk.tells mid new (Ok more) (λ state. TakesOne f state o) Nothing (λ state. TakesOrClears f state o)) c.if-not-branch.true c.in_ok-told_turn.ensures.led)) (λ state lines z is T. T);
+      stops = stops_whole g.D.Disk.tells old new _ tt
+          (stops_join g.D.Disk.tells old mid new tt c.loop-taken.invariant.led.added c.in_ok-told_turn.ensures.led.added
+          c.loop-taken.invariant.led.header c.loop-taken.invariant.led.lines c.in_ok-told_turn.ensures.led.lines
+          (Ok _) c.loop-taken.invariant.stops c.in_ok-told_turn.ensures.stops);
     }
 
 pub loop-taken-preserved : goal.loop-taken-preserved
@@ -55,6 +67,10 @@ loop-taken-preserved g c =
       led = led_whole g.D.Disk.tells old new _ _ _ _ _ _ true tt
           (turn_joined g.D.Disk.tells old mid new o c.loop-taken._taken c.loop-taken-test.true c.loop-taken.invariant.led (Ok true)
           (subst (λ more. Led g.D.Disk.tells mid new (Ok more) (λ state. TakesOne f state o) Nothing (λ state. TakesOrClears f state o)) c.if-not-branch.false c.in_ok-told_turn.ensures.led)) (λ state lines z is T. T);
+      stops = stops_whole g.D.Disk.tells old new _ tt
+          (stops_join g.D.Disk.tells old mid new tt c.loop-taken.invariant.led.added c.in_ok-told_turn.ensures.led.added
+          c.loop-taken.invariant.led.header c.loop-taken.invariant.led.lines c.in_ok-told_turn.ensures.led.lines
+          (Ok _) c.loop-taken.invariant.stops c.in_ok-told_turn.ensures.stops);
     }
 
 pub returns : goal.returns
@@ -68,4 +84,5 @@ returns g c =
       led = led_whole g.D.Disk.tells (moment c.args.world.now (g.D.Disk.history c.args.d.now) (g.D.Disk.size c.args.d.now) (g.D.Disk.faults c.args.d.now) c.args.report.now.lines)
           (moment c.loop-taken.world (g.D.Disk.history c.loop-taken.d) (g.D.Disk.size c.loop-taken.d) (g.D.Disk.faults c.loop-taken.d) c.loop-taken.report.lines) _ _ _ _ _ _ tt tt c.loop-taken.invariant.led
           (λ state lines z is S. absurd (steps_few f state z o lines (subst (λ n. Steps f n state o lines z) nine S)));
+      stops = c.loop-taken.invariant.stops;
     }

@@ -5,6 +5,7 @@ use Rattle.tdb_world.specs.Played.{Steps, GoesSome}
 use Rattle.tdb_whole.specs.Steps.{HasCommand}
 use Rattle.tdb_whole.specs.Whole.{form_at}
 use Rattle.tdb_course.specs.Led.{moment, Led}
+use Rattle.tdb_course.specs.Stops.{StopsLed}
 use Rattle.tdb_course.specs.Turns.{GoesOrClears}
 use Rattle.tdb_course.proofs.advancing.go_on.Given as goal
 
@@ -16,4 +17,6 @@ invariant-loop-taken g l = record {
       (λ state _. Steps (form_at l.fn.world) l._taken state (law_opener l.who))
       (λ state. GoesSome (form_at l.fn.world) state (law_opener l.who))
       (λ state. GoesOrClears (form_at l.fn.world) state (law_opener l.who));
+  stops : StopsLed {V = Unit {0}} g.D.Disk.tells (moment l.fn.world (g.D.Disk.history l.fn.d) (g.D.Disk.size l.fn.d) (g.D.Disk.faults l.fn.d) l.fn.report.lines)
+      (moment l.world (g.D.Disk.history l.d) (g.D.Disk.size l.d) (g.D.Disk.faults l.d) l.report.lines) (Ok tt);
 }

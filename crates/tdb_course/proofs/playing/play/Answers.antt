@@ -6,6 +6,7 @@ use Rattle.tdb_plays.specs.InLaw.{law_play}
 use Rattle.tdb_course.specs.Led.{moment}
 use Rattle.tdb_course.specs.Told.{PlayLed}
 use Rattle.tdb_course.proofs.Answered.{answered}
+use Rattle.tdb_course.proofs.StoppedPlays.{answered_stops, turnless_stops}
 use Rattle.tdb_course.proofs.playing.play.Goals as goal
 
 pub returns-in-Join : goal.returns-in-Join
@@ -13,6 +14,10 @@ returns-in-Join g c = record {
   led =
       subst (λ p. PlayLed g.D.Disk.tells (moment c.args.world.now (g.D.Disk.history c.args.d.now) (g.D.Disk.size c.args.d.now) (g.D.Disk.faults c.args.d.now) c.args.report.now.lines)
       (moment c.play_join.new.world (g.D.Disk.history c.args.d.now) (g.D.Disk.size c.args.d.now) (g.D.Disk.faults c.args.d.now) c.play_join.new.report.lines) c.play_join.result (law_play p)) (sym c.in-Join.is)
+      (c.play_join.ensures.led g.D.Disk.tells (g.D.Disk.history c.args.d.now) (g.D.Disk.size c.args.d.now) (g.D.Disk.faults c.args.d.now) c.requires.fits);
+  stops =
+      turnless_stops g.D.Disk.tells (moment c.args.world.now (g.D.Disk.history c.args.d.now) (g.D.Disk.size c.args.d.now) (g.D.Disk.faults c.args.d.now) c.args.report.now.lines)
+      (moment c.play_join.new.world (g.D.Disk.history c.args.d.now) (g.D.Disk.size c.args.d.now) (g.D.Disk.faults c.args.d.now) c.play_join.new.report.lines) LawPlay.Join tt refl c.play_join.result
       (c.play_join.ensures.led g.D.Disk.tells (g.D.Disk.history c.args.d.now) (g.D.Disk.size c.args.d.now) (g.D.Disk.faults c.args.d.now) c.requires.fits);
 }
 
@@ -22,6 +27,10 @@ returns-in-Give g c = record {
       subst (λ p. PlayLed g.D.Disk.tells (moment c.args.world.now (g.D.Disk.history c.args.d.now) (g.D.Disk.size c.args.d.now) (g.D.Disk.faults c.args.d.now) c.args.report.now.lines)
       (moment c.play_give.new.world (g.D.Disk.history c.args.d.now) (g.D.Disk.size c.args.d.now) (g.D.Disk.faults c.args.d.now) c.play_give.new.report.lines) c.play_give.result (law_play p)) (sym c.in-Give.is)
       (c.play_give.ensures.led g.D.Disk.tells (g.D.Disk.history c.args.d.now) (g.D.Disk.size c.args.d.now) (g.D.Disk.faults c.args.d.now) c.requires.fits);
+  stops =
+      turnless_stops g.D.Disk.tells (moment c.args.world.now (g.D.Disk.history c.args.d.now) (g.D.Disk.size c.args.d.now) (g.D.Disk.faults c.args.d.now) c.args.report.now.lines)
+      (moment c.play_give.new.world (g.D.Disk.history c.args.d.now) (g.D.Disk.size c.args.d.now) (g.D.Disk.faults c.args.d.now) c.play_give.new.report.lines) _ tt refl c.play_give.result
+      (c.play_give.ensures.led g.D.Disk.tells (g.D.Disk.history c.args.d.now) (g.D.Disk.size c.args.d.now) (g.D.Disk.faults c.args.d.now) c.requires.fits);
 }
 
 pub returns-in-Do : goal.returns-in-Do
@@ -30,6 +39,7 @@ returns-in-Do g c = record {
       subst (λ p. PlayLed g.D.Disk.tells (moment c.args.world.now (g.D.Disk.history c.args.d.now) (g.D.Disk.size c.args.d.now) (g.D.Disk.faults c.args.d.now) c.args.report.now.lines)
       (moment c.play_do.new.world (g.D.Disk.history c.play_do.new.d) (g.D.Disk.size c.play_do.new.d) (g.D.Disk.faults c.play_do.new.d) c.play_do.new.report.lines) c.play_do.result (law_play p)) (sym c.in-Do.is)
       c.play_do.ensures.led;
+  stops = c.play_do.ensures.stops;
 }
 
 pub returns-in-Turn : goal.returns-in-Turn
@@ -38,6 +48,7 @@ returns-in-Turn g c = record {
       subst (λ p. PlayLed g.D.Disk.tells (moment c.args.world.now (g.D.Disk.history c.args.d.now) (g.D.Disk.size c.args.d.now) (g.D.Disk.faults c.args.d.now) c.args.report.now.lines)
       (moment c.play_turn.new.world (g.D.Disk.history c.play_turn.new.d) (g.D.Disk.size c.play_turn.new.d) (g.D.Disk.faults c.play_turn.new.d) c.play_turn.new.report.lines) c.play_turn.result (law_play p)) (sym c.in-Turn.is)
       c.play_turn.ensures.led;
+  stops = c.play_turn.ensures.stops;
 }
 
 pub returns-in-Go : goal.returns-in-Go
@@ -46,6 +57,7 @@ returns-in-Go g c = record {
       subst (λ p. PlayLed g.D.Disk.tells (moment c.args.world.now (g.D.Disk.history c.args.d.now) (g.D.Disk.size c.args.d.now) (g.D.Disk.faults c.args.d.now) c.args.report.now.lines)
       (moment c.play_go.new.world (g.D.Disk.history c.play_go.new.d) (g.D.Disk.size c.play_go.new.d) (g.D.Disk.faults c.play_go.new.d) c.play_go.new.report.lines) c.play_go.result (law_play p)) (sym c.in-Go.is)
       c.play_go.ensures.led;
+  stops = c.play_go.ensures.stops;
 }
 
 pub returns-in-Die : goal.returns-in-Die
@@ -53,6 +65,10 @@ returns-in-Die g c = record {
   led =
       subst (λ p. PlayLed g.D.Disk.tells (moment c.args.world.now (g.D.Disk.history c.args.d.now) (g.D.Disk.size c.args.d.now) (g.D.Disk.faults c.args.d.now) c.args.report.now.lines)
       (moment c.play_die.new.world (g.D.Disk.history c.args.d.now) (g.D.Disk.size c.args.d.now) (g.D.Disk.faults c.args.d.now) c.play_die.new.report.lines) c.play_die.result (law_play p)) (sym c.in-Die.is)
+      (c.play_die.ensures.led g.D.Disk.tells (g.D.Disk.history c.args.d.now) (g.D.Disk.size c.args.d.now) (g.D.Disk.faults c.args.d.now) c.requires.fits);
+  stops =
+      turnless_stops g.D.Disk.tells (moment c.args.world.now (g.D.Disk.history c.args.d.now) (g.D.Disk.size c.args.d.now) (g.D.Disk.faults c.args.d.now) c.args.report.now.lines)
+      (moment c.play_die.new.world (g.D.Disk.history c.args.d.now) (g.D.Disk.size c.args.d.now) (g.D.Disk.faults c.args.d.now) c.play_die.new.report.lines) _ tt refl c.play_die.result
       (c.play_die.ensures.led g.D.Disk.tells (g.D.Disk.history c.args.d.now) (g.D.Disk.size c.args.d.now) (g.D.Disk.faults c.args.d.now) c.requires.fits);
 }
 
@@ -63,4 +79,7 @@ returns-in-SetLog g c = record {
       (moment c.args.world.now (g.D.Disk.history c.args.d.now) (g.D.Disk.size c.args.d.now) (g.D.Disk.faults c.args.d.now) c.tell.new.report.lines) c.tell.result (law_play p)) (sym c.in-SetLog.is)
       (answered g.D.Disk.tells c.args.world.now (g.D.Disk.history c.args.d.now) (g.D.Disk.size c.args.d.now) (g.D.Disk.faults c.args.d.now) LawPlay.SetLog (Lines.LogsLeft 0) c.args.report.now.lines c.tell.new.report.lines
       c.requires.fits (λ h state is. tt) refl c.tell.result c.tell.ensures.told c.tell.ensures.err c.tell.ensures.memory);
+  stops =
+      answered_stops g.D.Disk.tells c.args.world.now (g.D.Disk.history c.args.d.now) (g.D.Disk.size c.args.d.now) (g.D.Disk.faults c.args.d.now) LawPlay.SetLog (Lines.LogsLeft 0)
+      c.args.report.now.lines c.tell.new.report.lines (λ h state is. tt) c.tell.result c.tell.ensures.told c.tell.ensures.err;
 }

@@ -1,11 +1,12 @@
 -- An open gate is undone, and told; where none stands open nothing happens.
-use Rattle.std.proofs.Common.{◌++◌, ◌∷◌, [], refl, sym, ◌∙◌, ap, subst, false}
+use Rattle.std.proofs.Common.{refl, sym, ◌∙◌, subst}
 use Rattle.std.proofs.lemmas.Result.{err_from_is_err_and}
 use Rattle.tdb_law.specs.Plays.Clears.{clears_nothing}
 use Rattle.tdb_whole.specs.Steps.{HasCommand}
 use Rattle.tdb_course.specs.Led.{moment}
 use Rattle.tdb_course.proofs.Leading.{led_none}
 use Rattle.tdb_course.proofs.OneTurn.{cleared_busy, failed_led, stale_in, undone_led}
+use Rattle.tdb_course.proofs.Stopping.{safe_opens}
 use Rattle.tdb_course.proofs.turning.clear_gate.Goals as goal
 
 pub returns-then-not-is_stale-clause-led : goal.returns-then-not-is_stale-clause-led
@@ -29,3 +30,18 @@ returns-clause-led g c =
 
 pub returns-clause-busy : goal.returns-clause-busy
 returns-clause-busy g c who busy = subst (λ w. HasCommand w who) (sym c.in_ok-undone.ensures.world) (cleared_busy c.args.world.now who busy)
+
+pub returns-then-not-is_stale-clause-stops : goal.returns-then-not-is_stale-clause-stops
+returns-then-not-is_stale-clause-stops g c told state is safe = safe_opens c.args.world.now (g.D.Disk.history c.args.d.now) state is safe
+
+pub returns-then-not-is_stale-clause-safe : goal.returns-then-not-is_stale-clause-safe
+returns-then-not-is_stale-clause-safe g c told state is safe = safe
+
+pub returns-in_err-undone-clause-stops : goal.returns-in_err-undone-clause-stops
+returns-in_err-undone-clause-stops g c = c.undo_stale.ensures.stops
+
+pub returns-clause-stops : goal.returns-clause-stops
+returns-clause-stops g c = c.undo_stale.ensures.stops
+
+pub returns-clause-safe : goal.returns-clause-safe
+returns-clause-safe g c told state is safe = c.in_ok-undone.ensures.safe told state is

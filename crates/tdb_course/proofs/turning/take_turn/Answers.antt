@@ -5,11 +5,13 @@ use Rattle.tdb_disk.specs.Count.{Rose}
 use Rattle.tdb_disk.specs.History.{seen}
 use Rattle.tdb_locks.specs.declared.turn.Turn.{Turn}
 use Rattle.tdb_locks.specs.declared.turn.Turn.TheVariants as Turns
-use Rattle.tdb_plays.specs.InLaw.{law_turn}
+use Rattle.tdb_plays.specs.InLaw.{law_opener, law_turn}
 use Rattle.tdb_world.specs.Played.{growth, is_step}
 use Rattle.tdb_whole.specs.Steps.{TurnLeads}
-use Rattle.tdb_whole.specs.Whole.{WorldFits}
+use Rattle.tdb_whole.specs.Stops.{IsSafe}
+use Rattle.tdb_whole.specs.Whole.{form_at, WorldFits}
 use Rattle.tdb_course.proofs.OneTurn.{failed_led, took_io, took_led}
+use Rattle.tdb_course.proofs.StoppedTurns.{TurnStops}
 use Rattle.tdb_course.proofs.turning.take_turn.Goals as goal
 
 pub returns-in_err-turn-clause-led : goal.returns-in_err-turn-clause-led
@@ -57,3 +59,17 @@ step_is (Turns.Done reply) e = absurd (cc e)
 
 pub returns-clause-busy : goal.returns-clause-busy
 returns-clause-busy g c more = c.in_ok-turn.ensures.busy (step_is c.in_ok-turn.turn (sym c.was_step-more.ensures ∙ more))
+
+pub returns-in_err-turn-clause-stops : goal.returns-in_err-turn-clause-stops
+returns-in_err-turn-clause-stops g c = c.turn.ensures.stops
+
+pub returns-in_err-to-clause-stops : goal.returns-in_err-to-clause-stops
+returns-in_err-to-clause-stops g c =
+    subst (TurnStops g.D.Disk.tells (form_at c.args.world.now) c.args.world.now (law_opener c.args.who) (g.D.Disk.history c.args.d.now)) (sym c.length_of.ensures.history) c.turn.ensures.stops
+
+pub returns-clause-stops : goal.returns-clause-stops
+returns-clause-stops g c =
+    subst (TurnStops g.D.Disk.tells (form_at c.args.world.now) c.args.world.now (law_opener c.args.who) (g.D.Disk.history c.args.d.now)) (sym c.length_of.ensures.history) c.turn.ensures.stops
+
+pub returns-clause-safe : goal.returns-clause-safe
+returns-clause-safe g c told state is safe never = subst (IsSafe (form_at c.args.world.now)) (sym c.length_of.ensures.history) (c.in_ok-turn.ensures.safe told state is safe never)
