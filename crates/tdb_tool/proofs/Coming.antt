@@ -9,10 +9,12 @@ use Rattle.tdb_law.specs.Plays.{Play as LawPlay, Course}
 use Rattle.tdb_law.specs.World.{State}
 use Rattle.tdb_plays.specs.declared.line.Line.{Line}
 use Rattle.tdb_world.specs.Played.{ComesTo, FirstBegun, begun_not}
+use Rattle.tdb_whole.specs.Stops.{IsSafe}
 use Rattle.tdb_whole.specs.Whole.{form_at}
 use Rattle.tdb_tool.specs.declared.fault.SessionFault.{SessionFault}
 use Rattle.tdb_tool.specs.declared.fault.SessionFault.TheVariants as F
-use Rattle.tdb_tool.specs.Serving.{UnlessBroken, OnBroken, Deed, TellsAll, TellsFront, LeavesAll, LeavesFront, RunsTo, Scene, IsStateAt, FitsAt, Led}
+use Rattle.tdb_tool.specs.Serving.{UnlessBroken, OnBroken, Deed, TellsAll, TellsFront, LeavesAll, LeavesFront, RunsTo, Scene, IsStateAt, FitsAt, Safely, Led}
+use Rattle.tdb_tool.proofs.Stops.{LeadsOn, stops_nowhere, stops_after}
 use Rattle.tdb_tool.proofs.Telling.{front_all, front_after}
 
 -- a course that goes on in another one
@@ -150,6 +152,17 @@ on_map (Some F.Output) h a = tt
 on_map (Some F.Device) h a = h a
 on_map (Some F.Memory) h a = tt
 
+-- what was done with what stops leave is something else too, and so it is behind something else
+pub safely_too : (start new : Scene) (answer other : Option SessionFault) (one two : Deed) → ((A : Type 0) → UnlessBroken answer A → UnlessBroken other A) → IsToo one two
+    → IsToo (Safely start new answer one) (Safely start new other two)
+safely_too start new answer other one two moved too f old after lines text (done, safely) =
+    (too f old after lines text done, λ safe calm. (let S = safely safe calm in record { stops = S.stops; safe = moved (IsSafe f new.history) S.safe }))
+
+safely_follows : (start mid new : Scene) (answer : Option SessionFault) (first next both : Deed) → LeadsOn first → Follows first next both
+    → Follows (Safely start mid None first) (Safely mid new answer next) (Safely start new answer both)
+safely_follows start mid new answer first next both leads follows f old at after front rest text more (done, stops) (went, others) =
+    (follows f old at after front rest text more done went, stops_after f start mid new answer old at front rest (leads f old at front text done) stops others)
+
 module _ (disk_tells told : Bool) where
   -- nothing was done, which is something
   pub led_nowhere : (whole part : Deed) (start : Scene) → ((f : Form) (old : State) → whole f old [] [] old) → FitsAt start → Led disk_tells told whole part start start None
@@ -159,7 +172,7 @@ module _ (disk_tells told : Bool) where
     fits = fits;
     rises = omega arith;
     quiet = refl;
-    runs = λ heard state is. (state, is, ([], [], nothing (form_at start.world) state, λ out. sym (append-nil start.written)));
+    runs = λ heard state is. (state, is, ([], [], (nothing (form_at start.world) state, λ safe calm. stops_nowhere start state is safe), λ out. sym (append-nil start.written)));
     rose = λ heard state is. tt;
   }
 
@@ -171,7 +184,9 @@ module _ (disk_tells told : Bool) where
     fits = led.fits;
     rises = led.rises;
     quiet = led.quiet;
-    runs = led.runs;
+    runs = λ heard state is.
+        left_as (form_at start.world) told (IsStateAt new) (Safely start new None whole) (Safely start new (Some F.Input) whole)
+        (safely_too start new None (Some F.Input) whole whole (λ A a. a) (λ f old after lines text done. done)) state start.written new.written (led.runs heard state is);
     rose = λ heard state is. tt;
   }
 
@@ -183,8 +198,9 @@ module _ (disk_tells told : Bool) where
     rises = led.rises;
     quiet = led.quiet;
     runs = λ heard state is.
-        left_front_as (form_at start.world) told (IsStateAt new) whole part too state start.written new.written
-        (left_front (form_at start.world) told (IsStateAt new) whole state start.written new.written (led.runs heard state is));
+        left_front_as (form_at start.world) told (IsStateAt new) (Safely start new None whole) (Safely start new (Some F.Memory) part)
+        (safely_too start new None (Some F.Memory) whole part (λ A a. a) too) state start.written new.written
+        (left_front (form_at start.world) told (IsStateAt new) (Safely start new None whole) state start.written new.written (led.runs heard state is));
     rose = λ heard state is. tt;
   }
 
@@ -196,7 +212,9 @@ module _ (disk_tells told : Bool) where
     fits = led.fits;
     rises = led.rises;
     quiet = led.quiet;
-    runs = λ heard state is. runs_as (form_at start.world) told (IsStateAt new) whole part all some w p state start.written new.written answer (led.runs heard state is);
+    runs = λ heard state is.
+        runs_as (form_at start.world) told (IsStateAt new) (Safely start new answer whole) (Safely start new answer part) (Safely start new answer all) (Safely start new answer some)
+        (safely_too start new answer answer whole all (λ A a. a) w) (safely_too start new answer answer part some (λ A a. a) p) state start.written new.written answer (led.runs heard state is);
     rose = led.rose;
   }
 
@@ -208,19 +226,21 @@ module _ (disk_tells told : Bool) where
     fits = led.fits;
     rises = led.rises;
     quiet = led.quiet;
-    runs = λ heard state is. of state fault but (led.runs heard state is);
+    runs = λ heard state is. of (Safely start new (Some fault) whole) (Safely start new (Some fault) other) (Safely start new (Some fault) part) state fault but (led.runs heard state is);
     rose = led.rose;
   }
     where
-      of : (state : State) (fault : SessionFault) → (fault ≡ F.Input → ⊥) → RunsTo whole part (form_at start.world) state (IsStateAt new) told start.written new.written (Some fault)
-          → RunsTo other part (form_at start.world) state (IsStateAt new) told start.written new.written (Some fault)
-      of state F.Input but runs = absurd (but refl)
-      of state F.Output but runs = runs
-      of state F.Device but runs = runs
-      of state F.Memory but runs = runs
+      of : (one two some : Deed) (state : State) (fault : SessionFault) → (fault ≡ F.Input → ⊥)
+          → RunsTo one some (form_at start.world) state (IsStateAt new) told start.written new.written (Some fault)
+          → RunsTo two some (form_at start.world) state (IsStateAt new) told start.written new.written (Some fault)
+      of one two some state F.Input but runs = absurd (but refl)
+      of one two some state F.Output but runs = runs
+      of one two some state F.Device but runs = runs
+      of one two some state F.Memory but runs = runs
 
   -- something was done, and then something else
-  module _ (first begun whole part both half : Deed) (all : Follows first whole both) (some : Follows first part half) (start mid new : Scene) (before : Led disk_tells told first begun start mid None) where
+  module _ (first begun whole part both half : Deed) (leads : LeadsOn first) (all : Follows first whole both) (some : Follows first part half) (start mid new : Scene)
+      (before : Led disk_tells told first begun start mid None) where
     same_form : form_at mid.world ≡ form_at start.world
     same_form = ap form_in before.header
 
@@ -233,7 +253,9 @@ module _ (disk_tells told : Bool) where
       quiet = unless_map answer (λ same. same ∙ before.quiet) next.quiet;
       runs = λ heard state is.
           (let r = before.runs heard state is in
-          runs_after (form_at start.world) told (IsStateAt new) first whole part both half all some state r.0 start.written mid.written new.written answer r.2
-          (subst (λ f. RunsTo whole part f r.0 (IsStateAt new) told mid.written new.written answer) same_form (next.runs heard r.0 r.1)));
+          runs_after (form_at start.world) told (IsStateAt new) (Safely start mid None first) (Safely mid new answer whole) (Safely mid new answer part)
+          (Safely start new answer both) (Safely start new answer half)
+          (safely_follows start mid new answer first whole both leads all) (safely_follows start mid new answer first part half leads some) state r.0 start.written mid.written new.written answer r.2
+          (subst (λ f. RunsTo (Safely mid new answer whole) (Safely mid new answer part) f r.0 (IsStateAt new) told mid.written new.written answer) same_form (next.runs heard r.0 r.1)));
       rose = λ heard state is. (let r = before.runs heard state is in on_map answer (λ rose. subst (λ n. Rose n new.faults) before.quiet rose) (next.rose heard r.0 r.1));
     }

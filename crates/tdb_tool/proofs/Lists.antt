@@ -25,7 +25,7 @@ use Rattle.tdb_tool.specs.Serving.{fault_of, Deed, Scene, IsStateAt, FitsAt, Led
 use Rattle.tdb_tool.proofs.Coming.{Follows, led_on, led_but_input}
 use Rattle.tdb_tool.proofs.WalkEnds.{move_at, Moved as LawMoved, first_moves, moves_fit}
 use Rattle.tdb_tool.proofs.Moves.{ends_pair, shows}
-use Rattle.tdb_tool.proofs.PartLemmas.{one_done, one_begun}
+use Rattle.tdb_tool.proofs.PartLemmas.{one_done, one_begun, going_course}
 use Rattle.tdb_tool.proofs.Sights.{sees_within}
 
 -- so many moves of a list, each of which gave a pair, with their text
@@ -69,7 +69,8 @@ module _ (disk_tells told : Bool) (listing : Listing) where
   module _ (n : ℕ) (start mid now : Scene) (so_far : SoFar n start mid) (play : Play) (is : play ≡ move n) where
     behind : (answer : Result Bool SessionFault) (both : Deed) → Follows (Moved listing n) (PlayDone (move n) (Some listing) answer) both → Played disk_tells told mid now play (Some listing) answer → Led disk_tells told both Came start now (fault_of answer)
     behind answer both follows p =
-        led_on disk_tells told (Moved listing n) Came (PlayDone (move n) (Some listing) answer) (PlayBegun (move n) (Some listing)) both Came follows (list_breaks listing n) start mid now so_far (fault_of answer)
+        led_on disk_tells told (Moved listing n) Came (PlayDone (move n) (Some listing) answer) (PlayBegun (move n) (Some listing)) both Came
+        (λ f old new lines text moved. going_course f (Listed listing) n old new lines moved.0) follows (list_breaks listing n) start mid now so_far (fault_of answer)
         (subst (λ m. Played disk_tells told mid now m (Some listing) answer) is p)
 
     pub list_on : (pair : Bool) → pair ≡ true → Played disk_tells told mid now play (Some listing) (Ok pair) → SoFar (n + 1) start now
@@ -149,7 +150,7 @@ module _ (disk_tells told : Bool) (listing : Listing) (n : ℕ) (start now : Sce
       let f = form_at start.world in
       let p = so_far.runs heard state is in
       let lines = law_lines p.2.0 in
-      let moved = going_moved f listing n state p.0 p.2.0 p.2.2.0 in
+      let moved = going_moved f listing n state p.0 p.2.0 p.2.2.0.0 in
       let some : suc (n - 1) ≡ n = omega (arith, many) in
       let first = first_moves f 0 (n - 1) state p.0 lines (subst (λ m. LawMoved f 0 m state lines p.0) (sym some) moved) in
       let short = fits.openers.short in

@@ -127,7 +127,7 @@ module _ (f : Form) where
   one_play : (play : LawPlay) (old new : State) (lines : List Line) → Gives f old play (law_lines lines) new → HasCourse old lines new
   one_play play old new lines G = (play ∷ [], (new, law_lines lines, [], sym (append-nil (law_lines lines)), G, (refl, refl)))
 
-  going_course : (part : Part) (n : ℕ) (old new : State) (lines : List Line) → Going f part old n lines new → HasCourse old lines new
+  pub going_course : (part : Part) (n : ℕ) (old new : State) (lines : List Line) → Going f part old n lines new → HasCourse old lines new
   going_course part zero old new lines G = ([], (ap law_lines G.0, G.1))
   going_course part (suc n) old new lines G = join_two old G.0 new lines G.1 G.2 G.3 (going_course part n old G.0 G.1 G.4) (one_play (law_play (play_of part n)) G.0 new G.2 G.5)
 

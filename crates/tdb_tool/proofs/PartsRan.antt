@@ -6,7 +6,7 @@ use Rattle.tdb_tool.specs.declared.fault.SessionFault.TheVariants as F
 use Rattle.tdb_tool.specs.Parts.{Part, AllDone, AllCame}
 use Rattle.tdb_tool.specs.Serving.{Scene, FitsAt, Ran}
 use Rattle.tdb_tool.proofs.Coming.{led_nowhere, led_input, led_memory, led_on}
-use Rattle.tdb_tool.proofs.PartLemmas.{all_join, all_came, came_after}
+use Rattle.tdb_tool.proofs.PartLemmas.{all_join, all_came, came_after, all_course}
 
 module _ (disk_tells told : Bool) where
   -- no part was done
@@ -23,5 +23,6 @@ module _ (disk_tells told : Bool) where
   -- parts, and then others
   pub ran_on : (start mid new : Scene) (parts others : List Part) → Ran disk_tells told start mid parts None → (answer : Option SessionFault) → Ran disk_tells told mid new others answer → Ran disk_tells told start new (parts ++ others) answer
   ran_on start mid new parts others first answer next =
-      led_on disk_tells told (AllDone parts) (AllCame parts) (AllDone others) (AllCame others) (AllDone (parts ++ others)) (AllCame (parts ++ others)) (λ f old at now front rest text more A B. all_join f parts others old at now front rest text more A B)
+      led_on disk_tells told (AllDone parts) (AllCame parts) (AllDone others) (AllCame others) (AllDone (parts ++ others)) (AllCame (parts ++ others))
+      (λ f old at lines text A. all_course f parts old at lines text A) (λ f old at now front rest text more A B. all_join f parts others old at now front rest text more A B)
       (λ f old at now front rest text more A C. came_after f parts others old at now front rest text more A C) start mid new first answer next

@@ -18,12 +18,15 @@ use Rattle.tdb_world.specs.Played.{Begun, PlaysLast}
 use Rattle.tdb_world.specs.declared.fault.RunFault.{RunFault}
 use Rattle.tdb_world.specs.declared.fault.RunFault.TheVariants as Run
 use Rattle.tdb_whole.specs.Whole.{Whole, form_at}
+use Rattle.tdb_whole.specs.Stops.{IsSafe}
 use Rattle.tdb_course.specs.Led.{moment, Led as PlayLed}
+use Rattle.tdb_course.specs.Stops.{IsTransacted, StopsLed}
 use Rattle.tdb_tool.specs.declared.fault.SessionFault.{SessionFault}
+use Rattle.tdb_tool.specs.declared.fault.SessionFault.TheVariants as F
 use Rattle.tdb_tool.specs.declared.order.Order.{Order}
 use Rattle.tdb_tool.specs.Parts.{Silent, Told, doing, part_of, AllDone, AllCame}
 use Rattle.tdb_tool.specs.Replies.{lines_text, tell_pair}
-use Rattle.tdb_tool.specs.Serving.{of_run, of_write, fault_of, Deed, Scene, scene, IsStateAt, Led, Ran, PlayDone, PlayBegun, Played}
+use Rattle.tdb_tool.specs.Serving.{of_run, of_write, fault_of, UnlessBroken, Deed, Scene, scene, IsStateAt, StopsBetween, Safely, Led, Ran, PlayDone, PlayBegun, Played}
 use Rattle.tdb_tool.proofs.Coming.{IsToo, led_as}
 use Rattle.tdb_tool.proofs.PartLemmas.{one_done, one_begun}
 
@@ -41,6 +44,10 @@ module _ (disk_tells told : Bool) (a b : Whole) (h later : History) (size longer
   Taken answer = PlayLed disk_tells (moment a h size faults first) (moment b later longer more lines) answer
       (λ state _. Gives (form_at a) state (law_play play)) (λ state. Begun (form_at a) state (law_play play)) (λ state. PlaysLast (form_at a) state (law_play play))
 
+  -- with what stops meanwhile leave
+  abbrev Stopped : Result (Unit {0}) RunFault → Type 0
+  Stopped answer = StopsLed disk_tells (moment a h size faults first) (moment b later longer more lines) answer
+
   abbrev Before : Scene
   Before = scene a h size faults written
 
@@ -52,28 +59,38 @@ module _ (disk_tells told : Bool) (a b : Whole) (h later : History) (size longer
   Begins part = (f : Form) (old new : State) (ls : List Line) → PlaysLast f old (law_play play) (law_lines ls) new → (text : List ℕ) × part f old ls text new
 
   -- it broke off, and nothing was written
-  pub play_broke : (whole part : Deed) → Begins part → (fault : RunFault) → Taken (Err fault) → Led disk_tells told whole part Before After (Some (of_run fault))
-  play_broke whole part begins Run.Io led = record {
+  pub play_broke : (whole part : Deed) → Begins part → (fault : RunFault) → Taken (Err fault) → Stopped (Err fault) → Led disk_tells told whole part Before After (Some (of_run fault))
+  play_broke whole part begins Run.Io led stopped = record {
     header = tt;
     options = tt;
     fits = tt;
     rises = led.rises;
     quiet = tt;
-    runs = λ heard state is. (let r = led.told heard state is in let p = begins (form_at a) state r.0 led.added r.1 in (r.0, (led.added, p.0, p.1, λ out. (0, omega arith, sym (append-nil written)))));
+    runs = λ heard state is.
+        (let r = led.told heard state is in
+        let p = begins (form_at a) state r.0 led.added r.1 in
+        let stops : IsSafe (form_at a) h → IsTransacted (form_at a) state (law_lines led.added) → StopsBetween Before After (Some F.Device) (form_at a) state led.added
+        = λ safe calm. (let S = stopped heard state led.added is led.lines safe calm in record { stops = S.stops; safe = tt }) in
+        (r.0, (led.added, p.0, (p.1, stops), λ out. (0, omega arith, sym (append-nil written)))));
     rose = λ heard state is. led.rose heard state is;
   }
-  play_broke whole part begins Run.Memory led = record {
+  play_broke whole part begins Run.Memory led stopped = record {
     header = led.header;
     options = led.options;
     fits = led.fits;
     rises = led.rises;
     quiet = led.quiet;
-    runs = λ heard state is. (let r = led.told heard state is in let p = begins (form_at a) state r.0 led.added (inl r.2) in (r.0, r.1, (led.added, p.0, p.1, λ out. (0, omega arith, sym (append-nil written)))));
+    runs = λ heard state is.
+        (let r = led.told heard state is in
+        let p = begins (form_at a) state r.0 led.added (inl r.2) in
+        let stops : IsSafe (form_at a) h → IsTransacted (form_at a) state (law_lines led.added) → StopsBetween Before After (Some F.Memory) (form_at a) state led.added
+        = λ safe calm. (let S = stopped heard state led.added is led.lines safe calm in record { stops = S.stops; safe = S.left.3 }) in
+        (r.0, r.1, (led.added, p.0, (p.1, stops), λ out. (0, omega arith, sym (append-nil written)))));
     rose = λ heard state is. tt;
   }
 
   -- it was taken
-  module _ (unit : Unit {0}) (led : Taken (Ok unit)) where
+  module _ (unit : Unit {0}) (led : Taken (Ok unit)) (stopped : Stopped (Ok unit)) where
     alone : led.added ≡ lines
     alone = sym (led.lines ∙ ap (λ f. f ++ led.added) empty)
 
@@ -83,6 +100,10 @@ module _ (disk_tells told : Bool) (a b : Whole) (h later : History) (size longer
     gave : IsTrue disk_tells → (state : State) → IsStateAt Before state → Gave state
     gave heard state is = let r = led.told heard state is in (r.0, r.1, subst (λ ls. Gives (form_at a) state (law_play play) (law_lines ls) r.0) alone r.2)
 
+    stops_at : IsTrue disk_tells → (state : State) → IsStateAt Before state → (now : List ℕ) → IsSafe (form_at a) h → IsTransacted (form_at a) state (law_lines lines)
+        → StopsBetween Before (scene b later longer more now) None (form_at a) state lines
+    stops_at heard state is now safe calm = let S = stopped heard state lines is (sym (ap (λ f. f ++ lines) empty)) safe calm in record { stops = S.stops; safe = S.left.3 }
+
     pub play_silent : Ran disk_tells told Before After (Silent play ∷ []) None
     play_silent = record {
       header = led.header;
@@ -90,7 +111,9 @@ module _ (disk_tells told : Bool) (a b : Whole) (h later : History) (size longer
       fits = led.fits;
       rises = led.rises;
       quiet = led.quiet;
-      runs = λ heard state is. (let r = gave heard state is in (r.0, r.1, (lines, [], silent_done (form_at a) play state r.0 lines r.2, λ out. sym (append-nil written))));
+      runs = λ heard state is.
+          (let r = gave heard state is in
+          (r.0, r.1, (lines, [], (silent_done (form_at a) play state r.0 lines r.2, stops_at heard state is written), λ out. sym (append-nil written))));
       rose = λ heard state is. tt;
     }
 
@@ -103,7 +126,7 @@ module _ (disk_tells told : Bool) (a b : Whole) (h later : History) (size longer
         fits = led.fits;
         rises = led.rises;
         quiet = led.quiet;
-        runs = λ heard state is. (let r = gave heard state is in (r.0, r.1, (lines, lines_text listing lines, (r.2, refl, tells), all)));
+        runs = λ heard state is. (let r = gave heard state is in (r.0, r.1, (lines, lines_text listing lines, ((r.2, refl, tells), stops_at heard state is now), all)));
         rose = λ heard state is. tt;
       }
 
@@ -111,13 +134,19 @@ module _ (disk_tells told : Bool) (a b : Whole) (h later : History) (size longer
       pub play_untold : (refusal : WriteRefusal) → (IsTrue told → WroteFront written (lines_text listing lines) now) → Played disk_tells told Before (scene b later longer more now) play listing (Err (of_write refusal))
       play_untold refusal front = of refusal
         where
-          runs : IsTrue disk_tells → (state : State) → IsStateAt Before state
-              → (new : State) × IsStateAt After new × ((ls : List Line) × (text : List ℕ) × PlayBegun play listing (form_at a) state ls text new × (IsTrue told → WroteFront written text now))
-          runs heard state is = let r = gave heard state is in (r.0, r.1, (lines, lines_text listing lines, (inr r.2, refl), front))
+          runs : (fault : SessionFault) → ((A : Type 0) → A → UnlessBroken (Some fault) A) → IsTrue disk_tells → (state : State) → IsStateAt Before state
+              → (new : State) × IsStateAt After new
+              × ((ls : List Line) × (text : List ℕ) × Safely Before (scene b later longer more now) (Some fault) (PlayBegun play listing) (form_at a) state ls text new
+              × (IsTrue told → WroteFront written text now))
+          runs fault moved heard state is =
+              let r = gave heard state is in
+              let stops : IsSafe (form_at a) h → IsTransacted (form_at a) state (law_lines lines) → StopsBetween Before (scene b later longer more now) (Some fault) (form_at a) state lines
+              = λ safe calm. (let S = stops_at heard state is now safe calm in record { stops = S.stops; safe = moved (IsSafe (form_at a) later) S.safe }) in
+              (r.0, r.1, (lines, lines_text listing lines, ((inr r.2, refl), stops), front))
 
           of : (refusal : WriteRefusal) → Played disk_tells told Before (scene b later longer more now) play listing (Err (of_write refusal))
-          of Untold.Failed = record { header = led.header; options = led.options; fits = led.fits; rises = led.rises; quiet = led.quiet; runs = runs; rose = λ heard state is. tt }
-          of Untold.Memory = record { header = led.header; options = led.options; fits = led.fits; rises = led.rises; quiet = led.quiet; runs = runs; rose = λ heard state is. tt }
+          of Untold.Failed = record { header = led.header; options = led.options; fits = led.fits; rises = led.rises; quiet = led.quiet; runs = runs F.Output (λ A x. x); rose = λ heard state is. tt }
+          of Untold.Memory = record { header = led.header; options = led.options; fits = led.fits; rises = led.rises; quiet = led.quiet; runs = runs F.Memory (λ A x. x); rose = λ heard state is. tt }
 
 -- what was begun of a play, with its text
 pub silent_begins : (play : Play) (f : Form) (old new : State) (lines : List Line) → PlaysLast f old (law_play play) (law_lines lines) new → (text : List ℕ) × AllCame (Silent play ∷ []) f old lines text new

@@ -1,10 +1,13 @@
 -- A session from its beginning to its end, from what its parts gave.
-use Rattle.std.proofs.Common.{◌≡◌, ℕ, zero, suc, List, [], ◌∷◌, Option, None, Some, Result, Ok, Err, refl, sym, ◌∙◌, ap, subst, inl, inr}
+use Rattle.std.proofs.Common.{◌≡◌, ℕ, zero, suc, List, [], ◌∷◌, ◌++◌, Option, None, Some, Result, Ok, Err, refl, sym, ◌∙◌, ap, subst, inl, inr}
 use Rattle.std.specs.Prelude.{Bool, IsTrue}
 use Rattle.std.proofs.lemmas.List.{map-append}
 use Rattle.tdb_disk.specs.History.{seen}
+use Rattle.tdb_disk.specs.Stop.{Quiet}
+use Rattle.tdb_space.specs.Accepted.{AcceptWith}
 use Rattle.tdb_space.specs.Form.{Form, form_in}
 use Rattle.tdb_words.specs.declared.header.Header.{Header}
+use Rattle.tdb_backup.specs.Dump.{WroteFront}
 use Rattle.tdb_law.specs.Beginning.{IsLoaded, beginning}
 use Rattle.tdb_law.specs.Images.{image_map}
 use Rattle.tdb_law.specs.Lines.{Line as LawLine, IsLawful}
@@ -24,18 +27,21 @@ use Rattle.tdb_world.specs.Worlds.{World, state_in}
 use Rattle.tdb_whole.specs.Died.{IsReadAs}
 use Rattle.tdb_whole.proofs.Reopening.{state_reopens}
 use Rattle.tdb_course.proofs.Finishing.{report_lawful}
+use Rattle.tdb_course.specs.Stops.{IsTransacted}
 use Rattle.tdb_course.specs.Unfinished.{TellsUnfinished, EndsWith}
+use Rattle.tdb_whole.specs.Stops.{IsSafe}
 use Rattle.tdb_tool.specs.declared.fault.SessionEnd.{SessionEnd}
 use Rattle.tdb_tool.specs.declared.fault.SessionFault.{SessionFault}
 use Rattle.tdb_tool.specs.declared.fault.SessionFault.TheVariants as F
 use Rattle.tdb_tool.specs.declared.order.Order.{Order}
 use Rattle.tdb_tool.specs.Asking.{Session, BeginsBy}
 use Rattle.tdb_tool.specs.Parts.{Silent, doing, parts_of, AllDone, AllCame}
-use Rattle.tdb_tool.specs.Serving.{fault_of, UnlessBroken, TellsAll, TellsFront, RunsTo, Scene, IsStateAt, Ran, AsksFor, Served, ServedAll}
-use Rattle.tdb_tool.specs.Whole.{closing, session_parts, SessionLed, SessionDeed, IsOver, beginning_over, SessionOver, SessionCame, SessionRan}
+use Rattle.tdb_tool.specs.Serving.{fault_of, UnlessBroken, TellsAll, TellsFront, RunsTo, Scene, IsStateAt, StopsBetween, Safely, Ran, AsksFor, Served, ServedAll}
+use Rattle.tdb_tool.specs.Whole.{closing, session_parts, SessionLed, SessionDeed, IsOver, beginning_over, StopsOpen, SessionOver, SessionCame, SessionRan}
 use Rattle.tdb_tool.proofs.Coming.{IsToo, all_is_front, unless_map, led_as}
 use Rattle.tdb_tool.proofs.PartLemmas.{all_came, came_more, all_course, came_comes}
 use Rattle.tdb_tool.proofs.PartsRan.{ran_on, ran_memory}
+use Rattle.tdb_tool.proofs.Stops.{accepted_safe}
 use Rattle.tdb_tool.proofs.Telling.{front_all}
 
 -- a join, and the orders behind it
@@ -100,13 +106,15 @@ unfinished_from s o (suc n) = of (s.task o) refl (unfinished_from s (suc o) n)
 ends_some : (s : State) → (more : List Line) × EndsWith s more
 ends_some s = unfinished_from s 0 s.joined
 
-module _ (f : Form) (options : Options) (a : List ℕ) (orders : List Order) (old : State) (loaded : IsLoaded f old (options_of options)) (over : IsOver f a old) (told : Bool) (before now : List ℕ) where
+module _ (f : Form) (options : Options) (a : List ℕ) (orders : List Order) (old : State) (loaded : IsLoaded f old (options_of options)) (over : IsOver f a old) (told : Bool) (before now : List ℕ)
+    (Stops : State → List LawLine → Type 0) where
   from_map : (lines : List LawLine) → IsLawful f (beginning (options_of options) old.file old.number) lines → IsLawful f (beginning_over f options a) lines
   from_map lines lawful = subst (λ (q : Map × ℕ). IsLawful f (beginning (options_of options) q.0 q.1) lines) (λ j. (over.file j, over.number j)) lawful
 
   -- all of it was done
-  whole : (new : State) (b : List ℕ) → IsReadAs f b new → TellsAll (AllDone (session_parts orders)) f old new told before now → SessionOver f options a orders b told before now
-  whole new b read (lines, text, done, printed) =
+  whole : (new : State) (b : List ℕ) → IsReadAs f b new → (lines : List Line) (text : List ℕ) → AllDone (session_parts orders) f old lines text new → (IsTrue told → now ≡ before ++ text)
+      → Stops old (law_lines lines) → SessionOver f options a orders b told before now Stops
+  whole new b read lines text done printed stops =
       let course = all_course f (session_parts orders) old new lines text done in
       let end = ends_some new in
       record {
@@ -122,11 +130,13 @@ module _ (f : Form) (options : Options) (a : List ℕ) (orders : List Order) (ol
         ends = end.1;
         lawful = subst (λ ls. IsLawful f (beginning_over f options a) ls) (sym (map-append law_line lines end.0)) (from_map _ (report_lawful f (options_of options) old new course.0 (law_lines lines) end.0 loaded course.1 end.1));
         printed = printed;
+        stops = stops;
       }
 
   -- it came to a state
-  came : (new : State) → TellsFront (AllCame (session_parts orders)) f old new told before now → SessionCame f options a orders new told before now
-  came new (lines, text, comes, printed) =
+  came : (new : State) (lines : List Line) (text : List ℕ) → AllCame (session_parts orders) f old lines text new → (IsTrue told → WroteFront before text now) → Stops old (law_lines lines)
+      → SessionCame f options a orders new told before now Stops
+  came new lines text comes printed stops =
       let coming = came_comes f (session_parts orders) old new lines text comes in
       record {
         old = old;
@@ -137,16 +147,38 @@ module _ (f : Form) (options : Options) (a : List ℕ) (orders : List Order) (ol
         came = comes;
         lawful = from_map (law_lines lines) (broken_lawful f (options_of options) old new coming.0 (law_lines lines) loaded coming.1);
         printed = printed;
+        stops = stops;
       }
 
-  -- so it ran, by its answer
-  ran_by : (heard : Bool) (text b : List ℕ) (IsLeft : State → Type 0) (answer : Result SessionEnd SessionFault) → (IsTrue heard → AsksFor text orders answer) → UnlessBroken (fault_of answer) ((new : State) → IsLeft new → IsReadAs f b new)
-      → RunsTo (SessionDeed orders answer) (AllCame (session_parts orders)) f old IsLeft told before now (fault_of answer) → SessionRan f options a b heard text told before now answer
-  ran_by heard text b IsLeft (Ok end) asks read (new, is, done) = (orders, asks, whole new b (read new is) done)
-  ran_by heard text b IsLeft (Err F.Input) asks read (new, is, done) = (orders, asks, new, came new (all_is_front f told (AllCame (session_parts orders)) old new before now done), read new is)
-  ran_by heard text b IsLeft (Err F.Output) asks read (new, is, front) = (orders, asks, new, came new front, read new is)
-  ran_by heard text b IsLeft (Err F.Device) asks read (left, front) = (orders, asks, left, came left front)
-  ran_by heard text b IsLeft (Err F.Memory) asks read (new, is, front) = (orders, asks, new, came new front, read new is)
+-- so it ran, by its answer
+module _ (f : Form) (options : Options) (start last : Scene) (orders : List Order) (old : State) (loaded : IsLoaded f old (options_of options)) (over : IsOver f (seen start.history) old)
+    (safe : Quiet start.history → IsSafe f start.history) (told heard : Bool) (text : List ℕ) where
+  abbrev Opens : State → List LawLine → Type 0
+  Opens = StopsOpen f start.history last.history
+
+  opens : (answer : Option SessionFault) (lines : List Line) → (IsSafe f start.history → IsTransacted f old (law_lines lines) → StopsBetween start last answer f old lines) → Opens old (law_lines lines)
+  opens answer lines stops quiet calm = (stops (safe quiet) calm).stops
+
+  came_front : (answer : Option SessionFault) (new : State) → TellsFront (Safely start last answer (AllCame (session_parts orders))) f old new told start.written last.written
+      → SessionCame f options (seen start.history) orders new told start.written last.written Opens
+  came_front answer new (lines, all, (comes, stops), printed) =
+      came f options (seen start.history) orders old loaded over told start.written last.written Opens new lines all comes printed (opens answer lines stops)
+
+  came_all : (answer : Option SessionFault) (new : State) → TellsAll (Safely start last answer (AllCame (session_parts orders))) f old new told start.written last.written
+      → SessionCame f options (seen start.history) orders new told start.written last.written Opens
+  came_all answer new all = came_front answer new (all_is_front f told (Safely start last answer (AllCame (session_parts orders))) old new start.written last.written all)
+
+  ran_by : (answer : Result SessionEnd SessionFault) → (IsTrue heard → AsksFor text orders answer)
+      → UnlessBroken (fault_of answer) ((new : State) → IsStateAt last new → IsReadAs f (seen last.history) new)
+      → RunsTo (Safely start last (fault_of answer) (SessionDeed orders answer)) (Safely start last (fault_of answer) (AllCame (session_parts orders))) f old (IsStateAt last) told
+      start.written last.written (fault_of answer)
+      → SessionRan f options start.history last.history heard text told start.written last.written answer
+  ran_by (Ok end) asks read (new, is, p) =
+      (orders, asks, whole f options (seen start.history) orders old loaded over told start.written last.written Opens new (seen last.history) (read new is) p.0 p.1 p.2.0 p.3 (opens None p.0 p.2.1))
+  ran_by (Err F.Input) asks read (new, is, p) = (orders, asks, new, came_all (Some F.Input) new p, read new is)
+  ran_by (Err F.Output) asks read (new, is, p) = (orders, asks, new, came_front (Some F.Output) new p, read new is)
+  ran_by (Err F.Device) asks read (left, p) = (orders, asks, left, came_front (Some F.Device) left p)
+  ran_by (Err F.Memory) asks read (new, is, p) = (orders, asks, new, came_front (Some F.Memory) new p, read new is)
 
 -- the same, from what the calls say of the moments
 module _ (d heard told : Bool) (header : Header) (options : Options) (text : List ℕ) (start last : Scene) (same : start.world.openers.header ≡ header) (answer : Result SessionEnd SessionFault)
@@ -157,13 +189,50 @@ module _ (d heard told : Bool) (header : Header) (options : Options) (text : Lis
   left_read : UnlessBroken (fault_of answer) ((new : State) → IsStateAt last new → IsReadAs (form_in header) (seen last.history) new)
   left_read = unless_map (fault_of answer) (λ kept new left. subst (λ f. IsReadAs f (seen last.history) new) (ap form_in (kept ∙ same)) (state_reopens last.world last.history new left)) led.2.header
 
-  pub session_ran : Begins → SessionRan (form_in header) options (seen start.history) (seen last.history) heard text told start.written last.written answer
-  session_ran (loaded, file, number) =
-      ran_by (form_in header) options (seen start.history) led.0 state loaded (record { file = file; number = number }) told start.written last.written heard text (seen last.history) (IsStateAt last) answer led.1 left_read
-      (subst (λ h. RunsTo (SessionDeed led.0 answer) (AllCame (session_parts led.0)) (form_in h) state (IsStateAt last) told start.written last.written (fault_of answer)) same (led.2.runs tells state is))
+  pub session_ran : AcceptWith (form_in header) (seen start.history) [] → Begins → SessionRan (form_in header) options start.history last.history heard text told start.written last.written answer
+  session_ran accepted (loaded, file, number) =
+      let whole = Safely start last (fault_of answer) (SessionDeed led.0 answer) in
+      let part = Safely start last (fault_of answer) (AllCame (session_parts led.0)) in
+      ran_by (form_in header) options start last led.0 state loaded (record { file = file; number = number }) (accepted_safe (form_in header) start.history accepted)
+      told heard text answer led.1 left_read
+      (subst (λ h. RunsTo whole part (form_in h) state (IsStateAt last) told start.written last.written (fault_of answer)) same (led.2.runs tells state is))
+
+-- what is said of the stops of a session may be something weaker
+module _ (f : Form) (options : Options) (a : List ℕ) (orders : List Order) (told : Bool) (before now : List ℕ)
+    (One Two : State → List LawLine → Type 0) (weaker : (s : State) (lines : List LawLine) → One s lines → Two s lines) where
+  pub over_weaker : (b : List ℕ) → SessionOver f options a orders b told before now One → SessionOver f options a orders b told before now Two
+  over_weaker b p = record {
+    old = p.old;
+    loaded = p.loaded;
+    over = p.over;
+    new = p.new;
+    lines = p.lines;
+    text = p.text;
+    done = p.done;
+    left = p.left;
+    more = p.more;
+    ends = p.ends;
+    lawful = p.lawful;
+    printed = p.printed;
+    stops = weaker p.old (law_lines p.lines) p.stops;
+  }
+
+  pub came_weaker : (new : State) → SessionCame f options a orders new told before now One → SessionCame f options a orders new told before now Two
+  came_weaker new p = record {
+    old = p.old;
+    loaded = p.loaded;
+    over = p.over;
+    lines = p.lines;
+    text = p.text;
+    came = p.came;
+    lawful = p.lawful;
+    printed = p.printed;
+    stops = weaker p.old (law_lines p.lines) p.stops;
+  }
 
 -- a session that was taken whole came as far as its end
-pub over_comes : (f : Form) (options : Options) (a : List ℕ) (orders : List Order) (b : List ℕ) (told : Bool) (before now : List ℕ) (p : SessionOver f options a orders b told before now) → SessionCame f options a orders p.new told before now
-over_comes f options a orders b told before now p =
-    came f options a orders p.old p.loaded p.over told before now p.new
-    (p.lines, p.text, all_came f (session_parts orders) p.old p.new p.lines p.text p.done, λ heard. front_all before p.text now (p.printed heard))
+pub over_comes : (f : Form) (options : Options) (a : List ℕ) (orders : List Order) (b : List ℕ) (told : Bool) (before now : List ℕ) (Stops : State → List LawLine → Type 0)
+    (p : SessionOver f options a orders b told before now Stops) → SessionCame f options a orders p.new told before now Stops
+over_comes f options a orders b told before now Stops p =
+    came f options a orders p.old p.loaded p.over told before now Stops p.new p.lines p.text (all_came f (session_parts orders) p.old p.new p.lines p.text p.done)
+    (λ heard. front_all before p.text now (p.printed heard)) p.stops

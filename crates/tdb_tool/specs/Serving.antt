@@ -2,6 +2,7 @@
 use Rattle.std.specs.Prelude.{◌≡◌, ℕ, ◌<◌, ◌≤◌, ◌+◌, Bool, IsTrue, List, ◌∷◌, ◌++◌, Option, None, Some, Result, Ok, Err, IfOk}
 use Rattle.tdb_disk.specs.Count.{Rose}
 use Rattle.tdb_disk.specs.History.{History, seen}
+use Rattle.tdb_disk.specs.Stop.{LeavesOnly}
 use Rattle.tdb_space.specs.Form.{Form}
 use Rattle.tdb_backup.specs.Dump.{WroteFront}
 use Rattle.tdb_dump.specs.declared.listing.Listing.{Listing}
@@ -15,6 +16,8 @@ use Rattle.tdb_plays.specs.declared.play.Play.{Play}
 use Rattle.tdb_world.specs.Played.{PlaysLast}
 use Rattle.tdb_whole.specs.Whole.{Whole, form_at, WorldFits}
 use Rattle.tdb_whole.specs.States.{IsStateOf}
+use Rattle.tdb_whole.specs.Stops.{IsSafe}
+use Rattle.tdb_course.specs.Stops.{IsTransacted, OpensOnTheWay}
 use Rattle.tdb_world.specs.declared.fault.RunFault.{RunFault}
 use Rattle.tdb_world.specs.declared.fault.RunFault.TheVariants as Run
 use Rattle.tdb_tool.specs.declared.fault.SessionEnd.{SessionEnd}
@@ -102,16 +105,27 @@ IsStateAt s state = IsStateOf s.world s.history state
 abbrev pub FitsAt : Scene → Type 0
 FitsAt s = WorldFits s.world (seen s.history) s.size
 
+-- Each stop between two moments leaves a file that opens on the way that these lines, which were told in between, tell from a state; and
+-- unless the disk failed the file is safe at the second.
+pub record StopsBetween (old new : Scene) (answer : Option SessionFault) (f : Form) (state : State) (lines : List Line) : Type 0 where
+  pub stops : LeavesOnly old.history new.history (OpensOnTheWay f state (law_lines lines))
+  pub safe : UnlessBroken answer (IsSafe f new.history)
+
+-- Something was done between two moments; and where the file was safe at the first, and the lines are transacted, so it is of stops.
+abbrev pub Safely : Scene → Scene → Option SessionFault → Deed → Deed
+Safely old new answer deed f state lines text after = deed f state lines text after × (IsSafe f old.history → IsTransacted f state (law_lines lines) → StopsBetween old new answer f state lines)
+
 -- What was done led from one moment to another, and ended so, over a disk and an output that tell or don't: from each state
--- that the world may have had to one that it has afterwards. Unless the disk failed the world fits the file, and the count
--- of faults is as it was.
+-- that the world may have had to one that it has afterwards, with what stops meanwhile leave. Unless the disk failed the
+-- world fits the file, and the count of faults is as it was.
 pub record Led (disk_tells output_tells : Bool) (whole part : Deed) (old new : Scene) (answer : Option SessionFault) : Type 0 where
   pub header : UnlessBroken answer (new.world.openers.header ≡ old.world.openers.header)
   pub options : UnlessBroken answer (new.world.openers.options ≡ old.world.openers.options)
   pub fits : UnlessBroken answer (FitsAt new)
   pub rises : old.faults ≤ new.faults
   pub quiet : UnlessBroken answer (new.faults ≡ old.faults)
-  pub runs : IsTrue disk_tells → (state : State) → IsStateAt old state → RunsTo whole part (form_at old.world) state (IsStateAt new) output_tells old.written new.written answer
+  pub runs : IsTrue disk_tells → (state : State) → IsStateAt old state
+      → RunsTo (Safely old new answer whole) (Safely old new answer part) (form_at old.world) state (IsStateAt new) output_tells old.written new.written answer
   pub rose : IsTrue disk_tells → (state : State) → IsStateAt old state → OnBroken answer (Rose old.faults new.faults)
 
 -- Parts of a session were done, as far as they came.

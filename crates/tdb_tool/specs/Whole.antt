@@ -1,12 +1,14 @@
 -- A session from its beginning to its end, over an opened image.
 use Rattle.std.specs.Prelude.{◌≡◌, ℕ, Bool, IsTrue, List, [], ◌∷◌, ◌++◌, Result, Ok, Err}
+use Rattle.tdb_disk.specs.History.{History, seen}
+use Rattle.tdb_disk.specs.Stop.{Quiet, LeavesOnly}
 use Rattle.tdb_words.specs.Word.{word}
 use Rattle.tdb_words.specs.Header.{sequence_at}
 use Rattle.tdb_space.specs.Form.{Form}
 use Rattle.tdb_backup.specs.Dump.{WroteFront}
 use Rattle.tdb_law.specs.Beginning.{IsLoaded, beginning}
 use Rattle.tdb_law.specs.Images.{image_map}
-use Rattle.tdb_law.specs.Lines.{IsLawful}
+use Rattle.tdb_law.specs.Lines.{Line as LawLine, IsLawful}
 use Rattle.tdb_law.specs.Replay.{Replay}
 use Rattle.tdb_law.specs.World.{State}
 use Rattle.tdb_plays.specs.InLaw.{law_lines}
@@ -15,6 +17,7 @@ use Rattle.tdb_plays.specs.declared.line.Line.{Line}
 use Rattle.tdb_plays.specs.declared.play.Play.{Play}
 use Rattle.tdb_world.specs.Openers.{options_of}
 use Rattle.tdb_whole.specs.Died.{IsReadAs}
+use Rattle.tdb_course.specs.Stops.{IsTransacted, OpensOnTheWay}
 use Rattle.tdb_course.specs.Unfinished.{EndsWith}
 use Rattle.tdb_plays.specs.declared.options.Options.{Options}
 use Rattle.tdb_tool.specs.declared.fault.SessionEnd.{SessionEnd}
@@ -50,10 +53,16 @@ pub record IsOver (f : Form) (img : List ℕ) (w : State) : Type 0 where
 abbrev pub beginning_over : Form → Options → List ℕ → Replay
 beginning_over f options img = beginning (options_of options) (image_map f img) (word f.order img sequence_at)
 
+-- What stops leave while a session leads from one history of a file to another, by its lines from this state on. Where all of the file was on
+-- the medium at first, and in no state that the lines pass an opener is in the middle of a change outside a transaction, each stop leaves a
+-- file that opens to the map and the sequence number of a state that they pass, or of the transaction whose Commit was just shutting its gate.
+abbrev pub StopsOpen : Form → History → History → State → List LawLine → Type 0
+StopsOpen f h k start lines = Quiet h → IsTransacted f start lines → LeavesOnly h k (OpensOnTheWay f start lines)
+
 -- All parts of a session were done over the image a, which is b after them, from a world just loaded, and their text was
 -- printed; an open gate undone, b has the map of the state to which they led. The whole report, with the lines of what isn't
--- done behind it, is lawful from the map of a on.
-pub record SessionOver (f : Form) (options : Options) (a : List ℕ) (orders : List Order) (b : List ℕ) (told : Bool) (before now : List ℕ) : Type 0 where
+-- done behind it, is lawful from the map of a on. Stops meanwhile leave what is said of the lines from that world on.
+pub record SessionOver (f : Form) (options : Options) (a : List ℕ) (orders : List Order) (b : List ℕ) (told : Bool) (before now : List ℕ) (Stops : State → List LawLine → Type 0) : Type 0 where
   pub old : State
   pub loaded : IsLoaded f old (options_of options)
   pub over : IsOver f a old
@@ -66,9 +75,11 @@ pub record SessionOver (f : Form) (options : Options) (a : List ℕ) (orders : L
   pub ends : EndsWith new more
   pub lawful : IsLawful f (beginning_over f options a) (law_lines (lines ++ more))
   pub printed : IsTrue told → now ≡ before ++ text
+  pub stops : Stops old (law_lines lines)
 
--- The parts of a session came to a state, and a front of their text was printed. The lines so far are lawful.
-pub record SessionCame (f : Form) (options : Options) (a : List ℕ) (orders : List Order) (new : State) (told : Bool) (before now : List ℕ) : Type 0 where
+-- The parts of a session came to a state, and a front of their text was printed. The lines so far are lawful. Stops meanwhile
+-- leave what is said of these lines.
+pub record SessionCame (f : Form) (options : Options) (a : List ℕ) (orders : List Order) (new : State) (told : Bool) (before now : List ℕ) (Stops : State → List LawLine → Type 0) : Type 0 where
   pub old : State
   pub loaded : IsLoaded f old (options_of options)
   pub over : IsOver f a old
@@ -77,19 +88,21 @@ pub record SessionCame (f : Form) (options : Options) (a : List ℕ) (orders : L
   pub came : AllCame (session_parts orders) f old lines text new
   pub lawful : IsLawful f (beginning_over f options a) (law_lines lines)
   pub printed : IsTrue told → WroteFront before text now
+  pub stops : Stops old (law_lines lines)
 
 -- The text begins by asking for orders, and a session of them came so far; an open gate undone, the image b has the map of
 -- the state to which it came.
-abbrev pub CameSo : Form → Options → List ℕ → List ℕ → Bool → List ℕ → Bool → List ℕ → List ℕ → Type 0
-CameSo f options a b heard text told before now =
-    (orders : List Order) × (IsTrue heard → BeginsBy text orders) × (new : State) × SessionCame f options a orders new told before now × IsReadAs f b new
+abbrev pub CameSo : Form → Options → List ℕ → List ℕ → Bool → List ℕ → Bool → List ℕ → List ℕ → (State → List LawLine → Type 0) → Type 0
+CameSo f options a b heard text told before now Stops =
+    (orders : List Order) × (IsTrue heard → BeginsBy text orders) × (new : State) × SessionCame f options a orders new told before now Stops × IsReadAs f b new
 
--- A session over the image a, which is b after it, by how it ended. Where the disk failed nothing is said of what is left.
-abbrev pub SessionRan : Form → Options → List ℕ → List ℕ → Bool → List ℕ → Bool → List ℕ → List ℕ → Result SessionEnd SessionFault → Type 0
-SessionRan f options a b heard text told before now (Ok end) =
-    (orders : List Order) × (IsTrue heard → Session text orders end) × SessionOver f options a orders b told before now
-SessionRan f options a b heard text told before now (Err F.Input) = CameSo f options a b heard text told before now
-SessionRan f options a b heard text told before now (Err F.Output) = CameSo f options a b heard text told before now
-SessionRan f options a b heard text told before now (Err F.Device) =
-    (orders : List Order) × (IsTrue heard → BeginsBy text orders) × (left : State) × SessionCame f options a orders left told before now
-SessionRan f options a b heard text told before now (Err F.Memory) = CameSo f options a b heard text told before now
+-- A session over a file, from the moment of one history to that of another, by how it ended, with what stops meanwhile leave. Where the disk
+-- failed nothing is said of what is read of the file afterwards.
+abbrev pub SessionRan : Form → Options → History → History → Bool → List ℕ → Bool → List ℕ → List ℕ → Result SessionEnd SessionFault → Type 0
+SessionRan f options h k heard text told before now (Ok end) =
+    (orders : List Order) × (IsTrue heard → Session text orders end) × SessionOver f options (seen h) orders (seen k) told before now (StopsOpen f h k)
+SessionRan f options h k heard text told before now (Err F.Input) = CameSo f options (seen h) (seen k) heard text told before now (StopsOpen f h k)
+SessionRan f options h k heard text told before now (Err F.Output) = CameSo f options (seen h) (seen k) heard text told before now (StopsOpen f h k)
+SessionRan f options h k heard text told before now (Err F.Device) =
+    (orders : List Order) × (IsTrue heard → BeginsBy text orders) × (left : State) × SessionCame f options (seen h) orders left told before now (StopsOpen f h k)
+SessionRan f options h k heard text told before now (Err F.Memory) = CameSo f options (seen h) (seen k) heard text told before now (StopsOpen f h k)

@@ -84,7 +84,7 @@ pub fn run_session<D: Disk, I: Source, K: Sink>(
     requires limit { options.now.limit ≤ 4294963200 }
     requires short { D.size disk.old ≤ options.now.limit }
     requires accepted { IsTrue D.tells → AcceptWith (form_in header.now) (seen (D.history disk.old)) [] }
-    ensures session { IsTrue D.tells → SessionRan (form_in header.now) options.now (seen (D.history disk.old)) (seen (D.history disk.new)) I.tells (I.left input.old)
+    ensures session { IsTrue D.tells → SessionRan (form_in header.now) options.now (D.history disk.old) (D.history disk.new) I.tells (I.left input.old)
         K.tells (K.written output.old) (K.written output.new) result }
     ensures rises { D.faults disk.old ≤ D.faults disk.new }
     ensures quiet { UnlessBroken (fault_of result) (D.faults disk.new ≡ D.faults disk.old) }

@@ -14,7 +14,8 @@ pub returns-clause-session : goal.returns-clause-session
 returns-clause-session g c told =
     let few : HasFewChains (form_in c.args.header.now) = search rules in
     let s = c.new-world.ensures.state (g.D.Disk.history c.args.disk.now) few c.requires.limit (c.requires.accepted told) in
-    session_ran g.D.Disk.tells g.I.Source.tells g.K.Sink.tells c.args.header.now c.args.options.now (g.I.Source.left c.args.input.now) _ _ c.new-world.ensures.header c.serve_and_close-answer.result c.serve_and_close-answer.ensures.led told s.0 s.1 (s.2, s.3, s.4)
+    session_ran g.D.Disk.tells g.I.Source.tells g.K.Sink.tells c.args.header.now c.args.options.now (g.I.Source.left c.args.input.now) _ _
+    c.new-world.ensures.header c.serve_and_close-answer.result c.serve_and_close-answer.ensures.led told s.0 s.1 (c.requires.accepted told) (s.2, s.3, s.4)
 
 pub returns-clause-rises : goal.returns-clause-rises
 returns-clause-rises g c = c.serve_and_close-answer.ensures.led.2.rises

@@ -1,0 +1,62 @@
+-- What stops leave while parts of a session are done: where nothing is done, and of one part after another.
+use Rattle.std.proofs.Common.{◌≡◌, ℕ, List, [], ◌++◌, Option, None, sym, subst}
+use Rattle.std.proofs.lemmas.List.{map-append}
+use Rattle.tdb_disk.specs.History.{History, seen}
+use Rattle.tdb_disk.specs.Stop.{Quiet, LeavesOnly}
+use Rattle.tdb_disk.proofs.Runs.{leaves_join, leaves_weaker}
+use Rattle.tdb_space.specs.Accepted.{AcceptWith}
+use Rattle.tdb_space.specs.Form.{Form}
+use Rattle.tdb_space.specs.Undoing.{Reopens}
+use Rattle.tdb_space.proofs.Opening.Undone.{read_as_it_is}
+use Rattle.tdb_space.proofs.Undoing.Alike.{exact_reopens}
+use Rattle.tdb_law.specs.Lines.{Line as LawLine}
+use Rattle.tdb_law.specs.World.{State}
+use Rattle.tdb_plays.specs.InLaw.{law_line, law_lines}
+use Rattle.tdb_plays.specs.declared.line.Line.{Line}
+use Rattle.tdb_whole.specs.Stops.{IsSafe}
+use Rattle.tdb_whole.specs.Whole.{form_at}
+use Rattle.tdb_course.specs.Stops.{Leads, IsTransacted, OpensOnTheWay}
+use Rattle.tdb_course.proofs.Stopping.{passes_front, passes_behind, safe_opens, opens_first}
+use Rattle.tdb_tool.specs.declared.fault.SessionFault.{SessionFault}
+use Rattle.tdb_tool.specs.Serving.{Deed, Scene, IsStateAt, StopsBetween}
+
+-- what was done led on by plays
+abbrev pub LeadsOn : Deed → Type 0
+LeadsOn deed = (f : Form) (old new : State) (lines : List Line) (text : List ℕ) → deed f old lines text new → Leads f old (law_lines lines) new
+
+-- a file is safe that is accepted, and all of which is on the medium
+pub accepted_safe : (f : Form) (h : History) → AcceptWith f (seen h) [] → Quiet h → IsSafe f h
+accepted_safe f h accepted quiet c left =
+    let itself : Reopens (seen h) (seen h) = exact_reopens (seen h) (subst (λ g. AcceptWith g (seen h) []) (sym accepted.form) accepted) in
+    subst (λ (q : List ℕ × List ℕ). Reopens q.0 q.1) (λ i. (sym (read_as_it_is f (seen h) accepted.shut) i, sym (quiet c left) i)) itself
+
+-- nothing was done
+pub stops_nowhere : (start : Scene) (state : State) → IsStateAt start state → IsSafe (form_at start.world) start.history → StopsBetween start start None (form_at start.world) state []
+stops_nowhere start state is safe = record {
+  stops = opens_first (form_at start.world) start.history start.history state 0 [] (safe_opens start.world start.history state is safe);
+  safe = safe;
+}
+
+-- Something was done, and then something else. The lines of both are calm only where those of each are.
+module _ (f : Form) (start mid new : Scene) (answer : Option SessionFault) (old at : State) (front rest : List Line) (leads : Leads f old (law_lines front) at) where
+  abbrev one : List LawLine
+  one = law_lines front
+
+  abbrev two : List LawLine
+  two = law_lines rest
+
+  both_stop : LeavesOnly start.history mid.history (OpensOnTheWay f old one) → LeavesOnly mid.history new.history (OpensOnTheWay f at two)
+      → LeavesOnly start.history new.history (OpensOnTheWay f old (one ++ two))
+  both_stop first next =
+      leaves_join start.history mid.history new.history (OpensOnTheWay f old (one ++ two))
+      (leaves_weaker start.history mid.history (OpensOnTheWay f old one) (OpensOnTheWay f old (one ++ two)) (λ c O. (O.0, O.1, passes_front f old O.0 one two O.2, O.3)) first)
+      (leaves_weaker mid.history new.history (OpensOnTheWay f at two) (OpensOnTheWay f old (one ++ two)) (λ c O. (O.0, O.1, passes_behind f old at O.0 one two leads O.2, O.3)) next)
+
+  pub stops_after : (IsSafe f start.history → IsTransacted f old one → StopsBetween start mid None f old front) → (IsSafe f mid.history → IsTransacted f at two → StopsBetween mid new answer f at rest)
+      → IsSafe f start.history → IsTransacted f old (law_lines (front ++ rest)) → StopsBetween start new answer f old (front ++ rest)
+  stops_after first next safe calm =
+      let cut : law_lines (front ++ rest) ≡ one ++ two = map-append law_line front rest in
+      let both : IsTransacted f old (one ++ two) = subst (IsTransacted f old) cut calm in
+      let S = first safe (λ s o P. both s o (passes_front f old s one two P)) in
+      let T = next S.safe (λ s o P. both s o (passes_behind f old at s one two leads P)) in
+      record { stops = subst (λ ls. LeavesOnly start.history new.history (OpensOnTheWay f old ls)) (sym cut) (both_stop S.stops T.stops); safe = T.safe }
