@@ -47,6 +47,11 @@ abbrev pub next_of : List (List ℕ) → Option Verb
 next_of [] = Some Next
 next_of (word ∷ rest) = None
 
+-- `transaction_start`, `transaction_commit` and `transaction_cancel`, without arguments: what the word asks for
+abbrev pub transaction_of : Verb → List (List ℕ) → Option Verb
+transaction_of verb [] = Some verb
+transaction_of verb (word ∷ rest) = None
+
 -- `dump`, `keys` and `hexkeys`, without arguments: how the pairs are listed
 abbrev pub print_of : Listing → List (List ℕ) → Option Listing
 print_of listing [] = Some listing

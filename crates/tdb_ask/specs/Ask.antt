@@ -9,7 +9,7 @@ use Rattle.tdb_ask.specs.declared.look.Look.{Look}
 use Rattle.tdb_ask.specs.declared.look.Look.TheVariants.{Dump, Value}
 use Rattle.tdb_ask.specs.declared.act.Act.{Act}
 use Rattle.tdb_ask.specs.declared.act.Verb.{Verb}
-use Rattle.tdb_ask.specs.declared.act.Verb.TheVariants.{Show, Insert, Store, Delete, Erase, Check, First, Next}
+use Rattle.tdb_ask.specs.declared.act.Verb.TheVariants.{Show, Insert, Store, Delete, Erase, Check, First, Next, TransactionStart, TransactionCommit, TransactionCancel}
 use Rattle.tdb_ask.specs.declared.ask.Task.{Task}
 use Rattle.tdb_ask.specs.declared.ask.Task.TheVariants.{Create, On, Read, Print, Restore, Backup, Verify, Turns, Session, Generate}
 use Rattle.tdb_ask.specs.declared.ask.Ask as C
@@ -18,7 +18,7 @@ use Rattle.tdb_ask.specs.declared.options.Command.TheVariants as command
 use Rattle.tdb_ask.specs.declared.options.Line.{Line}
 use Rattle.tdb_ask.specs.Words.{of_one, of_three}
 use Rattle.tdb_ask.specs.Options.{commands, told, line_of, limit_in}
-use Rattle.tdb_ask.specs.Acts.{show_of, check_of, insert_of, store_of, delete_of, erase_of, first_of, next_of, print_of}
+use Rattle.tdb_ask.specs.Acts.{show_of, check_of, insert_of, store_of, delete_of, erase_of, first_of, next_of, transaction_of, print_of}
 use Rattle.tdb_ask.specs.Lines.Create.{create_of}
 use Rattle.tdb_ask.specs.CopyNames.{BackupFits, VerifyFits}
 use Rattle.tdb_ask.specs.Lines.Backup.{asks_of}
@@ -54,6 +54,9 @@ tools limit =
     ∷ (codes "check", λ arguments. option_map (on_file limit) (check_of arguments))
     ∷ (codes "first", λ arguments. option_map (on_file limit) (first_of arguments))
     ∷ (codes "next", λ arguments. option_map (on_file limit) (next_of arguments))
+    ∷ (codes "transaction_start", λ arguments. option_map (on_file limit) (transaction_of TransactionStart arguments))
+    ∷ (codes "transaction_commit", λ arguments. option_map (on_file limit) (transaction_of TransactionCommit arguments))
+    ∷ (codes "transaction_cancel", λ arguments. option_map (on_file limit) (transaction_of TransactionCancel arguments))
     ∷ (codes "dump", λ arguments. option_map (print_file limit) (print_of Pairs arguments))
     ∷ (codes "keys", λ arguments. option_map (print_file limit) (print_of Keys arguments))
     ∷ (codes "hexkeys", λ arguments. option_map (print_file limit) (print_of HexKeys arguments))
@@ -134,6 +137,9 @@ VerbFits Erase = Unit {0}
 VerbFits Check = Unit {0}
 VerbFits First = Unit {0}
 VerbFits Next = Unit {0}
+VerbFits TransactionStart = Unit {0}
+VerbFits TransactionCommit = Unit {0}
+VerbFits TransactionCancel = Unit {0}
 
 abbrev pub ActFits : Act → Type 0
 ActFits act = VerbFits act.verb × (act.limit ≤ 4294963200)

@@ -1,7 +1,7 @@
 // The commands on a file that is there, and the reading of their arguments.
 
 ghost use Rattle.std.specs.Prelude.{◌≡◌, ◌+◌, ◌≤◌, length, IfOk, IfSome};
-ghost use Rattle.tdb_ask.specs.Acts.{show_of, pair_of, insert_of, store_of, delete_of, erase_of, check_of, first_of, next_of};
+ghost use Rattle.tdb_ask.specs.Acts.{show_of, pair_of, insert_of, store_of, delete_of, erase_of, check_of, first_of, next_of, transaction_of};
 ghost use Rattle.tdb_ask.specs.Ask.{VerbFits};
 ghost use Rattle.tdb_ask.specs.declared.limits.TheConstants.{LONGEST_WORD as longest};
 
@@ -36,6 +36,15 @@ pub enum Verb {
 
     /// The pair behind the one that was shown last.
     Next,
+
+    /// To start a transaction.
+    TransactionStart,
+
+    /// To commit the transaction that the opener has.
+    TransactionCommit,
+
+    /// To cancel the transaction that the opener has.
+    TransactionCancel,
 }
 
 /// What is asked of a file that is there.
@@ -155,6 +164,18 @@ impl Verb {
     {
         match arguments {
             [] => Some(Verb::Next),
+            _ => None,
+        }
+    }
+
+    /// Reads the arguments of a word of transactions that asks for this verb. It has none.
+    pub(crate) fn of_transaction(verb: Verb, arguments: &[Text]) -> Option<Verb>
+        requires fits { VerbFits verb }
+        ensures read { result ≡ transaction_of verb arguments.now }
+        ensures fits { IfSome result VerbFits }
+    {
+        match arguments {
+            [] => Some(verb),
             _ => None,
         }
     }

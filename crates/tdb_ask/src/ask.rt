@@ -104,6 +104,18 @@ impl Task {
             "check" => Ok(Task::on(limit, Verb::of_check(arguments))),
             "first" => Ok(Task::on(limit, Verb::of_first(arguments))),
             "next" => Ok(Task::on(limit, Verb::of_next(arguments))),
+            "transaction_start" => {
+                let verb = Verb::of_transaction(Verb::TransactionStart, arguments);
+                Ok(Task::on(limit, verb))
+            }
+            "transaction_commit" => {
+                let verb = Verb::of_transaction(Verb::TransactionCommit, arguments);
+                Ok(Task::on(limit, verb))
+            }
+            "transaction_cancel" => {
+                let verb = Verb::of_transaction(Verb::TransactionCancel, arguments);
+                Ok(Task::on(limit, verb))
+            }
             "dump" => Ok(Task::print(limit, Listing::Pairs, arguments)),
             "keys" => Ok(Task::print(limit, Listing::Keys, arguments)),
             "hexkeys" => Ok(Task::print(limit, Listing::HexKeys, arguments)),

@@ -169,7 +169,7 @@ module _ (disk_tells told : Bool) where
     }
 
 -- how plays ended that were taken and told, by both
-unless_end : (P : Type 0) (played : Result (Unit {0}) RunFault) (untold : Result (Unit {0}) WriteRefusal) → UnlessIo played P → UnlessBroken (end_of played untold) P
+pub unless_end : (P : Type 0) (played : Result (Unit {0}) RunFault) (untold : Result (Unit {0}) WriteRefusal) → UnlessIo played P → UnlessBroken (end_of played untold) P
 unless_end P (Ok v) (Ok w) p = p
 unless_end P (Ok v) (Err Untold.Memory) p = p
 unless_end P (Ok v) (Err Untold.Failed) p = p

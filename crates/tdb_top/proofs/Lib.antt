@@ -20,9 +20,13 @@ pub mod Verifying
 pub mod Runs
 pub mod Whole
 pub mod Coming
+pub mod Stopping
 pub mod Over
 pub mod Served
 pub mod Turning
+pub mod StopsTurning
+pub mod StopsServing
+pub mod SessionsStopped
 pub mod Sessions
 pub mod SessionRuns
 pub mod Generating

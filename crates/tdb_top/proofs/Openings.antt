@@ -26,13 +26,14 @@ use Rattle.tdb_check.specs.declared.refusal.CheckRefusal as Check
 use Rattle.tdb_undo.specs.declared.refusal.UndoRefusal as Undo
 use Rattle.tdb_undo.specs.Refusal.{Names as Tells}
 use Rattle.tdb_undo.specs.Area.{place_fault}
-use Rattle.tdb_undo.proofs.Found.{none_sound, shut_sound, open_is, place_first}
+use Rattle.tdb_undo.proofs.Found.{none_sound, shut_sound, open_is, place_first, still_reopens}
 use Rattle.tdb_top.specs.declared.halt.Halt.{Halt}
 use Rattle.tdb_top.specs.declared.halt.Halt.TheVariants.{Refused, Device, Memory}
 use Rattle.tdb_top.specs.declared.halt.Refusal.TheVariants.{TooLong, Header, Corrupt, NeedsRecovery}
 use Rattle.tdb_top.specs.declared.opening.Opened.{Opened}
 use Rattle.tdb_ask.specs.declared.limits.TheConstants.{LONGEST_FILE}
 use Rattle.tdb_top.specs.Opening.{opened_bytes, CanOpen, CanRead, HasOpenGate, IsOpenedOn, IsCheckedOn, Undone, SameOrUndone, UndoneIfOpen, UndoBroken, HaltsRightly, ReadHaltsRightly, HaltsAtFault, HaltLeaves, asks_for_undo, of_front, of_restored_front, of_undo, of_check, OpenedBelow, HaltsBelow, LeavesBelow}
+use Rattle.tdb_top.specs.Safe.{OpensSafely}
 
 none_some : (o : Option Fault) (e : Fault) → o ≡ None → o ≡ Some e → ⊥
 none_some o e none some = cc
@@ -238,11 +239,14 @@ module _ (old mid now : History) (f : Form) (same : mid ≡ old) (form : f ≡ f
   undo_reads front reads =
       subst (λ (q : Form × History). length (seen q.1) % 4 ≡ 0 → seen now ≡ restored q.0 (seen q.1)) (λ j. (form j, same j)) reads (front_ok (seen old) front).sized
 
-  pub undo_stops : (Quiet mid → Opens (seen mid) → Shut (form_of (seen mid)) (seen mid) ⊎ Mild (seen mid) → form_of (seen mid) ≡ f → LeavesOnly mid now (Reopens (restored f (seen mid))))
-      → Quiet old → Opens (seen old) → Mild (seen old) → LeavesOnly old now (Reopens (opened_bytes (seen old)))
-  undo_stops stops quiet opens mild =
+  pub undo_stops : (Quiet mid → Opens (seen mid) → Shut (form_of (seen mid)) (seen mid) ⊎ Mild (seen mid) → form_of (seen mid) ≡ f → LeavesOnly mid now (Reopens (restored f (seen mid)))) → OpensSafely old now
+  undo_stops stops quiet opens again =
       subst (λ (q : Form × History). Quiet q.1 → Opens (seen q.1) → Shut (form_of (seen q.1)) (seen q.1) ⊎ Mild (seen q.1) → form_of (seen q.1) ≡ q.0 → LeavesOnly q.1 now (Reopens (restored q.0 (seen q.1))))
-      (λ j. (form j, same j)) stops quiet opens (inr mild) refl
+      (λ j. (form j, same j)) stops quiet opens again refl
+
+-- what stops leave of a file that an opening leaves as it is
+pub still_safe : (old now : History) → now ≡ old → OpensSafely old now
+still_safe old now same quiet opens again = still_reopens (form_of (seen old)) old now same quiet opens again refl
 
 -- bytes that were checked, after calls that left them
 pub checked_still : (old now : History) (o : Opened) → now ≡ old → Accept (seen old) → o.header ≡ header_at (seen old) → Counted (seen old) o.report → IsCheckedOn (seen now) o

@@ -6,7 +6,7 @@ use Rattle.std.proofs.lemmas.List.{append-nil}
 use Rattle.tdb_disk.specs.History.{History, seen}
 use Rattle.tdb_space.specs.Form.{form_of}
 use Rattle.tdb_tool.proofs.Wholes.{begins, over_comes}
-use Rattle.tdb_tool.specs.Whole.{CameSo}
+use Rattle.tdb_tool.specs.Whole.{CameSo, StopsOpen}
 use Rattle.tdb_tool.specs.declared.fault.SessionEnd.{SessionEnd}
 use Rattle.tdb_tool.specs.declared.fault.SessionEnd.TheVariants as End
 use Rattle.tdb_tool.specs.declared.fault.SessionFault.{SessionFault}
@@ -25,6 +25,7 @@ use Rattle.tdb_top.specs.Printed.{Finishes}
 use Rattle.tdb_top.specs.Run.{SessionRun}
 use Rattle.tdb_top.proofs.Runs.{Exits, refusal_apart, refused_seven, fault_exits, fault_no_done, fault_no_keep, memory_exits, memory_apart, memory_no_keep, opened_same, played_exits, played_kept, unheard_exits, malformed_exits, malformed_kept, malformed_four, either_not}
 use Rattle.tdb_top.proofs.Held.{same_held}
+use Rattle.tdb_top.proofs.StopsServing.{so_since, whole_since}
 
 module _ (limit : ℕ) (input : Input) (tells : Bool) (w0 w1 w2 : List ℕ) (f0 f1 f2 : ℕ) (old now : History) where
   abbrev Out : Output
@@ -37,8 +38,9 @@ module _ (limit : ℕ) (input : Input) (tells : Bool) (w0 w1 w2 : List ℕ) (f0 
   More = IsTrue tells → (more : List ℕ) × (w2 ≡ w1 ++ more)
 
   -- a session as far as it came
-  so_far : (answer : Result SessionEnd SessionFault) (on : On answer) → CameSo (form_of (seen on.opened)) (session_options limit) (seen on.opened) (seen now) input.tells input.text tells w0 w1 → More → IsServedSoFar limit input Out old now
-  so_far answer on came more = record { opened = on.opened; is_opened = on.is_opened; told = w1; came = came; rest = more }
+  so_far : (answer : Result SessionEnd SessionFault) (on : On answer) → CameSo (form_of (seen on.opened)) (session_options limit) (seen on.opened) (seen now) input.tells input.text tells w0 w1 (StopsOpen (form_of (seen on.opened)) on.opened now) → More
+      → IsServedSoFar limit input Out old now
+  so_far answer on came more = record { opened = on.opened; is_opened = on.is_opened; told = w1; came = so_since limit input old now tells w0 w1 answer on came; rest = more }
 
   whole_came : (end : SessionEnd) → On (Ok end) → More → IsServedSoFar limit input Out old now
   whole_came end on more =
@@ -46,7 +48,7 @@ module _ (limit : ℕ) (input : Input) (tells : Bool) (w0 w1 w2 : List ℕ) (f0 
         on.ran.0,
         λ heard. begins input.text on.ran.0 end (on.ran.1 heard),
         on.ran.2.new,
-        over_comes (form_of (seen on.opened)) (session_options limit) (seen on.opened) on.ran.0 (seen now) tells w0 w1 on.ran.2,
+        over_comes (form_of (seen on.opened)) (session_options limit) (seen on.opened) on.ran.0 (seen now) tells w0 w1 (StopsOpen (form_of (seen on.opened)) on.opened now) on.ran.2,
         on.ran.2.left,
       ) more
 
@@ -64,7 +66,7 @@ module _ (limit : ℕ) (input : Input) (tells : Bool) (w0 w1 w2 : List ℕ) (f0 
       orders = on.ran.0;
       asks = on.ran.1;
       told = w1;
-      over = on.ran.2;
+      over = whole_since limit input old now tells w0 w1 end on;
       line = λ told. all.written told ∙ ap (λ x. w1 ++ text_of x) same;
     }
 
@@ -118,7 +120,7 @@ module _ (limit : ℕ) (input : Input) (tells : Bool) (w0 w1 w2 : List ℕ) (f0 
     }
 
     pub session_run : (r : Result Ending Unprinted) → SessionFile limit input old now tells w0 w1 r → PrintedFor e (ending_of r) → Finishes r (output_by tells w1 w2 f1 f2) e status → CountedBy before after (ending_of r) → Exits status (ending_of r) → Runs
-    session_run _ (file_unopened (H.Refused refusal) opened same) printed finishes counted out = record {
+    session_run _ (file_unopened (H.Refused refusal) opened safe same) printed finishes counted out = record {
       any = inl (opened_same (session_options limit) old now opened.1);
       done = λ is. absurd (refusal_apart before after status refusal out (inl is));
       malformed = λ is. absurd (refused_seven before after status refusal out is);
@@ -126,8 +128,8 @@ module _ (limit : ℕ) (input : Input) (tells : Bool) (w0 w1 w2 : List ℕ) (f0 
       wanting = λ is. inl (opened_same (session_options limit) old now opened.1);
       kept = λ keeps five seven. opened.1;
     }
-    session_run _ (file_unopened H.Device opened same) printed finishes counted out = broke out counted
-    session_run _ (file_unopened H.Memory opened same) printed finishes counted out =
+    session_run _ (file_unopened H.Device opened safe same) printed finishes counted out = broke out counted
+    session_run _ (file_unopened H.Memory opened safe same) printed finishes counted out =
         let ends = memory_exits before after status out in
         record {
           any = inl opened;

@@ -7,9 +7,10 @@ use Rattle.tdb_disk.specs.History.{History, seen}
 use Rattle.tdb_disk.specs.declared.files.TakeRefusal.{TakeRefusal}
 use Rattle.tdb_disk.specs.declared.files.TakeRefusal.TheVariants as Take
 use Rattle.tdb_space.specs.Form.{Form, form_of}
+use Rattle.tdb_law.specs.Lines.{Line as LawLine}
 use Rattle.tdb_law.specs.World.{State}
 use Rattle.tdb_tool.proofs.Wholes.{over_comes}
-use Rattle.tdb_tool.specs.Whole.{SessionCame}
+use Rattle.tdb_tool.specs.Whole.{SessionCame, StopsOpen}
 use Rattle.tdb_tool.specs.declared.fault.SessionEnd.{SessionEnd}
 use Rattle.tdb_tool.specs.declared.fault.SessionEnd.TheVariants as End
 use Rattle.tdb_tool.specs.declared.fault.SessionFault.{SessionFault}
@@ -28,6 +29,7 @@ use Rattle.tdb_top.specs.Ending.{task_failed, task_wanting, Untaken, of_halt}
 use Rattle.tdb_top.specs.Input.{Input}
 use Rattle.tdb_top.specs.Looks.{ending_of, Began}
 use Rattle.tdb_top.specs.Opening.{opened_bytes}
+use Rattle.tdb_top.proofs.Openings.{still_safe}
 use Rattle.tdb_top.specs.Reads.{AskCause}
 
 -- why a session ended so
@@ -35,12 +37,12 @@ by_lines : (input : Input) (limit : ℕ) (name : List ℕ) (held : Option Histor
 by_lines input limit name held before after e so = inr (inr (inr (record { limit = limit; serves = refl; why = so })))
 
 -- what it wrote is a front of its text
-wrote_front : (f : Form) (options : Options) (a : List ℕ) (orders : List Order) (new : State) (told : Bool) (before now : List ℕ) → IsTrue told → SessionCame f options a orders new told before now
-    → (text : List ℕ) × SessionCame f options a orders new true [] text × (now ≡ before ++ text)
-wrote_front f options a orders new told before now heard p =
+wrote_front : (f : Form) (options : Options) (a : List ℕ) (orders : List Order) (new : State) (told : Bool) (before now : List ℕ) (Stops : State → List LawLine → Type 0) → IsTrue told
+    → SessionCame f options a orders new told before now Stops → (text : List ℕ) × SessionCame f options a orders new true [] text (λ start lines. Unit {0}) × (now ≡ before ++ text)
+wrote_front f options a orders new told before now Stops heard p =
     let w = p.printed heard in (
       take w.0 p.text,
-      record { old = p.old; loaded = p.loaded; over = p.over; lines = p.lines; text = p.text; came = p.came; lawful = p.lawful; printed = λ always. (w.0, w.1, refl) },
+      record { old = p.old; loaded = p.loaded; over = p.over; lines = p.lines; text = p.text; came = p.came; lawful = p.lawful; printed = λ always. (w.0, w.1, refl); stops = tt },
       w.2,
     )
 
@@ -51,9 +53,9 @@ module _ (limit : ℕ) (input : Input) (name : List ℕ) (h now : History) (told
   module _ (held : Option History) (there : held ≡ Some h) where
     pub cause_session : (before after : ℕ) (r : Result Ending Unprinted) → On r → (ending_of r ≡ E.DeviceFault → Rose before after) → (ending_of r ≡ E.InputFault → Rose input.faults_before input.faults_after)
         → AskCause input (Session limit) name held before after (ending_of r)
-    cause_session before after _ (file_unopened (H.Refused refusal) opened same) rose unread = by_lines input limit name held before after (E.Refused refusal) (file_refused h refusal there opened.0)
-    cause_session before after _ (file_unopened H.Device opened same) rose unread = inl (task_failed (rose refl))
-    cause_session before after _ (file_unopened H.Memory opened same) rose unread = inl task_wanting
+    cause_session before after _ (file_unopened (H.Refused refusal) opened safe same) rose unread = by_lines input limit name held before after (E.Refused refusal) (file_refused h refusal there opened.0)
+    cause_session before after _ (file_unopened H.Device opened safe same) rose unread = inl (task_failed (rose refl))
+    cause_session before after _ (file_unopened H.Memory opened safe same) rose unread = inl task_wanting
     cause_session before after _ (session_ran (Ok End.Ended) on) rose unread = by_lines input limit name held before after (E.Replied Played) (file_opened h there on.opens)
     cause_session before after _ (session_ran (Ok (End.Malformed at)) on) rose unread =
         by_lines input limit name held before after (E.Malformed at) (line_bad h at there on.opens (λ heard. (on.ran.0, on.ran.1 heard)))
@@ -67,14 +69,18 @@ module _ (limit : ℕ) (input : Input) (name : List ℕ) (h now : History) (told
       abbrev Front : Type 0
       Front = (text : List ℕ) × RepliesFront limit (opened_bytes (seen h)) text × (w1 ≡ w0 ++ text)
 
+      -- what stops leave since it was opened
+      abbrev Opens : (answer : Result SessionEnd SessionFault) → SessionOn limit input h now told w0 w1 answer → State → List LawLine → Type 0
+      Opens answer on = StopsOpen (form_of (seen on.opened)) on.opened now
+
       came_front : (answer : Result SessionEnd SessionFault) (on : SessionOn limit input h now told w0 w1 answer) (orders : List Order) (new : State)
-          → SessionCame (form_of (seen on.opened)) (session_options limit) (seen on.opened) orders new told w0 w1 → Front
+          → SessionCame (form_of (seen on.opened)) (session_options limit) (seen on.opened) orders new told w0 w1 (Opens answer on) → Front
       came_front answer on orders new p =
-          let w = wrote_front (form_of (seen on.opened)) (session_options limit) (seen on.opened) orders new told w0 w1 heard p in
+          let w = wrote_front (form_of (seen on.opened)) (session_options limit) (seen on.opened) orders new told w0 w1 (Opens answer on) heard p in
           (w.0, subst (λ img. RepliesFront limit img w.0) on.is_opened.reads (orders, new, w.1), w.2)
 
       whole_front : (end : SessionEnd) (on : SessionOn limit input h now told w0 w1 (Ok end)) → Front
-      whole_front end on = came_front (Ok end) on on.ran.0 _ (over_comes (form_of (seen on.opened)) (session_options limit) (seen on.opened) on.ran.0 (seen now) told w0 w1 on.ran.2)
+      whole_front end on = came_front (Ok end) on on.ran.0 _ (over_comes (form_of (seen on.opened)) (session_options limit) (seen on.opened) on.ran.0 (seen now) told w0 w1 (Opens (Ok end) on) on.ran.2)
 
       pub began_session : (r : Result Ending Unprinted) → On r → Began (SessionText limit held) w0 w1 r
       began_session r on = subst (λ o. Began (SessionText limit o) w0 w1 r) (sym there) (of r on)
@@ -83,9 +89,9 @@ module _ (limit : ℕ) (input : Input) (name : List ℕ) (h now : History) (told
           none same = same ∙ sym (append-nil w0)
 
           of : (r : Result Ending Unprinted) → On r → Began (SessionText limit (Some h)) w0 w1 r
-          of _ (file_unopened (H.Refused refusal) opened same) = ([], refl, none same)
-          of _ (file_unopened H.Device opened same) = ([], inl refl, none same)
-          of _ (file_unopened H.Memory opened same) = ([], inl refl, none same)
+          of _ (file_unopened (H.Refused refusal) opened safe same) = ([], refl, none same)
+          of _ (file_unopened H.Device opened safe same) = ([], inl refl, none same)
+          of _ (file_unopened H.Memory opened safe same) = ([], inl refl, none same)
           of _ (session_ran (Ok End.Ended) on) = whole_front End.Ended on
           of _ (session_ran (Ok (End.Malformed at)) on) = whole_front (End.Malformed at) on
           of _ (session_ran (Err F.Input) on) = came_front (Err F.Input) on on.ran.0 on.ran.2 on.ran.3
@@ -111,12 +117,12 @@ module _ (limit : ℕ) (input : Input) (name : List ℕ) (held : Option History)
   unopened_held (Some h) given told w halt same file = (h, same, file h)
 
   pub wants_held : (o given : Option History) (told : Bool) (w : List ℕ) → given ≡ o → SessionHeld limit input o given told w w (Ok E.NoMemory)
-  wants_held o given told w same = unopened_held o given told w H.Memory same (λ h. file_unopened H.Memory (inr refl) refl)
+  wants_held o given told w same = unopened_held o given told w H.Memory same (λ h. file_unopened H.Memory (inr refl) (still_safe h h refl) refl)
 
   pub untaken_held : (given : Option History) (told : Bool) (w : List ℕ) (refusal : TakeRefusal) (e : Ending) → given ≡ held → (refusal ≡ Take.There → ⊥) → (refusal ≡ Take.Missing → held ≡ None) → Untaken name refusal e
       → SessionHeld limit input held given told w w (Ok e)
   untaken_held given told w Take.Missing e same free gone is = subst (λ o. SessionHeld limit input o given told w w (Ok e)) (sym (gone refl)) (same ∙ gone refl)
   untaken_held given told w Take.There e same free gone is = absurd (free refl)
   untaken_held given told w Take.Failed e same free gone is =
-      subst (λ x. SessionHeld limit input held given told w w (Ok x)) (sym is) (unopened_held held given told w H.Device same (λ h. file_unopened H.Device tt refl))
+      subst (λ x. SessionHeld limit input held given told w w (Ok x)) (sym is) (unopened_held held given told w H.Device same (λ h. file_unopened H.Device tt (still_safe h h refl) refl))
   untaken_held given told w Take.Memory e same free gone is = subst (λ x. SessionHeld limit input held given told w w (Ok x)) (sym is) (wants_held held given told w same)

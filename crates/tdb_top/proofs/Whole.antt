@@ -86,14 +86,21 @@ module _ (options : Options) (input : Input) (tells : Bool) (w0 w1 w2 : List ℕ
   there old now before after is left same all =
       subst (λ (q : History × History). IsPlayed options input (output_by tells w0 w2 f0 f2) q.0 q.1) (λ j. (same_held all.0 old before all.2 is j, same_held all.1 now after all.3 left j)) (with_output all.0 all.1 same all.4)
 
+  -- status 0 says that all plays were taken and told, and then nothing is written behind the report
+  pub zero_played : (ask : Option Ask) (name : List ℕ) (held : List ℕ → Option History) (before after : ℕ) (r : Result Ending Unprinted) (e : Ending) (status : ℕ) → ask ≡ Some (record { file = name; task = Turns options })
+      → MayEnd ask held input before after (ending_of r) → PrintedFor e (ending_of r) → Finishes r (output_by tells w1 w2 f1 f2) e status → status ≡ 0
+      → (r ≡ Ok (Replied Played)) × (IsTrue tells → w2 ≡ w1)
+  zero_played ask name held before after (Err rest) e status asks cause printed done zero = absurd (omega (arith, done.1, zero))
+  zero_played ask name held before after (Ok found) e status asks cause printed (inr part) zero = absurd (omega (arith, part.exits, zero))
+  zero_played ask name held before after (Ok found) e status asks cause (inr want) (inl every) zero = absurd (omega (arith, ap status_of want.0, every.exits, zero))
+  zero_played ask name held before after (Ok found) e status asks cause (inl same) (inl every) zero =
+      let played : found ≡ Replied Played = ended_zero ask options name held input before after found asks cause (ap status_of (sym same) ∙ sym every.exits ∙ zero) in
+      (ap Ok played, λ told. every.written told ∙ ap (λ x. w1 ++ text_of x) (same ∙ played) ∙ append-nil w1)
+
   pub whole_by : (ask : Option Ask) (name : List ℕ) (held now : List ℕ → Option History) (before after : ℕ) (r : Result Ending Unprinted) (e : Ending) (status : ℕ) → ask ≡ Some (record { file = name; task = Turns options })
       → MayEnd ask held input before after (ending_of r) → PrintedFor e (ending_of r) → Finishes r (output_by tells w1 w2 f1 f2) e status → status ≡ 0
       → (r ≡ Ok (Replied Played) → AllPlayed options input (output_by tells w0 w1 f0 f1) (held name) (now name))
       → (old left : History) → held name ≡ Some old → now name ≡ Some left → IsPlayed options input (output_by tells w0 w2 f0 f2) old left
-  whole_by ask name held now before after (Err rest) e status asks cause printed done zero all old left is then = absurd (omega (arith, done.1, zero))
-  whole_by ask name held now before after (Ok found) e status asks cause printed (inr part) zero all old left is then = absurd (omega (arith, part.exits, zero))
-  whole_by ask name held now before after (Ok found) e status asks cause (inr want) (inl every) zero all old left is then = absurd (omega (arith, ap status_of want.0, every.exits, zero))
-  whole_by ask name held now before after (Ok found) e status asks cause (inl same) (inl every) zero all old left is then =
-      let played : found ≡ Replied Played = ended_zero ask options name held input before after found asks cause (ap status_of (sym same) ∙ sym every.exits ∙ zero) in
-      there old left (held name) (now name) is then
-      (λ told. every.written told ∙ ap (λ x. w1 ++ text_of x) (same ∙ played) ∙ append-nil w1) (all (ap Ok played))
+  whole_by ask name held now before after r e status asks cause printed done zero all old left is then =
+      let z = zero_played ask name held before after r e status asks cause printed done zero in
+      there old left (held name) (now name) is then z.1 (all z.0)

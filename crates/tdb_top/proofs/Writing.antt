@@ -44,6 +44,7 @@ reply_wanting text written (R.Pair key value) takes is = is
 reply_wanting text written R.End takes is = is
 reply_wanting text written R.KeyMissing takes is = is
 reply_wanting text written R.KeyThere takes is = is
+reply_wanting text written R.NoTransaction takes is = is
 reply_wanting text written (R.Full len need) takes is = is
 
 stands_wanting : (text written : List ℕ) (t : Ending) → TakesMemory t → StandsBefore text t written → StandsBefore text NoMemory written

@@ -6,6 +6,7 @@ pub mod Store
 pub mod Delete
 pub mod Erase
 pub mod First
+pub mod Transaction
 pub mod Create
 pub mod Dump
 pub mod Print

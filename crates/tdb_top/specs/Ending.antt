@@ -13,7 +13,7 @@ use Rattle.tdb_ask.specs.declared.ask.Task.{Task}
 use Rattle.tdb_ask.specs.declared.ask.Task.TheVariants.{Create, On, Read, Print, Restore, Backup, Verify, Turns, Session, Generate}
 use Rattle.tdb_top.specs.declared.ending.Ending.{Ending}
 use Rattle.tdb_top.specs.declared.ending.Ending.TheVariants.{Replied, Refused, Missing, There, Usage, DeviceFault, InputFault, Malformed, NoMemory}
-use Rattle.tdb_top.specs.declared.ending.Reply.TheVariants.{Done, Value, Escaped, Dumped, Restored, Copied, Verified, KeyMissing, KeyThere, Full, Number, Pair, End, Played, Generated}
+use Rattle.tdb_top.specs.declared.ending.Reply.TheVariants.{Done, Value, Escaped, Dumped, Restored, Copied, Verified, KeyMissing, KeyThere, NoTransaction, Full, Number, Pair, End, Played, Generated}
 use Rattle.tdb_top.specs.declared.halt.Halt as H
 use Rattle.tdb_top.specs.declared.halt.Refusal.{Refusal}
 use Rattle.tdb_top.specs.declared.halt.Refusal.TheVariants.{TooLong, Header, Corrupt, NeedsRecovery}
@@ -62,6 +62,7 @@ answer (Replied (Pair key value)) = tells 0 (pair_line key value)
 answer (Replied End) = says 0 (codes "end")
 answer (Replied KeyMissing) = says 1 (codes "noexist")
 answer (Replied KeyThere) = says 1 (codes "exists")
+answer (Replied NoTransaction) = says 1 (codes "notransaction")
 answer Usage = says 2 (codes "usage: tdb COMMAND [OPTIONS] FILE [WORDS]")
 answer (Refused (Header fault)) = tells 3 (codes "header " ++ fault_text fault)
 answer (Refused (Corrupt what at)) = tells 3 (codes "corrupt " ++ what_text what ++ codes " " ++ decimal at)

@@ -11,3 +11,6 @@ pub mod Reads
 pub mod Left
 pub mod Printed
 pub mod Run
+pub mod Safe
+pub mod Stops
+pub mod SessionStops

@@ -22,6 +22,7 @@ use crate::commands::first::{first, next};
 use crate::commands::insert::insert;
 use crate::commands::show::show;
 use crate::commands::store::store;
+use crate::commands::transaction::{cancel, commit, start};
 use crate::ending::{Ending, Reply};
 use crate::halt::{Fault, Halt};
 use crate::opening::Opened;
@@ -65,6 +66,9 @@ fn perform<D: Disk>(alloc: Global, act: &Act, disk: &mut D, opened: &Opened) -> 
         Verb::Check => Ok(check(opened)),
         Verb::First => first(alloc, disk, opened),
         Verb::Next => Ok(next()),
+        Verb::TransactionStart => Ok(start()),
+        Verb::TransactionCommit => Ok(commit()),
+        Verb::TransactionCancel => Ok(cancel()),
     }
 }
 

@@ -17,6 +17,7 @@ ghost use Rattle.tdb_top.specs.Reads.{AskEnds, reads_input};
 ghost use Rattle.tdb_top.specs.Left.{TaskLeaves, SameElse};
 ghost use Rattle.tdb_top.specs.Looks.{ending_of, Began};
 ghost use Rattle.tdb_top.specs.Printed.{TaskText, task_tells};
+ghost use Rattle.tdb_top.specs.Stops.{StopsHeld};
 
 use crate::act::act_on_file;
 use crate::commands::backup::back_up;
@@ -54,6 +55,8 @@ pub(crate) fn answer_ask<F: Files, S: Source, K: Sink>(
     ensures asked { ending_of result ≡ Usage → ⊥ }
     ensures played { (options : WorldOptions) → ask.now.task ≡ TurnsIs options → IsTrue F.D.tells → result ≡ Ok (Replied Played)
         → AllPlayed options (input_by S.tells (S.left input.old) (S.faults input.old) (S.faults input.new)) (output_by K.tells (K.written output.old) (K.written output.new) (K.faults output.old) (K.faults output.new)) (F.held files.old (string_bytes ask.now.file)) (F.held files.new (string_bytes ask.now.file)) }
+    ensures stops { (options : WorldOptions) → ask.now.task ≡ TurnsIs options → IsTrue F.D.tells
+        → StopsHeld options (F.held files.old (string_bytes ask.now.file)) (F.held files.new (string_bytes ask.now.file)) K.tells (result ≡ Ok (Replied Played)) (K.written output.old) (K.written output.new) }
     ensures served { (limit : ℕ) → ask.now.task ≡ SessionIs limit → IsTrue F.D.tells
         → SessionHeld limit (input_by S.tells (S.left input.old) (S.faults input.old) (S.faults input.new)) (F.held files.old (string_bytes ask.now.file)) (F.held files.new (string_bytes ask.now.file)) K.tells (K.written output.old) (K.written output.new) result }
     ensures heard { HeardBy (S.faults input.old) (S.faults input.new) (ending_of result) }

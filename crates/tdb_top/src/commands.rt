@@ -14,5 +14,6 @@ pub(crate) mod restore;
 pub(crate) mod session;
 pub(crate) mod show;
 pub(crate) mod store;
+pub(crate) mod transaction;
 pub(crate) mod turns;
 pub(crate) mod verify;

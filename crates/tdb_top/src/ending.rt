@@ -68,6 +68,9 @@ pub(crate) enum Reply {
     /// The key is there, which was to be added.
     KeyThere,
 
+    /// The opener has no transaction.
+    NoTransaction,
+
     /// The file has `len` bytes, and with the `need` bytes of the record it would be longer than the longest.
     Full { len: u64, need: u64 },
 }
@@ -253,7 +256,7 @@ impl Ending {
             Ending::Replied(Reply::Copied | Reply::Verified | Reply::Played) => 0,
             Ending::Replied(Reply::Generated(_)) => 0,
             Ending::Replied(Reply::Number(_) | Reply::Pair { key: _, value: _ } | Reply::End) => 0,
-            Ending::Replied(Reply::KeyMissing | Reply::KeyThere) => 1,
+            Ending::Replied(Reply::KeyMissing | Reply::KeyThere | Reply::NoTransaction) => 1,
             Ending::Usage => 2,
             Ending::Refused(Refusal::Header { fault: _ } | Refusal::Corrupt { what: _, at: _ }) => {
                 3
@@ -282,6 +285,7 @@ impl Ending {
             Ending::Replied(Reply::End) => Some(b"end\n"),
             Ending::Replied(Reply::KeyMissing) => Some(b"noexist\n"),
             Ending::Replied(Reply::KeyThere) => Some(b"exists\n"),
+            Ending::Replied(Reply::NoTransaction) => Some(b"notransaction\n"),
             Ending::Replied(Reply::Generated(text)) => Some(text.as_slice()),
             Ending::Usage => Some(b"usage: tdb COMMAND [OPTIONS] FILE [WORDS]\n"),
             Ending::Refused(Refusal::NeedsRecovery) => Some(b"needs recovery\n"),

@@ -50,6 +50,7 @@ impl Opened {
     ghost use Rattle.tdb_top.specs.declared.halt.Halt.TheVariants.{Device};
     ghost use Rattle.tdb_ask.specs.declared.limits.TheConstants.{LONGEST_FILE as LONGEST};
     ghost use Rattle.tdb_top.specs.Opening.{opened_bytes, CanRead, HasOpenGate, asks_for_undo, HaltsRightly, ReadHaltsRightly, HaltsAtFault, HaltLeaves, HaltsBelow, LeavesBelow, UndoneIfOpen, IsOpenedOn, IsCheckedOn};
+    ghost use Rattle.tdb_top.specs.Safe.{OpensSafely};
 
     /// Opens the file on a disk after it was undone: its header is read again, and the whole file is checked. It
     /// changes nothing.
@@ -118,6 +119,7 @@ impl Opened {
         ensures left { OnOk result (IsTrue D.tells → UndoneIfOpen (D.history disk.old) (D.history disk.new)) }
         ensures refused { IfErr result (λ halt. IsTrue D.tells → HaltsRightly (seen (D.history disk.old)) halt) }
         ensures halted { IfErr result (λ halt. IsTrue D.tells → HaltLeaves halt (D.history disk.old) (D.history disk.new)) }
+        ensures stops { IsTrue D.tells → OpensSafely (D.history disk.old) (D.history disk.new) }
         ensures cause { HasCauseOf Device (D.faults disk.old) (D.faults disk.new) result }
     {
         let header = read_front(disk)?;
@@ -136,6 +138,7 @@ impl Opened {
         ensures left { OnOk result (IsTrue D.tells → UndoneIfOpen (D.history disk.old) (D.history disk.new)) }
         ensures refused { IfErr result (λ halt. IsTrue D.tells → HaltsRightly (seen (D.history disk.old)) halt) }
         ensures halted { IfErr result (λ halt. IsTrue D.tells → HaltLeaves halt (D.history disk.old) (D.history disk.new)) }
+        ensures stops { IsTrue D.tells → OpensSafely (D.history disk.old) (D.history disk.new) }
         ensures cause { HasCauseOf Device (D.faults disk.old) (D.faults disk.new) result }
     {
         let halt = match Opened::open_to_read(alloc, disk) {

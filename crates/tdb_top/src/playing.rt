@@ -1,6 +1,6 @@
 // Plays that are taken over a file, and told line by line.
 
-ghost use Rattle.std.specs.Prelude.{◌≡◌, ◌<◌, ◌≤◌, ◌++◌, [], ℕ, List, IsTrue, OnOk, OnErr};
+ghost use Rattle.std.specs.Prelude.{◌≡◌, ◌<◌, ◌≤◌, ◌++◌, [], ℕ, List, Ok, IsTrue, OnOk, OnErr};
 ghost use Rattle.tdb_disk.specs.Count.{HasCause, HasCauseOf, Rose};
 ghost use Rattle.tdb_disk.specs.History.{seen};
 ghost use Rattle.tdb_law.specs.World.{State};
@@ -12,6 +12,7 @@ ghost use Rattle.tdb_script.specs.Text.{report_text};
 ghost use Rattle.tdb_whole.specs.Whole.{form_at, options_at, WorldFits};
 ghost use Rattle.tdb_course.specs.Playable.{ArePlayable};
 ghost use Rattle.tdb_top.specs.Playing.{UnlessBroken, OnBroken, IsUnbroken, PlayedOver, scene, Ran, EndTold, IsJustLoaded, end_of};
+ghost use Rattle.tdb_top.specs.Stops.{StopsOfTurns, StopsOver, StopsTold};
 
 use crate::ending::Unprinted;
 use crate::halt::Fault;
@@ -69,6 +70,8 @@ fn play_some<D: Disk, K: Sink>(
     requires playable { ArePlayable plays.now }
     ensures ran { Ran D.tells K.tells (scene world.old (D.history disk.old) (D.size disk.old) (D.faults disk.old) (K.written output.old))
         (scene world.new (D.history disk.new) (D.size disk.new) (D.faults disk.new) (K.written output.new)) plays.now result }
+    ensures stops { StopsTold D.tells K.tells (scene world.old (D.history disk.old) (D.size disk.old) (D.faults disk.old) (K.written output.old))
+        (scene world.new (D.history disk.new) (D.size disk.new) (D.faults disk.new) (K.written output.new)) result }
     ensures cause { HasCause (K.faults output.old) (K.faults output.new) result }
 {
     let mut report = TurnReport::new(alloc);
@@ -89,6 +92,8 @@ fn play_each<D: Disk, K: Sink>(
     requires playable { ArePlayable plays.now }
     ensures ran { Ran D.tells K.tells (scene world.old (D.history disk.old) (D.size disk.old) (D.faults disk.old) (K.written output.old))
         (scene world.new (D.history disk.new) (D.size disk.new) (D.faults disk.new) (K.written output.new)) plays.now result }
+    ensures stops { StopsTold D.tells K.tells (scene world.old (D.history disk.old) (D.size disk.old) (D.faults disk.old) (K.written output.old))
+        (scene world.new (D.history disk.new) (D.size disk.new) (D.faults disk.new) (K.written output.new)) result }
     ensures cause { HasCause (K.faults output.old) (K.faults output.new) result }
 {
     for i in 0..plays.len() {
@@ -134,6 +139,7 @@ fn play_in<D: Disk, K: Sink>(
     ensures rises { D.faults disk.old ≤ D.faults disk.new }
     ensures quiet { UnlessBroken result (D.faults disk.new ≡ D.faults disk.old) }
     ensures rose { IsTrue D.tells → (state : State) → IsJustLoaded world.old (D.history disk.old) state → OnBroken result (Rose (D.faults disk.old) (D.faults disk.new)) }
+    ensures stops { StopsOver world.old D.tells K.tells (result ≡ Ok (Ok tt)) (D.history disk.old) (D.history disk.new) (K.written output.old) (K.written output.new) }
     ensures cause { HasCause (K.faults output.old) (K.faults output.new) result }
 {
     match play_each(alloc, world, disk, plays, output)? {
@@ -160,6 +166,7 @@ pub(crate) fn play_all<D: Disk, K: Sink>(
     ensures rises { D.faults disk.old ≤ D.faults disk.new }
     ensures quiet { UnlessBroken result (D.faults disk.new ≡ D.faults disk.old) }
     ensures rose { IsTrue D.tells → OnBroken result (Rose (D.faults disk.old) (D.faults disk.new)) }
+    ensures stops { IsTrue D.tells → StopsOfTurns (form_in header.now) options.now (D.history disk.old) (D.history disk.new) K.tells (result ≡ Ok (Ok tt)) (K.written output.old) (K.written output.new) }
     ensures cause { HasCause (K.faults output.old) (K.faults output.new) result }
 {
     let mut world = World::new(alloc, header, options);

@@ -19,6 +19,8 @@ ghost use Rattle.tdb_top.specs.Looks.{ending_of, Began};
 ghost use Rattle.tdb_top.specs.Printed.{TextBefore, ask_tells, Finishes};
 ghost use Rattle.tdb_top.specs.Reads.{ask_reads};
 ghost use Rattle.tdb_top.specs.Run.{run_by, MayEnd, Answered, RefusesExactly, LeavesFiles, Accounted};
+ghost use Rattle.tdb_top.specs.SessionStops.{SessionsStopSafely};
+ghost use Rattle.tdb_top.specs.Stops.{StopsHeld, TurnsStopSafely};
 
 use crate::answering::answer_ask;
 use crate::ending::{Ending, Status, Unprinted, print};
@@ -46,6 +48,8 @@ fn answer<F: Files, S: Source, K: Sink>(
     ensures unread { ask_reads (ask_of (map string_bytes words.now)) ≡ false → (input.new ≡ input.old) × (of_input (ending_of result) ≡ false) }
     ensures played { (options : Options) (name : List ℕ) → ask_of (map string_bytes words.now) ≡ Some (record { file = name; task = TurnsIs options }) → IsTrue F.D.tells → result ≡ Ok (Replied Played)
         → AllPlayed options (input_by S.tells (S.left input.old) (S.faults input.old) (S.faults input.new)) (output_by K.tells (K.written output.old) (K.written output.new) (K.faults output.old) (K.faults output.new)) (F.held files.old name) (F.held files.new name) }
+    ensures stops { (options : Options) (name : List ℕ) → ask_of (map string_bytes words.now) ≡ Some (record { file = name; task = TurnsIs options }) → IsTrue F.D.tells
+        → StopsHeld options (F.held files.old name) (F.held files.new name) K.tells (result ≡ Ok (Replied Played)) (K.written output.old) (K.written output.new) }
     ensures served { (limit : ℕ) (name : List ℕ) → ask_of (map string_bytes words.now) ≡ Some (record { file = name; task = SessionIs limit }) → IsTrue F.D.tells
         → SessionHeld limit (input_by S.tells (S.left input.old) (S.faults input.old) (S.faults input.new)) (F.held files.old name) (F.held files.new name) K.tells (K.written output.old) (K.written output.new) result }
     ensures usage { ending_of result ≡ Usage → ask_of (map string_bytes words.now) ≡ None }
@@ -77,12 +81,13 @@ fn finish<K: Sink>(alloc: Global, answered: &Result<Ending, Unprinted>, output: 
 /// | 0 | the value of the key is shown, the key is added, the file is made, or it is accepted and has `N` keys | `data(N) = "TEXT"`, `ok`, `ok`, `number N` |
 /// | 0 | all pairs are printed, or all keys, or the value of the one key | their dump text, a line for each key, `TEXT` |
 /// | 0 | the first pair is shown, or there is none, or none behind the one shown last | `key(N) = "TEXT" data(N) = "TEXT"`, `end`, `end` |
+/// | 0 | a transaction is started, which is cancelled at the end | `ok` |
 /// | 0 | the file is made of the pairs on the input, or all files are copied | |
 /// | 0 | all files are verified: each was opened, or had a fault and was restored from its copy | `FILE : N records`, behind `restoring FILE` where it was restored |
 /// | 0 | the plays of the script on the input were taken | their report, line by line |
 /// | 0 | the commands on the lines of the input were taken | their replies, one on each line |
 /// | 0 | the file is made, and all generated commands were done on it | their summary, a line for each number |
-/// | 1 | the key isn't there, or is there already | `noexist`, `exists` |
+/// | 1 | the key isn't there, or is there already, or there is no transaction to commit or to cancel | `noexist`, `exists`, `notransaction` |
 /// | 2 | the words ask for nothing | the usage |
 /// | 3 | the file is refused for a fault of its header, or for another fault, or a dump would have to undo a change first | `header KIND`, `corrupt WHAT AT`, `needs recovery` |
 /// | 4 | a call of the files or of a disk failed | `device fault` |
@@ -145,6 +150,14 @@ pub fn run<F: Files, S: Source, K: Sink>(
     // At most the file that is asked for changes, and what stands at the names of a backup or a verification, and they are
     // left as the status says.
     ensures left { IsTrue F.D.tells → LeavesFiles (run_by words.now (F.held files.old) (F.held files.new) (F.faults files.old) (F.faults files.new) (input_by S.tells (S.left input.old) (S.faults input.old) (S.faults input.new)) (output_by K.tells (K.written output.old) (K.written output.new) (K.faults output.old) (K.faults output.new)) result.0) }
+
+    // A stop at any moment of a run of turns leaves a file that opens to a map that their report passes, while nothing is
+    // changed outside a transaction.
+    ensures stops { IsTrue F.D.tells → TurnsStopSafely (run_by words.now (F.held files.old) (F.held files.new) (F.faults files.old) (F.faults files.new) (input_by S.tells (S.left input.old) (S.faults input.old) (S.faults input.new)) (output_by K.tells (K.written output.old) (K.written output.new) (K.faults output.old) (K.faults output.new)) result.0) }
+
+    // A stop at any moment of a session leaves a file that opens to a map that its replies pass, while nothing is changed
+    // outside a transaction.
+    ensures stopped { IsTrue F.D.tells → SessionsStopSafely (run_by words.now (F.held files.old) (F.held files.new) (F.faults files.old) (F.faults files.new) (input_by S.tells (S.left input.old) (S.faults input.old) (S.faults input.new)) (output_by K.tells (K.written output.old) (K.written output.new) (K.faults output.old) (K.faults output.new)) result.0) }
 
     // Whatever the files and the output tell: the usage comes exactly where the words ask for nothing, and each failed
     // call is told.

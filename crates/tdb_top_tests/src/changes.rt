@@ -1,4 +1,4 @@
-// Stores, deletes and erases: what is printed, and what is left of the file.
+// Stores, deletes, erases and the words of transactions: what is printed, and what is left of the file.
 
 use crate::images::{NEW_FILE, ONE_RECORD, change, file_with, one_record};
 use crate::runs::{USAGE, run_on};
@@ -38,6 +38,55 @@ fn changes(rt: HostRuntime) -> Result<(), Fail> {
         ),
         ("tool f.tdb erase", 0, "ok\n", &free, "number 0\n"),
         ("tool f.tdb erase a", 2, USAGE, &record, "number 1\n"),
+        (
+            "tool f.tdb transaction_start",
+            0,
+            "ok\n",
+            &record,
+            "number 1\n",
+        ),
+        (
+            "tool f.tdb transaction_commit",
+            1,
+            "notransaction\n",
+            &record,
+            "number 1\n",
+        ),
+        (
+            "tool f.tdb transaction_cancel",
+            1,
+            "notransaction\n",
+            &record,
+            "number 1\n",
+        ),
+        (
+            "tool f.tdb transaction_start a",
+            2,
+            USAGE,
+            &record,
+            "number 1\n",
+        ),
+        (
+            "tool f.tdb transaction_commit a",
+            2,
+            USAGE,
+            &record,
+            "number 1\n",
+        ),
+        (
+            "tool f.tdb transaction_cancel a",
+            2,
+            USAGE,
+            &record,
+            "number 1\n",
+        ),
+        (
+            "tool g.tdb transaction_start",
+            9,
+            "missing g.tdb\n",
+            &record,
+            "number 1\n",
+        ),
     ] {
         let (found, bytes, now) = run_on(alloc, &record, b"", words, None)?;
         assert_eq!(rt; found, status, "{words}");

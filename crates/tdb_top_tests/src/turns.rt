@@ -215,3 +215,44 @@ fn what_two_stores_leave(rt: HostRuntime) -> Result<(), Fail> {
     }
     Ok(())
 }
+
+/// One opener changes the value of `a` in a transaction.
+const CHANGE: &str = "open\ndo 1 start\ndo 1 store a 9\ndo 1 commit\n";
+
+const OLD: &[u8] = b"data(1) = \"1\"\n";
+
+const NEW: &[u8] = b"data(1) = \"9\"\n";
+
+// Each call of the disk fails in turn: the file opens with the old value or with the new one then, and with the new one
+// where the commit was done.
+#[test]
+fn failing_calls_of_a_commit(rt: HostRuntime) -> Result<(), Fail> {
+    for call in [
+        Call::Len,
+        Call::Read,
+        Call::Write,
+        Call::WriteWord,
+        Call::Grow,
+        Call::Sync,
+    ] {
+        let mut found = 4;
+        for nth in 0..200 {
+            let (status, _, left) = run_script(
+                rt.alloc(),
+                Base::OneRecord,
+                "turns f.tdb",
+                CHANGE,
+                Some((call, nth)),
+            )?;
+            let (_, shown, _) = run_on(rt.alloc(), &left, b"", "tool f.tdb show a", None)?;
+            let shown = shown.as_slice();
+            assert!(rt; shown == NEW || status == 4 && shown == OLD, "{nth}");
+            found = status;
+            if status == 0 {
+                break;
+            }
+        }
+        assert_eq!(rt; found, 0);
+    }
+    Ok(())
+}

@@ -67,6 +67,20 @@ fn opened_gates(rt: HostRuntime) -> Result<(), Fail> {
             "key(1) = \"a\" data(1) = \"1\"\n",
             Some([].as_slice()),
         ),
+        (
+            [].as_slice(),
+            "tool f.tdb transaction_start",
+            0,
+            "ok\n",
+            Some([].as_slice()),
+        ),
+        (
+            [].as_slice(),
+            "tool f.tdb transaction_commit",
+            1,
+            "notransaction\n",
+            Some([].as_slice()),
+        ),
         // An entry that passes the old length, and an undo area behind the end.
         (
             [(4132, 4096)].as_slice(),

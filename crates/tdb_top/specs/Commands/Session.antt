@@ -25,6 +25,7 @@ use Rattle.tdb_top.specs.Input.{Input}
 use Rattle.tdb_top.specs.Opening.{opened_bytes}
 use Rattle.tdb_top.specs.Output.{Output}
 use Rattle.tdb_top.specs.Playing.{OpenedToTurn}
+use Rattle.tdb_top.specs.Safe.{OpensSafely, StopsSince}
 
 -- how its file is opened: so long at most, and else as turns open one without options
 abbrev pub session_options : ℕ → Options
@@ -48,7 +49,7 @@ pub data ServesSo (input : Input) (limit : ℕ) (name : List ℕ) (held : Option
 -- What is printed before the line of an ending: a front of the text of a session over the opened image, or nothing where
 -- none was begun.
 abbrev pub RepliesFront : ℕ → List ℕ → List ℕ → Type 0
-RepliesFront limit img text = (orders : List Order) × (new : State) × SessionCame (form_of img) (session_options limit) img orders new true [] text
+RepliesFront limit img text = (orders : List Order) × (new : State) × SessionCame (form_of img) (session_options limit) img orders new true [] text (λ start lines. Unit {0})
 
 abbrev pub SessionText : ℕ → Option History → Ending → List ℕ → Type 0
 SessionText limit (Some h) (Replied reply) text = RepliesFront limit (opened_bytes (seen h)) text
@@ -65,23 +66,23 @@ StaysThere (Some old) now = (h : History) × (now ≡ Some h)
 
 -- A session over a file was taken to its end: the file was opened, the orders are those that the text of the input asks
 -- for before it ends so, and they were done, with a join before and a close behind them; their text was printed, and the
--- line of the ending behind it, where one tells it.
+-- line of the ending behind it, where one tells it. Stops since it was held leave what opens on the way of their lines.
 pub record IsServed (limit : ℕ) (input : Input) (output : Output) (end : SessionEnd) (old now : History) : Type 0 where
   pub opened : History
   pub is_opened : IsOpened (session_options limit) old opened
   pub orders : List Order
   pub asks : IsTrue input.tells → Session input.text orders end
   pub told : List ℕ
-  pub over : SessionOver (form_of (seen opened)) (session_options limit) (seen opened) orders (seen now) output.tells output.before told
+  pub over : SessionOver (form_of (seen opened)) (session_options limit) (seen opened) orders (seen now) output.tells output.before told (StopsSince (form_of (seen opened)) old now)
   pub line : IsTrue output.tells → output.after ≡ told ++ text_of (of_end end)
 
--- One was taken as far as it came: the text begins by asking for its orders, and the file is left as they say; a front of
--- their text was printed, and maybe more behind it, of the line of the ending.
+-- One was taken as far as it came: the text begins by asking for its orders, and the file is left as they say, by stops
+-- too; a front of their text was printed, and maybe more behind it, of the line of the ending.
 pub record IsServedSoFar (limit : ℕ) (input : Input) (output : Output) (old now : History) : Type 0 where
   pub opened : History
   pub is_opened : IsOpened (session_options limit) old opened
   pub told : List ℕ
-  pub came : CameSo (form_of (seen opened)) (session_options limit) (seen opened) (seen now) input.tells input.text output.tells output.before told
+  pub came : CameSo (form_of (seen opened)) (session_options limit) (seen opened) (seen now) input.tells input.text output.tells output.before told (StopsSince (form_of (seen opened)) old now)
   pub rest : IsTrue output.tells → (more : List ℕ) × (output.after ≡ told ++ more)
 
 -- how a session that ran is told to the run
@@ -97,11 +98,12 @@ pub record SessionOn (limit : ℕ) (input : Input) (old now : History) (told : B
   pub opened : History
   pub opens : OpensToTurn (session_options limit) (seen old)
   pub is_opened : IsOpened (session_options limit) old opened
-  pub ran : SessionRan (form_of (seen opened)) (session_options limit) (seen opened) (seen now) input.tells input.text told before after answer
+  pub safe : OpensSafely old opened
+  pub ran : SessionRan (form_of (seen opened)) (session_options limit) opened now input.tells input.text told before after answer
 
 -- How a session over a file ends that is there: it isn't opened, and nothing is written; or the session runs over it.
 pub data SessionFile (limit : ℕ) (input : Input) (old now : History) (told : Bool) (before after : List ℕ) : Result Ending Unprinted → Type 0 where
-  file_unopened : (halt : Halt) → OpenedToTurn (session_options limit) old now (Err halt) → after ≡ before → SessionFile limit input old now told before after (Ok (of_halt halt))
+  file_unopened : (halt : Halt) → OpenedToTurn (session_options limit) old now (Err halt) → OpensSafely old now → after ≡ before → SessionFile limit input old now told before after (Ok (of_halt halt))
   session_ran : (answer : Result SessionEnd SessionFault) → SessionOn limit input old now told before after answer → SessionFile limit input old now told before after (session_told answer)
 
 -- and how one ends over what is held at the name of its file

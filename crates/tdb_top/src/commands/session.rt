@@ -51,7 +51,7 @@ fn serve_opened<D: Disk, S: Source, K: Sink>(
     requires length { opened.now.len ≡ D.size disk.old }
     requires short { opened.now.len ≤ options.now.limit }
     requires checked { IsTrue D.tells → IsCheckedOn (seen (D.history disk.old)) opened.now }
-    ensures ran { IsTrue D.tells → SessionRan (form_of (seen (D.history disk.old))) options.now (seen (D.history disk.old)) (seen (D.history disk.new)) S.tells (S.left input.old) K.tells (K.written output.old) (K.written output.new) result }
+    ensures ran { IsTrue D.tells → SessionRan (form_of (seen (D.history disk.old))) options.now (D.history disk.old) (D.history disk.new) S.tells (S.left input.old) K.tells (K.written output.old) (K.written output.new) result }
     ensures rises { D.faults disk.old ≤ D.faults disk.new }
     ensures quiet { UnlessBroken (fault_of result) (D.faults disk.new ≡ D.faults disk.old) }
     ensures rose { IsTrue D.tells → OnBroken (fault_of result) (Rose (D.faults disk.old) (D.faults disk.new)) }

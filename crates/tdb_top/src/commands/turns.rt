@@ -15,10 +15,12 @@ ghost use Rattle.tdb_top.specs.Commands.Turns as T;
 ghost use Rattle.tdb_top.specs.Ending.{CountedIf};
 ghost use Rattle.tdb_top.specs.Input.{input_by};
 ghost use Rattle.tdb_top.specs.Looks.{ending_of, Began};
-ghost use Rattle.tdb_top.specs.Opening.{IsCheckedOn};
+ghost use Rattle.tdb_top.specs.Opening.{opened_bytes, IsCheckedOn};
 ghost use Rattle.tdb_top.specs.Output.{output_by};
 ghost use Rattle.tdb_top.specs.Playing.{OpenedToTurn, PlayedOver, PlayedFile, PlayedAll, PlaysCause, UnlessBroken, OnBroken};
 ghost use Rattle.tdb_top.specs.Reads.{AskCause};
+ghost use Rattle.tdb_top.specs.Safe.{OpensSafely};
+ghost use Rattle.tdb_top.specs.Stops.{StopsHeld, StopsOfTurns};
 
 use crate::ending::{Ending, Reply, Unprinted};
 use crate::halt::{Fault, Halt, Refusal};
@@ -35,6 +37,7 @@ fn open_as_asked<D: Disk>(alloc: Global, options: &Options, disk: &mut D) -> Res
     ensures opened { IsTrue D.tells → length (seen (D.history disk.old)) ≤ options.now.limit → OpenedToTurn options.now (D.history disk.old) (D.history disk.new) result }
     ensures checked { IfOk result (λ o. IsTrue D.tells → IsCheckedOn (seen (D.history disk.new)) o) }
     ensures length { IfOk result (λ o. o.len ≡ D.size disk.new) }
+    ensures stops { IsTrue D.tells → OpensSafely (D.history disk.old) (D.history disk.new) }
     ensures cause { HasCauseOf Device (D.faults disk.old) (D.faults disk.new) result }
 {
     if options.read_only {
@@ -54,6 +57,7 @@ pub(crate) fn open_to_turn<D: Disk>(
     ensures opened { IsTrue D.tells → OpenedToTurn options.now (D.history disk.old) (D.history disk.new) result }
     ensures checked { IfOk result (λ o. IsTrue D.tells → IsCheckedOn (seen (D.history disk.new)) o) }
     ensures length { IfOk result (λ o. o.len ≡ D.size disk.new) }
+    ensures stops { IsTrue D.tells → OpensSafely (D.history disk.old) (D.history disk.new) }
     ensures short { IfOk result (λ o. o.len ≤ options.now.limit) }
     ensures cause { HasCauseOf Device (D.faults disk.old) (D.faults disk.new) result }
 {
@@ -90,6 +94,7 @@ fn play_opened<D: Disk, K: Sink>(
     ensures rises { D.faults disk.old ≤ D.faults disk.new }
     ensures quiet { UnlessBroken result (D.faults disk.new ≡ D.faults disk.old) }
     ensures rose { IsTrue D.tells → OnBroken result (Rose (D.faults disk.old) (D.faults disk.new)) }
+    ensures stops { IsTrue D.tells → StopsOfTurns (form_of (seen (D.history disk.old))) options.now (D.history disk.old) (D.history disk.new) K.tells (result ≡ Ok (Ok tt)) (K.written output.old) (K.written output.new) }
     ensures cause { HasCause (K.faults output.old) (K.faults output.new) result }
 {
     play_all(alloc, disk, &opened.header, options, plays, output)
@@ -106,6 +111,8 @@ fn play_on_disk<D: Disk, K: Sink>(
     requires limit { options.now.limit ≤ 4294963200 }
     requires playable { ArePlayable plays.now }
     ensures played { IsTrue D.tells → PlayedFile options.now (D.history disk.old) (D.history disk.new) plays.now K.tells (K.written output.old) (K.written output.new) result }
+    ensures stops { IsTrue D.tells → T.OpensToTurn options.now (seen (D.history disk.old))
+        → StopsOfTurns (form_of (opened_bytes (seen (D.history disk.old)))) options.now (D.history disk.old) (D.history disk.new) K.tells (result ≡ Ok (Replied Played)) (K.written output.old) (K.written output.new) }
     ensures counted { CountedIf D.tells (D.faults disk.old) (D.faults disk.new) (ending_of result) }
     ensures cause { HasCause (K.faults output.old) (K.faults output.new) result }
     ensures asked { ending_of result ≡ Usage → ⊥ }
@@ -136,6 +143,7 @@ fn play_on_file<F: Files, K: Sink>(
     requires free { (other : List ℕ) → F.is_taken files.old other ≡ false }
     ensures cause { IsTrue F.D.tells → PlaysCause options.now name.now (F.held files.old name.now) (F.faults files.old) (F.faults files.new) (ending_of result) }
     ensures left { IsTrue F.D.tells → T.TurnsLeave options.now (F.held files.old name.now) (ending_of result) (F.held files.new name.now) }
+    ensures stops { IsTrue F.D.tells → StopsHeld options.now (F.held files.old name.now) (F.held files.new name.now) K.tells (result ≡ Ok (Replied Played)) (K.written output.old) (K.written output.new) }
     ensures others { SameBut name.now (F.held files.old) (F.held files.new) }
     ensures given_back { (other : List ℕ) → F.is_taken files.new other ≡ false }
     ensures counted { CountedIf F.D.tells (F.faults files.old) (F.faults files.new) (ending_of result) }
@@ -174,6 +182,7 @@ pub(crate) fn turns_on_file<F: Files, S: Source, K: Sink>(
     requires free { (other : List ℕ) → F.is_taken files.old other ≡ false }
     ensures cause { IsTrue F.D.tells → AskCause (input_by S.tells (S.left input.old) (S.faults input.old) (S.faults input.new)) (Turns options.now) name.now (F.held files.old name.now) (F.faults files.old) (F.faults files.new) (ending_of result) }
     ensures left { IsTrue F.D.tells → T.TurnsLeave options.now (F.held files.old name.now) (ending_of result) (F.held files.new name.now) }
+    ensures stops { IsTrue F.D.tells → StopsHeld options.now (F.held files.old name.now) (F.held files.new name.now) K.tells (result ≡ Ok (Replied Played)) (K.written output.old) (K.written output.new) }
     ensures others { SameBut name.now (F.held files.old) (F.held files.new) }
     ensures given_back { (other : List ℕ) → F.is_taken files.new other ≡ false }
     ensures counted { CountedIf F.D.tells (F.faults files.old) (F.faults files.new) (ending_of result) }

@@ -1,11 +1,14 @@
-use Rattle.std.proofs.Common.{◌≡◌, true, subst, rules}
+use Rattle.std.proofs.Common.{◌≡◌, [], true, Ok, sym, subst, rules}
 use Rattle.tdb_words.specs.declared.header.Header.{Header}
 use Rattle.tdb_disk.specs.History.{seen}
 use Rattle.tdb_law.specs.World.{State, HasFewChains}
 use Rattle.tdb_plays.specs.declared.options.Options.{Options}
+use Rattle.tdb_space.specs.Accepted.{AcceptWith}
 use Rattle.tdb_space.specs.Form.{form_in}
 use Rattle.tdb_top.specs.Playing.{IsJustLoaded, PlayedOver}
+use Rattle.tdb_top.specs.Stops.{StopsOfTurns}
 use Rattle.tdb_top.proofs.Over.{just_loaded}
+use Rattle.tdb_top.proofs.StopsTurning.{turns_of}
 use Rattle.tdb_top.proofs.playing.play_all.Goals as goal
 use Rattle.tdb_top.proofs.playing.play_all.Goals.{After-new-world}
 
@@ -34,3 +37,15 @@ pub returns-clause-rose : goal.returns-clause-rose
 returns-clause-rose g c told =
     let j = just g ((goal.at.returns-clause-rose g c).After-new-world) told in
     c.play_in-played.ensures.rose told j.0 j.1
+
+-- what stops leave
+pub returns-clause-stops : goal.returns-clause-stops
+returns-clause-stops g c told =
+    let h = g.D.Disk.history c.args.disk.now in
+    let now = g.D.Disk.history c.play_in-played.new.disk in
+    let before = g.K.Sink.written c.args.output.now in
+    let after = g.K.Sink.written c.play_in-played.new.output in
+    let j = just g ((goal.at.returns-clause-stops g c).After-new-world) told in
+    let done = c.play_in-played.result ≡ Ok (Ok tt) in
+    subst (λ (q : Header × Options). StopsOfTurns (form_in q.0) q.1 h now g.K.Sink.tells done before after) (λ i. (c.new-world.ensures.header i, c.new-world.ensures.options i))
+    (turns_of c.new-world.result h now g.D.Disk.tells g.K.Sink.tells done before after j.0 j.1 (subst (λ q. AcceptWith (form_in q) (seen h) []) (sym c.new-world.ensures.header) (c.requires.accepted told)) told c.play_in-played.ensures.stops)

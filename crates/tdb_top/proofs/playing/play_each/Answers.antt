@@ -1,7 +1,10 @@
-use Rattle.std.proofs.Common.{◌≡◌, ◌+◌, ◌-◌, ◌∙◌, take, drop, Ok, Err, refl, subst}
+use Rattle.std.proofs.Common.{◌≡◌, ◌+◌, ◌-◌, ◌∙◌, take, drop, Ok, Err, refl, ap, subst}
 use Rattle.std.proofs.lemmas.List.{take_all}
 use Rattle.std.proofs.lemmas.Result.{err_from_is_err_and}
+use Rattle.tdb_space.specs.Form.{form_in}
 use Rattle.tdb_top.specs.Playing.{Scene, scene, Ran, PlaysEnd}
+use Rattle.tdb_top.specs.Stops.{StopsTold}
+use Rattle.tdb_top.proofs.Stopping.{stops_none, stops_on}
 use Rattle.tdb_top.proofs.Coming.{ran_none, ran_on, ran_off, next_slice, slice_more}
 use Rattle.tdb_top.proofs.playing.play_each.Goals as goal
 use Rattle.tdb_top.proofs.playing.play_each.Goals.{After-play_some}
@@ -13,6 +16,8 @@ play_some-requires-clause-fits g c = c.loop-i.invariant.ran.fits
 pub loop-i-init : goal.loop-i-init
 loop-i-init g c = record {
   ran = ran_none g.D.Disk.tells g.K.Sink.tells (scene c.args.world.now (g.D.Disk.history c.args.disk.now) (g.D.Disk.size c.args.disk.now) (g.D.Disk.faults c.args.disk.now) (g.K.Sink.written c.args.output.now)) c.requires.fits;
+  stops = stops_none g.D.Disk.tells g.K.Sink.tells
+      (scene c.args.world.now (g.D.Disk.history c.args.disk.now) (g.D.Disk.size c.args.disk.now) (g.D.Disk.faults c.args.disk.now) (g.K.Sink.written c.args.output.now));
   out = refl;
 }
 
@@ -39,6 +44,25 @@ broken g c answer other next =
     subst (λ ps. Ran g.D.Disk.tells g.K.Sink.tells (start g c) (last g c) ps answer) (next_slice c.args.plays.now c.loop-i.i)
     (ran_off g.D.Disk.tells g.K.Sink.tells (start g c) (mid g c) (last g c) (take c.loop-i.i c.args.plays.now) (take (c.loop-i.i + 1 - c.loop-i.i) (drop c.loop-i.i c.args.plays.now)) c.loop-i.invariant.ran (drop (c.loop-i.i + 1) c.args.plays.now) answer other next)
 
+-- what stops leave of them
+stopped : (g : _) (c : After-play_some g) (answer : PlaysEnd) → StopsTold g.D.Disk.tells g.K.Sink.tells (mid g c) (last g c) answer
+    → StopsTold g.D.Disk.tells g.K.Sink.tells (start g c) (last g c) answer
+stopped g c answer next = stops_on g.D.Disk.tells g.K.Sink.tells (start g c) (mid g c) (last g c) (ap form_in c.loop-i.invariant.ran.header) answer c.loop-i.invariant.stops next
+
+pub returns-in_err-play_some-clause-stops : goal.returns-in_err-play_some-clause-stops
+returns-in_err-play_some-clause-stops g c =
+    let q = err_from_is_err_and c.from_residual.result c.from_residual.ensures.1 in
+    rw (q.1, q.2)
+    (stopped g ((goal.at.returns-in_err-play_some-clause-stops g c).After-play_some) (Err c.in_err-play_some.field-0.0) c.in_err-play_some.ensures.stops)
+
+pub returns-in-Err-clause-stops : goal.returns-in-Err-clause-stops
+returns-in-Err-clause-stops g c =
+    let a = (goal.at.returns-in-Err-clause-stops g c).After-play_some in
+    stopped g a (Ok (Err c.in-Err.fault)) (subst (λ r. StopsTold g.D.Disk.tells g.K.Sink.tells (mid g a) (last g a) (Ok r)) c.in-Err.is c.in_ok-play_some.ensures.stops)
+
+pub returns-clause-stops : goal.returns-clause-stops
+returns-clause-stops g c = c.loop-i.invariant.stops
+
 pub returns-in_err-play_some-clause-ran : goal.returns-in_err-play_some-clause-ran
 returns-in_err-play_some-clause-ran g c =
     let q = err_from_is_err_and c.from_residual.result c.from_residual.ensures.1 in
@@ -59,5 +83,6 @@ loop-i-preserved g c =
       ran = subst (λ ps. Ran g.D.Disk.tells g.K.Sink.tells (start g a) (last g a) ps (Ok (Ok tt))) (slice_more c.args.plays.now c.loop-i.i)
           (ran_on g.D.Disk.tells g.K.Sink.tells (start g a) (mid g a) (last g a) (take c.loop-i.i c.args.plays.now) (take (c.loop-i.i + 1 - c.loop-i.i) (drop c.loop-i.i c.args.plays.now)) c.loop-i.invariant.ran
           (subst (λ r. Ran g.D.Disk.tells g.K.Sink.tells (mid g a) (last g a) (take (c.loop-i.i + 1 - c.loop-i.i) (drop c.loop-i.i c.args.plays.now)) (Ok r)) c.in-Ok.is c.in_ok-play_some.ensures.ran));
+      stops = stopped g a (Ok (Ok tt)) (subst (λ r. StopsTold g.D.Disk.tells g.K.Sink.tells (mid g a) (last g a) (Ok r)) c.in-Ok.is c.in_ok-play_some.ensures.stops);
       out = c.in_ok-play_some.ensures.cause.done ∙ c.loop-i.invariant.out;
     }

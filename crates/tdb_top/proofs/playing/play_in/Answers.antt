@@ -1,4 +1,4 @@
-use Rattle.std.proofs.Common.{◌≡◌, ◌∙◌, true, Ok, Err, ap, subst}
+use Rattle.std.proofs.Common.{◌≡◌, ◌∙◌, true, Ok, Err, length, sym, ap, subst}
 use Rattle.std.proofs.lemmas.Result.{err_from_is_err_and}
 use Rattle.tdb_disk.specs.Count.{Rose}
 use Rattle.tdb_disk.specs.History.{seen}
@@ -9,9 +9,10 @@ use Rattle.tdb_whole.specs.States.{IsStateOf}
 use Rattle.tdb_whole.specs.Whole.{form_at, options_at, WorldFits}
 use Rattle.tdb_whole.proofs.Reopening.{state_reopens}
 use Rattle.tdb_course.proofs.Finishing.{report_lawful, ends_alike}
-use Rattle.tdb_top.specs.Playing.{PlaysEnd, UnlessBroken, OnBroken, RunsTo, PlayedOver, IsJustLoaded}
+use Rattle.tdb_top.specs.Playing.{PlaysEnd, UnlessBroken, OnBroken, RunsTo, PlayedOver, IsJustLoaded, Scene, scene}
 use Rattle.tdb_top.proofs.Coming.{unless_map}
 use Rattle.tdb_top.proofs.Over.{broken_off, finished}
+use Rattle.tdb_top.proofs.Stopping.{only_unfinished, stops_broken, stops_finished}
 use Rattle.tdb_top.proofs.playing.play_in.Goals as goal
 use Rattle.tdb_top.proofs.playing.play_in.Goals.{After-play_each}
 
@@ -70,3 +71,30 @@ returns-in-Ok-clause-played g c told state just =
     finished (form_at c.args.world.now) (options_at c.args.world.now) (seen (g.D.Disk.history c.args.disk.now)) c.args.plays.now state just.loaded just.over g.K.Sink.tells
     p.0 e.lines (ends_alike c.play_each.new.world (seen h) (g.D.Disk.size c.play_each.new.disk) h p.0 e.lines fits p.1 e.is_end) (seen h) (g.K.Sink.written c.args.output.now) (g.K.Sink.written c.play_each.new.output) (g.K.Sink.written c.tell_unfinished.new.output) read p.2 report_lawful
     c.tell_unfinished.result c.tell_unfinished.ensures.unbroken e.whole e.front
+
+-- before the plays and after them
+abbrev start : (g : _) (c : After-play_each g) → Scene
+start g c = scene c.args.world.now (g.D.Disk.history c.args.disk.now) (g.D.Disk.size c.args.disk.now) (g.D.Disk.faults c.args.disk.now) (g.K.Sink.written c.args.output.now)
+
+abbrev last : (g : _) (c : After-play_each g) → Scene
+last g c = scene c.play_each.new.world (g.D.Disk.history c.play_each.new.disk) (g.D.Disk.size c.play_each.new.disk) (g.D.Disk.faults c.play_each.new.disk) (g.K.Sink.written c.play_each.new.output)
+
+-- what stops leave of them
+pub returns-in_err-play_each-clause-stops : goal.returns-in_err-play_each-clause-stops
+returns-in_err-play_each-clause-stops g c =
+    let a = (goal.at.returns-in_err-play_each-clause-stops g c).After-play_each in
+    let q = err_from_is_err_and c.from_residual.result c.from_residual.ensures.1 in
+    stops_broken g.D.Disk.tells g.K.Sink.tells (start g a) (last g a) c.play_each.result c.play_each.ensures.stops _ (λ is. (let wrong : Err q.0 ≡ Ok (Ok tt) = sym q.1 ∙ is in cc))
+
+pub returns-in-Err-clause-stops : goal.returns-in-Err-clause-stops
+returns-in-Err-clause-stops g c =
+    let a = (goal.at.returns-in-Err-clause-stops g c).After-play_each in
+    let answer : PlaysEnd = Ok (Err c.in-Err.fault) in
+    stops_broken g.D.Disk.tells g.K.Sink.tells (start g a) (last g a) c.play_each.result c.play_each.ensures.stops (answer ≡ Ok (Ok tt)) (λ is. cc)
+
+pub returns-in-Ok-clause-stops : goal.returns-in-Ok-clause-stops
+returns-in-Ok-clause-stops g c =
+    let a = (goal.at.returns-in-Ok-clause-stops g c).After-play_each in
+    let e = c.tell_unfinished.ensures.told in
+    stops_finished g.D.Disk.tells g.K.Sink.tells (start g a) (last g a) c.play_each.result c.play_each.ensures.stops (c.tell_unfinished.result ≡ Ok (Ok tt)) e.lines (g.K.Sink.written c.tell_unfinished.new.output)
+    (only_unfinished c.play_each.new.world 0 (length c.play_each.new.world.openers.openers) e.lines e.is_end) (c.in_ok-play_each.was ∙ ap Ok c.in-Ok.is) e.whole e.front

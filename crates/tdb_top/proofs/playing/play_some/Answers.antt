@@ -1,6 +1,8 @@
 use Rattle.std.proofs.Common.{sym, subst}
 use Rattle.tdb_top.specs.Playing.{scene, Ran}
+use Rattle.tdb_top.specs.Stops.{StopsTold}
 use Rattle.tdb_top.proofs.Coming.{ran_of}
+use Rattle.tdb_top.proofs.Stopping.{stops_of}
 use Rattle.tdb_top.proofs.playing.play_some.Goals as goal
 
 -- plays were taken, and then told
@@ -15,3 +17,18 @@ returns-clause-ran g c =
     subst (Ran g.D.Disk.tells g.K.Sink.tells (scene a (g.D.Disk.history old) (g.D.Disk.size old) (g.D.Disk.faults old) w0) (scene b (g.D.Disk.history now) (g.D.Disk.size now) (g.D.Disk.faults now) w1) c.args.plays.now) (sym c.ended.ensures)
     (ran_of g.D.Disk.tells g.K.Sink.tells a b (g.D.Disk.history old) (g.D.Disk.history now) (g.D.Disk.size old) (g.D.Disk.size now) (g.D.Disk.faults old) (g.D.Disk.faults now) c.new-report.result.lines c.run-played.new.report.lines c.new-report.ensures
     c.args.plays.now w0 w1 c.run-played.result c.tell-told.result c.run-played.ensures.led c.tell-told.ensures.whole c.tell-told.ensures.front)
+
+-- what stops leave
+pub returns-clause-stops : goal.returns-clause-stops
+returns-clause-stops g c =
+    let a = c.args.world.now in
+    let b = c.run-played.new.world in
+    let old = c.args.disk.now in
+    let now = c.run-played.new.d in
+    let w0 = g.K.Sink.written c.args.output.now in
+    let w1 = g.K.Sink.written c.tell-told.new.output in
+    subst (StopsTold g.D.Disk.tells g.K.Sink.tells (scene a (g.D.Disk.history old) (g.D.Disk.size old) (g.D.Disk.faults old) w0)
+    (scene b (g.D.Disk.history now) (g.D.Disk.size now) (g.D.Disk.faults now) w1)) (sym c.ended.ensures)
+    (stops_of g.D.Disk.tells g.K.Sink.tells a b (g.D.Disk.history old) (g.D.Disk.history now) (g.D.Disk.size old) (g.D.Disk.size now) (g.D.Disk.faults old) (g.D.Disk.faults now)
+    c.new-report.result.lines c.run-played.new.report.lines c.new-report.ensures
+    w0 w1 c.run-played.result c.tell-told.result c.run-played.ensures.stops c.tell-told.ensures.whole c.tell-told.ensures.front)

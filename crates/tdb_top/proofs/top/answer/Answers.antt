@@ -1,18 +1,22 @@
-use Rattle.std.proofs.Common.{map, string_bytes, refl, ap, ◌∙◌, subst}
-use Rattle.std.specs.Prelude.{IsTrue}
-use Rattle.tdb_top.specs.declared.ending.Ending.TheVariants.{Usage, NoMemory}
+use Rattle.std.proofs.Common.{◌≡◌, Option, Some, Ok, map, string_bytes, refl, ap, ◌∙◌, subst}
+use Rattle.std.specs.Prelude.{IsTrue, unwrap_or}
+use Rattle.tdb_ask.specs.declared.ask.Task.TheVariants.{Turns}
+use Rattle.tdb_top.specs.declared.ending.Ending.TheVariants.{Replied, Usage, NoMemory}
+use Rattle.tdb_top.specs.declared.ending.Reply.TheVariants.{Played}
 use Rattle.tdb_top.specs.Ending.{Due}
 use Rattle.tdb_top.specs.Input.{input_by}
 use Rattle.tdb_top.specs.Reads.{ask_reads}
 use Rattle.tdb_top.specs.Looks.{ending_of, Began}
 use Rattle.tdb_top.specs.Printed.{TaskText, TextBefore, ask_tells}
 use Rattle.tdb_top.specs.Run.{is_due, memory_wanting}
-use Rattle.tdb_ask.specs.Ask.{asked, ask_of}
+use Rattle.tdb_ask.specs.Ask.{Ask, asked, ask_of}
 use Rattle.tdb_top.specs.Left.{Leaving}
+use Rattle.tdb_top.specs.Stops.{StopsHeld}
 use Rattle.tdb_top.proofs.Acting.{words_want, not_heard}
 use Rattle.tdb_top.proofs.Looking.{nothing, began_as}
 use Rattle.tdb_top.proofs.Runs.{asked_cause}
 use Rattle.tdb_top.proofs.Sessions.{wants_held}
+use Rattle.tdb_top.proofs.StopsTurning.{same_stops}
 use Rattle.tdb_top.proofs.Writing.{nothing_before}
 use Rattle.tdb_top.proofs.top.answer.Goals as goal
 
@@ -61,6 +65,22 @@ returns-in-Err-clause-served g c limit name asks told =
     let n = g.S.Source.faults c.args.input.now in
     let held = g.F.Files.held c.args.files.now name in
     wants_held limit (input_by g.S.Source.tells (g.S.Source.left c.args.input.now) n n) name held held held g.K.Sink.tells (g.K.Sink.written c.args.output.now) refl
+
+-- what stops leave of a file of turns
+pub returns-in-Ok-Some-clause-stops : goal.returns-in-Ok-Some-clause-stops
+returns-in-Ok-Some-clause-stops g c options name asks told =
+    let ask = asked c.in-Ok-Some.ask in
+    let turns : Ask = record { file = name; task = Turns options } in
+    let one : Some ask ≡ Some turns = (rw c.in-Ok-Some.field-0-is at c.in-Ok-Some.ensures.read) ∙ asks in
+    let same : ask ≡ turns = ap (λ (o : Option Ask). unwrap_or o turns) one in
+    subst (λ n. StopsHeld options (g.F.Files.held c.args.files.now n) (g.F.Files.held c.answer_ask.new.files n) g.K.Sink.tells (c.answer_ask.result ≡ Ok (Replied Played))
+    (g.K.Sink.written c.args.output.now) (g.K.Sink.written c.answer_ask.new.output))
+    (ap (λ (a : Ask). a.file) same) (c.answer_ask.ensures.stops options (ap (λ (a : Ask). a.task) same) told)
+
+pub returns-in-Err-clause-stops : goal.returns-in-Err-clause-stops
+returns-in-Err-clause-stops g c options name asks told =
+    let held = g.F.Files.held c.args.files.now name in
+    same_stops options held held g.K.Sink.tells _ (g.K.Sink.written c.args.output.now) refl
 
 -- what is heard of the input
 pub returns-in-Ok-Some-clause-unread : goal.returns-in-Ok-Some-clause-unread

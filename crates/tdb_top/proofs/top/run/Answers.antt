@@ -1,11 +1,16 @@
-use Rattle.std.proofs.Common.{◌≡◌, true}
+use Rattle.std.proofs.Common.{◌≡◌, true, Ok}
+use Rattle.std.specs.Prelude.{IsTrue}
+use Rattle.tdb_top.specs.declared.ending.Ending.TheVariants.{Replied}
+use Rattle.tdb_top.specs.declared.ending.Reply.TheVariants.{Played}
 use Rattle.tdb_top.specs.Output.{output_by}
 use Rattle.tdb_top.specs.Input.{input_by}
 use Rattle.tdb_top.specs.Looks.{ending_of}
 use Rattle.tdb_top.specs.Run.{Run, Cause, run_by}
 use Rattle.tdb_top.proofs.Runs.{Printed, exits, silent_exits, printed_caused, exactly, refuses_exactly, summary_shown, asked_counted, asked_failed, asked_sound, leaves_files, accounted}
 use Rattle.tdb_top.proofs.SessionRuns.{session_by}
-use Rattle.tdb_top.proofs.Whole.{whole_by}
+use Rattle.tdb_top.proofs.SessionsStopped.{held_served}
+use Rattle.tdb_top.proofs.StopsTurning.{line_behind, stops_when}
+use Rattle.tdb_top.proofs.Whole.{whole_by, zero_played}
 use Rattle.tdb_top.proofs.Writing.{written}
 use Rattle.tdb_top.proofs.top.run.Goals as goal
 use Rattle.tdb_top.proofs.top.run.Goals.{After-finish}
@@ -64,6 +69,33 @@ returns-clause-left g c told =
     (exits g.F.D.Disk.tells r c.finish.ensures.0 (ending_of c.answer-answered.result) c.finish.ensures.1 (prints g a))
     (r.old name) (r.now name) (c.answer-answered.ensures.served limit name asks told) old now there left))
     (λ commands seed name text. summary_shown g.F.D.Disk.tells (ran g a) c.finish.ensures.0 (ending_of c.answer-answered.result) commands seed name text c.finish.ensures.1 (prints g a))
+
+pub returns-clause-stops : goal.returns-clause-stops
+returns-clause-stops g c told options name asks =
+    let r = ran g ((goal.at.returns-clause-stops g c).After-finish) in
+    let first = g.K.Sink.written c.args.output.now in
+    let text = g.K.Sink.written c.answer-answered.new.output in
+    let last = g.K.Sink.written c.finish.new.output in
+    let f1 = g.K.Sink.faults c.answer-answered.new.output in
+    let f2 = g.K.Sink.faults c.finish.new.output in
+    let answered = c.answer-answered.result in
+    let zero : r.status ≡ 0 → (answered ≡ Ok (Replied Played)) × (IsTrue g.K.Sink.tells → last ≡ text) =
+    zero_played options r.input g.K.Sink.tells first text last (g.K.Sink.faults c.args.output.now) f1 f2 r.ask name r.old r.faults_before r.faults_after answered c.finish.ensures.0 c.finish.result.0
+    asks (c.answer-answered.ensures.cause told) c.finish.ensures.1 c.finish.ensures.2 in (
+      text,
+      line_behind g.K.Sink.tells text last f1 f2 answered c.finish.ensures.0 c.finish.result.0 c.finish.ensures.2,
+      λ is. (zero is).1,
+      stops_when options (r.old name) (r.now name) g.K.Sink.tells (answered ≡ Ok (Replied Played)) (r.status ≡ 0) first text (λ is. (zero is).0) (c.answer-answered.ensures.stops options name asks told),
+    )
+
+pub returns-clause-stopped : goal.returns-clause-stopped
+returns-clause-stopped g c told limit name asks =
+    let r = ran g ((goal.at.returns-clause-stopped g c).After-finish) in
+    let text = g.K.Sink.written c.answer-answered.new.output in (
+      text,
+      line_behind g.K.Sink.tells text (g.K.Sink.written c.finish.new.output) (g.K.Sink.faults c.answer-answered.new.output) (g.K.Sink.faults c.finish.new.output) c.answer-answered.result c.finish.ensures.0 c.finish.result.0 c.finish.ensures.2,
+      held_served limit r.input g.K.Sink.tells (g.K.Sink.written c.args.output.now) text c.answer-answered.result (r.old name) (r.now name) (c.answer-answered.ensures.served limit name asks told),
+    )
 
 pub returns-clause-accounted : goal.returns-clause-accounted
 returns-clause-accounted g c =

@@ -16,7 +16,7 @@ returns-in-Err-clause-served g c told =
     let w = g.K.Sink.written c.args.output.now in
     let n = g.S.Source.faults c.args.input.now in
     subst (λ e. SessionFile c.args.limit (input_by g.S.Source.tells (g.S.Source.left c.args.input.now) n n) old now g.K.Sink.tells w w (Ok e)) (sym c.from.ensures)
-    (file_unopened c.in-Err.halt (subst (λ o. OpenedToTurn o old now (Err c.in-Err.halt)) c.options_within-options.ensures (c.in-Err.ensures.opened told)) refl)
+    (file_unopened c.in-Err.halt (subst (λ o. OpenedToTurn o old now (Err c.in-Err.halt)) c.options_within-options.ensures (c.in-Err.ensures.opened told)) (c.in-Err.ensures.stops told) refl)
 
 -- it was, and the session ran over it
 pub returns-clause-served : goal.returns-clause-served
@@ -33,5 +33,6 @@ returns-clause-served g c told =
       opened = opened;
       opens = subst (λ o. OpensToTurn o (seen old)) is (c.in-Ok.ensures.opened told).0;
       is_opened = subst (λ o. IsOpened o old opened) is (c.in-Ok.ensures.opened told).1;
-      ran = subst (λ o. SessionRan (form_of (seen opened)) o (seen opened) (seen now) g.S.Source.tells left g.K.Sink.tells before after c.serve_opened.result) is (c.serve_opened.ensures.ran told);
+      safe = c.in-Ok.ensures.stops told;
+      ran = subst (λ o. SessionRan (form_of (seen opened)) o opened now g.S.Source.tells left g.K.Sink.tells before after c.serve_opened.result) is (c.serve_opened.ensures.ran told);
     }))

@@ -2,6 +2,7 @@ use Rattle.std.proofs.Common.{sym, subst}
 use Rattle.std.specs.Prelude.{IsTrue, IfOk}
 use Rattle.tdb_disk.specs.History.{History, seen}
 use Rattle.tdb_top.specs.Opening.{IsCheckedOn}
+use Rattle.tdb_top.proofs.Openings.{still_safe}
 use Rattle.tdb_top.proofs.Turning.{read_result, turn_result}
 use Rattle.tdb_top.proofs.commands.turns.open_as_asked.Goals as goal
 
@@ -18,3 +19,10 @@ returns-then-options-clause-opened g c told within =
 pub returns-clause-opened : goal.returns-clause-opened
 returns-clause-opened g c told within =
     turn_result c.args.options.now (g.D.Disk.history c.args.disk.now) (g.D.Disk.history c.open.new.disk) within (IsTrue g.D.Disk.tells) told c.open.result c.if-options.false c.open.ensures.opened c.open.ensures.reads c.open.ensures.left c.open.ensures.refused c.open.ensures.halted
+
+-- what stops leave
+pub returns-then-options-clause-stops : goal.returns-then-options-clause-stops
+returns-then-options-clause-stops g c told = still_safe (g.D.Disk.history c.args.disk.now) (g.D.Disk.history c.open_to_read.new.disk) c.open_to_read.ensures.history
+
+pub returns-clause-stops : goal.returns-clause-stops
+returns-clause-stops g c told = c.open.ensures.stops told

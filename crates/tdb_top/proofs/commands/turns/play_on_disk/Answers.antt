@@ -2,8 +2,14 @@ use Rattle.std.proofs.Common.{◌≡◌, ◌∙◌, true, Ok, Err, refl, sym, ap
 use Rattle.std.proofs.lemmas.Result.{err_from_is_err_and}
 use Rattle.tdb_disk.specs.History.{seen}
 use Rattle.tdb_space.specs.Form.{form_of}
+use Rattle.tdb_top.specs.declared.ending.Ending.TheVariants.{Replied, DeviceFault, NoMemory}
+use Rattle.tdb_top.specs.declared.ending.Reply.TheVariants.{Played}
 use Rattle.tdb_top.specs.declared.halt.Fault.TheVariants as F
 use Rattle.tdb_top.specs.Playing.{PlaysEnd, PlayedOver, PlayedOn, PlayedFile, file_unplayed, file_played}
+use Rattle.tdb_top.specs.Commands.Turns.{OpensToTurn}
+use Rattle.tdb_top.specs.Opening.{opened_bytes}
+use Rattle.tdb_top.specs.Stops.{StopsOfTurns}
+use Rattle.tdb_top.proofs.StopsTurning.{unopened_stops, opened_stops}
 use Rattle.tdb_top.proofs.commands.turns.play_on_disk.Goals as goal
 use Rattle.tdb_top.proofs.commands.turns.play_on_disk.Goals.{After-play_opened}
 
@@ -44,3 +50,31 @@ returns-in-Err-Device-clause-played g c told =
 pub returns-in-Err-Memory-clause-played : goal.returns-in-Err-Memory-clause-played
 returns-in-Err-Memory-clause-played g c told =
     file_played (Ok (Err F.Memory)) (on g ((goal.at.returns-in-Err-Memory-clause-played g c).After-play_opened) told (Ok (Err F.Memory)) (c.in_ok-play_opened.was ∙ ap Ok (c.in-Err-Memory.is ∙ ap Err c.in-Err-Memory.field-0-is)))
+
+-- what stops leave where it wasn't opened
+pub returns-in-Err-clause-stops : goal.returns-in-Err-clause-stops
+returns-in-Err-clause-stops g c told opens =
+    unopened_stops c.args.options.now (g.D.Disk.history c.args.disk.now) (g.D.Disk.history c.open_to_turn.new.disk) g.K.Sink.tells _ (g.K.Sink.written c.args.output.now) opens.can_open (c.in-Err.ensures.stops told)
+
+-- and where it was
+stopped : (g : _) (c : After-play_opened g) (done : Type 0) → (done → c.play_opened.result ≡ Ok (Ok tt)) → g.D.Disk.tells ≡ true → OpensToTurn c.args.options.now (seen (g.D.Disk.history c.args.disk.now))
+    → StopsOfTurns (form_of (opened_bytes (seen (g.D.Disk.history c.args.disk.now)))) c.args.options.now (g.D.Disk.history c.args.disk.now) (g.D.Disk.history c.play_opened.new.disk) g.K.Sink.tells done (g.K.Sink.written c.args.output.now) (g.K.Sink.written c.play_opened.new.output)
+stopped g c done to told opens =
+    opened_stops c.args.options.now (g.D.Disk.history c.args.disk.now) (g.D.Disk.history c.open_to_turn.new.disk) (g.D.Disk.history c.play_opened.new.disk) g.K.Sink.tells done (c.play_opened.result ≡ Ok (Ok tt)) (g.K.Sink.written c.args.output.now) (g.K.Sink.written c.play_opened.new.output)
+    to opens.can_open (c.in-Ok.ensures.stops told) (c.in-Ok.ensures.opened told).1 (c.in-Ok.ensures.checked told).accepted (c.play_opened.ensures.stops told)
+
+pub returns-in_err-play_opened-clause-stops : goal.returns-in_err-play_opened-clause-stops
+returns-in_err-play_opened-clause-stops g c =
+    let q = err_from_is_err_and c.from_residual.result c.from_residual.ensures.1 in
+    stopped g ((goal.at.returns-in_err-play_opened-clause-stops g c).After-play_opened) _ (λ is. (let wrong : Err q.0 ≡ Ok (Replied Played) = sym q.1 ∙ is in absurd (cc)))
+
+pub returns-in-Ok-2-clause-stops : goal.returns-in-Ok-2-clause-stops
+returns-in-Ok-2-clause-stops g c = stopped g ((goal.at.returns-in-Ok-2-clause-stops g c).After-play_opened) _ (λ is. c.in_ok-play_opened.was ∙ ap Ok c.in-Ok-2.is)
+
+pub returns-in-Err-Device-clause-stops : goal.returns-in-Err-Device-clause-stops
+returns-in-Err-Device-clause-stops g c =
+    stopped g ((goal.at.returns-in-Err-Device-clause-stops g c).After-play_opened) _ (λ is. (let wrong : Ok DeviceFault ≡ Ok (Replied Played) = is in absurd (cc)))
+
+pub returns-in-Err-Memory-clause-stops : goal.returns-in-Err-Memory-clause-stops
+returns-in-Err-Memory-clause-stops g c =
+    stopped g ((goal.at.returns-in-Err-Memory-clause-stops g c).After-play_opened) _ (λ is. (let wrong : Ok NoMemory ≡ Ok (Replied Played) = is in absurd (cc)))

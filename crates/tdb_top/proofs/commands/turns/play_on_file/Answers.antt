@@ -7,6 +7,7 @@ use Rattle.tdb_top.specs.declared.ending.Ending.TheVariants.{DeviceFault}
 use Rattle.tdb_top.specs.Looks.{ending_of}
 use Rattle.tdb_top.proofs.Acting.{rose_earlier}
 use Rattle.tdb_top.proofs.Held.{held_there}
+use Rattle.tdb_top.proofs.StopsTurning.{held_stops, same_stops}
 use Rattle.tdb_top.proofs.Turning.{cause_played, left_played, began_played, all_played, untaken_plays}
 use Rattle.tdb_top.proofs.commands.turns.play_on_file.Goals as goal
 use Rattle.tdb_top.proofs.commands.turns.play_on_file.Goals.{After-take, After-give, then-options, else-options}
@@ -56,9 +57,18 @@ returns-in-Ok-clause-whole g c told is =
     all_played c.args.options.now c.args.name.now (g.F.D.Disk.history c.in-Ok.disk) (g.F.D.Disk.history c.play_on_disk-played.new.disk) c.args.plays.now g.K.Sink.tells (g.K.Sink.written c.args.output.now) (g.K.Sink.written c.play_on_disk-played.new.output)
     (g.F.Files.held c.args.files.now c.args.name.now) (there g ((goal.at.returns-in-Ok-clause-whole g c).After-give) told) (g.F.Files.held c.give.new.self c.args.name.now) c.play_on_disk-played.result (c.give.ensures.held told) (c.play_on_disk-played.ensures.played told) is
 
+pub returns-in-Ok-clause-stops : goal.returns-in-Ok-clause-stops
+returns-in-Ok-clause-stops g c told =
+    held_stops c.args.options.now (g.F.Files.held c.args.files.now c.args.name.now) (g.F.Files.held c.give.new.self c.args.name.now) g.K.Sink.tells _ (g.F.D.Disk.history c.in-Ok.disk) (g.F.D.Disk.history c.play_on_disk-played.new.disk)
+    (g.K.Sink.written c.args.output.now) (g.K.Sink.written c.play_on_disk-played.new.output) (there g ((goal.at.returns-in-Ok-clause-stops g c).After-give) told) (c.give.ensures.held told) (c.play_on_disk-played.ensures.stops told)
+
 -- the file wasn't taken
 pub returns-in-Err-clause-cause : goal.returns-in-Err-clause-cause
 returns-in-Err-clause-cause g c told =
     untaken_plays c.args.options.now c.args.name.now (g.F.Files.held c.args.files.now c.args.name.now) c.in-Err.refusal c.untaken.result
     (λ is. not_new g ((goal.at.returns-in-Err-clause-cause g c).After-take) (c.in-Err.ensures.there_how (ap Err is))) (λ is. ((c.in-Err.ensures.missing told).0 (ap Err is)).0)
     _ _ (λ is. c.in-Err.ensures.cause.failed is) c.untaken.ensures
+
+pub returns-in-Err-clause-stops : goal.returns-in-Err-clause-stops
+returns-in-Err-clause-stops g c told =
+    same_stops c.args.options.now (g.F.Files.held c.args.files.now c.args.name.now) (g.F.Files.held c.take.new.self c.args.name.now) g.K.Sink.tells _ (g.K.Sink.written c.args.output.now) (c.in-Err.ensures.refused_held c.args.name.now)

@@ -1,8 +1,9 @@
-use Rattle.std.proofs.Common.{sym, subst}
+use Rattle.std.proofs.Common.{refl, sym, subst}
 use Rattle.tdb_ask.specs.declared.ask.Task.TheVariants.{Turns}
 use Rattle.tdb_top.specs.Input.{input_by}
 use Rattle.tdb_top.specs.Looks.{ending_of}
 use Rattle.tdb_top.specs.Reads.{AskCause}
+use Rattle.tdb_top.proofs.StopsTurning.{same_stops}
 use Rattle.tdb_top.proofs.Turning.{plays_asked, unscripted_asked}
 use Rattle.tdb_top.proofs.commands.turns.turns_on_file.Goals as goal
 
@@ -20,3 +21,8 @@ returns-in-Err-clause-cause g c told =
     let held = g.F.Files.held c.args.files.now c.args.name.now in
     subst (AskCause input (Turns c.args.options.now) c.args.name.now held faults faults) (sym c.from.ensures)
     (unscripted_asked input c.args.options.now c.args.name.now held faults faults c.in-Err.fault c.in-Err.ensures.refused (λ is. c.in-Err.ensures.cause.failed is))
+
+pub returns-in-Err-clause-stops : goal.returns-in-Err-clause-stops
+returns-in-Err-clause-stops g c told =
+    let held = g.F.Files.held c.args.files.now c.args.name.now in
+    same_stops c.args.options.now held held g.K.Sink.tells _ (g.K.Sink.written c.args.output.now) refl

@@ -2,7 +2,8 @@ use Rattle.std.proofs.Common.{ap, sym, ◌∙◌, subst}
 use Rattle.std.specs.Prelude.{IsTrue, IfOk}
 use Rattle.tdb_disk.specs.History.{History, seen}
 use Rattle.tdb_top.specs.Opening.{IsOpenedOn, IsCheckedOn}
-use Rattle.tdb_top.proofs.Openings.{closed_reads, read_opened, read_halts, read_leaves, shut_leaves}
+use Rattle.tdb_top.specs.Safe.{OpensSafely}
+use Rattle.tdb_top.proofs.Openings.{closed_reads, read_opened, read_halts, read_leaves, shut_leaves, still_safe}
 use Rattle.tdb_top.proofs.opening.Opened.open.Goals as goal
 
 -- a file that can be read alone is opened as it is
@@ -30,3 +31,14 @@ returns-clause-refused g c told = read_halts (seen (g.D.Disk.history c.args.disk
 pub returns-clause-halted : goal.returns-clause-halted
 returns-clause-halted g c told =
     read_leaves (g.D.Disk.history c.args.disk.now) (g.D.Disk.history c.open_to_read.new.disk) c.in-Err.ensures.history c.in-Err.halt (sym c.asks_for_undo.ensures ∙ c.if-asks_for_undo.false) (c.in-Err.ensures.refused told)
+
+-- what stops leave
+pub returns-in-Ok-clause-stops : goal.returns-in-Ok-clause-stops
+returns-in-Ok-clause-stops g c told = still_safe (g.D.Disk.history c.args.disk.now) (g.D.Disk.history c.open_to_read.new.disk) c.in-Ok.ensures.history
+
+pub returns-then-asks_for_undo-clause-stops : goal.returns-then-asks_for_undo-clause-stops
+returns-then-asks_for_undo-clause-stops g c told =
+    subst (λ (h : History). OpensSafely h (g.D.Disk.history c.recovered.new.disk)) c.in-Err.ensures.history (c.recovered.ensures.stops told)
+
+pub returns-clause-stops : goal.returns-clause-stops
+returns-clause-stops g c told = still_safe (g.D.Disk.history c.args.disk.now) (g.D.Disk.history c.open_to_read.new.disk) c.in-Err.ensures.history

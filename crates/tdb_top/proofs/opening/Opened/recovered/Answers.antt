@@ -1,4 +1,4 @@
-use Rattle.std.proofs.Common.{rules, ◌≡◌, ℕ, ◌%◌, List, None, Some, length, ap, sym, ◌∙◌, subst, inl}
+use Rattle.std.proofs.Common.{rules, ◌≡◌, ℕ, ◌%◌, List, None, Some, length, ap, sym, ◌∙◌, subst, inl, inr}
 use Rattle.std.specs.Prelude.{IsTrue}
 use Rattle.std.proofs.lemmas.Result.{IfOk-weaker, IfErr-weaker}
 use Rattle.tdb_disk.specs.History.{History, seen}
@@ -9,9 +9,10 @@ use Rattle.tdb_space.specs.OpeningFault.{opening_fault}
 use Rattle.tdb_undo.specs.Refusal.{Names as Tells}
 use Rattle.tdb_undo.proofs.Found.{names_then}
 use Rattle.tdb_top.specs.Opening.{HasOpenGate, IsOpenedOn, IsCheckedOn, Undone, HaltsRightly, HaltsAtFault, HaltLeaves}
+use Rattle.tdb_top.specs.Safe.{OpensSafely}
 use Rattle.tdb_top.proofs.AtEnd.{on_ok}
 use Rattle.tdb_top.proofs.Errors.{if_err, if_this_err}
-use Rattle.tdb_top.proofs.Openings.{front_halts, front_leaves, undo_halts, restored_halts, undone_halts, undo_leaves, undo_sound, undo_reads, undo_stops, undone_opened}
+use Rattle.tdb_top.proofs.Openings.{front_halts, front_leaves, undo_halts, restored_halts, undone_halts, undo_leaves, undo_sound, undo_reads, undo_stops, still_safe, undone_opened}
 use Rattle.tdb_top.proofs.opening.Opened.recovered.Goals as goal
 use Rattle.tdb_top.proofs.opening.Opened.recovered.Goals.{After-recover}
 
@@ -88,7 +89,7 @@ returns-in_err-recover-clause-halted g c =
     (subst (λ (q : Form × History). Tells e (λ fault. (opening_fault q.0 (seen q.1) ≡ Some fault) × (now ≡ q.1))) (λ j. (form g a told j, header_read g a j)) (c.in_err-recover.ensures.bad told))
     (record {
       gate_open = (gate g a told).gate_open;
-      stops = undo_stops old (g.D.Disk.history c.read_front.new.d) now (f g a) (header_read g a) (form g a told) (c.in_err-recover.ensures.stops told);
+      stops = λ quiet opens mild. undo_stops old (g.D.Disk.history c.read_front.new.d) now (f g a) (header_read g a) (form g a told) (c.in_err-recover.ensures.stops told) quiet opens (inr mild);
     }))
 
 -- after an undo
@@ -144,3 +145,20 @@ returns-clause-halted g c =
     let now = g.D.Disk.history c.undone.new.disk in
     if_err (λ halt. IsTrue g.D.Disk.tells → HaltLeaves halt old now) c.undone.result
     (λ halt told. undone_halts halt old now (was_undone g a told _ _ (c.in_ok-recover.ensures.sound told) (c.in_ok-recover.ensures.restored told) (c.in_ok-recover.ensures.quiet told) c.undone.ensures.history))
+
+-- what stops leave
+pub returns-in_err-header-clause-stops : goal.returns-in_err-header-clause-stops
+returns-in_err-header-clause-stops g c told = still_safe (g.D.Disk.history c.args.disk.now) (g.D.Disk.history c.read_front.new.d) c.in_err-header.ensures.history
+
+pub returns-in_err-recover-clause-stops : goal.returns-in_err-recover-clause-stops
+returns-in_err-recover-clause-stops g c told =
+    let a = (goal.at.returns-in_err-recover-clause-stops g c).After-recover in
+    undo_stops (g.D.Disk.history c.args.disk.now) (g.D.Disk.history c.read_front.new.d) (g.D.Disk.history c.recover.new.d) (f g a) (header_read g a) (form g a told)
+    (c.in_err-recover.ensures.stops told)
+
+pub returns-clause-stops : goal.returns-clause-stops
+returns-clause-stops g c told =
+    let a = (goal.at.returns-clause-stops g c).After-recover in
+    subst (OpensSafely (g.D.Disk.history c.args.disk.now)) (sym c.undone.ensures.history)
+    (undo_stops (g.D.Disk.history c.args.disk.now) (g.D.Disk.history c.read_front.new.d) (g.D.Disk.history c.recover.new.d) (f g a) (header_read g a) (form g a told)
+    (c.in_ok-recover.ensures.stops told))

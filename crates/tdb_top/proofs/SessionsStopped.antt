@@ -1,0 +1,99 @@
+-- What stops leave of the file of a session, however that ends.
+use Rattle.std.proofs.Common.{◌≡◌, ℕ, List, [], Option, Some, Result, Ok, Err, refl, sym, ◌∙◌, subst, arith}
+use Rattle.std.specs.Prelude.{Bool, IsTrue}
+use Rattle.std.proofs.lemmas.List.{append-nil}
+use Rattle.tdb_disk.specs.History.{History, seen}
+use Rattle.tdb_disk.proofs.Runs.{leaves_weaker}
+use Rattle.tdb_space.specs.Form.{form_of}
+use Rattle.tdb_space.specs.Undoing.{Reopens}
+use Rattle.tdb_law.specs.Beginning.{IsLoaded}
+use Rattle.tdb_law.specs.World.{State}
+use Rattle.tdb_script.specs.Lines.{lines_of}
+use Rattle.tdb_tool.proofs.PartLemmas.{all_came, came_more}
+use Rattle.tdb_tool.proofs.Wholes.{begins, over_comes}
+use Rattle.tdb_tool.specs.Asking.{BeginsBy}
+use Rattle.tdb_tool.specs.Whole.{session_parts, IsOver, StopsOpen, SessionCame}
+use Rattle.tdb_tool.specs.declared.fault.SessionEnd.{SessionEnd}
+use Rattle.tdb_tool.specs.declared.fault.SessionFault.{SessionFault}
+use Rattle.tdb_tool.specs.declared.fault.SessionFault.TheVariants as F
+use Rattle.tdb_tool.specs.declared.order.Order.{Order}
+use Rattle.tdb_world.specs.Openers.{options_of}
+use Rattle.tdb_course.specs.Stops.{OpensOnTheWay}
+use Rattle.tdb_top.specs.declared.ending.Ending.{Ending}
+use Rattle.tdb_top.specs.declared.ending.Unprinted.{Unprinted}
+use Rattle.tdb_top.specs.Commands.Session.{session_options, SessionOn, SessionFile, file_unopened, session_ran, SessionHeld}
+use Rattle.tdb_top.specs.Commands.Turns.{OpensToTurn}
+use Rattle.tdb_top.specs.Input.{Input}
+use Rattle.tdb_top.specs.Opening.{opened_bytes, CanOpen}
+use Rattle.tdb_top.specs.Safe.{OpensSafely, StopsSince}
+use Rattle.tdb_top.specs.SessionStops.{StopsOfSession, StopsServed}
+use Rattle.tdb_top.proofs.StopsServing.{came_since}
+use Rattle.tdb_top.proofs.StopsTurning.{start_opens, fresh, few_chains}
+
+-- a session over a file
+module _ (limit : ℕ) (input : Input) (old now : History) (told : Bool) (before after : List ℕ) where
+  -- the state of a world just loaded over what a file is read as
+  fresh_loaded : (img : List ℕ) → CanOpen img → IsLoaded (form_of (opened_bytes img)) (fresh (form_of (opened_bytes img)) (session_options limit) (opened_bytes img)) (options_of (session_options limit))
+  fresh_loaded img can = record {
+    chains = few_chains img can;
+    joined = refl;
+    task = λ o. refl;
+    own = λ o. refl;
+    spot = λ o. refl;
+    table = λ o b. refl;
+    stale = refl;
+    settled = refl;
+    image_number = λ o. refl;
+  }
+
+  -- a file that can be opened, over which no session was begun
+  unbegun_stops : CanOpen (seen old) → OpensSafely old now → after ≡ before → StopsOfSession limit input old now told before after
+  unbegun_stops can safe same =
+      let r = opened_bytes (seen old) in
+      let f = form_of r in
+      let start = fresh f (session_options limit) r in
+      let over : IsOver f r start = record { file = refl; number = refl } in (
+        [],
+        λ heard. record { before = []; after = lines_of input.text; lines = refl; ask = refl },
+        start,
+        record {
+          old = start;
+          loaded = fresh_loaded (seen old) can;
+          over = over;
+          lines = [];
+          text = [];
+          came = came_more f [] (session_parts []) start start [] [] (all_came f [] start start [] [] (refl, refl, refl));
+          lawful = tt;
+          printed = λ out. (0, omega arith, same ∙ sym (append-nil before));
+          stops = λ quiet again calm. leaves_weaker old now (Reopens r) (OpensOnTheWay f start []) (start_opens f r start [] over) (safe quiet can.opens again);
+        },
+      )
+
+  -- one over which a session was begun
+  begun_stops : (answer : Result SessionEnd SessionFault) (on : SessionOn limit input old now told before after answer) (orders : List Order) → (IsTrue input.tells → BeginsBy input.text orders) → (new : State)
+      → SessionCame (form_of (seen on.opened)) (session_options limit) (seen on.opened) orders new told before after (StopsOpen (form_of (seen on.opened)) on.opened now) → StopsOfSession limit input old now told before after
+  begun_stops answer on orders asks new came = (
+    orders,
+    asks,
+    new,
+    subst (λ i. SessionCame (form_of i) (session_options limit) i orders new told before after (StopsSince (form_of i) old now)) on.is_opened.reads
+        (came_since (session_options limit) old on.opened now on.opens.can_open on.safe on.is_opened (form_of (seen on.opened)) orders told before after new came),
+  )
+
+  ran_stops : (answer : Result SessionEnd SessionFault) → SessionOn limit input old now told before after answer → StopsOfSession limit input old now told before after
+  ran_stops (Ok end) on =
+      begun_stops (Ok end) on on.ran.0 (λ heard. begins input.text on.ran.0 end (on.ran.1 heard)) on.ran.2.new
+      (over_comes (form_of (seen on.opened)) (session_options limit) (seen on.opened) on.ran.0 (seen now) told before after (StopsOpen (form_of (seen on.opened)) on.opened now) on.ran.2)
+  ran_stops (Err F.Input) on = begun_stops (Err F.Input) on on.ran.0 on.ran.1 on.ran.2 on.ran.3
+  ran_stops (Err F.Output) on = begun_stops (Err F.Output) on on.ran.0 on.ran.1 on.ran.2 on.ran.3
+  ran_stops (Err F.Device) on = begun_stops (Err F.Device) on on.ran.0 on.ran.1 on.ran.2 on.ran.3
+  ran_stops (Err F.Memory) on = begun_stops (Err F.Memory) on on.ran.0 on.ran.1 on.ran.2 on.ran.3
+
+  file_stops : (r : Result Ending Unprinted) → SessionFile limit input old now told before after r → OpensToTurn (session_options limit) (seen old) → StopsOfSession limit input old now told before after
+  file_stops _ (file_unopened halt opened safe same) opens = unbegun_stops opens.can_open safe same
+  file_stops _ (session_ran answer on) opens = ran_stops answer on
+
+-- what is held at the name of its file
+pub held_served : (limit : ℕ) (input : Input) (told : Bool) (before after : List ℕ) (r : Result Ending Unprinted) (held given : Option History) → SessionHeld limit input held given told before after r → StopsServed limit input held given told before after
+held_served limit input told before after r held given served old there opens =
+    let at = subst (λ o. SessionHeld limit input o given told before after r) there served in (at.0, at.1, file_stops limit input old at.0 told before after r at.2 opens)

@@ -1,0 +1,75 @@
+-- What stops leave of the file of a session, since before it was opened.
+use Rattle.std.proofs.Common.{ℕ, List, Result, Ok, sym, subst}
+use Rattle.std.specs.Prelude.{Bool}
+use Rattle.tdb_disk.specs.History.{History, seen}
+use Rattle.tdb_disk.proofs.Runs.{leaves_join, leaves_weaker}
+use Rattle.tdb_space.specs.Form.{Form, form_of}
+use Rattle.tdb_space.specs.Undoing.{Reopens}
+use Rattle.tdb_law.specs.Lines.{Line as LawLine}
+use Rattle.tdb_law.specs.World.{State}
+use Rattle.tdb_plays.specs.InLaw.{law_lines}
+use Rattle.tdb_plays.specs.declared.options.Options.{Options}
+use Rattle.tdb_tool.specs.Whole.{IsOver, StopsOpen, SessionOver, SessionCame, CameSo}
+use Rattle.tdb_tool.specs.declared.fault.SessionEnd.{SessionEnd}
+use Rattle.tdb_tool.specs.declared.fault.SessionFault.{SessionFault}
+use Rattle.tdb_tool.specs.declared.order.Order.{Order}
+use Rattle.tdb_course.specs.Stops.{OpensOnTheWay}
+use Rattle.tdb_top.specs.Commands.Session.{session_options, SessionOn}
+use Rattle.tdb_top.specs.Commands.Turns.{IsOpened}
+use Rattle.tdb_top.specs.Input.{Input}
+use Rattle.tdb_top.specs.Opening.{opened_bytes, CanOpen}
+use Rattle.tdb_top.specs.Safe.{OpensSafely, StopsSince}
+use Rattle.tdb_top.proofs.StopsTurning.{start_opens, opened_quiet}
+
+-- the opening of a file, and what is done by lines from a state over it
+module _ (options : Options) (old mid now : History) (can : CanOpen (seen old)) (safe : OpensSafely old mid) (opened : IsOpened options old mid) (f : Form) where
+  since : (start : State) (lines : List LawLine) → IsOver f (seen mid) start → StopsOpen f mid now start lines → StopsSince f old now start lines
+  since start lines over stops quiet again calm =
+      let way = OpensOnTheWay f start lines in
+      leaves_join old mid now way
+      (leaves_weaker old mid (Reopens (opened_bytes (seen old))) way (λ c reopens. start_opens f (seen mid) start lines over c (subst (λ r. Reopens r c) (sym opened.reads) reopens)) (safe quiet can.opens again))
+      (stops (opened_quiet options old mid opened.left quiet) calm)
+
+  module _ (orders : List Order) (told : Bool) (before after : List ℕ) where
+    -- a session that was taken to its end, and one as far as it came
+    over_since : (b : List ℕ) → SessionOver f options (seen mid) orders b told before after (StopsOpen f mid now) → SessionOver f options (seen mid) orders b told before after (StopsSince f old now)
+    over_since b p = record {
+      old = p.old;
+      loaded = p.loaded;
+      over = p.over;
+      new = p.new;
+      lines = p.lines;
+      text = p.text;
+      done = p.done;
+      left = p.left;
+      more = p.more;
+      ends = p.ends;
+      lawful = p.lawful;
+      printed = p.printed;
+      stops = since p.old (law_lines p.lines) p.over p.stops;
+    }
+
+    pub came_since : (new : State) → SessionCame f options (seen mid) orders new told before after (StopsOpen f mid now) → SessionCame f options (seen mid) orders new told before after (StopsSince f old now)
+    came_since new p = record {
+      old = p.old;
+      loaded = p.loaded;
+      over = p.over;
+      lines = p.lines;
+      text = p.text;
+      came = p.came;
+      lawful = p.lawful;
+      printed = p.printed;
+      stops = since p.old (law_lines p.lines) p.over p.stops;
+    }
+
+-- a session over a file
+module _ (limit : ℕ) (input : Input) (old now : History) (told : Bool) (before after : List ℕ) where
+  pub so_since : (answer : Result SessionEnd SessionFault) (on : SessionOn limit input old now told before after answer)
+      → CameSo (form_of (seen on.opened)) (session_options limit) (seen on.opened) (seen now) input.tells input.text told before after (StopsOpen (form_of (seen on.opened)) on.opened now)
+      → CameSo (form_of (seen on.opened)) (session_options limit) (seen on.opened) (seen now) input.tells input.text told before after (StopsSince (form_of (seen on.opened)) old now)
+  so_since answer on (orders, asks, new, came, left) =
+      (orders, asks, new, came_since (session_options limit) old on.opened now on.opens.can_open on.safe on.is_opened (form_of (seen on.opened)) orders told before after new came, left)
+
+  pub whole_since : (end : SessionEnd) (on : SessionOn limit input old now told before after (Ok end))
+      → SessionOver (form_of (seen on.opened)) (session_options limit) (seen on.opened) on.ran.0 (seen now) told before after (StopsSince (form_of (seen on.opened)) old now)
+  whole_since end on = over_since (session_options limit) old on.opened now on.opens.can_open on.safe on.is_opened (form_of (seen on.opened)) on.ran.0 told before after (seen now) on.ran.2
