@@ -8,8 +8,6 @@ mod header;
 mod jenkins;
 mod old;
 mod record;
-#[cfg(test)]
-mod tests;
 mod what;
 mod word;
 

@@ -2,9 +2,12 @@
 
 ghost use Rattle.std.specs.Prelude.{◌+◌, ◌<◌, ◌≤◌, length};
 
-use super::*;
 use std::collections::HashMap;
 use std::test::Fail;
+use tdb_words::{
+    Bytes, HashKind, HashRun, HeaderFault, Order, What, chain_of, hash_of, header_bytes, header_of,
+    word_bytes,
+};
 
 const FOOD: [u8; 10] = *b"TDB file\n\0";
 
