@@ -15,8 +15,6 @@ mod script;
 mod sink;
 mod source;
 mod tape;
-#[cfg(test)]
-mod tests;
 
 pub use disk::{Disk, DiskFault};
 pub use files::{Files, FilesFault, Take, TakeRefusal};

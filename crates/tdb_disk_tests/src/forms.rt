@@ -6,14 +6,14 @@ ghost use Rattle.tdb_disk.specs.MemFiles.{name_is_taken};
 ghost use Rattle.tdb_disk.specs.Published.{published};
 ghost use Rattle.tdb_disk.specs.Stop.{Quiet};
 
-use crate::example::publish;
-use crate::{
-    Call, Disk, DiskFault, Files, FuseDisk, MemDisk, MemFiles, MemSink, MemSource, Pick, Sink,
-    Source, Take, TakeRefusal,
-};
 use std::alloc::{AllocError, Global};
 use std::process::Abort;
 use std::test::Fail;
+use tdb_disk::example::publish;
+use tdb_disk::{
+    Call, Disk, DiskFault, Files, FuseDisk, MemDisk, MemFiles, MemSink, MemSource, Pick, Sink,
+    Source, Take, TakeRefusal,
+};
 
 /// A one in each place of a call that failed: each call of a disk of sixteen bytes, in order, which leaves the length.
 fn each_call<D: Disk>(d: &mut D) -> [u8; 7]
