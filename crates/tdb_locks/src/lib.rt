@@ -19,6 +19,4 @@ mod piece;
 mod replace;
 mod search;
 mod spots;
-#[cfg(test)]
-mod tests;
 mod turn;

@@ -1,7 +1,7 @@
 // Worked examples of the lock table, and each call on its happy path.
-use crate::{Held, Kind, Len, LockRefusal, Locks, Piece, Spots};
 use std::alloc::Global;
 use std::test::Fail;
+use tdb_locks::{Held, Kind, Len, LockRefusal, Locks, Piece, Spots};
 
 /// Owner 1 holds the bytes 200 to 239 and 250 to 299 for writing, having let go of those between.
 fn unlocked_middle(alloc: Global) -> Result<Locks, LockRefusal> {
