@@ -6,8 +6,6 @@ mod log;
 mod mem_log;
 mod notice;
 mod sink_log;
-#[cfg(test)]
-mod tests;
 
 pub use crate::count_log::CountLog;
 pub use crate::log::{Log, LogRefusal};

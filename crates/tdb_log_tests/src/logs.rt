@@ -1,7 +1,7 @@
 // The lines of notices, and each log's refusals.
-use crate::{CountLog, Log, LogRefusal, MemLog, Notice, SinkLog};
 use std::test::Fail;
 use tdb_disk::{Call, MemSink};
+use tdb_log::{CountLog, Log, LogRefusal, MemLog, Notice, SinkLog};
 use tdb_words::What;
 
 const GREW: Notice = Notice::Grew {

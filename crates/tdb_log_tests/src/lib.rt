@@ -1,0 +1,5 @@
+//! Tests of logs and their lines, over the public calls of `tdb_log`.
+#![tactic(auto)]
+
+#[cfg(test)]
+mod logs;
