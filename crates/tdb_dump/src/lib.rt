@@ -19,6 +19,3 @@ pub use crate::pairs::{Pair, Pairs};
 pub use crate::reader::{ReadRefusal, Reader};
 pub use crate::words::{WordRefusal, word_bytes_of};
 pub use crate::writer::{WriteRefusal, push_pair, write_pair};
-
-#[cfg(test)]
-mod tests;

@@ -2,13 +2,13 @@
 
 ghost use Rattle.std.specs.Prelude.{◌≤◌, length};
 
-use crate::{
-    Listing, Pairs, ReadRefusal, Reader, WordRefusal, WriteRefusal, data_line, escape, key_line,
-    pair_line, word_bytes_of, write_pair,
-};
 use std::alloc::Global;
 use std::test::Fail;
 use tdb_disk::{Call, MemSink};
+use tdb_dump::{
+    Listing, Pairs, ReadRefusal, Reader, WordRefusal, WriteRefusal, data_line, escape, key_line,
+    pair_line, word_bytes_of, write_pair,
+};
 
 /// What the stock tdbdump printed of four pairs of its own files: an empty value, an empty key, and bytes of all kinds.
 const STOCK: &[u8] =
