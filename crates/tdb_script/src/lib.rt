@@ -11,8 +11,6 @@ mod play;
 mod reply;
 mod rows;
 mod script;
-#[cfg(test)]
-mod tests;
 mod text;
 mod unread;
 

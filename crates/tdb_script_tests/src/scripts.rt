@@ -1,11 +1,11 @@
 // Scripts and their bad places, and the lines of worked reports.
-use crate::{ScriptRefusal, read_script, text_of_reply, write_line};
 use std::alloc::{AllocError, Global};
 use std::test::Fail;
 use tdb_disk::{Call, MemSink};
 use tdb_dump::WriteRefusal;
 use tdb_locks::{Reply, Turn};
 use tdb_plays::{Command, Line, Play, Plays};
+use tdb_script::{ScriptRefusal, read_script, text_of_reply, write_line};
 use tdb_steps::Flag;
 use tdb_words::Bytes;
 
