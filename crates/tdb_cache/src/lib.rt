@@ -4,7 +4,5 @@
 mod blocks;
 mod cached;
 mod piece;
-#[cfg(test)]
-mod tests;
 
 pub use cached::Cached;

@@ -1,8 +1,8 @@
 //! Rows of calls of a disk with a cache, and what they are to show.
 ghost use Rattle.std.specs.Prelude.{◌≡◌, ◌+◌, ◌≤◌};
 
-use crate::Cached;
 use std::test::Fail;
+use tdb_cache::Cached;
 use tdb_disk::{Call, Disk, DiskFault, MemDisk};
 
 /// The eight bytes at an offset.
