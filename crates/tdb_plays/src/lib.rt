@@ -8,8 +8,6 @@ mod options;
 mod play;
 mod plays;
 mod report;
-#[cfg(test)]
-mod tests;
 
 pub use crate::command::Command;
 pub use crate::laws::law_names;

@@ -1,0 +1,5 @@
+//! Tests of lists of plays and of lines, over the public calls of `tdb_plays`.
+#![tactic(auto)]
+
+#[cfg(test)]
+mod lists;
