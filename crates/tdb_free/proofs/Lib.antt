@@ -10,6 +10,7 @@ pub mod GiveSteps
 pub mod Stopped
 pub mod Inside
 pub mod Passed
+pub mod Looked
 pub mod PutFirst
 pub mod Removed
 pub mod OnceLeft

@@ -3,6 +3,7 @@ pub mod TakenFrom
 pub mod Shortened
 pub mod Removal
 pub mod Search
+pub mod Look
 pub mod Stretch
 pub mod Growth
 pub mod OnlyList

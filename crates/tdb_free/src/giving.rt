@@ -85,9 +85,11 @@ fn give_stretch<S: Space>(s: &mut S, len: u64, free: Stretch) -> Result<(), Spac
 /// Gives a hand to the free list. The free record that starts where the hand ends and the one that ends where it starts become
 /// one record with it, which is the first of the list.
 ///
-/// It goes along the list once, reads 24 bytes of each record, and writes four words at most besides the new record's header:
-/// its tailer, the head of the list, and the words that led to the two neighbours. It answers `Io` where the disk failed. Where
-/// the file doesn't hold the hand, or is longer than the words of a file can say, nothing is written.
+/// It looks beside the hand, and reads 12 bytes at most for it. Only where something there has the magic of a free
+/// record, it goes along the list, once, and reads 24 bytes of each record. It writes four words at most besides the new
+/// record's header: its tailer, the head of the list, and the words that led to the two neighbours. It answers `Io`
+/// where the disk failed. Where the file doesn't hold the hand, or is longer than the words of a file can say, nothing
+/// is written.
 pub fn give<S: Space>(s: &mut S, h: Hand) -> Result<(), FreeRefusal>
     requires room { RoomForAll (S.spare s.old) 5 40 }
     ensures given { OnOk result (IsTrue S.tells → (offs : List ℕ) → CanBeGiven (S.form s.old) (S.image s.old) offs h

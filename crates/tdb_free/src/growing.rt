@@ -74,8 +74,8 @@ fn grow_by<S: Space>(s: &mut S, len: u64, to: u64) -> Result<(), FreeRefusal>
 ///
 /// The file grows by the record and its header, or by a quarter where that is more, to a multiple of 4096 bytes; where that is
 /// more than `limit` bytes, by the record and its header alone. What it gains goes into the free list as one record, and the
-/// record is taken from there. It goes along the list once to give and once for each take. `Full` where no free record is long
-/// enough and the file would be longer than `limit`; `Io` where the disk failed.
+/// record is taken from there. It goes along the list once for each take, and at most once to give. `Full` where no free
+/// record is long enough and the file would be longer than `limit`; `Io` where the disk failed.
 pub fn take<S: Space>(s: &mut S, rec_len: u64, limit: u64) -> Result<Hand, FreeRefusal>
     requires whole_words { rec_len % 4 ≡ 0 }
     requires least { 4 ≤ rec_len }

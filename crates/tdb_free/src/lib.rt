@@ -7,6 +7,7 @@ mod growing;
 mod link_word;
 mod list_refusal;
 mod listing;
+mod look;
 mod neighbours;
 mod record;
 mod refusal;

@@ -1,15 +1,17 @@
 // The free records beside a stretch of the file.
 
-ghost use Rattle.std.specs.Prelude.{◌≡◌, ◌≤◌, IsTrue, IfOk, List, ℕ};
-ghost use Rattle.tdb_disk.specs.Count.{HasCause};
+ghost use Rattle.std.specs.Prelude.{◌≡◌, ◌≤◌, IsTrue, IfOk, OnOk, List, ℕ};
+ghost use Rattle.tdb_disk.specs.Count.{HasCause, RoseUpTo};
 ghost use Rattle.tdb_words.specs.Word.{word};
 ghost use Rattle.tdb_space.specs.Frame.{Looked};
 ghost use Rattle.tdb_space.specs.Form.{free_head};
 ghost use Rattle.tdb_space.specs.Chain.{Free};
 ghost use Rattle.tdb_free.specs.FreeList.{end_of, starts_at, ends_at};
+ghost use Rattle.tdb_free.specs.Look.{FreeBeside};
 ghost use Rattle.tdb_free.specs.Search.{Beside, BesideWithin, first_of, spot_pair, previous_then};
 ghost use Rattle.tdb_free.specs.Stretch.{pair};
 
+use crate::look::free_beside;
 use crate::record::first_free;
 use crate::search::{Spot, first_of};
 use crate::stretch::Stretch;
@@ -48,16 +50,12 @@ impl Neighbours {
     }
 }
 
-/// The free records beside a stretch. `len` is the length of the file.
+/// The free records beside a stretch, by a walk along the list. `len` is the length of the file.
 ///
 /// It reads the head of the list, and 24 bytes of each record up to the second that is found, or to the end of the list. Where the
 /// file's bytes aren't those of a free list, a word that leads to no place where a record can stand ends the list as a 0 does,
 /// and so do as many records as the file has words.
-pub(crate) fn find_neighbours<S: Space>(
-    s: &mut S,
-    len: u64,
-    free: &Stretch,
-) -> Result<Neighbours, Io>
+fn find_in_list<S: Space>(s: &mut S, len: u64, free: &Stretch) -> Result<Neighbours, Io>
     requires length { len ≡ S.size s.old }
     ensures found { IfOk result (λ found. IsTrue S.tells → (offs : List ℕ)
         → Free (S.form s.old) (S.image s.old) (word (S.form s.old).order (S.image s.old) free_head) offs
@@ -91,4 +89,34 @@ pub(crate) fn find_neighbours<S: Space>(
         at = rec.next;
     }
     Ok(found)
+}
+
+/// The free records beside a stretch. `len` is the length of the file.
+///
+/// It looks at what is beside the stretch, and reads 12 bytes at most for it. Only where something there looks free, it
+/// goes along the list: it reads the list's head, and 24 bytes of each record up to the second that is found, or to the
+/// end of the list.
+pub(crate) fn find_neighbours<S: Space>(
+    s: &mut S,
+    len: u64,
+    free: &Stretch,
+) -> Result<Neighbours, Io>
+    requires length { len ≡ S.size s.old }
+    ensures found { IfOk result (λ found. IsTrue S.tells → (offs : List ℕ)
+        → Free (S.form s.old) (S.image s.old) (word (S.form s.old).order (S.image s.old) free_head) offs
+        → Beside (S.form s.old) (S.image s.old) offs (pair free.now) found) }
+    ensures within { IfOk result (λ found. BesideWithin (S.form s.old) (S.size s.old) (pair free.now) found) }
+    ensures looked { Looked S.Space s.old s.new }
+    ensures cause { HasCause (S.faults s.old) (S.faults s.new) result }
+    ensures bytes_read { S.bytes_read s.old ≤ S.bytes_read s.new }
+    ensures unwalked { OnOk result (IsTrue S.tells → (FreeBeside (S.form s.old).order (S.image s.old) (pair free.now) → ⊥)
+        → RoseUpTo 12 (S.bytes_read s.old) (S.bytes_read s.new)) }
+{
+    if free_beside(s, len, free)? {
+        return find_in_list(s, len, free);
+    }
+    Ok(Neighbours {
+        next: None,
+        previous: None,
+    })
 }

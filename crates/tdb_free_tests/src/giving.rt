@@ -5,7 +5,7 @@ use std::test::Fail;
 use tdb_disk::{Call, MemDisk};
 use tdb_free::{FreeRefusal, give};
 use tdb_space::{Direct, Hand};
-use tdb_words::{FREE, HashKind, Header, Order, word_bytes};
+use tdb_words::{FREE, HashKind, Header, Order, USED, word_bytes};
 
 const HEADER: Header = Header {
     order: Order::Little,
@@ -93,6 +93,35 @@ fn merges_a_hand_with_its_neighbours(rt: HostRuntime) -> Result<(), Fail> {
     Ok(())
 }
 
+// Beside these hands no record looks free: behind them stands a used one, or the file ends; in front of them stands a
+// used one, or no record that is as long as the word there says. How many bytes are read: the magic behind, the tailer,
+// the magic in front, and the head of the list.
+#[test]
+fn looks_beside_a_hand(rt: HostRuntime) -> Result<(), Fail> {
+    let alloc = rt.alloc();
+    for (off, rec_len, word, read) in [
+        (272, 8, (260, USED), 16),
+        (272, 8, (268, 272), 16),
+        (272, 8, (268, 273), 12),
+        (272, 8, (268, 27), 12),
+        (304, 12, (300, 0), 8),
+    ] {
+        let words = [(168, 176), (324, USED), word];
+        let mut disk = MemDisk::new(alloc, &file_with(alloc, &words)?)?;
+        give(
+            &mut Direct::new(&mut disk, &HEADER),
+            Hand::new(off, rec_len),
+        )?;
+        let mut want = file_with(alloc, &words)?;
+        for (at, word) in &written(off, 176, rec_len as u16) {
+            put_word(&mut want, *at, *word);
+        }
+        assert_eq!(rt; disk.as_slice(), want.as_slice(), "{word:?}");
+        assert_eq!(rt; disk.bytes_read(), read, "{word:?}");
+    }
+    Ok(())
+}
+
 // A hand that passes the end of the file, and one in front of the data.
 #[test]
 fn leaves_out_what_is_not_in_the_file(rt: HostRuntime) -> Result<(), Fail> {
@@ -109,15 +138,24 @@ fn leaves_out_what_is_not_in_the_file(rt: HostRuntime) -> Result<(), Fail> {
     Ok(())
 }
 
+// The first hand has free records beside it, and the second none.
 #[test]
 fn hands_faults_on(rt: HostRuntime) -> Result<(), Fail> {
     let alloc = rt.alloc();
-    for (call, count) in [(Call::Read, 5), (Call::Write, 2), (Call::WriteWord, 3)] {
+    let used = [(168, 176), (260, USED), (324, USED)];
+    for (words, off, call, count) in [
+        (&used[..0], 208, Call::Read, 6),
+        (&used[..0], 208, Call::Write, 2),
+        (&used[..0], 208, Call::WriteWord, 3),
+        (&used[..], 272, Call::Read, 4),
+        (&used[..], 272, Call::Write, 2),
+        (&used[..], 272, Call::WriteWord, 1),
+    ] {
         for nth in 0..count {
-            let mut disk = MemDisk::new(alloc, &file_with(alloc, &[])?)?;
+            let mut disk = MemDisk::new(alloc, &file_with(alloc, words)?)?;
             disk.fail(call, nth)?;
-            let answer = give(&mut Direct::new(&mut disk, &HEADER), Hand::new(208, 8));
-            assert_eq!(rt; answer, Err(FreeRefusal::Io), "at {nth}");
+            let answer = give(&mut Direct::new(&mut disk, &HEADER), Hand::new(off, 8));
+            assert_eq!(rt; answer, Err(FreeRefusal::Io), "at {off}, {nth}");
         }
     }
     Ok(())

@@ -9,7 +9,7 @@ use Rattle.tdb_free.specs.FreeList.{end_of, starts_at, ends_at}
 use Rattle.tdb_free.specs.Search.{BesideWithin}
 use Rattle.tdb_free.specs.Stretch.{pair}
 use Rattle.tdb_free.proofs.Passed.{Sought}
-use Rattle.tdb_free.proofs.neighbours.find_neighbours.Given as goal
+use Rattle.tdb_free.proofs.neighbours.find_in_list.Given as goal
 
 abbrev pub invariant-loop-turn : goal.invariant-loop-turn
 invariant-loop-turn g l = record {
