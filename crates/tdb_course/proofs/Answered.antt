@@ -67,7 +67,7 @@ memory_led tells w h size faults old new Io All Part Last memory W lines part = 
 
 -- a play that is taken, and gives one line
 pub line_led : (tells : Bool) (w v : Whole) (h : History) (size faults : ℕ) (play : LawPlay) (line : Line) (old new : List Line) → v.openers.header ≡ w.openers.header → v.openers.options ≡ w.openers.options
-    → WorldFits v (seen h) size → GivesLine w v play line → Lengths size (line ∷ []) size → new ≡ old ++ line ∷ [] → PlayLed tells (moment w h size faults old) (moment v h size faults new) (Ok tt) play
+    → WorldFits v (seen h) size → GivesLine w v play line → Lengths size (line ∷ []) size → new ≡ old ++ line ∷ [] → PlayLed {V = Unit {0}} tells (moment w h size faults old) (moment v h size faults new) (Ok tt) play
 line_led tells w v h size faults play line old new header options W gives short lines = record {
   header = header;
   options = options;
@@ -127,7 +127,7 @@ give_led tells w v h size faults who c lines W (Err e) G kept memory =
 
 -- a command that isn't given for want of memory, and so takes no turn
 pub do_not : (tells : Bool) (w v : Whole) (h : History) (size faults who : ℕ) (c : Command) (lines : List Line) → WorldFits w (seen h) size → (e : RunFault) → v ≡ w → e ≡ Memory
-    → PlayLed tells (moment w h size faults lines) (moment v h size faults lines) (Err e) (LawPlay.Do (law_opener who) c)
+    → PlayLed {V = Unit {0}} tells (moment w h size faults lines) (moment v h size faults lines) (Err e) (LawPlay.Do (law_opener who) c)
 do_not tells w v h size faults who c lines W e kept memory =
     led_fault {V = Unit {0}} tells (moment w h size faults lines) (moment v h size faults lines) _ _ _ _ _ _ e (gift_led {V = Unit {0}} tells w v h size faults who c lines W (Err e) tt kept memory)
     (λ state told z is none. begun_not none.0 none.1) (λ state told z is none. inl (begun_not none.0 none.1))

@@ -9,3 +9,8 @@ pub mod OneTurn
 pub mod StoppedTurns
 pub mod Going
 pub mod Changes
+pub mod HeardLines
+pub mod Dropping
+pub mod ToldLines
+pub mod HeardPlays
+pub mod Running

@@ -6,3 +6,4 @@ pub mod Turns
 pub mod Told
 pub mod Unfinished
 pub mod Laws
+pub mod Hearing

@@ -4,6 +4,7 @@
 mod advancing;
 mod dying;
 mod ending;
+mod hearing;
 mod laws;
 mod playing;
 mod starting;

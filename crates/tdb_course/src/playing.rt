@@ -1,5 +1,5 @@
 //! Plays, and the report of them.
-ghost use Rattle.std.specs.Prelude.{◌≤◌, ℕ};
+ghost use Rattle.std.specs.Prelude.{◌≡◌, ◌≤◌, ◌++◌, ℕ, List, IsTrue, false};
 ghost use Rattle.tdb_disk.specs.History.{seen};
 ghost use Rattle.tdb_law.specs.Plays.{Gives, Course};
 ghost use Rattle.tdb_law.specs.Plays.{Play as LawPlay};
@@ -8,14 +8,17 @@ ghost use Rattle.tdb_world.specs.Given.{IsShortGiven};
 ghost use Rattle.tdb_world.specs.Played.{Begun, ComesTo, PlaysLast};
 ghost use Rattle.tdb_whole.specs.Whole.{form_at, WorldFits};
 ghost use Rattle.tdb_course.specs.Led.{moment, Led};
+ghost use Rattle.tdb_course.specs.Hearing.{HeardLed, RunsAsTold, drops_log};
 ghost use Rattle.tdb_course.specs.Stops.{StopsLed};
 ghost use Rattle.tdb_course.specs.Playable.{IsPlayable, ArePlayable};
 ghost use Rattle.tdb_course.specs.Told.{PlayLed};
 
 use crate::advancing::{go_on, play_go, play_turn};
 use crate::dying::play_die;
+use crate::hearing::{drop_log, tell_logs};
 use crate::starting::{give_copy, play_give, play_join};
 use tdb_disk::Disk;
+use tdb_log::{LogRefusal, Logs};
 use tdb_plays::{Command, Line, Play, TurnReport};
 use tdb_whole::{OpenerStanding, World};
 use tdb_world::{RunFault, tell};
@@ -46,14 +49,8 @@ fn play_do<D: Disk>(
     }
 }
 
-/// Takes one play, and adds what it gives to the report.
-///
-/// In a stale world the open gate is undone before a turn. Room for a line, and for the copy of a command, is made
-/// before anything is done: so after `Memory` all that was done has its lines. After `Io` the world may not be used any
-/// more.
-///
-/// Cost: that of its turns, of which there are nine at most, and of the copies of the command, one for each turn.
-pub fn play<D: Disk>(
+/// Takes one play that drops no log, and adds what it gives to the report.
+fn take_play<D: Disk>(
     world: &mut World,
     d: &mut D,
     play: &Play,
@@ -61,11 +58,9 @@ pub fn play<D: Disk>(
 ) -> Result<(), RunFault>
     requires fits { WorldFits world.old (seen (D.history d.old)) (D.size d.old) }
     requires playable { IsPlayable play.now }
-    ensures led { Led D.tells (moment world.old (D.history d.old) (D.size d.old) (D.faults d.old) report.old.lines)
-        (moment world.new (D.history d.new) (D.size d.new) (D.faults d.new) report.new.lines) result
-        (λ state _. Gives (form_at world.old) state (law_play play.now))
-        (λ state. Begun (form_at world.old) state (law_play play.now))
-        (λ state. PlaysLast (form_at world.old) state (law_play play.now)) }
+    requires stays { drops_log play.now ≡ false }
+    ensures led { PlayLed D.tells (moment world.old (D.history d.old) (D.size d.old) (D.faults d.old) report.old.lines)
+        (moment world.new (D.history d.new) (D.size d.new) (D.faults d.new) report.new.lines) result (law_play play.now) }
     ensures stops { StopsLed D.tells (moment world.old (D.history d.old) (D.size d.old) (D.faults d.old) report.old.lines)
         (moment world.new (D.history d.new) (D.size d.new) (D.faults d.new) report.new.lines) result }
 {
@@ -75,33 +70,74 @@ pub fn play<D: Disk>(
         Play::Do { who, command } => play_do(world, d, *who, command, report),
         Play::Turn { who } => play_turn(world, d, *who, report),
         Play::Go { who } => play_go(world, d, *who, report),
-        Play::SetLog => tell(report, Line::LogsLeft { count: 0 }),
         Play::Die { who } => play_die(world, *who, report),
+        Play::SetLog => unreachable!(),
     }
 }
 
-/// Takes plays in their order, and adds what they give to the report, up to the first that finds no memory or at which
-/// the disk fails; `play` says more.
+/// Takes one play, adds what it gives to the report, and tells the last log what became of the file: the growth of each
+/// turn, the death of an opener, and the undo of a gate. A log that refuses doesn't undo the play.
+///
+/// In a stale world the open gate is undone before a turn. Room for a line, and for the copy of a command, is made
+/// before anything is done: so after `Memory` all that was done has its lines. After `Io` the world may not be used any
+/// more.
+///
+/// Cost: that of its turns, of which there are nine at most, and of the copies of the command, one for each turn.
+pub fn play<D: Disk, L: Logs>(
+    world: &mut World,
+    d: &mut D,
+    play: &Play,
+    report: &mut TurnReport,
+    logs: &mut L,
+) -> Result<Result<(), LogRefusal>, RunFault>
+    requires fits { WorldFits world.old (seen (D.history d.old)) (D.size d.old) }
+    requires playable { IsPlayable play.now }
+    ensures led { PlayLed D.tells (moment world.old (D.history d.old) (D.size d.old) (D.faults d.old) report.old.lines)
+        (moment world.new (D.history d.new) (D.size d.new) (D.faults d.new) report.new.lines) result (law_play play.now) }
+    ensures stops { StopsLed D.tells (moment world.old (D.history d.old) (D.size d.old) (D.faults d.old) report.old.lines)
+        (moment world.new (D.history d.new) (D.size d.new) (D.faults d.new) report.new.lines) result }
+    ensures heard { HeardLed D.tells (moment world.old (D.history d.old) (D.size d.old) (D.faults d.old) report.old.lines)
+        (moment world.new (D.history d.new) (D.size d.new) (D.faults d.new) report.new.lines) (L.logs logs.old) (L.logs logs.new) result }
+{
+    if let Play::SetLog = play {
+        drop_log(report, logs)?;
+        return Ok(Ok(()));
+    }
+    let from = report.len();
+    let taken = take_play(world, d, play, report);
+    let told = tell_logs(report, from, logs);
+    taken?;
+    Ok(told)
+}
+
+/// Takes plays in their order, adds what they give to the report, and tells the logs, up to the first play that finds no
+/// memory, at which the disk fails, or of which a log refuses a notice; `play` says more.
 ///
 /// Cost: that of its turns, of which a play has nine at most, and of the copies of the commands, one for each turn.
-pub fn run<D: Disk>(
+pub fn run<D: Disk, L: Logs>(
     world: &mut World,
     d: &mut D,
     plays: &[Play],
     report: &mut TurnReport,
-) -> Result<(), RunFault>
+    logs: &mut L,
+) -> Result<Result<(), LogRefusal>, RunFault>
     requires fits { WorldFits world.old (seen (D.history d.old)) (D.size d.old) }
     requires playable { ArePlayable plays.now }
     ensures led { Led D.tells (moment world.old (D.history d.old) (D.size d.old) (D.faults d.old) report.old.lines)
         (moment world.new (D.history d.new) (D.size d.new) (D.faults d.new) report.new.lines) result
-        (λ state _. Course (form_at world.old) state (law_plays plays.now))
+        (λ state told. RunsAsTold told (Course (form_at world.old) state (law_plays plays.now)) (ComesTo (form_at world.old) state (law_plays plays.now)))
         (λ state. ComesTo (form_at world.old) state (law_plays plays.now))
         (λ state. ComesTo (form_at world.old) state (law_plays plays.now)) }
     ensures stops { StopsLed D.tells (moment world.old (D.history d.old) (D.size d.old) (D.faults d.old) report.old.lines)
         (moment world.new (D.history d.new) (D.size d.new) (D.faults d.new) report.new.lines) result }
+    ensures heard { HeardLed D.tells (moment world.old (D.history d.old) (D.size d.old) (D.faults d.old) report.old.lines)
+        (moment world.new (D.history d.new) (D.size d.new) (D.faults d.new) report.new.lines) (L.logs logs.old) (L.logs logs.new) result }
 {
     for next in plays {
-        play(world, d, next, report)?;
+        match play(world, d, next, report, logs)? {
+            Ok(()) => {}
+            Err(refusal) => return Ok(Err(refusal)),
+        }
     }
-    Ok(())
+    Ok(Ok(()))
 }

@@ -1,85 +1,75 @@
--- Each play is one of these.
-use Rattle.std.proofs.Common.{refl, sym, subst}
+-- A play that drops a log is answered by a line; of another the logs are told what it added.
+use Rattle.std.proofs.Common.{◌-◌, [], ◌∷◌, Ok, Err, length, refl, sym, ◌∙◌, ap, subst, inl, append-nil}
+use Rattle.std.proofs.lemmas.Result.{err_from_is_err_and}
 use Rattle.tdb_law.specs.Plays.{Play as LawPlay}
 use Rattle.tdb_plays.specs.declared.line.Line.TheVariants as Lines
 use Rattle.tdb_plays.specs.InLaw.{law_play}
+use Rattle.tdb_course.specs.Hearing.{Heard}
 use Rattle.tdb_course.specs.Led.{moment}
 use Rattle.tdb_course.specs.Told.{PlayLed}
 use Rattle.tdb_course.proofs.Answered.{answered}
-use Rattle.tdb_course.proofs.StoppedPlays.{answered_stops, turnless_stops}
+use Rattle.tdb_course.proofs.Dropping.{stays_unless}
+use Rattle.tdb_course.proofs.HeardPlays.{play_heard, fault_heard}
+use Rattle.tdb_course.proofs.Leading.{led_whole, led_fault}
+use Rattle.tdb_course.proofs.StoppedPlays.{answered_stops}
+use Rattle.tdb_course.proofs.Stopping.{same_added, stops_whole, stops_fault}
 use Rattle.tdb_course.proofs.playing.play.Goals as goal
 
-pub returns-in-Join : goal.returns-in-Join
-returns-in-Join g c = record {
-  led =
-      subst (λ p. PlayLed g.D.Disk.tells (moment c.args.world.now (g.D.Disk.history c.args.d.now) (g.D.Disk.size c.args.d.now) (g.D.Disk.faults c.args.d.now) c.args.report.now.lines)
-      (moment c.play_join.new.world (g.D.Disk.history c.args.d.now) (g.D.Disk.size c.args.d.now) (g.D.Disk.faults c.args.d.now) c.play_join.new.report.lines) c.play_join.result (law_play p)) (sym c.in-Join.is)
-      (c.play_join.ensures.led g.D.Disk.tells (g.D.Disk.history c.args.d.now) (g.D.Disk.size c.args.d.now) (g.D.Disk.faults c.args.d.now) c.requires.fits);
-  stops =
-      turnless_stops g.D.Disk.tells (moment c.args.world.now (g.D.Disk.history c.args.d.now) (g.D.Disk.size c.args.d.now) (g.D.Disk.faults c.args.d.now) c.args.report.now.lines)
-      (moment c.play_join.new.world (g.D.Disk.history c.args.d.now) (g.D.Disk.size c.args.d.now) (g.D.Disk.faults c.args.d.now) c.play_join.new.report.lines) LawPlay.Join tt refl c.play_join.result
-      (c.play_join.ensures.led g.D.Disk.tells (g.D.Disk.history c.args.d.now) (g.D.Disk.size c.args.d.now) (g.D.Disk.faults c.args.d.now) c.requires.fits);
-}
+pub returns-in_err-drop_log-clause-led : goal.returns-in_err-drop_log-clause-led
+returns-in_err-drop_log-clause-led g c =
+    let q = err_from_is_err_and c.from_residual.result c.from_residual.ensures.1 in
+    rw (q.1, q.2)
+    (led_fault g.D.Disk.tells (moment c.args.world.now (g.D.Disk.history c.args.d.now) (g.D.Disk.size c.args.d.now) (g.D.Disk.faults c.args.d.now) c.args.report.now.lines) (moment c.args.world.now (g.D.Disk.history c.args.d.now) (g.D.Disk.size c.args.d.now) (g.D.Disk.faults c.args.d.now) c.drop_log.new.report.lines) _ _ _ _ _ _ c.in_err-drop_log.field-0.0
+    (subst (λ p. PlayLed {V = Unit {0}} g.D.Disk.tells (moment c.args.world.now (g.D.Disk.history c.args.d.now) (g.D.Disk.size c.args.d.now) (g.D.Disk.faults c.args.d.now) c.args.report.now.lines) (moment c.args.world.now (g.D.Disk.history c.args.d.now) (g.D.Disk.size c.args.d.now) (g.D.Disk.faults c.args.d.now) c.drop_log.new.report.lines) (Err c.in_err-drop_log.field-0.0) (law_play p)) (sym c.in-SetLog.is)
+    (answered g.D.Disk.tells c.args.world.now (g.D.Disk.history c.args.d.now) (g.D.Disk.size c.args.d.now) (g.D.Disk.faults c.args.d.now) LawPlay.SetLog (Lines.LogsLeft (length (g.L.Logs.logs c.args.logs.now) - 1)) c.args.report.now.lines c.drop_log.new.report.lines c.requires.fits (λ h state is. tt) refl (Err c.in_err-drop_log.field-0.0) tt c.in_err-drop_log.ensures.kept.0 c.in_err-drop_log.ensures.memory)) (λ state lines z is B. B) (λ state lines z is L. L))
 
-pub returns-in-Give : goal.returns-in-Give
-returns-in-Give g c = record {
-  led =
-      subst (λ p. PlayLed g.D.Disk.tells (moment c.args.world.now (g.D.Disk.history c.args.d.now) (g.D.Disk.size c.args.d.now) (g.D.Disk.faults c.args.d.now) c.args.report.now.lines)
-      (moment c.play_give.new.world (g.D.Disk.history c.args.d.now) (g.D.Disk.size c.args.d.now) (g.D.Disk.faults c.args.d.now) c.play_give.new.report.lines) c.play_give.result (law_play p)) (sym c.in-Give.is)
-      (c.play_give.ensures.led g.D.Disk.tells (g.D.Disk.history c.args.d.now) (g.D.Disk.size c.args.d.now) (g.D.Disk.faults c.args.d.now) c.requires.fits);
-  stops =
-      turnless_stops g.D.Disk.tells (moment c.args.world.now (g.D.Disk.history c.args.d.now) (g.D.Disk.size c.args.d.now) (g.D.Disk.faults c.args.d.now) c.args.report.now.lines)
-      (moment c.play_give.new.world (g.D.Disk.history c.args.d.now) (g.D.Disk.size c.args.d.now) (g.D.Disk.faults c.args.d.now) c.play_give.new.report.lines) _ tt refl c.play_give.result
-      (c.play_give.ensures.led g.D.Disk.tells (g.D.Disk.history c.args.d.now) (g.D.Disk.size c.args.d.now) (g.D.Disk.faults c.args.d.now) c.requires.fits);
-}
+pub returns-in_err-drop_log-clause-stops : goal.returns-in_err-drop_log-clause-stops
+returns-in_err-drop_log-clause-stops g c =
+    let q = err_from_is_err_and c.from_residual.result c.from_residual.ensures.1 in
+    rw (q.1, q.2)
+    (stops_fault {V = Unit {0}} g.D.Disk.tells (moment c.args.world.now (g.D.Disk.history c.args.d.now) (g.D.Disk.size c.args.d.now) (g.D.Disk.faults c.args.d.now) c.args.report.now.lines) (moment c.args.world.now (g.D.Disk.history c.args.d.now) (g.D.Disk.size c.args.d.now) (g.D.Disk.faults c.args.d.now) c.drop_log.new.report.lines) c.in_err-drop_log.field-0.0
+    (answered_stops g.D.Disk.tells c.args.world.now (g.D.Disk.history c.args.d.now) (g.D.Disk.size c.args.d.now) (g.D.Disk.faults c.args.d.now) LawPlay.SetLog (Lines.LogsLeft (length (g.L.Logs.logs c.args.logs.now) - 1)) c.args.report.now.lines c.drop_log.new.report.lines (λ h state is. tt) (Err c.in_err-drop_log.field-0.0) tt c.in_err-drop_log.ensures.kept.0))
 
-pub returns-in-Do : goal.returns-in-Do
-returns-in-Do g c = record {
-  led =
-      subst (λ p. PlayLed g.D.Disk.tells (moment c.args.world.now (g.D.Disk.history c.args.d.now) (g.D.Disk.size c.args.d.now) (g.D.Disk.faults c.args.d.now) c.args.report.now.lines)
-      (moment c.play_do.new.world (g.D.Disk.history c.play_do.new.d) (g.D.Disk.size c.play_do.new.d) (g.D.Disk.faults c.play_do.new.d) c.play_do.new.report.lines) c.play_do.result (law_play p)) (sym c.in-Do.is)
-      c.play_do.ensures.led;
-  stops = c.play_do.ensures.stops;
-}
+pub returns-in_err-drop_log-clause-heard : goal.returns-in_err-drop_log-clause-heard
+returns-in_err-drop_log-clause-heard g c =
+    let q = err_from_is_err_and c.from_residual.result c.from_residual.ensures.1 in
+    rw (q.1)
+    (λ sees state added is e.
+    inl (subst (λ ls. Heard (g.L.Logs.logs c.args.logs.now) ls (g.L.Logs.logs c.drop_log.new.logs))
+    (same_added c.args.report.now.lines c.drop_log.new.report.lines [] added (c.in_err-drop_log.ensures.kept.0 ∙ sym (append-nil c.args.report.now.lines)) e)
+    (ap g.L.Logs.logs c.in_err-drop_log.ensures.kept.1)))
 
-pub returns-in-Turn : goal.returns-in-Turn
-returns-in-Turn g c = record {
-  led =
-      subst (λ p. PlayLed g.D.Disk.tells (moment c.args.world.now (g.D.Disk.history c.args.d.now) (g.D.Disk.size c.args.d.now) (g.D.Disk.faults c.args.d.now) c.args.report.now.lines)
-      (moment c.play_turn.new.world (g.D.Disk.history c.play_turn.new.d) (g.D.Disk.size c.play_turn.new.d) (g.D.Disk.faults c.play_turn.new.d) c.play_turn.new.report.lines) c.play_turn.result (law_play p)) (sym c.in-Turn.is)
-      c.play_turn.ensures.led;
-  stops = c.play_turn.ensures.stops;
-}
+pub returns-in-SetLog-clause-led : goal.returns-in-SetLog-clause-led
+returns-in-SetLog-clause-led g c =
+    led_whole g.D.Disk.tells (moment c.args.world.now (g.D.Disk.history c.args.d.now) (g.D.Disk.size c.args.d.now) (g.D.Disk.faults c.args.d.now) c.args.report.now.lines) (moment c.args.world.now (g.D.Disk.history c.args.d.now) (g.D.Disk.size c.args.d.now) (g.D.Disk.faults c.args.d.now) c.drop_log.new.report.lines) _ _ _ _ _ _ tt (Ok tt)
+    (subst (λ p. PlayLed {V = Unit {0}} g.D.Disk.tells (moment c.args.world.now (g.D.Disk.history c.args.d.now) (g.D.Disk.size c.args.d.now) (g.D.Disk.faults c.args.d.now) c.args.report.now.lines) (moment c.args.world.now (g.D.Disk.history c.args.d.now) (g.D.Disk.size c.args.d.now) (g.D.Disk.faults c.args.d.now) c.drop_log.new.report.lines) (Ok tt) (law_play p)) (sym c.in-SetLog.is)
+    (answered g.D.Disk.tells c.args.world.now (g.D.Disk.history c.args.d.now) (g.D.Disk.size c.args.d.now) (g.D.Disk.faults c.args.d.now) LawPlay.SetLog (Lines.LogsLeft (length (g.L.Logs.logs c.args.logs.now) - 1)) c.args.report.now.lines c.drop_log.new.report.lines c.requires.fits (λ h state is. tt) refl (Ok tt) c.in_ok-drop_log.ensures.dropped.0 tt tt)) (λ state lines z is G. G)
 
-pub returns-in-Go : goal.returns-in-Go
-returns-in-Go g c = record {
-  led =
-      subst (λ p. PlayLed g.D.Disk.tells (moment c.args.world.now (g.D.Disk.history c.args.d.now) (g.D.Disk.size c.args.d.now) (g.D.Disk.faults c.args.d.now) c.args.report.now.lines)
-      (moment c.play_go.new.world (g.D.Disk.history c.play_go.new.d) (g.D.Disk.size c.play_go.new.d) (g.D.Disk.faults c.play_go.new.d) c.play_go.new.report.lines) c.play_go.result (law_play p)) (sym c.in-Go.is)
-      c.play_go.ensures.led;
-  stops = c.play_go.ensures.stops;
-}
+pub returns-in-SetLog-clause-stops : goal.returns-in-SetLog-clause-stops
+returns-in-SetLog-clause-stops g c =
+    stops_whole g.D.Disk.tells (moment c.args.world.now (g.D.Disk.history c.args.d.now) (g.D.Disk.size c.args.d.now) (g.D.Disk.faults c.args.d.now) c.args.report.now.lines) (moment c.args.world.now (g.D.Disk.history c.args.d.now) (g.D.Disk.size c.args.d.now) (g.D.Disk.faults c.args.d.now) c.drop_log.new.report.lines) tt (Ok tt)
+    (answered_stops g.D.Disk.tells c.args.world.now (g.D.Disk.history c.args.d.now) (g.D.Disk.size c.args.d.now) (g.D.Disk.faults c.args.d.now) LawPlay.SetLog (Lines.LogsLeft (length (g.L.Logs.logs c.args.logs.now) - 1)) c.args.report.now.lines c.drop_log.new.report.lines (λ h state is. tt) (Ok tt) c.in_ok-drop_log.ensures.dropped.0 tt)
 
-pub returns-in-Die : goal.returns-in-Die
-returns-in-Die g c = record {
-  led =
-      subst (λ p. PlayLed g.D.Disk.tells (moment c.args.world.now (g.D.Disk.history c.args.d.now) (g.D.Disk.size c.args.d.now) (g.D.Disk.faults c.args.d.now) c.args.report.now.lines)
-      (moment c.play_die.new.world (g.D.Disk.history c.args.d.now) (g.D.Disk.size c.args.d.now) (g.D.Disk.faults c.args.d.now) c.play_die.new.report.lines) c.play_die.result (law_play p)) (sym c.in-Die.is)
-      (c.play_die.ensures.led g.D.Disk.tells (g.D.Disk.history c.args.d.now) (g.D.Disk.size c.args.d.now) (g.D.Disk.faults c.args.d.now) c.requires.fits);
-  stops =
-      turnless_stops g.D.Disk.tells (moment c.args.world.now (g.D.Disk.history c.args.d.now) (g.D.Disk.size c.args.d.now) (g.D.Disk.faults c.args.d.now) c.args.report.now.lines)
-      (moment c.play_die.new.world (g.D.Disk.history c.args.d.now) (g.D.Disk.size c.args.d.now) (g.D.Disk.faults c.args.d.now) c.play_die.new.report.lines) _ tt refl c.play_die.result
-      (c.play_die.ensures.led g.D.Disk.tells (g.D.Disk.history c.args.d.now) (g.D.Disk.size c.args.d.now) (g.D.Disk.faults c.args.d.now) c.requires.fits);
-}
+pub returns-in-SetLog-clause-heard : goal.returns-in-SetLog-clause-heard
+returns-in-SetLog-clause-heard g c sees state added is e =
+    subst (λ ls. Heard (g.L.Logs.logs c.args.logs.now) ls (g.L.Logs.logs c.drop_log.new.logs))
+    (same_added c.args.report.now.lines c.drop_log.new.report.lines ((Lines.LogsLeft (length (g.L.Logs.logs c.args.logs.now) - 1)) ∷ []) added c.in_ok-drop_log.ensures.dropped.0 e)
+    (refl, c.in_ok-drop_log.ensures.dropped.1)
 
-pub returns-in-SetLog : goal.returns-in-SetLog
-returns-in-SetLog g c = record {
-  led =
-      subst (λ p. PlayLed g.D.Disk.tells (moment c.args.world.now (g.D.Disk.history c.args.d.now) (g.D.Disk.size c.args.d.now) (g.D.Disk.faults c.args.d.now) c.args.report.now.lines)
-      (moment c.args.world.now (g.D.Disk.history c.args.d.now) (g.D.Disk.size c.args.d.now) (g.D.Disk.faults c.args.d.now) c.tell.new.report.lines) c.tell.result (law_play p)) (sym c.in-SetLog.is)
-      (answered g.D.Disk.tells c.args.world.now (g.D.Disk.history c.args.d.now) (g.D.Disk.size c.args.d.now) (g.D.Disk.faults c.args.d.now) LawPlay.SetLog (Lines.LogsLeft 0) c.args.report.now.lines c.tell.new.report.lines
-      c.requires.fits (λ h state is. tt) refl c.tell.result c.tell.ensures.told c.tell.ensures.err c.tell.ensures.memory);
-  stops =
-      answered_stops g.D.Disk.tells c.args.world.now (g.D.Disk.history c.args.d.now) (g.D.Disk.size c.args.d.now) (g.D.Disk.faults c.args.d.now) LawPlay.SetLog (Lines.LogsLeft 0)
-      c.args.report.now.lines c.tell.new.report.lines (λ h state is. tt) c.tell.result c.tell.ensures.told c.tell.ensures.err;
+pub returns-in_err-taken : goal.returns-in_err-taken
+returns-in_err-taken g c =
+    let q = err_from_is_err_and c.from_residual-in_err-taken.result c.from_residual-in_err-taken.ensures.1 in
+    record {
+      led = rw (q.1, q.2)
+          (led_fault g.D.Disk.tells (moment c.args.world.now (g.D.Disk.history c.args.d.now) (g.D.Disk.size c.args.d.now) (g.D.Disk.faults c.args.d.now) c.args.report.now.lines) (moment c.take_play-taken.new.world (g.D.Disk.history c.take_play-taken.new.d) (g.D.Disk.size c.take_play-taken.new.d) (g.D.Disk.faults c.take_play-taken.new.d) c.take_play-taken.new.report.lines) _ _ _ _ _ _ c.in_err-taken.field-0.0 c.in_err-taken.ensures.led (λ state lines z is B. B) (λ state lines z is L. L));
+      stops = rw (q.1, q.2) (stops_fault {V = Unit {0}} g.D.Disk.tells (moment c.args.world.now (g.D.Disk.history c.args.d.now) (g.D.Disk.size c.args.d.now) (g.D.Disk.faults c.args.d.now) c.args.report.now.lines) (moment c.take_play-taken.new.world (g.D.Disk.history c.take_play-taken.new.d) (g.D.Disk.size c.take_play-taken.new.d) (g.D.Disk.faults c.take_play-taken.new.d) c.take_play-taken.new.report.lines) c.in_err-taken.field-0.0 c.in_err-taken.ensures.stops);
+      heard = rw (q.1)
+          (fault_heard g.D.Disk.tells (moment c.args.world.now (g.D.Disk.history c.args.d.now) (g.D.Disk.size c.args.d.now) (g.D.Disk.faults c.args.d.now) c.args.report.now.lines) (moment c.take_play-taken.new.world (g.D.Disk.history c.take_play-taken.new.d) (g.D.Disk.size c.take_play-taken.new.d) (g.D.Disk.faults c.take_play-taken.new.d) c.take_play-taken.new.report.lines) _ _ c.args.play.now (stays_unless c.args.play.now c.in_default.not-SetLog) c.take_play-taken.result c.take_play-taken.ensures.led c.len-from.result c.len-from.ensures c.tell_logs-told.result c.tell_logs-told.ensures.heard c.in_err-taken.field-0.0);
+    }
+
+pub returns : goal.returns
+returns g c = record {
+  led = led_whole g.D.Disk.tells (moment c.args.world.now (g.D.Disk.history c.args.d.now) (g.D.Disk.size c.args.d.now) (g.D.Disk.faults c.args.d.now) c.args.report.now.lines) (moment c.take_play-taken.new.world (g.D.Disk.history c.take_play-taken.new.d) (g.D.Disk.size c.take_play-taken.new.d) (g.D.Disk.faults c.take_play-taken.new.d) c.take_play-taken.new.report.lines) _ _ _ _ _ _ tt c.tell_logs-told.result c.in_ok-taken.ensures.led (λ state lines z is G. G);
+  stops = stops_whole {V = Unit {0}} g.D.Disk.tells (moment c.args.world.now (g.D.Disk.history c.args.d.now) (g.D.Disk.size c.args.d.now) (g.D.Disk.faults c.args.d.now) c.args.report.now.lines) (moment c.take_play-taken.new.world (g.D.Disk.history c.take_play-taken.new.d) (g.D.Disk.size c.take_play-taken.new.d) (g.D.Disk.faults c.take_play-taken.new.d) c.take_play-taken.new.report.lines) tt c.tell_logs-told.result c.in_ok-taken.ensures.stops;
+  heard = play_heard g.D.Disk.tells (moment c.args.world.now (g.D.Disk.history c.args.d.now) (g.D.Disk.size c.args.d.now) (g.D.Disk.faults c.args.d.now) c.args.report.now.lines) (moment c.take_play-taken.new.world (g.D.Disk.history c.take_play-taken.new.d) (g.D.Disk.size c.take_play-taken.new.d) (g.D.Disk.faults c.take_play-taken.new.d) c.take_play-taken.new.report.lines) _ _ c.args.play.now (stays_unless c.args.play.now c.in_default.not-SetLog) c.take_play-taken.result c.take_play-taken.ensures.led c.len-from.result c.len-from.ensures c.tell_logs-told.result c.tell_logs-told.ensures.heard;
 }

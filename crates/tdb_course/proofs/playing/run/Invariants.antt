@@ -1,9 +1,10 @@
--- The plays so far were taken whole.
+-- The plays so far were taken whole, and the logs heard of all.
 use Rattle.std.proofs.Common.{Ok, take}
 use Rattle.tdb_law.specs.Plays.{Course}
 use Rattle.tdb_plays.specs.InLaw.{law_plays}
 use Rattle.tdb_world.specs.Played.{ComesTo}
 use Rattle.tdb_whole.specs.Whole.{form_at}
+use Rattle.tdb_course.specs.Hearing.{HeardLed}
 use Rattle.tdb_course.specs.Led.{moment, Led}
 use Rattle.tdb_course.specs.Stops.{StopsLed}
 use Rattle.tdb_course.proofs.playing.run.Given as goal
@@ -17,4 +18,6 @@ invariant-loop-next g l = record {
       (λ state. ComesTo (form_at l.fn.world) state (law_plays l.plays));
   stops : StopsLed {V = Unit {0}} g.D.Disk.tells (moment l.fn.world (g.D.Disk.history l.fn.d) (g.D.Disk.size l.fn.d) (g.D.Disk.faults l.fn.d) l.fn.report.lines)
       (moment l.world (g.D.Disk.history l.d) (g.D.Disk.size l.d) (g.D.Disk.faults l.d) l.report.lines) (Ok tt);
+  heard : HeardLed g.D.Disk.tells (moment l.fn.world (g.D.Disk.history l.fn.d) (g.D.Disk.size l.fn.d) (g.D.Disk.faults l.fn.d) l.fn.report.lines)
+      (moment l.world (g.D.Disk.history l.d) (g.D.Disk.size l.d) (g.D.Disk.faults l.d) l.report.lines) (g.L.Logs.logs l.fn.logs) (g.L.Logs.logs l.logs) (Ok (Ok tt));
 }
