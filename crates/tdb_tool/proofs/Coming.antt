@@ -1,5 +1,5 @@
 -- What is done in a session, one after the other, with its text written as it is made.
-use Rattle.std.proofs.Common.{◌≡◌, ℕ, List, [], ◌∷◌, ◌++◌, Option, None, Some, refl, sym, ◌∙◌, ap, subst, arith}
+use Rattle.std.proofs.Common.{◌≡◌, ℕ, List, [], ◌∷◌, ◌++◌, Option, None, Some, inl, refl, sym, ◌∙◌, ap, subst, arith}
 use Rattle.std.specs.Prelude.{Bool}
 use Rattle.std.proofs.lemmas.List.{append_assoc, append-nil}
 use Rattle.tdb_disk.specs.Count.{Rose}
@@ -13,7 +13,8 @@ use Rattle.tdb_whole.specs.Stops.{IsSafe}
 use Rattle.tdb_whole.specs.Whole.{form_at}
 use Rattle.tdb_tool.specs.declared.fault.SessionFault.{SessionFault}
 use Rattle.tdb_tool.specs.declared.fault.SessionFault.TheVariants as F
-use Rattle.tdb_tool.specs.Serving.{UnlessBroken, OnBroken, Deed, TellsAll, TellsFront, LeavesAll, LeavesFront, RunsTo, Scene, IsStateAt, FitsAt, Safely, Led}
+use Rattle.tdb_tool.specs.Serving.{UnlessBroken, OnBroken, HeardSo, Deed, TellsAll, TellsFront, LeavesAll, LeavesFront, RunsTo, Scene, IsStateAt, FitsAt, DoneBetween, Led}
+use Rattle.tdb_tool.proofs.Hearing.{heard_after}
 use Rattle.tdb_tool.proofs.Stops.{LeadsOn, stops_nowhere, stops_after}
 use Rattle.tdb_tool.proofs.Telling.{front_all, front_after}
 
@@ -128,6 +129,7 @@ module _ (f : Form) (told : Bool) where
     runs_after first whole part both half all some old mid before between now (Some F.Input) p q = left_on first whole both all old mid before between now p q
     runs_after first whole part both half all some old mid before between now (Some F.Output) p q = left_front_on first part half some old mid before between now p q
     runs_after first whole part both half all some old mid before between now (Some F.Device) p q = (q.0, all_then_front first part half some old mid q.0 before between now p q.1)
+    runs_after first whole part both half all some old mid before between now (Some F.Log) p q = left_on first part half some old mid before between now p q
     runs_after first whole part both half all some old mid before between now (Some F.Memory) p q = left_front_on first part half some old mid before between now p q
 
     runs_as : (whole part all some : Deed) → IsToo whole all → IsToo part some → (old : State) (before now : List ℕ) (answer : Option SessionFault) → RunsTo whole part f old IsLeft told before now answer → RunsTo all some f old IsLeft told before now answer
@@ -135,6 +137,7 @@ module _ (f : Form) (told : Bool) where
     runs_as whole part all some w p old before now (Some F.Input) q = left_as whole all w old before now q
     runs_as whole part all some w p old before now (Some F.Output) q = left_front_as part some p old before now q
     runs_as whole part all some w p old before now (Some F.Device) q = (q.0, front_as part some p old q.0 before now q.1)
+    runs_as whole part all some w p old before now (Some F.Log) q = left_as part some p old before now q
     runs_as whole part all some w p old before now (Some F.Memory) q = left_front_as part some p old before now q
 
 -- what holds unless the disk failed is weakened, or moved
@@ -143,6 +146,7 @@ unless_map None h a = h a
 unless_map (Some F.Input) h a = h a
 unless_map (Some F.Output) h a = h a
 unless_map (Some F.Device) h a = tt
+unless_map (Some F.Log) h a = h a
 unless_map (Some F.Memory) h a = h a
 
 pub on_map : {A B : Type 0} (answer : Option SessionFault) → (A → B) → OnBroken answer A → OnBroken answer B
@@ -150,18 +154,23 @@ on_map None h a = tt
 on_map (Some F.Input) h a = tt
 on_map (Some F.Output) h a = tt
 on_map (Some F.Device) h a = h a
+on_map (Some F.Log) h a = tt
 on_map (Some F.Memory) h a = tt
 
--- what was done with what stops leave is something else too, and so it is behind something else
-pub safely_too : (start new : Scene) (answer other : Option SessionFault) (one two : Deed) → ((A : Type 0) → UnlessBroken answer A → UnlessBroken other A) → IsToo one two
-    → IsToo (Safely start new answer one) (Safely start new other two)
-safely_too start new answer other one two moved too f old after lines text (done, safely) =
-    (too f old after lines text done, λ safe calm. (let S = safely safe calm in record { stops = S.stops; safe = moved (IsSafe f new.history) S.safe }))
+-- what was done with what stops leave and what logs heard is something else too, and so it is behind something else
+pub done_too : (start new : Scene) (answer other : Option SessionFault) (one two : Deed) → ((A : Type 0) → UnlessBroken answer A → UnlessBroken other A)
+    → ((lines : List Line) → HeardSo answer start.logs lines new.logs → HeardSo other start.logs lines new.logs) → IsToo one two
+    → IsToo (DoneBetween start new answer one) (DoneBetween start new other two)
+done_too start new answer other one two moved told too f old after lines text (done, stops, heard) =
+    (too f old after lines text done, λ safe calm. (let S = stops safe calm in record { stops = S.stops; safe = moved (IsSafe f new.history) S.safe }), told lines heard)
 
-safely_follows : (start mid new : Scene) (answer : Option SessionFault) (first next both : Deed) → LeadsOn first → Follows first next both
-    → Follows (Safely start mid None first) (Safely mid new answer next) (Safely start new answer both)
-safely_follows start mid new answer first next both leads follows f old at after front rest text more (done, stops) (went, others) =
-    (follows f old at after front rest text more done went, stops_after f start mid new answer old at front rest (leads f old at front text done) stops others)
+done_follows : (start mid new : Scene) (answer : Option SessionFault) (first next both : Deed) → LeadsOn first → Follows first next both
+    → Follows (DoneBetween start mid None first) (DoneBetween mid new answer next) (DoneBetween start new answer both)
+done_follows start mid new answer first next both leads follows f old at after front rest text more (done, stops, heard) (went, others, told) = (
+  follows f old at after front rest text more done went,
+  stops_after f start mid new answer old at front rest (leads f old at front text done) stops others,
+  heard_after start.logs mid.logs new.logs front rest answer heard told,
+)
 
 module _ (disk_tells told : Bool) where
   -- nothing was done, which is something
@@ -172,7 +181,7 @@ module _ (disk_tells told : Bool) where
     fits = fits;
     rises = omega arith;
     quiet = refl;
-    runs = λ heard state is. (state, is, ([], [], (nothing (form_at start.world) state, λ safe calm. stops_nowhere start state is safe), λ out. sym (append-nil start.written)));
+    runs = λ heard state is. (state, is, ([], [], (nothing (form_at start.world) state, (λ safe calm. stops_nowhere start state is safe), refl), λ out. sym (append-nil start.written)));
     rose = λ heard state is. tt;
   }
 
@@ -185,8 +194,8 @@ module _ (disk_tells told : Bool) where
     rises = led.rises;
     quiet = led.quiet;
     runs = λ heard state is.
-        left_as (form_at start.world) told (IsStateAt new) (Safely start new None whole) (Safely start new (Some F.Input) whole)
-        (safely_too start new None (Some F.Input) whole whole (λ A a. a) (λ f old after lines text done. done)) state start.written new.written (led.runs heard state is);
+        left_as (form_at start.world) told (IsStateAt new) (DoneBetween start new None whole) (DoneBetween start new (Some F.Input) whole)
+        (done_too start new None (Some F.Input) whole whole (λ A a. a) (λ lines heard. heard) (λ f old after lines text done. done)) state start.written new.written (led.runs heard state is);
     rose = λ heard state is. tt;
   }
 
@@ -198,9 +207,9 @@ module _ (disk_tells told : Bool) where
     rises = led.rises;
     quiet = led.quiet;
     runs = λ heard state is.
-        left_front_as (form_at start.world) told (IsStateAt new) (Safely start new None whole) (Safely start new (Some F.Memory) part)
-        (safely_too start new None (Some F.Memory) whole part (λ A a. a) too) state start.written new.written
-        (left_front (form_at start.world) told (IsStateAt new) (Safely start new None whole) state start.written new.written (led.runs heard state is));
+        left_front_as (form_at start.world) told (IsStateAt new) (DoneBetween start new None whole) (DoneBetween start new (Some F.Memory) part)
+        (done_too start new None (Some F.Memory) whole part (λ A a. a) (λ lines heard. inl heard) too) state start.written new.written
+        (left_front (form_at start.world) told (IsStateAt new) (DoneBetween start new None whole) state start.written new.written (led.runs heard state is));
     rose = λ heard state is. tt;
   }
 
@@ -213,8 +222,8 @@ module _ (disk_tells told : Bool) where
     rises = led.rises;
     quiet = led.quiet;
     runs = λ heard state is.
-        runs_as (form_at start.world) told (IsStateAt new) (Safely start new answer whole) (Safely start new answer part) (Safely start new answer all) (Safely start new answer some)
-        (safely_too start new answer answer whole all (λ A a. a) w) (safely_too start new answer answer part some (λ A a. a) p) state start.written new.written answer (led.runs heard state is);
+        runs_as (form_at start.world) told (IsStateAt new) (DoneBetween start new answer whole) (DoneBetween start new answer part) (DoneBetween start new answer all) (DoneBetween start new answer some)
+        (done_too start new answer answer whole all (λ A a. a) (λ lines heard. heard) w) (done_too start new answer answer part some (λ A a. a) (λ lines heard. heard) p) state start.written new.written answer (led.runs heard state is);
     rose = led.rose;
   }
 
@@ -226,7 +235,7 @@ module _ (disk_tells told : Bool) where
     fits = led.fits;
     rises = led.rises;
     quiet = led.quiet;
-    runs = λ heard state is. of (Safely start new (Some fault) whole) (Safely start new (Some fault) other) (Safely start new (Some fault) part) state fault but (led.runs heard state is);
+    runs = λ heard state is. of (DoneBetween start new (Some fault) whole) (DoneBetween start new (Some fault) other) (DoneBetween start new (Some fault) part) state fault but (led.runs heard state is);
     rose = led.rose;
   }
     where
@@ -236,6 +245,7 @@ module _ (disk_tells told : Bool) where
       of one two some state F.Input but runs = absurd (but refl)
       of one two some state F.Output but runs = runs
       of one two some state F.Device but runs = runs
+      of one two some state F.Log but runs = runs
       of one two some state F.Memory but runs = runs
 
   -- something was done, and then something else
@@ -253,9 +263,9 @@ module _ (disk_tells told : Bool) where
       quiet = unless_map answer (λ same. same ∙ before.quiet) next.quiet;
       runs = λ heard state is.
           (let r = before.runs heard state is in
-          runs_after (form_at start.world) told (IsStateAt new) (Safely start mid None first) (Safely mid new answer whole) (Safely mid new answer part)
-          (Safely start new answer both) (Safely start new answer half)
-          (safely_follows start mid new answer first whole both leads all) (safely_follows start mid new answer first part half leads some) state r.0 start.written mid.written new.written answer r.2
-          (subst (λ f. RunsTo (Safely mid new answer whole) (Safely mid new answer part) f r.0 (IsStateAt new) told mid.written new.written answer) same_form (next.runs heard r.0 r.1)));
+          runs_after (form_at start.world) told (IsStateAt new) (DoneBetween start mid None first) (DoneBetween mid new answer whole) (DoneBetween mid new answer part)
+          (DoneBetween start new answer both) (DoneBetween start new answer half)
+          (done_follows start mid new answer first whole both leads all) (done_follows start mid new answer first part half leads some) state r.0 start.written mid.written new.written answer r.2
+          (subst (λ f. RunsTo (DoneBetween mid new answer whole) (DoneBetween mid new answer part) f r.0 (IsStateAt new) told mid.written new.written answer) same_form (next.runs heard r.0 r.1)));
       rose = λ heard state is. (let r = before.runs heard state is in on_map answer (λ rose. subst (λ n. Rose n new.faults) before.quiet rose) (next.rose heard r.0 r.1));
     }

@@ -2,6 +2,7 @@ pub mod Telling
 pub mod HexLemmas
 pub mod LineLemmas
 pub mod Stops
+pub mod Hearing
 pub mod Coming
 pub mod PartLemmas
 pub mod Plays

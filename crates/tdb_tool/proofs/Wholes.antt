@@ -1,6 +1,6 @@
 -- A session from its beginning to its end, from what its parts gave.
 use Rattle.std.proofs.Common.{◌≡◌, ℕ, zero, suc, List, [], ◌∷◌, ◌++◌, Option, None, Some, Result, Ok, Err, refl, sym, ◌∙◌, ap, subst, inl, inr}
-use Rattle.std.specs.Prelude.{Bool, IsTrue}
+use Rattle.std.specs.Prelude.{Bool, IsTrue, false}
 use Rattle.std.proofs.lemmas.List.{map-append}
 use Rattle.tdb_disk.specs.History.{seen}
 use Rattle.tdb_disk.specs.Stop.{Quiet}
@@ -36,8 +36,8 @@ use Rattle.tdb_tool.specs.declared.fault.SessionFault.TheVariants as F
 use Rattle.tdb_tool.specs.declared.order.Order.{Order}
 use Rattle.tdb_tool.specs.Asking.{Session, BeginsBy}
 use Rattle.tdb_tool.specs.Parts.{Silent, doing, parts_of, AllDone, AllCame}
-use Rattle.tdb_tool.specs.Serving.{fault_of, UnlessBroken, TellsAll, TellsFront, RunsTo, Scene, IsStateAt, StopsBetween, Safely, Ran, AsksFor, Served, ServedAll}
-use Rattle.tdb_tool.specs.Whole.{closing, session_parts, SessionLed, SessionDeed, IsOver, beginning_over, StopsOpen, SessionOver, SessionCame, SessionRan}
+use Rattle.tdb_tool.specs.Serving.{fault_of, UnlessBroken, HeardSo, TellsAll, TellsFront, RunsTo, Scene, IsStateAt, StopsBetween, DoneBetween, Ran, AsksFor, Served, ServedAll}
+use Rattle.tdb_tool.specs.Whole.{closing, session_parts, IsClosed, SessionLed, SessionDeed, IsOver, beginning_over, StopsOpen, SessionOver, SessionCame, SessionRan}
 use Rattle.tdb_tool.proofs.Coming.{IsToo, all_is_front, unless_map, led_as}
 use Rattle.tdb_tool.proofs.PartLemmas.{all_came, came_more, all_course, came_comes}
 use Rattle.tdb_tool.proofs.PartsRan.{ran_on, ran_memory}
@@ -72,6 +72,7 @@ module _ (d i o : Bool) (start mid last : Scene) (text : List ℕ) where
     asks,
     led_as d o (AllDone (Silent Play.Join ∷ parts_of orders)) (AllCame (Silent Play.Join ∷ parts_of orders)) (AllCame (session_parts orders)) (AllCame (session_parts orders))
         (λ f old new lines text done. front_came orders f old new lines text (all_came f (Silent Play.Join ∷ parts_of orders) old new lines text done)) (front_came orders) start mid (Some fault) ran,
+    tt,
   )
 
   module _ (end : SessionEnd) (served : ServedAll d i o start mid text (Ok end)) (close : Play) (is : close ≡ doing Command.Close) where
@@ -79,8 +80,8 @@ module _ (d i o : Bool) (start mid last : Scene) (text : List ℕ) where
     all_ran : (answer : Option SessionFault) → Ran d o mid last (Silent close ∷ []) answer → Ran d o start last (session_parts served.0) answer
     all_ran answer ran = ran_on d o start mid last (Silent Play.Join ∷ parts_of served.0) closing served.2 answer (subst (λ p. Ran d o mid last (Silent p ∷ []) answer) is ran)
 
-    pub session_closed : Ran d o mid last (Silent close ∷ []) None → SessionLed d i o start last text (Ok end)
-    session_closed ran = (served.0, served.1, all_ran None ran)
+    pub session_closed : Ran d o mid last (Silent close ∷ []) None → IsClosed (Ok end) last → SessionLed d i o start last text (Ok end)
+    session_closed ran closed = (served.0, served.1, all_ran None ran, closed)
 
     pub session_unclosed : (fault : SessionFault) → Ran d o mid last (Silent close ∷ []) (Some fault) → SessionLed d i o start last text (Err fault)
     session_unclosed fault ran = (
@@ -88,7 +89,12 @@ module _ (d i o : Bool) (start mid last : Scene) (text : List ℕ) where
       λ heard. begins text served.0 end (served.1 heard),
       led_as d o (AllDone (session_parts served.0)) (AllCame (session_parts served.0)) (AllCame (session_parts served.0)) (AllCame (session_parts served.0))
           (λ f old new lines text done. all_came f (session_parts served.0) old new lines text done) (λ f old new lines text came. came) start last (Some fault) (all_ran (Some fault) ran),
+      tt,
     )
+
+    -- its close was answered that memory was wanting
+    pub session_not_closed : Ran d o mid last (Silent close ∷ []) None → SessionLed d i o start last text (Err F.Memory)
+    session_not_closed ran = session_unclosed F.Memory (ran_memory d o mid last (Silent close ∷ []) ran)
 
 -- a world whose header has this form is over the bytes of its file
 pub over_self : (f : Form) (w : World) (img : List ℕ) → form_in w.header ≡ f → IsOver f img (state_in w img)
@@ -107,14 +113,14 @@ ends_some : (s : State) → (more : List Line) × EndsWith s more
 ends_some s = unfinished_from s 0 s.joined
 
 module _ (f : Form) (options : Options) (a : List ℕ) (orders : List Order) (old : State) (loaded : IsLoaded f old (options_of options)) (over : IsOver f a old) (told : Bool) (before now : List ℕ)
-    (Stops : State → List LawLine → Type 0) where
+    (Stops : State → List LawLine → Type 0) (Hears : List Line → Type 0) where
   from_map : (lines : List LawLine) → IsLawful f (beginning (options_of options) old.file old.number) lines → IsLawful f (beginning_over f options a) lines
   from_map lines lawful = subst (λ (q : Map × ℕ). IsLawful f (beginning (options_of options) q.0 q.1) lines) (λ j. (over.file j, over.number j)) lawful
 
   -- all of it was done
-  whole : (new : State) (b : List ℕ) → IsReadAs f b new → (lines : List Line) (text : List ℕ) → AllDone (session_parts orders) f old lines text new → (IsTrue told → now ≡ before ++ text)
-      → Stops old (law_lines lines) → SessionOver f options a orders b told before now Stops
-  whole new b read lines text done printed stops =
+  whole : (new : State) (b : List ℕ) → IsReadAs f b new → (new.own 0).live ≡ false → (lines : List Line) (text : List ℕ) → AllDone (session_parts orders) f old lines text new → (IsTrue told → now ≡ before ++ text)
+      → Stops old (law_lines lines) → Hears lines → SessionOver f options a orders b told before now Stops Hears
+  whole new b read closed lines text done printed stops heard =
       let course = all_course f (session_parts orders) old new lines text done in
       let end = ends_some new in
       record {
@@ -126,17 +132,19 @@ module _ (f : Form) (options : Options) (a : List ℕ) (orders : List Order) (ol
         text = text;
         done = done;
         left = read;
+        closed = closed;
         more = end.0;
         ends = end.1;
         lawful = subst (λ ls. IsLawful f (beginning_over f options a) ls) (sym (map-append law_line lines end.0)) (from_map _ (report_lawful f (options_of options) old new course.0 (law_lines lines) end.0 loaded course.1 end.1));
         printed = printed;
         stops = stops;
+        heard = heard;
       }
 
   -- it came to a state
   came : (new : State) (lines : List Line) (text : List ℕ) → AllCame (session_parts orders) f old lines text new → (IsTrue told → WroteFront before text now) → Stops old (law_lines lines)
-      → SessionCame f options a orders new told before now Stops
-  came new lines text comes printed stops =
+      → Hears lines → SessionCame f options a orders new told before now Stops Hears
+  came new lines text comes printed stops heard =
       let coming = came_comes f (session_parts orders) old new lines text comes in
       record {
         old = old;
@@ -148,6 +156,7 @@ module _ (f : Form) (options : Options) (a : List ℕ) (orders : List Order) (ol
         lawful = from_map (law_lines lines) (broken_lawful f (options_of options) old new coming.0 (law_lines lines) loaded coming.1);
         printed = printed;
         stops = stops;
+        heard = heard;
       }
 
 -- so it ran, by its answer
@@ -159,26 +168,34 @@ module _ (f : Form) (options : Options) (start last : Scene) (orders : List Orde
   opens : (answer : Option SessionFault) (lines : List Line) → (IsSafe f start.history → IsTransacted f old (law_lines lines) → StopsBetween start last answer f old lines) → Opens old (law_lines lines)
   opens answer lines stops quiet calm = (stops (safe quiet) calm).stops
 
-  came_front : (answer : Option SessionFault) (new : State) → TellsFront (Safely start last answer (AllCame (session_parts orders))) f old new told start.written last.written
-      → SessionCame f options (seen start.history) orders new told start.written last.written Opens
-  came_front answer new (lines, all, (comes, stops), printed) =
-      came f options (seen start.history) orders old loaded over told start.written last.written Opens new lines all comes printed (opens answer lines stops)
+  abbrev Hears : Option SessionFault → List Line → Type 0
+  Hears answer lines = HeardSo answer start.logs lines last.logs
 
-  came_all : (answer : Option SessionFault) (new : State) → TellsAll (Safely start last answer (AllCame (session_parts orders))) f old new told start.written last.written
-      → SessionCame f options (seen start.history) orders new told start.written last.written Opens
-  came_all answer new all = came_front answer new (all_is_front f told (Safely start last answer (AllCame (session_parts orders))) old new start.written last.written all)
+  came_front : (answer : Option SessionFault) (new : State) → TellsFront (DoneBetween start last answer (AllCame (session_parts orders))) f old new told start.written last.written
+      → SessionCame f options (seen start.history) orders new told start.written last.written Opens (Hears answer)
+  came_front answer new (lines, all, (comes, stops, heard), printed) =
+      came f options (seen start.history) orders old loaded over told start.written last.written Opens (Hears answer) new lines all comes printed (opens answer lines stops) heard
 
-  ran_by : (answer : Result SessionEnd SessionFault) → (IsTrue heard → AsksFor text orders answer)
+  came_all : (answer : Option SessionFault) (new : State) → TellsAll (DoneBetween start last answer (AllCame (session_parts orders))) f old new told start.written last.written
+      → SessionCame f options (seen start.history) orders new told start.written last.written Opens (Hears answer)
+  came_all answer new all = came_front answer new (all_is_front f told (DoneBetween start last answer (AllCame (session_parts orders))) old new start.written last.written all)
+
+  ran_by : (answer : Result SessionEnd SessionFault) → (IsTrue heard → AsksFor text orders answer) → IsClosed answer last
       → UnlessBroken (fault_of answer) ((new : State) → IsStateAt last new → IsReadAs f (seen last.history) new)
-      → RunsTo (Safely start last (fault_of answer) (SessionDeed orders answer)) (Safely start last (fault_of answer) (AllCame (session_parts orders))) f old (IsStateAt last) told
+      → RunsTo (DoneBetween start last (fault_of answer) (SessionDeed orders answer)) (DoneBetween start last (fault_of answer) (AllCame (session_parts orders))) f old (IsStateAt last) told
       start.written last.written (fault_of answer)
-      → SessionRan f options start.history last.history heard text told start.written last.written answer
-  ran_by (Ok end) asks read (new, is, p) =
-      (orders, asks, whole f options (seen start.history) orders old loaded over told start.written last.written Opens new (seen last.history) (read new is) p.0 p.1 p.2.0 p.3 (opens None p.0 p.2.1))
-  ran_by (Err F.Input) asks read (new, is, p) = (orders, asks, new, came_all (Some F.Input) new p, read new is)
-  ran_by (Err F.Output) asks read (new, is, p) = (orders, asks, new, came_front (Some F.Output) new p, read new is)
-  ran_by (Err F.Device) asks read (left, p) = (orders, asks, left, came_front (Some F.Device) left p)
-  ran_by (Err F.Memory) asks read (new, is, p) = (orders, asks, new, came_front (Some F.Memory) new p, read new is)
+      → SessionRan f options start.history last.history heard text told start.written last.written start.logs last.logs answer
+  ran_by (Ok end) asks closed read (new, is, p) = (
+    orders,
+    asks,
+    whole f options (seen start.history) orders old loaded over told start.written last.written Opens (Hears None) new (seen last.history) (read new is) (closed new is) p.0 p.1 p.2.0 p.3
+        (opens None p.0 p.2.1) p.2.2,
+  )
+  ran_by (Err F.Input) asks closed read (new, is, p) = (orders, asks, new, came_all (Some F.Input) new p, read new is)
+  ran_by (Err F.Output) asks closed read (new, is, p) = (orders, asks, new, came_front (Some F.Output) new p, read new is)
+  ran_by (Err F.Device) asks closed read (left, p) = (orders, asks, left, came_front (Some F.Device) left p)
+  ran_by (Err F.Log) asks closed read (new, is, p) = (orders, asks, new, came_all (Some F.Log) new p, read new is)
+  ran_by (Err F.Memory) asks closed read (new, is, p) = (orders, asks, new, came_front (Some F.Memory) new p, read new is)
 
 -- the same, from what the calls say of the moments
 module _ (d heard told : Bool) (header : Header) (options : Options) (text : List ℕ) (start last : Scene) (same : start.world.openers.header ≡ header) (answer : Result SessionEnd SessionFault)
@@ -189,18 +206,19 @@ module _ (d heard told : Bool) (header : Header) (options : Options) (text : Lis
   left_read : UnlessBroken (fault_of answer) ((new : State) → IsStateAt last new → IsReadAs (form_in header) (seen last.history) new)
   left_read = unless_map (fault_of answer) (λ kept new left. subst (λ f. IsReadAs f (seen last.history) new) (ap form_in (kept ∙ same)) (state_reopens last.world last.history new left)) led.2.header
 
-  pub session_ran : AcceptWith (form_in header) (seen start.history) [] → Begins → SessionRan (form_in header) options start.history last.history heard text told start.written last.written answer
+  pub session_ran : AcceptWith (form_in header) (seen start.history) [] → Begins → SessionRan (form_in header) options start.history last.history heard text told start.written last.written start.logs last.logs answer
   session_ran accepted (loaded, file, number) =
-      let whole = Safely start last (fault_of answer) (SessionDeed led.0 answer) in
-      let part = Safely start last (fault_of answer) (AllCame (session_parts led.0)) in
+      let whole = DoneBetween start last (fault_of answer) (SessionDeed led.0 answer) in
+      let part = DoneBetween start last (fault_of answer) (AllCame (session_parts led.0)) in
       ran_by (form_in header) options start last led.0 state loaded (record { file = file; number = number }) (accepted_safe (form_in header) start.history accepted)
-      told heard text answer led.1 left_read
+      told heard text answer led.1 led.3 left_read
       (subst (λ h. RunsTo whole part (form_in h) state (IsStateAt last) told start.written last.written (fault_of answer)) same (led.2.runs tells state is))
 
--- what is said of the stops of a session may be something weaker
+-- what is said of the stops of a session, and of what logs heard, may be something weaker
 module _ (f : Form) (options : Options) (a : List ℕ) (orders : List Order) (told : Bool) (before now : List ℕ)
-    (One Two : State → List LawLine → Type 0) (weaker : (s : State) (lines : List LawLine) → One s lines → Two s lines) where
-  pub over_weaker : (b : List ℕ) → SessionOver f options a orders b told before now One → SessionOver f options a orders b told before now Two
+    (One Two : State → List LawLine → Type 0) (weaker : (s : State) (lines : List LawLine) → IsOver f a s → One s lines → Two s lines)
+    (Hear Hears : List Line → Type 0) (softer : (lines : List Line) → Hear lines → Hears lines) where
+  pub over_weaker : (b : List ℕ) → SessionOver f options a orders b told before now One Hear → SessionOver f options a orders b told before now Two Hears
   over_weaker b p = record {
     old = p.old;
     loaded = p.loaded;
@@ -210,14 +228,16 @@ module _ (f : Form) (options : Options) (a : List ℕ) (orders : List Order) (to
     text = p.text;
     done = p.done;
     left = p.left;
+    closed = p.closed;
     more = p.more;
     ends = p.ends;
     lawful = p.lawful;
     printed = p.printed;
-    stops = weaker p.old (law_lines p.lines) p.stops;
+    stops = weaker p.old (law_lines p.lines) p.over p.stops;
+    heard = softer p.lines p.heard;
   }
 
-  pub came_weaker : (new : State) → SessionCame f options a orders new told before now One → SessionCame f options a orders new told before now Two
+  pub came_weaker : (new : State) → SessionCame f options a orders new told before now One Hear → SessionCame f options a orders new told before now Two Hears
   came_weaker new p = record {
     old = p.old;
     loaded = p.loaded;
@@ -227,12 +247,13 @@ module _ (f : Form) (options : Options) (a : List ℕ) (orders : List Order) (to
     came = p.came;
     lawful = p.lawful;
     printed = p.printed;
-    stops = weaker p.old (law_lines p.lines) p.stops;
+    stops = weaker p.old (law_lines p.lines) p.over p.stops;
+    heard = softer p.lines p.heard;
   }
 
 -- a session that was taken whole came as far as its end
-pub over_comes : (f : Form) (options : Options) (a : List ℕ) (orders : List Order) (b : List ℕ) (told : Bool) (before now : List ℕ) (Stops : State → List LawLine → Type 0)
-    (p : SessionOver f options a orders b told before now Stops) → SessionCame f options a orders p.new told before now Stops
-over_comes f options a orders b told before now Stops p =
-    came f options a orders p.old p.loaded p.over told before now Stops p.new p.lines p.text (all_came f (session_parts orders) p.old p.new p.lines p.text p.done)
-    (λ heard. front_all before p.text now (p.printed heard)) p.stops
+pub over_comes : (f : Form) (options : Options) (a : List ℕ) (orders : List Order) (b : List ℕ) (told : Bool) (before now : List ℕ) (Stops : State → List LawLine → Type 0) (Hears : List Line → Type 0)
+    (p : SessionOver f options a orders b told before now Stops Hears) → SessionCame f options a orders p.new told before now Stops Hears
+over_comes f options a orders b told before now Stops Hears p =
+    came f options a orders p.old p.loaded p.over told before now Stops Hears p.new p.lines p.text (all_came f (session_parts orders) p.old p.new p.lines p.text p.done)
+    (λ heard. front_all before p.text now (p.printed heard)) p.stops p.heard

@@ -1,5 +1,5 @@
 -- How parts of a session are done over a file, as far as they come, and their text is written.
-use Rattle.std.specs.Prelude.{◌≡◌, ℕ, ◌<◌, ◌≤◌, ◌+◌, Bool, IsTrue, List, ◌∷◌, ◌++◌, Option, None, Some, Result, Ok, Err, IfOk}
+use Rattle.std.specs.Prelude.{◌≡◌, ℕ, ◌<◌, ◌≤◌, ◌+◌, ◌⊎◌, Bool, IsTrue, List, ◌∷◌, ◌++◌, Option, None, Some, Result, Ok, Err, IfOk}
 use Rattle.tdb_disk.specs.Count.{Rose}
 use Rattle.tdb_disk.specs.History.{History, seen}
 use Rattle.tdb_disk.specs.Stop.{LeavesOnly}
@@ -17,7 +17,11 @@ use Rattle.tdb_world.specs.Played.{PlaysLast}
 use Rattle.tdb_whole.specs.Whole.{Whole, form_at, WorldFits}
 use Rattle.tdb_whole.specs.States.{IsStateOf}
 use Rattle.tdb_whole.specs.Stops.{IsSafe}
+use Rattle.tdb_course.specs.Hearing.{Heard, HeardUpTo}
 use Rattle.tdb_course.specs.Stops.{IsTransacted, OpensOnTheWay}
+use Rattle.tdb_log.specs.Logs.{Logged}
+use Rattle.tdb_log.specs.declared.log.LogRefusal.{LogRefusal}
+use Rattle.tdb_log.specs.declared.log.LogRefusal.TheVariants as Unheard
 use Rattle.tdb_world.specs.declared.fault.RunFault.{RunFault}
 use Rattle.tdb_world.specs.declared.fault.RunFault.TheVariants as Run
 use Rattle.tdb_tool.specs.declared.fault.SessionEnd.{SessionEnd}
@@ -29,7 +33,7 @@ use Rattle.tdb_tool.specs.Asking.{LinesAsk, EndsBefore, Session, BeginsBy}
 use Rattle.tdb_tool.specs.Parts.{Part, Silent, parts_of, AllDone, AllCame}
 use Rattle.tdb_tool.specs.Replies.{lines_text, tell_pair}
 
--- the fault of a session, by that of its plays and of its output
+-- the fault of a session, by that of its plays, of its output and of its logs
 abbrev pub of_run : RunFault → SessionFault
 of_run Run.Io = F.Device
 of_run Run.Memory = F.Memory
@@ -37,6 +41,10 @@ of_run Run.Memory = F.Memory
 abbrev pub of_write : WriteRefusal → SessionFault
 of_write Untold.Failed = F.Output
 of_write Untold.Memory = F.Memory
+
+abbrev pub of_log : LogRefusal → SessionFault
+of_log Unheard.Failed = F.Log
+of_log Unheard.Memory = F.Memory
 
 -- why plays broke off, if they did
 abbrev pub fault_of : {V : Type 0} → Result V SessionFault → Option SessionFault
@@ -49,6 +57,7 @@ UnlessBroken None p = p
 UnlessBroken (Some F.Input) p = p
 UnlessBroken (Some F.Output) p = p
 UnlessBroken (Some F.Device) p = Unit {0}
+UnlessBroken (Some F.Log) p = p
 UnlessBroken (Some F.Memory) p = p
 
 abbrev pub OnBroken : Option SessionFault → Type 0 → Type 0
@@ -56,6 +65,7 @@ OnBroken None p = Unit {0}
 OnBroken (Some F.Input) p = Unit {0}
 OnBroken (Some F.Output) p = Unit {0}
 OnBroken (Some F.Device) p = p
+OnBroken (Some F.Log) p = Unit {0}
 OnBroken (Some F.Memory) p = Unit {0}
 
 -- What may be done from a state on: the lines that it gives, the text that is printed of them, and the state to which it
@@ -78,25 +88,27 @@ abbrev pub LeavesFront : Deed → Form → State → (State → Type 0) → Bool
 LeavesFront deed f old IsLeft told before now = (new : State) × IsLeft new × TellsFront deed f old new told before now
 
 -- What was done from a state on, by why it broke off: the whole, or a part. Where the disk failed nothing is said of what is
--- left; where the input did, the whole was done and told.
+-- left; where the input did, the whole was done and told; and where a log did, what was done was told.
 abbrev pub RunsTo : Deed → Deed → Form → State → (State → Type 0) → Bool → List ℕ → List ℕ → Option SessionFault → Type 0
 RunsTo whole part f old IsLeft told before now None = LeavesAll whole f old IsLeft told before now
 RunsTo whole part f old IsLeft told before now (Some F.Input) = LeavesAll whole f old IsLeft told before now
 RunsTo whole part f old IsLeft told before now (Some F.Output) = LeavesFront part f old IsLeft told before now
 RunsTo whole part f old IsLeft told before now (Some F.Device) = (left : State) × TellsFront part f old left told before now
+RunsTo whole part f old IsLeft told before now (Some F.Log) = LeavesAll part f old IsLeft told before now
 RunsTo whole part f old IsLeft told before now (Some F.Memory) = LeavesFront part f old IsLeft told before now
 
--- A moment of a session: the world, the history and the length of its file, the count of faults of its disk, and what is
--- written on the output.
+-- A moment of a session: the world, the history and the length of its file, the count of faults of its disk, what is written
+-- on the output, and the logs.
 pub record Scene : Type 0 where
   pub world : Whole
   pub history : History
   pub size : ℕ
   pub faults : ℕ
   pub written : List ℕ
+  pub logs : List Logged
 
-abbrev pub scene : Whole → History → ℕ → ℕ → List ℕ → Scene
-scene world history size faults written = record { world = world; history = history; size = size; faults = faults; written = written }
+abbrev pub scene : Whole → History → ℕ → ℕ → List ℕ → List Logged → Scene
+scene world history size faults written logs = record { world = world; history = history; size = size; faults = faults; written = written; logs = logs }
 
 -- a state of the world at a moment; and the world fits the file there
 abbrev pub IsStateAt : Scene → State → Type 0
@@ -111,13 +123,26 @@ pub record StopsBetween (old new : Scene) (answer : Option SessionFault) (f : Fo
   pub stops : LeavesOnly old.history new.history (OpensOnTheWay f state (law_lines lines))
   pub safe : UnlessBroken answer (IsSafe f new.history)
 
--- Something was done between two moments; and where the file was safe at the first, and the lines are transacted, so it is of stops.
-abbrev pub Safely : Scene → Scene → Option SessionFault → Deed → Deed
-Safely old new answer deed f state lines text after = deed f state lines text after × (IsSafe f old.history → IsTransacted f state (law_lines lines) → StopsBetween old new answer f state lines)
+-- What logs heard of lines, by why it broke off: of all. Where a log failed, of those in front of the one whose notice it refused; and where
+-- something else broke off, a log may have refused too.
+abbrev pub HeardSo : Option SessionFault → List Logged → List Line → List Logged → Type 0
+HeardSo None old lines new = Heard old lines new
+HeardSo (Some F.Input) old lines new = Heard old lines new
+HeardSo (Some F.Output) old lines new = Heard old lines new ⊎ ((refusal : LogRefusal) × HeardUpTo refusal old lines new)
+HeardSo (Some F.Device) old lines new = Heard old lines new ⊎ ((refusal : LogRefusal) × HeardUpTo refusal old lines new)
+HeardSo (Some F.Log) old lines new = HeardUpTo Unheard.Failed old lines new
+HeardSo (Some F.Memory) old lines new = Heard old lines new ⊎ ((refusal : LogRefusal) × HeardUpTo refusal old lines new)
+
+-- Something was done between two moments, and logs heard of its lines; and where the file was safe at the first, and the lines are
+-- transacted, so it is of stops.
+abbrev pub DoneBetween : Scene → Scene → Option SessionFault → Deed → Deed
+DoneBetween old new answer deed f state lines text after =
+    deed f state lines text after × (IsSafe f old.history → IsTransacted f state (law_lines lines) → StopsBetween old new answer f state lines)
+    × HeardSo answer old.logs lines new.logs
 
 -- What was done led from one moment to another, and ended so, over a disk and an output that tell or don't: from each state
--- that the world may have had to one that it has afterwards, with what stops meanwhile leave. Unless the disk failed the
--- world fits the file, and the count of faults is as it was.
+-- that the world may have had to one that it has afterwards, with what stops meanwhile leave and what logs heard. Unless the
+-- disk failed the world fits the file, and the count of faults is as it was.
 pub record Led (disk_tells output_tells : Bool) (whole part : Deed) (old new : Scene) (answer : Option SessionFault) : Type 0 where
   pub header : UnlessBroken answer (new.world.openers.header ≡ old.world.openers.header)
   pub options : UnlessBroken answer (new.world.openers.options ≡ old.world.openers.options)
@@ -125,7 +150,7 @@ pub record Led (disk_tells output_tells : Bool) (whole part : Deed) (old new : S
   pub rises : old.faults ≤ new.faults
   pub quiet : UnlessBroken answer (new.faults ≡ old.faults)
   pub runs : IsTrue disk_tells → (state : State) → IsStateAt old state
-      → RunsTo (Safely old new answer whole) (Safely old new answer part) (form_at old.world) state (IsStateAt new) output_tells old.written new.written answer
+      → RunsTo (DoneBetween old new answer whole) (DoneBetween old new answer part) (form_at old.world) state (IsStateAt new) output_tells old.written new.written answer
   pub rose : IsTrue disk_tells → (state : State) → IsStateAt old state → OnBroken answer (Rose old.faults new.faults)
 
 -- Parts of a session were done, as far as they came.

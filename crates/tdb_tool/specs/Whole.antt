@@ -1,5 +1,5 @@
 -- A session from its beginning to its end, over an opened image.
-use Rattle.std.specs.Prelude.{◌≡◌, ℕ, Bool, IsTrue, List, [], ◌∷◌, ◌++◌, Result, Ok, Err}
+use Rattle.std.specs.Prelude.{◌≡◌, ℕ, Bool, IsTrue, false, None, Some, List, [], ◌∷◌, ◌++◌, Result, Ok, Err}
 use Rattle.tdb_disk.specs.History.{History, seen}
 use Rattle.tdb_disk.specs.Stop.{Quiet, LeavesOnly}
 use Rattle.tdb_words.specs.Word.{word}
@@ -20,13 +20,14 @@ use Rattle.tdb_whole.specs.Died.{IsReadAs}
 use Rattle.tdb_course.specs.Stops.{IsTransacted, OpensOnTheWay}
 use Rattle.tdb_course.specs.Unfinished.{EndsWith}
 use Rattle.tdb_plays.specs.declared.options.Options.{Options}
+use Rattle.tdb_log.specs.Logs.{Logged}
 use Rattle.tdb_tool.specs.declared.fault.SessionEnd.{SessionEnd}
 use Rattle.tdb_tool.specs.declared.fault.SessionFault.{SessionFault}
 use Rattle.tdb_tool.specs.declared.fault.SessionFault.TheVariants as F
 use Rattle.tdb_tool.specs.declared.order.Order.{Order}
 use Rattle.tdb_tool.specs.Asking.{Session, BeginsBy}
 use Rattle.tdb_tool.specs.Parts.{Part, Silent, doing, parts_of, AllDone, AllCame}
-use Rattle.tdb_tool.specs.Serving.{Deed, fault_of, Scene, Led, AsksFor}
+use Rattle.tdb_tool.specs.Serving.{Deed, fault_of, HeardSo, Scene, IsStateAt, Led, AsksFor}
 
 -- the part by which a session ends, and all parts of one: the opener joins, its orders are done, and it closes
 abbrev pub closing : List Part
@@ -40,9 +41,15 @@ abbrev pub SessionDeed : List Order → Result SessionEnd SessionFault → Deed
 SessionDeed orders (Ok end) = AllDone (session_parts orders)
 SessionDeed orders (Err fault) = AllCame (session_parts orders)
 
+-- where a session ended its one opener isn't live any more
+abbrev pub IsClosed : Result SessionEnd SessionFault → Scene → Type 0
+IsClosed (Ok end) s = (state : State) → IsStateAt s state → (state.own 0).live ≡ false
+IsClosed (Err fault) s = Unit {0}
+
 -- A session of what the text asks for led from one moment to another.
 abbrev pub SessionLed : (disk_tells input_tells output_tells : Bool) (old new : Scene) (text : List ℕ) → Result SessionEnd SessionFault → Type 0
-SessionLed d i o old new text answer = (orders : List Order) × (IsTrue i → AsksFor text orders answer) × Led d o (SessionDeed orders answer) (AllCame (session_parts orders)) old new (fault_of answer)
+SessionLed d i o old new text answer =
+    (orders : List Order) × (IsTrue i → AsksFor text orders answer) × Led d o (SessionDeed orders answer) (AllCame (session_parts orders)) old new (fault_of answer) × IsClosed answer new
 
 -- the state is one of a world whose file has these bytes
 pub record IsOver (f : Form) (img : List ℕ) (w : State) : Type 0 where
@@ -60,9 +67,11 @@ abbrev pub StopsOpen : Form → History → History → State → List LawLine �
 StopsOpen f h k start lines = Quiet h → IsTransacted f start lines → LeavesOnly h k (OpensOnTheWay f start lines)
 
 -- All parts of a session were done over the image a, which is b after them, from a world just loaded, and their text was
--- printed; an open gate undone, b has the map of the state to which they led. The whole report, with the lines of what isn't
--- done behind it, is lawful from the map of a on. Stops meanwhile leave what is said of the lines from that world on.
-pub record SessionOver (f : Form) (options : Options) (a : List ℕ) (orders : List Order) (b : List ℕ) (told : Bool) (before now : List ℕ) (Stops : State → List LawLine → Type 0) : Type 0 where
+-- printed; an open gate undone, b has the map of the state to which they led, in which the opener isn't live. The whole report,
+-- with the lines of what isn't done behind it, is lawful from the map of a on. Stops meanwhile leave what is said of the lines
+-- from that world on, and logs heard of them what is said.
+pub record SessionOver (f : Form) (options : Options) (a : List ℕ) (orders : List Order) (b : List ℕ) (told : Bool) (before now : List ℕ) (Stops : State → List LawLine → Type 0)
+    (Hears : List Line → Type 0) : Type 0 where
   pub old : State
   pub loaded : IsLoaded f old (options_of options)
   pub over : IsOver f a old
@@ -71,15 +80,18 @@ pub record SessionOver (f : Form) (options : Options) (a : List ℕ) (orders : L
   pub text : List ℕ
   pub done : AllDone (session_parts orders) f old lines text new
   pub left : IsReadAs f b new
+  pub closed : (new.own 0).live ≡ false
   pub more : List Line
   pub ends : EndsWith new more
   pub lawful : IsLawful f (beginning_over f options a) (law_lines (lines ++ more))
   pub printed : IsTrue told → now ≡ before ++ text
   pub stops : Stops old (law_lines lines)
+  pub heard : Hears lines
 
 -- The parts of a session came to a state, and a front of their text was printed. The lines so far are lawful. Stops meanwhile
--- leave what is said of these lines.
-pub record SessionCame (f : Form) (options : Options) (a : List ℕ) (orders : List Order) (new : State) (told : Bool) (before now : List ℕ) (Stops : State → List LawLine → Type 0) : Type 0 where
+-- leave what is said of these lines, and logs heard of them what is said.
+pub record SessionCame (f : Form) (options : Options) (a : List ℕ) (orders : List Order) (new : State) (told : Bool) (before now : List ℕ) (Stops : State → List LawLine → Type 0)
+    (Hears : List Line → Type 0) : Type 0 where
   pub old : State
   pub loaded : IsLoaded f old (options_of options)
   pub over : IsOver f a old
@@ -89,20 +101,28 @@ pub record SessionCame (f : Form) (options : Options) (a : List ℕ) (orders : L
   pub lawful : IsLawful f (beginning_over f options a) (law_lines lines)
   pub printed : IsTrue told → WroteFront before text now
   pub stops : Stops old (law_lines lines)
+  pub heard : Hears lines
 
 -- The text begins by asking for orders, and a session of them came so far; an open gate undone, the image b has the map of
 -- the state to which it came.
-abbrev pub CameSo : Form → Options → List ℕ → List ℕ → Bool → List ℕ → Bool → List ℕ → List ℕ → (State → List LawLine → Type 0) → Type 0
-CameSo f options a b heard text told before now Stops =
-    (orders : List Order) × (IsTrue heard → BeginsBy text orders) × (new : State) × SessionCame f options a orders new told before now Stops × IsReadAs f b new
+abbrev pub CameSo : Form → Options → List ℕ → List ℕ → Bool → List ℕ → Bool → List ℕ → List ℕ → (State → List LawLine → Type 0) → (List Line → Type 0) → Type 0
+CameSo f options a b heard text told before now Stops Hears =
+    (orders : List Order) × (IsTrue heard → BeginsBy text orders) × (new : State) × SessionCame f options a orders new told before now Stops Hears × IsReadAs f b new
 
--- A session over a file, from the moment of one history to that of another, by how it ended, with what stops meanwhile leave. Where the disk
--- failed nothing is said of what is read of the file afterwards.
-abbrev pub SessionRan : Form → Options → History → History → Bool → List ℕ → Bool → List ℕ → List ℕ → Result SessionEnd SessionFault → Type 0
-SessionRan f options h k heard text told before now (Ok end) =
-    (orders : List Order) × (IsTrue heard → Session text orders end) × SessionOver f options (seen h) orders (seen k) told before now (StopsOpen f h k)
-SessionRan f options h k heard text told before now (Err F.Input) = CameSo f options (seen h) (seen k) heard text told before now (StopsOpen f h k)
-SessionRan f options h k heard text told before now (Err F.Output) = CameSo f options (seen h) (seen k) heard text told before now (StopsOpen f h k)
-SessionRan f options h k heard text told before now (Err F.Device) =
-    (orders : List Order) × (IsTrue heard → BeginsBy text orders) × (left : State) × SessionCame f options (seen h) orders left told before now (StopsOpen f h k)
-SessionRan f options h k heard text told before now (Err F.Memory) = CameSo f options (seen h) (seen k) heard text told before now (StopsOpen f h k)
+-- A session over a file, from the moment of one history to that of another, by how it ended, with what stops meanwhile leave, and what logs
+-- heard that were as the first and became as the second. Where the disk failed nothing is said of what is read of the file afterwards.
+abbrev pub SessionRan : Form → Options → History → History → Bool → List ℕ → Bool → List ℕ → List ℕ → List Logged → List Logged → Result SessionEnd SessionFault → Type 0
+SessionRan f options h k heard text told before now logs later (Ok end) =
+    (orders : List Order) × (IsTrue heard → Session text orders end)
+    × SessionOver f options (seen h) orders (seen k) told before now (StopsOpen f h k) (λ lines. HeardSo None logs lines later)
+SessionRan f options h k heard text told before now logs later (Err F.Input) =
+    CameSo f options (seen h) (seen k) heard text told before now (StopsOpen f h k) (λ lines. HeardSo (Some F.Input) logs lines later)
+SessionRan f options h k heard text told before now logs later (Err F.Output) =
+    CameSo f options (seen h) (seen k) heard text told before now (StopsOpen f h k) (λ lines. HeardSo (Some F.Output) logs lines later)
+SessionRan f options h k heard text told before now logs later (Err F.Device) =
+    (orders : List Order) × (IsTrue heard → BeginsBy text orders) × (left : State)
+    × SessionCame f options (seen h) orders left told before now (StopsOpen f h k) (λ lines. HeardSo (Some F.Device) logs lines later)
+SessionRan f options h k heard text told before now logs later (Err F.Log) =
+    CameSo f options (seen h) (seen k) heard text told before now (StopsOpen f h k) (λ lines. HeardSo (Some F.Log) logs lines later)
+SessionRan f options h k heard text told before now logs later (Err F.Memory) =
+    CameSo f options (seen h) (seen k) heard text told before now (StopsOpen f h k) (λ lines. HeardSo (Some F.Memory) logs lines later)

@@ -2,10 +2,11 @@
 
 ghost use Rattle.std.specs.Prelude.{◌≡◌};
 ghost use Rattle.tdb_tool.specs.declared.fault.SessionFault.TheVariants as FaultIs;
-ghost use Rattle.tdb_tool.specs.Serving.{of_run, of_write};
+ghost use Rattle.tdb_tool.specs.Serving.{of_run, of_write, of_log};
 
 use std::alloc::AllocError;
 use tdb_dump::WriteRefusal;
+use tdb_log::LogRefusal;
 use tdb_world::RunFault;
 use thiserror::Error;
 
@@ -30,6 +31,9 @@ pub enum SessionFault {
     /// A call of the disk failed, or a check found a fault in the file, which no turn leaves.
     #[error("the disk failed")]
     Device,
+    /// A log failed to take a notice of what a command had done.
+    #[error("a log failed")]
+    Log,
     #[error("out of memory")]
     Memory,
 }
@@ -60,6 +64,17 @@ impl From<WriteRefusal> for SessionFault {
         match refusal {
             WriteRefusal::Failed => SessionFault::Output,
             WriteRefusal::Memory => SessionFault::Memory,
+        }
+    }
+}
+
+impl From<LogRefusal> for SessionFault {
+    ghost from_gives = { λ refusal e. e ≡ of_log refusal };
+
+    fn from(refusal: LogRefusal) -> Self {
+        match refusal {
+            LogRefusal::Failed => SessionFault::Log,
+            LogRefusal::Memory => SessionFault::Memory,
         }
     }
 }

@@ -13,20 +13,22 @@ use crate::reader::LineReader;
 use crate::taking::take_order;
 use std::alloc::Global;
 use tdb_disk::{Disk, Sink, Source};
+use tdb_log::Logs;
 use tdb_whole::World;
 
 /// Does what the next line asks for. Answers how the session ends, where it does.
-fn serve_next<D: Disk, I: Source, K: Sink>(
+fn serve_next<D: Disk, I: Source, K: Sink, L: Logs>(
     alloc: Global,
     world: &mut World,
     disk: &mut D,
     reader: &mut LineReader,
     input: &mut I,
     output: &mut K,
+    logs: &mut L,
 ) -> Result<Option<SessionEnd>, SessionFault>
     requires fits { WorldFits world.old (seen (D.history disk.old)) (D.size disk.old) }
-    ensures next { ServedNext D.tells I.tells K.tells (scene world.old (D.history disk.old) (D.size disk.old) (D.faults disk.old) (K.written output.old))
-        (scene world.new (D.history disk.new) (D.size disk.new) (D.faults disk.new) (K.written output.new))
+    ensures next { ServedNext D.tells I.tells K.tells (scene world.old (D.history disk.old) (D.size disk.old) (D.faults disk.old) (K.written output.old) (L.logs logs.old))
+        (scene world.new (D.history disk.new) (D.size disk.new) (D.faults disk.new) (K.written output.new) (L.logs logs.new))
         reader.old.at (lines_left reader.old (I.left input.old)) reader.new.at (lines_left reader.new (I.left input.new)) result }
     ensures input_cause { HasCauseOf FaultIs.Input (I.faults input.old) (I.faults input.new) result }
     ensures cause { HasCauseOf FaultIs.Output (K.faults output.old) (K.faults output.new) result }
@@ -35,29 +37,30 @@ fn serve_next<D: Disk, I: Source, K: Sink>(
         Asked::Nothing => Ok(None),
         Asked::End(end) => Ok(Some(end)),
         Asked::Order(order) => {
-            take_order(alloc, world, disk, order, output)?;
+            take_order(alloc, world, disk, order, output, logs)?;
             Ok(None)
         }
     }
 }
 
 /// Does what the lines of the input order, up to the end of the session, and prints each reply when it is made.
-pub(crate) fn serve<D: Disk, I: Source, K: Sink>(
+pub(crate) fn serve<D: Disk, I: Source, K: Sink, L: Logs>(
     alloc: Global,
     world: &mut World,
     disk: &mut D,
     input: &mut I,
     output: &mut K,
+    logs: &mut L,
 ) -> Result<SessionEnd, SessionFault>
     requires fits { WorldFits world.old (seen (D.history disk.old)) (D.size disk.old) }
-    ensures served { Served D.tells I.tells K.tells (scene world.old (D.history disk.old) (D.size disk.old) (D.faults disk.old) (K.written output.old))
-        (scene world.new (D.history disk.new) (D.size disk.new) (D.faults disk.new) (K.written output.new)) (I.left input.old) result }
+    ensures served { Served D.tells I.tells K.tells (scene world.old (D.history disk.old) (D.size disk.old) (D.faults disk.old) (K.written output.old) (L.logs logs.old))
+        (scene world.new (D.history disk.new) (D.size disk.new) (D.faults disk.new) (K.written output.new) (L.logs logs.new)) (I.left input.old) result }
     ensures input_cause { HasCauseOf FaultIs.Input (I.faults input.old) (I.faults input.new) result }
     ensures cause { HasCauseOf FaultIs.Output (K.faults output.old) (K.faults output.new) result }
 {
     let mut reader = LineReader::new(alloc)?;
     loop {
-        if let Some(end) = serve_next(alloc, world, disk, &mut reader, input, output)? {
+        if let Some(end) = serve_next(alloc, world, disk, &mut reader, input, output, logs)? {
             return Ok(end);
         }
     }

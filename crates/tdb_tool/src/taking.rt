@@ -1,6 +1,6 @@
 // The parts of a session, as the one opener takes them.
 
-ghost use Rattle.std.specs.Prelude.{◌≡◌, ◌≢◌, ◌⊎◌, ◌∷◌, [], ℕ, Bool, List, IfErr};
+ghost use Rattle.std.specs.Prelude.{◌≡◌, ◌≢◌, ◌∷◌, [], ℕ, Bool, List, IfErr};
 ghost use Rattle.tdb_disk.specs.Count.{HasCauseOf};
 ghost use Rattle.tdb_disk.specs.History.{seen};
 ghost use Rattle.tdb_whole.specs.Whole.{WorldFits};
@@ -16,6 +16,7 @@ use crate::replies::{has_pair, write_replies};
 use std::alloc::Global;
 use tdb_disk::{Disk, Sink};
 use tdb_dump::Listing;
+use tdb_log::Logs;
 use tdb_plays::{Command, Play, TurnReport};
 use tdb_whole::World;
 
@@ -30,43 +31,48 @@ pub(crate) fn doing(command: Command) -> Play
     Play::Do { who, command }
 }
 
-/// Takes a play, of which nothing is printed.
-pub(crate) fn take_silently<D: Disk>(
+/// Takes a play, of which nothing is printed, and tells the logs what became of the file.
+pub(crate) fn take_silently<D: Disk, L: Logs>(
     alloc: Global,
     world: &mut World,
     disk: &mut D,
     play: Play,
+    logs: &mut L,
 ) -> Result<(), SessionFault>
     requires fits { WorldFits world.old (seen (D.history disk.old)) (D.size disk.old) }
     requires playable { IsPlayable play }
-    ensures ran { (told : Bool) (written : List ℕ) → Ran D.tells told (scene world.old (D.history disk.old) (D.size disk.old) (D.faults disk.old) written)
-        (scene world.new (D.history disk.new) (D.size disk.new) (D.faults disk.new) written) (Silent play ∷ []) (fault_of result) }
-    ensures fault { IfErr result (λ e. (e ≡ FaultIs.Device) ⊎ (e ≡ FaultIs.Memory)) }
+    ensures ran { (told : Bool) (written : List ℕ) → Ran D.tells told (scene world.old (D.history disk.old) (D.size disk.old) (D.faults disk.old) written (L.logs logs.old))
+        (scene world.new (D.history disk.new) (D.size disk.new) (D.faults disk.new) written (L.logs logs.new)) (Silent play ∷ []) (fault_of result) }
+    ensures fault { IfErr result (λ e. (e ≢ FaultIs.Input) × (e ≢ FaultIs.Output)) }
 {
     let mut report = TurnReport::new(alloc);
-    tdb_course::play(world, disk, &play, &mut report)?;
+    let heard = tdb_course::play(world, disk, &play, &mut report, logs)?;
+    heard?;
     Ok(())
 }
 
-/// Takes a play, and prints of its reply what is to be printed where pairs are listed so or aren't. Whether it gave a pair.
-fn take_play<D: Disk, K: Sink>(
+/// Takes a play, tells the logs what became of the file, and prints of its reply what is to be printed where pairs are
+/// listed so or aren't; that is printed too where a log refused. Whether it gave a pair.
+fn take_play<D: Disk, K: Sink, L: Logs>(
     alloc: Global,
     world: &mut World,
     disk: &mut D,
     play: Play,
     listing: Option<Listing>,
     output: &mut K,
+    logs: &mut L,
 ) -> Result<bool, SessionFault>
     requires fits { WorldFits world.old (seen (D.history disk.old)) (D.size disk.old) }
     requires playable { IsPlayable play }
-    ensures played { Played D.tells K.tells (scene world.old (D.history disk.old) (D.size disk.old) (D.faults disk.old) (K.written output.old))
-        (scene world.new (D.history disk.new) (D.size disk.new) (D.faults disk.new) (K.written output.new)) play listing result }
+    ensures played { Played D.tells K.tells (scene world.old (D.history disk.old) (D.size disk.old) (D.faults disk.old) (K.written output.old) (L.logs logs.old))
+        (scene world.new (D.history disk.new) (D.size disk.new) (D.faults disk.new) (K.written output.new) (L.logs logs.new)) play listing result }
     ensures fault { IfErr result (λ e. e ≢ FaultIs.Input) }
     ensures cause { HasCauseOf FaultIs.Output (K.faults output.old) (K.faults output.new) result }
 {
     let mut report = TurnReport::new(alloc);
-    tdb_course::play(world, disk, &play, &mut report)?;
+    let told = tdb_course::play(world, disk, &play, &mut report, logs)?;
     write_replies(alloc, &report, listing, output)?;
+    told?;
     Ok(has_pair(&report))
 }
 
@@ -83,22 +89,23 @@ fn list_move(moves: u32) -> Play
 
 /// Lists all pairs: takes First, and then Next up to a move that gives no pair, and prints each pair before the next move.
 /// Where the bytes of the file change by themselves a walk might never end: the list is cut off then.
-fn take_list<D: Disk, K: Sink>(
+fn take_list<D: Disk, K: Sink, L: Logs>(
     alloc: Global,
     world: &mut World,
     disk: &mut D,
     listing: Listing,
     output: &mut K,
+    logs: &mut L,
 ) -> Result<(), SessionFault>
     requires fits { WorldFits world.old (seen (D.history disk.old)) (D.size disk.old) }
-    ensures ran { Ran D.tells K.tells (scene world.old (D.history disk.old) (D.size disk.old) (D.faults disk.old) (K.written output.old))
-        (scene world.new (D.history disk.new) (D.size disk.new) (D.faults disk.new) (K.written output.new)) (Listed listing ∷ []) (fault_of result) }
+    ensures ran { Ran D.tells K.tells (scene world.old (D.history disk.old) (D.size disk.old) (D.faults disk.old) (K.written output.old) (L.logs logs.old))
+        (scene world.new (D.history disk.new) (D.size disk.new) (D.faults disk.new) (K.written output.new) (L.logs logs.new)) (Listed listing ∷ []) (fault_of result) }
     ensures fault { IfErr result (λ e. e ≢ FaultIs.Input) }
     ensures cause { HasCauseOf FaultIs.Output (K.faults output.old) (K.faults output.new) result }
 {
     for moves in 0..MOST_MOVES {
         let next = list_move(moves);
-        if !take_play(alloc, world, disk, next, Some(listing), output)? {
+        if !take_play(alloc, world, disk, next, Some(listing), output, logs)? {
             return Ok(());
         }
     }
@@ -106,26 +113,27 @@ fn take_list<D: Disk, K: Sink>(
 }
 
 /// Does what is ordered, and prints what is to be printed of it.
-pub(crate) fn take_order<D: Disk, K: Sink>(
+pub(crate) fn take_order<D: Disk, K: Sink, L: Logs>(
     alloc: Global,
     world: &mut World,
     disk: &mut D,
     order: Order,
     output: &mut K,
+    logs: &mut L,
 ) -> Result<(), SessionFault>
     requires fits { WorldFits world.old (seen (D.history disk.old)) (D.size disk.old) }
     requires served { IsServedOrder order }
-    ensures ran { Ran D.tells K.tells (scene world.old (D.history disk.old) (D.size disk.old) (D.faults disk.old) (K.written output.old))
-        (scene world.new (D.history disk.new) (D.size disk.new) (D.faults disk.new) (K.written output.new)) (part_of order) (fault_of result) }
+    ensures ran { Ran D.tells K.tells (scene world.old (D.history disk.old) (D.size disk.old) (D.faults disk.old) (K.written output.old) (L.logs logs.old))
+        (scene world.new (D.history disk.new) (D.size disk.new) (D.faults disk.new) (K.written output.new) (L.logs logs.new)) (part_of order) (fault_of result) }
     ensures fault { IfErr result (λ e. e ≢ FaultIs.Input) }
     ensures cause { HasCauseOf FaultIs.Output (K.faults output.old) (K.faults output.new) result }
 {
     match order {
         Order::Take(command) => {
-            take_play(alloc, world, disk, doing(command), None, output)?;
+            take_play(alloc, world, disk, doing(command), None, output, logs)?;
             Ok(())
         }
-        Order::List(listing) => take_list(alloc, world, disk, listing, output),
+        Order::List(listing) => take_list(alloc, world, disk, listing, output, logs),
         Order::Quit => Ok(()),
     }
 }

@@ -10,6 +10,7 @@ use std::alloc::{AllocError, Global};
 use std::test::Fail;
 use tdb_check::{check, read_front};
 use tdb_disk::{Call, Disk, MemDisk, MemSink, MemSource, Sink, Source};
+use tdb_log::{Log, Logs, MemLog};
 use tdb_space::Direct;
 use tdb_tool::{SessionEnd, SessionFault, run_session};
 use tdb_words::{HashKind, Header, Order, header_bytes};
@@ -46,11 +47,12 @@ fn is_whole<D: Disk>(alloc: Global, disk: &mut D, header: &Header) -> bool
 }
 
 /// How a session over a file ends, where that is whole.
-fn session<D: Disk, S: Source, K: Sink>(
+fn session<D: Disk, S: Source, K: Sink, L: Logs>(
     alloc: Global,
     disk: &mut D,
     input: &mut S,
     output: &mut K,
+    logs: &mut L,
 ) -> Option<Result<SessionEnd, SessionFault>> {
     let Ok(header) = read_front(disk) else {
         return None;
@@ -61,12 +63,13 @@ fn session<D: Disk, S: Source, K: Sink>(
     if disk.len().ok()? > OPTIONS.limit {
         return None;
     }
-    Some(run_session(alloc, disk, &header, &OPTIONS, input, output))
+    Some(run_session(alloc, disk, &header, &OPTIONS, input, output, logs))
 }
 
 #[test]
 fn replies(rt: HostRuntime) -> Result<(), Fail> {
     let alloc = rt.alloc();
+    let mut logs: Vec<Box<dyn Log>> = Vec::new(alloc);
     let ended = SessionEnd::Ended;
     for (text, printed, end) in [
         ("", "", ended),
@@ -111,7 +114,7 @@ fn replies(rt: HostRuntime) -> Result<(), Fail> {
         let mut file = new_file(alloc)?;
         let mut input = MemSource::new(alloc, text.as_bytes())?;
         let mut output = MemSink::new(alloc);
-        let answer = session(alloc, &mut file, &mut input, &mut output);
+        let answer = session(alloc, &mut file, &mut input, &mut output, &mut logs);
         assert_eq!(rt; answer, Some(Ok(end)), "{text}");
         assert_eq!(rt; output.as_slice(), printed.as_bytes(), "{text}");
     }
@@ -122,6 +125,7 @@ fn replies(rt: HostRuntime) -> Result<(), Fail> {
 #[test]
 fn cursors_and_lists(rt: HostRuntime) -> Result<(), Fail> {
     let alloc = rt.alloc();
+    let mut logs: Vec<Box<dyn Log>> = Vec::new(alloc);
     for (text, printed) in [
         ("first\nnext\ndump\nkeys\nhexkeys\n", "end\nend\n"),
         (
@@ -148,7 +152,7 @@ fn cursors_and_lists(rt: HostRuntime) -> Result<(), Fail> {
         let mut file = new_file(alloc)?;
         let mut input = MemSource::new(alloc, text.as_bytes())?;
         let mut output = MemSink::new(alloc);
-        let answer = session(alloc, &mut file, &mut input, &mut output);
+        let answer = session(alloc, &mut file, &mut input, &mut output, &mut logs);
         assert_eq!(rt; answer, Some(Ok(SessionEnd::Ended)), "{text}");
         assert_eq!(rt; output.as_slice(), printed.as_bytes(), "{text}");
     }
@@ -158,26 +162,30 @@ fn cursors_and_lists(rt: HostRuntime) -> Result<(), Fail> {
 #[test]
 fn failing_calls(rt: HostRuntime) -> Result<(), Fail> {
     let alloc = rt.alloc();
+    let mut logs: Vec<Box<dyn Log>> = Vec::new(alloc);
     let text = b"store a 1\nshow a\n".as_slice();
 
     let mut input = MemSource::new(alloc, text)?;
     input.fail(Call::Read, 0)?;
     let mut output = MemSink::new(alloc);
-    let answer = session(alloc, &mut new_file(alloc)?, &mut input, &mut output);
+    let mut file = new_file(alloc)?;
+    let answer = session(alloc, &mut file, &mut input, &mut output, &mut logs);
     assert_eq!(rt; answer, Some(Err(SessionFault::Input)));
     assert_eq!(rt; output.as_slice(), b"".as_slice());
 
     let mut output = MemSink::new(alloc);
     output.fail(Call::Write, 1)?;
     let mut input = MemSource::new(alloc, text)?;
-    let answer = session(alloc, &mut new_file(alloc)?, &mut input, &mut output);
+    let mut file = new_file(alloc)?;
+    let answer = session(alloc, &mut file, &mut input, &mut output, &mut logs);
     assert_eq!(rt; answer, Some(Err(SessionFault::Output)));
     assert_eq!(rt; output.as_slice(), b"ok\n".as_slice());
 
     let mut output = MemSink::new(alloc);
     output.fail(Call::Write, 3)?;
     let mut input = MemSource::new(alloc, b"store a 1\nstore b 2\nkeys\n".as_slice())?;
-    let answer = session(alloc, &mut new_file(alloc)?, &mut input, &mut output);
+    let mut file = new_file(alloc)?;
+    let answer = session(alloc, &mut file, &mut input, &mut output, &mut logs);
     assert_eq!(rt; answer, Some(Err(SessionFault::Output)));
     assert_eq!(rt; output.as_slice(), b"ok\nok\nkey(1) = \"a\"\n".as_slice());
 
@@ -185,8 +193,30 @@ fn failing_calls(rt: HostRuntime) -> Result<(), Fail> {
     file.fail(Call::Grow, 0)?;
     let mut input = MemSource::new(alloc, text)?;
     let mut output = MemSink::new(alloc);
-    let answer = session(alloc, &mut file, &mut input, &mut output);
+    let answer = session(alloc, &mut file, &mut input, &mut output, &mut logs);
     assert_eq!(rt; answer, Some(Err(SessionFault::Device)));
     assert_eq!(rt; output.as_slice(), b"".as_slice());
+    Ok(())
+}
+
+// The first store grows the file. Its reply is printed behind the log's refusal, and what it stored is there.
+#[test]
+fn a_failing_log(rt: HostRuntime) -> Result<(), Fail> {
+    let alloc = rt.alloc();
+    let mut log = MemLog::new(alloc);
+    log.fail(0)?;
+    let mut logs: Vec<Box<dyn Log>> = Vec::new(alloc);
+    logs.push(Box::new(alloc, log)?)?;
+    let mut file = new_file(alloc)?;
+    for (text, printed, end) in [
+        ("store a 1\nshow a\n", "ok\n", Err(SessionFault::Log)),
+        ("show a\n", "data(1) = \"1\"\n", Ok(SessionEnd::Ended)),
+    ] {
+        let mut input = MemSource::new(alloc, text.as_bytes())?;
+        let mut output = MemSink::new(alloc);
+        let answer = session(alloc, &mut file, &mut input, &mut output, &mut logs);
+        assert_eq!(rt; answer, Some(end), "{text}");
+        assert_eq!(rt; output.as_slice(), printed.as_bytes(), "{text}");
+    }
     Ok(())
 }
