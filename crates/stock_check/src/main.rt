@@ -5,6 +5,7 @@ use std::alloc::{AllocError, Global};
 use std::io;
 use tdb_disk::Sink;
 use tdb_files::{DirFiles, InSource, OutSink};
+use tdb_log::Log;
 use tdb_top::{Status, run};
 
 /// The files, which lie where the program runs.
@@ -34,13 +35,21 @@ fn check_words(alloc: Global, name: &str) -> Result<Vec<String>, AllocError> {
 fn main(rt: HostRuntime) -> anyhow::Result<()> {
     let alloc = rt.alloc();
     let mut output = OutSink::new(io::writer(&rt));
+    let mut logs: Vec<Box<dyn Log>> = Vec::new(alloc);
     for name in NAMES {
         let words = check_words(alloc, name)?;
         output.write(name.as_bytes())?;
         output.write(b" ")?;
         let mut files = DirFiles::new(rt);
         let mut input = InSource::new(rt.reader());
-        let Status(_) = run(alloc, &words, &mut files, &mut input, &mut output);
+        let Status(_) = run(
+            alloc,
+            &words,
+            &mut files,
+            &mut input,
+            &mut output,
+            &mut logs,
+        );
     }
     Ok(())
 }

@@ -2,11 +2,15 @@
 //! Where a call of the system failed, it says on standard error why.
 #![tactic(auto)]
 
+use std::alloc::AllocError;
+use std::env::VarError;
+use std::fmt::Display;
 use std::io::IsTerminal;
 use std::process::ExitCode;
 use std::{env, io};
 use tdb_disk::Sink;
-use tdb_files::{DirFiles, InSource, OutSink, Progress};
+use tdb_files::{DirFiles, FileSink, InSource, OutSink, Progress};
+use tdb_log::{CountLog, Log, SinkLog};
 use tdb_top::{Status, run};
 
 /// The status of a run in which a call of the files or of a disk failed.
@@ -18,17 +22,34 @@ const NO_MEMORY: u8 = 5;
 /// The status of a run in which the output failed.
 const OUTPUT_FAULT: u8 = 8;
 
+/// The status of a run in which a log failed.
+const LOG_FAULT: u8 = 10;
+
+/// The variable of the environment that names the file of the log, if there is to be one.
+const LOG_VARIABLE: &str = "TDB_LOG";
+
 /// The words after the program's name.
 fn words_of(rt: &HostRuntime) -> io::Result<Vec<String>> {
     Ok(env::args(rt)?.skip(1).collect(rt.alloc())?)
 }
 
-/// Says that there was no memory for the words.
-fn tell_memory<K: Sink>(output: &mut K) -> u8 {
-    match output.write(b"memory\n") {
-        Ok(()) => NO_MEMORY,
+/// Prints this line, and gives the status that goes with it, or that of an output that failed.
+fn end_with<K: Sink>(output: &mut K, line: &str, status: u8) -> u8 {
+    match output.write(line.as_bytes()) {
+        Ok(()) => status,
         Err(_) => OUTPUT_FAULT,
     }
+}
+
+/// Says that there was no memory for the words, or for the logs.
+fn tell_memory(rt: &HostRuntime) -> u8 {
+    end_with(&mut OutSink::new(io::writer(rt)), "memory\n", NO_MEMORY)
+}
+
+/// Says that there can't be a log of this name, and on standard error why.
+fn tell_log_fault<E: Display>(rt: &HostRuntime, name: &str, reason: &E) -> u8 {
+    let _ = eprintln!(rt; "tdb: {name}: {reason}");
+    end_with(&mut OutSink::new(io::writer(rt)), "log fault\n", LOG_FAULT)
 }
 
 /// Says on standard error why a call of the system failed, where one did: of the files, or of the output. What can't be
@@ -61,13 +82,13 @@ fn off_terminal(rt: HostRuntime, progress: Option<Progress>) -> Option<Progress>
     progress
 }
 
-/// Runs the words over the files of the system.
-fn run_words(rt: HostRuntime, words: &[String]) -> u8 {
+/// Runs the words over the files of the system, and tells these logs.
+fn run_logged(rt: HostRuntime, words: &[String], logs: &mut Vec<Box<dyn Log>>) -> u8 {
     let progress = progress_of(rt, words);
     let mut files = DirFiles::new(rt).with_progress(progress);
     let mut input = InSource::new(rt.reader()).with_progress(progress);
     let mut output = OutSink::new(io::writer(&rt)).with_progress(off_terminal(rt, progress));
-    let Status(status) = run(rt.alloc(), words, &mut files, &mut input, &mut output);
+    let Status(status) = run(rt.alloc(), words, &mut files, &mut input, &mut output, logs);
     if let Some(progress) = progress {
         progress.clear();
     }
@@ -75,15 +96,36 @@ fn run_words(rt: HostRuntime, words: &[String]) -> u8 {
     status
 }
 
-fn main(rt: HostRuntime) -> ExitCode {
-    let status = match words_of(&rt) {
-        Err(error) if error.kind() == io::ErrorKind::OutOfMemory => {
-            tell_memory(&mut OutSink::new(io::writer(&rt)))
-        }
+/// The logs of a run: one that counts, and over it, where the environment names a file, one that writes to that.
+fn run_words(rt: HostRuntime, words: &[String]) -> Result<u8, AllocError> {
+    let mut logs: Vec<Box<dyn Log>> = Vec::new(rt.alloc());
+    logs.push(Box::new(rt.alloc(), CountLog::new())?)?;
+    match env::var(&rt, LOG_VARIABLE) {
+        Ok(path) => match FileSink::create(&rt, &path) {
+            Ok(sink) => logs.push(Box::new(rt.alloc(), SinkLog::new(sink))?)?,
+            Err(reason) => return Ok(tell_log_fault(&rt, &path, &reason)),
+        },
+        Err(VarError::NotPresent) => {}
+        Err(VarError::OutOfMemory) => return Err(AllocError),
+        Err(error) => return Ok(tell_log_fault(&rt, LOG_VARIABLE, &error)),
+    }
+    Ok(run_logged(rt, words, &mut logs))
+}
+
+/// Runs the words of the command line over the files of the system.
+fn run_line(rt: HostRuntime) -> Result<u8, AllocError> {
+    match words_of(&rt) {
+        Err(error) if error.kind() == io::ErrorKind::OutOfMemory => Err(AllocError),
         // A word that is no text makes no command line, and neither do no words.
         answer => run_words(rt, answer.unwrap_or(Vec::new(rt.alloc())).as_slice()),
-    };
-    ExitCode::from(status)
+    }
+}
+
+fn main(rt: HostRuntime) -> ExitCode {
+    ExitCode::from(match run_line(rt) {
+        Ok(status) => status,
+        Err(AllocError) => tell_memory(&rt),
+    })
 }
 
 #[cfg(test)]

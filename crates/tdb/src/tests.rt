@@ -5,6 +5,7 @@ use std::fs;
 use std::test::Fail;
 use tdb_disk::{Files, MemSink, MemSource, Take};
 use tdb_files::DirFiles;
+use tdb_log::Log;
 use tdb_top::{Status, run};
 
 /// The status of a run of words with blanks between them over the files of the system, and what it prints.
@@ -17,7 +18,8 @@ fn run_words(rt: HostRuntime, words: &str) -> Result<(u8, MemSink), Fail> {
     let mut files = DirFiles::new(rt);
     let mut input = MemSource::new(alloc, b"")?;
     let mut output = MemSink::new(alloc);
-    let Status(status) = run(alloc, &list, &mut files, &mut input, &mut output);
+    let mut logs: Vec<Box<dyn Log>> = Vec::new(alloc);
+    let Status(status) = run(alloc, &list, &mut files, &mut input, &mut output, &mut logs);
     Ok((status, output))
 }
 

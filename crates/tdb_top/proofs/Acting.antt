@@ -1,6 +1,6 @@
 -- What acts on a file give, from what their parts gave.
-use Rattle.std.proofs.Common.{◌≡◌, ◌⊎◌, ℕ, ◌≤◌, ◌∷◌, false, length, List, Option, None, Some, Result, Ok, Err, refl, sym, ◌∙◌, ap, subst, inl, inr, arith}
-use Rattle.std.specs.Prelude.{IfOk, IsSome}
+use Rattle.std.proofs.Common.{◌≡◌, ◌⊎◌, ℕ, ◌≤◌, [], ◌∷◌, false, length, List, Option, None, Some, Ok, Err, refl, sym, ◌∙◌, ap, subst, inl, inr, arith}
+use Rattle.std.specs.Prelude.{IsSome}
 use Rattle.std.proofs.lemmas.Bool.{false≢true}
 use Rattle.tdb_disk.specs.Count.{Rose}
 use Rattle.tdb_disk.specs.History.{History, seen}
@@ -8,7 +8,9 @@ use Rattle.tdb_disk.specs.declared.files.TakeRefusal.{TakeRefusal}
 use Rattle.tdb_disk.specs.declared.files.TakeRefusal.TheVariants as Take
 use Rattle.tdb_ask.specs.declared.act.Act.{Act}
 use Rattle.tdb_ask.specs.declared.act.Verb.{Verb}
-use Rattle.tdb_top.specs.declared.halt.Refusal.TheVariants.{TooLong}
+use Rattle.tdb_ask.specs.declared.act.Verb.TheVariants.{Show, Insert, Store, Delete, Erase, Check, First, Next, TransactionStart, TransactionCommit, TransactionCancel}
+use Rattle.tdb_steps.specs.Wiped.{at_end}
+use Rattle.tdb_open.specs.declared.halt.Refusal.TheVariants.{TooLong}
 use Rattle.tdb_ask.specs.declared.ask.Task.{Task}
 use Rattle.tdb_ask.specs.declared.ask.Task.TheVariants.{Create, On, Read, Print, Restore, Backup, Verify, Turns, Session, Generate}
 use Rattle.tdb_ask.specs.declared.lines.create.NewForm.{NewForm}
@@ -17,14 +19,14 @@ use Rattle.tdb_top.specs.declared.ending.Ending.{Ending}
 use Rattle.tdb_top.specs.declared.ending.Ending.TheVariants as E
 use Rattle.tdb_top.specs.declared.ending.Reply.{Reply}
 use Rattle.tdb_top.specs.declared.ending.Reply.TheVariants.{Done}
-use Rattle.tdb_top.specs.declared.halt.Fault.{Fault}
-use Rattle.tdb_top.specs.declared.halt.Fault.TheVariants as F
-use Rattle.tdb_top.specs.declared.halt.Halt.{Halt}
-use Rattle.tdb_top.specs.declared.halt.Halt.TheVariants.{Refused, Device, Memory}
+use Rattle.tdb_open.specs.declared.halt.Fault.{Fault}
+use Rattle.tdb_open.specs.declared.halt.Fault.TheVariants as F
+use Rattle.tdb_open.specs.declared.halt.Halt.{Halt}
+use Rattle.tdb_open.specs.declared.halt.Halt.TheVariants.{Refused, Device, Memory, Log}
 use Rattle.tdb_ask.specs.Ask.{Ask}
-use Rattle.tdb_top.specs.Acts.{verb_reply, reply_of, Does, Breaks, Acted, OpenedAndActed}
+use Rattle.tdb_top.specs.Acts.{reply_of, Does, Breaks, Leaves, Acted, ActedAndTold, OpenedAndActed}
 use Rattle.tdb_top.specs.Commands.Create.{CreateCause, CreateLeaves}
-use Rattle.tdb_top.specs.Ending.{TaskDue, Replies, Refuses, TaskCause, task_due, task_failed, task_wanting, Untaken, MadeSo, of_halt}
+use Rattle.tdb_top.specs.Ending.{TaskDue, Replies, Refuses, TaskCause, task_due, task_failed, task_wanting, task_unlogged, Untaken, MadeSo, of_halt}
 use Rattle.tdb_top.specs.Left.{ActLeaves, OnLeaves, MakingLeaves, TaskLeaves, Leaving}
 use Rattle.tdb_top.specs.Commands.Backup.{BackupCause}
 use Rattle.tdb_top.specs.Commands.Restore.{of_input, HeardBy}
@@ -34,23 +36,29 @@ use Rattle.tdb_top.specs.Commands.Verify.{VerifyCause}
 use Rattle.tdb_plays.specs.declared.options.Options.{Options}
 use Rattle.tdb_top.specs.Reads.{AskEnds, GenCause}
 use Rattle.tdb_top.specs.Input.{Input}
-use Rattle.tdb_top.specs.Opening.{opened_bytes, CanOpen, UndoneIfOpen, HaltsBelow, LeavesBelow, of_fault}
-use Rattle.tdb_top.proofs.Openings.{same_or_undone}
+use Rattle.tdb_open.specs.Opening.{opened_bytes, CanOpen, UndoneIfOpen, HaltsBelow, LeavesBelow, of_fault}
+use Rattle.tdb_open.proofs.Openings.{same_or_undone}
 use Rattle.tdb_top.proofs.Printing.{print_wants}
 
--- an act that left the file as it was, where that is what it is to do, and what a failed call leaves
-pub looked : (limit : ℕ) (verb : Verb) (old now : History) (r : Result Reply Fault) → Does limit verb old now → Breaks verb old now → now ≡ old → IfOk r (λ reply. reply ≡ verb_reply limit verb (seen old)) → Acted limit verb old now r
-looked limit verb old now (Ok reply) does breaks same is = (is, record { done = λ e. does; kept = λ e. same })
-looked limit verb old now (Err F.Device) does breaks same is = breaks
-looked limit verb old now (Err F.Memory) does breaks same is = same
+-- a failed call behind an act that was done leaves what one in its midst may leave
+done_breaks : (verb : Verb) (limit : ℕ) (old now : History) → Does limit verb old now → Breaks verb old now
+done_breaks (Show key) limit old now does = does
+done_breaks (Insert key value) limit old now does = inl does.exact.bytes
+done_breaks (Store key value) limit old now does = tt
+done_breaks (Delete key) limit old now does = record { out = []; accepted = does.changed.accepted; map = inr does.changed.map }
+done_breaks Erase limit old now does = at_end does.wiped
+done_breaks Check limit old now does = does
+done_breaks First limit old now does = does
+done_breaks Next limit old now does = does
+done_breaks TransactionStart limit old now does = does
+done_breaks TransactionCommit limit old now does = does
+done_breaks TransactionCancel limit old now does = does
 
--- an act that changes a file
-pub changed : (limit : ℕ) (verb : Verb) (old now : History) (r : Result Reply Fault)
-    → IfOk r (λ reply. reply ≡ verb_reply limit verb (seen old)) → IfOk r (λ reply. reply ≡ Done → Does limit verb old now) → IfOk r (λ reply. (reply ≡ Done → ⊥) → now ≡ old)
-    → (r ≡ Err F.Device → Breaks verb old now) → (r ≡ Err F.Memory → now ≡ old) → Acted limit verb old now r
-changed limit verb old now (Ok reply) is done kept broken as_before = (is, record { done = λ e. done (is ∙ e); kept = λ other. kept (λ e. other (sym is ∙ e)) })
-changed limit verb old now (Err F.Device) is done kept broken as_before = broken refl
-changed limit verb old now (Err F.Memory) is done kept broken as_before = as_before refl
+-- the growth wasn't told of a file on which an act was done
+pub growth_untold : (limit : ℕ) (verb : Verb) (old mid now : History) (fault : Fault) → Acted limit verb old mid (Ok Done) → now ≡ mid → (fault ≡ F.Device) ⊎ (fault ≡ F.Log) → ActedAndTold limit verb old now (Err fault)
+growth_untold limit verb old mid now fault acted same (inl is) =
+    subst (λ x. ActedAndTold limit verb old now (Err x)) (sym is) (subst (Breaks verb old) (sym same) (done_breaks verb limit old mid (acted.1.done (sym acted.0))))
+growth_untold limit verb old mid now fault acted same (inr is) = subst (λ x. ActedAndTold limit verb old now (Err x)) (sym is) (subst (Leaves limit verb old) (sym same) acted.1)
 
 module _ (act : Act) (old : History) where
   -- an opening that halted
@@ -58,15 +66,17 @@ module _ (act : Act) (old : History) where
   halted now (Refused refusal) right left = (right, left)
   halted now Device right left = inl left
   halted now Memory right left = left
+  halted now Log right left = inl left
 
   module _ (within : length (seen old) ≤ act.limit) (mid now : History) (can : CanOpen (seen old)) (undone : UndoneIfOpen old mid) (reads : seen mid ≡ opened_bytes (seen old)) where
     -- an act that replied over the opened file, and one that didn't
     pub replied : (reply : Reply) → Acted act.limit act.verb mid now (Ok reply) → OpenedAndActed act old now (Ok reply)
     replied reply acted = (within, can, acted.0 ∙ ap (reply_of act) reads, record { opened = mid; undone = undone; reads = reads; leaves = acted.1 })
 
-    pub faulted : (fault : Fault) → Acted act.limit act.verb mid now (Err fault) → OpenedAndActed act old now (Err (of_fault fault))
+    pub faulted : (fault : Fault) → ActedAndTold act.limit act.verb mid now (Err fault) → OpenedAndActed act old now (Err (of_fault fault))
     faulted F.Device acted = inr (record { opened = mid; undone = undone; reads = reads; breaks = acted })
     faulted F.Memory acted = subst (UndoneIfOpen old) (sym acted) undone
+    faulted F.Log acted = inr (record { opened = mid; undone = undone; reads = reads; leaves = acted })
 
 -- a count that rose from a later value rose
 pub rose_earlier : (before mid now : ℕ) → before ≤ mid → Rose mid now → Rose before now
@@ -92,11 +102,13 @@ module _ (act : Act) (name : List ℕ) (held : Option History) (before after : �
     halted_cause now (Refused refusal) acted rose = due_there (E.Refused refusal) (inr (record { refusal = refusal; right = acted.0; refused = refl }))
     halted_cause now Device acted rose = task_failed (rose refl)
     halted_cause now Memory acted rose = task_wanting
+    halted_cause now Log acted rose = task_unlogged
 
     pub halted_left : (given : Option History) (now : History) (halt : Halt) → given ≡ Some now → OpenedAndActed act h now (Err halt) → OnLeaves act held (of_halt halt) given
     halted_left given now (Refused refusal) is acted = left_there given (E.Refused refusal) now is acted.1
     halted_left given now Device is acted = left_there given E.DeviceFault now is acted
     halted_left given now Memory is acted = left_there given E.NoMemory now is (same_or_undone h now acted)
+    halted_left given now Log is acted = left_there given E.LogFault now is acted
 
 -- a file that wasn't taken, and that a task misses where it isn't there
 pub untaken_cause : (task : Task) (name : List ℕ) (held : Option History) (before after : ℕ) → TaskDue task name None (E.Missing name)
@@ -183,14 +195,16 @@ pub backup_ends : (input : Input) (task : Task) (more : List (List ℕ)) (suffix
     → AskEnds input task name held before after e
 backup_ends input task more suffix name held before after e is (inl ends) = inr (inl (record { more = more; suffix = suffix; backs_up = is; ends = ends }))
 backup_ends input task more suffix name held before after e is (inr (inl fault)) = inl (inl (subst (TaskCause task name (held name) before after) (sym fault.0) (task_failed fault.1)))
-backup_ends input task more suffix name held before after e is (inr (inr wanting)) = inl (inl (subst (TaskCause task name (held name) before after) (sym wanting) task_wanting))
+backup_ends input task more suffix name held before after e is (inr (inr (inr unlogged))) = inl (inl (subst (TaskCause task name (held name) before after) (sym unlogged) task_unlogged))
+backup_ends input task more suffix name held before after e is (inr (inr (inl wanting))) = inl (inl (subst (TaskCause task name (held name) before after) (sym wanting) task_wanting))
 
 -- and why a verification ended so
 pub verify_ends : (input : Input) (task : Task) (more : List (List ℕ)) (suffix name : List ℕ) (held : List ℕ → Option History) (before after : ℕ) (e : Ending) → task ≡ Verify more suffix → VerifyCause suffix (name ∷ more) held before after e
     → AskEnds input task name held before after e
 verify_ends input task more suffix name held before after e is (inl ends) = inr (inr (inl (record { more = more; suffix = suffix; text = ends.0; verifies = is; ends = ends.1 })))
 verify_ends input task more suffix name held before after e is (inr (inl fault)) = inl (inl (subst (TaskCause task name (held name) before after) (sym fault.0) (task_failed fault.1)))
-verify_ends input task more suffix name held before after e is (inr (inr wanting)) = inl (inl (subst (TaskCause task name (held name) before after) (sym wanting) task_wanting))
+verify_ends input task more suffix name held before after e is (inr (inr (inr unlogged))) = inl (inl (subst (TaskCause task name (held name) before after) (sym unlogged) task_unlogged))
+verify_ends input task more suffix name held before after e is (inr (inr (inl wanting))) = inl (inl (subst (TaskCause task name (held name) before after) (sym wanting) task_wanting))
 
 -- and why generated commands ended so
 pub gen_ends : (input : Input) (task : Task) (commands seed : ℕ) (name : List ℕ) (held : List ℕ → Option History) (before after : ℕ) (e : Ending) → task ≡ Generate commands seed → GenCause commands seed name (held name) before after e → AskEnds input task name held before after e

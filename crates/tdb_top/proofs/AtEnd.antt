@@ -1,6 +1,6 @@
 -- A file becomes longer by some bytes, and a word is made to lead to them: what each call leaves.
 use Rattle.std.proofs.Common.{◌≡◌, ℕ, ◌+◌, ◌-◌, ◌≤◌, List, ◌++◌, length, replicate, refl, sym, ap, ◌∙◌, inl, inr, arith}
-use Rattle.std.specs.Prelude.{Result, Ok, Err, OnOk, OnErr}
+use Rattle.std.specs.Prelude.{Result, Ok, Err, OnErr}
 use Rattle.std.proofs.lemmas.Grind.{common_steps}
 use Rattle.std.proofs.lemmas.List.{length-replicate}
 use Rattle.tdb_disk.specs.History.{History, grew, wrote, wrote_word, synced, called, seen, Tried, TriedOver}
@@ -14,10 +14,6 @@ use Rattle.tdb_top.specs.Commands.Insert.{led_to, BrokenOff}
 pub on_err : {V F P : Type 0} (r : Result V F) → P → OnErr r P
 on_err (Ok v) p = tt
 on_err (Err e) p = p
-
-pub on_ok : {V F P : Type 0} (r : Result V F) → P → OnOk r P
-on_ok (Ok v) p = p
-on_ok (Err e) p = tt
 
 -- a word has four bytes
 pub word_length : (o : Order) (w : ℕ) → length (bytes_of_word o w) ≡ 4

@@ -18,18 +18,18 @@ use Rattle.tdb_backup.specs.declared.refusal.CopyRefusal.TheVariants as C
 use Rattle.tdb_disk.specs.declared.files.TakeRefusal.{TakeRefusal}
 use Rattle.tdb_disk.specs.declared.files.TakeRefusal.TheVariants as Take
 use Rattle.tdb_ask.specs.declared.limits.TheConstants.{LONGEST_FILE}
-use Rattle.tdb_top.specs.declared.opening.Opened.{Opened}
+use Rattle.tdb_open.specs.declared.opening.Opened.{Opened}
 use Rattle.tdb_top.specs.declared.ending.Ending.{Ending}
 use Rattle.tdb_top.specs.declared.ending.Ending.TheVariants.{Replied, Refused, Missing, There, DeviceFault, NoMemory}
 use Rattle.tdb_top.specs.declared.ending.Reply.TheVariants as Reply
-use Rattle.tdb_top.specs.declared.halt.Halt.{Halt}
-use Rattle.tdb_top.specs.declared.halt.Halt.TheVariants as H
-use Rattle.tdb_top.specs.Commands.Backup.{IsCopyOf, IsNotCopied, of_copy, IsLeftOf, Stopped, EndsAt, BackupEnds, BackupCause, IsUntakenNew, CopyMade, copy_made, copy_full, copy_failed, copy_wanting, DiskCopied, disk_copied, disk_refused, disk_full, disk_failed, disk_wanting, IsUntaken, FileCopied, file_untaken, file_taken, BackedUpOne, EndsBackup, CountedBoth}
+use Rattle.tdb_open.specs.declared.halt.Halt.{Halt}
+use Rattle.tdb_open.specs.declared.halt.Halt.TheVariants as H
+use Rattle.tdb_top.specs.Commands.Backup.{IsCopyOf, IsNotCopied, of_copy, IsLeftOf, Stopped, EndsAt, BackupEnds, BackupCause, IsUntakenNew, CopyMade, copy_made, copy_full, copy_failed, copy_wanting, DiskCopied, disk_copied, disk_refused, disk_full, disk_failed, disk_wanting, disk_unlogged, IsUntaken, FileCopied, file_untaken, file_taken, BackedUpOne, EndsBackup, CountedBoth}
 use Rattle.tdb_top.specs.Commands.Create.{IsNewFile}
 use Rattle.tdb_top.specs.Ending.{CountedBy, Untaken, of_halt}
-use Rattle.tdb_top.specs.Opening.{opened_bytes, CanOpen, IsCheckedOn, SameOrUndone, UndoneIfOpen, LookBroken, HeldOrUndone, HeldBroken, HaltsRightly, HaltLeaves}
+use Rattle.tdb_open.specs.Opening.{opened_bytes, CanOpen, IsCheckedOn, UndoneIfOpen, LookBroken, HeldOrUndone, HeldBroken, HaltsRightly, HaltLeaves}
 use Rattle.tdb_top.proofs.Held.{held_kept}
-use Rattle.tdb_top.proofs.Openings.{same_or_undone}
+use Rattle.tdb_open.proofs.Openings.{same_or_undone}
 
 -- what a file is read as is no longer than the longest
 pub opened_short : (img : List ℕ) → CanOpen img → length (opened_bytes img) < 2 ^ 32
@@ -170,6 +170,7 @@ module _ (was : History) (old now : Option History) where
       of (H.Refused refusal) right left = disk_refused refusal right (same_or_undone was is left) same
       of H.Device right left = disk_failed left
       of H.Memory right left = disk_wanting (same_or_undone was is left) (inl same)
+      of H.Log right left = disk_unlogged (same_or_undone was is left) same
 
 pub halted_known : (halt : Halt) (e : Ending) → e ≡ of_halt halt → EndsBackup e
 halted_known halt e is = subst EndsBackup (sym is) (of halt)
@@ -178,11 +179,13 @@ halted_known halt e is = subst EndsBackup (sym is) (of halt)
     of (H.Refused refusal) = tt
     of H.Device = tt
     of H.Memory = tt
+    of H.Log = tt
 
 pub halted_other : (halt : Halt) → of_halt halt ≡ Replied Reply.Copied → ⊥
 halted_other (H.Refused refusal) is = cc
 halted_other H.Device is = cc
 halted_other H.Memory is = cc
+halted_other H.Log is = cc
 
 pub untaken_other : (file : List ℕ) (refusal : TakeRefusal) (e : Ending) → Untaken file refusal e → e ≡ Replied Reply.Copied → ⊥
 untaken_other file Take.Missing e (inl is) copied = let both : Missing file ≡ Replied Reply.Copied = sym is ∙ copied in cc
@@ -243,6 +246,7 @@ module _ (file at_copy at_new : List ℕ) (old mid : List ℕ → Option History
   disk_found was is _ there stands (disk_full len need can kept full gone) done = cc
   disk_found was is _ there stands (disk_failed left) done = cc
   disk_found was is _ there stands (disk_wanting kept left) done = cc
+  disk_found was is _ there stands (disk_unlogged kept same) done = cc
 
   found : (e : Ending) → FileCopied file (old file) (mid file) (old at_new) (mid at_new) e → e ≡ Replied Reply.Copied → Found
   found e (file_untaken own new (inl missing)) done = absurd (let both : Missing file ≡ Replied Reply.Copied = sym missing.1 ∙ done in cc)
@@ -276,14 +280,18 @@ module _ (file at_copy at_new : List ℕ) (old mid : List ℕ → Option History
     λ copy. record { kept = elim (left_held was is there stands left) [ inl kept ↦ inl kept | inr broken ↦ inr (refl, broken) ]; copy = copy; left = inr refl },
   )
   disk_stopped was is _ there stands (disk_wanting kept left) other rose = (
-    inr (inr refl),
+    inr (inr (inl refl)),
     λ copy. record { kept = inl (held_kept (old file) (mid file) was is there stands kept); copy = copy; left = inl left },
+  )
+  disk_stopped was is _ there stands (disk_unlogged kept same) other rose = (
+    inr (inr (inr refl)),
+    λ copy. record { kept = inl (held_kept (old file) (mid file) was is there stands kept); copy = copy; left = inl (inl same) },
   )
 
   untaken_cause : (e : Ending) → IsUntaken file (old file) e → (e ≡ DeviceFault → Rose before between) → BackupCause (file ∷ []) old before between e
   untaken_cause e (inl missing) rose = inl (inl (subst (λ o. EndsAt file o e) (sym missing.0) missing.1))
   untaken_cause e (inr (inl is)) rose = inr (inl (is, rose is))
-  untaken_cause e (inr (inr is)) rose = inr (inr is)
+  untaken_cause e (inr (inr is)) rose = inr (inr (inl is))
 
   here : (e : Ending) → FileCopied file (old file) (mid file) (old at_new) (mid at_new) e → (e ≡ Replied Reply.Copied → ⊥) → (e ≡ DeviceFault → Rose before between) → Here e
   here e (file_untaken own new untaken) other rose = (untaken_cause e untaken rose, λ copy. record { kept = inl (inl own); copy = copy; left = inl (inl new) })

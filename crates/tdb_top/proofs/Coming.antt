@@ -27,10 +27,16 @@ use Rattle.tdb_whole.specs.States.{IsStateOf}
 use Rattle.tdb_course.specs.Led.{moment, Comes, Led}
 use Rattle.tdb_course.specs.Unfinished.{IsEnd}
 use Rattle.tdb_tool.proofs.Coming.{course_join, whole_comes, comes_more, comes_after}
+use Rattle.tdb_course.specs.Hearing.{HeardLed, RunsAsTold}
+use Rattle.tdb_log.specs.Logs.{Logged}
+use Rattle.tdb_log.specs.declared.log.LogRefusal.{LogRefusal}
+use Rattle.tdb_log.specs.declared.log.LogRefusal.TheVariants as Unlogged
+use Rattle.tdb_course.proofs.HeardLines.{heard_joined}
 use Rattle.tdb_tool.proofs.Telling.{front_all, front_after}
 use Rattle.tdb_top.specs.declared.ending.Unprinted.TheVariants as Rest
-use Rattle.tdb_top.specs.declared.halt.Fault.TheVariants as F
-use Rattle.tdb_top.specs.Playing.{PlaysEnd, UnlessBroken, OnBroken, TellsAll, TellsFront, RunsTo, Scene, scene, IsStateAt, Ran, EndTold, end_of}
+use Rattle.tdb_open.specs.declared.halt.Fault.TheVariants as F
+use Rattle.tdb_top.specs.Playing.{PlaysEnd, UnlessBroken, OnBroken, TellsAll, TellsFront, RunsTo, HeardSo, Scene, scene, IsStateAt, Ran, EndTold, end_of}
+use Rattle.tdb_top.proofs.HeardPlays.{heard_after, heard_end}
 
 -- plays up to a place, the next one, and those behind it
 one_more : (i : ℕ) → i + 1 - i ≡ 1
@@ -67,45 +73,57 @@ told_front before mid now lines i line inside is e w =
         ∙ ap (λ t. report_text (take i lines) ++ t) (flat_map-cons printed_line line (drop (i + 1) lines))
 
 module _ (f : Form) (told : Bool) where
-  all_then_all : (plays more : List Play) (old mid new : State) (before between now : List ℕ) → TellsAll f old plays mid told before between → TellsAll f mid more new told between now → TellsAll f old (plays ++ more) new told before now
-  all_then_all plays more old mid new before between now p q = (
+  all_then_all : (plays more : List Play) (old mid new : State) (before between now : List ℕ) (logs then later : List Logged) → TellsAll f old plays mid told before between logs then → TellsAll f mid more new told between now then later
+      → TellsAll f old (plays ++ more) new told before now logs later
+  all_then_all plays more old mid new before between now logs then later p q = (
     p.0 ++ q.0,
     subst (λ ps. Course f old ps (law_lines (p.0 ++ q.0)) new) (sym (map-append law_play plays more)) (subst (λ ls. Course f old (law_plays plays ++ law_plays more) ls new) (sym (map-append law_line p.0 q.0))
         (course_join f (law_plays plays) (law_plays more) old mid new (law_lines p.0) (law_lines q.0) p.1 q.1)),
-    λ heard. q.2 heard ∙ ap (λ b. b ++ report_text q.0) (p.2 heard) ∙ append_assoc before (report_text p.0) (report_text q.0) ∙ ap (λ t. before ++ t) (sym (text_more p.0 q.0)),
+    (λ heard. q.2 heard ∙ ap (λ b. b ++ report_text q.0) (p.2 heard) ∙ append_assoc before (report_text p.0) (report_text q.0) ∙ ap (λ t. before ++ t) (sym (text_more p.0 q.0))),
+    heard_joined logs then later p.0 q.0 p.3 q.3,
   )
 
-  all_then_front : (plays more : List Play) (old mid new : State) (before between now : List ℕ) → TellsAll f old plays mid told before between → TellsFront f mid more new told between now → TellsFront f old (plays ++ more) new told before now
-  all_then_front plays more old mid new before between now p q = (
-    p.0 ++ q.0,
-    subst (λ ps. ComesTo f old ps (law_lines (p.0 ++ q.0)) new) (sym (map-append law_play plays more)) (subst (λ ls. ComesTo f old (law_plays plays ++ law_plays more) ls new) (sym (map-append law_line p.0 q.0))
-        (comes_after f (law_plays plays) (law_plays more) old mid new (law_lines p.0) (law_lines q.0) p.1 q.1)),
-    λ heard. subst (λ t. WroteFront before t now) (sym (text_more p.0 q.0)) (front_after before between now (report_text p.0) (report_text q.0) (p.2 heard) (q.2 heard)),
-  )
+  module _ (logs then later : List Logged) (answer : PlaysEnd) where
+    all_then_front : (plays more : List Play) (old mid new : State) (before between now : List ℕ) → TellsAll f old plays mid told before between logs then → TellsFront f mid more new told between now then later answer
+        → TellsFront f old (plays ++ more) new told before now logs later answer
+    all_then_front plays more old mid new before between now p q = (
+      p.0 ++ q.0,
+      subst (λ ps. ComesTo f old ps (law_lines (p.0 ++ q.0)) new) (sym (map-append law_play plays more)) (subst (λ ls. ComesTo f old (law_plays plays ++ law_plays more) ls new) (sym (map-append law_line p.0 q.0))
+          (comes_after f (law_plays plays) (law_plays more) old mid new (law_lines p.0) (law_lines q.0) p.1 q.1)),
+      (λ heard. subst (λ t. WroteFront before t now) (sym (text_more p.0 q.0)) (front_after before between now (report_text p.0) (report_text q.0) (p.2 heard) (q.2 heard))),
+      heard_after logs then later p.0 q.0 p.3 answer q.3,
+    )
 
-  front_more : (plays more : List Play) (old new : State) (before now : List ℕ) → TellsFront f old plays new told before now → TellsFront f old (plays ++ more) new told before now
-  front_more plays more old new before now p = (
-    p.0,
-    subst (λ ps. ComesTo f old ps (law_lines p.0) new) (sym (map-append law_play plays more)) (comes_more f (law_plays plays) (law_plays more) old new (law_lines p.0) p.1),
-    p.2,
-  )
+    front_more : (plays more : List Play) (old new : State) (before now : List ℕ) → TellsFront f old plays new told before now logs later answer → TellsFront f old (plays ++ more) new told before now logs later answer
+    front_more plays more old new before now p = (
+      p.0,
+      subst (λ ps. ComesTo f old ps (law_lines p.0) new) (sym (map-append law_play plays more)) (comes_more f (law_plays plays) (law_plays more) old new (law_lines p.0) p.1),
+      p.2,
+      p.3,
+    )
 
-  -- as far as plays came behind others, with still more that weren't begun
-  runs_after : (plays more rest : List Play) (old mid : State) (IsLeft : State → Type 0) (before between now : List ℕ) (answer : PlaysEnd) → (answer ≡ Ok (Ok tt) → ⊥) → TellsAll f old plays mid told before between → RunsTo f mid more IsLeft told between now answer
-      → RunsTo f old ((plays ++ more) ++ rest) IsLeft told before now answer
-  runs_after plays more rest old mid IsLeft before between now (Ok (Ok v)) other p q = absurd (other refl)
-  runs_after plays more rest old mid IsLeft before between now (Ok (Err F.Device)) other p q = (q.0, front_more (plays ++ more) rest old q.0 before now (all_then_front plays more old mid q.0 before between now p q.1))
-  runs_after plays more rest old mid IsLeft before between now (Ok (Err F.Memory)) other p q = (q.0, q.1, front_more (plays ++ more) rest old q.0 before now (all_then_front plays more old mid q.0 before between now p q.2))
-  runs_after plays more rest old mid IsLeft before between now (Err Rest.Report) other p q = (q.0, q.1, front_more (plays ++ more) rest old q.0 before now (all_then_front plays more old mid q.0 before between now p q.2))
-  runs_after plays more rest old mid IsLeft before between now (Err Rest.Fault) other p q = (q.0, front_more (plays ++ more) rest old q.0 before now (all_then_front plays more old mid q.0 before between now p q.1))
-  runs_after plays more rest old mid IsLeft before between now (Err Rest.Pairs) other p q = absurd q
-  runs_after plays more rest old mid IsLeft before between now (Err Rest.Files) other p q = absurd q
+    -- as far as plays came behind others, with still more that weren't begun
+    front_behind : (plays more rest : List Play) (old mid new : State) (before between now : List ℕ) → TellsAll f old plays mid told before between logs then → TellsFront f mid more new told between now then later answer
+        → TellsFront f old ((plays ++ more) ++ rest) new told before now logs later answer
+    front_behind plays more rest old mid new before between now p q = front_more (plays ++ more) rest old new before now (all_then_front plays more old mid new before between now p q)
+
+  runs_after : (plays more rest : List Play) (old mid : State) (IsLeft : State → Type 0) (before between now : List ℕ) (logs then later : List Logged) (answer : PlaysEnd) → (answer ≡ Ok (Ok tt) → ⊥)
+      → TellsAll f old plays mid told before between logs then → RunsTo f mid more IsLeft told between now then later answer → RunsTo f old ((plays ++ more) ++ rest) IsLeft told before now logs later answer
+  runs_after plays more rest old mid IsLeft before between now logs then later (Ok (Ok v)) other p q = absurd (other refl)
+  runs_after plays more rest old mid IsLeft before between now logs then later (Ok (Err F.Device)) other p q = (q.0, front_behind logs then later (Ok (Err F.Device)) plays more rest old mid q.0 before between now p q.1)
+  runs_after plays more rest old mid IsLeft before between now logs then later (Ok (Err F.Memory)) other p q = (q.0, q.1, front_behind logs then later (Ok (Err F.Memory)) plays more rest old mid q.0 before between now p q.2)
+  runs_after plays more rest old mid IsLeft before between now logs then later (Ok (Err F.Log)) other p q = (q.0, q.1, front_behind logs then later (Ok (Err F.Log)) plays more rest old mid q.0 before between now p q.2)
+  runs_after plays more rest old mid IsLeft before between now logs then later (Err Rest.Report) other p q = (q.0, q.1, front_behind logs then later (Err Rest.Report) plays more rest old mid q.0 before between now p q.2)
+  runs_after plays more rest old mid IsLeft before between now logs then later (Err Rest.Fault) other p q = (q.0, front_behind logs then later (Err Rest.Fault) plays more rest old mid q.0 before between now p q.1)
+  runs_after plays more rest old mid IsLeft before between now logs then later (Err Rest.Pairs) other p q = absurd q
+  runs_after plays more rest old mid IsLeft before between now logs then later (Err Rest.Files) other p q = absurd q
 
 -- what holds unless the disk failed is weakened, or moved
 pub unless_map : {A B : Type 0} (answer : PlaysEnd) → (A → B) → UnlessBroken answer A → UnlessBroken answer B
 unless_map (Ok (Ok v)) h a = h a
 unless_map (Ok (Err F.Device)) h a = tt
 unless_map (Ok (Err F.Memory)) h a = h a
+unless_map (Ok (Err F.Log)) h a = h a
 unless_map (Err Rest.Report) h a = h a
 unless_map (Err Rest.Fault) h a = tt
 unless_map (Err Rest.Pairs) h a = h a
@@ -115,6 +133,7 @@ pub on_map : {A B : Type 0} (answer : PlaysEnd) → (A → B) → OnBroken answe
 on_map (Ok (Ok v)) h a = tt
 on_map (Ok (Err F.Device)) h a = h a
 on_map (Ok (Err F.Memory)) h a = tt
+on_map (Ok (Err F.Log)) h a = tt
 on_map (Err Rest.Report) h a = tt
 on_map (Err Rest.Fault) h a = h a
 on_map (Err Rest.Pairs) h a = tt
@@ -129,15 +148,15 @@ module _ (disk_tells told : Bool) where
     fits = fits;
     rises = omega arith;
     quiet = refl;
-    runs = λ heard state is. (state, is, ([], (refl, refl), λ out. sym (append-nil start.written)));
+    runs = λ heard state is. (state, is, ([], (refl, refl), (λ out. sym (append-nil start.written)), refl));
     rose = λ heard state is. tt;
   }
 
   -- plays, and then others, up to those that broke off
   module _ (start mid new : Scene) (plays more : List Play) (first : Ran disk_tells told start mid plays (Ok (Ok tt))) where
     -- the others go on from a state that the first led to
-    next_runs : (answer : PlaysEnd) → Ran disk_tells told mid new more answer → IsTrue disk_tells → (state : State) → IsStateAt mid state → RunsTo (form_at start.world) state more (IsStateAt new) told mid.written new.written answer
-    next_runs answer next heard state is = subst (λ f. RunsTo f state more (IsStateAt new) told mid.written new.written answer) (ap form_in first.header) (next.runs heard state is)
+    next_runs : (answer : PlaysEnd) → Ran disk_tells told mid new more answer → IsTrue disk_tells → (state : State) → IsStateAt mid state → RunsTo (form_at start.world) state more (IsStateAt new) told mid.written new.written mid.logs new.logs answer
+    next_runs answer next heard state is = subst (λ f. RunsTo f state more (IsStateAt new) told mid.written new.written mid.logs new.logs answer) (ap form_in first.header) (next.runs heard state is)
 
     pub ran_on : Ran disk_tells told mid new more (Ok (Ok tt)) → Ran disk_tells told start new (plays ++ more) (Ok (Ok tt))
     ran_on next = record {
@@ -149,7 +168,7 @@ module _ (disk_tells told : Bool) where
       runs = λ heard state is.
           (let p = first.runs heard state is in
           let q = next_runs (Ok (Ok tt)) next heard p.0 p.1 in
-          (q.0, q.1, all_then_all (form_at start.world) told plays more state p.0 q.0 start.written mid.written new.written p.2 q.2));
+          (q.0, q.1, all_then_all (form_at start.world) told plays more state p.0 q.0 start.written mid.written new.written start.logs mid.logs new.logs p.2 q.2));
       rose = λ heard state is. tt;
     }
 
@@ -162,17 +181,22 @@ module _ (disk_tells told : Bool) where
       quiet = unless_map answer (λ same. same ∙ first.quiet) next.quiet;
       runs = λ heard state is.
           (let p = first.runs heard state is in
-          runs_after (form_at start.world) told plays more rest state p.0 (IsStateAt new) start.written mid.written new.written answer other p.2 (next_runs answer next heard p.0 p.1));
+          runs_after (form_at start.world) told plays more rest state p.0 (IsStateAt new) start.written mid.written new.written start.logs mid.logs new.logs answer other p.2 (next_runs answer next heard p.0 p.1));
       rose = λ heard state is.
           (let p = first.runs heard state is in
           on_map answer (λ rose. subst (λ n. Rose n new.faults) first.quiet rose) (next.rose heard p.0 p.1));
     }
 
 -- how plays ended that were taken and told, by both
-pub unless_end : (P : Type 0) (played : Result (Unit {0}) RunFault) (untold : Result (Unit {0}) WriteRefusal) → UnlessIo played P → UnlessBroken (end_of played untold) P
-unless_end P (Ok v) (Ok w) p = p
-unless_end P (Ok v) (Err Untold.Memory) p = p
-unless_end P (Ok v) (Err Untold.Failed) p = p
+pub unless_end : (P : Type 0) (played : Result (Result (Unit {0}) LogRefusal) RunFault) (untold : Result (Unit {0}) WriteRefusal) → UnlessIo played P → UnlessBroken (end_of played untold) P
+unless_end P (Ok (Ok v)) (Ok w) p = p
+unless_end P (Ok (Ok v)) (Err Untold.Memory) p = p
+unless_end P (Ok (Ok v)) (Err Untold.Failed) p = p
+unless_end P (Ok (Err Unlogged.Failed)) (Ok w) p = p
+unless_end P (Ok (Err Unlogged.Memory)) (Ok w) p = p
+unless_end P (Ok (Err Unlogged.Failed)) (Err Untold.Memory) p = p
+unless_end P (Ok (Err Unlogged.Memory)) (Err Untold.Memory) p = p
+unless_end P (Ok (Err refusal)) (Err Untold.Failed) p = p
 unless_end P (Err Run.Memory) (Ok w) p = p
 unless_end P (Err Run.Memory) (Err Untold.Memory) p = p
 unless_end P (Err Run.Memory) (Err Untold.Failed) p = p
@@ -180,10 +204,15 @@ unless_end P (Err Run.Io) (Ok w) p = tt
 unless_end P (Err Run.Io) (Err Untold.Memory) p = tt
 unless_end P (Err Run.Io) (Err Untold.Failed) p = tt
 
-on_end : (P : Type 0) (played : Result (Unit {0}) RunFault) (untold : Result (Unit {0}) WriteRefusal) → OnIo played P → OnBroken (end_of played untold) P
-on_end P (Ok v) (Ok w) p = tt
-on_end P (Ok v) (Err Untold.Memory) p = tt
-on_end P (Ok v) (Err Untold.Failed) p = tt
+on_end : (P : Type 0) (played : Result (Result (Unit {0}) LogRefusal) RunFault) (untold : Result (Unit {0}) WriteRefusal) → OnIo played P → OnBroken (end_of played untold) P
+on_end P (Ok (Ok v)) (Ok w) p = tt
+on_end P (Ok (Ok v)) (Err Untold.Memory) p = tt
+on_end P (Ok (Ok v)) (Err Untold.Failed) p = tt
+on_end P (Ok (Err Unlogged.Failed)) (Ok w) p = tt
+on_end P (Ok (Err Unlogged.Memory)) (Ok w) p = tt
+on_end P (Ok (Err Unlogged.Failed)) (Err Untold.Memory) p = tt
+on_end P (Ok (Err Unlogged.Memory)) (Err Untold.Memory) p = tt
+on_end P (Ok (Err refusal)) (Err Untold.Failed) p = tt
 on_end P (Err Run.Memory) (Ok w) p = tt
 on_end P (Err Run.Memory) (Err Untold.Memory) p = tt
 on_end P (Err Run.Memory) (Err Untold.Failed) p = tt
@@ -191,46 +220,61 @@ on_end P (Err Run.Io) (Ok w) p = p
 on_end P (Err Run.Io) (Err Untold.Memory) p = p
 on_end P (Err Run.Io) (Err Untold.Failed) p = p
 
-module _ (f : Form) (told : Bool) (plays : List Play) (old : State) (IsLeft : State → Type 0) (lines : List Line) (before now : List ℕ) where
-  abbrev Whole-of : Unit {0} → List LawLine → State → Type 0
-  Whole-of v ls s = Course f old (law_plays plays) ls s
-
+module _ (f : Form) (told : Bool) (plays : List Play) (old : State) (IsLeft : State → Type 0) (lines : List Line) (before now : List ℕ) (logs later : List Logged) where
   abbrev Part : List LawLine → State → Type 0
   Part ls s = ComesTo f old (law_plays plays) ls s
 
-  part : (s : State) → Whole-of tt (law_lines lines) s → Part (law_lines lines) s
+  abbrev Whole-of : Result (Unit {0}) LogRefusal → List LawLine → State → Type 0
+  Whole-of v = RunsAsTold v (Course f old (law_plays plays)) Part
+
+  part : (s : State) → Whole-of (Ok tt) (law_lines lines) s → Part (law_lines lines) s
   part s C = whole_comes f (law_plays plays) old s (law_lines lines) C
 
-  runs_by : (played : Result (Unit {0}) RunFault) (untold : Result (Unit {0}) WriteRefusal) → Comes played IsLeft Whole-of Part Part (law_lines lines)
-      → OnOk untold (IsTrue told → now ≡ before ++ report_text lines) → OnErr untold (IsTrue told → WroteFront before (report_text lines) now)
-      → RunsTo f old plays IsLeft told before now (end_of played untold)
-  runs_by (Ok v) (Ok w) C all front = (C.0, C.1, (lines, C.2, all))
-  runs_by (Ok v) (Err Untold.Memory) C all front = (C.0, C.1, (lines, part C.0 C.2, front))
-  runs_by (Ok v) (Err Untold.Failed) C all front = (C.0, C.1, (lines, part C.0 C.2, front))
-  runs_by (Err Run.Memory) (Ok w) C all front = (C.0, C.1, (lines, C.2, λ heard. front_all before (report_text lines) now (all heard)))
-  runs_by (Err Run.Memory) (Err Untold.Memory) C all front = (C.0, C.1, (lines, C.2, front))
-  runs_by (Err Run.Memory) (Err Untold.Failed) C all front = (C.0, C.1, (lines, C.2, front))
-  runs_by (Err Run.Io) (Ok w) C all front = (C.0, (lines, C.1, λ heard. front_all before (report_text lines) now (all heard)))
-  runs_by (Err Run.Io) (Err Untold.Memory) C all front = (C.0, (lines, C.1, front))
-  runs_by (Err Run.Io) (Err Untold.Failed) C all front = (C.0, (lines, C.1, front))
+  -- a front of the text was written where all of it was
+  front_whole : (IsTrue told → now ≡ before ++ report_text lines) → IsTrue told → WroteFront before (report_text lines) now
+  front_whole all heard = front_all before (report_text lines) now (all heard)
+
+  runs_by : (played : Result (Result (Unit {0}) LogRefusal) RunFault) (untold : Result (Unit {0}) WriteRefusal) → Comes played IsLeft Whole-of Part Part (law_lines lines)
+      → OnOk untold (IsTrue told → now ≡ before ++ report_text lines) → OnErr untold (IsTrue told → WroteFront before (report_text lines) now) → HeardSo (end_of played untold) logs lines later
+      → RunsTo f old plays IsLeft told before now logs later (end_of played untold)
+  runs_by (Ok (Ok v)) (Ok w) C all front so = (C.0, C.1, (lines, C.2, all, so))
+  runs_by (Ok (Ok v)) (Err Untold.Memory) C all front so = (C.0, C.1, (lines, part C.0 C.2, front, so))
+  runs_by (Ok (Ok v)) (Err Untold.Failed) C all front so = (C.0, C.1, (lines, part C.0 C.2, front, so))
+  runs_by (Ok (Err Unlogged.Failed)) (Ok w) C all front so = (C.0, C.1, (lines, C.2, front_whole all, so))
+  runs_by (Ok (Err Unlogged.Memory)) (Ok w) C all front so = (C.0, C.1, (lines, C.2, front_whole all, so))
+  runs_by (Ok (Err Unlogged.Failed)) (Err Untold.Memory) C all front so = (C.0, C.1, (lines, C.2, front, so))
+  runs_by (Ok (Err Unlogged.Memory)) (Err Untold.Memory) C all front so = (C.0, C.1, (lines, C.2, front, so))
+  runs_by (Ok (Err refusal)) (Err Untold.Failed) C all front so = (C.0, C.1, (lines, C.2, front, so))
+  runs_by (Err Run.Memory) (Ok w) C all front so = (C.0, C.1, (lines, C.2, front_whole all, so))
+  runs_by (Err Run.Memory) (Err Untold.Memory) C all front so = (C.0, C.1, (lines, C.2, front, so))
+  runs_by (Err Run.Memory) (Err Untold.Failed) C all front so = (C.0, C.1, (lines, C.2, front, so))
+  runs_by (Err Run.Io) (Ok w) C all front so = (C.0, (lines, C.1, front_whole all, so))
+  runs_by (Err Run.Io) (Err Untold.Memory) C all front so = (C.0, (lines, C.1, front, so))
+  runs_by (Err Run.Io) (Err Untold.Failed) C all front so = (C.0, (lines, C.1, front, so))
 
 -- plays that were taken together, and then told
-module _ (disk_tells told : Bool) (a b : Whole) (h later : History) (size longer faults risen : ℕ) (first lines : List Line) (empty : first ≡ []) (plays : List Play) (before now : List ℕ) (played : Result (Unit {0}) RunFault) (untold : Result (Unit {0}) WriteRefusal) where
+module _ (disk_tells told : Bool) (a b : Whole) (h later : History) (size longer faults risen : ℕ) (first lines : List Line) (empty : first ≡ []) (plays : List Play) (before now : List ℕ) (logs noted : List Logged)
+    (played : Result (Result (Unit {0}) LogRefusal) RunFault) (untold : Result (Unit {0}) WriteRefusal) where
   abbrev Taken : State → List LawLine → State → Type 0
   Taken s ls t = ComesTo (form_at a) s (law_plays plays) ls t
 
-  pub ran_of : Led disk_tells (moment a h size faults first) (moment b later longer risen lines) played (λ s v. Course (form_at a) s (law_plays plays)) Taken Taken
+  abbrev Given : State → Result (Unit {0}) LogRefusal → List LawLine → State → Type 0
+  Given s v = RunsAsTold v (Course (form_at a) s (law_plays plays)) (ComesTo (form_at a) s (law_plays plays))
+
+  pub ran_of : Led disk_tells (moment a h size faults first) (moment b later longer risen lines) played Given Taken Taken
       → OnOk untold (IsTrue told → now ≡ before ++ report_text lines) → OnErr untold (IsTrue told → WroteFront before (report_text lines) now)
-      → Ran disk_tells told (scene a h size faults before) (scene b later longer risen now) plays (end_of played untold)
-  ran_of led all front = record {
+      → HeardLed disk_tells (moment a h size faults first) (moment b later longer risen lines) logs noted played
+      → Ran disk_tells told (scene a h size faults before logs) (scene b later longer risen now noted) plays (end_of played untold)
+  ran_of led all front hears = record {
     header = unless_end _ played untold led.header;
     options = unless_end _ played untold led.options;
     fits = unless_end _ played untold led.fits;
     rises = led.rises;
     quiet = unless_end _ played untold led.quiet;
     runs = λ heard s is.
-        runs_by (form_at a) told plays s (IsStateOf b later) lines before now played untold
-        (subst (λ ls. Comes played (IsStateOf b later) (λ v. Course (form_at a) s (law_plays plays)) (Taken s) (Taken s) (law_lines ls)) (sym alone) (led.told heard s is)) all front;
+        runs_by (form_at a) told plays s (IsStateOf b later) lines before now logs noted played untold
+        (subst (λ ls. Comes played (IsStateOf b later) (Given s) (Taken s) (Taken s) (law_lines ls)) (sym alone) (led.told heard s is)) all front
+        (heard_end logs noted lines played untold (hears heard s lines is (ap (λ ls. ls ++ lines) (sym empty))));
     rose = λ heard s is. on_end _ played untold (led.rose heard s is);
   }
     where
@@ -241,7 +285,7 @@ module _ (disk_tells told : Bool) (a b : Whole) (h later : History) (size longer
 module _ (w : Whole) (told : Bool) (before : List ℕ) where
   pub end_told : (now : List ℕ) (first lines : List Line) → first ≡ [] → (more : List Line) × (lines ≡ first ++ more) × IsEnd w more
       → (untold : Result (Unit {0}) WriteRefusal) → OnOk untold (IsTrue told → now ≡ before ++ report_text lines) → OnErr untold (IsTrue told → WroteFront before (report_text lines) now)
-      → EndTold w told before now (end_of (Ok tt) untold)
+      → EndTold w told before now (end_of (Ok (Ok tt)) untold)
   end_told now first lines empty made untold all front = record {
     lines = lines;
     is_end = subst (IsEnd w) (sym (made.1 ∙ ap (λ f. f ++ made.0) empty)) made.2;
@@ -249,7 +293,7 @@ module _ (w : Whole) (told : Bool) (before : List ℕ) where
     front = front_either (IsTrue told) before (report_text lines) now untold all front;
   }
     where
-      whole : (r : Result (Unit {0}) WriteRefusal) → OnOk r (IsTrue told → now ≡ before ++ report_text lines) → end_of (Ok tt) r ≡ Ok (Ok tt) → IsTrue told → now ≡ before ++ report_text lines
+      whole : (r : Result (Unit {0}) WriteRefusal) → OnOk r (IsTrue told → now ≡ before ++ report_text lines) → end_of (Ok (Ok tt)) r ≡ Ok (Ok tt) → IsTrue told → now ≡ before ++ report_text lines
       whole (Ok v) all is heard = all heard
       whole (Err Untold.Memory) all is heard = let wrong : Ok (Err F.Memory) ≡ Ok (Ok tt) = is in absurd (cc)
       whole (Err Untold.Failed) all is heard = let wrong : Err Rest.Report ≡ Ok (Ok tt) = is in absurd (cc)

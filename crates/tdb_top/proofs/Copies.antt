@@ -1,17 +1,17 @@
 -- What is left of the files of a backup, one after the other.
-use Rattle.std.proofs.Common.{◌≡◌, ◌⊎◌, ℕ, false, List, [], ◌∷◌, Option, Some, refl, sym, ◌∙◌, ap, subst, inl, inr, arith}
+use Rattle.std.proofs.Common.{◌≡◌, ◌⊎◌, ℕ, false, List, [], ◌∷◌, Option, refl, sym, ◌∙◌, ap, subst, inl, inr, arith}
 use Rattle.std.specs.Prelude.{Bool}
 use Rattle.tdb_disk.specs.Count.{Rose}
 use Rattle.tdb_disk.specs.History.{History}
 use Rattle.tdb_top.specs.declared.ending.Ending.{Ending}
-use Rattle.tdb_top.specs.declared.ending.Ending.TheVariants.{Replied, Refused, Missing, There, Usage, DeviceFault, InputFault, Malformed, NoMemory}
+use Rattle.tdb_top.specs.declared.ending.Ending.TheVariants.{Replied, Refused, Missing, There, Usage, DeviceFault, InputFault, Malformed, NoMemory, LogFault}
 use Rattle.tdb_top.specs.declared.ending.Reply.TheVariants as Reply
-use Rattle.tdb_top.specs.declared.halt.Refusal.{Refusal}
-use Rattle.tdb_top.specs.declared.halt.Refusal.TheVariants.{TooLong, Header, Corrupt, NeedsRecovery}
+use Rattle.tdb_open.specs.declared.halt.Refusal.{Refusal}
+use Rattle.tdb_open.specs.declared.halt.Refusal.TheVariants.{TooLong, Header, Corrupt, NeedsRecovery}
 use Rattle.tdb_ask.specs.CopyNames.{copy_name, new_name, made_name, IsNameOf, IsNameAmong, IsForCopyAmong, NamesDiffer}
 use Rattle.tdb_top.specs.Commands.Backup.{Copied, CopiedAll, Stopped, AllStay, StoppedAt, IsLeftOf, WasOpened, EndsAt, BackupEnds, BackupCause, EndsBackup, BackedUpOne, BackedUp}
 use Rattle.tdb_top.specs.Ending.{status_of}
-use Rattle.tdb_top.specs.Opening.{HeldOrUndone, HeldBroken}
+use Rattle.tdb_open.specs.Opening.{HeldOrUndone, HeldBroken}
 use Rattle.tdb_top.proofs.Held.{same_or_other, held_undone}
 
 abbrev pub Held : Type 0
@@ -32,6 +32,7 @@ backup_zero (Missing name) known zero = absurd (omega (arith, zero))
 backup_zero (There name) known zero = absurd (omega (arith, zero))
 backup_zero DeviceFault known zero = absurd (omega (arith, zero))
 backup_zero NoMemory known zero = absurd (omega (arith, zero))
+backup_zero LogFault known zero = absurd (omega (arith, zero))
 backup_zero Usage known zero = absurd known
 backup_zero InputFault known zero = absurd known
 backup_zero (Malformed at) known zero = absurd known

@@ -10,7 +10,7 @@ use Rattle.tdb_space.specs.Extents.{HandPair}
 use Rattle.tdb_space.specs.Accepted.{AcceptWith, Accept}
 use Rattle.tdb_chain.specs.Place.{IsFound}
 use Rattle.tdb_chain.specs.declared.place.Place.{Place}
-use Rattle.tdb_top.specs.declared.opening.Opened.{Opened}
+use Rattle.tdb_open.specs.declared.opening.Opened.{Opened}
 
 -- a look-up found a place, or none
 pub some_found : (f : Form) (img key : List ℕ) (found : Option Place) → IsFound f img key found → MatchBool (is_some found) (IsSome (map_of f img key)) (map_of f img key ≡ None)

@@ -4,8 +4,8 @@ use Rattle.std.specs.Prelude.{unwrap_or}
 use Rattle.std.proofs.lemmas.Bool.{cases_Bool, false≢true}
 use Rattle.tdb_disk.specs.History.{History}
 use Rattle.tdb_space.specs.Pairs.{same_key}
-use Rattle.tdb_top.specs.Opening.{HeldOrUndone, SameOrUndone, UndoneIfOpen}
-use Rattle.tdb_top.proofs.Openings.{same_or_undone}
+use Rattle.tdb_open.specs.Opening.{HeldOrUndone, SameOrUndone, UndoneIfOpen}
+use Rattle.tdb_open.proofs.Openings.{same_or_undone}
 use Rattle.tdb_space.proofs.Pairs.Maps.{same_key-eq, same_key-refl}
 
 -- two names are one, or they differ

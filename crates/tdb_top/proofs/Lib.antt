@@ -1,7 +1,5 @@
 pub mod NewFile
 pub mod MakesFile
-pub mod Errors
-pub mod Openings
 pub mod AtEnd
 pub mod Held
 pub mod Found
@@ -19,6 +17,7 @@ pub mod Copies
 pub mod Verifying
 pub mod Runs
 pub mod Whole
+pub mod HeardPlays
 pub mod Coming
 pub mod Stopping
 pub mod Over
@@ -30,3 +29,4 @@ pub mod SessionsStopped
 pub mod Sessions
 pub mod SessionRuns
 pub mod Generating
+pub mod Hearing

@@ -12,11 +12,11 @@ use Rattle.tdb_top.specs.declared.ending.Unprinted.{Unprinted}
 use Rattle.tdb_top.specs.declared.ending.Ending.TheVariants as E
 use Rattle.tdb_ask.specs.declared.look.Look.{Look}
 use Rattle.tdb_ask.specs.declared.look.Look.TheVariants.{Dump, Value}
-use Rattle.tdb_top.specs.Ending.{TaskDue, TaskCause, task_due, task_failed, task_wanting, CountedBy, Untaken}
+use Rattle.tdb_top.specs.Ending.{TaskDue, TaskCause, task_due, task_failed, task_wanting, task_unlogged, CountedBy, Untaken}
 use Rattle.tdb_top.specs.Looks.{LookEnds, LookText, StandsBefore, Began}
 use Rattle.tdb_top.specs.Commands.Dump.{pairs_text}
 use Rattle.tdb_top.specs.Commands.Print.{PrintEnds}
-use Rattle.tdb_top.specs.Opening.{CanRead}
+use Rattle.tdb_open.specs.Opening.{CanRead}
 
 -- how a look ended is why its task ends so
 pub look_cause : (look : Look) (name : List ℕ) (h : History) (held : Option History) (before after : ℕ) (e : Ending) → held ≡ Some h → LookEnds look (seen h) e → CountedBy before after e → TaskCause (Read look) name held before after e
@@ -26,6 +26,7 @@ look_cause look name h held before after (E.Refused refusal) there ends counted 
     task_due (E.Refused refusal) (subst (λ o. TaskDue (Read look) name o (E.Refused refusal)) (sym there) (inr (record { refusal = refusal; right = ends; refused = refl })))
 look_cause look name h held before after E.DeviceFault there ends counted = task_failed (counted.failed refl)
 look_cause look name h held before after E.NoMemory there ends counted = task_wanting
+look_cause look name h held before after E.LogFault there ends counted = task_unlogged
 look_cause look name h held before after (E.Missing n) there ends counted = absurd ends
 look_cause look name h held before after (E.There n) there ends counted = absurd ends
 look_cause look name h held before after E.Usage there ends counted = absurd ends
@@ -55,6 +56,7 @@ pub dump_ends : (img : List ℕ) (e : Ending) → CanRead img → PrintEnds e �
 dump_ends img (E.Replied reply) can ends = (can, ends)
 dump_ends img E.DeviceFault can ends = tt
 dump_ends img E.NoMemory can ends = tt
+dump_ends img E.LogFault can ends = tt
 dump_ends img (E.Refused refusal) can ends = absurd ends
 dump_ends img (E.Missing name) can ends = absurd ends
 dump_ends img (E.There name) can ends = absurd ends

@@ -13,13 +13,13 @@ use Rattle.tdb_ask.specs.declared.ask.Task.{Task}
 use Rattle.tdb_ask.specs.declared.ask.Task.TheVariants.{Create, On, Read, Print, Restore, Backup, Verify, Turns, Session, Generate}
 use Rattle.tdb_top.specs.declared.ending.Ending.{Ending}
 use Rattle.tdb_top.specs.declared.ending.Ending.TheVariants.{Refused}
-use Rattle.tdb_top.specs.declared.halt.Refusal.{Refusal}
-use Rattle.tdb_top.specs.declared.halt.Refusal.TheVariants.{TooLong, Header, Corrupt, NeedsRecovery}
+use Rattle.tdb_open.specs.declared.halt.Refusal.{Refusal}
+use Rattle.tdb_open.specs.declared.halt.Refusal.TheVariants.{TooLong, Header, Corrupt, NeedsRecovery}
 use Rattle.tdb_ask.specs.declared.limits.TheConstants.{LONGEST_FILE}
 use Rattle.tdb_ask.specs.Ask.{Ask}
 use Rattle.tdb_top.specs.Ending.{status_of, Replies, Refuses, LookReplies, RefusesToRead, PrintsPairs, MakingDue, TaskDue, Due}
 use Rattle.tdb_ask.specs.declared.lines.create.NewForm.{NewForm}
-use Rattle.tdb_top.specs.Opening.{CanOpen, IsRefused, OpensToRead, CanRead, HasOpenGate, IsRefusedToRead, IsRefusedBelow}
+use Rattle.tdb_open.specs.Opening.{CanOpen, IsRefused, OpensToRead, CanRead, HasOpenGate, IsRefusedToRead, IsRefusedBelow}
 
 -- a file is refused in one way
 refusal_one : (img : List ℕ) (r s : Refusal) → IsRefused img r → IsRefused img s → r ≡ s

@@ -28,9 +28,11 @@ use Rattle.tdb_tool.proofs.Telling.{front_after}
 use Rattle.tdb_tool.specs.Whole.{IsOver, beginning_over}
 use Rattle.tdb_top.specs.Commands.Turns.{LeadsTo, CameOver, report_so_far, report_whole}
 use Rattle.tdb_top.specs.declared.ending.Unprinted.TheVariants as Rest
-use Rattle.tdb_top.specs.declared.halt.Fault.TheVariants as F
+use Rattle.tdb_open.specs.declared.halt.Fault.TheVariants as F
 use Rattle.tdb_top.specs.Playing.{PlaysEnd, UnlessBroken, IsUnbroken, TellsAll, TellsFront, RunsTo, PlayedFront, PlayedOver, IsJustLoaded}
+use Rattle.tdb_log.specs.Logs.{Logged}
 use Rattle.tdb_top.proofs.Coming.{text_more}
+use Rattle.tdb_top.proofs.HeardPlays.{heard_more, heard_whole}
 
 -- a world that was made for what a file holds
 pub just_loaded : (w : Whole) (h : History) (header : Header) (options : Options) (state : State) → w.openers.header ≡ header → w.openers.options ≡ options → IsStateOf w h state → IsLoaded (form_in header) state (options_of options)
@@ -41,26 +43,27 @@ just_loaded w h header options state same also at loaded file number = record {
   over = subst (λ f. IsOver f (seen h) state) (ap form_in (sym same)) (record { file = file; number = number });
 }
 
-module _ (f : Form) (options : Options) (a : List ℕ) (plays : List Play) (old : State) (loaded : IsLoaded f old (options_of options)) (over : IsOver f a old) (told : Bool) where
-  front_of : (new : State) (before now : List ℕ) → TellsFront f old plays new told before now → PlayedFront f options a told before now
-  front_of new before now p = (p.0, report_so_far plays p.0 new (record { old = old; loaded = loaded; over = over; came = p.1 }), p.2)
+module _ (f : Form) (options : Options) (a : List ℕ) (plays : List Play) (old : State) (loaded : IsLoaded f old (options_of options)) (over : IsOver f a old) (told : Bool) (logs later : List Logged) where
+  front_of : (new : State) (before now : List ℕ) (answer : PlaysEnd) → TellsFront f old plays new told before now logs later answer → PlayedFront f options a told before now logs later answer
+  front_of new before now answer p = (p.0, report_so_far plays p.0 new (record { old = old; loaded = loaded; over = over; came = p.1 }), p.2, p.3)
 
-  came_of : (new : State) (b before now : List ℕ) → IsReadAs f b new → TellsFront f old plays new told before now → CameOver f options a b
-  came_of new b before now is p = (plays, p.0, new, record { old = old; loaded = loaded; over = over; came = p.1 }, is)
+  came_of : (new : State) (b before now : List ℕ) (answer : PlaysEnd) → IsReadAs f b new → TellsFront f old plays new told before now logs later answer → CameOver f options a b
+  came_of new b before now answer is p = (plays, p.0, new, record { old = old; loaded = loaded; over = over; came = p.1 }, is)
 
   -- plays that broke off
-  pub broken_off : (IsLeft : State → Type 0) (b before now : List ℕ) (answer : PlaysEnd) → (answer ≡ Ok (Ok tt) → ⊥) → ((new : State) → IsLeft new → UnlessBroken answer (IsReadAs f b new)) → RunsTo f old plays IsLeft told before now answer
-      → PlayedOver f options a plays b told before now answer
+  pub broken_off : (IsLeft : State → Type 0) (b before now : List ℕ) (answer : PlaysEnd) → (answer ≡ Ok (Ok tt) → ⊥) → ((new : State) → IsLeft new → UnlessBroken answer (IsReadAs f b new)) → RunsTo f old plays IsLeft told before now logs later answer
+      → PlayedOver f options a plays b told before now logs later answer
   broken_off IsLeft b before now (Ok (Ok v)) other is p = absurd (other refl)
-  broken_off IsLeft b before now (Ok (Err F.Device)) other is p = front_of p.0 before now p.1
-  broken_off IsLeft b before now (Ok (Err F.Memory)) other is p = (front_of p.0 before now p.2, came_of p.0 b before now (is p.0 p.1) p.2)
-  broken_off IsLeft b before now (Err Rest.Report) other is p = (front_of p.0 before now p.2, came_of p.0 b before now (is p.0 p.1) p.2)
-  broken_off IsLeft b before now (Err Rest.Fault) other is p = front_of p.0 before now p.1
+  broken_off IsLeft b before now (Ok (Err F.Device)) other is p = front_of p.0 before now (Ok (Err F.Device)) p.1
+  broken_off IsLeft b before now (Ok (Err F.Memory)) other is p = (front_of p.0 before now (Ok (Err F.Memory)) p.2, came_of p.0 b before now (Ok (Err F.Memory)) (is p.0 p.1) p.2)
+  broken_off IsLeft b before now (Ok (Err F.Log)) other is p = (front_of p.0 before now (Ok (Err F.Log)) p.2, came_of p.0 b before now (Ok (Err F.Log)) (is p.0 p.1) p.2)
+  broken_off IsLeft b before now (Err Rest.Report) other is p = (front_of p.0 before now (Err Rest.Report) p.2, came_of p.0 b before now (Err Rest.Report) (is p.0 p.1) p.2)
+  broken_off IsLeft b before now (Err Rest.Fault) other is p = front_of p.0 before now (Err Rest.Fault) p.1
   broken_off IsLeft b before now (Err Rest.Pairs) other is p = absurd p
   broken_off IsLeft b before now (Err Rest.Files) other is p = absurd p
 
   -- plays that were taken whole, and then the commands told that are unfinished
-  module _ (new : State) (more : List Line) (ends : EndsWith new more) (b before mid now : List ℕ) (is : IsReadAs f b new) (p : TellsAll f old plays new told before mid) where
+  module _ (new : State) (more : List Line) (ends : EndsWith new more) (b before mid now : List ℕ) (is : IsReadAs f b new) (p : TellsAll f old plays new told before mid logs later) where
     leads : LeadsTo f options a plays p.0 new
     leads = record { old = old; loaded = loaded; over = over; course = p.1 }
 
@@ -72,18 +75,19 @@ module _ (f : Form) (options : Options) (a : List ℕ) (plays : List Play) (old 
     text : report_text (p.0 ++ more) ≡ report_text p.0 ++ report_text more
     text = text_more p.0 more
 
-    whole_front : (IsTrue told → WroteFront mid (report_text more) now) → PlayedFront f options a told before now
-    whole_front front = (
+    whole_front : (answer : PlaysEnd) → IsUnbroken answer → (IsTrue told → WroteFront mid (report_text more) now) → PlayedFront f options a told before now logs later answer
+    whole_front answer un front = (
       p.0 ++ more,
       report_whole plays p.0 more new leads ends,
-      λ heard. subst (λ t. WroteFront before t now) (sym text) (front_after before mid now (report_text p.0) (report_text more) (p.2 heard) (front heard)),
+      (λ heard. subst (λ t. WroteFront before t now) (sym text) (front_after before mid now (report_text p.0) (report_text more) (p.2 heard) (front heard))),
+      heard_whole answer logs later (p.0 ++ more) un (heard_more new 0 new.joined p.0 more logs later ends p.3),
     )
 
     whole_came : CameOver f options a b
     whole_came = (plays, p.0, new, record { old = old; loaded = loaded; over = over; came = whole_comes f (law_plays plays) old new (law_lines p.0) p.1 }, is)
 
     pub finished : ReportIsLawful → (answer : PlaysEnd) → IsUnbroken answer → (answer ≡ Ok (Ok tt) → IsTrue told → now ≡ mid ++ report_text more) → (IsTrue told → WroteFront mid (report_text more) now)
-        → PlayedOver f options a plays b told before now answer
+        → PlayedOver f options a plays b told before now logs later answer
     finished law (Ok (Ok v)) un all front = record {
       lines = p.0;
       left = new;
@@ -93,10 +97,12 @@ module _ (f : Form) (options : Options) (a : List ℕ) (plays : List Play) (old 
       ends = ends;
       lawful = lawful law;
       printed = λ heard. all refl heard ∙ ap (λ m. m ++ report_text more) (p.2 heard) ∙ append_assoc before (report_text p.0) (report_text more) ∙ ap (λ t. before ++ t) (sym text);
+      heard = p.3;
     }
     finished law (Ok (Err F.Device)) un all front = absurd un
-    finished law (Ok (Err F.Memory)) un all front = (whole_front front, whole_came)
-    finished law (Err Rest.Report) un all front = (whole_front front, whole_came)
+    finished law (Ok (Err F.Memory)) un all front = (whole_front (Ok (Err F.Memory)) un front, whole_came)
+    finished law (Ok (Err F.Log)) un all front = absurd un
+    finished law (Err Rest.Report) un all front = (whole_front (Err Rest.Report) un front, whole_came)
     finished law (Err Rest.Fault) un all front = absurd un
     finished law (Err Rest.Pairs) un all front = absurd un
     finished law (Err Rest.Files) un all front = absurd un

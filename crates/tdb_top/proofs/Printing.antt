@@ -7,33 +7,36 @@ use Rattle.tdb_dump.specs.declared.listing.Listing.{Listing}
 use Rattle.tdb_ask.specs.declared.ask.Task.TheVariants.{Print}
 use Rattle.tdb_top.specs.declared.ending.Ending.{Ending}
 use Rattle.tdb_top.specs.declared.ending.Ending.TheVariants as E
-use Rattle.tdb_top.specs.declared.halt.Halt.{Halt}
-use Rattle.tdb_top.specs.declared.halt.Halt.TheVariants as H
+use Rattle.tdb_open.specs.declared.halt.Halt.{Halt}
+use Rattle.tdb_open.specs.declared.halt.Halt.TheVariants as H
 use Rattle.tdb_top.specs.Commands.Dump.{pairs_text}
 use Rattle.tdb_top.specs.Commands.Print.{PrintEnds, PrintLeft, PrintLeaves, PrintText}
-use Rattle.tdb_top.specs.Ending.{TaskDue, TaskCause, task_due, task_failed, task_wanting, CountedBy, Untaken, of_halt}
+use Rattle.tdb_top.specs.Ending.{TaskDue, TaskCause, task_due, task_failed, task_wanting, task_unlogged, CountedBy, Untaken, of_halt}
 use Rattle.tdb_top.specs.Looks.{StandsBefore}
-use Rattle.tdb_top.specs.Opening.{opened_bytes, CanOpen, HaltsBelow, LeavesBelow, UndoneIfOpen}
+use Rattle.tdb_open.specs.Opening.{opened_bytes, CanOpen, HaltsBelow, LeavesBelow, UndoneIfOpen}
 use Rattle.tdb_top.proofs.Looking.{untaken_stands}
-use Rattle.tdb_top.proofs.Openings.{same_or_undone}
+use Rattle.tdb_open.proofs.Openings.{same_or_undone}
 
 -- before the line of an opening that halted nothing stands
 pub halted_stands : (text : List ℕ) (halt : Halt) → StandsBefore text (of_halt halt) []
 halted_stands text (H.Refused refusal) = refl
 halted_stands text H.Device = (0, refl)
 halted_stands text H.Memory = (0, refl)
+halted_stands text H.Log = refl
 
 -- what is left of a file whose opening halted
 pub halted_print : (limit : ℕ) (old now : History) (halt : Halt) → HaltsBelow limit (seen old) halt → LeavesBelow limit halt old now → PrintLeft limit old (of_halt halt) now
 halted_print limit old now (H.Refused refusal) right left = (right, left)
 halted_print limit old now H.Device right left = left
 halted_print limit old now H.Memory right left = same_or_undone old now left
+halted_print limit old now H.Log right left = inr left
 
 -- and of one that was opened, and whose pairs were printed or not
 pub opened_print : (limit : ℕ) (old now : History) (e : Ending) → length (seen old) ≤ limit → CanOpen (seen old) → UndoneIfOpen old now → PrintEnds e → PrintLeft limit old e now
 opened_print limit old now (E.Replied reply) within can undone ends = (within, can, ends, undone)
 opened_print limit old now E.DeviceFault within can undone ends = inl (same_or_undone old now undone)
 opened_print limit old now E.NoMemory within can undone ends = same_or_undone old now undone
+opened_print limit old now E.LogFault within can undone ends = absurd ends
 opened_print limit old now (E.Refused refusal) within can undone ends = absurd ends
 opened_print limit old now (E.Missing name) within can undone ends = absurd ends
 opened_print limit old now (E.There name) within can undone ends = absurd ends
@@ -51,6 +54,7 @@ module _ (listing : Listing) (limit : ℕ) (name : List ℕ) (held : Option Hist
   print_cause now (E.Refused refusal) left counted = due_there (E.Refused refusal) (inr (record { refusal = refusal; right = left.0; refused = refl }))
   print_cause now E.DeviceFault left counted = task_failed (counted.failed refl)
   print_cause now E.NoMemory left counted = task_wanting
+  print_cause now E.LogFault left counted = task_unlogged
   print_cause now (E.Missing n) left counted = absurd left
   print_cause now (E.There n) left counted = absurd left
   print_cause now E.Usage left counted = absurd left

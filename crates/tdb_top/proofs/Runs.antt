@@ -12,15 +12,15 @@ use Rattle.tdb_ask.specs.declared.ask.Task.{Task}
 use Rattle.tdb_ask.specs.declared.ask.Task.TheVariants.{Create, On, Read, Print, Restore, Backup, Verify, Turns, Session, Generate}
 use Rattle.tdb_ask.specs.declared.lines.create.NewForm.{NewForm}
 use Rattle.tdb_top.specs.declared.ending.Ending.{Ending}
-use Rattle.tdb_top.specs.declared.ending.Ending.TheVariants.{Replied, Refused, Missing, There, Usage, DeviceFault, InputFault, Malformed, NoMemory}
+use Rattle.tdb_top.specs.declared.ending.Ending.TheVariants.{Replied, Refused, Missing, There, Usage, DeviceFault, InputFault, Malformed, NoMemory, LogFault}
 use Rattle.tdb_top.specs.declared.ending.Reply.{Reply}
 use Rattle.tdb_top.specs.declared.ending.Reply.TheVariants.{Done, Value, Escaped, Dumped, Restored, Copied, Verified, KeyMissing, KeyThere, NoTransaction, Full, Number, Pair, End, Played, Generated}
-use Rattle.tdb_top.specs.declared.halt.Refusal.{Refusal}
-use Rattle.tdb_top.specs.declared.halt.Refusal.TheVariants.{TooLong, Header, Corrupt, NeedsRecovery}
+use Rattle.tdb_open.specs.declared.halt.Refusal.{Refusal}
+use Rattle.tdb_open.specs.declared.halt.Refusal.TheVariants.{TooLong, Header, Corrupt, NeedsRecovery}
 use Rattle.tdb_ask.specs.declared.limits.TheConstants.{LONGEST_FILE}
 use Rattle.tdb_ask.specs.Ask.{Ask}
 use Rattle.tdb_top.specs.Acts.{reply_of, Left}
-use Rattle.tdb_top.specs.Ending.{status_of, text_of, TakesMemory, PrintedFor, Replies, Refuses, LookReplies, RefusesToRead, PrintsPairs, TaskDue, Due, TaskCause, task_due, task_failed, task_wanting, CountedBy, CountedFor, CountedAsked, has_openers, asks_openers}
+use Rattle.tdb_top.specs.Ending.{status_of, text_of, TakesMemory, PrintedFor, Replies, Refuses, LookReplies, RefusesToRead, PrintsPairs, TaskDue, Due, TaskCause, task_due, task_failed, task_wanting, task_unlogged, CountedBy, CountedFor, CountedAsked, has_openers, asks_openers}
 use Rattle.tdb_top.specs.Looks.{look_reply}
 use Rattle.tdb_top.specs.Printed.{TextBefore, ask_tells, IsSilent, Writes}
 use Rattle.tdb_top.specs.Left.{ActLeaves, OnLeaves, MakingLeaves, RestoreLeaves, TaskLeaves, MayChange, SameElse, Leaving}
@@ -34,21 +34,22 @@ use Rattle.tdb_top.specs.Reads.{reads_input, ask_reads, AskEnds}
 use Rattle.tdb_top.specs.Commands.Session.{session_options, StaysThere}
 use Rattle.tdb_top.specs.Commands.Turns.{TurnOpened, IsPlayed, TurnsLeft, TurnsLeave}
 use Rattle.tdb_dump.specs.declared.listing.Listing.{Listing}
+use Rattle.tdb_log.specs.Logs.{Logged}
 use Rattle.tdb_plays.specs.declared.options.Options.{Options}
 use Rattle.tdb_gen.specs.declared.summary.Summary.{Summary}
 use Rattle.tdb_gen.specs.Summary.{summary_text}
 use Rattle.tdb_top.specs.Commands.Generate.{HasMade, GenLeaves}
-use Rattle.tdb_top.specs.Opening.{opened_bytes, OpensToRead, HeldOrUndone, SameOrUndone, UndoneIfOpen, OpenedBelow}
-use Rattle.tdb_top.specs.Run.{Run, MayEnd, is_due, is_read, is_copied, is_verified, is_played, is_served, is_generated, call_failed, memory_wanting, TellsFault, ActsOn, LooksInto, PrintsOf, RefusesExactly, KeepsAll, EndsMidway, ActRun, PrintRun, MakingRun, RestoringRun, BackupRun, VerifyRun, TurnsRun, SessionRun, GeneratingRun, IsCopyName, LeavesFiles, Accounted}
+use Rattle.tdb_open.specs.Opening.{opened_bytes, OpensToRead, HeldOrUndone, SameOrUndone, UndoneIfOpen, OpenedBelow}
+use Rattle.tdb_top.specs.Run.{Run, MayEnd, is_due, is_read, is_copied, is_verified, is_played, is_served, is_generated, call_failed, memory_wanting, log_failed, TellsFault, ActsOn, LooksInto, PrintsOf, RefusesExactly, KeepsAll, EndsMidway, ActRun, PrintRun, MakingRun, RestoringRun, BackupRun, VerifyRun, TurnsRun, SessionRun, GeneratingRun, IsCopyName, LeavesFiles, Accounted}
 use Rattle.tdb_top.proofs.Held.{same_or_other}
 use Rattle.tdb_top.proofs.Copies.{stopped_kept, stopped_weaker, backup_zero}
 use Rattle.tdb_top.proofs.Verifying.{verified_zero, all_left_weaker, verify_kept}
 use Rattle.tdb_top.proofs.OneAnswer.{due_one, below_faulty, below_three, read_faulty, read_three}
-use Rattle.tdb_top.proofs.Openings.{same_or_undone}
+use Rattle.tdb_open.proofs.Openings.{same_or_undone}
 
 -- the statuses of the table
 abbrev Known : ℕ → Type 0
-Known n = Contains (0 ∷ 1 ∷ 2 ∷ 3 ∷ 4 ∷ 5 ∷ 6 ∷ 7 ∷ 8 ∷ 9 ∷ []) n
+Known n = Contains (0 ∷ 1 ∷ 2 ∷ 3 ∷ 4 ∷ 5 ∷ 6 ∷ 7 ∷ 8 ∷ 9 ∷ 10 ∷ []) n
 
 -- a status of a reply is 0, 1 or 6
 abbrev IsReplyStatus : ℕ → Type 0
@@ -94,6 +95,7 @@ ending_known (Refused r) = elim (refusal_status r) [
 ending_known Usage = (2, omega arith, refl)
 ending_known DeviceFault = (4, omega arith, refl)
 ending_known NoMemory = (5, omega arith, refl)
+ending_known LogFault = (10, omega arith, refl)
 ending_known (Malformed at) = (7, omega arith, refl)
 ending_known InputFault = (8, omega arith, refl)
 ending_known (Missing name) = (9, omega arith, refl)
@@ -122,6 +124,7 @@ usage_alone (Refused r) two = absurd (refusal_not r 2 (λ z. absurd (omega (arit
 usage_alone Usage two = refl
 usage_alone DeviceFault two = absurd (omega (arith, two))
 usage_alone NoMemory two = absurd (omega (arith, two))
+usage_alone LogFault two = absurd (omega (arith, two))
 usage_alone (Missing name) two = absurd (omega (arith, two))
 usage_alone (There name) two = absurd (omega (arith, two))
 usage_alone InputFault two = absurd (omega (arith, two))
@@ -133,6 +136,7 @@ fault_alone (Refused r) four = absurd (refusal_not r 4 (λ z. absurd (omega (ari
 fault_alone Usage four = absurd (omega (arith, four))
 fault_alone DeviceFault four = refl
 fault_alone NoMemory four = absurd (omega (arith, four))
+fault_alone LogFault four = absurd (omega (arith, four))
 fault_alone (Missing name) four = absurd (omega (arith, four))
 fault_alone (There name) four = absurd (omega (arith, four))
 fault_alone InputFault four = absurd (omega (arith, four))
@@ -146,6 +150,7 @@ eight_alone DeviceFault eight = absurd (omega (arith, eight))
 eight_alone InputFault eight = refl
 eight_alone (Malformed at) eight = absurd (omega (arith, eight))
 eight_alone NoMemory eight = absurd (omega (arith, eight))
+eight_alone LogFault eight = absurd (omega (arith, eight))
 eight_alone (Missing name) eight = absurd (omega (arith, eight))
 eight_alone (There name) eight = absurd (omega (arith, eight))
 
@@ -157,6 +162,7 @@ seven_tells DeviceFault seven = absurd (omega (arith, seven))
 seven_tells InputFault seven = refl
 seven_tells (Malformed at) seven = refl
 seven_tells NoMemory seven = absurd (omega (arith, seven))
+seven_tells LogFault seven = absurd (omega (arith, seven))
 seven_tells (Missing name) seven = absurd (omega (arith, seven))
 seven_tells (There name) seven = absurd (omega (arith, seven))
 
@@ -199,6 +205,7 @@ task_caused : (ask : Option Ask) (a : Ask) (held : List ℕ → Option History) 
 task_caused ask a held input before after _ is (task_due e due) = is_due e (subst (λ o. Due o held e) is due)
 task_caused ask a held input before after _ is (task_failed rose) = call_failed a (sym is) rose
 task_caused ask a held input before after _ is task_wanting = memory_wanting
+task_caused ask a held input before after _ is task_unlogged = log_failed a (sym is)
 
 pub asked_cause : (ask : Option Ask) (a : Ask) (held : List ℕ → Option History) (input : Input) (before after : ℕ) (e : Ending) → Some a ≡ ask → AskEnds input a.task a.file held before after e → MayEnd ask held input before after e
 asked_cause ask a held input before after e is (inl (inl cause)) = task_caused ask a held input before after e is cause
@@ -263,7 +270,7 @@ module _ (run : Run) (e : Ending) (cause : MayEnd run.ask run.old run.input run.
     where
       of : (x : Ending) → MayEnd run.ask run.old run.input run.faults_before run.faults_after x → Printed tells run x → (Due run.ask run.old x → P (status_of x))
           → ((limit : ℕ) (name : List ℕ) → run.ask ≡ Some (record { file = name; task = Restore limit }) → run.old name ≡ None → P (status_of x)) → Copies (P (status_of x)) → Undue (P (status_of x)) → P run.status ⊎ TellsFault run.status
-      of x c (inr part) due read copies undue = inr (inr (inr part.exits))
+      of x c (inr part) due read copies undue = inr (inr (inr (inl part.exits)))
       of _ (is_due x d) (inl all) due read copies undue = inl (subst P (sym all.exits) (due d))
       of _ (is_read x limit name asks none so) (inl all) due read copies undue = inl (subst P (sym all.exits) (read limit name asks none))
       of _ (is_copied x more suffix name asks ends) (inl all) due read copies undue = inl (subst P (sym all.exits) (copies more suffix name asks))
@@ -274,6 +281,7 @@ module _ (run : Run) (e : Ending) (cause : MayEnd run.ask run.old run.input run.
           inl (subst P (sym all.exits) (undue (Generate commands seed) name asks refl (λ y due. subst (λ o. TaskDue (Generate commands seed) name o y) none due)))
       of _ (call_failed a asks rose) (inl all) due read copies undue = inr (inl all.exits)
       of _ memory_wanting (inl all) due read copies undue = inr (inr (inl all.exits))
+      of _ (log_failed a asks) (inl all) due read copies undue = inr (inr (inr (inr all.exits)))
 
   -- what is due is what is answered
   pub exactly : (x : Ending) → Due run.ask run.old x → (run.status ≡ status_of x) ⊎ TellsFault run.status
@@ -329,7 +337,8 @@ module _ (run : Run) (e : Ending) (cause : MayEnd run.ask run.old run.input run.
   no_three : TellsFault run.status → run.status ≡ 3 → ⊥
   no_three (inl is) three = absurd (omega (arith, is, three))
   no_three (inr (inl is)) three = absurd (omega (arith, is, three))
-  no_three (inr (inr is)) three = absurd (omega (arith, is, three))
+  no_three (inr (inr (inl is))) three = absurd (omega (arith, is, three))
+  no_three (inr (inr (inr is))) three = absurd (omega (arith, is, three))
 
   unless_three : (run.status ≡ 3 → ⊥) ⊎ TellsFault run.status → run.status ≡ 3 → ⊥
   unless_three (inl other) three = other three
@@ -393,6 +402,21 @@ module _ (before after status : ℕ) where
   memory_exits (inr (inl want)) = inl want.0
   memory_exits (inr (inr eight)) = inr eight
 
+  -- a log that failed has status 10 or 8
+  pub log_exits : Exits status LogFault → (status ≡ 10) ⊎ (status ≡ 8)
+  log_exits (inl own) = inl own
+  log_exits (inr (inl want)) = absurd (false≢true want.1)
+  log_exits (inr (inr eight)) = inr eight
+
+  -- which isn't one of these
+  log_apart : (n : ℕ) → (n ≡ 10 → ⊥) → (n ≡ 8 → ⊥) → (status ≡ 10) ⊎ (status ≡ 8) → status ≡ n → ⊥
+  log_apart n ten eight (inl is) other = ten (sym other ∙ is)
+  log_apart n ten eight (inr is) other = eight (sym other ∙ is)
+
+  pub log_no_keep : (status ≡ 10) ⊎ (status ≡ 8) → KeepsAll status → ⊥
+  log_no_keep (inl is) keeps = keeps.3 is
+  log_no_keep (inr is) keeps = keeps.2 is
+
   pub fault_no_done : (status ≡ 4) ⊎ (status ≡ 8) → status ≡ 0 → ⊥
   fault_no_done (inl is) done = absurd (omega (arith, is, done))
   fault_no_done (inr is) done = absurd (omega (arith, is, done))
@@ -415,10 +439,25 @@ module _ (before after status : ℕ) where
   neither n other eight (inl is) = other is
   neither n other eight (inr is) = eight is
 
+  -- status 10 comes where a log failed alone
+  own_ten : (t : Ending) → Exits status t → status ≡ 10 → status_of t ≡ 10
+  own_ten t (inl own) is = sym own ∙ is
+  own_ten t (inr (inl want)) is = absurd (omega (arith, want.0, is))
+  own_ten t (inr (inr eight)) is = absurd (omega (arith, eight, is))
+
+  fault_no_ten : (status ≡ 4) ⊎ (status ≡ 8) → status ≡ 10 → ⊥
+  fault_no_ten (inl own) is = absurd (omega (arith, own, is))
+  fault_no_ten (inr own) is = absurd (omega (arith, own, is))
+
+  memory_no_ten : (status ≡ 5) ⊎ (status ≡ 8) → status ≡ 10 → ⊥
+  memory_no_ten (inl own) is = absurd (omega (arith, own, is))
+  memory_no_ten (inr own) is = absurd (omega (arith, own, is))
+
   -- what a run leaves of the file of an act
   act_run : (act : Act) (old now : History) (t : Ending) → Exits status t → CountedBy before after t → ActLeaves act old t now → ActRun act old before after status now
   act_run act old now (Replied reply) out counted left = record {
     any = inr (inl left.1);
+    logged = λ is. inr left.1;
     replied = λ is. sym (ap (λ r. status_of (Replied r)) left.0) ∙ own_reply reply out is;
     done = λ is. left.1;
     failed = λ is. absurd (reply_no_fault reply out is);
@@ -427,6 +466,7 @@ module _ (before after status : ℕ) where
   }
   act_run act old now (Refused r) out counted left = record {
     any = inl (below_same act.limit old now left);
+    logged = λ is. absurd (refusal_not r 10 (λ z. absurd (omega (arith, z))) (λ z. absurd (omega (arith, z))) (own_ten (Refused r) out is));
     replied = λ is. absurd (refusal_apart r out (inl is));
     done = λ is. absurd (refusal_apart r out (inl is));
     failed = λ is. absurd (refusal_apart r out (inr is));
@@ -435,14 +475,25 @@ module _ (before after status : ℕ) where
   }
   act_run act old now DeviceFault out counted left = record {
     any = inr (inr (counted.failed refl, left));
+    logged = λ is. absurd (fault_no_ten (fault_exits out) is);
     replied = λ is. absurd (fault_no_done (fault_exits out) is);
     done = λ is. absurd (fault_no_done (fault_exits out) is);
     failed = λ is. left;
     kept = λ keeps. absurd (fault_no_keep (fault_exits out) keeps);
     exact = λ keeps other. absurd (fault_no_keep (fault_exits out) keeps);
   }
+  act_run act old now LogFault out counted left = record {
+    any = elim left [ inl opened ↦ inl (same_or_undone old now opened) | inr acted ↦ inr (inl acted) ];
+    logged = λ is. left;
+    replied = λ is. absurd (log_apart 0 (λ z. absurd (omega (arith, z))) (λ z. absurd (omega (arith, z))) (log_exits out) is);
+    done = λ is. absurd (log_apart 0 (λ z. absurd (omega (arith, z))) (λ z. absurd (omega (arith, z))) (log_exits out) is);
+    failed = λ is. absurd (log_apart 4 (λ z. absurd (omega (arith, z))) (λ z. absurd (omega (arith, z))) (log_exits out) is);
+    kept = λ keeps. absurd (log_no_keep (log_exits out) keeps);
+    exact = λ keeps other. absurd (log_no_keep (log_exits out) keeps);
+  }
   act_run act old now NoMemory out counted left = record {
     any = inl left;
+    logged = λ is. absurd (memory_no_ten (memory_exits out) is);
     replied = λ is. absurd (memory_apart (memory_exits out) (inl is));
     done = λ is. absurd (memory_apart (memory_exits out) (inl is));
     failed = λ is. absurd (memory_apart (memory_exits out) (inr is));
@@ -473,6 +524,7 @@ module _ (before after status : ℕ) where
     kept = λ four eight. absurd (neither 4 four eight (fault_exits out));
     exact = λ four five eight. absurd (neither 4 four eight (fault_exits out));
   }
+  print_run limit old now LogFault out counted left = opened_run limit old now (log_apart 4 (λ z. absurd (omega (arith, z))) (λ z. absurd (omega (arith, z))) (log_exits out)) left
   print_run limit old now NoMemory out counted left = record {
     any = inl left;
     failed = λ is. absurd (memory_apart (memory_exits out) (inr is));
@@ -546,6 +598,7 @@ module _ (before after status : ℕ) where
       six : (status ≡ 5) ⊎ (status ≡ 8) → status ≡ 6 → ⊥
       six (inl own) is = absurd (omega (arith, own, is))
       six (inr own) is = absurd (omega (arith, own, is))
+  making_run form old now LogFault out counted left = absurd left
   making_run form old now (Missing name) out counted left = absurd left
   making_run form old now Usage out counted left = absurd left
   making_run form old now InputFault out counted left = absurd left
@@ -695,69 +748,86 @@ module _ (before after status : ℕ) where
   played_kept (inr is) keeps = keeps.2 is
 
   -- what a run leaves of the file of turns
-  turns_run : (options : Options) (input : Input) (output : Output) (old now : History) (t : Ending) → Exits status t → CountedBy before after t → (status ≡ 0 → IsPlayed options input output old now) → TurnsLeft options old t now
-      → TurnsRun options input output old before after status now
-  turns_run options input output old now (Replied reply) out counted whole left =
+  turns_run : (options : Options) (input : Input) (output : Output) (logs later : List Logged) (old now : History) (t : Ending) → Exits status t → CountedBy before after t → (status ≡ 0 → IsPlayed options input output logs later old now) → TurnsLeft options old t now
+      → TurnsRun options input output old before after status now logs later
+  turns_run options input output logs later old now (Replied reply) out counted whole left =
       let ends = played_exits reply left.0 out in
       record {
         any = inr (inl left.1);
         done = whole;
         failed = λ is. absurd (either_not 0 8 4 (λ z. absurd (omega (arith, z))) (λ z. absurd (omega (arith, z))) ends is);
         wanting = λ is. inr left.1;
+        logged = λ is. inr left.1;
         unread = λ is. absurd (either_not 0 8 7 (λ z. absurd (omega (arith, z))) (λ z. absurd (omega (arith, z))) ends is);
         kept = λ keeps five seven. absurd (played_kept ends keeps);
       }
-  turns_run options input output old now (Refused r) out counted whole left = record {
+  turns_run options input output logs later old now (Refused r) out counted whole left = record {
     any = inl (opened_same options old now left);
     done = whole;
     failed = λ is. absurd (refusal_apart before after status r out (inr is));
     wanting = λ is. inl (opened_same options old now left);
+    logged = λ is. inl (opened_same options old now left);
     unread = λ is. absurd (refused_seven r out is);
     kept = λ keeps five seven. left;
   }
-  turns_run options input output old now DeviceFault out counted whole left =
+  turns_run options input output logs later old now DeviceFault out counted whole left =
       let ends = fault_exits before after status out in
       record {
         any = inr (inr (counted.failed refl));
         done = whole;
         failed = λ is. counted.failed refl;
         wanting = λ is. absurd (either_not 4 8 5 (λ z. absurd (omega (arith, z))) (λ z. absurd (omega (arith, z))) ends is);
+        logged = λ is. absurd (either_not 4 8 10 (λ z. absurd (omega (arith, z))) (λ z. absurd (omega (arith, z))) ends is);
         unread = λ is. absurd (either_not 4 8 7 (λ z. absurd (omega (arith, z))) (λ z. absurd (omega (arith, z))) ends is);
         kept = λ keeps five seven. absurd (fault_no_keep before after status ends keeps);
       }
-  turns_run options input output old now NoMemory out counted whole left =
+  turns_run options input output logs later old now NoMemory out counted whole left =
       let ends = memory_exits before after status out in
       record {
         any = elim left [ inl same ↦ inl same | inr came ↦ inr (inl came) ];
         done = whole;
         failed = λ is. absurd (either_not 5 8 4 (λ z. absurd (omega (arith, z))) (λ z. absurd (omega (arith, z))) ends is);
         wanting = λ is. left;
+        logged = λ is. left;
         unread = λ is. absurd (either_not 5 8 7 (λ z. absurd (omega (arith, z))) (λ z. absurd (omega (arith, z))) ends is);
         kept = λ keeps five seven. absurd (memory_no_keep before after status ends keeps five);
       }
-  turns_run options input output old now InputFault out counted whole left =
+  turns_run options input output logs later old now LogFault out counted whole left =
+      let ends = log_exits before after status out in
+      record {
+        any = elim left [ inl same ↦ inl same | inr came ↦ inr (inl came) ];
+        done = whole;
+        failed = λ is. absurd (either_not 10 8 4 (λ z. absurd (omega (arith, z))) (λ z. absurd (omega (arith, z))) ends is);
+        wanting = λ is. left;
+        logged = λ is. left;
+        unread = λ is. absurd (either_not 10 8 7 (λ z. absurd (omega (arith, z))) (λ z. absurd (omega (arith, z))) ends is);
+        kept = λ keeps five seven. absurd (log_no_keep before after status ends keeps);
+      }
+  turns_run options input output logs later old now InputFault out counted whole left =
       let eight = unheard_exits out in
       record {
         any = inl (inr left);
         done = whole;
         failed = λ is. absurd (omega (arith, eight, is));
         wanting = λ is. inl (inr left);
+        logged = λ is. inl (inr left);
         unread = λ is. left;
         kept = λ keeps five seven. absurd (keeps.2 eight);
       }
-  turns_run options input output old now (Malformed at) out counted whole left =
+  turns_run options input output logs later old now (Malformed at) out counted whole left =
       let ends = malformed_exits at out in
       record {
         any = inl (inr left);
         done = whole;
         failed = λ is. absurd (malformed_four ends is);
         wanting = λ is. inl (inr left);
+        logged = λ is. inl (inr left);
         unread = λ is. left;
         kept = λ keeps five seven. absurd (malformed_kept ends keeps five seven);
       }
-  turns_run options input output old now (Missing name) out counted whole left = absurd left
-  turns_run options input output old now (There name) out counted whole left = absurd left
-  turns_run options input output old now Usage out counted whole left = absurd left
+  turns_run options input output logs later old now (Missing name) out counted whole left = absurd left
+  turns_run options input output logs later old now (There name) out counted whole left = absurd left
+  turns_run options input output logs later old now Usage out counted whole left = absurd left
 
   -- which is as it was, or undone, where the status says neither that they were done, nor of a fault, nor of want of memory
   turns_same : (options : Options) (old now : History) (t : Ending) → Exits status t → KeepsAll status → (status ≡ 5 → ⊥) → TurnsLeft options old t now → SameOrUndone old now
@@ -765,6 +835,7 @@ module _ (before after status : ℕ) where
   turns_same options old now (Refused r) out keeps five left = opened_same options old now left
   turns_same options old now DeviceFault out keeps five left = absurd (fault_no_keep before after status (fault_exits before after status out) keeps)
   turns_same options old now NoMemory out keeps five left = absurd (memory_no_keep before after status (memory_exits before after status out) keeps five)
+  turns_same options old now LogFault out keeps five left = absurd (log_no_keep before after status (log_exits before after status out) keeps)
   turns_same options old now InputFault out keeps five left = inr left
   turns_same options old now (Malformed at) out keeps five left = inr left
   turns_same options old now (Missing name) out keeps five left = absurd left
@@ -823,6 +894,7 @@ module _ (before after status : ℕ) where
   generating_run commands seed output old now NoMemory out counted shown left =
       let ends = memory_exits before after status out in
       nothing_made commands seed output old now left (λ is. memory_apart before after status ends (inl is)) (λ is. memory_apart before after status ends (inr is))
+  generating_run commands seed output old now LogFault out counted shown left = absurd left
   generating_run commands seed output old now (Refused refusal) out counted shown left = absurd left
   generating_run commands seed output old now (Missing name) out counted shown left = absurd left
   generating_run commands seed output old now Usage out counted shown left = absurd left
@@ -839,9 +911,9 @@ summary_shown tells run e t commands seed name text (inl same) (inl all) asks is
     let none : w.0 ≡ [] = subst (λ a. TextBefore a run.old e w.0) asks w.1 in
     w.2 ∙ (λ j. (run.output.before ++ none j) ++ text_of ((same ∙ is) j)) ∙ ap (λ before. before ++ text) (append-nil run.output.before)
 
-module _ (run : Run) (t : Ending) (out : Exits run.status t) (counted : CountedBy run.faults_before run.faults_after t) (silent : IsSilent t → run.status ≡ 0) (left : Leaving run.input run.ask run.old t run.now)
-    (whole : (options : Options) (name : List ℕ) (old now : History) → run.ask ≡ Some (record { file = name; task = Turns options }) → run.old name ≡ Some old → run.now name ≡ Some now → run.status ≡ 0 → IsPlayed options run.input run.output old now)
-    (serve : (limit : ℕ) (name : List ℕ) (old now : History) → run.ask ≡ Some (record { file = name; task = Session limit }) → run.old name ≡ Some old → run.now name ≡ Some now → SessionRun limit run.input run.output old run.faults_before run.faults_after run.status now)
+module _ (run : Run) (logs later : List Logged) (t : Ending) (out : Exits run.status t) (counted : CountedBy run.faults_before run.faults_after t) (silent : IsSilent t → run.status ≡ 0) (left : Leaving run.input run.ask run.old t run.now)
+    (whole : (options : Options) (name : List ℕ) (old now : History) → run.ask ≡ Some (record { file = name; task = Turns options }) → run.old name ≡ Some old → run.now name ≡ Some now → run.status ≡ 0 → IsPlayed options run.input run.output logs later old now)
+    (serve : (limit : ℕ) (name : List ℕ) (old now : History) → run.ask ≡ Some (record { file = name; task = Session limit }) → run.old name ≡ Some old → run.now name ≡ Some now → SessionRun limit run.input run.output old run.faults_before run.faults_after run.status now logs later)
     (shown : (commands seed : ℕ) (name text : List ℕ) → run.ask ≡ Some (record { file = name; task = Generate commands seed }) → t ≡ Replied (Generated text) → run.status ≡ 0 → IsTrue run.output.tells → run.output.after ≡ run.output.before ++ text) where
   -- what the run leaves at the name of the task that it is asked for
   asked_left : (task : Task) (name : List ℕ) → run.ask ≡ Some (record { file = name; task = task }) → TaskLeaves run.input task name run.old t run.now
@@ -870,13 +942,13 @@ module _ (run : Run) (t : Ending) (out : Exits run.status t) (counted : CountedB
       (at.0, at.1, print_run run.faults_before run.faults_after run.status limit old at.0 t out counted at.2)
 
   turned : (options : Options) (name : List ℕ) (old : History) → run.ask ≡ Some (record { file = name; task = Turns options }) → run.old name ≡ Some old
-      → (h : History) × (run.now name ≡ Some h) × TurnsRun options run.input run.output old run.faults_before run.faults_after run.status h
+      → (h : History) × (run.now name ≡ Some h) × TurnsRun options run.input run.output old run.faults_before run.faults_after run.status h logs later
   turned options name old asks there =
       let at = subst (λ o. TurnsLeave options o t (run.now name)) there (asked_left (Turns options) name asks) in
-      (at.0, at.1, turns_run run.faults_before run.faults_after run.status options run.input run.output old at.0 t out counted (whole options name old at.0 asks there at.1) at.2)
+      (at.0, at.1, turns_run run.faults_before run.faults_after run.status options run.input run.output logs later old at.0 t out counted (whole options name old at.0 asks there at.1) at.2)
 
   served : (limit : ℕ) (name : List ℕ) (old : History) → run.ask ≡ Some (record { file = name; task = Session limit }) → run.old name ≡ Some old
-      → (h : History) × (run.now name ≡ Some h) × SessionRun limit run.input run.output old run.faults_before run.faults_after run.status h
+      → (h : History) × (run.now name ≡ Some h) × SessionRun limit run.input run.output old run.faults_before run.faults_after run.status h logs later
   served limit name old asks there =
       let at = subst (λ o. StaysThere o (run.now name)) there (asked_left (Session limit) name asks) in
       (at.0, at.1, serve limit name old at.0 asks there at.1)
@@ -976,7 +1048,7 @@ module _ (run : Run) (t : Ending) (out : Exits run.status t) (counted : CountedB
       of None left copy is = inl (left name)
       of (Some a) left copy is = task_kept keeps a.task a.file name is (midway a is) left.0 left.1 copy
 
-  pub leaves_files : LeavesFiles run
+  pub leaves_files : LeavesFiles run logs later
   leaves_files = record {
     others = others;
     acted = acted;

@@ -8,10 +8,14 @@ use Rattle.tdb_space.specs.Form.{form_of}
 use Rattle.tdb_space.specs.Undoing.{Reopens}
 use Rattle.tdb_law.specs.Beginning.{IsLoaded}
 use Rattle.tdb_law.specs.World.{State}
+use Rattle.tdb_course.specs.Hearing.{Heard}
+use Rattle.tdb_log.specs.Logs.{Logged}
+use Rattle.tdb_plays.specs.declared.line.Line.{Line}
 use Rattle.tdb_script.specs.Lines.{lines_of}
 use Rattle.tdb_tool.proofs.PartLemmas.{all_came, came_more}
 use Rattle.tdb_tool.proofs.Wholes.{begins, over_comes}
 use Rattle.tdb_tool.specs.Asking.{BeginsBy}
+use Rattle.tdb_tool.specs.Serving.{HeardSo}
 use Rattle.tdb_tool.specs.Whole.{session_parts, IsOver, StopsOpen, SessionCame}
 use Rattle.tdb_tool.specs.declared.fault.SessionEnd.{SessionEnd}
 use Rattle.tdb_tool.specs.declared.fault.SessionFault.{SessionFault}
@@ -24,14 +28,15 @@ use Rattle.tdb_top.specs.declared.ending.Unprinted.{Unprinted}
 use Rattle.tdb_top.specs.Commands.Session.{session_options, SessionOn, SessionFile, file_unopened, session_ran, SessionHeld}
 use Rattle.tdb_top.specs.Commands.Turns.{OpensToTurn}
 use Rattle.tdb_top.specs.Input.{Input}
-use Rattle.tdb_top.specs.Opening.{opened_bytes, CanOpen}
-use Rattle.tdb_top.specs.Safe.{OpensSafely, StopsSince}
+use Rattle.tdb_open.specs.Opening.{opened_bytes, CanOpen}
+use Rattle.tdb_open.specs.Opening.{OpensSafely}
+use Rattle.tdb_top.specs.Safe.{StopsSince}
 use Rattle.tdb_top.specs.SessionStops.{StopsOfSession, StopsServed}
-use Rattle.tdb_top.proofs.StopsServing.{came_since}
+use Rattle.tdb_top.proofs.StopsServing.{begun_since}
 use Rattle.tdb_top.proofs.StopsTurning.{start_opens, fresh, few_chains}
 
 -- a session over a file
-module _ (limit : ℕ) (input : Input) (old now : History) (told : Bool) (before after : List ℕ) where
+module _ (limit : ℕ) (input : Input) (old now : History) (told : Bool) (before after : List ℕ) (logs later : List Logged) where
   -- the state of a world just loaded over what a file is read as
   fresh_loaded : (img : List ℕ) → CanOpen img → IsLoaded (form_of (opened_bytes img)) (fresh (form_of (opened_bytes img)) (session_options limit) (opened_bytes img)) (options_of (session_options limit))
   fresh_loaded img can = record {
@@ -66,34 +71,45 @@ module _ (limit : ℕ) (input : Input) (old now : History) (told : Bool) (before
           lawful = tt;
           printed = λ out. (0, omega arith, same ∙ sym (append-nil before));
           stops = λ quiet again calm. leaves_weaker old now (Reopens r) (OpensOnTheWay f start []) (start_opens f r start [] over) (safe quiet can.opens again);
+          heard = tt;
         },
       )
 
   -- one over which a session was begun
-  begun_stops : (answer : Result SessionEnd SessionFault) (on : SessionOn limit input old now told before after answer) (orders : List Order) → (IsTrue input.tells → BeginsBy input.text orders) → (new : State)
-      → SessionCame (form_of (seen on.opened)) (session_options limit) (seen on.opened) orders new told before after (StopsOpen (form_of (seen on.opened)) on.opened now) → StopsOfSession limit input old now told before after
-  begun_stops answer on orders asks new came = (
+  begun_stops : (answer : Result SessionEnd SessionFault) (on : SessionOn limit input old now told before after logs later answer) (Hear : List Line → Type 0)
+      (orders : List Order) → (IsTrue input.tells → BeginsBy input.text orders) → (new : State)
+      → SessionCame (form_of (seen on.opened)) (session_options limit) (seen on.opened) orders new told before after (StopsOpen (form_of (seen on.opened)) on.opened now) Hear → StopsOfSession limit input old now told before after
+  begun_stops answer on Hear orders asks new came = (
     orders,
     asks,
     new,
-    subst (λ i. SessionCame (form_of i) (session_options limit) i orders new told before after (StopsSince (form_of i) old now)) on.is_opened.reads
-        (came_since (session_options limit) old on.opened now on.opens.can_open on.safe on.is_opened (form_of (seen on.opened)) orders told before after new came),
+    subst (λ i. SessionCame (form_of i) (session_options limit) i orders new told before after (StopsSince (form_of i) old now) (λ lines. Unit {0})) on.is_opened.reads
+        (begun_since limit input old now told before after logs later answer on Hear (λ lines. Unit {0}) (λ lines heard. tt) orders new came),
   )
 
-  ran_stops : (answer : Result SessionEnd SessionFault) → SessionOn limit input old now told before after answer → StopsOfSession limit input old now told before after
-  ran_stops (Ok end) on =
-      begun_stops (Ok end) on on.ran.0 (λ heard. begins input.text on.ran.0 end (on.ran.1 heard)) on.ran.2.new
-      (over_comes (form_of (seen on.opened)) (session_options limit) (seen on.opened) on.ran.0 (seen now) told before after (StopsOpen (form_of (seen on.opened)) on.opened now) on.ran.2)
-  ran_stops (Err F.Input) on = begun_stops (Err F.Input) on on.ran.0 on.ran.1 on.ran.2 on.ran.3
-  ran_stops (Err F.Output) on = begun_stops (Err F.Output) on on.ran.0 on.ran.1 on.ran.2 on.ran.3
-  ran_stops (Err F.Device) on = begun_stops (Err F.Device) on on.ran.0 on.ran.1 on.ran.2 on.ran.3
-  ran_stops (Err F.Memory) on = begun_stops (Err F.Memory) on on.ran.0 on.ran.1 on.ran.2 on.ran.3
+  -- by how it broke off
+  broken_stops : (fault : SessionFault) (on : SessionOn limit input old now told before after logs later (Err fault)) (orders : List Order) → (IsTrue input.tells → BeginsBy input.text orders) → (new : State)
+      → SessionCame (form_of (seen on.opened)) (session_options limit) (seen on.opened) orders new told before after (StopsOpen (form_of (seen on.opened)) on.opened now) (λ lines. HeardSo (Some fault) on.mid lines later)
+      → StopsOfSession limit input old now told before after
+  broken_stops fault on = begun_stops (Err fault) on (λ lines. HeardSo (Some fault) on.mid lines later)
 
-  file_stops : (r : Result Ending Unprinted) → SessionFile limit input old now told before after r → OpensToTurn (session_options limit) (seen old) → StopsOfSession limit input old now told before after
-  file_stops _ (file_unopened halt opened safe same) opens = unbegun_stops opens.can_open safe same
+  ran_stops : (answer : Result SessionEnd SessionFault) → SessionOn limit input old now told before after logs later answer → StopsOfSession limit input old now told before after
+  ran_stops (Ok end) on =
+      let Hear : List Line → Type 0 = λ lines. Heard on.mid lines later in
+      begun_stops (Ok end) on Hear on.ran.0 (λ heard. begins input.text on.ran.0 end (on.ran.1 heard)) on.ran.2.new
+      (over_comes (form_of (seen on.opened)) (session_options limit) (seen on.opened) on.ran.0 (seen now) told before after (StopsOpen (form_of (seen on.opened)) on.opened now) Hear on.ran.2)
+  ran_stops (Err F.Input) on = broken_stops F.Input on on.ran.0 on.ran.1 on.ran.2 on.ran.3
+  ran_stops (Err F.Output) on = broken_stops F.Output on on.ran.0 on.ran.1 on.ran.2 on.ran.3
+  ran_stops (Err F.Device) on = broken_stops F.Device on on.ran.0 on.ran.1 on.ran.2 on.ran.3
+  ran_stops (Err F.Log) on = broken_stops F.Log on on.ran.0 on.ran.1 on.ran.2 on.ran.3
+  ran_stops (Err F.Memory) on = broken_stops F.Memory on on.ran.0 on.ran.1 on.ran.2 on.ran.3
+
+  file_stops : (r : Result Ending Unprinted) → SessionFile limit input old now told before after logs later r → OpensToTurn (session_options limit) (seen old) → StopsOfSession limit input old now told before after
+  file_stops _ (file_unopened halt opened safe same heard) opens = unbegun_stops opens.can_open safe same
   file_stops _ (session_ran answer on) opens = ran_stops answer on
 
 -- what is held at the name of its file
-pub held_served : (limit : ℕ) (input : Input) (told : Bool) (before after : List ℕ) (r : Result Ending Unprinted) (held given : Option History) → SessionHeld limit input held given told before after r → StopsServed limit input held given told before after
-held_served limit input told before after r held given served old there opens =
-    let at = subst (λ o. SessionHeld limit input o given told before after r) there served in (at.0, at.1, file_stops limit input old at.0 told before after r at.2 opens)
+pub held_served : (limit : ℕ) (input : Input) (told : Bool) (before after : List ℕ) (logs later : List Logged) (r : Result Ending Unprinted) (held given : Option History) → SessionHeld limit input held given told before after logs later r
+    → StopsServed limit input held given told before after
+held_served limit input told before after logs later r held given served old there opens =
+    let at = subst (λ o. SessionHeld limit input o given told before after logs later r) there served in (at.0, at.1, file_stops limit input old at.0 told before after logs later r at.2 opens)

@@ -19,7 +19,7 @@ use Rattle.tdb_script.specs.Text.{report_text}
 use Rattle.tdb_world.specs.declared.fault.RunFault.{RunFault}
 use Rattle.tdb_world.specs.declared.fault.RunFault.TheVariants as Run
 use Rattle.tdb_whole.specs.States.{IsStateOf}
-use Rattle.tdb_whole.specs.Stops.{IsSafe, OpensToState}
+use Rattle.tdb_whole.specs.Stops.{IsSafe}
 use Rattle.tdb_whole.specs.Whole.{Whole, form_at}
 use Rattle.tdb_whole.proofs.Reopening.{state_reopens}
 use Rattle.tdb_course.specs.Led.{moment}
@@ -27,7 +27,10 @@ use Rattle.tdb_course.specs.Stops.{IsTransacted, Leads, OpensOnTheWay, Passes, S
 use Rattle.tdb_course.specs.Unfinished.{AreUnfinished}
 use Rattle.tdb_tool.proofs.Coming.{course_join}
 use Rattle.tdb_tool.proofs.Telling.{front_after}
-use Rattle.tdb_top.specs.declared.halt.Fault.TheVariants as F
+use Rattle.tdb_log.specs.Logs.{Logged}
+use Rattle.tdb_log.specs.declared.log.LogRefusal.{LogRefusal}
+use Rattle.tdb_open.specs.Opening.{log_fault}
+use Rattle.tdb_open.specs.declared.halt.Fault.TheVariants as F
 use Rattle.tdb_top.specs.declared.ending.Unprinted.TheVariants as Rest
 use Rattle.tdb_top.specs.Playing.{PlaysEnd, UnlessBroken, Scene, scene, IsStateAt, end_of}
 use Rattle.tdb_top.specs.Stops.{LeavesOnTheWay, StopsTold, StopsOver, OnlyUnfinished, WroteOf, WroteWhole}
@@ -132,9 +135,9 @@ module _ (disk_tells told : Bool) where
     }
 
 -- plays that were taken together, and then told
-module _ (disk_tells told : Bool) (a b : Whole) (h later : History) (size longer faults risen : ℕ) (first lines : List Line) (empty : first ≡ []) (before now : List ℕ) (played : Result (Unit {0}) RunFault) (untold : Result (Unit {0}) WriteRefusal) where
+module _ (disk_tells told : Bool) (a b : Whole) (h later : History) (size longer faults risen : ℕ) (first lines : List Line) (empty : first ≡ []) (before now : List ℕ) (logs noted : List Logged) (played : Result (Result (Unit {0}) LogRefusal) RunFault) (untold : Result (Unit {0}) WriteRefusal) where
   pub stops_of : StopsLed disk_tells (moment a h size faults first) (moment b later longer risen lines) played → OnOk untold (IsTrue told → now ≡ before ++ report_text lines) → OnErr untold (IsTrue told → WroteFront before (report_text lines) now)
-      → StopsTold disk_tells told (scene a h size faults before) (scene b later longer risen now) (end_of played untold)
+      → StopsTold disk_tells told (scene a h size faults before logs) (scene b later longer risen now noted) (end_of played untold)
   stops_of led all front = record {
     lines = lines;
     whole = λ is out. whole played untold is all out;
@@ -142,10 +145,13 @@ module _ (disk_tells told : Bool) (a b : Whole) (h later : History) (size longer
     stops = λ heard state is safe calm. (let s = led heard state lines is (ap (λ ls. ls ++ lines) (sym empty)) safe calm in record { stops = s.stops; left = unless_end _ played untold s.left });
   }
     where
-      whole : (p : Result (Unit {0}) RunFault) (u : Result (Unit {0}) WriteRefusal) → end_of p u ≡ Ok (Ok tt) → OnOk u (IsTrue told → now ≡ before ++ report_text lines) → IsTrue told → now ≡ before ++ report_text lines
-      whole (Ok v) (Ok w) is all out = all out
-      whole (Ok v) (Err Untold.Memory) is all out = let wrong : Ok (Err F.Memory) ≡ Ok (Ok tt) = is in absurd (cc)
-      whole (Ok v) (Err Untold.Failed) is all out = let wrong : Err Rest.Report ≡ Ok (Ok tt) = is in absurd (cc)
+      whole : (p : Result (Result (Unit {0}) LogRefusal) RunFault) (u : Result (Unit {0}) WriteRefusal) → end_of p u ≡ Ok (Ok tt) → OnOk u (IsTrue told → now ≡ before ++ report_text lines) → IsTrue told → now ≡ before ++ report_text lines
+      whole (Ok (Ok v)) (Ok w) is all out = all out
+      whole (Ok (Ok v)) (Err Untold.Memory) is all out = let wrong : Ok (Err F.Memory) ≡ Ok (Ok tt) = is in absurd (cc)
+      whole (Ok (Ok v)) (Err Untold.Failed) is all out = let wrong : Err Rest.Report ≡ Ok (Ok tt) = is in absurd (cc)
+      whole (Ok (Err refusal)) (Ok w) is all out = let wrong : Ok (Err (log_fault refusal)) ≡ Ok (Ok tt) = is in absurd (cc)
+      whole (Ok (Err refusal)) (Err Untold.Memory) is all out = let wrong : Ok (Err (log_fault refusal)) ≡ Ok (Ok tt) = is in absurd (cc)
+      whole (Ok (Err refusal)) (Err Untold.Failed) is all out = let wrong : Err Rest.Report ≡ Ok (Ok tt) = is in absurd (cc)
       whole (Err Run.Memory) (Ok w) is all out = all out
       whole (Err Run.Memory) (Err Untold.Memory) is all out = let wrong : Ok (Err F.Memory) ≡ Ok (Ok tt) = is in absurd (cc)
       whole (Err Run.Memory) (Err Untold.Failed) is all out = let wrong : Err Rest.Report ≡ Ok (Ok tt) = is in absurd (cc)

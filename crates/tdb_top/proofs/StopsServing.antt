@@ -7,8 +7,11 @@ use Rattle.tdb_space.specs.Form.{Form, form_of}
 use Rattle.tdb_space.specs.Undoing.{Reopens}
 use Rattle.tdb_law.specs.Lines.{Line as LawLine}
 use Rattle.tdb_law.specs.World.{State}
-use Rattle.tdb_plays.specs.InLaw.{law_lines}
+use Rattle.tdb_course.specs.Hearing.{Heard}
+use Rattle.tdb_log.specs.Logs.{Logged}
+use Rattle.tdb_plays.specs.declared.line.Line.{Line}
 use Rattle.tdb_plays.specs.declared.options.Options.{Options}
+use Rattle.tdb_tool.proofs.Wholes.{over_weaker, came_weaker}
 use Rattle.tdb_tool.specs.Whole.{IsOver, StopsOpen, SessionOver, SessionCame, CameSo}
 use Rattle.tdb_tool.specs.declared.fault.SessionEnd.{SessionEnd}
 use Rattle.tdb_tool.specs.declared.fault.SessionFault.{SessionFault}
@@ -17,8 +20,9 @@ use Rattle.tdb_course.specs.Stops.{OpensOnTheWay}
 use Rattle.tdb_top.specs.Commands.Session.{session_options, SessionOn}
 use Rattle.tdb_top.specs.Commands.Turns.{IsOpened}
 use Rattle.tdb_top.specs.Input.{Input}
-use Rattle.tdb_top.specs.Opening.{opened_bytes, CanOpen}
-use Rattle.tdb_top.specs.Safe.{OpensSafely, StopsSince}
+use Rattle.tdb_open.specs.Opening.{opened_bytes, CanOpen}
+use Rattle.tdb_open.specs.Opening.{OpensSafely}
+use Rattle.tdb_top.specs.Safe.{StopsSince}
 use Rattle.tdb_top.proofs.StopsTurning.{start_opens, opened_quiet}
 
 -- the opening of a file, and what is done by lines from a state over it
@@ -30,46 +34,29 @@ module _ (options : Options) (old mid now : History) (can : CanOpen (seen old)) 
       (leaves_weaker old mid (Reopens (opened_bytes (seen old))) way (λ c reopens. start_opens f (seen mid) start lines over c (subst (λ r. Reopens r c) (sym opened.reads) reopens)) (safe quiet can.opens again))
       (stops (opened_quiet options old mid opened.left quiet) calm)
 
-  module _ (orders : List Order) (told : Bool) (before after : List ℕ) where
+  module _ (orders : List Order) (told : Bool) (before after : List ℕ) (Hear Hears : List Line → Type 0) (softer : (lines : List Line) → Hear lines → Hears lines) where
     -- a session that was taken to its end, and one as far as it came
-    over_since : (b : List ℕ) → SessionOver f options (seen mid) orders b told before after (StopsOpen f mid now) → SessionOver f options (seen mid) orders b told before after (StopsSince f old now)
-    over_since b p = record {
-      old = p.old;
-      loaded = p.loaded;
-      over = p.over;
-      new = p.new;
-      lines = p.lines;
-      text = p.text;
-      done = p.done;
-      left = p.left;
-      more = p.more;
-      ends = p.ends;
-      lawful = p.lawful;
-      printed = p.printed;
-      stops = since p.old (law_lines p.lines) p.over p.stops;
-    }
+    over_since : (b : List ℕ) → SessionOver f options (seen mid) orders b told before after (StopsOpen f mid now) Hear → SessionOver f options (seen mid) orders b told before after (StopsSince f old now) Hears
+    over_since = over_weaker f options (seen mid) orders told before after (StopsOpen f mid now) (StopsSince f old now) since Hear Hears softer
 
-    pub came_since : (new : State) → SessionCame f options (seen mid) orders new told before after (StopsOpen f mid now) → SessionCame f options (seen mid) orders new told before after (StopsSince f old now)
-    came_since new p = record {
-      old = p.old;
-      loaded = p.loaded;
-      over = p.over;
-      lines = p.lines;
-      text = p.text;
-      came = p.came;
-      lawful = p.lawful;
-      printed = p.printed;
-      stops = since p.old (law_lines p.lines) p.over p.stops;
-    }
+    pub came_since : (new : State) → SessionCame f options (seen mid) orders new told before after (StopsOpen f mid now) Hear → SessionCame f options (seen mid) orders new told before after (StopsSince f old now) Hears
+    came_since = came_weaker f options (seen mid) orders told before after (StopsOpen f mid now) (StopsSince f old now) since Hear Hears softer
 
 -- a session over a file
-module _ (limit : ℕ) (input : Input) (old now : History) (told : Bool) (before after : List ℕ) where
-  pub so_since : (answer : Result SessionEnd SessionFault) (on : SessionOn limit input old now told before after answer)
-      → CameSo (form_of (seen on.opened)) (session_options limit) (seen on.opened) (seen now) input.tells input.text told before after (StopsOpen (form_of (seen on.opened)) on.opened now)
-      → CameSo (form_of (seen on.opened)) (session_options limit) (seen on.opened) (seen now) input.tells input.text told before after (StopsSince (form_of (seen on.opened)) old now)
-  so_since answer on (orders, asks, new, came, left) =
-      (orders, asks, new, came_since (session_options limit) old on.opened now on.opens.can_open on.safe on.is_opened (form_of (seen on.opened)) orders told before after new came, left)
+module _ (limit : ℕ) (input : Input) (old now : History) (told : Bool) (before after : List ℕ) (logs later : List Logged) where
+  module _ (answer : Result SessionEnd SessionFault) (on : SessionOn limit input old now told before after logs later answer)
+      (Hear Hears : List Line → Type 0) (softer : (lines : List Line) → Hear lines → Hears lines) where
+    pub begun_since : (orders : List Order) (new : State)
+        → SessionCame (form_of (seen on.opened)) (session_options limit) (seen on.opened) orders new told before after (StopsOpen (form_of (seen on.opened)) on.opened now) Hear
+        → SessionCame (form_of (seen on.opened)) (session_options limit) (seen on.opened) orders new told before after (StopsSince (form_of (seen on.opened)) old now) Hears
+    begun_since orders = came_since (session_options limit) old on.opened now on.opens.can_open on.safe on.is_opened (form_of (seen on.opened)) orders told before after Hear Hears softer
 
-  pub whole_since : (end : SessionEnd) (on : SessionOn limit input old now told before after (Ok end))
-      → SessionOver (form_of (seen on.opened)) (session_options limit) (seen on.opened) on.ran.0 (seen now) told before after (StopsSince (form_of (seen on.opened)) old now)
-  whole_since end on = over_since (session_options limit) old on.opened now on.opens.can_open on.safe on.is_opened (form_of (seen on.opened)) on.ran.0 told before after (seen now) on.ran.2
+    pub so_since : CameSo (form_of (seen on.opened)) (session_options limit) (seen on.opened) (seen now) input.tells input.text told before after (StopsOpen (form_of (seen on.opened)) on.opened now) Hear
+        → CameSo (form_of (seen on.opened)) (session_options limit) (seen on.opened) (seen now) input.tells input.text told before after (StopsSince (form_of (seen on.opened)) old now) Hears
+    so_since (orders, asks, new, came, left) = (orders, asks, new, begun_since orders new came, left)
+
+  pub whole_since : (end : SessionEnd) (on : SessionOn limit input old now told before after logs later (Ok end))
+      → SessionOver (form_of (seen on.opened)) (session_options limit) (seen on.opened) on.ran.0 (seen now) told before after (StopsSince (form_of (seen on.opened)) old now) (λ lines. Heard on.mid lines later)
+  whole_since end on =
+      let Hears : List Line → Type 0 = λ lines. Heard on.mid lines later in
+      over_since (session_options limit) old on.opened now on.opens.can_open on.safe on.is_opened (form_of (seen on.opened)) on.ran.0 told before after Hears Hears (λ lines heard. heard) (seen now) on.ran.2

@@ -1,6 +1,6 @@
 -- What stops leave of a file that is opened for turns, and of one that isn't.
-use Rattle.std.proofs.Common.{◌≡◌, ℕ, ◌<◌, ◌≤◌, ◌⊎◌, List, [], ◌++◌, length, Option, None, Some, Result, Ok, Err, false, refl, sym, ◌∙◌, ap, subst, inl, inr, arith}
-use Rattle.std.specs.Prelude.{Bool, IsTrue, ◌^◌}
+use Rattle.std.proofs.Common.{◌≡◌, ℕ, List, [], ◌++◌, length, Option, None, Some, Result, Ok, Err, false, refl, sym, ◌∙◌, ap, subst, inl, inr, arith}
+use Rattle.std.specs.Prelude.{Bool, IsTrue}
 use Rattle.std.proofs.lemmas.List.{append-nil, take_all}
 use Rattle.tdb_disk.specs.History.{History, seen}
 use Rattle.tdb_disk.specs.Stop.{Quiet}
@@ -11,7 +11,7 @@ use Rattle.tdb_space.specs.Opening.{restored}
 use Rattle.tdb_space.specs.Undoing.{Reopens}
 use Rattle.tdb_space.proofs.Opening.Undone.{read_as_it_is}
 use Rattle.tdb_space.proofs.Undoing.Alike.{exact_reopens}
-use Rattle.tdb_law.specs.Beginning.{IsLoaded, nobody}
+use Rattle.tdb_law.specs.Beginning.{nobody}
 use Rattle.tdb_law.specs.Images.{image_map}
 use Rattle.tdb_law.specs.Lines.{Line as LawLine}
 use Rattle.tdb_law.specs.Openers.{nowhere}
@@ -28,14 +28,14 @@ use Rattle.tdb_top.specs.declared.ending.Ending.{Ending}
 use Rattle.tdb_top.specs.declared.ending.Unprinted.{Unprinted}
 use Rattle.tdb_top.specs.Commands.Turns.{IsOpened, OpensToTurn, TurnOpened}
 use Rattle.tdb_top.specs.Ending.{text_of}
-use Rattle.tdb_top.specs.Opening.{opened_bytes, CanOpen}
+use Rattle.tdb_open.specs.Opening.{opened_bytes, CanOpen}
 use Rattle.tdb_top.specs.Output.{output_by}
 use Rattle.tdb_top.specs.Playing.{IsJustLoaded}
 use Rattle.tdb_top.specs.Printed.{Finishes}
-use Rattle.tdb_top.specs.Safe.{OpensSafely}
+use Rattle.tdb_open.specs.Opening.{OpensSafely}
 use Rattle.tdb_top.specs.Stops.{StopsOver, StopsOfTurns, StopsHeld, WroteLine}
 use Rattle.tdb_top.proofs.Held.{same_held}
-use Rattle.tdb_top.proofs.Openings.{still_safe}
+use Rattle.tdb_open.proofs.Openings.{still_safe}
 use Rattle.tdb_top.proofs.Stopping.{passes_start}
 use Rattle.tdb_top.proofs.Turning.{opened_short}
 

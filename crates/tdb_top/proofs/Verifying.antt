@@ -1,6 +1,6 @@
 -- What the verification of files gives, from what its parts gave.
 use Rattle.std.proofs.Common.{◌≡◌, ◌⊎◌, ◌+◌, ℕ, true, false, List, [], ◌∷◌, ◌++◌, Option, None, Some, Result, Ok, Err, length, take, refl, sym, ◌∙◌, ap, subst, inl, inr, arith}
-use Rattle.std.specs.Prelude.{Bool, IsTrue, IfErr, codes}
+use Rattle.std.specs.Prelude.{Bool, IfErr, codes}
 use Rattle.std.proofs.lemmas.Bool.{false≢true}
 use Rattle.std.proofs.lemmas.List.{append_assoc, append-nil, append_cancel_left}
 use Rattle.std.proofs.Math.Seq.{take-append-add}
@@ -9,19 +9,17 @@ use Rattle.tdb_disk.specs.History.{History, seen}
 use Rattle.tdb_top.specs.declared.commands.verify.Unverified.{Unverified}
 use Rattle.tdb_top.specs.declared.commands.verify.Unverified.TheVariants.{Ends, Unprinted}
 use Rattle.tdb_top.specs.declared.ending.Ending.{Ending}
-use Rattle.tdb_top.specs.declared.ending.Ending.TheVariants.{Replied, Refused, Missing, There, Usage, DeviceFault, InputFault, Malformed, NoMemory}
+use Rattle.tdb_top.specs.declared.ending.Ending.TheVariants.{Replied, Refused, Missing, There, Usage, DeviceFault, InputFault, Malformed, NoMemory, LogFault}
 use Rattle.tdb_top.specs.declared.ending.Reply.TheVariants as Reply
 use Rattle.tdb_disk.specs.declared.files.TakeRefusal.{TakeRefusal}
 use Rattle.tdb_disk.specs.declared.files.TakeRefusal.TheVariants as Take
-use Rattle.tdb_top.specs.declared.halt.Halt.{Halt}
-use Rattle.tdb_top.specs.declared.halt.Halt.TheVariants as H
-use Rattle.tdb_top.specs.declared.halt.Refusal.{Refusal}
-use Rattle.tdb_top.specs.declared.halt.Refusal.TheVariants.{TooLong, Header, Corrupt, NeedsRecovery}
+use Rattle.tdb_open.specs.declared.halt.Halt.{Halt}
+use Rattle.tdb_open.specs.declared.halt.Halt.TheVariants as H
 use Rattle.tdb_ask.specs.CopyNames.{copy_name, temporary_name, IsNameOf, IsNameAmong, IsForRestoreAmong, NamesDiffer}
-use Rattle.tdb_top.specs.Commands.Backup.{AllStay, IsLeftOf, Copied, Stopped, BackupCause, BackedUpOne, EndsAt, EndsBackup, HasKeys}
-use Rattle.tdb_top.specs.Commands.Verify.{AtNames, at_names, restoring_line, count_line, is_fault, tells_fault, IsFaulty, KeysOf, own_keys, copy_keys, Tells, StopsAt, is_missing, is_refused, is_unrestored, VerifyEnds, FileFront, VerifyFront, IsUntold, VerifyText, StaysOpened, IsRestored, Verified, VerifiedAll, Unrestored, LeftThere, LeftAt, EndsUnverified, EndsVerify, VerifyLeaves, VerifyCause, OwnKeys, NotOpened, file_missing, file_refused, file_failed, file_wanting, Took, TookPart, LineUntold, IsKnown, KeysFound, FileTold, FileText, FileUntold, AllTold, SomeUntold}
+use Rattle.tdb_top.specs.Commands.Backup.{AllStay, IsLeftOf, Stopped, BackupCause, BackedUpOne, EndsAt, EndsBackup, HasKeys}
+use Rattle.tdb_top.specs.Commands.Verify.{AtNames, at_names, restoring_line, count_line, tells_fault, IsFaulty, KeysOf, own_keys, copy_keys, Tells, StopsAt, is_missing, is_refused, is_unrestored, VerifyEnds, FileFront, VerifyFront, IsUntold, VerifyText, Verified, VerifiedAll, LeftThere, LeftAt, EndsUnverified, EndsVerify, VerifyLeaves, VerifyCause, OwnKeys, NotOpened, file_missing, file_refused, file_failed, file_wanting, file_unlogged, Took, TookPart, LineUntold, IsKnown, KeysFound, FileTold, FileText, FileUntold, AllTold, SomeUntold}
 use Rattle.tdb_top.specs.Ending.{status_of, Untaken, of_halt}
-use Rattle.tdb_top.specs.Opening.{CanOpen, HaltsRightly, HaltLeaves, HeldOrUndone, HeldBroken}
+use Rattle.tdb_open.specs.Opening.{CanOpen, HaltsRightly, HaltLeaves, HeldOrUndone, HeldBroken}
 use Rattle.tdb_top.proofs.Copies.{Held, among_or_other, refusal_some}
 use Rattle.tdb_top.proofs.Held.{same_or_other, same_held, held_kept, held_undone}
 
@@ -33,6 +31,7 @@ unverified_some (Missing name) known zero = absurd (omega (arith, zero))
 unverified_some (There name) known zero = absurd (omega (arith, zero))
 unverified_some DeviceFault known zero = absurd (omega (arith, zero))
 unverified_some NoMemory known zero = absurd (omega (arith, zero))
+unverified_some LogFault known zero = absurd (omega (arith, zero))
 unverified_some Usage known zero = absurd known
 unverified_some InputFault known zero = absurd known
 unverified_some (Malformed at) known zero = absurd known
@@ -56,6 +55,7 @@ copy_unverified (Missing name) known other = tt
 copy_unverified (There name) known other = tt
 copy_unverified DeviceFault known other = tt
 copy_unverified NoMemory known other = tt
+copy_unverified LogFault known other = tt
 copy_unverified Usage known other = absurd known
 copy_unverified InputFault known other = absurd known
 copy_unverified (Malformed at) known other = absurd known
@@ -90,7 +90,7 @@ names_apart suffix file other is = other (sym (append_cancel_left file (codes ".
 -- a copy for which memory was wanting
 pub copy_wanting : (file at_copy at_new : List ℕ) (held : Held) (count : ℕ) → BackedUpOne file at_copy at_new held held count count NoMemory
 copy_wanting file at_copy at_new held count = record {
-  cause = inr (inr refl);
+  cause = inr (inr (inl refl));
   copied = λ is. cc;
   stopped = λ other. record { kept = inl (inl refl); copy = refl; left = inl (inl refl) };
 }
@@ -116,6 +116,7 @@ halted_file file old now was is halt e there stands right left told = subst (Not
     of H.Device right (inl kept) = file_failed (inl (held_kept old now was is there stands kept))
     of H.Device right (inr broken) = file_failed (inr (was, is, there, stands, broken))
     of H.Memory right left = file_wanting (held_undone old now was is there stands left)
+    of H.Log right left = file_unlogged (held_undone old now was is there stands left)
 
 pub untaken_file : (file : List ℕ) (old now : Option History) (refusal : TakeRefusal) (e : Ending) → now ≡ old → (refusal ≡ Take.Missing → old ≡ None) → (refusal ≡ Take.There → ⊥) → Untaken file refusal e → NotOpened file old now e
 untaken_file file old now Take.Missing e same gone is_new (inl is) = subst (NotOpened file old now) (sym is) (file_missing (gone refl) (same ∙ gone refl))
@@ -130,12 +131,14 @@ faulty file old now _ (file_missing none gone) tells = absurd (false≢true tell
 faulty file old now _ (file_refused was refusal there kept right) tells = record { was = was; refusal = refusal; there = there; right = right; fault = tells }
 faulty file old now _ (file_failed left) tells = absurd (false≢true tells)
 faulty file old now _ (file_wanting kept) tells = absurd (false≢true tells)
+faulty file old now _ (file_unlogged kept) tells = absurd (false≢true tells)
 
 pub faulty_kept : (file : List ℕ) (old now : Option History) (e : Ending) → NotOpened file old now e → tells_fault e ≡ true → HeldOrUndone old now
 faulty_kept file old now _ (file_missing none gone) tells = absurd (false≢true tells)
 faulty_kept file old now _ (file_refused was refusal there kept right) tells = kept
 faulty_kept file old now _ (file_failed left) tells = absurd (false≢true tells)
 faulty_kept file old now _ (file_wanting kept) tells = absurd (false≢true tells)
+faulty_kept file old now _ (file_unlogged kept) tells = absurd (false≢true tells)
 
 module _ (told : Bool) (suffix file : List ℕ) (old mid : Held) (copy_same : mid (copy_name suffix file) ≡ old (copy_name suffix file)) (temporary_same : mid (temporary_name file) ≡ old (temporary_name file)) where
   abbrev At : Held → AtNames
@@ -158,12 +161,13 @@ module _ (told : Bool) (suffix file : List ℕ) (old mid : Held) (copy_same : mi
   not_opened _ written (file_missing none gone) other = ([], inl (is_missing none), own_left _ (inl (inl (gone ∙ sym none))), took_nothing told written)
   not_opened _ written (file_refused was refusal there kept right) other = ([], inl (is_refused was refusal there right other), own_left _ (inl kept), took_nothing told written)
   not_opened _ written (file_failed left) other = ([], inr (inl refl, inl refl), own_left (DeviceFault ≡ DeviceFault) (elim left [ inl kept ↦ inl kept | inr broken ↦ inr (refl, broken) ]), took_nothing told written)
-  not_opened _ written (file_wanting kept) other = ([], inr (inr refl, inl refl), own_left _ (inl kept), took_nothing told written)
+  not_opened _ written (file_wanting kept) other = ([], inr (inr (inl refl), inl refl), own_left _ (inl kept), took_nothing told written)
+  not_opened _ written (file_unlogged kept) other = ([], inr (inr (inr refl), inl refl), own_left _ (inl kept), took_nothing told written)
 
   module _ (fault : IsFaulty (old file)) (kept : HeldOrUndone (old file) (mid file)) (before between : List ℕ) where
     -- that it is restored wasn't told
     pub restoring_untold : (u : Unverified) → LineUntold told (restoring_line file) before between u → FileUntold told suffix file (At old) (At mid) before between u
-    restoring_untold (Ends e) line = ([], inr (inr line.0, inl refl), own_left (e ≡ DeviceFault) (inl kept), line.1)
+    restoring_untold (Ends e) line = ([], inr (inr (inl line.0), inl refl), own_left (e ≡ DeviceFault) (inl kept), line.1)
     restoring_untold Unprinted line = (restoring_line file, inr (inl (fault, refl)), own_left ⊥ (inl kept), line)
 
     module _ (took : Took told before (restoring_line file) between) (now : Held) (faults_before faults_after : ℕ) where
@@ -233,7 +237,7 @@ module _ (told : Bool) (suffix file : List ℕ) (old now : AtNames) (before betw
   pub count_untold : (u : Unverified) → LineUntold told (count_line file keys) between after u → FileUntold told suffix file old now before after u
   count_untold (Ends e) line = (
     found.text,
-    inr (inr line.0, front_of keys found.text found.keys_of),
+    inr (inr (inl line.0), front_of keys found.text found.keys_of),
     verified_left (e ≡ DeviceFault) found.verified,
     subst (λ t. Took told before t after) (append-nil found.text) (took_more told before between after found.text [] found.took line.1),
   )
@@ -256,8 +260,8 @@ ends_front suffix (file ∷ files) held e text (inl stops) = inl (stops_front fi
 ends_front suffix (file ∷ files) held e text (inr on) = inr (on.0, on.1, on.2, ends_front suffix files held e on.1 on.3, on.4)
 
 pub front_wanting : (suffix : List ℕ) (files : List (List ℕ)) (held : Held) (e : Ending) (text : List ℕ) → VerifyText suffix files held e text → VerifyText suffix files held NoMemory text
-front_wanting suffix files held e text (inl ends) = inr (inr refl, ends_front suffix files held e text ends)
-front_wanting suffix files held e text (inr untold) = inr (inr refl, untold.1)
+front_wanting suffix files held e text (inl ends) = inr (inr (inl refl), ends_front suffix files held e text ends)
+front_wanting suffix files held e text (inr untold) = inr (inr (inl refl), untold.1)
 
 -- what a failed call leaves may be told in other words
 left_weaker : (A B : Type 0) → (A → B) → (old now : AtNames) → LeftThere A old now → LeftThere B old now

@@ -10,6 +10,7 @@ use Rattle.tdb_top.specs.declared.ending.Ending.{Ending}
 use Rattle.tdb_top.specs.declared.ending.Ending.TheVariants.{Replied, Refused}
 use Rattle.tdb_top.specs.declared.ending.Reply.TheVariants.{Played}
 use Rattle.tdb_top.specs.declared.ending.Unprinted.{Unprinted}
+use Rattle.tdb_log.specs.Logs.{Logged}
 use Rattle.tdb_plays.specs.declared.options.Options.{Options}
 use Rattle.tdb_ask.specs.Ask.{Ask}
 use Rattle.tdb_top.specs.Commands.Turns.{PlaysSo, script_unread, script_bad, no_file, file_refused, file_opened, IsPlayed, AllPlayed}
@@ -18,7 +19,7 @@ use Rattle.tdb_top.specs.Input.{Input}
 use Rattle.tdb_top.specs.Looks.{ending_of}
 use Rattle.tdb_top.specs.Output.{output_by}
 use Rattle.tdb_top.specs.Printed.{Finishes}
-use Rattle.tdb_top.specs.Run.{MayEnd, is_due, is_read, is_copied, is_verified, is_played, is_served, is_generated, call_failed, memory_wanting}
+use Rattle.tdb_top.specs.Run.{MayEnd, is_due, is_read, is_copied, is_verified, is_played, is_served, is_generated, call_failed, memory_wanting, log_failed}
 use Rattle.tdb_top.proofs.Held.{same_held}
 use Rattle.tdb_top.proofs.Runs.{refusal_status}
 
@@ -61,31 +62,9 @@ ended_zero ask options name held input before after _ asks (is_served e limit ot
 ended_zero ask options name held input before after _ asks (is_generated e commands seed other also none so) zero = absurd (false≢true (ap is_turns (sym also ∙ asks)))
 ended_zero ask options name held input before after _ asks (call_failed a is rose) zero = absurd (omega (arith, zero))
 ended_zero ask options name held input before after _ asks memory_wanting zero = absurd (omega (arith, zero))
+ended_zero ask options name held input before after _ asks (log_failed a is) zero = absurd (omega (arith, zero))
 
 module _ (options : Options) (input : Input) (tells : Bool) (w0 w1 w2 : List ℕ) (f0 f1 f2 : ℕ) where
-  -- what was written behind the report is nothing
-  with_output : (old now : History) → (IsTrue tells → w2 ≡ w1) → IsPlayed options input (output_by tells w0 w1 f0 f1) old now → IsPlayed options input (output_by tells w0 w2 f0 f2) old now
-  with_output old now same p = record {
-    opened = p.opened;
-    is_opened = p.is_opened;
-    plays = p.plays;
-    script = p.script;
-    whole = record {
-      lines = p.whole.lines;
-      left = p.whole.left;
-      leads = p.whole.leads;
-      over = p.whole.over;
-      more = p.whole.more;
-      ends = p.whole.ends;
-      lawful = p.whole.lawful;
-      printed = λ told. same told ∙ p.whole.printed told;
-    };
-  }
-
-  there : (old now : History) (before after : Option History) → before ≡ Some old → after ≡ Some now → (IsTrue tells → w2 ≡ w1) → AllPlayed options input (output_by tells w0 w1 f0 f1) before after → IsPlayed options input (output_by tells w0 w2 f0 f2) old now
-  there old now before after is left same all =
-      subst (λ (q : History × History). IsPlayed options input (output_by tells w0 w2 f0 f2) q.0 q.1) (λ j. (same_held all.0 old before all.2 is j, same_held all.1 now after all.3 left j)) (with_output all.0 all.1 same all.4)
-
   -- status 0 says that all plays were taken and told, and then nothing is written behind the report
   pub zero_played : (ask : Option Ask) (name : List ℕ) (held : List ℕ → Option History) (before after : ℕ) (r : Result Ending Unprinted) (e : Ending) (status : ℕ) → ask ≡ Some (record { file = name; task = Turns options })
       → MayEnd ask held input before after (ending_of r) → PrintedFor e (ending_of r) → Finishes r (output_by tells w1 w2 f1 f2) e status → status ≡ 0
@@ -97,10 +76,40 @@ module _ (options : Options) (input : Input) (tells : Bool) (w0 w1 w2 : List ℕ
       let played : found ≡ Replied Played = ended_zero ask options name held input before after found asks cause (ap status_of (sym same) ∙ sym every.exits ∙ zero) in
       (ap Ok played, λ told. every.written told ∙ ap (λ x. w1 ++ text_of x) (same ∙ played) ∙ append-nil w1)
 
-  pub whole_by : (ask : Option Ask) (name : List ℕ) (held now : List ℕ → Option History) (before after : ℕ) (r : Result Ending Unprinted) (e : Ending) (status : ℕ) → ask ≡ Some (record { file = name; task = Turns options })
-      → MayEnd ask held input before after (ending_of r) → PrintedFor e (ending_of r) → Finishes r (output_by tells w1 w2 f1 f2) e status → status ≡ 0
-      → (r ≡ Ok (Replied Played) → AllPlayed options input (output_by tells w0 w1 f0 f1) (held name) (now name))
-      → (old left : History) → held name ≡ Some old → now name ≡ Some left → IsPlayed options input (output_by tells w0 w2 f0 f2) old left
-  whole_by ask name held now before after r e status asks cause printed done zero all old left is then =
-      let z = zero_played ask name held before after r e status asks cause printed done zero in
-      there old left (held name) (now name) is then z.1 (all z.0)
+  module _ (logs later : List Logged) where
+    -- what was written behind the report is nothing
+    with_output : (old now : History) → (IsTrue tells → w2 ≡ w1) → IsPlayed options input (output_by tells w0 w1 f0 f1) logs later old now → IsPlayed options input (output_by tells w0 w2 f0 f2) logs later old now
+    with_output old now same p = record {
+      opened = p.opened;
+      is_opened = p.is_opened;
+      found = p.found;
+      mid = p.mid;
+      counted = p.counted;
+      heard = p.heard;
+      plays = p.plays;
+      script = p.script;
+      whole = record {
+        lines = p.whole.lines;
+        left = p.whole.left;
+        leads = p.whole.leads;
+        over = p.whole.over;
+        more = p.whole.more;
+        ends = p.whole.ends;
+        lawful = p.whole.lawful;
+        printed = λ told. same told ∙ p.whole.printed told;
+        heard = p.whole.heard;
+      };
+    }
+
+    there : (old now : History) (before after : Option History) → before ≡ Some old → after ≡ Some now → (IsTrue tells → w2 ≡ w1) → AllPlayed options input (output_by tells w0 w1 f0 f1) logs later before after
+        → IsPlayed options input (output_by tells w0 w2 f0 f2) logs later old now
+    there old now before after is left same all =
+        subst (λ (q : History × History). IsPlayed options input (output_by tells w0 w2 f0 f2) logs later q.0 q.1) (λ j. (same_held all.0 old before all.2 is j, same_held all.1 now after all.3 left j)) (with_output all.0 all.1 same all.4)
+
+    pub whole_by : (ask : Option Ask) (name : List ℕ) (held now : List ℕ → Option History) (before after : ℕ) (r : Result Ending Unprinted) (e : Ending) (status : ℕ) → ask ≡ Some (record { file = name; task = Turns options })
+        → MayEnd ask held input before after (ending_of r) → PrintedFor e (ending_of r) → Finishes r (output_by tells w1 w2 f1 f2) e status → status ≡ 0
+        → (r ≡ Ok (Replied Played) → AllPlayed options input (output_by tells w0 w1 f0 f1) logs later (held name) (now name))
+        → (old left : History) → held name ≡ Some old → now name ≡ Some left → IsPlayed options input (output_by tells w0 w2 f0 f2) logs later old left
+    whole_by ask name held now before after r e status asks cause printed done zero all old left is then =
+        let z = zero_played ask name held before after r e status asks cause printed done zero in
+        there old left (held name) (now name) is then z.1 (all z.0)

@@ -9,7 +9,7 @@ use Rattle.tdb_disk.specs.History.{History}
 use Rattle.tdb_ask.specs.declared.ask.Task.{Task}
 use Rattle.tdb_ask.specs.declared.ask.Task.TheVariants.{Create, On, Read, Print, Restore, Backup, Verify, Turns, Session, Generate}
 use Rattle.tdb_top.specs.declared.ending.Ending.{Ending}
-use Rattle.tdb_top.specs.declared.ending.Ending.TheVariants.{Replied, Refused, Missing, There, Usage, DeviceFault, InputFault, Malformed, NoMemory}
+use Rattle.tdb_top.specs.declared.ending.Ending.TheVariants.{Replied, Refused, Missing, There, Usage, DeviceFault, InputFault, Malformed, NoMemory, LogFault}
 use Rattle.tdb_top.specs.declared.ending.Unprinted.{Unprinted}
 use Rattle.tdb_top.specs.declared.ending.Unprinted.TheVariants as Rest
 use Rattle.tdb_top.specs.declared.ending.Reply.{Reply}
@@ -57,6 +57,7 @@ stands_wanting text written DeviceFault takes stands = stands
 stands_wanting text written InputFault takes stands = (0, stands)
 stands_wanting text written (Malformed at) takes stands = (0, stands)
 stands_wanting text written NoMemory takes stands = stands
+stands_wanting text written LogFault takes stands = (0, stands)
 
 -- so of turns
 turns_wanting : (options : Options) (held : Option History) (written : List ℕ) (t : Ending) → TurnsText options held t written → TurnsText options held NoMemory written
@@ -70,6 +71,7 @@ turns_wanting options (Some h) written DeviceFault text = text
 turns_wanting options (Some h) written InputFault text = inl text
 turns_wanting options (Some h) written (Malformed at) text = inl text
 turns_wanting options (Some h) written NoMemory text = text
+turns_wanting options (Some h) written LogFault text = text
 
 -- and of a session
 session_wanting : (limit : ℕ) (held : Option History) (written : List ℕ) (t : Ending) → SessionText limit held t written → SessionText limit held NoMemory written
@@ -83,6 +85,7 @@ session_wanting limit (Some h) written DeviceFault text = text
 session_wanting limit (Some h) written InputFault text = inr text
 session_wanting limit (Some h) written (Malformed at) text = inr text
 session_wanting limit (Some h) written NoMemory text = text
+session_wanting limit (Some h) written LogFault text = text
 
 look_wanting : (look : Look) (held : Option History) (written : List ℕ) (t : Ending) → TakesMemory t → LookText look held t written → LookText look held NoMemory written
 look_wanting (Value key) held written t takes text = text
@@ -132,7 +135,7 @@ task_nothing (On act) name held = refl
 task_nothing (Create form) name held = refl
 task_nothing (Restore limit) name held = refl
 task_nothing (Backup more suffix) name held = refl
-task_nothing (Verify more suffix) name held = inr (inr refl, inl (inl refl))
+task_nothing (Verify more suffix) name held = inr (inr (inl refl), inl (inl refl))
 task_nothing (Turns options) name held = turns_nothing options (held name)
 task_nothing (Session limit) name held = session_nothing limit (held name)
 task_nothing (Generate commands seed) name held = refl

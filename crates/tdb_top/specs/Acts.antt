@@ -6,11 +6,11 @@ use Rattle.tdb_ask.specs.declared.act.Verb.{Verb}
 use Rattle.tdb_ask.specs.declared.act.Verb.TheVariants.{Show, Insert, Store, Delete, Erase, Check, First, Next, TransactionStart, TransactionCommit, TransactionCancel}
 use Rattle.tdb_top.specs.declared.ending.Reply.{Reply}
 use Rattle.tdb_top.specs.declared.ending.Reply.TheVariants.{Done}
-use Rattle.tdb_top.specs.declared.halt.Fault.{Fault}
-use Rattle.tdb_top.specs.declared.halt.Fault.TheVariants as F
-use Rattle.tdb_top.specs.declared.halt.Halt.{Halt}
-use Rattle.tdb_top.specs.declared.halt.Halt.TheVariants.{Refused, Device, Memory}
-use Rattle.tdb_top.specs.Opening.{opened_bytes, CanOpen, UndoneIfOpen, LookBroken, IsRefusedBelow, OpenedBelow}
+use Rattle.tdb_open.specs.declared.halt.Fault.{Fault}
+use Rattle.tdb_open.specs.declared.halt.Fault.TheVariants as F
+use Rattle.tdb_open.specs.declared.halt.Halt.{Halt}
+use Rattle.tdb_open.specs.declared.halt.Halt.TheVariants.{Refused, Device, Memory, Log}
+use Rattle.tdb_open.specs.Opening.{opened_bytes, CanOpen, UndoneIfOpen, LookBroken, IsRefusedBelow, OpenedBelow}
 use Rattle.tdb_top.specs.Commands.Show.{show_reply}
 use Rattle.tdb_top.specs.Commands.Check.{check_reply}
 use Rattle.tdb_top.specs.Commands.Insert.{insert_reply, Inserts, InsertBroken}
@@ -71,11 +71,19 @@ pub record Leaves (limit : ℕ) (verb : Verb) (old now : History) : Type 0 where
   pub done : verb_reply limit verb (seen old) ≡ Done → Does limit verb old now
   pub kept : verb_reply limit verb (seen old) ≢ Done → now ≡ old
 
--- how an act on an opened file ends, and what it leaves of it
+-- how an act on an opened file ends, and what it leaves of it; it tells no log
 abbrev pub Acted : ℕ → Verb → History → History → Result Reply Fault → Type 0
 Acted limit verb old now (Ok reply) = (reply ≡ verb_reply limit verb (seen old)) × Leaves limit verb old now
 Acted limit verb old now (Err F.Device) = Breaks verb old now
 Acted limit verb old now (Err F.Memory) = now ≡ old
+Acted limit verb old now (Err F.Log) = ⊥
+
+-- The same where the last log is told then that the file grew. That may not take it; the act stands then.
+abbrev pub ActedAndTold : ℕ → Verb → History → History → Result Reply Fault → Type 0
+ActedAndTold limit verb old now (Ok reply) = Acted limit verb old now (Ok reply)
+ActedAndTold limit verb old now (Err F.Device) = Breaks verb old now
+ActedAndTold limit verb old now (Err F.Memory) = now ≡ old
+ActedAndTold limit verb old now (Err F.Log) = Leaves limit verb old now
 
 -- the file was opened, and then an act replied: what is left of it
 pub record Left (act : Act) (old now : History) : Type 0 where
@@ -102,3 +110,4 @@ OpenedAndActed act old now (Ok reply) =
 OpenedAndActed act old now (Err (Refused refusal)) = IsRefusedBelow act.limit (seen old) refusal × OpenedBelow act.limit old now
 OpenedAndActed act old now (Err Device) = Interrupted act old now
 OpenedAndActed act old now (Err Memory) = UndoneIfOpen old now
+OpenedAndActed act old now (Err Log) = UndoneIfOpen old now ⊎ Left act old now

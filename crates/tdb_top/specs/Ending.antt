@@ -12,11 +12,11 @@ use Rattle.tdb_ask.specs.declared.look.Look.{Look}
 use Rattle.tdb_ask.specs.declared.ask.Task.{Task}
 use Rattle.tdb_ask.specs.declared.ask.Task.TheVariants.{Create, On, Read, Print, Restore, Backup, Verify, Turns, Session, Generate}
 use Rattle.tdb_top.specs.declared.ending.Ending.{Ending}
-use Rattle.tdb_top.specs.declared.ending.Ending.TheVariants.{Replied, Refused, Missing, There, Usage, DeviceFault, InputFault, Malformed, NoMemory}
+use Rattle.tdb_top.specs.declared.ending.Ending.TheVariants.{Replied, Refused, Missing, There, Usage, DeviceFault, InputFault, Malformed, NoMemory, LogFault}
 use Rattle.tdb_top.specs.declared.ending.Reply.TheVariants.{Done, Value, Escaped, Dumped, Restored, Copied, Verified, KeyMissing, KeyThere, NoTransaction, Full, Number, Pair, End, Played, Generated}
-use Rattle.tdb_top.specs.declared.halt.Halt as H
-use Rattle.tdb_top.specs.declared.halt.Refusal.{Refusal}
-use Rattle.tdb_top.specs.declared.halt.Refusal.TheVariants.{TooLong, Header, Corrupt, NeedsRecovery}
+use Rattle.tdb_open.specs.declared.halt.Halt as H
+use Rattle.tdb_open.specs.declared.halt.Refusal.{Refusal}
+use Rattle.tdb_open.specs.declared.halt.Refusal.TheVariants.{TooLong, Header, Corrupt, NeedsRecovery}
 use Rattle.tdb_top.specs.declared.commands.create.Creation as Making
 use Rattle.tdb_ask.specs.Ask.{Ask}
 use Rattle.tdb_ask.specs.declared.lines.create.NewForm.{NewForm}
@@ -24,7 +24,7 @@ use Rattle.tdb_top.specs.Commands.Create.{new_length}
 use Rattle.tdb_top.specs.Acts.{reply_of}
 use Rattle.tdb_top.specs.Looks.{look_reply}
 use Rattle.tdb_top.specs.Output.{Output}
-use Rattle.tdb_top.specs.Opening.{opened_bytes, CanOpen, CanRead, IsRefusedToRead, IsRefusedBelow}
+use Rattle.tdb_open.specs.Opening.{opened_bytes, CanOpen, CanRead, IsRefusedToRead, IsRefusedBelow}
 
 -- What a run says: the status that it exits with, and the text that it prints: a line and its newline, lines, or
 -- nothing. A line that tells a value, a number or a name takes memory; one that is the same in each run takes none.
@@ -73,6 +73,7 @@ answer (Replied (Full len need)) = tells 6 (codes "full " ++ decimal len ++ code
 answer (Refused (TooLong len)) = tells 6 (codes "toolong " ++ decimal len)
 answer (Malformed at) = tells 7 (codes "input malformed at " ++ decimal at)
 answer InputFault = says 8 (codes "input fault")
+answer LogFault = says 10 (codes "log fault")
 answer (Missing name) = tells 9 (codes "missing " ++ name)
 answer (There name) = tells 9 (codes "there " ++ name)
 
@@ -156,6 +157,7 @@ pub data TaskCause (task : Task) (name : List ℕ) (held : Option History) (befo
   task_due : (e : Ending) → TaskDue task name held e → TaskCause task name held before after e
   task_failed : Rose before after → TaskCause task name held before after DeviceFault
   task_wanting : TaskCause task name held before after NoMemory
+  task_unlogged : TaskCause task name held before after LogFault
 
 -- how often calls of the files had failed, before and after a run that ends so
 pub record CountedBy (before after : ℕ) (e : Ending) : Type 0 where
@@ -209,6 +211,7 @@ abbrev pub of_halt : H.Halt → Ending
 of_halt (H.TheVariants.Refused refusal) = Refused refusal
 of_halt H.TheVariants.Device = DeviceFault
 of_halt H.TheVariants.Memory = NoMemory
+of_halt H.TheVariants.Log = LogFault
 
 -- the ending where the file of a name wasn't taken; memory may be wanting for the name that is to be printed
 abbrev pub Untaken : List ℕ → Take.TakeRefusal → Ending → Type 0

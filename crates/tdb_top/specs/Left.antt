@@ -5,9 +5,9 @@ use Rattle.tdb_ask.specs.declared.act.Act.{Act}
 use Rattle.tdb_ask.specs.declared.ask.Task.{Task}
 use Rattle.tdb_ask.specs.declared.ask.Task.TheVariants.{Create, On, Read, Print, Restore, Backup, Verify, Turns, Session, Generate}
 use Rattle.tdb_top.specs.declared.ending.Ending.{Ending}
-use Rattle.tdb_top.specs.declared.ending.Ending.TheVariants.{Replied, Refused, Missing, There, Usage, DeviceFault, InputFault, Malformed, NoMemory}
+use Rattle.tdb_top.specs.declared.ending.Ending.TheVariants.{Replied, Refused, Missing, There, Usage, DeviceFault, InputFault, Malformed, NoMemory, LogFault}
 use Rattle.tdb_top.specs.declared.ending.Reply.TheVariants.{Done, Restored}
-use Rattle.tdb_top.specs.declared.halt.Refusal.TheVariants.{TooLong}
+use Rattle.tdb_open.specs.declared.halt.Refusal.TheVariants.{TooLong}
 use Rattle.tdb_ask.specs.declared.lines.create.NewForm.{NewForm}
 use Rattle.tdb_top.specs.declared.commands.create.Creation as Making
 use Rattle.tdb_top.specs.Acts.{reply_of, Left, Interrupted}
@@ -23,7 +23,7 @@ use Rattle.tdb_top.specs.Commands.Generate.{GenLeaves}
 use Rattle.tdb_top.specs.Commands.Verify.{VerifyLeaves}
 use Rattle.tdb_top.specs.Ending.{status_of}
 use Rattle.tdb_top.specs.Input.{Input}
-use Rattle.tdb_top.specs.Opening.{opened_bytes, SameOrUndone, OpenedBelow}
+use Rattle.tdb_open.specs.Opening.{opened_bytes, SameOrUndone, UndoneIfOpen, OpenedBelow}
 
 -- What an act leaves of its file, which was there, where it ends so. It doesn't end as other tasks do.
 abbrev pub ActLeaves : Act → History → Ending → History → Type 0
@@ -31,6 +31,7 @@ ActLeaves act old (Replied reply) now = (reply ≡ reply_of act (opened_bytes (s
 ActLeaves act old (Refused refusal) now = OpenedBelow act.limit old now
 ActLeaves act old DeviceFault now = Interrupted act old now
 ActLeaves act old NoMemory now = SameOrUndone old now
+ActLeaves act old LogFault now = UndoneIfOpen old now ⊎ Left act old now
 ActLeaves act old (Missing name) now = ⊥
 ActLeaves act old (There name) now = ⊥
 ActLeaves act old Usage now = ⊥
@@ -43,6 +44,7 @@ MakingLeaves form old (Replied reply) now = (reply ≡ Done) × CreateLeaves for
 MakingLeaves form old (There name) now = CreateLeaves form.size form.order form.hash old Making.TheVariants.There now
 MakingLeaves form old DeviceFault now = CreateLeaves form.size form.order form.hash old Making.TheVariants.Device now
 MakingLeaves form old NoMemory now = CreateLeaves form.size form.order form.hash old Making.TheVariants.Memory now
+MakingLeaves form old LogFault now = ⊥
 MakingLeaves form old (Refused refusal) now = (refusal ≡ TooLong (new_length form)) × (form.limit < new_length form) × LeftEmpty old now
 MakingLeaves form old (Missing name) now = ⊥
 MakingLeaves form old Usage now = ⊥

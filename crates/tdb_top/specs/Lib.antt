@@ -1,10 +1,10 @@
-pub mod Opening
 pub mod Input
 pub mod Output
 pub mod Commands
 pub mod Looks
 pub mod Acts
 pub mod Ending
+pub mod Heard
 pub mod Playing
 pub mod Scripts
 pub mod Reads

@@ -5,12 +5,12 @@ use Rattle.tdb_ask.specs.declared.look.Look.{Look}
 use Rattle.tdb_ask.specs.declared.look.Look.TheVariants.{Dump, Value}
 use Rattle.tdb_dump.specs.declared.listing.Listing.TheVariants.{Pairs}
 use Rattle.tdb_top.specs.declared.ending.Ending.{Ending}
-use Rattle.tdb_top.specs.declared.ending.Ending.TheVariants.{Replied, Refused, Missing, There, Usage, DeviceFault, InputFault, Malformed, NoMemory}
+use Rattle.tdb_top.specs.declared.ending.Ending.TheVariants.{Replied, Refused, Missing, There, Usage, DeviceFault, InputFault, Malformed, NoMemory, LogFault}
 use Rattle.tdb_top.specs.declared.ending.Unprinted.{Unprinted}
 use Rattle.tdb_top.specs.declared.ending.Unprinted.TheVariants as Rest
 use Rattle.tdb_top.specs.declared.ending.Reply.{Reply}
 use Rattle.tdb_top.specs.declared.ending.Reply.TheVariants.{Dumped, Played}
-use Rattle.tdb_top.specs.Opening.{CanRead, IsRefusedToRead}
+use Rattle.tdb_open.specs.Opening.{CanRead, IsRefusedToRead}
 use Rattle.tdb_top.specs.Commands.Dump.{value_reply, pairs_text}
 
 -- what a look replies over a file with these bytes
@@ -25,6 +25,7 @@ LookEnds look img (Replied reply) = CanRead img × (reply ≡ look_reply look im
 LookEnds look img (Refused refusal) = IsRefusedToRead img refusal
 LookEnds look img DeviceFault = Unit {0}
 LookEnds look img NoMemory = Unit {0}
+LookEnds look img LogFault = Unit {0}
 LookEnds look img (Missing name) = ⊥
 LookEnds look img (There name) = ⊥
 LookEnds look img Usage = ⊥
@@ -42,6 +43,7 @@ abbrev pub StandsBefore : List ℕ → Ending → List ℕ → Type 0
 StandsBefore text (Replied reply) written = written ≡ before_reply reply text
 StandsBefore text DeviceFault written = (n : ℕ) × (written ≡ take n text)
 StandsBefore text NoMemory written = (n : ℕ) × (written ≡ take n text)
+StandsBefore text LogFault written = written ≡ []
 StandsBefore text _ written = written ≡ []
 
 -- what a look prints before its line, by what is held at the name of its file: a dump the text of all pairs

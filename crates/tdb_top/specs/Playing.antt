@@ -14,31 +14,36 @@ use Rattle.tdb_world.specs.Played.{ComesTo}
 use Rattle.tdb_world.specs.Openers.{options_of}
 use Rattle.tdb_whole.specs.Whole.{Whole, form_at, options_at, WorldFits}
 use Rattle.tdb_whole.specs.States.{IsStateOf}
+use Rattle.tdb_course.specs.Hearing.{Heard, HeardUpTo}
 use Rattle.tdb_course.specs.Unfinished.{IsEnd}
+use Rattle.tdb_log.specs.Logs.{Logged}
+use Rattle.tdb_log.specs.declared.log.LogRefusal.{LogRefusal}
+use Rattle.tdb_log.specs.declared.log.LogRefusal.TheVariants as Unlogged
 use Rattle.tdb_tool.specs.Whole.{IsOver}
 use Rattle.tdb_top.specs.declared.ending.Unprinted.{Unprinted}
 use Rattle.tdb_top.specs.declared.ending.Unprinted.TheVariants as Rest
 use Rattle.tdb_disk.specs.History.{History, seen}
 use Rattle.tdb_top.specs.declared.ending.Ending.{Ending}
-use Rattle.tdb_top.specs.declared.ending.Ending.TheVariants.{Replied, Refused, Missing, DeviceFault, NoMemory}
+use Rattle.tdb_top.specs.declared.ending.Ending.TheVariants.{Replied, Refused, Missing, DeviceFault, NoMemory, LogFault}
 use Rattle.tdb_top.specs.declared.ending.Reply.TheVariants.{Played}
-use Rattle.tdb_top.specs.declared.halt.Refusal.{Refusal}
-use Rattle.tdb_top.specs.declared.halt.Halt.{Halt}
-use Rattle.tdb_top.specs.declared.halt.Halt.TheVariants as H
-use Rattle.tdb_top.specs.declared.opening.Opened.{Opened}
+use Rattle.tdb_open.specs.declared.halt.Refusal.{Refusal}
+use Rattle.tdb_open.specs.declared.halt.Halt.{Halt}
+use Rattle.tdb_open.specs.declared.halt.Halt.TheVariants as H
+use Rattle.tdb_open.specs.declared.opening.Opened.{Opened}
 use Rattle.tdb_top.specs.Ending.{of_halt}
-use Rattle.tdb_top.specs.Opening.{SameOrUndone}
-use Rattle.tdb_top.specs.declared.halt.Fault.{Fault}
-use Rattle.tdb_top.specs.declared.halt.Fault.TheVariants as F
+use Rattle.tdb_check.specs.Report.{Counted}
+use Rattle.tdb_open.specs.Opening.{opened_bytes, SameOrUndone, log_fault}
+use Rattle.tdb_open.specs.declared.halt.Fault.{Fault}
+use Rattle.tdb_open.specs.declared.halt.Fault.TheVariants as F
 use Rattle.tdb_dump.specs.declared.writer.WriteRefusal.{WriteRefusal}
 use Rattle.tdb_dump.specs.declared.writer.WriteRefusal.TheVariants as Untold
 use Rattle.tdb_world.specs.declared.fault.RunFault.{RunFault}
 use Rattle.tdb_world.specs.declared.fault.RunFault.TheVariants as Run
 use Rattle.tdb_plays.specs.declared.options.Options.{Options}
-use Rattle.tdb_top.specs.Commands.Turns.{PlayedWhole, CameOver, IsReport, OpensToTurn, IsRefusedToTurn, TurnOpened, IsOpened}
+use Rattle.tdb_top.specs.Commands.Turns.{PlayedWhole, CameOver, IsReport, OpensToTurn, IsRefusedToTurn, TurnOpened, IsOpened, HeardOrRefused, TurnOpeningHeard}
 
--- how plays end: all were taken and told; or they broke off, since the disk failed or memory was wanting; or the output
--- failed
+-- how plays end: all were taken and told; or they broke off, since the disk or a log failed, or memory was wanting;
+-- or the output failed
 abbrev pub PlaysEnd : Type 0
 PlaysEnd = Result (Result (Unit {0}) Fault) Unprinted
 
@@ -53,45 +58,57 @@ OnBroken (Ok (Err F.Device)) p = p
 OnBroken (Err Rest.Fault) p = p
 OnBroken answer p = Unit {0}
 
--- an end that no failed call of the disk made
+-- an end that no failed call of the disk and no log made
 abbrev pub IsUnbroken : PlaysEnd → Type 0
 IsUnbroken (Ok (Err F.Device)) = ⊥
+IsUnbroken (Ok (Err F.Log)) = ⊥
 IsUnbroken (Err Rest.Fault) = ⊥
 IsUnbroken (Err Rest.Pairs) = ⊥
 IsUnbroken (Err Rest.Files) = ⊥
 IsUnbroken answer = Unit {0}
 
--- All plays were taken from a state to another, and their lines written behind what was there; or they came to a state, and
--- a front of the text of their lines was written.
-abbrev pub TellsAll : Form → State → List Play → State → Bool → List ℕ → List ℕ → Type 0
-TellsAll f old plays new told before now =
-    (lines : List Line) × Course f old (law_plays plays) (law_lines lines) new × (IsTrue told → now ≡ before ++ report_text lines)
+-- What logs heard of the lines of plays that ended so: of all; up to one whose notice the last log failed to take;
+-- or, where the plays broke off otherwise, of all, or up to one whose notice it refused.
+abbrev pub HeardSo : PlaysEnd → List Logged → List Line → List Logged → Type 0
+HeardSo (Ok (Ok v)) logs lines later = Heard logs lines later
+HeardSo (Ok (Err F.Device)) logs lines later = HeardOrRefused logs lines later
+HeardSo (Ok (Err F.Memory)) logs lines later = HeardOrRefused logs lines later
+HeardSo (Ok (Err F.Log)) logs lines later = HeardUpTo Unlogged.Failed logs lines later
+HeardSo (Err unprinted) logs lines later = HeardOrRefused logs lines later
 
-abbrev pub TellsFront : Form → State → List Play → State → Bool → List ℕ → List ℕ → Type 0
-TellsFront f old plays new told before now =
-    (lines : List Line) × ComesTo f old (law_plays plays) (law_lines lines) new × (IsTrue told → WroteFront before (report_text lines) now)
+-- All plays were taken from a state to another, and their lines written behind what was there; or they came to a
+-- state, and a front of the text of their lines was written. The logs heard of the same lines.
+abbrev pub TellsAll : Form → State → List Play → State → Bool → List ℕ → List ℕ → List Logged → List Logged → Type 0
+TellsAll f old plays new told before now logs later =
+    (lines : List Line) × Course f old (law_plays plays) (law_lines lines) new × (IsTrue told → now ≡ before ++ report_text lines) × Heard logs lines later
+
+abbrev pub TellsFront : Form → State → List Play → State → Bool → List ℕ → List ℕ → List Logged → List Logged → PlaysEnd → Type 0
+TellsFront f old plays new told before now logs later answer =
+    (lines : List Line) × ComesTo f old (law_plays plays) (law_lines lines) new × (IsTrue told → WroteFront before (report_text lines) now) × HeardSo answer logs lines later
 
 -- by how they end; the state is one that is left, but where the disk failed, when nothing is said of it
-abbrev pub RunsTo : Form → State → List Play → (State → Type 0) → Bool → List ℕ → List ℕ → PlaysEnd → Type 0
-RunsTo f old plays IsLeft told before now (Ok (Ok v)) = (new : State) × IsLeft new × TellsAll f old plays new told before now
-RunsTo f old plays IsLeft told before now (Ok (Err F.Device)) = (new : State) × TellsFront f old plays new told before now
-RunsTo f old plays IsLeft told before now (Ok (Err F.Memory)) = (new : State) × IsLeft new × TellsFront f old plays new told before now
-RunsTo f old plays IsLeft told before now (Err Rest.Report) = (new : State) × IsLeft new × TellsFront f old plays new told before now
-RunsTo f old plays IsLeft told before now (Err Rest.Fault) = (new : State) × TellsFront f old plays new told before now
-RunsTo f old plays IsLeft told before now (Err Rest.Pairs) = ⊥
-RunsTo f old plays IsLeft told before now (Err Rest.Files) = ⊥
+abbrev pub RunsTo : Form → State → List Play → (State → Type 0) → Bool → List ℕ → List ℕ → List Logged → List Logged → PlaysEnd → Type 0
+RunsTo f old plays IsLeft told before now logs later (Ok (Ok v)) = (new : State) × IsLeft new × TellsAll f old plays new told before now logs later
+RunsTo f old plays IsLeft told before now logs later (Ok (Err F.Device)) = (new : State) × TellsFront f old plays new told before now logs later (Ok (Err F.Device))
+RunsTo f old plays IsLeft told before now logs later (Ok (Err F.Memory)) = (new : State) × IsLeft new × TellsFront f old plays new told before now logs later (Ok (Err F.Memory))
+RunsTo f old plays IsLeft told before now logs later (Ok (Err F.Log)) = (new : State) × IsLeft new × TellsFront f old plays new told before now logs later (Ok (Err F.Log))
+RunsTo f old plays IsLeft told before now logs later (Err Rest.Report) = (new : State) × IsLeft new × TellsFront f old plays new told before now logs later (Err Rest.Report)
+RunsTo f old plays IsLeft told before now logs later (Err Rest.Fault) = (new : State) × TellsFront f old plays new told before now logs later (Err Rest.Fault)
+RunsTo f old plays IsLeft told before now logs later (Err Rest.Pairs) = ⊥
+RunsTo f old plays IsLeft told before now logs later (Err Rest.Files) = ⊥
 
--- A moment of the plays: the world, the history and the length of its file, the count of faults of its disk, and what is
--- written on the output.
+-- A moment of the plays: the world, the history and the length of its file, the count of faults of its disk, what is
+-- written on the output, and the logs.
 pub record Scene : Type 0 where
   pub world : Whole
   pub history : History
   pub size : ℕ
   pub faults : ℕ
   pub written : List ℕ
+  pub logs : List Logged
 
-abbrev pub scene : Whole → History → ℕ → ℕ → List ℕ → Scene
-scene world history size faults written = record { world = world; history = history; size = size; faults = faults; written = written }
+abbrev pub scene : Whole → History → ℕ → ℕ → List ℕ → List Logged → Scene
+scene world history size faults written logs = record { world = world; history = history; size = size; faults = faults; written = written; logs = logs }
 
 -- a state that the world may have at a moment
 abbrev pub IsStateAt : Scene → State → Type 0
@@ -106,7 +123,7 @@ pub record Ran (disk_tells output_tells : Bool) (old new : Scene) (plays : List 
   pub rises : old.faults ≤ new.faults
   pub quiet : UnlessBroken answer (new.faults ≡ old.faults)
   pub runs : IsTrue disk_tells → (state : State) → IsStateAt old state
-      → RunsTo (form_at old.world) state plays (IsStateAt new) output_tells old.written new.written answer
+      → RunsTo (form_at old.world) state plays (IsStateAt new) output_tells old.written new.written old.logs new.logs answer
   pub rose : IsTrue disk_tells → (state : State) → IsStateAt old state → OnBroken answer (Rose old.faults new.faults)
 
 -- The lines of all commands that aren't done in a world were written, or a front of their text where that broke off.
@@ -123,17 +140,19 @@ pub record IsJustLoaded (w : Whole) (h : History) (state : State) : Type 0 where
   pub over : IsOver (form_at w) (seen h) state
 
 -- How all plays end, over the image a, after which b is left, on an output that tells what it holds or doesn't.
-abbrev pub PlayedFront : Form → Options → List ℕ → Bool → List ℕ → List ℕ → Type 0
-PlayedFront f options a told before now = (lines : List Line) × IsReport f options a lines × (IsTrue told → WroteFront before (report_text lines) now)
+abbrev pub PlayedFront : Form → Options → List ℕ → Bool → List ℕ → List ℕ → List Logged → List Logged → PlaysEnd → Type 0
+PlayedFront f options a told before now logs later answer =
+    (lines : List Line) × IsReport f options a lines × (IsTrue told → WroteFront before (report_text lines) now) × HeardSo answer logs lines later
 
-abbrev pub PlayedOver : Form → Options → List ℕ → List Play → List ℕ → Bool → List ℕ → List ℕ → PlaysEnd → Type 0
-PlayedOver f options a plays b told before now (Ok (Ok v)) = PlayedWhole f options a plays b told before now
-PlayedOver f options a plays b told before now (Ok (Err F.Device)) = PlayedFront f options a told before now
-PlayedOver f options a plays b told before now (Ok (Err F.Memory)) = PlayedFront f options a told before now × CameOver f options a b
-PlayedOver f options a plays b told before now (Err Rest.Report) = PlayedFront f options a told before now × CameOver f options a b
-PlayedOver f options a plays b told before now (Err Rest.Fault) = PlayedFront f options a told before now
-PlayedOver f options a plays b told before now (Err Rest.Pairs) = ⊥
-PlayedOver f options a plays b told before now (Err Rest.Files) = ⊥
+abbrev pub PlayedOver : Form → Options → List ℕ → List Play → List ℕ → Bool → List ℕ → List ℕ → List Logged → List Logged → PlaysEnd → Type 0
+PlayedOver f options a plays b told before now logs later (Ok (Ok v)) = PlayedWhole f options a plays b told before now logs later
+PlayedOver f options a plays b told before now logs later (Ok (Err F.Device)) = PlayedFront f options a told before now logs later (Ok (Err F.Device))
+PlayedOver f options a plays b told before now logs later (Ok (Err F.Memory)) = PlayedFront f options a told before now logs later (Ok (Err F.Memory)) × CameOver f options a b
+PlayedOver f options a plays b told before now logs later (Ok (Err F.Log)) = PlayedFront f options a told before now logs later (Ok (Err F.Log)) × CameOver f options a b
+PlayedOver f options a plays b told before now logs later (Err Rest.Report) = PlayedFront f options a told before now logs later (Err Rest.Report) × CameOver f options a b
+PlayedOver f options a plays b told before now logs later (Err Rest.Fault) = PlayedFront f options a told before now logs later (Err Rest.Fault)
+PlayedOver f options a plays b told before now logs later (Err Rest.Pairs) = ⊥
+PlayedOver f options a plays b told before now logs later (Err Rest.Files) = ⊥
 
 -- A file was opened for turns with these options, or wasn't.
 abbrev pub OpenedToTurn : Options → History → History → Result Opened Halt → Type 0
@@ -141,31 +160,37 @@ OpenedToTurn options old now (Ok o) = OpensToTurn options (seen old) × IsOpened
 OpenedToTurn options old now (Err (H.Refused refusal)) = IsRefusedToTurn options (seen old) refusal × TurnOpened options old now
 OpenedToTurn options old now (Err H.Device) = Unit {0}
 OpenedToTurn options old now (Err H.Memory) = SameOrUndone old now
+OpenedToTurn options old now (Err H.Log) = SameOrUndone old now
 
 -- How turns over a file end that is there: it is refused, or it is opened and the plays are taken. Nothing was written where
--- it wasn't opened.
-pub record PlayedOn (options : Options) (old now : History) (told : Bool) (before after : List ℕ) (answer : PlaysEnd) (plays : List Play) : Type 0 where
+-- it wasn't opened. The logs heard of the opening, and then of the plays.
+pub record PlayedOn (options : Options) (old now : History) (told : Bool) (before after : List ℕ) (logs later : List Logged) (answer : PlaysEnd) (plays : List Play) : Type 0 where
   pub opened : History
   pub opens : OpensToTurn options (seen old)
   pub is_opened : IsOpened options old opened
-  pub over : PlayedOver (form_of (seen opened)) options (seen opened) plays (seen now) told before after answer
+  pub found : Opened
+  pub mid : List Logged
+  pub counted : Counted (opened_bytes (seen old)) found.report
+  pub heard : TurnOpeningHeard options (seen old) logs mid (Ok found)
+  pub over : PlayedOver (form_of (seen opened)) options (seen opened) plays (seen now) told before after mid later answer
 
 -- how they end, as a run tells it
 abbrev pub end_told : PlaysEnd → Result Ending Unprinted
 end_told (Ok (Ok v)) = Ok (Replied Played)
 end_told (Ok (Err F.Device)) = Ok DeviceFault
 end_told (Ok (Err F.Memory)) = Ok NoMemory
+end_told (Ok (Err F.Log)) = Ok LogFault
 end_told (Err unprinted) = Err unprinted
 
-pub data PlayedFile (options : Options) (old now : History) (plays : List Play) (told : Bool) (before after : List ℕ) : Result Ending Unprinted → Type 0 where
-  file_unplayed : (halt : Halt) → OpenedToTurn options old now (Err halt) → after ≡ before → PlayedFile options old now plays told before after (Ok (of_halt halt))
-  file_played : (answer : PlaysEnd) → PlayedOn options old now told before after answer plays → PlayedFile options old now plays told before after (end_told answer)
+pub data PlayedFile (options : Options) (old now : History) (plays : List Play) (told : Bool) (before after : List ℕ) (logs later : List Logged) : Result Ending Unprinted → Type 0 where
+  file_unplayed : (halt : Halt) → OpenedToTurn options old now (Err halt) → after ≡ before → TurnOpeningHeard options (seen old) logs later (Err halt)
+      → PlayedFile options old now plays told before after logs later (Ok (of_halt halt))
+  file_played : (answer : PlaysEnd) → PlayedOn options old now told before after logs later answer plays → PlayedFile options old now plays told before after logs later (end_told answer)
 
 -- all plays were taken over the file that is held, and told
-abbrev pub PlayedAll : Options → List Play → Option History → Option History → Bool → List ℕ → List ℕ → Type 0
-PlayedAll options plays old now told before after =
-    (file : History) × (left : History) × (old ≡ Some file) × (now ≡ Some left) × (opened : History) × IsOpened options file opened
-    × PlayedWhole (form_of (seen opened)) options (seen opened) plays (seen left) told before after
+abbrev pub PlayedAll : Options → List Play → Option History → Option History → Bool → List ℕ → List ℕ → List Logged → List Logged → Type 0
+PlayedAll options plays old now told before after logs later =
+    (file : History) × (left : History) × (old ≡ Some file) × (now ≡ Some left) × PlayedOn options file left told before after logs later (Ok (Ok tt)) plays
 
 -- Why turns over the file of this name end so that have their script: there is none, or it is refused, or it is opened; or a
 -- call failed, or memory was wanting.
@@ -175,12 +200,16 @@ pub data PlaysCause (options : Options) (name : List ℕ) (held : Option History
   plays_opened : (h : History) → held ≡ Some h → OpensToTurn options (seen h) → PlaysCause options name held before after (Replied Played)
   plays_failed : Rose before after → PlaysCause options name held before after DeviceFault
   plays_wanting : PlaysCause options name held before after NoMemory
+  plays_unlogged : PlaysCause options name held before after LogFault
 
 -- how plays end, by how they were taken and how they were told
-abbrev pub end_of : Result (Unit {0}) RunFault → Result (Unit {0}) WriteRefusal → PlaysEnd
-end_of (Ok v) (Ok w) = Ok (Ok tt)
-end_of (Ok v) (Err Untold.Memory) = Ok (Err F.Memory)
-end_of (Ok v) (Err Untold.Failed) = Err Rest.Report
+abbrev pub end_of : Result (Result (Unit {0}) LogRefusal) RunFault → Result (Unit {0}) WriteRefusal → PlaysEnd
+end_of (Ok (Ok v)) (Ok w) = Ok (Ok tt)
+end_of (Ok (Ok v)) (Err Untold.Memory) = Ok (Err F.Memory)
+end_of (Ok (Ok v)) (Err Untold.Failed) = Err Rest.Report
+end_of (Ok (Err refusal)) (Ok w) = Ok (Err (log_fault refusal))
+end_of (Ok (Err refusal)) (Err Untold.Memory) = Ok (Err (log_fault refusal))
+end_of (Ok (Err refusal)) (Err Untold.Failed) = Err Rest.Report
 end_of (Err Run.Memory) (Ok w) = Ok (Err F.Memory)
 end_of (Err Run.Memory) (Err Untold.Memory) = Ok (Err F.Memory)
 end_of (Err Run.Memory) (Err Untold.Failed) = Err Rest.Report

@@ -12,19 +12,21 @@ use Rattle.tdb_ask.specs.declared.ask.Task.TheVariants.{Create, On, Read, Print,
 use Rattle.tdb_ask.specs.declared.lines.create.NewForm.{NewForm}
 use Rattle.tdb_top.specs.declared.commands.create.Creation.TheVariants.{Made, Device}
 use Rattle.tdb_top.specs.declared.ending.Ending.{Ending}
-use Rattle.tdb_top.specs.declared.ending.Ending.TheVariants.{Replied, DeviceFault, NoMemory}
+use Rattle.tdb_top.specs.declared.ending.Ending.TheVariants.{Replied, DeviceFault, NoMemory, LogFault}
 use Rattle.tdb_ask.specs.declared.limits.TheConstants.{LONGEST_FILE}
 use Rattle.tdb_ask.specs.Ask.{Ask, ask_of}
 use Rattle.tdb_top.specs.Acts.{reply_of, Left, Interrupted}
-use Rattle.tdb_top.specs.Ending.{Due, status_of, asks_openers}
+use Rattle.tdb_top.specs.Ending.{Due, status_of, TakesMemory, asks_openers}
+use Rattle.tdb_top.specs.Heard.{AskHeard}
+use Rattle.tdb_log.specs.Logs.{Logged}
 use Rattle.tdb_top.specs.Output.{Output}
 use Rattle.tdb_top.specs.Printed.{TextBefore, ask_tells, Writes}
 use Rattle.tdb_ask.specs.CopyNames.{IsForCopyAmong, IsForRestoreAmong}
 use Rattle.tdb_top.specs.Commands.Backup.{CopiedAll, StoppedAt, BackupEnds}
 use Rattle.tdb_top.specs.Commands.Create.{new_length, LeftEmpty, CreateLeaves}
 use Rattle.tdb_top.specs.Commands.Restore.{ReadSo}
-use Rattle.tdb_top.specs.Commands.Session.{ServesSo, session_options, IsServed, IsServedSoFar}
-use Rattle.tdb_top.specs.Commands.Turns.{PlaysSo, TurnOpened, IsPlayed, IsPlayedSoFar}
+use Rattle.tdb_top.specs.Commands.Session.{ServesSo, session_options, IsServed, HeardUnopened, IsServedSoFar, IsServedBroken}
+use Rattle.tdb_top.specs.Commands.Turns.{PlaysSo, TurnOpened, IsPlayed, IsPlayedSoFar, HeardOrRefused}
 use Rattle.tdb_tool.specs.declared.fault.SessionEnd.TheVariants as End
 use Rattle.tdb_top.specs.Commands.Generate.{GenSo, HasMade}
 use Rattle.tdb_top.specs.Commands.Verify.{VerifyEnds, VerifiedAll, LeftAt}
@@ -32,10 +34,15 @@ use Rattle.tdb_gen.specs.declared.summary.Summary.{Summary}
 use Rattle.tdb_gen.specs.Summary.{summary_text}
 use Rattle.tdb_dump.specs.declared.listing.Listing.{Listing}
 use Rattle.tdb_plays.specs.declared.options.Options.{Options}
+use Rattle.tdb_course.specs.Hearing.{HeardUpTo}
+use Rattle.tdb_log.specs.Logs.{Logged}
+use Rattle.tdb_log.specs.declared.log.LogRefusal.TheVariants as Unheard
+use Rattle.tdb_open.specs.declared.halt.Halt.{Halt}
+use Rattle.tdb_open.specs.declared.halt.Halt.TheVariants as H
 use Rattle.tdb_top.specs.Input.{Input}
 use Rattle.tdb_top.specs.Left.{HasRestored, MayChange}
 use Rattle.tdb_top.specs.Reads.{ask_reads}
-use Rattle.tdb_top.specs.Opening.{opened_bytes, OpensToRead, HeldOrUndone, SameOrUndone, LookBroken, OpenedBelow}
+use Rattle.tdb_open.specs.Opening.{opened_bytes, OpensToRead, HeldOrUndone, SameOrUndone, UndoneIfOpen, LookBroken, OpenedBelow}
 
 -- a run: what its words ask for, what is held at each name before and after, how often calls of the files had failed
 -- before and after, what the input had, what the output took, and the status that the program exits with
@@ -64,7 +71,7 @@ run_by words old now before after input output status = record {
 -- Why a run ends so that is asked for this, or for nothing: it is due; or a restore was asked for, no file was at its
 -- name, and its input says so; or a backup or a verification was, and its files say so; or turns were, and their script
 -- and their file say so; or a session was, and its lines and its file say so; or generated commands were, no file was at the name, and
--- it is how they were done; or it is asked for something and a call failed; or memory was wanting.
+-- it is how they were done; or it is asked for something and a call failed, or a log did; or memory was wanting.
 pub data MayEnd (ask : Option Ask) (held : List ℕ → Option History) (input : Input) (before after : ℕ) : Ending → Type 0 where
   is_due : (e : Ending) → Due ask held e → MayEnd ask held input before after e
   is_read : (e : Ending) (limit : ℕ) (name : List ℕ) → ask ≡ Some (record { file = name; task = Restore limit }) → held name ≡ None → ReadSo input limit e → MayEnd ask held input before after e
@@ -75,17 +82,18 @@ pub data MayEnd (ask : Option Ask) (held : List ℕ → Option History) (input :
   is_generated : (e : Ending) (commands seed : ℕ) (name : List ℕ) → ask ≡ Some (record { file = name; task = Generate commands seed }) → held name ≡ None → GenSo commands seed e → MayEnd ask held input before after e
   call_failed : (a : Ask) → ask ≡ Some a → Rose before after → MayEnd ask held input before after DeviceFault
   memory_wanting : MayEnd ask held input before after NoMemory
+  log_failed : (a : Ask) → ask ≡ Some a → MayEnd ask held input before after LogFault
 
 abbrev pub Cause : Run → Ending → Type 0
 Cause run e = MayEnd run.ask run.old run.input run.faults_before run.faults_after e
 
--- a status that tells of a failed call of the files, of want of memory, or of a failed output
+-- a status that tells of a failed call of the files, of want of memory, of a failed output, or of a log that failed
 abbrev pub TellsFault : ℕ → Type 0
-TellsFault status = (status ≡ 4) ⊎ (status ≡ 5) ⊎ (status ≡ 8)
+TellsFault status = (status ≡ 4) ⊎ (status ≡ 5) ⊎ (status ≡ 8) ⊎ (status ≡ 10)
 
 -- A run ends in one way, and prints the line of that, behind the text of its command where that has one. Where the
 -- files tell what they hold, the ending has its cause, and what is due is the one thing that is answered, unless a call
--- failed or memory was wanting.
+-- or a log failed or memory was wanting.
 pub record Answered (tells : Bool) (run : Run) : Type 0 where
   pub ending : Ending
   pub printed : Writes (ask_tells run.ask tells run.output.tells) run.output (TextBefore run.ask run.old) ending run.status
@@ -108,7 +116,7 @@ pub record PrintsOf (run : Run) (listing : Listing) (limit : ℕ) (name : List �
   pub there : run.old name ≡ Some old
 
 -- Status 3 comes only over a file whose bytes can't be opened, in the way that the command opens it; and over each that
--- is no longer than the longest nothing else comes, unless a call failed or memory was wanting.
+-- is no longer than the longest nothing else comes, unless a call or a log failed or memory was wanting.
 pub record RefusesExactly (run : Run) : Type 0 where
   pub only : (act : Act) (name : List ℕ) (h : History) → ActsOn run act name h → run.status ≡ 3 → Opens (seen h) → ⊥
   pub exact : (act : Act) (name : List ℕ) (h : History) → ActsOn run act name h → (Opens (seen h) → ⊥) → length (seen h) ≤ LONGEST_FILE → length (seen h) ≤ act.limit → (run.status ≡ 3) ⊎ TellsFault run.status
@@ -119,9 +127,9 @@ pub record RefusesExactly (run : Run) : Type 0 where
 
 -- a status after which every file is as before or undone, whatever the words ask for, but for copies and restored files,
 -- and for turns and sessions that ended in their midst (`EndsMidway`): it says neither that it was done, nor that a call of the files or
--- of the output failed
+-- of the output failed, nor that a log did
 abbrev pub KeepsAll : ℕ → Type 0
-KeepsAll status = (status ≢ 0) × (status ≢ 4) × (status ≢ 8)
+KeepsAll status = (status ≢ 0) × (status ≢ 4) × (status ≢ 8) × (status ≢ 10)
 
 -- a task may end with this status when some of its plays were taken: memory may be wanting, and a line of a session
 -- none; or when an empty file was made in place of one that would be too long
@@ -133,12 +141,14 @@ EndsMidway task status = ⊥
 
 -- What a run leaves of the file of an act, which held this, by its status. Want of memory, status 5, may come before
 -- the file was opened or after it was undone. A fault of the output, status 8, tells nothing of the file: it is as it
--- was or undone, or as the act left it, or as a failed call left it, which raised the count of faults.
+-- was or undone, or as the act left it, or as a failed call left it, which raised the count of faults. A log that failed,
+-- status 10, may have done so behind the act.
 pub record ActRun (act : Act) (old : History) (before after status : ℕ) (now : History) : Type 0 where
   pub any : SameOrUndone old now ⊎ Left act old now ⊎ (Rose before after × Interrupted act old now)
   pub replied : status ≡ 0 → status_of (Replied (reply_of act (opened_bytes (seen old)))) ≡ 0
   pub done : status ≡ 0 → Left act old now
   pub failed : status ≡ 4 → Interrupted act old now
+  pub logged : status ≡ 10 → UndoneIfOpen old now ⊎ Left act old now
   pub kept : KeepsAll status → SameOrUndone old now
   pub exact : KeepsAll status → status ≢ 5 → OpenedBelow act.limit old now
 
@@ -181,26 +191,37 @@ pub record VerifyRun (suffix : List ℕ) (files : List (List ℕ)) (old : List �
   pub done : status ≡ 0 → VerifiedAll suffix files old now
   pub stopped : status ≢ 0 → LeftAt (((status ≡ 4) ⊎ (status ≡ 8)) × Rose before after) suffix files old now
 
--- What a run leaves of the file of turns, which held this. Want of memory, status 5, may come before the file was opened or
--- in the midst of the plays.
-pub record TurnsRun (options : Options) (input : Input) (output : Output) (old : History) (before after status : ℕ) (now : History) : Type 0 where
+-- What a run leaves of the file of turns, which held this. Want of memory, status 5, and a log that failed, status 10, may
+-- come before the file was opened or in the midst of the plays.
+pub record TurnsRun (options : Options) (input : Input) (output : Output) (old : History) (before after status : ℕ) (now : History) (logs later : List Logged) : Type 0 where
   pub any : SameOrUndone old now ⊎ IsPlayedSoFar options old now ⊎ Rose before after
-  pub done : status ≡ 0 → IsPlayed options input output old now
+  pub done : status ≡ 0 → IsPlayed options input output logs later old now
   pub failed : status ≡ 4 → Rose before after
   pub wanting : status ≡ 5 → SameOrUndone old now ⊎ IsPlayedSoFar options old now
+  pub logged : status ≡ 10 → SameOrUndone old now ⊎ IsPlayedSoFar options old now
   pub unread : status ≡ 7 → now ≡ old
   pub kept : KeepsAll status → status ≢ 5 → status ≢ 7 → TurnOpened options old now
 
--- What a run leaves of the file of a session, which held this, and what it printed of it. Want of memory, status 5, may
--- come before the file was opened or in the midst of the commands, and a fault of the input or of the output, status 8,
--- in their midst.
-pub record SessionRun (limit : ℕ) (input : Input) (output : Output) (old : History) (before after status : ℕ) (now : History) : Type 0 where
-  pub any : SameOrUndone old now ⊎ IsServedSoFar limit input output old now ⊎ Rose before after
-  pub done : status ≡ 0 → IsServed limit input output End.Ended old now
-  pub malformed : status ≡ 7 → (at : ℕ) × IsServed limit input output (End.Malformed at) old now
-  pub failed : status ≡ 4 → Rose before after
-  pub wanting : status ≡ 5 → SameOrUndone old now ⊎ IsServedSoFar limit input output old now
+-- What logs heard of the opening of a file with these bytes for a session that didn't open it.
+abbrev pub HaltHeard : ℕ → List ℕ → List Logged → List Logged → Type 0
+HaltHeard limit img logs later = (halt : Halt) × HeardUnopened limit img logs later halt
+
+-- A file was opened for a session, if at all, and a failed call broke off its opening or the session.
+abbrev pub SessionBroken : ℕ → Input → Output → History → History → List Logged → List Logged → Type 0
+SessionBroken limit input output old now logs later = HeardUnopened limit (seen old) logs later H.Device ⊎ IsServedBroken limit input output old now logs later
+
+-- What a run leaves of the file of a session, which held this, what it printed of it, and what logs heard of it. Want of
+-- memory, status 5, and a log that failed, status 10, may come before the file was opened or in the midst of the commands,
+-- and a fault of the input or of the output, status 8, comes in their midst.
+pub record SessionRun (limit : ℕ) (input : Input) (output : Output) (old : History) (before after status : ℕ) (now : History) (logs later : List Logged) : Type 0 where
+  pub any : (SameOrUndone old now × HaltHeard limit (seen old) logs later) ⊎ IsServedSoFar limit input output old now logs later HeardOrRefused ⊎ (Rose before after × SessionBroken limit input output old now logs later)
+  pub done : status ≡ 0 → IsServed limit input output End.Ended old now logs later
+  pub malformed : status ≡ 7 → (at : ℕ) × IsServed limit input output (End.Malformed at) old now logs later
+  pub failed : status ≡ 4 → Rose before after × SessionBroken limit input output old now logs later
+  pub wanting : status ≡ 5 → (SameOrUndone old now × HaltHeard limit (seen old) logs later) ⊎ IsServedSoFar limit input output old now logs later HeardOrRefused
+  pub logged : status ≡ 10 → (SameOrUndone old now × HeardUnopened limit (seen old) logs later H.Log) ⊎ IsServedSoFar limit input output old now logs later (HeardUpTo Unheard.Failed)
   pub kept : KeepsAll status → status ≢ 5 → status ≢ 7 → TurnOpened (session_options limit) old now
+  pub halted : KeepsAll status → status ≢ 5 → status ≢ 7 → HaltHeard limit (seen old) logs later
 
 -- What a run leaves at the name of a file on which generated commands are to be done. Where the status is neither 0 nor
 -- 4 no file is left that wasn't there, unless the output failed, behind them or behind a failed call.
@@ -217,7 +238,7 @@ IsCopyName ask name = (more : List (List ℕ)) × (suffix : List ℕ) × (file :
     ⊎ ((ask ≡ Some (record { file = file; task = Verify more suffix })) × IsForRestoreAmong (file ∷ more) name))
 
 -- What a run leaves of the files: at most those that it is asked for change, as the status says.
-pub record LeavesFiles (run : Run) : Type 0 where
+pub record LeavesFiles (run : Run) (logs later : List Logged) : Type 0 where
   pub others : (name : List ℕ) → ((ask : Ask) → run.ask ≡ Some ask → MayChange ask.task ask.file name → ⊥) → run.now name ≡ run.old name
   pub acted : (act : Act) (name : List ℕ) (old : History) → ActsOn run act name old
       → (h : History) × (run.now name ≡ Some h) × ActRun act old run.faults_before run.faults_after run.status h
@@ -235,10 +256,10 @@ pub record LeavesFiles (run : Run) : Type 0 where
       → (h : History) × (run.now name ≡ Some h) × PrintRun limit old run.faults_before run.faults_after run.status h
   pub unprinted : (listing : Listing) (limit : ℕ) (name : List ℕ) → run.ask ≡ Some (record { file = name; task = Print listing limit }) → run.old name ≡ None → run.now name ≡ None
   pub turned : (options : Options) (name : List ℕ) (old : History) → run.ask ≡ Some (record { file = name; task = Turns options }) → run.old name ≡ Some old
-      → (h : History) × (run.now name ≡ Some h) × TurnsRun options run.input run.output old run.faults_before run.faults_after run.status h
+      → (h : History) × (run.now name ≡ Some h) × TurnsRun options run.input run.output old run.faults_before run.faults_after run.status h logs later
   pub unturned : (options : Options) (name : List ℕ) → run.ask ≡ Some (record { file = name; task = Turns options }) → run.old name ≡ None → run.now name ≡ None
   pub served : (limit : ℕ) (name : List ℕ) (old : History) → run.ask ≡ Some (record { file = name; task = Session limit }) → run.old name ≡ Some old
-      → (h : History) × (run.now name ≡ Some h) × SessionRun limit run.input run.output old run.faults_before run.faults_after run.status h
+      → (h : History) × (run.now name ≡ Some h) × SessionRun limit run.input run.output old run.faults_before run.faults_after run.status h logs later
   pub unserved : (limit : ℕ) (name : List ℕ) → run.ask ≡ Some (record { file = name; task = Session limit }) → run.old name ≡ None → run.now name ≡ None
   pub generated : (commands seed : ℕ) (name : List ℕ) → run.ask ≡ Some (record { file = name; task = Generate commands seed })
       → GeneratingRun commands seed run.output (run.old name) run.faults_before run.faults_after run.status (run.now name)
@@ -258,4 +279,11 @@ pub record Accounted (run : Run) : Type 0 where
   pub output_fault : run.status ≡ 8 → Rose run.output.faults_before run.output.faults_after ⊎ (IsTrue (ask_reads run.ask) × Rose run.input.faults_before run.input.faults_after)
   pub malformed : run.status ≡ 7 → IsTrue (ask_reads run.ask)
   pub input_fault_told : run.status ≢ 4 → run.status ≢ 8 → run.input.faults_after ≡ run.input.faults_before
-  pub known : Contains (0 ∷ 1 ∷ 2 ∷ 3 ∷ 4 ∷ 5 ∷ 6 ∷ 7 ∷ 8 ∷ 9 ∷ []) run.status
+  pub known : Contains (0 ∷ 1 ∷ 2 ∷ 3 ∷ 4 ∷ 5 ∷ 6 ∷ 7 ∷ 8 ∷ 9 ∷ 10 ∷ []) run.status
+
+-- The logs were told of a run what they hear of its command, by one ending, whose status the run has, or 5 where there was no memory for its
+-- line, or 8 where the output failed.
+pub record LogsAreTold (run : Run) (old new : List Logged) : Type 0 where
+  pub ending : Ending
+  pub exits : (run.status ≡ status_of ending) ⊎ ((run.status ≡ 5) × TakesMemory ending) ⊎ (run.status ≡ 8)
+  pub heard : AskHeard run.ask run.old run.now ending old new

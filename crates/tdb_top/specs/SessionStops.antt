@@ -10,7 +10,7 @@ use Rattle.tdb_tool.specs.declared.order.Order.{Order}
 use Rattle.tdb_top.specs.Commands.Session.{session_options}
 use Rattle.tdb_top.specs.Commands.Turns.{OpensToTurn}
 use Rattle.tdb_top.specs.Input.{Input}
-use Rattle.tdb_top.specs.Opening.{opened_bytes}
+use Rattle.tdb_open.specs.Opening.{opened_bytes}
 use Rattle.tdb_top.specs.Run.{Run}
 use Rattle.tdb_top.specs.Safe.{StopsSince}
 use Rattle.tdb_top.specs.Stops.{WroteLine}
@@ -24,6 +24,7 @@ abbrev pub StopsOfSession : ℕ → Input → History → History → Bool → L
 StopsOfSession limit input old now told before after =
     (orders : List Order) × (IsTrue input.tells → BeginsBy input.text orders) × (new : State)
     × SessionCame (form_of (opened_bytes (seen old))) (session_options limit) (opened_bytes (seen old)) orders new told before after (StopsSince (form_of (opened_bytes (seen old))) old now)
+    (λ lines. Unit {0})
 
 -- So it is of a file that is opened for a session, however that ends.
 abbrev pub StopsServed : ℕ → Input → Option History → Option History → Bool → List ℕ → List ℕ → Type 0

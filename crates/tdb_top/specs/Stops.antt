@@ -21,7 +21,7 @@ use Rattle.tdb_course.specs.Stops.{IsTransacted, Leads, OpensOnTheWay}
 use Rattle.tdb_top.specs.declared.ending.Ending.{Ending}
 use Rattle.tdb_top.specs.Commands.Turns.{OpensToTurn}
 use Rattle.tdb_top.specs.Ending.{text_of}
-use Rattle.tdb_top.specs.Opening.{opened_bytes}
+use Rattle.tdb_open.specs.Opening.{opened_bytes}
 use Rattle.tdb_top.specs.Playing.{PlaysEnd, UnlessBroken, Scene, IsStateAt}
 use Rattle.tdb_top.specs.Run.{Run}
 use Rattle.tdb_top.specs.Safe.{StopsSince}

@@ -11,6 +11,7 @@ ghost use Rattle.tdb_top.specs.Commands.Restore.{HeardBy, of_input};
 ghost use Rattle.tdb_top.specs.Commands.Session.{SessionHeld};
 ghost use Rattle.tdb_top.specs.Commands.Turns.{AllPlayed};
 ghost use Rattle.tdb_top.specs.Ending.{CountedFor};
+ghost use Rattle.tdb_top.specs.Heard.{TaskHeard};
 ghost use Rattle.tdb_top.specs.Input.{input_by};
 ghost use Rattle.tdb_top.specs.Output.{output_by};
 ghost use Rattle.tdb_top.specs.Reads.{AskEnds, reads_input};
@@ -33,15 +34,17 @@ use crate::look::look_on_file;
 use std::alloc::Global;
 use tdb_ask::{Ask, Task};
 use tdb_disk::{Files, Sink, Source};
+use tdb_log::Logs;
 
 /// Does over the files what is asked for. What is printed before the line of the ending is written to the output;
 /// where that fails, the rest isn't.
-pub(crate) fn answer_ask<F: Files, S: Source, K: Sink>(
+pub(crate) fn answer_ask<F: Files, S: Source, K: Sink, L: Logs>(
     alloc: Global,
     ask: &Ask,
     files: &mut F,
     input: &mut S,
     output: &mut K,
+    logs: &mut L,
 ) -> Result<Ending, Unprinted>
     requires fits { TaskFits (string_bytes ask.now.file) ask.now.task }
     requires free { (name : List ℕ) → F.is_taken files.old name ≡ false }
@@ -54,20 +57,21 @@ pub(crate) fn answer_ask<F: Files, S: Source, K: Sink>(
     ensures output_cause { HasCause (K.faults output.old) (K.faults output.new) result }
     ensures asked { ending_of result ≡ Usage → ⊥ }
     ensures played { (options : WorldOptions) → ask.now.task ≡ TurnsIs options → IsTrue F.D.tells → result ≡ Ok (Replied Played)
-        → AllPlayed options (input_by S.tells (S.left input.old) (S.faults input.old) (S.faults input.new)) (output_by K.tells (K.written output.old) (K.written output.new) (K.faults output.old) (K.faults output.new)) (F.held files.old (string_bytes ask.now.file)) (F.held files.new (string_bytes ask.now.file)) }
+        → AllPlayed options (input_by S.tells (S.left input.old) (S.faults input.old) (S.faults input.new)) (output_by K.tells (K.written output.old) (K.written output.new) (K.faults output.old) (K.faults output.new)) (L.logs logs.old) (L.logs logs.new) (F.held files.old (string_bytes ask.now.file)) (F.held files.new (string_bytes ask.now.file)) }
     ensures stops { (options : WorldOptions) → ask.now.task ≡ TurnsIs options → IsTrue F.D.tells
         → StopsHeld options (F.held files.old (string_bytes ask.now.file)) (F.held files.new (string_bytes ask.now.file)) K.tells (result ≡ Ok (Replied Played)) (K.written output.old) (K.written output.new) }
     ensures served { (limit : ℕ) → ask.now.task ≡ SessionIs limit → IsTrue F.D.tells
-        → SessionHeld limit (input_by S.tells (S.left input.old) (S.faults input.old) (S.faults input.new)) (F.held files.old (string_bytes ask.now.file)) (F.held files.new (string_bytes ask.now.file)) K.tells (K.written output.old) (K.written output.new) result }
+        → SessionHeld limit (input_by S.tells (S.left input.old) (S.faults input.old) (S.faults input.new)) (F.held files.old (string_bytes ask.now.file)) (F.held files.new (string_bytes ask.now.file)) K.tells (K.written output.old) (K.written output.new) (L.logs logs.old) (L.logs logs.new) result }
     ensures heard { HeardBy (S.faults input.old) (S.faults input.new) (ending_of result) }
     ensures unread { reads_input ask.now.task ≡ false → (input.new ≡ input.old) × (of_input (ending_of result) ≡ false) }
+    ensures told { IsTrue F.D.tells → TaskHeard ask.now.task (string_bytes ask.now.file) (F.held files.old) (F.held files.new) (ending_of result) (L.logs logs.old) (L.logs logs.new) }
 {
     let name = ask.file.as_str();
     match &ask.task {
-        Task::On(act) => Ok(act_on_file(alloc, name, act, files)),
-        Task::Read(look) => look_on_file(alloc, name, look, files, output),
+        Task::On(act) => Ok(act_on_file(alloc, name, act, files, logs)),
+        Task::Read(look) => look_on_file(alloc, name, look, files, output, logs),
         Task::Print { listing, limit } => {
-            print_on_file(alloc, name, *listing, *limit, files, output)
+            print_on_file(alloc, name, *listing, *limit, files, output, logs)
         }
         Task::Create(form) => {
             let creation = create_file(alloc, name, *form, files);
@@ -75,7 +79,7 @@ pub(crate) fn answer_ask<F: Files, S: Source, K: Sink>(
         }
         Task::Restore { limit } => Ok(restore_file(alloc, name, *limit, files, input)),
         Task::Backup { more, suffix } => {
-            Ok(back_up(alloc, name, more.as_slice(), suffix.as_str(), files))
+            Ok(back_up(alloc, name, more.as_slice(), suffix.as_str(), files, logs))
         }
         Task::Verify { more, suffix } => verify(
             alloc,
@@ -84,9 +88,10 @@ pub(crate) fn answer_ask<F: Files, S: Source, K: Sink>(
             suffix.as_str(),
             files,
             output,
+            logs,
         ),
-        Task::Turns(options) => turns_on_file(alloc, name, options, files, input, output),
-        Task::Session { limit } => session_on_file(alloc, name, *limit, files, input, output),
+        Task::Turns(options) => turns_on_file(alloc, name, options, files, input, output, logs),
+        Task::Session { limit } => session_on_file(alloc, name, *limit, files, input, output, logs),
         Task::Generate { commands, seed } => {
             Ok(generate_file(alloc, name, *commands, *seed, files))
         }

@@ -10,11 +10,11 @@ ghost use Rattle.tdb_top.specs.Ending.{status_of, text_of, TakesMemory, PrintedF
 ghost use Rattle.tdb_top.specs.Output.{output_by};
 
 use crate::commands::create::Creation;
-use crate::halt::{Halt, Refusal};
 use itoa::Buffer;
 use std::alloc::{AllocError, Global};
 use tdb_disk::{Sink, TakeRefusal};
 use tdb_dump::{data_line, escape, pair_line};
+use tdb_open::{Halt, Refusal};
 use tdb_words::{Bytes, What};
 use thiserror::Error;
 
@@ -96,6 +96,9 @@ pub(crate) enum Ending {
     /// A call of the files or of a disk failed.
     DeviceFault,
 
+    /// A log failed.
+    LogFault,
+
     /// A read of the input failed.
     InputFault,
 
@@ -133,6 +136,7 @@ impl From<Halt> for Ending {
             Halt::Refused { refusal } => Ending::Refused(refusal),
             Halt::Device => Ending::DeviceFault,
             Halt::Memory => Ending::NoMemory,
+            Halt::Log => Ending::LogFault,
         }
     }
 }
@@ -169,18 +173,16 @@ fn corrupt_line(alloc: Global, what: What, at: u64) -> Result<Bytes, AllocError>
     Ok(text)
 }
 
-impl Refusal {
-    /// The line that tells it, without a newline.
-    fn line(self, alloc: Global) -> Result<Bytes, AllocError>
-        ensures { IfOk result (λ text. text ++ 10 ∷ [] ≡ text_of (Refused self)) }
-    {
-        let mut number = Buffer::new();
-        match self {
-            Refusal::TooLong { len } => joined(alloc, b"toolong ", number.format(len).as_bytes()),
-            Refusal::Header { fault } => joined(alloc, b"header ", fault.as_str().as_bytes()),
-            Refusal::Corrupt { what, at } => corrupt_line(alloc, what, at),
-            Refusal::NeedsRecovery => Bytes::copy(alloc, b"needs recovery"),
-        }
+/// What is printed of a file that is refused, without a newline.
+fn refusal_line(alloc: Global, refusal: Refusal) -> Result<Bytes, AllocError>
+    ensures { IfOk result (λ text. text ++ 10 ∷ [] ≡ text_of (Refused refusal)) }
+{
+    let mut number = Buffer::new();
+    match refusal {
+        Refusal::TooLong { len } => joined(alloc, b"toolong ", number.format(len).as_bytes()),
+        Refusal::Header { fault } => joined(alloc, b"header ", fault.as_str().as_bytes()),
+        Refusal::Corrupt { what, at } => corrupt_line(alloc, what, at),
+        Refusal::NeedsRecovery => Bytes::copy(alloc, b"needs recovery"),
     }
 }
 
@@ -269,6 +271,7 @@ impl Ending {
             Ending::Malformed { at: _ } => 7,
             Ending::InputFault => 8,
             Ending::Missing(_) | Ending::There(_) => 9,
+            Ending::LogFault => 10,
         })
     }
 
@@ -291,6 +294,7 @@ impl Ending {
             Ending::Refused(Refusal::NeedsRecovery) => Some(b"needs recovery\n"),
             Ending::DeviceFault => Some(b"device fault\n"),
             Ending::InputFault => Some(b"input fault\n"),
+            Ending::LogFault => Some(b"log fault\n"),
             Ending::NoMemory => Some(b"memory\n"),
             _ => None,
         }
@@ -311,7 +315,7 @@ impl Ending {
                 pair_line(alloc, key.as_slice(), value.as_slice())
             }
             Ending::Replied(Reply::Full { len, need }) => full_line(alloc, *len, *need),
-            Ending::Refused(refusal) => refusal.line(alloc),
+            Ending::Refused(refusal) => refusal_line(alloc, *refusal),
             Ending::Malformed { at } => {
                 let mut number = Buffer::new();
                 joined(alloc, b"input malformed at ", number.format(*at).as_bytes())

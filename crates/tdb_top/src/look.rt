@@ -1,25 +1,28 @@
 // The commands that read a file alone: how it is taken, opened, looked into and given back, once for all of them.
 
-ghost use Rattle.std.specs.Prelude.{◌≡◌, ℕ, List, Some, false, IsTrue};
+ghost use Rattle.std.specs.Prelude.{◌≡◌, ◌≢◌, ℕ, List, [], Some, false, IsTrue};
 ghost use Rattle.tdb_disk.specs.Count.{HasCause};
 ghost use Rattle.tdb_disk.specs.History.{seen};
 ghost use Rattle.tdb_disk.specs.Names.{SameBut};
 ghost use Rattle.tdb_ask.specs.declared.ask.Task.TheVariants.{Read as ReadIs};
-ghost use Rattle.tdb_top.specs.declared.ending.Ending.TheVariants.{Usage};
+ghost use Rattle.tdb_top.specs.declared.ending.Ending.TheVariants.{Usage, LogFault};
 ghost use Rattle.tdb_top.specs.Commands.Restore.{of_input};
 ghost use Rattle.tdb_top.specs.Ending.{TaskCause, CountedBy};
 ghost use Rattle.tdb_ask.specs.Ask.{LookFits};
+ghost use Rattle.tdb_open.specs.Notices.{ReadingHeard};
+ghost use Rattle.tdb_top.specs.Heard.{FileHeard, LookHeard, ToldFor};
 ghost use Rattle.tdb_top.specs.Looks.{LookEnds, LookText, look_tells, ending_of, Began};
-ghost use Rattle.tdb_top.specs.Opening.{CanRead, IsCheckedOn};
+ghost use Rattle.tdb_open.specs.Opening.{CanRead, IsCheckedOn};
 
 use crate::commands::dump::value;
 use crate::commands::print::print_pairs;
 use crate::ending::{Ending, Unprinted};
-use crate::opening::Opened;
 use std::alloc::Global;
 use tdb_ask::Look;
 use tdb_disk::{Disk, Files, Sink, Take};
 use tdb_dump::Listing;
+use tdb_log::Logs;
+use tdb_open::Opened;
 
 /// Looks into an opened file. What a dump prints is written to the output; where that fails, the rest isn't.
 fn look_into<D: Disk, K: Sink>(
@@ -39,6 +42,7 @@ fn look_into<D: Disk, K: Sink>(
     ensures output_cause { HasCause (K.faults output.old) (K.faults output.new) result }
     ensures asked { ending_of result ≡ Usage → ⊥ }
     ensures unread { of_input (ending_of result) ≡ false }
+    ensures unlogged { ending_of result ≢ LogFault }
 {
     match look {
         Look::Dump => print_pairs(alloc, disk, opened, Listing::Pairs, output),
@@ -47,11 +51,12 @@ fn look_into<D: Disk, K: Sink>(
 }
 
 /// Opens the file on a disk, and looks into it.
-fn look_on_disk<D: Disk, K: Sink>(
+fn look_on_disk<D: Disk, K: Sink, L: Logs>(
     alloc: Global,
     look: &Look,
     disk: &mut D,
     output: &mut K,
+    logs: &mut L,
 ) -> Result<Ending, Unprinted>
     requires fits { LookFits look.now }
     ensures ends { IsTrue D.tells → LookEnds look.now (seen (D.history disk.old)) (ending_of result) }
@@ -61,20 +66,22 @@ fn look_on_disk<D: Disk, K: Sink>(
     ensures output_cause { HasCause (K.faults output.old) (K.faults output.new) result }
     ensures asked { ending_of result ≡ Usage → ⊥ }
     ensures unread { of_input (ending_of result) ≡ false }
+    ensures heard { IsTrue D.tells → FileHeard (seen (D.history disk.old)) (ReadingHeard (seen (D.history disk.old))) (ending_of result) (ToldFor (ending_of result) []) (L.logs logs.old) (L.logs logs.new) }
 {
-    match Opened::open_to_read(alloc, disk) {
+    match Opened::open_to_read(alloc, disk, logs) {
         Ok(opened) => look_into(alloc, look, disk, &opened, output),
         Err(halt) => Ok(Ending::from(halt)),
     }
 }
 
 /// Looks into the file of this name, which stays as it is.
-pub(crate) fn look_on_file<F: Files, K: Sink>(
+pub(crate) fn look_on_file<F: Files, K: Sink, L: Logs>(
     alloc: Global,
     name: &str,
     look: &Look,
     files: &mut F,
     output: &mut K,
+    logs: &mut L,
 ) -> Result<Ending, Unprinted>
     requires fits { LookFits look.now }
     requires free { (other : List ℕ) → F.is_taken files.old other ≡ false }
@@ -87,10 +94,11 @@ pub(crate) fn look_on_file<F: Files, K: Sink>(
     ensures output_cause { HasCause (K.faults output.old) (K.faults output.new) result }
     ensures asked { ending_of result ≡ Usage → ⊥ }
     ensures unread { of_input (ending_of result) ≡ false }
+    ensures heard { IsTrue F.D.tells → LookHeard (F.held files.old name.now) (ending_of result) (L.logs logs.old) (L.logs logs.new) }
 {
     match files.take(alloc, name, Take::ReadOnly) {
         Ok(mut disk) => {
-            let looked = look_on_disk(alloc, look, &mut disk, output);
+            let looked = look_on_disk(alloc, look, &mut disk, output, logs);
             files.give(name, disk);
             looked
         }

@@ -1,4 +1,4 @@
-// Plays that are taken over a file, and told line by line.
+// Plays that are taken over a file, and told line by line; logs are told what becomes of the file.
 
 ghost use Rattle.std.specs.Prelude.{◌≡◌, ◌<◌, ◌≤◌, ◌++◌, [], ℕ, List, Ok, IsTrue, OnOk, OnErr};
 ghost use Rattle.tdb_disk.specs.Count.{HasCause, HasCauseOf, Rose};
@@ -15,11 +15,12 @@ ghost use Rattle.tdb_top.specs.Playing.{UnlessBroken, OnBroken, IsUnbroken, Play
 ghost use Rattle.tdb_top.specs.Stops.{StopsOfTurns, StopsOver, StopsTold};
 
 use crate::ending::Unprinted;
-use crate::halt::Fault;
 use std::alloc::Global;
 use tdb_course::{RunFault, finish_report, run};
 use tdb_disk::{Disk, Sink};
 use tdb_dump::WriteRefusal;
+use tdb_log::{LogRefusal, Logs};
+use tdb_open::Fault;
 use tdb_plays::{Options, Play, TurnReport};
 use tdb_script::write_line;
 use tdb_whole::World;
@@ -41,9 +42,10 @@ fn tell<K: Sink>(alloc: Global, report: &TurnReport, output: &mut K) -> Result<(
     Ok(())
 }
 
-/// How plays end, by how they were taken and how they were told.
+/// How plays end, by how they were taken and how they were told. A failed call of the disk or of the output counts
+/// before a log's refusal.
 fn ended(
-    played: Result<(), RunFault>,
+    played: Result<Result<(), LogRefusal>, RunFault>,
     told: Result<(), WriteRefusal>,
 ) -> Result<Result<(), Fault>, Unprinted>
     ensures { result ≡ end_of played told }
@@ -52,52 +54,55 @@ fn ended(
         (Err(RunFault::Io), Err(WriteRefusal::Failed)) => Err(Unprinted::Fault),
         (Err(RunFault::Io), _) => Ok(Err(Fault::Device)),
         (_, Err(WriteRefusal::Failed)) => Err(Unprinted::Report),
+        (Ok(Err(refusal)), _) => Ok(Err(Fault::from(refusal))),
         (Err(RunFault::Memory), _) => Ok(Err(Fault::Memory)),
         (_, Err(WriteRefusal::Memory)) => Ok(Err(Fault::Memory)),
-        (Ok(()), Ok(())) => Ok(Ok(())),
+        (Ok(Ok(())), Ok(())) => Ok(Ok(())),
     }
 }
 
-/// Takes plays, and tells them.
-fn play_some<D: Disk, K: Sink>(
+/// Takes plays, and tells them. The lines of the play whose notice a log refused are told too.
+fn play_some<D: Disk, K: Sink, L: Logs>(
     alloc: Global,
     world: &mut World,
     disk: &mut D,
     plays: &[Play],
     output: &mut K,
+    logs: &mut L,
 ) -> Result<Result<(), Fault>, Unprinted>
     requires fits { WorldFits world.old (seen (D.history disk.old)) (D.size disk.old) }
     requires playable { ArePlayable plays.now }
-    ensures ran { Ran D.tells K.tells (scene world.old (D.history disk.old) (D.size disk.old) (D.faults disk.old) (K.written output.old))
-        (scene world.new (D.history disk.new) (D.size disk.new) (D.faults disk.new) (K.written output.new)) plays.now result }
-    ensures stops { StopsTold D.tells K.tells (scene world.old (D.history disk.old) (D.size disk.old) (D.faults disk.old) (K.written output.old))
-        (scene world.new (D.history disk.new) (D.size disk.new) (D.faults disk.new) (K.written output.new)) result }
+    ensures ran { Ran D.tells K.tells (scene world.old (D.history disk.old) (D.size disk.old) (D.faults disk.old) (K.written output.old) (L.logs logs.old))
+        (scene world.new (D.history disk.new) (D.size disk.new) (D.faults disk.new) (K.written output.new) (L.logs logs.new)) plays.now result }
+    ensures stops { StopsTold D.tells K.tells (scene world.old (D.history disk.old) (D.size disk.old) (D.faults disk.old) (K.written output.old) (L.logs logs.old))
+        (scene world.new (D.history disk.new) (D.size disk.new) (D.faults disk.new) (K.written output.new) (L.logs logs.new)) result }
     ensures cause { HasCause (K.faults output.old) (K.faults output.new) result }
 {
     let mut report = TurnReport::new(alloc);
-    let played = run(world, disk, plays, &mut report);
+    let played = run(world, disk, plays, &mut report, logs);
     let told = tell(alloc, &report, output);
     ended(played, told)
 }
 
 /// Takes plays one after the other, and tells each as it is taken.
-fn play_each<D: Disk, K: Sink>(
+fn play_each<D: Disk, K: Sink, L: Logs>(
     alloc: Global,
     world: &mut World,
     disk: &mut D,
     plays: &[Play],
     output: &mut K,
+    logs: &mut L,
 ) -> Result<Result<(), Fault>, Unprinted>
     requires fits { WorldFits world.old (seen (D.history disk.old)) (D.size disk.old) }
     requires playable { ArePlayable plays.now }
-    ensures ran { Ran D.tells K.tells (scene world.old (D.history disk.old) (D.size disk.old) (D.faults disk.old) (K.written output.old))
-        (scene world.new (D.history disk.new) (D.size disk.new) (D.faults disk.new) (K.written output.new)) plays.now result }
-    ensures stops { StopsTold D.tells K.tells (scene world.old (D.history disk.old) (D.size disk.old) (D.faults disk.old) (K.written output.old))
-        (scene world.new (D.history disk.new) (D.size disk.new) (D.faults disk.new) (K.written output.new)) result }
+    ensures ran { Ran D.tells K.tells (scene world.old (D.history disk.old) (D.size disk.old) (D.faults disk.old) (K.written output.old) (L.logs logs.old))
+        (scene world.new (D.history disk.new) (D.size disk.new) (D.faults disk.new) (K.written output.new) (L.logs logs.new)) plays.now result }
+    ensures stops { StopsTold D.tells K.tells (scene world.old (D.history disk.old) (D.size disk.old) (D.faults disk.old) (K.written output.old) (L.logs logs.old))
+        (scene world.new (D.history disk.new) (D.size disk.new) (D.faults disk.new) (K.written output.new) (L.logs logs.new)) result }
     ensures cause { HasCause (K.faults output.old) (K.faults output.new) result }
 {
     for i in 0..plays.len() {
-        match play_some(alloc, world, disk, &plays[i..i + 1], output)? {
+        match play_some(alloc, world, disk, &plays[i..i + 1], output, logs)? {
             Ok(()) => {}
             Err(fault) => return Ok(Err(fault)),
         }
@@ -121,48 +126,51 @@ fn tell_unfinished<K: Sink>(
         return Ok(Err(Fault::Memory));
     };
     let told = tell(alloc, &report, output);
-    ended(Ok(()), told)
+    ended(Ok(Ok(())), told)
 }
 
 /// Takes all plays in a world, and tells them and the commands that are unfinished then.
-fn play_in<D: Disk, K: Sink>(
+fn play_in<D: Disk, K: Sink, L: Logs>(
     alloc: Global,
     world: &mut World,
     disk: &mut D,
     plays: &[Play],
     output: &mut K,
+    logs: &mut L,
 ) -> Result<Result<(), Fault>, Unprinted>
     requires fits { WorldFits world.old (seen (D.history disk.old)) (D.size disk.old) }
     requires playable { ArePlayable plays.now }
     ensures played { IsTrue D.tells → (state : State) → IsJustLoaded world.old (D.history disk.old) state
-        → PlayedOver (form_at world.old) (options_at world.old) (seen (D.history disk.old)) plays.now (seen (D.history disk.new)) K.tells (K.written output.old) (K.written output.new) result }
+        → PlayedOver (form_at world.old) (options_at world.old) (seen (D.history disk.old)) plays.now (seen (D.history disk.new)) K.tells (K.written output.old) (K.written output.new) (L.logs logs.old) (L.logs logs.new) result }
     ensures rises { D.faults disk.old ≤ D.faults disk.new }
     ensures quiet { UnlessBroken result (D.faults disk.new ≡ D.faults disk.old) }
     ensures rose { IsTrue D.tells → (state : State) → IsJustLoaded world.old (D.history disk.old) state → OnBroken result (Rose (D.faults disk.old) (D.faults disk.new)) }
     ensures stops { StopsOver world.old D.tells K.tells (result ≡ Ok (Ok tt)) (D.history disk.old) (D.history disk.new) (K.written output.old) (K.written output.new) }
     ensures cause { HasCause (K.faults output.old) (K.faults output.new) result }
 {
-    match play_each(alloc, world, disk, plays, output)? {
+    match play_each(alloc, world, disk, plays, output, logs)? {
         Ok(()) => tell_unfinished(alloc, world, output),
         Err(fault) => Ok(Err(fault)),
     }
 }
 
-/// Takes all plays over the opened file on a disk, and tells them and the commands that are unfinished then.
-pub(crate) fn play_all<D: Disk, K: Sink>(
+/// Takes all plays over the opened file on a disk, and tells them and the commands that are unfinished then. The logs
+/// are told what the plays do to the file, and nothing of the unfinished commands.
+pub(crate) fn play_all<D: Disk, K: Sink, L: Logs>(
     alloc: Global,
     disk: &mut D,
     header: &Header,
     options: &Options,
     plays: &[Play],
     output: &mut K,
+    logs: &mut L,
 ) -> Result<Result<(), Fault>, Unprinted>
     requires chains { 0 < header.now.hash_size }
     requires limit { options.now.limit ≤ 4294963200 }
     requires short { D.size disk.old ≤ options.now.limit }
     requires accepted { IsTrue D.tells → AcceptWith (form_in header.now) (seen (D.history disk.old)) [] }
     requires playable { ArePlayable plays.now }
-    ensures played { IsTrue D.tells → PlayedOver (form_in header.now) options.now (seen (D.history disk.old)) plays.now (seen (D.history disk.new)) K.tells (K.written output.old) (K.written output.new) result }
+    ensures played { IsTrue D.tells → PlayedOver (form_in header.now) options.now (seen (D.history disk.old)) plays.now (seen (D.history disk.new)) K.tells (K.written output.old) (K.written output.new) (L.logs logs.old) (L.logs logs.new) result }
     ensures rises { D.faults disk.old ≤ D.faults disk.new }
     ensures quiet { UnlessBroken result (D.faults disk.new ≡ D.faults disk.old) }
     ensures rose { IsTrue D.tells → OnBroken result (Rose (D.faults disk.old) (D.faults disk.new)) }
@@ -170,7 +178,7 @@ pub(crate) fn play_all<D: Disk, K: Sink>(
     ensures cause { HasCause (K.faults output.old) (K.faults output.new) result }
 {
     let mut world = World::new(alloc, header, options);
-    let played = play_in(alloc, &mut world, disk, plays, output);
+    let played = play_in(alloc, &mut world, disk, plays, output, logs);
     world.end();
     played
 }

@@ -13,12 +13,13 @@ ghost use Rattle.tdb_top.specs.Output.{output_by};
 ghost use Rattle.tdb_top.specs.Commands.Restore.{HeardBy, of_input};
 ghost use Rattle.tdb_top.specs.Commands.Session.{SessionHeld};
 ghost use Rattle.tdb_top.specs.Commands.Turns.{AllPlayed};
+ghost use Rattle.tdb_top.specs.Heard.{AskHeard};
 ghost use Rattle.tdb_top.specs.Input.{input_by};
 ghost use Rattle.tdb_top.specs.Left.{Leaving};
 ghost use Rattle.tdb_top.specs.Looks.{ending_of, Began};
 ghost use Rattle.tdb_top.specs.Printed.{TextBefore, ask_tells, Finishes};
 ghost use Rattle.tdb_top.specs.Reads.{ask_reads};
-ghost use Rattle.tdb_top.specs.Run.{run_by, MayEnd, Answered, RefusesExactly, LeavesFiles, Accounted};
+ghost use Rattle.tdb_top.specs.Run.{run_by, MayEnd, Answered, RefusesExactly, LeavesFiles, LogsAreTold, Accounted};
 ghost use Rattle.tdb_top.specs.SessionStops.{SessionsStopSafely};
 ghost use Rattle.tdb_top.specs.Stops.{StopsHeld, TurnsStopSafely};
 
@@ -27,15 +28,17 @@ use crate::ending::{Ending, Status, Unprinted, print};
 use std::alloc::Global;
 use tdb_ask::Ask;
 use tdb_disk::{Files, Sink, Source};
+use tdb_log::Logs;
 
 /// Answers the words over the files. What is printed before the line of the ending is written to the output; where that
 /// fails, the rest isn't.
-fn answer<F: Files, S: Source, K: Sink>(
+fn answer<F: Files, S: Source, K: Sink, L: Logs>(
     alloc: Global,
     words: &[String],
     files: &mut F,
     input: &mut S,
     output: &mut K,
+    logs: &mut L,
 ) -> Result<Ending, Unprinted>
     requires { (name : List ℕ) → F.is_taken files.old name ≡ false }
     ensures cause { IsTrue F.D.tells → MayEnd (ask_of (map string_bytes words.now)) (F.held files.old) (input_by S.tells (S.left input.old) (S.faults input.old) (S.faults input.new)) (F.faults files.old) (F.faults files.new) (ending_of result) }
@@ -47,16 +50,17 @@ fn answer<F: Files, S: Source, K: Sink>(
     ensures heard { HeardBy (S.faults input.old) (S.faults input.new) (ending_of result) }
     ensures unread { ask_reads (ask_of (map string_bytes words.now)) ≡ false → (input.new ≡ input.old) × (of_input (ending_of result) ≡ false) }
     ensures played { (options : Options) (name : List ℕ) → ask_of (map string_bytes words.now) ≡ Some (record { file = name; task = TurnsIs options }) → IsTrue F.D.tells → result ≡ Ok (Replied Played)
-        → AllPlayed options (input_by S.tells (S.left input.old) (S.faults input.old) (S.faults input.new)) (output_by K.tells (K.written output.old) (K.written output.new) (K.faults output.old) (K.faults output.new)) (F.held files.old name) (F.held files.new name) }
+        → AllPlayed options (input_by S.tells (S.left input.old) (S.faults input.old) (S.faults input.new)) (output_by K.tells (K.written output.old) (K.written output.new) (K.faults output.old) (K.faults output.new)) (L.logs logs.old) (L.logs logs.new) (F.held files.old name) (F.held files.new name) }
     ensures stops { (options : Options) (name : List ℕ) → ask_of (map string_bytes words.now) ≡ Some (record { file = name; task = TurnsIs options }) → IsTrue F.D.tells
         → StopsHeld options (F.held files.old name) (F.held files.new name) K.tells (result ≡ Ok (Replied Played)) (K.written output.old) (K.written output.new) }
     ensures served { (limit : ℕ) (name : List ℕ) → ask_of (map string_bytes words.now) ≡ Some (record { file = name; task = SessionIs limit }) → IsTrue F.D.tells
-        → SessionHeld limit (input_by S.tells (S.left input.old) (S.faults input.old) (S.faults input.new)) (F.held files.old name) (F.held files.new name) K.tells (K.written output.old) (K.written output.new) result }
+        → SessionHeld limit (input_by S.tells (S.left input.old) (S.faults input.old) (S.faults input.new)) (F.held files.old name) (F.held files.new name) K.tells (K.written output.old) (K.written output.new) (L.logs logs.old) (L.logs logs.new) result }
     ensures usage { ending_of result ≡ Usage → ask_of (map string_bytes words.now) ≡ None }
     ensures usage_exact { ask_of (map string_bytes words.now) ≡ None → (ending_of result ≡ Usage) ⊎ (ending_of result ≡ NoMemory) }
+    ensures told { IsTrue F.D.tells → AskHeard (ask_of (map string_bytes words.now)) (F.held files.old) (F.held files.new) (ending_of result) (L.logs logs.old) (L.logs logs.new) }
 {
     match Ask::of(alloc, words) {
-        Ok(Some(ask)) => answer_ask(alloc, &ask, files, input, output),
+        Ok(Some(ask)) => answer_ask(alloc, &ask, files, input, output, logs),
         Ok(None) => Ok(Ending::Usage),
         Err(_) => Ok(Ending::NoMemory),
     }
@@ -97,6 +101,7 @@ fn finish<K: Sink>(alloc: Global, answered: &Result<Ending, Unprinted>, output: 
 /// | 8 | a read of the input failed | `input fault` |
 /// | 8 | the output failed | a part of what was due, from its first byte on |
 /// | 9 | there is no file of this name, or there is one that was to be made | `missing NAME`, `there NAME` |
+/// | 10 | a log failed | `log fault` |
 ///
 /// The commands `tool FILE show KEY`, `tool FILE insert KEY DATA` and `tool FILE check` open the file first: its
 /// length is tested and its header, what its undo area keeps is undone where the gate of that is open, and then the
@@ -131,12 +136,17 @@ fn finish<K: Sink>(alloc: Global, answered: &Result<Ending, Unprinted>, output: 
 /// The command `gen N SEED FILE` makes a file as `create` does, has N generated commands of three openers done on it,
 /// checks the whole file, and syncs. Its time is that of the commands and of the check. Where not all are done the file
 /// is removed again.
-pub fn run<F: Files, S: Source, K: Sink>(
+///
+/// The last of the logs is told what becomes of each file that is opened: the undo, what the check counted or the fault for
+/// which the file is refused, the growth by an act, and what turns and sessions do. A notice that it refuses ends the run.
+/// What an act did stands then: where the log doesn't take its growth, the status is 10, also where the log wants memory.
+pub fn run<F: Files, S: Source, K: Sink, L: Logs>(
     alloc: Global,
     words: &[String],
     files: &mut F,
     input: &mut S,
     output: &mut K,
+    logs: &mut L,
 ) -> Status
     requires { (name : List ℕ) → F.is_taken files.old name ≡ false }
 
@@ -149,7 +159,7 @@ pub fn run<F: Files, S: Source, K: Sink>(
 
     // At most the file that is asked for changes, and what stands at the names of a backup or a verification, and they are
     // left as the status says.
-    ensures left { IsTrue F.D.tells → LeavesFiles (run_by words.now (F.held files.old) (F.held files.new) (F.faults files.old) (F.faults files.new) (input_by S.tells (S.left input.old) (S.faults input.old) (S.faults input.new)) (output_by K.tells (K.written output.old) (K.written output.new) (K.faults output.old) (K.faults output.new)) result.0) }
+    ensures left { IsTrue F.D.tells → LeavesFiles (run_by words.now (F.held files.old) (F.held files.new) (F.faults files.old) (F.faults files.new) (input_by S.tells (S.left input.old) (S.faults input.old) (S.faults input.new)) (output_by K.tells (K.written output.old) (K.written output.new) (K.faults output.old) (K.faults output.new)) result.0) (L.logs logs.old) (L.logs logs.new) }
 
     // A stop at any moment of a run of turns leaves a file that opens to a map that their report passes, while nothing is
     // changed outside a transaction.
@@ -159,6 +169,9 @@ pub fn run<F: Files, S: Source, K: Sink>(
     // outside a transaction.
     ensures stopped { IsTrue F.D.tells → SessionsStopSafely (run_by words.now (F.held files.old) (F.held files.new) (F.faults files.old) (F.faults files.new) (input_by S.tells (S.left input.old) (S.faults input.old) (S.faults input.new)) (output_by K.tells (K.written output.old) (K.written output.new) (K.faults output.old) (K.faults output.new)) result.0) }
 
+    // The last log is told what becomes of the files, up to a notice that it refuses.
+    ensures told { IsTrue F.D.tells → LogsAreTold (run_by words.now (F.held files.old) (F.held files.new) (F.faults files.old) (F.faults files.new) (input_by S.tells (S.left input.old) (S.faults input.old) (S.faults input.new)) (output_by K.tells (K.written output.old) (K.written output.new) (K.faults output.old) (K.faults output.new)) result.0) (L.logs logs.old) (L.logs logs.new) }
+
     // Whatever the files and the output tell: the usage comes exactly where the words ask for nothing, and each failed
     // call is told.
     ensures accounted { Accounted (run_by words.now (F.held files.old) (F.held files.new) (F.faults files.old) (F.faults files.new) (input_by S.tells (S.left input.old) (S.faults input.old) (S.faults input.new)) (output_by K.tells (K.written output.old) (K.written output.new) (K.faults output.old) (K.faults output.new)) result.0) }
@@ -167,6 +180,6 @@ pub fn run<F: Files, S: Source, K: Sink>(
     ensures given_back { (name : List ℕ) → F.is_taken files.new name ≡ false }
     ensures input_untouched { ask_reads (ask_of (map string_bytes words.now)) ≡ false → input.new ≡ input.old }
 {
-    let answered = answer(alloc, words, files, input, output);
+    let answered = answer(alloc, words, files, input, output, logs);
     finish(alloc, &answered, output)
 }

@@ -18,6 +18,8 @@ mod limits;
 #[cfg(test)]
 mod lines;
 #[cfg(test)]
+mod logs;
+#[cfg(test)]
 mod options;
 #[cfg(test)]
 mod printing;

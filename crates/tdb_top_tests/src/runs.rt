@@ -5,6 +5,7 @@ ghost use Rattle.tdb_disk.specs.MemFiles.{name_is_taken};
 
 use std::alloc::{AllocError, Global};
 use tdb_disk::{Call, MemFiles, MemSink, MemSource};
+use tdb_log::Log;
 use tdb_top::{Status, run};
 
 pub(crate) const USAGE: &str = "usage: tdb COMMAND [OPTIONS] FILE [WORDS]\n";
@@ -41,7 +42,8 @@ pub(crate) fn run_with(
     for word in words.split(' ') {
         list.push(String::from_str(alloc, word)?)?;
     }
-    let Status(status) = run(alloc, &list, files, &mut input, output);
+    let mut logs: Vec<Box<dyn Log>> = Vec::new(alloc);
+    let Status(status) = run(alloc, &list, files, &mut input, output, &mut logs);
     Ok((status, output.as_slice().to_vec(alloc)?))
 }
 

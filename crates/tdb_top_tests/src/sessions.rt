@@ -8,6 +8,7 @@ use crate::runs::{USAGE, run_on};
 use std::alloc::{AllocError, Global};
 use std::test::Fail;
 use tdb_disk::{Call, MemFiles, MemSink, MemSource};
+use tdb_log::Log;
 use tdb_top::{Status, run};
 
 /// A store and a look, and then a line that is no command.
@@ -121,7 +122,15 @@ fn session_on(
         String::from_str(alloc, "tool")?,
         String::from_str(alloc, "f.tdb")?,
     ]?;
-    let Status(status) = run(alloc, &words, &mut files, &mut input, &mut output);
+    let mut logs: Vec<Box<dyn Log>> = Vec::new(alloc);
+    let Status(status) = run(
+        alloc,
+        &words,
+        &mut files,
+        &mut input,
+        &mut output,
+        &mut logs,
+    );
     let left = files.get("f.tdb").unwrap_or(&[]).to_vec(alloc)?;
     Ok((status, output.as_slice().to_vec(alloc)?, left))
 }

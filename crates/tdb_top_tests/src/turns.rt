@@ -60,7 +60,7 @@ const DEATHS: &str = "open\ngive 1 store a 2\nturn 1\ndie 1\ngo 1\ndie 1\ndie 1\
 const DEATHS_TOLD: &str = "1 open\n1 step\n1 occupied\n1 done ok\n1 died\n1 absent\n";
 
 /// A commit takes turns, and another opener's turns lie between them.
-const COMMIT: &str =
+pub(crate) const COMMIT: &str =
     "open\nopen\ndo 1 start\ndo 1 store a 9\ndo 2 fetch a\ngive 2 store b 2\nturn 2\ndo 1 commit\ngo 2\ndo 2 fetch a\n";
 
 const COMMIT_TOLD: &str =
@@ -74,7 +74,7 @@ const DOOMED_TOLD: &str =
     "1 open\n1 step\n1 step\n1 done ok\n1 done ok\n1 done ok\n1 done ok\n1 done ok\n1 done doomed\n1 step\n1 done data(1) = \"1\"\n";
 
 /// The opener of a prepared transaction dies, and its gate is undone before the next turn.
-const PREPARED: &str =
+pub(crate) const PREPARED: &str =
     "open\nopen\ndo 1 start\ndo 1 store a 9\ndo 1 prepare\ngive 2 fetch a\nturn 2\ndie 1\ngo 2\n";
 
 const PREPARED_TOLD: &str =

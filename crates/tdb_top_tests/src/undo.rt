@@ -24,7 +24,7 @@ const OPEN_GATE: [Change; 11] = [
 
 /// The file of one record after its value became `9` and its sequence number 5, with an undo area that keeps what was
 /// before. These words are changed in it.
-fn stopped(words: &[Change]) -> [u8; 8192] {
+pub(crate) fn stopped(words: &[Change]) -> [u8; 8192] {
     let mut image = [0; 8192];
     image[..4096].copy_from_slice(&one_record());
     image[4089] = b'9';

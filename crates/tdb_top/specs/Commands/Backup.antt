@@ -1,5 +1,5 @@
 -- The command that copies files, each to a name beside its own: what it leaves at the names, and why it ends.
-use Rattle.std.specs.Prelude.{◌≡◌, ◌≢◌, ◌⊎◌, ◌≤◌, ℕ, Bool, true, false, IsTrue, Option, None, Some, List, [], ◌∷◌, Result, Ok, Err}
+use Rattle.std.specs.Prelude.{◌≡◌, ◌≢◌, ◌⊎◌, ◌≤◌, ℕ, Bool, false, IsTrue, Option, None, Some, List, [], ◌∷◌, Result, Ok, Err}
 use Rattle.tdb_disk.specs.Count.{Rose}
 use Rattle.tdb_disk.specs.History.{History, seen}
 use Rattle.tdb_disk.specs.Stop.{Quiet}
@@ -10,13 +10,13 @@ use Rattle.tdb_backup.specs.Building.{CopyCause}
 use Rattle.tdb_backup.specs.declared.refusal.CopyRefusal.{CopyRefusal}
 use Rattle.tdb_backup.specs.declared.refusal.CopyRefusal.TheVariants as C
 use Rattle.tdb_top.specs.declared.ending.Ending.{Ending}
-use Rattle.tdb_top.specs.declared.ending.Ending.TheVariants.{Replied, Refused, Missing, There, Usage, DeviceFault, InputFault, Malformed, NoMemory}
+use Rattle.tdb_top.specs.declared.ending.Ending.TheVariants.{Replied, Refused, Missing, There, Usage, DeviceFault, InputFault, Malformed, NoMemory, LogFault}
 use Rattle.tdb_top.specs.declared.ending.Reply.{Reply}
-use Rattle.tdb_top.specs.declared.halt.Refusal.{Refusal}
+use Rattle.tdb_open.specs.declared.halt.Refusal.{Refusal}
 use Rattle.tdb_ask.specs.declared.limits.TheConstants.{LONGEST_FILE}
 use Rattle.tdb_ask.specs.CopyNames.{copy_name, new_name, IsNameAmong}
 use Rattle.tdb_top.specs.Commands.Check.{keys_in}
-use Rattle.tdb_top.specs.Opening.{opened_bytes, CanOpen, IsRefused, SameOrUndone, UndoneIfOpen, LookBroken, HeldOrUndone, HeldBroken}
+use Rattle.tdb_open.specs.Opening.{opened_bytes, CanOpen, IsRefused, SameOrUndone, UndoneIfOpen, LookBroken, HeldOrUndone, HeldBroken}
 
 -- A file is a copy of an image: it is accepted, has the same form and the same map, and all of it is on the medium.
 pub record IsCopyOf (img : List ℕ) (now : History) : Type 0 where
@@ -103,7 +103,7 @@ BackupEnds (file ∷ files) held e = EndsAt file (held file) e ⊎ (WasOpened (h
 
 -- why it ends so: as they say; or a call failed; or memory was wanting
 abbrev pub BackupCause : List (List ℕ) → (List ℕ → Option History) → ℕ → ℕ → Ending → Type 0
-BackupCause files held before after e = BackupEnds files held e ⊎ ((e ≡ DeviceFault) × Rose before after) ⊎ (e ≡ NoMemory)
+BackupCause files held before after e = BackupEnds files held e ⊎ ((e ≡ DeviceFault) × Rose before after) ⊎ (e ≡ NoMemory) ⊎ (e ≡ LogFault)
 
 -- the endings of a backup
 abbrev pub EndsBackup : Ending → Type 0
@@ -113,6 +113,7 @@ EndsBackup (Missing name) = Unit {0}
 EndsBackup (There name) = Unit {0}
 EndsBackup DeviceFault = Unit {0}
 EndsBackup NoMemory = Unit {0}
+EndsBackup LogFault = Unit {0}
 EndsBackup Usage = ⊥
 EndsBackup InputFault = ⊥
 EndsBackup (Malformed at) = ⊥
@@ -143,6 +144,7 @@ pub data DiskCopied (was is : History) (old now : Option History) : Ending → T
   disk_full : (len need : ℕ) → CanOpen (seen was) → SameOrUndone was is → IsNotCopied (opened_bytes (seen was)) (C.Full len need) → now ≡ None → DiskCopied was is old now (Replied (Reply.Full len need))
   disk_failed : LookBroken was is → DiskCopied was is old now DeviceFault
   disk_wanting : SameOrUndone was is → IsLeftOf old now → DiskCopied was is old now NoMemory
+  disk_unlogged : SameOrUndone was is → now ≡ old → DiskCopied was is old now LogFault
 
 -- why a file isn't taken that is to be there
 abbrev pub IsUntaken : List ℕ → Option History → Ending → Type 0

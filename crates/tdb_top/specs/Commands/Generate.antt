@@ -16,7 +16,7 @@ use Rattle.tdb_gen.specs.declared.fault.GenFault.{GenFault}
 use Rattle.tdb_gen.specs.declared.fault.GenFault.TheVariants as F
 use Rattle.tdb_gen.specs.declared.summary.Summary.{Summary}
 use Rattle.tdb_top.specs.declared.ending.Ending.{Ending}
-use Rattle.tdb_top.specs.declared.ending.Ending.TheVariants.{Replied, Refused, Missing, There, Usage, DeviceFault, InputFault, Malformed, NoMemory}
+use Rattle.tdb_top.specs.declared.ending.Ending.TheVariants.{Replied, Refused, Missing, There, Usage, DeviceFault, InputFault, Malformed, NoMemory, LogFault}
 use Rattle.tdb_top.specs.declared.ending.Reply.TheVariants.{Generated}
 use Rattle.tdb_ask.specs.declared.limits.TheConstants.{DEFAULT_SIZE, LONGEST_FILE}
 use Rattle.tdb_top.specs.Commands.Create.{new_image}
@@ -65,6 +65,7 @@ GenLeaves commands seed old (Replied reply) now = (s : Summary) × (reply ≡ Ge
 GenLeaves commands seed old (There name) now = now ≡ old
 GenLeaves commands seed old DeviceFault now = IsSome old → now ≡ old
 GenLeaves commands seed old NoMemory now = now ≡ old
+GenLeaves commands seed old LogFault now = ⊥
 GenLeaves commands seed old (Refused refusal) now = ⊥
 GenLeaves commands seed old (Missing name) now = ⊥
 GenLeaves commands seed old Usage now = ⊥

@@ -3,11 +3,11 @@ use Rattle.std.specs.Prelude.{◌≡◌, ◌≤◌, ℕ, Option, None, Some, Lis
 use Rattle.tdb_disk.specs.History.{History, seen}
 use Rattle.tdb_dump.specs.declared.listing.Listing.{Listing}
 use Rattle.tdb_top.specs.declared.ending.Ending.{Ending}
-use Rattle.tdb_top.specs.declared.ending.Ending.TheVariants.{Replied, Refused, DeviceFault, NoMemory}
+use Rattle.tdb_top.specs.declared.ending.Ending.TheVariants.{Replied, Refused, DeviceFault, NoMemory, LogFault}
 use Rattle.tdb_top.specs.declared.ending.Reply.TheVariants.{Dumped}
 use Rattle.tdb_top.specs.Commands.Dump.{pairs_text}
 use Rattle.tdb_top.specs.Looks.{StandsBefore}
-use Rattle.tdb_top.specs.Opening.{opened_bytes, CanOpen, UndoneIfOpen, SameOrUndone, LookBroken, IsRefusedBelow, OpenedBelow}
+use Rattle.tdb_open.specs.Opening.{opened_bytes, CanOpen, UndoneIfOpen, SameOrUndone, LookBroken, IsRefusedBelow, OpenedBelow}
 
 -- how the printing of an opened file's pairs ends: all were printed, or a call failed or memory was wanting
 abbrev pub PrintEnds : Ending → Type 0
@@ -23,6 +23,7 @@ PrintLeft limit old (Replied reply) now = (length (seen old) ≤ limit) × CanOp
 PrintLeft limit old (Refused refusal) now = IsRefusedBelow limit (seen old) refusal × OpenedBelow limit old now
 PrintLeft limit old DeviceFault now = LookBroken old now
 PrintLeft limit old NoMemory now = SameOrUndone old now
+PrintLeft limit old LogFault now = OpenedBelow limit old now
 PrintLeft limit old _ now = ⊥
 
 -- and what it leaves at the name of its file; where none was it leaves none

@@ -11,7 +11,7 @@ use Rattle.tdb_backup.specs.declared.refusal.RestoreRefusal.{RestoreRefusal}
 use Rattle.tdb_backup.specs.declared.refusal.RestoreRefusal.TheVariants as R
 use Rattle.tdb_ask.specs.declared.limits.TheConstants.{DEFAULT_SIZE}
 use Rattle.tdb_top.specs.declared.ending.Ending.{Ending}
-use Rattle.tdb_top.specs.declared.ending.Ending.TheVariants.{Replied, Refused, Missing, There, Usage, DeviceFault, InputFault, Malformed, NoMemory}
+use Rattle.tdb_top.specs.declared.ending.Ending.TheVariants.{Replied, Refused, Missing, There, Usage, DeviceFault, InputFault, Malformed, NoMemory, LogFault}
 use Rattle.tdb_top.specs.declared.ending.Reply.TheVariants as Reply
 use Rattle.tdb_top.specs.Input.{Input}
 
@@ -55,6 +55,7 @@ of_input DeviceFault = false
 of_input InputFault = true
 of_input (Malformed at) = true
 of_input NoMemory = false
+of_input LogFault = false
 
 -- How often reads of the input had failed, before and after a run that ends so. A fault of the input may be followed by
 -- one of the files, which is told then.

@@ -1,5 +1,5 @@
 -- The command that takes the plays of a script over a file, and prints their report.
-use Rattle.std.specs.Prelude.{◌≡◌, ◌⊎◌, ℕ, ◌<◌, ◌≤◌, Bool, true, false, IsTrue, Option, None, Some, List, [], ◌++◌, length, take}
+use Rattle.std.specs.Prelude.{◌≡◌, ◌⊎◌, ℕ, ◌<◌, ◌≤◌, Bool, true, false, IsTrue, Option, None, Some, Result, Ok, Err, List, [], ◌++◌, length, take}
 use Rattle.tdb_disk.specs.Count.{Rose}
 use Rattle.tdb_disk.specs.History.{History, seen}
 use Rattle.tdb_space.specs.Form.{Form, form_of}
@@ -16,16 +16,25 @@ use Rattle.tdb_script.specs.Text.{report_text}
 use Rattle.tdb_world.specs.Openers.{options_of}
 use Rattle.tdb_world.specs.Played.{ComesTo}
 use Rattle.tdb_whole.specs.Died.{IsReadAs}
+use Rattle.tdb_course.specs.Hearing.{Heard, HeardUpTo}
+use Rattle.tdb_check.specs.Report.{Counted}
 use Rattle.tdb_course.specs.Unfinished.{EndsWith}
+use Rattle.tdb_log.specs.Logs.{Logged}
+use Rattle.tdb_log.specs.declared.log.LogRefusal.{LogRefusal}
+use Rattle.tdb_log.specs.declared.log.LogRefusal.TheVariants as Unlogged
 use Rattle.tdb_plays.specs.declared.options.Options.{Options}
 use Rattle.tdb_tool.specs.Whole.{IsOver, beginning_over}
 use Rattle.tdb_top.specs.declared.ending.Ending.{Ending}
-use Rattle.tdb_top.specs.declared.ending.Ending.TheVariants.{Replied, Refused, Missing, There, Usage, DeviceFault, InputFault, Malformed, NoMemory}
+use Rattle.tdb_top.specs.declared.ending.Ending.TheVariants.{Replied, Refused, Missing, There, Usage, DeviceFault, InputFault, Malformed, NoMemory, LogFault}
 use Rattle.tdb_top.specs.declared.ending.Reply.TheVariants.{Played}
-use Rattle.tdb_top.specs.declared.halt.Refusal.{Refusal}
-use Rattle.tdb_top.specs.declared.halt.Refusal.TheVariants.{TooLong}
+use Rattle.tdb_open.specs.declared.halt.Refusal.{Refusal}
+use Rattle.tdb_open.specs.declared.halt.Refusal.TheVariants.{TooLong}
 use Rattle.tdb_top.specs.Input.{Input}
-use Rattle.tdb_top.specs.Opening.{opened_bytes, CanOpen, IsRefused, IsRefusedToRead, SameOrUndone, UndoneIfOpen}
+use Rattle.tdb_open.specs.declared.halt.Halt.{Halt}
+use Rattle.tdb_open.specs.declared.opening.Opened.{Opened}
+use Rattle.tdb_open.specs.Notices.{OpeningHeard, ReadingHeard}
+use Rattle.tdb_top.specs.Ending.{of_halt}
+use Rattle.tdb_open.specs.Opening.{opened_bytes, CanOpen, IsRefused, IsRefusedToRead, SameOrUndone, UndoneIfOpen}
 use Rattle.tdb_top.specs.Output.{Output}
 
 -- the plays are those of the script on the input, where that tells its text
@@ -84,8 +93,8 @@ pub record CameTo (f : Form) (options : Options) (img : List ℕ) (plays : List 
 
 -- All plays were taken over the image a, and b is read after them as the file of the state that they led to. Their report
 -- was printed: its lines, and behind them one for each opener with an unfinished command. The whole report is lawful from
--- the map of a on.
-pub record PlayedWhole (f : Form) (options : Options) (a : List ℕ) (plays : List Play) (b : List ℕ) (told : Bool) (before now : List ℕ) : Type 0 where
+-- the map of a on. The logs heard of the lines of the plays.
+pub record PlayedWhole (f : Form) (options : Options) (a : List ℕ) (plays : List Play) (b : List ℕ) (told : Bool) (before now : List ℕ) (logs later : List Logged) : Type 0 where
   pub lines : List Line
   pub left : State
   pub leads : LeadsTo f options a plays lines left
@@ -94,6 +103,7 @@ pub record PlayedWhole (f : Form) (options : Options) (a : List ℕ) (plays : Li
   pub ends : EndsWith left more
   pub lawful : IsLawful f (beginning_over f options a) (law_lines (lines ++ more))
   pub printed : IsTrue told → now ≡ before ++ report_text (lines ++ more)
+  pub heard : Heard logs lines later
 
 -- Plays were taken over the image a as far as they came, and b is read after them as the file of the state that they led to.
 abbrev pub CameOver : Form → Options → List ℕ → List ℕ → Type 0
@@ -106,19 +116,66 @@ pub data IsReport (f : Form) (options : Options) (img : List ℕ) : List Line �
   report_whole : (plays : List Play) (lines more : List Line) (new : State) → LeadsTo f options img plays lines new → EndsWith new more
       → IsReport f options img (lines ++ more)
 
+-- What logs heard of an opening of a file with these bytes for turns with these options, by its answer: of reading it
+-- alone, or of any other opening. A file that is too long isn't looked into.
+abbrev pub OpeningHeardBy : Bool → List ℕ → List Logged → List Logged → Result Opened Halt → Type 0
+OpeningHeardBy true = ReadingHeard
+OpeningHeardBy false = OpeningHeard
+
+abbrev pub TurnOpeningHeard : Options → List ℕ → List Logged → List Logged → Result Opened Halt → Type 0
+TurnOpeningHeard options img logs later answer =
+    ((options.limit < length img) × (later ≡ logs)) ⊎ ((length img ≤ options.limit) × OpeningHeardBy options.read_only img logs later answer)
+
+-- logs heard of all of these lines, or up to one whose notice the last of them refused
+abbrev pub HeardOrRefused : List Logged → List Line → List Logged → Type 0
+HeardOrRefused logs lines later = Heard logs lines later ⊎ ((refusal : LogRefusal) × HeardUpTo refusal logs lines later)
+
+-- So they heard of the lines of a report, by how its run ended: where a log failed, up to the line whose notice it
+-- didn't take.
+abbrev pub ReportHeard : Ending → List Logged → List Line → List Logged → Type 0
+ReportHeard LogFault logs lines later = HeardUpTo Unlogged.Failed logs lines later
+ReportHeard e logs lines later = HeardOrRefused logs lines later
+
+-- a run may end so before it looks into its file
+abbrev pub MayEndBefore : Ending → Type 0
+MayEndBefore DeviceFault = Unit {0}
+MayEndBefore InputFault = Unit {0}
+MayEndBefore (Malformed at) = Unit {0}
+MayEndBefore NoMemory = Unit {0}
+MayEndBefore e = ⊥
+
+-- What logs heard of turns over a file that was there, and that ended so: nothing, where the file wasn't looked into;
+-- of its opening, where that failed; and else of its opening and of the lines of the report. Where all plays were
+-- taken and printed, `IsPlayed` says it of the lines that are printed.
+pub data FileTurned (options : Options) (img : List ℕ) (e : Ending) (logs later : List Logged) : Type 0 where
+  turned_nothing : MayEndBefore e → later ≡ logs → FileTurned options img e logs later
+  turned_halt : (halt : Halt) → e ≡ of_halt halt → TurnOpeningHeard options img logs later (Err halt) → FileTurned options img e logs later
+  turned_report : (found : Opened) (mid : List Logged) (lines : List Line) → Counted (opened_bytes img) found.report → TurnOpeningHeard options img logs mid (Ok found)
+      → IsReport (form_of (opened_bytes img)) options (opened_bytes img) lines → ReportHeard e mid lines later → FileTurned options img e logs later
+
+-- by what was held at the name of the file
+abbrev pub TurnsHeard : Options → Option History → Ending → List Logged → List Logged → Type 0
+TurnsHeard options None e logs later = later ≡ logs
+TurnsHeard options (Some h) e logs later = FileTurned options (seen h) e logs later
+
 -- A file was opened, for turns with these options.
 pub record IsOpened (options : Options) (old opened : History) : Type 0 where
   pub left : TurnOpened options old opened
   pub reads : seen opened ≡ opened_bytes (seen old)
 
 -- All plays of the script on the input were taken over a file, and their report was printed. They lead from a world just
--- loaded over what the file was read as to a state as whose file what is left of it is read.
-pub record IsPlayed (options : Options) (input : Input) (output : Output) (old now : History) : Type 0 where
+-- loaded over what the file was read as to a state as whose file what is left of it is read. The logs heard of the opening
+-- of the file, and then of the lines of the report.
+pub record IsPlayed (options : Options) (input : Input) (output : Output) (logs later : List Logged) (old now : History) : Type 0 where
   pub opened : History
   pub is_opened : IsOpened options old opened
+  pub found : Opened
+  pub mid : List Logged
+  pub counted : Counted (opened_bytes (seen old)) found.report
+  pub heard : TurnOpeningHeard options (seen old) logs mid (Ok found)
   pub plays : List Play
   pub script : HasScript input plays
-  pub whole : PlayedWhole (form_of (seen opened)) options (seen opened) plays (seen now) output.tells output.before output.after
+  pub whole : PlayedWhole (form_of (seen opened)) options (seen opened) plays (seen now) output.tells output.before output.after mid later
 
 -- Plays were taken over a file as far as they came, and what is left of it is read as they say.
 pub record IsPlayedSoFar (options : Options) (old now : History) : Type 0 where
@@ -134,6 +191,7 @@ abbrev pub TurnsText : Options → Option History → Ending → List ℕ → Ty
 TurnsText options (Some h) (Replied reply) text = ReportFront options (opened_bytes (seen h)) text
 TurnsText options (Some h) DeviceFault text = (text ≡ []) ⊎ ReportFront options (opened_bytes (seen h)) text
 TurnsText options (Some h) NoMemory text = (text ≡ []) ⊎ ReportFront options (opened_bytes (seen h)) text
+TurnsText options (Some h) LogFault text = (text ≡ []) ⊎ ReportFront options (opened_bytes (seen h)) text
 TurnsText options held e text = text ≡ []
 
 -- What is left of a file, which was there, by how its turns end: it is as it was, as an opening leaves it, or as the plays
@@ -143,6 +201,7 @@ TurnsLeft options old (Replied reply) now = (reply ≡ Played) × IsPlayedSoFar 
 TurnsLeft options old (Refused refusal) now = TurnOpened options old now
 TurnsLeft options old DeviceFault now = Unit {0}
 TurnsLeft options old NoMemory now = SameOrUndone old now ⊎ IsPlayedSoFar options old now
+TurnsLeft options old LogFault now = SameOrUndone old now ⊎ IsPlayedSoFar options old now
 TurnsLeft options old InputFault now = now ≡ old
 TurnsLeft options old (Malformed at) now = now ≡ old
 TurnsLeft options old (Missing name) now = ⊥
@@ -155,5 +214,6 @@ TurnsLeave options None e now = now ≡ None
 TurnsLeave options (Some old) e now = (h : History) × (now ≡ Some h) × TurnsLeft options old e h
 
 -- where all plays were taken and printed
-abbrev pub AllPlayed : Options → Input → Output → Option History → Option History → Type 0
-AllPlayed options input output old now = (file : History) × (left : History) × (old ≡ Some file) × (now ≡ Some left) × IsPlayed options input output file left
+abbrev pub AllPlayed : Options → Input → Output → List Logged → List Logged → Option History → Option History → Type 0
+AllPlayed options input output logs later old now =
+    (file : History) × (left : History) × (old ≡ Some file) × (now ≡ Some left) × IsPlayed options input output logs later file left

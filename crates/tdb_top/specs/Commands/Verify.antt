@@ -6,15 +6,14 @@ use Rattle.tdb_disk.specs.History.{History, seen}
 use Rattle.tdb_top.specs.declared.commands.verify.Unverified.{Unverified}
 use Rattle.tdb_top.specs.declared.commands.verify.Unverified.TheVariants.{Ends, Unprinted}
 use Rattle.tdb_top.specs.declared.ending.Ending.{Ending}
-use Rattle.tdb_top.specs.declared.ending.Ending.TheVariants.{Replied, Refused, Missing, There, Usage, DeviceFault, InputFault, Malformed, NoMemory}
+use Rattle.tdb_top.specs.declared.ending.Ending.TheVariants.{Replied, Refused, Missing, There, Usage, DeviceFault, InputFault, Malformed, NoMemory, LogFault}
 use Rattle.tdb_top.specs.declared.ending.Reply.{Reply}
-use Rattle.tdb_top.specs.declared.ending.Reply.TheVariants as Reply
-use Rattle.tdb_top.specs.declared.halt.Refusal.{Refusal}
-use Rattle.tdb_top.specs.declared.halt.Refusal.TheVariants.{TooLong, Header, Corrupt, NeedsRecovery}
+use Rattle.tdb_open.specs.declared.halt.Refusal.{Refusal}
+use Rattle.tdb_open.specs.declared.halt.Refusal.TheVariants.{TooLong, Header, Corrupt, NeedsRecovery}
 use Rattle.tdb_ask.specs.CopyNames.{copy_name, temporary_name}
 use Rattle.tdb_top.specs.Commands.Backup.{IsCopyOf, IsLeftOf, EndsAt, AllStay}
 use Rattle.tdb_top.specs.Commands.Check.{keys_in}
-use Rattle.tdb_top.specs.Opening.{opened_bytes, CanOpen, IsRefused, UndoneIfOpen, HeldOrUndone, HeldBroken}
+use Rattle.tdb_open.specs.Opening.{opened_bytes, CanOpen, IsRefused, UndoneIfOpen, HeldOrUndone, HeldBroken}
 
 -- what is held at the names of a file: at its own, at that of its copy, and at the one at which it is made anew
 pub record AtNames : Type 0 where
@@ -49,6 +48,7 @@ tells_fault DeviceFault = false
 tells_fault InputFault = false
 tells_fault (Malformed at) = false
 tells_fault NoMemory = false
+tells_fault LogFault = false
 
 -- the file at a name has a fault
 pub record IsFaulty (own : Option History) : Type 0 where
@@ -99,7 +99,7 @@ VerifyFront suffix (file ∷ files) held text =
 -- what is printed before the line of an ending: the lines of all files that were verified, and where a call failed or
 -- memory was wanting some of them
 abbrev pub IsUntold : Ending → Type 0
-IsUntold e = (e ≡ DeviceFault) ⊎ (e ≡ NoMemory)
+IsUntold e = (e ≡ DeviceFault) ⊎ (e ≡ NoMemory) ⊎ (e ≡ LogFault)
 
 abbrev pub VerifyText : List ℕ → List (List ℕ) → (List ℕ → Option History) → Ending → List ℕ → Type 0
 VerifyText suffix files held e text = VerifyEnds suffix files held e text ⊎ (IsUntold e × VerifyFront suffix files held text)
@@ -163,6 +163,7 @@ EndsUnverified (Missing name) = Unit {0}
 EndsUnverified (There name) = Unit {0}
 EndsUnverified DeviceFault = Unit {0}
 EndsUnverified NoMemory = Unit {0}
+EndsUnverified LogFault = Unit {0}
 EndsUnverified Usage = ⊥
 EndsUnverified InputFault = ⊥
 EndsUnverified (Malformed at) = ⊥
@@ -178,7 +179,7 @@ pub record VerifyLeaves (suffix : List ℕ) (files : List (List ℕ)) (old : Lis
 
 -- why it ends so: as the files say; or a call failed; or memory was wanting
 abbrev pub VerifyCause : List ℕ → List (List ℕ) → (List ℕ → Option History) → ℕ → ℕ → Ending → Type 0
-VerifyCause suffix files held before after e = ((text : List ℕ) × VerifyEnds suffix files held e text) ⊎ ((e ≡ DeviceFault) × Rose before after) ⊎ (e ≡ NoMemory)
+VerifyCause suffix files held before after e = ((text : List ℕ) × VerifyEnds suffix files held e text) ⊎ ((e ≡ DeviceFault) × Rose before after) ⊎ (e ≡ NoMemory) ⊎ (e ≡ LogFault)
 
 -- the file at a name was opened, and is told to have so many keys
 pub record OwnKeys (old now : Option History) (keys : ℕ) : Type 0 where
@@ -196,6 +197,7 @@ pub data NotOpened (file : List ℕ) (old now : Option History) : Ending → Typ
   file_refused : (was : History) (refusal : Refusal) → old ≡ Some was → HeldOrUndone old now → IsRefused (seen was) refusal → NotOpened file old now (Refused refusal)
   file_failed : HeldOrUndone old now ⊎ HeldBroken old now → NotOpened file old now DeviceFault
   file_wanting : HeldOrUndone old now → NotOpened file old now NoMemory
+  file_unlogged : HeldOrUndone old now → NotOpened file old now LogFault
 
 -- an output took these bytes behind those before, where it tells that; or a part of them, from the first one on
 abbrev pub Took : Bool → List ℕ → List ℕ → List ℕ → Type 0

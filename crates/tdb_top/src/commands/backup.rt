@@ -15,15 +15,18 @@ ghost use Rattle.tdb_top.specs.Commands.Backup.{copy_ending, HasKeys, IsCopyOf, 
 ghost use Rattle.tdb_top.specs.Commands.Check.{keys_in};
 ghost use Rattle.tdb_top.specs.Commands.Create.{IsNewFile};
 ghost use Rattle.tdb_top.specs.Ending.{CountedBy};
-ghost use Rattle.tdb_top.specs.Opening.{opened_bytes, IsCheckedOn};
+ghost use Rattle.tdb_top.specs.Heard.{FileHeard, ToldFor, OpenHeard, BackupHeard};
+ghost use Rattle.tdb_open.specs.Notices.{OpeningHeard};
+ghost use Rattle.tdb_open.specs.Opening.{opened_bytes, IsCheckedOn};
 
 use crate::commands::create::make;
 use crate::ending::{Ending, Reply};
-use crate::opening::Opened;
 use std::alloc::Global;
 use tdb_ask::{LONGEST_FILE, NewForm, Text};
 use tdb_backup::{CopyRefusal, copy_pairs};
 use tdb_disk::{Disk, Files, Take};
+use tdb_log::Logs;
+use tdb_open::Opened;
 use tdb_space::Direct;
 
 impl From<CopyRefusal> for Ending {
@@ -152,11 +155,12 @@ fn copy_to<F: Files>(
 }
 
 /// Opens the file on a disk, and makes a new file of this name a copy of it. It gives the number of its keys.
-fn copy_disk<F: Files>(
+fn copy_disk<F: Files, L: Logs>(
     alloc: Global,
     from: &mut F::D,
     name: &str,
     files: &mut F,
+    logs: &mut L,
 ) -> Result<u64, Ending>
     requires free { F.is_taken files.old name.now ≡ false }
     ensures copied { IsTrue F.D.tells → DiskCopied (F.D.history from.old) (F.D.history from.new) (F.held files.old name.now) (F.held files.new name.now) (copy_ending result) }
@@ -166,8 +170,9 @@ fn copy_disk<F: Files>(
     ensures counted { CountedBoth (F.D.faults from.old) (F.D.faults from.new) (F.faults files.old) (F.faults files.new) (copy_ending result) }
     ensures others { SameBut name.now (F.held files.old) (F.held files.new) }
     ensures taken { (other : List ℕ) → F.is_taken files.new other ≡ F.is_taken files.old other }
+    ensures heard { IsTrue F.D.tells → FileHeard (opened_bytes (seen (F.D.history from.old))) (OpeningHeard (seen (F.D.history from.old))) (copy_ending result) (ToldFor (copy_ending result) []) (L.logs logs.old) (L.logs logs.new) }
 {
-    let opened = match Opened::open(alloc, from) {
+    let opened = match Opened::open(alloc, from, logs) {
         Ok(opened) => opened,
         Err(halt) => return Err(Ending::from(halt)),
     };
@@ -180,11 +185,12 @@ fn copy_disk<F: Files>(
 }
 
 /// Opens the file of this name, and makes a new file of another name a copy of it. It gives the number of its keys.
-fn copy_opened<F: Files>(
+fn copy_opened<F: Files, L: Logs>(
     alloc: Global,
     file: &str,
     name: &str,
     files: &mut F,
+    logs: &mut L,
 ) -> Result<u64, Ending>
     requires differ { name.now ≢ file.now }
     requires free { (other : List ℕ) → F.is_taken files.old other ≡ false }
@@ -195,23 +201,25 @@ fn copy_opened<F: Files>(
     ensures counted { CountedBy (F.faults files.old) (F.faults files.new) (copy_ending result) }
     ensures others { (other : List ℕ) → other ≢ file.now → other ≢ name.now → F.held files.new other ≡ F.held files.old other }
     ensures given_back { (other : List ℕ) → F.is_taken files.new other ≡ false }
+    ensures heard { IsTrue F.D.tells → OpenHeard (F.held files.old file.now) (copy_ending result) (L.logs logs.old) (L.logs logs.new) }
 {
     let mut disk = match files.take(alloc, file, Take::Existing) {
         Ok(disk) => disk,
         Err(refusal) => return Err(Ending::untaken(alloc, file, refusal)),
     };
-    let copied = copy_disk(alloc, &mut disk, name, files);
+    let copied = copy_disk(alloc, &mut disk, name, files, logs);
     files.give(file, disk);
     copied
 }
 
 /// Copies the file of this name: the copy is made at `new`, and then renamed to `copy`. It gives the number of its keys.
-pub(crate) fn back_up_as<F: Files>(
+pub(crate) fn back_up_as<F: Files, L: Logs>(
     alloc: Global,
     file: &str,
     copy: &str,
     new: &str,
     files: &mut F,
+    logs: &mut L,
 ) -> Result<u64, Ending>
     requires copy_differs { copy.now ≢ file.now }
     requires new_differs { new.now ≢ file.now }
@@ -224,8 +232,9 @@ pub(crate) fn back_up_as<F: Files>(
     ensures counted { CountedBy (F.faults files.old) (F.faults files.new) (copy_ending result) }
     ensures others { (other : List ℕ) → other ≢ file.now → other ≢ copy.now → other ≢ new.now → F.held files.new other ≡ F.held files.old other }
     ensures given_back { (other : List ℕ) → F.is_taken files.new other ≡ false }
+    ensures heard { IsTrue F.D.tells → OpenHeard (F.held files.old file.now) (copy_ending result) (L.logs logs.old) (L.logs logs.new) }
 {
-    let keys = match copy_opened(alloc, file, new, files) {
+    let keys = match copy_opened(alloc, file, new, files, logs) {
         Ok(keys) => keys,
         Err(ending) => return Err(ending),
     };
@@ -236,7 +245,13 @@ pub(crate) fn back_up_as<F: Files>(
 }
 
 /// Copies the file of this name to that name and the suffix.
-fn back_up_file<F: Files>(alloc: Global, file: &str, suffix: &str, files: &mut F) -> Ending
+fn back_up_file<F: Files, L: Logs>(
+    alloc: Global,
+    file: &str,
+    suffix: &str,
+    files: &mut F,
+    logs: &mut L,
+) -> Ending
     requires suffix { suffix.now ≢ [] }
     requires free { (other : List ℕ) → F.is_taken files.old other ≡ false }
     ensures done { IsTrue F.D.tells → BackedUpOne file.now (copy_name suffix.now file.now) (new_name suffix.now file.now) (F.held files.old) (F.held files.new) (F.faults files.old) (F.faults files.new) result }
@@ -244,6 +259,7 @@ fn back_up_file<F: Files>(alloc: Global, file: &str, suffix: &str, files: &mut F
     ensures counted { CountedBy (F.faults files.old) (F.faults files.new) result }
     ensures others { (other : List ℕ) → (IsNameOf false suffix.now file.now other → ⊥) → F.held files.new other ≡ F.held files.old other }
     ensures given_back { (other : List ℕ) → F.is_taken files.new other ≡ false }
+    ensures heard { IsTrue F.D.tells → OpenHeard (F.held files.old file.now) result (L.logs logs.old) (L.logs logs.new) }
 {
     let Ok(copy) = Text::joined(alloc, file, suffix) else {
         return Ending::NoMemory;
@@ -251,19 +267,20 @@ fn back_up_file<F: Files>(alloc: Global, file: &str, suffix: &str, files: &mut F
     let Ok(new) = Text::joined(alloc, copy.as_str(), ".tmp") else {
         return Ending::NoMemory;
     };
-    match back_up_as(alloc, file, copy.as_str(), new.as_str(), files) {
+    match back_up_as(alloc, file, copy.as_str(), new.as_str(), files, logs) {
         Ok(_) => Ending::Replied(Reply::Copied),
         Err(ending) => ending,
     }
 }
 
 /// Copies the file of this name and more ones, each to its name and the suffix. The first one that isn't copied ends it.
-pub(crate) fn back_up<F: Files>(
+pub(crate) fn back_up<F: Files, L: Logs>(
     alloc: Global,
     file: &str,
     more: &[Text],
     suffix: &str,
     files: &mut F,
+    logs: &mut L,
 ) -> Ending
     requires fits { BackupFits suffix.now (file.now ∷ more.now) }
     requires free { (other : List ℕ) → F.is_taken files.old other ≡ false }
@@ -272,13 +289,14 @@ pub(crate) fn back_up<F: Files>(
     ensures counted { CountedBy (F.faults files.old) (F.faults files.new) result }
     ensures others { (other : List ℕ) → (IsNameAmong false suffix.now (file.now ∷ more.now) other → ⊥) → F.held files.new other ≡ F.held files.old other }
     ensures given_back { (other : List ℕ) → F.is_taken files.new other ≡ false }
+    ensures heard { IsTrue F.D.tells → BackupHeard (file.now ∷ more.now) (F.held files.old) result (L.logs logs.old) (L.logs logs.new) }
 {
-    let ending = back_up_file(alloc, file, suffix, files);
+    let ending = back_up_file(alloc, file, suffix, files, logs);
     if !ending.is_copied() {
         return ending;
     }
     for name in more {
-        let ending = back_up_file(alloc, name.as_str(), suffix, files);
+        let ending = back_up_file(alloc, name.as_str(), suffix, files, logs);
         if !ending.is_copied() {
             return ending;
         }

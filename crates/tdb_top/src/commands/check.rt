@@ -4,7 +4,7 @@ ghost use Rattle.std.specs.Prelude.{◌≡◌};
 ghost use Rattle.tdb_top.specs.declared.ending.Reply.TheVariants.{Number};
 
 use crate::ending::Reply;
-use crate::opening::Opened;
+use tdb_open::Opened;
 
 /// How many keys an opened file has: they were counted as it was opened.
 pub(crate) fn check(opened: &Opened) -> Reply

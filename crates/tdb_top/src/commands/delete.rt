@@ -6,15 +6,14 @@ ghost use Rattle.tdb_disk.specs.History.{seen};
 ghost use Rattle.tdb_space.specs.Form.{form_of};
 ghost use Rattle.tdb_edit.specs.Edited.{Deleted};
 ghost use Rattle.tdb_ask.specs.declared.act.Verb.TheVariants.{Delete};
-ghost use Rattle.tdb_top.specs.declared.halt.Fault.TheVariants.{Device};
+ghost use Rattle.tdb_open.specs.declared.halt.Fault.TheVariants.{Device};
 ghost use Rattle.tdb_top.specs.Acts.{Acted};
 ghost use Rattle.tdb_top.specs.Commands.Delete.{DeleteBroken};
-ghost use Rattle.tdb_top.specs.Opening.{IsCheckedOn};
+ghost use Rattle.tdb_open.specs.Opening.{IsCheckedOn};
 
 use crate::ending::Reply;
-use crate::halt::Fault;
-use crate::opening::Opened;
 use tdb_disk::Disk;
+use tdb_open::{Fault, Opened};
 use tdb_space::{Direct, Io};
 
 /// Takes a key out of an opened file, and says whether it was there.

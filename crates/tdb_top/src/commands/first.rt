@@ -1,23 +1,22 @@
 // The commands that show the first pair of a file, and the one behind it.
 
-ghost use Rattle.std.specs.Prelude.{◌≡◌, ℕ, IsTrue, IfOk};
+ghost use Rattle.std.specs.Prelude.{◌≡◌, ◌≢◌, ℕ, IsTrue, IfOk, IfErr};
 ghost use Rattle.tdb_disk.specs.Count.{HasCauseOf};
 ghost use Rattle.tdb_disk.specs.History.{seen};
 ghost use Rattle.tdb_space.specs.Form.{form_of};
 ghost use Rattle.tdb_space.specs.Pairs.{order_of};
 ghost use Rattle.tdb_ask.specs.declared.act.Verb.TheVariants.{First};
 ghost use Rattle.tdb_top.specs.declared.ending.Reply.TheVariants.{End};
-ghost use Rattle.tdb_top.specs.declared.halt.Fault.TheVariants.{Device};
+ghost use Rattle.tdb_open.specs.declared.halt.Fault.TheVariants.{Device, Log};
 ghost use Rattle.tdb_top.specs.Acts.{Acted};
 ghost use Rattle.tdb_top.specs.Commands.First.{first_pair_of};
-ghost use Rattle.tdb_top.specs.Opening.{IsCheckedOn};
+ghost use Rattle.tdb_open.specs.Opening.{IsCheckedOn};
 
 use crate::ending::Reply;
-use crate::halt::Fault;
-use crate::opening::Opened;
 use std::alloc::Global;
 use tdb_backup::Traversal;
 use tdb_disk::Disk;
+use tdb_open::{Fault, Opened};
 use tdb_space::Direct;
 use tdb_words::Bytes;
 
@@ -31,6 +30,7 @@ fn first_pair<D: Disk>(
     requires opened { IsTrue D.tells → IsCheckedOn (seen (D.history disk.old)) opened.now }
     ensures found { IfOk result (λ pair. IsTrue D.tells → first_pair_of (order_of (form_of (seen (D.history disk.old))) (seen (D.history disk.old))) ≡ pair) }
     ensures history { D.history disk.new ≡ D.history disk.old }
+    ensures unlogged { IfErr result (λ fault. fault ≢ Log) }
     ensures cause { HasCauseOf Device (D.faults disk.old) (D.faults disk.new) result }
 {
     let mut space = Direct::new(disk, &opened.header);

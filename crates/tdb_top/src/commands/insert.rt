@@ -10,17 +10,16 @@ ghost use Rattle.tdb_space.specs.Pairs.{home, map_of};
 ghost use Rattle.tdb_space.specs.Accepted.{AcceptWith};
 ghost use Rattle.tdb_ask.specs.declared.act.Verb.TheVariants.{Insert};
 ghost use Rattle.tdb_top.specs.declared.ending.Reply.TheVariants.{Done as IsDone};
-ghost use Rattle.tdb_top.specs.declared.halt.Fault.TheVariants.{Device, Memory};
+ghost use Rattle.tdb_open.specs.declared.halt.Fault.TheVariants.{Device, Memory, Log};
 ghost use Rattle.tdb_top.specs.Acts.{Acted};
 ghost use Rattle.tdb_top.specs.Commands.Insert.{insert_reply, first_of, need_for, led_to, BrokenOff, IsInserted, Inserts, InsertBroken};
-ghost use Rattle.tdb_top.specs.Opening.{IsCheckedOn};
+ghost use Rattle.tdb_open.specs.Opening.{IsCheckedOn};
 
 use crate::ending::Reply;
-use crate::halt::Fault;
-use crate::opening::Opened;
 use std::alloc::Global;
 use tdb_chain::find;
 use tdb_disk::{Disk, DiskFault};
+use tdb_open::{Fault, Opened};
 use tdb_space::{Direct, Io, new_rec, rec_len_for, record_bytes};
 use tdb_words::{Header, Order, chain_of, hash_of, word_at, word_bytes};
 
@@ -89,6 +88,7 @@ fn add<D: Disk>(
     ensures done { OnOk result (IsTrue D.tells → IsInserted (seen (D.history disk.old)) key.now value.now (D.history disk.new)) }
     ensures broken { IfErr result (λ fault. fault ≡ Device → IsTrue D.tells → InsertBroken key.now value.now (D.history disk.old) (D.history disk.new)) }
     ensures as_before { IfErr result (λ fault. fault ≡ Memory → D.history disk.new ≡ D.history disk.old) }
+    ensures unlogged { IfErr result (λ fault. fault ≢ Log) }
     ensures cause { HasCauseOf Device (D.faults disk.old) (D.faults disk.new) result }
 {
     let order = opened.header.order;
@@ -132,6 +132,7 @@ pub(crate) fn insert_below<D: Disk>(
     ensures kept { IfOk result (λ reply. reply ≢ IsDone → D.history disk.new ≡ D.history disk.old) }
     ensures broken { IfErr result (λ fault. fault ≡ Device → IsTrue D.tells → InsertBroken key.now value.now (D.history disk.old) (D.history disk.new)) }
     ensures as_before { IfErr result (λ fault. fault ≡ Memory → D.history disk.new ≡ D.history disk.old) }
+    ensures unlogged { IfErr result (λ fault. fault ≢ Log) }
     ensures cause { HasCauseOf Device (D.faults disk.old) (D.faults disk.new) result }
 {
     if has_key(disk, &opened.header, key)? {

@@ -11,18 +11,19 @@ ghost use Rattle.tdb_tool.specs.declared.fault.SessionFault.TheVariants as Fault
 ghost use Rattle.tdb_ask.specs.declared.ask.Task.TheVariants.{Session};
 ghost use Rattle.tdb_top.specs.declared.ending.Ending.TheVariants.{Usage};
 ghost use Rattle.tdb_top.specs.Commands.Restore.{HeardBy};
-ghost use Rattle.tdb_top.specs.Commands.Session.{session_options, session_told, SessionText, SessionFile, SessionHeld, StaysThere};
+ghost use Rattle.tdb_top.specs.Commands.Session.{session_options, session_told, SessionText, SessionFile, SessionHeld, SessionHeard, StaysThere};
 ghost use Rattle.tdb_top.specs.Ending.{CountedIf};
 ghost use Rattle.tdb_top.specs.Input.{input_by};
 ghost use Rattle.tdb_top.specs.Looks.{ending_of, Began};
-ghost use Rattle.tdb_top.specs.Opening.{IsCheckedOn};
+ghost use Rattle.tdb_open.specs.Opening.{IsCheckedOn};
 ghost use Rattle.tdb_top.specs.Reads.{AskCause};
 
 use crate::commands::turns::open_to_turn;
 use crate::ending::{Ending, Reply, Unprinted};
-use crate::opening::Opened;
 use std::alloc::Global;
 use tdb_disk::{Disk, Files, Sink, Source, Take};
+use tdb_log::Logs;
+use tdb_open::Opened;
 use tdb_tool::{SessionEnd, SessionFault, run_session};
 use tdb_world::Options;
 
@@ -39,26 +40,27 @@ fn options_within(limit: u64) -> Options
 }
 
 /// Does what the lines of the input order over the opened file on a disk, and prints the replies.
-fn serve_opened<D: Disk, S: Source, K: Sink>(
+fn serve_opened<D: Disk, S: Source, K: Sink, L: Logs>(
     alloc: Global,
     opened: &Opened,
     options: &Options,
     disk: &mut D,
     input: &mut S,
     output: &mut K,
+    logs: &mut L,
 ) -> Result<SessionEnd, SessionFault>
     requires limit { options.now.limit ≤ 4294963200 }
     requires length { opened.now.len ≡ D.size disk.old }
     requires short { opened.now.len ≤ options.now.limit }
     requires checked { IsTrue D.tells → IsCheckedOn (seen (D.history disk.old)) opened.now }
-    ensures ran { IsTrue D.tells → SessionRan (form_of (seen (D.history disk.old))) options.now (D.history disk.old) (D.history disk.new) S.tells (S.left input.old) K.tells (K.written output.old) (K.written output.new) result }
+    ensures ran { IsTrue D.tells → SessionRan (form_of (seen (D.history disk.old))) options.now (D.history disk.old) (D.history disk.new) S.tells (S.left input.old) K.tells (K.written output.old) (K.written output.new) (L.logs logs.old) (L.logs logs.new) result }
     ensures rises { D.faults disk.old ≤ D.faults disk.new }
     ensures quiet { UnlessBroken (fault_of result) (D.faults disk.new ≡ D.faults disk.old) }
     ensures rose { IsTrue D.tells → OnBroken (fault_of result) (Rose (D.faults disk.old) (D.faults disk.new)) }
     ensures input_cause { HasCauseOf FaultIs.Input (S.faults input.old) (S.faults input.new) result }
     ensures cause { HasCauseOf FaultIs.Output (K.faults output.old) (K.faults output.new) result }
 {
-    run_session(alloc, disk, &opened.header, options, input, output)
+    run_session(alloc, disk, &opened.header, options, input, output, logs)
 }
 
 /// How a run ends whose session answered so.
@@ -71,43 +73,47 @@ fn told(answer: Result<SessionEnd, SessionFault>) -> Result<Ending, Unprinted>
         Err(SessionFault::Input) => Ok(Ending::InputFault),
         Err(SessionFault::Output) => Err(Unprinted::Report),
         Err(SessionFault::Device) => Ok(Ending::DeviceFault),
+        Err(SessionFault::Log) => Ok(Ending::LogFault),
         Err(SessionFault::Memory) => Ok(Ending::NoMemory),
     }
 }
 
 /// Opens the file on a disk, and does what the lines of the input order over it.
-fn session_on_disk<D: Disk, S: Source, K: Sink>(
+fn session_on_disk<D: Disk, S: Source, K: Sink, L: Logs>(
     alloc: Global,
     limit: u64,
     disk: &mut D,
     input: &mut S,
     output: &mut K,
+    logs: &mut L,
 ) -> Result<Ending, Unprinted>
     requires limit { limit ≤ 4294963200 }
-    ensures served { IsTrue D.tells → SessionFile limit (input_by S.tells (S.left input.old) (S.faults input.old) (S.faults input.new)) (D.history disk.old) (D.history disk.new) K.tells (K.written output.old) (K.written output.new) result }
+    ensures served { IsTrue D.tells → SessionFile limit (input_by S.tells (S.left input.old) (S.faults input.old) (S.faults input.new)) (D.history disk.old) (D.history disk.new) K.tells (K.written output.old) (K.written output.new) (L.logs logs.old) (L.logs logs.new) result }
     ensures counted { CountedIf D.tells (D.faults disk.old) (D.faults disk.new) (ending_of result) }
     ensures cause { HasCause (K.faults output.old) (K.faults output.new) result }
     ensures asked { ending_of result ≡ Usage → ⊥ }
     ensures heard { HeardBy (S.faults input.old) (S.faults input.new) (ending_of result) }
 {
     let options = options_within(limit);
-    let opened = match open_to_turn(alloc, &options, disk) {
+    let opened = match open_to_turn(alloc, &options, disk, logs) {
         Ok(opened) => opened,
         Err(halt) => return Ok(Ending::from(halt)),
     };
-    told(serve_opened(alloc, &opened, &options, disk, input, output))
+    told(serve_opened(alloc, &opened, &options, disk, input, output, logs))
 }
 
 /// Does what the lines of the input order over the file of this name, which may become `limit` bytes long, and prints
 /// each reply as soon as it is made. The input is read while the orders are done, so those before a line that is none, or
-/// before a read that fails, are done and their replies printed.
-pub(crate) fn session_on_file<F: Files, S: Source, K: Sink>(
+/// before a read that fails, are done and their replies printed. The last log is told of the opening, and while an order is
+/// done what becomes of the file; where a log fails, the reply of that order is printed, and no other is done.
+pub(crate) fn session_on_file<F: Files, S: Source, K: Sink, L: Logs>(
     alloc: Global,
     name: &str,
     limit: u64,
     files: &mut F,
     input: &mut S,
     output: &mut K,
+    logs: &mut L,
 ) -> Result<Ending, Unprinted>
     requires limit { limit ≤ 4294963200 }
     requires free { (other : List ℕ) → F.is_taken files.old other ≡ false }
@@ -117,14 +123,15 @@ pub(crate) fn session_on_file<F: Files, S: Source, K: Sink>(
     ensures given_back { (other : List ℕ) → F.is_taken files.new other ≡ false }
     ensures counted { CountedIf F.D.tells (F.faults files.old) (F.faults files.new) (ending_of result) }
     ensures began { IsTrue (K.tells && F.D.tells) → Began (SessionText limit (F.held files.old name.now)) (K.written output.old) (K.written output.new) result }
-    ensures served { IsTrue F.D.tells → SessionHeld limit (input_by S.tells (S.left input.old) (S.faults input.old) (S.faults input.new)) (F.held files.old name.now) (F.held files.new name.now) K.tells (K.written output.old) (K.written output.new) result }
+    ensures served { IsTrue F.D.tells → SessionHeld limit (input_by S.tells (S.left input.old) (S.faults input.old) (S.faults input.new)) (F.held files.old name.now) (F.held files.new name.now) K.tells (K.written output.old) (K.written output.new) (L.logs logs.old) (L.logs logs.new) result }
+    ensures logged { IsTrue F.D.tells → SessionHeard limit (F.held files.old name.now) (ending_of result) (L.logs logs.old) (L.logs logs.new) }
     ensures output_cause { HasCause (K.faults output.old) (K.faults output.new) result }
     ensures asked { ending_of result ≡ Usage → ⊥ }
     ensures heard { HeardBy (S.faults input.old) (S.faults input.new) (ending_of result) }
 {
     match files.take(alloc, name, Take::Existing) {
         Ok(mut disk) => {
-            let served = session_on_disk(alloc, limit, &mut disk, input, output);
+            let served = session_on_disk(alloc, limit, &mut disk, input, output, logs);
             files.give(name, disk);
             served
         }

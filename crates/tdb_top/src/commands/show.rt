@@ -1,21 +1,20 @@
 // The command that shows the value of a key.
 
-ghost use Rattle.std.specs.Prelude.{◌≡◌, ◌^◌, ◌<◌, ℕ, length, IsTrue, IfOk};
+ghost use Rattle.std.specs.Prelude.{◌≡◌, ◌≢◌, ◌^◌, ◌<◌, ℕ, length, IsTrue, IfOk, IfErr};
 ghost use Rattle.tdb_disk.specs.Count.{HasCauseOf};
 ghost use Rattle.tdb_disk.specs.History.{seen};
 ghost use Rattle.tdb_space.specs.Form.{form_of};
 ghost use Rattle.tdb_space.specs.Pairs.{map_of};
 ghost use Rattle.tdb_ask.specs.declared.act.Verb.TheVariants.{Show};
-ghost use Rattle.tdb_top.specs.declared.halt.Fault.TheVariants.{Device};
+ghost use Rattle.tdb_open.specs.declared.halt.Fault.TheVariants.{Device, Log};
 ghost use Rattle.tdb_top.specs.Acts.{Acted};
-ghost use Rattle.tdb_top.specs.Opening.{IsCheckedOn};
+ghost use Rattle.tdb_open.specs.Opening.{IsCheckedOn};
 
 use crate::ending::Reply;
-use crate::halt::Fault;
-use crate::opening::Opened;
 use std::alloc::Global;
 use tdb_chain::{find, value};
 use tdb_disk::Disk;
+use tdb_open::{Fault, Opened};
 use tdb_space::Direct;
 use tdb_words::Bytes;
 
@@ -30,6 +29,7 @@ pub(crate) fn look_up<D: Disk>(
     requires opened { IsTrue D.tells → IsCheckedOn (seen (D.history disk.old)) opened.now }
     ensures found { IfOk result (λ found. IsTrue D.tells → map_of (form_of (seen (D.history disk.old))) (seen (D.history disk.old)) key.now ≡ found) }
     ensures history { D.history disk.new ≡ D.history disk.old }
+    ensures unlogged { IfErr result (λ fault. fault ≢ Log) }
     ensures cause { HasCauseOf Device (D.faults disk.old) (D.faults disk.new) result }
 {
     let mut space = Direct::new(disk, &opened.header);

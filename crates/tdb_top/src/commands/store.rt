@@ -9,18 +9,17 @@ ghost use Rattle.tdb_edit.specs.Edited.{KeyChanged};
 ghost use Rattle.tdb_edit.specs.Stored.{has_room, FullRightly};
 ghost use Rattle.tdb_edit.specs.declared.refusal.StoreRefusal.TheVariants.{Io as IoIs};
 ghost use Rattle.tdb_ask.specs.declared.act.Verb.TheVariants.{Store};
-ghost use Rattle.tdb_top.specs.declared.halt.Fault.TheVariants.{Device};
+ghost use Rattle.tdb_open.specs.declared.halt.Fault.TheVariants.{Device};
 ghost use Rattle.tdb_top.specs.Acts.{Acted};
 ghost use Rattle.tdb_top.specs.Commands.Insert.{need_for};
 ghost use Rattle.tdb_top.specs.Commands.Store.{GrewFor};
-ghost use Rattle.tdb_top.specs.Opening.{IsCheckedOn};
+ghost use Rattle.tdb_open.specs.Opening.{IsCheckedOn};
 
 use crate::ending::Reply;
-use crate::halt::Fault;
-use crate::opening::Opened;
 use std::alloc::Global;
 use tdb_disk::Disk;
 use tdb_edit::StoreRefusal;
+use tdb_open::{Fault, Opened};
 use tdb_space::Direct;
 
 /// Puts a value into an opened file, which may have so many bytes.

@@ -10,15 +10,17 @@ ghost use Rattle.tdb_top.specs.Commands.Backup.{copy_ending, HasKeys, BackedUpOn
 ghost use Rattle.tdb_top.specs.Commands.Restore.{of_input};
 ghost use Rattle.tdb_top.specs.Commands.Verify as V;
 ghost use Rattle.tdb_top.specs.Ending.{CountedBy};
+ghost use Rattle.tdb_top.specs.Heard.{OpenHeard, CountHeard, VerifyHeard, count_ending};
 ghost use Rattle.tdb_top.specs.Looks.{ending_of, Began};
 
 use crate::commands::backup::back_up_as;
 use crate::ending::{Ending, Reply, Unprinted};
-use crate::opening::Opened;
 use itoa::Buffer;
 use std::alloc::{AllocError, Global};
 use tdb_ask::Text;
 use tdb_disk::{Files, Sink, SinkFault, Take};
+use tdb_log::Logs;
+use tdb_open::Opened;
 use tdb_words::Bytes;
 
 /// Why not all files were verified and told.
@@ -108,7 +110,12 @@ fn tell_count<K: Sink>(
 }
 
 /// Opens the file of this name, and gives the number of its keys.
-fn count_keys<F: Files>(alloc: Global, file: &str, files: &mut F) -> Result<u64, Ending>
+fn count_keys<F: Files, L: Logs>(
+    alloc: Global,
+    file: &str,
+    files: &mut F,
+    logs: &mut L,
+) -> Result<u64, Ending>
     requires free { (other : List ℕ) → F.is_taken files.old other ≡ false }
     ensures counted { IfOk result (λ n. IsTrue F.D.tells → V.OwnKeys (F.held files.old file.now) (F.held files.new file.now) n) }
     ensures unopened { IfErr result (λ e. IsTrue F.D.tells → V.NotOpened file.now (F.held files.old file.now) (F.held files.new file.now) e) }
@@ -116,12 +123,13 @@ fn count_keys<F: Files>(alloc: Global, file: &str, files: &mut F) -> Result<u64,
     ensures cause { HasCauseOf DeviceIs (F.faults files.old) (F.faults files.new) result }
     ensures others { SameBut file.now (F.held files.old) (F.held files.new) }
     ensures given_back { (other : List ℕ) → F.is_taken files.new other ≡ false }
+    ensures heard { IsTrue F.D.tells → OpenHeard (F.held files.old file.now) (copy_ending result) (L.logs logs.old) (L.logs logs.new) }
 {
     let mut disk = match files.take(alloc, file, Take::Existing) {
         Ok(disk) => disk,
         Err(refusal) => return Err(Ending::untaken(alloc, file, refusal)),
     };
-    let opened = Opened::open(alloc, &mut disk);
+    let opened = Opened::open(alloc, &mut disk, logs);
     files.give(file, disk);
     match opened {
         Ok(opened) => Ok(opened.report.live),
@@ -130,11 +138,12 @@ fn count_keys<F: Files>(alloc: Global, file: &str, files: &mut F) -> Result<u64,
 }
 
 /// Puts a copy of its own copy in the place of the file of this name, and gives the number of its keys.
-fn restore_file<F: Files>(
+fn restore_file<F: Files, L: Logs>(
     alloc: Global,
     file: &str,
     suffix: &str,
     files: &mut F,
+    logs: &mut L,
 ) -> Result<u64, Ending>
     requires some { suffix.now ≢ [] }
     requires other { suffix.now ≢ codes ".tmp" }
@@ -145,6 +154,7 @@ fn restore_file<F: Files>(
     ensures counted { CountedBy (F.faults files.old) (F.faults files.new) (copy_ending result) }
     ensures others { (other : List ℕ) → (IsNameOf true suffix.now file.now other → ⊥) → F.held files.new other ≡ F.held files.old other }
     ensures given_back { (other : List ℕ) → F.is_taken files.new other ≡ false }
+    ensures heard { IsTrue F.D.tells → OpenHeard (F.held files.old (copy_name suffix.now file.now)) (copy_ending result) (L.logs logs.old) (L.logs logs.new) }
 {
     let Ok(copy) = Text::joined(alloc, file, suffix) else {
         return Err(Ending::NoMemory);
@@ -152,16 +162,17 @@ fn restore_file<F: Files>(
     let Ok(new) = Text::joined(alloc, file, ".tmp") else {
         return Err(Ending::NoMemory);
     };
-    back_up_as(alloc, copy.as_str(), file, new.as_str(), files)
+    back_up_as(alloc, copy.as_str(), file, new.as_str(), files, logs)
 }
 
 /// The number of keys of the file of this name, which is restored from its copy where it has a fault.
-fn find_keys<F: Files, K: Sink>(
+fn find_keys<F: Files, K: Sink, L: Logs>(
     alloc: Global,
     file: &str,
     suffix: &str,
     files: &mut F,
     output: &mut K,
+    logs: &mut L,
 ) -> Result<u64, Unverified>
     requires some { suffix.now ≢ [] }
     requires other { suffix.now ≢ codes ".tmp" }
@@ -173,8 +184,9 @@ fn find_keys<F: Files, K: Sink>(
     ensures output_cause { HasCauseOf Is.Unprinted (K.faults output.old) (K.faults output.new) result }
     ensures others { (other : List ℕ) → (IsNameOf true suffix.now file.now other → ⊥) → F.held files.new other ≡ F.held files.old other }
     ensures given_back { (other : List ℕ) → F.is_taken files.new other ≡ false }
+    ensures heard { IsTrue F.D.tells → CountHeard (F.held files.old file.now) (F.held files.old (copy_name suffix.now file.now)) (count_ending result) (L.logs logs.old) (L.logs logs.new) }
 {
-    let ending = match count_keys(alloc, file, files) {
+    let ending = match count_keys(alloc, file, files, logs) {
         Ok(keys) => return Ok(keys),
         Err(ending) => ending,
     };
@@ -182,17 +194,18 @@ fn find_keys<F: Files, K: Sink>(
         return Err(Unverified::Ends(ending));
     }
     tell_restoring(alloc, file, output)?;
-    let keys = restore_file(alloc, file, suffix, files)?;
+    let keys = restore_file(alloc, file, suffix, files, logs)?;
     Ok(keys)
 }
 
 /// Verifies the file of this name, and tells how many keys it has.
-fn verify_file<F: Files, K: Sink>(
+fn verify_file<F: Files, K: Sink, L: Logs>(
     alloc: Global,
     file: &str,
     suffix: &str,
     files: &mut F,
     output: &mut K,
+    logs: &mut L,
 ) -> Result<(), Unverified>
     requires some { suffix.now ≢ [] }
     requires other { suffix.now ≢ codes ".tmp" }
@@ -204,19 +217,21 @@ fn verify_file<F: Files, K: Sink>(
     ensures output_cause { HasCauseOf Is.Unprinted (K.faults output.old) (K.faults output.new) result }
     ensures others { (other : List ℕ) → (IsNameOf true suffix.now file.now other → ⊥) → F.held files.new other ≡ F.held files.old other }
     ensures given_back { (other : List ℕ) → F.is_taken files.new other ≡ false }
+    ensures heard { IsTrue F.D.tells → CountHeard (F.held files.old file.now) (F.held files.old (copy_name suffix.now file.now)) (count_ending result) (L.logs logs.old) (L.logs logs.new) }
 {
-    let keys = find_keys(alloc, file, suffix, files, output)?;
+    let keys = find_keys(alloc, file, suffix, files, output, logs)?;
     tell_count(alloc, file, keys, output)
 }
 
 /// Verifies the file of this name and more ones. The first one that isn't verified ends it.
-fn verify_files<F: Files, K: Sink>(
+fn verify_files<F: Files, K: Sink, L: Logs>(
     alloc: Global,
     file: &str,
     more: &[Text],
     suffix: &str,
     files: &mut F,
     output: &mut K,
+    logs: &mut L,
 ) -> Result<(), Unverified>
     requires fits { VerifyFits suffix.now (file.now ∷ more.now) }
     requires free { (other : List ℕ) → F.is_taken files.old other ≡ false }
@@ -227,10 +242,11 @@ fn verify_files<F: Files, K: Sink>(
     ensures output_cause { HasCauseOf Is.Unprinted (K.faults output.old) (K.faults output.new) result }
     ensures others { (other : List ℕ) → (IsNameAmong true suffix.now (file.now ∷ more.now) other → ⊥) → F.held files.new other ≡ F.held files.old other }
     ensures given_back { (other : List ℕ) → F.is_taken files.new other ≡ false }
+    ensures heard { IsTrue F.D.tells → VerifyHeard suffix.now (file.now ∷ more.now) (F.held files.old) (count_ending result) (L.logs logs.old) (L.logs logs.new) }
 {
-    verify_file(alloc, file, suffix, files, output)?;
+    verify_file(alloc, file, suffix, files, output, logs)?;
     for name in more {
-        verify_file(alloc, name.as_str(), suffix, files, output)?;
+        verify_file(alloc, name.as_str(), suffix, files, output, logs)?;
     }
     Ok(())
 }
@@ -238,13 +254,14 @@ fn verify_files<F: Files, K: Sink>(
 /// Verifies the file of this name and more ones: each is opened, and it is told how many keys it has. One that has a
 /// fault is restored before from its copy, whose name has the suffix, and that is told too. The first one that isn't
 /// verified ends it.
-pub(crate) fn verify<F: Files, K: Sink>(
+pub(crate) fn verify<F: Files, K: Sink, L: Logs>(
     alloc: Global,
     file: &str,
     more: &[Text],
     suffix: &str,
     files: &mut F,
     output: &mut K,
+    logs: &mut L,
 ) -> Result<Ending, Unprinted>
     requires fits { VerifyFits suffix.now (file.now ∷ more.now) }
     requires free { (other : List ℕ) → F.is_taken files.old other ≡ false }
@@ -257,8 +274,9 @@ pub(crate) fn verify<F: Files, K: Sink>(
     ensures given_back { (other : List ℕ) → F.is_taken files.new other ≡ false }
     ensures asked { ending_of result ≡ Usage → ⊥ }
     ensures unread { of_input (ending_of result) ≡ false }
+    ensures heard { IsTrue F.D.tells → VerifyHeard suffix.now (file.now ∷ more.now) (F.held files.old) (ending_of result) (L.logs logs.old) (L.logs logs.new) }
 {
-    match verify_files(alloc, file, more, suffix, files, output) {
+    match verify_files(alloc, file, more, suffix, files, output, logs) {
         Ok(()) => Ok(Ending::Replied(Reply::Verified)),
         Err(Unverified::Ends(ending)) => Ok(ending),
         Err(Unverified::Unprinted) => Err(Unprinted::Files),

@@ -3,10 +3,13 @@ use Rattle.tdb_disk.specs.History.{began}
 use Rattle.tdb_disk.specs.Count.{Rose}
 use Rattle.tdb_disk.specs.declared.files.Take.TheVariants.{Existing, New}
 use Rattle.tdb_ask.specs.declared.ask.Task.TheVariants.{On}
-use Rattle.tdb_top.specs.declared.halt.Halt.TheVariants.{Device}
-use Rattle.tdb_top.specs.Ending.{TaskCause}
+use Rattle.tdb_open.specs.declared.halt.Halt.TheVariants.{Device}
+use Rattle.tdb_top.specs.Ending.{TaskCause, of_halt}
+use Rattle.tdb_top.specs.declared.ending.Ending.TheVariants.{Replied}
+use Rattle.tdb_top.specs.Heard.{ActHeard}
 use Rattle.tdb_top.specs.Left.{OnLeaves}
 use Rattle.tdb_top.proofs.Acting.{rose_earlier, replied_cause, replied_left, halted_cause, halted_left, untaken_cause, untaken_left}
+use Rattle.tdb_top.proofs.Hearing.{act_taken, act_untaken}
 use Rattle.tdb_top.proofs.Held.{held_there}
 use Rattle.tdb_top.proofs.act.act_on_file.Goals as goal
 use Rattle.tdb_top.proofs.act.act_on_file.Goals.{After-give}
@@ -59,3 +62,24 @@ pub returns-in-Err-clause-left : goal.returns-in-Err-clause-left
 returns-in-Err-clause-left g c told =
     untaken_left c.args.act.now c.args.name.now (g.F.Files.held c.args.files.now c.args.name.now) (g.F.Files.held c.take.new.self c.args.name.now) c.in-Err.refusal _
     (c.in-Err.ensures.refused_held c.args.name.now) (λ is. ((c.in-Err.ensures.missing told).0 (ap Err is)).0) (λ is. let new : Existing ≡ New = c.in-Err.ensures.there_how (ap Err is) in cc) c.untaken.ensures
+
+-- what logs heard of it
+pub returns-in-Ok-acted-clause-heard : goal.returns-in-Ok-acted-clause-heard
+returns-in-Ok-acted-clause-heard g c told =
+    act_taken c.args.act.now.limit (g.F.Files.held c.args.files.now c.args.name.now) (g.F.Files.held c.give.new.self c.args.name.now) (g.F.D.Disk.history c.in-Ok.disk) (g.F.D.Disk.history c.act_on_disk-acted.new.disk)
+    (Replied c.in-Ok-acted.reply) (g.L.Logs.logs c.args.logs.now) (g.L.Logs.logs c.act_on_disk-acted.new.logs) (there g ((goal.at.returns-in-Ok-acted-clause-heard g c).After-give) told) (c.give.ensures.held told) (c.in-Ok-acted.ensures.heard told)
+
+pub returns-in-Err-acted-clause-heard : goal.returns-in-Err-acted-clause-heard
+returns-in-Err-acted-clause-heard g c told =
+    let held = g.F.Files.held c.args.files.now c.args.name.now in
+    let given = g.F.Files.held c.give.new.self c.args.name.now in
+    let logs = g.L.Logs.logs c.args.logs.now in
+    let later = g.L.Logs.logs c.act_on_disk-acted.new.logs in
+    subst (λ e. ActHeard c.args.act.now.limit held given e logs later) (sym c.from.ensures)
+    (act_taken c.args.act.now.limit held given (g.F.D.Disk.history c.in-Ok.disk) (g.F.D.Disk.history c.act_on_disk-acted.new.disk) (of_halt c.in-Err-acted.halt) logs later
+    (there g ((goal.at.returns-in-Err-acted-clause-heard g c).After-give) told) (c.give.ensures.held told) (c.in-Err-acted.ensures.heard told))
+
+pub returns-in-Err-clause-heard : goal.returns-in-Err-clause-heard
+returns-in-Err-clause-heard g c told =
+    act_untaken c.args.name.now c.in-Err.refusal c.untaken.result (g.L.Logs.logs c.args.logs.now) (λ is. let new : Existing ≡ New = c.in-Err.ensures.there_how (ap Err is) in cc) c.untaken.ensures
+    c.args.act.now.limit (g.F.Files.held c.args.files.now c.args.name.now) (g.F.Files.held c.take.new.self c.args.name.now) (λ is. ((c.in-Err.ensures.missing told).0 (ap Err is)).0)

@@ -10,6 +10,7 @@ use Rattle.tdb_ask.specs.declared.ask.Task.TheVariants.{Verify}
 use Rattle.tdb_top.specs.Commands.Verify.{VerifyText, VerifyCause}
 use Rattle.tdb_top.specs.Looks.{ending_of, Began}
 use Rattle.tdb_top.specs.Printed.{TaskText, task_tells}
+use Rattle.tdb_top.specs.Heard.{TaskHeard, VerifyHeard}
 use Rattle.tdb_top.proofs.Looking.{began_as}
 use Rattle.tdb_top.proofs.Acting.{made_cause, made_left, backup_ends, verify_ends, gen_ends}
 use Rattle.tdb_top.proofs.answering.answer_ask.Goals as goal
@@ -85,3 +86,14 @@ returns-in-Generate-clause-cause g c told =
     let e = c.generate_file.result in
     gen_ends (input_by g.S.Source.tells (g.S.Source.left c.args.input.now) (g.S.Source.faults c.args.input.now) (g.S.Source.faults c.args.input.now)) c.args.ask.now.task c.in-Generate.commands c.in-Generate.seed (string_bytes c.args.ask.now.file) held before now e c.in-Generate.is
     (subst (λ n. GenCause c.in-Generate.commands c.in-Generate.seed n (held n) before now e) c.as_str-name.ensures.value (c.generate_file.ensures.cause told))
+
+-- what logs heard of files that were verified
+pub returns-in-Verify-clause-told : goal.returns-in-Verify-clause-told
+returns-in-Verify-clause-told g c told =
+    let held = g.F.Files.held c.args.files.now in
+    let now = g.F.Files.held c.verify.new.files in
+    let e = ending_of c.verify.result in
+    let logs = g.L.Logs.logs c.args.logs.now in
+    let later = g.L.Logs.logs c.verify.new.logs in
+    subst (λ t. TaskHeard t (string_bytes c.args.ask.now.file) held now e logs later) (sym c.in-Verify.is)
+    (subst (λ (q : List ℕ × (List ℕ × List (List ℕ))). VerifyHeard q.0 (q.1.0 ∷ q.1.1) held e logs later) (λ j. (c.as_str-in-Verify.ensures j, (c.as_str-name.ensures.value j, c.as_slice-in-Verify.ensures j))) (c.verify.ensures.heard told))

@@ -1,9 +1,11 @@
-use Rattle.std.proofs.Common.{◌≡◌, [], true, Err, Some, refl, ap}
+use Rattle.std.proofs.Common.{◌≡◌, [], true, Err, Some, refl, sym, ap, subst}
 use Rattle.tdb_disk.specs.History.{began}
 use Rattle.tdb_disk.specs.declared.files.Take.TheVariants.{ReadOnly, New}
 use Rattle.tdb_ask.specs.declared.ask.Task.TheVariants.{Read}
 use Rattle.tdb_top.specs.Looks.{LookText, ending_of}
 use Rattle.tdb_top.proofs.Acting.{untaken_cause}
+use Rattle.tdb_top.specs.Heard.{LookHeard}
+use Rattle.tdb_top.proofs.Hearing.{look_untaken}
 use Rattle.tdb_top.proofs.Held.{held_there}
 use Rattle.tdb_top.proofs.Looking.{look_cause, files_counted, nothing, untaken_text}
 use Rattle.tdb_top.proofs.look.look_on_file.Goals as goal
@@ -34,3 +36,13 @@ pub returns-in-Err-clause-began : goal.returns-in-Err-clause-began
 returns-in-Err-clause-began g c told =
     let held = g.F.Files.held c.args.files.now c.args.name.now in
     nothing (LookText c.args.look.now held) c.untaken.result (g.K.Sink.written c.args.output.now) (untaken_text c.args.look.now held c.args.name.now c.in-Err.refusal c.untaken.result c.untaken.ensures)
+
+-- what logs heard of it
+pub returns-in-Ok-clause-heard : goal.returns-in-Ok-clause-heard
+returns-in-Ok-clause-heard g c told =
+    subst (λ o. LookHeard o (ending_of c.look_on_disk-looked.result) (g.L.Logs.logs c.args.logs.now) (g.L.Logs.logs c.look_on_disk-looked.new.logs)) (sym (there g ((goal.at.returns-in-Ok-clause-heard g c).After-give) told)) (c.look_on_disk-looked.ensures.heard told)
+
+pub returns-in-Err-clause-heard : goal.returns-in-Err-clause-heard
+returns-in-Err-clause-heard g c told =
+    look_untaken c.args.name.now c.in-Err.refusal c.untaken.result (g.L.Logs.logs c.args.logs.now) (λ is. let new : ReadOnly ≡ New = c.in-Err.ensures.there_how (ap Err is) in cc) c.untaken.ensures
+    (g.F.Files.held c.args.files.now c.args.name.now) (λ is. ((c.in-Err.ensures.missing told).0 (ap Err is)).0)

@@ -29,7 +29,7 @@ just g c told =
 pub returns-clause-played : goal.returns-clause-played
 returns-clause-played g c told =
     let j = just g ((goal.at.returns-clause-played g c).After-new-world) told in
-    subst (λ (q : Header × Options). PlayedOver (form_in q.0) q.1 (seen (g.D.Disk.history c.args.disk.now)) c.args.plays.now (seen (g.D.Disk.history c.play_in-played.new.disk)) g.K.Sink.tells (g.K.Sink.written c.args.output.now) (g.K.Sink.written c.play_in-played.new.output) c.play_in-played.result)
+    subst (λ (q : Header × Options). PlayedOver (form_in q.0) q.1 (seen (g.D.Disk.history c.args.disk.now)) c.args.plays.now (seen (g.D.Disk.history c.play_in-played.new.disk)) g.K.Sink.tells (g.K.Sink.written c.args.output.now) (g.K.Sink.written c.play_in-played.new.output) (g.L.Logs.logs c.args.logs.now) (g.L.Logs.logs c.play_in-played.new.logs) c.play_in-played.result)
     (λ i. (c.new-world.ensures.header i, c.new-world.ensures.options i))
     (c.play_in-played.ensures.played told j.0 j.1)
 

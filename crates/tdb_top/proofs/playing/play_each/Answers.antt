@@ -15,27 +15,27 @@ play_some-requires-clause-fits g c = c.loop-i.invariant.ran.fits
 -- none was taken, and all were
 pub loop-i-init : goal.loop-i-init
 loop-i-init g c = record {
-  ran = ran_none g.D.Disk.tells g.K.Sink.tells (scene c.args.world.now (g.D.Disk.history c.args.disk.now) (g.D.Disk.size c.args.disk.now) (g.D.Disk.faults c.args.disk.now) (g.K.Sink.written c.args.output.now)) c.requires.fits;
+  ran = ran_none g.D.Disk.tells g.K.Sink.tells (scene c.args.world.now (g.D.Disk.history c.args.disk.now) (g.D.Disk.size c.args.disk.now) (g.D.Disk.faults c.args.disk.now) (g.K.Sink.written c.args.output.now) (g.L.Logs.logs c.args.logs.now)) c.requires.fits;
   stops = stops_none g.D.Disk.tells g.K.Sink.tells
-      (scene c.args.world.now (g.D.Disk.history c.args.disk.now) (g.D.Disk.size c.args.disk.now) (g.D.Disk.faults c.args.disk.now) (g.K.Sink.written c.args.output.now));
+      (scene c.args.world.now (g.D.Disk.history c.args.disk.now) (g.D.Disk.size c.args.disk.now) (g.D.Disk.faults c.args.disk.now) (g.K.Sink.written c.args.output.now) (g.L.Logs.logs c.args.logs.now));
   out = refl;
 }
 
 pub returns-clause-ran : goal.returns-clause-ran
 returns-clause-ran g c =
-    subst (λ ps. Ran g.D.Disk.tells g.K.Sink.tells (scene c.args.world.now (g.D.Disk.history c.args.disk.now) (g.D.Disk.size c.args.disk.now) (g.D.Disk.faults c.args.disk.now) (g.K.Sink.written c.args.output.now))
-    (scene c.loop-i.world (g.D.Disk.history c.loop-i.disk) (g.D.Disk.size c.loop-i.disk) (g.D.Disk.faults c.loop-i.disk) (g.K.Sink.written c.loop-i.output)) ps (Ok (Ok tt)))
+    subst (λ ps. Ran g.D.Disk.tells g.K.Sink.tells (scene c.args.world.now (g.D.Disk.history c.args.disk.now) (g.D.Disk.size c.args.disk.now) (g.D.Disk.faults c.args.disk.now) (g.K.Sink.written c.args.output.now) (g.L.Logs.logs c.args.logs.now))
+    (scene c.loop-i.world (g.D.Disk.history c.loop-i.disk) (g.D.Disk.size c.loop-i.disk) (g.D.Disk.faults c.loop-i.disk) (g.K.Sink.written c.loop-i.output) (g.L.Logs.logs c.loop-i.logs)) ps (Ok (Ok tt)))
     (take_all c.loop-i.i c.args.plays.now c.loop-i-test.false) c.loop-i.invariant.ran
 
 -- before all plays, before the next one, and after it
 abbrev start : (g : _) (c : After-play_some g) → Scene
-start g c = scene c.args.world.now (g.D.Disk.history c.args.disk.now) (g.D.Disk.size c.args.disk.now) (g.D.Disk.faults c.args.disk.now) (g.K.Sink.written c.args.output.now)
+start g c = scene c.args.world.now (g.D.Disk.history c.args.disk.now) (g.D.Disk.size c.args.disk.now) (g.D.Disk.faults c.args.disk.now) (g.K.Sink.written c.args.output.now) (g.L.Logs.logs c.args.logs.now)
 
 abbrev mid : (g : _) (c : After-play_some g) → Scene
-mid g c = scene c.loop-i.world (g.D.Disk.history c.loop-i.disk) (g.D.Disk.size c.loop-i.disk) (g.D.Disk.faults c.loop-i.disk) (g.K.Sink.written c.loop-i.output)
+mid g c = scene c.loop-i.world (g.D.Disk.history c.loop-i.disk) (g.D.Disk.size c.loop-i.disk) (g.D.Disk.faults c.loop-i.disk) (g.K.Sink.written c.loop-i.output) (g.L.Logs.logs c.loop-i.logs)
 
 abbrev last : (g : _) (c : After-play_some g) → Scene
-last g c = scene c.play_some.new.world (g.D.Disk.history c.play_some.new.disk) (g.D.Disk.size c.play_some.new.disk) (g.D.Disk.faults c.play_some.new.disk) (g.K.Sink.written c.play_some.new.output)
+last g c = scene c.play_some.new.world (g.D.Disk.history c.play_some.new.disk) (g.D.Disk.size c.play_some.new.disk) (g.D.Disk.faults c.play_some.new.disk) (g.K.Sink.written c.play_some.new.output) (g.L.Logs.logs c.play_some.new.logs)
 
 -- they broke off
 broken : (g : _) (c : After-play_some g) (answer : PlaysEnd) → (answer ≡ Ok (Ok tt) → ⊥)

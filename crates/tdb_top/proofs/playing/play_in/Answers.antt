@@ -24,13 +24,13 @@ is_read g c new is =
 
 -- they broke off
 broken : (g : _) (c : After-play_each g) (answer : PlaysEnd) → g.D.Disk.tells ≡ true → c.play_each.result ≡ answer → (answer ≡ Ok (Ok tt) → ⊥) → (state : State) → IsJustLoaded c.args.world.now (g.D.Disk.history c.args.disk.now) state
-    → PlayedOver (form_at c.args.world.now) (options_at c.args.world.now) (seen (g.D.Disk.history c.args.disk.now)) c.args.plays.now (seen (g.D.Disk.history c.play_each.new.disk)) g.K.Sink.tells (g.K.Sink.written c.args.output.now) (g.K.Sink.written c.play_each.new.output) answer
+    → PlayedOver (form_at c.args.world.now) (options_at c.args.world.now) (seen (g.D.Disk.history c.args.disk.now)) c.args.plays.now (seen (g.D.Disk.history c.play_each.new.disk)) g.K.Sink.tells (g.K.Sink.written c.args.output.now) (g.K.Sink.written c.play_each.new.output) (g.L.Logs.logs c.args.logs.now) (g.L.Logs.logs c.play_each.new.logs) answer
 broken g c answer told is other state just =
     let left = IsStateOf c.play_each.new.world (g.D.Disk.history c.play_each.new.disk) in
-    broken_off (form_at c.args.world.now) (options_at c.args.world.now) (seen (g.D.Disk.history c.args.disk.now)) c.args.plays.now state just.loaded just.over g.K.Sink.tells
+    broken_off (form_at c.args.world.now) (options_at c.args.world.now) (seen (g.D.Disk.history c.args.disk.now)) c.args.plays.now state just.loaded just.over g.K.Sink.tells (g.L.Logs.logs c.args.logs.now) (g.L.Logs.logs c.play_each.new.logs)
     left (seen (g.D.Disk.history c.play_each.new.disk)) (g.K.Sink.written c.args.output.now) (g.K.Sink.written c.play_each.new.output) answer other
     (λ new at. subst (λ r. UnlessBroken r (IsReadAs (form_at c.args.world.now) (seen (g.D.Disk.history c.play_each.new.disk)) new)) is (is_read g c new at))
-    (subst (RunsTo (form_at c.args.world.now) state c.args.plays.now left g.K.Sink.tells (g.K.Sink.written c.args.output.now) (g.K.Sink.written c.play_each.new.output)) is
+    (subst (RunsTo (form_at c.args.world.now) state c.args.plays.now left g.K.Sink.tells (g.K.Sink.written c.args.output.now) (g.K.Sink.written c.play_each.new.output) (g.L.Logs.logs c.args.logs.now) (g.L.Logs.logs c.play_each.new.logs)) is
     (c.play_each.ensures.ran.runs told state just.of_world))
 
 pub returns-in_err-play_each-clause-played : goal.returns-in_err-play_each-clause-played
@@ -64,20 +64,20 @@ returns-in-Ok-clause-played g c told state just =
     let h = g.D.Disk.history c.play_each.new.disk in
     let left = IsStateOf c.play_each.new.world h in
     let all = c.in_ok-play_each.was ∙ ap Ok c.in-Ok.is in
-    let p = subst (RunsTo (form_at c.args.world.now) state c.args.plays.now left g.K.Sink.tells (g.K.Sink.written c.args.output.now) (g.K.Sink.written c.play_each.new.output)) all (c.play_each.ensures.ran.runs told state just.of_world) in
+    let p = subst (RunsTo (form_at c.args.world.now) state c.args.plays.now left g.K.Sink.tells (g.K.Sink.written c.args.output.now) (g.K.Sink.written c.play_each.new.output) (g.L.Logs.logs c.args.logs.now) (g.L.Logs.logs c.play_each.new.logs)) all (c.play_each.ensures.ran.runs told state just.of_world) in
     let read = subst (λ r. UnlessBroken r (IsReadAs (form_at c.args.world.now) (seen h) p.0)) all (is_read g a p.0 p.1) in
     let fits = subst (λ r. UnlessBroken r (WorldFits c.play_each.new.world (seen h) (g.D.Disk.size c.play_each.new.disk))) all c.play_each.ensures.ran.fits in
     let e = c.tell_unfinished.ensures.told in
-    finished (form_at c.args.world.now) (options_at c.args.world.now) (seen (g.D.Disk.history c.args.disk.now)) c.args.plays.now state just.loaded just.over g.K.Sink.tells
+    finished (form_at c.args.world.now) (options_at c.args.world.now) (seen (g.D.Disk.history c.args.disk.now)) c.args.plays.now state just.loaded just.over g.K.Sink.tells (g.L.Logs.logs c.args.logs.now) (g.L.Logs.logs c.play_each.new.logs)
     p.0 e.lines (ends_alike c.play_each.new.world (seen h) (g.D.Disk.size c.play_each.new.disk) h p.0 e.lines fits p.1 e.is_end) (seen h) (g.K.Sink.written c.args.output.now) (g.K.Sink.written c.play_each.new.output) (g.K.Sink.written c.tell_unfinished.new.output) read p.2 report_lawful
     c.tell_unfinished.result c.tell_unfinished.ensures.unbroken e.whole e.front
 
 -- before the plays and after them
 abbrev start : (g : _) (c : After-play_each g) → Scene
-start g c = scene c.args.world.now (g.D.Disk.history c.args.disk.now) (g.D.Disk.size c.args.disk.now) (g.D.Disk.faults c.args.disk.now) (g.K.Sink.written c.args.output.now)
+start g c = scene c.args.world.now (g.D.Disk.history c.args.disk.now) (g.D.Disk.size c.args.disk.now) (g.D.Disk.faults c.args.disk.now) (g.K.Sink.written c.args.output.now) (g.L.Logs.logs c.args.logs.now)
 
 abbrev last : (g : _) (c : After-play_each g) → Scene
-last g c = scene c.play_each.new.world (g.D.Disk.history c.play_each.new.disk) (g.D.Disk.size c.play_each.new.disk) (g.D.Disk.faults c.play_each.new.disk) (g.K.Sink.written c.play_each.new.output)
+last g c = scene c.play_each.new.world (g.D.Disk.history c.play_each.new.disk) (g.D.Disk.size c.play_each.new.disk) (g.D.Disk.faults c.play_each.new.disk) (g.K.Sink.written c.play_each.new.output) (g.L.Logs.logs c.play_each.new.logs)
 
 -- what stops leave of them
 pub returns-in_err-play_each-clause-stops : goal.returns-in_err-play_each-clause-stops

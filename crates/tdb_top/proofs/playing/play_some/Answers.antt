@@ -14,9 +14,11 @@ returns-clause-ran g c =
     let now = c.run-played.new.d in
     let w0 = g.K.Sink.written c.args.output.now in
     let w1 = g.K.Sink.written c.tell-told.new.output in
-    subst (Ran g.D.Disk.tells g.K.Sink.tells (scene a (g.D.Disk.history old) (g.D.Disk.size old) (g.D.Disk.faults old) w0) (scene b (g.D.Disk.history now) (g.D.Disk.size now) (g.D.Disk.faults now) w1) c.args.plays.now) (sym c.ended.ensures)
+    let logs = g.L.Logs.logs c.args.logs.now in
+    let later = g.L.Logs.logs c.run-played.new.logs in
+    subst (Ran g.D.Disk.tells g.K.Sink.tells (scene a (g.D.Disk.history old) (g.D.Disk.size old) (g.D.Disk.faults old) w0 logs) (scene b (g.D.Disk.history now) (g.D.Disk.size now) (g.D.Disk.faults now) w1 later) c.args.plays.now) (sym c.ended.ensures)
     (ran_of g.D.Disk.tells g.K.Sink.tells a b (g.D.Disk.history old) (g.D.Disk.history now) (g.D.Disk.size old) (g.D.Disk.size now) (g.D.Disk.faults old) (g.D.Disk.faults now) c.new-report.result.lines c.run-played.new.report.lines c.new-report.ensures
-    c.args.plays.now w0 w1 c.run-played.result c.tell-told.result c.run-played.ensures.led c.tell-told.ensures.whole c.tell-told.ensures.front)
+    c.args.plays.now w0 w1 logs later c.run-played.result c.tell-told.result c.run-played.ensures.led c.tell-told.ensures.whole c.tell-told.ensures.front c.run-played.ensures.heard)
 
 -- what stops leave
 pub returns-clause-stops : goal.returns-clause-stops
@@ -27,8 +29,10 @@ returns-clause-stops g c =
     let now = c.run-played.new.d in
     let w0 = g.K.Sink.written c.args.output.now in
     let w1 = g.K.Sink.written c.tell-told.new.output in
-    subst (StopsTold g.D.Disk.tells g.K.Sink.tells (scene a (g.D.Disk.history old) (g.D.Disk.size old) (g.D.Disk.faults old) w0)
-    (scene b (g.D.Disk.history now) (g.D.Disk.size now) (g.D.Disk.faults now) w1)) (sym c.ended.ensures)
+    let logs = g.L.Logs.logs c.args.logs.now in
+    let later = g.L.Logs.logs c.run-played.new.logs in
+    subst (StopsTold g.D.Disk.tells g.K.Sink.tells (scene a (g.D.Disk.history old) (g.D.Disk.size old) (g.D.Disk.faults old) w0 logs)
+    (scene b (g.D.Disk.history now) (g.D.Disk.size now) (g.D.Disk.faults now) w1 later)) (sym c.ended.ensures)
     (stops_of g.D.Disk.tells g.K.Sink.tells a b (g.D.Disk.history old) (g.D.Disk.history now) (g.D.Disk.size old) (g.D.Disk.size now) (g.D.Disk.faults old) (g.D.Disk.faults now)
     c.new-report.result.lines c.run-played.new.report.lines c.new-report.ensures
-    w0 w1 c.run-played.result c.tell-told.result c.run-played.ensures.stops c.tell-told.ensures.whole c.tell-told.ensures.front)
+    w0 w1 logs later c.run-played.result c.tell-told.result c.run-played.ensures.stops c.tell-told.ensures.whole c.tell-told.ensures.front)

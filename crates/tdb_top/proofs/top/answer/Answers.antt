@@ -12,7 +12,9 @@ use Rattle.tdb_top.specs.Run.{is_due, memory_wanting}
 use Rattle.tdb_ask.specs.Ask.{Ask, asked, ask_of}
 use Rattle.tdb_top.specs.Left.{Leaving}
 use Rattle.tdb_top.specs.Stops.{StopsHeld}
+use Rattle.tdb_top.specs.Heard.{AskHeard}
 use Rattle.tdb_top.proofs.Acting.{words_want, not_heard}
+use Rattle.tdb_top.proofs.Hearing.{ask_unheard}
 use Rattle.tdb_top.proofs.Looking.{nothing, began_as}
 use Rattle.tdb_top.proofs.Runs.{asked_cause}
 use Rattle.tdb_top.proofs.Sessions.{wants_held}
@@ -64,7 +66,7 @@ pub returns-in-Err-clause-served : goal.returns-in-Err-clause-served
 returns-in-Err-clause-served g c limit name asks told =
     let n = g.S.Source.faults c.args.input.now in
     let held = g.F.Files.held c.args.files.now name in
-    wants_held limit (input_by g.S.Source.tells (g.S.Source.left c.args.input.now) n n) name held held held g.K.Sink.tells (g.K.Sink.written c.args.output.now) refl
+    wants_held limit (input_by g.S.Source.tells (g.S.Source.left c.args.input.now) n n) name held (g.L.Logs.logs c.args.logs.now) held held g.K.Sink.tells (g.K.Sink.written c.args.output.now) refl
 
 -- what stops leave of a file of turns
 pub returns-in-Ok-Some-clause-stops : goal.returns-in-Ok-Some-clause-stops
@@ -97,3 +99,17 @@ returns-in-Err-clause-heard g c = not_heard _ _ NoMemory refl refl
 
 pub returns-in-Err-clause-unread : goal.returns-in-Err-clause-unread
 returns-in-Err-clause-unread g c unread = (refl, refl)
+
+-- what logs heard
+pub returns-in-Ok-Some-clause-told : goal.returns-in-Ok-Some-clause-told
+returns-in-Ok-Some-clause-told g c told =
+    subst (λ a. AskHeard a (g.F.Files.held c.args.files.now) (g.F.Files.held c.answer_ask.new.files) (ending_of c.answer_ask.result) (g.L.Logs.logs c.args.logs.now) (g.L.Logs.logs c.answer_ask.new.logs))
+    (rw c.in-Ok-Some.field-0-is at c.in-Ok-Some.ensures.read) (c.answer_ask.ensures.told told)
+
+pub returns-in-Ok-None-clause-told : goal.returns-in-Ok-None-clause-told
+returns-in-Ok-None-clause-told g c told =
+    let logs = g.L.Logs.logs c.args.logs.now in
+    subst (λ a. AskHeard a (g.F.Files.held c.args.files.now) (g.F.Files.held c.args.files.now) Usage logs logs) (rw c.in-Ok-None.field-0-is at c.in-Ok-None.ensures.read) refl
+
+pub returns-in-Err-clause-told : goal.returns-in-Err-clause-told
+returns-in-Err-clause-told g c told = ask_unheard (ask_of (map string_bytes c.args.words.now)) (g.F.Files.held c.args.files.now) (g.L.Logs.logs c.args.logs.now)

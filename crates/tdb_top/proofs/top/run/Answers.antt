@@ -51,13 +51,13 @@ returns-clause-refused g c told =
 pub returns-clause-left : goal.returns-clause-left
 returns-clause-left g c told =
     let a = (goal.at.returns-clause-left g c).After-finish in
-    leaves_files (ran g a) (ending_of c.answer-answered.result) (exits g.F.D.Disk.tells (ran g a) c.finish.ensures.0 (ending_of c.answer-answered.result) c.finish.ensures.1 (prints g a))
+    leaves_files (ran g a) (g.L.Logs.logs c.args.logs.now) (g.L.Logs.logs c.answer-answered.new.logs) (ending_of c.answer-answered.result) (exits g.F.D.Disk.tells (ran g a) c.finish.ensures.0 (ending_of c.answer-answered.result) c.finish.ensures.1 (prints g a))
     (asked_counted g.F.D.Disk.tells (ran g a).ask (ran g a).faults_before (ran g a).faults_after (ending_of c.answer-answered.result) told c.answer-answered.ensures.counted)
     (silent_exits g.F.D.Disk.tells (ran g a) c.finish.ensures.0 (ending_of c.answer-answered.result) c.finish.ensures.1 (prints g a)) (c.answer-answered.ensures.left told)
     (λ options name old now asks there left zero.
     (let r = ran g a in
     whole_by options r.input g.K.Sink.tells (g.K.Sink.written c.args.output.now) (g.K.Sink.written c.answer-answered.new.output) (g.K.Sink.written c.finish.new.output)
-    (g.K.Sink.faults c.args.output.now) (g.K.Sink.faults c.answer-answered.new.output) (g.K.Sink.faults c.finish.new.output)
+    (g.K.Sink.faults c.args.output.now) (g.K.Sink.faults c.answer-answered.new.output) (g.K.Sink.faults c.finish.new.output) (g.L.Logs.logs c.args.logs.now) (g.L.Logs.logs c.answer-answered.new.logs)
     r.ask name r.old r.now r.faults_before r.faults_after c.answer-answered.result c.finish.ensures.0 c.finish.result.0 asks (c.answer-answered.ensures.cause told) c.finish.ensures.1 c.finish.ensures.2 zero
     (λ is. c.answer-answered.ensures.played options name asks told is) old now there left))
     (λ limit name old now asks there left.
@@ -67,7 +67,7 @@ returns-clause-left g c told =
     r.faults_before r.faults_after c.finish.ensures.0 c.finish.result.0 c.answer-answered.result c.finish.ensures.1 c.finish.ensures.2
     (asked_counted g.F.D.Disk.tells r.ask r.faults_before r.faults_after (ending_of c.answer-answered.result) told c.answer-answered.ensures.counted)
     (exits g.F.D.Disk.tells r c.finish.ensures.0 (ending_of c.answer-answered.result) c.finish.ensures.1 (prints g a))
-    (r.old name) (r.now name) (c.answer-answered.ensures.served limit name asks told) old now there left))
+    (r.old name) (r.now name) (g.L.Logs.logs c.args.logs.now) (g.L.Logs.logs c.answer-answered.new.logs) (c.answer-answered.ensures.served limit name asks told) old now there left))
     (λ commands seed name text. summary_shown g.F.D.Disk.tells (ran g a) c.finish.ensures.0 (ending_of c.answer-answered.result) commands seed name text c.finish.ensures.1 (prints g a))
 
 pub returns-clause-stops : goal.returns-clause-stops
@@ -94,8 +94,17 @@ returns-clause-stopped g c told limit name asks =
     let text = g.K.Sink.written c.answer-answered.new.output in (
       text,
       line_behind g.K.Sink.tells text (g.K.Sink.written c.finish.new.output) (g.K.Sink.faults c.answer-answered.new.output) (g.K.Sink.faults c.finish.new.output) c.answer-answered.result c.finish.ensures.0 c.finish.result.0 c.finish.ensures.2,
-      held_served limit r.input g.K.Sink.tells (g.K.Sink.written c.args.output.now) text c.answer-answered.result (r.old name) (r.now name) (c.answer-answered.ensures.served limit name asks told),
+      held_served limit r.input g.K.Sink.tells (g.K.Sink.written c.args.output.now) text (g.L.Logs.logs c.args.logs.now) (g.L.Logs.logs c.answer-answered.new.logs) c.answer-answered.result (r.old name) (r.now name) (c.answer-answered.ensures.served limit name asks told),
     )
+
+pub returns-clause-told : goal.returns-clause-told
+returns-clause-told g c told =
+    let a = (goal.at.returns-clause-told g c).After-finish in
+    record {
+      ending = ending_of c.answer-answered.result;
+      exits = exits g.F.D.Disk.tells (ran g a) c.finish.ensures.0 (ending_of c.answer-answered.result) c.finish.ensures.1 (prints g a);
+      heard = c.answer-answered.ensures.told told;
+    }
 
 pub returns-clause-accounted : goal.returns-clause-accounted
 returns-clause-accounted g c =

@@ -1,8 +1,9 @@
-use Rattle.std.proofs.Common.{◌≡◌, refl, sym}
-use Rattle.tdb_top.specs.declared.ending.Ending.TheVariants.{Replied}
+use Rattle.std.proofs.Common.{refl, sym}
+use Rattle.tdb_top.specs.declared.ending.Ending.TheVariants.{Replied, DeviceFault}
 use Rattle.tdb_top.specs.declared.ending.Reply.TheVariants.{Copied}
 use Rattle.tdb_top.proofs.Acting.{rose_earlier}
 use Rattle.tdb_top.proofs.BackingUp.{one_stopped, one_copied, one_unnamed}
+use Rattle.tdb_top.proofs.Hearing.{opened_as}
 use Rattle.tdb_top.proofs.commands.backup.back_up_as.Goals as goal
 
 -- the file wasn't copied
@@ -29,3 +30,7 @@ returns-in-Err-rename-clause-done g c told =
     (Replied Copied) (c.in-Ok.ensures.copied told) (g.F.Files.held c.rename.new.self) after refl (λ name. c.in-Err-rename.ensures.kept name)
     (c.copy_opened.ensures.others c.args.copy.now c.requires.copy_differs (λ same. c.requires.both_differ (sym same)))
     (rose_earlier before between after c.copy_opened.ensures.counted.never_falls c.in-Err-rename.ensures.cause.failed)
+
+pub returns-in-Err-rename-clause-heard : goal.returns-in-Err-rename-clause-heard
+returns-in-Err-rename-clause-heard g c told =
+    opened_as (g.F.Files.held c.args.files.now c.args.file.now) Copied DeviceFault (g.L.Logs.logs c.args.logs.now) (g.L.Logs.logs c.copy_opened.new.logs) (λ is. cc) (c.in-Ok.ensures.heard told)

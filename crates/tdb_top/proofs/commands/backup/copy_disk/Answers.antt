@@ -1,9 +1,13 @@
-use Rattle.std.proofs.Common.{◌≡◌, ◌<◌, ◌^◌, length, refl, rules, sym, ◌∙◌, subst}
+use Rattle.std.proofs.Common.{◌≡◌, ◌<◌, ◌^◌, [], length, refl, rules, sym, ◌∙◌, subst}
 use Rattle.tdb_disk.specs.History.{seen}
 use Rattle.tdb_top.specs.declared.ending.Ending.TheVariants.{Replied}
 use Rattle.tdb_top.specs.declared.ending.Reply.TheVariants.{Copied}
 use Rattle.tdb_top.specs.Commands.Backup.{CopyMade}
 use Rattle.tdb_top.proofs.BackingUp.{opened_short, opened_copied, halted_copied, halted_known, halted_other}
+use Rattle.tdb_open.specs.Opening.{opened_bytes}
+use Rattle.tdb_open.specs.Notices.{OpeningHeard}
+use Rattle.tdb_top.specs.Heard.{ToldFor}
+use Rattle.tdb_top.proofs.Hearing.{opened_alone, halted_heard, copy_unlogged}
 use Rattle.tdb_top.proofs.commands.backup.copy_disk.Goals as goal
 
 -- what was opened is short enough
@@ -44,3 +48,17 @@ returns-in-Err-clause-refused g c is = halted_other c.in-Err.halt (sym c.from.en
 
 pub returns-in-Err-clause-known : goal.returns-in-Err-clause-known
 returns-in-Err-clause-known g c = halted_known c.in-Err.halt c.from.result c.from.ensures
+
+-- what logs heard of it
+pub returns-then-is_copied-clause-heard : goal.returns-then-is_copied-clause-heard
+returns-then-is_copied-clause-heard g c told =
+    opened_alone (opened_bytes (seen (g.F.D.Disk.history c.args.from.now))) (OpeningHeard (seen (g.F.D.Disk.history c.args.from.now))) (Replied Copied) c.in-Ok.opened (g.L.Logs.logs c.args.logs.now) (g.L.Logs.logs c.open.new.logs) (c.in-Ok.ensures.opened told).counted (c.in-Ok.ensures.heard told) (λ is. cc)
+
+pub returns-else-is_copied-clause-heard : goal.returns-else-is_copied-clause-heard
+returns-else-is_copied-clause-heard g c told =
+    opened_alone (opened_bytes (seen (g.F.D.Disk.history c.args.from.now))) (OpeningHeard (seen (g.F.D.Disk.history c.args.from.now))) c.copy_to-ending.result c.in-Ok.opened (g.L.Logs.logs c.args.logs.now) (g.L.Logs.logs c.open.new.logs) (c.in-Ok.ensures.opened told).counted (c.in-Ok.ensures.heard told)
+    (copy_unlogged (seen (g.F.D.Disk.history c.open.new.disk)) (g.F.Files.held c.args.files.now c.args.name.now) (g.F.Files.held c.copy_to-ending.new.files c.args.name.now) c.copy_to-ending.result (c.copy_to-ending.ensures.left told))
+
+pub returns-in-Err-clause-heard : goal.returns-in-Err-clause-heard
+returns-in-Err-clause-heard g c told =
+    halted_heard (opened_bytes (seen (g.F.D.Disk.history c.args.from.now))) (OpeningHeard (seen (g.F.D.Disk.history c.args.from.now))) c.in-Err.halt c.from.result (ToldFor c.from.result []) (g.L.Logs.logs c.args.logs.now) (g.L.Logs.logs c.open.new.logs) (c.in-Err.ensures.heard told) c.from.ensures

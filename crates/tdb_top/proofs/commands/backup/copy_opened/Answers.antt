@@ -4,6 +4,8 @@ use Rattle.tdb_disk.specs.History.{History, began}
 use Rattle.tdb_disk.specs.declared.files.Take.TheVariants.{Existing, New}
 use Rattle.tdb_top.specs.Commands.Backup.{copy_ending, DiskCopied, file_taken}
 use Rattle.tdb_top.proofs.BackingUp.{untaken_file, untaken_ends, untaken_other, untaken_counted, given_counted}
+use Rattle.tdb_top.specs.Heard.{OpenHeard}
+use Rattle.tdb_top.proofs.Hearing.{open_untaken}
 use Rattle.tdb_top.proofs.Held.{held_there}
 use Rattle.tdb_top.proofs.commands.backup.copy_opened.Goals as goal
 use Rattle.tdb_top.proofs.commands.backup.copy_opened.Goals.{After-give}
@@ -53,3 +55,13 @@ pub returns-in-Err-clause-counted : goal.returns-in-Err-clause-counted
 returns-in-Err-clause-counted g c =
     untaken_counted (g.F.Files.faults c.args.files.now) (g.F.Files.faults c.take.new.self) c.args.file.now c.in-Err.refusal c.untaken.result
     c.in-Err.ensures.cause.never_falls c.in-Err.ensures.cause.failed c.in-Err.ensures.cause.refused c.untaken.ensures
+
+-- what logs heard of it
+pub returns-clause-heard : goal.returns-clause-heard
+returns-clause-heard g c told =
+    subst (λ o. OpenHeard o (copy_ending c.copy_disk-copied.result) (g.L.Logs.logs c.args.logs.now) (g.L.Logs.logs c.copy_disk-copied.new.logs)) (sym (there g ((goal.at.returns-clause-heard g c).After-give) told)) (c.copy_disk-copied.ensures.heard told)
+
+pub returns-in-Err-clause-heard : goal.returns-in-Err-clause-heard
+returns-in-Err-clause-heard g c told =
+    open_untaken c.args.file.now c.in-Err.refusal c.untaken.result (g.L.Logs.logs c.args.logs.now) (λ is. let new : Existing ≡ New = c.in-Err.ensures.there_how (ap Err is) in cc) c.untaken.ensures
+    (g.F.Files.held c.args.files.now c.args.file.now) (λ is. ((c.in-Err.ensures.missing told).0 (ap Err is)).0)

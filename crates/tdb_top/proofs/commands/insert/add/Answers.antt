@@ -2,9 +2,9 @@ use Rattle.std.proofs.Common.{◌≡◌, ℕ, List, length, ap, ◌∙◌, subst
 use Rattle.std.specs.Prelude.{IsTrue}
 use Rattle.tdb_disk.specs.History.{seen}
 use Rattle.tdb_space.specs.Form.{form_of}
-use Rattle.tdb_top.specs.declared.halt.Fault.TheVariants.{Device}
+use Rattle.tdb_open.specs.declared.halt.Fault.TheVariants.{Device}
 use Rattle.tdb_top.specs.Commands.Insert.{inserted, need_for, led_to, BrokenOff}
-use Rattle.tdb_top.proofs.Errors.{if_err}
+use Rattle.tdb_open.proofs.Errors.{if_err}
 use Rattle.tdb_top.proofs.Inserts.{nothing_done, as_inserted, room_needed}
 use Rattle.tdb_top.proofs.commands.insert.add.Goals as goal
 

@@ -5,11 +5,11 @@ use Rattle.tdb_words.specs.Header.{header_at}
 use Rattle.tdb_space.specs.Form.{Form, form_in, form_of}
 use Rattle.tdb_space.specs.Pairs.{map_of}
 use Rattle.tdb_space.specs.Accepted.{AcceptWith}
-use Rattle.tdb_top.specs.declared.opening.Opened.{Opened}
-use Rattle.tdb_top.specs.declared.halt.Fault.TheVariants.{Device}
-use Rattle.tdb_top.specs.Opening.{IsCheckedOn}
+use Rattle.tdb_open.specs.declared.opening.Opened.{Opened}
+use Rattle.tdb_open.specs.declared.halt.Fault.TheVariants.{Device}
+use Rattle.tdb_open.specs.Opening.{IsCheckedOn}
 use Rattle.tdb_top.specs.Commands.Insert.{inserted, need_for, IsInserted, HasAdded, InsertBroken}
-use Rattle.tdb_top.proofs.Errors.{if_err, if_this_err}
+use Rattle.tdb_open.proofs.Errors.{if_err, if_this_err}
 use Rattle.tdb_top.proofs.Found.{told_of}
 use Rattle.tdb_top.proofs.Added.{has_added}
 use Rattle.tdb_top.proofs.Inserts.{nothing_done, replies_there, replies_done, replies_full}

@@ -2,9 +2,11 @@ use Rattle.std.proofs.Common.{[], Some, sym, subst}
 use Rattle.tdb_disk.specs.History.{seen}
 use Rattle.tdb_top.specs.Commands.Dump.{pairs_text}
 use Rattle.tdb_top.specs.Commands.Print.{PrintLeft, PrintText}
-use Rattle.tdb_top.specs.Ending.{of_halt}
-use Rattle.tdb_top.specs.Looks.{StandsBefore, ending_of, Began}
-use Rattle.tdb_top.specs.Opening.{UndoneIfOpen, opened_bytes}
+use Rattle.tdb_top.specs.Looks.{StandsBefore, ending_of}
+use Rattle.tdb_open.specs.Opening.{UndoneIfOpen, opened_bytes}
+use Rattle.tdb_open.specs.Notices.{BelowHeard}
+use Rattle.tdb_top.specs.Heard.{ToldFor}
+use Rattle.tdb_top.proofs.Hearing.{opened_alone, halted_heard, print_unlogged}
 use Rattle.tdb_top.proofs.Looking.{began_as, nothing}
 use Rattle.tdb_top.proofs.Printing.{halted_stands, halted_print, opened_print}
 use Rattle.tdb_top.proofs.commands.print.print_on_disk.Goals as goal
@@ -35,3 +37,13 @@ returns-in-Err-clause-began g c told heard =
     let old = g.D.Disk.history c.args.disk.now in
     let text = pairs_text c.args.listing (opened_bytes (seen old)) in
     nothing (PrintText c.args.listing (Some old)) c.from.result (g.K.Sink.written c.args.output.now) (subst (λ e. StandsBefore text e []) (sym c.from.ensures) (halted_stands text c.in-Err.halt))
+
+-- what logs heard of it
+pub returns-in-Ok-clause-heard : goal.returns-in-Ok-clause-heard
+returns-in-Ok-clause-heard g c told =
+    opened_alone (opened_bytes (seen (g.D.Disk.history c.args.disk.now))) (BelowHeard c.args.limit (seen (g.D.Disk.history c.args.disk.now))) (ending_of c.print_pairs.result) c.in-Ok.opened (g.L.Logs.logs c.args.logs.now) (g.L.Logs.logs c.open_below.new.logs) (c.in-Ok.ensures.opened told).counted (c.in-Ok.ensures.heard told)
+    (print_unlogged (ending_of c.print_pairs.result) c.print_pairs.ensures.ends)
+
+pub returns-in-Err-clause-heard : goal.returns-in-Err-clause-heard
+returns-in-Err-clause-heard g c told =
+    halted_heard (opened_bytes (seen (g.D.Disk.history c.args.disk.now))) (BelowHeard c.args.limit (seen (g.D.Disk.history c.args.disk.now))) c.in-Err.halt c.from.result (ToldFor c.from.result []) (g.L.Logs.logs c.args.logs.now) (g.L.Logs.logs c.open_below.new.logs) (c.in-Err.ensures.heard told) c.from.ensures

@@ -1,11 +1,13 @@
-use Rattle.std.proofs.Common.{◌≡◌, [], true, Err, Some, refl, ap}
+use Rattle.std.proofs.Common.{◌≡◌, [], true, Err, Some, refl, sym, ap, subst}
 use Rattle.std.proofs.lemmas.Bool.{and_parts}
 use Rattle.tdb_disk.specs.History.{began}
 use Rattle.tdb_disk.specs.declared.files.Take.TheVariants.{Existing, New}
 use Rattle.tdb_ask.specs.declared.ask.Task.TheVariants.{Print}
 use Rattle.tdb_top.specs.Commands.Print.{PrintText}
-use Rattle.tdb_top.specs.Looks.{ending_of, Began}
+use Rattle.tdb_top.specs.Looks.{ending_of}
 use Rattle.tdb_top.proofs.Acting.{untaken_cause}
+use Rattle.tdb_top.specs.Heard.{PrintHeard}
+use Rattle.tdb_top.proofs.Hearing.{print_untaken}
 use Rattle.tdb_top.proofs.Held.{held_there}
 use Rattle.tdb_top.proofs.Looking.{files_counted, nothing}
 use Rattle.tdb_top.proofs.Printing.{print_cause, print_left, untaken_print, untaken_print_text}
@@ -55,3 +57,13 @@ pub returns-in-Err-clause-began : goal.returns-in-Err-clause-began
 returns-in-Err-clause-began g c =
     let held = g.F.Files.held c.args.files.now c.args.name.now in
     λ both. nothing (PrintText c.args.listing held) c.untaken.result (g.K.Sink.written c.args.output.now) (untaken_print_text c.args.listing held c.args.name.now c.in-Err.refusal c.untaken.result c.untaken.ensures)
+
+-- what logs heard of it
+pub returns-in-Ok-clause-heard : goal.returns-in-Ok-clause-heard
+returns-in-Ok-clause-heard g c told =
+    subst (λ o. PrintHeard c.args.limit o (ending_of c.print_on_disk-printed.result) (g.L.Logs.logs c.args.logs.now) (g.L.Logs.logs c.print_on_disk-printed.new.logs)) (sym (there g ((goal.at.returns-in-Ok-clause-heard g c).After-give) told)) (c.print_on_disk-printed.ensures.heard told)
+
+pub returns-in-Err-clause-heard : goal.returns-in-Err-clause-heard
+returns-in-Err-clause-heard g c told =
+    print_untaken c.args.name.now c.in-Err.refusal c.untaken.result (g.L.Logs.logs c.args.logs.now) (λ is. not_new (c.in-Err.ensures.there_how (ap Err is))) c.untaken.ensures
+    c.args.limit (g.F.Files.held c.args.files.now c.args.name.now) (λ is. ((c.in-Err.ensures.missing told).0 (ap Err is)).0)

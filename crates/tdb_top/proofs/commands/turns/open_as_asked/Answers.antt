@@ -1,8 +1,9 @@
 use Rattle.std.proofs.Common.{sym, subst}
 use Rattle.std.specs.Prelude.{IsTrue, IfOk}
 use Rattle.tdb_disk.specs.History.{History, seen}
-use Rattle.tdb_top.specs.Opening.{IsCheckedOn}
-use Rattle.tdb_top.proofs.Openings.{still_safe}
+use Rattle.tdb_open.specs.Opening.{IsCheckedOn}
+use Rattle.tdb_open.proofs.Openings.{still_safe}
+use Rattle.tdb_top.specs.Commands.Turns.{OpeningHeardBy}
 use Rattle.tdb_top.proofs.Turning.{read_result, turn_result}
 use Rattle.tdb_top.proofs.commands.turns.open_as_asked.Goals as goal
 
@@ -26,3 +27,12 @@ returns-then-options-clause-stops g c told = still_safe (g.D.Disk.history c.args
 
 pub returns-clause-stops : goal.returns-clause-stops
 returns-clause-stops g c told = c.open.ensures.stops told
+
+-- what logs heard
+pub returns-then-options-clause-heard : goal.returns-then-options-clause-heard
+returns-then-options-clause-heard g c told within =
+    subst (λ b. OpeningHeardBy b (seen (g.D.Disk.history c.args.disk.now)) (g.L.Logs.logs c.args.logs.now) (g.L.Logs.logs c.open_to_read.new.logs) c.open_to_read.result) (sym c.if-options.true) (c.open_to_read.ensures.heard told)
+
+pub returns-clause-heard : goal.returns-clause-heard
+returns-clause-heard g c told within =
+    subst (λ b. OpeningHeardBy b (seen (g.D.Disk.history c.args.disk.now)) (g.L.Logs.logs c.args.logs.now) (g.L.Logs.logs c.open.new.logs) c.open.result) (sym c.if-options.false) (c.open.ensures.heard told)

@@ -2,12 +2,13 @@ use Rattle.std.proofs.Common.{◌≡◌, ◌∙◌, true, Ok, Err, refl, sym, ap
 use Rattle.std.proofs.lemmas.Result.{err_from_is_err_and}
 use Rattle.tdb_disk.specs.History.{seen}
 use Rattle.tdb_space.specs.Form.{form_of}
-use Rattle.tdb_top.specs.declared.ending.Ending.TheVariants.{Replied, DeviceFault, NoMemory}
+use Rattle.tdb_check.specs.Report.{Counted}
+use Rattle.tdb_top.specs.declared.ending.Ending.TheVariants.{Replied, DeviceFault, NoMemory, LogFault}
 use Rattle.tdb_top.specs.declared.ending.Reply.TheVariants.{Played}
-use Rattle.tdb_top.specs.declared.halt.Fault.TheVariants as F
+use Rattle.tdb_open.specs.declared.halt.Fault.TheVariants as F
 use Rattle.tdb_top.specs.Playing.{PlaysEnd, PlayedOver, PlayedOn, PlayedFile, file_unplayed, file_played}
 use Rattle.tdb_top.specs.Commands.Turns.{OpensToTurn}
-use Rattle.tdb_top.specs.Opening.{opened_bytes}
+use Rattle.tdb_open.specs.Opening.{opened_bytes}
 use Rattle.tdb_top.specs.Stops.{StopsOfTurns}
 use Rattle.tdb_top.proofs.StopsTurning.{unopened_stops, opened_stops}
 use Rattle.tdb_top.proofs.commands.turns.play_on_disk.Goals as goal
@@ -17,19 +18,25 @@ use Rattle.tdb_top.proofs.commands.turns.play_on_disk.Goals.{After-play_opened}
 pub returns-in-Err-clause-played : goal.returns-in-Err-clause-played
 returns-in-Err-clause-played g c told =
     let w = g.K.Sink.written c.args.output.now in
-    subst (λ e. PlayedFile c.args.options.now (g.D.Disk.history c.args.disk.now) (g.D.Disk.history c.open_to_turn.new.disk) c.args.plays.now g.K.Sink.tells w w (Ok e)) (sym c.from.ensures)
-    (file_unplayed c.in-Err.halt (c.in-Err.ensures.opened told) refl)
+    let logs = g.L.Logs.logs c.args.logs.now in
+    let later = g.L.Logs.logs c.open_to_turn.new.logs in
+    subst (λ e. PlayedFile c.args.options.now (g.D.Disk.history c.args.disk.now) (g.D.Disk.history c.open_to_turn.new.disk) c.args.plays.now g.K.Sink.tells w w logs later (Ok e)) (sym c.from.ensures)
+    (file_unplayed c.in-Err.halt (c.in-Err.ensures.opened told) refl (c.in-Err.ensures.heard told))
 
 -- it was, and plays were taken over it
 on : (g : _) (c : After-play_opened g) → g.D.Disk.tells ≡ true → (answer : PlaysEnd) → c.play_opened.result ≡ answer
-    → PlayedOn c.args.options.now (g.D.Disk.history c.args.disk.now) (g.D.Disk.history c.play_opened.new.disk) g.K.Sink.tells (g.K.Sink.written c.args.output.now) (g.K.Sink.written c.play_opened.new.output) answer c.args.plays.now
+    → PlayedOn c.args.options.now (g.D.Disk.history c.args.disk.now) (g.D.Disk.history c.play_opened.new.disk) g.K.Sink.tells (g.K.Sink.written c.args.output.now) (g.K.Sink.written c.play_opened.new.output) (g.L.Logs.logs c.args.logs.now) (g.L.Logs.logs c.play_opened.new.logs) answer c.args.plays.now
 on g c told answer is =
     let opened = g.D.Disk.history c.open_to_turn.new.disk in
     record {
       opened = opened;
       opens = (c.in-Ok.ensures.opened told).0;
       is_opened = (c.in-Ok.ensures.opened told).1;
-      over = subst (PlayedOver (form_of (seen opened)) c.args.options.now (seen opened) c.args.plays.now (seen (g.D.Disk.history c.play_opened.new.disk)) g.K.Sink.tells (g.K.Sink.written c.args.output.now) (g.K.Sink.written c.play_opened.new.output)) is
+      found = c.in-Ok.opened;
+      mid = g.L.Logs.logs c.open_to_turn.new.logs;
+      counted = subst (λ i. Counted i c.in-Ok.opened.report) (c.in-Ok.ensures.opened told).1.reads (c.in-Ok.ensures.checked told).counted;
+      heard = c.in-Ok.ensures.heard told;
+      over = subst (PlayedOver (form_of (seen opened)) c.args.options.now (seen opened) c.args.plays.now (seen (g.D.Disk.history c.play_opened.new.disk)) g.K.Sink.tells (g.K.Sink.written c.args.output.now) (g.K.Sink.written c.play_opened.new.output) (g.L.Logs.logs c.open_to_turn.new.logs) (g.L.Logs.logs c.play_opened.new.logs)) is
           (c.play_opened.ensures.played told);
     }
 
@@ -50,6 +57,10 @@ returns-in-Err-Device-clause-played g c told =
 pub returns-in-Err-Memory-clause-played : goal.returns-in-Err-Memory-clause-played
 returns-in-Err-Memory-clause-played g c told =
     file_played (Ok (Err F.Memory)) (on g ((goal.at.returns-in-Err-Memory-clause-played g c).After-play_opened) told (Ok (Err F.Memory)) (c.in_ok-play_opened.was ∙ ap Ok (c.in-Err-Memory.is ∙ ap Err c.in-Err-Memory.field-0-is)))
+
+pub returns-in-Err-Log-clause-played : goal.returns-in-Err-Log-clause-played
+returns-in-Err-Log-clause-played g c told =
+    file_played (Ok (Err F.Log)) (on g ((goal.at.returns-in-Err-Log-clause-played g c).After-play_opened) told (Ok (Err F.Log)) (c.in_ok-play_opened.was ∙ ap Ok (c.in-Err-Log.is ∙ ap Err c.in-Err-Log.field-0-is)))
 
 -- what stops leave where it wasn't opened
 pub returns-in-Err-clause-stops : goal.returns-in-Err-clause-stops
@@ -78,3 +89,7 @@ returns-in-Err-Device-clause-stops g c =
 pub returns-in-Err-Memory-clause-stops : goal.returns-in-Err-Memory-clause-stops
 returns-in-Err-Memory-clause-stops g c =
     stopped g ((goal.at.returns-in-Err-Memory-clause-stops g c).After-play_opened) _ (λ is. (let wrong : Ok NoMemory ≡ Ok (Replied Played) = is in absurd (cc)))
+
+pub returns-in-Err-Log-clause-stops : goal.returns-in-Err-Log-clause-stops
+returns-in-Err-Log-clause-stops g c =
+    stopped g ((goal.at.returns-in-Err-Log-clause-stops g c).After-play_opened) _ (λ is. (let wrong : Ok LogFault ≡ Ok (Replied Played) = is in absurd (cc)))

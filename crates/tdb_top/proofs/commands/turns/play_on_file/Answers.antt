@@ -1,4 +1,4 @@
-use Rattle.std.proofs.Common.{◌≡◌, [], ◌<◌, true, Err, Some, sym, ◌∙◌, ap, arith}
+use Rattle.std.proofs.Common.{◌≡◌, [], ◌<◌, true, Err, Some, refl, sym, ◌∙◌, ap, arith}
 use Rattle.std.proofs.lemmas.Bool.{and_parts}
 use Rattle.tdb_disk.specs.Count.{Rose}
 use Rattle.tdb_disk.specs.History.{began}
@@ -8,7 +8,7 @@ use Rattle.tdb_top.specs.Looks.{ending_of}
 use Rattle.tdb_top.proofs.Acting.{rose_earlier}
 use Rattle.tdb_top.proofs.Held.{held_there}
 use Rattle.tdb_top.proofs.StopsTurning.{held_stops, same_stops}
-use Rattle.tdb_top.proofs.Turning.{cause_played, left_played, began_played, all_played, untaken_plays}
+use Rattle.tdb_top.proofs.Turning.{cause_played, left_played, began_played, all_played, heard_played, untaken_plays, untaken_heard}
 use Rattle.tdb_top.proofs.commands.turns.play_on_file.Goals as goal
 use Rattle.tdb_top.proofs.commands.turns.play_on_file.Goals.{After-take, After-give, then-options, else-options}
 
@@ -38,23 +38,23 @@ returns-in-Ok-clause-cause g c told =
     (let failed = c.play_on_disk-played.ensures.counted.failed is told in
     let some : 0 < g.F.D.Disk.faults c.play_on_disk-played.new.disk = omega (arith, failed, c.in-Ok.ensures.disk_faults) in
     rose_earlier before (g.F.Files.faults c.take.new.self) now c.in-Ok.ensures.cause.never_falls (c.give.ensures.faulty some)) in
-    cause_played c.args.options.now c.args.name.now (g.F.D.Disk.history c.in-Ok.disk) (g.F.D.Disk.history c.play_on_disk-played.new.disk) c.args.plays.now g.K.Sink.tells (g.K.Sink.written c.args.output.now) (g.K.Sink.written c.play_on_disk-played.new.output)
+    cause_played c.args.options.now c.args.name.now (g.F.D.Disk.history c.in-Ok.disk) (g.F.D.Disk.history c.play_on_disk-played.new.disk) c.args.plays.now g.K.Sink.tells (g.K.Sink.written c.args.output.now) (g.K.Sink.written c.play_on_disk-played.new.output) (g.L.Logs.logs c.args.logs.now) (g.L.Logs.logs c.play_on_disk-played.new.logs)
     (g.F.Files.held c.args.files.now c.args.name.now) (there g ((goal.at.returns-in-Ok-clause-cause g c).After-give) told) before now c.play_on_disk-played.result (c.play_on_disk-played.ensures.played told) rose
 
 pub returns-in-Ok-clause-left : goal.returns-in-Ok-clause-left
 returns-in-Ok-clause-left g c told =
-    left_played c.args.options.now c.args.name.now (g.F.D.Disk.history c.in-Ok.disk) (g.F.D.Disk.history c.play_on_disk-played.new.disk) c.args.plays.now g.K.Sink.tells (g.K.Sink.written c.args.output.now) (g.K.Sink.written c.play_on_disk-played.new.output)
+    left_played c.args.options.now c.args.name.now (g.F.D.Disk.history c.in-Ok.disk) (g.F.D.Disk.history c.play_on_disk-played.new.disk) c.args.plays.now g.K.Sink.tells (g.K.Sink.written c.args.output.now) (g.K.Sink.written c.play_on_disk-played.new.output) (g.L.Logs.logs c.args.logs.now) (g.L.Logs.logs c.play_on_disk-played.new.logs)
     (g.F.Files.held c.args.files.now c.args.name.now) (there g ((goal.at.returns-in-Ok-clause-left g c).After-give) told) (g.F.Files.held c.give.new.self c.args.name.now) c.play_on_disk-played.result (c.give.ensures.held told) (c.play_on_disk-played.ensures.played told)
 
 pub returns-in-Ok-clause-began : goal.returns-in-Ok-clause-began
 returns-in-Ok-clause-began g c both =
     let parts = and_parts g.K.Sink.tells g.F.D.Disk.tells both in
-    began_played c.args.options.now c.args.name.now (g.F.D.Disk.history c.in-Ok.disk) (g.F.D.Disk.history c.play_on_disk-played.new.disk) c.args.plays.now g.K.Sink.tells (g.K.Sink.written c.args.output.now) (g.K.Sink.written c.play_on_disk-played.new.output)
+    began_played c.args.options.now c.args.name.now (g.F.D.Disk.history c.in-Ok.disk) (g.F.D.Disk.history c.play_on_disk-played.new.disk) c.args.plays.now g.K.Sink.tells (g.K.Sink.written c.args.output.now) (g.K.Sink.written c.play_on_disk-played.new.output) (g.L.Logs.logs c.args.logs.now) (g.L.Logs.logs c.play_on_disk-played.new.logs)
     (g.F.Files.held c.args.files.now c.args.name.now) (there g ((goal.at.returns-in-Ok-clause-began g c).After-give) parts.1) c.play_on_disk-played.result parts.0 (c.play_on_disk-played.ensures.played parts.1)
 
 pub returns-in-Ok-clause-whole : goal.returns-in-Ok-clause-whole
 returns-in-Ok-clause-whole g c told is =
-    all_played c.args.options.now c.args.name.now (g.F.D.Disk.history c.in-Ok.disk) (g.F.D.Disk.history c.play_on_disk-played.new.disk) c.args.plays.now g.K.Sink.tells (g.K.Sink.written c.args.output.now) (g.K.Sink.written c.play_on_disk-played.new.output)
+    all_played c.args.options.now c.args.name.now (g.F.D.Disk.history c.in-Ok.disk) (g.F.D.Disk.history c.play_on_disk-played.new.disk) c.args.plays.now g.K.Sink.tells (g.K.Sink.written c.args.output.now) (g.K.Sink.written c.play_on_disk-played.new.output) (g.L.Logs.logs c.args.logs.now) (g.L.Logs.logs c.play_on_disk-played.new.logs)
     (g.F.Files.held c.args.files.now c.args.name.now) (there g ((goal.at.returns-in-Ok-clause-whole g c).After-give) told) (g.F.Files.held c.give.new.self c.args.name.now) c.play_on_disk-played.result (c.give.ensures.held told) (c.play_on_disk-played.ensures.played told) is
 
 pub returns-in-Ok-clause-stops : goal.returns-in-Ok-clause-stops
@@ -62,7 +62,18 @@ returns-in-Ok-clause-stops g c told =
     held_stops c.args.options.now (g.F.Files.held c.args.files.now c.args.name.now) (g.F.Files.held c.give.new.self c.args.name.now) g.K.Sink.tells _ (g.F.D.Disk.history c.in-Ok.disk) (g.F.D.Disk.history c.play_on_disk-played.new.disk)
     (g.K.Sink.written c.args.output.now) (g.K.Sink.written c.play_on_disk-played.new.output) (there g ((goal.at.returns-in-Ok-clause-stops g c).After-give) told) (c.give.ensures.held told) (c.play_on_disk-played.ensures.stops told)
 
+pub returns-in-Ok-clause-logged : goal.returns-in-Ok-clause-logged
+returns-in-Ok-clause-logged g c told =
+    heard_played c.args.options.now c.args.name.now (g.F.D.Disk.history c.in-Ok.disk) (g.F.D.Disk.history c.play_on_disk-played.new.disk) c.args.plays.now g.K.Sink.tells (g.K.Sink.written c.args.output.now) (g.K.Sink.written c.play_on_disk-played.new.output) (g.L.Logs.logs c.args.logs.now) (g.L.Logs.logs c.play_on_disk-played.new.logs)
+    (g.F.Files.held c.args.files.now c.args.name.now) (there g ((goal.at.returns-in-Ok-clause-logged g c).After-give) told) c.play_on_disk-played.result (c.play_on_disk-played.ensures.played told)
+
 -- the file wasn't taken
+pub returns-in-Err-clause-logged : goal.returns-in-Err-clause-logged
+returns-in-Err-clause-logged g c told =
+    untaken_heard c.args.options.now c.args.name.now (g.F.Files.held c.args.files.now c.args.name.now) c.in-Err.refusal c.untaken.result
+    (λ is. not_new g ((goal.at.returns-in-Err-clause-logged g c).After-take) (c.in-Err.ensures.there_how (ap Err is))) (λ is. ((c.in-Err.ensures.missing told).0 (ap Err is)).0)
+    _ _ refl c.untaken.ensures
+
 pub returns-in-Err-clause-cause : goal.returns-in-Err-clause-cause
 returns-in-Err-clause-cause g c told =
     untaken_plays c.args.options.now c.args.name.now (g.F.Files.held c.args.files.now c.args.name.now) c.in-Err.refusal c.untaken.result

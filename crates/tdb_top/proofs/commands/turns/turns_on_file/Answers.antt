@@ -1,10 +1,14 @@
 use Rattle.std.proofs.Common.{refl, sym, subst}
 use Rattle.tdb_ask.specs.declared.ask.Task.TheVariants.{Turns}
+use Rattle.tdb_script.specs.Script.{Script}
 use Rattle.tdb_top.specs.Input.{input_by}
+use Rattle.tdb_top.specs.Output.{output_by}
 use Rattle.tdb_top.specs.Looks.{ending_of}
 use Rattle.tdb_top.specs.Reads.{AskCause}
 use Rattle.tdb_top.proofs.StopsTurning.{same_stops}
-use Rattle.tdb_top.proofs.Turning.{plays_asked, unscripted_asked}
+use Rattle.tdb_top.specs.Commands.Turns.{TurnsHeard}
+use Rattle.tdb_top.specs.Scripts.{unscripted}
+use Rattle.tdb_top.proofs.Turning.{plays_asked, unscripted_asked, heard_nothing, heard_unscripted, all_asked}
 use Rattle.tdb_top.proofs.commands.turns.turns_on_file.Goals as goal
 
 -- the script was read
@@ -26,3 +30,19 @@ pub returns-in-Err-clause-stops : goal.returns-in-Err-clause-stops
 returns-in-Err-clause-stops g c told =
     let held = g.F.Files.held c.args.files.now c.args.name.now in
     same_stops c.args.options.now held held g.K.Sink.tells _ (g.K.Sink.written c.args.output.now) refl
+
+-- what logs heard where there is none
+pub returns-in-Err-clause-logged : goal.returns-in-Err-clause-logged
+returns-in-Err-clause-logged g c told =
+    let logs = g.L.Logs.logs c.args.logs.now in
+    let held = g.F.Files.held c.args.files.now c.args.name.now in
+    subst (λ e. TurnsHeard c.args.options.now held e logs logs) (sym c.from.ensures) (heard_nothing c.args.options.now held (unscripted c.in-Err.fault) logs logs (heard_unscripted c.in-Err.fault) refl)
+
+-- all plays of the script were taken and told
+pub returns-in-Ok-clause-played : goal.returns-in-Ok-clause-played
+returns-in-Ok-clause-played g c told is =
+    let text = g.S.Source.left c.args.input.now in
+    let input = input_by g.S.Source.tells text (g.S.Source.faults c.args.input.now) (g.S.Source.faults c.plays_on.new.input) in
+    let output = output_by g.K.Sink.tells (g.K.Sink.written c.args.output.now) (g.K.Sink.written c.play_on_file.new.output) (g.K.Sink.faults c.args.output.now) (g.K.Sink.faults c.play_on_file.new.output) in
+    all_asked c.args.options.now input output (g.L.Logs.logs c.args.logs.now) (g.L.Logs.logs c.play_on_file.new.logs) c.as_slice.result.now (g.F.Files.held c.args.files.now c.args.name.now) (g.F.Files.held c.play_on_file.new.files c.args.name.now)
+    (λ heard. subst (Script text) (sym c.as_slice.ensures) (c.in-Ok.ensures.script heard)) (c.play_on_file.ensures.whole told is)

@@ -1,7 +1,13 @@
-use Rattle.std.proofs.Common.{◌≡◌, [], true, Err, Some, sym, ◌∙◌, ap}
-use Rattle.tdb_disk.specs.History.{began}
+use Rattle.std.proofs.Common.{◌≡◌, [], true, Err, Some, sym, ◌∙◌, ap, subst}
+use Rattle.tdb_disk.specs.History.{began, seen}
 use Rattle.tdb_disk.specs.declared.files.Take.TheVariants.{Existing, New}
 use Rattle.tdb_top.proofs.BackingUp.{halted_known, halted_other, untaken_ends, untaken_other}
+use Rattle.tdb_open.specs.Opening.{opened_bytes}
+use Rattle.tdb_open.specs.Notices.{OpeningHeard}
+use Rattle.tdb_top.specs.declared.ending.Ending.TheVariants.{Replied}
+use Rattle.tdb_top.specs.declared.ending.Reply.TheVariants.{Copied}
+use Rattle.tdb_top.specs.Heard.{OpenHeard, ToldFor}
+use Rattle.tdb_top.proofs.Hearing.{opened_alone, halted_heard, open_untaken}
 use Rattle.tdb_top.proofs.Held.{held_there}
 use Rattle.tdb_top.proofs.Verifying.{copy_unverified, halted_file, untaken_file}
 use Rattle.tdb_top.proofs.commands.verify.count_keys.Goals as goal
@@ -46,3 +52,23 @@ returns-in-Err-clause-unopened g c told =
 pub returns-in-Err-clause-known : goal.returns-in-Err-clause-known
 returns-in-Err-clause-known g c =
     copy_unverified c.untaken.result (untaken_ends c.args.file.now c.in-Err.refusal c.untaken.result c.untaken.ensures) (untaken_other c.args.file.now c.in-Err.refusal c.untaken.result c.untaken.ensures)
+
+-- what logs heard of it
+pub returns-in-Ok-opened-clause-heard : goal.returns-in-Ok-opened-clause-heard
+returns-in-Ok-opened-clause-heard g c told =
+    let logs = g.L.Logs.logs c.args.logs.now in
+    let later = g.L.Logs.logs c.open-opened.new.logs in
+    subst (λ o. OpenHeard o (Replied Copied) logs later) (sym (there g ((goal.at.returns-in-Ok-opened-clause-heard g c).After-give) told))
+    (opened_alone (opened_bytes (seen (g.F.D.Disk.history c.in-Ok.disk))) (OpeningHeard (seen (g.F.D.Disk.history c.in-Ok.disk))) (Replied Copied) c.in-Ok-opened.opened logs later (c.in-Ok-opened.ensures.opened told).counted (c.in-Ok-opened.ensures.heard told) (λ is. cc))
+
+pub returns-in-Err-opened-clause-heard : goal.returns-in-Err-opened-clause-heard
+returns-in-Err-opened-clause-heard g c told =
+    let logs = g.L.Logs.logs c.args.logs.now in
+    let later = g.L.Logs.logs c.open-opened.new.logs in
+    subst (λ o. OpenHeard o c.from.result logs later) (sym (there g ((goal.at.returns-in-Err-opened-clause-heard g c).After-give) told))
+    (halted_heard (opened_bytes (seen (g.F.D.Disk.history c.in-Ok.disk))) (OpeningHeard (seen (g.F.D.Disk.history c.in-Ok.disk))) c.in-Err-opened.halt c.from.result (ToldFor c.from.result []) logs later (c.in-Err-opened.ensures.heard told) c.from.ensures)
+
+pub returns-in-Err-clause-heard : goal.returns-in-Err-clause-heard
+returns-in-Err-clause-heard g c told =
+    open_untaken c.args.file.now c.in-Err.refusal c.untaken.result (g.L.Logs.logs c.args.logs.now) (λ is. let new : Existing ≡ New = c.in-Err.ensures.there_how (ap Err is) in cc) c.untaken.ensures
+    (g.F.Files.held c.args.files.now c.args.file.now) (λ is. ((c.in-Err.ensures.missing told).0 (ap Err is)).0)

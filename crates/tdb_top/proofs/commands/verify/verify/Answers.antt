@@ -1,4 +1,4 @@
-use Rattle.std.proofs.Common.{◌≡◌, ◌∷◌, ℕ, List, ◌∙◌, ap, sym, inl, inr, refl}
+use Rattle.std.proofs.Common.{◌∷◌, ◌∙◌, ap, inl, inr, refl}
 use Rattle.std.proofs.lemmas.Bool.{and_parts}
 use Rattle.tdb_top.specs.declared.commands.verify.Unverified.TheVariants.{Ends}
 use Rattle.tdb_top.proofs.Verifying.{told_leaves, ends_leaves, untold_leaves, ends_cause}
@@ -37,7 +37,7 @@ returns-in-Err-Ends-clause-began g c both =
 
 -- its output failed
 pub returns-in-Err-Unprinted-clause-cause : goal.returns-in-Err-Unprinted-clause-cause
-returns-in-Err-Unprinted-clause-cause g c told = inr (inr refl)
+returns-in-Err-Unprinted-clause-cause g c told = inr (inr (inl refl))
 
 pub returns-in-Err-Unprinted-clause-left : goal.returns-in-Err-Unprinted-clause-left
 returns-in-Err-Unprinted-clause-left g c told =
@@ -49,4 +49,11 @@ returns-in-Err-Unprinted-clause-began g c both =
     let parts = and_parts g.K.Sink.tells g.F.D.Disk.tells both in
     let some = (rw c.in-Err-Unprinted.field-0-is at c.in-Err-Unprinted.ensures.untold) parts.1 in
     let part = some.3 parts.0 in
-    (some.0, inr (inr refl, some.1), part.0, part.1)
+    (some.0, inr (inr (inl refl), some.1), part.0, part.1)
+
+-- what logs heard of it
+pub returns-in-Err-Ends-clause-heard : goal.returns-in-Err-Ends-clause-heard
+returns-in-Err-Ends-clause-heard g c told = (rw c.in-Err-Ends.field-0-is at c.in-Err-Ends.ensures.heard) told
+
+pub returns-in-Err-Unprinted-clause-heard : goal.returns-in-Err-Unprinted-clause-heard
+returns-in-Err-Unprinted-clause-heard g c told = (rw c.in-Err-Unprinted.field-0-is at c.in-Err-Unprinted.ensures.heard) told

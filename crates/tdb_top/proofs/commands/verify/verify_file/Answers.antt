@@ -1,7 +1,10 @@
-use Rattle.std.proofs.Common.{◌≡◌, Err, rules}
+use Rattle.std.proofs.Common.{◌≡◌, Err, rules, sym, subst}
 use Rattle.std.proofs.lemmas.Result.{on_ok_weaker, IfErr-weaker}
 use Rattle.tdb_top.specs.Commands.Verify.{at_names}
 use Rattle.tdb_top.proofs.Verifying.{count_told, count_untold, line_known, line_cause}
+use Rattle.tdb_ask.specs.CopyNames.{copy_name}
+use Rattle.tdb_top.specs.Heard.{CountHeard, count_ending}
+use Rattle.tdb_top.proofs.Hearing.{count_heard}
 use Rattle.tdb_top.proofs.commands.verify.verify_file.Goals as goal
 
 -- its keys weren't found
@@ -28,3 +31,17 @@ returns-clause-known g c = IfErr-weaker c.tell_count.result _ _ line_known c.tel
 
 pub returns-clause-cause : goal.returns-clause-cause
 returns-clause-cause g c = line_cause (g.F.Files.faults c.args.files.now) (g.F.Files.faults c.find_keys.new.files) c.tell_count.result c.in_ok-keys.ensures.cause.done c.tell_count.ensures.known
+
+-- what logs heard of it
+pub returns-in_err-keys-clause-heard : goal.returns-in_err-keys-clause-heard
+returns-in_err-keys-clause-heard g c told =
+    let held = g.F.Files.held c.args.files.now in
+    let file = c.args.file.now in
+    let is : c.from_residual.result ≡ Err c.in_err-keys.field-0.0 = search rules in
+    subst (λ r. CountHeard (held file) (held (copy_name c.args.suffix.now file)) (count_ending r) (g.L.Logs.logs c.args.logs.now) (g.L.Logs.logs c.find_keys.new.logs)) (sym is) (c.in_err-keys.ensures.heard told)
+
+pub returns-clause-heard : goal.returns-clause-heard
+returns-clause-heard g c told =
+    let held = g.F.Files.held c.args.files.now in
+    let file = c.args.file.now in
+    count_heard (held file) (held (copy_name c.args.suffix.now file)) c.tell_count.result (g.L.Logs.logs c.args.logs.now) (g.L.Logs.logs c.find_keys.new.logs) c.tell_count.ensures.known (c.in_ok-keys.ensures.heard told)

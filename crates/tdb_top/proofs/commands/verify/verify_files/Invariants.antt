@@ -1,6 +1,7 @@
 -- The files that were gone over were verified and told, so what is left of the others tells what is left of all.
 use Rattle.std.proofs.Common.{◌≡◌, ◌∷◌, ℕ, List, drop, true, false, IsTrue}
 use Rattle.tdb_ask.specs.CopyNames.{IsNameAmong, NamesDiffer}
+use Rattle.tdb_top.proofs.Hearing.{VerifyCarries}
 use Rattle.tdb_top.proofs.Verifying.{Carries}
 use Rattle.tdb_top.proofs.commands.verify.verify_files.Given as goal
 
@@ -12,6 +13,8 @@ invariant-loop-name g l = record {
   others : (other : List ℕ) → (IsNameAmong true l.fn.suffix (l.fn.file ∷ l.fn.more) other → ⊥) → g.F.Files.held l.files other ≡ g.F.Files.held l.fn.files other;
   differ : NamesDiffer true l.fn.suffix (drop l.name-index l.fn.more);
   within : (other : List ℕ) → IsNameAmong true l.fn.suffix (drop l.name-index l.fn.more) other → IsNameAmong true l.fn.suffix (l.fn.file ∷ l.fn.more) other;
+  stays : (other : List ℕ) → IsNameAmong true l.fn.suffix (drop l.name-index l.fn.more) other → g.F.Files.held l.files other ≡ g.F.Files.held l.fn.files other;
+  hears : IsTrue g.F.D.Disk.tells → VerifyCarries l.fn.suffix (l.fn.file ∷ l.fn.more) (g.F.Files.held l.fn.files) (g.L.Logs.logs l.fn.logs) (drop l.name-index l.fn.more) (g.L.Logs.logs l.logs);
   carries : IsTrue g.F.D.Disk.tells
       → Carries g.K.Sink.tells l.fn.suffix (l.fn.file ∷ l.fn.more) (g.F.Files.held l.fn.files) (g.K.Sink.written l.fn.output) (drop l.name-index l.fn.more) (g.F.Files.held l.files) (g.K.Sink.written l.output);
 }

@@ -1,0 +1,69 @@
+use Rattle.std.proofs.Common.{rules, ◌≡◌, ◌≤◌, Err, length, refl, sym, subst, inl, inr, arith}
+use Rattle.std.specs.Prelude.{◌<◌, IsTrue, IfOk, IfErr}
+use Rattle.tdb_disk.specs.History.{History, seen}
+use Rattle.tdb_open.specs.declared.halt.Halt.TheVariants.{Device}
+use Rattle.tdb_open.specs.Opening.{IsOpenedOn, LeavesBelow, HaltsBelow}
+use Rattle.tdb_open.proofs.Errors.{if_this_err}
+use Rattle.tdb_open.proofs.Openings.{long_halts, long_leaves, within_opened, halted_below, left_below}
+use Rattle.tdb_open.specs.Notices.{BelowHeard, OpeningHeard}
+use Rattle.tdb_open.proofs.Notices.{no_length_heard}
+use Rattle.tdb_open.proofs.opening.Opened.open_below.Goals as goal
+
+-- its length couldn't be told
+pub returns-in_err-len-clause-refused : goal.returns-in_err-len-clause-refused
+returns-in_err-len-clause-refused g c =
+    if_this_err (λ halt. IsTrue g.D.Disk.tells → HaltsBelow c.args.limit (seen (g.D.Disk.history c.args.disk.now)) halt) c.from_residual.result Device (search rules) (λ told. tt)
+
+pub returns-in_err-len-clause-halted : goal.returns-in_err-len-clause-halted
+returns-in_err-len-clause-halted g c =
+    if_this_err (λ halt. IsTrue g.D.Disk.tells → LeavesBelow c.args.limit halt (g.D.Disk.history c.args.disk.now) (g.D.Disk.history c.len.new.self)) c.from_residual.result Device (search rules)
+    (λ told. inl (inr c.in_err-len.ensures.history))
+
+-- it has more bytes than it may
+pub returns-then-len-limit-clause-refused : goal.returns-then-len-limit-clause-refused
+returns-then-len-limit-clause-refused g c told =
+    long_halts c.args.limit c.in_ok-len.len (seen (g.D.Disk.history c.args.disk.now)) (omega (arith, g.met.D.Disk.told_size c.args.disk.now told, c.in_ok-len.ensures.length)) c.if-len-limit.true
+
+pub returns-then-len-limit-clause-halted : goal.returns-then-len-limit-clause-halted
+returns-then-len-limit-clause-halted g c told =
+    long_leaves c.args.limit c.in_ok-len.len (g.D.Disk.history c.args.disk.now) (g.D.Disk.history c.len.new.self)
+    (omega (arith, g.met.D.Disk.told_size c.args.disk.now told, c.in_ok-len.ensures.length)) c.if-len-limit.true c.in_ok-len.ensures.history
+
+-- it has no more, and is opened as any other
+pub returns-clause-within : goal.returns-clause-within
+returns-clause-within g c =
+    within_opened (IsTrue g.D.Disk.tells) c.args.limit c.open.result (seen (g.D.Disk.history c.args.disk.now))
+    (λ told. omega (arith, g.met.D.Disk.told_size c.args.disk.now told, c.in_ok-len.ensures.length, c.if-len-limit.false))
+
+pub returns-clause-opened : goal.returns-clause-opened
+returns-clause-opened g c =
+    subst (λ (h : History). IfOk c.open.result (λ o. IsTrue g.D.Disk.tells → IsOpenedOn (seen h) o)) c.in_ok-len.ensures.history c.open.ensures.opened
+
+pub returns-clause-refused : goal.returns-clause-refused
+returns-clause-refused g c =
+    subst (λ (h : History). IfErr c.open.result (λ halt. IsTrue g.D.Disk.tells → HaltsBelow c.args.limit (seen h) halt)) c.in_ok-len.ensures.history
+    (halted_below (IsTrue g.D.Disk.tells) c.args.limit c.open.result (seen (g.D.Disk.history c.len.new.self))
+    (λ told. omega (arith, g.met.D.Disk.told_size c.len.new.self told, c.in_ok-len.ensures.length, c.in_ok-len.ensures.size, c.if-len-limit.false)) c.open.ensures.refused)
+
+pub returns-clause-halted : goal.returns-clause-halted
+returns-clause-halted g c =
+    subst (λ (h : History). IfErr c.open.result (λ halt. IsTrue g.D.Disk.tells → LeavesBelow c.args.limit halt h (g.D.Disk.history c.open.new.disk))) c.in_ok-len.ensures.history
+    (left_below (IsTrue g.D.Disk.tells) c.args.limit c.open.result (g.D.Disk.history c.len.new.self) (g.D.Disk.history c.open.new.disk) c.open.ensures.halted)
+
+-- what logs hear
+pub returns-in_err-len-clause-heard : goal.returns-in_err-len-clause-heard
+returns-in_err-len-clause-heard g c told =
+    let img = seen (g.D.Disk.history c.args.disk.now) in
+    let logs = g.L.Logs.logs c.args.logs.now in
+    let is : c.from_residual.result ≡ Err Device = search rules in
+    subst (BelowHeard c.args.limit img logs logs) (sym is) (no_length_heard c.args.limit img logs)
+
+pub returns-then-len-limit-clause-heard : goal.returns-then-len-limit-clause-heard
+returns-then-len-limit-clause-heard g c told =
+    let more : c.args.limit < length (seen (g.D.Disk.history c.args.disk.now)) = omega (arith, g.met.D.Disk.told_size c.args.disk.now told, c.in_ok-len.ensures.length, c.if-len-limit.true) in
+    inl (more, refl)
+
+pub returns-clause-heard : goal.returns-clause-heard
+returns-clause-heard g c told =
+    let within : length (seen (g.D.Disk.history c.args.disk.now)) ≤ c.args.limit = omega (arith, g.met.D.Disk.told_size c.args.disk.now told, c.in_ok-len.ensures.length, c.if-len-limit.false) in
+    inr (within, subst (λ (h : History). OpeningHeard (seen h) (g.L.Logs.logs c.args.logs.now) (g.L.Logs.logs c.open.new.logs) c.open.result) c.in_ok-len.ensures.history (c.open.ensures.heard told))
