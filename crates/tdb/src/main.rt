@@ -10,7 +10,7 @@ use std::process::ExitCode;
 use std::{env, io};
 use tdb_disk::Sink;
 use tdb_files::{DirFiles, FileSink, InSource, OutSink, Progress};
-use tdb_log::{CountLog, Log, SinkLog};
+use tdb_log::{CountLog, Log, Logs, SinkLog};
 use tdb_top::{Status, run};
 
 /// The status of a run in which a call of the files or of a disk failed.
@@ -83,7 +83,7 @@ fn off_terminal(rt: HostRuntime, progress: Option<Progress>) -> Option<Progress>
 }
 
 /// Runs the words over the files of the system, and tells these logs.
-fn run_logged(rt: HostRuntime, words: &[String], logs: &mut Vec<Box<dyn Log>>) -> u8 {
+fn run_logged<L: Logs>(rt: HostRuntime, words: &[String], logs: &mut L) -> u8 {
     let progress = progress_of(rt, words);
     let mut files = DirFiles::new(rt).with_progress(progress);
     let mut input = InSource::new(rt.reader()).with_progress(progress);
