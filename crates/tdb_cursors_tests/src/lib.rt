@@ -2,8 +2,10 @@
 #![tactic(auto)]
 
 #[cfg(test)]
-mod entries;
+mod files;
 #[cfg(test)]
 mod openers;
+#[cfg(test)]
+mod purges;
 #[cfg(test)]
 mod rows;

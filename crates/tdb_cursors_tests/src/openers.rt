@@ -1,6 +1,6 @@
 // Two openers of one file in memory, with one lock table and one list of the records on which their cursors stand.
 
-ghost use Rattle.std.specs.Prelude.{◌≡◌, ◌≤◌, ◌<◌, ◌+◌, ◌^◌, ℕ, length, IsTrue, IfOk, None};
+ghost use Rattle.std.specs.Prelude.{◌≡◌, ◌≤◌, ◌<◌, ◌+◌, ◌^◌, ℕ, length, IsTrue, IfOk, IfSome, None};
 ghost use Rattle.tdb_space.specs.Spare.{Spare};
 ghost use Rattle.tdb_locks.specs.HeldLocks.{HeldLocks, nothing_held};
 ghost use Rattle.tdb_locks.specs.LockTable.{held};
@@ -9,51 +9,82 @@ ghost use Rattle.tdb_steps.specs.Machines.{IsShort, Fits};
 ghost use Rattle.tdb_walk.specs.ByteLocks.{HoldsWords};
 ghost use Rattle.tdb_cursors_tests.specs.Words.{IsWordOf};
 
-use crate::entries::HEADER;
+use crate::files::HEADER;
 use std::alloc::{AllocError, Global};
-use std::test::Fail;
 use tdb_cursors::{Walk, close_turn};
 use tdb_disk::MemDisk;
-use tdb_locks::{Held, Locks, Piece, Spots, Turn};
+use tdb_locks::{Held, Locks, Piece, Reply, Spots, Turn};
 use tdb_space::{Direct, Io};
 use tdb_steps::{Flag, Machine, Plain, Region};
 use tdb_walk::Goal;
-use tdb_words::Bytes;
+use tdb_words::{Bytes, Header};
 
 // How long a file may be.
 const MOST: u64 = 4_294_963_200;
 
-// What an opener was told by a turn.
-pub(crate) type Line = (u32, Result<Turn, Io>);
+// What a turn has to tell.
+#[derive(Clone, Copy)]
+pub(crate) enum Want {
+    Step,
+    Done,
+    End,
+    Value(&'static [u8]),
+    Pair(&'static [u8], &'static [u8]),
+    Io,
+}
+
+// Whether it tells that.
+fn is_told(want: Want, told: &Result<Turn, Io>) -> bool {
+    match (want, told) {
+        (Want::Step, Ok(Turn::Step)) => true,
+        (Want::Done, Ok(Turn::Done(Reply::Ok))) => true,
+        (Want::End, Ok(Turn::Done(Reply::End))) => true,
+        (Want::Value(wanted), Ok(Turn::Done(Reply::Value(value)))) => value.as_slice() == wanted,
+        (Want::Pair(key, value), Ok(Turn::Done(Reply::Pair(found, next)))) => {
+            found.as_slice() == key && next.as_slice() == value
+        }
+        (Want::Io, Err(Io)) => true,
+        _ => false,
+    }
+}
+
+// What an opener does: turns of its cursor, its end, or a plain command.
+#[derive(Clone, Copy)]
+pub(crate) enum Act {
+    Walk(Goal),
+    Close,
+    Fetch(&'static [u8]),
+    Store(&'static [u8], &'static [u8]),
+    Delete(&'static [u8]),
+    Wipe,
+}
 
 // At most 9999 of some bytes.
-fn short(bytes: &[u8]) -> &[u8]
-    ensures { length result.now < 2 ^ 32 }
+fn short(alloc: Global, bytes: &[u8]) -> Result<Bytes, AllocError>
+    ensures { IfOk result (λ copied. length copied < 2 ^ 32) }
 {
-    &bytes[..bytes.len().min(9999)]
+    Bytes::copy(alloc, &bytes[..bytes.len().min(9999)])
 }
 
-pub(crate) fn fetch(alloc: Global, key: &[u8]) -> Result<Plain, AllocError>
-    ensures { IfOk result IsShort }
+// The plain command of an act, where it is one.
+fn plain_of(alloc: Global, act: Act) -> Result<Option<Plain>, AllocError>
+    ensures { IfOk result (λ plain. IfSome plain IsShort) }
 {
-    let key = Bytes::copy(alloc, short(key))?;
-    Ok(Plain::Fetch { key })
-}
-
-pub(crate) fn store(alloc: Global, key: &[u8], value: &[u8]) -> Result<Plain, AllocError>
-    ensures { IfOk result IsShort }
-{
-    let key = Bytes::copy(alloc, short(key))?;
-    let value = Bytes::copy(alloc, short(value))?;
-    let flag = Flag::Replace;
-    Ok(Plain::Store { key, value, flag })
-}
-
-pub(crate) fn delete(alloc: Global, key: &[u8]) -> Result<Plain, AllocError>
-    ensures { IfOk result IsShort }
-{
-    let key = Bytes::copy(alloc, short(key))?;
-    Ok(Plain::Delete { key })
+    Ok(match act {
+        Act::Walk(_) | Act::Close => None,
+        Act::Wipe => Some(Plain::Wipe),
+        Act::Fetch(key) => Some(Plain::Fetch {
+            key: short(alloc, key)?,
+        }),
+        Act::Store(key, value) => Some(Plain::Store {
+            key: short(alloc, key)?,
+            value: short(alloc, value)?,
+            flag: Flag::Replace,
+        }),
+        Act::Delete(key) => Some(Plain::Delete {
+            key: short(alloc, key)?,
+        }),
+    })
 }
 
 // Whether a piece is another opener's, or one byte that isn't 3 past a multiple of 4.
@@ -104,128 +135,97 @@ fn stands_alone(locks: &Locks, owner: u32, machine: &Machine) -> bool
     }
 }
 
-// The openers 1 and 2 of a file, and what they were told so far.
+// The openers 1 and 2 of a file with this header.
 #[derive(Drop)]
 pub(crate) struct Openers {
+    alloc: Global,
+    header: Header,
     pub(crate) locks: Locks,
     pub(crate) spots: Spots,
-    pub(crate) lines: Vec<Line>,
     ghost entries: { length spots ≡ 2 },
 }
 
 impl Openers {
-    pub(crate) fn new(alloc: Global) -> Result<Openers, AllocError> {
+    pub(crate) fn new(alloc: Global, header: Header) -> Result<Openers, AllocError> {
         let mut spots = Spots::new(alloc);
         spots.push(0)?;
         spots.push(0)?;
         Ok(Openers {
+            alloc,
+            header,
             locks: Locks::new(alloc),
             spots,
-            lines: Vec::new(alloc),
         })
     }
 
-    // Forgets what they were told.
-    pub(crate) fn clear(&mut self) {
-        self.lines.clear();
-    }
-
-    // Whether the command of which an opener was told this goes on.
-    fn goes_on(&mut self, who: u32, told: Result<Turn, Io>) -> Result<bool, AllocError> {
-        let goes_on = told == Ok(Turn::Step);
-        self.lines.push((who, told))?;
-        Ok(goes_on)
-    }
-
-    // Takes turns of a First, a Next or an EndWalk of an opener's cursor, up to the first that isn't a step.
-    pub(crate) fn walk(
+    // Takes turns of an opener's cursor, or of its end where there is no goal: whether they tell this, and whether the
+    // opener is live then.
+    fn walk(
         &mut self,
-        alloc: Global,
         disk: &mut MemDisk,
         who: u32,
         walk: &mut Walk,
-        goal: Goal,
-    ) -> Result<(), Fail>
-        requires named { 0 < who }
-        requires there { who ≤ 2 }
-    {
-        let held = Held::new(alloc);
-        let mut s = Direct::new(disk, &HEADER);
-        for _turn in 0..4 {
-            if !holds_words(&self.locks, who) {
-                break;
-            }
-            let told = walk.turn(
-                alloc,
-                &mut s,
-                &mut self.locks,
-                who,
-                &held,
-                &mut self.spots,
-                goal,
-                false,
-            );
-            if !self.goes_on(who, told)? {
-                break;
-            }
-        }
-        Ok(())
-    }
-
-    // Takes turns of an opener's end, up to the first that isn't a step, and answers whether the opener is live then.
-    pub(crate) fn close(
-        &mut self,
-        alloc: Global,
-        disk: &mut MemDisk,
-        who: u32,
-        walk: &mut Walk,
-    ) -> Result<bool, Fail>
+        goal: Option<Goal>,
+        wants: &[Want],
+    ) -> (bool, bool)
         requires named { 0 < who }
         requires there { who ≤ 2 }
     {
         let mut live = true;
-        let mut s = Direct::new(disk, &HEADER);
-        for _turn in 0..4 {
+        let mut s = Direct::new(disk, &self.header);
+        for want in wants {
+            let mut held = Held::new(self.alloc);
             if !holds_words(&self.locks, who) {
-                break;
+                return (false, live);
             }
-            let mut held = Held::new(alloc);
-            let told = close_turn(
-                alloc,
-                &mut s,
-                &mut self.locks,
-                who,
-                &mut live,
-                &mut held,
-                walk,
-                &mut self.spots,
-                false,
-            );
-            if !self.goes_on(who, told)? {
-                break;
+            let told = match goal {
+                Some(goal) => walk.turn(
+                    self.alloc,
+                    &mut s,
+                    &mut self.locks,
+                    who,
+                    &held,
+                    &mut self.spots,
+                    goal,
+                    false,
+                ),
+                None => close_turn(
+                    self.alloc,
+                    &mut s,
+                    &mut self.locks,
+                    who,
+                    &mut live,
+                    &mut held,
+                    walk,
+                    &mut self.spots,
+                    false,
+                ),
+            };
+            if !is_told(*want, &told) {
+                return (false, live);
             }
         }
-        Ok(live)
+        (true, live)
     }
 
-    // Takes turns of a plain command up to its reply.
+    // Takes turns of a plain command: whether they tell this.
     fn take_turns(
         &mut self,
-        alloc: Global,
         disk: &mut MemDisk,
         who: u32,
         machine: &mut Machine,
-    ) -> Result<(), Fail>
+        wants: &[Want],
+    ) -> bool
         requires fits { (size : ℕ) (spare : Spare) → Fits machine.old size spare }
     {
-        let held = Held::new(alloc);
+        let held = Held::new(self.alloc);
         let mut s = Direct::new(disk, &HEADER);
-        for _turn in 0..8 {
+        for want in wants {
             if !stands_alone(&self.locks, who, machine) {
-                break;
+                return false;
             }
             let told = machine.step(
-                alloc,
+                self.alloc,
                 &mut s,
                 &mut self.locks,
                 who,
@@ -233,26 +233,36 @@ impl Openers {
                 &self.spots,
                 MOST,
             );
-            if !self.goes_on(who, told)? {
-                break;
+            if told.is_err() || !is_told(*want, &told) {
+                return false;
             }
         }
-        Ok(())
+        true
     }
 
-    // Runs a plain command of an opener to its reply.
-    pub(crate) fn run(
+    // Whether an opener is live after turns of what it does, where they tell this.
+    pub(crate) fn does(
         &mut self,
-        alloc: Global,
         disk: &mut MemDisk,
         who: u32,
-        command: Plain,
-    ) -> Result<(), Fail>
-        requires short { IsShort command }
+        walk: &mut Walk,
+        act: Act,
+        wants: &[Want],
+    ) -> Result<Option<bool>, AllocError>
+        requires named { 0 < who }
+        requires there { who ≤ 2 }
     {
-        let mut machine = Machine::new(command, &HEADER, false);
-        let told = self.take_turns(alloc, disk, who, &mut machine);
-        machine.end();
-        told
+        if let Some(plain) = plain_of(self.alloc, act)? {
+            let mut machine = Machine::new(plain, &HEADER, false);
+            let is_told = self.take_turns(disk, who, &mut machine, wants);
+            machine.end();
+            return Ok(is_told.then_some(true));
+        }
+        let goal = match act {
+            Act::Walk(goal) => Some(goal),
+            _ => None,
+        };
+        let (is_told, live) = self.walk(disk, who, walk, goal, wants);
+        Ok(is_told.then_some(live))
     }
 }

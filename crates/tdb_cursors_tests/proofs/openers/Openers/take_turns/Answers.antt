@@ -4,8 +4,8 @@ use Rattle.tdb_space.specs.Spare.{without_bound}
 use Rattle.tdb_disk.specs.MemDisk.{memory_size}
 use Rattle.tdb_cursors_tests.proofs.openers.Openers.take_turns.Goals as goal
 
-pub loop-turn-init : goal.loop-turn-init
-loop-turn-init c = record {
+pub loop-want-init : goal.loop-want-init
+loop-want-init c = record {
   fits = c.requires.fits (memory_size c.new-s.result.disk.now) without_bound;
   chains = search rules;
 }

@@ -5,8 +5,8 @@ use Rattle.tdb_disk.specs.MemDisk.{memory_size}
 use Rattle.tdb_steps.specs.Machines.{Fits}
 use Rattle.tdb_cursors_tests.proofs.openers.Openers.take_turns.Given as goal
 
-abbrev pub invariant-loop-turn : goal.invariant-loop-turn
-invariant-loop-turn l = record {
+abbrev pub invariant-loop-want : goal.invariant-loop-want
+invariant-loop-want l = record {
   fits : Fits l.machine (memory_size l.s.disk.now) without_bound;
   chains : 0 < l.s.header.hash_size;
 }
