@@ -1,143 +1,273 @@
-//! What an opener tells of itself between two turns.
+//! What an opener tells of itself between two turns, and what its command is told where memory is wanting for a lock.
 
-use crate::plays::{command_for, start_for};
-use crate::small::file;
+use crate::plays::play;
+use crate::rows::{Told, told};
+use crate::small::{bytes, file};
 use crate::words::{Word, command};
 use std::alloc::{AllocError, Global};
 use std::test::Fail;
-use tdb_holder::Holder;
+use tdb_holder::{Holder, Wants};
 use tdb_locks::Kind;
-use tdb_plays::Command;
 
-/// What an opener tells: its number, its command that isn't done, whether that is a Close, how it holds all records,
-/// and whether it holds the bytes of opening, of transactions, of the sequence number, and of a record.
-#[derive(Debug, Drop, PartialEq, Eq)]
+/// An opener after so many turns of the last of these commands, where changes raise the sequence number: its command that
+/// isn't done, whether that is a Close, how it holds all records, and whether it holds the bytes of opening, of
+/// transactions, of the sequence number, and of a record.
 struct Asked {
-    owner: u32,
-    command: Option<Command>,
+    words: &'static [Word],
+    turns: u32,
+    command: Option<Word>,
     closes: bool,
     records: Option<Kind>,
     holds: [bool; 4],
 }
 
-/// Its command that isn't done.
-fn command_of(alloc: Global, holder: &Holder) -> Result<Option<Command>, AllocError> {
-    if holder.is_idle() {
-        return Ok(None);
-    }
-    Ok(Some(holder.told(alloc)?))
-}
+const NOTHING: [bool; 4] = [false, false, false, false];
 
-fn ask(alloc: Global, holder: &Holder) -> Result<Asked, AllocError> {
-    Ok(Asked {
-        owner: holder.owner(),
-        command: command_of(alloc, holder)?,
-        closes: holder.closes(),
-        records: holder.records(),
-        holds: [
-            holder.holds(0),
-            holder.holds(8),
-            holder.holds(48),
-            holder.holds(4064),
-        ],
-    })
-}
+const TRANSACTION: [bool; 4] = [false, true, false, false];
 
-/// What an opener tells that is left, with which it is given up.
-fn last_word(alloc: Global, left: Option<Holder>) -> Result<Option<Asked>, AllocError> {
-    let Some(holder) = left else {
-        return Ok(None);
-    };
-    let asked = ask(alloc, &holder);
-    holder.end();
-    Ok(Some(asked?))
-}
+const RECORDS: [bool; 4] = [false, true, false, true];
 
-/// What opener 1 tells that has this command, which isn't a Close.
-fn with(command: Option<Command>, records: Option<Kind>, holds: [bool; 4]) -> Option<Asked> {
-    Some(Asked {
-        owner: 1,
-        command,
+const ALL: [bool; 4] = [true, true, true, true];
+
+const FETCH: [Word; 2] = [Word::Store(b'2'), Word::Fetch];
+
+const COMMIT: [Word; 2] = [Word::Store(b'2'), Word::Commit];
+
+const PREPARE: [Word; 2] = [Word::Store(b'2'), Word::Prepare];
+
+const CLOSE: [Word; 2] = [Word::Store(b'2'), Word::Close];
+
+static ASKED: [Asked; 15] = [
+    // A Start takes the byte of transactions with its first turn, and all records for reading with its second. With its
+    // third it is done.
+    Asked {
+        words: &[],
+        turns: 0,
+        command: Some(Word::Start),
         closes: false,
-        records,
-        holds,
-    })
-}
-
-// A Start takes the byte of transactions with its first turn, and all records for reading with its second. With its
-// third it is done.
-#[test]
-fn asked_in_a_start(rt: HostRuntime) -> Result<(), Fail> {
-    let rows = [
-        (0, None, [false, false, false, false]),
-        (1, None, [false, true, false, false]),
-        (2, Some(Kind::Read), [false, true, false, true]),
-        (3, Some(Kind::Read), [false, true, false, true]),
-    ];
-    for (turns, records, holds) in rows {
-        let mut disk = file(rt.alloc())?;
-        let left = start_for(rt.alloc(), &mut disk, turns)?;
-        let command = if turns < 3 {
-            Some(Command::Start)
-        } else {
-            None
-        };
-        assert_eq!(rt;
-            last_word(rt.alloc(), left)?,
-            with(command, records, holds),
-            "{turns}"
-        );
-    }
-    Ok(())
-}
-
-// A Commit and a Prepare take all records for writing with their first turn, and with their second the bytes of opening
-// and of the sequence number, where that counts. What they hold they keep up to the end of a Commit.
-#[test]
-fn asked_in_a_commit(rt: HostRuntime) -> Result<(), Fail> {
-    let reads = (Some(Kind::Read), [false, true, false, true]);
-    let writes = (Some(Kind::Write), [false, true, false, true]);
-    let opens = (Some(Kind::Write), [true, true, true, true]);
-    let rows = [
-        (Word::Fetch, 0, reads),
-        (Word::Commit, 0, reads),
-        (Word::Commit, 1, writes),
-        (Word::Commit, 2, opens),
-        (Word::Commit, 5, opens),
-        (Word::Commit, 8, opens),
-        (Word::Prepare, 0, reads),
-        (Word::Prepare, 1, writes),
-        (Word::Prepare, 4, opens),
-    ];
-    for (word, turns, (records, holds)) in rows {
-        let mut disk = file(rt.alloc())?;
-        let command = Some(command(rt.alloc(), word)?);
-        let left = command_for(rt.alloc(), &mut disk, word, turns)?;
-        assert_eq!(rt;
-            last_word(rt.alloc(), left)?,
-            with(command, records, holds),
-            "{word:?} {turns}"
-        );
-    }
-    Ok(())
-}
-
-// A Prepare that is done holds what it took, and a Close is told.
-#[test]
-fn asked_at_an_end(rt: HostRuntime) -> Result<(), Fail> {
-    let mut disk = file(rt.alloc())?;
-    let left = command_for(rt.alloc(), &mut disk, Word::Prepare, 5)?;
-    let want = with(None, Some(Kind::Write), [true, true, true, true]);
-    assert_eq!(rt; last_word(rt.alloc(), left)?, want);
-    let mut disk = file(rt.alloc())?;
-    let left = command_for(rt.alloc(), &mut disk, Word::Close, 0)?;
-    let want = Asked {
-        owner: 1,
-        command: Some(Command::Close),
+        records: None,
+        holds: NOTHING,
+    },
+    Asked {
+        words: &[],
+        turns: 1,
+        command: Some(Word::Start),
+        closes: false,
+        records: None,
+        holds: TRANSACTION,
+    },
+    Asked {
+        words: &[],
+        turns: 2,
+        command: Some(Word::Start),
+        closes: false,
+        records: Some(Kind::Read),
+        holds: RECORDS,
+    },
+    Asked {
+        words: &[],
+        turns: 3,
+        command: None,
+        closes: false,
+        records: Some(Kind::Read),
+        holds: RECORDS,
+    },
+    // A Commit and a Prepare take all records for writing with their first turn, and with their second the bytes of opening
+    // and of the sequence number. What they hold they keep up to the end of a Commit.
+    Asked {
+        words: &FETCH,
+        turns: 0,
+        command: Some(Word::Fetch),
+        closes: false,
+        records: Some(Kind::Read),
+        holds: RECORDS,
+    },
+    Asked {
+        words: &COMMIT,
+        turns: 0,
+        command: Some(Word::Commit),
+        closes: false,
+        records: Some(Kind::Read),
+        holds: RECORDS,
+    },
+    Asked {
+        words: &COMMIT,
+        turns: 1,
+        command: Some(Word::Commit),
+        closes: false,
+        records: Some(Kind::Write),
+        holds: RECORDS,
+    },
+    Asked {
+        words: &COMMIT,
+        turns: 2,
+        command: Some(Word::Commit),
+        closes: false,
+        records: Some(Kind::Write),
+        holds: ALL,
+    },
+    Asked {
+        words: &COMMIT,
+        turns: 5,
+        command: Some(Word::Commit),
+        closes: false,
+        records: Some(Kind::Write),
+        holds: ALL,
+    },
+    Asked {
+        words: &COMMIT,
+        turns: 8,
+        command: Some(Word::Commit),
+        closes: false,
+        records: Some(Kind::Write),
+        holds: ALL,
+    },
+    Asked {
+        words: &PREPARE,
+        turns: 0,
+        command: Some(Word::Prepare),
+        closes: false,
+        records: Some(Kind::Read),
+        holds: RECORDS,
+    },
+    Asked {
+        words: &PREPARE,
+        turns: 1,
+        command: Some(Word::Prepare),
+        closes: false,
+        records: Some(Kind::Write),
+        holds: RECORDS,
+    },
+    Asked {
+        words: &PREPARE,
+        turns: 4,
+        command: Some(Word::Prepare),
+        closes: false,
+        records: Some(Kind::Write),
+        holds: ALL,
+    },
+    // A Prepare that is done holds what it took, and a Close is told.
+    Asked {
+        words: &PREPARE,
+        turns: 5,
+        command: None,
+        closes: false,
+        records: Some(Kind::Write),
+        holds: ALL,
+    },
+    Asked {
+        words: &CLOSE,
+        turns: 0,
+        command: Some(Word::Close),
         closes: true,
         records: Some(Kind::Read),
-        holds: [false, true, false, true],
+        holds: RECORDS,
+    },
+];
+
+/// Whether an opener tells this.
+fn tells(alloc: Global, holder: &Holder, asked: &Asked) -> Result<bool, AllocError> {
+    let is_told = match asked.command {
+        Some(word) => !holder.is_idle() && holder.told(alloc)? == command(alloc, word)?,
+        None => holder.is_idle(),
     };
-    assert_eq!(rt; last_word(rt.alloc(), left)?, Some(want));
+    let holds = [
+        holder.holds(0),
+        holder.holds(8),
+        holder.holds(48),
+        holder.holds(4064),
+    ];
+    Ok(
+        is_told
+            && holder.owner() == 1
+            && holder.closes() == asked.closes
+            && holder.records() == asked.records
+            && holds == asked.holds,
+    )
+}
+
+/// Whether the opener of a row tells what the row says.
+fn asked_holds(alloc: Global, asked: &Asked) -> Result<bool, AllocError> {
+    let mut disk = file(alloc)?;
+    let mut rows = Vec::new(alloc);
+    let left = play(alloc, &mut disk, true, asked.words, asked.turns, &mut rows)?;
+    let Some(holder) = left else {
+        return Ok(false);
+    };
+    let is_told = tells(alloc, &holder, asked);
+    holder.end();
+    is_told
+}
+
+/// The place of the first row that doesn't hold.
+fn failing_asked(alloc: Global) -> Result<Option<usize>, AllocError> {
+    for (i, asked) in ASKED.iter().enumerate() {
+        if !asked_holds(alloc, asked)? {
+            return Ok(Some(i));
+        }
+    }
+    Ok(None)
+}
+
+#[test]
+fn asked_openers(rt: HostRuntime) -> Result<(), Fail> {
+    assert_eq!(rt; failing_asked(rt.alloc())?, None);
+    Ok(())
+}
+
+const MEMORY: Told = ("memory", 0, 0);
+
+/// An opener after so many turns of the last of these commands: what its next turn wants, and what its command is told
+/// where memory is wanting for that. A turn that wants a lock byte ends its command so, and nothing is written.
+type Starved = (&'static [Word], u32, Wants, Told);
+
+static STARVED: [Starved; 7] = [
+    (&[], 0, Wants::Transaction, MEMORY),
+    (&[], 1, Wants::Records(Kind::Read), MEMORY),
+    (&[], 2, Wants::Nothing, ("free", 0, 0)),
+    (&COMMIT, 0, Wants::Records(Kind::Write), MEMORY),
+    (&COMMIT, 1, Wants::Opening { numbered: true }, MEMORY),
+    (&PREPARE, 0, Wants::Records(Kind::Write), MEMORY),
+    (&PREPARE, 1, Wants::Opening { numbered: true }, MEMORY),
+];
+
+/// What the command of an opener is told where memory is wanting for what its next turn wants.
+fn starve(holder: Holder) -> Told {
+    match holder.wants() {
+        Wants::Nothing => {
+            holder.end();
+            ("free", 0, 0)
+        }
+        _ => told(&holder.starve()),
+    }
+}
+
+/// Whether the opener of a row is told what the row says, and the file stays.
+fn starved_holds(alloc: Global, starved: &Starved) -> Result<bool, AllocError> {
+    let (words, turns, wants, said) = *starved;
+    let mut disk = file(alloc)?;
+    let mut rows = Vec::new(alloc);
+    let left = play(alloc, &mut disk, true, words, turns, &mut rows)?;
+    let Some(holder) = left else {
+        return Ok(false);
+    };
+    let wanted = holder.wants();
+    let is_said = starve(holder) == said;
+    Ok(wanted == wants && is_said && disk.as_slice() == bytes().as_slice())
+}
+
+/// The place of the first row that doesn't hold.
+fn failing_starved(alloc: Global) -> Result<Option<usize>, AllocError> {
+    for (i, starved) in STARVED.iter().enumerate() {
+        if !starved_holds(alloc, starved)? {
+            return Ok(Some(i));
+        }
+    }
+    Ok(None)
+}
+
+#[test]
+fn starved_commands(rt: HostRuntime) -> Result<(), Fail> {
+    assert_eq!(rt; failing_starved(rt.alloc())?, None);
     Ok(())
 }

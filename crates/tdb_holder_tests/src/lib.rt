@@ -4,23 +4,13 @@
 #[cfg(test)]
 mod asking;
 #[cfg(test)]
-mod commits;
-#[cfg(test)]
-mod ends;
-#[cfg(test)]
 mod faults;
 #[cfg(test)]
-mod inside;
-#[cfg(test)]
 mod plays;
-#[cfg(test)]
-mod prepares;
 #[cfg(test)]
 mod rows;
 #[cfg(test)]
 mod small;
-#[cfg(test)]
-mod starving;
 #[cfg(test)]
 mod turns;
 #[cfg(test)]

@@ -39,19 +39,6 @@ fn take_turn(
     (Row { wants, told, file }, next)
 }
 
-/// Adds a row. Where memory is wanting the opener is given up.
-fn logged(rows: &mut Vec<Row>, row: Row, left: Option<Holder>) -> Result<Option<Holder>, AllocError>
-    ensures { IfOk result (λ kept. kept ≡ left) }
-{
-    match rows.push(row) {
-        Ok(()) => Ok(left),
-        Err(fault) => {
-            end_left(left);
-            Err(fault.into())
-        }
-    }
-}
-
 /// Gives up the opener that is left: whether one was.
 pub(crate) fn end_left(left: Option<Holder>) -> bool {
     match left {
@@ -84,7 +71,11 @@ pub(crate) fn go(
             return Ok(Some(holder));
         }
         let (row, next) = take_turn(alloc, holder, disk, numbered);
-        left = logged(rows, row, next)?;
+        if rows.push(row).is_err() {
+            end_left(next);
+            return Err(AllocError);
+        }
+        left = next;
     }
     Ok(left)
 }

@@ -8,7 +8,7 @@ use tdb_steps::Flag;
 use tdb_words::Bytes;
 
 /// A command by its word. The key is `a`, and a value is one byte.
-#[derive(Clone, Copy, Debug)]
+#[derive(Clone, Copy)]
 pub(crate) enum Word {
     Fetch,
     Store(u8),

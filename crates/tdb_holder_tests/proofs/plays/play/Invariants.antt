@@ -5,5 +5,5 @@ use Rattle.tdb_holder.specs.Stages.{IsFit}
 use Rattle.tdb_holder_tests.specs.declared.small.TheConstants.{HEADER, LIMIT}
 use Rattle.tdb_holder_tests.proofs.plays.play.Given as goal
 
-abbrev pub invariant-loop-word : goal.invariant-loop-word
-invariant-loop-word l = IfSome l.left (λ next. IsFit next.stage HEADER LIMIT (memory_size l.disk))
+abbrev pub invariant-loop-i : goal.invariant-loop-i
+invariant-loop-i l = IfSome l.left (λ next. IsFit next.stage HEADER LIMIT (memory_size l.disk))
