@@ -357,7 +357,7 @@ without_txn o None = refl
 without_txn o (Some x) = refl
 
 module _ (w : Whole) (h : History) (o : ℕ) (txn : Txn) where
-  no_other : (img : List ℕ) → ((state_in w.openers img).own o).txn ≡ Some txn → ⊥
+  pub no_other : (img : List ℕ) → ((state_in w.openers img).own o).txn ≡ Some txn → ⊥
   no_other img has = let none : None ≡ Some txn = sym (without_txn (options_at w) (slice_get w.openers.openers o)) ∙ has in absurd (cc none)
 
   -- the one aside has it

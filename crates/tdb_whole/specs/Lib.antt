@@ -5,3 +5,4 @@ pub mod Claims
 pub mod Shut
 pub mod Died
 pub mod Stops
+pub mod Prepared

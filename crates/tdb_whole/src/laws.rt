@@ -1,5 +1,6 @@
-//! What the states of a world say of its file.
+//! What the states of a world say of its file, and of a transaction that is prepared.
 ghost use Rattle.tdb_whole.specs.Died.{StatesAreRead};
+ghost use Rattle.tdb_whole.specs.Prepared.{PreparedCommitGoesOn, PreparedCommitIsShort};
 ghost use Rattle.tdb_whole.specs.Stops.{TransactionsAreSafe};
 
 /// The file, undone where its gate is open, has the map and the sequence number of each state that the world may have:
@@ -13,4 +14,12 @@ pub fn states_are_read()
 /// over all worlds and histories; the function does nothing.
 pub fn transactions_are_safe()
     ensures law { TransactionsAreSafe }
+{}
+
+/// A Commit of a prepared transaction ends: by the law each turn of it is a step, or after the last step its end with
+/// Done, in every state that a world may have, whatever the others did. It has three steps where its Prepare opened the
+/// gate, and else none. The laws are over all worlds and transactions; the function does nothing.
+pub fn prepared_commits_go_on()
+    ensures turn { PreparedCommitGoesOn }
+    ensures steps { PreparedCommitIsShort }
 {}

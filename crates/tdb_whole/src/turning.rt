@@ -9,6 +9,7 @@ ghost use Rattle.tdb_whole.specs.Whole.{form_at, WorldFits};
 ghost use Rattle.tdb_whole.specs.States.{IsStateOf};
 ghost use Rattle.tdb_whole.specs.Steps.{HasCommand, TurnLeads};
 ghost use Rattle.tdb_whole.specs.Stops.{IsChanging, IsSafe, TurnMayLeave};
+ghost use Rattle.tdb_whole.specs.Prepared.{GoesAsPrepared};
 
 use crate::world::World;
 use tdb_disk::Disk;
@@ -17,7 +18,8 @@ use tdb_space::Io;
 
 impl World {
     /// Takes one turn of the opener's command. After `Io` no other turn may be taken in the world: the disk failed, or
-    /// a check found a fault in the file, which no turn leaves.
+    /// a check found a fault in the file, which no turn leaves. A Commit of a prepared transaction is never blocked, and
+    /// is done after at most four turns of its opener.
     ///
     /// Cost: that of the command's turn, and a search in the lock table; nothing is passed over that doesn't belong to
     /// it.
@@ -29,6 +31,7 @@ impl World {
         ensures fits { OnOk result (WorldFits self.new (seen (D.history d.new)) (D.size d.new)) }
         ensures fresh { OnOk result (self.new.stale ≡ false) }
         ensures turned { IfOk result (λ turn. IsTrue D.tells → TurnLeads self.old self.new (D.history d.old) (D.history d.new) who (law_turn turn)) }
+        ensures prepared { IfOk result (λ turn. IsTrue D.tells → GoesAsPrepared self.old (D.history d.old) (law_opener who) (law_turn turn)) }
         ensures stops { IsTrue D.tells → (state : State) → let f = form_at self.old in IsStateOf self.old (D.history d.old) state → IsSafe f (D.history d.old) → (IsChanging f state (law_opener who) → ⊥)
             → LeavesOnly (D.history d.old) (D.history d.new) (TurnMayLeave f state (law_opener who)) }
         ensures safe { OnOk result (IsTrue D.tells → (state : State) → let f = form_at self.old in IsStateOf self.old (D.history d.old) state → IsSafe f (D.history d.old) → (IsChanging f state (law_opener who) → ⊥)
