@@ -11,3 +11,4 @@ pub mod Reads
 pub mod Prepared
 pub mod Wanting
 pub mod Holders
+pub mod Syncs

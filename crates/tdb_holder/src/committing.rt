@@ -15,6 +15,7 @@ ghost use Rattle.tdb_holder.specs.declared.stage.Stage.TheVariants as Stage;
 ghost use Rattle.tdb_holder.specs.Stages.{stage_task, Known, IsFitLeft, IsSide, KnowsFile};
 ghost use Rattle.tdb_holder.specs.Turned.{MayTurn, StageTurned};
 ghost use Rattle.tdb_holder.specs.Wanting.{RecordsGo, StepGoesOn};
+ghost use Rattle.tdb_holder.specs.Syncs.{HolderSyncs};
 
 use crate::stage::{Stage, Went};
 use tdb_commit::{CommitTurn, Committing};
@@ -55,6 +56,7 @@ pub(crate) fn commit_turn<D: Disk>(
     ensures records { IfOk result (λ went. RecordsGo (Stage.Committing commit) went.turn went.stage) }
     ensures goes_on { IfOk result (λ went. StepGoesOn went.turn went.stage) }
     ensures stops { IsTrue D.tells → (r b : List ℕ) → KnowsCommit commit (D.history d.old) r b → LeavesOnly (D.history d.old) (D.history d.new) (CommitMayLeave commit r b) }
+    ensures syncs { IfOk result (λ went. HolderSyncs (Stage.Committing commit) went.turn (D.syncs d.old) (D.syncs d.new)) }
     ensures cause { HasCause (D.faults d.old) (D.faults d.new) result }
 {
     let turn = commit.step(d, locks, owner, limit)?;

@@ -14,6 +14,7 @@ ghost use Rattle.tdb_holder.specs.Stages.{stage_task, Known, IsFitLeft, IsSide, 
 ghost use Rattle.tdb_holder.specs.Turned.{MayTurn, StageTurned};
 ghost use Rattle.tdb_holder.specs.Wents.{finish_went};
 ghost use Rattle.tdb_holder.specs.Wanting.{RecordsGo, StepGoesOn};
+ghost use Rattle.tdb_holder.specs.Syncs.{HolderSyncs};
 
 use crate::stage::{Stage, Went};
 use tdb_commit::{FinishTurn, Finishing};
@@ -48,6 +49,7 @@ pub(crate) fn finish_turn<D: Disk>(
     ensures goes_on { IfOk result (λ went. StepGoesOn went.turn went.stage) }
     ensures stops { IsTrue D.tells → (r b : List ℕ) → KnowsFinish finishing (D.history d.old) r b → LeavesOnly (D.history d.old) (D.history d.new) (MayLeave finishing r b) }
     ensures size { D.size d.new ≡ D.size d.old }
+    ensures syncs { IfOk result (λ went. HolderSyncs (Stage.Finishing finishing) went.turn (D.syncs d.old) (D.syncs d.new)) }
     ensures cause { HasCause (D.faults d.old) (D.faults d.new) result }
 {
     let turn = finishing.step(d, locks, owner)?;

@@ -24,6 +24,7 @@ ghost use Rattle.tdb_holder.specs.Given.{IsShortCommand};
 ghost use Rattle.tdb_holder.specs.Holders.{is_idle, left_stage, stage_depth, stage_gate, with_command, HolderTurned, StageMayLeave};
 ghost use Rattle.tdb_holder.specs.Stages.{is_closing, stage_records, stage_task, Known, IsFit, IsFitLeft, IsSide, KnowsFile, MayBeGiven};
 ghost use Rattle.tdb_holder.specs.Turned.{BeginsOn, MayTurn, StageTurned};
+ghost use Rattle.tdb_holder.specs.Syncs.{HolderSyncs};
 ghost use Rattle.tdb_holder.specs.Wanting.{records_at, stage_wants, wanted_by, RecordsGo, StepGoesOn};
 
 use crate::committing::commit_turn;
@@ -141,6 +142,7 @@ fn stage_turn<D: Disk>(
     ensures records { IfOk result (λ went. RecordsGo stage went.turn went.stage) }
     ensures goes_on { IfOk result (λ went. StepGoesOn went.turn went.stage) }
     ensures stops { IsTrue D.tells → (f : Form) (k : Known) → KnowsFile f stage (D.history d.old) k → LeavesOnly (D.history d.old) (D.history d.new) (StageMayLeave stage (D.history d.old) k) }
+    ensures syncs { IfOk result (λ went. HolderSyncs stage went.turn (D.syncs d.old) (D.syncs d.new)) }
     ensures cause { IsTrue D.tells → (f : Form) (k : Known) → KnowsFile f stage (D.history d.old) k → HasCause (D.faults d.old) (D.faults d.new) result }
     ensures done { OnOk result (D.faults d.new ≡ D.faults d.old) }
     ensures rises { D.faults d.old ≤ D.faults d.new }
@@ -363,6 +365,7 @@ impl Holder {
         ensures records { IfOk result (λ moved. RecordsGo self.stage moved.turn (left_stage moved.holder)) }
         ensures goes_on { IfOk result (λ moved. StepGoesOn moved.turn (left_stage moved.holder)) }
         ensures stops { IsTrue D.tells → (f : Form) (k : Known) → KnowsFile f self.stage (D.history d.old) k → LeavesOnly (D.history d.old) (D.history d.new) (StageMayLeave self.stage (D.history d.old) k) }
+        ensures syncs { IfOk result (λ moved. HolderSyncs self.stage moved.turn (D.syncs d.old) (D.syncs d.new)) }
         ensures cause { IsTrue D.tells → (f : Form) (k : Known) → KnowsFile f self.stage (D.history d.old) k → HasCause (D.faults d.old) (D.faults d.new) result }
         ensures done { OnOk result (D.faults d.new ≡ D.faults d.old) }
         ensures rises { D.faults d.old ≤ D.faults d.new }

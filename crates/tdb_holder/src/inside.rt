@@ -18,6 +18,7 @@ ghost use Rattle.tdb_holder.specs.Stages.{Known, CommandFits, IsFit, IsFitLeft, 
 ghost use Rattle.tdb_holder.specs.Open.{OpenFits};
 ghost use Rattle.tdb_holder.specs.Wanting.{RecordsGo, StepGoesOn};
 ghost use Rattle.tdb_holder.specs.Wents.{TurnsFrom};
+ghost use Rattle.tdb_holder.specs.Syncs.{HolderSyncs};
 
 use crate::committing::commit_turn;
 use crate::open_txn::OpenTxn;
@@ -119,6 +120,7 @@ fn commit_first<D: Disk>(
     ensures records { IfOk result (λ went. RecordsGo (Stage.Committing (Committing.Preparing (begun_with own.txn own.changed own.numbered))) went.turn went.stage) }
     ensures goes_on { IfOk result (λ went. StepGoesOn went.turn went.stage) }
     ensures stops { IsTrue D.tells → (r b : List ℕ) → KnowsStage (begun_with own.txn own.changed own.numbered).stage (D.history d.old) r b → LeavesOnly (D.history d.old) (D.history d.new) (Reopens r) }
+    ensures syncs { IfOk result (λ went. HolderSyncs (Stage.Committing (Committing.Preparing (begun_with own.txn own.changed own.numbered))) went.turn (D.syncs d.old) (D.syncs d.new)) }
     ensures cause { IsTrue D.tells → MayCommit own.txn (seen (D.history d.old)) → HasCause (D.faults d.old) (D.faults d.new) result }
     ensures done { OnOk result (D.faults d.new ≡ D.faults d.old) }
     ensures rises { D.faults d.old ≤ D.faults d.new }
@@ -160,6 +162,7 @@ fn prepare_first<D: Disk>(
     ensures records { IfOk result (λ went. RecordsGo (Stage.Preparing (begun_with own.txn own.changed own.numbered)) went.turn went.stage) }
     ensures goes_on { IfOk result (λ went. StepGoesOn went.turn went.stage) }
     ensures stops { IsTrue D.tells → (r b : List ℕ) → KnowsStage (begun_with own.txn own.changed own.numbered).stage (D.history d.old) r b → LeavesOnly (D.history d.old) (D.history d.new) (Reopens r) }
+    ensures syncs { IfOk result (λ went. HolderSyncs (Stage.Preparing (begun_with own.txn own.changed own.numbered)) went.turn (D.syncs d.old) (D.syncs d.new)) }
     ensures cause { IsTrue D.tells → MayCommit own.txn (seen (D.history d.old)) → HasCause (D.faults d.old) (D.faults d.new) result }
     ensures done { OnOk result (D.faults d.new ≡ D.faults d.old) }
     ensures rises { D.faults d.old ≤ D.faults d.new }
@@ -200,6 +203,7 @@ fn commit_outer<D: Disk>(
     ensures records { IfOk result (λ went. RecordsGo (Stage.Open txn (Some Command.Commit)) went.turn went.stage) }
     ensures goes_on { IfOk result (λ went. StepGoesOn went.turn went.stage) }
     ensures stops { IsTrue D.tells → (f : Form) (k : Known) → KnowsFile f (Stage.Open txn (Some Command.Commit)) (D.history d.old) k → LeavesOnly (D.history d.old) (D.history d.new) (Reopens k.file) }
+    ensures syncs { IfOk result (λ went. HolderSyncs (Stage.Open txn (Some Command.Commit)) went.turn (D.syncs d.old) (D.syncs d.new)) }
     ensures cause { IsTrue D.tells → MayCommit txn.own.txn (seen (D.history d.old)) → HasCause (D.faults d.old) (D.faults d.new) result }
     ensures done { OnOk result (D.faults d.new ≡ D.faults d.old) }
     ensures rises { D.faults d.old ≤ D.faults d.new }
@@ -235,6 +239,7 @@ fn prepare_outer<D: Disk>(
     ensures records { IfOk result (λ went. RecordsGo (Stage.Open txn (Some Command.Prepare)) went.turn went.stage) }
     ensures goes_on { IfOk result (λ went. StepGoesOn went.turn went.stage) }
     ensures stops { IsTrue D.tells → (f : Form) (k : Known) → KnowsFile f (Stage.Open txn (Some Command.Prepare)) (D.history d.old) k → LeavesOnly (D.history d.old) (D.history d.new) (Reopens k.file) }
+    ensures syncs { IfOk result (λ went. HolderSyncs (Stage.Open txn (Some Command.Prepare)) went.turn (D.syncs d.old) (D.syncs d.new)) }
     ensures cause { IsTrue D.tells → MayCommit txn.own.txn (seen (D.history d.old)) → HasCause (D.faults d.old) (D.faults d.new) result }
     ensures done { OnOk result (D.faults d.new ≡ D.faults d.old) }
     ensures rises { D.faults d.old ≤ D.faults d.new }
@@ -270,6 +275,7 @@ fn stay_turn<D: Disk>(
     ensures goes_on { IfOk result (λ went. StepGoesOn went.turn went.stage) }
     ensures history { D.history d.new ≡ D.history d.old }
     ensures size { D.size d.new ≡ D.size d.old }
+    ensures syncs { IfOk result (λ went. HolderSyncs (Stage.Open txn (Some command)) went.turn (D.syncs d.old) (D.syncs d.new)) }
     ensures cause { IsTrue D.tells → MayCommit txn.own.txn (seen (D.history d.old)) → HasCause (D.faults d.old) (D.faults d.new) result }
     ensures done { OnOk result (D.faults d.new ≡ D.faults d.old) }
     ensures rises { D.faults d.old ≤ D.faults d.new }
@@ -299,6 +305,7 @@ fn outer_turn<D: Disk>(
     ensures records { IfOk result (λ went. RecordsGo (Stage.Open txn (Some command)) went.turn went.stage) }
     ensures goes_on { IfOk result (λ went. StepGoesOn went.turn went.stage) }
     ensures stops { IsTrue D.tells → (k : Known) → KnowsFile (form_in header.now) (Stage.Open txn (Some command)) (D.history d.old) k → LeavesOnly (D.history d.old) (D.history d.new) (Reopens k.file) }
+    ensures syncs { IfOk result (λ went. HolderSyncs (Stage.Open txn (Some command)) went.turn (D.syncs d.old) (D.syncs d.new)) }
     ensures cause { IsTrue D.tells → MayCommit txn.own.txn (seen (D.history d.old)) → HasCause (D.faults d.old) (D.faults d.new) result }
     ensures done { OnOk result (D.faults d.new ≡ D.faults d.old) }
     ensures rises { D.faults d.old ≤ D.faults d.new }
@@ -333,6 +340,7 @@ fn inner_turn<D: Disk>(
     ensures records { IfOk result (λ went. RecordsGo (Stage.Open txn (Some command)) went.turn went.stage) }
     ensures goes_on { IfOk result (λ went. StepGoesOn went.turn went.stage) }
     ensures stops { IsTrue D.tells → (k : Known) → KnowsFile (form_in header.now) (Stage.Open txn (Some command)) (D.history d.old) k → LeavesOnly (D.history d.old) (D.history d.new) (Reopens k.file) }
+    ensures syncs { IfOk result (λ went. HolderSyncs (Stage.Open txn (Some command)) went.turn (D.syncs d.old) (D.syncs d.new)) }
     ensures cause { IsTrue D.tells → MayCommit txn.own.txn (seen (D.history d.old)) → HasCause (D.faults d.old) (D.faults d.new) result }
     ensures done { OnOk result (D.faults d.new ≡ D.faults d.old) }
     ensures rises { D.faults d.old ≤ D.faults d.new }
@@ -366,6 +374,7 @@ pub(crate) fn open_turn<D: Disk>(
     ensures records { IfOk result (λ went. RecordsGo (Stage.Open txn (Some command)) went.turn went.stage) }
     ensures goes_on { IfOk result (λ went. StepGoesOn went.turn went.stage) }
     ensures stops { IsTrue D.tells → (k : Known) → KnowsFile (form_in header.now) (Stage.Open txn (Some command)) (D.history d.old) k → LeavesOnly (D.history d.old) (D.history d.new) (Reopens k.file) }
+    ensures syncs { IfOk result (λ went. HolderSyncs (Stage.Open txn (Some command)) went.turn (D.syncs d.old) (D.syncs d.new)) }
     ensures cause { IsTrue D.tells → MayCommit txn.own.txn (seen (D.history d.old)) → HasCause (D.faults d.old) (D.faults d.new) result }
     ensures done { OnOk result (D.faults d.new ≡ D.faults d.old) }
     ensures rises { D.faults d.old ≤ D.faults d.new }

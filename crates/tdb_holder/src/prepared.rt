@@ -21,6 +21,7 @@ ghost use Rattle.tdb_holder.specs.Stages.{stage_task, Known, IsFit, IsFitLeft, I
 ghost use Rattle.tdb_holder.specs.Turned.{MayTurn, StageTurned};
 ghost use Rattle.tdb_holder.specs.Wanting.{RecordsGo, StepGoesOn};
 ghost use Rattle.tdb_holder.specs.Wents.{is_over};
+ghost use Rattle.tdb_holder.specs.Syncs.{EndSyncs, HolderSyncs};
 
 use crate::finishing::finish_turn;
 use crate::refusing::Level;
@@ -58,6 +59,7 @@ fn end_with<D: Disk>(
     ensures stops { IsTrue D.tells → (r b : List ℕ) → KnowsPrepared left (D.history d.old) r b → LeavesOnly (D.history d.old) (D.history d.new) (Reopens r) }
     ensures still { (changed : Bool) → left ≡ PreparedTxn.Nothing changed → D.history d.new ≡ D.history d.old }
     ensures size { D.size d.new ≡ D.size d.old }
+    ensures syncs { OnOk result (EndSyncs left (D.syncs d.old) (D.syncs d.new)) }
     ensures cause { HasCause (D.faults d.old) (D.faults d.new) result }
 {
     match left {
@@ -88,6 +90,7 @@ fn commit_prepared<D: Disk>(
     ensures goes_on { IfOk result (λ went. StepGoesOn went.turn went.stage) }
     ensures stops { IsTrue D.tells → (r b : List ℕ) → KnowsPrepared left (D.history d.old) r b → LeavesOnly (D.history d.old) (D.history d.new) (Reopens r) }
     ensures size { D.size d.new ≡ D.size d.old }
+    ensures syncs { IfOk result (λ went. HolderSyncs (Stage.Prepared left (Some Given.Commit)) went.turn (D.syncs d.old) (D.syncs d.new)) }
     ensures cause { HasCause (D.faults d.old) (D.faults d.new) result }
 {
     match left {
@@ -149,6 +152,7 @@ pub(crate) fn prepared_turn<D: Disk>(
     ensures goes_on { IfOk result (λ went. StepGoesOn went.turn went.stage) }
     ensures stops { IsTrue D.tells → (r b : List ℕ) → KnowsPrepared left (D.history d.old) r b → LeavesOnly (D.history d.old) (D.history d.new) (Reopens r) }
     ensures size { D.size d.new ≡ D.size d.old }
+    ensures syncs { IfOk result (λ went. HolderSyncs (Stage.Prepared left (Some command)) went.turn (D.syncs d.old) (D.syncs d.new)) }
     ensures cause { HasCause (D.faults d.old) (D.faults d.new) result }
 {
     match command {

@@ -15,6 +15,7 @@ ghost use Rattle.tdb_holder.specs.Stages.{stage_task, Known, IsFitLeft, IsSide, 
 ghost use Rattle.tdb_holder.specs.Turned.{MayTurn, StageTurned};
 ghost use Rattle.tdb_holder.specs.Wents.{has_changed, prepare_went};
 ghost use Rattle.tdb_holder.specs.Wanting.{RecordsGo, StepGoesOn};
+ghost use Rattle.tdb_holder.specs.Syncs.{HolderSyncs};
 
 use crate::stage::{PreparedTxn, Stage, Went};
 use tdb_commit::{PrepareStage, PrepareTurn, Preparing};
@@ -75,6 +76,7 @@ pub(crate) fn prepare_turn<D: Disk>(
     ensures records { IfOk result (λ went. RecordsGo (Stage.Preparing preparing) went.turn went.stage) }
     ensures goes_on { IfOk result (λ went. StepGoesOn went.turn went.stage) }
     ensures stops { IsTrue D.tells → (r b : List ℕ) → KnowsStage preparing.stage (D.history d.old) r b → LeavesOnly (D.history d.old) (D.history d.new) (Reopens r) }
+    ensures syncs { IfOk result (λ went. HolderSyncs (Stage.Preparing preparing) went.turn (D.syncs d.old) (D.syncs d.new)) }
     ensures cause { HasCause (D.faults d.old) (D.faults d.new) result }
 {
     let changed = has_change(&preparing.stage);

@@ -11,6 +11,7 @@ ghost use Rattle.tdb_holder.specs.Stages.{stage_task, Known, IsFitLeft, IsSide, 
 ghost use Rattle.tdb_holder.specs.Turned.{BeginsOn, MayTurn, StageTurned};
 ghost use Rattle.tdb_holder.specs.Wents.{StartWent};
 ghost use Rattle.tdb_holder.specs.Wanting.{RecordsGo, StepGoesOn};
+ghost use Rattle.tdb_holder.specs.Syncs.{HolderSyncs};
 
 use crate::open_txn::OpenTxn;
 use crate::stage::{Stage, Went};
@@ -63,6 +64,7 @@ pub(crate) fn start_turn<D: Disk>(
     ensures goes_on { IfOk result (λ went. StepGoesOn went.turn went.stage) }
     ensures stops { LeavesOnly (D.history d.old) (D.history d.new) (Leaves (D.history d.old)) }
     ensures size { D.size d.new ≡ D.size d.old }
+    ensures syncs { IfOk result (λ went. HolderSyncs (Stage.Starting starting) went.turn (D.syncs d.old) (D.syncs d.new)) }
     ensures cause { HasCause (D.faults d.old) (D.faults d.new) result }
 {
     let turn = starting.step(alloc, d, header, locks, owner)?;

@@ -13,6 +13,7 @@ use Rattle.tdb_holder.specs.Wanting.{RecordsGo, StepGoesOn}
 use Rattle.tdb_holder.proofs.Opened.{stays_open, weaker}
 use Rattle.tdb_holder.proofs.PreparedTurns.{end_turned, file_known, fits_without, not_taken, over_with, prepared_stops, refused_turned, still_read, EndsPrepared}
 use Rattle.tdb_holder.proofs.Sided.{same_task}
+use Rattle.tdb_holder.proofs.Synced.{still_syncs}
 use Rattle.tdb_holder.proofs.prepared.prepared_turn.Goals as goal
 
 pub returns-in-Commit-clause-turned : goal.returns-in-Commit-clause-turned
@@ -90,5 +91,6 @@ returns-in_default g c =
       goes_on = subst (λ (w : Went). StepGoesOn w.turn w.stage) (sym R.2) tt;
       stops = λ told r b K. prepared_stops a.left h r b K;
       size = refl;
+      syncs = still_syncs a.left (Some a.command) _ (g.D.Disk.syncs a.d.now);
       cause = record { never_falls = omega arith; failed = tt; done = refl };
     }
