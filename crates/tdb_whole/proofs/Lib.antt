@@ -22,6 +22,9 @@ pub mod Staged
 pub mod Starved
 pub mod Stopping
 pub mod PreparedTurns
+pub mod Synced
+pub mod Looking
+pub mod Seldom
 pub mod TurnsLead
 pub mod NumberHeld
 pub mod AskingTurns

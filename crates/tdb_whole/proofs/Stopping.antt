@@ -117,7 +117,7 @@ module _ (f : Form) (o : Options) (owner : ℕ) (ps : List Piece) (k : Known) (p
   starts_without : (st : Starting) → IsSide f o owner ps (At.Starting st) k past s → s.own.txn ≡ None
   starts_without st S = sym (ap (λ (x : Own). x.txn) S.own.bare)
 
-  txn_at : (stage : Stage) → HasTxn stage → IsSide f o owner ps stage k past s → (t : Txn) × (s.own.txn ≡ Some t)
+  pub txn_at : (stage : Stage) → HasTxn stage → IsSide f o owner ps stage k past s → (t : Txn) × (s.own.txn ≡ Some t)
   txn_at (At.Starting st) has S = absurd has
   txn_at (At.Open txn command) has S = (_, S.own.txn)
   txn_at (At.Committing c) has S = (S.own.txn, S.own.has.outer.has)

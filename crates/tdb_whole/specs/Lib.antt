@@ -6,3 +6,4 @@ pub mod Shut
 pub mod Died
 pub mod Stops
 pub mod Prepared
+pub mod Syncs

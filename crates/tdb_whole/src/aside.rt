@@ -21,6 +21,8 @@ ghost use Rattle.tdb_whole.specs.States.{IsStateOf};
 ghost use Rattle.tdb_whole.specs.Steps.{with_aside, HasCommand, TurnLeads};
 ghost use Rattle.tdb_whole.specs.Stops.{IsSafe, TurnMayLeave};
 ghost use Rattle.tdb_whole.specs.declared.aside.Claim.TheVariants as Claim;
+ghost use Rattle.tdb_holder.specs.Syncs.{HolderSyncs};
+ghost use Rattle.tdb_whole.specs.Syncs.{SyncsByStage};
 
 use crate::world::World;
 use std::mem;
@@ -74,6 +76,7 @@ impl World {
         ensures rest { record self.new { number = self.old.number } ≡ self.old }
         ensures history { D.history d.new ≡ D.history d.old }
         ensures size { D.size d.new ≡ D.size d.old }
+        ensures syncs { D.syncs d.new ≡ D.syncs d.old }
         ensures cause { HasCause (D.faults d.old) (D.faults d.new) result }
     {
         if wants == Wants::Records(Kind::Write) {
@@ -96,6 +99,7 @@ impl World {
             → LeavesOnly (D.history d.old) (D.history d.new) (TurnMayLeave f state (law_opener holder.owner)) }
         ensures safe { OnOk result (IsTrue D.tells → (state : State) → let f = form_at self.old in IsStateOf (with_aside self.old holder) (D.history d.old) state → IsSafe f (D.history d.old)
             → IsSafe f (D.history d.new)) }
+        ensures syncs { IfOk result (λ turn. HolderSyncs holder.stage turn (D.syncs d.old) (D.syncs d.new)) }
         ensures busy { IfOk result (λ turn. turn ≡ Turn.Step → HasCommand self.new holder.owner) }
         ensures header { OnOk result (self.new.openers.header ≡ self.old.openers.header) }
         ensures options { OnOk result (self.new.openers.options ≡ self.old.openers.options) }
@@ -136,6 +140,7 @@ impl World {
         ensures safe { OnOk result (IsTrue D.tells → (before : Openers) (x : Opener) (state : State) → let f = form_in before.header in
             ClaimStands self.old holder (seen (D.history d.old)) (D.size d.old) before x
             → IsStateOf (record self.old { openers = before; aside = Some holder }) (D.history d.old) state → IsSafe f (D.history d.old) → IsSafe f (D.history d.new)) }
+        ensures syncs { IfOk result (λ turn. HolderSyncs holder.stage turn (D.syncs d.old) (D.syncs d.new)) }
         ensures busy { IfOk result (λ turn. turn ≡ Turn.Step → HasCommand self.new holder.owner) }
         ensures header { OnOk result (self.new.openers.header ≡ self.old.openers.header) }
         ensures options { OnOk result (self.new.openers.options ≡ self.old.openers.options) }
@@ -205,6 +210,7 @@ impl World {
             → LeavesOnly (D.history d.old) (D.history d.new) (TurnMayLeave f state (law_opener who)) }
         ensures safe { OnOk result (IsTrue D.tells → (state : State) → let f = form_at self.old in IsStateOf self.old (D.history d.old) state → IsSafe f (D.history d.old)
             → IsSafe f (D.history d.new)) }
+        ensures syncs { IfOk result (λ turn. SyncsByStage self.old who turn (D.syncs d.old) (D.syncs d.new)) }
         ensures busy { IfOk result (λ turn. turn ≡ Turn.Step → HasCommand self.new who) }
         ensures header { OnOk result (self.new.openers.header ≡ self.old.openers.header) }
         ensures options { OnOk result (self.new.openers.options ≡ self.old.openers.options) }

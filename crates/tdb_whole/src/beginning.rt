@@ -10,6 +10,9 @@ ghost use Rattle.tdb_whole.specs.Whole.{form_at, is_starting, WorldFits};
 ghost use Rattle.tdb_whole.specs.States.{IsStateOf};
 ghost use Rattle.tdb_whole.specs.Steps.{HasCommand, IsAmong, TurnLeads};
 ghost use Rattle.tdb_whole.specs.Stops.{IsSafe, TurnMayLeave};
+ghost use Rattle.tdb_commit.specs.declared.starting.Starting.TheVariants as Starting;
+ghost use Rattle.tdb_holder.specs.declared.stage.Stage.TheVariants as Stage;
+ghost use Rattle.tdb_holder.specs.Syncs.{HolderSyncs};
 
 use crate::world::World;
 use tdb_disk::Disk;
@@ -69,6 +72,7 @@ impl World {
             → LeavesOnly (D.history d.old) (D.history d.new) (TurnMayLeave f state (law_opener who)) }
         ensures safe { OnOk result (IsTrue D.tells → (state : State) → let f = form_at self.old in IsStateOf self.old (D.history d.old) state → IsSafe f (D.history d.old)
             → IsSafe f (D.history d.new)) }
+        ensures syncs { IfOk result (λ turn. HolderSyncs (Stage.Starting Starting.Begun) turn (D.syncs d.old) (D.syncs d.new)) }
         ensures busy { IfOk result (λ turn. turn ≡ Turn.Step → HasCommand self.new who) }
         ensures header { OnOk result (self.new.openers.header ≡ self.old.openers.header) }
         ensures options { OnOk result (self.new.openers.options ≡ self.old.openers.options) }

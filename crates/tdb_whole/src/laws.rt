@@ -1,7 +1,8 @@
-//! What the states of a world say of its file, and of a transaction that is prepared.
+//! What the states of a world say of its file, of a transaction that is prepared, and how often a Commit syncs.
 ghost use Rattle.tdb_whole.specs.Died.{StatesAreRead};
 ghost use Rattle.tdb_whole.specs.Prepared.{PreparedCommitGoesOn, PreparedCommitIsShort};
 ghost use Rattle.tdb_whole.specs.Stops.{TransactionsAreSafe};
+ghost use Rattle.tdb_whole.specs.Syncs.{CommitsSyncSeldom};
 
 /// The file, undone where its gate is open, has the map and the sequence number of each state that the world may have:
 /// between the turns of a commit too, and in a stale world. The law is over all worlds and histories; the function
@@ -22,4 +23,10 @@ pub fn transactions_are_safe()
 pub fn prepared_commits_go_on()
     ensures turn { PreparedCommitGoesOn }
     ensures steps { PreparedCommitIsShort }
+{}
+
+/// By what each turn of a Commit makes (`SyncsByStage`), a whole Commit makes nine syncs at most, and one of a prepared
+/// transaction two. The law is over all Commits; the function does nothing.
+pub fn commits_sync_seldom()
+    ensures law { CommitsSyncSeldom }
 {}

@@ -11,7 +11,9 @@ mod turning;
 mod undoing;
 mod world;
 
-pub use crate::laws::{prepared_commits_go_on, states_are_read, transactions_are_safe};
+pub use crate::laws::{
+    commits_sync_seldom, prepared_commits_go_on, states_are_read, transactions_are_safe,
+};
 pub use crate::undoing::Undone;
 pub use crate::world::{JoinRefusal, World};
 pub use tdb_world::OpenerStanding;

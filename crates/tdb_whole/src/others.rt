@@ -67,6 +67,8 @@ impl World {
         ensures calm { WritesNoRecord self.old.openers.table (law_opener who) → (D.history d.new ≡ D.history d.old) × (D.size d.new ≡ D.size d.old) }
         ensures spared { (x : Opener) (t : Task) → IsBusy self.old.openers who x t → (IsMidway (form_in self.old.openers.header) (own_of self.old.openers.options x) (law_of_task t) → ⊥)
             → D.history d.new ≡ D.history d.old }
+        ensures no_sync { (x : Opener) (t : Task) → IsBusy self.old.openers who x t → (IsMidway (form_in self.old.openers.header) (own_of self.old.openers.options x) (law_of_task t) → ⊥)
+            → D.syncs d.new ≡ D.syncs d.old }
         ensures busy { IfOk result (λ turn. turn ≡ Turn.Step → (x : Opener) × (t : Task) × IsBusy self.new.openers who x t) }
         ensures joined { length self.new.openers.openers ≡ length self.old.openers.openers }
         ensures others { (o : ℕ) → o ≢ law_opener who → slice_get self.new.openers.openers o ≡ slice_get self.old.openers.openers o }
@@ -129,6 +131,7 @@ impl World {
             → LeavesOnly (D.history d.old) (D.history d.new) (TurnMayLeave f state (law_opener who)) }
         ensures safe { OnOk result (IsTrue D.tells → (state : State) → let f = form_at self.old in IsStateOf self.old (D.history d.old) state → IsSafe f (D.history d.old) → (IsChanging f state (law_opener who) → ⊥)
             → IsSafe f (D.history d.new)) }
+        ensures no_sync { (state : State) → IsStateOf self.old (D.history d.old) state → (IsChanging (form_at self.old) state (law_opener who) → ⊥) → D.syncs d.new ≡ D.syncs d.old }
         ensures busy { IfOk result (λ turn. turn ≡ Turn.Step → HasCommand self.new who) }
         ensures header { OnOk result (self.new.openers.header ≡ self.old.openers.header) }
         ensures options { OnOk result (self.new.openers.options ≡ self.old.openers.options) }

@@ -10,6 +10,7 @@ ghost use Rattle.tdb_whole.specs.States.{IsStateOf};
 ghost use Rattle.tdb_whole.specs.Steps.{HasCommand, TurnLeads};
 ghost use Rattle.tdb_whole.specs.Stops.{IsChanging, IsSafe, TurnMayLeave};
 ghost use Rattle.tdb_whole.specs.Prepared.{GoesAsPrepared};
+ghost use Rattle.tdb_whole.specs.Syncs.{OnlyLooks, SyncsByStage};
 
 use crate::world::World;
 use tdb_disk::Disk;
@@ -22,7 +23,8 @@ impl World {
     /// is done after at most four turns of its opener.
     ///
     /// Cost: that of the command's turn, and a search in the lock table; nothing is passed over that doesn't belong to
-    /// it.
+    /// it. A turn of a Start, a Commit or a Prepare, or one that ends a transaction, syncs the disk as often as its
+    /// stage says, which makes nine times at most for a Commit; one that only looks at the file never does.
     pub fn turn<D: Disk>(&mut self, d: &mut D, who: u32) -> Result<Turn, Io>
         requires named { 1 ≤ who }
         requires busy { HasCommand self.old who }
@@ -36,6 +38,8 @@ impl World {
             → LeavesOnly (D.history d.old) (D.history d.new) (TurnMayLeave f state (law_opener who)) }
         ensures safe { OnOk result (IsTrue D.tells → (state : State) → let f = form_at self.old in IsStateOf self.old (D.history d.old) state → IsSafe f (D.history d.old) → (IsChanging f state (law_opener who) → ⊥)
             → IsSafe f (D.history d.new)) }
+        ensures syncs { IfOk result (λ turn. SyncsByStage self.old who turn (D.syncs d.old) (D.syncs d.new)) }
+        ensures no_sync { (state : State) → IsStateOf self.old (D.history d.old) state → OnlyLooks (form_at self.old) state (law_opener who) → D.syncs d.new ≡ D.syncs d.old }
         ensures busy { IfOk result (λ turn. turn ≡ Turn.Step → HasCommand self.new who) }
         ensures header { OnOk result (self.new.openers.header ≡ self.old.openers.header) }
         ensures options { OnOk result (self.new.openers.options ≡ self.old.openers.options) }

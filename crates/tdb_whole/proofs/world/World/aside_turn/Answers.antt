@@ -1,6 +1,6 @@
 -- The one aside takes its turn.
 use Rattle.std.proofs.Common.{◌≡◌, Some, IsTrue, IfOk, sym, ◌∙◌, ap, subst}
-use Rattle.std.proofs.lemmas.Result.{on_ok_weaker}
+use Rattle.std.proofs.lemmas.Result.{IfOk-weaker, on_ok_weaker}
 use Rattle.tdb_disk.specs.Stop.{LeavesOnly}
 use Rattle.tdb_locks.specs.declared.turn.Turn.TheVariants as Turn
 use Rattle.tdb_plays.specs.InLaw.{law_opener, law_turn}
@@ -11,6 +11,7 @@ use Rattle.tdb_whole.specs.Whole.{form_at, Whole}
 use Rattle.tdb_whole.specs.States.{IsStateOf}
 use Rattle.tdb_whole.specs.Steps.{with_aside, HasCommand, TurnLeads}
 use Rattle.tdb_whole.proofs.Settled.{put_back, same_holder}
+use Rattle.tdb_whole.proofs.Synced.{aside_syncs}
 use Rattle.tdb_whole.proofs.world.World.aside_turn.Given
 use Rattle.tdb_whole.proofs.world.World.aside_turn.Goals as goal
 
@@ -52,3 +53,9 @@ returns-clause-safe g c =
     (λ keeps told state S safe. subst (λ f. IsSafe f (g.D.Disk.history c.step_aside.new.d)) form
     (keeps told state (subst (λ w. IsStateOf w h state) (sym (before g c)) S) (subst (λ f. IsSafe f h) (sym form) safe)))
     c.step_aside.ensures.safe
+
+pub returns-clause-syncs : goal.returns-clause-syncs
+returns-clause-syncs g c =
+    IfOk-weaker c.step_aside.result _ _
+    (λ turn S. aside_syncs c.args.self.now c.args.who turn (g.D.Disk.syncs c.args.d.now) (g.D.Disk.syncs c.step_aside.new.d) c.in-Some.holder (aside g c) (sym (owner g c)) S)
+    c.step_aside.ensures.syncs

@@ -117,3 +117,8 @@ returns-in-None-clause-safe g c =
     on_one c.turn_in_file.result _ _
     (λ done told state S safe never. subst (IsSafe (form_at c.args.self.now)) (sym (same g (goal.at.returns-in-None-clause-safe g c).After-turn_in_file state S never)) safe)
     c.turn_in_file.ensures.done
+
+pub returns-in-None-clause-no_sync : goal.returns-in-None-clause-no_sync
+returns-in-None-clause-no_sync g c state S never =
+    let B = c.requires.busy in
+    c.turn_in_file.ensures.no_sync B.0 B.1 B.2 (not_midway c.args.self.now c.args.who B.0 B.1 (g.D.Disk.history c.args.d.now) state c.requires.named B.2 c.requires.among c.requires.begun S never)

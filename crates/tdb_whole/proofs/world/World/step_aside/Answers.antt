@@ -21,6 +21,7 @@ use Rattle.tdb_whole.proofs.Fitting.{fits_starved}
 use Rattle.tdb_whole.proofs.Settled.{claim_stands}
 use Rattle.tdb_whole.proofs.Stopping.{still_leaves}
 use Rattle.tdb_whole.proofs.TurnsLead.{blocked_leads, starved_leads}
+use Rattle.tdb_whole.proofs.Synced.{barred_records, records_still}
 use Rattle.tdb_whole.proofs.world.World.step_aside.Given
 use Rattle.tdb_whole.proofs.world.World.step_aside.Goals as goal
 
@@ -139,3 +140,8 @@ returns-in-Blocked-clause-stops g c = λ told state S safe.
 pub returns-in-Starved-clause-stops : goal.returns-in-Starved-clause-stops
 returns-in-Starved-clause-stops g c = λ told state S safe.
     let h = g.D.Disk.history c.args.d.now in still_leaves (with_aside c.args.self.now c.args.holder) h h state (law_opener c.args.holder.owner) refl S safe
+
+pub returns-in-Blocked-clause-syncs : goal.returns-in-Blocked-clause-syncs
+returns-in-Blocked-clause-syncs g c =
+    let wants = barred_records c.self.inside.openers c.owner-who.result c.in-Blocked.owner c.in-Blocked.byte c.wants-wants.result (c.in-Blocked.ensures.blocked c.in-Blocked.owner c.in-Blocked.byte refl) in
+    records_still c.args.holder.stage wants.0 (g.D.Disk.syncs c.args.d.now) (sym c.wants-wants.ensures.stage ∙ wants.1)
