@@ -9,6 +9,8 @@ pub mod OneTurn
 pub mod StoppedTurns
 pub mod Going
 pub mod Changes
+pub mod MayCommit
+pub mod PreparedCommits
 pub mod HeardLines
 pub mod Dropping
 pub mod ToldLines

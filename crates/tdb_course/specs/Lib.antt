@@ -2,6 +2,7 @@ pub mod Playable
 pub mod Led
 pub mod Stops
 pub mod Changes
+pub mod Prepared
 pub mod Turns
 pub mod Told
 pub mod Unfinished

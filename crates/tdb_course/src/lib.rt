@@ -11,6 +11,6 @@ mod starting;
 mod turning;
 
 pub use crate::ending::finish_report;
-pub use crate::laws::report_is_lawful;
+pub use crate::laws::{prepared_commits_end, report_is_lawful, steps_tell_changes};
 pub use crate::playing::{play, run};
 pub use tdb_world::RunFault;
