@@ -148,7 +148,7 @@ abbrev pub TaskFits : List ℕ → Task → Type 0
 TaskFits file (On act) = ActFits act
 TaskFits file (Read look) = LookFits look
 TaskFits file (Print listing limit) = limit ≤ 4294963200
-TaskFits file (Create form) = 0 < form.size
+TaskFits file (Create new) = 0 < new.form.size
 TaskFits file (Restore limit) = limit ≤ 4294963200
 TaskFits file (Backup more suffix) = BackupFits suffix (file ∷ more)
 TaskFits file (Verify more suffix) = VerifyFits suffix (file ∷ more)

@@ -4,7 +4,7 @@ use Rattle.std.specs.List.{position_or_len, before_first, after_first}
 use Rattle.std.specs.Map.{lookup}
 use Rattle.std.specs.Option.{option_and_then}
 use Rattle.tdb_space.specs.Pairs.{same_key}
-use Rattle.tdb_ask.specs.declared.limits.TheConstants.{LONGEST_FILE}
+use Rattle.tdb_open.specs.declared.limits.TheConstants.{LONGEST_FILE}
 use Rattle.tdb_ask.specs.declared.options.Command.{Command}
 use Rattle.tdb_ask.specs.declared.options.Command.TheVariants.{Tool, Dump, Restore, Backup, Turns, Generate}
 use Rattle.tdb_ask.specs.declared.options.Kind.{Kind}

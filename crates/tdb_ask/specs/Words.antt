@@ -5,7 +5,8 @@ use Rattle.std.specs.Str.Parse.{IsNumeral, digits_value}
 use Rattle.std.specs.Char.{digit_value}
 use Rattle.tdb_dump.specs.Escape.{hex_value}
 use Rattle.tdb_space.specs.Pairs.{same_key}
-use Rattle.tdb_ask.specs.declared.limits.TheConstants.{LONGEST_FILE, LONGEST_WORD, LONGEST_NUMBER, MOST_CHAINS}
+use Rattle.tdb_open.specs.declared.limits.TheConstants.{LONGEST_FILE}
+use Rattle.tdb_ask.specs.declared.limits.TheConstants.{LONGEST_WORD, LONGEST_NUMBER, MOST_CHAINS}
 
 -- a word that isn't too long
 abbrev pub is_short : List ℕ → Bool

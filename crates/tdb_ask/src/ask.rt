@@ -6,7 +6,7 @@ ghost use Rattle.tdb_ask.specs.Acts.{print_of};
 ghost use Rattle.tdb_ask.specs.Ask.{asked, asks, on_file, print_file, tool_task, ask_of, words_ask, tool_asks, dump_asks, restore_asks, backup_asks, turns_asks, gen_asks, task_of as task_asked, VerbFits, TaskFits};
 
 use crate::act::{Act, Verb};
-use crate::lines::create::NewForm;
+use crate::lines::create::NewFile;
 use crate::lines::dump::look_of;
 use crate::lines::turns::options_in;
 use crate::lines::{backup, generate};
@@ -21,7 +21,7 @@ use tdb_world::Options;
 #[derive(Debug, Drop)]
 pub enum Task {
     /// To make it.
-    Create(NewForm),
+    Create(NewFile),
 
     /// A command on a file that is there.
     On(Act),
@@ -119,8 +119,8 @@ impl Task {
             "dump" => Ok(Task::print(limit, Listing::Pairs, arguments)),
             "keys" => Ok(Task::print(limit, Listing::Keys, arguments)),
             "hexkeys" => Ok(Task::print(limit, Listing::HexKeys, arguments)),
-            "create" => match NewForm::of(limit, arguments) {
-                Some(form) => Ok(Some(Task::Create(form))),
+            "create" => match NewFile::of(limit, arguments) {
+                Some(new) => Ok(Some(Task::Create(new))),
                 None => Ok(None),
             },
             _ => Ok(None),

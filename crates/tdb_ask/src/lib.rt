@@ -12,9 +12,7 @@ mod words;
 
 pub use act::{Act, Verb};
 pub use ask::{Ask, Task};
-pub use limits::{
-    DEFAULT_SIZE, LONGEST_FILE, LONGEST_NUMBER, LONGEST_WORD, MOST_CHAINS, limits_law,
-};
-pub use lines::create::NewForm;
+pub use limits::{DEFAULT_SIZE, LONGEST_NUMBER, LONGEST_WORD, MOST_CHAINS, limits_law};
+pub use lines::create::NewFile;
 pub use look::Look;
 pub use names::{Names, Text};

@@ -1,9 +1,6 @@
-// How long files and words may be, and how many chains a new file gets.
+// How long words may be, and how many chains a new file gets.
 
 ghost use Rattle.tdb_ask.specs.Limits.{AreLimits};
-
-/// The greatest length of a file, in bytes: what a word can tell, less a page.
-pub const LONGEST_FILE: u64 = 4_294_963_200;
 
 /// The greatest length of a word of the command line, in bytes.
 pub const LONGEST_WORD: usize = 16_777_216;

@@ -6,11 +6,11 @@ ghost use Rattle.std.specs.Option.{option_map};
 ghost use Rattle.tdb_space.specs.Pairs.{same_key};
 ghost use Rattle.tdb_ask.specs.Options as O;
 
-use crate::limits::LONGEST_FILE;
 use crate::names::{Names, Text};
 use crate::words::{is_option, is_short, limit_of};
 use std::alloc::{AllocError, Global};
 use std::marker::Model;
+use tdb_open::LONGEST_FILE;
 
 /// A command of the program.
 #[derive(Clone, Copy, Debug, PartialEq, Eq)]

@@ -4,9 +4,10 @@ ghost use Rattle.std.specs.Prelude.{◌≡◌, ◌≤◌, ℕ, None, IfOk, IfSom
 ghost use Rattle.tdb_ask.specs.declared.limits.TheConstants.{LONGEST_WORD as longest};
 ghost use Rattle.tdb_ask.specs.Words as W;
 
-use crate::limits::{LONGEST_FILE, LONGEST_NUMBER, LONGEST_WORD, MOST_CHAINS};
+use crate::limits::{LONGEST_NUMBER, LONGEST_WORD, MOST_CHAINS};
 use std::alloc::{AllocError, Global};
 use tdb_dump::{WordRefusal, word_bytes_of};
+use tdb_open::LONGEST_FILE;
 use tdb_words::Bytes;
 
 /// The least length that a file may be limited to.

@@ -1,6 +1,6 @@
 -- What holds of an answer that is an error, or is none.
 use Rattle.std.proofs.Common.{◌≡◌, sym, subst}
-use Rattle.std.specs.Prelude.{Result, Ok, Err, IfErr, OnOk}
+use Rattle.std.specs.Prelude.{Result, Ok, Err, IfErr, OnOk, OnErr}
 
 -- what holds of every error
 pub if_err : {V F : Type 0} (P : F → Type 0) (r : Result V F) → ((e : F) → P e) → IfErr r P
@@ -15,3 +15,8 @@ if_this_err P r e is p = subst (λ x. IfErr x P) (sym is) p
 pub on_ok : {V F P : Type 0} (r : Result V F) → P → OnOk r P
 on_ok (Ok v) p = p
 on_ok (Err e) p = tt
+
+-- and of one that is one
+pub on_err : {V F P : Type 0} (r : Result V F) → P → OnErr r P
+on_err (Ok v) p = tt
+on_err (Err e) p = p

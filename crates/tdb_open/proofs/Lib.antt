@@ -1,3 +1,7 @@
 pub mod Errors
 pub mod Openings
 pub mod Notices
+pub mod ToTurn
+pub mod Loaded
+pub mod MakesFile
+pub mod NewFile

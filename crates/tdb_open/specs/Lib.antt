@@ -1,2 +1,4 @@
 pub mod Opening
 pub mod Notices
+pub mod Loading
+pub mod Creating

@@ -1,6 +1,6 @@
 -- What logs hear of the parts of a session.
-use Rattle.std.proofs.Common.{List, ◌++◌, Option, None, Some, Result, Ok, Err, ◌⊎◌, inl, inr}
-use Rattle.tdb_course.specs.Hearing.{Heard, HeardUpTo, HeardBy}
+use Rattle.std.proofs.Common.{List, ◌++◌, Option, None, Some, Result, Ok, Err, inl, inr}
+use Rattle.tdb_course.specs.Hearing.{Heard, HeardBy}
 use Rattle.tdb_course.proofs.HeardLines.{heard_joined, heard_then_refused}
 use Rattle.tdb_log.specs.Logs.{Logged}
 use Rattle.tdb_log.specs.declared.log.LogRefusal.{LogRefusal}
@@ -8,11 +8,7 @@ use Rattle.tdb_log.specs.declared.log.LogRefusal.TheVariants as Unheard
 use Rattle.tdb_plays.specs.declared.line.Line.{Line}
 use Rattle.tdb_tool.specs.declared.fault.SessionFault.{SessionFault}
 use Rattle.tdb_tool.specs.declared.fault.SessionFault.TheVariants as F
-use Rattle.tdb_tool.specs.Serving.{HeardSo}
-
--- of these lines all was heard, or a log refused
-abbrev pub HeardOrRefused : List Logged → List Line → List Logged → Type 0
-HeardOrRefused old lines new = Heard old lines new ⊎ ((refusal : LogRefusal) × HeardUpTo refusal old lines new)
+use Rattle.tdb_tool.specs.Serving.{HeardOrRefused, HeardSo}
 
 module _ (old mid new : List Logged) (front rest : List Line) where
   or_refused : Heard old front mid → HeardOrRefused mid rest new → HeardOrRefused old (front ++ rest) new

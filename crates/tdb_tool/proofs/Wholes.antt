@@ -6,14 +6,11 @@ use Rattle.tdb_disk.specs.History.{seen}
 use Rattle.tdb_disk.specs.Stop.{Quiet}
 use Rattle.tdb_space.specs.Accepted.{AcceptWith}
 use Rattle.tdb_space.specs.Form.{Form, form_in}
-use Rattle.tdb_words.specs.declared.header.Header.{Header}
 use Rattle.tdb_backup.specs.Dump.{WroteFront}
 use Rattle.tdb_law.specs.Beginning.{IsLoaded, beginning}
-use Rattle.tdb_law.specs.Images.{image_map}
 use Rattle.tdb_law.specs.Lines.{Line as LawLine, IsLawful}
 use Rattle.tdb_law.specs.Openers.{Map, Task}
 use Rattle.tdb_law.specs.World.{State}
-use Rattle.tdb_steps.specs.Turns.{number_of}
 use Rattle.tdb_plays.specs.InLaw.{law_line, law_lines}
 use Rattle.tdb_plays.specs.declared.command.Command.{Command}
 use Rattle.tdb_plays.specs.declared.line.Line.{Line}
@@ -30,6 +27,7 @@ use Rattle.tdb_course.proofs.Finishing.{report_lawful}
 use Rattle.tdb_course.specs.Stops.{IsTransacted}
 use Rattle.tdb_course.specs.Unfinished.{TellsUnfinished, EndsWith}
 use Rattle.tdb_whole.specs.Stops.{IsSafe}
+use Rattle.tdb_whole.specs.Whole.{form_at, options_at}
 use Rattle.tdb_tool.specs.declared.fault.SessionEnd.{SessionEnd}
 use Rattle.tdb_tool.specs.declared.fault.SessionFault.{SessionFault}
 use Rattle.tdb_tool.specs.declared.fault.SessionFault.TheVariants as F
@@ -37,7 +35,8 @@ use Rattle.tdb_tool.specs.declared.order.Order.{Order}
 use Rattle.tdb_tool.specs.Asking.{Session, BeginsBy}
 use Rattle.tdb_tool.specs.Parts.{Silent, doing, parts_of, AllDone, AllCame}
 use Rattle.tdb_tool.specs.Serving.{fault_of, UnlessBroken, HeardSo, TellsAll, TellsFront, RunsTo, Scene, IsStateAt, StopsBetween, DoneBetween, Ran, AsksFor, Served, ServedAll}
-use Rattle.tdb_tool.specs.Whole.{closing, session_parts, IsClosed, SessionLed, SessionDeed, IsOver, beginning_over, StopsOpen, SessionOver, SessionCame, SessionRan}
+use Rattle.tdb_tool.specs.Whole.{closing, session_parts, IsClosed, SessionLed, SessionDeed, beginning_over, StopsOpen, SessionOver, SessionCame, SessionRan}
+use Rattle.tdb_open.specs.Loading.{IsOver, IsJustLoaded}
 use Rattle.tdb_tool.proofs.Coming.{IsToo, all_is_front, unless_map, led_as}
 use Rattle.tdb_tool.proofs.PartLemmas.{all_came, came_more, all_course, came_comes}
 use Rattle.tdb_tool.proofs.PartsRan.{ran_on, ran_memory}
@@ -197,22 +196,16 @@ module _ (f : Form) (options : Options) (start last : Scene) (orders : List Orde
   ran_by (Err F.Log) asks closed read (new, is, p) = (orders, asks, new, came_all (Some F.Log) new p, read new is)
   ran_by (Err F.Memory) asks closed read (new, is, p) = (orders, asks, new, came_front (Some F.Memory) new p, read new is)
 
--- the same, from what the calls say of the moments
-module _ (d heard told : Bool) (header : Header) (options : Options) (text : List ℕ) (start last : Scene) (same : start.world.openers.header ≡ header) (answer : Result SessionEnd SessionFault)
-    (led : SessionLed d heard told start last text answer) (tells : IsTrue d) (state : State) (is : IsStateAt start state) where
-  abbrev Begins : Type 0
-  Begins = IsLoaded (form_in header) state (options_of options) × (state.file ≡ image_map (form_in header) (seen start.history)) × (state.number ≡ number_of (form_in header) (seen start.history))
+-- the same, from what the calls say of the moments, where the world is just loaded at the first
+module _ (d heard told : Bool) (text : List ℕ) (start last : Scene) (answer : Result SessionEnd SessionFault)
+    (led : SessionLed d heard told start last text answer) (tells : IsTrue d) (state : State) (just : IsJustLoaded start.world start.history state) where
+  left_read : UnlessBroken (fault_of answer) ((new : State) → IsStateAt last new → IsReadAs (form_at start.world) (seen last.history) new)
+  left_read = unless_map (fault_of answer) (λ kept new left. subst (λ f. IsReadAs f (seen last.history) new) (ap form_in kept) (state_reopens last.world last.history new left)) led.2.header
 
-  left_read : UnlessBroken (fault_of answer) ((new : State) → IsStateAt last new → IsReadAs (form_in header) (seen last.history) new)
-  left_read = unless_map (fault_of answer) (λ kept new left. subst (λ f. IsReadAs f (seen last.history) new) (ap form_in (kept ∙ same)) (state_reopens last.world last.history new left)) led.2.header
-
-  pub session_ran : AcceptWith (form_in header) (seen start.history) [] → Begins → SessionRan (form_in header) options start.history last.history heard text told start.written last.written start.logs last.logs answer
-  session_ran accepted (loaded, file, number) =
-      let whole = DoneBetween start last (fault_of answer) (SessionDeed led.0 answer) in
-      let part = DoneBetween start last (fault_of answer) (AllCame (session_parts led.0)) in
-      ran_by (form_in header) options start last led.0 state loaded (record { file = file; number = number }) (accepted_safe (form_in header) start.history accepted)
-      told heard text answer led.1 led.3 left_read
-      (subst (λ h. RunsTo whole part (form_in h) state (IsStateAt last) told start.written last.written (fault_of answer)) same (led.2.runs tells state is))
+  pub session_ran : AcceptWith (form_at start.world) (seen start.history) [] → SessionRan (form_at start.world) (options_at start.world) start.history last.history heard text told start.written last.written start.logs last.logs answer
+  session_ran accepted =
+      ran_by (form_at start.world) (options_at start.world) start last led.0 state just.loaded just.over (accepted_safe (form_at start.world) start.history accepted)
+      told heard text answer led.1 led.3 left_read (led.2.runs tells state just.of_world)
 
 -- what is said of the stops of a session, and of what logs heard, may be something weaker
 module _ (f : Form) (options : Options) (a : List ℕ) (orders : List Order) (told : Bool) (before now : List ℕ)

@@ -123,15 +123,19 @@ pub record StopsBetween (old new : Scene) (answer : Option SessionFault) (f : Fo
   pub stops : LeavesOnly old.history new.history (OpensOnTheWay f state (law_lines lines))
   pub safe : UnlessBroken answer (IsSafe f new.history)
 
+-- logs heard of all of these lines, or up to one whose notice the last of them refused
+abbrev pub HeardOrRefused : List Logged → List Line → List Logged → Type 0
+HeardOrRefused logs lines later = Heard logs lines later ⊎ ((refusal : LogRefusal) × HeardUpTo refusal logs lines later)
+
 -- What logs heard of lines, by why it broke off: of all. Where a log failed, of those in front of the one whose notice it refused; and where
 -- something else broke off, a log may have refused too.
 abbrev pub HeardSo : Option SessionFault → List Logged → List Line → List Logged → Type 0
 HeardSo None old lines new = Heard old lines new
 HeardSo (Some F.Input) old lines new = Heard old lines new
-HeardSo (Some F.Output) old lines new = Heard old lines new ⊎ ((refusal : LogRefusal) × HeardUpTo refusal old lines new)
-HeardSo (Some F.Device) old lines new = Heard old lines new ⊎ ((refusal : LogRefusal) × HeardUpTo refusal old lines new)
+HeardSo (Some F.Output) old lines new = HeardOrRefused old lines new
+HeardSo (Some F.Device) old lines new = HeardOrRefused old lines new
 HeardSo (Some F.Log) old lines new = HeardUpTo Unheard.Failed old lines new
-HeardSo (Some F.Memory) old lines new = Heard old lines new ⊎ ((refusal : LogRefusal) × HeardUpTo refusal old lines new)
+HeardSo (Some F.Memory) old lines new = HeardOrRefused old lines new
 
 -- Something was done between two moments, and logs heard of its lines; and where the file was safe at the first, and the lines are
 -- transacted, so it is of stops.

@@ -21,6 +21,7 @@ use Rattle.tdb_course.specs.Stops.{IsTransacted, OpensOnTheWay}
 use Rattle.tdb_course.specs.Unfinished.{EndsWith}
 use Rattle.tdb_plays.specs.declared.options.Options.{Options}
 use Rattle.tdb_log.specs.Logs.{Logged}
+use Rattle.tdb_open.specs.Loading.{IsOver}
 use Rattle.tdb_tool.specs.declared.fault.SessionEnd.{SessionEnd}
 use Rattle.tdb_tool.specs.declared.fault.SessionFault.{SessionFault}
 use Rattle.tdb_tool.specs.declared.fault.SessionFault.TheVariants as F
@@ -50,11 +51,6 @@ IsClosed (Err fault) s = Unit {0}
 abbrev pub SessionLed : (disk_tells input_tells output_tells : Bool) (old new : Scene) (text : List ℕ) → Result SessionEnd SessionFault → Type 0
 SessionLed d i o old new text answer =
     (orders : List Order) × (IsTrue i → AsksFor text orders answer) × Led d o (SessionDeed orders answer) (AllCame (session_parts orders)) old new (fault_of answer) × IsClosed answer new
-
--- the state is one of a world whose file has these bytes
-pub record IsOver (f : Form) (img : List ℕ) (w : State) : Type 0 where
-  pub file : w.file ≡ image_map f img
-  pub number : w.number ≡ word f.order img sequence_at
 
 -- the replay that begins with the map of an image
 abbrev pub beginning_over : Form → Options → List ℕ → Replay

@@ -1,11 +1,12 @@
 // A session from its beginning to its end.
 
-ghost use Rattle.std.specs.Prelude.{◌≡◌, ◌≤◌, ◌<◌, [], IsTrue};
+ghost use Rattle.std.specs.Prelude.{◌≡◌, ◌≤◌, [], IsTrue};
 ghost use Rattle.tdb_disk.specs.Count.{HasCauseOf, Rose};
 ghost use Rattle.tdb_disk.specs.History.{seen};
 ghost use Rattle.tdb_space.specs.Accepted.{AcceptWith};
-ghost use Rattle.tdb_space.specs.Form.{form_in};
-ghost use Rattle.tdb_whole.specs.Whole.{WorldFits};
+ghost use Rattle.tdb_law.specs.World.{State};
+ghost use Rattle.tdb_whole.specs.Whole.{form_at, options_at, WorldFits};
+ghost use Rattle.tdb_open.specs.Loading.{IsJustLoaded};
 ghost use Rattle.tdb_tool.specs.declared.fault.SessionFault.TheVariants as FaultIs;
 ghost use Rattle.tdb_tool.specs.Serving.{scene, fault_of, UnlessBroken, OnBroken, ServedAll};
 ghost use Rattle.tdb_tool.specs.Whole.{SessionLed, SessionRan};
@@ -18,8 +19,6 @@ use tdb_disk::{Disk, Sink, Source};
 use tdb_log::Logs;
 use tdb_plays::{Command, Play};
 use tdb_whole::{OpenerStanding, World};
-use tdb_words::Header;
-use tdb_world::Options;
 
 /// An opener joins, and does what the lines of the input order.
 fn join_and_serve<D: Disk, I: Source, K: Sink, L: Logs>(
@@ -66,9 +65,9 @@ fn serve_and_close<D: Disk, I: Source, K: Sink, L: Logs>(
     }
 }
 
-/// Does what the lines of the input order, over an opened file, by one opener that joins first and closes at the end.
-/// The last log is told what each command did to the file. Then its reply and a newline are printed, and of a list each
-/// pair or key when it is found.
+/// Does what the lines of the input order, in a world over an opened file, by one opener that joins first and closes at
+/// the end; then the world is given up. The last log is told what each command did to the file. Then its reply and a
+/// newline are printed, and of a list each pair or key when it is found.
 ///
 /// The input is read in pieces, and no further than the next order's line as long as that is at hand. A session ends
 /// where the input does, at `quit`, or before a line that is no order, ends beyond `LONGEST_SESSION` bytes, or is
@@ -83,26 +82,22 @@ fn serve_and_close<D: Disk, I: Source, K: Sink, L: Logs>(
 /// one pair, and the pages of the file that a transaction changes.
 pub fn run_session<D: Disk, I: Source, K: Sink, L: Logs>(
     alloc: Global,
+    mut world: World,
     disk: &mut D,
-    header: &Header,
-    options: &Options,
     input: &mut I,
     output: &mut K,
     logs: &mut L,
 ) -> Result<SessionEnd, SessionFault>
-    requires chains { 0 < header.now.hash_size }
-    requires limit { options.now.limit ≤ 4294963200 }
-    requires short { D.size disk.old ≤ options.now.limit }
-    requires accepted { IsTrue D.tells → AcceptWith (form_in header.now) (seen (D.history disk.old)) [] }
-    ensures session { IsTrue D.tells → SessionRan (form_in header.now) options.now (D.history disk.old) (D.history disk.new) I.tells (I.left input.old)
-        K.tells (K.written output.old) (K.written output.new) (L.logs logs.old) (L.logs logs.new) result }
+    requires fits { WorldFits world (seen (D.history disk.old)) (D.size disk.old) }
+    requires accepted { IsTrue D.tells → AcceptWith (form_at world) (seen (D.history disk.old)) [] }
+    ensures session { IsTrue D.tells → (state : State) → IsJustLoaded world (D.history disk.old) state
+        → SessionRan (form_at world) (options_at world) (D.history disk.old) (D.history disk.new) I.tells (I.left input.old) K.tells (K.written output.old) (K.written output.new) (L.logs logs.old) (L.logs logs.new) result }
     ensures rises { D.faults disk.old ≤ D.faults disk.new }
     ensures quiet { UnlessBroken (fault_of result) (D.faults disk.new ≡ D.faults disk.old) }
-    ensures rose { IsTrue D.tells → OnBroken (fault_of result) (Rose (D.faults disk.old) (D.faults disk.new)) }
+    ensures rose { IsTrue D.tells → (state : State) → IsJustLoaded world (D.history disk.old) state → OnBroken (fault_of result) (Rose (D.faults disk.old) (D.faults disk.new)) }
     ensures input_cause { HasCauseOf FaultIs.Input (I.faults input.old) (I.faults input.new) result }
     ensures cause { HasCauseOf FaultIs.Output (K.faults output.old) (K.faults output.new) result }
 {
-    let mut world = World::new(alloc, header, options);
     let answer = serve_and_close(alloc, &mut world, disk, input, output, logs);
     world.end();
     answer

@@ -1,19 +1,12 @@
 //! Sessions over a small file in memory: what they print, how they end, and each kind of failing call.
 
-ghost use Rattle.std.specs.Prelude.{◌≡◌, ◌<◌, [], IsTrue};
-ghost use Rattle.tdb_check.specs.Report.{IsFormOf};
-ghost use Rattle.tdb_disk.specs.History.{seen};
-ghost use Rattle.tdb_space.specs.Accepted.{AcceptWith};
-ghost use Rattle.tdb_space.specs.Form.{form_in};
-
 use std::alloc::{AllocError, Global};
 use std::test::Fail;
-use tdb_check::{check, read_front};
 use tdb_disk::{Call, Disk, MemDisk, MemSink, MemSource, Sink, Source};
 use tdb_log::{Log, Logs, MemLog};
-use tdb_space::Direct;
+use tdb_open::load;
 use tdb_tool::{SessionEnd, SessionFault, run_session};
-use tdb_words::{HashKind, Header, Order, header_bytes};
+use tdb_words::{HashKind, Order, header_bytes};
 use tdb_world::Options;
 
 const OPTIONS: Options = Options {
@@ -35,18 +28,7 @@ fn new_file(alloc: Global) -> Result<MemDisk, AllocError> {
     MemDisk::new(alloc, &bytes)
 }
 
-/// Whether the file on a disk, whose header says this, is whole.
-fn is_whole<D: Disk>(alloc: Global, disk: &mut D, header: &Header) -> bool
-    requires { 0 < header.now.hash_size }
-    ensures accepted { IsTrue result → IsTrue D.tells → IsFormOf (form_in header.now) (seen (D.history disk.old)) → AcceptWith (form_in header.now) (seen (D.history disk.old)) [] }
-    ensures size { D.size disk.new ≡ D.size disk.old }
-    ensures history { D.history disk.new ≡ D.history disk.old }
-{
-    let mut space = Direct::new(disk, header);
-    check(alloc, &mut space).is_ok()
-}
-
-/// How a session over a file ends, where that is whole.
+/// How a session over a file ends, where that is opened, which the logs aren't told.
 fn session<D: Disk, S: Source, K: Sink, L: Logs>(
     alloc: Global,
     disk: &mut D,
@@ -54,16 +36,11 @@ fn session<D: Disk, S: Source, K: Sink, L: Logs>(
     output: &mut K,
     logs: &mut L,
 ) -> Option<Result<SessionEnd, SessionFault>> {
-    let Ok(header) = read_front(disk) else {
+    let mut none: Vec<Box<dyn Log>> = Vec::new(alloc);
+    let Ok((world, _)) = load(alloc, disk, &OPTIONS, &mut none) else {
         return None;
     };
-    if !is_whole(alloc, disk, &header) {
-        return None;
-    }
-    if disk.len().ok()? > OPTIONS.limit {
-        return None;
-    }
-    Some(run_session(alloc, disk, &header, &OPTIONS, input, output, logs))
+    Some(run_session(alloc, world, disk, input, output, logs))
 }
 
 #[test]

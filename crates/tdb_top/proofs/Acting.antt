@@ -13,7 +13,7 @@ use Rattle.tdb_steps.specs.Wiped.{at_end}
 use Rattle.tdb_open.specs.declared.halt.Refusal.TheVariants.{TooLong}
 use Rattle.tdb_ask.specs.declared.ask.Task.{Task}
 use Rattle.tdb_ask.specs.declared.ask.Task.TheVariants.{Create, On, Read, Print, Restore, Backup, Verify, Turns, Session, Generate}
-use Rattle.tdb_ask.specs.declared.lines.create.NewForm.{NewForm}
+use Rattle.tdb_ask.specs.declared.lines.create.NewFile.{NewFile}
 use Rattle.tdb_top.specs.declared.commands.create.Creation as Making
 use Rattle.tdb_top.specs.declared.ending.Ending.{Ending}
 use Rattle.tdb_top.specs.declared.ending.Ending.TheVariants as E
@@ -131,7 +131,7 @@ untaken_left act name held given Take.Failed e same gone free is = subst (λ x. 
 untaken_left act name held given Take.Memory e same gone free is = subst (λ x. OnLeaves act held x given) (sym is) (left_same act held given E.NoMemory same (λ h. inr refl))
 
 -- a file that was to be made
-module _ (form : NewForm) (name : List ℕ) (held : Option History) where
+module _ (form : NewFile) (name : List ℕ) (held : Option History) where
   pub made_cause : (before after : ℕ) (creation : Making.Creation) (e : Ending) → CreateCause form held before after creation → MadeSo name creation e → TaskCause (Create form) name held before after e
   made_cause before after Making.TheVariants.Made e cause is = task_due e (subst (λ o. TaskDue (Create form) name o e) (sym cause.0) (inl (cause.1, is)))
   made_cause before after Making.TheVariants.There e cause (inl is) = task_due e (there held cause)
@@ -145,7 +145,7 @@ module _ (form : NewForm) (name : List ℕ) (held : Option History) where
   made_cause before after Making.TheVariants.Device e cause is = subst (TaskCause (Create form) name held before after) (sym is) (task_failed cause)
   made_cause before after Making.TheVariants.Memory e cause is = subst (TaskCause (Create form) name held before after) (sym is) task_wanting
 
-  pub made_left : (before after : ℕ) (given : Option History) (creation : Making.Creation) (e : Ending) → CreateCause form held before after creation → CreateLeaves form.size form.order form.hash held creation given → MadeSo name creation e → MakingLeaves form held e given
+  pub made_left : (before after : ℕ) (given : Option History) (creation : Making.Creation) (e : Ending) → CreateCause form held before after creation → CreateLeaves form.form held creation given → MadeSo name creation e → MakingLeaves form held e given
   made_left before after given Making.TheVariants.Made e cause left is = subst (λ x. MakingLeaves form held x given) (sym is) (refl, left)
   made_left before after given Making.TheVariants.There e cause left (inl is) = subst (λ x. MakingLeaves form held x given) (sym is) left
   made_left before after given Making.TheVariants.There e cause left (inr is) = subst (λ x. MakingLeaves form held x given) (sym is) left

@@ -1,6 +1,5 @@
 -- A file becomes longer by some bytes, and a word is made to lead to them: what each call leaves.
 use Rattle.std.proofs.Common.{◌≡◌, ℕ, ◌+◌, ◌-◌, ◌≤◌, List, ◌++◌, length, replicate, refl, sym, ap, ◌∙◌, inl, inr, arith}
-use Rattle.std.specs.Prelude.{Result, Ok, Err, OnErr}
 use Rattle.std.proofs.lemmas.Grind.{common_steps}
 use Rattle.std.proofs.lemmas.List.{length-replicate}
 use Rattle.tdb_disk.specs.History.{History, grew, wrote, wrote_word, synced, called, seen, Tried, TriedOver}
@@ -9,11 +8,6 @@ use Rattle.tdb_words.specs.declared.word.Order.{Order}
 use Rattle.tdb_words.specs.declared.word.Order.TheVariants.{Little, Big}
 use Rattle.tdb_words.specs.Word.{bytes_of_word}
 use Rattle.tdb_top.specs.Commands.Insert.{led_to, BrokenOff}
-
--- what holds anyhow holds where there is an error, and where there is none
-pub on_err : {V F P : Type 0} (r : Result V F) → P → OnErr r P
-on_err (Ok v) p = tt
-on_err (Err e) p = p
 
 -- a word has four bytes
 pub word_length : (o : Order) (w : ℕ) → length (bytes_of_word o w) ≡ 4

@@ -17,7 +17,7 @@ use Rattle.tdb_backup.specs.declared.refusal.CopyRefusal.{CopyRefusal}
 use Rattle.tdb_backup.specs.declared.refusal.CopyRefusal.TheVariants as C
 use Rattle.tdb_disk.specs.declared.files.TakeRefusal.{TakeRefusal}
 use Rattle.tdb_disk.specs.declared.files.TakeRefusal.TheVariants as Take
-use Rattle.tdb_ask.specs.declared.limits.TheConstants.{LONGEST_FILE}
+use Rattle.tdb_open.specs.declared.limits.TheConstants.{LONGEST_FILE}
 use Rattle.tdb_open.specs.declared.opening.Opened.{Opened}
 use Rattle.tdb_top.specs.declared.ending.Ending.{Ending}
 use Rattle.tdb_top.specs.declared.ending.Ending.TheVariants.{Replied, Refused, Missing, There, DeviceFault, NoMemory}
@@ -25,7 +25,7 @@ use Rattle.tdb_top.specs.declared.ending.Reply.TheVariants as Reply
 use Rattle.tdb_open.specs.declared.halt.Halt.{Halt}
 use Rattle.tdb_open.specs.declared.halt.Halt.TheVariants as H
 use Rattle.tdb_top.specs.Commands.Backup.{IsCopyOf, IsNotCopied, of_copy, IsLeftOf, Stopped, EndsAt, BackupEnds, BackupCause, IsUntakenNew, CopyMade, copy_made, copy_full, copy_failed, copy_wanting, DiskCopied, disk_copied, disk_refused, disk_full, disk_failed, disk_wanting, disk_unlogged, IsUntaken, FileCopied, file_untaken, file_taken, BackedUpOne, EndsBackup, CountedBoth}
-use Rattle.tdb_top.specs.Commands.Create.{IsNewFile}
+use Rattle.tdb_open.specs.Creating.{IsNewFile}
 use Rattle.tdb_top.specs.Ending.{CountedBy, Untaken, of_halt}
 use Rattle.tdb_open.specs.Opening.{opened_bytes, CanOpen, IsCheckedOn, UndoneIfOpen, LookBroken, HeldOrUndone, HeldBroken, HaltsRightly, HaltLeaves}
 use Rattle.tdb_top.proofs.Held.{held_kept}

@@ -35,8 +35,10 @@ use Rattle.tdb_course.proofs.HeardLines.{heard_joined}
 use Rattle.tdb_tool.proofs.Telling.{front_all, front_after}
 use Rattle.tdb_top.specs.declared.ending.Unprinted.TheVariants as Rest
 use Rattle.tdb_open.specs.declared.halt.Fault.TheVariants as F
-use Rattle.tdb_top.specs.Playing.{PlaysEnd, UnlessBroken, OnBroken, TellsAll, TellsFront, RunsTo, HeardSo, Scene, scene, IsStateAt, Ran, EndTold, end_of}
-use Rattle.tdb_top.proofs.HeardPlays.{heard_after, heard_end}
+use Rattle.tdb_top.specs.Playing.{PlaysEnd, UnlessBroken, OnBroken, TellsAll, TellsFront, RunsTo, broke_off, Scene, scene, IsStateAt, Ran, EndTold, end_of}
+use Rattle.tdb_tool.specs.Serving.{HeardSo}
+use Rattle.tdb_tool.proofs.Hearing.{heard_after}
+use Rattle.tdb_top.proofs.HeardPlays.{heard_end}
 
 -- plays up to a place, the next one, and those behind it
 one_more : (i : ℕ) → i + 1 - i ≡ 1
@@ -91,7 +93,7 @@ module _ (f : Form) (told : Bool) where
       subst (λ ps. ComesTo f old ps (law_lines (p.0 ++ q.0)) new) (sym (map-append law_play plays more)) (subst (λ ls. ComesTo f old (law_plays plays ++ law_plays more) ls new) (sym (map-append law_line p.0 q.0))
           (comes_after f (law_plays plays) (law_plays more) old mid new (law_lines p.0) (law_lines q.0) p.1 q.1)),
       (λ heard. subst (λ t. WroteFront before t now) (sym (text_more p.0 q.0)) (front_after before between now (report_text p.0) (report_text q.0) (p.2 heard) (q.2 heard))),
-      heard_after logs then later p.0 q.0 p.3 answer q.3,
+      heard_after logs then later p.0 q.0 (broke_off answer) p.3 q.3,
     )
 
     front_more : (plays more : List Play) (old new : State) (before now : List ℕ) → TellsFront f old plays new told before now logs later answer → TellsFront f old (plays ++ more) new told before now logs later answer
@@ -235,7 +237,7 @@ module _ (f : Form) (told : Bool) (plays : List Play) (old : State) (IsLeft : St
   front_whole all heard = front_all before (report_text lines) now (all heard)
 
   runs_by : (played : Result (Result (Unit {0}) LogRefusal) RunFault) (untold : Result (Unit {0}) WriteRefusal) → Comes played IsLeft Whole-of Part Part (law_lines lines)
-      → OnOk untold (IsTrue told → now ≡ before ++ report_text lines) → OnErr untold (IsTrue told → WroteFront before (report_text lines) now) → HeardSo (end_of played untold) logs lines later
+      → OnOk untold (IsTrue told → now ≡ before ++ report_text lines) → OnErr untold (IsTrue told → WroteFront before (report_text lines) now) → HeardSo (broke_off (end_of played untold)) logs lines later
       → RunsTo f old plays IsLeft told before now logs later (end_of played untold)
   runs_by (Ok (Ok v)) (Ok w) C all front so = (C.0, C.1, (lines, C.2, all, so))
   runs_by (Ok (Ok v)) (Err Untold.Memory) C all front so = (C.0, C.1, (lines, part C.0 C.2, front, so))

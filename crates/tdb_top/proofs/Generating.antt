@@ -35,7 +35,7 @@ use Rattle.tdb_top.specs.declared.ending.Ending.{Ending}
 use Rattle.tdb_top.specs.declared.ending.Ending.TheVariants as E
 use Rattle.tdb_top.specs.declared.ending.Reply.TheVariants as Reply
 use Rattle.tdb_ask.specs.declared.limits.TheConstants.{DEFAULT_SIZE}
-use Rattle.tdb_top.specs.Commands.Create.{IsNewFile}
+use Rattle.tdb_open.specs.Creating.{IsNewFile}
 use Rattle.tdb_top.specs.Commands.Generate.{gen_options, new_file, IsGenerated, FilledSo, of_gen, all_done, GenLeaves}
 use Rattle.tdb_top.specs.Commands.Restore.{new_form, of_input}
 use Rattle.tdb_top.specs.Ending.{task_failed, task_wanting, Untaken, CountedIf}

@@ -7,28 +7,15 @@ use Rattle.tdb_log.specs.declared.log.LogRefusal.{LogRefusal}
 use Rattle.tdb_log.specs.declared.log.LogRefusal.TheVariants as Unlogged
 use Rattle.tdb_course.specs.Hearing.{Heard, HeardBy}
 use Rattle.tdb_course.specs.Unfinished.{TellsUnfinished}
-use Rattle.tdb_course.proofs.HeardLines.{heard_joined, heard_then_refused}
+use Rattle.tdb_course.proofs.HeardLines.{heard_joined}
 use Rattle.tdb_dump.specs.declared.writer.WriteRefusal.{WriteRefusal}
 use Rattle.tdb_dump.specs.declared.writer.WriteRefusal.TheVariants as Untold
 use Rattle.tdb_world.specs.declared.fault.RunFault.{RunFault}
 use Rattle.tdb_world.specs.declared.fault.RunFault.TheVariants as Run
 use Rattle.tdb_open.specs.declared.halt.Fault.TheVariants as F
-use Rattle.tdb_top.specs.Commands.Turns.{HeardOrRefused}
-use Rattle.tdb_top.specs.Playing.{PlaysEnd, IsUnbroken, HeardSo, end_of}
+use Rattle.tdb_tool.specs.Serving.{HeardSo}
+use Rattle.tdb_top.specs.Playing.{PlaysEnd, IsUnbroken, broke_off, end_of}
 use Rattle.tdb_top.specs.declared.ending.Unprinted.TheVariants as Rest
-
--- lines that were heard whole, and others behind them
-module _ (logs mid later : List Logged) (front rest : List Line) (heard : Heard logs front mid) where
-  or_refused : HeardOrRefused mid rest later → HeardOrRefused logs (front ++ rest) later
-  or_refused (inl all) = inl (heard_joined logs mid later front rest heard all)
-  or_refused (inr part) = inr (part.0, heard_then_refused part.0 logs mid later front rest heard part.1)
-
-  pub heard_after : (answer : PlaysEnd) → HeardSo answer mid rest later → HeardSo answer logs (front ++ rest) later
-  heard_after (Ok (Ok v)) so = heard_joined logs mid later front rest heard so
-  heard_after (Ok (Err F.Device)) so = or_refused so
-  heard_after (Ok (Err F.Memory)) so = or_refused so
-  heard_after (Ok (Err F.Log)) so = heard_then_refused Unlogged.Failed logs mid later front rest heard so
-  heard_after (Err unprinted) so = or_refused so
 
 -- lines of unfinished commands tell logs nothing
 heard_ends : (s : State) (o n : ℕ) (lines : List Line) (logs : List Logged) → TellsUnfinished s o n lines → Heard logs lines logs
@@ -41,7 +28,7 @@ pub heard_more : (s : State) (o n : ℕ) (lines more : List Line) (logs later : 
 heard_more s o n lines more logs later ends heard = heard_joined logs later later lines more heard (heard_ends s o n more later ends)
 
 -- lines that were heard whole, where what came behind them ended so
-pub heard_whole : (answer : PlaysEnd) (logs later : List Logged) (lines : List Line) → IsUnbroken answer → Heard logs lines later → HeardSo answer logs lines later
+pub heard_whole : (answer : PlaysEnd) (logs later : List Logged) (lines : List Line) → IsUnbroken answer → Heard logs lines later → HeardSo (broke_off answer) logs lines later
 heard_whole (Ok (Ok v)) logs later lines un heard = heard
 heard_whole (Ok (Err F.Device)) logs later lines un heard = absurd un
 heard_whole (Ok (Err F.Memory)) logs later lines un heard = inl heard
@@ -52,7 +39,7 @@ heard_whole (Err Rest.Pairs) logs later lines un heard = absurd un
 heard_whole (Err Rest.Files) logs later lines un heard = absurd un
 
 -- plays that were taken, and then told
-pub heard_end : (logs later : List Logged) (lines : List Line) (played : Result (Result (Unit {0}) LogRefusal) RunFault) (untold : Result (Unit {0}) WriteRefusal) → HeardBy logs lines later played → HeardSo (end_of played untold) logs lines later
+pub heard_end : (logs later : List Logged) (lines : List Line) (played : Result (Result (Unit {0}) LogRefusal) RunFault) (untold : Result (Unit {0}) WriteRefusal) → HeardBy logs lines later played → HeardSo (broke_off (end_of played untold)) logs lines later
 heard_end logs later lines (Ok (Ok v)) (Ok w) heard = heard
 heard_end logs later lines (Ok (Ok v)) (Err Untold.Memory) heard = inl heard
 heard_end logs later lines (Ok (Ok v)) (Err Untold.Failed) heard = inl heard

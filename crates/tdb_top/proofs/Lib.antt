@@ -1,6 +1,5 @@
-pub mod NewFile
-pub mod MakesFile
 pub mod AtEnd
+pub mod Faults
 pub mod Held
 pub mod Found
 pub mod FirstPair

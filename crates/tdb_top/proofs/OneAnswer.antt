@@ -15,10 +15,10 @@ use Rattle.tdb_top.specs.declared.ending.Ending.{Ending}
 use Rattle.tdb_top.specs.declared.ending.Ending.TheVariants.{Refused}
 use Rattle.tdb_open.specs.declared.halt.Refusal.{Refusal}
 use Rattle.tdb_open.specs.declared.halt.Refusal.TheVariants.{TooLong, Header, Corrupt, NeedsRecovery}
-use Rattle.tdb_ask.specs.declared.limits.TheConstants.{LONGEST_FILE}
+use Rattle.tdb_open.specs.declared.limits.TheConstants.{LONGEST_FILE}
 use Rattle.tdb_ask.specs.Ask.{Ask}
 use Rattle.tdb_top.specs.Ending.{status_of, Replies, Refuses, LookReplies, RefusesToRead, PrintsPairs, MakingDue, TaskDue, Due}
-use Rattle.tdb_ask.specs.declared.lines.create.NewForm.{NewForm}
+use Rattle.tdb_ask.specs.declared.lines.create.NewFile.{NewFile}
 use Rattle.tdb_open.specs.Opening.{CanOpen, IsRefused, OpensToRead, CanRead, HasOpenGate, IsRefusedToRead, IsRefusedBelow}
 
 -- a file is refused in one way
@@ -120,7 +120,7 @@ act_one act img x y (inl p) (inr q) = absurd (below_opened act.limit img q.refus
 act_one act img x y (inr p) (inl q) = absurd (below_opened act.limit img p.refusal q.within q.can_open p.right)
 act_one act img x y (inr p) (inr q) = p.refused ∙ ap Refused (below_one act.limit img p.refusal q.refusal p.right q.right) ∙ sym q.refused
 
-making_one : (form : NewForm) (x y : Ending) → MakingDue form x → MakingDue form y → x ≡ y
+making_one : (form : NewFile) (x y : Ending) → MakingDue form x → MakingDue form y → x ≡ y
 making_one form x y (inl p) (inl q) = p.1 ∙ sym q.1
 making_one form x y (inl p) (inr q) = absurd (omega (arith, p.0, q.0))
 making_one form x y (inr p) (inl q) = absurd (omega (arith, p.0, q.0))

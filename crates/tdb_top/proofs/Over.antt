@@ -2,12 +2,9 @@
 use Rattle.std.proofs.Common.{◌≡◌, ℕ, List, ◌++◌, Ok, Err, refl, sym, ◌∙◌, ap, subst}
 use Rattle.std.specs.Prelude.{Bool, IsTrue}
 use Rattle.std.proofs.lemmas.List.{append_assoc, map-append}
-use Rattle.tdb_words.specs.declared.header.Header.{Header}
-use Rattle.tdb_disk.specs.History.{History, seen}
-use Rattle.tdb_space.specs.Form.{Form, form_in}
+use Rattle.tdb_space.specs.Form.{Form}
 use Rattle.tdb_backup.specs.Dump.{WroteFront}
 use Rattle.tdb_law.specs.Beginning.{IsLoaded, beginning}
-use Rattle.tdb_law.specs.Images.{image_map}
 use Rattle.tdb_law.specs.Openers.{Map}
 use Rattle.tdb_law.specs.Lines.{IsLawful}
 use Rattle.tdb_law.specs.World.{State}
@@ -16,32 +13,21 @@ use Rattle.tdb_plays.specs.declared.line.Line.{Line}
 use Rattle.tdb_plays.specs.declared.options.Options.{Options}
 use Rattle.tdb_plays.specs.declared.play.Play.{Play}
 use Rattle.tdb_script.specs.Text.{report_text}
-use Rattle.tdb_steps.specs.Turns.{number_of}
 use Rattle.tdb_world.specs.Openers.{options_of}
 use Rattle.tdb_whole.specs.Died.{IsReadAs}
-use Rattle.tdb_whole.specs.States.{IsStateOf}
-use Rattle.tdb_whole.specs.Whole.{Whole}
 use Rattle.tdb_course.specs.Laws.{ReportIsLawful}
 use Rattle.tdb_course.specs.Unfinished.{EndsWith}
 use Rattle.tdb_tool.proofs.Coming.{whole_comes}
 use Rattle.tdb_tool.proofs.Telling.{front_after}
-use Rattle.tdb_tool.specs.Whole.{IsOver, beginning_over}
+use Rattle.tdb_open.specs.Loading.{IsOver}
+use Rattle.tdb_tool.specs.Whole.{beginning_over}
 use Rattle.tdb_top.specs.Commands.Turns.{LeadsTo, CameOver, report_so_far, report_whole}
 use Rattle.tdb_top.specs.declared.ending.Unprinted.TheVariants as Rest
 use Rattle.tdb_open.specs.declared.halt.Fault.TheVariants as F
-use Rattle.tdb_top.specs.Playing.{PlaysEnd, UnlessBroken, IsUnbroken, TellsAll, TellsFront, RunsTo, PlayedFront, PlayedOver, IsJustLoaded}
+use Rattle.tdb_top.specs.Playing.{PlaysEnd, UnlessBroken, IsUnbroken, TellsAll, TellsFront, RunsTo, PlayedFront, PlayedOver}
 use Rattle.tdb_log.specs.Logs.{Logged}
 use Rattle.tdb_top.proofs.Coming.{text_more}
 use Rattle.tdb_top.proofs.HeardPlays.{heard_more, heard_whole}
-
--- a world that was made for what a file holds
-pub just_loaded : (w : Whole) (h : History) (header : Header) (options : Options) (state : State) → w.openers.header ≡ header → w.openers.options ≡ options → IsStateOf w h state → IsLoaded (form_in header) state (options_of options)
-    → state.file ≡ image_map (form_in header) (seen h) → state.number ≡ number_of (form_in header) (seen h) → IsJustLoaded w h state
-just_loaded w h header options state same also at loaded file number = record {
-  of_world = at;
-  loaded = subst (λ (q : Header × Options). IsLoaded (form_in q.0) state (options_of q.1)) (λ j. (sym same j, sym also j)) loaded;
-  over = subst (λ f. IsOver f (seen h) state) (ap form_in (sym same)) (record { file = file; number = number });
-}
 
 module _ (f : Form) (options : Options) (a : List ℕ) (plays : List Play) (old : State) (loaded : IsLoaded f old (options_of options)) (over : IsOver f a old) (told : Bool) (logs later : List Logged) where
   front_of : (new : State) (before now : List ℕ) (answer : PlaysEnd) → TellsFront f old plays new told before now logs later answer → PlayedFront f options a told before now logs later answer

@@ -17,7 +17,7 @@ use Rattle.tdb_backup.specs.Restoring.{Restored}
 use Rattle.tdb_backup.specs.declared.refusal.RestoreRefusal.{RestoreRefusal}
 use Rattle.tdb_backup.specs.declared.refusal.RestoreRefusal.TheVariants as R
 use Rattle.tdb_ask.specs.declared.limits.TheConstants.{DEFAULT_SIZE}
-use Rattle.tdb_top.specs.Commands.Create.{IsNewFile}
+use Rattle.tdb_open.specs.Creating.{IsNewFile}
 use Rattle.tdb_ask.specs.declared.ask.Task.{Task}
 use Rattle.tdb_ask.specs.declared.ask.Task.TheVariants.{Restore}
 use Rattle.tdb_top.specs.declared.ending.Ending.{Ending}

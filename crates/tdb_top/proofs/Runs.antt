@@ -10,14 +10,14 @@ use Rattle.tdb_ask.specs.declared.act.Act.{Act}
 use Rattle.tdb_ask.specs.declared.look.Look.{Look}
 use Rattle.tdb_ask.specs.declared.ask.Task.{Task}
 use Rattle.tdb_ask.specs.declared.ask.Task.TheVariants.{Create, On, Read, Print, Restore, Backup, Verify, Turns, Session, Generate}
-use Rattle.tdb_ask.specs.declared.lines.create.NewForm.{NewForm}
+use Rattle.tdb_ask.specs.declared.lines.create.NewFile.{NewFile}
 use Rattle.tdb_top.specs.declared.ending.Ending.{Ending}
 use Rattle.tdb_top.specs.declared.ending.Ending.TheVariants.{Replied, Refused, Missing, There, Usage, DeviceFault, InputFault, Malformed, NoMemory, LogFault}
 use Rattle.tdb_top.specs.declared.ending.Reply.{Reply}
 use Rattle.tdb_top.specs.declared.ending.Reply.TheVariants.{Done, Value, Escaped, Dumped, Restored, Copied, Verified, KeyMissing, KeyThere, NoTransaction, Full, Number, Pair, End, Played, Generated}
 use Rattle.tdb_open.specs.declared.halt.Refusal.{Refusal}
 use Rattle.tdb_open.specs.declared.halt.Refusal.TheVariants.{TooLong, Header, Corrupt, NeedsRecovery}
-use Rattle.tdb_ask.specs.declared.limits.TheConstants.{LONGEST_FILE}
+use Rattle.tdb_open.specs.declared.limits.TheConstants.{LONGEST_FILE}
 use Rattle.tdb_ask.specs.Ask.{Ask}
 use Rattle.tdb_top.specs.Acts.{reply_of, Left}
 use Rattle.tdb_top.specs.Ending.{status_of, text_of, TakesMemory, PrintedFor, Replies, Refuses, LookReplies, RefusesToRead, PrintsPairs, TaskDue, Due, TaskCause, task_due, task_failed, task_wanting, task_unlogged, CountedBy, CountedFor, CountedAsked, has_openers, asks_openers}
@@ -32,7 +32,8 @@ use Rattle.tdb_top.specs.Input.{Input}
 use Rattle.tdb_top.specs.Output.{Output}
 use Rattle.tdb_top.specs.Reads.{reads_input, ask_reads, AskEnds}
 use Rattle.tdb_top.specs.Commands.Session.{session_options, StaysThere}
-use Rattle.tdb_top.specs.Commands.Turns.{TurnOpened, IsPlayed, TurnsLeft, TurnsLeave}
+use Rattle.tdb_open.specs.Loading.{TurnOpened}
+use Rattle.tdb_top.specs.Commands.Turns.{IsPlayed, TurnsLeft, TurnsLeave}
 use Rattle.tdb_dump.specs.declared.listing.Listing.{Listing}
 use Rattle.tdb_log.specs.Logs.{Logged}
 use Rattle.tdb_plays.specs.declared.options.Options.{Options}
@@ -538,7 +539,7 @@ module _ (before after status : ℕ) where
   print_run limit old now (Malformed at) out counted left = absurd left
 
   -- what a run leaves at the name of a file that was to be made
-  making_run : (form : NewForm) (old now : Option History) (t : Ending) → Exits status t → CountedBy before after t → MakingLeaves form old t now → MakingRun form old before after status now
+  making_run : (form : NewFile) (old now : Option History) (t : Ending) → Exits status t → CountedBy before after t → MakingLeaves form old t now → MakingRun form old before after status now
   making_run form old now (Replied reply) out counted left = record {
     any = inr (inl left.1);
     done = λ is. left.1;
@@ -924,7 +925,7 @@ module _ (run : Run) (logs later : List Logged) (t : Ending) (out : Exits run.st
       let at = subst (λ o. OnLeaves act o t (run.now name)) acts.there (asked_left (On act) name acts.asks) in
       (at.0, at.1, act_run run.faults_before run.faults_after run.status act old at.0 t out counted at.2)
 
-  made : (form : NewForm) (name : List ℕ) → run.ask ≡ Some (record { file = name; task = Create form }) → MakingRun form (run.old name) run.faults_before run.faults_after run.status (run.now name)
+  made : (form : NewFile) (name : List ℕ) → run.ask ≡ Some (record { file = name; task = Create form }) → MakingRun form (run.old name) run.faults_before run.faults_after run.status (run.now name)
   made form name asks = making_run run.faults_before run.faults_after run.status form (run.old name) (run.now name) t out counted (asked_left (Create form) name asks)
 
   restoring : (limit : ℕ) (name : List ℕ) → run.ask ≡ Some (record { file = name; task = Restore limit }) → RestoringRun run.input (run.old name) run.faults_before run.faults_after run.status (run.now name)

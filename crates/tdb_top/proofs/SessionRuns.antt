@@ -22,7 +22,7 @@ use Rattle.tdb_top.specs.declared.ending.Unprinted.{Unprinted}
 use Rattle.tdb_open.specs.declared.halt.Halt.TheVariants as H
 use Rattle.tdb_open.specs.declared.halt.Refusal.{Refusal}
 use Rattle.tdb_top.specs.Commands.Session.{session_options, of_end, IsServed, IsServedSoFar, IsServedBroken, SessionOn, SessionFile, file_unopened, session_ran, SessionHeld}
-use Rattle.tdb_top.specs.Commands.Turns.{HeardOrRefused}
+use Rattle.tdb_tool.specs.Serving.{HeardOrRefused}
 use Rattle.tdb_top.specs.Ending.{status_of, text_of, PrintedFor, PrintsAll, CountedBy}
 use Rattle.tdb_top.specs.Input.{Input}
 use Rattle.tdb_top.specs.Looks.{ending_of}

@@ -16,7 +16,8 @@ use Rattle.tdb_tool.proofs.PartLemmas.{all_came, came_more}
 use Rattle.tdb_tool.proofs.Wholes.{begins, over_comes}
 use Rattle.tdb_tool.specs.Asking.{BeginsBy}
 use Rattle.tdb_tool.specs.Serving.{HeardSo}
-use Rattle.tdb_tool.specs.Whole.{session_parts, IsOver, StopsOpen, SessionCame}
+use Rattle.tdb_open.specs.Loading.{IsOver, OpensToTurn}
+use Rattle.tdb_tool.specs.Whole.{session_parts, StopsOpen, SessionCame}
 use Rattle.tdb_tool.specs.declared.fault.SessionEnd.{SessionEnd}
 use Rattle.tdb_tool.specs.declared.fault.SessionFault.{SessionFault}
 use Rattle.tdb_tool.specs.declared.fault.SessionFault.TheVariants as F
@@ -26,7 +27,6 @@ use Rattle.tdb_course.specs.Stops.{OpensOnTheWay}
 use Rattle.tdb_top.specs.declared.ending.Ending.{Ending}
 use Rattle.tdb_top.specs.declared.ending.Unprinted.{Unprinted}
 use Rattle.tdb_top.specs.Commands.Session.{session_options, SessionOn, SessionFile, file_unopened, session_ran, SessionHeld}
-use Rattle.tdb_top.specs.Commands.Turns.{OpensToTurn}
 use Rattle.tdb_top.specs.Input.{Input}
 use Rattle.tdb_open.specs.Opening.{opened_bytes, CanOpen}
 use Rattle.tdb_open.specs.Opening.{OpensSafely}

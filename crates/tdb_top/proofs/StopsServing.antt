@@ -12,13 +12,13 @@ use Rattle.tdb_log.specs.Logs.{Logged}
 use Rattle.tdb_plays.specs.declared.line.Line.{Line}
 use Rattle.tdb_plays.specs.declared.options.Options.{Options}
 use Rattle.tdb_tool.proofs.Wholes.{over_weaker, came_weaker}
-use Rattle.tdb_tool.specs.Whole.{IsOver, StopsOpen, SessionOver, SessionCame, CameSo}
+use Rattle.tdb_open.specs.Loading.{IsOver, IsOpened}
+use Rattle.tdb_tool.specs.Whole.{StopsOpen, SessionOver, SessionCame, CameSo}
 use Rattle.tdb_tool.specs.declared.fault.SessionEnd.{SessionEnd}
 use Rattle.tdb_tool.specs.declared.fault.SessionFault.{SessionFault}
 use Rattle.tdb_tool.specs.declared.order.Order.{Order}
 use Rattle.tdb_course.specs.Stops.{OpensOnTheWay}
 use Rattle.tdb_top.specs.Commands.Session.{session_options, SessionOn}
-use Rattle.tdb_top.specs.Commands.Turns.{IsOpened}
 use Rattle.tdb_top.specs.Input.{Input}
 use Rattle.tdb_open.specs.Opening.{opened_bytes, CanOpen}
 use Rattle.tdb_open.specs.Opening.{OpensSafely}

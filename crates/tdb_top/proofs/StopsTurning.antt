@@ -7,10 +7,8 @@ use Rattle.tdb_disk.specs.Stop.{Quiet}
 use Rattle.tdb_disk.proofs.Runs.{leaves_join, leaves_weaker}
 use Rattle.tdb_space.specs.Accepted.{Accept, AcceptWith, Shut}
 use Rattle.tdb_space.specs.Form.{Form, form_of}
-use Rattle.tdb_space.specs.Opening.{restored}
 use Rattle.tdb_space.specs.Undoing.{Reopens}
 use Rattle.tdb_space.proofs.Opening.Undone.{read_as_it_is}
-use Rattle.tdb_space.proofs.Undoing.Alike.{exact_reopens}
 use Rattle.tdb_law.specs.Beginning.{nobody}
 use Rattle.tdb_law.specs.Images.{image_map}
 use Rattle.tdb_law.specs.Lines.{Line as LawLine}
@@ -19,37 +17,27 @@ use Rattle.tdb_law.specs.World.{State, HasFewChains}
 use Rattle.tdb_plays.specs.InLaw.{law_lines}
 use Rattle.tdb_plays.specs.declared.options.Options.{Options}
 use Rattle.tdb_steps.specs.Turns.{number_of}
-use Rattle.tdb_tool.specs.Whole.{IsOver}
+use Rattle.tdb_open.specs.Loading.{IsOver, IsOpened, OpensToTurn, TurnOpened, IsJustLoaded}
 use Rattle.tdb_world.specs.Openers.{options_of}
-use Rattle.tdb_whole.specs.Stops.{IsSafe}
 use Rattle.tdb_whole.specs.Whole.{Whole, form_at, options_at}
 use Rattle.tdb_course.specs.Stops.{OpensOnTheWay}
 use Rattle.tdb_top.specs.declared.ending.Ending.{Ending}
 use Rattle.tdb_top.specs.declared.ending.Unprinted.{Unprinted}
-use Rattle.tdb_top.specs.Commands.Turns.{IsOpened, OpensToTurn, TurnOpened}
 use Rattle.tdb_top.specs.Ending.{text_of}
 use Rattle.tdb_open.specs.Opening.{opened_bytes, CanOpen}
 use Rattle.tdb_top.specs.Output.{output_by}
-use Rattle.tdb_top.specs.Playing.{IsJustLoaded}
 use Rattle.tdb_top.specs.Printed.{Finishes}
 use Rattle.tdb_open.specs.Opening.{OpensSafely}
 use Rattle.tdb_top.specs.Stops.{StopsOver, StopsOfTurns, StopsHeld, WroteLine}
+use Rattle.tdb_tool.proofs.Stops.{accepted_safe}
 use Rattle.tdb_top.proofs.Held.{same_held}
 use Rattle.tdb_open.proofs.Openings.{still_safe}
 use Rattle.tdb_top.proofs.Stopping.{passes_start}
-use Rattle.tdb_top.proofs.Turning.{opened_short}
+use Rattle.tdb_open.proofs.ToTurn.{opened_short}
 
 -- an accepted image is read as it is
 own_shut : (f : Form) (img : List ℕ) → AcceptWith f img [] → opened_bytes img ≡ img
 own_shut f img A = read_as_it_is (form_of img) img (subst (λ g. Shut g img) (sym A.form) A.shut)
-
--- a stop leaves only what opens to the map of an accepted file, all of which is on the medium
-safe_accepted : (f : Form) (h : History) → AcceptWith f (seen h) [] → Quiet h → IsSafe f h
-safe_accepted f h A quiet c left =
-    let same : restored f (seen h) ≡ seen h = read_as_it_is f (seen h) A.shut in
-    let whole : c ≡ seen h = quiet c left in
-    let itself : Reopens (seen h) (seen h) = exact_reopens (seen h) (subst (λ g. AcceptWith g (seen h) []) (sym A.form) A) in
-    subst (λ (q : List ℕ × List ℕ). Reopens q.0 q.1) (λ i. (sym same i, sym whole i)) itself
 
 -- all plays in a world that was just loaded over an accepted file
 pub turns_of : (w : Whole) (h now : History) (disk_tells told : Bool) (done : Type 0) (before after : List ℕ) (state : State) → IsJustLoaded w h state → AcceptWith (form_at w) (seen h) [] → IsTrue disk_tells
@@ -61,7 +49,7 @@ turns_of w h now disk_tells told done before after state just A heard S = record
   over = subst (λ i. IsOver (form_at w) i state) (sym (own_shut (form_at w) (seen h) A)) just.over;
   printed = S.printed;
   whole = S.whole;
-  stops = λ quiet again calm. S.stops heard state just.of_world (safe_accepted (form_at w) h A quiet) calm;
+  stops = λ quiet again calm. S.stops heard state just.of_world (accepted_safe (form_at w) h A quiet) calm;
 }
 
 -- what opens to an image opens to the state of a world just loaded over it

@@ -19,8 +19,8 @@ use Rattle.tdb_open.specs.declared.halt.Refusal.{Refusal}
 use Rattle.tdb_open.specs.declared.halt.Refusal.TheVariants.{TooLong, Header, Corrupt, NeedsRecovery}
 use Rattle.tdb_top.specs.declared.commands.create.Creation as Making
 use Rattle.tdb_ask.specs.Ask.{Ask}
-use Rattle.tdb_ask.specs.declared.lines.create.NewForm.{NewForm}
-use Rattle.tdb_top.specs.Commands.Create.{new_length}
+use Rattle.tdb_ask.specs.declared.lines.create.NewFile.{NewFile}
+use Rattle.tdb_open.specs.Creating.{new_length}
 use Rattle.tdb_top.specs.Acts.{reply_of}
 use Rattle.tdb_top.specs.Looks.{look_reply}
 use Rattle.tdb_top.specs.Output.{Output}
@@ -120,9 +120,9 @@ pub record PrintsPairs (limit : ℕ) (img : List ℕ) (e : Ending) : Type 0 wher
   pub printed : e ≡ Replied Dumped
 
 -- a file is made where none is, or would have more bytes than it may
-abbrev pub MakingDue : NewForm → Ending → Type 0
-MakingDue form e =
-    ((new_length form ≤ form.limit) × (e ≡ Replied Done)) ⊎ ((form.limit < new_length form) × (e ≡ Refused (TooLong (new_length form))))
+abbrev pub MakingDue : NewFile → Ending → Type 0
+MakingDue file e =
+    ((new_length file.form ≤ file.limit) × (e ≡ Replied Done)) ⊎ ((file.limit < new_length file.form) × (e ≡ Refused (TooLong (new_length file.form))))
 
 -- How a task on the file of this name ends, by what is held there, where no call failed and memory sufficed. An act, a
 -- look and a printing are on a file that is there; a file is made where none is. How a restore ends where no file is

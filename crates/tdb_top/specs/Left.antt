@@ -8,13 +8,14 @@ use Rattle.tdb_top.specs.declared.ending.Ending.{Ending}
 use Rattle.tdb_top.specs.declared.ending.Ending.TheVariants.{Replied, Refused, Missing, There, Usage, DeviceFault, InputFault, Malformed, NoMemory, LogFault}
 use Rattle.tdb_top.specs.declared.ending.Reply.TheVariants.{Done, Restored}
 use Rattle.tdb_open.specs.declared.halt.Refusal.TheVariants.{TooLong}
-use Rattle.tdb_ask.specs.declared.lines.create.NewForm.{NewForm}
+use Rattle.tdb_ask.specs.declared.lines.create.NewFile.{NewFile}
 use Rattle.tdb_top.specs.declared.commands.create.Creation as Making
 use Rattle.tdb_top.specs.Acts.{reply_of, Left, Interrupted}
 use Rattle.tdb_ask.specs.Ask.{Ask}
 use Rattle.tdb_ask.specs.CopyNames.{IsNameAmong}
 use Rattle.tdb_top.specs.Commands.Backup.{BackupLeaves}
-use Rattle.tdb_top.specs.Commands.Create.{new_length, LeftEmpty, CreateLeaves}
+use Rattle.tdb_open.specs.Creating.{new_length}
+use Rattle.tdb_top.specs.Commands.Create.{LeftEmpty, CreateLeaves}
 use Rattle.tdb_top.specs.Commands.Print.{PrintLeaves}
 use Rattle.tdb_top.specs.Commands.Restore.{IsRestored}
 use Rattle.tdb_top.specs.Commands.Session.{StaysThere}
@@ -39,17 +40,17 @@ ActLeaves act old InputFault now = ⊥
 ActLeaves act old (Malformed at) now = ⊥
 
 -- what the making of a file leaves at its name where it ends so; it doesn't end as acts do
-abbrev pub MakingLeaves : NewForm → Option History → Ending → Option History → Type 0
-MakingLeaves form old (Replied reply) now = (reply ≡ Done) × CreateLeaves form.size form.order form.hash old Making.TheVariants.Made now
-MakingLeaves form old (There name) now = CreateLeaves form.size form.order form.hash old Making.TheVariants.There now
-MakingLeaves form old DeviceFault now = CreateLeaves form.size form.order form.hash old Making.TheVariants.Device now
-MakingLeaves form old NoMemory now = CreateLeaves form.size form.order form.hash old Making.TheVariants.Memory now
-MakingLeaves form old LogFault now = ⊥
-MakingLeaves form old (Refused refusal) now = (refusal ≡ TooLong (new_length form)) × (form.limit < new_length form) × LeftEmpty old now
-MakingLeaves form old (Missing name) now = ⊥
-MakingLeaves form old Usage now = ⊥
-MakingLeaves form old InputFault now = ⊥
-MakingLeaves form old (Malformed at) now = ⊥
+abbrev pub MakingLeaves : NewFile → Option History → Ending → Option History → Type 0
+MakingLeaves file old (Replied reply) now = (reply ≡ Done) × CreateLeaves file.form old Making.TheVariants.Made now
+MakingLeaves file old (There name) now = CreateLeaves file.form old Making.TheVariants.There now
+MakingLeaves file old DeviceFault now = CreateLeaves file.form old Making.TheVariants.Device now
+MakingLeaves file old NoMemory now = CreateLeaves file.form old Making.TheVariants.Memory now
+MakingLeaves file old LogFault now = ⊥
+MakingLeaves file old (Refused refusal) now = (refusal ≡ TooLong (new_length file.form)) × (file.limit < new_length file.form) × LeftEmpty old now
+MakingLeaves file old (Missing name) now = ⊥
+MakingLeaves file old Usage now = ⊥
+MakingLeaves file old InputFault now = ⊥
+MakingLeaves file old (Malformed at) now = ⊥
 
 -- what an act leaves at the name of its file; where none was it leaves none
 abbrev pub OnLeaves : Act → Option History → Ending → Option History → Type 0

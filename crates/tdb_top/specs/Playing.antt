@@ -3,7 +3,6 @@ use Rattle.std.specs.Prelude.{◌≡◌, ℕ, ◌≤◌, Bool, IsTrue, List, ◌
 use Rattle.tdb_disk.specs.Count.{Rose}
 use Rattle.tdb_space.specs.Form.{Form, form_of}
 use Rattle.tdb_backup.specs.Dump.{WroteFront}
-use Rattle.tdb_law.specs.Beginning.{IsLoaded}
 use Rattle.tdb_law.specs.Plays.{Course}
 use Rattle.tdb_law.specs.World.{State}
 use Rattle.tdb_plays.specs.InLaw.{law_plays, law_lines}
@@ -11,15 +10,15 @@ use Rattle.tdb_plays.specs.declared.line.Line.{Line}
 use Rattle.tdb_plays.specs.declared.play.Play.{Play}
 use Rattle.tdb_script.specs.Text.{report_text}
 use Rattle.tdb_world.specs.Played.{ComesTo}
-use Rattle.tdb_world.specs.Openers.{options_of}
-use Rattle.tdb_whole.specs.Whole.{Whole, form_at, options_at, WorldFits}
+use Rattle.tdb_whole.specs.Whole.{Whole, form_at, WorldFits}
 use Rattle.tdb_whole.specs.States.{IsStateOf}
-use Rattle.tdb_course.specs.Hearing.{Heard, HeardUpTo}
+use Rattle.tdb_course.specs.Hearing.{Heard}
 use Rattle.tdb_course.specs.Unfinished.{IsEnd}
 use Rattle.tdb_log.specs.Logs.{Logged}
 use Rattle.tdb_log.specs.declared.log.LogRefusal.{LogRefusal}
-use Rattle.tdb_log.specs.declared.log.LogRefusal.TheVariants as Unlogged
-use Rattle.tdb_tool.specs.Whole.{IsOver}
+use Rattle.tdb_tool.specs.declared.fault.SessionFault.{SessionFault}
+use Rattle.tdb_tool.specs.declared.fault.SessionFault.TheVariants as Broke
+use Rattle.tdb_tool.specs.Serving.{HeardSo}
 use Rattle.tdb_top.specs.declared.ending.Unprinted.{Unprinted}
 use Rattle.tdb_top.specs.declared.ending.Unprinted.TheVariants as Rest
 use Rattle.tdb_disk.specs.History.{History, seen}
@@ -28,11 +27,10 @@ use Rattle.tdb_top.specs.declared.ending.Ending.TheVariants.{Replied, Refused, M
 use Rattle.tdb_top.specs.declared.ending.Reply.TheVariants.{Played}
 use Rattle.tdb_open.specs.declared.halt.Refusal.{Refusal}
 use Rattle.tdb_open.specs.declared.halt.Halt.{Halt}
-use Rattle.tdb_open.specs.declared.halt.Halt.TheVariants as H
 use Rattle.tdb_open.specs.declared.opening.Opened.{Opened}
 use Rattle.tdb_top.specs.Ending.{of_halt}
 use Rattle.tdb_check.specs.Report.{Counted}
-use Rattle.tdb_open.specs.Opening.{opened_bytes, SameOrUndone, log_fault}
+use Rattle.tdb_open.specs.Opening.{opened_bytes, log_fault}
 use Rattle.tdb_open.specs.declared.halt.Fault.{Fault}
 use Rattle.tdb_open.specs.declared.halt.Fault.TheVariants as F
 use Rattle.tdb_dump.specs.declared.writer.WriteRefusal.{WriteRefusal}
@@ -40,7 +38,8 @@ use Rattle.tdb_dump.specs.declared.writer.WriteRefusal.TheVariants as Untold
 use Rattle.tdb_world.specs.declared.fault.RunFault.{RunFault}
 use Rattle.tdb_world.specs.declared.fault.RunFault.TheVariants as Run
 use Rattle.tdb_plays.specs.declared.options.Options.{Options}
-use Rattle.tdb_top.specs.Commands.Turns.{PlayedWhole, CameOver, IsReport, OpensToTurn, IsRefusedToTurn, TurnOpened, IsOpened, HeardOrRefused, TurnOpeningHeard}
+use Rattle.tdb_open.specs.Loading.{OpensToTurn, IsRefusedToTurn, IsOpened, TurnOpeningHeard, OpenedToTurn}
+use Rattle.tdb_top.specs.Commands.Turns.{PlayedWhole, CameOver, IsReport}
 
 -- how plays end: all were taken and told; or they broke off, since the disk or a log failed, or memory was wanting;
 -- or the output failed
@@ -67,14 +66,14 @@ IsUnbroken (Err Rest.Pairs) = ⊥
 IsUnbroken (Err Rest.Files) = ⊥
 IsUnbroken answer = Unit {0}
 
--- What logs heard of the lines of plays that ended so: of all; up to one whose notice the last log failed to take;
--- or, where the plays broke off otherwise, of all, or up to one whose notice it refused.
-abbrev pub HeardSo : PlaysEnd → List Logged → List Line → List Logged → Type 0
-HeardSo (Ok (Ok v)) logs lines later = Heard logs lines later
-HeardSo (Ok (Err F.Device)) logs lines later = HeardOrRefused logs lines later
-HeardSo (Ok (Err F.Memory)) logs lines later = HeardOrRefused logs lines later
-HeardSo (Ok (Err F.Log)) logs lines later = HeardUpTo Unlogged.Failed logs lines later
-HeardSo (Err unprinted) logs lines later = HeardOrRefused logs lines later
+-- Why plays broke off, if they did, in the words of a session: logs heard of their lines what they hear of those of a
+-- session that breaks off so (`HeardSo` of `tdb_tool`).
+abbrev pub broke_off : PlaysEnd → Option SessionFault
+broke_off (Ok (Ok v)) = None
+broke_off (Ok (Err F.Device)) = Some Broke.Device
+broke_off (Ok (Err F.Memory)) = Some Broke.Memory
+broke_off (Ok (Err F.Log)) = Some Broke.Log
+broke_off (Err unprinted) = Some Broke.Output
 
 -- All plays were taken from a state to another, and their lines written behind what was there; or they came to a
 -- state, and a front of the text of their lines was written. The logs heard of the same lines.
@@ -84,7 +83,7 @@ TellsAll f old plays new told before now logs later =
 
 abbrev pub TellsFront : Form → State → List Play → State → Bool → List ℕ → List ℕ → List Logged → List Logged → PlaysEnd → Type 0
 TellsFront f old plays new told before now logs later answer =
-    (lines : List Line) × ComesTo f old (law_plays plays) (law_lines lines) new × (IsTrue told → WroteFront before (report_text lines) now) × HeardSo answer logs lines later
+    (lines : List Line) × ComesTo f old (law_plays plays) (law_lines lines) new × (IsTrue told → WroteFront before (report_text lines) now) × HeardSo (broke_off answer) logs lines later
 
 -- by how they end; the state is one that is left, but where the disk failed, when nothing is said of it
 abbrev pub RunsTo : Form → State → List Play → (State → Type 0) → Bool → List ℕ → List ℕ → List Logged → List Logged → PlaysEnd → Type 0
@@ -133,16 +132,10 @@ pub record EndTold (w : Whole) (told : Bool) (before now : List ℕ) (answer : P
   pub whole : answer ≡ Ok (Ok tt) → IsTrue told → now ≡ before ++ report_text lines
   pub front : IsTrue told → WroteFront before (report_text lines) now
 
--- The state is one of a world that is just loaded over what its file holds.
-pub record IsJustLoaded (w : Whole) (h : History) (state : State) : Type 0 where
-  pub of_world : IsStateOf w h state
-  pub loaded : IsLoaded (form_at w) state (options_of (options_at w))
-  pub over : IsOver (form_at w) (seen h) state
-
 -- How all plays end, over the image a, after which b is left, on an output that tells what it holds or doesn't.
 abbrev pub PlayedFront : Form → Options → List ℕ → Bool → List ℕ → List ℕ → List Logged → List Logged → PlaysEnd → Type 0
 PlayedFront f options a told before now logs later answer =
-    (lines : List Line) × IsReport f options a lines × (IsTrue told → WroteFront before (report_text lines) now) × HeardSo answer logs lines later
+    (lines : List Line) × IsReport f options a lines × (IsTrue told → WroteFront before (report_text lines) now) × HeardSo (broke_off answer) logs lines later
 
 abbrev pub PlayedOver : Form → Options → List ℕ → List Play → List ℕ → Bool → List ℕ → List ℕ → List Logged → List Logged → PlaysEnd → Type 0
 PlayedOver f options a plays b told before now logs later (Ok (Ok v)) = PlayedWhole f options a plays b told before now logs later
@@ -153,14 +146,6 @@ PlayedOver f options a plays b told before now logs later (Err Rest.Report) = Pl
 PlayedOver f options a plays b told before now logs later (Err Rest.Fault) = PlayedFront f options a told before now logs later (Err Rest.Fault)
 PlayedOver f options a plays b told before now logs later (Err Rest.Pairs) = ⊥
 PlayedOver f options a plays b told before now logs later (Err Rest.Files) = ⊥
-
--- A file was opened for turns with these options, or wasn't.
-abbrev pub OpenedToTurn : Options → History → History → Result Opened Halt → Type 0
-OpenedToTurn options old now (Ok o) = OpensToTurn options (seen old) × IsOpened options old now
-OpenedToTurn options old now (Err (H.Refused refusal)) = IsRefusedToTurn options (seen old) refusal × TurnOpened options old now
-OpenedToTurn options old now (Err H.Device) = Unit {0}
-OpenedToTurn options old now (Err H.Memory) = SameOrUndone old now
-OpenedToTurn options old now (Err H.Log) = SameOrUndone old now
 
 -- How turns over a file end that is there: it is refused, or it is opened and the plays are taken. Nothing was written where
 -- it wasn't opened. The logs heard of the opening, and then of the plays.

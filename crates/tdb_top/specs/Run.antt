@@ -9,11 +9,11 @@ use Rattle.tdb_ask.specs.declared.act.Act.{Act}
 use Rattle.tdb_ask.specs.declared.look.Look.{Look}
 use Rattle.tdb_ask.specs.declared.ask.Task.{Task}
 use Rattle.tdb_ask.specs.declared.ask.Task.TheVariants.{Create, On, Read, Print, Restore, Backup, Verify, Turns, Session, Generate}
-use Rattle.tdb_ask.specs.declared.lines.create.NewForm.{NewForm}
+use Rattle.tdb_ask.specs.declared.lines.create.NewFile.{NewFile}
 use Rattle.tdb_top.specs.declared.commands.create.Creation.TheVariants.{Made, Device}
 use Rattle.tdb_top.specs.declared.ending.Ending.{Ending}
 use Rattle.tdb_top.specs.declared.ending.Ending.TheVariants.{Replied, DeviceFault, NoMemory, LogFault}
-use Rattle.tdb_ask.specs.declared.limits.TheConstants.{LONGEST_FILE}
+use Rattle.tdb_open.specs.declared.limits.TheConstants.{LONGEST_FILE}
 use Rattle.tdb_ask.specs.Ask.{Ask, ask_of}
 use Rattle.tdb_top.specs.Acts.{reply_of, Left, Interrupted}
 use Rattle.tdb_top.specs.Ending.{Due, status_of, TakesMemory, asks_openers}
@@ -23,10 +23,13 @@ use Rattle.tdb_top.specs.Output.{Output}
 use Rattle.tdb_top.specs.Printed.{TextBefore, ask_tells, Writes}
 use Rattle.tdb_ask.specs.CopyNames.{IsForCopyAmong, IsForRestoreAmong}
 use Rattle.tdb_top.specs.Commands.Backup.{CopiedAll, StoppedAt, BackupEnds}
-use Rattle.tdb_top.specs.Commands.Create.{new_length, LeftEmpty, CreateLeaves}
+use Rattle.tdb_open.specs.Creating.{new_length}
+use Rattle.tdb_top.specs.Commands.Create.{LeftEmpty, CreateLeaves}
 use Rattle.tdb_top.specs.Commands.Restore.{ReadSo}
 use Rattle.tdb_top.specs.Commands.Session.{ServesSo, session_options, IsServed, HeardUnopened, IsServedSoFar, IsServedBroken}
-use Rattle.tdb_top.specs.Commands.Turns.{PlaysSo, TurnOpened, IsPlayed, IsPlayedSoFar, HeardOrRefused}
+use Rattle.tdb_tool.specs.Serving.{HeardOrRefused}
+use Rattle.tdb_open.specs.Loading.{TurnOpened}
+use Rattle.tdb_top.specs.Commands.Turns.{PlaysSo, IsPlayed, IsPlayedSoFar}
 use Rattle.tdb_tool.specs.declared.fault.SessionEnd.TheVariants as End
 use Rattle.tdb_top.specs.Commands.Generate.{GenSo, HasMade}
 use Rattle.tdb_top.specs.Commands.Verify.{VerifyEnds, VerifiedAll, LeftAt}
@@ -136,7 +139,7 @@ KeepsAll status = (status ≢ 0) × (status ≢ 4) × (status ≢ 8) × (status 
 abbrev pub EndsMidway : Task → ℕ → Type 0
 EndsMidway (Turns options) status = status ≡ 5
 EndsMidway (Session limit) status = (status ≡ 5) ⊎ (status ≡ 7)
-EndsMidway (Create form) status = form.limit < new_length form
+EndsMidway (Create file) status = file.limit < new_length file.form
 EndsMidway task status = ⊥
 
 -- What a run leaves of the file of an act, which held this, by its status. Want of memory, status 5, may come before
@@ -153,8 +156,8 @@ pub record ActRun (act : Act) (old : History) (before after status : ℕ) (now :
   pub exact : KeepsAll status → status ≢ 5 → OpenedBelow act.limit old now
 
 -- a file was to be made that would have more bytes than it may: it is empty
-abbrev pub IsLeftEmpty : NewForm → Option History → Option History → Type 0
-IsLeftEmpty form old now = (form.limit < new_length form) × LeftEmpty old now
+abbrev pub IsLeftEmpty : NewFile → Option History → Option History → Type 0
+IsLeftEmpty file old now = (file.limit < new_length file.form) × LeftEmpty old now
 
 -- What a run leaves of the file whose pairs are printed, which held this: what its opening leaves. Want of memory, status
 -- 5, may come before the file was opened, and after a fault of the output, status 8, the opening may have failed.
@@ -165,12 +168,12 @@ pub record PrintRun (limit : ℕ) (old : History) (before after status : ℕ) (n
   pub exact : status ≢ 4 → status ≢ 5 → status ≢ 8 → OpenedBelow limit old now
 
 -- what a run leaves at the name of a file that is to be made, in the same way
-pub record MakingRun (form : NewForm) (old : Option History) (before after status : ℕ) (now : Option History) : Type 0 where
-  pub any : (now ≡ old) ⊎ CreateLeaves form.size form.order form.hash old Made now ⊎ (Rose before after × CreateLeaves form.size form.order form.hash old Device now) ⊎ IsLeftEmpty form old now
-  pub done : status ≡ 0 → CreateLeaves form.size form.order form.hash old Made now
-  pub failed : status ≡ 4 → CreateLeaves form.size form.order form.hash old Device now
-  pub too_long : status ≡ 6 → IsLeftEmpty form old now
-  pub kept : KeepsAll status → (now ≡ old) ⊎ IsLeftEmpty form old now
+pub record MakingRun (file : NewFile) (old : Option History) (before after status : ℕ) (now : Option History) : Type 0 where
+  pub any : (now ≡ old) ⊎ CreateLeaves file.form old Made now ⊎ (Rose before after × CreateLeaves file.form old Device now) ⊎ IsLeftEmpty file old now
+  pub done : status ≡ 0 → CreateLeaves file.form old Made now
+  pub failed : status ≡ 4 → CreateLeaves file.form old Device now
+  pub too_long : status ≡ 6 → IsLeftEmpty file old now
+  pub kept : KeepsAll status → (now ≡ old) ⊎ IsLeftEmpty file old now
 
 -- What a run leaves at the name of a file that is to be made of the pairs on the input. Where the status is neither 0 nor 4
 -- no file is left that wasn't there, unless a call of the files failed and then the output too.
@@ -243,8 +246,8 @@ pub record LeavesFiles (run : Run) (logs later : List Logged) : Type 0 where
   pub acted : (act : Act) (name : List ℕ) (old : History) → ActsOn run act name old
       → (h : History) × (run.now name ≡ Some h) × ActRun act old run.faults_before run.faults_after run.status h
   pub absent : (act : Act) (name : List ℕ) → run.ask ≡ Some (record { file = name; task = On act }) → run.old name ≡ None → run.now name ≡ None
-  pub made : (form : NewForm) (name : List ℕ) → run.ask ≡ Some (record { file = name; task = Create form })
-      → MakingRun form (run.old name) run.faults_before run.faults_after run.status (run.now name)
+  pub made : (file : NewFile) (name : List ℕ) → run.ask ≡ Some (record { file = name; task = Create file })
+      → MakingRun file (run.old name) run.faults_before run.faults_after run.status (run.now name)
   pub restored : (limit : ℕ) (name : List ℕ) → run.ask ≡ Some (record { file = name; task = Restore limit })
       → RestoringRun run.input (run.old name) run.faults_before run.faults_after run.status (run.now name)
   pub backed_up : (more : List (List ℕ)) (suffix name : List ℕ) → run.ask ≡ Some (record { file = name; task = Backup more suffix })

@@ -8,7 +8,7 @@ use Rattle.tdb_tool.specs.Asking.{BeginsBy}
 use Rattle.tdb_tool.specs.Whole.{SessionCame}
 use Rattle.tdb_tool.specs.declared.order.Order.{Order}
 use Rattle.tdb_top.specs.Commands.Session.{session_options}
-use Rattle.tdb_top.specs.Commands.Turns.{OpensToTurn}
+use Rattle.tdb_open.specs.Loading.{OpensToTurn}
 use Rattle.tdb_top.specs.Input.{Input}
 use Rattle.tdb_open.specs.Opening.{opened_bytes}
 use Rattle.tdb_top.specs.Run.{Run}

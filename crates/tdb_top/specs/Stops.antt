@@ -12,14 +12,13 @@ use Rattle.tdb_plays.specs.declared.line.Line.{Line}
 use Rattle.tdb_plays.specs.declared.line.Line.TheVariants.{Unfinished}
 use Rattle.tdb_plays.specs.declared.options.Options.{Options}
 use Rattle.tdb_script.specs.Text.{report_text}
-use Rattle.tdb_tool.specs.Whole.{IsOver}
+use Rattle.tdb_open.specs.Loading.{IsOver, OpensToTurn}
 use Rattle.tdb_world.specs.Openers.{options_of}
 use Rattle.tdb_whole.specs.Stops.{IsSafe}
 use Rattle.tdb_whole.specs.States.{IsStateOf}
 use Rattle.tdb_whole.specs.Whole.{Whole, form_at}
 use Rattle.tdb_course.specs.Stops.{IsTransacted, Leads, OpensOnTheWay}
 use Rattle.tdb_top.specs.declared.ending.Ending.{Ending}
-use Rattle.tdb_top.specs.Commands.Turns.{OpensToTurn}
 use Rattle.tdb_top.specs.Ending.{text_of}
 use Rattle.tdb_open.specs.Opening.{opened_bytes}
 use Rattle.tdb_top.specs.Playing.{PlaysEnd, UnlessBroken, Scene, IsStateAt}

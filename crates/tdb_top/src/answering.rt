@@ -73,8 +73,8 @@ pub(crate) fn answer_ask<F: Files, S: Source, K: Sink, L: Logs>(
         Task::Print { listing, limit } => {
             print_on_file(alloc, name, *listing, *limit, files, output, logs)
         }
-        Task::Create(form) => {
-            let creation = create_file(alloc, name, *form, files);
+        Task::Create(file) => {
+            let creation = create_file(alloc, name, *file, files);
             Ok(Ending::made(alloc, name, creation))
         }
         Task::Restore { limit } => Ok(restore_file(alloc, name, *limit, files, input)),

@@ -1,17 +1,17 @@
 // Plays that are taken over a file, and told line by line; logs are told what becomes of the file.
 
-ghost use Rattle.std.specs.Prelude.{◌≡◌, ◌<◌, ◌≤◌, ◌++◌, [], ℕ, List, Ok, IsTrue, OnOk, OnErr};
+ghost use Rattle.std.specs.Prelude.{◌≡◌, ◌≤◌, ◌++◌, [], ℕ, List, Ok, IsTrue, OnOk, OnErr};
 ghost use Rattle.tdb_disk.specs.Count.{HasCause, HasCauseOf, Rose};
 ghost use Rattle.tdb_disk.specs.History.{seen};
 ghost use Rattle.tdb_law.specs.World.{State};
 ghost use Rattle.tdb_space.specs.Accepted.{AcceptWith};
-ghost use Rattle.tdb_space.specs.Form.{form_in};
 ghost use Rattle.tdb_backup.specs.Dump.{WroteFront};
 ghost use Rattle.tdb_dump.specs.declared.writer.WriteRefusal.TheVariants.{Failed};
 ghost use Rattle.tdb_script.specs.Text.{report_text};
 ghost use Rattle.tdb_whole.specs.Whole.{form_at, options_at, WorldFits};
 ghost use Rattle.tdb_course.specs.Playable.{ArePlayable};
-ghost use Rattle.tdb_top.specs.Playing.{UnlessBroken, OnBroken, IsUnbroken, PlayedOver, scene, Ran, EndTold, IsJustLoaded, end_of};
+ghost use Rattle.tdb_top.specs.Playing.{UnlessBroken, OnBroken, IsUnbroken, PlayedOver, scene, Ran, EndTold, end_of};
+ghost use Rattle.tdb_open.specs.Loading.{IsJustLoaded};
 ghost use Rattle.tdb_top.specs.Stops.{StopsOfTurns, StopsOver, StopsTold};
 
 use crate::ending::Unprinted;
@@ -21,10 +21,9 @@ use tdb_disk::{Disk, Sink};
 use tdb_dump::WriteRefusal;
 use tdb_log::{LogRefusal, Logs};
 use tdb_open::Fault;
-use tdb_plays::{Options, Play, TurnReport};
+use tdb_plays::{Play, TurnReport};
 use tdb_script::write_line;
 use tdb_whole::World;
-use tdb_words::Header;
 
 /// Writes the lines of a report, each in one call. Where the output fails, or memory is wanting, a front of their text
 /// was written.
@@ -154,30 +153,28 @@ fn play_in<D: Disk, K: Sink, L: Logs>(
     }
 }
 
-/// Takes all plays over the opened file on a disk, and tells them and the commands that are unfinished then. The logs
-/// are told what the plays do to the file, and nothing of the unfinished commands.
+/// Takes all plays in a world over the opened file on a disk, and tells them and the commands that are unfinished then;
+/// then the world is given up. The logs are told what the plays do to the file, and nothing of the unfinished commands.
 pub(crate) fn play_all<D: Disk, K: Sink, L: Logs>(
     alloc: Global,
+    mut world: World,
     disk: &mut D,
-    header: &Header,
-    options: &Options,
     plays: &[Play],
     output: &mut K,
     logs: &mut L,
 ) -> Result<Result<(), Fault>, Unprinted>
-    requires chains { 0 < header.now.hash_size }
-    requires limit { options.now.limit ≤ 4294963200 }
-    requires short { D.size disk.old ≤ options.now.limit }
-    requires accepted { IsTrue D.tells → AcceptWith (form_in header.now) (seen (D.history disk.old)) [] }
+    requires fits { WorldFits world (seen (D.history disk.old)) (D.size disk.old) }
+    requires accepted { IsTrue D.tells → AcceptWith (form_at world) (seen (D.history disk.old)) [] }
     requires playable { ArePlayable plays.now }
-    ensures played { IsTrue D.tells → PlayedOver (form_in header.now) options.now (seen (D.history disk.old)) plays.now (seen (D.history disk.new)) K.tells (K.written output.old) (K.written output.new) (L.logs logs.old) (L.logs logs.new) result }
+    ensures played { IsTrue D.tells → (state : State) → IsJustLoaded world (D.history disk.old) state
+        → PlayedOver (form_at world) (options_at world) (seen (D.history disk.old)) plays.now (seen (D.history disk.new)) K.tells (K.written output.old) (K.written output.new) (L.logs logs.old) (L.logs logs.new) result }
     ensures rises { D.faults disk.old ≤ D.faults disk.new }
     ensures quiet { UnlessBroken result (D.faults disk.new ≡ D.faults disk.old) }
-    ensures rose { IsTrue D.tells → OnBroken result (Rose (D.faults disk.old) (D.faults disk.new)) }
-    ensures stops { IsTrue D.tells → StopsOfTurns (form_in header.now) options.now (D.history disk.old) (D.history disk.new) K.tells (result ≡ Ok (Ok tt)) (K.written output.old) (K.written output.new) }
+    ensures rose { IsTrue D.tells → (state : State) → IsJustLoaded world (D.history disk.old) state → OnBroken result (Rose (D.faults disk.old) (D.faults disk.new)) }
+    ensures stops { IsTrue D.tells → (state : State) → IsJustLoaded world (D.history disk.old) state
+        → StopsOfTurns (form_at world) (options_at world) (D.history disk.old) (D.history disk.new) K.tells (result ≡ Ok (Ok tt)) (K.written output.old) (K.written output.new) }
     ensures cause { HasCause (K.faults output.old) (K.faults output.new) result }
 {
-    let mut world = World::new(alloc, header, options);
     let played = play_in(alloc, &mut world, disk, plays, output, logs);
     world.end();
     played

@@ -8,7 +8,7 @@ use Rattle.tdb_words.specs.declared.hash.HashKind.{HashKind}
 use Rattle.tdb_words.specs.declared.hash.HashKind.TheVariants.{Old, Jenkins}
 use Rattle.tdb_space.specs.Pairs.{same_key}
 use Rattle.tdb_ask.specs.declared.limits.TheConstants.{DEFAULT_SIZE}
-use Rattle.tdb_ask.specs.declared.lines.create.NewForm.{NewForm}
+use Rattle.tdb_ask.specs.declared.lines.create.NewFile.{NewFile}
 use Rattle.tdb_ask.specs.Words.{size_of}
 
 -- the words that name a hash, and those that name a byte order
@@ -31,9 +31,9 @@ hash_of_words (word ∷ rest) =
     option_and_then (λ hash. option_map (λ order. (hash, order)) (order_of_words rest)) (lookup (same_key word) hashes)
 
 -- a new file that may have so many bytes, with so many chains, this hash and this byte order
-abbrev pub form_with : ℕ → ℕ → HashKind × Order → NewForm
-form_with limit size named = record { size = size; hash = named.0; order = named.1; limit = limit }
+abbrev pub file_with : ℕ → ℕ → HashKind × Order → NewFile
+file_with limit size named = record { form = record { size = size; hash = named.0; order = named.1 }; limit = limit }
 
-abbrev pub create_of : ℕ → List (List ℕ) → Option NewForm
-create_of limit [] = Some (form_with limit DEFAULT_SIZE (Old, Little))
-create_of limit (word ∷ rest) = option_and_then (λ size. option_map (form_with limit size) (hash_of_words rest)) (size_of word)
+abbrev pub create_of : ℕ → List (List ℕ) → Option NewFile
+create_of limit [] = Some (file_with limit DEFAULT_SIZE (Old, Little))
+create_of limit (word ∷ rest) = option_and_then (λ size. option_map (file_with limit size) (hash_of_words rest)) (size_of word)

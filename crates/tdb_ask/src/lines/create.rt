@@ -8,17 +8,16 @@ ghost use Rattle.tdb_ask.specs.Lines.Create.{orders, hashes, order_of_words, has
 use crate::limits::DEFAULT_SIZE;
 use crate::names::Text;
 use crate::words::size_of;
+use tdb_open::NewForm;
 use tdb_words::{HashKind, Order};
 
-/// What a new file is made with.
+/// A new file that is asked for.
 #[derive(Clone, Copy, Debug, PartialEq, Eq)]
-pub struct NewForm {
-    /// The number of chains.
-    pub size: u32,
-    pub hash: HashKind,
-    pub order: Order,
+pub struct NewFile {
+    /// What it is made with.
+    pub form: NewForm,
 
-    /// How many bytes the file may have.
+    /// How many bytes it may have.
     pub limit: u64,
 }
 
@@ -67,26 +66,26 @@ fn read_hash(arguments: &[Text]) -> Option<(HashKind, Order)>
     Some((hash, order))
 }
 
-impl NewForm {
+impl NewFile {
     /// Reads the arguments of `create`, where the file may have so many bytes.
-    pub(crate) fn of(limit: u64, arguments: &[Text]) -> Option<NewForm>
+    pub(crate) fn of(limit: u64, arguments: &[Text]) -> Option<NewFile>
         ensures read { result ≡ create_of limit arguments.now }
-        ensures some { IfSome result (λ form. 0 < form.size) }
+        ensures some { IfSome result (λ file. 0 < file.form.size) }
     {
         let [word, rest @ ..] = arguments else {
-            return Some(NewForm {
-                size: DEFAULT_SIZE,
-                hash: HashKind::Old,
-                order: Order::Little,
+            return Some(NewFile {
+                form: NewForm {
+                    size: DEFAULT_SIZE,
+                    hash: HashKind::Old,
+                    order: Order::Little,
+                },
                 limit,
             });
         };
         let size = size_of(word.as_str())?;
         let (hash, order) = read_hash(rest)?;
-        Some(NewForm {
-            size,
-            hash,
-            order,
+        Some(NewFile {
+            form: NewForm { size, hash, order },
             limit,
         })
     }

@@ -9,7 +9,7 @@ use Rattle.tdb_law.specs.Beginning.{IsLoaded}
 use Rattle.tdb_law.specs.World.{State}
 use Rattle.tdb_tool.specs.Asking.{Session, BeginsBy}
 use Rattle.tdb_tool.specs.Parts.{AllCame}
-use Rattle.tdb_tool.specs.Whole.{session_parts, IsOver, SessionOver, SessionCame, CameSo, SessionRan}
+use Rattle.tdb_tool.specs.Whole.{session_parts, SessionOver, SessionCame, CameSo, SessionRan}
 use Rattle.tdb_tool.specs.declared.fault.SessionEnd.{SessionEnd}
 use Rattle.tdb_tool.specs.declared.fault.SessionEnd.TheVariants as End
 use Rattle.tdb_tool.specs.declared.fault.SessionFault.{SessionFault}
@@ -29,12 +29,13 @@ use Rattle.tdb_open.specs.declared.halt.Halt.TheVariants as H
 use Rattle.tdb_open.specs.declared.halt.Refusal.{Refusal}
 use Rattle.tdb_open.specs.declared.opening.Opened.{Opened}
 use Rattle.tdb_open.specs.Notices.{BelowHeard}
-use Rattle.tdb_top.specs.Commands.Turns.{OpensToTurn, IsRefusedToTurn, IsOpened, HeardOrRefused, ReportHeard}
+use Rattle.tdb_tool.specs.Serving.{HeardOrRefused}
+use Rattle.tdb_open.specs.Loading.{OpensToTurn, IsRefusedToTurn, IsOpened, IsOver, OpenedToTurn}
+use Rattle.tdb_top.specs.Commands.Turns.{ReportHeard}
 use Rattle.tdb_top.specs.Ending.{of_halt, text_of}
 use Rattle.tdb_top.specs.Input.{Input}
 use Rattle.tdb_open.specs.Opening.{opened_bytes}
 use Rattle.tdb_top.specs.Output.{Output}
-use Rattle.tdb_top.specs.Playing.{OpenedToTurn}
 use Rattle.tdb_open.specs.Opening.{OpensSafely}
 use Rattle.tdb_top.specs.Safe.{StopsSince}
 

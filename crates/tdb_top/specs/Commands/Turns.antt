@@ -1,9 +1,8 @@
 -- The command that takes the plays of a script over a file, and prints their report.
-use Rattle.std.specs.Prelude.{◌≡◌, ◌⊎◌, ℕ, ◌<◌, ◌≤◌, Bool, true, false, IsTrue, Option, None, Some, Result, Ok, Err, List, [], ◌++◌, length, take}
+use Rattle.std.specs.Prelude.{◌≡◌, ◌⊎◌, ℕ, Bool, IsTrue, Option, None, Some, Ok, Err, List, [], ◌++◌, take}
 use Rattle.tdb_disk.specs.Count.{Rose}
 use Rattle.tdb_disk.specs.History.{History, seen}
 use Rattle.tdb_space.specs.Form.{Form, form_of}
-use Rattle.tdb_space.specs.Opening.{is_open}
 use Rattle.tdb_law.specs.Beginning.{IsLoaded}
 use Rattle.tdb_law.specs.Lines.{IsLawful}
 use Rattle.tdb_law.specs.Plays.{Course}
@@ -20,21 +19,20 @@ use Rattle.tdb_course.specs.Hearing.{Heard, HeardUpTo}
 use Rattle.tdb_check.specs.Report.{Counted}
 use Rattle.tdb_course.specs.Unfinished.{EndsWith}
 use Rattle.tdb_log.specs.Logs.{Logged}
-use Rattle.tdb_log.specs.declared.log.LogRefusal.{LogRefusal}
 use Rattle.tdb_log.specs.declared.log.LogRefusal.TheVariants as Unlogged
 use Rattle.tdb_plays.specs.declared.options.Options.{Options}
-use Rattle.tdb_tool.specs.Whole.{IsOver, beginning_over}
+use Rattle.tdb_tool.specs.Serving.{HeardOrRefused}
+use Rattle.tdb_tool.specs.Whole.{beginning_over}
+use Rattle.tdb_open.specs.Loading.{OpensToTurn, IsRefusedToTurn, TurnOpened, IsOpened, TurnOpeningHeard, IsOver}
 use Rattle.tdb_top.specs.declared.ending.Ending.{Ending}
 use Rattle.tdb_top.specs.declared.ending.Ending.TheVariants.{Replied, Refused, Missing, There, Usage, DeviceFault, InputFault, Malformed, NoMemory, LogFault}
 use Rattle.tdb_top.specs.declared.ending.Reply.TheVariants.{Played}
 use Rattle.tdb_open.specs.declared.halt.Refusal.{Refusal}
-use Rattle.tdb_open.specs.declared.halt.Refusal.TheVariants.{TooLong}
 use Rattle.tdb_top.specs.Input.{Input}
 use Rattle.tdb_open.specs.declared.halt.Halt.{Halt}
 use Rattle.tdb_open.specs.declared.opening.Opened.{Opened}
-use Rattle.tdb_open.specs.Notices.{OpeningHeard, ReadingHeard}
 use Rattle.tdb_top.specs.Ending.{of_halt}
-use Rattle.tdb_open.specs.Opening.{opened_bytes, CanOpen, IsRefused, IsRefusedToRead, SameOrUndone, UndoneIfOpen}
+use Rattle.tdb_open.specs.Opening.{opened_bytes, SameOrUndone}
 use Rattle.tdb_top.specs.Output.{Output}
 
 -- the plays are those of the script on the input, where that tells its text
@@ -44,28 +42,6 @@ HasScript input plays = IsTrue input.tells → Script input.text plays
 -- the input has some script
 abbrev pub IsScript : Input → Type 0
 IsScript input = IsTrue input.tells → (plays : List Play) × Script input.text plays
-
--- a file with these bytes is opened with these options: it isn't too long for them, and where it is to be read alone its
--- undo gate isn't open
-pub record OpensToTurn (options : Options) (img : List ℕ) : Type 0 where
-  pub can_open : CanOpen img
-  pub within : length img ≤ options.limit
-  pub shut : options.read_only ≡ true → is_open (form_of img) img ≡ false
-
--- it is refused so: it is too long for them, or any other opening to read it, or to change it, refuses it so
-abbrev pub RefusedBy : Bool → List ℕ → Refusal → Type 0
-RefusedBy true img refusal = IsRefusedToRead img refusal
-RefusedBy false img refusal = IsRefused img refusal
-
-abbrev pub IsRefusedToTurn : Options → List ℕ → Refusal → Type 0
-IsRefusedToTurn options img refusal =
-    ((refusal ≡ TooLong (length img)) × (options.limit < length img)) ⊎ ((length img ≤ options.limit) × RefusedBy options.read_only img refusal)
-
--- what an opening leaves of a file: where it is to be read alone, or is too long, what it was; and else it was undone,
--- where it is one to be undone
-abbrev pub TurnOpened : Options → History → History → Type 0
-TurnOpened options old now =
-    (((options.read_only ≡ true) ⊎ (options.limit < length (seen old))) × (now ≡ old)) ⊎ UndoneIfOpen old now
 
 -- why a run of turns ends so, but for a failed call of the files or want of memory: a read of the script failed, or it
 -- stops to be one at a place; it is one, and there is no file, or that is refused, or it is opened
@@ -116,20 +92,6 @@ pub data IsReport (f : Form) (options : Options) (img : List ℕ) : List Line �
   report_whole : (plays : List Play) (lines more : List Line) (new : State) → LeadsTo f options img plays lines new → EndsWith new more
       → IsReport f options img (lines ++ more)
 
--- What logs heard of an opening of a file with these bytes for turns with these options, by its answer: of reading it
--- alone, or of any other opening. A file that is too long isn't looked into.
-abbrev pub OpeningHeardBy : Bool → List ℕ → List Logged → List Logged → Result Opened Halt → Type 0
-OpeningHeardBy true = ReadingHeard
-OpeningHeardBy false = OpeningHeard
-
-abbrev pub TurnOpeningHeard : Options → List ℕ → List Logged → List Logged → Result Opened Halt → Type 0
-TurnOpeningHeard options img logs later answer =
-    ((options.limit < length img) × (later ≡ logs)) ⊎ ((length img ≤ options.limit) × OpeningHeardBy options.read_only img logs later answer)
-
--- logs heard of all of these lines, or up to one whose notice the last of them refused
-abbrev pub HeardOrRefused : List Logged → List Line → List Logged → Type 0
-HeardOrRefused logs lines later = Heard logs lines later ⊎ ((refusal : LogRefusal) × HeardUpTo refusal logs lines later)
-
 -- So they heard of the lines of a report, by how its run ended: where a log failed, up to the line whose notice it
 -- didn't take.
 abbrev pub ReportHeard : Ending → List Logged → List Line → List Logged → Type 0
@@ -157,11 +119,6 @@ pub data FileTurned (options : Options) (img : List ℕ) (e : Ending) (logs late
 abbrev pub TurnsHeard : Options → Option History → Ending → List Logged → List Logged → Type 0
 TurnsHeard options None e logs later = later ≡ logs
 TurnsHeard options (Some h) e logs later = FileTurned options (seen h) e logs later
-
--- A file was opened, for turns with these options.
-pub record IsOpened (options : Options) (old opened : History) : Type 0 where
-  pub left : TurnOpened options old opened
-  pub reads : seen opened ≡ opened_bytes (seen old)
 
 -- All plays of the script on the input were taken over a file, and their report was printed. They lead from a world just
 -- loaded over what the file was read as to a state as whose file what is left of it is read. The logs heard of the opening

@@ -13,20 +13,19 @@ ghost use Rattle.tdb_top.specs.declared.ending.Reply.TheVariants.{Copied};
 ghost use Rattle.tdb_ask.specs.CopyNames.{copy_name, new_name, IsNameOf, IsNameAmong, BackupFits};
 ghost use Rattle.tdb_top.specs.Commands.Backup.{copy_ending, HasKeys, IsCopyOf, IsNotCopied, of_copy, IsLeftOf, IsUntakenNew, CopyMade, DiskCopied, FileCopied, BackedUpOne, BackedUp, EndsBackup, CountedBoth};
 ghost use Rattle.tdb_top.specs.Commands.Check.{keys_in};
-ghost use Rattle.tdb_top.specs.Commands.Create.{IsNewFile};
+ghost use Rattle.tdb_open.specs.Creating.{IsNewFile};
 ghost use Rattle.tdb_top.specs.Ending.{CountedBy};
 ghost use Rattle.tdb_top.specs.Heard.{FileHeard, ToldFor, OpenHeard, BackupHeard};
 ghost use Rattle.tdb_open.specs.Notices.{OpeningHeard};
 ghost use Rattle.tdb_open.specs.Opening.{opened_bytes, IsCheckedOn};
 
-use crate::commands::create::make;
 use crate::ending::{Ending, Reply};
 use std::alloc::Global;
-use tdb_ask::{LONGEST_FILE, NewForm, Text};
+use tdb_ask::Text;
 use tdb_backup::{CopyRefusal, copy_pairs};
 use tdb_disk::{Disk, Files, Take};
 use tdb_log::Logs;
-use tdb_open::Opened;
+use tdb_open::{LONGEST_FILE, NewForm, Opened, make};
 use tdb_space::Direct;
 
 impl From<CopyRefusal> for Ending {
@@ -84,7 +83,6 @@ fn copy_file<D: Disk>(
         size: opened.header.hash_size,
         hash: opened.header.hash,
         order: opened.header.order,
-        limit: LONGEST_FILE,
     };
     let Ok(()) = make(to, form) else {
         return Err(CopyRefusal::Write);

@@ -10,7 +10,7 @@ ghost use Rattle.tdb_backup.specs.Restoring.{Restored};
 ghost use Rattle.tdb_backup.specs.declared.refusal.RestoreRefusal.TheVariants.{Input as InputFails, Io as DiskFails};
 ghost use Rattle.tdb_ask.specs.declared.ask.Task.TheVariants.{Restore};
 ghost use Rattle.tdb_top.specs.declared.ending.Ending.TheVariants.{Usage};
-ghost use Rattle.tdb_top.specs.Commands.Create.{IsNewFile};
+ghost use Rattle.tdb_open.specs.Creating.{IsNewFile};
 ghost use Rattle.tdb_ask.specs.declared.limits.TheConstants.{DEFAULT_SIZE};
 ghost use Rattle.tdb_top.specs.Commands.Restore.{new_form, of_restore, IsRestored, TextRefused, HeardBy};
 ghost use Rattle.tdb_top.specs.Ending.{CountedBy};
@@ -18,12 +18,12 @@ ghost use Rattle.tdb_top.specs.Input.{input_by};
 ghost use Rattle.tdb_top.specs.Left.{RestoreLeaves};
 ghost use Rattle.tdb_top.specs.Reads.{AskCause};
 
-use crate::commands::create::make;
 use crate::ending::{Ending, Reply};
 use std::alloc::Global;
-use tdb_ask::{DEFAULT_SIZE, LONGEST_FILE, NewForm};
+use tdb_ask::DEFAULT_SIZE;
 use tdb_backup::{RestoreRefusal, restore_pairs};
 use tdb_disk::{Disk, Files, Source, Take};
+use tdb_open::{NewForm, make};
 use tdb_space::Direct;
 use tdb_words::{HashKind, Header, Order};
 
@@ -55,7 +55,6 @@ pub(crate) const NEW_FORM: NewForm = NewForm {
     size: DEFAULT_SIZE,
     hash: HashKind::Old,
     order: Order::Little,
-    limit: LONGEST_FILE,
 };
 
 /// Adds the pairs of the text on the input to a new file on a disk.

@@ -1,13 +1,8 @@
 // The command that does what the lines of the input order over a file, and prints the replies.
 
 ghost use Rattle.std.specs.Prelude.{◌≡◌, ◌≤◌, ◌&&◌, ℕ, List, false, IsTrue};
-ghost use Rattle.tdb_disk.specs.Count.{HasCause, HasCauseOf, Rose};
-ghost use Rattle.tdb_disk.specs.History.{seen};
+ghost use Rattle.tdb_disk.specs.Count.{HasCause};
 ghost use Rattle.tdb_disk.specs.Names.{SameBut};
-ghost use Rattle.tdb_space.specs.Form.{form_of};
-ghost use Rattle.tdb_tool.specs.Serving.{fault_of, UnlessBroken, OnBroken};
-ghost use Rattle.tdb_tool.specs.Whole.{SessionRan};
-ghost use Rattle.tdb_tool.specs.declared.fault.SessionFault.TheVariants as FaultIs;
 ghost use Rattle.tdb_ask.specs.declared.ask.Task.TheVariants.{Session};
 ghost use Rattle.tdb_top.specs.declared.ending.Ending.TheVariants.{Usage};
 ghost use Rattle.tdb_top.specs.Commands.Restore.{HeardBy};
@@ -15,15 +10,13 @@ ghost use Rattle.tdb_top.specs.Commands.Session.{session_options, session_told, 
 ghost use Rattle.tdb_top.specs.Ending.{CountedIf};
 ghost use Rattle.tdb_top.specs.Input.{input_by};
 ghost use Rattle.tdb_top.specs.Looks.{ending_of, Began};
-ghost use Rattle.tdb_open.specs.Opening.{IsCheckedOn};
 ghost use Rattle.tdb_top.specs.Reads.{AskCause};
 
-use crate::commands::turns::open_to_turn;
 use crate::ending::{Ending, Reply, Unprinted};
 use std::alloc::Global;
 use tdb_disk::{Disk, Files, Sink, Source, Take};
 use tdb_log::Logs;
-use tdb_open::Opened;
+use tdb_open::load;
 use tdb_tool::{SessionEnd, SessionFault, run_session};
 use tdb_world::Options;
 
@@ -37,30 +30,6 @@ fn options_within(limit: u64) -> Options
         read_only: false,
         seqnum: false,
     }
-}
-
-/// Does what the lines of the input order over the opened file on a disk, and prints the replies.
-fn serve_opened<D: Disk, S: Source, K: Sink, L: Logs>(
-    alloc: Global,
-    opened: &Opened,
-    options: &Options,
-    disk: &mut D,
-    input: &mut S,
-    output: &mut K,
-    logs: &mut L,
-) -> Result<SessionEnd, SessionFault>
-    requires limit { options.now.limit ≤ 4294963200 }
-    requires length { opened.now.len ≡ D.size disk.old }
-    requires short { opened.now.len ≤ options.now.limit }
-    requires checked { IsTrue D.tells → IsCheckedOn (seen (D.history disk.old)) opened.now }
-    ensures ran { IsTrue D.tells → SessionRan (form_of (seen (D.history disk.old))) options.now (D.history disk.old) (D.history disk.new) S.tells (S.left input.old) K.tells (K.written output.old) (K.written output.new) (L.logs logs.old) (L.logs logs.new) result }
-    ensures rises { D.faults disk.old ≤ D.faults disk.new }
-    ensures quiet { UnlessBroken (fault_of result) (D.faults disk.new ≡ D.faults disk.old) }
-    ensures rose { IsTrue D.tells → OnBroken (fault_of result) (Rose (D.faults disk.old) (D.faults disk.new)) }
-    ensures input_cause { HasCauseOf FaultIs.Input (S.faults input.old) (S.faults input.new) result }
-    ensures cause { HasCauseOf FaultIs.Output (K.faults output.old) (K.faults output.new) result }
-{
-    run_session(alloc, disk, &opened.header, options, input, output, logs)
 }
 
 /// How a run ends whose session answered so.
@@ -95,11 +64,11 @@ fn session_on_disk<D: Disk, S: Source, K: Sink, L: Logs>(
     ensures heard { HeardBy (S.faults input.old) (S.faults input.new) (ending_of result) }
 {
     let options = options_within(limit);
-    let opened = match open_to_turn(alloc, &options, disk, logs) {
-        Ok(opened) => opened,
+    let (world, _) = match load(alloc, disk, &options, logs) {
+        Ok(loaded) => loaded,
         Err(halt) => return Ok(Ending::from(halt)),
     };
-    told(serve_opened(alloc, &opened, &options, disk, input, output, logs))
+    told(run_session(alloc, world, disk, input, output, logs))
 }
 
 /// Does what the lines of the input order over the file of this name, which may become `limit` bytes long, and prints

@@ -1,7 +1,7 @@
 // The command that takes the plays of a script over a file, and prints their report.
 
-ghost use Rattle.std.specs.Prelude.{◌≡◌, ◌≤◌, ◌&&◌, ℕ, List, Ok, Err, false, IsTrue, IfOk, length};
-ghost use Rattle.tdb_disk.specs.Count.{HasCause, HasCauseOf, Rose};
+ghost use Rattle.std.specs.Prelude.{◌≡◌, ◌≤◌, ◌&&◌, ℕ, List, Ok, false, IsTrue};
+ghost use Rattle.tdb_disk.specs.Count.{HasCause};
 ghost use Rattle.tdb_disk.specs.History.{seen};
 ghost use Rattle.tdb_disk.specs.Names.{SameBut};
 ghost use Rattle.tdb_space.specs.Form.{form_of};
@@ -9,18 +9,16 @@ ghost use Rattle.tdb_course.specs.Playable.{ArePlayable};
 ghost use Rattle.tdb_ask.specs.declared.ask.Task.TheVariants.{Turns};
 ghost use Rattle.tdb_top.specs.declared.ending.Ending.TheVariants.{Replied, Usage};
 ghost use Rattle.tdb_top.specs.declared.ending.Reply.TheVariants.{Played};
-ghost use Rattle.tdb_open.specs.declared.halt.Halt.TheVariants.{Device};
 ghost use Rattle.tdb_top.specs.Commands.Restore.{HeardBy, of_input};
 ghost use Rattle.tdb_top.specs.Commands.Turns as T;
-ghost use Rattle.tdb_top.specs.Commands.Turns.{OpeningHeardBy, TurnOpeningHeard};
 ghost use Rattle.tdb_top.specs.Ending.{CountedIf};
 ghost use Rattle.tdb_top.specs.Input.{input_by};
 ghost use Rattle.tdb_top.specs.Looks.{ending_of, Began};
-ghost use Rattle.tdb_open.specs.Opening.{opened_bytes, IsCheckedOn};
+ghost use Rattle.tdb_open.specs.Loading.{OpensToTurn};
+ghost use Rattle.tdb_open.specs.Opening.{opened_bytes};
 ghost use Rattle.tdb_top.specs.Output.{output_by};
-ghost use Rattle.tdb_top.specs.Playing.{OpenedToTurn, PlayedOver, PlayedFile, PlayedAll, PlaysCause, UnlessBroken, OnBroken};
+ghost use Rattle.tdb_top.specs.Playing.{PlayedFile, PlayedAll, PlaysCause};
 ghost use Rattle.tdb_top.specs.Reads.{AskCause};
-ghost use Rattle.tdb_open.specs.Opening.{OpensSafely};
 ghost use Rattle.tdb_top.specs.Stops.{StopsHeld, StopsOfTurns};
 
 use crate::ending::{Ending, Reply, Unprinted};
@@ -29,87 +27,9 @@ use crate::scripts::plays_on;
 use std::alloc::Global;
 use tdb_disk::{Disk, Files, Sink, Source, Take};
 use tdb_log::Logs;
-use tdb_open::{Fault, Halt, Opened, Refusal};
+use tdb_open::{Fault, load};
 use tdb_plays::Play;
 use tdb_world::Options;
-
-/// Opens the file on a disk, which isn't too long, to read it alone or not. The last log is told what the opening
-/// finds.
-fn open_as_asked<D: Disk, L: Logs>(
-    alloc: Global,
-    options: &Options,
-    disk: &mut D,
-    logs: &mut L,
-) -> Result<Opened, Halt>
-    ensures opened { IsTrue D.tells → length (seen (D.history disk.old)) ≤ options.now.limit → OpenedToTurn options.now (D.history disk.old) (D.history disk.new) result }
-    ensures checked { IfOk result (λ o. IsTrue D.tells → IsCheckedOn (seen (D.history disk.new)) o) }
-    ensures heard { IsTrue D.tells → length (seen (D.history disk.old)) ≤ options.now.limit → OpeningHeardBy options.now.read_only (seen (D.history disk.old)) (L.logs logs.old) (L.logs logs.new) result }
-    ensures length { IfOk result (λ o. o.len ≡ D.size disk.new) }
-    ensures stops { IsTrue D.tells → OpensSafely (D.history disk.old) (D.history disk.new) }
-    ensures cause { HasCauseOf Device (D.faults disk.old) (D.faults disk.new) result }
-{
-    if options.read_only {
-        return Opened::open_to_read(alloc, disk, logs);
-    }
-    Opened::open(alloc, disk, logs)
-}
-
-/// Opens the file on a disk for turns with these options. Where it is to be read alone, or nothing has to be undone, it
-/// changes nothing. What an undo gives is no longer than the file was, so that is tested for a file that doesn't tell what
-/// it holds. The last log is told what the opening finds, but nothing of a file that is too long.
-pub(crate) fn open_to_turn<D: Disk, L: Logs>(
-    alloc: Global,
-    options: &Options,
-    disk: &mut D,
-    logs: &mut L,
-) -> Result<Opened, Halt>
-    ensures opened { IsTrue D.tells → OpenedToTurn options.now (D.history disk.old) (D.history disk.new) result }
-    ensures checked { IfOk result (λ o. IsTrue D.tells → IsCheckedOn (seen (D.history disk.new)) o) }
-    ensures heard { IsTrue D.tells → TurnOpeningHeard options.now (seen (D.history disk.old)) (L.logs logs.old) (L.logs logs.new) result }
-    ensures length { IfOk result (λ o. o.len ≡ D.size disk.new) }
-    ensures stops { IsTrue D.tells → OpensSafely (D.history disk.old) (D.history disk.new) }
-    ensures short { IfOk result (λ o. o.len ≤ options.now.limit) }
-    ensures cause { HasCauseOf Device (D.faults disk.old) (D.faults disk.new) result }
-{
-    let len = disk.len()?;
-    if len > options.limit {
-        return Err(Halt::Refused {
-            refusal: Refusal::TooLong { len },
-        });
-    }
-    let opened = open_as_asked(alloc, options, disk, logs)?;
-    if opened.len > options.limit {
-        return Err(Halt::Refused {
-            refusal: Refusal::TooLong { len: opened.len },
-        });
-    }
-    Ok(opened)
-}
-
-/// Takes plays over the opened file on a disk, and tells them.
-fn play_opened<D: Disk, K: Sink, L: Logs>(
-    alloc: Global,
-    opened: &Opened,
-    options: &Options,
-    plays: &[Play],
-    disk: &mut D,
-    output: &mut K,
-    logs: &mut L,
-) -> Result<Result<(), Fault>, Unprinted>
-    requires limit { options.now.limit ≤ 4294963200 }
-    requires length { opened.now.len ≡ D.size disk.old }
-    requires short { opened.now.len ≤ options.now.limit }
-    requires checked { IsTrue D.tells → IsCheckedOn (seen (D.history disk.old)) opened.now }
-    requires playable { ArePlayable plays.now }
-    ensures played { IsTrue D.tells → PlayedOver (form_of (seen (D.history disk.old))) options.now (seen (D.history disk.old)) plays.now (seen (D.history disk.new)) K.tells (K.written output.old) (K.written output.new) (L.logs logs.old) (L.logs logs.new) result }
-    ensures rises { D.faults disk.old ≤ D.faults disk.new }
-    ensures quiet { UnlessBroken result (D.faults disk.new ≡ D.faults disk.old) }
-    ensures rose { IsTrue D.tells → OnBroken result (Rose (D.faults disk.old) (D.faults disk.new)) }
-    ensures stops { IsTrue D.tells → StopsOfTurns (form_of (seen (D.history disk.old))) options.now (D.history disk.old) (D.history disk.new) K.tells (result ≡ Ok (Ok tt)) (K.written output.old) (K.written output.new) }
-    ensures cause { HasCause (K.faults output.old) (K.faults output.new) result }
-{
-    play_all(alloc, disk, &opened.header, options, plays, output, logs)
-}
 
 /// Opens the file on a disk, takes plays over it, and tells them.
 fn play_on_disk<D: Disk, K: Sink, L: Logs>(
@@ -123,18 +43,18 @@ fn play_on_disk<D: Disk, K: Sink, L: Logs>(
     requires limit { options.now.limit ≤ 4294963200 }
     requires playable { ArePlayable plays.now }
     ensures played { IsTrue D.tells → PlayedFile options.now (D.history disk.old) (D.history disk.new) plays.now K.tells (K.written output.old) (K.written output.new) (L.logs logs.old) (L.logs logs.new) result }
-    ensures stops { IsTrue D.tells → T.OpensToTurn options.now (seen (D.history disk.old))
+    ensures stops { IsTrue D.tells → OpensToTurn options.now (seen (D.history disk.old))
         → StopsOfTurns (form_of (opened_bytes (seen (D.history disk.old)))) options.now (D.history disk.old) (D.history disk.new) K.tells (result ≡ Ok (Replied Played)) (K.written output.old) (K.written output.new) }
     ensures counted { CountedIf D.tells (D.faults disk.old) (D.faults disk.new) (ending_of result) }
     ensures cause { HasCause (K.faults output.old) (K.faults output.new) result }
     ensures asked { ending_of result ≡ Usage → ⊥ }
     ensures unread { of_input (ending_of result) ≡ false }
 {
-    let opened = match open_to_turn(alloc, options, disk, logs) {
-        Ok(opened) => opened,
+    let (world, _) = match load(alloc, disk, options, logs) {
+        Ok(loaded) => loaded,
         Err(halt) => return Ok(Ending::from(halt)),
     };
-    match play_opened(alloc, &opened, options, plays, disk, output, logs)? {
+    match play_all(alloc, world, disk, plays, output, logs)? {
         Ok(()) => Ok(Ending::Replied(Reply::Played)),
         Err(Fault::Device) => Ok(Ending::DeviceFault),
         Err(Fault::Memory) => Ok(Ending::NoMemory),

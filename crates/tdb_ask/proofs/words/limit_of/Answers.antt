@@ -1,4 +1,4 @@
-use Rattle.tdb_ask.specs.declared.limits.TheConstants.{LONGEST_FILE}
+use Rattle.tdb_open.specs.declared.limits.TheConstants.{LONGEST_FILE}
 use Rattle.tdb_ask.proofs.Sizes.{number_found}
 use Rattle.tdb_ask.proofs.words.limit_of.Goals as goal
 

@@ -24,8 +24,8 @@ returns-in-Create-clause-cause g c told =
     let name = string_bytes c.args.ask.now.file in
     let creation = c.create_file-creation.result in
     subst (λ task. AskEnds (input_by g.S.Source.tells (g.S.Source.left c.args.input.now) (g.S.Source.faults c.args.input.now) (g.S.Source.faults c.args.input.now)) task name held before now c.made.result) (sym c.in-Create.is)
-    (inl (inl (made_cause c.in-Create.form name (held name) before now creation c.made.result
-    (subst (λ n. CreateCause c.in-Create.form (held n) before now creation) c.as_str-name.ensures.value (c.create_file-creation.ensures.cause told))
+    (inl (inl (made_cause c.in-Create.file name (held name) before now creation c.made.result
+    (subst (λ n. CreateCause c.in-Create.file (held n) before now creation) c.as_str-name.ensures.value (c.create_file-creation.ensures.cause told))
     (subst (λ n. MadeSo n creation c.made.result) c.as_str-name.ensures.value c.made.ensures))))
 
 -- and what is left at its name
@@ -34,14 +34,14 @@ returns-in-Create-clause-left g c told =
     let held = g.F.Files.held c.args.files.now in
     let given = g.F.Files.held c.create_file-creation.new.files in
     let name = string_bytes c.args.ask.now.file in
-    let form = c.in-Create.form in
+    let file = c.in-Create.file in
     let before = g.F.Files.faults c.args.files.now in
     let now = g.F.Files.faults c.create_file-creation.new.files in
     let creation = c.create_file-creation.result in
     subst (λ task. TaskLeaves (input_by g.S.Source.tells (g.S.Source.left c.args.input.now) (g.S.Source.faults c.args.input.now) (g.S.Source.faults c.args.input.now)) task name held c.made.result given) (sym c.in-Create.is)
-    (made_left form name (held name) before now (given name) creation c.made.result
-    (subst (λ n. CreateCause form (held n) before now creation) c.as_str-name.ensures.value (c.create_file-creation.ensures.cause told))
-    (subst (λ n. CreateLeaves form.size form.order form.hash (held n) creation (given n)) c.as_str-name.ensures.value (c.create_file-creation.ensures.left told))
+    (made_left file name (held name) before now (given name) creation c.made.result
+    (subst (λ n. CreateCause file (held n) before now creation) c.as_str-name.ensures.value (c.create_file-creation.ensures.cause told))
+    (subst (λ n. CreateLeaves file.form (held n) creation (given n)) c.as_str-name.ensures.value (c.create_file-creation.ensures.left told))
     (subst (λ n. MadeSo n creation c.made.result) c.as_str-name.ensures.value c.made.ensures))
 
 -- why files were backed up, or weren't

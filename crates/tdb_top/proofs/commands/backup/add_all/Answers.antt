@@ -5,7 +5,7 @@ use Rattle.tdb_space.specs.Form.{form_of}
 use Rattle.tdb_space.specs.Pairs.{order_of}
 use Rattle.tdb_backup.specs.Building.{HoldsPairs}
 use Rattle.tdb_top.specs.Commands.Backup.{IsNotCopied}
-use Rattle.tdb_top.specs.Commands.Create.{IsNewFile}
+use Rattle.tdb_open.specs.Creating.{IsNewFile}
 use Rattle.tdb_open.specs.Opening.{IsCheckedOn}
 use Rattle.tdb_top.proofs.BackingUp.{source_accepted, fresh_holds, fresh_short, as_copied, as_refused}
 use Rattle.tdb_top.proofs.commands.backup.add_all.Goals as goal

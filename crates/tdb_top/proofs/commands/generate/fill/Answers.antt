@@ -3,7 +3,7 @@ use Rattle.std.proofs.lemmas.Result.{err_from_is_err_and}
 use Rattle.tdb_words.specs.declared.word.Order.TheVariants.{Little}
 use Rattle.tdb_words.specs.declared.hash.HashKind.TheVariants.{Old}
 use Rattle.tdb_ask.specs.declared.limits.TheConstants.{DEFAULT_SIZE}
-use Rattle.tdb_top.specs.Commands.Create.{IsNewFile}
+use Rattle.tdb_open.specs.Creating.{IsNewFile}
 use Rattle.tdb_top.proofs.Generating.{generated_synced, filled_broken}
 use Rattle.tdb_top.proofs.commands.generate.fill.Goals as goal
 

@@ -4,7 +4,8 @@ use Rattle.tdb_disk.specs.History.{seen}
 use Rattle.tdb_disk.proofs.Runs.{quiet_synced}
 use Rattle.tdb_top.specs.Commands.Insert.{led_to}
 use Rattle.tdb_open.proofs.Errors.{on_ok}
-use Rattle.tdb_top.proofs.AtEnd.{on_err, broken_write, broken_word, led_synced}
+use Rattle.tdb_open.proofs.Errors.{on_err}
+use Rattle.tdb_top.proofs.AtEnd.{broken_write, broken_word, led_synced}
 use Rattle.tdb_top.proofs.commands.insert.put_at_end.Goals as goal
 
 pub returns-in_err-write-clause-broken : goal.returns-in_err-write-clause-broken

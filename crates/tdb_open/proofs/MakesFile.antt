@@ -4,7 +4,7 @@ use Rattle.std.proofs.lemmas.Grind.{common_steps}
 use Rattle.std.proofs.lemmas.List.{length-replicate, replicate-append-replicate}
 use Rattle.tdb_disk.specs.History.{History, grew, wrote, synced, called, seen, Tried, TriedOver}
 use Rattle.tdb_disk.specs.Image.{overlay}
-use Rattle.tdb_top.specs.Commands.Create.{heads_length, MadeInPart}
+use Rattle.tdb_open.specs.Creating.{heads_length, MadeInPart}
 
 -- bytes that are written over as many others at the front
 written_front : (others rest bytes : List ℕ) → length others ≡ length bytes → overlay (others ++ rest) 0 bytes ≡ bytes ++ rest

@@ -3,18 +3,18 @@ use Rattle.std.proofs.lemmas.List.{nil_from_length}
 use Rattle.std.proofs.lemmas.Result.{on_ok_weaker}
 use Rattle.tdb_disk.specs.History.{seen}
 use Rattle.tdb_disk.proofs.Runs.{quiet_synced}
-use Rattle.tdb_top.specs.Commands.Create.{heads_length}
-use Rattle.tdb_top.proofs.AtEnd.{on_err}
-use Rattle.tdb_top.proofs.NewFile.{header_long, is_new_file}
-use Rattle.tdb_top.proofs.MakesFile.{broken_grow, broken_write, synced_now}
-use Rattle.tdb_top.proofs.commands.create.make.Goals as goal
+use Rattle.tdb_open.specs.Creating.{heads_length}
+use Rattle.tdb_open.proofs.Errors.{on_err}
+use Rattle.tdb_open.proofs.NewFile.{header_long, is_new_file}
+use Rattle.tdb_open.proofs.MakesFile.{broken_grow, broken_write, synced_now}
+use Rattle.tdb_open.proofs.creating.make.Goals as goal
 
 -- a growth that failed
 pub returns-in_err-grow-clause-in_part : goal.returns-in_err-grow-clause-in_part
 returns-in_err-grow-clause-in_part g c = on_err c.from_residual.result (λ told.
     let old = g.D.Disk.history c.args.disk.now in
-    let to = c.length_of.result in
-    let sized : to ≡ 168 + heads_length c.args.form.size = omega (arith, c.length_of.ensures) in
+    let to = c.file_len.result in
+    let sized : to ≡ 168 + heads_length c.args.form.size = omega (arith, c.file_len.ensures) in
     let empty = nil_from_length (seen old) (g.met.D.Disk.told_size c.args.disk.now told ∙ c.requires.empty) in
     broken_grow c.args.form.size to sized old empty (g.D.Disk.history c.grow.new.self) c.grow.ensures.tried)
 
@@ -22,8 +22,8 @@ returns-in_err-grow-clause-in_part g c = on_err c.from_residual.result (λ told.
 pub returns-in_err-write-clause-in_part : goal.returns-in_err-write-clause-in_part
 returns-in_err-write-clause-in_part g c = on_err c.from_residual-in_err-write.result (λ told.
     let old = g.D.Disk.history c.args.disk.now in
-    let to = c.length_of.result in
-    let sized : to ≡ 168 + heads_length c.args.form.size = omega (arith, c.length_of.ensures) in
+    let to = c.file_len.result in
+    let sized : to ≡ 168 + heads_length c.args.form.size = omega (arith, c.file_len.ensures) in
     let empty = nil_from_length (seen old) (g.met.D.Disk.told_size c.args.disk.now told ∙ c.requires.empty) in
     let long = ap length c.header_bytes.ensures.bytes ∙ header_long c.args.form.size c.args.form.order c.args.form.hash in
     broken_write c.args.form.size to sized old empty (g.D.Disk.history c.grow.new.self) (c.in_ok-grow.ensures.done told)
@@ -33,8 +33,8 @@ returns-in_err-write-clause-in_part g c = on_err c.from_residual-in_err-write.re
 pub returns-clause-made : goal.returns-clause-made
 returns-clause-made g c = on_ok_weaker c.sync.result (λ done told.
     (let old = g.D.Disk.history c.args.disk.now in
-    let to = c.length_of.result in
-    let sized : to ≡ 168 + heads_length c.args.form.size = omega (arith, c.length_of.ensures) in
+    let to = c.file_len.result in
+    let sized : to ≡ 168 + heads_length c.args.form.size = omega (arith, c.file_len.ensures) in
     let empty = nil_from_length (seen old) (g.met.D.Disk.told_size c.args.disk.now told ∙ c.requires.empty) in
     let size = c.args.form.size in
     let order = c.args.form.order in
@@ -51,8 +51,8 @@ returns-clause-made g c = on_ok_weaker c.sync.result (λ done told.
 pub returns-clause-in_part : goal.returns-clause-in_part
 returns-clause-in_part g c = on_err c.sync.result (λ told.
     let old = g.D.Disk.history c.args.disk.now in
-    let to = c.length_of.result in
-    let sized : to ≡ 168 + heads_length c.args.form.size = omega (arith, c.length_of.ensures) in
+    let to = c.file_len.result in
+    let sized : to ≡ 168 + heads_length c.args.form.size = omega (arith, c.file_len.ensures) in
     let empty = nil_from_length (seen old) (g.met.D.Disk.told_size c.args.disk.now told ∙ c.requires.empty) in
     let long = ap length c.header_bytes.ensures.bytes ∙ header_long c.args.form.size c.args.form.order c.args.form.hash in
     inr (

@@ -3,9 +3,9 @@ use Rattle.std.specs.Prelude.{IsTrue, IfOk}
 use Rattle.tdb_disk.specs.History.{History, seen}
 use Rattle.tdb_open.specs.Opening.{IsCheckedOn}
 use Rattle.tdb_open.proofs.Openings.{still_safe}
-use Rattle.tdb_top.specs.Commands.Turns.{OpeningHeardBy}
-use Rattle.tdb_top.proofs.Turning.{read_result, turn_result}
-use Rattle.tdb_top.proofs.commands.turns.open_as_asked.Goals as goal
+use Rattle.tdb_open.specs.Loading.{OpeningHeardBy}
+use Rattle.tdb_open.proofs.ToTurn.{read_result, turn_result}
+use Rattle.tdb_open.proofs.loading.open_as_asked.Goals as goal
 
 -- it is read alone
 pub returns-then-options-clause-checked : goal.returns-then-options-clause-checked

@@ -13,7 +13,7 @@ use Rattle.tdb_words.proofs.NewHeader.{new_header_read, new_header_sound}
 use Rattle.tdb_words.proofs.SameHeader.{header_at_front, same_front, same_fault}
 use Rattle.tdb_space.specs.Form.{form_of, form_in}
 use Rattle.tdb_space.proofs.Accepted.Fresh.{fresh_accepted, fresh_order}
-use Rattle.tdb_top.specs.Commands.Create.{heads_length, new_image, IsNewFile}
+use Rattle.tdb_open.specs.Creating.{heads_length, new_image, IsNewFile}
 
 -- a list of zeros has no other number at any place
 zero_at : (n i : ℕ) → slice_index (replicate n 0) i ≡ 0

@@ -1,13 +1,13 @@
 use Rattle.std.proofs.Common.{◌≡◌, ◌≤◌, ◌<◌, true, Ok, length, refl, ap, subst, inl, inr, arith}
 use Rattle.std.proofs.lemmas.Result.{err_from_is_err_and}
 use Rattle.tdb_disk.specs.History.{History, seen}
-use Rattle.tdb_top.specs.Playing.{OpenedToTurn}
+use Rattle.tdb_open.specs.Loading.{OpenedToTurn}
 use Rattle.tdb_open.specs.Opening.{OpensSafely}
 use Rattle.tdb_open.proofs.Openings.{still_safe}
-use Rattle.tdb_top.specs.Commands.Turns.{TurnOpeningHeard}
-use Rattle.tdb_top.proofs.Turning.{opened_short, unknown_heard}
-use Rattle.tdb_top.proofs.commands.turns.open_to_turn.Goals as goal
-use Rattle.tdb_top.proofs.commands.turns.open_to_turn.Goals.{After-open_as_asked, In_ok-opened}
+use Rattle.tdb_open.specs.Loading.{TurnOpeningHeard}
+use Rattle.tdb_open.proofs.ToTurn.{opened_short, unknown_heard}
+use Rattle.tdb_open.proofs.loading.open_to_turn.Goals as goal
+use Rattle.tdb_open.proofs.loading.open_to_turn.Goals.{After-open_as_asked, In_ok-opened}
 
 -- the file was opened
 opened : (g : _) (c : In_ok-opened g) → g.D.Disk.tells ≡ true → OpenedToTurn c.args.options.now (g.D.Disk.history c.args.disk.now) (g.D.Disk.history c.open_as_asked.new.disk) (Ok c.in_ok-opened.opened)
