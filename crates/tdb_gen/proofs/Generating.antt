@@ -1,80 +1,143 @@
 -- All plays of generated commands, from their parts.
-use Rattle.std.proofs.Common.{◌≡◌, ℕ, List, [], ◌∷◌, ◌++◌, Option, None, Some, slice_get, length, Result, Ok, Err, refl, ◌∙◌, subst}
-use Rattle.std.specs.Prelude.{IfOk}
+use Rattle.std.proofs.Common.{◌≡◌, ◌≢◌, ℕ, ◌≤◌, Bool, List, [], ◌∷◌, length, Result, Ok, Err, refl, sym, ◌∙◌, ap, subst}
+use Rattle.std.specs.Prelude.{IsTrue, IfOk, IfErr}
 use Rattle.std.proofs.lemmas.List.Concat.{flat_map-cons}
+use Rattle.tdb_disk.specs.Count.{Rose, HasCauseOf}
+use Rattle.tdb_disk.specs.History.{seen}
 use Rattle.tdb_space.specs.Accepted.{AcceptWith}
 use Rattle.tdb_space.specs.Form.{Form, form_in}
 use Rattle.tdb_space.specs.Pairs.{order_of}
 use Rattle.tdb_law.specs.Plays.{Course}
+use Rattle.tdb_law.specs.World.{State}
 use Rattle.tdb_plays.specs.InLaw.{law_plays, law_lines}
-use Rattle.tdb_world.proofs.AllHands.{joined_none}
-use Rattle.tdb_world.specs.Openers.{law_task, task_at, hands_of_task, hands_at}
-use Rattle.tdb_world.specs.Played.{ComesTo}
-use Rattle.tdb_world.specs.Worlds.{World, state_in, BytesStand}
-use Rattle.tdb_world.specs.declared.job.Task.{Task}
-use Rattle.tdb_world.specs.declared.opener.Opener.{Opener}
 use Rattle.tdb_plays.specs.declared.options.Options.{Options}
-use Rattle.tdb_gen.specs.declared.counts.Counts.{Counts}
+use Rattle.tdb_plays.specs.declared.play.Play.{Play}
+use Rattle.tdb_world.specs.Openers.{options_of}
+use Rattle.tdb_world.specs.Played.{ComesTo}
+use Rattle.tdb_whole.specs.Whole.{form_at}
 use Rattle.tdb_gen.specs.declared.fault.GenFault.{GenFault}
-use Rattle.tdb_gen.specs.declared.fault.GenFault.TheVariants.{Io, Memory}
+use Rattle.tdb_gen.specs.declared.fault.GenFault.TheVariants.{Io, Memory, Log}
 use Rattle.tdb_gen.specs.declared.summary.Summary.{Summary}
 use Rattle.tdb_gen.specs.Counts.{counts_of}
-use Rattle.tdb_gen.specs.Generated.{IsFirst, CameOver, GeneratedOver}
+use Rattle.tdb_gen.specs.Generated.{HasFile, IsFirst, CameSo, CameOver, GeneratedOver}
 use Rattle.tdb_gen.specs.Plays.{joins, groups, group_list, together, gen_plays}
-use Rattle.tdb_gen.specs.Rounds.{IsIdle}
-use Rattle.tdb_gen.specs.Taking.{Counted, Came, TakesTo}
-use Rattle.tdb_gen.proofs.Takings.{parts_join, parts_course, came_whole}
+use Rattle.tdb_gen.specs.Rounds.{IsReady}
+use Rattle.tdb_gen.specs.Taking.{UnlessIo, OnIo, Place, IsStateAt, TookAll, TookSome, LeavesSome, TakesTo, Taken}
+use Rattle.tdb_gen.proofs.Plain.{IsPlainly, plainly, idle_accepted}
+use Rattle.tdb_gen.proofs.Rounds.{loaded_ready}
+use Rattle.tdb_gen.proofs.Takings.{parts_course, all_behind, all_came, heard_whole}
 
--- where nobody has an unfinished command no record is out of the lists
-hands_none : (t : Option Task) → law_task t ≡ None → hands_of_task t ≡ []
-hands_none None e = refl
-hands_none (Some t) e = absurd (cc e)
+-- all parts, and all plays
+abbrev all_parts : ℕ → ℕ → List (List Play)
+all_parts n seed = joins ∷ group_list n seed (groups n)
 
-idle_hands : (x : Option Opener) → task_at x ≡ None → hands_at x ≡ []
-idle_hands None e = refl
-idle_hands (Some x) e = hands_none x.task e
-
-pub idle_accepted : (w : World) (img : List ℕ) → BytesStand w img → IsIdle (state_in w img) → AcceptWith (form_in w.header) img []
-idle_accepted w img B idle = subst (AcceptWith (form_in w.header) img) (joined_none (length w.openers) (λ o. hands_at (slice_get w.openers o)) (λ o. idle_hands (slice_get w.openers o) (idle o))) B.accepted
-
--- all parts are all plays
-all_plays : (n seed : ℕ) → together (joins ∷ group_list n seed (groups n)) ≡ gen_plays n seed
+all_plays : (n seed : ℕ) → together (all_parts n seed) ≡ gen_plays n seed
 all_plays n seed = flat_map-cons (λ plays. plays) joins (group_list n seed (groups n))
 
-module _ (f : Form) (options : Options) (a : List ℕ) (n seed : ℕ) (first : World) (begins : IsFirst f options a first) (last : World) (b : List ℕ) (form : form_in last.header ≡ f) where
-  -- they broke off
-  pub came_over : Came f (state_in first a) (joins ∷ group_list n seed (groups n)) (state_in last b) → CameOver f options a n seed b
-  came_over C = record { first = first; begins = begins; last = last; form = form; lines = C.0; came = subst (λ ps. ComesTo f (state_in first a) (law_plays ps) C.0 (state_in last b)) (all_plays n seed) C.1 }
+-- what holds of an answer that is this one
+pub at_ok : {V F : Type 0} (r : Result V F) (P : V → Type 0) → IfOk r P → (v : V) → r ≡ Ok v → P v
+at_ok r P h v e = subst (λ z. IfOk z P) e h
 
-  pub broke_over : (before after : Counts) (e : GenFault) → TakesTo f (state_in first a) (joins ∷ group_list n seed (groups n)) (state_in last b) before after (Err e) → GeneratedOver f options a n seed b (Err e)
-  broke_over before after Io C = tt
-  broke_over before after Memory C = came_over C
+pub at_err : {V F : Type 0} (r : Result V F) (P : F → Type 0) → IfErr r P → (fault : F) → r ≡ Err fault → P fault
+at_err r P h fault e = subst (λ z. IfErr z P) e h
+
+-- why no summary is told where plays broke off
+pub broke_cause : (before now : ℕ) (e : GenFault) → before ≤ now → UnlessIo {V = Unit {0}} (Err e) (now ≡ before) → OnIo {V = Unit {0}} (Err e) (Rose before now) → HasCauseOf {V = Summary} Io before now (Err e)
+broke_cause before now Io low quiet rose = record { never_falls = low; failed = λ is. rose; refused = λ other. absurd (other refl); done = tt }
+broke_cause before now Memory low quiet rose = record { never_falls = low; failed = λ is. cc; refused = λ other. quiet; done = tt }
+broke_cause before now Log low quiet rose = record { never_falls = low; failed = λ is. cc; refused = λ other. quiet; done = tt }
+
+pub broke_quiet : (before now : ℕ) (e : GenFault) → UnlessIo {V = Unit {0}} (Err e) (now ≡ before) → UnlessIo {V = Summary} (Err e) (now ≡ before)
+broke_quiet before now Io quiet = tt
+broke_quiet before now Memory quiet = quiet
+broke_quiet before now Log quiet = quiet
+
+module _ (options : Options) (n seed : ℕ) (old new : Place) (start : State) (begins : IsFirst (form_at old.world) options (seen old.history) start) where
+  pub ready : IsReady (form_at old.world) start
+  ready = loaded_ready (form_at old.world) start (options_of options) begins.loaded
+
+  so : (fault : GenFault) (last : State) → TookSome (form_at old.world) old new (all_parts n seed) fault start last → CameSo (form_at old.world) options (seen old.history) n seed fault last old.logs new.logs
+  so fault last T = record {
+    first = start;
+    begins = begins;
+    lines = T.lines;
+    came = subst (λ ps. ComesTo (form_at old.world) start (law_plays ps) (law_lines T.lines) last) (all_plays n seed) T.came;
+    heard = T.heard;
+  }
+
+  -- the file's bytes are those of the state
+  file_of : (last : State) → new.world.openers.header ≡ old.world.openers.header → IsPlainly new.world new.history last → HasFile (form_at old.world) (seen new.history) last
+  file_of last same P = subst (λ g. HasFile g (seen new.history) last) (ap form_in same) P.file
+
+  -- they broke off
+  over : (fault : GenFault) → new.world.openers.header ≡ old.world.openers.header → LeavesSome (form_at old.world) old new (all_parts n seed) fault start
+      → CameOver (form_at old.world) options (seen old.history) n seed (seen new.history) fault old.logs new.logs
+  over fault same (last, is, K, T) = (last, file_of last same (plainly (form_at old.world) new.world new.history last K is), so fault last T)
+
+  pub broke_over : (e : GenFault) → UnlessIo {V = Unit {0}} (Err e) (new.world.openers.header ≡ old.world.openers.header) → TakesTo (form_at old.world) old new (all_parts n seed) start (Err e)
+      → GeneratedOver (form_at old.world) options (seen old.history) n seed (seen new.history) old.logs new.logs (Err e)
+  broke_over Io same (last, T) = (last, so Io last T)
+  broke_over Memory same T = over Memory same T
+  broke_over Log same T = over Log same T
 
   -- or they are done
-  module _ (mid : World) (m : List ℕ) (before between after : Counts) (none : before ≡ counts_of []) (three : length mid.openers ≡ 3)
-      (J : Counted f (state_in first a) (joins ∷ []) (state_in mid m) before between) (G : Counted f (state_in mid m) (group_list n seed (groups n)) (state_in last b) between after) where
-    whole : Came f (state_in first a) (joins ∷ group_list n seed (groups n)) (state_in last b)
-    whole = came_whole f (joins ∷ group_list n seed (groups n)) (state_in first a) (state_in last b) (J.0 ++ G.0) (parts_join f (joins ∷ []) (group_list n seed (groups n)) (state_in first a) (state_in mid m) (state_in last b) J.0 G.0 J.1 G.1)
+  module _ (t : Bool) (mid : Place) (J : Taken t old mid (joins ∷ []) (Ok tt)) (G : Taken t mid new (group_list n seed (groups n)) (Ok tt)) (tells : IsTrue t) (is : IsStateAt old start) where
+    abbrev f : Form
+    f = form_at old.world
 
-    pub done_over : (r : Result Summary GenFault) → AcceptWith f b [] → ((s : Summary) → r ≡ Ok s → (s.commands ≡ n) × (s.counts ≡ after) × (s.live ≡ length (order_of f b)) × (s.length ≡ length b)) → GeneratedOver f options a n seed b r
-    done_over (Ok s) A is = record {
-      first = first;
-      begins = begins;
-      last = last;
-      form = form;
-      lines = J.0 ++ G.0;
-      course = subst (λ ps. Course f (state_in first a) (law_plays ps) (law_lines (J.0 ++ G.0)) (state_in last b)) (all_plays n seed)
-          (parts_course f (joins ∷ group_list n seed (groups n)) (state_in first a) (state_in last b) (J.0 ++ G.0) (parts_join f (joins ∷ []) (group_list n seed (groups n)) (state_in first a) (state_in mid m) (state_in last b) J.0 G.0 J.1 G.1));
-      done = record { mid = state_in mid m; front = J.0; rest = G.0; told = refl; joined = J.1; three = three; done = G.1 };
-      accepted = A;
-      commands = (is s refl).0;
-      counts = (is s refl).1 ∙ G.2 J.0 (J.2 [] none);
-      live = (is s refl).2;
-      size = (is s refl).3;
-    }
-    done_over (Err Io) A is = tt
-    done_over (Err Memory) A is = came_over whole
+    same_form : form_at mid.world ≡ f
+    same_form = ap form_in J.header
 
--- what holds of the value of an answer that has one
-pub at_ok : (r : Result Summary GenFault) (P : Summary → Type 0) → IfOk r P → (s : Summary) → r ≡ Ok s → P s
-at_ok r P p s e = subst (λ z. IfOk z P) e p
+    joined : (state : State) × IsStateAt mid state × TookAll f old mid (joins ∷ []) start state
+    joined = J.told tells start is ready
+
+    rest : (state : State) × IsStateAt new state × TookAll f mid new (group_list n seed (groups n)) joined.0 state
+    rest = subst (λ g. TakesTo g mid new (group_list n seed (groups n)) joined.0 (Ok tt)) same_form (G.told tells joined.0 joined.1 (subst (λ g. IsReady g joined.0) (sym same_form) joined.2.ready))
+
+    abbrev all : TookAll f old new (all_parts n seed) start rest.0
+    all = all_behind f old mid new (joins ∷ []) (group_list n seed (groups n)) start joined.0 joined.2 rest.0 rest.2
+
+    plain : IsPlainly new.world new.history rest.0
+    plain = plainly f new.world new.history rest.0 all.ready.keys rest.1
+
+    same : new.world.openers.header ≡ old.world.openers.header
+    same = G.header ∙ J.header
+
+    pub accepted : AcceptWith f (seen new.history) []
+    accepted = subst (λ g. AcceptWith g (seen new.history) []) (ap form_in same) (idle_accepted new.world new.history rest.0 plain all.ready.idle)
+
+    some : (fault : GenFault) → fault ≢ Log → TookSome f old new (all_parts n seed) fault start rest.0
+    some fault apart = record { lines = all.lines; came = all_came f (all_parts n seed) start rest.0 all.lines all.took; heard = heard_whole fault old.logs new.logs all.lines apart all.heard }
+
+    -- and then a summary was to be told
+    pub done_over : old.counts ≡ counts_of [] → length mid.world.openers.openers ≡ 3 → (r : Result Summary GenFault)
+        → ((s : Summary) → r ≡ Ok s → (s.commands ≡ n) × (s.counts ≡ new.counts) × (s.live ≡ length (order_of f (seen new.history))) × (s.length ≡ length (seen new.history))) → (r ≡ Err Log → ⊥)
+        → GeneratedOver f options (seen old.history) n seed (seen new.history) old.logs new.logs r
+    done_over none three (Ok s) told unlogged = (
+      record {
+        first = start;
+        begins = begins;
+        last = rest.0;
+        file = file_of rest.0 same plain;
+        lines = all.lines;
+        course = subst (λ ps. Course f start (law_plays ps) (law_lines all.lines) rest.0) (all_plays n seed) (parts_course f (all_parts n seed) start rest.0 all.lines all.took);
+        done = record {
+          mid = joined.0;
+          front = joined.2.lines;
+          rest = rest.2.lines;
+          told = refl;
+          joined = joined.2.took;
+          three = (plainly f mid.world mid.history joined.0 joined.2.ready.keys joined.1).joined ∙ three;
+          done = rest.2.took;
+        };
+        accepted = accepted;
+        commands = (told s refl).0;
+        counts = (told s refl).1 ∙ all.counted [] none;
+        live = (told s refl).2;
+        size = (told s refl).3;
+      },
+      all.heard,
+    )
+    done_over none three (Err Io) told unlogged = (rest.0, so Io rest.0 (some Io (λ e. cc)))
+    done_over none three (Err Memory) told unlogged = (rest.0, file_of rest.0 same plain, so Memory rest.0 (some Memory (λ e. cc)))
+    done_over none three (Err Log) told unlogged = absurd (unlogged refl)

@@ -1,11 +1,13 @@
 -- Plays of a group, one after the other.
-use Rattle.std.proofs.Common.{◌≡◌, ℕ, zero, suc, ◌+◌, ◌-◌, ◌*◌, ◌/◌, ◌%◌, ◌≤◌, ◌<◌, min, drop, List, [], ◌∷◌, ◌++◌, sym, ◌∙◌, ap, arith}
+use Rattle.std.proofs.Common.{◌≡◌, ℕ, zero, suc, ◌+◌, ◌-◌, ◌*◌, ◌/◌, ◌%◌, ◌≤◌, ◌<◌, min, drop, List, [], ◌∷◌, ◌++◌, sym, ◌∙◌, ap, subst, arith}
 use Rattle.std.specs.List.{flat_map, range_with_len}
-use Rattle.std.proofs.lemmas.List.{append_assoc, append-nil, flat_map_more}
+use Rattle.std.proofs.lemmas.List.{append_assoc, flat_map_more}
 use Rattle.std.proofs.lemmas.List.FromFn.{map-range_with_len_more}
 use Rattle.std.proofs.lemmas.List.{take-append-drop}
+use Rattle.std.proofs.lemmas.List.Elements.{All-append}
 use Rattle.std.proofs.lemmas.List.FromFn.{take-map-range_with_len}
 use Rattle.tdb_plays.specs.declared.play.Play.{Play}
+use Rattle.tdb_course.specs.Playable.{IsPlayable, ArePlayable}
 use Rattle.tdb_gen.specs.Plays.{gift, gifts, round, rounds, groups, group_plays, group_list}
 
 range_behind : (a n : ℕ) → range_with_len a (suc n) ≡ range_with_len a n ++ (a + n) ∷ []
@@ -24,6 +26,14 @@ gifts_more seed start i old low =
     append_assoc old (gifts seed start (i - start)) (gift seed i ∷ [])
     ∙ ap (λ ps. old ++ ps) (sym (map-range_with_len_more (gift seed) start (i - start) i (let e : start + (i - start) ≡ i = omega (arith, low) in e)))
     ∙ ap (λ n. old ++ gifts seed start n) (let e : i - start + 1 ≡ i + 1 - start = omega (arith, low) in e)
+
+-- they may be taken, where the one more may
+one_playable : (play : Play) → IsPlayable play → ArePlayable (play ∷ [])
+one_playable play P zero d low = P
+one_playable play P (suc k) d low = absurd (omega (arith, low))
+
+pub playable_more : (old new : List Play) (play : Play) → new ≡ old ++ play ∷ [] → ArePlayable old → IsPlayable play → ArePlayable new
+playable_more old new play e A P = subst ArePlayable (sym e) (All-append IsPlayable old (play ∷ []) A (one_playable play P))
 
 -- one group more
 pub groups_more : (n seed i : ℕ) → group_list n seed i ++ group_plays n seed i ∷ [] ≡ group_list n seed (i + 1)
@@ -44,16 +54,3 @@ group_after n i k e = omega (arith, e)
 pub groups_cut : (n seed i m : ℕ) → i ≤ m → group_list n seed i ++ drop i (group_list n seed m) ≡ group_list n seed m
 groups_cut n seed i m low =
     ap (λ ps. ps ++ drop i (group_list n seed m)) (sym (take-map-range_with_len (group_plays n seed) 0 m i low)) ∙ take-append-drop i (group_list n seed m)
-
--- commands up to a place, and those behind it
-pub gifts_cut : (seed start i end : ℕ) → start ≤ i → i < end → gifts seed start (i + 1 - start) ++ drop (i + 1 - start) (gifts seed start (end - start)) ≡ gifts seed start (end - start)
-gifts_cut seed start i end low high =
-    ap (λ ps. ps ++ drop (i + 1 - start) (gifts seed start (end - start))) (sym (take-map-range_with_len (gift seed) start (end - start) (i + 1 - start) (omega (arith, low, high))))
-    ∙ take-append-drop (i + 1 - start) (gifts seed start (end - start))
-
--- rounds up to a place, and those behind it
-pub rounds_cut : (i d : ℕ) → (rest : List Play) × (rounds i ++ rest ≡ rounds (i + d))
-rounds_cut i zero = ([], append-nil (rounds i) ∙ ap rounds (let e : i ≡ i + 0 = omega arith in e))
-rounds_cut i (suc d) =
-    let q = rounds_cut i d in
-    (q.0 ++ round, sym (append_assoc (rounds i) q.0 round) ∙ ap (λ ps. ps ++ round) q.1 ∙ rounds_more [] (i + d) ∙ ap rounds (let e : i + d + 1 ≡ i + suc d = omega arith in e))

@@ -64,7 +64,7 @@ module _ (f : Form) where
       subst (λ w. Took f old w who) (sym same) (record { keys = K; others = λ o ne. refl; moves = stays (λ o. refl) (λ t is. absurd (no_turn old who line K answer t is)) })
 
   -- no gate stands open, so none is undone
-  undone_none : (old mid : State) (lines : List Line) → OnKeys f old → Clears f old lines mid → mid ≡ old
+  pub undone_none : (old mid : State) (lines : List Line) → OnKeys f old → Clears f old lines mid → mid ≡ old
   undone_none old mid lines K (Clears.clears_nothing was none same) = same
   undone_none old mid lines K (Clears.clears_gate bytes to is U) = absurd (never_true (sym K.fresh ∙ U.was))
 
@@ -214,7 +214,7 @@ module _ (f : Form) where
     pub given_three : who < 3 → OnlyThree old → OnlyThree new
     given_three low three o high = G.others o (λ e. absurd (omega (arith, low, high, e))) ∙ three o high
 
-  same_gift : (a b : ℕ) (c d : LawCommand) → ◌≡◌ {A = Play} (Give a c) (Give b d) → (a ≡ b) × (c ≡ d)
+  pub same_gift : (a b : ℕ) (c d : LawCommand) → ◌≡◌ {A = Play} (Give a c) (Give b d) → (a ≡ b) × (c ≡ d)
   same_gift a b c d e = (let one : a ≡ b = cc in one, let two : c ≡ d = cc in two)
 
   gift_given : (old new : State) (who : ℕ) (c : LawCommand) (lines : List Line) → who < 3 → IsOnKey c → OnKeys f old → OnlyThree old → Gives f old (Give who c) lines new → OnKeys f new × OnlyThree new
@@ -234,7 +234,7 @@ module _ (f : Form) where
   keyed_if true a b p q = p
   keyed_if false a b p q = q
 
-  command_keyed : (x : ℕ) → IsOnKey (law_command (command_of x))
+  pub command_keyed : (x : ℕ) → IsOnKey (law_command (command_of x))
   command_keyed x = keyed_if (nat_lt (kind_of x) 4) _ _ tt (keyed_if (kind_of x == 4) _ _ tt (keyed_if (kind_of x == 5) _ _ tt (keyed_if (kind_of x == 6) _ _ tt tt)))
 
   all_gifts : (seed : ℕ) (ks : List ℕ) (old new : State) (lines : List Line) → OnKeys f old → OnlyThree old → Course f old (law_plays (map (gift seed) ks)) lines new → OnKeys f new × OnlyThree new
@@ -316,7 +316,7 @@ module _ (f : Form) where
       idle = task_none;
     }
 
-  join_given : (old new : State) (lines : List Line) → IsReady f old → Gives f old Join lines new → IsReady f new
+  pub join_given : (old new : State) (lines : List Line) → IsReady f old → Gives f old Join lines new → IsReady f new
   join_given old new lines R (Gives.gives_answer line is same answer) = subst (IsReady f) (sym same) R
   join_given old new lines R (Gives.gives_opener o is told J) = joined_ready old new o R J
   join_given old new lines R (Gives.gives_command o d is told G) = absurd (cc is)

@@ -1,25 +1,28 @@
--- Parts of plays that are taken one after the other, and what was counted.
-use Rattle.std.proofs.Common.{◌≡◌, Bool, List, [], ◌∷◌, ◌++◌, Result, Ok, Err, refl, sym, ◌∙◌, ap, subst, arith, le_refl}
-use Rattle.std.specs.Prelude.{IsTrue}
+-- Parts of plays that are taken one after the other, what was counted of them, and what logs heard.
+use Rattle.std.proofs.Common.{◌≡◌, Bool, List, [], ◌∷◌, ◌++◌, Result, Ok, Err, refl, sym, ◌∙◌, ap, subst, inl, inr, arith, le_refl}
 use Rattle.std.proofs.lemmas.List.{append_assoc, append-nil, map-append}
 use Rattle.std.proofs.lemmas.List.Concat.{flat_map-cons}
 use Rattle.std.proofs.lemmas.Grind.{flat_map-append}
 use Rattle.tdb_disk.specs.Count.{Rose}
+use Rattle.tdb_disk.specs.History.{seen}
 use Rattle.tdb_space.specs.Form.{Form, form_in}
 use Rattle.tdb_law.specs.Plays.{Course}
 use Rattle.tdb_law.specs.World.{State}
+use Rattle.tdb_log.specs.Logs.{Logged}
+use Rattle.tdb_log.specs.declared.log.LogRefusal.TheVariants as Unheard
 use Rattle.tdb_plays.specs.InLaw.{law_play, law_plays, law_line, law_lines}
 use Rattle.tdb_plays.specs.declared.line.Line.{Line}
 use Rattle.tdb_plays.specs.declared.play.Play.{Play}
 use Rattle.tdb_world.specs.Played.{ComesTo}
-use Rattle.tdb_world.specs.Worlds.{Stands, BytesStand}
-use Rattle.tdb_gen.specs.declared.counts.Counts.{Counts}
+use Rattle.tdb_whole.specs.Whole.{form_at, WorldFits}
+use Rattle.tdb_course.specs.Hearing.{Heard}
+use Rattle.tdb_course.proofs.HeardLines.{heard_joined, heard_then_refused}
 use Rattle.tdb_gen.specs.declared.fault.GenFault.{GenFault}
-use Rattle.tdb_gen.specs.declared.fault.GenFault.TheVariants.{Io, Memory}
+use Rattle.tdb_gen.specs.declared.fault.GenFault.TheVariants.{Io, Memory, Log}
 use Rattle.tdb_gen.specs.Counts.{counts_of}
 use Rattle.tdb_gen.specs.Plays.{together}
 use Rattle.tdb_gen.specs.Rounds.{IsReady}
-use Rattle.tdb_gen.specs.Taking.{Parts, Counted, Came, TakesTo, Place, state_at, Taken}
+use Rattle.tdb_gen.specs.Taking.{UnlessIo, OnIo, HeardSo, Parts, Place, TookAll, TookSome, TakesTo, Taken}
 use Rattle.tdb_gen.proofs.Coming.{course_join, whole_comes, comes_more, comes_after}
 
 pub together_join : (ps qs : List (List Play)) → together (ps ++ qs) ≡ together ps ++ together qs
@@ -43,111 +46,134 @@ parts_course f (p ∷ ps) old new lines A =
     (course_join f (law_plays p) (law_plays (together ps)) old A.0 new (law_lines A.1) (law_lines A.2) A.4 (parts_course f ps A.0 new A.2 A.6)))
 
 -- what came behind parts, or before others
-came_after : (f : Form) (ps qs : List (List Play)) (old mid new : State) (lines : List Line) → Parts f old ps lines mid → Came f mid qs new → Came f old (ps ++ qs) new
-came_after f ps qs old mid new lines A B =
-    (law_lines lines ++ B.0, subst (λ l. ComesTo f old l (law_lines lines ++ B.0) new) (sym (law_join ps qs)) (comes_after f (law_plays (together ps)) (law_plays (together qs)) old mid new (law_lines lines) B.0 (parts_course f ps old mid lines A) B.1))
+came_behind : (f : Form) (ps qs : List (List Play)) (old mid new : State) (lines rest : List Line) → Parts f old ps lines mid → ComesTo f mid (law_plays (together qs)) (law_lines rest) new
+    → ComesTo f old (law_plays (together (ps ++ qs))) (law_lines (lines ++ rest)) new
+came_behind f ps qs old mid new lines rest A B =
+    subst (λ ls. ComesTo f old (law_plays (together (ps ++ qs))) ls new) (sym (map-append law_line lines rest))
+    (subst (λ l. ComesTo f old l (law_lines lines ++ law_lines rest) new) (sym (law_join ps qs))
+    (comes_after f (law_plays (together ps)) (law_plays (together qs)) old mid new (law_lines lines) (law_lines rest) (parts_course f ps old mid lines A) B))
 
-pub came_more : (f : Form) (ps qs : List (List Play)) (old new : State) → Came f old ps new → Came f old (ps ++ qs) new
-came_more f ps qs old new B = (B.0, subst (λ l. ComesTo f old l B.0 new) (sym (law_join ps qs)) (comes_more f (law_plays (together ps)) (law_plays (together qs)) old new B.0 B.1))
+came_more : (f : Form) (ps qs : List (List Play)) (old new : State) (lines : List Line) → ComesTo f old (law_plays (together ps)) (law_lines lines) new → ComesTo f old (law_plays (together (ps ++ qs))) (law_lines lines) new
+came_more f ps qs old new lines B = subst (λ l. ComesTo f old l (law_lines lines) new) (sym (law_join ps qs)) (comes_more f (law_plays (together ps)) (law_plays (together qs)) old new (law_lines lines) B)
 
-pub came_whole : (f : Form) (ps : List (List Play)) (old new : State) (lines : List Line) → Parts f old ps lines new → Came f old ps new
-came_whole f ps old new lines A = (law_lines lines, whole_comes f (law_plays (together ps)) old new (law_lines lines) (parts_course f ps old new lines A))
+-- what logs heard of lines behind others
+or_refused : (old mid new : List Logged) (front rest : List Line) → Heard old front mid → HeardSo Memory mid rest new → HeardSo Memory old (front ++ rest) new
+or_refused old mid new front rest one (inl two) = inl (heard_joined old mid new front rest one two)
+or_refused old mid new front rest one (inr two) = inr (two.0, heard_then_refused two.0 old mid new front rest one two.1)
 
--- by the answer
-takes_join : (f : Form) (ps qs : List (List Play)) (old mid new : State) (before between after : Counts) → Counted f old ps mid before between → (r : Result (Unit {0}) GenFault) → TakesTo f mid qs new between after r → TakesTo f old (ps ++ qs) new before after r
-takes_join f ps qs old mid new before between after A (Ok v) B = (
-  A.0 ++ B.0,
-  parts_join f ps qs old mid new A.0 B.0 A.1 B.1,
-  λ told e. B.2 (told ++ A.0) (A.2 told e) ∙ ap counts_of (append_assoc told A.0 B.0),
-)
-takes_join f ps qs old mid new before between after A (Err Io) B = tt
-takes_join f ps qs old mid new before between after A (Err Memory) B = came_after f ps qs old mid new A.0 A.1 B
+heard_behind : (fault : GenFault) (old mid new : List Logged) (front rest : List Line) → Heard old front mid → HeardSo fault mid rest new → HeardSo fault old (front ++ rest) new
+heard_behind Io old mid new front rest one two = or_refused old mid new front rest one two
+heard_behind Memory old mid new front rest one two = or_refused old mid new front rest one two
+heard_behind Log old mid new front rest one two = heard_then_refused Unheard.Failed old mid new front rest one two
 
-takes_more : (f : Form) (ps qs : List (List Play)) (old new : State) (before after : Counts) (e : GenFault) → TakesTo f old ps new before after (Err e) → TakesTo f old (ps ++ qs) new before after (Err e)
-takes_more f ps qs old new before after Io B = tt
-takes_more f ps qs old new before after Memory B = came_more f ps qs old new B
+-- parts behind others, by the answer
+module _ (f : Form) (p q r : Place) (ps qs : List (List Play)) (start between : State) (A : TookAll f p q ps start between) where
+  some_behind : (fault : GenFault) (last : State) → TookSome f q r qs fault between last → TookSome f p r (ps ++ qs) fault start last
+  some_behind fault last B = record {
+    lines = A.lines ++ B.lines;
+    came = came_behind f ps qs start between last A.lines B.lines A.took B.came;
+    heard = heard_behind fault p.logs q.logs r.logs A.lines B.lines A.heard B.heard;
+  }
+
+  abbrev pub all_behind : (last : State) → TookAll f q r qs between last → TookAll f p r (ps ++ qs) start last
+  all_behind last B = record {
+    lines = A.lines ++ B.lines;
+    took = parts_join f ps qs start between last A.lines B.lines A.took B.took;
+    counted = λ told e. B.counted (told ++ A.lines) (A.counted told e) ∙ ap counts_of (append_assoc told A.lines B.lines);
+    heard = heard_joined p.logs q.logs r.logs A.lines B.lines A.heard B.heard;
+    ready = B.ready;
+  }
+
+  takes_behind : (answer : Result (Unit {0}) GenFault) → TakesTo f q r qs between answer → TakesTo f p r (ps ++ qs) start answer
+  takes_behind (Ok v) (last, is, B) = (last, is, all_behind last B)
+  takes_behind (Err Io) (last, B) = (last, some_behind Io last B)
+  takes_behind (Err Memory) (last, is, K, B) = (last, is, K, some_behind Memory last B)
+  takes_behind (Err Log) (last, is, K, B) = (last, is, K, some_behind Log last B)
+
+some_more : (f : Form) (p r : Place) (ps qs : List (List Play)) (fault : GenFault) (start last : State) → TookSome f p r ps fault start last → TookSome f p r (ps ++ qs) fault start last
+some_more f p r ps qs fault start last B = record { lines = B.lines; came = came_more f ps qs start last B.lines B.came; heard = B.heard }
+
+takes_more : (f : Form) (p r : Place) (ps qs : List (List Play)) (start : State) (e : GenFault) → TakesTo f p r ps start (Err e) → TakesTo f p r (ps ++ qs) start (Err e)
+takes_more f p r ps qs start Io (last, B) = (last, some_more f p r ps qs Io start last B)
+takes_more f p r ps qs start Memory (last, is, K, B) = (last, is, K, some_more f p r ps qs Memory start last B)
+takes_more f p r ps qs start Log (last, is, K, B) = (last, is, K, some_more f p r ps qs Log start last B)
+
+-- what holds unless the disk failed, or where it did, and what follows from that
+unless_map : {A B : Type 0} (answer : Result (Unit {0}) GenFault) → (A → B) → UnlessIo answer A → UnlessIo answer B
+unless_map (Ok v) g a = g a
+unless_map (Err Io) g a = tt
+unless_map (Err Memory) g a = g a
+unless_map (Err Log) g a = g a
+
+on_io_map : {A B : Type 0} (answer : Result (Unit {0}) GenFault) → (A → B) → OnIo answer A → OnIo answer B
+on_io_map (Ok v) g a = tt
+on_io_map (Err Io) g a = g a
+on_io_map (Err Memory) g a = tt
+on_io_map (Err Log) g a = tt
 
 -- no part yet
-pub taken_none : (t : Bool) (p : Place) → Stands p.world p.image p.size → Taken t p p [] (Ok tt)
+pub taken_none : (t : Bool) (p : Place) → WorldFits p.world (seen p.history) p.size → Taken t p p [] (Ok tt)
 taken_none t p W = record {
   header = refl;
-  stands = W;
-  ready = λ told B R. R;
+  fits = W;
   rises = le_refl p.faults;
   quiet = refl;
-  bytes = λ told B. B;
-  told = λ told B R. ([], (refl, refl), λ lines e. e ∙ ap counts_of (sym (append-nil lines)));
-  rose = λ told B. tt;
+  told = λ tells start is R. (start, is, record { lines = []; took = (refl, refl); counted = λ told e. e ∙ ap counts_of (sym (append-nil told)); heard = refl; ready = R });
+  rose = λ tells start is R. tt;
 }
 
 -- parts behind others, and others that weren't begun
 module _ (t : Bool) (old mid new : Place) (ps : List (List Play)) (A : Taken t old mid ps (Ok tt)) where
-  between : IsTrue t → BytesStand old.world old.image → IsReady (form_in old.world.header) (state_at old) → IsReady (form_in mid.world.header) (state_at mid)
-  between told S R = A.ready told S R
+  same_form : form_at mid.world ≡ form_at old.world
+  same_form = ap form_in A.header
 
-  told_join : (r : Result (Unit {0}) GenFault) (qs : List (List Play)) → Taken t mid new qs r → IsTrue t → BytesStand old.world old.image → IsReady (form_in old.world.header) (state_at old)
-      → TakesTo (form_in old.world.header) (state_at old) (ps ++ qs) (state_at new) old.counts new.counts r
-  told_join r qs B told S R =
-      takes_join (form_in old.world.header) ps qs (state_at old) (state_at mid) (state_at new) old.counts mid.counts new.counts (A.told told S R) r
-      (subst (λ h. TakesTo (form_in h) (state_at mid) qs (state_at new) mid.counts new.counts r) A.header (B.told told (A.bytes told S) (between told S R)))
-
-  pub taken_join : (r : Result (Unit {0}) GenFault) (qs : List (List Play)) → Taken t mid new qs r → Taken t old new (ps ++ qs) r
-  taken_join (Ok v) qs B = record {
-    header = B.header ∙ A.header;
-    stands = B.stands;
-    ready = λ told S R. B.ready told (A.bytes told S) (between told S R);
+  pub taken_join : (answer : Result (Unit {0}) GenFault) (qs : List (List Play)) → Taken t mid new qs answer → Taken t old new (ps ++ qs) answer
+  taken_join answer qs B = record {
+    header = unless_map answer (λ e. e ∙ A.header) B.header;
+    fits = B.fits;
     rises = let one = A.rises in let two = B.rises in omega (arith, one, two);
-    quiet = B.quiet ∙ A.quiet;
-    bytes = λ told S. B.bytes told (A.bytes told S);
-    told = told_join (Ok v) qs B;
-    rose = λ told S. tt;
-  }
-  taken_join (Err Io) qs B = record {
-    header = B.header ∙ A.header;
-    stands = tt;
-    ready = λ told S R. tt;
-    rises = let one = A.rises in let two = B.rises in omega (arith, one, two);
-    quiet = tt;
-    bytes = λ told S. tt;
-    told = told_join (Err Io) qs B;
-    rose = λ told S. subst (λ n. Rose n new.faults) A.quiet (B.rose told (A.bytes told S));
-  }
-  taken_join (Err Memory) qs B = record {
-    header = B.header ∙ A.header;
-    stands = B.stands;
-    ready = λ told S R. tt;
-    rises = let one = A.rises in let two = B.rises in omega (arith, one, two);
-    quiet = B.quiet ∙ A.quiet;
-    bytes = λ told S. B.bytes told (A.bytes told S);
-    told = told_join (Err Memory) qs B;
-    rose = λ told S. tt;
+    quiet = unless_map answer (λ e. e ∙ A.quiet) B.quiet;
+    told = λ tells start is R.
+        (let a = A.told tells start is R in
+        takes_behind (form_at old.world) old mid new ps qs start a.0 a.2 answer
+        (subst (λ g. TakesTo g mid new qs a.0 answer) same_form (B.told tells a.0 a.1 (subst (λ g. IsReady g a.0) (sym same_form) a.2.ready))));
+    rose = λ tells start is R.
+        (let a = A.told tells start is R in
+        on_io_map answer (λ r. subst (λ n. Rose n new.faults) A.quiet r) (B.rose tells a.0 a.1 (subst (λ g. IsReady g a.0) (sym same_form) a.2.ready)));
   }
 
 pub taken_more : (t : Bool) (old new : Place) (ps qs : List (List Play)) (e : GenFault) → Taken t old new ps (Err e) → Taken t old new (ps ++ qs) (Err e)
 taken_more t old new ps qs e A = record {
   header = A.header;
-  stands = A.stands;
-  ready = λ told S R. tt;
+  fits = A.fits;
   rises = A.rises;
   quiet = A.quiet;
-  bytes = A.bytes;
-  told = λ told S R. takes_more (form_in old.world.header) ps qs (state_at old) (state_at new) old.counts new.counts e (A.told told S R);
+  told = λ tells start is R. takes_more (form_at old.world) old new ps qs start e (A.told tells start is R);
   rose = A.rose;
 }
 
--- parts that were taken whole, and then something else failed for want of memory
+-- parts that were taken whole are as far as they came, whatever failed then but a log
+pub heard_whole : (fault : GenFault) (logs later : List Logged) (lines : List Line) → (fault ≡ Log → ⊥) → Heard logs lines later → HeardSo fault logs lines later
+heard_whole Io logs later lines apart heard = inl heard
+heard_whole Memory logs later lines apart heard = inl heard
+heard_whole Log logs later lines apart heard = absurd (apart refl)
+
+pub all_came : (f : Form) (ps : List (List Play)) (old new : State) (lines : List Line) → Parts f old ps lines new → ComesTo f old (law_plays (together ps)) (law_lines lines) new
+all_came f ps old new lines A = whole_comes f (law_plays (together ps)) old new (law_lines lines) (parts_course f ps old new lines A)
+
+-- and then memory was wanting
 pub taken_short : (t : Bool) (old new : Place) (ps : List (List Play)) → Taken t old new ps (Ok tt) → Taken t old new ps (Err Memory)
 taken_short t old new ps A = record {
   header = A.header;
-  stands = A.stands;
-  ready = λ told S R. tt;
+  fits = A.fits;
   rises = A.rises;
   quiet = A.quiet;
-  bytes = A.bytes;
-  told = λ told S R. let C = A.told told S R in came_whole (form_in old.world.header) ps (state_at old) (state_at new) C.0 C.1;
-  rose = λ told S. tt;
+  told = λ tells start is R.
+      (let a = A.told tells start is R in
+      (a.0, a.1, a.2.ready.keys, record { lines = a.2.lines; came = all_came (form_at old.world) ps start a.0 a.2.lines a.2.took; heard = inl a.2.heard }));
+  rose = λ tells start is R. tt;
 }
 
 -- no part was begun, for want of memory
-pub taken_not : (t : Bool) (p : Place) (ps : List (List Play)) → Stands p.world p.image p.size → Taken t p p ps (Err Memory)
+pub taken_not : (t : Bool) (p : Place) (ps : List (List Play)) → WorldFits p.world (seen p.history) p.size → Taken t p p ps (Err Memory)
 taken_not t p ps W = taken_more t p p [] ps Memory (taken_short t p p [] (taken_none t p W))

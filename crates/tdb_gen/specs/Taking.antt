@@ -1,39 +1,56 @@
--- How plays are taken part by part and counted, as far as they come.
-use Rattle.std.specs.Prelude.{ℕ, ◌≡◌, ◌≤◌, Bool, IsTrue, List, [], ◌∷◌, ◌++◌, Result, Ok, Err, OnOk}
+-- How plays are taken part by part and counted, and what logs hear of them, as far as they come.
+use Rattle.std.specs.Prelude.{ℕ, ◌≡◌, ◌≤◌, ◌⊎◌, Bool, IsTrue, List, [], ◌∷◌, ◌++◌, Result, Ok, Err}
 use Rattle.tdb_disk.specs.Count.{Rose}
-use Rattle.tdb_space.specs.Form.{Form, form_in}
+use Rattle.tdb_disk.specs.History.{History, seen}
+use Rattle.tdb_space.specs.Form.{Form}
 use Rattle.tdb_law.specs.World.{State}
-use Rattle.tdb_law.specs.Lines.{Line as LawLine}
 use Rattle.tdb_law.specs.Plays.{Course}
+use Rattle.tdb_log.specs.Logs.{Logged}
+use Rattle.tdb_log.specs.declared.log.LogRefusal.{LogRefusal}
+use Rattle.tdb_log.specs.declared.log.LogRefusal.TheVariants as Unheard
 use Rattle.tdb_plays.specs.InLaw.{law_plays, law_lines}
 use Rattle.tdb_plays.specs.declared.line.Line.{Line}
 use Rattle.tdb_plays.specs.declared.play.Play.{Play}
 use Rattle.tdb_world.specs.declared.fault.RunFault.{RunFault}
 use Rattle.tdb_world.specs.declared.fault.RunFault.TheVariants as Run
 use Rattle.tdb_world.specs.Played.{ComesTo}
-use Rattle.tdb_world.specs.Worlds.{World, state_in, Stands, BytesStand}
+use Rattle.tdb_whole.specs.Whole.{Whole, form_at, WorldFits}
+use Rattle.tdb_whole.specs.States.{IsStateOf}
+use Rattle.tdb_course.specs.Hearing.{Heard, HeardUpTo}
 use Rattle.tdb_gen.specs.declared.counts.Counts.{Counts}
 use Rattle.tdb_gen.specs.declared.fault.GenFault.{GenFault}
-use Rattle.tdb_gen.specs.declared.fault.GenFault.TheVariants.{Io, Memory}
+use Rattle.tdb_gen.specs.declared.fault.GenFault.TheVariants.{Io, Memory, Log}
 use Rattle.tdb_gen.specs.Counts.{counts_of}
 use Rattle.tdb_gen.specs.Plays.{together}
-use Rattle.tdb_gen.specs.Rounds.{IsIdle, IsReady}
+use Rattle.tdb_gen.specs.Rounds.{OnKeys, IsIdle, IsReady}
 
 -- why plays broke off, as a generation tells it
 abbrev pub of_run : RunFault → GenFault
 of_run Run.Io = Io
 of_run Run.Memory = Memory
 
+abbrev pub of_log : LogRefusal → GenFault
+of_log Unheard.Failed = Log
+of_log Unheard.Memory = Memory
+
+-- how the plays of a part end, by how a run of them ended
+abbrev pub end_of : Result (Result (Unit {0}) LogRefusal) RunFault → Result (Unit {0}) GenFault
+end_of (Ok (Ok v)) = Ok tt
+end_of (Ok (Err refusal)) = Err (of_log refusal)
+end_of (Err fault) = Err (of_run fault)
+
 -- what holds unless the disk failed, and what holds where it did
 abbrev pub UnlessIo : {V : Type 0} → Result V GenFault → Type 0 → Type 0
 UnlessIo (Ok v) p = p
 UnlessIo (Err Io) p = Unit {0}
 UnlessIo (Err Memory) p = p
+UnlessIo (Err Log) p = p
 
 abbrev pub OnIo : {V : Type 0} → Result V GenFault → Type 0 → Type 0
 OnIo (Ok v) p = Unit {0}
 OnIo (Err Io) p = p
 OnIo (Err Memory) p = Unit {0}
+OnIo (Err Log) p = Unit {0}
 
 -- Lists of plays were taken one after the other, each whole, and behind each nobody had an unfinished command.
 abbrev pub Parts : Form → State → List (List Play) → List Line → State → Type 0
@@ -42,60 +59,60 @@ Parts f old (plays ∷ parts) lines new =
     (mid : State) × (front : List Line) × (rest : List Line) × (lines ≡ front ++ rest) × Course f old (law_plays plays) (law_lines front) mid × IsIdle mid
     × Parts f mid parts rest new
 
--- All parts were taken, and their lines counted behind others; or they broke off, and came to a state. Where the disk failed
--- nothing is said.
-abbrev pub Counted : Form → State → List (List Play) → State → Counts → Counts → Type 0
-Counted f old parts new before after = (lines : List Line) × Parts f old parts lines new × ((told : List Line) → before ≡ counts_of told → after ≡ counts_of (told ++ lines))
+-- What logs heard of lines that broke off so: where a log failed, of those in front of the one whose notice it refused; else of all, or up to
+-- one whose notice a log refused.
+abbrev pub HeardSo : GenFault → List Logged → List Line → List Logged → Type 0
+HeardSo Io old lines new = Heard old lines new ⊎ ((refusal : LogRefusal) × HeardUpTo refusal old lines new)
+HeardSo Memory old lines new = Heard old lines new ⊎ ((refusal : LogRefusal) × HeardUpTo refusal old lines new)
+HeardSo Log old lines new = HeardUpTo Unheard.Failed old lines new
 
-abbrev pub Came : Form → State → List (List Play) → State → Type 0
-Came f old parts new = (lines : List LawLine) × ComesTo f old (law_plays (together parts)) lines new
-
-abbrev pub TakesTo : Form → State → List (List Play) → State → Counts → Counts → Result (Unit {0}) GenFault → Type 0
-TakesTo f old parts new before after (Ok v) = Counted f old parts new before after
-TakesTo f old parts new before after (Err Io) = Unit {0}
-TakesTo f old parts new before after (Err Memory) = Came f old parts new
-
--- A place between plays: the world, the bytes and the length of its file, the count of faults of the disk, and what was
--- counted.
+-- A place between plays: the world, the history and the length of its file, the count of faults of the disk, what was counted, and the logs.
 pub record Place : Type 0 where
-  pub world : World
-  pub image : List ℕ
+  pub world : Whole
+  pub history : History
   pub size : ℕ
   pub faults : ℕ
   pub counts : Counts
+  pub logs : List Logged
 
-abbrev pub place : World → List ℕ → ℕ → ℕ → Counts → Place
-place world image size faults counts = record { world = world; image = image; size = size; faults = faults; counts = counts }
+abbrev pub place : Whole → History → ℕ → ℕ → Counts → List Logged → Place
+place world history size faults counts logs = record { world = world; history = history; size = size; faults = faults; counts = counts; logs = logs }
 
-abbrev pub state_at : Place → State
-state_at p = state_in p.world p.image
+-- a state of the world at a place
+abbrev pub IsStateAt : Place → State → Type 0
+IsStateAt p state = IsStateOf p.world p.history state
 
--- Plays were taken and their lines counted behind others; or they broke off, and came to a state. Where the disk failed nothing is
--- said.
-abbrev pub RunsTo : Form → State → List Play → State → Counts → Counts → Result (Unit {0}) GenFault → Type 0
-RunsTo f old plays new before after (Ok v) =
-    (lines : List Line) × Course f old (law_plays plays) (law_lines lines) new × ((told : List Line) → before ≡ counts_of told → after ≡ counts_of (told ++ lines))
-RunsTo f old plays new before after (Err Io) = Unit {0}
-RunsTo f old plays new before after (Err Memory) = (lines : List LawLine) × ComesTo f old (law_plays plays) lines new
+-- All parts were taken from one state to another between two places: their lines were counted behind others, the logs heard of them, and all
+-- is ready for more.
+pub record TookAll (f : Form) (old new : Place) (parts : List (List Play)) (start last : State) : Type 0 where
+  pub lines : List Line
+  pub took : Parts f start parts lines last
+  pub counted : (told : List Line) → old.counts ≡ counts_of told → new.counts ≡ counts_of (told ++ lines)
+  pub heard : Heard old.logs lines new.logs
+  pub ready : IsReady f last
 
--- Plays, of one part or of less, led from one place to another, and ended so, over a disk that tells its bytes or doesn't.
-pub record Played (tells : Bool) (old new : Place) (plays : List Play) (answer : Result (Unit {0}) GenFault) : Type 0 where
-  pub header : new.world.header ≡ old.world.header
-  pub stands : UnlessIo answer (Stands new.world new.image new.size)
-  pub rises : old.faults ≤ new.faults
-  pub quiet : UnlessIo answer (new.faults ≡ old.faults)
-  pub bytes : IsTrue tells → BytesStand old.world old.image → UnlessIo answer (BytesStand new.world new.image)
-  pub told : IsTrue tells → BytesStand old.world old.image → RunsTo (form_in old.world.header) (state_at old) plays (state_at new) old.counts new.counts answer
-  pub rose : IsTrue tells → BytesStand old.world old.image → OnIo answer (Rose old.faults new.faults)
+-- They came to a state, and broke off there; and the logs heard of the lines so far.
+pub record TookSome (f : Form) (old new : Place) (parts : List (List Play)) (fault : GenFault) (start last : State) : Type 0 where
+  pub lines : List Line
+  pub came : ComesTo f start (law_plays (together parts)) (law_lines lines) last
+  pub heard : HeardSo fault old.logs lines new.logs
 
--- Parts led from one place to another, and ended so, over a disk that tells its bytes or doesn't. What they did is said where
--- nobody had an unfinished command before them, and all was ready for commands on keys; so it is then behind them.
+-- by the answer; where the disk failed nothing is said of what is left
+abbrev pub LeavesSome : Form → Place → Place → List (List Play) → GenFault → State → Type 0
+LeavesSome f old new parts fault start = (last : State) × IsStateAt new last × OnKeys f last × TookSome f old new parts fault start last
+
+abbrev pub TakesTo : Form → Place → Place → List (List Play) → State → Result (Unit {0}) GenFault → Type 0
+TakesTo f old new parts start (Ok v) = (last : State) × IsStateAt new last × TookAll f old new parts start last
+TakesTo f old new parts start (Err Io) = (last : State) × TookSome f old new parts Io start last
+TakesTo f old new parts start (Err Memory) = LeavesSome f old new parts Memory start
+TakesTo f old new parts start (Err Log) = LeavesSome f old new parts Log start
+
+-- Parts led from one place to another, and ended so, over a disk that tells its bytes or doesn't. What they did is said from each state of the
+-- world in which all is ready for commands on keys.
 pub record Taken (tells : Bool) (old new : Place) (parts : List (List Play)) (answer : Result (Unit {0}) GenFault) : Type 0 where
-  pub header : new.world.header ≡ old.world.header
-  pub stands : UnlessIo answer (Stands new.world new.image new.size)
-  pub ready : IsTrue tells → BytesStand old.world old.image → IsReady (form_in old.world.header) (state_at old) → OnOk answer (IsReady (form_in new.world.header) (state_at new))
+  pub header : UnlessIo answer (new.world.openers.header ≡ old.world.openers.header)
+  pub fits : UnlessIo answer (WorldFits new.world (seen new.history) new.size)
   pub rises : old.faults ≤ new.faults
   pub quiet : UnlessIo answer (new.faults ≡ old.faults)
-  pub bytes : IsTrue tells → BytesStand old.world old.image → UnlessIo answer (BytesStand new.world new.image)
-  pub told : IsTrue tells → BytesStand old.world old.image → IsReady (form_in old.world.header) (state_at old) → TakesTo (form_in old.world.header) (state_at old) parts (state_at new) old.counts new.counts answer
-  pub rose : IsTrue tells → BytesStand old.world old.image → OnIo answer (Rose old.faults new.faults)
+  pub told : IsTrue tells → (start : State) → IsStateAt old start → IsReady (form_at old.world) start → TakesTo (form_at old.world) old new parts start answer
+  pub rose : IsTrue tells → (start : State) → IsStateAt old start → IsReady (form_at old.world) start → OnIo answer (Rose old.faults new.faults)

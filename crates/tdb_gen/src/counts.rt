@@ -56,7 +56,7 @@ impl Counts {
     }
 
     /// Counts a turn.
-    pub(crate) fn count_turn(&mut self, turn: &Turn)
+    fn count_turn(&mut self, turn: &Turn)
         ensures { (who : ℕ) (command : Command) → self.new ≡ counts_with self.old (Lines.Took who command turn.now) }
     {
         match turn {

@@ -1,8 +1,9 @@
 // Why no summary is given.
 
 use std::alloc::AllocError;
+use tdb_course::RunFault;
+use tdb_log::LogRefusal;
 use tdb_space::Io;
-use tdb_world::RunFault;
 use thiserror::Error;
 
 /// Why there is no summary.
@@ -11,9 +12,12 @@ pub enum GenFault {
     /// A call of the disk failed, or a check found a fault in the file, which no turn leaves.
     #[error("the disk failed")]
     Io,
-    /// There was no memory for an opener, a play, a line, or the copy of a command.
+    /// There was no memory for an opener, a play, a line, the copy of a command, or a notice in a log.
     #[error("out of memory")]
     Memory,
+    /// A log failed to take a notice of what a turn had done.
+    #[error("a log failed")]
+    Log,
 }
 
 impl From<Io> for GenFault {
@@ -48,6 +52,20 @@ impl From<RunFault> for GenFault {
         match fault {
             RunFault::Io => GenFault::Io,
             RunFault::Memory => GenFault::Memory,
+        }
+    }
+}
+
+impl From<LogRefusal> for GenFault {
+    ghost use Rattle.std.specs.Prelude.{◌≡◌};
+    ghost use Rattle.tdb_gen.specs.Taking.{of_log};
+
+    ghost from_gives = { λ refusal e. e ≡ of_log refusal };
+
+    fn from(refusal: LogRefusal) -> Self {
+        match refusal {
+            LogRefusal::Failed => GenFault::Log,
+            LogRefusal::Memory => GenFault::Memory,
         }
     }
 }

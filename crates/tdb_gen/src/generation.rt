@@ -1,48 +1,45 @@
-// Generated commands that openers do, group by group.
+// Generated commands that the openers of a world do, group by group.
 
-ghost use Rattle.std.specs.Prelude.{◌≡◌, ◌<◌, ◌≤◌, ◌+◌, ◌-◌, ◌*◌, ◌^◌, ◌∷◌, [], ℕ, Bool, List, IsTrue, IfOk, OnOk, length, min};
+ghost use Rattle.std.specs.Prelude.{◌≡◌, ◌≢◌, ◌≤◌, ◌+◌, ◌*◌, ◌∷◌, [], ℕ, IsTrue, IfOk, IfErr, OnOk, length, min};
 ghost use Rattle.tdb_disk.specs.Count.{HasCauseOf};
+ghost use Rattle.tdb_disk.specs.History.{seen};
 ghost use Rattle.tdb_space.specs.Form.{form_in};
-ghost use Rattle.tdb_space.specs.Frame.{Wrote, Looked};
 ghost use Rattle.tdb_space.specs.Accepted.{AcceptWith};
 ghost use Rattle.tdb_space.specs.Pairs.{order_of};
-ghost use Rattle.tdb_space.specs.Spare.{without_bound};
-ghost use Rattle.tdb_law.specs.Beginning.{IsLoaded};
-ghost use Rattle.tdb_law.specs.World.{HasFewChains};
-ghost use Rattle.tdb_world.specs.Given.{AreServed};
-ghost use Rattle.tdb_world.specs.Openers.{options_of};
-ghost use Rattle.tdb_world.specs.Worlds.{state_in, Stands, BytesStand};
+ghost use Rattle.tdb_law.specs.World.{State};
+ghost use Rattle.tdb_plays.specs.declared.options.Options.{Options};
+ghost use Rattle.tdb_whole.specs.Whole.{form_at, WorldFits};
+ghost use Rattle.tdb_whole.specs.States.{IsStateOf};
+ghost use Rattle.tdb_course.specs.Playable.{ArePlayable};
 ghost use Rattle.tdb_gen.specs.Counts.{counts_of};
+ghost use Rattle.tdb_gen.specs.Generated.{IsFirst, GeneratedOver};
 ghost use Rattle.tdb_gen.specs.Numbers.{IsFrom};
-ghost use Rattle.tdb_gen.specs.Plays.{joins, gift, gifts, round, rounds, groups, group_plays, group_list};
-ghost use Rattle.tdb_plays.specs.declared.play.Play.TheVariants.{Turn};
-ghost use Rattle.tdb_gen.specs.Rounds.{AreDone};
-ghost use Rattle.tdb_gen.specs.Taking.{place, Played, Taken, UnlessIo};
+ghost use Rattle.tdb_gen.specs.Plays.{joins, groups, group_plays, group_list};
+ghost use Rattle.tdb_gen.specs.Rounds.{ArePart};
+ghost use Rattle.tdb_gen.specs.Taking.{end_of, place, Taken, UnlessIo};
 ghost use Rattle.tdb_gen.specs.declared.fault.GenFault.TheVariants as Faults;
 
 use crate::counts::Counts;
 use crate::fault::GenFault;
 use crate::generator::{Generator, OPENERS};
-use crate::joining::push_joins;
+use crate::group::{push_group, push_joins};
+use crate::keys::{keys_on_disk, length_of};
 use crate::summary::Summary;
 use std::alloc::Global;
-use tdb_check::{CheckRefusal, check};
+use tdb_course::{RunFault, run};
+use tdb_disk::Disk;
+use tdb_log::{LogRefusal, Logs};
 use tdb_plays::{Plays, TurnReport};
-use tdb_space::Space;
+use tdb_whole::World;
 use tdb_words::Header;
-use tdb_world::{Openers, Options};
 
-/// How many rounds of turns a group has.
-const ROUNDS: u32 = 24;
-
-/// The openers of a file who do generated commands, and what was counted of their report.
+/// The commands that are made for the openers of a world, and what was counted of their report.
 #[derive(Debug, Drop)]
 pub(crate) struct Generation {
     alloc: Global,
-    openers: Openers,
     generator: Generator,
 
-    /// The joins.
+    /// The plays of a group.
     plays: Plays,
 
     /// What they tell.
@@ -50,39 +47,26 @@ pub(crate) struct Generation {
     counts: Counts,
 }
 
-/// How many keys the file has.
-///
-/// `Io` where the disk failed, and where the file has a fault, which no command leaves: so over an accepted file the disk
-/// failed.
-fn live_keys<S: Space>(alloc: Global, space: &mut S) -> Result<u64, GenFault>
-    ensures counted { IfOk result (λ live. IsTrue S.tells → AcceptWith (S.form space.old) (S.image space.old) [] → live ≡ length (order_of (S.form space.old) (S.image space.old))) }
-    ensures looked { Looked S.Space space.old space.new }
-    ensures cause { IsTrue S.tells → AcceptWith (S.form space.old) (S.image space.old) [] → HasCauseOf Faults.Io (S.faults space.old) (S.faults space.new) result }
-    ensures rises { S.faults space.old ≤ S.faults space.new }
-    ensures quiet { UnlessIo result (S.faults space.new ≡ S.faults space.old) }
+/// How the plays of a part end, by how the run of them ended.
+fn ended(played: Result<Result<(), LogRefusal>, RunFault>) -> Result<(), GenFault>
+    ensures { result ≡ end_of played }
 {
-    match check(alloc, space) {
-        Ok(report) => Ok(report.live),
-        Err(CheckRefusal::Memory) => Err(GenFault::Memory),
-        Err(CheckRefusal::Io) => Err(GenFault::Io),
-        Err(CheckRefusal::Corrupt { .. }) => Err(GenFault::Io),
+    match played {
+        Ok(Ok(())) => Ok(()),
+        Ok(Err(refusal)) => Err(GenFault::from(refusal)),
+        Err(fault) => Err(GenFault::from(fault)),
     }
 }
 
 impl Generation {
-    /// Nobody has joined.
-    pub(crate) fn new(alloc: Global, header: &Header, options: &Options, seed: u32) -> Generation
-        ensures header { result.openers.header ≡ header.now }
-        ensures stands { (img : List ℕ) (size : ℕ) → HasFewChains (form_in header.now) → options.now.limit ≤ 4294963200 → size ≤ options.now.limit → Stands result.openers img size }
-        ensures bytes { (img : List ℕ) → AcceptWith (form_in header.now) img [] → BytesStand result.openers img }
-        ensures loaded { (img : List ℕ) → HasFewChains (form_in header.now) → IsLoaded (form_in header.now) (state_in result.openers img) (options_of options.now) }
+    /// Nothing was made or counted.
+    pub(crate) fn new(alloc: Global, seed: u32) -> Generation
         ensures index { result.generator.index ≡ 0 }
         ensures from { IsFrom seed result.generator }
         ensures counts { result.counts ≡ counts_of [] }
     {
         Generation {
             alloc,
-            openers: Openers::new(alloc, header, options),
             generator: Generator::new(seed),
             plays: Plays::new(alloc),
             report: TurnReport::new(alloc),
@@ -90,193 +74,143 @@ impl Generation {
         }
     }
 
-    /// Takes the plays, and counts what they tell. Behind plays that say so every command is done.
-    fn take<S: Space>(&mut self, space: &mut S) -> Result<(), GenFault>
-        requires form { S.form space.old ≡ form_in self.old.openers.header }
-        requires stands { Stands self.old.openers (S.image space.old) (S.size space.old) }
-        requires spare { (view : S) → S.spare view ≡ without_bound }
-        requires served { AreServed self.old.plays }
-        ensures taken { AreDone self.old.plays → Taken S.tells (place self.old.openers (S.image space.old) (S.size space.old) (S.faults space.old) self.old.counts)
-            (place self.new.openers (S.image space.new) (S.size space.new) (S.faults space.new) self.new.counts) (self.old.plays ∷ []) result }
-        ensures stands { OnOk result (Stands self.new.openers (S.image space.new) (S.size space.new)) }
-        ensures header { self.new.openers.header ≡ self.old.openers.header }
+    /// Takes the plays, tells the logs what they do to the file, and counts what they tell. Behind plays that say so every
+    /// command is done.
+    fn take<D: Disk, L: Logs>(
+        &mut self,
+        world: &mut World,
+        disk: &mut D,
+        logs: &mut L,
+    ) -> Result<(), GenFault>
+        requires fits { WorldFits world.old (seen (D.history disk.old)) (D.size disk.old) }
+        requires playable { ArePlayable self.old.plays }
+        ensures taken { ArePart self.old.plays → Taken D.tells (place world.old (D.history disk.old) (D.size disk.old) (D.faults disk.old) self.old.counts (L.logs logs.old))
+            (place world.new (D.history disk.new) (D.size disk.new) (D.faults disk.new) self.new.counts (L.logs logs.new)) (self.old.plays ∷ []) result }
         ensures generator { self.new.generator ≡ self.old.generator }
-        ensures wrote { Wrote S.Space space.old space.new }
     {
         self.report.clear();
-        self.openers
-            .run(space, self.plays.as_slice(), &mut self.report)?;
+        let played = run(world, disk, self.plays.as_slice(), &mut self.report, logs);
         self.counts.count(&self.report);
-        Ok(())
+        ended(played)
     }
 
     /// Lets the openers join.
-    pub(crate) fn join<S: Space>(&mut self, space: &mut S) -> Result<(), GenFault>
-        requires form { S.form space.old ≡ form_in self.old.openers.header }
-        requires stands { Stands self.old.openers (S.image space.old) (S.size space.old) }
-        requires spare { (view : S) → S.spare view ≡ without_bound }
-        ensures taken { Taken S.tells (place self.old.openers (S.image space.old) (S.size space.old) (S.faults space.old) self.old.counts)
-            (place self.new.openers (S.image space.new) (S.size space.new) (S.faults space.new) self.new.counts) (joins ∷ []) result }
-        ensures joined { OnOk result (length self.new.openers.openers ≡ 3) }
+    fn join<D: Disk, L: Logs>(
+        &mut self,
+        world: &mut World,
+        disk: &mut D,
+        logs: &mut L,
+    ) -> Result<(), GenFault>
+        requires fits { WorldFits world.old (seen (D.history disk.old)) (D.size disk.old) }
+        ensures taken { Taken D.tells (place world.old (D.history disk.old) (D.size disk.old) (D.faults disk.old) self.old.counts (L.logs logs.old))
+            (place world.new (D.history disk.new) (D.size disk.new) (D.faults disk.new) self.new.counts (L.logs logs.new)) (joins ∷ []) result }
+        ensures joined { OnOk result (length world.new.openers.openers ≡ 3) }
         ensures generator { self.new.generator ≡ self.old.generator }
-        ensures wrote { Wrote S.Space space.old space.new }
     {
         self.plays.clear();
         push_joins(&mut self.plays)?;
-        self.take(space)?;
-        if self.openers.joined() != OPENERS {
+        self.take(world, disk, logs)?;
+        if world.joined() != OPENERS {
             return Err(GenFault::Memory);
         }
         Ok(())
     }
 
-    /// Gives the next command to its opener.
-    fn give_next(&mut self) -> Result<(), GenFault>
-        requires few { self.old.generator.index < 2 ^ 32 - 1 }
-        requires stands { (img : List ℕ) × (size : ℕ) × Stands self.old.openers img size }
-        ensures played { (tells : Bool) (img : List ℕ) (size faults seed : ℕ) → Stands self.old.openers img size → IsFrom seed self.old.generator
-            → Played tells (place self.old.openers img size faults self.old.counts) (place self.new.openers img size faults self.new.counts) (gift seed self.old.generator.index ∷ []) result }
-        ensures stands { (img : List ℕ) (size : ℕ) → Stands self.old.openers img size → Stands self.new.openers img size }
-        ensures header { self.new.openers.header ≡ self.old.openers.header }
-        ensures index { self.new.generator.index ≡ self.old.generator.index + 1 }
-        ensures from { (seed : ℕ) → IsFrom seed self.old.generator → IsFrom seed self.new.generator }
-    {
-        let who = self.generator.owner();
-        let command = self.generator.next_command(self.alloc)?;
-        let told = command.copy(self.alloc)?;
-        self.openers.try_assign(who, command, told);
-        Ok(())
-    }
-
-    /// Gives the next commands to their openers, up to this index.
-    fn give_commands(&mut self, end: u32) -> Result<(), GenFault>
-        requires left { self.old.generator.index ≤ end }
-        requires stands { (img : List ℕ) × (size : ℕ) × Stands self.old.openers img size }
-        ensures played { (tells : Bool) (img : List ℕ) (size faults seed : ℕ) → Stands self.old.openers img size → IsFrom seed self.old.generator
-            → Played tells (place self.old.openers img size faults self.old.counts) (place self.new.openers img size faults self.new.counts) (gifts seed self.old.generator.index (end - self.old.generator.index)) result }
-        ensures stands { (img : List ℕ) (size : ℕ) → Stands self.old.openers img size → Stands self.new.openers img size }
-        ensures header { self.new.openers.header ≡ self.old.openers.header }
-        ensures index { OnOk result (self.new.generator.index ≡ end) }
-        ensures from { (seed : ℕ) → IsFrom seed self.old.generator → IsFrom seed self.new.generator }
-    {
-        for _ in self.generator.index()..end {
-            self.give_next()?;
-        }
-        Ok(())
-    }
-
-    /// Lets an opener take a turn of its command, if it has one, and counts it.
-    fn take_turn<S: Space>(&mut self, space: &mut S, who: u32) -> Result<(), GenFault>
-        requires named { 1 ≤ who }
-        requires form { S.form space.old ≡ form_in self.old.openers.header }
-        requires stands { Stands self.old.openers (S.image space.old) (S.size space.old) }
-        requires spare { (view : S) → S.spare view ≡ without_bound }
-        ensures played { Played S.tells (place self.old.openers (S.image space.old) (S.size space.old) (S.faults space.old) self.old.counts)
-            (place self.new.openers (S.image space.new) (S.size space.new) (S.faults space.new) self.new.counts) (Turn who ∷ []) result }
-        ensures generator { self.new.generator ≡ self.old.generator }
-        ensures wrote { Wrote S.Space space.old space.new }
-    {
-        if let Some(turn) = self.openers.try_turn(space, who)? {
-            self.counts.count_turn(&turn);
-        }
-        Ok(())
-    }
-
-    /// Lets each opener take a turn.
-    fn take_round<S: Space>(&mut self, space: &mut S) -> Result<(), GenFault>
-        requires form { S.form space.old ≡ form_in self.old.openers.header }
-        requires stands { Stands self.old.openers (S.image space.old) (S.size space.old) }
-        requires spare { (view : S) → S.spare view ≡ without_bound }
-        ensures played { Played S.tells (place self.old.openers (S.image space.old) (S.size space.old) (S.faults space.old) self.old.counts)
-            (place self.new.openers (S.image space.new) (S.size space.new) (S.faults space.new) self.new.counts) round result }
-        ensures generator { self.new.generator ≡ self.old.generator }
-        ensures wrote { Wrote S.Space space.old space.new }
-    {
-        self.take_turn(space, 1)?;
-        self.take_turn(space, 2)?;
-        self.take_turn(space, 3)
-    }
-
-    /// Takes all rounds of turns of a group.
-    fn take_rounds<S: Space>(&mut self, space: &mut S) -> Result<(), GenFault>
-        requires form { S.form space.old ≡ form_in self.old.openers.header }
-        requires stands { Stands self.old.openers (S.image space.old) (S.size space.old) }
-        requires spare { (view : S) → S.spare view ≡ without_bound }
-        ensures played { Played S.tells (place self.old.openers (S.image space.old) (S.size space.old) (S.faults space.old) self.old.counts)
-            (place self.new.openers (S.image space.new) (S.size space.new) (S.faults space.new) self.new.counts) (rounds 24) result }
-        ensures generator { self.new.generator ≡ self.old.generator }
-        ensures wrote { Wrote S.Space space.old space.new }
-    {
-        for _ in 0..ROUNDS {
-            self.take_round(space)?;
-        }
-        Ok(())
-    }
-
     /// Takes the plays of the next group, of so many commands in all.
-    fn take_group<S: Space>(&mut self, space: &mut S, commands: u32) -> Result<(), GenFault>
+    fn take_group<D: Disk, L: Logs>(
+        &mut self,
+        world: &mut World,
+        disk: &mut D,
+        commands: u32,
+        logs: &mut L,
+    ) -> Result<(), GenFault>
         requires left { self.old.generator.index ≤ commands }
-        requires form { S.form space.old ≡ form_in self.old.openers.header }
-        requires stands { Stands self.old.openers (S.image space.old) (S.size space.old) }
-        requires spare { (view : S) → S.spare view ≡ without_bound }
+        requires fits { WorldFits world.old (seen (D.history disk.old)) (D.size disk.old) }
         ensures taken { (seed group : ℕ) → IsFrom seed self.old.generator → self.old.generator.index ≡ 3 * group
-            → Taken S.tells (place self.old.openers (S.image space.old) (S.size space.old) (S.faults space.old) self.old.counts)
-            (place self.new.openers (S.image space.new) (S.size space.new) (S.faults space.new) self.new.counts) (group_plays commands seed group ∷ []) result }
-        ensures stands { OnOk result (Stands self.new.openers (S.image space.new) (S.size space.new)) }
-        ensures header { self.new.openers.header ≡ self.old.openers.header }
+            → Taken D.tells (place world.old (D.history disk.old) (D.size disk.old) (D.faults disk.old) self.old.counts (L.logs logs.old))
+            (place world.new (D.history disk.new) (D.size disk.new) (D.faults disk.new) self.new.counts (L.logs logs.new)) (group_plays commands seed group ∷ []) result }
         ensures index { OnOk result (self.new.generator.index ≡ min commands (self.old.generator.index + 3)) }
         ensures from { OnOk result ((seed : ℕ) → IsFrom seed self.old.generator → IsFrom seed self.new.generator) }
-        ensures wrote { Wrote S.Space space.old space.new }
     {
-        let next = self.generator.index();
-        let end = next + (commands - next).min(OPENERS);
-        self.give_commands(end)?;
-        self.take_rounds(space)
+        self.plays.clear();
+        push_group(self.alloc, &mut self.generator, commands, &mut self.plays)?;
+        self.take(world, disk, logs)
     }
 
     /// Takes the plays of all groups, of so many commands in all.
-    pub(crate) fn take_groups<S: Space>(
+    fn take_groups<D: Disk, L: Logs>(
         &mut self,
-        space: &mut S,
+        world: &mut World,
+        disk: &mut D,
         commands: u32,
+        logs: &mut L,
     ) -> Result<(), GenFault>
         requires first { self.old.generator.index ≡ 0 }
-        requires form { S.form space.old ≡ form_in self.old.openers.header }
-        requires stands { Stands self.old.openers (S.image space.old) (S.size space.old) }
-        requires spare { (view : S) → S.spare view ≡ without_bound }
+        requires seed { (seed : ℕ) × IsFrom seed self.old.generator }
+        requires fits { WorldFits world.old (seen (D.history disk.old)) (D.size disk.old) }
         ensures taken { (seed : ℕ) → IsFrom seed self.old.generator
-            → Taken S.tells (place self.old.openers (S.image space.old) (S.size space.old) (S.faults space.old) self.old.counts)
-            (place self.new.openers (S.image space.new) (S.size space.new) (S.faults space.new) self.new.counts) (group_list commands seed (groups commands)) result }
-        ensures wrote { Wrote S.Space space.old space.new }
+            → Taken D.tells (place world.old (D.history disk.old) (D.size disk.old) (D.faults disk.old) self.old.counts (L.logs logs.old))
+            (place world.new (D.history disk.new) (D.size disk.new) (D.faults disk.new) self.new.counts (L.logs logs.new)) (group_list commands seed (groups commands)) result }
     {
         for _ in 0..commands.div_ceil(OPENERS) {
-            self.take_group(space, commands)?;
+            self.take_group(world, disk, commands, logs)?;
         }
         Ok(())
     }
 
     /// What is told of so many commands, which were all.
-    pub(crate) fn summary<S: Space>(
+    fn summary<D: Disk>(
         &self,
-        space: &mut S,
+        disk: &mut D,
+        header: &Header,
         commands: u32,
     ) -> Result<Summary, GenFault>
         ensures commands { IfOk result (λ s. s.commands ≡ commands) }
         ensures counts { IfOk result (λ s. s.counts ≡ self.now.counts) }
-        ensures live { IfOk result (λ s. IsTrue S.tells → AcceptWith (S.form space.old) (S.image space.old) [] → s.live ≡ length (order_of (S.form space.old) (S.image space.old))) }
-        ensures length { IfOk result (λ s. s.length ≡ S.size space.old) }
-        ensures looked { Looked S.Space space.old space.new }
-        ensures cause { IsTrue S.tells → AcceptWith (S.form space.old) (S.image space.old) [] → HasCauseOf Faults.Io (S.faults space.old) (S.faults space.new) result }
-        ensures rises { S.faults space.old ≤ S.faults space.new }
-        ensures quiet { UnlessIo result (S.faults space.new ≡ S.faults space.old) }
+        ensures live { IfOk result (λ s. IsTrue D.tells → let f = form_in header.now in let img = seen (D.history disk.old) in AcceptWith f img [] → s.live ≡ length (order_of f img)) }
+        ensures length { IfOk result (λ s. s.length ≡ D.size disk.old) }
+        ensures size { D.size disk.new ≡ D.size disk.old }
+        ensures history { D.history disk.new ≡ D.history disk.old }
+        ensures fault { IfErr result (λ e. e ≢ Faults.Log) }
+        ensures cause { IsTrue D.tells → AcceptWith (form_in header.now) (seen (D.history disk.old)) [] → HasCauseOf Faults.Io (D.faults disk.old) (D.faults disk.new) result }
+        ensures rises { D.faults disk.old ≤ D.faults disk.new }
+        ensures quiet { UnlessIo result (D.faults disk.new ≡ D.faults disk.old) }
     {
-        let live = live_keys(self.alloc, space)?;
-        let length = space.len()?;
+        let live = keys_on_disk(self.alloc, disk, header)?;
+        let length = length_of(disk)?;
         Ok(Summary {
             commands,
             counts: self.counts,
             live,
             length,
         })
+    }
+
+    /// Lets three openers join a world in which nobody has joined, takes all groups, and tells what came of so many commands.
+    pub(crate) fn make<D: Disk, L: Logs>(
+        &mut self,
+        world: &mut World,
+        disk: &mut D,
+        header: &Header,
+        commands: u32,
+        logs: &mut L,
+    ) -> Result<Summary, GenFault>
+        requires header { world.old.openers.header ≡ header.now }
+        requires fits { WorldFits world.old (seen (D.history disk.old)) (D.size disk.old) }
+        requires first { self.old.generator.index ≡ 0 }
+        requires seed { (seed : ℕ) × IsFrom seed self.old.generator }
+        requires counts { self.old.counts ≡ counts_of [] }
+        ensures generated { IsTrue D.tells → (seed : ℕ) (options : Options) (first : State) → IsFrom seed self.old.generator → IsStateOf world.old (D.history disk.old) first
+            → IsFirst (form_at world.old) options (seen (D.history disk.old)) first
+            → GeneratedOver (form_at world.old) options (seen (D.history disk.old)) commands seed (seen (D.history disk.new)) (L.logs logs.old) (L.logs logs.new) result }
+        ensures size { IfOk result (λ s. s.length ≡ D.size disk.new) }
+        ensures cause { IsTrue D.tells → (options : Options) (first : State) → IsStateOf world.old (D.history disk.old) first → IsFirst (form_at world.old) options (seen (D.history disk.old)) first
+            → HasCauseOf Faults.Io (D.faults disk.old) (D.faults disk.new) result }
+        ensures rises { D.faults disk.old ≤ D.faults disk.new }
+        ensures quiet { UnlessIo result (D.faults disk.new ≡ D.faults disk.old) }
+    {
+        self.join(world, disk, logs)?;
+        self.take_groups(world, disk, commands, logs)?;
+        self.summary(disk, header, commands)
     }
 }

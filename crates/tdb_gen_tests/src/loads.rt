@@ -2,12 +2,14 @@
 
 use std::alloc::{AllocError, Global};
 use std::test::Fail;
-use tdb_check::{check, read_front};
+use tdb_check::check;
 use tdb_disk::{Disk, MemDisk};
 use tdb_gen::{Summary, generate};
-use tdb_space::{Direct, Space};
+use tdb_log::Log;
+use tdb_open::Opened;
+use tdb_plays::Options;
+use tdb_space::Direct;
 use tdb_words::{HashKind, Header, Order, header_bytes};
-use tdb_world::Options;
 
 const HEADER: Header = Header {
     order: Order::Little,
@@ -46,17 +48,21 @@ fn new_file(alloc: Global) -> Result<MemDisk, AllocError> {
 
 /// Generates commands on a file, where that is whole.
 fn load<D: Disk>(alloc: Global, disk: &mut D, commands: u32, seed: u32) -> Option<Summary> {
-    let Ok(header) = read_front(disk) else {
-        return None;
-    };
-    let mut space = Direct::new(disk, &header);
-    let Ok(_) = check(alloc, &mut space) else {
-        return None;
-    };
-    if space.len().ok()? > OPTIONS.limit {
+    let mut logs: Vec<Box<dyn Log>> = Vec::new(alloc);
+    let opened = Opened::open(alloc, disk, &mut logs).ok()?;
+    if opened.len > OPTIONS.limit {
         return None;
     }
-    generate(alloc, &mut space, &header, &OPTIONS, commands, seed).ok()
+    generate(
+        alloc,
+        disk,
+        &opened.header,
+        &OPTIONS,
+        commands,
+        seed,
+        &mut logs,
+    )
+    .ok()
 }
 
 /// How many keys a check counts.

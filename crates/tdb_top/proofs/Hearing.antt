@@ -215,7 +215,7 @@ task_unheard (Session limit) name held logs = of (held name)
     of : (o : Option History) → SessionHeard limit o E.NoMemory logs logs
     of None = refl
     of (Some h) = served_halt H.Memory refl (inl refl)
-task_unheard (Generate commands seed) name held logs = refl
+task_unheard (Generate commands seed) name held logs = inl refl
 
 pub ask_unheard : (ask : Option Ask) (held : Held) (logs : List Logged) → AskHeard ask held held E.NoMemory logs logs
 ask_unheard None held logs = refl

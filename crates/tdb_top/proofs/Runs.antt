@@ -895,7 +895,11 @@ module _ (before after status : ℕ) where
   generating_run commands seed output old now NoMemory out counted shown left =
       let ends = memory_exits before after status out in
       nothing_made commands seed output old now left (λ is. memory_apart before after status ends (inl is)) (λ is. memory_apart before after status ends (inr is))
-  generating_run commands seed output old now LogFault out counted shown left = absurd left
+  generating_run commands seed output old now LogFault out counted shown left =
+      let ends = log_exits before after status out in
+      nothing_made commands seed output old now left
+      (λ is. either_not before after status 10 8 0 (λ z. absurd (omega (arith, z))) (λ z. absurd (omega (arith, z))) ends is)
+      (λ is. either_not before after status 10 8 4 (λ z. absurd (omega (arith, z))) (λ z. absurd (omega (arith, z))) ends is)
   generating_run commands seed output old now (Refused refusal) out counted shown left = absurd left
   generating_run commands seed output old now (Missing name) out counted shown left = absurd left
   generating_run commands seed output old now Usage out counted shown left = absurd left

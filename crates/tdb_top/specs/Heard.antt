@@ -22,6 +22,7 @@ use Rattle.tdb_top.specs.declared.ending.Reply.{Reply}
 use Rattle.tdb_top.specs.declared.ending.Reply.TheVariants.{Copied, Verified}
 use Rattle.tdb_top.specs.declared.commands.verify.Unverified.{Unverified}
 use Rattle.tdb_top.specs.declared.commands.verify.Unverified.TheVariants.{Ends, Unprinted}
+use Rattle.tdb_top.specs.Commands.Generate.{GenHeard}
 use Rattle.tdb_top.specs.Commands.Session.{SessionHeard}
 use Rattle.tdb_top.specs.Commands.Turns.{TurnsHeard}
 use Rattle.tdb_top.specs.Commands.Verify.{tells_fault}
@@ -114,7 +115,7 @@ VerifyHeard suffix (file ∷ files) held e old new =
     ⊎ ((mid : List Logged) × CountHeard (held file) (held (copy_name suffix file)) (Replied Verified) old mid × VerifyHeard suffix files held e mid new)
 
 -- What logs heard of a task on the file of this name that ended so, by what was held at each name before and after. The making of a file, of
--- the pairs on the input or for generated commands too, tells them nothing.
+-- the pairs on the input too, tells them nothing.
 abbrev pub TaskHeard : Task → List ℕ → (List ℕ → Option History) → (List ℕ → Option History) → Ending → List Logged → List Logged → Type 0
 TaskHeard (On act) name held now e old new = ActHeard act.limit (held name) (now name) e old new
 TaskHeard (Read look) name held now e old new = LookHeard (held name) e old new
@@ -125,7 +126,7 @@ TaskHeard (Backup more suffix) name held now e old new = BackupHeard (name ∷ m
 TaskHeard (Verify more suffix) name held now e old new = VerifyHeard suffix (name ∷ more) held e old new
 TaskHeard (Turns options) name held now e old new = TurnsHeard options (held name) e old new
 TaskHeard (Session limit) name held now e old new = SessionHeard limit (held name) e old new
-TaskHeard (Generate commands seed) name held now e old new = new ≡ old
+TaskHeard (Generate commands seed) name held now e old new = GenHeard commands seed (now name) e old new
 
 -- and of a run that is asked for this, or for nothing
 abbrev pub AskHeard : Option Ask → (List ℕ → Option History) → (List ℕ → Option History) → Ending → List Logged → List Logged → Type 0

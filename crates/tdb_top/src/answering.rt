@@ -93,7 +93,7 @@ pub(crate) fn answer_ask<F: Files, S: Source, K: Sink, L: Logs>(
         Task::Turns(options) => turns_on_file(alloc, name, options, files, input, output, logs),
         Task::Session { limit } => session_on_file(alloc, name, *limit, files, input, output, logs),
         Task::Generate { commands, seed } => {
-            Ok(generate_file(alloc, name, *commands, *seed, files))
+            Ok(generate_file(alloc, name, *commands, *seed, files, logs))
         }
     }
 }

@@ -7,7 +7,9 @@ use crate::images::{NEW_FILE, file_with};
 use crate::runs::{USAGE, run_words};
 use std::alloc::{AllocError, Global};
 use std::test::Fail;
-use tdb_disk::{Call, MemFiles, MemSink};
+use tdb_disk::{Call, MemFiles, MemSink, MemSource};
+use tdb_log::{Log, MemLog, Notice};
+use tdb_top::{Status, run};
 
 /// The summary of no command.
 const NOTHING: &str =
@@ -171,5 +173,49 @@ fn a_failing_output(rt: HostRuntime) -> Result<(), Fail> {
     assert_eq!(rt; found, 8);
     assert!(rt; printed.is_empty());
     assert_eq!(rt; files.get("f.tdb").map(|left| left.len()), Some(4096));
+    Ok(())
+}
+
+/// How the file of one command grows.
+const GROWTH: Notice = Notice::Grew {
+    from: 696,
+    to: 4096,
+};
+
+/// The status of one command with these logs, what it prints, and how long its file is then.
+fn load_logged(
+    alloc: Global,
+    logs: &mut Vec<Box<dyn Log>>,
+) -> Result<(u8, Vec<u8>, Option<usize>), AllocError> {
+    let mut files = MemFiles::new(alloc);
+    let mut output = MemSink::new(alloc);
+    let mut input = MemSource::new(alloc, b"")?;
+    let mut words = Vec::new(alloc);
+    for word in ["gen", "1", "1", "f.tdb"] {
+        words.push(String::from_str(alloc, word)?)?;
+    }
+    let Status(status) = run(alloc, &words, &mut files, &mut input, &mut output, logs);
+    let len = files.get("f.tdb").map(|left| left.len());
+    Ok((status, output.as_slice().to_vec(alloc)?, len))
+}
+
+// The last log is told the growth of the file alone. Where it doesn't take that there is no file again.
+#[test]
+fn logs_of_a_load(rt: HostRuntime) -> Result<(), Fail> {
+    let alloc = rt.alloc();
+    for (failing, wanted, told) in [
+        (1, (0, ONE_STORE, Some(4096)), Some(GROWTH)),
+        (0, (10, "log fault\n", None), None),
+    ] {
+        let mut log = MemLog::new(alloc);
+        log.fail(failing)?;
+        let mut logs: Vec<Box<dyn Log>> = Vec::new(alloc);
+        logs.push(Box::new(alloc, log)?)?;
+        let (status, printed, len) = load_logged(alloc, &mut logs)?;
+        let text = str::from_utf8(printed.as_slice()).unwrap_or("");
+        assert_eq!(rt; (status, text, len), wanted);
+        let heard = logs.first().map(|log| (log.told(0), log.told(1)));
+        assert_eq!(rt; heard, Some((told, None)));
+    }
     Ok(())
 }

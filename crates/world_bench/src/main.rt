@@ -3,30 +3,34 @@
 #![tactic(auto)]
 
 ghost use Rattle.std.specs.Prelude.{◌≡◌, List, ℕ, false, IfOk, OnOk};
-ghost use Rattle.tdb_space.specs.Form.{form_in};
-ghost use Rattle.tdb_space.specs.Spare.{without_bound};
-ghost use Rattle.tdb_world.specs.Given.{IsServedPlay};
-ghost use Rattle.tdb_world.specs.Worlds.{Stands};
+ghost use Rattle.tdb_disk.specs.History.{seen};
+ghost use Rattle.tdb_whole.specs.Whole.{WorldFits};
+ghost use Rattle.tdb_course.specs.Playable.{IsPlayable};
 
 use anyhow::{Context, bail};
 use std::alloc::{AllocError, Global};
 use std::env;
 use std::time::Instant;
-use tdb_check::{check, read_front};
+use tdb_course::run;
 use tdb_disk::{Disk, Files, MemFiles, Take};
 use tdb_files::DirFiles;
 use tdb_gen::generate;
-use tdb_plays::{Command, Play, TurnReport};
-use tdb_space::{Direct, Space};
+use tdb_log::Log;
+use tdb_open::{NewForm, Opened, create, make};
+use tdb_plays::{Command, Options, Play, TurnReport};
 use tdb_steps::Flag;
-use tdb_words::{Bytes, HashKind, Order, header_bytes};
-use tdb_world::{Openers, Options};
+use tdb_whole::World;
+use tdb_words::{Bytes, HashKind, Order};
 
 /// The file.
 const NAME: &str = "world_bench.tdb";
 
-/// How many chains it has.
-const CHAINS: u32 = 131;
+/// What it is made with.
+const FORM: NewForm = NewForm {
+    size: 131,
+    hash: HashKind::Old,
+    order: Order::Little,
+};
 
 const OPTIONS: Options = Options {
     limit: 4_294_963_200,
@@ -35,19 +39,9 @@ const OPTIONS: Options = Options {
     seqnum: false,
 };
 
-/// Makes an empty file on a disk.
-fn make<D: Disk>(disk: &mut D) -> anyhow::Result<()> {
-    if disk.len()? != 0 {
-        bail!("the file isn't empty");
-    }
-    disk.grow(696)?;
-    disk.write(0, &header_bytes(CHAINS, Order::Little, HashKind::Old))?;
-    Ok(())
-}
-
 /// The play by which the one opener stores a value of 100 bytes at the key of a number.
 fn store(alloc: Global, number: u32) -> Result<Play, AllocError>
-    ensures { IfOk result IsServedPlay }
+    ensures { IfOk result IsPlayable }
 {
     let key = number.wrapping_mul(2_654_435_761).to_le_bytes();
     Ok(Play::Do {
@@ -61,55 +55,64 @@ fn store(alloc: Global, number: u32) -> Result<Play, AllocError>
 }
 
 /// Lets one opener store so many values.
-fn take_stores<S: Space>(
+fn take_stores<D: Disk>(
     alloc: Global,
-    openers: &mut Openers,
-    space: &mut S,
+    world: &mut World,
+    disk: &mut D,
     count: u32,
 ) -> anyhow::Result<()>
-    requires form { S.form space.old ≡ form_in openers.old.header }
-    requires stands { Stands openers.old (S.image space.old) (S.size space.old) }
-    requires spare { (view : S) → S.spare view ≡ without_bound }
+    requires fits { WorldFits world.old (seen (D.history disk.old)) (D.size disk.old) }
 {
     let mut report = TurnReport::new(alloc);
+    let mut logs: Vec<Box<dyn Log>> = Vec::new(alloc);
     for number in 0..count {
         let plays = [store(alloc, number)?];
-        openers.run(space, &plays, &mut report)?;
+        let told = run(world, disk, &plays, &mut report, &mut logs)?;
+        told?;
         report.clear();
     }
     Ok(())
 }
 
-/// Lets one opener join and store so many values in a new file, and tells how long that is then.
-fn store_all<D: Disk>(alloc: Global, disk: &mut D, count: u32) -> anyhow::Result<u64> {
-    let Ok(header) = read_front(disk) else {
-        bail!("no header");
-    };
-    let mut space = Direct::new(disk, &header);
-    if space.len()? > OPTIONS.limit {
-        bail!("the file is too long");
-    }
-    let mut openers = Openers::new(alloc, &header, &OPTIONS);
-    let Ok(1) = openers.join() else {
+/// Lets one opener join a world and store so many values.
+fn join_and_store<D: Disk>(
+    alloc: Global,
+    world: &mut World,
+    disk: &mut D,
+    count: u32,
+) -> anyhow::Result<()>
+    requires fits { WorldFits world.old (seen (D.history disk.old)) (D.size disk.old) }
+{
+    let Ok(1) = world.join() else {
         bail!("nobody joined");
     };
-    take_stores(alloc, &mut openers, &mut space, count)?;
-    Ok(space.len()?)
+    take_stores(alloc, world, disk, count)
 }
 
-/// Does so many generated commands, and tells what came of them.
+/// Lets one opener join and store so many values in a new file on an empty disk, and tells how long that is then.
+fn store_all<D: Disk>(alloc: Global, disk: &mut D, count: u32) -> anyhow::Result<u64> {
+    if disk.len()? != 0 {
+        bail!("the file isn't empty");
+    }
+    let mut world = create(alloc, disk, FORM, &OPTIONS)?;
+    let stored = join_and_store(alloc, &mut world, disk, count);
+    world.end();
+    stored?;
+    Ok(disk.len()?)
+}
+
+/// Does so many generated commands in a new file on an empty disk, and tells what came of them.
 fn generate_all<D: Disk>(alloc: Global, disk: &mut D, count: u32) -> anyhow::Result<Bytes> {
-    let Ok(header) = read_front(disk) else {
-        bail!("no header");
-    };
-    let mut space = Direct::new(disk, &header);
-    let Ok(_) = check(alloc, &mut space) else {
-        bail!("a fault");
-    };
-    if space.len()? > OPTIONS.limit {
+    if disk.len()? != 0 {
+        bail!("the file isn't empty");
+    }
+    make(disk, FORM)?;
+    let mut logs: Vec<Box<dyn Log>> = Vec::new(alloc);
+    let opened = Opened::open(alloc, disk, &mut logs)?;
+    if opened.len > OPTIONS.limit {
         bail!("the file is too long");
     }
-    let summary = generate(alloc, &mut space, &header, &OPTIONS, count, 1)?;
+    let summary = generate(alloc, disk, &opened.header, &OPTIONS, count, 1, &mut logs)?;
     Ok(summary.text(alloc)?)
 }
 
@@ -126,7 +129,6 @@ enum Work {
 impl Work {
     /// Does it over a disk, and tells what came of it.
     fn on<D: Disk>(self, alloc: Global, disk: &mut D) -> anyhow::Result<Bytes> {
-        make(disk)?;
         match self {
             Work::Generated(count) => generate_all(alloc, disk, count),
             Work::Stores(count) => {

@@ -1,5 +1,5 @@
 -- The command that makes a new file, has generated commands done on it, and tells their summary.
-use Rattle.std.specs.Prelude.{◌≡◌, ℕ, IsSome, Option, None, Some, Result, Ok, Err, List, []}
+use Rattle.std.specs.Prelude.{◌≡◌, ◌⊎◌, ℕ, IsSome, Option, None, Some, Result, Ok, Err, List, []}
 use Rattle.std.specs.FinMap.{empty}
 use Rattle.tdb_words.specs.declared.word.Order.TheVariants.{Little}
 use Rattle.tdb_words.specs.declared.hash.HashKind.TheVariants.{Old}
@@ -7,10 +7,13 @@ use Rattle.tdb_disk.specs.History.{History, seen}
 use Rattle.tdb_disk.specs.Stop.{Quiet}
 use Rattle.tdb_law.specs.Beginning.{beginning}
 use Rattle.tdb_law.specs.Lines.{IsLawful}
+use Rattle.tdb_law.specs.World.{State}
+use Rattle.tdb_log.specs.Logs.{Logged}
 use Rattle.tdb_plays.specs.InLaw.{law_lines}
 use Rattle.tdb_world.specs.Openers.{options_of}
 use Rattle.tdb_plays.specs.declared.options.Options.{Options}
-use Rattle.tdb_gen.specs.Generated.{Generated as IsLoad}
+use Rattle.tdb_course.specs.Hearing.{Heard}
+use Rattle.tdb_gen.specs.Generated.{Generated as IsLoad, CameSo}
 use Rattle.tdb_gen.specs.Summary.{summary_text}
 use Rattle.tdb_gen.specs.declared.fault.GenFault.{GenFault}
 use Rattle.tdb_gen.specs.declared.fault.GenFault.TheVariants as F
@@ -39,19 +42,26 @@ pub record IsGenerated (commands seed : ℕ) (s : Summary) (now : History) : Typ
   pub lawful : IsLawful new_form (beginning (options_of gen_options) empty 0) (law_lines generated.lines)
   pub quiet : Quiet now
 
--- how the filling of a new file with them ends, where it does: with the text of their summary
-abbrev pub FilledSo : ℕ → ℕ → History → Result (List ℕ) GenFault → Type 0
-FilledSo commands seed now (Ok text) = (s : Summary) × (text ≡ summary_text s) × IsGenerated commands seed s now
-FilledSo commands seed now (Err F.Io) = Unit {0}
-FilledSo commands seed now (Err F.Memory) = Unit {0}
+-- They broke off so on a new file, and logs heard of the lines of their plays as far as these came.
+abbrev pub HeardBroken : ℕ → ℕ → GenFault → List Logged → List Logged → Type 0
+HeardBroken commands seed fault logs later = (last : State) × CameSo new_form gen_options new_file commands seed fault last logs later
+
+-- How the filling of a new file with them ends, and what logs hear: with the text of their summary, where they heard of all lines; or it
+-- breaks off. Before the plays a call may fail of which they hear nothing.
+abbrev pub FilledSo : ℕ → ℕ → History → List Logged → List Logged → Result (List ℕ) GenFault → Type 0
+FilledSo commands seed now logs later (Ok text) = (s : Summary) × (text ≡ summary_text s) × (g : IsGenerated commands seed s now) × Heard logs g.generated.lines later
+FilledSo commands seed now logs later (Err F.Io) = (later ≡ logs) ⊎ HeardBroken commands seed F.Io logs later
+FilledSo commands seed now logs later (Err F.Memory) = HeardBroken commands seed F.Memory logs later
+FilledSo commands seed now logs later (Err F.Log) = HeardBroken commands seed F.Log logs later
 
 -- the ending where they weren't all done
 abbrev pub of_gen : GenFault → Ending
 of_gen F.Io = DeviceFault
 of_gen F.Memory = NoMemory
+of_gen F.Log = LogFault
 
--- How generated commands on a new file end, but for a failed call or want of memory: all were done, and their summary
--- is told.
+-- How generated commands on a new file end, but for a failed call or log or want of memory: all were done, and their
+-- summary is told.
 pub data GenSo (commands seed : ℕ) (e : Ending) : Type 0 where
   all_done : (s : Summary) (img : List ℕ) → e ≡ Replied (Generated (summary_text s)) → IsLoad new_form gen_options new_file commands seed img s → GenSo commands seed e
 
@@ -66,9 +76,20 @@ GenLeaves commands seed old (Replied reply) now = (s : Summary) × (reply ≡ Ge
 GenLeaves commands seed old (There name) now = now ≡ old
 GenLeaves commands seed old DeviceFault now = IsSome old → now ≡ old
 GenLeaves commands seed old NoMemory now = now ≡ old
-GenLeaves commands seed old LogFault now = ⊥
+GenLeaves commands seed old LogFault now = now ≡ old
 GenLeaves commands seed old (Refused refusal) now = ⊥
 GenLeaves commands seed old (Missing name) now = ⊥
 GenLeaves commands seed old Usage now = ⊥
 GenLeaves commands seed old InputFault now = ⊥
 GenLeaves commands seed old (Malformed at) now = ⊥
+
+-- What logs heard of them, by how they end and what is held at the name of the file then: of all lines, where all were done and the summary
+-- counts these; where they broke off, of the lines so far, up to the one whose notice a log failed to take where that is the ending; and else
+-- nothing.
+abbrev pub GenHeard : ℕ → ℕ → Option History → Ending → List Logged → List Logged → Type 0
+GenHeard commands seed now (Replied reply) logs later =
+    (s : Summary) × (h : History) × (reply ≡ Generated (summary_text s)) × (now ≡ Some h) × (g : IsGenerated commands seed s h) × Heard logs g.generated.lines later
+GenHeard commands seed now DeviceFault logs later = (later ≡ logs) ⊎ HeardBroken commands seed F.Io logs later
+GenHeard commands seed now NoMemory logs later = (later ≡ logs) ⊎ HeardBroken commands seed F.Memory logs later
+GenHeard commands seed now LogFault logs later = HeardBroken commands seed F.Log logs later
+GenHeard commands seed now e logs later = later ≡ logs

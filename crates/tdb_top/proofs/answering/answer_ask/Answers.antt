@@ -7,6 +7,7 @@ use Rattle.tdb_top.specs.Reads.{AskEnds, GenCause}
 use Rattle.tdb_top.specs.Left.{TaskLeaves}
 use Rattle.tdb_top.specs.Commands.Backup.{BackupCause}
 use Rattle.tdb_ask.specs.declared.ask.Task.TheVariants.{Verify}
+use Rattle.tdb_top.specs.Commands.Generate.{GenHeard}
 use Rattle.tdb_top.specs.Commands.Verify.{VerifyText, VerifyCause}
 use Rattle.tdb_top.specs.Looks.{ending_of, Began}
 use Rattle.tdb_top.specs.Printed.{TaskText, task_tells}
@@ -97,3 +98,14 @@ returns-in-Verify-clause-told g c told =
     let later = g.L.Logs.logs c.verify.new.logs in
     subst (λ t. TaskHeard t (string_bytes c.args.ask.now.file) held now e logs later) (sym c.in-Verify.is)
     (subst (λ (q : List ℕ × (List ℕ × List (List ℕ))). VerifyHeard q.0 (q.1.0 ∷ q.1.1) held e logs later) (λ j. (c.as_str-in-Verify.ensures j, (c.as_str-name.ensures.value j, c.as_slice-in-Verify.ensures j))) (c.verify.ensures.heard told))
+
+-- and of generated commands
+pub returns-in-Generate-clause-told : goal.returns-in-Generate-clause-told
+returns-in-Generate-clause-told g c told =
+    let held = g.F.Files.held c.args.files.now in
+    let now = g.F.Files.held c.generate_file.new.files in
+    let e = c.generate_file.result in
+    let logs = g.L.Logs.logs c.args.logs.now in
+    let later = g.L.Logs.logs c.generate_file.new.logs in
+    subst (λ t. TaskHeard t (string_bytes c.args.ask.now.file) held now e logs later) (sym c.in-Generate.is)
+    (subst (λ n. GenHeard c.in-Generate.commands c.in-Generate.seed (now n) e logs later) c.as_str-name.ensures.value (c.generate_file.ensures.told told))

@@ -8,7 +8,7 @@ use Rattle.tdb_top.specs.Ending.{task_failed, CountedIf}
 use Rattle.tdb_top.proofs.Acting.{rose_earlier}
 use Rattle.tdb_top.proofs.Held.{same_or_other}
 use Rattle.tdb_top.proofs.Restoring.{none_held, untaken_new}
-use Rattle.tdb_top.proofs.Generating.{done_cause, broken_cause, done_left, broken_left, failed_left, untaken_left, broken_asked, broken_unread, broken_counted, given_counted}
+use Rattle.tdb_top.proofs.Generating.{done_cause, broken_cause, done_left, broken_left, failed_left, untaken_left, done_heard, broken_heard, kept_heard, untaken_heard, broken_asked, broken_unread, broken_counted, given_counted}
 use Rattle.tdb_top.proofs.commands.generate.generate_file.Goals as goal
 use Rattle.tdb_top.proofs.commands.generate.generate_file.Goals.{After-give}
 
@@ -39,13 +39,22 @@ returns-in-Err-clause-left g c told =
 pub returns-in-Ok-filled-clause-cause : goal.returns-in-Ok-filled-clause-cause
 returns-in-Ok-filled-clause-cause g c told =
     let a = (goal.at.returns-in-Ok-filled-clause-cause g c).After-give in
-    done_cause c.args.commands c.args.seed c.args.name.now (g.F.Files.held c.args.files.now c.args.name.now) _ _ (fresh g a told) c.in-Ok-filled.text (g.F.D.Disk.history c.fill-filled.new.disk) (c.in-Ok-filled.ensures.generated told)
+    done_cause c.args.commands c.args.seed c.args.name.now (g.F.Files.held c.args.files.now c.args.name.now) _ _ (fresh g a told) c.in-Ok-filled.text (g.F.D.Disk.history c.fill-filled.new.disk) _ _ (c.in-Ok-filled.ensures.generated told)
 
 pub returns-in-Ok-filled-clause-left : goal.returns-in-Ok-filled-clause-left
 returns-in-Ok-filled-clause-left g c told =
     let a = (goal.at.returns-in-Ok-filled-clause-left g c).After-give in
-    done_left c.args.commands c.args.seed (g.F.Files.held c.args.files.now c.args.name.now) (g.F.Files.held c.give.new.self c.args.name.now) c.in-Ok-filled.text (g.F.D.Disk.history c.fill-filled.new.disk)
+    done_left c.args.commands c.args.seed (g.F.Files.held c.args.files.now c.args.name.now) (g.F.Files.held c.give.new.self c.args.name.now) c.in-Ok-filled.text (g.F.D.Disk.history c.fill-filled.new.disk) _ _
     (fresh g a told) (c.give.ensures.held told) (c.in-Ok-filled.ensures.generated told)
+
+pub returns-in-Err-clause-told : goal.returns-in-Err-clause-told
+returns-in-Err-clause-told g c told =
+    untaken_heard c.args.commands c.args.seed (g.L.Logs.logs c.args.logs.now) (g.L.Logs.logs c.args.logs.now) c.args.name.now (g.F.Files.held c.take.new.self c.args.name.now) c.in-Err.refusal c.untaken.result
+    refl (λ is. c.in-Err.ensures.missing_how (ap Err is) refl) c.untaken.ensures
+
+pub returns-in-Ok-filled-clause-told : goal.returns-in-Ok-filled-clause-told
+returns-in-Ok-filled-clause-told g c told =
+    done_heard c.args.commands c.args.seed _ _ c.in-Ok-filled.text (g.F.D.Disk.history c.fill-filled.new.disk) (g.F.Files.held c.give.new.self c.args.name.now) (c.give.ensures.held told) (c.in-Ok-filled.ensures.generated told)
 
 -- its disk failed
 pub returns-in-Err-Io-clause-cause : goal.returns-in-Err-Io-clause-cause
@@ -74,14 +83,14 @@ returns-in-Ok-remove g c =
     (broken_counted g.F.D.Disk.tells start last r e is c.in-Err-filled.ensures.rises (λ told. (c.in-Err-filled.ensures.cause told).failed) c.in-Err-filled.ensures.quiet)
     c.give.ensures.sound c.give.ensures.faulty c.give.ensures.faults) in
     record {
-      cause = λ told. broken_cause c.args.commands c.args.seed c.args.name.now (g.F.Files.held c.args.files.now c.args.name.now) before after (fresh g a told) r e (g.F.D.Disk.history c.fill-filled.new.disk) is
-          (c.in-Err-filled.ensures.generated told) (λ io. counted.failed (is ∙ ap of_gen io) told);
+      cause = λ told. broken_cause c.args.commands c.args.seed c.args.name.now (g.F.Files.held c.args.files.now c.args.name.now) before after r e is (λ io. counted.failed (is ∙ ap of_gen io) told);
       left = λ told. broken_left c.args.commands c.args.seed (g.F.Files.held c.args.files.now c.args.name.now) (g.F.Files.held c.remove.new.self c.args.name.now) r e (fresh g a told) (c.in-Ok-remove.ensures.gone told) is;
       others = λ other apart. c.remove.ensures.others other apart ∙ c.give.ensures.held_others other apart ∙ c.in-Ok.ensures.held_others other apart;
       given_back = λ other. c.remove.ensures.taken other ∙ back g a other;
       counted = counted;
       asked = broken_asked r e is;
       unread = broken_unread r e is;
+      told = λ told. broken_heard c.args.commands c.args.seed _ _ r e (g.F.D.Disk.history c.fill-filled.new.disk) (g.F.Files.held c.remove.new.self c.args.name.now) is (c.in-Err-filled.ensures.generated told);
     }
 
 -- it couldn't be removed
@@ -101,4 +110,5 @@ returns-in-Err-remove g c =
       counted = record { never_falls = omega (arith, later, c.in-Err-remove.ensures.cause.never_falls); failed = λ is told. rose; sound = λ other. absurd (other refl) };
       asked = λ is. cc;
       unread = refl;
+      told = λ told. kept_heard c.args.commands c.args.seed _ _ c.in-Err-filled.fault (g.F.D.Disk.history c.fill-filled.new.disk) (g.F.Files.held c.remove.new.self c.args.name.now) (c.in-Err-filled.ensures.generated told);
     }

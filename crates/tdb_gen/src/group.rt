@@ -1,0 +1,100 @@
+// The plays of the joins and of a group of commands.
+
+ghost use Rattle.std.specs.Prelude.{◌≡◌, ◌<◌, ◌≤◌, ◌+◌, ◌-◌, ◌*◌, ◌^◌, ◌++◌, ℕ, min, IfOk, OnOk};
+ghost use Rattle.tdb_course.specs.Playable.{IsPlayable, ArePlayable};
+ghost use Rattle.tdb_gen.specs.Numbers.{IsFrom};
+ghost use Rattle.tdb_gen.specs.Plays.{joins, gift, gifts, round, rounds, group_plays};
+
+use crate::generator::{Generator, OPENERS};
+use std::alloc::{AllocError, Global};
+use tdb_plays::{Play, Plays};
+
+/// How many rounds of turns a group has.
+const ROUNDS: u32 = 24;
+
+/// Puts the joins of the openers at the end.
+pub(crate) fn push_joins(plays: &mut Plays) -> Result<(), AllocError>
+    ensures joins { OnOk result (plays.new ≡ plays.old ++ joins) }
+    ensures playable { OnOk result (ArePlayable plays.old → ArePlayable plays.new) }
+{
+    plays.push(Play::Join)?;
+    plays.push(Play::Join)?;
+    plays.push(Play::Join)
+}
+
+/// The play that gives the next command to its opener.
+fn next_gift(alloc: Global, generator: &mut Generator) -> Result<Play, AllocError>
+    requires { generator.old.index < 2 ^ 32 - 1 }
+    ensures index { generator.new.index ≡ generator.old.index + 1 }
+    ensures from { (seed : ℕ) → IsFrom seed generator.old → IsFrom seed generator.new }
+    ensures gift { IfOk result (λ play. (seed : ℕ) → IsFrom seed generator.old → play ≡ gift seed generator.old.index) }
+    ensures playable { IfOk result IsPlayable }
+{
+    let who = generator.owner();
+    let command = generator.next_command(alloc)?;
+    Ok(Play::Give { who, command })
+}
+
+/// Puts the plays at the end that give the next commands, up to this index.
+fn push_gifts(
+    alloc: Global,
+    generator: &mut Generator,
+    end: u32,
+    plays: &mut Plays,
+) -> Result<(), AllocError>
+    requires { generator.old.index ≤ end }
+    ensures gifts { OnOk result ((seed : ℕ) → IsFrom seed generator.old → plays.new ≡ plays.old ++ gifts seed generator.old.index (end - generator.old.index)) }
+    ensures index { OnOk result (generator.new.index ≡ end) }
+    ensures from { OnOk result ((seed : ℕ) → IsFrom seed generator.old → IsFrom seed generator.new) }
+    ensures playable { OnOk result (ArePlayable plays.old → ArePlayable plays.new) }
+{
+    for _ in generator.index()..end {
+        let play = next_gift(alloc, generator)?;
+        plays.push(play)?;
+    }
+    Ok(())
+}
+
+/// Puts a turn of each opener at the end.
+fn push_round(plays: &mut Plays) -> Result<(), AllocError>
+    ensures round { OnOk result (plays.new ≡ plays.old ++ round) }
+    ensures playable { OnOk result (ArePlayable plays.old → ArePlayable plays.new) }
+{
+    plays.push(Play::Turn { who: 1 })?;
+    plays.push(Play::Turn { who: 2 })?;
+    plays.push(Play::Turn { who: 3 })
+}
+
+/// Puts rounds of turns at the end.
+fn push_rounds(plays: &mut Plays) -> Result<(), AllocError>
+    ensures rounds { OnOk result (plays.new ≡ plays.old ++ rounds 24) }
+    ensures playable { OnOk result (ArePlayable plays.old → ArePlayable plays.new) }
+{
+    for _ in 0..ROUNDS {
+        push_round(plays)?;
+    }
+    Ok(())
+}
+
+/// Puts the plays of the next group at the end, of so many commands in all.
+pub(crate) fn push_group(
+    alloc: Global,
+    generator: &mut Generator,
+    commands: u32,
+    plays: &mut Plays,
+) -> Result<(), AllocError>
+    requires { generator.old.index ≤ commands }
+    ensures group { OnOk result ((seed group : ℕ) → IsFrom seed generator.old → generator.old.index ≡ 3 * group → plays.new ≡ plays.old ++ group_plays commands seed group) }
+    ensures index { OnOk result (generator.new.index ≡ min commands (generator.old.index + 3)) }
+    ensures from { OnOk result ((seed : ℕ) → IsFrom seed generator.old → IsFrom seed generator.new) }
+    ensures playable { OnOk result (ArePlayable plays.old → ArePlayable plays.new) }
+{
+    let left = commands - generator.index();
+    push_gifts(
+        alloc,
+        generator,
+        generator.index() + left.min(OPENERS),
+        plays,
+    )?;
+    push_rounds(plays)
+}
