@@ -16,7 +16,7 @@ ghost use Rattle.tdb_holder.specs.Stages.{Known, IsFit, IsSide, KnowsFile, MayBe
 ghost use Rattle.tdb_plays.specs.declared.options.Options.{Options};
 ghost use Rattle.tdb_space.specs.Form.{Form};
 ghost use Rattle.tdb_words.specs.declared.header.Header.{Header};
-ghost use Rattle.tdb_world.specs.declared.starting.OpenerStanding.TheVariants as OpenerStanding;
+ghost use Rattle.tdb_world.specs.declared.standings.OpenerStanding.TheVariants as OpenerStanding;
 
 use crate::world::World;
 use std::alloc::AllocError;

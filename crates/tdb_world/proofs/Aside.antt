@@ -84,10 +84,6 @@ module _ (ps qs : List Piece) (who : ℕ) (kind : Kind) (before : (b : ℕ) → 
     | inl same ↦ let none = before b (wants_off Read b same.0) in omega (arith, same.1, none)
   ]
 
--- what others hold where that of one changes
-pub others_still : (ps qs : List Piece) (owner start end : ℕ) (now : Option Kind) → ChangesRange ps qs owner start end now → (o b : ℕ) → o ≢ owner → table_of qs o b ≡ table_of ps o b
-others_still ps qs owner start end now C o b ne = ap strength (C.others o b ne)
-
 zero_of : (n : ℕ) → nat_lt 0 n ≡ false → n ≡ 0
 zero_of n e = grind (arith, nat_tests)
 

@@ -1,5 +1,5 @@
 -- Commands on a transaction of an opener that has none: but for a Start they are refused.
-use Rattle.std.proofs.Common.{◌≡◌, Option, Some, None, refl, sym, ◌∙◌, ap, subst}
+use Rattle.std.proofs.Common.{◌≡◌, Option, Some, None, refl, sym, ◌∙◌, ap}
 use Rattle.std.specs.Option.{option_map}
 use Rattle.tdb_space.specs.Form.{Form}
 use Rattle.tdb_locks.specs.declared.turn.Reply.{Reply}
@@ -40,7 +40,3 @@ served_granted f x Given.Commit out granted begun = not_granted _ NoneOpen (comm
 served_granted f x Given.Prepare out granted begun = not_granted _ NoneOpen (prepare_refused f x out) granted
 served_granted f x Given.Cancel out granted begun = not_granted _ NoneOpen (cancel_refused f x out) granted
 served_granted f x _ out granted begun = tt
-
--- and one that needs none doesn't begin one
-pub served_begins_none : (f : Form) (x : Own) (c : Command) → IsServed c → IsBeginning f x c → ⊥
-served_begins_none f x c served B = subst IsServed B.start served

@@ -1,7 +1,6 @@
 -- An opener after a count is raised or lowered, or all records are locked otherwise, in the law's words.
-use Rattle.std.proofs.Common.{◌≡◌, ℕ, ◌+◌, ◌*◌, ◌-◌, ◌^◌, ◌<◌, ◌≤◌, Bool, true, false, Option, nat_le, refl, sym, ◌∙◌, ap, inl, inr, arith}
+use Rattle.std.proofs.Common.{◌≡◌, ℕ, ◌+◌, ◌*◌, ◌-◌, ◌^◌, ◌<◌, ◌≤◌, Bool, true, false, Option, nat_le, refl, arith}
 use Rattle.std.specs.Prelude.{if◌then◌else◌}
-use Rattle.std.proofs.lemmas.Bool.{cases_eq}
 use Rattle.std.proofs.lemmas.Bool.Decides.{nat_tests}
 use Rattle.std.specs.FinMap.{insert, remove}
 use Rattle.tdb_locks.specs.HeldLocks.{HeldLocks, AreCounts, Raises, Lowers, SetsAll, count_of}
@@ -46,16 +45,6 @@ module _ (options : Options) (live : Bool) (old new : HeldLocks) (rest : AtRest)
 
   pub own_same : ((chain : ℕ) → count_of new chain ≡ count_of old chain) → new.all ≡ old.all → y ≡ x
   own_same alike same = with_counts x.counts (counts_same old.chains new.chains counts counts_after alike) same
-
-  -- raised and lowered again
-  pub own_restored : (chain : ℕ) (mid : HeldLocks) → Raises old mid chain → Lowers mid new chain → count_of old chain < 2 ^ 32 - 1 → y ≡ x
-  own_restored chain mid R L room = own_same at (L.all ∙ R.all)
-    where
-      at : (c : ℕ) → count_of new c ≡ count_of old c
-      at c = elim (cases_eq c chain) [
-        | inl same ↦ ap (count_of new) same ∙ (let r = R.raised in let l = L.lowered in omega (arith, r, l, room)) ∙ ap (count_of old) (sym same)
-        | inr differs ↦ L.others c differs ∙ R.others c differs
-      ]
 
 -- all records are held otherwise
 pub own_set : (options : Options) (live : Bool) (old new : HeldLocks) (rest : AtRest) (all : Option (Kind × ℕ)) → SetsAll old new all → own_with options live new rest ≡ record (own_with options live old rest) { all = all_of all }

@@ -1,5 +1,5 @@
 -- The turns of a check, in the words of plain commands.
-use Rattle.std.proofs.Common.{◌≡◌, ℕ, ◌+◌, ◌<◌, ◌≤◌, ◌⊎◌, max, List, Bool, true, false, Some, refl, sym, ◌∙◌, ap, subst, inl, inr, arith, zero-le, le_refl}
+use Rattle.std.proofs.Common.{◌≡◌, ℕ, ◌≤◌, max, List, Bool, true, false, Some, refl, sym, ◌∙◌, ap, subst, arith, zero-le, le_refl}
 use Rattle.std.specs.Prelude.{if◌then◌else◌}
 use Rattle.std.specs.FinMap.{len}
 use Rattle.tdb_space.specs.Form.{Form}
@@ -11,18 +11,14 @@ use Rattle.tdb_law.specs.Commands as Law
 use Rattle.tdb_law.specs.Commands.MapCommand.{Check}
 use Rattle.tdb_law.specs.Openers.{Map}
 use Rattle.tdb_law.specs.Held.{locked, locked_next}
-use Rattle.tdb_steps.specs.LockRows.{start_of, end_of, is_covered, strength_of, locks_in, AreLetGo}
+use Rattle.tdb_steps.specs.LockRows.{start_of, end_of, is_covered, strength_of, locks_in}
 use Rattle.tdb_steps.specs.Holdings.{table_of, HoldsBefore, KeptBeside, LocksTurned}
 use Rattle.tdb_steps.specs.PlainCommands.{turn_of, reply_of, IsMapOf}
-use Rattle.tdb_steps.specs.Machines.{MapRow, MapTurned}
+use Rattle.tdb_steps.specs.Machines.{MapTurned}
 use Rattle.tdb_steps.specs.Machines.MapTurned.{map_waits, map_goes_on, map_answers, map_starves}
 use Rattle.tdb_steps.specs.declared.rows.LockRow.{LockRow}
 use Rattle.tdb_steps.proofs.Holdings.{want, lock_free, lock_blocked, lock_holds, let_go_holds, let_go_others, others_changed}
-use Rattle.tdb_steps.proofs.Rowed.{act_steps, act_ends}
-use Rattle.tdb_world.specs.declared.job.Checking.{Checking}
-use Rattle.tdb_world.specs.declared.job.Checking.TheVariants.{Begun, Records, FreeList}
-use Rattle.tdb_world.specs.Openers.{CheckAfter}
-use Rattle.tdb_world.specs.Checked.{all_lock, free_lock, check_locks, CheckLocks, CheckLeaves, MovesOn}
+use Rattle.tdb_world.specs.Checked.{all_lock, free_lock, check_locks, CheckLocks}
 
 small : (t : Bool) → (if t then 1 else 0) ≤ 1
 small true = le_refl 1
@@ -47,10 +43,6 @@ next_all n b is = subst (λ x. locked_next (locks_in check_locks) x b ≡ want a
 
 next_free : (n b : ℕ) → n ≡ 1 → locked_next (locks_in check_locks) n b ≡ want free_lock b
 next_free n b is = subst (λ x. locked_next (locks_in check_locks) x b ≡ want free_lock b) (sym is) (none_max (want free_lock b))
-
-next_none : (n b : ℕ) → (n ≡ 2) ⊎ (n ≡ 3) → locked_next (locks_in check_locks) n b ≡ 0
-next_none n b (inl is) = subst (λ x. locked_next (locks_in check_locks) x b ≡ 0) (sym is) refl
-next_none n b (inr is) = subst (λ x. locked_next (locks_in check_locks) x b ≡ 0) (sym is) refl
 
 module _ (held : HeldLocks) (kept : ℕ → ℕ) (owner n : ℕ) (ps qs : List Piece) (H : HoldsBefore held kept owner n ps check_locks) where
   -- a turn that takes a lock
@@ -77,13 +69,6 @@ module _ (held : HeldLocks) (kept : ℕ → ℕ) (owner n : ℕ) (ps qs : List P
   pub free_table : n ≡ 1 → (turn : Turn) → CheckLocks held owner ps qs free_lock turn → LocksTurned (locks_in check_locks) kept owner n ps qs (turn_of turn)
   free_table is turn T = row_table free_lock refl H.second (λ b. next_free n b is) turn T
 
-  -- the count, and the end
-  pub count_table : (n ≡ 2) ⊎ (n ≡ 3) → qs ≡ ps → LocksTurned (locks_in check_locks) kept owner n ps qs Law.Turn.Step
-  count_table is same = act_steps held kept owner n ps qs check_locks H same (λ b. next_none n b is)
-
-  pub end_table : (n ≡ 2) ⊎ (n ≡ 3) → (r : Law.Reply) → AreLetGo held owner ps qs check_locks → LocksTurned (locks_in check_locks) kept owner n ps qs (Law.Turn.Ends r)
-  end_table is r G = act_ends held kept owner n ps qs check_locks H r G (λ b. next_none n b is)
-
 -- the turns of the first two locks
 module _ (f : Form) (img : List ℕ) (m : Map) (is : IsMapOf f img m) (n : ℕ) where
   pub lock_map : (held : HeldLocks) (owner : ℕ) (ps qs : List Piece) (r : LockRow) (turn : Turn) → CheckLocks held owner ps qs r turn → MapTurned f img Check n m (turn_of turn)
@@ -91,26 +76,5 @@ module _ (f : Form) (img : List ℕ) (m : Map) (is : IsMapOf f img m) (n : ℕ) 
   lock_map held owner ps qs r (Blocked other byte) T = map_waits other byte refl refl is
   lock_map held owner ps qs r (Done reply) T = map_starves (ap (λ q. Law.Turn.Ends (reply_of q)) T.0) refl is
 
-  pub count_map : MapTurned f img Check n m Law.Turn.Step
-  count_map = map_goes_on refl refl is
-
-  pub starve_map : MapTurned f img Check n m (Law.Turn.Ends Law.Reply.Memory)
-  starve_map = map_starves refl refl is
-
   pub number_map : (keys : ℕ) → 1 ≤ n → keys ≡ len m → MapTurned f img Check n m (Law.Turn.Ends (Law.Reply.Number keys))
   number_map keys some e = map_answers (Law.Reply.Number keys) refl some refl (ap Law.Reply.Number e) is
-
-pub lock_row : (held : HeldLocks) (owner n : ℕ) (ps qs : List Piece) (r : LockRow) (turn : Turn) → n < 3 → CheckLocks held owner ps qs r turn → MapRow Check n (turn_of turn)
-lock_row held owner n ps qs r Step few T = few
-lock_row held owner n ps qs r (Blocked other byte) few T = tt
-lock_row held owner n ps qs r (Done reply) few T = inr (ap reply_of T.0, omega (arith, few))
-
-pub all_leaves : (held : HeldLocks) (owner : ℕ) (ps qs : List Piece) (r : LockRow) (new : Checking) (turn : Turn) → CheckLocks held owner ps qs r turn → MovesOn Begun Records new turn → CheckLeaves Begun new turn
-all_leaves held owner ps qs r new Step T e = λ n is. (omega (arith, is), subst (λ c. CheckAfter c (n + 1)) (sym e) (omega (arith, is)))
-all_leaves held owner ps qs r new (Blocked other byte) T e = e
-all_leaves held owner ps qs r new (Done reply) T e = inl T.0
-
-pub free_leaves : (held : HeldLocks) (owner : ℕ) (ps qs : List Piece) (r : LockRow) (new : Checking) (turn : Turn) → CheckLocks held owner ps qs r turn → MovesOn Records FreeList new turn → CheckLeaves Records new turn
-free_leaves held owner ps qs r new Step T e = λ n is. (omega (arith, is), subst (λ c. CheckAfter c (n + 1)) (sym e) (omega (arith, is)))
-free_leaves held owner ps qs r new (Blocked other byte) T e = e
-free_leaves held owner ps qs r new (Done reply) T e = inl T.0

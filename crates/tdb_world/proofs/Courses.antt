@@ -1,19 +1,18 @@
 -- Turns and plays one after the other.
 use Rattle.std.proofs.Common.{◌≡◌, ℕ, zero, suc, ◌+◌, ◌-◌, ◌<◌, ◌≤◌, List, [], ◌∷◌, ◌++◌, Bool, true, false, Some, Option, refl, sym, ◌∙◌, ap, subst, inl, inr, arith, append_assoc, append-nil, unwrap_or}
 use Rattle.tdb_space.specs.Form.{Form}
-use Rattle.tdb_law.specs.Commands.{Command, Turn}
+use Rattle.tdb_law.specs.Commands.{Turn}
 use Rattle.tdb_law.specs.Commands.Turn.{Step, Blocked, Ends}
 use Rattle.tdb_law.specs.Openers.{Task}
 use Rattle.tdb_law.specs.World.{State}
-use Rattle.tdb_law.specs.Events.{Given}
 use Rattle.tdb_law.specs.Lines.{Line}
 use Rattle.tdb_law.specs.Plays.{Play, Clears, Advances, Goes, Gives, Course, most_turns}
-use Rattle.tdb_law.specs.Plays.Play.{TakeTurn, Go, Do}
+use Rattle.tdb_law.specs.Plays.Play.{TakeTurn}
 use Rattle.tdb_law.specs.Plays.Clears.{clears_nothing, clears_gate}
-use Rattle.tdb_law.specs.Plays.Gives.{gives_turn, gives_turns, gives_all}
+use Rattle.tdb_law.specs.Plays.Gives.{gives_turn}
 use Rattle.tdb_law.proofs.Joining.{commands_end}
-use Rattle.tdb_world.specs.Played.{Steps, StepsThenClears, FirstBegun, ComesTo, Nothing, IsLast, TakesOne, TakesLast, GoesSome, GoesLast, PlaysLast}
-use Rattle.tdb_world.specs.Played.Begun.{begun_not, begun_turns, begun_command}
+use Rattle.tdb_world.specs.Played.{Steps, StepsThenClears, FirstBegun, ComesTo, Nothing, IsLast, TakesOne, TakesLast, GoesSome, PlaysLast}
+use Rattle.tdb_world.specs.Played.Begun.{begun_not}
 
 -- a turn that isn't a step ends turns that may be this many
 last_goes : (f : Form) (k : ℕ) (old new : State) (who : ℕ) (turn : Turn) (lines : List Line) → IsLast turn → Advances f old who turn lines new → Goes f (suc k) old who lines new
@@ -98,21 +97,6 @@ module _ (f : Form) (old : State) where
   pub turn_last : (who : ℕ) (lines : List Line) (new : State) → TakesLast f old who lines new → PlaysLast f old (TakeTurn who) lines new
   turn_last who lines new (inl none) = inl (begun_not none.0 none.1)
   turn_last who lines new (inr one) = inr (turn_gives who one.0 lines new one.1)
-
-  pub go_last : (who : ℕ) (lines : List Line) (new : State) → GoesLast f old who lines new → PlaysLast f old (Go who) lines new
-  go_last who lines new (inl some) = inl (begun_turns who some.0 refl (steps_only f some.0 old new who lines some.1))
-  go_last who lines new (inr all) = inr (gives_turns who refl all)
-
-  pub do_last : (who : ℕ) (c : Command) (mid : State) → Given old who c mid → (lines : List Line) (new : State) → GoesLast f mid who lines new → PlaysLast f old (Do who c) lines new
-  do_last who c mid G lines new (inl some) = inl (begun_command who some.0 c mid refl G (steps_only f some.0 mid new who lines some.1))
-  do_last who c mid G lines new (inr all) = inr (gives_all who c mid refl G all)
-
--- the last of some turns
-pub steps_then : (f : Form) (n : ℕ) (old mid new : State) (who : ℕ) (front rest : List Line) → n < 9 → Steps f n old who front mid → TakesLast f mid who rest new → GoesLast f old who (front ++ rest) new
-steps_then f n old mid new who front rest low S (inl none) =
-    inl (n, subst (λ ls. Steps f n old who ls new) (sym (ap (λ ls. front ++ ls) none.0 ∙ append-nil front)) (subst (Steps f n old who front) (sym none.1) S))
-steps_then f n old mid new who front rest low S (inr (true, T)) = inl (n + 1, steps_step f n old mid new who front rest S T)
-steps_then f n old mid new who front rest low S (inr (false, T)) = inr (steps_last f n old mid new who front rest low S T)
 
 pub steps_nothing : (f : Form) (n : ℕ) (old mid new : State) (who : ℕ) (front rest : List Line) → Steps f n old who front mid → Nothing mid rest new → GoesSome f old who (front ++ rest) new
 steps_nothing f n old mid new who front rest S none =

@@ -151,18 +151,6 @@ module _ (w v : World) (who : ℕ) (x : Opener) (F : CanDie w who x) (D : HasDie
       (subst (λ o. Dies (form_in w.header) (state_in w img) o (state_in (with_openers w) img)) (sym (by_number who D.place D.counted))
       (death_dies (form_in w.header) w.options w.openers v.openers w.table v.table img D.place x there F.may_die D.put lost kept F.live))
 
--- in the law's words it is the opener that may die
-pub can_die_in : (w : World) (img : List ℕ) (who : ℕ) (x : Opener) → CanDie w who x → MayDieIn (state_in w img) (law_opener who)
-can_die_in w img who x F =
-    let there : slice_get w.openers (law_opener who) ≡ Some x = ap (slice_get w.openers) (by_number who F.number.place F.number.counted) ∙ F.number.there in
-    record { live = ap (λ z. (own_at w.options z).live) there ∙ F.live; may_die = subst MayDie (sym (ap task_at there)) F.may_die }
-
 -- who isn't there may not
 pub none_may : (w : World) (img : List ℕ) (who : ℕ) → slice_get w.openers (law_opener who) ≡ None → MayDieIn (state_in w img) (law_opener who) → ⊥
 none_may w img who none M = never_true (ap (λ z. (own_at w.options z).live) (sym none) ∙ M.live)
-
--- nor is who is there but isn't live, or has another command
-pub there_may : (w : World) (img : List ℕ) (who : ℕ) (x : Opener) → IsNumber w who x → MayDieIn (state_in w img) (law_opener who) → (x.live ≡ true) × MayDie (law_task x.task)
-there_may w img who x N M =
-    let there : slice_get w.openers (law_opener who) ≡ Some x = ap (slice_get w.openers) (by_number who N.place N.counted) ∙ N.there in
-    (ap (λ z. (own_at w.options z).live) (sym there) ∙ M.live, subst MayDie (ap task_at there) M.may_die)

@@ -106,9 +106,6 @@ module _ (f : Form) (few : HasFewChains f) (x : Own) (out : is_none x.txn ≡ tr
   check_begun : (checking : Checking) → JobStands f x (Jobs.Check checking) n size → LocksNone (Jobs.Check checking) → n ≡ 0
   check_begun checking K none = none_begun MapCommand.Check [] K.0 (λ begun. check_taken f few n begun) none
 
-  abbrev Begins : Job → Type 0
-  Begins job = JobStands f x job 0 size
-
   unlocked_hands : (job : Job) → JobStands f x job n size → LocksNone job → hands_of_job job ≡ []
   unlocked_hands (Jobs.Refused command reply) K none = refl
   unlocked_hands (Jobs.Plain d) K none = bare_hands f x size (Jobs.Plain d) (subst (λ m. JobStands f x (Jobs.Plain d) m size) (plain_begun d K none) K)

@@ -51,12 +51,7 @@ pub mod LockingJob
 pub mod Coming
 pub mod Faultless
 pub mod Courses
-pub mod Leading
-pub mod OfPlays
 pub mod Finishing
-pub mod OneTurn
-pub mod Projecting
-pub mod Going
 pub mod FoundOnce
 pub mod StillWalks
 pub mod PlainCursors
@@ -73,4 +68,3 @@ pub mod AskedNumber
 pub mod Closed
 pub mod OwnSide
 pub mod Beginning
-pub mod Unreported

@@ -20,7 +20,7 @@ use Rattle.tdb_law.specs.Rows.{lock, is_changed, changed_by, locks_by}
 use Rattle.tdb_law.specs.Outcomes.{counts_by}
 use Rattle.tdb_law.specs.Ends.{ends_by, starves_by}
 use Rattle.tdb_law.specs.Held.{covers, wanted, decided, locked_next, kept}
-use Rattle.tdb_law.specs.Effects.{IsFree, IsFirstConflict, task_left}
+use Rattle.tdb_law.specs.Effects.{IsFree, IsFirstConflict}
 use Rattle.tdb_law.specs.Effects.Effect.{effect_waits, effect_starves, effect_numbers}
 use Rattle.tdb_law.proofs.Covered.{none_held}
 use Rattle.tdb_law.proofs.Locks.{covers_within, within_covers}
@@ -122,10 +122,6 @@ module _ (f : Form) (options : Options) (live : Bool) (old : HeldLocks) (rest : 
     pub ends_locks : (r : Reply) → TurnsLocks f x x (resting rest) Seqnum 0 None who ps qs (Ends r)
     ends_locks r = turned_locks f x x (resting rest) (resting rest) Seqnum 0 who ps qs M.holds (Ends r) (inl (ap (λ q. ends_by q Seqnum x 0 r) (granted f options live old rest)))
         (λ b. let e = same b in let h = holds_kept b in omega (arith, e, h)) others apart
-
-    pub waits_locks : (o byte : ℕ) → TurnsLocks f x x (resting rest) Seqnum 0 (task_left Seqnum 0 (Blocked o byte)) who ps qs (Blocked o byte)
-    waits_locks o byte = turned_locks f x x (resting rest) (resting rest) Seqnum 0 who ps qs M.holds (Blocked o byte) refl
-        (λ b. let e = same b in let h = M.holds.holds b in omega (arith, e, h)) others apart
 
   -- after the number is read and let go all is held as before
   pub read_same : (mid qs : List Piece) → Table.ChangesRange ps mid (who + 1) 48 49 (Some Read) → Table.ChangesRange mid qs (who + 1) 48 49 None → (b : ℕ) → law_table qs who b ≡ law_table ps who b

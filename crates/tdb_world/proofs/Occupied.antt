@@ -1,5 +1,5 @@
 -- An opener of a world that has a command, and what holds where it has none any more.
-use Rattle.std.proofs.Common.{◌≡◌, ℕ, ◌+◌, ◌-◌, ◌≤◌, max, List, [], slice_get, Bool, true, false, Option, Some, None, refl, sym, ◌∙◌, ap, subst, inr, arith}
+use Rattle.std.proofs.Common.{◌≡◌, ℕ, List, [], slice_get, Bool, true, false, Option, Some, None, refl, sym, ◌∙◌, ap, subst, inr, arith}
 use Rattle.tdb_space.specs.Form.{Form, form_in}
 use Rattle.tdb_locks.specs.HeldLocks.{HeldLocks}
 use Rattle.tdb_law.specs.Held.{held, holding}

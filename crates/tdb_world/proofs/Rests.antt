@@ -16,7 +16,7 @@ use Rattle.tdb_walk.specs.Cursors.{At, IsPlaced, spot_of}
 use Rattle.tdb_walk.specs.InLaw.{IsShown, StandsAfter, spot_in, is_before, is_purging}
 use Rattle.tdb_walk.specs.Again.{RestsAt}
 use Rattle.tdb_cursors.specs.declared.walk.Walk.{Walk}
-use Rattle.tdb_world.specs.Openers.{AtRest, rest_of, no_cursor, spot_by, WalkAfter, WalkStands}
+use Rattle.tdb_world.specs.Openers.{rest_of, spot_by, WalkAfter, WalkStands}
 use Rattle.tdb_world.specs.Turning.{RestsWell, StandsWell, resting}
 
 stand_else : (place b : ℕ) → place ≢ b → stand_held (Some place) b ≡ 0
@@ -43,10 +43,6 @@ module _ (f : Form) (cursor : Option (List ℕ)) where
   pub stand_nowhere : (o : Option ℕ) → StandsWell f cursor o → is_some cursor ≡ false → o ≡ None
   stand_nowhere None K none = refl
   stand_nowhere (Some place) K none = absurd (let c : ◌≡◌ {A = Bool} true false = sym (K place refl).shown ∙ none in cc c)
-
--- a cursor that has shown no key is none
-pub bare_rest : (f : Form) (rest : AtRest) → StandsWell f rest.shown rest.stands → rest.shown ≡ None → rest ≡ no_cursor
-bare_rest f rest K none = λ i. record { shown = none i; stands = stand_nowhere f rest.shown rest.stands K (ap is_some none) i }
 
 -- one that rests neither purges nor has let go of everything
 still_spot : (f : Form) (shown : Option (List ℕ)) (place : Standing) (stage : Stage) → RestsAt f shown place stage → spot_in (record { place = place; stage = stage }) (is_before place) ≡ resting (record { shown = shown; stands = spot_of place })

@@ -1,6 +1,6 @@
 -- An opener that is shut out: it holds no record, its cursor stands on none, and its command has had no step, or is a move that has let go
 -- of its locks.
-use Rattle.std.proofs.Common.{◌≡◌, ◌≢◌, ℕ, ◌+◌, ◌*◌, ◌-◌, ◌<◌, ◌≤◌, ◌^◌, max, List, [], Bool, true, false, slice_get, Option, Some, None, is_some, nat_lt, refl, sym, ◌∙◌, ap, subst, inl, inr, arith}
+use Rattle.std.proofs.Common.{◌≡◌, ◌≢◌, ℕ, ◌+◌, ◌*◌, ◌<◌, ◌≤◌, ◌^◌, List, false, Option, Some, None, is_some, nat_lt, refl, sym, ◌∙◌, ap, subst, inl, inr, arith}
 use Rattle.std.specs.Prelude.{◌&&◌, if◌then◌else◌}
 use Rattle.std.proofs.lemmas.Bool.{cases_lt, le-ltb}
 use Rattle.tdb_space.specs.Form.{Form, form_in, data_start}
@@ -9,12 +9,11 @@ use Rattle.tdb_space.proofs.Pairs.Maps.{home_below}
 use Rattle.tdb_locks.specs.HeldLocks.{count_of}
 use Rattle.tdb_locks.specs.declared.kind.Kind.{Kind}
 use Rattle.tdb_locks.specs.declared.kind.Kind.TheVariants.{Read, Write}
-use Rattle.tdb_law.specs.Commands.{MapCommand, WalkCommand}
+use Rattle.tdb_law.specs.Commands.{MapCommand}
 use Rattle.tdb_law.specs.Commands.Command.{OnMap}
-use Rattle.tdb_law.specs.Openers.{Own, Spot, Task as LawTask, View, count_at, nowhere}
+use Rattle.tdb_law.specs.Openers.{Own, Spot, count_at, nowhere}
 use Rattle.tdb_law.specs.Refusals.{refusal}
-use Rattle.tdb_law.specs.Rows.{lock_all, all_end}
-use Rattle.tdb_law.specs.Held.{covers, all_held, stand_held, kept, held, holding}
+use Rattle.tdb_law.specs.Held.{all_held, stand_held, kept, held}
 use Rattle.tdb_law.specs.World.{State, HasFewChains}
 use Rattle.tdb_law.proofs.Covered.{none_held}
 use Rattle.tdb_law.proofs.Walking.{put_else}
@@ -31,18 +30,16 @@ use Rattle.tdb_world.specs.declared.job.Job.TheVariants as Jobs
 use Rattle.tdb_world.specs.declared.job.Locking.TheVariants as Locks
 use Rattle.tdb_world.specs.declared.job.Task.{Task}
 use Rattle.tdb_world.specs.Given.{IsShortLocking, unlock_told}
-use Rattle.tdb_world.specs.Openers.{rest_of, own_of, own_at, spot_by, spot_at, walk_in, walk_of, steps_of, task_at, command_in, law_task, all_of, JobStands, TaskStands, OpenerStands, WalkStands}
+use Rattle.tdb_world.specs.Openers.{rest_of, own_of, spot_by, walk_in, command_in, all_of}
 use Rattle.tdb_world.specs.ShutOut.{ShutsOut, MayMeet}
 use Rattle.tdb_world.specs.Turning.{law_table}
 use Rattle.tdb_world.specs.Worlds.{World, state_in, law_of_task, Stands, IsBusy}
 use Rattle.tdb_world.proofs.Beside.{all_past, below_bare}
 use Rattle.tdb_world.proofs.Granted.{unchain_granted, unlock_all_granted}
 use Rattle.tdb_world.proofs.Keeping.{counts_keep, kept_is, counted_kept}
-use Rattle.tdb_world.proofs.Occupied.{found, task_here, own_here, spot_here, stands, job_at, cursor_at, holds}
+use Rattle.tdb_world.proofs.Occupied.{task_here, own_here, spot_here, stands, job_at, cursor_at, holds}
 use Rattle.tdb_world.proofs.Owned.{own_count}
-use Rattle.tdb_world.proofs.Putting.{by_number}
 use Rattle.tdb_world.proofs.Rests.{walk_well}
-use Rattle.tdb_world.proofs.Standing.{opener_is_ready}
 
 -- An opener with a command is shut out of a world that stands.
 pub record IsBarred (w : World) (img : List ℕ) (past : Past) (s : Side) (holder who : ℕ) (x : Opener) (t : Task) (any : List ℕ) (size : ℕ) : Type 0 where

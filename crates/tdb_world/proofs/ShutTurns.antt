@@ -8,7 +8,7 @@ use Rattle.tdb_locks.specs.declared.turn.Reply.{Reply}
 use Rattle.tdb_locks.specs.declared.turn.Turn.{Turn}
 use Rattle.tdb_locks.specs.declared.turn.Turn.TheVariants.{Blocked, Done}
 use Rattle.tdb_law.specs.Commands as Law
-use Rattle.tdb_law.specs.Commands.{Command, WalkCommand, LockCommand}
+use Rattle.tdb_law.specs.Commands.{Command, WalkCommand}
 use Rattle.tdb_law.specs.Commands.Command.{OnMap, OnLocks, OnWalk}
 use Rattle.tdb_law.specs.Commands.WalkCommand.{First, Next, EndWalk, Close}
 use Rattle.tdb_law.specs.Openers.{Own, Spot, Task as LawTask, View}

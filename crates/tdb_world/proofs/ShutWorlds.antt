@@ -1,14 +1,14 @@
 -- What a turn of an opener that is shut out leaves: the world stands as before, and so does who is aside.
-use Rattle.std.proofs.Common.{◌≡◌, ◌≢◌, ℕ, ◌+◌, ◌-◌, ◌≤◌, max, List, [], slice_get, Bool, true, false, Option, Some, None, refl, sym, ◌∙◌, ap, subst, inl, inr, arith}
+use Rattle.std.proofs.Common.{◌≡◌, ℕ, List, false, None, refl, sym, ◌∙◌, ap, subst, inl, arith}
 use Rattle.tdb_space.specs.Form.{Form, form_in}
-use Rattle.tdb_locks.specs.HeldLocks.{HeldLocks, nothing_held}
+use Rattle.tdb_locks.specs.HeldLocks.{nothing_held}
 use Rattle.tdb_locks.specs.declared.turn.Reply.{Reply}
 use Rattle.tdb_locks.specs.declared.turn.Turn.{Turn}
 use Rattle.tdb_locks.specs.declared.turn.Turn.TheVariants.{Step, Blocked, Done}
 use Rattle.tdb_law.specs.Commands as Law
 use Rattle.tdb_law.specs.Commands.WalkCommand.{Close}
-use Rattle.tdb_law.specs.Openers.{Own, Spot, Task as LawTask, closed}
-use Rattle.tdb_law.specs.Held.{explicit_held, stand_held, kept, held, holding}
+use Rattle.tdb_law.specs.Openers.{Own, Task as LawTask, closed}
+use Rattle.tdb_law.specs.Held.{explicit_held, stand_held}
 use Rattle.tdb_law.specs.Outcomes.{walk_moves}
 use Rattle.tdb_law.specs.World.{State}
 use Rattle.tdb_law.specs.Turned.{Turned}
@@ -25,12 +25,12 @@ use Rattle.tdb_world.specs.declared.job.Walking.{Walking}
 use Rattle.tdb_world.specs.declared.job.Walking.TheVariants as Walks
 use Rattle.tdb_world.specs.declared.job.Task.{Task}
 use Rattle.tdb_world.specs.Laws.{IsPut}
-use Rattle.tdb_world.specs.Openers.{own_of, spot_by, law_task, task_at, spot_at, walk_command, hands_of_job, hands_of_task}
+use Rattle.tdb_world.specs.Openers.{own_of, law_task, task_at, spot_at, walk_command, hands_of_job, hands_of_task}
 use Rattle.tdb_world.specs.ShutOut.{IsTurnBeside, IsReplaced, JobMeets, after_job, opener_after}
 use Rattle.tdb_world.specs.Worlds.{World, state_in, law_of_task, Stands, BytesStand}
 use Rattle.tdb_world.proofs.Arriving.{nothing_well}
 use Rattle.tdb_world.proofs.Meeting.{kept_walk, job_done}
-use Rattle.tdb_world.proofs.Occupied.{Rests, found, own_here, task_here, stands, job_at, rests_by, world_by, world_same, world_ended, may_end, bytes_ended}
+use Rattle.tdb_world.proofs.Occupied.{Rests, found, own_here, job_at, rests_by, world_by, world_same, world_ended, may_end, bytes_ended}
 use Rattle.tdb_world.proofs.Putting.{replaced_rest}
 use Rattle.tdb_world.proofs.Replacing.{file_replaced, state_replaced}
 use Rattle.tdb_world.proofs.ShutOut.{IsBarred, apart, holds_none, stands_on_none}

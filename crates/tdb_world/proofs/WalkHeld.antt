@@ -132,12 +132,6 @@ module _ (f : Form) (ps : List Piece) (owner : ℕ) (own : HeldLocks) (numbered 
     moved = λ told. never_told told;
   }
 
--- what is kept of a reply is the same
-shown_counted : (did : Turn) (place : Standing) (old : Option (List ℕ)) → cursor_after (counted did) place old ≡ cursor_after did place old
-shown_counted Step place old = refl
-shown_counted (Blocked other byte) place old = refl
-shown_counted (Done reply) place old = refl
-
 -- after a step, and where it rests, a cursor isn't before a chain
 step_inside : (f : Form) (held : HeldLocks) (x : Own) (w : WalkCommand) (place : Standing) (stage : Stage) (n : ℕ) → StandsAfter f held x w place stage false (n + 1) → is_before place ≡ false
 step_inside f held x w (On chain off) stage n S = refl

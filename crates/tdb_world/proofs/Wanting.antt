@@ -1,5 +1,5 @@
 -- The first byte that a command wants at its next turn, where it has locked nothing yet and its cursor stands on no record.
-use Rattle.std.proofs.Common.{◌≡◌, ℕ, ◌+◌, ◌*◌, ◌<◌, ◌≤◌, ◌^◌, max, List, [], Bool, true, false, ◌==◌, Option, Some, None, nat_lt, nat_le, is_none, is_some, refl, sym, ◌∙◌, ap, subst, arith, le_refl, inl, inr}
+use Rattle.std.proofs.Common.{◌≡◌, ℕ, ◌+◌, ◌*◌, ◌<◌, ◌≤◌, ◌^◌, max, List, [], Bool, true, false, None, nat_lt, nat_le, is_none, refl, sym, ◌∙◌, ap, arith, le_refl}
 use Rattle.std.specs.Prelude.{◌&&◌, if◌then◌else◌}
 use Rattle.std.proofs.lemmas.Bool.{lt-leb, lt-ltb}
 use Rattle.tdb_space.specs.Form.{Form, data_start}
@@ -13,12 +13,12 @@ use Rattle.tdb_law.specs.Commands.LockCommand.{ChainLock, ChainLockNb, LockAll, 
 use Rattle.tdb_law.specs.Commands.Command.{OnMap, OnLocks, OnWalk}
 use Rattle.tdb_law.specs.Openers.{Own, Spot, View}
 use Rattle.tdb_law.specs.Refusals.{refusal}
-use Rattle.tdb_law.specs.Rows.{map_locks, lock_locks, walk_locks, locks_by, locks}
+use Rattle.tdb_law.specs.Rows.{map_locks, lock_locks, locks_by, locks}
 use Rattle.tdb_law.specs.Outcomes.{moves}
 use Rattle.tdb_law.specs.Held.{is_chain, covers, locked_next, moves_at, wanted, decided}
 use Rattle.tdb_law.specs.World.{HasFewChains}
 use Rattle.tdb_law.proofs.Locks.{covers_within}
-use Rattle.tdb_steps.specs.LockRows.{start_of, end_of, strength_of, lock_of, locks_in, rows_of}
+use Rattle.tdb_steps.specs.LockRows.{start_of, end_of, strength_of, lock_of, rows_of}
 use Rattle.tdb_steps.specs.PlainCommands.{key_of, command_of}
 use Rattle.tdb_steps.specs.Order.{IsAfter}
 use Rattle.tdb_steps.specs.declared.plain.Plain.{Plain}
@@ -28,7 +28,6 @@ use Rattle.tdb_steps.specs.declared.stage.Stage.TheVariants.{Begun}
 use Rattle.tdb_steps.proofs.Holdings.{want}
 use Rattle.tdb_steps.proofs.Turning.{row_facts}
 use Rattle.tdb_beside.specs.Sides.{everywhere}
-use Rattle.tdb_walk.proofs.Holding.{locks_are}
 use Rattle.tdb_world.specs.Checked.{all_lock}
 use Rattle.tdb_world.specs.Locked.{chain_row, all_row}
 use Rattle.tdb_world.proofs.Effected.{wants_locks}

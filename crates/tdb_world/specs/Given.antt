@@ -1,6 +1,6 @@
 -- The commands that openers may give, and how they hold locks between two calls.
-use Rattle.std.specs.Prelude.{ℕ, ◌≡◌, ◌<◌, ◌≤◌, ◌+◌, ◌-◌, ◌^◌, List, Bool, true, false, length, Option, None, Some, IfSome, nat_lt, ◌==◌, ◌&&◌, ◌||◌, if◌then◌else◌}
-use Rattle.std.specs.List.{All, sum}
+use Rattle.std.specs.Prelude.{ℕ, ◌≡◌, ◌<◌, ◌+◌, ◌-◌, ◌^◌, Bool, true, false, length, Option, None, Some, IfSome, nat_lt, ◌==◌, ◌&&◌, ◌||◌, if◌then◌else◌}
+use Rattle.std.specs.List.{sum}
 use Rattle.std.specs.Map.{values_of}
 use Rattle.tdb_space.specs.Form.{Form}
 use Rattle.tdb_locks.specs.HeldLocks.{HeldLocks, AreCounts, total_of}
@@ -12,8 +12,6 @@ use Rattle.tdb_law.specs.Refusals.{refusal}
 use Rattle.tdb_plays.specs.InLaw.{law_command}
 use Rattle.tdb_plays.specs.declared.command.Command.{Command}
 use Rattle.tdb_plays.specs.declared.command.Command.TheVariants as Given
-use Rattle.tdb_plays.specs.declared.play.Play.{Play}
-use Rattle.tdb_plays.specs.declared.play.Play.TheVariants as Plays
 use Rattle.tdb_world.specs.declared.job.Locking.{Locking}
 use Rattle.tdb_world.specs.declared.job.Locking.TheVariants as Lockings
 
@@ -48,19 +46,6 @@ IsServed _ = Unit {0}
 pub record IsBeginning (f : Form) (x : Own) (c : Command) : Type 0 where
   pub start : c ≡ Given.Start
   pub granted : refusal f (law_command c) x ≡ None
-
--- the plays that are served: an opener is named by a number from 1 on, and its command is served and short
-abbrev pub IsServedPlay : Play → Type 0
-IsServedPlay Plays.Join = Unit {0}
-IsServedPlay Plays.SetLog = Unit {0}
-IsServedPlay (Plays.Give who command) = (1 ≤ who) × IsServed command × IsShortGiven command
-IsServedPlay (Plays.Do who command) = (1 ≤ who) × IsServed command × IsShortGiven command
-IsServedPlay (Plays.Turn who) = 1 ≤ who
-IsServedPlay (Plays.Go who) = 1 ≤ who
-IsServedPlay (Plays.Die who) = 1 ≤ who
-
-abbrev pub AreServed : List Play → Type 0
-AreServed plays = All IsServedPlay plays
 
 -- an opener holds a chain explicitly; it holds all records for reading
 abbrev pub holds_chains : HeldLocks → Bool

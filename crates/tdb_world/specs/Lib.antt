@@ -10,10 +10,8 @@ pub mod Ended
 pub mod Jobs
 pub mod Checked
 pub mod Played
-pub mod Finished
 pub mod Cursors
 pub mod Died
 pub mod Calm
 pub mod Aside
 pub mod ShutOut
-pub mod Untold

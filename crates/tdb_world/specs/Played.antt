@@ -1,6 +1,5 @@
 -- How far plays come, what their report tells, and what they leave.
-use Rattle.std.specs.Prelude.{ℕ, zero, suc, ◌≡◌, ◌≤◌, ◌<◌, ◌⊎◌, List, [], ◌∷◌, ◌++◌, Bool, true, false, IsTrue, Result, Ok, Err, nat_lt, if◌then◌else◌}
-use Rattle.tdb_disk.specs.Count.{Rose}
+use Rattle.std.specs.Prelude.{ℕ, zero, suc, ◌≡◌, ◌⊎◌, List, [], ◌∷◌, ◌++◌, Bool, true, false, Result, Ok, Err, nat_lt, if◌then◌else◌}
 use Rattle.tdb_space.specs.Form.{Form}
 use Rattle.tdb_locks.specs.declared.turn.Turn.{Turn}
 use Rattle.tdb_locks.specs.declared.turn.Turn.TheVariants as Turns
@@ -8,17 +7,15 @@ use Rattle.tdb_law.specs.Commands.{Command, Turn as LawTurn}
 use Rattle.tdb_law.specs.Commands.Turn.{Step, Blocked, Ends}
 use Rattle.tdb_law.specs.World.{State}
 use Rattle.tdb_law.specs.Events.{Given}
-use Rattle.tdb_law.specs.Lines.{Line as LawLine}
-use Rattle.tdb_law.specs.Plays.{Play, Clears, Advances, Goes, Gives, Course, most_turns}
+use Rattle.tdb_law.specs.Openers.{Options as LawOptions}
+use Rattle.tdb_law.specs.Lines.{Line as LawLine, IsLawful}
+use Rattle.tdb_law.specs.Beginning.{IsLoaded, beginning}
+use Rattle.tdb_law.specs.Plays.{Play, Clears, Advances, Gives, Course}
 use Rattle.tdb_law.specs.Plays.Play.{TakeTurn, Go, Do}
 use Rattle.tdb_plays.specs.declared.line.Line.{Line}
 use Rattle.tdb_plays.specs.declared.line.Line.TheVariants.{Grew}
-use Rattle.tdb_plays.specs.InLaw.{law_opener, law_lines}
 use Rattle.tdb_world.specs.declared.fault.RunFault.{RunFault}
 use Rattle.tdb_world.specs.declared.fault.RunFault.TheVariants.{Io, Memory}
-use Rattle.tdb_world.specs.declared.job.Task.{Task}
-use Rattle.tdb_world.specs.declared.opener.Opener.{Opener}
-use Rattle.tdb_world.specs.Worlds.{World, state_in, Stands, BytesStand, IsBusy}
 
 -- so many turns of an opener, one after the other, all of them steps
 abbrev pub Steps : Form → ℕ → State → ℕ → List LawLine → State → Type 0
@@ -57,13 +54,6 @@ pub record ComesTo (f : Form) (old : State) (plays : List Play) (lines : List La
   pub course : Course f old done front mid
   pub begun : FirstBegun f mid left rest new
 
--- The lengths of the file that lines tell lead from one length to another: each growth begins where the one before it
--- ended.
-abbrev pub Lengths : ℕ → List Line → ℕ → Type 0
-Lengths from [] to = to ≡ from
-Lengths from (Grew one two ∷ lines) to = (one ≡ from) × (one < two) × Lengths two lines to
-Lengths from (line ∷ lines) to = Lengths from lines to
-
 -- the line that tells a growth from one length to another, where it is one
 abbrev pub growth : ℕ → ℕ → List Line
 growth from to = if nat_lt from to then Grew from to ∷ [] else []
@@ -78,55 +68,6 @@ abbrev pub OnIo : {V : Type 0} → Result V RunFault → Type 0 → Type 0
 OnIo (Ok v) p = Unit {0}
 OnIo (Err Memory) p = Unit {0}
 OnIo (Err Io) p = p
-
--- What lines tell, by the answer: all that was to be done; a part of it, where memory was wanting; and where the disk
--- failed what was done up to then, in some state, of which nothing is left to be said.
-abbrev pub Tells : {V : Type 0} → Result V RunFault → (V → List LawLine → State → Type 0) → (List LawLine → State → Type 0) → (List LawLine → State → Type 0) → List LawLine → State → Type 0
-Tells (Ok v) Whole Part Last lines new = Whole v lines new
-Tells (Err Memory) Whole Part Last lines new = Part lines new
-Tells (Err Io) Whole Part Last lines new = (left : State) × Last lines left
-
--- A moment of a play: the world, the bytes and the length of its file, the count of faults of the disk, and the lines
--- of the report.
-pub record Moment : Type 0 where
-  pub world : World
-  pub image : List ℕ
-  pub size : ℕ
-  pub faults : ℕ
-  pub lines : List Line
-
-abbrev pub moment : World → List ℕ → ℕ → ℕ → List Line → Moment
-moment world image size faults lines = record { world = world; image = image; size = size; faults = faults; lines = lines }
-
-abbrev pub state_at : Moment → State
-state_at m = state_in m.world m.image
-
--- What leads from one moment to another, with this answer, over a disk that tells its bytes or doesn't: lines were
--- added, which tell what was done, and each growth of the file. Unless the disk failed the world stands, and its count
--- of faults is as it was.
-pub record Led {V : Type 0} (tells : Bool) (old new : Moment) (answer : Result V RunFault) (Whole : V → List LawLine → State → Type 0)
-    (Part : List LawLine → State → Type 0) (Last : List LawLine → State → Type 0) : Type 0 where
-  pub header : new.world.header ≡ old.world.header
-  pub options : new.world.options ≡ old.world.options
-  pub longer : old.size ≤ new.size
-  pub rises : old.faults ≤ new.faults
-  pub added : List Line
-  pub lines : new.lines ≡ old.lines ++ added
-  pub grown : UnlessIo answer (Lengths old.size added new.size)
-  pub stands : UnlessIo answer (Stands new.world new.image new.size)
-  pub quiet : UnlessIo answer (new.faults ≡ old.faults)
-  pub bytes : IsTrue tells → BytesStand old.world old.image → UnlessIo answer (BytesStand new.world new.image)
-  pub told : IsTrue tells → BytesStand old.world old.image → Tells answer Whole Part Last (law_lines added) (state_at new)
-  pub rose : IsTrue tells → BytesStand old.world old.image → OnIo answer (Rose old.faults new.faults)
-
--- A free opener of a world was given a command: the header and the options stay, and what stands goes on to stand.
-pub record Gifted (old : World) (who : ℕ) (c : Command) (new : World) : Type 0 where
-  pub header : new.header ≡ old.header
-  pub options : new.options ≡ old.options
-  pub stands : (img : List ℕ) (size : ℕ) → Stands old img size → Stands new img size
-  pub bytes : (img : List ℕ) → BytesStand old img → BytesStand new img
-  pub given : (img : List ℕ) → Given (state_in old img) (law_opener who) c (state_in new img)
-  pub busy : (x : Opener) × (t : Task) × IsBusy new who x t
 
 -- nothing was done
 abbrev pub Nothing : State → List LawLine → State → Type 0
@@ -156,9 +97,12 @@ TakesLast f old who lines new = Nothing old lines new ⊎ ((more : Bool) × Take
 abbrev pub GoesSome : Form → State → ℕ → List LawLine → State → Type 0
 GoesSome f old who lines new = (n : ℕ) × Steps f n old who lines new
 
-abbrev pub GoesLast : Form → State → ℕ → List LawLine → State → Type 0
-GoesLast f old who lines new = GoesSome f old who lines new ⊎ Goes f most_turns old who lines new
-
 -- and so a play
 abbrev pub PlaysLast : Form → State → Play → List LawLine → State → Type 0
 PlaysLast f old play lines new = Begun f old play lines new ⊎ Gives f old play lines new
+
+-- The lines of plays from a state just loaded that broke off are lawful from the replay that begins with the map and the number of its
+-- file.
+abbrev pub BrokenIsLawful : Type 0
+BrokenIsLawful = (f : Form) (options : LawOptions) (old new : State) (plays : List Play) (lines : List LawLine) → IsLoaded f old options → ComesTo f old plays lines new
+    → IsLawful f (beginning options old.file old.number) lines

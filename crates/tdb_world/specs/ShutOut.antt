@@ -6,7 +6,7 @@ use Rattle.tdb_locks.specs.HeldLocks.{nothing_held}
 use Rattle.tdb_locks.specs.declared.kind.Kind.TheVariants.{Write}
 use Rattle.tdb_locks.specs.declared.turn.Reply.{Reply}
 use Rattle.tdb_locks.specs.declared.turn.Turn.{Turn}
-use Rattle.tdb_locks.specs.declared.turn.Turn.TheVariants.{Step, Blocked, Done}
+use Rattle.tdb_locks.specs.declared.turn.Turn.TheVariants.{Blocked, Done}
 use Rattle.tdb_law.specs.Commands.{Turn as LawTurn}
 use Rattle.tdb_law.specs.Openers.{Task as LawTask}
 use Rattle.tdb_law.specs.World.{IsSound}

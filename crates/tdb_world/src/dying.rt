@@ -1,25 +1,19 @@
-// Openers that die, and what is told of it.
+// Openers that die.
 
-ghost use Rattle.std.specs.Prelude.{◌≡◌, ◌≤◌, ℕ, Bool, List, IsTrue, MatchBool, false};
+ghost use Rattle.std.specs.Prelude.{◌≡◌, ◌≤◌, ℕ, List, IsTrue, MatchBool, false};
 ghost use Rattle.tdb_space.specs.Form.{form_in};
 ghost use Rattle.tdb_law.specs.Events.{Dies};
 ghost use Rattle.tdb_law.specs.Lines.{EndsTransaction, MayDie};
-ghost use Rattle.tdb_law.specs.Plays.{Gives};
-ghost use Rattle.tdb_law.specs.Plays.{Play as LawPlay};
 ghost use Rattle.tdb_plays.specs.InLaw.{law_opener};
 ghost use Rattle.tdb_world.specs.declared.opener.Opener.{Opener};
 ghost use Rattle.tdb_world.specs.Openers.{command_in, law_task};
 ghost use Rattle.tdb_world.specs.Worlds.{state_in, Stands, BytesStand};
 ghost use Rattle.tdb_world.specs.Died.{CanDie, HasDied, MayDieIn};
-ghost use Rattle.tdb_world.specs.Played.{moment, Led, PlaysLast, Begun};
 
-use crate::fault::RunFault;
 use crate::job::Job;
 use crate::opener::Opener;
 use crate::openers::Openers;
-use crate::starting::OpenerStanding;
-use crate::telling::{put_line, tell};
-use tdb_plays::{Command, Line, TurnReport};
+use tdb_plays::Command;
 
 impl Job {
     /// Whether the command would end a transaction: it is a Commit or a Prepare, which is refused, since nobody has one.
@@ -74,27 +68,5 @@ impl Openers {
         ensures options { self.new.options ≡ self.old.options }
     {
         self.strip(who);
-    }
-
-    /// An opener dies, or the report says why it doesn't.
-    pub(crate) fn play_die(&mut self, who: u32, report: &mut TurnReport) -> Result<(), RunFault>
-        requires named { 1 ≤ who }
-        requires stands { (img : List ℕ) × (size : ℕ) × Stands self.old img size }
-        ensures led { (tells : Bool) (img : List ℕ) (size faults : ℕ) → Stands self.old img size
-            → Led tells (moment self.old img size faults report.old.lines) (moment self.new img size faults report.new.lines) result
-            (λ _. Gives (form_in self.old.header) (state_in self.old img) (LawPlay.Die (law_opener who)))
-            (Begun (form_in self.old.header) (state_in self.old img) (LawPlay.Die (law_opener who)))
-            (PlaysLast (form_in self.old.header) (state_in self.old img) (LawPlay.Die (law_opener who))) }
-    {
-        if self.may_die(who) {
-            report.reserve(1)?;
-            self.die(who);
-            put_line(report, Line::Died { who });
-            return Ok(());
-        }
-        match self.standing(who) {
-            OpenerStanding::Absent => tell(report, Line::Absent { who }),
-            OpenerStanding::Idle | OpenerStanding::Busy => tell(report, Line::Occupied { who }),
-        }
     }
 }

@@ -1,6 +1,6 @@
 // Explicit locks are taken and let go.
 
-ghost use Rattle.std.specs.Prelude.{◌≡◌, ◌↔◌, ◌-◌, ◌+◌, ◌^◌, ◌<◌, ◌≤◌, [], None, Some, IsTrue, OnOk, OnErr, IfErr, MatchOption};
+ghost use Rattle.std.specs.Prelude.{◌≡◌, ◌↔◌, ◌-◌, ◌^◌, ◌<◌, ◌≤◌, [], None, Some, IsTrue, OnOk, OnErr, IfErr, MatchOption};
 ghost use Rattle.tdb_locks.specs.HeldLocks.{AreCounts, Raises, Lowers, SetsAll, count_of, count_of_all, total_of};
 ghost use Rattle.tdb_locks.specs.LockTable.{held as held_by};
 ghost use Rattle.tdb_steps.specs.LockRows.{IsLetGo, StandsAlone};

@@ -5,10 +5,10 @@ ghost use Rattle.tdb_world.specs.Aside.{LowIsFree, OthersWriteNone, RecordsAreFr
 ghost use Rattle.tdb_world.specs.Laws.{EmptyFileStands, EmptyIsLoaded, EmptyStands};
 ghost use Rattle.tdb_world.specs.Laws.{JoinJoins, JoinKeepsFile, JoinKeepsWorld};
 ghost use Rattle.tdb_world.specs.Laws.{GiftIsGiven, GiftKeepsFile, GiftKeepsWorld};
-ghost use Rattle.tdb_world.specs.Finished.{ReportIsLawful, BrokenIsLawful};
 ghost use Rattle.tdb_world.specs.Laws.{CursorsAreBeside, ImageIsReady, KeysAreCounted, OpenerIsReady};
 ghost use Rattle.tdb_world.specs.Laws.{TurnIsTurned, TurnKeepsFile, TurnKeepsWorld};
 ghost use Rattle.tdb_world.specs.Laws.{WalkIsTurned, WalkKeepsFile, WalkKeepsWorld};
+ghost use Rattle.tdb_world.specs.Played.{BrokenIsLawful};
 
 /// A world without openers stands, and so do the bytes of an accepted image; in the words of the law of reports it
 /// is just loaded. The law is over all images; the function does nothing.
@@ -119,10 +119,8 @@ pub fn keys_are_counted()
     ensures law { KeysAreCounted }
 {}
 
-/// The report of plays that lead on from a world just loaded is lawful, with the lines of the commands behind it that
-/// aren't done; so are the lines of plays that broke off, as far as they came. The law is over all plays and worlds;
-/// the function does nothing.
-pub fn report_is_lawful()
-    ensures report { ReportIsLawful }
-    ensures broken { BrokenIsLawful }
+/// The lines of plays from a state just loaded that broke off are lawful, as far as the plays came. The law is over all
+/// plays and states; the function does nothing.
+pub fn broken_is_lawful()
+    ensures law { BrokenIsLawful }
 {}

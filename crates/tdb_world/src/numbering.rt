@@ -1,6 +1,6 @@
 // The turn that asks for the sequence number.
 
-ghost use Rattle.std.specs.Prelude.{◌≡◌, ◌+◌, ◌<◌, ◌≤◌, ℕ, Bool, None, IsTrue, IfOk, OnErr};
+ghost use Rattle.std.specs.Prelude.{◌≡◌, ◌+◌, ◌<◌, ◌≤◌, ℕ, Bool, None, IsTrue, IfOk};
 ghost use Rattle.tdb_words.specs.Word.{word};
 ghost use Rattle.tdb_disk.specs.Count.{HasCause};
 ghost use Rattle.tdb_space.specs.Form.{Form};

@@ -11,9 +11,7 @@ ghost use Rattle.tdb_law.specs.Beginning.{IsLoaded};
 ghost use Rattle.tdb_law.specs.Events.{Joins, Given};
 ghost use Rattle.tdb_law.specs.Turned.{Turned};
 ghost use Rattle.tdb_world.specs.Openers.{options_of, own_of, command_in};
-ghost use Rattle.tdb_world.specs.Finished.{unfinished};
 ghost use Rattle.tdb_world.specs.Died.{HasDied};
-ghost use Rattle.tdb_plays.specs.declared.line.Line.{Line};
 ghost use Rattle.tdb_plays.specs.InLaw.{law_opener, law_command, law_turn};
 ghost use Rattle.tdb_world.specs.declared.job.Task.{Task};
 ghost use Rattle.tdb_world.specs.declared.opener.Opener.{Opener};
@@ -27,17 +25,19 @@ ghost use Rattle.tdb_world.specs.Worlds.{fresh, state_in, law_of_task, Stands, B
 
 use crate::job::Task;
 use crate::opener::Opener;
-use crate::telling::tell_unfinished;
 use std::alloc::{AllocError, Global};
 use std::marker::Model;
 use tdb_locks::{Kind, LockRefusal, Locks, Spots, Turn};
-use tdb_plays::{Command, Options, TurnReport};
+use tdb_plays::{Command, Options};
 use tdb_space::{Io, Space};
 use tdb_words::Header;
 use thiserror::Error;
 
 /// How many openers may join.
 pub const MOST_OPENERS: u32 = 1000;
+
+/// How many turns of a command there are at most that aren't blocked.
+pub const MOST_TURNS: u32 = 9;
 
 /// Why no opener joined.
 #[derive(Clone, Copy, Debug, PartialEq, Eq, Error)]
@@ -106,26 +106,6 @@ impl Openers {
             return None;
         };
         Some(opener)
-    }
-
-    /// Whether the opener with this number is live and has no command.
-    pub fn is_free(&self, who: u32) -> bool
-        ensures { IsTrue result → (x : Opener) × IsFree self.now who x }
-    {
-        match self.opener(who) {
-            Some(opener) => opener.live && opener.task.is_none(),
-            None => false,
-        }
-    }
-
-    /// Whether the opener with this number has a command that isn't done.
-    pub fn is_busy(&self, who: u32) -> bool
-        ensures { IsTrue result → (x : Opener) × (t : Task) × IsBusy self.now who x t }
-    {
-        match self.opener(who) {
-            Some(opener) => opener.task.is_some(),
-            None => false,
-        }
     }
 
     /// Where it takes its memory.
@@ -399,15 +379,6 @@ impl Openers {
             unreachable!();
         };
         opener.let_go_of_records(locks, who);
-    }
-
-    /// Tells at the end of a report which openers have a command that isn't done, in order of number.
-    pub fn finish_report(&self, report: &mut TurnReport) -> Result<(), AllocError>
-        requires { (img : List ℕ) × (size : ℕ) × Stands self.now img size }
-        ensures ok { OnOk result (report.new.lines ≡ report.old.lines ++ unfinished 1 self.now.openers) }
-        ensures err { OnErr result ((told : List Line) × (left : List Line) × (report.new.lines ≡ report.old.lines ++ told) × (unfinished 1 self.now.openers ≡ told ++ left)) }
-    {
-        tell_unfinished(self.list.as_slice(), report)
     }
 
     /// Takes a turn of the opener's command, which isn't one that asks for the sequence number, while the opener

@@ -1,13 +1,11 @@
 // The lines of a report.
 
-ghost use Rattle.std.specs.Prelude.{◌≡◌, ◌≤◌, ◌+◌, ◌++◌, ◌∷◌, [], ◌<◌, ◌^◌, ◌-◌, List, length, OnOk, OnErr, IfErr};
+ghost use Rattle.std.specs.Prelude.{◌≡◌, ◌≤◌, ◌+◌, ◌++◌, ◌∷◌, [], ◌<◌, ◌-◌, OnOk, OnErr, IfErr};
 ghost use Rattle.tdb_plays.specs.declared.line.Line.{Line};
 ghost use Rattle.tdb_world.specs.Played.{growth, is_step};
-ghost use Rattle.tdb_world.specs.Finished.{unfinished};
+
 
 use crate::fault::RunFault;
-use crate::opener::Opener;
-use std::alloc::AllocError;
 use tdb_locks::Turn;
 use tdb_plays::{Line, TurnReport};
 
@@ -51,18 +49,4 @@ pub fn was_step(turn: &Turn) -> bool
         Turn::Step => true,
         Turn::Blocked { .. } | Turn::Done(_) => false,
     }
-}
-
-/// Tells which of these openers, whose numbers begin with 1, have a command that isn't done.
-pub(crate) fn tell_unfinished(openers: &[Opener], report: &mut TurnReport) -> Result<(), AllocError>
-    requires { length openers.now < 2 ^ 32 - 1 }
-    ensures ok { OnOk result (report.new.lines ≡ report.old.lines ++ unfinished 1 openers.now) }
-    ensures err { OnErr result ((told : List Line) × (left : List Line) × (report.new.lines ≡ report.old.lines ++ told) × (unfinished 1 openers.now ≡ told ++ left)) }
-{
-    for (i, opener) in openers.iter().enumerate() {
-        if opener.task.is_some() {
-            report.push(Line::Unfinished { who: i as u32 + 1 })?;
-        }
-    }
-    Ok(())
 }

@@ -1,6 +1,6 @@
 // One turn of a command on an opener's cursor.
 
-ghost use Rattle.std.specs.Prelude.{◌≡◌, ◌≤◌, ◌<◌, ◌^◌, ◌-◌, None, Some, length, set, IfOk, OnOk, OnErr};
+ghost use Rattle.std.specs.Prelude.{◌≡◌, ◌≤◌, ◌<◌, ◌-◌, None, Some, length, set, IfOk};
 ghost use Rattle.std.specs.Option.{option_map};
 ghost use Rattle.tdb_disk.specs.Count.{HasCause};
 ghost use Rattle.tdb_space.specs.Frame.{Looked, Wrote};
@@ -9,7 +9,7 @@ ghost use Rattle.tdb_walk.specs.Cursors.{dead_of};
 ghost use Rattle.tdb_walk.specs.InLaw.{goal_of};
 ghost use Rattle.tdb_cursors.specs.Spots.{LacksCursor, spot_number};
 ghost use Rattle.tdb_world.specs.declared.job.Task.{Task};
-ghost use Rattle.tdb_world.specs.Openers.{walk_command, walk_in, walk_of};
+ghost use Rattle.tdb_world.specs.Openers.{walk_command, walk_of};
 ghost use Rattle.tdb_world.specs.Walked.{WalkStepped, WalkTurned};
 
 use crate::job::{Job, Task, Walking};

@@ -1,7 +1,6 @@
 -- The command is done, and all else is as it was.
-use Rattle.std.proofs.Common.{◌≡◌, refl, sym, ◌∙◌, ap, subst}
+use Rattle.std.proofs.Common.{◌≡◌, ◌∙◌, ap}
 use Rattle.tdb_law.specs.Commands.Command.{Seqnum}
-use Rattle.tdb_world.specs.declared.job.Job.TheVariants as Jobs
 use Rattle.tdb_world.specs.Openers.{command_in}
 use Rattle.tdb_world.specs.Worlds.{World}
 use Rattle.tdb_world.proofs.AskedNumber.{asks_there, asked_world, asked_bytes, asked_state, asked_beside}
