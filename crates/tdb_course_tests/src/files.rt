@@ -2,10 +2,37 @@
 
 use std::alloc::{AllocError, Global};
 use tdb_disk::MemDisk;
-use tdb_words::{HashKind, Order, header_bytes, word_bytes};
+use tdb_words::{HashKind, Header, Order, header_bytes, word_bytes};
+
+/// A little-endian word, and its offset.
+pub(crate) type Word = (usize, u32);
+
+/// The header of each of these files.
+pub(crate) const HEADER: Header = Header {
+    order: Order::Little,
+    hash: HashKind::Old,
+    hash_size: 131,
+    recovery_start: 0,
+    sequence: 0,
+};
+
+/// A file of 131 chains: its length in bytes, its sequence number, and the words behind its header that aren't 0.
+#[derive(Clone, Copy)]
+pub(crate) struct Image {
+    pub(crate) len: usize,
+    pub(crate) number: u32,
+    pub(crate) words: &'static [Word],
+}
+
+/// A new file.
+pub(crate) const NEW: Image = Image {
+    len: 696,
+    number: 0,
+    words: &[],
+};
 
 /// The words of a free record behind the heads of a file, and of the record of `a`, with the value `1`, behind that.
-const RECORD: [(usize, u32); 12] = [
+pub(crate) const RECORD: &[Word] = &[
     (168, 696),
     (200, 4064),
     (700, 3344),
@@ -20,6 +47,19 @@ const RECORD: [(usize, u32); 12] = [
     (4092, 32),
 ];
 
+/// The file of that record.
+pub(crate) const ONE: Image = Image {
+    len: 4096,
+    number: 0,
+    words: RECORD,
+};
+
+/// The same with the last of all sequence numbers.
+pub(crate) const LAST_NUMBER: Image = Image {
+    number: 0xFFFF_FFFF,
+    ..ONE
+};
+
 /// Puts some bytes at an offset, where there is room for them.
 fn put(bytes: &mut [u8], at: usize, what: &[u8]) {
     if at < bytes.len() && bytes.len() - at >= what.len() {
@@ -27,26 +67,28 @@ fn put(bytes: &mut [u8], at: usize, what: &[u8]) {
     }
 }
 
-/// A file of so many bytes, of 131 chains, with these words behind its header.
-fn file_of(alloc: Global, len: usize, words: &[(usize, u32)]) -> Result<MemDisk, AllocError> {
-    let mut bytes = vec![in alloc; 0u8; len]?;
+/// A disk with a file.
+pub(crate) fn disk_of(alloc: Global, image: &Image) -> Result<MemDisk, AllocError> {
+    let mut bytes = vec![in alloc; 0u8; image.len]?;
     put(
         &mut bytes,
         0,
         &header_bytes(131, Order::Little, HashKind::Old),
     );
-    for (at, word) in words {
+    put(&mut bytes, 48, &word_bytes(image.number, Order::Little));
+    for (at, word) in image.words {
         put(&mut bytes, *at, &word_bytes(*word, Order::Little));
     }
     MemDisk::new(alloc, &bytes)
 }
 
-/// A new file.
-pub(crate) fn new_file(alloc: Global) -> Result<MemDisk, AllocError> {
-    file_of(alloc, 696, &[])
-}
-
-/// The file of the record of `a`, whose value is `1`.
-pub(crate) fn one_record(alloc: Global) -> Result<MemDisk, AllocError> {
-    file_of(alloc, 4096, &RECORD)
+/// Whether these words stand in the file on a disk.
+pub(crate) fn has_words(disk: &MemDisk, words: &[Word]) -> bool {
+    for (at, word) in words {
+        match disk.as_slice().get(*at..) {
+            Some(rest) if rest.starts_with(&word_bytes(*word, Order::Little)) => {}
+            _ => return false,
+        }
+    }
+    true
 }

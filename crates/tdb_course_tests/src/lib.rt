@@ -4,10 +4,10 @@
 #[cfg(test)]
 mod files;
 #[cfg(test)]
-mod logs;
-#[cfg(test)]
-mod plays;
+mod rows;
 #[cfg(test)]
 mod stops;
+#[cfg(test)]
+mod tables;
 #[cfg(test)]
 mod worlds;

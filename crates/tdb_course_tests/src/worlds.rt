@@ -1,46 +1,110 @@
 // Plays in a new world over a file, and the text of their report.
 
-ghost use Rattle.std.specs.Prelude.{◌≡◌};
+ghost use Rattle.std.specs.Prelude.{◌≤◌, IsTrue};
+ghost use Rattle.tdb_course.specs.Playable.{ArePlayable, IsPlayable};
+ghost use Rattle.tdb_world.specs.Given.{IsShortGiven};
 
-use crate::plays::{Step, plays};
+use crate::files::HEADER;
 use std::alloc::Global;
 use tdb_course::{RunFault, run};
 use tdb_disk::{Disk, MemSink};
 use tdb_dump::WriteRefusal;
 use tdb_log::{LogRefusal, Logs};
-use tdb_open::Opened;
-use tdb_plays::{Options, TurnReport};
-use tdb_script::write_line;
+use tdb_plays::{Command, Options, Play, TurnReport};
+use tdb_script::{read_script, write_line};
 use tdb_whole::World;
 
-const OPTIONS: Options = Options {
-    limit: 4_294_963_200,
+/// How long a file may be in bytes.
+const LONGEST_FILE: u64 = 4_294_963_200;
+
+/// How the files of most rows are opened.
+pub(crate) const OPTIONS: Options = Options {
+    limit: LONGEST_FILE,
     nesting: true,
     read_only: false,
     seqnum: false,
 };
 
-/// Takes the plays of these steps in a new world over the opened file on a disk.
-pub(crate) fn take_steps<D: Disk, L: Logs>(
+/// Whether the key and the value of a command have less than 100 bytes.
+fn is_short(command: &Command) -> bool
+    ensures { IsTrue result → IsShortGiven command.now }
+{
+    match command {
+        Command::Fetch { key }
+        | Command::Has { key }
+        | Command::Delete { key }
+        | Command::ChainLock { key }
+        | Command::ChainLockNb { key }
+        | Command::ChainUnlock { key } => key.len() < 100,
+        Command::Store { key, value, .. } | Command::Append { key, value } => {
+            key.len() < 100 && value.len() < 100
+        }
+        _ => true,
+    }
+}
+
+/// Whether a play may be taken, by a short command if by one.
+fn is_playable(play: &Play) -> bool
+    ensures { IsTrue result → IsPlayable play.now }
+{
+    match play {
+        Play::Join | Play::SetLog => true,
+        Play::Give { who, command } | Play::Do { who, command } => *who >= 1 && is_short(command),
+        Play::Turn { who } | Play::Go { who } | Play::Die { who } => *who >= 1,
+    }
+}
+
+/// Whether plays may be taken.
+fn are_playable(plays: &[Play]) -> bool
+    ensures { IsTrue result → ArePlayable plays.now }
+{
+    for play in plays {
+        if !is_playable(play) {
+            return false;
+        }
+    }
+    true
+}
+
+/// Takes plays in a new world over the file on a disk.
+fn take_plays<D: Disk, L: Logs>(
     alloc: Global,
     disk: &mut D,
-    opened: &Opened,
-    steps: &[Step],
+    options: &Options,
+    plays: &[Play],
     report: &mut TurnReport,
     logs: &mut L,
 ) -> Result<Result<(), LogRefusal>, RunFault>
-    requires { D.size disk.old ≡ opened.now.len }
+    requires limit { options.now.limit ≤ 4294963200 }
+    requires short { D.size disk.old ≤ options.now.limit }
+    requires playable { ArePlayable plays.now }
 {
-    let Ok(plays) = plays(alloc, steps) else {
-        return Err(RunFault::Memory);
-    };
-    if opened.len > OPTIONS.limit {
-        return Err(RunFault::Io);
-    }
-    let mut world = World::new(alloc, &opened.header, &OPTIONS);
-    let answer = run(&mut world, disk, plays.as_slice(), report, logs);
+    let mut world = World::new(alloc, &HEADER, options);
+    let answer = run(&mut world, disk, plays, report, logs);
     world.end();
     answer
+}
+
+/// Takes the plays of a script in a new world over the file on a disk. `Memory` where it is no script of short plays, or
+/// the file is longer than it may be.
+pub(crate) fn take_script<D: Disk, L: Logs>(
+    alloc: Global,
+    disk: &mut D,
+    options: &Options,
+    script: &[u8],
+    report: &mut TurnReport,
+    logs: &mut L,
+) -> Result<Result<(), LogRefusal>, RunFault> {
+    let Ok(plays) = read_script(alloc, script) else {
+        return Err(RunFault::Memory);
+    };
+    let Ok(len) = disk.len() else {
+        return Err(RunFault::Io);
+    };
+    if options.limit > LONGEST_FILE || len > options.limit || !are_playable(plays.as_slice()) {
+        return Err(RunFault::Memory);
+    }
+    take_plays(alloc, disk, options, plays.as_slice(), report, logs)
 }
 
 /// The lines of a report as text.

@@ -4,7 +4,6 @@ ghost use Rattle.std.specs.Prelude.{◌≡◌, ◌≤◌, ◌+◌, ◌++◌, ◌
 ghost use Rattle.tdb_plays.specs.declared.line.Line.{Line};
 ghost use Rattle.tdb_world.specs.Played.{growth, is_step};
 
-
 use crate::fault::RunFault;
 use tdb_locks::Turn;
 use tdb_plays::{Line, TurnReport};
