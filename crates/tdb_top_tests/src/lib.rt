@@ -2,6 +2,8 @@
 #![tactic(auto)]
 
 #[cfg(test)]
+mod all;
+#[cfg(test)]
 mod backup;
 #[cfg(test)]
 mod changes;
@@ -20,6 +22,8 @@ mod lines;
 #[cfg(test)]
 mod logs;
 #[cfg(test)]
+mod long;
+#[cfg(test)]
 mod options;
 #[cfg(test)]
 mod printing;
@@ -27,6 +31,8 @@ mod printing;
 mod runs;
 #[cfg(test)]
 mod sessions;
+#[cfg(test)]
+mod tables;
 #[cfg(test)]
 mod turns;
 #[cfg(test)]

@@ -1,4 +1,4 @@
-// Runs of words over files in memory: the status, and what is printed.
+// Runs of command lines over files in memory: the status, and what is printed.
 
 ghost use Rattle.std.specs.Prelude.{◌≡◌, ℕ, List, false};
 ghost use Rattle.tdb_disk.specs.MemFiles.{name_is_taken};
@@ -13,6 +13,80 @@ pub(crate) const USAGE: &str = "usage: tdb COMMAND [OPTIONS] FILE [WORDS]\n";
 /// The dump of a file of one record, whose key is `a` and whose value is `1`.
 pub(crate) const DUMP: &str = "{\nkey(1) = \"a\"\ndata(1) = \"1\"\n}\n";
 
+/// What fails in a run: nothing, the nth call of the files or of the disk of a name, the nth read of the input, or the
+/// nth write of the output.
+#[derive(Clone, Copy)]
+pub(crate) enum Failing {
+    Nothing,
+    Files(Call, u64),
+    Disk(&'static str, Call, u64),
+    Input(u64),
+    Output(u64),
+}
+
+/// A command line: its words with blanks between them, its input, what fails in its run, its status, and what it prints.
+pub(crate) type Line<'a> = (&'a str, &'a str, Failing, u8, &'a str);
+
+/// Runs words with blanks between them.
+fn run_over(
+    alloc: Global,
+    words: &str,
+    files: &mut MemFiles,
+    input: &mut MemSource,
+    output: &mut MemSink,
+    logs: &mut Vec<Box<dyn Log>>,
+) -> Result<u8, AllocError>
+    requires { (name : List ℕ) → name_is_taken files.old name ≡ false }
+    ensures { (name : List ℕ) → name_is_taken files.new name ≡ false }
+{
+    let mut list = Vec::new(alloc);
+    for word in words.split(' ') {
+        list.push(String::from_str(alloc, word)?)?;
+    }
+    let Status(status) = run(alloc, &list, files, input, output, logs);
+    Ok(status)
+}
+
+/// The status of a run over these files and this input, with these logs, in which something fails, and what it prints.
+pub(crate) fn answer(
+    alloc: Global,
+    files: &mut MemFiles,
+    words: &str,
+    text: &[u8],
+    failing: Failing,
+    logs: &mut Vec<Box<dyn Log>>,
+) -> Result<(u8, Vec<u8>), AllocError>
+    requires { (name : List ℕ) → name_is_taken files.old name ≡ false }
+    ensures { (name : List ℕ) → name_is_taken files.new name ≡ false }
+{
+    let mut input = MemSource::new(alloc, text)?;
+    let mut output = MemSink::new(alloc);
+    match failing {
+        Failing::Nothing => {}
+        Failing::Files(call, nth) => files.fail(call, nth)?,
+        Failing::Disk(name, call, nth) => files.fail_disk(name, call, nth)?,
+        Failing::Input(nth) => input.fail(Call::Read, nth)?,
+        Failing::Output(nth) => output.fail(Call::Write, nth)?,
+    }
+    let status = run_over(alloc, words, files, &mut input, &mut output, logs)?;
+    Ok((status, output.as_slice().to_vec(alloc)?))
+}
+
+/// Whether the run of a line over these files, with these logs, has its status, and prints what it says.
+pub(crate) fn line_holds(
+    alloc: Global,
+    files: &mut MemFiles,
+    line: &Line<'_>,
+    logs: &mut Vec<Box<dyn Log>>,
+) -> Result<bool, AllocError>
+    requires { (name : List ℕ) → name_is_taken files.old name ≡ false }
+    ensures { (name : List ℕ) → name_is_taken files.new name ≡ false }
+{
+    let (words, text, failing, status, printed) = *line;
+    let (found, bytes) = answer(alloc, files, words, text.as_bytes(), failing, logs)?;
+    Ok(found == status && bytes.as_slice() == printed.as_bytes())
+}
+
 /// The status of a run of words with blanks between them, and what it prints.
 pub(crate) fn run_words(
     alloc: Global,
@@ -23,46 +97,8 @@ pub(crate) fn run_words(
     requires { (name : List ℕ) → name_is_taken files.old name ≡ false }
     ensures { (name : List ℕ) → name_is_taken files.new name ≡ false }
 {
-    run_with(alloc, files, b"", output, words)
-}
-
-/// The same over an input.
-pub(crate) fn run_with(
-    alloc: Global,
-    files: &mut MemFiles,
-    text: &[u8],
-    output: &mut MemSink,
-    words: &str,
-) -> Result<(u8, Vec<u8>), AllocError>
-    requires { (name : List ℕ) → name_is_taken files.old name ≡ false }
-    ensures { (name : List ℕ) → name_is_taken files.new name ≡ false }
-{
-    let mut input = MemSource::new(alloc, text)?;
-    let mut list = Vec::new(alloc);
-    for word in words.split(' ') {
-        list.push(String::from_str(alloc, word)?)?;
-    }
+    let mut input = MemSource::new(alloc, b"")?;
     let mut logs: Vec<Box<dyn Log>> = Vec::new(alloc);
-    let Status(status) = run(alloc, &list, files, &mut input, output, &mut logs);
+    let status = run_over(alloc, words, files, &mut input, output, &mut logs)?;
     Ok((status, output.as_slice().to_vec(alloc)?))
-}
-
-/// The status of a run over an input and a file `f.tdb` whose nth call of a kind fails, what it prints, and what is left
-/// of the file.
-pub(crate) fn run_on(
-    alloc: Global,
-    image: &[u8],
-    text: &[u8],
-    words: &str,
-    failing: Option<(Call, u64)>,
-) -> Result<(u8, Vec<u8>, Vec<u8>), AllocError> {
-    let mut files = MemFiles::new(alloc);
-    let mut output = MemSink::new(alloc);
-    files.put("f.tdb", image)?;
-    if let Some((call, nth)) = failing {
-        files.fail_disk("f.tdb", call, nth)?;
-    }
-    let (status, printed) = run_with(alloc, &mut files, text, &mut output, words)?;
-    let left = files.get("f.tdb").unwrap_or(&[]).to_vec(alloc)?;
-    Ok((status, printed, left))
 }

@@ -1,39 +1,12 @@
 // Scripts of turns: what is printed, and what is left of the file.
 
-use crate::images::{Change, NEW_FILE, file_with, one_record};
-use crate::runs::{USAGE, run_on};
+use crate::images::{NEW, ONE};
+use crate::runs::Failing::{Disk, Nothing};
+use crate::runs::{USAGE, answer};
+use crate::tables::{Left, Table, files_of};
 use std::alloc::{AllocError, Global};
 use std::test::Fail;
-use tdb_disk::Call;
-
-/// The file that a script runs on.
-#[derive(Clone, Copy)]
-enum Base {
-    /// A new one of 696 bytes.
-    New,
-
-    /// One of 4096 bytes with the record of `a`, whose value is `1`.
-    OneRecord,
-}
-
-/// What is there of these words of a file.
-const TWO_RECORDS: [Change; 3] = [(700, 3312), (4044, 1), (4056, 0x4242_3262)];
-
-/// The status of a run of turns on a file `f.tdb`, what it prints, and what is left of the file.
-fn run_script(
-    alloc: Global,
-    base: Base,
-    words: &str,
-    script: &str,
-    failing: Option<(Call, u64)>,
-) -> Result<(u8, Vec<u8>, Vec<u8>), AllocError> {
-    let (image, len) = match base {
-        Base::New => (file_with(&NEW_FILE), 696),
-        Base::OneRecord => (one_record(), 4096),
-    };
-    let image = image.get(..len).unwrap_or(&[]);
-    run_on(alloc, image, script.as_bytes(), words, failing)
-}
+use tdb_disk::{Call, MemFiles};
 
 /// Two openers store, turn by turn.
 const TWO_STORES: &str =
@@ -63,7 +36,7 @@ const DEATHS_TOLD: &str = "1 open\n1 step\n1 occupied\n1 done ok\n1 died\n1 abse
 pub(crate) const COMMIT: &str =
     "open\nopen\ndo 1 start\ndo 1 store a 9\ndo 2 fetch a\ngive 2 store b 2\nturn 2\ndo 1 commit\ngo 2\ndo 2 fetch a\n";
 
-const COMMIT_TOLD: &str =
+pub(crate) const COMMIT_TOLD: &str =
     "1 open\n2 open\n1 step\n1 step\n1 done ok\n1 done ok\n2 step\n2 done data(1) = \"1\"\n2 blocked 1 448\n1 step\n1 step\n1 step\ngrew 4096 8192\n1 step\n1 step\n1 step\n1 step\n1 step\n1 done ok\n2 step\n2 step\n2 step\n2 step\n2 step\n2 done ok\n2 step\n2 done data(1) = \"9\"\n";
 
 /// A transaction within another is cancelled, which dooms that.
@@ -77,7 +50,7 @@ const DOOMED_TOLD: &str =
 pub(crate) const PREPARED: &str =
     "open\nopen\ndo 1 start\ndo 1 store a 9\ndo 1 prepare\ngive 2 fetch a\nturn 2\ndie 1\ngo 2\n";
 
-const PREPARED_TOLD: &str =
+pub(crate) const PREPARED_TOLD: &str =
     "1 open\n2 open\n1 step\n1 step\n1 done ok\n1 done ok\n1 step\n1 step\n1 step\ngrew 4096 8192\n1 step\n1 done ok\n2 blocked 1 196\n1 died\nundone 1 4096\n2 step\n2 done data(1) = \"1\"\n";
 
 /// An opener dies in the turn of its commit before the one that shuts the gate.
@@ -94,137 +67,126 @@ const DEATH_BEHIND: &str =
 const DEATH_BEHIND_TOLD: &str =
     "1 open\n2 open\n1 step\n1 step\n1 done ok\n1 done ok\n1 step\n1 step\n1 step\ngrew 4096 8192\n1 step\n1 step\n1 step\n1 step\n1 step\n1 died\n2 step\n2 done data(1) = \"9\"\n";
 
-#[test]
-fn transactions(rt: HostRuntime) -> Result<(), Fail> {
-    for (script, printed, stays) in [
-        (COMMIT, COMMIT_TOLD, false),
-        (DOOMED, DOOMED_TOLD, true),
-        (PREPARED, PREPARED_TOLD, true),
-        (DEATH_BEFORE, DEATH_BEFORE_TOLD, true),
-        (DEATH_BEHIND, DEATH_BEHIND_TOLD, false),
-    ] {
-        let (found, bytes, left) = run_script(
-            rt.alloc(),
-            Base::OneRecord,
-            "turns f.tdb",
-            script,
-            None,
-        )?;
-        assert_eq!(rt; bytes.as_slice(), printed.as_bytes());
-        assert_eq!(rt; found, 0);
-        let same = left.as_slice() == one_record().as_slice();
-        assert_eq!(rt; same, stays, "{script}");
-    }
-    Ok(())
-}
-
-#[test]
-fn reports(rt: HostRuntime) -> Result<(), Fail> {
-    let one = Base::OneRecord;
-    for (base, words, script, failing, status, printed) in [
-        (
-            Base::New,
-            "turns f.tdb",
-            TWO_STORES,
-            None,
-            0,
-            TWO_STORES_TOLD,
-        ),
-        (one, "turns f.tdb", LOCKS, None, 0, LOCKS_TOLD),
-        (
-            one,
-            "turns --read-only f.tdb",
-            READ_ONLY,
-            None,
-            0,
-            READ_ONLY_TOLD,
-        ),
-        (one, "turns f.tdb", DEATHS, None, 0, DEATHS_TOLD),
-        (
-            one,
-            "turns f.tdb",
-            "open\ngive 1 store a 2\nturn 1",
-            None,
-            0,
-            "1 open\n1 step\n1 unfinished\n",
-        ),
-        (
-            one,
-            "turns f.tdb --seqnum",
-            "open\ndo 1 delete b\ndo 1 seqnum",
-            None,
-            0,
-            "1 open\n1 step\n1 done noexist\n1 done number 0\n",
-        ),
-        (
-            one,
-            "turns --limit 1000 f.tdb",
-            "",
-            None,
-            6,
-            "toolong 4096\n",
-        ),
-        (one, "turns --limit=4294963200 -- f.tdb", "", None, 0, ""),
-        (
-            one,
-            "turns g.tdb",
-            "open\ndo 1 begin",
-            None,
-            7,
-            "input malformed at 5\n",
-        ),
-        (
-            one,
-            "turns g.tdb",
-            "# nothing\n",
-            None,
-            9,
-            "missing g.tdb\n",
-        ),
-        (
-            one,
-            "turns f.tdb",
-            "open\ndo 1 store a 22",
-            Some((Call::Write, 0)),
-            4,
-            "1 open\n1 step\ndevice fault\n",
-        ),
-        (one, "turns --limit 695 f.tdb", "", None, 2, USAGE),
-        (one, "turns --limit -- f.tdb", "", None, 2, USAGE),
-        (one, "turns --seqnum f.tdb --seqnum", "", None, 2, USAGE),
-        (one, "turns --read-only", "", None, 2, USAGE),
-    ] {
-        let (found, bytes, _) = run_script(rt.alloc(), base, words, script, failing)?;
-        assert_eq!(rt; bytes.as_slice(), printed.as_bytes(), "{words}");
-        assert_eq!(rt; found, status, "{words}");
-    }
-    Ok(())
-}
-
-#[test]
-fn what_two_stores_leave(rt: HostRuntime) -> Result<(), Fail> {
-    let (_, _, left) = run_script(rt.alloc(), Base::New, "turns f.tdb", TWO_STORES, None)?;
-    assert_eq!(rt; left.len(), 4096);
-    for (at, word) in TWO_RECORDS {
-        let at = usize::from(at);
-        assert_eq!(rt;
-            left.get(at..at + 4),
-            Some(word.to_le_bytes().as_slice()),
-            "{at}"
-        );
-    }
-    Ok(())
-}
+pub(crate) static TABLES: [Table; 4] = [
+    Table {
+        files: &[("f.tdb", ONE)],
+        in_turn: 1,
+        lines: &[
+            ("turns f.tdb", DOOMED, Nothing, 0, DOOMED_TOLD),
+            ("turns f.tdb", PREPARED, Nothing, 0, PREPARED_TOLD),
+            ("turns f.tdb", DEATH_BEFORE, Nothing, 0, DEATH_BEFORE_TOLD),
+        ],
+        left: &[("f.tdb", Left::Bytes(ONE))],
+    },
+    Table {
+        files: &[("f.tdb", ONE)],
+        in_turn: 1,
+        lines: &[
+            ("turns f.tdb", COMMIT, Nothing, 0, COMMIT_TOLD),
+            ("turns f.tdb", DEATH_BEHIND, Nothing, 0, DEATH_BEHIND_TOLD),
+        ],
+        left: &[("f.tdb", Left::Other(ONE))],
+    },
+    Table {
+        files: &[("f.tdb", NEW)],
+        in_turn: 1,
+        lines: &[("turns f.tdb", TWO_STORES, Nothing, 0, TWO_STORES_TOLD)],
+        left: &[
+            ("f.tdb", Left::Length(4096)),
+            (
+                "f.tdb",
+                Left::Words(&[(700, 3312), (4044, 1), (4056, 0x4242_3262)]),
+            ),
+        ],
+    },
+    Table {
+        files: &[("f.tdb", ONE)],
+        in_turn: 1,
+        lines: &[
+            ("turns f.tdb", LOCKS, Nothing, 0, LOCKS_TOLD),
+            (
+                "turns --read-only f.tdb",
+                READ_ONLY,
+                Nothing,
+                0,
+                READ_ONLY_TOLD,
+            ),
+            ("turns f.tdb", DEATHS, Nothing, 0, DEATHS_TOLD),
+            (
+                "turns f.tdb",
+                "open\ngive 1 store a 2\nturn 1",
+                Nothing,
+                0,
+                "1 open\n1 step\n1 unfinished\n",
+            ),
+            (
+                "turns f.tdb --seqnum",
+                "open\ndo 1 delete b\ndo 1 seqnum",
+                Nothing,
+                0,
+                "1 open\n1 step\n1 done noexist\n1 done number 0\n",
+            ),
+            ("turns --limit 1000 f.tdb", "", Nothing, 6, "toolong 4096\n"),
+            ("turns --limit=4294963200 -- f.tdb", "", Nothing, 0, ""),
+            (
+                "turns g.tdb",
+                "open\ndo 1 begin",
+                Nothing,
+                7,
+                "input malformed at 5\n",
+            ),
+            ("turns g.tdb", "# nothing\n", Nothing, 9, "missing g.tdb\n"),
+            (
+                "turns f.tdb",
+                "open\ndo 1 store a 22",
+                Disk("f.tdb", Call::Write, 0),
+                4,
+                "1 open\n1 step\ndevice fault\n",
+            ),
+            ("turns --limit 695 f.tdb", "", Nothing, 2, USAGE),
+            ("turns --limit -- f.tdb", "", Nothing, 2, USAGE),
+            ("turns --seqnum f.tdb --seqnum", "", Nothing, 2, USAGE),
+            ("turns --read-only", "", Nothing, 2, USAGE),
+        ],
+        left: &[],
+    },
+];
 
 /// One opener changes the value of `a` in a transaction.
-const CHANGE: &str = "open\ndo 1 start\ndo 1 store a 9\ndo 1 commit\n";
+const CHANGE: &[u8] = b"open\ndo 1 start\ndo 1 store a 9\ndo 1 commit\n";
 
-const OLD: &[u8] = b"data(1) = \"1\"\n";
+const OLD_VALUE: &[u8] = b"data(1) = \"1\"\n";
 
-const NEW: &[u8] = b"data(1) = \"9\"\n";
+const NEW_VALUE: &[u8] = b"data(1) = \"9\"\n";
 
-// Each call of the disk fails in turn: the file opens with the old value or with the new one then, and with the new one
-// where the commit was done.
+/// The status of the change in which the nth call of a kind of the disk fails, and whether the file opens with the new
+/// value then, or with the old one where the device failed.
+fn change_failing(alloc: Global, call: Call, nth: u64) -> Result<(u8, bool), AllocError> {
+    let mut files = files_of(alloc, &[("f.tdb", ONE)])?;
+    let failing = Disk("f.tdb", call, nth);
+    let logs = &mut Vec::new(alloc);
+    let (status, _) = answer(alloc, &mut files, "turns f.tdb", CHANGE, failing, logs)?;
+    let mut after = MemFiles::new(alloc);
+    after.put("f.tdb", files.get("f.tdb").unwrap_or(&[]))?;
+    let (_, shown) = answer(alloc, &mut after, "tool f.tdb show a", b"", Nothing, logs)?;
+    let shown = shown.as_slice();
+    Ok((
+        status,
+        shown == NEW_VALUE || status == 4 && shown == OLD_VALUE,
+    ))
+}
+
+/// Whether the file opens so whichever call of a kind fails, up to the first change of which none does.
+fn changes_safely(alloc: Global, call: Call) -> Result<bool, AllocError> {
+    for nth in 0..200 {
+        let (status, is_safe) = change_failing(alloc, call, nth)?;
+        if !is_safe || status == 0 {
+            return Ok(is_safe);
+        }
+    }
+    Ok(false)
+}
+
 #[test]
 fn failing_calls_of_a_commit(rt: HostRuntime) -> Result<(), Fail> {
     for call in [
@@ -235,24 +197,7 @@ fn failing_calls_of_a_commit(rt: HostRuntime) -> Result<(), Fail> {
         Call::Grow,
         Call::Sync,
     ] {
-        let mut found = 4;
-        for nth in 0..200 {
-            let (status, _, left) = run_script(
-                rt.alloc(),
-                Base::OneRecord,
-                "turns f.tdb",
-                CHANGE,
-                Some((call, nth)),
-            )?;
-            let (_, shown, _) = run_on(rt.alloc(), &left, b"", "tool f.tdb show a", None)?;
-            let shown = shown.as_slice();
-            assert!(rt; shown == NEW || status == 4 && shown == OLD, "{nth}");
-            found = status;
-            if status == 0 {
-                break;
-            }
-        }
-        assert_eq!(rt; found, 0);
+        assert!(rt; changes_safely(rt.alloc(), call)?, "{call:?}");
     }
     Ok(())
 }
