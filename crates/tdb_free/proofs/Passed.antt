@@ -1,18 +1,16 @@
 -- The walk along the free list, record by record, and each way out of it.
-use Rattle.std.proofs.Common.{◌≡◌, ℕ, ◌+◌, ◌≤◌, Bool, true, false, List, [], ◌∷◌, length, Option, Some, None, refl, sym, ◌∙◌, ap, subst, inl, inr, arith}
-use Rattle.std.specs.Prelude.{◌/◌, IfSome}
+use Rattle.std.proofs.Common.{◌≡◌, ℕ, ◌+◌, ◌≤◌, Bool, true, false, List, [], ◌∷◌, length, Some, None, refl, sym, ◌∙◌, ap, subst, inl, inr, arith}
+use Rattle.std.specs.Prelude.{◌/◌}
 use Rattle.std.specs.List.{find}
-use Rattle.std.proofs.lemmas.Bool.{cases_Bool, ne_eqb}
-use Rattle.tdb_words.specs.declared.record.Rec.{Rec}
+use Rattle.std.proofs.lemmas.Bool.{ne_eqb}
 use Rattle.tdb_words.specs.Word.{word}
-use Rattle.tdb_words.specs.Record.{rec_at}
 use Rattle.tdb_space.specs.Form.{Form, data_start, free_head}
 use Rattle.tdb_space.specs.Record.{Whole, IsFree, rec_len_of}
 use Rattle.tdb_space.specs.Chain.{Free, Leads, without}
 use Rattle.tdb_space.specs.Extents.{HandPair}
 use Rattle.tdb_space.proofs.Chain.Walks.{linked_short}
 use Rattle.tdb_free.specs.FreeList.{free_pairs}
-use Rattle.tdb_free.specs.Search.{IsFirst, IsSpot, first_of, spot_pair}
+use Rattle.tdb_free.specs.Search.{IsFirst, count_before}
 use Rattle.tdb_free.specs.declared.search.Spot.{Spot}
 
 -- where the first of a list doesn't pass a test, what is found is found behind it, and it stays where that is left out
@@ -22,6 +20,13 @@ find_later test p ps e = rw e refl
 -- where it passes, it is what is found
 pub find_here : (test : HandPair → Bool) (p : HandPair) (ps : List HandPair) → test p ≡ true → find test (p ∷ ps) ≡ Some p
 find_here test p ps e = rw e refl
+
+-- how many stand in front of it, in both cases
+pub count_here : (test : HandPair → Bool) (p : HandPair) (ps : List HandPair) → test p ≡ true → count_before test (p ∷ ps) ≡ 0
+count_here test p ps e = rw e refl
+
+pub count_later : (test : HandPair → Bool) (p : HandPair) (ps : List HandPair) → test p ≡ false → count_before test (p ∷ ps) ≡ 1 + count_before test ps
+count_later test p ps e = rw e refl
 
 -- the list without another record than its first
 pub without_tail : (x y : ℕ) (xs : List ℕ) → (x ≡ y → ⊥) → without y (x ∷ xs) ≡ x ∷ without y xs
@@ -34,6 +39,7 @@ pub record Passed (f : Form) (img offs : List ℕ) (test : HandPair → Bool) (t
   pub list : Free f img at rest
   pub leads : (b y : ℕ) → Leads before rest b y → Leads free_head offs b y
   pub first : find test (free_pairs f img offs) ≡ find test (free_pairs f img rest)
+  pub count : count_before test (free_pairs f img offs) ≡ turns + count_before test (free_pairs f img rest)
   pub short : turns + length rest ≤ length img / 4
 
 -- at first none was passed, and the head of the list leads on
@@ -43,6 +49,7 @@ passed_start f img offs test at list = record {
   list = list;
   leads = λ b y led. led;
   first = refl;
+  count = omega arith;
   short = omega (arith, linked_short f IsFree img at offs list);
 }
 
@@ -55,22 +62,21 @@ module _ (f : Form) (img offs : List ℕ) (test : HandPair → Bool) (turns befo
       nothing [] list = refl
       nothing (x ∷ xs) list = absurd (never (subst (Whole f img) (sym list.0) list.1))
 
-  -- the record there doesn't pass the test
-  pub passed_more : (r : Rec) → data_start f ≤ at → r ≡ rec_at f.order img at → test (at, r.rec_len) ≡ false → Passed f img offs test (turns + 1) at r.next
-  passed_more r above read fails = step p.rest p.list p.leads p.first p.short
+  -- the record there doesn't pass the test, and leads on
+  pub passed_more : (next : ℕ) → data_start f ≤ at → next ≡ word f.order img at → test (at, rec_len_of f.order img at) ≡ false → Passed f img offs test (turns + 1) at next
+  passed_more next above leads_on fails = step p.rest p.list p.leads p.first p.count p.short
     where
       step : (rest : List ℕ) → Free f img at rest → ((b y : ℕ) → Leads before rest b y → Leads free_head offs b y) → find test (free_pairs f img offs) ≡ find test (free_pairs f img rest)
-          → turns + length rest ≤ length img / 4 → Passed f img offs test (turns + 1) at r.next
-      step [] list leads first short = absurd (omega (arith, list, above))
-      step (x ∷ xs) list leads first short =
-          let len : r.rec_len ≡ rec_len_of f.order img x = ap (λ q. q.rec_len) read ∙ ap (rec_len_of f.order img) list.0 in
-          let next : r.next ≡ word f.order img x = ap (λ q. q.next) read ∙ ap (word f.order img) list.0 in
-          let fails_here : test (x, rec_len_of f.order img x) ≡ false = (λ j. test (sym list.0 j, sym len j)) ∙ fails in
+          → count_before test (free_pairs f img offs) ≡ turns + count_before test (free_pairs f img rest) → turns + length rest ≤ length img / 4 → Passed f img offs test (turns + 1) at next
+      step [] list leads first count short = absurd (omega (arith, list, above))
+      step (x ∷ xs) list leads first count short =
+          let fails_here : test (x, rec_len_of f.order img x) ≡ false = (λ j. test (sym list.0 j, rec_len_of f.order img (sym list.0 j))) ∙ fails in
           record {
             rest = xs;
-            list = subst (λ y. Free f img y xs) (sym next) list.3;
+            list = subst (λ y. Free f img y xs) (sym (leads_on ∙ ap (word f.order img) list.0)) list.3;
             leads = λ b y led. leads b y (inr (subst (λ z. Leads z xs b y) list.0 led));
             first = first ∙ find_later test (x, rec_len_of f.order img x) (free_pairs f img xs) fails_here;
+            count = omega (arith, count, count_later test (x, rec_len_of f.order img x) (free_pairs f img xs) fails_here);
             short = omega (arith, short);
           }
 
@@ -99,50 +105,3 @@ module _ (f : Form) (img offs : List ℕ) (test : HandPair → Bool) (turns befo
       nothing : (rest : List ℕ) → turns + length rest ≤ length img / 4 → find test (free_pairs f img rest) ≡ None
       nothing [] short = refl
       nothing (x ∷ xs) short = absurd (omega (arith, short, all))
-
--- a search that goes on where a record was found: it was found, or none was among the records that were passed
-abbrev pub Sought : Form → List ℕ → List ℕ → (HandPair → Bool) → ℕ → ℕ → ℕ → Option Spot → Type 0
-Sought f img offs test turns before at None = Passed f img offs test turns before at
-Sought f img offs test turns before at (Some s) = IsFirst f img offs test s
-
-module _ (f : Form) (img offs : List ℕ) (test : HandPair → Bool) (turns before at : ℕ) where
-  -- one record more
-  pub sought_more : (found now : Option Spot) → Sought f img offs test turns before at found → (s : Spot) (r : Rec) → data_start f ≤ at → r ≡ rec_at f.order img at → s ≡ record { off = at; before = before; next = r.next; rec_len = r.rec_len } → now ≡ first_of found (test (spot_pair s)) s → Sought f img offs test (turns + 1) at r.next now
-  sought_more (Some q) now sought s r above read is e = subst (Sought f img offs test (turns + 1) at r.next) (sym e) sought
-  sought_more None now sought s r above read is e =
-      let pair_is : spot_pair s ≡ (at, r.rec_len) = λ j. ((is j).off, (is j).rec_len) in
-      elim (cases_Bool (test (spot_pair s))) [
-        | inl passes ↦
-            let e_now : now ≡ Some s = e ∙ ap (λ b. first_of None b s) passes in
-            let len : s.rec_len ≡ rec_len_of f.order img at = ap (λ q. q.rec_len) is ∙ ap (λ q. q.rec_len) read in
-            let next : s.next ≡ word f.order img at = ap (λ q. q.next) is ∙ ap (λ q. q.next) read in
-            let passes_at : test (at, s.rec_len) ≡ true = (λ j. test (sym (ap (λ q. q.off) is) j, s.rec_len)) ∙ passes in
-            subst (Sought f img offs test (turns + 1) at r.next) (sym e_now)
-            (passed_found f img offs test turns before at sought s above (ap (λ q. q.off) is) (ap (λ q. q.before) is) next len passes_at)
-        | inr fails ↦
-            let e_now : now ≡ None = e ∙ ap (λ b. first_of None b s) fails in
-            subst (Sought f img offs test (turns + 1) at r.next) (sym e_now)
-            (passed_more f img offs test turns before at sought r above read (ap test (sym pair_is) ∙ fails))
-      ]
-
-  -- the search ends where no record can stand, after as many records as the image has words, and where one was found
-  pub sought_end : (found : Option Spot) → Sought f img offs test turns before at found → (Whole f img at → ⊥) → IsSpot f img offs test found
-  sought_end None sought never = passed_end f img offs test turns before at sought never
-  sought_end (Some s) sought never = sought
-
-  pub sought_all : (found : Option Spot) → Sought f img offs test turns before at found → length img / 4 ≤ turns → IsSpot f img offs test found
-  sought_all None sought all = passed_all f img offs test turns before at sought all
-  sought_all (Some s) sought all = sought
-
-  pub sought_found : (found : Option Spot) → Sought f img offs test turns before at found → (found ≡ None → ⊥) → IsSpot f img offs test found
-  sought_found None sought some = absurd (some refl)
-  sought_found (Some s) sought some = sought
-
--- what holds of what was found holds with one record more
-pub first_holds : (P : Spot → Type 0) (test : HandPair → Bool) (found now : Option Spot) (s : Spot) → IfSome found P → (test (spot_pair s) ≡ true → P s) → now ≡ first_of found (test (spot_pair s)) s → IfSome now P
-first_holds P test (Some q) now s held mine e = subst (λ o. IfSome o P) (sym e) held
-first_holds P test None now s held mine e =
-    elim (cases_Bool (test (spot_pair s))) [
-      | inl passes ↦ subst (λ o. IfSome o P) (sym (e ∙ ap (λ b. first_of None b s) passes)) (mine passes)
-      | inr fails ↦ subst (λ o. IfSome o P) (sym (e ∙ ap (λ b. first_of None b s) fails)) tt
-    ]

@@ -12,12 +12,15 @@ pub record LooksFree (o : Order) (img : List ℕ) (at : ℕ) : Type 0 where
   pub within : at + 24 ≤ length img
   pub magic : magic_of o img at ≡ FREE
 
--- the word in front of a place tells a length that a record can have, and what is so long and ends there looks free
-pub record EndsFree (o : Order) (img : List ℕ) (at : ℕ) : Type 0 where
-  pub least : 28 ≤ word o img (at - 4)
-  pub room : word o img (at - 4) ≤ at
+-- what ends at a place starts at this offset, by the word in front of the place, which is the length of a record
+pub record StartsByTailer (o : Order) (img : List ℕ) (at start : ℕ) : Type 0 where
   pub within : at ≤ length img
-  pub looks : LooksFree o img (at - word o img (at - 4))
+  pub least : 28 ≤ word o img (at - 4)
+  pub back : start + word o img (at - 4) ≡ at
+
+-- what ends at a place looks free, where it starts by the word in front of the place
+abbrev pub EndsFree : Order → List ℕ → ℕ → Type 0
+EndsFree o img at = (start : ℕ) × StartsByTailer o img at start × LooksFree o img start
 
 -- what starts where a hand ends looks free, or what ends where it starts
 abbrev pub FreeBeside : Order → List ℕ → HandPair → Type 0

@@ -1,5 +1,5 @@
 -- What a search of the free list finds.
-use Rattle.std.specs.Prelude.{◌≡◌, ℕ, ◌+◌, ◌%◌, ◌≤◌, ◌==◌, Bool, List, Option, None, Some, IfSome, if◌then◌else◌}
+use Rattle.std.specs.Prelude.{◌≡◌, ℕ, ◌+◌, ◌%◌, ◌≤◌, ◌==◌, Bool, List, [], ◌∷◌, Option, None, Some, IfSome, if◌then◌else◌}
 use Rattle.std.specs.List.{find}
 use Rattle.tdb_space.specs.Form.{Form, free_head}
 use Rattle.tdb_space.specs.Record.{next_of, rec_len_of}
@@ -23,6 +23,11 @@ abbrev pub IsSpot : Form → List ℕ → List ℕ → (HandPair → Bool) → O
 IsSpot f img offs test None = find test (free_pairs f img offs) ≡ None
 IsSpot f img offs test (Some p) = IsFirst f img offs test p
 
+-- how many of these records stand in front of the first that passes a test, or of the end where none does
+abbrev pub count_before : (HandPair → Bool) → List HandPair → ℕ
+count_before test [] = 0
+count_before test (p ∷ ps) = if test p then 0 else 1 + count_before test ps
+
 -- the record can stand where it was found, and the word that leads to it is aligned and ends within the length
 pub record SpotWithin (p : Spot) (f : Form) (len : ℕ) : Type 0 where
   pub aligned : p.before % 4 ≡ 0
@@ -32,11 +37,6 @@ pub record SpotWithin (p : Spot) (f : Form) (len : ℕ) : Type 0 where
 -- the offset and the rec_len of a record that was found
 abbrev pub spot_pair : Spot → HandPair
 spot_pair p = (p.off, p.rec_len)
-
--- what was found before, or else this record, if it is wanted
-abbrev pub first_of : Option Spot → Bool → Spot → Option Spot
-first_of None wanted p = if wanted then Some p else None
-first_of (Some q) wanted p = Some q
 
 -- A record as it stands in the list once another has left it: where the other led to it, the word that led to the other does, and
 -- where it led to the other, it leads on to what came behind that.

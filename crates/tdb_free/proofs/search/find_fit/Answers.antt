@@ -1,5 +1,5 @@
 -- The first record, one step more, and the ways out of the walk.
-use Rattle.std.proofs.Common.{◌≡◌, refl, sym, ◌∙◌, ap, subst, inl, inr, arith, rules}
+use Rattle.std.proofs.Common.{◌≡◌, false, refl, sym, ◌∙◌, ap, subst, inl, inr, arith, rules}
 use Rattle.std.specs.Prelude.{IfSome}
 use Rattle.std.proofs.lemmas.Bool.{le-leb, lt-leb}
 use Rattle.tdb_words.specs.Record.{rec_at}
@@ -59,7 +59,8 @@ loop-turn-preserved g c =
           (let read : rec ≡ rec_at f.order img at =
           subst (λ found. IfSome found (λ r. r ≡ rec_at (g.S.Space.form c.loop-turn.s).order (g.S.Space.image c.loop-turn.s) at)) c.in-Some.is (c.in_ok-rec.ensures.header told)
           ∙ (λ j. rec_at (v.looked.form j).order (v.looked.image j) at) in
-          passed_more f img offs (is_long_enough c.args.rec_len) c.loop-turn._turn c.loop-turn.before at (v.passed told offs list) rec (omega (arith, stands.above, ap (λ x. x.chains) v.looked.form)) read (lt-leb c.args.rec_len rec.rec_len c.if-rec_len-rec.false));
+          passed_more f img offs (is_long_enough c.args.rec_len) c.loop-turn._turn c.loop-turn.before at (v.passed told offs list) rec.next (omega (arith, stands.above, ap (λ x. x.chains) v.looked.form)) (ap (λ q. q.next) read)
+          (subst (λ n. is_long_enough c.args.rec_len (at, n) ≡ false) (ap (λ q. q.rec_len) read) (lt-leb c.args.rec_len rec.rec_len c.if-rec_len-rec.false)));
       led_aligned = stands.aligned;
       led = inr (omega (arith, stands.within, v.looked.size));
       looked = search rules;
