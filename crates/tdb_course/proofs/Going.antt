@@ -36,10 +36,10 @@ module _ (tells : Bool) (old mid new : Moment) (who n : ℕ) (low : n < 9)
 
 -- a turn and turns as a play of their own
 module _ (tells : Bool) (old new : Moment) (who : ℕ) where
-  pub turn_led : (more : Bool) → Led tells old new (Ok more) (λ state. TakesOne (form_at old.world) state who) Nothing (λ state. TakesOrClears (form_at old.world) state who) → PlayLed {V = Unit {0}} tells old new (Ok tt) (TakeTurn who)
-  turn_led more A = led_whole tells old new _ _ _ _ _ _ more tt A (λ state lines z is T. turn_gives (form_at old.world) state who more lines z T)
+  pub turn_led : {V : Type 0} (more : Bool) (v : V) → Led tells old new (Ok more) (λ state. TakesOne (form_at old.world) state who) Nothing (λ state. TakesOrClears (form_at old.world) state who) → PlayLed tells old new (Ok v) (TakeTurn who)
+  turn_led more v A = led_whole tells old new _ _ _ _ _ _ more v A (λ state lines z is T. turn_gives (form_at old.world) state who more lines z T)
 
-  pub turn_fault : (e : RunFault) → Led {V = Bool} tells old new (Err e) (λ state. TakesOne (form_at old.world) state who) Nothing (λ state. TakesOrClears (form_at old.world) state who) → PlayLed {V = Unit {0}} tells old new (Err e) (TakeTurn who)
+  pub turn_fault : {V : Type 0} (e : RunFault) → Led {V = Bool} tells old new (Err e) (λ state. TakesOne (form_at old.world) state who) Nothing (λ state. TakesOrClears (form_at old.world) state who) → PlayLed {V = V} tells old new (Err e) (TakeTurn who)
   turn_fault e A = led_fault tells old new _ _ _ _ _ _ e A (λ state lines z is none. begun_not none.0 none.1) (λ state lines z is T. turn_last (form_at old.world) state who lines z T)
 
   pub go_led : (r : Result (Unit {0}) RunFault) → Led tells old new r (λ state _. Goes (form_at old.world) most_turns state who) (λ state. GoesSome (form_at old.world) state who) (λ state. GoesOrClears (form_at old.world) state who)

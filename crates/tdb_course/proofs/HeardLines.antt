@@ -1,12 +1,12 @@
 -- What logs heard of lines, one part after the other.
-use Rattle.std.proofs.Common.{◌≡◌, List, [], ◌∷◌, ◌++◌, Some, refl, sym, ◌∙◌, ap, subst, append_assoc, arith, length, ◌-◌}
-use Rattle.tdb_log.specs.Logs.{Logged, ToldIfAny, Refused, LastBecame, but_last}
+use Rattle.std.proofs.Common.{◌≡◌, List, [], ◌∷◌, ◌++◌, Some, Result, Ok, Err, IfErr, OnOk, refl, sym, ◌∙◌, ap, subst, append_assoc, arith, length, ◌-◌}
+use Rattle.tdb_log.specs.Logs.{Logged, ToldIfAny, Took, Refused, LastBecame, but_last}
 use Rattle.tdb_log.specs.declared.log.LogRefusal.{LogRefusal}
 use Rattle.tdb_log.specs.declared.notice.Notice.{Notice}
 use Rattle.tdb_plays.specs.declared.line.Line.{Line}
 use Rattle.tdb_plays.specs.declared.line.Line.TheVariants.{LogsLeft}
 use Rattle.tdb_plays.specs.InLaw.{law_line}
-use Rattle.tdb_course.specs.Hearing.{Heard, HeardUpTo, KeepsLogs, notice_of}
+use Rattle.tdb_course.specs.Hearing.{Heard, HeardBy, HeardUpTo, KeepsLogs, notice_of}
 
 pub heard_joined : (old mid new : List Logged) (a b : List Line) → Heard old a mid → Heard mid b new → Heard old (a ++ b) new
 heard_joined old mid new [] b one two = subst (λ logs. Heard logs b new) one two
@@ -56,6 +56,12 @@ refused_one refusal old new line notice tells refused = record {
   heard = refl;
   refused = refused;
 }
+
+-- one line whose notice was told, or refused
+pub heard_notice : (old new : List Logged) (line : Line) (notice : Notice) → KeepsLogs (law_line line) → notice_of line ≡ Some notice
+    → (told : Result (Unit {0}) LogRefusal) → OnOk told (LastBecame (Took notice) old new) → IfErr told (λ refusal. LastBecame (Refused refusal) old new) → HeardBy old (line ∷ []) new (Ok told)
+heard_notice old new line notice keeps tells (Ok v) taken refused = heard_one old new line keeps (subst (λ n. ToldIfAny n old new) (sym tells) taken)
+heard_notice old new line notice keeps tells (Err refusal) taken refused = refused_one refusal old new line notice tells refused
 
 -- so many logs are left
 pub length_but_last : (logs : List Logged) → length (but_last logs) ≡ length logs - 1

@@ -16,9 +16,9 @@ use Rattle.tdb_course.proofs.Dropping.{comes_keep, drops_only}
 use Rattle.tdb_course.proofs.Stopping.{same_added}
 
 -- where the play broke off
-by_fault : (old new : List Logged) (lines : List Line) (told : Result (Unit {0}) LogRefusal) (fault : RunFault) → HeardBy old lines new (Ok told) → HeardBy old lines new (Err fault)
-by_fault old new lines (Ok v) fault heard = inl heard
-by_fault old new lines (Err refusal) fault heard = inr (refusal, heard)
+pub by_fault : {U : Type 0} (V : Type 0) (old new : List Logged) (lines : List Line) (told : Result U LogRefusal) (fault : RunFault) → HeardBy old lines new (Ok told) → HeardBy {V = V} old lines new (Err fault)
+by_fault V old new lines (Ok v) fault heard = inl heard
+by_fault V old new lines (Err refusal) fault heard = inr (refusal, heard)
 
 module _ (tells : Bool) (old new : Moment) (before after : List Logged) (play : Play) (stays : drops_log play ≡ false) (taken : Result (Unit {0}) RunFault)
     (A : PlayLed tells old new taken (law_play play)) (from : ℕ) (start : from ≡ length old.lines) (told : Result (Unit {0}) LogRefusal) (heard : HeardNotices (drop from new.lines) before after told) where
@@ -34,5 +34,5 @@ module _ (tells : Bool) (old new : Moment) (before after : List Logged) (play : 
       subst (λ ls. HeardBy before ls after (Ok told)) (added_is added e)
       (heard (subst (λ ls. KeepLogs (law_lines ls)) (same ∙ sym (added_is added e)) (added_keeps sees state is)))
 
-  pub fault_heard : (fault : RunFault) → HeardLed tells old new before after (Err fault)
-  fault_heard fault sees state added is e = by_fault before after added told fault (play_heard sees state added is e)
+  pub fault_heard : (fault : RunFault) → HeardLed {V = Unit {0}} tells old new before after (Err fault)
+  fault_heard fault sees state added is e = by_fault (Unit {0}) before after added told fault (play_heard sees state added is e)

@@ -100,10 +100,10 @@ failed_led tells w v h g size longer before now old new All Part Last rises line
 }
 
 -- a gate that was undone
-pub undone_led : (tells : Bool) (w v : Whole) (h g : History) (size shorter before now bytes to : ℕ) (old new : List Line) → v ≡ record w { stale = false } → shorter ≤ size → to ≡ shorter → now ≡ before
+pub undone_led : {U : Type 0} (answer : U) (tells : Bool) (w v : Whole) (h g : History) (size shorter before now bytes to : ℕ) (old new : List Line) → v ≡ record w { stale = false } → shorter ≤ size → to ≡ shorter → now ≡ before
     → WorldFits v (seen g) shorter → (IsTrue tells → UndoLeads w v h g) → new ≡ old ++ Lines.Undone bytes to ∷ []
-    → Led tells (moment w h size before old) (moment v g shorter now new) (Ok to) (λ state _. Clears (form_at w) state) Never Nothing
-undone_led tells w v h g size shorter before now bytes to old new world low length quiet W undoes lines = record {
+    → Led tells (moment w h size before old) (moment v g shorter now new) (Ok answer) (λ state _. Clears (form_at w) state) Never Nothing
+undone_led answer tells w v h g size shorter before now bytes to old new world low length quiet W undoes lines = record {
   header = ap (λ (z : Whole). z.openers.header) world;
   options = ap (λ (z : Whole). z.openers.options) world;
   rises = (let e = quiet in omega (arith, e));
@@ -179,16 +179,16 @@ module _ (tells : Bool) (w v : Whole) (h g : History) (from before who : ℕ) (c
   }
 
 -- An undo that failed, and one that a turn follows.
-pub undo_failed : (tells : Bool) (old new : Moment) (who : ℕ) (e : RunFault) → Led {V = ℕ} tells old new (Err e) (λ state _. Clears (form_at old.world) state) Never Nothing
+pub undo_failed : {U : Type 0} (tells : Bool) (old new : Moment) (who : ℕ) (e : RunFault) → Led {V = U} tells old new (Err e) (λ state _. Clears (form_at old.world) state) Never Nothing
     → Led {V = Bool} tells old new (Err e) (λ state. TakesOne (form_at old.world) state who) Nothing (λ state. TakesOrClears (form_at old.world) state who)
 undo_failed tells old new who e A = led_fault tells old new _ _ _ _ _ _ e A (λ state lines z is never. absurd never) (λ state lines z is none. inl (inl none))
 
 module _ (tells : Bool) (old mid new : Moment) (who : ℕ) (c : LawCommand) (mine : (state : State) → IsStateAt old state → IsToldOf state who c) where
-  pub turn_after : (from : ℕ) → Led tells old mid (Ok from) (λ state _. Clears (form_at old.world) state) Never Nothing
+  pub turn_after : {U : Type 0} (undone : U) → Led tells old mid (Ok undone) (λ state _. Clears (form_at old.world) state) Never Nothing
       → (r : Result Bool RunFault) → Led tells mid new r (λ state more lines z. IsToldOf state who c → TakesOne (form_at mid.world) state who more lines z) Never (λ state lines z. IsToldOf state who c → TakesLast (form_at mid.world) state who lines z)
       → Led tells old new r (λ state. TakesOne (form_at old.world) state who) Nothing (λ state. TakesOrClears (form_at old.world) state who)
-  turn_after from A r B =
-      led_join tells old mid new from _ _ _ _ _ _ _ _ _ A r
+  turn_after undone A r B =
+      led_join tells old mid new undone _ _ _ _ _ _ _ _ _ A r
       (subst (λ z. Led tells mid new r (λ state more lines z2. IsToldOf state who c → TakesOne (form_in z) state who more lines z2) Never (λ state lines z2. IsToldOf state who c → TakesLast (form_in z) state who lines z2)) A.header B)
       (λ state m more front rest z is C T. clear_takes (form_at old.world) state m who c front C (mine state is) more rest z T)
       (λ state m front rest z is C never. absurd never)

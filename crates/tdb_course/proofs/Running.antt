@@ -35,14 +35,14 @@ front_taken f plays j state z lines C =
     (course_whole f (law_plays (take j plays)) (law_plays (drop j plays)) state z lines C)
 
 -- what logs heard of lines, and then of more
-heard_behind : (old mid new : List Logged) (front rest : List Line) (answer : Result (Result (Unit {0}) LogRefusal) RunFault) → Heard old front mid → HeardBy mid rest new answer → HeardBy old (front ++ rest) new answer
+pub heard_behind : {V : Type 0} (old mid new : List Logged) (front rest : List Line) (answer : Result (Result V LogRefusal) RunFault) → Heard old front mid → HeardBy mid rest new answer → HeardBy old (front ++ rest) new answer
 heard_behind old mid new front rest (Ok (Ok v)) one two = heard_joined old mid new front rest one two
 heard_behind old mid new front rest (Ok (Err refusal)) one two = heard_then_refused refusal old mid new front rest one two
 heard_behind old mid new front rest (Err fault) one (inl two) = inl (heard_joined old mid new front rest one two)
 heard_behind old mid new front rest (Err fault) one (inr two) = inr (two.0, heard_then_refused two.0 old mid new front rest one two.1)
 
 -- they heard of nothing where nothing was added
-pub heard_none : (tells : Bool) (m : Moment) (logs : List Logged) → HeardLed tells m m logs logs (Ok (Ok tt))
+pub heard_none : (tells : Bool) (m : Moment) (logs : List Logged) → HeardLed {V = Unit {0}} tells m m logs logs (Ok (Ok tt))
 heard_none tells m logs sees state added is e = subst (λ ls. Heard logs ls logs) (same_added m.lines m.lines [] added (sym (append-nil m.lines)) e) refl
 
 -- a play behind those in front
@@ -61,7 +61,7 @@ module _ (tells : Bool) (old mid new : Moment) (plays : List CodePlay) (i : ℕ)
       (plays_joined tells old mid new plays i x low is_next PA LA A (Err fault) (led_fault {V = Result (Unit {0}) LogRefusal} tells mid new _ _ _ _ _ _ fault B (λ state lines z is P. P) (λ state lines z is L. L)))
       (λ state lines z is T. T) (λ state lines z is T. T)
 
-  pub run_heard : (before between after : List Logged) (rest : List Line) → new.lines ≡ mid.lines ++ rest → HeardLed tells old mid before between (Ok (Ok tt))
+  pub run_heard : (before between after : List Logged) (rest : List Line) → new.lines ≡ mid.lines ++ rest → HeardLed {V = Unit {0}} tells old mid before between (Ok (Ok tt))
       → (answer : Result (Result (Unit {0}) LogRefusal) RunFault) → HeardLed tells mid new between after answer → HeardLed tells old new before after answer
   run_heard before between after rest two H answer K sees state added is e =
       let end = A.told sees state is in

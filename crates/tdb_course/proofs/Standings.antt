@@ -10,7 +10,9 @@ use Rattle.tdb_beside.specs.Sides.{Past, Side, whole}
 use Rattle.tdb_beside.specs.Starts.{new_start}
 use Rattle.tdb_holder.specs.Holders.{HolderState}
 use Rattle.tdb_holder.specs.Stages.{stage_task}
-use Rattle.tdb_plays.specs.InLaw.{law_opener}
+use Rattle.tdb_plays.proofs.NameLemmas.{each_command}
+use Rattle.tdb_plays.specs.InLaw.{law_opener, law_command}
+use Rattle.tdb_plays.specs.declared.command.Command.{Command}
 use Rattle.tdb_world.specs.Openers.{law_task, own_at, task_at}
 use Rattle.tdb_world.specs.Worlds.{state_in, law_of_task, IsBusy, IsFree, IsNumber}
 use Rattle.tdb_world.specs.declared.job.Task.{Task as JobTask}
@@ -23,6 +25,7 @@ use Rattle.tdb_whole.specs.Steps.HasNoCommand.{idle_aside, idle_among}
 use Rattle.tdb_whole.specs.Steps.IsAmong.{among_all, among_others}
 use Rattle.tdb_whole.specs.Whole.{Whole, AsideFits, WorldFits, is_starting}
 use Rattle.tdb_whole.proofs.Standings.{aside_here, aside_task, own_in, same_holder, start_in, task_in, there_named}
+use Rattle.tdb_course.specs.Turns.{IsToldOf}
 
 -- as many have joined as the world has openers
 joined_so : (w : Whole) (img : List ℕ) (past : Past) (side : Option Side) → (whole (state_in w.openers img) past side).joined ≡ length w.openers.openers
@@ -51,13 +54,24 @@ module _ (w : Whole) (img : List ℕ) (size : ℕ) (F : WorldFits w img size) wh
   aside_live hd e h state (of_whole S) = ap (λ (z : State). (z.own (law_opener hd.owner)).live) S.is ∙ side_live hd w.aside e F.aside h S.image S.past S.side S.is_side
   aside_live hd e h state (of_stale S) = absurd (let none : None ≡ Some hd = sym S.nobody ∙ e in cc none)
 
+  -- an opener that has a command has the same one in each state
+  same_task : (who : ℕ) → HasCommand w who → (t : Task) × ((h : History) (state : State) → IsStateOf w h state → state.task (law_opener who) ≡ Some t)
+  same_task who (by_aside hd t e owner busy) = (t, λ h state is. ap (λ n. state.task (law_opener n)) owner ∙ aside_task w hd img size F e h state is ∙ busy)
+  same_task who (by_start begun among) = (new_start, λ h state is. start_in w (law_opener who) h state begun is)
+  same_task who (by_job x t B none among) =
+      (law_of_task t, λ h state is. task_in w who (named_by w who x B.number) among h state none is ∙ ap task_at (there_named w.openers who x B.number) ∙ ap law_task B.busy)
+
+  -- and some command of the code is that one
+  pub told_command : (who : ℕ) → HasCommand w who → (command : Command) × ((h : History) (state : State) → IsStateOf w h state → IsToldOf state (law_opener who) (law_command command))
+  told_command who B =
+      let T = same_task who B in
+      let C = each_command.each T.0.command in
+      (C.0, λ h state is t e. let same : T.0 ≡ t = (let both : Some T.0 ≡ Some t = sym (T.1 h state is) ∙ e in cc both) in C.2 ∙ ap (λ (u : Task). u.command) same)
+
   module _ (who : ℕ) (h : History) (state : State) (is : IsStateOf w h state) where
     -- an opener that has a command has it in each state, and is live there
     pub busy_task : HasCommand w who → (t : Task) × (state.task (law_opener who) ≡ Some t)
-    busy_task (by_aside hd t e owner busy) = (t, ap (λ n. state.task (law_opener n)) owner ∙ aside_task w hd img size F e h state is ∙ busy)
-    busy_task (by_start begun among) = (new_start, start_in w (law_opener who) h state begun is)
-    busy_task (by_job x t B none among) =
-        (law_of_task t, task_in w who (named_by w who x B.number) among h state none is ∙ ap task_at (there_named w.openers who x B.number) ∙ ap law_task B.busy)
+    busy_task B = let T = same_task who B in (T.0, T.1 h state is)
 
     pub busy_live : HasCommand w who → 1 ≤ who → (state.own (law_opener who)).live ≡ true
     busy_live (by_aside hd t e owner busy) named = ap (λ n. (state.own (law_opener n)).live) owner ∙ aside_live hd e h state is

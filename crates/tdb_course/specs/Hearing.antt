@@ -41,7 +41,7 @@ pub record HeardUpTo (refusal : LogRefusal) (old : List Logged) (lines : List Li
   pub refused : LastBecame (Refused refusal) mid new
 
 -- what logs heard of the lines that a play gave, by its answer: of all, where no log refused
-abbrev pub HeardBy : List Logged → List Line → List Logged → Result (Result (Unit {0}) LogRefusal) RunFault → Type 0
+abbrev pub HeardBy : {V : Type 0} → List Logged → List Line → List Logged → Result (Result V LogRefusal) RunFault → Type 0
 HeardBy old lines new (Ok (Ok v)) = Heard old lines new
 HeardBy old lines new (Ok (Err refusal)) = HeardUpTo refusal old lines new
 HeardBy old lines new (Err fault) = Heard old lines new ⊎ ((refusal : LogRefusal) × HeardUpTo refusal old lines new)
@@ -60,7 +60,7 @@ abbrev pub HeardNotices : List Line → List Logged → List Logged → Result (
 HeardNotices lines old new told = KeepLogs (law_lines lines) → HeardBy old lines new (Ok told)
 
 -- So it is between two moments, for logs that were as the first and became as the second.
-abbrev pub HeardLed : Bool → Moment → Moment → List Logged → List Logged → Result (Result (Unit {0}) LogRefusal) RunFault → Type 0
+abbrev pub HeardLed : {V : Type 0} → Bool → Moment → Moment → List Logged → List Logged → Result (Result V LogRefusal) RunFault → Type 0
 HeardLed tells old new before after answer =
     IsTrue tells → (state : State) (added : List Line) → IsStateAt old state → new.lines ≡ old.lines ++ added → HeardBy before added after answer
 

@@ -42,7 +42,7 @@ returns-in-Idle g c =
 pub returns-in-Ok : goal.returns-in-Ok
 returns-in-Ok g c = record {
   led = turn_led g.D.Disk.tells (moment c.args.world.now (g.D.Disk.history c.args.d.now) (g.D.Disk.size c.args.d.now) (g.D.Disk.faults c.args.d.now) c.args.report.now.lines)
-      (moment c.told_turn.new.world (g.D.Disk.history c.told_turn.new.d) (g.D.Disk.size c.told_turn.new.d) (g.D.Disk.faults c.told_turn.new.d) c.told_turn.new.report.lines) (law_opener c.args.who) _ c.in-Ok.ensures.led;
+      (moment c.told_turn.new.world (g.D.Disk.history c.told_turn.new.d) (g.D.Disk.size c.told_turn.new.d) (g.D.Disk.faults c.told_turn.new.d) c.told_turn.new.report.lines) (law_opener c.args.who) _ tt c.in-Ok.ensures.led;
   stops = stops_whole g.D.Disk.tells (moment c.args.world.now (g.D.Disk.history c.args.d.now) (g.D.Disk.size c.args.d.now) (g.D.Disk.faults c.args.d.now) c.args.report.now.lines)
       (moment c.told_turn.new.world (g.D.Disk.history c.told_turn.new.d) (g.D.Disk.size c.told_turn.new.d) (g.D.Disk.faults c.told_turn.new.d) c.told_turn.new.report.lines) _ tt c.in-Ok.ensures.stops;
 }

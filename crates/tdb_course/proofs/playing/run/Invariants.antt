@@ -18,6 +18,6 @@ invariant-loop-next g l = record {
       (λ state. ComesTo (form_at l.fn.world) state (law_plays l.plays));
   stops : StopsLed {V = Unit {0}} g.D.Disk.tells (moment l.fn.world (g.D.Disk.history l.fn.d) (g.D.Disk.size l.fn.d) (g.D.Disk.faults l.fn.d) l.fn.report.lines)
       (moment l.world (g.D.Disk.history l.d) (g.D.Disk.size l.d) (g.D.Disk.faults l.d) l.report.lines) (Ok tt);
-  heard : HeardLed g.D.Disk.tells (moment l.fn.world (g.D.Disk.history l.fn.d) (g.D.Disk.size l.fn.d) (g.D.Disk.faults l.fn.d) l.fn.report.lines)
+  heard : HeardLed {V = Unit {0}} g.D.Disk.tells (moment l.fn.world (g.D.Disk.history l.fn.d) (g.D.Disk.size l.fn.d) (g.D.Disk.faults l.fn.d) l.fn.report.lines)
       (moment l.world (g.D.Disk.history l.d) (g.D.Disk.size l.d) (g.D.Disk.faults l.d) l.report.lines) (g.L.Logs.logs l.fn.logs) (g.L.Logs.logs l.logs) (Ok (Ok tt));
 }

@@ -24,7 +24,7 @@ returns-in_err-undone-clause-led g c =
 
 pub returns-clause-led : goal.returns-clause-led
 returns-clause-led g c =
-    undone_led g.D.Disk.tells c.args.world.now c.undo_stale.new.self (g.D.Disk.history c.args.d.now) (g.D.Disk.history c.undo_stale.new.d) (g.D.Disk.size c.args.d.now) (g.D.Disk.size c.undo_stale.new.d)
+    undone_led c.in_ok-undone.undone.to g.D.Disk.tells c.args.world.now c.undo_stale.new.self (g.D.Disk.history c.args.d.now) (g.D.Disk.history c.undo_stale.new.d) (g.D.Disk.size c.args.d.now) (g.D.Disk.size c.undo_stale.new.d)
     (g.D.Disk.faults c.args.d.now) (g.D.Disk.faults c.undo_stale.new.d) c.in_ok-undone.undone.bytes c.in_ok-undone.undone.to c.args.report.now.lines c.put_line.new.report.lines c.in_ok-undone.ensures.world
     c.in_ok-undone.ensures.shorter c.in_ok-undone.ensures.length c.in_ok-undone.ensures.cause.done c.in_ok-undone.ensures.fits c.in_ok-undone.ensures.undoes c.put_line.ensures.lines
 
