@@ -16,3 +16,4 @@ pub mod Dropping
 pub mod ToldLines
 pub mod HeardPlays
 pub mod Running
+pub mod UnreportedTurns

@@ -8,3 +8,4 @@ pub mod Told
 pub mod Unfinished
 pub mod Laws
 pub mod Hearing
+pub mod Unreported

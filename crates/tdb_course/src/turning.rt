@@ -23,7 +23,7 @@ use tdb_whole::{Undone, World};
 use tdb_world::{RunFault, put_line, tell_growth, was_step};
 
 /// The length of the file.
-fn length_of<D: Disk>(d: &mut D) -> Result<u64, Io>
+pub(crate) fn length_of<D: Disk>(d: &mut D) -> Result<u64, Io>
     ensures length { IfOk result (λ n. n ≡ D.size d.old) }
     ensures size { D.size d.new ≡ D.size d.old }
     ensures history { D.history d.new ≡ D.history d.old }
