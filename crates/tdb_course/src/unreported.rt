@@ -1,5 +1,5 @@
 //! A turn of which no report tells.
-ghost use Rattle.std.specs.Prelude.{◌≡◌, ◌≤◌, ◌++◌, [], ℕ, List, OnOk, false};
+ghost use Rattle.std.specs.Prelude.{◌≡◌, ◌≤◌, ◌++◌, [], ℕ, List, OnOk, IfErr, false};
 ghost use Rattle.tdb_disk.specs.History.{seen};
 ghost use Rattle.tdb_law.specs.Plays.{Clears};
 ghost use Rattle.tdb_plays.specs.InLaw.{law_opener, law_command};
@@ -38,6 +38,7 @@ fn undo_gate<D: Disk>(world: &mut World, d: &mut D) -> Result<Option<Undone>, Ru
         Nothing }
     ensures fresh { OnOk result (world.new.stale ≡ false) }
     ensures busy { OnOk result ((who : ℕ) → HasCommand world.old who → HasCommand world.new who) }
+    ensures fault { IfErr result (λ fault. fault ≡ RunFault.Io) }
 {
     if !world.is_stale() {
         return Ok(None);
@@ -57,6 +58,7 @@ fn measured_turn<D: Disk>(world: &mut World, d: &mut D, who: u32) -> Result<Meas
         (λ state measured lines new. IsToldOf state (law_opener who) (law_command command) → TakesOne (form_at world.old) state (law_opener who) (is_step measured.turn) lines new)
         Never
         (λ state lines new. IsToldOf state (law_opener who) (law_command command) → TakesLast (form_at world.old) state (law_opener who) lines new) }
+    ensures fault { IfErr result (λ fault. fault ≡ RunFault.Io) }
 {
     let from = length_of(d)?;
     let turn = world.turn(d, who)?;
@@ -97,6 +99,7 @@ fn busy_turn<D: Disk, L: Logs>(
     requires fits { WorldFits world.old (seen (D.history d.old)) (D.size d.old) }
     ensures led { Unreported D.tells (moment world.old (D.history d.old) (D.size d.old) (D.faults d.old) [])
         (moment world.new (D.history d.new) (D.size d.new) (D.faults d.new) []) (L.logs logs.old) (L.logs logs.new) who result }
+    ensures fault { IfErr result (λ fault. fault ≡ RunFault.Io) }
 {
     let undone = undo_gate(world, d)?;
     let told = note_undone(undone, logs);
@@ -112,8 +115,8 @@ fn busy_turn<D: Disk, L: Logs>(
 
 /// An opener takes a turn of its command, where it has one, and nothing is put into a report. In a stale world the open
 /// gate is undone before. The last log is told what becomes of the file, as `play` tells it; a log that refuses doesn't
-/// undo the turn. The turn, or `None` where the opener has no command or isn't live. After `Io` the world may not be
-/// used any more.
+/// undo the turn. The turn, or `None` where the opener has no command or isn't live. `Memory`
+/// never comes, and after `Io` the world may not be used any more.
 ///
 /// Cost: that of the turn, of two looks at the file's length, and of the undo where one is made. It copies nothing.
 pub fn turn_unreported<D: Disk, L: Logs>(
@@ -126,6 +129,7 @@ pub fn turn_unreported<D: Disk, L: Logs>(
     requires fits { WorldFits world.old (seen (D.history d.old)) (D.size d.old) }
     ensures led { Unreported D.tells (moment world.old (D.history d.old) (D.size d.old) (D.faults d.old) [])
         (moment world.new (D.history d.new) (D.size d.new) (D.faults d.new) []) (L.logs logs.old) (L.logs logs.new) who result }
+    ensures fault { IfErr result (λ fault. fault ≡ RunFault.Io) }
 {
     match world.standing(who) {
         OpenerStanding::Absent | OpenerStanding::Idle => Ok(Ok(None)),
