@@ -1,7 +1,7 @@
--- What is counted of one line more.
+-- What is counted of one line more, and of several.
 use Rattle.std.proofs.Common.{◌≡◌, ℕ, ◌+◌, min, cond, Bool, true, false, List, [], ◌∷◌, ◌++◌, take, length, get_or, ◌<◌, sym, ◌∙◌, ap, arith}
 use Rattle.std.specs.Prelude.{count_by}
-use Rattle.std.proofs.lemmas.List.{append_assoc, take_more}
+use Rattle.std.proofs.lemmas.List.{append_assoc, append-nil, take_more}
 use Rattle.std.proofs.lemmas.List.Sums.{sum_by-append}
 use Rattle.tdb_disk.specs.Count.{last_count}
 use Rattle.tdb_plays.specs.declared.line.Line.{Line}
@@ -16,7 +16,7 @@ raised a m false = omega arith
 counted_more : (is : Line → Bool) (lines : List Line) (line : Line) → counted is (lines ++ line ∷ []) ≡ more (counted is lines) (is line)
 counted_more is lines line = ap (λ n. min n last_count) (sum_by-append (λ x. cond (is x) 1 0) lines (line ∷ [])) ∙ raised (count_by is lines) last_count (is line)
 
-pub counts_more : (lines : List Line) (line : Line) → counts_of (lines ++ line ∷ []) ≡ counts_with (counts_of lines) line
+counts_more : (lines : List Line) (line : Line) → counts_of (lines ++ line ∷ []) ≡ counts_with (counts_of lines) line
 counts_more lines line = λ j. record {
   ok = counted_more (is_end is_ok) lines line j;
   values = counted_more (is_end is_value) lines line j;
@@ -34,3 +34,12 @@ counts_next told lines i line old low is e =
     ap (λ c. counts_with c line) e
     ∙ sym (counts_more (told ++ take i lines) line)
     ∙ ap counts_of (append_assoc told (take i lines) (line ∷ []) ∙ ap (λ l. told ++ (take i lines ++ l ∷ [])) is ∙ ap (λ ls. told ++ ls) (sym (take_more lines i line low)))
+
+-- counts with more lines
+abbrev pub tally : Counts → List Line → Counts
+tally c [] = c
+tally c (line ∷ lines) = tally (counts_with c line) lines
+
+pub counts_tally : (told lines : List Line) → counts_of (told ++ lines) ≡ tally (counts_of told) lines
+counts_tally told [] = ap counts_of (append-nil told)
+counts_tally told (line ∷ lines) = ap counts_of (sym (append_assoc told (line ∷ []) lines)) ∙ counts_tally (told ++ line ∷ []) lines ∙ ap (λ c. tally c lines) (counts_more told line)

@@ -1,19 +1,16 @@
 -- All plays of generated commands, from their parts.
-use Rattle.std.proofs.Common.{◌≡◌, ◌≢◌, ℕ, ◌≤◌, Bool, List, [], ◌∷◌, length, Result, Ok, Err, refl, sym, ◌∙◌, ap, subst}
+use Rattle.std.proofs.Common.{◌≡◌, ◌≢◌, ℕ, ◌≤◌, Bool, [], length, Result, Ok, Err, refl, ◌∙◌, ap, subst}
 use Rattle.std.specs.Prelude.{IsTrue, IfOk, IfErr}
-use Rattle.std.proofs.lemmas.List.Concat.{flat_map-cons}
+use Rattle.std.specs.List.{range_with_len}
 use Rattle.tdb_disk.specs.Count.{Rose, HasCauseOf}
 use Rattle.tdb_disk.specs.History.{seen}
 use Rattle.tdb_space.specs.Accepted.{AcceptWith}
 use Rattle.tdb_space.specs.Form.{Form, form_in}
 use Rattle.tdb_space.specs.Pairs.{order_of}
-use Rattle.tdb_law.specs.Plays.{Course}
 use Rattle.tdb_law.specs.World.{State}
-use Rattle.tdb_plays.specs.InLaw.{law_plays, law_lines}
+use Rattle.tdb_plays.specs.InLaw.{law_lines}
 use Rattle.tdb_plays.specs.declared.options.Options.{Options}
-use Rattle.tdb_plays.specs.declared.play.Play.{Play}
 use Rattle.tdb_world.specs.Openers.{options_of}
-use Rattle.tdb_world.specs.Played.{ComesTo}
 use Rattle.tdb_whole.specs.Whole.{form_at}
 use Rattle.tdb_gen.specs.declared.fault.GenFault.{GenFault}
 use Rattle.tdb_gen.specs.declared.fault.GenFault.TheVariants.{Io, Memory, Log}
@@ -22,17 +19,12 @@ use Rattle.tdb_gen.specs.Counts.{counts_of}
 use Rattle.tdb_gen.specs.Generated.{HasFile, IsFirst, CameSo, CameOver, GeneratedOver}
 use Rattle.tdb_gen.specs.Plays.{joins, groups, group_list, together, gen_plays}
 use Rattle.tdb_gen.specs.Rounds.{IsReady}
-use Rattle.tdb_gen.specs.Taking.{UnlessIo, OnIo, Place, IsStateAt, TookAll, TookSome, LeavesSome, TakesTo, Taken}
+use Rattle.tdb_gen.specs.Taking.{UnlessIo, OnIo, Parts, Place, IsStateAt, TookAll, TookSome, LeavesSome, TakesTo, Taken}
 use Rattle.tdb_gen.proofs.Plain.{IsPlainly, plainly, idle_accepted}
-use Rattle.tdb_gen.proofs.Rounds.{loaded_ready}
-use Rattle.tdb_gen.proofs.Takings.{parts_course, all_behind, all_came, heard_whole}
-
--- all parts, and all plays
-abbrev all_parts : ℕ → ℕ → List (List Play)
-all_parts n seed = joins ∷ group_list n seed (groups n)
-
-all_plays : (n seed : ℕ) → together (all_parts n seed) ≡ gen_plays n seed
-all_plays n seed = flat_map-cons (λ plays. plays) joins (group_list n seed (groups n))
+use Rattle.tdb_gen.proofs.Keeping.{gen_stay}
+use Rattle.tdb_gen.proofs.Parting.{joins_parts, groups_parts}
+use Rattle.tdb_gen.proofs.GoingOn.{joins_done, loaded_ready}
+use Rattle.tdb_gen.proofs.Takings.{same_form, all_behind, all_some}
 
 -- what holds of an answer that is this one
 pub at_ok : {V F : Type 0} (r : Result V F) (P : V → Type 0) → IfOk r P → (v : V) → r ≡ Ok v → P v
@@ -56,58 +48,57 @@ module _ (options : Options) (n seed : ℕ) (old new : Place) (start : State) (b
   pub ready : IsReady (form_at old.world) start
   ready = loaded_ready (form_at old.world) start (options_of options) begins.loaded
 
-  so : (fault : GenFault) (last : State) → TookSome (form_at old.world) old new (all_parts n seed) fault start last → CameSo (form_at old.world) options (seen old.history) n seed fault last old.logs new.logs
-  so fault last T = record {
-    first = start;
-    begins = begins;
-    lines = T.lines;
-    came = subst (λ ps. ComesTo (form_at old.world) start (law_plays ps) (law_lines T.lines) last) (all_plays n seed) T.came;
-    heard = T.heard;
-  }
+  so : (fault : GenFault) (last : State) → TookSome (form_at old.world) old new (gen_plays n seed) fault start last → CameSo (form_at old.world) options (seen old.history) n seed fault last old.logs new.logs
+  so fault last T = record { first = start; begins = begins; lines = T.lines; came = T.came; heard = T.heard }
 
   -- the file's bytes are those of the state
   file_of : (last : State) → new.world.openers.header ≡ old.world.openers.header → IsPlainly new.world new.history last → HasFile (form_at old.world) (seen new.history) last
   file_of last same P = subst (λ g. HasFile g (seen new.history) last) (ap form_in same) P.file
 
   -- they broke off
-  over : (fault : GenFault) → new.world.openers.header ≡ old.world.openers.header → LeavesSome (form_at old.world) old new (all_parts n seed) fault start
+  over : (fault : GenFault) → new.world.openers.header ≡ old.world.openers.header → LeavesSome (form_at old.world) old new (gen_plays n seed) fault start
       → CameOver (form_at old.world) options (seen old.history) n seed (seen new.history) fault old.logs new.logs
-  over fault same (last, is, K, T) = (last, file_of last same (plainly (form_at old.world) new.world new.history last K is), so fault last T)
+  over fault same (last, is, T) =
+      let K = gen_stay (form_at old.world) n seed start last (law_lines T.lines) ready.keys T.came in
+      (last, file_of last same (plainly (form_at old.world) new.world new.history last K is), so fault last T)
 
-  pub broke_over : (e : GenFault) → UnlessIo {V = Unit {0}} (Err e) (new.world.openers.header ≡ old.world.openers.header) → TakesTo (form_at old.world) old new (all_parts n seed) start (Err e)
+  pub broke_over : (e : GenFault) → UnlessIo {V = Unit {0}} (Err e) (new.world.openers.header ≡ old.world.openers.header) → TakesTo (form_at old.world) old new (gen_plays n seed) start (Err e)
       → GeneratedOver (form_at old.world) options (seen old.history) n seed (seen new.history) old.logs new.logs (Err e)
   broke_over Io same (last, T) = (last, so Io last T)
   broke_over Memory same T = over Memory same T
   broke_over Log same T = over Log same T
 
   -- or they are done
-  module _ (t : Bool) (mid : Place) (J : Taken t old mid (joins ∷ []) (Ok tt)) (G : Taken t mid new (group_list n seed (groups n)) (Ok tt)) (tells : IsTrue t) (is : IsStateAt old start) where
+  module _ (t : Bool) (mid : Place) (J : Taken t old mid joins (Ok tt)) (G : Taken t mid new (together (group_list n seed (groups n))) (Ok tt)) (tells : IsTrue t) (is : IsStateAt old start) where
     abbrev f : Form
     f = form_at old.world
 
-    same_form : form_at mid.world ≡ f
-    same_form = ap form_in J.header
+    joined : (state : State) × IsStateAt mid state × TookAll f old mid joins start state
+    joined = J.told tells start is
 
-    joined : (state : State) × IsStateAt mid state × TookAll f old mid (joins ∷ []) start state
-    joined = J.told tells start is ready
+    rest : (state : State) × IsStateAt new state × TookAll f mid new (together (group_list n seed (groups n))) joined.0 state
+    rest = subst (λ g. TakesTo g mid new (together (group_list n seed (groups n))) joined.0 (Ok tt)) (same_form t old mid joins J) (G.told tells joined.0 joined.1)
 
-    rest : (state : State) × IsStateAt new state × TookAll f mid new (group_list n seed (groups n)) joined.0 state
-    rest = subst (λ g. TakesTo g mid new (group_list n seed (groups n)) joined.0 (Ok tt)) same_form (G.told tells joined.0 joined.1 (subst (λ g. IsReady g joined.0) (sym same_form) joined.2.ready))
+    abbrev all : TookAll f old new (gen_plays n seed) start rest.0
+    all = all_behind f old mid new joins (together (group_list n seed (groups n))) start joined.0 joined.2 rest.0 rest.2
 
-    abbrev all : TookAll f old new (all_parts n seed) start rest.0
-    all = all_behind f old mid new (joins ∷ []) (group_list n seed (groups n)) start joined.0 joined.2 rest.0 rest.2
+    ready_joined : IsReady f joined.0
+    ready_joined = joins_done f start joined.0 (law_lines joined.2.lines) ready joined.2.course
+
+    parts : Parts f joined.0 (group_list n seed (groups n)) rest.2.lines rest.0 × IsReady f rest.0
+    parts = groups_parts f n seed (range_with_len 0 (groups n)) joined.0 rest.0 rest.2.lines ready_joined rest.2.course
 
     plain : IsPlainly new.world new.history rest.0
-    plain = plainly f new.world new.history rest.0 all.ready.keys rest.1
+    plain = plainly f new.world new.history rest.0 parts.1.keys rest.1
 
     same : new.world.openers.header ≡ old.world.openers.header
     same = G.header ∙ J.header
 
     pub accepted : AcceptWith f (seen new.history) []
-    accepted = subst (λ g. AcceptWith g (seen new.history) []) (ap form_in same) (idle_accepted new.world new.history rest.0 plain all.ready.idle)
+    accepted = subst (λ g. AcceptWith g (seen new.history) []) (ap form_in same) (idle_accepted new.world new.history rest.0 plain parts.1.idle)
 
-    some : (fault : GenFault) → fault ≢ Log → TookSome f old new (all_parts n seed) fault start rest.0
-    some fault apart = record { lines = all.lines; came = all_came f (all_parts n seed) start rest.0 all.lines all.took; heard = heard_whole fault old.logs new.logs all.lines apart all.heard }
+    some : (fault : GenFault) → fault ≢ Log → TookSome f old new (gen_plays n seed) fault start rest.0
+    some fault apart = all_some f old new (gen_plays n seed) start rest.0 fault apart all
 
     -- and then a summary was to be told
     pub done_over : old.counts ≡ counts_of [] → length mid.world.openers.openers ≡ 3 → (r : Result Summary GenFault)
@@ -120,15 +111,15 @@ module _ (options : Options) (n seed : ℕ) (old new : Place) (start : State) (b
         last = rest.0;
         file = file_of rest.0 same plain;
         lines = all.lines;
-        course = subst (λ ps. Course f start (law_plays ps) (law_lines all.lines) rest.0) (all_plays n seed) (parts_course f (all_parts n seed) start rest.0 all.lines all.took);
+        course = all.course;
         done = record {
           mid = joined.0;
           front = joined.2.lines;
           rest = rest.2.lines;
           told = refl;
-          joined = joined.2.took;
-          three = (plainly f mid.world mid.history joined.0 joined.2.ready.keys joined.1).joined ∙ three;
-          done = rest.2.took;
+          joined = joins_parts f start joined.0 joined.2.lines ready joined.2.course;
+          three = (plainly f mid.world mid.history joined.0 ready_joined.keys joined.1).joined ∙ three;
+          done = parts.0;
         };
         accepted = accepted;
         commands = (told s refl).0;

@@ -1,5 +1,5 @@
--- Wherever the plays of a part come, each unfinished command is on one key.
-use Rattle.std.proofs.Common.{◌≡◌, ℕ, ◌-◌, ◌*◌, min, map, List, [], ◌∷◌, ◌++◌, refl, sym, ◌∙◌, subst}
+-- Wherever plays of generated commands come, each unfinished command is on one key.
+use Rattle.std.proofs.Common.{ℕ, ◌-◌, ◌*◌, min, map, List, [], ◌∷◌, ◌++◌, sym, subst}
 use Rattle.std.specs.List.{AllByRecursion, flat_map, range_with_len}
 use Rattle.std.proofs.lemmas.List.{map-append}
 use Rattle.std.proofs.lemmas.List.Concat.{flat_map-cons}
@@ -10,11 +10,12 @@ use Rattle.tdb_law.specs.Plays.{Play, Gives, Course}
 use Rattle.tdb_law.specs.Plays.Play.{Join, SetLog, Give, TakeTurn, Go, Do, Die}
 use Rattle.tdb_law.specs.World.{State}
 use Rattle.tdb_plays.specs.InLaw.{law_play, law_plays}
+use Rattle.tdb_plays.specs.declared.play.Play.{Play as CodePlay}
 use Rattle.tdb_world.specs.Played.{Begun, FirstBegun, ComesTo}
 use Rattle.tdb_gen.specs.Numbers.{number_at}
-use Rattle.tdb_gen.specs.Plays.{joins, gift, gifts, round, rounds, group_plays}
-use Rattle.tdb_gen.specs.Rounds.{IsOnKey, OnKeys, IsReady, ArePart}
-use Rattle.tdb_gen.proofs.Rounds.{turn_given, undone_none, command_keyed, same_gift, given_keys, join_given, joins_done, groups_done}
+use Rattle.tdb_gen.specs.Plays.{joins, gift, gifts, round, rounds, groups, group_plays, group_list, together, gen_plays}
+use Rattle.tdb_gen.specs.Rounds.{IsOnKey, OnKeys}
+use Rattle.tdb_gen.proofs.GoingOn.{turn_given, undone_none, command_keyed, same_gift, given_keys, join_given}
 
 -- plays of which each keeps what holds of a state, and so what is begun of it
 module _ (f : Form) (Holds : State → Type 0) (May : Play → Type 0) (gives : (old new : State) (play : Play) (lines : List Line) → May play → Holds old → Gives f old play lines new → Holds new)
@@ -40,24 +41,9 @@ all_append : (May : Play → Type 0) (a b : List Play) → AllByRecursion May a 
 all_append May [] b one two = two
 all_append May (play ∷ a) b one two = (one.0, all_append May a b one.1 two)
 
--- what is begun of a join is nothing
-join_begun : (f : Form) (old new : State) (play : Play) (lines : List Line) → play ≡ Join → IsReady f old → Begun f old play lines new → IsReady f new
-join_begun f old new play lines e R (Begun.begun_not none same) = subst (IsReady f) (sym same) R
-join_begun f old new play lines e R (Begun.begun_turn who is C) = absurd (let wrong : Join ≡ TakeTurn who = sym e ∙ is in cc)
-join_begun f old new play lines e R (Begun.begun_turns who n is S) = absurd (let wrong : Join ≡ Go who = sym e ∙ is in cc)
-join_begun f old new play lines e R (Begun.begun_command who n c mid is G S) = absurd (let wrong : Join ≡ Do who c = sym e ∙ is in cc)
-
-join_gives : (f : Form) (old new : State) (play : Play) (lines : List Line) → play ≡ Join → IsReady f old → Gives f old play lines new → IsReady f new
-join_gives f old new play lines e R G = join_given f old new lines R (subst (λ p. Gives f old p lines new) e G)
-
-pub joins_part : ArePart joins
-joins_part = record {
-  done = joins_done;
-  stay = λ f old new lines R C. (comes_keep f (IsReady f) (λ play. play ≡ Join) (join_gives f) (join_begun f) (law_plays joins) (refl, (refl, (refl, tt))) old new lines R C).keys;
-}
-
--- a turn, or a gift of a command on one key
+-- a join, a turn, or a gift of a command on one key
 abbrev IsKeyed : Play → Type 0
+IsKeyed Join = Unit {0}
 IsKeyed (TakeTurn who) = Unit {0}
 IsKeyed (Give who c) = IsOnKey c
 IsKeyed play = ⊥
@@ -74,7 +60,7 @@ gift_keys f old new who c lines key K (Gives.gives_death o is told D) = absurd (
 keyed_gives : (f : Form) (old new : State) (play : Play) (lines : List Line) → IsKeyed play → OnKeys f old → Gives f old play lines new → OnKeys f new
 keyed_gives f old new (TakeTurn who) lines key K G = (turn_given f old new who lines K G).keys
 keyed_gives f old new (Give who c) lines key K G = gift_keys f old new who c lines key K G
-keyed_gives f old new Join lines key K G = absurd key
+keyed_gives f old new Join lines key K G = (join_given f old new lines K G).0
 keyed_gives f old new SetLog lines key K G = absurd key
 keyed_gives f old new (Do who c) lines key K G = absurd key
 keyed_gives f old new (Go who) lines key K G = absurd key
@@ -86,7 +72,7 @@ keyed_begun f old new play lines key K (Begun.begun_turn who is C) = subst (OnKe
 keyed_begun f old new play lines key K (Begun.begun_turns who n is S) = absurd (subst IsKeyed is key)
 keyed_begun f old new play lines key K (Begun.begun_command who n c mid is G S) = absurd (subst IsKeyed is key)
 
--- so are all plays of a group
+-- so are all plays of a group, and all plays of generated commands
 gifts_keyed : (f : Form) (seed : ℕ) (ks : List ℕ) → AllByRecursion IsKeyed (law_plays (map (gift seed) ks))
 gifts_keyed f seed [] = tt
 gifts_keyed f seed (k ∷ ks) = (command_keyed f (number_at seed k), gifts_keyed f seed ks)
@@ -95,14 +81,21 @@ rounds_keyed : (ks : List ℕ) → AllByRecursion IsKeyed (law_plays (flat_map (
 rounds_keyed [] = tt
 rounds_keyed (k ∷ ks) = subst (λ ps. AllByRecursion IsKeyed (law_plays ps)) (sym (flat_map-cons (λ (i : ℕ). round) k ks)) (tt, (tt, (tt, rounds_keyed ks)))
 
+keyed_append : (a b : List CodePlay) → AllByRecursion IsKeyed (law_plays a) → AllByRecursion IsKeyed (law_plays b) → AllByRecursion IsKeyed (law_plays (a ++ b))
+keyed_append a b one two = subst (AllByRecursion IsKeyed) (sym (map-append law_play a b)) (all_append IsKeyed (law_plays a) (law_plays b) one two)
+
 group_keyed : (f : Form) (n seed group : ℕ) → AllByRecursion IsKeyed (law_plays (group_plays n seed group))
 group_keyed f n seed group =
-    let given = gifts seed (3 * group) (min 3 (n - 3 * group)) in
-    subst (AllByRecursion IsKeyed) (sym (map-append law_play given (rounds 24)))
-    (all_append IsKeyed (law_plays given) (law_plays (rounds 24)) (gifts_keyed f seed (range_with_len (3 * group) (min 3 (n - 3 * group)))) (rounds_keyed (range_with_len 0 24)))
+    keyed_append (gifts seed (3 * group) (min 3 (n - 3 * group))) (rounds 24) (gifts_keyed f seed (range_with_len (3 * group) (min 3 (n - 3 * group)))) (rounds_keyed (range_with_len 0 24))
 
-pub group_part : (n seed group : ℕ) → ArePart (group_plays n seed group)
-group_part n seed group = record {
-  done = groups_done n seed group;
-  stay = λ f old new lines R C. comes_keep f (OnKeys f) IsKeyed (keyed_gives f) (keyed_begun f) (law_plays (group_plays n seed group)) (group_keyed f n seed group) old new lines R.keys C;
-}
+groups_keyed : (f : Form) (n seed : ℕ) (ks : List ℕ) → AllByRecursion IsKeyed (law_plays (together (map (group_plays n seed) ks)))
+groups_keyed f n seed [] = tt
+groups_keyed f n seed (k ∷ ks) =
+    subst (λ ps. AllByRecursion IsKeyed (law_plays ps)) (sym (flat_map-cons (λ (plays : List CodePlay). plays) (group_plays n seed k) (map (group_plays n seed) ks)))
+    (keyed_append (group_plays n seed k) (together (map (group_plays n seed) ks)) (group_keyed f n seed k) (groups_keyed f n seed ks))
+
+gen_keyed : (f : Form) (n seed : ℕ) → AllByRecursion IsKeyed (law_plays (gen_plays n seed))
+gen_keyed f n seed = keyed_append joins (together (group_list n seed (groups n))) (tt, (tt, (tt, tt))) (groups_keyed f n seed (range_with_len 0 (groups n)))
+
+pub gen_stay : (f : Form) (n seed : ℕ) (old new : State) (lines : List Line) → OnKeys f old → ComesTo f old (law_plays (gen_plays n seed)) lines new → OnKeys f new
+gen_stay f n seed old new lines K C = comes_keep f (OnKeys f) IsKeyed (keyed_gives f) (keyed_begun f) (law_plays (gen_plays n seed)) (gen_keyed f n seed) old new lines K C

@@ -2,11 +2,14 @@ pub mod Coming
 pub mod Takings
 mod Waiting
 mod Turns
-mod Rounds
+mod GoingOn
 mod Keeping
+mod Parting
 mod Plain
 mod Numbering
 mod Grouping
 mod Counting
+mod Resting
 mod Endings
+mod Turning
 mod Generating

@@ -1,8 +1,6 @@
--- Parts of plays that are taken one after the other, what was counted of them, and what logs heard.
-use Rattle.std.proofs.Common.{◌≡◌, Bool, List, [], ◌∷◌, ◌++◌, Result, Ok, Err, refl, sym, ◌∙◌, ap, subst, inl, inr, arith, le_refl}
+-- Plays that are taken one after the other, what was counted of them, and what logs heard.
+use Rattle.std.proofs.Common.{◌≡◌, Bool, List, [], ◌++◌, Result, Ok, Err, refl, sym, ◌∙◌, ap, subst, inl, inr, arith, le_refl}
 use Rattle.std.proofs.lemmas.List.{append_assoc, append-nil, map-append}
-use Rattle.std.proofs.lemmas.List.Concat.{flat_map-cons}
-use Rattle.std.proofs.lemmas.Grind.{flat_map-append}
 use Rattle.tdb_disk.specs.Count.{Rose}
 use Rattle.tdb_disk.specs.History.{seen}
 use Rattle.tdb_space.specs.Form.{Form, form_in}
@@ -20,41 +18,24 @@ use Rattle.tdb_course.proofs.HeardLines.{heard_joined, heard_then_refused}
 use Rattle.tdb_gen.specs.declared.fault.GenFault.{GenFault}
 use Rattle.tdb_gen.specs.declared.fault.GenFault.TheVariants.{Io, Memory, Log}
 use Rattle.tdb_gen.specs.Counts.{counts_of}
-use Rattle.tdb_gen.specs.Plays.{together}
-use Rattle.tdb_gen.specs.Rounds.{IsReady}
-use Rattle.tdb_gen.specs.Taking.{UnlessIo, OnIo, HeardSo, Parts, Place, TookAll, TookSome, TakesTo, Taken}
+use Rattle.tdb_gen.specs.Taking.{UnlessIo, OnIo, HeardSo, Place, TookAll, TookSome, TakesTo, Taken}
 use Rattle.tdb_gen.proofs.Coming.{course_join, whole_comes, comes_more, comes_after}
 
-pub together_join : (ps qs : List (List Play)) → together (ps ++ qs) ≡ together ps ++ together qs
-together_join ps qs = flat_map-append (λ plays. plays) ps qs
+-- what came behind a course, or before others
+pub course_behind : (f : Form) (ps qs : List Play) (old mid new : State) (lines rest : List Line) → Course f old (law_plays ps) (law_lines lines) mid → Course f mid (law_plays qs) (law_lines rest) new
+    → Course f old (law_plays (ps ++ qs)) (law_lines (lines ++ rest)) new
+course_behind f ps qs old mid new lines rest A B =
+    subst (λ ls. Course f old (law_plays (ps ++ qs)) ls new) (sym (map-append law_line lines rest))
+    (subst (λ l. Course f old l (law_lines lines ++ law_lines rest) new) (sym (map-append law_play ps qs)) (course_join f (law_plays ps) (law_plays qs) old mid new (law_lines lines) (law_lines rest) A B))
 
-law_join : (ps qs : List (List Play)) → law_plays (together (ps ++ qs)) ≡ law_plays (together ps) ++ law_plays (together qs)
-law_join ps qs = ap law_plays (together_join ps qs) ∙ map-append law_play (together ps) (together qs)
-
--- parts behind others
-pub parts_join : (f : Form) (ps qs : List (List Play)) (old mid new : State) (one two : List Line) → Parts f old ps one mid → Parts f mid qs two new → Parts f old (ps ++ qs) (one ++ two) new
-parts_join f [] qs old mid new one two A B = subst (λ (q : State × List Line). Parts f q.0 qs q.1 new) (λ j. (A.1 j, sym (ap (λ ls. ls ++ two) A.0) j)) B
-parts_join f (p ∷ ps) qs old mid new one two A B =
-    (A.0, A.1, A.2 ++ two, ap (λ ls. ls ++ two) A.3 ∙ append_assoc A.1 A.2 two, A.4, A.5, parts_join f ps qs A.0 mid new A.2 two A.6 B)
-
--- as one course
-pub parts_course : (f : Form) (ps : List (List Play)) (old new : State) (lines : List Line) → Parts f old ps lines new → Course f old (law_plays (together ps)) (law_lines lines) new
-parts_course f [] old new lines A = (ap law_lines A.0, A.1)
-parts_course f (p ∷ ps) old new lines A =
-    subst (λ qs. Course f old qs (law_lines lines) new) (sym (ap law_plays (flat_map-cons (λ plays. plays) p ps) ∙ map-append law_play p (together ps)))
-    (subst (λ ls. Course f old (law_plays p ++ law_plays (together ps)) ls new) (sym (ap law_lines A.3 ∙ map-append law_line A.1 A.2))
-    (course_join f (law_plays p) (law_plays (together ps)) old A.0 new (law_lines A.1) (law_lines A.2) A.4 (parts_course f ps A.0 new A.2 A.6)))
-
--- what came behind parts, or before others
-came_behind : (f : Form) (ps qs : List (List Play)) (old mid new : State) (lines rest : List Line) → Parts f old ps lines mid → ComesTo f mid (law_plays (together qs)) (law_lines rest) new
-    → ComesTo f old (law_plays (together (ps ++ qs))) (law_lines (lines ++ rest)) new
+came_behind : (f : Form) (ps qs : List Play) (old mid new : State) (lines rest : List Line) → Course f old (law_plays ps) (law_lines lines) mid → ComesTo f mid (law_plays qs) (law_lines rest) new
+    → ComesTo f old (law_plays (ps ++ qs)) (law_lines (lines ++ rest)) new
 came_behind f ps qs old mid new lines rest A B =
-    subst (λ ls. ComesTo f old (law_plays (together (ps ++ qs))) ls new) (sym (map-append law_line lines rest))
-    (subst (λ l. ComesTo f old l (law_lines lines ++ law_lines rest) new) (sym (law_join ps qs))
-    (comes_after f (law_plays (together ps)) (law_plays (together qs)) old mid new (law_lines lines) (law_lines rest) (parts_course f ps old mid lines A) B))
+    subst (λ ls. ComesTo f old (law_plays (ps ++ qs)) ls new) (sym (map-append law_line lines rest))
+    (subst (λ l. ComesTo f old l (law_lines lines ++ law_lines rest) new) (sym (map-append law_play ps qs)) (comes_after f (law_plays ps) (law_plays qs) old mid new (law_lines lines) (law_lines rest) A B))
 
-came_more : (f : Form) (ps qs : List (List Play)) (old new : State) (lines : List Line) → ComesTo f old (law_plays (together ps)) (law_lines lines) new → ComesTo f old (law_plays (together (ps ++ qs))) (law_lines lines) new
-came_more f ps qs old new lines B = subst (λ l. ComesTo f old l (law_lines lines) new) (sym (law_join ps qs)) (comes_more f (law_plays (together ps)) (law_plays (together qs)) old new (law_lines lines) B)
+came_more : (f : Form) (ps qs : List Play) (old new : State) (lines : List Line) → ComesTo f old (law_plays ps) (law_lines lines) new → ComesTo f old (law_plays (ps ++ qs)) (law_lines lines) new
+came_more f ps qs old new lines B = subst (λ l. ComesTo f old l (law_lines lines) new) (sym (map-append law_play ps qs)) (comes_more f (law_plays ps) (law_plays qs) old new (law_lines lines) B)
 
 -- what logs heard of lines behind others
 or_refused : (old mid new : List Logged) (front rest : List Line) → Heard old front mid → HeardSo Memory mid rest new → HeardSo Memory old (front ++ rest) new
@@ -66,37 +47,36 @@ heard_behind Io old mid new front rest one two = or_refused old mid new front re
 heard_behind Memory old mid new front rest one two = or_refused old mid new front rest one two
 heard_behind Log old mid new front rest one two = heard_then_refused Unheard.Failed old mid new front rest one two
 
--- parts behind others, by the answer
-module _ (f : Form) (p q r : Place) (ps qs : List (List Play)) (start between : State) (A : TookAll f p q ps start between) where
+-- plays behind others, by the answer
+module _ (f : Form) (p q r : Place) (ps qs : List Play) (start between : State) (A : TookAll f p q ps start between) where
   some_behind : (fault : GenFault) (last : State) → TookSome f q r qs fault between last → TookSome f p r (ps ++ qs) fault start last
   some_behind fault last B = record {
     lines = A.lines ++ B.lines;
-    came = came_behind f ps qs start between last A.lines B.lines A.took B.came;
+    came = came_behind f ps qs start between last A.lines B.lines A.course B.came;
     heard = heard_behind fault p.logs q.logs r.logs A.lines B.lines A.heard B.heard;
   }
 
   abbrev pub all_behind : (last : State) → TookAll f q r qs between last → TookAll f p r (ps ++ qs) start last
   all_behind last B = record {
     lines = A.lines ++ B.lines;
-    took = parts_join f ps qs start between last A.lines B.lines A.took B.took;
+    course = course_behind f ps qs start between last A.lines B.lines A.course B.course;
     counted = λ told e. B.counted (told ++ A.lines) (A.counted told e) ∙ ap counts_of (append_assoc told A.lines B.lines);
     heard = heard_joined p.logs q.logs r.logs A.lines B.lines A.heard B.heard;
-    ready = B.ready;
   }
 
   takes_behind : (answer : Result (Unit {0}) GenFault) → TakesTo f q r qs between answer → TakesTo f p r (ps ++ qs) start answer
   takes_behind (Ok v) (last, is, B) = (last, is, all_behind last B)
   takes_behind (Err Io) (last, B) = (last, some_behind Io last B)
-  takes_behind (Err Memory) (last, is, K, B) = (last, is, K, some_behind Memory last B)
-  takes_behind (Err Log) (last, is, K, B) = (last, is, K, some_behind Log last B)
+  takes_behind (Err Memory) (last, is, B) = (last, is, some_behind Memory last B)
+  takes_behind (Err Log) (last, is, B) = (last, is, some_behind Log last B)
 
-some_more : (f : Form) (p r : Place) (ps qs : List (List Play)) (fault : GenFault) (start last : State) → TookSome f p r ps fault start last → TookSome f p r (ps ++ qs) fault start last
+some_more : (f : Form) (p r : Place) (ps qs : List Play) (fault : GenFault) (start last : State) → TookSome f p r ps fault start last → TookSome f p r (ps ++ qs) fault start last
 some_more f p r ps qs fault start last B = record { lines = B.lines; came = came_more f ps qs start last B.lines B.came; heard = B.heard }
 
-takes_more : (f : Form) (p r : Place) (ps qs : List (List Play)) (start : State) (e : GenFault) → TakesTo f p r ps start (Err e) → TakesTo f p r (ps ++ qs) start (Err e)
+takes_more : (f : Form) (p r : Place) (ps qs : List Play) (start : State) (e : GenFault) → TakesTo f p r ps start (Err e) → TakesTo f p r (ps ++ qs) start (Err e)
 takes_more f p r ps qs start Io (last, B) = (last, some_more f p r ps qs Io start last B)
-takes_more f p r ps qs start Memory (last, is, K, B) = (last, is, K, some_more f p r ps qs Memory start last B)
-takes_more f p r ps qs start Log (last, is, K, B) = (last, is, K, some_more f p r ps qs Log start last B)
+takes_more f p r ps qs start Memory (last, is, B) = (last, is, some_more f p r ps qs Memory start last B)
+takes_more f p r ps qs start Log (last, is, B) = (last, is, some_more f p r ps qs Log start last B)
 
 -- what holds unless the disk failed, or where it did, and what follows from that
 unless_map : {A B : Type 0} (answer : Result (Unit {0}) GenFault) → (A → B) → UnlessIo answer A → UnlessIo answer B
@@ -111,69 +91,70 @@ on_io_map (Err Io) g a = g a
 on_io_map (Err Memory) g a = tt
 on_io_map (Err Log) g a = tt
 
--- no part yet
+-- no play yet
+pub all_none : (f : Form) (p : Place) (state : State) → TookAll f p p [] state state
+all_none f p state = record { lines = []; course = (refl, refl); counted = λ told e. e ∙ ap counts_of (sym (append-nil told)); heard = refl }
+
 pub taken_none : (t : Bool) (p : Place) → WorldFits p.world (seen p.history) p.size → Taken t p p [] (Ok tt)
 taken_none t p W = record {
   header = refl;
   fits = W;
   rises = le_refl p.faults;
   quiet = refl;
-  told = λ tells start is R. (start, is, record { lines = []; took = (refl, refl); counted = λ told e. e ∙ ap counts_of (sym (append-nil told)); heard = refl; ready = R });
-  rose = λ tells start is R. tt;
+  told = λ tells start is. (start, is, all_none (form_at p.world) p start);
+  rose = λ tells start is. tt;
 }
 
--- parts behind others, and others that weren't begun
-module _ (t : Bool) (old mid new : Place) (ps : List (List Play)) (A : Taken t old mid ps (Ok tt)) where
-  same_form : form_at mid.world ≡ form_at old.world
-  same_form = ap form_in A.header
+-- plays behind others, and others that weren't begun
+pub same_form : (t : Bool) (old mid : Place) (ps : List Play) → Taken t old mid ps (Ok tt) → form_at mid.world ≡ form_at old.world
+same_form t old mid ps A = ap form_in A.header
 
-  pub taken_join : (answer : Result (Unit {0}) GenFault) (qs : List (List Play)) → Taken t mid new qs answer → Taken t old new (ps ++ qs) answer
+module _ (t : Bool) (old mid new : Place) (ps : List Play) (A : Taken t old mid ps (Ok tt)) where
+  pub taken_join : (answer : Result (Unit {0}) GenFault) (qs : List Play) → Taken t mid new qs answer → Taken t old new (ps ++ qs) answer
   taken_join answer qs B = record {
     header = unless_map answer (λ e. e ∙ A.header) B.header;
     fits = B.fits;
     rises = let one = A.rises in let two = B.rises in omega (arith, one, two);
     quiet = unless_map answer (λ e. e ∙ A.quiet) B.quiet;
-    told = λ tells start is R.
-        (let a = A.told tells start is R in
-        takes_behind (form_at old.world) old mid new ps qs start a.0 a.2 answer
-        (subst (λ g. TakesTo g mid new qs a.0 answer) same_form (B.told tells a.0 a.1 (subst (λ g. IsReady g a.0) (sym same_form) a.2.ready))));
-    rose = λ tells start is R.
-        (let a = A.told tells start is R in
-        on_io_map answer (λ r. subst (λ n. Rose n new.faults) A.quiet r) (B.rose tells a.0 a.1 (subst (λ g. IsReady g a.0) (sym same_form) a.2.ready)));
+    told = λ tells start is.
+        (let a = A.told tells start is in takes_behind (form_at old.world) old mid new ps qs start a.0 a.2 answer (subst (λ g. TakesTo g mid new qs a.0 answer) (same_form t old mid ps A) (B.told tells a.0 a.1)));
+    rose = λ tells start is. (let a = A.told tells start is in on_io_map answer (λ r. subst (λ n. Rose n new.faults) A.quiet r) (B.rose tells a.0 a.1));
   }
 
-pub taken_more : (t : Bool) (old new : Place) (ps qs : List (List Play)) (e : GenFault) → Taken t old new ps (Err e) → Taken t old new (ps ++ qs) (Err e)
+pub taken_more : (t : Bool) (old new : Place) (ps qs : List Play) (e : GenFault) → Taken t old new ps (Err e) → Taken t old new (ps ++ qs) (Err e)
 taken_more t old new ps qs e A = record {
   header = A.header;
   fits = A.fits;
   rises = A.rises;
   quiet = A.quiet;
-  told = λ tells start is R. takes_more (form_at old.world) old new ps qs start e (A.told tells start is R);
+  told = λ tells start is. takes_more (form_at old.world) old new ps qs start e (A.told tells start is);
   rose = A.rose;
 }
 
--- parts that were taken whole are as far as they came, whatever failed then but a log
+-- plays that were taken whole are as far as they came, whatever failed then but a log
 pub heard_whole : (fault : GenFault) (logs later : List Logged) (lines : List Line) → (fault ≡ Log → ⊥) → Heard logs lines later → HeardSo fault logs lines later
 heard_whole Io logs later lines apart heard = inl heard
 heard_whole Memory logs later lines apart heard = inl heard
 heard_whole Log logs later lines apart heard = absurd (apart refl)
 
-pub all_came : (f : Form) (ps : List (List Play)) (old new : State) (lines : List Line) → Parts f old ps lines new → ComesTo f old (law_plays (together ps)) (law_lines lines) new
-all_came f ps old new lines A = whole_comes f (law_plays (together ps)) old new (law_lines lines) (parts_course f ps old new lines A)
+pub all_some : (f : Form) (p q : Place) (plays : List Play) (start last : State) (fault : GenFault) → (fault ≡ Log → ⊥) → TookAll f p q plays start last → TookSome f p q plays fault start last
+all_some f p q plays start last fault apart A = record {
+  lines = A.lines;
+  came = whole_comes f (law_plays plays) start last (law_lines A.lines) A.course;
+  heard = heard_whole fault p.logs q.logs A.lines apart A.heard;
+}
 
 -- and then memory was wanting
-pub taken_short : (t : Bool) (old new : Place) (ps : List (List Play)) → Taken t old new ps (Ok tt) → Taken t old new ps (Err Memory)
-taken_short t old new ps A = record {
+pub taken_short : (t : Bool) (old new : Place) (plays : List Play) → Taken t old new plays (Ok tt) → Taken t old new plays (Err Memory)
+taken_short t old new plays A = record {
   header = A.header;
   fits = A.fits;
   rises = A.rises;
   quiet = A.quiet;
-  told = λ tells start is R.
-      (let a = A.told tells start is R in
-      (a.0, a.1, a.2.ready.keys, record { lines = a.2.lines; came = all_came (form_at old.world) ps start a.0 a.2.lines a.2.took; heard = inl a.2.heard }));
-  rose = λ tells start is R. tt;
+  told = λ tells start is. (let a = A.told tells start is in (a.0, a.1, all_some (form_at old.world) old new plays start a.0 Memory (λ e. cc) a.2));
+  rose = λ tells start is. tt;
 }
 
--- no part was begun, for want of memory
-pub taken_not : (t : Bool) (p : Place) (ps : List (List Play)) → WorldFits p.world (seen p.history) p.size → Taken t p p ps (Err Memory)
-taken_not t p ps W = taken_more t p p [] ps Memory (taken_short t p p [] (taken_none t p W))
+-- no play was begun, for want of memory
+pub taken_not : (t : Bool) (p : Place) (plays : List Play) → WorldFits p.world (seen p.history) p.size → Taken t p p plays (Err Memory)
+taken_not t p plays W = taken_more t p p [] plays Memory (taken_short t p p [] (taken_none t p W))

@@ -12,7 +12,6 @@ use Rattle.tdb_law.specs.Plays.{Course}
 use Rattle.tdb_law.specs.World.{State}
 use Rattle.tdb_plays.specs.InLaw.{law_plays}
 use Rattle.tdb_plays.specs.declared.play.Play.{Play}
-use Rattle.tdb_world.specs.Played.{ComesTo}
 use Rattle.tdb_gen.specs.Plays.{joins, round, group_plays}
 
 -- nobody has an unfinished command
@@ -80,12 +79,3 @@ JoinsAreDone = AreDone joins
 
 abbrev pub GroupsAreDone : Type 0
 GroupsAreDone = (n seed group : ℕ) → AreDone (group_plays n seed group)
-
--- Wherever plays from such a world come, each unfinished command is on one key.
-abbrev pub StayOnKeys : List Play → Type 0
-StayOnKeys plays = (f : Form) (old new : State) (lines : List Line) → IsReady f old → ComesTo f old (law_plays plays) lines new → OnKeys f new
-
--- plays that are a part of those of generated commands
-pub record ArePart (plays : List Play) : Type 0 where
-  pub done : AreDone plays
-  pub stay : StayOnKeys plays

@@ -1,4 +1,4 @@
--- How plays are taken part by part and counted, and what logs hear of them, as far as they come.
+-- How plays are taken and counted, and what logs hear of them, as far as they come.
 use Rattle.std.specs.Prelude.{ℕ, ◌≡◌, ◌≤◌, ◌⊎◌, Bool, IsTrue, List, [], ◌∷◌, ◌++◌, Result, Ok, Err}
 use Rattle.tdb_disk.specs.Count.{Rose}
 use Rattle.tdb_disk.specs.History.{History, seen}
@@ -10,6 +10,7 @@ use Rattle.tdb_log.specs.declared.log.LogRefusal.{LogRefusal}
 use Rattle.tdb_log.specs.declared.log.LogRefusal.TheVariants as Unheard
 use Rattle.tdb_plays.specs.InLaw.{law_plays, law_lines}
 use Rattle.tdb_plays.specs.declared.line.Line.{Line}
+use Rattle.tdb_plays.specs.declared.line.Line.TheVariants.{Idle, Absent}
 use Rattle.tdb_plays.specs.declared.play.Play.{Play}
 use Rattle.tdb_world.specs.declared.fault.RunFault.{RunFault}
 use Rattle.tdb_world.specs.declared.fault.RunFault.TheVariants as Run
@@ -21,8 +22,7 @@ use Rattle.tdb_gen.specs.declared.counts.Counts.{Counts}
 use Rattle.tdb_gen.specs.declared.fault.GenFault.{GenFault}
 use Rattle.tdb_gen.specs.declared.fault.GenFault.TheVariants.{Io, Memory, Log}
 use Rattle.tdb_gen.specs.Counts.{counts_of}
-use Rattle.tdb_gen.specs.Plays.{together}
-use Rattle.tdb_gen.specs.Rounds.{OnKeys, IsIdle, IsReady}
+use Rattle.tdb_gen.specs.Rounds.{IsIdle}
 
 -- why plays broke off, as a generation tells it
 abbrev pub of_run : RunFault → GenFault
@@ -33,11 +33,16 @@ abbrev pub of_log : LogRefusal → GenFault
 of_log Unheard.Failed = Log
 of_log Unheard.Memory = Memory
 
--- how the plays of a part end, by how a run of them ended
-abbrev pub end_of : Result (Result (Unit {0}) LogRefusal) RunFault → Result (Unit {0}) GenFault
-end_of (Ok (Ok v)) = Ok tt
+-- how plays end, by how a run of them, or a turn, ended
+abbrev pub end_of : {V : Type 0} → Result (Result V LogRefusal) RunFault → Result V GenFault
+end_of (Ok (Ok v)) = Ok v
 end_of (Ok (Err refusal)) = Err (of_log refusal)
 end_of (Err fault) = Err (of_run fault)
+
+-- an answer without its value
+abbrev pub end_only : {V : Type 0} → Result V GenFault → Result (Unit {0}) GenFault
+end_only (Ok v) = Ok tt
+end_only (Err e) = Err e
 
 -- what holds unless the disk failed, and what holds where it did
 abbrev pub UnlessIo : {V : Type 0} → Result V GenFault → Type 0 → Type 0
@@ -82,37 +87,47 @@ place world history size faults counts logs = record { world = world; history = 
 abbrev pub IsStateAt : Place → State → Type 0
 IsStateAt p state = IsStateOf p.world p.history state
 
--- All parts were taken from one state to another between two places: their lines were counted behind others, the logs heard of them, and all
--- is ready for more.
-pub record TookAll (f : Form) (old new : Place) (parts : List (List Play)) (start last : State) : Type 0 where
+-- All plays were taken from one state to another between two places: their lines were counted behind others, and the logs heard of them.
+pub record TookAll (f : Form) (old new : Place) (plays : List Play) (start last : State) : Type 0 where
   pub lines : List Line
-  pub took : Parts f start parts lines last
+  pub course : Course f start (law_plays plays) (law_lines lines) last
   pub counted : (told : List Line) → old.counts ≡ counts_of told → new.counts ≡ counts_of (told ++ lines)
   pub heard : Heard old.logs lines new.logs
-  pub ready : IsReady f last
 
 -- They came to a state, and broke off there; and the logs heard of the lines so far.
-pub record TookSome (f : Form) (old new : Place) (parts : List (List Play)) (fault : GenFault) (start last : State) : Type 0 where
+pub record TookSome (f : Form) (old new : Place) (plays : List Play) (fault : GenFault) (start last : State) : Type 0 where
   pub lines : List Line
-  pub came : ComesTo f start (law_plays (together parts)) (law_lines lines) last
+  pub came : ComesTo f start (law_plays plays) (law_lines lines) last
   pub heard : HeardSo fault old.logs lines new.logs
 
 -- by the answer; where the disk failed nothing is said of what is left
-abbrev pub LeavesSome : Form → Place → Place → List (List Play) → GenFault → State → Type 0
-LeavesSome f old new parts fault start = (last : State) × IsStateAt new last × OnKeys f last × TookSome f old new parts fault start last
+abbrev pub LeavesSome : Form → Place → Place → List Play → GenFault → State → Type 0
+LeavesSome f old new plays fault start = (last : State) × IsStateAt new last × TookSome f old new plays fault start last
 
-abbrev pub TakesTo : Form → Place → Place → List (List Play) → State → Result (Unit {0}) GenFault → Type 0
-TakesTo f old new parts start (Ok v) = (last : State) × IsStateAt new last × TookAll f old new parts start last
-TakesTo f old new parts start (Err Io) = (last : State) × TookSome f old new parts Io start last
-TakesTo f old new parts start (Err Memory) = LeavesSome f old new parts Memory start
-TakesTo f old new parts start (Err Log) = LeavesSome f old new parts Log start
+abbrev pub TakesTo : Form → Place → Place → List Play → State → Result (Unit {0}) GenFault → Type 0
+TakesTo f old new plays start (Ok v) = (last : State) × IsStateAt new last × TookAll f old new plays start last
+TakesTo f old new plays start (Err Io) = (last : State) × TookSome f old new plays Io start last
+TakesTo f old new plays start (Err Memory) = LeavesSome f old new plays Memory start
+TakesTo f old new plays start (Err Log) = LeavesSome f old new plays Log start
 
--- Parts led from one place to another, and ended so, over a disk that tells its bytes or doesn't. What they did is said from each state of the
--- world in which all is ready for commands on keys.
-pub record Taken (tells : Bool) (old new : Place) (parts : List (List Play)) (answer : Result (Unit {0}) GenFault) : Type 0 where
+-- Plays led from one place to another, and ended so, over a disk that tells its bytes or doesn't. What they did is said from each state of
+-- the world.
+pub record Taken (tells : Bool) (old new : Place) (plays : List Play) (answer : Result (Unit {0}) GenFault) : Type 0 where
   pub header : UnlessIo answer (new.world.openers.header ≡ old.world.openers.header)
   pub fits : UnlessIo answer (WorldFits new.world (seen new.history) new.size)
   pub rises : old.faults ≤ new.faults
   pub quiet : UnlessIo answer (new.faults ≡ old.faults)
-  pub told : IsTrue tells → (start : State) → IsStateAt old start → IsReady (form_at old.world) start → TakesTo (form_at old.world) old new parts start answer
-  pub rose : IsTrue tells → (start : State) → IsStateAt old start → IsReady (form_at old.world) start → OnIo answer (Rose old.faults new.faults)
+  pub told : IsTrue tells → (start : State) → IsStateAt old start → TakesTo (form_at old.world) old new plays start answer
+  pub rose : IsTrue tells → (start : State) → IsStateAt old start → OnIo answer (Rose old.faults new.faults)
+
+-- lines that only tell of openers with nothing to do
+abbrev pub AreIdle : List Line → Type 0
+AreIdle [] = Unit {0}
+AreIdle (Idle who ∷ lines) = AreIdle lines
+AreIdle (Absent who ∷ lines) = AreIdle lines
+AreIdle (line ∷ lines) = ⊥
+
+-- Plays with only such lines lead from each state of the world to that state.
+abbrev pub Rests : Bool → Place → Place → List Play → Type 0
+Rests tells old new plays =
+    IsTrue tells → (state : State) → IsStateAt old state → IsStateAt new state × (all : TookAll (form_at old.world) old new plays state state) × AreIdle all.lines

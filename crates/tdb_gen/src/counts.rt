@@ -1,4 +1,4 @@
-// What is counted of a report.
+// What is counted of turns, and of the lines of a report.
 
 ghost use Rattle.std.specs.Prelude.{◌≡◌, ℕ, ◌+◌, ◌++◌, List, [], min};
 ghost use Rattle.tdb_disk.specs.Count.{last_count};
@@ -56,7 +56,7 @@ impl Counts {
     }
 
     /// Counts a turn.
-    fn count_turn(&mut self, turn: &Turn)
+    pub(crate) fn count_turn(&mut self, turn: &Turn)
         ensures { (who : ℕ) (command : Command) → self.new ≡ counts_with self.old (Lines.Took who command turn.now) }
     {
         match turn {

@@ -1,6 +1,6 @@
 // Generated commands that the openers of a world do, group by group.
 
-ghost use Rattle.std.specs.Prelude.{◌≡◌, ◌≢◌, ◌≤◌, ◌+◌, ◌*◌, ◌∷◌, [], ℕ, IsTrue, IfOk, IfErr, OnOk, length, min};
+ghost use Rattle.std.specs.Prelude.{◌≡◌, ◌≢◌, ◌≤◌, ◌+◌, ◌*◌, [], ℕ, IsTrue, IfOk, IfErr, OnOk, length, min};
 ghost use Rattle.tdb_disk.specs.Count.{HasCauseOf};
 ghost use Rattle.tdb_disk.specs.History.{seen};
 ghost use Rattle.tdb_space.specs.Form.{form_in};
@@ -14,8 +14,7 @@ ghost use Rattle.tdb_course.specs.Playable.{ArePlayable};
 ghost use Rattle.tdb_gen.specs.Counts.{counts_of};
 ghost use Rattle.tdb_gen.specs.Generated.{IsFirst, GeneratedOver};
 ghost use Rattle.tdb_gen.specs.Numbers.{IsFrom};
-ghost use Rattle.tdb_gen.specs.Plays.{joins, groups, group_plays, group_list};
-ghost use Rattle.tdb_gen.specs.Rounds.{ArePart};
+ghost use Rattle.tdb_gen.specs.Plays.{joins, groups, group_plays, group_list, together};
 ghost use Rattle.tdb_gen.specs.Taking.{end_of, place, Taken, UnlessIo};
 ghost use Rattle.tdb_gen.specs.declared.fault.GenFault.TheVariants as Faults;
 
@@ -24,6 +23,7 @@ use crate::fault::GenFault;
 use crate::generator::{Generator, OPENERS};
 use crate::group::{push_group, push_joins};
 use crate::keys::{keys_on_disk, length_of};
+use crate::rounds::take_rounds;
 use crate::summary::Summary;
 use std::alloc::Global;
 use tdb_course::{RunFault, run};
@@ -33,13 +33,13 @@ use tdb_plays::{Plays, TurnReport};
 use tdb_whole::World;
 use tdb_words::Header;
 
-/// The commands that are made for the openers of a world, and what was counted of their report.
+/// The commands that are made for the openers of a world, and what was counted of their turns.
 #[derive(Debug, Drop)]
 pub(crate) struct Generation {
     alloc: Global,
     generator: Generator,
 
-    /// The plays of a group.
+    /// The plays of the joins, and those that give the commands of a group.
     plays: Plays,
 
     /// What they tell.
@@ -47,7 +47,7 @@ pub(crate) struct Generation {
     counts: Counts,
 }
 
-/// How the plays of a part end, by how the run of them ended.
+/// How plays end, by how the run of them ended.
 fn ended(played: Result<Result<(), LogRefusal>, RunFault>) -> Result<(), GenFault>
     ensures { result ≡ end_of played }
 {
@@ -74,8 +74,7 @@ impl Generation {
         }
     }
 
-    /// Takes the plays, tells the logs what they do to the file, and counts what they tell. Behind plays that say so every
-    /// command is done.
+    /// Takes the plays, tells the logs what they do to the file, and counts what they tell.
     fn take<D: Disk, L: Logs>(
         &mut self,
         world: &mut World,
@@ -84,8 +83,8 @@ impl Generation {
     ) -> Result<(), GenFault>
         requires fits { WorldFits world.old (seen (D.history disk.old)) (D.size disk.old) }
         requires playable { ArePlayable self.old.plays }
-        ensures taken { ArePart self.old.plays → Taken D.tells (place world.old (D.history disk.old) (D.size disk.old) (D.faults disk.old) self.old.counts (L.logs logs.old))
-            (place world.new (D.history disk.new) (D.size disk.new) (D.faults disk.new) self.new.counts (L.logs logs.new)) (self.old.plays ∷ []) result }
+        ensures taken { Taken D.tells (place world.old (D.history disk.old) (D.size disk.old) (D.faults disk.old) self.old.counts (L.logs logs.old))
+            (place world.new (D.history disk.new) (D.size disk.new) (D.faults disk.new) self.new.counts (L.logs logs.new)) self.old.plays result }
         ensures generator { self.new.generator ≡ self.old.generator }
     {
         self.report.clear();
@@ -103,7 +102,7 @@ impl Generation {
     ) -> Result<(), GenFault>
         requires fits { WorldFits world.old (seen (D.history disk.old)) (D.size disk.old) }
         ensures taken { Taken D.tells (place world.old (D.history disk.old) (D.size disk.old) (D.faults disk.old) self.old.counts (L.logs logs.old))
-            (place world.new (D.history disk.new) (D.size disk.new) (D.faults disk.new) self.new.counts (L.logs logs.new)) (joins ∷ []) result }
+            (place world.new (D.history disk.new) (D.size disk.new) (D.faults disk.new) self.new.counts (L.logs logs.new)) joins result }
         ensures joined { OnOk result (length world.new.openers.openers ≡ 3) }
         ensures generator { self.new.generator ≡ self.old.generator }
     {
@@ -128,13 +127,14 @@ impl Generation {
         requires fits { WorldFits world.old (seen (D.history disk.old)) (D.size disk.old) }
         ensures taken { (seed group : ℕ) → IsFrom seed self.old.generator → self.old.generator.index ≡ 3 * group
             → Taken D.tells (place world.old (D.history disk.old) (D.size disk.old) (D.faults disk.old) self.old.counts (L.logs logs.old))
-            (place world.new (D.history disk.new) (D.size disk.new) (D.faults disk.new) self.new.counts (L.logs logs.new)) (group_plays commands seed group ∷ []) result }
+            (place world.new (D.history disk.new) (D.size disk.new) (D.faults disk.new) self.new.counts (L.logs logs.new)) (group_plays commands seed group) result }
         ensures index { OnOk result (self.new.generator.index ≡ min commands (self.old.generator.index + 3)) }
         ensures from { OnOk result ((seed : ℕ) → IsFrom seed self.old.generator → IsFrom seed self.new.generator) }
     {
         self.plays.clear();
         push_group(self.alloc, &mut self.generator, commands, &mut self.plays)?;
-        self.take(world, disk, logs)
+        self.take(world, disk, logs)?;
+        take_rounds(world, disk, &mut self.counts, logs)
     }
 
     /// Takes the plays of all groups, of so many commands in all.
@@ -150,7 +150,7 @@ impl Generation {
         requires fits { WorldFits world.old (seen (D.history disk.old)) (D.size disk.old) }
         ensures taken { (seed : ℕ) → IsFrom seed self.old.generator
             → Taken D.tells (place world.old (D.history disk.old) (D.size disk.old) (D.faults disk.old) self.old.counts (L.logs logs.old))
-            (place world.new (D.history disk.new) (D.size disk.new) (D.faults disk.new) self.new.counts (L.logs logs.new)) (group_list commands seed (groups commands)) result }
+            (place world.new (D.history disk.new) (D.size disk.new) (D.faults disk.new) self.new.counts (L.logs logs.new)) (together (group_list commands seed (groups commands))) result }
     {
         for _ in 0..commands.div_ceil(OPENERS) {
             self.take_group(world, disk, commands, logs)?;

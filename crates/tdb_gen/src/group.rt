@@ -1,16 +1,13 @@
-// The plays of the joins and of a group of commands.
+// The plays of the joins, and those that give the commands of a group.
 
 ghost use Rattle.std.specs.Prelude.{◌≡◌, ◌<◌, ◌≤◌, ◌+◌, ◌-◌, ◌*◌, ◌^◌, ◌++◌, ℕ, min, IfOk, OnOk};
 ghost use Rattle.tdb_course.specs.Playable.{IsPlayable, ArePlayable};
 ghost use Rattle.tdb_gen.specs.Numbers.{IsFrom};
-ghost use Rattle.tdb_gen.specs.Plays.{joins, gift, gifts, round, rounds, group_plays};
+ghost use Rattle.tdb_gen.specs.Plays.{joins, gift, gifts};
 
 use crate::generator::{Generator, OPENERS};
 use std::alloc::{AllocError, Global};
 use tdb_plays::{Play, Plays};
-
-/// How many rounds of turns a group has.
-const ROUNDS: u32 = 24;
 
 /// Puts the joins of the openers at the end.
 pub(crate) fn push_joins(plays: &mut Plays) -> Result<(), AllocError>
@@ -55,28 +52,7 @@ fn push_gifts(
     Ok(())
 }
 
-/// Puts a turn of each opener at the end.
-fn push_round(plays: &mut Plays) -> Result<(), AllocError>
-    ensures round { OnOk result (plays.new ≡ plays.old ++ round) }
-    ensures playable { OnOk result (ArePlayable plays.old → ArePlayable plays.new) }
-{
-    plays.push(Play::Turn { who: 1 })?;
-    plays.push(Play::Turn { who: 2 })?;
-    plays.push(Play::Turn { who: 3 })
-}
-
-/// Puts rounds of turns at the end.
-fn push_rounds(plays: &mut Plays) -> Result<(), AllocError>
-    ensures rounds { OnOk result (plays.new ≡ plays.old ++ rounds 24) }
-    ensures playable { OnOk result (ArePlayable plays.old → ArePlayable plays.new) }
-{
-    for _ in 0..ROUNDS {
-        push_round(plays)?;
-    }
-    Ok(())
-}
-
-/// Puts the plays of the next group at the end, of so many commands in all.
+/// Puts the plays at the end that give the commands of the next group, of so many commands in all.
 pub(crate) fn push_group(
     alloc: Global,
     generator: &mut Generator,
@@ -84,7 +60,7 @@ pub(crate) fn push_group(
     plays: &mut Plays,
 ) -> Result<(), AllocError>
     requires { generator.old.index ≤ commands }
-    ensures group { OnOk result ((seed group : ℕ) → IsFrom seed generator.old → generator.old.index ≡ 3 * group → plays.new ≡ plays.old ++ group_plays commands seed group) }
+    ensures gifts { OnOk result ((seed : ℕ) → IsFrom seed generator.old → plays.new ≡ plays.old ++ gifts seed generator.old.index (min 3 (commands - generator.old.index))) }
     ensures index { OnOk result (generator.new.index ≡ min commands (generator.old.index + 3)) }
     ensures from { OnOk result ((seed : ℕ) → IsFrom seed generator.old → IsFrom seed generator.new) }
     ensures playable { OnOk result (ArePlayable plays.old → ArePlayable plays.new) }
@@ -95,6 +71,5 @@ pub(crate) fn push_group(
         generator,
         generator.index() + left.min(OPENERS),
         plays,
-    )?;
-    push_rounds(plays)
+    )
 }

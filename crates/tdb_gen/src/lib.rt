@@ -9,6 +9,7 @@ mod group;
 mod keys;
 mod laws;
 mod load;
+mod rounds;
 mod summary;
 
 pub use crate::counts::Counts;

@@ -1,5 +1,5 @@
 -- The laws are the lemmas.
-use Rattle.tdb_gen.proofs.Rounds.{round_goes_on, groups_done}
+use Rattle.tdb_gen.proofs.GoingOn.{round_goes_on, groups_done}
 use Rattle.tdb_gen.proofs.laws.groups_end.Goals as goal
 
 pub returns : goal.returns

@@ -1,10 +1,8 @@
 -- The joins were taken, or memory was wanting.
-use Rattle.std.proofs.Common.{◌≡◌, ◌++◌, ◌∷◌, [], ◌∙◌, Ok, sym, ap, subst}
+use Rattle.std.proofs.Common.{◌≡◌, ◌++◌, ◌∙◌, Ok, sym, ap, subst}
 use Rattle.std.proofs.lemmas.Result.{err_from_is_err_and}
 use Rattle.tdb_gen.specs.Plays.{joins}
-use Rattle.tdb_gen.specs.Rounds.{ArePart}
 use Rattle.tdb_gen.specs.Taking.{Place, place, Taken}
-use Rattle.tdb_gen.proofs.Keeping.{joins_part}
 use Rattle.tdb_gen.proofs.Takings.{taken_not, taken_short}
 use Rattle.tdb_gen.proofs.generation.Generation.join.Goals as goal
 use Rattle.tdb_gen.proofs.generation.Generation.join.Goals.{After-take}
@@ -14,7 +12,7 @@ returns-in_err-push_joins-clause-taken g c =
     let q = err_from_is_err_and c.from_residual.result c.from_residual.ensures.1 in
     let d = c.args.disk.now in
     rw (q.1, q.2)
-    (taken_not g.D.Disk.tells (place c.args.world.now (g.D.Disk.history d) (g.D.Disk.size d) (g.D.Disk.faults d) c.args.self.now.counts (g.L.Logs.logs c.args.logs.now)) (joins ∷ []) c.requires.fits)
+    (taken_not g.D.Disk.tells (place c.args.world.now (g.D.Disk.history d) (g.D.Disk.size d) (g.D.Disk.faults d) c.args.self.now.counts (g.L.Logs.logs c.args.logs.now)) joins c.requires.fits)
 
 -- before the joins, and behind them
 abbrev first : (g : _) (c : After-take g) → Place
@@ -27,8 +25,8 @@ last g c = place c.take.new.world (g.D.Disk.history c.take.new.disk) (g.D.Disk.s
 are : (g : _) (c : After-take g) → c.push_joins.new.plays ≡ joins
 are g c = c.in_ok-push_joins.ensures.joins ∙ ap (λ ps. ps ++ joins) c.clear.ensures
 
-taken : (g : _) (c : After-take g) → Taken g.D.Disk.tells (first g c) (last g c) (joins ∷ []) c.take.result
-taken g c = subst (λ ps. Taken g.D.Disk.tells (first g c) (last g c) (ps ∷ []) c.take.result) (are g c) (c.take.ensures.taken (subst ArePart (sym (are g c)) joins_part))
+taken : (g : _) (c : After-take g) → Taken g.D.Disk.tells (first g c) (last g c) joins c.take.result
+taken g c = subst (λ ps. Taken g.D.Disk.tells (first g c) (last g c) ps c.take.result) (are g c) c.take.ensures.taken
 
 pub returns-in_err-take-clause-taken : goal.returns-in_err-take-clause-taken
 returns-in_err-take-clause-taken g c =
@@ -36,8 +34,8 @@ returns-in_err-take-clause-taken g c =
     rw (q.1, q.2, sym c.in_err-take.was) (taken g ((goal.at.returns-in_err-take-clause-taken g c).After-take))
 
 -- they were taken whole, so the world fits
-whole : (g : _) (c : After-take g) → c.take.result ≡ Ok tt → Taken g.D.Disk.tells (first g c) (last g c) (joins ∷ []) (Ok tt)
-whole g c e = subst (Taken g.D.Disk.tells (first g c) (last g c) (joins ∷ [])) e (taken g c)
+whole : (g : _) (c : After-take g) → c.take.result ≡ Ok tt → Taken g.D.Disk.tells (first g c) (last g c) joins (Ok tt)
+whole g c e = subst (Taken g.D.Disk.tells (first g c) (last g c) joins) e (taken g c)
 
 pub joined-requires : goal.joined-requires
 joined-requires g c = record { fits = (_, _, (whole g ((goal.at.joined-requires g c).After-take) c.in_ok-take.was).fits) }

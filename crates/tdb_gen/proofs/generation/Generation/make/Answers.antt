@@ -1,5 +1,5 @@
 -- The joins, the groups and the summary, one after the other.
-use Rattle.std.proofs.Common.{◌≡◌, ◌∷◌, [], ◌∙◌, length, Err, refl, sym, ap, subst, arith}
+use Rattle.std.proofs.Common.{◌≡◌, [], ◌∙◌, length, Err, refl, sym, ap, subst, arith}
 use Rattle.std.proofs.lemmas.Result.{err_from_is_err_and}
 use Rattle.tdb_disk.specs.Count.{HasCauseOf}
 use Rattle.tdb_disk.specs.History.{seen}
@@ -10,10 +10,10 @@ use Rattle.tdb_whole.specs.Whole.{form_at}
 use Rattle.tdb_gen.specs.declared.fault.GenFault.TheVariants.{Io, Log}
 use Rattle.tdb_gen.specs.Generated.{GeneratedOver}
 use Rattle.tdb_gen.specs.Numbers.{IsFrom}
-use Rattle.tdb_gen.specs.Plays.{joins, groups, group_list}
+use Rattle.tdb_gen.specs.Plays.{joins, groups, group_list, together}
 use Rattle.tdb_gen.specs.Taking.{UnlessIo, Place, place}
 use Rattle.tdb_gen.proofs.Takings.{taken_join, taken_more}
-use Rattle.tdb_gen.proofs.Generating.{ready, accepted, broke_over, broke_cause, broke_quiet, done_over, at_ok, at_err}
+use Rattle.tdb_gen.proofs.Generating.{accepted, broke_over, broke_cause, broke_quiet, done_over, at_ok, at_err}
 use Rattle.tdb_gen.proofs.generation.Generation.make.Goals as goal
 use Rattle.tdb_gen.proofs.generation.Generation.make.Goals.{After-join, After-take_groups}
 
@@ -42,16 +42,16 @@ returns-in_err-join-clause-generated g c told seed options first is_from is begi
     let q = err_from_is_err_and c.from_residual.result c.from_residual.ensures.1 in
     let a = (goal.at.returns-in_err-join-clause-generated g c).After-join in
     let e = c.in_err-join.field-0.0 in
-    let K = taken_more g.D.Disk.tells (start g a) (joined g a) (joins ∷ []) (group_list c.args.commands seed (groups c.args.commands)) e c.in_err-join.ensures.taken in
+    let K = taken_more g.D.Disk.tells (start g a) (joined g a) joins (together (group_list c.args.commands seed (groups c.args.commands))) e c.in_err-join.ensures.taken in
     rw (q.1, q.2)
-    (broke_over options c.args.commands seed (start g a) (joined g a) first begins e K.header (K.told told first is (ready options c.args.commands seed (start g a) (joined g a) first begins)))
+    (broke_over options c.args.commands seed (start g a) (joined g a) first begins e K.header (K.told told first is))
 
 pub returns-in_err-join-clause-cause : goal.returns-in_err-join-clause-cause
 returns-in_err-join-clause-cause g c told options first is begins =
     let q = err_from_is_err_and c.from_residual.result c.from_residual.ensures.1 in
     let a = (goal.at.returns-in_err-join-clause-cause g c).After-join in
     let J = c.in_err-join.ensures.taken in
-    rw (q.1, q.2) (broke_cause (g.D.Disk.faults c.args.disk.now) (g.D.Disk.faults c.join.new.disk) c.in_err-join.field-0.0 J.rises J.quiet (J.rose told first is (ready options c.args.commands c.requires.seed.0 (start g a) (joined g a) first begins)))
+    rw (q.1, q.2) (broke_cause (g.D.Disk.faults c.args.disk.now) (g.D.Disk.faults c.join.new.disk) c.in_err-join.field-0.0 J.rises J.quiet (J.rose told first is))
 
 pub returns-in_err-join-clause-quiet : goal.returns-in_err-join-clause-quiet
 returns-in_err-join-clause-quiet g c =
@@ -66,9 +66,9 @@ returns-in_err-take_groups-clause-generated g c told seed options first is_from 
     let a = (goal.at.returns-in_err-take_groups-clause-generated g c).After-join in
     let e = c.in_err-take_groups.field-0.0 in
     let B = c.in_err-take_groups.ensures.taken seed (subst (IsFrom seed) (sym c.join.ensures.generator) is_from) in
-    let K = taken_join g.D.Disk.tells (start g a) (joined g a) (last g b) (joins ∷ []) c.in_ok-join.ensures.taken (Err e) (group_list c.args.commands seed (groups c.args.commands)) B in
+    let K = taken_join g.D.Disk.tells (start g a) (joined g a) (last g b) joins c.in_ok-join.ensures.taken (Err e) (together (group_list c.args.commands seed (groups c.args.commands))) B in
     rw (q.1, q.2)
-    (broke_over options c.args.commands seed (start g a) (last g b) first begins e K.header (K.told told first is (ready options c.args.commands seed (start g a) (last g b) first begins)))
+    (broke_over options c.args.commands seed (start g a) (last g b) first begins e K.header (K.told told first is))
 
 pub returns-in_err-take_groups-clause-cause : goal.returns-in_err-take_groups-clause-cause
 returns-in_err-take_groups-clause-cause g c told options first is begins =
@@ -77,8 +77,8 @@ returns-in_err-take_groups-clause-cause g c told options first is begins =
     let a = (goal.at.returns-in_err-take_groups-clause-cause g c).After-join in
     let e = c.in_err-take_groups.field-0.0 in
     let seed = c.requires.seed.0 in
-    let K = taken_join g.D.Disk.tells (start g a) (joined g a) (last g b) (joins ∷ []) c.in_ok-join.ensures.taken (Err e) (group_list c.args.commands seed (groups c.args.commands)) (c.in_err-take_groups.ensures.taken seed (from g a)) in
-    rw (q.1, q.2) (broke_cause (g.D.Disk.faults c.args.disk.now) (g.D.Disk.faults c.take_groups.new.disk) e K.rises K.quiet (K.rose told first is (ready options c.args.commands seed (start g a) (last g b) first begins)))
+    let K = taken_join g.D.Disk.tells (start g a) (joined g a) (last g b) joins c.in_ok-join.ensures.taken (Err e) (together (group_list c.args.commands seed (groups c.args.commands))) (c.in_err-take_groups.ensures.taken seed (from g a)) in
+    rw (q.1, q.2) (broke_cause (g.D.Disk.faults c.args.disk.now) (g.D.Disk.faults c.take_groups.new.disk) e K.rises K.quiet (K.rose told first is))
 
 pub returns-in_err-take_groups-clause-rises : goal.returns-in_err-take_groups-clause-rises
 returns-in_err-take_groups-clause-rises g c =
@@ -94,7 +94,7 @@ returns-in_err-take_groups-clause-quiet g c =
     let a = (goal.at.returns-in_err-take_groups-clause-quiet g c).After-join in
     let e = c.in_err-take_groups.field-0.0 in
     let seed = c.requires.seed.0 in
-    let K = taken_join g.D.Disk.tells (start g a) (joined g a) (last g b) (joins ∷ []) c.in_ok-join.ensures.taken (Err e) (group_list c.args.commands seed (groups c.args.commands)) (c.in_err-take_groups.ensures.taken seed (from g a)) in
+    let K = taken_join g.D.Disk.tells (start g a) (joined g a) (last g b) joins c.in_ok-join.ensures.taken (Err e) (together (group_list c.args.commands seed (groups c.args.commands))) (c.in_err-take_groups.ensures.taken seed (from g a)) in
     rw (q.1, q.2) (broke_quiet (g.D.Disk.faults c.args.disk.now) (g.D.Disk.faults c.take_groups.new.disk) e K.quiet)
 
 -- all was taken, and what was counted is told

@@ -1,8 +1,8 @@
 -- One group more was taken, or broke off.
-use Rattle.std.proofs.Common.{◌≡◌, ◌+◌, ◌*◌, ◌/◌, ◌%◌, ◌<◌, ◌≤◌, ◌∷◌, [], ◌∙◌, ℕ, min, drop, Ok, Err, subst, arith}
+use Rattle.std.proofs.Common.{◌≡◌, ◌+◌, ◌*◌, ◌/◌, ◌%◌, ◌<◌, ◌≤◌, ◌∙◌, ℕ, min, drop, Ok, Err, subst, arith}
 use Rattle.std.proofs.lemmas.Result.{err_from_is_err_and}
 use Rattle.tdb_gen.specs.Numbers.{IsFrom}
-use Rattle.tdb_gen.specs.Plays.{groups, group_plays, group_list}
+use Rattle.tdb_gen.specs.Plays.{groups, group_plays, group_list, together}
 use Rattle.tdb_gen.specs.Taking.{Place, place, Taken}
 use Rattle.tdb_gen.proofs.Grouping.{groups_more, groups_up, group_at, group_after, groups_cut}
 use Rattle.tdb_gen.proofs.Takings.{taken_none, taken_join, taken_more}
@@ -29,10 +29,10 @@ begins : (g : _) (c : After-take_group g) → c.loop.self.generator.index ≡ 3 
 begins g c = c.loop.invariant.index ∙ group_at c.args.commands c.loop.counter (inside g c)
 
 -- the groups with it
-more : (g : _) (c : After-take_group g) (seed : ℕ) → IsFrom seed c.args.self.now.generator → Taken g.D.Disk.tells (first g c) (last g c) (group_list c.args.commands seed (c.loop.counter + 1)) c.take_group.result
+more : (g : _) (c : After-take_group g) (seed : ℕ) → IsFrom seed c.args.self.now.generator → Taken g.D.Disk.tells (first g c) (last g c) (together (group_list c.args.commands seed (c.loop.counter + 1))) c.take_group.result
 more g c seed from =
     subst (λ ps. Taken g.D.Disk.tells (first g c) (last g c) ps c.take_group.result) (groups_more c.args.commands seed c.loop.counter)
-    (taken_join g.D.Disk.tells (first g c) (mid g c) (last g c) (group_list c.args.commands seed c.loop.counter) (c.loop.invariant.taken seed from) c.take_group.result (group_plays c.args.commands seed c.loop.counter ∷ [])
+    (taken_join g.D.Disk.tells (first g c) (mid g c) (last g c) (together (group_list c.args.commands seed c.loop.counter)) (c.loop.invariant.taken seed from) c.take_group.result (group_plays c.args.commands seed c.loop.counter)
     (c.take_group.ensures.taken seed c.loop.counter (c.loop.invariant.from seed from) (begins g c)))
 
 pub loop-init : goal.loop-init
@@ -55,15 +55,15 @@ returns-in_err-take_group g c = record {
       let within : c.loop.counter + 1 ≤ groups c.args.commands = omega (arith, low, up) in
       rw (q.1, q.2)
       (subst (λ ps. Taken g.D.Disk.tells (first g a) (last g a) ps (Err c.in_err-take_group.field-0.0)) (groups_cut c.args.commands seed (c.loop.counter + 1) (groups c.args.commands) within)
-      (taken_more g.D.Disk.tells (first g a) (last g a) (group_list c.args.commands seed (c.loop.counter + 1)) (drop (c.loop.counter + 1) (group_list c.args.commands seed (groups c.args.commands))) c.in_err-take_group.field-0.0
-      (subst (λ r. Taken g.D.Disk.tells (first g a) (last g a) (group_list c.args.commands seed (c.loop.counter + 1)) r) c.in_err-take_group.was (more g a seed from)))));
+      (taken_more g.D.Disk.tells (first g a) (last g a) (together (group_list c.args.commands seed (c.loop.counter + 1))) (together (drop (c.loop.counter + 1) (group_list c.args.commands seed (groups c.args.commands)))) c.in_err-take_group.field-0.0
+      (subst (λ r. Taken g.D.Disk.tells (first g a) (last g a) (together (group_list c.args.commands seed (c.loop.counter + 1))) r) c.in_err-take_group.was (more g a seed from)))));
 }
 
 pub loop-preserved : goal.loop-preserved
 loop-preserved g c =
     let a = (goal.at.loop-preserved g c).After-take_group in
     record {
-      taken = λ seed from. subst (λ r. Taken g.D.Disk.tells (first g a) (last g a) (group_list c.args.commands seed (c.loop.counter + 1)) r) c.in_ok-take_group.was (more g a seed from);
+      taken = λ seed from. subst (λ r. Taken g.D.Disk.tells (first g a) (last g a) (together (group_list c.args.commands seed (c.loop.counter + 1))) r) c.in_ok-take_group.was (more g a seed from);
       index = c.in_ok-take_group.ensures.index ∙ group_after c.args.commands c.loop.counter c.loop.self.generator.index c.loop.invariant.index;
       from = λ seed from. c.in_ok-take_group.ensures.from seed (c.loop.invariant.from seed from);
     }
@@ -77,6 +77,6 @@ returns g c = record {
       let most = c.loop.auto.counter-end in
       let all : c.loop.counter ≡ groups c.args.commands = omega (arith, up, end, least, most) in
       subst (λ n. Taken g.D.Disk.tells (place c.args.world.now (g.D.Disk.history c.args.disk.now) (g.D.Disk.size c.args.disk.now) (g.D.Disk.faults c.args.disk.now) c.args.self.now.counts (g.L.Logs.logs c.args.logs.now))
-      (place c.loop.world (g.D.Disk.history c.loop.disk) (g.D.Disk.size c.loop.disk) (g.D.Disk.faults c.loop.disk) c.loop.self.counts (g.L.Logs.logs c.loop.logs)) (group_list c.args.commands seed n) (Ok tt))
+      (place c.loop.world (g.D.Disk.history c.loop.disk) (g.D.Disk.size c.loop.disk) (g.D.Disk.faults c.loop.disk) c.loop.self.counts (g.L.Logs.logs c.loop.logs)) (together (group_list c.args.commands seed n)) (Ok tt))
       all (c.loop.invariant.taken seed from));
 }

@@ -3,7 +3,7 @@ use Rattle.std.proofs.Common.{◌≡◌, ℕ, zero, suc, ◌+◌, ◌-◌, ◌*�
 use Rattle.std.specs.Prelude.{if◌then◌else◌, nat_lt, ◌==◌, min}
 use Rattle.std.specs.List.{flat_map, range_with_len}
 use Rattle.std.proofs.lemmas.Bool.{cases_eq}
-use Rattle.std.proofs.lemmas.List.{map-append}
+use Rattle.std.proofs.lemmas.List.{append_assoc, map-append}
 use Rattle.std.proofs.lemmas.List.Concat.{flat_map-cons}
 use Rattle.std.proofs.lemmas.List.FromFn.{length-range_with_len}
 use Rattle.tdb_space.specs.Form.{Form}
@@ -29,18 +29,26 @@ use Rattle.tdb_gen.proofs.Turns.{IsBelow, Moves, moves_on, stays, Took, no_task,
 use Rattle.tdb_gen.proofs.Waiting.{bare_kept}
 
 -- a course in two parts
-pub record Parted (f : Form) (ps qs : List Play) (old new : State) : Type 0 where
+pub record Parted (f : Form) (ps qs : List Play) (old : State) (lines : List Line) (new : State) : Type 0 where
   pub mid : State
   pub front : List Line
   pub rest : List Line
+  pub told : lines ≡ front ++ rest
   pub first : Course f old ps front mid
   pub second : Course f mid qs rest new
 
-parted : (f : Form) (ps qs : List Play) (old new : State) (lines : List Line) → Course f old (ps ++ qs) lines new → Parted f ps qs old new
-parted f [] qs old new lines C = record { mid = old; front = []; rest = lines; first = (refl, refl); second = C }
+pub parted : (f : Form) (ps qs : List Play) (old new : State) (lines : List Line) → Course f old (ps ++ qs) lines new → Parted f ps qs old lines new
+parted f [] qs old new lines C = record { mid = old; front = []; rest = lines; told = refl; first = (refl, refl); second = C }
 parted f (p ∷ ps) qs old new lines C =
     let q = parted f ps qs C.0 new C.2 C.5 in
-    record { mid = q.mid; front = C.1 ++ q.front; rest = q.rest; first = (C.0, C.1, q.front, refl, C.4, q.first); second = q.second }
+    record {
+      mid = q.mid;
+      front = C.1 ++ q.front;
+      rest = q.rest;
+      told = C.3 ∙ (ap (λ ls. C.1 ++ ls) q.told ∙ sym (append_assoc C.1 q.front q.rest));
+      first = (C.0, C.1, q.front, refl, C.4, q.first);
+      second = q.second;
+    }
 
 module _ (f : Form) where
   -- a turn that isn't taken changes nothing, and then its opener has no command
@@ -272,64 +280,66 @@ module _ (f : Form) where
       record { keys = ended.0; idle = all_done new ended.0 ended.1 (omega (arith, count, left, one, two, three)) }
 
   -- an opener that joins has nothing
-  module _ (old new : State) (who : ℕ) (R : IsReady f old) (J : Joins f old who new) where
-    task_none : (o : ℕ) → new.task o ≡ None
-    task_none o = elim (cases_eq o who) [ inl e ↦ ap new.task e ∙ J.nothing.task | inr ne ↦ J.stay.task o ne ∙ R.idle o ]
+  module _ (old new : State) (who : ℕ) (K : OnKeys f old) (J : Joins f old who new) where
+    task_none : (o : ℕ) → o ≡ who → new.task o ≡ None
+    task_none o e = ap new.task e ∙ J.nothing.task
 
     bare_joined : (o : ℕ) → IsBare (new.own o)
     bare_joined o =
         elim (cases_eq o who) [
           | inl e ↦ subst (λ p. IsBare (new.own p)) (sym e) (subst IsBare (sym J.own) (record { txn = refl; counts = refl; all = refl; cursor = refl }))
-          | inr ne ↦ subst IsBare (sym (J.stay.own o ne)) (R.keys.bare o)
+          | inr ne ↦ subst IsBare (sym (J.stay.own o ne)) (K.bare o)
         ]
 
     nowhere_joined : (o : ℕ) → (new.spot o).stands ≡ None
     nowhere_joined o =
-        elim (cases_eq o who) [ inl e ↦ ap (λ p. (new.spot p).stands) e ∙ ap (λ a. a.stands) J.nothing.spot | inr ne ↦ ap (λ a. a.stands) (J.stay.spot o ne) ∙ R.keys.nowhere o ]
+        elim (cases_eq o who) [ inl e ↦ ap (λ p. (new.spot p).stands) e ∙ ap (λ a. a.stands) J.nothing.spot | inr ne ↦ ap (λ a. a.stands) (J.stay.spot o ne) ∙ K.nowhere o ]
 
     -- without a command nothing is held
-    holds_none : (w : State) (o b : ℕ) → w.task o ≡ None → IsBare (w.own o) → (w.spot o).stands ≡ None → holding f (w.own o) (w.spot o) (w.task o) b ≡ 0
-    holds_none w o b idle B off =
-        let e : holding f (w.own o) (w.spot o) (w.task o) b ≡ holding f (w.own o) (w.spot o) None b = ap (λ t. holding f (w.own o) (w.spot o) t b) idle in
-        let none = bare_kept f (w.own o) (w.spot o) b B off in
+    holds_none : (o b : ℕ) → new.task o ≡ None → holding f (new.own o) (new.spot o) (new.task o) b ≡ 0
+    holds_none o b idle =
+        let e : holding f (new.own o) (new.spot o) (new.task o) b ≡ holding f (new.own o) (new.spot o) None b = ap (λ t. holding f (new.own o) (new.spot o) t b) idle in
+        let none = bare_kept f (new.own o) (new.spot o) b (bare_joined o) (nowhere_joined o) in
         omega (arith, e, none)
 
     agrees_joined : (o b : ℕ) → new.table o b ≡ holding f (new.own o) (new.spot o) (new.task o) b
     agrees_joined o b =
-        let now = holds_none new o b (task_none o) (bare_joined o) (nowhere_joined o) in
-        let was = holds_none old o b (R.idle o) (R.keys.bare o) (R.keys.nowhere o) in
-        let agrees = R.keys.agrees o b in
         elim (cases_eq o who) [
-          | inl e ↦ ap (λ p. new.table p b) e ∙ (J.nothing.table b ∙ sym now)
-          | inr ne ↦ J.stay.table o b ne ∙ (agrees ∙ (was ∙ sym now))
+          | inl e ↦ ap (λ p. new.table p b) e ∙ (J.nothing.table b ∙ sym (holds_none o b (task_none o e)))
+          | inr ne ↦ J.stay.table o b ne ∙ (K.agrees o b
+              ∙ sym (ap (λ y. holding f y (new.spot o) (new.task o) b) (J.stay.own o ne) ∙ (ap (λ a. holding f (old.own o) a (new.task o) b) (J.stay.spot o ne) ∙ ap (λ t. holding f (old.own o) (old.spot o) t b) (J.stay.task o ne))))
         ]
 
-    joined_ready : IsReady f new
-    joined_ready = record {
-      keys = record {
-        agrees = agrees_joined;
-        bare = bare_joined;
-        nowhere = nowhere_joined;
-        busy = λ o t is. absurd (no_task t (sym (task_none o) ∙ is));
-        fresh = J.stale ∙ R.keys.fresh;
-      };
-      idle = task_none;
-    }
+    busy_joined : (o : ℕ) (t : Task) → new.task o ≡ Some t → IsUnderWay (new.own o) t
+    busy_joined o t is =
+        elim (cases_eq o who) [
+          | inl e ↦ absurd (no_task t (sym (task_none o e) ∙ is))
+          | inr ne ↦ subst (λ y. IsUnderWay y t) (sym (J.stay.own o ne)) (K.busy o t (sym (J.stay.task o ne) ∙ is))
+        ]
 
-  pub join_given : (old new : State) (lines : List Line) → IsReady f old → Gives f old Join lines new → IsReady f new
-  join_given old new lines R (Gives.gives_answer line is same answer) = subst (IsReady f) (sym same) R
-  join_given old new lines R (Gives.gives_opener o is told J) = joined_ready old new o R J
-  join_given old new lines R (Gives.gives_command o d is told G) = absurd (cc is)
-  join_given old new lines R (Gives.gives_turn o turn is A) = absurd (cc is)
-  join_given old new lines R (Gives.gives_turns o is A) = absurd (cc is)
-  join_given old new lines R (Gives.gives_all o d mid is G A) = absurd (cc is)
-  join_given old new lines R (Gives.gives_death o is told D) = absurd (cc is)
+    joined_keys : OnKeys f new
+    joined_keys = record { agrees = agrees_joined; bare = bare_joined; nowhere = nowhere_joined; busy = busy_joined; fresh = J.stale ∙ K.fresh }
+
+    joined_idle : IsIdle old → IsIdle new
+    joined_idle idle o = elim (cases_eq o who) [ inl e ↦ task_none o e | inr ne ↦ J.stay.task o ne ∙ idle o ]
+
+  pub join_given : (old new : State) (lines : List Line) → OnKeys f old → Gives f old Join lines new → OnKeys f new × (IsIdle old → IsIdle new)
+  join_given old new lines K (Gives.gives_answer line is same answer) = subst (λ w. OnKeys f w × (IsIdle old → IsIdle w)) (sym same) (K, λ idle. idle)
+  join_given old new lines K (Gives.gives_opener o is told J) = (joined_keys old new o K J, joined_idle old new o K J)
+  join_given old new lines K (Gives.gives_command o d is told G) = absurd (cc is)
+  join_given old new lines K (Gives.gives_turn o turn is A) = absurd (cc is)
+  join_given old new lines K (Gives.gives_turns o is A) = absurd (cc is)
+  join_given old new lines K (Gives.gives_all o d mid is G A) = absurd (cc is)
+  join_given old new lines K (Gives.gives_death o is told D) = absurd (cc is)
 
   pub joins_ready : (old new : State) (lines : List Line) → IsReady f old → Course f old (law_plays joins) lines new → IsReady f new
   joins_ready old new lines R C =
       let D = C.5 in
       let E = D.5 in
-      subst (IsReady f) (sym E.5.1) (join_given D.0 E.0 E.1 (join_given C.0 D.0 D.1 (join_given old C.0 C.1 R C.4) D.4) E.4)
+      let one = join_given old C.0 C.1 R.keys C.4 in
+      let two = join_given C.0 D.0 D.1 one.0 D.4 in
+      let three = join_given D.0 E.0 E.1 two.0 E.4 in
+      subst (IsReady f) (sym E.5.1) (record { keys = three.0; idle = three.1 (two.1 (one.1 R.idle)) })
 
 -- so each ends its commands
 pub joins_done : JoinsAreDone
