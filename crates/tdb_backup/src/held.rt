@@ -6,26 +6,35 @@ ghost use Rattle.tdb_words.specs.Record.{rec_at};
 ghost use Rattle.tdb_space.specs.Frame.{Looked};
 ghost use Rattle.tdb_chain.specs.declared.refusal.ValueRefusal.TheVariants.{Io as IoRefusal};
 
-use std::alloc::Global;
+use std::alloc::{AllocError, Global};
 use tdb_chain::ValueRefusal;
 use tdb_space::{Io, Space, rec_in};
 use tdb_words::Rec;
 
 /// How many bytes of a record are read at first.
-const WINDOW: u64 = 512;
+const WINDOW: u64 = 128;
 
 /// The length of a record's header, in bytes.
 const HEADER: usize = 24;
 
-/// A record's bytes, as far as they were read, and where in them its key and its value begin. The value goes to their
-/// end.
+/// The first bytes of a record, as far as they were read, and where in them its key and its value begin. The value goes
+/// to their end.
 #[derive(Drop)]
 pub(crate) struct Held {
+    /// Room for a record's bytes, which gets longer and never shorter. Behind those that were read it holds others.
     bytes: Vec<u8>,
+
+    /// Where the key begins.
     key_at: usize,
+
+    /// Where the value begins.
     value_at: usize,
+
+    /// How many bytes of the record were read.
+    end: usize,
     ghost key_first: { key_at ≤ value_at },
-    ghost within: { value_at ≤ length bytes.items },
+    ghost value_first: { value_at ≤ end },
+    ghost within: { end ≤ length bytes.items },
 }
 
 impl Held {
@@ -37,6 +46,7 @@ impl Held {
             bytes: Vec::new(alloc),
             key_at: 0,
             value_at: 0,
+            end: 0,
         }
     }
 
@@ -51,7 +61,7 @@ impl Held {
     pub(crate) fn value(&self) -> &[u8]
         ensures { result.now ≡ (pair_held self.now).1 }
     {
-        &self.bytes[self.value_at..]
+        &self.bytes[self.value_at..self.end]
     }
 
     /// Reads the header of the record at an offset of a file of `len` bytes, and what follows it as far as it fits into
@@ -73,11 +83,11 @@ impl Held {
     {
         self.key_at = 0;
         self.value_at = 0;
-        let held = WINDOW.min(len - at as u64) as usize;
-        self.bytes.resize(held, 0)?;
-        let front = self.bytes.as_mut_slice();
-        s.read(at as u64, front)?;
-        Ok(rec_in(front, s.order()))
+        self.end = 0;
+        let end = WINDOW.min(len - at as u64) as usize;
+        read_up_to(s, at, &mut self.bytes, 0, end)?;
+        self.end = end;
+        Ok(rec_in(&self.bytes[..end], s.order()))
     }
 
     /// Reads on to the end of the value of the record at an offset, whose front was read and which has this header,
@@ -99,47 +109,68 @@ impl Held {
         ensures bytes_read { S.bytes_read s.old ≤ S.bytes_read s.new }
     {
         let value_at = HEADER + rec.key_len as usize;
-        self.key_at = 0;
-        self.value_at = 0;
-        self.read_up_to(s, at, value_at + rec.data_len as usize)?;
+        let end = value_at + rec.data_len as usize;
+        read_up_to(s, at, &mut self.bytes, self.end, end)?;
+        self.end = end;
         self.value_at = value_at;
         self.key_at = HEADER;
         Ok(())
     }
-
-    /// Holds just so many bytes of the record at an offset, of which the first were read: reads what is missing, and
-    /// lets go what is too much.
-    fn read_up_to<S: Space>(&mut self, s: &mut S, at: u32, end: usize) -> Result<(), ValueRefusal>
-        requires within { at + end ≤ S.size s.old }
-        requires unset { self.old.value_at ≡ 0 }
-        ensures long { OnOk result (length self.new.bytes.items ≡ end) }
-        ensures shows { OnOk result (IsTrue S.tells → Shows self.old (S.image s.old) at
-            → self.new.bytes.items ≡ take end (drop at (S.image s.old))) }
-        ensures looked { Looked S.Space s.old s.new }
-        ensures cause { HasCauseOf IoRefusal (S.faults s.old) (S.faults s.new) result }
-        ensures bytes_read { S.bytes_read s.old ≤ S.bytes_read s.new }
-    {
-        let held = self.bytes.len();
-        if end <= held {
-            self.bytes.truncate(end);
-            return Ok(());
-        }
-        self.bytes.resize(end, 0)?;
-        read_behind(s, at, held, &mut self.bytes)?;
-        Ok(())
-    }
 }
 
-/// Fills what follows the first `held` bytes with those that stand there from the record at an offset on.
-fn read_behind<S: Space>(s: &mut S, at: u32, held: usize, room: &mut [u8]) -> Result<(), Io>
-    requires held { held ≤ length room.old }
-    requires within { at + length room.old ≤ S.size s.old }
+/// Fills the room up to `end` with the bytes from the record at an offset on, of which it has the first `held`: reads
+/// what is missing. The room gets longer where it's too short.
+fn read_up_to<S: Space>(
+    s: &mut S,
+    at: u32,
+    room: &mut Vec<u8>,
+    held: usize,
+    end: usize,
+) -> Result<(), ValueRefusal>
+    requires held { held ≤ length room.old.items }
+    requires within { at + end ≤ S.size s.old }
+    ensures long { OnOk result (end ≤ length room.new.items) }
+    ensures no_shorter { length room.old.items ≤ length room.new.items }
+    ensures shows { OnOk result (IsTrue S.tells → take held room.old.items ≡ take held (drop at (S.image s.old))
+        → take end room.new.items ≡ take end (drop at (S.image s.old))) }
+    ensures looked { Looked S.Space s.old s.new }
+    ensures cause { HasCauseOf IoRefusal (S.faults s.old) (S.faults s.new) result }
+    ensures bytes_read { S.bytes_read s.old ≤ S.bytes_read s.new }
+{
+    lengthen(room, end)?;
+    if held < end {
+        read_behind(s, at, held, end, room)?;
+    }
+    Ok(())
+}
+
+/// Makes the room so long at least.
+fn lengthen(room: &mut Vec<u8>, len: usize) -> Result<(), AllocError>
+    ensures long { OnOk result (len ≤ length room.new.items) }
+    ensures kept { take (length room.old.items) room.new.items ≡ room.old.items }
+{
+    if room.len() < len {
+        room.resize(len, 0)?;
+    }
+    Ok(())
+}
+
+/// Fills the bytes from `held` up to `end` with those that stand there from the record at an offset on.
+fn read_behind<S: Space>(
+    s: &mut S,
+    at: u32,
+    held: usize,
+    end: usize,
+    room: &mut [u8],
+) -> Result<(), Io>
+    requires held { held ≤ end }
+    requires end { end ≤ length room.old }
+    requires within { at + end ≤ S.size s.old }
     ensures shows { OnOk result (IsTrue S.tells → take held room.old ≡ take held (drop at (S.image s.old))
-        → room.new ≡ take (length room.old) (drop at (S.image s.old))) }
+        → take end room.new ≡ take end (drop at (S.image s.old))) }
     ensures looked { Looked S.Space s.old s.new }
     ensures cause { HasCause (S.faults s.old) (S.faults s.new) result }
     ensures bytes_read { S.bytes_read s.old ≤ S.bytes_read s.new }
 {
-    let (_front, rest) = room.split_at_mut(held);
-    s.read(at as u64 + held as u64, rest)
+    s.read(at as u64 + held as u64, &mut room[held..end])
 }

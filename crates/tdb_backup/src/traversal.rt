@@ -25,7 +25,7 @@ use tdb_words::{Rec, USED};
 /// A walk over all pairs of a file in the order of a dump: chain 0 first, each chain from its head on. It holds one
 /// pair.
 ///
-/// It reads each record once: the header and 488 bytes more at most, and what a pair has besides.
+/// It reads each record once: the header and 104 bytes more at most, and what a pair has besides.
 #[derive(Drop)]
 pub struct Traversal {
     /// The number of the chain behind the one at hand, or 0 at the beginning.

@@ -4,7 +4,7 @@ use Rattle.tdb_backup.proofs.held.Held.read_rest.Goals as goal
 
 pub returns-clause-pair : goal.returns-clause-pair
 returns-clause-pair g c told shows =
-    pair_cut c.read_up_to.new.self.bytes.items (g.S.Space.image c.args.s.now) c.args.at c.args.rec.now (c.in_ok-read_up_to.ensures.shows told shows)
+    pair_cut c.read_up_to.new.room.items (g.S.Space.image c.args.s.now) c.args.at c.args.rec.now (c.in_ok-read_up_to.ensures.shows told shows)
 
 pub returns-clause-key_length : goal.returns-clause-key_length
-returns-clause-key_length g c = key_cut c.read_up_to.new.self.bytes.items c.args.rec.now.key_len c.args.rec.now.data_len c.in_ok-read_up_to.ensures.long
+returns-clause-key_length g c = key_cut c.read_up_to.new.room.items c.args.rec.now.key_len c.args.rec.now.data_len c.in_ok-read_up_to.ensures.long
