@@ -1,188 +1,323 @@
 // The walk along chains, over small files in memory.
 
+use crate::files::{Fault, HEADER, refusal};
 use std::alloc::{AllocError, Global};
-use std::test::Fail;
-use tdb_check::{CheckRefusal, Extent, follow_chains};
+use tdb_check::{Extent, follow_chains};
 use tdb_disk::MemDisk;
 use tdb_space::{Direct, Space};
-use tdb_words::{DEAD, HashKind, Header, Order, Rec, USED, What, hash_old, rec_bytes, word_bytes};
+use tdb_words::What::{ChainLoop, ChainOut, TwiceKey, WrongHash};
+use tdb_words::{DEAD, Header, Order, Rec, USED, hash_old, rec_bytes, word_bytes};
 
-// A record of a file: where it leads, its key, and what it is.
-#[derive(Clone, Copy)]
-struct Link {
-    next: u32,
-    key: [u8; 2],
-    magic: u32,
+/// A record of a file: where it leads, its key, and what it is.
+type Link = (u32, [u8; 2], u32);
+
+/// The heads of a file's chains, and behind them these records of 32 bytes each. What the walk along them says, and the
+/// offsets of the extents that it puts down, where they are looked at.
+struct Chains {
+    heads: &'static [u32],
+    links: &'static [Link],
+    want: Result<u64, Fault>,
+    offsets: Option<&'static [u32]>,
 }
 
-// A file with these chain heads, and behind them these records of 32 bytes each.
+/// Three records in one chain.
+const THREE: Option<&'static [u32]> = Some(&[176, 208, 240]);
+
+/// Two dead records at 180 and 212, of which the second leads to the first.
+const DEAD_LINKS: [Link; 2] = [(0, *b"aa", DEAD), (180, *b"aa", DEAD)];
+
+/// A used record, whose key is filed in the first of two chains.
+const USED_LINK: [Link; 1] = [(0, *b"aa", USED)];
+
+// The keys "aa" and "Ab" have the same hash.
+static CHAINS: [(&'static str, Chains); 18] = [
+    (
+        "three keys",
+        Chains {
+            heads: &[176],
+            links: &[(208, *b"aa", USED), (240, *b"cc", USED), (0, *b"bb", USED)],
+            want: Ok(3),
+            offsets: THREE,
+        },
+    ),
+    (
+        "a dead record between",
+        Chains {
+            heads: &[176],
+            links: &[(208, *b"aa", USED), (240, *b"cc", DEAD), (0, *b"bb", USED)],
+            want: Ok(2),
+            offsets: THREE,
+        },
+    ),
+    (
+        "a dead record of the key in front of it",
+        Chains {
+            heads: &[176],
+            links: &[(208, *b"aa", USED), (240, *b"aa", DEAD), (0, *b"bb", USED)],
+            want: Ok(2),
+            offsets: THREE,
+        },
+    ),
+    (
+        "two keys of one hash",
+        Chains {
+            heads: &[176],
+            links: &[(208, *b"aa", USED), (240, *b"Ab", USED), (0, *b"bb", USED)],
+            want: Ok(3),
+            offsets: THREE,
+        },
+    ),
+    (
+        "a key twice",
+        Chains {
+            heads: &[176],
+            links: &[(208, *b"aa", USED), (240, *b"cc", USED), (0, *b"aa", USED)],
+            want: Err((TwiceKey, 240)),
+            offsets: None,
+        },
+    ),
+    (
+        "a key twice, with another of its hash between",
+        Chains {
+            heads: &[176],
+            links: &[(208, *b"aa", USED), (240, *b"Ab", USED), (0, *b"aa", USED)],
+            want: Err((TwiceKey, 240)),
+            offsets: None,
+        },
+    ),
+    (
+        "a key twice, behind another of its hash",
+        Chains {
+            heads: &[176],
+            links: &[(208, *b"aa", USED), (240, *b"Ab", USED), (0, *b"Ab", USED)],
+            want: Err((TwiceKey, 240)),
+            offsets: None,
+        },
+    ),
+    (
+        "a key twice before the chain leads in front of the data",
+        Chains {
+            heads: &[176],
+            links: &[
+                (208, *b"aa", USED),
+                (240, *b"aa", USED),
+                (172, *b"bb", USED),
+            ],
+            want: Err((TwiceKey, 208)),
+            offsets: None,
+        },
+    ),
+    (
+        "a key twice before the chain leads back",
+        Chains {
+            heads: &[176],
+            links: &[
+                (208, *b"aa", USED),
+                (240, *b"cc", USED),
+                (208, *b"aa", USED),
+            ],
+            want: Err((TwiceKey, 240)),
+            offsets: None,
+        },
+    ),
+    (
+        "a chain that leads in front of the data, with two keys of one hash",
+        Chains {
+            heads: &[176],
+            links: &[
+                (208, *b"aa", USED),
+                (240, *b"Ab", USED),
+                (172, *b"bb", USED),
+            ],
+            want: Err((ChainOut, 240)),
+            offsets: None,
+        },
+    ),
+    (
+        "a chain that leads back",
+        Chains {
+            heads: &[176],
+            links: &[
+                (208, *b"aa", USED),
+                (240, *b"cc", USED),
+                (208, *b"bb", USED),
+            ],
+            want: Err((ChainLoop, 240)),
+            offsets: None,
+        },
+    ),
+    (
+        "a chain that leads in front of the data",
+        Chains {
+            heads: &[176],
+            links: &[
+                (208, *b"aa", USED),
+                (240, *b"cc", USED),
+                (172, *b"bb", USED),
+            ],
+            want: Err((ChainOut, 240)),
+            offsets: None,
+        },
+    ),
+    // Of what two chains lead to, the least extent is put down again.
+    (
+        "two chains that lead to the same two dead records",
+        Chains {
+            heads: &[212, 212],
+            links: &DEAD_LINKS,
+            want: Ok(0),
+            offsets: Some(&[212, 180, 180]),
+        },
+    ),
+    (
+        "a second chain that leads to the last record of the first one",
+        Chains {
+            heads: &[212, 180],
+            links: &DEAD_LINKS,
+            want: Ok(0),
+            offsets: Some(&[212, 180, 180]),
+        },
+    ),
+    (
+        "a first chain that leads to the last record of the second one",
+        Chains {
+            heads: &[180, 212],
+            links: &DEAD_LINKS,
+            want: Ok(0),
+            offsets: Some(&[180, 212, 180]),
+        },
+    ),
+    (
+        "two dead records in one of two chains",
+        Chains {
+            heads: &[212, 0],
+            links: &DEAD_LINKS,
+            want: Ok(0),
+            offsets: Some(&[212, 180]),
+        },
+    ),
+    (
+        "a key in its own chain",
+        Chains {
+            heads: &[180, 0],
+            links: &USED_LINK,
+            want: Ok(1),
+            offsets: None,
+        },
+    ),
+    (
+        "a key in another chain",
+        Chains {
+            heads: &[0, 180],
+            links: &USED_LINK,
+            want: Err((WrongHash, 180)),
+            offsets: None,
+        },
+    ),
+];
+
+/// A file with these chain heads, and these records behind them.
 fn file(alloc: Global, heads: &[u32], links: &[Link]) -> Result<Vec<u8>, AllocError> {
     let mut bytes = vec![in alloc; 0u8; 172]?;
     for head in heads {
         bytes.extend_from_slice(&word_bytes(*head, Order::Little))?;
     }
-    for link in links {
+    for (next, key, magic) in links {
         let r = Rec {
-            next: link.next,
+            next: *next,
             rec_len: 8,
             key_len: 2,
             data_len: 0,
-            full_hash: hash_old(&link.key),
-            magic: link.magic,
+            full_hash: hash_old(key),
+            magic: *magic,
         };
         bytes.extend_from_slice(&rec_bytes(&r, Order::Little))?;
-        bytes.extend_from_slice(&link.key)?;
+        bytes.extend_from_slice(key)?;
         bytes.extend_from_slice(&[0; 2])?;
         bytes.extend_from_slice(&word_bytes(32, Order::Little))?;
     }
     Ok(bytes)
 }
 
-// What the walk says of a file of so many chains, and the offsets of the extents that it puts down.
-fn follow(
+/// Whether extents begin at these offsets.
+fn are_at(extents: &[Extent], offsets: &[u32]) -> bool {
+    for (i, off) in offsets.iter().enumerate() {
+        if extents.get(i).map(|e| e.off) != Some(*off) {
+            return false;
+        }
+    }
+    extents.len() == offsets.len()
+}
+
+/// Whether the walk along the chains of a file says this, and puts down extents at these offsets, where they are
+/// looked at.
+fn says(
     alloc: Global,
-    bytes: &[u8],
-    chains: u32,
-) -> Result<(Result<u64, CheckRefusal>, Vec<u32>), Fail> {
+    heads: &[u32],
+    links: &[Link],
+    want: Result<u64, Fault>,
+    offsets: Option<&[u32]>,
+) -> Result<bool, AllocError> {
+    let Ok(chains) = u32::try_from(heads.len()) else {
+        return Ok(false);
+    };
+    let mut disk = MemDisk::new(alloc, &file(alloc, heads, links)?)?;
     let header = Header {
-        order: Order::Little,
-        hash: HashKind::Old,
         hash_size: chains,
-        recovery_start: 0,
-        sequence: 0,
+        ..HEADER
     };
-    let mut disk = MemDisk::new(alloc, bytes)?;
     let mut s = Direct::new(&mut disk, &header);
-    let len = s.len()?;
-    if chains == 0 || len < 168 + 4 * (chains as u64 + 1) {
-        return Err("too short".into());
-    }
-    let mut extents: Vec<Extent> = Vec::new(alloc);
-    let followed = follow_chains(alloc, &mut s, len, &mut extents);
-    let mut offsets = Vec::new(alloc);
-    for e in &extents {
-        offsets.push(e.off)?;
-    }
-    Ok((followed, offsets))
-}
-
-// A chain of three records. "aa" and "Ab" have the same hash.
-#[test]
-fn follows_a_chain(rt: HostRuntime) -> Result<(), Fail> {
-    let alloc = rt.alloc();
-    assert_eq!(rt; hash_old(b"aa"), hash_old(b"Ab"));
-    let bad = |what, at| Err(CheckRefusal::Corrupt { what, at });
-    for (keys, middle, last, want) in [
-        ([b"aa", b"cc", b"bb"], USED, 0, Ok(3)),
-        ([b"aa", b"cc", b"bb"], DEAD, 0, Ok(2)),
-        ([b"aa", b"aa", b"bb"], DEAD, 0, Ok(2)),
-        ([b"aa", b"Ab", b"bb"], USED, 0, Ok(3)),
-        ([b"aa", b"cc", b"aa"], USED, 0, bad(What::TwiceKey, 240)),
-        ([b"aa", b"Ab", b"aa"], USED, 0, bad(What::TwiceKey, 240)),
-        ([b"aa", b"Ab", b"Ab"], USED, 0, bad(What::TwiceKey, 240)),
-        ([b"aa", b"aa", b"bb"], USED, 172, bad(What::TwiceKey, 208)),
-        ([b"aa", b"cc", b"aa"], USED, 208, bad(What::TwiceKey, 240)),
-        ([b"aa", b"Ab", b"bb"], USED, 172, bad(What::ChainOut, 240)),
-        ([b"aa", b"cc", b"bb"], USED, 208, bad(What::ChainLoop, 240)),
-        ([b"aa", b"cc", b"bb"], USED, 172, bad(What::ChainOut, 240)),
-    ] {
-        let links = [
-            Link {
-                next: 208,
-                key: *keys[0],
-                magic: USED,
-            },
-            Link {
-                next: 240,
-                key: *keys[1],
-                magic: middle,
-            },
-            Link {
-                next: last,
-                key: *keys[2],
-                magic: USED,
-            },
-        ];
-        let bytes = file(alloc, &[176], &links)?;
-        let (followed, offsets) = follow(alloc, &bytes, 1)?;
-        assert_eq!(rt; followed, want);
-        if want.is_ok() {
-            assert_eq!(rt; offsets.as_slice(), [176, 208, 240].as_slice());
-        }
-    }
-    Ok(())
-}
-
-// Twenty keys in one chain, and then one of them again.
-#[test]
-fn follows_a_long_chain(rt: HostRuntime) -> Result<(), Fail> {
-    let alloc = rt.alloc();
-    let twice = Err(CheckRefusal::Corrupt {
-        what: What::TwiceKey,
-        at: 784,
-    });
-    for (last, want) in [(19, Ok(20)), (18, twice), (2, twice)] {
-        let mut links = Vec::new(alloc);
-        for i in 0..19 {
-            links.push(Link {
-                next: 208 + 32 * i as u32,
-                key: [b'k', i],
-                magic: USED,
-            })?;
-        }
-        links.push(Link {
-            next: 0,
-            key: [b'k', last],
-            magic: USED,
-        })?;
-        let bytes = file(alloc, &[176], &links)?;
-        let (followed, _) = follow(alloc, &bytes, 1)?;
-        assert_eq!(rt; followed, want);
-    }
-    Ok(())
-}
-
-// Two chains that lead to dead records at 180 and 212, of which the second comes first, and a used record in a chain that isn't its
-// own. Of what both lead to, the least extent is put down again.
-#[test]
-fn follows_two_chains(rt: HostRuntime) -> Result<(), Fail> {
-    let alloc = rt.alloc();
-    for (heads, want) in [
-        ([212, 212], [212, 180, 180].as_slice()),
-        ([212, 180], [212, 180, 180].as_slice()),
-        ([180, 212], [180, 212, 180].as_slice()),
-        ([212, 0], [212, 180].as_slice()),
-    ] {
-        let dead = [
-            Link {
-                next: 0,
-                key: *b"aa",
-                magic: DEAD,
-            },
-            Link {
-                next: 180,
-                key: *b"aa",
-                magic: DEAD,
-            },
-        ];
-        let shared = file(alloc, &heads, &dead)?;
-        let (followed, offsets) = follow(alloc, &shared, 2)?;
-        assert_eq!(rt; followed, Ok(0));
-        assert_eq!(rt; offsets.as_slice(), want);
-    }
-    let used = [Link {
-        next: 0,
-        key: *b"aa",
-        magic: USED,
-    }];
-    let own = hash_old(b"aa") % 2;
-    let there = file(alloc, &[180 * (1 - own), 180 * own], &used)?;
-    assert_eq!(rt; follow(alloc, &there, 2)?.0, Ok(1));
-    let elsewhere = file(alloc, &[180 * own, 180 * (1 - own)], &used)?;
-    let wrong = CheckRefusal::Corrupt {
-        what: What::WrongHash,
-        at: 180,
+    let Ok(len) = s.len() else {
+        return Ok(false);
     };
-    assert_eq!(rt; follow(alloc, &elsewhere, 2)?.0, Err(wrong));
-    Ok(())
+    if chains == 0 || len < 168 + 4 * (u64::from(chains) + 1) {
+        return Ok(false);
+    }
+    let mut extents = Vec::new(alloc);
+    let followed = follow_chains(alloc, &mut s, len, &mut extents);
+    let is_there = match offsets {
+        Some(offsets) => are_at(&extents, offsets),
+        None => true,
+    };
+    Ok(followed == want.map_err(refusal) && is_there)
+}
+
+/// The first chains of which the walk doesn't say that.
+pub(crate) fn failing_chains(alloc: Global) -> Result<Option<&'static str>, AllocError> {
+    if hash_old(b"aa") != hash_old(b"Ab") {
+        return Ok(Some("two hashes"));
+    }
+    for (name, row) in &CHAINS {
+        if !says(alloc, row.heads, row.links, row.want, row.offsets)? {
+            return Ok(Some(*name));
+        }
+    }
+    Ok(None)
+}
+
+/// Twenty records in one chain, of which the last has the key of this number.
+fn long_links(alloc: Global, last: u8) -> Result<Vec<Link>, AllocError> {
+    let mut links = Vec::new(alloc);
+    for i in 0..19 {
+        links.push((208 + 32 * i as u32, [b'k', i], USED))?;
+    }
+    links.push((0, [b'k', last], USED))?;
+    Ok(links)
+}
+
+/// Twenty records in one chain by the key of the last, and what the walk along them says.
+static LONG_CHAINS: [(&'static str, u8, Result<u64, Fault>); 3] = [
+    ("twenty keys", 19, Ok(20)),
+    ("the key in front of the last", 18, Err((TwiceKey, 784))),
+    ("the third key again", 2, Err((TwiceKey, 784))),
+];
+
+/// The first chain of twenty records of which the walk doesn't say that.
+pub(crate) fn failing_long_chain(alloc: Global) -> Result<Option<&'static str>, AllocError> {
+    for (name, last, want) in &LONG_CHAINS {
+        if !says(alloc, &[176], &long_links(alloc, *last)?, *want, None)? {
+            return Ok(Some(*name));
+        }
+    }
+    Ok(None)
 }

@@ -2,7 +2,11 @@
 #![tactic(auto)]
 
 #[cfg(test)]
+mod all;
+#[cfg(test)]
 mod chains;
+#[cfg(test)]
+mod files;
 #[cfg(test)]
 mod parts;
 #[cfg(test)]

@@ -1,250 +1,300 @@
 // The parts of the check over small files in memory.
 
-ghost use Rattle.std.specs.Prelude.{◌≡◌};
-
+use crate::files::{Fault, HEADER, Word, extents_of, file_of, put_words, refusal};
 use std::alloc::{AllocError, Global};
-use std::test::Fail;
 use tdb_check::{
-    CheckRefusal, Extent, FrontRefusal, ListKind, can_stand, first_overlap, follow_free_list,
-    read_area, read_front, read_record, sort_extents,
+    Extent, FrontRefusal, ListKind, can_stand, first_overlap, follow_free_list, read_area,
+    read_front, read_record,
 };
 use tdb_disk::{Call, MemDisk};
 use tdb_space::{Direct, Space};
-use tdb_words::{
-    DEAD, FREE, GATE_OPEN, GATE_SHUT, HashKind, Header, HeaderFault, Order, USED, What, hash_old,
-    header_bytes, word_bytes,
-};
+use tdb_words::What::{AreaBad, BadRecord, FreeLoop, FreeOut, Tailer, UndoBad, WrongHash};
+use tdb_words::{DEAD, FREE, GATE_OPEN, GATE_SHUT, Header, HeaderFault, Order, USED, hash_old};
 
-// The front of new files of one chain, and files that are cut or changed.
-#[test]
-fn reads_fronts(rt: HostRuntime) -> Result<(), Fail> {
-    let alloc = rt.alloc();
-    let header = header_bytes(1, Order::Little, HashKind::Old);
-    let mut bytes = header.to_vec(alloc)?;
-    bytes.extend_from_slice(&[0; 8])?;
+/// The length of a file, whether it has a header, whether its first read fails, and what its front is read as.
+type Front = (usize, bool, bool, Result<Header, FrontRefusal>);
+
+static FRONTS: [(&'static str, Front); 7] = [
+    ("a new file", (176, true, false, Ok(HEADER))),
+    (
+        "no bytes",
+        (0, true, false, Err(FrontRefusal::Short { len: 0 })),
+    ),
+    (
+        "a part of a header",
+        (167, true, false, Err(FrontRefusal::Short { len: 167 })),
+    ),
+    (
+        "no chain",
+        (172, true, false, Err(FrontRefusal::Short { len: 172 })),
+    ),
+    (
+        "a part of a head",
+        (174, true, false, Err(FrontRefusal::Short { len: 174 })),
+    ),
+    (
+        "zeros",
+        (
+            200,
+            false,
+            false,
+            Err(FrontRefusal::Header {
+                fault: HeaderFault::NotTdb,
+            }),
+        ),
+    ),
+    (
+        "a read that fails",
+        (176, true, true, Err(FrontRefusal::Io)),
+    ),
+];
+
+/// Whether the front of a file is read as that.
+fn front_holds(alloc: Global, row: &Front) -> Result<bool, AllocError> {
+    let (len, has_header, fails, want) = *row;
+    let bytes = if has_header {
+        file_of(alloc, &HEADER, len, &[], &[])?
+    } else {
+        vec![in alloc; 0u8; len]?
+    };
     let mut disk = MemDisk::new(alloc, &bytes)?;
-    let read = read_front(&mut disk)?;
-    assert_eq!(rt;
-        (read.hash_size, read.hash, read.order),
-        (1, HashKind::Old, Order::Little)
-    );
-    for (len, want) in [
-        (0, FrontRefusal::Short { len: 0 }),
-        (167, FrontRefusal::Short { len: 167 }),
-        (172, FrontRefusal::Short { len: 172 }),
-        (174, FrontRefusal::Short { len: 174 }),
-    ] {
-        bytes.truncate(176);
-        let mut cut = MemDisk::new(alloc, bytes.as_slice().get(..len).ok_or("cut")?)?;
-        assert_eq!(rt; read_front(&mut cut), Err(want), "at {len}");
+    if fails {
+        disk.fail(Call::Read, 0)?;
     }
-    let mut zeros = MemDisk::new(alloc, &[0; 200])?;
-    assert_eq!(rt;
-        read_front(&mut zeros),
-        Err(FrontRefusal::Header {
-            fault: HeaderFault::NotTdb
-        })
-    );
-    let mut failing = MemDisk::new(alloc, &bytes)?;
-    failing.fail(Call::Read, 0)?;
-    assert_eq!(rt; read_front(&mut failing), Err(FrontRefusal::Io));
-    Ok(())
+    Ok(read_front(&mut disk) == want)
 }
 
-// Extents that are apart, that touch, that share a byte, and one twice.
-#[test]
-fn finds_overlaps(rt: HostRuntime) -> Result<(), Fail> {
-    let alloc = rt.alloc();
-    for (offs, want) in [
-        ([(176, 8), (304, 8), (208, 8)], None),
-        ([(176, 8), (240, 8), (208, 12)], Some(240)),
-        ([(300, 8), (176, 200), (296, 8)], Some(296)),
-        ([(176, 8), (208, 8), (208, 8)], Some(208)),
-    ] {
-        let mut extents = Vec::new(alloc);
-        for (off, rec_len) in offs {
-            extents.push(Extent { off, rec_len })?;
+/// The first front that isn't read so.
+pub(crate) fn failing_front(alloc: Global) -> Result<Option<&'static str>, AllocError> {
+    for (name, row) in &FRONTS {
+        if !front_holds(alloc, row)? {
+            return Ok(Some(*name));
         }
-        sort_extents(&mut extents);
-        assert_eq!(rt; first_overlap(&extents), want);
     }
-    Ok(())
+    Ok(None)
 }
 
-const HEADER: Header = Header {
-    order: Order::Little,
-    hash: HashKind::Old,
-    hash_size: 1,
-    recovery_start: 0,
-    sequence: 0,
-};
+/// The offsets of extents with the lengths of their records, and where two of them overlap first.
+type Overlap = (&'static [(u32, u32)], Option<u32>);
 
-// A file of this length that has these words at these offsets, and else the byte of a key.
-fn file(alloc: Global, length: usize, words: &[(usize, u32)]) -> Result<Vec<u8>, AllocError> {
-    let mut bytes = vec![in alloc; b'k'; length]?;
-    for (at, word) in words {
-        if *at <= bytes.len() && bytes.len() - *at >= 4 {
-            bytes[*at..*at + 4].copy_from_slice(&word_bytes(*word, Order::Little));
+static OVERLAPS: [(&'static str, Overlap); 4] = [
+    ("extents apart", (&[(176, 8), (304, 8), (208, 8)], None)),
+    (
+        "extents that touch, and two that share bytes",
+        (&[(176, 8), (240, 8), (208, 12)], Some(240)),
+    ),
+    (
+        "one that reaches over both others",
+        (&[(300, 8), (176, 200), (296, 8)], Some(296)),
+    ),
+    ("one twice", (&[(176, 8), (208, 8), (208, 8)], Some(208))),
+];
+
+/// The first extents whose overlap isn't found so.
+pub(crate) fn failing_overlap(alloc: Global) -> Result<Option<&'static str>, AllocError> {
+    for (name, (places, want)) in &OVERLAPS {
+        if first_overlap(&extents_of(alloc, places)?) != *want {
+            return Ok(Some(*name));
         }
     }
+    Ok(None)
+}
+
+/// A file of this length that has these words at their offsets, and else the byte of a key.
+fn file(alloc: Global, len: usize, words: &[Word]) -> Result<Vec<u8>, AllocError> {
+    let mut bytes = vec![in alloc; b'k'; len]?;
+    put_words(&mut bytes, Order::Little, words);
     Ok(bytes)
 }
 
-// The word at 44, and the lengths and gate words of an undo area.
-#[test]
-fn reads_undo_areas(rt: HostRuntime) -> Result<(), Fail> {
-    let alloc = rt.alloc();
-    let bad = |what, at| Err(CheckRefusal::Corrupt { what, at });
-    for (at, rec_len, gate, want) in [
-        (0, 8, GATE_SHUT, Ok(None)),
-        (
-            176,
-            8,
-            GATE_SHUT,
-            Ok(Some(Extent {
-                off: 176,
-                rec_len: 8,
-            })),
-        ),
-        (177, 8, GATE_SHUT, bad(What::AreaBad, 44)),
-        (172, 8, GATE_SHUT, bad(What::AreaBad, 44)),
-        (188, 8, GATE_SHUT, bad(What::AreaBad, 44)),
-        (176, 12, GATE_SHUT, bad(What::AreaBad, 180)),
-        (176, 6, GATE_SHUT, bad(What::AreaBad, 180)),
-        (176, 8, FREE, bad(What::AreaBad, 196)),
-        (176, 8, GATE_OPEN, bad(What::UndoBad, 196)),
-    ] {
-        let bytes = file(alloc, 208, &[(44, at), (180, rec_len), (196, gate)])?;
-        let mut disk = MemDisk::new(alloc, &bytes)?;
-        let mut s = Direct::new(&mut disk, &HEADER);
-        let len = s.len()?;
-        assert!(rt; len == 208);
-        assert_eq!(rt; read_area(&mut s, len), want);
-    }
-    Ok(())
+/// The word at 44, and the length and the gate word of an undo area, and what it is read as.
+type Area = (u32, u32, u32, Result<Option<Extent>, Fault>);
+
+const AREA: Option<Extent> = Some(Extent {
+    off: 176,
+    rec_len: 8,
+});
+
+static AREAS: [(&'static str, Area); 9] = [
+    ("no area", (0, 8, GATE_SHUT, Ok(None))),
+    ("an area", (176, 8, GATE_SHUT, Ok(AREA))),
+    ("no whole word", (177, 8, GATE_SHUT, Err((AreaBad, 44)))),
+    (
+        "in front of the data",
+        (172, 8, GATE_SHUT, Err((AreaBad, 44))),
+    ),
+    ("too near the end", (188, 8, GATE_SHUT, Err((AreaBad, 44)))),
+    ("past the end", (176, 12, GATE_SHUT, Err((AreaBad, 180)))),
+    (
+        "a length of no whole words",
+        (176, 6, GATE_SHUT, Err((AreaBad, 180))),
+    ),
+    (
+        "the magic of a free record",
+        (176, 8, FREE, Err((AreaBad, 196))),
+    ),
+    ("an open gate", (176, 8, GATE_OPEN, Err((UndoBad, 196)))),
+];
+
+/// Whether an undo area is read as that.
+fn area_holds(alloc: Global, row: &Area) -> Result<bool, AllocError> {
+    let (at, rec_len, gate, want) = *row;
+    let bytes = file(alloc, 208, &[(44, at), (180, rec_len), (196, gate)])?;
+    let mut disk = MemDisk::new(alloc, &bytes)?;
+    let mut s = Direct::new(&mut disk, &HEADER);
+    let Ok(len) = s.len() else {
+        return Ok(false);
+    };
+    Ok(len == 208 && read_area(&mut s, len) == want.map_err(refusal))
 }
 
-// Records with a short and with a long key, in the chain and in the free list.
-#[test]
-fn reads_records(rt: HostRuntime) -> Result<(), Fail> {
-    let alloc = rt.alloc();
-    let bad = |what| Err(CheckRefusal::Corrupt { what, at: 176 });
-    for key_len in [4u32, 600] {
-        let key = vec![in alloc; b'k'; key_len as usize]?;
-        assert!(rt; key.len() < 1000);
-        let hash = hash_old(&key);
-        let rec_len = key_len + 4;
-        for (magic, len_word, hash_word, tailer, kind, want) in [
-            (USED, rec_len, hash, rec_len + 24, ListKind::Chain(0), Ok(0)),
-            (
-                USED,
-                rec_len,
-                hash,
-                rec_len + 24,
-                ListKind::Free,
-                bad(What::BadRecord),
-            ),
-            (
-                DEAD,
-                rec_len,
-                hash ^ 1,
-                rec_len + 24,
-                ListKind::Chain(0),
-                Ok(0),
-            ),
-            (FREE, rec_len, hash ^ 1, rec_len + 24, ListKind::Free, Ok(0)),
-            (
-                USED,
-                rec_len + 4,
-                hash,
-                rec_len + 24,
-                ListKind::Chain(0),
-                bad(What::BadRecord),
-            ),
-            (
-                USED,
-                rec_len - 4,
-                hash,
-                rec_len + 24,
-                ListKind::Chain(0),
-                bad(What::BadRecord),
-            ),
-            (
-                USED,
-                rec_len,
-                hash ^ 1,
-                rec_len,
-                ListKind::Chain(0),
-                bad(What::Tailer),
-            ),
-            (
-                USED,
-                rec_len,
-                hash ^ 1,
-                rec_len + 24,
-                ListKind::Chain(0),
-                bad(What::WrongHash),
-            ),
-            (
-                USED,
-                rec_len,
-                hash,
-                rec_len + 24,
-                ListKind::Chain(1),
-                bad(What::WrongHash),
-            ),
-        ] {
-            let end = 196 + rec_len as usize;
-            let words = [
-                (176, 0),
-                (180, len_word),
-                (184, key_len),
-                (188, 0),
-                (192, hash_word),
-                (196, magic),
-                (end, tailer),
-            ];
-            let bytes = file(alloc, end + 4, &words)?;
-            let mut disk = MemDisk::new(alloc, &bytes)?;
-            let mut s = Direct::new(&mut disk, &HEADER);
-            let len = s.len()?;
-            assert!(rt; len >= 200 && can_stand(176, len, 1));
-            assert_eq!(rt; read_record(&mut s, len, kind, 176).map(|r| r.next), want);
+/// The first undo area that isn't read so.
+pub(crate) fn failing_area(alloc: Global) -> Result<Option<&'static str>, AllocError> {
+    for (name, row) in &AREAS {
+        if !area_holds(alloc, row)? {
+            return Ok(Some(*name));
         }
     }
-    Ok(())
+    Ok(None)
 }
 
-// A free list of two records, and what its last word and the second record's magic make of it.
-#[test]
-fn follows_free_lists(rt: HostRuntime) -> Result<(), Fail> {
-    let alloc = rt.alloc();
-    let bad = |what, at| Err(CheckRefusal::Corrupt { what, at });
-    for (next, magic, want) in [
-        (0, FREE, Ok(())),
-        (176, FREE, bad(What::FreeLoop, 208)),
-        (208, FREE, bad(What::FreeLoop, 208)),
-        (172, FREE, bad(What::FreeOut, 208)),
-        (0, USED, bad(What::BadRecord, 208)),
-    ] {
-        let first = [(168, 176), (176, 208), (180, 8), (196, FREE), (204, 32)];
-        let mut bytes = file(alloc, 240, &first)?;
-        for (at, word) in [(208, next), (212, 8), (228, magic), (236, 32)] {
-            if at <= bytes.len() && bytes.len() - at >= 4 {
-                bytes[at..at + 4].copy_from_slice(&word_bytes(word, Order::Little));
-            }
-        }
-        let mut disk = MemDisk::new(alloc, &bytes)?;
-        let mut s = Direct::new(&mut disk, &HEADER);
-        let len = s.len()?;
-        assert!(rt; len == 240);
-        let mut extents = Vec::new(alloc);
-        let followed = follow_free_list(alloc, &mut s, len, &mut extents);
-        assert_eq!(rt; followed, want, "next {next}");
-        if want.is_ok() {
-            let held = [(176, 8), (208, 8)].map(|(off, rec_len)| Extent { off, rec_len });
-            assert_eq!(rt; extents.as_slice(), held.as_slice());
+/// A record of no value at 176: its magic, by how much it is longer than its key, what is changed of the key's hash,
+/// and by how much the word behind it is more than the key's length. The list in which it stands, and the next of that,
+/// or its fault there.
+type Record = (u32, u16, u32, u16, ListKind, Result<u32, Fault>);
+
+const IN_CHAIN: ListKind = ListKind::Chain(0);
+
+const BAD_RECORD: Result<u32, Fault> = Err((BadRecord, 176));
+
+const WRONG_HASH: Result<u32, Fault> = Err((WrongHash, 176));
+
+static RECORDS: [(&'static str, Record); 9] = [
+    ("used", (USED, 4, 0, 28, IN_CHAIN, Ok(0))),
+    (
+        "used in the free list",
+        (USED, 4, 0, 28, ListKind::Free, BAD_RECORD),
+    ),
+    ("dead, with another hash", (DEAD, 4, 1, 28, IN_CHAIN, Ok(0))),
+    (
+        "free, with another hash",
+        (FREE, 4, 1, 28, ListKind::Free, Ok(0)),
+    ),
+    ("past the end", (USED, 8, 0, 28, IN_CHAIN, BAD_RECORD)),
+    (
+        "with no room for a tailer",
+        (USED, 0, 0, 28, IN_CHAIN, BAD_RECORD),
+    ),
+    (
+        "another tailer and another hash",
+        (USED, 4, 1, 4, IN_CHAIN, Err((Tailer, 176))),
+    ),
+    ("another hash", (USED, 4, 1, 28, IN_CHAIN, WRONG_HASH)),
+    (
+        "another chain",
+        (USED, 4, 0, 28, ListKind::Chain(1), WRONG_HASH),
+    ),
+];
+
+/// The file of a record that has a key of this length.
+fn file_of_record(alloc: Global, row: &Record, key_len: u16) -> Result<Vec<u8>, AllocError> {
+    let (magic, longer, changed, behind, _, _) = *row;
+    let key = vec![in alloc; b'k'; key_len as usize]?;
+    let len = u32::from(key_len);
+    let end = 200 + key_len as usize;
+    let words = [
+        (176, 0),
+        (180, len + u32::from(longer)),
+        (184, len),
+        (188, 0),
+        (192, hash_old(&key) ^ changed),
+        (196, magic),
+        (end, len + u32::from(behind)),
+    ];
+    file(alloc, end + 4, &words)
+}
+
+/// Whether a record that has a key of this length is read as that.
+fn record_holds(alloc: Global, row: &Record, key_len: u16) -> Result<bool, AllocError> {
+    let mut disk = MemDisk::new(alloc, &file_of_record(alloc, row, key_len)?)?;
+    let mut s = Direct::new(&mut disk, &HEADER);
+    let Ok(len) = s.len() else {
+        return Ok(false);
+    };
+    if len < 200 || !can_stand(176, len, 1) {
+        return Ok(false);
+    }
+    let next = read_record(&mut s, len, row.4, 176).map(|r| r.next);
+    Ok(next == row.5.map_err(refusal))
+}
+
+/// The first record that isn't read so, with a short key and with a long one.
+pub(crate) fn failing_record(alloc: Global) -> Result<Option<&'static str>, AllocError> {
+    for (name, row) in &RECORDS {
+        if !record_holds(alloc, row, 4)? || !record_holds(alloc, row, 600)? {
+            return Ok(Some(*name));
         }
     }
-    Ok(())
+    Ok(None)
+}
+
+/// What the second record of a free list leads to, and its magic; and what the walk along the list says.
+type FreeList = (u32, u32, Result<(), Fault>);
+
+static FREE_LISTS: [(&'static str, FreeList); 5] = [
+    ("two records", (0, FREE, Ok(()))),
+    ("back to the first", (176, FREE, Err((FreeLoop, 208)))),
+    ("to itself", (208, FREE, Err((FreeLoop, 208)))),
+    ("in front of the data", (172, FREE, Err((FreeOut, 208)))),
+    ("a used record", (0, USED, Err((BadRecord, 208)))),
+];
+
+/// The extents of both records.
+const BOTH: [Extent; 2] = [
+    Extent {
+        off: 176,
+        rec_len: 8,
+    },
+    Extent {
+        off: 208,
+        rec_len: 8,
+    },
+];
+
+/// Whether the walk along a free list says that, and puts down both records where it says that they are there.
+fn free_list_holds(alloc: Global, row: &FreeList) -> Result<bool, AllocError> {
+    let (next, magic, want) = *row;
+    let words = [
+        (168, 176),
+        (176, 208),
+        (180, 8),
+        (196, FREE),
+        (204, 32),
+        (208, next),
+        (212, 8),
+        (228, magic),
+        (236, 32),
+    ];
+    let mut disk = MemDisk::new(alloc, &file(alloc, 240, &words)?)?;
+    let mut s = Direct::new(&mut disk, &HEADER);
+    let Ok(len) = s.len() else {
+        return Ok(false);
+    };
+    if len != 240 {
+        return Ok(false);
+    }
+    let mut extents = Vec::new(alloc);
+    let followed = follow_free_list(alloc, &mut s, len, &mut extents);
+    let is_there = want.is_err() || extents.as_slice() == BOTH.as_slice();
+    Ok(followed == want.map_err(refusal) && is_there)
+}
+
+/// The first free list of which the walk doesn't say that.
+pub(crate) fn failing_free_list(alloc: Global) -> Result<Option<&'static str>, AllocError> {
+    for (name, row) in &FREE_LISTS {
+        if !free_list_holds(alloc, row)? {
+            return Ok(Some(*name));
+        }
+    }
+    Ok(None)
 }

@@ -1,24 +1,15 @@
-// The bytes between extents, the front through a view, and the check of whole files in memory.
+// The bytes between extents, and the front through a view, over files in memory.
 
+use crate::files::{Fault, HEADER, extents_of, file_of, refusal};
 use std::alloc::{AllocError, Global};
-use std::test::Fail;
-use tdb_check::{CheckRefusal, Extent, check, check_front, scan, sort_extents};
+use tdb_check::{check, check_front, scan};
 use tdb_disk::{Call, MemDisk};
 use tdb_space::{Direct, Space};
-use tdb_words::{GATE_OPEN, HashKind, Header, Order, What, header_bytes, word_bytes};
+use tdb_words::What::{Header as BadHeader, Short, Stray};
 
-const HEADER: Header = Header {
-    order: Order::Little,
-    hash: HashKind::Old,
-    hash_size: 1,
-    recovery_start: 0,
-    sequence: 0,
-};
-
-// A new file of one chain and of this length, with these bytes at these offsets.
-fn file(alloc: Global, length: usize, changed: &[(usize, u8)]) -> Result<Vec<u8>, AllocError> {
-    let mut bytes = header_bytes(1, Order::Little, HashKind::Old).to_vec(alloc)?;
-    bytes.resize(length, 0)?;
+/// A new file of one chain and of this length, with these bytes at these offsets.
+fn file(alloc: Global, len: usize, changed: &[(usize, u8)]) -> Result<Vec<u8>, AllocError> {
+    let mut bytes = file_of(alloc, &HEADER, len, &[], &[])?;
     for (at, byte) in changed {
         if let Some(place) = bytes.get_mut(*at) {
             *place = *byte;
@@ -27,113 +18,193 @@ fn file(alloc: Global, length: usize, changed: &[(usize, u8)]) -> Result<Vec<u8>
     Ok(bytes)
 }
 
-// Gaps of 0, of padding and with a stray byte, before, between and behind two extents with other bytes in them.
-#[test]
-fn scans_gaps(rt: HostRuntime) -> Result<(), Fail> {
-    let alloc = rt.alloc();
-    let stray = |at| {
-        Err(CheckRefusal::Corrupt {
-            what: What::Stray,
-            at,
-        })
-    };
-    for (length, changed, want) in [
-        (176, [(176, 0), (176, 0)], Ok(0)),
-        (300, [(179, 0x42), (231, 0x42)], Ok(56)),
-        (300, [(180, 7), (271, 7)], Ok(56)),
-        (300, [(299, 0x41), (232, 0x42)], stray(299)),
-        (300, [(299, 1), (179, 1)], stray(179)),
-        (300, [(176, 0x43), (179, 1)], stray(176)),
-        (300, [(239, 1), (240, 1)], stray(239)),
-        (10_000, [(9_999, 9), (4_300, 0)], stray(9_999)),
-        (10_000, [(9_999, 0x42), (4_300, 9)], stray(4_300)),
-        (10_000, [(9_999, 0x42), (4_299, 0)], Ok(9_756)),
-    ] {
-        let bytes = file(alloc, length, &changed)?;
-        let mut disk = MemDisk::new(alloc, &bytes)?;
-        let mut s = Direct::new(&mut disk, &HEADER);
-        let len = s.len()?;
-        assert!(rt; len >= 176);
-        let mut extents = Vec::new(alloc);
-        if length > 176 {
-            for (off, rec_len) in [(240, 8), (180, 12)] {
-                extents.push(Extent { off, rec_len })?;
-            }
-        }
-        sort_extents(&mut extents);
-        assert_eq!(rt; scan(&mut s, len, &extents), want, "length {length}");
-    }
-    Ok(())
+/// A file of this length with these bytes at their offsets, of which the read with a number may fail; the offsets of
+/// extents in it with the lengths of their records; and how many bytes are in the gaps, or the stray one.
+struct Gaps {
+    len: usize,
+    changed: &'static [(usize, u8)],
+    failing: Option<u64>,
+    extents: &'static [(u32, u32)],
+    want: Result<u64, Fault>,
 }
 
-// A gap that is no longer than a block costs one read, and none where extents touch.
-#[test]
-fn reads_short_gaps_at_once(rt: HostRuntime) -> Result<(), Fail> {
-    let alloc = rt.alloc();
-    for (rec_len, want) in [(8, 4_092), (4_100, 0)] {
-        let bytes = file(alloc, 4_300, &[(0, b'T')])?;
-        let mut disk = MemDisk::new(alloc, &bytes)?;
-        disk.fail(Call::Read, u64::from(want > 0))?;
-        let mut s = Direct::new(&mut disk, &HEADER);
-        let len = s.len()?;
-        assert!(rt; len >= 176);
-        let mut extents = Vec::new(alloc);
-        extents.push(Extent { off: 176, rec_len })?;
-        sort_extents(&mut extents);
-        assert_eq!(rt; scan(&mut s, len, &extents), Ok(want));
-    }
-    Ok(())
-}
+/// Gaps before, between and behind two extents.
+const GAPS: Gaps = Gaps {
+    len: 300,
+    changed: &[],
+    failing: None,
+    extents: &[(240, 8), (180, 12)],
+    want: Ok(56),
+};
 
-// Too few bytes, another header, a length of half a word and one that ends in the heads; the check tells the same.
-#[test]
-fn judges_fronts_through_a_view(rt: HostRuntime) -> Result<(), Fail> {
-    let alloc = rt.alloc();
-    let bad = |what, at| Err(CheckRefusal::Corrupt { what, at });
-    for (length, first, want) in [
-        (0, b'T', bad(What::Short, 0)),
-        (167, b'T', bad(What::Short, 167)),
-        (168, b'X', bad(What::Header, 0)),
-        (172, b'T', bad(What::Short, 172)),
-        (178, b'T', bad(What::Short, 178)),
-        (176, b'T', Ok(176)),
-    ] {
-        let bytes = file(alloc, length, &[(0, first)])?;
-        let mut disk = MemDisk::new(alloc, &bytes)?;
-        let mut s = Direct::new(&mut disk, &HEADER);
-        assert_eq!(rt; check_front(&mut s), want);
-        if let Err(fault) = want {
-            assert_eq!(rt; check(alloc, &mut s), Err(fault));
-        }
-    }
-    Ok(())
-}
+static ALL_GAPS: [(&'static str, Gaps); 12] = [
+    (
+        "no gap",
+        Gaps {
+            len: 176,
+            changed: &[(176, 0), (176, 0)],
+            extents: &[],
+            want: Ok(0),
+            ..GAPS
+        },
+    ),
+    (
+        "padding at the ends of gaps",
+        Gaps {
+            changed: &[(179, 0x42), (231, 0x42)],
+            ..GAPS
+        },
+    ),
+    (
+        "other bytes in extents",
+        Gaps {
+            changed: &[(180, 7), (271, 7)],
+            ..GAPS
+        },
+    ),
+    (
+        "the last byte",
+        Gaps {
+            changed: &[(299, 0x41), (232, 0x42)],
+            want: Err((Stray, 299)),
+            ..GAPS
+        },
+    ),
+    (
+        "the last byte, and one in front of both",
+        Gaps {
+            changed: &[(299, 1), (179, 1)],
+            want: Err((Stray, 179)),
+            ..GAPS
+        },
+    ),
+    (
+        "the first byte",
+        Gaps {
+            changed: &[(176, 0x43), (179, 1)],
+            want: Err((Stray, 176)),
+            ..GAPS
+        },
+    ),
+    (
+        "a byte between both",
+        Gaps {
+            changed: &[(239, 1), (240, 1)],
+            want: Err((Stray, 239)),
+            ..GAPS
+        },
+    ),
+    (
+        "the last byte of a long gap",
+        Gaps {
+            len: 10_000,
+            changed: &[(9_999, 9), (4_300, 0)],
+            want: Err((Stray, 9_999)),
+            ..GAPS
+        },
+    ),
+    (
+        "a byte in a long gap",
+        Gaps {
+            len: 10_000,
+            changed: &[(9_999, 0x42), (4_300, 9)],
+            want: Err((Stray, 4_300)),
+            ..GAPS
+        },
+    ),
+    (
+        "a long gap",
+        Gaps {
+            len: 10_000,
+            changed: &[(9_999, 0x42), (4_299, 0)],
+            want: Ok(9_756),
+            ..GAPS
+        },
+    ),
+    (
+        "one read of a gap that is no longer than a block",
+        Gaps {
+            len: 4_300,
+            failing: Some(1),
+            extents: &[(176, 8)],
+            want: Ok(4_092),
+            ..GAPS
+        },
+    ),
+    (
+        "no read where an extent is all",
+        Gaps {
+            len: 4_300,
+            failing: Some(0),
+            extents: &[(176, 4_100)],
+            want: Ok(0),
+            ..GAPS
+        },
+    ),
+];
 
-// An undo area that stands nowhere, one with an open gate, and a disk that fails at the front and at the area.
-#[test]
-fn checks_the_front_and_the_area_first(rt: HostRuntime) -> Result<(), Fail> {
-    let alloc = rt.alloc();
-    let bad = |what, at| Err(CheckRefusal::Corrupt { what, at });
-    for (at, want) in [
-        (172, bad(What::AreaBad, 44)),
-        (176, bad(What::UndoBad, 196)),
-    ] {
-        let mut bytes = file(alloc, 208, &[(180, 8)])?;
-        for (place, word) in [(44, at), (196, GATE_OPEN)] {
-            if place <= bytes.len() && bytes.len() - place >= 4 {
-                bytes[place..place + 4].copy_from_slice(&word_bytes(word, Order::Little));
-            }
-        }
-        let mut disk = MemDisk::new(alloc, &bytes)?;
-        let mut s = Direct::new(&mut disk, &HEADER);
-        assert_eq!(rt; check(alloc, &mut s), want);
-    }
-    for nth in 0..2 {
-        let bytes = file(alloc, 176, &[(0, b'T')])?;
-        let mut disk = MemDisk::new(alloc, &bytes)?;
+/// Whether the gaps of a file are scanned so.
+fn gaps_hold(alloc: Global, row: &Gaps) -> Result<bool, AllocError> {
+    let mut disk = MemDisk::new(alloc, &file(alloc, row.len, row.changed)?)?;
+    if let Some(nth) = row.failing {
         disk.fail(Call::Read, nth)?;
-        let mut s = Direct::new(&mut disk, &HEADER);
-        assert_eq!(rt; check(alloc, &mut s), Err(CheckRefusal::Io));
     }
-    Ok(())
+    let mut s = Direct::new(&mut disk, &HEADER);
+    let Ok(len) = s.len() else {
+        return Ok(false);
+    };
+    if len < 176 {
+        return Ok(false);
+    }
+    let extents = extents_of(alloc, row.extents)?;
+    Ok(scan(&mut s, len, &extents) == row.want.map_err(refusal))
+}
+
+/// The first gaps that aren't scanned so.
+pub(crate) fn failing_gaps(alloc: Global) -> Result<Option<&'static str>, AllocError> {
+    for (name, row) in &ALL_GAPS {
+        if !gaps_hold(alloc, row)? {
+            return Ok(Some(*name));
+        }
+    }
+    Ok(None)
+}
+
+/// The length of a file, its first byte, and where its heads end, or the fault of its front.
+type Front = (usize, u8, Result<u64, Fault>);
+
+static FRONTS: [(&'static str, Front); 6] = [
+    ("no bytes", (0, b'T', Err((Short, 0)))),
+    ("a part of a header", (167, b'T', Err((Short, 167)))),
+    ("another header", (168, b'X', Err((BadHeader, 0)))),
+    ("no chain", (172, b'T', Err((Short, 172)))),
+    (
+        "half a word behind the heads",
+        (178, b'T', Err((Short, 178))),
+    ),
+    ("a new file", (176, b'T', Ok(176))),
+];
+
+/// Whether the front of a file is judged so, and the check tells the same fault.
+fn front_holds(alloc: Global, row: &Front) -> Result<bool, AllocError> {
+    let (len, first, want) = *row;
+    let mut disk = MemDisk::new(alloc, &file(alloc, len, &[(0, first)])?)?;
+    let mut s = Direct::new(&mut disk, &HEADER);
+    if check_front(&mut s) != want.map_err(refusal) {
+        return Ok(false);
+    }
+    Ok(match want {
+        Ok(_) => true,
+        Err(fault) => check(alloc, &mut s) == Err(refusal(fault)),
+    })
+}
+
+/// The first front that isn't judged so.
+pub(crate) fn failing_front(alloc: Global) -> Result<Option<&'static str>, AllocError> {
+    for (name, row) in &FRONTS {
+        if !front_holds(alloc, row)? {
+            return Ok(Some(*name));
+        }
+    }
+    Ok(None)
 }

@@ -1,0 +1,25 @@
+// The cases of all tables.
+
+use crate::{chains, parts, reports, whole_files};
+use std::test::Fail;
+
+#[test]
+fn cases_of_tables(rt: HostRuntime) -> Result<(), Fail> {
+    let alloc = rt.alloc();
+    for (table, failing) in [
+        ("chains", chains::failing_chains(alloc)?),
+        ("long chains", chains::failing_long_chain(alloc)?),
+        ("fronts", parts::failing_front(alloc)?),
+        ("overlaps", parts::failing_overlap(alloc)?),
+        ("undo areas", parts::failing_area(alloc)?),
+        ("records", parts::failing_record(alloc)?),
+        ("free lists", parts::failing_free_list(alloc)?),
+        ("checks", reports::failing_check(alloc)?),
+        ("reads", reports::failing_reads(alloc)?),
+        ("gaps", whole_files::failing_gaps(alloc)?),
+        ("fronts through a view", whole_files::failing_front(alloc)?),
+    ] {
+        assert_eq!(rt; failing, None, "{table}");
+    }
+    Ok(())
+}
