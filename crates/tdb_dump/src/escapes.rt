@@ -72,22 +72,19 @@ fn are_plain(bytes: &[u8]) -> bool
     plain
 }
 
-/// Writes the text of one byte into a block behind its first `end` bytes, and says where it ends.
+/// Writes the text of one byte into a block behind its first `end` bytes, and says where it ends. It writes three bytes
+/// in any case, so that no branch depends on the byte.
 #[tactic(auto, unfolding(crate::specs::Escape::escaped_byte))]
 fn write_escaped(block: &mut [u8], end: usize, byte: u8) -> usize
     requires { end + 3 ≤ length block.old }
     ensures text { take result block.new ≡ take end block.old ++ escaped_byte byte }
     ensures short { result ≤ end + 3 }
 {
-    if is_plain(byte) {
-        block[end] = byte;
-        end + 1
-    } else {
-        block[end] = b'\\';
-        block[end + 1] = upper_digit(byte / 16);
-        block[end + 2] = upper_digit(byte % 16);
-        end + 3
-    }
+    let plain = is_plain(byte);
+    block[end] = if plain { byte } else { b'\\' };
+    block[end + 1] = upper_digit(byte / 16);
+    block[end + 2] = upper_digit(byte % 16);
+    end + 3 - 2 * plain as usize
 }
 
 /// Puts the text of the bytes of a run at the end. It's gathered first, and put there at once.
