@@ -2,12 +2,12 @@
 
 ghost use Rattle.std.specs.Prelude.{◌≡◌, ◌%◌, ◌≤◌};
 
+use crate::files::{Word, file_of};
 use std::alloc::{AllocError, Global};
-use std::test::Fail;
 use tdb_disk::{Call, MemDisk};
 use tdb_free::{ListRefusal, list, take_fit};
 use tdb_space::{Direct, Io};
-use tdb_words::{FREE, HashKind, Header, Order, word_bytes};
+use tdb_words::{FREE, HashKind, Header, Order};
 
 const HEADER: Header = Header {
     order: Order::Big,
@@ -17,8 +17,11 @@ const HEADER: Header = Header {
     sequence: 0,
 };
 
-// A free list of records at 176, 208 and 308, with 8, 76 and 40 bytes behind their headers.
-const WORDS: [(usize, u32); 13] = [
+/// The offset and the length of a record.
+type Place = (u32, u32);
+
+/// A free list of records at 176, 208 and 308, with 8, 76 and 40 bytes behind their headers.
+const WORDS: [Word; 13] = [
     (168, 176),
     (176, 208),
     (180, 8),
@@ -34,101 +37,140 @@ const WORDS: [(usize, u32); 13] = [
     (368, 64),
 ];
 
-fn put_word(image: &mut [u8], at: usize, word: u32) {
-    if at <= image.len() && image.len() - at >= 4 {
-        image[at..at + 4].copy_from_slice(&word_bytes(word, Order::Big));
-    }
+/// The file of these words, with other words at some places.
+fn file_with(alloc: Global, words: &[Word]) -> Result<MemDisk, AllocError> {
+    MemDisk::new(alloc, &file_of(alloc, 372, 0, Order::Big, &WORDS, words)?)
 }
 
-// The file of these words, with another word at one place.
-fn file_with(alloc: Global, at: usize, word: u32) -> Result<MemDisk, AllocError> {
-    let mut image = vec![in alloc; 0u8; 372]?;
-    for (at, word) in &WORDS {
-        put_word(&mut image, *at, *word);
-    }
-    put_word(&mut image, at, word);
-    MemDisk::new(alloc, &image)
-}
-
-// Whether the free list of a file has just these records.
-fn has_list(alloc: Global, disk: &mut MemDisk, want: &[(u32, u32)]) -> Result<bool, ListRefusal> {
-    let mut s = Direct::new(disk, &HEADER);
-    let records = list(alloc, &mut s)?;
-    for (place, pair) in want.iter().enumerate() {
-        if records.get(place) != Some(*pair) {
+/// Whether the free list of a file has just these records.
+fn has_list(alloc: Global, disk: &mut MemDisk, want: &[Place]) -> Result<bool, ListRefusal> {
+    let records = list(alloc, &mut Direct::new(disk, &HEADER))?;
+    for (i, place) in want.iter().enumerate() {
+        if records.get(i) != Some(*place) {
             return Ok(false);
         }
     }
     Ok(records.len() == want.len())
 }
 
-// What is taken from the free list of a file.
-fn take(disk: &mut MemDisk, rec_len: u64) -> Result<Option<(u32, u32)>, Io>
+/// What a take of so many bytes from the free list of a file answers.
+fn take(disk: &mut MemDisk, rec_len: u64) -> Result<Option<Place>, Io>
     requires whole_words { rec_len % 4 ≡ 0 }
     requires least { 4 ≤ rec_len }
 {
-    let mut s = Direct::new(disk, &HEADER);
-    match take_fit(&mut s, rec_len)? {
+    match take_fit(&mut Direct::new(disk, &HEADER), rec_len)? {
         Some(hand) => {
-            let pair = (hand.off(), hand.rec_len());
+            let place = (hand.off(), hand.rec_len());
             hand.end();
-            Ok(Some(pair))
+            Ok(Some(place))
         }
         None => Ok(None),
     }
 }
 
-#[test]
-fn takes_from_the_first_that_is_long_enough(rt: HostRuntime) -> Result<(), Fail> {
-    let alloc = rt.alloc();
-    for (rec_len, want, left) in [
-        (8, Some((176, 8)), [(208, 76), (308, 40)].as_slice()),
+/// A file with other words, what a take of so many bytes gives there, and the free list that is left, where it is
+/// looked at.
+type Take = (
+    &'static [Word],
+    u64,
+    Option<Place>,
+    Option<&'static [Place]>,
+);
+
+static TAKES: [(&'static str, Take); 8] = [
+    (
+        "the first record as it is",
+        (&[], 8, Some((176, 8)), Some(&[(208, 76), (308, 40)])),
+    ),
+    (
+        "the end of the second one",
         (
+            &[],
             40,
             Some((244, 40)),
-            [(176, 8), (208, 12), (308, 40)].as_slice(),
+            Some(&[(176, 8), (208, 12), (308, 40)]),
         ),
-        (44, Some((208, 76)), [(176, 8), (308, 40)].as_slice()),
-        (80, None, [(176, 8), (208, 76), (308, 40)].as_slice()),
-    ] {
-        let mut disk = file_with(alloc, 0, 0)?;
-        assert!(rt; rec_len % 4 == 0 && 4 <= rec_len);
-        assert_eq!(rt; take(&mut disk, rec_len)?, want, "{rec_len}");
-        assert!(rt; has_list(alloc, &mut disk, left)?, "after {rec_len}");
+    ),
+    (
+        "the second one as it is, too short to be parted",
+        (&[], 44, Some((208, 76)), Some(&[(176, 8), (308, 40)])),
+    ),
+    (
+        "none that is long enough",
+        (&[], 80, None, Some(&[(176, 8), (208, 76), (308, 40)])),
+    ),
+    // What is no record ends the list.
+    (
+        "a next in front of the data",
+        (&[(176, 100)], 40, None, None),
+    ),
+    ("a next to no whole word", (&[(176, 210)], 40, None, None)),
+    ("a next that leads back", (&[(176, 176)], 40, None, None)),
+    (
+        "a record that passes the end of the file",
+        (&[(212, 76000)], 40, None, None),
+    ),
+];
+
+/// Whether a take goes so.
+fn take_holds(alloc: Global, row: &Take) -> Result<bool, AllocError> {
+    let (words, rec_len, want, left) = *row;
+    if rec_len % 4 != 0 || rec_len < 4 {
+        return Ok(false);
     }
-    Ok(())
+    let mut disk = file_with(alloc, words)?;
+    let is_taken = take(&mut disk, rec_len) == Ok(want);
+    Ok(match left {
+        Some(left) => is_taken && has_list(alloc, &mut disk, left) == Ok(true),
+        None => is_taken,
+    })
 }
 
-// A next word that leads in front of the data, to no whole word, or back, and a record that passes the end of the file.
-#[test]
-fn ends_the_list_at_what_is_no_record(rt: HostRuntime) -> Result<(), Fail> {
-    let alloc = rt.alloc();
-    for (at, word) in [(176, 100), (176, 210), (176, 176), (212, 76000)] {
-        let mut disk = file_with(alloc, at, word)?;
-        assert!(rt; take(&mut disk, 40)?.is_none(), "with {word} at {at}");
-    }
-    Ok(())
-}
-
-// The head and the headers up to the record are read, and its front is written in two parts.
-#[test]
-fn hands_faults_on(rt: HostRuntime) -> Result<(), Fail> {
-    let alloc = rt.alloc();
-    for (call, count) in [(Call::Read, 3), (Call::Write, 2)] {
-        for nth in 0..count {
-            let mut disk = file_with(alloc, 0, 0)?;
-            disk.fail(call, nth)?;
-            assert_eq!(rt; take(&mut disk, 40), Err(Io), "at {nth}");
+/// The first take that doesn't go so.
+pub(crate) fn failing_take(alloc: Global) -> Result<Option<&'static str>, AllocError> {
+    for (name, row) in &TAKES {
+        if !take_holds(alloc, row)? {
+            return Ok(Some(*name));
         }
     }
-    for nth in 0..4 {
-        let mut disk = file_with(alloc, 0, 0)?;
-        disk.fail(Call::Read, nth)?;
-        assert_eq!(rt;
-            has_list(alloc, &mut disk, &[]),
-            Err(ListRefusal::Io),
-            "at {nth}"
-        );
+    Ok(None)
+}
+
+/// How many calls of a kind a take of 40 bytes makes at least, or a walk along the free list, each of which is answered
+/// where it fails.
+type Fault = (bool, Call, u64);
+
+// A take reads the head and the headers up to the record, whose front is written in two parts.
+static FAULTS: [(&'static str, Fault); 3] = [
+    ("reads of a take", (true, Call::Read, 3)),
+    ("writes of a take", (true, Call::Write, 2)),
+    ("reads of a list", (false, Call::Read, 4)),
+];
+
+/// Whether each of so many calls ends a take, or a walk along the list, where it fails.
+fn fault_holds(alloc: Global, row: &Fault) -> Result<bool, AllocError> {
+    let (takes, call, count) = *row;
+    for nth in 0..count {
+        let mut disk = file_with(alloc, &[])?;
+        disk.fail(call, nth)?;
+        let is_told = if takes {
+            take(&mut disk, 40) == Err(Io)
+        } else {
+            has_list(alloc, &mut disk, &[]) == Err(ListRefusal::Io)
+        };
+        if !is_told {
+            return Ok(false);
+        }
     }
-    Ok(())
+    Ok(true)
+}
+
+/// The first calls that don't end what makes them where they fail.
+pub(crate) fn failing_fault(alloc: Global) -> Result<Option<&'static str>, AllocError> {
+    for (name, row) in &FAULTS {
+        if !fault_holds(alloc, row)? {
+            return Ok(Some(*name));
+        }
+    }
+    Ok(None)
 }
