@@ -1,7 +1,7 @@
 -- The names of the files of a backup and of their copies are different where no one was seen before another.
 use Rattle.std.proofs.Common.{◌≡◌, ℕ, List, [], ◌∷◌, ◌++◌, cond, true, false, refl, sym, ◌∙◌, ap, subst, inl, inr}
 use Rattle.std.specs.Prelude.{Bool, ◌&&◌, ◌||◌, not}
-use Rattle.std.proofs.lemmas.Bool.{false≢true, and_parts, or_parts, not-true, cases_Bool}
+use Rattle.std.proofs.lemmas.Bool.{false≢true, and_parts, or_parts, not-true}
 use Rattle.std.proofs.lemmas.List.{append-nil}
 use Rattle.std.proofs.lemmas.Map.Text.{is_eq-slice_cmp}
 use Rattle.std.specs.BTreeSet.{BTreeSet, contains}
@@ -10,7 +10,8 @@ use Rattle.std.specs.List.{list_any}
 use Rattle.std.specs.Ordering.{nat_cmp}
 use Rattle.std.specs.Cmp.Lexicographic.{slice_cmp}
 use Rattle.tdb_space.specs.Pairs.{same_key}
-use Rattle.tdb_space.proofs.Pairs.Maps.{same_key-eq, same_key-refl, same_key-other}
+use Rattle.tdb_space.proofs.Pairs.Maps.{same_key-refl}
+use Rattle.tdb_ask.proofs.SameKey.{same_key-sym}
 use Rattle.tdb_ask.specs.CopyNames.{copy_name, made_name, temporary_name, IsNameOf, IsNameAmong, NamesDiffer, BackupFits, VerifyFits}
 use Rattle.tdb_ask.specs.Lines.Backup.{is_one_of, all_differ, all_names, HasNames}
 
@@ -23,12 +24,6 @@ all_new before (name ∷ names) = not (is_one_of name before) && all_new (name �
 abbrev none_of : List (List ℕ) → List (List ℕ) → Bool
 none_of before [] = true
 none_of before (name ∷ names) = not (is_one_of name before) && none_of before names
-
-same_key-sym : (a b : List ℕ) → same_key a b ≡ same_key b a
-same_key-sym a b = elim (cases_Bool (same_key a b)) [
-  | inl is ↦ is ∙ sym (subst (λ n. same_key n a ≡ true) (same_key-eq a b is) (same_key-refl a))
-  | inr other ↦ other ∙ sym (same_key-other b a (λ same. false≢true (sym other ∙ subst (λ n. same_key a n ≡ true) (sym same) (same_key-refl a))))
-]
 
 exchanged : (s x y p : Bool) → (not (s || x) && (not y && p)) ≡ (not (s || y) && (not x && p))
 exchanged true true true p = refl

@@ -2,4 +2,6 @@ pub mod Items
 pub mod ShortWords
 pub mod WordReadings
 pub mod Sizes
+pub mod SameKey
 pub mod BackupNames
+pub mod Clap

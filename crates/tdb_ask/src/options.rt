@@ -1,13 +1,20 @@
-// The words behind a command's name: its options, each with its value or without one, and its positions.
+// The words behind a command's name, read by `clap`: its options, each with its value or without one, and its
+// positions.
 
-ghost use Rattle.std.specs.Prelude.{◌≡◌, ◌≤◌, ◌++◌, ◌∷◌, [], map, string_bytes, IfOk, IfSome, OnOk, MatchBool, Some, None};
+ghost use Rattle.std.specs.Prelude.{◌≡◌, ◌≤◌, ◌++◌, ◌∷◌, [], true, false};
+ghost use Rattle.std.specs.Prelude.{map, string_bytes, IfOk, IfSome, OnOk};
 ghost use Rattle.std.specs.Map.{lookup};
 ghost use Rattle.std.specs.Option.{option_map};
 ghost use Rattle.tdb_space.specs.Pairs.{same_key};
+ghost use Rattle.clap.specs.Words.{app_of, found_of, rows_of};
 ghost use Rattle.tdb_ask.specs.Options as O;
+ghost use Rattle.tdb_ask.specs.Clap as C;
 
 use crate::names::{Names, Text};
 use crate::words::{is_option, is_short, limit_of};
+use clap::error::ErrorKind;
+use clap::parser::ValueSource;
+use clap::{Arg, ArgAction, ArgMatches};
 use std::alloc::{AllocError, Global};
 use std::marker::Model;
 use tdb_open::LONGEST_FILE;
@@ -138,6 +145,51 @@ impl GivenOptions {
     }
 }
 
+impl Command {
+    /// What `clap` is told of this command: its options, each under its name, and any number of positions.
+    fn described<'a>(self, alloc: Global) -> Result<clap::Command<'a>, AllocError>
+        ensures { IfOk result (λ command. app_of command ≡ C.app_for self) }
+    {
+        let bare = clap::Command::new(alloc, "")
+            .no_binary_name(true)
+            .disable_help_flag(true);
+        let command = self.with_options(alloc, bare)?;
+        command.arg(Arg::new(alloc, "positions").action(ArgAction::Append))
+    }
+
+    /// Adds the options of this command.
+    fn with_options<'a>(
+        self,
+        alloc: Global,
+        bare: clap::Command<'a>,
+    ) -> Result<clap::Command<'a>, AllocError>
+        ensures { IfOk result (λ command. app_of command ≡ C.with_told (app_of bare.entry) (O.options_of self)) }
+    {
+        match self {
+            Command::Tool | Command::Restore => {
+                bare.arg(Arg::new(alloc, "--limit").long("limit"))
+            }
+            Command::Dump => bare.arg(Arg::new(alloc, "-k").short('k')),
+            Command::Backup => bare
+                .arg(Arg::new(alloc, "-s").short('s'))?
+                .arg(flag(alloc, "-v").short('v')),
+            Command::Turns => bare
+                .arg(Arg::new(alloc, "--limit").long("limit"))?
+                .arg(flag(alloc, "--no-nesting").long("no-nesting"))?
+                .arg(flag(alloc, "--read-only").long("read-only"))?
+                .arg(flag(alloc, "--seqnum").long("seqnum")),
+            Command::Generate => Ok(bare),
+        }
+    }
+}
+
+/// An option without a value.
+fn flag<'a>(alloc: Global, name: &'a str) -> Arg<'a>
+    ensures { C.IsFlagOf name.entry.now result }
+{
+    Arg::new(alloc, name).action(ArgAction::SetTrue)
+}
+
 /// Whether an option of this name is among these.
 fn is_given(options: &[GivenOption], name: &str) -> bool
     ensures { result ≡ O.is_given name.now options.now }
@@ -164,6 +216,24 @@ fn told<'a>(options: &'a [GivenOption], name: &str) -> Option<&'a str>
     }
 }
 
+/// Whether `clap` reads a word as we do where options may stand: no letters together behind one hyphen, no value right
+/// behind a letter, and none that is empty behind `=`.
+fn is_plain(word: &str) -> bool
+    ensures { result ≡ C.is_plain word.now }
+{
+    if !is_option(word) {
+        return true;
+    }
+    let bytes = word.as_bytes();
+    if bytes[1] == b'-' {
+        return match parted(word) {
+            Some((_, value)) => !value.is_empty(),
+            None => true,
+        };
+    }
+    bytes[1] < 128 && (bytes.len() == 2 || (bytes.len() > 3 && bytes[2] == b'='))
+}
+
 /// A word NAME=VALUE, parted at its first `=`.
 fn parted(word: &str) -> Option<(&str, &str)>
     ensures { option_map (λ found. (found.0.now, found.1.now)) result ≡ O.parted word.now }
@@ -171,131 +241,119 @@ fn parted(word: &str) -> Option<(&str, &str)>
     word.split_once('=')
 }
 
-impl Line {
-    /// No words. It takes no memory.
-    fn new(alloc: Global) -> Line
-        ensures { result ≡ O.unread }
-    {
-        Line {
-            options: GivenOptions::new(alloc),
-            positions: Names::new(alloc),
-            waiting: None,
-            ended: false,
-        }
-    }
-
-    /// Takes a word that is a position.
-    fn add_position(&mut self, alloc: Global, word: &str) -> Result<bool, AllocError>
-        ensures { IfOk result (λ read. MatchBool read (O.with_position self.old word.now ≡ Some self.new) (O.with_position self.old word.now ≡ None)) }
-    {
-        let position = Text::copy(alloc, word)?;
-        self.positions.push(position)?;
-        Ok(true)
-    }
-
-    /// Takes an option, if it wasn't given yet.
-    fn add_option(&mut self, name: Text, value: Option<Text>) -> Result<bool, AllocError>
-        ensures { IfOk result (λ read. MatchBool read (O.with_option self.old name value ≡ Some self.new) (O.with_option self.old name value ≡ None)) }
-    {
-        if is_given(self.options.as_slice(), name.as_str()) {
-            return Ok(false);
-        }
-        self.options.push(GivenOption { name, value })?;
-        Ok(true)
-    }
-
-    /// Takes a word NAME=VALUE, if a value comes with that option and it isn't empty.
-    fn add_parted(
-        &mut self,
-        alloc: Global,
-        command: Command,
-        word: &str,
-    ) -> Result<bool, AllocError>
-        ensures { IfOk result (λ read. MatchBool read (O.with_parted (O.parted word.now) command self.old ≡ Some self.new) (O.with_parted (O.parted word.now) command self.old ≡ None)) }
-    {
-        let Some((name, value)) = parted(word) else {
-            return Ok(false);
-        };
-        let Some(Kind::Valued) = command.kind_of(name) else {
-            return Ok(false);
-        };
-        if value.is_empty() {
-            return Ok(false);
-        }
-        let name = Text::copy(alloc, name)?;
-        let value = Text::copy(alloc, value)?;
-        self.add_option(name, Some(value))
-    }
-
-    /// Takes a word that is an option, if the command has it.
-    fn add_option_word(
-        &mut self,
-        alloc: Global,
-        command: Command,
-        word: &str,
-    ) -> Result<bool, AllocError>
-        ensures { IfOk result (λ read. MatchBool read (O.with_option_word (O.kind_of command word.now) command self.old word.now ≡ Some self.new) (O.with_option_word (O.kind_of command word.now) command self.old word.now ≡ None)) }
-    {
-        match command.kind_of(word) {
-            Some(Kind::Valued) => {
-                self.waiting = Some(Text::copy(alloc, word)?);
-                Ok(true)
-            }
-            Some(Kind::Flag) => {
-                let name = Text::copy(alloc, word)?;
-                self.add_option(name, None)
-            }
-            None => self.add_parted(alloc, command, word),
-        }
-    }
-
-    /// Takes a word where an option may stand.
-    fn add_any(&mut self, alloc: Global, command: Command, word: &str) -> Result<bool, AllocError>
-        ensures { IfOk result (λ read. MatchBool read (O.with_any command self.old word.now ≡ Some self.new) (O.with_any command self.old word.now ≡ None)) }
-    {
-        if word == "--" {
-            self.ended = true;
-            return Ok(true);
-        }
-        if is_option(word) {
-            return self.add_option_word(alloc, command, word);
-        }
-        self.add_position(alloc, word)
-    }
-
-    /// Takes the next word, if it has a reading there.
-    fn add(&mut self, alloc: Global, command: Command, word: &str) -> Result<bool, AllocError>
-        ensures { IfOk result (λ read. MatchBool read (O.with_word command self.old word.now ≡ Some self.new) (O.with_word command self.old word.now ≡ None)) }
-    {
+/// Whether no word is too long, and `clap` reads those before `--` as we do.
+fn all_plain(words: &[String]) -> bool
+    ensures { result ≡ C.all_plain false (map string_bytes words.now) }
+{
+    let mut ended = false;
+    for word in words {
+        let word = word.as_str();
         if !is_short(word) {
-            return Ok(false);
+            return false;
         }
-        if self.ended {
-            return self.add_position(alloc, word);
-        }
-        let Some(name) = self.waiting.take() else {
-            return self.add_any(alloc, command, word);
-        };
-        if is_option(word) {
-            return Ok(false);
-        }
-        let value = Text::copy(alloc, word)?;
-        self.add_option(name, Some(value))
-    }
-
-    /// Takes all words, if each has a reading.
-    fn read(alloc: Global, command: Command, words: &[String]) -> Result<Option<Line>, AllocError>
-        ensures { IfOk result (λ line. line ≡ O.with_words command O.unread (map string_bytes words.now)) }
-    {
-        let mut line = Line::new(alloc);
-        for word in words {
-            if !line.add(alloc, command, word.as_str())? {
-                return Ok(None);
+        if !ended {
+            if word == "--" {
+                ended = true;
+            } else if !is_plain(word) {
+                return false;
             }
         }
-        Ok(Some(line))
     }
+    true
+}
 
+/// A copy of a text, where there is one.
+fn copied(alloc: Global, text: Option<&str>) -> Result<Option<Text>, AllocError>
+    ensures { IfOk result (λ copy. copy ≡ option_map (λ t. t.now) text.entry) }
+{
+    match text {
+        Some(text) => Ok(Some(Text::copy(alloc, text)?)),
+        None => Ok(None),
+    }
+}
+
+/// Whether a word is `--`.
+fn has_end(words: &[String]) -> bool
+    ensures { result ≡ C.has_end (map string_bytes words.now) }
+{
+    for word in words {
+        if word.as_str() == "--" {
+            return true;
+        }
+    }
+    false
+}
+
+/// The value of the option of this id, where one comes with it.
+fn value_in<'a>(command: Command, matches: &ArgMatches<'a>, id: &str) -> Option<&'a str>
+    ensures { option_map (λ value. value.now) result ≡ C.value_of command id.now (rows_of (found_of matches.now)) }
+{
+    match command.kind_of(id) {
+        Some(Kind::Valued) => matches.get_str(id),
+        _ => None,
+    }
+}
+
+/// The option of this id, where the words gave it.
+fn option_in(
+    alloc: Global,
+    command: Command,
+    matches: &ArgMatches<'_>,
+    id: &str,
+) -> Result<Option<GivenOption>, AllocError>
+    ensures { IfOk result (λ option. option ≡ C.option_of command id.now (rows_of (found_of matches.now))) }
+{
+    if id == "positions" {
+        return Ok(None);
+    }
+    let Some(ValueSource::CommandLine) = matches.value_source(id) else {
+        return Ok(None);
+    };
+    let name = Text::copy(alloc, id)?;
+    let value = copied(alloc, value_in(command, matches, id))?;
+    Ok(Some(GivenOption { name, value }))
+}
+
+/// The options that the words gave, in their order.
+fn options_in(
+    alloc: Global,
+    command: Command,
+    matches: &ArgMatches<'_>,
+) -> Result<GivenOptions, AllocError>
+    requires { C.distinct (rows_of (found_of matches.now)) ≡ true }
+    ensures { IfOk result (λ options. options ≡ C.options_in command (rows_of (found_of matches.now))) }
+{
+    let mut options = GivenOptions::new(alloc);
+    for id in matches.ids() {
+        if let Some(option) = option_in(alloc, command, matches, id)? {
+            options.push(option)?;
+        }
+    }
+    Ok(options)
+}
+
+/// Copies of these words.
+fn copies(alloc: Global, words: &[&str]) -> Result<Names, AllocError>
+    ensures { IfOk result (λ names. names ≡ map (λ word. word.now) words.now) }
+{
+    let mut names = Names::new(alloc);
+    for word in words {
+        names.push(Text::copy(alloc, word)?)?;
+    }
+    Ok(names)
+}
+
+/// The positions, in their order.
+fn positions_in(alloc: Global, matches: &ArgMatches<'_>) -> Result<Names, AllocError>
+    ensures { IfOk result (λ names. names ≡ C.positions_in (rows_of (found_of matches.now))) }
+{
+    match matches.get_raw("positions") {
+        Some(words) => copies(alloc, words),
+        None => Ok(Names::new(alloc)),
+    }
+}
+
+impl Line {
     /// Reads the words behind the name of this command. The memory that it takes is that of the words that are kept.
     pub(crate) fn of(
         alloc: Global,
@@ -304,10 +362,22 @@ impl Line {
     ) -> Result<Option<Line>, AllocError>
         ensures { IfOk result (λ line. line ≡ O.line_of command (map string_bytes words.now)) }
     {
-        match Line::read(alloc, command, words)? {
-            Some(line) if line.waiting.is_none() => Ok(Some(line)),
-            _ => Ok(None),
+        if !all_plain(words) {
+            return Ok(None);
         }
+        let matches = match command.described(alloc)?.try_get_matches_from(words) {
+            Ok(matches) => matches,
+            Err(error) => match error.kind() {
+                ErrorKind::OutOfMemory => return Err(AllocError),
+                _ => return Ok(None),
+            },
+        };
+        Ok(Some(Line {
+            options: options_in(alloc, command, &matches)?,
+            positions: positions_in(alloc, &matches)?,
+            waiting: None,
+            ended: has_end(words),
+        }))
     }
 
     /// Whether the option of this name was given.
