@@ -223,7 +223,7 @@ pub(crate) fn failing_give(alloc: Global) -> Result<Option<&'static str>, AllocE
 type Fault = (&'static Give, Call, u64);
 
 static FAULTS: [(&'static str, Fault); 6] = [
-    ("reads between free records", (&BETWEEN, Call::Read, 6)),
+    ("reads between free records", (&BETWEEN, Call::Read, 10)),
     ("writes between free records", (&BETWEEN, Call::Write, 2)),
     ("words between free records", (&BETWEEN, Call::WriteWord, 3)),
     ("reads beside none", (&ALONE, Call::Read, 4)),
