@@ -1,6 +1,5 @@
 -- What `clap` is told of the options of a command, which words it takes as we do, and what its matches say.
 use Rattle.std.specs.Prelude.{◌≡◌, ◌||◌, ℕ, ◌==◌, ◌&&◌, Bool, true, false, not, nat_lt, if◌then◌else◌, Option, None, Some, List, [], ◌∷◌, codes, find, unwrap_or, option_map, option_and_then, slice_get, slice_index, length}
-use Rattle.std.specs.List.{list_any}
 use Rattle.tdb_space.specs.Pairs.{same_key}
 use Rattle.clap.specs.Words.{App, Row, Rule, first_of, new_app, new_rule, rule_of, with_rule}
 use Rattle.clap.specs.Lexer.{strip_byte}
@@ -82,10 +81,6 @@ all_plain ended (word ∷ words) =
     else if ended then all_plain true words
     else if same_key word (codes "--") then all_plain true words
     else is_plain word && all_plain false words
-
--- a word is `--`
-abbrev pub has_end : List (List ℕ) → Bool
-has_end words = list_any (λ word. same_key word (codes "--")) words
 
 -- the options that the words gave, by the rows of their matches, and the positions
 abbrev pub from_words : Option ValueSource → Bool

@@ -53,67 +53,74 @@ parted word =
     else None
 
 -- What the words say, as far as they were read: the options that were given, in their order, the positions, the option whose
--- value is the next word, and whether `--` has come. No word was read yet:
-abbrev pub unread : Line
+-- value is the next word, and whether `--` has come
+pub record Reading : Type 0 where
+  pub options : List GivenOption
+  pub positions : List (List ℕ)
+  pub waiting : Option (List ℕ)
+  pub ended : Bool
+
+-- no word was read yet
+abbrev pub unread : Reading
 unread = record { options = []; positions = []; waiting = None; ended = false }
 
 -- one more position
-abbrev pub with_position : Line → List ℕ → Option Line
-with_position line word = Some (record line { positions = line.positions ++ word ∷ [] })
+abbrev pub with_position : Reading → List ℕ → Option Reading
+with_position reading word = Some (record reading { positions = reading.positions ++ word ∷ [] })
 
 -- one more option, which wasn't given yet
-abbrev pub with_option : Line → List ℕ → Option (List ℕ) → Option Line
-with_option line name value =
-    if is_given name line.options then None
-    else Some (record line { options = line.options ++ record { name = name; value = value } ∷ [] })
+abbrev pub with_option : Reading → List ℕ → Option (List ℕ) → Option Reading
+with_option reading name value =
+    if is_given name reading.options then None
+    else Some (record reading { options = reading.options ++ record { name = name; value = value } ∷ [] })
 
 -- an option that takes a value, with one that stands in its own word, behind `=`, and isn't empty
-abbrev pub with_value : Option Kind → Line → List ℕ → List ℕ → Option Line
-with_value (Some Valued) line name value = if length value == 0 then None else with_option line name (Some value)
-with_value (Some Flag) line name value = None
-with_value None line name value = None
+abbrev pub with_value : Option Kind → Reading → List ℕ → List ℕ → Option Reading
+with_value (Some Valued) reading name value = if length value == 0 then None else with_option reading name (Some value)
+with_value (Some Flag) reading name value = None
+with_value None reading name value = None
 
-abbrev pub with_parted : Option (List ℕ × List ℕ) → Command → Line → Option Line
-with_parted (Some found) command line = with_value (kind_of command found.0) line found.0 found.1
-with_parted None command line = None
+abbrev pub with_parted : Option (List ℕ × List ℕ) → Command → Reading → Option Reading
+with_parted (Some found) command reading = with_value (kind_of command found.0) reading found.0 found.1
+with_parted None command reading = None
 
 -- a word that is an option: one whose value is the next word, a flag, or one with its value
-abbrev pub with_option_word : Option Kind → Command → Line → List ℕ → Option Line
-with_option_word (Some Valued) command line word = Some (record line { waiting = Some word })
-with_option_word (Some Flag) command line word = with_option line word None
-with_option_word None command line word = with_parted (parted word) command line
+abbrev pub with_option_word : Option Kind → Command → Reading → List ℕ → Option Reading
+with_option_word (Some Valued) command reading word = Some (record reading { waiting = Some word })
+with_option_word (Some Flag) command reading word = with_option reading word None
+with_option_word None command reading word = with_parted (parted word) command reading
 
 -- a word where an option may stand: `--`, behind which none does, an option, or a position
-abbrev pub with_any : Command → Line → List ℕ → Option Line
-with_any command line word =
-    if same_key word (codes "--") then Some (record line { ended = true })
-    else if is_option word then with_option_word (kind_of command word) command line word
-    else with_position line word
+abbrev pub with_any : Command → Reading → List ℕ → Option Reading
+with_any command reading word =
+    if same_key word (codes "--") then Some (record reading { ended = true })
+    else if is_option word then with_option_word (kind_of command word) command reading word
+    else with_position reading word
 
 -- a word behind an option that takes a value is that value, and no option; behind any other it may be all
-abbrev pub with_next : Option (List ℕ) → Command → Line → List ℕ → Option Line
-with_next (Some name) command line word = if is_option word then None else with_option line name (Some word)
-with_next None command line word = with_any command line word
+abbrev pub with_next : Option (List ℕ) → Command → Reading → List ℕ → Option Reading
+with_next (Some name) command reading word = if is_option word then None else with_option reading name (Some word)
+with_next None command reading word = with_any command reading word
 
 -- one more word; none may be too long
-abbrev pub with_word : Command → Line → List ℕ → Option Line
-with_word command line word =
+abbrev pub with_word : Command → Reading → List ℕ → Option Reading
+with_word command reading word =
     if not (is_short word) then None
-    else if line.ended then with_position line word
-    else with_next line.waiting command (record line { waiting = None }) word
+    else if reading.ended then with_position reading word
+    else with_next reading.waiting command (record reading { waiting = None }) word
 
 -- all words, where each has a reading
-abbrev pub with_words : Command → Line → List (List ℕ) → Option Line
-with_words command line [] = Some line
-with_words command line (word ∷ words) = option_and_then (λ more. with_words command more words) (with_word command line word)
+abbrev pub with_words : Command → Reading → List (List ℕ) → Option Reading
+with_words command reading [] = Some reading
+with_words command reading (word ∷ words) = option_and_then (λ more. with_words command more words) (with_word command reading word)
 
--- and no option lacks its value at the end
-abbrev pub whole : Option (List ℕ) → Line → Option Line
-whole (Some name) line = None
-whole None line = Some line
+-- the options and positions that were read, where no option lacks its value at the end
+abbrev pub whole : Option (List ℕ) → Reading → Option Line
+whole (Some name) reading = None
+whole None reading = Some (record { options = reading.options; positions = reading.positions })
 
 abbrev pub line_of : Command → List (List ℕ) → Option Line
-line_of command words = option_and_then (λ line. whole line.waiting line) (with_words command unread words)
+line_of command words = option_and_then (λ reading. whole reading.waiting reading) (with_words command unread words)
 
 -- how long the file may be: what `--limit` tells, or that of the longest file; nothing where what it tells is no limit
 abbrev pub limit_told : Option (List ℕ) → Option ℕ

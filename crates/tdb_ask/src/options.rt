@@ -63,17 +63,11 @@ impl Model for GivenOptions {
     ghost view = { λ g. g.items.items };
 }
 
-/// What the words say, as far as they were read.
+/// The options and positions that the words of a command are.
 #[derive(Debug, Drop)]
 pub(crate) struct Line {
     options: GivenOptions,
     pub(crate) positions: Names,
-
-    /// The option whose value is the next word.
-    waiting: Option<Text>,
-
-    /// The word `--` came, so no option follows.
-    ended: bool,
 }
 
 impl Command {
@@ -272,18 +266,6 @@ fn copied(alloc: Global, text: Option<&str>) -> Result<Option<Text>, AllocError>
     }
 }
 
-/// Whether a word is `--`.
-fn has_end(words: &[String]) -> bool
-    ensures { result ≡ C.has_end (map string_bytes words.now) }
-{
-    for word in words {
-        if word.as_str() == "--" {
-            return true;
-        }
-    }
-    false
-}
-
 /// The value of the option of this id, where one comes with it.
 fn value_in<'a>(command: Command, matches: &ArgMatches<'a>, id: &str) -> Option<&'a str>
     ensures { option_map (λ value. value.now) result ≡ C.value_of command id.now (rows_of (found_of matches.now)) }
@@ -375,8 +357,6 @@ impl Line {
         Ok(Some(Line {
             options: options_in(alloc, command, &matches)?,
             positions: positions_in(alloc, &matches)?,
-            waiting: None,
-            ended: has_end(words),
         }))
     }
 

@@ -9,78 +9,77 @@ use Rattle.tdb_ask.specs.declared.options.Command.{Command}
 use Rattle.tdb_ask.specs.declared.options.Kind.{Kind}
 use Rattle.tdb_ask.specs.declared.options.Kind.TheVariants.{Valued, Flag}
 use Rattle.tdb_ask.specs.declared.options.GivenOption.{GivenOption}
-use Rattle.tdb_ask.specs.declared.options.Line.{Line}
-use Rattle.tdb_ask.specs.Options.{kind_of, is_given, line_of, parted, with_option, with_option_word, with_parted, with_position, with_value, with_word, with_words, whole}
+use Rattle.tdb_ask.specs.Options.{Reading, kind_of, is_given, line_of, parted, with_option, with_option_word, with_parted, with_position, with_value, with_word, with_words, whole}
 use Rattle.tdb_ask.specs.Words.{is_option, is_short}
 use Rattle.tdb_ask.specs.Clap.{all_plain, is_plain, some_behind, stands_alone}
 use Rattle.tdb_ask.proofs.Clap.Words.{Text, is_equals, parted_behind, parted_has, parted_here, parted_lacks}
 use Rattle.tdb_ask.proofs.Clap.Views.{hyphen_alone, no_value, two_at_least, unnamed}
-use Rattle.tdb_ask.proofs.Clap.Runs.{dashes, line_at}
+use Rattle.tdb_ask.proofs.Clap.Runs.{dashes, reading_at}
 
-abbrev Keeps : Bool → Option Line → Type 0
+abbrev Keeps : Bool → Option Reading → Type 0
 Keeps ended None = Unit {0}
-Keeps ended (Some line) = line.ended ≡ ended
+Keeps ended (Some reading) = reading.ended ≡ ended
 
-keeps_option : (line : Line) (name : Text) (v : Option Text) → Keeps line.ended (with_option line name v)
-keeps_option line name v = go (is_given name line.options)
+keeps_option : (reading : Reading) (name : Text) (v : Option Text) → Keeps reading.ended (with_option reading name v)
+keeps_option reading name v = go (is_given name reading.options)
   where
-    go : (b : Bool) → Keeps line.ended (cond b None (Some (record line { options = line.options ++ record { name = name; value = v } ∷ [] })))
+    go : (b : Bool) → Keeps reading.ended (cond b None (Some (record reading { options = reading.options ++ record { name = name; value = v } ∷ [] })))
     go true = tt
     go false = refl
 
-keeps_value : (k : Option Kind) (line : Line) (name v : Text) → Keeps line.ended (with_value k line name v)
-keeps_value (Some Valued) line name v = go (length v == 0)
+keeps_value : (k : Option Kind) (reading : Reading) (name v : Text) → Keeps reading.ended (with_value k reading name v)
+keeps_value (Some Valued) reading name v = go (length v == 0)
   where
-    go : (b : Bool) → Keeps line.ended (cond b None (with_option line name (Some v)))
+    go : (b : Bool) → Keeps reading.ended (cond b None (with_option reading name (Some v)))
     go true = tt
-    go false = keeps_option line name (Some v)
-keeps_value (Some Flag) line name v = tt
-keeps_value None line name v = tt
+    go false = keeps_option reading name (Some v)
+keeps_value (Some Flag) reading name v = tt
+keeps_value None reading name v = tt
 
-keeps_parted : (parts : Option (Text × Text)) (command : Command) (line : Line) → Keeps line.ended (with_parted parts command line)
-keeps_parted (Some p) command line = keeps_value (kind_of command p.0) line p.0 p.1
-keeps_parted None command line = tt
+keeps_parted : (parts : Option (Text × Text)) (command : Command) (reading : Reading) → Keeps reading.ended (with_parted parts command reading)
+keeps_parted (Some p) command reading = keeps_value (kind_of command p.0) reading p.0 p.1
+keeps_parted None command reading = tt
 
-keeps_option_word : (k : Option Kind) (command : Command) (line : Line) (word : Text) → Keeps line.ended (with_option_word k command line word)
-keeps_option_word (Some Valued) command line word = refl
-keeps_option_word (Some Flag) command line word = keeps_option line word None
-keeps_option_word None command line word = keeps_parted (parted word) command line
+keeps_option_word : (k : Option Kind) (command : Command) (reading : Reading) (word : Text) → Keeps reading.ended (with_option_word k command reading word)
+keeps_option_word (Some Valued) command reading word = refl
+keeps_option_word (Some Flag) command reading word = keeps_option reading word None
+keeps_option_word None command reading word = keeps_parted (parted word) command reading
 
 -- a word other than `--` leaves it at that
-keeps_word : (command : Command) (os : List GivenOption) (ps : List Text) (o : Option Text) (word : Text) → is_short word ≡ true → same_key word dashes ≡ false → Keeps false (with_word command (line_at os ps o false) word)
+keeps_word : (command : Command) (os : List GivenOption) (ps : List Text) (o : Option Text) (word : Text) → is_short word ≡ true → same_key word dashes ≡ false → Keeps false (with_word command (reading_at os ps o false) word)
 keeps_word command os ps None word short apart = rw (short, apart) (go (is_option word))
   where
-    go : (b : Bool) → Keeps false (cond b (with_option_word (kind_of command word) command (line_at os ps None false) word) (with_position (line_at os ps None false) word))
-    go true = keeps_option_word (kind_of command word) command (line_at os ps None false) word
+    go : (b : Bool) → Keeps false (cond b (with_option_word (kind_of command word) command (reading_at os ps None false) word) (with_position (reading_at os ps None false) word))
+    go true = keeps_option_word (kind_of command word) command (reading_at os ps None false) word
     go false = refl
 keeps_word command os ps (Some name) word short apart = rw short (go (is_option word))
   where
-    go : (b : Bool) → Keeps false (cond b None (with_option (line_at os ps None false) name (Some word)))
+    go : (b : Bool) → Keeps false (cond b None (with_option (reading_at os ps None false) name (Some word)))
     go true = tt
-    go false = keeps_option (line_at os ps None false) name (Some word)
+    go false = keeps_option (reading_at os ps None false) name (Some word)
 
 module _ (command : Command) where
-  empty_value : (k : Option Kind) (line : Line) (name v : Text) → (length v == 0) ≡ true → with_value k line name v ≡ None
-  empty_value (Some Valued) line name v empty = rw empty refl
-  empty_value (Some Flag) line name v empty = refl
-  empty_value None line name v empty = refl
+  empty_value : (k : Option Kind) (reading : Reading) (name v : Text) → (length v == 0) ≡ true → with_value k reading name v ≡ None
+  empty_value (Some Valued) reading name v empty = rw empty refl
+  empty_value (Some Flag) reading name v empty = refl
+  empty_value None reading name v empty = refl
 
   -- options of the wrong form
-  long_refused : (xs : Text) (line : Line) → some_behind (parted (45 ∷ 45 ∷ xs)) ≡ false → with_option_word (kind_of command (45 ∷ 45 ∷ xs)) command line (45 ∷ 45 ∷ xs) ≡ None
-  long_refused xs line bare = elim (cases_Bool (has_byte 61 (45 ∷ 45 ∷ xs))) [
+  long_refused : (xs : Text) (reading : Reading) → some_behind (parted (45 ∷ 45 ∷ xs)) ≡ false → with_option_word (kind_of command (45 ∷ 45 ∷ xs)) command reading (45 ∷ 45 ∷ xs) ≡ None
+  long_refused xs reading bare = elim (cases_Bool (has_byte 61 (45 ∷ 45 ∷ xs))) [
     | inl has ↦
         let parts = parted_has (45 ∷ 45 ∷ xs) has in
         let none : kind_of command (45 ∷ 45 ∷ xs) ≡ None = unnamed command (45 ∷ 45 ∷ xs) (rw has (and_right _ false refl)) in
         let empty : (length (after_first is_equals (45 ∷ 45 ∷ xs)) == 0) ≡ true = not-false _ (rw parts at bare) in
-        rw (none, parts) (empty_value (kind_of command (before_first is_equals (45 ∷ 45 ∷ xs))) line (before_first is_equals (45 ∷ 45 ∷ xs)) (after_first is_equals (45 ∷ 45 ∷ xs)) empty)
+        rw (none, parts) (empty_value (kind_of command (before_first is_equals (45 ∷ 45 ∷ xs))) reading (before_first is_equals (45 ∷ 45 ∷ xs)) (after_first is_equals (45 ∷ 45 ∷ xs)) empty)
     | inr lacks ↦ absurd (false≢true (sym bare ∙ rw (parted_lacks (45 ∷ 45 ∷ xs) lacks) refl))
   ]
 
-  module _ (x : ℕ) (line : Line) (letter : (x == 45) ≡ false) where
+  module _ (x : ℕ) (reading : Reading) (letter : (x == 45) ≡ false) where
     no_ascii : (b : Bool) → (nat_lt x 128 && b) ≡ false → b ≡ true → nat_lt x 128 ≡ false
     no_ascii b both is = elim (and_cases (nat_lt x 128) b both) [ inl wide ↦ wide | inr no_b ↦ absurd (false≢true (sym no_b ∙ is)) ]
 
-    parts_refused : (y : ℕ) (ys : Text) → stands_alone (45 ∷ x ∷ y ∷ ys) ≡ false → with_parted (parted (45 ∷ x ∷ y ∷ ys)) command line ≡ None
+    parts_refused : (y : ℕ) (ys : Text) → stands_alone (45 ∷ x ∷ y ∷ ys) ≡ false → with_parted (parted (45 ∷ x ∷ y ∷ ys)) command reading ≡ None
     parts_refused y ys bare = elim (cases_Bool (x == 61)) [
       | inl is ↦
           let parts : parted (45 ∷ x ∷ y ∷ ys) ≡ Some (45 ∷ [], y ∷ ys) = parted_behind 45 (x ∷ y ∷ ys) refl ∙ ap (option_map (λ p. (45 ∷ p.0, p.1))) (ap (λ b. parted (b ∷ y ∷ ys)) (eqb-true x 61 is) ∙ parted_here (y ∷ ys)) in
@@ -101,34 +100,34 @@ module _ (command : Command) where
           ]
     ]
       where
-        value_refused : (zs : Text) → (y == 61) ≡ true → stands_alone (45 ∷ x ∷ y ∷ zs) ≡ false → with_value (kind_of command (45 ∷ x ∷ [])) line (45 ∷ x ∷ []) zs ≡ None
-        value_refused [] is bare = empty_value (kind_of command (45 ∷ x ∷ [])) line (45 ∷ x ∷ []) [] refl
+        value_refused : (zs : Text) → (y == 61) ≡ true → stands_alone (45 ∷ x ∷ y ∷ zs) ≡ false → with_value (kind_of command (45 ∷ x ∷ [])) reading (45 ∷ x ∷ []) zs ≡ None
+        value_refused [] is bare = empty_value (kind_of command (45 ∷ x ∷ [])) reading (45 ∷ x ∷ []) [] refl
         value_refused (v ∷ vs) is bare =
             let four : nat_lt 3 (suc (suc (suc (suc (length vs))))) ≡ true = lt-ltb 3 (suc (suc (suc (suc (length vs))))) (omega arith) in
             let wide = no_ascii _ bare (or_right (suc (suc (suc (suc (length vs)))) == 2) _ (and_from _ _ four is)) in
             rw (unnamed command (45 ∷ x ∷ []) (rw wide refl)) refl
 
-        rest_refused : (parts : Option (Text × Text)) → with_parted (option_map (λ (p : Text × Text). (45 ∷ p.0, p.1)) (option_map (λ (p : Text × Text). (x ∷ p.0, p.1)) (option_map (λ (p : Text × Text). (y ∷ p.0, p.1)) parts))) command line ≡ None
+        rest_refused : (parts : Option (Text × Text)) → with_parted (option_map (λ (p : Text × Text). (45 ∷ p.0, p.1)) (option_map (λ (p : Text × Text). (x ∷ p.0, p.1)) (option_map (λ (p : Text × Text). (y ∷ p.0, p.1)) parts))) command reading ≡ None
         rest_refused None = refl
         rest_refused (Some p) = rw (unnamed command (45 ∷ x ∷ y ∷ p.0) (rw letter refl)) refl
 
-    letter_refused : (xs : Text) → stands_alone (45 ∷ x ∷ xs) ≡ false → with_option_word (kind_of command (45 ∷ x ∷ xs)) command line (45 ∷ x ∷ xs) ≡ None
-    letter_refused [] bare = rw (unnamed command (45 ∷ x ∷ []) (let wide = no_ascii true bare refl in rw wide refl)) (no_value command x line)
+    letter_refused : (xs : Text) → stands_alone (45 ∷ x ∷ xs) ≡ false → with_option_word (kind_of command (45 ∷ x ∷ xs)) command reading (45 ∷ x ∷ xs) ≡ None
+    letter_refused [] bare = rw (unnamed command (45 ∷ x ∷ []) (let wide = no_ascii true bare refl in rw wide refl)) (no_value command x reading)
     letter_refused (y ∷ ys) bare = rw (unnamed command (45 ∷ x ∷ y ∷ ys) (rw letter refl)) (parts_refused y ys bare)
 
   abbrev IsRefused : Text → Type 0
-  IsRefused word = (line : Line) → (is_option word ≡ true) × (with_option_word (kind_of command word) command line word ≡ None)
+  IsRefused word = (reading : Reading) → (is_option word ≡ true) × (with_option_word (kind_of command word) command reading word ≡ None)
 
   hyphen_refused : (y : ℕ) (ys : Text) → is_plain (45 ∷ y ∷ ys) ≡ false → IsRefused (45 ∷ y ∷ ys)
-  hyphen_refused y ys bare line =
+  hyphen_refused y ys bare reading =
       let parts : is_plain (45 ∷ y ∷ ys) ≡ cond (y == 45) (some_behind (parted (45 ∷ y ∷ ys))) (stands_alone (45 ∷ y ∷ ys)) = rw (two_at_least command 45 y ys) refl in (
         rw (two_at_least command 45 y ys) refl,
         elim (cases_Bool (y == 45)) [
           | inl is ↦
               let long : some_behind (parted (45 ∷ y ∷ ys)) ≡ false = ap (λ b. cond b (some_behind (parted (45 ∷ y ∷ ys))) (stands_alone (45 ∷ y ∷ ys))) (sym is) ∙ sym parts ∙ bare in
               let hyphen = eqb-true y 45 is in
-              subst (λ b. with_option_word (kind_of command (45 ∷ b ∷ ys)) command line (45 ∷ b ∷ ys) ≡ None) (sym hyphen) (long_refused ys line (subst (λ b. some_behind (parted (45 ∷ b ∷ ys)) ≡ false) hyphen long))
-          | inr letter ↦ letter_refused y line letter ys (ap (λ b. cond b (some_behind (parted (45 ∷ y ∷ ys))) (stands_alone (45 ∷ y ∷ ys))) (sym letter) ∙ sym parts ∙ bare)
+              subst (λ b. with_option_word (kind_of command (45 ∷ b ∷ ys)) command reading (45 ∷ b ∷ ys) ≡ None) (sym hyphen) (long_refused ys reading (subst (λ b. some_behind (parted (45 ∷ b ∷ ys)) ≡ false) hyphen long))
+          | inr letter ↦ letter_refused y reading letter ys (ap (λ b. cond b (some_behind (parted (45 ∷ y ∷ ys))) (stands_alone (45 ∷ y ∷ ys))) (sym letter) ∙ sym parts ∙ bare)
         ],
       )
 
@@ -145,11 +144,11 @@ module _ (command : Command) where
   ]
 
   -- all words
-  word_refused : (os : List GivenOption) (ps : List Text) (o : Option Text) (word : Text) → is_short word ≡ true → same_key word dashes ≡ false → is_plain word ≡ false → with_word command (line_at os ps o false) word ≡ None
-  word_refused os ps None word short apart bare = let no = option_refused word bare (line_at os ps None false) in rw (short, apart, no.0) no.1
-  word_refused os ps (Some name) word short apart bare = rw (short, (option_refused word bare (line_at os ps None false)).0) refl
+  word_refused : (os : List GivenOption) (ps : List Text) (o : Option Text) (word : Text) → is_short word ≡ true → same_key word dashes ≡ false → is_plain word ≡ false → with_word command (reading_at os ps o false) word ≡ None
+  word_refused os ps None word short apart bare = let no = option_refused word bare (reading_at os ps None false) in rw (short, apart, no.0) no.1
+  word_refused os ps (Some name) word short apart bare = rw (short, (option_refused word bare (reading_at os ps None false)).0) refl
 
-  words_refused : (words : List Text) (os : List GivenOption) (ps : List Text) (o : Option Text) (ended : Bool) → all_plain ended words ≡ false → with_words command (line_at os ps o ended) words ≡ None
+  words_refused : (words : List Text) (os : List GivenOption) (ps : List Text) (o : Option Text) (ended : Bool) → all_plain ended words ≡ false → with_words command (reading_at os ps o ended) words ≡ None
   words_refused [] os ps o ended bare = absurd (false≢true (sym bare))
   words_refused (word ∷ words) os ps o true bare = elim (cases_Bool (is_short word)) [
     | inr long ↦ rw long refl
@@ -158,21 +157,21 @@ module _ (command : Command) where
   words_refused (word ∷ words) os ps o false bare = elim (cases_Bool (is_short word)) [
     | inr long ↦ rw long refl
     | inl short ↦ elim (cases_Bool (same_key word dashes)) [
-      | inl end ↦ subst (λ t. with_words command (line_at os ps o false) (t ∷ words) ≡ None) (sym (same_key-eq word dashes end)) (ends o (rw (short, end) at bare) (λ r. words_refused words os ps None true r))
+      | inl end ↦ subst (λ t. with_words command (reading_at os ps o false) (t ∷ words) ≡ None) (sym (same_key-eq word dashes end)) (ends o (rw (short, end) at bare) (λ r. words_refused words os ps None true r))
       | inr apart ↦ elim (and_cases (is_plain word) (all_plain false words) (rw (short, apart) at bare)) [
         | inl own ↦ ap (option_and_then (λ more. with_words command more words)) (word_refused os ps o word short apart own)
-        | inr rest ↦ behind (with_word command (line_at os ps o false) word) (keeps_word command os ps o word short apart) (λ l none. words_refused words l.options l.positions l.waiting l.ended (ap (λ b. all_plain b words) none ∙ rest))
+        | inr rest ↦ behind (with_word command (reading_at os ps o false) word) (keeps_word command os ps o word short apart) (λ r none. words_refused words r.options r.positions r.waiting r.ended (ap (λ b. all_plain b words) none ∙ rest))
       ]
     ]
   ]
     where
-      ends : (p : Option Text) → all_plain true words ≡ false → (all_plain true words ≡ false → with_words command (line_at os ps None true) words ≡ None) → with_words command (line_at os ps p false) (dashes ∷ words) ≡ None
+      ends : (p : Option Text) → all_plain true words ≡ false → (all_plain true words ≡ false → with_words command (reading_at os ps None true) words ≡ None) → with_words command (reading_at os ps p false) (dashes ∷ words) ≡ None
       ends None r more = more r
       ends (Some name) r more = refl
 
-      behind : (line : Option Line) → Keeps false line → ((l : Line) → l.ended ≡ false → with_words command l words ≡ None) → option_and_then (λ more. with_words command more words) line ≡ None
+      behind : (reading : Option Reading) → Keeps false reading → ((r : Reading) → r.ended ≡ false → with_words command r words ≡ None) → option_and_then (λ more. with_words command more words) reading ≡ None
       behind None keeps more = refl
-      behind (Some l) keeps more = more l keeps
+      behind (Some r) keeps more = more r keeps
 
   pub line_refused : (words : List Text) → all_plain false words ≡ false → line_of command words ≡ None
-  line_refused words bare = ap (option_and_then (λ line. whole line.waiting line)) (words_refused words [] [] None false bare)
+  line_refused words bare = ap (option_and_then (λ reading. whole reading.waiting reading)) (words_refused words [] [] None false bare)

@@ -1,7 +1,6 @@
 -- A walk of `clap` over plain words is refused where the line has no reading, and shows the line elsewhere.
-use Rattle.std.proofs.Common.{◌≡◌, ◌⊎◌, Bool, true, false, ◌||◌, List, [], ◌∷◌, ◌++◌, Option, Some, None, refl, sym, ◌∙◌, ap, ap₂, subst, inl, inr, option_and_then, fold}
+use Rattle.std.proofs.Common.{◌≡◌, ◌⊎◌, Bool, true, false, List, [], ◌∷◌, ◌++◌, Option, Some, None, refl, sym, ◌∙◌, ap, ap₂, subst, inl, inr, option_and_then, fold}
 use Rattle.std.proofs.lemmas.Bool.{cases_Bool, false≢true, and_parts}
-use Rattle.std.specs.List.{list_any}
 use Rattle.tdb_space.specs.Pairs.{same_key}
 use Rattle.tdb_space.proofs.Pairs.Maps.{same_key-eq}
 use Rattle.clap.specs.Words.{Row}
@@ -13,10 +12,9 @@ use Rattle.tdb_ask.specs.declared.options.Kind.{Kind}
 use Rattle.tdb_ask.specs.declared.options.Kind.TheVariants.{Valued, Flag}
 use Rattle.tdb_ask.specs.declared.options.GivenOption.{GivenOption}
 use Rattle.tdb_ask.specs.declared.options.Line.{Line}
-use Rattle.tdb_ask.specs.Options.{options_of, kind_of, is_given, with_option, with_option_word, with_word, with_words, whole}
+use Rattle.tdb_ask.specs.Options.{Reading, options_of, kind_of, is_given, with_option, with_option_word, with_word, with_words, whole}
 use Rattle.tdb_ask.specs.Words.{is_short, is_option}
 use Rattle.tdb_ask.specs.Clap.{positions_id, all_plain, is_plain}
-use Rattle.std.proofs.Math.Bool.{or-false}
 use Rattle.tdb_ask.proofs.Clap.Rules.{option_rule, rules, shape, is_name, names, named, by_id, by_positions_id}
 use Rattle.tdb_ask.proofs.Clap.Words.{Text, fails, fails_first, fails_second, IsIdle, stands, settling, settled_with, Says, Uses, trailing_word, plain_word, end_word, value_word}
 use Rattle.tdb_ask.proofs.Clap.Rows.{Shows, shows_position, shows_use, first_use, second_use, values_fit, value_of_use}
@@ -25,8 +23,8 @@ use Rattle.tdb_ask.proofs.Clap.Views.{OptionWord, PositionWord, view, says}
 abbrev pub dashes : Text
 dashes = 45 ∷ 45 ∷ []
 
-abbrev pub line_at : List GivenOption → List Text → Option Text → Bool → Line
-line_at os ps waiting ended = record { options = os; positions = ps; waiting = waiting; ended = ended }
+abbrev pub reading_at : List GivenOption → List Text → Option Text → Bool → Reading
+reading_at os ps waiting ended = record { options = os; positions = ps; waiting = waiting; ended = ended }
 
 -- what plain words are one by one
 plain_trailing : (word : Text) (words : List Text) → all_plain true (word ∷ words) ≡ true → (is_short word ≡ true) × (all_plain true words ≡ true)
@@ -147,22 +145,22 @@ module _ (command : Command) where
   Sees None os ps ended w = Idles os ps ended w
   Sees (Some name) os ps ended w = (ended ≡ false) × Waiting_for name os ps w
 
-  abbrev pub line_after : Line → List Text → Option Line
-  line_after line words = option_and_then (λ l. whole l.waiting l) (with_words command line words)
+  abbrev pub line_after : Reading → List Text → Option Line
+  line_after reading words = option_and_then (λ r. whole r.waiting r) (with_words command reading words)
 
-  abbrev pub Agrees : Option Line → Bool → Kinds → List Row → Type 0
-  Agrees None ended f rows = fails f ≡ true
-  Agrees (Some line) ended f rows = (f ≡ []) × Shows command line.options line.positions rows × (line.waiting ≡ None) × (line.ended ≡ ended)
+  abbrev pub Agrees : Option Line → Kinds → List Row → Type 0
+  Agrees None f rows = fails f ≡ true
+  Agrees (Some line) f rows = (f ≡ []) × Shows command line.options line.positions rows
 
-  abbrev pub Run : Line → Bool → Walk → List Text → Type 0
-  Run line ended w words = Agrees (line_after line words) ended (run_fault w words) (run_rows w words)
+  abbrev pub Run : Reading → Walk → List Text → Type 0
+  Run reading w words = Agrees (line_after reading words) (run_fault w words) (run_rows w words)
 
-  stops : (line : Line) (ended : Bool) (w : Walk) (word : Text) (words : List Text) → with_word command line word ≡ None → fails (run_fault w (word ∷ words)) ≡ true → Run line ended w (word ∷ words)
-  stops line ended w word words none f = rw none f
+  stops : (reading : Reading) (w : Walk) (word : Text) (words : List Text) → with_word command reading word ≡ None → fails (run_fault w (word ∷ words)) ≡ true → Run reading w (word ∷ words)
+  stops reading w word words none f = rw none f
 
-  goes_on : (line after_it : Line) (ended : Bool) (w : Walk) (word : Text) (words : List Text) → with_word command line word ≡ Some after_it → turn w word ≡ []
-      → Run after_it ended (after w word) words → Run line ended w (word ∷ words)
-  goes_on line after_it ended w word words some none rest = rw (some, turn_passes w word words none) rest
+  goes_on : (reading after_it : Reading) (w : Walk) (word : Text) (words : List Text) → with_word command reading word ≡ Some after_it → turn w word ≡ []
+      → Run after_it (after w word) words → Run reading w (word ∷ words)
+  goes_on reading after_it w word words some none rest = rw (some, turn_passes w word words none) rest
 
   lacks_value : (rows : List Row) (name : Text) → kind_of command name ≡ Some Valued → fails (settling_now rows (Some (name, []))) ≡ true
   lacks_value rows name known = rw (by_id (options_of command) name Valued (named (options_of command) name Valued (names command) known) known) refl
@@ -197,13 +195,13 @@ module _ (command : Command) where
       (ap (λ u. turn u dashes) i.at ∙ step.0, record { rows = i.rows; pending = i.pending; waiting = i.waiting; is_idle = i.is_idle; at = ap (λ u. after u dashes) i.at ∙ step.1; settles = i.settles; shows = i.shows })
 
   -- an option word
-  abbrev Stepped : Option Line → Kinds → Walk → Type 0
+  abbrev Stepped : Option Reading → Kinds → Walk → Type 0
   Stepped None f n = fails f ≡ true
-  Stepped (Some line) f n = (f ≡ []) × Sees line.waiting line.options line.positions line.ended n × (line.ended ≡ false)
+  Stepped (Some reading) f n = (f ≡ []) × Sees reading.waiting reading.options reading.positions reading.ended n × (reading.ended ≡ false)
 
   use_step : (os : List GivenOption) (ps : List Text) (rows : List Row) (pending : Option (Text × List Text)) (k : Kind) (name : Text) (values : List Text) (f : Kinds) (n : Walk)
       → values_fit k values → kind_of command name ≡ Some k → settling_now rows pending ≡ [] → Shows command os ps (settled_with (options_of command) (names command) rows pending)
-      → Uses (options_of command) (names command) rows pending k name values f n → Stepped (with_option (line_at os ps None false) name (value_of_use values)) f n
+      → Uses (options_of command) (names command) rows pending k name values f n → Stepped (with_option (reading_at os ps None false) name (value_of_use values)) f n
   use_step os ps rows pending k name values f n fit known settles shows uses = elim (cases_Bool (is_given name os)) [
     | inl before ↦ rw before (ap fails uses.0 ∙ fails_second (settling_now rows pending) _ (second_use name (settled_with (options_of command) (names command) rows pending) k values fit (shows.met name is ∙ before)))
     | inr new ↦
@@ -228,7 +226,7 @@ module _ (command : Command) where
 
   said_step : (os : List GivenOption) (ps : List Text) (rows : List Row) (pending : Option (Text × List Text)) (k : Option Kind) (name : Text) (v : Option Text) (f : Kinds) (n : Walk)
       → kind_of command name ≡ k → settling_now rows pending ≡ [] → Shows command os ps (settled_with (options_of command) (names command) rows pending)
-      → Says (options_of command) (names command) rows pending k name v f n → Stepped (says k name v (line_at os ps None false)) f n
+      → Says (options_of command) (names command) rows pending k name v f n → Stepped (says k name v (reading_at os ps None false)) f n
   said_step os ps rows pending (Some Valued) name None f n known settles shows said = (said.0 ∙ settles, (refl, record { rows = settled_with (options_of command) (names command) rows pending; at = said.1; known = known; shows = shows }), refl)
   said_step os ps rows pending (Some Valued) name (Some v) f n known settles shows said = use_step os ps rows pending Valued name (v ∷ []) f n tt known settles shows said
   said_step os ps rows pending (Some Flag) name None f n known settles shows said = use_step os ps rows pending Flag name [] f n tt known settles shows said
@@ -236,18 +234,18 @@ module _ (command : Command) where
   said_step os ps rows pending None name v f n known settles shows said = said
 
   option_step : (os : List GivenOption) (ps : List Text) (w : Walk) (word : Text) → Idles os ps false w → (o : OptionWord command word)
-      → Stepped (with_option_word (kind_of command word) command (line_at os ps None false) word) (turn w word) (after w word)
+      → Stepped (with_option_word (kind_of command word) command (reading_at os ps None false) word) (turn w word) (after w word)
   option_step os ps w word i o =
-      subst (λ u. Stepped (with_option_word (kind_of command word) command (line_at os ps None false) word) (turn u word) (after u word)) (sym i.at)
-      (rw (o.line (line_at os ps None false)) (said_step os ps i.rows i.pending (kind_of command o.name) o.name o.value _ _ refl i.settles i.shows (o.said i.rows i.pending i.waiting)))
+      subst (λ u. Stepped (with_option_word (kind_of command word) command (reading_at os ps None false) word) (turn u word) (after u word)) (sym i.at)
+      (rw (o.reading (reading_at os ps None false)) (said_step os ps i.rows i.pending (kind_of command o.name) o.name o.value _ _ refl i.settles i.shows (o.said i.rows i.pending i.waiting)))
 
   -- the value of the option before it: it is taken, or refused once it is settled
-  value_at : (os : List GivenOption) (ps : List Text) (w : Walk) (word : Text) (words : List Text) (ended : Bool) (name : Text) (g : Waiting_for name os ps w) → is_short word ≡ true → PositionWord command word → all_plain false words ≡ true
-      → ((o : List GivenOption) → Idles o ps false (after w word) → Run (line_at o ps None false) ended (after w word) words)
-      → Run (line_at os ps (Some name) false) ended w (word ∷ words)
-  value_at os ps w word words ended name g short p plain rest = elim (cases_Bool (is_given name os)) [
+  value_at : (os : List GivenOption) (ps : List Text) (w : Walk) (word : Text) (words : List Text) (name : Text) (g : Waiting_for name os ps w) → is_short word ≡ true → PositionWord command word → all_plain false words ≡ true
+      → ((o : List GivenOption) → Idles o ps false (after w word) → Run (reading_at o ps None false) (after w word) words)
+      → Run (reading_at os ps (Some name) false) w (word ∷ words)
+  value_at os ps w word words name g short p plain rest = elim (cases_Bool (is_given name os)) [
     | inl before ↦
-        stops (line_at os ps (Some name) false) ended w word words (rw (short, p.no_option, before) refl)
+        stops (reading_at os ps (Some name) false) w word words (rw (short, p.no_option, before) refl)
         (ap fails (turn_passes w word words passes) ∙ doomed_run words false (after w word) (record {
           rows = g.rows;
           pending = Some (name, word ∷ []);
@@ -258,7 +256,7 @@ module _ (command : Command) where
         }) plain)
     | inr new ↦
         let none = g.shows.met name is ∙ new in
-        goes_on (line_at os ps (Some name) false) (line_at (os ++ record { name = name; value = Some word } ∷ []) ps None false) ended w word words (rw (short, p.no_option, new) refl) passes
+        goes_on (reading_at os ps (Some name) false) (reading_at (os ++ record { name = name; value = Some word } ∷ []) ps None false) w word words (rw (short, p.no_option, new) refl) passes
         (rest (os ++ record { name = name; value = Some word } ∷ []) (record {
           rows = g.rows;
           pending = Some (name, word ∷ []);
@@ -283,9 +281,9 @@ module _ (command : Command) where
       at = ap (λ u. after u word) g.at ∙ (value_word (options_of command) (names command) g.rows name word g.known p.no_end p.no_long p.no_short).1
 
   -- no value for the option before it
-  no_value_at : (os : List GivenOption) (ps : List Text) (w : Walk) (word : Text) (words : List Text) (ended : Bool) (name : Text) (g : Waiting_for name os ps w) → is_short word ≡ true → is_option word ≡ true
-      → fails (run_fault w (word ∷ words)) ≡ true → Run (line_at os ps (Some name) false) ended w (word ∷ words)
-  no_value_at os ps w word words ended name g short is f = stops (line_at os ps (Some name) false) ended w word words (rw (short, is) refl) f
+  no_value_at : (os : List GivenOption) (ps : List Text) (w : Walk) (word : Text) (words : List Text) (name : Text) (g : Waiting_for name os ps w) → is_short word ≡ true → is_option word ≡ true
+      → fails (run_fault w (word ∷ words)) ≡ true → Run (reading_at os ps (Some name) false) w (word ∷ words)
+  no_value_at os ps w word words name g short is f = stops (reading_at os ps (Some name) false) w word words (rw (short, is) refl) f
 
   waits_doomed : (os : List GivenOption) (ps : List Text) (w : Walk) (name : Text) → Waiting_for name os ps w → (turn w dashes ≡ []) × Doomed true (after w dashes)
   waits_doomed os ps w name g =
@@ -293,47 +291,42 @@ module _ (command : Command) where
       (ap (λ u. turn u dashes) g.at ∙ step.0, record { rows = g.rows; pending = Some (name, []); waiting = option name; at = ap (λ u. after u dashes) g.at ∙ step.1; fault = lacks_value g.rows name g.known; takes = inl refl })
 
   -- all words
-  abbrev pub ends_of : Bool → List Text → Bool
-  ends_of ended words = ended || list_any (λ w. same_key w dashes) words
-
-  run_use : (line : Option Line) (os : List GivenOption) (ps : List Text) (w : Walk) (word : Text) (words : List Text) (ended : Bool) → with_word command (line_at os ps None false) word ≡ line → Stepped line (turn w word) (after w word)
-      → ((l : Line) → Sees l.waiting l.options l.positions l.ended (after w word) → l.ended ≡ false → Run l ended (after w word) words)
-      → Run (line_at os ps None false) ended w (word ∷ words)
-  run_use None os ps w word words ended is step rest = stops (line_at os ps None false) ended w word words is (turn_fails w word words step)
-  run_use (Some l) os ps w word words ended is step rest = goes_on (line_at os ps None false) l ended w word words is step.0 (rest l step.1 step.2)
+  run_use : (reading : Option Reading) (os : List GivenOption) (ps : List Text) (w : Walk) (word : Text) (words : List Text) → with_word command (reading_at os ps None false) word ≡ reading → Stepped reading (turn w word) (after w word)
+      → ((r : Reading) → Sees r.waiting r.options r.positions r.ended (after w word) → r.ended ≡ false → Run r (after w word) words)
+      → Run (reading_at os ps None false) w (word ∷ words)
+  run_use None os ps w word words is step rest = stops (reading_at os ps None false) w word words is (turn_fails w word words step)
+  run_use (Some r) os ps w word words is step rest = goes_on (reading_at os ps None false) r w word words is step.0 (rest r step.1 step.2)
 
   pub run : (words : List Text) (os : List GivenOption) (ps : List Text) (o : Option Text) (ended : Bool) (w : Walk) → Sees o os ps ended w → all_plain ended words ≡ true
-      → Run (line_at os ps o ended) (ends_of ended words) w words
+      → Run (reading_at os ps o ended) w words
   run [] os ps None ended w i plain = (
     no_words w ∙ ap (λ u. settle_fault (rules (options_of command)) false u.held) i.at ∙ i.settles,
     subst (λ u. Shows command os ps (settled (rules (options_of command)) u.held).rows) (sym i.at) i.shows,
-    refl,
-    sym (or-false ended),
   )
   run [] os ps (Some name) ended w g plain =
       ap fails (no_words w ∙ ap (λ u. settle_fault (rules (options_of command)) false u.held) g.1.at) ∙ lacks_value g.1.rows name g.1.known
   run (word ∷ words) os ps None true w i plain =
       let short = plain_trailing word words plain in
       let step = trailing_step os ps w word i in
-      goes_on (line_at os ps None true) (line_at os (ps ++ word ∷ []) None true) true w word words (rw short.0 refl) step.0
+      goes_on (reading_at os ps None true) (reading_at os (ps ++ word ∷ []) None true) w word words (rw short.0 refl) step.0
       (run words os (ps ++ word ∷ []) None true (after w word) step.1 short.1)
   run (word ∷ words) os ps None false w i plain =
       let short = plain_next word words plain in
       elim short.1 [
         | inl e ↦
             let step = end_step os ps w i in
-            subst (λ t. Run (line_at os ps None false) (ends_of false (t ∷ words)) w (t ∷ words)) (sym e.0)
-            (goes_on (line_at os ps None false) (line_at os ps None true) true w dashes words refl step.0 (run words os ps None true (after w dashes) step.1 e.1))
+            subst (λ t. Run (reading_at os ps None false) w (t ∷ words)) (sym e.0)
+            (goes_on (reading_at os ps None false) (reading_at os ps None true) w dashes words refl step.0 (run words os ps None true (after w dashes) step.1 e.1))
         | inr e ↦
-            subst (λ b. Run (line_at os ps None false) (b || list_any (λ t. same_key t dashes) words) w (word ∷ words)) (sym e.0) (elim (view command word e.1) [
+            elim (view command word e.1) [
               | inl end ↦ absurd (false≢true (sym e.0 ∙ ap (λ t. same_key t dashes) end))
               | inr (inl p) ↦
                   let step = position_step os ps w word i p in
-                  goes_on (line_at os ps None false) (line_at os (ps ++ word ∷ []) None false) (ends_of false words) w word words (rw (short.0, e.0, p.no_option) refl) step.0
+                  goes_on (reading_at os ps None false) (reading_at os (ps ++ word ∷ []) None false) w word words (rw (short.0, e.0, p.no_option) refl) step.0
                   (run words os (ps ++ word ∷ []) None false (after w word) step.1 e.2)
-              | inr (inr p) ↦ run_use (with_option_word (kind_of command word) command (line_at os ps None false) word) os ps w word words (ends_of false words) (rw (short.0, e.0, p.option) refl) (option_step os ps w word i p.use_of)
-                  (λ l sees none. subst (λ b. Run l (ends_of b words) (after w word) words) none (run words l.options l.positions l.waiting l.ended (after w word) sees (ap (λ b. all_plain b words) none ∙ e.2)))
-            ])
+              | inr (inr p) ↦ run_use (with_option_word (kind_of command word) command (reading_at os ps None false) word) os ps w word words (rw (short.0, e.0, p.option) refl) (option_step os ps w word i p.use_of)
+                  (λ r sees none. run words r.options r.positions r.waiting r.ended (after w word) sees (ap (λ b. all_plain b words) none ∙ e.2))
+            ]
       ]
   run (word ∷ words) os ps (Some name) true w g plain = absurd (false≢true (sym g.0))
   run (word ∷ words) os ps (Some name) false w g plain =
@@ -341,13 +334,13 @@ module _ (command : Command) where
       elim short.1 [
         | inl e ↦
             let step = waits_doomed os ps w name g.1 in
-            subst (λ t. Run (line_at os ps (Some name) false) (ends_of false (t ∷ words)) w (t ∷ words)) (sym e.0)
-            (no_value_at os ps w dashes words true name g.1 refl refl (ap fails (turn_passes w dashes words step.0) ∙ doomed_run words true (after w dashes) step.1 e.1))
+            subst (λ t. Run (reading_at os ps (Some name) false) w (t ∷ words)) (sym e.0)
+            (no_value_at os ps w dashes words name g.1 refl refl (ap fails (turn_passes w dashes words step.0) ∙ doomed_run words true (after w dashes) step.1 e.1))
         | inr e ↦
-            subst (λ b. Run (line_at os ps (Some name) false) (b || list_any (λ t. same_key t dashes) words) w (word ∷ words)) (sym e.0) (elim (view command word e.1) [
+            elim (view command word e.1) [
               | inl end ↦ absurd (false≢true (sym e.0 ∙ ap (λ t. same_key t dashes) end))
-              | inr (inl p) ↦ value_at os ps w word words (ends_of false words) name g.1 short.0 p e.2 (λ o idles. run words o ps None false (after w word) idles e.2)
-              | inr (inr p) ↦ no_value_at os ps w word words (ends_of false words) name g.1 short.0 p.option
+              | inr (inl p) ↦ value_at os ps w word words name g.1 short.0 p e.2 (λ o idles. run words o ps None false (after w word) idles e.2)
+              | inr (inr p) ↦ no_value_at os ps w word words name g.1 short.0 p.option
                   (turn_fails w word words (ap (λ u. fails (turn u word)) g.1.at ∙ says_fails g.1.rows (Some (name, [])) (kind_of command p.use_of.name) p.use_of.name p.use_of.value _ _ (lacks_value g.1.rows name g.1.known) (p.use_of.said g.1.rows (Some (name, [])) (option name))))
-            ])
+            ]
       ]

@@ -1,4 +1,4 @@
--- What the line and `clap` make of a word that stands where an option may.
+-- What the reading and `clap` make of a word that stands where an option may.
 use Rattle.std.proofs.Common.{◌≡◌, ℕ, suc, ◌⊎◌, true, false, ◌&&◌, cond, ◌==◌, List, [], ◌∷◌, Option, Some, None, option_map, refl, sym, ◌∙◌, ap, ap₂, subst, inl, inr, arith, nat_lt, length, lt-ltb}
 use Rattle.std.proofs.lemmas.Bool.{eqb-true, ne_eqb, cases_Bool, false≢true, and_parts, and_right, or_cases, not-true}
 use Rattle.std.specs.List.{before_first, after_first}
@@ -9,20 +9,19 @@ use Rattle.clap.specs.Walk.{Waiting}
 use Rattle.tdb_ask.specs.declared.options.Command.{Command}
 use Rattle.tdb_ask.specs.declared.options.Kind.{Kind}
 use Rattle.tdb_ask.specs.declared.options.Kind.TheVariants.{Valued, Flag}
-use Rattle.tdb_ask.specs.declared.options.Line.{Line}
-use Rattle.tdb_ask.specs.Options.{parted, kind_of, options_of, with_option, with_option_word, with_parted, with_value}
+use Rattle.tdb_ask.specs.Options.{Reading, parted, kind_of, options_of, with_option, with_option_word, with_parted, with_value}
 use Rattle.tdb_ask.specs.Words.{is_option}
 use Rattle.tdb_ask.specs.Clap.{is_plain, some_behind, stands_alone}
 use Rattle.tdb_ask.proofs.Clap.Rules.{is_name, names, named}
 use Rattle.tdb_ask.proofs.Clap.Words.{Text, fault, next, Says, is_equals, no_equals, parted_behind, parted_has, parted_lacks, parted_here, long_word, letter_alone, letter_valued}
 
--- what a use of an option does to the line
-abbrev pub says : Option Kind → Text → Option Text → Line → Option Line
-says (Some Valued) name None line = Some (record line { waiting = Some name })
-says (Some Valued) name (Some v) line = with_option line name (Some v)
-says (Some Flag) name None line = with_option line name None
-says (Some Flag) name (Some v) line = None
-says None name v line = None
+-- what a use of an option does to the reading
+abbrev pub says : Option Kind → Text → Option Text → Reading → Option Reading
+says (Some Valued) name None reading = Some (record reading { waiting = Some name })
+says (Some Valued) name (Some v) reading = with_option reading name (Some v)
+says (Some Flag) name None reading = with_option reading name None
+says (Some Flag) name (Some v) reading = None
+says None name v reading = None
 
 not_empty : (v : ℕ) (vs : Text) → (length (v ∷ vs) == 0) ≡ false
 not_empty v vs = ne_eqb (suc (length vs)) 0 (λ e. omega arith)
@@ -34,7 +33,7 @@ module _ (command : Command) where
     pub value : Option Text
     pub said : (rows : List Row) (pending : Option (Text × List Text)) (waiting : Waiting)
         → Says (options_of command) (names command) rows pending (kind_of command name) name value (fault (options_of command) (names command) rows pending waiting false word) (next (options_of command) (names command) rows pending waiting false word)
-    pub line : (line : Line) → with_option_word (kind_of command word) command line word ≡ says (kind_of command name) name value line
+    pub reading : (reading : Reading) → with_option_word (kind_of command word) command reading word ≡ says (kind_of command name) name value reading
 
   -- a name has no `=`, and begins with a hyphen
   pub unnamed : (name : Text) → is_name name ≡ false → kind_of command name ≡ None
@@ -45,20 +44,20 @@ module _ (command : Command) where
       go (Some k) e = absurd (false≢true (sym other ∙ named (options_of command) name k (names command) e))
 
   -- a word without a value
-  line_alone : (word : Text) (line : Line) → with_parted (parted word) command line ≡ None → with_option_word (kind_of command word) command line word ≡ says (kind_of command word) word None line
-  line_alone word line none = go (kind_of command word)
+  reading_alone : (word : Text) (reading : Reading) → with_parted (parted word) command reading ≡ None → with_option_word (kind_of command word) command reading word ≡ says (kind_of command word) word None reading
+  reading_alone word reading none = go (kind_of command word)
     where
-      go : (k : Option Kind) → with_option_word k command line word ≡ says k word None line
+      go : (k : Option Kind) → with_option_word k command reading word ≡ says k word None reading
       go (Some Valued) = refl
       go (Some Flag) = refl
       go None = none
 
   -- a word with one
-  line_valued : (word name value : Text) (line : Line) → kind_of command word ≡ None → parted word ≡ Some (name, value) → (length value == 0) ≡ false
-      → with_option_word (kind_of command word) command line word ≡ says (kind_of command name) name (Some value) line
-  line_valued word name value line none parts some = rw (none, parts) (go (kind_of command name))
+  reading_valued : (word name value : Text) (reading : Reading) → kind_of command word ≡ None → parted word ≡ Some (name, value) → (length value == 0) ≡ false
+      → with_option_word (kind_of command word) command reading word ≡ says (kind_of command name) name (Some value) reading
+  reading_valued word name value reading none parts some = rw (none, parts) (go (kind_of command name))
     where
-      go : (k : Option Kind) → with_value k line name value ≡ says k name (Some value) line
+      go : (k : Option Kind) → with_value k reading name value ≡ says k name (Some value) reading
       go (Some Valued) = rw some refl
       go (Some Flag) = refl
       go None = refl
@@ -76,7 +75,7 @@ module _ (command : Command) where
           name = 45 ∷ 45 ∷ before_first is_equals (x ∷ xs);
           value = Some (after_first is_equals (x ∷ xs));
           said = λ rows pending waiting. long_word (options_of command) (names command) rows pending (45 ∷ 45 ∷ x ∷ xs) waiting (before_first is_equals (x ∷ xs)) (Some (after_first is_equals (x ∷ xs))) refl is;
-          line = λ line. line_valued (45 ∷ 45 ∷ x ∷ xs) (45 ∷ 45 ∷ before_first is_equals (x ∷ xs)) (after_first is_equals (x ∷ xs)) line (unnamed (45 ∷ 45 ∷ x ∷ xs) (rw has refl)) parts (some_value (45 ∷ 45 ∷ x ∷ xs) _ _ parts plain);
+          reading = λ reading. reading_valued (45 ∷ 45 ∷ x ∷ xs) (45 ∷ 45 ∷ before_first is_equals (x ∷ xs)) (after_first is_equals (x ∷ xs)) reading (unnamed (45 ∷ 45 ∷ x ∷ xs) (rw has refl)) parts (some_value (45 ∷ 45 ∷ x ∷ xs) _ _ parts plain);
         }
     | inr lacks ↦
         let is : long_of (45 ∷ 45 ∷ x ∷ xs) ≡ Some (x ∷ xs, None) = ap₂ (λ n v. Some (n, v)) (no_equals (x ∷ xs) lacks) (rw lacks refl) in
@@ -84,15 +83,15 @@ module _ (command : Command) where
           name = 45 ∷ 45 ∷ x ∷ xs;
           value = None;
           said = λ rows pending waiting. long_word (options_of command) (names command) rows pending (45 ∷ 45 ∷ x ∷ xs) waiting (x ∷ xs) None refl is;
-          line = λ line. line_alone (45 ∷ 45 ∷ x ∷ xs) line (ap (λ p. with_parted p command line) (parted_lacks (45 ∷ 45 ∷ x ∷ xs) lacks));
+          reading = λ reading. reading_alone (45 ∷ 45 ∷ x ∷ xs) reading (ap (λ p. with_parted p command reading) (parted_lacks (45 ∷ 45 ∷ x ∷ xs) lacks));
         }
   ]
 
   pub hyphen_alone : kind_of command (45 ∷ []) ≡ None
   hyphen_alone = unnamed (45 ∷ []) refl
 
-  pub no_value : (x : ℕ) (line : Line) → with_parted (parted (45 ∷ x ∷ [])) command line ≡ None
-  no_value x line = elim (cases_Bool (x == 61)) [
+  pub no_value : (x : ℕ) (reading : Reading) → with_parted (parted (45 ∷ x ∷ [])) command reading ≡ None
+  no_value x reading = elim (cases_Bool (x == 61)) [
     | inl is ↦
         let parts : parted (45 ∷ x ∷ []) ≡ Some (45 ∷ [], []) = parted_behind 45 (x ∷ []) refl ∙ rw is refl in
         rw (parts, hyphen_alone) refl
@@ -107,7 +106,7 @@ module _ (command : Command) where
       name = 45 ∷ x ∷ [];
       value = None;
       said = λ rows pending waiting. letter_alone (options_of command) (names command) rows pending x ascii letter waiting;
-      line = λ line. line_alone (45 ∷ x ∷ []) line (no_value x line);
+      reading = λ reading. reading_alone (45 ∷ x ∷ []) reading (no_value x reading);
     }
 
     valued_option : (v : ℕ) (vs : Text) → OptionWord (45 ∷ x ∷ 61 ∷ v ∷ vs)
@@ -115,7 +114,7 @@ module _ (command : Command) where
       name = 45 ∷ x ∷ [];
       value = Some (v ∷ vs);
       said = λ rows pending waiting. letter_valued (options_of command) (names command) rows pending x ascii letter v vs waiting;
-      line = λ line. elim (cases_Bool (x == 61)) [
+      reading = λ reading. elim (cases_Bool (x == 61)) [
         | inl is ↦
             let parts : parted (45 ∷ x ∷ 61 ∷ v ∷ vs) ≡ Some (45 ∷ [], 61 ∷ v ∷ vs) = parted_behind 45 (x ∷ 61 ∷ v ∷ vs) refl ∙ ap (option_map (λ p. (45 ∷ p.0, p.1))) (ap (λ b. parted (b ∷ 61 ∷ v ∷ vs)) (eqb-true x 61 is) ∙ parted_here (61 ∷ v ∷ vs)) in
             let none : kind_of command (45 ∷ x ∷ 61 ∷ v ∷ vs) ≡ None = unnamed (45 ∷ x ∷ 61 ∷ v ∷ vs) (rw letter refl) in
@@ -123,7 +122,7 @@ module _ (command : Command) where
             rw (none, parts, hyphen_alone, other) refl
         | inr other ↦
             let parts : parted (45 ∷ x ∷ 61 ∷ v ∷ vs) ≡ Some (45 ∷ x ∷ [], v ∷ vs) = parted_behind 45 (x ∷ 61 ∷ v ∷ vs) refl ∙ ap (option_map (λ p. (45 ∷ p.0, p.1))) (parted_behind x (61 ∷ v ∷ vs) other ∙ ap (option_map (λ p. (x ∷ p.0, p.1))) (parted_here (v ∷ vs))) in
-            line_valued (45 ∷ x ∷ 61 ∷ v ∷ vs) (45 ∷ x ∷ []) (v ∷ vs) line (unnamed (45 ∷ x ∷ 61 ∷ v ∷ vs) (rw letter refl)) parts (not_empty v vs)
+            reading_valued (45 ∷ x ∷ 61 ∷ v ∷ vs) (45 ∷ x ∷ []) (v ∷ vs) reading (unnamed (45 ∷ x ∷ 61 ∷ v ∷ vs) (rw letter refl)) parts (not_empty v vs)
       ];
     }
 

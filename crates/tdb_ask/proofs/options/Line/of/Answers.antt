@@ -1,14 +1,13 @@
 -- The line is what the matches of `clap` show.
-use Rattle.std.proofs.Common.{◌≡◌, rules, ap, subst, ◌∙◌, sym, Some, None, true, false, map, string_bytes, inl, inr}
+use Rattle.std.proofs.Common.{◌≡◌, rules, ap, subst, ◌∙◌, sym, Some, true, false, map, string_bytes, inl, inr}
 use Rattle.std.proofs.lemmas.Bool.{and_parts}
 use Rattle.clap.specs.Words.{app_of, found_of, kind_of, matches_of, rows_of}
 use Rattle.clap.specs.Kinds.{IsAmong}
 use Rattle.clap.specs.Faults.{fault_of, is_simple_and_free}
 use Rattle.clap.specs.Simple.{is_simple}
-use Rattle.tdb_ask.specs.Clap.{app_for, all_plain, options_in, positions_in, has_end}
+use Rattle.tdb_ask.specs.Clap.{app_for, all_plain, options_in, positions_in}
 use Rattle.tdb_ask.proofs.Clap.Rules.{is_simple_app}
 use Rattle.tdb_ask.proofs.Clap.Lines.{no_line, line_shown}
-use Rattle.tdb_ask.proofs.Clap.Runs.{line_at}
 use Rattle.tdb_ask.proofs.Clap.Refused.{line_refused}
 use Rattle.tdb_ask.proofs.options.Line.of.Goals as goal
 
@@ -37,8 +36,7 @@ returns c =
     let rows = (c.in-Ok.ensures.matches (ap is_simple told ∙ (and_parts (is_simple (app_for c.args.command)) _ free).0)).0 ∙ ap (λ a. matches_of a words) told in
     let options : c.in_ok-options_in.field-0 ≡ options_in c.args.command (rows_of (found_of c.in-Ok.matches)) = search rules in
     let positions : c.in_ok-positions_in.field-0 ≡ positions_in (rows_of (found_of c.in-Ok.matches)) = search rules in
-    let ended : c.has_end.result ≡ has_end words = search rules in
-    (λ j. Some (line_at (options j) (positions j) None (ended j))) ∙ (line_shown c.args.command words (rows_of (found_of c.in-Ok.matches)) plain none rows).1
+    (λ j. Some (record { options = options j; positions = positions j })) ∙ (line_shown c.args.command words (rows_of (found_of c.in-Ok.matches)) plain none rows).1
 
 pub returns-in_default : goal.returns-in_default
 returns-in_default c =
