@@ -3,14 +3,14 @@
 ghost use Rattle.tdb_locks.specs.HeldLocks.{nothing_held};
 ghost use Rattle.tdb_walk.specs.ByteLocks.{HoldsWords};
 
-use crate::moves::{HEADER as SMALL, file as small_file, image as small_image, put_word};
+use crate::files::{Word, file_of, put_words};
+use crate::moves::{HEADER as SMALL, image as small_image};
 use std::alloc::{AllocError, Global};
-use std::test::Fail;
 use tdb_disk::{Call, MemDisk};
 use tdb_locks::{Held, Kind, Locks, Reply, Spots, Turn};
 use tdb_space::{Direct, Io};
 use tdb_walk::{Cursor, Goal};
-use tdb_words::{Bytes, DEAD, FREE, HashKind, Header, Order, USED, word_bytes};
+use tdb_words::{Bytes, DEAD, FREE, HashKind, Header, Order, USED};
 
 const HEADER: Header = Header {
     order: Order::Little,
@@ -24,7 +24,7 @@ const HEADER: Header = Header {
 const HASH: u32 = 0x094A_72E9;
 
 // The key "a" with the value "1" at 4064, and a free record in front of it.
-const STORED: [(usize, u32); 14] = [
+const STORED: [Word; 14] = [
     (168, 696),
     (200, 4064),
     (696, 0),
@@ -42,7 +42,7 @@ const STORED: [(usize, u32); 14] = [
 ];
 
 // It was deleted while a cursor stood on it, and the value "2" was stored at 4032.
-const KILLED: [(usize, u32); 12] = [
+const KILLED: [Word; 12] = [
     (200, 4032),
     (700, 3312),
     (4028, 3336),
@@ -59,7 +59,7 @@ const KILLED: [(usize, u32); 12] = [
 
 // The words that a purge changes: the next word of the record at 4032, the head of the free list, and the header of the
 // free record.
-const PURGED: [(usize, u32); 7] = [
+const PURGED: [Word; 7] = [
     (4032, 0),
     (168, 4064),
     (4064, 696),
@@ -83,40 +83,21 @@ const PURGING: [Kinds; 3] = [(WRITE, None, READ), (WRITE, WRITE, READ), NOTHING]
 
 const READING: [Kinds; 2] = [(READ, None, READ), NOTHING];
 
-// The same where the first turn finds a fault, and where the third does.
-const STANDING: [Kinds; 1] = [(None, None, READ)];
-
-const FAULTY: [Kinds; 3] = [
-    (WRITE, None, READ),
-    (WRITE, WRITE, READ),
-    (WRITE, WRITE, READ),
-];
-
-// The last turn of a command, what is held after each of its turns, and the key of a pair that it has shown.
+// The last turn of a command, and what is held after each of its turns.
 #[derive(Drop)]
 struct Told {
     end: Result<Turn, Io>,
     kinds: Vec<Kinds>,
-    shown: Bytes,
 }
 
-fn put_words(image: &mut [u8], words: &[(usize, u32)]) {
-    for (at, word) in words {
-        if *at <= image.len() && image.len() - *at >= 4 {
-            image[*at..*at + 4].copy_from_slice(&word_bytes(*word, Order::Little));
-        }
-    }
+fn stored(alloc: Global) -> Result<MemDisk, AllocError> {
+    MemDisk::new(alloc, &file_of(alloc, 4096, Order::Little, &STORED, &[])?)
 }
 
-fn stored(alloc: Global) -> Result<Vec<u8>, AllocError> {
-    let mut image = vec![in alloc; 0u8; 4096]?;
-    put_words(&mut image, &STORED);
-    Ok(image)
-}
-
-fn killed(alloc: Global) -> Result<Vec<u8>, AllocError> {
-    let mut image = stored(alloc)?;
-    put_words(&mut image, &KILLED);
+/// The file in which the record is dead, with other words at some places.
+fn killed(alloc: Global, words: &[Word]) -> Result<Vec<u8>, AllocError> {
+    let mut image = file_of(alloc, 4096, Order::Little, &STORED, &KILLED)?;
+    put_words(&mut image, Order::Little, words);
     Ok(image)
 }
 
@@ -130,7 +111,7 @@ fn take_turns(
     stood_on: &Spots,
     goal: Goal,
     read_only: bool,
-) -> Result<Told, Fail>
+) -> Result<Told, AllocError>
     requires words { HoldsWords nothing_held 1 locks.old }
     ensures words { HoldsWords nothing_held 1 locks.new }
 {
@@ -152,14 +133,10 @@ fn take_turns(
             break;
         }
     }
-    Ok(Told { end, kinds, shown })
+    Ok(Told { end, kinds })
 }
 
-fn pair(alloc: Global, value: &[u8]) -> Result<Turn, AllocError> {
-    Ok(Turn::Done(Reply::Pair(Bytes::copy(alloc, b"a")?, Bytes::copy(alloc, value)?)))
-}
-
-// A cursor comes to the record at 4064, and the next command of its opener is done where the record is dead.
+/// A cursor comes to the record at 4064, and the next command of its opener is done where the record is dead.
 fn leave_killed(
     alloc: Global,
     disk: &mut MemDisk,
@@ -167,9 +144,9 @@ fn leave_killed(
     stood_on: &Spots,
     goal: Goal,
     read_only: bool,
-) -> Result<Told, Fail> {
+) -> Result<Told, AllocError> {
     let mut locks = Locks::new(alloc);
-    let mut before = MemDisk::new(alloc, &stored(alloc)?)?;
+    let mut before = stored(alloc)?;
     take_turns(
         alloc,
         &HEADER,
@@ -185,143 +162,221 @@ fn leave_killed(
     )
 }
 
-// Next, with its locks, finds no record behind the dead one, and purges it. First begins anew.
-#[test]
-fn purges_the_record_that_it_leaves(rt: HostRuntime) -> Result<(), Fail> {
-    let alloc = rt.alloc();
-    let mut want = killed(alloc)?;
-    put_words(&mut want, &PURGED);
-    let alone = Spots::new(alloc);
-    for (goal, reply, spot) in [
-        (Goal::Next, Turn::Done(Reply::End), None),
-        (Goal::Leave, Turn::Done(Reply::Ok), None),
-        (Goal::First, pair(alloc, b"2")?, Some(4032)),
-    ] {
-        let mut disk = MemDisk::new(alloc, &killed(alloc)?)?;
-        let mut cursor = Cursor::new();
-        let told = leave_killed(alloc, &mut disk, &mut cursor, &alone, goal, false)?;
-        assert_eq!(rt; told.kinds.as_slice(), PURGING.as_slice(), "{goal:?}");
-        assert_eq!(rt; told.end, Ok(reply), "{goal:?}");
-        assert!(rt; disk.as_slice() == want.as_slice(), "{goal:?}");
-        assert_eq!(rt; cursor.spot(), spot, "{goal:?}");
-    }
-    Ok(())
+/// What the last turn of a command is to reply.
+#[derive(Clone, Copy)]
+enum Want {
+    End,
+    Done,
+    /// The pair of "a" and "2".
+    Pair,
 }
 
-// Another cursor stands on the record, or the file is opened for reading alone.
-#[test]
-fn leaves_the_record_in_its_chain(rt: HostRuntime) -> Result<(), Fail> {
-    let alloc = rt.alloc();
-    let want = killed(alloc)?;
-    for read_only in [false, true] {
-        let mut stood_on = Spots::new(alloc);
-        if !read_only {
-            stood_on.push(4064)?;
+fn is_wanted(end: &Result<Turn, Io>, want: Want) -> bool {
+    match (end, want) {
+        (Ok(Turn::Done(Reply::End)), Want::End) | (Ok(Turn::Done(Reply::Ok)), Want::Done) => true,
+        (Ok(Turn::Done(Reply::Pair(key, value))), Want::Pair) => {
+            key.as_slice() == b"a".as_slice() && value.as_slice() == b"2".as_slice()
         }
-        let mut disk = MemDisk::new(alloc, &want)?;
-        let mut cursor = Cursor::new();
-        let told = leave_killed(
-            alloc,
-            &mut disk,
-            &mut cursor,
-            &stood_on,
-            Goal::Next,
-            read_only,
-        )?;
-        assert_eq!(rt; told.kinds.as_slice(), READING.as_slice(), "{read_only}");
-        assert_eq!(rt; told.end, Ok(Turn::Done(Reply::End)), "{read_only}");
-        assert!(rt; disk.as_slice() == want.as_slice(), "{read_only}");
+        _ => false,
     }
-    Ok(())
 }
 
-// Each call of a Next that purges fails in turn: the one read of its first turn, or one of the calls of its third. The
-// cursor stands where it stood.
-#[test]
-fn hands_each_fault_on(rt: HostRuntime) -> Result<(), Fail> {
-    let alloc = rt.alloc();
-    let alone = Spots::new(alloc);
-    for (call, first, count) in [
-        (Call::Read, 1, 9),
-        (Call::WriteWord, 0, 2),
-        (Call::Write, 0, 2),
-    ] {
-        for nth in 0..count {
-            let mut disk = MemDisk::new(alloc, &killed(alloc)?)?;
-            disk.fail(call, nth)?;
-            let mut cursor = Cursor::new();
-            let told = leave_killed(alloc, &mut disk, &mut cursor, &alone, Goal::Next, false)?;
-            let turns = if nth < first { 1 } else { 3 };
-            assert_eq!(rt; told.end, Err(Io), "at {nth} of {call:?}");
-            assert_eq!(rt; cursor.spot(), Some(4064), "at {nth} of {call:?}");
-            assert_eq!(rt; told.kinds.len(), turns, "at {nth} of {call:?}");
-        }
-    }
-    Ok(())
-}
-
-// The record on which a cursor stands after a goal, and how many pieces of locks are held then.
-fn stands(
-    alloc: Global,
-    disk: &mut MemDisk,
-    locks: &mut Locks,
-    cursor: &mut Cursor,
+/// A command of an opener whose cursor stands on the dead record, where another one may stand on it too, and the file
+/// may be opened for reading alone. What is replied, what is held after each turn, the words that change, and where
+/// the cursor stands then.
+struct Leave {
     goal: Goal,
-) -> Result<(Option<u32>, u32), Fail>
-    requires words { HoldsWords nothing_held 1 locks.old }
-    ensures words { HoldsWords nothing_held 1 locks.new }
-{
+    stood: bool,
+    read_only: bool,
+    reply: Want,
+    kinds: &'static [Kinds],
+    words: &'static [Word],
+    spot: Option<u32>,
+}
+
+/// Next, with its locks, finds no record behind the dead one, and purges it.
+const NEXT: Leave = Leave {
+    goal: Goal::Next,
+    stood: false,
+    read_only: false,
+    reply: Want::End,
+    kinds: &PURGING,
+    words: &PURGED,
+    spot: None,
+};
+
+static LEAVES: [(&'static str, Leave); 5] = [
+    ("next", NEXT),
+    (
+        "leave",
+        Leave {
+            goal: Goal::Leave,
+            reply: Want::Done,
+            ..NEXT
+        },
+    ),
+    (
+        "first, which begins anew",
+        Leave {
+            goal: Goal::First,
+            reply: Want::Pair,
+            spot: Some(4032),
+            ..NEXT
+        },
+    ),
+    (
+        "next from a record on which another cursor stands",
+        Leave {
+            stood: true,
+            kinds: &READING,
+            words: &[],
+            ..NEXT
+        },
+    ),
+    (
+        "next in a file opened for reading alone",
+        Leave {
+            read_only: true,
+            kinds: &READING,
+            words: &[],
+            ..NEXT
+        },
+    ),
+];
+
+/// Whether a command goes so.
+fn leave_holds(alloc: Global, row: &Leave) -> Result<bool, AllocError> {
+    let mut stood_on = Spots::new(alloc);
+    if row.stood {
+        stood_on.push(4064)?;
+    }
+    let mut disk = MemDisk::new(alloc, &killed(alloc, &[])?)?;
+    let mut cursor = Cursor::new();
+    let told = leave_killed(
+        alloc,
+        &mut disk,
+        &mut cursor,
+        &stood_on,
+        row.goal,
+        row.read_only,
+    )?;
+    Ok(
+        told.kinds.as_slice() == row.kinds
+            && is_wanted(&told.end, row.reply)
+            && disk.as_slice() == killed(alloc, row.words)?.as_slice()
+            && cursor.spot() == row.spot,
+    )
+}
+
+/// The first command that doesn't go so.
+pub(crate) fn failing_leave(alloc: Global) -> Result<Option<&'static str>, AllocError> {
+    for (name, row) in &LEAVES {
+        if !leave_holds(alloc, row)? {
+            return Ok(Some(*name));
+        }
+    }
+    Ok(None)
+}
+
+/// Calls of a Next that purges: how many of them are made in its first turn, and how many in all. The others are made
+/// in its third turn.
+type Fault = (Call, u64, u64);
+
+static FAULTS: [(&'static str, Fault); 3] = [
+    ("reads", (Call::Read, 1, 9)),
+    ("words", (Call::WriteWord, 0, 2)),
+    ("writes", (Call::Write, 0, 2)),
+];
+
+/// Whether each of the calls ends the Next in its turn where it fails, and the cursor stands where it stood.
+fn fault_holds(alloc: Global, row: &Fault) -> Result<bool, AllocError> {
+    let (call, first, count) = *row;
     let alone = Spots::new(alloc);
-    take_turns(alloc, &SMALL, disk, locks, cursor, &alone, goal, false)?;
-    Ok((cursor.spot(), locks.piece_count()))
+    for nth in 0..count {
+        let mut disk = MemDisk::new(alloc, &killed(alloc, &[])?)?;
+        disk.fail(call, nth)?;
+        let mut cursor = Cursor::new();
+        let told = leave_killed(alloc, &mut disk, &mut cursor, &alone, Goal::Next, false)?;
+        let turns = if nth < first { 1 } else { 3 };
+        if told.end != Err(Io) || cursor.spot() != Some(4064) || told.kinds.len() != turns {
+            return Ok(false);
+        }
+    }
+    Ok(true)
 }
 
-// A cursor holds the byte of its record alone, and nothing past the end and after a leave, from where First begins anew.
-#[test]
-fn walks_through_three_records(rt: HostRuntime) -> Result<(), Fail> {
-    let alloc = rt.alloc();
-    let mut disk = small_file(alloc)?;
-    let (mut locks, mut cursor) = (Locks::new(alloc), Cursor::new());
-    let first = stands(alloc, &mut disk, &mut locks, &mut cursor, Goal::First)?;
-    let same = stands(alloc, &mut disk, &mut locks, &mut cursor, Goal::First)?;
-    let second = stands(alloc, &mut disk, &mut locks, &mut cursor, Goal::Next)?;
-    let third = stands(alloc, &mut disk, &mut locks, &mut cursor, Goal::Next)?;
-    let end = stands(alloc, &mut disk, &mut locks, &mut cursor, Goal::Next)?;
-    let again = stands(alloc, &mut disk, &mut locks, &mut cursor, Goal::First)?;
-    let left = stands(alloc, &mut disk, &mut locks, &mut cursor, Goal::Leave)?;
-    let anew = stands(alloc, &mut disk, &mut locks, &mut cursor, Goal::First)?;
-    assert_eq!(rt;
-        [first, same, second, third, end, again, left, anew],
-        [
-            (Some(728), 1),
-            (Some(728), 1),
-            (Some(760), 1),
-            (Some(792), 1),
-            (None, 0),
-            (Some(728), 1),
-            (None, 0),
-            (Some(728), 1)
-        ]
-    );
-    Ok(())
+/// The first calls that don't end a Next where they fail.
+pub(crate) fn failing_fault(alloc: Global) -> Result<Option<&'static str>, AllocError> {
+    for (name, row) in &FAULTS {
+        if !fault_holds(alloc, row)? {
+            return Ok(Some(*name));
+        }
+    }
+    Ok(None)
 }
 
-// Another process writes the key "c" over the "b" of chain 70, where the stock library files it in chain 2: the walk ends
-// there.
-#[test]
-fn ends_at_a_key_of_another_chain(rt: HostRuntime) -> Result<(), Fail> {
-    let alloc = rt.alloc();
-    let mut disk = small_file(alloc)?;
-    let mut image = small_image(alloc)?;
-    put_word(&mut image, 816, 0x6342_4242);
-    let mut written = MemDisk::new(alloc, &image)?;
+/// A goal of a cursor, whether another process has written over the key "b" before it, the record on which the cursor
+/// stands after it, and how many pieces of locks are held then.
+type Goals = &'static [(Goal, bool, Option<u32>, u32)];
+
+static WALKS: [(&'static str, Goals); 2] = [
+    // A cursor holds the byte of its record alone, and nothing past the end and after a leave, from where First begins
+    // anew.
+    (
+        "three records",
+        &[
+            (Goal::First, false, Some(728), 1),
+            (Goal::First, false, Some(728), 1),
+            (Goal::Next, false, Some(760), 1),
+            (Goal::Next, false, Some(792), 1),
+            (Goal::Next, false, None, 0),
+            (Goal::First, false, Some(728), 1),
+            (Goal::Leave, false, None, 0),
+            (Goal::First, false, Some(728), 1),
+        ],
+    ),
+    // The key that is written is "c", which the stock library files in chain 2: the walk ends there.
+    (
+        "a key of another chain",
+        &[
+            (Goal::First, false, Some(728), 1),
+            (Goal::Next, false, Some(760), 1),
+            (Goal::Next, true, None, 0),
+        ],
+    ),
+];
+
+/// Whether a cursor goes so through the small file.
+fn walk_holds(alloc: Global, goals: Goals) -> Result<bool, AllocError> {
+    let mut disk = MemDisk::new(alloc, &small_image(alloc, &[])?)?;
+    let mut written = MemDisk::new(alloc, &small_image(alloc, &[(816, 0x6342_4242)])?)?;
+    let alone = Spots::new(alloc);
     let (mut locks, mut cursor) = (Locks::new(alloc), Cursor::new());
-    let first = stands(alloc, &mut disk, &mut locks, &mut cursor, Goal::First)?;
-    let second = stands(alloc, &mut disk, &mut locks, &mut cursor, Goal::Next)?;
-    let end = stands(alloc, &mut written, &mut locks, &mut cursor, Goal::Next)?;
-    assert_eq!(rt;
-        [first, second, end],
-        [(Some(728), 1), (Some(760), 1), (None, 0)]
-    );
-    Ok(())
+    for (goal, writes, spot, pieces) in goals {
+        let now = if *writes { &mut written } else { &mut disk };
+        take_turns(
+            alloc,
+            &SMALL,
+            now,
+            &mut locks,
+            &mut cursor,
+            &alone,
+            *goal,
+            false,
+        )?;
+        if cursor.spot() != *spot || locks.piece_count() != *pieces {
+            return Ok(false);
+        }
+    }
+    Ok(true)
+}
+
+/// The first walk that doesn't go so.
+pub(crate) fn failing_walk(alloc: Global) -> Result<Option<&'static str>, AllocError> {
+    for (name, goals) in &WALKS {
+        if !walk_holds(alloc, *goals)? {
+            return Ok(Some(*name));
+        }
+    }
+    Ok(None)
 }

@@ -2,6 +2,10 @@
 #![tactic(auto)]
 
 #[cfg(test)]
+mod all;
+#[cfg(test)]
 mod cursors;
+#[cfg(test)]
+mod files;
 #[cfg(test)]
 mod moves;
