@@ -1,5 +1,5 @@
-//! A small file in memory, and commands inside a transaction on it.
-ghost use Rattle.std.specs.Prelude.{ℕ, IfOk, IfSome};
+//! A small file in memory, a transaction on it, and the commands of tests.
+ghost use Rattle.std.specs.Prelude.{IfOk, IfSome};
 ghost use Rattle.tdb_disk.specs.MemDisk.{memory_size};
 ghost use Rattle.tdb_steps.specs.Machines.{IsShort};
 ghost use Rattle.tdb_inside_tests.specs.Ready.{IsReady};
@@ -7,7 +7,7 @@ ghost use Rattle.tdb_inside_tests.specs.Ready.{IsReady};
 use std::alloc::{AllocError, Global};
 use tdb_disk::MemDisk;
 use tdb_inside::OwnTxn;
-use tdb_locks::{Reply, Spots};
+use tdb_locks::Reply;
 use tdb_space::Io;
 use tdb_steps::{Flag, Plain};
 use tdb_txn::Txn;
@@ -55,7 +55,7 @@ pub(crate) fn bytes() -> [u8; 4096] {
 
 /// A transaction on the file that has just begun.
 pub(crate) fn begin(alloc: Global, disk: &mut MemDisk, numbered: bool) -> Option<OwnTxn>
-    ensures { IfSome result (λ own. IsReady own (memory_size disk.new) 0) }
+    ensures { IfSome result (λ own. IsReady own (memory_size disk.new)) }
 {
     let txn = Txn::start(alloc, disk, &HEADER).ok()?;
     if txn.length() > LIMIT {
@@ -64,8 +64,8 @@ pub(crate) fn begin(alloc: Global, disk: &mut MemDisk, numbered: bool) -> Option
     Some(OwnTxn::new(txn, numbered))
 }
 
-/// A plain command by its words: a key of one byte, and a value of one byte.
-#[derive(Clone, Copy, Debug)]
+/// A plain command by its words: a key of one byte, and a value of one byte where nothing else is said.
+#[derive(Clone, Copy)]
 pub(crate) enum Word {
     Fetch(u8),
     Has(u8),
@@ -73,6 +73,8 @@ pub(crate) enum Word {
     Append(u8, u8),
     Delete(u8),
     Wipe,
+    /// A store of a value of 5000 bytes.
+    StoreLong(u8),
 }
 
 /// The command of a word.
@@ -99,12 +101,19 @@ pub(crate) fn command(alloc: Global, word: Word) -> Result<Plain, AllocError>
             key: Bytes::copy(alloc, &[key])?,
         }),
         Word::Wipe => Ok(Plain::Wipe),
+        Word::StoreLong(key) => Ok(Plain::Store {
+            key: Bytes::copy(alloc, &[key])?,
+            value: Bytes::copy(alloc, &[b'x'; 5000])?,
+            flag: Flag::Replace,
+        }),
     }
 }
 
-/// What is told of a reply: a word for it, and two numbers: of a value its first byte and its length, of a pair the
-/// first bytes of its key and its value.
+/// What is told of a step: a word for its reply, and two numbers: of a value its first byte and its length, of a pair
+/// the first bytes of its key and its value.
 pub(crate) type Told = (&'static str, u64, u64);
+
+pub(crate) const OK: Told = ("ok", 0, 0);
 
 /// The first byte, and 0 where there is none.
 fn first(bytes: &Bytes) -> u64 {
@@ -117,7 +126,7 @@ fn first(bytes: &Bytes) -> u64 {
 /// What is told of an answer.
 pub(crate) fn told(answer: &Result<Reply, Io>) -> Told {
     match answer {
-        Ok(Reply::Ok) => ("ok", 0, 0),
+        Ok(Reply::Ok) => OK,
         Ok(Reply::Value(value)) => ("value", first(value), value.as_slice().len() as u64),
         Ok(Reply::Pair(key, value)) => ("pair", first(key), first(value)),
         Ok(Reply::End) => ("end", 0, 0),
@@ -133,34 +142,4 @@ pub(crate) fn told(answer: &Result<Reply, Io>) -> Told {
         Ok(_) => ("other", 0, 0),
         Err(_) => ("io", 0, 0),
     }
-}
-
-/// Does a command in the transaction, where the opener's cursor stands on one of these records, and tells its
-/// answer.
-pub(crate) fn play_beside(
-    alloc: Global,
-    own: &mut OwnTxn,
-    disk: &mut MemDisk,
-    word: Word,
-    stood_on: &Spots,
-) -> Result<Told, AllocError>
-    requires ready { (deep : ℕ) × IsReady own.old (memory_size disk.old) deep }
-    ensures ready { (deep : ℕ) → IsReady own.old (memory_size disk.old) deep → IsReady own.new (memory_size disk.new) deep }
-{
-    let command = command(alloc, word)?;
-    Ok(told(&own.run(alloc, disk, &HEADER, command, stood_on, LIMIT)))
-}
-
-/// Does a command in the transaction, and tells its answer. No cursor stands on a record.
-pub(crate) fn play(
-    alloc: Global,
-    own: &mut OwnTxn,
-    disk: &mut MemDisk,
-    word: Word,
-) -> Result<Told, AllocError>
-    requires ready { (deep : ℕ) × IsReady own.old (memory_size disk.old) deep }
-    ensures ready { (deep : ℕ) → IsReady own.old (memory_size disk.old) deep → IsReady own.new (memory_size disk.new) deep }
-{
-    let stood_on = Spots::new(alloc);
-    play_beside(alloc, own, disk, word, &stood_on)
 }

@@ -2,10 +2,12 @@
 #![tactic(auto)]
 
 #[cfg(test)]
+mod all;
+#[cfg(test)]
+mod cases;
+#[cfg(test)]
 mod commands;
 #[cfg(test)]
-mod nesting;
+mod counting;
 #[cfg(test)]
-mod replies;
-#[cfg(test)]
-mod walks;
+mod steps;
