@@ -1,4 +1,4 @@
-//! A small file in memory, and a transaction that changes it.
+// A small file in memory, and a transaction that changes it.
 ghost use Rattle.std.specs.Prelude.{◌≡◌, IsTrue, IfSome};
 ghost use Rattle.tdb_disk.specs.MemDisk.{memory_size};
 ghost use Rattle.tdb_commit.specs.Prepares.{MayPlan};

@@ -1,4 +1,4 @@
-//! Commits and prepares over a small file in memory, turn by turn: the locks, the syncs and the length after each.
+// Commits over a small file in memory, turn by turn: the locks, the syncs and the length after each.
 ghost use Rattle.std.specs.Prelude.{IfSome};
 ghost use Rattle.tdb_disk.specs.MemDisk.{memory_size};
 ghost use Rattle.tdb_commit.specs.Committings.{CommitFits};
@@ -6,7 +6,6 @@ ghost use Rattle.tdb_commit.specs.Committings.{CommitFits};
 use crate::changes::{LIMIT, changed, file, start_locks};
 use crate::kinds::kinds;
 use std::alloc::Global;
-use std::test::Fail;
 use tdb_commit::{CommitTurn, Committing};
 use tdb_disk::MemDisk;
 use tdb_locks::{Kind, Len, Locks};
@@ -14,7 +13,7 @@ use tdb_space::Io;
 
 /// What a turn led to: a word, with who is in the way and of which byte; then what opener 1 holds, how many syncs were
 /// made, and how long the file is.
-#[derive(Clone, Copy, Debug, PartialEq, Eq)]
+#[derive(Clone, Copy, PartialEq, Eq)]
 struct Row {
     word: &'static str,
     owner: u32,
@@ -85,126 +84,291 @@ fn run(commit: Committing, disk: &mut MemDisk, locks: &mut Locks, limit: u64) ->
     rows
 }
 
-/// Takes the turns of a Commit of a transaction that makes the record's value another byte, where `told` says whether a
-/// command of it changed anything. Rows that tell nothing where it isn't begun.
-fn commit(
-    alloc: Global,
-    disk: &mut MemDisk,
-    locks: &mut Locks,
+/// A row of a turn that is blocked, on the file that a Start has synced.
+const BLOCKED: Row = Row {
+    word: "blocked",
+    owner: 2,
+    byte: 0,
+    held: *b"-w--www",
+    syncs: 1,
+    len: 4096,
+};
+
+/// A row of a step on that file.
+const STEP: Row = Row {
+    word: "step",
+    owner: 0,
+    ..BLOCKED
+};
+
+/// A row of a step with the opening lock, on a file that has got an undo area.
+const LONGER: Row = Row {
+    held: *b"ww--www",
+    len: 8192,
+    ..STEP
+};
+
+/// A row of a commit that has written all of its changes.
+const DONE: Row = Row {
+    word: "done",
+    held: *b"-------",
+    syncs: 8,
+    ..LONGER
+};
+
+/// A row of a commit that ends with nothing written.
+const UNCHANGED: Row = Row {
+    word: "done",
+    held: *b"-------",
+    ..STEP
+};
+
+/// What a commit leaves of the file: another value, the file as it was, or what isn't looked at.
+#[derive(Clone, Copy)]
+enum Leaves {
+    Value(u8),
+    File,
+    Any,
+}
+
+/// A commit of a transaction that makes the record's value another byte, where `told` says whether a command of it
+/// changed anything, and `numbered` whether its changes count in the sequence number. The byte that opener 2 reads then
+/// and afterwards, if any, and how long the file may be. What some of the turns lead to, and what is left of the file.
+struct Case {
     value: u8,
     told: bool,
     numbered: bool,
+    read: Option<u32>,
     limit: u64,
-) -> [Row; 9] {
-    match changed(alloc, disk, value, limit) {
-        Some(txn) => run(Committing::new(txn, told, numbered), disk, locks, limit),
+    turns: &'static [(usize, Row)],
+    leaves: Leaves,
+}
+
+/// The nine turns of a commit that places a first undo area.
+const WHOLE: Case = Case {
+    value: b'9',
+    told: true,
+    numbered: false,
+    read: None,
+    limit: LIMIT,
+    turns: &[
+        (0, STEP),
+        (
+            1,
+            Row {
+                held: *b"ww--www",
+                ..STEP
+            },
+        ),
+        (2, Row { syncs: 4, ..LONGER }),
+        (3, Row { syncs: 5, ..LONGER }),
+        (4, Row { syncs: 6, ..LONGER }),
+        (5, Row { syncs: 6, ..LONGER }),
+        (6, Row { syncs: 7, ..LONGER }),
+        (7, Row { syncs: 8, ..LONGER }),
+        (8, DONE),
+    ],
+    leaves: Leaves::Value(b'9'),
+};
+
+/// A commit of which the file isn't looked at.
+const READ: Case = Case {
+    leaves: Leaves::Any,
+    ..WHOLE
+};
+
+static CASES: [(&'static str, Case); 11] = [
+    ("a first undo area", WHOLE),
+    // The second turn takes the lock byte of the sequence number too, and every lock is let go at the end.
+    (
+        "changes that count",
+        Case {
+            turns: &[
+                (0, STEP),
+                (
+                    1,
+                    Row {
+                        held: *b"www-www",
+                        ..STEP
+                    },
+                ),
+                (8, DONE),
+            ],
+            numbered: true,
+            ..READ
+        },
+    ),
+    // In the way of the first turn is who reads a chain or a record.
+    (
+        "who reads a chain",
+        Case {
+            read: Some(448),
+            turns: &[(
+                0,
+                Row {
+                    byte: 448,
+                    held: *b"-w--rrr",
+                    ..BLOCKED
+                },
+            )],
+            ..READ
+        },
+    ),
+    (
+        "who reads a record",
+        Case {
+            read: Some(4064),
+            turns: &[(
+                0,
+                Row {
+                    byte: 4064,
+                    held: *b"-w--rrr",
+                    ..BLOCKED
+                },
+            )],
+            ..READ
+        },
+    ),
+    // In that of the second is who opens the file, or reads the sequence number where that counts, and then nothing of
+    // the opening lock is held.
+    (
+        "who opens the file",
+        Case {
+            read: Some(0),
+            turns: &[(1, BLOCKED)],
+            ..READ
+        },
+    ),
+    (
+        "who opens the file, where changes count",
+        Case {
+            read: Some(0),
+            turns: &[(1, BLOCKED)],
+            numbered: true,
+            ..READ
+        },
+    ),
+    (
+        "who reads the sequence number",
+        Case {
+            read: Some(48),
+            turns: &[(
+                1,
+                Row {
+                    byte: 48,
+                    ..BLOCKED
+                },
+            )],
+            numbered: true,
+            ..READ
+        },
+    ),
+    (
+        "who reads the sequence number, where no change counts",
+        Case {
+            read: Some(48),
+            turns: &[(
+                1,
+                Row {
+                    held: *b"ww--www",
+                    ..STEP
+                },
+            )],
+            ..READ
+        },
+    ),
+    // A commit is done at its first turn where no command changed anything, and at its third where the file has all of
+    // it. It is full there where the undo area has no room.
+    (
+        "no change",
+        Case {
+            told: false,
+            turns: &[(0, UNCHANGED), (1, NONE)],
+            leaves: Leaves::File,
+            ..WHOLE
+        },
+    ),
+    (
+        "a value that the file has",
+        Case {
+            value: b'1',
+            turns: &[(2, UNCHANGED), (3, NONE)],
+            leaves: Leaves::File,
+            ..WHOLE
+        },
+    ),
+    (
+        "no room for the undo area",
+        Case {
+            limit: 8191,
+            turns: &[
+                (
+                    2,
+                    Row {
+                        word: "full",
+                        byte: 4096,
+                        ..UNCHANGED
+                    },
+                ),
+                (3, NONE),
+            ],
+            leaves: Leaves::File,
+            ..WHOLE
+        },
+    ),
+];
+
+/// Takes the turns of a commit. Rows that tell nothing where it isn't begun.
+fn commit(alloc: Global, disk: &mut MemDisk, locks: &mut Locks, case: &Case) -> [Row; 9] {
+    match changed(alloc, disk, case.value, case.limit) {
+        Some(txn) => {
+            let commit = Committing::new(txn, case.told, case.numbered);
+            run(commit, disk, locks, case.limit)
+        }
         None => [NONE; 9],
     }
 }
 
-/// A row without a conflict.
-fn after(word: &'static str, held: &[u8; 7], syncs: u64, len: usize) -> Row {
-    Row {
-        word,
-        owner: 0,
-        byte: 0,
-        held: *held,
-        syncs,
-        len,
+/// Whether the rows have these at their places.
+fn have(rows: &[Row], wanted: &[(usize, Row)]) -> bool {
+    for (turn, row) in wanted {
+        if rows.get(*turn) != Some(row) {
+            return false;
+        }
     }
+    true
 }
 
-// The nine turns of a commit that places a first undo area, with what opener 1 holds after each.
-#[test]
-fn turns_of_a_commit(rt: HostRuntime) -> Result<(), Fail> {
-    let alloc = rt.alloc();
-    let mut disk = file(alloc)?;
-    let mut locks = start_locks(alloc)?;
-    let rows = commit(alloc, &mut disk, &mut locks, b'9', true, false, LIMIT);
-    let want = [
-        after("step", b"-w--www", 1, 4096),
-        after("step", b"ww--www", 1, 4096),
-        after("step", b"ww--www", 4, 8192),
-        after("step", b"ww--www", 5, 8192),
-        after("step", b"ww--www", 6, 8192),
-        after("step", b"ww--www", 6, 8192),
-        after("step", b"ww--www", 7, 8192),
-        after("step", b"ww--www", 8, 8192),
-        after("done", b"-------", 8, 8192),
-    ];
-    assert_eq!(rt; rows, want);
-    assert_eq!(rt; disk.as_slice().get(4089), Some(&b'9'));
-    Ok(())
+/// Whether this is left of the file. None where memory is wanting.
+fn is_left(alloc: Global, disk: &MemDisk, leaves: Leaves) -> Option<bool> {
+    Some(match leaves {
+        Leaves::Value(value) => disk.as_slice().get(4089) == Some(&value),
+        Leaves::File => disk.as_slice() == file(alloc).ok()?.as_slice(),
+        Leaves::Any => true,
+    })
 }
 
-// Where the changes count, the second turn takes the lock byte of the sequence number too, and every lock is let go at
-// the end.
-#[test]
-fn locks_of_a_numbered_commit(rt: HostRuntime) -> Result<(), Fail> {
-    let alloc = rt.alloc();
-    let mut disk = file(alloc)?;
-    let mut locks = start_locks(alloc)?;
-    let rows = commit(alloc, &mut disk, &mut locks, b'9', true, true, LIMIT);
-    assert_eq!(rt; rows[0], after("step", b"-w--www", 1, 4096));
-    assert_eq!(rt; rows[1], after("step", b"www-www", 1, 4096));
-    assert_eq!(rt; rows[8], after("done", b"-------", 8, 8192));
-    Ok(())
-}
-
-/// A row of a turn that is blocked, on the file that a Start has synced.
-fn blocked(owner: u32, byte: u64, held: &[u8; 7]) -> Row {
-    Row {
-        word: "blocked",
-        owner,
-        byte,
-        held: *held,
-        syncs: 1,
-        len: 4096,
+/// Whether a commit goes so. None where memory is wanting, or a lock isn't free before it.
+fn case_holds(alloc: Global, case: &Case) -> Option<bool> {
+    let mut disk = file(alloc).ok()?;
+    let mut locks = start_locks(alloc).ok()?;
+    if let Some(byte) = case.read {
+        locks
+            .try_lock(2, u64::from(byte), Len::Bytes(1), Kind::Read)
+            .ok()?;
     }
+    let rows = commit(alloc, &mut disk, &mut locks, case);
+    let reads = kinds(&locks, 2).contains(&b'r');
+    let left = is_left(alloc, &disk, case.leaves)?;
+    Some(have(&rows, case.turns) && left && reads == case.read.is_some())
 }
 
-// In the way of the first turn is who reads a chain or a record; in that of the second who opens the file, or reads the
-// sequence number where that counts, and then nothing of the opening lock is held.
-#[test]
-fn blocked_commits(rt: HostRuntime) -> Result<(), Fail> {
-    let alloc = rt.alloc();
-    let rows = [
-        (448, false, 0, blocked(2, 448, b"-w--rrr")),
-        (4064, false, 0, blocked(2, 4064, b"-w--rrr")),
-        (0, false, 1, blocked(2, 0, b"-w--www")),
-        (0, true, 1, blocked(2, 0, b"-w--www")),
-        (48, true, 1, blocked(2, 48, b"-w--www")),
-        (48, false, 1, after("step", b"ww--www", 1, 4096)),
-    ];
-    for (byte, numbered, turn, want) in rows {
-        let mut disk = file(alloc)?;
-        let mut locks = start_locks(alloc)?;
-        locks.try_lock(2, byte, Len::Bytes(1), Kind::Read)?;
-        let rows = commit(alloc, &mut disk, &mut locks, b'9', true, numbered, LIMIT);
-        assert_eq!(rt; rows[turn], want);
-        assert_eq!(rt; kinds(&locks, 2).contains(&b'r'), true);
+/// The first commit that doesn't go so.
+pub(crate) fn failing_commit(alloc: Global) -> Option<&'static str> {
+    for (name, case) in &CASES {
+        if case_holds(alloc, case) != Some(true) {
+            return Some(*name);
+        }
     }
-    Ok(())
-}
-
-// A commit is done at its first turn where no command changed anything, and at its third where the file has all of it.
-// It is full there where the undo area has no room. The file stays, and nothing is held.
-#[test]
-fn commits_that_write_nothing(rt: HostRuntime) -> Result<(), Fail> {
-    let alloc = rt.alloc();
-    let rows = [
-        (b'9', false, LIMIT, 0, "done", 0),
-        (b'1', true, LIMIT, 2, "done", 0),
-        (b'9', true, 8191, 2, "full", 4096),
-    ];
-    for (value, told, limit, turn, word, need) in rows {
-        let mut disk = file(alloc)?;
-        let mut locks = start_locks(alloc)?;
-        let rows = commit(alloc, &mut disk, &mut locks, value, told, false, limit);
-        let last = rows[turn];
-        assert_eq!(rt; (last.word, last.byte, last.syncs), (word, need, 1));
-        assert_eq!(rt; (&last.held, rows[turn + 1]), (b"-------", NONE));
-        assert!(rt; disk.as_slice() == file(alloc)?.as_slice());
-    }
-    Ok(())
+    None
 }

@@ -1,4 +1,4 @@
-//! What an opener holds, as letters.
+// What an opener holds, as letters.
 
 use tdb_locks::{Kind, Locks};
 
