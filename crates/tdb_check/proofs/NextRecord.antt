@@ -7,7 +7,7 @@ use Rattle.tdb_check.specs.Seen.{own_fault}
 use Rattle.tdb_check.specs.Keys.{IsKeyed}
 
 module _ (f : Form) (j : ℕ) (img : List ℕ) (at : ℕ) (stands : is_out f img at ≡ false) (own : own_fault f (chain_number j) img at ≡ None) where
-  -- a used record without a fault of its own has its key within the image, and the hash of it
+  -- a used record without a fault of its own has its key within the image
   pub keyed_where : IsKeyed f img at
   keyed_where used =
       let a = none_parts (is_bad f (chain_number j) img at) _ _ own in
@@ -15,4 +15,4 @@ module _ (f : Form) (j : ℕ) (img : List ℕ) (at : ℕ) (stands : is_out f img
       let c = none_parts (is_misfiled f (chain_number j) img at) _ _ b.1 in
       let g = good_from f (chain_number j) img at stands a.0 b.0 in
       let filed = filed_from f img j at g.fits c.0 used in
-      record { within = omega (arith, filed.fits, g.whole.within); hashed = filed.hashed }
+      omega (arith, filed.fits, g.whole.within)

@@ -1,6 +1,6 @@
--- What is noted of records, in their order and in that of their hashes.
-use Rattle.std.proofs.Common.{◌≡◌, ◌≢◌, ℕ, zero, suc, ◌+◌, ◌<◌, Bool, true, false, List, [], ◌∷◌, ◌++◌, length, length-take, length-drop, map, take, drop, get_or, refl, sym, ◌∙◌, ap, subst, inl, inr, arith}
-use Rattle.std.specs.Prelude.{bit_xor, MatchBool, Result, IfOk, IfErr}
+-- What is noted of records, in their order and in that of their marks.
+use Rattle.std.proofs.Common.{◌≡◌, ◌≢◌, ℕ, zero, suc, ◌+◌, ◌<◌, Bool, true, false, List, [], ◌∷◌, ◌++◌, length, map, take, get_or, refl, sym, ◌∙◌, ap, subst, inl, inr, arith}
+use Rattle.std.specs.Prelude.{MatchBool, Result, IfOk, IfErr}
 use Rattle.std.specs.declared.result.Result.TheVariants.{Ok, Err}
 use Rattle.std.specs.List.{IsDistinct}
 use Rattle.std.specs.List.Sorted.{IsNonDecreasingBy, IsPermutation}
@@ -12,14 +12,13 @@ use Rattle.std.proofs.lemmas.List.Elements.{All-append}
 use Rattle.std.proofs.lemmas.List.Sorted.{IsPermutation-map, IsPermutation-sym, All-permutation}
 use Rattle.std.proofs.lemmas.Map.Keys.{IsDistinct-from_apart, apart_from_distinct, IsDistinct-IsPermutation}
 use Rattle.tdb_words.specs.declared.record.TheConstants.{USED}
-use Rattle.tdb_words.specs.Hash.{h_of}
 use Rattle.tdb_space.specs.Form.{Form}
-use Rattle.tdb_space.specs.Record.{magic_of, key_len_of, key_at}
+use Rattle.tdb_space.specs.Record.{magic_of, key_at}
 use Rattle.tdb_space.specs.Pairs.{same_key}
 use Rattle.tdb_space.specs.Accepted.{KeysDiffer}
 use Rattle.tdb_space.specs.FirstFault.{has_twin}
 use Rattle.tdb_check.specs.declared.keys.Noted.{Noted}
-use Rattle.tdb_check.specs.Keys.{noted_at, notes_of, key_of_noted, mark_of, mixed, mixed_mark, digested, digest_mark, MarksRise, IsNoted, AllNoted, NotedDiffer, TwinAt, NoTwinBefore}
+use Rattle.tdb_check.specs.Keys.{noted_at, notes_of, key_of_noted, mark_of, digested, digest_mark, MarksRise, IsNoted, AllNoted, NotedDiffer, TwinAt, NoTwinBefore}
 use Rattle.tdb_check.proofs.Walked.{keys_at, keys_used, keys_other, differ_more}
 
 -- of a used record something is noted, and of another nothing
@@ -215,9 +214,6 @@ keys_kept : (f : Form) (img : List ℕ) (g : Noted → Noted) → ((e : Noted) �
 keys_kept f img g same [] = refl
 keys_kept f img g same (e ∷ es) = λ i. same e i ∷ keys_kept f img g same es i
 
-pub differ_mixed : (f : Form) (img : List ℕ) (es : List Noted) → NotedDiffer f img (map mixed es) → NotedDiffer f img es
-differ_mixed f img es d = subst (IsDistinct same_key) (keys_kept f img mixed (λ e. refl) es) d
-
 -- marks that change no key change nothing of what is found
 twins_kept : (f : Form) (img : List ℕ) (g : Noted → Noted) → ((e : Noted) → key_of_noted f img (g e) ≡ key_of_noted f img e) → (es : List Noted) (twins : Bool)
     → MatchBool twins (NotedDiffer f img (map g es) → ⊥) (NotedDiffer f img (map g es)) → MatchBool twins (NotedDiffer f img es → ⊥) (NotedDiffer f img es)
@@ -234,13 +230,6 @@ noted_map mark mark2 f img g keeps es all k d low =
     let one : get_or (map g es) k d ≡ g (get_or es k d) = get_or-map g es k d d low2 in
     subst (IsNoted mark2 f img) (sym one) (keeps (get_or es k d) (all k d low2))
 
-key_long : (mark : List ℕ → ℕ) (f : Form) (img : List ℕ) (e : Noted) → IsNoted mark f img e → length (key_of_noted f img e) ≡ e.key_len
-key_long mark f img e h = omega (arith, length-take (key_len_of f.order img e.at) (drop (e.at + 24) img), length-drop (e.at + 24) img, h.within, h.long)
-
-pub noted_mixed : (f : Form) (img : List ℕ) (es : List Noted) → AllNoted (h_of f.hash) f img es → AllNoted (mixed_mark f) f img (map mixed es)
-noted_mixed f img = noted_map (h_of f.hash) (mixed_mark f) f img mixed
-    (λ e h. record { within = h.within; long = h.long; marked = λ i. bit_xor (h.marked i) (sym (key_long (h_of f.hash) f img e h) i) })
-
 pub noted_digested : (mark : List ℕ → ℕ) (f : Form) (img : List ℕ) (es : List Noted) → AllNoted mark f img es → AllNoted digest_mark f img (map (digested f img) es)
 noted_digested mark f img = noted_map mark digest_mark f img (digested f img) (λ e h. record { within = h.within; long = h.long; marked = refl })
 
@@ -253,7 +242,7 @@ pub err_then : {T E : Type 0} (r : Result T E) (P Q : E → Type 0) → ((e : E)
 err_then (Ok x) P Q h p = p
 err_then (Err e) P Q h p = h e p
 
--- what was found in the order of the hashes
+-- what was found in the order of the marks
 pub twins_sorted : (f : Form) (img : List ℕ) (es sorted : List Noted) (twins : Bool) → IsPermutation es sorted → MatchBool twins (NotedDiffer f img sorted → ⊥) (NotedDiffer f img sorted) → MatchBool twins (NotedDiffer f img es → ⊥) (NotedDiffer f img es)
 twins_sorted f img es sorted true p again = λ differ. again (differ_sorted f img es sorted p differ)
 twins_sorted f img es sorted false p differ = differ_sorted f img sorted es (IsPermutation-sym es sorted p) differ
@@ -262,16 +251,21 @@ pub differ_none : (f : Form) (img : List ℕ) → NotedDiffer f img []
 unfolding IsDistinct
 differ_none f img = tt
 
--- records in the order of other marks
+-- records in the order of their marks
 shuffled : (copied want sorted seen : List Noted) → copied ≡ want → IsPermutation copied sorted → seen ≡ sorted → IsPermutation want seen
 shuffled copied want sorted seen part same value = subst (IsPermutation want) (sym value) (subst (λ es. IsPermutation es sorted) part same)
 
-pub mixed_apart : (f : Form) (img : List ℕ) (es copied sorted seen : List Noted) → copied ≡ map mixed es → IsPermutation copied sorted → seen ≡ sorted → IsNonDecreasingBy mark_of sorted → AllNoted (h_of f.hash) f img es → MarksRise seen (length seen) → NotedDiffer f img es
-mixed_apart f img es copied sorted seen part same value ordered all rise =
-    let p = shuffled copied (map mixed es) sorted seen part same value in
-    let noted : AllNoted (mixed_mark f) f img seen = All-permutation (IsNoted (mixed_mark f) f img) (map mixed es) seen p (noted_mixed f img es all) in
-    let apart : NotedDiffer f img seen = rise_differ (mixed_mark f) f img seen (record { mark = 0; key_len = 0; at = 0 }) (subst (IsNonDecreasingBy mark_of) (sym value) ordered) noted rise in
-    differ_mixed f img es (differ_sorted f img seen (map mixed es) (IsPermutation-sym (map mixed es) seen p) apart)
+pub copied_noted : (mark : List ℕ → ℕ) (f : Form) (img : List ℕ) (es copied sorted seen : List Noted) → copied ≡ es → IsPermutation copied sorted → seen ≡ sorted → AllNoted mark f img es → AllNoted mark f img seen
+copied_noted mark f img es copied sorted seen part same value all = All-permutation (IsNoted mark f img) es seen (shuffled copied es sorted seen part same value) all
+
+pub copied_apart : (mark : List ℕ → ℕ) (f : Form) (img : List ℕ) (es copied sorted seen : List Noted) → copied ≡ es → IsPermutation copied sorted → seen ≡ sorted → IsNonDecreasingBy mark_of sorted → AllNoted mark f img es → MarksRise seen (length seen) → NotedDiffer f img es
+copied_apart mark f img es copied sorted seen part same value ordered all rise =
+    let noted = copied_noted mark f img es copied sorted seen part same value all in
+    let apart : NotedDiffer f img seen = rise_differ mark f img seen (record { mark = 0; key_len = 0; at = 0 }) (subst (IsNonDecreasingBy mark_of) (sym value) ordered) noted rise in
+    differ_sorted f img seen es (IsPermutation-sym es seen (shuffled copied es sorted seen part same value)) apart
+
+pub copied_twins : (f : Form) (img : List ℕ) (es copied sorted seen : List Noted) (twins : Bool) → copied ≡ es → IsPermutation copied sorted → seen ≡ sorted → MatchBool twins (NotedDiffer f img seen → ⊥) (NotedDiffer f img seen) → MatchBool twins (NotedDiffer f img es → ⊥) (NotedDiffer f img es)
+copied_twins f img es copied sorted seen twins part same value found = twins_sorted f img es seen twins (shuffled copied es sorted seen part same value) found
 
 pub digest_noted : (mark : List ℕ → ℕ) (f : Form) (img : List ℕ) (es copied sorted seen : List Noted) → copied ≡ map (digested f img) es → IsPermutation copied sorted → seen ≡ sorted → AllNoted mark f img es → AllNoted digest_mark f img seen
 digest_noted mark f img es copied sorted seen part same value all =
@@ -280,15 +274,3 @@ digest_noted mark f img es copied sorted seen part same value all =
 pub digest_twins : (f : Form) (img : List ℕ) (es copied sorted seen : List Noted) (twins : Bool) → copied ≡ map (digested f img) es → IsPermutation copied sorted → seen ≡ sorted → MatchBool twins (NotedDiffer f img seen → ⊥) (NotedDiffer f img seen) → MatchBool twins (NotedDiffer f img es → ⊥) (NotedDiffer f img es)
 digest_twins f img es copied sorted seen twins part same value found =
     twins_digested f img es twins (twins_sorted f img (map (digested f img) es) seen twins (shuffled copied (map (digested f img) es) sorted seen part same value) found)
-
--- where the marks are those of the hashes and lengths, what was found in their order
-pub mixed_noted : (f : Form) (img : List ℕ) (es copied sorted seen : List Noted) → copied ≡ map mixed es → IsPermutation copied sorted → seen ≡ sorted → AllNoted (h_of f.hash) f img es → AllNoted (mixed_mark f) f img seen
-mixed_noted f img es copied sorted seen part same value all =
-    All-permutation (IsNoted (mixed_mark f) f img) (map mixed es) seen (shuffled copied (map mixed es) sorted seen part same value) (noted_mixed f img es all)
-
-twins_mixed : (f : Form) (img : List ℕ) (es : List Noted) (twins : Bool) → MatchBool twins (NotedDiffer f img (map mixed es) → ⊥) (NotedDiffer f img (map mixed es)) → MatchBool twins (NotedDiffer f img es → ⊥) (NotedDiffer f img es)
-twins_mixed f img = twins_kept f img mixed (λ e. refl)
-
-pub mixed_twins : (f : Form) (img : List ℕ) (es copied sorted seen : List Noted) (twins : Bool) → copied ≡ map mixed es → IsPermutation copied sorted → seen ≡ sorted → MatchBool twins (NotedDiffer f img seen → ⊥) (NotedDiffer f img seen) → MatchBool twins (NotedDiffer f img es → ⊥) (NotedDiffer f img es)
-mixed_twins f img es copied sorted seen twins part same value found =
-    twins_mixed f img es twins (twins_sorted f img (map mixed es) seen twins (shuffled copied (map mixed es) sorted seen part same value) found)

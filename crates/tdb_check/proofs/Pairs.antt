@@ -8,7 +8,7 @@ use Rattle.std.proofs.lemmas.List.Sums.{sum_by-cons, sum_by-append, sum_by_push,
 use Rattle.std.proofs.lemmas.List.Sorted.{sum_by-IsPermutation}
 use Rattle.tdb_space.specs.Form.{Form}
 use Rattle.tdb_check.specs.declared.keys.Noted.{Noted}
-use Rattle.tdb_check.specs.Keys.{mark_of, mixed, digested, NoLargeGroup}
+use Rattle.tdb_check.specs.Keys.{mark_of, digested, NoLargeGroup}
 use Rattle.tdb_check.specs.Reads.{key_bytes, shared, shared_by_pairs, twin_reads}
 
 -- two records share a length where their marks and lengths are the same, and else nothing
@@ -150,15 +150,11 @@ few_pairs (e ∷ es) ordered few =
       few_pairs es (λ i j d low high. ordered (suc i) (suc j) d (omega (arith, low)) (omega (arith, high))) (λ i d low same. few (suc i) d (omega (arith, low)) (subst (λ n. mark_of (get_or es i d) ≡ mark_of (get_or (e ∷ es) n d)) (next_place i) same)),
     )
 
--- other marks leave the lengths
-key_bytes_mixed : (es : List Noted) → key_bytes (map mixed es) ≡ key_bytes es
-key_bytes_mixed [] = refl
-key_bytes_mixed (e ∷ es) = omega (arith, key_bytes_mixed es, sum_by-cons (λ (x : Noted). x.key_len) e es, sum_by-cons (λ (x : Noted). x.key_len) (mixed e) (map mixed es))
-
-pub few_reads : (f : Form) (img : List ℕ) (es copied sorted seen : List Noted) → copied ≡ map mixed es → IsPermutation copied sorted → seen ≡ sorted → IsNonDecreasingBy mark_of sorted → NoLargeGroup seen (length seen) → 2 * shared_by_pairs seen ≤ twin_reads f img es
+-- in the order of the marks
+pub few_reads : (f : Form) (img : List ℕ) (es copied sorted seen : List Noted) → copied ≡ es → IsPermutation copied sorted → seen ≡ sorted → IsNonDecreasingBy mark_of sorted → NoLargeGroup seen (length seen) → 2 * shared_by_pairs seen ≤ twin_reads f img es
 few_reads f img es copied sorted seen part same value ordered few =
-    let p : IsPermutation (map mixed es) seen = subst (IsPermutation (map mixed es)) (sym value) (subst (λ fs. IsPermutation fs sorted) part same) in
-    omega (arith, few_pairs seen (subst (IsNonDecreasingBy mark_of) (sym value) ordered) few, key_bytes_shuffled (map mixed es) seen p, key_bytes_mixed es)
+    let p : IsPermutation es seen = subst (IsPermutation es) (sym value) (subst (λ fs. IsPermutation fs sorted) part same) in
+    omega (arith, few_pairs seen (subst (IsNonDecreasingBy mark_of) (sym value) ordered) few, key_bytes_shuffled es seen p)
 
 pub digest_reads : (f : Form) (img : List ℕ) (es copied sorted seen : List Noted) → copied ≡ map (digested f img) es → IsPermutation copied sorted → seen ≡ sorted → shared_by_pairs seen ≡ shared_by_pairs (map (digested f img) es)
 digest_reads f img es copied sorted seen part same value = ap shared_by_pairs value ∙ pairs_shuffled copied sorted same ∙ ap shared_by_pairs part

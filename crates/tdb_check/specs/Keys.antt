@@ -1,31 +1,26 @@
 -- What is noted of the keys of one chain, and what it says of two records with one key.
-use Rattle.std.specs.Prelude.{◌≡◌, ℕ, ◌+◌, ◌<◌, ◌≤◌, ◌==◌, true, Option, Some, None, List, [], ◌∷◌, ◌++◌, length, map, slice_index_or, bit_xor, if◌then◌else◌}
+use Rattle.std.specs.Prelude.{◌≡◌, ℕ, ◌+◌, ◌<◌, ◌≤◌, ◌==◌, true, Option, Some, None, List, [], ◌∷◌, ◌++◌, length, map, slice_index_or, if◌then◌else◌}
 use Rattle.std.specs.List.{All, IsDistinct}
 use Rattle.tdb_words.specs.declared.record.TheConstants.{USED}
 use Rattle.sha2.specs.Sha256.{sha256}
 use Rattle.tdb_words.specs.declared.word.Order.TheVariants.{Little}
 use Rattle.tdb_words.specs.Word.{word}
-use Rattle.tdb_words.specs.Hash.{h_of}
+use Rattle.tdb_words.specs.Hash.{h_jenkins}
 use Rattle.tdb_space.specs.Form.{Form}
-use Rattle.tdb_space.specs.Record.{magic_of, full_hash_of, key_len_of, key_at}
+use Rattle.tdb_space.specs.Record.{magic_of, key_len_of, key_at}
 use Rattle.tdb_space.specs.Pairs.{same_key}
 use Rattle.tdb_space.specs.Accepted.{KeysDiffer}
 use Rattle.tdb_space.specs.FirstFault.{has_twin}
 use Rattle.tdb_check.specs.declared.keys.Noted.{Noted}
 use Rattle.tdb_check.specs.declared.keys.Keys.{Keys}
 
--- a used record has its key within the image, and the hash of that key
-pub record Keyed (f : Form) (img : List ℕ) (at : ℕ) : Type 0 where
-  pub within : at + 24 + key_len_of f.order img at ≤ length img
-  pub hashed : full_hash_of f.order img at ≡ h_of f.hash (key_at f.order img at)
-
--- where the record is used
+-- a record has its key within the image, where it is used
 abbrev pub IsKeyed : Form → List ℕ → ℕ → Type 0
-IsKeyed f img at = magic_of f.order img at ≡ USED → Keyed f img at
+IsKeyed f img at = magic_of f.order img at ≡ USED → at + 24 + key_len_of f.order img at ≤ length img
 
--- what is noted of a used record
+-- what is noted of a used record: Jenkins' hash of its key is its mark
 abbrev pub noted_at : Form → List ℕ → ℕ → Noted
-noted_at f img at = record { mark = full_hash_of f.order img at; key_len = key_len_of f.order img at; at = at }
+noted_at f img at = record { mark = h_jenkins (key_at f.order img at); key_len = key_len_of f.order img at; at = at }
 
 -- what is noted of the used ones among these records
 abbrev pub notes_of : Form → List ℕ → List ℕ → List Noted
@@ -47,13 +42,6 @@ pub record IsNoted (mark : List ℕ → ℕ) (f : Form) (img : List ℕ) (e : No
 
 abbrev pub AllNoted : (List ℕ → ℕ) → Form → List ℕ → List Noted → Type 0
 AllNoted mark f img = All (IsNoted mark f img)
-
--- a noted record, marked by the hash and the length of its key
-abbrev pub mixed : Noted → Noted
-mixed e = record { mark = bit_xor e.mark e.key_len; key_len = e.key_len; at = e.at }
-
-abbrev pub mixed_mark : Form → List ℕ → ℕ
-mixed_mark f key = bit_xor (h_of f.hash key) (length key)
 
 -- a noted record, marked by the first word of the digest of its key
 abbrev pub digest_mark : List ℕ → ℕ
@@ -85,7 +73,7 @@ NoTwinBefore f img es i from = (k : ℕ) (d : Noted) → from ≤ k → k < i �
 -- the used ones among these records are noted
 pub record KeptIn (f : Form) (img xs : List ℕ) (k : Keys) : Type 0 where
   pub noted : k.noted.items ≡ notes_of f img xs
-  pub all_noted : AllNoted (h_of f.hash) f img k.noted.items
+  pub all_noted : AllNoted h_jenkins f img k.noted.items
 
 -- what is found among records: that no two have one key, or the first whose key an earlier one has
 abbrev pub TwinFound : Form → List ℕ → List ℕ → Option ℕ → Type 0

@@ -8,6 +8,7 @@ pub mod Report
 pub mod Stray
 pub mod Lists
 pub mod Trail
+pub mod Hashes
 pub mod Keys
 pub mod Walked
 pub mod Notes

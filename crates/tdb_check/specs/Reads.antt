@@ -26,8 +26,8 @@ abbrev pub shared_by_pairs : List Noted → ℕ
 shared_by_pairs [] = 0
 shared_by_pairs (e ∷ es) = sum_by (shared e) es + shared_by_pairs es
 
--- To find out whether two noted records have one key. Where few have one hash and one length, each key is read 14 times at most;
--- else once for its digest, and both keys of each two that have one length and one first word of their digests.
+-- To find out whether two noted records have one key. Where few have one mark, each key is read 14 times at most; else once for
+-- its digest, and both keys of each two that have one length and one first word of their digests.
 abbrev pub twin_reads : Form → List ℕ → List Noted → ℕ
 twin_reads f img es = 15 * key_bytes es + 2 * shared_by_pairs (map (digested f img) es)
 

@@ -1,12 +1,16 @@
 -- What the types of the check stand for among the definitions of images.
-use Rattle.std.specs.Prelude.{ℕ, ◌+◌, ◌==◌, ◌%◌, ◌||◌, ◌&&◌, not, nat_lt, Bool, false, if◌then◌else◌, List, Option, Some, None}
+use Rattle.std.specs.Prelude.{◌≡◌, ℕ, ◌+◌, ◌==◌, ◌%◌, ◌||◌, ◌&&◌, not, nat_lt, Bool, false, if◌then◌else◌, List, Option, Some, None}
 use Rattle.tdb_words.specs.declared.record.Rec.{Rec}
 use Rattle.tdb_words.specs.declared.record.TheConstants.{USED}
 use Rattle.tdb_words.specs.declared.what.What.TheVariants.{BadRecord, Tailer, WrongHash}
+use Rattle.tdb_words.specs.Hash.{h_jenkins}
+use Rattle.tdb_words.specs.Record.{rec_at}
 use Rattle.tdb_space.specs.Form.{Form}
+use Rattle.tdb_space.specs.Record.{magic_of, key_at}
 use Rattle.tdb_space.specs.FirstFault.{Fault, ListKind as Kind, chain_number, free_list, has_magic, is_bad, has_wrong_tailer, is_misfiled}
 use Rattle.tdb_check.specs.declared.list_kind.ListKind.{ListKind}
 use Rattle.tdb_check.specs.declared.list_kind.ListKind.TheVariants.{Chain, Free}
+use Rattle.tdb_check.specs.declared.record.Found.{Found}
 use Rattle.tdb_check.specs.declared.refusal.CheckRefusal.{CheckRefusal}
 use Rattle.tdb_check.specs.declared.refusal.CheckRefusal.TheVariants.{Corrupt, Io, Memory}
 
@@ -28,6 +32,11 @@ own_fault f kind img at =
     else if has_wrong_tailer f img at then Some (Tailer, at)
     else if is_misfiled f kind img at then Some (WrongHash, at)
     else None
+
+-- the header of the record at an offset, and the Jenkins hash of a used one's key
+pub record FoundAt (f : Form) (img : List ℕ) (at : ℕ) (found : Found) : Type 0 where
+  pub header : found.header ≡ rec_at f.order img at
+  pub mark : magic_of f.order img at ≡ USED → found.mark ≡ h_jenkins (key_at f.order img at)
 
 -- a header makes a record bad, at this offset of a file of this length
 abbrev pub is_bad_header : Kind → Rec → ℕ → ℕ → Bool

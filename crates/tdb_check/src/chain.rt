@@ -121,14 +121,14 @@ fn pass_record<S: Space>(
             at: place,
         });
     }
-    let r = match read_record(s, len, ListKind::Chain(j), at) {
-        Ok(r) => r,
+    let found = match read_record(s, len, ListKind::Chain(j), at) {
+        Ok(found) => found,
         Err(e) => return Err(e),
     };
     notes.offsets.note(at)?;
-    notes.keys.note(at, &r)?;
-    note_dead(&mut notes.dead, at, &r)?;
-    Ok(r)
+    notes.keys.note(at, &found)?;
+    note_dead(&mut notes.dead, at, &found.header)?;
+    Ok(found.header)
 }
 
 /// How many used records a record counts for: one or none.

@@ -60,7 +60,7 @@ pub fn follow_free_list<S: Space>(
             });
         }
         let r = match read_record(s, len, ListKind::Free, at) {
-            Ok(r) => r,
+            Ok(found) => found.header,
             Err(e) => return Err(e),
         };
         met.note(at)?;

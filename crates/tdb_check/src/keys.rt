@@ -3,25 +3,25 @@
 ghost use Rattle.std.specs.Prelude.{◌≡◌, ℕ, ◌+◌, ◌*◌, None, slice_index_or, sum_by, ◌<◌, ◌≤◌, true, List, [], ◌∷◌, ◌++◌, false, map, IsTrue, length, take, IfOk, IfErr, OnOk, MatchBool};
 ghost use Rattle.tdb_disk.specs.Count.{HasCauseOf, RoseUpTo};
 ghost use Rattle.std.specs.List.Sorted.{IsNonDecreasingBy, IsPermutation};
-ghost use Rattle.tdb_words.specs.Hash.{h_of};
-ghost use Rattle.tdb_words.specs.Record.{rec_at};
+ghost use Rattle.tdb_words.specs.Hash.{h_jenkins};
 ghost use Rattle.tdb_space.specs.Form.{Form};
-ghost use Rattle.tdb_check.specs.Seen.{Names};
-ghost use Rattle.tdb_check.specs.Keys.{mark_of, notes_of, mixed, digested, MarksRise, NoLargeGroup, AllNoted, NotedDiffer, TwinAt, NoTwinBefore};
+ghost use Rattle.tdb_check.specs.Seen.{Names, FoundAt};
+ghost use Rattle.tdb_check.specs.Keys.{mark_of, notes_of, digested, MarksRise, NoLargeGroup, AllNoted, NotedDiffer, TwinAt, NoTwinBefore};
 ghost use Rattle.tdb_check.specs.Reads.{key_bytes, shared, shared_by_pairs, twin_reads};
 ghost use Rattle.tdb_space.specs.Frame.{Looked};
 ghost use Rattle.tdb_check.specs.declared.refusal.CheckRefusal.TheVariants.{Io};
 
+use crate::record::Found;
 use crate::refusal::CheckRefusal;
 use crate::same_key::{key_digest, same_key};
 use std::alloc::{AllocError, Global};
 use tdb_space::Space;
-use tdb_words::{Rec, USED};
+use tdb_words::USED;
 
 /// A used record, by what tells its key from most others.
 #[derive(Clone, Copy, Debug)]
 pub struct Noted {
-    /// A number that its key determines.
+    /// A number that its key determines: Jenkins' hash of the key, or the first word of a digest.
     pub mark: u32,
 
     /// The length of its key in bytes.
@@ -59,23 +59,23 @@ impl Keys {
         self.noted.clear();
     }
 
-    /// Notes the record of this header, where it is used. Fails only for want of memory.
-    pub fn note(&mut self, at: u32, r: &Rec) -> Result<(), AllocError>
-        ensures { OnOk result ((f : Form) (img xs : List ℕ) → KeptIn f img xs self.old → r.now ≡ rec_at f.order img at → IsKeyed f img at → KeptIn f img (xs ++ at ∷ []) self.new) }
+    /// Notes the record that was found at an offset, where it is used. Fails only for want of memory.
+    pub fn note(&mut self, at: u32, found: &Found) -> Result<(), AllocError>
+        ensures { OnOk result ((f : Form) (img xs : List ℕ) → KeptIn f img xs self.old → FoundAt f img at found.now → IsKeyed f img at → KeptIn f img (xs ++ at ∷ []) self.new) }
     {
-        if r.magic != USED {
+        if found.header.magic != USED {
             return Ok(());
         }
         self.noted.push(Noted {
-            mark: r.full_hash,
-            key_len: r.key_len,
+            mark: found.mark,
+            key_len: found.header.key_len,
             at,
         })?;
         Ok(())
     }
 
-    /// The offset of the first record whose key an earlier one has, if there is one. Keys are read only where two may have one hash
-    /// and one length: those are compared where at most eight are alike, else a digest of each key is made, and those with one digest
+    /// The offset of the first record whose key an earlier one has, if there is one. Keys are read only where two have one mark:
+    /// those of one length are compared where at most eight have it, else a digest of each key is made, and those with one digest
     /// are compared. Where no two keys are the same this is done once, and else once more for each halving of the number of records.
     /// It takes n log n steps for n records.
     pub fn first_twin<S: Space>(&mut self, s: &mut S, len: u64) -> Result<Option<u32>, CheckRefusal>
@@ -122,15 +122,15 @@ impl Keys {
         requires within { count ≤ length self.old.noted.items }
         ensures noted { self.new.noted ≡ self.old.noted }
         ensures some { IfOk result (λ twins. twins ≡ true → 0 < count) }
-        ensures twins { IfOk result (λ twins. IsTrue S.tells → length (S.image s.old) ≡ len → AllNoted (h_of (S.form s.old).hash) (S.form s.old) (S.image s.old) self.old.noted.items
+        ensures twins { IfOk result (λ twins. IsTrue S.tells → length (S.image s.old) ≡ len → AllNoted h_jenkins (S.form s.old) (S.image s.old) self.old.noted.items
             → MatchBool twins (NotedDiffer (S.form s.old) (S.image s.old) (take count self.old.noted.items) → ⊥) (NotedDiffer (S.form s.old) (S.image s.old) (take count self.old.noted.items))) }
-        ensures no_fault { IfErr result (λ e. IsTrue S.tells → length (S.image s.old) ≡ len → AllNoted (h_of (S.form s.old).hash) (S.form s.old) (S.image s.old) self.old.noted.items → Names e (λ _. ⊥)) }
+        ensures no_fault { IfErr result (λ e. IsTrue S.tells → length (S.image s.old) ≡ len → AllNoted h_jenkins (S.form s.old) (S.image s.old) self.old.noted.items → Names e (λ _. ⊥)) }
         ensures looked { Looked S.Space s.old s.new }
         ensures cause { HasCauseOf Io (S.faults s.old) (S.faults s.new) result }
-        ensures bytes_read { IsTrue S.tells → length (S.image s.old) ≡ len → AllNoted (h_of (S.form s.old).hash) (S.form s.old) (S.image s.old) self.old.noted.items
+        ensures bytes_read { IsTrue S.tells → length (S.image s.old) ≡ len → AllNoted h_jenkins (S.form s.old) (S.image s.old) self.old.noted.items
             → RoseUpTo (twin_reads (S.form s.old) (S.image s.old) (take count self.old.noted.items)) (S.bytes_read s.old) (S.bytes_read s.new) }
     {
-        copy_mixed(&self.noted[..count], &mut self.sorted)?;
+        copy_noted(&self.noted[..count], &mut self.sorted)?;
         sort_by_mark(&mut self.sorted);
         if !has_equal_marks(&self.sorted) {
             return Ok(false);
@@ -151,12 +151,12 @@ fn has_digested_twins<S: Space>(
 ) -> Result<bool, CheckRefusal>
     requires length { len ≡ S.size s.old }
     ensures some { IfOk result (λ twins. twins ≡ true → 0 < length noted.now) }
-    ensures twins { IfOk result (λ twins. IsTrue S.tells → length (S.image s.old) ≡ len → AllNoted (h_of (S.form s.old).hash) (S.form s.old) (S.image s.old) noted.now
+    ensures twins { IfOk result (λ twins. IsTrue S.tells → length (S.image s.old) ≡ len → AllNoted h_jenkins (S.form s.old) (S.image s.old) noted.now
         → MatchBool twins (NotedDiffer (S.form s.old) (S.image s.old) noted.now → ⊥) (NotedDiffer (S.form s.old) (S.image s.old) noted.now)) }
-    ensures no_fault { IfErr result (λ e. IsTrue S.tells → length (S.image s.old) ≡ len → AllNoted (h_of (S.form s.old).hash) (S.form s.old) (S.image s.old) noted.now → Names e (λ _. ⊥)) }
+    ensures no_fault { IfErr result (λ e. IsTrue S.tells → length (S.image s.old) ≡ len → AllNoted h_jenkins (S.form s.old) (S.image s.old) noted.now → Names e (λ _. ⊥)) }
     ensures looked { Looked S.Space s.old s.new }
     ensures cause { HasCauseOf Io (S.faults s.old) (S.faults s.new) result }
-    ensures bytes_read { IsTrue S.tells → length (S.image s.old) ≡ len → AllNoted (h_of (S.form s.old).hash) (S.form s.old) (S.image s.old) noted.now
+    ensures bytes_read { IsTrue S.tells → length (S.image s.old) ≡ len → AllNoted h_jenkins (S.form s.old) (S.image s.old) noted.now
         → RoseUpTo (key_bytes noted.now + 2 * shared_by_pairs (map (digested (S.form s.old) (S.image s.old)) noted.now)) (S.bytes_read s.old) (S.bytes_read s.new) }
 {
     match copy_digests(s, len, noted, sorted) {
@@ -167,19 +167,12 @@ fn has_digested_twins<S: Space>(
     any_twins(s, len, sorted)
 }
 
-/// Makes a list that of these records, each marked by the hash and the length of its key.
-fn copy_mixed(noted: &[Noted], sorted: &mut Vec<Noted>) -> Result<(), AllocError>
-    ensures { OnOk result (sorted.new.items ≡ map mixed noted.now) }
+/// Makes a list that of these records.
+fn copy_noted(noted: &[Noted], sorted: &mut Vec<Noted>) -> Result<(), AllocError>
+    ensures { OnOk result (sorted.new.items ≡ noted.now) }
 {
     sorted.clear();
-    for record in noted {
-        sorted.push(Noted {
-            mark: record.mark ^ record.key_len,
-            key_len: record.key_len,
-            at: record.at,
-        })?;
-    }
-    Ok(())
+    sorted.extend_from_slice(noted)
 }
 
 /// Puts a record at the end.

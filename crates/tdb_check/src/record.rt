@@ -3,23 +3,34 @@
 ghost use Rattle.std.specs.Prelude.{◌≡◌, ◌+◌, ◌≤◌, ◌<◌, ◌^◌, IsTrue, length, take, drop, IfOk, IfErr, None, Some, false};
 ghost use Rattle.tdb_disk.specs.Count.{HasCause, HasCauseOf, RoseUpTo};
 ghost use Rattle.tdb_words.specs.Word.{word};
-ghost use Rattle.tdb_words.specs.Hash.{h_of};
 ghost use Rattle.tdb_words.specs.Record.{rec_at};
-ghost use Rattle.tdb_check.specs.Seen.{kind_of, is_bad_header, is_misfiled_header, own_fault, Names};
+ghost use Rattle.tdb_check.specs.Hashes.{AreHashesOf};
+ghost use Rattle.tdb_check.specs.Seen.{kind_of, is_bad_header, is_misfiled_header, own_fault, Names, FoundAt};
 ghost use Rattle.tdb_check.specs.Reads.{record_reads};
 ghost use Rattle.tdb_space.specs.Frame.{Looked};
 ghost use Rattle.tdb_check.specs.declared.refusal.CheckRefusal.TheVariants.{Io as DiskFailed};
 
+use crate::hashes::{KeyHashes, KeyRun, hashes_of};
 use crate::list_kind::ListKind;
 use crate::refusal::CheckRefusal;
 use tdb_space::{Io, Space};
-use tdb_words::{HashRun, Order, Rec, USED, What, chain_of, hash_of, rec_of, word_at};
+use tdb_words::{Order, Rec, USED, What, chain_of, rec_of, word_at};
 
 /// How many bytes are read of a record at once.
 const WINDOW: usize = 128;
 
 /// How many bytes of a long key are read at once.
 const PIECE: usize = 4096;
+
+/// A record that was read.
+#[derive(Clone, Copy, Debug)]
+pub struct Found {
+    /// Its header.
+    pub header: Rec,
+
+    /// Jenkins' hash of the key, where the record is used, whatever the file's own hash is. Of another record it says nothing.
+    pub mark: u32,
+}
 
 /// Whether a header makes a record bad.
 fn is_bad(kind: ListKind, r: &Rec, at: u32, len: u64) -> bool
@@ -80,17 +91,17 @@ fn tailer_of<S: Space>(s: &mut S, at: u32, rec_len: u32, window: &[u8]) -> Resul
     Ok(word_at(&bytes, s.order()))
 }
 
-/// The hash of a key that stands at an offset, read in pieces.
-fn long_hash<S: Space>(s: &mut S, off: u64, key_len: u32) -> Result<u32, Io>
+/// The hashes of a key that stands at an offset, read in pieces.
+fn long_hashes<S: Space>(s: &mut S, off: u64, key_len: u32) -> Result<KeyHashes, Io>
     requires within { off + key_len ≤ S.size s.old }
     requires small { off + key_len < 2 ^ 64 }
-    ensures value { IfOk result (λ h. IsTrue S.tells → h ≡ h_of (S.form s.old).hash (take key_len (drop off (S.image s.old)))) }
+    ensures value { IfOk result (λ hashes. IsTrue S.tells → AreHashesOf (S.form s.old).hash (take key_len (drop off (S.image s.old))) hashes) }
     ensures looked { Looked S.Space s.old s.new }
     ensures cause { HasCause (S.faults s.old) (S.faults s.new) result }
     ensures bytes_read { RoseUpTo key_len (S.bytes_read s.old) (S.bytes_read s.new) }
 {
     let mut buf = [0u8; PIECE];
-    let mut run = HashRun::new(s.hash(), key_len);
+    let mut run = KeyRun::new(s.hash(), key_len);
     let mut done = 0;
     while done < key_len as usize {
         let count = PIECE.min(key_len as usize - done);
@@ -102,21 +113,21 @@ fn long_hash<S: Space>(s: &mut S, off: u64, key_len: u32) -> Result<u32, Io>
     Ok(run.end())
 }
 
-/// The hash of the key of a record whose first bytes were read.
-fn key_hash<S: Space>(s: &mut S, at: u32, key_len: u32, window: &[u8]) -> Result<u32, Io>
+/// The hashes of the key of a record whose first bytes were read.
+fn key_hashes<S: Space>(s: &mut S, at: u32, key_len: u32, window: &[u8]) -> Result<KeyHashes, Io>
     requires within { at + 24 + key_len ≤ S.size s.old }
     requires header { 24 ≤ length window.now }
-    ensures value { IfOk result (λ h. IsTrue S.tells → window.now ≡ take (length window.now) (drop at (S.image s.old))
-        → h ≡ h_of (S.form s.old).hash (take key_len (drop (at + 24) (S.image s.old)))) }
+    ensures value { IfOk result (λ hashes. IsTrue S.tells → window.now ≡ take (length window.now) (drop at (S.image s.old))
+        → AreHashesOf (S.form s.old).hash (take key_len (drop (at + 24) (S.image s.old))) hashes) }
     ensures looked { Looked S.Space s.old s.new }
     ensures cause { HasCause (S.faults s.old) (S.faults s.new) result }
     ensures bytes_read { RoseUpTo key_len (S.bytes_read s.old) (S.bytes_read s.new) }
 {
     let end = key_len as usize + 24;
     if end <= window.len() {
-        return Ok(hash_of(s.hash(), &window[24..end]));
+        return Ok(hashes_of(s.hash(), &window[24..end]));
     }
-    long_hash(s, at as u64 + 24, key_len)
+    long_hashes(s, at as u64 + 24, key_len)
 }
 
 /// Whether the hash of a used record isn't that of its key, or is that of another chain.
@@ -130,20 +141,20 @@ fn is_misfiled(kind: ListKind, r: &Rec, own_hash: u32, chains: u32) -> bool
     }
 }
 
-/// The header of the record at an offset where one can stand, or what is wrong with the record by itself. One read serves
-/// where header, key and tailer stand within 128 bytes.
+/// The record at an offset where one can stand, or what is wrong with it by itself. One read serves where header, key and tailer
+/// stand within 128 bytes.
 pub fn read_record<S: Space>(
     s: &mut S,
     len: u64,
     kind: ListKind,
     at: u32,
-) -> Result<Rec, CheckRefusal>
+) -> Result<Found, CheckRefusal>
     requires length { len ≡ S.size s.old }
     requires within { at + 24 ≤ len }
     requires chains { 0 < (S.form s.old).chains }
-    ensures good { IfOk result (λ r. IsTrue S.tells → length (S.image s.old) ≡ len
-        → (own_fault (S.form s.old) (kind_of kind) (S.image s.old) at ≡ None) × (r ≡ rec_at (S.form s.old).order (S.image s.old) at)) }
-    ensures fits { IfOk result (λ r. is_bad_header (kind_of kind) r at len ≡ false) }
+    ensures good { IfOk result (λ found. IsTrue S.tells → length (S.image s.old) ≡ len
+        → (own_fault (S.form s.old) (kind_of kind) (S.image s.old) at ≡ None) × FoundAt (S.form s.old) (S.image s.old) at found) }
+    ensures fits { IfOk result (λ found. is_bad_header (kind_of kind) found.header at len ≡ false) }
     ensures bad { IfErr result (λ e. IsTrue S.tells → length (S.image s.old) ≡ len
         → Names e (λ fault. own_fault (S.form s.old) (kind_of kind) (S.image s.old) at ≡ Some fault)) }
     ensures looked { Looked S.Space s.old s.new }
@@ -168,14 +179,17 @@ pub fn read_record<S: Space>(
         });
     }
     if r.magic != USED {
-        return Ok(r);
+        return Ok(Found { header: r, mark: 0 });
     }
-    let own_hash = key_hash(s, at, r.key_len, window)?;
-    if is_misfiled(kind, &r, own_hash, s.hash_size()) {
+    let hashes = key_hashes(s, at, r.key_len, window)?;
+    if is_misfiled(kind, &r, hashes.own, s.hash_size()) {
         return Err(CheckRefusal::Corrupt {
             what: What::WrongHash,
             at: at as u64,
         });
     }
-    Ok(r)
+    Ok(Found {
+        header: r,
+        mark: hashes.mark,
+    })
 }

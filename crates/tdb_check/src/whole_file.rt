@@ -26,9 +26,9 @@ use tdb_space::Space;
 /// held twice, and the least byte outside all records and the undo area that is neither 0 nor padding.
 ///
 /// It takes time n log n in the number n of records. A record costs one read where its header, key and tailer stand within 128
-/// bytes; bytes that belong to no record are read in blocks of 4096. Keys are compared only where two of a chain have one hash and
-/// one length. It keeps 8 bytes a record, and somewhat more for each record of the list that it follows, whatever its keys are. It
-/// changes nothing.
+/// bytes; bytes that belong to no record are read in blocks of 4096. Keys are read again only where two of a chain have one Jenkins
+/// hash, whatever the file's own hash is. It keeps 8 bytes a record, and somewhat more for each record of the list that it follows,
+/// whatever its keys are. It changes nothing.
 ///
 /// Of a file that it accepts it reads at most 200 bytes, 4 a chain, 132 a record, each used key 16 times, the length of the file
 /// once, and both keys of each two of one chain that have one length and one first word of their digests. Where a key comes twice

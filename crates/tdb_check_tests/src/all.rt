@@ -9,6 +9,7 @@ fn cases_of_tables(rt: HostRuntime) -> Result<(), Fail> {
     for (table, failing) in [
         ("chains", chains::failing_chains(alloc)?),
         ("long chains", chains::failing_long_chain(alloc)?),
+        ("chains of like keys", chains::failing_like_chain(alloc)?),
         ("fronts", parts::failing_front(alloc)?),
         ("overlaps", parts::failing_overlap(alloc)?),
         ("undo areas", parts::failing_area(alloc)?),

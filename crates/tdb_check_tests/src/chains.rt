@@ -6,10 +6,10 @@ use tdb_check::{Extent, follow_chains};
 use tdb_disk::MemDisk;
 use tdb_space::{Direct, Space};
 use tdb_words::What::{ChainLoop, ChainOut, TwiceKey, WrongHash};
-use tdb_words::{DEAD, Header, Order, Rec, USED, hash_old, rec_bytes, word_bytes};
+use tdb_words::{DEAD, Header, Order, Rec, USED, hash_jenkins, hash_old, rec_bytes, word_bytes};
 
 /// A record of a file: where it leads, its key, and what it is.
-type Link = (u32, [u8; 2], u32);
+type Link = (u32, [u8; 4], u32);
 
 /// The heads of a file's chains, and behind them these records of 32 bytes each. What the walk along them says, and the
 /// offsets of the extents that it puts down, where they are looked at.
@@ -24,18 +24,22 @@ struct Chains {
 const THREE: Option<&'static [u32]> = Some(&[176, 208, 240]);
 
 /// Two dead records at 180 and 212, of which the second leads to the first.
-const DEAD_LINKS: [Link; 2] = [(0, *b"aa", DEAD), (180, *b"aa", DEAD)];
+const DEAD_LINKS: [Link; 2] = [(0, *b"apah", DEAD), (180, *b"apah", DEAD)];
 
 /// A used record, whose key is filed in the first of two chains.
-const USED_LINK: [Link; 1] = [(0, *b"aa", USED)];
+const USED_LINK: [Link; 1] = [(0, *b"apah", USED)];
 
-// The keys "aa" and "Ab" have the same hash.
+// The keys "apah" and "zapu" have the same Jenkins hash.
 static CHAINS: [(&'static str, Chains); 18] = [
     (
         "three keys",
         Chains {
             heads: &[176],
-            links: &[(208, *b"aa", USED), (240, *b"cc", USED), (0, *b"bb", USED)],
+            links: &[
+                (208, *b"apah", USED),
+                (240, *b"cccc", USED),
+                (0, *b"bbbb", USED),
+            ],
             want: Ok(3),
             offsets: THREE,
         },
@@ -44,7 +48,11 @@ static CHAINS: [(&'static str, Chains); 18] = [
         "a dead record between",
         Chains {
             heads: &[176],
-            links: &[(208, *b"aa", USED), (240, *b"cc", DEAD), (0, *b"bb", USED)],
+            links: &[
+                (208, *b"apah", USED),
+                (240, *b"cccc", DEAD),
+                (0, *b"bbbb", USED),
+            ],
             want: Ok(2),
             offsets: THREE,
         },
@@ -53,16 +61,24 @@ static CHAINS: [(&'static str, Chains); 18] = [
         "a dead record of the key in front of it",
         Chains {
             heads: &[176],
-            links: &[(208, *b"aa", USED), (240, *b"aa", DEAD), (0, *b"bb", USED)],
+            links: &[
+                (208, *b"apah", USED),
+                (240, *b"apah", DEAD),
+                (0, *b"bbbb", USED),
+            ],
             want: Ok(2),
             offsets: THREE,
         },
     ),
     (
-        "two keys of one hash",
+        "two keys of one Jenkins hash",
         Chains {
             heads: &[176],
-            links: &[(208, *b"aa", USED), (240, *b"Ab", USED), (0, *b"bb", USED)],
+            links: &[
+                (208, *b"apah", USED),
+                (240, *b"zapu", USED),
+                (0, *b"bbbb", USED),
+            ],
             want: Ok(3),
             offsets: THREE,
         },
@@ -71,25 +87,37 @@ static CHAINS: [(&'static str, Chains); 18] = [
         "a key twice",
         Chains {
             heads: &[176],
-            links: &[(208, *b"aa", USED), (240, *b"cc", USED), (0, *b"aa", USED)],
+            links: &[
+                (208, *b"apah", USED),
+                (240, *b"cccc", USED),
+                (0, *b"apah", USED),
+            ],
             want: Err((TwiceKey, 240)),
             offsets: None,
         },
     ),
     (
-        "a key twice, with another of its hash between",
+        "a key twice, with another of its Jenkins hash between",
         Chains {
             heads: &[176],
-            links: &[(208, *b"aa", USED), (240, *b"Ab", USED), (0, *b"aa", USED)],
+            links: &[
+                (208, *b"apah", USED),
+                (240, *b"zapu", USED),
+                (0, *b"apah", USED),
+            ],
             want: Err((TwiceKey, 240)),
             offsets: None,
         },
     ),
     (
-        "a key twice, behind another of its hash",
+        "a key twice, behind another of its Jenkins hash",
         Chains {
             heads: &[176],
-            links: &[(208, *b"aa", USED), (240, *b"Ab", USED), (0, *b"Ab", USED)],
+            links: &[
+                (208, *b"apah", USED),
+                (240, *b"zapu", USED),
+                (0, *b"zapu", USED),
+            ],
             want: Err((TwiceKey, 240)),
             offsets: None,
         },
@@ -99,9 +127,9 @@ static CHAINS: [(&'static str, Chains); 18] = [
         Chains {
             heads: &[176],
             links: &[
-                (208, *b"aa", USED),
-                (240, *b"aa", USED),
-                (172, *b"bb", USED),
+                (208, *b"apah", USED),
+                (240, *b"apah", USED),
+                (172, *b"bbbb", USED),
             ],
             want: Err((TwiceKey, 208)),
             offsets: None,
@@ -112,22 +140,22 @@ static CHAINS: [(&'static str, Chains); 18] = [
         Chains {
             heads: &[176],
             links: &[
-                (208, *b"aa", USED),
-                (240, *b"cc", USED),
-                (208, *b"aa", USED),
+                (208, *b"apah", USED),
+                (240, *b"cccc", USED),
+                (208, *b"apah", USED),
             ],
             want: Err((TwiceKey, 240)),
             offsets: None,
         },
     ),
     (
-        "a chain that leads in front of the data, with two keys of one hash",
+        "a chain that leads in front of the data, with two keys of one Jenkins hash",
         Chains {
             heads: &[176],
             links: &[
-                (208, *b"aa", USED),
-                (240, *b"Ab", USED),
-                (172, *b"bb", USED),
+                (208, *b"apah", USED),
+                (240, *b"zapu", USED),
+                (172, *b"bbbb", USED),
             ],
             want: Err((ChainOut, 240)),
             offsets: None,
@@ -138,9 +166,9 @@ static CHAINS: [(&'static str, Chains); 18] = [
         Chains {
             heads: &[176],
             links: &[
-                (208, *b"aa", USED),
-                (240, *b"cc", USED),
-                (208, *b"bb", USED),
+                (208, *b"apah", USED),
+                (240, *b"cccc", USED),
+                (208, *b"bbbb", USED),
             ],
             want: Err((ChainLoop, 240)),
             offsets: None,
@@ -151,9 +179,9 @@ static CHAINS: [(&'static str, Chains); 18] = [
         Chains {
             heads: &[176],
             links: &[
-                (208, *b"aa", USED),
-                (240, *b"cc", USED),
-                (172, *b"bb", USED),
+                (208, *b"apah", USED),
+                (240, *b"cccc", USED),
+                (172, *b"bbbb", USED),
             ],
             want: Err((ChainOut, 240)),
             offsets: None,
@@ -226,14 +254,13 @@ fn file(alloc: Global, heads: &[u32], links: &[Link]) -> Result<Vec<u8>, AllocEr
         let r = Rec {
             next: *next,
             rec_len: 8,
-            key_len: 2,
+            key_len: 4,
             data_len: 0,
             full_hash: hash_old(key),
             magic: *magic,
         };
         bytes.extend_from_slice(&rec_bytes(&r, Order::Little))?;
         bytes.extend_from_slice(key)?;
-        bytes.extend_from_slice(&[0; 2])?;
         bytes.extend_from_slice(&word_bytes(32, Order::Little))?;
     }
     Ok(bytes)
@@ -284,7 +311,7 @@ fn says(
 
 /// The first chains of which the walk doesn't say that.
 pub(crate) fn failing_chains(alloc: Global) -> Result<Option<&'static str>, AllocError> {
-    if hash_old(b"aa") != hash_old(b"Ab") {
+    if hash_jenkins(b"apah") != hash_jenkins(b"zapu") {
         return Ok(Some("two hashes"));
     }
     for (name, row) in &CHAINS {
@@ -299,9 +326,9 @@ pub(crate) fn failing_chains(alloc: Global) -> Result<Option<&'static str>, Allo
 fn long_links(alloc: Global, last: u8) -> Result<Vec<Link>, AllocError> {
     let mut links = Vec::new(alloc);
     for i in 0..19 {
-        links.push((208 + 32 * i as u32, [b'k', i], USED))?;
+        links.push((208 + 32 * i as u32, [b'k', i, 0, 0], USED))?;
     }
-    links.push((0, [b'k', last], USED))?;
+    links.push((0, [b'k', last, 0, 0], USED))?;
     Ok(links)
 }
 
@@ -316,6 +343,59 @@ static LONG_CHAINS: [(&'static str, u8, Result<u64, Fault>); 3] = [
 pub(crate) fn failing_long_chain(alloc: Global) -> Result<Option<&'static str>, AllocError> {
     for (name, last, want) in &LONG_CHAINS {
         if !says(alloc, &[176], &long_links(alloc, *last)?, *want, None)? {
+            return Ok(Some(*name));
+        }
+    }
+    Ok(None)
+}
+
+/// Eleven keys of one Jenkins hash, as little-endian words.
+static LIKE_KEYS: [u32; 11] = [
+    0x0711_577B,
+    0x1E0A_7D6A,
+    0x2823_DB4C,
+    0x406F_03DD,
+    0x4F30_51D3,
+    0x6788_15C2,
+    0x7E47_573C,
+    0x8F5B_EE70,
+    0x97C1_2CD9,
+    0xB12E_77AE,
+    0xF4E9_A54C,
+];
+
+/// A chain of records with the first so many of these keys, and behind them one with the key of this number.
+fn like_links(alloc: Global, count: usize, last: usize) -> Result<Vec<Link>, AllocError> {
+    let mut links = Vec::new(alloc);
+    for i in 0..count.min(LIKE_KEYS.len()) {
+        let key = word_bytes(LIKE_KEYS[i], Order::Little);
+        links.push((208 + 32 * i as u32, key, USED))?;
+    }
+    if let Some(key) = LIKE_KEYS.get(last) {
+        links.push((0, word_bytes(*key, Order::Little), USED))?;
+    }
+    Ok(links)
+}
+
+/// How many keys of one Jenkins hash stand in front of another one of them, and what the walk along the chain says.
+static LIKE_CHAINS: [(&'static str, usize, usize, Result<u64, Fault>); 5] = [
+    ("eight keys of one Jenkins hash", 7, 7, Ok(8)),
+    ("nine keys of one Jenkins hash", 8, 8, Ok(9)),
+    ("eleven keys of one Jenkins hash", 10, 10, Ok(11)),
+    ("the third of seven again", 7, 2, Err((TwiceKey, 400))),
+    ("the third of ten again", 10, 2, Err((TwiceKey, 496))),
+];
+
+/// The first chain of keys of one Jenkins hash of which the walk doesn't say that.
+pub(crate) fn failing_like_chain(alloc: Global) -> Result<Option<&'static str>, AllocError> {
+    for key in &LIKE_KEYS {
+        if hash_jenkins(&word_bytes(*key, Order::Little)) != 0x0214_FB16 {
+            return Ok(Some("a Jenkins hash"));
+        }
+    }
+    for (name, count, last, want) in &LIKE_CHAINS {
+        let links = like_links(alloc, *count, *last)?;
+        if !says(alloc, &[176], &links, *want, None)? {
             return Ok(Some(*name));
         }
     }

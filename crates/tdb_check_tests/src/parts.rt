@@ -224,7 +224,7 @@ fn record_holds(alloc: Global, row: &Record, key_len: u16) -> Result<bool, Alloc
     if len < 200 || !can_stand(176, len, 1) {
         return Ok(false);
     }
-    let next = read_record(&mut s, len, row.4, 176).map(|r| r.next);
+    let next = read_record(&mut s, len, row.4, 176).map(|found| found.header.next);
     Ok(next == row.5.map_err(refusal))
 }
 

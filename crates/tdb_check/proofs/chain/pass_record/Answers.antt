@@ -21,11 +21,11 @@ returns-clause-good g c told long xs noted =
     let good = c.in-Ok.ensures.good told long in
     record {
       sound = tested_none f (chain_number c.args.j) img xs c.args.place c.args.at stands new_one good.0;
-      header = good.1;
+      header = good.1.header;
       noted = record {
         offsets = λ q. c.in_ok-note.ensures q ∙ ap (λ b. eqb q c.args.at || b) (noted.offsets q) ∙ any_more q c.args.at xs;
         keys = c.in_ok-note-2.ensures f img xs noted.keys good.1 (keyed_where f c.args.j img c.args.at stands good.0);
-        dead = dead_more f img xs c.args.at c.in-Ok.r c.args.notes.now.dead.items c.note_dead.new.dead.items noted.dead good.1 c.in_ok-note_dead.ensures;
+        dead = dead_more f img xs c.args.at c.in-Ok.found.header c.args.notes.now.dead.items c.note_dead.new.dead.items noted.dead good.1.header c.in_ok-note_dead.ensures;
       };
     }
 

@@ -70,10 +70,10 @@ loop-turn-preserved g c =
           let stands : is_out f img c.loop-turn.at ≡ false = out_is f img c.loop-turn.at c.args.len long ∙ not_true (is_out_at f.chains c.args.len c.loop-turn.at) (sym test ∙ c.if-not-can_stand.false) in
           let again : length (g.S.Space.image c.loop-turn.s) ≡ c.args.len = ap length v.looked.image ∙ long in
           let good = c.in-Ok.ensures.good told again in
-          free_more f img free_head (met c.loop-turn.met) (met c.note.new.self) c.args.extents.now.items c.loop-turn.extents.items c.put.new.extents.items c.loop-turn._turn c.loop-turn.place c.loop-turn.at c.in-Ok.r
+          free_more f img free_head (met c.loop-turn.met) (met c.note.new.self) c.args.extents.now.items c.loop-turn.extents.items c.put.new.extents.items c.loop-turn._turn c.loop-turn.place c.loop-turn.at c.in-Ok.found.header
           (v.followed told long) c.if-at-eq0.false stands (sym c.contains.ensures ∙ c.if-contains.false)
           ((λ j. own_fault (sym v.looked.form j) free_list (sym v.looked.image j) c.loop-turn.at) ∙ good.0)
-          (good.1 ∙ (λ j. rec_at (v.looked.form j).order (v.looked.image j) c.loop-turn.at))
+          (good.1.header ∙ (λ j. rec_at (v.looked.form j).order (v.looked.image j) c.loop-turn.at))
           c.in_ok-note.ensures c.in_ok-put.ensures.ok);
       reads = λ told long.
           (let h = v.followed told long in
@@ -82,7 +82,7 @@ loop-turn-preserved g c =
           (c.in-Ok.ensures.bytes_read told (ap length v.looked.image ∙ long)) in
           let both = walk_read f free_list img free_head h.xs c.loop-turn.place c.loop-turn._turn c.loop-turn.at (g.S.Space.bytes_read c.loop-turn.s) (g.S.Space.bytes_read c.read_record.new.s) (g.S.Space.bytes_read c.args.s.now + (4 + sum_by (record_reads f img) (free_of f img)))
           (omega (arith, long, c.requires.heads)) (passed_walked f free_list img [] free_head h.xs c.loop-turn.place h.passed) h.count c.if-at-eq0.false (v.reads told long) here.no_more in
-          let header : c.in-Ok.r ≡ rec_at f.order img c.loop-turn.at = (c.in-Ok.ensures.good told (ap length v.looked.image ∙ long)).1 ∙ (λ j. rec_at (v.looked.form j).order (v.looked.image j) c.loop-turn.at) in
+          let header : c.in-Ok.found.header ≡ rec_at f.order img c.loop-turn.at = (c.in-Ok.ensures.good told (ap length v.looked.image ∙ long)).1.header ∙ (λ j. rec_at (v.looked.form j).order (v.looked.image j) c.loop-turn.at) in
           subst (λ n. g.S.Space.bytes_read c.read_record.new.s + sum_by (record_reads f img) (offsets f.order img (length img / 4 - (c.loop-turn._turn + 1)) n) ≤ g.S.Space.bytes_read c.args.s.now + (4 + sum_by (record_reads f img) (free_of f img)))
           (sym (ap (λ (x : Rec). x.next) header)) both.1);
       never_falls = λ told long. omega (arith, v.never_falls told long, (c.in-Ok.ensures.bytes_read told (ap length v.looked.image ∙ long)).never_falls);

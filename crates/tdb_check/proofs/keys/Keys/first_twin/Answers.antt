@@ -4,7 +4,7 @@ use Rattle.std.proofs.lemmas.Bool.{MatchBool-at_true, MatchBool-at_false}
 use Rattle.std.proofs.lemmas.List.{take_all, get_or_default}
 use Rattle.tdb_check.specs.declared.keys.Noted.{Noted}
 use Rattle.std.specs.Prelude.{MatchBool}
-use Rattle.tdb_words.specs.Hash.{h_of}
+use Rattle.tdb_words.specs.Hash.{h_jenkins}
 use Rattle.tdb_space.specs.Form.{Form}
 use Rattle.tdb_check.specs.Keys.{AllNoted, NotedDiffer, notes_of}
 use Rattle.tdb_check.proofs.SameViews.{same_view}
@@ -26,9 +26,9 @@ found_there f f2 img img2 all met n twins form image same p =
     same_view (λ h i. MatchBool twins (NotedDiffer h i (take n all) → ⊥) (NotedDiffer h i (take n all))) f2 f img2 img (sym form) (sym image)
     (subst (λ es. MatchBool twins (NotedDiffer f2 img2 (take n es) → ⊥) (NotedDiffer f2 img2 (take n es))) same p)
 
-noted_there : (f f2 : Form) (img img2 : List ℕ) (all met : List Noted) → f2 ≡ f → img2 ≡ img → met ≡ all → AllNoted (h_of f.hash) f img all → AllNoted (h_of f2.hash) f2 img2 met
+noted_there : (f f2 : Form) (img img2 : List ℕ) (all met : List Noted) → f2 ≡ f → img2 ≡ img → met ≡ all → AllNoted h_jenkins f img all → AllNoted h_jenkins f2 img2 met
 noted_there f f2 img img2 all met form image same h =
-    subst (AllNoted (h_of f2.hash) f2 img2) (sym same) (same_view (λ g i. AllNoted (h_of g.hash) g i all) f f2 img img2 form image h)
+    subst (AllNoted h_jenkins f2 img2) (sym same) (same_view (λ g i. AllNoted h_jenkins g i all) f f2 img img2 form image h)
 
 pub returns-then-not-twins-clause-found : goal.returns-then-not-twins-clause-found
 returns-then-not-twins-clause-found g c told long xs kept =
@@ -109,7 +109,7 @@ loop-most-preserved-then-twins g c =
     let middle = c.loop-most.least + (c.loop-most.most - c.loop-most.least) / 2 in
     let same : met ≡ all = λ i. (v.noted i).items in
     let w = c.in-Ok-has_twins.ensures in
-    let found = λ (told : IsTrue g.S.Space.tells) (long : length img ≡ c.args.len) (each : AllNoted (h_of f.hash) f img all).
+    let found = λ (told : IsTrue g.S.Space.tells) (long : length img ≡ c.args.len) (each : AllNoted h_jenkins f img all).
     found_there f f2 img img2 all met middle c.in-Ok-has_twins.twins v.looked.form v.looked.image same
     (w.twins told (ap length v.looked.image ∙ long) (noted_there f f2 img img2 all met v.looked.form v.looked.image same each)) in
     record {
@@ -138,7 +138,7 @@ loop-most-preserved g c =
     let middle = c.loop-most.least + (c.loop-most.most - c.loop-most.least) / 2 in
     let same : met ≡ all = λ i. (v.noted i).items in
     let w = c.in-Ok-has_twins.ensures in
-    let found = λ (told : IsTrue g.S.Space.tells) (long : length img ≡ c.args.len) (each : AllNoted (h_of f.hash) f img all).
+    let found = λ (told : IsTrue g.S.Space.tells) (long : length img ≡ c.args.len) (each : AllNoted h_jenkins f img all).
     found_there f f2 img img2 all met middle c.in-Ok-has_twins.twins v.looked.form v.looked.image same
     (w.twins told (ap length v.looked.image ∙ long) (noted_there f f2 img img2 all met v.looked.form v.looked.image same each)) in
     record {
