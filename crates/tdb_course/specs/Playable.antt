@@ -3,14 +3,14 @@ use Rattle.std.specs.Prelude.{◌≤◌, List}
 use Rattle.std.specs.List.{All}
 use Rattle.tdb_plays.specs.declared.play.Play.{Play}
 use Rattle.tdb_plays.specs.declared.play.Play.TheVariants as Plays
-use Rattle.tdb_world.specs.Given.{IsShortGiven}
+use Rattle.tdb_plays.specs.Short.{IsShortCommand}
 
 -- an opener is named by a number from 1 on, and the key and the value of its command are short enough for the words of a file
 abbrev pub IsPlayable : Play → Type 0
 IsPlayable Plays.Join = Unit {0}
 IsPlayable Plays.SetLog = Unit {0}
-IsPlayable (Plays.Give who command) = (1 ≤ who) × IsShortGiven command
-IsPlayable (Plays.Do who command) = (1 ≤ who) × IsShortGiven command
+IsPlayable (Plays.Give who command) = (1 ≤ who) × IsShortCommand command
+IsPlayable (Plays.Do who command) = (1 ≤ who) × IsShortCommand command
 IsPlayable (Plays.Turn who) = 1 ≤ who
 IsPlayable (Plays.Go who) = 1 ≤ who
 IsPlayable (Plays.Die who) = 1 ≤ who

@@ -4,7 +4,7 @@ ghost use Rattle.tdb_disk.specs.History.{seen};
 ghost use Rattle.tdb_law.specs.Plays.{Gives, Course};
 ghost use Rattle.tdb_law.specs.Plays.{Play as LawPlay};
 ghost use Rattle.tdb_plays.specs.InLaw.{law_opener, law_command, law_play, law_plays};
-ghost use Rattle.tdb_world.specs.Given.{IsShortGiven};
+ghost use Rattle.tdb_plays.specs.Short.{IsShortCommand};
 ghost use Rattle.tdb_world.specs.Played.{Begun, ComesTo, PlaysLast};
 ghost use Rattle.tdb_whole.specs.Whole.{form_at, WorldFits};
 ghost use Rattle.tdb_course.specs.Led.{moment, Led};
@@ -33,7 +33,7 @@ fn play_do<D: Disk>(
 ) -> Result<(), RunFault>
     requires named { 1 ≤ who }
     requires fits { WorldFits world.old (seen (D.history d.old)) (D.size d.old) }
-    requires short { IsShortGiven command.now }
+    requires short { IsShortCommand command.now }
     ensures led { PlayLed D.tells (moment world.old (D.history d.old) (D.size d.old) (D.faults d.old) report.old.lines)
         (moment world.new (D.history d.new) (D.size d.new) (D.faults d.new) report.new.lines) result (LawPlay.Do (law_opener who) (law_command command.now)) }
     ensures stops { StopsLed D.tells (moment world.old (D.history d.old) (D.size d.old) (D.faults d.old) report.old.lines)

@@ -2,7 +2,7 @@
 ghost use Rattle.std.specs.Prelude.{◌≡◌, ◌≤◌, ◌∷◌, [], ℕ, List, IfErr, OnOk, OnErr};
 ghost use Rattle.tdb_law.specs.Plays.{Play as LawPlay};
 ghost use Rattle.tdb_plays.specs.InLaw.{law_opener, law_command};
-ghost use Rattle.tdb_world.specs.Given.{IsShortGiven};
+ghost use Rattle.tdb_plays.specs.Short.{IsShortCommand};
 ghost use Rattle.tdb_whole.specs.Whole.{WorldFits};
 ghost use Rattle.tdb_whole.specs.Steps.{HasNoCommand};
 ghost use Rattle.tdb_course.specs.Led.{Lengths};
@@ -45,7 +45,7 @@ pub(crate) fn give_copy(world: &mut World, who: u32, command: &Command) -> Resul
     requires named { 1 ≤ who }
     requires free { HasNoCommand world.old who }
     requires fits { (img : List ℕ) × (size : ℕ) × WorldFits world.old img size }
-    requires short { IsShortGiven command.now }
+    requires short { IsShortCommand command.now }
     ensures gifted { OnOk result (Gifted world.old who (law_command command.now) world.new) }
     ensures err { OnErr result (world.new ≡ world.old) }
     ensures memory { IfErr result (λ e. e ≡ RunFault.Memory) }
@@ -65,7 +65,7 @@ pub(crate) fn play_give(
 ) -> Result<(), RunFault>
     requires named { 1 ≤ who }
     requires fits { (img : List ℕ) × (size : ℕ) × WorldFits world.old img size }
-    requires short { IsShortGiven command.now }
+    requires short { IsShortCommand command.now }
     ensures led { PlayLedInAny world.old report.old.lines world.new report.new.lines result (LawPlay.Give (law_opener who) (law_command command.now)) }
 {
     match world.standing(who) {

@@ -2,7 +2,7 @@
 
 ghost use Rattle.std.specs.Prelude.{◌≤◌, IsTrue};
 ghost use Rattle.tdb_course.specs.Playable.{ArePlayable, IsPlayable};
-ghost use Rattle.tdb_world.specs.Given.{IsShortGiven};
+ghost use Rattle.tdb_plays.specs.Short.{IsShortCommand};
 
 use crate::files::HEADER;
 use std::alloc::Global;
@@ -27,7 +27,7 @@ pub(crate) const OPTIONS: Options = Options {
 
 /// Whether the key and the value of a command have less than 100 bytes.
 fn is_short(command: &Command) -> bool
-    ensures { IsTrue result → IsShortGiven command.now }
+    ensures { IsTrue result → IsShortCommand command.now }
 {
     match command {
         Command::Fetch { key }

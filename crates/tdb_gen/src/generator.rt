@@ -1,7 +1,7 @@
 // The commands that are made of numbers.
 
 ghost use Rattle.std.specs.Prelude.{◌≡◌, ◌<◌, ◌≤◌, ◌+◌, ◌-◌, ◌%◌, ◌^◌, ℕ, IfOk, length};
-ghost use Rattle.tdb_world.specs.Given.{IsShortGiven};
+ghost use Rattle.tdb_plays.specs.Short.{IsShortCommand};
 ghost use Rattle.tdb_gen.specs.Numbers.{next_number, number_at, IsFrom};
 ghost use Rattle.tdb_gen.specs.Commands.{key_number, key_of, value_of, value_length, kind_of, command_of};
 
@@ -75,7 +75,7 @@ fn value(alloc: Global, number: u32, len: usize) -> Result<Bytes, AllocError>
 /// The command that is made of a number.
 fn command(alloc: Global, number: u32) -> Result<Command, AllocError>
     ensures made { IfOk result (λ command. command ≡ command_of number) }
-    ensures short { IfOk result IsShortGiven }
+    ensures short { IfOk result IsShortCommand }
 {
     let key = key(alloc, number)?;
     Ok(match (number >> 8) % 8 {
@@ -126,7 +126,7 @@ impl Generator {
         ensures index { self.new.index ≡ self.old.index + 1 }
         ensures from { (seed : ℕ) → IsFrom seed self.old → IsFrom seed self.new }
         ensures made { IfOk result (λ command. (seed : ℕ) → IsFrom seed self.old → command ≡ command_of (number_at seed self.old.index)) }
-        ensures short { IfOk result IsShortGiven }
+        ensures short { IfOk result IsShortCommand }
     {
         self.number = number_behind(self.number);
         self.index += 1;

@@ -54,7 +54,7 @@ use Rattle.tdb_holder.specs.declared.stage.Went.{Went}
 use Rattle.tdb_holder.specs.declared.wanting.Wants.{Wants}
 use Rattle.tdb_holder.specs.declared.wanting.Wants.TheVariants as Wants
 use Rattle.tdb_holder.specs.Ends.{task_of, IsBlocked, IsOuter}
-use Rattle.tdb_holder.specs.Given.{IsShortCommand}
+use Rattle.tdb_plays.specs.Short.{IsShortCommand}
 use Rattle.tdb_holder.specs.Holders.{is_idle, stage_depth, with_command}
 use Rattle.tdb_holder.specs.Open.{HasOpen, OpenFits}
 use Rattle.tdb_holder.specs.Stages.{is_closing, stage_task, Known, IsFit, IsSide, KnowsFile, MayBeGiven}

@@ -46,7 +46,7 @@ use Rattle.tdb_holder.specs.declared.stage.PreparedTxn.TheVariants.{Opened, Noth
 use Rattle.tdb_holder.specs.declared.stage.Stage.{Stage}
 use Rattle.tdb_holder.specs.declared.stage.Stage.TheVariants as At
 use Rattle.tdb_holder.specs.Ends.{task_of}
-use Rattle.tdb_holder.specs.Given.{IsShortCommand}
+use Rattle.tdb_plays.specs.Short.{IsShortCommand}
 use Rattle.tdb_holder.specs.Prepared.{prepared_told, KnowsPrepared, PreparedFits}
 use Rattle.tdb_holder.specs.Refusing.{passes_prepared}
 use Rattle.tdb_holder.specs.Stages.{is_close, prepared_records, prepared_steps, Known, IsFit, IsSide, KnowsAt, KnowsFile}

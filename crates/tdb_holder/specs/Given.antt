@@ -1,19 +1,7 @@
--- The commands by kinds, and those whose keys and values are short enough for the words of a file.
-use Rattle.std.specs.Prelude.{ℕ, ◌<◌, ◌-◌, ◌^◌, length}
+-- The commands by kinds.
+use Rattle.std.specs.Prelude.{ℕ, ◌<◌, ◌-◌, ◌^◌}
 use Rattle.tdb_plays.specs.declared.command.Command.{Command}
 use Rattle.tdb_plays.specs.declared.command.Command.TheVariants as Given
-
--- the key and the value of a command are so short
-abbrev pub IsShortCommand : Command → Type 0
-IsShortCommand (Given.Fetch key) = length key < 2 ^ 32
-IsShortCommand (Given.Has key) = length key < 2 ^ 32
-IsShortCommand (Given.Store key value flag) = (length key < 2 ^ 32) × (length value < 2 ^ 32)
-IsShortCommand (Given.Append key value) = (length key < 2 ^ 32) × (length value < 2 ^ 32)
-IsShortCommand (Given.Delete key) = length key < 2 ^ 32
-IsShortCommand (Given.ChainLock key) = length key < 2 ^ 32
-IsShortCommand (Given.ChainLockNb key) = length key < 2 ^ 32
-IsShortCommand (Given.ChainUnlock key) = length key < 2 ^ 32
-IsShortCommand _ = Unit {0}
 
 -- a command on explicit locks
 abbrev pub IsLocking : Command → Type 0

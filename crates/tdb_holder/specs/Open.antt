@@ -13,7 +13,7 @@ use Rattle.tdb_inside.specs.Turns.{TurnsInside}
 use Rattle.tdb_inside.specs.Walks.{mark_in, RestsInside, WalkedInside}
 use Rattle.tdb_plays.specs.declared.options.Options.{Options}
 use Rattle.tdb_holder.specs.declared.open_txn.OpenTxn.{OpenTxn}
-use Rattle.tdb_holder.specs.Refusing.{options_of}
+use Rattle.tdb_plays.specs.InLaw.{options_of}
 
 -- The opener has this transaction over a file with these bytes, these explicit locks, and this cursor.
 pub record HasOpen (o : Options) (t : OpenTxn) (base : List ℕ) (x : Own) : Type 0 where

@@ -4,16 +4,13 @@ use Rattle.tdb_space.specs.Form.{Form}
 use Rattle.tdb_space.specs.Pairs.{home}
 use Rattle.tdb_locks.specs.HeldLocks.{HeldLocks, count_of, total_of}
 use Rattle.tdb_locks.specs.declared.turn.Reply.{Reply}
-use Rattle.tdb_law.specs.Openers.{Own, Txn, Options as LawOptions}
+use Rattle.tdb_law.specs.Openers.{Own, Txn}
 use Rattle.tdb_inside.specs.Counted.{IsCounted}
 use Rattle.tdb_plays.specs.declared.command.Command.{Command}
 use Rattle.tdb_plays.specs.declared.command.Command.TheVariants as Given
 use Rattle.tdb_plays.specs.declared.options.Options.{Options}
+use Rattle.tdb_plays.specs.InLaw.{options_of}
 use Rattle.tdb_holder.specs.declared.refusing.Level.{Level}
-
--- the options in the law's words
-abbrev pub options_of : Options → LawOptions
-options_of o = record { nesting = o.nesting; read_only = o.read_only; seqnum = o.seqnum }
 
 -- The opener has a transaction at this level, and these explicit locks.
 pub record StandsAt (o : Options) (level : Level) (held : HeldLocks) (x : Own) : Type 0 where

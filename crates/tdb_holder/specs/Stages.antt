@@ -31,7 +31,7 @@ use Rattle.tdb_commit.specs.declared.preparing.Preparing.{Preparing}
 use Rattle.tdb_commit.specs.declared.starting.Starting.{Starting}
 use Rattle.tdb_commit.specs.declared.starting.Starting.TheVariants as Starts
 use Rattle.tdb_inside.specs.Walks.{mark_in, RestsInside}
-use Rattle.tdb_plays.specs.InLaw.{law_command}
+use Rattle.tdb_plays.specs.InLaw.{law_command, options_of}
 use Rattle.tdb_plays.specs.declared.command.Command.{Command}
 use Rattle.tdb_plays.specs.declared.command.Command.TheVariants as Given
 use Rattle.tdb_beside.specs.Sides.{Past, Side}
@@ -41,9 +41,8 @@ use Rattle.tdb_holder.specs.declared.stage.PreparedTxn.TheVariants.{Opened, Noth
 use Rattle.tdb_holder.specs.declared.stage.Stage.{Stage}
 use Rattle.tdb_holder.specs.declared.stage.Stage.TheVariants as At
 use Rattle.tdb_holder.specs.Ends.{task_of, HoldsIn, IsOuter}
-use Rattle.tdb_holder.specs.Given.{IsShortCommand}
+use Rattle.tdb_plays.specs.Short.{IsShortCommand}
 use Rattle.tdb_holder.specs.Open.{HasOpen, OpenFits}
-use Rattle.tdb_holder.specs.Refusing.{options_of}
 use Rattle.tdb_holder.specs.Waits.{IsAlone}
 
 -- the command of an opener, and the steps that it has had

@@ -23,7 +23,7 @@ use Rattle.tdb_plays.specs.declared.options.Options.{Options}
 use Rattle.tdb_holder.specs.declared.stage.Stage.{Stage}
 use Rattle.tdb_holder.specs.declared.stage.Stage.TheVariants as At
 use Rattle.tdb_holder.specs.Ends.{HoldsIn}
-use Rattle.tdb_holder.specs.Refusing.{options_of}
+use Rattle.tdb_plays.specs.InLaw.{options_of}
 use Rattle.tdb_holder.specs.Stages.{is_closing, stage_records, Known, KnowsFile, IsSide}
 use Rattle.tdb_holder.specs.Waits.{IsAlone}
 

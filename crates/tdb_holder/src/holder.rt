@@ -20,7 +20,7 @@ ghost use Rattle.tdb_holder.specs.declared.stage.Stage.{Stage};
 ghost use Rattle.tdb_holder.specs.declared.stage.Stage.TheVariants as Stage;
 ghost use Rattle.tdb_holder.specs.declared.wanting.Wants.TheVariants as Wants;
 ghost use Rattle.tdb_holder.specs.Ends.{task_of, IsBlocked};
-ghost use Rattle.tdb_holder.specs.Given.{IsShortCommand};
+ghost use Rattle.tdb_plays.specs.Short.{IsShortCommand};
 ghost use Rattle.tdb_holder.specs.Holders.{is_idle, left_stage, stage_depth, stage_gate, with_command, HolderTurned, StageMayLeave};
 ghost use Rattle.tdb_holder.specs.Stages.{is_closing, stage_records, stage_task, Known, IsFit, IsFitLeft, IsSide, KnowsFile, MayBeGiven};
 ghost use Rattle.tdb_holder.specs.Turned.{BeginsOn, MayTurn, StageTurned};

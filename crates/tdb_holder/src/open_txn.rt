@@ -25,8 +25,9 @@ ghost use Rattle.tdb_inside.specs.Counted.{lock_all_of};
 ghost use Rattle.tdb_inside.specs.OwnTxns.{form_of};
 ghost use Rattle.tdb_inside.specs.Walks.{command_for, IsEntered, RestsInside};
 ghost use Rattle.tdb_plays.specs.InLaw.{law_command, law_reply};
-ghost use Rattle.tdb_holder.specs.Given.{IsInside, IsLocking, IsMapped, IsPlainInside, IsShortCommand};
+ghost use Rattle.tdb_holder.specs.Given.{IsInside, IsLocking, IsMapped, IsPlainInside};
 ghost use Rattle.tdb_plays.specs.declared.options.Options.{Options};
+ghost use Rattle.tdb_plays.specs.Short.{IsShortCommand};
 
 use crate::refusing::{Level, chain_in};
 use std::alloc::{AllocError, Global};

@@ -14,7 +14,7 @@ ghost use Rattle.tdb_plays.specs.InLaw.{law_turn};
 ghost use Rattle.tdb_plays.specs.declared.command.Command.TheVariants as Given;
 ghost use Rattle.tdb_plays.specs.declared.options.Options.{Options};
 ghost use Rattle.tdb_holder.specs.declared.stage.Stage.TheVariants as Stage;
-ghost use Rattle.tdb_holder.specs.Given.{IsShortCommand};
+ghost use Rattle.tdb_plays.specs.Short.{IsShortCommand};
 ghost use Rattle.tdb_holder.specs.Prepared.{IsRefused, KnowsPrepared, PreparedFits};
 ghost use Rattle.tdb_holder.specs.Refusing.{passes_prepared};
 ghost use Rattle.tdb_holder.specs.Stages.{stage_task, Known, IsFit, IsFitLeft, IsSide, KnowsFile};

@@ -8,7 +8,7 @@ ghost use Rattle.tdb_law.specs.Openers.{Own};
 ghost use Rattle.tdb_law.specs.Refusals.{refusal, says};
 ghost use Rattle.tdb_plays.specs.InLaw.{law_command, law_reply};
 ghost use Rattle.tdb_holder.specs.Refusing.{commit_told, counted_with, inside_told, is_writer, passes_prepared, StandsAt};
-ghost use Rattle.tdb_holder.specs.Given.{IsShortCommand};
+ghost use Rattle.tdb_plays.specs.Short.{IsShortCommand};
 
 use tdb_locks::{Held, Reply};
 use tdb_plays::{Command, Options};

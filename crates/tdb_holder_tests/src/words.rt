@@ -1,6 +1,6 @@
 //! Commands by words.
 ghost use Rattle.std.specs.Prelude.{IfOk};
-ghost use Rattle.tdb_holder.specs.Given.{IsShortCommand};
+ghost use Rattle.tdb_plays.specs.Short.{IsShortCommand};
 
 use std::alloc::{AllocError, Global};
 use tdb_plays::Command;

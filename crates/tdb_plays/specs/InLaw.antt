@@ -1,12 +1,14 @@
--- The commands, plays and lines of the code in the words of the law of reports (`tdb_law`). Openers are counted from 1
--- in the code, and from 0 in the law.
+-- The options, commands, plays and lines of the code in the words of the law of reports (`tdb_law`). Openers are counted
+-- from 1 in the code, and from 0 in the law.
 use Rattle.std.specs.Prelude.{ℕ, ◌-◌, List, map}
 use Rattle.tdb_law.specs.Commands.{Command as LawCommand, MapCommand, LockCommand, GroupCommand, WalkCommand, Reply as LawReply, Turn as LawTurn}
+use Rattle.tdb_law.specs.Openers.{Options as LawOptions}
 use Rattle.tdb_law.specs.Plays.{Play as LawPlay}
 use Rattle.tdb_law.specs.Lines.{Line as LawLine}
 use Rattle.tdb_locks.specs.declared.turn.Reply.{Reply}
 use Rattle.tdb_locks.specs.declared.turn.Turn.{Turn}
 use Rattle.tdb_steps.specs.declared.flag.Flag.{Flag}
+use Rattle.tdb_plays.specs.declared.options.Options.{Options}
 use Rattle.tdb_plays.specs.declared.command.Command.{Command}
 use Rattle.tdb_plays.specs.declared.play.Play.{Play}
 use Rattle.tdb_plays.specs.declared.line.Line.{Line}
@@ -14,6 +16,10 @@ use Rattle.tdb_plays.specs.declared.line.Line.{Line}
 -- the opener of the law that the code names by this number
 abbrev pub law_opener : ℕ → ℕ
 law_opener who = who - 1
+
+-- how a file is opened; the law has no limit of its length
+abbrev pub options_of : Options → LawOptions
+options_of o = record { nesting = o.nesting; read_only = o.read_only; seqnum = o.seqnum }
 
 -- a store, by the keys that its flag takes
 abbrev pub law_store : Flag → List ℕ → List ℕ → LawCommand

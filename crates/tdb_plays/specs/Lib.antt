@@ -1,3 +1,4 @@
 pub mod Report
 pub mod InLaw
 pub mod Named
+pub mod Short

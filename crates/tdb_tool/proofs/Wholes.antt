@@ -11,7 +11,7 @@ use Rattle.tdb_law.specs.Beginning.{IsLoaded, beginning}
 use Rattle.tdb_law.specs.Lines.{Line as LawLine, IsLawful}
 use Rattle.tdb_law.specs.Openers.{Map, Task}
 use Rattle.tdb_law.specs.World.{State}
-use Rattle.tdb_plays.specs.InLaw.{law_line, law_lines}
+use Rattle.tdb_plays.specs.InLaw.{law_line, law_lines, options_of}
 use Rattle.tdb_plays.specs.declared.command.Command.{Command}
 use Rattle.tdb_plays.specs.declared.line.Line.{Line}
 use Rattle.tdb_plays.specs.declared.line.Line.TheVariants.{Unfinished}
@@ -19,7 +19,6 @@ use Rattle.tdb_plays.specs.declared.options.Options.{Options}
 use Rattle.tdb_plays.specs.declared.play.Play.{Play}
 use Rattle.tdb_script.specs.Lines.{lines_of}
 use Rattle.tdb_world.proofs.Finishing.{broken_lawful}
-use Rattle.tdb_world.specs.Openers.{options_of}
 use Rattle.tdb_world.specs.Worlds.{World, state_in}
 use Rattle.tdb_whole.specs.Died.{IsReadAs}
 use Rattle.tdb_whole.proofs.Reopening.{state_reopens}

@@ -9,7 +9,7 @@ use Rattle.tdb_plays.specs.declared.command.Command.{Command}
 use Rattle.tdb_plays.specs.declared.line.Line.{Line}
 use Rattle.tdb_plays.specs.declared.play.Play.{Play}
 use Rattle.tdb_space.specs.Form.{Form}
-use Rattle.tdb_world.specs.Given.{IsShortGiven}
+use Rattle.tdb_plays.specs.Short.{IsShortCommand}
 use Rattle.tdb_world.specs.Played.{PlaysLast}
 use Rattle.tdb_tool.specs.declared.order.Order.{Order}
 use Rattle.tdb_tool.specs.Replies.{lines_text, tell_pair}
@@ -34,7 +34,7 @@ parts_of orders = flat_map part_of orders
 
 -- the key and the value of the command of an order, if it has one, are short enough for the words of a file
 abbrev pub IsServedOrder : Order → Type 0
-IsServedOrder (Order.Take command) = IsShortGiven command
+IsServedOrder (Order.Take command) = IsShortCommand command
 IsServedOrder order = Unit {0}
 
 -- the moves of a list: First, and then Next

@@ -11,11 +11,10 @@ use Rattle.tdb_law.specs.Images.{image_map}
 use Rattle.tdb_law.specs.Lines.{Line as LawLine, IsLawful}
 use Rattle.tdb_law.specs.Replay.{Replay}
 use Rattle.tdb_law.specs.World.{State}
-use Rattle.tdb_plays.specs.InLaw.{law_lines}
+use Rattle.tdb_plays.specs.InLaw.{law_lines, options_of}
 use Rattle.tdb_plays.specs.declared.command.Command.{Command}
 use Rattle.tdb_plays.specs.declared.line.Line.{Line}
 use Rattle.tdb_plays.specs.declared.play.Play.{Play}
-use Rattle.tdb_world.specs.Openers.{options_of}
 use Rattle.tdb_whole.specs.Died.{IsReadAs}
 use Rattle.tdb_course.specs.Stops.{IsTransacted, OpensOnTheWay}
 use Rattle.tdb_course.specs.Unfinished.{EndsWith}

@@ -23,8 +23,7 @@ use Rattle.tdb_law.proofs.Joining.{course_lawful}
 use Rattle.tdb_law.proofs.Plainly.{beginning_lawful}
 use Rattle.tdb_log.specs.Logs.{Logged}
 use Rattle.tdb_log.specs.declared.log.LogRefusal.TheVariants as Unheard
-use Rattle.tdb_plays.specs.InLaw.{law_plays, law_lines}
-use Rattle.tdb_world.specs.Openers.{options_of}
+use Rattle.tdb_plays.specs.InLaw.{law_plays, law_lines, options_of}
 use Rattle.tdb_plays.specs.declared.options.Options.{Options}
 use Rattle.tdb_gen.proofs.Coming.{whole_comes}
 use Rattle.tdb_gen.proofs.Takings.{heard_whole}

@@ -10,7 +10,7 @@ use Rattle.tdb_script.specs.Lines.{lines_of, words_of}
 use Rattle.tdb_script.specs.Rows.{row_of, bare_commands, key_commands, value_commands, bare_plays, opener_plays, command_plays}
 use Rattle.tdb_script.specs.Script.{IsCommand, IsOpenerPlay, IsPlay, Says, LinesSay, with_said, Script}
 use Rattle.tdb_script.proofs.PartLemmas.{NoLonger, lines_no_longer, words_no_longer}
-use Rattle.tdb_world.specs.Given.{IsShortGiven}
+use Rattle.tdb_plays.specs.Short.{IsShortCommand}
 use Rattle.tdb_course.specs.Playable.{IsPlayable, ArePlayable}
 use Rattle.tdb_ask.proofs.ShortWords.{word_short}
 
@@ -31,17 +31,17 @@ module _ (n : ℕ) (few : n < 2 ^ 32) where
   short : (word bytes : List ℕ) → length word ≤ n → IsWord word bytes → length bytes < 2 ^ 32
   short word bytes within is = omega (arith, few, within, word_short word bytes is)
 
-  command_short : (words : List (List ℕ)) (command : Command) → NoLonger n words → IsCommand words command → IsShortGiven command
+  command_short : (words : List (List ℕ)) (command : Command) → NoLonger n words → IsCommand words command → IsShortCommand command
   command_short [] command l p = absurd p
   command_short (name ∷ []) command l p =
-      of_row IsShortGiven bare_commands name command (tt, (tt, (tt, (tt, (tt, (tt, (tt, (tt, (tt, (tt, (tt, (tt, (tt, (tt, tt)))))))))))))) p
+      of_row IsShortCommand bare_commands name command (tt, (tt, (tt, (tt, (tt, (tt, (tt, (tt, (tt, (tt, (tt, (tt, (tt, (tt, tt)))))))))))))) p
   command_short (name ∷ word ∷ []) command l p =
       let k = short word p.0 l.1.0 p.1 in
-      of_row IsShortGiven (key_commands p.0) name command (k, (k, (k, (k, (k, (k, tt)))))) p.2
+      of_row IsShortCommand (key_commands p.0) name command (k, (k, (k, (k, (k, (k, tt)))))) p.2
   command_short (name ∷ word ∷ more ∷ []) command l p =
       let k = short word p.0 l.1.0 p.2 in
       let v = short more p.1 l.1.1.0 p.3 in
-      of_row IsShortGiven (value_commands p.0 p.1) name command ((k, v), ((k, v), ((k, v), ((k, v), tt)))) p.4
+      of_row IsShortCommand (value_commands p.0 p.1) name command ((k, v), ((k, v), ((k, v), ((k, v), tt)))) p.4
   command_short (name ∷ word ∷ more ∷ other ∷ words) command l p = absurd p
 
   opener_playable : (name : List ℕ) (who : ℕ) (words : List (List ℕ)) (play : Play) → 1 ≤ who → NoLonger n words → IsOpenerPlay name who words play → IsPlayable play

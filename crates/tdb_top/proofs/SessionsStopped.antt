@@ -22,7 +22,7 @@ use Rattle.tdb_tool.specs.declared.fault.SessionEnd.{SessionEnd}
 use Rattle.tdb_tool.specs.declared.fault.SessionFault.{SessionFault}
 use Rattle.tdb_tool.specs.declared.fault.SessionFault.TheVariants as F
 use Rattle.tdb_tool.specs.declared.order.Order.{Order}
-use Rattle.tdb_world.specs.Openers.{options_of}
+use Rattle.tdb_plays.specs.InLaw.{options_of}
 use Rattle.tdb_course.specs.Stops.{OpensOnTheWay}
 use Rattle.tdb_top.specs.declared.ending.Ending.{Ending}
 use Rattle.tdb_top.specs.declared.ending.Unprinted.{Unprinted}

@@ -14,11 +14,10 @@ use Rattle.tdb_law.specs.Images.{image_map}
 use Rattle.tdb_law.specs.Lines.{Line as LawLine}
 use Rattle.tdb_law.specs.Openers.{nowhere}
 use Rattle.tdb_law.specs.World.{State, HasFewChains}
-use Rattle.tdb_plays.specs.InLaw.{law_lines}
+use Rattle.tdb_plays.specs.InLaw.{law_lines, options_of}
 use Rattle.tdb_plays.specs.declared.options.Options.{Options}
 use Rattle.tdb_steps.specs.Turns.{number_of}
 use Rattle.tdb_open.specs.Loading.{IsOver, IsOpened, OpensToTurn, TurnOpened, IsJustLoaded}
-use Rattle.tdb_world.specs.Openers.{options_of}
 use Rattle.tdb_whole.specs.Whole.{Whole, form_at, options_at}
 use Rattle.tdb_course.specs.Stops.{OpensOnTheWay}
 use Rattle.tdb_top.specs.declared.ending.Ending.{Ending}

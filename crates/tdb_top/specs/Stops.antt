@@ -7,13 +7,12 @@ use Rattle.tdb_space.specs.Form.{Form, form_of}
 use Rattle.tdb_law.specs.Beginning.{IsLoaded}
 use Rattle.tdb_law.specs.World.{State}
 use Rattle.tdb_ask.specs.declared.ask.Task.TheVariants.{Turns}
-use Rattle.tdb_plays.specs.InLaw.{law_lines}
+use Rattle.tdb_plays.specs.InLaw.{law_lines, options_of}
 use Rattle.tdb_plays.specs.declared.line.Line.{Line}
 use Rattle.tdb_plays.specs.declared.line.Line.TheVariants.{Unfinished}
 use Rattle.tdb_plays.specs.declared.options.Options.{Options}
 use Rattle.tdb_script.specs.Text.{report_text}
 use Rattle.tdb_open.specs.Loading.{IsOver, OpensToTurn}
-use Rattle.tdb_world.specs.Openers.{options_of}
 use Rattle.tdb_whole.specs.Stops.{IsSafe}
 use Rattle.tdb_whole.specs.States.{IsStateOf}
 use Rattle.tdb_whole.specs.Whole.{Whole, form_at}

@@ -16,7 +16,7 @@ use Rattle.tdb_law.proofs.Emptied.{before_event, other_event, sound_event}
 use Rattle.tdb_law.proofs.Kept.{opened_base}
 use Rattle.tdb_law.proofs.Walking.{put_here, put_else}
 use Rattle.tdb_steps.specs.Turns.{number_of}
-use Rattle.tdb_plays.specs.InLaw.{law_opener}
+use Rattle.tdb_plays.specs.InLaw.{law_opener, options_of}
 use Rattle.tdb_beside.specs.Sides.{Past, Side, alone, whole}
 use Rattle.tdb_beside.specs.Starts.{with_starts, MayStart}
 use Rattle.tdb_beside.proofs.Happening.{joins_beside}
@@ -25,7 +25,6 @@ use Rattle.tdb_holder.specs.Holders.{HolderState}
 use Rattle.tdb_holder.specs.Stages.{IsSide, Known}
 use Rattle.tdb_world.specs.Aside.{LocksNoRecord}
 use Rattle.tdb_world.specs.Laws.{IsJoined}
-use Rattle.tdb_world.specs.Openers.{options_of}
 use Rattle.tdb_world.specs.Worlds.{World, fresh, state_in, BytesStand, IsNumber, Stands}
 use Rattle.tdb_world.specs.declared.opener.Opener.{Opener}
 use Rattle.tdb_world.proofs.Opening.{low_is_free}

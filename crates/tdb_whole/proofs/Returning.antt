@@ -23,7 +23,7 @@ use Rattle.tdb_law.proofs.HandsOut.{image_answers}
 use Rattle.tdb_law.proofs.Marking.{all_shift}
 use Rattle.tdb_law.proofs.Sound.{sound_after}
 use Rattle.tdb_steps.proofs.Cells.{live_mapped}
-use Rattle.tdb_plays.specs.InLaw.{law_opener}
+use Rattle.tdb_plays.specs.InLaw.{law_opener, options_of}
 use Rattle.tdb_plays.specs.declared.options.Options.{Options}
 use Rattle.tdb_beside.specs.Sides.{Past, Side, alone, beside}
 use Rattle.tdb_beside.specs.Starts.{with_starts}
@@ -33,7 +33,7 @@ use Rattle.tdb_holder.specs.Lifts.{IsBack}
 use Rattle.tdb_holder.specs.Stages.{is_closing, stage_records, stage_task, Known}
 use Rattle.tdb_holder.specs.Turned.{KeepsFile, StageTurned, brings, keeps}
 use Rattle.tdb_world.specs.Given.{holds_chains}
-use Rattle.tdb_world.specs.Openers.{all_of, counts_of, law_task, no_walk, options_of, own_at, own_of, place_at, spot_at, spot_by, task_at}
+use Rattle.tdb_world.specs.Openers.{all_of, counts_of, law_task, no_walk, own_at, own_of, place_at, spot_at, spot_by, task_at}
 use Rattle.tdb_world.specs.Turning.{law_table}
 use Rattle.tdb_world.specs.Worlds.{state_in, BytesStand, World}
 use Rattle.tdb_world.specs.declared.opener.Opener.{Opener}

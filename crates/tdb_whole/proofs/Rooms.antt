@@ -1,12 +1,9 @@
--- When a command that is short enough may be given.
+-- When a command may be given.
 use Rattle.std.proofs.Common.{◌≡◌, ℕ, Err, Ok, Some, sym, subst}
 use Rattle.std.specs.Prelude.{OnErr, Result}
 use Rattle.tdb_plays.specs.declared.command.Command.{Command}
-use Rattle.tdb_plays.specs.declared.command.Command.TheVariants as Given
-use Rattle.tdb_holder.specs.Given.{IsShortCommand}
 use Rattle.tdb_holder.specs.Holders.{stage_depth, HolderState}
 use Rattle.tdb_holder.specs.Stages.{MayBeGiven}
-use Rattle.tdb_world.specs.Given.{IsShortGiven}
 use Rattle.tdb_whole.specs.Steps.{HasRoom, IsAmong}
 use Rattle.tdb_whole.specs.Whole.{Whole}
 use Rattle.tdb_whole.proofs.Standings.{never_both, same_holder}
@@ -15,18 +12,6 @@ use Rattle.tdb_whole.proofs.Standings.{never_both, same_holder}
 pub on_err : {V E : Type 0} (r : Result V E) (P Q : Type 0) → (P → Q) → OnErr r P → OnErr r Q
 on_err (Ok x) P Q from p = tt
 on_err (Err e) P Q from p = from p
-
--- what is short for the others is so for the one aside
-pub short_command : (c : Command) → IsShortGiven c → IsShortCommand c
-short_command (Given.Fetch key) short = short
-short_command (Given.Has key) short = short
-short_command (Given.Store key value flag) short = short
-short_command (Given.Append key value) short = short
-short_command (Given.Delete key) short = short
-short_command (Given.ChainLock key) short = short
-short_command (Given.ChainLockNb key) short = short
-short_command (Given.ChainUnlock key) short = short
-short_command c short = tt
 
 -- the one aside has room where its stage has, and another opener always has
 pub aside_room : (w : Whole) (h : HolderState) (who : ℕ) (c : Command) → w.aside ≡ Some h → MayBeGiven c (stage_depth h.stage) → HasRoom w who c

@@ -4,13 +4,12 @@ ghost use Rattle.tdb_disk.specs.History.{History};
 ghost use Rattle.tdb_law.specs.Openers.{Task};
 ghost use Rattle.tdb_law.specs.World.{State};
 ghost use Rattle.tdb_plays.specs.InLaw.{law_opener, law_command};
-ghost use Rattle.tdb_world.specs.Given.{IsShortGiven};
+ghost use Rattle.tdb_plays.specs.Short.{IsShortCommand};
 ghost use Rattle.tdb_whole.specs.Whole.{is_starting, WorldFits};
 ghost use Rattle.tdb_whole.specs.States.{IsStateOf};
 ghost use Rattle.tdb_whole.specs.Steps.{GiftLeads, HasCommand, HasNoCommand, HasRoom, IsAmong};
 ghost use Rattle.tdb_beside.specs.Sides.{Past, Side};
 ghost use Rattle.tdb_holder.specs.Ends.{task_of};
-ghost use Rattle.tdb_holder.specs.Given.{IsShortCommand};
 ghost use Rattle.tdb_holder.specs.Holders.{is_idle, stage_depth, with_command, HolderState};
 ghost use Rattle.tdb_holder.specs.Stages.{Known, IsFit, IsSide, KnowsFile, MayBeGiven};
 ghost use Rattle.tdb_plays.specs.declared.options.Options.{Options};
@@ -149,7 +148,7 @@ impl World {
         requires among { IsAmong self.old who }
         requires free { HasNoCommand self.old who }
         requires fits { (img : List ℕ) × (size : ℕ) × WorldFits self.old img size }
-        requires short { IsShortGiven command }
+        requires short { IsShortCommand command }
         ensures fits { (img : List ℕ) (size : ℕ) → WorldFits self.old img size → WorldFits self.new img size }
         ensures busy { HasCommand self.new who }
         ensures given { (h : History) → GiftLeads self.old self.new h who (law_command command) }
@@ -174,7 +173,7 @@ impl World {
         requires same { told ≡ command }
         requires free { HasNoCommand self.old who }
         requires fits { (img : List ℕ) × (size : ℕ) × WorldFits self.old img size }
-        requires short { IsShortGiven command }
+        requires short { IsShortCommand command }
         ensures fits { (img : List ℕ) (size : ℕ) → WorldFits self.old img size → WorldFits self.new img size }
         ensures may { OnOk result (HasRoom self.old who command) }
         ensures full { OnErr result (HasRoom self.old who command → ⊥) }

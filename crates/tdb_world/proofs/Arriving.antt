@@ -14,10 +14,11 @@ use Rattle.tdb_law.proofs.Tests.{never_true}
 use Rattle.tdb_steps.specs.Holdings.{table_of}
 use Rattle.tdb_world.specs.Given.{IsWellHeld}
 use Rattle.tdb_plays.specs.declared.options.Options.{Options}
+use Rattle.tdb_plays.specs.InLaw.{options_of}
 use Rattle.tdb_world.specs.declared.opener.Opener.{Opener}
 use Rattle.tdb_law.specs.Layout.{chains_in, mark_of}
 use Rattle.tdb_law.specs.Walks.{Shift}
-use Rattle.tdb_world.specs.Openers.{no_cursor, no_walk, rest_of, options_of, own_of, own_with, own_at, spot_by, walk_of, steps_of, spot_at, place_at, spots_of, task_at, law_task, hands_of_task, hands_at, TaskStands, TaskKnows, WalkStands}
+use Rattle.tdb_world.specs.Openers.{no_cursor, no_walk, rest_of, own_of, own_with, own_at, spot_by, walk_of, steps_of, spot_at, place_at, spots_of, task_at, law_task, hands_of_task, hands_at, TaskStands, TaskKnows, WalkStands}
 use Rattle.tdb_world.specs.States.{WorldStands}
 use Rattle.tdb_world.specs.Laws.{IsJoined, JoinKeepsWorld, JoinKeepsFile, JoinJoins, EmptyStands, EmptyFileStands, EmptyIsLoaded}
 use Rattle.tdb_world.proofs.Standing.{Holds, IsSet, world_set, held_still}

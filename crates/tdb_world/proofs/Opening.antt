@@ -19,12 +19,13 @@ use Rattle.tdb_walk.specs.Cursors.{spot_of}
 use Rattle.tdb_walk.specs.InLaw.{is_purging}
 use Rattle.tdb_walk.proofs.Holding.{locks_are}
 use Rattle.tdb_plays.specs.declared.options.Options.{Options}
+use Rattle.tdb_plays.specs.InLaw.{options_of}
 use Rattle.tdb_world.specs.declared.opener.Opener.{Opener}
 use Rattle.tdb_world.specs.declared.job.Job.{Job}
 use Rattle.tdb_world.specs.declared.job.Job.TheVariants as Jobs
 use Rattle.tdb_world.specs.declared.job.Task.{Task}
 use Rattle.tdb_world.specs.Aside.{LowIsFree}
-use Rattle.tdb_world.specs.Openers.{options_of, own_of, own_at, rest_of, spot_by, spot_at, walk_command, walk_of, steps_of, task_at, command_in, law_task, JobStands, TaskStands, OpenerStands}
+use Rattle.tdb_world.specs.Openers.{own_of, own_at, rest_of, spot_by, spot_at, walk_command, walk_of, steps_of, task_at, command_in, law_task, JobStands, TaskStands, OpenerStands}
 use Rattle.tdb_world.specs.States.{WorldStands}
 use Rattle.tdb_world.proofs.Beside.{below_bare, all_past}
 use Rattle.tdb_world.proofs.Keeping.{kept_is, counts_keep}

@@ -15,18 +15,6 @@ use Rattle.tdb_plays.specs.declared.command.Command.TheVariants as Given
 use Rattle.tdb_world.specs.declared.job.Locking.{Locking}
 use Rattle.tdb_world.specs.declared.job.Locking.TheVariants as Lockings
 
--- the key and the value of a command are short enough for the words of a file
-abbrev pub IsShortGiven : Command → Type 0
-IsShortGiven (Given.Fetch key) = length key < 2 ^ 32
-IsShortGiven (Given.Has key) = length key < 2 ^ 32
-IsShortGiven (Given.Store key value flag) = (length key < 2 ^ 32) × (length value < 2 ^ 32)
-IsShortGiven (Given.Append key value) = (length key < 2 ^ 32) × (length value < 2 ^ 32)
-IsShortGiven (Given.Delete key) = length key < 2 ^ 32
-IsShortGiven (Given.ChainLock key) = length key < 2 ^ 32
-IsShortGiven (Given.ChainLockNb key) = length key < 2 ^ 32
-IsShortGiven (Given.ChainUnlock key) = length key < 2 ^ 32
-IsShortGiven _ = Unit {0}
-
 -- the key of a command on explicit locks is short enough for the words of a file
 abbrev pub IsShortLocking : Locking → Type 0
 IsShortLocking (Lockings.Chain key) = length key < 2 ^ 32

@@ -10,7 +10,7 @@ use Rattle.tdb_locks.specs.HeldLocks.{nothing_held}
 use Rattle.tdb_locks.specs.declared.piece.Piece.{Piece}
 use Rattle.tdb_locks.specs.declared.turn.Turn.{Turn as TurnIs}
 use Rattle.tdb_law.specs.Commands.{WalkCommand, Turn}
-use Rattle.tdb_plays.specs.InLaw.{law_turn}
+use Rattle.tdb_plays.specs.InLaw.{law_turn, options_of}
 use Rattle.tdb_law.specs.Lines.{most_openers}
 use Rattle.tdb_law.specs.Openers.{View}
 use Rattle.tdb_law.specs.Turned.{Turned}
@@ -22,7 +22,7 @@ use Rattle.tdb_plays.specs.declared.options.Options.{Options}
 use Rattle.tdb_world.specs.declared.opener.Opener.{Opener}
 use Rattle.tdb_world.specs.declared.job.Job.{Job}
 use Rattle.tdb_world.specs.declared.job.Task.{Task}
-use Rattle.tdb_world.specs.Openers.{no_walk, options_of, JobStands, own_of, spot_by, command_in, walk_in, law_task, hands_at, place_at, spots_of, OpenerStands}
+use Rattle.tdb_world.specs.Openers.{no_walk, JobStands, own_of, spot_by, command_in, walk_in, law_task, hands_at, place_at, spots_of, OpenerStands}
 use Rattle.tdb_world.specs.States.{state_of, view_for, WorldStands, FileStands}
 use Rattle.tdb_world.specs.Cursors.{is_stood, CursorsBeside, LeavesCursors}
 use Rattle.tdb_world.specs.Turning.{OpenerHolds, TurnsLocks, TurnsFile, TurnsWalk, ImageBefore, TurnsImage}

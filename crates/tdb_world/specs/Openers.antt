@@ -8,7 +8,7 @@ use Rattle.tdb_space.specs.Extents.{HandPair}
 use Rattle.tdb_locks.specs.HeldLocks.{HeldLocks}
 use Rattle.tdb_locks.specs.declared.kind.Kind.{Kind}
 use Rattle.tdb_law.specs.Commands as Law
-use Rattle.tdb_law.specs.Openers.{Counts, AllLock, Own, Spot, Task as LawTask, Options as LawOptions, nowhere}
+use Rattle.tdb_law.specs.Openers.{Counts, AllLock, Own, Spot, Task as LawTask, nowhere}
 use Rattle.tdb_law.specs.Refusals.{Refusal, refusal, says}
 use Rattle.tdb_law.specs.Beginning.{nobody}
 use Rattle.tdb_law.specs.Images.{image_map}
@@ -26,7 +26,7 @@ use Rattle.tdb_walk.specs.InLaw.{StandsAfter, spot_in, is_before}
 use Rattle.tdb_walk.specs.Again.{RestsAt}
 use Rattle.tdb_cursors.specs.declared.walk.Walk.{Walk}
 use Rattle.tdb_cursors.specs.Spots.{spot_number}
-use Rattle.tdb_plays.specs.InLaw.{law_command, law_reply}
+use Rattle.tdb_plays.specs.InLaw.{law_command, law_reply, options_of}
 use Rattle.tdb_world.specs.Given.{IsShortLocking, IsWellHeld}
 use Rattle.tdb_plays.specs.declared.options.Options.{Options}
 use Rattle.tdb_world.specs.declared.opener.Opener.{Opener}
@@ -49,9 +49,6 @@ counts_of (e ∷ es) = if nat_lt 0 e.1 then insert (counts_of es) (168 + 4 * e.0
 abbrev pub all_of : Option (Kind × ℕ) → Option AllLock
 all_of None = None
 all_of (Some a) = Some (record { strength = strength_of a.0; count = a.1 })
-
-abbrev pub options_of : Options → LawOptions
-options_of o = record { nesting = o.nesting; read_only = o.read_only; seqnum = o.seqnum }
 
 -- a cursor between two commands: the key of the pair that it has shown last, and the record on which it stands
 pub record AtRest : Type 0 where

@@ -5,9 +5,10 @@ ghost use Rattle.tdb_space.specs.Form.{Form, form_in};
 ghost use Rattle.tdb_law.specs.Commands.Command.{OnWalk};
 ghost use Rattle.tdb_law.specs.Commands.WalkCommand.{Next};
 ghost use Rattle.tdb_plays.specs.InLaw.{law_command};
+ghost use Rattle.tdb_plays.specs.Short.{IsShortCommand};
 ghost use Rattle.tdb_law.specs.Openers.{Own};
 ghost use Rattle.tdb_law.specs.Refusals.{refusal};
-ghost use Rattle.tdb_world.specs.Given.{IsBeginning, IsShortGiven, IsServed, IsWellHeld};
+ghost use Rattle.tdb_world.specs.Given.{IsBeginning, IsServed, IsWellHeld};
 ghost use Rattle.tdb_world.specs.Openers.{own_of, command_in, JobStands};
 
 use crate::job::{Checking, Job, Locking, Walking};
@@ -38,7 +39,7 @@ fn next_job(walks: bool) -> Job
 fn job_of(command: Command, told: Command, header: &Header, seqnum: bool, walks: bool) -> Job
     requires same { told ≡ command }
     requires served { IsServed command }
-    requires short { IsShortGiven command }
+    requires short { IsShortCommand command }
     requires chains { 0 < header.now.hash_size }
     ensures command { command_in result ≡ law_command command }
     ensures begun { (x : Own) (size : ℕ) → refusal (form_in header.now) (law_command command) x ≡ None → x.options.seqnum ≡ seqnum → x.txn ≡ None → is_some x.cursor ≡ walks → JobStands (form_in header.now) x result 0 size }
@@ -106,7 +107,7 @@ impl Opener {
         requires same { told ≡ command }
         requires well { IsWellHeld self.now.held }
         requires begun { IsBeginning (form_in header.now) (own_of options.now self.now) command → ⊥ }
-        requires short { IsShortGiven command }
+        requires short { IsShortCommand command }
         requires chains { 0 < header.now.hash_size }
         ensures command { command_in result ≡ law_command command }
         ensures stands { (size : ℕ) → JobStands (form_in header.now) (own_of options.now self.now) result 0 size }

@@ -10,14 +10,15 @@ ghost use Rattle.tdb_law.specs.World.{HasFewChains};
 ghost use Rattle.tdb_law.specs.Beginning.{IsLoaded};
 ghost use Rattle.tdb_law.specs.Events.{Joins, Given};
 ghost use Rattle.tdb_law.specs.Turned.{Turned};
-ghost use Rattle.tdb_world.specs.Openers.{options_of, own_of, command_in};
+ghost use Rattle.tdb_world.specs.Openers.{own_of, command_in};
 ghost use Rattle.tdb_world.specs.Died.{HasDied};
-ghost use Rattle.tdb_plays.specs.InLaw.{law_opener, law_command, law_turn};
+ghost use Rattle.tdb_plays.specs.InLaw.{law_opener, law_command, law_turn, options_of};
+ghost use Rattle.tdb_plays.specs.Short.{IsShortCommand};
 ghost use Rattle.tdb_world.specs.declared.job.Task.{Task};
 ghost use Rattle.tdb_world.specs.declared.opener.Opener.{Opener};
 ghost use Rattle.tdb_world.specs.Calm.{IsCalm, IsSparing};
 ghost use Rattle.tdb_world.specs.Aside.{IsBare, HoldsRecords, AreFree, AreBarred};
-ghost use Rattle.tdb_world.specs.Given.{IsBeginning, IsShortGiven, IsShortLocking, IsWellHeld};
+ghost use Rattle.tdb_world.specs.Given.{IsBeginning, IsShortLocking, IsWellHeld};
 ghost use Rattle.tdb_world.specs.declared.job.Job.TheVariants as Jobs;
 ghost use Rattle.tdb_world.specs.declared.job.Locking.{Locking};
 ghost use Rattle.tdb_world.specs.ShutOut.{IsReplaced, JobMeets, MayMeet, opener_after};
@@ -228,7 +229,7 @@ impl Openers {
         requires chains { 0 < self.old.header.hash_size }
         requires held { (x : Opener) → IsFree self.old who x → IsWellHeld x.held }
         requires begun { (x : Opener) → IsFree self.old who x → IsBeginning (form_in self.old.header) (own_of self.old.options x) command → ⊥ }
-        requires short { IsShortGiven command }
+        requires short { IsShortCommand command }
         ensures { (size : ℕ) (x : Opener) → IsFree self.old who x → IsAssigned self.old who x command size self.new }
     {
         let Openers {
@@ -255,7 +256,7 @@ impl Openers {
         requires chains { 0 < self.old.header.hash_size }
         requires stands { (img : List ℕ) × (size : ℕ) × Stands self.old img size }
         requires begun { (x : Opener) → IsFree self.old who x → IsBeginning (form_in self.old.header) (own_of self.old.options x) command → ⊥ }
-        requires short { IsShortGiven command }
+        requires short { IsShortCommand command }
         ensures assigned { (size : ℕ) (x : Opener) → IsFree self.old who x → IsAssigned self.old who x command size self.new }
         ensures header { self.new.header ≡ self.old.header }
         ensures options { self.new.options ≡ self.old.options }

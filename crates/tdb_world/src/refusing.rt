@@ -7,8 +7,9 @@ ghost use Rattle.tdb_space.specs.Pairs.{home};
 ghost use Rattle.tdb_locks.specs.HeldLocks.{count_of, total_of, AreCounts};
 ghost use Rattle.tdb_law.specs.Refusals.{refusal, says};
 ghost use Rattle.tdb_plays.specs.InLaw.{law_command, law_reply};
+ghost use Rattle.tdb_plays.specs.Short.{IsShortCommand};
 ghost use Rattle.tdb_world.specs.Openers.{AtRest, own_of, own_with};
-ghost use Rattle.tdb_world.specs.Given.{IsShortGiven, held_count, holds_chains, reads_records, unlock_all_told, IsWellHeld};
+ghost use Rattle.tdb_world.specs.Given.{held_count, holds_chains, reads_records, unlock_all_told, IsWellHeld};
 
 use crate::locking::chain_in;
 use crate::opener::Opener;
@@ -141,7 +142,7 @@ fn refusal_by(
     requires counts { AreCounts held.now.chains }
     requires few { walks ≡ true → total_of held.now < 2 ^ 64 - 1 }
     requires chains { 0 < header.now.hash_size }
-    requires short { IsShortGiven command.now }
+    requires short { IsShortCommand command.now }
     ensures { (live : Bool) (rest : AtRest) → walks ≡ is_some rest.shown
         → option_map law_reply result ≡ option_map (says (own_with options.now live held.now rest)) (refusal (form_in header.now) (law_command command.now) (own_with options.now live held.now rest)) }
 {
@@ -181,7 +182,7 @@ impl Opener {
     ) -> Option<Reply>
         requires well { IsWellHeld self.now.held }
         requires chains { 0 < header.now.hash_size }
-        requires short { IsShortGiven command.now }
+        requires short { IsShortCommand command.now }
         ensures { let own = own_of options.now self.now in
             option_map law_reply result ≡ option_map (says own) (refusal (form_in header.now) (law_command command.now) own) }
     {

@@ -18,7 +18,7 @@ use Rattle.tdb_tool.specs.declared.order.Order.{Order}
 use Rattle.tdb_plays.specs.declared.line.Line.{Line}
 use Rattle.tdb_plays.specs.declared.options.Options.{Options}
 use Rattle.tdb_course.specs.Hearing.{Heard}
-use Rattle.tdb_world.specs.Openers.{options_of}
+use Rattle.tdb_plays.specs.InLaw.{options_of}
 use Rattle.tdb_top.specs.declared.ending.Ending.{Ending}
 use Rattle.tdb_top.specs.declared.ending.Ending.TheVariants.{Replied, Refused, Missing, DeviceFault, InputFault, Malformed, NoMemory, LogFault}
 use Rattle.tdb_top.specs.declared.ending.Reply.TheVariants.{Played}

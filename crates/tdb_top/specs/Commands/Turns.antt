@@ -7,12 +7,11 @@ use Rattle.tdb_law.specs.Beginning.{IsLoaded}
 use Rattle.tdb_law.specs.Lines.{IsLawful}
 use Rattle.tdb_law.specs.Plays.{Course}
 use Rattle.tdb_law.specs.World.{State}
-use Rattle.tdb_plays.specs.InLaw.{law_plays, law_lines}
+use Rattle.tdb_plays.specs.InLaw.{law_plays, law_lines, options_of}
 use Rattle.tdb_plays.specs.declared.line.Line.{Line}
 use Rattle.tdb_plays.specs.declared.play.Play.{Play}
 use Rattle.tdb_script.specs.Script.{Script, BadAt}
 use Rattle.tdb_script.specs.Text.{report_text}
-use Rattle.tdb_world.specs.Openers.{options_of}
 use Rattle.tdb_world.specs.Played.{ComesTo}
 use Rattle.tdb_whole.specs.Died.{IsReadAs}
 use Rattle.tdb_course.specs.Hearing.{Heard, HeardUpTo}

@@ -1,9 +1,6 @@
 -- An opener that isn't aside is among the others, and has room for any command.
-use Rattle.tdb_whole.proofs.Rooms.{among_room, short_command}
+use Rattle.tdb_whole.proofs.Rooms.{among_room}
 use Rattle.tdb_whole.proofs.world.World.assign.Goals as goal
-
-pub assign_aside-requires-clause-short : goal.assign_aside-requires-clause-short
-assign_aside-requires-clause-short c = short_command c.args.command c.requires.short
 
 pub assign_among-requires-clause-among : goal.assign_among-requires-clause-among
 assign_among-requires-clause-among c = c.is_aside.ensures.no c.if-is_aside.false
