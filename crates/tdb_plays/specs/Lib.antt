@@ -2,3 +2,4 @@ pub mod Report
 pub mod InLaw
 pub mod Named
 pub mod Short
+pub mod Counts

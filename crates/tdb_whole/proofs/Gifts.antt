@@ -43,7 +43,7 @@ use Rattle.tdb_world.specs.Laws.{IsPut}
 use Rattle.tdb_world.specs.Openers.{all_of, law_task, own_at, own_of, task_at, OpenerStands}
 use Rattle.tdb_world.specs.Worlds.{World, state_in, BytesStand, IsAssigned, IsFree, IsNumber, Stands}
 use Rattle.tdb_world.specs.declared.opener.Opener.{Opener}
-use Rattle.tdb_world.proofs.Counts.{sum_counted}
+use Rattle.tdb_plays.proofs.Counts.{sum_counted}
 use Rattle.tdb_world.proofs.Putting.{by_number}
 use Rattle.tdb_whole.specs.States.{IsAside, IsSeen, IsStaleState, IsStateOf, IsWholeState, SideIs, once, writes_all}
 use Rattle.tdb_whole.specs.States.IsStateOf.{of_whole, of_stale}

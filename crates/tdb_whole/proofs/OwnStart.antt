@@ -1,9 +1,8 @@
 -- The first turn of a Start: its opener goes aside by it, or is barred by who is aside already.
-use Rattle.std.proofs.Common.{◌≡◌, ◌≢◌, ◌⊎◌, ℕ, zero, suc, ◌+◌, ◌<◌, ◌≤◌, max, List, [], ◌∷◌, map, set, ◌*◌, slice_get, slice_set, sum, Bool, true, false, cond, nat_le, nat_lt, Option, Some, None, is_none, zero-le, refl, sym, ◌∙◌, ap, subst, inl, inr, arith}
-use Rattle.std.specs.Prelude.{◌&&◌, if◌then◌else◌}
-use Rattle.std.specs.FinMap.{empty, insert}
+use Rattle.std.proofs.Common.{◌≡◌, ◌≢◌, ◌⊎◌, ℕ, zero, suc, ◌+◌, ◌<◌, ◌≤◌, max, List, [], ◌∷◌, set, slice_get, slice_set, sum, Bool, true, false, cond, nat_le, nat_lt, Option, Some, None, is_none, zero-le, refl, sym, ◌∙◌, ap, subst, inl, inr, arith}
+use Rattle.std.specs.Prelude.{◌&&◌}
+use Rattle.std.specs.FinMap.{empty}
 use Rattle.std.specs.Map.{values_of}
-use Rattle.std.proofs.lemmas.List.Sums.{sum_by-cons}
 use Rattle.std.proofs.lemmas.Bool.{cases_eq, cond-true, cond-false}
 use Rattle.std.proofs.lemmas.Bool.Decides.{nat_tests}
 use Rattle.std.proofs.lemmas.List.{length-set}
@@ -42,13 +41,13 @@ use Rattle.tdb_holder.specs.Holders.{HolderState}
 use Rattle.tdb_holder.specs.Stages.{Known, IsSide}
 use Rattle.tdb_holder.specs.declared.stage.Stage.TheVariants as At
 use Rattle.tdb_holder.proofs.Keeping.{keeps_nothing}
-use Rattle.tdb_world.specs.Openers.{all_of, counts_of, law_task, no_walk, own_at, own_of, spot_at, spot_by, spots_of, task_at, OpenerStands}
+use Rattle.tdb_world.specs.Openers.{all_of, law_task, no_walk, own_at, own_of, spot_at, spot_by, spots_of, task_at, OpenerStands}
 use Rattle.tdb_world.specs.States.{view_at, view_under}
 use Rattle.tdb_world.specs.Worlds.{World, state_in}
 use Rattle.tdb_world.specs.declared.opener.Opener.{Opener}
 use Rattle.tdb_world.proofs.Aside.{held_before}
 use Rattle.tdb_world.proofs.Closed.{bare_walk}
-use Rattle.tdb_world.proofs.Counts.{sum_counted}
+use Rattle.tdb_plays.proofs.Counts.{none_counted, sum_counted}
 use Rattle.tdb_world.proofs.Opening.{low_is_free}
 use Rattle.tdb_whole.specs.States.{state_with, IsAside, IsSeen, IsStateOf, SideIs}
 use Rattle.tdb_whole.specs.States.IsStateOf.{of_whole, of_stale}
@@ -72,13 +71,6 @@ gone_else (x ∷ xs) (suc o) (suc q) ne = gone_else xs o q (λ e. ne (ap suc e))
 -- no explicit lock of a chain is counted
 bare_sum : (n : ℕ) → nat_lt 0 n ≡ false → n ≡ 0
 bare_sum n e = grind (arith, nat_tests)
-
-bare_counts : (es : List (ℕ × ℕ)) → sum (values_of es) ≡ 0 → counts_of es ≡ empty
-bare_counts [] none = refl
-bare_counts (e ∷ es) none =
-    let parts = sum_by-cons (λ (x : ℕ). x) e.1 (map (λ (z : ℕ × ℕ). z.1) es) in
-    let zero_here : e.1 ≡ 0 = omega (arith, none, parts) in
-    ap (λ n. if nat_lt 0 n then insert (counts_of es) (168 + 4 * e.0) n else counts_of es) zero_here ∙ bare_counts es (omega (arith, none, parts))
 
 start_granted : (f : Form) (x : Own) → x.txn ≡ None → x.options.read_only ≡ false → held_count x ≡ 0 → refusal f (OnGroup Start) x ≡ None
 unfolding refusal
@@ -112,7 +104,7 @@ module _ (w : Whole) (o : ℕ) (any : List ℕ) (size : ℕ) (F : WorldFits w an
   walk = bare_walk w.openers (o + 1) x (record { place = o; counted = refl; there = S.there }) S.bare any size F.openers
 
   uncounted : own.counts ≡ empty
-  uncounted = bare_counts x.held.chains (bare_sum (sum (values_of x.held.chains)) S.bare.no_chains)
+  uncounted = none_counted x.held.chains (bare_sum (sum (values_of x.held.chains)) S.bare.no_chains)
 
   bare : ended own ≡ own
   bare = λ i. record own { counts = sym uncounted i; all = ap all_of (sym S.none) i; cursor = sym S.bare.no_cursor i }

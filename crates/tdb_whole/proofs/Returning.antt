@@ -1,12 +1,11 @@
 -- A turn of the one aside by which it comes back among the others.
-use Rattle.std.proofs.Common.{◌≡◌, ℕ, ◌+◌, List, [], ◌∷◌, Bool, false, nat_lt, Some, None, refl, sym, ◌∙◌, ap, subst, inl, inr, arith}
+use Rattle.std.proofs.Common.{◌≡◌, ℕ, ◌+◌, List, [], Bool, false, nat_lt, Some, None, refl, sym, ◌∙◌, ap, subst, inl, inr, arith}
 use Rattle.std.specs.Prelude.{slice_get, not, is_some}
 use Rattle.std.specs.FinMap.{empty, get}
 use Rattle.std.specs.List.{sum}
 use Rattle.std.specs.Map.{values_of}
 use Rattle.std.proofs.lemmas.Bool.{cases_Bool}
 use Rattle.std.proofs.lemmas.Bool.Decides.{nat_tests}
-use Rattle.std.proofs.lemmas.List.Sums.{sum_by-cons}
 use Rattle.tdb_disk.specs.History.{History, seen}
 use Rattle.tdb_space.specs.Accepted.{AcceptWith}
 use Rattle.tdb_space.specs.Form.{Form}
@@ -25,6 +24,7 @@ use Rattle.tdb_law.proofs.Sound.{sound_after}
 use Rattle.tdb_steps.proofs.Cells.{live_mapped}
 use Rattle.tdb_plays.specs.InLaw.{law_opener, options_of}
 use Rattle.tdb_plays.specs.declared.options.Options.{Options}
+use Rattle.tdb_plays.proofs.Counts.{none_counted}
 use Rattle.tdb_beside.specs.Sides.{Past, Side, alone, beside}
 use Rattle.tdb_beside.specs.Starts.{with_starts}
 use Rattle.tdb_beside.proofs.Starting.{starts_turn}
@@ -33,7 +33,7 @@ use Rattle.tdb_holder.specs.Lifts.{IsBack}
 use Rattle.tdb_holder.specs.Stages.{is_closing, stage_records, stage_task, Known}
 use Rattle.tdb_holder.specs.Turned.{KeepsFile, StageTurned, brings, keeps}
 use Rattle.tdb_world.specs.Given.{holds_chains}
-use Rattle.tdb_world.specs.Openers.{all_of, counts_of, law_task, no_walk, own_at, own_of, place_at, spot_at, spot_by, task_at}
+use Rattle.tdb_world.specs.Openers.{all_of, law_task, no_walk, own_at, own_of, place_at, spot_at, spot_by, task_at}
 use Rattle.tdb_world.specs.Turning.{law_table}
 use Rattle.tdb_world.specs.Worlds.{state_in, BytesStand, World}
 use Rattle.tdb_world.specs.declared.opener.Opener.{Opener}
@@ -47,15 +47,6 @@ use Rattle.tdb_whole.proofs.Claimed.{with_list}
 use Rattle.tdb_whole.proofs.Leading.{begun, here, off_records, starts_may, stood, there_before, IsAt}
 use Rattle.tdb_whole.proofs.OthersKept.{others_keep, OneChanges}
 use Rattle.tdb_whole.proofs.Staged.{knows_back, writing_is, ReadsLike}
-
--- no chain is counted where none is held
-none_counted : (es : List (ℕ × ℕ)) → sum (values_of es) ≡ 0 → counts_of es ≡ empty
-none_counted [] none = refl
-none_counted (e ∷ es) none =
-    let whole : sum (values_of (e ∷ es)) ≡ e.1 + sum (values_of es) = sum_by-cons (λ (x : ℕ). x) e.1 (values_of es) in
-    let zero : e.1 ≡ 0 = omega (arith, whole, none) in
-    let first : nat_lt 0 e.1 ≡ false = ap (nat_lt 0) zero in
-    rw first (none_counted es (omega (arith, whole, none)))
 
 zero_of : (n : ℕ) → nat_lt 0 n ≡ false → n ≡ 0
 zero_of n e = grind (arith, nat_tests)

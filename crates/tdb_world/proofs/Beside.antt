@@ -25,7 +25,7 @@ use Rattle.tdb_world.specs.Openers.{AtRest, own_with, all_of}
 use Rattle.tdb_world.specs.Given.{holds_chains, reads_records}
 use Rattle.tdb_world.specs.Turning.{StandsWell, resting}
 use Rattle.tdb_world.proofs.Rests.{stand_most, stand_below, stand_nowhere}
-use Rattle.tdb_world.proofs.Counts.{no_chain, chain_or_none}
+use Rattle.tdb_plays.proofs.Counts.{no_chain, chain_or_none}
 use Rattle.tdb_world.proofs.Owned.{own_count}
 use Rattle.tdb_world.proofs.Keeping.{counts_keep, kept_is, counted_kept, none_keep, counts_most}
 

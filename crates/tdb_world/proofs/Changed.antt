@@ -7,8 +7,9 @@ use Rattle.tdb_locks.specs.HeldLocks.{HeldLocks, AreCounts, Raises, Lowers, Sets
 use Rattle.tdb_locks.specs.declared.kind.Kind.{Kind}
 use Rattle.tdb_law.specs.Openers.{Own, Counts, count_at, count_more, count_less}
 use Rattle.tdb_plays.specs.declared.options.Options.{Options}
-use Rattle.tdb_world.specs.Openers.{AtRest, own_with, counts_of, all_of}
-use Rattle.tdb_world.proofs.Counts.{counts_put, counts_out, counts_same}
+use Rattle.tdb_world.specs.Openers.{AtRest, own_with, all_of}
+use Rattle.tdb_plays.proofs.Counts.{counts_put, counts_out, counts_same}
+use Rattle.tdb_plays.specs.Counts.{counts_of}
 use Rattle.tdb_world.proofs.Owned.{own_count}
 
 module _ (options : Options) (live : Bool) (old new : HeldLocks) (rest : AtRest) (counts : AreCounts old.chains) (counts_after : AreCounts new.chains) where

@@ -21,7 +21,7 @@ use Rattle.tdb_plays.specs.declared.options.Options.{Options}
 use Rattle.tdb_world.specs.Openers.{AtRest, own_with, all_of}
 use Rattle.tdb_world.specs.Given.{holds_chains, reads_records, unlock_all_told, IsWellHeld}
 use Rattle.tdb_world.specs.Turning.{StandsWell, resting}
-use Rattle.tdb_world.proofs.Counts.{no_chain}
+use Rattle.tdb_plays.proofs.Counts.{no_chain}
 use Rattle.tdb_world.proofs.Rests.{stand_between}
 use Rattle.tdb_world.proofs.Asking.{told_in, told_law}
 use Rattle.tdb_world.proofs.Keeping.{kept_is, counts_keep, none_keep}

@@ -14,7 +14,6 @@ pub mod WalkLifted
 pub mod WalkStepping
 pub mod Filing
 pub mod Lifting
-pub mod Counts
 pub mod Owned
 pub mod Asking
 pub mod Giving

@@ -11,7 +11,7 @@ use Rattle.tdb_law.specs.Refusals as Law
 use Rattle.tdb_plays.specs.declared.options.Options.{Options}
 use Rattle.tdb_world.specs.Openers.{AtRest, own_with, all_of}
 use Rattle.tdb_world.specs.Given.{held_count, holds_chains, reads_records}
-use Rattle.tdb_world.proofs.Counts.{counted, sum_counted}
+use Rattle.tdb_plays.proofs.Counts.{counted, sum_counted}
 
 same_all : (all : Option (Kind × ℕ)) → all_count (all_of all) ≡ count_of_all all
 same_all None = refl

@@ -11,7 +11,7 @@ use Rattle.tdb_walk.specs.InLaw.{IsAll, HoldsExplicit, strengths}
 use Rattle.tdb_plays.specs.declared.options.Options.{Options}
 use Rattle.tdb_world.specs.Openers.{AtRest, all_of, own_with}
 use Rattle.tdb_world.specs.Turning.{law_table}
-use Rattle.tdb_world.proofs.Counts.{no_chain}
+use Rattle.tdb_plays.proofs.Counts.{no_chain}
 use Rattle.tdb_world.proofs.Owned.{own_count}
 
 same_strength : (o : Option Kind) → Locks.strength o ≡ strength o

@@ -1,6 +1,6 @@
 -- An opener in the words of the law (`tdb_law`): what it has, and its unfinished command.
-use Rattle.std.specs.Prelude.{ℕ, ◌+◌, ◌*◌, ◌≡◌, ◌≤◌, Bool, true, List, [], ◌∷◌, map, Option, Some, None, is_some, nat_lt, if◌then◌else◌}
-use Rattle.std.specs.FinMap.{empty, insert, len}
+use Rattle.std.specs.Prelude.{ℕ, ◌≡◌, ◌≤◌, Bool, true, List, [], map, Option, Some, None, is_some}
+use Rattle.std.specs.FinMap.{len}
 use Rattle.tdb_space.specs.Form.{Form}
 use Rattle.tdb_space.specs.Pairs.{home}
 use Rattle.tdb_space.specs.Spare.{without_bound}
@@ -8,7 +8,7 @@ use Rattle.tdb_space.specs.Extents.{HandPair}
 use Rattle.tdb_locks.specs.HeldLocks.{HeldLocks}
 use Rattle.tdb_locks.specs.declared.kind.Kind.{Kind}
 use Rattle.tdb_law.specs.Commands as Law
-use Rattle.tdb_law.specs.Openers.{Counts, AllLock, Own, Spot, Task as LawTask, nowhere}
+use Rattle.tdb_law.specs.Openers.{AllLock, Own, Spot, Task as LawTask, nowhere}
 use Rattle.tdb_law.specs.Refusals.{Refusal, refusal, says}
 use Rattle.tdb_law.specs.Beginning.{nobody}
 use Rattle.tdb_law.specs.Images.{image_map}
@@ -29,6 +29,7 @@ use Rattle.tdb_cursors.specs.Spots.{spot_number}
 use Rattle.tdb_plays.specs.InLaw.{law_command, law_reply, options_of}
 use Rattle.tdb_world.specs.Given.{IsShortLocking, IsWellHeld}
 use Rattle.tdb_plays.specs.declared.options.Options.{Options}
+use Rattle.tdb_plays.specs.Counts.{counts_of}
 use Rattle.tdb_world.specs.declared.opener.Opener.{Opener}
 use Rattle.tdb_world.specs.declared.job.Job.{Job}
 use Rattle.tdb_world.specs.declared.job.Job.TheVariants.{Refused, Plain, Check, Locking, Seqnum, Walk as OnWalk}
@@ -39,11 +40,6 @@ use Rattle.tdb_world.specs.declared.job.Walking.TheVariants as Walks
 use Rattle.tdb_world.specs.declared.job.Checking.{Checking}
 use Rattle.tdb_world.specs.declared.job.Checking.TheVariants.{Begun, Records, FreeList, Counted}
 use Rattle.tdb_world.specs.declared.job.Task.{Task}
-
--- how many times each chain is locked explicitly, by the lock byte of the chain; a chain that isn't locked has no entry
-abbrev pub counts_of : List (ℕ × ℕ) → Counts
-counts_of [] = empty
-counts_of (e ∷ es) = if nat_lt 0 e.1 then insert (counts_of es) (168 + 4 * e.0) e.1 else counts_of es
 
 -- the explicit lock of all records
 abbrev pub all_of : Option (Kind × ℕ) → Option AllLock

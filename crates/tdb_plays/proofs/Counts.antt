@@ -12,12 +12,12 @@ use Rattle.std.specs.Ordering.{nat_cmp, eq_by_cmp, is_eq}
 use Rattle.std.specs.declared.cmp.Ordering.{Ordering}
 use Rattle.std.specs.declared.cmp.Ordering.TheVariants.{Less, Equal, Greater}
 use Rattle.std.specs.Cmp.{nat_cmp_total}
-use Rattle.std.specs.FinMap.{get, insert, entries, values, entries-insert, get-insert, get-remove, remove, get-empty, len-empty, len-entries, get-entries, same_map, nat_cmp-IsAntisymmetric}
+use Rattle.std.specs.FinMap.{get, insert, empty, entries, values, entries-insert, get-insert, get-remove, remove, get-empty, len-empty, len-entries, get-entries, same_map, nat_cmp-IsAntisymmetric}
 use Rattle.std.specs.FinMap.Entries.{put, find, by_order}
 use Rattle.std.proofs.lemmas.List.Sums.{sum_by-cons}
 use Rattle.tdb_locks.specs.HeldLocks.{AreCounts, count_in}
 use Rattle.tdb_law.specs.Openers.{Counts}
-use Rattle.tdb_world.specs.Openers.{counts_of}
+use Rattle.tdb_plays.specs.Counts.{counts_of}
 
 -- no chain of the list has this lock byte
 abbrev Misses : ℕ → List (ℕ × ℕ) → Type 0
@@ -82,10 +82,10 @@ zero_of n e = grind (arith, nat_tests)
 abbrev pub some_if : ℕ → Option ℕ
 some_if n = if nat_lt 0 n then Some n else None
 
-some_of : (n : ℕ) → nat_lt 0 n ≡ true → Some n ≡ some_if n
+pub some_of : (n : ℕ) → nat_lt 0 n ≡ true → Some n ≡ some_if n
 some_of n e = rw e refl
 
-none_of : (n : ℕ) → nat_lt 0 n ≡ false → None ≡ some_if n
+pub none_of : (n : ℕ) → nat_lt 0 n ≡ false → None ≡ some_if n
 none_of n e = rw e refl
 
 -- the entry of a chain's lock byte is that of the chain's count
@@ -151,12 +151,21 @@ sum_counted (e ∷ es) sorted = at (nat_lt 0 e.1) refl (sum_counted es (sorted_t
     at true is rest = ap sum_of (entries-insert nat_cmp_total (counts_of es) (168 + 4 * e.0) e.1) ∙ sum_put (168 + 4 * e.0) e.1 (entries (counts_of es)) new ∙ ap (λ n. e.1 + n) rest
     at false is rest = omega (arith, rest, zero_of e.1 is)
 
+-- no chain has an entry where none is held
+pub none_counted : (es : List (ℕ × ℕ)) → sum (values_of es) ≡ 0 → counts_of es ≡ empty
+none_counted [] none = refl
+none_counted (e ∷ es) none =
+    let whole : sum (values_of (e ∷ es)) ≡ e.1 + sum (values_of es) = sum_by-cons (λ (x : ℕ). x) e.1 (values_of es) in
+    let zero : e.1 ≡ 0 = omega (arith, whole, none) in
+    let first : nat_lt 0 e.1 ≡ false = ap (nat_lt 0) zero in
+    rw first (none_counted es (omega (arith, whole, none)))
+
 -- a byte is the lock byte of a chain, or of none
 pub chain_or_none : (b : ℕ) → ((c : ℕ) × (b ≡ 168 + 4 * c)) ⊎ ((c : ℕ) → b ≢ 168 + 4 * c)
 chain_or_none b = elim (cases_eq b (168 + 4 * ((b - 168) / 4))) [ inl e ↦ inl ((b - 168) / 4, e) | inr differs ↦ inr (λ c e. differs (omega (arith, e))) ]
 
 -- counts are the same where their entries are
-alike_counts : (m n : Counts) → ((b : ℕ) → get m b ≡ get n b) → m ≡ n
+pub alike_counts : (m n : Counts) → ((b : ℕ) → get m b ≡ get n b) → m ≡ n
 alike_counts m n alike = same_map nat_cmp_total nat_cmp-IsAntisymmetric m n alike
 
 module _ (es ns : List (ℕ × ℕ)) (old : AreCounts es) (new : AreCounts ns) where
