@@ -7,13 +7,14 @@ use Rattle.tdb_disk.proofs.Runs.{leaves_join, leaves_start, leaves_weaker}
 use Rattle.tdb_space.specs.Form.{Form, form_in}
 use Rattle.tdb_space.specs.Opening.{restored}
 use Rattle.tdb_law.specs.Lines.{Line as LawLine}
-use Rattle.tdb_law.specs.Plays.{Play, Course, Gives}
+use Rattle.tdb_law.specs.Plays.{Play, Gives}
 use Rattle.tdb_law.specs.World.{State}
 use Rattle.tdb_plays.specs.declared.line.Line.{Line}
 use Rattle.tdb_plays.specs.InLaw.{law_line, law_lines}
 use Rattle.tdb_world.specs.Played.{UnlessIo}
 use Rattle.tdb_world.specs.declared.fault.RunFault.{RunFault}
 use Rattle.tdb_world.specs.declared.fault.RunFault.TheVariants.{Io, Memory}
+use Rattle.tdb_world.proofs.Courses.{course_join}
 use Rattle.tdb_whole.specs.States.{IsStateOf}
 use Rattle.tdb_whole.specs.Stops.{IsSafe, OpensToState}
 use Rattle.tdb_whole.specs.Whole.{Whole, form_at}
@@ -21,13 +22,6 @@ use Rattle.tdb_whole.proofs.Reopening.{state_reopens}
 use Rattle.tdb_course.specs.Led.{Moment, IsStateAt}
 use Rattle.tdb_course.specs.Stops.{Leads, Passes, IsTransacted, OpensOnTheWay, StopsOn, StopsLed}
 use Rattle.tdb_course.proofs.Leading.{lines_join}
-
--- plays behind others
-course_join : (f : Form) (plays more : List Play) (old mid new : State) (front rest : List LawLine) → Course f old plays front mid → Course f mid more rest new
-    → Course f old (plays ++ more) (front ++ rest) new
-course_join f [] more old mid new front rest C D = subst (λ ls. Course f old more (ls ++ rest) new) (sym C.0) (subst (λ z. Course f z more rest new) C.1 D)
-course_join f (play ∷ plays) more old mid new front rest C D =
-    (C.0, C.1, C.2 ++ rest, ap (λ ls. ls ++ rest) C.3 ∙ append_assoc C.1 C.2 rest, C.4, course_join f plays more C.0 mid new C.2 rest C.5 D)
 
 module _ (f : Form) where
   -- no play leads on, one does, and some do behind others

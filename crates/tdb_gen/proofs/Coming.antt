@@ -1,17 +1,12 @@
 -- Courses and plays that broke off, one after the other.
-use Rattle.std.proofs.Common.{List, [], ◌∷◌, ◌++◌, refl, sym, ◌∙◌, ap, subst}
+use Rattle.std.proofs.Common.{List, [], ◌∷◌, ◌++◌, refl, sym, ◌∙◌, ap}
 use Rattle.std.proofs.lemmas.List.{append_assoc, append-nil}
 use Rattle.tdb_space.specs.Form.{Form}
 use Rattle.tdb_law.specs.Lines.{Line}
 use Rattle.tdb_law.specs.Plays.{Play, Course}
 use Rattle.tdb_law.specs.World.{State}
 use Rattle.tdb_world.specs.Played.{ComesTo, FirstBegun, begun_not}
-
--- a course that goes on in another one
-pub course_join : (f : Form) (plays more : List Play) (old mid new : State) (front rest : List Line) → Course f old plays front mid → Course f mid more rest new → Course f old (plays ++ more) (front ++ rest) new
-course_join f [] more old mid new front rest C D = subst (λ (q : State × List Line). Course f q.0 more q.1 new) (λ j. (C.1 j, sym (ap (λ ls. ls ++ rest) C.0) j)) D
-course_join f (play ∷ plays) more old mid new front rest C D =
-    (C.0, C.1, C.2 ++ rest, ap (λ ls. ls ++ rest) C.3 ∙ append_assoc C.1 C.2 rest, C.4, course_join f plays more C.0 mid new C.2 rest C.5 D)
+use Rattle.tdb_world.proofs.Courses.{course_join}
 
 -- one that is whole is as far as it came, and one that broke off may have been that of more plays
 pub whole_comes : (f : Form) (plays : List Play) (old new : State) (lines : List Line) → Course f old plays lines new → ComesTo f old plays lines new

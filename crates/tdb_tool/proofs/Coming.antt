@@ -9,6 +9,7 @@ use Rattle.tdb_law.specs.Plays.{Play as LawPlay, Course}
 use Rattle.tdb_law.specs.World.{State}
 use Rattle.tdb_plays.specs.declared.line.Line.{Line}
 use Rattle.tdb_world.specs.Played.{ComesTo, FirstBegun, begun_not}
+use Rattle.tdb_world.proofs.Courses.{course_join}
 use Rattle.tdb_whole.specs.Stops.{IsSafe}
 use Rattle.tdb_whole.specs.Whole.{form_at}
 use Rattle.tdb_tool.specs.declared.fault.SessionFault.{SessionFault}
@@ -17,12 +18,6 @@ use Rattle.tdb_tool.specs.Serving.{UnlessBroken, OnBroken, HeardSo, Deed, TellsA
 use Rattle.tdb_tool.proofs.Hearing.{heard_after}
 use Rattle.tdb_tool.proofs.Stops.{LeadsOn, stops_nowhere, stops_after}
 use Rattle.tdb_tool.proofs.Telling.{front_all, front_after}
-
--- a course that goes on in another one
-pub course_join : (f : Form) (plays more : List LawPlay) (old mid new : State) (front rest : List LawLine) → Course f old plays front mid → Course f mid more rest new → Course f old (plays ++ more) (front ++ rest) new
-course_join f [] more old mid new front rest C D = subst (λ (q : State × List LawLine). Course f q.0 more q.1 new) (λ j. (C.1 j, sym (ap (λ ls. ls ++ rest) C.0) j)) D
-course_join f (play ∷ plays) more old mid new front rest C D =
-    (C.0, C.1, C.2 ++ rest, ap (λ ls. ls ++ rest) C.3 ∙ append_assoc C.1 C.2 rest, C.4, course_join f plays more C.0 mid new C.2 rest C.5 D)
 
 -- one that is whole is as far as it came, and one that broke off may have been that of more plays
 pub whole_comes : (f : Form) (plays : List LawPlay) (old new : State) (lines : List LawLine) → Course f old plays lines new → ComesTo f old plays lines new

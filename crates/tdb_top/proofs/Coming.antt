@@ -26,7 +26,8 @@ use Rattle.tdb_whole.specs.Whole.{Whole, form_at, WorldFits}
 use Rattle.tdb_whole.specs.States.{IsStateOf}
 use Rattle.tdb_course.specs.Led.{moment, Comes, Led}
 use Rattle.tdb_course.specs.Unfinished.{IsEnd}
-use Rattle.tdb_tool.proofs.Coming.{course_join, whole_comes, comes_more, comes_after}
+use Rattle.tdb_world.proofs.Courses.{course_join}
+use Rattle.tdb_tool.proofs.Coming.{whole_comes, comes_more, comes_after}
 use Rattle.tdb_course.specs.Hearing.{HeardLed, RunsAsTold}
 use Rattle.tdb_log.specs.Logs.{Logged}
 use Rattle.tdb_log.specs.declared.log.LogRefusal.{LogRefusal}

@@ -25,7 +25,7 @@ use Rattle.tdb_whole.proofs.Reopening.{state_reopens}
 use Rattle.tdb_course.specs.Led.{moment}
 use Rattle.tdb_course.specs.Stops.{IsTransacted, Leads, OpensOnTheWay, Passes, StopsLed}
 use Rattle.tdb_course.specs.Unfinished.{AreUnfinished}
-use Rattle.tdb_tool.proofs.Coming.{course_join}
+use Rattle.tdb_world.proofs.Courses.{course_join}
 use Rattle.tdb_tool.proofs.Telling.{front_after}
 use Rattle.tdb_log.specs.Logs.{Logged}
 use Rattle.tdb_log.specs.declared.log.LogRefusal.{LogRefusal}

@@ -110,6 +110,12 @@ course_then f [] play old mid new front rest C G =
 course_then f (p ∷ plays) play old mid new front rest C G =
     (C.0, C.1, C.2 ++ rest, ap (λ ls. ls ++ rest) C.3 ∙ append_assoc C.1 C.2 rest, C.4, course_then f plays play C.0 mid new C.2 rest C.5 G)
 
+-- and other plays behind those
+pub course_join : (f : Form) (plays more : List Play) (old mid new : State) (front rest : List Line) → Course f old plays front mid → Course f mid more rest new → Course f old (plays ++ more) (front ++ rest) new
+course_join f [] more old mid new front rest C D = subst (λ ls. Course f old more (ls ++ rest) new) (sym C.0) (subst (λ z. Course f z more rest new) C.1 D)
+course_join f (play ∷ plays) more old mid new front rest C D =
+    (C.0, C.1, C.2 ++ rest, ap (λ ls. ls ++ rest) C.3 ∙ append_assoc C.1 C.2 rest, C.4, course_join f plays more C.0 mid new C.2 rest C.5 D)
+
 -- plays that broke off behind others
 pub course_begun : (f : Form) (done left : List Play) (old mid new : State) (front rest : List Line) → Course f old done front mid → FirstBegun f mid left rest new → ComesTo f old (done ++ left) (front ++ rest) new
 course_begun f done left old mid new front rest C B = record { done = done; left = left; parts = refl; mid = mid; front = front; rest = rest; told = refl; course = C; begun = B }

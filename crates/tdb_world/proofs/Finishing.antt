@@ -16,7 +16,7 @@ use Rattle.tdb_law.proofs.Undoing.{undo_lawful}
 use Rattle.tdb_law.proofs.Plainly.{beginning_lawful}
 use Rattle.tdb_world.specs.Played.{Steps, Begun, FirstBegun, BrokenIsLawful}
 use Rattle.tdb_world.specs.Played.Begun.{begun_not, begun_turn, begun_turns, begun_command}
-use Rattle.tdb_world.proofs.Courses.{course_then}
+use Rattle.tdb_world.proofs.Courses.{course_join, course_then}
 
 -- a line that may be followed by one may be followed by others
 followed_by : (line : LawLine) (rest tail : List LawLine) → IsFollowed line (rest ++ LawLine.LogsLeft 0 ∷ []) → IsFollowed line (rest ++ tail)
@@ -46,11 +46,6 @@ steps_course f zero old new who lines S = S
 steps_course f (suc n) old new who lines S =
     subst (λ ls. Course f old (turns (suc n) who) ls new) (sym S.3)
     (course_then f (turns n who) (TakeTurn who) old S.0 new S.1 S.2 (steps_course f n old S.0 who S.1 S.4) (gives_turn who Step refl S.5))
-
-course_join : (f : Form) (front rest : List Play) (old mid new : State) (one two : List LawLine) → Course f old front one mid → Course f mid rest two new → Course f old (front ++ rest) (one ++ two) new
-course_join f [] rest old mid new one two A B = subst (λ ls. Course f old rest (ls ++ two) new) (sym A.0) (subst (λ z. Course f z rest two new) A.1 B)
-course_join f (p ∷ front) rest old mid new one two A B =
-    (A.0, A.1, A.2 ++ two, ap (λ ls. ls ++ two) A.3 ∙ append_assoc A.1 A.2 two, A.4, course_join f front rest A.0 mid new A.2 two A.5 B)
 
 -- Plays that were taken whole, and behind them an open gate may have been undone, with a line of its own.
 record Cleared (f : Form) (old : State) (lines : List LawLine) (new : State) : Type 0 where
