@@ -39,7 +39,7 @@ use Rattle.tdb_holder.specs.declared.stage.Stage.TheVariants as At
 use Rattle.tdb_holder.specs.Ends.{task_of}
 use Rattle.tdb_holder.specs.Holders.{finish_gate, prepared_gate, stage_gate}
 use Rattle.tdb_holder.specs.Reads.{IsReadAs}
-use Rattle.tdb_holder.proofs.ReadAs.{end_reads, finish_opens, opens_reads, prepare_opens, prepare_reads, prepared_opens, rest_reads, restored_form, OpensIn}
+use Rattle.tdb_holder.proofs.ReadAs.{end_reads, finish_opens, opens_reads, prepare_opens, prepare_reads, prepared_opens, rest_reads, restored_accepted, restored_opens, OpensIn}
 use Rattle.tdb_holder.specs.Stages.{given_task, prepared_steps, stage_records, stage_task, was_changed, Known, KnowsFile, IsSide}
 
 -- a command that has had no turn has had no step of a commit
@@ -156,7 +156,7 @@ module _ (f : Form) (h : History) (k : Known) where
   gate_form (At.Prepared left command) e K = K.forms.0
   gate_form (At.Finishing c) e K = K.forms.0
 
-  gate_opens : (stage : Stage) → stage_gate stage ≡ true → KnowsFile f stage h k → OpensIn f h k.file
+  gate_opens : (stage : Stage) → stage_gate stage ≡ true → KnowsFile f stage h k → OpensIn f k.file (seen h)
   gate_opens (At.Starting st) e K = absurd (cc e)
   gate_opens (At.Open txn command) e K = absurd (cc e)
   gate_opens (At.Committing (Preparing p)) e K = absurd (cc e)
@@ -173,18 +173,9 @@ module _ (f : Form) (h : History) (k : Known) where
     pub accepted : AcceptWith f (restored f (seen h)) []
     pub reads : IsReadAs f h k.file
 
-  opens_undone : form_of k.file ≡ f → OpensIn f h k.file → IsUndone
+  opens_undone : form_of k.file ≡ f → OpensIn f k.file (seen h) → IsUndone
   opens_undone form O =
-      let c = seen h in
-      let img = restored (form_of c) c in
-      let same : img ≡ restored f c = ap (λ g. restored g c) O.form in
-      let now : form_of img ≡ f = restored_form k.file c O.reopens ∙ O.form in
-      record {
-        form = O.form;
-        reopens = subst (λ i. Reopens i c) same (record { opens = record { opens = O.reopens.opens.opens; holds = λ key. refl }; again = O.reopens.again; sequence = refl });
-        accepted = subst (λ i. AcceptWith f i []) same (subst (λ g. AcceptWith g img []) now O.reopens.opens.opens.accepted);
-        reads = opens_reads f h k.file form O;
-      }
+      record { form = O.form; reopens = restored_opens f k.file (seen h) O; accepted = restored_accepted f k.file (seen h) O; reads = opens_reads f h k.file form O }
 
   pub gate_undone : (stage : Stage) → stage_gate stage ≡ true → KnowsFile f stage h k → IsUndone
   gate_undone stage e K = opens_undone (gate_form stage e K) (gate_opens stage e K)

@@ -1,13 +1,13 @@
 -- As what the file is read while a transaction is committed into it.
-use Rattle.std.proofs.Common.{◌≡◌, ℕ, ◌<◌, ◌≤◌, List, sym, ap, ◌∙◌, subst, inl, inr, arith}
-use Rattle.std.specs.FinMap.{from_entries}
+use Rattle.std.proofs.Common.{◌≡◌, ℕ, ◌<◌, ◌≤◌, List, [], refl, sym, ap, ◌∙◌, subst, inl, inr, arith}
+use Rattle.std.specs.FinMap.{from_entries, get}
 use Rattle.tdb_disk.specs.History.{History, seen}
 use Rattle.tdb_disk.proofs.Stop.{leaves_seen}
 use Rattle.tdb_words.specs.Word.{word}
 use Rattle.tdb_words.specs.declared.record.TheConstants.{GATE_OPEN}
-use Rattle.tdb_space.specs.Accepted.{Accept}
+use Rattle.tdb_space.specs.Accepted.{Accept, AcceptWith}
 use Rattle.tdb_space.specs.Form.{Form, form_of, SameHeader}
-use Rattle.tdb_space.specs.Opening.{restored}
+use Rattle.tdb_space.specs.Opening.{own_map, restored}
 use Rattle.tdb_space.specs.Pairs.{map_of}
 use Rattle.tdb_space.specs.Planned.{IsPlanned}
 use Rattle.tdb_space.specs.Scheme.{Scheme, Within, with_gate}
@@ -20,6 +20,7 @@ use Rattle.tdb_space.proofs.RecoverySteps.Emptying.{word_beside}
 use Rattle.tdb_space.proofs.Scheme.WritesUndone.{within_itself}
 use Rattle.tdb_space.proofs.Undoing.Alike.{exact_reopens}
 use Rattle.tdb_law.specs.Images.{image_map}
+use Rattle.tdb_law.specs.Openers.{Map}
 use Rattle.tdb_law.proofs.HandsOut.{image_answers}
 use Rattle.tdb_law.proofs.Maps.{maps_equal}
 use Rattle.tdb_steps.specs.Turns.{number_of}
@@ -27,7 +28,7 @@ use Rattle.tdb_txn.specs.Commit.{Brings, IsPrepared, opened, scheme_of}
 use Rattle.tdb_txn.specs.Planned.{IsPlannedOn}
 use Rattle.tdb_txn.specs.declared.planned.Plan.{Plan}
 use Rattle.tdb_txn.proofs.StatesKept.{fills_of}
-use Rattle.tdb_commit.specs.Commits.{Carries, OpensAs, RestsAt}
+use Rattle.tdb_commit.specs.Commits.{Carries, OpensAs, RestsAt, StandsFor}
 use Rattle.tdb_commit.specs.Committings.{commit_steps, KnowsCommit}
 use Rattle.tdb_commit.specs.Finishes.{finish_steps, IsShut, KnowsFinish}
 use Rattle.tdb_commit.specs.Prepares.{stage_steps, KnowsStage}
@@ -65,15 +66,22 @@ reopens_reads f h r old now R = record {
   number = ap (λ g. number_of g (restored g (seen h))) (sym now) ∙ own_number_read r (seen h) R ∙ ap (λ g. number_of g r) old;
 }
 
--- so is one that opens as the transaction's image
+-- what stands for an image has its map
+stands_map : (b x : List ℕ) → StandsFor b x → (key : List ℕ) → own_map x key ≡ own_map b key
+stands_map b x S key =
+    let same : image_map (form_of b) x ≡ image_map (form_of b) b = ap from_entries S.same_order in
+    ap (λ g. map_of g x key) (form_kept b x S.header) ∙ sym (image_answers (form_of b) x key) ∙ ap (λ (m : Map). get m key) same ∙ image_answers (form_of b) b key
+
+-- so what opens as the transaction's image opens to the map of that, and is read as it
+pub opens_as : (b c : List ℕ) → OpensAs b c → Reopens b c
+opens_as b c O = record {
+  opens = record { opens = O.opens.opens.opens; holds = λ key. O.opens.opens.holds key ∙ stands_map b O.image O.stands key };
+  again = O.opens.again;
+  sequence = O.opens.sequence ∙ O.stands.number;
+}
+
 opened_reads : (f : Form) (h : History) (b : List ℕ) → form_of b ≡ f → form_of (seen h) ≡ f → OpensAs b (seen h) → IsReadAs f h b
-opened_reads f h b form now O =
-    let stands = O.stands in
-    let here : form_of O.image ≡ form_of b = form_kept b O.image stands.header in
-    let read = reopens_reads f h O.image (here ∙ form) now O.opens in record {
-      map = read.map ∙ ap (λ g. image_map g O.image) (sym form) ∙ ap from_entries stands.same_order ∙ ap (λ g. image_map g b) form;
-      number = read.number ∙ ap (λ (g : Form). word g.order O.image 48) (sym (here ∙ form)) ∙ stands.number ∙ ap (λ (g : Form). word g.order b 48) form;
-    }
+opened_reads f h b form now O = reopens_reads f h b form now (opens_as b (seen h) O)
 
 -- what is written within a plan leaves the header
 within_form : (p : Scheme) (a b d : List ℕ) → Accept a → Accept b → IsPlanned p a b → Within p (with_gate GATE_OPEN p a) d → form_of d ≡ form_of a
@@ -85,60 +93,71 @@ within_form p a b d A B h W = form_kept a d header
         W.others i (omega (arith, low, h.old_above)) ((plan_lies p a b A h).front i (elim front [ inl lt ↦ inl (omega (arith, lt)) | inr le ↦ inr (omega (arith, le)) ]))
         ∙ word_beside p.order a p.gate GATE_OPEN i (inl (omega (arith, low, h.gate, (area_within p a b A h).1)))
 
--- an image of the file opens to the map of the first of two images, and has the form of the second
-record IsLike (x y c : List ℕ) : Type 0 where
-  form : form_of c ≡ form_of y
-  reopens : Reopens x c
+-- An image of the file has this form, and opens to the map of image r.
+pub record OpensIn (f : Form) (r c : List ℕ) : Type 0 where
+  pub form : form_of c ≡ f
+  pub reopens : Reopens r c
 
--- with the gate open, whatever is written within the plan
-open_like : (plan : Plan) (x y c : List ℕ) → Brings plan x y → Within (scheme_of plan) (opened plan x) c → IsLike x y c
-open_like plan x y c brings W = record {
+-- What an undo gives has the form of the file before it; it is accepted, and the file opens to its map.
+module _ (f : Form) (r c : List ℕ) (O : OpensIn f r c) where
+  undone : restored (form_of c) c ≡ restored f c
+  undone = ap (λ g. restored g c) O.form
+
+  pub restored_accepted : AcceptWith f (restored f c) []
+  restored_accepted =
+      subst (λ i. AcceptWith f i []) undone
+      (subst (λ g. AcceptWith g (restored (form_of c) c) []) (restored_form r c O.reopens ∙ O.form) O.reopens.opens.opens.accepted)
+
+  pub restored_opens : Reopens (restored f c) c
+  restored_opens =
+      subst (λ i. Reopens i c) undone
+      (record { opens = record { opens = O.reopens.opens.opens; holds = λ key. refl }; again = O.reopens.again; sequence = refl })
+
+-- The states of a commit: the file has the form of what is written, and opens to the map of what was there. With the gate open so does
+-- whatever is written within the plan.
+pub open_in : (plan : Plan) (x y c : List ℕ) → Brings plan x y → Within (scheme_of plan) (opened plan x) c → OpensIn (form_of y) x c
+open_in plan x y c brings W = record {
   form = within_form (scheme_of plan) x y c brings.before brings.after brings.planned W ∙ sym (form_kept x y brings.planned.header);
   reopens = (fills_of plan x y brings).undoes c W;
 }
 
-prepared_like : (plan : Plan) (h : History) (x y : List ℕ) → IsPrepared plan h x y → IsLike x y (seen h)
-prepared_like plan h x y S = open_like plan x y (seen h) S.brings (subst (Within (scheme_of plan) (opened plan x)) (sym S.file) (within_itself (scheme_of plan) (opened plan x)))
+prepared_seen : (plan : Plan) (h : History) (x y : List ℕ) → IsPrepared plan h x y → OpensIn (form_of y) x (seen h)
+prepared_seen plan h x y S = open_in plan x y (seen h) S.brings (subst (Within (scheme_of plan) (opened plan x)) (sym S.file) (within_itself (scheme_of plan) (opened plan x)))
 
-planned_like : (plan : Plan) (h : History) (x y : List ℕ) → IsPlannedOn plan h x y → IsLike x y (seen h)
-planned_like plan h x y S = record { form = sym (form_kept (seen h) y S.awaits.header); reopens = stays_reopens x (seen h) S.stays S.sequence }
+pub planned_seen : (plan : Plan) (h : History) (x y : List ℕ) → IsPlannedOn plan h x y → OpensIn (form_of y) x (seen h)
+planned_seen plan h x y S = record { form = sym (form_kept (seen h) y S.awaits.header); reopens = stays_reopens x (seen h) S.stays S.sequence }
 
--- the file has a form, and opens to the map of an image
-pub record OpensIn (f : Form) (h : History) (r : List ℕ) : Type 0 where
-  pub form : form_of (seen h) ≡ f
-  pub reopens : Reopens r (seen h)
+-- so each image that opens to the map of what was there opens to that of the file before the commit
+pub carried_opens : (State : History → List ℕ → List ℕ → Type 0) (f : Form) (h : History) (r b c : List ℕ) → form_of r ≡ f → Carries State h r b
+    → ((x y : List ℕ) → State h x y → OpensIn (form_of y) x c) → OpensIn f r c
+carried_opens State f h r b c form C state =
+    let S = state C.before C.after C.state in
+    record { form = S.form ∙ form_kept b C.after C.stands.header ∙ form_kept r b C.header ∙ form; reopens = C.reopens c S.reopens }
 
--- so it opens to that of the image before the commit, at each state that is like it
-carried_opens : (State : History → List ℕ → List ℕ → Type 0) (f : Form) (h : History) (r b : List ℕ) → form_of r ≡ f → Carries State h r b
-    → ((x y : List ℕ) → State h x y → IsLike x y (seen h)) → OpensIn f h r
-carried_opens State f h r b form C like =
-    let L = like C.before C.after C.state in
-    record { form = L.form ∙ form_kept b C.after C.stands.header ∙ form_kept r b C.header ∙ form; reopens = C.reopens (seen h) L.reopens }
+pub prepared_opens : (f : Form) (plan : Plan) (h : History) (r b : List ℕ) → form_of r ≡ f → Carries (IsPrepared plan) h r b → OpensIn f r (seen h)
+prepared_opens f plan h r b form C = carried_opens (IsPrepared plan) f h r b (seen h) form C (prepared_seen plan h)
 
-pub prepared_opens : (f : Form) (plan : Plan) (h : History) (r b : List ℕ) → form_of r ≡ f → Carries (IsPrepared plan) h r b → OpensIn f h r
-prepared_opens f plan h r b form C = carried_opens (IsPrepared plan) f h r b form C (prepared_like plan h)
-
-rest_opens : (f : Form) (h : History) (r : List ℕ) → form_of r ≡ f → RestsAt h r → OpensIn f h r
+pub rest_opens : (f : Form) (h : History) (r : List ℕ) → form_of r ≡ f → RestsAt h r → OpensIn f r (seen h)
 rest_opens f h r form R = record { form = R.accepted.form ∙ form; reopens = R.opens }
 
-pub prepare_opens : (f : Form) (s : PrepareStage) (h : History) (r b : List ℕ) → form_of r ≡ f → KnowsStage s h r b → OpensIn f h r
+pub prepare_opens : (f : Form) (s : PrepareStage) (h : History) (r b : List ℕ) → form_of r ≡ f → KnowsStage s h r b → OpensIn f r (seen h)
 prepare_opens f Prepares.Unchanged h r b form K = rest_opens f h r form K
 prepare_opens f (Prepares.Begun txn) h r b form K = rest_opens f h r form (ready_rests txn h r b K)
 prepare_opens f (Prepares.Records txn) h r b form K = rest_opens f h r form (ready_rests txn h r b K)
 prepare_opens f (Prepares.Locked txn) h r b form K = rest_opens f h r form (ready_rests txn h r b K)
-prepare_opens f (Prepares.Planned state) h r b form K = carried_opens _ f h r b form K (planned_like _ h)
+prepare_opens f (Prepares.Planned state) h r b form K = carried_opens _ f h r b (seen h) form K (planned_seen _ h)
 prepare_opens f (Prepares.Filled state) h r b form K =
-    carried_opens _ f h r b form K
+    carried_opens _ f h r b (seen h) form K
     (λ x y S. record { form = ap form_of S.file ∙ sym (form_kept x y S.brings.planned.header); reopens = subst (Reopens x) (sym S.file) (exact_reopens x S.brings.before) })
 
-pub finish_opens : (f : Form) (s : Finishing) (h : History) (r b : List ℕ) → form_of r ≡ f → finish_steps s < 3 → KnowsFinish s h r b → OpensIn f h r
+pub finish_opens : (f : Form) (s : Finishing) (h : History) (r b : List ℕ) → form_of r ≡ f → finish_steps s < 3 → KnowsFinish s h r b → OpensIn f r (seen h)
 finish_opens f (Finishes.Open state) h r b form few K = prepared_opens f _ h r b form K
-finish_opens f (Finishes.Applied state) h r b form few K = carried_opens _ f h r b form K (λ x y S. open_like _ x y (seen h) S.brings (S.within (seen h) (leaves_seen h)))
-finish_opens f (Finishes.Settled state) h r b form few K = carried_opens _ f h r b form K (λ x y S. open_like _ x y (seen h) S.brings S.within)
+finish_opens f (Finishes.Applied state) h r b form few K = carried_opens _ f h r b (seen h) form K (λ x y S. open_in _ x y (seen h) S.brings (S.within (seen h) (leaves_seen h)))
+finish_opens f (Finishes.Settled state) h r b form few K = carried_opens _ f h r b (seen h) form K (λ x y S. open_in _ x y (seen h) S.brings S.within)
 finish_opens f Finishes.Shut h r b form few K = absurd (omega (arith, few))
 
 -- and is read as it
-pub opens_reads : (f : Form) (h : History) (r : List ℕ) → form_of r ≡ f → OpensIn f h r → IsReadAs f h r
+pub opens_reads : (f : Form) (h : History) (r : List ℕ) → form_of r ≡ f → OpensIn f r (seen h) → IsReadAs f h r
 opens_reads f h r form O = reopens_reads f h r form O.form O.reopens
 
 pub prepared_reads : (f : Form) (plan : Plan) (h : History) (r b : List ℕ) → form_of r ≡ f → Carries (IsPrepared plan) h r b → IsReadAs f h r

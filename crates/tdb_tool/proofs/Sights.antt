@@ -36,7 +36,8 @@ use Rattle.tdb_whole.specs.Died.{IsReadAs}
 use Rattle.tdb_whole.specs.States.{IsSeen, IsAside, SideIs, IsStateOf, state_with, writes_all}
 use Rattle.tdb_whole.specs.States.IsStateOf.{of_whole, of_stale}
 use Rattle.tdb_whole.specs.Whole.{Whole, form_at, options_at, is_starting, HolderFits, AsideFits, WorldFits}
-use Rattle.tdb_whole.proofs.Reopening.{OpensIn, restored_accepted, aside_opens, state_reopens}
+use Rattle.tdb_holder.proofs.ReadAs.{restored_accepted, OpensIn}
+use Rattle.tdb_whole.proofs.Reopening.{aside_opens, state_reopens}
 use Rattle.tdb_tool.proofs.Moves.{sight}
 
 -- a map is that of an accepted image of at most so many bytes

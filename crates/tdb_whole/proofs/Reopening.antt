@@ -1,40 +1,27 @@
 -- As what the file is read beside the one aside: it opens to the map of the side's image, an open gate undone; and so does what a stop leaves.
-use Rattle.std.proofs.Common.{◌≡◌, ℕ, ◌%◌, ◌<◌, ◌≤◌, List, [], length, true, false, Option, None, Some, is_some, refl, sym, ◌∙◌, ap, subst, inl, inr, arith}
-use Rattle.std.specs.FinMap.{from_entries, get}
+use Rattle.std.proofs.Common.{◌≡◌, ℕ, ◌%◌, ◌≤◌, List, [], length, true, false, Option, None, Some, is_some, refl, sym, ◌∙◌, ap, subst, inl, inr, arith}
 use Rattle.std.proofs.lemmas.Bool.{cases_lt}
 use Rattle.tdb_disk.specs.History.{History, seen}
-use Rattle.tdb_disk.specs.Stop.{Leaves}
+use Rattle.tdb_disk.specs.Stop.{Leaves, Quiet}
 use Rattle.tdb_disk.proofs.Stop.{leaves_seen}
-use Rattle.tdb_words.specs.declared.record.TheConstants.{GATE_OPEN}
-use Rattle.tdb_space.specs.Accepted.{Accept, AcceptWith, Shut}
-use Rattle.tdb_space.specs.Form.{Form, form_of, SameHeader}
+use Rattle.tdb_space.specs.Accepted.{AcceptWith, Shut}
+use Rattle.tdb_space.specs.Form.{Form, form_of}
 use Rattle.tdb_space.specs.NewArea.{Longer}
-use Rattle.tdb_space.specs.Opening.{own_map, restored}
-use Rattle.tdb_space.specs.Pairs.{map_of}
-use Rattle.tdb_space.specs.Planned.{IsPlanned}
-use Rattle.tdb_space.specs.Scheme.{Scheme, Within, with_gate}
+use Rattle.tdb_space.specs.Opening.{restored}
 use Rattle.tdb_space.specs.Undoing.{Reopens}
 use Rattle.tdb_space.proofs.Form.Headers.{form_kept}
-use Rattle.tdb_space.proofs.Moved.SameLists.{stays_reopens}
 use Rattle.tdb_space.proofs.Opening.Undone.{read_as_it_is}
-use Rattle.tdb_space.proofs.Planned.Ready.{area_within, plan_lies}
-use Rattle.tdb_space.proofs.RecoverySteps.Emptying.{word_beside}
-use Rattle.tdb_space.proofs.Scheme.WritesUndone.{within_itself}
 use Rattle.tdb_space.proofs.Undoing.Alike.{exact_reopens}
-use Rattle.tdb_undo.proofs.Found.{reopens_itself}
 use Rattle.tdb_undo.proofs.Growths.{growth_grew}
 use Rattle.tdb_law.specs.Images.{image_map}
 use Rattle.tdb_law.specs.Lines.{MayDie}
-use Rattle.tdb_law.specs.Openers.{Map}
-use Rattle.tdb_law.proofs.HandsOut.{image_answers}
 use Rattle.tdb_steps.specs.Turns.{number_of}
-use Rattle.tdb_txn.specs.Commit.{Brings, IsApplied, IsFilled, IsPrepared, IsSettled, opened, scheme_of}
-use Rattle.tdb_txn.specs.CommitStates.{applied_plan, filled_plan, planned_plan, prepared_plan, settled_plan}
+use Rattle.tdb_txn.specs.Commit.{IsApplied, IsPrepared}
+use Rattle.tdb_txn.specs.CommitStates.{applied_plan, planned_plan, prepared_plan}
 use Rattle.tdb_txn.specs.Planned.{grown, rests, IsPlannedOn, RestsButGrown}
 use Rattle.tdb_txn.specs.declared.planned.Plan.{Plan}
 use Rattle.tdb_txn.proofs.KeptArea.{longer_reopens}
-use Rattle.tdb_txn.proofs.StatesKept.{fills_of}
-use Rattle.tdb_commit.specs.Commits.{Carries, OpensAs, RestsAt, StandsFor}
+use Rattle.tdb_commit.specs.Commits.{Carries, RestsAt}
 use Rattle.tdb_commit.specs.Committings.{commit_steps, KnowsCommit}
 use Rattle.tdb_commit.specs.Finishes.{finish_steps, KnowsFinish}
 use Rattle.tdb_commit.specs.Prepares.{KnowsStage}
@@ -54,66 +41,18 @@ use Rattle.tdb_holder.specs.Stages.{start_records, stage_records, stage_task, Kn
 use Rattle.tdb_holder.specs.declared.stage.PreparedTxn.TheVariants.{Opened, Nothing}
 use Rattle.tdb_holder.specs.declared.stage.Stage.{Stage}
 use Rattle.tdb_holder.specs.declared.stage.Stage.TheVariants as At
-use Rattle.tdb_holder.proofs.ReadAs.{commit_reads, finish_reads, prepare_reads, prepared_reads, rest_reads, shut_commit_reads, shut_finish_reads}
+use Rattle.tdb_holder.proofs.ReadAs.{carried_opens, commit_reads, finish_opens, finish_reads, open_in, opens_as, planned_seen, prepare_opens, prepare_reads, prepared_opens, prepared_reads, rest_opens, rest_reads, shut_commit_reads, shut_finish_reads, OpensIn}
 use Rattle.tdb_whole.specs.Died.{IsReadAs, StatesAreRead}
 use Rattle.tdb_whole.specs.States.{state_with, writes_all, IsAside, SideIs}
 use Rattle.tdb_whole.specs.States.IsStateOf.{of_stale, of_whole}
 use Rattle.tdb_whole.specs.Whole.{form_at, Whole}
 
--- An image of the file has this form, and opens to the map of image r.
-pub record OpensIn (f : Form) (r c : List ℕ) : Type 0 where
-  pub form : form_of c ≡ f
-  pub reopens : Reopens r c
-
--- What an undo gives has the form of the file before it; it is accepted, and the file opens to its map.
-module _ (f : Form) (r c : List ℕ) (O : OpensIn f r c) where
-  own_form : form_of (restored (form_of c) c) ≡ form_of c
-  own_form = elim O.reopens.again [ inl shut ↦ ap form_of (read_as_it_is (form_of c) c shut) | inr mild ↦ form_kept c (restored (form_of c) c) mild.header ]
-
-  pub restored_accepted : AcceptWith f (restored f c) []
-  restored_accepted =
-      subst (λ g. AcceptWith f (restored g c) []) O.form
-      (subst (λ g. AcceptWith g (restored (form_of c) c) []) (own_form ∙ O.form) O.reopens.opens.opens.accepted)
-
-  pub restored_opens : Reopens (restored f c) c
-  restored_opens = reopens_itself f c O.reopens.opens.opens O.reopens.again O.form
-
--- what stands for an image has its map
-stands_map : (b x : List ℕ) → StandsFor b x → (key : List ℕ) → own_map x key ≡ own_map b key
-stands_map b x S key =
-    let same : image_map (form_of b) x ≡ image_map (form_of b) b = ap from_entries S.same_order in
-    ap (λ g. map_of g x key) (form_kept b x S.header) ∙ sym (image_answers (form_of b) x key) ∙ ap (λ (m : Map). get m key) same ∙ image_answers (form_of b) b key
-
--- so what opens as the transaction's image opens to the map of that
-pub opens_as : (b c : List ℕ) → OpensAs b c → Reopens b c
-opens_as b c O = record {
-  opens = record { opens = O.opens.opens.opens; holds = λ key. O.opens.opens.holds key ∙ stands_map b O.image O.stands key };
-  again = O.opens.again;
-  sequence = O.opens.sequence ∙ O.stands.number;
-}
-
--- what is written within a plan leaves the header
-within_form : (p : Scheme) (a b d : List ℕ) → Accept a → Accept b → IsPlanned p a b → Within p (with_gate GATE_OPEN p a) d → form_of d ≡ form_of a
-within_form p a b d A B h W = form_kept a d header
-  where
-    header : SameHeader a d
-    header i front =
-        let low : i < 64 = elim front [ inl lt ↦ omega (arith, lt) | inr le ↦ omega (arith, le) ] in
-        W.others i (omega (arith, low, h.old_above)) ((plan_lies p a b A h).front i (elim front [ inl lt ↦ inl (omega (arith, lt)) | inr le ↦ inr (omega (arith, le)) ]))
-        ∙ word_beside p.order a p.gate GATE_OPEN i (inl (omega (arith, low, h.gate, (area_within p a b A h).1)))
-
--- The states of a commit: each image that a stop leaves has the form of what is written, and opens to the map of what was there.
-open_in : (plan : Plan) (x y c : List ℕ) → Brings plan x y → Within (scheme_of plan) (opened plan x) c → OpensIn (form_of y) x c
-open_in plan x y c brings W = record {
-  form = within_form (scheme_of plan) x y c brings.before brings.after brings.planned W ∙ sym (form_kept x y brings.planned.header);
-  reopens = (fills_of plan x y brings).undoes c W;
-}
-
+-- Where the file was getting longer a stop leaves one that is longer than what was there, and opens to the map of that.
 planned_in : (plan : Plan) (h : History) (x y : List ℕ) → IsPlannedOn plan h x y → (c : List ℕ) → Leaves h c → OpensIn (form_of y) x c
 planned_in plan h x y S c left = go S.rest
   where
     go : RestsButGrown x h → OpensIn (form_of y) x c
-    go (rests quiet) = subst (OpensIn (form_of y) x) (sym (quiet c left)) (record { form = sym (form_kept (seen h) y S.awaits.header); reopens = stays_reopens x (seen h) S.stays S.sequence })
+    go (rests quiet) = subst (OpensIn (form_of y) x) (sym (quiet c left)) (planned_seen plan h x y S)
     go (grown old to quiet is words done) =
         let even : length (seen old) % 4 ≡ 0 = ap (λ l. length l % 4) is ∙ S.before.sized in
         let longer : Longer x c = subst (λ l. Longer l c) is (growth_grew old h to even words quiet (inr done) c left) in
@@ -124,45 +63,33 @@ planned_in plan h x y S c left = go S.rest
           reopens = longer_reopens x c S.before longer;
         }
 
-filled_in : (plan : Plan) (h : History) (x y : List ℕ) → IsFilled plan h x y → (c : List ℕ) → Leaves h c → OpensIn (form_of y) x c
-filled_in plan h x y S c left =
-    let file = S.quiet c left ∙ S.file in
-    record { form = ap form_of file ∙ sym (form_kept x y S.brings.planned.header); reopens = subst (Reopens x) (sym file) (exact_reopens x S.brings.before) }
-
-prepared_in : (plan : Plan) (h : History) (x y : List ℕ) → IsPrepared plan h x y → (c : List ℕ) → Leaves h c → OpensIn (form_of y) x c
-prepared_in plan h x y S c left = open_in plan x y c S.brings (subst (Within (scheme_of plan) (opened plan x)) (sym (S.quiet c left ∙ S.file)) (within_itself (scheme_of plan) (opened plan x)))
-
-applied_in : (plan : Plan) (h : History) (x y : List ℕ) → IsApplied plan h x y → (c : List ℕ) → Leaves h c → OpensIn (form_of y) x c
-applied_in plan h x y S c left = open_in plan x y c S.brings (S.within c left)
-
-settled_in : (plan : Plan) (h : History) (x y : List ℕ) → IsSettled plan h x y → (c : List ℕ) → Leaves h c → OpensIn (form_of y) x c
-settled_in plan h x y S c left = open_in plan x y c S.brings (subst (Within (scheme_of plan) (opened plan x)) (sym (S.quiet c left)) S.within)
-
--- so each of them opens to the map of the file before the commit
+-- Each image that a stop leaves in a commit opens to the map of the file before it.
 module _ (f : Form) (h : History) (r b : List ℕ) (form : form_of r ≡ f) (c : List ℕ) (left : Leaves h c) where
-  carried_in : (State : History → List ℕ → List ℕ → Type 0) → Carries State h r b → ((x y : List ℕ) → State h x y → (d : List ℕ) → Leaves h d → OpensIn (form_of y) x d) → OpensIn f r c
-  carried_in State C state =
-      let S = state C.before C.after C.state c left in
-      record { form = S.form ∙ form_kept b C.after C.stands.header ∙ form_kept r b C.header ∙ form; reopens = C.reopens c S.reopens }
+  -- on a quiet disk that is what is seen
+  seen_in : Quiet h → OpensIn f r (seen h) → OpensIn f r c
+  seen_in quiet O = subst (OpensIn f r) (sym (quiet c left)) O
 
   rest_in : RestsAt h r → OpensIn f r c
-  rest_in R = subst (OpensIn f r) (sym (R.quiet c left)) (record { form = R.accepted.form ∙ form; reopens = R.opens })
+  rest_in R = seen_in R.quiet (rest_opens f h r form R)
+
+  prepared_in : (plan : Plan) → Carries (IsPrepared plan) h r b → OpensIn f r c
+  prepared_in plan K = seen_in K.state.quiet (prepared_opens f plan h r b form K)
 
   prepare_in : (s : PrepareStage) → KnowsStage s h r b → OpensIn f r c
   prepare_in Prepares.Unchanged K = rest_in K
   prepare_in (Prepares.Begun txn) K = rest_in (ready_rests txn h r b K)
   prepare_in (Prepares.Records txn) K = rest_in (ready_rests txn h r b K)
   prepare_in (Prepares.Locked txn) K = rest_in (ready_rests txn h r b K)
-  prepare_in (Prepares.Planned state) K = carried_in (IsPlannedOn (planned_plan state)) K (planned_in (planned_plan state) h)
-  prepare_in (Prepares.Filled state) K = carried_in (IsFilled (filled_plan state)) K (filled_in (filled_plan state) h)
+  prepare_in (Prepares.Planned state) K = carried_opens (IsPlannedOn (planned_plan state)) f h r b c form K (λ x y S. planned_in (planned_plan state) h x y S c left)
+  prepare_in (Prepares.Filled state) K = seen_in K.state.quiet (prepare_opens f (Prepares.Filled state) h r b form K)
 
   finish_in : (s : Finishing) → KnowsFinish s h r b → (3 ≤ finish_steps s → r ≡ b) → OpensIn f r c
-  finish_in (Finishes.Open state) K late = carried_in (IsPrepared (prepared_plan state)) K (prepared_in (prepared_plan state) h)
-  finish_in (Finishes.Applied state) K late = carried_in (IsApplied (applied_plan state)) K (applied_in (applied_plan state) h)
-  finish_in (Finishes.Settled state) K late = carried_in (IsSettled (settled_plan state)) K (settled_in (settled_plan state) h)
+  finish_in (Finishes.Open state) K late = prepared_in (prepared_plan state) K
+  finish_in (Finishes.Applied state) K late = carried_opens (IsApplied (applied_plan state)) f h r b c form K (λ x y S. open_in (applied_plan state) x y c S.brings (S.within c left))
+  finish_in (Finishes.Settled state) K late = seen_in K.state.quiet (finish_opens f (Finishes.Settled state) h r b form (omega arith) K)
   finish_in Finishes.Shut K late =
       let same : r ≡ b = late (omega arith) in
-      subst (OpensIn f r) (sym (K.quiet c left)) (record { form = K.accepted.form ∙ ap form_of (sym same) ∙ form; reopens = subst (λ i. Reopens i (seen h)) (sym same) (opens_as b (seen h) K.opens) })
+      seen_in K.quiet (record { form = K.accepted.form ∙ ap form_of (sym same) ∙ form; reopens = subst (λ i. Reopens i (seen h)) (sym same) (opens_as b (seen h) K.opens) })
 
   commit_in : (m : Committing) → KnowsCommit m h r b → (8 ≤ commit_steps m → r ≡ b) → OpensIn f r c
   commit_in (Commits.Preparing p) K late = prepare_in p.stage K
@@ -179,7 +106,7 @@ stage_leaves f (At.Starting s) h k has K c left = absurd has
 stage_leaves f (At.Open txn command) h k has K c left = rest_in f h k.file k.image K.forms.0 c left (ready_rests txn.own.txn h k.file k.image K.at.0)
 stage_leaves f (At.Committing m) h k has K c left = commit_in f h k.file k.image K.forms.0 c left m K.at.0 K.at.1
 stage_leaves f (At.Preparing p) h k has K c left = prepare_in f h k.file k.image K.forms.0 c left p.stage K.at
-stage_leaves f (At.Prepared (Opened state) command) h k has K c left = carried_in f h k.file k.image K.forms.0 c left (IsPrepared (prepared_plan state)) K.at (prepared_in (prepared_plan state) h)
+stage_leaves f (At.Prepared (Opened state) command) h k has K c left = prepared_in f h k.file k.image K.forms.0 c left (prepared_plan state) K.at
 stage_leaves f (At.Prepared (Nothing changed) command) h k has K c left = rest_in f h k.file k.image K.forms.0 c left K.at.0
 stage_leaves f (At.Finishing s) h k has K c left = finish_in f h k.file k.image K.forms.0 c left s K.at.0 K.at.1
 

@@ -48,6 +48,7 @@ use Rattle.tdb_holder.proofs.GroupEffects.{changed_is}
 use Rattle.tdb_holder.proofs.HolderTurns.{busy_task, may_alone, own_table}
 use Rattle.tdb_holder.proofs.Planned.{plans_commits}
 use Rattle.tdb_holder.proofs.Sided.{same_task}
+use Rattle.tdb_holder.proofs.ReadAs.{opens_as, OpensIn}
 use Rattle.tdb_world.specs.Openers.{own_at}
 use Rattle.tdb_world.specs.Worlds.{state_in, World}
 use Rattle.tdb_world.specs.declared.opener.Opener.{Opener}
@@ -59,7 +60,7 @@ use Rattle.tdb_whole.specs.Stops.{IsSafe, IsShutting, OpensToState, OpensToTxn, 
 use Rattle.tdb_whole.specs.Whole.{form_at, is_starting, options_at, HolderFits, Whole, WorldFits}
 use Rattle.tdb_whole.proofs.ClaimUsed.{listed}
 use Rattle.tdb_whole.proofs.Leading.{begins, begun, here}
-use Rattle.tdb_whole.proofs.Reopening.{opens_as, stage_leaves, state_reopens, HasTxn, OpensIn}
+use Rattle.tdb_whole.proofs.Reopening.{stage_leaves, state_reopens, HasTxn}
 use Rattle.tdb_whole.proofs.Staged.{knows_stage}
 use Rattle.tdb_whole.proofs.TurnsLead.{one_state, IsOne}
 
