@@ -162,7 +162,7 @@ module _ (f : Form) (h : History) (k : Known) where
   gate_opens (At.Committing (Preparing p)) e K = absurd (cc e)
   gate_opens (At.Committing (Finishing c)) e K = finish_opens f c h k.file k.image K.forms.0 (few_left c e) K.at.0
   gate_opens (At.Preparing p) e K = absurd (cc e)
-  gate_opens (At.Prepared (Opened state) command) e K = prepared_opens f _ h k.file k.image K.forms.0 K.at
+  gate_opens (At.Prepared (Opened state) command) e K = prepared_opens f _ h k.file k.image K.forms.0 K.at.0
   gate_opens (At.Prepared (Nothing changed) command) e K = absurd (cc e)
   gate_opens (At.Finishing c) e K = finish_opens f c h k.file k.image K.forms.0 (few_left c e) K.at.0
 

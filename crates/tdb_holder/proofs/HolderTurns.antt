@@ -47,7 +47,6 @@ use Rattle.tdb_plays.specs.declared.command.Command.{Command}
 use Rattle.tdb_plays.specs.declared.command.Command.TheVariants as Given
 use Rattle.tdb_holder.specs.declared.open_txn.OpenTxn.{OpenTxn}
 use Rattle.tdb_plays.specs.declared.options.Options.{Options}
-use Rattle.tdb_holder.specs.declared.stage.PreparedTxn.TheVariants.{Opened, Nothing}
 use Rattle.tdb_holder.specs.declared.stage.Stage.{Stage}
 use Rattle.tdb_holder.specs.declared.stage.Stage.TheVariants as At
 use Rattle.tdb_holder.specs.declared.stage.Went.{Went}
@@ -64,7 +63,6 @@ use Rattle.tdb_holder.proofs.CommitTurns.{commit_is_own}
 use Rattle.tdb_holder.proofs.Keeping.{keeps_nothing}
 use Rattle.tdb_holder.proofs.Opened.{txn_of}
 use Rattle.tdb_holder.proofs.PrepareTurns.{prepare_is_own}
-use Rattle.tdb_holder.proofs.PreparedTurns.{known_with}
 use Rattle.tdb_holder.proofs.RecordsHeld.{holds_given}
 use Rattle.tdb_holder.proofs.PlanStages.{early_like}
 use Rattle.tdb_holder.proofs.Resting.{ready_like}
@@ -167,7 +165,7 @@ given_known f (At.Starting st) c h k K = K
 given_known f (At.Open txn command) c h k K = record { at = K.at; forms = K.forms; reads = K.reads }
 given_known f (At.Committing before) c h k K = K
 given_known f (At.Preparing p) c h k K = K
-given_known f (At.Prepared left command) c h k K = record { at = known_with f left command (Some c) h k K.at; forms = K.forms; reads = K.reads }
+given_known f (At.Prepared left command) c h k K = record { at = K.at; forms = K.forms; reads = K.reads }
 given_known f (At.Finishing before) c h k K = K
 
 pub given_fits : (stage : Stage) (c : Command) (h : Header) (limit size : ℕ) → is_idle stage ≡ true → IsShortCommand c → MayBeGiven c (stage_depth stage) → IsFit stage h limit size
@@ -176,8 +174,7 @@ given_fits (At.Starting st) c h limit size idle short may fits = fits
 given_fits (At.Open txn command) c h limit size idle short may fits = (fits.0, (short, may))
 given_fits (At.Committing before) c h limit size idle short may fits = fits
 given_fits (At.Preparing p) c h limit size idle short may fits = fits
-given_fits (At.Prepared (Opened state) command) c h limit size idle short may fits = (fits.0, (short, may))
-given_fits (At.Prepared (Nothing changed) command) c h limit size idle short may fits = (short, may)
+given_fits (At.Prepared left command) c h limit size idle short may fits = (fits.0, (short, may))
 given_fits (At.Finishing before) c h limit size idle short may fits = fits
 
 pub given_busy : (stage : Stage) (c : Command) → is_idle stage ≡ true → is_idle (with_command stage c) ≡ false

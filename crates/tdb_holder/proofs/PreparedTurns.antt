@@ -4,7 +4,6 @@ use Rattle.std.specs.Prelude.{◌≢◌, ◌&&◌, IfOk, OnOk, not}
 use Rattle.tdb_disk.specs.History.{History}
 use Rattle.tdb_disk.specs.Stop.{LeavesOnly}
 use Rattle.tdb_disk.proofs.Runs.{leaves_quiet}
-use Rattle.tdb_words.specs.declared.header.Header.{Header}
 use Rattle.tdb_space.specs.Form.{Form}
 use Rattle.tdb_locks.specs.declared.kind.Kind.TheVariants.{Write}
 use Rattle.tdb_locks.specs.declared.piece.Piece.{Piece}
@@ -46,10 +45,9 @@ use Rattle.tdb_holder.specs.declared.stage.PreparedTxn.TheVariants.{Opened, Noth
 use Rattle.tdb_holder.specs.declared.stage.Stage.{Stage}
 use Rattle.tdb_holder.specs.declared.stage.Stage.TheVariants as At
 use Rattle.tdb_holder.specs.Ends.{task_of}
-use Rattle.tdb_plays.specs.Short.{IsShortCommand}
-use Rattle.tdb_holder.specs.Prepared.{prepared_told, KnowsPrepared, PreparedFits}
+use Rattle.tdb_holder.specs.Prepared.{prepared_told}
 use Rattle.tdb_holder.specs.Refusing.{passes_prepared}
-use Rattle.tdb_holder.specs.Stages.{is_close, prepared_records, prepared_steps, Known, IsFit, IsSide, KnowsAt, KnowsFile}
+use Rattle.tdb_holder.specs.Stages.{is_close, prepared_records, prepared_steps, Known, IsSide, KnowsFile, KnowsPrepared}
 use Rattle.tdb_holder.specs.Turned.{IsLeft, KnowsLeft, MayTurn, StageTurned, keeps}
 use Rattle.tdb_holder.proofs.Filed.{file_by}
 use Rattle.tdb_holder.proofs.FinishTurns.{nothing_is_own}
@@ -58,27 +56,6 @@ use Rattle.tdb_holder.proofs.PreparedTold.{prepared_why, told_prepared, why_prep
 use Rattle.tdb_holder.proofs.Resting.{rests_like}
 use Rattle.tdb_holder.proofs.Sided.{begins, leaves, side_after}
 use Rattle.tdb_holder.proofs.Turning.{close_still, group_still, still_shift}
-
--- what is known and asked whatever the command is
-pub file_known : (f : Form) (left : PreparedTxn) (command : Option Command) (h : History) (k : Known) → KnowsAt f (At.Prepared left command) h k → KnowsPrepared left h k.file k.image
-file_known f (Opened state) command h k K = K
-file_known f (Nothing changed) command h k K = K.0
-
-pub known_with : (f : Form) (left : PreparedTxn) (command other : Option Command) (h : History) (k : Known) → KnowsAt f (At.Prepared left command) h k → KnowsAt f (At.Prepared left other) h k
-known_with f (Opened state) command other h k K = K
-known_with f (Nothing changed) command other h k K = K
-
-pub fits_length : (left : PreparedTxn) (command : Command) (h : Header) (limit size : ℕ) → IsFit (At.Prepared left (Some command)) h limit size → PreparedFits left size
-fits_length (Opened state) command h limit size fits = fits.0
-fits_length (Nothing changed) command h limit size fits = tt
-
-pub fits_short : (left : PreparedTxn) (command : Command) (h : Header) (limit size : ℕ) → IsFit (At.Prepared left (Some command)) h limit size → IsShortCommand command
-fits_short (Opened state) command h limit size fits = fits.1.0
-fits_short (Nothing changed) command h limit size fits = fits.0
-
-pub fits_without : (left : PreparedTxn) (command : Command) (h : Header) (limit size : ℕ) → IsFit (At.Prepared left (Some command)) h limit size → IsFit (At.Prepared left None) h limit size
-fits_without (Opened state) command h limit size fits = (fits.0, tt)
-fits_without (Nothing changed) command h limit size fits = tt
 
 -- a stop leaves what opens to the map of the file before
 pub prepared_stops : (left : PreparedTxn) (h : History) (r b : List ℕ) → KnowsPrepared left h r b → LeavesOnly h h (Reopens r)
@@ -241,7 +218,7 @@ module _ (f : Form) (o : Options) (table : ℕ → ℕ → ℕ) (owner : ℕ) (p
   }
 
   pub open_known : KnowsFile f given h k → KnowsFile f first h k
-  open_known K = record { at = (K.at, λ late. absurd (omega (arith, late))); forms = K.forms; reads = λ only. absurd (only refl) }
+  open_known K = record { at = (K.at.0, λ late. absurd (omega (arith, late))); forms = K.forms; reads = λ only. absurd (only refl) }
 
   side_left : (after : Option Stage) (known : Known) (later : Past) (z : Side) → IsLeft f o owner rs first after known later z → IsLeft f o owner rs given after known later z
   side_left None known later z L = L
@@ -300,7 +277,7 @@ module _ (f : Form) (o : Options) (table : ℕ → ℕ → ℕ) (owner : ℕ) (p
           numbers = S.numbers;
           mark = tt;
         };
-        file = record { at = known_with f left (Some c) None h k K.at; forms = K.forms; reads = K.reads };
+        file = record { at = K.at; forms = K.forms; reads = K.reads };
         kept = keeps refl;
         still = tt;
         turned = still;

@@ -298,7 +298,7 @@ module _ (f : Form) (o : Options) (table : ℕ → ℕ → ℕ) (owner limit : �
         later = past;
         side = is_ready;
         left = readied (Opened state) (alone (To.Done state) locks).1 T (sym leads) (sym (late_changed p.stage leads));
-        file = record { at = made; forms = K.forms; reads = λ only. absurd (only refl) };
+        file = record { at = (made, tt); forms = K.forms; reads = λ only. absurd (only refl) };
         kept = keeps refl;
         still = tt;
         turned = T;

@@ -1,31 +1,16 @@
--- A prepared transaction: what is known of its file, and what the commands that it doesn't take are told.
-use Rattle.std.specs.Prelude.{◌≡◌, ℕ, List, ◌&&◌, None, if◌then◌else◌}
-use Rattle.tdb_disk.specs.History.{History}
+-- A prepared transaction: what the commands that it doesn't take are told.
+use Rattle.std.specs.Prelude.{◌≡◌, ◌&&◌, None, if◌then◌else◌}
 use Rattle.tdb_locks.specs.declared.turn.Reply.{Reply}
 use Rattle.tdb_locks.specs.declared.turn.Turn.{Turn}
 use Rattle.tdb_law.specs.Commands.{Reply as LawReply}
-use Rattle.tdb_txn.specs.Commit.{IsPrepared}
-use Rattle.tdb_txn.specs.CommitStates.{prepared_plan, plan_length}
-use Rattle.tdb_commit.specs.Commits.{Carries, RestsAt}
 use Rattle.tdb_plays.specs.InLaw.{law_reply}
 use Rattle.tdb_plays.specs.declared.command.Command.{Command}
 use Rattle.tdb_plays.specs.declared.options.Options.{Options}
 use Rattle.tdb_holder.specs.declared.stage.PreparedTxn.{PreparedTxn}
-use Rattle.tdb_holder.specs.declared.stage.PreparedTxn.TheVariants.{Opened, Nothing}
 use Rattle.tdb_holder.specs.declared.stage.Stage.TheVariants as At
 use Rattle.tdb_holder.specs.declared.stage.Went.{Went}
 use Rattle.tdb_holder.specs.Refusing.{is_writer}
 use Rattle.tdb_holder.specs.Wents.{goes_on}
-
--- what is known of it, of image r of the file before and image b of the transaction
-abbrev pub KnowsPrepared : PreparedTxn → History → List ℕ → List ℕ → Type 0
-KnowsPrepared (Opened state) h r b = Carries (IsPrepared (prepared_plan state)) h r b
-KnowsPrepared (Nothing changed) h r b = RestsAt h r
-
--- what it asks of the file's length
-abbrev pub PreparedFits : PreparedTxn → ℕ → Type 0
-PreparedFits (Opened state) size = size ≡ plan_length (prepared_plan state)
-PreparedFits (Nothing changed) size = Unit {0}
 
 -- what a command is told that it doesn't take
 abbrev pub prepared_told : Options → Command → LawReply

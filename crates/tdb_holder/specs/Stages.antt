@@ -147,14 +147,23 @@ OwnIs f o k (At.Preparing p) x = PreparesWith f k.image p x
 OwnIs f o k (At.Prepared left command) x = IsPreparedWith f k.image (prepared_steps left) (was_changed left) x
 OwnIs f o k (At.Finishing s) x = IsPreparedWith f k.image 4 true x
 
+-- what is known of the file of a prepared transaction, of image r of the file before and image b of the transaction
+abbrev pub KnowsPrepared : PreparedTxn → History → List ℕ → List ℕ → Type 0
+KnowsPrepared (Opened state) h r b = Carries (IsPrepared (prepared_plan state)) h r b
+KnowsPrepared (Nothing changed) h r b = RestsAt h r
+
+-- where it has changed something, and yet nothing is to be committed, its image is that of the file
+abbrev pub IsUnchanged : PreparedTxn → Known → Type 0
+IsUnchanged (Opened state) k = Unit {0}
+IsUnchanged (Nothing changed) k = changed ≡ true → k.image ≡ k.file
+
 -- What is known of the file. From the turn on that shuts the gate the file has the image.
 abbrev pub KnowsAt : Form → Stage → History → Known → Type 0
 KnowsAt f (At.Starting s) h k = seen h ≡ k.file
 KnowsAt f (At.Open txn command) h k = IsReady txn.own.txn h k.file k.image × RestsInside txn.own k.file txn.walk
 KnowsAt f (At.Committing c) h k = KnowsCommit c h k.file k.image × (8 ≤ commit_steps c → k.file ≡ k.image)
 KnowsAt f (At.Preparing p) h k = KnowsStage p.stage h k.file k.image
-KnowsAt f (At.Prepared (Opened state) command) h k = Carries (IsPrepared (prepared_plan state)) h k.file k.image
-KnowsAt f (At.Prepared (Nothing changed) command) h k = RestsAt h k.file × (changed ≡ true → k.image ≡ k.file)
+KnowsAt f (At.Prepared left command) h k = KnowsPrepared left h k.file k.image × IsUnchanged left k
 KnowsAt f (At.Finishing s) h k = KnowsFinish s h k.file k.image × (3 ≤ finish_steps s → k.file ≡ k.image)
 
 -- both images have the form of the file, once there is a transaction
@@ -202,14 +211,18 @@ abbrev pub CommandFits : Option Command → ℕ → Type 0
 CommandFits None depth = Unit {0}
 CommandFits (Some command) depth = IsShortCommand command × MayBeGiven command depth
 
+-- what a prepared transaction asks of the file's length
+abbrev pub PreparedFits : PreparedTxn → ℕ → Type 0
+PreparedFits (Opened state) size = size ≡ plan_length (prepared_plan state)
+PreparedFits (Nothing changed) size = Unit {0}
+
 -- what a stage asks of the file's header and length, where it may get so many bytes, and of the command
 abbrev pub IsFit : Stage → Header → ℕ → ℕ → Type 0
 IsFit (At.Starting s) h limit size = size ≤ limit
 IsFit (At.Open txn command) h limit size = OpenFits txn h limit size × CommandFits command (txn_depth txn.own.txn)
 IsFit (At.Committing c) h limit size = CommitFits c size limit
 IsFit (At.Preparing p) h limit size = StageFits p.stage size limit
-IsFit (At.Prepared (Opened state) command) h limit size = (size ≡ plan_length (prepared_plan state)) × CommandFits command 0
-IsFit (At.Prepared (Nothing changed) command) h limit size = CommandFits command 0
+IsFit (At.Prepared left command) h limit size = PreparedFits left size × CommandFits command 0
 IsFit (At.Finishing s) h limit size = FinishFits s size
 
 abbrev pub IsFitLeft : Option Stage → Header → ℕ → ℕ → Type 0

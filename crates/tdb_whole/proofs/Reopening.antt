@@ -106,7 +106,7 @@ stage_leaves f (At.Starting s) h k has K c left = absurd has
 stage_leaves f (At.Open txn command) h k has K c left = rest_in f h k.file k.image K.forms.0 c left (ready_rests txn.own.txn h k.file k.image K.at.0)
 stage_leaves f (At.Committing m) h k has K c left = commit_in f h k.file k.image K.forms.0 c left m K.at.0 K.at.1
 stage_leaves f (At.Preparing p) h k has K c left = prepare_in f h k.file k.image K.forms.0 c left p.stage K.at
-stage_leaves f (At.Prepared (Opened state) command) h k has K c left = prepared_in f h k.file k.image K.forms.0 c left (prepared_plan state) K.at
+stage_leaves f (At.Prepared (Opened state) command) h k has K c left = prepared_in f h k.file k.image K.forms.0 c left (prepared_plan state) K.at.0
 stage_leaves f (At.Prepared (Nothing changed) command) h k has K c left = rest_in f h k.file k.image K.forms.0 c left K.at.0
 stage_leaves f (At.Finishing s) h k has K c left = finish_in f h k.file k.image K.forms.0 c left s K.at.0 K.at.1
 
@@ -158,7 +158,7 @@ stage_reads f (At.Committing c) h k shut K = elim (cases_lt (commit_steps c) 8) 
   | inr late ↦ subst (IsReadFrom f h) (sym (K.at.1 late)) (shut_commit_reads f c h k.file k.image K.forms.1 late K.at.0)
 ]
 stage_reads f (At.Preparing p) h k shut K = prepare_reads f p.stage h k.file k.image K.forms.0 K.at
-stage_reads f (At.Prepared (Opened state) command) h k shut K = prepared_reads f (prepared_plan state) h k.file k.image K.forms.0 K.at
+stage_reads f (At.Prepared (Opened state) command) h k shut K = prepared_reads f (prepared_plan state) h k.file k.image K.forms.0 K.at.0
 stage_reads f (At.Prepared (Nothing changed) command) h k shut K = rest_reads f h k.file K.forms.0 K.at.0
 stage_reads f (At.Finishing s) h k shut K = elim (cases_lt (finish_steps s) 3) [
   | inl few ↦ finish_reads f s h k.file k.image K.forms.0 few K.at.0

@@ -10,7 +10,6 @@ use Rattle.tdb_holder.specs.Holders.{StageMayLeave}
 use Rattle.tdb_holder.specs.Stages.{IsFit, KnowsFile}
 use Rattle.tdb_holder.proofs.HolderTurns.{open_form, TurnsAt}
 use Rattle.tdb_holder.proofs.Opened.{weaker}
-use Rattle.tdb_holder.proofs.PreparedTurns.{file_known}
 use Rattle.tdb_holder.proofs.holder.stage_turn.Goals as goal
 
 pub returns-in-Open-clause-stops : goal.returns-in-Open-clause-stops
@@ -53,7 +52,7 @@ returns-in-Prepared-clause-stops g c told f k =
     let left = c.in-Prepared.left in
     let command = Some c.given-command-in-Prepared.result in
     subst (λ stage. KnowsFile f stage h k → LeavesOnly h (g.D.Disk.history c.prepared_turn.new.d) (StageMayLeave stage h k)) (sym (c.in-Prepared.is ∙ ap (Stage.Prepared left) c.given-command-in-Prepared.ensures))
-    (λ K. c.prepared_turn.ensures.stops told k.file k.image (file_known f left command h k K.at))
+    (λ K. c.prepared_turn.ensures.stops told k.file k.image K.at.0)
 
 pub returns-in-Finishing-clause-turned : goal.returns-in-Finishing-clause-turned
 returns-in-Finishing-clause-turned g c =

@@ -11,8 +11,7 @@ use Rattle.tdb_plays.specs.declared.command.Command.TheVariants as Given
 use Rattle.tdb_holder.specs.declared.stage.PreparedTxn.TheVariants.{Nothing}
 use Rattle.tdb_holder.specs.declared.stage.Stage.TheVariants as Stage
 use Rattle.tdb_holder.specs.Ends.{task_of}
-use Rattle.tdb_holder.specs.Prepared.{KnowsPrepared}
-use Rattle.tdb_holder.specs.Stages.{stage_task, IsSide, KnowsFile}
+use Rattle.tdb_holder.specs.Stages.{stage_task, IsSide, KnowsFile, KnowsPrepared}
 use Rattle.tdb_holder.specs.Turned.{MayTurn, StageTurned}
 use Rattle.tdb_holder.proofs.Opened.{weaker}
 use Rattle.tdb_holder.proofs.PreparedTurns.{nothing_turned, open_known, open_side, open_turned}

@@ -11,7 +11,7 @@ use Rattle.tdb_holder.specs.Stages.{stage_task, IsFitLeft, IsSide, KnowsFile}
 use Rattle.tdb_holder.specs.Turned.{MayTurn, StageTurned}
 use Rattle.tdb_holder.specs.Wanting.{RecordsGo, StepGoesOn}
 use Rattle.tdb_holder.proofs.Opened.{stays_open, weaker}
-use Rattle.tdb_holder.proofs.PreparedTurns.{end_turned, file_known, fits_without, not_taken, over_with, prepared_stops, refused_turned, still_read, EndsPrepared}
+use Rattle.tdb_holder.proofs.PreparedTurns.{end_turned, not_taken, over_with, prepared_stops, refused_turned, still_read, EndsPrepared}
 use Rattle.tdb_holder.proofs.Sided.{same_task}
 use Rattle.tdb_holder.proofs.Synced.{still_syncs}
 use Rattle.tdb_holder.proofs.prepared.prepared_turn.Goals as goal
@@ -47,7 +47,7 @@ returns-in-Cancel-clause-turned g c =
     subst (λ (w : Went). StageTurned f o table a.owner rs stage w.stage h new k past s t (law_turn w.turn)) (sym is)
     (subst (λ u. StageTurned f o table a.owner rs stage None h new k past s u (Ends (law_reply Reply.Ok))) mine
     (end_turned f o table a.owner a.locks.now rs a.left h new k past s a.command Reply.Ok ends S K (subst (MayTurn f table s) (sym mine) M) gone c.end_with.ensures.others
-    (undone told k.file k.image (file_known f a.left (Some a.command) h k K.at)) (still_read a.left h new c.end_with.ensures.still))))
+    (undone told k.file k.image K.at.0) (still_read a.left h new c.end_with.ensures.still))))
 
 pub returns-in-Prepare-clause-turned : goal.returns-in-Prepare-clause-turned
 returns-in-Prepare-clause-turned g c =
@@ -65,7 +65,7 @@ returns-in-Prepare-clause-turned g c =
     subst (λ (w : Went). StageTurned f o table a.owner rs stage w.stage h new k past s t (law_turn w.turn)) (sym is)
     (subst (λ u. StageTurned f o table a.owner rs stage None h new k past s u (Ends (law_reply Reply.InTransaction))) mine
     (end_turned f o table a.owner a.locks.now rs a.left h new k past s a.command Reply.InTransaction ends S K (subst (MayTurn f table s) (sym mine) M) gone c.end_with-in-Prepare.ensures.others
-    (undone told k.file k.image (file_known f a.left (Some a.command) h k K.at)) (still_read a.left h new c.end_with-in-Prepare.ensures.still))))
+    (undone told k.file k.image K.at.0) (still_read a.left h new c.end_with-in-Prepare.ensures.still))))
 
 pub returns-in_default : goal.returns-in_default
 returns-in_default g c =
@@ -86,7 +86,7 @@ returns-in_default g c =
           (stays_open a.command c.in_default.not-Commit c.in_default.not-Prepare) (law_reply R.0) R.1)));
       fits =
           let size = g.D.Disk.size a.d.now in
-          subst (λ (w : Went). IsFitLeft w.stage a.header.now o.limit size) (sym R.2) (fits_without a.left a.command a.header.now o.limit size c.requires.fits);
+          subst (λ (w : Went). IsFitLeft w.stage a.header.now o.limit size) (sym R.2) (c.requires.fits.0, tt);
       records = subst (λ (w : Went). RecordsGo stage w.turn w.stage) (sym R.2) refl;
       goes_on = subst (λ (w : Went). StepGoesOn w.turn w.stage) (sym R.2) tt;
       stops = λ told r b K. prepared_stops a.left h r b K;
