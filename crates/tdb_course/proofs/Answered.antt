@@ -115,8 +115,8 @@ gift_led tells w v h size faults who c lines W (Err Memory) G kept memory = reco
 gift_led tells w v h size faults who c lines W (Err Io) G kept memory = absurd (cc memory)
 
 -- a command that is given, as a play
-pub give_led : (tells : Bool) (w v : Whole) (h : History) (size faults who : ℕ) (c : Command) (lines : List Line) → WorldFits w (seen h) size
-    → (r : Result (Unit {0}) RunFault) → OnOk r (Gifted w who c v) → OnErr r (v ≡ w) → IfErr r (λ e. e ≡ Memory)
+pub give_led : {V : Type 0} (tells : Bool) (w v : Whole) (h : History) (size faults who : ℕ) (c : Command) (lines : List Line) → WorldFits w (seen h) size
+    → (r : Result V RunFault) → OnOk r (Gifted w who c v) → OnErr r (v ≡ w) → IfErr r (λ e. e ≡ Memory)
     → PlayLed tells (moment w h size faults lines) (moment v h size faults lines) r (LawPlay.Give (law_opener who) c)
 give_led tells w v h size faults who c lines W (Ok u) G kept memory =
     led_whole tells (moment w h size faults lines) (moment v h size faults lines) _ _ _ _ _ _ u u (gift_led tells w v h size faults who c lines W (Ok u) G kept memory)

@@ -17,3 +17,4 @@ pub mod ToldLines
 pub mod HeardPlays
 pub mod Running
 pub mod UnreportedTurns
+pub mod UnreportedGifts

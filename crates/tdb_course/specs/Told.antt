@@ -20,7 +20,7 @@ PlayLed tells old new answer play =
     Led tells old new answer (λ state _. Gives (form_at old.world) state play) (λ state. Begun (form_at old.world) state play) (λ state. PlaysLast (form_at old.world) state play)
 
 -- So it is over each file, where the play makes no call on the disk.
-abbrev pub PlayLedInAny : Whole → List Line → Whole → List Line → Result (Unit {0}) RunFault → Play → Type 0
+abbrev pub PlayLedInAny : {V : Type 0} → Whole → List Line → Whole → List Line → Result V RunFault → Play → Type 0
 PlayLedInAny old before new after answer play =
     (tells : Bool) (h : History) (size faults : ℕ) → WorldFits old (seen h) size → PlayLed tells (moment old h size faults before) (moment new h size faults after) answer play
 

@@ -1,4 +1,4 @@
--- What comes of a turn of which no report tells.
+-- What comes of a turn, and of a gift, of which no report tells.
 use Rattle.std.specs.Prelude.{ℕ, ◌≡◌, ◌⊎◌, List, [], ◌∷◌, ◌++◌, Bool, Option, None, Some, Result, Ok, Err, IfOk}
 use Rattle.tdb_law.specs.Plays.Play.{TakeTurn}
 use Rattle.tdb_locks.specs.declared.turn.Turn.{Turn}
@@ -7,10 +7,12 @@ use Rattle.tdb_log.specs.declared.log.LogRefusal.{LogRefusal}
 use Rattle.tdb_plays.specs.InLaw.{law_opener}
 use Rattle.tdb_plays.specs.declared.command.Command.{Command}
 use Rattle.tdb_plays.specs.declared.line.Line.{Line}
-use Rattle.tdb_plays.specs.declared.line.Line.TheVariants.{Absent, Idle, Took, Undone}
+use Rattle.tdb_plays.specs.declared.line.Line.TheVariants.{Absent, Idle, Occupied, Took, Undone}
 use Rattle.tdb_whole.specs.declared.undoing.Undone.{Undone as UndoneGate}
 use Rattle.tdb_world.specs.Played.{growth}
 use Rattle.tdb_world.specs.declared.fault.RunFault.{RunFault}
+use Rattle.tdb_world.specs.declared.standings.OpenerStanding.{OpenerStanding}
+use Rattle.tdb_world.specs.declared.standings.OpenerStanding.TheVariants as Stands
 use Rattle.tdb_course.specs.Hearing.{HeardLed}
 use Rattle.tdb_course.specs.Led.{Moment}
 use Rattle.tdb_course.specs.Told.{PlayLed}
@@ -46,3 +48,10 @@ undo_lines (Err fault) = []
 abbrev pub turn_lines : ℕ → Command → Result MeasuredTurn RunFault → List Line
 turn_lines who command (Ok measured) = Took who command measured.turn ∷ growth measured.from measured.to
 turn_lines who command (Err fault) = []
+
+-- the lines that would tell a gift, by how the opener stood: none, where it was idle and has the command now
+abbrev pub gift_lines : ℕ → Result OpenerStanding RunFault → List Line
+gift_lines who (Ok Stands.Idle) = []
+gift_lines who (Ok Stands.Absent) = Absent who ∷ []
+gift_lines who (Ok Stands.Busy) = Occupied who ∷ []
+gift_lines who (Err fault) = []

@@ -14,5 +14,5 @@ mod unreported;
 pub use crate::ending::finish_report;
 pub use crate::laws::{prepared_commits_end, report_is_lawful, steps_tell_changes};
 pub use crate::playing::{play, run};
-pub use crate::unreported::turn_unreported;
+pub use crate::unreported::{give_unreported, turn_unreported};
 pub use tdb_world::RunFault;

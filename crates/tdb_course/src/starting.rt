@@ -39,8 +39,23 @@ pub(crate) fn play_join(world: &mut World, report: &mut TurnReport) -> Result<()
     Ok(())
 }
 
-/// Gives a command to an opener that may be given one. `Memory` where there is none for its copies, or where a
-/// transaction would begin within too many others: then nothing changes.
+/// Gives this command to an opener that may be given one. `Memory` where there is none for the copy of which a report
+/// tells, or where a transaction would begin within too many others: then nothing changes.
+pub(crate) fn give(world: &mut World, who: u32, command: Command) -> Result<(), RunFault>
+    requires named { 1 ≤ who }
+    requires free { HasNoCommand world.old who }
+    requires fits { (img : List ℕ) × (size : ℕ) × WorldFits world.old img size }
+    requires short { IsShortCommand command }
+    ensures gifted { OnOk result (Gifted world.old who (law_command command) world.new) }
+    ensures err { OnErr result (world.new ≡ world.old) }
+    ensures memory { IfErr result (λ e. e ≡ RunFault.Memory) }
+{
+    let told = command.copy(world.alloc())?;
+    world.assign(who, command, told)?;
+    Ok(())
+}
+
+/// Gives a copy of a command to an opener, as `give` says.
 pub(crate) fn give_copy(world: &mut World, who: u32, command: &Command) -> Result<(), RunFault>
     requires named { 1 ≤ who }
     requires free { HasNoCommand world.old who }
@@ -50,10 +65,8 @@ pub(crate) fn give_copy(world: &mut World, who: u32, command: &Command) -> Resul
     ensures err { OnErr result (world.new ≡ world.old) }
     ensures memory { IfErr result (λ e. e ≡ RunFault.Memory) }
 {
-    let told = command.copy(world.alloc())?;
     let given = command.copy(world.alloc())?;
-    world.assign(who, given, told)?;
-    Ok(())
+    give(world, who, given)
 }
 
 /// An opener is given a command, or the report says why not.

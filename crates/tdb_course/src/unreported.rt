@@ -1,22 +1,26 @@
-//! A turn of which no report tells.
-ghost use Rattle.std.specs.Prelude.{◌≡◌, ◌≤◌, ◌++◌, [], ℕ, List, OnOk, IfErr, false};
+//! A turn, and a gift, of which no report tells.
+ghost use Rattle.std.specs.Prelude.{◌≡◌, ◌≤◌, ◌++◌, [], ℕ, List, OnOk, OnErr, IfErr, false};
 ghost use Rattle.tdb_disk.specs.History.{seen};
-ghost use Rattle.tdb_law.specs.Plays.{Clears};
+ghost use Rattle.tdb_law.specs.Plays.{Clears, Play as LawPlay};
 ghost use Rattle.tdb_plays.specs.InLaw.{law_opener, law_command};
 ghost use Rattle.tdb_plays.specs.declared.command.Command.{Command};
 ghost use Rattle.tdb_plays.specs.declared.line.Line.{Line};
+ghost use Rattle.tdb_plays.specs.Short.{IsShortCommand};
 ghost use Rattle.tdb_world.specs.Played.{growth, is_step, Nothing, TakesLast, TakesOne};
 ghost use Rattle.tdb_whole.specs.Whole.{form_at, WorldFits};
 ghost use Rattle.tdb_whole.specs.Steps.{HasCommand};
 ghost use Rattle.tdb_course.specs.Hearing.{HeardBy};
 ghost use Rattle.tdb_course.specs.Led.{moment, Led};
+ghost use Rattle.tdb_course.specs.Told.{PlayLedInAny};
 ghost use Rattle.tdb_course.specs.Turns.{IsToldOf, Never};
-ghost use Rattle.tdb_course.specs.Unreported.{turn_lines, undo_lines, Unreported};
+ghost use Rattle.tdb_course.specs.Unreported.{gift_lines, turn_lines, undo_lines, Unreported};
 
+use crate::starting::give;
 use crate::turning::length_of;
 use tdb_disk::Disk;
 use tdb_locks::Turn;
 use tdb_log::{LogRefusal, Logs, Notice};
+use tdb_plays::Command;
 use tdb_whole::{OpenerStanding, Undone, World};
 use tdb_world::RunFault;
 
@@ -135,4 +139,31 @@ pub fn turn_unreported<D: Disk, L: Logs>(
         OpenerStanding::Absent | OpenerStanding::Idle => Ok(Ok(None)),
         OpenerStanding::Busy => busy_turn(world, d, who, logs),
     }
+}
+
+/// Gives this command to an opener, where it is live and has none, and nothing is put into a report. Of a gift no log is
+/// told. How the opener stood: it has the command where it was idle, and else nothing has changed.
+///
+/// `Memory` where there is none for a copy of the command, or where a transaction would begin within too many others:
+/// then nothing has changed. `Io` never comes.
+///
+/// Cost: one copy of the command, a hash of its key, and a look-up among the chains that the opener holds.
+pub fn give_unreported(
+    world: &mut World,
+    who: u32,
+    command: Command,
+) -> Result<OpenerStanding, RunFault>
+    requires named { 1 ≤ who }
+    requires fits { (img : List ℕ) × (size : ℕ) × WorldFits world.old img size }
+    requires short { IsShortCommand command }
+    ensures led { PlayLedInAny world.old [] world.new (gift_lines who result) result (LawPlay.Give (law_opener who) (law_command command)) }
+    ensures fits { (img : List ℕ) (size : ℕ) → WorldFits world.old img size → WorldFits world.new img size }
+    ensures err { OnErr result (world.new ≡ world.old) }
+    ensures fault { IfErr result (λ fault. fault ≡ RunFault.Memory) }
+{
+    let standing = world.standing(who);
+    if let OpenerStanding::Idle = standing {
+        give(world, who, command)?;
+    }
+    Ok(standing)
 }
