@@ -1,7 +1,7 @@
 -- What is counted of one line more, and of several.
-use Rattle.std.proofs.Common.{◌≡◌, ℕ, ◌+◌, min, cond, Bool, true, false, List, [], ◌∷◌, ◌++◌, take, length, get_or, ◌<◌, sym, ◌∙◌, ap, arith}
+use Rattle.std.proofs.Common.{◌≡◌, ℕ, ◌+◌, min, cond, Bool, true, false, List, [], ◌∷◌, ◌++◌, sym, ◌∙◌, ap, arith}
 use Rattle.std.specs.Prelude.{count_by}
-use Rattle.std.proofs.lemmas.List.{append_assoc, append-nil, take_more}
+use Rattle.std.proofs.lemmas.List.{append_assoc, append-nil}
 use Rattle.std.proofs.lemmas.List.Sums.{sum_by-append}
 use Rattle.tdb_disk.specs.Count.{last_count}
 use Rattle.tdb_plays.specs.declared.line.Line.{Line}
@@ -27,13 +27,6 @@ counts_more lines line = λ j. record {
   memory = counted_more (is_end is_memory) lines line j;
   blocked = counted_more is_blocked lines line j;
 }
-
--- the lines up to one, with it
-pub counts_next : (told lines : List Line) (i : ℕ) (line : Line) (old : Counts) → i < length lines → line ≡ get_or lines i line → old ≡ counts_of (told ++ take i lines) → counts_with old line ≡ counts_of (told ++ take (i + 1) lines)
-counts_next told lines i line old low is e =
-    ap (λ c. counts_with c line) e
-    ∙ sym (counts_more (told ++ take i lines) line)
-    ∙ ap counts_of (append_assoc told (take i lines) (line ∷ []) ∙ ap (λ l. told ++ (take i lines ++ l ∷ [])) is ∙ ap (λ ls. told ++ ls) (sym (take_more lines i line low)))
 
 -- counts with more lines
 abbrev pub tally : Counts → List Line → Counts

@@ -1,5 +1,5 @@
--- What plays lead to, by how a run of them, or a turn, ended.
-use Rattle.std.proofs.Common.{◌≡◌, ℕ, Bool, List, [], ◌++◌, Result, Ok, Err, IfOk, refl, sym, ◌∙◌, ap, subst, inr}
+-- What plays lead to, by how a turn ended.
+use Rattle.std.proofs.Common.{◌≡◌, ℕ, Bool, List, [], ◌++◌, Result, Ok, Err, IfOk, refl, sym, subst, inr}
 use Rattle.std.specs.Prelude.{IsTrue}
 use Rattle.tdb_disk.specs.History.{History}
 use Rattle.tdb_law.specs.Lines.{Line as LawLine}
@@ -27,18 +27,9 @@ use Rattle.tdb_gen.specs.Taking.{end_of, end_only, HeardSo, Place, place, IsStat
 abbrev pub AreCounted : Counts → List Line → Counts → Type 0
 AreCounted before lines after = (told : List Line) → before ≡ counts_of told → after ≡ counts_of (told ++ lines)
 
--- where that holds anyway, and an answer that has no value
-pub ok_anyway : {V : Type 0} (r : Result V GenFault) (P : Type 0) → P → IfOk r (λ v. P)
-ok_anyway (Ok v) P p = p
-ok_anyway (Err e) P p = tt
-
-pub end_unit : (r : Result (Unit {0}) GenFault) → end_only r ≡ r
-end_unit (Ok v) = refl
-end_unit (Err e) = refl
-
 -- What is said of the plays in other words: all of them, those in front where a log refused, a part of them where memory was wanting, and
 -- what was done where the disk failed.
-module _ {V : Type 0} (t : Bool) (w v : Whole) (h k : History) (size longer faults more : ℕ) (first lines : List Line) (empty : first ≡ []) (before after : Counts) (logs later : List Logged) (plays : List Play)
+module _ {V : Type 0} (t : Bool) (w v : Whole) (h k : History) (size longer faults more : ℕ) (lines : List Line) (before after : Counts) (logs later : List Logged) (plays : List Play)
     (Does : State → Result V LogRefusal → List LawLine → State → Type 0) (Begins Fails : State → List LawLine → State → Type 0)
     (all : (state : State) (u : V) (ls : List LawLine) (z : State) → Does state (Ok u) ls z → Course (form_at w) state (law_plays plays) ls z)
     (some : (state : State) (refusal : LogRefusal) (ls : List LawLine) (z : State) → Does state (Err refusal) ls z → ComesTo (form_at w) state (law_plays plays) ls z)
@@ -51,17 +42,14 @@ module _ {V : Type 0} (t : Bool) (w v : Whole) (h k : History) (size longer faul
   New = place v k longer more after later
 
   abbrev Start : Moment
-  Start = moment w h size faults first
+  Start = moment w h size faults []
 
   abbrev End : Moment
   End = moment v k longer more lines
 
-  pub all_lines : lines ≡ first ++ lines
-  all_lines = sym (ap (λ ls. ls ++ lines) empty)
-
   module _ (answer : Result (Result V LogRefusal) RunFault) (led : Led t Start End answer Does Begins Fails) where
     pub added_is : led.added ≡ lines
-    added_is = sym (led.lines ∙ ap (λ ls. ls ++ led.added) empty)
+    added_is = sym led.lines
 
     -- they came so far, and the logs heard of that
     came : (fault : GenFault) (start last : State) → ComesTo (form_at w) start (law_plays plays) (law_lines led.added) last → HeardSo fault logs lines later → TookSome (form_at w) Old New plays fault start last
@@ -81,7 +69,7 @@ module _ {V : Type 0} (t : Bool) (w v : Whole) (h k : History) (size longer faul
           lines = lines;
           course = subst (λ ls. Course (form_at w) start (law_plays plays) (law_lines ls) r.0) (added_is (Ok (Ok u)) led) (all start u (law_lines led.added) r.0 r.2);
           counted = counted;
-          heard = hears tells start lines is all_lines;
+          heard = hears tells start lines is refl;
         },
       )
 
@@ -101,7 +89,7 @@ module _ {V : Type 0} (t : Bool) (w v : Whole) (h k : History) (size longer faul
     rises = led.rises;
     quiet = led.quiet;
     told = λ tells start is.
-        (let r = led.told tells start is in (r.0, r.1, came (Ok (Err Unheard.Failed)) led Log start r.0 (some start Unheard.Failed (law_lines led.added) r.0 r.2) (hears tells start lines is all_lines)));
+        (let r = led.told tells start is in (r.0, r.1, came (Ok (Err Unheard.Failed)) led Log start r.0 (some start Unheard.Failed (law_lines led.added) r.0 r.2) (hears tells start lines is refl)));
     rose = λ tells start is. tt;
   }
   led_taken (Ok (Err Unheard.Memory)) counted led hears = record {
@@ -111,7 +99,7 @@ module _ {V : Type 0} (t : Bool) (w v : Whole) (h k : History) (size longer faul
     quiet = led.quiet;
     told = λ tells start is.
         (let r = led.told tells start is in
-        (r.0, r.1, came (Ok (Err Unheard.Memory)) led Memory start r.0 (some start Unheard.Memory (law_lines led.added) r.0 r.2) (inr (Unheard.Memory, hears tells start lines is all_lines))));
+        (r.0, r.1, came (Ok (Err Unheard.Memory)) led Memory start r.0 (some start Unheard.Memory (law_lines led.added) r.0 r.2) (inr (Unheard.Memory, hears tells start lines is refl))));
     rose = λ tells start is. tt;
   }
   led_taken (Err Run.Memory) counted led hears = record {
@@ -119,7 +107,7 @@ module _ {V : Type 0} (t : Bool) (w v : Whole) (h k : History) (size longer faul
     fits = led.fits;
     rises = led.rises;
     quiet = led.quiet;
-    told = λ tells start is. (let r = led.told tells start is in (r.0, r.1, came (Err Run.Memory) led Memory start r.0 (begun start (law_lines led.added) r.0 r.2) (hears tells start lines is all_lines)));
+    told = λ tells start is. (let r = led.told tells start is in (r.0, r.1, came (Err Run.Memory) led Memory start r.0 (begun start (law_lines led.added) r.0 r.2) (hears tells start lines is refl)));
     rose = λ tells start is. tt;
   }
   led_taken (Err Run.Io) counted led hears = record {
@@ -127,6 +115,6 @@ module _ {V : Type 0} (t : Bool) (w v : Whole) (h k : History) (size longer faul
     fits = tt;
     rises = led.rises;
     quiet = tt;
-    told = λ tells start is. (let r = led.told tells start is in (r.0, came (Err Run.Io) led Io start r.0 (failed start (law_lines led.added) r.0 r.1) (hears tells start lines is all_lines)));
+    told = λ tells start is. (let r = led.told tells start is in (r.0, came (Err Run.Io) led Io start r.0 (failed start (law_lines led.added) r.0 r.1) (hears tells start lines is refl)));
     rose = λ tells start is. led.rose tells start is;
   }

@@ -1,15 +1,13 @@
 -- Plays of a group, one after the other.
-use Rattle.std.proofs.Common.{◌≡◌, ℕ, zero, suc, ◌+◌, ◌-◌, ◌*◌, ◌/◌, ◌%◌, ◌≤◌, ◌<◌, min, drop, List, [], ◌∷◌, ◌++◌, sym, ◌∙◌, ap, subst, arith}
+use Rattle.std.proofs.Common.{◌≡◌, ℕ, zero, suc, ◌+◌, ◌-◌, ◌*◌, ◌/◌, ◌%◌, ◌≤◌, ◌<◌, min, drop, List, [], ◌∷◌, ◌++◌, sym, ◌∙◌, ap, arith}
 use Rattle.std.specs.List.{flat_map, range_with_len}
 use Rattle.std.proofs.lemmas.List.{append_assoc, append-nil, flat_map_more}
 use Rattle.std.proofs.lemmas.List.Concat.{flat_map-cons}
 use Rattle.std.proofs.lemmas.Grind.{flat_map-append}
 use Rattle.std.proofs.lemmas.List.FromFn.{map-range_with_len_more}
 use Rattle.std.proofs.lemmas.List.{take-append-drop}
-use Rattle.std.proofs.lemmas.List.Elements.{All-append}
 use Rattle.std.proofs.lemmas.List.FromFn.{take-map-range_with_len}
 use Rattle.tdb_plays.specs.declared.play.Play.{Play}
-use Rattle.tdb_course.specs.Playable.{IsPlayable, ArePlayable}
 use Rattle.tdb_gen.specs.Plays.{gift, gifts, round, rounds, groups, group_plays, group_list, together}
 
 range_behind : (a n : ℕ) → range_with_len a (suc n) ≡ range_with_len a n ++ (a + n) ∷ []
@@ -31,20 +29,17 @@ rounds_join a (suc b) =
     ∙ rounds_more (a + b)
     ∙ ap rounds (let e : a + b + 1 ≡ a + suc b = omega arith in e)
 
--- one command more
-pub gifts_more : (seed start i : ℕ) (old : List Play) → start ≤ i → (old ++ gifts seed start (i - start)) ++ gift seed i ∷ [] ≡ old ++ gifts seed start (i + 1 - start)
-gifts_more seed start i old low =
-    append_assoc old (gifts seed start (i - start)) (gift seed i ∷ [])
-    ∙ ap (λ ps. old ++ ps) (sym (map-range_with_len_more (gift seed) start (i - start) i (let e : start + (i - start) ≡ i = omega (arith, low) in e)))
-    ∙ ap (λ n. old ++ gifts seed start n) (let e : i - start + 1 ≡ i + 1 - start = omega (arith, low) in e)
+-- no command, one more, and commands up to a place with those behind it
+pub gifts_none : (seed start : ℕ) → gifts seed start (start - start) ≡ []
+gifts_none seed start = ap (gifts seed start) (let e : start - start ≡ 0 = omega arith in e)
 
--- they may be taken, where the one more may
-one_playable : (play : Play) → IsPlayable play → ArePlayable (play ∷ [])
-one_playable play P zero d low = P
-one_playable play P (suc k) d low = absurd (omega (arith, low))
+pub gifts_more : (seed start i : ℕ) → start ≤ i → gifts seed start (i - start) ++ gift seed i ∷ [] ≡ gifts seed start (i + 1 - start)
+gifts_more seed start i low =
+    sym (map-range_with_len_more (gift seed) start (i - start) i (let e : start + (i - start) ≡ i = omega (arith, low) in e))
+    ∙ ap (gifts seed start) (let e : i - start + 1 ≡ i + 1 - start = omega (arith, low) in e)
 
-pub playable_more : (old new : List Play) (play : Play) → new ≡ old ++ play ∷ [] → ArePlayable old → IsPlayable play → ArePlayable new
-playable_more old new play e A P = subst ArePlayable (sym e) (All-append IsPlayable old (play ∷ []) A (one_playable play P))
+pub gifts_cut : (seed start n m : ℕ) → n ≤ m → gifts seed start n ++ drop n (gifts seed start m) ≡ gifts seed start m
+gifts_cut seed start n m low = ap (λ ps. ps ++ drop n (gifts seed start m)) (sym (take-map-range_with_len (gift seed) start m n low)) ∙ take-append-drop n (gifts seed start m)
 
 -- the plays of one part
 one_part : (plays : List Play) → together (plays ∷ []) ≡ plays

@@ -10,6 +10,7 @@ mod Numbering
 mod Grouping
 mod Counting
 mod Resting
+mod Gifting
 mod Endings
 mod Turning
 mod Generating

@@ -84,14 +84,14 @@ module _ (t : Bool) (w v : Whole) (h k : History) (size longer faults more : ℕ
   pub turn_taken : (answer : Result (Result (Option Turn) LogRefusal) RunFault) → Told answer → IfOk (end_of answer) (λ turn. CountsTurn who turn before after)
       → Taken t Old New (Plays.Turn who ∷ []) (end_only (end_of answer))
   turn_taken answer U C =
-      led_taken t w v h k size longer faults more [] U.lines refl before after logs later (Plays.Turn who ∷ []) (λ state _. Gives f state play) (λ state. Begun f state play) (λ state. PlaysLast f state play)
+      led_taken t w v h k size longer faults more U.lines before after logs later (Plays.Turn who ∷ []) (λ state _. Gives f state play) (λ state. Begun f state play) (λ state. PlaysLast f state play)
       (λ state _. whole state) (λ state _ lines z G. part state lines z (inr G)) (λ state lines z B. part state lines z (inl B)) part answer (counted_so answer U C) U.led U.heard
 
   pub turn_rests : Told (Ok (Ok None)) → after ≡ before → Rests t Old New (Plays.Turn who ∷ [])
   turn_rests U same tells state is =
       let idle = none_idle who U.lines U.told in
       let end =
-      all_taken t w v h k size longer faults more [] U.lines refl before after logs later (Plays.Turn who ∷ []) (λ state _. Gives f state play) (λ state. Begun f state play) (λ state. PlaysLast f state play)
+      all_taken t w v h k size longer faults more U.lines before after logs later (Plays.Turn who ∷ []) (λ state _. Gives f state play) (λ state. Begun f state play) (λ state. PlaysLast f state play)
       (λ state _. whole state) (λ state _ lines z G. part state lines z (inr G)) (λ state lines z B. part state lines z (inl B)) part None U.led U.heard (turn_counted who None U.lines before after U.told same) tells state is in
       let stays = idle_stays f state end.0 (law_opener who) U.led.added (subst AreIdle U.led.lines idle) (U.led.told tells state is).2 in
       subst (λ z. IsStateAt New z × (all : TookAll f Old New (Plays.Turn who ∷ []) state z) × AreIdle all.lines) stays (end.1, end.2, idle)

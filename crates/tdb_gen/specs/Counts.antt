@@ -1,4 +1,4 @@
--- What is counted of the lines of a report.
+-- What is counted of the lines of plays.
 use Rattle.std.specs.Prelude.{ℕ, ◌+◌, min, Bool, true, false, List, count_by, if◌then◌else◌}
 use Rattle.tdb_disk.specs.Count.{last_count}
 use Rattle.tdb_locks.specs.declared.turn.Reply.{Reply}

@@ -1,5 +1,5 @@
 -- How plays are taken and counted, and what logs hear of them, as far as they come.
-use Rattle.std.specs.Prelude.{ℕ, ◌≡◌, ◌≤◌, ◌⊎◌, Bool, IsTrue, List, [], ◌∷◌, ◌++◌, Result, Ok, Err}
+use Rattle.std.specs.Prelude.{ℕ, ◌+◌, ◌≡◌, ◌≤◌, ◌⊎◌, Bool, IsTrue, List, [], ◌∷◌, ◌++◌, Result, Ok, Err}
 use Rattle.tdb_disk.specs.Count.{Rose}
 use Rattle.tdb_disk.specs.History.{History, seen}
 use Rattle.tdb_space.specs.Form.{Form}
@@ -33,7 +33,7 @@ abbrev pub of_log : LogRefusal → GenFault
 of_log Unheard.Failed = Log
 of_log Unheard.Memory = Memory
 
--- how plays end, by how a run of them, or a turn, ended
+-- how plays end, by how a turn ended
 abbrev pub end_of : {V : Type 0} → Result (Result V LogRefusal) RunFault → Result V GenFault
 end_of (Ok (Ok v)) = Ok v
 end_of (Ok (Err refusal)) = Err (of_log refusal)
@@ -119,6 +119,17 @@ pub record Taken (tells : Bool) (old new : Place) (plays : List Play) (answer : 
   pub quiet : UnlessIo answer (new.faults ≡ old.faults)
   pub told : IsTrue tells → (start : State) → IsStateAt old start → TakesTo (form_at old.world) old new plays start answer
   pub rose : IsTrue tells → (start : State) → IsStateAt old start → OnIo answer (Rose old.faults new.faults)
+
+-- So it is over each file, with each count and all logs, where plays make no call on the disk, nothing is counted of them, and no log hears of
+-- them.
+abbrev pub TakenInAny : Whole → Whole → List Play → Result (Unit {0}) GenFault → Type 0
+TakenInAny old new plays answer =
+    (tells : Bool) (h : History) (size faults : ℕ) (counts : Counts) (logs : List Logged) → WorldFits old (seen h) size
+    → Taken tells (place old h size faults counts logs) (place new h size faults counts logs) plays answer
+
+-- So many openers more have joined in a state of one world than in a state of another.
+abbrev pub HaveJoined : Whole → Whole → ℕ → Type 0
+HaveJoined old new count = (h : History) (state : State) → IsStateOf old h state → (after : State) × IsStateOf new h after × (after.joined ≡ state.joined + count)
 
 -- lines that only tell of openers with nothing to do
 abbrev pub AreIdle : List Line → Type 0

@@ -1,14 +1,12 @@
-// What is counted of turns, and of the lines of a report.
+// What is counted of turns.
 
-ghost use Rattle.std.specs.Prelude.{◌≡◌, ℕ, ◌+◌, ◌++◌, List, [], min};
+ghost use Rattle.std.specs.Prelude.{◌≡◌, ℕ, ◌+◌, [], min};
 ghost use Rattle.tdb_disk.specs.Count.{last_count};
 ghost use Rattle.tdb_plays.specs.declared.command.Command.{Command};
-ghost use Rattle.tdb_plays.specs.declared.line.Line.{Line as LineIs};
 ghost use Rattle.tdb_plays.specs.declared.line.Line.TheVariants as Lines;
 ghost use Rattle.tdb_gen.specs.Counts.{counts_of, counts_with};
 
 use tdb_locks::{Reply, Turn};
-use tdb_plays::{Line, TurnReport};
 
 /// How many commands ended with each reply, and how many turns were blocked. A count stands still at its greatest.
 #[derive(Clone, Copy, Debug, PartialEq, Eq)]
@@ -69,27 +67,6 @@ impl Counts {
             Turn::Done(Reply::Full { .. }) => raise(&mut self.full),
             Turn::Done(Reply::Memory) => raise(&mut self.memory),
             Turn::Step | Turn::Done(_) => {}
-        }
-    }
-
-    /// Counts a line.
-    fn count_line(&mut self, line: &Line)
-        ensures { self.new ≡ counts_with self.old line.now }
-    {
-        if let Line::Took { turn, .. } = line {
-            self.count_turn(turn);
-        }
-    }
-
-    /// Counts the lines of a report.
-    pub(crate) fn count(&mut self, report: &TurnReport)
-        ensures { (told : List LineIs) → self.old ≡ counts_of told → self.new ≡ counts_of (told ++ report.now.lines) }
-    {
-        for i in 0..report.len() {
-            let Some(line) = report.get(i) else {
-                unreachable!();
-            };
-            self.count_line(line);
         }
     }
 }

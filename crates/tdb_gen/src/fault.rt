@@ -12,7 +12,7 @@ pub enum GenFault {
     /// A call of the disk failed, or a check found a fault in the file, which no turn leaves.
     #[error("the disk failed")]
     Io,
-    /// There was no memory for an opener, a play, a line, the copy of a command, or a notice in a log.
+    /// There was no memory for an opener, a command or its copy, or a notice in a log.
     #[error("out of memory")]
     Memory,
     /// A log failed to take a notice of what a turn had done.

@@ -10,26 +10,23 @@ ghost use Rattle.tdb_law.specs.World.{State};
 ghost use Rattle.tdb_plays.specs.declared.options.Options.{Options};
 ghost use Rattle.tdb_whole.specs.Whole.{form_at, WorldFits};
 ghost use Rattle.tdb_whole.specs.States.{IsStateOf};
-ghost use Rattle.tdb_course.specs.Playable.{ArePlayable};
 ghost use Rattle.tdb_gen.specs.Counts.{counts_of};
 ghost use Rattle.tdb_gen.specs.Generated.{IsFirst, GeneratedOver};
 ghost use Rattle.tdb_gen.specs.Numbers.{IsFrom};
 ghost use Rattle.tdb_gen.specs.Plays.{joins, groups, group_plays, group_list, together};
-ghost use Rattle.tdb_gen.specs.Taking.{end_of, place, Taken, UnlessIo};
+ghost use Rattle.tdb_gen.specs.Taking.{place, Taken, UnlessIo};
 ghost use Rattle.tdb_gen.specs.declared.fault.GenFault.TheVariants as Faults;
 
 use crate::counts::Counts;
 use crate::fault::GenFault;
 use crate::generator::{Generator, OPENERS};
-use crate::group::{push_group, push_joins};
+use crate::group::{give_group, join_openers};
 use crate::keys::{keys_on_disk, length_of};
 use crate::rounds::take_rounds;
 use crate::summary::Summary;
 use std::alloc::Global;
-use tdb_course::{RunFault, run};
 use tdb_disk::Disk;
-use tdb_log::{LogRefusal, Logs};
-use tdb_plays::{Plays, TurnReport};
+use tdb_log::Logs;
 use tdb_whole::World;
 use tdb_words::Header;
 
@@ -38,24 +35,7 @@ use tdb_words::Header;
 pub(crate) struct Generation {
     alloc: Global,
     generator: Generator,
-
-    /// The plays of the joins, and those that give the commands of a group.
-    plays: Plays,
-
-    /// What they tell.
-    report: TurnReport,
     counts: Counts,
-}
-
-/// How plays end, by how the run of them ended.
-fn ended(played: Result<Result<(), LogRefusal>, RunFault>) -> Result<(), GenFault>
-    ensures { result ≡ end_of played }
-{
-    match played {
-        Ok(Ok(())) => Ok(()),
-        Ok(Err(refusal)) => Err(GenFault::from(refusal)),
-        Err(fault) => Err(GenFault::from(fault)),
-    }
 }
 
 impl Generation {
@@ -68,51 +48,8 @@ impl Generation {
         Generation {
             alloc,
             generator: Generator::new(seed),
-            plays: Plays::new(alloc),
-            report: TurnReport::new(alloc),
             counts: Counts::new(),
         }
-    }
-
-    /// Takes the plays, tells the logs what they do to the file, and counts what they tell.
-    fn take<D: Disk, L: Logs>(
-        &mut self,
-        world: &mut World,
-        disk: &mut D,
-        logs: &mut L,
-    ) -> Result<(), GenFault>
-        requires fits { WorldFits world.old (seen (D.history disk.old)) (D.size disk.old) }
-        requires playable { ArePlayable self.old.plays }
-        ensures taken { Taken D.tells (place world.old (D.history disk.old) (D.size disk.old) (D.faults disk.old) self.old.counts (L.logs logs.old))
-            (place world.new (D.history disk.new) (D.size disk.new) (D.faults disk.new) self.new.counts (L.logs logs.new)) self.old.plays result }
-        ensures generator { self.new.generator ≡ self.old.generator }
-    {
-        self.report.clear();
-        let played = run(world, disk, self.plays.as_slice(), &mut self.report, logs);
-        self.counts.count(&self.report);
-        ended(played)
-    }
-
-    /// Lets the openers join.
-    fn join<D: Disk, L: Logs>(
-        &mut self,
-        world: &mut World,
-        disk: &mut D,
-        logs: &mut L,
-    ) -> Result<(), GenFault>
-        requires fits { WorldFits world.old (seen (D.history disk.old)) (D.size disk.old) }
-        ensures taken { Taken D.tells (place world.old (D.history disk.old) (D.size disk.old) (D.faults disk.old) self.old.counts (L.logs logs.old))
-            (place world.new (D.history disk.new) (D.size disk.new) (D.faults disk.new) self.new.counts (L.logs logs.new)) joins result }
-        ensures joined { OnOk result (length world.new.openers.openers ≡ 3) }
-        ensures generator { self.new.generator ≡ self.old.generator }
-    {
-        self.plays.clear();
-        push_joins(&mut self.plays)?;
-        self.take(world, disk, logs)?;
-        if world.joined() != OPENERS {
-            return Err(GenFault::Memory);
-        }
-        Ok(())
     }
 
     /// Takes the plays of the next group, of so many commands in all.
@@ -131,9 +68,7 @@ impl Generation {
         ensures index { OnOk result (self.new.generator.index ≡ min commands (self.old.generator.index + 3)) }
         ensures from { OnOk result ((seed : ℕ) → IsFrom seed self.old.generator → IsFrom seed self.new.generator) }
     {
-        self.plays.clear();
-        push_group(self.alloc, &mut self.generator, commands, &mut self.plays)?;
-        self.take(world, disk, logs)?;
+        give_group(self.alloc, &mut self.generator, commands, world)?;
         take_rounds(world, disk, &mut self.counts, logs)
     }
 
@@ -209,7 +144,7 @@ impl Generation {
         ensures rises { D.faults disk.old ≤ D.faults disk.new }
         ensures quiet { UnlessIo result (D.faults disk.new ≡ D.faults disk.old) }
     {
-        self.join(world, disk, logs)?;
+        join_openers(world)?;
         self.take_groups(world, disk, commands, logs)?;
         self.summary(disk, header, commands)
     }

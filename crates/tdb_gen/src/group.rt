@@ -1,75 +1,93 @@
-// The plays of the joins, and those that give the commands of a group.
+// The joins of the openers, and the gifts of a group's commands, of which no report tells.
 
-ghost use Rattle.std.specs.Prelude.{◌≡◌, ◌<◌, ◌≤◌, ◌+◌, ◌-◌, ◌*◌, ◌^◌, ◌++◌, ℕ, min, IfOk, OnOk};
-ghost use Rattle.tdb_course.specs.Playable.{IsPlayable, ArePlayable};
+ghost use Rattle.std.specs.Prelude.{◌≡◌, ◌<◌, ◌≤◌, ◌∷◌, ◌+◌, ◌-◌, ◌^◌, [], ℕ, List, min, OnOk};
+ghost use Rattle.tdb_plays.specs.declared.play.Play.TheVariants.{Join};
+ghost use Rattle.tdb_whole.specs.Whole.{WorldFits};
 ghost use Rattle.tdb_gen.specs.Numbers.{IsFrom};
 ghost use Rattle.tdb_gen.specs.Plays.{joins, gift, gifts};
+ghost use Rattle.tdb_gen.specs.Taking.{HaveJoined, TakenInAny};
 
+use crate::fault::GenFault;
 use crate::generator::{Generator, OPENERS};
-use std::alloc::{AllocError, Global};
-use tdb_plays::{Play, Plays};
+use std::alloc::Global;
+use tdb_course::give_unreported;
+use tdb_whole::World;
 
-/// Puts the joins of the openers at the end.
-pub(crate) fn push_joins(plays: &mut Plays) -> Result<(), AllocError>
-    ensures joins { OnOk result (plays.new ≡ plays.old ++ joins) }
-    ensures playable { OnOk result (ArePlayable plays.old → ArePlayable plays.new) }
+/// The next opener joins. `Memory` where it is refused: while few have joined and nobody commits, only memory can be
+/// wanting.
+fn join(world: &mut World) -> Result<(), GenFault>
+    requires fits { (img : List ℕ) × (size : ℕ) × WorldFits world.old img size }
+    ensures taken { TakenInAny world.old world.new (Join ∷ []) result }
+    ensures joined { OnOk result (HaveJoined world.old world.new 1) }
+    ensures fits { (img : List ℕ) (size : ℕ) → WorldFits world.old img size → WorldFits world.new img size }
 {
-    plays.push(Play::Join)?;
-    plays.push(Play::Join)?;
-    plays.push(Play::Join)
+    match world.join() {
+        Ok(_) => Ok(()),
+        Err(_) => Err(GenFault::Memory),
+    }
 }
 
-/// The play that gives the next command to its opener.
-fn next_gift(alloc: Global, generator: &mut Generator) -> Result<Play, AllocError>
-    requires { generator.old.index < 2 ^ 32 - 1 }
+/// The three openers join, one after the other, as `join` says.
+pub(crate) fn join_openers(world: &mut World) -> Result<(), GenFault>
+    requires fits { (img : List ℕ) × (size : ℕ) × WorldFits world.old img size }
+    ensures taken { TakenInAny world.old world.new joins result }
+    ensures joined { OnOk result (HaveJoined world.old world.new 3) }
+{
+    join(world)?;
+    join(world)?;
+    join(world)
+}
+
+/// Gives the next command to its opener.
+fn give_next(alloc: Global, generator: &mut Generator, world: &mut World) -> Result<(), GenFault>
+    requires few { generator.old.index < 2 ^ 32 - 1 }
+    requires fits { (img : List ℕ) × (size : ℕ) × WorldFits world.old img size }
+    ensures taken { (seed : ℕ) → IsFrom seed generator.old → TakenInAny world.old world.new (gift seed generator.old.index ∷ []) result }
+    ensures fits { (img : List ℕ) (size : ℕ) → WorldFits world.old img size → WorldFits world.new img size }
     ensures index { generator.new.index ≡ generator.old.index + 1 }
     ensures from { (seed : ℕ) → IsFrom seed generator.old → IsFrom seed generator.new }
-    ensures gift { IfOk result (λ play. (seed : ℕ) → IsFrom seed generator.old → play ≡ gift seed generator.old.index) }
-    ensures playable { IfOk result IsPlayable }
 {
     let who = generator.owner();
     let command = generator.next_command(alloc)?;
-    Ok(Play::Give { who, command })
+    give_unreported(world, who, command)?;
+    Ok(())
 }
 
-/// Puts the plays at the end that give the next commands, up to this index.
-fn push_gifts(
+/// Gives the next commands, up to this index, each to its opener.
+fn give_up_to(
     alloc: Global,
     generator: &mut Generator,
     end: u32,
-    plays: &mut Plays,
-) -> Result<(), AllocError>
-    requires { generator.old.index ≤ end }
-    ensures gifts { OnOk result ((seed : ℕ) → IsFrom seed generator.old → plays.new ≡ plays.old ++ gifts seed generator.old.index (end - generator.old.index)) }
+    world: &mut World,
+) -> Result<(), GenFault>
+    requires left { generator.old.index ≤ end }
+    requires fits { (img : List ℕ) × (size : ℕ) × WorldFits world.old img size }
+    ensures taken { (seed : ℕ) → IsFrom seed generator.old → TakenInAny world.old world.new (gifts seed generator.old.index (end - generator.old.index)) result }
+    ensures fits { (img : List ℕ) (size : ℕ) → WorldFits world.old img size → WorldFits world.new img size }
     ensures index { OnOk result (generator.new.index ≡ end) }
     ensures from { OnOk result ((seed : ℕ) → IsFrom seed generator.old → IsFrom seed generator.new) }
-    ensures playable { OnOk result (ArePlayable plays.old → ArePlayable plays.new) }
 {
     for _ in generator.index()..end {
-        let play = next_gift(alloc, generator)?;
-        plays.push(play)?;
+        give_next(alloc, generator, world)?;
     }
     Ok(())
 }
 
-/// Puts the plays at the end that give the commands of the next group, of so many commands in all.
-pub(crate) fn push_group(
+/// Gives the commands of the next group, of so many commands in all, each to its opener.
+pub(crate) fn give_group(
     alloc: Global,
     generator: &mut Generator,
     commands: u32,
-    plays: &mut Plays,
-) -> Result<(), AllocError>
-    requires { generator.old.index ≤ commands }
-    ensures gifts { OnOk result ((seed : ℕ) → IsFrom seed generator.old → plays.new ≡ plays.old ++ gifts seed generator.old.index (min 3 (commands - generator.old.index))) }
+    world: &mut World,
+) -> Result<(), GenFault>
+    requires left { generator.old.index ≤ commands }
+    requires fits { (img : List ℕ) × (size : ℕ) × WorldFits world.old img size }
+    ensures taken { (seed : ℕ) → IsFrom seed generator.old → TakenInAny world.old world.new (gifts seed generator.old.index (min 3 (commands - generator.old.index))) result }
+    ensures fits { (img : List ℕ) (size : ℕ) → WorldFits world.old img size → WorldFits world.new img size }
     ensures index { OnOk result (generator.new.index ≡ min commands (generator.old.index + 3)) }
     ensures from { OnOk result ((seed : ℕ) → IsFrom seed generator.old → IsFrom seed generator.new) }
-    ensures playable { OnOk result (ArePlayable plays.old → ArePlayable plays.new) }
 {
     let left = commands - generator.index();
-    push_gifts(
-        alloc,
-        generator,
-        generator.index() + left.min(OPENERS),
-        plays,
-    )
+    let end = generator.index() + left.min(OPENERS);
+    give_up_to(alloc, generator, end, world)
 }

@@ -27,8 +27,8 @@ use tdb_words::Header;
 /// the file. `Log` where a log failed to take a notice, and `Memory` where that was wanting; then the commands were done as
 /// far as they came.
 ///
-/// Cost: that of the commands and of one check of the file. It holds the plays that give the commands of one group, of
-/// which there are three at most. The turns make no plays and no lines.
+/// Cost: that of the commands, of which each is copied once, and of one check of the file. It makes no plays and no
+/// lines, and holds one command of each opener with its copy.
 pub fn generate<D: Disk, L: Logs>(
     alloc: Global,
     disk: &mut D,

@@ -1,0 +1,14 @@
+-- The opener joined, or nothing changed.
+use Rattle.std.proofs.Common.{◌∷◌, []}
+use Rattle.tdb_plays.specs.declared.play.Play.TheVariants.{Join}
+use Rattle.tdb_gen.proofs.Gifting.{any_not, join_taken, one_joined}
+use Rattle.tdb_gen.proofs.group.join.Goals as goal
+
+pub returns-in-Ok-clause-taken : goal.returns-in-Ok-clause-taken
+returns-in-Ok-clause-taken c = join_taken c.args.world.now c.join.new.self c.in-Ok.field-0 c.join.ensures.header c.join.ensures.fits c.in-Ok.ensures.joins
+
+pub returns-in-Ok-clause-joined : goal.returns-in-Ok-clause-joined
+returns-in-Ok-clause-joined c = one_joined c.args.world.now c.join.new.self c.in-Ok.field-0 c.in-Ok.ensures.joins
+
+pub returns-in-Err-clause-taken : goal.returns-in-Err-clause-taken
+returns-in-Err-clause-taken c = any_not c.args.world.now c.join.new.self (Join ∷ []) c.in-Err.ensures.err
