@@ -1,8 +1,11 @@
-//! A cache of blocks of a disk, which is a disk itself.
+//! A cache of blocks of a disk, and a disk that is written behind. Both are disks themselves.
 #![tactic(auto)]
 
 mod blocks;
 mod cached;
+mod content;
 mod piece;
+mod write_behind;
 
 pub use cached::Cached;
+pub use write_behind::WriteBehind;
