@@ -14,10 +14,13 @@ use crate::replacing::replace;
 use std::alloc::{AllocError, Global};
 use std::collections::HashSet;
 use std::fs;
-use tdb_cache::Cached;
+use tdb_cache::{Cached, WriteBehind};
 use tdb_disk::{Files, FilesFault, Take, TakeRefusal};
 
 /// The files of the operating system. A name is a path, and a relative one begins at the working folder.
+///
+/// A file is handed out with a cache of its blocks, and a new one is written behind: while it has 16 MiB or less, what
+/// is written to it reaches the file at the next sync.
 #[derive(Drop)]
 pub struct DirFiles {
     rt: HostRuntime,
@@ -109,7 +112,7 @@ impl DirFiles {
 impl Files for DirFiles {
     ghost use Rattle.tdb_files.specs.DirFiles.{name_is_taken, dir_faults};
 
-    type D = Cached<FileDisk>;
+    type D = Cached<WriteBehind<FileDisk>>;
 
     ghost is_taken = { λ files. name_is_taken files };
 
@@ -122,13 +125,18 @@ impl Files for DirFiles {
         alloc: Global,
         name: &str,
         how: Take,
-    ) -> Result<Cached<FileDisk>, TakeRefusal> {
+    ) -> Result<Cached<WriteBehind<FileDisk>>, TakeRefusal> {
         self.identities.reserve(1)?;
         self.mark(alloc, name)?;
         match open(&self.rt, name, how, &self.identities) {
             Ok(disk) => {
                 self.identities.insert(disk.identity()).unwrap();
-                Ok(Cached::new(alloc, disk.with_progress(self.progress)))
+                let disk = disk.with_progress(self.progress);
+                let behind = match how {
+                    Take::New => WriteBehind::of_empty(alloc, disk),
+                    Take::Existing | Take::ReadOnly => WriteBehind::through(disk),
+                };
+                Ok(Cached::new(alloc, behind))
             }
             Err(refusal) => {
                 let kept = self.unmark(name);
@@ -144,13 +152,17 @@ impl Files for DirFiles {
         }
     }
 
-    fn give(&mut self, name: &str, d: Cached<FileDisk>) {
-        let disk = d.into_inner();
+    /// What was written to a new file since its last sync is written as well as it can be. A failure of that isn't
+    /// told: no command answers Ok over a new file that it didn't sync.
+    fn give(&mut self, name: &str, d: Cached<WriteBehind<FileDisk>>) {
+        let behind = d.into_inner();
         let kept = self.unmark(name);
+        let disk = behind.inner();
         self.identities.remove(&disk.identity());
         if let Some(reason) = disk.last_fault() {
             self.fault(kept, reason);
         }
+        drop(behind.finish());
     }
 
     fn rename(&mut self, from: &str, to: &str) -> Result<(), FilesFault> {

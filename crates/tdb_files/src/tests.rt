@@ -42,6 +42,10 @@ fn a_file_is_made_and_read_again(rt: HostRuntime) -> Result<(), Fail> {
     let mut disk = files.take(alloc, FILE, Take::New)?;
     assert_eq!(rt; mode_of(rt, FILE)?, 0o600);
     fill(&mut disk)?;
+    assert_eq!(rt; fs::read(&rt, FILE)?.as_slice(), b"\0\0bytes\0".as_slice());
+    // What was written since the sync is in the file once it is given back.
+    disk.write(0, b"my")?;
+    assert_eq!(rt; fs::read(&rt, FILE)?.as_slice(), b"\0\0bytes\0".as_slice());
     files.give(FILE, disk);
     let mut disk = files.take(alloc, FILE, Take::ReadOnly)?;
     assert_eq!(rt; disk.len()?, 8);
@@ -49,7 +53,7 @@ fn a_file_is_made_and_read_again(rt: HostRuntime) -> Result<(), Fail> {
     if disk.len() == Ok(8) {
         disk.read(0, &mut buf)?;
     }
-    assert_eq!(rt; buf, *b"\0\0bytes\0");
+    assert_eq!(rt; buf, *b"mybytes\0");
     assert!(rt; disk.grow(16).is_err());
     assert_eq!(rt; disk.len()?, 8);
     files.give(FILE, disk);
