@@ -58,22 +58,17 @@ impl Blocks {
         self.starved
     }
 
-    /// Whether a block is kept.
-    pub(crate) fn has(&self, number: usize) -> bool
-        ensures { IsTrue result ↔ IsSome (block_at self.now number) }
+    /// Copies bytes of a block, if it is kept. Whether it is.
+    pub(crate) fn copy_out(&self, number: usize, within: usize, buf: &mut [u8]) -> bool
+        requires { (block : List ℕ) → block_at self.now number ≡ Some block → within + length buf.old ≤ length block }
+        ensures kept { IsTrue result ↔ IsSome (block_at self.now number) }
+        ensures copied { (block : List ℕ) → block_at self.now number ≡ Some block → buf.new ≡ take (length buf.old) (drop within block) }
     {
-        number < self.places.len() && self.places[number].is_some()
-    }
-
-    /// Copies bytes of a block that is kept.
-    pub(crate) fn copy_out(&self, number: usize, within: usize, buf: &mut [u8])
-        requires kept { IsSome (block_at self.now number) }
-        requires long { (block : List ℕ) → block_at self.now number ≡ Some block → within + length buf.old ≤ length block }
-        ensures { (block : List ℕ) → block_at self.now number ≡ Some block → buf.new ≡ take (length buf.old) (drop within block) }
-    {
-        if let Some(block) = &self.places[number] {
+        if let Some(Some(block)) = self.places.get(number) {
             buf.copy_from_slice(&block[within..within + buf.len()]);
+            return true;
         }
+        false
     }
 
     /// Writes over bytes of a block, if it is kept.

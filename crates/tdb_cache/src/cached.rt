@@ -64,6 +64,17 @@ impl<D: Disk> Cached<D> {
         self.blocks.starved()
     }
 
+    /// Reads bytes that lie in one block that is kept. False where they don't, and then nothing was read.
+    fn read_kept(&self, off: u64, buf: &mut [u8]) -> bool
+        requires { off + length buf.old ≤ D.size (cached_inner self.now) }
+        ensures bytes { IsTrue result → IsTrue D.tells → buf.new ≡ take (length buf.old) (drop off (seen (D.history (cached_inner self.now)))) }
+        ensures kept { IsTrue result → KeepsRange self.now off (length buf.old) }
+    {
+        let number = (off / BLOCK_SIZE as u64) as usize;
+        let within = (off % BLOCK_SIZE as u64) as usize;
+        within + buf.len() <= BLOCK_SIZE && self.blocks.copy_out(number, within, buf)
+    }
+
     /// Reads the bytes from offset `off` on, block after block.
     fn read_pieces(&mut self, off: u64, buf: &mut [u8]) -> Result<(), DiskFault>
         requires { off + length buf.old ≤ D.size (cached_inner self.old) }
@@ -98,8 +109,7 @@ impl<D: Disk> Cached<D> {
         ensures filled { OnOk result (IsSome (cached_block self.new number) ⊎ WasRefused self.old self.new number) }
         ensures asked { cached_asked self.new ≡ cached_asked self.old }
     {
-        if self.blocks.has(number) {
-            self.blocks.copy_out(number, within, buf);
+        if self.blocks.copy_out(number, within, buf) {
             return Ok(());
         }
         let size = self.inner.len()?;
@@ -179,7 +189,9 @@ impl<D: Disk> Disk for Cached<D> {
         ensures filled { OnOk result ((at : ℕ) → off ≤ at → at < off + length buf.old → IsKept self.new at ⊎ WasRefused self.old self.new (at / block_size)) }
         ensures kept { KeepsAll self.old self.new }
     {
-        self.read_pieces(off, buf)?;
+        if !self.read_kept(off, buf) {
+            self.read_pieces(off, buf)?;
+        }
         self.asked = self.asked.saturating_add(buf.len() as u64);
         Ok(())
     }
