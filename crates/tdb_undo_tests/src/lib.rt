@@ -2,4 +2,16 @@
 #![tactic(auto)]
 
 #[cfg(test)]
-mod areas;
+mod acts;
+#[cfg(test)]
+mod all;
+#[cfg(test)]
+mod damages;
+#[cfg(test)]
+mod faults;
+#[cfg(test)]
+mod files;
+#[cfg(test)]
+mod steps;
+#[cfg(test)]
+mod stops;
