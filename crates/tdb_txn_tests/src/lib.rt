@@ -2,6 +2,14 @@
 #![tactic(auto)]
 
 #[cfg(test)]
+mod all;
+#[cfg(test)]
+mod changes;
+#[cfg(test)]
 mod commits;
 #[cfg(test)]
+mod files;
+#[cfg(test)]
 mod overlays;
+#[cfg(test)]
+mod stops;

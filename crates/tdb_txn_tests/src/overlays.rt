@@ -1,7 +1,7 @@
-//! Transactions over small files in memory.
+// Transactions over small files in memory.
 ghost use Rattle.std.specs.Prelude.{◌≡◌};
 
-use std::test::Fail;
+use std::alloc::Global;
 use tdb_disk::{Call, MemDisk};
 use tdb_space::{Io, Space};
 use tdb_txn::{OverlayOn, Txn, TxnRefusal};
@@ -15,80 +15,167 @@ const HEADER: Header = Header {
     sequence: 0,
 };
 
-#[test]
-fn shows_the_file_with_its_writes(rt: HostRuntime) -> Result<(), Fail> {
-    let alloc = rt.alloc();
-    let file = vec![in alloc; 0x5Au8; 9000]?;
-    let mut disk = MemDisk::new(alloc, &file)?;
-    let mut txn = Txn::start(alloc, &mut disk, &HEADER)?;
-    assert_eq!(rt; (txn.pages(), disk.syncs(), disk.bytes_read()), (0, 1, 0));
-    let mut view = OverlayOn::new(&mut txn, &mut disk);
-    view.ready(3, 16)?;
-    view.grow(13_000)?;
-    view.write(4_090, b"1234567890")?;
-    view.write_word(8_996, *b"word")?;
-    view.write(12_998, b"!?")?;
-    let mut across = [0; 12];
-    view.read(4_089, &mut across)?;
-    let mut end = [0; 8];
-    view.read(8_995, &mut end)?;
-    let mut last = [0; 3];
-    view.read(12_997, &mut last)?;
-    let mut unwritten = [0; 4];
-    view.read(10, &mut unwritten)?;
-    assert_eq!(rt;
-        (across, end, last, unwritten),
-        (*b"Z1234567890Z", *b"Zword\0\0\0", *b"\0!?", *b"ZZZZ")
-    );
-    assert_eq!(rt; view.len(), Ok(13_000));
-    assert_eq!(rt;
-        (view.order(), view.hash(), view.hash_size()),
-        (Order::Big, HashKind::Jenkins, 7)
-    );
-    assert_eq!(rt; txn.pages(), 4);
-    assert_eq!(rt;
-        (disk.as_slice(), disk.bytes_read()),
-        (file.as_slice(), 9_000)
-    );
-    Ok(())
+/// A file that is longer than two pages.
+static FILE: [u8; 9000] = [0x5A; 9000];
+
+/// Whether bytes are read at an offset of a view.
+fn reads<S: Space>(view: &mut S, at: u64, want: &[u8]) -> bool
+    ensures size { S.size view.new ≡ S.size view.old }
+    ensures spare { S.spare view.new ≡ S.spare view.old }
+{
+    let mut got = [0; 12];
+    let count = want.len();
+    match view.len() {
+        Ok(len) if count <= 12 && at <= len && len - at >= count as u64 => {
+            view.read(at, &mut got[..count]).is_ok() && &got[..count] == want
+        }
+        _ => false,
+    }
 }
 
-#[test]
-fn a_read_that_fails_is_told(rt: HostRuntime) -> Result<(), Fail> {
-    let alloc = rt.alloc();
+/// Makes a view of 9000 bytes longer, and writes into it. None where that fails.
+fn write_all<S: Space>(view: &mut S) -> Option<()>
+    requires { S.size view.old ≡ 9000 }
+{
+    view.ready(3, 16).ok()?;
+    view.grow(13_000).ok()?;
+    view.write(4_090, b"1234567890").ok()?;
+    view.write_word(8_996, *b"word").ok()?;
+    view.write(12_998, b"!?").ok()
+}
+
+/// Bytes that are read at an offset after these writes.
+type Read = (u64, &'static [u8]);
+
+static READS: [(&'static str, Read); 4] = [
+    ("a write in two pages", (4_089, b"Z1234567890Z")),
+    ("a word at the end of the file", (8_995, b"Zword\0\0\0")),
+    ("a write behind the file", (12_997, b"\0!?")),
+    ("what wasn't written", (10, b"ZZZZ")),
+];
+
+/// The first bytes that aren't read so.
+fn failing_read<S: Space>(view: &mut S) -> Option<&'static str> {
+    for (name, (at, want)) in &READS {
+        if !reads(view, *at, *want) {
+            return Some(*name);
+        }
+    }
+    None
+}
+
+/// Whether a view is as long as it was made, and has what the header states.
+fn has_form<S: Space>(view: &mut S) -> bool {
+    view.len() == Ok(13_000)
+        && view.order() == Order::Big
+        && view.hash() == HashKind::Jenkins
+        && view.hash_size() == 7
+}
+
+/// What isn't so of a view of 9000 bytes, of its writes or of its form.
+fn wrong_in_view<S: Space>(view: &mut S) -> Option<&'static str>
+    requires { S.size view.old ≡ 9000 }
+{
+    if write_all(view).is_none() {
+        return Some("the writes");
+    }
+    match failing_read(view) {
+        None if !has_form(view) => Some("the form"),
+        failing => failing,
+    }
+}
+
+/// What isn't so of a view that shows the file with its writes, none of which reaches the disk.
+pub(crate) fn failing_view(alloc: Global) -> Result<Option<&'static str>, TxnRefusal> {
+    let mut disk = MemDisk::new(alloc, &FILE)?;
+    let mut txn = Txn::start(alloc, &mut disk, &HEADER)?;
+    if (txn.pages(), disk.syncs(), disk.bytes_read()) != (0, 1, 0) {
+        return Ok(Some("what a start makes"));
+    }
+    let failing = wrong_in_view(&mut OverlayOn::new(&mut txn, &mut disk));
+    let is_left = txn.pages() == 4
+        && disk.as_slice() == FILE.as_slice()
+        && disk.bytes_read() == 9_000;
+    Ok(match failing {
+        None if !is_left => Some("what is left"),
+        failing => failing,
+    })
+}
+
+/// What isn't so of a view of 8200 bytes where the second read and the third of the disk fail.
+fn wrong_after_faults<S: Space>(view: &mut S) -> Option<&'static str>
+    requires { S.size view.old ≡ 8200 }
+{
+    if view.ready(2, 20).is_err() {
+        return Some("no memory for writes");
+    }
+    if view.write(4_090, b"1234567890") != Err(Io) {
+        return Some("a write that has to read");
+    }
+    if view.read(4_094, &mut [0; 8]) != Err(Io) {
+        return Some("a read that fails");
+    }
+    if !reads(view, 4_094, b"56ZZZZZZ") {
+        return Some("a read after them");
+    }
+    if view.write(4_096, b"789") != Ok(()) || !reads(view, 4_094, b"56789ZZZ") {
+        return Some("a write after them");
+    }
+    None
+}
+
+/// The first call that isn't answered so where reads, or the sync of a start, fail.
+pub(crate) fn failing_fault(alloc: Global) -> Result<Option<&'static str>, TxnRefusal> {
     let mut disk = MemDisk::new(alloc, &[0x5A; 8_200])?;
     disk.fail(Call::Read, 1)?;
     disk.fail(Call::Read, 2)?;
     let mut txn = Txn::start(alloc, &mut disk, &HEADER)?;
-    let mut view = OverlayOn::new(&mut txn, &mut disk);
-    view.ready(2, 20)?;
-    assert_eq!(rt; view.write(4_090, b"1234567890"), Err(Io));
-    let mut bytes = [0; 8];
-    assert_eq!(rt; view.read(4_094, &mut bytes), Err(Io));
-    view.read(4_094, &mut bytes)?;
-    assert_eq!(rt; bytes, *b"56ZZZZZZ");
-    view.write(4_096, b"789")?;
-    view.read(4_094, &mut bytes)?;
-    assert_eq!(rt; bytes, *b"56789ZZZ");
+    let failing = wrong_after_faults(&mut OverlayOn::new(&mut txn, &mut disk));
     disk.fail(Call::Sync, 1)?;
-    assert_eq!(rt;
-        Txn::start(alloc, &mut disk, &HEADER).err(),
-        Some(TxnRefusal::Io)
-    );
-    Ok(())
+    let is_told = Txn::start(alloc, &mut disk, &HEADER).err() == Some(TxnRefusal::Io);
+    Ok(match failing {
+        None if !is_told => Some("the sync of a start"),
+        failing => failing,
+    })
 }
 
-#[test]
-fn transactions_within_one(rt: HostRuntime) -> Result<(), Fail> {
-    let alloc = rt.alloc();
+/// How a transaction within one begins or ends.
+#[derive(Clone, Copy)]
+enum Inner {
+    Start,
+    Commit,
+    Cancel,
+}
+
+/// A transaction within one begins or ends so: how many are open then, and whether the whole can't be committed.
+type Nested = (Inner, u32, bool);
+
+static NESTED: [(&'static str, Nested); 4] = [
+    ("a first one", (Inner::Start, 1, false)),
+    ("one within it", (Inner::Start, 2, false)),
+    ("a commit", (Inner::Commit, 1, false)),
+    ("a cancel", (Inner::Cancel, 0, true)),
+];
+
+/// Begins or ends a transaction within one, where that can be.
+fn take(txn: &mut Txn, inner: Inner) {
+    match inner {
+        Inner::Start if txn.depth() < u32::MAX => txn.nest(),
+        Inner::Commit if txn.depth() > 0 => txn.inner_commit(),
+        Inner::Cancel if txn.depth() > 0 => txn.inner_cancel(),
+        _ => {}
+    }
+}
+
+/// The first transaction within one that doesn't begin or end so.
+pub(crate) fn failing_nested(alloc: Global) -> Result<Option<&'static str>, TxnRefusal> {
     let mut disk = MemDisk::new(alloc, b"")?;
     let mut txn = Txn::start(alloc, &mut disk, &HEADER)?;
-    txn.nest();
-    txn.nest();
-    assert_eq!(rt; (txn.depth(), txn.doomed()), (2, false));
-    txn.inner_commit();
-    assert_eq!(rt; (txn.depth(), txn.doomed()), (1, false));
-    txn.inner_cancel();
-    assert_eq!(rt; (txn.depth(), txn.doomed()), (0, true));
-    Ok(())
+    for (name, (inner, depth, doomed)) in &NESTED {
+        take(&mut txn, *inner);
+        if txn.depth() != *depth || txn.doomed() != *doomed {
+            return Ok(Some(*name));
+        }
+    }
+    Ok(None)
 }
