@@ -49,6 +49,13 @@ impl<D: Disk> Cached<D> {
         inner
     }
 
+    /// The disk within, to look at.
+    pub fn inner(&self) -> &D
+        ensures { result.now ≡ cached_inner self.now }
+    {
+        &self.inner
+    }
+
     /// How many blocks are kept.
     pub fn kept(&self) -> usize
         ensures count { result ≡ cached_count self.now }

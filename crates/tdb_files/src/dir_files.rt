@@ -112,7 +112,7 @@ impl DirFiles {
 impl Files for DirFiles {
     ghost use Rattle.tdb_files.specs.DirFiles.{name_is_taken, dir_faults};
 
-    type D = Cached<WriteBehind<FileDisk>>;
+    type D = WriteBehind<Cached<FileDisk>>;
 
     ghost is_taken = { λ files. name_is_taken files };
 
@@ -125,18 +125,17 @@ impl Files for DirFiles {
         alloc: Global,
         name: &str,
         how: Take,
-    ) -> Result<Cached<WriteBehind<FileDisk>>, TakeRefusal> {
+    ) -> Result<WriteBehind<Cached<FileDisk>>, TakeRefusal> {
         self.identities.reserve(1)?;
         self.mark(alloc, name)?;
         match open(&self.rt, name, how, &self.identities) {
             Ok(disk) => {
                 self.identities.insert(disk.identity()).unwrap();
-                let disk = disk.with_progress(self.progress);
-                let behind = match how {
-                    Take::New => WriteBehind::of_empty(alloc, disk),
-                    Take::Existing | Take::ReadOnly => WriteBehind::through(disk),
-                };
-                Ok(Cached::new(alloc, behind))
+                let cached = Cached::new(alloc, disk.with_progress(self.progress));
+                Ok(match how {
+                    Take::New => WriteBehind::of_empty(alloc, cached),
+                    Take::Existing | Take::ReadOnly => WriteBehind::through(cached),
+                })
             }
             Err(refusal) => {
                 let kept = self.unmark(name);
@@ -154,15 +153,14 @@ impl Files for DirFiles {
 
     /// What was written to a new file since its last sync is written as well as it can be. A failure of that isn't
     /// told: no command answers Ok over a new file that it didn't sync.
-    fn give(&mut self, name: &str, d: Cached<WriteBehind<FileDisk>>) {
-        let behind = d.into_inner();
+    fn give(&mut self, name: &str, d: WriteBehind<Cached<FileDisk>>) {
         let kept = self.unmark(name);
-        let disk = behind.inner();
+        let disk = d.inner().inner();
         self.identities.remove(&disk.identity());
         if let Some(reason) = disk.last_fault() {
             self.fault(kept, reason);
         }
-        drop(behind.finish());
+        drop(d.finish());
     }
 
     fn rename(&mut self, from: &str, to: &str) -> Result<(), FilesFault> {
