@@ -2,9 +2,9 @@
 use Rattle.std.specs.Prelude.{◌≡◌, ℕ, ◌<◌, ◌≤◌, ◌⊎◌, List, length, slice_index}
 use Rattle.tdb_cache.specs.declared.content.Content.{Content}
 
--- the most bytes that are kept, 16 MiB
+-- the most bytes that are kept, 1 MiB
 abbrev pub most_content : ℕ
-most_content = 16777216
+most_content = 1048576
 
 -- the bytes that are kept
 abbrev pub content_bytes : Content → List ℕ

@@ -8,8 +8,8 @@ ghost use Rattle.tdb_disk.specs.Image.{overlay, padded};
 use std::alloc::Global;
 use tdb_disk::{Disk, DiskFault};
 
-/// The longest content that is kept, 16 MiB.
-const MOST_CONTENT: u64 = 16_777_216;
+/// The longest content that is kept, 1 MiB.
+const MOST_CONTENT: u64 = 1_048_576;
 
 /// The bytes of a content from `start` up to `end`.
 #[derive(Clone, Copy)]
@@ -27,7 +27,7 @@ const NOTHING: Stretch = Stretch { start: 0, end: 0 };
 pub struct Content {
     bytes: Vec<u8>,
     pending: Stretch,
-    ghost short: { length bytes.items ≤ 16777216 },
+    ghost short: { length bytes.items ≤ 1048576 },
 }
 
 impl Content {

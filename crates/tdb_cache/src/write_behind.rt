@@ -12,7 +12,7 @@ use crate::content::Content;
 use std::alloc::Global;
 use tdb_disk::{Disk, DiskFault};
 
-/// A disk whose content is kept in memory while it is short, up to 16 MiB. A write costs a copy of its bytes, and
+/// A disk whose content is kept in memory while it is short, up to 1 MiB. A write costs a copy of its bytes, and
 /// reaches the disk within at the next sync, which writes all by one call: the stretch from the first to the last byte
 /// that was written since the sync before. A read costs a copy. Where the content isn't kept, each call is passed on.
 ///
@@ -44,7 +44,7 @@ impl<D: Disk> WriteBehind<D> {
         }
     }
 
-    /// The empty disk `d`, whose content is kept up to 16 MiB. It takes no memory yet.
+    /// The empty disk `d`, whose content is kept up to 1 MiB. It takes no memory yet.
     pub fn of_empty(alloc: Global, d: D) -> WriteBehind<D>
         requires { D.size d ≡ 0 }
         ensures inner { behind_inner result ≡ d }

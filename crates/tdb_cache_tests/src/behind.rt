@@ -107,7 +107,7 @@ fn rows_past(d: &mut WriteBehind<MemDisk>) -> Result<[Row; 3], DiskFault>
     d.grow(8)?;
     d.write(0, b"12345678")?;
     let short = row(d)?;
-    d.grow(16_777_217)?;
+    d.grow(1_048_577)?;
     let long = row(d)?;
     d.write(4, b"word")?;
     Ok([short, long, row(d)?])

@@ -19,7 +19,7 @@ use tdb_disk::{Files, FilesFault, Take, TakeRefusal};
 
 /// The files of the operating system. A name is a path, and a relative one begins at the working folder.
 ///
-/// A file is handed out with a cache of its blocks, and a new one is written behind: while it has 16 MiB or less, what
+/// A file is handed out with a cache of its blocks, and a new one is written behind: while it has 1 MiB or less, what
 /// is written to it reaches the file at the next sync.
 #[derive(Drop)]
 pub struct DirFiles {
