@@ -3,39 +3,16 @@ ghost use Rattle.std.specs.Prelude.{◌≡◌, IsTrue, IfSome};
 ghost use Rattle.tdb_disk.specs.MemDisk.{memory_size};
 ghost use Rattle.tdb_commit.specs.Prepares.{MayPlan};
 
+use small_file::{HEADER, RECORD};
 use std::alloc::{AllocError, Global};
 use tdb_disk::{Disk, MemDisk};
 use tdb_locks::{Kind, Len, LockRefusal, Locks};
 use tdb_space::Space;
 use tdb_txn::{OverlayOn, Txn};
-use tdb_words::{FREE, HashKind, Header, Order, USED, header_bytes, word_bytes};
-
-const HEADER: Header = Header {
-    order: Order::Little,
-    hash: HashKind::Old,
-    hash_size: 131,
-    recovery_start: 0,
-    sequence: 0,
-};
+use tdb_words::{HashKind, Order, header_bytes, word_bytes};
 
 /// The greatest length of a file in these tests.
 pub(crate) const LIMIT: u64 = 1 << 20;
-
-/// The words behind the header of a file with one record, `a` with the value `1`, and a free record in front of it.
-const RECORD: [(usize, u32); 12] = [
-    (168, 696),
-    (200, 4064),
-    (700, 3344),
-    (716, FREE),
-    (4060, 3368),
-    (4068, 8),
-    (4072, 1),
-    (4076, 1),
-    (4080, 0x094A_72E9),
-    (4084, USED),
-    (4088, 0x4242_3161),
-    (4092, 32),
-];
 
 /// The file with one record.
 pub(crate) fn file(alloc: Global) -> Result<MemDisk, AllocError> {

@@ -1,19 +1,12 @@
 // Starts over a small file in memory: the locks after each turn, what is in their way, and a sync that fails.
 
 use crate::kinds::kinds;
+use small_file::HEADER;
 use std::alloc::{AllocError, Global};
 use tdb_commit::{StartTurn, Starting};
 use tdb_disk::{FuseDisk, MemDisk};
 use tdb_locks::{Kind, Len, LockRefusal, Locks};
-use tdb_words::{HashKind, Header, Order, header_bytes};
-
-const HEADER: Header = Header {
-    order: Order::Little,
-    hash: HashKind::Old,
-    hash_size: 131,
-    recovery_start: 0,
-    sequence: 0,
-};
+use tdb_words::{HashKind, Order, header_bytes};
 
 /// A file of 696 bytes without a record.
 fn file(alloc: Global) -> Result<MemDisk, AllocError> {

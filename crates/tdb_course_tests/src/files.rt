@@ -1,20 +1,9 @@
 // Files of known bytes, as the stock library makes them.
 
+use small_file::{RECORD, Word};
 use std::alloc::{AllocError, Global};
 use tdb_disk::MemDisk;
-use tdb_words::{HashKind, Header, Order, header_bytes, word_bytes};
-
-/// A little-endian word, and its offset.
-pub(crate) type Word = (usize, u32);
-
-/// The header of each of these files.
-pub(crate) const HEADER: Header = Header {
-    order: Order::Little,
-    hash: HashKind::Old,
-    hash_size: 131,
-    recovery_start: 0,
-    sequence: 0,
-};
+use tdb_words::{HashKind, Order, header_bytes, word_bytes};
 
 /// A file of 131 chains: its length in bytes, its sequence number, and the words behind its header that aren't 0.
 #[derive(Clone, Copy)]
@@ -31,27 +20,11 @@ pub(crate) const NEW: Image = Image {
     words: &[],
 };
 
-/// The words of a free record behind the heads of a file, and of the record of `a`, with the value `1`, behind that.
-pub(crate) const RECORD: &[Word] = &[
-    (168, 696),
-    (200, 4064),
-    (700, 3344),
-    (716, 0xD9FE_E666),
-    (4060, 3368),
-    (4068, 8),
-    (4072, 1),
-    (4076, 1),
-    (4080, 0x094A_72E9),
-    (4084, 0x2601_1999),
-    (4088, 0x4242_3161),
-    (4092, 32),
-];
-
-/// The file of that record.
+/// The file of one record.
 pub(crate) const ONE: Image = Image {
     len: 4096,
     number: 0,
-    words: RECORD,
+    words: &RECORD,
 };
 
 /// The same with the last of all sequence numbers.

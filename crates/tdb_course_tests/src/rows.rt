@@ -1,8 +1,9 @@
 // The rows: scripts of plays, and what comes of each.
 
-use crate::files::{LAST_NUMBER, NEW, ONE, RECORD};
+use crate::files::{LAST_NUMBER, NEW, ONE};
 use crate::tables::{Failing, Row};
 use crate::worlds::OPTIONS;
+use small_file::RECORD;
 use tdb_course::RunFault;
 use tdb_disk::Call;
 use tdb_log::{LogRefusal, Notice};
@@ -112,7 +113,7 @@ pub(crate) static ROWS: [Row; 17] = [
         },
         script: "open\ndo 1 start\ndo 1 store a 9\ndo 1 commit\ndo 1 fetch a\n",
         told: "1 open\n1 step\n1 step\n1 done ok\n1 done ok\n1 step\n1 step\n1 done full 4096 4096\n1 step\n1 done data(1) = \"1\"\n",
-        words: RECORD,
+        words: &RECORD,
         ..PLAIN
     },
     Row {

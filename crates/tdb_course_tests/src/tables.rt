@@ -1,8 +1,9 @@
 // Rows of plays, and whether each gives what it says.
 
-use crate::files::{Image, Word, disk_of, has_words};
+use crate::files::{Image, disk_of, has_words};
 use crate::rows::ROWS;
 use crate::worlds::{take_script, text_of};
+use small_file::Word;
 use std::alloc::{AllocError, Global};
 use std::test::Fail;
 use tdb_course::RunFault;

@@ -4,7 +4,7 @@ ghost use Rattle.std.specs.Prelude.{◌≤◌, IsTrue};
 ghost use Rattle.tdb_course.specs.Playable.{ArePlayable, IsPlayable};
 ghost use Rattle.tdb_plays.specs.Short.{IsShortCommand};
 
-use crate::files::HEADER;
+use small_file::HEADER;
 use std::alloc::Global;
 use tdb_course::{RunFault, run};
 use tdb_disk::{Disk, MemSink};

@@ -9,7 +9,7 @@ ghost use Rattle.tdb_steps.specs.Machines.{IsShort, Fits};
 ghost use Rattle.tdb_walk.specs.ByteLocks.{HoldsWords};
 ghost use Rattle.tdb_cursors_tests.specs.Words.{IsWordOf};
 
-use crate::files::HEADER;
+use small_file::HEADER;
 use std::alloc::{AllocError, Global};
 use tdb_cursors::{Walk, close_turn};
 use tdb_disk::MemDisk;

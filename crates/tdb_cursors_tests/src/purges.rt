@@ -1,8 +1,9 @@
 // Calls that fail while an opener leaves a dead record, which is purged with that.
 
-use crate::files::{HEADER, ONE_RECORD, file_of};
+use crate::files::file_of;
 use crate::openers::{Act, Openers, Want};
 use crate::rows::{FETCH_NEW, STORE_ANEW, steps_hold};
+use small_file::{HEADER, RECORD};
 use std::alloc::{AllocError, Global};
 use std::test::Fail;
 use tdb_cursors::Walk;
@@ -58,7 +59,7 @@ fn gives(alloc: Global, disk: &MemDisk) -> Result<bool, AllocError> {
 // Whether opener 1 leaves its dead record in these turns, where the call of a kind with a number is to fail. Where one
 // fails in them, the cursor and its entry stand where they stood, and the file gives the new value for the key.
 fn leaves(alloc: Global, act: Act, call: Call, nth: u64, turns: Turns) -> Result<bool, AllocError> {
-    let mut disk = MemDisk::new(alloc, &file_of(alloc, 131, 4096, &ONE_RECORD, &[])?)?;
+    let mut disk = MemDisk::new(alloc, &file_of(alloc, 131, 4096, &RECORD, &[])?)?;
     let mut openers = Openers::new(alloc, HEADER)?;
     let (mut walk, mut other) = (Walk::new(), Walk::new());
     if !steps_hold(&mut disk, &mut openers, &mut walk, &mut other, &STORE_ANEW)? {

@@ -1,7 +1,8 @@
 // Rows of what two openers do over a small file in memory, turn by turn: cursors, and plain commands beside them.
 
-use crate::files::{HEADER, ONE_RECORD, Word, file_of};
+use crate::files::file_of;
 use crate::openers::{Act, Openers, Want};
+use small_file::{HEADER, RECORD, Word};
 use std::alloc::{AllocError, Global};
 use std::test::Fail;
 use tdb_cursors::Walk;
@@ -102,7 +103,7 @@ const WIPED: [Word; 3] = [(200, 0), (700, 3376), (4092, 3400)];
 const SMALL: Row = Row {
     chains: 131,
     len: 4096,
-    words: &ONE_RECORD,
+    words: &RECORD,
     failing: None,
     steps: &[],
     is_bare: true,

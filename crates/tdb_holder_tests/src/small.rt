@@ -2,9 +2,10 @@
 ghost use Rattle.std.specs.Prelude.{◌≡◌, IfOk};
 ghost use Rattle.tdb_disk.specs.MemDisk.{memory_size};
 
+use small_file::RECORD;
 use std::alloc::{AllocError, Global};
 use tdb_disk::MemDisk;
-use tdb_words::{FREE, HashKind, Header, Order, USED, header_bytes, word_bytes};
+use tdb_words::{HashKind, Header, Order, header_bytes, word_bytes};
 
 /// The header of the file.
 pub(crate) const HEADER: Header = Header {
@@ -17,22 +18,6 @@ pub(crate) const HEADER: Header = Header {
 
 /// The greatest length of a file in these tests.
 pub(crate) const LIMIT: u64 = 1_048_576;
-
-/// The words behind the header of a file with one record, `a` with the value `1`, and a free record in front of it.
-const RECORD: [(usize, u32); 12] = [
-    (168, 696),
-    (200, 4064),
-    (700, 3344),
-    (716, FREE),
-    (4060, 3368),
-    (4068, 8),
-    (4072, 1),
-    (4076, 1),
-    (4080, 0x094A_72E9),
-    (4084, USED),
-    (4088, 0x4242_3161),
-    (4092, 32),
-];
 
 /// The bytes of the file with one record. Its value is at 4089.
 pub(crate) fn bytes() -> [u8; 4096] {

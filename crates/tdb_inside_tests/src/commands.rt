@@ -4,6 +4,7 @@ ghost use Rattle.tdb_disk.specs.MemDisk.{memory_size};
 ghost use Rattle.tdb_steps.specs.Machines.{IsShort};
 ghost use Rattle.tdb_inside_tests.specs.Ready.{IsReady};
 
+use small_file::{HEADER, RECORD};
 use std::alloc::{AllocError, Global};
 use tdb_disk::MemDisk;
 use tdb_inside::OwnTxn;
@@ -11,35 +12,11 @@ use tdb_locks::Reply;
 use tdb_space::Io;
 use tdb_steps::{Flag, Plain};
 use tdb_txn::Txn;
-use tdb_words::{Bytes, FREE, HashKind, Header, Order, USED, header_bytes, word_bytes};
+use tdb_words::{Bytes, HashKind, Order, header_bytes, word_bytes};
 
 /// The header of the file.
-pub(crate) const HEADER: Header = Header {
-    order: Order::Little,
-    hash: HashKind::Old,
-    hash_size: 131,
-    recovery_start: 0,
-    sequence: 0,
-};
-
 /// The greatest length of a file in these tests.
 pub(crate) const LIMIT: u64 = 1 << 20;
-
-/// The words behind the header of a file with one record, `a` with the value `1`, and a free record in front of it.
-const RECORD: [(usize, u32); 12] = [
-    (168, 696),
-    (200, 4064),
-    (700, 3344),
-    (716, FREE),
-    (4060, 3368),
-    (4068, 8),
-    (4072, 1),
-    (4076, 1),
-    (4080, 0x094A_72E9),
-    (4084, USED),
-    (4088, 0x4242_3161),
-    (4092, 32),
-];
 
 /// The bytes of the file with one record.
 pub(crate) fn bytes() -> [u8; 4096] {

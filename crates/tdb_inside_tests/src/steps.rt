@@ -3,7 +3,8 @@ ghost use Rattle.std.specs.Prelude.{ℕ};
 ghost use Rattle.tdb_disk.specs.MemDisk.{memory_size};
 ghost use Rattle.tdb_inside_tests.specs.Ready.{IsReady};
 
-use crate::commands::{HEADER, LIMIT, OK, Told, Word, command, told};
+use crate::commands::{LIMIT, OK, Told, Word, command, told};
+use small_file::HEADER;
 use std::alloc::{AllocError, Global};
 use tdb_cursors::Walk;
 use tdb_disk::MemDisk;

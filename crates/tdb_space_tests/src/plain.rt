@@ -2,6 +2,7 @@
 
 ghost use Rattle.std.specs.Prelude.{◌≡◌};
 
+use small_file::RECORD;
 use std::alloc::{AllocError, Global};
 use std::test::Fail;
 use tdb_space::{chain_offsets, pairs_in_order, rec_len_for, record_at};
@@ -43,21 +44,7 @@ fn image_of(
 #[test]
 fn reads_the_file_of_one_record(rt: HostRuntime) -> Result<(), Fail> {
     let alloc = rt.alloc();
-    let words = [
-        (168, 696),
-        (200, 4064),
-        (700, 3344),
-        (716, FREE),
-        (4060, 3368),
-        (4068, 8),
-        (4072, 1),
-        (4076, 1),
-        (4080, 0x094A_72E9),
-        (4084, USED),
-        (4088, 0x4242_3161),
-        (4092, 32),
-    ];
-    let image = image_of(alloc, 4096, Order::Little, &words)?;
+    let image = image_of(alloc, 4096, Order::Little, &RECORD)?;
     let header = header(Order::Little, 131);
     assert!(rt; image.len() == 4096);
     let Some(rec) = record_at(&image, &header, 4064) else {

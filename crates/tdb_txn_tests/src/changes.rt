@@ -2,7 +2,7 @@
 ghost use Rattle.std.specs.Prelude.{◌≡◌, ◌+◌, ◌≤◌, IsTrue, length};
 ghost use Rattle.tdb_txn.specs.CommitStates.{planned_plan, plan_length};
 
-use crate::files::HEADER;
+use small_file::HEADER;
 use std::alloc::Global;
 use tdb_disk::{Disk, DiskFault, MemDisk};
 use tdb_space::{Io, Space};

@@ -1,7 +1,8 @@
 // Commits on a small file in memory, one after the other: what each answers and leaves.
 
 use crate::changes::{LIMIT, add_free, change};
-use crate::files::{Word, committed, file, word_of};
+use crate::files::{committed, file, word_of};
+use small_file::Word;
 use std::alloc::Global;
 use tdb_disk::MemDisk;
 use tdb_txn::TxnRefusal;

@@ -1,34 +1,8 @@
 // Small files in memory.
 
+use small_file::RECORD;
 use std::alloc::{AllocError, Global};
-use tdb_words::{FREE, HashKind, Header, Order, USED, header_bytes, word_bytes};
-
-pub(crate) const HEADER: Header = Header {
-    order: Order::Little,
-    hash: HashKind::Old,
-    hash_size: 131,
-    recovery_start: 0,
-    sequence: 0,
-};
-
-/// A word of a file: its offset, and the number there.
-pub(crate) type Word = (usize, u32);
-
-/// The words behind the header of a file with one record, `a` with the value `1`, and a free record in front of it.
-const RECORD: [Word; 12] = [
-    (168, 696),
-    (200, 4064),
-    (700, 3344),
-    (716, FREE),
-    (4060, 3368),
-    (4068, 8),
-    (4072, 1),
-    (4076, 1),
-    (4080, 0x094A_72E9),
-    (4084, USED),
-    (4088, 0x4242_3161),
-    (4092, 32),
-];
+use tdb_words::{HashKind, Order, header_bytes, word_bytes};
 
 /// Puts some bytes at an offset, where there is room for them.
 fn put(bytes: &mut [u8], at: usize, what: &[u8]) {

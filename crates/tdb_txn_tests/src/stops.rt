@@ -2,7 +2,8 @@
 // was done.
 
 use crate::changes::{LIMIT, change};
-use crate::files::{HEADER, file};
+use crate::files::file;
+use small_file::HEADER;
 use std::alloc::{AllocError, Global};
 use tdb_disk::{Disk, FuseDisk, MemDisk, Pick};
 use tdb_undo::recover;

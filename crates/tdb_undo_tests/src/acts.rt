@@ -1,7 +1,7 @@
 // What is done to a file with an undo area.
 ghost use Rattle.std.specs.Prelude.{◌≡◌, ◌%◌, ◌≤◌, ◌<◌};
 
-use crate::files::HEADER;
+use small_file::HEADER;
 use std::alloc::{AllocError, Global};
 use tdb_disk::Disk;
 use tdb_undo::{

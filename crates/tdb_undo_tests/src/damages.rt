@@ -1,7 +1,8 @@
 // Damaged undo areas: each damage is refused by its kind and its place, and nothing is written.
 
 use crate::acts::{Act, act_on};
-use crate::files::{OPEN, Word, bytes_of, put_words};
+use crate::files::{OPEN, bytes_of, put_words};
+use small_file::Word;
 use std::alloc::Global;
 use tdb_disk::MemDisk;
 use tdb_undo::UndoRefusal;

@@ -1,37 +1,9 @@
 // Small files in memory: sound ones, and ones with an undo area.
 
+use small_file::{RECORD, Word};
 use std::alloc::{AllocError, Global};
 use tdb_disk::MemDisk;
-use tdb_words::{
-    FREE, GATE_OPEN, GATE_SHUT, HashKind, Header, Order, USED, header_bytes, word_bytes,
-};
-
-pub(crate) const HEADER: Header = Header {
-    order: Order::Little,
-    hash: HashKind::Old,
-    hash_size: 131,
-    recovery_start: 0,
-    sequence: 0,
-};
-
-/// A word of a file: its offset, and the number there.
-pub(crate) type Word = (usize, u32);
-
-/// The words behind the header of a file with one record, `a` with the value `1`, and a free record in front of it.
-const RECORD: [Word; 12] = [
-    (168, 696),
-    (200, 4064),
-    (700, 3344),
-    (716, FREE),
-    (4060, 3368),
-    (4068, 8),
-    (4072, 1),
-    (4076, 1),
-    (4080, 0x094A_72E9),
-    (4084, USED),
-    (4088, 0x4242_3161),
-    (4092, 32),
-];
+use tdb_words::{GATE_OPEN, GATE_SHUT, HashKind, Order, header_bytes, word_bytes};
 
 /// The file with one record, made longer by zeros to `len` bytes, with other words and then other bytes at some places.
 /// At `header_at`, if that is an offset, its first 44 bytes stand once more.

@@ -1,7 +1,8 @@
 // Acts on small files in memory, one after the other: what each answers and leaves.
 
 use crate::acts::{Act, act_on, is_open};
-use crate::files::{FILE, FILLED, Image, OPEN, ROOM, WHOLE, Word, bytes_of, disk_of};
+use crate::files::{FILE, FILLED, Image, OPEN, ROOM, WHOLE, bytes_of, disk_of};
+use small_file::Word;
 use std::alloc::Global;
 use tdb_disk::MemDisk;
 use tdb_words::{GATE_OPEN, GATE_SHUT};

@@ -3,43 +3,18 @@
 ghost use Rattle.tdb_locks.specs.HeldLocks.{nothing_held};
 ghost use Rattle.tdb_walk.specs.ByteLocks.{HoldsWords};
 
-use crate::files::{Word, file_of, put_words};
+use crate::files::{file_of, put_words};
 use crate::moves::{HEADER as SMALL, image as small_image};
+use small_file::{HEADER, RECORD, Word};
 use std::alloc::{AllocError, Global};
 use tdb_disk::{Call, MemDisk};
 use tdb_locks::{Held, Kind, Locks, Reply, Spots, Turn};
 use tdb_space::{Direct, Io};
 use tdb_walk::{Cursor, Goal};
-use tdb_words::{Bytes, DEAD, FREE, HashKind, Header, Order, USED};
-
-const HEADER: Header = Header {
-    order: Order::Little,
-    hash: HashKind::Old,
-    hash_size: 131,
-    recovery_start: 0,
-    sequence: 0,
-};
+use tdb_words::{Bytes, DEAD, FREE, Header, Order, USED};
 
 // The stock library's hash of the key "a", which is filed in chain 7.
 const HASH: u32 = 0x094A_72E9;
-
-// The key "a" with the value "1" at 4064, and a free record in front of it.
-const STORED: [Word; 14] = [
-    (168, 696),
-    (200, 4064),
-    (696, 0),
-    (700, 3344),
-    (716, FREE),
-    (4060, 3368),
-    (4064, 0),
-    (4068, 8),
-    (4072, 1),
-    (4076, 1),
-    (4080, HASH),
-    (4084, USED),
-    (4088, 0x4242_3161),
-    (4092, 32),
-];
 
 // It was deleted while a cursor stood on it, and the value "2" was stored at 4032.
 const KILLED: [Word; 12] = [
@@ -91,12 +66,12 @@ struct Told {
 }
 
 fn stored(alloc: Global) -> Result<MemDisk, AllocError> {
-    MemDisk::new(alloc, &file_of(alloc, 4096, Order::Little, &STORED, &[])?)
+    MemDisk::new(alloc, &file_of(alloc, 4096, Order::Little, &RECORD, &[])?)
 }
 
 /// The file in which the record is dead, with other words at some places.
 fn killed(alloc: Global, words: &[Word]) -> Result<Vec<u8>, AllocError> {
-    let mut image = file_of(alloc, 4096, Order::Little, &STORED, &KILLED)?;
+    let mut image = file_of(alloc, 4096, Order::Little, &RECORD, &KILLED)?;
     put_words(&mut image, Order::Little, words);
     Ok(image)
 }

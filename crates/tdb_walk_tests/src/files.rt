@@ -1,10 +1,8 @@
 // Small files in memory.
 
+use small_file::Word;
 use std::alloc::{AllocError, Global};
 use tdb_words::{Order, word_bytes};
-
-/// A word of a file: its offset, and the number there.
-pub(crate) type Word = (usize, u32);
 
 /// Writes words into a file, those that find place there.
 pub(crate) fn put_words(image: &mut [u8], order: Order, words: &[Word]) {

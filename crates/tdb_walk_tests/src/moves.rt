@@ -1,6 +1,7 @@
 // Moves through a small file of 131 chains in memory, and a purge in it.
 
-use crate::files::{Word, file_of};
+use crate::files::file_of;
+use small_file::Word;
 use std::alloc::{AllocError, Global};
 use std::test::Fail;
 use tdb_disk::{Call, MemDisk};
