@@ -1,25 +1,22 @@
 // Stores, deletes, erases and the words of transactions: what is printed, and what is left of the file.
 
-use crate::images::{Image, NEW_FILE, ONE, ONE_RECORD};
+use crate::images::{Image, NEW_FILE, ONE};
 use crate::runs::Failing::{Disk, Nothing};
 use crate::runs::USAGE;
 use crate::tables::{Left, Table};
+use small_file::RECORD;
 use tdb_disk::Call;
 
 /// The file of one record, whose value is `2`.
 const STORED: Image = Image {
-    words: &[&NEW_FILE, &ONE_RECORD, &[(4088, 0x4242_3261)]],
+    words: &[&NEW_FILE, &RECORD, &[(4088, 0x4242_3261)]],
     ..ONE
 };
 
 /// What a file without a key has behind its heads, whose record went to the free list: one free record up to the end.
 /// Between its header and its tailer nothing was written.
 const FREED: Image = Image {
-    words: &[
-        &NEW_FILE,
-        &ONE_RECORD,
-        &[(200, 0), (700, 3376), (4092, 3400)],
-    ],
+    words: &[&NEW_FILE, &RECORD, &[(200, 0), (700, 3376), (4092, 3400)]],
     ..ONE
 };
 

@@ -1,10 +1,8 @@
 // Files of known bytes, as the stock library makes them.
 
+use small_file::{RECORD, Word};
 use std::alloc::{AllocError, Global};
-use tdb_words::{FREE, Order, USED, word_bytes};
-
-/// A word of a file: its offset, and the number there.
-pub(crate) type Word = (u32, u32);
+use tdb_words::{Order, word_bytes};
 
 /// The bytes of a file: a text at its front, words of a byte order at their offsets, of which the later ones overwrite
 /// the earlier ones, and zeros elsewhere, up to a length.
@@ -19,9 +17,8 @@ pub(crate) struct Image {
 /// Writes words into bytes, those that find place there.
 fn put_words(bytes: &mut [u8], order: Order, words: &[Word]) {
     for (at, word) in words {
-        let at = *at as usize;
-        if at + 4 <= bytes.len() {
-            bytes[at..at + 4].copy_from_slice(&word_bytes(*word, order));
+        if *at <= bytes.len() && bytes.len() - *at >= 4 {
+            bytes[*at..*at + 4].copy_from_slice(&word_bytes(*word, order));
         }
     }
 }
@@ -97,32 +94,16 @@ pub(crate) const ONE_BIG_CHAIN: Image = Image {
     ..NEW_BIG
 };
 
-/// The words of a free record behind the heads, and of the used record of `a` behind that.
-pub(crate) const ONE_RECORD: [Word; 12] = [
-    (168, 696),
-    (200, 4064),
-    (700, 3344),
-    (716, FREE),
-    (4060, 3368),
-    (4068, 8),
-    (4072, 1),
-    (4076, 1),
-    (4080, 0x094A_72E9),
-    (4084, USED),
-    (4088, 0x4242_3161),
-    (4092, 32),
-];
-
 /// The file of the record of `a`, whose value is `1`.
 pub(crate) const ONE: Image = Image {
-    words: &[&NEW_FILE, &ONE_RECORD],
+    words: &[&NEW_FILE, &RECORD],
     len: 4096,
     ..NEW
 };
 
 /// The same, whose chain's head is lost: the record stands in no list.
 pub(crate) const STRAY: Image = Image {
-    words: &[&NEW_FILE, &ONE_RECORD, &[(200, 0)]],
+    words: &[&NEW_FILE, &RECORD, &[(200, 0)]],
     ..ONE
 };
 
@@ -147,7 +128,7 @@ pub(crate) const OPEN_GATE: [Word; 12] = [
 /// The file of one record after its value became `9` and its sequence number 5, with an undo area that keeps what was
 /// before, and whose gate is open.
 pub(crate) const GATE: Image = Image {
-    words: &[&NEW_FILE, &ONE_RECORD, &OPEN_GATE],
+    words: &[&NEW_FILE, &RECORD, &OPEN_GATE],
     len: 8192,
     ..NEW
 };

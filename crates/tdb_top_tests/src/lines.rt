@@ -1,9 +1,10 @@
 // What is printed for files of known bytes, and what failing calls give.
 
-use crate::images::{Image, NEW, NEW_BIG, NEW_FILE, NEW_JENKINS_FILE, ONE, Word, bytes_of};
+use crate::images::{Image, NEW, NEW_BIG, NEW_FILE, NEW_JENKINS_FILE, ONE, bytes_of};
 use crate::runs::Failing::{Disk, Files, Nothing, Output};
 use crate::runs::{DUMP, Line, USAGE};
 use crate::tables::{Table, checks};
+use small_file::Word;
 use std::alloc::{AllocError, Global};
 use std::test::Fail;
 use tdb_disk::Call;

@@ -3,8 +3,9 @@
 ghost use Rattle.std.specs.Prelude.{◌≡◌, ℕ, List, false, IfOk};
 ghost use Rattle.tdb_disk.specs.MemFiles.{name_is_taken};
 
-use crate::images::{Image, Word, bytes_of, has_words};
+use crate::images::{Image, bytes_of, has_words};
 use crate::runs::{Failing, Line, line_holds};
+use small_file::Word;
 use std::alloc::{AllocError, Global};
 use tdb_disk::MemFiles;
 

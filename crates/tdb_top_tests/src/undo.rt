@@ -1,31 +1,32 @@
 // Files whose gate is open: what is printed, and what is left of them.
 
-use crate::images::{GATE, Image, NEW_FILE, ONE, ONE_RECORD, OPEN_GATE};
+use crate::images::{GATE, Image, NEW_FILE, ONE, OPEN_GATE};
 use crate::runs::DUMP;
 use crate::runs::Failing::{Disk, Nothing};
 use crate::tables::{Left, Table};
+use small_file::RECORD;
 use tdb_disk::Call;
 
 /// An entry of the undo area passes the old length.
 const LONG_ENTRY: Image = Image {
-    words: &[&NEW_FILE, &ONE_RECORD, &OPEN_GATE, &[(4132, 4096)]],
+    words: &[&NEW_FILE, &RECORD, &OPEN_GATE, &[(4132, 4096)]],
     ..GATE
 };
 
 /// The undo area is behind the end.
 const AREA_BEHIND: Image = Image {
-    words: &[&NEW_FILE, &ONE_RECORD, &OPEN_GATE, &[(44, 8176)]],
+    words: &[&NEW_FILE, &RECORD, &OPEN_GATE, &[(44, 8176)]],
     ..GATE
 };
 
 /// The number of chains becomes 0 in the undo, and the sequence number stays.
 const BAD_NUMBER: Image = Image {
-    words: &[&NEW_FILE, &ONE_RECORD, &OPEN_GATE, &[(4120, 36)]],
+    words: &[&NEW_FILE, &RECORD, &OPEN_GATE, &[(4120, 36)]],
     ..GATE
 };
 
 const BAD_NUMBER_UNDONE: Image = Image {
-    words: &[&NEW_FILE, &ONE_RECORD, &[(36, 0), (48, 5)]],
+    words: &[&NEW_FILE, &RECORD, &[(36, 0), (48, 5)]],
     ..ONE
 };
 

@@ -1,9 +1,10 @@
 // Verifications over the forms in memory: what is printed, what is restored, and what failing calls leave.
 
-use crate::images::{Image, NEW_FILE, ONE, ONE_RECORD, STRAY};
+use crate::images::{Image, NEW_FILE, ONE, STRAY};
 use crate::runs::Failing::{Disk, Files, Nothing, Output};
 use crate::runs::USAGE;
 use crate::tables::{Left, Table};
+use small_file::RECORD;
 use tdb_disk::Call;
 
 const COUNTED: &str = "f.tdb : 1 records\n";
@@ -17,7 +18,7 @@ const RESTORE_FAULT: &str = "restoring f.tdb\ndevice fault\n";
 
 /// The file of one record with another version in its header.
 const OTHER_VERSION: Image = Image {
-    words: &[&NEW_FILE, &ONE_RECORD, &[(32, 0)]],
+    words: &[&NEW_FILE, &RECORD, &[(32, 0)]],
     ..ONE
 };
 
