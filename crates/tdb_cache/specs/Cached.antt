@@ -1,5 +1,6 @@
 -- What a contract sees of a disk with a cache.
 use Rattle.std.specs.Prelude.{◌≡◌, ℕ, ◌+◌, ◌/◌, ◌<◌, ◌≤◌, IsSome, List, Option}
+use Rattle.tdb_disk.specs.Count.{RoseUpTo}
 use Rattle.tdb_disk.specs.declared.disk.Disk.{Ghosts}
 use Rattle.tdb_cache.specs.Blocks.{block_at, block_size, Refused, kept_count, starved_count, StillKept}
 use Rattle.tdb_cache.specs.declared.cached.Cached.{Cached}
@@ -48,3 +49,10 @@ pub record Looked {D : Type 0} {g : Ghosts D} (old new : Cached D g) : Type 0 wh
   pub kept : StillKept old.blocks new.blocks
   pub count : cached_count old ≤ cached_count new
   pub starved : cached_starved old ≤ cached_starved new
+
+-- a read of so many bytes went past the blocks: nothing of them has changed, and the disk within was asked for no more than that
+pub record WentPast {D : Type 0} {g : Ghosts D} (len : ℕ) (old new : Cached D g) : Type 0 where
+  pub blocks : (number : ℕ) → cached_block new number ≡ cached_block old number
+  pub count : cached_count new ≡ cached_count old
+  pub starved : cached_starved new ≡ cached_starved old
+  pub bytes_read : RoseUpTo len (g.bytes_read (cached_inner old)) (g.bytes_read (cached_inner new))

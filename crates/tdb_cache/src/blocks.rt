@@ -58,6 +58,13 @@ impl Blocks {
         self.starved
     }
 
+    /// Whether a block is kept.
+    pub(crate) fn keeps(&self, number: usize) -> bool
+        ensures { IsTrue result ↔ IsSome (block_at self.now number) }
+    {
+        matches!(self.places.get(number), Some(Some(_)))
+    }
+
     /// Copies bytes of a block, if it is kept. Whether it is.
     pub(crate) fn copy_out(&self, number: usize, within: usize, buf: &mut [u8]) -> bool
         requires { (block : List ℕ) → block_at self.now number ≡ Some block → within + length buf.old ≤ length block }

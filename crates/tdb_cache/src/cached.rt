@@ -1,5 +1,5 @@
 //! A disk that keeps blocks of the disk within.
-ghost use Rattle.std.specs.Prelude.{◌≡◌, ◌≢◌, ◌+◌, ◌-◌, ◌*◌, ◌/◌, ◌%◌, ◌≤◌, ◌<◌, ◌⊎◌, ℕ, List, Some, None, IsTrue, IsFalse, IsSome, IfOk, OnOk, MatchResult, length, take, drop};
+ghost use Rattle.std.specs.Prelude.{◌≡◌, ◌≢◌, ◌+◌, ◌-◌, ◌*◌, ◌/◌, ◌%◌, ◌≤◌, ◌<◌, ◌⊎◌, ◌↔◌, ℕ, List, Some, None, IsTrue, IsFalse, IsSome, IfOk, OnOk, MatchResult, length, take, drop};
 ghost use Rattle.tdb_disk.specs.Count.{HasCause, RoseBy, RoseUpTo};
 ghost use Rattle.tdb_disk.specs.History.{wrote, wrote_word, grew, cut, synced, called, seen, Tried, TriedOver};
 ghost use Rattle.tdb_disk.specs.Image.{overlay};
@@ -10,7 +10,8 @@ use crate::piece::Piece;
 use std::alloc::Global;
 use tdb_disk::{Disk, DiskFault};
 
-/// A disk that keeps blocks of the disk within, read when they are first asked for and written through.
+/// A disk that keeps blocks of the disk within, read when they are first asked for and written through. A read as long
+/// as a block that begins in none of them goes past them.
 #[derive(Drop)]
 pub struct Cached<D: Disk> {
     inner: D,
@@ -69,6 +70,14 @@ impl<D: Disk> Cached<D> {
         ensures { result ≡ cached_starved self.now }
     {
         self.blocks.starved()
+    }
+
+    /// Whether a read of so many bytes goes past the blocks: it is as long as a block, and its first byte lies in none
+    /// that is kept.
+    fn goes_past(&self, off: u64, len: usize) -> bool
+        ensures { IsTrue result ↔ (block_size ≤ len) × (IsKept self.now off → ⊥) }
+    {
+        len >= BLOCK_SIZE && !self.blocks.keeps((off / BLOCK_SIZE as u64) as usize)
     }
 
     /// Reads bytes that lie in one block that is kept. False where they don't, and then nothing was read.
@@ -154,7 +163,7 @@ impl<D: Disk> Cached<D> {
 }
 
 impl<D: Disk> Disk for Cached<D> {
-    ghost use Rattle.tdb_cache.specs.Cached.{cached_inner, cached_asked, cached_count, IsKept, KeepsAll, KeepsRange, WasRefused};
+    ghost use Rattle.tdb_cache.specs.Cached.{cached_inner, cached_asked, cached_count, IsKept, KeepsAll, KeepsRange, WasRefused, WentPast};
 
     ghost tells = { D.tells };
 
@@ -193,10 +202,13 @@ impl<D: Disk> Disk for Cached<D> {
         ensures inner_read { RoseUpTo (length buf.old + 2 * block_size) (D.bytes_read (cached_inner self.old)) (D.bytes_read (cached_inner self.new)) }
         ensures full { most_kept ≤ cached_count self.old → RoseUpTo (length buf.old) (D.bytes_read (cached_inner self.old)) (D.bytes_read (cached_inner self.new)) }
         ensures there { KeepsRange self.old off (length buf.old) → cached_inner self.new ≡ cached_inner self.old }
-        ensures filled { OnOk result ((at : ℕ) → off ≤ at → at < off + length buf.old → IsKept self.new at ⊎ WasRefused self.old self.new (at / block_size)) }
+        ensures filled { OnOk result ((length buf.old < block_size) ⊎ IsKept self.old off → (at : ℕ) → off ≤ at → at < off + length buf.old → IsKept self.new at ⊎ WasRefused self.old self.new (at / block_size)) }
+        ensures past { block_size ≤ length buf.old → (IsKept self.old off → ⊥) → WentPast (length buf.old) self.old self.new }
         ensures kept { KeepsAll self.old self.new }
     {
-        if !self.read_kept(off, buf) {
+        if self.goes_past(off, buf.len()) {
+            self.inner.read(off, buf)?;
+        } else if !self.read_kept(off, buf) {
             self.read_pieces(off, buf)?;
         }
         self.asked = self.asked.saturating_add(buf.len() as u64);

@@ -1,5 +1,7 @@
 //! Rows of calls of a disk with a cache, and what they are to show.
-ghost use Rattle.std.specs.Prelude.{◌≡◌, ◌+◌, ◌≤◌};
+ghost use Rattle.std.specs.Prelude.{◌≡◌, ◌+◌, ◌≤◌, length};
+ghost use Rattle.tdb_cache.specs.Cached.{cached_inner};
+ghost use Rattle.tdb_disk.specs.MemDisk.{memory_size};
 
 use std::test::Fail;
 use tdb_cache::Cached;
@@ -73,5 +75,50 @@ fn after_a_fault_the_disk_is_read_anew(rt: HostRuntime) -> Result<(), Fail> {
     let mut disk = Cached::new(rt.alloc(), inner);
     assert_eq!(rt; rows_with_faults(&mut disk), Ok((3, [[0; 8]; 3])));
     assert_eq!(rt; disk.into_inner().bytes_read(), 3 * 65_536);
+    Ok(())
+}
+
+/// Whether a read shows what the disk within has, how many blocks are kept then, and how many bytes were read there.
+fn looked(
+    d: &mut Cached<MemDisk>,
+    off: usize,
+    buf: &mut [u8],
+) -> Result<(bool, usize, u64), DiskFault>
+    requires { off + length buf.old ≤ memory_size (cached_inner d.old) }
+    ensures { memory_size (cached_inner d.new) ≡ memory_size (cached_inner d.old) }
+{
+    d.read(off as u64, buf)?;
+    let within = &d.inner().as_slice()[off..off + buf.len()];
+    Ok((*buf == *within, d.kept(), d.inner().bytes_read()))
+}
+
+/// Reads of a block's length and shorter ones, first where no block is kept.
+fn long_rows(d: &mut Cached<MemDisk>, buf: &mut [u8]) -> Result<[(bool, usize, u64); 5], DiskFault>
+    requires buf { length buf.old ≡ 65536 }
+    requires size { memory_size (cached_inner d.old) ≡ 0 }
+{
+    d.grow(131_072)?;
+    d.write(65_528, b"1111222233334444")?;
+    let long = looked(d, 8, buf)?;
+    let short = looked(d, 65_528, &mut buf[..8])?;
+    let kept = looked(d, 0, buf)?;
+    let past = looked(d, 65_536, buf)?;
+    Ok([long, short, kept, past, looked(d, 8, buf)?])
+}
+
+#[test]
+fn a_long_read_keeps_nothing(rt: HostRuntime) -> Result<(), Fail> {
+    let mut buf = vec![in rt.alloc(); 0; 65_536]?;
+    let mut disk = Cached::new(rt.alloc(), MemDisk::new(rt.alloc(), b"")?);
+    assert_eq!(rt;
+        long_rows(&mut disk, &mut buf),
+        Ok([
+            (true, 0, 65_536),
+            (true, 1, 131_072),
+            (true, 1, 131_072),
+            (true, 1, 196_608),
+            (true, 2, 262_144)
+        ])
+    );
     Ok(())
 }
