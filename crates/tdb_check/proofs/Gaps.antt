@@ -57,7 +57,7 @@ count_all p a (suc n) h =
     let rest = count_all p (a + 1) n (λ i high low. h i (omega (arith, high)) (omega (arith, low))) in
     omega (arith, sum_by-cons (λ i. cond (p i) 1 0) a (range_with_len (a + 1) n), one, rest)
 
-count_no : (p : ℕ → Bool) (a n : ℕ) → ((i : ℕ) → a ≤ i → i < a + n → p i ≡ false) → count_by p (range_with_len a n) ≡ 0
+pub count_no : (p : ℕ → Bool) (a n : ℕ) → ((i : ℕ) → a ≤ i → i < a + n → p i ≡ false) → count_by p (range_with_len a n) ≡ 0
 count_no p a zero h = refl
 count_no p a (suc n) h =
     let here : p a ≡ false = h a (omega arith) (omega arith) in

@@ -22,7 +22,16 @@ pub mod Rising
 pub mod Pairs
 pub mod Fetched
 pub mod Halving
+pub mod Heads
+pub mod KeysInSequence
 pub mod Quarters
 pub mod Walking
 pub mod ChainSums
 pub mod Linear
+pub mod Forward
+pub mod Members
+pub mod Sequence
+pub mod InRuns
+pub mod Weights
+pub mod Gathered
+pub mod OneMore

@@ -132,7 +132,7 @@ chains_most f img F (suc n) each =
       sum_by-append (λ (e : Extent). e.1) (joined n F) (F n),
     )
 
-pub reads_most : (img : List ℕ) → Accept img → NoLikeKeys (form_of img) img → check_reads 1 (form_of img) img ≤ 18 * length img + 28
+pub reads_most : (img : List ℕ) → Accept img → NoLikeKeys (form_of img) img → check_reads 1 (form_of img) img ≤ 33 * length img + 28
 reads_most img a alone =
     let f = form_of img in
     let chained = joined f.chains (λ j. extents f.order img (chain_of f img j)) in

@@ -14,3 +14,4 @@ pub mod Walked
 pub mod Notes
 pub mod Tails
 pub mod Reads
+pub mod InSequence

@@ -43,9 +43,14 @@ chains_reads rounds f img first count = sum_by (chain_reads rounds f img) (range
 abbrev pub lists_reads : ℕ → Form → List ℕ → ℕ
 lists_reads rounds f img = 4 * f.chains + chains_reads rounds f img 0 f.chains + (4 + sum_by (record_reads f img) (free_of f img))
 
+-- of a look through a file in the order of its records: each byte behind the header once, and each used key 14 times, which is no more
+-- than this
+abbrev pub sequence_reads : List ℕ → ℕ
+sequence_reads img = 15 * length img
+
 -- of a whole file: 168 bytes of the header, 28 for the undo area, all lists, and no more than its length for what no record holds
 abbrev pub check_reads : ℕ → Form → List ℕ → ℕ
-check_reads rounds f img = 196 + lists_reads rounds f img + length img
+check_reads rounds f img = 196 + sequence_reads img + lists_reads rounds f img + length img
 
 -- no two keys of one chain have one length and one first word of their digests
 abbrev pub NoLikeKeys : Form → List ℕ → Type 0
@@ -53,4 +58,4 @@ NoLikeKeys f img = (j : ℕ) → j < f.chains → shared_by_pairs (map (digested
 
 -- then what a check of an accepted image reads is in proportion to its length
 abbrev pub ReadsAreLinear : Type 0
-ReadsAreLinear = (img : List ℕ) → Accept img → NoLikeKeys (form_of img) img → check_reads 1 (form_of img) img ≤ 18 * length img + 28
+ReadsAreLinear = (img : List ℕ) → Accept img → NoLikeKeys (form_of img) img → check_reads 1 (form_of img) img ≤ 33 * length img + 28

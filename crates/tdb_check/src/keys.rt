@@ -5,6 +5,7 @@ ghost use Rattle.tdb_disk.specs.Count.{HasCauseOf, RoseUpTo};
 ghost use Rattle.std.specs.List.Sorted.{IsNonDecreasingBy, IsPermutation};
 ghost use Rattle.tdb_words.specs.Hash.{h_jenkins};
 ghost use Rattle.tdb_space.specs.Form.{Form};
+ghost use Rattle.tdb_space.specs.Accepted.{KeysDiffer};
 ghost use Rattle.tdb_check.specs.Seen.{Names, FoundAt};
 ghost use Rattle.tdb_check.specs.Keys.{mark_of, notes_of, digested, MarksRise, NoLargeGroup, AllNoted, NotedDiffer, TwinAt, NoTwinBefore};
 ghost use Rattle.tdb_check.specs.Reads.{key_bytes, shared, shared_by_pairs, twin_reads};
@@ -109,6 +110,27 @@ impl Keys {
             }
         }
         Ok(Some(self.noted[least].at))
+    }
+
+    /// Whether no two of the records have the same key; false also where more than eight have one mark. Keys are read only where two
+    /// have one mark. It takes n log n steps for n records and no memory, and leaves no record.
+    pub fn differ<S: Space>(&mut self, s: &mut S, len: u64) -> Result<bool, CheckRefusal>
+        requires length { len ≡ S.size s.old }
+        ensures differ { IfOk result (λ differ. IsTrue differ → IsTrue S.tells → length (S.image s.old) ≡ len → (xs : List ℕ) → KeptIn (S.form s.old) (S.image s.old) xs self.old → KeysDiffer (S.form s.old) (S.image s.old) xs) }
+        ensures no_fault { IfErr result (λ e. IsTrue S.tells → length (S.image s.old) ≡ len → (xs : List ℕ) → KeptIn (S.form s.old) (S.image s.old) xs self.old → Names e (λ _. ⊥)) }
+        ensures looked { Looked S.Space s.old s.new }
+        ensures cause { HasCauseOf Io (S.faults s.old) (S.faults s.new) result }
+        ensures bytes_read { RoseUpTo (14 * key_bytes self.old.noted.items) (S.bytes_read s.old) (S.bytes_read s.new) }
+    {
+        sort_by_mark(&mut self.noted);
+        if !has_equal_marks(&self.noted) {
+            return Ok(true);
+        }
+        if has_large_group(&self.noted) {
+            return Ok(false);
+        }
+        let twins = any_twins(s, len, &self.noted)?;
+        Ok(!twins)
     }
 
     /// Whether two of the first records have the same key.

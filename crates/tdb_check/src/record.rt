@@ -33,7 +33,7 @@ pub struct Found {
 }
 
 /// Whether a header makes a record bad.
-fn is_bad(kind: ListKind, r: &Rec, at: u32, len: u64) -> bool
+pub(crate) fn is_bad(kind: ListKind, r: &Rec, at: u32, len: u64) -> bool
     requires { at + 24 ≤ len }
     ensures { result ≡ is_bad_header (kind_of kind) r.now at len }
 {
@@ -62,7 +62,7 @@ fn fill<S: Space>(s: &mut S, len: u64, at: u32, buf: &mut [u8; 128]) -> Result<u
 }
 
 /// The header that a window begins with.
-fn header_in(window: &[u8], order: Order) -> Rec
+pub(crate) fn header_in(window: &[u8], order: Order) -> Rec
     requires { 24 ≤ length window.now }
     ensures { result ≡ rec_at order window.now 0 }
 {

@@ -1,6 +1,6 @@
 // The cases of all tables.
 
-use crate::{chains, parts, reports, whole_files};
+use crate::{chains, parts, reports, sequences, whole_files};
 use std::test::Fail;
 
 #[test]
@@ -17,6 +17,12 @@ fn cases_of_tables(rt: HostRuntime) -> Result<(), Fail> {
         ("free lists", parts::failing_free_list(alloc)?),
         ("checks", reports::failing_check(alloc)?),
         ("reads", reports::failing_reads(alloc)?),
+        ("sequences", sequences::failing_sequence(alloc)?),
+        ("long records", sequences::failing_long_record(alloc)?),
+        (
+            "like keys in sequence",
+            sequences::failing_like_keys(alloc)?,
+        ),
         ("gaps", whole_files::failing_gaps(alloc)?),
         ("fronts through a view", whole_files::failing_front(alloc)?),
     ] {

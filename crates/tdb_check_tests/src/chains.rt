@@ -9,7 +9,7 @@ use tdb_words::What::{ChainLoop, ChainOut, TwiceKey, WrongHash};
 use tdb_words::{DEAD, Header, Order, Rec, USED, hash_jenkins, hash_old, rec_bytes, word_bytes};
 
 /// A record of a file: where it leads, its key, and what it is.
-type Link = (u32, [u8; 4], u32);
+pub(crate) type Link = (u32, [u8; 4], u32);
 
 /// The heads of a file's chains, and behind them these records of 32 bytes each. What the walk along them says, and the
 /// offsets of the extents that it puts down, where they are looked at.
@@ -244,12 +244,8 @@ static CHAINS: [(&'static str, Chains); 18] = [
     ),
 ];
 
-/// A file with these chain heads, and these records behind them.
-fn file(alloc: Global, heads: &[u32], links: &[Link]) -> Result<Vec<u8>, AllocError> {
-    let mut bytes = vec![in alloc; 0u8; 172]?;
-    for head in heads {
-        bytes.extend_from_slice(&word_bytes(*head, Order::Little))?;
-    }
+/// Puts records of 32 bytes each at the end of a file.
+pub(crate) fn push_links(bytes: &mut Vec<u8>, links: &[Link]) -> Result<(), AllocError> {
     for (next, key, magic) in links {
         let r = Rec {
             next: *next,
@@ -263,6 +259,16 @@ fn file(alloc: Global, heads: &[u32], links: &[Link]) -> Result<Vec<u8>, AllocEr
         bytes.extend_from_slice(key)?;
         bytes.extend_from_slice(&word_bytes(32, Order::Little))?;
     }
+    Ok(())
+}
+
+/// A file with these chain heads, and these records behind them.
+fn file(alloc: Global, heads: &[u32], links: &[Link]) -> Result<Vec<u8>, AllocError> {
+    let mut bytes = vec![in alloc; 0u8; 172]?;
+    for head in heads {
+        bytes.extend_from_slice(&word_bytes(*head, Order::Little))?;
+    }
+    push_links(&mut bytes, links)?;
     Ok(bytes)
 }
 
@@ -365,7 +371,11 @@ static LIKE_KEYS: [u32; 11] = [
 ];
 
 /// A chain of records with the first so many of these keys, and behind them one with the key of this number.
-fn like_links(alloc: Global, count: usize, last: usize) -> Result<Vec<Link>, AllocError> {
+pub(crate) fn like_links(
+    alloc: Global,
+    count: usize,
+    last: usize,
+) -> Result<Vec<Link>, AllocError> {
     let mut links = Vec::new(alloc);
     for i in 0..count.min(LIKE_KEYS.len()) {
         let key = word_bytes(LIKE_KEYS[i], Order::Little);

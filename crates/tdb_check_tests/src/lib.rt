@@ -12,4 +12,6 @@ mod parts;
 #[cfg(test)]
 mod reports;
 #[cfg(test)]
+mod sequences;
+#[cfg(test)]
 mod whole_files;

@@ -42,7 +42,7 @@ const WORDS: [Word; 20] = [
     (300, GATE_SHUT),
 ];
 
-const NOTHING: Report = Report {
+pub(crate) const NOTHING: Report = Report {
     live: 0,
     dead_records: 0,
     free_records: 0,
@@ -158,18 +158,15 @@ static CHECKED: [(&'static str, Checked); 10] = [
     ),
 ];
 
-/// The disk of a file.
-fn disk_of(alloc: Global, row: &Checked) -> Result<MemDisk, AllocError> {
-    MemDisk::new(
-        alloc,
-        &file_of(alloc, &row.header, row.len, row.words, row.changed)?,
-    )
+/// The bytes of a file.
+fn bytes_of(alloc: Global, row: &Checked) -> Result<Vec<u8>, AllocError> {
+    file_of(alloc, &row.header, row.len, row.words, row.changed)
 }
 
 /// The first file of which a check doesn't say that.
 pub(crate) fn failing_check(alloc: Global) -> Result<Option<&'static str>, AllocError> {
     for (name, row) in &CHECKED {
-        let mut disk = disk_of(alloc, row)?;
+        let mut disk = MemDisk::new(alloc, &bytes_of(alloc, row)?)?;
         let checked = check(alloc, &mut Direct::new(&mut disk, &row.header));
         if checked != row.want.map_err(refusal) {
             return Ok(Some(*name));
@@ -178,13 +175,17 @@ pub(crate) fn failing_check(alloc: Global) -> Result<Option<&'static str>, Alloc
     Ok(None)
 }
 
-/// How many reads a check makes, where each that fails ends it as a fault of the disk; and else 30, as where there are
-/// so many.
-fn reads_that_fail(alloc: Global, row: &Checked) -> Result<u32, AllocError> {
+/// How many reads a check of a file makes, where each that fails ends it as a fault of the disk; and else 30, as where
+/// there are so many.
+pub(crate) fn reads_that_fail(
+    alloc: Global,
+    header: &Header,
+    bytes: &[u8],
+) -> Result<u32, AllocError> {
     for nth in 0..30 {
-        let mut disk = disk_of(alloc, row)?;
+        let mut disk = MemDisk::new(alloc, bytes)?;
         disk.fail(Call::Read, u64::from(nth))?;
-        match check(alloc, &mut Direct::new(&mut disk, &row.header)) {
+        match check(alloc, &mut Direct::new(&mut disk, header)) {
             Ok(_) => return Ok(nth),
             Err(CheckRefusal::Io) => {}
             Err(_) => return Ok(30),
@@ -193,19 +194,20 @@ fn reads_that_fail(alloc: Global, row: &Checked) -> Result<u32, AllocError> {
     Ok(30)
 }
 
-// Files, and how many reads a check of them makes at least. Of a new file: the front, and the area's word. Of the
-// other: the front, the area's word and header, the chain's head and two records, the free list's head and record, and
-// two gaps.
+// Files, and how many reads a check of them makes. Of a new file: the front, the area's word, and the heads of the free
+// list and of the chain. Of the other: the front, the area's word and header, the chain's head and two records, the free
+// list's head and record, and two gaps.
 static READ: [(&'static str, Checked, u32); 2] = [
-    ("reads of a new file", NEW, 2),
+    ("reads of a new file", NEW, 4),
     ("reads of a record of each kind", FULL, 10),
 ];
 
-/// The first file of which a check makes fewer reads, or doesn't end as a fault of the disk where one of them fails.
+/// The first file of which a check makes another number of reads, or doesn't end as a fault of the disk where one of
+/// them fails.
 pub(crate) fn failing_reads(alloc: Global) -> Result<Option<&'static str>, AllocError> {
-    for (name, row, least) in &READ {
-        let count = reads_that_fail(alloc, row)?;
-        if count < *least || count >= 30 {
+    for (name, row, wanted) in &READ {
+        let count = reads_that_fail(alloc, &row.header, &bytes_of(alloc, row)?)?;
+        if count != *wanted {
             return Ok(Some(*name));
         }
     }
