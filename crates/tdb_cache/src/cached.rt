@@ -1,5 +1,5 @@
 //! A disk that keeps blocks of the disk within.
-ghost use Rattle.std.specs.Prelude.{◌≡◌, ◌≢◌, ◌+◌, ◌-◌, ◌*◌, ◌/◌, ◌%◌, ◌≤◌, ◌<◌, ◌⊎◌, ◌↔◌, ℕ, List, Some, None, IsTrue, IsFalse, IsSome, IfOk, OnOk, MatchResult, length, take, drop};
+ghost use Rattle.std.specs.Prelude.{◌≡◌, ◌≢◌, ◌+◌, ◌-◌, ◌*◌, ◌/◌, ◌%◌, ◌≤◌, ◌<◌, ◌⊎◌, ◌↔◌, ◌^◌, ℕ, List, Some, None, IsTrue, IsFalse, IsSome, IfOk, OnOk, MatchResult, length, take, drop};
 ghost use Rattle.tdb_disk.specs.Count.{HasCause, RoseBy, RoseUpTo};
 ghost use Rattle.tdb_disk.specs.History.{wrote, wrote_word, grew, cut, synced, called, seen, Tried, TriedOver};
 ghost use Rattle.tdb_disk.specs.Image.{overlay};
@@ -11,7 +11,7 @@ use std::alloc::Global;
 use tdb_disk::{Disk, DiskFault};
 
 /// A disk that keeps blocks of the disk within, read when they are first asked for and written through. A read as long
-/// as a block that begins in none of them goes past them.
+/// as a block that ends in none of them goes past them.
 #[derive(Drop)]
 pub struct Cached<D: Disk> {
     inner: D,
@@ -72,12 +72,13 @@ impl<D: Disk> Cached<D> {
         self.blocks.starved()
     }
 
-    /// Whether a read of so many bytes goes past the blocks: it is as long as a block, and its first byte lies in none
+    /// Whether a read of so many bytes goes past the blocks: it is as long as a block, and its last byte lies in none
     /// that is kept.
     fn goes_past(&self, off: u64, len: usize) -> bool
-        ensures { IsTrue result ↔ (block_size ≤ len) × (IsKept self.now off → ⊥) }
+        requires { len < 2 ^ 63 }
+        ensures { IsTrue result ↔ (block_size ≤ len) × (IsKept self.now (off + len - 1) → ⊥) }
     {
-        len >= BLOCK_SIZE && !self.blocks.keeps((off / BLOCK_SIZE as u64) as usize)
+        len >= BLOCK_SIZE && !self.blocks.keeps(Piece::after(off, len - 1, len).number)
     }
 
     /// Reads bytes that lie in one block that is kept. False where they don't, and then nothing was read.
@@ -202,8 +203,8 @@ impl<D: Disk> Disk for Cached<D> {
         ensures inner_read { RoseUpTo (length buf.old + 2 * block_size) (D.bytes_read (cached_inner self.old)) (D.bytes_read (cached_inner self.new)) }
         ensures full { most_kept ≤ cached_count self.old → RoseUpTo (length buf.old) (D.bytes_read (cached_inner self.old)) (D.bytes_read (cached_inner self.new)) }
         ensures there { KeepsRange self.old off (length buf.old) → cached_inner self.new ≡ cached_inner self.old }
-        ensures filled { OnOk result ((length buf.old < block_size) ⊎ IsKept self.old off → (at : ℕ) → off ≤ at → at < off + length buf.old → IsKept self.new at ⊎ WasRefused self.old self.new (at / block_size)) }
-        ensures past { block_size ≤ length buf.old → (IsKept self.old off → ⊥) → WentPast (length buf.old) self.old self.new }
+        ensures filled { OnOk result ((length buf.old < block_size) ⊎ IsKept self.old (off + length buf.old - 1) → (at : ℕ) → off ≤ at → at < off + length buf.old → IsKept self.new at ⊎ WasRefused self.old self.new (at / block_size)) }
+        ensures past { block_size ≤ length buf.old → (IsKept self.old (off + length buf.old - 1) → ⊥) → WentPast (length buf.old) self.old self.new }
         ensures kept { KeepsAll self.old self.new }
     {
         if self.goes_past(off, buf.len()) {

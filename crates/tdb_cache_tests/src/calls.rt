@@ -117,7 +117,7 @@ fn a_long_read_keeps_nothing(rt: HostRuntime) -> Result<(), Fail> {
             (true, 1, 131_072),
             (true, 1, 131_072),
             (true, 1, 196_608),
-            (true, 2, 262_144)
+            (true, 1, 262_144)
         ])
     );
     Ok(())
