@@ -173,7 +173,7 @@ static SEQUENCES: [(&'static str, Sequence); 12] = [
 /// The header of a file of so many chains.
 fn header_of(heads: &[u32]) -> Header {
     Header {
-        hash_size: heads.len() as u32,
+        hash_size: u32::try_from(heads.len()).unwrap_or(u32::MAX),
         ..HEADER
     }
 }
