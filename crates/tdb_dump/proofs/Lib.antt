@@ -1,5 +1,6 @@
 pub mod ExpectedLemmas
 pub mod GrammarLemmas
+pub mod KeySetLemmas
 pub mod LetterLemmas
 pub mod MoveLemmas
 pub mod ReadingLemmas

@@ -1,13 +1,9 @@
 -- Lemmas on what a reader has taken.
 use Rattle.std.proofs.Common.{◌≡◌, ◌≢◌, ℕ, ◌+◌, ◌<◌, true, false, Option, Some, None, List, [], ◌∷◌, ◌++◌, length, take, drop, get_or, refl, sym, ap, ◌∙◌, subst, arith, length-append, append_assoc}
-use Rattle.std.proofs.Common.{Bool, cond, not, ◌||◌}
-use Rattle.std.specs.Ordering.{nat_cmp}
-use Rattle.std.specs.Cmp.Lexicographic.{slice_cmp}
-use Rattle.std.proofs.lemmas.Cmp.{nat_list_eq_equiv}
+use Rattle.std.proofs.Common.{Bool, not, ◌||◌}
 use Rattle.std.proofs.lemmas.List.Recursion.{or_push}
-use Rattle.std.proofs.lemmas.Map.Text.{is_eq-slice_cmp}
-use Rattle.std.specs.BTreeSet.{BTreeSet, contains}
-use Rattle.std.specs.BTreeMap.{is_at}
+use Rattle.tdb_dump.specs.declared.key_set.KeySet.{KeySet}
+use Rattle.tdb_dump.specs.KeySet.{has}
 use Rattle.std.specs.List.{list_any}
 use Rattle.std.specs.Str.{bytes_eq}
 use Rattle.tdb_dump.specs.declared.pairs.Pair.{Pair}
@@ -60,13 +56,13 @@ Goes_same text before r p same goes =
     record { going = going.0; keys = goes.keys; start = goes.start ∙ ap (λ t. shown (length t)) (sym going.1); taken = goes.taken }
 
 -- the same keys, and a record at hand in the same state
-pub Goes_stays : (text : List ℕ) (before : List Pair) (r : Reader) (p : Partial) (keys : BTreeSet (List ℕ)) → state_of p ≡ state_of r.partial → keys.keys ≡ r.keys.keys → Goes text before r
+pub Goes_stays : (text : List ℕ) (before : List Pair) (r : Reader) (p : Partial) (keys : KeySet) → state_of p ≡ state_of r.partial → ((q : List ℕ) → has keys q ≡ has r.keys q) → Goes text before r
     → Goes text before (record r { partial = p; keys = keys })
 Goes_stays text before r p keys same kept goes =
     let there = Goes_same text before r p same goes in
     record {
       going = there.going;
-      keys = λ q. ap (λ ks. list_any (is_at (slice_cmp nat_cmp q)) ks) kept ∙ goes.keys q;
+      keys = λ q. kept q ∙ goes.keys q;
       start = there.start;
       taken = there.taken;
     }
@@ -112,26 +108,18 @@ pub Goes_unfinished : (text : List ℕ) (pairs : List Pair) (r : Reader) → Goe
 Goes_unfinished text pairs r goes inside = (length text, goes.taken, Unfinished_going text pairs (state_of r.partial) goes.going inside)
 
 -- the keys with one more
-pub HasKeysOf-push : (old new : BTreeSet (List ℕ)) (before : List Pair) (pair : Pair)
-    → ((q : List ℕ) → contains (slice_cmp nat_cmp) new q ≡ cond (is_at (slice_cmp nat_cmp pair.key) q) true (contains (slice_cmp nat_cmp) old q)) → HasKeysOf old before → HasKeysOf new (before ++ pair ∷ [])
-HasKeysOf-push old new before pair updates has q =
-    let here : is_at (slice_cmp nat_cmp pair.key) q ≡ bytes_eq q pair.key = is_eq-slice_cmp pair.key q ∙ nat_list_eq_equiv.symm pair.key q in
+pub HasKeysOf-push : (old new : KeySet) (before : List Pair) (pair : Pair) → ((q : List ℕ) → has new q ≡ (has old q || bytes_eq q pair.key)) → HasKeysOf old before → HasKeysOf new (before ++ pair ∷ [])
+HasKeysOf-push old new before pair more keys q =
     let any : has_key (before ++ pair ∷ []) q ≡ (has_key before q || bytes_eq q pair.key) = ap (list_any (bytes_eq q)) (keys_of-append before pair) ∙ or_push (list_any (bytes_eq q)) (bytes_eq q) refl (λ _ _. refl) (keys_of before) pair.key in
-    updates q ∙ ap (λ b. cond b true (contains (slice_cmp nat_cmp) old q)) here ∙ ap (λ b. cond (bytes_eq q pair.key) true b) (has q) ∙ cond_or (bytes_eq q pair.key) (has_key before q) ∙ sym any
-  where
-    cond_or : (a b : Bool) → cond a true b ≡ (b || a)
-    cond_or true true = refl
-    cond_or true false = refl
-    cond_or false true = refl
-    cond_or false false = refl
+    more q ∙ ap (λ b. b || bytes_eq q pair.key) (keys q) ∙ sym any
 
 -- nothing was taken
-pub Goes_begin : (r : Reader) → state_of r.partial ≡ at_step Between Key [] [] → r.keys.keys ≡ [] → r.start ≡ 0 → r.taken ≡ 0 → Goes [] [] r
+pub Goes_begin : (r : Reader) → state_of r.partial ≡ at_step Between Key [] [] → ((q : List ℕ) → has r.keys q ≡ false) → r.start ≡ 0 → r.taken ≡ 0 → Goes [] [] r
 Goes_begin r state none start taken =
     let begin = subst (λ t. (g : Going [] [] t) × (g.front ≡ [])) (sym state) (Going_begin, Going_begin-front) in
     record {
       going = begin.0;
-      keys = λ q. ap (λ keys. list_any (is_at (slice_cmp nat_cmp q)) keys) none;
+      keys = none;
       start = start ∙ ap (λ t. shown (length t)) (sym begin.1);
       taken = taken;
     }

@@ -2,6 +2,8 @@ pub mod BadAt
 pub mod DumpText
 pub mod Escape
 pub mod Expected
+pub mod KeyPlaces
+pub mod KeySet
 pub mod Laws
 pub mod Line
 pub mod Listing

@@ -1,14 +1,13 @@
 -- What a reader has taken of a dump text.
 use Rattle.std.specs.Prelude.{◌≡◌, ℕ, false, ◌+◌, ◌-◌, ◌^◌, min, List, [], ◌∷◌, ◌++◌, length, Option, None, Some}
-use Rattle.std.specs.Ordering.{nat_cmp}
-use Rattle.std.specs.Cmp.Lexicographic.{slice_cmp}
-use Rattle.std.specs.BTreeSet.{BTreeSet, contains}
 use Rattle.tdb_dump.specs.declared.pairs.Pair.{Pair}
+use Rattle.tdb_dump.specs.declared.key_set.KeySet.{KeySet}
 use Rattle.tdb_dump.specs.declared.reader.Reader.{Reader}
 use Rattle.tdb_dump.specs.declared.reader.ReadRefusal.{ReadRefusal}
 use Rattle.tdb_dump.specs.declared.reader.ReadRefusal.TheVariants.{Malformed, Memory}
 use Rattle.tdb_dump.specs.declared.partial.Field.TheVariants.{Key}
 use Rattle.tdb_dump.specs.declared.partial.Step.TheVariants.{Between}
+use Rattle.tdb_dump.specs.KeySet.{has}
 use Rattle.tdb_dump.specs.Spelled.{has_key}
 use Rattle.tdb_dump.specs.BadAt.{BeginsWith}
 use Rattle.tdb_dump.specs.Expected.{at_step}
@@ -24,8 +23,8 @@ abbrev pub refusal_of : Reader → Option ReadRefusal
 refusal_of r = r.refusal
 
 -- the set has the keys of the pairs
-abbrev pub HasKeysOf : BTreeSet (List ℕ) → List Pair → Type 0
-HasKeysOf keys pairs = (q : List ℕ) → contains (slice_cmp nat_cmp) keys q ≡ has_key pairs q
+abbrev pub HasKeysOf : KeySet → List Pair → Type 0
+HasKeysOf keys pairs = (q : List ℕ) → has keys q ≡ has_key pairs q
 
 -- the reader has taken the text, and given the pairs of its whole records
 pub record Goes (text : List ℕ) (pairs : List Pair) (r : Reader) : Type 0 where

@@ -2,6 +2,7 @@
 #![tactic(auto)]
 
 mod escapes;
+mod key_set;
 mod laws;
 mod lines;
 mod listing;

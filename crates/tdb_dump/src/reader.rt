@@ -8,11 +8,10 @@ ghost use Rattle.tdb_dump.specs.BadAt.{BeginsWith};
 ghost use Rattle.tdb_dump.specs.Spelled.{Dump, has_key};
 ghost use Rattle.tdb_dump.specs.Partial.{state_of};
 
+use crate::key_set::KeySet;
 use crate::pairs::{Pair, Pairs};
 use crate::partial::{Partial, Taken};
 use std::alloc::{AllocError, AllocFailed, Global};
-use std::collections::BTreeSet;
-use tdb_words::Bytes;
 use thiserror::Error;
 
 /// Why a text isn't read further.
@@ -46,7 +45,7 @@ impl<T: Drop> From<AllocFailed<T>> for ReadRefusal {
 pub struct Reader {
     alloc: Global,
     partial: Partial,
-    keys: BTreeSet<Bytes>,
+    keys: KeySet,
     /// The place of the record at hand.
     start: u64,
     /// How many bytes were taken.
@@ -65,7 +64,7 @@ impl Reader {
         Reader {
             alloc,
             partial: Partial::new(alloc),
-            keys: BTreeSet::new(alloc),
+            keys: KeySet::new(alloc),
             start: 0,
             taken: 0,
             refusal: None,
@@ -196,8 +195,7 @@ impl Reader {
         ensures wanting { result ≡ Err Memory → StillGoes self.old self.new }
         ensures refusal { refusal_of self.new ≡ refusal_of self.old }
     {
-        let key = Bytes::copy(self.alloc, self.partial.key())?;
-        if !self.keys.insert(key)? {
+        if !self.keys.insert(self.partial.key())? {
             return Err(ReadRefusal::Malformed { at: self.start });
         }
         self.taken = self.taken.saturating_add(1);

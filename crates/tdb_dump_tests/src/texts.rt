@@ -17,6 +17,16 @@ const STOCK: &[u8] =
 const TWICE: &[u8] =
     b"{\nkey(1) = \"a\"\ndata(1) = \"1\"\n}\n{\nkey(1) = \"a\"\ndata(1) = \"1\"\n}\n";
 
+/// Two keys that have the same Jenkins hash, and behind them each of the two again.
+const ONE_HASH: &[u8] =
+    b"{\nkey(4) = \"apah\"\ndata(0) = \"\"\n}\n{\nkey(4) = \"zapu\"\ndata(0) = \"\"\n}\n";
+
+const FIRST_AGAIN: &[u8] =
+    b"{\nkey(4) = \"apah\"\ndata(0) = \"\"\n}\n{\nkey(4) = \"zapu\"\ndata(0) = \"\"\n}\n{\nkey(4) = \"apah\"\ndata(0) = \"\"\n}\n";
+
+const SECOND_AGAIN: &[u8] =
+    b"{\nkey(4) = \"apah\"\ndata(0) = \"\"\n}\n{\nkey(4) = \"zapu\"\ndata(0) = \"\"\n}\n{\nkey(4) = \"zapu\"\ndata(0) = \"\"\n}\n";
+
 /// How many pairs a text gives when it is read in two pieces, or why it is refused.
 fn count_of(alloc: Global, text: &[u8], cut: usize) -> Result<usize, ReadRefusal>
     requires { cut ≤ length text.now }
@@ -119,6 +129,8 @@ fn malformed_texts(rt: HostRuntime) {
         (b"{\nkey(1) = \"a\"\ndata(1) = \"1\"\n}".as_slice(), 30),
         (b"x".as_slice(), 0),
         (TWICE, 31),
+        (FIRST_AGAIN, 66),
+        (SECOND_AGAIN, 66),
     ];
     for (text, place) in faults {
         for cut in 0..=text.len() {
@@ -137,6 +149,7 @@ fn stock_text_both_ways(rt: HostRuntime) -> Result<(), Fail> {
         assert_eq!(rt; count_of(rt.alloc(), STOCK, cut), Ok(4));
     }
     assert_eq!(rt; count_of(rt.alloc(), b"", 0), Ok(0));
+    assert_eq!(rt; count_of(rt.alloc(), ONE_HASH, 20), Ok(2));
     let mut reader = Reader::new(rt.alloc());
     let pairs = reader.feed(STOCK)?;
     let mut out = MemSink::new(rt.alloc());
