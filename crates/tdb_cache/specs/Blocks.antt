@@ -1,5 +1,5 @@
 -- The blocks of a file, and a table of those that are kept in memory.
-use Rattle.std.specs.Prelude.{◌≡◌, ◌≢◌, ℕ, ◌+◌, ◌*◌, ◌<◌, ◌≤◌, ◌⊎◌, List, Option, Some, None, IsSome, option_map, is_some, get_or, length, take, drop, min}
+use Rattle.std.specs.Prelude.{◌≡◌, ◌≢◌, ℕ, ◌+◌, ◌*◌, ◌%◌, ◌<◌, ◌≤◌, ◌⊎◌, List, Option, Some, None, IsSome, option_map, is_some, get_or, length, take, drop, min}
 use Rattle.tdb_disk.specs.Count.{Rose}
 use Rattle.tdb_cache.specs.declared.blocks.Blocks.{Blocks}
 
@@ -14,6 +14,10 @@ most_kept = 4096
 -- the blocks with smaller numbers have a place in the table: the first 4 GiB of a file
 abbrev pub most_places : ℕ
 most_places = 65536
+
+-- a block that is never kept: it has no place in the table, or it is the last of a hundred
+abbrev pub IsLeftOut : ℕ → Type 0
+IsLeftOut number = (most_places ≤ number) ⊎ (number % 100 ≡ 99)
 
 -- where a block starts in the file
 abbrev pub block_start : ℕ → ℕ
@@ -53,15 +57,16 @@ AllShown blocks image =
     (number : ℕ) (block : List ℕ) → block_at blocks number ≡ Some block
     → block ≡ take (length block) (drop (block_start number) image)
 
--- a block with this number has a place in the table, and one block more may be kept
+-- a block with this number has a place in the table, it isn't one that is never kept, and one block more may be kept
 pub record HasRoom (blocks : Blocks) (number : ℕ) : Type 0 where
   pub place : number < length blocks.places.items
+  pub let_in : IsLeftOut number → ⊥
   pub below : kept_count blocks < most_kept
 
--- why a block wasn't kept: the most are kept, it lies past those that have a place, or there was no memory
+-- why a block wasn't kept: the most are kept, it is one that never is, or there was no memory
 abbrev pub Refused : Blocks → Blocks → ℕ → Type 0
 Refused old new number =
-    (most_kept ≤ kept_count new) ⊎ ((most_places ≤ number) ⊎ Rose (starved_count old) (starved_count new))
+    (most_kept ≤ kept_count new) ⊎ (IsLeftOut number ⊎ Rose (starved_count old) (starved_count new))
 
 -- nothing that is kept has changed
 abbrev pub AllStay : Blocks → Blocks → Type 0

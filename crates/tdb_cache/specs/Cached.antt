@@ -25,7 +25,7 @@ cached_starved cached = starved_count cached.blocks
 abbrev pub cached_block : {D : Type 0} {g : Ghosts D} → Cached D g → ℕ → Option (List ℕ)
 cached_block cached number = block_at cached.blocks number
 
--- why a block wasn't kept: the most are kept, it lies past the first 4 GiB, or there was no memory
+-- why a block wasn't kept: the most are kept, it is one that never is, or there was no memory
 abbrev pub WasRefused : {D : Type 0} {g : Ghosts D} → Cached D g → Cached D g → ℕ → Type 0
 WasRefused old new number = Refused old.blocks new.blocks number
 

@@ -1,5 +1,5 @@
 //! The blocks of a file that are kept in memory.
-ghost use Rattle.std.specs.Prelude.{◌≡◌, ◌≢◌, ◌+◌, ◌≤◌, ◌<◌, ◌↔◌, ℕ, List, Some, None, IfSome, IfNone, IfOk, OnSome, OnOk, OnErr, IsSome, IsTrue, get_or, is_some, count_by, length, take, drop, option_map};
+ghost use Rattle.std.specs.Prelude.{◌≡◌, ◌≢◌, ◌+◌, ◌%◌, ◌≤◌, ◌<◌, ◌↔◌, ℕ, List, Some, None, IfSome, IfNone, IfOk, OnSome, OnOk, OnErr, IsSome, IsTrue, get_or, is_some, count_by, length, take, drop, option_map};
 ghost use Rattle.tdb_disk.specs.Image.{overlay};
 
 use crate::piece::Piece;
@@ -15,6 +15,9 @@ pub(crate) const MOST_KEPT: usize = 4_096;
 /// The blocks with smaller numbers have a place in the table: the first 4 GiB of a file.
 pub(crate) const MOST_PLACES: usize = 65_536;
 
+/// Of so many blocks the last is never kept, so that a long file takes less than its length in memory.
+const GROUP: usize = 100;
+
 /// The blocks that are kept, by number.
 #[derive(Drop)]
 pub struct Blocks {
@@ -24,10 +27,11 @@ pub struct Blocks {
     starved: u64,
     ghost counted: { kept ≡ count_by is_some places.items },
     ghost bounded: { kept ≤ 4096 },
+    ghost sparing: { (number : ℕ) → number % 100 ≡ 99 → get_or places.items number None ≡ None },
 }
 
 impl Blocks {
-    ghost use Rattle.tdb_cache.specs.Blocks.{block_at, kept_count, block_size, AllShown, AllSized, starved_count, AllStay, HasRoom, KeepsFront, OthersStay, Reaches, Refused, SameKept};
+    ghost use Rattle.tdb_cache.specs.Blocks.{block_at, kept_count, block_size, AllShown, AllSized, starved_count, AllStay, HasRoom, IsLeftOut, KeepsFront, OthersStay, Reaches, Refused, SameKept};
 
     /// No block is kept. It takes no memory.
     pub(crate) fn new(alloc: Global) -> Blocks
@@ -47,6 +51,7 @@ impl Blocks {
     pub(crate) fn kept(&self) -> usize
         ensures count { result ≡ kept_count self.now }
         ensures bound { result ≤ 4096 }
+        ensures sparing { (number : ℕ) → number % 100 ≡ 99 → block_at self.now number ≡ None }
     {
         self.kept
     }
@@ -106,6 +111,13 @@ impl Blocks {
         }
     }
 
+    /// Whether a block is never kept: it has no place in the table, or is the last of its group.
+    fn is_left_out(number: usize) -> bool
+        ensures { IsTrue result ↔ IsLeftOut number }
+    {
+        number >= MOST_PLACES || number % GROUP == GROUP - 1
+    }
+
     /// A block that is to be kept, of zeros yet, with a place for it. None where it isn't to be kept.
     pub(crate) fn room(&mut self, number: usize, len: usize) -> Option<Vec<u8>>
         ensures same { AllStay self.old self.new }
@@ -115,7 +127,7 @@ impl Blocks {
         ensures refused { IfNone result (Refused self.old self.new number) }
         ensures len { IfSome result (λ block. length block.items ≡ len) }
     {
-        if self.kept >= MOST_KEPT || number >= MOST_PLACES {
+        if self.kept >= MOST_KEPT || Self::is_left_out(number) {
             return None;
         }
         match self.zeros(number, len) {

@@ -61,6 +61,7 @@ impl<D: Disk> Cached<D> {
     pub fn kept(&self) -> usize
         ensures count { result ≡ cached_count self.now }
         ensures bound { result ≤ 4096 }
+        ensures sparing { (number : ℕ) → number % 100 ≡ 99 → cached_block self.now number ≡ None }
     {
         self.blocks.kept()
     }
