@@ -6,6 +6,7 @@ mod faults;
 mod file_disk;
 mod file_fault;
 mod file_sink;
+mod folder;
 mod identity;
 mod in_source;
 mod locks;
@@ -14,8 +15,6 @@ mod out_sink;
 mod progress;
 mod reason;
 mod replacing;
-#[cfg(test)]
-mod tests;
 
 pub use dir_files::DirFiles;
 pub use file_disk::FileDisk;

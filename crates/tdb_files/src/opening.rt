@@ -5,6 +5,7 @@ ghost use Rattle.tdb_files.specs.FileDisk.{file_len, file_faults, file_syncs, fi
 ghost use Rattle.tdb_files.specs.declared.opening.Refusal.TheVariants as refusal;
 
 use crate::file_disk::FileDisk;
+use crate::folder::sync_folder;
 use crate::identity::Identity;
 use crate::locks::{LockKind, lock};
 use crate::reason::Reason;
@@ -110,7 +111,8 @@ fn open_existing(
     Ok(FileDisk::new(file, identity, unwritable, len))
 }
 
-/// Locks a file that was just made. Where another run has locked it before, or a program has written to it, it is theirs.
+/// Locks a file that was just made, and brings its name to the medium. Where another run has locked it before, or a
+/// program has written to it, it is theirs.
 fn claim_new(
     rt: &HostRuntime,
     name: &str,
@@ -128,6 +130,7 @@ fn claim_new(
     if file.metadata()?.len() > 0 {
         return Err(Reason::InUse);
     }
+    sync_folder(rt, name)?;
     Ok(FileDisk::new(file, identity, None, 0))
 }
 

@@ -1,5 +1,6 @@
 //! How a file gets another name, also one that a file has already.
 
+use crate::folder::sync_folder;
 use crate::reason::is_missing;
 use std::fs::{self, Metadata, Permissions};
 use std::io;
@@ -12,7 +13,8 @@ const ALL_PERMISSIONS: u32 = 0o777;
 const GROUP_PERMISSIONS: u32 = 0o070;
 
 /// Gives the file at `from` the name `to`. A regular file that is replaced passes its permissions, its group and its
-/// owner on, as far as the system allows it. Where nothing is at `from`, nothing is done.
+/// owner on, as far as the system allows it. The new name is on the medium then: its folder is synced. Where nothing is
+/// at `from`, nothing is done.
 pub(crate) fn replace(rt: &HostRuntime, from: &str, to: &str) -> io::Result<()> {
     let moved = match fs::symlink_metadata(rt, from) {
         Ok(found) => found,
@@ -25,7 +27,8 @@ pub(crate) fn replace(rt: &HostRuntime, from: &str, to: &str) -> io::Result<()> 
     {
         copy_access(rt, from, &replaced);
     }
-    fs::rename(rt, from, to)
+    fs::rename(rt, from, to)?;
+    sync_folder(rt, to)
 }
 
 /// Gives a file the permissions, the group and the owner of another, as far as the system allows it: only root may give

@@ -1,17 +1,13 @@
 //! The real files, from the making of a file to its removal.
 ghost use Rattle.std.specs.Prelude.{◌≡◌, OnOk};
 
-use crate::file_disk::FileDisk;
-use crate::identity::Identity;
-use crate::locks::{LockKind, try_lock};
-use crate::reason::Reason;
-use crate::{DirFiles, FileSink, InSource, OutSink};
 use std::alloc::{AllocError, Global};
-use std::fs::{self, File, OpenOptions};
+use std::fs::{self, OpenOptions, Permissions};
 use std::io;
 use std::os::unix::fs::{PermissionsExt, symlink};
 use std::test::Fail;
 use tdb_disk::{Disk, DiskFault, Files, Sink, Source, Take, TakeRefusal};
+use tdb_files::{DirFiles, FileSink, InSource, OutSink};
 
 const FOLDER: &str = "tdb_files_test";
 
@@ -20,6 +16,8 @@ const FILE: &str = "tdb_files_test/a";
 const RENAMED: &str = "tdb_files_from";
 
 const OTHER: &str = "tdb_files_to";
+
+const UNREAD: &str = "tdb_files_unread";
 
 /// Each call of a disk that is empty at first.
 fn fill<D: Disk>(disk: &mut D) -> Result<(), DiskFault>
@@ -76,12 +74,23 @@ fn a_file_is_renamed(rt: HostRuntime) -> Result<(), Fail> {
     files.rename(RENAMED, OTHER)?;
     assert_eq!(rt; fs::read(&rt, OTHER)?.as_slice(), b"one".as_slice());
     // The file that is replaced passes its permissions on.
-    fs::set_permissions(&rt, OTHER, fs::Permissions::from_mode(0o640))?;
+    fs::set_permissions(&rt, OTHER, Permissions::from_mode(0o640))?;
     fs::write(&rt, RENAMED, "two")?;
     files.rename(RENAMED, OTHER)?;
     assert_eq!(rt; fs::read(&rt, OTHER)?.as_slice(), b"two".as_slice());
     assert_eq!(rt; mode_of(rt, OTHER)?, 0o640);
     fs::remove_file(&rt, OTHER)?;
+    // A folder that may not be read can't be opened to be synced.
+    fs::create_dir(&rt, UNREAD)?;
+    fs::write(&rt, "tdb_files_unread/a", "one")?;
+    fs::set_permissions(&rt, UNREAD, Permissions::from_mode(0o300))?;
+    files.rename("tdb_files_unread/a", "tdb_files_unread/b")?;
+    assert_eq!(rt;
+        fs::read(&rt, "tdb_files_unread/b")?.as_slice(),
+        b"one".as_slice()
+    );
+    fs::set_permissions(&rt, UNREAD, Permissions::from_mode(0o700))?;
+    fs::remove_dir_all(&rt, UNREAD)?;
     Ok(())
 }
 
@@ -118,7 +127,7 @@ fn each_refusal_is_named(rt: HostRuntime) -> Result<(), Fail> {
     fs::set_permissions(
         &rt,
         "tdb_files_refusals/kept",
-        fs::Permissions::from_mode(0o444),
+        Permissions::from_mode(0o444),
     )?;
     symlink(&rt, "nowhere", "tdb_files_refusals/link")?;
     let (missing, there, failed) = (
@@ -179,12 +188,12 @@ fn another_run_keeps_off(rt: HostRuntime) -> Result<(), Fail> {
     let alloc = rt.alloc();
     let mut files = DirFiles::new(rt);
     let disk = files.take(alloc, name, Take::Existing)?;
-    assert!(rt; try_lock(&other, LockKind::Shared).is_err());
+    assert!(rt; other.try_lock_shared().is_err());
     files.give(name, disk);
     let disk = files.take(alloc, name, Take::ReadOnly)?;
-    assert!(rt; try_lock(&other, LockKind::Exclusive).is_err());
+    assert!(rt; other.try_lock().is_err());
     // The other way round: it is taken for reading beside another reader, and for writing only where nobody has it.
-    assert!(rt; try_lock(&other, LockKind::Shared).is_ok());
+    assert!(rt; other.try_lock_shared().is_ok());
     files.give(name, disk);
     assert_eq!(rt; words(rt, name, Take::ReadOnly)?.as_str(), "");
     assert_eq!(rt;
@@ -226,21 +235,38 @@ fn each_fault_has_its_reason(rt: HostRuntime) -> Result<(), Fail> {
     Ok(())
 }
 
+/// The bytes of a file of eight, and whether each change of it is refused.
+fn changes<D: Disk>(disk: &mut D) -> Result<([u8; 8], [bool; 4]), DiskFault>
+    requires { D.size disk.old ≡ 8 }
+{
+    let mut bytes = [0; 8];
+    disk.read(0, &mut bytes)?;
+    let refused = [
+        disk.write(0, b"a").is_err(),
+        disk.write_word(0, *b"word").is_err(),
+        disk.grow(16).is_err(),
+        disk.cut(4).is_err(),
+    ];
+    Ok((bytes, refused))
+}
+
 #[test]
 fn a_file_that_may_only_be_read_is_not_changed(rt: HostRuntime) -> Result<(), Fail> {
     let name = "tdb_files_unwritable";
     fs::write(&rt, name, "12345678")?;
-    let file = OpenOptions::new().read(true).write(true).open(&rt, name)?;
-    let identity = Identity::of(&file.metadata()?);
-    let mut disk = FileDisk::new(file, identity, Some(Reason::NotRegular), 8);
-    let mut buf = [0; 8];
-    disk.read(0, &mut buf)?;
-    assert_eq!(rt; buf, *b"12345678");
-    assert!(rt; disk.write(0, b"a").is_err());
-    assert!(rt; disk.write_word(0, *b"word").is_err());
-    assert!(rt; disk.grow(16).is_err());
-    assert!(rt; disk.cut(4).is_err());
+    fs::set_permissions(&rt, name, Permissions::from_mode(0o444))?;
+    // Root may write it all the same.
+    let how = match OpenOptions::new().write(true).open(&rt, name) {
+        Ok(_) => Take::ReadOnly,
+        Err(_) => Take::Existing,
+    };
+    let mut files = DirFiles::new(rt);
+    let mut disk = files.take(rt.alloc(), name, how)?;
+    if disk.len() == Ok(8) {
+        assert_eq!(rt; changes(&mut disk)?, (*b"12345678", [true; 4]));
+    }
     assert_eq!(rt; disk.len()?, 8);
+    files.give(name, disk);
     assert_eq!(rt; fs::read(&rt, name)?.as_slice(), b"12345678".as_slice());
     fs::remove_file(&rt, name)?;
     Ok(())
