@@ -58,8 +58,8 @@ bare_app = let app = new_app [] in record { top = record app.top { no_binary_nam
 abbrev pub app_for : Command → App
 app_for command = with_rule (with_told bare_app (options_of command)) told_positions
 
--- a word that `clap` reads as we do where options may stand: no letters together behind one hyphen, no value right
--- behind a letter, and none that is empty behind `=`
+-- a word that `clap` reads as we do where options may stand: behind one hyphen no letters together, none that isn't
+-- ASCII, and no value right behind a letter; and no value that is empty behind `=`
 abbrev pub some_behind : Option (List ℕ × List ℕ) → Bool
 some_behind None = true
 some_behind (Some parts) = not (length parts.1 == 0)

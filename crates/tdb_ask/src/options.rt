@@ -210,8 +210,8 @@ fn told<'a>(options: &'a [GivenOption], name: &str) -> Option<&'a str>
     }
 }
 
-/// Whether `clap` reads a word as we do where options may stand: no letters together behind one hyphen, no value right
-/// behind a letter, and none that is empty behind `=`.
+/// Whether `clap` reads a word as we do where options may stand: behind one hyphen no letters together, none that isn't
+/// ASCII, and no value right behind a letter; and no value that is empty behind `=`.
 fn is_plain(word: &str) -> bool
     ensures { result ≡ C.is_plain word.now }
 {
