@@ -3,6 +3,7 @@ pub mod Stopping
 pub mod Standings
 pub mod Finishing
 pub mod Courses
+pub mod Coming
 pub mod Answered
 pub mod StoppedPlays
 pub mod OneTurn

@@ -9,3 +9,4 @@ pub mod Unfinished
 pub mod Laws
 pub mod Hearing
 pub mod Unreported
+pub mod Scene

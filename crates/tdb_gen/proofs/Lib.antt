@@ -1,4 +1,3 @@
-pub mod Coming
 pub mod Takings
 mod Waiting
 mod Turns

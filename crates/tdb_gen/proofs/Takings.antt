@@ -20,7 +20,7 @@ use Rattle.tdb_gen.specs.declared.fault.GenFault.TheVariants.{Io, Memory, Log}
 use Rattle.tdb_gen.specs.Counts.{counts_of}
 use Rattle.tdb_gen.specs.Taking.{UnlessIo, OnIo, HeardSo, Place, TookAll, TookSome, TakesTo, Taken}
 use Rattle.tdb_world.proofs.Courses.{course_join}
-use Rattle.tdb_gen.proofs.Coming.{whole_comes, comes_more, comes_after}
+use Rattle.tdb_course.proofs.Coming.{whole_comes, comes_more, comes_after}
 
 -- what came behind a course, or before others
 pub course_behind : (f : Form) (ps qs : List Play) (old mid new : State) (lines rest : List Line) → Course f old (law_plays ps) (law_lines lines) mid → Course f mid (law_plays qs) (law_lines rest) new

@@ -5,3 +5,4 @@ pub mod LawLemmas
 pub mod LoopLemmas
 pub mod ReadLemmas
 pub mod RowLemmas
+pub mod EachRow

@@ -1,68 +1,20 @@
 -- What is done in a session, one after the other, with its text written as it is made.
-use Rattle.std.proofs.Common.{◌≡◌, ℕ, List, [], ◌∷◌, ◌++◌, Option, None, Some, inl, refl, sym, ◌∙◌, ap, subst, arith}
+use Rattle.std.proofs.Common.{◌≡◌, ℕ, List, [], ◌++◌, Option, None, Some, inl, refl, sym, ◌∙◌, ap, subst, arith}
 use Rattle.std.specs.Prelude.{Bool}
 use Rattle.std.proofs.lemmas.List.{append_assoc, append-nil}
 use Rattle.tdb_disk.specs.Count.{Rose}
 use Rattle.tdb_space.specs.Form.{Form, form_in}
-use Rattle.tdb_law.specs.Lines.{Line as LawLine}
-use Rattle.tdb_law.specs.Plays.{Play as LawPlay, Course}
 use Rattle.tdb_law.specs.World.{State}
 use Rattle.tdb_plays.specs.declared.line.Line.{Line}
-use Rattle.tdb_world.specs.Played.{ComesTo, FirstBegun, begun_not}
-use Rattle.tdb_world.proofs.Courses.{course_join}
 use Rattle.tdb_whole.specs.Stops.{IsSafe}
 use Rattle.tdb_whole.specs.Whole.{form_at}
 use Rattle.tdb_tool.specs.declared.fault.SessionFault.{SessionFault}
 use Rattle.tdb_tool.specs.declared.fault.SessionFault.TheVariants as F
-use Rattle.tdb_tool.specs.Serving.{UnlessBroken, OnBroken, HeardSo, Deed, TellsAll, TellsFront, LeavesAll, LeavesFront, RunsTo, Scene, IsStateAt, FitsAt, DoneBetween, Led}
+use Rattle.tdb_course.specs.Scene.{Scene, IsStateAt}
+use Rattle.tdb_tool.specs.Serving.{UnlessBroken, OnBroken, HeardSo, Deed, TellsAll, TellsFront, LeavesAll, LeavesFront, RunsTo, FitsAt, DoneBetween, Led}
 use Rattle.tdb_tool.proofs.Hearing.{heard_after}
 use Rattle.tdb_tool.proofs.Stops.{LeadsOn, stops_nowhere, stops_after}
 use Rattle.tdb_tool.proofs.Telling.{front_all, front_after}
-
--- one that is whole is as far as it came, and one that broke off may have been that of more plays
-pub whole_comes : (f : Form) (plays : List LawPlay) (old new : State) (lines : List LawLine) → Course f old plays lines new → ComesTo f old plays lines new
-whole_comes f plays old new lines C = record {
-  done = plays;
-  left = [];
-  parts = sym (append-nil plays);
-  mid = new;
-  front = lines;
-  rest = [];
-  told = sym (append-nil lines);
-  course = C;
-  begun = (refl, refl);
-}
-
-more_begun : (f : Form) (mid new : State) (left more : List LawPlay) (rest : List LawLine) → FirstBegun f mid left rest new → FirstBegun f mid (left ++ more) rest new
-more_begun f mid new [] [] rest B = B
-more_begun f mid new [] (play ∷ more) rest B = begun_not B.0 B.1
-more_begun f mid new (play ∷ left) more rest B = B
-
-pub comes_more : (f : Form) (plays more : List LawPlay) (old new : State) (lines : List LawLine) → ComesTo f old plays lines new → ComesTo f old (plays ++ more) lines new
-comes_more f plays more old new lines C = record {
-  done = C.done;
-  left = C.left ++ more;
-  parts = ap (λ ps. ps ++ more) C.parts ∙ append_assoc C.done C.left more;
-  mid = C.mid;
-  front = C.front;
-  rest = C.rest;
-  told = C.told;
-  course = C.course;
-  begun = more_begun f C.mid new C.left more C.rest C.begun;
-}
-
-pub comes_after : (f : Form) (plays more : List LawPlay) (old mid new : State) (front rest : List LawLine) → Course f old plays front mid → ComesTo f mid more rest new → ComesTo f old (plays ++ more) (front ++ rest) new
-comes_after f plays more old mid new front rest C D = record {
-  done = plays ++ D.done;
-  left = D.left;
-  parts = ap (λ ps. plays ++ ps) D.parts ∙ sym (append_assoc plays D.done D.left);
-  mid = D.mid;
-  front = front ++ D.front;
-  rest = D.rest;
-  told = ap (λ ls. front ++ ls) D.told ∙ sym (append_assoc front D.front D.rest);
-  course = course_join f plays D.done old mid D.mid front D.front C D.course;
-  begun = D.begun;
-}
 
 -- What is done behind something else makes a third thing: its lines and its text are those of both.
 abbrev pub Follows : Deed → Deed → Deed → Type 0

@@ -1,11 +1,11 @@
 -- A world serves the orders of a session, whose keys and values are no longer than their lines.
-use Rattle.std.proofs.Common.{◌≡◌, ℕ, ◌<◌, ◌≤◌, List, [], ◌∷◌, length, length-append, ap, subst, Bool, true, false, Some, None, unwrap_or, inl, inr, arith}
-use Rattle.std.specs.Prelude.{◌^◌, if◌then◌else◌}
+use Rattle.std.proofs.Common.{ℕ, ◌<◌, ◌≤◌, List, [], ◌∷◌, length, length-append, ap, Bool, true, false, Some, inl, inr, arith}
+use Rattle.std.specs.Prelude.{◌^◌}
 use Rattle.std.specs.Str.{bytes_eq}
 use Rattle.tdb_dump.specs.Escape.{IsLetter, Letters}
 use Rattle.tdb_dump.specs.Word.{stands_in_word, IsWord}
 use Rattle.tdb_script.specs.Lines.{words_of}
-use Rattle.tdb_script.specs.Rows.{row_of}
+use Rattle.tdb_script.proofs.EachRow.{of_row}
 use Rattle.tdb_script.proofs.PartLemmas.{NoLonger, words_no_longer}
 use Rattle.tdb_tool.specs.declared.order.Order.{Order}
 use Rattle.tdb_tool.specs.Rows.{bare_orders, key_orders, value_orders}
@@ -13,19 +13,6 @@ use Rattle.tdb_tool.specs.Orders.{storehex, IsSpelled, IsOrder}
 use Rattle.tdb_tool.specs.Asking.{Says}
 use Rattle.tdb_tool.specs.Parts.{IsServedOrder}
 use Rattle.tdb_tool.proofs.HexLemmas.{hex_short}
-
--- what holds of each row of a table holds of what a word has there
-abbrev OfRows : {A : Type 0} → (A → Type 0) → List (List ℕ × A) → Type 0
-OfRows P [] = Unit {0}
-OfRows P (row ∷ rows) = P row.1 × OfRows P rows
-
-of_row : {A : Type 0} (P : A → Type 0) (rows : List (List ℕ × A)) (word : List ℕ) (x : A) → OfRows P rows → row_of rows word ≡ Some x → P x
-of_row P [] word x all is = let wrong : None ≡ Some x = is in absurd (cc)
-of_row P (row ∷ rows) word x all is = of (bytes_eq row.0 word) (of_row P rows word x all.1) is
-  where
-    of : (b : Bool) → (row_of rows word ≡ Some x → P x) → (if b then Some row.1 else row_of rows word) ≡ Some x → P x
-    of true rest e = subst P (ap (λ o. unwrap_or o x) e) all.0
-    of false rest e = rest e
 
 -- a word of a command stands for no more bytes than it has
 letters_short : (text bytes : List ℕ) → Letters stands_in_word text bytes → length bytes ≤ length text

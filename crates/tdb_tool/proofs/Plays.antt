@@ -30,7 +30,8 @@ use Rattle.tdb_tool.specs.declared.fault.SessionFault.TheVariants as F
 use Rattle.tdb_tool.specs.declared.order.Order.{Order}
 use Rattle.tdb_tool.specs.Parts.{Silent, Told, doing, part_of, AllDone, AllCame}
 use Rattle.tdb_tool.specs.Replies.{lines_text, tell_pair}
-use Rattle.tdb_tool.specs.Serving.{of_run, of_write, of_log, fault_of, UnlessBroken, HeardSo, Deed, Scene, scene, IsStateAt, StopsBetween, DoneBetween, Led, Ran, PlayDone, PlayBegun, Played}
+use Rattle.tdb_course.specs.Scene.{Scene, scene, IsStateAt}
+use Rattle.tdb_tool.specs.Serving.{of_run, of_write, of_log, fault_of, UnlessBroken, HeardSo, Deed, StopsBetween, DoneBetween, Led, Ran, PlayDone, PlayBegun, Played}
 use Rattle.tdb_tool.proofs.Coming.{IsToo, led_as}
 use Rattle.tdb_tool.proofs.Hearing.{heard_or_refused}
 use Rattle.tdb_tool.proofs.PartLemmas.{one_done, one_begun}

@@ -18,7 +18,8 @@ use Rattle.tdb_whole.specs.Whole.{form_at}
 use Rattle.tdb_course.specs.Stops.{Leads, IsTransacted, OpensOnTheWay}
 use Rattle.tdb_course.proofs.Stopping.{passes_front, passes_behind, safe_opens, opens_first}
 use Rattle.tdb_tool.specs.declared.fault.SessionFault.{SessionFault}
-use Rattle.tdb_tool.specs.Serving.{Deed, Scene, IsStateAt, StopsBetween}
+use Rattle.tdb_course.specs.Scene.{Scene, IsStateAt}
+use Rattle.tdb_tool.specs.Serving.{Deed, StopsBetween}
 
 -- what was done led on by plays
 abbrev pub LeadsOn : Deed → Type 0

@@ -33,7 +33,8 @@ use Rattle.tdb_tool.specs.declared.fault.SessionFault.TheVariants as F
 use Rattle.tdb_tool.specs.declared.order.Order.{Order}
 use Rattle.tdb_tool.specs.Asking.{Session, BeginsBy}
 use Rattle.tdb_tool.specs.Parts.{Silent, doing, parts_of, AllDone, AllCame}
-use Rattle.tdb_tool.specs.Serving.{fault_of, UnlessBroken, HeardSo, TellsAll, TellsFront, RunsTo, Scene, IsStateAt, StopsBetween, DoneBetween, Ran, AsksFor, Served, ServedAll}
+use Rattle.tdb_course.specs.Scene.{Scene, IsStateAt}
+use Rattle.tdb_tool.specs.Serving.{fault_of, UnlessBroken, HeardSo, TellsAll, TellsFront, RunsTo, StopsBetween, DoneBetween, Ran, AsksFor, Served, ServedAll}
 use Rattle.tdb_tool.specs.Whole.{closing, session_parts, IsClosed, SessionLed, SessionDeed, beginning_over, StopsOpen, SessionOver, SessionCame, SessionRan}
 use Rattle.tdb_open.specs.Loading.{IsOver, IsJustLoaded}
 use Rattle.tdb_tool.proofs.Coming.{IsToo, all_is_front, unless_map, led_as}

@@ -1,7 +1,7 @@
 -- How parts of a session are done over a file, as far as they come, and their text is written.
 use Rattle.std.specs.Prelude.{◌≡◌, ℕ, ◌<◌, ◌≤◌, ◌+◌, ◌⊎◌, Bool, IsTrue, List, ◌∷◌, ◌++◌, Option, None, Some, Result, Ok, Err, IfOk}
 use Rattle.tdb_disk.specs.Count.{Rose}
-use Rattle.tdb_disk.specs.History.{History, seen}
+use Rattle.tdb_disk.specs.History.{seen}
 use Rattle.tdb_disk.specs.Stop.{LeavesOnly}
 use Rattle.tdb_space.specs.Form.{Form}
 use Rattle.tdb_backup.specs.Dump.{WroteFront}
@@ -14,10 +14,10 @@ use Rattle.tdb_plays.specs.InLaw.{law_play, law_lines}
 use Rattle.tdb_plays.specs.declared.line.Line.{Line}
 use Rattle.tdb_plays.specs.declared.play.Play.{Play}
 use Rattle.tdb_world.specs.Played.{PlaysLast}
-use Rattle.tdb_whole.specs.Whole.{Whole, form_at, WorldFits}
-use Rattle.tdb_whole.specs.States.{IsStateOf}
+use Rattle.tdb_whole.specs.Whole.{form_at, WorldFits}
 use Rattle.tdb_whole.specs.Stops.{IsSafe}
 use Rattle.tdb_course.specs.Hearing.{Heard, HeardUpTo}
+use Rattle.tdb_course.specs.Scene.{Scene, IsStateAt}
 use Rattle.tdb_course.specs.Stops.{IsTransacted, OpensOnTheWay}
 use Rattle.tdb_log.specs.Logs.{Logged}
 use Rattle.tdb_log.specs.declared.log.LogRefusal.{LogRefusal}
@@ -97,23 +97,7 @@ RunsTo whole part f old IsLeft told before now (Some F.Device) = (left : State) 
 RunsTo whole part f old IsLeft told before now (Some F.Log) = LeavesAll part f old IsLeft told before now
 RunsTo whole part f old IsLeft told before now (Some F.Memory) = LeavesFront part f old IsLeft told before now
 
--- A moment of a session: the world, the history and the length of its file, the count of faults of its disk, what is written
--- on the output, and the logs.
-pub record Scene : Type 0 where
-  pub world : Whole
-  pub history : History
-  pub size : ℕ
-  pub faults : ℕ
-  pub written : List ℕ
-  pub logs : List Logged
-
-abbrev pub scene : Whole → History → ℕ → ℕ → List ℕ → List Logged → Scene
-scene world history size faults written logs = record { world = world; history = history; size = size; faults = faults; written = written; logs = logs }
-
--- a state of the world at a moment; and the world fits the file there
-abbrev pub IsStateAt : Scene → State → Type 0
-IsStateAt s state = IsStateOf s.world s.history state
-
+-- the world fits the file at a moment
 abbrev pub FitsAt : Scene → Type 0
 FitsAt s = WorldFits s.world (seen s.history) s.size
 

@@ -27,7 +27,8 @@ use Rattle.tdb_tool.specs.declared.fault.SessionFault.TheVariants as F
 use Rattle.tdb_tool.specs.declared.order.Order.{Order}
 use Rattle.tdb_tool.specs.Asking.{Session, BeginsBy}
 use Rattle.tdb_tool.specs.Parts.{Part, Silent, doing, parts_of, AllDone, AllCame}
-use Rattle.tdb_tool.specs.Serving.{Deed, fault_of, HeardSo, Scene, IsStateAt, Led, AsksFor}
+use Rattle.tdb_course.specs.Scene.{Scene, IsStateAt}
+use Rattle.tdb_tool.specs.Serving.{Deed, fault_of, HeardSo, Led, AsksFor}
 
 -- the part by which a session ends, and all parts of one: the opener joins, its orders are done, and it closes
 abbrev pub closing : List Part

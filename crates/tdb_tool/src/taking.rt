@@ -7,7 +7,8 @@ ghost use Rattle.tdb_whole.specs.Whole.{WorldFits};
 ghost use Rattle.tdb_course.specs.Playable.{IsPlayable};
 ghost use Rattle.tdb_tool.specs.declared.fault.SessionFault.TheVariants as FaultIs;
 ghost use Rattle.tdb_tool.specs.Parts.{Silent, Listed, doing as doing_of, move as move_of, part_of, IsServedOrder};
-ghost use Rattle.tdb_tool.specs.Serving.{scene, fault_of, Ran, Played};
+ghost use Rattle.tdb_course.specs.Scene.{scene};
+ghost use Rattle.tdb_tool.specs.Serving.{fault_of, Ran, Played};
 
 use crate::fault::SessionFault;
 use crate::limits::MOST_MOVES;

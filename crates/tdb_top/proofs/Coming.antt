@@ -27,7 +27,7 @@ use Rattle.tdb_whole.specs.States.{IsStateOf}
 use Rattle.tdb_course.specs.Led.{moment, Comes, Led}
 use Rattle.tdb_course.specs.Unfinished.{IsEnd}
 use Rattle.tdb_world.proofs.Courses.{course_join}
-use Rattle.tdb_tool.proofs.Coming.{whole_comes, comes_more, comes_after}
+use Rattle.tdb_course.proofs.Coming.{whole_comes, comes_more, comes_after}
 use Rattle.tdb_course.specs.Hearing.{HeardLed, RunsAsTold}
 use Rattle.tdb_log.specs.Logs.{Logged}
 use Rattle.tdb_log.specs.declared.log.LogRefusal.{LogRefusal}
@@ -36,7 +36,8 @@ use Rattle.tdb_course.proofs.HeardLines.{heard_joined}
 use Rattle.tdb_tool.proofs.Telling.{front_all, front_after}
 use Rattle.tdb_top.specs.declared.ending.Unprinted.TheVariants as Rest
 use Rattle.tdb_open.specs.declared.halt.Fault.TheVariants as F
-use Rattle.tdb_top.specs.Playing.{PlaysEnd, UnlessBroken, OnBroken, TellsAll, TellsFront, RunsTo, broke_off, Scene, scene, IsStateAt, Ran, EndTold, end_of}
+use Rattle.tdb_course.specs.Scene.{Scene, scene, IsStateAt}
+use Rattle.tdb_top.specs.Playing.{PlaysEnd, UnlessBroken, OnBroken, TellsAll, TellsFront, RunsTo, broke_off, Ran, EndTold, end_of}
 use Rattle.tdb_tool.specs.Serving.{HeardSo}
 use Rattle.tdb_tool.proofs.Hearing.{heard_after}
 use Rattle.tdb_top.proofs.HeardPlays.{heard_end}

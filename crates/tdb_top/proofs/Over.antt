@@ -16,7 +16,7 @@ use Rattle.tdb_script.specs.Text.{report_text}
 use Rattle.tdb_whole.specs.Died.{IsReadAs}
 use Rattle.tdb_course.specs.Laws.{ReportIsLawful}
 use Rattle.tdb_course.specs.Unfinished.{EndsWith}
-use Rattle.tdb_tool.proofs.Coming.{whole_comes}
+use Rattle.tdb_course.proofs.Coming.{whole_comes}
 use Rattle.tdb_tool.proofs.Telling.{front_after}
 use Rattle.tdb_open.specs.Loading.{IsOver}
 use Rattle.tdb_tool.specs.Whole.{beginning_over}

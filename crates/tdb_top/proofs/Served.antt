@@ -1,31 +1,18 @@
 -- The plays of a script may be taken: each command of its tables has a key and a value no longer than the script.
-use Rattle.std.proofs.Common.{◌≡◌, ℕ, ◌<◌, ◌≤◌, List, [], ◌∷◌, length, sym, ap, subst, Bool, true, false, Option, Some, None, unwrap_or, inl, inr, arith}
-use Rattle.std.specs.Prelude.{◌^◌, if◌then◌else◌}
-use Rattle.std.specs.Str.{bytes_eq}
+use Rattle.std.proofs.Common.{ℕ, ◌<◌, ◌≤◌, List, [], ◌∷◌, length, sym, subst, Option, Some, None, inl, inr, arith}
+use Rattle.std.specs.Prelude.{◌^◌}
 use Rattle.std.proofs.lemmas.List.Elements.{All-nil, All-cons}
 use Rattle.tdb_dump.specs.Word.{IsWord}
 use Rattle.tdb_plays.specs.declared.command.Command.{Command}
 use Rattle.tdb_plays.specs.declared.play.Play.{Play}
 use Rattle.tdb_script.specs.Lines.{lines_of, words_of}
-use Rattle.tdb_script.specs.Rows.{row_of, bare_commands, key_commands, value_commands, bare_plays, opener_plays, command_plays}
+use Rattle.tdb_script.specs.Rows.{bare_commands, key_commands, value_commands, bare_plays, opener_plays, command_plays}
 use Rattle.tdb_script.specs.Script.{IsCommand, IsOpenerPlay, IsPlay, Says, LinesSay, with_said, Script}
+use Rattle.tdb_script.proofs.EachRow.{of_row}
 use Rattle.tdb_script.proofs.PartLemmas.{NoLonger, lines_no_longer, words_no_longer}
 use Rattle.tdb_plays.specs.Short.{IsShortCommand}
 use Rattle.tdb_course.specs.Playable.{IsPlayable, ArePlayable}
 use Rattle.tdb_ask.proofs.ShortWords.{word_short}
-
--- what holds of each row of a table holds of what a word has there
-abbrev OfRows : {A : Type 0} → (A → Type 0) → List (List ℕ × A) → Type 0
-OfRows P [] = Unit {0}
-OfRows P (row ∷ rows) = P row.1 × OfRows P rows
-
-of_row : {A : Type 0} (P : A → Type 0) (rows : List (List ℕ × A)) (word : List ℕ) (x : A) → OfRows P rows → row_of rows word ≡ Some x → P x
-of_row P [] word x all is = let wrong : None ≡ Some x = is in absurd (cc)
-of_row P (row ∷ rows) word x all is = of (bytes_eq row.0 word) (of_row P rows word x all.1) is
-  where
-    of : (b : Bool) → (row_of rows word ≡ Some x → P x) → (if b then Some row.1 else row_of rows word) ≡ Some x → P x
-    of true rest e = subst P (ap (λ o. unwrap_or o x) e) all.0
-    of false rest e = rest e
 
 module _ (n : ℕ) (few : n < 2 ^ 32) where
   short : (word bytes : List ℕ) → length word ≤ n → IsWord word bytes → length bytes < 2 ^ 32

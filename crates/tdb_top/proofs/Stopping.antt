@@ -32,7 +32,8 @@ use Rattle.tdb_log.specs.declared.log.LogRefusal.{LogRefusal}
 use Rattle.tdb_open.specs.Opening.{log_fault}
 use Rattle.tdb_open.specs.declared.halt.Fault.TheVariants as F
 use Rattle.tdb_top.specs.declared.ending.Unprinted.TheVariants as Rest
-use Rattle.tdb_top.specs.Playing.{PlaysEnd, UnlessBroken, Scene, scene, IsStateAt, end_of}
+use Rattle.tdb_course.specs.Scene.{Scene, scene, IsStateAt}
+use Rattle.tdb_top.specs.Playing.{PlaysEnd, UnlessBroken, end_of}
 use Rattle.tdb_top.specs.Stops.{LeavesOnTheWay, StopsTold, StopsOver, OnlyUnfinished, WroteOf, WroteWhole}
 use Rattle.tdb_top.proofs.Coming.{front_either, text_more, unless_end, unless_map}
 

@@ -11,8 +11,8 @@ use Rattle.tdb_plays.specs.declared.play.Play.{Play}
 use Rattle.tdb_script.specs.Text.{report_text}
 use Rattle.tdb_world.specs.Played.{ComesTo}
 use Rattle.tdb_whole.specs.Whole.{Whole, form_at, WorldFits}
-use Rattle.tdb_whole.specs.States.{IsStateOf}
 use Rattle.tdb_course.specs.Hearing.{Heard}
+use Rattle.tdb_course.specs.Scene.{Scene, IsStateAt}
 use Rattle.tdb_course.specs.Unfinished.{IsEnd}
 use Rattle.tdb_log.specs.Logs.{Logged}
 use Rattle.tdb_log.specs.declared.log.LogRefusal.{LogRefusal}
@@ -95,23 +95,6 @@ RunsTo f old plays IsLeft told before now logs later (Err Rest.Report) = (new : 
 RunsTo f old plays IsLeft told before now logs later (Err Rest.Fault) = (new : State) × TellsFront f old plays new told before now logs later (Err Rest.Fault)
 RunsTo f old plays IsLeft told before now logs later (Err Rest.Pairs) = ⊥
 RunsTo f old plays IsLeft told before now logs later (Err Rest.Files) = ⊥
-
--- A moment of the plays: the world, the history and the length of its file, the count of faults of its disk, what is
--- written on the output, and the logs.
-pub record Scene : Type 0 where
-  pub world : Whole
-  pub history : History
-  pub size : ℕ
-  pub faults : ℕ
-  pub written : List ℕ
-  pub logs : List Logged
-
-abbrev pub scene : Whole → History → ℕ → ℕ → List ℕ → List Logged → Scene
-scene world history size faults written logs = record { world = world; history = history; size = size; faults = faults; written = written; logs = logs }
-
--- a state that the world may have at a moment
-abbrev pub IsStateAt : Scene → State → Type 0
-IsStateAt s state = IsStateOf s.world s.history state
 
 -- Plays led from one moment to another, and ended so, over a disk and an output that tell or don't: from each state that
 -- the world may have to one that it may have afterwards.

@@ -20,7 +20,8 @@ use Rattle.tdb_course.specs.Stops.{IsTransacted, Leads, OpensOnTheWay}
 use Rattle.tdb_top.specs.declared.ending.Ending.{Ending}
 use Rattle.tdb_top.specs.Ending.{text_of}
 use Rattle.tdb_open.specs.Opening.{opened_bytes}
-use Rattle.tdb_top.specs.Playing.{PlaysEnd, UnlessBroken, Scene, IsStateAt}
+use Rattle.tdb_course.specs.Scene.{Scene, IsStateAt}
+use Rattle.tdb_top.specs.Playing.{PlaysEnd, UnlessBroken}
 use Rattle.tdb_top.specs.Run.{Run}
 use Rattle.tdb_top.specs.Safe.{StopsSince}
 

@@ -10,7 +10,8 @@ ghost use Rattle.tdb_dump.specs.declared.writer.WriteRefusal.TheVariants.{Failed
 ghost use Rattle.tdb_script.specs.Text.{report_text};
 ghost use Rattle.tdb_whole.specs.Whole.{form_at, options_at, WorldFits};
 ghost use Rattle.tdb_course.specs.Playable.{ArePlayable};
-ghost use Rattle.tdb_top.specs.Playing.{UnlessBroken, OnBroken, IsUnbroken, PlayedOver, scene, Ran, EndTold, end_of};
+ghost use Rattle.tdb_course.specs.Scene.{scene};
+ghost use Rattle.tdb_top.specs.Playing.{UnlessBroken, OnBroken, IsUnbroken, PlayedOver, Ran, EndTold, end_of};
 ghost use Rattle.tdb_open.specs.Loading.{IsJustLoaded};
 ghost use Rattle.tdb_top.specs.Stops.{StopsOfTurns, StopsOver, StopsTold};
 

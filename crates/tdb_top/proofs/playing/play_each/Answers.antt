@@ -2,7 +2,8 @@ use Rattle.std.proofs.Common.{◌≡◌, ◌+◌, ◌-◌, ◌∙◌, take, drop
 use Rattle.std.proofs.lemmas.List.{take_all}
 use Rattle.std.proofs.lemmas.Result.{err_from_is_err_and}
 use Rattle.tdb_space.specs.Form.{form_in}
-use Rattle.tdb_top.specs.Playing.{Scene, scene, Ran, PlaysEnd}
+use Rattle.tdb_course.specs.Scene.{Scene, scene}
+use Rattle.tdb_top.specs.Playing.{Ran, PlaysEnd}
 use Rattle.tdb_top.specs.Stops.{StopsTold}
 use Rattle.tdb_top.proofs.Stopping.{stops_none, stops_on}
 use Rattle.tdb_top.proofs.Coming.{ran_none, ran_on, ran_off, next_slice, slice_more}

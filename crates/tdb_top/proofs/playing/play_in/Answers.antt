@@ -10,7 +10,8 @@ use Rattle.tdb_whole.specs.Whole.{form_at, options_at, WorldFits}
 use Rattle.tdb_whole.proofs.Reopening.{state_reopens}
 use Rattle.tdb_course.proofs.Finishing.{report_lawful, ends_alike}
 use Rattle.tdb_open.specs.Loading.{IsJustLoaded}
-use Rattle.tdb_top.specs.Playing.{PlaysEnd, UnlessBroken, OnBroken, RunsTo, PlayedOver, Scene, scene}
+use Rattle.tdb_course.specs.Scene.{Scene, scene}
+use Rattle.tdb_top.specs.Playing.{PlaysEnd, UnlessBroken, OnBroken, RunsTo, PlayedOver}
 use Rattle.tdb_top.proofs.Coming.{unless_map}
 use Rattle.tdb_top.proofs.Over.{broken_off, finished}
 use Rattle.tdb_top.proofs.Stopping.{only_unfinished, stops_broken, stops_finished}
