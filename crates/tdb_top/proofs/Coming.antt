@@ -143,6 +143,17 @@ on_map (Err Rest.Fault) h a = h a
 on_map (Err Rest.Pairs) h a = tt
 on_map (Err Rest.Files) h a = tt
 
+-- what holds unless the disk failed holds where it didn't
+pub unless_sound : {A : Type 0} (answer : PlaysEnd) → OnBroken answer ⊥ → UnlessBroken answer A → A
+unless_sound (Ok (Ok v)) not a = a
+unless_sound (Ok (Err F.Device)) not a = absurd not
+unless_sound (Ok (Err F.Memory)) not a = a
+unless_sound (Ok (Err F.Log)) not a = a
+unless_sound (Err Rest.Report) not a = a
+unless_sound (Err Rest.Fault) not a = absurd not
+unless_sound (Err Rest.Pairs) not a = a
+unless_sound (Err Rest.Files) not a = a
+
 module _ (disk_tells told : Bool) where
   -- no play was taken
   pub ran_none : (start : Scene) → WorldFits start.world (seen start.history) start.size → Ran disk_tells told start start [] (Ok (Ok tt))

@@ -1,5 +1,5 @@
 -- What stops leave of the file of a session, however that ends.
-use Rattle.std.proofs.Common.{◌≡◌, ℕ, List, [], Option, Some, Result, Ok, Err, refl, sym, ◌∙◌, subst, arith}
+use Rattle.std.proofs.Common.{◌≡◌, ℕ, List, [], Option, Some, Result, Ok, Err, refl, sym, ◌∙◌, ap, subst, inl, arith}
 use Rattle.std.specs.Prelude.{Bool, IsTrue}
 use Rattle.std.proofs.lemmas.List.{append-nil}
 use Rattle.tdb_disk.specs.History.{History, seen}
@@ -17,26 +17,30 @@ use Rattle.tdb_tool.proofs.Wholes.{begins, over_comes}
 use Rattle.tdb_tool.specs.Asking.{BeginsBy}
 use Rattle.tdb_tool.specs.Serving.{HeardSo}
 use Rattle.tdb_open.specs.Loading.{IsOver, OpensToTurn}
-use Rattle.tdb_tool.specs.Whole.{session_parts, StopsOpen, SessionCame}
+use Rattle.tdb_tool.specs.Whole.{session_parts, StopsOpen, SessionCame, CameSo}
 use Rattle.tdb_tool.specs.declared.fault.SessionEnd.{SessionEnd}
 use Rattle.tdb_tool.specs.declared.fault.SessionFault.{SessionFault}
 use Rattle.tdb_tool.specs.declared.fault.SessionFault.TheVariants as F
 use Rattle.tdb_tool.specs.declared.order.Order.{Order}
 use Rattle.tdb_plays.specs.InLaw.{options_of}
 use Rattle.tdb_course.specs.Stops.{OpensOnTheWay}
+use Rattle.tdb_whole.specs.Died.{IsReadAs}
 use Rattle.tdb_top.specs.declared.ending.Ending.{Ending}
+use Rattle.tdb_top.specs.declared.ending.Ending.TheVariants.{DeviceFault}
 use Rattle.tdb_top.specs.declared.ending.Unprinted.{Unprinted}
-use Rattle.tdb_top.specs.Commands.Session.{session_options, SessionOn, SessionFile, file_unopened, session_ran, SessionHeld}
+use Rattle.tdb_top.specs.Commands.Session.{session_options, session_told, SessionOn, SessionFile, file_unopened, session_ran, SessionHeld}
+use Rattle.tdb_top.specs.Ending.{of_halt}
 use Rattle.tdb_top.specs.Input.{Input}
-use Rattle.tdb_open.specs.Opening.{opened_bytes, CanOpen}
+use Rattle.tdb_top.specs.Looks.{ending_of}
+use Rattle.tdb_open.specs.Opening.{opened_bytes, CanOpen, SameOrUndone}
 use Rattle.tdb_open.specs.Opening.{OpensSafely}
 use Rattle.tdb_top.specs.Safe.{StopsSince}
 use Rattle.tdb_top.specs.SessionStops.{StopsOfSession, StopsServed}
 use Rattle.tdb_top.proofs.StopsServing.{begun_since}
-use Rattle.tdb_top.proofs.StopsTurning.{start_opens, fresh, few_chains}
+use Rattle.tdb_top.proofs.StopsTurning.{start_opens, fresh, few_chains, halted_same, kept_left}
 
 -- a session over a file
-module _ (limit : ℕ) (input : Input) (old now : History) (told : Bool) (before after : List ℕ) (logs later : List Logged) where
+module _ (limit : ℕ) (input : Input) (old now : History) (told : Bool) (sound : Type 0) (before after : List ℕ) (logs later : List Logged) where
   -- the state of a world just loaded over what a file is read as
   fresh_loaded : (img : List ℕ) → CanOpen img → IsLoaded (form_of (opened_bytes img)) (fresh (form_of (opened_bytes img)) (session_options limit) (opened_bytes img)) (options_of (session_options limit))
   fresh_loaded img can = record {
@@ -52,8 +56,8 @@ module _ (limit : ℕ) (input : Input) (old now : History) (told : Bool) (before
   }
 
   -- a file that can be opened, over which no session was begun
-  unbegun_stops : CanOpen (seen old) → OpensSafely old now → after ≡ before → StopsOfSession limit input old now told before after
-  unbegun_stops can safe same =
+  unbegun_stops : CanOpen (seen old) → OpensSafely old now → (sound → SameOrUndone old now) → after ≡ before → StopsOfSession limit input old now told sound before after
+  unbegun_stops can safe kept same =
       let r = opened_bytes (seen old) in
       let f = form_of r in
       let start = fresh f (session_options limit) r in
@@ -61,6 +65,7 @@ module _ (limit : ℕ) (input : Input) (old now : History) (told : Bool) (before
         [],
         λ heard. record { before = []; after = lines_of input.text; lines = refl; ask = refl },
         start,
+        λ so. kept_left f old now start can.opens.accepted over (kept so),
         record {
           old = start;
           loaded = fresh_loaded (seen old) can;
@@ -77,39 +82,42 @@ module _ (limit : ℕ) (input : Input) (old now : History) (told : Bool) (before
 
   -- one over which a session was begun
   begun_stops : (answer : Result SessionEnd SessionFault) (on : SessionOn limit input old now told before after logs later answer) (Hear : List Line → Type 0)
-      (orders : List Order) → (IsTrue input.tells → BeginsBy input.text orders) → (new : State)
-      → SessionCame (form_of (seen on.opened)) (session_options limit) (seen on.opened) orders new told before after (StopsOpen (form_of (seen on.opened)) on.opened now) Hear → StopsOfSession limit input old now told before after
-  begun_stops answer on Hear orders asks new came = (
+      (orders : List Order) → (IsTrue input.tells → BeginsBy input.text orders) → (new : State) → (sound → IsReadAs (form_of (seen on.opened)) (seen now) new)
+      → SessionCame (form_of (seen on.opened)) (session_options limit) (seen on.opened) orders new told before after (StopsOpen (form_of (seen on.opened)) on.opened now) Hear → StopsOfSession limit input old now told sound before after
+  begun_stops answer on Hear orders asks new left came = (
     orders,
     asks,
     new,
+    λ so. inl (subst (λ i. IsReadAs (form_of i) (seen now) new) on.is_opened.reads (left so)),
     subst (λ i. SessionCame (form_of i) (session_options limit) i orders new told before after (StopsSince (form_of i) old now) (λ lines. Unit {0})) on.is_opened.reads
         (begun_since limit input old now told before after logs later answer on Hear (λ lines. Unit {0}) (λ lines heard. tt) orders new came),
   )
 
   -- by how it broke off
-  broken_stops : (fault : SessionFault) (on : SessionOn limit input old now told before after logs later (Err fault)) (orders : List Order) → (IsTrue input.tells → BeginsBy input.text orders) → (new : State)
-      → SessionCame (form_of (seen on.opened)) (session_options limit) (seen on.opened) orders new told before after (StopsOpen (form_of (seen on.opened)) on.opened now) (λ lines. HeardSo (Some fault) on.mid lines later)
-      → StopsOfSession limit input old now told before after
-  broken_stops fault on = begun_stops (Err fault) on (λ lines. HeardSo (Some fault) on.mid lines later)
+  came_stops : (fault : SessionFault) (on : SessionOn limit input old now told before after logs later (Err fault))
+      → CameSo (form_of (seen on.opened)) (session_options limit) (seen on.opened) (seen now) input.tells input.text told before after (StopsOpen (form_of (seen on.opened)) on.opened now) (λ lines. HeardSo (Some fault) on.mid lines later)
+      → StopsOfSession limit input old now told sound before after
+  came_stops fault on (orders, asks, new, came, left) = begun_stops (Err fault) on (λ lines. HeardSo (Some fault) on.mid lines later) orders asks new (λ so. left) came
 
-  ran_stops : (answer : Result SessionEnd SessionFault) → SessionOn limit input old now told before after logs later answer → StopsOfSession limit input old now told before after
-  ran_stops (Ok end) on =
+  ran_stops : (answer : Result SessionEnd SessionFault) → (sound → ending_of (session_told answer) ≡ DeviceFault → ⊥) → SessionOn limit input old now told before after logs later answer → StopsOfSession limit input old now told sound before after
+  ran_stops (Ok end) still on =
       let Hear : List Line → Type 0 = λ lines. Heard on.mid lines later in
-      begun_stops (Ok end) on Hear on.ran.0 (λ heard. begins input.text on.ran.0 end (on.ran.1 heard)) on.ran.2.new
+      begun_stops (Ok end) on Hear on.ran.0 (λ heard. begins input.text on.ran.0 end (on.ran.1 heard)) on.ran.2.new (λ so. on.ran.2.left)
       (over_comes (form_of (seen on.opened)) (session_options limit) (seen on.opened) on.ran.0 (seen now) told before after (StopsOpen (form_of (seen on.opened)) on.opened now) Hear on.ran.2)
-  ran_stops (Err F.Input) on = broken_stops F.Input on on.ran.0 on.ran.1 on.ran.2 on.ran.3
-  ran_stops (Err F.Output) on = broken_stops F.Output on on.ran.0 on.ran.1 on.ran.2 on.ran.3
-  ran_stops (Err F.Device) on = broken_stops F.Device on on.ran.0 on.ran.1 on.ran.2 on.ran.3
-  ran_stops (Err F.Log) on = broken_stops F.Log on on.ran.0 on.ran.1 on.ran.2 on.ran.3
-  ran_stops (Err F.Memory) on = broken_stops F.Memory on on.ran.0 on.ran.1 on.ran.2 on.ran.3
+  ran_stops (Err F.Input) still on = came_stops F.Input on on.ran
+  ran_stops (Err F.Output) still on = came_stops F.Output on on.ran
+  ran_stops (Err F.Device) still on = begun_stops (Err F.Device) on (λ lines. HeardSo (Some F.Device) on.mid lines later) on.ran.0 on.ran.1 on.ran.2 (λ so. absurd (still so refl)) on.ran.3
+  ran_stops (Err F.Log) still on = came_stops F.Log on on.ran
+  ran_stops (Err F.Memory) still on = came_stops F.Memory on on.ran
 
-  file_stops : (r : Result Ending Unprinted) → SessionFile limit input old now told before after logs later r → OpensToTurn (session_options limit) (seen old) → StopsOfSession limit input old now told before after
-  file_stops _ (file_unopened halt opened safe same heard) opens = unbegun_stops opens.can_open safe same
-  file_stops _ (session_ran answer on) opens = ran_stops answer on
+  file_stops : (r : Result Ending Unprinted) → (sound → ending_of r ≡ DeviceFault → ⊥) → SessionFile limit input old now told before after logs later r → OpensToTurn (session_options limit) (seen old)
+      → StopsOfSession limit input old now told sound before after
+  file_stops _ still (file_unopened halt opened safe same heard) opens =
+      unbegun_stops opens.can_open safe (λ so. halted_same (session_options limit) old now halt (λ is. still so (ap of_halt is)) opened) same
+  file_stops _ still (session_ran answer on) opens = ran_stops answer still on
 
 -- what is held at the name of its file
-pub held_served : (limit : ℕ) (input : Input) (told : Bool) (before after : List ℕ) (logs later : List Logged) (r : Result Ending Unprinted) (held given : Option History) → SessionHeld limit input held given told before after logs later r
-    → StopsServed limit input held given told before after
-held_served limit input told before after logs later r held given served old there opens =
-    let at = subst (λ o. SessionHeld limit input o given told before after logs later r) there served in (at.0, at.1, file_stops limit input old at.0 told before after logs later r at.2 opens)
+pub held_served : (limit : ℕ) (input : Input) (told : Bool) (sound : Type 0) (before after : List ℕ) (logs later : List Logged) (r : Result Ending Unprinted) → (sound → ending_of r ≡ DeviceFault → ⊥) → (held given : Option History)
+    → SessionHeld limit input held given told before after logs later r → StopsServed limit input held given told sound before after
+held_served limit input told sound before after logs later r still held given served old there opens =
+    let at = subst (λ o. SessionHeld limit input o given told before after logs later r) there served in (at.0, at.1, file_stops limit input old at.0 told sound before after logs later r still at.2 opens)

@@ -75,7 +75,7 @@ fn play_some<D: Disk, K: Sink, L: Logs>(
     ensures ran { Ran D.tells K.tells (scene world.old (D.history disk.old) (D.size disk.old) (D.faults disk.old) (K.written output.old) (L.logs logs.old))
         (scene world.new (D.history disk.new) (D.size disk.new) (D.faults disk.new) (K.written output.new) (L.logs logs.new)) plays.now result }
     ensures stops { StopsTold D.tells K.tells (scene world.old (D.history disk.old) (D.size disk.old) (D.faults disk.old) (K.written output.old) (L.logs logs.old))
-        (scene world.new (D.history disk.new) (D.size disk.new) (D.faults disk.new) (K.written output.new) (L.logs logs.new)) result }
+        (scene world.new (D.history disk.new) (D.size disk.new) (D.faults disk.new) (K.written output.new) (L.logs logs.new)) plays.now result }
     ensures cause { HasCause (K.faults output.old) (K.faults output.new) result }
 {
     let mut report = TurnReport::new(alloc);
@@ -98,7 +98,7 @@ fn play_each<D: Disk, K: Sink, L: Logs>(
     ensures ran { Ran D.tells K.tells (scene world.old (D.history disk.old) (D.size disk.old) (D.faults disk.old) (K.written output.old) (L.logs logs.old))
         (scene world.new (D.history disk.new) (D.size disk.new) (D.faults disk.new) (K.written output.new) (L.logs logs.new)) plays.now result }
     ensures stops { StopsTold D.tells K.tells (scene world.old (D.history disk.old) (D.size disk.old) (D.faults disk.old) (K.written output.old) (L.logs logs.old))
-        (scene world.new (D.history disk.new) (D.size disk.new) (D.faults disk.new) (K.written output.new) (L.logs logs.new)) result }
+        (scene world.new (D.history disk.new) (D.size disk.new) (D.faults disk.new) (K.written output.new) (L.logs logs.new)) plays.now result }
     ensures cause { HasCause (K.faults output.old) (K.faults output.new) result }
 {
     for i in 0..plays.len() {
@@ -145,7 +145,7 @@ fn play_in<D: Disk, K: Sink, L: Logs>(
     ensures rises { D.faults disk.old ≤ D.faults disk.new }
     ensures quiet { UnlessBroken result (D.faults disk.new ≡ D.faults disk.old) }
     ensures rose { IsTrue D.tells → (state : State) → IsJustLoaded world.old (D.history disk.old) state → OnBroken result (Rose (D.faults disk.old) (D.faults disk.new)) }
-    ensures stops { StopsOver world.old D.tells K.tells (result ≡ Ok (Ok tt)) (D.history disk.old) (D.history disk.new) (K.written output.old) (K.written output.new) }
+    ensures stops { StopsOver world.old D.tells K.tells plays.now (result ≡ Ok (Ok tt)) (Rose (D.faults disk.old) (D.faults disk.new) → ⊥) (D.history disk.old) (D.history disk.new) (K.written output.old) (K.written output.new) }
     ensures cause { HasCause (K.faults output.old) (K.faults output.new) result }
 {
     match play_each(alloc, world, disk, plays, output, logs)? {
@@ -173,7 +173,7 @@ pub(crate) fn play_all<D: Disk, K: Sink, L: Logs>(
     ensures quiet { UnlessBroken result (D.faults disk.new ≡ D.faults disk.old) }
     ensures rose { IsTrue D.tells → (state : State) → IsJustLoaded world (D.history disk.old) state → OnBroken result (Rose (D.faults disk.old) (D.faults disk.new)) }
     ensures stops { IsTrue D.tells → (state : State) → IsJustLoaded world (D.history disk.old) state
-        → StopsOfTurns (form_at world) (options_at world) (D.history disk.old) (D.history disk.new) K.tells (result ≡ Ok (Ok tt)) (K.written output.old) (K.written output.new) }
+        → StopsOfTurns (form_at world) (options_at world) plays.now (D.history disk.old) (D.history disk.new) K.tells (result ≡ Ok (Ok tt)) (Rose (D.faults disk.old) (D.faults disk.new) → ⊥) (K.written output.old) (K.written output.new) }
     ensures cause { HasCause (K.faults output.old) (K.faults output.new) result }
 {
     let played = play_in(alloc, &mut world, disk, plays, output, logs);

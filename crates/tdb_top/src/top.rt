@@ -6,7 +6,7 @@ ghost use Rattle.tdb_top.specs.declared.ending.Ending.TheVariants.{Replied, Usag
 ghost use Rattle.tdb_top.specs.declared.ending.Reply.TheVariants.{Played};
 ghost use Rattle.tdb_plays.specs.declared.options.Options.{Options};
 ghost use Rattle.tdb_ask.specs.Ask.{ask_of};
-ghost use Rattle.tdb_disk.specs.Count.{HasCause};
+ghost use Rattle.tdb_disk.specs.Count.{HasCause, Rose};
 ghost use Rattle.tdb_top.specs.declared.ending.Ending.{Ending as EndingIs};
 ghost use Rattle.tdb_top.specs.Ending.{CountedAsked, PrintedFor};
 ghost use Rattle.tdb_top.specs.Output.{output_by};
@@ -21,7 +21,7 @@ ghost use Rattle.tdb_top.specs.Printed.{TextBefore, ask_tells, Finishes};
 ghost use Rattle.tdb_top.specs.Reads.{ask_reads};
 ghost use Rattle.tdb_top.specs.Run.{run_by, MayEnd, Answered, RefusesExactly, LeavesFiles, LogsAreTold, Accounted};
 ghost use Rattle.tdb_top.specs.SessionStops.{SessionsStopSafely};
-ghost use Rattle.tdb_top.specs.Stops.{StopsHeld, TurnsStopSafely};
+ghost use Rattle.tdb_top.specs.Stops.{StopsScripted, TurnsStopSafely};
 
 use crate::answering::answer_ask;
 use crate::ending::{Ending, Status, Unprinted, print};
@@ -52,7 +52,7 @@ fn answer<F: Files, S: Source, K: Sink, L: Logs>(
     ensures played { (options : Options) (name : List ℕ) → ask_of (map string_bytes words.now) ≡ Some (record { file = name; task = TurnsIs options }) → IsTrue F.D.tells → result ≡ Ok (Replied Played)
         → AllPlayed options (input_by S.tells (S.left input.old) (S.faults input.old) (S.faults input.new)) (output_by K.tells (K.written output.old) (K.written output.new) (K.faults output.old) (K.faults output.new)) (L.logs logs.old) (L.logs logs.new) (F.held files.old name) (F.held files.new name) }
     ensures stops { (options : Options) (name : List ℕ) → ask_of (map string_bytes words.now) ≡ Some (record { file = name; task = TurnsIs options }) → IsTrue F.D.tells
-        → StopsHeld options (F.held files.old name) (F.held files.new name) K.tells (result ≡ Ok (Replied Played)) (K.written output.old) (K.written output.new) }
+        → StopsScripted (input_by S.tells (S.left input.old) (S.faults input.old) (S.faults input.new)) options (F.held files.old name) (F.held files.new name) K.tells (result ≡ Ok (Replied Played)) (Rose (F.faults files.old) (F.faults files.new) → ⊥) (K.written output.old) (K.written output.new) }
     ensures served { (limit : ℕ) (name : List ℕ) → ask_of (map string_bytes words.now) ≡ Some (record { file = name; task = SessionIs limit }) → IsTrue F.D.tells
         → SessionHeld limit (input_by S.tells (S.left input.old) (S.faults input.old) (S.faults input.new)) (F.held files.old name) (F.held files.new name) K.tells (K.written output.old) (K.written output.new) (L.logs logs.old) (L.logs logs.new) result }
     ensures usage { ending_of result ≡ Usage → ask_of (map string_bytes words.now) ≡ None }
@@ -162,11 +162,12 @@ pub fn run<F: Files, S: Source, K: Sink, L: Logs>(
     ensures left { IsTrue F.D.tells → LeavesFiles (run_by words.now (F.held files.old) (F.held files.new) (F.faults files.old) (F.faults files.new) (input_by S.tells (S.left input.old) (S.faults input.old) (S.faults input.new)) (output_by K.tells (K.written output.old) (K.written output.new) (K.faults output.old) (K.faults output.new)) result.0) (L.logs logs.old) (L.logs logs.new) }
 
     // A stop at any moment of a run of turns leaves a file that opens to a map that their report passes, while nothing is
-    // changed outside a transaction.
+    // changed outside a transaction. Unless a call of the files failed, that report tells the plays of the script as far
+    // as they came, and leads to the file that is left.
     ensures stops { IsTrue F.D.tells → TurnsStopSafely (run_by words.now (F.held files.old) (F.held files.new) (F.faults files.old) (F.faults files.new) (input_by S.tells (S.left input.old) (S.faults input.old) (S.faults input.new)) (output_by K.tells (K.written output.old) (K.written output.new) (K.faults output.old) (K.faults output.new)) result.0) }
 
     // A stop at any moment of a session leaves a file that opens to a map that its replies pass, while nothing is changed
-    // outside a transaction.
+    // outside a transaction. Unless a call of the files failed, these lead to the file that is left.
     ensures stopped { IsTrue F.D.tells → SessionsStopSafely (run_by words.now (F.held files.old) (F.held files.new) (F.faults files.old) (F.faults files.new) (input_by S.tells (S.left input.old) (S.faults input.old) (S.faults input.new)) (output_by K.tells (K.written output.old) (K.written output.new) (K.faults output.old) (K.faults output.new)) result.0) }
 
     // The last log is told what becomes of the files, up to a notice that it refuses.

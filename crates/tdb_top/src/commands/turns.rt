@@ -1,7 +1,7 @@
 // The command that takes the plays of a script over a file, and prints their report.
 
 ghost use Rattle.std.specs.Prelude.{◌≡◌, ◌≤◌, ◌&&◌, ℕ, List, Ok, false, IsTrue};
-ghost use Rattle.tdb_disk.specs.Count.{HasCause};
+ghost use Rattle.tdb_disk.specs.Count.{HasCause, Rose};
 ghost use Rattle.tdb_disk.specs.History.{seen};
 ghost use Rattle.tdb_disk.specs.Names.{SameBut};
 ghost use Rattle.tdb_space.specs.Form.{form_of};
@@ -19,7 +19,7 @@ ghost use Rattle.tdb_open.specs.Opening.{opened_bytes};
 ghost use Rattle.tdb_top.specs.Output.{output_by};
 ghost use Rattle.tdb_top.specs.Playing.{PlayedFile, PlayedAll, PlaysCause};
 ghost use Rattle.tdb_top.specs.Reads.{AskCause};
-ghost use Rattle.tdb_top.specs.Stops.{StopsHeld, StopsOfTurns};
+ghost use Rattle.tdb_top.specs.Stops.{StopsHeld, StopsOfTurns, StopsScripted};
 
 use crate::ending::{Ending, Reply, Unprinted};
 use crate::playing::play_all;
@@ -44,7 +44,7 @@ fn play_on_disk<D: Disk, K: Sink, L: Logs>(
     requires playable { ArePlayable plays.now }
     ensures played { IsTrue D.tells → PlayedFile options.now (D.history disk.old) (D.history disk.new) plays.now K.tells (K.written output.old) (K.written output.new) (L.logs logs.old) (L.logs logs.new) result }
     ensures stops { IsTrue D.tells → OpensToTurn options.now (seen (D.history disk.old))
-        → StopsOfTurns (form_of (opened_bytes (seen (D.history disk.old)))) options.now (D.history disk.old) (D.history disk.new) K.tells (result ≡ Ok (Replied Played)) (K.written output.old) (K.written output.new) }
+        → StopsOfTurns (form_of (opened_bytes (seen (D.history disk.old)))) options.now plays.now (D.history disk.old) (D.history disk.new) K.tells (result ≡ Ok (Replied Played)) (Rose (D.faults disk.old) (D.faults disk.new) → ⊥) (K.written output.old) (K.written output.new) }
     ensures counted { CountedIf D.tells (D.faults disk.old) (D.faults disk.new) (ending_of result) }
     ensures cause { HasCause (K.faults output.old) (K.faults output.new) result }
     ensures asked { ending_of result ≡ Usage → ⊥ }
@@ -77,7 +77,7 @@ fn play_on_file<F: Files, K: Sink, L: Logs>(
     requires free { (other : List ℕ) → F.is_taken files.old other ≡ false }
     ensures cause { IsTrue F.D.tells → PlaysCause options.now name.now (F.held files.old name.now) (F.faults files.old) (F.faults files.new) (ending_of result) }
     ensures left { IsTrue F.D.tells → T.TurnsLeave options.now (F.held files.old name.now) (ending_of result) (F.held files.new name.now) }
-    ensures stops { IsTrue F.D.tells → StopsHeld options.now (F.held files.old name.now) (F.held files.new name.now) K.tells (result ≡ Ok (Replied Played)) (K.written output.old) (K.written output.new) }
+    ensures stops { IsTrue F.D.tells → StopsHeld options.now plays.now (F.held files.old name.now) (F.held files.new name.now) K.tells (result ≡ Ok (Replied Played)) (Rose (F.faults files.old) (F.faults files.new) → ⊥) (K.written output.old) (K.written output.new) }
     ensures others { SameBut name.now (F.held files.old) (F.held files.new) }
     ensures given_back { (other : List ℕ) → F.is_taken files.new other ≡ false }
     ensures counted { CountedIf F.D.tells (F.faults files.old) (F.faults files.new) (ending_of result) }
@@ -118,7 +118,7 @@ pub(crate) fn turns_on_file<F: Files, S: Source, K: Sink, L: Logs>(
     requires free { (other : List ℕ) → F.is_taken files.old other ≡ false }
     ensures cause { IsTrue F.D.tells → AskCause (input_by S.tells (S.left input.old) (S.faults input.old) (S.faults input.new)) (Turns options.now) name.now (F.held files.old name.now) (F.faults files.old) (F.faults files.new) (ending_of result) }
     ensures left { IsTrue F.D.tells → T.TurnsLeave options.now (F.held files.old name.now) (ending_of result) (F.held files.new name.now) }
-    ensures stops { IsTrue F.D.tells → StopsHeld options.now (F.held files.old name.now) (F.held files.new name.now) K.tells (result ≡ Ok (Replied Played)) (K.written output.old) (K.written output.new) }
+    ensures stops { IsTrue F.D.tells → StopsScripted (input_by S.tells (S.left input.old) (S.faults input.old) (S.faults input.new)) options.now (F.held files.old name.now) (F.held files.new name.now) K.tells (result ≡ Ok (Replied Played)) (Rose (F.faults files.old) (F.faults files.new) → ⊥) (K.written output.old) (K.written output.new) }
     ensures others { SameBut name.now (F.held files.old) (F.held files.new) }
     ensures given_back { (other : List ℕ) → F.is_taken files.new other ≡ false }
     ensures counted { CountedIf F.D.tells (F.faults files.old) (F.faults files.new) (ending_of result) }

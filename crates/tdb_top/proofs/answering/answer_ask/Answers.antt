@@ -1,17 +1,22 @@
-use Rattle.std.proofs.Common.{◌∷◌, ℕ, List, string_bytes, sym, subst, inl}
+use Rattle.std.proofs.Common.{◌≡◌, ◌∷◌, ℕ, List, Ok, string_bytes, sym, ◌∙◌, subst, inl}
 use Rattle.std.specs.Prelude.{IsTrue}
+use Rattle.tdb_disk.specs.Count.{Rose}
+use Rattle.tdb_plays.specs.declared.options.Options.{Options}
 use Rattle.tdb_top.specs.Commands.Create.{CreateCause, CreateLeaves}
 use Rattle.tdb_top.specs.Ending.{MadeSo}
 use Rattle.tdb_top.specs.Input.{input_by}
 use Rattle.tdb_top.specs.Reads.{AskEnds, GenCause}
 use Rattle.tdb_top.specs.Left.{TaskLeaves}
 use Rattle.tdb_top.specs.Commands.Backup.{BackupCause}
-use Rattle.tdb_ask.specs.declared.ask.Task.TheVariants.{Verify}
+use Rattle.tdb_ask.specs.declared.ask.Task.TheVariants.{Turns, Verify}
+use Rattle.tdb_top.specs.declared.ending.Ending.TheVariants.{Replied}
+use Rattle.tdb_top.specs.declared.ending.Reply.TheVariants.{Played}
 use Rattle.tdb_top.specs.Commands.Generate.{GenHeard}
 use Rattle.tdb_top.specs.Commands.Verify.{VerifyText, VerifyCause}
 use Rattle.tdb_top.specs.Looks.{ending_of, Began}
 use Rattle.tdb_top.specs.Printed.{TaskText, task_tells}
 use Rattle.tdb_top.specs.Heard.{TaskHeard, VerifyHeard}
+use Rattle.tdb_top.specs.Stops.{StopsScripted}
 use Rattle.tdb_top.proofs.Looking.{began_as}
 use Rattle.tdb_top.proofs.Acting.{made_cause, made_left, backup_ends, verify_ends, gen_ends}
 use Rattle.tdb_top.proofs.answering.answer_ask.Goals as goal
@@ -109,3 +114,12 @@ returns-in-Generate-clause-told g c told =
     let later = g.L.Logs.logs c.generate_file.new.logs in
     subst (λ t. TaskHeard t (string_bytes c.args.ask.now.file) held now e logs later) (sym c.in-Generate.is)
     (subst (λ n. GenHeard c.in-Generate.commands c.in-Generate.seed (now n) e logs later) c.as_str-name.ensures.value (c.generate_file.ensures.told told))
+
+-- what stops leave of a file of turns
+pub returns-in-Turns-clause-stops : goal.returns-in-Turns-clause-stops
+returns-in-Turns-clause-stops g c options is told =
+    let input = input_by g.S.Source.tells (g.S.Source.left c.args.input.now) (g.S.Source.faults c.args.input.now) (g.S.Source.faults c.turns_on_file.new.input) in
+    let same : c.in-Turns.options ≡ options = (let one : Turns c.in-Turns.options ≡ Turns options = sym c.in-Turns.is ∙ is in cc) in
+    subst (λ (q : List ℕ × Options). StopsScripted input q.1 (g.F.Files.held c.args.files.now q.0) (g.F.Files.held c.turns_on_file.new.files q.0) g.K.Sink.tells (c.turns_on_file.result ≡ Ok (Replied Played))
+    (Rose (g.F.Files.faults c.args.files.now) (g.F.Files.faults c.turns_on_file.new.files) → ⊥) (g.K.Sink.written c.args.output.now) (g.K.Sink.written c.turns_on_file.new.output))
+    (λ j. (c.as_str-name.ensures.value j, same j)) (c.turns_on_file.ensures.stops told)

@@ -1,11 +1,12 @@
-use Rattle.std.proofs.Common.{◌≡◌, ◌+◌, ◌-◌, ◌∙◌, take, drop, Ok, Err, refl, ap, subst}
+use Rattle.std.proofs.Common.{◌≡◌, ◌+◌, ◌-◌, ◌++◌, ◌∙◌, List, take, drop, Ok, Err, refl, ap, subst}
 use Rattle.std.proofs.lemmas.List.{take_all}
 use Rattle.std.proofs.lemmas.Result.{err_from_is_err_and}
 use Rattle.tdb_space.specs.Form.{form_in}
+use Rattle.tdb_plays.specs.declared.play.Play.{Play}
 use Rattle.tdb_course.specs.Scene.{Scene, scene}
 use Rattle.tdb_top.specs.Playing.{Ran, PlaysEnd}
 use Rattle.tdb_top.specs.Stops.{StopsTold}
-use Rattle.tdb_top.proofs.Stopping.{stops_none, stops_on}
+use Rattle.tdb_top.proofs.Stopping.{stops_none, stops_on, stops_more}
 use Rattle.tdb_top.proofs.Coming.{ran_none, ran_on, ran_off, next_slice, slice_more}
 use Rattle.tdb_top.proofs.playing.play_each.Goals as goal
 use Rattle.tdb_top.proofs.playing.play_each.Goals.{After-play_some}
@@ -38,31 +39,46 @@ mid g c = scene c.loop-i.world (g.D.Disk.history c.loop-i.disk) (g.D.Disk.size c
 abbrev last : (g : _) (c : After-play_some g) → Scene
 last g c = scene c.play_some.new.world (g.D.Disk.history c.play_some.new.disk) (g.D.Disk.size c.play_some.new.disk) (g.D.Disk.faults c.play_some.new.disk) (g.K.Sink.written c.play_some.new.output) (g.L.Logs.logs c.play_some.new.logs)
 
+-- the next one
+abbrev next : (g : _) (c : After-play_some g) → List Play
+next g c = take (c.loop-i.i + 1 - c.loop-i.i) (drop c.loop-i.i c.args.plays.now)
+
 -- they broke off
 broken : (g : _) (c : After-play_some g) (answer : PlaysEnd) → (answer ≡ Ok (Ok tt) → ⊥)
-    → Ran g.D.Disk.tells g.K.Sink.tells (mid g c) (last g c) (take (c.loop-i.i + 1 - c.loop-i.i) (drop c.loop-i.i c.args.plays.now)) answer → Ran g.D.Disk.tells g.K.Sink.tells (start g c) (last g c) c.args.plays.now answer
-broken g c answer other next =
+    → Ran g.D.Disk.tells g.K.Sink.tells (mid g c) (last g c) (next g c) answer → Ran g.D.Disk.tells g.K.Sink.tells (start g c) (last g c) c.args.plays.now answer
+broken g c answer other more =
     subst (λ ps. Ran g.D.Disk.tells g.K.Sink.tells (start g c) (last g c) ps answer) (next_slice c.args.plays.now c.loop-i.i)
-    (ran_off g.D.Disk.tells g.K.Sink.tells (start g c) (mid g c) (last g c) (take c.loop-i.i c.args.plays.now) (take (c.loop-i.i + 1 - c.loop-i.i) (drop c.loop-i.i c.args.plays.now)) c.loop-i.invariant.ran (drop (c.loop-i.i + 1) c.args.plays.now) answer other next)
+    (ran_off g.D.Disk.tells g.K.Sink.tells (start g c) (mid g c) (last g c) (take c.loop-i.i c.args.plays.now) (next g c) c.loop-i.invariant.ran (drop (c.loop-i.i + 1) c.args.plays.now) answer other more)
 
--- what stops leave of them
-stopped : (g : _) (c : After-play_some g) (answer : PlaysEnd) → StopsTold g.D.Disk.tells g.K.Sink.tells (mid g c) (last g c) answer
-    → StopsTold g.D.Disk.tells g.K.Sink.tells (start g c) (last g c) answer
-stopped g c answer next = stops_on g.D.Disk.tells g.K.Sink.tells (start g c) (mid g c) (last g c) (ap form_in c.loop-i.invariant.ran.header) answer c.loop-i.invariant.stops next
+-- what stops leave of them, up to the next one
+stopped : (g : _) (c : After-play_some g) (answer : PlaysEnd) → StopsTold g.D.Disk.tells g.K.Sink.tells (mid g c) (last g c) (next g c) answer
+    → StopsTold g.D.Disk.tells g.K.Sink.tells (start g c) (last g c) (take c.loop-i.i c.args.plays.now ++ next g c) answer
+stopped g c answer more =
+    stops_on g.D.Disk.tells g.K.Sink.tells (start g c) (mid g c) (last g c) (take c.loop-i.i c.args.plays.now) (next g c) (ap form_in c.loop-i.invariant.ran.header) answer c.loop-i.invariant.stops more
+
+-- and where they broke off
+stopped_off : (g : _) (c : After-play_some g) (answer : PlaysEnd) → (answer ≡ Ok (Ok tt) → ⊥) → StopsTold g.D.Disk.tells g.K.Sink.tells (mid g c) (last g c) (next g c) answer
+    → StopsTold g.D.Disk.tells g.K.Sink.tells (start g c) (last g c) c.args.plays.now answer
+stopped_off g c answer other more =
+    subst (λ ps. StopsTold g.D.Disk.tells g.K.Sink.tells (start g c) (last g c) ps answer) (next_slice c.args.plays.now c.loop-i.i)
+    (stops_more g.D.Disk.tells g.K.Sink.tells (start g c) (last g c) (take c.loop-i.i c.args.plays.now ++ next g c) (drop (c.loop-i.i + 1) c.args.plays.now) answer other (stopped g c answer more))
 
 pub returns-in_err-play_some-clause-stops : goal.returns-in_err-play_some-clause-stops
 returns-in_err-play_some-clause-stops g c =
     let q = err_from_is_err_and c.from_residual.result c.from_residual.ensures.1 in
     rw (q.1, q.2)
-    (stopped g ((goal.at.returns-in_err-play_some-clause-stops g c).After-play_some) (Err c.in_err-play_some.field-0.0) c.in_err-play_some.ensures.stops)
+    (stopped_off g ((goal.at.returns-in_err-play_some-clause-stops g c).After-play_some) (Err c.in_err-play_some.field-0.0) (λ is. cc) c.in_err-play_some.ensures.stops)
 
 pub returns-in-Err-clause-stops : goal.returns-in-Err-clause-stops
 returns-in-Err-clause-stops g c =
     let a = (goal.at.returns-in-Err-clause-stops g c).After-play_some in
-    stopped g a (Ok (Err c.in-Err.fault)) (subst (λ r. StopsTold g.D.Disk.tells g.K.Sink.tells (mid g a) (last g a) (Ok r)) c.in-Err.is c.in_ok-play_some.ensures.stops)
+    stopped_off g a (Ok (Err c.in-Err.fault)) (λ is. cc) (subst (λ r. StopsTold g.D.Disk.tells g.K.Sink.tells (mid g a) (last g a) (next g a) (Ok r)) c.in-Err.is c.in_ok-play_some.ensures.stops)
 
 pub returns-clause-stops : goal.returns-clause-stops
-returns-clause-stops g c = c.loop-i.invariant.stops
+returns-clause-stops g c =
+    subst (λ ps. StopsTold g.D.Disk.tells g.K.Sink.tells (scene c.args.world.now (g.D.Disk.history c.args.disk.now) (g.D.Disk.size c.args.disk.now) (g.D.Disk.faults c.args.disk.now) (g.K.Sink.written c.args.output.now) (g.L.Logs.logs c.args.logs.now))
+    (scene c.loop-i.world (g.D.Disk.history c.loop-i.disk) (g.D.Disk.size c.loop-i.disk) (g.D.Disk.faults c.loop-i.disk) (g.K.Sink.written c.loop-i.output) (g.L.Logs.logs c.loop-i.logs)) ps (Ok (Ok tt)))
+    (take_all c.loop-i.i c.args.plays.now c.loop-i-test.false) c.loop-i.invariant.stops
 
 pub returns-in_err-play_some-clause-ran : goal.returns-in_err-play_some-clause-ran
 returns-in_err-play_some-clause-ran g c =
@@ -74,7 +90,7 @@ pub returns-in-Err-clause-ran : goal.returns-in-Err-clause-ran
 returns-in-Err-clause-ran g c =
     let a = (goal.at.returns-in-Err-clause-ran g c).After-play_some in
     broken g a (Ok (Err c.in-Err.fault)) (λ is. cc)
-    (subst (λ r. Ran g.D.Disk.tells g.K.Sink.tells (mid g a) (last g a) (take (c.loop-i.i + 1 - c.loop-i.i) (drop c.loop-i.i c.args.plays.now)) (Ok r)) c.in-Err.is c.in_ok-play_some.ensures.ran)
+    (subst (λ r. Ran g.D.Disk.tells g.K.Sink.tells (mid g a) (last g a) (next g a) (Ok r)) c.in-Err.is c.in_ok-play_some.ensures.ran)
 
 -- the next one was taken
 pub loop-i-preserved : goal.loop-i-preserved
@@ -82,8 +98,9 @@ loop-i-preserved g c =
     let a = (goal.at.loop-i-preserved g c).After-play_some in
     record {
       ran = subst (λ ps. Ran g.D.Disk.tells g.K.Sink.tells (start g a) (last g a) ps (Ok (Ok tt))) (slice_more c.args.plays.now c.loop-i.i)
-          (ran_on g.D.Disk.tells g.K.Sink.tells (start g a) (mid g a) (last g a) (take c.loop-i.i c.args.plays.now) (take (c.loop-i.i + 1 - c.loop-i.i) (drop c.loop-i.i c.args.plays.now)) c.loop-i.invariant.ran
-          (subst (λ r. Ran g.D.Disk.tells g.K.Sink.tells (mid g a) (last g a) (take (c.loop-i.i + 1 - c.loop-i.i) (drop c.loop-i.i c.args.plays.now)) (Ok r)) c.in-Ok.is c.in_ok-play_some.ensures.ran));
-      stops = stopped g a (Ok (Ok tt)) (subst (λ r. StopsTold g.D.Disk.tells g.K.Sink.tells (mid g a) (last g a) (Ok r)) c.in-Ok.is c.in_ok-play_some.ensures.stops);
+          (ran_on g.D.Disk.tells g.K.Sink.tells (start g a) (mid g a) (last g a) (take c.loop-i.i c.args.plays.now) (next g a) c.loop-i.invariant.ran
+          (subst (λ r. Ran g.D.Disk.tells g.K.Sink.tells (mid g a) (last g a) (next g a) (Ok r)) c.in-Ok.is c.in_ok-play_some.ensures.ran));
+      stops = subst (λ ps. StopsTold g.D.Disk.tells g.K.Sink.tells (start g a) (last g a) ps (Ok (Ok tt))) (slice_more c.args.plays.now c.loop-i.i)
+          (stopped g a (Ok (Ok tt)) (subst (λ r. StopsTold g.D.Disk.tells g.K.Sink.tells (mid g a) (last g a) (next g a) (Ok r)) c.in-Ok.is c.in_ok-play_some.ensures.stops));
       out = c.in_ok-play_some.ensures.cause.done ∙ c.loop-i.invariant.out;
     }

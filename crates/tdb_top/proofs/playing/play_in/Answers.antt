@@ -12,7 +12,7 @@ use Rattle.tdb_course.proofs.Finishing.{report_lawful, ends_alike}
 use Rattle.tdb_open.specs.Loading.{IsJustLoaded}
 use Rattle.tdb_course.specs.Scene.{Scene, scene}
 use Rattle.tdb_top.specs.Playing.{PlaysEnd, UnlessBroken, OnBroken, RunsTo, PlayedOver}
-use Rattle.tdb_top.proofs.Coming.{unless_map}
+use Rattle.tdb_top.proofs.Coming.{unless_map, on_map}
 use Rattle.tdb_top.proofs.Over.{broken_off, finished}
 use Rattle.tdb_top.proofs.Stopping.{only_unfinished, stops_broken, stops_finished}
 use Rattle.tdb_top.proofs.playing.play_in.Goals as goal
@@ -81,22 +81,29 @@ start g c = scene c.args.world.now (g.D.Disk.history c.args.disk.now) (g.D.Disk.
 abbrev last : (g : _) (c : After-play_each g) → Scene
 last g c = scene c.play_each.new.world (g.D.Disk.history c.play_each.new.disk) (g.D.Disk.size c.play_each.new.disk) (g.D.Disk.faults c.play_each.new.disk) (g.K.Sink.written c.play_each.new.output) (g.L.Logs.logs c.play_each.new.logs)
 
+-- where no call of the disk failed they didn't break off by one
+abbrev Sound : (g : _) (c : After-play_each g) → Type 0
+Sound g c = Rose (g.D.Disk.faults c.args.disk.now) (g.D.Disk.faults c.play_each.new.disk) → ⊥
+
+unbroken : (g : _) (c : After-play_each g) → Sound g c → g.D.Disk.tells ≡ true → (state : State) → IsStateOf c.args.world.now (g.D.Disk.history c.args.disk.now) state → OnBroken c.play_each.result ⊥
+unbroken g c sound told state is = on_map c.play_each.result sound (c.play_each.ensures.ran.rose told state is)
+
 -- what stops leave of them
 pub returns-in_err-play_each-clause-stops : goal.returns-in_err-play_each-clause-stops
 returns-in_err-play_each-clause-stops g c =
     let a = (goal.at.returns-in_err-play_each-clause-stops g c).After-play_each in
     let q = err_from_is_err_and c.from_residual.result c.from_residual.ensures.1 in
-    stops_broken g.D.Disk.tells g.K.Sink.tells (start g a) (last g a) c.play_each.result c.play_each.ensures.stops _ (λ is. (let wrong : Err q.0 ≡ Ok (Ok tt) = sym q.1 ∙ is in cc))
+    stops_broken g.D.Disk.tells g.K.Sink.tells (start g a) (last g a) c.args.plays.now c.play_each.result c.play_each.ensures.stops _ (Sound g a) (is_read g a) (unbroken g a) (λ is. (let wrong : Err q.0 ≡ Ok (Ok tt) = sym q.1 ∙ is in cc))
 
 pub returns-in-Err-clause-stops : goal.returns-in-Err-clause-stops
 returns-in-Err-clause-stops g c =
     let a = (goal.at.returns-in-Err-clause-stops g c).After-play_each in
     let answer : PlaysEnd = Ok (Err c.in-Err.fault) in
-    stops_broken g.D.Disk.tells g.K.Sink.tells (start g a) (last g a) c.play_each.result c.play_each.ensures.stops (answer ≡ Ok (Ok tt)) (λ is. cc)
+    stops_broken g.D.Disk.tells g.K.Sink.tells (start g a) (last g a) c.args.plays.now c.play_each.result c.play_each.ensures.stops (answer ≡ Ok (Ok tt)) (Sound g a) (is_read g a) (unbroken g a) (λ is. cc)
 
 pub returns-in-Ok-clause-stops : goal.returns-in-Ok-clause-stops
 returns-in-Ok-clause-stops g c =
     let a = (goal.at.returns-in-Ok-clause-stops g c).After-play_each in
     let e = c.tell_unfinished.ensures.told in
-    stops_finished g.D.Disk.tells g.K.Sink.tells (start g a) (last g a) c.play_each.result c.play_each.ensures.stops (c.tell_unfinished.result ≡ Ok (Ok tt)) e.lines (g.K.Sink.written c.tell_unfinished.new.output)
+    stops_finished g.D.Disk.tells g.K.Sink.tells (start g a) (last g a) c.args.plays.now c.play_each.result c.play_each.ensures.stops (c.tell_unfinished.result ≡ Ok (Ok tt)) (Sound g a) (is_read g a) (unbroken g a) e.lines (g.K.Sink.written c.tell_unfinished.new.output)
     (only_unfinished c.play_each.new.world 0 (length c.play_each.new.world.openers.openers) e.lines e.is_end) (c.in_ok-play_each.was ∙ ap Ok c.in-Ok.is) e.whole e.front

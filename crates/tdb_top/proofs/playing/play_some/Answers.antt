@@ -33,7 +33,7 @@ returns-clause-stops g c =
     let logs = g.L.Logs.logs c.args.logs.now in
     let later = g.L.Logs.logs c.run-played.new.logs in
     subst (StopsTold g.D.Disk.tells g.K.Sink.tells (scene a (g.D.Disk.history old) (g.D.Disk.size old) (g.D.Disk.faults old) w0 logs)
-    (scene b (g.D.Disk.history now) (g.D.Disk.size now) (g.D.Disk.faults now) w1 later)) (sym c.ended.ensures)
+    (scene b (g.D.Disk.history now) (g.D.Disk.size now) (g.D.Disk.faults now) w1 later) c.args.plays.now) (sym c.ended.ensures)
     (stops_of g.D.Disk.tells g.K.Sink.tells a b (g.D.Disk.history old) (g.D.Disk.history now) (g.D.Disk.size old) (g.D.Disk.size now) (g.D.Disk.faults old) (g.D.Disk.faults now)
     c.new-report.result.lines c.run-played.new.report.lines c.new-report.ensures
-    w0 w1 logs later c.run-played.result c.tell-told.result c.run-played.ensures.stops c.tell-told.ensures.whole c.tell-told.ensures.front)
+    c.args.plays.now w0 w1 logs later c.run-played.result c.tell-told.result c.run-played.ensures.led c.run-played.ensures.stops c.tell-told.ensures.whole c.tell-told.ensures.front)

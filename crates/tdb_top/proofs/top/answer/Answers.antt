@@ -1,5 +1,6 @@
 use Rattle.std.proofs.Common.{◌≡◌, Option, Some, Ok, map, string_bytes, refl, ap, ◌∙◌, subst}
 use Rattle.std.specs.Prelude.{IsTrue, unwrap_or}
+use Rattle.tdb_disk.specs.Count.{Rose}
 use Rattle.tdb_ask.specs.declared.ask.Task.TheVariants.{Turns}
 use Rattle.tdb_top.specs.declared.ending.Ending.TheVariants.{Replied, Usage, NoMemory}
 use Rattle.tdb_top.specs.declared.ending.Reply.TheVariants.{Played}
@@ -11,14 +12,14 @@ use Rattle.tdb_top.specs.Printed.{TaskText, TextBefore, ask_tells}
 use Rattle.tdb_top.specs.Run.{is_due, memory_wanting}
 use Rattle.tdb_ask.specs.Ask.{Ask, asked, ask_of}
 use Rattle.tdb_top.specs.Left.{Leaving}
-use Rattle.tdb_top.specs.Stops.{StopsHeld}
+use Rattle.tdb_top.specs.Stops.{StopsScripted}
 use Rattle.tdb_top.specs.Heard.{AskHeard}
 use Rattle.tdb_top.proofs.Acting.{words_want, not_heard}
 use Rattle.tdb_top.proofs.Hearing.{ask_unheard}
 use Rattle.tdb_top.proofs.Looking.{nothing, began_as}
 use Rattle.tdb_top.proofs.Runs.{asked_cause}
 use Rattle.tdb_top.proofs.Sessions.{wants_held}
-use Rattle.tdb_top.proofs.StopsTurning.{same_stops}
+use Rattle.tdb_top.proofs.StopsTurning.{unscripted_stops}
 use Rattle.tdb_top.proofs.Writing.{nothing_before}
 use Rattle.tdb_top.proofs.top.answer.Goals as goal
 
@@ -75,14 +76,15 @@ returns-in-Ok-Some-clause-stops g c options name asks told =
     let turns : Ask = record { file = name; task = Turns options } in
     let one : Some ask ≡ Some turns = (rw c.in-Ok-Some.field-0-is at c.in-Ok-Some.ensures.read) ∙ asks in
     let same : ask ≡ turns = ap (λ (o : Option Ask). unwrap_or o turns) one in
-    subst (λ n. StopsHeld options (g.F.Files.held c.args.files.now n) (g.F.Files.held c.answer_ask.new.files n) g.K.Sink.tells (c.answer_ask.result ≡ Ok (Replied Played))
-    (g.K.Sink.written c.args.output.now) (g.K.Sink.written c.answer_ask.new.output))
+    let input = input_by g.S.Source.tells (g.S.Source.left c.args.input.now) (g.S.Source.faults c.args.input.now) (g.S.Source.faults c.answer_ask.new.input) in
+    subst (λ n. StopsScripted input options (g.F.Files.held c.args.files.now n) (g.F.Files.held c.answer_ask.new.files n) g.K.Sink.tells (c.answer_ask.result ≡ Ok (Replied Played))
+    (Rose (g.F.Files.faults c.args.files.now) (g.F.Files.faults c.answer_ask.new.files) → ⊥) (g.K.Sink.written c.args.output.now) (g.K.Sink.written c.answer_ask.new.output))
     (ap (λ (a : Ask). a.file) same) (c.answer_ask.ensures.stops options (ap (λ (a : Ask). a.task) same) told)
 
 pub returns-in-Err-clause-stops : goal.returns-in-Err-clause-stops
 returns-in-Err-clause-stops g c options name asks told =
-    let held = g.F.Files.held c.args.files.now name in
-    same_stops options held held g.K.Sink.tells _ (g.K.Sink.written c.args.output.now) refl
+    let n = g.S.Source.faults c.args.input.now in
+    unscripted_stops (input_by g.S.Source.tells (g.S.Source.left c.args.input.now) n n) options (g.F.Files.held c.args.files.now name) g.K.Sink.tells _ _ (g.K.Sink.written c.args.output.now)
 
 -- what is heard of the input
 pub returns-in-Ok-Some-clause-unread : goal.returns-in-Ok-Some-clause-unread

@@ -1,5 +1,6 @@
 use Rattle.std.proofs.Common.{◌≡◌, true, Ok}
 use Rattle.std.specs.Prelude.{IsTrue}
+use Rattle.tdb_disk.specs.Count.{Rose}
 use Rattle.tdb_top.specs.declared.ending.Ending.TheVariants.{Replied}
 use Rattle.tdb_top.specs.declared.ending.Reply.TheVariants.{Played}
 use Rattle.tdb_top.specs.Output.{output_by}
@@ -81,20 +82,23 @@ returns-clause-stops g c told options name asks =
     let answered = c.answer-answered.result in
     let zero : r.status ≡ 0 → (answered ≡ Ok (Replied Played)) × (IsTrue g.K.Sink.tells → last ≡ text) =
     zero_played options r.input g.K.Sink.tells first text last (g.K.Sink.faults c.args.output.now) f1 f2 r.ask name r.old r.faults_before r.faults_after answered c.finish.ensures.0 c.finish.result.0
-    asks (c.answer-answered.ensures.cause told) c.finish.ensures.1 c.finish.ensures.2 in (
+    asks (c.answer-answered.ensures.cause told) c.finish.ensures.1 c.finish.ensures.2 in
+    let stops = c.answer-answered.ensures.stops options name asks told in
+    let sound : Type 0 = Rose r.faults_before r.faults_after → ⊥ in (
       text,
       line_behind g.K.Sink.tells text last f1 f2 answered c.finish.ensures.0 c.finish.result.0 c.finish.ensures.2,
       λ is. (zero is).1,
-      stops_when options (r.old name) (r.now name) g.K.Sink.tells (answered ≡ Ok (Replied Played)) (r.status ≡ 0) first text (λ is. (zero is).0) (c.answer-answered.ensures.stops options name asks told),
+      (stops.0, stops.1, stops_when options stops.0 (r.old name) (r.now name) g.K.Sink.tells (answered ≡ Ok (Replied Played)) sound (r.status ≡ 0) sound first text (λ is. (zero is).0) (λ so. so) stops.2),
     )
 
 pub returns-clause-stopped : goal.returns-clause-stopped
 returns-clause-stopped g c told limit name asks =
     let r = ran g ((goal.at.returns-clause-stopped g c).After-finish) in
+    let counted = asked_counted g.F.D.Disk.tells r.ask r.faults_before r.faults_after (ending_of c.answer-answered.result) told c.answer-answered.ensures.counted in
     let text = g.K.Sink.written c.answer-answered.new.output in (
       text,
       line_behind g.K.Sink.tells text (g.K.Sink.written c.finish.new.output) (g.K.Sink.faults c.answer-answered.new.output) (g.K.Sink.faults c.finish.new.output) c.answer-answered.result c.finish.ensures.0 c.finish.result.0 c.finish.ensures.2,
-      held_served limit r.input g.K.Sink.tells (g.K.Sink.written c.args.output.now) text (g.L.Logs.logs c.args.logs.now) (g.L.Logs.logs c.answer-answered.new.logs) c.answer-answered.result (r.old name) (r.now name) (c.answer-answered.ensures.served limit name asks told),
+      held_served limit r.input g.K.Sink.tells (Rose r.faults_before r.faults_after → ⊥) (g.K.Sink.written c.args.output.now) text (g.L.Logs.logs c.args.logs.now) (g.L.Logs.logs c.answer-answered.new.logs) c.answer-answered.result (λ sound is. sound (counted.failed is)) (r.old name) (r.now name) (c.answer-answered.ensures.served limit name asks told),
     )
 
 pub returns-clause-told : goal.returns-clause-told

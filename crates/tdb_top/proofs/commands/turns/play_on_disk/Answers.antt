@@ -1,5 +1,6 @@
-use Rattle.std.proofs.Common.{◌≡◌, ◌∙◌, [], true, Ok, Err, refl, sym, ap, subst}
+use Rattle.std.proofs.Common.{◌≡◌, ◌∙◌, ℕ, [], true, Ok, Err, refl, sym, ap, subst}
 use Rattle.std.proofs.lemmas.Result.{err_from_is_err_and}
+use Rattle.tdb_disk.specs.Count.{Rose}
 use Rattle.tdb_disk.specs.History.{seen}
 use Rattle.tdb_space.specs.Accepted.{AcceptWith}
 use Rattle.tdb_space.specs.Form.{Form, form_of}
@@ -16,7 +17,7 @@ use Rattle.tdb_top.specs.Stops.{StopsOfTurns}
 use Rattle.tdb_top.specs.Ending.{CountedIf}
 use Rattle.tdb_top.specs.Looks.{ending_of}
 use Rattle.tdb_top.proofs.Faults.{plays_counted}
-use Rattle.tdb_top.proofs.StopsTurning.{unopened_stops, opened_stops}
+use Rattle.tdb_top.proofs.StopsTurning.{halted_same, unopened_stops, opened_stops}
 use Rattle.tdb_top.proofs.commands.turns.play_on_disk.Goals as goal
 use Rattle.tdb_top.proofs.commands.turns.play_on_disk.Goals.{After-play_all}
 
@@ -82,15 +83,20 @@ returns-in-Err-Log-clause-played g c told =
 -- what stops leave where it wasn't opened
 pub returns-in-Err-clause-stops : goal.returns-in-Err-clause-stops
 returns-in-Err-clause-stops g c told opens =
-    unopened_stops c.args.options.now (g.D.Disk.history c.args.disk.now) (g.D.Disk.history c.load.new.disk) g.K.Sink.tells _ (g.K.Sink.written c.args.output.now) opens.can_open (c.in-Err.ensures.stops told)
+    unopened_stops c.args.options.now c.args.plays.now (g.D.Disk.history c.args.disk.now) (g.D.Disk.history c.load.new.disk) g.K.Sink.tells _ _ (g.K.Sink.written c.args.output.now) opens.can_open (c.in-Err.ensures.stops told)
+    (λ sound. halted_same c.args.options.now (g.D.Disk.history c.args.disk.now) (g.D.Disk.history c.load.new.disk) c.in-Err.halt (λ is. sound (c.in-Err.ensures.cause.failed is)) (c.in-Err.ensures.opened told))
 
--- and where it was
+-- and where it was; loading it made no call fail
+abbrev Sound : (g : _) (c : After-play_all g) → ℕ → Type 0
+Sound g c before = Rose before (g.D.Disk.faults c.play_all.new.disk) → ⊥
+
 stopped : (g : _) (c : After-play_all g) (done : Type 0) → (done → c.play_all.result ≡ Ok (Ok tt)) → g.D.Disk.tells ≡ true → OpensToTurn c.args.options.now (seen (g.D.Disk.history c.args.disk.now))
-    → StopsOfTurns (form_of (opened_bytes (seen (g.D.Disk.history c.args.disk.now)))) c.args.options.now (g.D.Disk.history c.args.disk.now) (g.D.Disk.history c.play_all.new.disk) g.K.Sink.tells done (g.K.Sink.written c.args.output.now) (g.K.Sink.written c.play_all.new.output)
+    → StopsOfTurns (form_of (opened_bytes (seen (g.D.Disk.history c.args.disk.now)))) c.args.options.now c.args.plays.now (g.D.Disk.history c.args.disk.now) (g.D.Disk.history c.play_all.new.disk) g.K.Sink.tells done (Sound g c (g.D.Disk.faults c.args.disk.now)) (g.K.Sink.written c.args.output.now) (g.K.Sink.written c.play_all.new.output)
 stopped g c done to told opens =
-    opened_stops c.args.options.now (g.D.Disk.history c.args.disk.now) (g.D.Disk.history c.load.new.disk) (g.D.Disk.history c.play_all.new.disk) g.K.Sink.tells done (c.play_all.result ≡ Ok (Ok tt)) (g.K.Sink.written c.args.output.now) (g.K.Sink.written c.play_all.new.output)
-    to opens.can_open (c.in-Ok.ensures.stops told) (c.in-Ok.ensures.opened told).1 (c.in-Ok.ensures.checked told).accepted
-    (of_file g c told (λ f options. StopsOfTurns f options (g.D.Disk.history c.load.new.disk) (g.D.Disk.history c.play_all.new.disk) g.K.Sink.tells (c.play_all.result ≡ Ok (Ok tt)) (g.K.Sink.written c.args.output.now) (g.K.Sink.written c.play_all.new.output))
+    let calm = Sound g c (g.D.Disk.faults c.load.new.disk) in
+    opened_stops c.args.options.now c.args.plays.now (g.D.Disk.history c.args.disk.now) (g.D.Disk.history c.load.new.disk) (g.D.Disk.history c.play_all.new.disk) g.K.Sink.tells done (Sound g c (g.D.Disk.faults c.args.disk.now)) (c.play_all.result ≡ Ok (Ok tt)) calm
+    (g.K.Sink.written c.args.output.now) (g.K.Sink.written c.play_all.new.output) to (subst (Sound g c) (sym c.in-Ok.ensures.cause.done)) opens.can_open (c.in-Ok.ensures.stops told) (c.in-Ok.ensures.opened told).1 (c.in-Ok.ensures.checked told).accepted
+    (of_file g c told (λ f options. StopsOfTurns f options c.args.plays.now (g.D.Disk.history c.load.new.disk) (g.D.Disk.history c.play_all.new.disk) g.K.Sink.tells (c.play_all.result ≡ Ok (Ok tt)) calm (g.K.Sink.written c.args.output.now) (g.K.Sink.written c.play_all.new.output))
     (c.play_all.ensures.stops told (c.in-Ok.ensures.state told).0 (c.in-Ok.ensures.state told).1))
 
 pub returns-in_err-play_all-clause-stops : goal.returns-in_err-play_all-clause-stops

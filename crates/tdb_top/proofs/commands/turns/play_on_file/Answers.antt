@@ -1,13 +1,13 @@
-use Rattle.std.proofs.Common.{◌≡◌, [], ◌<◌, true, Err, Some, refl, sym, ◌∙◌, ap, arith}
+use Rattle.std.proofs.Common.{◌≡◌, [], ◌<◌, true, Ok, Err, Some, refl, sym, ◌∙◌, ap, arith}
 use Rattle.std.proofs.lemmas.Bool.{and_parts}
 use Rattle.tdb_disk.specs.Count.{Rose}
 use Rattle.tdb_disk.specs.History.{began}
 use Rattle.tdb_disk.specs.declared.files.Take.TheVariants.{Existing, ReadOnly, New}
-use Rattle.tdb_top.specs.declared.ending.Ending.TheVariants.{DeviceFault}
-use Rattle.tdb_top.specs.Looks.{ending_of}
+use Rattle.tdb_top.specs.declared.ending.Ending.TheVariants.{Replied}
+use Rattle.tdb_top.specs.declared.ending.Reply.TheVariants.{Played}
 use Rattle.tdb_top.proofs.Acting.{rose_earlier}
 use Rattle.tdb_top.proofs.Held.{held_there}
-use Rattle.tdb_top.proofs.StopsTurning.{held_stops, same_stops}
+use Rattle.tdb_top.proofs.StopsTurning.{held_stops, same_stops, stops_when}
 use Rattle.tdb_top.proofs.Turning.{cause_played, left_played, began_played, all_played, heard_played, untaken_plays, untaken_heard}
 use Rattle.tdb_top.proofs.commands.turns.play_on_file.Goals as goal
 use Rattle.tdb_top.proofs.commands.turns.play_on_file.Goals.{After-take, After-give, then-options, else-options}
@@ -30,16 +30,17 @@ there : (g : _) (c : After-give g) → g.F.D.Disk.tells ≡ true → g.F.Files.h
 there g c told = held_there (g.F.Files.held c.args.files.now c.args.name.now) (began []) (g.F.D.Disk.history c.in-Ok.disk)
     (λ none. let wrong = (c.in-Ok.ensures.missing told).1 (none, not_new_given g c) in cc) (c.in-Ok.ensures.disk told)
 
+-- a call that failed on its disk counts among those of the files
+rose : (g : _) (c : After-give g) → Rose (g.F.D.Disk.faults c.in-Ok.disk) (g.F.D.Disk.faults c.play_on_disk-played.new.disk) → Rose (g.F.Files.faults c.args.files.now) (g.F.Files.faults c.give.new.self)
+rose g c failed =
+    let some : 0 < g.F.D.Disk.faults c.play_on_disk-played.new.disk = omega (arith, failed, c.in-Ok.ensures.disk_faults) in
+    rose_earlier (g.F.Files.faults c.args.files.now) (g.F.Files.faults c.take.new.self) (g.F.Files.faults c.give.new.self) c.in-Ok.ensures.cause.never_falls (c.give.ensures.faulty some)
+
 pub returns-in-Ok-clause-cause : goal.returns-in-Ok-clause-cause
 returns-in-Ok-clause-cause g c told =
-    let before = g.F.Files.faults c.args.files.now in
-    let now = g.F.Files.faults c.give.new.self in
-    let rose : ending_of c.play_on_disk-played.result ≡ DeviceFault → Rose before now = λ is.
-    (let failed = c.play_on_disk-played.ensures.counted.failed is told in
-    let some : 0 < g.F.D.Disk.faults c.play_on_disk-played.new.disk = omega (arith, failed, c.in-Ok.ensures.disk_faults) in
-    rose_earlier before (g.F.Files.faults c.take.new.self) now c.in-Ok.ensures.cause.never_falls (c.give.ensures.faulty some)) in
+    let a = (goal.at.returns-in-Ok-clause-cause g c).After-give in
     cause_played c.args.options.now c.args.name.now (g.F.D.Disk.history c.in-Ok.disk) (g.F.D.Disk.history c.play_on_disk-played.new.disk) c.args.plays.now g.K.Sink.tells (g.K.Sink.written c.args.output.now) (g.K.Sink.written c.play_on_disk-played.new.output) (g.L.Logs.logs c.args.logs.now) (g.L.Logs.logs c.play_on_disk-played.new.logs)
-    (g.F.Files.held c.args.files.now c.args.name.now) (there g ((goal.at.returns-in-Ok-clause-cause g c).After-give) told) before now c.play_on_disk-played.result (c.play_on_disk-played.ensures.played told) rose
+    (g.F.Files.held c.args.files.now c.args.name.now) (there g a told) (g.F.Files.faults c.args.files.now) (g.F.Files.faults c.give.new.self) c.play_on_disk-played.result (c.play_on_disk-played.ensures.played told) (λ is. rose g a (c.play_on_disk-played.ensures.counted.failed is told))
 
 pub returns-in-Ok-clause-left : goal.returns-in-Ok-clause-left
 returns-in-Ok-clause-left g c told =
@@ -59,8 +60,16 @@ returns-in-Ok-clause-whole g c told is =
 
 pub returns-in-Ok-clause-stops : goal.returns-in-Ok-clause-stops
 returns-in-Ok-clause-stops g c told =
-    held_stops c.args.options.now (g.F.Files.held c.args.files.now c.args.name.now) (g.F.Files.held c.give.new.self c.args.name.now) g.K.Sink.tells _ (g.F.D.Disk.history c.in-Ok.disk) (g.F.D.Disk.history c.play_on_disk-played.new.disk)
-    (g.K.Sink.written c.args.output.now) (g.K.Sink.written c.play_on_disk-played.new.output) (there g ((goal.at.returns-in-Ok-clause-stops g c).After-give) told) (c.give.ensures.held told) (c.play_on_disk-played.ensures.stops told)
+    let a = (goal.at.returns-in-Ok-clause-stops g c).After-give in
+    let held = g.F.Files.held c.args.files.now c.args.name.now in
+    let given = g.F.Files.held c.give.new.self c.args.name.now in
+    let before = g.K.Sink.written c.args.output.now in
+    let after = g.K.Sink.written c.play_on_disk-played.new.output in
+    let done = c.play_on_disk-played.result ≡ Ok (Replied Played) in
+    let sound : Type 0 = Rose (g.F.D.Disk.faults c.in-Ok.disk) (g.F.D.Disk.faults c.play_on_disk-played.new.disk) → ⊥ in
+    let calm : Type 0 = Rose (g.F.Files.faults c.args.files.now) (g.F.Files.faults c.give.new.self) → ⊥ in
+    stops_when c.args.options.now c.args.plays.now held given g.K.Sink.tells done sound done calm before after (λ so. so) (λ so failed. so (rose g a failed))
+    (held_stops c.args.options.now c.args.plays.now held given g.K.Sink.tells done sound (g.F.D.Disk.history c.in-Ok.disk) (g.F.D.Disk.history c.play_on_disk-played.new.disk) before after (there g a told) (c.give.ensures.held told) (c.play_on_disk-played.ensures.stops told))
 
 pub returns-in-Ok-clause-logged : goal.returns-in-Ok-clause-logged
 returns-in-Ok-clause-logged g c told =
@@ -82,4 +91,4 @@ returns-in-Err-clause-cause g c told =
 
 pub returns-in-Err-clause-stops : goal.returns-in-Err-clause-stops
 returns-in-Err-clause-stops g c told =
-    same_stops c.args.options.now (g.F.Files.held c.args.files.now c.args.name.now) (g.F.Files.held c.take.new.self c.args.name.now) g.K.Sink.tells _ (g.K.Sink.written c.args.output.now) (c.in-Err.ensures.refused_held c.args.name.now)
+    same_stops c.args.options.now c.args.plays.now (g.F.Files.held c.args.files.now c.args.name.now) (g.F.Files.held c.take.new.self c.args.name.now) g.K.Sink.tells _ _ (g.K.Sink.written c.args.output.now) (c.in-Err.ensures.refused_held c.args.name.now)

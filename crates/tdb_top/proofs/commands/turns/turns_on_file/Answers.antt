@@ -1,11 +1,11 @@
-use Rattle.std.proofs.Common.{refl, sym, subst}
+use Rattle.std.proofs.Common.{refl, sym, subst, inr}
 use Rattle.tdb_ask.specs.declared.ask.Task.TheVariants.{Turns}
 use Rattle.tdb_script.specs.Script.{Script}
 use Rattle.tdb_top.specs.Input.{input_by}
 use Rattle.tdb_top.specs.Output.{output_by}
 use Rattle.tdb_top.specs.Looks.{ending_of}
 use Rattle.tdb_top.specs.Reads.{AskCause}
-use Rattle.tdb_top.proofs.StopsTurning.{same_stops}
+use Rattle.tdb_top.proofs.StopsTurning.{unscripted_stops}
 use Rattle.tdb_top.specs.Commands.Turns.{TurnsHeard}
 use Rattle.tdb_top.specs.Scripts.{unscripted}
 use Rattle.tdb_top.proofs.Turning.{plays_asked, unscripted_asked, heard_nothing, heard_unscripted, all_asked}
@@ -26,10 +26,16 @@ returns-in-Err-clause-cause g c told =
     subst (AskCause input (Turns c.args.options.now) c.args.name.now held faults faults) (sym c.from.ensures)
     (unscripted_asked input c.args.options.now c.args.name.now held faults faults c.in-Err.fault c.in-Err.ensures.refused (λ is. c.in-Err.ensures.cause.failed is))
 
+-- what stops leave
+pub returns-in-Ok-clause-stops : goal.returns-in-Ok-clause-stops
+returns-in-Ok-clause-stops g c told =
+    let text = g.S.Source.left c.args.input.now in
+    (c.as_slice.result.now, inr (λ heard. subst (Script text) (sym c.as_slice.ensures) (c.in-Ok.ensures.script heard)), c.play_on_file.ensures.stops told)
+
 pub returns-in-Err-clause-stops : goal.returns-in-Err-clause-stops
 returns-in-Err-clause-stops g c told =
-    let held = g.F.Files.held c.args.files.now c.args.name.now in
-    same_stops c.args.options.now held held g.K.Sink.tells _ (g.K.Sink.written c.args.output.now) refl
+    let input = input_by g.S.Source.tells (g.S.Source.left c.args.input.now) (g.S.Source.faults c.args.input.now) (g.S.Source.faults c.plays_on.new.input) in
+    unscripted_stops input c.args.options.now (g.F.Files.held c.args.files.now c.args.name.now) g.K.Sink.tells _ _ (g.K.Sink.written c.args.output.now)
 
 -- what logs heard where there is none
 pub returns-in-Err-clause-logged : goal.returns-in-Err-clause-logged
