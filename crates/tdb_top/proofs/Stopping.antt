@@ -31,7 +31,7 @@ use Rattle.tdb_course.specs.Led.{moment, Comes, Led}
 use Rattle.tdb_course.specs.Stops.{IsTransacted, Leads, OpensOnTheWay, Passes, StopsLed}
 use Rattle.tdb_course.specs.Unfinished.{AreUnfinished}
 use Rattle.tdb_world.proofs.Courses.{course_join}
-use Rattle.tdb_tool.proofs.Coming.{whole_comes, comes_more, comes_after}
+use Rattle.tdb_course.proofs.Coming.{whole_comes, comes_more, comes_after}
 use Rattle.tdb_tool.proofs.Telling.{front_after}
 use Rattle.tdb_log.specs.Logs.{Logged}
 use Rattle.tdb_log.specs.declared.log.LogRefusal.{LogRefusal}
