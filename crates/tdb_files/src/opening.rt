@@ -111,8 +111,9 @@ fn open_existing(
     Ok(FileDisk::new(file, identity, unwritable, len))
 }
 
-/// Locks a file that was just made, and brings its name to the medium. Where another run has locked it before, or a
-/// program has written to it, it is theirs.
+/// Locks a file that was just made, and syncs its folder, so that the name is on the medium; a folder that may not be
+/// opened, or whose file system can't sync it, is left to the system. Where another run has locked the file before, or
+/// a program has written to it, it is theirs.
 fn claim_new(
     rt: &HostRuntime,
     name: &str,

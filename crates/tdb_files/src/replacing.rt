@@ -13,7 +13,8 @@ const ALL_PERMISSIONS: u32 = 0o777;
 const GROUP_PERMISSIONS: u32 = 0o070;
 
 /// Gives the file at `from` the name `to`. A regular file that is replaced passes its permissions, its group and its
-/// owner on, as far as the system allows it. The new name is on the medium then: its folder is synced. Where nothing is
+/// owner on, as far as the system allows it. The folder of the new name is synced then, so that the name is on the
+/// medium; a folder that may not be opened, or whose file system can't sync it, is left to the system. Where nothing is
 /// at `from`, nothing is done.
 pub(crate) fn replace(rt: &HostRuntime, from: &str, to: &str) -> io::Result<()> {
     let moved = match fs::symlink_metadata(rt, from) {
