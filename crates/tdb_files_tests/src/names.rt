@@ -1,0 +1,126 @@
+// Renames and removals of files.
+
+use crate::folder::{self, FOLDER, has, lay, mode_of, set_mode};
+use std::{fs, io};
+use tdb_disk::Files;
+use tdb_files::DirFiles;
+
+const FROM: &str = "tdb_files_test/from";
+
+const TO: &str = "tdb_files_test/to";
+
+/// The content of a file, and its permissions.
+type File = (&'static [u8], u32);
+
+/// The permissions of the folder, the files at the old name and at the new one, and the file that is at the new one
+/// then.
+struct Rename {
+    folder: u32,
+    from: Option<File>,
+    to: Option<File>,
+    left: File,
+}
+
+/// A file gets a name that is free.
+const FREE: Rename = Rename {
+    folder: 0o700,
+    from: Some((b"one", 0o600)),
+    to: None,
+    left: (b"one", 0o600),
+};
+
+static RENAMES: [(&'static str, Rename); 4] = [
+    ("to a name that is free", FREE),
+    // As in memory.
+    (
+        "of a name that is free",
+        Rename {
+            from: None,
+            to: Some((b"one", 0o600)),
+            ..FREE
+        },
+    ),
+    (
+        "to a file, which passes its permissions on",
+        Rename {
+            from: Some((b"two", 0o600)),
+            to: Some((b"one", 0o640)),
+            left: (b"two", 0o640),
+            ..FREE
+        },
+    ),
+    // It can't be opened to be synced.
+    (
+        "in a folder that may not be read",
+        Rename {
+            folder: 0o300,
+            ..FREE
+        },
+    ),
+];
+
+/// Lays a file, where there is to be one.
+fn lay_some(rt: HostRuntime, name: &str, file: Option<File>) -> io::Result<()> {
+    match file {
+        Some((content, mode)) => lay(rt, name, content, mode),
+        None => Ok(()),
+    }
+}
+
+/// Whether a rename goes so, and leaves nothing at the old name.
+fn rename_holds(rt: HostRuntime, row: &Rename) -> io::Result<bool> {
+    folder::make(rt)?;
+    lay_some(rt, FROM, row.from)?;
+    lay_some(rt, TO, row.to)?;
+    set_mode(rt, FOLDER, row.folder)?;
+    let is_done = DirFiles::new(rt).rename(FROM, TO).is_ok();
+    set_mode(rt, FOLDER, 0o700)?;
+    let (content, mode) = row.left;
+    let is_left = has(rt, TO, content) && mode_of(rt, TO)? == mode;
+    Ok(is_done && is_left && !fs::exists(&rt, FROM)?)
+}
+
+/// The first rename that doesn't go so.
+pub(crate) fn failing_rename(rt: HostRuntime) -> Option<&'static str> {
+    for (name, row) in &RENAMES {
+        if !matches!(rename_holds(rt, row), Ok(true)) {
+            return Some(*name);
+        }
+    }
+    None
+}
+
+const REMOVED: &str = "tdb_files_test/removed";
+
+/// The name that is removed, whether that is done, and whether the file is there then.
+type Removal = (&'static str, bool, bool);
+
+static REMOVALS: [(&'static str, Removal); 4] = [
+    (
+        "of a name below the file",
+        ("tdb_files_test/removed/below", true, true),
+    ),
+    ("of a folder", (FOLDER, false, true)),
+    ("of the file", (REMOVED, true, false)),
+    ("of the name, which is free then", (REMOVED, true, false)),
+];
+
+/// Whether a removal goes so.
+fn removal_holds(rt: HostRuntime, row: &Removal) -> io::Result<bool> {
+    let (name, done, left) = *row;
+    let is_done = DirFiles::new(rt).remove(name).is_ok();
+    Ok(is_done == done && fs::exists(&rt, REMOVED)? == left)
+}
+
+/// The first removal that doesn't go so.
+pub(crate) fn failing_removal(rt: HostRuntime) -> Option<&'static str> {
+    if lay(rt, REMOVED, b"one", 0o600).is_err() {
+        return Some("what is there before");
+    }
+    for (name, row) in &REMOVALS {
+        if !matches!(removal_holds(rt, row), Ok(true)) {
+            return Some(*name);
+        }
+    }
+    None
+}
