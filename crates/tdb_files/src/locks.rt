@@ -6,8 +6,8 @@ use std::rt::Clock;
 use std::thread;
 use std::time::Duration;
 
-/// What a lock lets other runs of this program do. Programs that don't ask for such a lock, as those of the stock library,
-/// aren't held up by it.
+/// What a lock lets other runs of this program do. Programs that don't ask for such a lock, as those of the stock
+/// library, aren't held up by it.
 #[derive(Clone, Copy, Debug, PartialEq, Eq)]
 pub(crate) enum LockKind {
     /// Others may read the file too.

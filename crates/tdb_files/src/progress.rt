@@ -22,7 +22,8 @@ pub enum Passing {
 }
 
 /// One line on standard error that says how many bytes were read or written. It is first written after a second, then
-/// at most five times a second, each time over the one before, and it is cleared at the end.
+/// at most five times a second, each time over the one before, and it is cleared at the end. Each copy of it counts for
+/// itself.
 #[derive(Clone, Copy)]
 pub struct Progress {
     rt: HostRuntime,
