@@ -2,7 +2,7 @@
 use Rattle.std.specs.Prelude.{ℕ, Option, None, Some, List, [], ◌∷◌}
 use Rattle.std.specs.Option.{option_map, option_and_then}
 use Rattle.tdb_ask.specs.declared.act.Verb.{Verb}
-use Rattle.tdb_ask.specs.declared.act.Verb.TheVariants.{Show, Insert, Store, Delete, Erase, Check, First, Next}
+use Rattle.tdb_ask.specs.declared.act.Verb.TheVariants.{Show, Insert, Store, Delete}
 use Rattle.tdb_ask.specs.Words.{value_of, of_one, of_two}
 use Rattle.tdb_dump.specs.declared.listing.Listing.{Listing}
 
@@ -27,30 +27,11 @@ store_of arguments = option_map (λ pair. Store pair.0 pair.1) (pair_of argument
 abbrev pub delete_of : List (List ℕ) → Option Verb
 delete_of arguments = of_one (λ word. option_map Delete (value_of word)) arguments
 
--- `erase`, without arguments
-abbrev pub erase_of : List (List ℕ) → Option Verb
-erase_of [] = Some Erase
-erase_of (word ∷ words) = None
-
--- `check`, without arguments
-abbrev pub check_of : List (List ℕ) → Option Verb
-check_of [] = Some Check
-check_of (word ∷ rest) = None
-
--- `first`, without arguments
-abbrev pub first_of : List (List ℕ) → Option Verb
-first_of [] = Some First
-first_of (word ∷ rest) = None
-
--- `next`, without arguments
-abbrev pub next_of : List (List ℕ) → Option Verb
-next_of [] = Some Next
-next_of (word ∷ rest) = None
-
--- `transaction_start`, `transaction_commit` and `transaction_cancel`, without arguments: what the word asks for
-abbrev pub transaction_of : Verb → List (List ℕ) → Option Verb
-transaction_of verb [] = Some verb
-transaction_of verb (word ∷ rest) = None
+-- `erase`, `check`, `first`, `next`, `transaction_start`, `transaction_commit` and `transaction_cancel`, without
+-- arguments: the verb that the word asks for
+abbrev pub alone_of : Verb → List (List ℕ) → Option Verb
+alone_of verb [] = Some verb
+alone_of verb (word ∷ rest) = None
 
 -- `dump`, `keys` and `hexkeys`, without arguments: how the pairs are listed
 abbrev pub print_of : Listing → List (List ℕ) → Option Listing

@@ -18,7 +18,7 @@ use Rattle.tdb_ask.specs.declared.options.Command.TheVariants as command
 use Rattle.tdb_ask.specs.declared.options.Line.{Line}
 use Rattle.tdb_ask.specs.Words.{of_one, of_three}
 use Rattle.tdb_ask.specs.Options.{commands, told, line_of, limit_in}
-use Rattle.tdb_ask.specs.Acts.{show_of, check_of, insert_of, store_of, delete_of, erase_of, first_of, next_of, transaction_of, print_of}
+use Rattle.tdb_ask.specs.Acts.{show_of, insert_of, store_of, delete_of, alone_of, print_of}
 use Rattle.tdb_ask.specs.Lines.Create.{create_of}
 use Rattle.tdb_ask.specs.CopyNames.{BackupFits, VerifyFits}
 use Rattle.tdb_ask.specs.Lines.Backup.{asks_of}
@@ -50,13 +50,13 @@ tools limit =
     ∷ (codes "insert", λ arguments. option_map (on_file limit) (insert_of arguments))
     ∷ (codes "store", λ arguments. option_map (on_file limit) (store_of arguments))
     ∷ (codes "delete", λ arguments. option_map (on_file limit) (delete_of arguments))
-    ∷ (codes "erase", λ arguments. option_map (on_file limit) (erase_of arguments))
-    ∷ (codes "check", λ arguments. option_map (on_file limit) (check_of arguments))
-    ∷ (codes "first", λ arguments. option_map (on_file limit) (first_of arguments))
-    ∷ (codes "next", λ arguments. option_map (on_file limit) (next_of arguments))
-    ∷ (codes "transaction_start", λ arguments. option_map (on_file limit) (transaction_of TransactionStart arguments))
-    ∷ (codes "transaction_commit", λ arguments. option_map (on_file limit) (transaction_of TransactionCommit arguments))
-    ∷ (codes "transaction_cancel", λ arguments. option_map (on_file limit) (transaction_of TransactionCancel arguments))
+    ∷ (codes "erase", λ arguments. option_map (on_file limit) (alone_of Erase arguments))
+    ∷ (codes "check", λ arguments. option_map (on_file limit) (alone_of Check arguments))
+    ∷ (codes "first", λ arguments. option_map (on_file limit) (alone_of First arguments))
+    ∷ (codes "next", λ arguments. option_map (on_file limit) (alone_of Next arguments))
+    ∷ (codes "transaction_start", λ arguments. option_map (on_file limit) (alone_of TransactionStart arguments))
+    ∷ (codes "transaction_commit", λ arguments. option_map (on_file limit) (alone_of TransactionCommit arguments))
+    ∷ (codes "transaction_cancel", λ arguments. option_map (on_file limit) (alone_of TransactionCancel arguments))
     ∷ (codes "dump", λ arguments. option_map (print_file limit) (print_of Pairs arguments))
     ∷ (codes "keys", λ arguments. option_map (print_file limit) (print_of Keys arguments))
     ∷ (codes "hexkeys", λ arguments. option_map (print_file limit) (print_of HexKeys arguments))

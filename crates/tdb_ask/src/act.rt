@@ -1,7 +1,7 @@
 // The commands on a file that is there, and the reading of their arguments.
 
 ghost use Rattle.std.specs.Prelude.{◌≡◌, ◌+◌, ◌≤◌, length, IfOk, IfSome};
-ghost use Rattle.tdb_ask.specs.Acts.{show_of, pair_of, insert_of, store_of, delete_of, erase_of, check_of, first_of, next_of, transaction_of};
+ghost use Rattle.tdb_ask.specs.Acts.{show_of, pair_of, insert_of, store_of, delete_of, alone_of};
 ghost use Rattle.tdb_ask.specs.Ask.{VerbFits};
 ghost use Rattle.tdb_ask.specs.declared.limits.TheConstants.{LONGEST_WORD as longest};
 
@@ -124,54 +124,10 @@ impl Verb {
         }
     }
 
-    /// Reads the arguments of `erase`, which has none.
-    pub(crate) fn of_erase(arguments: &[Text]) -> Option<Verb>
-        ensures read { result ≡ erase_of arguments.now }
-        ensures fits { IfSome result VerbFits }
-    {
-        match arguments {
-            [] => Some(Verb::Erase),
-            _ => None,
-        }
-    }
-
-    /// Reads the arguments of `check`, which has none.
-    pub(crate) fn of_check(arguments: &[Text]) -> Option<Verb>
-        ensures read { result ≡ check_of arguments.now }
-        ensures fits { IfSome result VerbFits }
-    {
-        match arguments {
-            [] => Some(Verb::Check),
-            _ => None,
-        }
-    }
-
-    /// Reads the arguments of `first`, which has none.
-    pub(crate) fn of_first(arguments: &[Text]) -> Option<Verb>
-        ensures read { result ≡ first_of arguments.now }
-        ensures fits { IfSome result VerbFits }
-    {
-        match arguments {
-            [] => Some(Verb::First),
-            _ => None,
-        }
-    }
-
-    /// Reads the arguments of `next`, which has none.
-    pub(crate) fn of_next(arguments: &[Text]) -> Option<Verb>
-        ensures read { result ≡ next_of arguments.now }
-        ensures fits { IfSome result VerbFits }
-    {
-        match arguments {
-            [] => Some(Verb::Next),
-            _ => None,
-        }
-    }
-
-    /// Reads the arguments of a word of transactions that asks for this verb. It has none.
-    pub(crate) fn of_transaction(verb: Verb, arguments: &[Text]) -> Option<Verb>
+    /// This verb, where no argument follows it.
+    pub(crate) fn without_arguments(verb: Verb, arguments: &[Text]) -> Option<Verb>
         requires fits { VerbFits verb }
-        ensures read { result ≡ transaction_of verb arguments.now }
+        ensures read { result ≡ alone_of verb arguments.now }
         ensures fits { IfSome result VerbFits }
     {
         match arguments {

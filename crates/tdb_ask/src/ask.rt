@@ -100,20 +100,20 @@ impl Task {
             "insert" => Ok(Task::on(limit, Verb::of_insert(alloc, arguments)?)),
             "store" => Ok(Task::on(limit, Verb::of_store(alloc, arguments)?)),
             "delete" => Ok(Task::on(limit, Verb::of_delete(alloc, arguments)?)),
-            "erase" => Ok(Task::on(limit, Verb::of_erase(arguments))),
-            "check" => Ok(Task::on(limit, Verb::of_check(arguments))),
-            "first" => Ok(Task::on(limit, Verb::of_first(arguments))),
-            "next" => Ok(Task::on(limit, Verb::of_next(arguments))),
+            "erase" => Ok(Task::on(limit, Verb::without_arguments(Verb::Erase, arguments))),
+            "check" => Ok(Task::on(limit, Verb::without_arguments(Verb::Check, arguments))),
+            "first" => Ok(Task::on(limit, Verb::without_arguments(Verb::First, arguments))),
+            "next" => Ok(Task::on(limit, Verb::without_arguments(Verb::Next, arguments))),
             "transaction_start" => {
-                let verb = Verb::of_transaction(Verb::TransactionStart, arguments);
+                let verb = Verb::without_arguments(Verb::TransactionStart, arguments);
                 Ok(Task::on(limit, verb))
             }
             "transaction_commit" => {
-                let verb = Verb::of_transaction(Verb::TransactionCommit, arguments);
+                let verb = Verb::without_arguments(Verb::TransactionCommit, arguments);
                 Ok(Task::on(limit, verb))
             }
             "transaction_cancel" => {
-                let verb = Verb::of_transaction(Verb::TransactionCancel, arguments);
+                let verb = Verb::without_arguments(Verb::TransactionCancel, arguments);
                 Ok(Task::on(limit, verb))
             }
             "dump" => Ok(Task::print(limit, Listing::Pairs, arguments)),
