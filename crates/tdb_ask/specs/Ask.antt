@@ -5,6 +5,7 @@ use Rattle.std.specs.Option.{option_map, option_and_then}
 use Rattle.tdb_dump.specs.declared.listing.Listing.{Listing}
 use Rattle.tdb_dump.specs.declared.listing.Listing.TheVariants.{Pairs, Keys, HexKeys}
 use Rattle.tdb_space.specs.Pairs.{same_key}
+use Rattle.tdb_open.specs.declared.limits.TheConstants.{LONGEST_FILE}
 use Rattle.tdb_ask.specs.declared.look.Look.{Look}
 use Rattle.tdb_ask.specs.declared.look.Look.TheVariants.{Dump, Value}
 use Rattle.tdb_ask.specs.declared.act.Act.{Act}
@@ -126,8 +127,7 @@ abbrev pub LookFits : Look → Type 0
 LookFits Dump = Unit {0}
 LookFits (Value key) = length key < 2 ^ 32
 
--- the keys and the values of an act are short enough for a record, a file is made with some chain, no file may be longer
--- than the longest; the names of a backup and of a verification are all different
+-- the key and the value of an act are short enough for a record
 abbrev pub VerbFits : Verb → Type 0
 VerbFits (Show key) = length key < 2 ^ 32
 VerbFits (Insert key value) = length key + length value < 2 ^ 32
@@ -141,17 +141,20 @@ VerbFits TransactionStart = Unit {0}
 VerbFits TransactionCommit = Unit {0}
 VerbFits TransactionCancel = Unit {0}
 
+-- those of this act are, and its file may be no longer than the longest one
 abbrev pub ActFits : Act → Type 0
-ActFits act = VerbFits act.verb × (act.limit ≤ 4294963200)
+ActFits act = VerbFits act.verb × (act.limit ≤ LONGEST_FILE)
 
+-- the keys and the values are short enough for a record, a file is made with some chain, no file may be longer than the
+-- longest one; the names of a backup and of a verification are all different
 abbrev pub TaskFits : List ℕ → Task → Type 0
 TaskFits file (On act) = ActFits act
 TaskFits file (Read look) = LookFits look
-TaskFits file (Print listing limit) = limit ≤ 4294963200
-TaskFits file (Create new) = 0 < new.form.size
-TaskFits file (Restore limit) = limit ≤ 4294963200
+TaskFits file (Print listing limit) = limit ≤ LONGEST_FILE
+TaskFits file (Create new) = (0 < new.form.size) × (new.limit ≤ LONGEST_FILE)
+TaskFits file (Restore limit) = limit ≤ LONGEST_FILE
 TaskFits file (Backup more suffix) = BackupFits suffix (file ∷ more)
 TaskFits file (Verify more suffix) = VerifyFits suffix (file ∷ more)
-TaskFits file (Turns options) = options.limit ≤ 4294963200
-TaskFits file (Session limit) = limit ≤ 4294963200
+TaskFits file (Turns options) = options.limit ≤ LONGEST_FILE
+TaskFits file (Session limit) = limit ≤ LONGEST_FILE
 TaskFits file (Generate n seed) = Unit {0}

@@ -1,6 +1,6 @@
 // The arguments of the command that makes a new file: how many chains it gets, its hash and its byte order.
 
-ghost use Rattle.std.specs.Prelude.{◌≡◌, ◌<◌, IfSome};
+ghost use Rattle.std.specs.Prelude.{◌≡◌, ◌<◌, ◌≤◌, IfSome};
 ghost use Rattle.std.specs.Map.{lookup};
 ghost use Rattle.tdb_space.specs.Pairs.{same_key};
 ghost use Rattle.tdb_ask.specs.Lines.Create.{orders, hashes, order_of_words, hash_of_words, create_of};
@@ -69,8 +69,9 @@ fn read_hash(arguments: &[Text]) -> Option<(HashKind, Order)>
 impl NewFile {
     /// Reads the arguments of `create`, where the file may have so many bytes.
     pub(crate) fn of(limit: u64, arguments: &[Text]) -> Option<NewFile>
+        requires limit { limit ≤ 4294963200 }
         ensures read { result ≡ create_of limit arguments.now }
-        ensures some { IfSome result (λ file. 0 < file.form.size) }
+        ensures fits { IfSome result (λ file. (0 < file.form.size) × (file.limit ≤ 4294963200)) }
     {
         let [word, rest @ ..] = arguments else {
             return Some(NewFile {
