@@ -52,8 +52,8 @@ parted word =
     if nat_lt (position_or_len (λ b. b == 61) word) (length word) then Some (before_first (λ b. b == 61) word, after_first (λ b. b == 61) word)
     else None
 
--- What the words say, as far as they were read: the options that were given, in their order, the positions, the option whose
--- value is the next word, and whether `--` has come
+-- What the words say, as far as they were read: the options that were given, in their order, the positions, the option
+-- whose value is the next word, and whether `--` has come
 pub record Reading : Type 0 where
   pub options : List GivenOption
   pub positions : List (List ℕ)

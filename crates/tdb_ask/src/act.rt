@@ -52,7 +52,7 @@ pub enum Verb {
 pub struct Act {
     pub verb: Verb,
 
-    /// How many bytes the file may have.
+    /// How many bytes the file may have: as `Ask::of` reads it, from 696 to 4,294,963,200.
     pub limit: u64,
 }
 

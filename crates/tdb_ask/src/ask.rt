@@ -17,7 +17,7 @@ use std::alloc::{AllocError, Global};
 use tdb_dump::Listing;
 use tdb_world::Options;
 
-/// What is to be done with a file.
+/// What is to be done with a file. A limit, as `Ask::of` reads it, is from 696 to 4,294,963,200 bytes.
 #[derive(Debug, Drop)]
 pub enum Task {
     /// To make it.
@@ -47,14 +47,18 @@ pub enum Task {
     /// To take the commands on the lines of the input over it, which may become `limit` bytes long.
     Session { limit: u64 },
 
-    /// To make it, and have so many commands done on it that are made of the seed.
+    /// To make it, and have so many commands done on it, from 0 to 1,000,000, that are made of the seed, which is any
+    /// number of 32 bits.
     Generate { commands: u32, seed: u32 },
 }
 
 /// What a command line asks for.
 #[derive(Debug, Drop)]
 pub struct Ask {
+    /// The name of the file, the first one where more are asked for.
     pub file: String,
+
+    /// What is to be done with it.
     pub task: Task,
 }
 
@@ -258,7 +262,8 @@ impl Ask {
         }
     }
 
-    /// What the words of a command line ask for, if anything. The memory that it takes is that of their bytes.
+    /// What the words of a command line ask for, if anything. `Err` where memory is wanting. The memory that it takes
+    /// is that of their bytes.
     pub fn of(alloc: Global, words: &[String]) -> Result<Option<Ask>, AllocError>
         ensures read { IfOk result (λ ask. option_map asked ask ≡ ask_of (map string_bytes words.now)) }
         ensures fits { IfOk result (λ ask. IfSome ask (λ a. TaskFits (string_bytes a.file) a.task)) }

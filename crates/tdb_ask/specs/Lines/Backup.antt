@@ -32,8 +32,8 @@ all_names verify suffix (file ∷ files) = names_of verify suffix file ++ all_na
 abbrev pub HasNames : BTreeSet (List ℕ) → List (List ℕ) → Type 0
 HasNames seen names = (q : List ℕ) → contains (slice_cmp nat_cmp) seen q ≡ is_one_of q names
 
--- What the words ask for: to copy, or with `-v` to verify, the first file and the others, with the suffix, which is `.bak`
--- where none is told. There is a file, and the names are all different.
+-- What the words ask for: to copy, or with `-v` to verify, the first file and the others, with the suffix, which is
+-- `.bak` where none is told. There is a file, and the names are all different.
 abbrev pub suffix_in : Line → List ℕ
 suffix_in line = unwrap_or (told (codes "-s") line.options) (codes ".bak")
 

@@ -17,7 +17,7 @@ pub struct NewFile {
     /// What it is made with.
     pub form: NewForm,
 
-    /// How many bytes it may have.
+    /// How many bytes it may have: as `Ask::of` reads it, from 696 to 4,294,963,200.
     pub limit: u64,
 }
 
