@@ -34,6 +34,7 @@ use Rattle.tdb_top.specs.Commands.Verify.{tells_fault, IsKnown}
 use Rattle.tdb_top.specs.Ending.{Untaken, status_of, of_halt}
 use Rattle.tdb_top.specs.Heard.{FileHeard, heard_nothing, heard_halt, heard_more, growth, ToldFor, GrowthHeard, ActedHeard, ActHeard, LookHeard, PrintHeard, OpenHeard, BackupHeard, CountHeard, VerifyHeard, count_ending, TaskHeard, AskHeard}
 use Rattle.tdb_top.proofs.Copies.{Held}
+use Rattle.tdb_top.proofs.Unlogged.{untaken_unlogged}
 use Rattle.tdb_top.proofs.Verifying.{unverified_some}
 
 -- a growth is told where there is one
@@ -92,19 +93,19 @@ module _ (name : List ℕ) (refusal : TakeRefusal) (e : Ending) (logs : List Log
   untaken_heard read Opening More h gone = heard_nothing (untaken_ends refusal untaken (λ is. let wrong = gone is in cc) not_new) refl
 
   pub act_untaken : (limit : ℕ) (held now : Option History) → (refusal ≡ Take.Missing → held ≡ None) → ActHeard limit held now e logs logs
-  act_untaken limit None now gone = refl
+  act_untaken limit None now gone = (refl, untaken_unlogged name refusal e untaken)
   act_untaken limit (Some h) now gone = untaken_heard _ _ _ h gone
 
   pub look_untaken : (held : Option History) → (refusal ≡ Take.Missing → held ≡ None) → LookHeard held e logs logs
-  look_untaken None gone = refl
+  look_untaken None gone = (refl, untaken_unlogged name refusal e untaken)
   look_untaken (Some h) gone = untaken_heard _ _ _ h gone
 
   pub print_untaken : (limit : ℕ) (held : Option History) → (refusal ≡ Take.Missing → held ≡ None) → PrintHeard limit held e logs logs
-  print_untaken limit None gone = refl
+  print_untaken limit None gone = (refl, untaken_unlogged name refusal e untaken)
   print_untaken limit (Some h) gone = untaken_heard _ _ _ h gone
 
   pub open_untaken : (held : Option History) → (refusal ≡ Take.Missing → held ≡ None) → OpenHeard held e logs logs
-  open_untaken None gone = refl
+  open_untaken None gone = (refl, untaken_unlogged name refusal e untaken)
   open_untaken (Some h) gone = untaken_heard _ _ _ h gone
 
 -- a file that was taken is what was held at its name
@@ -129,7 +130,7 @@ halt_no_reply H.Memory reply is = cc
 halt_no_reply H.Log reply is = cc
 
 pub opened_as : (held : Option History) (reply : Reply) (e : Ending) (old new : List Logged) → (e ≡ E.LogFault → ⊥) → OpenHeard held (E.Replied reply) old new → OpenHeard held e old new
-opened_as None reply e old new other heard = heard
+opened_as None reply e old new other heard = (heard.0, other)
 opened_as (Some h) reply e old new other (heard_nothing (inl is) same) = cc
 opened_as (Some h) reply e old new other (heard_nothing (inr is) same) = cc
 opened_as (Some h) reply e old new other (heard_halt halt is opened) = absurd (halt_no_reply halt reply is)
@@ -137,7 +138,7 @@ opened_as (Some h) reply e old new other (heard_more o mid counted opened told) 
 
 -- want of memory before a file is opened tells nothing of it
 pub open_wants : (held : Option History) (logs : List Logged) → OpenHeard held E.NoMemory logs logs
-open_wants None logs = refl
+open_wants None logs = (refl, λ is. cc)
 open_wants (Some h) logs = heard_nothing (inr refl) refl
 
 pub counted_as : (own copy : Option History) (e : Ending) (old new : List Logged) → (e ≡ E.LogFault → ⊥) → CountHeard own copy (E.Replied Verified) old new → CountHeard own copy e old new
@@ -189,34 +190,34 @@ task_unheard : (task : Task) (name : List ℕ) (held : Held) (logs : List Logged
 task_unheard (On act) name held logs = of (held name)
   where
     of : (o : Option History) → ActHeard act.limit o o E.NoMemory logs logs
-    of None = refl
+    of None = (refl, λ is. cc)
     of (Some h) = heard_nothing (inr refl) refl
 task_unheard (Read look) name held logs = of (held name)
   where
     of : (o : Option History) → LookHeard o E.NoMemory logs logs
-    of None = refl
+    of None = (refl, λ is. cc)
     of (Some h) = heard_nothing (inr refl) refl
 task_unheard (Print listing limit) name held logs = of (held name)
   where
     of : (o : Option History) → PrintHeard limit o E.NoMemory logs logs
-    of None = refl
+    of None = (refl, λ is. cc)
     of (Some h) = heard_nothing (inr refl) refl
-task_unheard (Create form) name held logs = refl
-task_unheard (Restore limit) name held logs = refl
+task_unheard (Create form) name held logs = (refl, λ is. cc)
+task_unheard (Restore limit) name held logs = (refl, λ is. cc)
 task_unheard (Backup more suffix) name held logs = inl ((λ is. cc), open_wants (held name) logs)
 task_unheard (Verify more suffix) name held logs = inl ((λ is. cc), inl (open_wants (held name) logs))
 task_unheard (Turns options) name held logs = of (held name)
   where
     of : (o : Option History) → TurnsHeard options o E.NoMemory logs logs
-    of None = refl
+    of None = (refl, λ is. cc)
     of (Some h) = turned_nothing tt refl
 task_unheard (Session limit) name held logs = of (held name)
   where
     of : (o : Option History) → SessionHeard limit o E.NoMemory logs logs
-    of None = refl
+    of None = (refl, λ is. cc)
     of (Some h) = served_halt H.Memory refl (inl refl)
 task_unheard (Generate commands seed) name held logs = inl refl
 
 pub ask_unheard : (ask : Option Ask) (held : Held) (logs : List Logged) → AskHeard ask held held E.NoMemory logs logs
-ask_unheard None held logs = refl
+ask_unheard None held logs = (refl, λ is. cc)
 ask_unheard (Some ask) held logs = task_unheard ask.task ask.file held logs

@@ -6,6 +6,7 @@ pub mod FirstPair
 pub mod Added
 pub mod Inserts
 pub mod Acting
+pub mod Unlogged
 pub mod Restoring
 pub mod Looking
 pub mod Printing

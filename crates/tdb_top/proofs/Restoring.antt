@@ -106,6 +106,17 @@ refusal_asked R.Memory is = cc
 pub refused_asked : (r : RestoreRefusal) (e : Ending) → e ≡ of_restore r → e ≡ E.Usage → ⊥
 refused_asked r e is usage = refusal_asked r (sym is ∙ usage)
 
+-- nor one of a log
+refusal_unlogged : (r : RestoreRefusal) → of_restore r ≡ E.LogFault → ⊥
+refusal_unlogged R.Io is = cc
+refusal_unlogged R.Input is = cc
+refusal_unlogged (R.Malformed at) is = cc
+refusal_unlogged (R.Full len need) is = cc
+refusal_unlogged R.Memory is = cc
+
+pub refused_unlogged : (r : RestoreRefusal) (e : Ending) → e ≡ of_restore r → e ≡ E.LogFault → ⊥
+refused_unlogged r e is logged = refusal_unlogged r (sym is ∙ logged)
+
 -- what is left where the file is gone again
 pub removed_left : (input : Input) (held now : Option History) (r : RestoreRefusal) (e : Ending) → held ≡ None → now ≡ None → e ≡ of_restore r → RestoreLeaves input held e now
 removed_left input held now r e fresh gone is = record {

@@ -37,6 +37,7 @@ use Rattle.tdb_open.specs.Opening.{opened_bytes}
 use Rattle.tdb_open.proofs.Openings.{still_safe}
 use Rattle.tdb_open.specs.Notices.{BelowHeard}
 use Rattle.tdb_top.specs.Reads.{AskCause}
+use Rattle.tdb_top.proofs.Unlogged.{untaken_unlogged}
 
 -- why a session ended so
 by_lines : (input : Input) (limit : ℕ) (name : List ℕ) (held : Option History) (before after : ℕ) (e : Ending) → ServesSo input limit name held e → AskCause input (Session limit) name held before after e
@@ -171,20 +172,20 @@ module _ (limit : ℕ) (input : Input) (name : List ℕ) (held : Option History)
 
   -- what is held where nothing was done, and no log was told
   module _ (logs : List Logged) where
-    unopened_held : (o given : Option History) (told : Bool) (w : List ℕ) (halt : Halt) → given ≡ o → ((h : History) → SessionFile limit input h h told w w logs logs (Ok (of_halt halt)))
+    unopened_held : (o given : Option History) (told : Bool) (w : List ℕ) (halt : Halt) → given ≡ o → (of_halt halt ≡ E.LogFault → ⊥) → ((h : History) → SessionFile limit input h h told w w logs logs (Ok (of_halt halt)))
         → SessionHeld limit input o given told w w logs logs (Ok (of_halt halt))
-    unopened_held None given told w halt same file = (same, refl)
-    unopened_held (Some h) given told w halt same file = (h, same, file h)
+    unopened_held None given told w halt same other file = (same, (refl, other))
+    unopened_held (Some h) given told w halt same other file = (h, same, file h)
 
     pub wants_held : (o given : Option History) (told : Bool) (w : List ℕ) → given ≡ o → SessionHeld limit input o given told w w logs logs (Ok E.NoMemory)
     wants_held o given told w same =
-        unopened_held o given told w H.Memory same (λ h. file_unopened H.Memory (inr refl) (still_safe h h refl) refl (inl refl))
+        unopened_held o given told w H.Memory same (λ is. cc) (λ h. file_unopened H.Memory (inr refl) (still_safe h h refl) refl (inl refl))
 
     pub untaken_held : (given : Option History) (told : Bool) (w : List ℕ) (refusal : TakeRefusal) (e : Ending) → given ≡ held → (refusal ≡ Take.There → ⊥) → (refusal ≡ Take.Missing → held ≡ None) → Untaken name refusal e
         → SessionHeld limit input held given told w w logs logs (Ok e)
-    untaken_held given told w Take.Missing e same free gone is = subst (λ o. SessionHeld limit input o given told w w logs logs (Ok e)) (sym (gone refl)) (same ∙ gone refl, refl)
+    untaken_held given told w Take.Missing e same free gone is = subst (λ o. SessionHeld limit input o given told w w logs logs (Ok e)) (sym (gone refl)) (same ∙ gone refl, (refl, untaken_unlogged name Take.Missing e is))
     untaken_held given told w Take.There e same free gone is = absurd (free refl)
     untaken_held given told w Take.Failed e same free gone is =
-        subst (λ x. SessionHeld limit input held given told w w logs logs (Ok x)) (sym is) (unopened_held held given told w H.Device same
+        subst (λ x. SessionHeld limit input held given told w w logs logs (Ok x)) (sym is) (unopened_held held given told w H.Device same (λ is. cc)
         (λ h. file_unopened H.Device tt (still_safe h h refl) refl (inl refl)))
     untaken_held given told w Take.Memory e same free gone is = subst (λ x. SessionHeld limit input held given told w w logs logs (Ok x)) (sym is) (wants_held held given told w same)

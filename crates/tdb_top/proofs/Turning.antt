@@ -42,6 +42,7 @@ use Rattle.tdb_top.specs.Playing.{PlayedFront, PlayedFile, file_unplayed, file_p
 use Rattle.tdb_tool.specs.Serving.{HeardSo}
 use Rattle.tdb_top.specs.Reads.{AskCause}
 use Rattle.tdb_top.specs.Scripts.{IsUnscripted, of_script, unscripted}
+use Rattle.tdb_top.proofs.Unlogged.{untaken_unlogged}
 use Rattle.tdb_open.specs.Loading.{IsOpened, TurnOpeningHeard}
 
 -- how plays end is told as it is
@@ -182,9 +183,13 @@ module _ (options : Options) (name : List ℕ) (h now : History) (plays : List P
     heard_played _ (file_played (Err Rest.Pairs) on) = absurd on.over
     heard_played _ (file_played (Err Rest.Files) on) = absurd on.over
 
+-- no log fails before a file is looked into
+before_unlogged : (e : Ending) → MayEndBefore e → e ≡ E.LogFault → ⊥
+before_unlogged e may is = subst MayEndBefore is may
+
 -- a file that wasn't looked into
 pub heard_nothing : (options : Options) (held : Option History) (e : Ending) (logs later : List Logged) → MayEndBefore e → later ≡ logs → TurnsHeard options held e logs later
-heard_nothing options None e logs later may same = same
+heard_nothing options None e logs later may same = (same, before_unlogged e may)
 heard_nothing options (Some h) e logs later may same = turned_nothing may same
 
 pub heard_unscripted : (fault : ScriptFault) → MayEndBefore (unscripted fault)
@@ -208,7 +213,7 @@ module _ (options : Options) (name : List ℕ) (held : Option History) (refusal 
   untaken_heard logs later same is = of refusal free gone is
     where
       of : (r : TakeRefusal) → (r ≡ Take.There → ⊥) → (r ≡ Take.Missing → held ≡ None) → Untaken name r e → TurnsHeard options held e logs later
-      of Take.Missing free gone is = subst (λ o. TurnsHeard options o e logs later) (sym (gone refl)) same
+      of Take.Missing free gone is = subst (λ o. TurnsHeard options o e logs later) (sym (gone refl)) (same, untaken_unlogged name Take.Missing e is)
       of Take.There free gone is = absurd (free refl)
       of Take.Failed free gone is = subst (λ x. TurnsHeard options held x logs later) (sym is) (heard_nothing options held E.DeviceFault logs later tt same)
       of Take.Memory free gone is = subst (λ x. TurnsHeard options held x logs later) (sym is) (heard_nothing options held E.NoMemory logs later tt same)

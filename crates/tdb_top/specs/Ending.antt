@@ -5,6 +5,7 @@ use Rattle.tdb_words.specs.What.{what_text}
 use Rattle.tdb_disk.specs.Count.{Rose}
 use Rattle.tdb_disk.specs.History.{History, seen}
 use Rattle.tdb_disk.specs.declared.files.TakeRefusal as Take
+use Rattle.tdb_log.specs.Logs.{Logged}
 use Rattle.tdb_dump.specs.Escape.{escaped}
 use Rattle.tdb_dump.specs.Line.{data_line, pair_line}
 use Rattle.tdb_ask.specs.declared.act.Act.{Act}
@@ -243,3 +244,7 @@ pub record PrintsPart (o : Output) (e : Ending) (status : ℕ) : Type 0 where
 -- the output took the line of an ending, or a part of it
 abbrev pub Prints : Output → Ending → ℕ → Type 0
 Prints o e status = PrintsAll o e status ⊎ PrintsPart o e status
+
+-- Logs heard nothing of a command that ended so: they are as they were, and none of them failed.
+abbrev pub NothingHeard : Ending → List Logged → List Logged → Type 0
+NothingHeard e old new = (new ≡ old) × (e ≢ LogFault)

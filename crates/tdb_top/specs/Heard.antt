@@ -26,7 +26,7 @@ use Rattle.tdb_top.specs.Commands.Generate.{GenHeard}
 use Rattle.tdb_top.specs.Commands.Session.{SessionHeard}
 use Rattle.tdb_top.specs.Commands.Turns.{TurnsHeard}
 use Rattle.tdb_top.specs.Commands.Verify.{tells_fault}
-use Rattle.tdb_top.specs.Ending.{of_halt}
+use Rattle.tdb_top.specs.Ending.{of_halt, NothingHeard}
 
 -- What logs heard of a command over one file that ended so, by what they hear of its opening and of what the command did then: it wasn't
 -- taken, for a failed call or want of memory; or it wasn't opened; or it was, with the counts of the bytes that it is read as, and then they
@@ -68,28 +68,28 @@ abbrev pub held_length : Option History → ℕ
 held_length None = 0
 held_length (Some h) = length (seen h)
 
--- What logs heard of an act on the file at a name: its opening, and its growth, if the act made it grow. Where no file was held they are as before.
+-- What logs heard of an act on the file at a name: its opening, and its growth, if the act made it grow. Where no file was held they heard nothing.
 abbrev pub ActHeard : ℕ → Option History → Option History → Ending → List Logged → List Logged → Type 0
-ActHeard limit None now e old new = new ≡ old
+ActHeard limit None now e old new = NothingHeard e old new
 ActHeard limit (Some h) now e old new = ActedHeard limit (seen h) (held_length now) e old new
 
 -- what they heard of a look into it, and of a printing of its pairs: its opening
 abbrev pub LookHeard : Option History → Ending → List Logged → List Logged → Type 0
-LookHeard None e old new = new ≡ old
+LookHeard None e old new = NothingHeard e old new
 LookHeard (Some h) e old new = FileHeard (seen h) (ReadingHeard (seen h)) e (ToldFor e []) old new
 
 abbrev pub PrintHeard : ℕ → Option History → Ending → List Logged → List Logged → Type 0
-PrintHeard limit None e old new = new ≡ old
+PrintHeard limit None e old new = NothingHeard e old new
 PrintHeard limit (Some h) e old new = FileHeard (opened_bytes (seen h)) (BelowHeard limit (seen h)) e (ToldFor e []) old new
 
 -- and where it was opened to be copied or counted
 abbrev pub OpenHeard : Option History → Ending → List Logged → List Logged → Type 0
-OpenHeard None e old new = new ≡ old
+OpenHeard None e old new = NothingHeard e old new
 OpenHeard (Some h) e old new = FileHeard (opened_bytes (seen h)) (OpeningHeard (seen h)) e (ToldFor e []) old new
 
 -- What logs heard of a backup of these files that ended so: the opening of each, one after the other, up to the one at which it ended.
 abbrev pub BackupHeard : List (List ℕ) → (List ℕ → Option History) → Ending → List Logged → List Logged → Type 0
-BackupHeard [] held e old new = new ≡ old
+BackupHeard [] held e old new = NothingHeard e old new
 BackupHeard (file ∷ files) held e old new =
     ((e ≢ Replied Copied) × OpenHeard (held file) e old new)
     ⊎ ((mid : List Logged) × OpenHeard (held file) (Replied Copied) old mid × BackupHeard files held e mid new)
@@ -109,7 +109,7 @@ count_ending (Err Unprinted) = NoMemory
 
 -- and of a verification of these files
 abbrev pub VerifyHeard : List ℕ → List (List ℕ) → (List ℕ → Option History) → Ending → List Logged → List Logged → Type 0
-VerifyHeard suffix [] held e old new = new ≡ old
+VerifyHeard suffix [] held e old new = NothingHeard e old new
 VerifyHeard suffix (file ∷ files) held e old new =
     ((e ≢ Replied Verified) × CountHeard (held file) (held (copy_name suffix file)) e old new)
     ⊎ ((mid : List Logged) × CountHeard (held file) (held (copy_name suffix file)) (Replied Verified) old mid × VerifyHeard suffix files held e mid new)
@@ -120,8 +120,8 @@ abbrev pub TaskHeard : Task → List ℕ → (List ℕ → Option History) → (
 TaskHeard (On act) name held now e old new = ActHeard act.limit (held name) (now name) e old new
 TaskHeard (Read look) name held now e old new = LookHeard (held name) e old new
 TaskHeard (Print listing limit) name held now e old new = PrintHeard limit (held name) e old new
-TaskHeard (Create form) name held now e old new = new ≡ old
-TaskHeard (Restore limit) name held now e old new = new ≡ old
+TaskHeard (Create form) name held now e old new = NothingHeard e old new
+TaskHeard (Restore limit) name held now e old new = NothingHeard e old new
 TaskHeard (Backup more suffix) name held now e old new = BackupHeard (name ∷ more) held e old new
 TaskHeard (Verify more suffix) name held now e old new = VerifyHeard suffix (name ∷ more) held e old new
 TaskHeard (Turns options) name held now e old new = TurnsHeard options (held name) e old new
@@ -130,5 +130,5 @@ TaskHeard (Generate commands seed) name held now e old new = GenHeard commands s
 
 -- and of a run that is asked for this, or for nothing
 abbrev pub AskHeard : Option Ask → (List ℕ → Option History) → (List ℕ → Option History) → Ending → List Logged → List Logged → Type 0
-AskHeard None held now e old new = new ≡ old
+AskHeard None held now e old new = NothingHeard e old new
 AskHeard (Some ask) held now e old new = TaskHeard ask.task ask.file held now e old new

@@ -32,8 +32,9 @@ use Rattle.tdb_open.specs.Notices.{BelowHeard}
 use Rattle.tdb_tool.specs.Serving.{HeardOrRefused}
 use Rattle.tdb_open.specs.Loading.{OpensToTurn, IsRefusedToTurn, IsOpened, IsOver, OpenedToTurn}
 use Rattle.tdb_top.specs.Commands.Turns.{ReportHeard}
-use Rattle.tdb_top.specs.Ending.{of_halt, text_of}
+use Rattle.tdb_top.specs.Ending.{of_halt, text_of, NothingHeard}
 use Rattle.tdb_top.specs.Input.{Input}
+use Rattle.tdb_top.specs.Looks.{ending_of}
 use Rattle.tdb_open.specs.Opening.{opened_bytes}
 use Rattle.tdb_top.specs.Output.{Output}
 use Rattle.tdb_open.specs.Opening.{OpensSafely}
@@ -164,7 +165,7 @@ pub data SessionFile (limit : ℕ) (input : Input) (old now : History) (told : B
 
 -- and how one ends over what is held at the name of its file; where nothing is, logs heard nothing
 abbrev pub SessionHeld : ℕ → Input → Option History → Option History → Bool → List ℕ → List ℕ → List Logged → List Logged → Result Ending Unprinted → Type 0
-SessionHeld limit input None now told before after logs later r = (now ≡ None) × (later ≡ logs)
+SessionHeld limit input None now told before after logs later r = (now ≡ None) × NothingHeard (ending_of r) logs later
 SessionHeld limit input (Some old) now told before after logs later r =
     (h : History) × (now ≡ Some h) × SessionFile limit input old h told before after logs later r
 
@@ -183,5 +184,5 @@ pub data FileServed (limit : ℕ) (img : List ℕ) (e : Ending) (logs later : Li
 
 -- by what was held at the name of the file
 abbrev pub SessionHeard : ℕ → Option History → Ending → List Logged → List Logged → Type 0
-SessionHeard limit None e logs later = later ≡ logs
+SessionHeard limit None e logs later = NothingHeard e logs later
 SessionHeard limit (Some h) e logs later = FileServed limit (seen h) e logs later

@@ -30,7 +30,7 @@ use Rattle.tdb_open.specs.declared.halt.Refusal.{Refusal}
 use Rattle.tdb_top.specs.Input.{Input}
 use Rattle.tdb_open.specs.declared.halt.Halt.{Halt}
 use Rattle.tdb_open.specs.declared.opening.Opened.{Opened}
-use Rattle.tdb_top.specs.Ending.{of_halt}
+use Rattle.tdb_top.specs.Ending.{of_halt, NothingHeard}
 use Rattle.tdb_open.specs.Opening.{opened_bytes, SameOrUndone}
 use Rattle.tdb_top.specs.Output.{Output}
 
@@ -116,7 +116,7 @@ pub data FileTurned (options : Options) (img : List ℕ) (e : Ending) (logs late
 
 -- by what was held at the name of the file
 abbrev pub TurnsHeard : Options → Option History → Ending → List Logged → List Logged → Type 0
-TurnsHeard options None e logs later = later ≡ logs
+TurnsHeard options None e logs later = NothingHeard e logs later
 TurnsHeard options (Some h) e logs later = FileTurned options (seen h) e logs later
 
 -- All plays of the script on the input were taken over a file, and their report was printed. They lead from a world just

@@ -1,6 +1,6 @@
 // The command that makes a new file of the pairs of a dump text.
 
-ghost use Rattle.std.specs.Prelude.{◌≡◌, ◌≤◌, ℕ, List, false, IsTrue, IfErr, OnOk};
+ghost use Rattle.std.specs.Prelude.{◌≡◌, ◌≢◌, ◌≤◌, ℕ, List, false, IsTrue, IfErr, OnOk};
 ghost use Rattle.tdb_disk.specs.Count.{HasCauseOf};
 ghost use Rattle.tdb_disk.specs.History.{seen};
 ghost use Rattle.tdb_disk.specs.Names.{SameBut};
@@ -9,7 +9,7 @@ ghost use Rattle.tdb_words.specs.declared.hash.HashKind.TheVariants.{Old};
 ghost use Rattle.tdb_backup.specs.Restoring.{Restored};
 ghost use Rattle.tdb_backup.specs.declared.refusal.RestoreRefusal.TheVariants.{Input as InputFails, Io as DiskFails};
 ghost use Rattle.tdb_ask.specs.declared.ask.Task.TheVariants.{Restore};
-ghost use Rattle.tdb_top.specs.declared.ending.Ending.TheVariants.{Usage};
+ghost use Rattle.tdb_top.specs.declared.ending.Ending.TheVariants.{Usage, LogFault};
 ghost use Rattle.tdb_open.specs.Creating.{IsNewFile};
 ghost use Rattle.tdb_ask.specs.declared.limits.TheConstants.{DEFAULT_SIZE};
 ghost use Rattle.tdb_top.specs.Commands.Restore.{new_form, of_restore, IsRestored, TextRefused, HeardBy};
@@ -117,6 +117,7 @@ pub(crate) fn restore_file<F: Files, S: Source>(
     ensures counted { CountedBy (F.faults files.old) (F.faults files.new) result }
     ensures heard { HeardBy (S.faults input.old) (S.faults input.new) result }
     ensures asked { result ≡ Usage → ⊥ }
+    ensures unlogged { result ≢ LogFault }
 {
     let mut disk = match files.take(alloc, name, Take::New) {
         Ok(disk) => disk,

@@ -1,4 +1,4 @@
-use Rattle.std.proofs.Common.{◌≡◌, ◌∷◌, ℕ, List, Ok, string_bytes, sym, ◌∙◌, subst, inl}
+use Rattle.std.proofs.Common.{◌≡◌, ◌∷◌, ℕ, List, Ok, string_bytes, refl, sym, ◌∙◌, subst, inl}
 use Rattle.std.specs.Prelude.{IsTrue}
 use Rattle.tdb_disk.specs.Count.{Rose}
 use Rattle.tdb_plays.specs.declared.options.Options.{Options}
@@ -19,6 +19,7 @@ use Rattle.tdb_top.specs.Heard.{TaskHeard, VerifyHeard}
 use Rattle.tdb_top.specs.Stops.{StopsScripted}
 use Rattle.tdb_top.proofs.Looking.{began_as}
 use Rattle.tdb_top.proofs.Acting.{made_cause, made_left, backup_ends, verify_ends, gen_ends}
+use Rattle.tdb_top.proofs.Unlogged.{made_unlogged}
 use Rattle.tdb_top.proofs.answering.answer_ask.Goals as goal
 
 -- why a file was made, or wasn't
@@ -93,7 +94,24 @@ returns-in-Generate-clause-cause g c told =
     gen_ends (input_by g.S.Source.tells (g.S.Source.left c.args.input.now) (g.S.Source.faults c.args.input.now) (g.S.Source.faults c.args.input.now)) c.args.ask.now.task c.in-Generate.commands c.in-Generate.seed (string_bytes c.args.ask.now.file) held before now e c.in-Generate.is
     (subst (λ n. GenCause c.in-Generate.commands c.in-Generate.seed n (held n) before now e) c.as_str-name.ensures.value (c.generate_file.ensures.cause told))
 
--- what logs heard of files that were verified
+-- what logs heard of a file that was to be made, of the pairs on the input too
+pub returns-in-Create-clause-told : goal.returns-in-Create-clause-told
+returns-in-Create-clause-told g c told =
+    let held = g.F.Files.held c.args.files.now in
+    let now = g.F.Files.held c.create_file-creation.new.files in
+    let logs = g.L.Logs.logs c.args.logs.now in
+    subst (λ t. TaskHeard t (string_bytes c.args.ask.now.file) held now c.made.result logs logs) (sym c.in-Create.is)
+    (refl, made_unlogged c.as_str-name.result.now c.create_file-creation.result c.made.result c.made.ensures)
+
+pub returns-in-Restore-clause-told : goal.returns-in-Restore-clause-told
+returns-in-Restore-clause-told g c told =
+    let held = g.F.Files.held c.args.files.now in
+    let now = g.F.Files.held c.restore_file.new.files in
+    let logs = g.L.Logs.logs c.args.logs.now in
+    subst (λ t. TaskHeard t (string_bytes c.args.ask.now.file) held now c.restore_file.result logs logs) (sym c.in-Restore.is)
+    (refl, c.restore_file.ensures.unlogged)
+
+-- and of files that were verified
 pub returns-in-Verify-clause-told : goal.returns-in-Verify-clause-told
 returns-in-Verify-clause-told g c told =
     let held = g.F.Files.held c.args.files.now in

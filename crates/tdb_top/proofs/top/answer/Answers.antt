@@ -111,7 +111,7 @@ returns-in-Ok-Some-clause-told g c told =
 pub returns-in-Ok-None-clause-told : goal.returns-in-Ok-None-clause-told
 returns-in-Ok-None-clause-told g c told =
     let logs = g.L.Logs.logs c.args.logs.now in
-    subst (λ a. AskHeard a (g.F.Files.held c.args.files.now) (g.F.Files.held c.args.files.now) Usage logs logs) (rw c.in-Ok-None.field-0-is at c.in-Ok-None.ensures.read) refl
+    subst (λ a. AskHeard a (g.F.Files.held c.args.files.now) (g.F.Files.held c.args.files.now) Usage logs logs) (rw c.in-Ok-None.field-0-is at c.in-Ok-None.ensures.read) (refl, λ is. cc)
 
 pub returns-in-Err-clause-told : goal.returns-in-Err-clause-told
 returns-in-Err-clause-told g c told = ask_unheard (ask_of (map string_bytes c.args.words.now)) (g.F.Files.held c.args.files.now) (g.L.Logs.logs c.args.logs.now)

@@ -149,4 +149,4 @@ returns-clause-heard g c told =
     let logs = g.L.Logs.logs in
     let all = c.args.file.now ∷ xs in
     let none : drop i xs ≡ [] = drop_of_length-le xs (omega (arith, c.loop-name-test.false)) in
-    subst (λ l. BackupCarries all (held c.args.files.now) (logs c.args.logs.now) l (logs c.loop-name.logs)) none (c.loop-name.invariant.hears told) (Replied Copied) (logs c.loop-name.logs) refl
+    subst (λ l. BackupCarries all (held c.args.files.now) (logs c.args.logs.now) l (logs c.loop-name.logs)) none (c.loop-name.invariant.hears told) (Replied Copied) (logs c.loop-name.logs) (refl, λ is. cc)

@@ -9,7 +9,7 @@ use Rattle.tdb_top.specs.Input.{Input, input_by}
 use Rattle.tdb_top.proofs.Acting.{rose_earlier}
 use Rattle.tdb_top.proofs.Held.{same_or_other}
 use Rattle.tdb_top.proofs.Looking.{files_counted}
-use Rattle.tdb_top.proofs.Restoring.{none_held, untaken_new, whole_cause, refused_cause, refused_asked, removed_left, failed_left, refused_counted, failed_counted, refused_heard}
+use Rattle.tdb_top.proofs.Restoring.{none_held, untaken_new, whole_cause, refused_cause, refused_asked, refused_unlogged, removed_left, failed_left, refused_counted, failed_counted, refused_heard}
 use Rattle.tdb_top.proofs.commands.restore.restore_file.Goals as goal
 use Rattle.tdb_top.proofs.commands.restore.restore_file.Goals.{After-give}
 
@@ -77,6 +77,7 @@ returns-in-Ok-remove g c =
       counted = counted;
       heard = refused_heard (g.S.Source.faults c.args.input.now) (g.S.Source.faults c.fill-filled.new.input) r e is v.failed v.refused;
       asked = refused_asked r e is;
+      unlogged = refused_unlogged r e is;
     }
 
 -- it couldn't be removed
@@ -96,4 +97,5 @@ returns-in-Err-remove g c =
       counted = failed_counted before given after later c.in-Err-remove.ensures.cause.never_falls c.in-Err-remove.ensures.cause.failed;
       heard = record { failed = λ is. cc; told = inr (inr refl) };
       asked = λ is. cc;
+      unlogged = λ is. cc;
     }

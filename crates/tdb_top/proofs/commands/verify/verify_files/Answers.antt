@@ -157,7 +157,7 @@ returns-clause-heard g c told =
     let logs = g.L.Logs.logs in
     let all = c.args.file.now ∷ xs in
     let none : drop i xs ≡ [] = drop_of_length-le xs (omega (arith, c.loop-name-test.false)) in
-    subst (λ l. VerifyCarries suffix all (held c.args.files.now) (logs c.args.logs.now) l (logs c.loop-name.logs)) none (c.loop-name.invariant.hears told) (Replied Verified) (logs c.loop-name.logs) refl
+    subst (λ l. VerifyCarries suffix all (held c.args.files.now) (logs c.args.logs.now) l (logs c.loop-name.logs)) none (c.loop-name.invariant.hears told) (Replied Verified) (logs c.loop-name.logs) (refl, λ is. cc)
 
 -- nothing else changed
 pub returns-in_err-verify_file-2-clause-others : goal.returns-in_err-verify_file-2-clause-others
