@@ -118,8 +118,9 @@ pub record PrintsOf (run : Run) (listing : Listing) (limit : ℕ) (name : List �
   pub asks : run.ask ≡ Some (record { file = name; task = Print listing limit })
   pub there : run.old name ≡ Some old
 
--- Status 3 comes only over a file whose bytes can't be opened, in the way that the command opens it; and over each that
--- is no longer than the longest nothing else comes, unless a call or a log failed or memory was wanting.
+-- Of an act, a look or a printing status 3 comes only over a file whose bytes can't be opened, in the way that the
+-- command opens it; and over each that is no longer than the longest and than it may be nothing else comes, unless a
+-- call or a log failed or memory was wanting.
 pub record RefusesExactly (run : Run) : Type 0 where
   pub only : (act : Act) (name : List ℕ) (h : History) → ActsOn run act name h → run.status ≡ 3 → Opens (seen h) → ⊥
   pub exact : (act : Act) (name : List ℕ) (h : History) → ActsOn run act name h → (Opens (seen h) → ⊥) → length (seen h) ≤ LONGEST_FILE → length (seen h) ≤ act.limit → (run.status ≡ 3) ⊎ TellsFault run.status

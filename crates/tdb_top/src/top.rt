@@ -82,22 +82,29 @@ fn finish<K: Sink>(alloc: Global, answered: &Result<Ending, Unprinted>, output: 
 ///
 /// | Status | Meaning | Printed |
 /// |---|---|---|
-/// | 0 | the value of the key is shown, the key is added, the file is made, or it is accepted and has `N` keys | `data(N) = "TEXT"`, `ok`, `ok`, `number N` |
-/// | 0 | all pairs are printed, or all keys, or the value of the one key | their dump text, a line for each key, `TEXT` |
-/// | 0 | the first pair is shown, or there is none, or none behind the one shown last | `key(N) = "TEXT" data(N) = "TEXT"`, `end`, `end` |
+/// | 0 | the value of the key is shown | `data(N) = "TEXT"` |
+/// | 0 | the key is added, stored or deleted, all keys are taken out, or the file is made | `ok` |
+/// | 0 | the file is accepted, and has `N` keys | `number N` |
+/// | 0 | all pairs are printed, or all keys | their dump text, a line for each key |
+/// | 0 | the value of the one key is printed | `TEXT` |
+/// | 0 | the first pair is shown | `key(N) = "TEXT" data(N) = "TEXT"` |
+/// | 0 | there is no pair, or none behind the one shown last | `end` |
 /// | 0 | a transaction is started, which is cancelled at the end | `ok` |
 /// | 0 | the file is made of the pairs on the input, or all files are copied | |
-/// | 0 | all files are verified: each was opened, or had a fault and was restored from its copy | `FILE : N records`, behind `restoring FILE` where it was restored |
+/// | 0 | all files are verified; of each that was opened | `FILE : N records` |
+/// | 0 | of each that had a fault, and was restored from its copy | `restoring FILE`, and `FILE : N records` |
 /// | 0 | the plays of the script on the input were taken | their report, line by line |
-/// | 0 | the commands on the lines of the input were taken | their replies, one on each line |
+/// | 0 | the commands on the lines of the input were taken | their replies, each on a line or more |
 /// | 0 | the file is made, and all generated commands were done on it | their summary, a line for each number |
-/// | 1 | the key isn't there, or is there already, or there is no transaction to commit or to cancel | `noexist`, `exists`, `notransaction` |
+/// | 1 | the key isn't there, or is there already | `noexist`, `exists` |
+/// | 1 | there is no transaction to commit or to cancel | `notransaction` |
 /// | 2 | the words ask for nothing | the usage |
-/// | 3 | the file is refused for a fault of its header, or for another fault, or a dump would have to undo a change first | `header KIND`, `corrupt WHAT AT`, `needs recovery` |
+/// | 3 | the file is refused for a fault of its header, or for another fault | `header KIND`, `corrupt WHAT AT` |
+/// | 3 | a dump, or turns that only read, would have to undo a change first | `needs recovery` |
 /// | 4 | a call of the files or of a disk failed | `device fault` |
 /// | 5 | memory was wanting | `memory` |
 /// | 6 | the file of `LEN` bytes has no room for `NEED` more, or is too long itself | `full LEN NEED`, `toolong LEN` |
-/// | 7 | the input isn't dump text, or no script, or no commands, or is too long, from its byte `N` on | `input malformed at N` |
+/// | 7 | the input is no dump text, script or commands, or is too long, from its byte `N` on | `input malformed at N` |
 /// | 8 | a read of the input failed | `input fault` |
 /// | 8 | the output failed | a part of what was due, from its first byte on |
 /// | 9 | there is no file of this name, or there is one that was to be made | `missing NAME`, `there NAME` |
