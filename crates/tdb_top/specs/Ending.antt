@@ -127,9 +127,9 @@ MakingDue file e =
 
 -- How a task on the file of this name ends, by what is held there, where no call failed and memory sufficed. An act, a
 -- look and a printing are on a file that is there; a file is made where none is. How a restore ends where no file is
--- depends on its input, as turns and a session do, how a backup and a verification end on all their files (`BackupEnds`,
--- `VerifyEnds`), and how generated commands end on how they were done (`GenSo`), so none is due to what is held at one
--- name.
+-- depends on its input, as turns and a session do, how a backup and a verification end on all their files
+-- (`BackupEnds`, `VerifyEnds`), and how generated commands end on how they were done (`GenSo`), so none is due to what
+-- is held at one name.
 abbrev pub TaskDue : Task → List ℕ → Option History → Ending → Type 0
 TaskDue (On act) name None e = e ≡ Missing name
 TaskDue (On act) name (Some h) e = Replies act (seen h) e ⊎ Refuses act.limit (seen h) e

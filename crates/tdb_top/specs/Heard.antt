@@ -28,9 +28,9 @@ use Rattle.tdb_top.specs.Commands.Turns.{TurnsHeard}
 use Rattle.tdb_top.specs.Commands.Verify.{tells_fault}
 use Rattle.tdb_top.specs.Ending.{of_halt, NothingHeard}
 
--- What logs heard of a command over one file that ended so, by what they hear of its opening and of what the command did then: it wasn't
--- taken, for a failed call or want of memory; or it wasn't opened; or it was, with the counts of the bytes that it is read as, and then they
--- heard more.
+-- What logs heard of a command over one file that ended so, by what they hear of its opening and of what the command
+-- did then: it wasn't taken, for a failed call or want of memory; or it wasn't opened; or it was, with the counts of
+-- the bytes that it is read as, and then they heard more.
 pub data FileHeard (read : List ℕ) (Opening : List Logged → List Logged → Result Opened Halt → Type 0) (e : Ending) (More : List Logged → List Logged → Type 0) (old new : List Logged) : Type 0 where
   heard_nothing : (e ≡ DeviceFault) ⊎ (e ≡ NoMemory) → new ≡ old → FileHeard read Opening e More old new
   heard_halt : (halt : Halt) → e ≡ of_halt halt → Opening old new (Err halt) → FileHeard read Opening e More old new
@@ -40,8 +40,8 @@ pub data FileHeard (read : List ℕ) (Opening : List Logged → List Logged → 
 abbrev pub growth : ℕ → ℕ → List Notice
 growth from to = if nat_lt from to then Grew from to ∷ [] else []
 
--- Notices were told by a command that ended so: all of them; or, where a log failed, those before one that the last log refused; and after a
--- failed call none.
+-- Notices were told by a command that ended so: all of them; or, where a log failed, those before one that the last log
+-- refused; and after a failed call none.
 abbrev pub ToldFor : Ending → List Notice → List Logged → List Logged → Type 0
 ToldFor LogFault notices old new = (refusal : LogRefusal) × ToldUpTo refusal notices old new
 ToldFor DeviceFault notices old new = new ≡ old
@@ -54,7 +54,8 @@ GrowthHeard from to old new (Err F.Device) = new ≡ old
 GrowthHeard from to old new (Err F.Memory) = ToldAll (growth from to) old new
 GrowthHeard from to old new (Err F.Log) = (refusal : LogRefusal) × ToldUpTo refusal (growth from to) old new
 
--- what logs heard of an act that was to be on an opened file, which may have so many bytes, by the length that the file has then
+-- what logs heard of an act that was to be on an opened file, which may have so many bytes, by the length that the file
+-- has then
 abbrev pub ActedHeard : ℕ → List ℕ → ℕ → Ending → List Logged → List Logged → Type 0
 ActedHeard limit img now e old new = FileHeard (opened_bytes img) (BelowHeard limit img) e (ToldFor e (growth (length (opened_bytes img)) now)) old new
 
@@ -68,7 +69,8 @@ abbrev pub held_length : Option History → ℕ
 held_length None = 0
 held_length (Some h) = length (seen h)
 
--- What logs heard of an act on the file at a name: its opening, and its growth, if the act made it grow. Where no file was held they heard nothing.
+-- What logs heard of an act on the file at a name: its opening, and its growth, if the act made it grow. Where no file
+-- was held they heard nothing.
 abbrev pub ActHeard : ℕ → Option History → Option History → Ending → List Logged → List Logged → Type 0
 ActHeard limit None now e old new = NothingHeard e old new
 ActHeard limit (Some h) now e old new = ActedHeard limit (seen h) (held_length now) e old new
@@ -87,21 +89,23 @@ abbrev pub OpenHeard : Option History → Ending → List Logged → List Logged
 OpenHeard None e old new = NothingHeard e old new
 OpenHeard (Some h) e old new = FileHeard (opened_bytes (seen h)) (OpeningHeard (seen h)) e (ToldFor e []) old new
 
--- What logs heard of a backup of these files that ended so: the opening of each, one after the other, up to the one at which it ended.
+-- What logs heard of a backup of these files that ended so: the opening of each, one after the other, up to the one at
+-- which it ended.
 abbrev pub BackupHeard : List (List ℕ) → (List ℕ → Option History) → Ending → List Logged → List Logged → Type 0
 BackupHeard [] held e old new = NothingHeard e old new
 BackupHeard (file ∷ files) held e old new =
     ((e ≢ Replied Copied) × OpenHeard (held file) e old new)
     ⊎ ((mid : List Logged) × OpenHeard (held file) (Replied Copied) old mid × BackupHeard files held e mid new)
 
--- What logs heard of a file that is verified, which ended so: its opening; or, where it is refused for a fault, that and then the opening of its
--- copy.
+-- What logs heard of a file that is verified, which ended so: its opening; or, where it is refused for a fault, that
+-- and then the opening of its copy.
 abbrev pub CountHeard : Option History → Option History → Ending → List Logged → List Logged → Type 0
 CountHeard own copy e old new =
     OpenHeard own e old new
     ⊎ ((refused : Ending) × (mid : List Logged) × (tells_fault refused ≡ true) × OpenHeard own refused old mid × OpenHeard copy e mid new)
 
--- the ending of a verification whose files so far were verified so; where the output failed, how it would have ended isn't known (`rest_of`)
+-- the ending of a verification whose files so far were verified so; where the output failed, how it would have ended
+-- isn't known (`rest_of`)
 abbrev pub count_ending : {A : Type 0} → Result A Unverified → Ending
 count_ending (Ok v) = Replied Verified
 count_ending (Err (Ends e)) = e
@@ -114,8 +118,8 @@ VerifyHeard suffix (file ∷ files) held e old new =
     ((e ≢ Replied Verified) × CountHeard (held file) (held (copy_name suffix file)) e old new)
     ⊎ ((mid : List Logged) × CountHeard (held file) (held (copy_name suffix file)) (Replied Verified) old mid × VerifyHeard suffix files held e mid new)
 
--- What logs heard of a task on the file of this name that ended so, by what was held at each name before and after. The making of a file, of
--- the pairs on the input too, tells them nothing.
+-- What logs heard of a task on the file of this name that ended so, by what was held at each name before and after. The
+-- making of a file, of the pairs on the input too, tells them nothing.
 abbrev pub TaskHeard : Task → List ℕ → (List ℕ → Option History) → (List ℕ → Option History) → Ending → List Logged → List Logged → Type 0
 TaskHeard (On act) name held now e old new = ActHeard act.limit (held name) (now name) e old new
 TaskHeard (Read look) name held now e old new = LookHeard (held name) e old new

@@ -1,7 +1,8 @@
 -- What a run reads.
 use Rattle.std.specs.Prelude.{ℕ, Bool, List}
 
--- the bytes that the input had left before a run, where it tells them, and how often its calls had failed before and after
+-- the bytes that the input had left before a run, where it tells them, and how often its calls had failed before and
+-- after
 pub record Input : Type 0 where
   pub tells : Bool
   pub text : List ℕ

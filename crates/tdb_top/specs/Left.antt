@@ -61,15 +61,16 @@ OnLeaves act (Some old) e now = (h : History) × (now ≡ Some h) × ActLeaves a
 abbrev pub HasRestored : Input → Option History → Option History → Type 0
 HasRestored input old now = (h : History) × (old ≡ None) × (now ≡ Some h) × (IsTrue input.tells → IsRestored input.text h)
 
--- What a restore leaves at the name of its file: what was there, but where it is done or a call of the files failed. Where
--- it is done no file was there, and the new one has the pairs. A file that was there stays whatever the ending is.
+-- What a restore leaves at the name of its file: what was there, but where it is done or a call of the files failed.
+-- Where it is done no file was there, and the new one has the pairs. A file that was there stays whatever the ending
+-- is.
 pub record RestoreLeaves (input : Input) (old : Option History) (e : Ending) (now : Option History) : Type 0 where
   pub left : (now ≡ old) ⊎ (e ≡ Replied Restored) ⊎ (e ≡ DeviceFault)
   pub done : status_of e ≡ 0 → HasRestored input old now
   pub there : IsSome old → now ≡ old
 
--- what a task on the file of this name leaves there, and a backup or a verification at all its names; a look leaves what is there; of a
--- session more is said with what it prints (`SessionHeld`)
+-- what a task on the file of this name leaves there, and a backup or a verification at all its names; a look leaves
+-- what is there; of a session more is said with what it prints (`SessionHeld`)
 abbrev pub TaskLeaves : Input → Task → List ℕ → (List ℕ → Option History) → Ending → (List ℕ → Option History) → Type 0
 TaskLeaves input (On act) file old e now = OnLeaves act (old file) e (now file)
 TaskLeaves input (Read look) file old e now = now file ≡ old file

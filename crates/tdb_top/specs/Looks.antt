@@ -37,8 +37,8 @@ abbrev pub before_reply : Reply → List ℕ → List ℕ
 before_reply Dumped text = text
 before_reply _ text = []
 
--- What may stand of a text before the line of an ending: some bytes, from its first one on, where a call failed or memory
--- was wanting; and nothing before a line that isn't a reply's.
+-- What may stand of a text before the line of an ending: some bytes, from its first one on, where a call failed or
+-- memory was wanting; and nothing before a line that isn't a reply's.
 abbrev pub StandsBefore : List ℕ → Ending → List ℕ → Type 0
 StandsBefore text (Replied reply) written = written ≡ before_reply reply text
 StandsBefore text DeviceFault written = (n : ℕ) × (written ≡ take n text)
@@ -58,8 +58,8 @@ look_tells Dump files output = output && files
 look_tells (Value key) files output = output
 
 -- What was left to be told where the output failed: that all was printed, or that a call of a disk failed. How a
--- verification of the files would have ended that weren't looked at isn't known, so that it ends as one for which memory
--- was wanting: that may come at any file, and says nothing of those behind it.
+-- verification of the files would have ended that weren't looked at isn't known, so that it ends as one for which
+-- memory was wanting: that may come at any file, and says nothing of those behind it.
 abbrev pub rest_of : Unprinted → Ending
 rest_of Rest.Pairs = Replied Dumped
 rest_of Rest.Report = Replied Played

@@ -96,8 +96,8 @@ RunsTo f old plays IsLeft told before now logs later (Err Rest.Fault) = (new : S
 RunsTo f old plays IsLeft told before now logs later (Err Rest.Pairs) = ⊥
 RunsTo f old plays IsLeft told before now logs later (Err Rest.Files) = ⊥
 
--- Plays led from one moment to another, and ended so, over a disk and an output that tell or don't: from each state that
--- the world may have to one that it may have afterwards.
+-- Plays led from one moment to another, and ended so, over a disk and an output that tell or don't: from each state
+-- that the world may have to one that it may have afterwards.
 pub record Ran (disk_tells output_tells : Bool) (old new : Scene) (plays : List Play) (answer : PlaysEnd) : Type 0 where
   pub header : UnlessBroken answer (new.world.openers.header ≡ old.world.openers.header)
   pub options : UnlessBroken answer (new.world.openers.options ≡ old.world.openers.options)
@@ -130,8 +130,8 @@ PlayedOver f options a plays b told before now logs later (Err Rest.Fault) = Pla
 PlayedOver f options a plays b told before now logs later (Err Rest.Pairs) = ⊥
 PlayedOver f options a plays b told before now logs later (Err Rest.Files) = ⊥
 
--- How turns over a file end that is there: it is refused, or it is opened and the plays are taken. Nothing was written where
--- it wasn't opened. The logs heard of the opening, and then of the plays.
+-- How turns over a file end that is there: it is refused, or it is opened and the plays are taken. Nothing was written
+-- where it wasn't opened. The logs heard of the opening, and then of the plays.
 pub record PlayedOn (options : Options) (old now : History) (told : Bool) (before after : List ℕ) (logs later : List Logged) (answer : PlaysEnd) (plays : List Play) : Type 0 where
   pub opened : History
   pub opens : OpensToTurn options (seen old)
@@ -160,8 +160,8 @@ abbrev pub PlayedAll : Options → List Play → Option History → Option Histo
 PlayedAll options plays old now told before after logs later =
     (file : History) × (left : History) × (old ≡ Some file) × (now ≡ Some left) × PlayedOn options file left told before after logs later (Ok (Ok tt)) plays
 
--- Why turns over the file of this name end so that have their script: there is none, or it is refused, or it is opened; or a
--- call failed, or memory was wanting.
+-- Why turns over the file of this name end so that have their script: there is none, or it is refused, or it is opened;
+-- or a call failed, or memory was wanting.
 pub data PlaysCause (options : Options) (name : List ℕ) (held : Option History) (before after : ℕ) : Ending → Type 0 where
   plays_nowhere : held ≡ None → PlaysCause options name held before after (Missing name)
   plays_refused : (h : History) (refusal : Refusal) → held ≡ Some h → IsRefusedToTurn options (seen h) refusal → PlaysCause options name held before after (Refused refusal)

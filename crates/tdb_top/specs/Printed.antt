@@ -36,8 +36,8 @@ abbrev pub TextBefore : Option Ask → (List ℕ → Option History) → Ending 
 TextBefore None held e text = text ≡ []
 TextBefore (Some ask) held e text = TaskText ask.task ask.file held e text
 
--- whether it is told what a task prints, by whether the files and the output tell; where a file's pairs, a report of it,
--- replies over it or the number of its keys are printed the files have to tell too
+-- whether it is told what a task prints, by whether the files and the output tell; where a file's pairs, a report of
+-- it, replies over it or the number of its keys are printed the files have to tell too
 abbrev pub task_tells : Task → Bool → Bool → Bool
 task_tells (On act) files output = output
 task_tells (Read look) files output = look_tells look files output
@@ -74,8 +74,8 @@ pub record WritesPart (told : Bool) (o : Output) (Text : Ending → List ℕ →
 abbrev pub Writes : Bool → Output → (Ending → List ℕ → Type 0) → Ending → ℕ → Type 0
 Writes told o Text e status = WritesAll told o Text e status ⊎ WritesPart told o Text e status
 
--- How a run goes on behind the text: the output takes the line of an ending or a part of it; where it failed in the text,
--- nothing more is written, and the status is 8.
+-- How a run goes on behind the text: the output takes the line of an ending or a part of it; where it failed in the
+-- text, nothing more is written, and the status is 8.
 abbrev pub Finishes : Result Ending Unprinted → Output → Ending → ℕ → Type 0
 Finishes (Ok found) o e status = Prints o e status
 Finishes (Err unprinted) o e status = (e ≡ rest_of unprinted) × (status ≡ 8) × (o.after ≡ o.before) × (o.faults_after ≡ o.faults_before)

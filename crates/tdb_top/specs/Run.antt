@@ -73,8 +73,9 @@ run_by words old now before after input output status = record {
 
 -- Why a run ends so that is asked for this, or for nothing: it is due; or a restore was asked for, no file was at its
 -- name, and its input says so; or a backup or a verification was, and its files say so; or turns were, and their script
--- and their file say so; or a session was, and its lines and its file say so; or generated commands were, no file was at the name, and
--- it is how they were done; or it is asked for something and a call failed, or a log did; or memory was wanting.
+-- and their file say so; or a session was, and its lines and its file say so; or generated commands were, no file was
+-- at the name, and it is how they were done; or it is asked for something and a call failed, or a log did; or memory
+-- was wanting.
 pub data MayEnd (ask : Option Ask) (held : List ℕ → Option History) (input : Input) (before after : ℕ) : Ending → Type 0 where
   is_due : (e : Ending) → Due ask held e → MayEnd ask held input before after e
   is_read : (e : Ending) (limit : ℕ) (name : List ℕ) → ask ≡ Some (record { file = name; task = Restore limit }) → held name ≡ None → ReadSo input limit e → MayEnd ask held input before after e
@@ -129,9 +130,9 @@ pub record RefusesExactly (run : Run) : Type 0 where
   pub print_only : (listing : Listing) (limit : ℕ) (name : List ℕ) (h : History) → PrintsOf run listing limit name h → run.status ≡ 3 → Opens (seen h) → ⊥
   pub print_exact : (listing : Listing) (limit : ℕ) (name : List ℕ) (h : History) → PrintsOf run listing limit name h → (Opens (seen h) → ⊥) → length (seen h) ≤ LONGEST_FILE → length (seen h) ≤ limit → (run.status ≡ 3) ⊎ TellsFault run.status
 
--- a status after which every file is as before or undone, whatever the words ask for, but for copies and restored files,
--- and for turns and sessions that ended in their midst (`EndsMidway`): it says neither that it was done, nor that a call of the files or
--- of the output failed, nor that a log did
+-- a status after which every file is as before or undone, whatever the words ask for, but for copies and restored
+-- files, and for turns and sessions that ended in their midst (`EndsMidway`): it says neither that it was done, nor
+-- that a call of the files or of the output failed, nor that a log did
 abbrev pub KeepsAll : ℕ → Type 0
 KeepsAll status = (status ≢ 0) × (status ≢ 4) × (status ≢ 8) × (status ≢ 10)
 
@@ -145,8 +146,8 @@ EndsMidway task status = ⊥
 
 -- What a run leaves of the file of an act, which held this, by its status. Want of memory, status 5, may come before
 -- the file was opened or after it was undone. A fault of the output, status 8, tells nothing of the file: it is as it
--- was or undone, or as the act left it, or as a failed call left it, which raised the count of faults. A log that failed,
--- status 10, may have done so behind the act.
+-- was or undone, or as the act left it, or as a failed call left it, which raised the count of faults. A log that
+-- failed, status 10, may have done so behind the act.
 pub record ActRun (act : Act) (old : History) (before after status : ℕ) (now : History) : Type 0 where
   pub any : SameOrUndone old now ⊎ Left act old now ⊎ (Rose before after × Interrupted act old now)
   pub replied : status ≡ 0 → status_of (Replied (reply_of act (opened_bytes (seen old)))) ≡ 0
@@ -160,8 +161,9 @@ pub record ActRun (act : Act) (old : History) (before after status : ℕ) (now :
 abbrev pub IsLeftEmpty : NewFile → Option History → Option History → Type 0
 IsLeftEmpty file old now = (file.limit < new_length file.form) × LeftEmpty old now
 
--- What a run leaves of the file whose pairs are printed, which held this: what its opening leaves. Want of memory, status
--- 5, may come before the file was opened, and after a fault of the output, status 8, the opening may have failed.
+-- What a run leaves of the file whose pairs are printed, which held this: what its opening leaves. Want of memory,
+-- status 5, may come before the file was opened, and after a fault of the output, status 8, the opening may have
+-- failed.
 pub record PrintRun (limit : ℕ) (old : History) (before after status : ℕ) (now : History) : Type 0 where
   pub any : SameOrUndone old now ⊎ (Rose before after × LookBroken old now)
   pub failed : status ≡ 4 → LookBroken old now
@@ -176,27 +178,27 @@ pub record MakingRun (file : NewFile) (old : Option History) (before after statu
   pub too_long : status ≡ 6 → IsLeftEmpty file old now
   pub kept : KeepsAll status → (now ≡ old) ⊎ IsLeftEmpty file old now
 
--- What a run leaves at the name of a file that is to be made of the pairs on the input. Where the status is neither 0 nor 4
--- no file is left that wasn't there, unless a call of the files failed and then the output too.
+-- What a run leaves at the name of a file that is to be made of the pairs on the input. Where the status is neither 0
+-- nor 4 no file is left that wasn't there, unless a call of the files failed and then the output too.
 pub record RestoringRun (input : Input) (old : Option History) (before after status : ℕ) (now : Option History) : Type 0 where
   pub done : status ≡ 0 → HasRestored input old now
   pub there : IsSome old → now ≡ old
   pub kept : status ≢ 0 → status ≢ 4 → (now ≡ old) ⊎ ((status ≡ 8) × Rose before after)
 
--- What a run leaves at the names of a backup of these files. Where the status isn't 0 the first ones may be copied. What a
--- failed call leaves stands only where the status is 4 or 8 and the count of faults rose.
+-- What a run leaves at the names of a backup of these files. Where the status isn't 0 the first ones may be copied.
+-- What a failed call leaves stands only where the status is 4 or 8 and the count of faults rose.
 pub record BackupRun (suffix : List ℕ) (files : List (List ℕ)) (old : List ℕ → Option History) (before after status : ℕ) (now : List ℕ → Option History) : Type 0 where
   pub done : status ≡ 0 → CopiedAll suffix files old now
   pub stopped : status ≢ 0 → StoppedAt (((status ≡ 4) ⊎ (status ≡ 8)) × Rose before after) suffix files old now
 
--- What a run leaves at the names of a verification of these files, in the same way: where the status isn't 0 the first ones
--- may be verified.
+-- What a run leaves at the names of a verification of these files, in the same way: where the status isn't 0 the first
+-- ones may be verified.
 pub record VerifyRun (suffix : List ℕ) (files : List (List ℕ)) (old : List ℕ → Option History) (before after status : ℕ) (now : List ℕ → Option History) : Type 0 where
   pub done : status ≡ 0 → VerifiedAll suffix files old now
   pub stopped : status ≢ 0 → LeftAt (((status ≡ 4) ⊎ (status ≡ 8)) × Rose before after) suffix files old now
 
--- What a run leaves of the file of turns, which held this. Want of memory, status 5, and a log that failed, status 10, may
--- come before the file was opened or in the midst of the plays.
+-- What a run leaves of the file of turns, which held this. Want of memory, status 5, and a log that failed, status 10,
+-- may come before the file was opened or in the midst of the plays.
 pub record TurnsRun (options : Options) (input : Input) (output : Output) (old : History) (before after status : ℕ) (now : History) (logs later : List Logged) : Type 0 where
   pub any : SameOrUndone old now ⊎ IsPlayedSoFar options old now ⊎ Rose before after
   pub done : status ≡ 0 → IsPlayed options input output logs later old now
@@ -214,9 +216,9 @@ HaltHeard limit img logs later = (halt : Halt) × HeardUnopened limit img logs l
 abbrev pub SessionBroken : ℕ → Input → Output → History → History → List Logged → List Logged → Type 0
 SessionBroken limit input output old now logs later = HeardUnopened limit (seen old) logs later H.Device ⊎ IsServedBroken limit input output old now logs later
 
--- What a run leaves of the file of a session, which held this, what it printed of it, and what logs heard of it. Want of
--- memory, status 5, and a log that failed, status 10, may come before the file was opened or in the midst of the commands,
--- and a fault of the input or of the output, status 8, comes in their midst.
+-- What a run leaves of the file of a session, which held this, what it printed of it, and what logs heard of it. Want
+-- of memory, status 5, and a log that failed, status 10, may come before the file was opened or in the midst of the
+-- commands, and a fault of the input or of the output, status 8, comes in their midst.
 pub record SessionRun (limit : ℕ) (input : Input) (output : Output) (old : History) (before after status : ℕ) (now : History) (logs later : List Logged) : Type 0 where
   pub any : (SameOrUndone old now × HaltHeard limit (seen old) logs later) ⊎ IsServedSoFar limit input output old now logs later HeardOrRefused ⊎ (Rose before after × SessionBroken limit input output old now logs later)
   pub done : status ≡ 0 → IsServed limit input output End.Ended old now logs later
@@ -285,8 +287,8 @@ pub record Accounted (run : Run) : Type 0 where
   pub input_fault_told : run.status ≢ 4 → run.status ≢ 8 → run.input.faults_after ≡ run.input.faults_before
   pub known : Contains (0 ∷ 1 ∷ 2 ∷ 3 ∷ 4 ∷ 5 ∷ 6 ∷ 7 ∷ 8 ∷ 9 ∷ 10 ∷ []) run.status
 
--- The logs were told of a run what they hear of its command, by one ending, whose status the run has, or 5 where there was no memory for its
--- line, or 8 where the output failed.
+-- The logs were told of a run what they hear of its command, by one ending, whose status the run has, or 5 where there
+-- was no memory for its line, or 8 where the output failed.
 pub record LogsAreTold (run : Run) (old new : List Logged) : Type 0 where
   pub ending : Ending
   pub exits : (run.status ≡ status_of ending) ⊎ ((run.status ≡ 5) × TakesMemory ending) ⊎ (run.status ≡ 8)

@@ -16,11 +16,13 @@ use Rattle.tdb_top.specs.Run.{Run}
 use Rattle.tdb_top.specs.Safe.{StopsSince, IsLeftAs}
 use Rattle.tdb_top.specs.Stops.{WroteLine}
 
--- The text of the input begins by asking for orders, and a session of them came so far, from a world just loaded over the bytes that the file was
--- read as at first; a front of its text was printed. Where the disk is sound, it came to a state as whose file what is left is read. Where in no
--- state that its lines pass an opener is in the middle of a change outside a transaction, and all of the file was on the medium at first, every
--- stop since then leaves a file that opens to the map and the sequence number of a state that they pass, or of the transaction whose Commit was
--- just shutting its gate. A file whose gate was open at first has to be one whose undo changes no byte by which its header is known.
+-- The text of the input begins by asking for orders, and a session of them came so far, from a world just loaded over
+-- the bytes that the file was read as at first; a front of its text was printed. Where the disk is sound, it came to a
+-- state as whose file what is left is read. Where in no state that its lines pass an opener is in the middle of a
+-- change outside a transaction, and all of the file was on the medium at first, every stop since then leaves a file
+-- that opens to the map and the sequence number of a state that they pass, or of the transaction whose Commit was just
+-- shutting its gate. A file whose gate was open at first has to be one whose undo changes no byte by which its header
+-- is known.
 abbrev pub StopsOfSession : ℕ → Input → History → History → Bool → Type 0 → List ℕ → List ℕ → Type 0
 StopsOfSession limit input old now told sound before after =
     (orders : List Order) × (IsTrue input.tells → BeginsBy input.text orders) × (new : State) × (sound → IsLeftAs (form_of (opened_bytes (seen old))) (seen now) new)
@@ -32,8 +34,8 @@ abbrev pub StopsServed : ℕ → Input → Option History → Option History →
 StopsServed limit input held left told sound before after =
     (old : History) → held ≡ Some old → OpensToTurn (session_options limit) (seen old) → (now : History) × (left ≡ Some now) × StopsOfSession limit input old now told sound before after
 
--- And of a run that was asked for a session: behind the replies the line of its ending is printed. The disk is sound where the count of the
--- files' faults didn't rise.
+-- And of a run that was asked for a session: behind the replies the line of its ending is printed. The disk is sound
+-- where the count of the files' faults didn't rise.
 abbrev pub SessionsStopSafely : Run → Type 0
 SessionsStopSafely run =
     (limit : ℕ) (name : List ℕ) → run.ask ≡ Some (record { file = name; task = Session limit })

@@ -31,15 +31,16 @@ use Rattle.tdb_top.specs.Playing.{PlaysEnd, UnlessBroken}
 use Rattle.tdb_top.specs.Run.{Run}
 use Rattle.tdb_top.specs.Safe.{StopsSince, IsLeftAs}
 
--- Every stop between two moments leaves a file that opens on the way that these lines tell from a state; and unless the disk failed they lead
--- to a state of the other moment, in which a stop leaves only what opens to the file's map.
+-- Every stop between two moments leaves a file that opens on the way that these lines tell from a state; and unless the
+-- disk failed they lead to a state of the other moment, in which a stop leaves only what opens to the file's map.
 pub record LeavesOnTheWay (old new : Scene) (answer : PlaysEnd) (state : State) (lines : List Line) : Type 0 where
   pub stops : LeavesOnly old.history new.history (OpensOnTheWay (form_at old.world) state (law_lines lines))
   pub left : UnlessBroken answer ((after : State) × IsStateAt new after × Leads (form_at old.world) state (law_lines lines) after × IsSafe (form_at old.world) new.history)
 
--- Plays ended so between two moments, and their lines were written, or a front of the text of these. Unless the disk failed these lines tell the
--- plays, as far as they came, from each state of the first moment to one of the other, and all plays where these are done. Where a stop at the
--- first moment leaves only what opens to the file's map, and the lines are transacted, stops leave what opens on the way.
+-- Plays ended so between two moments, and their lines were written, or a front of the text of these. Unless the disk
+-- failed these lines tell the plays, as far as they came, from each state of the first moment to one of the other, and
+-- all plays where these are done. Where a stop at the first moment leaves only what opens to the file's map, and the
+-- lines are transacted, stops leave what opens on the way.
 pub record StopsTold (disk_tells output_tells : Bool) (old new : Scene) (plays : List Play) (answer : PlaysEnd) : Type 0 where
   pub lines : List Line
   pub whole : answer ≡ Ok (Ok tt) → IsTrue output_tells → new.written ≡ old.written ++ report_text lines
@@ -68,9 +69,9 @@ WroteWhole lines before after = (more : List Line) × OnlyUnfinished more × (af
 abbrev pub ComesToImage : Form → State → List Play → List Line → List ℕ → Type 0
 ComesToImage f start plays lines img = (new : State) × ComesTo f start (law_plays plays) (law_lines lines) new × IsLeftAs f img new
 
--- All plays in a world, with the lines of unfinished commands behind those of the plays: so it is of stops from each state of the world on.
--- Where the plays are done, all of the lines were written, and no other line of a play. Where the disk is sound the lines tell these plays as
--- far as they came, to a state as whose file what is left is read.
+-- All plays in a world, with the lines of unfinished commands behind those of the plays: so it is of stops from each
+-- state of the world on. Where the plays are done, all of the lines were written, and no other line of a play. Where
+-- the disk is sound the lines tell these plays as far as they came, to a state as whose file what is left is read.
 pub record StopsOver (w : Whole) (disk_tells output_tells : Bool) (plays : List Play) (done sound : Type 0) (old now : History) (before after : List ℕ) : Type 0 where
   pub lines : List Line
   pub printed : IsTrue output_tells → WroteOf lines before after
@@ -79,12 +80,13 @@ pub record StopsOver (w : Whole) (disk_tells output_tells : Bool) (plays : List 
   pub stops : IsTrue disk_tells → (state : State) → IsStateOf w old state → IsSafe (form_at w) old → IsTransacted (form_at w) state (law_lines lines)
       → LeavesOnly old now (OpensOnTheWay (form_at w) state (law_lines lines))
 
--- Lines of a report, from a world just loaded over the image that the file was read as at first, were printed, or a front of them; and where
--- the run is done, all of them, and behind them nothing but the lines of unfinished commands. Where the disk is sound they tell these plays as
--- far as they came, to a state as whose file what is left is read. Where in no state that they pass an opener is in the middle of a change
--- outside a transaction, and all of the file was on the medium at first, every stop since then leaves a file that opens to the map and the
--- sequence number of a state that they pass, or of the transaction whose Commit was just shutting its gate. A file whose gate was open at first
--- has to be one whose undo changes no byte by which its header is known.
+-- Lines of a report, from a world just loaded over the image that the file was read as at first, were printed, or a
+-- front of them; and where the run is done, all of them, and behind them nothing but the lines of unfinished commands.
+-- Where the disk is sound they tell these plays as far as they came, to a state as whose file what is left is read.
+-- Where in no state that they pass an opener is in the middle of a change outside a transaction, and all of the file
+-- was on the medium at first, every stop since then leaves a file that opens to the map and the sequence number of a
+-- state that they pass, or of the transaction whose Commit was just shutting its gate. A file whose gate was open at
+-- first has to be one whose undo changes no byte by which its header is known.
 pub record StopsOfTurns (f : Form) (options : Options) (plays : List Play) (old now : History) (told : Bool) (done sound : Type 0) (before after : List ℕ) : Type 0 where
   pub lines : List Line
   pub start : State
@@ -110,8 +112,9 @@ StopsScripted input options held left told done sound before after =
 abbrev pub WroteLine : List ℕ → List ℕ → Type 0
 WroteLine text after = (e : Ending) × (n : ℕ) × (after ≡ text ++ take n (text_of e))
 
--- And of a run that was asked for turns: behind the report the line of its ending is printed. Status 0 says that the turns are done, and has no
--- such line, so the report is all that is printed. The disk is sound where the count of the files' faults didn't rise.
+-- And of a run that was asked for turns: behind the report the line of its ending is printed. Status 0 says that the
+-- turns are done, and has no such line, so the report is all that is printed. The disk is sound where the count of the
+-- files' faults didn't rise.
 abbrev pub TurnsStopSafely : Run → Type 0
 TurnsStopSafely run =
     (options : Options) (name : List ℕ) → run.ask ≡ Some (record { file = name; task = Turns options })

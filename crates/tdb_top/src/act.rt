@@ -73,8 +73,8 @@ fn perform<D: Disk>(alloc: Global, act: &Act, disk: &mut D, opened: &Opened) -> 
     }
 }
 
-/// Tells the last log that the file on a disk has grown since it had so many bytes, if it has. A log that doesn't take that
-/// has failed, also where it wants memory: what was done stands.
+/// Tells the last log that the file on a disk has grown since it had so many bytes, if it has. A log that doesn't take
+/// that has failed, also where it wants memory: what was done stands.
 fn tell_growth<D: Disk, L: Logs>(disk: &mut D, from: u64, logs: &mut L) -> Result<(), Fault>
     ensures history { D.history disk.new ≡ D.history disk.old }
     ensures known { IfErr result (λ fault. (fault ≡ FaultIs.Device) ⊎ (fault ≡ FaultIs.Log)) }

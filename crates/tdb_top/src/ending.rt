@@ -351,8 +351,8 @@ fn put<K: Sink>(output: &mut K, text: &[u8], status: Status) -> Status
     }
 }
 
-/// Prints the line of an ending, and says the run's status. Where there is no memory for a line that takes some, that is
-/// what is told.
+/// Prints the line of an ending, and says the run's status. Where there is no memory for a line that takes some, that
+/// is what is told.
 pub(crate) fn print<K: Sink>(alloc: Global, ending: &Ending, output: &mut K) -> Status
     ensures { (e : EndingIs) × PrintedFor e ending.now
         × Prints (output_by K.tells (K.written output.old) (K.written output.new) (K.faults output.old) (K.faults output.new)) e result.0 }

@@ -123,30 +123,31 @@ fn finish<K: Sink>(alloc: Global, answered: &Result<Ending, Unprinted>, output: 
 /// The commands `tool FILE dump`, `tool FILE keys` and `tool FILE hexkeys` open the file as a show does, and print all
 /// pairs in the same way, or a line for each key. The command `tool FILE first` reads the first pair alone.
 ///
-/// The command `restore FILE` makes a file as `create` does, reads the input in pieces of 64 KiB, adds each pair without
-/// looking its key up, and syncs: time is linear in the text and in the file. It holds all keys, so as to refuse a
-/// second one. Where not all pairs come into the file, it is removed again.
+/// The command `restore FILE` makes a file as `create` does, reads the input in pieces of 64 KiB, adds each pair
+/// without looking its key up, and syncs: time is linear in the text and in the file. It holds all keys, so as to
+/// refuse a second one. Where not all pairs come into the file, it is removed again.
 ///
 /// The words `tool [--limit N] FILE` alone open the file as a show does, and read the input in pieces of at most 64 KiB
 /// while its commands are taken, one line each. The replies of those before a bad line, or before a read that fails,
 /// stand before the line of the ending, and the file keeps what they did.
 ///
 /// The command `backup [-s SUFFIX] FILE..` opens each file in turn as a show does, makes a new file at FILE, SUFFIX and
-/// `.tmp`, adds each pair without looking its key up, syncs, and renames the new file to FILE and SUFFIX: time is linear
-/// in the file. The first file that isn't copied ends it. The names of all files and of their copies are kept in memory
-/// before, to tell whether they differ: that takes time by the logarithm of their number for each.
+/// `.tmp`, adds each pair without looking its key up, syncs, and renames the new file to FILE and SUFFIX: time is
+/// linear in the file. The first file that isn't copied ends it. The names of all files and of their copies are kept in
+/// memory before, to tell whether they differ: that takes time by the logarithm of their number for each.
 ///
-/// With `-v` each file in turn is opened and given back, and the number of its keys is printed, which the check that opened
-/// it counted. One that is refused for a fault is made anew at FILE and `.tmp`, as a copy of the file at FILE and SUFFIX,
-/// and that is renamed to FILE. The first file that isn't opened or restored ends it.
+/// With `-v` each file in turn is opened and given back, and the number of its keys is printed, which the check that
+/// opened it counted. One that is refused for a fault is made anew at FILE and `.tmp`, as a copy of the file at FILE
+/// and SUFFIX, and that is renamed to FILE. The first file that isn't opened or restored ends it.
 ///
 /// The command `gen N SEED FILE` makes a file as `create` does, has N generated commands of three openers done on it,
 /// checks the whole file, and syncs. Its time is that of the commands and of the check. Where not all are done the file
 /// is removed again.
 ///
-/// The last of the logs is told what becomes of each file that is opened: the undo, what the check counted or the fault for
-/// which the file is refused, the growth by an act, and what turns and sessions do. A notice that it refuses ends the run.
-/// What an act did stands then: where the log doesn't take its growth, the status is 10, also where the log wants memory.
+/// The last of the logs is told what becomes of each file that is opened: the undo, what the check counted or the fault
+/// for which the file is refused, the growth by an act, and what turns and sessions do. A notice that it refuses ends
+/// the run. What an act did stands then: where the log doesn't take its growth, the status is 10, also where the log
+/// wants memory.
 pub fn run<F: Files, S: Source, K: Sink, L: Logs>(
     alloc: Global,
     words: &[String],
@@ -157,24 +158,24 @@ pub fn run<F: Files, S: Source, K: Sink, L: Logs>(
 ) -> Status
     requires { (name : List ℕ) → F.is_taken files.old name ≡ false }
 
-    // The run ends in one way and prints the line of it, behind the text of a dump or of a report. Where the files tell what they hold
-    // it has its cause, and what is due is what is answered.
+    // The run ends in one way and prints the line of it, behind the text of a dump or of a report. Where the files tell
+    // what they hold it has its cause, and what is due is what is answered.
     ensures answered { Answered F.D.tells (run_by words.now (F.held files.old) (F.held files.new) (F.faults files.old) (F.faults files.new) (input_by S.tells (S.left input.old) (S.faults input.old) (S.faults input.new)) (output_by K.tells (K.written output.old) (K.written output.new) (K.faults output.old) (K.faults output.new)) result.0) }
 
     // A file is refused exactly where its bytes can't be opened.
     ensures refused { IsTrue F.D.tells → RefusesExactly (run_by words.now (F.held files.old) (F.held files.new) (F.faults files.old) (F.faults files.new) (input_by S.tells (S.left input.old) (S.faults input.old) (S.faults input.new)) (output_by K.tells (K.written output.old) (K.written output.new) (K.faults output.old) (K.faults output.new)) result.0) }
 
-    // At most the file that is asked for changes, and what stands at the names of a backup or a verification, and they are
-    // left as the status says.
+    // At most the file that is asked for changes, and what stands at the names of a backup or a verification, and they
+    // are left as the status says.
     ensures left { IsTrue F.D.tells → LeavesFiles (run_by words.now (F.held files.old) (F.held files.new) (F.faults files.old) (F.faults files.new) (input_by S.tells (S.left input.old) (S.faults input.old) (S.faults input.new)) (output_by K.tells (K.written output.old) (K.written output.new) (K.faults output.old) (K.faults output.new)) result.0) (L.logs logs.old) (L.logs logs.new) }
 
-    // A stop at any moment of a run of turns leaves a file that opens to a map that their report passes, while nothing is
-    // changed outside a transaction. Unless a call of the files failed, that report tells the plays of the script as far
-    // as they came, and leads to the file that is left.
+    // A stop at any moment of a run of turns leaves a file that opens to a map that their report passes, while nothing
+    // is changed outside a transaction. Unless a call of the files failed, that report tells the plays of the script as
+    // far as they came, and leads to the file that is left.
     ensures stops { IsTrue F.D.tells → TurnsStopSafely (run_by words.now (F.held files.old) (F.held files.new) (F.faults files.old) (F.faults files.new) (input_by S.tells (S.left input.old) (S.faults input.old) (S.faults input.new)) (output_by K.tells (K.written output.old) (K.written output.new) (K.faults output.old) (K.faults output.new)) result.0) }
 
-    // A stop at any moment of a session leaves a file that opens to a map that its replies pass, while nothing is changed
-    // outside a transaction. Unless a call of the files failed, these lead to the file that is left.
+    // A stop at any moment of a session leaves a file that opens to a map that its replies pass, while nothing is
+    // changed outside a transaction. Unless a call of the files failed, these lead to the file that is left.
     ensures stopped { IsTrue F.D.tells → SessionsStopSafely (run_by words.now (F.held files.old) (F.held files.new) (F.faults files.old) (F.faults files.new) (input_by S.tells (S.left input.old) (S.faults input.old) (S.faults input.new)) (output_by K.tells (K.written output.old) (K.written output.new) (K.faults output.old) (K.faults output.new)) result.0) }
 
     // The last log is told what becomes of the files, up to a notice that it refuses.

@@ -21,8 +21,8 @@ CreateCause file held before after Device = Rose before after
 CreateCause file held before after Memory = Unit {0}
 
 -- What is held at the name after the making of a file, by what was held before: the new file where it was made, what
--- was held where the name was there or memory was wanting, an empty file where the new one would be too long, and after a
--- fault that, or where nothing was held a file made in part.
+-- was held where the name was there or memory was wanting, an empty file where the new one would be too long, and after
+-- a fault that, or where nothing was held a file made in part.
 abbrev pub CreateLeaves : NewForm → Option History → Creation → Option History → Type 0
 CreateLeaves form old Made now = (h : History) × (now ≡ Some h) × IsMade form.size form.order form.hash h
 CreateLeaves form old There now = now ≡ old

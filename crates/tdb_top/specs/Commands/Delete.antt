@@ -12,8 +12,8 @@ use Rattle.tdb_top.specs.declared.ending.Reply.TheVariants.{Done, KeyMissing}
 abbrev pub delete_reply : List ℕ → List ℕ → Reply
 delete_reply key img = if is_some (map_of (form_of img) img key) then Done else KeyMissing
 
--- What a delete that was done leaves of a file that had this history: an accepted file of the same form, whose map is the
--- old one without the key. All of it is on the medium.
+-- What a delete that was done leaves of a file that had this history: an accepted file of the same form, whose map is
+-- the old one without the key. All of it is on the medium.
 pub record Deletes (key : List ℕ) (old now : History) : Type 0 where
   pub changed : KeyChanged (form_of (seen old)) (seen old) (seen now) key None
   pub quiet : Quiet now

@@ -11,8 +11,8 @@ use Rattle.tdb_top.specs.declared.ending.Reply.TheVariants.{Done}
 abbrev pub erase_reply : List ℕ → Reply
 erase_reply img = Done
 
--- What an erase leaves of a file that had this history: an accepted file without a key, in which all is free that its undo
--- area doesn't hold. All of it is on the medium.
+-- What an erase leaves of a file that had this history: an accepted file without a key, in which all is free that its
+-- undo area doesn't hold. All of it is on the medium.
 pub record Erases (old now : History) : Type 0 where
   pub wiped : Wiped (form_of (seen old)) (seen old) (seen now)
   pub quiet : Quiet now

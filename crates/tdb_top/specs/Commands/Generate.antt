@@ -45,8 +45,8 @@ pub record IsGenerated (commands seed : ℕ) (s : Summary) (now : History) : Typ
 abbrev pub HeardBroken : ℕ → ℕ → GenFault → List Logged → List Logged → Type 0
 HeardBroken commands seed fault logs later = (last : State) × CameSo new_form gen_options new_file commands seed fault last logs later
 
--- How the filling of a new file with them ends, and what logs hear: with the text of their summary, where they heard of all lines; or it
--- breaks off. Before the plays a call may fail of which they hear nothing.
+-- How the filling of a new file with them ends, and what logs hear: with the text of their summary, where they heard of
+-- all lines; or it breaks off. Before the plays a call may fail of which they hear nothing.
 abbrev pub FilledSo : ℕ → ℕ → History → List Logged → List Logged → Result (List ℕ) GenFault → Type 0
 FilledSo commands seed now logs later (Ok text) = (s : Summary) × (text ≡ summary_text s) × (g : IsGenerated commands seed s now) × Heard logs g.generated.lines later
 FilledSo commands seed now logs later (Err F.Io) = (later ≡ logs) ⊎ HeardBroken commands seed F.Io logs later
@@ -82,9 +82,9 @@ GenLeaves commands seed old Usage now = ⊥
 GenLeaves commands seed old InputFault now = ⊥
 GenLeaves commands seed old (Malformed at) now = ⊥
 
--- What logs heard of them, by how they end and what is held at the name of the file then: of all lines, where all were done and the summary
--- counts these; where they broke off, of the lines so far, up to the one whose notice a log failed to take where that is the ending; and else
--- nothing.
+-- What logs heard of them, by how they end and what is held at the name of the file then: of all lines, where all were
+-- done and the summary counts these; where they broke off, of the lines so far, up to the one whose notice a log failed
+-- to take where that is the ending; and else nothing.
 abbrev pub GenHeard : ℕ → ℕ → Option History → Ending → List Logged → List Logged → Type 0
 GenHeard commands seed now (Replied reply) logs later =
     (s : Summary) × (h : History) × (reply ≡ Generated (summary_text s)) × (now ≡ Some h) × (g : IsGenerated commands seed s h) × Heard logs g.generated.lines later

@@ -19,8 +19,8 @@ use Rattle.tdb_top.specs.Input.{Input}
 abbrev pub new_form : Form
 new_form = record { order = Little; hash = Old; chains = DEFAULT_SIZE }
 
--- The file holds the pairs of the text, which is dump text and not too long: its bytes are accepted and have the form of
--- a new file, and its map is that of the pairs. All of it is on the medium.
+-- The file holds the pairs of the text, which is dump text and not too long: its bytes are accepted and have the form
+-- of a new file, and its map is that of the pairs. All of it is on the medium.
 pub record IsRestored (text : List ℕ) (now : History) : Type 0 where
   pub restored : Restored new_form (seen now) text
   pub quiet : Quiet now
@@ -37,8 +37,8 @@ of_restore (R.Malformed at) = Malformed at
 of_restore (R.Full len need) = Replied (Reply.Full len need)
 of_restore R.Memory = NoMemory
 
--- How a restore ends over an input, but for a failed call of the files: its text is whole and all pairs came into the file;
--- or one of the causes why they don't.
+-- How a restore ends over an input, but for a failed call of the files: its text is whole and all pairs came into the
+-- file; or one of the causes why they don't.
 pub data ReadSo (input : Input) (limit : ℕ) : Ending → Type 0 where
   read_whole : (IsTrue input.tells → (img : List ℕ) × Restored new_form img input.text) → ReadSo input limit (Replied Reply.Restored)
   read_refused : (refusal : RestoreRefusal) → refusal ≢ R.Io → (IsTrue input.tells → TextRefused input.text limit refusal)

@@ -59,8 +59,8 @@ pub data ServesSo (input : Input) (limit : ℕ) (name : List ℕ) (held : Option
       → ServesSo input limit name held (Malformed at)
   line_unread : (h : History) → held ≡ Some h → OpensToTurn (session_options limit) (seen h) → Rose input.faults_before input.faults_after → ServesSo input limit name held InputFault
 
--- What is printed before the line of an ending: a front of the text of a session over the opened image, or nothing where
--- none was begun.
+-- What is printed before the line of an ending: a front of the text of a session over the opened image, or nothing
+-- where none was begun.
 abbrev pub RepliesFront : ℕ → List ℕ → List ℕ → Type 0
 RepliesFront limit img text = (orders : List Order) × (new : State) × SessionCame (form_of img) (session_options limit) img orders new true [] text (λ start lines. Unit {0}) (λ lines. Unit {0})
 
@@ -78,13 +78,13 @@ abbrev pub StaysThere : Option History → Option History → Type 0
 StaysThere None now = now ≡ None
 StaysThere (Some old) now = (h : History) × (now ≡ Some h)
 
--- What logs heard of a file with these bytes that was opened for a session: that its gate was undone, if it was open, and
--- what the check counted.
+-- What logs heard of a file with these bytes that was opened for a session: that its gate was undone, if it was open,
+-- and what the check counted.
 abbrev pub HeardOpened : ℕ → List ℕ → List Logged → List Logged → Type 0
 HeardOpened limit img logs mid = (o : Opened) × Counted (opened_bytes img) o.report × BelowHeard limit img logs mid (Ok o)
 
--- What they heard of one that wasn't opened, by why: of its opening; or nothing, where a call failed or memory was wanting
--- before it.
+-- What they heard of one that wasn't opened, by why: of its opening; or nothing, where a call failed or memory was
+-- wanting before it.
 abbrev pub HeardUnopened : ℕ → List ℕ → List Logged → List Logged → Halt → Type 0
 HeardUnopened limit img logs later (H.Refused refusal) = BelowHeard limit img logs later (Err (H.Refused refusal))
 HeardUnopened limit img logs later H.Device = (later ≡ logs) ⊎ BelowHeard limit img logs later (Err H.Device)
@@ -92,9 +92,9 @@ HeardUnopened limit img logs later H.Memory = (later ≡ logs) ⊎ BelowHeard li
 HeardUnopened limit img logs later H.Log = BelowHeard limit img logs later (Err H.Log)
 
 -- A session over a file was taken to its end: the file was opened, the orders are those that the text of the input asks
--- for before it ends so, and they were done, with a join before and a close behind them; their text was printed, and the
--- line of the ending behind it, where one tells it. Stops since it was held leave what opens on the way of their lines.
--- Logs heard of the opening, and then of each of these lines.
+-- for before it ends so, and they were done, with a join before and a close behind them; their text was printed, and
+-- the line of the ending behind it, where one tells it. Stops since it was held leave what opens on the way of their
+-- lines. Logs heard of the opening, and then of each of these lines.
 pub record IsServed (limit : ℕ) (input : Input) (output : Output) (end : SessionEnd) (old now : History) (logs later : List Logged) : Type 0 where
   pub opened : History
   pub is_opened : IsOpened (session_options limit) old opened
@@ -108,8 +108,8 @@ pub record IsServed (limit : ℕ) (input : Input) (output : Output) (end : Sessi
   pub line : IsTrue output.tells → output.after ≡ told ++ text_of (of_end end)
 
 -- One was taken as far as it came: the text begins by asking for its orders, and the file is left as they say, by stops
--- too; a front of their text was printed, and maybe more behind it, of the line of the ending. Logs heard of the opening,
--- and then of the lines so.
+-- too; a front of their text was printed, and maybe more behind it, of the line of the ending. Logs heard of the
+-- opening, and then of the lines so.
 pub record IsServedSoFar (limit : ℕ) (input : Input) (output : Output) (old now : History) (logs later : List Logged)
     (Hears : List Logged → List Line → List Logged → Type 0) : Type 0 where
   pub opened : History
@@ -144,8 +144,8 @@ session_told (Err F.Device) = Ok DeviceFault
 session_told (Err F.Memory) = Ok NoMemory
 session_told (Err F.Log) = Ok LogFault
 
--- A session ran over a file and ended so, with this written before and after it. Logs heard of the opening, and then of the
--- session.
+-- A session ran over a file and ended so, with this written before and after it. Logs heard of the opening, and then of
+-- the session.
 pub record SessionOn (limit : ℕ) (input : Input) (old now : History) (told : Bool) (before after : List ℕ) (logs later : List Logged) (answer : Result SessionEnd SessionFault) : Type 0 where
   pub opened : History
   pub opens : OpensToTurn (session_options limit) (seen old)
@@ -155,8 +155,8 @@ pub record SessionOn (limit : ℕ) (input : Input) (old now : History) (told : B
   pub opening : HeardOpened limit (seen old) logs mid
   pub ran : SessionRan (form_of (seen opened)) (session_options limit) opened now input.tells input.text told before after mid later answer
 
--- How a session over a file ends that is there: it isn't opened, nothing is written, and logs heard of the opening alone; or
--- the session runs over it.
+-- How a session over a file ends that is there: it isn't opened, nothing is written, and logs heard of the opening
+-- alone; or the session runs over it.
 pub data SessionFile (limit : ℕ) (input : Input) (old now : History) (told : Bool) (before after : List ℕ) (logs later : List Logged) : Result Ending Unprinted → Type 0 where
   file_unopened : (halt : Halt) → OpenedToTurn (session_options limit) old now (Err halt) → OpensSafely old now → after ≡ before → HeardUnopened limit (seen old) logs later halt
       → SessionFile limit input old now told before after logs later (Ok (of_halt halt))
@@ -175,8 +175,8 @@ IsSessionReport limit img lines =
     (orders : List Order) × (old : State) × (new : State) × (text : List ℕ)
     × IsLoaded (form_of img) old (options_of (session_options limit)) × IsOver (form_of img) img old × AllCame (session_parts orders) (form_of img) old lines text new
 
--- What logs heard of a session over a file with these bytes that ended so: of the opening, where that failed; and else of it
--- and of the lines of the session. `IsServed` and `IsServedSoFar` say it of the lines whose replies are printed.
+-- What logs heard of a session over a file with these bytes that ended so: of the opening, where that failed; and else
+-- of it and of the lines of the session. `IsServed` and `IsServedSoFar` say it of the lines whose replies are printed.
 pub data FileServed (limit : ℕ) (img : List ℕ) (e : Ending) (logs later : List Logged) : Type 0 where
   served_halt : (halt : Halt) → e ≡ of_halt halt → HeardUnopened limit img logs later halt → FileServed limit img e logs later
   served_report : (mid : List Logged) (lines : List Line) → HeardOpened limit img logs mid → IsSessionReport limit (opened_bytes img) lines → ReportHeard e mid lines later

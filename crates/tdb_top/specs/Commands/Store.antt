@@ -11,14 +11,15 @@ use Rattle.tdb_top.specs.declared.ending.Reply.{Reply}
 use Rattle.tdb_top.specs.declared.ending.Reply.TheVariants.{Done, Full}
 use Rattle.tdb_top.specs.Commands.Insert.{need_for}
 
--- what is replied over a file that is read as these bytes and may have so many: that it is done, where the file has room for
--- a new record, or that it hasn't
+-- what is replied over a file that is read as these bytes and may have so many: that it is done, where the file has
+-- room for a new record, or that it hasn't
 abbrev pub store_reply : ℕ → List ℕ → List ℕ → List ℕ → Reply
 store_reply limit key value img =
     if has_room (form_of img) img (rec_len_for (length key) (length value)) limit then Done
     else Full (length img) (need_for key value)
 
--- a file that had these bytes and may have so many is as long as before, or as long as a growth for `need` bytes makes it
+-- a file that had these bytes and may have so many is as long as before, or as long as a growth for `need` bytes makes
+-- it
 abbrev pub GrewFor : ℕ → ℕ → List ℕ → List ℕ → Type 0
 GrewFor limit need old now = (length now ≡ length old) ⊎ (grown_length (length old) need limit ≡ Some (length now))
 

@@ -52,8 +52,8 @@ pub data PlaysSo (input : Input) (options : Options) (name : List ℕ) (held : O
       → PlaysSo input options name held (Refused refusal)
   file_opened : (h : History) → IsScript input → held ≡ Some h → OpensToTurn options (seen h) → PlaysSo input options name held (Replied Played)
 
--- These plays lead, with these lines, from a world just loaded over an image to a state; and they came to one, where they
--- broke off.
+-- These plays lead, with these lines, from a world just loaded over an image to a state; and they came to one, where
+-- they broke off.
 pub record LeadsTo (f : Form) (options : Options) (img : List ℕ) (plays : List Play) (lines : List Line) (new : State) : Type 0 where
   pub old : State
   pub loaded : IsLoaded f old (options_of options)
@@ -66,9 +66,9 @@ pub record CameTo (f : Form) (options : Options) (img : List ℕ) (plays : List 
   pub over : IsOver f img old
   pub came : ComesTo f old (law_plays plays) (law_lines lines) new
 
--- All plays were taken over the image a, and b is read after them as the file of the state that they led to. Their report
--- was printed: its lines, and behind them one for each opener with an unfinished command. The whole report is lawful from
--- the map of a on. The logs heard of the lines of the plays.
+-- All plays were taken over the image a, and b is read after them as the file of the state that they led to. Their
+-- report was printed: its lines, and behind them one for each opener with an unfinished command. The whole report is
+-- lawful from the map of a on. The logs heard of the lines of the plays.
 pub record PlayedWhole (f : Form) (options : Options) (a : List ℕ) (plays : List Play) (b : List ℕ) (told : Bool) (before now : List ℕ) (logs later : List Logged) : Type 0 where
   pub lines : List Line
   pub left : State
@@ -80,12 +80,13 @@ pub record PlayedWhole (f : Form) (options : Options) (a : List ℕ) (plays : Li
   pub printed : IsTrue told → now ≡ before ++ report_text (lines ++ more)
   pub heard : Heard logs lines later
 
--- Plays were taken over the image a as far as they came, and b is read after them as the file of the state that they led to.
+-- Plays were taken over the image a as far as they came, and b is read after them as the file of the state that they
+-- led to.
 abbrev pub CameOver : Form → Options → List ℕ → List ℕ → Type 0
 CameOver f options a b = (plays : List Play) × (lines : List Line) × (new : State) × CameTo f options a plays lines new × IsReadAs f b new
 
--- The lines of a report over an opened image: those of plays as far as they came, or of all that were to be taken and behind
--- them those of unfinished commands.
+-- The lines of a report over an opened image: those of plays as far as they came, or of all that were to be taken and
+-- behind them those of unfinished commands.
 pub data IsReport (f : Form) (options : Options) (img : List ℕ) : List Line → Type 0 where
   report_so_far : (plays : List Play) (lines : List Line) (new : State) → CameTo f options img plays lines new → IsReport f options img lines
   report_whole : (plays : List Play) (lines more : List Line) (new : State) → LeadsTo f options img plays lines new → EndsWith new more
@@ -119,9 +120,9 @@ abbrev pub TurnsHeard : Options → Option History → Ending → List Logged �
 TurnsHeard options None e logs later = NothingHeard e logs later
 TurnsHeard options (Some h) e logs later = FileTurned options (seen h) e logs later
 
--- All plays of the script on the input were taken over a file, and their report was printed. They lead from a world just
--- loaded over what the file was read as to a state as whose file what is left of it is read. The logs heard of the opening
--- of the file, and then of the lines of the report.
+-- All plays of the script on the input were taken over a file, and their report was printed. They lead from a world
+-- just loaded over what the file was read as to a state as whose file what is left of it is read. The logs heard of the
+-- opening of the file, and then of the lines of the report.
 pub record IsPlayed (options : Options) (input : Input) (output : Output) (logs later : List Logged) (old now : History) : Type 0 where
   pub opened : History
   pub is_opened : IsOpened options old opened
@@ -150,8 +151,8 @@ TurnsText options (Some h) NoMemory text = (text ≡ []) ⊎ ReportFront options
 TurnsText options (Some h) LogFault text = (text ≡ []) ⊎ ReportFront options (opened_bytes (seen h)) text
 TurnsText options held e text = text ≡ []
 
--- What is left of a file, which was there, by how its turns end: it is as it was, as an opening leaves it, or as the plays
--- say, as far as they came. Where a call failed nothing is said.
+-- What is left of a file, which was there, by how its turns end: it is as it was, as an opening leaves it, or as the
+-- plays say, as far as they came. Where a call failed nothing is said.
 abbrev pub TurnsLeft : Options → History → Ending → History → Type 0
 TurnsLeft options old (Replied reply) now = (reply ≡ Played) × IsPlayedSoFar options old now
 TurnsLeft options old (Refused refusal) now = TurnOpened options old now

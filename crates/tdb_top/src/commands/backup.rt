@@ -117,8 +117,8 @@ fn take_anew<F: Files>(alloc: Global, name: &str, files: &mut F) -> Result<F::D,
     }
 }
 
-/// Makes a new file of this name a copy of an opened one on a disk. Where not all pairs come into it and no call failed,
-/// there is none.
+/// Makes a new file of this name a copy of an opened one on a disk. Where not all pairs come into it and no call
+/// failed, there is none.
 fn copy_to<F: Files>(
     alloc: Global,
     from: &mut F::D,
@@ -210,7 +210,8 @@ fn copy_opened<F: Files, L: Logs>(
     copied
 }
 
-/// Copies the file of this name: the copy is made at `new`, and then renamed to `copy`. It gives the number of its keys.
+/// Copies the file of this name: the copy is made at `new`, and then renamed to `copy`. It gives the number of its
+/// keys.
 pub(crate) fn back_up_as<F: Files, L: Logs>(
     alloc: Global,
     file: &str,
@@ -271,7 +272,8 @@ fn back_up_file<F: Files, L: Logs>(
     }
 }
 
-/// Copies the file of this name and more ones, each to its name and the suffix. The first one that isn't copied ends it.
+/// Copies the file of this name and more ones, each to its name and the suffix. The first one that isn't copied ends
+/// it.
 pub(crate) fn back_up<F: Files, L: Logs>(
     alloc: Global,
     file: &str,

@@ -20,8 +20,8 @@ use tdb_open::{Fault, Opened};
 use tdb_space::Direct;
 use tdb_words::Bytes;
 
-/// Reads the first pair of an opened file in the order of its chains, if it has one. It reads the heads of the chains up
-/// to the first that has a pair, and takes the memory of that pair.
+/// Reads the first pair of an opened file in the order of its chains, if it has one. It reads the heads of the chains
+/// up to the first that has a pair, and takes the memory of that pair.
 fn first_pair<D: Disk>(
     alloc: Global,
     disk: &mut D,

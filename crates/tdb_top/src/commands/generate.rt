@@ -41,8 +41,8 @@ impl From<GenFault> for Ending {
     }
 }
 
-/// Makes an empty disk a new file of 131 chains, has so many generated commands done on it, of which the last log is told
-/// each growth of the file, and syncs. It gives the text of their summary.
+/// Makes an empty disk a new file of 131 chains, has so many generated commands done on it, of which the last log is
+/// told each growth of the file, and syncs. It gives the text of their summary.
 fn fill<D: Disk, L: Logs>(
     alloc: Global,
     disk: &mut D,
@@ -67,8 +67,8 @@ fn fill<D: Disk, L: Logs>(
     }
 }
 
-/// Makes a file of this name, where there is none, and has so many generated commands done on it, of which the last log is
-/// told each growth of the file. Where memory was wanting, or a log failed, there is none again.
+/// Makes a file of this name, where there is none, and has so many generated commands done on it, of which the last log
+/// is told each growth of the file. Where memory was wanting, or a log failed, there is none again.
 pub(crate) fn generate_file<F: Files, L: Logs>(
     alloc: Global,
     name: &str,

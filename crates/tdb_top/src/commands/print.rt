@@ -74,8 +74,8 @@ fn print_on_disk<D: Disk, K: Sink, L: Logs>(
     }
 }
 
-/// Opens the file of this name, unless it has more than so many bytes, and prints its pairs so. What an unfinished change left is undone first; else the file
-/// stays as it is.
+/// Opens the file of this name, unless it has more than so many bytes, and prints its pairs so. What an unfinished
+/// change left is undone first; else the file stays as it is.
 pub(crate) fn print_on_file<F: Files, K: Sink, L: Logs>(
     alloc: Global,
     name: &str,

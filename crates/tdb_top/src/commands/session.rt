@@ -72,9 +72,9 @@ fn session_on_disk<D: Disk, S: Source, K: Sink, L: Logs>(
 }
 
 /// Does what the lines of the input order over the file of this name, which may become `limit` bytes long, and prints
-/// each reply as soon as it is made. The input is read while the orders are done, so those before a line that is none, or
-/// before a read that fails, are done and their replies printed. The last log is told of the opening, and while an order is
-/// done what becomes of the file; where a log fails, the reply of that order is printed, and no other is done.
+/// each reply as soon as it is made. The input is read while the orders are done, so those before a line that is none,
+/// or before a read that fails, are done and their replies printed. The last log is told of the opening, and while an
+/// order is done what becomes of the file; where a log fails, the reply of that order is printed, and no other is done.
 pub(crate) fn session_on_file<F: Files, S: Source, K: Sink, L: Logs>(
     alloc: Global,
     name: &str,

@@ -103,8 +103,8 @@ fn play_on_file<F: Files, K: Sink, L: Logs>(
     }
 }
 
-/// Takes the plays of the script on the input over the file of this name, and tells them. The script is read whole before
-/// the file is taken. The logs are told what the opening finds, and then what the plays do to the file.
+/// Takes the plays of the script on the input over the file of this name, and tells them. The script is read whole
+/// before the file is taken. The logs are told what the opening finds, and then what the plays do to the file.
 pub(crate) fn turns_on_file<F: Files, S: Source, K: Sink, L: Logs>(
     alloc: Global,
     name: &str,
