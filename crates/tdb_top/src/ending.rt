@@ -22,6 +22,23 @@ use thiserror::Error;
 #[derive(Clone, Copy, Debug, PartialEq, Eq)]
 pub struct Status(pub u8);
 
+impl Status {
+    /// A call of the files or of a disk failed.
+    pub const DEVICE_FAULT: Status = Status(4);
+
+    /// Memory was wanting.
+    pub const NO_MEMORY: Status = Status(5);
+
+    /// A read of the input failed. The number is that of a failed output.
+    pub const INPUT_FAULT: Status = Status(8);
+
+    /// The output failed.
+    pub const OUTPUT_FAULT: Status = Status(8);
+
+    /// A log failed.
+    pub const LOG_FAULT: Status = Status(10);
+}
+
 /// What a command replies over its file.
 #[derive(Debug, Drop, PartialEq, Eq)]
 pub(crate) enum Reply {
@@ -252,27 +269,30 @@ impl Ending {
     pub(crate) fn status(&self) -> Status
         ensures { result.0 ≡ status_of self.now }
     {
-        Status(match self {
-            Ending::Replied(Reply::Done | Reply::Value(_) | Reply::Escaped(_)) => 0,
-            Ending::Replied(Reply::Dumped | Reply::Restored) => 0,
-            Ending::Replied(Reply::Copied | Reply::Verified | Reply::Played) => 0,
-            Ending::Replied(Reply::Generated(_)) => 0,
-            Ending::Replied(Reply::Number(_) | Reply::Pair { key: _, value: _ } | Reply::End) => 0,
-            Ending::Replied(Reply::KeyMissing | Reply::KeyThere | Reply::NoTransaction) => 1,
-            Ending::Usage => 2,
+        match self {
+            Ending::Replied(Reply::Done | Reply::Value(_) | Reply::Escaped(_)) => Status(0),
+            Ending::Replied(Reply::Dumped | Reply::Restored) => Status(0),
+            Ending::Replied(Reply::Copied | Reply::Verified | Reply::Played) => Status(0),
+            Ending::Replied(Reply::Generated(_)) => Status(0),
+            Ending::Replied(Reply::Number(_) | Reply::Pair { key: _, value: _ } | Reply::End) =>
+                Status(0),
+            Ending::Replied(Reply::KeyMissing | Reply::KeyThere | Reply::NoTransaction) => Status(
+                1,
+            ),
+            Ending::Usage => Status(2),
             Ending::Refused(Refusal::Header { fault: _ } | Refusal::Corrupt { what: _, at: _ }) => {
-                3
+                Status(3)
             }
-            Ending::Refused(Refusal::NeedsRecovery) => 3,
-            Ending::DeviceFault => 4,
-            Ending::NoMemory => 5,
-            Ending::Replied(Reply::Full { len: _, need: _ }) => 6,
-            Ending::Refused(Refusal::TooLong { len: _ }) => 6,
-            Ending::Malformed { at: _ } => 7,
-            Ending::InputFault => 8,
-            Ending::Missing(_) | Ending::There(_) => 9,
-            Ending::LogFault => 10,
-        })
+            Ending::Refused(Refusal::NeedsRecovery) => Status(3),
+            Ending::DeviceFault => Status::DEVICE_FAULT,
+            Ending::NoMemory => Status::NO_MEMORY,
+            Ending::Replied(Reply::Full { len: _, need: _ }) => Status(6),
+            Ending::Refused(Refusal::TooLong { len: _ }) => Status(6),
+            Ending::Malformed { at: _ } => Status(7),
+            Ending::InputFault => Status::INPUT_FAULT,
+            Ending::Missing(_) | Ending::There(_) => Status(9),
+            Ending::LogFault => Status::LOG_FAULT,
+        }
     }
 
     /// The text that tells it, or nothing where none does, if that is the same in each run or at hand. Else it takes
@@ -337,7 +357,7 @@ impl Ending {
     }
 }
 
-/// Writes a line to the output, and says the status: this one, or 8 where the output fails. No line is no write.
+/// Writes a line to the output, and says the status: this one, or that of a failed output. No line is no write.
 fn put<K: Sink>(output: &mut K, text: &[u8], status: Status) -> Status
     ensures { (e : EndingIs) → text.now ≡ text_of e → status.0 ≡ status_of e
         → Prints (output_by K.tells (K.written output.old) (K.written output.new) (K.faults output.old) (K.faults output.new)) e result.0 }
@@ -347,7 +367,7 @@ fn put<K: Sink>(output: &mut K, text: &[u8], status: Status) -> Status
     }
     match output.write(text) {
         Ok(()) => status,
-        Err(_) => Status(8),
+        Err(_) => Status::OUTPUT_FAULT,
     }
 }
 
@@ -362,6 +382,6 @@ pub(crate) fn print<K: Sink>(alloc: Global, ending: &Ending, output: &mut K) -> 
     }
     match ending.text(alloc) {
         Ok(text) => put(output, text.as_slice(), ending.status()),
-        Err(_) => put(output, b"memory\n", Status(5)),
+        Err(_) => put(output, b"memory\n", Status::NO_MEMORY),
     }
 }

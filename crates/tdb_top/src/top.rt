@@ -73,7 +73,7 @@ fn finish<K: Sink>(alloc: Global, answered: &Result<Ending, Unprinted>, output: 
 {
     match answered {
         Ok(ending) => print(alloc, ending, output),
-        Err(_) => Status(8),
+        Err(_) => Status::OUTPUT_FAULT,
     }
 }
 
