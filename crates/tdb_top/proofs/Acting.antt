@@ -43,7 +43,7 @@ use Rattle.tdb_top.proofs.Printing.{print_wants}
 -- a failed call behind an act that was done leaves what one in its midst may leave
 done_breaks : (verb : Verb) (limit : ℕ) (old now : History) → Does limit verb old now → Breaks verb old now
 done_breaks (Show key) limit old now does = does
-done_breaks (Insert key value) limit old now does = inl does.exact.bytes
+done_breaks (Insert key value) limit old now does = tt
 done_breaks (Store key value) limit old now does = tt
 done_breaks (Delete key) limit old now does = record { out = []; accepted = does.changed.accepted; map = inr does.changed.map }
 done_breaks Erase limit old now does = at_end does.wiped

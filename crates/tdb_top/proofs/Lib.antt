@@ -1,9 +1,7 @@
-pub mod AtEnd
 pub mod Faults
 pub mod Held
 pub mod Found
 pub mod FirstPair
-pub mod Added
 pub mod Inserts
 pub mod Acting
 pub mod Unlogged

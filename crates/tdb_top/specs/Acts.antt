@@ -13,7 +13,7 @@ use Rattle.tdb_open.specs.declared.halt.Halt.TheVariants.{Refused, Device, Memor
 use Rattle.tdb_open.specs.Opening.{opened_bytes, CanOpen, UndoneIfOpen, LookBroken, IsRefusedBelow, OpenedBelow}
 use Rattle.tdb_top.specs.Commands.Show.{show_reply}
 use Rattle.tdb_top.specs.Commands.Check.{check_reply}
-use Rattle.tdb_top.specs.Commands.Insert.{insert_reply, Inserts, InsertBroken}
+use Rattle.tdb_top.specs.Commands.Insert.{insert_reply}
 use Rattle.tdb_top.specs.Commands.Store.{store_reply, Stores}
 use Rattle.tdb_top.specs.Commands.Delete.{delete_reply, Deletes, DeleteBroken}
 use Rattle.tdb_top.specs.Commands.Erase.{erase_reply, Erases, EraseBroken}
@@ -41,7 +41,7 @@ reply_of act img = verb_reply act.limit act.verb img
 -- that was started is cancelled at the end, and no other act that changes nothing replies so
 abbrev pub Does : ℕ → Verb → History → History → Type 0
 Does limit (Show key) old now = now ≡ old
-Does limit (Insert key value) old now = Inserts key value old now
+Does limit (Insert key value) old now = Stores limit key value old now
 Does limit (Store key value) old now = Stores limit key value old now
 Does limit (Delete key) old now = Deletes key old now
 Does limit Erase old now = Erases old now
@@ -52,10 +52,10 @@ Does limit TransactionStart old now = now ≡ old
 Does limit TransactionCommit old now = now ≡ old
 Does limit TransactionCancel old now = now ≡ old
 
--- what a call that failed in the midst of an act leaves of an opened file; of a store nothing is said
+-- what a call that failed in the midst of an act leaves of an opened file; of an insert and of a store nothing is said
 abbrev pub Breaks : Verb → History → History → Type 0
 Breaks (Show key) old now = now ≡ old
-Breaks (Insert key value) old now = InsertBroken key value old now
+Breaks (Insert key value) old now = Unit {0}
 Breaks (Store key value) old now = Unit {0}
 Breaks (Delete key) old now = DeleteBroken key old now
 Breaks Erase old now = EraseBroken old now

@@ -1,11 +1,11 @@
 // Inserts and restores: what is printed, and what is left of the files.
 
-use crate::images::{Image, NEW, NEW_BIG, NEW_FILE, NEW_JENKINS_FILE};
+use crate::images::{Image, NEW, NEW_BIG, NEW_JENKINS_FILE, ONE};
 use crate::runs::Failing::{Disk, Nothing, Output};
 use crate::runs::{DUMP, Line, USAGE};
 use crate::tables::{Left, Table};
 use tdb_disk::Call;
-use tdb_words::USED;
+use tdb_words::{FREE, USED};
 
 /// Lines over a new file `f.tdb`, to which they add the record of `a` with the value `1`.
 const INSERTS: [Line<'static>; 19] = [
@@ -42,41 +42,26 @@ const INSERTS: [Line<'static>; 19] = [
     ("tool g.tdb create", "", Nothing, 9, "there g.tdb\n"),
 ];
 
-/// A file that grew by the record of `a`.
-const INSERTED: Image = Image {
-    words: &[
-        &NEW_FILE,
-        &[
-            (200, 696),
-            (700, 8),
-            (704, 1),
-            (708, 1),
-            (712, 0x094A_72E9),
-            (716, USED),
-            (720, 0x4242_3161),
-            (724, 32),
-        ],
-    ],
-    len: 728,
-    ..NEW
-};
-
-/// The same with the other byte order and Jenkins' hash.
+/// The file of one record with the other byte order and Jenkins' hash.
 const BIG_INSERTED: Image = Image {
     words: &[
         &NEW_JENKINS_FILE,
         &[
-            (480, 696),
-            (700, 8),
-            (704, 1),
-            (708, 1),
-            (712, 0x58D6_8708),
-            (716, USED),
-            (720, 0x6131_4242),
-            (724, 32),
+            (168, 696),
+            (480, 4064),
+            (700, 3344),
+            (716, FREE),
+            (4060, 3368),
+            (4068, 8),
+            (4072, 1),
+            (4076, 1),
+            (4080, 0x58D6_8708),
+            (4084, USED),
+            (4088, 0x6131_4242),
+            (4092, 32),
         ],
     ],
-    len: 728,
+    len: 4096,
     ..NEW_BIG
 };
 
@@ -85,7 +70,7 @@ pub(crate) static TABLES: [Table; 7] = [
         files: &[("f.tdb", NEW)],
         in_turn: 19,
         lines: &INSERTS,
-        left: &[("f.tdb", Left::Bytes(INSERTED))],
+        left: &[("f.tdb", Left::Bytes(ONE))],
     },
     Table {
         files: &[("f.tdb", NEW_BIG)],
@@ -131,14 +116,14 @@ pub(crate) static TABLES: [Table; 7] = [
                 "device fault\n",
             ),
         ],
-        left: &[("f.tdb", Left::Length(728))],
+        left: &[("f.tdb", Left::Length(4096))],
     },
     // Where the output fails, what was done stands.
     Table {
         files: &[("f.tdb", NEW)],
         in_turn: 1,
         lines: &[("tool f.tdb insert a 1", "", Output(0), 8, "")],
-        left: &[("f.tdb", Left::Length(728))],
+        left: &[("f.tdb", Left::Length(4096))],
     },
     Table {
         files: &[("f.tdb", NEW)],

@@ -1,5 +1,5 @@
 -- The command that stores a value for a key, in place of the one that the key has.
-use Rattle.std.specs.Prelude.{◌≡◌, ◌⊎◌, ℕ, if◌then◌else◌, List, length, Some}
+use Rattle.std.specs.Prelude.{◌≡◌, ◌⊎◌, ◌+◌, ℕ, if◌then◌else◌, List, length, Some}
 use Rattle.tdb_disk.specs.History.{History, seen}
 use Rattle.tdb_disk.specs.Stop.{Quiet}
 use Rattle.tdb_space.specs.Form.{form_of}
@@ -9,7 +9,10 @@ use Rattle.tdb_edit.specs.Edited.{KeyChanged}
 use Rattle.tdb_edit.specs.Stored.{has_room}
 use Rattle.tdb_top.specs.declared.ending.Reply.{Reply}
 use Rattle.tdb_top.specs.declared.ending.Reply.TheVariants.{Done, Full}
-use Rattle.tdb_top.specs.Commands.Insert.{need_for}
+
+-- how many bytes a new record takes, with its header
+abbrev pub need_for : List ℕ → List ℕ → ℕ
+need_for key value = 24 + rec_len_for (length key) (length value)
 
 -- what is replied over a file that is read as these bytes and may have so many: that it is done, where the file has
 -- room for a new record, or that it hasn't

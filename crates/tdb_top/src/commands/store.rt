@@ -11,8 +11,7 @@ ghost use Rattle.tdb_edit.specs.declared.refusal.StoreRefusal.TheVariants.{Io as
 ghost use Rattle.tdb_ask.specs.declared.act.Verb.TheVariants.{Store};
 ghost use Rattle.tdb_open.specs.declared.halt.Fault.TheVariants.{Device};
 ghost use Rattle.tdb_top.specs.Acts.{Acted};
-ghost use Rattle.tdb_top.specs.Commands.Insert.{need_for};
-ghost use Rattle.tdb_top.specs.Commands.Store.{GrewFor};
+ghost use Rattle.tdb_top.specs.Commands.Store.{need_for, GrewFor};
 ghost use Rattle.tdb_open.specs.Opening.{IsCheckedOn};
 
 use crate::ending::Reply;
