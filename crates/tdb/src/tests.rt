@@ -23,44 +23,93 @@ fn run_words(rt: HostRuntime, words: &str) -> Result<(u8, MemSink), Fail> {
     Ok((status, output))
 }
 
+/// A run of these words, and what it is to end with: the status and what it prints.
+struct Row {
+    words: &'static str,
+    status: u8,
+    prints: &'static str,
+}
+
+/// The words of the first row that ends otherwise, if one does.
+fn first_wrong(rt: HostRuntime, rows: &[Row]) -> Result<Option<&'static str>, Fail> {
+    for row in rows {
+        let (status, output) = run_words(rt, row.words)?;
+        if status != row.status || output.as_slice() != row.prints.as_bytes() {
+            return Ok(Some(row.words));
+        }
+    }
+    Ok(None)
+}
+
+/// A file that is missing, and then is made, changed, checked and shown.
+const MADE: [Row; 5] = [
+    Row {
+        words: "tool tdb_program_test show a",
+        status: 9,
+        prints: "missing tdb_program_test\n",
+    },
+    Row {
+        words: "tool tdb_program_test create",
+        status: 0,
+        prints: "ok\n",
+    },
+    Row {
+        words: "tool tdb_program_test insert a 1",
+        status: 0,
+        prints: "ok\n",
+    },
+    Row {
+        words: "tool tdb_program_test check",
+        status: 0,
+        prints: "number 1\n",
+    },
+    Row {
+        words: "tool tdb_program_test show a",
+        status: 0,
+        prints: "data(1) = \"1\"\n",
+    },
+];
+
 #[test]
 fn a_real_file_is_made_changed_checked_and_shown(rt: HostRuntime) -> Result<(), Fail> {
     let file = "tdb_program_test";
     let _ = fs::remove_file(&rt, file);
-    let (status, output) = run_words(rt, "tool tdb_program_test show a")?;
-    assert_eq!(rt; status, 9);
-    assert_eq!(rt; output.as_slice(), b"missing tdb_program_test\n".as_slice());
-    let (status, output) = run_words(rt, "tool tdb_program_test create")?;
-    assert_eq!(rt; status, 0);
-    assert_eq!(rt; output.as_slice(), b"ok\n".as_slice());
-    let (status, output) = run_words(rt, "tool tdb_program_test insert a 1")?;
-    assert_eq!(rt; status, 0);
-    assert_eq!(rt; output.as_slice(), b"ok\n".as_slice());
-    let (status, output) = run_words(rt, "tool tdb_program_test check")?;
-    assert_eq!(rt; status, 0);
-    assert_eq!(rt; output.as_slice(), b"number 1\n".as_slice());
-    let (status, output) = run_words(rt, "tool tdb_program_test show a")?;
-    assert_eq!(rt; status, 0);
-    assert_eq!(rt; output.as_slice(), b"data(1) = \"1\"\n".as_slice());
+    assert_eq!(rt; first_wrong(rt, &MADE)?, None);
     fs::remove_file(&rt, file)?;
     Ok(())
 }
+
+/// The making of a file.
+const CREATED: [Row; 1] = [Row {
+    words: "tool tdb_program_used create",
+    status: 0,
+    prints: "ok\n",
+}];
+
+/// A change of it while another program uses it.
+const USED: [Row; 1] = [Row {
+    words: "tool tdb_program_used insert a 1",
+    status: 4,
+    prints: "device fault\n",
+}];
+
+/// A check of it afterwards.
+const LEFT: [Row; 1] = [Row {
+    words: "tool tdb_program_used check",
+    status: 0,
+    prints: "number 0\n",
+}];
 
 #[test]
 fn a_file_that_another_program_uses_is_left_alone(rt: HostRuntime) -> Result<(), Fail> {
     let file = "tdb_program_used";
     let _ = fs::remove_file(&rt, file);
-    let (status, _) = run_words(rt, "tool tdb_program_used create")?;
-    assert_eq!(rt; status, 0);
+    assert_eq!(rt; first_wrong(rt, &CREATED)?, None);
     let mut other = DirFiles::new(rt);
     let disk = other.take(rt.alloc(), file, Take::ReadOnly)?;
-    let (status, output) = run_words(rt, "tool tdb_program_used insert a 1")?;
-    assert_eq!(rt; status, 4);
-    assert_eq!(rt; output.as_slice(), b"device fault\n".as_slice());
+    assert_eq!(rt; first_wrong(rt, &USED)?, None);
     other.give(file, disk);
-    let (status, output) = run_words(rt, "tool tdb_program_used check")?;
-    assert_eq!(rt; status, 0);
-    assert_eq!(rt; output.as_slice(), b"number 0\n".as_slice());
+    assert_eq!(rt; first_wrong(rt, &LEFT)?, None);
     fs::remove_file(&rt, file)?;
     Ok(())
 }
