@@ -4,8 +4,8 @@ use crate::images::{Image, NEW, NEW_BIG, NEW_JENKINS_FILE, ONE};
 use crate::runs::Failing::{Disk, Nothing, Output};
 use crate::runs::{DUMP, Line, USAGE};
 use crate::tables::{Left, Table};
+use small_file::RECORD;
 use tdb_disk::Call;
-use tdb_words::{FREE, USED};
 
 /// Lines over a new file `f.tdb`, to which they add the record of `a` with the value `1`.
 const INSERTS: [Line<'static>; 19] = [
@@ -42,23 +42,16 @@ const INSERTS: [Line<'static>; 19] = [
     ("tool g.tdb create", "", Nothing, 9, "there g.tdb\n"),
 ];
 
-/// The file of one record with the other byte order and Jenkins' hash.
+/// The file of one record with the other byte order and Jenkins' hash, by which the record is filed in another chain.
 const BIG_INSERTED: Image = Image {
     words: &[
         &NEW_JENKINS_FILE,
+        &RECORD,
         &[
-            (168, 696),
+            (200, 0),
             (480, 4064),
-            (700, 3344),
-            (716, FREE),
-            (4060, 3368),
-            (4068, 8),
-            (4072, 1),
-            (4076, 1),
             (4080, 0x58D6_8708),
-            (4084, USED),
             (4088, 0x6131_4242),
-            (4092, 32),
         ],
     ],
     len: 4096,
