@@ -15,7 +15,7 @@ use crate::names::{Names, Text};
 use crate::options::{Command, Line};
 use std::alloc::{AllocError, Global};
 use tdb_dump::Listing;
-use tdb_world::Options;
+use tdb_openers::Options;
 
 /// What is to be done with a file. A limit, as `Ask::of` reads it, is from 696 to 4,294,963,200 bytes.
 #[derive(Debug, Drop)]

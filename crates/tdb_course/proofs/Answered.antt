@@ -9,10 +9,10 @@ use Rattle.tdb_law.specs.Plays.{Play as LawPlay}
 use Rattle.tdb_law.specs.Plays.Gives.{gives_answer, gives_command}
 use Rattle.tdb_plays.specs.declared.line.Line.{Line}
 use Rattle.tdb_plays.specs.InLaw.{law_opener, law_line}
-use Rattle.tdb_world.specs.Played.{Nothing}
-use Rattle.tdb_world.specs.Played.Begun.{begun_not}
-use Rattle.tdb_world.specs.declared.fault.RunFault.{RunFault}
-use Rattle.tdb_world.specs.declared.fault.RunFault.TheVariants.{Io, Memory}
+use Rattle.tdb_openers.specs.Played.{Nothing}
+use Rattle.tdb_openers.specs.Played.Begun.{begun_not}
+use Rattle.tdb_openers.specs.declared.fault.RunFault.{RunFault}
+use Rattle.tdb_openers.specs.declared.fault.RunFault.TheVariants.{Io, Memory}
 use Rattle.tdb_whole.specs.Whole.{Whole, WorldFits}
 use Rattle.tdb_whole.specs.States.{IsStateOf}
 use Rattle.tdb_course.specs.Led.{Lengths, moment, Led}

@@ -18,7 +18,7 @@ use Rattle.tdb_law.specs.Plays.Gives.{gives_answer, gives_opener, gives_command,
 use Rattle.tdb_law.specs.Refusals.{Refusal, refusal}
 use Rattle.tdb_law.specs.Turned.{Turned}
 use Rattle.tdb_law.specs.World.{State}
-use Rattle.tdb_world.specs.Calm.{IsMidway}
+use Rattle.tdb_openers.specs.Calm.{IsMidway}
 use Rattle.tdb_course.specs.Changes.{IsStepless, AreStepless, StepsTellChanges}
 use Rattle.tdb_course.proofs.Courses.{clears_task}
 

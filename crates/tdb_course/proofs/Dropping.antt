@@ -14,10 +14,10 @@ use Rattle.tdb_law.specs.Plays.Gives.{gives_answer, gives_opener, gives_command,
 use Rattle.tdb_plays.specs.declared.play.Play.{Play as CodePlay}
 use Rattle.tdb_plays.specs.declared.play.Play.TheVariants as Plays
 use Rattle.tdb_plays.specs.InLaw.{law_play}
-use Rattle.tdb_world.specs.Played.{Begun, Steps, StepsThenClears, PlaysLast}
-use Rattle.tdb_world.specs.Played.Begun.{begun_not, begun_turn, begun_turns, begun_command}
-use Rattle.tdb_world.specs.declared.fault.RunFault.{RunFault}
-use Rattle.tdb_world.specs.declared.fault.RunFault.TheVariants.{Io, Memory}
+use Rattle.tdb_openers.specs.Played.{Begun, Steps, StepsThenClears, PlaysLast}
+use Rattle.tdb_openers.specs.Played.Begun.{begun_not, begun_turn, begun_turns, begun_command}
+use Rattle.tdb_openers.specs.declared.fault.RunFault.{RunFault}
+use Rattle.tdb_openers.specs.declared.fault.RunFault.TheVariants.{Io, Memory}
 use Rattle.tdb_course.specs.Hearing.{KeepsLogs, KeepLogs, drops_log}
 use Rattle.tdb_course.specs.Led.{Comes}
 

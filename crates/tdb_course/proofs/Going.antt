@@ -11,10 +11,10 @@ use Rattle.tdb_law.specs.Plays.Play.{TakeTurn, Go, Do}
 use Rattle.tdb_law.specs.Plays.Gives.{gives_turns, gives_all}
 use Rattle.tdb_plays.specs.declared.play.Play.{Play as CodePlay}
 use Rattle.tdb_plays.specs.InLaw.{law_opener, law_play, law_plays}
-use Rattle.tdb_world.specs.declared.fault.RunFault.{RunFault}
-use Rattle.tdb_world.specs.Played.{Nothing, Steps, TakesOne, GoesSome, Begun, ComesTo, PlaysLast}
-use Rattle.tdb_world.specs.Played.Begun.{begun_not, begun_turns, begun_command}
-use Rattle.tdb_world.proofs.Courses.{steps_only, steps_nothing, turn_gives, course_then, course_begun, course_last}
+use Rattle.tdb_openers.specs.declared.fault.RunFault.{RunFault}
+use Rattle.tdb_openers.specs.Played.{Nothing, Steps, TakesOne, GoesSome, Begun, ComesTo, PlaysLast}
+use Rattle.tdb_openers.specs.Played.Begun.{begun_not, begun_turns, begun_command}
+use Rattle.tdb_openers.proofs.Courses.{steps_only, steps_nothing, turn_gives, course_then, course_begun, course_last}
 use Rattle.tdb_whole.specs.Whole.{form_at}
 use Rattle.tdb_course.specs.Led.{Moment, Led}
 use Rattle.tdb_course.specs.Told.{PlayLed}

@@ -11,9 +11,9 @@ use Rattle.tdb_law.specs.Plays.Grows.{grows_not, grows_longer}
 use Rattle.tdb_plays.specs.declared.line.Line.{Line}
 use Rattle.tdb_plays.specs.declared.line.Line.TheVariants.{Grew, Undone}
 use Rattle.tdb_plays.specs.InLaw.{law_line, law_lines}
-use Rattle.tdb_world.specs.Played.{growth}
-use Rattle.tdb_world.specs.declared.fault.RunFault.{RunFault}
-use Rattle.tdb_world.specs.declared.fault.RunFault.TheVariants.{Io, Memory}
+use Rattle.tdb_openers.specs.Played.{growth}
+use Rattle.tdb_openers.specs.declared.fault.RunFault.{RunFault}
+use Rattle.tdb_openers.specs.declared.fault.RunFault.TheVariants.{Io, Memory}
 use Rattle.tdb_whole.specs.Whole.{Whole, WorldFits}
 use Rattle.tdb_course.specs.Led.{Lengths, Moment, moment, IsStateAt, Led}
 

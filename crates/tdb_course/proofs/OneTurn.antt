@@ -18,10 +18,10 @@ use Rattle.tdb_plays.specs.declared.line.Line.{Line}
 use Rattle.tdb_plays.specs.declared.line.Line.TheVariants as Lines
 use Rattle.tdb_plays.specs.InLaw.{law_opener, law_command, law_turn, law_lines}
 use Rattle.tdb_beside.specs.Sides.{Past, Side, whole}
-use Rattle.tdb_world.specs.declared.fault.RunFault.{RunFault}
-use Rattle.tdb_world.specs.declared.fault.RunFault.TheVariants.{Io, Memory}
-use Rattle.tdb_world.specs.Played.{growth, Nothing, TakesOne, TakesLast, is_step}
-use Rattle.tdb_world.specs.Worlds.{state_in}
+use Rattle.tdb_openers.specs.declared.fault.RunFault.{RunFault}
+use Rattle.tdb_openers.specs.declared.fault.RunFault.TheVariants.{Io, Memory}
+use Rattle.tdb_openers.specs.Played.{growth, Nothing, TakesOne, TakesLast, is_step}
+use Rattle.tdb_openers.specs.Worlds.{state_in}
 use Rattle.tdb_whole.specs.Whole.{Whole, WorldFits, form_at}
 use Rattle.tdb_whole.specs.States.{IsStateOf}
 use Rattle.tdb_whole.specs.States.IsStateOf.{of_whole, of_stale}

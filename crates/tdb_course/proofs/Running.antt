@@ -10,9 +10,9 @@ use Rattle.tdb_log.specs.declared.log.LogRefusal.{LogRefusal}
 use Rattle.tdb_plays.specs.declared.line.Line.{Line}
 use Rattle.tdb_plays.specs.declared.play.Play.{Play as CodePlay}
 use Rattle.tdb_plays.specs.InLaw.{law_play, law_plays}
-use Rattle.tdb_world.specs.declared.fault.RunFault.{RunFault}
-use Rattle.tdb_world.specs.Played.{ComesTo}
-use Rattle.tdb_world.proofs.Courses.{course_whole}
+use Rattle.tdb_openers.specs.declared.fault.RunFault.{RunFault}
+use Rattle.tdb_openers.specs.Played.{ComesTo}
+use Rattle.tdb_openers.proofs.Courses.{course_whole}
 use Rattle.tdb_whole.specs.Whole.{form_at}
 use Rattle.tdb_course.specs.Hearing.{Heard, HeardBy, HeardLed, RunsAsTold}
 use Rattle.tdb_course.specs.Led.{Moment, Led}

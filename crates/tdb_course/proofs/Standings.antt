@@ -13,10 +13,10 @@ use Rattle.tdb_holder.specs.Stages.{stage_task}
 use Rattle.tdb_plays.proofs.NameLemmas.{each_command}
 use Rattle.tdb_plays.specs.InLaw.{law_opener, law_command}
 use Rattle.tdb_plays.specs.declared.command.Command.{Command}
-use Rattle.tdb_world.specs.Openers.{law_task, own_at, task_at}
-use Rattle.tdb_world.specs.Worlds.{state_in, law_of_task, IsBusy, IsFree, IsNumber}
-use Rattle.tdb_world.specs.declared.job.Task.{Task as JobTask}
-use Rattle.tdb_world.specs.declared.opener.Opener.{Opener}
+use Rattle.tdb_openers.specs.Openers.{law_task, own_at, task_at}
+use Rattle.tdb_openers.specs.Worlds.{state_in, law_of_task, IsBusy, IsFree, IsNumber}
+use Rattle.tdb_openers.specs.declared.job.Task.{Task as JobTask}
+use Rattle.tdb_openers.specs.declared.opener.Opener.{Opener}
 use Rattle.tdb_whole.specs.States.{IsStateOf, SideIs}
 use Rattle.tdb_whole.specs.States.IsStateOf.{of_whole, of_stale}
 use Rattle.tdb_whole.specs.Steps.{HasCommand, HasNoCommand, IsAmong}

@@ -10,10 +10,10 @@ use Rattle.tdb_law.specs.Plays.Gives.{gives_answer, gives_command}
 use Rattle.tdb_law.specs.World.{State}
 use Rattle.tdb_plays.specs.declared.line.Line.{Line}
 use Rattle.tdb_plays.specs.InLaw.{law_opener, law_line, law_lines}
-use Rattle.tdb_world.specs.Played.{Begun}
-use Rattle.tdb_world.specs.Played.Begun.{begun_not, begun_turn, begun_turns, begun_command}
-use Rattle.tdb_world.specs.declared.fault.RunFault.{RunFault}
-use Rattle.tdb_world.specs.declared.fault.RunFault.TheVariants.{Io, Memory}
+use Rattle.tdb_openers.specs.Played.{Begun}
+use Rattle.tdb_openers.specs.Played.Begun.{begun_not, begun_turn, begun_turns, begun_command}
+use Rattle.tdb_openers.specs.declared.fault.RunFault.{RunFault}
+use Rattle.tdb_openers.specs.declared.fault.RunFault.TheVariants.{Io, Memory}
 use Rattle.tdb_whole.specs.Whole.{Whole, form_at}
 use Rattle.tdb_course.specs.Led.{Moment, moment}
 use Rattle.tdb_course.specs.Stops.{StopsLed}

@@ -15,11 +15,11 @@ use Rattle.tdb_law.specs.Rows.{is_changed}
 use Rattle.tdb_law.specs.World.{State}
 use Rattle.tdb_plays.specs.declared.line.Line.{Line}
 use Rattle.tdb_plays.specs.InLaw.{law_lines}
-use Rattle.tdb_world.specs.Calm.{IsMidway}
-use Rattle.tdb_world.specs.Played.{Nothing, TakesOne, TakesLast, UnlessIo}
-use Rattle.tdb_world.specs.declared.fault.RunFault.{RunFault}
-use Rattle.tdb_world.specs.declared.fault.RunFault.TheVariants.{Io, Memory}
-use Rattle.tdb_world.proofs.Courses.{turn_gives}
+use Rattle.tdb_openers.specs.Calm.{IsMidway}
+use Rattle.tdb_openers.specs.Played.{Nothing, TakesOne, TakesLast, UnlessIo}
+use Rattle.tdb_openers.specs.declared.fault.RunFault.{RunFault}
+use Rattle.tdb_openers.specs.declared.fault.RunFault.TheVariants.{Io, Memory}
+use Rattle.tdb_openers.proofs.Courses.{turn_gives}
 use Rattle.tdb_whole.specs.States.{IsStateOf}
 use Rattle.tdb_whole.specs.Stops.{IsChanging, IsSafe, OpensToState, TurnMayLeave}
 use Rattle.tdb_whole.specs.Whole.{form_at, Whole}

@@ -11,10 +11,10 @@ use Rattle.tdb_law.specs.Plays.{Play, Gives}
 use Rattle.tdb_law.specs.World.{State}
 use Rattle.tdb_plays.specs.declared.line.Line.{Line}
 use Rattle.tdb_plays.specs.InLaw.{law_line, law_lines}
-use Rattle.tdb_world.specs.Played.{UnlessIo}
-use Rattle.tdb_world.specs.declared.fault.RunFault.{RunFault}
-use Rattle.tdb_world.specs.declared.fault.RunFault.TheVariants.{Io, Memory}
-use Rattle.tdb_world.proofs.Courses.{course_join}
+use Rattle.tdb_openers.specs.Played.{UnlessIo}
+use Rattle.tdb_openers.specs.declared.fault.RunFault.{RunFault}
+use Rattle.tdb_openers.specs.declared.fault.RunFault.TheVariants.{Io, Memory}
+use Rattle.tdb_openers.proofs.Courses.{course_join}
 use Rattle.tdb_whole.specs.States.{IsStateOf}
 use Rattle.tdb_whole.specs.Stops.{IsSafe, OpensToState}
 use Rattle.tdb_whole.specs.Whole.{Whole, form_at}

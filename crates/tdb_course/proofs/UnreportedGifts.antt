@@ -10,10 +10,10 @@ use Rattle.tdb_plays.specs.declared.line.Line.TheVariants as Lines
 use Rattle.tdb_whole.specs.States.{IsStateOf}
 use Rattle.tdb_whole.specs.Steps.{HasCommand}
 use Rattle.tdb_whole.specs.Whole.{Whole, WorldFits}
-use Rattle.tdb_world.specs.declared.fault.RunFault.{RunFault}
-use Rattle.tdb_world.specs.declared.fault.RunFault.TheVariants.{Memory}
-use Rattle.tdb_world.specs.declared.standings.OpenerStanding.{OpenerStanding}
-use Rattle.tdb_world.specs.declared.standings.OpenerStanding.TheVariants as Stands
+use Rattle.tdb_openers.specs.declared.fault.RunFault.{RunFault}
+use Rattle.tdb_openers.specs.declared.fault.RunFault.TheVariants.{Memory}
+use Rattle.tdb_openers.specs.declared.standings.OpenerStanding.{OpenerStanding}
+use Rattle.tdb_openers.specs.declared.standings.OpenerStanding.TheVariants as Stands
 use Rattle.tdb_course.specs.Led.{moment, Lengths}
 use Rattle.tdb_course.specs.Told.{Gifted, IsAnswered, PlayLedInAny}
 use Rattle.tdb_course.specs.Unreported.{gift_lines}

@@ -13,8 +13,8 @@ use Rattle.tdb_plays.specs.declared.line.Line.{Line}
 use Rattle.tdb_plays.specs.declared.line.Line.TheVariants.{Took}
 use Rattle.tdb_whole.specs.Whole.{form_at, Whole, WorldFits}
 use Rattle.tdb_whole.specs.declared.undoing.Undone.{Undone}
-use Rattle.tdb_world.specs.Played.{growth, is_step, Nothing, TakesOne, TakesLast}
-use Rattle.tdb_world.specs.declared.fault.RunFault.{RunFault}
+use Rattle.tdb_openers.specs.Played.{growth, is_step, Nothing, TakesOne, TakesLast}
+use Rattle.tdb_openers.specs.declared.fault.RunFault.{RunFault}
 use Rattle.tdb_course.specs.Hearing.{Heard, HeardBy, HeardLed, HeardUpTo}
 use Rattle.tdb_course.specs.Led.{Lengths, Moment, moment, IsStateAt, Led}
 use Rattle.tdb_course.specs.Told.{IsAnswered, PlayLed}

@@ -13,7 +13,7 @@ use Rattle.tdb_log.specs.declared.notice.Notice.TheVariants as Note
 use Rattle.tdb_plays.specs.InLaw.{law_lines}
 use Rattle.tdb_plays.specs.declared.line.Line.{Line}
 use Rattle.tdb_plays.specs.declared.line.Line.TheVariants.{Grew, Died, Undone, LogsLeft}
-use Rattle.tdb_world.specs.declared.fault.RunFault.{RunFault}
+use Rattle.tdb_openers.specs.declared.fault.RunFault.{RunFault}
 
 -- the notice that tells what a line does, if logs are told of it: that the file grew, an opener died, or a gate was undone
 abbrev pub notice_of : Line → Option Notice

@@ -7,9 +7,9 @@ use Rattle.tdb_law.specs.Lines.{Line as LawLine}
 use Rattle.tdb_plays.specs.declared.line.Line.{Line}
 use Rattle.tdb_plays.specs.declared.line.Line.TheVariants.{Grew, Undone}
 use Rattle.tdb_plays.specs.InLaw.{law_lines}
-use Rattle.tdb_world.specs.Played.{UnlessIo, OnIo}
-use Rattle.tdb_world.specs.declared.fault.RunFault.{RunFault}
-use Rattle.tdb_world.specs.declared.fault.RunFault.TheVariants.{Io, Memory}
+use Rattle.tdb_openers.specs.Played.{UnlessIo, OnIo}
+use Rattle.tdb_openers.specs.declared.fault.RunFault.{RunFault}
+use Rattle.tdb_openers.specs.declared.fault.RunFault.TheVariants.{Io, Memory}
 use Rattle.tdb_whole.specs.Whole.{Whole, WorldFits}
 use Rattle.tdb_whole.specs.States.{IsStateOf}
 

@@ -7,8 +7,8 @@ use Rattle.tdb_law.specs.World.{State}
 use Rattle.tdb_space.specs.Form.{Form}
 use Rattle.tdb_plays.specs.declared.line.Line.{Line}
 use Rattle.tdb_plays.specs.InLaw.{law_lines}
-use Rattle.tdb_world.specs.Played.{UnlessIo}
-use Rattle.tdb_world.specs.declared.fault.RunFault.{RunFault}
+use Rattle.tdb_openers.specs.Played.{UnlessIo}
+use Rattle.tdb_openers.specs.declared.fault.RunFault.{RunFault}
 use Rattle.tdb_whole.specs.Stops.{IsChanging, IsSafe, TurnMayLeave}
 use Rattle.tdb_whole.specs.Whole.{form_at}
 use Rattle.tdb_course.specs.Led.{Moment, IsStateAt}

@@ -6,8 +6,8 @@ use Rattle.tdb_law.specs.World.{State}
 use Rattle.tdb_law.specs.Plays.{Play, Gives, IsAnswer}
 use Rattle.tdb_plays.specs.declared.line.Line.{Line}
 use Rattle.tdb_plays.specs.InLaw.{law_line}
-use Rattle.tdb_world.specs.Played.{Begun, PlaysLast}
-use Rattle.tdb_world.specs.declared.fault.RunFault.{RunFault}
+use Rattle.tdb_openers.specs.Played.{Begun, PlaysLast}
+use Rattle.tdb_openers.specs.declared.fault.RunFault.{RunFault}
 use Rattle.tdb_whole.specs.Whole.{Whole, WorldFits, form_at}
 use Rattle.tdb_whole.specs.States.{IsStateOf}
 use Rattle.tdb_whole.specs.Steps.{GiftLeads, HasCommand}

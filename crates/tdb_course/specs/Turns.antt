@@ -6,7 +6,7 @@ use Rattle.tdb_law.specs.Openers.{Task}
 use Rattle.tdb_law.specs.World.{State}
 use Rattle.tdb_law.specs.Lines.{Line as LawLine}
 use Rattle.tdb_law.specs.Plays.{Clears, Goes, most_turns}
-use Rattle.tdb_world.specs.Played.{TakesLast, StepsThenClears}
+use Rattle.tdb_openers.specs.Played.{TakesLast, StepsThenClears}
 
 -- what never comes
 abbrev pub Never : State → List LawLine → State → Type 0

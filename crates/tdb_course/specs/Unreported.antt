@@ -9,10 +9,10 @@ use Rattle.tdb_plays.specs.declared.command.Command.{Command}
 use Rattle.tdb_plays.specs.declared.line.Line.{Line}
 use Rattle.tdb_plays.specs.declared.line.Line.TheVariants.{Absent, Idle, Occupied, Took, Undone}
 use Rattle.tdb_whole.specs.declared.undoing.Undone.{Undone as UndoneGate}
-use Rattle.tdb_world.specs.Played.{growth}
-use Rattle.tdb_world.specs.declared.fault.RunFault.{RunFault}
-use Rattle.tdb_world.specs.declared.standings.OpenerStanding.{OpenerStanding}
-use Rattle.tdb_world.specs.declared.standings.OpenerStanding.TheVariants as Stands
+use Rattle.tdb_openers.specs.Played.{growth}
+use Rattle.tdb_openers.specs.declared.fault.RunFault.{RunFault}
+use Rattle.tdb_openers.specs.declared.standings.OpenerStanding.{OpenerStanding}
+use Rattle.tdb_openers.specs.declared.standings.OpenerStanding.TheVariants as Stands
 use Rattle.tdb_course.specs.Hearing.{HeardLed}
 use Rattle.tdb_course.specs.Led.{Moment}
 use Rattle.tdb_course.specs.Told.{PlayLed}

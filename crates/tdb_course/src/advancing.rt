@@ -4,7 +4,7 @@ ghost use Rattle.tdb_disk.specs.History.{seen};
 ghost use Rattle.tdb_law.specs.Plays.{Goes, most_turns};
 ghost use Rattle.tdb_law.specs.Plays.{Play as LawPlay};
 ghost use Rattle.tdb_plays.specs.InLaw.{law_opener};
-ghost use Rattle.tdb_world.specs.Played.{GoesSome};
+ghost use Rattle.tdb_openers.specs.Played.{GoesSome};
 ghost use Rattle.tdb_whole.specs.Whole.{form_at, WorldFits};
 ghost use Rattle.tdb_whole.specs.Steps.{HasCommand};
 ghost use Rattle.tdb_course.specs.Led.{moment, Led};
@@ -16,7 +16,7 @@ use crate::turning::told_turn;
 use tdb_disk::Disk;
 use tdb_plays::{Line, TurnReport};
 use tdb_whole::{OpenerStanding, World};
-use tdb_world::{MOST_TURNS, RunFault, tell};
+use tdb_openers::{MOST_TURNS, RunFault, tell};
 
 /// Takes turns of an opener's command up to the first that isn't a step, and tells them.
 pub(crate) fn go_on<D: Disk>(

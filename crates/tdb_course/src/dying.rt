@@ -7,7 +7,7 @@ ghost use Rattle.tdb_course.specs.Told.{PlayLedInAny};
 
 use tdb_plays::{Line, TurnReport};
 use tdb_whole::{OpenerStanding, World};
-use tdb_world::{RunFault, put_line, tell};
+use tdb_openers::{RunFault, put_line, tell};
 
 /// An opener dies, or the report says why it doesn't.
 pub(crate) fn play_die(world: &mut World, who: u32, report: &mut TurnReport) -> Result<(), RunFault>

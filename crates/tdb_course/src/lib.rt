@@ -15,4 +15,4 @@ pub use crate::ending::finish_report;
 pub use crate::laws::{prepared_commits_end, report_is_lawful, steps_tell_changes};
 pub use crate::playing::{play, run};
 pub use crate::unreported::{give_unreported, turn_unreported};
-pub use tdb_world::RunFault;
+pub use tdb_openers::RunFault;

@@ -5,7 +5,7 @@ ghost use Rattle.tdb_law.specs.Plays.{Gives, Course};
 ghost use Rattle.tdb_law.specs.Plays.{Play as LawPlay};
 ghost use Rattle.tdb_plays.specs.InLaw.{law_opener, law_command, law_play, law_plays};
 ghost use Rattle.tdb_plays.specs.Short.{IsShortCommand};
-ghost use Rattle.tdb_world.specs.Played.{Begun, ComesTo, PlaysLast};
+ghost use Rattle.tdb_openers.specs.Played.{Begun, ComesTo, PlaysLast};
 ghost use Rattle.tdb_whole.specs.Whole.{form_at, WorldFits};
 ghost use Rattle.tdb_course.specs.Led.{moment, Led};
 ghost use Rattle.tdb_course.specs.Hearing.{HeardLed, RunsAsTold, drops_log};
@@ -21,7 +21,7 @@ use tdb_disk::Disk;
 use tdb_log::{LogRefusal, Logs};
 use tdb_plays::{Command, Line, Play, TurnReport};
 use tdb_whole::{OpenerStanding, World};
-use tdb_world::{RunFault, tell};
+use tdb_openers::{RunFault, tell};
 
 /// An opener is given a command and takes turns of it up to the first that isn't a step, or the report says why not.
 fn play_do<D: Disk>(

@@ -10,7 +10,7 @@ ghost use Rattle.tdb_course.specs.Told.{Gifted, GivesLine, PlayLedInAny};
 
 use tdb_plays::{Command, Line, TurnReport};
 use tdb_whole::{JoinRefusal, OpenerStanding, World};
-use tdb_world::{RunFault, put_line, tell};
+use tdb_openers::{RunFault, put_line, tell};
 
 /// The line of a join: a new opener, or why there is none.
 fn join_line(world: &mut World) -> Line

@@ -7,7 +7,7 @@ ghost use Rattle.tdb_law.specs.Openers.{Task};
 ghost use Rattle.tdb_law.specs.Plays.{Clears};
 ghost use Rattle.tdb_law.specs.World.{State};
 ghost use Rattle.tdb_plays.specs.InLaw.{law_opener, law_command};
-ghost use Rattle.tdb_world.specs.Played.{Nothing, TakesLast, TakesOne};
+ghost use Rattle.tdb_openers.specs.Played.{Nothing, TakesLast, TakesOne};
 ghost use Rattle.tdb_whole.specs.Whole.{form_at, WorldFits};
 ghost use Rattle.tdb_whole.specs.States.{IsStateOf};
 ghost use Rattle.tdb_whole.specs.Steps.{HasCommand};
@@ -20,7 +20,7 @@ use tdb_disk::Disk;
 use tdb_plays::{Command, Line, TurnReport};
 use tdb_space::Io;
 use tdb_whole::{Undone, World};
-use tdb_world::{RunFault, put_line, tell_growth, was_step};
+use tdb_openers::{RunFault, put_line, tell_growth, was_step};
 
 /// The length of the file.
 pub(crate) fn length_of<D: Disk>(d: &mut D) -> Result<u64, Io>

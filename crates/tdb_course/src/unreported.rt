@@ -6,7 +6,7 @@ ghost use Rattle.tdb_plays.specs.InLaw.{law_opener, law_command};
 ghost use Rattle.tdb_plays.specs.declared.command.Command.{Command};
 ghost use Rattle.tdb_plays.specs.declared.line.Line.{Line};
 ghost use Rattle.tdb_plays.specs.Short.{IsShortCommand};
-ghost use Rattle.tdb_world.specs.Played.{growth, is_step, Nothing, TakesLast, TakesOne};
+ghost use Rattle.tdb_openers.specs.Played.{growth, is_step, Nothing, TakesLast, TakesOne};
 ghost use Rattle.tdb_whole.specs.Whole.{form_at, WorldFits};
 ghost use Rattle.tdb_whole.specs.Steps.{HasCommand};
 ghost use Rattle.tdb_course.specs.Hearing.{HeardBy};
@@ -22,7 +22,7 @@ use tdb_locks::Turn;
 use tdb_log::{LogRefusal, Logs, Notice};
 use tdb_plays::Command;
 use tdb_whole::{OpenerStanding, Undone, World};
-use tdb_world::RunFault;
+use tdb_openers::RunFault;
 
 /// A turn, and the length of the file in bytes before it and after it.
 #[derive(Drop)]

@@ -11,9 +11,9 @@ use Rattle.tdb_plays.specs.declared.line.Line.{Line}
 use Rattle.tdb_plays.specs.declared.line.Line.TheVariants as Lines
 use Rattle.tdb_plays.specs.declared.play.Play.{Play}
 use Rattle.tdb_plays.specs.declared.play.Play.TheVariants as Plays
-use Rattle.tdb_world.proofs.Courses.{course_then}
-use Rattle.tdb_world.specs.declared.standings.OpenerStanding.{OpenerStanding}
-use Rattle.tdb_world.specs.declared.standings.OpenerStanding.TheVariants as Stands
+use Rattle.tdb_openers.proofs.Courses.{course_then}
+use Rattle.tdb_openers.specs.declared.standings.OpenerStanding.{OpenerStanding}
+use Rattle.tdb_openers.specs.declared.standings.OpenerStanding.TheVariants as Stands
 use Rattle.tdb_whole.specs.Steps.{JoinLeads}
 use Rattle.tdb_whole.specs.States.{IsStateOf}
 use Rattle.tdb_whole.specs.Whole.{Whole, form_at, WorldFits}

@@ -15,11 +15,11 @@ use Rattle.tdb_holder.specs.Holders.{HolderState}
 use Rattle.tdb_holder.specs.Stages.{stage_task, Known, OwnIs}
 use Rattle.tdb_holder.specs.declared.stage.Stage.{Stage}
 use Rattle.tdb_holder.specs.declared.stage.Stage.TheVariants as At
-use Rattle.tdb_world.proofs.AllHands.{joined_none}
-use Rattle.tdb_world.specs.Openers.{law_task, task_at, hands_of_task, hands_at}
-use Rattle.tdb_world.specs.Worlds.{state_in, BytesStand}
-use Rattle.tdb_world.specs.declared.job.Task.{Task as JobTask}
-use Rattle.tdb_world.specs.declared.opener.Opener.{Opener}
+use Rattle.tdb_openers.proofs.AllHands.{joined_none}
+use Rattle.tdb_openers.specs.Openers.{law_task, task_at, hands_of_task, hands_at}
+use Rattle.tdb_openers.specs.Worlds.{state_in, BytesStand}
+use Rattle.tdb_openers.specs.declared.job.Task.{Task as JobTask}
+use Rattle.tdb_openers.specs.declared.opener.Opener.{Opener}
 use Rattle.tdb_whole.specs.Whole.{Whole, form_at, is_starting}
 use Rattle.tdb_whole.specs.States.{state_with, IsAside, SideIs, IsStateOf}
 use Rattle.tdb_whole.specs.States.IsStateOf.{of_whole, of_stale}

@@ -11,7 +11,7 @@ use Rattle.tdb_log.specs.declared.log.LogRefusal.TheVariants as Unheard
 use Rattle.tdb_plays.specs.InLaw.{law_play, law_plays, law_line, law_lines}
 use Rattle.tdb_plays.specs.declared.line.Line.{Line}
 use Rattle.tdb_plays.specs.declared.play.Play.{Play}
-use Rattle.tdb_world.specs.Played.{ComesTo}
+use Rattle.tdb_openers.specs.Played.{ComesTo}
 use Rattle.tdb_whole.specs.Whole.{form_at, WorldFits}
 use Rattle.tdb_course.specs.Hearing.{Heard}
 use Rattle.tdb_course.proofs.HeardLines.{heard_joined, heard_then_refused}
@@ -19,7 +19,7 @@ use Rattle.tdb_gen.specs.declared.fault.GenFault.{GenFault}
 use Rattle.tdb_gen.specs.declared.fault.GenFault.TheVariants.{Io, Memory, Log}
 use Rattle.tdb_gen.specs.Counts.{counts_of}
 use Rattle.tdb_gen.specs.Taking.{UnlessIo, OnIo, HeardSo, Place, TookAll, TookSome, TakesTo, Taken}
-use Rattle.tdb_world.proofs.Courses.{course_join}
+use Rattle.tdb_openers.proofs.Courses.{course_join}
 use Rattle.tdb_course.proofs.Coming.{whole_comes, comes_more, comes_after}
 
 -- what came behind a course, or before others

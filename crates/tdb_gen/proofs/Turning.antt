@@ -15,9 +15,9 @@ use Rattle.tdb_plays.specs.declared.line.Line.{Line}
 use Rattle.tdb_plays.specs.declared.line.Line.TheVariants.{Took, Grew}
 use Rattle.tdb_plays.specs.declared.play.Play.TheVariants as Plays
 use Rattle.tdb_space.specs.Form.{Form}
-use Rattle.tdb_world.specs.Played.{Begun, ComesTo, PlaysLast, growth}
-use Rattle.tdb_world.specs.declared.fault.RunFault.{RunFault}
-use Rattle.tdb_world.proofs.Courses.{course_then, course_last}
+use Rattle.tdb_openers.specs.Played.{Begun, ComesTo, PlaysLast, growth}
+use Rattle.tdb_openers.specs.declared.fault.RunFault.{RunFault}
+use Rattle.tdb_openers.proofs.Courses.{course_then, course_last}
 use Rattle.tdb_whole.specs.Whole.{Whole, form_at}
 use Rattle.tdb_course.specs.Led.{moment}
 use Rattle.tdb_course.specs.Unreported.{AreUndoing, TurnTells, Unreported}

@@ -12,9 +12,9 @@ use Rattle.tdb_plays.specs.InLaw.{law_plays, law_lines}
 use Rattle.tdb_plays.specs.declared.line.Line.{Line}
 use Rattle.tdb_plays.specs.declared.line.Line.TheVariants.{Idle, Absent}
 use Rattle.tdb_plays.specs.declared.play.Play.{Play}
-use Rattle.tdb_world.specs.declared.fault.RunFault.{RunFault}
-use Rattle.tdb_world.specs.declared.fault.RunFault.TheVariants as Run
-use Rattle.tdb_world.specs.Played.{ComesTo}
+use Rattle.tdb_openers.specs.declared.fault.RunFault.{RunFault}
+use Rattle.tdb_openers.specs.declared.fault.RunFault.TheVariants as Run
+use Rattle.tdb_openers.specs.Played.{ComesTo}
 use Rattle.tdb_whole.specs.Whole.{Whole, form_at, WorldFits}
 use Rattle.tdb_whole.specs.States.{IsStateOf}
 use Rattle.tdb_course.specs.Hearing.{Heard, HeardUpTo}

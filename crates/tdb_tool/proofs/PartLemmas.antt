@@ -6,10 +6,10 @@ use Rattle.tdb_law.specs.Plays.{Play as LawPlay, Gives, Course}
 use Rattle.tdb_law.specs.World.{State}
 use Rattle.tdb_plays.specs.InLaw.{law_play, law_line, law_lines}
 use Rattle.tdb_plays.specs.declared.line.Line.{Line}
-use Rattle.tdb_world.specs.Played.{ComesTo, PlaysLast}
-use Rattle.tdb_world.specs.Played.Begun.{begun_not}
+use Rattle.tdb_openers.specs.Played.{ComesTo, PlaysLast}
+use Rattle.tdb_openers.specs.Played.Begun.{begun_not}
 use Rattle.tdb_tool.specs.Parts.{Part, Silent, Told, Listed, play_of, text_of, Going, PartDone, PartBegun, AllDone, FirstBegun, AllCame}
-use Rattle.tdb_world.proofs.Courses.{course_join}
+use Rattle.tdb_openers.proofs.Courses.{course_join}
 use Rattle.tdb_course.proofs.Coming.{whole_comes, comes_after}
 
 -- nothing is printed of no lines

@@ -17,9 +17,9 @@ use Rattle.tdb_plays.specs.InLaw.{law_play, law_lines}
 use Rattle.tdb_plays.specs.declared.command.Command.{Command}
 use Rattle.tdb_plays.specs.declared.line.Line.{Line}
 use Rattle.tdb_plays.specs.declared.play.Play.{Play}
-use Rattle.tdb_world.specs.Played.{Begun, PlaysLast}
-use Rattle.tdb_world.specs.declared.fault.RunFault.{RunFault}
-use Rattle.tdb_world.specs.declared.fault.RunFault.TheVariants as Run
+use Rattle.tdb_openers.specs.Played.{Begun, PlaysLast}
+use Rattle.tdb_openers.specs.declared.fault.RunFault.{RunFault}
+use Rattle.tdb_openers.specs.declared.fault.RunFault.TheVariants as Run
 use Rattle.tdb_whole.specs.Whole.{Whole, form_at}
 use Rattle.tdb_whole.specs.Stops.{IsSafe}
 use Rattle.tdb_course.specs.Hearing.{HeardBy, HeardLed}

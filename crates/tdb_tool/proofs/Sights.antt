@@ -29,9 +29,9 @@ use Rattle.tdb_holder.specs.Stages.{Known, KnowsAt, OwnIs, IsFit, stage_records,
 use Rattle.tdb_holder.specs.declared.stage.Stage.{Stage}
 use Rattle.tdb_holder.specs.declared.stage.Stage.TheVariants as At
 use Rattle.tdb_plays.specs.declared.options.Options.{Options}
-use Rattle.tdb_world.specs.Openers.{own_at}
-use Rattle.tdb_world.specs.Worlds.{state_in}
-use Rattle.tdb_world.specs.declared.opener.Opener.{Opener}
+use Rattle.tdb_openers.specs.Openers.{own_at}
+use Rattle.tdb_openers.specs.Worlds.{state_in}
+use Rattle.tdb_openers.specs.declared.opener.Opener.{Opener}
 use Rattle.tdb_whole.specs.Died.{IsReadAs}
 use Rattle.tdb_whole.specs.States.{IsSeen, IsAside, SideIs, IsStateOf, state_with, writes_all}
 use Rattle.tdb_whole.specs.States.IsStateOf.{of_whole, of_stale}

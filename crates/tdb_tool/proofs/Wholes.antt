@@ -18,8 +18,8 @@ use Rattle.tdb_plays.specs.declared.line.Line.TheVariants.{Unfinished}
 use Rattle.tdb_plays.specs.declared.options.Options.{Options}
 use Rattle.tdb_plays.specs.declared.play.Play.{Play}
 use Rattle.tdb_script.specs.Lines.{lines_of}
-use Rattle.tdb_world.proofs.Finishing.{broken_lawful}
-use Rattle.tdb_world.specs.Worlds.{World, state_in}
+use Rattle.tdb_openers.proofs.Finishing.{broken_lawful}
+use Rattle.tdb_openers.specs.Worlds.{World, state_in}
 use Rattle.tdb_whole.specs.Died.{IsReadAs}
 use Rattle.tdb_whole.proofs.Reopening.{state_reopens}
 use Rattle.tdb_course.proofs.Finishing.{report_lawful}

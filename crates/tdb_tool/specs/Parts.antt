@@ -10,7 +10,7 @@ use Rattle.tdb_plays.specs.declared.line.Line.{Line}
 use Rattle.tdb_plays.specs.declared.play.Play.{Play}
 use Rattle.tdb_space.specs.Form.{Form}
 use Rattle.tdb_plays.specs.Short.{IsShortCommand}
-use Rattle.tdb_world.specs.Played.{PlaysLast}
+use Rattle.tdb_openers.specs.Played.{PlaysLast}
 use Rattle.tdb_tool.specs.declared.order.Order.{Order}
 use Rattle.tdb_tool.specs.Replies.{lines_text, tell_pair}
 

@@ -13,7 +13,7 @@ use Rattle.tdb_law.specs.World.{State}
 use Rattle.tdb_plays.specs.InLaw.{law_play, law_lines}
 use Rattle.tdb_plays.specs.declared.line.Line.{Line}
 use Rattle.tdb_plays.specs.declared.play.Play.{Play}
-use Rattle.tdb_world.specs.Played.{PlaysLast}
+use Rattle.tdb_openers.specs.Played.{PlaysLast}
 use Rattle.tdb_whole.specs.Whole.{form_at, WorldFits}
 use Rattle.tdb_whole.specs.Stops.{IsSafe}
 use Rattle.tdb_course.specs.Hearing.{Heard, HeardUpTo}
@@ -22,8 +22,8 @@ use Rattle.tdb_course.specs.Stops.{IsTransacted, OpensOnTheWay}
 use Rattle.tdb_log.specs.Logs.{Logged}
 use Rattle.tdb_log.specs.declared.log.LogRefusal.{LogRefusal}
 use Rattle.tdb_log.specs.declared.log.LogRefusal.TheVariants as Unheard
-use Rattle.tdb_world.specs.declared.fault.RunFault.{RunFault}
-use Rattle.tdb_world.specs.declared.fault.RunFault.TheVariants as Run
+use Rattle.tdb_openers.specs.declared.fault.RunFault.{RunFault}
+use Rattle.tdb_openers.specs.declared.fault.RunFault.TheVariants as Run
 use Rattle.tdb_tool.specs.declared.fault.SessionEnd.{SessionEnd}
 use Rattle.tdb_tool.specs.declared.fault.SessionFault.{SessionFault}
 use Rattle.tdb_tool.specs.declared.fault.SessionFault.TheVariants as F

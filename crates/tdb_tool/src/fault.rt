@@ -7,7 +7,7 @@ ghost use Rattle.tdb_tool.specs.Serving.{of_run, of_write, of_log};
 use std::alloc::AllocError;
 use tdb_dump::WriteRefusal;
 use tdb_log::LogRefusal;
-use tdb_world::RunFault;
+use tdb_openers::RunFault;
 use thiserror::Error;
 
 /// How a session ends whose commands were all taken.

@@ -7,7 +7,7 @@ use tdb_log::{Log, Logs, MemLog};
 use tdb_open::load;
 use tdb_tool::{SessionEnd, SessionFault, run_session};
 use tdb_words::{HashKind, Order, header_bytes};
-use tdb_world::Options;
+use tdb_openers::Options;
 
 const OPTIONS: Options = Options {
     limit: 4294963200,

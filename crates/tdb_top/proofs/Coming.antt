@@ -19,14 +19,14 @@ use Rattle.tdb_plays.specs.InLaw.{law_play, law_plays, law_line, law_lines}
 use Rattle.tdb_plays.specs.declared.line.Line.{Line}
 use Rattle.tdb_plays.specs.declared.play.Play.{Play}
 use Rattle.tdb_script.specs.Text.{printed_line, report_text}
-use Rattle.tdb_world.specs.Played.{ComesTo, UnlessIo, OnIo}
-use Rattle.tdb_world.specs.declared.fault.RunFault.{RunFault}
-use Rattle.tdb_world.specs.declared.fault.RunFault.TheVariants as Run
+use Rattle.tdb_openers.specs.Played.{ComesTo, UnlessIo, OnIo}
+use Rattle.tdb_openers.specs.declared.fault.RunFault.{RunFault}
+use Rattle.tdb_openers.specs.declared.fault.RunFault.TheVariants as Run
 use Rattle.tdb_whole.specs.Whole.{Whole, form_at, WorldFits}
 use Rattle.tdb_whole.specs.States.{IsStateOf}
 use Rattle.tdb_course.specs.Led.{moment, Comes, Led}
 use Rattle.tdb_course.specs.Unfinished.{IsEnd}
-use Rattle.tdb_world.proofs.Courses.{course_join}
+use Rattle.tdb_openers.proofs.Courses.{course_join}
 use Rattle.tdb_course.proofs.Coming.{whole_comes, comes_more, comes_after}
 use Rattle.tdb_course.specs.Hearing.{HeardLed, RunsAsTold}
 use Rattle.tdb_log.specs.Logs.{Logged}

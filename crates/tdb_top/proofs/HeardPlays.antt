@@ -10,8 +10,8 @@ use Rattle.tdb_course.specs.Unfinished.{TellsUnfinished}
 use Rattle.tdb_course.proofs.HeardLines.{heard_joined}
 use Rattle.tdb_dump.specs.declared.writer.WriteRefusal.{WriteRefusal}
 use Rattle.tdb_dump.specs.declared.writer.WriteRefusal.TheVariants as Untold
-use Rattle.tdb_world.specs.declared.fault.RunFault.{RunFault}
-use Rattle.tdb_world.specs.declared.fault.RunFault.TheVariants as Run
+use Rattle.tdb_openers.specs.declared.fault.RunFault.{RunFault}
+use Rattle.tdb_openers.specs.declared.fault.RunFault.TheVariants as Run
 use Rattle.tdb_open.specs.declared.halt.Fault.TheVariants as F
 use Rattle.tdb_tool.specs.Serving.{HeardSo}
 use Rattle.tdb_top.specs.Playing.{PlaysEnd, IsUnbroken, broke_off, end_of}

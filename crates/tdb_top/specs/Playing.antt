@@ -9,7 +9,7 @@ use Rattle.tdb_plays.specs.InLaw.{law_plays, law_lines}
 use Rattle.tdb_plays.specs.declared.line.Line.{Line}
 use Rattle.tdb_plays.specs.declared.play.Play.{Play}
 use Rattle.tdb_script.specs.Text.{report_text}
-use Rattle.tdb_world.specs.Played.{ComesTo}
+use Rattle.tdb_openers.specs.Played.{ComesTo}
 use Rattle.tdb_whole.specs.Whole.{Whole, form_at, WorldFits}
 use Rattle.tdb_course.specs.Hearing.{Heard}
 use Rattle.tdb_course.specs.Scene.{Scene, IsStateAt}
@@ -35,8 +35,8 @@ use Rattle.tdb_open.specs.declared.halt.Fault.{Fault}
 use Rattle.tdb_open.specs.declared.halt.Fault.TheVariants as F
 use Rattle.tdb_dump.specs.declared.writer.WriteRefusal.{WriteRefusal}
 use Rattle.tdb_dump.specs.declared.writer.WriteRefusal.TheVariants as Untold
-use Rattle.tdb_world.specs.declared.fault.RunFault.{RunFault}
-use Rattle.tdb_world.specs.declared.fault.RunFault.TheVariants as Run
+use Rattle.tdb_openers.specs.declared.fault.RunFault.{RunFault}
+use Rattle.tdb_openers.specs.declared.fault.RunFault.TheVariants as Run
 use Rattle.tdb_plays.specs.declared.options.Options.{Options}
 use Rattle.tdb_open.specs.Loading.{OpensToTurn, IsRefusedToTurn, IsOpened, TurnOpeningHeard, OpenedToTurn}
 use Rattle.tdb_top.specs.Commands.Turns.{PlayedWhole, CameOver, IsReport}

@@ -16,7 +16,7 @@ use Rattle.tdb_plays.specs.declared.options.Options.{Options}
 use Rattle.tdb_plays.specs.declared.play.Play.{Play}
 use Rattle.tdb_script.specs.Text.{report_text}
 use Rattle.tdb_open.specs.Loading.{IsOver, OpensToTurn}
-use Rattle.tdb_world.specs.Played.{ComesTo}
+use Rattle.tdb_openers.specs.Played.{ComesTo}
 use Rattle.tdb_whole.specs.Stops.{IsSafe}
 use Rattle.tdb_whole.specs.States.{IsStateOf}
 use Rattle.tdb_whole.specs.Whole.{Whole, form_at}

@@ -23,13 +23,13 @@ use Rattle.tdb_beside.proofs.Happening.{joins_beside}
 use Rattle.tdb_beside.proofs.Starting.{starts_join, task_not}
 use Rattle.tdb_holder.specs.Holders.{HolderState}
 use Rattle.tdb_holder.specs.Stages.{IsSide, Known}
-use Rattle.tdb_world.specs.Aside.{LocksNoRecord}
-use Rattle.tdb_world.specs.Laws.{IsJoined}
-use Rattle.tdb_world.specs.Worlds.{World, fresh, state_in, BytesStand, IsNumber, Stands}
-use Rattle.tdb_world.specs.declared.opener.Opener.{Opener}
-use Rattle.tdb_world.proofs.Opening.{low_is_free}
-use Rattle.tdb_world.proofs.Aside.{one_number}
-use Rattle.tdb_world.proofs.Arriving.{join_keeps_world, join_keeps_file, join_joins}
+use Rattle.tdb_openers.specs.Aside.{LocksNoRecord}
+use Rattle.tdb_openers.specs.Laws.{IsJoined}
+use Rattle.tdb_openers.specs.Worlds.{World, fresh, state_in, BytesStand, IsNumber, Stands}
+use Rattle.tdb_openers.specs.declared.opener.Opener.{Opener}
+use Rattle.tdb_openers.proofs.Opening.{low_is_free}
+use Rattle.tdb_openers.proofs.Aside.{one_number}
+use Rattle.tdb_openers.proofs.Arriving.{join_keeps_world, join_keeps_file, join_joins}
 use Rattle.tdb_whole.specs.States.{IsSeen, IsStaleState, IsStateOf, IsWholeState, SideIs}
 use Rattle.tdb_whole.specs.States.IsStateOf.{of_whole, of_stale}
 use Rattle.tdb_whole.specs.Steps.{JoinLeads}

@@ -24,9 +24,9 @@ use Rattle.tdb_holder.specs.Stages.{Known}
 use Rattle.tdb_holder.specs.Turned.{StageTurned}
 use Rattle.tdb_holder.specs.declared.stage.Stage.{Stage}
 use Rattle.tdb_holder.proofs.Lifting.{beside_ends, beside_turns}
-use Rattle.tdb_world.specs.Openers.{place_at}
-use Rattle.tdb_world.specs.States.{state_of}
-use Rattle.tdb_world.specs.declared.opener.Opener.{Opener}
+use Rattle.tdb_openers.specs.Openers.{place_at}
+use Rattle.tdb_openers.specs.States.{state_of}
+use Rattle.tdb_openers.specs.declared.opener.Opener.{Opener}
 use Rattle.tdb_plays.specs.declared.options.Options.{Options}
 use Rattle.tdb_whole.proofs.OthersKept.{OneChanges, others_keep, walk_keeps}
 

@@ -20,12 +20,12 @@ use Rattle.tdb_law.proofs.Walking.{put_here, put_else}
 use Rattle.tdb_beside.specs.Sides.{Past, Side, beside}
 use Rattle.tdb_beside.proofs.Idle.{waiting_is_turned}
 use Rattle.tdb_plays.specs.InLaw.{law_opener}
-use Rattle.tdb_world.specs.ShutOut.{IsTurnBeside}
-use Rattle.tdb_world.specs.Worlds.{World, state_in, law_of_task}
-use Rattle.tdb_world.specs.declared.job.Task.{Task}
-use Rattle.tdb_world.specs.declared.opener.Opener.{Opener}
-use Rattle.tdb_world.proofs.Opening.{low_is_free}
-use Rattle.tdb_world.proofs.ShutOut.{IsBarred, apart, its_own, its_task}
+use Rattle.tdb_openers.specs.ShutOut.{IsTurnBeside}
+use Rattle.tdb_openers.specs.Worlds.{World, state_in, law_of_task}
+use Rattle.tdb_openers.specs.declared.job.Task.{Task}
+use Rattle.tdb_openers.specs.declared.opener.Opener.{Opener}
+use Rattle.tdb_openers.proofs.Opening.{low_is_free}
+use Rattle.tdb_openers.proofs.ShutOut.{IsBarred, apart, its_own, its_task}
 
 -- what a command that asks for the number wants of each byte, before its first turn
 abbrev asks : ℕ → ℕ

@@ -21,10 +21,10 @@ use Rattle.tdb_holder.specs.declared.wanting.Wants.{Wants}
 use Rattle.tdb_holder.proofs.Lifting.{beside_turns}
 use Rattle.tdb_holder.proofs.Waiting.{block_is_own}
 use Rattle.tdb_holder.proofs.Wanted.{wanted_law}
-use Rattle.tdb_world.specs.Aside.{wants_all}
-use Rattle.tdb_world.specs.Turning.{law_table}
-use Rattle.tdb_world.specs.Worlds.{state_in}
-use Rattle.tdb_world.proofs.StillWalks.{still_shift}
+use Rattle.tdb_openers.specs.Aside.{wants_all}
+use Rattle.tdb_openers.specs.Turning.{law_table}
+use Rattle.tdb_openers.specs.Worlds.{state_in}
+use Rattle.tdb_openers.proofs.StillWalks.{still_shift}
 use Rattle.tdb_whole.specs.Claims.{IsBarred}
 use Rattle.tdb_whole.specs.Whole.{form_at, is_starting, options_at, HolderFits, Whole, WorldFits}
 use Rattle.tdb_whole.proofs.Leading.{begun, here, starts_may, IsAt}

@@ -17,10 +17,10 @@ use Rattle.tdb_holder.specs.Stages.{is_closing, stage_task, IsFitLeft, IsSide, K
 use Rattle.tdb_holder.specs.Turned.{BeginsOn, MayTurn}
 use Rattle.tdb_holder.specs.declared.wanting.Wants.TheVariants as Wants
 use Rattle.tdb_holder.specs.Wanting.{stage_wants, RecordsGo}
-use Rattle.tdb_world.specs.Worlds.{BytesStand, IsNumber, Stands, World}
-use Rattle.tdb_world.specs.declared.opener.Opener.{Opener}
-use Rattle.tdb_world.proofs.Aside.{one_number}
-use Rattle.tdb_world.proofs.Images.{image_keeps_world}
+use Rattle.tdb_openers.specs.Worlds.{BytesStand, IsNumber, Stands, World}
+use Rattle.tdb_openers.specs.declared.opener.Opener.{Opener}
+use Rattle.tdb_openers.proofs.Aside.{one_number}
+use Rattle.tdb_openers.proofs.Images.{image_keeps_world}
 use Rattle.tdb_whole.specs.Claims.{Claimed, ClaimStands, IsSettled}
 use Rattle.tdb_whole.specs.Steps.{with_aside, TurnLeads}
 use Rattle.tdb_whole.specs.Whole.{Whole, WorldFits}

@@ -4,10 +4,10 @@ use Rattle.tdb_locks.specs.declared.kind.Kind.{Kind}
 use Rattle.tdb_locks.specs.declared.piece.Piece.{Piece}
 use Rattle.tdb_plays.specs.InLaw.{law_opener}
 use Rattle.tdb_holder.specs.declared.wanting.Wants.{Wants}
-use Rattle.tdb_world.specs.Aside.{with_records, AreFree, HoldsRecords, IsBare}
-use Rattle.tdb_world.specs.Worlds.{BytesStand, IsNumber, Stands, World}
-use Rattle.tdb_world.specs.declared.opener.Opener.{Opener}
-use Rattle.tdb_world.proofs.Aside.{bytes_with, stands_with, taken_apart}
+use Rattle.tdb_openers.specs.Aside.{with_records, AreFree, HoldsRecords, IsBare}
+use Rattle.tdb_openers.specs.Worlds.{BytesStand, IsNumber, Stands, World}
+use Rattle.tdb_openers.specs.declared.opener.Opener.{Opener}
+use Rattle.tdb_openers.proofs.Aside.{bytes_with, stands_with, taken_apart}
 use Rattle.tdb_whole.specs.Claims.{Claimed}
 use Rattle.tdb_whole.proofs.MayTurn.{LeavesFree}
 use Rattle.tdb_whole.proofs.OthersKept.{OneChanges}

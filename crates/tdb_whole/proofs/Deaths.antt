@@ -10,8 +10,8 @@ use Rattle.tdb_beside.specs.Starts.{with_starts}
 use Rattle.tdb_holder.specs.Holders.{stage_gate, HolderState}
 use Rattle.tdb_holder.proofs.Gates.{gate_writes}
 use Rattle.tdb_holder.specs.Stages.{stage_task}
-use Rattle.tdb_world.specs.Died.{HasDied}
-use Rattle.tdb_world.specs.Worlds.{World, state_in, BytesStand, Stands}
+use Rattle.tdb_openers.specs.Died.{HasDied}
+use Rattle.tdb_openers.specs.Worlds.{World, state_in, BytesStand, Stands}
 use Rattle.tdb_whole.specs.States.{IsStateOf}
 use Rattle.tdb_whole.specs.States.IsStateOf.{of_whole, of_stale}
 use Rattle.tdb_whole.specs.Steps.{DeathLeads, IsAmong}

@@ -20,11 +20,11 @@ use Rattle.tdb_beside.specs.Starts.{with_starts}
 use Rattle.tdb_beside.proofs.Happening.{dies_beside}
 use Rattle.tdb_beside.proofs.Starting.{starts_die}
 use Rattle.tdb_holder.specs.Holders.{HolderState}
-use Rattle.tdb_world.specs.Aside.{LocksNoRecord}
-use Rattle.tdb_world.specs.Died.{HasDied}
-use Rattle.tdb_world.specs.Worlds.{World, state_in, BytesStand, Stands}
-use Rattle.tdb_world.specs.declared.opener.Opener.{Opener}
-use Rattle.tdb_world.proofs.Putting.{by_number}
+use Rattle.tdb_openers.specs.Aside.{LocksNoRecord}
+use Rattle.tdb_openers.specs.Died.{HasDied}
+use Rattle.tdb_openers.specs.Worlds.{World, state_in, BytesStand, Stands}
+use Rattle.tdb_openers.specs.declared.opener.Opener.{Opener}
+use Rattle.tdb_openers.proofs.Putting.{by_number}
 use Rattle.tdb_whole.specs.States.{IsSeen, IsStaleState, IsStateOf, IsWholeState, SideIs}
 use Rattle.tdb_whole.specs.States.IsStateOf.{of_whole, of_stale}
 use Rattle.tdb_whole.specs.Steps.{IsAmong}

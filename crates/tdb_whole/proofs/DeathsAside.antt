@@ -32,14 +32,14 @@ use Rattle.tdb_beside.proofs.Starting.{starts_die}
 use Rattle.tdb_holder.specs.Holders.{stage_gate, HolderState}
 use Rattle.tdb_holder.specs.Stages.{stage_records, stage_task}
 use Rattle.tdb_holder.proofs.Gates.{gate_law, gate_rests, gate_undone, gate_writes, IsAtRest, IsUndone}
-use Rattle.tdb_world.specs.Aside.{LocksNoRecord}
-use Rattle.tdb_world.specs.Openers.{own_at, place_at}
-use Rattle.tdb_world.specs.Worlds.{state_in, BytesStand, Stands}
-use Rattle.tdb_world.specs.declared.opener.Opener.{Opener}
-use Rattle.tdb_world.proofs.Closed.{found}
-use Rattle.tdb_world.proofs.Images.{lock_keeps_file, locks_none}
-use Rattle.tdb_world.proofs.StillWalks.{still_shift}
-use Rattle.tdb_world.proofs.Stood.{injected}
+use Rattle.tdb_openers.specs.Aside.{LocksNoRecord}
+use Rattle.tdb_openers.specs.Openers.{own_at, place_at}
+use Rattle.tdb_openers.specs.Worlds.{state_in, BytesStand, Stands}
+use Rattle.tdb_openers.specs.declared.opener.Opener.{Opener}
+use Rattle.tdb_openers.proofs.Closed.{found}
+use Rattle.tdb_openers.proofs.Images.{lock_keeps_file, locks_none}
+use Rattle.tdb_openers.proofs.StillWalks.{still_shift}
+use Rattle.tdb_openers.proofs.Stood.{injected}
 use Rattle.tdb_whole.specs.States.{writes_all, IsAside, IsStaleState, IsStateOf, IsWholeState, SideIs}
 use Rattle.tdb_whole.specs.States.IsStateOf.{of_whole, of_stale}
 use Rattle.tdb_whole.specs.Whole.{Whole, AsideFits, HolderFits, WorldFits, form_at, is_starting, options_at}

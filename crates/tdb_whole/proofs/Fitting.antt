@@ -11,9 +11,9 @@ use Rattle.tdb_holder.specs.Holders.{left_stage, HolderState}
 use Rattle.tdb_holder.specs.Stages.{is_closing, stage_records, IsFit, IsFitLeft}
 use Rattle.tdb_holder.specs.Wanting.{records_by, stage_wants, RecordsGo}
 use Rattle.tdb_holder.specs.declared.wanting.Wants.{Wants}
-use Rattle.tdb_world.specs.Aside.{HoldsRecords}
-use Rattle.tdb_world.specs.Worlds.{BytesStand, IsNumber, Stands, World}
-use Rattle.tdb_world.specs.declared.opener.Opener.{Opener}
+use Rattle.tdb_openers.specs.Aside.{HoldsRecords}
+use Rattle.tdb_openers.specs.Worlds.{BytesStand, IsNumber, Stands, World}
+use Rattle.tdb_openers.specs.declared.opener.Opener.{Opener}
 use Rattle.tdb_whole.specs.Claims.{Claimed, IsReleased, IsSettled}
 use Rattle.tdb_whole.specs.States.{writes_all}
 use Rattle.tdb_whole.specs.Steps.{with_aside}

@@ -18,9 +18,9 @@ use Rattle.tdb_law.specs.World.{State, IsSound}
 use Rattle.tdb_law.proofs.Tests.{never_true}
 use Rattle.tdb_beside.specs.Sides.{alone}
 use Rattle.tdb_beside.specs.Starts.{with_starts}
-use Rattle.tdb_world.specs.Worlds.{state_in}
-use Rattle.tdb_world.proofs.Images.{image_keeps_file}
-use Rattle.tdb_world.proofs.StillWalks.{still_shift}
+use Rattle.tdb_openers.specs.Worlds.{state_in}
+use Rattle.tdb_openers.proofs.Images.{image_keeps_file}
+use Rattle.tdb_openers.proofs.StillWalks.{still_shift}
 use Rattle.tdb_whole.specs.States.{SideIs}
 use Rattle.tdb_whole.specs.States.IsStateOf.{of_whole, of_stale}
 use Rattle.tdb_whole.specs.Steps.{UndoLeads}

@@ -37,14 +37,14 @@ use Rattle.tdb_holder.specs.Holders.{is_idle, with_command, HolderState}
 use Rattle.tdb_holder.specs.Stages.{stage_records, stage_task, IsFit, IsSide, KnowsFile, Known}
 use Rattle.tdb_holder.specs.declared.stage.Stage.{Stage}
 use Rattle.tdb_holder.specs.declared.stage.Stage.TheVariants as At
-use Rattle.tdb_world.specs.Aside.{IsBare, LocksNoRecord}
-use Rattle.tdb_world.specs.Given.{IsWellHeld}
-use Rattle.tdb_world.specs.Laws.{IsPut}
-use Rattle.tdb_world.specs.Openers.{all_of, law_task, own_at, own_of, task_at, OpenerStands}
-use Rattle.tdb_world.specs.Worlds.{World, state_in, BytesStand, IsAssigned, IsFree, IsNumber, Stands}
-use Rattle.tdb_world.specs.declared.opener.Opener.{Opener}
+use Rattle.tdb_openers.specs.Aside.{IsBare, LocksNoRecord}
+use Rattle.tdb_openers.specs.Given.{IsWellHeld}
+use Rattle.tdb_openers.specs.Laws.{IsPut}
+use Rattle.tdb_openers.specs.Openers.{all_of, law_task, own_at, own_of, task_at, OpenerStands}
+use Rattle.tdb_openers.specs.Worlds.{World, state_in, BytesStand, IsAssigned, IsFree, IsNumber, Stands}
+use Rattle.tdb_openers.specs.declared.opener.Opener.{Opener}
 use Rattle.tdb_plays.proofs.Counts.{sum_counted}
-use Rattle.tdb_world.proofs.Putting.{by_number}
+use Rattle.tdb_openers.proofs.Putting.{by_number}
 use Rattle.tdb_whole.specs.States.{IsAside, IsSeen, IsStaleState, IsStateOf, IsWholeState, SideIs, once, writes_all}
 use Rattle.tdb_whole.specs.States.IsStateOf.{of_whole, of_stale}
 use Rattle.tdb_whole.specs.Steps.{GiftLeads, HasCommand, IsAmong}

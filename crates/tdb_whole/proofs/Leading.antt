@@ -40,13 +40,13 @@ use Rattle.tdb_holder.specs.declared.stage.Stage.{Stage}
 use Rattle.tdb_holder.specs.declared.stage.Stage.TheVariants as At
 use Rattle.tdb_holder.specs.declared.wanting.Wants.{Wants}
 use Rattle.tdb_holder.proofs.Wanted.{wanted_law}
-use Rattle.tdb_world.specs.Openers.{place_at, spot_at}
-use Rattle.tdb_world.specs.Worlds.{state_in, BytesStand, IsNumber, Stands}
-use Rattle.tdb_world.specs.declared.opener.Opener.{Opener}
-use Rattle.tdb_world.proofs.Aside.{one_number}
-use Rattle.tdb_world.proofs.Images.{locks_none}
-use Rattle.tdb_world.proofs.Putting.{by_number}
-use Rattle.tdb_world.proofs.Sharing.{records_are_free}
+use Rattle.tdb_openers.specs.Openers.{place_at, spot_at}
+use Rattle.tdb_openers.specs.Worlds.{state_in, BytesStand, IsNumber, Stands}
+use Rattle.tdb_openers.specs.declared.opener.Opener.{Opener}
+use Rattle.tdb_openers.proofs.Aside.{one_number}
+use Rattle.tdb_openers.proofs.Images.{locks_none}
+use Rattle.tdb_openers.proofs.Putting.{by_number}
+use Rattle.tdb_openers.proofs.Sharing.{records_are_free}
 use Rattle.tdb_whole.specs.States.{once, writes_all, IsAside, IsSeen, IsStateOf}
 use Rattle.tdb_whole.specs.States.IsStateOf.{of_whole}
 use Rattle.tdb_whole.specs.Whole.{form_at, is_starting, options_at, HolderFits, Whole, WorldFits}

@@ -18,15 +18,15 @@ use Rattle.tdb_steps.specs.declared.flag.Flag.TheVariants as Flags
 use Rattle.tdb_steps.specs.declared.plain.Plain.{Plain}
 use Rattle.tdb_steps.specs.declared.plain.Plain.TheVariants as Plains
 use Rattle.tdb_steps.specs.declared.stage.Stage.TheVariants.{Begun}
-use Rattle.tdb_world.specs.Aside.{LocksNoRecord}
-use Rattle.tdb_world.specs.Openers.{command_in, own_at, own_of, law_task, spot_at, spot_by, task_at, JobStands, OpenerStands, TaskStands}
-use Rattle.tdb_world.specs.Worlds.{state_in, Stands, World}
-use Rattle.tdb_world.specs.declared.job.Job.{Job}
-use Rattle.tdb_world.specs.declared.job.Job.TheVariants as Jobs
-use Rattle.tdb_world.specs.declared.job.Task.{Task}
-use Rattle.tdb_world.specs.declared.opener.Opener.{Opener}
-use Rattle.tdb_world.proofs.Begun.{begun_stage}
-use Rattle.tdb_world.proofs.Busy.{held_is}
+use Rattle.tdb_openers.specs.Aside.{LocksNoRecord}
+use Rattle.tdb_openers.specs.Openers.{command_in, own_at, own_of, law_task, spot_at, spot_by, task_at, JobStands, OpenerStands, TaskStands}
+use Rattle.tdb_openers.specs.Worlds.{state_in, Stands, World}
+use Rattle.tdb_openers.specs.declared.job.Job.{Job}
+use Rattle.tdb_openers.specs.declared.job.Job.TheVariants as Jobs
+use Rattle.tdb_openers.specs.declared.job.Task.{Task}
+use Rattle.tdb_openers.specs.declared.opener.Opener.{Opener}
+use Rattle.tdb_openers.proofs.Begun.{begun_stage}
+use Rattle.tdb_openers.proofs.Busy.{held_is}
 
 -- at its beginning a command on the map stands in a file of any length
 begun_fit : (command : Plain) (whole : Option (List ℕ)) (size other : ℕ) → IsFit command whole Begun size without_bound → IsFit command whole Begun other without_bound

@@ -19,7 +19,7 @@ use Rattle.tdb_holder.specs.Holders.{HolderState}
 use Rattle.tdb_holder.specs.Stages.{IsSide, Known}
 use Rattle.tdb_holder.specs.declared.stage.Stage.{Stage}
 use Rattle.tdb_holder.specs.declared.stage.Stage.TheVariants as At
-use Rattle.tdb_world.specs.Worlds.{state_in}
+use Rattle.tdb_openers.specs.Worlds.{state_in}
 use Rattle.tdb_whole.specs.Syncs.{OnlyLooks}
 use Rattle.tdb_whole.specs.States.{state_with, IsStateOf, SideIs}
 use Rattle.tdb_whole.specs.States.IsStateOf.{of_stale, of_whole}

@@ -18,12 +18,12 @@ use Rattle.tdb_holder.specs.Wanting.{wanted_by}
 use Rattle.tdb_holder.specs.declared.wanting.Wants.{Wants}
 use Rattle.tdb_holder.proofs.Waiting.{commit_wants}
 use Rattle.tdb_plays.specs.declared.options.Options.{Options}
-use Rattle.tdb_world.specs.Aside.{wants_all}
-use Rattle.tdb_world.specs.States.{state_of, WorldStands}
-use Rattle.tdb_world.specs.Turning.{law_table}
-use Rattle.tdb_world.specs.declared.opener.Opener.{Opener}
-use Rattle.tdb_world.proofs.Aside.{left_apart}
-use Rattle.tdb_world.proofs.Opening.{low_is_free}
+use Rattle.tdb_openers.specs.Aside.{wants_all}
+use Rattle.tdb_openers.specs.States.{state_of, WorldStands}
+use Rattle.tdb_openers.specs.Turning.{law_table}
+use Rattle.tdb_openers.specs.declared.opener.Opener.{Opener}
+use Rattle.tdb_openers.proofs.Aside.{left_apart}
+use Rattle.tdb_openers.proofs.Opening.{low_is_free}
 
 -- a function with another value at one opener, there and elsewhere
 pub at_here : {A : Type 0} (here : ℕ) (x : A) (g : ℕ → A) → but_at here x g here ≡ x

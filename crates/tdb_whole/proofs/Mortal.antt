@@ -9,10 +9,10 @@ use Rattle.tdb_plays.specs.InLaw.{law_opener}
 use Rattle.tdb_beside.specs.Sides.{whole}
 use Rattle.tdb_holder.specs.Holders.{HolderState}
 use Rattle.tdb_holder.specs.Stages.{stage_task}
-use Rattle.tdb_world.specs.Died.{MayDieIn}
-use Rattle.tdb_world.specs.Died.{CanDie as CanDieAmong}
-use Rattle.tdb_world.specs.Worlds.{state_in}
-use Rattle.tdb_world.specs.declared.opener.Opener.{Opener}
+use Rattle.tdb_openers.specs.Died.{MayDieIn}
+use Rattle.tdb_openers.specs.Died.{CanDie as CanDieAmong}
+use Rattle.tdb_openers.specs.Worlds.{state_in}
+use Rattle.tdb_openers.specs.declared.opener.Opener.{Opener}
 use Rattle.tdb_whole.specs.Died.{CanDie}
 use Rattle.tdb_whole.specs.Died.CanDie.{dies_aside, dies_among}
 use Rattle.tdb_whole.specs.States.{IsStateOf}

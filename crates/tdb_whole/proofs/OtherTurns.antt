@@ -27,17 +27,17 @@ use Rattle.tdb_holder.specs.Holders.{HolderState}
 use Rattle.tdb_holder.specs.Stages.{commit_records, plan_records, prepared_records, stage_records, IsFit, IsSide, Known, KnowsFile}
 use Rattle.tdb_holder.specs.declared.stage.Stage.{Stage}
 use Rattle.tdb_holder.specs.declared.stage.Stage.TheVariants as At
-use Rattle.tdb_world.specs.Calm.{WritesNoRecord}
-use Rattle.tdb_world.specs.Openers.{command_in, own_of, IsRefused, JobStands}
-use Rattle.tdb_world.specs.Openers.IsRefused.{refuses, has_ended}
-use Rattle.tdb_world.specs.ShutOut.{ShutsOut, IsTurnBeside}
-use Rattle.tdb_world.specs.Worlds.{World, state_in, law_of_task, BytesStand, IsBusy, IsNumber, Stands}
-use Rattle.tdb_world.specs.declared.job.Job.{Job}
-use Rattle.tdb_world.specs.declared.job.Job.TheVariants as Jobs
-use Rattle.tdb_world.specs.declared.job.Task.{Task}
-use Rattle.tdb_world.specs.declared.opener.Opener.{Opener}
-use Rattle.tdb_world.proofs.Occupied.{job_at, own_here}
-use Rattle.tdb_world.proofs.Sharing.{others_write_none}
+use Rattle.tdb_openers.specs.Calm.{WritesNoRecord}
+use Rattle.tdb_openers.specs.Openers.{command_in, own_of, IsRefused, JobStands}
+use Rattle.tdb_openers.specs.Openers.IsRefused.{refuses, has_ended}
+use Rattle.tdb_openers.specs.ShutOut.{ShutsOut, IsTurnBeside}
+use Rattle.tdb_openers.specs.Worlds.{World, state_in, law_of_task, BytesStand, IsBusy, IsNumber, Stands}
+use Rattle.tdb_openers.specs.declared.job.Job.{Job}
+use Rattle.tdb_openers.specs.declared.job.Job.TheVariants as Jobs
+use Rattle.tdb_openers.specs.declared.job.Task.{Task}
+use Rattle.tdb_openers.specs.declared.opener.Opener.{Opener}
+use Rattle.tdb_openers.proofs.Occupied.{job_at, own_here}
+use Rattle.tdb_openers.proofs.Sharing.{others_write_none}
 use Rattle.tdb_whole.specs.Shut.{IsOpen, IsShutBy}
 use Rattle.tdb_whole.specs.States.{once, writes_all, state_with, IsAside, IsSeen, IsStateOf, IsWholeState, SideIs}
 use Rattle.tdb_whole.specs.States.IsStateOf.{of_whole, of_stale}

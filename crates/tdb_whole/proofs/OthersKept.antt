@@ -15,11 +15,11 @@ use Rattle.tdb_beside.proofs.Committed.{gate_shifts}
 use Rattle.tdb_holder.specs.Lifts.{OthersKeep}
 use Rattle.tdb_holder.specs.Stages.{Known}
 use Rattle.tdb_holder.specs.Turned.{KeepsFile, keeps, brings}
-use Rattle.tdb_world.specs.States.{state_of}
-use Rattle.tdb_world.specs.Openers.{own_at, place_at, spot_at, task_at}
-use Rattle.tdb_world.specs.declared.opener.Opener.{Opener}
+use Rattle.tdb_openers.specs.States.{state_of}
+use Rattle.tdb_openers.specs.Openers.{own_at, place_at, spot_at, task_at}
+use Rattle.tdb_openers.specs.declared.opener.Opener.{Opener}
 use Rattle.tdb_plays.specs.declared.options.Options.{Options}
-use Rattle.tdb_world.proofs.StillWalks.{still_shift}
+use Rattle.tdb_openers.proofs.StillWalks.{still_shift}
 
 -- From some openers to others only one changes, and each other one holds what it held.
 pub record OneChanges (xs ys : List Opener) (ps qs : List Piece) (who : ℕ) : Type 0 where

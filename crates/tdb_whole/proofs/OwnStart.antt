@@ -41,14 +41,14 @@ use Rattle.tdb_holder.specs.Holders.{HolderState}
 use Rattle.tdb_holder.specs.Stages.{Known, IsSide}
 use Rattle.tdb_holder.specs.declared.stage.Stage.TheVariants as At
 use Rattle.tdb_holder.proofs.Keeping.{keeps_nothing}
-use Rattle.tdb_world.specs.Openers.{all_of, law_task, no_walk, own_at, own_of, spot_at, spot_by, spots_of, task_at, OpenerStands}
-use Rattle.tdb_world.specs.States.{view_at, view_under}
-use Rattle.tdb_world.specs.Worlds.{World, state_in}
-use Rattle.tdb_world.specs.declared.opener.Opener.{Opener}
-use Rattle.tdb_world.proofs.Aside.{held_before}
-use Rattle.tdb_world.proofs.Closed.{bare_walk}
+use Rattle.tdb_openers.specs.Openers.{all_of, law_task, no_walk, own_at, own_of, spot_at, spot_by, spots_of, task_at, OpenerStands}
+use Rattle.tdb_openers.specs.States.{view_at, view_under}
+use Rattle.tdb_openers.specs.Worlds.{World, state_in}
+use Rattle.tdb_openers.specs.declared.opener.Opener.{Opener}
+use Rattle.tdb_openers.proofs.Aside.{held_before}
+use Rattle.tdb_openers.proofs.Closed.{bare_walk}
 use Rattle.tdb_plays.proofs.Counts.{none_counted, sum_counted}
-use Rattle.tdb_world.proofs.Opening.{low_is_free}
+use Rattle.tdb_openers.proofs.Opening.{low_is_free}
 use Rattle.tdb_whole.specs.States.{state_with, IsAside, IsSeen, IsStateOf, SideIs}
 use Rattle.tdb_whole.specs.States.IsStateOf.{of_whole, of_stale}
 use Rattle.tdb_whole.specs.Steps.{with_aside}

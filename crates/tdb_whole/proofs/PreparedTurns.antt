@@ -29,7 +29,7 @@ use Rattle.tdb_holder.specs.declared.stage.Stage.{Stage}
 use Rattle.tdb_holder.specs.declared.stage.Stage.TheVariants as At
 use Rattle.tdb_plays.specs.InLaw.{law_opener}
 use Rattle.tdb_plays.specs.declared.options.Options.{Options}
-use Rattle.tdb_world.specs.Worlds.{state_in}
+use Rattle.tdb_openers.specs.Worlds.{state_in}
 use Rattle.tdb_whole.specs.Prepared.{prepared_turn, CommitsPrepared, GoesAsPrepared, PreparedCommitGoesOn, PreparedCommitIsShort}
 use Rattle.tdb_whole.specs.States.{state_with, SideIs}
 use Rattle.tdb_whole.specs.States.IsStateOf.{of_stale, of_whole}

@@ -5,12 +5,12 @@ use Rattle.tdb_locks.specs.LockTable.{held}
 use Rattle.tdb_locks.specs.declared.piece.Piece.{Piece}
 use Rattle.tdb_plays.specs.InLaw.{law_opener}
 use Rattle.tdb_steps.specs.Holdings.{strength}
-use Rattle.tdb_world.specs.Aside.{with_records, HoldsRecords, IsBare}
-use Rattle.tdb_world.specs.Died.{died, HasDied}
-use Rattle.tdb_world.specs.Worlds.{BytesStand, IsNumber, Stands, World}
-use Rattle.tdb_world.specs.declared.opener.Opener.{Opener}
-use Rattle.tdb_world.proofs.Closed.{bare_walk}
-use Rattle.tdb_world.proofs.Putting.{by_number}
+use Rattle.tdb_openers.specs.Aside.{with_records, HoldsRecords, IsBare}
+use Rattle.tdb_openers.specs.Died.{died, HasDied}
+use Rattle.tdb_openers.specs.Worlds.{BytesStand, IsNumber, Stands, World}
+use Rattle.tdb_openers.specs.declared.opener.Opener.{Opener}
+use Rattle.tdb_openers.proofs.Closed.{bare_walk}
+use Rattle.tdb_openers.proofs.Putting.{by_number}
 use Rattle.tdb_whole.specs.Claims.{IsReleased}
 use Rattle.tdb_whole.proofs.Claimed.{as_list, with_list}
 use Rattle.tdb_whole.proofs.OthersKept.{OneChanges}

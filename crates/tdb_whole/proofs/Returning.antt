@@ -32,13 +32,13 @@ use Rattle.tdb_holder.specs.Holders.{HolderState}
 use Rattle.tdb_holder.specs.Lifts.{IsBack}
 use Rattle.tdb_holder.specs.Stages.{is_closing, stage_records, stage_task, Known}
 use Rattle.tdb_holder.specs.Turned.{KeepsFile, StageTurned, brings, keeps}
-use Rattle.tdb_world.specs.Given.{holds_chains}
-use Rattle.tdb_world.specs.Openers.{all_of, law_task, no_walk, own_at, own_of, place_at, spot_at, spot_by, task_at}
-use Rattle.tdb_world.specs.Turning.{law_table}
-use Rattle.tdb_world.specs.Worlds.{state_in, BytesStand, World}
-use Rattle.tdb_world.specs.declared.opener.Opener.{Opener}
-use Rattle.tdb_world.proofs.Images.{lock_keeps_file}
-use Rattle.tdb_world.proofs.StillWalks.{still_shift}
+use Rattle.tdb_openers.specs.Given.{holds_chains}
+use Rattle.tdb_openers.specs.Openers.{all_of, law_task, no_walk, own_at, own_of, place_at, spot_at, spot_by, task_at}
+use Rattle.tdb_openers.specs.Turning.{law_table}
+use Rattle.tdb_openers.specs.Worlds.{state_in, BytesStand, World}
+use Rattle.tdb_openers.specs.declared.opener.Opener.{Opener}
+use Rattle.tdb_openers.proofs.Images.{lock_keeps_file}
+use Rattle.tdb_openers.proofs.StillWalks.{still_shift}
 use Rattle.tdb_whole.specs.States.{writes_all, IsStateOf}
 use Rattle.tdb_whole.specs.States.IsStateOf.{of_whole}
 use Rattle.tdb_whole.specs.Whole.{form_at, is_starting, options_at, HolderFits, Whole, WorldFits}

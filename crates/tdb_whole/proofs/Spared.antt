@@ -9,12 +9,12 @@ use Rattle.tdb_space.specs.Undoing.{Reopens}
 use Rattle.tdb_law.specs.Openers.{Own}
 use Rattle.tdb_law.specs.World.{State}
 use Rattle.tdb_plays.specs.InLaw.{law_opener}
-use Rattle.tdb_world.specs.Calm.{IsMidway}
-use Rattle.tdb_world.specs.Openers.{own_of}
-use Rattle.tdb_world.specs.Worlds.{law_of_task, IsBusy}
-use Rattle.tdb_world.specs.declared.job.Task.{Task}
-use Rattle.tdb_world.specs.declared.opener.Opener.{Opener}
-use Rattle.tdb_world.proofs.Occupied.{own_here, task_here}
+use Rattle.tdb_openers.specs.Calm.{IsMidway}
+use Rattle.tdb_openers.specs.Openers.{own_of}
+use Rattle.tdb_openers.specs.Worlds.{law_of_task, IsBusy}
+use Rattle.tdb_openers.specs.declared.job.Task.{Task}
+use Rattle.tdb_openers.specs.declared.opener.Opener.{Opener}
+use Rattle.tdb_openers.proofs.Occupied.{own_here, task_here}
 use Rattle.tdb_whole.specs.States.{IsStateOf}
 use Rattle.tdb_whole.specs.Steps.{IsAmong}
 use Rattle.tdb_whole.specs.Stops.{IsChanging, IsSafe}

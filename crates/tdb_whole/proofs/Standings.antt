@@ -20,16 +20,16 @@ use Rattle.tdb_holder.specs.Holders.{HolderState}
 use Rattle.tdb_holder.specs.Stages.{stage_records, stage_task}
 use Rattle.tdb_holder.specs.Wanting.{records_at}
 use Rattle.tdb_holder.proofs.RecordsHeld.{records_law}
-use Rattle.tdb_world.specs.Openers.{all_of, law_task, own_at, spot_at, spot_by, task_at}
-use Rattle.tdb_world.specs.Worlds.{World, state_in, Stands, IsBusy, IsFree, IsNumber}
-use Rattle.tdb_world.specs.declared.job.Task.{Task as JobTask}
-use Rattle.tdb_world.specs.declared.opener.Opener.{Opener}
-use Rattle.tdb_world.proofs.Aside.{held_before}
-use Rattle.tdb_world.proofs.Beside.{all_here, all_below}
-use Rattle.tdb_world.proofs.Closed.{bare_walk}
-use Rattle.tdb_world.proofs.Images.{image_keeps_world}
-use Rattle.tdb_world.proofs.Putting.{by_number}
-use Rattle.tdb_world.proofs.Stood.{injected}
+use Rattle.tdb_openers.specs.Openers.{all_of, law_task, own_at, spot_at, spot_by, task_at}
+use Rattle.tdb_openers.specs.Worlds.{World, state_in, Stands, IsBusy, IsFree, IsNumber}
+use Rattle.tdb_openers.specs.declared.job.Task.{Task as JobTask}
+use Rattle.tdb_openers.specs.declared.opener.Opener.{Opener}
+use Rattle.tdb_openers.proofs.Aside.{held_before}
+use Rattle.tdb_openers.proofs.Beside.{all_here, all_below}
+use Rattle.tdb_openers.proofs.Closed.{bare_walk}
+use Rattle.tdb_openers.proofs.Images.{image_keeps_world}
+use Rattle.tdb_openers.proofs.Putting.{by_number}
+use Rattle.tdb_openers.proofs.Stood.{injected}
 use Rattle.tdb_whole.specs.States.{IsAside, IsStateOf, SideIs, once}
 use Rattle.tdb_whole.specs.States.IsStateOf.{of_whole, of_stale}
 use Rattle.tdb_whole.specs.Steps.{HasCommand, HasNoCommand, IsAmong}

@@ -49,9 +49,9 @@ use Rattle.tdb_holder.proofs.HolderTurns.{busy_task, may_alone, own_table}
 use Rattle.tdb_holder.proofs.Planned.{plans_commits}
 use Rattle.tdb_holder.proofs.Sided.{same_task}
 use Rattle.tdb_holder.proofs.ReadAs.{opens_as, OpensIn}
-use Rattle.tdb_world.specs.Openers.{own_at}
-use Rattle.tdb_world.specs.Worlds.{state_in, World}
-use Rattle.tdb_world.specs.declared.opener.Opener.{Opener}
+use Rattle.tdb_openers.specs.Openers.{own_at}
+use Rattle.tdb_openers.specs.Worlds.{state_in, World}
+use Rattle.tdb_openers.specs.declared.opener.Opener.{Opener}
 use Rattle.tdb_whole.specs.Claims.{ClaimStands}
 use Rattle.tdb_whole.specs.States.{state_with, IsStateOf, SideIs}
 use Rattle.tdb_whole.specs.States.IsStateOf.{of_stale, of_whole}

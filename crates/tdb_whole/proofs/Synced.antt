@@ -15,7 +15,7 @@ use Rattle.tdb_holder.specs.Wanting.{plan_wants, stage_wants}
 use Rattle.tdb_holder.specs.declared.stage.Stage.{Stage}
 use Rattle.tdb_holder.specs.declared.stage.Stage.TheVariants as At
 use Rattle.tdb_holder.specs.declared.wanting.Wants.{Wants}
-use Rattle.tdb_world.specs.Worlds.{World}
+use Rattle.tdb_openers.specs.Worlds.{World}
 use Rattle.tdb_whole.specs.Claims.{IsBarred}
 use Rattle.tdb_whole.specs.Steps.{IsAmong}
 use Rattle.tdb_whole.specs.Steps.IsAmong.{among_all, among_others}

@@ -28,8 +28,8 @@ use Rattle.tdb_holder.specs.declared.stage.Stage.{Stage}
 use Rattle.tdb_holder.specs.declared.stage.Stage.TheVariants as At
 use Rattle.tdb_holder.specs.declared.wanting.Wants.TheVariants as Wants
 use Rattle.tdb_holder.proofs.HolderTurns.{busy_task, may_alone, own_table}
-use Rattle.tdb_world.specs.Aside.{HoldsRecords}
-use Rattle.tdb_world.specs.Worlds.{state_in, BytesStand, World}
+use Rattle.tdb_openers.specs.Aside.{HoldsRecords}
+use Rattle.tdb_openers.specs.Worlds.{state_in, BytesStand, World}
 use Rattle.tdb_whole.specs.Claims.{Claimed, IsBarred, IsReleased, IsSettled}
 use Rattle.tdb_whole.specs.States.{state_with, writes_all, IsStateOf, SideIs}
 use Rattle.tdb_whole.specs.States.IsStateOf.{of_whole, of_stale}

@@ -5,11 +5,11 @@ use Rattle.tdb_plays.specs.InLaw.{law_opener}
 use Rattle.tdb_holder.specs.Holders.{HolderState}
 use Rattle.tdb_holder.specs.Wanting.{stage_wants}
 use Rattle.tdb_holder.specs.declared.wanting.Wants.{Wants}
-use Rattle.tdb_world.specs.Aside.{wants_all, AreFree, HoldsRecords}
-use Rattle.tdb_world.specs.Died.{HasDied}
-use Rattle.tdb_world.specs.Turning.{law_table}
-use Rattle.tdb_world.specs.Worlds.{World, IsNumber}
-use Rattle.tdb_world.specs.declared.opener.Opener.{Opener}
+use Rattle.tdb_openers.specs.Aside.{wants_all, AreFree, HoldsRecords}
+use Rattle.tdb_openers.specs.Died.{HasDied}
+use Rattle.tdb_openers.specs.Turning.{law_table}
+use Rattle.tdb_openers.specs.Worlds.{World, IsNumber}
+use Rattle.tdb_openers.specs.declared.opener.Opener.{Opener}
 use Rattle.tdb_whole.specs.Whole.{Whole, WorldFits}
 
 -- The opener has it, and no other's lock was in the way; where it wants none all is as it was.

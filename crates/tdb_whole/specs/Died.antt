@@ -10,8 +10,8 @@ use Rattle.tdb_steps.specs.Turns.{number_of}
 use Rattle.tdb_holder.specs.Holders.{HolderState}
 use Rattle.tdb_holder.specs.Stages.{stage_task}
 use Rattle.tdb_plays.specs.InLaw.{law_opener}
-use Rattle.tdb_world.specs.Died.{CanDie as CanDieAmong}
-use Rattle.tdb_world.specs.declared.opener.Opener.{Opener}
+use Rattle.tdb_openers.specs.Died.{CanDie as CanDieAmong}
+use Rattle.tdb_openers.specs.declared.opener.Opener.{Opener}
 use Rattle.tdb_whole.specs.States.{IsStateOf}
 use Rattle.tdb_whole.specs.Whole.{form_at, is_starting, Whole}
 use Rattle.tdb_whole.specs.Steps.{IsAmong}

@@ -11,9 +11,9 @@ use Rattle.tdb_law.specs.World.{State, IsSound}
 use Rattle.tdb_steps.specs.Turns.{number_of}
 use Rattle.tdb_beside.specs.Sides.{Past, Side, alone, whole}
 use Rattle.tdb_beside.specs.Starts.{with_starts}
-use Rattle.tdb_world.specs.Aside.{LocksNoRecord}
-use Rattle.tdb_world.specs.Worlds.{state_in, BytesStand, IsNumber}
-use Rattle.tdb_world.specs.declared.opener.Opener.{Opener}
+use Rattle.tdb_openers.specs.Aside.{LocksNoRecord}
+use Rattle.tdb_openers.specs.Worlds.{state_in, BytesStand, IsNumber}
+use Rattle.tdb_openers.specs.declared.opener.Opener.{Opener}
 use Rattle.tdb_holder.specs.Holders.{HolderState}
 use Rattle.tdb_holder.specs.Stages.{stage_records, Known, KnowsFile, IsSide}
 use Rattle.tdb_whole.specs.Whole.{Whole, form_at, options_at, is_starting}

@@ -10,9 +10,9 @@ use Rattle.tdb_holder.specs.Holders.{stage_depth, HolderState}
 use Rattle.tdb_holder.specs.Stages.{stage_task, MayBeGiven}
 use Rattle.tdb_plays.specs.InLaw.{law_opener}
 use Rattle.tdb_plays.specs.declared.command.Command.{Command as Asked}
-use Rattle.tdb_world.specs.Worlds.{IsFree, IsBusy}
-use Rattle.tdb_world.specs.declared.job.Task.{Task as JobTask}
-use Rattle.tdb_world.specs.declared.opener.Opener.{Opener}
+use Rattle.tdb_openers.specs.Worlds.{IsFree, IsBusy}
+use Rattle.tdb_openers.specs.declared.job.Task.{Task as JobTask}
+use Rattle.tdb_openers.specs.declared.opener.Opener.{Opener}
 use Rattle.tdb_whole.specs.Whole.{Whole, form_at, is_starting}
 use Rattle.tdb_whole.specs.States.{IsStateOf}
 

@@ -12,7 +12,7 @@ use Rattle.tdb_law.specs.Openers.{Task, Txn}
 use Rattle.tdb_law.specs.Rows.{is_changed}
 use Rattle.tdb_law.specs.World.{State}
 use Rattle.tdb_steps.specs.Turns.{number_of}
-use Rattle.tdb_world.specs.Calm.{IsMidway}
+use Rattle.tdb_openers.specs.Calm.{IsMidway}
 use Rattle.tdb_whole.specs.Whole.{Whole, form_at}
 use Rattle.tdb_whole.specs.States.{IsStateOf}
 

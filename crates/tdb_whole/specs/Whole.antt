@@ -5,9 +5,9 @@ use Rattle.tdb_locks.specs.declared.kind.Kind.TheVariants.{Read, Write}
 use Rattle.tdb_plays.specs.InLaw.{law_opener}
 use Rattle.tdb_plays.specs.declared.options.Options.{Options}
 use Rattle.tdb_space.specs.Form.{Form, form_in}
-use Rattle.tdb_world.specs.Aside.{IsBare}
-use Rattle.tdb_world.specs.Worlds.{World, IsNumber, Stands}
-use Rattle.tdb_world.specs.declared.opener.Opener.{Opener}
+use Rattle.tdb_openers.specs.Aside.{IsBare}
+use Rattle.tdb_openers.specs.Worlds.{World, IsNumber, Stands}
+use Rattle.tdb_openers.specs.declared.opener.Opener.{Opener}
 use Rattle.tdb_holder.specs.Holders.{HolderState}
 use Rattle.tdb_holder.specs.Stages.{stage_records, IsFit}
 

@@ -11,10 +11,10 @@ ghost use Rattle.tdb_locks.specs.declared.kind.Kind.TheVariants.{Write};
 ghost use Rattle.tdb_steps.specs.Turns.{number_of};
 ghost use Rattle.tdb_holder.specs.Holders.{is_idle, HolderState};
 ghost use Rattle.tdb_holder.specs.declared.wanting.Wants.TheVariants as Wants;
-ghost use Rattle.tdb_world.specs.Aside.{IsBare};
-ghost use Rattle.tdb_world.specs.Worlds.{IsNumber, Stands, BytesStand};
-ghost use Rattle.tdb_world.specs.Worlds.{World as Openers};
-ghost use Rattle.tdb_world.specs.declared.opener.Opener.{Opener};
+ghost use Rattle.tdb_openers.specs.Aside.{IsBare};
+ghost use Rattle.tdb_openers.specs.Worlds.{IsNumber, Stands, BytesStand};
+ghost use Rattle.tdb_openers.specs.Worlds.{World as Openers};
+ghost use Rattle.tdb_openers.specs.declared.opener.Opener.{Opener};
 ghost use Rattle.tdb_whole.specs.Claims.{Claimed, ClaimStands, IsBarred, IsSettled};
 ghost use Rattle.tdb_whole.specs.Whole.{form_at, WorldFits};
 ghost use Rattle.tdb_whole.specs.States.{IsStateOf};
@@ -30,7 +30,7 @@ use tdb_disk::Disk;
 use tdb_holder::{Holder, Moved, Wants};
 use tdb_locks::{Kind, LockRefusal, Turn};
 use tdb_space::{Direct, Io};
-use tdb_world::{Openers, number_in};
+use tdb_openers::{Openers, number_in};
 
 /// What a lock of all records among the openers has come to.
 #[derive(Clone, Copy, Debug, PartialEq, Eq)]

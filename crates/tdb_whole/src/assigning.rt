@@ -15,13 +15,13 @@ ghost use Rattle.tdb_holder.specs.Stages.{Known, IsFit, IsSide, KnowsFile, MayBe
 ghost use Rattle.tdb_plays.specs.declared.options.Options.{Options};
 ghost use Rattle.tdb_space.specs.Form.{Form};
 ghost use Rattle.tdb_words.specs.declared.header.Header.{Header};
-ghost use Rattle.tdb_world.specs.declared.standings.OpenerStanding.TheVariants as OpenerStanding;
+ghost use Rattle.tdb_openers.specs.declared.standings.OpenerStanding.TheVariants as OpenerStanding;
 
 use crate::world::World;
 use std::alloc::AllocError;
 use tdb_holder::Holder;
 use tdb_plays::Command;
-use tdb_world::OpenerStanding;
+use tdb_openers::OpenerStanding;
 
 /// Gives the one aside a command, where it may be given.
 fn give_holder(holder: &mut Holder, command: Command) -> Result<(), AllocError>

@@ -16,4 +16,4 @@ pub use crate::laws::{
 };
 pub use crate::undoing::Undone;
 pub use crate::world::{JoinRefusal, World};
-pub use tdb_world::OpenerStanding;
+pub use tdb_openers::OpenerStanding;

@@ -18,7 +18,7 @@ use std::marker::Model;
 use tdb_holder::Holder;
 use tdb_plays::Options;
 use tdb_words::Header;
-use tdb_world::{MOST_OPENERS, Openers};
+use tdb_openers::{MOST_OPENERS, Openers};
 use thiserror::Error;
 
 /// Why no opener joined.

@@ -4,7 +4,7 @@ ghost use Rattle.std.specs.Prelude.{◌≡◌, ◌≤◌, IfSome};
 ghost use Rattle.tdb_ask.specs.Lines.Turns.{options_in};
 
 use crate::options::Line;
-use tdb_world::Options;
+use tdb_openers::Options;
 
 /// How the file is opened, by the options that were given.
 pub(crate) fn options_in(line: &Line) -> Option<Options>

@@ -18,7 +18,7 @@ use tdb_disk::{Disk, Files, Sink, Source, Take};
 use tdb_log::Logs;
 use tdb_open::load;
 use tdb_tool::{SessionEnd, SessionFault, run_session};
-use tdb_world::Options;
+use tdb_openers::Options;
 
 /// How a file is opened for a session that may make it so long.
 fn options_within(limit: u64) -> Options

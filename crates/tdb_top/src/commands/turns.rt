@@ -29,7 +29,7 @@ use tdb_disk::{Disk, Files, Sink, Source, Take};
 use tdb_log::Logs;
 use tdb_open::{Fault, load};
 use tdb_plays::Play;
-use tdb_world::Options;
+use tdb_openers::Options;
 
 /// Opens the file on a disk, takes plays over it, and tells them.
 fn play_on_disk<D: Disk, K: Sink, L: Logs>(

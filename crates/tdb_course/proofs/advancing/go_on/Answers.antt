@@ -2,8 +2,8 @@
 use Rattle.std.proofs.Common.{◌≡◌, Ok, Err, true, false, refl, subst, arith}
 use Rattle.std.proofs.lemmas.Result.{err_from_is_err_and}
 use Rattle.tdb_plays.specs.InLaw.{law_opener}
-use Rattle.tdb_world.specs.Played.{Nothing, Steps, TakesOne}
-use Rattle.tdb_world.proofs.Courses.{steps_few}
+use Rattle.tdb_openers.specs.Played.{Nothing, Steps, TakesOne}
+use Rattle.tdb_openers.proofs.Courses.{steps_few}
 use Rattle.tdb_whole.specs.Whole.{form_at}
 use Rattle.tdb_course.specs.Led.{moment, Led}
 use Rattle.tdb_course.specs.Turns.{TakesOrClears}

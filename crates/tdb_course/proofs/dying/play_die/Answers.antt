@@ -7,7 +7,7 @@ use Rattle.tdb_law.specs.Plays.Gives.{gives_death}
 use Rattle.tdb_law.specs.World.{State}
 use Rattle.tdb_plays.specs.declared.line.Line.TheVariants as Lines
 use Rattle.tdb_plays.specs.InLaw.{law_opener}
-use Rattle.tdb_world.specs.Played.Begun.{begun_not}
+use Rattle.tdb_openers.specs.Played.Begun.{begun_not}
 use Rattle.tdb_whole.specs.States.{IsStateOf}
 use Rattle.tdb_course.proofs.Answered.{answered, line_led, memory_led}
 use Rattle.tdb_course.proofs.Standings.{busy_live, free_live}

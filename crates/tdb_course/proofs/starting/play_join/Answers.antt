@@ -3,7 +3,7 @@ use Rattle.std.proofs.Common.{refl, ap, ◌++◌, ◌∷◌, [], ◌∙◌}
 use Rattle.std.proofs.lemmas.Result.{err_from_is_err_and}
 use Rattle.tdb_disk.specs.History.{seen}
 use Rattle.tdb_law.specs.Plays.{Play as LawPlay}
-use Rattle.tdb_world.specs.Played.Begun.{begun_not}
+use Rattle.tdb_openers.specs.Played.Begun.{begun_not}
 use Rattle.tdb_course.proofs.Answered.{line_led, memory_led}
 use Rattle.tdb_course.proofs.starting.play_join.Goals as goal
 

@@ -6,7 +6,7 @@ use Rattle.tdb_disk.specs.History.{seen}
 use Rattle.tdb_locks.specs.declared.turn.Turn.{Turn}
 use Rattle.tdb_locks.specs.declared.turn.Turn.TheVariants as Turns
 use Rattle.tdb_plays.specs.InLaw.{law_opener, law_turn}
-use Rattle.tdb_world.specs.Played.{growth, is_step}
+use Rattle.tdb_openers.specs.Played.{growth, is_step}
 use Rattle.tdb_whole.specs.Steps.{TurnLeads}
 use Rattle.tdb_whole.specs.Stops.{IsSafe}
 use Rattle.tdb_whole.specs.Whole.{form_at, WorldFits}

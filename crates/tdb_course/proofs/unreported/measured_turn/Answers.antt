@@ -5,8 +5,8 @@ use Rattle.tdb_disk.specs.Count.{Rose}
 use Rattle.tdb_disk.specs.History.{seen}
 use Rattle.tdb_plays.specs.InLaw.{law_command, law_opener, law_turn}
 use Rattle.tdb_plays.specs.declared.line.Line.TheVariants as Lines
-use Rattle.tdb_world.specs.Played.{growth, is_step, TakesLast, TakesOne}
-use Rattle.tdb_world.specs.declared.fault.RunFault.TheVariants.{Io}
+use Rattle.tdb_openers.specs.Played.{growth, is_step, TakesLast, TakesOne}
+use Rattle.tdb_openers.specs.declared.fault.RunFault.TheVariants.{Io}
 use Rattle.tdb_whole.specs.Steps.{TurnLeads}
 use Rattle.tdb_whole.specs.Whole.{form_at, WorldFits}
 use Rattle.tdb_course.specs.Led.{moment, Led}

@@ -4,7 +4,7 @@ use Rattle.std.proofs.lemmas.Result.{err_from_is_err_and}
 use Rattle.tdb_locks.specs.declared.turn.Turn.{Turn}
 use Rattle.tdb_log.specs.declared.log.LogRefusal.{LogRefusal}
 use Rattle.tdb_plays.specs.declared.play.Play.TheVariants as Plays
-use Rattle.tdb_world.specs.declared.fault.RunFault.{RunFault}
+use Rattle.tdb_openers.specs.declared.fault.RunFault.{RunFault}
 use Rattle.tdb_course.specs.Led.{moment}
 use Rattle.tdb_course.specs.Unreported.{Unreported}
 use Rattle.tdb_gen.specs.declared.counts.Counts.{Counts}

@@ -6,10 +6,10 @@ use Rattle.tdb_law.specs.Commands.GroupCommand.{Start}
 use Rattle.tdb_law.specs.Events.{Given}
 use Rattle.tdb_law.specs.Refusals.{refusal}
 use Rattle.tdb_plays.specs.InLaw.{law_command, law_opener}
-use Rattle.tdb_world.specs.Given.{IsBeginning}
-use Rattle.tdb_world.specs.Openers.{own_of}
-use Rattle.tdb_world.specs.Worlds.{World, state_in, BytesStand, IsAssigned, IsFree, Stands}
-use Rattle.tdb_world.specs.declared.opener.Opener.{Opener}
+use Rattle.tdb_openers.specs.Given.{IsBeginning}
+use Rattle.tdb_openers.specs.Openers.{own_of}
+use Rattle.tdb_openers.specs.Worlds.{World, state_in, BytesStand, IsAssigned, IsFree, Stands}
+use Rattle.tdb_openers.specs.declared.opener.Opener.{Opener}
 use Rattle.tdb_whole.specs.States.{IsStateOf}
 use Rattle.tdb_whole.specs.Steps.{GiftLeads, HasCommand}
 use Rattle.tdb_whole.specs.Whole.{Whole, WorldFits, is_starting}

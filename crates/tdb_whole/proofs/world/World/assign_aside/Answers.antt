@@ -10,7 +10,7 @@ use Rattle.tdb_beside.specs.Sides.{Past, Side}
 use Rattle.tdb_holder.specs.Ends.{task_of}
 use Rattle.tdb_holder.specs.Holders.{stage_depth, HolderState}
 use Rattle.tdb_holder.specs.Stages.{stage_task, IsFit, IsSide, KnowsFile, Known, MayBeGiven}
-use Rattle.tdb_world.proofs.Aside.{either_way, on_both, on_one}
+use Rattle.tdb_openers.proofs.Aside.{either_way, on_both, on_one}
 use Rattle.tdb_whole.specs.States.{IsStateOf}
 use Rattle.tdb_whole.specs.Steps.{GiftLeads, HasCommand, HasRoom}
 use Rattle.tdb_whole.specs.Whole.{Whole, WorldFits}

@@ -15,8 +15,8 @@ use Rattle.tdb_holder.proofs.HolderTurns.{busy_task}
 use Rattle.tdb_holder.specs.Stages.{is_closing, IsFitLeft}
 use Rattle.tdb_holder.specs.Wanting.{stage_wants, StepGoesOn}
 use Rattle.tdb_holder.specs.declared.wanting.Wants.TheVariants as Wants
-use Rattle.tdb_world.specs.Worlds.{BytesStand, IsNumber, Stands, World}
-use Rattle.tdb_world.specs.declared.opener.Opener.{Opener}
+use Rattle.tdb_openers.specs.Worlds.{BytesStand, IsNumber, Stands, World}
+use Rattle.tdb_openers.specs.declared.opener.Opener.{Opener}
 use Rattle.tdb_whole.specs.Claims.{ClaimStands, IsSettled}
 use Rattle.tdb_whole.specs.Steps.{TurnLeads}
 use Rattle.tdb_whole.specs.Steps.HasCommand.{by_aside}

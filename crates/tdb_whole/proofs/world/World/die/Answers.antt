@@ -3,9 +3,9 @@ use Rattle.std.proofs.Common.{◌≡◌, ℕ, List, false, sym, ap, subst}
 use Rattle.tdb_space.specs.Form.{form_in}
 use Rattle.tdb_law.specs.Events.{Dies}
 use Rattle.tdb_plays.specs.InLaw.{law_opener}
-use Rattle.tdb_world.specs.Died.{HasDied}
-use Rattle.tdb_world.specs.Worlds.{state_in, BytesStand, Stands}
-use Rattle.tdb_world.specs.Worlds.{World as Openers}
+use Rattle.tdb_openers.specs.Died.{HasDied}
+use Rattle.tdb_openers.specs.Worlds.{state_in, BytesStand, Stands}
+use Rattle.tdb_openers.specs.Worlds.{World as Openers}
 use Rattle.tdb_whole.specs.Steps.{DeathLeads, IsAmong}
 use Rattle.tdb_whole.specs.Whole.{form_at, is_starting, Whole, WorldFits}
 use Rattle.tdb_whole.specs.contracts.world.World.{the_view}

@@ -6,9 +6,9 @@ use Rattle.tdb_law.specs.Lines.{MayDie}
 use Rattle.tdb_plays.specs.InLaw.{law_opener}
 use Rattle.tdb_holder.specs.Holders.{HolderState}
 use Rattle.tdb_holder.specs.Stages.{stage_task}
-use Rattle.tdb_world.specs.Died.{HasDied}
-use Rattle.tdb_world.specs.Worlds.{state_in, BytesStand, Stands}
-use Rattle.tdb_world.specs.Worlds.{World as Openers}
+use Rattle.tdb_openers.specs.Died.{HasDied}
+use Rattle.tdb_openers.specs.Worlds.{state_in, BytesStand, Stands}
+use Rattle.tdb_openers.specs.Worlds.{World as Openers}
 use Rattle.tdb_whole.specs.Steps.{DeathLeads}
 use Rattle.tdb_whole.specs.Whole.{form_at, Whole, WorldFits}
 use Rattle.tdb_whole.specs.contracts.world.World.{the_view}

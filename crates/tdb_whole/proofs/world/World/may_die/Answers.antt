@@ -2,8 +2,8 @@
 use Rattle.std.proofs.Common.{◌≡◌, false, [], sym, ◌∙◌, ap, subst}
 use Rattle.std.proofs.lemmas.Bool.Decides.{when_false, when_true}
 use Rattle.tdb_plays.specs.InLaw.{law_opener}
-use Rattle.tdb_world.specs.Died.{CanDie as CanDieAmong, MayDieIn}
-use Rattle.tdb_world.specs.Worlds.{state_in}
+use Rattle.tdb_openers.specs.Died.{CanDie as CanDieAmong, MayDieIn}
+use Rattle.tdb_openers.specs.Worlds.{state_in}
 use Rattle.tdb_whole.specs.Died.CanDie.{dies_aside, dies_among}
 use Rattle.tdb_whole.specs.Whole.{is_starting, Whole}
 use Rattle.tdb_whole.proofs.Mortal.{among_may, among_may_not, aside_may, aside_may_not, start_may_not}

@@ -6,8 +6,8 @@ use Rattle.tdb_disk.specs.History.{History, seen}
 use Rattle.tdb_locks.specs.declared.turn.Turn.TheVariants.{Step}
 use Rattle.tdb_law.specs.World.{State}
 use Rattle.tdb_plays.specs.InLaw.{law_opener, law_turn}
-use Rattle.tdb_world.specs.Worlds.{Stands}
-use Rattle.tdb_world.proofs.Aside.{on_one}
+use Rattle.tdb_openers.specs.Worlds.{Stands}
+use Rattle.tdb_openers.proofs.Aside.{on_one}
 use Rattle.tdb_whole.specs.States.{IsStateOf}
 use Rattle.tdb_whole.specs.Steps.{HasCommand, TurnLeads}
 use Rattle.tdb_whole.specs.Steps.HasCommand.{by_job}

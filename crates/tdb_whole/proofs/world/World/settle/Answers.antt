@@ -1,9 +1,9 @@
 -- What is left where the opener is back: it holds no record, and by a Close it has ended.
 use Rattle.std.proofs.Common.{◌≡◌, ℕ, List, None, refl, sym, ◌∙◌, ap, subst}
-use Rattle.tdb_world.specs.Worlds.{World as Openers, IsNumber, Stands, BytesStand}
+use Rattle.tdb_openers.specs.Worlds.{World as Openers, IsNumber, Stands, BytesStand}
 use Rattle.std.specs.Prelude.{not}
-use Rattle.tdb_world.specs.Aside.{HoldsRecords, IsBare}
-use Rattle.tdb_world.specs.declared.opener.Opener.{Opener}
+use Rattle.tdb_openers.specs.Aside.{HoldsRecords, IsBare}
+use Rattle.tdb_openers.specs.declared.opener.Opener.{Opener}
 use Rattle.tdb_whole.specs.Claims.{IsSettled}
 use Rattle.tdb_whole.specs.Whole.{Whole}
 use Rattle.tdb_whole.proofs.Settled.{bare_after, named_after, released_closed, released_live, settled_none, settled_some}

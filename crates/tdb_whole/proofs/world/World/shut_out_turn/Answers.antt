@@ -8,11 +8,11 @@ use Rattle.tdb_law.specs.Effects.{IsFree}
 use Rattle.tdb_law.specs.Turned.{want}
 use Rattle.tdb_beside.specs.Sides.{Past, Side, beside}
 use Rattle.tdb_plays.specs.InLaw.{law_opener, law_turn}
-use Rattle.tdb_world.specs.ShutOut.{ShutsOut, IsTurnBeside}
-use Rattle.tdb_world.specs.Worlds.{World, law_of_task, state_in, IsBusy, Stands}
-use Rattle.tdb_world.specs.declared.job.Task.{Task}
-use Rattle.tdb_world.specs.declared.opener.Opener.{Opener}
-use Rattle.tdb_world.proofs.ShutOut.{IsBarred}
+use Rattle.tdb_openers.specs.ShutOut.{ShutsOut, IsTurnBeside}
+use Rattle.tdb_openers.specs.Worlds.{World, law_of_task, state_in, IsBusy, Stands}
+use Rattle.tdb_openers.specs.declared.job.Task.{Task}
+use Rattle.tdb_openers.specs.declared.opener.Opener.{Opener}
+use Rattle.tdb_openers.proofs.ShutOut.{IsBarred}
 use Rattle.tdb_whole.specs.Whole.{Whole}
 use Rattle.tdb_whole.proofs.AskingTurns.{number_barred, number_free}
 use Rattle.tdb_whole.proofs.world.World.shut_out_turn.Goals as goal

@@ -9,8 +9,8 @@ use Rattle.tdb_locks.specs.declared.kind.Kind.{Kind}
 use Rattle.tdb_holder.specs.Holders.{HolderState, HolderTurned}
 use Rattle.tdb_holder.specs.Wanting.{stage_wants}
 use Rattle.tdb_holder.specs.declared.wanting.Wants.{Wants}
-use Rattle.tdb_world.specs.Aside.{HoldsRecords}
-use Rattle.tdb_world.specs.Worlds.{BytesStand, IsNumber, Stands}
+use Rattle.tdb_openers.specs.Aside.{HoldsRecords}
+use Rattle.tdb_openers.specs.Worlds.{BytesStand, IsNumber, Stands}
 use Rattle.tdb_whole.specs.contracts.world.World.{the_view}
 use Rattle.tdb_whole.specs.Claims.{Claimed, ClaimStands, IsBarred}
 use Rattle.tdb_whole.specs.States.{IsStateOf}

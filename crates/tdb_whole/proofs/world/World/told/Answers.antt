@@ -3,9 +3,9 @@ use Rattle.std.proofs.Common.{◌≡◌, ◌≤◌, Some, sym, ◌∙◌, ap, su
 use Rattle.std.proofs.lemmas.Result.{IfOk-weaker}
 use Rattle.tdb_law.specs.Openers.{Task}
 use Rattle.tdb_plays.specs.InLaw.{law_opener}
-use Rattle.tdb_world.specs.Openers.{law_task, task_at}
-use Rattle.tdb_world.specs.Worlds.{IsBusy}
-use Rattle.tdb_world.proofs.Stood.{injected}
+use Rattle.tdb_openers.specs.Openers.{law_task, task_at}
+use Rattle.tdb_openers.specs.Worlds.{IsBusy}
+use Rattle.tdb_openers.proofs.Stood.{injected}
 use Rattle.tdb_whole.specs.Whole.{Whole}
 use Rattle.tdb_whole.proofs.Standings.{aside_task, busy_among, task_in, there_named}
 use Rattle.tdb_whole.proofs.world.World.told.Goals as goal

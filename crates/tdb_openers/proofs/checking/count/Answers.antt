@@ -1,0 +1,7 @@
+-- Over an accepted file a check finds no fault.
+use Rattle.tdb_openers.proofs.Faultless.{no_fault}
+use Rattle.tdb_openers.proofs.checking.count.Goals as goal
+
+pub returns-in-Err-Corrupt-clause-cause : goal.returns-in-Err-Corrupt-clause-cause
+returns-in-Err-Corrupt-clause-cause g c told A =
+    absurd (no_fault (g.S.Space.form c.args.s.now) (g.S.Space.image c.args.s.now) c.in-Err-Corrupt.field-0-0 c.in-Err-Corrupt.field-0-1 c.in-Err-Corrupt.field-0 c.in-Err-Corrupt.field-0-is A (c.in-Err-Corrupt.ensures.first_fault told))

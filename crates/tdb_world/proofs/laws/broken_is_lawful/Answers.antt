@@ -1,6 +1,0 @@
--- The law is the lemma.
-use Rattle.tdb_world.proofs.Finishing.{broken_lawful}
-use Rattle.tdb_world.proofs.laws.broken_is_lawful.Goals as goal
-
-pub returns : goal.returns
-returns c = record { law = broken_lawful }

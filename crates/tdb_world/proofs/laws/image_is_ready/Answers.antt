@@ -1,6 +1,0 @@
--- The law is the lemma.
-use Rattle.tdb_world.proofs.Working.{image_is_ready}
-use Rattle.tdb_world.proofs.laws.image_is_ready.Goals as goal
-
-pub returns : goal.returns
-returns c = record { law = image_is_ready }

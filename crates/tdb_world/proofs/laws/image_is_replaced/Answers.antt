@@ -1,6 +1,0 @@
--- The laws are the lemmas.
-use Rattle.tdb_world.proofs.Images.{image_keeps_world, image_keeps_file, lock_keeps_file}
-use Rattle.tdb_world.proofs.laws.image_is_replaced.Goals as goal
-
-pub returns : goal.returns
-returns c = record { world = image_keeps_world; file = image_keeps_file; locked = lock_keeps_file }

@@ -1,6 +1,0 @@
--- The laws are the lemmas.
-use Rattle.tdb_world.proofs.Arriving.{join_keeps_world, join_keeps_file, join_joins}
-use Rattle.tdb_world.proofs.laws.join_stands.Goals as goal
-
-pub returns : goal.returns
-returns c = record { world = join_keeps_world; file = join_keeps_file; joins = join_joins }

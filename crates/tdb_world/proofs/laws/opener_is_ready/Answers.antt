@@ -1,6 +1,0 @@
--- The law is the lemma.
-use Rattle.tdb_world.proofs.Standing.{opener_is_ready}
-use Rattle.tdb_world.proofs.laws.opener_is_ready.Goals as goal
-
-pub returns : goal.returns
-returns c = record { law = opener_is_ready }

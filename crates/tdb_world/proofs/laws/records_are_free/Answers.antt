@@ -1,6 +1,0 @@
--- The laws are the lemmas.
-use Rattle.tdb_world.proofs.Sharing.{others_write_none, records_are_free}
-use Rattle.tdb_world.proofs.laws.records_are_free.Goals as goal
-
-pub returns : goal.returns
-returns c = record { write = others_write_none; accepted = records_are_free }

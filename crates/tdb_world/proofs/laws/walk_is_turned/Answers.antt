@@ -1,6 +1,0 @@
--- The law is the lemma.
-use Rattle.tdb_world.proofs.WalkLifted.{walk_is_turned}
-use Rattle.tdb_world.proofs.laws.walk_is_turned.Goals as goal
-
-pub returns : goal.returns
-returns c = record { law = walk_is_turned }
