@@ -7,8 +7,8 @@ use Rattle.tdb_law.specs.Events.{Given}
 use Rattle.tdb_law.specs.Lines.{Line as LawLine}
 use Rattle.tdb_law.specs.Plays.{Play as LawPlay}
 use Rattle.tdb_law.specs.Plays.Gives.{gives_answer, gives_command}
-use Rattle.tdb_plays.specs.declared.line.Line.{Line}
-use Rattle.tdb_plays.specs.InLaw.{law_opener, law_line}
+use Rattle.tdb_commands.specs.declared.line.Line.{Line}
+use Rattle.tdb_commands.specs.InLaw.{law_opener, law_line}
 use Rattle.tdb_openers.specs.Played.{Nothing}
 use Rattle.tdb_openers.specs.Played.Begun.{begun_not}
 use Rattle.tdb_openers.specs.declared.fault.RunFault.{RunFault}

@@ -11,9 +11,9 @@ use Rattle.tdb_law.specs.Plays.Play.{SetLog}
 use Rattle.tdb_law.specs.Plays.Clears.{clears_nothing, clears_gate}
 use Rattle.tdb_law.specs.Plays.Grows.{grows_not, grows_longer}
 use Rattle.tdb_law.specs.Plays.Gives.{gives_answer, gives_opener, gives_command, gives_turn, gives_turns, gives_all, gives_death}
-use Rattle.tdb_plays.specs.declared.play.Play.{Play as CodePlay}
-use Rattle.tdb_plays.specs.declared.play.Play.TheVariants as Plays
-use Rattle.tdb_plays.specs.InLaw.{law_play}
+use Rattle.tdb_commands.specs.declared.play.Play.{Play as CodePlay}
+use Rattle.tdb_commands.specs.declared.play.Play.TheVariants as Plays
+use Rattle.tdb_commands.specs.InLaw.{law_play}
 use Rattle.tdb_openers.specs.Played.{Begun, Steps, StepsThenClears, PlaysLast}
 use Rattle.tdb_openers.specs.Played.Begun.{begun_not, begun_turn, begun_turns, begun_command}
 use Rattle.tdb_openers.specs.declared.fault.RunFault.{RunFault}

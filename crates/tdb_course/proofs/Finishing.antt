@@ -12,9 +12,9 @@ use Rattle.tdb_law.specs.Plays.Gives.{gives_answer}
 use Rattle.tdb_law.proofs.Joining.{course_lawful}
 use Rattle.tdb_law.proofs.Happening.{told_lawful}
 use Rattle.tdb_law.proofs.Plainly.{beginning_lawful}
-use Rattle.tdb_plays.specs.declared.line.Line.{Line}
-use Rattle.tdb_plays.specs.declared.line.Line.TheVariants.{Unfinished}
-use Rattle.tdb_plays.specs.InLaw.{law_lines}
+use Rattle.tdb_commands.specs.declared.line.Line.{Line}
+use Rattle.tdb_commands.specs.declared.line.Line.TheVariants.{Unfinished}
+use Rattle.tdb_commands.specs.InLaw.{law_lines}
 use Rattle.tdb_openers.proofs.Courses.{course_then}
 use Rattle.tdb_whole.specs.Whole.{Whole, WorldFits}
 use Rattle.tdb_whole.specs.States.{IsStateOf}

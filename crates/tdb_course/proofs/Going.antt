@@ -9,8 +9,8 @@ use Rattle.tdb_law.specs.Lines.{Line}
 use Rattle.tdb_law.specs.Plays.{Play, Goes, Gives, Course, most_turns}
 use Rattle.tdb_law.specs.Plays.Play.{TakeTurn, Go, Do}
 use Rattle.tdb_law.specs.Plays.Gives.{gives_turns, gives_all}
-use Rattle.tdb_plays.specs.declared.play.Play.{Play as CodePlay}
-use Rattle.tdb_plays.specs.InLaw.{law_opener, law_play, law_plays}
+use Rattle.tdb_commands.specs.declared.play.Play.{Play as CodePlay}
+use Rattle.tdb_commands.specs.InLaw.{law_opener, law_play, law_plays}
 use Rattle.tdb_openers.specs.declared.fault.RunFault.{RunFault}
 use Rattle.tdb_openers.specs.Played.{Nothing, Steps, TakesOne, GoesSome, Begun, ComesTo, PlaysLast}
 use Rattle.tdb_openers.specs.Played.Begun.{begun_not, begun_turns, begun_command}

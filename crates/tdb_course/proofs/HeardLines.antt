@@ -3,9 +3,9 @@ use Rattle.std.proofs.Common.{◌≡◌, List, [], ◌∷◌, ◌++◌, Some, Re
 use Rattle.tdb_log.specs.Logs.{Logged, ToldIfAny, Took, Refused, LastBecame, but_last}
 use Rattle.tdb_log.specs.declared.log.LogRefusal.{LogRefusal}
 use Rattle.tdb_log.specs.declared.notice.Notice.{Notice}
-use Rattle.tdb_plays.specs.declared.line.Line.{Line}
-use Rattle.tdb_plays.specs.declared.line.Line.TheVariants.{LogsLeft}
-use Rattle.tdb_plays.specs.InLaw.{law_line}
+use Rattle.tdb_commands.specs.declared.line.Line.{Line}
+use Rattle.tdb_commands.specs.declared.line.Line.TheVariants.{LogsLeft}
+use Rattle.tdb_commands.specs.InLaw.{law_line}
 use Rattle.tdb_course.specs.Hearing.{Heard, HeardBy, HeardUpTo, KeepsLogs, notice_of}
 
 pub heard_joined : (old mid new : List Logged) (a b : List Line) → Heard old a mid → Heard mid b new → Heard old (a ++ b) new

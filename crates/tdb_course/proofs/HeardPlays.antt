@@ -4,9 +4,9 @@ use Rattle.std.proofs.Math.Seq.{drop-append_seam}
 use Rattle.tdb_law.specs.World.{State}
 use Rattle.tdb_log.specs.Logs.{Logged}
 use Rattle.tdb_log.specs.declared.log.LogRefusal.{LogRefusal}
-use Rattle.tdb_plays.specs.declared.line.Line.{Line}
-use Rattle.tdb_plays.specs.declared.play.Play.{Play}
-use Rattle.tdb_plays.specs.InLaw.{law_lines, law_play}
+use Rattle.tdb_commands.specs.declared.line.Line.{Line}
+use Rattle.tdb_commands.specs.declared.play.Play.{Play}
+use Rattle.tdb_commands.specs.InLaw.{law_lines, law_play}
 use Rattle.tdb_openers.specs.declared.fault.RunFault.{RunFault}
 use Rattle.tdb_whole.specs.Whole.{form_at}
 use Rattle.tdb_course.specs.Hearing.{HeardBy, HeardLed, HeardNotices, KeepLogs, drops_log}

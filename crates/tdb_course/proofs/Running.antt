@@ -7,9 +7,9 @@ use Rattle.tdb_law.specs.Lines.{Line as LawLine}
 use Rattle.tdb_law.specs.Plays.{Course}
 use Rattle.tdb_log.specs.Logs.{Logged}
 use Rattle.tdb_log.specs.declared.log.LogRefusal.{LogRefusal}
-use Rattle.tdb_plays.specs.declared.line.Line.{Line}
-use Rattle.tdb_plays.specs.declared.play.Play.{Play as CodePlay}
-use Rattle.tdb_plays.specs.InLaw.{law_play, law_plays}
+use Rattle.tdb_commands.specs.declared.line.Line.{Line}
+use Rattle.tdb_commands.specs.declared.play.Play.{Play as CodePlay}
+use Rattle.tdb_commands.specs.InLaw.{law_play, law_plays}
 use Rattle.tdb_openers.specs.declared.fault.RunFault.{RunFault}
 use Rattle.tdb_openers.specs.Played.{ComesTo}
 use Rattle.tdb_openers.proofs.Courses.{course_whole}

@@ -10,9 +10,9 @@ use Rattle.tdb_beside.specs.Sides.{Past, Side, whole}
 use Rattle.tdb_beside.specs.Starts.{new_start}
 use Rattle.tdb_holder.specs.Holders.{HolderState}
 use Rattle.tdb_holder.specs.Stages.{stage_task}
-use Rattle.tdb_plays.proofs.NameLemmas.{each_command}
-use Rattle.tdb_plays.specs.InLaw.{law_opener, law_command}
-use Rattle.tdb_plays.specs.declared.command.Command.{Command}
+use Rattle.tdb_commands.proofs.NameLemmas.{each_command}
+use Rattle.tdb_commands.specs.InLaw.{law_opener, law_command}
+use Rattle.tdb_commands.specs.declared.command.Command.{Command}
 use Rattle.tdb_openers.specs.Openers.{law_task, own_at, task_at}
 use Rattle.tdb_openers.specs.Worlds.{state_in, law_of_task, IsBusy, IsFree, IsNumber}
 use Rattle.tdb_openers.specs.declared.job.Task.{Task as JobTask}

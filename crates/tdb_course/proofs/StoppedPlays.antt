@@ -8,8 +8,8 @@ use Rattle.tdb_law.specs.Plays.{Play}
 use Rattle.tdb_law.specs.Plays.Play.{Join, SetLog, Give, Do, TakeTurn, Go, Die}
 use Rattle.tdb_law.specs.Plays.Gives.{gives_answer, gives_command}
 use Rattle.tdb_law.specs.World.{State}
-use Rattle.tdb_plays.specs.declared.line.Line.{Line}
-use Rattle.tdb_plays.specs.InLaw.{law_opener, law_line, law_lines}
+use Rattle.tdb_commands.specs.declared.line.Line.{Line}
+use Rattle.tdb_commands.specs.InLaw.{law_opener, law_line, law_lines}
 use Rattle.tdb_openers.specs.Played.{Begun}
 use Rattle.tdb_openers.specs.Played.Begun.{begun_not, begun_turn, begun_turns, begun_command}
 use Rattle.tdb_openers.specs.declared.fault.RunFault.{RunFault}

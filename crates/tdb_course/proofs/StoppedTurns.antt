@@ -13,8 +13,8 @@ use Rattle.tdb_law.specs.Plays.Clears.{clears_nothing, clears_gate}
 use Rattle.tdb_law.specs.Plays.Play.{TakeTurn}
 use Rattle.tdb_law.specs.Rows.{is_changed}
 use Rattle.tdb_law.specs.World.{State}
-use Rattle.tdb_plays.specs.declared.line.Line.{Line}
-use Rattle.tdb_plays.specs.InLaw.{law_lines}
+use Rattle.tdb_commands.specs.declared.line.Line.{Line}
+use Rattle.tdb_commands.specs.InLaw.{law_lines}
 use Rattle.tdb_openers.specs.Calm.{IsMidway}
 use Rattle.tdb_openers.specs.Played.{Nothing, TakesOne, TakesLast, UnlessIo}
 use Rattle.tdb_openers.specs.declared.fault.RunFault.{RunFault}

@@ -4,8 +4,8 @@ use Rattle.std.proofs.lemmas.List.{take_more, take-append-drop, append_cancel_le
 use Rattle.tdb_log.specs.Logs.{Logged, ToldIfAny, Refused, LastBecame}
 use Rattle.tdb_log.specs.declared.log.LogRefusal.{LogRefusal}
 use Rattle.tdb_log.specs.declared.notice.Notice.{Notice}
-use Rattle.tdb_plays.specs.declared.line.Line.{Line}
-use Rattle.tdb_plays.specs.InLaw.{law_line, law_lines}
+use Rattle.tdb_commands.specs.declared.line.Line.{Line}
+use Rattle.tdb_commands.specs.InLaw.{law_line, law_lines}
 use Rattle.tdb_course.specs.Hearing.{HeardNotices, KeepLogs, notice_of}
 use Rattle.tdb_course.proofs.Dropping.{keep_front, keep_rest}
 use Rattle.tdb_course.proofs.HeardLines.{heard_joined, heard_then_refused, refused_longer, heard_one, refused_one}

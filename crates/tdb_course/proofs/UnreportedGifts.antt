@@ -3,10 +3,10 @@ use Rattle.std.proofs.Common.{◌≡◌, ◌≤◌, ℕ, List, [], ◌∷◌, fa
 use Rattle.tdb_disk.specs.History.{History}
 use Rattle.tdb_law.specs.World.{State}
 use Rattle.tdb_law.specs.Plays.Play.{Give}
-use Rattle.tdb_plays.specs.InLaw.{law_opener, law_command}
-use Rattle.tdb_plays.specs.declared.command.Command.{Command}
-use Rattle.tdb_plays.specs.declared.line.Line.{Line}
-use Rattle.tdb_plays.specs.declared.line.Line.TheVariants as Lines
+use Rattle.tdb_commands.specs.InLaw.{law_opener, law_command}
+use Rattle.tdb_commands.specs.declared.command.Command.{Command}
+use Rattle.tdb_commands.specs.declared.line.Line.{Line}
+use Rattle.tdb_commands.specs.declared.line.Line.TheVariants as Lines
 use Rattle.tdb_whole.specs.States.{IsStateOf}
 use Rattle.tdb_whole.specs.Steps.{HasCommand}
 use Rattle.tdb_whole.specs.Whole.{Whole, WorldFits}

@@ -7,10 +7,10 @@ use Rattle.tdb_law.specs.Plays.Play.{TakeTurn}
 use Rattle.tdb_locks.specs.declared.turn.Turn.{Turn}
 use Rattle.tdb_log.specs.Logs.{Logged}
 use Rattle.tdb_log.specs.declared.log.LogRefusal.{LogRefusal}
-use Rattle.tdb_plays.specs.InLaw.{law_opener, law_command}
-use Rattle.tdb_plays.specs.declared.command.Command.{Command}
-use Rattle.tdb_plays.specs.declared.line.Line.{Line}
-use Rattle.tdb_plays.specs.declared.line.Line.TheVariants.{Took}
+use Rattle.tdb_commands.specs.InLaw.{law_opener, law_command}
+use Rattle.tdb_commands.specs.declared.command.Command.{Command}
+use Rattle.tdb_commands.specs.declared.line.Line.{Line}
+use Rattle.tdb_commands.specs.declared.line.Line.TheVariants.{Took}
 use Rattle.tdb_whole.specs.Whole.{form_at, Whole, WorldFits}
 use Rattle.tdb_whole.specs.declared.undoing.Undone.{Undone}
 use Rattle.tdb_openers.specs.Played.{growth, is_step, Nothing, TakesOne, TakesLast}

@@ -4,15 +4,15 @@ use Rattle.tdb_law.specs.Lines.{Line as LawLine}
 use Rattle.tdb_law.specs.Lines.Line.{LogsLeft as LawLogsLeft}
 use Rattle.tdb_law.specs.World.{State}
 use Rattle.tdb_course.specs.Led.{Moment, IsStateAt}
-use Rattle.tdb_plays.specs.declared.play.Play.{Play}
-use Rattle.tdb_plays.specs.declared.play.Play.TheVariants.{SetLog}
+use Rattle.tdb_commands.specs.declared.play.Play.{Play}
+use Rattle.tdb_commands.specs.declared.play.Play.TheVariants.{SetLog}
 use Rattle.tdb_log.specs.Logs.{Logged, ToldIfAny, Refused, LastBecame, but_last}
 use Rattle.tdb_log.specs.declared.log.LogRefusal.{LogRefusal}
 use Rattle.tdb_log.specs.declared.notice.Notice.{Notice}
 use Rattle.tdb_log.specs.declared.notice.Notice.TheVariants as Note
-use Rattle.tdb_plays.specs.InLaw.{law_lines}
-use Rattle.tdb_plays.specs.declared.line.Line.{Line}
-use Rattle.tdb_plays.specs.declared.line.Line.TheVariants.{Grew, Died, Undone, LogsLeft}
+use Rattle.tdb_commands.specs.InLaw.{law_lines}
+use Rattle.tdb_commands.specs.declared.line.Line.{Line}
+use Rattle.tdb_commands.specs.declared.line.Line.TheVariants.{Grew, Died, Undone, LogsLeft}
 use Rattle.tdb_openers.specs.declared.fault.RunFault.{RunFault}
 
 -- the notice that tells what a line does, if logs are told of it: that the file grew, an opener died, or a gate was undone

@@ -7,8 +7,8 @@ use Rattle.tdb_law.specs.Lines.{Line as LawLine, IsLawful}
 use Rattle.tdb_law.specs.Openers.{Options as LawOptions}
 use Rattle.tdb_law.specs.Plays.{Play, Course}
 use Rattle.tdb_law.specs.World.{State}
-use Rattle.tdb_plays.specs.InLaw.{law_lines}
-use Rattle.tdb_plays.specs.declared.line.Line.{Line}
+use Rattle.tdb_commands.specs.InLaw.{law_lines}
+use Rattle.tdb_commands.specs.declared.line.Line.{Line}
 use Rattle.tdb_whole.specs.Whole.{Whole, WorldFits}
 use Rattle.tdb_whole.specs.States.{IsStateOf}
 use Rattle.tdb_course.specs.Unfinished.{IsEnd, EndsWith}

@@ -4,9 +4,9 @@ use Rattle.tdb_disk.specs.Count.{Rose}
 use Rattle.tdb_disk.specs.History.{History, seen}
 use Rattle.tdb_law.specs.World.{State}
 use Rattle.tdb_law.specs.Lines.{Line as LawLine}
-use Rattle.tdb_plays.specs.declared.line.Line.{Line}
-use Rattle.tdb_plays.specs.declared.line.Line.TheVariants.{Grew, Undone}
-use Rattle.tdb_plays.specs.InLaw.{law_lines}
+use Rattle.tdb_commands.specs.declared.line.Line.{Line}
+use Rattle.tdb_commands.specs.declared.line.Line.TheVariants.{Grew, Undone}
+use Rattle.tdb_commands.specs.InLaw.{law_lines}
 use Rattle.tdb_openers.specs.Played.{UnlessIo, OnIo}
 use Rattle.tdb_openers.specs.declared.fault.RunFault.{RunFault}
 use Rattle.tdb_openers.specs.declared.fault.RunFault.TheVariants.{Io, Memory}

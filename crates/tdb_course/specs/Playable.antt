@@ -1,9 +1,9 @@
 -- Which plays may be taken.
 use Rattle.std.specs.Prelude.{◌≤◌, List}
 use Rattle.std.specs.List.{All}
-use Rattle.tdb_plays.specs.declared.play.Play.{Play}
-use Rattle.tdb_plays.specs.declared.play.Play.TheVariants as Plays
-use Rattle.tdb_plays.specs.Short.{IsShortCommand}
+use Rattle.tdb_commands.specs.declared.play.Play.{Play}
+use Rattle.tdb_commands.specs.declared.play.Play.TheVariants as Plays
+use Rattle.tdb_commands.specs.Short.{IsShortCommand}
 
 -- an opener is named by a number from 1 on, and the key and the value of its command are short enough for the words of a file
 abbrev pub IsPlayable : Play → Type 0

@@ -4,8 +4,8 @@ use Rattle.tdb_disk.specs.History.{History, seen}
 use Rattle.tdb_law.specs.Commands.{Command}
 use Rattle.tdb_law.specs.World.{State}
 use Rattle.tdb_law.specs.Plays.{Play, Gives, IsAnswer}
-use Rattle.tdb_plays.specs.declared.line.Line.{Line}
-use Rattle.tdb_plays.specs.InLaw.{law_line}
+use Rattle.tdb_commands.specs.declared.line.Line.{Line}
+use Rattle.tdb_commands.specs.InLaw.{law_line}
 use Rattle.tdb_openers.specs.Played.{Begun, PlaysLast}
 use Rattle.tdb_openers.specs.declared.fault.RunFault.{RunFault}
 use Rattle.tdb_whole.specs.Whole.{Whole, WorldFits, form_at}

@@ -4,10 +4,10 @@ use Rattle.tdb_law.specs.Plays.Play.{TakeTurn}
 use Rattle.tdb_locks.specs.declared.turn.Turn.{Turn}
 use Rattle.tdb_log.specs.Logs.{Logged}
 use Rattle.tdb_log.specs.declared.log.LogRefusal.{LogRefusal}
-use Rattle.tdb_plays.specs.InLaw.{law_opener}
-use Rattle.tdb_plays.specs.declared.command.Command.{Command}
-use Rattle.tdb_plays.specs.declared.line.Line.{Line}
-use Rattle.tdb_plays.specs.declared.line.Line.TheVariants.{Absent, Idle, Occupied, Took, Undone}
+use Rattle.tdb_commands.specs.InLaw.{law_opener}
+use Rattle.tdb_commands.specs.declared.command.Command.{Command}
+use Rattle.tdb_commands.specs.declared.line.Line.{Line}
+use Rattle.tdb_commands.specs.declared.line.Line.TheVariants.{Absent, Idle, Occupied, Took, Undone}
 use Rattle.tdb_whole.specs.declared.undoing.Undone.{Undone as UndoneGate}
 use Rattle.tdb_openers.specs.Played.{growth}
 use Rattle.tdb_openers.specs.declared.fault.RunFault.{RunFault}

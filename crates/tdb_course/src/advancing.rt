@@ -3,7 +3,7 @@ ghost use Rattle.std.specs.Prelude.{◌≡◌, ◌≤◌, ℕ};
 ghost use Rattle.tdb_disk.specs.History.{seen};
 ghost use Rattle.tdb_law.specs.Plays.{Goes, most_turns};
 ghost use Rattle.tdb_law.specs.Plays.{Play as LawPlay};
-ghost use Rattle.tdb_plays.specs.InLaw.{law_opener};
+ghost use Rattle.tdb_commands.specs.InLaw.{law_opener};
 ghost use Rattle.tdb_openers.specs.Played.{GoesSome};
 ghost use Rattle.tdb_whole.specs.Whole.{form_at, WorldFits};
 ghost use Rattle.tdb_whole.specs.Steps.{HasCommand};
@@ -14,7 +14,7 @@ ghost use Rattle.tdb_course.specs.Told.{PlayLed};
 
 use crate::turning::told_turn;
 use tdb_disk::Disk;
-use tdb_plays::{Line, TurnReport};
+use tdb_commands::{Line, TurnReport};
 use tdb_whole::{OpenerStanding, World};
 use tdb_openers::{MOST_TURNS, RunFault, tell};
 

@@ -1,11 +1,11 @@
 //! Openers that die, and what is told of it.
 ghost use Rattle.std.specs.Prelude.{◌≤◌, ℕ, List};
 ghost use Rattle.tdb_law.specs.Plays.{Play as LawPlay};
-ghost use Rattle.tdb_plays.specs.InLaw.{law_opener};
+ghost use Rattle.tdb_commands.specs.InLaw.{law_opener};
 ghost use Rattle.tdb_whole.specs.Whole.{WorldFits};
 ghost use Rattle.tdb_course.specs.Told.{PlayLedInAny};
 
-use tdb_plays::{Line, TurnReport};
+use tdb_commands::{Line, TurnReport};
 use tdb_whole::{OpenerStanding, World};
 use tdb_openers::{RunFault, put_line, tell};
 

@@ -1,12 +1,12 @@
 //! What logs are told of the lines of a report.
 ghost use Rattle.std.specs.Prelude.{◌≡◌, ◌≤◌, ◌++◌, ◌-◌, ◌∷◌, [], List, length, drop, OnOk, OnErr, IfErr};
 ghost use Rattle.tdb_log.specs.Logs.{but_last};
-ghost use Rattle.tdb_plays.specs.declared.line.Line.TheVariants.{LogsLeft};
+ghost use Rattle.tdb_commands.specs.declared.line.Line.TheVariants.{LogsLeft};
 ghost use Rattle.tdb_openers.specs.declared.fault.RunFault.TheVariants as Faults;
 ghost use Rattle.tdb_course.specs.Hearing.{notice_of, HeardNotices};
 
 use tdb_log::{LogRefusal, Logs, Notice};
-use tdb_plays::{Line, TurnReport};
+use tdb_commands::{Line, TurnReport};
 use tdb_openers::{RunFault, put_line};
 
 /// The notice that tells what a line does, if logs are told of it.

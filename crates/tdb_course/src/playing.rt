@@ -3,8 +3,8 @@ ghost use Rattle.std.specs.Prelude.{◌≡◌, ◌≤◌, ◌++◌, ℕ, List, I
 ghost use Rattle.tdb_disk.specs.History.{seen};
 ghost use Rattle.tdb_law.specs.Plays.{Gives, Course};
 ghost use Rattle.tdb_law.specs.Plays.{Play as LawPlay};
-ghost use Rattle.tdb_plays.specs.InLaw.{law_opener, law_command, law_play, law_plays};
-ghost use Rattle.tdb_plays.specs.Short.{IsShortCommand};
+ghost use Rattle.tdb_commands.specs.InLaw.{law_opener, law_command, law_play, law_plays};
+ghost use Rattle.tdb_commands.specs.Short.{IsShortCommand};
 ghost use Rattle.tdb_openers.specs.Played.{Begun, ComesTo, PlaysLast};
 ghost use Rattle.tdb_whole.specs.Whole.{form_at, WorldFits};
 ghost use Rattle.tdb_course.specs.Led.{moment, Led};
@@ -19,7 +19,7 @@ use crate::hearing::{drop_log, tell_logs};
 use crate::starting::{give_copy, play_give, play_join};
 use tdb_disk::Disk;
 use tdb_log::{LogRefusal, Logs};
-use tdb_plays::{Command, Line, Play, TurnReport};
+use tdb_commands::{Command, Line, Play, TurnReport};
 use tdb_whole::{OpenerStanding, World};
 use tdb_openers::{RunFault, tell};
 

@@ -1,14 +1,14 @@
 //! Openers who join or are given a command, and what is told of it.
 ghost use Rattle.std.specs.Prelude.{◌≡◌, ◌≤◌, ◌∷◌, [], ℕ, List, IfErr, OnOk, OnErr};
 ghost use Rattle.tdb_law.specs.Plays.{Play as LawPlay};
-ghost use Rattle.tdb_plays.specs.InLaw.{law_opener, law_command};
-ghost use Rattle.tdb_plays.specs.Short.{IsShortCommand};
+ghost use Rattle.tdb_commands.specs.InLaw.{law_opener, law_command};
+ghost use Rattle.tdb_commands.specs.Short.{IsShortCommand};
 ghost use Rattle.tdb_whole.specs.Whole.{WorldFits};
 ghost use Rattle.tdb_whole.specs.Steps.{HasNoCommand};
 ghost use Rattle.tdb_course.specs.Led.{Lengths};
 ghost use Rattle.tdb_course.specs.Told.{Gifted, GivesLine, PlayLedInAny};
 
-use tdb_plays::{Command, Line, TurnReport};
+use tdb_commands::{Command, Line, TurnReport};
 use tdb_whole::{JoinRefusal, OpenerStanding, World};
 use tdb_openers::{RunFault, put_line, tell};
 

@@ -6,7 +6,7 @@ ghost use Rattle.tdb_disk.specs.Stop.{LeavesOnly};
 ghost use Rattle.tdb_law.specs.Openers.{Task};
 ghost use Rattle.tdb_law.specs.Plays.{Clears};
 ghost use Rattle.tdb_law.specs.World.{State};
-ghost use Rattle.tdb_plays.specs.InLaw.{law_opener, law_command};
+ghost use Rattle.tdb_commands.specs.InLaw.{law_opener, law_command};
 ghost use Rattle.tdb_openers.specs.Played.{Nothing, TakesLast, TakesOne};
 ghost use Rattle.tdb_whole.specs.Whole.{form_at, WorldFits};
 ghost use Rattle.tdb_whole.specs.States.{IsStateOf};
@@ -17,7 +17,7 @@ ghost use Rattle.tdb_course.specs.Stops.{StopsLed};
 ghost use Rattle.tdb_course.specs.Turns.{IsToldOf, Never, TakesOrClears};
 
 use tdb_disk::Disk;
-use tdb_plays::{Command, Line, TurnReport};
+use tdb_commands::{Command, Line, TurnReport};
 use tdb_space::Io;
 use tdb_whole::{Undone, World};
 use tdb_openers::{RunFault, put_line, tell_growth, was_step};

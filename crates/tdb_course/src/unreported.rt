@@ -2,10 +2,10 @@
 ghost use Rattle.std.specs.Prelude.{◌≡◌, ◌≤◌, ◌++◌, [], ℕ, List, OnOk, OnErr, IfErr, false};
 ghost use Rattle.tdb_disk.specs.History.{seen};
 ghost use Rattle.tdb_law.specs.Plays.{Clears, Play as LawPlay};
-ghost use Rattle.tdb_plays.specs.InLaw.{law_opener, law_command};
-ghost use Rattle.tdb_plays.specs.declared.command.Command.{Command};
-ghost use Rattle.tdb_plays.specs.declared.line.Line.{Line};
-ghost use Rattle.tdb_plays.specs.Short.{IsShortCommand};
+ghost use Rattle.tdb_commands.specs.InLaw.{law_opener, law_command};
+ghost use Rattle.tdb_commands.specs.declared.command.Command.{Command};
+ghost use Rattle.tdb_commands.specs.declared.line.Line.{Line};
+ghost use Rattle.tdb_commands.specs.Short.{IsShortCommand};
 ghost use Rattle.tdb_openers.specs.Played.{growth, is_step, Nothing, TakesLast, TakesOne};
 ghost use Rattle.tdb_whole.specs.Whole.{form_at, WorldFits};
 ghost use Rattle.tdb_whole.specs.Steps.{HasCommand};
@@ -20,7 +20,7 @@ use crate::turning::length_of;
 use tdb_disk::Disk;
 use tdb_locks::Turn;
 use tdb_log::{LogRefusal, Logs, Notice};
-use tdb_plays::Command;
+use tdb_commands::Command;
 use tdb_whole::{OpenerStanding, Undone, World};
 use tdb_openers::RunFault;
 

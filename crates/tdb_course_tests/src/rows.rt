@@ -7,7 +7,7 @@ use small_file::RECORD;
 use tdb_course::RunFault;
 use tdb_disk::Call;
 use tdb_log::{LogRefusal, Notice};
-use tdb_plays::Options;
+use tdb_commands::Options;
 
 /// How a file is opened in which changes raise the sequence number.
 const COUNTED: Options = Options {

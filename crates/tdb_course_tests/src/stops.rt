@@ -7,7 +7,7 @@ use std::test::Fail;
 use tdb_disk::{Disk, FuseDisk, MemDisk, MemSink, Pick};
 use tdb_log::Log;
 use tdb_open::Opened;
-use tdb_plays::TurnReport;
+use tdb_commands::TurnReport;
 
 const COMMIT: &[u8] = b"open\ndo 1 start\ndo 1 store a 9\ndo 1 commit\n";
 

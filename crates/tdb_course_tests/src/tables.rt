@@ -9,7 +9,7 @@ use std::test::Fail;
 use tdb_course::RunFault;
 use tdb_disk::Call;
 use tdb_log::{Log, LogRefusal, MemLog, Notice};
-use tdb_plays::{Options, TurnReport};
+use tdb_commands::{Options, TurnReport};
 
 /// What fails in a row: nothing, the nth call of a kind of the disk, or the first notice of each log.
 #[derive(Clone, Copy, Debug, PartialEq, Eq)]

@@ -2,7 +2,7 @@
 
 ghost use Rattle.std.specs.Prelude.{◌≤◌, IsTrue};
 ghost use Rattle.tdb_course.specs.Playable.{ArePlayable, IsPlayable};
-ghost use Rattle.tdb_plays.specs.Short.{IsShortCommand};
+ghost use Rattle.tdb_commands.specs.Short.{IsShortCommand};
 
 use small_file::HEADER;
 use std::alloc::Global;
@@ -10,7 +10,7 @@ use tdb_course::{RunFault, run};
 use tdb_disk::{Disk, MemSink};
 use tdb_dump::WriteRefusal;
 use tdb_log::{LogRefusal, Logs};
-use tdb_plays::{Command, Options, Play, TurnReport};
+use tdb_commands::{Command, Options, Play, TurnReport};
 use tdb_script::{read_script, write_line};
 use tdb_whole::World;
 

@@ -4,7 +4,7 @@ use Rattle.std.specs.Prelude.{count_by}
 use Rattle.std.proofs.lemmas.List.{append_assoc, append-nil}
 use Rattle.std.proofs.lemmas.List.Sums.{sum_by-append}
 use Rattle.tdb_disk.specs.Count.{last_count}
-use Rattle.tdb_plays.specs.declared.line.Line.{Line}
+use Rattle.tdb_commands.specs.declared.line.Line.{Line}
 use Rattle.tdb_gen.specs.declared.counts.Counts.{Counts}
 use Rattle.tdb_gen.specs.Counts.{is_blocked, is_end, is_ok, is_value, is_missing, is_yes, is_no, is_full, is_memory, counted, counts_of, more, counts_with}
 

@@ -8,8 +8,8 @@ use Rattle.tdb_space.specs.Accepted.{AcceptWith}
 use Rattle.tdb_space.specs.Form.{Form, form_in}
 use Rattle.tdb_space.specs.Pairs.{order_of}
 use Rattle.tdb_law.specs.World.{State}
-use Rattle.tdb_plays.specs.InLaw.{law_lines, options_of}
-use Rattle.tdb_plays.specs.declared.options.Options.{Options}
+use Rattle.tdb_commands.specs.InLaw.{law_lines, options_of}
+use Rattle.tdb_commands.specs.declared.options.Options.{Options}
 use Rattle.tdb_whole.specs.Whole.{form_at}
 use Rattle.tdb_gen.specs.declared.fault.GenFault.{GenFault}
 use Rattle.tdb_gen.specs.declared.fault.GenFault.TheVariants.{Io, Memory, Log}

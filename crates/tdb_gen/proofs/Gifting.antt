@@ -5,12 +5,12 @@ use Rattle.tdb_law.specs.Plays.{Gives}
 use Rattle.tdb_law.specs.Plays.Gives.{gives_opener}
 use Rattle.tdb_law.specs.World.{State}
 use Rattle.tdb_log.specs.Logs.{Logged}
-use Rattle.tdb_plays.specs.InLaw.{law_lines, law_opener, law_play}
-use Rattle.tdb_plays.specs.declared.command.Command.{Command}
-use Rattle.tdb_plays.specs.declared.line.Line.{Line}
-use Rattle.tdb_plays.specs.declared.line.Line.TheVariants as Lines
-use Rattle.tdb_plays.specs.declared.play.Play.{Play}
-use Rattle.tdb_plays.specs.declared.play.Play.TheVariants as Plays
+use Rattle.tdb_commands.specs.InLaw.{law_lines, law_opener, law_play}
+use Rattle.tdb_commands.specs.declared.command.Command.{Command}
+use Rattle.tdb_commands.specs.declared.line.Line.{Line}
+use Rattle.tdb_commands.specs.declared.line.Line.TheVariants as Lines
+use Rattle.tdb_commands.specs.declared.play.Play.{Play}
+use Rattle.tdb_commands.specs.declared.play.Play.TheVariants as Plays
 use Rattle.tdb_openers.proofs.Courses.{course_then}
 use Rattle.tdb_openers.specs.declared.standings.OpenerStanding.{OpenerStanding}
 use Rattle.tdb_openers.specs.declared.standings.OpenerStanding.TheVariants as Stands

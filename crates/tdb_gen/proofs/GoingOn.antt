@@ -19,8 +19,8 @@ use Rattle.tdb_law.specs.World.{State}
 use Rattle.tdb_law.proofs.Covered.{none_held}
 use Rattle.tdb_law.proofs.Plainly.{beginning_lawful}
 use Rattle.tdb_law.proofs.Tests.{never_true}
-use Rattle.tdb_plays.specs.InLaw.{law_opener, law_command, law_play, law_plays}
-use Rattle.tdb_plays.specs.declared.command.Command.{Command}
+use Rattle.tdb_commands.specs.InLaw.{law_opener, law_command, law_play, law_plays}
+use Rattle.tdb_commands.specs.declared.command.Command.{Command}
 use Rattle.tdb_gen.specs.Commands.{kind_of, command_of}
 use Rattle.tdb_gen.specs.Numbers.{number_at}
 use Rattle.tdb_gen.specs.Plays.{joins, gift, gifts, round, rounds, group_plays}

@@ -9,8 +9,8 @@ use Rattle.tdb_law.specs.Lines.{Line}
 use Rattle.tdb_law.specs.Plays.{Play, Gives, Course}
 use Rattle.tdb_law.specs.Plays.Play.{Join, SetLog, Give, TakeTurn, Go, Do, Die}
 use Rattle.tdb_law.specs.World.{State}
-use Rattle.tdb_plays.specs.InLaw.{law_play, law_plays}
-use Rattle.tdb_plays.specs.declared.play.Play.{Play as CodePlay}
+use Rattle.tdb_commands.specs.InLaw.{law_play, law_plays}
+use Rattle.tdb_commands.specs.declared.play.Play.{Play as CodePlay}
 use Rattle.tdb_openers.specs.Played.{Begun, FirstBegun, ComesTo}
 use Rattle.tdb_gen.specs.Numbers.{number_at}
 use Rattle.tdb_gen.specs.Plays.{joins, gift, gifts, round, rounds, groups, group_plays, group_list, together, gen_plays}

@@ -6,9 +6,9 @@ use Rattle.tdb_space.specs.Form.{Form}
 use Rattle.tdb_law.specs.Lines.{Line as LawLine}
 use Rattle.tdb_law.specs.Plays.{Course}
 use Rattle.tdb_law.specs.World.{State}
-use Rattle.tdb_plays.specs.InLaw.{law_play, law_plays, law_line, law_lines}
-use Rattle.tdb_plays.specs.declared.line.Line.{Line}
-use Rattle.tdb_plays.specs.declared.play.Play.{Play}
+use Rattle.tdb_commands.specs.InLaw.{law_play, law_plays, law_line, law_lines}
+use Rattle.tdb_commands.specs.declared.line.Line.{Line}
+use Rattle.tdb_commands.specs.declared.play.Play.{Play}
 use Rattle.tdb_gen.specs.Plays.{joins, group_plays, together}
 use Rattle.tdb_gen.specs.Rounds.{IsReady}
 use Rattle.tdb_gen.specs.Taking.{Parts}

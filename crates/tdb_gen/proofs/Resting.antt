@@ -8,10 +8,10 @@ use Rattle.tdb_law.specs.Plays.{Gives}
 use Rattle.tdb_law.specs.Plays.Play.{TakeTurn}
 use Rattle.tdb_law.specs.World.{State}
 use Rattle.tdb_log.specs.Logs.{Logged}
-use Rattle.tdb_plays.specs.InLaw.{law_lines}
-use Rattle.tdb_plays.specs.declared.line.Line.{Line}
-use Rattle.tdb_plays.specs.declared.line.Line.TheVariants.{Idle, Absent}
-use Rattle.tdb_plays.specs.declared.play.Play.{Play}
+use Rattle.tdb_commands.specs.InLaw.{law_lines}
+use Rattle.tdb_commands.specs.declared.line.Line.{Line}
+use Rattle.tdb_commands.specs.declared.line.Line.TheVariants.{Idle, Absent}
+use Rattle.tdb_commands.specs.declared.play.Play.{Play}
 use Rattle.tdb_whole.specs.Whole.{form_at}
 use Rattle.tdb_course.specs.Hearing.{Heard}
 use Rattle.tdb_gen.specs.declared.counts.Counts.{Counts}

@@ -9,11 +9,11 @@ use Rattle.tdb_law.specs.Plays.Play.{TakeTurn}
 use Rattle.tdb_law.specs.World.{State}
 use Rattle.tdb_log.specs.Logs.{Logged}
 use Rattle.tdb_log.specs.declared.log.LogRefusal.{LogRefusal}
-use Rattle.tdb_plays.specs.InLaw.{law_opener}
-use Rattle.tdb_plays.specs.declared.command.Command.{Command}
-use Rattle.tdb_plays.specs.declared.line.Line.{Line}
-use Rattle.tdb_plays.specs.declared.line.Line.TheVariants.{Took, Grew}
-use Rattle.tdb_plays.specs.declared.play.Play.TheVariants as Plays
+use Rattle.tdb_commands.specs.InLaw.{law_opener}
+use Rattle.tdb_commands.specs.declared.command.Command.{Command}
+use Rattle.tdb_commands.specs.declared.line.Line.{Line}
+use Rattle.tdb_commands.specs.declared.line.Line.TheVariants.{Took, Grew}
+use Rattle.tdb_commands.specs.declared.play.Play.TheVariants as Plays
 use Rattle.tdb_space.specs.Form.{Form}
 use Rattle.tdb_openers.specs.Played.{Begun, ComesTo, PlaysLast, growth}
 use Rattle.tdb_openers.specs.declared.fault.RunFault.{RunFault}

@@ -1,7 +1,7 @@
 -- The command that is made of a number.
 use Rattle.std.specs.Prelude.{ℕ, ◌+◌, ◌/◌, ◌%◌, ◌^◌, ◌==◌, List, ◌++◌, codes, decimal, nat_lt, replicate, if◌then◌else◌}
-use Rattle.tdb_plays.specs.declared.command.Command.{Command}
-use Rattle.tdb_plays.specs.declared.command.Command.TheVariants.{Store, Delete, Append, Fetch, Has}
+use Rattle.tdb_commands.specs.declared.command.Command.{Command}
+use Rattle.tdb_commands.specs.declared.command.Command.TheVariants.{Store, Delete, Append, Fetch, Has}
 use Rattle.tdb_steps.specs.declared.flag.Flag.TheVariants.{Replace}
 
 -- which of a thousand keys it is about; the key is the letter k and this number in decimal

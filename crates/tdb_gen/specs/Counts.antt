@@ -3,8 +3,8 @@ use Rattle.std.specs.Prelude.{ℕ, ◌+◌, min, Bool, true, false, List, count_
 use Rattle.tdb_disk.specs.Count.{last_count}
 use Rattle.tdb_locks.specs.declared.turn.Reply.{Reply}
 use Rattle.tdb_locks.specs.declared.turn.Turn.TheVariants.{Blocked, Done}
-use Rattle.tdb_plays.specs.declared.line.Line.{Line}
-use Rattle.tdb_plays.specs.declared.line.Line.TheVariants.{Took}
+use Rattle.tdb_commands.specs.declared.line.Line.{Line}
+use Rattle.tdb_commands.specs.declared.line.Line.TheVariants.{Took}
 use Rattle.tdb_gen.specs.declared.counts.Counts.{Counts}
 
 -- the line of a turn that was blocked

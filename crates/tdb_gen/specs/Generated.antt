@@ -9,9 +9,9 @@ use Rattle.tdb_law.specs.Images.{image_map}
 use Rattle.tdb_law.specs.Plays.{Course}
 use Rattle.tdb_law.specs.World.{State}
 use Rattle.tdb_log.specs.Logs.{Logged}
-use Rattle.tdb_plays.specs.InLaw.{law_plays, law_lines, options_of}
-use Rattle.tdb_plays.specs.declared.line.Line.{Line}
-use Rattle.tdb_plays.specs.declared.options.Options.{Options}
+use Rattle.tdb_commands.specs.InLaw.{law_plays, law_lines, options_of}
+use Rattle.tdb_commands.specs.declared.line.Line.{Line}
+use Rattle.tdb_commands.specs.declared.options.Options.{Options}
 use Rattle.tdb_openers.specs.Played.{ComesTo}
 use Rattle.tdb_course.specs.Hearing.{Heard}
 use Rattle.tdb_gen.specs.declared.fault.GenFault.{GenFault}

@@ -1,8 +1,8 @@
 -- The plays of generated commands.
 use Rattle.std.specs.Prelude.{ℕ, ◌+◌, ◌-◌, ◌*◌, ◌/◌, ◌%◌, List, [], ◌∷◌, ◌++◌, map, min}
 use Rattle.std.specs.List.{flat_map, range_with_len}
-use Rattle.tdb_plays.specs.declared.play.Play.{Play}
-use Rattle.tdb_plays.specs.declared.play.Play.TheVariants.{Join, Give, Turn}
+use Rattle.tdb_commands.specs.declared.play.Play.{Play}
+use Rattle.tdb_commands.specs.declared.play.Play.TheVariants.{Join, Give, Turn}
 use Rattle.tdb_gen.specs.Numbers.{number_at}
 use Rattle.tdb_gen.specs.Commands.{command_of}
 

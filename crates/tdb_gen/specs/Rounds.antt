@@ -10,8 +10,8 @@ use Rattle.tdb_law.specs.Lines.{Line}
 use Rattle.tdb_law.specs.Openers.{Own, Task}
 use Rattle.tdb_law.specs.Plays.{Course}
 use Rattle.tdb_law.specs.World.{State}
-use Rattle.tdb_plays.specs.InLaw.{law_plays}
-use Rattle.tdb_plays.specs.declared.play.Play.{Play}
+use Rattle.tdb_commands.specs.InLaw.{law_plays}
+use Rattle.tdb_commands.specs.declared.play.Play.{Play}
 use Rattle.tdb_gen.specs.Plays.{joins, round, group_plays}
 
 -- nobody has an unfinished command

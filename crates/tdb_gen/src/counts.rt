@@ -2,8 +2,8 @@
 
 ghost use Rattle.std.specs.Prelude.{◌≡◌, ℕ, ◌+◌, [], min};
 ghost use Rattle.tdb_disk.specs.Count.{last_count};
-ghost use Rattle.tdb_plays.specs.declared.command.Command.{Command};
-ghost use Rattle.tdb_plays.specs.declared.line.Line.TheVariants as Lines;
+ghost use Rattle.tdb_commands.specs.declared.command.Command.{Command};
+ghost use Rattle.tdb_commands.specs.declared.line.Line.TheVariants as Lines;
 ghost use Rattle.tdb_gen.specs.Counts.{counts_of, counts_with};
 
 use tdb_locks::{Reply, Turn};

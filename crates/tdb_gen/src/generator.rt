@@ -1,13 +1,13 @@
 // The commands that are made of numbers.
 
 ghost use Rattle.std.specs.Prelude.{◌≡◌, ◌<◌, ◌≤◌, ◌+◌, ◌-◌, ◌%◌, ◌^◌, ℕ, IfOk, length};
-ghost use Rattle.tdb_plays.specs.Short.{IsShortCommand};
+ghost use Rattle.tdb_commands.specs.Short.{IsShortCommand};
 ghost use Rattle.tdb_gen.specs.Numbers.{next_number, number_at, IsFrom};
 ghost use Rattle.tdb_gen.specs.Commands.{key_number, key_of, value_of, value_length, kind_of, command_of};
 
 use itoa::Buffer;
 use std::alloc::{AllocError, Global};
-use tdb_plays::Command;
+use tdb_commands::Command;
 use tdb_steps::Flag;
 use tdb_words::Bytes;
 

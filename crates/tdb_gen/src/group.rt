@@ -1,7 +1,7 @@
 // The joins of the openers, and the gifts of a group's commands, of which no report tells.
 
 ghost use Rattle.std.specs.Prelude.{◌≡◌, ◌<◌, ◌≤◌, ◌∷◌, ◌+◌, ◌-◌, ◌^◌, [], ℕ, List, min, OnOk};
-ghost use Rattle.tdb_plays.specs.declared.play.Play.TheVariants.{Join};
+ghost use Rattle.tdb_commands.specs.declared.play.Play.TheVariants.{Join};
 ghost use Rattle.tdb_whole.specs.Whole.{WorldFits};
 ghost use Rattle.tdb_gen.specs.Numbers.{IsFrom};
 ghost use Rattle.tdb_gen.specs.Plays.{joins, gift, gifts};

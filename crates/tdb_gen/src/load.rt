@@ -15,7 +15,7 @@ use crate::summary::Summary;
 use std::alloc::Global;
 use tdb_disk::Disk;
 use tdb_log::Logs;
-use tdb_plays::Options;
+use tdb_commands::Options;
 use tdb_whole::World;
 use tdb_words::Header;
 

@@ -2,7 +2,7 @@
 
 ghost use Rattle.std.specs.Prelude.{◌≡◌, ◌≤◌, ◌∷◌, [], false, IfOk};
 ghost use Rattle.tdb_disk.specs.History.{seen};
-ghost use Rattle.tdb_plays.specs.declared.play.Play.TheVariants.{Turn as TurnOf};
+ghost use Rattle.tdb_commands.specs.declared.play.Play.TheVariants.{Turn as TurnOf};
 ghost use Rattle.tdb_whole.specs.Whole.{WorldFits};
 ghost use Rattle.tdb_gen.specs.Plays.{round, rounds};
 ghost use Rattle.tdb_gen.specs.Taking.{end_only, place, Rests, Taken};

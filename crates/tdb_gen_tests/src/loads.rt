@@ -7,7 +7,7 @@ use tdb_disk::{Disk, MemDisk};
 use tdb_gen::{Summary, generate};
 use tdb_log::Log;
 use tdb_open::Opened;
-use tdb_plays::Options;
+use tdb_commands::Options;
 use tdb_space::Direct;
 use tdb_words::{HashKind, Header, Order, header_bytes};
 

@@ -13,10 +13,10 @@ use Rattle.tdb_law.specs.Refusals.{Refusal, refusal, says, held_count, chain_byt
 use Rattle.tdb_law.specs.Refusals.Refusal.{OnlyReads, IsPrepared, LocksStand, NothingLocked, NeverNests, NoneOpen, IsDoomed}
 use Rattle.tdb_steps.specs.declared.flag.Flag.TheVariants as Flags
 use Rattle.tdb_inside.specs.Counted.{all_lock}
-use Rattle.tdb_plays.specs.InLaw.{law_command, law_reply}
-use Rattle.tdb_plays.specs.declared.command.Command.{Command}
-use Rattle.tdb_plays.specs.declared.command.Command.TheVariants as Given
-use Rattle.tdb_plays.specs.declared.options.Options.{Options}
+use Rattle.tdb_commands.specs.InLaw.{law_command, law_reply}
+use Rattle.tdb_commands.specs.declared.command.Command.{Command}
+use Rattle.tdb_commands.specs.declared.command.Command.TheVariants as Given
+use Rattle.tdb_commands.specs.declared.options.Options.{Options}
 use Rattle.tdb_holder.specs.declared.refusing.Level.{Level}
 use Rattle.tdb_holder.specs.Refusing.{StandsAt, is_writer, passes_prepared, counted_with, commit_told, inside_told}
 use Rattle.tdb_holder.proofs.Counts.{total_counted}

@@ -7,8 +7,8 @@ use Rattle.tdb_locks.specs.HeldLocks.{HeldLocks, AreCounts, count_of, count_of_a
 use Rattle.tdb_locks.specs.declared.kind.Kind.{Kind}
 use Rattle.tdb_law.specs.Openers.{Own, all_count, explicit_locks}
 use Rattle.tdb_inside.specs.Counted.{all_lock, IsCounted}
-use Rattle.tdb_plays.specs.Counts.{counts_of}
-use Rattle.tdb_plays.proofs.Counts.{alike_counts, chain_or_none, got, no_chain, none_of, some_if, some_of, sum_counted}
+use Rattle.tdb_commands.specs.Counts.{counts_of}
+use Rattle.tdb_commands.proofs.Counts.{alike_counts, chain_or_none, got, no_chain, none_of, some_if, some_of, sum_counted}
 
 same_all : (all : Option (Kind × ℕ)) → all_count (all_lock all) ≡ count_of_all all
 same_all None = refl

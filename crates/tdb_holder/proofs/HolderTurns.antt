@@ -42,18 +42,18 @@ use Rattle.tdb_commit.specs.declared.preparing.PrepareTurn.TheVariants as Prepar
 use Rattle.tdb_commit.specs.declared.starting.Starting.{Starting}
 use Rattle.tdb_commit.specs.declared.starting.Starting.TheVariants as Starts
 use Rattle.tdb_commit.specs.declared.starting.StartTurn.TheVariants as StartTurn
-use Rattle.tdb_plays.specs.InLaw.{law_command, law_turn}
-use Rattle.tdb_plays.specs.declared.command.Command.{Command}
-use Rattle.tdb_plays.specs.declared.command.Command.TheVariants as Given
+use Rattle.tdb_commands.specs.InLaw.{law_command, law_turn}
+use Rattle.tdb_commands.specs.declared.command.Command.{Command}
+use Rattle.tdb_commands.specs.declared.command.Command.TheVariants as Given
 use Rattle.tdb_holder.specs.declared.open_txn.OpenTxn.{OpenTxn}
-use Rattle.tdb_plays.specs.declared.options.Options.{Options}
+use Rattle.tdb_commands.specs.declared.options.Options.{Options}
 use Rattle.tdb_holder.specs.declared.stage.Stage.{Stage}
 use Rattle.tdb_holder.specs.declared.stage.Stage.TheVariants as At
 use Rattle.tdb_holder.specs.declared.stage.Went.{Went}
 use Rattle.tdb_holder.specs.declared.wanting.Wants.{Wants}
 use Rattle.tdb_holder.specs.declared.wanting.Wants.TheVariants as Wants
 use Rattle.tdb_holder.specs.Ends.{task_of, IsBlocked, IsOuter}
-use Rattle.tdb_plays.specs.Short.{IsShortCommand}
+use Rattle.tdb_commands.specs.Short.{IsShortCommand}
 use Rattle.tdb_holder.specs.Holders.{is_idle, stage_depth, with_command}
 use Rattle.tdb_holder.specs.Open.{HasOpen, OpenFits}
 use Rattle.tdb_holder.specs.Stages.{is_closing, stage_task, Known, IsFit, IsSide, KnowsFile, MayBeGiven}

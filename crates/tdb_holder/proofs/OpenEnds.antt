@@ -35,11 +35,11 @@ use Rattle.tdb_commit.specs.declared.preparing.PrepareStage.TheVariants.{Unchang
 use Rattle.tdb_inside.specs.OwnTxns.{image_of}
 use Rattle.tdb_inside.specs.Laws.{IsEnd}
 use Rattle.tdb_inside.specs.Turns.{EndsInside}
-use Rattle.tdb_plays.specs.InLaw.{law_command, law_turn}
-use Rattle.tdb_plays.specs.declared.command.Command.{Command as Given}
-use Rattle.tdb_plays.specs.declared.command.Command.TheVariants as Names
+use Rattle.tdb_commands.specs.InLaw.{law_command, law_turn}
+use Rattle.tdb_commands.specs.declared.command.Command.{Command as Given}
+use Rattle.tdb_commands.specs.declared.command.Command.TheVariants as Names
 use Rattle.tdb_holder.specs.declared.open_txn.OpenTxn.{OpenTxn}
-use Rattle.tdb_plays.specs.declared.options.Options.{Options}
+use Rattle.tdb_commands.specs.declared.options.Options.{Options}
 use Rattle.tdb_holder.specs.declared.stage.Stage.{Stage}
 use Rattle.tdb_holder.specs.declared.stage.Stage.TheVariants as At
 use Rattle.tdb_holder.specs.declared.stage.Went.{Went}

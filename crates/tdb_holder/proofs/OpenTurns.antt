@@ -30,10 +30,10 @@ use Rattle.tdb_inside.specs.Turns.{TurnsInside}
 use Rattle.tdb_inside.specs.Walks.{mark_in, WalkedInside}
 use Rattle.tdb_inside.proofs.Inside.{same_either}
 use Rattle.tdb_inside.proofs.Lifted.{walks_are_lawful}
-use Rattle.tdb_plays.specs.InLaw.{law_command, law_reply}
-use Rattle.tdb_plays.specs.declared.command.Command.{Command as Given}
+use Rattle.tdb_commands.specs.InLaw.{law_command, law_reply}
+use Rattle.tdb_commands.specs.declared.command.Command.{Command as Given}
 use Rattle.tdb_holder.specs.declared.open_txn.OpenTxn.{OpenTxn}
-use Rattle.tdb_plays.specs.declared.options.Options.{Options}
+use Rattle.tdb_commands.specs.declared.options.Options.{Options}
 use Rattle.tdb_holder.specs.declared.stage.Stage.TheVariants as At
 use Rattle.tdb_holder.specs.Ends.{task_of, TurnLeaves}
 use Rattle.tdb_holder.specs.Open.{GoesOn}

@@ -33,12 +33,12 @@ use Rattle.tdb_inside.specs.Walks.{mark_in, with_cursor, RestsIn, RestsInside, W
 use Rattle.tdb_inside.specs.Walks.WalkedInside.{shifts}
 use Rattle.tdb_inside.proofs.Turned.{run_inside}
 use Rattle.tdb_inside.proofs.Nested.{prepares_inside, refuses_inside}
-use Rattle.tdb_plays.specs.InLaw.{law_command, law_reply}
-use Rattle.tdb_plays.specs.declared.command.Command.{Command as Given}
-use Rattle.tdb_plays.specs.declared.command.Command.TheVariants as Names
+use Rattle.tdb_commands.specs.InLaw.{law_command, law_reply}
+use Rattle.tdb_commands.specs.declared.command.Command.{Command as Given}
+use Rattle.tdb_commands.specs.declared.command.Command.TheVariants as Names
 use Rattle.tdb_steps.specs.declared.flag.Flag.TheVariants as Flags
 use Rattle.std.specs.Option.{option_map}
-use Rattle.tdb_plays.specs.declared.options.Options.{Options}
+use Rattle.tdb_commands.specs.declared.options.Options.{Options}
 use Rattle.tdb_holder.specs.declared.open_txn.OpenTxn.{OpenTxn}
 use Rattle.tdb_holder.specs.Given.{IsInside as StaysInside}
 use Rattle.tdb_holder.specs.Open.{HasOpen, GoesOn}

@@ -12,10 +12,10 @@ use Rattle.tdb_law.specs.Refusals.{Refusal, refusal, says}
 use Rattle.tdb_law.specs.Refusals.Refusal.{OnlyReads, IsPrepared}
 use Rattle.tdb_steps.specs.declared.flag.Flag.TheVariants as Flags
 use Rattle.tdb_inside.specs.Counted.{IsCounted}
-use Rattle.tdb_plays.specs.InLaw.{law_command, law_reply, options_of}
-use Rattle.tdb_plays.specs.declared.command.Command.{Command}
-use Rattle.tdb_plays.specs.declared.command.Command.TheVariants as Given
-use Rattle.tdb_plays.specs.declared.options.Options.{Options}
+use Rattle.tdb_commands.specs.InLaw.{law_command, law_reply, options_of}
+use Rattle.tdb_commands.specs.declared.command.Command.{Command}
+use Rattle.tdb_commands.specs.declared.command.Command.TheVariants as Given
+use Rattle.tdb_commands.specs.declared.options.Options.{Options}
 use Rattle.tdb_holder.specs.declared.refusing.Level.{Level}
 use Rattle.tdb_holder.specs.Prepared.{prepared_told}
 use Rattle.tdb_holder.specs.Refusing.{is_writer, passes_prepared, StandsAt}

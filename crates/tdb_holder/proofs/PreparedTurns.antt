@@ -36,10 +36,10 @@ use Rattle.tdb_beside.specs.Sides.{Past, Side}
 use Rattle.tdb_commit.specs.Commits.{RestsAt}
 use Rattle.tdb_commit.specs.Holding.{OthersHold}
 use Rattle.tdb_commit.specs.declared.finishing.Finishing.TheVariants.{Open}
-use Rattle.tdb_plays.specs.InLaw.{law_command, law_reply}
-use Rattle.tdb_plays.specs.declared.command.Command.{Command}
-use Rattle.tdb_plays.specs.declared.command.Command.TheVariants as Given
-use Rattle.tdb_plays.specs.declared.options.Options.{Options}
+use Rattle.tdb_commands.specs.InLaw.{law_command, law_reply}
+use Rattle.tdb_commands.specs.declared.command.Command.{Command}
+use Rattle.tdb_commands.specs.declared.command.Command.TheVariants as Given
+use Rattle.tdb_commands.specs.declared.options.Options.{Options}
 use Rattle.tdb_holder.specs.declared.stage.PreparedTxn.{PreparedTxn}
 use Rattle.tdb_holder.specs.declared.stage.PreparedTxn.TheVariants.{Opened, Nothing}
 use Rattle.tdb_holder.specs.declared.stage.Stage.{Stage}

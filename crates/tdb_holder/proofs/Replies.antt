@@ -20,7 +20,7 @@ use Rattle.tdb_law.specs.Effects.Effect.{effect_waits, effect_goes_on, effect_ch
 use Rattle.tdb_law.specs.Effects.Finds.{finds_pair, finds_end}
 use Rattle.tdb_steps.specs.PlainCommands.{reply_of}
 use Rattle.tdb_inside.specs.Turns.{TurnsInside}
-use Rattle.tdb_plays.specs.InLaw.{law_reply}
+use Rattle.tdb_commands.specs.InLaw.{law_reply}
 
 -- the reply names another opener
 abbrev is_busy : Law.Reply → Bool

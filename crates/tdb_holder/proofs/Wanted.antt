@@ -34,11 +34,11 @@ use Rattle.tdb_commit.specs.declared.preparing.PrepareStage.TheVariants.{Unchang
 use Rattle.tdb_commit.specs.declared.starting.Starting.{Starting}
 use Rattle.tdb_commit.specs.declared.starting.Starting.TheVariants as Starts
 use Rattle.tdb_commit.proofs.Lawful.{commit_holds, finish_holds, planned_before, start_holds}
-use Rattle.tdb_plays.specs.InLaw.{law_command}
-use Rattle.tdb_plays.specs.declared.command.Command.{Command}
-use Rattle.tdb_plays.specs.declared.command.Command.TheVariants as Given
+use Rattle.tdb_commands.specs.InLaw.{law_command}
+use Rattle.tdb_commands.specs.declared.command.Command.{Command}
+use Rattle.tdb_commands.specs.declared.command.Command.TheVariants as Given
 use Rattle.tdb_holder.specs.declared.open_txn.OpenTxn.{OpenTxn}
-use Rattle.tdb_plays.specs.declared.options.Options.{Options}
+use Rattle.tdb_commands.specs.declared.options.Options.{Options}
 use Rattle.tdb_holder.specs.declared.stage.PreparedTxn.TheVariants.{Nothing}
 use Rattle.tdb_holder.specs.declared.stage.Stage.{Stage}
 use Rattle.tdb_holder.specs.declared.stage.Stage.TheVariants as At

@@ -11,9 +11,9 @@ use Rattle.tdb_inside.specs.Counted.{IsCounted}
 use Rattle.tdb_inside.specs.OwnTxns.{law_txn, image_of, form_of}
 use Rattle.tdb_inside.specs.Turns.{TurnsInside}
 use Rattle.tdb_inside.specs.Walks.{mark_in, RestsInside, WalkedInside}
-use Rattle.tdb_plays.specs.declared.options.Options.{Options}
+use Rattle.tdb_commands.specs.declared.options.Options.{Options}
 use Rattle.tdb_holder.specs.declared.open_txn.OpenTxn.{OpenTxn}
-use Rattle.tdb_plays.specs.InLaw.{options_of}
+use Rattle.tdb_commands.specs.InLaw.{options_of}
 
 -- The opener has this transaction over a file with these bytes, these explicit locks, and this cursor.
 pub record HasOpen (o : Options) (t : OpenTxn) (base : List ℕ) (x : Own) : Type 0 where

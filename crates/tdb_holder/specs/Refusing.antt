@@ -6,10 +6,10 @@ use Rattle.tdb_locks.specs.HeldLocks.{HeldLocks, count_of, total_of}
 use Rattle.tdb_locks.specs.declared.turn.Reply.{Reply}
 use Rattle.tdb_law.specs.Openers.{Own, Txn}
 use Rattle.tdb_inside.specs.Counted.{IsCounted}
-use Rattle.tdb_plays.specs.declared.command.Command.{Command}
-use Rattle.tdb_plays.specs.declared.command.Command.TheVariants as Given
-use Rattle.tdb_plays.specs.declared.options.Options.{Options}
-use Rattle.tdb_plays.specs.InLaw.{options_of}
+use Rattle.tdb_commands.specs.declared.command.Command.{Command}
+use Rattle.tdb_commands.specs.declared.command.Command.TheVariants as Given
+use Rattle.tdb_commands.specs.declared.options.Options.{Options}
+use Rattle.tdb_commands.specs.InLaw.{options_of}
 use Rattle.tdb_holder.specs.declared.refusing.Level.{Level}
 
 -- The opener has a transaction at this level, and these explicit locks.

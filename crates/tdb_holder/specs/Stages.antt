@@ -31,17 +31,17 @@ use Rattle.tdb_commit.specs.declared.preparing.Preparing.{Preparing}
 use Rattle.tdb_commit.specs.declared.starting.Starting.{Starting}
 use Rattle.tdb_commit.specs.declared.starting.Starting.TheVariants as Starts
 use Rattle.tdb_inside.specs.Walks.{mark_in, RestsInside}
-use Rattle.tdb_plays.specs.InLaw.{law_command, options_of}
-use Rattle.tdb_plays.specs.declared.command.Command.{Command}
-use Rattle.tdb_plays.specs.declared.command.Command.TheVariants as Given
+use Rattle.tdb_commands.specs.InLaw.{law_command, options_of}
+use Rattle.tdb_commands.specs.declared.command.Command.{Command}
+use Rattle.tdb_commands.specs.declared.command.Command.TheVariants as Given
 use Rattle.tdb_beside.specs.Sides.{Past, Side}
-use Rattle.tdb_plays.specs.declared.options.Options.{Options}
+use Rattle.tdb_commands.specs.declared.options.Options.{Options}
 use Rattle.tdb_holder.specs.declared.stage.PreparedTxn.{PreparedTxn}
 use Rattle.tdb_holder.specs.declared.stage.PreparedTxn.TheVariants.{Opened, Nothing}
 use Rattle.tdb_holder.specs.declared.stage.Stage.{Stage}
 use Rattle.tdb_holder.specs.declared.stage.Stage.TheVariants as At
 use Rattle.tdb_holder.specs.Ends.{task_of, HoldsIn, IsOuter}
-use Rattle.tdb_plays.specs.Short.{IsShortCommand}
+use Rattle.tdb_commands.specs.Short.{IsShortCommand}
 use Rattle.tdb_holder.specs.Open.{HasOpen, OpenFits}
 use Rattle.tdb_holder.specs.Waits.{IsAlone}
 

@@ -7,8 +7,8 @@ use Rattle.tdb_locks.specs.declared.turn.Turn.TheVariants.{Done}
 use Rattle.tdb_commit.specs.Committings.{StepSyncs}
 use Rattle.tdb_commit.specs.Finishes.{FinishSyncs}
 use Rattle.tdb_commit.specs.Prepares.{StageSyncs}
-use Rattle.tdb_plays.specs.declared.command.Command.{Command}
-use Rattle.tdb_plays.specs.declared.command.Command.TheVariants as Given
+use Rattle.tdb_commands.specs.declared.command.Command.{Command}
+use Rattle.tdb_commands.specs.declared.command.Command.TheVariants as Given
 use Rattle.tdb_holder.specs.declared.stage.PreparedTxn.{PreparedTxn}
 use Rattle.tdb_holder.specs.declared.stage.PreparedTxn.TheVariants.{Opened, Nothing}
 use Rattle.tdb_holder.specs.declared.stage.Stage.{Stage}

@@ -19,11 +19,11 @@ use Rattle.tdb_steps.specs.Turns.{number_of}
 use Rattle.tdb_commit.specs.declared.starting.Starting.TheVariants.{Reading}
 use Rattle.tdb_beside.specs.Sides.{Past, Side}
 use Rattle.tdb_beside.specs.Own.{OwnTurned, side_wants}
-use Rattle.tdb_plays.specs.declared.options.Options.{Options}
+use Rattle.tdb_commands.specs.declared.options.Options.{Options}
 use Rattle.tdb_holder.specs.declared.stage.Stage.{Stage}
 use Rattle.tdb_holder.specs.declared.stage.Stage.TheVariants as At
 use Rattle.tdb_holder.specs.Ends.{HoldsIn}
-use Rattle.tdb_plays.specs.InLaw.{options_of}
+use Rattle.tdb_commands.specs.InLaw.{options_of}
 use Rattle.tdb_holder.specs.Stages.{is_closing, stage_records, Known, KnowsFile, IsSide}
 use Rattle.tdb_holder.specs.Waits.{IsAlone}
 

@@ -20,9 +20,9 @@ use Rattle.tdb_commit.specs.declared.starting.StartTurn.TheVariants as Starts
 use Rattle.tdb_commit.specs.declared.finishing.FinishTurn.{FinishTurn}
 use Rattle.tdb_commit.specs.declared.finishing.FinishTurn.TheVariants as Finishes
 use Rattle.tdb_law.specs.Openers.{Task}
-use Rattle.tdb_plays.specs.InLaw.{law_turn}
+use Rattle.tdb_commands.specs.InLaw.{law_turn}
 use Rattle.tdb_beside.specs.Sides.{Past, Side}
-use Rattle.tdb_plays.specs.declared.options.Options.{Options}
+use Rattle.tdb_commands.specs.declared.options.Options.{Options}
 use Rattle.tdb_holder.specs.Stages.{stage_task, Known, IsSide, KnowsFile}
 use Rattle.tdb_holder.specs.Turned.{MayTurn, StageTurned}
 use Rattle.tdb_holder.specs.declared.open_txn.OpenTxn.{OpenTxn}

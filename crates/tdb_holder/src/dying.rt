@@ -6,7 +6,7 @@ ghost use Rattle.tdb_holder.specs.Stages.{given_task, stage_task};
 
 use crate::stage::{PreparedTxn, Stage};
 use tdb_commit::{Committing, Finishing};
-use tdb_plays::Command;
+use tdb_commands::Command;
 
 /// Whether an opener with this command may die: it has none, or one that would end a transaction.
 fn may_die(command: &Option<Command>) -> bool

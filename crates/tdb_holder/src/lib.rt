@@ -24,4 +24,4 @@ pub use crate::lifts::side_turns;
 pub use crate::reads::files_are_read;
 pub use crate::waits::blocks_are_own;
 pub use crate::wanting::Wants;
-pub use tdb_plays::Options;
+pub use tdb_commands::Options;

@@ -6,12 +6,12 @@ ghost use Rattle.tdb_space.specs.Pairs.{home};
 ghost use Rattle.tdb_locks.specs.HeldLocks.{total_of, AreCounts};
 ghost use Rattle.tdb_law.specs.Openers.{Own};
 ghost use Rattle.tdb_law.specs.Refusals.{refusal, says};
-ghost use Rattle.tdb_plays.specs.InLaw.{law_command, law_reply};
+ghost use Rattle.tdb_commands.specs.InLaw.{law_command, law_reply};
 ghost use Rattle.tdb_holder.specs.Refusing.{commit_told, counted_with, inside_told, is_writer, passes_prepared, StandsAt};
-ghost use Rattle.tdb_plays.specs.Short.{IsShortCommand};
+ghost use Rattle.tdb_commands.specs.Short.{IsShortCommand};
 
 use tdb_locks::{Held, Reply};
-use tdb_plays::{Command, Options};
+use tdb_commands::{Command, Options};
 use tdb_words::{Bytes, Header, chain_of, hash_of};
 
 /// What of an opener's transaction, and of its cursor, decides which of its commands are refused.

@@ -5,7 +5,7 @@ ghost use Rattle.tdb_holder.specs.Wents.{goes_on, is_over};
 use crate::open_txn::OpenTxn;
 use tdb_commit::{Committing, Finishing, Preparing, Starting};
 use tdb_locks::{Reply, Turn};
-use tdb_plays::Command;
+use tdb_commands::Command;
 use tdb_txn::Prepared;
 
 /// What a Prepare has left of a transaction. It can't be dropped.

@@ -5,7 +5,7 @@ ghost use Rattle.tdb_disk.specs.Stop.{LeavesOnly, Leaves};
 ghost use Rattle.tdb_space.specs.Form.{form_in};
 ghost use Rattle.tdb_law.specs.Openers.{Task};
 ghost use Rattle.tdb_beside.specs.Sides.{Past, Side};
-ghost use Rattle.tdb_plays.specs.InLaw.{law_turn};
+ghost use Rattle.tdb_commands.specs.InLaw.{law_turn};
 ghost use Rattle.tdb_holder.specs.declared.stage.Stage.TheVariants as Stage;
 ghost use Rattle.tdb_holder.specs.Stages.{stage_task, Known, IsFitLeft, IsSide, KnowsFile};
 ghost use Rattle.tdb_holder.specs.Turned.{BeginsOn, MayTurn, StageTurned};
@@ -20,7 +20,7 @@ use tdb_commit::{StartTurn, Starting};
 use tdb_disk::Disk;
 use tdb_inside::OwnTxn;
 use tdb_locks::{Locks, Reply, Turn};
-use tdb_plays::Options;
+use tdb_commands::Options;
 use tdb_space::Io;
 use tdb_words::Header;
 

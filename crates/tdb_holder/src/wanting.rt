@@ -7,7 +7,7 @@ use crate::open_txn::OpenTxn;
 use crate::stage::{PreparedTxn, Stage};
 use tdb_commit::{Committing, PrepareStage, Preparing, Starting};
 use tdb_locks::Kind;
-use tdb_plays::Command;
+use tdb_commands::Command;
 
 /// What the next turn wants of the lock bytes that its opener doesn't hold yet.
 #[derive(Clone, Copy, Debug, PartialEq, Eq)]

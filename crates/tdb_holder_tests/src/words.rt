@@ -1,9 +1,9 @@
 //! Commands by words.
 ghost use Rattle.std.specs.Prelude.{IfOk};
-ghost use Rattle.tdb_plays.specs.Short.{IsShortCommand};
+ghost use Rattle.tdb_commands.specs.Short.{IsShortCommand};
 
 use std::alloc::{AllocError, Global};
-use tdb_plays::Command;
+use tdb_commands::Command;
 use tdb_steps::Flag;
 use tdb_words::Bytes;
 

@@ -8,7 +8,7 @@ use Rattle.tdb_space.specs.Opening.{Opens}
 use Rattle.tdb_space.proofs.RecoverySteps.Steps.{restored_length}
 use Rattle.tdb_space.proofs.Opening.Undone.{old_length, read_as_it_is}
 use Rattle.tdb_log.specs.Logs.{Logged}
-use Rattle.tdb_plays.specs.declared.options.Options.{Options}
+use Rattle.tdb_commands.specs.declared.options.Options.{Options}
 use Rattle.tdb_open.specs.declared.halt.Halt.{Halt}
 use Rattle.tdb_open.specs.declared.halt.Halt.TheVariants as H
 use Rattle.tdb_open.specs.declared.halt.Refusal.TheVariants.{TooLong}

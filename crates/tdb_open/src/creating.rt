@@ -13,7 +13,7 @@ ghost use Rattle.tdb_open.specs.Loading.{IsJustLoaded};
 
 use std::alloc::Global;
 use tdb_disk::{Disk, DiskFault};
-use tdb_plays::Options;
+use tdb_commands::Options;
 use tdb_whole::World;
 use tdb_words::{HashKind, Header, Order, header_bytes};
 use thiserror::Error;

@@ -16,7 +16,7 @@ use crate::opening::Opened;
 use std::alloc::Global;
 use tdb_disk::Disk;
 use tdb_log::Logs;
-use tdb_plays::Options;
+use tdb_commands::Options;
 use tdb_whole::World;
 
 /// Opens the file on a disk, which isn't too long, to read it alone or not. The last log is told what the opening

@@ -13,8 +13,8 @@ use Rattle.tdb_law.specs.Beginning.{nobody}
 use Rattle.tdb_law.proofs.Tests.{never_true}
 use Rattle.tdb_steps.specs.Holdings.{table_of}
 use Rattle.tdb_openers.specs.Given.{IsWellHeld}
-use Rattle.tdb_plays.specs.declared.options.Options.{Options}
-use Rattle.tdb_plays.specs.InLaw.{options_of}
+use Rattle.tdb_commands.specs.declared.options.Options.{Options}
+use Rattle.tdb_commands.specs.InLaw.{options_of}
 use Rattle.tdb_openers.specs.declared.opener.Opener.{Opener}
 use Rattle.tdb_law.specs.Layout.{chains_in, mark_of}
 use Rattle.tdb_law.specs.Walks.{Shift}

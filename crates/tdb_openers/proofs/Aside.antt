@@ -13,7 +13,7 @@ use Rattle.tdb_locks.specs.declared.kind.Kind.TheVariants.{Read, Write}
 use Rattle.tdb_locks.specs.declared.locks.LockRefusal.{LockRefusal}
 use Rattle.tdb_locks.specs.declared.locks.LockRefusal.TheVariants.{Conflict, Memory}
 use Rattle.tdb_locks.specs.declared.piece.Piece.{Piece}
-use Rattle.tdb_plays.specs.InLaw.{law_opener}
+use Rattle.tdb_commands.specs.InLaw.{law_opener}
 use Rattle.tdb_law.specs.Lines.{most_openers}
 use Rattle.tdb_law.specs.Rows.{lock_all, all_end}
 use Rattle.tdb_law.specs.Held.{covers, all_held, holding}
@@ -32,7 +32,7 @@ use Rattle.tdb_openers.specs.States.{WorldStands, FileStands}
 use Rattle.tdb_openers.specs.Turning.{law_table}
 use Rattle.tdb_openers.specs.Worlds.{World, IsNumber, Stands, BytesStand}
 use Rattle.tdb_openers.specs.declared.opener.Opener.{Opener}
-use Rattle.tdb_plays.specs.declared.options.Options.{Options}
+use Rattle.tdb_commands.specs.declared.options.Options.{Options}
 use Rattle.tdb_openers.proofs.Beside.{all_alone}
 use Rattle.tdb_openers.proofs.Granted.{none_held_there}
 use Rattle.tdb_openers.proofs.Putting.{by_number, numbered, put_numbered}

@@ -14,7 +14,7 @@ use Rattle.tdb_beside.specs.Turns.{without_task}
 use Rattle.tdb_beside.specs.Turns.EndsAtOnce.{ends_numbered}
 use Rattle.tdb_beside.proofs.Idle.{end_is_turned}
 use Rattle.tdb_beside.proofs.Parted.{put_back}
-use Rattle.tdb_plays.specs.InLaw.{law_opener, law_command}
+use Rattle.tdb_commands.specs.InLaw.{law_opener, law_command}
 use Rattle.tdb_openers.specs.declared.opener.Opener.{Opener}
 use Rattle.tdb_openers.specs.declared.job.Job.{Job}
 use Rattle.tdb_openers.specs.declared.job.Job.TheVariants as Jobs

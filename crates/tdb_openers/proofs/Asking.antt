@@ -14,10 +14,10 @@ use Rattle.tdb_law.specs.Openers.{Own, all_count}
 use Rattle.tdb_law.specs.Refusals.{refusal, says, has_chains, has_all, first_that_applies}
 use Rattle.tdb_law.specs.Refusals.Refusal.{OnlyReads, LocksStand, NothingLocked}
 use Rattle.tdb_steps.specs.declared.flag.Flag.TheVariants as Flags
-use Rattle.tdb_plays.specs.InLaw.{law_command, law_reply}
-use Rattle.tdb_plays.specs.declared.command.Command.{Command}
-use Rattle.tdb_plays.specs.declared.command.Command.TheVariants as Given
-use Rattle.tdb_plays.specs.declared.options.Options.{Options}
+use Rattle.tdb_commands.specs.InLaw.{law_command, law_reply}
+use Rattle.tdb_commands.specs.declared.command.Command.{Command}
+use Rattle.tdb_commands.specs.declared.command.Command.TheVariants as Given
+use Rattle.tdb_commands.specs.declared.options.Options.{Options}
 use Rattle.tdb_openers.specs.Openers.{AtRest, own_with, all_of}
 use Rattle.tdb_openers.specs.Given.{held_count, holds_chains, reads_records, unlock_told, unlock_all_told}
 use Rattle.tdb_openers.proofs.Owned.{has_read, own_has, own_count, own_total}

@@ -20,12 +20,12 @@ use Rattle.tdb_law.proofs.Tests.{or_cases}
 use Rattle.tdb_steps.specs.LockRows.{strength_of, covers_all}
 use Rattle.tdb_steps.specs.Holdings.{KeptBeside}
 use Rattle.tdb_steps.specs.declared.rows.Region.TheVariants.{Chain, FreeList, AllRecords}
-use Rattle.tdb_plays.specs.declared.options.Options.{Options}
+use Rattle.tdb_commands.specs.declared.options.Options.{Options}
 use Rattle.tdb_openers.specs.Openers.{AtRest, own_with, all_of}
 use Rattle.tdb_openers.specs.Given.{holds_chains, reads_records}
 use Rattle.tdb_openers.specs.Turning.{StandsWell, resting}
 use Rattle.tdb_openers.proofs.Rests.{stand_most, stand_below, stand_nowhere}
-use Rattle.tdb_plays.proofs.Counts.{no_chain, chain_or_none}
+use Rattle.tdb_commands.proofs.Counts.{no_chain, chain_or_none}
 use Rattle.tdb_openers.proofs.Owned.{own_count}
 use Rattle.tdb_openers.proofs.Keeping.{counts_keep, kept_is, counted_kept, none_keep, counts_most}
 

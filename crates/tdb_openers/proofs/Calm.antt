@@ -30,7 +30,7 @@ use Rattle.tdb_walk.specs.Cursors.{dead_of}
 use Rattle.tdb_walk.specs.InLaw.{StandsAfter, is_purging}
 use Rattle.tdb_walk.proofs.Holding.{granted}
 use Rattle.tdb_openers.specs.Calm.{WritesNoRecord, IsMidway}
-use Rattle.tdb_plays.specs.declared.options.Options.{Options}
+use Rattle.tdb_commands.specs.declared.options.Options.{Options}
 use Rattle.tdb_openers.specs.declared.opener.Opener.{Opener}
 use Rattle.tdb_openers.specs.States.{WorldStands}
 use Rattle.tdb_openers.specs.Turning.{OpenerHolds}

@@ -6,10 +6,10 @@ use Rattle.std.specs.FinMap.{insert, remove}
 use Rattle.tdb_locks.specs.HeldLocks.{HeldLocks, AreCounts, Raises, Lowers, SetsAll, count_of}
 use Rattle.tdb_locks.specs.declared.kind.Kind.{Kind}
 use Rattle.tdb_law.specs.Openers.{Own, Counts, count_at, count_more, count_less}
-use Rattle.tdb_plays.specs.declared.options.Options.{Options}
+use Rattle.tdb_commands.specs.declared.options.Options.{Options}
 use Rattle.tdb_openers.specs.Openers.{AtRest, own_with, all_of}
-use Rattle.tdb_plays.proofs.Counts.{counts_put, counts_out, counts_same}
-use Rattle.tdb_plays.specs.Counts.{counts_of}
+use Rattle.tdb_commands.proofs.Counts.{counts_put, counts_out, counts_same}
+use Rattle.tdb_commands.specs.Counts.{counts_of}
 use Rattle.tdb_openers.proofs.Owned.{own_count}
 
 module _ (options : Options) (live : Bool) (old new : HeldLocks) (rest : AtRest) (counts : AreCounts old.chains) (counts_after : AreCounts new.chains) where

@@ -22,12 +22,12 @@ use Rattle.tdb_law.specs.Counting.{raised}
 use Rattle.tdb_law.specs.Effects.{task_left}
 use Rattle.tdb_law.specs.Turned.{number_next}
 use Rattle.tdb_law.specs.Images.{image_map}
-use Rattle.tdb_plays.specs.InLaw.{law_turn}
+use Rattle.tdb_commands.specs.InLaw.{law_turn}
 use Rattle.tdb_steps.specs.Holdings.{HoldsBefore, LocksTurned}
 use Rattle.tdb_steps.specs.LockRows.{locks_in, AllStandAlone}
 use Rattle.tdb_steps.specs.Machines.{MapRow, MapTurned, number_after}
 use Rattle.tdb_steps.specs.PlainCommands.{turn_of}
-use Rattle.tdb_plays.specs.declared.options.Options.{Options}
+use Rattle.tdb_commands.specs.declared.options.Options.{Options}
 use Rattle.tdb_openers.specs.declared.job.Job.TheVariants as Jobs
 use Rattle.tdb_openers.specs.declared.job.Checking.{Checking}
 use Rattle.tdb_openers.specs.declared.job.Checking.TheVariants.{Begun, Records, FreeList, Counted}

@@ -14,12 +14,12 @@ use Rattle.tdb_law.specs.Held.{covers, held, locked, kept}
 use Rattle.tdb_law.specs.World.{HasFewChains}
 use Rattle.tdb_law.proofs.Covered.{none_held}
 use Rattle.tdb_law.proofs.Locks.{within_covers}
-use Rattle.tdb_plays.specs.declared.command.Command.TheVariants as Given
+use Rattle.tdb_commands.specs.declared.command.Command.TheVariants as Given
 use Rattle.tdb_steps.specs.LockRows.{locks_in, lock_of, start_of, end_of, AllStandAlone}
 use Rattle.tdb_steps.specs.declared.rows.LockRow.{LockRow}
 use Rattle.std.proofs.lemmas.Bool.{false_from_ne_true}
 use Rattle.tdb_steps.specs.Holdings.{table_of, HoldsBefore}
-use Rattle.tdb_plays.specs.declared.options.Options.{Options}
+use Rattle.tdb_commands.specs.declared.options.Options.{Options}
 use Rattle.tdb_openers.specs.Openers.{AtRest, own_with}
 use Rattle.tdb_openers.specs.Given.{holds_chains}
 use Rattle.tdb_openers.specs.Turning.{OpenerHolds, resting}

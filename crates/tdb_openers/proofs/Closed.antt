@@ -9,7 +9,7 @@ use Rattle.tdb_law.specs.World.{State}
 use Rattle.tdb_law.proofs.Walking.{put_here, put_else}
 use Rattle.tdb_beside.specs.Sides.{but_at}
 use Rattle.tdb_beside.proofs.Parted.{put_back}
-use Rattle.tdb_plays.specs.InLaw.{law_opener}
+use Rattle.tdb_commands.specs.InLaw.{law_opener}
 use Rattle.tdb_steps.specs.Holdings.{strength, table_of}
 use Rattle.tdb_walk.specs.declared.standing.Standing.TheVariants.{Past}
 use Rattle.tdb_walk.specs.declared.stage.Stage.TheVariants.{Rested}

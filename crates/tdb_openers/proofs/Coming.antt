@@ -3,8 +3,8 @@ use Rattle.std.proofs.Common.{◌≡◌, ℕ, ◌+◌, ◌<◌, List, [], ◌∷
 use Rattle.tdb_space.specs.Form.{form_in}
 use Rattle.tdb_words.specs.declared.header.Header.{Header}
 use Rattle.tdb_law.specs.Events.{Joins, Given}
-use Rattle.tdb_plays.specs.declared.command.Command.{Command}
-use Rattle.tdb_plays.specs.InLaw.{law_opener, law_command}
+use Rattle.tdb_commands.specs.declared.command.Command.{Command}
+use Rattle.tdb_commands.specs.InLaw.{law_opener, law_command}
 use Rattle.tdb_openers.specs.declared.opener.Opener.{Opener}
 use Rattle.tdb_openers.specs.declared.job.Task.{Task}
 use Rattle.tdb_openers.specs.Given.{IsWellHeld}

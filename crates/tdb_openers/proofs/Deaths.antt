@@ -12,10 +12,10 @@ use Rattle.tdb_law.specs.Layout.{chains_in, mark_of}
 use Rattle.tdb_law.specs.Walks.{Shift}
 use Rattle.tdb_law.specs.Events.{Dies}
 use Rattle.tdb_law.proofs.Tests.{never_true}
-use Rattle.tdb_plays.specs.InLaw.{law_opener}
+use Rattle.tdb_commands.specs.InLaw.{law_opener}
 use Rattle.tdb_steps.specs.Holdings.{strength, table_of}
 use Rattle.tdb_walk.specs.declared.standing.Standing.TheVariants.{On, Past}
-use Rattle.tdb_plays.specs.declared.options.Options.{Options}
+use Rattle.tdb_commands.specs.declared.options.Options.{Options}
 use Rattle.tdb_openers.specs.declared.opener.Opener.{Opener}
 use Rattle.tdb_openers.specs.declared.job.Job.{Job}
 use Rattle.tdb_openers.specs.declared.job.Job.TheVariants as Jobs

@@ -22,8 +22,8 @@ use Rattle.tdb_law.specs.Effects.Effect.{effect_answers}
 use Rattle.tdb_law.specs.Counting.{number_by}
 use Rattle.tdb_law.specs.Images.{image_map}
 use Rattle.tdb_law.proofs.Covered.{none_held}
-use Rattle.tdb_plays.specs.InLaw.{law_command}
-use Rattle.tdb_plays.specs.declared.command.Command.{Command as GivenCommand}
+use Rattle.tdb_commands.specs.InLaw.{law_command}
+use Rattle.tdb_commands.specs.declared.command.Command.{Command as GivenCommand}
 use Rattle.tdb_walk.proofs.Holding.{granted, locks_are}
 use Rattle.tdb_walk.proofs.Rows.{row_end, counts_no, told_is, map_is, own_is, ready, unchanged, number_is}
 use Rattle.tdb_openers.specs.Openers.{AtRest, IsRefused}

@@ -28,7 +28,7 @@ use Rattle.tdb_steps.specs.Order.{IsAfter}
 use Rattle.tdb_steps.specs.PlainCommands.{key_of}
 use Rattle.tdb_steps.specs.Machines.{Doing, DoingKnows}
 use Rattle.tdb_steps.proofs.Knowledge.{machine_knowledge_stays}
-use Rattle.tdb_plays.specs.declared.options.Options.{Options}
+use Rattle.tdb_commands.specs.declared.options.Options.{Options}
 use Rattle.tdb_openers.specs.declared.opener.Opener.{Opener}
 use Rattle.tdb_openers.specs.declared.job.Job.{Job}
 use Rattle.tdb_openers.specs.declared.job.Job.TheVariants as Jobs

@@ -8,7 +8,7 @@ use Rattle.tdb_law.specs.Held.{held, kept, holding}
 use Rattle.tdb_law.proofs.Covered as Covered
 use Rattle.tdb_steps.specs.Holdings.{table_of}
 use Rattle.tdb_openers.specs.Given.{IsWellHeld}
-use Rattle.tdb_plays.specs.declared.options.Options.{Options}
+use Rattle.tdb_commands.specs.declared.options.Options.{Options}
 use Rattle.tdb_openers.specs.declared.opener.Opener.{Opener}
 use Rattle.tdb_openers.specs.declared.job.Job.{Job}
 use Rattle.tdb_openers.specs.declared.job.Job.TheVariants as Jobs

@@ -12,16 +12,16 @@ use Rattle.tdb_locks.specs.declared.turn.Reply.{Reply}
 use Rattle.tdb_law.specs.Commands as Law
 use Rattle.tdb_law.specs.Refusals.{refusal, says}
 use Rattle.tdb_law.specs.Held.{kept, all_held}
-use Rattle.tdb_plays.specs.InLaw.{law_command, law_reply}
-use Rattle.tdb_plays.specs.declared.command.Command.{Command}
-use Rattle.tdb_plays.specs.declared.command.Command.TheVariants as Given
+use Rattle.tdb_commands.specs.InLaw.{law_command, law_reply}
+use Rattle.tdb_commands.specs.declared.command.Command.{Command}
+use Rattle.tdb_commands.specs.declared.command.Command.TheVariants as Given
 use Rattle.tdb_steps.specs.Holdings.{strength}
 use Rattle.tdb_steps.specs.LockRows.{covers_all}
-use Rattle.tdb_plays.specs.declared.options.Options.{Options}
+use Rattle.tdb_commands.specs.declared.options.Options.{Options}
 use Rattle.tdb_openers.specs.Openers.{AtRest, own_with, all_of}
 use Rattle.tdb_openers.specs.Given.{holds_chains, reads_records, unlock_all_told, IsWellHeld}
 use Rattle.tdb_openers.specs.Turning.{StandsWell, resting}
-use Rattle.tdb_plays.proofs.Counts.{no_chain}
+use Rattle.tdb_commands.proofs.Counts.{no_chain}
 use Rattle.tdb_openers.proofs.Rests.{stand_between}
 use Rattle.tdb_openers.proofs.Asking.{told_in, told_law}
 use Rattle.tdb_openers.proofs.Keeping.{kept_is, counts_keep, none_keep}

@@ -22,7 +22,7 @@ use Rattle.tdb_law.specs.Walks.{Lost, Shift, Walked}
 use Rattle.tdb_law.specs.Walks.Walked.{walk_steps, walk_rests, walk_ends}
 use Rattle.tdb_law.specs.Images.{image_map}
 use Rattle.tdb_law.specs.Turned.{number_next}
-use Rattle.tdb_plays.specs.declared.options.Options.{Options}
+use Rattle.tdb_commands.specs.declared.options.Options.{Options}
 use Rattle.tdb_openers.specs.declared.opener.Opener.{Opener}
 use Rattle.tdb_openers.specs.declared.job.Job.{Job}
 use Rattle.tdb_openers.specs.declared.job.Job.TheVariants as Jobs

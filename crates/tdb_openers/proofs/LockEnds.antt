@@ -23,12 +23,12 @@ use Rattle.tdb_law.specs.Openers.{count_at, count_less, all_more, all_less}
 use Rattle.tdb_law.specs.Held.{kept, covers}
 use Rattle.tdb_law.proofs.Locks.{covers_within}
 use Rattle.tdb_law.specs.World.{HasFewChains}
-use Rattle.tdb_plays.specs.InLaw.{law_turn}
+use Rattle.tdb_commands.specs.InLaw.{law_turn}
 use Rattle.tdb_steps.specs.LockRows.{lock_of, strength_of, is_covered, covers_all, IsLetGo}
 use Rattle.tdb_steps.proofs.Holdings.{want, let_go_at, others_changed}
 use Rattle.tdb_steps.specs.Holdings.{table_of, strength, KeptBeside}
 use Rattle.tdb_law.specs.Rows.{all_end}
-use Rattle.tdb_plays.specs.declared.options.Options.{Options}
+use Rattle.tdb_commands.specs.declared.options.Options.{Options}
 use Rattle.tdb_openers.specs.Openers.{AtRest, own_with, all_of}
 use Rattle.tdb_openers.specs.Given.{holds_chains, reads_records, unlock_told, IsWellHeld}
 use Rattle.tdb_openers.specs.Locked.{IsTaken, IsInTheWay, SameHeld, MayLock, LockingTurned, chain_row, all_row, waiting, at_once, more_of, less_of}

@@ -25,7 +25,7 @@ use Rattle.tdb_steps.specs.LockRows.{lock_of, strength_of, start_of, end_of, is_
 use Rattle.tdb_steps.specs.Holdings.{table_of, KeptBeside, HoldsBefore}
 use Rattle.tdb_steps.specs.declared.rows.LockRow.{LockRow}
 use Rattle.tdb_steps.proofs.Holdings.{want, lock_free, lock_blocked, lock_holds, others_changed, next_turn}
-use Rattle.tdb_plays.specs.declared.options.Options.{Options}
+use Rattle.tdb_commands.specs.declared.options.Options.{Options}
 use Rattle.tdb_openers.specs.Openers.{AtRest, own_with}
 use Rattle.tdb_openers.specs.Turning.{law_table, wants, resting}
 use Rattle.tdb_openers.specs.Locked.{IsTaken, MayLock, LockingTurned}

@@ -25,7 +25,7 @@ use Rattle.tdb_law.specs.Effects.Effect.{effect_waits, effect_starves, effect_nu
 use Rattle.tdb_law.proofs.Covered.{none_held}
 use Rattle.tdb_law.proofs.Locks.{covers_within, within_covers}
 use Rattle.tdb_steps.specs.Holdings.{strength, table_of}
-use Rattle.tdb_plays.specs.declared.options.Options.{Options}
+use Rattle.tdb_commands.specs.declared.options.Options.{Options}
 use Rattle.tdb_openers.specs.Openers.{AtRest, own_with}
 use Rattle.tdb_openers.specs.Turning.{law_table, wants, resting, TurnsLocks, TurnsFile}
 use Rattle.tdb_openers.specs.Ended.{MayCount}

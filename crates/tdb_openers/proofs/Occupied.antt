@@ -4,7 +4,7 @@ use Rattle.tdb_space.specs.Form.{Form, form_in}
 use Rattle.tdb_locks.specs.HeldLocks.{HeldLocks}
 use Rattle.tdb_law.specs.Held.{held, holding}
 use Rattle.tdb_law.proofs.Covered.{none_held}
-use Rattle.tdb_plays.specs.InLaw.{law_opener}
+use Rattle.tdb_commands.specs.InLaw.{law_opener}
 use Rattle.tdb_walk.specs.declared.standing.Standing.{Standing}
 use Rattle.tdb_walk.specs.declared.standing.Standing.TheVariants.{Before, On, Past}
 use Rattle.tdb_walk.specs.declared.stage.Stage.{Stage}

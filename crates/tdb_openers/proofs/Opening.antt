@@ -18,8 +18,8 @@ use Rattle.tdb_steps.specs.PlainCommands.{command_of}
 use Rattle.tdb_walk.specs.Cursors.{spot_of}
 use Rattle.tdb_walk.specs.InLaw.{is_purging}
 use Rattle.tdb_walk.proofs.Holding.{locks_are}
-use Rattle.tdb_plays.specs.declared.options.Options.{Options}
-use Rattle.tdb_plays.specs.InLaw.{options_of}
+use Rattle.tdb_commands.specs.declared.options.Options.{Options}
+use Rattle.tdb_commands.specs.InLaw.{options_of}
 use Rattle.tdb_openers.specs.declared.opener.Opener.{Opener}
 use Rattle.tdb_openers.specs.declared.job.Job.{Job}
 use Rattle.tdb_openers.specs.declared.job.Job.TheVariants as Jobs

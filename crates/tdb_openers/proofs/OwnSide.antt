@@ -8,7 +8,7 @@ use Rattle.tdb_law.specs.World.{State, IsSound}
 use Rattle.tdb_law.proofs.Tests.{never_true}
 use Rattle.tdb_beside.specs.Sides.{Past, Side, everywhere, beside, StandsAside}
 use Rattle.tdb_beside.proofs.Parted.{put_back}
-use Rattle.tdb_plays.specs.InLaw.{law_opener}
+use Rattle.tdb_commands.specs.InLaw.{law_opener}
 use Rattle.tdb_openers.specs.declared.opener.Opener.{Opener}
 use Rattle.tdb_openers.specs.declared.job.Task.{Task}
 use Rattle.tdb_openers.specs.Openers.{all_of, own_at, spot_at, spot_by, task_at, law_task}

@@ -8,10 +8,10 @@ use Rattle.tdb_locks.specs.declared.kind.Kind.TheVariants.{Read, Write}
 use Rattle.tdb_law.specs.Openers.{chain_locks, all_count, count_at}
 use Rattle.tdb_law.specs.Refusals.{has_chains, has_all}
 use Rattle.tdb_law.specs.Refusals as Law
-use Rattle.tdb_plays.specs.declared.options.Options.{Options}
+use Rattle.tdb_commands.specs.declared.options.Options.{Options}
 use Rattle.tdb_openers.specs.Openers.{AtRest, own_with, all_of}
 use Rattle.tdb_openers.specs.Given.{held_count, holds_chains, reads_records}
-use Rattle.tdb_plays.proofs.Counts.{counted, sum_counted}
+use Rattle.tdb_commands.proofs.Counts.{counted, sum_counted}
 
 same_all : (all : Option (Kind × ℕ)) → all_count (all_of all) ≡ count_of_all all
 same_all None = refl

@@ -25,7 +25,7 @@ use Rattle.tdb_law.specs.Refusals.{refusal}
 use Rattle.tdb_law.specs.Layout.{Place, IsStood, IsOffRecords, chains_in, mark_of}
 use Rattle.tdb_law.specs.Layout.Place.{off_chains, before_chain, on_record}
 use Rattle.tdb_law.proofs.Tests.{and_both}
-use Rattle.tdb_plays.specs.InLaw.{law_turn}
+use Rattle.tdb_commands.specs.InLaw.{law_turn}
 use Rattle.tdb_steps.specs.declared.plain.Plain.{Plain}
 use Rattle.tdb_steps.specs.declared.plain.Plain.TheVariants.{Fetch, Has, Store, Append, Delete, Wipe}
 use Rattle.tdb_steps.specs.declared.stage.Stage.{Stage}

@@ -17,12 +17,12 @@ use Rattle.tdb_law.specs.Effects.{task_left}
 use Rattle.tdb_law.specs.Turned.{number_next}
 use Rattle.tdb_law.specs.Images.{image_map}
 use Rattle.tdb_law.proofs.HandsOut.{image_answers}
-use Rattle.tdb_plays.specs.InLaw.{law_turn}
+use Rattle.tdb_commands.specs.InLaw.{law_turn}
 use Rattle.tdb_steps.specs.Holdings.{HoldsBefore, LocksTurned}
 use Rattle.tdb_steps.specs.LockRows.{locks_in, rows_of, AllStandAlone}
 use Rattle.tdb_steps.specs.Machines.{Doing, Fits, Leaves, MachineTurned, MapRow, number_after}
 use Rattle.tdb_steps.specs.PlainCommands.{command_of, turn_of}
-use Rattle.tdb_plays.specs.declared.options.Options.{Options}
+use Rattle.tdb_commands.specs.declared.options.Options.{Options}
 use Rattle.tdb_openers.specs.declared.job.Job.TheVariants as Jobs
 use Rattle.tdb_openers.specs.Openers.{AtRest, own_with}
 use Rattle.tdb_openers.specs.Turning.{TurnsLocks, TurnsFile, resting}

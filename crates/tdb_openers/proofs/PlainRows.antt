@@ -17,7 +17,7 @@ use Rattle.tdb_law.specs.Rows.{Lock, map_locks}
 use Rattle.tdb_law.specs.Held.{covers, locked, kept}
 use Rattle.tdb_law.specs.World.{HasFewChains}
 use Rattle.tdb_law.proofs.Locks.{within_covers}
-use Rattle.tdb_plays.specs.declared.command.Command.TheVariants as Given
+use Rattle.tdb_commands.specs.declared.command.Command.TheVariants as Given
 use Rattle.tdb_steps.specs.Holdings.{table_of, KeptBeside, HoldsBefore}
 use Rattle.tdb_steps.specs.LockRows.{locks_in, rows_of, covers_all, StandsAlone, AllStandAlone}
 use Rattle.tdb_steps.specs.PlainCommands.{key_of, command_of}
@@ -26,7 +26,7 @@ use Rattle.tdb_steps.specs.declared.plain.Plain.{Plain}
 use Rattle.tdb_steps.specs.declared.plain.Plain.TheVariants.{Fetch, Has, Store, Append, Delete, Wipe}
 use Rattle.tdb_steps.specs.declared.rows.Region.TheVariants.{Chain, FreeList, AllRecords}
 use Rattle.tdb_steps.specs.declared.rows.Rows.{Rows}
-use Rattle.tdb_plays.specs.declared.options.Options.{Options}
+use Rattle.tdb_commands.specs.declared.options.Options.{Options}
 use Rattle.tdb_openers.specs.Openers.{AtRest, own_with}
 use Rattle.tdb_openers.specs.Given.{holds_chains, reads_records}
 use Rattle.tdb_openers.specs.Turning.{OpenerHolds, StandsWell, resting}

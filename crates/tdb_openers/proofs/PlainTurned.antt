@@ -29,7 +29,7 @@ use Rattle.tdb_steps.specs.Machines.{MapRow, MapTurned, number_after}
 use Rattle.tdb_steps.specs.Machines.MapTurned.{map_waits, map_goes_on, map_changes, map_answers, map_starves, map_is_full, map_finishes}
 use Rattle.tdb_steps.specs.PlainCommands.{IsMapOf}
 use Rattle.tdb_steps.proofs.Holdings.{next_turn}
-use Rattle.tdb_plays.specs.declared.options.Options.{Options}
+use Rattle.tdb_commands.specs.declared.options.Options.{Options}
 use Rattle.tdb_openers.specs.Openers.{AtRest, own_with}
 use Rattle.tdb_openers.specs.Turning.{law_table, wants, resting, OpenerHolds, TurnsLocks}
 use Rattle.tdb_openers.proofs.Busy.{held_is, look_is}

@@ -12,7 +12,7 @@ use Rattle.tdb_law.specs.Commands.MapCommand.{Fetch, Has, Delete, Store, Insert,
 use Rattle.tdb_law.specs.Openers.{Map, has}
 use Rattle.tdb_law.specs.MapCommands.{reply, fetched}
 use Rattle.tdb_law.specs.Ends.{map_ends}
-use Rattle.tdb_plays.specs.InLaw.{law_reply, law_turn}
+use Rattle.tdb_commands.specs.InLaw.{law_reply, law_turn}
 use Rattle.tdb_steps.specs.PlainCommands.{reply_of, turn_of}
 
 abbrev pub recounted_reply : Law.Reply → Law.Reply

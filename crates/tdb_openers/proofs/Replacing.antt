@@ -20,7 +20,7 @@ use Rattle.tdb_openers.specs.declared.opener.Opener.{Opener}
 use Rattle.tdb_openers.specs.declared.job.Job.{Job}
 use Rattle.tdb_openers.specs.declared.job.Job.TheVariants as Jobs
 use Rattle.tdb_openers.specs.declared.job.Task.{Task}
-use Rattle.tdb_plays.specs.declared.options.Options.{Options}
+use Rattle.tdb_commands.specs.declared.options.Options.{Options}
 use Rattle.tdb_openers.specs.Laws.{IsPut, MayStand}
 use Rattle.tdb_openers.specs.Openers.{own_of, own_at, spot_at, place_at, spots_of, task_at, law_task, hands_of_task, hands_at, TaskKnows, OpenerKnows}
 use Rattle.tdb_openers.specs.States.{state_of, WorldStands, FileStands}

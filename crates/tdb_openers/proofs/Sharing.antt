@@ -25,7 +25,7 @@ use Rattle.tdb_openers.specs.declared.job.Job.{Job}
 use Rattle.tdb_openers.specs.declared.job.Job.TheVariants as Jobs
 use Rattle.tdb_openers.specs.declared.job.Task.{Task}
 use Rattle.tdb_openers.specs.declared.opener.Opener.{Opener}
-use Rattle.tdb_plays.specs.declared.options.Options.{Options}
+use Rattle.tdb_commands.specs.declared.options.Options.{Options}
 use Rattle.tdb_openers.proofs.AllHands.{joined_none}
 use Rattle.tdb_openers.proofs.Aside.{held_before, strong_some}
 use Rattle.tdb_openers.proofs.Beside.{all_here}

@@ -20,7 +20,7 @@ use Rattle.tdb_law.proofs.Walking.{put_else}
 use Rattle.tdb_beside.specs.Sides.{Past, Side, everywhere, beside}
 use Rattle.tdb_beside.specs.Shutting.{IsShutOut}
 use Rattle.tdb_beside.proofs.Shut.{others_shut_out}
-use Rattle.tdb_plays.specs.InLaw.{law_opener}
+use Rattle.tdb_commands.specs.InLaw.{law_opener}
 use Rattle.tdb_walk.specs.declared.standing.Standing.{Standing}
 use Rattle.tdb_walk.specs.declared.standing.Standing.TheVariants.{Before, On, Past as PastChains}
 use Rattle.tdb_walk.specs.Cursors.{IsPlaced, spot_of}

@@ -28,7 +28,7 @@ use Rattle.tdb_beside.proofs.Idle.{waiting_is_turned, end_is_turned}
 use Rattle.tdb_beside.proofs.Leaving.{leaving_is_turned}
 use Rattle.tdb_beside.proofs.Parted.{put_back}
 use Rattle.tdb_beside.proofs.Shut.{shut_out_meets}
-use Rattle.tdb_plays.specs.InLaw.{law_opener, law_command, law_reply, law_turn}
+use Rattle.tdb_commands.specs.InLaw.{law_opener, law_command, law_reply, law_turn}
 use Rattle.tdb_steps.specs.LockRows.{start_of, rows_of}
 use Rattle.tdb_steps.specs.Order.{IsAfter}
 use Rattle.tdb_steps.specs.PlainCommands.{command_of}

@@ -14,7 +14,7 @@ use Rattle.tdb_steps.specs.declared.stage.Stage.{Stage}
 use Rattle.tdb_steps.specs.declared.stage.Stage.TheVariants.{Begun, Chained, Looked, Listed, Taken, Changed, Wiping, Ending}
 use Rattle.tdb_steps.specs.Stages.{LiesThere, OfDelete, OfStore}
 use Rattle.tdb_steps.specs.Machines.{IsFit}
-use Rattle.tdb_plays.specs.declared.options.Options.{Options}
+use Rattle.tdb_commands.specs.declared.options.Options.{Options}
 use Rattle.tdb_openers.specs.declared.opener.Opener.{Opener}
 use Rattle.tdb_openers.specs.declared.job.Job.{Job}
 use Rattle.tdb_openers.specs.declared.job.Job.TheVariants as Jobs

@@ -10,7 +10,7 @@ use Rattle.tdb_law.specs.Openers.{Task as LawTask}
 use Rattle.tdb_law.specs.Held.{holding}
 use Rattle.tdb_law.specs.Lines.{most_openers}
 use Rattle.tdb_steps.specs.Holdings.{strength, table_of}
-use Rattle.tdb_plays.specs.declared.options.Options.{Options}
+use Rattle.tdb_commands.specs.declared.options.Options.{Options}
 use Rattle.tdb_openers.specs.declared.opener.Opener.{Opener}
 use Rattle.tdb_openers.specs.Openers.{own_of, own_at, spot_at, walk_of, steps_of, task_at, law_task, OpenerStands, WalkStands}
 use Rattle.tdb_openers.specs.States.{WorldStands}

@@ -9,8 +9,8 @@ use Rattle.tdb_locks.specs.declared.turn.Turn.TheVariants.{Step}
 use Rattle.tdb_law.specs.Openers.{View, Task as LawTask}
 use Rattle.tdb_law.specs.Effects.{task_left}
 use Rattle.tdb_law.specs.Turned.{Turned}
-use Rattle.tdb_plays.specs.InLaw.{law_opener, law_turn}
-use Rattle.tdb_plays.specs.declared.options.Options.{Options}
+use Rattle.tdb_commands.specs.InLaw.{law_opener, law_turn}
+use Rattle.tdb_commands.specs.declared.options.Options.{Options}
 use Rattle.tdb_openers.specs.declared.opener.Opener.{Opener}
 use Rattle.tdb_openers.specs.declared.job.Task.{Task}
 use Rattle.tdb_openers.specs.Openers.{rest_of, own_of, own_at, spot_by, walk_in, walk_of, steps_of, task_at, place_at, spots_of, command_in, law_task, OpenerStands}

@@ -8,10 +8,10 @@ use Rattle.tdb_locks.specs.declared.piece.Piece.{Piece}
 use Rattle.tdb_locks.proofs.Strengths as Locks
 use Rattle.tdb_steps.specs.Holdings.{strength}
 use Rattle.tdb_walk.specs.InLaw.{IsAll, HoldsExplicit, strengths}
-use Rattle.tdb_plays.specs.declared.options.Options.{Options}
+use Rattle.tdb_commands.specs.declared.options.Options.{Options}
 use Rattle.tdb_openers.specs.Openers.{AtRest, all_of, own_with}
 use Rattle.tdb_openers.specs.Turning.{law_table}
-use Rattle.tdb_plays.proofs.Counts.{no_chain}
+use Rattle.tdb_commands.proofs.Counts.{no_chain}
 use Rattle.tdb_openers.proofs.Owned.{own_count}
 
 same_strength : (o : Option Kind) → Locks.strength o ≡ strength o

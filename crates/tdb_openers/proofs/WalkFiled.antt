@@ -25,7 +25,7 @@ use Rattle.tdb_law.specs.Openers.{Own}
 use Rattle.tdb_law.specs.Refusals.{chain_byte}
 use Rattle.tdb_law.specs.Images.{image_map}
 use Rattle.tdb_law.specs.Layout.Place.{on_record}
-use Rattle.tdb_plays.specs.InLaw.{law_turn}
+use Rattle.tdb_commands.specs.InLaw.{law_turn}
 use Rattle.tdb_steps.specs.declared.plain.Plain.{Plain}
 use Rattle.tdb_steps.specs.declared.plain.Plain.TheVariants as Plains
 use Rattle.tdb_steps.specs.declared.stage.Stage.{Stage as PlainStage}
@@ -61,7 +61,7 @@ use Rattle.tdb_walk.proofs.Again.{cursor_leaves}
 use Rattle.tdb_walk.proofs.Lawful.{cursor_is_lawful}
 use Rattle.tdb_walk.proofs.Rows.{map_is}
 use Rattle.tdb_cursors.proofs.Apart.{cursor_comes_apart}
-use Rattle.tdb_plays.specs.declared.options.Options.{Options}
+use Rattle.tdb_commands.specs.declared.options.Options.{Options}
 use Rattle.tdb_openers.specs.declared.opener.Opener.{Opener}
 use Rattle.tdb_openers.specs.declared.job.Job.{Job}
 use Rattle.tdb_openers.specs.declared.job.Job.TheVariants as Jobs

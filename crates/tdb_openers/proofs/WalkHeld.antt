@@ -19,7 +19,7 @@ use Rattle.tdb_law.specs.Openers.{Own, Map, nowhere, closed}
 use Rattle.tdb_law.specs.Held.{holding}
 use Rattle.tdb_law.specs.Effects.{task_left}
 use Rattle.tdb_law.specs.Images.{image_map}
-use Rattle.tdb_plays.specs.InLaw.{law_turn, law_reply}
+use Rattle.tdb_commands.specs.InLaw.{law_turn, law_reply}
 use Rattle.tdb_steps.specs.Holdings.{strength}
 use Rattle.tdb_walk.specs.declared.standing.Standing.{Standing}
 use Rattle.tdb_walk.specs.declared.standing.Standing.TheVariants.{Before, On, Past}
@@ -36,7 +36,7 @@ use Rattle.tdb_walk.specs.Holds.{CursorHeld}
 use Rattle.tdb_walk.proofs.Rows.{last_is, own_is}
 use Rattle.tdb_walk.proofs.CursorHeld.{cursor_holds}
 use Rattle.tdb_openers.specs.Given.{IsWellHeld}
-use Rattle.tdb_plays.specs.declared.options.Options.{Options}
+use Rattle.tdb_commands.specs.declared.options.Options.{Options}
 use Rattle.tdb_openers.specs.declared.opener.Opener.{Opener}
 use Rattle.tdb_openers.specs.declared.job.Job.{Job}
 use Rattle.tdb_openers.specs.declared.job.Job.TheVariants as Jobs

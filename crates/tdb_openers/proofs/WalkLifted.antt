@@ -7,13 +7,13 @@ use Rattle.tdb_law.specs.Commands.{WalkCommand}
 use Rattle.tdb_law.specs.Commands.Command.{OnWalk}
 use Rattle.tdb_law.specs.Images.{image_map}
 use Rattle.tdb_law.specs.Turned.{Turned}
-use Rattle.tdb_plays.specs.InLaw.{law_turn}
+use Rattle.tdb_commands.specs.InLaw.{law_turn}
 use Rattle.tdb_walk.specs.NextLive.{place_of}
 use Rattle.tdb_walk.specs.Cursors.{At}
 use Rattle.tdb_walk.specs.InLaw.{CursorBefore, goal_of, is_before, own_next, view_of}
 use Rattle.tdb_walk.specs.Walkers.{TakesTurn}
 use Rattle.tdb_walk.proofs.Walkers.{cursor_is_turned}
-use Rattle.tdb_plays.specs.declared.options.Options.{Options}
+use Rattle.tdb_commands.specs.declared.options.Options.{Options}
 use Rattle.tdb_openers.specs.declared.opener.Opener.{Opener}
 use Rattle.tdb_openers.specs.declared.job.Task.{Task}
 use Rattle.tdb_openers.specs.Openers.{own_of, own_at, spot_at, place_at, spots_of, task_at, law_task, walk_in}

@@ -29,7 +29,7 @@ use Rattle.tdb_walk.proofs.Viewed.{view_is_so}
 use Rattle.tdb_walk.proofs.Holding.{holding_is}
 use Rattle.tdb_cursors.specs.Spots.{LacksCursor}
 use Rattle.tdb_openers.specs.Given.{IsWellHeld}
-use Rattle.tdb_plays.specs.declared.options.Options.{Options}
+use Rattle.tdb_commands.specs.declared.options.Options.{Options}
 use Rattle.tdb_openers.specs.declared.opener.Opener.{Opener}
 use Rattle.tdb_openers.specs.declared.job.Job.{Job}
 use Rattle.tdb_openers.specs.declared.job.Job.TheVariants as Jobs

@@ -7,12 +7,12 @@ use Rattle.tdb_locks.specs.declared.turn.Turn.{Turn}
 use Rattle.tdb_locks.specs.declared.turn.Turn.TheVariants.{Step}
 use Rattle.tdb_law.specs.Commands.{WalkCommand}
 use Rattle.tdb_law.specs.Turned.{Turned}
-use Rattle.tdb_plays.specs.InLaw.{law_opener, law_turn}
+use Rattle.tdb_commands.specs.InLaw.{law_opener, law_turn}
 use Rattle.tdb_walk.specs.ByteLocks.{HoldsWords}
 use Rattle.tdb_walk.specs.Cursors.{dead_of}
 use Rattle.tdb_walk.specs.InLaw.{goal_of, is_before}
 use Rattle.tdb_cursors.specs.Spots.{LacksCursor, spot_number}
-use Rattle.tdb_plays.specs.declared.options.Options.{Options}
+use Rattle.tdb_commands.specs.declared.options.Options.{Options}
 use Rattle.tdb_openers.specs.declared.opener.Opener.{Opener}
 use Rattle.tdb_openers.specs.declared.job.Task.{Task}
 use Rattle.tdb_openers.specs.Openers.{own_of, spots_of, walk_in, walk_of}

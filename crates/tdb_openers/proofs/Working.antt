@@ -18,7 +18,7 @@ use Rattle.tdb_law.proofs.Locks.{first_locked, rest_locked}
 use Rattle.tdb_steps.specs.Holdings.{table_of}
 use Rattle.tdb_steps.specs.Machines.{Doing}
 use Rattle.tdb_steps.specs.PlainCommands.{key_of, command_of}
-use Rattle.tdb_plays.specs.declared.options.Options.{Options}
+use Rattle.tdb_commands.specs.declared.options.Options.{Options}
 use Rattle.tdb_openers.specs.declared.opener.Opener.{Opener}
 use Rattle.tdb_openers.specs.declared.job.Job.{Job}
 use Rattle.tdb_openers.specs.declared.job.Job.TheVariants as Jobs

@@ -12,11 +12,11 @@ use Rattle.tdb_law.specs.World.{State}
 use Rattle.tdb_law.specs.Rows.{lock_all, all_end}
 use Rattle.tdb_law.specs.Held.{covers, all_held, task_held}
 use Rattle.tdb_law.specs.Effects.{IsFree, IsFirstConflict}
-use Rattle.tdb_plays.specs.InLaw.{law_opener}
+use Rattle.tdb_commands.specs.InLaw.{law_opener}
 use Rattle.tdb_steps.specs.Holdings.{table_of}
 use Rattle.tdb_steps.specs.LockRows.{strength_of}
 use Rattle.tdb_openers.specs.declared.opener.Opener.{Opener}
-use Rattle.tdb_plays.specs.declared.options.Options.{Options}
+use Rattle.tdb_commands.specs.declared.options.Options.{Options}
 use Rattle.tdb_openers.specs.Calm.{WritesNoRecord}
 use Rattle.tdb_openers.specs.Given.{holds_chains}
 use Rattle.tdb_openers.specs.Openers.{all_of}

@@ -7,7 +7,7 @@ use Rattle.tdb_law.specs.Commands.Command.{Seqnum}
 use Rattle.tdb_law.specs.Commands.Turn.{Ends}
 use Rattle.tdb_law.specs.World.{HasFewChains}
 use Rattle.tdb_locks.specs.HeldLocks.{HeldLocks, AreCounts}
-use Rattle.tdb_plays.specs.declared.options.Options.{Options}
+use Rattle.tdb_commands.specs.declared.options.Options.{Options}
 use Rattle.tdb_openers.specs.Openers.{AtRest, own_with}
 use Rattle.tdb_law.specs.Openers.{Own, Spot, View}
 use Rattle.tdb_openers.specs.Turning.{OpenerHolds, TurnsLocks, TurnsFile, resting}

@@ -10,7 +10,7 @@ use Rattle.tdb_locks.specs.HeldLocks.{nothing_held}
 use Rattle.tdb_locks.specs.declared.piece.Piece.{Piece}
 use Rattle.tdb_locks.specs.declared.turn.Turn.{Turn as TurnIs}
 use Rattle.tdb_law.specs.Commands.{WalkCommand, Turn}
-use Rattle.tdb_plays.specs.InLaw.{law_turn, options_of}
+use Rattle.tdb_commands.specs.InLaw.{law_turn, options_of}
 use Rattle.tdb_law.specs.Lines.{most_openers}
 use Rattle.tdb_law.specs.Openers.{View}
 use Rattle.tdb_law.specs.Turned.{Turned}
@@ -18,7 +18,7 @@ use Rattle.tdb_law.specs.World.{HasFewChains}
 use Rattle.tdb_law.specs.Events.{Joins, Given}
 use Rattle.tdb_law.specs.Beginning.{IsLoaded}
 use Rattle.tdb_law.specs.Images.{image_map}
-use Rattle.tdb_plays.specs.declared.options.Options.{Options}
+use Rattle.tdb_commands.specs.declared.options.Options.{Options}
 use Rattle.tdb_openers.specs.declared.opener.Opener.{Opener}
 use Rattle.tdb_openers.specs.declared.job.Job.{Job}
 use Rattle.tdb_openers.specs.declared.job.Task.{Task}

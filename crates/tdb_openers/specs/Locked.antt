@@ -18,7 +18,7 @@ use Rattle.tdb_steps.specs.declared.rows.LockRow.{LockRow}
 use Rattle.tdb_steps.specs.declared.rows.Region.TheVariants.{Chain, AllRecords}
 use Rattle.tdb_locks.specs.declared.turn.Reply.{Reply}
 use Rattle.tdb_locks.specs.declared.turn.Turn.{Turn as Turned}
-use Rattle.tdb_plays.specs.declared.options.Options.{Options}
+use Rattle.tdb_commands.specs.declared.options.Options.{Options}
 use Rattle.tdb_openers.specs.Openers.{AtRest, own_with}
 use Rattle.tdb_openers.specs.Turning.{OpenerHolds, TurnsLocks, TurnsFile, resting}
 

@@ -26,10 +26,10 @@ use Rattle.tdb_walk.specs.InLaw.{StandsAfter, spot_in, is_before}
 use Rattle.tdb_walk.specs.Again.{RestsAt}
 use Rattle.tdb_cursors.specs.declared.walk.Walk.{Walk}
 use Rattle.tdb_cursors.specs.Spots.{spot_number}
-use Rattle.tdb_plays.specs.InLaw.{law_command, law_reply, options_of}
+use Rattle.tdb_commands.specs.InLaw.{law_command, law_reply, options_of}
 use Rattle.tdb_openers.specs.Given.{IsShortLocking, IsWellHeld}
-use Rattle.tdb_plays.specs.declared.options.Options.{Options}
-use Rattle.tdb_plays.specs.Counts.{counts_of}
+use Rattle.tdb_commands.specs.declared.options.Options.{Options}
+use Rattle.tdb_commands.specs.Counts.{counts_of}
 use Rattle.tdb_openers.specs.declared.opener.Opener.{Opener}
 use Rattle.tdb_openers.specs.declared.job.Job.{Job}
 use Rattle.tdb_openers.specs.declared.job.Job.TheVariants.{Refused, Plain, Check, Locking, Seqnum, Walk as OnWalk}

@@ -13,7 +13,7 @@ use Rattle.tdb_law.specs.World.{IsSound}
 use Rattle.tdb_law.specs.Turned.{Turned}
 use Rattle.tdb_beside.specs.Sides.{Past, Side, beside, StandsAside}
 use Rattle.tdb_beside.specs.Turns.{past_after}
-use Rattle.tdb_plays.specs.InLaw.{law_opener}
+use Rattle.tdb_commands.specs.InLaw.{law_opener}
 use Rattle.tdb_steps.specs.LockRows.{start_of, rows_of}
 use Rattle.tdb_openers.specs.declared.opener.Opener.{Opener}
 use Rattle.tdb_openers.specs.declared.job.Job.{Job}

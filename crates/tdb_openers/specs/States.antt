@@ -14,7 +14,7 @@ use Rattle.tdb_steps.specs.Holdings.{table_of}
 use Rattle.tdb_walk.specs.InLaw.{goal_of, view_of}
 use Rattle.tdb_walk.specs.Walkers.{Walkers}
 use Rattle.tdb_walk.specs.Walkers as Walking
-use Rattle.tdb_plays.specs.declared.options.Options.{Options}
+use Rattle.tdb_commands.specs.declared.options.Options.{Options}
 use Rattle.tdb_openers.specs.declared.opener.Opener.{Opener}
 use Rattle.tdb_openers.specs.Openers.{own_at, law_task, task_at, spot_at, place_at, spots_of, hands_at, OpenerStands, OpenerKnows}
 use Rattle.tdb_openers.specs.Turning.{no_view}

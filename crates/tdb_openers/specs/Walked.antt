@@ -6,7 +6,7 @@ use Rattle.tdb_locks.specs.LockTable.{held}
 use Rattle.tdb_locks.specs.declared.piece.Piece.{Piece}
 use Rattle.tdb_locks.specs.declared.turn.Turn.{Turn}
 use Rattle.tdb_law.specs.Commands.{WalkCommand}
-use Rattle.tdb_plays.specs.InLaw.{law_turn}
+use Rattle.tdb_commands.specs.InLaw.{law_turn}
 use Rattle.tdb_walk.specs.Way.{SameOthers}
 use Rattle.tdb_walk.specs.Cursors.{At}
 use Rattle.tdb_walk.specs.InLaw.{goal_of, is_dropped}

@@ -4,8 +4,8 @@ ghost use Rattle.std.specs.Prelude.{◌≡◌, ◌<◌, ℕ, None, is_some, Matc
 ghost use Rattle.tdb_space.specs.Form.{Form, form_in};
 ghost use Rattle.tdb_law.specs.Commands.Command.{OnWalk};
 ghost use Rattle.tdb_law.specs.Commands.WalkCommand.{Next};
-ghost use Rattle.tdb_plays.specs.InLaw.{law_command};
-ghost use Rattle.tdb_plays.specs.Short.{IsShortCommand};
+ghost use Rattle.tdb_commands.specs.InLaw.{law_command};
+ghost use Rattle.tdb_commands.specs.Short.{IsShortCommand};
 ghost use Rattle.tdb_law.specs.Openers.{Own};
 ghost use Rattle.tdb_law.specs.Refusals.{refusal};
 ghost use Rattle.tdb_openers.specs.Given.{IsBeginning, IsServed, IsWellHeld};
@@ -15,7 +15,7 @@ use crate::job::{Checking, Job, Locking, Walking};
 use crate::opener::Opener;
 use crate::told::PlainJob;
 use tdb_locks::Reply;
-use tdb_plays::{Command, Options};
+use tdb_commands::{Command, Options};
 use tdb_steps::Plain;
 use tdb_words::Header;
 

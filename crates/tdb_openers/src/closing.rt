@@ -1,7 +1,7 @@
 // Openers that end without a command.
 
 ghost use Rattle.std.specs.Prelude.{◌≡◌, ℕ, List};
-ghost use Rattle.tdb_plays.specs.InLaw.{law_opener};
+ghost use Rattle.tdb_commands.specs.InLaw.{law_opener};
 ghost use Rattle.tdb_openers.specs.Aside.{IsBare};
 ghost use Rattle.tdb_openers.specs.Died.{HasDied, without_opener};
 ghost use Rattle.tdb_openers.specs.declared.opener.Opener.{Opener};

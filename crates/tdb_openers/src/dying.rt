@@ -4,7 +4,7 @@ ghost use Rattle.std.specs.Prelude.{◌≡◌, ◌≤◌, ℕ, List, IsTrue, Mat
 ghost use Rattle.tdb_space.specs.Form.{form_in};
 ghost use Rattle.tdb_law.specs.Events.{Dies};
 ghost use Rattle.tdb_law.specs.Lines.{EndsTransaction, MayDie};
-ghost use Rattle.tdb_plays.specs.InLaw.{law_opener};
+ghost use Rattle.tdb_commands.specs.InLaw.{law_opener};
 ghost use Rattle.tdb_openers.specs.declared.opener.Opener.{Opener};
 ghost use Rattle.tdb_openers.specs.Openers.{command_in, law_task};
 ghost use Rattle.tdb_openers.specs.Worlds.{state_in, Stands, BytesStand};
@@ -13,7 +13,7 @@ ghost use Rattle.tdb_openers.specs.Died.{CanDie, HasDied, MayDieIn};
 use crate::job::Job;
 use crate::opener::Opener;
 use crate::openers::Openers;
-use tdb_plays::Command;
+use tdb_commands::Command;
 
 impl Job {
     /// Whether the command would end a transaction: it is a Commit or a Prepare, which is refused, since nobody has one.

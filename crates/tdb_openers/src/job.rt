@@ -2,14 +2,14 @@
 
 ghost use Rattle.std.specs.Prelude.{◌≡◌, IfOk};
 ghost use Rattle.tdb_law.specs.Commands.Command.{OnLocks, OnWalk};
-ghost use Rattle.tdb_plays.specs.InLaw.{law_command};
+ghost use Rattle.tdb_commands.specs.InLaw.{law_command};
 ghost use Rattle.tdb_walk.specs.InLaw.{goal_of};
 ghost use Rattle.tdb_openers.specs.Openers.{command_in, locking_command, walk_command};
 
 use crate::told::PlainJob;
 use std::alloc::{AllocError, Global};
 use tdb_locks::Reply;
-use tdb_plays::Command;
+use tdb_commands::Command;
 use tdb_walk::Goal;
 use tdb_words::Bytes;
 

@@ -35,4 +35,4 @@ pub use crate::numbering::number_in;
 pub use crate::openers::{JoinRefusal, MOST_OPENERS, MOST_TURNS, Openers};
 pub use crate::standings::OpenerStanding;
 pub use crate::telling::{put_line, tell, tell_growth, was_step};
-pub use tdb_plays::Options;
+pub use tdb_commands::Options;

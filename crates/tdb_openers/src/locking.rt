@@ -3,11 +3,11 @@
 ghost use Rattle.std.specs.Prelude.{◌≡◌, ◌+◌, ◌<◌, ◌^◌, ℕ, Bool, length, MatchResult};
 ghost use Rattle.tdb_space.specs.Form.{form_in};
 ghost use Rattle.tdb_space.specs.Pairs.{home};
-ghost use Rattle.tdb_plays.specs.InLaw.{law_turn};
+ghost use Rattle.tdb_commands.specs.InLaw.{law_turn};
 ghost use Rattle.tdb_openers.specs.Openers.{AtRest, locking_command};
 ghost use Rattle.tdb_openers.specs.Given.{IsShortLocking, IsWellHeld};
 ghost use Rattle.tdb_openers.specs.Locked.{MayLock, LockingTurned, waiting, at_once};
-ghost use Rattle.tdb_plays.specs.declared.options.Options.{Options};
+ghost use Rattle.tdb_commands.specs.declared.options.Options.{Options};
 
 use crate::holding::{hold_all, hold_chain, release_all, release_chain};
 use crate::job::Locking;

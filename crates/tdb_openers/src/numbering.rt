@@ -9,12 +9,12 @@ ghost use Rattle.tdb_locks.specs.HeldLocks.{HeldLocks};
 ghost use Rattle.tdb_locks.specs.LockTable.{ChangesRange, held};
 ghost use Rattle.tdb_law.specs.Commands.Command.{Seqnum};
 ghost use Rattle.tdb_law.specs.Effects.{task_left};
-ghost use Rattle.tdb_plays.specs.InLaw.{law_turn};
+ghost use Rattle.tdb_commands.specs.InLaw.{law_turn};
 ghost use Rattle.tdb_law.specs.Openers.{View};
 ghost use Rattle.tdb_openers.specs.Openers.{AtRest, own_with};
 ghost use Rattle.tdb_openers.specs.Turning.{TurnsLocks, TurnsFile, resting};
 ghost use Rattle.tdb_openers.specs.Ended.{MayCount};
-ghost use Rattle.tdb_plays.specs.declared.options.Options.{Options};
+ghost use Rattle.tdb_commands.specs.declared.options.Options.{Options};
 
 use tdb_locks::{Kind, Len, LockRefusal, Locks, Reply, Turn};
 use tdb_space::{Io, Space, read_word};

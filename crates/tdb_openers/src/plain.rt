@@ -7,7 +7,7 @@ ghost use Rattle.tdb_space.specs.Frame.{Wrote};
 ghost use Rattle.tdb_space.specs.Spare.{without_bound};
 ghost use Rattle.tdb_law.specs.World.{HasFewChains};
 ghost use Rattle.tdb_law.specs.Openers.{View};
-ghost use Rattle.tdb_plays.specs.InLaw.{law_turn};
+ghost use Rattle.tdb_commands.specs.InLaw.{law_turn};
 ghost use Rattle.tdb_steps.specs.Stages.{IsIdle};
 ghost use Rattle.tdb_steps.specs.Machines.{begun};
 ghost use Rattle.tdb_steps.specs.LockTurns.{ActRightly};
@@ -17,7 +17,7 @@ ghost use Rattle.tdb_openers.specs.Turning.{TurnsFile, TurnsImage, ImageBefore, 
 ghost use Rattle.tdb_openers.specs.Calm.{IsCalm, IsSparing};
 ghost use Rattle.tdb_openers.specs.Cursors.{is_stood, CursorsBeside, LeavesCursors};
 ghost use Rattle.tdb_openers.specs.Jobs.{JobIsReady, JobTurned, task_after};
-ghost use Rattle.tdb_plays.specs.declared.options.Options.{Options};
+ghost use Rattle.tdb_commands.specs.declared.options.Options.{Options};
 ghost use Rattle.tdb_openers.specs.declared.job.Job.TheVariants.{Plain};
 
 use std::alloc::Global;

@@ -6,15 +6,15 @@ ghost use Rattle.tdb_space.specs.Form.{form_in};
 ghost use Rattle.tdb_space.specs.Pairs.{home};
 ghost use Rattle.tdb_locks.specs.HeldLocks.{count_of, total_of, AreCounts};
 ghost use Rattle.tdb_law.specs.Refusals.{refusal, says};
-ghost use Rattle.tdb_plays.specs.InLaw.{law_command, law_reply};
-ghost use Rattle.tdb_plays.specs.Short.{IsShortCommand};
+ghost use Rattle.tdb_commands.specs.InLaw.{law_command, law_reply};
+ghost use Rattle.tdb_commands.specs.Short.{IsShortCommand};
 ghost use Rattle.tdb_openers.specs.Openers.{AtRest, own_of, own_with};
 ghost use Rattle.tdb_openers.specs.Given.{held_count, holds_chains, reads_records, unlock_all_told, IsWellHeld};
 
 use crate::locking::chain_in;
 use crate::opener::Opener;
 use tdb_locks::{Held, Kind, Reply};
-use tdb_plays::{Command, Options};
+use tdb_commands::{Command, Options};
 use tdb_words::{Bytes, Header};
 
 /// Whether a chain is held explicitly.

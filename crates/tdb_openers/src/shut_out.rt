@@ -9,7 +9,7 @@ ghost use Rattle.tdb_law.specs.Effects.{IsFree};
 ghost use Rattle.tdb_law.specs.Turned.{want};
 ghost use Rattle.tdb_beside.specs.Sides.{Past, Side, beside};
 ghost use Rattle.tdb_beside.specs.Turns.{without_task};
-ghost use Rattle.tdb_plays.specs.InLaw.{law_opener, law_turn};
+ghost use Rattle.tdb_commands.specs.InLaw.{law_opener, law_turn};
 ghost use Rattle.tdb_steps.specs.LockRows.{start_of};
 ghost use Rattle.tdb_openers.specs.declared.job.Job.TheVariants as Jobs;
 ghost use Rattle.tdb_openers.specs.declared.job.Locking.{Locking as LockingIs};

@@ -1,7 +1,7 @@
 // How openers stand.
 
 ghost use Rattle.std.specs.Prelude.{◌≡◌, ◌≤◌, ℕ, List, true, false};
-ghost use Rattle.tdb_plays.specs.InLaw.{law_opener};
+ghost use Rattle.tdb_commands.specs.InLaw.{law_opener};
 ghost use Rattle.tdb_openers.specs.declared.job.Task.{Task};
 ghost use Rattle.tdb_openers.specs.declared.opener.Opener.{Opener};
 ghost use Rattle.tdb_openers.specs.Worlds.{state_in, IsFree, IsBusy};

@@ -8,7 +8,7 @@ ghost use Rattle.tdb_space.specs.Frame.{Wrote};
 ghost use Rattle.tdb_space.specs.Spare.{without_bound};
 ghost use Rattle.tdb_law.specs.World.{HasFewChains};
 ghost use Rattle.tdb_law.specs.Openers.{View};
-ghost use Rattle.tdb_plays.specs.InLaw.{law_turn};
+ghost use Rattle.tdb_commands.specs.InLaw.{law_turn};
 ghost use Rattle.tdb_openers.specs.declared.job.Task.{Task};
 ghost use Rattle.tdb_openers.specs.Given.{IsWellHeld};
 ghost use Rattle.tdb_openers.specs.Openers.{AtRest, own_of, own_with, rest_of, command_in, walk_in, walk_of, law_task};
@@ -28,7 +28,7 @@ use crate::opener::Opener;
 use std::alloc::Global;
 use std::mem;
 use tdb_locks::{Held, Locks, Reply, Spots, Turn};
-use tdb_plays::Options;
+use tdb_commands::Options;
 use tdb_space::{Io, Space};
 use tdb_words::Header;
 

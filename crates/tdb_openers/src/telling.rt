@@ -1,12 +1,12 @@
 // The lines of a report.
 
 ghost use Rattle.std.specs.Prelude.{◌≡◌, ◌≤◌, ◌+◌, ◌++◌, ◌∷◌, [], ◌<◌, ◌-◌, OnOk, OnErr, IfErr};
-ghost use Rattle.tdb_plays.specs.declared.line.Line.{Line};
+ghost use Rattle.tdb_commands.specs.declared.line.Line.{Line};
 ghost use Rattle.tdb_openers.specs.Played.{growth, is_step};
 
 use crate::fault::RunFault;
 use tdb_locks::Turn;
-use tdb_plays::{Line, TurnReport};
+use tdb_commands::{Line, TurnReport};
 
 /// Puts a line behind the others, for which there is room.
 pub fn put_line(report: &mut TurnReport, line: Line)

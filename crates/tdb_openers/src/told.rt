@@ -10,7 +10,7 @@ ghost use Rattle.tdb_space.specs.Spare.{without_bound};
 ghost use Rattle.tdb_law.specs.World.{HasFewChains};
 ghost use Rattle.tdb_law.specs.Commands.Command.{OnMap};
 ghost use Rattle.tdb_law.specs.Openers.{View};
-ghost use Rattle.tdb_plays.specs.InLaw.{law_command, law_turn};
+ghost use Rattle.tdb_commands.specs.InLaw.{law_command, law_turn};
 ghost use Rattle.tdb_steps.specs.LockRows.{rows_of};
 ghost use Rattle.tdb_steps.specs.PlainCommands.{key_of, command_of};
 ghost use Rattle.tdb_steps.specs.Machines.{begun, IsShort};
@@ -19,14 +19,14 @@ ghost use Rattle.tdb_openers.specs.Given.{IsWellHeld};
 ghost use Rattle.tdb_openers.specs.Openers.{AtRest, own_with, command_in};
 ghost use Rattle.tdb_openers.specs.Turning.{ImageBefore, resting};
 ghost use Rattle.tdb_openers.specs.Jobs.{JobIsReady, JobTurned, JobFiled};
-ghost use Rattle.tdb_plays.specs.declared.options.Options.{Options};
+ghost use Rattle.tdb_commands.specs.declared.options.Options.{Options};
 ghost use Rattle.tdb_openers.specs.declared.job.Job.TheVariants.{Plain};
 
 use crate::plain::plain_turn;
 use std::alloc::{AllocError, Global};
 use std::marker::Model;
 use tdb_locks::{Held, Locks, Spots, Turn};
-use tdb_plays::Command;
+use tdb_commands::Command;
 use tdb_space::{Io, Space};
 use tdb_steps::{Machine, Plain as PlainCommand, Rows};
 use tdb_words::Header;
@@ -42,7 +42,7 @@ pub(crate) struct PlainJob {
 impl Model for PlainJob {
     ghost use Rattle.std.specs.Prelude.{◌≡◌};
     ghost use Rattle.tdb_law.specs.Commands.Command.{OnMap};
-    ghost use Rattle.tdb_plays.specs.InLaw.{law_command};
+    ghost use Rattle.tdb_commands.specs.InLaw.{law_command};
     ghost use Rattle.tdb_steps.specs.PlainCommands.{command_of};
     ghost use Rattle.tdb_steps.specs.Machines.{Doing};
 

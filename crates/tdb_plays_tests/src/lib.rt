@@ -1,4 +1,4 @@
-//! Tests of lists of plays and of lines, over the public calls of `tdb_plays`.
+//! Tests of lists of plays and of lines, over the public calls of `tdb_commands`.
 #![tactic(auto)]
 
 #[cfg(test)]

@@ -2,7 +2,7 @@
 use std::alloc::{AllocError, Global};
 use std::test::Fail;
 use tdb_locks::Turn;
-use tdb_plays::{Command, Line, Play, Plays, TurnReport};
+use tdb_commands::{Command, Line, Play, Plays, TurnReport};
 use tdb_steps::Flag;
 use tdb_words::Bytes;
 

@@ -4,8 +4,8 @@ use Rattle.std.proofs.lemmas.Bool.{false≢true}
 use Rattle.std.specs.Prelude.{is_some}
 use Rattle.tdb_dump.specs.Word.{IsWord}
 use Rattle.tdb_dump.proofs.GrammarLemmas.{one_word}
-use Rattle.tdb_plays.specs.declared.command.Command.{Command}
-use Rattle.tdb_plays.specs.declared.play.Play.{Play}
+use Rattle.tdb_commands.specs.declared.command.Command.{Command}
+use Rattle.tdb_commands.specs.declared.play.Play.{Play}
 use Rattle.tdb_script.specs.Lines.{words_of}
 use Rattle.tdb_script.specs.Number.{IsNumber}
 use Rattle.tdb_script.specs.Rows.{row_of, bare_commands, key_commands, value_commands, opener_plays, command_plays}

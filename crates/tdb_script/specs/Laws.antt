@@ -1,7 +1,7 @@
 -- The laws of scripts, over the definitions alone.
 use Rattle.std.specs.Prelude.{◌≡◌, ℕ, ◌<◌, List, ◌++◌, length}
 use Rattle.tdb_script.specs.declared.limits.TheConstants.{LONGEST_SCRIPT}
-use Rattle.tdb_plays.specs.declared.play.Play.{Play}
+use Rattle.tdb_commands.specs.declared.play.Play.{Play}
 use Rattle.tdb_script.specs.Script.{Script, BadAt}
 
 -- a text is a script of one list of plays

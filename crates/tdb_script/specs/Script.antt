@@ -1,8 +1,8 @@
 -- What a script says.
 use Rattle.std.specs.Prelude.{◌≡◌, ℕ, ◌+◌, ◌<◌, ◌≤◌, ◌==◌, ◌⊎◌, Bool, true, false, List, [], ◌∷◌, ◌++◌, length, slice_index, Option, Some, None}
 use Rattle.tdb_dump.specs.Word.{IsWord}
-use Rattle.tdb_plays.specs.declared.command.Command.{Command}
-use Rattle.tdb_plays.specs.declared.play.Play.{Play}
+use Rattle.tdb_commands.specs.declared.command.Command.{Command}
+use Rattle.tdb_commands.specs.declared.play.Play.{Play}
 use Rattle.tdb_script.specs.declared.limits.TheConstants.{LONGEST_SCRIPT}
 use Rattle.tdb_script.specs.declared.script.ScriptRefusal.{ScriptRefusal}
 use Rattle.tdb_script.specs.Lines.{lines_of, words_of, width}

@@ -2,7 +2,7 @@
 
 ghost use Rattle.std.specs.Prelude.{◌≡◌, ℕ, List, [], ◌∷◌, IfOk};
 ghost use Rattle.tdb_dump.specs.Word.{IsWord};
-ghost use Rattle.tdb_plays.specs.declared.command.Command.{Command as Means};
+ghost use Rattle.tdb_commands.specs.declared.command.Command.{Command as Means};
 ghost use Rattle.tdb_script.specs.Lines.{words_of};
 ghost use Rattle.tdb_script.specs.Script.{IsCommand};
 ghost use Rattle.tdb_script.specs.declared.unread.Unread.TheVariants.{NoReading};
@@ -12,7 +12,7 @@ use crate::rows::{bare_command, key_command, value_command};
 use crate::unread::Unread;
 use std::alloc::Global;
 use tdb_dump::{WordRefusal, word_bytes_of};
-use tdb_plays::Command;
+use tdb_commands::Command;
 use tdb_words::Bytes;
 
 /// The bytes that a word stands for.

@@ -1,7 +1,7 @@
 // The play that a line says.
 
 ghost use Rattle.std.specs.Prelude.{◌≡◌, ◌==◌, [], ◌∷◌, slice_index, IfOk};
-ghost use Rattle.tdb_plays.specs.declared.play.Play.{Play as Means};
+ghost use Rattle.tdb_commands.specs.declared.play.Play.{Play as Means};
 ghost use Rattle.tdb_script.specs.Lines.{words_of};
 ghost use Rattle.tdb_script.specs.Script.{IsPlay, IsOpenerPlay, Says, SaysNothing};
 ghost use Rattle.tdb_script.specs.declared.unread.Unread.TheVariants.{NoReading};
@@ -12,7 +12,7 @@ use crate::number::number_of;
 use crate::rows::{bare_play, command_play, opener_play};
 use crate::unread::Unread;
 use std::alloc::Global;
-use tdb_plays::Play;
+use tdb_commands::Play;
 
 /// A play of one word.
 fn bare(name: &[u8]) -> Result<Play, Unread>

@@ -4,7 +4,7 @@ ghost use Rattle.std.specs.Prelude.{◌≡◌};
 ghost use Rattle.tdb_script.specs.Rows.{row_of, walking_commands, holding_commands, group_commands, bare_commands, key_commands, value_commands, bare_plays, opener_plays, command_plays};
 
 use crate::text::text_of;
-use tdb_plays::{Command, Play};
+use tdb_commands::{Command, Play};
 use tdb_steps::Flag;
 use tdb_words::Bytes;
 

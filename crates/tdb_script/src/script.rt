@@ -1,7 +1,7 @@
 // Scripts.
 
 ghost use Rattle.std.specs.Prelude.{◌≡◌, ◌++◌, [], Option, IfOk, IfErr, OnOk};
-ghost use Rattle.tdb_plays.specs.declared.play.Play.{Play as Means};
+ghost use Rattle.tdb_commands.specs.declared.play.Play.{Play as Means};
 ghost use Rattle.tdb_script.specs.Lines.{words_of};
 ghost use Rattle.tdb_script.specs.Script.{Says, SaysNothing, with_said, Script, IsRefused};
 ghost use Rattle.tdb_script.specs.declared.unread.Unread.TheVariants.{NoReading};
@@ -11,7 +11,7 @@ use crate::limits::LONGEST_SCRIPT;
 use crate::play::said_by;
 use crate::unread::Unread;
 use std::alloc::Global;
-use tdb_plays::Plays;
+use tdb_commands::Plays;
 use thiserror::Error;
 
 /// Why a text is no script.

@@ -4,7 +4,7 @@ use std::test::Fail;
 use tdb_disk::{Call, MemSink};
 use tdb_dump::WriteRefusal;
 use tdb_locks::{Reply, Turn};
-use tdb_plays::{Command, Line, Play, Plays};
+use tdb_commands::{Command, Line, Play, Plays};
 use tdb_script::{ScriptRefusal, read_script, text_of_reply, write_line};
 use tdb_steps::Flag;
 use tdb_words::Bytes;

@@ -11,9 +11,9 @@ use Rattle.tdb_law.specs.Plays.{Play as LawPlay, Gives}
 use Rattle.tdb_law.specs.World.{State}
 use Rattle.tdb_locks.specs.declared.turn.Reply.{Reply}
 use Rattle.tdb_locks.specs.declared.turn.Turn.{Turn}
-use Rattle.tdb_plays.specs.InLaw.{law_turn, law_line, law_lines, law_play}
-use Rattle.tdb_plays.specs.declared.line.Line.{Line}
-use Rattle.tdb_plays.specs.declared.play.Play.{Play}
+use Rattle.tdb_commands.specs.InLaw.{law_turn, law_line, law_lines, law_play}
+use Rattle.tdb_commands.specs.declared.line.Line.{Line}
+use Rattle.tdb_commands.specs.declared.play.Play.{Play}
 use Rattle.tdb_space.specs.Form.{Form}
 use Rattle.tdb_whole.specs.Whole.{form_at}
 use Rattle.tdb_tool.specs.declared.limits.TheConstants.{MOST_MOVES}

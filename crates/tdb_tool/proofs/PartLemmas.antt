@@ -4,8 +4,8 @@ use Rattle.std.proofs.lemmas.List.{append_assoc, append-nil, map-append}
 use Rattle.tdb_space.specs.Form.{Form}
 use Rattle.tdb_law.specs.Plays.{Play as LawPlay, Gives, Course}
 use Rattle.tdb_law.specs.World.{State}
-use Rattle.tdb_plays.specs.InLaw.{law_play, law_line, law_lines}
-use Rattle.tdb_plays.specs.declared.line.Line.{Line}
+use Rattle.tdb_commands.specs.InLaw.{law_play, law_line, law_lines}
+use Rattle.tdb_commands.specs.declared.line.Line.{Line}
 use Rattle.tdb_openers.specs.Played.{ComesTo, PlaysLast}
 use Rattle.tdb_openers.specs.Played.Begun.{begun_not}
 use Rattle.tdb_tool.specs.Parts.{Part, Silent, Told, Listed, play_of, text_of, Going, PartDone, PartBegun, AllDone, FirstBegun, AllCame}

@@ -13,10 +13,10 @@ use Rattle.tdb_law.specs.World.{State}
 use Rattle.tdb_log.specs.Logs.{Logged}
 use Rattle.tdb_log.specs.declared.log.LogRefusal.{LogRefusal}
 use Rattle.tdb_log.specs.declared.log.LogRefusal.TheVariants as Unheard
-use Rattle.tdb_plays.specs.InLaw.{law_play, law_lines}
-use Rattle.tdb_plays.specs.declared.command.Command.{Command}
-use Rattle.tdb_plays.specs.declared.line.Line.{Line}
-use Rattle.tdb_plays.specs.declared.play.Play.{Play}
+use Rattle.tdb_commands.specs.InLaw.{law_play, law_lines}
+use Rattle.tdb_commands.specs.declared.command.Command.{Command}
+use Rattle.tdb_commands.specs.declared.line.Line.{Line}
+use Rattle.tdb_commands.specs.declared.play.Play.{Play}
 use Rattle.tdb_openers.specs.Played.{Begun, PlaysLast}
 use Rattle.tdb_openers.specs.declared.fault.RunFault.{RunFault}
 use Rattle.tdb_openers.specs.declared.fault.RunFault.TheVariants as Run

@@ -28,7 +28,7 @@ use Rattle.tdb_holder.specs.Holders.{HolderState}
 use Rattle.tdb_holder.specs.Stages.{Known, KnowsAt, OwnIs, IsFit, stage_records, stage_task}
 use Rattle.tdb_holder.specs.declared.stage.Stage.{Stage}
 use Rattle.tdb_holder.specs.declared.stage.Stage.TheVariants as At
-use Rattle.tdb_plays.specs.declared.options.Options.{Options}
+use Rattle.tdb_commands.specs.declared.options.Options.{Options}
 use Rattle.tdb_openers.specs.Openers.{own_at}
 use Rattle.tdb_openers.specs.Worlds.{state_in}
 use Rattle.tdb_openers.specs.declared.opener.Opener.{Opener}

@@ -11,8 +11,8 @@ use Rattle.tdb_space.proofs.Opening.Undone.{read_as_it_is}
 use Rattle.tdb_space.proofs.Undoing.Alike.{exact_reopens}
 use Rattle.tdb_law.specs.Lines.{Line as LawLine}
 use Rattle.tdb_law.specs.World.{State}
-use Rattle.tdb_plays.specs.InLaw.{law_line, law_lines}
-use Rattle.tdb_plays.specs.declared.line.Line.{Line}
+use Rattle.tdb_commands.specs.InLaw.{law_line, law_lines}
+use Rattle.tdb_commands.specs.declared.line.Line.{Line}
 use Rattle.tdb_whole.specs.Stops.{IsSafe}
 use Rattle.tdb_whole.specs.Whole.{form_at}
 use Rattle.tdb_course.specs.Stops.{Leads, IsTransacted, OpensOnTheWay}

@@ -7,7 +7,7 @@ use Rattle.std.proofs.lemmas.Grind.{flat_map-append}
 use Rattle.std.proofs.Math.Seq.{take-append-add}
 use Rattle.tdb_backup.specs.Dump.{WroteFront}
 use Rattle.tdb_dump.specs.declared.listing.Listing.{Listing}
-use Rattle.tdb_plays.specs.declared.line.Line.{Line}
+use Rattle.tdb_commands.specs.declared.line.Line.{Line}
 use Rattle.tdb_tool.specs.Replies.{line_text, lines_text}
 
 -- a text that was written whole, and one behind another

@@ -11,12 +11,12 @@ use Rattle.tdb_law.specs.Beginning.{IsLoaded, beginning}
 use Rattle.tdb_law.specs.Lines.{Line as LawLine, IsLawful}
 use Rattle.tdb_law.specs.Openers.{Map, Task}
 use Rattle.tdb_law.specs.World.{State}
-use Rattle.tdb_plays.specs.InLaw.{law_line, law_lines, options_of}
-use Rattle.tdb_plays.specs.declared.command.Command.{Command}
-use Rattle.tdb_plays.specs.declared.line.Line.{Line}
-use Rattle.tdb_plays.specs.declared.line.Line.TheVariants.{Unfinished}
-use Rattle.tdb_plays.specs.declared.options.Options.{Options}
-use Rattle.tdb_plays.specs.declared.play.Play.{Play}
+use Rattle.tdb_commands.specs.InLaw.{law_line, law_lines, options_of}
+use Rattle.tdb_commands.specs.declared.command.Command.{Command}
+use Rattle.tdb_commands.specs.declared.line.Line.{Line}
+use Rattle.tdb_commands.specs.declared.line.Line.TheVariants.{Unfinished}
+use Rattle.tdb_commands.specs.declared.options.Options.{Options}
+use Rattle.tdb_commands.specs.declared.play.Play.{Play}
 use Rattle.tdb_script.specs.Lines.{lines_of}
 use Rattle.tdb_openers.proofs.Finishing.{broken_lawful}
 use Rattle.tdb_openers.specs.Worlds.{World, state_in}

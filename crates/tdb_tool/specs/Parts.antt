@@ -4,12 +4,12 @@ use Rattle.std.specs.List.{flat_map}
 use Rattle.tdb_dump.specs.declared.listing.Listing.{Listing}
 use Rattle.tdb_law.specs.Plays.{Gives}
 use Rattle.tdb_law.specs.World.{State}
-use Rattle.tdb_plays.specs.InLaw.{law_play, law_lines}
-use Rattle.tdb_plays.specs.declared.command.Command.{Command}
-use Rattle.tdb_plays.specs.declared.line.Line.{Line}
-use Rattle.tdb_plays.specs.declared.play.Play.{Play}
+use Rattle.tdb_commands.specs.InLaw.{law_play, law_lines}
+use Rattle.tdb_commands.specs.declared.command.Command.{Command}
+use Rattle.tdb_commands.specs.declared.line.Line.{Line}
+use Rattle.tdb_commands.specs.declared.play.Play.{Play}
 use Rattle.tdb_space.specs.Form.{Form}
-use Rattle.tdb_plays.specs.Short.{IsShortCommand}
+use Rattle.tdb_commands.specs.Short.{IsShortCommand}
 use Rattle.tdb_openers.specs.Played.{PlaysLast}
 use Rattle.tdb_tool.specs.declared.order.Order.{Order}
 use Rattle.tdb_tool.specs.Replies.{lines_text, tell_pair}

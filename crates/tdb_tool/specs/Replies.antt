@@ -5,7 +5,7 @@ use Rattle.tdb_dump.specs.Listing.{entry_text}
 use Rattle.tdb_dump.specs.declared.listing.Listing.{Listing}
 use Rattle.tdb_locks.specs.declared.turn.Reply.{Reply}
 use Rattle.tdb_locks.specs.declared.turn.Turn.{Turn}
-use Rattle.tdb_plays.specs.declared.line.Line.{Line}
+use Rattle.tdb_commands.specs.declared.line.Line.{Line}
 use Rattle.tdb_script.specs.Text.{reply_text}
 
 -- a reply with a newline

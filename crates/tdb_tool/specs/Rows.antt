@@ -2,7 +2,7 @@
 use Rattle.std.specs.Prelude.{ℕ, List, [], ◌∷◌, codes}
 use Rattle.tdb_dump.specs.declared.listing.Listing.{Listing}
 use Rattle.tdb_steps.specs.declared.flag.Flag.{Flag}
-use Rattle.tdb_plays.specs.declared.command.Command.{Command}
+use Rattle.tdb_commands.specs.declared.command.Command.{Command}
 use Rattle.tdb_tool.specs.declared.order.Order.{Order}
 
 -- orders of one word

@@ -10,9 +10,9 @@ use Rattle.tdb_dump.specs.declared.writer.WriteRefusal.{WriteRefusal}
 use Rattle.tdb_dump.specs.declared.writer.WriteRefusal.TheVariants as Untold
 use Rattle.tdb_law.specs.Plays.{Gives}
 use Rattle.tdb_law.specs.World.{State}
-use Rattle.tdb_plays.specs.InLaw.{law_play, law_lines}
-use Rattle.tdb_plays.specs.declared.line.Line.{Line}
-use Rattle.tdb_plays.specs.declared.play.Play.{Play}
+use Rattle.tdb_commands.specs.InLaw.{law_play, law_lines}
+use Rattle.tdb_commands.specs.declared.line.Line.{Line}
+use Rattle.tdb_commands.specs.declared.play.Play.{Play}
 use Rattle.tdb_openers.specs.Played.{PlaysLast}
 use Rattle.tdb_whole.specs.Whole.{form_at, WorldFits}
 use Rattle.tdb_whole.specs.Stops.{IsSafe}

@@ -9,7 +9,7 @@ use crate::hex::hex_bytes_of;
 use crate::rows::{bare_order, key_order, value_order};
 use std::alloc::{AllocError, Global};
 use tdb_dump::{Listing, WordRefusal, word_bytes_of};
-use tdb_plays::Command;
+use tdb_commands::Command;
 use tdb_script::first_word;
 use tdb_words::Bytes;
 

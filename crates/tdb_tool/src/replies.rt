@@ -12,7 +12,7 @@ use std::alloc::{AllocError, Global};
 use tdb_disk::Sink;
 use tdb_dump::{Listing, WriteRefusal};
 use tdb_locks::{Reply, Turn};
-use tdb_plays::{Line, TurnReport};
+use tdb_commands::{Line, TurnReport};
 use tdb_script::text_of_reply;
 use tdb_words::Bytes;
 

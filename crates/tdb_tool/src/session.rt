@@ -18,7 +18,7 @@ use crate::taking::{OPENER, doing, take_silently};
 use std::alloc::Global;
 use tdb_disk::{Disk, Sink, Source};
 use tdb_log::Logs;
-use tdb_plays::{Command, Play};
+use tdb_commands::{Command, Play};
 use tdb_whole::{OpenerStanding, World};
 
 /// An opener joins, and does what the lines of the input order.

@@ -18,7 +18,7 @@ use std::alloc::Global;
 use tdb_disk::{Disk, Sink};
 use tdb_dump::Listing;
 use tdb_log::Logs;
-use tdb_plays::{Command, Play, TurnReport};
+use tdb_commands::{Command, Play, TurnReport};
 use tdb_whole::World;
 
 /// The number of the opener that takes the commands.

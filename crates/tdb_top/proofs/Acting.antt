@@ -33,7 +33,7 @@ use Rattle.tdb_top.specs.Commands.Restore.{of_input, HeardBy}
 use Rattle.tdb_top.specs.Commands.Session.{StaysThere}
 use Rattle.tdb_top.specs.Commands.Turns.{TurnsLeave}
 use Rattle.tdb_top.specs.Commands.Verify.{VerifyCause}
-use Rattle.tdb_plays.specs.declared.options.Options.{Options}
+use Rattle.tdb_commands.specs.declared.options.Options.{Options}
 use Rattle.tdb_top.specs.Reads.{AskEnds, GenCause}
 use Rattle.tdb_top.specs.Input.{Input}
 use Rattle.tdb_open.specs.Opening.{opened_bytes, CanOpen, UndoneIfOpen, HaltsBelow, LeavesBelow, of_fault}

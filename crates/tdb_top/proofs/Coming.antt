@@ -15,9 +15,9 @@ use Rattle.tdb_dump.specs.declared.writer.WriteRefusal.TheVariants as Untold
 use Rattle.tdb_law.specs.Lines.{Line as LawLine}
 use Rattle.tdb_law.specs.Plays.{Course}
 use Rattle.tdb_law.specs.World.{State}
-use Rattle.tdb_plays.specs.InLaw.{law_play, law_plays, law_line, law_lines}
-use Rattle.tdb_plays.specs.declared.line.Line.{Line}
-use Rattle.tdb_plays.specs.declared.play.Play.{Play}
+use Rattle.tdb_commands.specs.InLaw.{law_play, law_plays, law_line, law_lines}
+use Rattle.tdb_commands.specs.declared.line.Line.{Line}
+use Rattle.tdb_commands.specs.declared.play.Play.{Play}
 use Rattle.tdb_script.specs.Text.{printed_line, report_text}
 use Rattle.tdb_openers.specs.Played.{ComesTo, UnlessIo, OnIo}
 use Rattle.tdb_openers.specs.declared.fault.RunFault.{RunFault}

@@ -1,7 +1,7 @@
 -- What logs heard of the lines of plays, from play to play.
 use Rattle.std.proofs.Common.{ℕ, zero, suc, List, ◌++◌, Result, Ok, Err, refl, sym, subst, inl, inr}
 use Rattle.tdb_law.specs.World.{State}
-use Rattle.tdb_plays.specs.declared.line.Line.{Line}
+use Rattle.tdb_commands.specs.declared.line.Line.{Line}
 use Rattle.tdb_log.specs.Logs.{Logged}
 use Rattle.tdb_log.specs.declared.log.LogRefusal.{LogRefusal}
 use Rattle.tdb_log.specs.declared.log.LogRefusal.TheVariants as Unlogged

@@ -36,7 +36,7 @@ use Rattle.tdb_open.specs.Loading.{TurnOpened}
 use Rattle.tdb_top.specs.Commands.Turns.{IsPlayed, TurnsLeft, TurnsLeave}
 use Rattle.tdb_dump.specs.declared.listing.Listing.{Listing}
 use Rattle.tdb_log.specs.Logs.{Logged}
-use Rattle.tdb_plays.specs.declared.options.Options.{Options}
+use Rattle.tdb_commands.specs.declared.options.Options.{Options}
 use Rattle.tdb_gen.specs.declared.summary.Summary.{Summary}
 use Rattle.tdb_gen.specs.Summary.{summary_text}
 use Rattle.tdb_top.specs.Commands.Generate.{HasMade, GenLeaves}

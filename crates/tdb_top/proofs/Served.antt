@@ -3,14 +3,14 @@ use Rattle.std.proofs.Common.{ℕ, ◌<◌, ◌≤◌, List, [], ◌∷◌, leng
 use Rattle.std.specs.Prelude.{◌^◌}
 use Rattle.std.proofs.lemmas.List.Elements.{All-nil, All-cons}
 use Rattle.tdb_dump.specs.Word.{IsWord}
-use Rattle.tdb_plays.specs.declared.command.Command.{Command}
-use Rattle.tdb_plays.specs.declared.play.Play.{Play}
+use Rattle.tdb_commands.specs.declared.command.Command.{Command}
+use Rattle.tdb_commands.specs.declared.play.Play.{Play}
 use Rattle.tdb_script.specs.Lines.{lines_of, words_of}
 use Rattle.tdb_script.specs.Rows.{bare_commands, key_commands, value_commands, bare_plays, opener_plays, command_plays}
 use Rattle.tdb_script.specs.Script.{IsCommand, IsOpenerPlay, IsPlay, Says, LinesSay, with_said, Script}
 use Rattle.tdb_script.proofs.EachRow.{of_row}
 use Rattle.tdb_script.proofs.PartLemmas.{NoLonger, lines_no_longer, words_no_longer}
-use Rattle.tdb_plays.specs.Short.{IsShortCommand}
+use Rattle.tdb_commands.specs.Short.{IsShortCommand}
 use Rattle.tdb_course.specs.Playable.{IsPlayable, ArePlayable}
 use Rattle.tdb_ask.proofs.ShortWords.{word_short}
 

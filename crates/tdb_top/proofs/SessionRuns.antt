@@ -8,7 +8,7 @@ use Rattle.tdb_space.specs.Form.{form_of}
 use Rattle.tdb_course.specs.Hearing.{Heard, HeardUpTo}
 use Rattle.tdb_log.specs.Logs.{Logged}
 use Rattle.tdb_log.specs.declared.log.LogRefusal.TheVariants as Unheard
-use Rattle.tdb_plays.specs.declared.line.Line.{Line}
+use Rattle.tdb_commands.specs.declared.line.Line.{Line}
 use Rattle.tdb_tool.proofs.Wholes.{begins, over_comes}
 use Rattle.tdb_tool.specs.Whole.{CameSo, StopsOpen}
 use Rattle.tdb_tool.specs.declared.fault.SessionEnd.{SessionEnd}

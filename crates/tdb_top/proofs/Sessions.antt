@@ -12,7 +12,7 @@ use Rattle.tdb_law.specs.Lines.{Line as LawLine}
 use Rattle.tdb_law.specs.World.{State}
 use Rattle.tdb_tool.proofs.Wholes.{over_comes}
 use Rattle.tdb_log.specs.Logs.{Logged}
-use Rattle.tdb_plays.specs.declared.line.Line.{Line}
+use Rattle.tdb_commands.specs.declared.line.Line.{Line}
 use Rattle.tdb_tool.specs.Serving.{HeardSo}
 use Rattle.tdb_tool.specs.Whole.{SessionCame, StopsOpen}
 use Rattle.tdb_tool.specs.declared.fault.SessionEnd.{SessionEnd}
@@ -20,7 +20,7 @@ use Rattle.tdb_tool.specs.declared.fault.SessionEnd.TheVariants as End
 use Rattle.tdb_tool.specs.declared.fault.SessionFault.{SessionFault}
 use Rattle.tdb_tool.specs.declared.fault.SessionFault.TheVariants as F
 use Rattle.tdb_tool.specs.declared.order.Order.{Order}
-use Rattle.tdb_plays.specs.declared.options.Options.{Options}
+use Rattle.tdb_commands.specs.declared.options.Options.{Options}
 use Rattle.tdb_ask.specs.declared.ask.Task.TheVariants.{Session}
 use Rattle.tdb_top.specs.declared.ending.Ending.{Ending}
 use Rattle.tdb_top.specs.declared.ending.Ending.TheVariants as E

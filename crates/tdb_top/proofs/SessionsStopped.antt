@@ -10,7 +10,7 @@ use Rattle.tdb_law.specs.Beginning.{IsLoaded}
 use Rattle.tdb_law.specs.World.{State}
 use Rattle.tdb_course.specs.Hearing.{Heard}
 use Rattle.tdb_log.specs.Logs.{Logged}
-use Rattle.tdb_plays.specs.declared.line.Line.{Line}
+use Rattle.tdb_commands.specs.declared.line.Line.{Line}
 use Rattle.tdb_script.specs.Lines.{lines_of}
 use Rattle.tdb_tool.proofs.PartLemmas.{all_came, came_more}
 use Rattle.tdb_tool.proofs.Wholes.{begins, over_comes}
@@ -22,7 +22,7 @@ use Rattle.tdb_tool.specs.declared.fault.SessionEnd.{SessionEnd}
 use Rattle.tdb_tool.specs.declared.fault.SessionFault.{SessionFault}
 use Rattle.tdb_tool.specs.declared.fault.SessionFault.TheVariants as F
 use Rattle.tdb_tool.specs.declared.order.Order.{Order}
-use Rattle.tdb_plays.specs.InLaw.{options_of}
+use Rattle.tdb_commands.specs.InLaw.{options_of}
 use Rattle.tdb_course.specs.Stops.{OpensOnTheWay}
 use Rattle.tdb_whole.specs.Died.{IsReadAs}
 use Rattle.tdb_top.specs.declared.ending.Ending.{Ending}

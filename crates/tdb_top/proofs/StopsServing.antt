@@ -9,8 +9,8 @@ use Rattle.tdb_law.specs.Lines.{Line as LawLine}
 use Rattle.tdb_law.specs.World.{State}
 use Rattle.tdb_course.specs.Hearing.{Heard}
 use Rattle.tdb_log.specs.Logs.{Logged}
-use Rattle.tdb_plays.specs.declared.line.Line.{Line}
-use Rattle.tdb_plays.specs.declared.options.Options.{Options}
+use Rattle.tdb_commands.specs.declared.line.Line.{Line}
+use Rattle.tdb_commands.specs.declared.options.Options.{Options}
 use Rattle.tdb_tool.proofs.Wholes.{over_weaker, came_weaker}
 use Rattle.tdb_open.specs.Loading.{IsOver, IsOpened}
 use Rattle.tdb_tool.specs.Whole.{StopsOpen, SessionOver, SessionCame, CameSo}

@@ -14,9 +14,9 @@ use Rattle.tdb_law.specs.Images.{image_map}
 use Rattle.tdb_law.specs.Lines.{Line as LawLine}
 use Rattle.tdb_law.specs.Openers.{nowhere}
 use Rattle.tdb_law.specs.World.{State, HasFewChains}
-use Rattle.tdb_plays.specs.InLaw.{law_plays, law_lines, options_of}
-use Rattle.tdb_plays.specs.declared.options.Options.{Options}
-use Rattle.tdb_plays.specs.declared.play.Play.{Play}
+use Rattle.tdb_commands.specs.InLaw.{law_plays, law_lines, options_of}
+use Rattle.tdb_commands.specs.declared.options.Options.{Options}
+use Rattle.tdb_commands.specs.declared.play.Play.{Play}
 use Rattle.tdb_steps.specs.Turns.{number_of}
 use Rattle.tdb_open.specs.declared.halt.Halt.{Halt}
 use Rattle.tdb_open.specs.declared.halt.Halt.TheVariants as H

@@ -9,15 +9,15 @@ use Rattle.tdb_disk.specs.declared.files.TakeRefusal.TheVariants as Take
 use Rattle.tdb_space.specs.Form.{form_of}
 use Rattle.tdb_check.specs.Report.{Counted}
 use Rattle.tdb_log.specs.Logs.{Logged}
-use Rattle.tdb_plays.specs.declared.line.Line.{Line}
-use Rattle.tdb_plays.specs.declared.play.Play.{Play}
+use Rattle.tdb_commands.specs.declared.line.Line.{Line}
+use Rattle.tdb_commands.specs.declared.play.Play.{Play}
 use Rattle.tdb_script.specs.Script.{Script, BadAt, IsRefused as NoScript}
 use Rattle.tdb_script.specs.declared.script.ScriptRefusal.{ScriptRefusal}
 use Rattle.tdb_script.specs.declared.script.ScriptRefusal.TheVariants as Unread
 use Rattle.tdb_script.specs.declared.limits.TheConstants.{LONGEST_SCRIPT}
 use Rattle.tdb_script.proofs.PartLemmas.{stays_bad}
 use Rattle.tdb_script.specs.Text.{report_text}
-use Rattle.tdb_plays.specs.declared.options.Options.{Options}
+use Rattle.tdb_commands.specs.declared.options.Options.{Options}
 use Rattle.tdb_course.proofs.Coming.{whole_comes}
 use Rattle.tdb_ask.specs.declared.ask.Task.TheVariants.{Turns}
 use Rattle.tdb_top.specs.declared.ending.Ending.{Ending}

@@ -24,7 +24,7 @@ use Rattle.tdb_dump.specs.declared.listing.Listing.{Listing}
 use Rattle.tdb_top.specs.Commands.Print.{PrintText}
 use Rattle.tdb_top.specs.Commands.Session.{SessionText}
 use Rattle.tdb_top.specs.Commands.Turns.{TurnsText}
-use Rattle.tdb_plays.specs.declared.options.Options.{Options}
+use Rattle.tdb_commands.specs.declared.options.Options.{Options}
 use Rattle.tdb_top.specs.Printed.{TaskText, TextBefore, task_tells, ask_tells, IsSilent, Finishes, Writes}
 use Rattle.tdb_top.proofs.Verifying.{front_wanting}
 

@@ -11,7 +11,7 @@ use Rattle.tdb_top.specs.Commands.Session.{ServesSo}
 use Rattle.tdb_top.specs.Commands.Turns.{PlaysSo}
 use Rattle.tdb_top.specs.Commands.Generate.{GenSo}
 use Rattle.tdb_top.specs.Commands.Verify.{VerifyEnds}
-use Rattle.tdb_plays.specs.declared.options.Options.{Options}
+use Rattle.tdb_commands.specs.declared.options.Options.{Options}
 use Rattle.tdb_top.specs.Ending.{TaskCause}
 use Rattle.tdb_top.specs.Input.{Input}
 

@@ -9,11 +9,11 @@ use Rattle.tdb_law.specs.Beginning.{IsLoaded}
 use Rattle.tdb_law.specs.Plays.{Course}
 use Rattle.tdb_law.specs.World.{State}
 use Rattle.tdb_ask.specs.declared.ask.Task.TheVariants.{Turns}
-use Rattle.tdb_plays.specs.InLaw.{law_plays, law_lines, options_of}
-use Rattle.tdb_plays.specs.declared.line.Line.{Line}
-use Rattle.tdb_plays.specs.declared.line.Line.TheVariants.{Unfinished}
-use Rattle.tdb_plays.specs.declared.options.Options.{Options}
-use Rattle.tdb_plays.specs.declared.play.Play.{Play}
+use Rattle.tdb_commands.specs.InLaw.{law_plays, law_lines, options_of}
+use Rattle.tdb_commands.specs.declared.line.Line.{Line}
+use Rattle.tdb_commands.specs.declared.line.Line.TheVariants.{Unfinished}
+use Rattle.tdb_commands.specs.declared.options.Options.{Options}
+use Rattle.tdb_commands.specs.declared.play.Play.{Play}
 use Rattle.tdb_script.specs.Text.{report_text}
 use Rattle.tdb_open.specs.Loading.{IsOver, OpensToTurn}
 use Rattle.tdb_openers.specs.Played.{ComesTo}

@@ -5,7 +5,7 @@ ghost use Rattle.tdb_disk.specs.Count.{HasCause, Rose};
 ghost use Rattle.tdb_ask.specs.declared.ask.Task.TheVariants.{Turns as TurnsIs, Session as SessionIs};
 ghost use Rattle.tdb_top.specs.declared.ending.Ending.TheVariants.{Replied, Usage};
 ghost use Rattle.tdb_top.specs.declared.ending.Reply.TheVariants.{Played};
-ghost use Rattle.tdb_plays.specs.declared.options.Options.{Options as WorldOptions};
+ghost use Rattle.tdb_commands.specs.declared.options.Options.{Options as WorldOptions};
 ghost use Rattle.tdb_ask.specs.Ask.{TaskFits};
 ghost use Rattle.tdb_top.specs.Commands.Restore.{HeardBy, of_input};
 ghost use Rattle.tdb_top.specs.Commands.Session.{SessionHeld};

@@ -22,7 +22,7 @@ use tdb_disk::{Disk, Sink};
 use tdb_dump::WriteRefusal;
 use tdb_log::{LogRefusal, Logs};
 use tdb_open::Fault;
-use tdb_plays::{Play, TurnReport};
+use tdb_commands::{Play, TurnReport};
 use tdb_script::write_line;
 use tdb_whole::World;
 

@@ -11,7 +11,7 @@ ghost use Rattle.tdb_course.specs.Playable.{ArePlayable};
 use crate::ending::Ending;
 use std::alloc::{AllocError, Global};
 use tdb_disk::{Source, SourceFault};
-use tdb_plays::Plays;
+use tdb_commands::Plays;
 use tdb_script::{LONGEST_SCRIPT, ScriptRefusal, read_script};
 use tdb_words::Bytes;
 use thiserror::Error;

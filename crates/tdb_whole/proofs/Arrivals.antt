@@ -5,7 +5,7 @@ use Rattle.std.proofs.lemmas.Option.{slice_get_past}
 use Rattle.tdb_disk.specs.History.{History, seen}
 use Rattle.tdb_space.specs.Form.{Form, form_in}
 use Rattle.tdb_words.specs.declared.header.Header.{Header}
-use Rattle.tdb_plays.specs.declared.options.Options.{Options}
+use Rattle.tdb_commands.specs.declared.options.Options.{Options}
 use Rattle.tdb_law.specs.Beginning.{IsLoaded}
 use Rattle.tdb_law.specs.Images.{image_map}
 use Rattle.tdb_law.specs.Events.{Joins}
@@ -16,7 +16,7 @@ use Rattle.tdb_law.proofs.Emptied.{before_event, other_event, sound_event}
 use Rattle.tdb_law.proofs.Kept.{opened_base}
 use Rattle.tdb_law.proofs.Walking.{put_here, put_else}
 use Rattle.tdb_steps.specs.Turns.{number_of}
-use Rattle.tdb_plays.specs.InLaw.{law_opener, options_of}
+use Rattle.tdb_commands.specs.InLaw.{law_opener, options_of}
 use Rattle.tdb_beside.specs.Sides.{Past, Side, alone, whole}
 use Rattle.tdb_beside.specs.Starts.{with_starts, MayStart}
 use Rattle.tdb_beside.proofs.Happening.{joins_beside}

@@ -27,7 +27,7 @@ use Rattle.tdb_holder.proofs.Lifting.{beside_ends, beside_turns}
 use Rattle.tdb_openers.specs.Openers.{place_at}
 use Rattle.tdb_openers.specs.States.{state_of}
 use Rattle.tdb_openers.specs.declared.opener.Opener.{Opener}
-use Rattle.tdb_plays.specs.declared.options.Options.{Options}
+use Rattle.tdb_commands.specs.declared.options.Options.{Options}
 use Rattle.tdb_whole.proofs.OthersKept.{OneChanges, others_keep, walk_keeps}
 
 -- The opener stays aside.

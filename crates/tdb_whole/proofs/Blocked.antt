@@ -8,7 +8,7 @@ use Rattle.tdb_law.specs.Openers.{Task}
 use Rattle.tdb_law.specs.Turned.{Turned}
 use Rattle.tdb_law.specs.World.{State}
 use Rattle.tdb_locks.specs.declared.kind.Kind.{Kind}
-use Rattle.tdb_plays.specs.InLaw.{law_opener}
+use Rattle.tdb_commands.specs.InLaw.{law_opener}
 use Rattle.tdb_beside.specs.Own.{side_wants}
 use Rattle.tdb_beside.specs.Sides.{Past, Side, beside}
 use Rattle.tdb_beside.specs.Starts.{with_starts}

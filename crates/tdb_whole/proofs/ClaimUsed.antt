@@ -7,8 +7,8 @@ use Rattle.tdb_locks.specs.declared.kind.Kind.TheVariants.{Write}
 use Rattle.tdb_locks.specs.declared.turn.Turn.{Turn as TurnIs}
 use Rattle.tdb_law.specs.Openers.{Task}
 use Rattle.tdb_steps.specs.Turns.{number_of}
-use Rattle.tdb_plays.specs.InLaw.{law_turn}
-use Rattle.tdb_plays.specs.declared.options.Options.{Options}
+use Rattle.tdb_commands.specs.InLaw.{law_turn}
+use Rattle.tdb_commands.specs.declared.options.Options.{Options}
 use Rattle.tdb_beside.specs.Sides.{Past, Side}
 use Rattle.tdb_space.specs.Form.{form_in}
 use Rattle.tdb_holder.specs.Ends.{IsBlocked}

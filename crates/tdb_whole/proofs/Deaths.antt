@@ -4,7 +4,7 @@ use Rattle.tdb_disk.specs.History.{History}
 use Rattle.tdb_law.specs.Events.{Dies}
 use Rattle.tdb_law.specs.Lines.{MayDie}
 use Rattle.tdb_law.specs.World.{State, IsSound}
-use Rattle.tdb_plays.specs.InLaw.{law_opener}
+use Rattle.tdb_commands.specs.InLaw.{law_opener}
 use Rattle.tdb_beside.specs.Sides.{beside, whole}
 use Rattle.tdb_beside.specs.Starts.{with_starts}
 use Rattle.tdb_holder.specs.Holders.{stage_gate, HolderState}

@@ -14,7 +14,7 @@ use Rattle.tdb_law.proofs.Emptied.{before_event, other_event, sound_event}
 use Rattle.tdb_law.proofs.Kept.{closed_base}
 use Rattle.tdb_law.proofs.Tests.{never_true}
 use Rattle.tdb_steps.specs.Holdings.{strength}
-use Rattle.tdb_plays.specs.InLaw.{law_opener}
+use Rattle.tdb_commands.specs.InLaw.{law_opener}
 use Rattle.tdb_beside.specs.Sides.{Past, Side, alone, whole}
 use Rattle.tdb_beside.specs.Starts.{with_starts}
 use Rattle.tdb_beside.proofs.Happening.{dies_beside}

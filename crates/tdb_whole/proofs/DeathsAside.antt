@@ -24,8 +24,8 @@ use Rattle.tdb_law.proofs.Pending.{pending_touches}
 use Rattle.tdb_law.proofs.Tests.{never_true}
 use Rattle.tdb_law.proofs.Walking.{put_here, put_else}
 use Rattle.tdb_steps.specs.Turns.{number_of}
-use Rattle.tdb_plays.specs.InLaw.{law_opener}
-use Rattle.tdb_plays.specs.declared.options.Options.{Options}
+use Rattle.tdb_commands.specs.InLaw.{law_opener}
+use Rattle.tdb_commands.specs.declared.options.Options.{Options}
 use Rattle.tdb_beside.specs.Sides.{Past, Side, alone, beside, StandsAside}
 use Rattle.tdb_beside.specs.Starts.{with_starts}
 use Rattle.tdb_beside.proofs.Starting.{starts_die}

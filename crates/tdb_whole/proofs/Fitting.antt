@@ -6,7 +6,7 @@ use Rattle.tdb_locks.specs.declared.kind.Kind.TheVariants.{Read, Write}
 use Rattle.tdb_locks.specs.declared.turn.Turn.{Turn as TurnIs}
 use Rattle.tdb_locks.specs.declared.turn.Turn.TheVariants as Turns
 use Rattle.tdb_law.proofs.Tests.{never_true}
-use Rattle.tdb_plays.specs.InLaw.{law_opener}
+use Rattle.tdb_commands.specs.InLaw.{law_opener}
 use Rattle.tdb_holder.specs.Holders.{left_stage, HolderState}
 use Rattle.tdb_holder.specs.Stages.{is_closing, stage_records, IsFit, IsFitLeft}
 use Rattle.tdb_holder.specs.Wanting.{records_by, stage_wants, RecordsGo}

@@ -24,14 +24,14 @@ use Rattle.tdb_law.proofs.Emptied.{unchanged_start}
 use Rattle.tdb_law.proofs.Pending.{same_task}
 use Rattle.tdb_law.proofs.Tests.{never_true}
 use Rattle.tdb_law.proofs.Walking.{put_here, put_else}
-use Rattle.tdb_plays.specs.InLaw.{law_command, law_opener}
-use Rattle.tdb_plays.specs.declared.command.Command.{Command as Asked}
+use Rattle.tdb_commands.specs.InLaw.{law_command, law_opener}
+use Rattle.tdb_commands.specs.declared.command.Command.{Command as Asked}
 use Rattle.tdb_beside.specs.Sides.{Past, Side, alone, but_at, whole}
 use Rattle.tdb_beside.specs.Starts.{MayStart, with_starts}
 use Rattle.tdb_beside.proofs.Happening.{given_beside}
 use Rattle.tdb_beside.proofs.Starting.{start_given, starts_given}
 use Rattle.tdb_words.specs.declared.header.Header.{Header}
-use Rattle.tdb_plays.specs.declared.options.Options.{Options}
+use Rattle.tdb_commands.specs.declared.options.Options.{Options}
 use Rattle.tdb_holder.specs.Ends.{task_of}
 use Rattle.tdb_holder.specs.Holders.{is_idle, with_command, HolderState}
 use Rattle.tdb_holder.specs.Stages.{stage_records, stage_task, IsFit, IsSide, KnowsFile, Known}
@@ -43,7 +43,7 @@ use Rattle.tdb_openers.specs.Laws.{IsPut}
 use Rattle.tdb_openers.specs.Openers.{all_of, law_task, own_at, own_of, task_at, OpenerStands}
 use Rattle.tdb_openers.specs.Worlds.{World, state_in, BytesStand, IsAssigned, IsFree, IsNumber, Stands}
 use Rattle.tdb_openers.specs.declared.opener.Opener.{Opener}
-use Rattle.tdb_plays.proofs.Counts.{sum_counted}
+use Rattle.tdb_commands.proofs.Counts.{sum_counted}
 use Rattle.tdb_openers.proofs.Putting.{by_number}
 use Rattle.tdb_whole.specs.States.{IsAside, IsSeen, IsStaleState, IsStateOf, IsWholeState, SideIs, once, writes_all}
 use Rattle.tdb_whole.specs.States.IsStateOf.{of_whole, of_stale}

@@ -26,8 +26,8 @@ use Rattle.tdb_walk.specs.Cursors.{spot_of}
 use Rattle.tdb_walk.specs.NextLive.{place_of}
 use Rattle.tdb_walk.specs.declared.standing.Standing.{Standing}
 use Rattle.tdb_walk.specs.declared.standing.Standing.TheVariants.{Before, On, Past as Behind}
-use Rattle.tdb_plays.specs.InLaw.{law_opener, law_turn}
-use Rattle.tdb_plays.specs.declared.options.Options.{Options}
+use Rattle.tdb_commands.specs.InLaw.{law_opener, law_turn}
+use Rattle.tdb_commands.specs.declared.options.Options.{Options}
 use Rattle.tdb_beside.specs.Sides.{Past, Side, beside}
 use Rattle.tdb_beside.specs.Starts.{with_starts, MayStart}
 use Rattle.tdb_beside.proofs.Starting.{starts_turn}

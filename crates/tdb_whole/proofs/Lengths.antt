@@ -9,7 +9,7 @@ use Rattle.tdb_law.specs.Refusals.{chain_byte}
 use Rattle.tdb_law.specs.Rows.{all_end, lock_all, lock_chain, lock_free, map_locks}
 use Rattle.tdb_law.specs.World.{HasFewChains}
 use Rattle.tdb_law.proofs.Locks.{all_covered, chain_covered, chain_place, first_locked}
-use Rattle.tdb_plays.specs.declared.options.Options.{Options}
+use Rattle.tdb_commands.specs.declared.options.Options.{Options}
 use Rattle.tdb_steps.specs.Machines.{Doing, IsFit}
 use Rattle.tdb_steps.specs.Order.{IsAfter}
 use Rattle.tdb_steps.specs.PlainCommands.{command_of, key_of, store_of}

@@ -9,8 +9,8 @@ use Rattle.tdb_law.specs.Commands.Command.{OnGroup}
 use Rattle.tdb_law.specs.Openers.{Own, Task}
 use Rattle.tdb_law.specs.World.{State}
 use Rattle.tdb_law.proofs.Walking.{put_here}
-use Rattle.tdb_plays.specs.InLaw.{law_opener}
-use Rattle.tdb_plays.specs.declared.options.Options.{Options}
+use Rattle.tdb_commands.specs.InLaw.{law_opener}
+use Rattle.tdb_commands.specs.declared.options.Options.{Options}
 use Rattle.tdb_beside.specs.Sides.{Past, Side}
 use Rattle.tdb_beside.specs.Starts.{new_start}
 use Rattle.tdb_commit.specs.Starts.{start_steps}

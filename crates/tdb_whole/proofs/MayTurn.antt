@@ -17,7 +17,7 @@ use Rattle.tdb_holder.specs.Turned.{MayTurn}
 use Rattle.tdb_holder.specs.Wanting.{wanted_by}
 use Rattle.tdb_holder.specs.declared.wanting.Wants.{Wants}
 use Rattle.tdb_holder.proofs.Waiting.{commit_wants}
-use Rattle.tdb_plays.specs.declared.options.Options.{Options}
+use Rattle.tdb_commands.specs.declared.options.Options.{Options}
 use Rattle.tdb_openers.specs.Aside.{wants_all}
 use Rattle.tdb_openers.specs.States.{state_of, WorldStands}
 use Rattle.tdb_openers.specs.Turning.{law_table}

@@ -21,8 +21,8 @@ use Rattle.tdb_beside.specs.Starts.{MayStart}
 use Rattle.tdb_beside.specs.Turns.{IsApart, IsClear, IsUngrouped, past_after}
 use Rattle.tdb_beside.proofs.Beside.{alone_turns, beside_turns}
 use Rattle.tdb_beside.proofs.Starting.{starts_turn}
-use Rattle.tdb_plays.specs.InLaw.{law_opener, law_command}
-use Rattle.tdb_plays.specs.declared.options.Options.{Options}
+use Rattle.tdb_commands.specs.InLaw.{law_opener, law_command}
+use Rattle.tdb_commands.specs.declared.options.Options.{Options}
 use Rattle.tdb_holder.specs.Holders.{HolderState}
 use Rattle.tdb_holder.specs.Stages.{commit_records, plan_records, prepared_records, stage_records, IsFit, IsSide, Known, KnowsFile}
 use Rattle.tdb_holder.specs.declared.stage.Stage.{Stage}

@@ -36,7 +36,7 @@ use Rattle.tdb_beside.specs.Starts.{new_start, with_starts, MayStart}
 use Rattle.tdb_beside.proofs.Idle.{still_shift, waiting_is_turned}
 use Rattle.tdb_beside.proofs.Parted.{put_back}
 use Rattle.tdb_beside.proofs.Starting.{start_ends, starts_sound, task_is}
-use Rattle.tdb_plays.specs.InLaw.{law_opener}
+use Rattle.tdb_commands.specs.InLaw.{law_opener}
 use Rattle.tdb_holder.specs.Holders.{HolderState}
 use Rattle.tdb_holder.specs.Stages.{Known, IsSide}
 use Rattle.tdb_holder.specs.declared.stage.Stage.TheVariants as At
@@ -47,7 +47,7 @@ use Rattle.tdb_openers.specs.Worlds.{World, state_in}
 use Rattle.tdb_openers.specs.declared.opener.Opener.{Opener}
 use Rattle.tdb_openers.proofs.Aside.{held_before}
 use Rattle.tdb_openers.proofs.Closed.{bare_walk}
-use Rattle.tdb_plays.proofs.Counts.{none_counted, sum_counted}
+use Rattle.tdb_commands.proofs.Counts.{none_counted, sum_counted}
 use Rattle.tdb_openers.proofs.Opening.{low_is_free}
 use Rattle.tdb_whole.specs.States.{state_with, IsAside, IsSeen, IsStateOf, SideIs}
 use Rattle.tdb_whole.specs.States.IsStateOf.{of_whole, of_stale}

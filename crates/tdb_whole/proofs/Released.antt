@@ -3,7 +3,7 @@ use Rattle.std.proofs.Common.{◌≡◌, ℕ, ◌+◌, List, Bool, true, false, 
 use Rattle.std.specs.Prelude.{slice_get, not}
 use Rattle.tdb_locks.specs.LockTable.{held}
 use Rattle.tdb_locks.specs.declared.piece.Piece.{Piece}
-use Rattle.tdb_plays.specs.InLaw.{law_opener}
+use Rattle.tdb_commands.specs.InLaw.{law_opener}
 use Rattle.tdb_steps.specs.Holdings.{strength}
 use Rattle.tdb_openers.specs.Aside.{with_records, HoldsRecords, IsBare}
 use Rattle.tdb_openers.specs.Died.{died, HasDied}

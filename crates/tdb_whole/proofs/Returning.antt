@@ -22,9 +22,9 @@ use Rattle.tdb_law.proofs.HandsOut.{image_answers}
 use Rattle.tdb_law.proofs.Marking.{all_shift}
 use Rattle.tdb_law.proofs.Sound.{sound_after}
 use Rattle.tdb_steps.proofs.Cells.{live_mapped}
-use Rattle.tdb_plays.specs.InLaw.{law_opener, options_of}
-use Rattle.tdb_plays.specs.declared.options.Options.{Options}
-use Rattle.tdb_plays.proofs.Counts.{none_counted}
+use Rattle.tdb_commands.specs.InLaw.{law_opener, options_of}
+use Rattle.tdb_commands.specs.declared.options.Options.{Options}
+use Rattle.tdb_commands.proofs.Counts.{none_counted}
 use Rattle.tdb_beside.specs.Sides.{Past, Side, alone, beside}
 use Rattle.tdb_beside.specs.Starts.{with_starts}
 use Rattle.tdb_beside.proofs.Starting.{starts_turn}

@@ -1,7 +1,7 @@
 -- When a command may be given.
 use Rattle.std.proofs.Common.{◌≡◌, ℕ, Err, Ok, Some, sym, subst}
 use Rattle.std.specs.Prelude.{OnErr, Result}
-use Rattle.tdb_plays.specs.declared.command.Command.{Command}
+use Rattle.tdb_commands.specs.declared.command.Command.{Command}
 use Rattle.tdb_holder.specs.Holders.{stage_depth, HolderState}
 use Rattle.tdb_holder.specs.Stages.{MayBeGiven}
 use Rattle.tdb_whole.specs.Steps.{HasRoom, IsAmong}

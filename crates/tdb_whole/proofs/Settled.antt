@@ -3,7 +3,7 @@ use Rattle.std.proofs.Common.{◌≡◌, ℕ, List, Option, Some, None, sym, ◌
 use Rattle.std.specs.Prelude.{slice_get, Bool, true, false, is_some}
 use Rattle.tdb_holder.specs.Holders.{HolderState}
 use Rattle.tdb_locks.specs.declared.kind.Kind.{Kind}
-use Rattle.tdb_plays.specs.InLaw.{law_opener}
+use Rattle.tdb_commands.specs.InLaw.{law_opener}
 use Rattle.tdb_openers.specs.Aside.{with_records, HoldsRecords, IsBare}
 use Rattle.tdb_openers.specs.Died.{HasDied}
 use Rattle.tdb_openers.specs.Worlds.{World, IsNumber}

@@ -8,7 +8,7 @@ use Rattle.tdb_space.specs.Opening.{restored}
 use Rattle.tdb_space.specs.Undoing.{Reopens}
 use Rattle.tdb_law.specs.Openers.{Own}
 use Rattle.tdb_law.specs.World.{State}
-use Rattle.tdb_plays.specs.InLaw.{law_opener}
+use Rattle.tdb_commands.specs.InLaw.{law_opener}
 use Rattle.tdb_openers.specs.Calm.{IsMidway}
 use Rattle.tdb_openers.specs.Openers.{own_of}
 use Rattle.tdb_openers.specs.Worlds.{law_of_task, IsBusy}

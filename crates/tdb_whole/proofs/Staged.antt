@@ -29,10 +29,10 @@ use Rattle.tdb_commit.specs.declared.starting.Starting.TheVariants as Starts
 use Rattle.tdb_beside.specs.Sides.{Past, Side}
 use Rattle.tdb_commit.specs.Starts.{start_steps}
 use Rattle.tdb_holder.specs.declared.open_txn.OpenTxn.{OpenTxn}
-use Rattle.tdb_plays.specs.InLaw.{law_command, law_turn}
-use Rattle.tdb_plays.specs.declared.command.Command.{Command}
-use Rattle.tdb_plays.specs.declared.command.Command.TheVariants as Given
-use Rattle.tdb_plays.specs.declared.options.Options.{Options}
+use Rattle.tdb_commands.specs.InLaw.{law_command, law_turn}
+use Rattle.tdb_commands.specs.declared.command.Command.{Command}
+use Rattle.tdb_commands.specs.declared.command.Command.TheVariants as Given
+use Rattle.tdb_commands.specs.declared.options.Options.{Options}
 use Rattle.tdb_holder.specs.Ends.{task_of, IsBlocked}
 use Rattle.tdb_holder.specs.Stages.{is_close, is_closing, plan_records, stage_records, stage_task, Known, KnowsFile, IsSide}
 use Rattle.tdb_holder.specs.Turned.{BeginsOn, KnowsLeft, RestsLike}

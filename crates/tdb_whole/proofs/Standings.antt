@@ -9,8 +9,8 @@ use Rattle.tdb_law.specs.Rows.{lock_all}
 use Rattle.tdb_law.specs.World.{State}
 use Rattle.tdb_law.proofs.Tests.{never_true}
 use Rattle.tdb_law.proofs.Walking.{put_here, put_else}
-use Rattle.tdb_plays.specs.InLaw.{law_opener}
-use Rattle.tdb_plays.specs.declared.options.Options.{Options}
+use Rattle.tdb_commands.specs.InLaw.{law_opener}
+use Rattle.tdb_commands.specs.declared.options.Options.{Options}
 use Rattle.tdb_steps.specs.LockRows.{strength_of}
 use Rattle.tdb_beside.specs.Events.{StandsBy, IsElse}
 use Rattle.tdb_beside.specs.Sides.{Past, Side, alone, beside, whole, IsPlain, StandsAside}

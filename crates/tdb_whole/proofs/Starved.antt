@@ -17,7 +17,7 @@ use Rattle.tdb_beside.specs.Sides.{Past, Side}
 use Rattle.tdb_holder.specs.Stages.{Known}
 use Rattle.tdb_holder.specs.Turned.{StageTurned}
 use Rattle.tdb_holder.specs.declared.stage.Stage.{Stage}
-use Rattle.tdb_plays.specs.declared.options.Options.{Options}
+use Rattle.tdb_commands.specs.declared.options.Options.{Options}
 use Rattle.tdb_whole.proofs.Staged.{IsEarly}
 
 -- no command on a transaction is told that memory is wanting but by that end

@@ -34,8 +34,8 @@ use Rattle.tdb_commit.specs.declared.committing.Committing.TheVariants as Commit
 use Rattle.tdb_commit.specs.declared.finishing.Finishing.TheVariants as Finishes
 use Rattle.tdb_commit.specs.Starts.{start_steps}
 use Rattle.tdb_commit.specs.declared.starting.Starting.{Starting}
-use Rattle.tdb_plays.specs.InLaw.{law_opener, law_turn}
-use Rattle.tdb_plays.specs.declared.options.Options.{Options}
+use Rattle.tdb_commands.specs.InLaw.{law_opener, law_turn}
+use Rattle.tdb_commands.specs.declared.options.Options.{Options}
 use Rattle.tdb_beside.specs.Sides.{Past, Side, beside}
 use Rattle.tdb_beside.specs.Starts.{new_start, with_starts}
 use Rattle.tdb_holder.specs.Ends.{task_of}

@@ -8,7 +8,7 @@ use Rattle.tdb_commit.specs.Prepares.{StageSyncs}
 use Rattle.tdb_commit.specs.declared.preparing.PrepareStage.{PrepareStage}
 use Rattle.tdb_commit.specs.declared.preparing.PrepareStage.TheVariants as Plans
 use Rattle.tdb_commit.specs.declared.starting.Starting.TheVariants as Starts
-use Rattle.tdb_plays.specs.InLaw.{law_opener}
+use Rattle.tdb_commands.specs.InLaw.{law_opener}
 use Rattle.tdb_holder.specs.Holders.{HolderState}
 use Rattle.tdb_holder.specs.Syncs.{HolderSyncs, TurnSyncs}
 use Rattle.tdb_holder.specs.Wanting.{plan_wants, stage_wants}

@@ -14,8 +14,8 @@ use Rattle.tdb_law.specs.Turned.{Turned}
 use Rattle.tdb_law.specs.World.{State, IsSound}
 use Rattle.tdb_law.proofs.Tests.{never_true}
 use Rattle.tdb_steps.specs.Turns.{number_of}
-use Rattle.tdb_plays.specs.InLaw.{law_opener, law_turn}
-use Rattle.tdb_plays.specs.declared.options.Options.{Options}
+use Rattle.tdb_commands.specs.InLaw.{law_opener, law_turn}
+use Rattle.tdb_commands.specs.declared.options.Options.{Options}
 use Rattle.tdb_beside.specs.Sides.{Past, Side, beside, whole}
 use Rattle.tdb_beside.specs.Starts.{with_starts}
 use Rattle.tdb_commit.specs.declared.starting.Starting.TheVariants as Starts

@@ -1,7 +1,7 @@
 -- What a lock of all records among the openers comes to, which the next turn of the one aside wants.
 use Rattle.std.specs.Prelude.{ℕ, ◌≡◌, List, Bool, true, false, Option, None, Some}
 use Rattle.tdb_law.specs.Effects.{IsFirstConflict}
-use Rattle.tdb_plays.specs.InLaw.{law_opener}
+use Rattle.tdb_commands.specs.InLaw.{law_opener}
 use Rattle.tdb_holder.specs.Holders.{HolderState}
 use Rattle.tdb_holder.specs.Wanting.{stage_wants}
 use Rattle.tdb_holder.specs.declared.wanting.Wants.{Wants}

@@ -10,7 +10,7 @@ use Rattle.tdb_commit.specs.Committings.{commit_steps, CanEnd, CommitLeads, Step
 use Rattle.tdb_commit.specs.declared.committing.Committing.{Committing}
 use Rattle.tdb_commit.specs.declared.committing.CommitTurn.TheVariants.{Step}
 use Rattle.tdb_commit.specs.declared.starting.Starting.TheVariants.{Begun}
-use Rattle.tdb_plays.specs.InLaw.{law_opener}
+use Rattle.tdb_commands.specs.InLaw.{law_opener}
 use Rattle.tdb_holder.specs.Holders.{HolderState}
 use Rattle.tdb_holder.specs.Syncs.{HolderSyncs}
 use Rattle.tdb_holder.specs.declared.stage.Stage.{Stage}

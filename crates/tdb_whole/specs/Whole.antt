@@ -2,8 +2,8 @@
 use Rattle.std.specs.Prelude.{ℕ, ◌≡◌, ◌≤◌, List, Bool, true, false, Option, None, Some, slice_get, length}
 use Rattle.tdb_locks.specs.declared.kind.Kind.{Kind}
 use Rattle.tdb_locks.specs.declared.kind.Kind.TheVariants.{Read, Write}
-use Rattle.tdb_plays.specs.InLaw.{law_opener}
-use Rattle.tdb_plays.specs.declared.options.Options.{Options}
+use Rattle.tdb_commands.specs.InLaw.{law_opener}
+use Rattle.tdb_commands.specs.declared.options.Options.{Options}
 use Rattle.tdb_space.specs.Form.{Form, form_in}
 use Rattle.tdb_openers.specs.Aside.{IsBare}
 use Rattle.tdb_openers.specs.Worlds.{World, IsNumber, Stands}

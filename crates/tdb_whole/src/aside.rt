@@ -4,7 +4,7 @@ ghost use Rattle.tdb_disk.specs.Count.{HasCause};
 ghost use Rattle.tdb_disk.specs.History.{seen};
 ghost use Rattle.tdb_disk.specs.Stop.{LeavesOnly};
 ghost use Rattle.tdb_law.specs.World.{State};
-ghost use Rattle.tdb_plays.specs.InLaw.{law_opener, law_turn};
+ghost use Rattle.tdb_commands.specs.InLaw.{law_opener, law_turn};
 ghost use Rattle.tdb_space.specs.Form.{form_in};
 ghost use Rattle.tdb_locks.specs.declared.kind.Kind.{Kind};
 ghost use Rattle.tdb_locks.specs.declared.kind.Kind.TheVariants.{Write};

@@ -3,8 +3,8 @@ ghost use Rattle.std.specs.Prelude.{◌≡◌, ◌≤◌, ℕ, List, length, set
 ghost use Rattle.tdb_disk.specs.History.{History};
 ghost use Rattle.tdb_law.specs.Openers.{Task};
 ghost use Rattle.tdb_law.specs.World.{State};
-ghost use Rattle.tdb_plays.specs.InLaw.{law_opener, law_command};
-ghost use Rattle.tdb_plays.specs.Short.{IsShortCommand};
+ghost use Rattle.tdb_commands.specs.InLaw.{law_opener, law_command};
+ghost use Rattle.tdb_commands.specs.Short.{IsShortCommand};
 ghost use Rattle.tdb_whole.specs.Whole.{is_starting, WorldFits};
 ghost use Rattle.tdb_whole.specs.States.{IsStateOf};
 ghost use Rattle.tdb_whole.specs.Steps.{GiftLeads, HasCommand, HasNoCommand, HasRoom, IsAmong};
@@ -12,7 +12,7 @@ ghost use Rattle.tdb_beside.specs.Sides.{Past, Side};
 ghost use Rattle.tdb_holder.specs.Ends.{task_of};
 ghost use Rattle.tdb_holder.specs.Holders.{is_idle, stage_depth, with_command, HolderState};
 ghost use Rattle.tdb_holder.specs.Stages.{Known, IsFit, IsSide, KnowsFile, MayBeGiven};
-ghost use Rattle.tdb_plays.specs.declared.options.Options.{Options};
+ghost use Rattle.tdb_commands.specs.declared.options.Options.{Options};
 ghost use Rattle.tdb_space.specs.Form.{Form};
 ghost use Rattle.tdb_words.specs.declared.header.Header.{Header};
 ghost use Rattle.tdb_openers.specs.declared.standings.OpenerStanding.TheVariants as OpenerStanding;
@@ -20,7 +20,7 @@ ghost use Rattle.tdb_openers.specs.declared.standings.OpenerStanding.TheVariants
 use crate::world::World;
 use std::alloc::AllocError;
 use tdb_holder::Holder;
-use tdb_plays::Command;
+use tdb_commands::Command;
 use tdb_openers::OpenerStanding;
 
 /// Gives the one aside a command, where it may be given.

@@ -5,7 +5,7 @@ ghost use Rattle.tdb_law.specs.Lines.{MayDie};
 ghost use Rattle.tdb_law.specs.World.{State};
 ghost use Rattle.tdb_holder.specs.Holders.{HolderState};
 ghost use Rattle.tdb_holder.specs.Stages.{stage_task};
-ghost use Rattle.tdb_plays.specs.InLaw.{law_opener};
+ghost use Rattle.tdb_commands.specs.InLaw.{law_opener};
 ghost use Rattle.tdb_openers.specs.Died.{MayDieIn};
 ghost use Rattle.tdb_whole.specs.Died.{CanDie};
 ghost use Rattle.tdb_whole.specs.Whole.{WorldFits};

@@ -17,7 +17,7 @@ use tdb_files::DirFiles;
 use tdb_gen::generate;
 use tdb_log::Log;
 use tdb_open::{NewForm, Opened, create, make};
-use tdb_plays::{Command, Options, Play, TurnReport};
+use tdb_commands::{Command, Options, Play, TurnReport};
 use tdb_steps::Flag;
 use tdb_whole::World;
 use tdb_words::{Bytes, HashKind, Order};

@@ -1,7 +1,7 @@
 -- How turns open their file.
 use Rattle.std.specs.Prelude.{ℕ, not, Option, List, codes}
 use Rattle.std.specs.Option.{option_map}
-use Rattle.tdb_plays.specs.declared.options.Options.{Options}
+use Rattle.tdb_commands.specs.declared.options.Options.{Options}
 use Rattle.tdb_ask.specs.declared.options.GivenOption.{GivenOption}
 use Rattle.tdb_ask.specs.declared.options.Line.{Line}
 use Rattle.tdb_ask.specs.Options.{is_given, limit_in}

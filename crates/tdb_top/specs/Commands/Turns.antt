@@ -7,9 +7,9 @@ use Rattle.tdb_law.specs.Beginning.{IsLoaded}
 use Rattle.tdb_law.specs.Lines.{IsLawful}
 use Rattle.tdb_law.specs.Plays.{Course}
 use Rattle.tdb_law.specs.World.{State}
-use Rattle.tdb_plays.specs.InLaw.{law_plays, law_lines, options_of}
-use Rattle.tdb_plays.specs.declared.line.Line.{Line}
-use Rattle.tdb_plays.specs.declared.play.Play.{Play}
+use Rattle.tdb_commands.specs.InLaw.{law_plays, law_lines, options_of}
+use Rattle.tdb_commands.specs.declared.line.Line.{Line}
+use Rattle.tdb_commands.specs.declared.play.Play.{Play}
 use Rattle.tdb_script.specs.Script.{Script, BadAt}
 use Rattle.tdb_script.specs.Text.{report_text}
 use Rattle.tdb_openers.specs.Played.{ComesTo}
@@ -19,7 +19,7 @@ use Rattle.tdb_check.specs.Report.{Counted}
 use Rattle.tdb_course.specs.Unfinished.{EndsWith}
 use Rattle.tdb_log.specs.Logs.{Logged}
 use Rattle.tdb_log.specs.declared.log.LogRefusal.TheVariants as Unlogged
-use Rattle.tdb_plays.specs.declared.options.Options.{Options}
+use Rattle.tdb_commands.specs.declared.options.Options.{Options}
 use Rattle.tdb_tool.specs.Serving.{HeardOrRefused}
 use Rattle.tdb_tool.specs.Whole.{beginning_over}
 use Rattle.tdb_open.specs.Loading.{OpensToTurn, IsRefusedToTurn, TurnOpened, IsOpened, TurnOpeningHeard, IsOver}

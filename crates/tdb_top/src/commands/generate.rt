@@ -18,7 +18,7 @@ use tdb_disk::{Disk, Files, Take};
 use tdb_gen::{GenFault, generate};
 use tdb_log::Logs;
 use tdb_open::{LONGEST_FILE, make};
-use tdb_plays::Options;
+use tdb_commands::Options;
 use tdb_words::Bytes;
 
 /// How the openers of the commands open their file.

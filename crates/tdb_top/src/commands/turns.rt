@@ -28,7 +28,7 @@ use std::alloc::Global;
 use tdb_disk::{Disk, Files, Sink, Source, Take};
 use tdb_log::Logs;
 use tdb_open::{Fault, load};
-use tdb_plays::Play;
+use tdb_commands::Play;
 use tdb_openers::Options;
 
 /// Opens the file on a disk, takes plays over it, and tells them.

@@ -1,7 +1,7 @@
 -- Each turn goes on from the steps before it, and there are fewer than nine.
 use Rattle.std.proofs.Common.{◌≡◌, Ok, Err, true, false, refl, subst, arith}
 use Rattle.std.proofs.lemmas.Result.{err_from_is_err_and}
-use Rattle.tdb_plays.specs.InLaw.{law_opener}
+use Rattle.tdb_commands.specs.InLaw.{law_opener}
 use Rattle.tdb_openers.specs.Played.{Nothing, Steps, TakesOne}
 use Rattle.tdb_openers.proofs.Courses.{steps_few}
 use Rattle.tdb_whole.specs.Whole.{form_at}

@@ -1,6 +1,6 @@
 -- So far all turns were steps, and the opener has its command.
 use Rattle.std.proofs.Common.{Ok}
-use Rattle.tdb_plays.specs.InLaw.{law_opener}
+use Rattle.tdb_commands.specs.InLaw.{law_opener}
 use Rattle.tdb_openers.specs.Played.{Steps, GoesSome}
 use Rattle.tdb_whole.specs.Steps.{HasCommand}
 use Rattle.tdb_whole.specs.Whole.{form_at}

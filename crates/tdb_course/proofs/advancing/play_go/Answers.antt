@@ -1,8 +1,8 @@
 -- A busy opener takes turns up to the first that isn't a step; of another the report says how it stands.
 use Rattle.std.proofs.Common.{refl}
 use Rattle.tdb_law.specs.Plays.{Play as LawPlay}
-use Rattle.tdb_plays.specs.declared.line.Line.TheVariants as Lines
-use Rattle.tdb_plays.specs.InLaw.{law_opener}
+use Rattle.tdb_commands.specs.declared.line.Line.TheVariants as Lines
+use Rattle.tdb_commands.specs.InLaw.{law_opener}
 use Rattle.tdb_course.specs.Led.{moment}
 use Rattle.tdb_course.specs.Told.{IsAnswered}
 use Rattle.tdb_course.proofs.Answered.{answered}

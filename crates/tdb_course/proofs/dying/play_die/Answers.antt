@@ -5,8 +5,8 @@ use Rattle.tdb_disk.specs.History.{History, seen}
 use Rattle.tdb_law.specs.Plays.{Play as LawPlay}
 use Rattle.tdb_law.specs.Plays.Gives.{gives_death}
 use Rattle.tdb_law.specs.World.{State}
-use Rattle.tdb_plays.specs.declared.line.Line.TheVariants as Lines
-use Rattle.tdb_plays.specs.InLaw.{law_opener}
+use Rattle.tdb_commands.specs.declared.line.Line.TheVariants as Lines
+use Rattle.tdb_commands.specs.InLaw.{law_opener}
 use Rattle.tdb_openers.specs.Played.Begun.{begun_not}
 use Rattle.tdb_whole.specs.States.{IsStateOf}
 use Rattle.tdb_course.proofs.Answered.{answered, line_led, memory_led}

@@ -1,7 +1,7 @@
 -- Each opener with a command has its line; where memory is wanting, those before it have theirs.
 use Rattle.std.proofs.Common.{◌+◌, ◌∷◌, [], ◌++◌, refl, sym, ◌∙◌, ap, subst, arith, inl, inr, append-nil}
 use Rattle.std.proofs.lemmas.Result.{err_from_is_err_and}
-use Rattle.tdb_plays.specs.declared.line.Line.TheVariants.{Unfinished}
+use Rattle.tdb_commands.specs.declared.line.Line.TheVariants.{Unfinished}
 use Rattle.tdb_course.specs.Unfinished.{AreUnfinished}
 use Rattle.tdb_course.proofs.Finishing.{one_more, told_some}
 use Rattle.tdb_course.proofs.ending.finish_report.Goals as goal

@@ -1,6 +1,6 @@
 -- The openers so far were told.
 use Rattle.std.proofs.Common.{◌≡◌, ◌++◌, List}
-use Rattle.tdb_plays.specs.declared.line.Line.{Line}
+use Rattle.tdb_commands.specs.declared.line.Line.{Line}
 use Rattle.tdb_course.specs.Unfinished.{AreUnfinished}
 use Rattle.tdb_course.proofs.ending.finish_report.Given as goal
 

@@ -1,6 +1,6 @@
 -- The line tells how many logs are left.
 use Rattle.std.proofs.Common.{◌-◌, ◌∷◌, [], ◌++◌, ◌∙◌, ap, length}
-use Rattle.tdb_plays.specs.declared.line.Line.TheVariants.{LogsLeft}
+use Rattle.tdb_commands.specs.declared.line.Line.TheVariants.{LogsLeft}
 use Rattle.tdb_course.proofs.HeardLines.{length_but_last}
 use Rattle.tdb_course.proofs.hearing.drop_log.Goals as goal
 

@@ -1,6 +1,6 @@
 -- The logs heard of the lines so far.
 use Rattle.std.proofs.Common.{◌≡◌, List, ◌++◌, take, Ok}
-use Rattle.tdb_plays.specs.declared.line.Line.{Line}
+use Rattle.tdb_commands.specs.declared.line.Line.{Line}
 use Rattle.tdb_course.specs.Hearing.{HeardNotices}
 use Rattle.tdb_course.proofs.hearing.tell_logs.Given as goal
 

@@ -2,8 +2,8 @@
 use Rattle.std.proofs.Common.{◌-◌, [], ◌∷◌, Ok, Err, length, refl, sym, ◌∙◌, ap, subst, inl, append-nil}
 use Rattle.std.proofs.lemmas.Result.{err_from_is_err_and}
 use Rattle.tdb_law.specs.Plays.{Play as LawPlay}
-use Rattle.tdb_plays.specs.declared.line.Line.TheVariants as Lines
-use Rattle.tdb_plays.specs.InLaw.{law_play}
+use Rattle.tdb_commands.specs.declared.line.Line.TheVariants as Lines
+use Rattle.tdb_commands.specs.InLaw.{law_play}
 use Rattle.tdb_course.specs.Hearing.{Heard}
 use Rattle.tdb_course.specs.Led.{moment}
 use Rattle.tdb_course.specs.Told.{PlayLed}

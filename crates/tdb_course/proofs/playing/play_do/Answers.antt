@@ -2,8 +2,8 @@
 use Rattle.std.proofs.Common.{refl, sym, [], append-nil, Ok, Err}
 use Rattle.tdb_disk.specs.History.{seen}
 use Rattle.tdb_law.specs.Plays.{Play as LawPlay}
-use Rattle.tdb_plays.specs.declared.line.Line.TheVariants as Lines
-use Rattle.tdb_plays.specs.InLaw.{law_opener, law_command}
+use Rattle.tdb_commands.specs.declared.line.Line.TheVariants as Lines
+use Rattle.tdb_commands.specs.InLaw.{law_opener, law_command}
 use Rattle.tdb_course.specs.Led.{moment}
 use Rattle.tdb_course.specs.Told.{IsAnswered}
 use Rattle.tdb_course.proofs.Answered.{answered, do_not, gift_led}

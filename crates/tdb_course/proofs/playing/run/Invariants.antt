@@ -1,7 +1,7 @@
 -- The plays so far were taken whole, and the logs heard of all.
 use Rattle.std.proofs.Common.{Ok, take}
 use Rattle.tdb_law.specs.Plays.{Course}
-use Rattle.tdb_plays.specs.InLaw.{law_plays}
+use Rattle.tdb_commands.specs.InLaw.{law_plays}
 use Rattle.tdb_openers.specs.Played.{ComesTo}
 use Rattle.tdb_whole.specs.Whole.{form_at}
 use Rattle.tdb_course.specs.Hearing.{HeardLed}

@@ -1,7 +1,7 @@
 -- Each play is one of these.
 use Rattle.std.proofs.Common.{refl, sym, subst}
 use Rattle.tdb_law.specs.Plays.{Play as LawPlay}
-use Rattle.tdb_plays.specs.InLaw.{law_play}
+use Rattle.tdb_commands.specs.InLaw.{law_play}
 use Rattle.tdb_course.specs.Led.{moment}
 use Rattle.tdb_course.specs.Told.{PlayLed}
 use Rattle.tdb_course.proofs.StoppedPlays.{turnless_stops}

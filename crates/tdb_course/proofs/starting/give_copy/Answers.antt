@@ -1,6 +1,6 @@
 -- The opener is given the copy, which is the same command.
 use Rattle.std.proofs.Common.{OnOk, subst}
-use Rattle.tdb_plays.specs.InLaw.{law_command}
+use Rattle.tdb_commands.specs.InLaw.{law_command}
 use Rattle.tdb_course.specs.Told.{Gifted}
 use Rattle.tdb_course.proofs.starting.give_copy.Goals as goal
 

@@ -1,8 +1,8 @@
 -- A free opener is given the command; of another the report says how it stands.
 use Rattle.std.proofs.Common.{refl}
 use Rattle.tdb_law.specs.Plays.{Play as LawPlay}
-use Rattle.tdb_plays.specs.declared.line.Line.TheVariants as Lines
-use Rattle.tdb_plays.specs.InLaw.{law_opener, law_command}
+use Rattle.tdb_commands.specs.declared.line.Line.TheVariants as Lines
+use Rattle.tdb_commands.specs.InLaw.{law_opener, law_command}
 use Rattle.tdb_course.proofs.Answered.{answered, give_led}
 use Rattle.tdb_course.proofs.Standings.{busy_live, busy_never_idle}
 use Rattle.tdb_course.proofs.starting.play_give.Goals as goal

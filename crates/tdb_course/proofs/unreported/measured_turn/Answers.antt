@@ -3,8 +3,8 @@ use Rattle.std.proofs.Common.{◌≡◌, ◌++◌, [], ◌∷◌, Ok, Err, refl,
 use Rattle.std.proofs.lemmas.Result.{err_from_is_err_and}
 use Rattle.tdb_disk.specs.Count.{Rose}
 use Rattle.tdb_disk.specs.History.{seen}
-use Rattle.tdb_plays.specs.InLaw.{law_command, law_opener, law_turn}
-use Rattle.tdb_plays.specs.declared.line.Line.TheVariants as Lines
+use Rattle.tdb_commands.specs.InLaw.{law_command, law_opener, law_turn}
+use Rattle.tdb_commands.specs.declared.line.Line.TheVariants as Lines
 use Rattle.tdb_openers.specs.Played.{growth, is_step, TakesLast, TakesOne}
 use Rattle.tdb_openers.specs.declared.fault.RunFault.TheVariants.{Io}
 use Rattle.tdb_whole.specs.Steps.{TurnLeads}

@@ -3,7 +3,7 @@ use Rattle.std.proofs.Common.{[], ◌∷◌, Ok, refl, subst, sym}
 use Rattle.std.proofs.lemmas.Bool.{lt-ltb}
 use Rattle.std.specs.Prelude.{if◌then◌else◌}
 use Rattle.tdb_log.specs.declared.notice.Notice.TheVariants as Note
-use Rattle.tdb_plays.specs.declared.line.Line.TheVariants as Lines
+use Rattle.tdb_commands.specs.declared.line.Line.TheVariants as Lines
 use Rattle.tdb_course.specs.Hearing.{HeardBy}
 use Rattle.tdb_course.proofs.HeardLines.{heard_notice}
 use Rattle.tdb_course.proofs.unreported.note_growth.Goals as goal

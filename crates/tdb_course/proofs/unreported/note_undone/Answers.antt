@@ -1,7 +1,7 @@
 -- The last log is told of what was undone.
 use Rattle.std.proofs.Common.{Ok, refl, sym, subst}
 use Rattle.tdb_log.specs.declared.notice.Notice.TheVariants as Note
-use Rattle.tdb_plays.specs.declared.line.Line.TheVariants as Lines
+use Rattle.tdb_commands.specs.declared.line.Line.TheVariants as Lines
 use Rattle.tdb_course.specs.Hearing.{HeardBy}
 use Rattle.tdb_course.specs.Unreported.{undo_lines}
 use Rattle.tdb_course.proofs.HeardLines.{heard_notice}

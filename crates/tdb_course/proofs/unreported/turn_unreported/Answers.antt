@@ -1,8 +1,8 @@
 -- A busy opener takes a turn; another has nothing to do.
 use Rattle.std.proofs.Common.{refl, inl, inr}
 use Rattle.tdb_law.specs.Plays.{Play as LawPlay}
-use Rattle.tdb_plays.specs.declared.line.Line.TheVariants as Lines
-use Rattle.tdb_plays.specs.InLaw.{law_opener}
+use Rattle.tdb_commands.specs.declared.line.Line.TheVariants as Lines
+use Rattle.tdb_commands.specs.InLaw.{law_opener}
 use Rattle.tdb_course.specs.Told.{IsAnswered}
 use Rattle.tdb_course.proofs.Standings.{free_live, free_task}
 use Rattle.tdb_course.proofs.UnreportedTurns.{nothing_to_do}

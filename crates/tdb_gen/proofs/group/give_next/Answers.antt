@@ -1,7 +1,7 @@
 -- The next command was given to its opener, or memory was wanting.
 use Rattle.std.proofs.Common.{◌∷◌, ◌∙◌, [], Ok, refl, ap, subst}
 use Rattle.std.proofs.lemmas.Result.{err_from_is_err_and}
-use Rattle.tdb_plays.specs.declared.play.Play.TheVariants.{Give}
+use Rattle.tdb_commands.specs.declared.play.Play.TheVariants.{Give}
 use Rattle.tdb_gen.specs.Plays.{gift}
 use Rattle.tdb_gen.specs.Taking.{of_run, TakenInAny}
 use Rattle.tdb_gen.proofs.Gifting.{any_not, gift_taken}

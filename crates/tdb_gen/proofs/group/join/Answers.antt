@@ -1,6 +1,6 @@
 -- The opener joined, or nothing changed.
 use Rattle.std.proofs.Common.{◌∷◌, []}
-use Rattle.tdb_plays.specs.declared.play.Play.TheVariants.{Join}
+use Rattle.tdb_commands.specs.declared.play.Play.TheVariants.{Join}
 use Rattle.tdb_gen.proofs.Gifting.{any_not, join_taken, one_joined}
 use Rattle.tdb_gen.proofs.group.join.Goals as goal
 

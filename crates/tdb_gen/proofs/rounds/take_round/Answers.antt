@@ -1,7 +1,7 @@
 -- Each opener took its turn, one after the other, or one broke off.
 use Rattle.std.proofs.Common.{◌≡◌, ◌∷◌, [], Bool, false, Result, Ok, Err}
 use Rattle.std.proofs.lemmas.Result.{err_from_is_err_and}
-use Rattle.tdb_plays.specs.declared.play.Play.TheVariants.{Turn}
+use Rattle.tdb_commands.specs.declared.play.Play.TheVariants.{Turn}
 use Rattle.tdb_gen.specs.declared.fault.GenFault.{GenFault}
 use Rattle.tdb_gen.specs.Plays.{round}
 use Rattle.tdb_gen.specs.Taking.{Place, Taken}

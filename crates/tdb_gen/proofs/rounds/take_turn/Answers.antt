@@ -3,7 +3,7 @@ use Rattle.std.proofs.Common.{◌≡◌, ◌∷◌, [], ◌∙◌, Option, None,
 use Rattle.std.proofs.lemmas.Result.{err_from_is_err_and}
 use Rattle.tdb_locks.specs.declared.turn.Turn.{Turn}
 use Rattle.tdb_log.specs.declared.log.LogRefusal.{LogRefusal}
-use Rattle.tdb_plays.specs.declared.play.Play.TheVariants as Plays
+use Rattle.tdb_commands.specs.declared.play.Play.TheVariants as Plays
 use Rattle.tdb_openers.specs.declared.fault.RunFault.{RunFault}
 use Rattle.tdb_course.specs.Led.{moment}
 use Rattle.tdb_course.specs.Unreported.{Unreported}

@@ -4,8 +4,8 @@ use Rattle.tdb_law.specs.Commands.Command.{OnWalk}
 use Rattle.tdb_law.specs.Commands.Reply.{Done}
 use Rattle.tdb_law.specs.Commands.Turn.{Ends}
 use Rattle.tdb_law.specs.Commands.WalkCommand.{Close}
-use Rattle.tdb_plays.specs.InLaw.{law_turn}
-use Rattle.tdb_plays.specs.declared.command.Command.TheVariants as Given
+use Rattle.tdb_commands.specs.InLaw.{law_turn}
+use Rattle.tdb_commands.specs.declared.command.Command.TheVariants as Given
 use Rattle.tdb_holder.specs.declared.stage.Stage.TheVariants as Stage
 use Rattle.tdb_holder.specs.Ends.{task_of}
 use Rattle.tdb_holder.specs.Turned.{MayTurn, StageTurned}

@@ -4,7 +4,7 @@ use Rattle.tdb_disk.specs.Stop.{LeavesOnly}
 use Rattle.tdb_space.specs.Form.{Form}
 use Rattle.tdb_commit.specs.Committings.{CommitFits, CommitMayLeave, KnowsCommit}
 use Rattle.tdb_commit.proofs.Carried.{rests_stops}
-use Rattle.tdb_plays.specs.declared.options.Options.{Options}
+use Rattle.tdb_commands.specs.declared.options.Options.{Options}
 use Rattle.tdb_holder.specs.declared.stage.Stage.TheVariants as Stage
 use Rattle.tdb_holder.specs.Wents.{TurnsFrom}
 use Rattle.tdb_holder.proofs.OpenEnds.{first_fits, first_rests}

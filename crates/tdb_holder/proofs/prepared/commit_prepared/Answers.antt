@@ -6,8 +6,8 @@ use Rattle.tdb_law.specs.Commands.Reply.{Done}
 use Rattle.tdb_law.specs.Commands.Turn.{Ends}
 use Rattle.tdb_steps.specs.Holdings.{strength}
 use Rattle.tdb_commit.proofs.Carried.{rests_stops}
-use Rattle.tdb_plays.specs.InLaw.{law_turn}
-use Rattle.tdb_plays.specs.declared.command.Command.TheVariants as Given
+use Rattle.tdb_commands.specs.InLaw.{law_turn}
+use Rattle.tdb_commands.specs.declared.command.Command.TheVariants as Given
 use Rattle.tdb_holder.specs.declared.stage.PreparedTxn.TheVariants.{Nothing}
 use Rattle.tdb_holder.specs.declared.stage.Stage.TheVariants as Stage
 use Rattle.tdb_holder.specs.Ends.{task_of}

@@ -2,7 +2,7 @@
 use Rattle.std.proofs.Common.{◌≡◌, sym, refl, subst, Some, None, inl, inr, arith}
 use Rattle.tdb_space.specs.Form.{form_in}
 use Rattle.tdb_law.specs.Commands.Turn.{Ends}
-use Rattle.tdb_plays.specs.InLaw.{law_command, law_reply, law_turn}
+use Rattle.tdb_commands.specs.InLaw.{law_command, law_reply, law_turn}
 use Rattle.tdb_locks.specs.declared.turn.Reply.{Reply}
 use Rattle.tdb_holder.specs.declared.stage.Stage.TheVariants as Stage
 use Rattle.tdb_holder.specs.declared.stage.Went.{Went}

@@ -1,7 +1,7 @@
 -- The table tells each of these commands that it isn't taken.
 use Rattle.std.proofs.Common.{◌∙◌, ap}
 use Rattle.tdb_space.specs.Form.{form_in}
-use Rattle.tdb_plays.specs.InLaw.{law_reply}
+use Rattle.tdb_commands.specs.InLaw.{law_reply}
 use Rattle.tdb_holder.proofs.PreparedTold.{prepared_replies, told_none, told_same}
 use Rattle.tdb_holder.proofs.prepared.refused.Goals as goal
 

@@ -1,5 +1,5 @@
 -- A refusal is told, and all stays.
-use Rattle.tdb_plays.specs.InLaw.{law_reply}
+use Rattle.tdb_commands.specs.InLaw.{law_reply}
 use Rattle.tdb_openers.proofs.Endings.{refused_ends}
 use Rattle.tdb_openers.proofs.ending.refused_turn.Goals as goal
 

@@ -3,7 +3,7 @@ use Rattle.std.proofs.Common.{◌≡◌, ◌+◌, ◌<◌, is_some, sym, ◌∙�
 use Rattle.tdb_space.specs.Form.{form_in}
 use Rattle.tdb_locks.specs.HeldLocks.{Lowers, count_of}
 use Rattle.tdb_locks.specs.declared.kind.Kind.TheVariants.{Read}
-use Rattle.tdb_plays.specs.InLaw.{law_turn}
+use Rattle.tdb_commands.specs.InLaw.{law_turn}
 use Rattle.tdb_locks.specs.LockTable.{held}
 use Rattle.tdb_law.specs.Commands as Law
 use Rattle.tdb_steps.specs.LockRows.{IsLetGo}

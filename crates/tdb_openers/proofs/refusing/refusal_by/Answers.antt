@@ -6,9 +6,9 @@ use Rattle.tdb_space.specs.Form.{Form, form_in}
 use Rattle.tdb_locks.specs.HeldLocks.{HeldLocks, AreCounts}
 use Rattle.tdb_locks.specs.declared.turn.Reply.{Reply}
 use Rattle.tdb_law.specs.Refusals.{refusal, says}
-use Rattle.tdb_plays.specs.InLaw.{law_command, law_reply}
-use Rattle.tdb_plays.specs.declared.command.Command.{Command}
-use Rattle.tdb_plays.specs.declared.options.Options.{Options}
+use Rattle.tdb_commands.specs.InLaw.{law_command, law_reply}
+use Rattle.tdb_commands.specs.declared.command.Command.{Command}
+use Rattle.tdb_commands.specs.declared.options.Options.{Options}
 use Rattle.tdb_openers.specs.Openers.{AtRest, own_with}
 use Rattle.tdb_openers.proofs.Asking.{change_told, held_told, told_in, told_law}
 use Rattle.tdb_openers.proofs.refusing.refusal_by.Goals as goal

@@ -1,5 +1,5 @@
 use Rattle.std.specs.Prelude.{codes}
-use Rattle.tdb_plays.specs.declared.command.Command.{Command}
+use Rattle.tdb_commands.specs.declared.command.Command.{Command}
 use Rattle.tdb_script.proofs.RowLemmas.{skip_row}
 use Rattle.tdb_script.proofs.rows.group_named.Goals as goal
 

@@ -1,6 +1,6 @@
 use Rattle.std.proofs.Common.{refl}
 use Rattle.std.specs.Prelude.{codes}
-use Rattle.tdb_plays.specs.declared.command.Command.{Command}
+use Rattle.tdb_commands.specs.declared.command.Command.{Command}
 use Rattle.tdb_script.proofs.RowLemmas.{skip_row}
 use Rattle.tdb_script.proofs.rows.walking_named.Goals as goal
 

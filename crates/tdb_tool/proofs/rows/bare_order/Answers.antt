@@ -1,7 +1,7 @@
 use Rattle.std.proofs.Common.{refl, subst, None, ◌≡◌}
 use Rattle.std.specs.Prelude.{codes}
 use Rattle.tdb_dump.specs.declared.listing.Listing.{Listing}
-use Rattle.tdb_plays.specs.declared.command.Command.{Command}
+use Rattle.tdb_commands.specs.declared.command.Command.{Command}
 use Rattle.tdb_script.specs.Rows.{row_of}
 use Rattle.tdb_script.proofs.RowLemmas.{no_text_row, skip_row}
 use Rattle.tdb_tool.specs.declared.order.Order.{Order}

@@ -1,7 +1,7 @@
 use Rattle.std.proofs.Common.{◌≡◌, ◌∷◌, ℕ, List, Ok, string_bytes, refl, sym, ◌∙◌, subst, inl}
 use Rattle.std.specs.Prelude.{IsTrue}
 use Rattle.tdb_disk.specs.Count.{Rose}
-use Rattle.tdb_plays.specs.declared.options.Options.{Options}
+use Rattle.tdb_commands.specs.declared.options.Options.{Options}
 use Rattle.tdb_top.specs.Commands.Create.{CreateCause, CreateLeaves}
 use Rattle.tdb_top.specs.Ending.{MadeSo}
 use Rattle.tdb_top.specs.Input.{input_by}

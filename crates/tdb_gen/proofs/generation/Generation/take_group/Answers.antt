@@ -2,7 +2,7 @@
 use Rattle.std.proofs.Common.{◌≡◌, ◌-◌, ◌*◌, ℕ, min, List, subst}
 use Rattle.std.proofs.lemmas.Result.{err_from_is_err_and}
 use Rattle.tdb_disk.specs.History.{seen}
-use Rattle.tdb_plays.specs.declared.play.Play.{Play}
+use Rattle.tdb_commands.specs.declared.play.Play.{Play}
 use Rattle.tdb_gen.specs.Numbers.{IsFrom}
 use Rattle.tdb_gen.specs.Plays.{gifts, rounds}
 use Rattle.tdb_gen.specs.Taking.{Place, place, Taken}

@@ -1,6 +1,6 @@
 -- The command is given to the side.
 use Rattle.std.proofs.Common.{Some, sym, ◌∙◌, ap, subst}
-use Rattle.tdb_plays.specs.InLaw.{law_command}
+use Rattle.tdb_commands.specs.InLaw.{law_command}
 use Rattle.tdb_holder.specs.Ends.{task_of}
 use Rattle.tdb_holder.specs.Holders.{with_command, HolderState}
 use Rattle.tdb_holder.specs.Stages.{IsSide}

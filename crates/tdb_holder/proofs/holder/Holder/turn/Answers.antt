@@ -1,7 +1,7 @@
 -- In its own lock table no turn of it is blocked.
 use Rattle.std.proofs.Common.{subst}
 use Rattle.tdb_space.specs.Form.{form_in}
-use Rattle.tdb_plays.specs.InLaw.{law_turn}
+use Rattle.tdb_commands.specs.InLaw.{law_turn}
 use Rattle.tdb_holder.specs.Ends.{IsBlocked}
 use Rattle.tdb_holder.specs.Holders.{HolderState}
 use Rattle.tdb_holder.proofs.HolderTurns.{alone_goes_on, busy_task, may_alone, own_table, TurnsAt}

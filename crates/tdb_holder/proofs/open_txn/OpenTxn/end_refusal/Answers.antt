@@ -1,7 +1,7 @@
 -- The reply is that of the table, and a doomed transaction is refused.
 use Rattle.std.proofs.Common.{nat_lt, sym, ◌∙◌, ap}
 use Rattle.std.specs.Option.{option_map}
-use Rattle.tdb_plays.specs.InLaw.{law_reply}
+use Rattle.tdb_commands.specs.InLaw.{law_reply}
 use Rattle.tdb_holder.proofs.Opened.{end_told, end_whole, stands_at}
 use Rattle.tdb_holder.proofs.open_txn.OpenTxn.end_refusal.Goals as goal
 

@@ -5,8 +5,8 @@ use Rattle.tdb_disk.specs.History.{seen}
 use Rattle.tdb_space.specs.Form.{form_in}
 use Rattle.tdb_law.specs.Commands as Law
 use Rattle.tdb_law.specs.Refusals.{refusal}
-use Rattle.tdb_plays.specs.InLaw.{law_command, law_reply}
-use Rattle.tdb_plays.specs.declared.command.Command.TheVariants as Given
+use Rattle.tdb_commands.specs.InLaw.{law_command, law_reply}
+use Rattle.tdb_commands.specs.declared.command.Command.TheVariants as Given
 use Rattle.tdb_holder.specs.Given.{IsInside}
 use Rattle.tdb_holder.specs.Open.{GoesOn}
 use Rattle.tdb_holder.proofs.Opened.{goes_as, prepare_still, refused_still, stays_open, told_none, told_why, weaker}

@@ -4,7 +4,7 @@ use Rattle.std.specs.Prelude.{◌&&◌, not, if◌then◌else◌}
 use Rattle.std.specs.Option.{option_map}
 use Rattle.tdb_space.specs.Form.{form_in}
 use Rattle.tdb_locks.specs.declared.turn.Reply.{Reply}
-use Rattle.tdb_plays.specs.InLaw.{law_reply}
+use Rattle.tdb_commands.specs.InLaw.{law_reply}
 use Rattle.tdb_holder.specs.Refusing.{is_writer, passes_prepared, inside_told}
 use Rattle.tdb_holder.proofs.Asked.{told_law}
 use Rattle.tdb_holder.proofs.refusing.Level.refusal.Goals as goal

@@ -1,7 +1,7 @@
 -- Each arm does what its kind of turn says.
 use Rattle.std.proofs.Common.{None, [], ◌<◌, false, refl, sym, subst, arith, ◌≡◌}
 use Rattle.tdb_openers.specs.declared.job.Job.TheVariants as Jobs
-use Rattle.tdb_plays.specs.InLaw.{law_command, law_reply, law_turn}
+use Rattle.tdb_commands.specs.InLaw.{law_command, law_reply, law_turn}
 use Rattle.tdb_openers.specs.Openers.{own_with, command_in, IsRefused}
 use Rattle.std.proofs.lemmas.Result.{IfOk-weaker}
 use Rattle.tdb_locks.specs.LockTable.{held}

@@ -6,7 +6,7 @@ use Rattle.tdb_locks.specs.declared.turn.Reply.{Reply}
 use Rattle.tdb_law.specs.Commands.{Command}
 use Rattle.tdb_law.specs.Openers.{Own}
 use Rattle.tdb_law.specs.Refusals.{Refusal, refusal, says}
-use Rattle.tdb_plays.specs.InLaw.{law_command, law_reply}
+use Rattle.tdb_commands.specs.InLaw.{law_command, law_reply}
 use Rattle.tdb_openers.specs.Openers.{own_of, IsRefused}
 use Rattle.tdb_openers.specs.Openers.IsRefused.{refuses}
 use Rattle.tdb_openers.proofs.Beginning.{untold, served_granted}

@@ -5,7 +5,7 @@ use Rattle.tdb_openers.specs.Turning.{resting, ImageBefore, TurnsLocks, TurnsFil
 use Rattle.tdb_openers.specs.Calm.{IsMidway}
 use Rattle.tdb_openers.specs.Openers.{rest_of, own_of, command_in, walk_of, steps_of, law_task, TaskStands}
 use Rattle.tdb_openers.specs.Worlds.{law_of_task}
-use Rattle.tdb_plays.specs.InLaw.{law_turn}
+use Rattle.tdb_commands.specs.InLaw.{law_turn}
 use Rattle.tdb_steps.proofs.Made.{of_both}
 use Rattle.tdb_openers.proofs.TaskReady.{task_few, task_ready, after_beside}
 use Rattle.tdb_openers.proofs.Rests.{walk_still, walk_rests}

@@ -3,7 +3,7 @@ use Rattle.std.proofs.Common.{◌≡◌, ◌+◌, ◌-◌, ℕ, set, slice_get, 
 use Rattle.tdb_space.specs.Form.{form_in}
 use Rattle.tdb_openers.specs.Laws.{MayStand, other_hands}
 use Rattle.tdb_law.specs.Turned.{Turned}
-use Rattle.tdb_plays.specs.InLaw.{law_opener, law_turn}
+use Rattle.tdb_commands.specs.InLaw.{law_opener, law_turn}
 use Rattle.std.proofs.lemmas.Result.{IfOk-weaker}
 use Rattle.tdb_steps.proofs.Made.{of_both}
 use Rattle.tdb_openers.specs.States.{state_of}

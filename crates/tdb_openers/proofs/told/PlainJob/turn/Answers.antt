@@ -3,7 +3,7 @@ use Rattle.std.proofs.Common.{sym, ◌∙◌, ap, subst}
 use Rattle.std.proofs.lemmas.Result.{IfOk-weaker}
 use Rattle.tdb_law.specs.Commands.Command.{OnMap}
 use Rattle.tdb_steps.specs.PlainCommands.{command_of}
-use Rattle.tdb_plays.specs.InLaw.{law_turn}
+use Rattle.tdb_commands.specs.InLaw.{law_turn}
 use Rattle.tdb_openers.specs.declared.job.Job.TheVariants.{Plain}
 use Rattle.tdb_openers.specs.Openers.{own_with, command_in}
 use Rattle.tdb_openers.specs.Turning.{ImageBefore, resting}

@@ -2,7 +2,7 @@ use Rattle.std.proofs.Common.{◌∙◌, [], Ok, Err, refl, sym, subst}
 use Rattle.tdb_disk.specs.History.{seen}
 use Rattle.tdb_space.specs.Accepted.{AcceptWith}
 use Rattle.tdb_space.specs.Form.{Form}
-use Rattle.tdb_plays.specs.declared.options.Options.{Options}
+use Rattle.tdb_commands.specs.declared.options.Options.{Options}
 use Rattle.tdb_tool.specs.Whole.{SessionRan}
 use Rattle.tdb_top.specs.Commands.Session.{SessionFile, file_unopened, session_ran}
 use Rattle.tdb_open.specs.Loading.{OpensToTurn, IsOpened, TurnOpeningHeard, OpenedToTurn}

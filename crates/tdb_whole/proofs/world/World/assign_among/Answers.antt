@@ -5,7 +5,7 @@ use Rattle.tdb_law.specs.Commands.Command.{OnGroup}
 use Rattle.tdb_law.specs.Commands.GroupCommand.{Start}
 use Rattle.tdb_law.specs.Events.{Given}
 use Rattle.tdb_law.specs.Refusals.{refusal}
-use Rattle.tdb_plays.specs.InLaw.{law_command, law_opener}
+use Rattle.tdb_commands.specs.InLaw.{law_command, law_opener}
 use Rattle.tdb_openers.specs.Given.{IsBeginning}
 use Rattle.tdb_openers.specs.Openers.{own_of}
 use Rattle.tdb_openers.specs.Worlds.{World, state_in, BytesStand, IsAssigned, IsFree, Stands}

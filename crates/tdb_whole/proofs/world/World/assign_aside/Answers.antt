@@ -3,8 +3,8 @@ use Rattle.std.proofs.Common.{◌≡◌, ℕ, List, Some, None, sym, ◌∙◌, 
 use Rattle.tdb_disk.specs.History.{History}
 use Rattle.tdb_space.specs.Form.{Form}
 use Rattle.tdb_law.specs.Events.{Given}
-use Rattle.tdb_plays.specs.InLaw.{law_command, law_opener}
-use Rattle.tdb_plays.specs.declared.options.Options.{Options}
+use Rattle.tdb_commands.specs.InLaw.{law_command, law_opener}
+use Rattle.tdb_commands.specs.declared.options.Options.{Options}
 use Rattle.tdb_words.specs.declared.header.Header.{Header}
 use Rattle.tdb_beside.specs.Sides.{Past, Side}
 use Rattle.tdb_holder.specs.Ends.{task_of}

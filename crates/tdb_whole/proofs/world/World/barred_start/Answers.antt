@@ -2,7 +2,7 @@
 use Rattle.std.proofs.Common.{◌≡◌, ℕ, false, slice_set, sym, ◌∙◌, ap, subst}
 use Rattle.tdb_law.specs.Commands.Reply.{Memory}
 use Rattle.tdb_law.specs.Commands.Turn.{Blocked, Ends}
-use Rattle.tdb_plays.specs.InLaw.{law_opener}
+use Rattle.tdb_commands.specs.InLaw.{law_opener}
 use Rattle.tdb_whole.specs.Steps.{TurnLeads}
 use Rattle.tdb_whole.specs.Whole.{Whole, WorldFits}
 use Rattle.tdb_whole.proofs.OwnStart.{dropped_fits, start_blocked, start_starved}

@@ -4,12 +4,12 @@ use Rattle.tdb_disk.specs.History.{seen}
 use Rattle.tdb_locks.specs.declared.kind.Kind.TheVariants.{Write}
 use Rattle.tdb_space.specs.Form.{form_in}
 use Rattle.tdb_steps.specs.Turns.{number_of}
-use Rattle.tdb_plays.specs.InLaw.{law_opener, law_turn}
+use Rattle.tdb_commands.specs.InLaw.{law_opener, law_turn}
 use Rattle.std.specs.Prelude.{IfSome}
 use Rattle.tdb_words.specs.declared.header.Header.{Header}
 use Rattle.tdb_locks.specs.declared.turn.Turn.{Turn as TurnIs}
 use Rattle.tdb_locks.specs.declared.turn.Turn.TheVariants as Turn
-use Rattle.tdb_plays.specs.declared.options.Options.{Options}
+use Rattle.tdb_commands.specs.declared.options.Options.{Options}
 use Rattle.tdb_holder.specs.Holders.{is_idle, left_stage, HolderState}
 use Rattle.tdb_holder.proofs.HolderTurns.{busy_task}
 use Rattle.tdb_holder.specs.Stages.{is_closing, IsFitLeft}

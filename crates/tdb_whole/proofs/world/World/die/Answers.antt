@@ -2,7 +2,7 @@
 use Rattle.std.proofs.Common.{◌≡◌, ℕ, List, false, sym, ap, subst}
 use Rattle.tdb_space.specs.Form.{form_in}
 use Rattle.tdb_law.specs.Events.{Dies}
-use Rattle.tdb_plays.specs.InLaw.{law_opener}
+use Rattle.tdb_commands.specs.InLaw.{law_opener}
 use Rattle.tdb_openers.specs.Died.{HasDied}
 use Rattle.tdb_openers.specs.Worlds.{state_in, BytesStand, Stands}
 use Rattle.tdb_openers.specs.Worlds.{World as Openers}

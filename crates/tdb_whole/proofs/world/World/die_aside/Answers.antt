@@ -3,7 +3,7 @@ use Rattle.std.proofs.Common.{◌≡◌, ℕ, List, Some, None, sym, ◌∙◌, 
 use Rattle.tdb_space.specs.Form.{form_in}
 use Rattle.tdb_law.specs.Events.{Dies}
 use Rattle.tdb_law.specs.Lines.{MayDie}
-use Rattle.tdb_plays.specs.InLaw.{law_opener}
+use Rattle.tdb_commands.specs.InLaw.{law_opener}
 use Rattle.tdb_holder.specs.Holders.{HolderState}
 use Rattle.tdb_holder.specs.Stages.{stage_task}
 use Rattle.tdb_openers.specs.Died.{HasDied}

@@ -5,7 +5,7 @@ use Rattle.std.proofs.Common.{Ok, Err}
 use Rattle.tdb_disk.specs.History.{History, seen}
 use Rattle.tdb_locks.specs.declared.turn.Turn.TheVariants.{Step}
 use Rattle.tdb_law.specs.World.{State}
-use Rattle.tdb_plays.specs.InLaw.{law_opener, law_turn}
+use Rattle.tdb_commands.specs.InLaw.{law_opener, law_turn}
 use Rattle.tdb_openers.specs.Worlds.{Stands}
 use Rattle.tdb_openers.proofs.Aside.{on_one}
 use Rattle.tdb_whole.specs.States.{IsStateOf}

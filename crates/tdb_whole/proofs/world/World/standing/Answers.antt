@@ -2,7 +2,7 @@
 use Rattle.std.proofs.Common.{[], slice_get, sym, ◌∙◌, ap, subst}
 use Rattle.tdb_law.specs.Openers.{Own}
 use Rattle.tdb_law.proofs.Tests.{never_true}
-use Rattle.tdb_plays.specs.InLaw.{law_opener}
+use Rattle.tdb_commands.specs.InLaw.{law_opener}
 use Rattle.tdb_openers.specs.Openers.{law_task, own_at, task_at}
 use Rattle.tdb_openers.specs.Worlds.{law_of_task, IsBusy, IsFree}
 use Rattle.tdb_whole.specs.Steps.HasCommand.{by_aside, by_start, by_job}

@@ -1,13 +1,13 @@
 -- An opener that isn't aside is among the others. What a turn leads to says how a prepared Commit goes on. What stops leave of the others' turns alone has the premise that none is in the middle of a change.
 use Rattle.std.proofs.lemmas.Result.{IfOk-weaker}
-use Rattle.tdb_plays.specs.InLaw.{law_turn}
+use Rattle.tdb_commands.specs.InLaw.{law_turn}
 use Rattle.tdb_openers.proofs.Aside.{on_one}
 use Rattle.tdb_whole.proofs.PreparedTurns.{prepared_leads}
 use Rattle.tdb_whole.proofs.Looking.{looks_among, looks_unstarted}
 use Rattle.tdb_whole.proofs.Synced.{other_syncs, start_syncs}
 use Rattle.std.proofs.Common.{Ok, Err, subst, sym, ◌∙◌}
 use Rattle.std.specs.Prelude.{Result, IfOk}
-use Rattle.tdb_plays.specs.InLaw.{law_opener}
+use Rattle.tdb_commands.specs.InLaw.{law_opener}
 use Rattle.tdb_whole.specs.Syncs.{OnlyLooks}
 use Rattle.tdb_whole.specs.Whole.{form_at}
 use Rattle.tdb_whole.proofs.world.World.turn.Goals as goal

@@ -5,7 +5,7 @@ use Rattle.tdb_disk.specs.History.{seen}
 use Rattle.tdb_space.specs.Form.{form_in}
 use Rattle.tdb_locks.specs.declared.turn.Turn.{Turn}
 use Rattle.tdb_law.specs.Turned.{Turned}
-use Rattle.tdb_plays.specs.InLaw.{law_opener, law_turn}
+use Rattle.tdb_commands.specs.InLaw.{law_opener, law_turn}
 use Rattle.tdb_openers.specs.Worlds.{World, law_of_task, state_in, BytesStand, IsBusy}
 use Rattle.tdb_openers.specs.declared.job.Task.{Task}
 use Rattle.tdb_openers.specs.declared.opener.Opener.{Opener}

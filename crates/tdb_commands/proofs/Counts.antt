@@ -17,7 +17,7 @@ use Rattle.std.specs.FinMap.Entries.{put, find, by_order}
 use Rattle.std.proofs.lemmas.List.Sums.{sum_by-cons}
 use Rattle.tdb_locks.specs.HeldLocks.{AreCounts, count_in}
 use Rattle.tdb_law.specs.Openers.{Counts}
-use Rattle.tdb_plays.specs.Counts.{counts_of}
+use Rattle.tdb_commands.specs.Counts.{counts_of}
 
 -- no chain of the list has this lock byte
 abbrev Misses : ℕ → List (ℕ × ℕ) → Type 0

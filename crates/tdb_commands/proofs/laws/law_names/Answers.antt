@@ -1,5 +1,5 @@
-use Rattle.tdb_plays.proofs.NameLemmas.{each_command, each_reply, each_turn, each_play, each_line}
-use Rattle.tdb_plays.proofs.laws.law_names.Goals as goal
+use Rattle.tdb_commands.proofs.NameLemmas.{each_command, each_reply, each_turn, each_play, each_line}
+use Rattle.tdb_commands.proofs.laws.law_names.Goals as goal
 
 pub returns-clause-commands : goal.returns-clause-commands
 returns-clause-commands c = each_command

@@ -6,11 +6,11 @@ use Rattle.tdb_law.specs.Lines.{Line as LawLine}
 use Rattle.tdb_locks.specs.declared.turn.Reply.{Reply}
 use Rattle.tdb_locks.specs.declared.turn.Turn.{Turn}
 use Rattle.tdb_steps.specs.declared.flag.Flag.{Flag}
-use Rattle.tdb_plays.specs.declared.command.Command.{Command}
-use Rattle.tdb_plays.specs.declared.play.Play.{Play}
-use Rattle.tdb_plays.specs.declared.line.Line.{Line}
-use Rattle.tdb_plays.specs.InLaw.{law_opener, law_store, law_command, law_reply, law_turn, law_play, law_line}
-use Rattle.tdb_plays.specs.Named.{IsNamedReply, IsNamedTurn, IsNamedPlay, IsNamedLine, EachCommand, EachReply, EachTurn, EachPlay, EachLine}
+use Rattle.tdb_commands.specs.declared.command.Command.{Command}
+use Rattle.tdb_commands.specs.declared.play.Play.{Play}
+use Rattle.tdb_commands.specs.declared.line.Line.{Line}
+use Rattle.tdb_commands.specs.InLaw.{law_opener, law_store, law_command, law_reply, law_turn, law_play, law_line}
+use Rattle.tdb_commands.specs.Named.{IsNamedReply, IsNamedTurn, IsNamedPlay, IsNamedLine, EachCommand, EachReply, EachTurn, EachPlay, EachLine}
 
 -- two things that are named alike are one, where each can be told from its name
 told_apart : {Code Law : Type 0} (IsNamed : Code → Type 0) (in_law : Code → Law) (in_code : Law → Code) → ((thing : Code) → IsNamed thing → in_code (in_law thing) ≡ thing)

@@ -1,7 +1,7 @@
 -- The commands whose keys and values are short.
 use Rattle.std.specs.Prelude.{◌<◌, ◌^◌, length}
-use Rattle.tdb_plays.specs.declared.command.Command.{Command}
-use Rattle.tdb_plays.specs.declared.command.Command.TheVariants as Given
+use Rattle.tdb_commands.specs.declared.command.Command.{Command}
+use Rattle.tdb_commands.specs.declared.command.Command.TheVariants as Given
 
 -- the key and the value of a command are short enough for the words of a file
 abbrev pub IsShortCommand : Command → Type 0

@@ -1,6 +1,6 @@
 // How the law of reports names what the code names.
 
-ghost use Rattle.tdb_plays.specs.Named.{EachCommand, EachReply, EachTurn, EachPlay, EachLine};
+ghost use Rattle.tdb_commands.specs.Named.{EachCommand, EachReply, EachTurn, EachPlay, EachLine};
 
 /// Each command, reply, turn, play and line of the law is that of one of the code, where openers have numbers from 1
 /// on. The law is over the definitions alone; the function does nothing.

@@ -15,7 +15,7 @@ pub struct TurnReport {
 
 impl Model for TurnReport {
     ghost use Rattle.std.specs.Prelude.{◌-◌, vec_len, vec_capacity};
-    ghost use Rattle.tdb_plays.specs.Report.{Report};
+    ghost use Rattle.tdb_commands.specs.Report.{Report};
 
     ghost Value = { Report };
 

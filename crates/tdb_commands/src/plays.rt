@@ -14,7 +14,7 @@ pub struct Plays {
 
 impl Model for Plays {
     ghost use Rattle.std.specs.Prelude.{List};
-    ghost use Rattle.tdb_plays.specs.declared.play.Play.{Play};
+    ghost use Rattle.tdb_commands.specs.declared.play.Play.{Play};
 
     ghost Value = { List Play };
 
