@@ -8,7 +8,7 @@ use Rattle.tdb_top.specs.declared.ending.Ending.TheVariants.{Replied, Refused, M
 use Rattle.tdb_top.specs.declared.ending.Reply.TheVariants as Reply
 use Rattle.tdb_open.specs.declared.halt.Refusal.{Refusal}
 use Rattle.tdb_open.specs.declared.halt.Refusal.TheVariants.{TooLong, Header, Corrupt, NeedsRecovery}
-use Rattle.tdb_ask.specs.CopyNames.{copy_name, new_name, made_name, IsNameOf, IsNameAmong, IsForCopyAmong, NamesDiffer}
+use Rattle.tdb_cmdline.specs.CopyNames.{copy_name, new_name, made_name, IsNameOf, IsNameAmong, IsForCopyAmong, NamesDiffer}
 use Rattle.tdb_top.specs.Commands.Backup.{Copied, CopiedAll, Stopped, AllStay, StoppedAt, IsLeftOf, WasOpened, EndsAt, BackupEnds, BackupCause, EndsBackup, BackedUpOne, BackedUp}
 use Rattle.tdb_top.specs.Ending.{status_of}
 use Rattle.tdb_open.specs.Opening.{HeldOrUndone, HeldBroken}

@@ -37,7 +37,7 @@ use Rattle.tdb_gen.specs.declared.summary.Summary.{Summary}
 use Rattle.tdb_top.specs.declared.ending.Ending.{Ending}
 use Rattle.tdb_top.specs.declared.ending.Ending.TheVariants as E
 use Rattle.tdb_top.specs.declared.ending.Reply.TheVariants as Reply
-use Rattle.tdb_ask.specs.declared.limits.TheConstants.{DEFAULT_SIZE}
+use Rattle.tdb_cmdline.specs.declared.limits.TheConstants.{DEFAULT_SIZE}
 use Rattle.tdb_open.specs.Creating.{IsNewFile}
 use Rattle.tdb_top.specs.Commands.Generate.{gen_options, new_file, HeardBroken, FilledSo, of_gen, all_done, GenLeaves, GenHeard}
 use Rattle.tdb_top.specs.Commands.Restore.{new_form, of_input}

@@ -9,10 +9,10 @@ use Rattle.tdb_check.specs.Report.{Counted}
 use Rattle.tdb_log.specs.Logs.{Logged, ToldAll, Refused, LastBecame}
 use Rattle.tdb_log.specs.declared.log.LogRefusal.{LogRefusal}
 use Rattle.tdb_log.specs.declared.notice.Notice.TheVariants.{Grew}
-use Rattle.tdb_ask.specs.Ask.{Ask}
-use Rattle.tdb_ask.specs.CopyNames.{copy_name, IsNameAmong}
-use Rattle.tdb_ask.specs.declared.ask.Task.{Task}
-use Rattle.tdb_ask.specs.declared.ask.Task.TheVariants.{Create, On, Read, Print, Restore, Backup, Verify, Turns, Session, Generate}
+use Rattle.tdb_cmdline.specs.Ask.{Ask}
+use Rattle.tdb_cmdline.specs.CopyNames.{copy_name, IsNameAmong}
+use Rattle.tdb_cmdline.specs.declared.ask.Task.{Task}
+use Rattle.tdb_cmdline.specs.declared.ask.Task.TheVariants.{Create, On, Read, Print, Restore, Backup, Verify, Turns, Session, Generate}
 use Rattle.tdb_open.specs.declared.halt.Fault.{Fault}
 use Rattle.tdb_open.specs.declared.halt.Fault.TheVariants as F
 use Rattle.tdb_open.specs.declared.halt.Halt.{Halt}

@@ -3,7 +3,7 @@ use Rattle.std.proofs.Common.{◌≡◌, ℕ, Bool, true, false, List, None, Res
 use Rattle.std.specs.Prelude.{is_some, IsSome}
 use Rattle.std.proofs.lemmas.Bool.{false≢true}
 use Rattle.tdb_disk.specs.History.{History, seen}
-use Rattle.tdb_ask.specs.declared.act.Verb.TheVariants.{Insert, Store}
+use Rattle.tdb_cmdline.specs.declared.act.Verb.TheVariants.{Insert, Store}
 use Rattle.tdb_open.specs.declared.halt.Fault.{Fault}
 use Rattle.tdb_open.specs.declared.halt.Fault.TheVariants as F
 use Rattle.tdb_space.specs.Form.{form_of}

@@ -5,13 +5,13 @@ use Rattle.tdb_disk.specs.Count.{Rose}
 use Rattle.tdb_disk.specs.History.{History, seen}
 use Rattle.tdb_disk.specs.declared.files.TakeRefusal.{TakeRefusal}
 use Rattle.tdb_disk.specs.declared.files.TakeRefusal.TheVariants as Take
-use Rattle.tdb_ask.specs.declared.ask.Task.TheVariants.{Read}
+use Rattle.tdb_cmdline.specs.declared.ask.Task.TheVariants.{Read}
 use Rattle.tdb_dump.specs.declared.listing.Listing.TheVariants.{Pairs}
 use Rattle.tdb_top.specs.declared.ending.Ending.{Ending}
 use Rattle.tdb_top.specs.declared.ending.Unprinted.{Unprinted}
 use Rattle.tdb_top.specs.declared.ending.Ending.TheVariants as E
-use Rattle.tdb_ask.specs.declared.look.Look.{Look}
-use Rattle.tdb_ask.specs.declared.look.Look.TheVariants.{Dump, Value}
+use Rattle.tdb_cmdline.specs.declared.look.Look.{Look}
+use Rattle.tdb_cmdline.specs.declared.look.Look.TheVariants.{Dump, Value}
 use Rattle.tdb_top.specs.Ending.{TaskDue, TaskCause, task_due, task_failed, task_wanting, task_unlogged, CountedBy, Untaken}
 use Rattle.tdb_top.specs.Looks.{LookEnds, LookText, StandsBefore, Began}
 use Rattle.tdb_top.specs.Commands.Dump.{pairs_text}

@@ -16,10 +16,10 @@ use Rattle.tdb_backup.specs.Building.{HoldsPairs}
 use Rattle.tdb_backup.specs.Restoring.{Restored}
 use Rattle.tdb_backup.specs.declared.refusal.RestoreRefusal.{RestoreRefusal}
 use Rattle.tdb_backup.specs.declared.refusal.RestoreRefusal.TheVariants as R
-use Rattle.tdb_ask.specs.declared.limits.TheConstants.{DEFAULT_SIZE}
+use Rattle.tdb_cmdline.specs.declared.limits.TheConstants.{DEFAULT_SIZE}
 use Rattle.tdb_open.specs.Creating.{IsNewFile}
-use Rattle.tdb_ask.specs.declared.ask.Task.{Task}
-use Rattle.tdb_ask.specs.declared.ask.Task.TheVariants.{Restore}
+use Rattle.tdb_cmdline.specs.declared.ask.Task.{Task}
+use Rattle.tdb_cmdline.specs.declared.ask.Task.TheVariants.{Restore}
 use Rattle.tdb_top.specs.declared.ending.Ending.{Ending}
 use Rattle.tdb_top.specs.declared.ending.Ending.TheVariants as E
 use Rattle.tdb_top.specs.declared.ending.Reply.TheVariants as Reply

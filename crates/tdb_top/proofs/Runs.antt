@@ -6,11 +6,11 @@ use Rattle.std.proofs.lemmas.List.{append-nil}
 use Rattle.tdb_disk.specs.Count.{Rose}
 use Rattle.tdb_disk.specs.History.{History, seen}
 use Rattle.tdb_space.specs.Opening.{Opens}
-use Rattle.tdb_ask.specs.declared.act.Act.{Act}
-use Rattle.tdb_ask.specs.declared.look.Look.{Look}
-use Rattle.tdb_ask.specs.declared.ask.Task.{Task}
-use Rattle.tdb_ask.specs.declared.ask.Task.TheVariants.{Create, On, Read, Print, Restore, Backup, Verify, Turns, Session, Generate}
-use Rattle.tdb_ask.specs.declared.lines.create.NewFile.{NewFile}
+use Rattle.tdb_cmdline.specs.declared.act.Act.{Act}
+use Rattle.tdb_cmdline.specs.declared.look.Look.{Look}
+use Rattle.tdb_cmdline.specs.declared.ask.Task.{Task}
+use Rattle.tdb_cmdline.specs.declared.ask.Task.TheVariants.{Create, On, Read, Print, Restore, Backup, Verify, Turns, Session, Generate}
+use Rattle.tdb_cmdline.specs.declared.lines.create.NewFile.{NewFile}
 use Rattle.tdb_top.specs.declared.ending.Ending.{Ending}
 use Rattle.tdb_top.specs.declared.ending.Ending.TheVariants.{Replied, Refused, Missing, There, Usage, DeviceFault, InputFault, Malformed, NoMemory, LogFault}
 use Rattle.tdb_top.specs.declared.ending.Reply.{Reply}
@@ -18,7 +18,7 @@ use Rattle.tdb_top.specs.declared.ending.Reply.TheVariants.{Done, Value, Escaped
 use Rattle.tdb_open.specs.declared.halt.Refusal.{Refusal}
 use Rattle.tdb_open.specs.declared.halt.Refusal.TheVariants.{TooLong, Header, Corrupt, NeedsRecovery}
 use Rattle.tdb_open.specs.declared.limits.TheConstants.{LONGEST_FILE}
-use Rattle.tdb_ask.specs.Ask.{Ask}
+use Rattle.tdb_cmdline.specs.Ask.{Ask}
 use Rattle.tdb_top.specs.Acts.{reply_of, Left}
 use Rattle.tdb_top.specs.Ending.{status_of, text_of, TakesMemory, PrintedFor, Replies, Refuses, LookReplies, RefusesToRead, PrintsPairs, TaskDue, Due, TaskCause, task_due, task_failed, task_wanting, task_unlogged, CountedBy, CountedFor, CountedAsked, has_openers, asks_openers}
 use Rattle.tdb_top.specs.Looks.{look_reply}

@@ -12,7 +12,7 @@ use Rattle.tdb_script.proofs.EachRow.{of_row}
 use Rattle.tdb_script.proofs.PartLemmas.{NoLonger, lines_no_longer, words_no_longer}
 use Rattle.tdb_commands.specs.Short.{IsShortCommand}
 use Rattle.tdb_course.specs.Playable.{IsPlayable, ArePlayable}
-use Rattle.tdb_ask.proofs.ShortWords.{word_short}
+use Rattle.tdb_cmdline.proofs.ShortWords.{word_short}
 
 module _ (n : ℕ) (few : n < 2 ^ 32) where
   short : (word bytes : List ℕ) → length word ≤ n → IsWord word bytes → length bytes < 2 ^ 32

@@ -21,7 +21,7 @@ use Rattle.tdb_tool.specs.declared.fault.SessionFault.{SessionFault}
 use Rattle.tdb_tool.specs.declared.fault.SessionFault.TheVariants as F
 use Rattle.tdb_tool.specs.declared.order.Order.{Order}
 use Rattle.tdb_commands.specs.declared.options.Options.{Options}
-use Rattle.tdb_ask.specs.declared.ask.Task.TheVariants.{Session}
+use Rattle.tdb_cmdline.specs.declared.ask.Task.TheVariants.{Session}
 use Rattle.tdb_top.specs.declared.ending.Ending.{Ending}
 use Rattle.tdb_top.specs.declared.ending.Ending.TheVariants as E
 use Rattle.tdb_top.specs.declared.ending.Reply.TheVariants.{Played}

@@ -15,7 +15,7 @@ use Rattle.tdb_disk.specs.declared.files.TakeRefusal.{TakeRefusal}
 use Rattle.tdb_disk.specs.declared.files.TakeRefusal.TheVariants as Take
 use Rattle.tdb_open.specs.declared.halt.Halt.{Halt}
 use Rattle.tdb_open.specs.declared.halt.Halt.TheVariants as H
-use Rattle.tdb_ask.specs.CopyNames.{copy_name, temporary_name, IsNameOf, IsNameAmong, IsForRestoreAmong, NamesDiffer}
+use Rattle.tdb_cmdline.specs.CopyNames.{copy_name, temporary_name, IsNameOf, IsNameAmong, IsForRestoreAmong, NamesDiffer}
 use Rattle.tdb_top.specs.Commands.Backup.{AllStay, IsLeftOf, Stopped, BackupCause, BackedUpOne, EndsAt, EndsBackup, HasKeys}
 use Rattle.tdb_top.specs.Commands.Verify.{AtNames, at_names, restoring_line, count_line, tells_fault, IsFaulty, KeysOf, own_keys, copy_keys, Tells, StopsAt, is_missing, is_refused, is_unrestored, VerifyEnds, FileFront, VerifyFront, IsUntold, VerifyText, Verified, VerifiedAll, LeftThere, LeftAt, EndsUnverified, EndsVerify, VerifyLeaves, VerifyCause, OwnKeys, NotOpened, file_missing, file_refused, file_failed, file_wanting, file_unlogged, Took, TookPart, LineUntold, IsKnown, KeysFound, FileTold, FileText, FileUntold, AllTold, SomeUntold}
 use Rattle.tdb_top.specs.Ending.{status_of, Untaken, of_halt}

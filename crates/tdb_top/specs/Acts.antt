@@ -1,9 +1,9 @@
 -- What the commands do with a file that is there: what each replies, and what it leaves of the file.
 use Rattle.std.specs.Prelude.{◌≡◌, ◌≢◌, ◌⊎◌, ◌≤◌, ℕ, List, length, Result, Ok, Err}
 use Rattle.tdb_disk.specs.History.{History, seen}
-use Rattle.tdb_ask.specs.declared.act.Act.{Act}
-use Rattle.tdb_ask.specs.declared.act.Verb.{Verb}
-use Rattle.tdb_ask.specs.declared.act.Verb.TheVariants.{Show, Insert, Store, Delete, Erase, Check, First, Next, TransactionStart, TransactionCommit, TransactionCancel}
+use Rattle.tdb_cmdline.specs.declared.act.Act.{Act}
+use Rattle.tdb_cmdline.specs.declared.act.Verb.{Verb}
+use Rattle.tdb_cmdline.specs.declared.act.Verb.TheVariants.{Show, Insert, Store, Delete, Erase, Check, First, Next, TransactionStart, TransactionCommit, TransactionCancel}
 use Rattle.tdb_top.specs.declared.ending.Reply.{Reply}
 use Rattle.tdb_top.specs.declared.ending.Reply.TheVariants.{Done}
 use Rattle.tdb_open.specs.declared.halt.Fault.{Fault}

@@ -8,10 +8,10 @@ use Rattle.tdb_disk.specs.declared.files.TakeRefusal as Take
 use Rattle.tdb_log.specs.Logs.{Logged}
 use Rattle.tdb_dump.specs.Escape.{escaped}
 use Rattle.tdb_dump.specs.Line.{data_line, pair_line}
-use Rattle.tdb_ask.specs.declared.act.Act.{Act}
-use Rattle.tdb_ask.specs.declared.look.Look.{Look}
-use Rattle.tdb_ask.specs.declared.ask.Task.{Task}
-use Rattle.tdb_ask.specs.declared.ask.Task.TheVariants.{Create, On, Read, Print, Restore, Backup, Verify, Turns, Session, Generate}
+use Rattle.tdb_cmdline.specs.declared.act.Act.{Act}
+use Rattle.tdb_cmdline.specs.declared.look.Look.{Look}
+use Rattle.tdb_cmdline.specs.declared.ask.Task.{Task}
+use Rattle.tdb_cmdline.specs.declared.ask.Task.TheVariants.{Create, On, Read, Print, Restore, Backup, Verify, Turns, Session, Generate}
 use Rattle.tdb_top.specs.declared.ending.Ending.{Ending}
 use Rattle.tdb_top.specs.declared.ending.Ending.TheVariants.{Replied, Refused, Missing, There, Usage, DeviceFault, InputFault, Malformed, NoMemory, LogFault}
 use Rattle.tdb_top.specs.declared.ending.Reply.TheVariants.{Done, Value, Escaped, Dumped, Restored, Copied, Verified, KeyMissing, KeyThere, NoTransaction, Full, Number, Pair, End, Played, Generated}
@@ -19,8 +19,8 @@ use Rattle.tdb_open.specs.declared.halt.Halt as H
 use Rattle.tdb_open.specs.declared.halt.Refusal.{Refusal}
 use Rattle.tdb_open.specs.declared.halt.Refusal.TheVariants.{TooLong, Header, Corrupt, NeedsRecovery}
 use Rattle.tdb_top.specs.declared.commands.create.Creation as Making
-use Rattle.tdb_ask.specs.Ask.{Ask}
-use Rattle.tdb_ask.specs.declared.lines.create.NewFile.{NewFile}
+use Rattle.tdb_cmdline.specs.Ask.{Ask}
+use Rattle.tdb_cmdline.specs.declared.lines.create.NewFile.{NewFile}
 use Rattle.tdb_open.specs.Creating.{new_length}
 use Rattle.tdb_top.specs.Acts.{reply_of}
 use Rattle.tdb_top.specs.Looks.{look_reply}

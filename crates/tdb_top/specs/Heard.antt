@@ -12,10 +12,10 @@ use Rattle.tdb_open.specs.declared.halt.Fault.{Fault}
 use Rattle.tdb_open.specs.declared.halt.Fault.TheVariants as F
 use Rattle.tdb_open.specs.declared.halt.Halt.{Halt}
 use Rattle.tdb_open.specs.declared.opening.Opened.{Opened}
-use Rattle.tdb_ask.specs.CopyNames.{copy_name}
-use Rattle.tdb_ask.specs.Ask.{Ask}
-use Rattle.tdb_ask.specs.declared.ask.Task.{Task}
-use Rattle.tdb_ask.specs.declared.ask.Task.TheVariants.{Create, On, Read, Print, Restore, Backup, Verify, Turns, Session, Generate}
+use Rattle.tdb_cmdline.specs.CopyNames.{copy_name}
+use Rattle.tdb_cmdline.specs.Ask.{Ask}
+use Rattle.tdb_cmdline.specs.declared.ask.Task.{Task}
+use Rattle.tdb_cmdline.specs.declared.ask.Task.TheVariants.{Create, On, Read, Print, Restore, Backup, Verify, Turns, Session, Generate}
 use Rattle.tdb_top.specs.declared.ending.Ending.{Ending}
 use Rattle.tdb_top.specs.declared.ending.Ending.TheVariants.{Replied, DeviceFault, NoMemory, LogFault}
 use Rattle.tdb_top.specs.declared.ending.Reply.{Reply}

@@ -1,18 +1,18 @@
 -- What a task leaves at the name of its file, by its ending.
 use Rattle.std.specs.Prelude.{◌≡◌, ◌<◌, ◌⊎◌, ℕ, true, false, IsTrue, IsSome, Option, None, Some, List, ◌∷◌}
 use Rattle.tdb_disk.specs.History.{History, seen}
-use Rattle.tdb_ask.specs.declared.act.Act.{Act}
-use Rattle.tdb_ask.specs.declared.ask.Task.{Task}
-use Rattle.tdb_ask.specs.declared.ask.Task.TheVariants.{Create, On, Read, Print, Restore, Backup, Verify, Turns, Session, Generate}
+use Rattle.tdb_cmdline.specs.declared.act.Act.{Act}
+use Rattle.tdb_cmdline.specs.declared.ask.Task.{Task}
+use Rattle.tdb_cmdline.specs.declared.ask.Task.TheVariants.{Create, On, Read, Print, Restore, Backup, Verify, Turns, Session, Generate}
 use Rattle.tdb_top.specs.declared.ending.Ending.{Ending}
 use Rattle.tdb_top.specs.declared.ending.Ending.TheVariants.{Replied, Refused, Missing, There, Usage, DeviceFault, InputFault, Malformed, NoMemory, LogFault}
 use Rattle.tdb_top.specs.declared.ending.Reply.TheVariants.{Done, Restored}
 use Rattle.tdb_open.specs.declared.halt.Refusal.TheVariants.{TooLong}
-use Rattle.tdb_ask.specs.declared.lines.create.NewFile.{NewFile}
+use Rattle.tdb_cmdline.specs.declared.lines.create.NewFile.{NewFile}
 use Rattle.tdb_top.specs.declared.commands.create.Creation as Making
 use Rattle.tdb_top.specs.Acts.{reply_of, Left, Interrupted}
-use Rattle.tdb_ask.specs.Ask.{Ask}
-use Rattle.tdb_ask.specs.CopyNames.{IsNameAmong}
+use Rattle.tdb_cmdline.specs.Ask.{Ask}
+use Rattle.tdb_cmdline.specs.CopyNames.{IsNameAmong}
 use Rattle.tdb_top.specs.Commands.Backup.{BackupLeaves}
 use Rattle.tdb_open.specs.Creating.{new_length}
 use Rattle.tdb_top.specs.Commands.Create.{LeftEmpty, CreateLeaves}

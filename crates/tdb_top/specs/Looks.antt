@@ -1,8 +1,8 @@
 -- What the commands do that read a file alone: what each replies, and what it prints before that.
 use Rattle.std.specs.Prelude.{◌≡◌, ◌++◌, ℕ, Bool, ◌&&◌, Option, None, Some, List, [], take, Result, Ok, Err}
 use Rattle.tdb_disk.specs.History.{History, seen}
-use Rattle.tdb_ask.specs.declared.look.Look.{Look}
-use Rattle.tdb_ask.specs.declared.look.Look.TheVariants.{Dump, Value}
+use Rattle.tdb_cmdline.specs.declared.look.Look.{Look}
+use Rattle.tdb_cmdline.specs.declared.look.Look.TheVariants.{Dump, Value}
 use Rattle.tdb_dump.specs.declared.listing.Listing.TheVariants.{Pairs}
 use Rattle.tdb_top.specs.declared.ending.Ending.{Ending}
 use Rattle.tdb_top.specs.declared.ending.Ending.TheVariants.{Replied, Refused, Missing, There, Usage, DeviceFault, InputFault, Malformed, NoMemory, LogFault}

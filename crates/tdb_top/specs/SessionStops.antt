@@ -4,7 +4,7 @@ use Rattle.tdb_disk.specs.Count.{Rose}
 use Rattle.tdb_disk.specs.History.{History, seen}
 use Rattle.tdb_space.specs.Form.{form_of}
 use Rattle.tdb_law.specs.World.{State}
-use Rattle.tdb_ask.specs.declared.ask.Task.TheVariants.{Session}
+use Rattle.tdb_cmdline.specs.declared.ask.Task.TheVariants.{Session}
 use Rattle.tdb_tool.specs.Asking.{BeginsBy}
 use Rattle.tdb_tool.specs.Whole.{SessionCame}
 use Rattle.tdb_tool.specs.declared.order.Order.{Order}

@@ -8,7 +8,7 @@ use Rattle.tdb_space.specs.Form.{Form, form_of}
 use Rattle.tdb_law.specs.Beginning.{IsLoaded}
 use Rattle.tdb_law.specs.Plays.{Course}
 use Rattle.tdb_law.specs.World.{State}
-use Rattle.tdb_ask.specs.declared.ask.Task.TheVariants.{Turns}
+use Rattle.tdb_cmdline.specs.declared.ask.Task.TheVariants.{Turns}
 use Rattle.tdb_commands.specs.InLaw.{law_plays, law_lines, options_of}
 use Rattle.tdb_commands.specs.declared.line.Line.{Line}
 use Rattle.tdb_commands.specs.declared.line.Line.TheVariants.{Unfinished}

@@ -2,11 +2,11 @@
 
 ghost use Rattle.std.specs.Prelude.{◌≡◌, ℕ, List, Ok, false, string_bytes, IsTrue};
 ghost use Rattle.tdb_disk.specs.Count.{HasCause, Rose};
-ghost use Rattle.tdb_ask.specs.declared.ask.Task.TheVariants.{Turns as TurnsIs, Session as SessionIs};
+ghost use Rattle.tdb_cmdline.specs.declared.ask.Task.TheVariants.{Turns as TurnsIs, Session as SessionIs};
 ghost use Rattle.tdb_top.specs.declared.ending.Ending.TheVariants.{Replied, Usage};
 ghost use Rattle.tdb_top.specs.declared.ending.Reply.TheVariants.{Played};
 ghost use Rattle.tdb_commands.specs.declared.options.Options.{Options as WorldOptions};
-ghost use Rattle.tdb_ask.specs.Ask.{TaskFits};
+ghost use Rattle.tdb_cmdline.specs.Ask.{TaskFits};
 ghost use Rattle.tdb_top.specs.Commands.Restore.{HeardBy, of_input};
 ghost use Rattle.tdb_top.specs.Commands.Session.{SessionHeld};
 ghost use Rattle.tdb_top.specs.Commands.Turns.{AllPlayed};
@@ -32,7 +32,7 @@ use crate::commands::verify::verify;
 use crate::ending::{Ending, Unprinted};
 use crate::look::look_on_file;
 use std::alloc::Global;
-use tdb_ask::{Ask, Task};
+use tdb_cmdline::{Ask, Task};
 use tdb_disk::{Files, Sink, Source};
 use tdb_log::Logs;
 

@@ -1,11 +1,11 @@
 // The top call: it reads the words, answers them over the files and prints the text and the line of that.
 
 ghost use Rattle.std.specs.Prelude.{◌≡◌, ◌⊎◌, ℕ, List, None, Some, false, map, string_bytes, IsTrue};
-ghost use Rattle.tdb_ask.specs.declared.ask.Task.TheVariants.{Turns as TurnsIs, Session as SessionIs};
+ghost use Rattle.tdb_cmdline.specs.declared.ask.Task.TheVariants.{Turns as TurnsIs, Session as SessionIs};
 ghost use Rattle.tdb_top.specs.declared.ending.Ending.TheVariants.{Replied, Usage, NoMemory};
 ghost use Rattle.tdb_top.specs.declared.ending.Reply.TheVariants.{Played};
 ghost use Rattle.tdb_commands.specs.declared.options.Options.{Options};
-ghost use Rattle.tdb_ask.specs.Ask.{ask_of};
+ghost use Rattle.tdb_cmdline.specs.Ask.{ask_of};
 ghost use Rattle.tdb_disk.specs.Count.{HasCause, Rose};
 ghost use Rattle.tdb_top.specs.declared.ending.Ending.{Ending as EndingIs};
 ghost use Rattle.tdb_top.specs.Ending.{CountedAsked, PrintedFor};
@@ -26,7 +26,7 @@ ghost use Rattle.tdb_top.specs.Stops.{StopsScripted, TurnsStopSafely};
 use crate::answering::answer_ask;
 use crate::ending::{Ending, Status, Unprinted, print};
 use std::alloc::Global;
-use tdb_ask::Ask;
+use tdb_cmdline::Ask;
 use tdb_disk::{Files, Sink, Source};
 use tdb_log::Logs;
 

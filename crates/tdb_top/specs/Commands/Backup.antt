@@ -14,7 +14,7 @@ use Rattle.tdb_top.specs.declared.ending.Ending.TheVariants.{Replied, Refused, M
 use Rattle.tdb_top.specs.declared.ending.Reply.{Reply}
 use Rattle.tdb_open.specs.declared.halt.Refusal.{Refusal}
 use Rattle.tdb_open.specs.declared.limits.TheConstants.{LONGEST_FILE}
-use Rattle.tdb_ask.specs.CopyNames.{copy_name, new_name, IsNameAmong}
+use Rattle.tdb_cmdline.specs.CopyNames.{copy_name, new_name, IsNameAmong}
 use Rattle.tdb_top.specs.Commands.Check.{keys_in}
 use Rattle.tdb_open.specs.Opening.{opened_bytes, CanOpen, IsRefused, SameOrUndone, UndoneIfOpen, LookBroken, HeldOrUndone, HeldBroken}
 

@@ -20,11 +20,11 @@ use Rattle.tdb_gen.specs.declared.summary.Summary.{Summary}
 use Rattle.tdb_top.specs.declared.ending.Ending.{Ending}
 use Rattle.tdb_top.specs.declared.ending.Ending.TheVariants.{Replied, Refused, Missing, There, Usage, DeviceFault, InputFault, Malformed, NoMemory, LogFault}
 use Rattle.tdb_top.specs.declared.ending.Reply.TheVariants.{Generated}
-use Rattle.tdb_ask.specs.declared.limits.TheConstants.{DEFAULT_SIZE}
+use Rattle.tdb_cmdline.specs.declared.limits.TheConstants.{DEFAULT_SIZE}
 use Rattle.tdb_open.specs.declared.limits.TheConstants.{LONGEST_FILE}
 use Rattle.tdb_open.specs.Creating.{new_image}
 use Rattle.tdb_top.specs.Commands.Restore.{new_form}
-use Rattle.tdb_ask.specs.Lines.Turns.{options_with}
+use Rattle.tdb_cmdline.specs.Lines.Turns.{options_with}
 
 -- the openers of the commands open the file as turns do where no option says otherwise
 abbrev pub gen_options : Options

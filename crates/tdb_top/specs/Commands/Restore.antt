@@ -9,7 +9,7 @@ use Rattle.tdb_space.specs.Form.{Form}
 use Rattle.tdb_backup.specs.Restoring.{Restored, RestoreCause}
 use Rattle.tdb_backup.specs.declared.refusal.RestoreRefusal.{RestoreRefusal}
 use Rattle.tdb_backup.specs.declared.refusal.RestoreRefusal.TheVariants as R
-use Rattle.tdb_ask.specs.declared.limits.TheConstants.{DEFAULT_SIZE}
+use Rattle.tdb_cmdline.specs.declared.limits.TheConstants.{DEFAULT_SIZE}
 use Rattle.tdb_top.specs.declared.ending.Ending.{Ending}
 use Rattle.tdb_top.specs.declared.ending.Ending.TheVariants.{Replied, Refused, Missing, There, Usage, DeviceFault, InputFault, Malformed, NoMemory, LogFault}
 use Rattle.tdb_top.specs.declared.ending.Reply.TheVariants as Reply

@@ -10,7 +10,7 @@ use Rattle.tdb_top.specs.declared.ending.Ending.TheVariants.{Replied, Refused, M
 use Rattle.tdb_top.specs.declared.ending.Reply.{Reply}
 use Rattle.tdb_open.specs.declared.halt.Refusal.{Refusal}
 use Rattle.tdb_open.specs.declared.halt.Refusal.TheVariants.{TooLong, Header, Corrupt, NeedsRecovery}
-use Rattle.tdb_ask.specs.CopyNames.{copy_name, temporary_name}
+use Rattle.tdb_cmdline.specs.CopyNames.{copy_name, temporary_name}
 use Rattle.tdb_top.specs.Commands.Backup.{IsCopyOf, IsLeftOf, EndsAt, AllStay}
 use Rattle.tdb_top.specs.Commands.Check.{keys_in}
 use Rattle.tdb_open.specs.Opening.{opened_bytes, CanOpen, IsRefused, UndoneIfOpen, HeldOrUndone, HeldBroken}

@@ -10,7 +10,7 @@ ghost use Rattle.tdb_backup.specs.Building.{HoldsPairs};
 ghost use Rattle.tdb_backup.specs.declared.refusal.CopyRefusal.TheVariants.{Read as ReadFails, Write as WriteFails};
 ghost use Rattle.tdb_top.specs.declared.ending.Ending.TheVariants.{Replied};
 ghost use Rattle.tdb_top.specs.declared.ending.Reply.TheVariants.{Copied};
-ghost use Rattle.tdb_ask.specs.CopyNames.{copy_name, new_name, IsNameOf, IsNameAmong, BackupFits};
+ghost use Rattle.tdb_cmdline.specs.CopyNames.{copy_name, new_name, IsNameOf, IsNameAmong, BackupFits};
 ghost use Rattle.tdb_top.specs.Commands.Backup.{copy_ending, HasKeys, IsCopyOf, IsNotCopied, of_copy, IsLeftOf, IsUntakenNew, CopyMade, DiskCopied, FileCopied, BackedUpOne, BackedUp, EndsBackup, CountedBoth};
 ghost use Rattle.tdb_top.specs.Commands.Check.{keys_in};
 ghost use Rattle.tdb_open.specs.Creating.{IsNewFile};
@@ -21,7 +21,7 @@ ghost use Rattle.tdb_open.specs.Opening.{opened_bytes, IsCheckedOn};
 
 use crate::ending::{Ending, Reply};
 use std::alloc::Global;
-use tdb_ask::Text;
+use tdb_cmdline::Text;
 use tdb_backup::{CopyRefusal, copy_pairs};
 use tdb_disk::{Disk, Files, Take};
 use tdb_log::Logs;

@@ -7,7 +7,7 @@ ghost use Rattle.tdb_top.specs.Commands.Create.{CreateCause, CreateLeaves};
 ghost use Rattle.tdb_top.specs.declared.commands.create.Creation.TheVariants.{Device as IsDevice};
 
 use std::alloc::Global;
-use tdb_ask::NewFile;
+use tdb_cmdline::NewFile;
 use tdb_disk::{Files, Take, TakeRefusal};
 use tdb_open::make;
 

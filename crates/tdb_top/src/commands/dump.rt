@@ -3,7 +3,7 @@
 ghost use Rattle.std.specs.Prelude.{◌≡◌, ◌≢◌, ◌^◌, ◌<◌, false, length, IsTrue};
 ghost use Rattle.tdb_disk.specs.History.{seen};
 ghost use Rattle.tdb_top.specs.declared.ending.Ending.TheVariants.{Usage, LogFault};
-ghost use Rattle.tdb_ask.specs.declared.look.Look.TheVariants.{Value};
+ghost use Rattle.tdb_cmdline.specs.declared.look.Look.TheVariants.{Value};
 ghost use Rattle.tdb_top.specs.Commands.Restore.{of_input};
 ghost use Rattle.tdb_top.specs.Ending.{CountedBy};
 ghost use Rattle.tdb_top.specs.Looks.{LookEnds};

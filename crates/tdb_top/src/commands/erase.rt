@@ -5,7 +5,7 @@ ghost use Rattle.tdb_disk.specs.Count.{HasCause, HasCauseOf};
 ghost use Rattle.tdb_disk.specs.History.{seen};
 ghost use Rattle.tdb_space.specs.Form.{form_of};
 ghost use Rattle.tdb_steps.specs.Wiped.{Wiped};
-ghost use Rattle.tdb_ask.specs.declared.act.Verb.TheVariants.{Erase};
+ghost use Rattle.tdb_cmdline.specs.declared.act.Verb.TheVariants.{Erase};
 ghost use Rattle.tdb_open.specs.declared.halt.Fault.TheVariants.{Device};
 ghost use Rattle.tdb_top.specs.Acts.{Acted};
 ghost use Rattle.tdb_top.specs.Commands.Erase.{EraseBroken};

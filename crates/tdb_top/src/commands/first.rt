@@ -5,7 +5,7 @@ ghost use Rattle.tdb_disk.specs.Count.{HasCauseOf};
 ghost use Rattle.tdb_disk.specs.History.{seen};
 ghost use Rattle.tdb_space.specs.Form.{form_of};
 ghost use Rattle.tdb_space.specs.Pairs.{order_of};
-ghost use Rattle.tdb_ask.specs.declared.act.Verb.TheVariants.{First};
+ghost use Rattle.tdb_cmdline.specs.declared.act.Verb.TheVariants.{First};
 ghost use Rattle.tdb_top.specs.declared.ending.Reply.TheVariants.{End};
 ghost use Rattle.tdb_open.specs.declared.halt.Fault.TheVariants.{Device, Log};
 ghost use Rattle.tdb_top.specs.Acts.{Acted};

@@ -4,7 +4,7 @@ ghost use Rattle.std.specs.Prelude.{◌≡◌, ◌&&◌, ℕ, List, [], Some, fa
 ghost use Rattle.tdb_disk.specs.Count.{HasCause};
 ghost use Rattle.tdb_disk.specs.History.{seen};
 ghost use Rattle.tdb_disk.specs.Names.{SameBut};
-ghost use Rattle.tdb_ask.specs.declared.ask.Task.TheVariants.{Print};
+ghost use Rattle.tdb_cmdline.specs.declared.ask.Task.TheVariants.{Print};
 ghost use Rattle.tdb_top.specs.declared.ending.Ending.TheVariants.{Usage};
 ghost use Rattle.tdb_top.specs.Commands.Dump.{pairs_text};
 ghost use Rattle.tdb_top.specs.Commands.Print.{PrintEnds, PrintLeft, PrintLeaves, PrintText};

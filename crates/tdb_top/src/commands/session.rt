@@ -3,7 +3,7 @@
 ghost use Rattle.std.specs.Prelude.{◌≡◌, ◌≤◌, ◌&&◌, ℕ, List, false, IsTrue};
 ghost use Rattle.tdb_disk.specs.Count.{HasCause};
 ghost use Rattle.tdb_disk.specs.Names.{SameBut};
-ghost use Rattle.tdb_ask.specs.declared.ask.Task.TheVariants.{Session};
+ghost use Rattle.tdb_cmdline.specs.declared.ask.Task.TheVariants.{Session};
 ghost use Rattle.tdb_top.specs.declared.ending.Ending.TheVariants.{Usage};
 ghost use Rattle.tdb_top.specs.Commands.Restore.{HeardBy};
 ghost use Rattle.tdb_top.specs.Commands.Session.{session_options, session_told, SessionText, SessionFile, SessionHeld, SessionHeard, StaysThere};

@@ -8,7 +8,7 @@ ghost use Rattle.tdb_space.specs.NewRecord.{rec_len_for};
 ghost use Rattle.tdb_edit.specs.Edited.{KeyChanged};
 ghost use Rattle.tdb_edit.specs.Stored.{has_room, FullRightly};
 ghost use Rattle.tdb_edit.specs.declared.refusal.StoreRefusal.TheVariants.{Io as IoIs};
-ghost use Rattle.tdb_ask.specs.declared.act.Verb.TheVariants.{Store};
+ghost use Rattle.tdb_cmdline.specs.declared.act.Verb.TheVariants.{Store};
 ghost use Rattle.tdb_open.specs.declared.halt.Fault.TheVariants.{Device};
 ghost use Rattle.tdb_top.specs.Acts.{Acted};
 ghost use Rattle.tdb_top.specs.Commands.Store.{need_for, GrewFor};

@@ -6,7 +6,7 @@ ghost use Rattle.tdb_disk.specs.History.{seen};
 ghost use Rattle.tdb_disk.specs.Names.{SameBut};
 ghost use Rattle.tdb_space.specs.Form.{form_of};
 ghost use Rattle.tdb_course.specs.Playable.{ArePlayable};
-ghost use Rattle.tdb_ask.specs.declared.ask.Task.TheVariants.{Turns};
+ghost use Rattle.tdb_cmdline.specs.declared.ask.Task.TheVariants.{Turns};
 ghost use Rattle.tdb_top.specs.declared.ending.Ending.TheVariants.{Replied, Usage};
 ghost use Rattle.tdb_top.specs.declared.ending.Reply.TheVariants.{Played};
 ghost use Rattle.tdb_top.specs.Commands.Restore.{HeardBy, of_input};

@@ -1,7 +1,7 @@
 // The command that tells how many keys files have, and restores those that are refused from their copies.
 
 ghost use Rattle.std.specs.Prelude.{◌≡◌, ◌≢◌, ◌⊎◌, ◌&&◌, ◌++◌, ◌∷◌, ℕ, List, [], true, false, codes, IsTrue, IfOk, IfErr, OnOk};
-ghost use Rattle.tdb_ask.specs.CopyNames.{copy_name, temporary_name, IsNameOf, IsNameAmong, VerifyFits};
+ghost use Rattle.tdb_cmdline.specs.CopyNames.{copy_name, temporary_name, IsNameOf, IsNameAmong, VerifyFits};
 ghost use Rattle.tdb_disk.specs.Count.{HasCause, HasCauseOf};
 ghost use Rattle.tdb_disk.specs.Names.{SameBut};
 ghost use Rattle.tdb_top.specs.declared.ending.Ending.TheVariants.{DeviceFault as DeviceIs, NoMemory as MemoryIs, Usage};
@@ -17,7 +17,7 @@ use crate::commands::backup::back_up_as;
 use crate::ending::{Ending, Reply, Unprinted};
 use itoa::Buffer;
 use std::alloc::{AllocError, Global};
-use tdb_ask::Text;
+use tdb_cmdline::Text;
 use tdb_disk::{Files, Sink, SinkFault, Take};
 use tdb_log::Logs;
 use tdb_open::Opened;

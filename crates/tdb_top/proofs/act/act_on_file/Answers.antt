@@ -2,7 +2,7 @@ use Rattle.std.proofs.Common.{◌≡◌, [], true, ◌<◌, Err, Some, refl, sym
 use Rattle.tdb_disk.specs.History.{began}
 use Rattle.tdb_disk.specs.Count.{Rose}
 use Rattle.tdb_disk.specs.declared.files.Take.TheVariants.{Existing, New}
-use Rattle.tdb_ask.specs.declared.ask.Task.TheVariants.{On}
+use Rattle.tdb_cmdline.specs.declared.ask.Task.TheVariants.{On}
 use Rattle.tdb_open.specs.declared.halt.Halt.TheVariants.{Device}
 use Rattle.tdb_top.specs.Ending.{TaskCause, of_halt}
 use Rattle.tdb_top.specs.declared.ending.Ending.TheVariants.{Replied}

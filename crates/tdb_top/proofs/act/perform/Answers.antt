@@ -1,5 +1,5 @@
 use Rattle.std.proofs.Common.{sym, subst}
-use Rattle.tdb_ask.specs.declared.act.Verb.TheVariants.{Show, Delete}
+use Rattle.tdb_cmdline.specs.declared.act.Verb.TheVariants.{Show, Delete}
 use Rattle.tdb_top.specs.Acts.{Acted}
 use Rattle.tdb_top.proofs.act.perform.Goals as goal
 

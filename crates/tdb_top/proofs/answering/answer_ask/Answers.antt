@@ -8,7 +8,7 @@ use Rattle.tdb_top.specs.Input.{input_by}
 use Rattle.tdb_top.specs.Reads.{AskEnds, GenCause}
 use Rattle.tdb_top.specs.Left.{TaskLeaves}
 use Rattle.tdb_top.specs.Commands.Backup.{BackupCause}
-use Rattle.tdb_ask.specs.declared.ask.Task.TheVariants.{Turns, Verify}
+use Rattle.tdb_cmdline.specs.declared.ask.Task.TheVariants.{Turns, Verify}
 use Rattle.tdb_top.specs.declared.ending.Ending.TheVariants.{Replied}
 use Rattle.tdb_top.specs.declared.ending.Reply.TheVariants.{Played}
 use Rattle.tdb_top.specs.Commands.Generate.{GenHeard}

@@ -2,7 +2,7 @@ use Rattle.std.proofs.Common.{Some}
 use Rattle.std.proofs.lemmas.Bool.{and_parts}
 use Rattle.tdb_disk.specs.History.{seen}
 use Rattle.tdb_dump.specs.declared.listing.Listing.TheVariants.{Pairs}
-use Rattle.tdb_ask.specs.declared.look.Look.TheVariants.{Dump}
+use Rattle.tdb_cmdline.specs.declared.look.Look.TheVariants.{Dump}
 use Rattle.tdb_top.specs.Commands.Dump.{pairs_text}
 use Rattle.tdb_top.specs.Looks.{LookText, StandsBefore, ending_of}
 use Rattle.tdb_top.proofs.Looking.{began_as, dump_ends}

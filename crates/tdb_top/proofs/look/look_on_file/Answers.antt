@@ -1,7 +1,7 @@
 use Rattle.std.proofs.Common.{◌≡◌, [], true, Err, Some, refl, sym, ap, subst}
 use Rattle.tdb_disk.specs.History.{began}
 use Rattle.tdb_disk.specs.declared.files.Take.TheVariants.{ReadOnly, New}
-use Rattle.tdb_ask.specs.declared.ask.Task.TheVariants.{Read}
+use Rattle.tdb_cmdline.specs.declared.ask.Task.TheVariants.{Read}
 use Rattle.tdb_top.specs.Looks.{LookText, ending_of}
 use Rattle.tdb_top.proofs.Acting.{untaken_cause}
 use Rattle.tdb_top.specs.Heard.{LookHeard}

@@ -1,7 +1,7 @@
 use Rattle.std.proofs.Common.{◌≡◌, Option, Some, Ok, map, string_bytes, refl, ap, ◌∙◌, subst}
 use Rattle.std.specs.Prelude.{IsTrue, unwrap_or}
 use Rattle.tdb_disk.specs.Count.{Rose}
-use Rattle.tdb_ask.specs.declared.ask.Task.TheVariants.{Turns}
+use Rattle.tdb_cmdline.specs.declared.ask.Task.TheVariants.{Turns}
 use Rattle.tdb_top.specs.declared.ending.Ending.TheVariants.{Replied, Usage, NoMemory}
 use Rattle.tdb_top.specs.declared.ending.Reply.TheVariants.{Played}
 use Rattle.tdb_top.specs.Ending.{Due}
@@ -10,7 +10,7 @@ use Rattle.tdb_top.specs.Reads.{ask_reads}
 use Rattle.tdb_top.specs.Looks.{ending_of, Began}
 use Rattle.tdb_top.specs.Printed.{TaskText, TextBefore, ask_tells}
 use Rattle.tdb_top.specs.Run.{is_due, memory_wanting}
-use Rattle.tdb_ask.specs.Ask.{Ask, asked, ask_of}
+use Rattle.tdb_cmdline.specs.Ask.{Ask, asked, ask_of}
 use Rattle.tdb_top.specs.Left.{Leaving}
 use Rattle.tdb_top.specs.Stops.{StopsScripted}
 use Rattle.tdb_top.specs.Heard.{AskHeard}

@@ -2,9 +2,9 @@ use Rattle.std.proofs.Common.{◌≡◌, ◌∷◌, ◌+◌, ℕ, List, [], fals
 use Rattle.std.proofs.Math.ListN.{drop_of_length-le}
 use Rattle.tdb_top.specs.declared.ending.Ending.TheVariants.{Replied, DeviceFault}
 use Rattle.tdb_top.specs.declared.ending.Reply.TheVariants.{Copied}
-use Rattle.tdb_ask.specs.CopyNames.{copy_name, new_name, IsNameOf, IsNameAmong, NamesDiffer}
+use Rattle.tdb_cmdline.specs.CopyNames.{copy_name, new_name, IsNameOf, IsNameAmong, NamesDiffer}
 use Rattle.tdb_top.specs.Commands.Backup.{BackedUpOne}
-use Rattle.tdb_ask.proofs.Items.{rest_of}
+use Rattle.tdb_cmdline.proofs.Items.{rest_of}
 use Rattle.tdb_top.specs.Heard.{OpenHeard}
 use Rattle.tdb_top.proofs.Copies.{Carries, all_done, went_on, ended_there, carries_on, carries_end}
 use Rattle.tdb_top.proofs.Hearing.{BackupCarries, backup_on, backup_end}

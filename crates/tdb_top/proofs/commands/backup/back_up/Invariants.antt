@@ -1,6 +1,6 @@
 -- The files that were gone over were copied, so what is left of the others tells what is left of all.
 use Rattle.std.proofs.Common.{◌≡◌, ◌∷◌, ℕ, List, drop, false, IsTrue}
-use Rattle.tdb_ask.specs.CopyNames.{IsNameAmong, NamesDiffer}
+use Rattle.tdb_cmdline.specs.CopyNames.{IsNameAmong, NamesDiffer}
 use Rattle.tdb_top.proofs.Copies.{Carries}
 use Rattle.tdb_top.proofs.Hearing.{BackupCarries}
 use Rattle.tdb_top.proofs.commands.backup.back_up.Given as goal

@@ -7,7 +7,7 @@ use Rattle.tdb_gen.specs.Generated.{GeneratedOver}
 use Rattle.tdb_gen.specs.declared.fault.GenFault.{GenFault}
 use Rattle.tdb_gen.specs.declared.fault.GenFault.TheVariants as F
 use Rattle.tdb_gen.specs.declared.summary.Summary.{Summary}
-use Rattle.tdb_ask.specs.declared.limits.TheConstants.{DEFAULT_SIZE}
+use Rattle.tdb_cmdline.specs.declared.limits.TheConstants.{DEFAULT_SIZE}
 use Rattle.tdb_open.specs.Creating.{IsNewFile}
 use Rattle.tdb_top.specs.Commands.Generate.{gen_options, new_file}
 use Rattle.tdb_top.specs.Commands.Restore.{new_form}

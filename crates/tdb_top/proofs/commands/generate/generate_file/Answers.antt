@@ -2,7 +2,7 @@ use Rattle.std.proofs.Common.{◌≡◌, ◌≤◌, true, false, Err, None, refl
 use Rattle.std.proofs.lemmas.Result.{IfErr-at_err}
 use Rattle.tdb_disk.specs.Count.{Rose}
 use Rattle.tdb_gen.specs.declared.fault.GenFault.TheVariants as F
-use Rattle.tdb_ask.specs.declared.ask.Task.TheVariants.{Generate}
+use Rattle.tdb_cmdline.specs.declared.ask.Task.TheVariants.{Generate}
 use Rattle.tdb_top.specs.Commands.Generate.{of_gen}
 use Rattle.tdb_top.specs.Ending.{task_failed, CountedIf}
 use Rattle.tdb_top.proofs.Acting.{rose_earlier}

@@ -2,7 +2,7 @@ use Rattle.std.proofs.Common.{◌≡◌, [], true, Err, Some, refl, sym, ap, sub
 use Rattle.std.proofs.lemmas.Bool.{and_parts}
 use Rattle.tdb_disk.specs.History.{began}
 use Rattle.tdb_disk.specs.declared.files.Take.TheVariants.{Existing, New}
-use Rattle.tdb_ask.specs.declared.ask.Task.TheVariants.{Print}
+use Rattle.tdb_cmdline.specs.declared.ask.Task.TheVariants.{Print}
 use Rattle.tdb_top.specs.Commands.Print.{PrintText}
 use Rattle.tdb_top.specs.Looks.{ending_of}
 use Rattle.tdb_top.proofs.Acting.{untaken_cause}

@@ -6,7 +6,7 @@ use Rattle.tdb_backup.specs.Building.{HoldsPairs}
 use Rattle.tdb_backup.specs.Restoring.{Restored, RestoreCause}
 use Rattle.tdb_words.specs.declared.word.Order.TheVariants.{Little}
 use Rattle.tdb_words.specs.declared.hash.HashKind.TheVariants.{Old}
-use Rattle.tdb_ask.specs.declared.limits.TheConstants.{DEFAULT_SIZE}
+use Rattle.tdb_cmdline.specs.declared.limits.TheConstants.{DEFAULT_SIZE}
 use Rattle.tdb_open.specs.Creating.{IsNewFile}
 use Rattle.tdb_top.specs.Commands.Restore.{new_form}
 use Rattle.tdb_top.proofs.Restoring.{holds_nothing, new_short}

@@ -3,7 +3,7 @@ use Rattle.std.proofs.lemmas.Result.{IfErr-at_err}
 use Rattle.tdb_disk.specs.Count.{Rose}
 use Rattle.tdb_disk.specs.History.{seen}
 use Rattle.tdb_backup.specs.declared.refusal.RestoreRefusal.TheVariants as R
-use Rattle.tdb_ask.specs.declared.ask.Task.TheVariants.{Restore}
+use Rattle.tdb_cmdline.specs.declared.ask.Task.TheVariants.{Restore}
 use Rattle.tdb_top.specs.Ending.{task_failed, CountedBy}
 use Rattle.tdb_top.specs.Input.{Input, input_by}
 use Rattle.tdb_top.proofs.Acting.{rose_earlier}

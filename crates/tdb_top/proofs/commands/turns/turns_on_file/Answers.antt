@@ -1,5 +1,5 @@
 use Rattle.std.proofs.Common.{refl, sym, subst, inr}
-use Rattle.tdb_ask.specs.declared.ask.Task.TheVariants.{Turns}
+use Rattle.tdb_cmdline.specs.declared.ask.Task.TheVariants.{Turns}
 use Rattle.tdb_script.specs.Script.{Script}
 use Rattle.tdb_top.specs.Input.{input_by}
 use Rattle.tdb_top.specs.Output.{output_by}

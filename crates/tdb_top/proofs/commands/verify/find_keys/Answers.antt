@@ -1,6 +1,6 @@
 use Rattle.std.proofs.Common.{◌≡◌, Err, rules, inl, inr, sym, ◌∙◌, subst}
 use Rattle.tdb_top.specs.declared.commands.verify.Unverified.TheVariants.{Ends}
-use Rattle.tdb_ask.specs.CopyNames.{copy_name, temporary_name}
+use Rattle.tdb_cmdline.specs.CopyNames.{copy_name, temporary_name}
 use Rattle.tdb_top.proofs.Verifying.{copy_apart, temporary_apart, not_copied, opened_found, not_opened, faulty, faulty_kept, restoring_untold, restored_found, not_restored}
 use Rattle.tdb_top.specs.declared.ending.Ending.TheVariants.{Replied}
 use Rattle.tdb_top.specs.declared.ending.Reply.TheVariants.{Copied, Verified}

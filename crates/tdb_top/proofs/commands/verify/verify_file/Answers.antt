@@ -2,7 +2,7 @@ use Rattle.std.proofs.Common.{◌≡◌, Err, rules, sym, subst}
 use Rattle.std.proofs.lemmas.Result.{on_ok_weaker, IfErr-weaker}
 use Rattle.tdb_top.specs.Commands.Verify.{at_names}
 use Rattle.tdb_top.proofs.Verifying.{count_told, count_untold, line_known, line_cause}
-use Rattle.tdb_ask.specs.CopyNames.{copy_name}
+use Rattle.tdb_cmdline.specs.CopyNames.{copy_name}
 use Rattle.tdb_top.specs.Heard.{CountHeard, count_ending}
 use Rattle.tdb_top.proofs.Hearing.{count_heard}
 use Rattle.tdb_top.proofs.commands.verify.verify_file.Goals as goal

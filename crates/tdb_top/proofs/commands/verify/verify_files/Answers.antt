@@ -1,8 +1,8 @@
 use Rattle.std.proofs.Common.{◌≡◌, ◌∷◌, ◌+◌, ℕ, List, [], true, drop, rules, refl, sym, ◌∙◌, subst, Err, inl, inr, arith}
 use Rattle.std.proofs.Math.ListN.{drop_of_length-le}
-use Rattle.tdb_ask.specs.CopyNames.{IsNameOf, IsNameAmong, NamesDiffer}
+use Rattle.tdb_cmdline.specs.CopyNames.{IsNameOf, IsNameAmong, NamesDiffer}
 use Rattle.tdb_top.specs.Commands.Verify.{at_names, FileTold, FileUntold}
-use Rattle.tdb_ask.proofs.Items.{rest_of}
+use Rattle.tdb_cmdline.proofs.Items.{rest_of}
 use Rattle.tdb_top.proofs.Verifying.{Carries, ended_there, went_on, carries_end, carries_on, carries_all}
 use Rattle.tdb_top.specs.declared.ending.Ending.TheVariants.{Replied}
 use Rattle.tdb_top.specs.declared.ending.Reply.TheVariants.{Verified}

@@ -1,6 +1,6 @@
 -- The files that were gone over were verified and told, so what is left of the others tells what is left of all.
 use Rattle.std.proofs.Common.{◌≡◌, ◌∷◌, ℕ, List, drop, true, false, IsTrue}
-use Rattle.tdb_ask.specs.CopyNames.{IsNameAmong, NamesDiffer}
+use Rattle.tdb_cmdline.specs.CopyNames.{IsNameAmong, NamesDiffer}
 use Rattle.tdb_top.proofs.Hearing.{VerifyCarries}
 use Rattle.tdb_top.proofs.Verifying.{Carries}
 use Rattle.tdb_top.proofs.commands.verify.verify_files.Given as goal

@@ -1,8 +1,0 @@
--- The names that were gone over are all new and were seen, so what is left tells whether all are.
-use Rattle.std.proofs.Common.{◌≡◌, ℕ, List, drop}
-use Rattle.tdb_ask.specs.Lines.Backup.{all_differ, HasNames}
-use Rattle.tdb_ask.proofs.BackupNames.{all_new}
-use Rattle.tdb_ask.proofs.lines.backup.all_differ.Given as goal
-
-abbrev pub invariant-loop-name : goal.invariant-loop-name
-invariant-loop-name l = (before : List (List ℕ)) × HasNames l.seen before × (all_differ l.fn.names ≡ all_new before (drop l.name-index l.fn.names))

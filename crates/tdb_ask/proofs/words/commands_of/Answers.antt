@@ -1,5 +1,0 @@
-use Rattle.tdb_ask.proofs.Sizes.{number_found}
-use Rattle.tdb_ask.proofs.words.commands_of.Goals as goal
-
-pub returns : goal.returns
-returns c = number_found 0 1000000 c.args.word.now c.parsed_number.result c.parsed_number.ensures.read c.parsed_number.ensures.refused

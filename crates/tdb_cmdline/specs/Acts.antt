@@ -1,0 +1,39 @@
+-- The commands on a file that is there: what each asks for with its arguments.
+use Rattle.std.specs.Prelude.{ℕ, Option, None, Some, List, [], ◌∷◌}
+use Rattle.std.specs.Option.{option_map, option_and_then}
+use Rattle.tdb_cmdline.specs.declared.act.Verb.{Verb}
+use Rattle.tdb_cmdline.specs.declared.act.Verb.TheVariants.{Show, Insert, Store, Delete}
+use Rattle.tdb_cmdline.specs.Words.{value_of, of_one, of_two}
+use Rattle.tdb_dump.specs.declared.listing.Listing.{Listing}
+
+-- `show` KEY
+abbrev pub show_of : List (List ℕ) → Option Verb
+show_of arguments = of_one (λ word. option_map Show (value_of word)) arguments
+
+-- KEY DATA: the key and the value that two words stand for
+abbrev pub pair_of : List (List ℕ) → Option (List ℕ × List ℕ)
+pair_of arguments =
+    of_two (λ first second. option_and_then (λ key. option_map (λ value. (key, value)) (value_of second)) (value_of first)) arguments
+
+-- `insert` KEY DATA
+abbrev pub insert_of : List (List ℕ) → Option Verb
+insert_of arguments = option_map (λ pair. Insert pair.0 pair.1) (pair_of arguments)
+
+-- `store` KEY DATA
+abbrev pub store_of : List (List ℕ) → Option Verb
+store_of arguments = option_map (λ pair. Store pair.0 pair.1) (pair_of arguments)
+
+-- `delete` KEY
+abbrev pub delete_of : List (List ℕ) → Option Verb
+delete_of arguments = of_one (λ word. option_map Delete (value_of word)) arguments
+
+-- `erase`, `check`, `first`, `next`, `transaction_start`, `transaction_commit` and `transaction_cancel`, without
+-- arguments: the verb that the word asks for
+abbrev pub alone_of : Verb → List (List ℕ) → Option Verb
+alone_of verb [] = Some verb
+alone_of verb (word ∷ rest) = None
+
+-- `dump`, `keys` and `hexkeys`, without arguments: how the pairs are listed
+abbrev pub print_of : Listing → List (List ℕ) → Option Listing
+print_of listing [] = Some listing
+print_of listing (word ∷ rest) = None

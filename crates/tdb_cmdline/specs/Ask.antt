@@ -1,0 +1,160 @@
+-- Command lines: what words ask for.
+use Rattle.std.specs.Prelude.{ℕ, ◌+◌, ◌<◌, ◌≤◌, ◌^◌, Option, None, Some, List, [], ◌∷◌, length, codes, string_bytes}
+use Rattle.std.specs.Map.{lookup}
+use Rattle.std.specs.Option.{option_map, option_and_then}
+use Rattle.tdb_dump.specs.declared.listing.Listing.{Listing}
+use Rattle.tdb_dump.specs.declared.listing.Listing.TheVariants.{Pairs, Keys, HexKeys}
+use Rattle.tdb_space.specs.Pairs.{same_key}
+use Rattle.tdb_open.specs.declared.limits.TheConstants.{LONGEST_FILE}
+use Rattle.tdb_cmdline.specs.declared.look.Look.{Look}
+use Rattle.tdb_cmdline.specs.declared.look.Look.TheVariants.{Dump, Value}
+use Rattle.tdb_cmdline.specs.declared.act.Act.{Act}
+use Rattle.tdb_cmdline.specs.declared.act.Verb.{Verb}
+use Rattle.tdb_cmdline.specs.declared.act.Verb.TheVariants.{Show, Insert, Store, Delete, Erase, Check, First, Next, TransactionStart, TransactionCommit, TransactionCancel}
+use Rattle.tdb_cmdline.specs.declared.ask.Task.{Task}
+use Rattle.tdb_cmdline.specs.declared.ask.Task.TheVariants.{Create, On, Read, Print, Restore, Backup, Verify, Turns, Session, Generate}
+use Rattle.tdb_cmdline.specs.declared.ask.Ask as C
+use Rattle.tdb_cmdline.specs.declared.options.Command.{Command}
+use Rattle.tdb_cmdline.specs.declared.options.Command.TheVariants as command
+use Rattle.tdb_cmdline.specs.declared.options.Line.{Line}
+use Rattle.tdb_cmdline.specs.Words.{of_one, of_three}
+use Rattle.tdb_cmdline.specs.Options.{commands, told, line_of, limit_in}
+use Rattle.tdb_cmdline.specs.Acts.{show_of, insert_of, store_of, delete_of, alone_of, print_of}
+use Rattle.tdb_cmdline.specs.Lines.Create.{create_of}
+use Rattle.tdb_cmdline.specs.CopyNames.{BackupFits, VerifyFits}
+use Rattle.tdb_cmdline.specs.Lines.Backup.{asks_of}
+use Rattle.tdb_cmdline.specs.Lines.Dump.{look_of}
+use Rattle.tdb_cmdline.specs.Lines.Turns.{options_in}
+use Rattle.tdb_cmdline.specs.Lines.Generate.{generate_of}
+
+-- what is asked for: a file by its name, and what is to be done with it
+pub record Ask : Type 0 where
+  pub file : List ℕ
+  pub task : Task
+
+-- what an ask of the code asks for
+abbrev pub asked : C.Ask → Ask
+asked ask = record { file = string_bytes ask.file; task = ask.task }
+
+-- this is done with a file that is there and may have so many bytes
+abbrev pub on_file : ℕ → Verb → Task
+on_file limit verb = On (record { verb = verb; limit = limit })
+
+-- the pairs of such a file are printed so
+abbrev pub print_file : ℕ → Listing → Task
+print_file limit listing = Print listing limit
+
+-- the commands of `tool`, each by its name with what its arguments ask for, where the file may have so many bytes
+abbrev pub tools : ℕ → List (List ℕ × (List (List ℕ) → Option Task))
+tools limit =
+    (codes "show", λ arguments. option_map (on_file limit) (show_of arguments))
+    ∷ (codes "insert", λ arguments. option_map (on_file limit) (insert_of arguments))
+    ∷ (codes "store", λ arguments. option_map (on_file limit) (store_of arguments))
+    ∷ (codes "delete", λ arguments. option_map (on_file limit) (delete_of arguments))
+    ∷ (codes "erase", λ arguments. option_map (on_file limit) (alone_of Erase arguments))
+    ∷ (codes "check", λ arguments. option_map (on_file limit) (alone_of Check arguments))
+    ∷ (codes "first", λ arguments. option_map (on_file limit) (alone_of First arguments))
+    ∷ (codes "next", λ arguments. option_map (on_file limit) (alone_of Next arguments))
+    ∷ (codes "transaction_start", λ arguments. option_map (on_file limit) (alone_of TransactionStart arguments))
+    ∷ (codes "transaction_commit", λ arguments. option_map (on_file limit) (alone_of TransactionCommit arguments))
+    ∷ (codes "transaction_cancel", λ arguments. option_map (on_file limit) (alone_of TransactionCancel arguments))
+    ∷ (codes "dump", λ arguments. option_map (print_file limit) (print_of Pairs arguments))
+    ∷ (codes "keys", λ arguments. option_map (print_file limit) (print_of Keys arguments))
+    ∷ (codes "hexkeys", λ arguments. option_map (print_file limit) (print_of HexKeys arguments))
+    ∷ (codes "create", λ arguments. option_map Create (create_of limit arguments))
+    ∷ []
+
+-- what the command of this name asks for with these arguments, and nothing where there is no such command
+abbrev pub task_of : ℕ → List ℕ → List (List ℕ) → Option Task
+task_of limit command arguments = option_and_then (λ read. read arguments) (lookup (same_key command) (tools limit))
+
+-- this is to be done with this file
+abbrev pub asks : List ℕ → Task → Ask
+asks file task = record { file = file; task = task }
+
+-- `tool [--limit N] FILE [COMMAND [ARGUMENTS..]]`: a command on the file, or a session
+abbrev pub tool_task : ℕ → List (List ℕ) → Option Task
+tool_task limit [] = Some (Session limit)
+tool_task limit (name ∷ arguments) = task_of limit name arguments
+
+abbrev pub tool_asks_for : Option ℕ → List (List ℕ) → Option Ask
+tool_asks_for None positions = None
+tool_asks_for (Some limit) [] = None
+tool_asks_for (Some limit) (file ∷ words) = option_map (asks file) (tool_task limit words)
+
+abbrev pub tool_asks : Line → Option Ask
+tool_asks line = tool_asks_for (limit_in line) line.positions
+
+-- `dump [-k KEY] FILE`
+abbrev pub dump_asks : Line → Option Ask
+dump_asks line = of_one (λ file. option_map (λ look. asks file (Read look)) (look_of (told (codes "-k") line.options))) line.positions
+
+-- `restore [--limit N] FILE`
+abbrev pub restore_asks : Line → Option Ask
+restore_asks line = of_one (λ file. option_map (λ limit. asks file (Restore limit)) (limit_in line)) line.positions
+
+-- `backup [-s SUFFIX] [-v] FILE..`
+abbrev pub backup_asks : Line → Option Ask
+backup_asks line = option_map (λ found. asks found.0 found.1) (asks_of line)
+
+-- `turns [--limit N] [--no-nesting] [--read-only] [--seqnum] FILE`
+abbrev pub turns_asks : Line → Option Ask
+turns_asks line = of_one (λ file. option_map (λ options. asks file (Turns options)) (options_in line)) line.positions
+
+-- `gen N SEED FILE`
+abbrev pub gen_asks : Line → Option Ask
+gen_asks line = of_three (λ n seed file. option_map (asks file) (generate_of n seed)) line.positions
+
+-- what the words behind the name of a command ask for
+abbrev pub command_asks : Command → Line → Option Ask
+command_asks command.Tool line = tool_asks line
+command_asks command.Dump line = dump_asks line
+command_asks command.Restore line = restore_asks line
+command_asks command.Backup line = backup_asks line
+command_asks command.Turns line = turns_asks line
+command_asks command.Generate line = gen_asks line
+
+abbrev pub words_ask : Command → List (List ℕ) → Option Ask
+words_ask command words = option_and_then (command_asks command) (line_of command words)
+
+-- what the words of a command line ask for, those behind the program's name
+abbrev pub ask_of : List (List ℕ) → Option Ask
+ask_of [] = None
+ask_of (program ∷ words) = option_and_then (λ command. words_ask command words) (lookup (same_key program) commands)
+
+-- the keys of a look are short enough for a record
+abbrev pub LookFits : Look → Type 0
+LookFits Dump = Unit {0}
+LookFits (Value key) = length key < 2 ^ 32
+
+-- the key and the value of an act are short enough for a record
+abbrev pub VerbFits : Verb → Type 0
+VerbFits (Show key) = length key < 2 ^ 32
+VerbFits (Insert key value) = length key + length value < 2 ^ 32
+VerbFits (Store key value) = length key + length value < 2 ^ 32
+VerbFits (Delete key) = length key < 2 ^ 32
+VerbFits Erase = Unit {0}
+VerbFits Check = Unit {0}
+VerbFits First = Unit {0}
+VerbFits Next = Unit {0}
+VerbFits TransactionStart = Unit {0}
+VerbFits TransactionCommit = Unit {0}
+VerbFits TransactionCancel = Unit {0}
+
+-- those of this act are, and its file may be no longer than the longest one
+abbrev pub ActFits : Act → Type 0
+ActFits act = VerbFits act.verb × (act.limit ≤ LONGEST_FILE)
+
+-- the keys and the values are short enough for a record, a file is made with some chain, no file may be longer than the
+-- longest one; the names of a backup and of a verification are all different
+abbrev pub TaskFits : List ℕ → Task → Type 0
+TaskFits file (On act) = ActFits act
+TaskFits file (Read look) = LookFits look
+TaskFits file (Print listing limit) = limit ≤ LONGEST_FILE
+TaskFits file (Create new) = (0 < new.form.size) × (new.limit ≤ LONGEST_FILE)
+TaskFits file (Restore limit) = limit ≤ LONGEST_FILE
+TaskFits file (Backup more suffix) = BackupFits suffix (file ∷ more)
+TaskFits file (Verify more suffix) = VerifyFits suffix (file ∷ more)
+TaskFits file (Turns options) = options.limit ≤ LONGEST_FILE
+TaskFits file (Session limit) = limit ≤ LONGEST_FILE
+TaskFits file (Generate n seed) = Unit {0}
