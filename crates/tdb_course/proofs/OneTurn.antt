@@ -17,7 +17,7 @@ use Rattle.tdb_commands.specs.declared.command.Command.{Command}
 use Rattle.tdb_commands.specs.declared.line.Line.{Line}
 use Rattle.tdb_commands.specs.declared.line.Line.TheVariants as Lines
 use Rattle.tdb_commands.specs.InLaw.{law_opener, law_command, law_turn, law_lines}
-use Rattle.tdb_beside.specs.Sides.{Past, Side, whole}
+use Rattle.tdb_law.specs.OneAside.Sides.{Past, Side, whole}
 use Rattle.tdb_openers.specs.declared.fault.RunFault.{RunFault}
 use Rattle.tdb_openers.specs.declared.fault.RunFault.TheVariants.{Io, Memory}
 use Rattle.tdb_openers.specs.Played.{growth, Nothing, TakesOne, TakesLast, is_step}

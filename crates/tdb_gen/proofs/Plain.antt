@@ -8,8 +8,8 @@ use Rattle.tdb_law.specs.Openers.{Own, Task, Txn}
 use Rattle.tdb_law.specs.World.{State}
 use Rattle.tdb_law.proofs.Tests.{never_true}
 use Rattle.tdb_law.proofs.Walking.{put_here}
-use Rattle.tdb_beside.specs.Sides.{Past, Side, but_at}
-use Rattle.tdb_beside.specs.Starts.{new_start}
+use Rattle.tdb_law.specs.OneAside.Sides.{Past, Side, but_at}
+use Rattle.tdb_law.specs.OneAside.Starts.{new_start}
 use Rattle.tdb_commands.specs.declared.options.Options.{Options}
 use Rattle.tdb_holder.specs.Holders.{HolderState}
 use Rattle.tdb_holder.specs.Stages.{stage_task, Known, OwnIs}

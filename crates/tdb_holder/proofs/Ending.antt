@@ -8,8 +8,8 @@ use Rattle.tdb_law.specs.Commands.Turn.{Ends}
 use Rattle.tdb_law.specs.Openers.{Map, Own, Txn, ended}
 use Rattle.tdb_law.specs.Counting.{number_after}
 use Rattle.tdb_law.specs.Ends.{IsRow}
-use Rattle.tdb_beside.specs.Own.{OwnTurned}
-use Rattle.tdb_beside.specs.Sides.{Past, Side}
+use Rattle.tdb_law.specs.OneAside.Own.{OwnTurned}
+use Rattle.tdb_law.specs.OneAside.Sides.{Past, Side}
 use Rattle.tdb_holder.specs.Ends.{TurnBegins, TurnLeaves, task_of}
 use Rattle.tdb_holder.proofs.GroupCounts.{end_settles, image_kept}
 use Rattle.tdb_holder.proofs.Keeping.{keeps_nothing}

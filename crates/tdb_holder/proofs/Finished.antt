@@ -24,8 +24,8 @@ use Rattle.tdb_commit.specs.declared.finishing.FinishTurn.{FinishTurn}
 use Rattle.tdb_commit.specs.declared.finishing.FinishTurn.TheVariants.{Step, Done}
 use Rattle.tdb_steps.specs.Turns.{number_of}
 use Rattle.tdb_commands.specs.InLaw.{law_turn}
-use Rattle.tdb_beside.specs.Sides.{Past, Side}
-use Rattle.tdb_beside.specs.Own.{OwnTurned}
+use Rattle.tdb_law.specs.OneAside.Sides.{Past, Side}
+use Rattle.tdb_law.specs.OneAside.Own.{OwnTurned}
 use Rattle.tdb_commands.specs.declared.options.Options.{Options}
 use Rattle.tdb_holder.specs.declared.stage.Stage.TheVariants as At
 use Rattle.tdb_holder.specs.Ends.{task_of, committed, shuts, IsBlocked}

@@ -18,7 +18,7 @@ use Rattle.tdb_law.specs.Openers.{Own, Txn}
 use Rattle.tdb_law.specs.Refusals.{Refusal, refusal}
 use Rattle.tdb_law.specs.Rows.{commits_in, plans_in, was_planned}
 use Rattle.tdb_law.proofs.Tests.{and_both}
-use Rattle.tdb_beside.specs.Sides.{Past, Side}
+use Rattle.tdb_law.specs.OneAside.Sides.{Past, Side}
 use Rattle.tdb_commit.specs.Commits.{RestsAt}
 use Rattle.tdb_commit.specs.Finishes.{finish_steps, KnowsFinish}
 use Rattle.tdb_commit.specs.Prepares.{stage_steps, KnowsStage}

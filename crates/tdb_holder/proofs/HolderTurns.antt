@@ -25,8 +25,8 @@ use Rattle.tdb_steps.specs.Holdings.{table_of}
 use Rattle.tdb_steps.specs.LockRows.{strength_of}
 use Rattle.tdb_steps.specs.Turns.{number_of}
 use Rattle.tdb_txn.specs.Txn.{txn_depth, txn_doomed}
-use Rattle.tdb_beside.specs.Own.{side_wants, OwnTurned}
-use Rattle.tdb_beside.specs.Sides.{Past, Side}
+use Rattle.tdb_law.specs.OneAside.Own.{side_wants, OwnTurned}
+use Rattle.tdb_law.specs.OneAside.Sides.{Past, Side}
 use Rattle.tdb_commit.specs.Committings.{commit_row, commit_steps, IsNumbered, MayGoOn}
 use Rattle.tdb_commit.specs.Holding.{RowTurned}
 use Rattle.tdb_commit.specs.Laws.{HasChange, HasPlan}

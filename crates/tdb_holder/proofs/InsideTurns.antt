@@ -20,7 +20,7 @@ use Rattle.tdb_law.specs.Held.{holding, kept, locked, txn_held}
 use Rattle.tdb_inside.specs.Laws.{IsEnd}
 use Rattle.tdb_inside.specs.Turns.{ReadsAll}
 use Rattle.tdb_inside.proofs.Inside.{left_so, nothing_held}
-use Rattle.tdb_beside.specs.Sides.{Side}
+use Rattle.tdb_law.specs.OneAside.Sides.{Side}
 use Rattle.tdb_holder.specs.Ends.{CancelEnds, RefusalEnds, EndIsOwn, CloseIsOwn, InsideIsOwn, WalkShifts, GoesOnHolding, task_of}
 use Rattle.tdb_holder.proofs.GroupCounts.{end_settles, image_kept}
 use Rattle.tdb_holder.proofs.Keeping.{keeps_nothing}

@@ -19,7 +19,7 @@ use Rattle.tdb_law.specs.Images.{image_map}
 use Rattle.tdb_law.specs.Openers.{Task, Txn, closed, ended}
 use Rattle.tdb_law.specs.Refusals.{Refusal, refusal, says}
 use Rattle.tdb_law.specs.Rows.{plans_in}
-use Rattle.tdb_beside.specs.Sides.{Past, Side}
+use Rattle.tdb_law.specs.OneAside.Sides.{Past, Side}
 use Rattle.tdb_steps.specs.Holdings.{table_of}
 use Rattle.tdb_steps.specs.declared.flag.Flag.{Flag}
 use Rattle.tdb_steps.specs.Turns.{number_of}

@@ -18,8 +18,8 @@ use Rattle.tdb_law.specs.Openers.{Own, Txn, image_or, seen}
 use Rattle.tdb_law.specs.Refusals.{Refusal, refusal}
 use Rattle.tdb_law.specs.Walks.{Walked}
 use Rattle.tdb_law.specs.World.{HasFewChains, State}
-use Rattle.tdb_beside.specs.Own.{OwnTurned, ShowsSide}
-use Rattle.tdb_beside.specs.Sides.{Past, Side, but_at}
+use Rattle.tdb_law.specs.OneAside.Own.{OwnTurned, ShowsSide}
+use Rattle.tdb_law.specs.OneAside.Sides.{Past, Side, but_at}
 use Rattle.tdb_steps.specs.Turns.{number_of}
 use Rattle.tdb_txn.specs.Committing.{MayCommit}
 use Rattle.tdb_txn.specs.Pages.{byte_over, length_filled}

@@ -20,8 +20,8 @@ use Rattle.tdb_commit.specs.declared.preparing.PrepareStage.TheVariants.{Unchang
 use Rattle.tdb_commit.specs.declared.preparing.PrepareTurn.TheVariants.{Step as Steps, Blocked, Nothing, Full, Memory, Done}
 use Rattle.tdb_commit.proofs.Lawful.{commit_holds, prepare_keeps, prepare_row_law}
 use Rattle.tdb_commit.proofs.CommitTurns.{late_planning}
-use Rattle.tdb_beside.specs.Own.{OwnTurned}
-use Rattle.tdb_beside.specs.Sides.{Past, Side}
+use Rattle.tdb_law.specs.OneAside.Own.{OwnTurned}
+use Rattle.tdb_law.specs.OneAside.Sides.{Past, Side}
 use Rattle.tdb_holder.specs.Ends.{PrepareIsOwn, HoldsIn, IsOuter, MarkRests, TurnBegins, TurnLeaves, task_of}
 use Rattle.tdb_holder.proofs.GroupCounts.{step_settles, end_settles, step_counts, end_counts, image_kept, prepares as no_commit}
 use Rattle.tdb_holder.proofs.GroupEffects.{prepare_goes_on, prepare_starves, prepare_full, prepare_answers}

@@ -31,8 +31,8 @@ use Rattle.tdb_commit.proofs.Carried.{carried_stops, rests_stops}
 use Rattle.tdb_txn.specs.declared.states.Prepared.{Prepared}
 use Rattle.tdb_inside.specs.Laws.{IsEnd}
 use Rattle.tdb_inside.proofs.Nested.{refuses_inside}
-use Rattle.tdb_beside.specs.Own.{OwnTurned}
-use Rattle.tdb_beside.specs.Sides.{Past, Side}
+use Rattle.tdb_law.specs.OneAside.Own.{OwnTurned}
+use Rattle.tdb_law.specs.OneAside.Sides.{Past, Side}
 use Rattle.tdb_commit.specs.Commits.{RestsAt}
 use Rattle.tdb_commit.specs.Holding.{OthersHold}
 use Rattle.tdb_commit.specs.declared.finishing.Finishing.TheVariants.{Open}

@@ -8,7 +8,7 @@ use Rattle.tdb_law.specs.Commands.{Turn}
 use Rattle.tdb_law.specs.Openers.{Own, Task, Txn}
 use Rattle.tdb_law.specs.Effects.{task_left}
 use Rattle.tdb_steps.specs.Holdings.{table_of}
-use Rattle.tdb_beside.specs.Sides.{Past, Side, but_at}
+use Rattle.tdb_law.specs.OneAside.Sides.{Past, Side, but_at}
 use Rattle.tdb_commands.specs.declared.options.Options.{Options}
 use Rattle.tdb_holder.specs.declared.stage.Stage.{Stage}
 use Rattle.tdb_holder.specs.Ends.{TurnBegins, TurnLeaves}

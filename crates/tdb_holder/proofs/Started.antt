@@ -39,8 +39,8 @@ use Rattle.tdb_inside.specs.Counted.{IsCounted}
 use Rattle.tdb_inside.specs.Walks.{mark_in, RestsIn, RestsInside}
 use Rattle.tdb_inside.specs.declared.own_txn.OwnTxn.{OwnTxn}
 use Rattle.tdb_commands.specs.InLaw.{law_turn}
-use Rattle.tdb_beside.specs.Sides.{Past, Side, but_at}
-use Rattle.tdb_beside.specs.Own.{OwnTurned}
+use Rattle.tdb_law.specs.OneAside.Sides.{Past, Side, but_at}
+use Rattle.tdb_law.specs.OneAside.Own.{OwnTurned}
 use Rattle.tdb_commands.specs.declared.options.Options.{Options}
 use Rattle.tdb_holder.specs.declared.open_txn.OpenTxn.{OpenTxn}
 use Rattle.tdb_holder.specs.declared.stage.Stage.TheVariants as At

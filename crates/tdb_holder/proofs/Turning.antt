@@ -16,8 +16,8 @@ use Rattle.tdb_law.specs.Effects.{Effect, IsFree, IsFirstConflict, Finds, task_l
 use Rattle.tdb_law.specs.Turned.{number_next}
 use Rattle.tdb_law.specs.Walks.{Lost, Shift, Walked}
 use Rattle.tdb_law.specs.Walks.Walked.{walk_steps, walk_rests, walk_ends}
-use Rattle.tdb_beside.specs.Sides.{Past, Side}
-use Rattle.tdb_beside.specs.Own.{OwnTurned, ShowsSide, side_wants}
+use Rattle.tdb_law.specs.OneAside.Sides.{Past, Side}
+use Rattle.tdb_law.specs.OneAside.Own.{OwnTurned, ShowsSide, side_wants}
 use Rattle.tdb_holder.specs.Ends.{MarkRests, TurnBegins, TurnLeaves}
 
 -- a walk that isn't moved

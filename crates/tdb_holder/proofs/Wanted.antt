@@ -20,8 +20,8 @@ use Rattle.tdb_steps.specs.declared.flag.Flag.TheVariants as Flags
 use Rattle.tdb_txn.specs.Txn.{txn_depth, txn_doomed}
 use Rattle.tdb_inside.specs.Laws.{IsEnd}
 use Rattle.tdb_inside.proofs.Inside.{wants_none}
-use Rattle.tdb_beside.specs.Own.{side_wants}
-use Rattle.tdb_beside.specs.Sides.{Past, Side}
+use Rattle.tdb_law.specs.OneAside.Own.{side_wants}
+use Rattle.tdb_law.specs.OneAside.Sides.{Past, Side}
 use Rattle.tdb_commit.specs.Finishes.{finish_steps}
 use Rattle.tdb_commit.specs.Laws.{Ends, commits, prepares, HasPlan}
 use Rattle.tdb_commit.specs.Prepares.{stage_steps, IsPlanning}

@@ -34,8 +34,8 @@ use Rattle.tdb_commit.specs.declared.committing.Committing.{Committing}
 use Rattle.tdb_commit.specs.declared.committing.CommitTurn.{CommitTurn}
 use Rattle.tdb_inside.specs.Laws.{IsEnd}
 use Rattle.tdb_inside.specs.Turns.{EndsInside, TurnsInside}
-use Rattle.tdb_beside.specs.Sides.{Past, Side}
-use Rattle.tdb_beside.specs.Own.{OwnTurned, ShowsSide, side_wants}
+use Rattle.tdb_law.specs.OneAside.Sides.{Past, Side}
+use Rattle.tdb_law.specs.OneAside.Own.{OwnTurned, ShowsSide, side_wants}
 
 -- a command that has had so many steps
 abbrev pub task_of : Command → ℕ → Task

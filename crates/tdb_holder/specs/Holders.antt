@@ -16,7 +16,7 @@ use Rattle.tdb_commit.specs.declared.committing.Committing.TheVariants as Commit
 use Rattle.tdb_commit.specs.declared.finishing.Finishing.{Finishing}
 use Rattle.tdb_commit.specs.declared.finishing.Finishing.TheVariants.{Shut}
 use Rattle.tdb_commands.specs.declared.command.Command.{Command}
-use Rattle.tdb_beside.specs.Sides.{Past, Side}
+use Rattle.tdb_law.specs.OneAside.Sides.{Past, Side}
 use Rattle.tdb_commands.specs.declared.options.Options.{Options}
 use Rattle.tdb_holder.specs.declared.stage.PreparedTxn.{PreparedTxn}
 use Rattle.tdb_holder.specs.declared.stage.PreparedTxn.TheVariants.{Opened, Nothing}

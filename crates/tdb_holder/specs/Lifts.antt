@@ -6,8 +6,8 @@ use Rattle.tdb_law.specs.Openers.{Task, nowhere}
 use Rattle.tdb_law.specs.World.{State}
 use Rattle.tdb_law.specs.Turned.{Turned}
 use Rattle.tdb_law.specs.Walks.{Lost, Shift}
-use Rattle.tdb_beside.specs.Sides.{Past, Side, alone, beside}
-use Rattle.tdb_beside.specs.Own.{OwnTurned, ShowsSide}
+use Rattle.tdb_law.specs.OneAside.Sides.{Past, Side, alone, beside}
+use Rattle.tdb_law.specs.OneAside.Own.{OwnTurned, ShowsSide}
 
 -- In this state the opener is as this side says, with its command too, and all else that is seen of the opener aside is so.
 pub record Shows (w : State) (past : Past) (s : Side) : Type 0 where

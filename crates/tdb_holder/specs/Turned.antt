@@ -17,8 +17,8 @@ use Rattle.tdb_law.specs.Effects.{IsFree}
 use Rattle.tdb_law.specs.Images.{image_map}
 use Rattle.tdb_steps.specs.Turns.{number_of}
 use Rattle.tdb_commit.specs.declared.starting.Starting.TheVariants.{Reading}
-use Rattle.tdb_beside.specs.Sides.{Past, Side}
-use Rattle.tdb_beside.specs.Own.{OwnTurned, side_wants}
+use Rattle.tdb_law.specs.OneAside.Sides.{Past, Side}
+use Rattle.tdb_law.specs.OneAside.Own.{OwnTurned, side_wants}
 use Rattle.tdb_commands.specs.declared.options.Options.{Options}
 use Rattle.tdb_holder.specs.declared.stage.Stage.{Stage}
 use Rattle.tdb_holder.specs.declared.stage.Stage.TheVariants as At

@@ -15,8 +15,8 @@ use Rattle.tdb_commit.specs.Holding.{RowTurned}
 use Rattle.tdb_commit.specs.Prepares.{prepare_row}
 use Rattle.tdb_commit.specs.declared.committing.Committing.{Committing}
 use Rattle.tdb_commit.specs.declared.preparing.Preparing.{Preparing}
-use Rattle.tdb_beside.specs.Own.{OwnTurned, side_wants}
-use Rattle.tdb_beside.specs.Sides.{Past, Side}
+use Rattle.tdb_law.specs.OneAside.Own.{OwnTurned, side_wants}
+use Rattle.tdb_law.specs.OneAside.Sides.{Past, Side}
 use Rattle.tdb_holder.specs.Ends.{IsBlocked}
 
 -- A turn that the first conflict with others' locks stands in the way of is blocked by it: all stays as it is. The file doesn't have the

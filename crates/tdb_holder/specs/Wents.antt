@@ -21,7 +21,7 @@ use Rattle.tdb_commit.specs.declared.finishing.FinishTurn.{FinishTurn}
 use Rattle.tdb_commit.specs.declared.finishing.FinishTurn.TheVariants as Finishes
 use Rattle.tdb_law.specs.Openers.{Task}
 use Rattle.tdb_commands.specs.InLaw.{law_turn}
-use Rattle.tdb_beside.specs.Sides.{Past, Side}
+use Rattle.tdb_law.specs.OneAside.Sides.{Past, Side}
 use Rattle.tdb_commands.specs.declared.options.Options.{Options}
 use Rattle.tdb_holder.specs.Stages.{stage_task, Known, IsSide, KnowsFile}
 use Rattle.tdb_holder.specs.Turned.{MayTurn, StageTurned}

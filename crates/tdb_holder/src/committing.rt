@@ -4,7 +4,7 @@ ghost use Rattle.tdb_disk.specs.Count.{HasCause};
 ghost use Rattle.tdb_disk.specs.Stop.{LeavesOnly};
 ghost use Rattle.tdb_space.specs.Form.{Form};
 ghost use Rattle.tdb_law.specs.Openers.{Task};
-ghost use Rattle.tdb_beside.specs.Sides.{Past, Side};
+ghost use Rattle.tdb_law.specs.OneAside.Sides.{Past, Side};
 ghost use Rattle.tdb_commit.specs.Committings.{commit_steps, CommitFits, CommitMayLeave, KnowsCommit};
 ghost use Rattle.tdb_commit.specs.Prepares.{KeepsWithin};
 ghost use Rattle.tdb_commands.specs.InLaw.{law_turn};

@@ -5,7 +5,7 @@ ghost use Rattle.tdb_disk.specs.Stop.{LeavesOnly};
 ghost use Rattle.tdb_words.specs.declared.header.Header.{Header};
 ghost use Rattle.tdb_space.specs.Form.{Form};
 ghost use Rattle.tdb_law.specs.Openers.{Task};
-ghost use Rattle.tdb_beside.specs.Sides.{Past, Side};
+ghost use Rattle.tdb_law.specs.OneAside.Sides.{Past, Side};
 ghost use Rattle.tdb_commit.specs.Finishes.{FinishFits, KnowsFinish, MayLeave};
 ghost use Rattle.tdb_commands.specs.InLaw.{law_turn};
 ghost use Rattle.tdb_commands.specs.declared.options.Options.{Options};

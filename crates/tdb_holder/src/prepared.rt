@@ -7,7 +7,7 @@ ghost use Rattle.tdb_space.specs.Undoing.{Reopens};
 ghost use Rattle.tdb_words.specs.declared.header.Header.{Header};
 ghost use Rattle.tdb_law.specs.Openers.{Task};
 ghost use Rattle.tdb_steps.specs.Holdings.{table_of};
-ghost use Rattle.tdb_beside.specs.Sides.{Past, Side};
+ghost use Rattle.tdb_law.specs.OneAside.Sides.{Past, Side};
 ghost use Rattle.tdb_commit.specs.Commits.{RestsAt};
 ghost use Rattle.tdb_commit.specs.Holding.{OthersHold};
 ghost use Rattle.tdb_commands.specs.InLaw.{law_turn};

@@ -27,3 +27,4 @@ pub mod Marking
 pub mod Steps
 pub mod HandsOut
 pub mod Taken
+pub mod OneAside

@@ -22,3 +22,4 @@ pub mod Going
 pub mod Images
 pub mod Lines
 pub mod Events
+pub mod OneAside

@@ -9,11 +9,11 @@ use Rattle.tdb_law.specs.Refusals.{refusal}
 use Rattle.tdb_law.specs.World.{State}
 use Rattle.tdb_law.specs.Effects.{IsFree}
 use Rattle.tdb_law.specs.Turned.{want}
-use Rattle.tdb_beside.specs.Sides.{Past, Side, beside}
-use Rattle.tdb_beside.specs.Turns.{without_task}
-use Rattle.tdb_beside.specs.Turns.EndsAtOnce.{ends_numbered}
-use Rattle.tdb_beside.proofs.Idle.{end_is_turned}
-use Rattle.tdb_beside.proofs.Parted.{put_back}
+use Rattle.tdb_law.specs.OneAside.Sides.{Past, Side, beside}
+use Rattle.tdb_law.specs.OneAside.Turns.{without_task}
+use Rattle.tdb_law.specs.OneAside.Turns.EndsAtOnce.{ends_numbered}
+use Rattle.tdb_law.proofs.OneAside.Idle.{end_is_turned}
+use Rattle.tdb_law.proofs.OneAside.Parted.{put_back}
 use Rattle.tdb_commands.specs.InLaw.{law_opener, law_command}
 use Rattle.tdb_openers.specs.declared.opener.Opener.{Opener}
 use Rattle.tdb_openers.specs.declared.job.Job.{Job}

@@ -7,8 +7,8 @@ use Rattle.tdb_law.specs.Openers.{View, closed}
 use Rattle.tdb_law.specs.Lines.{MayDie}
 use Rattle.tdb_law.specs.World.{State}
 use Rattle.tdb_law.proofs.Walking.{put_here, put_else}
-use Rattle.tdb_beside.specs.Sides.{but_at}
-use Rattle.tdb_beside.proofs.Parted.{put_back}
+use Rattle.tdb_law.specs.OneAside.Sides.{but_at}
+use Rattle.tdb_law.proofs.OneAside.Parted.{put_back}
 use Rattle.tdb_commands.specs.InLaw.{law_opener}
 use Rattle.tdb_steps.specs.Holdings.{strength, table_of}
 use Rattle.tdb_walk.specs.declared.standing.Standing.TheVariants.{Past}

@@ -6,8 +6,8 @@ use Rattle.tdb_law.specs.Openers.{nowhere}
 use Rattle.tdb_law.specs.Held.{all_held}
 use Rattle.tdb_law.specs.World.{State, IsSound}
 use Rattle.tdb_law.proofs.Tests.{never_true}
-use Rattle.tdb_beside.specs.Sides.{Past, Side, everywhere, beside, StandsAside}
-use Rattle.tdb_beside.proofs.Parted.{put_back}
+use Rattle.tdb_law.specs.OneAside.Sides.{Past, Side, everywhere, beside, StandsAside}
+use Rattle.tdb_law.proofs.OneAside.Parted.{put_back}
 use Rattle.tdb_commands.specs.InLaw.{law_opener}
 use Rattle.tdb_openers.specs.declared.opener.Opener.{Opener}
 use Rattle.tdb_openers.specs.declared.job.Task.{Task}

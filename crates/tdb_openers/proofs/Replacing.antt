@@ -10,7 +10,7 @@ use Rattle.tdb_law.specs.Openers.{View}
 use Rattle.tdb_law.specs.Lines.{most_openers}
 use Rattle.tdb_law.specs.Layout.{chains_in, mark_of}
 use Rattle.tdb_law.proofs.Walking.{put_here, put_else}
-use Rattle.tdb_beside.specs.Sides.{but_at}
+use Rattle.tdb_law.specs.OneAside.Sides.{but_at}
 use Rattle.tdb_steps.specs.declared.plain.Plain.{Plain}
 use Rattle.tdb_steps.specs.declared.plain.Plain.TheVariants.{Fetch, Has, Store, Append, Delete, Wipe}
 use Rattle.tdb_steps.specs.declared.stage.Stage.{Stage}

@@ -17,9 +17,9 @@ use Rattle.tdb_law.specs.Held.{all_held, stand_held, kept, held}
 use Rattle.tdb_law.specs.World.{State, HasFewChains}
 use Rattle.tdb_law.proofs.Covered.{none_held}
 use Rattle.tdb_law.proofs.Walking.{put_else}
-use Rattle.tdb_beside.specs.Sides.{Past, Side, everywhere, beside}
-use Rattle.tdb_beside.specs.Shutting.{IsShutOut}
-use Rattle.tdb_beside.proofs.Shut.{others_shut_out}
+use Rattle.tdb_law.specs.OneAside.Sides.{Past, Side, everywhere, beside}
+use Rattle.tdb_law.specs.OneAside.Shutting.{IsShutOut}
+use Rattle.tdb_law.proofs.OneAside.Shut.{others_shut_out}
 use Rattle.tdb_commands.specs.InLaw.{law_opener}
 use Rattle.tdb_walk.specs.declared.standing.Standing.{Standing}
 use Rattle.tdb_walk.specs.declared.standing.Standing.TheVariants.{Before, On, Past as PastChains}

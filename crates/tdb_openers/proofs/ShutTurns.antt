@@ -21,13 +21,13 @@ use Rattle.tdb_law.specs.World.{State}
 use Rattle.tdb_law.specs.Effects.{IsFirstConflict}
 use Rattle.tdb_law.specs.Turned.{Turned, want}
 use Rattle.tdb_law.proofs.Emptied.{unchanged_start}
-use Rattle.tdb_beside.specs.Sides.{Past, Side, but_at, everywhere, beside}
-use Rattle.tdb_beside.specs.Turns.{IsUngrouped, EndsAtOnce, LeavesNothing, IsLeave, without_task, without_cursor}
-use Rattle.tdb_beside.specs.Turns.EndsAtOnce.{ends_refused, ends_busy, ends_past}
-use Rattle.tdb_beside.proofs.Idle.{waiting_is_turned, end_is_turned}
-use Rattle.tdb_beside.proofs.Leaving.{leaving_is_turned}
-use Rattle.tdb_beside.proofs.Parted.{put_back}
-use Rattle.tdb_beside.proofs.Shut.{shut_out_meets}
+use Rattle.tdb_law.specs.OneAside.Sides.{Past, Side, but_at, everywhere, beside}
+use Rattle.tdb_law.specs.OneAside.Turns.{IsUngrouped, EndsAtOnce, LeavesNothing, IsLeave, without_task, without_cursor}
+use Rattle.tdb_law.specs.OneAside.Turns.EndsAtOnce.{ends_refused, ends_busy, ends_past}
+use Rattle.tdb_law.proofs.OneAside.Idle.{waiting_is_turned, end_is_turned}
+use Rattle.tdb_law.proofs.OneAside.Leaving.{leaving_is_turned}
+use Rattle.tdb_law.proofs.OneAside.Parted.{put_back}
+use Rattle.tdb_law.proofs.OneAside.Shut.{shut_out_meets}
 use Rattle.tdb_commands.specs.InLaw.{law_opener, law_command, law_reply, law_turn}
 use Rattle.tdb_steps.specs.LockRows.{start_of, rows_of}
 use Rattle.tdb_steps.specs.Order.{IsAfter}

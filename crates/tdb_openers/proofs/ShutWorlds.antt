@@ -13,10 +13,10 @@ use Rattle.tdb_law.specs.Outcomes.{walk_moves}
 use Rattle.tdb_law.specs.World.{State}
 use Rattle.tdb_law.specs.Turned.{Turned}
 use Rattle.tdb_law.proofs.Kept.{closed_base}
-use Rattle.tdb_beside.specs.Sides.{Past, Side, but_at, beside, StandsAside}
-use Rattle.tdb_beside.specs.Turns.{without_task, without_cursor}
-use Rattle.tdb_beside.proofs.Choices.{aside_stays}
-use Rattle.tdb_beside.proofs.Parted.{put_back, beside_same, beside_ended, beside_left, turned_beside}
+use Rattle.tdb_law.specs.OneAside.Sides.{Past, Side, but_at, beside, StandsAside}
+use Rattle.tdb_law.specs.OneAside.Turns.{without_task, without_cursor}
+use Rattle.tdb_law.proofs.OneAside.Choices.{aside_stays}
+use Rattle.tdb_law.proofs.OneAside.Parted.{put_back, beside_same, beside_ended, beside_left, turned_beside}
 use Rattle.tdb_commands.specs.InLaw.{law_opener, law_reply, law_turn}
 use Rattle.tdb_openers.specs.declared.opener.Opener.{Opener}
 use Rattle.tdb_openers.specs.declared.job.Job.{Job}

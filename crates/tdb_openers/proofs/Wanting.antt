@@ -27,7 +27,7 @@ use Rattle.tdb_steps.specs.declared.rows.LockRow.{LockRow}
 use Rattle.tdb_steps.specs.declared.stage.Stage.TheVariants.{Begun}
 use Rattle.tdb_steps.proofs.Holdings.{want}
 use Rattle.tdb_steps.proofs.Turning.{row_facts}
-use Rattle.tdb_beside.specs.Sides.{everywhere}
+use Rattle.tdb_law.specs.OneAside.Sides.{everywhere}
 use Rattle.tdb_openers.specs.Checked.{all_lock}
 use Rattle.tdb_openers.specs.Locked.{chain_row, all_row}
 use Rattle.tdb_openers.proofs.Effected.{wants_locks}

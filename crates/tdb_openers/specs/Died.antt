@@ -4,7 +4,7 @@ use Rattle.tdb_locks.specs.LockTable.{held}
 use Rattle.tdb_law.specs.Openers.{closed}
 use Rattle.tdb_law.specs.World.{State}
 use Rattle.tdb_law.specs.Lines.{MayDie}
-use Rattle.tdb_beside.specs.Sides.{but_at}
+use Rattle.tdb_law.specs.OneAside.Sides.{but_at}
 use Rattle.tdb_openers.specs.declared.opener.Opener.{Opener}
 use Rattle.tdb_openers.specs.Laws.{IsPut}
 use Rattle.tdb_openers.specs.Openers.{law_task}

@@ -11,8 +11,8 @@ use Rattle.tdb_law.specs.Commands.{Turn as LawTurn}
 use Rattle.tdb_law.specs.Openers.{Task as LawTask}
 use Rattle.tdb_law.specs.World.{IsSound}
 use Rattle.tdb_law.specs.Turned.{Turned}
-use Rattle.tdb_beside.specs.Sides.{Past, Side, beside, StandsAside}
-use Rattle.tdb_beside.specs.Turns.{past_after}
+use Rattle.tdb_law.specs.OneAside.Sides.{Past, Side, beside, StandsAside}
+use Rattle.tdb_law.specs.OneAside.Turns.{past_after}
 use Rattle.tdb_commands.specs.InLaw.{law_opener}
 use Rattle.tdb_steps.specs.LockRows.{start_of, rows_of}
 use Rattle.tdb_openers.specs.declared.opener.Opener.{Opener}

@@ -22,8 +22,8 @@ use Rattle.tdb_law.specs.World.{State}
 use Rattle.tdb_locks.specs.declared.kind.Kind.{Kind}
 use Rattle.tdb_txn.specs.Pages.{length_filled, byte_over}
 use Rattle.tdb_txn.specs.Txn.{txn_pages}
-use Rattle.tdb_beside.specs.Sides.{Past, Side}
-use Rattle.tdb_beside.specs.Starts.{new_start}
+use Rattle.tdb_law.specs.OneAside.Sides.{Past, Side}
+use Rattle.tdb_law.specs.OneAside.Starts.{new_start}
 use Rattle.tdb_holder.specs.Holders.{HolderState}
 use Rattle.tdb_holder.specs.Stages.{Known, KnowsAt, OwnIs, IsFit, stage_records, stage_task}
 use Rattle.tdb_holder.specs.declared.stage.Stage.{Stage}

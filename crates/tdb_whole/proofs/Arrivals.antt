@@ -17,10 +17,10 @@ use Rattle.tdb_law.proofs.Kept.{opened_base}
 use Rattle.tdb_law.proofs.Walking.{put_here, put_else}
 use Rattle.tdb_steps.specs.Turns.{number_of}
 use Rattle.tdb_commands.specs.InLaw.{law_opener, options_of}
-use Rattle.tdb_beside.specs.Sides.{Past, Side, alone, whole}
-use Rattle.tdb_beside.specs.Starts.{with_starts, MayStart}
-use Rattle.tdb_beside.proofs.Happening.{joins_beside}
-use Rattle.tdb_beside.proofs.Starting.{starts_join, task_not}
+use Rattle.tdb_law.specs.OneAside.Sides.{Past, Side, alone, whole}
+use Rattle.tdb_law.specs.OneAside.Starts.{with_starts, MayStart}
+use Rattle.tdb_law.proofs.OneAside.Happening.{joins_beside}
+use Rattle.tdb_law.proofs.OneAside.Starting.{starts_join, task_not}
 use Rattle.tdb_holder.specs.Holders.{HolderState}
 use Rattle.tdb_holder.specs.Stages.{IsSide, Known}
 use Rattle.tdb_openers.specs.Aside.{LocksNoRecord}

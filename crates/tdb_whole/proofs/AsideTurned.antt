@@ -17,8 +17,8 @@ use Rattle.tdb_law.specs.Walks.{Walked}
 use Rattle.tdb_law.specs.Walks.Walked.{walk_ends}
 use Rattle.tdb_law.specs.World.{State}
 use Rattle.tdb_steps.specs.Turns.{number_of}
-use Rattle.tdb_beside.specs.Own.{OwnTurned, ShowsSide, side_wants}
-use Rattle.tdb_beside.specs.Sides.{Past, Side, alone, beside}
+use Rattle.tdb_law.specs.OneAside.Own.{OwnTurned, ShowsSide, side_wants}
+use Rattle.tdb_law.specs.OneAside.Sides.{Past, Side, alone, beside}
 use Rattle.tdb_holder.specs.Lifts.{IsBack, OthersKeep}
 use Rattle.tdb_holder.specs.Stages.{Known}
 use Rattle.tdb_holder.specs.Turned.{StageTurned}

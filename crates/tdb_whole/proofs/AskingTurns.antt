@@ -17,8 +17,8 @@ use Rattle.tdb_law.specs.Turned.{Turned, want}
 use Rattle.tdb_law.specs.World.{State}
 use Rattle.tdb_law.proofs.Emptied.{unchanged_start}
 use Rattle.tdb_law.proofs.Walking.{put_here, put_else}
-use Rattle.tdb_beside.specs.Sides.{Past, Side, beside}
-use Rattle.tdb_beside.proofs.Idle.{waiting_is_turned}
+use Rattle.tdb_law.specs.OneAside.Sides.{Past, Side, beside}
+use Rattle.tdb_law.proofs.OneAside.Idle.{waiting_is_turned}
 use Rattle.tdb_commands.specs.InLaw.{law_opener}
 use Rattle.tdb_openers.specs.ShutOut.{IsTurnBeside}
 use Rattle.tdb_openers.specs.Worlds.{World, state_in, law_of_task}

@@ -9,10 +9,10 @@ use Rattle.tdb_law.specs.Turned.{Turned}
 use Rattle.tdb_law.specs.World.{State}
 use Rattle.tdb_locks.specs.declared.kind.Kind.{Kind}
 use Rattle.tdb_commands.specs.InLaw.{law_opener}
-use Rattle.tdb_beside.specs.Own.{side_wants}
-use Rattle.tdb_beside.specs.Sides.{Past, Side, beside}
-use Rattle.tdb_beside.specs.Starts.{with_starts}
-use Rattle.tdb_beside.proofs.Starting.{starts_turn}
+use Rattle.tdb_law.specs.OneAside.Own.{side_wants}
+use Rattle.tdb_law.specs.OneAside.Sides.{Past, Side, beside}
+use Rattle.tdb_law.specs.OneAside.Starts.{with_starts}
+use Rattle.tdb_law.proofs.OneAside.Starting.{starts_turn}
 use Rattle.tdb_holder.specs.Holders.{HolderState}
 use Rattle.tdb_holder.specs.Lifts.{OthersKeep}
 use Rattle.tdb_holder.specs.Stages.{stage_task, Known}

@@ -9,7 +9,7 @@ use Rattle.tdb_law.specs.Openers.{Task}
 use Rattle.tdb_steps.specs.Turns.{number_of}
 use Rattle.tdb_commands.specs.InLaw.{law_turn}
 use Rattle.tdb_commands.specs.declared.options.Options.{Options}
-use Rattle.tdb_beside.specs.Sides.{Past, Side}
+use Rattle.tdb_law.specs.OneAside.Sides.{Past, Side}
 use Rattle.tdb_space.specs.Form.{form_in}
 use Rattle.tdb_holder.specs.Ends.{IsBlocked}
 use Rattle.tdb_holder.specs.Holders.{is_idle, left_stage, HolderState, HolderTurned}

@@ -5,8 +5,8 @@ use Rattle.tdb_law.specs.Events.{Dies}
 use Rattle.tdb_law.specs.Lines.{MayDie}
 use Rattle.tdb_law.specs.World.{State, IsSound}
 use Rattle.tdb_commands.specs.InLaw.{law_opener}
-use Rattle.tdb_beside.specs.Sides.{beside, whole}
-use Rattle.tdb_beside.specs.Starts.{with_starts}
+use Rattle.tdb_law.specs.OneAside.Sides.{beside, whole}
+use Rattle.tdb_law.specs.OneAside.Starts.{with_starts}
 use Rattle.tdb_holder.specs.Holders.{stage_gate, HolderState}
 use Rattle.tdb_holder.proofs.Gates.{gate_writes}
 use Rattle.tdb_holder.specs.Stages.{stage_task}

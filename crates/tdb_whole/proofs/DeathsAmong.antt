@@ -15,10 +15,10 @@ use Rattle.tdb_law.proofs.Kept.{closed_base}
 use Rattle.tdb_law.proofs.Tests.{never_true}
 use Rattle.tdb_steps.specs.Holdings.{strength}
 use Rattle.tdb_commands.specs.InLaw.{law_opener}
-use Rattle.tdb_beside.specs.Sides.{Past, Side, alone, whole}
-use Rattle.tdb_beside.specs.Starts.{with_starts}
-use Rattle.tdb_beside.proofs.Happening.{dies_beside}
-use Rattle.tdb_beside.proofs.Starting.{starts_die}
+use Rattle.tdb_law.specs.OneAside.Sides.{Past, Side, alone, whole}
+use Rattle.tdb_law.specs.OneAside.Starts.{with_starts}
+use Rattle.tdb_law.proofs.OneAside.Happening.{dies_beside}
+use Rattle.tdb_law.proofs.OneAside.Starting.{starts_die}
 use Rattle.tdb_holder.specs.Holders.{HolderState}
 use Rattle.tdb_openers.specs.Aside.{LocksNoRecord}
 use Rattle.tdb_openers.specs.Died.{HasDied}

@@ -26,9 +26,9 @@ use Rattle.tdb_law.proofs.Walking.{put_here, put_else}
 use Rattle.tdb_steps.specs.Turns.{number_of}
 use Rattle.tdb_commands.specs.InLaw.{law_opener}
 use Rattle.tdb_commands.specs.declared.options.Options.{Options}
-use Rattle.tdb_beside.specs.Sides.{Past, Side, alone, beside, StandsAside}
-use Rattle.tdb_beside.specs.Starts.{with_starts}
-use Rattle.tdb_beside.proofs.Starting.{starts_die}
+use Rattle.tdb_law.specs.OneAside.Sides.{Past, Side, alone, beside, StandsAside}
+use Rattle.tdb_law.specs.OneAside.Starts.{with_starts}
+use Rattle.tdb_law.proofs.OneAside.Starting.{starts_die}
 use Rattle.tdb_holder.specs.Holders.{stage_gate, HolderState}
 use Rattle.tdb_holder.specs.Stages.{stage_records, stage_task}
 use Rattle.tdb_holder.proofs.Gates.{gate_law, gate_rests, gate_undone, gate_writes, IsAtRest, IsUndone}

@@ -16,8 +16,8 @@ use Rattle.tdb_undo.specs.declared.refusal.UndoRefusal.TheVariants.{UndoBad}
 use Rattle.tdb_law.specs.Events.{Undoes}
 use Rattle.tdb_law.specs.World.{State, IsSound}
 use Rattle.tdb_law.proofs.Tests.{never_true}
-use Rattle.tdb_beside.specs.Sides.{alone}
-use Rattle.tdb_beside.specs.Starts.{with_starts}
+use Rattle.tdb_law.specs.OneAside.Sides.{alone}
+use Rattle.tdb_law.specs.OneAside.Starts.{with_starts}
 use Rattle.tdb_openers.specs.Worlds.{state_in}
 use Rattle.tdb_openers.proofs.Images.{image_keeps_file}
 use Rattle.tdb_openers.proofs.StillWalks.{still_shift}

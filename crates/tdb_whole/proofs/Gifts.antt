@@ -26,10 +26,10 @@ use Rattle.tdb_law.proofs.Tests.{never_true}
 use Rattle.tdb_law.proofs.Walking.{put_here, put_else}
 use Rattle.tdb_commands.specs.InLaw.{law_command, law_opener}
 use Rattle.tdb_commands.specs.declared.command.Command.{Command as Asked}
-use Rattle.tdb_beside.specs.Sides.{Past, Side, alone, but_at, whole}
-use Rattle.tdb_beside.specs.Starts.{MayStart, with_starts}
-use Rattle.tdb_beside.proofs.Happening.{given_beside}
-use Rattle.tdb_beside.proofs.Starting.{start_given, starts_given}
+use Rattle.tdb_law.specs.OneAside.Sides.{Past, Side, alone, but_at, whole}
+use Rattle.tdb_law.specs.OneAside.Starts.{MayStart, with_starts}
+use Rattle.tdb_law.proofs.OneAside.Happening.{given_beside}
+use Rattle.tdb_law.proofs.OneAside.Starting.{start_given, starts_given}
 use Rattle.tdb_words.specs.declared.header.Header.{Header}
 use Rattle.tdb_commands.specs.declared.options.Options.{Options}
 use Rattle.tdb_holder.specs.Ends.{task_of}

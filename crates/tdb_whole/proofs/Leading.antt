@@ -28,9 +28,9 @@ use Rattle.tdb_walk.specs.declared.standing.Standing.{Standing}
 use Rattle.tdb_walk.specs.declared.standing.Standing.TheVariants.{Before, On, Past as Behind}
 use Rattle.tdb_commands.specs.InLaw.{law_opener, law_turn}
 use Rattle.tdb_commands.specs.declared.options.Options.{Options}
-use Rattle.tdb_beside.specs.Sides.{Past, Side, beside}
-use Rattle.tdb_beside.specs.Starts.{with_starts, MayStart}
-use Rattle.tdb_beside.proofs.Starting.{starts_turn}
+use Rattle.tdb_law.specs.OneAside.Sides.{Past, Side, beside}
+use Rattle.tdb_law.specs.OneAside.Starts.{with_starts, MayStart}
+use Rattle.tdb_law.proofs.OneAside.Starting.{starts_turn}
 use Rattle.tdb_holder.specs.Ends.{task_of, IsBlocked}
 use Rattle.tdb_holder.specs.Holders.{HolderState}
 use Rattle.tdb_holder.specs.Stages.{stage_records, stage_task, Known, KnowsFile, IsSide, MarkIs}

@@ -11,8 +11,8 @@ use Rattle.tdb_law.specs.World.{State}
 use Rattle.tdb_law.proofs.Walking.{put_here}
 use Rattle.tdb_commands.specs.InLaw.{law_opener}
 use Rattle.tdb_commands.specs.declared.options.Options.{Options}
-use Rattle.tdb_beside.specs.Sides.{Past, Side}
-use Rattle.tdb_beside.specs.Starts.{new_start}
+use Rattle.tdb_law.specs.OneAside.Sides.{Past, Side}
+use Rattle.tdb_law.specs.OneAside.Starts.{new_start}
 use Rattle.tdb_commit.specs.Starts.{start_steps}
 use Rattle.tdb_holder.specs.Ends.{task_of}
 use Rattle.tdb_holder.specs.Holders.{HolderState}

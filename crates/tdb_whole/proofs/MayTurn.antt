@@ -10,8 +10,8 @@ use Rattle.tdb_law.specs.Effects.{IsFree}
 use Rattle.tdb_law.specs.Held.{covers, locked_next}
 use Rattle.tdb_law.specs.Openers.{Task}
 use Rattle.tdb_law.specs.Rows.{commit_locks, lock}
-use Rattle.tdb_beside.specs.Own.{side_wants}
-use Rattle.tdb_beside.specs.Sides.{Past, Side, beside, but_at}
+use Rattle.tdb_law.specs.OneAside.Own.{side_wants}
+use Rattle.tdb_law.specs.OneAside.Sides.{Past, Side, beside, but_at}
 use Rattle.tdb_commit.specs.Holding.{want_of}
 use Rattle.tdb_holder.specs.Turned.{MayTurn}
 use Rattle.tdb_holder.specs.Wanting.{wanted_by}

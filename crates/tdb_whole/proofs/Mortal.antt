@@ -6,7 +6,7 @@ use Rattle.tdb_law.specs.Openers.{Own}
 use Rattle.tdb_law.specs.World.{State}
 use Rattle.tdb_law.proofs.Walking.{put_here}
 use Rattle.tdb_commands.specs.InLaw.{law_opener}
-use Rattle.tdb_beside.specs.Sides.{whole}
+use Rattle.tdb_law.specs.OneAside.Sides.{whole}
 use Rattle.tdb_holder.specs.Holders.{HolderState}
 use Rattle.tdb_holder.specs.Stages.{stage_task}
 use Rattle.tdb_openers.specs.Died.{MayDieIn}

@@ -11,7 +11,7 @@ use Rattle.tdb_law.specs.Held.{holding, kept, locked, txn_held}
 use Rattle.tdb_law.specs.Openers.{Own, Txn, View, nowhere}
 use Rattle.tdb_law.specs.Refusals.{refusal}
 use Rattle.tdb_law.specs.Rows.{commit_locks, start_locks}
-use Rattle.tdb_beside.specs.Sides.{Past, Side}
+use Rattle.tdb_law.specs.OneAside.Sides.{Past, Side}
 use Rattle.tdb_commit.specs.Finishes.{finish_steps}
 use Rattle.tdb_commit.specs.Laws.{Ends, commits, prepares, HasPlan}
 use Rattle.tdb_commit.specs.Prepares.{stage_steps, IsPlanning, start_held}

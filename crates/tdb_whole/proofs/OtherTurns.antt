@@ -16,11 +16,11 @@ use Rattle.tdb_law.specs.World.{State, IsSound}
 use Rattle.tdb_law.proofs.Sound.{sound_after}
 use Rattle.tdb_law.proofs.Tests.{never_true}
 use Rattle.tdb_steps.specs.Turns.{number_of}
-use Rattle.tdb_beside.specs.Sides.{Past, Side, beside, whole, StandsAside}
-use Rattle.tdb_beside.specs.Starts.{MayStart}
-use Rattle.tdb_beside.specs.Turns.{IsApart, IsClear, IsUngrouped, past_after}
-use Rattle.tdb_beside.proofs.Beside.{alone_turns, beside_turns}
-use Rattle.tdb_beside.proofs.Starting.{starts_turn}
+use Rattle.tdb_law.specs.OneAside.Sides.{Past, Side, beside, whole, StandsAside}
+use Rattle.tdb_law.specs.OneAside.Starts.{MayStart}
+use Rattle.tdb_law.specs.OneAside.Turns.{IsApart, IsClear, IsUngrouped, past_after}
+use Rattle.tdb_law.proofs.OneAside.Beside.{alone_turns, beside_turns}
+use Rattle.tdb_law.proofs.OneAside.Starting.{starts_turn}
 use Rattle.tdb_commands.specs.InLaw.{law_opener, law_command}
 use Rattle.tdb_commands.specs.declared.options.Options.{Options}
 use Rattle.tdb_holder.specs.Holders.{HolderState}

@@ -10,8 +10,8 @@ use Rattle.tdb_law.specs.Openers.{Mark, Task}
 use Rattle.tdb_law.specs.Rows.{is_changed}
 use Rattle.tdb_law.specs.Walks.{Lost, Shift}
 use Rattle.tdb_steps.specs.Holdings.{table_of}
-use Rattle.tdb_beside.specs.Sides.{Side}
-use Rattle.tdb_beside.proofs.Committed.{gate_shifts}
+use Rattle.tdb_law.specs.OneAside.Sides.{Side}
+use Rattle.tdb_law.proofs.OneAside.Committed.{gate_shifts}
 use Rattle.tdb_holder.specs.Lifts.{OthersKeep}
 use Rattle.tdb_holder.specs.Stages.{Known}
 use Rattle.tdb_holder.specs.Turned.{KeepsFile, keeps, brings}

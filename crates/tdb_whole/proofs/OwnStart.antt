@@ -30,12 +30,12 @@ use Rattle.tdb_law.proofs.Tests.{never_true}
 use Rattle.tdb_law.proofs.Walking.{put_here, put_else}
 use Rattle.tdb_commit.specs.declared.starting.Starting.TheVariants as Starts
 use Rattle.tdb_commit.proofs.Lawful.{start_holds}
-use Rattle.tdb_beside.specs.Sides.{Past, Side, but_at, alone, beside, whole}
-use Rattle.tdb_beside.specs.Turns.{without_task}
-use Rattle.tdb_beside.specs.Starts.{new_start, with_starts, MayStart}
-use Rattle.tdb_beside.proofs.Idle.{still_shift, waiting_is_turned}
-use Rattle.tdb_beside.proofs.Parted.{put_back}
-use Rattle.tdb_beside.proofs.Starting.{start_ends, starts_sound, task_is}
+use Rattle.tdb_law.specs.OneAside.Sides.{Past, Side, but_at, alone, beside, whole}
+use Rattle.tdb_law.specs.OneAside.Turns.{without_task}
+use Rattle.tdb_law.specs.OneAside.Starts.{new_start, with_starts, MayStart}
+use Rattle.tdb_law.proofs.OneAside.Idle.{still_shift, waiting_is_turned}
+use Rattle.tdb_law.proofs.OneAside.Parted.{put_back}
+use Rattle.tdb_law.proofs.OneAside.Starting.{start_ends, starts_sound, task_is}
 use Rattle.tdb_commands.specs.InLaw.{law_opener}
 use Rattle.tdb_holder.specs.Holders.{HolderState}
 use Rattle.tdb_holder.specs.Stages.{Known, IsSide}

@@ -22,7 +22,7 @@ use Rattle.tdb_law.specs.Turned.{want, Turned}
 use Rattle.tdb_law.specs.World.{State}
 use Rattle.tdb_law.proofs.Walking.{put_else, put_here}
 use Rattle.tdb_commit.proofs.Lawful.{finish_holds, planned_before}
-use Rattle.tdb_beside.specs.Sides.{Past, Side}
+use Rattle.tdb_law.specs.OneAside.Sides.{Past, Side}
 use Rattle.tdb_holder.specs.Holders.{HolderState}
 use Rattle.tdb_holder.specs.Stages.{IsSide, Known}
 use Rattle.tdb_holder.specs.declared.stage.Stage.{Stage}

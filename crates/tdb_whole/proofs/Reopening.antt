@@ -34,7 +34,7 @@ use Rattle.tdb_commit.specs.declared.preparing.PrepareStage.TheVariants as Prepa
 use Rattle.tdb_commit.specs.declared.starting.Starting.{Starting}
 use Rattle.tdb_commit.specs.declared.starting.Starting.TheVariants as Starts
 use Rattle.tdb_commit.proofs.Carried.{ready_rests}
-use Rattle.tdb_beside.specs.Sides.{Past, Side}
+use Rattle.tdb_law.specs.OneAside.Sides.{Past, Side}
 use Rattle.tdb_holder.specs.Holders.{HolderState}
 use Rattle.tdb_holder.specs.Reads.{IsReadAs as IsReadFrom}
 use Rattle.tdb_holder.specs.Stages.{start_records, stage_records, stage_task, Known, KnowsFile}

@@ -25,9 +25,9 @@ use Rattle.tdb_steps.proofs.Cells.{live_mapped}
 use Rattle.tdb_commands.specs.InLaw.{law_opener, options_of}
 use Rattle.tdb_commands.specs.declared.options.Options.{Options}
 use Rattle.tdb_commands.proofs.Counts.{none_counted}
-use Rattle.tdb_beside.specs.Sides.{Past, Side, alone, beside}
-use Rattle.tdb_beside.specs.Starts.{with_starts}
-use Rattle.tdb_beside.proofs.Starting.{starts_turn}
+use Rattle.tdb_law.specs.OneAside.Sides.{Past, Side, alone, beside}
+use Rattle.tdb_law.specs.OneAside.Starts.{with_starts}
+use Rattle.tdb_law.proofs.OneAside.Starting.{starts_turn}
 use Rattle.tdb_holder.specs.Holders.{HolderState}
 use Rattle.tdb_holder.specs.Lifts.{IsBack}
 use Rattle.tdb_holder.specs.Stages.{is_closing, stage_records, stage_task, Known}

@@ -12,10 +12,10 @@ use Rattle.tdb_law.proofs.Walking.{put_here, put_else}
 use Rattle.tdb_commands.specs.InLaw.{law_opener}
 use Rattle.tdb_commands.specs.declared.options.Options.{Options}
 use Rattle.tdb_steps.specs.LockRows.{strength_of}
-use Rattle.tdb_beside.specs.Events.{StandsBy, IsElse}
-use Rattle.tdb_beside.specs.Sides.{Past, Side, alone, beside, whole, IsPlain, StandsAside}
-use Rattle.tdb_beside.specs.Starts.{MayStart, new_start, with_starts}
-use Rattle.tdb_beside.proofs.Starting.{task_is, task_not}
+use Rattle.tdb_law.specs.OneAside.Events.{StandsBy, IsElse}
+use Rattle.tdb_law.specs.OneAside.Sides.{Past, Side, alone, beside, whole, IsPlain, StandsAside}
+use Rattle.tdb_law.specs.OneAside.Starts.{MayStart, new_start, with_starts}
+use Rattle.tdb_law.proofs.OneAside.Starting.{task_is, task_not}
 use Rattle.tdb_holder.specs.Holders.{HolderState}
 use Rattle.tdb_holder.specs.Stages.{stage_records, stage_task}
 use Rattle.tdb_holder.specs.Wanting.{records_at}

@@ -13,7 +13,7 @@ use Rattle.tdb_law.specs.Openers.{Map, Own, Task}
 use Rattle.tdb_law.specs.Outcomes.{moves, told, told_by}
 use Rattle.tdb_law.specs.Refusals.{Refusal, refusal}
 use Rattle.tdb_law.specs.Refusals.Refusal.{OnlyReads, IsPrepared, LocksStand, NothingLocked, NeverNests, NoneOpen, IsDoomed}
-use Rattle.tdb_beside.specs.Sides.{Past, Side}
+use Rattle.tdb_law.specs.OneAside.Sides.{Past, Side}
 use Rattle.tdb_holder.specs.Stages.{Known}
 use Rattle.tdb_holder.specs.Turned.{StageTurned}
 use Rattle.tdb_holder.specs.declared.stage.Stage.{Stage}

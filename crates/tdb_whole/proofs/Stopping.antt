@@ -36,8 +36,8 @@ use Rattle.tdb_commit.specs.Starts.{start_steps}
 use Rattle.tdb_commit.specs.declared.starting.Starting.{Starting}
 use Rattle.tdb_commands.specs.InLaw.{law_opener, law_turn}
 use Rattle.tdb_commands.specs.declared.options.Options.{Options}
-use Rattle.tdb_beside.specs.Sides.{Past, Side, beside}
-use Rattle.tdb_beside.specs.Starts.{new_start, with_starts}
+use Rattle.tdb_law.specs.OneAside.Sides.{Past, Side, beside}
+use Rattle.tdb_law.specs.OneAside.Starts.{new_start, with_starts}
 use Rattle.tdb_holder.specs.Ends.{task_of}
 use Rattle.tdb_holder.specs.Holders.{is_idle, left_stage, HolderState, HolderTurned, StageMayLeave}
 use Rattle.tdb_holder.specs.Stages.{stage_task, HasNumbers, HasOuter, IsSide, Known, KnowsFile}

@@ -9,8 +9,8 @@ use Rattle.tdb_locks.specs.declared.kind.Kind.{Kind}
 use Rattle.tdb_locks.specs.declared.kind.Kind.TheVariants.{Write}
 use Rattle.tdb_law.specs.World.{State, IsSound}
 use Rattle.tdb_steps.specs.Turns.{number_of}
-use Rattle.tdb_beside.specs.Sides.{Past, Side, alone, whole}
-use Rattle.tdb_beside.specs.Starts.{with_starts}
+use Rattle.tdb_law.specs.OneAside.Sides.{Past, Side, alone, whole}
+use Rattle.tdb_law.specs.OneAside.Starts.{with_starts}
 use Rattle.tdb_openers.specs.Aside.{LocksNoRecord}
 use Rattle.tdb_openers.specs.Worlds.{state_in, BytesStand, IsNumber}
 use Rattle.tdb_openers.specs.declared.opener.Opener.{Opener}

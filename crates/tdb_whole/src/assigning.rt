@@ -8,7 +8,7 @@ ghost use Rattle.tdb_commands.specs.Short.{IsShortCommand};
 ghost use Rattle.tdb_whole.specs.Whole.{is_starting, WorldFits};
 ghost use Rattle.tdb_whole.specs.States.{IsStateOf};
 ghost use Rattle.tdb_whole.specs.Steps.{GiftLeads, HasCommand, HasNoCommand, HasRoom, IsAmong};
-ghost use Rattle.tdb_beside.specs.Sides.{Past, Side};
+ghost use Rattle.tdb_law.specs.OneAside.Sides.{Past, Side};
 ghost use Rattle.tdb_holder.specs.Ends.{task_of};
 ghost use Rattle.tdb_holder.specs.Holders.{is_idle, stage_depth, with_command, HolderState};
 ghost use Rattle.tdb_holder.specs.Stages.{Known, IsFit, IsSide, KnowsFile, MayBeGiven};

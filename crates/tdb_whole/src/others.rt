@@ -8,7 +8,7 @@ ghost use Rattle.tdb_law.specs.World.{State};
 ghost use Rattle.tdb_commands.specs.InLaw.{law_opener, law_turn};
 ghost use Rattle.tdb_space.specs.Form.{form_in};
 ghost use Rattle.tdb_steps.specs.Turns.{number_of};
-ghost use Rattle.tdb_beside.specs.Sides.{Past, Side};
+ghost use Rattle.tdb_law.specs.OneAside.Sides.{Past, Side};
 ghost use Rattle.tdb_openers.specs.ShutOut.{HoldsAll, ShutsOut, IsTurnBeside};
 ghost use Rattle.tdb_openers.specs.Calm.{IsMidway, WritesNoRecord};
 ghost use Rattle.tdb_openers.specs.Openers.{own_of};

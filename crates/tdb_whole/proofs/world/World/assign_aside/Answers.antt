@@ -6,7 +6,7 @@ use Rattle.tdb_law.specs.Events.{Given}
 use Rattle.tdb_commands.specs.InLaw.{law_command, law_opener}
 use Rattle.tdb_commands.specs.declared.options.Options.{Options}
 use Rattle.tdb_words.specs.declared.header.Header.{Header}
-use Rattle.tdb_beside.specs.Sides.{Past, Side}
+use Rattle.tdb_law.specs.OneAside.Sides.{Past, Side}
 use Rattle.tdb_holder.specs.Ends.{task_of}
 use Rattle.tdb_holder.specs.Holders.{stage_depth, HolderState}
 use Rattle.tdb_holder.specs.Stages.{stage_task, IsFit, IsSide, KnowsFile, Known, MayBeGiven}

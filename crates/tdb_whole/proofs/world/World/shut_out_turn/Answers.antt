@@ -6,7 +6,7 @@ use Rattle.tdb_law.specs.Commands.Reply.{Number}
 use Rattle.tdb_law.specs.Commands.Turn.{Blocked, Ends}
 use Rattle.tdb_law.specs.Effects.{IsFree}
 use Rattle.tdb_law.specs.Turned.{want}
-use Rattle.tdb_beside.specs.Sides.{Past, Side, beside}
+use Rattle.tdb_law.specs.OneAside.Sides.{Past, Side, beside}
 use Rattle.tdb_commands.specs.InLaw.{law_opener, law_turn}
 use Rattle.tdb_openers.specs.ShutOut.{ShutsOut, IsTurnBeside}
 use Rattle.tdb_openers.specs.Worlds.{World, law_of_task, state_in, IsBusy, Stands}

@@ -1,6 +1,0 @@
--- The laws are the lemmas.
-use Rattle.tdb_beside.proofs.Committed.{image_shifts, gate_shifts}
-use Rattle.tdb_beside.proofs.commits.commit_shifts.Goals as goal
-
-pub returns : goal.returns
-returns c = record { image = image_shifts; gate = gate_shifts }

@@ -1,6 +1,0 @@
--- The laws are the lemmas.
-use Rattle.tdb_beside.proofs.Starting.{starts_turn, starts_join, starts_given, starts_die}
-use Rattle.tdb_beside.proofs.starts.starts_turn.Goals as goal
-
-pub returns : goal.returns
-returns c = record { turn = starts_turn; join = starts_join; gift = starts_given; death = starts_die }

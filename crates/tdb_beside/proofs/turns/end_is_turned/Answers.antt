@@ -1,6 +1,0 @@
--- The law is the lemma.
-use Rattle.tdb_beside.proofs.Idle as idle
-use Rattle.tdb_beside.proofs.turns.end_is_turned.Goals as goal
-
-pub returns : goal.returns
-returns c = record { law = idle.end_is_turned }

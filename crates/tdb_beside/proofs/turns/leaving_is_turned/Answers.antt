@@ -1,6 +1,0 @@
--- The law is the lemma.
-use Rattle.tdb_beside.proofs.Leaving as leaving
-use Rattle.tdb_beside.proofs.turns.leaving_is_turned.Goals as goal
-
-pub returns : goal.returns
-returns c = record { law = leaving.leaving_is_turned }

@@ -1,6 +1,0 @@
--- The law is the lemma.
-use Rattle.tdb_beside.proofs.Idle as idle
-use Rattle.tdb_beside.proofs.turns.waiting_is_turned.Goals as goal
-
-pub returns : goal.returns
-returns c = record { law = idle.waiting_is_turned }

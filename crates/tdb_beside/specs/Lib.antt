@@ -1,7 +1,0 @@
-pub mod Sides
-pub mod Turns
-pub mod Events
-pub mod Shutting
-pub mod Laws
-pub mod Own
-pub mod Starts

@@ -1,0 +1,6 @@
+-- The law is the lemma.
+use Rattle.tdb_law.proofs.OneAside.Beside as beside
+use Rattle.tdb_law.proofs.one_aside.turns.alone_turns.Goals as goal
+
+pub returns : goal.returns
+returns c = record { law = beside.alone_turns }
