@@ -1,4 +1,4 @@
-//! Tests of the cursors of openers, over the public calls of `tdb_cursors`.
+//! Tests of the cursors of openers, over the public calls of `tdb_walk`.
 #![tactic(auto)]
 
 #[cfg(test)]

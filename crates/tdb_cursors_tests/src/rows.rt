@@ -5,9 +5,8 @@ use crate::openers::{Act, Openers, Want};
 use small_file::{HEADER, RECORD, Word};
 use std::alloc::{AllocError, Global};
 use std::test::Fail;
-use tdb_cursors::Walk;
+use tdb_walk::{Goal, Walk};
 use tdb_disk::{Call, MemDisk};
-use tdb_walk::Goal;
 use tdb_words::{DEAD, FREE, Header, USED};
 
 #[derive(Clone, Copy)]

@@ -12,7 +12,7 @@ use Rattle.tdb_law.specs.Commands.{Command, GroupCommand, LockCommand, MapComman
 use Rattle.tdb_law.specs.Commands.LockCommand.{ChainLock, ChainLockNb, ChainUnlock, LockAll, LockAllRead, UnlockAll}
 use Rattle.tdb_law.specs.Commands.GroupCommand.{Prepare}
 use Rattle.tdb_law.specs.Commands.Command.{OnMap, OnLocks, Seqnum, OnGroup, OnWalk}
-use Rattle.tdb_cursors.specs.declared.walk.Walk.{Walk}
+use Rattle.tdb_walk.specs.declared.walk.Walk.{Walk}
 use Rattle.tdb_law.specs.MapCommands.{map_changes}
 use Rattle.tdb_law.specs.Openers.{Own, Txn, Counts, AllLock}
 use Rattle.tdb_law.specs.Images.{image_map}

@@ -34,7 +34,7 @@ use Rattle.tdb_commit.specs.declared.starting.StartTurn.TheVariants.{Step, Block
 use Rattle.tdb_walk.specs.Again.{RestsAt}
 use Rattle.tdb_walk.specs.Cursors.{At, Knows, rested}
 use Rattle.tdb_walk.specs.declared.standing.Standing.TheVariants.{Past as Nowhere}
-use Rattle.tdb_cursors.specs.declared.walk.Walk.{Walk}
+use Rattle.tdb_walk.specs.declared.walk.Walk.{Walk}
 use Rattle.tdb_inside.specs.Counted.{IsCounted}
 use Rattle.tdb_inside.specs.Walks.{mark_in, RestsIn, RestsInside}
 use Rattle.tdb_inside.specs.declared.own_txn.OwnTxn.{OwnTxn}

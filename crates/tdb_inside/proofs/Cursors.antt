@@ -19,7 +19,7 @@ use Rattle.tdb_law.specs.Layout.Place.{off_chains, before_chain, on_record}
 use Rattle.tdb_law.proofs.HandsOut.{image_answers}
 use Rattle.tdb_law.proofs.Maps.{maps_equal}
 use Rattle.tdb_locks.specs.declared.piece.Piece.{Piece}
-use Rattle.tdb_cursors.specs.declared.walk.Walk.{Walk}
+use Rattle.tdb_walk.specs.declared.walk.Walk.{Walk}
 use Rattle.tdb_steps.specs.Turns.{number_of}
 use Rattle.tdb_steps.specs.PlainCommands.{reply_of}
 use Rattle.tdb_walk.specs.declared.live.Live.{Live}

@@ -23,7 +23,7 @@ use Rattle.tdb_walk.specs.declared.stage.Stage.{Stage}
 use Rattle.tdb_walk.specs.NextLive.{StandsIn, place_of}
 use Rattle.tdb_walk.specs.Cursors.{Knows}
 use Rattle.tdb_walk.specs.Again.{RestsAt}
-use Rattle.tdb_cursors.specs.declared.walk.Walk.{Walk}
+use Rattle.tdb_walk.specs.declared.walk.Walk.{Walk}
 use Rattle.tdb_inside.specs.declared.own_txn.OwnTxn.{OwnTxn}
 use Rattle.tdb_inside.specs.OwnTxns.{SameTxn, form_of, image_of, own_inside}
 use Rattle.tdb_inside.specs.Spared.{WalkKept}

@@ -26,7 +26,7 @@ use Rattle.tdb_law.specs.Images.{image_map}
 use Rattle.tdb_steps.specs.Turns.{number_of}
 use Rattle.tdb_txn.specs.Pages.{byte_over, length_filled}
 use Rattle.tdb_txn.specs.Txn.{txn_pages, txn_size}
-use Rattle.tdb_cursors.specs.declared.walk.Walk.{Walk}
+use Rattle.tdb_walk.specs.declared.walk.Walk.{Walk}
 use Rattle.tdb_inside.specs.declared.own_txn.OwnTxn.{OwnTxn}
 use Rattle.tdb_inside.specs.OwnTxns.{SameTxn, form_of, image_of, law_txn, own_inside}
 use Rattle.tdb_inside.specs.Turns.{ReadsAll, TurnsInside}

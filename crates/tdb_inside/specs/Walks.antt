@@ -25,7 +25,7 @@ use Rattle.tdb_walk.specs.NextLive.{place_of}
 use Rattle.tdb_walk.specs.Purging.{IsDeadIn, IsPurged}
 use Rattle.tdb_walk.specs.Cursors.{Knows}
 use Rattle.tdb_walk.specs.Again.{RestsAt}
-use Rattle.tdb_cursors.specs.declared.walk.Walk.{Walk}
+use Rattle.tdb_walk.specs.declared.walk.Walk.{Walk}
 use Rattle.tdb_inside.specs.declared.own_txn.OwnTxn.{OwnTxn}
 use Rattle.tdb_inside.specs.Done.{ImageKept}
 use Rattle.tdb_inside.specs.OwnTxns.{form_of, image_of, own_inside}

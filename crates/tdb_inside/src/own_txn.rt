@@ -17,7 +17,7 @@ ghost use Rattle.tdb_inside.specs.OwnTxns.{own_inside};
 ghost use Rattle.tdb_inside.specs.Turns.{ClosesInside, EndsInside};
 
 use std::alloc::Global;
-use tdb_cursors::Walk;
+use tdb_walk::Walk;
 use tdb_locks::{Held, Locks};
 use tdb_txn::Txn;
 

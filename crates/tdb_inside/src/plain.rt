@@ -16,7 +16,7 @@ ghost use Rattle.tdb_txn.specs.Committing.{MayCommit};
 ghost use Rattle.tdb_txn.specs.Txn.{txn_form, txn_image, txn_start, txn_size, txn_spare, txn_depth, txn_doomed};
 ghost use Rattle.tdb_walk.specs.declared.standing.Standing.TheVariants.{On};
 ghost use Rattle.tdb_walk.specs.NextLive.{StandsIn};
-ghost use Rattle.tdb_cursors.specs.declared.walk.Walk.{Walk};
+ghost use Rattle.tdb_walk.specs.declared.walk.Walk.{Walk};
 ghost use Rattle.tdb_inside.specs.Done.{ImageDone};
 ghost use Rattle.tdb_inside.specs.OwnTxns.{form_of, image_of, own_inside, SameTxn};
 ghost use Rattle.tdb_inside.specs.Spared.{WalkKept};

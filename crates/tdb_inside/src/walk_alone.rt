@@ -12,10 +12,9 @@ ghost use Rattle.tdb_inside.specs.Walks.{all_written, shown_by, CursorDone, Rest
 
 use crate::alone::OWNER;
 use std::alloc::Global;
-use tdb_cursors::Walk;
+use tdb_walk::{Goal, Walk};
 use tdb_locks::{Held, Kind, Locks, Reply, Spots, Turn};
 use tdb_space::{Io, Space};
-use tdb_walk::Goal;
 
 /// Takes one turn of what a cursor is asked for where nobody else holds a lock, and no other cursor counts. It is as if
 /// the cursor's opener held all records for writing: so no chain and no record is locked, and a dead record is purged.

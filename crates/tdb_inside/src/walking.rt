@@ -18,12 +18,11 @@ ghost use Rattle.tdb_inside.specs.Walks.{command_for, shown_by, with_cursor, Cur
 use crate::own_txn::OwnTxn;
 use crate::walk_alone::take_walk;
 use std::alloc::Global;
-use tdb_cursors::Walk;
+use tdb_walk::{Goal, Walk};
 use tdb_disk::Disk;
 use tdb_locks::Reply;
 use tdb_space::Io;
 use tdb_txn::{OverlayOn, Txn};
-use tdb_walk::Goal;
 
 /// Takes all turns of a cursor in the pages of a transaction.
 fn walk_in_pages<D: Disk>(

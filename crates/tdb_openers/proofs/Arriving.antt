@@ -23,7 +23,7 @@ use Rattle.tdb_openers.specs.States.{WorldStands}
 use Rattle.tdb_openers.specs.Laws.{IsJoined, JoinKeepsWorld, JoinKeepsFile, JoinJoins, EmptyStands, EmptyFileStands, EmptyIsLoaded}
 use Rattle.tdb_openers.proofs.Standing.{Holds, IsSet, world_set, held_still}
 use Rattle.tdb_walk.specs.Cursors.{At, Knows}
-use Rattle.tdb_cursors.specs.Spots.{spot_number}
+use Rattle.tdb_walk.specs.Spots.{spot_number}
 use Rattle.tdb_openers.specs.Cursors.{is_stood, TaskSpares, StandApart, cursor_at}
 use Rattle.tdb_openers.proofs.Stood.{spots_pushed, stood_pushed}
 use Rattle.tdb_openers.proofs.AllHands.{joined_same}

@@ -49,7 +49,7 @@ use Rattle.tdb_walk.specs.Cursors.{Knows}
 use Rattle.tdb_walk.specs.InLaw.{is_purging}
 use Rattle.tdb_walk.specs.Purging.{IsDeadIn}
 use Rattle.tdb_walk.specs.Again.{RestsAt}
-use Rattle.tdb_cursors.specs.Spots.{spot_number}
+use Rattle.tdb_walk.specs.Spots.{spot_number}
 use Rattle.tdb_openers.proofs.Rests.{walk_rests}
 use Rattle.tdb_openers.proofs.Standing.{walk_there}
 use Rattle.tdb_openers.proofs.Purgers.{purger_locks, dead_stays}

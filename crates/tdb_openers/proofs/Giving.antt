@@ -27,7 +27,7 @@ use Rattle.tdb_openers.specs.States.{state_of}
 use Rattle.tdb_openers.specs.Laws.{IsGiven, GiftKeepsWorld, GiftKeepsFile, GiftIsGiven}
 use Rattle.tdb_openers.proofs.Standing.{Holds, IsSet, put_set, world_set, held_still}
 use Rattle.tdb_walk.specs.Cursors.{At, Knows}
-use Rattle.tdb_cursors.specs.Spots.{spot_number}
+use Rattle.tdb_walk.specs.Spots.{spot_number}
 use Rattle.tdb_openers.specs.Cursors.{is_stood, CursorKnows, TaskSpares, StandApart, cursor_at}
 use Rattle.tdb_openers.proofs.Stood.{place_entry, same_spots}
 use Rattle.tdb_openers.proofs.Rests.{walk_rests}

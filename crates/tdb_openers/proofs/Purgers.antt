@@ -26,7 +26,7 @@ use Rattle.tdb_walk.specs.Purging.{IsDeadIn}
 use Rattle.tdb_walk.specs.Cursors.{At}
 use Rattle.tdb_walk.specs.InLaw.{IsShown, StandsAfter, is_purging, spot_in}
 use Rattle.tdb_walk.proofs.Rows.{never}
-use Rattle.tdb_cursors.proofs.Apart.{purger_holds}
+use Rattle.tdb_walk.proofs.Apart.{purger_holds}
 use Rattle.tdb_commands.specs.declared.options.Options.{Options}
 use Rattle.tdb_openers.specs.declared.opener.Opener.{Opener}
 use Rattle.tdb_openers.specs.declared.job.Job.{Job}

@@ -11,7 +11,7 @@ use Rattle.tdb_commands.specs.InLaw.{law_opener, law_command}
 use Rattle.tdb_commands.specs.declared.options.Options.{Options}
 use Rattle.tdb_openers.specs.declared.opener.Opener.{Opener}
 use Rattle.tdb_openers.specs.declared.job.Job.{Job}
-use Rattle.tdb_cursors.specs.Spots.{spot_number}
+use Rattle.tdb_walk.specs.Spots.{spot_number}
 use Rattle.tdb_openers.specs.Openers.{own_of, spots_of, command_in, JobStands}
 use Rattle.tdb_openers.specs.declared.job.Task.{Task}
 use Rattle.tdb_openers.specs.ShutOut.{IsReplaced}

@@ -15,7 +15,7 @@ use Rattle.tdb_walk.specs.declared.stage.Stage.TheVariants.{Rested, Reading, Wri
 use Rattle.tdb_walk.specs.Cursors.{At, IsPlaced, spot_of}
 use Rattle.tdb_walk.specs.InLaw.{IsShown, StandsAfter, spot_in, is_before, is_purging}
 use Rattle.tdb_walk.specs.Again.{RestsAt}
-use Rattle.tdb_cursors.specs.declared.walk.Walk.{Walk}
+use Rattle.tdb_walk.specs.declared.walk.Walk.{Walk}
 use Rattle.tdb_openers.specs.Openers.{rest_of, spot_by, WalkAfter, WalkStands}
 use Rattle.tdb_openers.specs.Turning.{RestsWell, StandsWell, resting}
 

@@ -35,7 +35,7 @@ use Rattle.tdb_steps.specs.Order.{IsAfter}
 use Rattle.tdb_steps.specs.Machines.{Doing, DoingKnows}
 use Rattle.tdb_steps.specs.PlainCommands.{key_of, asked_of}
 use Rattle.tdb_steps.specs.Stages.{Knows as KnowsOf}
-use Rattle.tdb_cursors.specs.Spots.{spot_number}
+use Rattle.tdb_walk.specs.Spots.{spot_number}
 use Rattle.tdb_law.specs.Openers.{Spot}
 use Rattle.tdb_walk.specs.declared.standing.Standing.{Standing}
 use Rattle.tdb_walk.specs.declared.standing.Standing.TheVariants.{Before, On, Past}
@@ -60,7 +60,7 @@ use Rattle.tdb_walk.specs.Again.{CursorLeaves}
 use Rattle.tdb_walk.proofs.Again.{cursor_leaves}
 use Rattle.tdb_walk.proofs.Lawful.{cursor_is_lawful}
 use Rattle.tdb_walk.proofs.Rows.{map_is}
-use Rattle.tdb_cursors.proofs.Apart.{cursor_comes_apart}
+use Rattle.tdb_walk.proofs.Apart.{cursor_comes_apart}
 use Rattle.tdb_commands.specs.declared.options.Options.{Options}
 use Rattle.tdb_openers.specs.declared.opener.Opener.{Opener}
 use Rattle.tdb_openers.specs.declared.job.Job.{Job}

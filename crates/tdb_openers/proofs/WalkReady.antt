@@ -27,7 +27,7 @@ use Rattle.tdb_walk.specs.declared.stage.Goal.TheVariants as Goals
 use Rattle.tdb_walk.specs.InLaw.{StandsAfter, CursorReady, CursorBefore, goal_of, is_before, is_purging, view_of}
 use Rattle.tdb_walk.proofs.Viewed.{view_is_so}
 use Rattle.tdb_walk.proofs.Holding.{holding_is}
-use Rattle.tdb_cursors.specs.Spots.{LacksCursor}
+use Rattle.tdb_walk.specs.Spots.{LacksCursor}
 use Rattle.tdb_openers.specs.Given.{IsWellHeld}
 use Rattle.tdb_commands.specs.declared.options.Options.{Options}
 use Rattle.tdb_openers.specs.declared.opener.Opener.{Opener}

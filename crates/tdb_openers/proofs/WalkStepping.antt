@@ -11,7 +11,7 @@ use Rattle.tdb_commands.specs.InLaw.{law_opener, law_turn}
 use Rattle.tdb_walk.specs.ByteLocks.{HoldsWords}
 use Rattle.tdb_walk.specs.Cursors.{dead_of}
 use Rattle.tdb_walk.specs.InLaw.{goal_of, is_before}
-use Rattle.tdb_cursors.specs.Spots.{LacksCursor, spot_number}
+use Rattle.tdb_walk.specs.Spots.{LacksCursor, spot_number}
 use Rattle.tdb_commands.specs.declared.options.Options.{Options}
 use Rattle.tdb_openers.specs.declared.opener.Opener.{Opener}
 use Rattle.tdb_openers.specs.declared.job.Task.{Task}

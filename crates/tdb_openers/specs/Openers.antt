@@ -24,8 +24,8 @@ use Rattle.tdb_walk.specs.declared.standing.Standing.TheVariants.{Past}
 use Rattle.tdb_walk.specs.Cursors.{At, IsPlaced, rested, spot_of}
 use Rattle.tdb_walk.specs.InLaw.{StandsAfter, spot_in, is_before}
 use Rattle.tdb_walk.specs.Again.{RestsAt}
-use Rattle.tdb_cursors.specs.declared.walk.Walk.{Walk}
-use Rattle.tdb_cursors.specs.Spots.{spot_number}
+use Rattle.tdb_walk.specs.declared.walk.Walk.{Walk}
+use Rattle.tdb_walk.specs.Spots.{spot_number}
 use Rattle.tdb_commands.specs.InLaw.{law_command, law_reply, options_of}
 use Rattle.tdb_openers.specs.Given.{IsShortLocking, IsWellHeld}
 use Rattle.tdb_commands.specs.declared.options.Options.{Options}

@@ -11,8 +11,8 @@ use Rattle.tdb_walk.specs.Way.{SameOthers}
 use Rattle.tdb_walk.specs.Cursors.{At}
 use Rattle.tdb_walk.specs.InLaw.{goal_of, is_dropped}
 use Rattle.tdb_walk.specs.Again.{cursor_after}
-use Rattle.tdb_cursors.specs.declared.walk.Walk.{Walk}
-use Rattle.tdb_cursors.specs.Spots.{Stepped}
+use Rattle.tdb_walk.specs.declared.walk.Walk.{Walk}
+use Rattle.tdb_walk.specs.Spots.{Stepped}
 use Rattle.tdb_openers.specs.declared.opener.Opener.{Opener}
 use Rattle.tdb_openers.specs.declared.job.Task.{Task}
 use Rattle.tdb_openers.specs.Openers.{no_walk}

@@ -5,7 +5,7 @@ ghost use Rattle.tdb_openers.specs.Worlds.{fresh};
 
 use crate::job::Task;
 use std::alloc::Global;
-use tdb_cursors::Walk;
+use tdb_walk::Walk;
 use tdb_locks::Held;
 
 /// An opener of the file.

@@ -7,7 +7,7 @@ ghost use Rattle.tdb_space.specs.Frame.{Looked, Wrote};
 ghost use Rattle.tdb_walk.specs.ByteLocks.{HoldsWords};
 ghost use Rattle.tdb_walk.specs.Cursors.{dead_of};
 ghost use Rattle.tdb_walk.specs.InLaw.{goal_of};
-ghost use Rattle.tdb_cursors.specs.Spots.{LacksCursor, spot_number};
+ghost use Rattle.tdb_walk.specs.Spots.{LacksCursor, spot_number};
 ghost use Rattle.tdb_openers.specs.declared.job.Task.{Task};
 ghost use Rattle.tdb_openers.specs.Openers.{walk_command, walk_of};
 ghost use Rattle.tdb_openers.specs.Walked.{WalkStepped, WalkTurned};
@@ -15,7 +15,7 @@ ghost use Rattle.tdb_openers.specs.Walked.{WalkStepped, WalkTurned};
 use crate::job::{Job, Task, Walking};
 use crate::opener::Opener;
 use std::alloc::Global;
-use tdb_cursors::{Walk, close_turn};
+use tdb_walk::{Walk, close_turn};
 use tdb_locks::{Held, Locks, Spots, Turn};
 use tdb_space::{Io, Space};
 

@@ -38,3 +38,4 @@ pub mod WalkShown
 pub mod WalkLawful
 pub mod Viewed
 pub mod Walkers
+pub mod Apart

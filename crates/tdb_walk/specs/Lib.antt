@@ -10,3 +10,5 @@ pub mod InLaw
 pub mod Again
 pub mod Holds
 pub mod Walkers
+pub mod Spots
+pub mod Apart

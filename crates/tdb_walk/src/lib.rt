@@ -11,8 +11,11 @@ mod pair;
 mod purging;
 mod records;
 mod refusal;
+mod spots_apart;
 mod stage;
 mod standing;
+mod walk;
+mod walking;
 mod way;
 
 pub use crate::cursor::Cursor;
@@ -24,3 +27,6 @@ pub use crate::refusal::WalkRefusal;
 pub use crate::stage::Goal;
 pub use crate::standing::Standing;
 pub use crate::way::{Way, move_on};
+pub use crate::spots_apart::cursors_keep_apart;
+pub use crate::walk::Walk;
+pub use crate::walking::close_turn;

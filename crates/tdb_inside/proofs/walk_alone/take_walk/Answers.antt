@@ -13,7 +13,7 @@ use Rattle.tdb_walk.specs.declared.stage.Goal.{Goal}
 use Rattle.tdb_walk.specs.declared.stage.Goal.TheVariants.{First, Next, Leave}
 use Rattle.tdb_walk.specs.Cursors.{At, Knows, StepTaken, StepMade, act_of, spared_of}
 use Rattle.tdb_walk.specs.Again.{RestsAt, cursor_after}
-use Rattle.tdb_cursors.specs.declared.walk.Walk.{Walk}
+use Rattle.tdb_walk.specs.declared.walk.Walk.{Walk}
 use Rattle.tdb_inside.specs.Walks.{CursorDone, RestsIn, all_written, shown_by}
 use Rattle.tdb_inside.proofs.Cursors.{IsAlive, Led, alive_first, alive_on, cursor_done, far_few, never_leave_waits, never_waits, rests_again, shows_then, steps_on}
 use Rattle.tdb_inside.proofs.walk_alone.take_walk.Goals as goal

@@ -1,6 +1,6 @@
 -- The opener that lets go of all records is the one with the number, and the world stands as before.
 use Rattle.std.proofs.Common.{◌-◌, None, sym, ap, subst, ◌∙◌}
-use Rattle.tdb_cursors.specs.declared.walk.Walk.{Walk}
+use Rattle.tdb_walk.specs.declared.walk.Walk.{Walk}
 use Rattle.tdb_openers.specs.declared.opener.Opener.{Opener}
 use Rattle.tdb_openers.specs.Worlds.{IsNumber, Stands}
 use Rattle.tdb_openers.proofs.Aside.{alone_there, releases, stands_with, bytes_with, left_apart}

@@ -1,6 +1,6 @@
 -- The opener in whose place one is put that has died is the one with the number.
 use Rattle.std.proofs.Common.{◌-◌, ◌<◌, length, set, slice_set, sym, ap, subst, ◌∙◌}
-use Rattle.tdb_cursors.specs.Spots.{spot_number}
+use Rattle.tdb_walk.specs.Spots.{spot_number}
 use Rattle.tdb_openers.specs.declared.opener.Opener.{Opener}
 use Rattle.tdb_openers.specs.Openers.{spots_of}
 use Rattle.tdb_openers.specs.Died.{HasDied}

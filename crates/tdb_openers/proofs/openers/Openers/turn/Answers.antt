@@ -11,7 +11,7 @@ use Rattle.tdb_openers.specs.Worlds.{IsBusy, Stands, BytesStand, state_in, law_o
 use Rattle.tdb_openers.specs.Turning.{resting, OpenerHolds, ImageBefore}
 use Rattle.tdb_openers.specs.Calm.{WritesNoRecord, IsMidway}
 use Rattle.tdb_openers.specs.Openers.{rest_of, own_of, command_in}
-use Rattle.tdb_cursors.specs.Spots.{spot_number}
+use Rattle.tdb_walk.specs.Spots.{spot_number}
 use Rattle.tdb_openers.proofs.Putting.{numbered, others_put, spots_still}
 use Rattle.tdb_openers.proofs.Stepping.{Locked, Filed, ok_so, ok_both, stands_before, holds_before, task_busy, busy_after, image_before, world_after, file_after, turned_after}
 use Rattle.std.specs.Option.{option_map}

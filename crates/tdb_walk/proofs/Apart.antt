@@ -23,7 +23,7 @@ use Rattle.tdb_walk.specs.Cursors.{At, spot_of}
 use Rattle.tdb_walk.specs.Way.{lock_byte}
 use Rattle.tdb_walk.specs.InLaw.{CursorTurned, is_dropped, is_close, own_next, spot_in, spot_next, strengths}
 use Rattle.tdb_walk.specs.Again.{RestsAt, StandsAgain}
-use Rattle.tdb_cursors.specs.Apart.{CursorComesApart, PurgerHolds}
+use Rattle.tdb_walk.specs.Apart.{CursorComesApart, PurgerHolds}
 use Rattle.tdb_walk.specs.declared.stage.Stage.TheVariants.{Rested, Reading, Writing, Freeing}
 use Rattle.tdb_walk.proofs.Explicit.{one_at}
 use Rattle.tdb_walk.proofs.Holding.{stage_is}

@@ -1,9 +1,9 @@
 -- What is kept of the reply leaves the cursor where its step has brought it.
 use Rattle.std.proofs.Common.{◌≡◌, sym, ◌∙◌, ap, subst}
 use Rattle.tdb_walk.specs.Cursors.{At, StepMade}
-use Rattle.tdb_cursors.specs.declared.walk.Walk.{Walk}
-use Rattle.tdb_cursors.proofs.walk.Walk.step.Goals.{in-Done, in_default}
-use Rattle.tdb_cursors.proofs.walk.Walk.step.Goals as goal
+use Rattle.tdb_walk.specs.declared.walk.Walk.{Walk}
+use Rattle.tdb_walk.proofs.walk.Walk.step.Goals.{in-Done, in_default}
+use Rattle.tdb_walk.proofs.walk.Walk.step.Goals as goal
 
 pub returns-clause-made : goal.returns-clause-made
 returns-clause-made g c told small hands A knows =

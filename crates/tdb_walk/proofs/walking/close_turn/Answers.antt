@@ -1,10 +1,10 @@
 -- The opener's entry is that of the cursor that it has left.
 use Rattle.std.proofs.Common.{◌-◌, set, sym, ◌∙◌, ap}
 use Rattle.std.proofs.lemmas.List.{set-set}
-use Rattle.tdb_cursors.specs.declared.walk.Walk.{Walk}
-use Rattle.tdb_cursors.specs.Spots.{spot_number}
-use Rattle.tdb_cursors.proofs.walking.close_turn.Goals.{in-Done, in_default}
-use Rattle.tdb_cursors.proofs.walking.close_turn.Goals as goal
+use Rattle.tdb_walk.specs.declared.walk.Walk.{Walk}
+use Rattle.tdb_walk.specs.Spots.{spot_number}
+use Rattle.tdb_walk.proofs.walking.close_turn.Goals.{in-Done, in_default}
+use Rattle.tdb_walk.proofs.walking.close_turn.Goals as goal
 
 pub returns-clause-spots : goal.returns-clause-spots
 returns-clause-spots g c =
