@@ -1,7 +1,7 @@
 // A small file in memory, and a transaction that changes it.
 ghost use Rattle.std.specs.Prelude.{◌≡◌, IsTrue, IfSome};
 ghost use Rattle.tdb_disk.specs.MemDisk.{memory_size};
-ghost use Rattle.tdb_commit.specs.Prepares.{MayPlan};
+ghost use Rattle.tdb_txn_turns.specs.Prepares.{MayPlan};
 
 use small_file::{HEADER, RECORD};
 use std::alloc::{AllocError, Global};

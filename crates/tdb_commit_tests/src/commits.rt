@@ -1,12 +1,12 @@
 // Commits over a small file in memory, turn by turn: the locks, the syncs and the length after each.
 ghost use Rattle.std.specs.Prelude.{IfSome};
 ghost use Rattle.tdb_disk.specs.MemDisk.{memory_size};
-ghost use Rattle.tdb_commit.specs.Committings.{CommitFits};
+ghost use Rattle.tdb_txn_turns.specs.Committings.{CommitFits};
 
 use crate::changes::{LIMIT, changed, file, start_locks};
 use crate::kinds::kinds;
 use std::alloc::Global;
-use tdb_commit::{CommitTurn, Committing};
+use tdb_txn_turns::{CommitTurn, Committing};
 use tdb_disk::MemDisk;
 use tdb_locks::{Kind, Len, Locks};
 use tdb_space::Io;

@@ -1,4 +1,4 @@
-//! Tests of the turns that begin and end transactions, over the public calls of `tdb_commit`.
+//! Tests of the turns that begin and end transactions, over the public calls of `tdb_txn_turns`.
 #![tactic(auto)]
 
 #[cfg(test)]

@@ -2,13 +2,13 @@
 ghost use Rattle.std.specs.Prelude.{◌≡◌, IfSome};
 ghost use Rattle.tdb_disk.specs.MemDisk.{memory_size};
 ghost use Rattle.tdb_txn.specs.CommitStates.{prepared_plan, plan_length};
-ghost use Rattle.tdb_commit.specs.Finishes.{FinishFits};
-ghost use Rattle.tdb_commit.specs.Prepares.{MayPlan, StageFits};
+ghost use Rattle.tdb_txn_turns.specs.Finishes.{FinishFits};
+ghost use Rattle.tdb_txn_turns.specs.Prepares.{MayPlan, StageFits};
 
 use crate::changes::{LIMIT, changed, file, start_locks};
 use crate::kinds::kinds;
 use std::alloc::Global;
-use tdb_commit::{FinishTurn, Finishing, PrepareTurn, Preparing, undo_prepared};
+use tdb_txn_turns::{FinishTurn, Finishing, PrepareTurn, Preparing, undo_prepared};
 use tdb_disk::MemDisk;
 use tdb_locks::Locks;
 use tdb_space::Io;

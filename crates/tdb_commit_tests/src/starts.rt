@@ -3,7 +3,7 @@
 use crate::kinds::kinds;
 use small_file::HEADER;
 use std::alloc::{AllocError, Global};
-use tdb_commit::{StartTurn, Starting};
+use tdb_txn_turns::{StartTurn, Starting};
 use tdb_disk::{FuseDisk, MemDisk};
 use tdb_locks::{Kind, Len, LockRefusal, Locks};
 use tdb_words::{HashKind, Order, header_bytes};

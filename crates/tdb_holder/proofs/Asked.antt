@@ -12,7 +12,7 @@ use Rattle.tdb_law.specs.Openers.{Own, all_count, count_at}
 use Rattle.tdb_law.specs.Refusals.{Refusal, refusal, says, held_count, chain_byte, first_that_applies, has_chains, has_cursor}
 use Rattle.tdb_law.specs.Refusals.Refusal.{OnlyReads, IsPrepared, LocksStand, NothingLocked, NeverNests, NoneOpen, IsDoomed}
 use Rattle.tdb_steps.specs.declared.flag.Flag.TheVariants as Flags
-use Rattle.tdb_inside.specs.Counted.{all_lock}
+use Rattle.tdb_txn_turns.specs.InsideTxn.Counted.{all_lock}
 use Rattle.tdb_commands.specs.InLaw.{law_command, law_reply}
 use Rattle.tdb_commands.specs.declared.command.Command.{Command}
 use Rattle.tdb_commands.specs.declared.command.Command.TheVariants as Given

@@ -11,12 +11,12 @@ use Rattle.tdb_law.specs.Ends.{IsRow}
 use Rattle.tdb_law.specs.Held.{locked}
 use Rattle.tdb_law.specs.Rows.{commits_in, gate_shut, plan_look, plans_in}
 use Rattle.tdb_steps.specs.Holdings.{table_of}
-use Rattle.tdb_commit.specs.Committings.{commit_steps, CanEnd, unchanged, planned, shut}
-use Rattle.tdb_commit.specs.Laws.{HasChange, commits}
-use Rattle.tdb_commit.specs.Prepares.{start_held}
-use Rattle.tdb_commit.specs.declared.committing.Committing.{Committing}
-use Rattle.tdb_commit.specs.declared.committing.CommitTurn.TheVariants.{Step as Steps, Blocked, Full, Memory, Done}
-use Rattle.tdb_commit.proofs.Lawful.{commit_holds, commit_row_law}
+use Rattle.tdb_txn_turns.specs.Committings.{commit_steps, CanEnd, unchanged, planned, shut}
+use Rattle.tdb_txn_turns.specs.Laws.{HasChange, commits}
+use Rattle.tdb_txn_turns.specs.Prepares.{start_held}
+use Rattle.tdb_txn_turns.specs.declared.committing.Committing.{Committing}
+use Rattle.tdb_txn_turns.specs.declared.committing.CommitTurn.TheVariants.{Step as Steps, Blocked, Full, Memory, Done}
+use Rattle.tdb_txn_turns.proofs.Lawful.{commit_holds, commit_row_law}
 use Rattle.tdb_holder.specs.Ends.{CommitIsOwn, task_of}
 use Rattle.tdb_holder.proofs.GroupCounts.{step_settles}
 use Rattle.tdb_holder.proofs.GroupEffects.{commit_step, commit_counts, commit_starves, commit_full, commit_done, done_counts}

@@ -15,16 +15,16 @@ use Rattle.tdb_law.specs.Effects.{task_left}
 use Rattle.tdb_law.specs.Held.{holding, locked}
 use Rattle.tdb_law.specs.Images.{image_map}
 use Rattle.tdb_law.specs.Rows.{commits_in, plans_in}
-use Rattle.tdb_commit.specs.Holding.{held_after, HoldsRow, RowTurned}
-use Rattle.tdb_commit.specs.Prepares.{start_held}
-use Rattle.tdb_commit.specs.Committings.{commit_row, commit_steps, commit_turn, CommitLeads, CommitMade, IsNumbered, KnowsCommit, MayGoOn, CanEnd, unchanged, planned, shut}
-use Rattle.tdb_commit.specs.Laws.{HasChange, commits}
-use Rattle.tdb_commit.proofs.Lawful.{commit_holds}
-use Rattle.tdb_commit.specs.declared.committing.Committing.{Committing}
-use Rattle.tdb_commit.specs.declared.committing.Committing.TheVariants.{Preparing, Finishing}
-use Rattle.tdb_commit.specs.declared.committing.CommitTurn.{CommitTurn}
-use Rattle.tdb_commit.specs.declared.committing.CommitTurn.TheVariants.{Step, Blocked, Full, Memory, Done}
-use Rattle.tdb_commit.specs.declared.finishing.Finishing.TheVariants.{Open, Applied, Settled, Shut}
+use Rattle.tdb_txn_turns.specs.Holding.{held_after, HoldsRow, RowTurned}
+use Rattle.tdb_txn_turns.specs.Prepares.{start_held}
+use Rattle.tdb_txn_turns.specs.Committings.{commit_row, commit_steps, commit_turn, CommitLeads, CommitMade, IsNumbered, KnowsCommit, MayGoOn, CanEnd, unchanged, planned, shut}
+use Rattle.tdb_txn_turns.specs.Laws.{HasChange, commits}
+use Rattle.tdb_txn_turns.proofs.Lawful.{commit_holds}
+use Rattle.tdb_txn_turns.specs.declared.committing.Committing.{Committing}
+use Rattle.tdb_txn_turns.specs.declared.committing.Committing.TheVariants.{Preparing, Finishing}
+use Rattle.tdb_txn_turns.specs.declared.committing.CommitTurn.{CommitTurn}
+use Rattle.tdb_txn_turns.specs.declared.committing.CommitTurn.TheVariants.{Step, Blocked, Full, Memory, Done}
+use Rattle.tdb_txn_turns.specs.declared.finishing.Finishing.TheVariants.{Open, Applied, Settled, Shut}
 use Rattle.tdb_steps.specs.Turns.{number_of}
 use Rattle.tdb_commands.specs.InLaw.{law_turn}
 use Rattle.tdb_law.specs.OneAside.Sides.{Past, Side}

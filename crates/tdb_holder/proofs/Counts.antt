@@ -6,7 +6,7 @@ use Rattle.std.specs.FinMap.{get, values}
 use Rattle.tdb_locks.specs.HeldLocks.{HeldLocks, AreCounts, count_of, count_of_all, total_of}
 use Rattle.tdb_locks.specs.declared.kind.Kind.{Kind}
 use Rattle.tdb_law.specs.Openers.{Own, all_count, explicit_locks}
-use Rattle.tdb_inside.specs.Counted.{all_lock, IsCounted}
+use Rattle.tdb_txn_turns.specs.InsideTxn.Counted.{all_lock, IsCounted}
 use Rattle.tdb_commands.specs.Counts.{counts_of}
 use Rattle.tdb_commands.proofs.Counts.{alike_counts, chain_or_none, got, no_chain, none_of, some_if, some_of, sum_counted}
 

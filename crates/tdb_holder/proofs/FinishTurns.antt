@@ -11,9 +11,9 @@ use Rattle.tdb_law.specs.Commands.Turn.{Step, Ends}
 use Rattle.tdb_law.specs.Openers.{Txn, ended, nowhere}
 use Rattle.tdb_law.specs.Ends.{IsRow, may_end}
 use Rattle.tdb_law.specs.Rows.{commits_in, gate_shut, plan_look, plans_in, was_planned}
-use Rattle.tdb_commit.specs.Finishes.{finish_steps}
-use Rattle.tdb_commit.specs.declared.finishing.FinishTurn.TheVariants.{Step as Steps, Done}
-use Rattle.tdb_commit.proofs.Lawful.{finish_holds, finish_row_law, planned_before}
+use Rattle.tdb_txn_turns.specs.Finishes.{finish_steps}
+use Rattle.tdb_txn_turns.specs.declared.finishing.FinishTurn.TheVariants.{Step as Steps, Done}
+use Rattle.tdb_txn_turns.proofs.Lawful.{finish_holds, finish_row_law, planned_before}
 use Rattle.tdb_holder.specs.Ends.{FinishIsOwn, NothingIsOwn, task_of}
 use Rattle.tdb_holder.proofs.GroupCounts.{step_settles}
 use Rattle.tdb_holder.proofs.GroupEffects.{commit_step, commit_counts, commit_done, done_counts, ShutsAt}

@@ -15,13 +15,13 @@ use Rattle.tdb_law.specs.Effects.{task_left}
 use Rattle.tdb_law.specs.Held.{holding, locked_next, txn_held}
 use Rattle.tdb_law.specs.Images.{image_map}
 use Rattle.tdb_law.specs.Rows.{Lock, commits_in}
-use Rattle.tdb_commit.specs.Holding.{HoldsRow, RowTurned}
-use Rattle.tdb_commit.specs.Finishes.{finish_steps, finish_turn, FinishLeads, FinishMade, KnowsFinish}
-use Rattle.tdb_commit.proofs.Lawful.{finish_holds}
-use Rattle.tdb_commit.specs.declared.finishing.Finishing.{Finishing}
-use Rattle.tdb_commit.specs.declared.finishing.Finishing.TheVariants.{Open, Applied, Settled, Shut}
-use Rattle.tdb_commit.specs.declared.finishing.FinishTurn.{FinishTurn}
-use Rattle.tdb_commit.specs.declared.finishing.FinishTurn.TheVariants.{Step, Done}
+use Rattle.tdb_txn_turns.specs.Holding.{HoldsRow, RowTurned}
+use Rattle.tdb_txn_turns.specs.Finishes.{finish_steps, finish_turn, FinishLeads, FinishMade, KnowsFinish}
+use Rattle.tdb_txn_turns.proofs.Lawful.{finish_holds}
+use Rattle.tdb_txn_turns.specs.declared.finishing.Finishing.{Finishing}
+use Rattle.tdb_txn_turns.specs.declared.finishing.Finishing.TheVariants.{Open, Applied, Settled, Shut}
+use Rattle.tdb_txn_turns.specs.declared.finishing.FinishTurn.{FinishTurn}
+use Rattle.tdb_txn_turns.specs.declared.finishing.FinishTurn.TheVariants.{Step, Done}
 use Rattle.tdb_steps.specs.Turns.{number_of}
 use Rattle.tdb_commands.specs.InLaw.{law_turn}
 use Rattle.tdb_law.specs.OneAside.Sides.{Past, Side}

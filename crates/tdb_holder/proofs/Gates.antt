@@ -19,16 +19,16 @@ use Rattle.tdb_law.specs.Refusals.{Refusal, refusal}
 use Rattle.tdb_law.specs.Rows.{commits_in, plans_in, was_planned}
 use Rattle.tdb_law.proofs.Tests.{and_both}
 use Rattle.tdb_law.specs.OneAside.Sides.{Past, Side}
-use Rattle.tdb_commit.specs.Commits.{RestsAt}
-use Rattle.tdb_commit.specs.Finishes.{finish_steps, KnowsFinish}
-use Rattle.tdb_commit.specs.Prepares.{stage_steps, KnowsStage}
-use Rattle.tdb_commit.specs.declared.committing.Committing.TheVariants.{Preparing, Finishing}
-use Rattle.tdb_commit.specs.declared.finishing.Finishing as Finish
-use Rattle.tdb_commit.specs.declared.finishing.Finishing.TheVariants.{Open, Applied, Settled, Shut}
-use Rattle.tdb_commit.specs.declared.preparing.PrepareStage.{PrepareStage}
-use Rattle.tdb_commit.specs.declared.preparing.PrepareStage.TheVariants.{Unchanged, Begun, Records, Locked, Planned, Filled}
-use Rattle.tdb_commit.specs.declared.starting.Starting.TheVariants as Starts
-use Rattle.tdb_commit.proofs.Carried.{ready_rests}
+use Rattle.tdb_txn_turns.specs.Commits.{RestsAt}
+use Rattle.tdb_txn_turns.specs.Finishes.{finish_steps, KnowsFinish}
+use Rattle.tdb_txn_turns.specs.Prepares.{stage_steps, KnowsStage}
+use Rattle.tdb_txn_turns.specs.declared.committing.Committing.TheVariants.{Preparing, Finishing}
+use Rattle.tdb_txn_turns.specs.declared.finishing.Finishing as Finish
+use Rattle.tdb_txn_turns.specs.declared.finishing.Finishing.TheVariants.{Open, Applied, Settled, Shut}
+use Rattle.tdb_txn_turns.specs.declared.preparing.PrepareStage.{PrepareStage}
+use Rattle.tdb_txn_turns.specs.declared.preparing.PrepareStage.TheVariants.{Unchanged, Begun, Records, Locked, Planned, Filled}
+use Rattle.tdb_txn_turns.specs.declared.starting.Starting.TheVariants as Starts
+use Rattle.tdb_txn_turns.proofs.Carried.{ready_rests}
 use Rattle.tdb_commands.specs.InLaw.{law_command}
 use Rattle.tdb_commands.specs.declared.command.Command.{Command}
 use Rattle.tdb_commands.specs.declared.options.Options.{Options}

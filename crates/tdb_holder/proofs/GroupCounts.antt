@@ -12,7 +12,7 @@ use Rattle.tdb_law.specs.Refusals.{Refusal, refusal}
 use Rattle.tdb_law.specs.Counting.{brings_by, image_number_by, image_number_after, number_by, number_after, settled_after, settles_by, unsettles_by}
 use Rattle.tdb_law.specs.Rows.{is_changed}
 use Rattle.tdb_law.specs.Turned.{number_next}
-use Rattle.tdb_inside.proofs.Inside.{same_either}
+use Rattle.tdb_txn_turns.proofs.InsideTxn.Inside.{same_either}
 
 -- a command on the transaction may step without unsettling anything
 pub step_settles : (f : Form) (g : GroupCommand) (x : Own) (n : ℕ) (settled : Bool) → settled_after f (OnGroup g) x n Step settled ≡ settled

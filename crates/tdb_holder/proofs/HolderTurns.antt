@@ -27,21 +27,21 @@ use Rattle.tdb_steps.specs.Turns.{number_of}
 use Rattle.tdb_txn.specs.Txn.{txn_depth, txn_doomed}
 use Rattle.tdb_law.specs.OneAside.Own.{side_wants, OwnTurned}
 use Rattle.tdb_law.specs.OneAside.Sides.{Past, Side}
-use Rattle.tdb_commit.specs.Committings.{commit_row, commit_steps, IsNumbered, MayGoOn}
-use Rattle.tdb_commit.specs.Holding.{RowTurned}
-use Rattle.tdb_commit.specs.Laws.{HasChange, HasPlan}
-use Rattle.tdb_commit.specs.Prepares.{begun_with, prepare_row, prepare_steps, stage_steps, start_held, IsPlanning}
-use Rattle.tdb_commit.specs.Starts.{start_steps}
-use Rattle.tdb_commit.specs.declared.committing.Committing.{Committing}
-use Rattle.tdb_commit.specs.declared.committing.Committing.TheVariants as Commits
-use Rattle.tdb_commit.specs.declared.committing.CommitTurn.TheVariants as CommitTurn
-use Rattle.tdb_commit.specs.declared.preparing.Preparing.{Preparing}
-use Rattle.tdb_commit.specs.declared.preparing.PrepareStage.{PrepareStage}
-use Rattle.tdb_commit.specs.declared.preparing.PrepareStage.TheVariants.{Unchanged, Begun, Records, Locked, Planned, Filled}
-use Rattle.tdb_commit.specs.declared.preparing.PrepareTurn.TheVariants as PrepareTurn
-use Rattle.tdb_commit.specs.declared.starting.Starting.{Starting}
-use Rattle.tdb_commit.specs.declared.starting.Starting.TheVariants as Starts
-use Rattle.tdb_commit.specs.declared.starting.StartTurn.TheVariants as StartTurn
+use Rattle.tdb_txn_turns.specs.Committings.{commit_row, commit_steps, IsNumbered, MayGoOn}
+use Rattle.tdb_txn_turns.specs.Holding.{RowTurned}
+use Rattle.tdb_txn_turns.specs.Laws.{HasChange, HasPlan}
+use Rattle.tdb_txn_turns.specs.Prepares.{begun_with, prepare_row, prepare_steps, stage_steps, start_held, IsPlanning}
+use Rattle.tdb_txn_turns.specs.Starts.{start_steps}
+use Rattle.tdb_txn_turns.specs.declared.committing.Committing.{Committing}
+use Rattle.tdb_txn_turns.specs.declared.committing.Committing.TheVariants as Commits
+use Rattle.tdb_txn_turns.specs.declared.committing.CommitTurn.TheVariants as CommitTurn
+use Rattle.tdb_txn_turns.specs.declared.preparing.Preparing.{Preparing}
+use Rattle.tdb_txn_turns.specs.declared.preparing.PrepareStage.{PrepareStage}
+use Rattle.tdb_txn_turns.specs.declared.preparing.PrepareStage.TheVariants.{Unchanged, Begun, Records, Locked, Planned, Filled}
+use Rattle.tdb_txn_turns.specs.declared.preparing.PrepareTurn.TheVariants as PrepareTurn
+use Rattle.tdb_txn_turns.specs.declared.starting.Starting.{Starting}
+use Rattle.tdb_txn_turns.specs.declared.starting.Starting.TheVariants as Starts
+use Rattle.tdb_txn_turns.specs.declared.starting.StartTurn.TheVariants as StartTurn
 use Rattle.tdb_commands.specs.InLaw.{law_command, law_turn}
 use Rattle.tdb_commands.specs.declared.command.Command.{Command}
 use Rattle.tdb_commands.specs.declared.command.Command.TheVariants as Given

@@ -17,9 +17,9 @@ use Rattle.tdb_law.specs.Effects.Effect.{effect_answers}
 use Rattle.tdb_law.specs.Walks.{Lost, Shift}
 use Rattle.tdb_law.specs.Walks.Walked.{walk_ends}
 use Rattle.tdb_law.specs.Held.{holding, kept, locked, txn_held}
-use Rattle.tdb_inside.specs.Laws.{IsEnd}
-use Rattle.tdb_inside.specs.Turns.{ReadsAll}
-use Rattle.tdb_inside.proofs.Inside.{left_so, nothing_held}
+use Rattle.tdb_txn_turns.specs.InsideTxn.Laws.{IsEnd}
+use Rattle.tdb_txn_turns.specs.InsideTxn.Turns.{ReadsAll}
+use Rattle.tdb_txn_turns.proofs.InsideTxn.Inside.{left_so, nothing_held}
 use Rattle.tdb_law.specs.OneAside.Sides.{Side}
 use Rattle.tdb_holder.specs.Ends.{CancelEnds, RefusalEnds, EndIsOwn, CloseIsOwn, InsideIsOwn, WalkShifts, GoesOnHolding, task_of}
 use Rattle.tdb_holder.proofs.GroupCounts.{end_settles, image_kept}

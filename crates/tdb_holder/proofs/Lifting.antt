@@ -15,7 +15,7 @@ use Rattle.tdb_law.specs.Effects.{Effect, IsFree, IsFirstConflict, Finds, SpotLe
 use Rattle.tdb_law.specs.Effects.Stays.{stands_nowhere}
 use Rattle.tdb_law.specs.Turned.{Turned, number_next, want}
 use Rattle.tdb_law.specs.Walks.{Lost, Shift}
-use Rattle.tdb_inside.proofs.Inside.{same_either}
+use Rattle.tdb_txn_turns.proofs.InsideTxn.Inside.{same_either}
 use Rattle.tdb_law.specs.OneAside.Sides.{Past, Side, alone, beside, but_at, everywhere}
 use Rattle.tdb_law.specs.OneAside.Own.{OwnTurned, side_wants}
 use Rattle.tdb_holder.specs.Lifts.{Shows, ShownTurns, OthersKeep, IsBack, BesideTurns, BesideEnds, BesideBegins}

@@ -25,16 +25,16 @@ use Rattle.tdb_steps.specs.declared.flag.Flag.{Flag}
 use Rattle.tdb_steps.specs.Turns.{number_of}
 use Rattle.tdb_txn.specs.Txn.{txn_depth, txn_doomed}
 use Rattle.tdb_txn.specs.declared.txn.Txn.{Txn as Pages}
-use Rattle.tdb_commit.specs.Commits.{RestsAt}
-use Rattle.tdb_commit.specs.Laws.{HasPlan}
-use Rattle.tdb_commit.specs.Prepares.{begun_with, stage_steps, KnowsStage, MayPlan, StageFits}
-use Rattle.tdb_commit.proofs.Carried.{ready_rests, rests_stops}
-use Rattle.tdb_commit.specs.declared.committing.Committing.TheVariants.{Preparing as PreparingFirst}
-use Rattle.tdb_commit.specs.declared.preparing.Preparing.{Preparing}
-use Rattle.tdb_commit.specs.declared.preparing.PrepareStage.TheVariants.{Unchanged, Begun}
-use Rattle.tdb_inside.specs.OwnTxns.{image_of}
-use Rattle.tdb_inside.specs.Laws.{IsEnd}
-use Rattle.tdb_inside.specs.Turns.{EndsInside}
+use Rattle.tdb_txn_turns.specs.Commits.{RestsAt}
+use Rattle.tdb_txn_turns.specs.Laws.{HasPlan}
+use Rattle.tdb_txn_turns.specs.Prepares.{begun_with, stage_steps, KnowsStage, MayPlan, StageFits}
+use Rattle.tdb_txn_turns.proofs.Carried.{ready_rests, rests_stops}
+use Rattle.tdb_txn_turns.specs.declared.committing.Committing.TheVariants.{Preparing as PreparingFirst}
+use Rattle.tdb_txn_turns.specs.declared.preparing.Preparing.{Preparing}
+use Rattle.tdb_txn_turns.specs.declared.preparing.PrepareStage.TheVariants.{Unchanged, Begun}
+use Rattle.tdb_txn_turns.specs.InsideTxn.OwnTxns.{image_of}
+use Rattle.tdb_txn_turns.specs.InsideTxn.Laws.{IsEnd}
+use Rattle.tdb_txn_turns.specs.InsideTxn.Turns.{EndsInside}
 use Rattle.tdb_commands.specs.InLaw.{law_command, law_turn}
 use Rattle.tdb_commands.specs.declared.command.Command.{Command as Given}
 use Rattle.tdb_commands.specs.declared.command.Command.TheVariants as Names

@@ -24,12 +24,12 @@ use Rattle.tdb_steps.specs.Turns.{number_of}
 use Rattle.tdb_txn.specs.Committing.{MayCommit}
 use Rattle.tdb_txn.specs.Pages.{byte_over, length_filled}
 use Rattle.tdb_txn.specs.Txn.{txn_pages, txn_size}
-use Rattle.tdb_commit.specs.Prepares.{IsReady}
-use Rattle.tdb_inside.specs.OwnTxns.{form_of, image_of}
-use Rattle.tdb_inside.specs.Turns.{TurnsInside}
-use Rattle.tdb_inside.specs.Walks.{mark_in, WalkedInside}
-use Rattle.tdb_inside.proofs.Inside.{same_either}
-use Rattle.tdb_inside.proofs.Lifted.{walks_are_lawful}
+use Rattle.tdb_txn_turns.specs.Prepares.{IsReady}
+use Rattle.tdb_txn_turns.specs.InsideTxn.OwnTxns.{form_of, image_of}
+use Rattle.tdb_txn_turns.specs.InsideTxn.Turns.{TurnsInside}
+use Rattle.tdb_txn_turns.specs.InsideTxn.Walks.{mark_in, WalkedInside}
+use Rattle.tdb_txn_turns.proofs.InsideTxn.Inside.{same_either}
+use Rattle.tdb_txn_turns.proofs.InsideTxn.Lifted.{walks_are_lawful}
 use Rattle.tdb_commands.specs.InLaw.{law_command, law_reply}
 use Rattle.tdb_commands.specs.declared.command.Command.{Command as Given}
 use Rattle.tdb_holder.specs.declared.open_txn.OpenTxn.{OpenTxn}

@@ -22,17 +22,17 @@ use Rattle.tdb_steps.specs.PlainCommands.{reply_of}
 use Rattle.tdb_steps.specs.Turns.{number_of}
 use Rattle.tdb_txn.specs.Pages.{contents}
 use Rattle.tdb_txn.specs.Txn.{txn_depth, txn_doomed, txn_pages, SameView}
-use Rattle.tdb_commit.specs.Laws.{Ends, commits, prepares}
-use Rattle.tdb_inside.specs.declared.own_txn.OwnTxn.{OwnTxn}
-use Rattle.tdb_inside.specs.Counted.{IsCounted, IsInside, CountsInside, own_counted}
-use Rattle.tdb_inside.specs.OwnTxns.{law_txn, image_of, form_of, own_inside}
-use Rattle.tdb_inside.specs.Laws.{IsEnd}
-use Rattle.tdb_inside.specs.Done.MapDone.{starves}
-use Rattle.tdb_inside.specs.Turns.{TurnsInside}
-use Rattle.tdb_inside.specs.Walks.{mark_in, with_cursor, RestsIn, RestsInside, WalkedInside, WalksInside}
-use Rattle.tdb_inside.specs.Walks.WalkedInside.{shifts}
-use Rattle.tdb_inside.proofs.Turned.{run_inside}
-use Rattle.tdb_inside.proofs.Nested.{prepares_inside, refuses_inside}
+use Rattle.tdb_txn_turns.specs.Laws.{Ends, commits, prepares}
+use Rattle.tdb_txn_turns.specs.declared.inside_txn.own_txn.OwnTxn.{OwnTxn}
+use Rattle.tdb_txn_turns.specs.InsideTxn.Counted.{IsCounted, IsInside, CountsInside, own_counted}
+use Rattle.tdb_txn_turns.specs.InsideTxn.OwnTxns.{law_txn, image_of, form_of, own_inside}
+use Rattle.tdb_txn_turns.specs.InsideTxn.Laws.{IsEnd}
+use Rattle.tdb_txn_turns.specs.InsideTxn.Done.MapDone.{starves}
+use Rattle.tdb_txn_turns.specs.InsideTxn.Turns.{TurnsInside}
+use Rattle.tdb_txn_turns.specs.InsideTxn.Walks.{mark_in, with_cursor, RestsIn, RestsInside, WalkedInside, WalksInside}
+use Rattle.tdb_txn_turns.specs.InsideTxn.Walks.WalkedInside.{shifts}
+use Rattle.tdb_txn_turns.proofs.InsideTxn.Turned.{run_inside}
+use Rattle.tdb_txn_turns.proofs.InsideTxn.Nested.{prepares_inside, refuses_inside}
 use Rattle.tdb_commands.specs.InLaw.{law_command, law_reply}
 use Rattle.tdb_commands.specs.declared.command.Command.{Command as Given}
 use Rattle.tdb_commands.specs.declared.command.Command.TheVariants as Names

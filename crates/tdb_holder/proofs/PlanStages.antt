@@ -5,13 +5,13 @@ use Rattle.tdb_space.specs.Form.{Form, form_of}
 use Rattle.tdb_locks.specs.declared.kind.Kind.TheVariants.{Write}
 use Rattle.tdb_law.specs.Openers.{Txn}
 use Rattle.tdb_law.specs.Rows.{plans_in}
-use Rattle.tdb_commit.specs.Committings.{commit_steps, MayGoOn}
-use Rattle.tdb_commit.specs.Laws.{HasPlan}
-use Rattle.tdb_commit.specs.Prepares.{row_of, stage_steps, IsPlanning, KnowsStage}
-use Rattle.tdb_commit.specs.declared.committing.Committing.{Committing}
-use Rattle.tdb_commit.specs.declared.committing.Committing.TheVariants.{Preparing, Finishing}
-use Rattle.tdb_commit.specs.declared.preparing.PrepareStage.{PrepareStage}
-use Rattle.tdb_commit.specs.declared.preparing.PrepareStage.TheVariants.{Unchanged, Begun, Records, Locked, Planned, Filled}
+use Rattle.tdb_txn_turns.specs.Committings.{commit_steps, MayGoOn}
+use Rattle.tdb_txn_turns.specs.Laws.{HasPlan}
+use Rattle.tdb_txn_turns.specs.Prepares.{row_of, stage_steps, IsPlanning, KnowsStage}
+use Rattle.tdb_txn_turns.specs.declared.committing.Committing.{Committing}
+use Rattle.tdb_txn_turns.specs.declared.committing.Committing.TheVariants.{Preparing, Finishing}
+use Rattle.tdb_txn_turns.specs.declared.preparing.PrepareStage.{PrepareStage}
+use Rattle.tdb_txn_turns.specs.declared.preparing.PrepareStage.TheVariants.{Unchanged, Begun, Records, Locked, Planned, Filled}
 use Rattle.tdb_holder.specs.Stages.{commit_records, plan_records}
 use Rattle.tdb_holder.specs.Turned.{RestsLike}
 use Rattle.tdb_holder.proofs.Resting.{ready_like}

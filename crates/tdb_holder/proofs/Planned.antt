@@ -4,13 +4,13 @@ use Rattle.std.specs.Prelude.{if◌then◌else◌}
 use Rattle.std.proofs.lemmas.Bool.Decides.{nat_tests}
 use Rattle.tdb_law.specs.Openers.{Txn}
 use Rattle.tdb_law.specs.Rows.{commit_locks, commits_in, gate_shut, plan_look, plans_in}
-use Rattle.tdb_commit.specs.Committings.{commit_row, IsNumbered, MayGoOn}
-use Rattle.tdb_commit.specs.Laws.{HasChange, HasPlan}
-use Rattle.tdb_commit.specs.Prepares.{row_of, IsPlanning}
-use Rattle.tdb_commit.specs.declared.committing.Committing.{Committing}
-use Rattle.tdb_commit.specs.declared.committing.Committing.TheVariants.{Preparing, Finishing}
-use Rattle.tdb_commit.specs.declared.preparing.PrepareStage.{PrepareStage}
-use Rattle.tdb_commit.specs.declared.preparing.PrepareStage.TheVariants.{Unchanged, Begun, Records, Locked, Planned, Filled}
+use Rattle.tdb_txn_turns.specs.Committings.{commit_row, IsNumbered, MayGoOn}
+use Rattle.tdb_txn_turns.specs.Laws.{HasChange, HasPlan}
+use Rattle.tdb_txn_turns.specs.Prepares.{row_of, IsPlanning}
+use Rattle.tdb_txn_turns.specs.declared.committing.Committing.{Committing}
+use Rattle.tdb_txn_turns.specs.declared.committing.Committing.TheVariants.{Preparing, Finishing}
+use Rattle.tdb_txn_turns.specs.declared.preparing.PrepareStage.{PrepareStage}
+use Rattle.tdb_txn_turns.specs.declared.preparing.PrepareStage.TheVariants.{Unchanged, Begun, Records, Locked, Planned, Filled}
 use Rattle.tdb_holder.proofs.GroupEffects.{ShutsAt}
 
 -- it has a change to plan

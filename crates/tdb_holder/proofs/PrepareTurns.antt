@@ -12,14 +12,14 @@ use Rattle.tdb_law.specs.Openers.{Map, Own, Txn, nowhere}
 use Rattle.tdb_law.specs.Held.{locked}
 use Rattle.tdb_law.specs.Rows.{commit_locks, plans_in}
 use Rattle.tdb_steps.specs.Holdings.{table_of}
-use Rattle.tdb_commit.specs.Prepares.{prepare_row, prepare_steps, row_of, start_held, stage_steps}
-use Rattle.tdb_commit.specs.Laws.{HasPlan, prepares}
-use Rattle.tdb_commit.specs.declared.preparing.Preparing.{Preparing}
-use Rattle.tdb_commit.specs.declared.preparing.PrepareStage.{PrepareStage}
-use Rattle.tdb_commit.specs.declared.preparing.PrepareStage.TheVariants.{Unchanged, Begun, Records, Locked, Planned, Filled}
-use Rattle.tdb_commit.specs.declared.preparing.PrepareTurn.TheVariants.{Step as Steps, Blocked, Nothing, Full, Memory, Done}
-use Rattle.tdb_commit.proofs.Lawful.{commit_holds, prepare_keeps, prepare_row_law}
-use Rattle.tdb_commit.proofs.CommitTurns.{late_planning}
+use Rattle.tdb_txn_turns.specs.Prepares.{prepare_row, prepare_steps, row_of, start_held, stage_steps}
+use Rattle.tdb_txn_turns.specs.Laws.{HasPlan, prepares}
+use Rattle.tdb_txn_turns.specs.declared.preparing.Preparing.{Preparing}
+use Rattle.tdb_txn_turns.specs.declared.preparing.PrepareStage.{PrepareStage}
+use Rattle.tdb_txn_turns.specs.declared.preparing.PrepareStage.TheVariants.{Unchanged, Begun, Records, Locked, Planned, Filled}
+use Rattle.tdb_txn_turns.specs.declared.preparing.PrepareTurn.TheVariants.{Step as Steps, Blocked, Nothing, Full, Memory, Done}
+use Rattle.tdb_txn_turns.proofs.Lawful.{commit_holds, prepare_keeps, prepare_row_law}
+use Rattle.tdb_txn_turns.proofs.CommitTurns.{late_planning}
 use Rattle.tdb_law.specs.OneAside.Own.{OwnTurned}
 use Rattle.tdb_law.specs.OneAside.Sides.{Past, Side}
 use Rattle.tdb_holder.specs.Ends.{PrepareIsOwn, HoldsIn, IsOuter, MarkRests, TurnBegins, TurnLeaves, task_of}

@@ -11,7 +11,7 @@ use Rattle.tdb_law.specs.Openers.{Own, Txn}
 use Rattle.tdb_law.specs.Refusals.{Refusal, refusal, says}
 use Rattle.tdb_law.specs.Refusals.Refusal.{OnlyReads, IsPrepared}
 use Rattle.tdb_steps.specs.declared.flag.Flag.TheVariants as Flags
-use Rattle.tdb_inside.specs.Counted.{IsCounted}
+use Rattle.tdb_txn_turns.specs.InsideTxn.Counted.{IsCounted}
 use Rattle.tdb_commands.specs.InLaw.{law_command, law_reply, options_of}
 use Rattle.tdb_commands.specs.declared.command.Command.{Command}
 use Rattle.tdb_commands.specs.declared.command.Command.TheVariants as Given

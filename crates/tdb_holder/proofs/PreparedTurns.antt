@@ -27,15 +27,15 @@ use Rattle.tdb_txn.specs.Commit as State
 use Rattle.tdb_txn.specs.Commit.{opened, scheme_of}
 use Rattle.tdb_txn.specs.CommitStates.{prepared_plan}
 use Rattle.tdb_txn.proofs.StatesKept.{fills_of}
-use Rattle.tdb_commit.proofs.Carried.{carried_stops, rests_stops}
+use Rattle.tdb_txn_turns.proofs.Carried.{carried_stops, rests_stops}
 use Rattle.tdb_txn.specs.declared.states.Prepared.{Prepared}
-use Rattle.tdb_inside.specs.Laws.{IsEnd}
-use Rattle.tdb_inside.proofs.Nested.{refuses_inside}
+use Rattle.tdb_txn_turns.specs.InsideTxn.Laws.{IsEnd}
+use Rattle.tdb_txn_turns.proofs.InsideTxn.Nested.{refuses_inside}
 use Rattle.tdb_law.specs.OneAside.Own.{OwnTurned}
 use Rattle.tdb_law.specs.OneAside.Sides.{Past, Side}
-use Rattle.tdb_commit.specs.Commits.{RestsAt}
-use Rattle.tdb_commit.specs.Holding.{OthersHold}
-use Rattle.tdb_commit.specs.declared.finishing.Finishing.TheVariants.{Open}
+use Rattle.tdb_txn_turns.specs.Commits.{RestsAt}
+use Rattle.tdb_txn_turns.specs.Holding.{OthersHold}
+use Rattle.tdb_txn_turns.specs.declared.finishing.Finishing.TheVariants.{Open}
 use Rattle.tdb_commands.specs.InLaw.{law_command, law_reply}
 use Rattle.tdb_commands.specs.declared.command.Command.{Command}
 use Rattle.tdb_commands.specs.declared.command.Command.TheVariants as Given

@@ -28,17 +28,17 @@ use Rattle.tdb_txn.specs.Commit.{Brings, IsPrepared, opened, scheme_of}
 use Rattle.tdb_txn.specs.Planned.{IsPlannedOn}
 use Rattle.tdb_txn.specs.declared.planned.Plan.{Plan}
 use Rattle.tdb_txn.proofs.StatesKept.{fills_of}
-use Rattle.tdb_commit.specs.Commits.{Carries, OpensAs, RestsAt, StandsFor}
-use Rattle.tdb_commit.specs.Committings.{commit_steps, KnowsCommit}
-use Rattle.tdb_commit.specs.Finishes.{finish_steps, IsShut, KnowsFinish}
-use Rattle.tdb_commit.specs.Prepares.{stage_steps, KnowsStage}
-use Rattle.tdb_commit.specs.declared.committing.Committing.{Committing}
-use Rattle.tdb_commit.specs.declared.committing.Committing.TheVariants as Commits
-use Rattle.tdb_commit.specs.declared.finishing.Finishing.{Finishing}
-use Rattle.tdb_commit.specs.declared.finishing.Finishing.TheVariants as Finishes
-use Rattle.tdb_commit.specs.declared.preparing.PrepareStage.{PrepareStage}
-use Rattle.tdb_commit.specs.declared.preparing.PrepareStage.TheVariants as Prepares
-use Rattle.tdb_commit.proofs.Carried.{ready_rests}
+use Rattle.tdb_txn_turns.specs.Commits.{Carries, OpensAs, RestsAt, StandsFor}
+use Rattle.tdb_txn_turns.specs.Committings.{commit_steps, KnowsCommit}
+use Rattle.tdb_txn_turns.specs.Finishes.{finish_steps, IsShut, KnowsFinish}
+use Rattle.tdb_txn_turns.specs.Prepares.{stage_steps, KnowsStage}
+use Rattle.tdb_txn_turns.specs.declared.committing.Committing.{Committing}
+use Rattle.tdb_txn_turns.specs.declared.committing.Committing.TheVariants as Commits
+use Rattle.tdb_txn_turns.specs.declared.finishing.Finishing.{Finishing}
+use Rattle.tdb_txn_turns.specs.declared.finishing.Finishing.TheVariants as Finishes
+use Rattle.tdb_txn_turns.specs.declared.preparing.PrepareStage.{PrepareStage}
+use Rattle.tdb_txn_turns.specs.declared.preparing.PrepareStage.TheVariants as Prepares
+use Rattle.tdb_txn_turns.proofs.Carried.{ready_rests}
 use Rattle.tdb_holder.specs.Reads.{IsReadAs}
 
 -- images with the same map, at each key, are the same as maps

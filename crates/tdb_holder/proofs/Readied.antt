@@ -16,17 +16,17 @@ use Rattle.tdb_law.specs.Held.{holding, locked}
 use Rattle.tdb_law.specs.Images.{image_map}
 use Rattle.tdb_law.specs.Refusals.{refusal}
 use Rattle.tdb_law.specs.Rows.{commit_locks, plans_in}
-use Rattle.tdb_commit.specs.Commits.{RestsAt}
-use Rattle.tdb_commit.specs.Holding.{held_after, HoldsRow, RowTurned}
-use Rattle.tdb_commit.specs.Prepares.{prepare_row, prepare_steps, prepare_turn, start_held, stage_steps, KnowsStage, PrepareLeads, PrepareMade}
-use Rattle.tdb_commit.specs.Laws.{HasPlan, prepares}
-use Rattle.tdb_commit.proofs.Carried.{ready_rests}
-use Rattle.tdb_commit.proofs.Lawful.{commit_holds}
-use Rattle.tdb_commit.specs.declared.preparing.Preparing.{Preparing}
-use Rattle.tdb_commit.specs.declared.preparing.PrepareStage.{PrepareStage}
-use Rattle.tdb_commit.specs.declared.preparing.PrepareStage.TheVariants.{Unchanged, Begun, Records, Locked, Planned, Filled}
-use Rattle.tdb_commit.specs.declared.preparing.PrepareTurn.{PrepareTurn}
-use Rattle.tdb_commit.specs.declared.preparing.PrepareTurn.TheVariants as To
+use Rattle.tdb_txn_turns.specs.Commits.{RestsAt}
+use Rattle.tdb_txn_turns.specs.Holding.{held_after, HoldsRow, RowTurned}
+use Rattle.tdb_txn_turns.specs.Prepares.{prepare_row, prepare_steps, prepare_turn, start_held, stage_steps, KnowsStage, PrepareLeads, PrepareMade}
+use Rattle.tdb_txn_turns.specs.Laws.{HasPlan, prepares}
+use Rattle.tdb_txn_turns.proofs.Carried.{ready_rests}
+use Rattle.tdb_txn_turns.proofs.Lawful.{commit_holds}
+use Rattle.tdb_txn_turns.specs.declared.preparing.Preparing.{Preparing}
+use Rattle.tdb_txn_turns.specs.declared.preparing.PrepareStage.{PrepareStage}
+use Rattle.tdb_txn_turns.specs.declared.preparing.PrepareStage.TheVariants.{Unchanged, Begun, Records, Locked, Planned, Filled}
+use Rattle.tdb_txn_turns.specs.declared.preparing.PrepareTurn.{PrepareTurn}
+use Rattle.tdb_txn_turns.specs.declared.preparing.PrepareTurn.TheVariants as To
 use Rattle.tdb_steps.specs.Turns.{number_of}
 use Rattle.tdb_commands.specs.InLaw.{law_turn}
 use Rattle.tdb_law.specs.OneAside.Sides.{Past, Side}

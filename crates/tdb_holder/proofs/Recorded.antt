@@ -3,25 +3,25 @@ use Rattle.std.proofs.Common.{◌≡◌, ℕ, ◌+◌, ◌≤◌, Bool, Some, re
 use Rattle.tdb_space.specs.Form.{Form}
 use Rattle.tdb_locks.specs.declared.kind.Kind.{Kind}
 use Rattle.tdb_locks.specs.declared.kind.Kind.TheVariants.{Read, Write}
-use Rattle.tdb_commit.specs.Committings.{commit_steps, CommitLeads, MayGoOn}
-use Rattle.tdb_commit.specs.Prepares.{stage_steps, IsPlanning, PrepareLeads}
-use Rattle.tdb_commit.specs.Starts.{start_steps, StartLeads}
-use Rattle.tdb_commit.specs.declared.committing.Committing.{Committing}
-use Rattle.tdb_commit.specs.declared.committing.Committing.TheVariants.{Preparing, Finishing}
-use Rattle.tdb_commit.specs.declared.committing.CommitTurn.{CommitTurn}
-use Rattle.tdb_commit.specs.declared.committing.CommitTurn.TheVariants as Commits
-use Rattle.tdb_commit.specs.declared.finishing.Finishing as Finishes
-use Rattle.tdb_commit.specs.declared.finishing.FinishTurn.{FinishTurn}
-use Rattle.tdb_commit.specs.declared.finishing.FinishTurn.TheVariants as Ends
-use Rattle.tdb_commit.specs.declared.preparing.Preparing as Prepare
-use Rattle.tdb_commit.specs.declared.preparing.PrepareStage.{PrepareStage}
-use Rattle.tdb_commit.specs.declared.preparing.PrepareStage.TheVariants.{Unchanged, Begun, Records, Locked, Planned, Filled}
-use Rattle.tdb_commit.specs.declared.preparing.PrepareTurn.{PrepareTurn}
-use Rattle.tdb_commit.specs.declared.preparing.PrepareTurn.TheVariants as To
-use Rattle.tdb_commit.specs.declared.starting.Starting.{Starting}
-use Rattle.tdb_commit.specs.declared.starting.Starting.TheVariants as At
-use Rattle.tdb_commit.specs.declared.starting.StartTurn.{StartTurn}
-use Rattle.tdb_commit.specs.declared.starting.StartTurn.TheVariants as Starts
+use Rattle.tdb_txn_turns.specs.Committings.{commit_steps, CommitLeads, MayGoOn}
+use Rattle.tdb_txn_turns.specs.Prepares.{stage_steps, IsPlanning, PrepareLeads}
+use Rattle.tdb_txn_turns.specs.Starts.{start_steps, StartLeads}
+use Rattle.tdb_txn_turns.specs.declared.committing.Committing.{Committing}
+use Rattle.tdb_txn_turns.specs.declared.committing.Committing.TheVariants.{Preparing, Finishing}
+use Rattle.tdb_txn_turns.specs.declared.committing.CommitTurn.{CommitTurn}
+use Rattle.tdb_txn_turns.specs.declared.committing.CommitTurn.TheVariants as Commits
+use Rattle.tdb_txn_turns.specs.declared.finishing.Finishing as Finishes
+use Rattle.tdb_txn_turns.specs.declared.finishing.FinishTurn.{FinishTurn}
+use Rattle.tdb_txn_turns.specs.declared.finishing.FinishTurn.TheVariants as Ends
+use Rattle.tdb_txn_turns.specs.declared.preparing.Preparing as Prepare
+use Rattle.tdb_txn_turns.specs.declared.preparing.PrepareStage.{PrepareStage}
+use Rattle.tdb_txn_turns.specs.declared.preparing.PrepareStage.TheVariants.{Unchanged, Begun, Records, Locked, Planned, Filled}
+use Rattle.tdb_txn_turns.specs.declared.preparing.PrepareTurn.{PrepareTurn}
+use Rattle.tdb_txn_turns.specs.declared.preparing.PrepareTurn.TheVariants as To
+use Rattle.tdb_txn_turns.specs.declared.starting.Starting.{Starting}
+use Rattle.tdb_txn_turns.specs.declared.starting.Starting.TheVariants as At
+use Rattle.tdb_txn_turns.specs.declared.starting.StartTurn.{StartTurn}
+use Rattle.tdb_txn_turns.specs.declared.starting.StartTurn.TheVariants as Starts
 use Rattle.tdb_holder.specs.declared.stage.PreparedTxn.TheVariants.{Nothing}
 use Rattle.tdb_holder.specs.declared.stage.Stage.TheVariants as Stages
 use Rattle.tdb_holder.specs.declared.stage.Went.{Went}

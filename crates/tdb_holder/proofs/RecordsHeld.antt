@@ -15,18 +15,18 @@ use Rattle.tdb_law.specs.Openers.{Own, Txn, View, nowhere}
 use Rattle.tdb_law.specs.Refusals.{refusal}
 use Rattle.tdb_law.specs.Rows.{all_end, commit_locks, locks, start_locks}
 use Rattle.tdb_law.specs.OneAside.Sides.{Past, Side}
-use Rattle.tdb_commit.specs.Finishes.{finish_steps}
-use Rattle.tdb_commit.specs.Laws.{Ends, commits, prepares, HasPlan}
-use Rattle.tdb_commit.specs.Prepares.{stage_steps, IsPlanning, start_held}
-use Rattle.tdb_commit.specs.Starts.{start_steps}
-use Rattle.tdb_commit.specs.declared.committing.Committing.TheVariants.{Preparing, Finishing}
-use Rattle.tdb_commit.specs.declared.finishing.Finishing as Finish
-use Rattle.tdb_commit.specs.declared.finishing.Finishing.TheVariants.{Open, Applied, Settled, Shut}
-use Rattle.tdb_commit.specs.declared.preparing.PrepareStage.{PrepareStage}
-use Rattle.tdb_commit.specs.declared.preparing.PrepareStage.TheVariants.{Unchanged, Begun, Records, Locked, Planned, Filled}
-use Rattle.tdb_commit.specs.declared.starting.Starting.{Starting}
-use Rattle.tdb_commit.specs.declared.starting.Starting.TheVariants as Starts
-use Rattle.tdb_commit.proofs.Lawful.{commit_holds, finish_holds, start_holds}
+use Rattle.tdb_txn_turns.specs.Finishes.{finish_steps}
+use Rattle.tdb_txn_turns.specs.Laws.{Ends, commits, prepares, HasPlan}
+use Rattle.tdb_txn_turns.specs.Prepares.{stage_steps, IsPlanning, start_held}
+use Rattle.tdb_txn_turns.specs.Starts.{start_steps}
+use Rattle.tdb_txn_turns.specs.declared.committing.Committing.TheVariants.{Preparing, Finishing}
+use Rattle.tdb_txn_turns.specs.declared.finishing.Finishing as Finish
+use Rattle.tdb_txn_turns.specs.declared.finishing.Finishing.TheVariants.{Open, Applied, Settled, Shut}
+use Rattle.tdb_txn_turns.specs.declared.preparing.PrepareStage.{PrepareStage}
+use Rattle.tdb_txn_turns.specs.declared.preparing.PrepareStage.TheVariants.{Unchanged, Begun, Records, Locked, Planned, Filled}
+use Rattle.tdb_txn_turns.specs.declared.starting.Starting.{Starting}
+use Rattle.tdb_txn_turns.specs.declared.starting.Starting.TheVariants as Starts
+use Rattle.tdb_txn_turns.proofs.Lawful.{commit_holds, finish_holds, start_holds}
 use Rattle.tdb_commands.specs.InLaw.{law_command}
 use Rattle.tdb_commands.specs.declared.options.Options.{Options}
 use Rattle.tdb_holder.specs.declared.stage.PreparedTxn.{PreparedTxn}

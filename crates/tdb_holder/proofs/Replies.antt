@@ -19,7 +19,7 @@ use Rattle.tdb_law.specs.Effects.{Effect, IsFree, IsFirstConflict, Finds}
 use Rattle.tdb_law.specs.Effects.Effect.{effect_waits, effect_goes_on, effect_changes, effect_answers, effect_shows, effect_starves, effect_is_full, effect_is_busy, effect_numbers, effect_finishes}
 use Rattle.tdb_law.specs.Effects.Finds.{finds_pair, finds_end}
 use Rattle.tdb_steps.specs.PlainCommands.{reply_of}
-use Rattle.tdb_inside.specs.Turns.{TurnsInside}
+use Rattle.tdb_txn_turns.specs.InsideTxn.Turns.{TurnsInside}
 use Rattle.tdb_commands.specs.InLaw.{law_reply}
 
 -- the reply names another opener

@@ -14,10 +14,10 @@ use Rattle.tdb_law.specs.Images.{image_map}
 use Rattle.tdb_law.proofs.HandsOut.{image_answers}
 use Rattle.tdb_law.proofs.Maps.{keys_apart, keys_total}
 use Rattle.tdb_steps.specs.Turns.{number_of}
-use Rattle.tdb_commit.specs.Commits.{RestsAt}
-use Rattle.tdb_commit.specs.Finishes.{IsShut}
-use Rattle.tdb_commit.specs.Prepares.{IsReady}
-use Rattle.tdb_commit.proofs.Carried.{ready_rests}
+use Rattle.tdb_txn_turns.specs.Commits.{RestsAt}
+use Rattle.tdb_txn_turns.specs.Finishes.{IsShut}
+use Rattle.tdb_txn_turns.specs.Prepares.{IsReady}
+use Rattle.tdb_txn_turns.proofs.Carried.{ready_rests}
 use Rattle.tdb_txn.specs.declared.txn.Txn.{Txn}
 use Rattle.tdb_holder.specs.Turned.{RestsLike}
 

@@ -8,7 +8,7 @@ use Rattle.tdb_law.specs.Commands.Command.{OnGroup}
 use Rattle.tdb_law.specs.Openers.{Own, Txn, nowhere}
 use Rattle.tdb_law.specs.Rows.{Lock, locks}
 use Rattle.tdb_law.specs.Held.{covers, held, holding, kept, locked}
-use Rattle.tdb_commit.specs.Prepares.{start_held}
+use Rattle.tdb_txn_turns.specs.Prepares.{start_held}
 use Rattle.tdb_holder.specs.Ends.{task_of}
 
 never_below : (n : ℕ) → nat_lt n 0 ≡ false

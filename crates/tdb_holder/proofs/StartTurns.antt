@@ -14,9 +14,9 @@ use Rattle.tdb_law.specs.Outcomes.{begun_txn}
 use Rattle.tdb_law.specs.Held.{locked}
 use Rattle.tdb_law.specs.Rows.{start_locks}
 use Rattle.tdb_steps.specs.Holdings.{table_of}
-use Rattle.tdb_commit.specs.Starts.{start_steps}
-use Rattle.tdb_commit.specs.declared.starting.StartTurn.TheVariants.{Step as Steps, Blocked, Memory, Done}
-use Rattle.tdb_commit.proofs.Lawful.{start_holds, start_keeps, start_row}
+use Rattle.tdb_txn_turns.specs.Starts.{start_steps}
+use Rattle.tdb_txn_turns.specs.declared.starting.StartTurn.TheVariants.{Step as Steps, Blocked, Memory, Done}
+use Rattle.tdb_txn_turns.proofs.Lawful.{start_holds, start_keeps, start_row}
 use Rattle.tdb_holder.specs.Ends.{StartIsOwn, task_of}
 use Rattle.tdb_holder.proofs.GroupCounts.{step_settles, step_counts, end_counts, starts}
 use Rattle.tdb_holder.proofs.GroupEffects.{start_goes_on, start_starves, start_answers}

@@ -23,21 +23,21 @@ use Rattle.tdb_law.specs.Rows.{start_locks}
 use Rattle.tdb_steps.specs.Turns.{number_of}
 use Rattle.tdb_txn.specs.Txn.{txn_depth, txn_form, txn_image}
 use Rattle.tdb_txn.specs.declared.txn.Txn.{Txn}
-use Rattle.tdb_commit.specs.Holding.{HoldsRow, RowTurned}
-use Rattle.tdb_commit.specs.Prepares.{IsReady}
-use Rattle.tdb_commit.specs.Starts.{start_steps, start_turn, BegunOn, IsNewTxn, StartLeads, StartMade}
-use Rattle.tdb_commit.proofs.Lawful.{start_holds}
-use Rattle.tdb_commit.specs.declared.starting.Starting.{Starting}
-use Rattle.tdb_commit.specs.declared.starting.Starting.TheVariants.{Begun, Claimed, Reading}
-use Rattle.tdb_commit.specs.declared.starting.StartTurn.{StartTurn}
-use Rattle.tdb_commit.specs.declared.starting.StartTurn.TheVariants.{Step, Blocked, Memory, Done}
+use Rattle.tdb_txn_turns.specs.Holding.{HoldsRow, RowTurned}
+use Rattle.tdb_txn_turns.specs.Prepares.{IsReady}
+use Rattle.tdb_txn_turns.specs.Starts.{start_steps, start_turn, BegunOn, IsNewTxn, StartLeads, StartMade}
+use Rattle.tdb_txn_turns.proofs.Lawful.{start_holds}
+use Rattle.tdb_txn_turns.specs.declared.starting.Starting.{Starting}
+use Rattle.tdb_txn_turns.specs.declared.starting.Starting.TheVariants.{Begun, Claimed, Reading}
+use Rattle.tdb_txn_turns.specs.declared.starting.StartTurn.{StartTurn}
+use Rattle.tdb_txn_turns.specs.declared.starting.StartTurn.TheVariants.{Step, Blocked, Memory, Done}
 use Rattle.tdb_walk.specs.Again.{RestsAt}
 use Rattle.tdb_walk.specs.Cursors.{At, Knows, rested}
 use Rattle.tdb_walk.specs.declared.standing.Standing.TheVariants.{Past as Nowhere}
 use Rattle.tdb_walk.specs.declared.walk.Walk.{Walk}
-use Rattle.tdb_inside.specs.Counted.{IsCounted}
-use Rattle.tdb_inside.specs.Walks.{mark_in, RestsIn, RestsInside}
-use Rattle.tdb_inside.specs.declared.own_txn.OwnTxn.{OwnTxn}
+use Rattle.tdb_txn_turns.specs.InsideTxn.Counted.{IsCounted}
+use Rattle.tdb_txn_turns.specs.InsideTxn.Walks.{mark_in, RestsIn, RestsInside}
+use Rattle.tdb_txn_turns.specs.declared.inside_txn.own_txn.OwnTxn.{OwnTxn}
 use Rattle.tdb_commands.specs.InLaw.{law_turn}
 use Rattle.tdb_law.specs.OneAside.Sides.{Past, Side, but_at}
 use Rattle.tdb_law.specs.OneAside.Own.{OwnTurned}

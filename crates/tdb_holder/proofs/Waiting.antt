@@ -8,10 +8,10 @@ use Rattle.tdb_law.specs.Effects.Effect.{effect_waits}
 use Rattle.tdb_law.specs.Openers.{Spot}
 use Rattle.tdb_law.specs.Walks.{Lost}
 use Rattle.tdb_law.specs.Walks.Walked.{walk_rests}
-use Rattle.tdb_commit.specs.Prepares.{row_of}
-use Rattle.tdb_commit.specs.declared.committing.Committing.TheVariants.{Preparing, Finishing}
-use Rattle.tdb_commit.specs.declared.preparing.PrepareStage.{PrepareStage}
-use Rattle.tdb_commit.specs.declared.preparing.PrepareStage.TheVariants.{Unchanged, Begun, Records, Locked, Planned, Filled}
+use Rattle.tdb_txn_turns.specs.Prepares.{row_of}
+use Rattle.tdb_txn_turns.specs.declared.committing.Committing.TheVariants.{Preparing, Finishing}
+use Rattle.tdb_txn_turns.specs.declared.preparing.PrepareStage.{PrepareStage}
+use Rattle.tdb_txn_turns.specs.declared.preparing.PrepareStage.TheVariants.{Unchanged, Begun, Records, Locked, Planned, Filled}
 use Rattle.tdb_holder.specs.Waits.{BlockIsOwn, AloneGoes, IsRowOfEnds, of_start, of_prepare, of_commit, of_finish}
 use Rattle.tdb_holder.proofs.Turning.{still_shift}
 

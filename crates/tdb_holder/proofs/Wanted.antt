@@ -18,22 +18,22 @@ use Rattle.tdb_law.specs.Refusals.Refusal.{IsDoomed, LocksStand, NoneOpen}
 use Rattle.tdb_law.specs.Rows.{Lock, commit_locks, locks, locks_by, plans_in, start_locks}
 use Rattle.tdb_steps.specs.declared.flag.Flag.TheVariants as Flags
 use Rattle.tdb_txn.specs.Txn.{txn_depth, txn_doomed}
-use Rattle.tdb_inside.specs.Laws.{IsEnd}
-use Rattle.tdb_inside.proofs.Inside.{wants_none}
+use Rattle.tdb_txn_turns.specs.InsideTxn.Laws.{IsEnd}
+use Rattle.tdb_txn_turns.proofs.InsideTxn.Inside.{wants_none}
 use Rattle.tdb_law.specs.OneAside.Own.{side_wants}
 use Rattle.tdb_law.specs.OneAside.Sides.{Past, Side}
-use Rattle.tdb_commit.specs.Finishes.{finish_steps}
-use Rattle.tdb_commit.specs.Laws.{Ends, commits, prepares, HasPlan}
-use Rattle.tdb_commit.specs.Prepares.{stage_steps, IsPlanning}
-use Rattle.tdb_commit.specs.Starts.{start_steps}
-use Rattle.tdb_commit.specs.declared.committing.Committing.TheVariants.{Preparing, Finishing}
-use Rattle.tdb_commit.specs.declared.finishing.Finishing as Finish
-use Rattle.tdb_commit.specs.declared.finishing.Finishing.TheVariants.{Open, Applied, Settled, Shut}
-use Rattle.tdb_commit.specs.declared.preparing.PrepareStage.{PrepareStage}
-use Rattle.tdb_commit.specs.declared.preparing.PrepareStage.TheVariants.{Unchanged, Begun, Records, Locked, Planned, Filled}
-use Rattle.tdb_commit.specs.declared.starting.Starting.{Starting}
-use Rattle.tdb_commit.specs.declared.starting.Starting.TheVariants as Starts
-use Rattle.tdb_commit.proofs.Lawful.{commit_holds, finish_holds, planned_before, start_holds}
+use Rattle.tdb_txn_turns.specs.Finishes.{finish_steps}
+use Rattle.tdb_txn_turns.specs.Laws.{Ends, commits, prepares, HasPlan}
+use Rattle.tdb_txn_turns.specs.Prepares.{stage_steps, IsPlanning}
+use Rattle.tdb_txn_turns.specs.Starts.{start_steps}
+use Rattle.tdb_txn_turns.specs.declared.committing.Committing.TheVariants.{Preparing, Finishing}
+use Rattle.tdb_txn_turns.specs.declared.finishing.Finishing as Finish
+use Rattle.tdb_txn_turns.specs.declared.finishing.Finishing.TheVariants.{Open, Applied, Settled, Shut}
+use Rattle.tdb_txn_turns.specs.declared.preparing.PrepareStage.{PrepareStage}
+use Rattle.tdb_txn_turns.specs.declared.preparing.PrepareStage.TheVariants.{Unchanged, Begun, Records, Locked, Planned, Filled}
+use Rattle.tdb_txn_turns.specs.declared.starting.Starting.{Starting}
+use Rattle.tdb_txn_turns.specs.declared.starting.Starting.TheVariants as Starts
+use Rattle.tdb_txn_turns.proofs.Lawful.{commit_holds, finish_holds, planned_before, start_holds}
 use Rattle.tdb_commands.specs.InLaw.{law_command}
 use Rattle.tdb_commands.specs.declared.command.Command.{Command}
 use Rattle.tdb_commands.specs.declared.command.Command.TheVariants as Given

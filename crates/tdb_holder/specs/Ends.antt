@@ -1,5 +1,5 @@
--- The turns that begin and end a transaction are turns of the opener aside, by what the machines of `tdb_commit` promise of one turn; and
--- so is each turn of a command inside a transaction, by what `tdb_inside` says of it.
+-- The turns that begin and end a transaction are turns of the opener aside, by what the machines of `tdb_txn_turns` promise of one turn; and
+-- so is each turn of a command inside a transaction, by what `tdb_txn_turns` says of it.
 use Rattle.std.specs.Prelude.{ℕ, ◌≡◌, ◌≢◌, ◌≤◌, ◌<◌, ◌&&◌, ◌==◌, List, [], Bool, true, false, Some, None, is_some, if◌then◌else◌}
 use Rattle.tdb_space.specs.Form.{Form}
 use Rattle.tdb_locks.specs.declared.piece.Piece.{Piece}
@@ -18,22 +18,22 @@ use Rattle.tdb_law.specs.World.{State}
 use Rattle.tdb_law.specs.Effects.{IsFree, task_left}
 use Rattle.tdb_law.specs.Walks.{Lost, Shift, Walked}
 use Rattle.tdb_steps.specs.Holdings.{table_of}
-use Rattle.tdb_commit.specs.Holding.{RowTurned}
-use Rattle.tdb_commit.specs.Starts.{start_steps, start_turn, StartLeads}
-use Rattle.tdb_commit.specs.Prepares.{prepare_row, prepare_steps, prepare_turn, start_held, PrepareLeads}
-use Rattle.tdb_commit.specs.Finishes.{finish_steps, finish_turn, FinishLeads}
-use Rattle.tdb_commit.specs.Committings.{commit_row, commit_steps, commit_turn, CommitLeads, IsNumbered}
-use Rattle.tdb_commit.specs.Laws.{HasChange, HasPlan}
-use Rattle.tdb_commit.specs.declared.starting.Starting.{Starting}
-use Rattle.tdb_commit.specs.declared.starting.StartTurn.{StartTurn}
-use Rattle.tdb_commit.specs.declared.preparing.Preparing.{Preparing}
-use Rattle.tdb_commit.specs.declared.preparing.PrepareTurn.{PrepareTurn}
-use Rattle.tdb_commit.specs.declared.finishing.Finishing.{Finishing}
-use Rattle.tdb_commit.specs.declared.finishing.FinishTurn.{FinishTurn}
-use Rattle.tdb_commit.specs.declared.committing.Committing.{Committing}
-use Rattle.tdb_commit.specs.declared.committing.CommitTurn.{CommitTurn}
-use Rattle.tdb_inside.specs.Laws.{IsEnd}
-use Rattle.tdb_inside.specs.Turns.{EndsInside, TurnsInside}
+use Rattle.tdb_txn_turns.specs.Holding.{RowTurned}
+use Rattle.tdb_txn_turns.specs.Starts.{start_steps, start_turn, StartLeads}
+use Rattle.tdb_txn_turns.specs.Prepares.{prepare_row, prepare_steps, prepare_turn, start_held, PrepareLeads}
+use Rattle.tdb_txn_turns.specs.Finishes.{finish_steps, finish_turn, FinishLeads}
+use Rattle.tdb_txn_turns.specs.Committings.{commit_row, commit_steps, commit_turn, CommitLeads, IsNumbered}
+use Rattle.tdb_txn_turns.specs.Laws.{HasChange, HasPlan}
+use Rattle.tdb_txn_turns.specs.declared.starting.Starting.{Starting}
+use Rattle.tdb_txn_turns.specs.declared.starting.StartTurn.{StartTurn}
+use Rattle.tdb_txn_turns.specs.declared.preparing.Preparing.{Preparing}
+use Rattle.tdb_txn_turns.specs.declared.preparing.PrepareTurn.{PrepareTurn}
+use Rattle.tdb_txn_turns.specs.declared.finishing.Finishing.{Finishing}
+use Rattle.tdb_txn_turns.specs.declared.finishing.FinishTurn.{FinishTurn}
+use Rattle.tdb_txn_turns.specs.declared.committing.Committing.{Committing}
+use Rattle.tdb_txn_turns.specs.declared.committing.CommitTurn.{CommitTurn}
+use Rattle.tdb_txn_turns.specs.InsideTxn.Laws.{IsEnd}
+use Rattle.tdb_txn_turns.specs.InsideTxn.Turns.{EndsInside, TurnsInside}
 use Rattle.tdb_law.specs.OneAside.Sides.{Past, Side}
 use Rattle.tdb_law.specs.OneAside.Own.{OwnTurned, ShowsSide, side_wants}
 

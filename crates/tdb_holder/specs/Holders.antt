@@ -9,12 +9,12 @@ use Rattle.tdb_law.specs.Commands.{Turn}
 use Rattle.tdb_law.specs.Openers.{Task}
 use Rattle.tdb_space.specs.Form.{Form}
 use Rattle.tdb_txn.specs.Txn.{txn_depth}
-use Rattle.tdb_commit.specs.Committings.{CommitMayLeave}
-use Rattle.tdb_commit.specs.Finishes.{MayLeave}
-use Rattle.tdb_commit.specs.declared.committing.Committing.{Committing}
-use Rattle.tdb_commit.specs.declared.committing.Committing.TheVariants as Commits
-use Rattle.tdb_commit.specs.declared.finishing.Finishing.{Finishing}
-use Rattle.tdb_commit.specs.declared.finishing.Finishing.TheVariants.{Shut}
+use Rattle.tdb_txn_turns.specs.Committings.{CommitMayLeave}
+use Rattle.tdb_txn_turns.specs.Finishes.{MayLeave}
+use Rattle.tdb_txn_turns.specs.declared.committing.Committing.{Committing}
+use Rattle.tdb_txn_turns.specs.declared.committing.Committing.TheVariants as Commits
+use Rattle.tdb_txn_turns.specs.declared.finishing.Finishing.{Finishing}
+use Rattle.tdb_txn_turns.specs.declared.finishing.Finishing.TheVariants.{Shut}
 use Rattle.tdb_commands.specs.declared.command.Command.{Command}
 use Rattle.tdb_law.specs.OneAside.Sides.{Past, Side}
 use Rattle.tdb_commands.specs.declared.options.Options.{Options}

@@ -7,10 +7,10 @@ use Rattle.tdb_law.specs.Openers.{Own}
 use Rattle.tdb_law.specs.Images.{image_map}
 use Rattle.tdb_steps.specs.Turns.{number_of}
 use Rattle.tdb_txn.specs.Txn.{txn_size, txn_start}
-use Rattle.tdb_inside.specs.Counted.{IsCounted}
-use Rattle.tdb_inside.specs.OwnTxns.{law_txn, image_of, form_of}
-use Rattle.tdb_inside.specs.Turns.{TurnsInside}
-use Rattle.tdb_inside.specs.Walks.{mark_in, RestsInside, WalkedInside}
+use Rattle.tdb_txn_turns.specs.InsideTxn.Counted.{IsCounted}
+use Rattle.tdb_txn_turns.specs.InsideTxn.OwnTxns.{law_txn, image_of, form_of}
+use Rattle.tdb_txn_turns.specs.InsideTxn.Turns.{TurnsInside}
+use Rattle.tdb_txn_turns.specs.InsideTxn.Walks.{mark_in, RestsInside, WalkedInside}
 use Rattle.tdb_commands.specs.declared.options.Options.{Options}
 use Rattle.tdb_holder.specs.declared.open_txn.OpenTxn.{OpenTxn}
 use Rattle.tdb_commands.specs.InLaw.{options_of}

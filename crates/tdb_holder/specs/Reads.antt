@@ -9,13 +9,13 @@ use Rattle.tdb_law.specs.Openers.{Map}
 use Rattle.tdb_steps.specs.Turns.{number_of}
 use Rattle.tdb_txn.specs.Commit.{IsPrepared}
 use Rattle.tdb_txn.specs.declared.planned.Plan.{Plan}
-use Rattle.tdb_commit.specs.Commits.{Carries, RestsAt}
-use Rattle.tdb_commit.specs.Committings.{commit_steps, KnowsCommit}
-use Rattle.tdb_commit.specs.Finishes.{finish_steps, IsShut, KnowsFinish}
-use Rattle.tdb_commit.specs.Prepares.{KnowsStage}
-use Rattle.tdb_commit.specs.declared.committing.Committing.{Committing}
-use Rattle.tdb_commit.specs.declared.finishing.Finishing.{Finishing}
-use Rattle.tdb_commit.specs.declared.preparing.PrepareStage.{PrepareStage}
+use Rattle.tdb_txn_turns.specs.Commits.{Carries, RestsAt}
+use Rattle.tdb_txn_turns.specs.Committings.{commit_steps, KnowsCommit}
+use Rattle.tdb_txn_turns.specs.Finishes.{finish_steps, IsShut, KnowsFinish}
+use Rattle.tdb_txn_turns.specs.Prepares.{KnowsStage}
+use Rattle.tdb_txn_turns.specs.declared.committing.Committing.{Committing}
+use Rattle.tdb_txn_turns.specs.declared.finishing.Finishing.{Finishing}
+use Rattle.tdb_txn_turns.specs.declared.preparing.PrepareStage.{PrepareStage}
 
 -- the map and the sequence number of a file, by its history: where its gate is open, those that it has once it is undone
 abbrev pub file_map : Form → History → Map

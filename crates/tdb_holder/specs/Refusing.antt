@@ -5,7 +5,7 @@ use Rattle.tdb_space.specs.Pairs.{home}
 use Rattle.tdb_locks.specs.HeldLocks.{HeldLocks, count_of, total_of}
 use Rattle.tdb_locks.specs.declared.turn.Reply.{Reply}
 use Rattle.tdb_law.specs.Openers.{Own, Txn}
-use Rattle.tdb_inside.specs.Counted.{IsCounted}
+use Rattle.tdb_txn_turns.specs.InsideTxn.Counted.{IsCounted}
 use Rattle.tdb_commands.specs.declared.command.Command.{Command}
 use Rattle.tdb_commands.specs.declared.command.Command.TheVariants as Given
 use Rattle.tdb_commands.specs.declared.options.Options.{Options}

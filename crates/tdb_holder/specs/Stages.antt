@@ -17,20 +17,20 @@ use Rattle.tdb_steps.specs.Turns.{number_of}
 use Rattle.tdb_txn.specs.Commit.{IsPrepared}
 use Rattle.tdb_txn.specs.CommitStates.{prepared_plan, plan_length}
 use Rattle.tdb_txn.specs.Txn.{txn_depth}
-use Rattle.tdb_commit.specs.Commits.{Carries, RestsAt}
-use Rattle.tdb_commit.specs.Starts.{start_steps}
-use Rattle.tdb_commit.specs.Prepares.{prepare_steps, IsReady, KnowsStage, StageFits}
-use Rattle.tdb_commit.specs.Finishes.{finish_steps, FinishFits, KnowsFinish}
-use Rattle.tdb_commit.specs.Committings.{commit_steps, CommitFits, IsNumbered, KnowsCommit}
-use Rattle.tdb_commit.specs.Laws.{HasChange, HasPlan}
-use Rattle.tdb_commit.specs.declared.committing.Committing.{Committing}
-use Rattle.tdb_commit.specs.declared.committing.Committing.TheVariants as Commits
-use Rattle.tdb_commit.specs.declared.preparing.PrepareStage.{PrepareStage}
-use Rattle.tdb_commit.specs.declared.preparing.PrepareStage.TheVariants.{Unchanged, Begun}
-use Rattle.tdb_commit.specs.declared.preparing.Preparing.{Preparing}
-use Rattle.tdb_commit.specs.declared.starting.Starting.{Starting}
-use Rattle.tdb_commit.specs.declared.starting.Starting.TheVariants as Starts
-use Rattle.tdb_inside.specs.Walks.{mark_in, RestsInside}
+use Rattle.tdb_txn_turns.specs.Commits.{Carries, RestsAt}
+use Rattle.tdb_txn_turns.specs.Starts.{start_steps}
+use Rattle.tdb_txn_turns.specs.Prepares.{prepare_steps, IsReady, KnowsStage, StageFits}
+use Rattle.tdb_txn_turns.specs.Finishes.{finish_steps, FinishFits, KnowsFinish}
+use Rattle.tdb_txn_turns.specs.Committings.{commit_steps, CommitFits, IsNumbered, KnowsCommit}
+use Rattle.tdb_txn_turns.specs.Laws.{HasChange, HasPlan}
+use Rattle.tdb_txn_turns.specs.declared.committing.Committing.{Committing}
+use Rattle.tdb_txn_turns.specs.declared.committing.Committing.TheVariants as Commits
+use Rattle.tdb_txn_turns.specs.declared.preparing.PrepareStage.{PrepareStage}
+use Rattle.tdb_txn_turns.specs.declared.preparing.PrepareStage.TheVariants.{Unchanged, Begun}
+use Rattle.tdb_txn_turns.specs.declared.preparing.Preparing.{Preparing}
+use Rattle.tdb_txn_turns.specs.declared.starting.Starting.{Starting}
+use Rattle.tdb_txn_turns.specs.declared.starting.Starting.TheVariants as Starts
+use Rattle.tdb_txn_turns.specs.InsideTxn.Walks.{mark_in, RestsInside}
 use Rattle.tdb_commands.specs.InLaw.{law_command, options_of}
 use Rattle.tdb_commands.specs.declared.command.Command.{Command}
 use Rattle.tdb_commands.specs.declared.command.Command.TheVariants as Given

@@ -4,9 +4,9 @@ use Rattle.tdb_disk.specs.Count.{RoseUpTo}
 use Rattle.tdb_locks.specs.declared.turn.Reply.TheVariants.{Full, Memory}
 use Rattle.tdb_locks.specs.declared.turn.Turn.{Turn}
 use Rattle.tdb_locks.specs.declared.turn.Turn.TheVariants.{Done}
-use Rattle.tdb_commit.specs.Committings.{StepSyncs}
-use Rattle.tdb_commit.specs.Finishes.{FinishSyncs}
-use Rattle.tdb_commit.specs.Prepares.{StageSyncs}
+use Rattle.tdb_txn_turns.specs.Committings.{StepSyncs}
+use Rattle.tdb_txn_turns.specs.Finishes.{FinishSyncs}
+use Rattle.tdb_txn_turns.specs.Prepares.{StageSyncs}
 use Rattle.tdb_commands.specs.declared.command.Command.{Command}
 use Rattle.tdb_commands.specs.declared.command.Command.TheVariants as Given
 use Rattle.tdb_holder.specs.declared.stage.PreparedTxn.{PreparedTxn}

@@ -16,7 +16,7 @@ use Rattle.tdb_law.specs.Rows.{is_changed}
 use Rattle.tdb_law.specs.Effects.{IsFree}
 use Rattle.tdb_law.specs.Images.{image_map}
 use Rattle.tdb_steps.specs.Turns.{number_of}
-use Rattle.tdb_commit.specs.declared.starting.Starting.TheVariants.{Reading}
+use Rattle.tdb_txn_turns.specs.declared.starting.Starting.TheVariants.{Reading}
 use Rattle.tdb_law.specs.OneAside.Sides.{Past, Side}
 use Rattle.tdb_law.specs.OneAside.Own.{OwnTurned, side_wants}
 use Rattle.tdb_commands.specs.declared.options.Options.{Options}

@@ -10,11 +10,11 @@ use Rattle.tdb_law.specs.Ends.{waits}
 use Rattle.tdb_law.specs.Held.{holding}
 use Rattle.tdb_law.specs.Effects.{IsFirstConflict}
 use Rattle.tdb_steps.specs.Holdings.{table_of}
-use Rattle.tdb_commit.specs.Committings.{commit_row}
-use Rattle.tdb_commit.specs.Holding.{RowTurned}
-use Rattle.tdb_commit.specs.Prepares.{prepare_row}
-use Rattle.tdb_commit.specs.declared.committing.Committing.{Committing}
-use Rattle.tdb_commit.specs.declared.preparing.Preparing.{Preparing}
+use Rattle.tdb_txn_turns.specs.Committings.{commit_row}
+use Rattle.tdb_txn_turns.specs.Holding.{RowTurned}
+use Rattle.tdb_txn_turns.specs.Prepares.{prepare_row}
+use Rattle.tdb_txn_turns.specs.declared.committing.Committing.{Committing}
+use Rattle.tdb_txn_turns.specs.declared.preparing.Preparing.{Preparing}
 use Rattle.tdb_law.specs.OneAside.Own.{OwnTurned, side_wants}
 use Rattle.tdb_law.specs.OneAside.Sides.{Past, Side}
 use Rattle.tdb_holder.specs.Ends.{IsBlocked}

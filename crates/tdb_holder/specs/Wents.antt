@@ -5,20 +5,20 @@ use Rattle.tdb_space.specs.Form.{Form}
 use Rattle.tdb_locks.specs.declared.piece.Piece.{Piece}
 use Rattle.tdb_locks.specs.declared.turn.Reply.{Reply}
 use Rattle.tdb_locks.specs.declared.turn.Turn.{Turn}
-use Rattle.tdb_commit.specs.declared.committing.CommitTurn.{CommitTurn}
-use Rattle.tdb_commit.specs.declared.committing.CommitTurn.TheVariants as Commits
-use Rattle.tdb_commit.specs.declared.preparing.PrepareStage.{PrepareStage}
-use Rattle.tdb_commit.specs.declared.preparing.PrepareStage.TheVariants.{Unchanged}
-use Rattle.tdb_commit.specs.declared.preparing.PrepareTurn.{PrepareTurn}
-use Rattle.tdb_commit.specs.declared.preparing.PrepareTurn.TheVariants as Prepares
+use Rattle.tdb_txn_turns.specs.declared.committing.CommitTurn.{CommitTurn}
+use Rattle.tdb_txn_turns.specs.declared.committing.CommitTurn.TheVariants as Commits
+use Rattle.tdb_txn_turns.specs.declared.preparing.PrepareStage.{PrepareStage}
+use Rattle.tdb_txn_turns.specs.declared.preparing.PrepareStage.TheVariants.{Unchanged}
+use Rattle.tdb_txn_turns.specs.declared.preparing.PrepareTurn.{PrepareTurn}
+use Rattle.tdb_txn_turns.specs.declared.preparing.PrepareTurn.TheVariants as Prepares
 use Rattle.tdb_locks.specs.HeldLocks.{nothing_held}
 use Rattle.tdb_walk.specs.Cursors.{rested}
 use Rattle.tdb_walk.specs.declared.standing.Standing.TheVariants.{Past as Nowhere}
-use Rattle.tdb_commit.specs.declared.starting.Starting.{Starting}
-use Rattle.tdb_commit.specs.declared.starting.StartTurn.{StartTurn}
-use Rattle.tdb_commit.specs.declared.starting.StartTurn.TheVariants as Starts
-use Rattle.tdb_commit.specs.declared.finishing.FinishTurn.{FinishTurn}
-use Rattle.tdb_commit.specs.declared.finishing.FinishTurn.TheVariants as Finishes
+use Rattle.tdb_txn_turns.specs.declared.starting.Starting.{Starting}
+use Rattle.tdb_txn_turns.specs.declared.starting.StartTurn.{StartTurn}
+use Rattle.tdb_txn_turns.specs.declared.starting.StartTurn.TheVariants as Starts
+use Rattle.tdb_txn_turns.specs.declared.finishing.FinishTurn.{FinishTurn}
+use Rattle.tdb_txn_turns.specs.declared.finishing.FinishTurn.TheVariants as Finishes
 use Rattle.tdb_law.specs.Openers.{Task}
 use Rattle.tdb_commands.specs.InLaw.{law_turn}
 use Rattle.tdb_law.specs.OneAside.Sides.{Past, Side}

@@ -5,7 +5,7 @@ ghost use Rattle.tdb_holder.specs.Holders as Spec;
 ghost use Rattle.tdb_holder.specs.Stages.{given_task, stage_task};
 
 use crate::stage::{PreparedTxn, Stage};
-use tdb_commit::{Committing, Finishing};
+use tdb_txn_turns::{Committing, Finishing};
 use tdb_commands::Command;
 
 /// Whether an opener with this command may die: it has none, or one that would end a transaction.

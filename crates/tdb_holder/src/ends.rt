@@ -2,7 +2,7 @@
 ghost use Rattle.tdb_holder.specs.Ends.{StartIsOwn, CommitIsOwn, PrepareIsOwn, FinishIsOwn, NothingIsOwn};
 ghost use Rattle.tdb_holder.specs.Ends.{EndIsOwn, CancelEnds, RefusalEnds, CloseIsOwn, InsideIsOwn, WalkShifts};
 
-/// What the machines of `tdb_commit` promise of a turn that isn't blocked makes it a turn of the law for the opener
+/// What the machines of `tdb_txn_turns` promise of a turn that isn't blocked makes it a turn of the law for the opener
 /// aside: each turn of a Start, of an outer Commit and Prepare, and of a Commit after a Prepare, which is done at once
 /// where that found nothing to commit. The laws are over all openers and transactions; the function does nothing.
 pub fn machines_are_own()
@@ -23,7 +23,7 @@ pub fn ends_are_own()
     ensures close { CloseIsOwn }
 {}
 
-/// So is the one turn of each other command inside a transaction, by what `tdb_inside` says of it, where it does to the
+/// So is the one turn of each other command inside a transaction, by what `tdb_txn_turns` says of it, where it does to the
 /// walk of the opener's own cursor what the law wants; one that is no move does so where the walk shifts. The laws are
 /// over all openers and commands; the function does nothing.
 pub fn inside_is_own()

@@ -6,7 +6,7 @@ ghost use Rattle.tdb_words.specs.declared.header.Header.{Header};
 ghost use Rattle.tdb_space.specs.Form.{Form};
 ghost use Rattle.tdb_law.specs.Openers.{Task};
 ghost use Rattle.tdb_law.specs.OneAside.Sides.{Past, Side};
-ghost use Rattle.tdb_commit.specs.Finishes.{FinishFits, KnowsFinish, MayLeave};
+ghost use Rattle.tdb_txn_turns.specs.Finishes.{FinishFits, KnowsFinish, MayLeave};
 ghost use Rattle.tdb_commands.specs.InLaw.{law_turn};
 ghost use Rattle.tdb_commands.specs.declared.options.Options.{Options};
 ghost use Rattle.tdb_holder.specs.declared.stage.Stage.TheVariants as Stage;
@@ -17,7 +17,7 @@ ghost use Rattle.tdb_holder.specs.Wanting.{RecordsGo, StepGoesOn};
 ghost use Rattle.tdb_holder.specs.Syncs.{HolderSyncs};
 
 use crate::stage::{Stage, Went};
-use tdb_commit::{FinishTurn, Finishing};
+use tdb_txn_turns::{FinishTurn, Finishing};
 use tdb_disk::Disk;
 use tdb_locks::{Locks, Reply, Turn};
 use tdb_space::Io;

@@ -7,7 +7,7 @@ ghost use Rattle.tdb_space.specs.Form.{Form};
 ghost use Rattle.tdb_space.specs.Undoing.{Reopens};
 ghost use Rattle.tdb_law.specs.Openers.{Task};
 ghost use Rattle.tdb_law.specs.OneAside.Sides.{Past, Side};
-ghost use Rattle.tdb_commit.specs.Prepares.{KeepsWithin, KnowsStage, StageFits};
+ghost use Rattle.tdb_txn_turns.specs.Prepares.{KeepsWithin, KnowsStage, StageFits};
 ghost use Rattle.tdb_commands.specs.InLaw.{law_turn};
 ghost use Rattle.tdb_commands.specs.declared.options.Options.{Options};
 ghost use Rattle.tdb_holder.specs.declared.stage.Stage.TheVariants as Stage;
@@ -18,7 +18,7 @@ ghost use Rattle.tdb_holder.specs.Wanting.{RecordsGo, StepGoesOn};
 ghost use Rattle.tdb_holder.specs.Syncs.{HolderSyncs};
 
 use crate::stage::{PreparedTxn, Stage, Went};
-use tdb_commit::{PrepareStage, PrepareTurn, Preparing};
+use tdb_txn_turns::{PrepareStage, PrepareTurn, Preparing};
 use tdb_disk::Disk;
 use tdb_locks::{Locks, Reply, Turn};
 use tdb_space::Io;

@@ -3,7 +3,7 @@ ghost use Rattle.std.specs.Prelude.{◌≡◌};
 ghost use Rattle.tdb_holder.specs.Wents.{goes_on, is_over};
 
 use crate::open_txn::OpenTxn;
-use tdb_commit::{Committing, Finishing, Preparing, Starting};
+use tdb_txn_turns::{Committing, Finishing, Preparing, Starting};
 use tdb_locks::{Reply, Turn};
 use tdb_commands::Command;
 use tdb_txn::Prepared;

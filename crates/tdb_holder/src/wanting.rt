@@ -5,7 +5,7 @@ ghost use Rattle.tdb_holder.specs.Wanting as Spec;
 
 use crate::open_txn::OpenTxn;
 use crate::stage::{PreparedTxn, Stage};
-use tdb_commit::{Committing, PrepareStage, Preparing, Starting};
+use tdb_txn_turns::{Committing, PrepareStage, Preparing, Starting};
 use tdb_locks::Kind;
 use tdb_commands::Command;
 

@@ -3,8 +3,8 @@ use Rattle.std.specs.Prelude.{ℕ, ◌≡◌, ◌≤◌}
 use Rattle.tdb_words.specs.declared.word.Order.TheVariants.{Little}
 use Rattle.tdb_words.specs.declared.hash.HashKind.TheVariants.{Old}
 use Rattle.tdb_txn.specs.Txn.{txn_start, txn_size}
-use Rattle.tdb_inside.specs.declared.own_txn.OwnTxn.{OwnTxn}
-use Rattle.tdb_inside.specs.OwnTxns.{form_of}
+use Rattle.tdb_txn_turns.specs.declared.inside_txn.own_txn.OwnTxn.{OwnTxn}
+use Rattle.tdb_txn_turns.specs.InsideTxn.OwnTxns.{form_of}
 
 -- It is one of a file of this length, with the header of the tests.
 pub record IsReady (own : OwnTxn) (size : ℕ) : Type 0 where

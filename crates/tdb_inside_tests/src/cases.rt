@@ -6,7 +6,7 @@ use std::alloc::Global;
 use std::test::Fail;
 use tdb_walk::{Goal, Walk};
 use tdb_disk::{Call, MemDisk};
-use tdb_inside::OwnTxn;
+use tdb_txn_turns::OwnTxn;
 use tdb_locks::{Held, Kind, Len, LockRefusal, Locks};
 use tdb_steps::Flag;
 

@@ -2,7 +2,7 @@
 
 use crate::commands::{OK, told};
 use std::alloc::Global;
-use tdb_inside::{count_all, count_chain, uncount_all, uncount_chain};
+use tdb_txn_turns::{count_all, count_chain, uncount_all, uncount_chain};
 use tdb_locks::{Held, Kind};
 
 /// The first locks that aren't let go as often as they were taken, and no more often.

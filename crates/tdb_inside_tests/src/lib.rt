@@ -1,4 +1,4 @@
-//! Tests of the commands inside a transaction, over the public calls of `tdb_inside`.
+//! Tests of the commands inside a transaction, over the public calls of `tdb_txn_turns`.
 #![tactic(auto)]
 
 #[cfg(test)]

@@ -8,7 +8,7 @@ use small_file::HEADER;
 use std::alloc::{AllocError, Global};
 use tdb_walk::{Goal, Walk};
 use tdb_disk::MemDisk;
-use tdb_inside::OwnTxn;
+use tdb_txn_turns::OwnTxn;
 use tdb_locks::Spots;
 use tdb_space::read_word;
 use tdb_txn::OverlayOn;

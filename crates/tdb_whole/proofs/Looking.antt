@@ -13,7 +13,7 @@ use Rattle.tdb_commands.specs.InLaw.{law_opener}
 use Rattle.tdb_commands.specs.declared.options.Options.{Options}
 use Rattle.tdb_law.specs.OneAside.Sides.{Past, Side}
 use Rattle.tdb_law.specs.OneAside.Starts.{new_start}
-use Rattle.tdb_commit.specs.Starts.{start_steps}
+use Rattle.tdb_txn_turns.specs.Starts.{start_steps}
 use Rattle.tdb_holder.specs.Ends.{task_of}
 use Rattle.tdb_holder.specs.Holders.{HolderState}
 use Rattle.tdb_holder.specs.Stages.{IsSide, Known}

@@ -12,7 +12,7 @@ use Rattle.tdb_law.specs.Openers.{Task}
 use Rattle.tdb_law.specs.Rows.{commit_locks, lock}
 use Rattle.tdb_law.specs.OneAside.Own.{side_wants}
 use Rattle.tdb_law.specs.OneAside.Sides.{Past, Side, beside, but_at}
-use Rattle.tdb_commit.specs.Holding.{want_of}
+use Rattle.tdb_txn_turns.specs.Holding.{want_of}
 use Rattle.tdb_holder.specs.Turned.{MayTurn}
 use Rattle.tdb_holder.specs.Wanting.{wanted_by}
 use Rattle.tdb_holder.specs.declared.wanting.Wants.{Wants}

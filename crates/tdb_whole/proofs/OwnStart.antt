@@ -28,8 +28,8 @@ use Rattle.tdb_law.specs.World.{State, IsSound}
 use Rattle.tdb_law.proofs.Emptied.{unchanged_start}
 use Rattle.tdb_law.proofs.Tests.{never_true}
 use Rattle.tdb_law.proofs.Walking.{put_here, put_else}
-use Rattle.tdb_commit.specs.declared.starting.Starting.TheVariants as Starts
-use Rattle.tdb_commit.proofs.Lawful.{start_holds}
+use Rattle.tdb_txn_turns.specs.declared.starting.Starting.TheVariants as Starts
+use Rattle.tdb_txn_turns.proofs.Lawful.{start_holds}
 use Rattle.tdb_law.specs.OneAside.Sides.{Past, Side, but_at, alone, beside, whole}
 use Rattle.tdb_law.specs.OneAside.Turns.{without_task}
 use Rattle.tdb_law.specs.OneAside.Starts.{new_start, with_starts, MayStart}

@@ -21,7 +21,7 @@ use Rattle.tdb_law.specs.Rows.{commits_in, plans_in}
 use Rattle.tdb_law.specs.Turned.{want, Turned}
 use Rattle.tdb_law.specs.World.{State}
 use Rattle.tdb_law.proofs.Walking.{put_else, put_here}
-use Rattle.tdb_commit.proofs.Lawful.{finish_holds, planned_before}
+use Rattle.tdb_txn_turns.proofs.Lawful.{finish_holds, planned_before}
 use Rattle.tdb_law.specs.OneAside.Sides.{Past, Side}
 use Rattle.tdb_holder.specs.Holders.{HolderState}
 use Rattle.tdb_holder.specs.Stages.{IsSide, Known}

@@ -21,19 +21,19 @@ use Rattle.tdb_txn.specs.CommitStates.{applied_plan, planned_plan, prepared_plan
 use Rattle.tdb_txn.specs.Planned.{grown, rests, IsPlannedOn, RestsButGrown}
 use Rattle.tdb_txn.specs.declared.planned.Plan.{Plan}
 use Rattle.tdb_txn.proofs.KeptArea.{longer_reopens}
-use Rattle.tdb_commit.specs.Commits.{Carries, RestsAt}
-use Rattle.tdb_commit.specs.Committings.{commit_steps, KnowsCommit}
-use Rattle.tdb_commit.specs.Finishes.{finish_steps, KnowsFinish}
-use Rattle.tdb_commit.specs.Prepares.{KnowsStage}
-use Rattle.tdb_commit.specs.declared.committing.Committing.{Committing}
-use Rattle.tdb_commit.specs.declared.committing.Committing.TheVariants as Commits
-use Rattle.tdb_commit.specs.declared.finishing.Finishing.{Finishing}
-use Rattle.tdb_commit.specs.declared.finishing.Finishing.TheVariants as Finishes
-use Rattle.tdb_commit.specs.declared.preparing.PrepareStage.{PrepareStage}
-use Rattle.tdb_commit.specs.declared.preparing.PrepareStage.TheVariants as Prepares
-use Rattle.tdb_commit.specs.declared.starting.Starting.{Starting}
-use Rattle.tdb_commit.specs.declared.starting.Starting.TheVariants as Starts
-use Rattle.tdb_commit.proofs.Carried.{ready_rests}
+use Rattle.tdb_txn_turns.specs.Commits.{Carries, RestsAt}
+use Rattle.tdb_txn_turns.specs.Committings.{commit_steps, KnowsCommit}
+use Rattle.tdb_txn_turns.specs.Finishes.{finish_steps, KnowsFinish}
+use Rattle.tdb_txn_turns.specs.Prepares.{KnowsStage}
+use Rattle.tdb_txn_turns.specs.declared.committing.Committing.{Committing}
+use Rattle.tdb_txn_turns.specs.declared.committing.Committing.TheVariants as Commits
+use Rattle.tdb_txn_turns.specs.declared.finishing.Finishing.{Finishing}
+use Rattle.tdb_txn_turns.specs.declared.finishing.Finishing.TheVariants as Finishes
+use Rattle.tdb_txn_turns.specs.declared.preparing.PrepareStage.{PrepareStage}
+use Rattle.tdb_txn_turns.specs.declared.preparing.PrepareStage.TheVariants as Prepares
+use Rattle.tdb_txn_turns.specs.declared.starting.Starting.{Starting}
+use Rattle.tdb_txn_turns.specs.declared.starting.Starting.TheVariants as Starts
+use Rattle.tdb_txn_turns.proofs.Carried.{ready_rests}
 use Rattle.tdb_law.specs.OneAside.Sides.{Past, Side}
 use Rattle.tdb_holder.specs.Holders.{HolderState}
 use Rattle.tdb_holder.specs.Reads.{IsReadAs as IsReadFrom}

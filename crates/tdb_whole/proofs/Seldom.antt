@@ -1,14 +1,14 @@
 -- A Commit syncs nine times at most.
 use Rattle.std.proofs.Common.{◌≤◌, ℕ, zero, suc, ◌+◌, subst, inl, inr, sym, arith}
-use Rattle.tdb_commit.specs.Committings.{commit_steps, StepSyncs}
-use Rattle.tdb_commit.specs.Finishes.{finish_steps, FinishSyncs}
-use Rattle.tdb_commit.specs.Prepares.{stage_steps, StageSyncs}
-use Rattle.tdb_commit.specs.declared.committing.Committing.{Committing}
-use Rattle.tdb_commit.specs.declared.committing.Committing.TheVariants.{Preparing, Finishing}
-use Rattle.tdb_commit.specs.declared.finishing.Finishing.{Finishing as Ending}
-use Rattle.tdb_commit.specs.declared.finishing.Finishing.TheVariants.{Open, Applied, Settled, Shut}
-use Rattle.tdb_commit.specs.declared.preparing.PrepareStage.{PrepareStage}
-use Rattle.tdb_commit.specs.declared.preparing.PrepareStage.TheVariants.{Unchanged, Begun, Records, Locked, Planned, Filled}
+use Rattle.tdb_txn_turns.specs.Committings.{commit_steps, StepSyncs}
+use Rattle.tdb_txn_turns.specs.Finishes.{finish_steps, FinishSyncs}
+use Rattle.tdb_txn_turns.specs.Prepares.{stage_steps, StageSyncs}
+use Rattle.tdb_txn_turns.specs.declared.committing.Committing.{Committing}
+use Rattle.tdb_txn_turns.specs.declared.committing.Committing.TheVariants.{Preparing, Finishing}
+use Rattle.tdb_txn_turns.specs.declared.finishing.Finishing.{Finishing as Ending}
+use Rattle.tdb_txn_turns.specs.declared.finishing.Finishing.TheVariants.{Open, Applied, Settled, Shut}
+use Rattle.tdb_txn_turns.specs.declared.preparing.PrepareStage.{PrepareStage}
+use Rattle.tdb_txn_turns.specs.declared.preparing.PrepareStage.TheVariants.{Unchanged, Begun, Records, Locked, Planned, Filled}
 use Rattle.tdb_whole.specs.Syncs.{syncs_from, CommitsSyncSeldom}
 
 -- what a turn makes, and what is left then

@@ -20,14 +20,14 @@ use Rattle.tdb_law.specs.Refusals.{Refusal, refusal}
 use Rattle.tdb_law.specs.Rows.{changed_by, commits_in, gate_shut, is_changed}
 use Rattle.tdb_law.proofs.Tests.{and_both, never_true}
 use Rattle.tdb_steps.specs.Turns.{number_of}
-use Rattle.tdb_commit.specs.Prepares.{prepare_steps, stage_steps}
-use Rattle.tdb_commit.specs.declared.committing.Committing.TheVariants as Commits
-use Rattle.tdb_commit.specs.declared.preparing.PrepareStage.{PrepareStage}
-use Rattle.tdb_commit.specs.declared.preparing.PrepareStage.TheVariants.{Unchanged, Begun, Records, Locked, Planned, Filled}
-use Rattle.tdb_commit.specs.declared.starting.Starting.{Starting}
-use Rattle.tdb_commit.specs.declared.starting.Starting.TheVariants as Starts
+use Rattle.tdb_txn_turns.specs.Prepares.{prepare_steps, stage_steps}
+use Rattle.tdb_txn_turns.specs.declared.committing.Committing.TheVariants as Commits
+use Rattle.tdb_txn_turns.specs.declared.preparing.PrepareStage.{PrepareStage}
+use Rattle.tdb_txn_turns.specs.declared.preparing.PrepareStage.TheVariants.{Unchanged, Begun, Records, Locked, Planned, Filled}
+use Rattle.tdb_txn_turns.specs.declared.starting.Starting.{Starting}
+use Rattle.tdb_txn_turns.specs.declared.starting.Starting.TheVariants as Starts
 use Rattle.tdb_law.specs.OneAside.Sides.{Past, Side}
-use Rattle.tdb_commit.specs.Starts.{start_steps}
+use Rattle.tdb_txn_turns.specs.Starts.{start_steps}
 use Rattle.tdb_holder.specs.declared.open_txn.OpenTxn.{OpenTxn}
 use Rattle.tdb_commands.specs.InLaw.{law_command, law_turn}
 use Rattle.tdb_commands.specs.declared.command.Command.{Command}

@@ -29,11 +29,11 @@ use Rattle.tdb_law.specs.Rows.{commits_in, gate_shut, is_changed}
 use Rattle.tdb_law.specs.World.{State}
 use Rattle.tdb_law.proofs.Walking.{put_else, put_here}
 use Rattle.tdb_steps.specs.Turns.{number_of}
-use Rattle.tdb_commit.specs.Commits.{OpensAs}
-use Rattle.tdb_commit.specs.declared.committing.Committing.TheVariants as Commits
-use Rattle.tdb_commit.specs.declared.finishing.Finishing.TheVariants as Finishes
-use Rattle.tdb_commit.specs.Starts.{start_steps}
-use Rattle.tdb_commit.specs.declared.starting.Starting.{Starting}
+use Rattle.tdb_txn_turns.specs.Commits.{OpensAs}
+use Rattle.tdb_txn_turns.specs.declared.committing.Committing.TheVariants as Commits
+use Rattle.tdb_txn_turns.specs.declared.finishing.Finishing.TheVariants as Finishes
+use Rattle.tdb_txn_turns.specs.Starts.{start_steps}
+use Rattle.tdb_txn_turns.specs.declared.starting.Starting.{Starting}
 use Rattle.tdb_commands.specs.InLaw.{law_opener, law_turn}
 use Rattle.tdb_commands.specs.declared.options.Options.{Options}
 use Rattle.tdb_law.specs.OneAside.Sides.{Past, Side, beside}

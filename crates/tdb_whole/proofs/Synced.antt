@@ -3,11 +3,11 @@ use Rattle.std.proofs.Common.{◌≡◌, ℕ, Bool, true, false, inl, Some, None
 use Rattle.tdb_disk.specs.Count.{RoseUpTo}
 use Rattle.tdb_locks.specs.declared.kind.Kind.{Kind}
 use Rattle.tdb_locks.specs.declared.turn.Turn.{Turn}
-use Rattle.tdb_commit.specs.declared.committing.Committing.TheVariants as Commits
-use Rattle.tdb_commit.specs.Prepares.{StageSyncs}
-use Rattle.tdb_commit.specs.declared.preparing.PrepareStage.{PrepareStage}
-use Rattle.tdb_commit.specs.declared.preparing.PrepareStage.TheVariants as Plans
-use Rattle.tdb_commit.specs.declared.starting.Starting.TheVariants as Starts
+use Rattle.tdb_txn_turns.specs.declared.committing.Committing.TheVariants as Commits
+use Rattle.tdb_txn_turns.specs.Prepares.{StageSyncs}
+use Rattle.tdb_txn_turns.specs.declared.preparing.PrepareStage.{PrepareStage}
+use Rattle.tdb_txn_turns.specs.declared.preparing.PrepareStage.TheVariants as Plans
+use Rattle.tdb_txn_turns.specs.declared.starting.Starting.TheVariants as Starts
 use Rattle.tdb_commands.specs.InLaw.{law_opener}
 use Rattle.tdb_holder.specs.Holders.{HolderState}
 use Rattle.tdb_holder.specs.Syncs.{HolderSyncs, TurnSyncs}

@@ -18,7 +18,7 @@ use Rattle.tdb_commands.specs.InLaw.{law_opener, law_turn}
 use Rattle.tdb_commands.specs.declared.options.Options.{Options}
 use Rattle.tdb_law.specs.OneAside.Sides.{Past, Side, beside, whole}
 use Rattle.tdb_law.specs.OneAside.Starts.{with_starts}
-use Rattle.tdb_commit.specs.declared.starting.Starting.TheVariants as Starts
+use Rattle.tdb_txn_turns.specs.declared.starting.Starting.TheVariants as Starts
 use Rattle.tdb_holder.specs.Ends.{IsBlocked}
 use Rattle.tdb_holder.specs.Holders.{is_idle, left_stage, HolderState, HolderTurned}
 use Rattle.tdb_holder.specs.Stages.{is_closing, stage_records, stage_task, Known, KnowsFile, IsSide}

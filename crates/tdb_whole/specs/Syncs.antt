@@ -6,10 +6,10 @@ use Rattle.tdb_law.specs.Commands.GroupCommand.{Start}
 use Rattle.tdb_law.specs.Commands.Command.{OnGroup}
 use Rattle.tdb_law.specs.Openers.{Task}
 use Rattle.tdb_law.specs.World.{State}
-use Rattle.tdb_commit.specs.Committings.{commit_steps, CanEnd, CommitLeads, StepSyncs}
-use Rattle.tdb_commit.specs.declared.committing.Committing.{Committing}
-use Rattle.tdb_commit.specs.declared.committing.CommitTurn.TheVariants.{Step}
-use Rattle.tdb_commit.specs.declared.starting.Starting.TheVariants.{Begun}
+use Rattle.tdb_txn_turns.specs.Committings.{commit_steps, CanEnd, CommitLeads, StepSyncs}
+use Rattle.tdb_txn_turns.specs.declared.committing.Committing.{Committing}
+use Rattle.tdb_txn_turns.specs.declared.committing.CommitTurn.TheVariants.{Step}
+use Rattle.tdb_txn_turns.specs.declared.starting.Starting.TheVariants.{Begun}
 use Rattle.tdb_commands.specs.InLaw.{law_opener}
 use Rattle.tdb_holder.specs.Holders.{HolderState}
 use Rattle.tdb_holder.specs.Syncs.{HolderSyncs}

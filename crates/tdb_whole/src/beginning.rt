@@ -10,7 +10,7 @@ ghost use Rattle.tdb_whole.specs.Whole.{form_at, is_starting, WorldFits};
 ghost use Rattle.tdb_whole.specs.States.{IsStateOf};
 ghost use Rattle.tdb_whole.specs.Steps.{HasCommand, IsAmong, TurnLeads};
 ghost use Rattle.tdb_whole.specs.Stops.{IsSafe, TurnMayLeave};
-ghost use Rattle.tdb_commit.specs.declared.starting.Starting.TheVariants as Starting;
+ghost use Rattle.tdb_txn_turns.specs.declared.starting.Starting.TheVariants as Starting;
 ghost use Rattle.tdb_holder.specs.declared.stage.Stage.TheVariants as Stage;
 ghost use Rattle.tdb_holder.specs.Syncs.{HolderSyncs};
 

@@ -1,6 +1,6 @@
 use Rattle.std.specs.Prelude.{IfSome}
 use Rattle.tdb_disk.specs.MemDisk.{memory_size}
-use Rattle.tdb_commit.specs.Committings.{CommitFits}
+use Rattle.tdb_txn_turns.specs.Committings.{CommitFits}
 use Rattle.tdb_commit_tests.proofs.commits.run.Given as goal
 
 -- the commit that is left can take its next turn

@@ -2,7 +2,7 @@
 use Rattle.std.proofs.Common.{sym, subst}
 use Rattle.tdb_law.specs.Commands.GroupCommand.{Commit}
 use Rattle.tdb_law.specs.Commands.Command.{OnGroup}
-use Rattle.tdb_commit.specs.Committings.{commit_steps}
+use Rattle.tdb_txn_turns.specs.Committings.{commit_steps}
 use Rattle.tdb_commands.specs.InLaw.{law_turn}
 use Rattle.tdb_holder.specs.declared.stage.Stage.TheVariants as Stage
 use Rattle.tdb_holder.specs.Ends.{task_of}

@@ -2,8 +2,8 @@
 use Rattle.std.proofs.Common.{IsTrue, IfOk, rules, arith, sym, subst}
 use Rattle.tdb_disk.specs.Stop.{LeavesOnly}
 use Rattle.tdb_space.specs.Form.{Form}
-use Rattle.tdb_commit.specs.Committings.{CommitFits, CommitMayLeave, KnowsCommit}
-use Rattle.tdb_commit.proofs.Carried.{rests_stops}
+use Rattle.tdb_txn_turns.specs.Committings.{CommitFits, CommitMayLeave, KnowsCommit}
+use Rattle.tdb_txn_turns.proofs.Carried.{rests_stops}
 use Rattle.tdb_commands.specs.declared.options.Options.{Options}
 use Rattle.tdb_holder.specs.declared.stage.Stage.TheVariants as Stage
 use Rattle.tdb_holder.specs.Wents.{TurnsFrom}

@@ -1,9 +1,9 @@
 -- The turn is that of the machine.
 use Rattle.std.proofs.Common.{IsTrue, IfOk, rules, arith, sym, subst}
 use Rattle.tdb_space.specs.Form.{Form}
-use Rattle.tdb_commit.specs.Prepares.{StageFits}
-use Rattle.tdb_commit.specs.declared.preparing.Preparing.{Preparing}
-use Rattle.tdb_commit.proofs.Carried.{rests_stops}
+use Rattle.tdb_txn_turns.specs.Prepares.{StageFits}
+use Rattle.tdb_txn_turns.specs.declared.preparing.Preparing.{Preparing}
+use Rattle.tdb_txn_turns.proofs.Carried.{rests_stops}
 use Rattle.tdb_commands.specs.declared.options.Options.{Options}
 use Rattle.tdb_holder.specs.declared.stage.Stage.TheVariants as Stage
 use Rattle.tdb_holder.specs.Wents.{TurnsFrom}

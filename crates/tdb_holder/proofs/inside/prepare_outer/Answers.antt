@@ -5,7 +5,7 @@ use Rattle.tdb_law.specs.Commands.Command.{OnGroup}
 use Rattle.tdb_law.specs.Commands.GroupCommand.{Prepare}
 use Rattle.tdb_law.specs.Commands.Turn.{Ends}
 use Rattle.tdb_law.specs.Refusals.{refusal}
-use Rattle.tdb_commit.specs.Laws.{prepares}
+use Rattle.tdb_txn_turns.specs.Laws.{prepares}
 use Rattle.tdb_commands.specs.InLaw.{law_reply, law_turn}
 use Rattle.tdb_commands.specs.declared.command.Command.TheVariants as Given
 use Rattle.tdb_holder.specs.declared.stage.Stage.TheVariants as Stage

@@ -4,8 +4,8 @@ use Rattle.std.specs.Prelude.{◌<◌, ◌^◌}
 use Rattle.tdb_txn.specs.Committing.{MayCommit}
 use Rattle.tdb_txn.specs.Txn.{txn_size}
 use Rattle.tdb_law.specs.Commands.Turn.{Ends}
-use Rattle.tdb_inside.specs.OwnTxns.{form_of}
-use Rattle.tdb_inside.specs.Walks.{RestsInside}
+use Rattle.tdb_txn_turns.specs.InsideTxn.OwnTxns.{form_of}
+use Rattle.tdb_txn_turns.specs.InsideTxn.Walks.{RestsInside}
 use Rattle.tdb_commands.specs.InLaw.{law_command, law_reply, law_turn}
 use Rattle.tdb_holder.specs.declared.stage.Stage.TheVariants as Stage
 use Rattle.tdb_holder.specs.Ends.{task_of}

@@ -5,7 +5,7 @@ use Rattle.tdb_law.specs.Commands.Command.{OnGroup}
 use Rattle.tdb_law.specs.Commands.Reply.{Done}
 use Rattle.tdb_law.specs.Commands.Turn.{Ends}
 use Rattle.tdb_steps.specs.Holdings.{strength}
-use Rattle.tdb_commit.proofs.Carried.{rests_stops}
+use Rattle.tdb_txn_turns.proofs.Carried.{rests_stops}
 use Rattle.tdb_commands.specs.InLaw.{law_turn}
 use Rattle.tdb_commands.specs.declared.command.Command.TheVariants as Given
 use Rattle.tdb_holder.specs.declared.stage.PreparedTxn.TheVariants.{Nothing}

@@ -1,6 +1,6 @@
 -- Where nothing is to be undone the disk is quiet.
 use Rattle.std.proofs.Common.{subst}
-use Rattle.tdb_commit.proofs.Carried.{rests_stops}
+use Rattle.tdb_txn_turns.proofs.Carried.{rests_stops}
 use Rattle.tdb_holder.specs.Stages.{KnowsPrepared}
 use Rattle.tdb_holder.proofs.prepared.end_with.Goals as goal
 

@@ -2,7 +2,7 @@
 use Rattle.std.proofs.Common.{sym, ◌∙◌, ap, subst}
 use Rattle.tdb_law.specs.Commands.GroupCommand.{Prepare}
 use Rattle.tdb_law.specs.Commands.Command.{OnGroup}
-use Rattle.tdb_commit.specs.Prepares.{prepare_steps}
+use Rattle.tdb_txn_turns.specs.Prepares.{prepare_steps}
 use Rattle.tdb_commands.specs.InLaw.{law_turn}
 use Rattle.tdb_holder.specs.declared.stage.Stage.TheVariants as Stage
 use Rattle.tdb_holder.specs.Ends.{task_of}

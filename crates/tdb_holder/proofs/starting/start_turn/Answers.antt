@@ -3,7 +3,7 @@ use Rattle.std.proofs.Common.{refl, sym, subst}
 use Rattle.tdb_space.specs.Form.{form_in}
 use Rattle.tdb_law.specs.Commands.GroupCommand.{Start}
 use Rattle.tdb_law.specs.Commands.Command.{OnGroup}
-use Rattle.tdb_commit.specs.Starts.{start_steps}
+use Rattle.tdb_txn_turns.specs.Starts.{start_steps}
 use Rattle.tdb_commands.specs.InLaw.{law_turn}
 use Rattle.tdb_holder.specs.declared.stage.Stage.TheVariants as Stage
 use Rattle.tdb_holder.specs.Ends.{task_of}

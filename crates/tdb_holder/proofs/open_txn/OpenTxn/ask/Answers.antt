@@ -2,7 +2,7 @@
 use Rattle.std.proofs.Common.{refl}
 use Rattle.tdb_disk.specs.History.{seen}
 use Rattle.tdb_law.specs.Commands.Command.{OnWalk}
-use Rattle.tdb_inside.specs.Walks.{command_for}
+use Rattle.tdb_txn_turns.specs.InsideTxn.Walks.{command_for}
 use Rattle.tdb_holder.proofs.Opened.{goes_by, weaker_with}
 use Rattle.tdb_holder.proofs.open_txn.OpenTxn.ask.Goals as goal
 

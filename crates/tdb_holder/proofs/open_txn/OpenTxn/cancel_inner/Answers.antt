@@ -4,8 +4,8 @@ use Rattle.tdb_locks.specs.declared.turn.Reply.{Reply}
 use Rattle.tdb_law.specs.Commands.GroupCommand.{Cancel}
 use Rattle.tdb_law.specs.Commands.Command.{OnGroup}
 use Rattle.tdb_steps.specs.Turns.{number_of}
-use Rattle.tdb_inside.specs.OwnTxns.{image_of, form_of}
-use Rattle.tdb_inside.specs.Walks.{with_cursor}
+use Rattle.tdb_txn_turns.specs.InsideTxn.OwnTxns.{image_of, form_of}
+use Rattle.tdb_txn_turns.specs.InsideTxn.Walks.{with_cursor}
 use Rattle.tdb_holder.proofs.Opened.{goes_still, same_image}
 use Rattle.tdb_holder.proofs.open_txn.OpenTxn.cancel_inner.Goals as goal
 

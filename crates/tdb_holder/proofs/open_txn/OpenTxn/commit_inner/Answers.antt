@@ -3,8 +3,8 @@ use Rattle.std.proofs.Common.{refl}
 use Rattle.tdb_law.specs.Commands.GroupCommand.{Commit}
 use Rattle.tdb_law.specs.Commands.Command.{OnGroup}
 use Rattle.tdb_steps.specs.Turns.{number_of}
-use Rattle.tdb_inside.specs.OwnTxns.{image_of, form_of}
-use Rattle.tdb_inside.specs.Walks.{with_cursor}
+use Rattle.tdb_txn_turns.specs.InsideTxn.OwnTxns.{image_of, form_of}
+use Rattle.tdb_txn_turns.specs.InsideTxn.Walks.{with_cursor}
 use Rattle.tdb_holder.proofs.Opened.{goes_still, same_image}
 use Rattle.tdb_holder.proofs.open_txn.OpenTxn.commit_inner.Goals as goal
 

@@ -2,7 +2,7 @@
 use Rattle.std.proofs.Common.{refl, sym, ◌∙◌, ap, inl, inr}
 use Rattle.tdb_space.specs.Pairs.{home}
 use Rattle.tdb_law.specs.Commands.LockCommand.{ChainUnlock, UnlockAll}
-use Rattle.tdb_inside.specs.OwnTxns.{form_of}
+use Rattle.tdb_txn_turns.specs.InsideTxn.OwnTxns.{form_of}
 use Rattle.tdb_commands.specs.InLaw.{law_reply}
 use Rattle.tdb_holder.proofs.Opened.{txn_of, is_inside, counts_by, goes_as}
 use Rattle.tdb_holder.proofs.open_txn.OpenTxn.count.Goals as goal

@@ -1,9 +1,9 @@
 -- The count in the words of the law.
 use Rattle.std.proofs.Common.{refl}
 use Rattle.tdb_locks.specs.declared.turn.Reply.{Reply}
-use Rattle.tdb_inside.specs.Counted.{lock_all_of}
-use Rattle.tdb_inside.specs.OwnTxns.{form_of}
-use Rattle.tdb_inside.proofs.ExplicitLocks.{all_starves}
+use Rattle.tdb_txn_turns.specs.InsideTxn.Counted.{lock_all_of}
+use Rattle.tdb_txn_turns.specs.InsideTxn.OwnTxns.{form_of}
+use Rattle.tdb_txn_turns.proofs.InsideTxn.ExplicitLocks.{all_starves}
 use Rattle.tdb_holder.proofs.Opened.{txn_of, is_inside, counts_by}
 use Rattle.tdb_holder.proofs.open_txn.OpenTxn.count_all.Goals as goal
 

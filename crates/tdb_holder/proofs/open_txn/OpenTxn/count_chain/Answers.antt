@@ -2,8 +2,8 @@
 use Rattle.std.proofs.Common.{refl}
 use Rattle.tdb_locks.specs.declared.turn.Reply.{Reply}
 use Rattle.tdb_law.specs.Commands.LockCommand.{ChainLock, ChainLockNb}
-use Rattle.tdb_inside.specs.OwnTxns.{form_of}
-use Rattle.tdb_inside.proofs.ExplicitLocks.{chain_starves, chain_nb_starves}
+use Rattle.tdb_txn_turns.specs.InsideTxn.OwnTxns.{form_of}
+use Rattle.tdb_txn_turns.proofs.InsideTxn.ExplicitLocks.{chain_starves, chain_nb_starves}
 use Rattle.tdb_holder.proofs.Opened.{txn_of, is_inside, counts_by}
 use Rattle.tdb_holder.proofs.open_txn.OpenTxn.count_chain.Goals as goal
 

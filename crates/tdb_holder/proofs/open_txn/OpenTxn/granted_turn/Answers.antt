@@ -4,7 +4,7 @@ use Rattle.tdb_disk.specs.History.{seen}
 use Rattle.tdb_law.specs.Commands.Command.{OnMap}
 use Rattle.tdb_law.specs.Refusals.{refusal}
 use Rattle.tdb_steps.specs.PlainCommands.{command_of}
-use Rattle.tdb_inside.specs.OwnTxns.{form_of}
+use Rattle.tdb_txn_turns.specs.InsideTxn.OwnTxns.{form_of}
 use Rattle.tdb_commands.specs.InLaw.{law_command, law_reply}
 use Rattle.tdb_commands.specs.declared.command.Command.TheVariants as Given
 use Rattle.tdb_holder.proofs.Opened.{goes_as, goes_is, refused_as, weaker}

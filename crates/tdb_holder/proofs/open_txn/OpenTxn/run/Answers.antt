@@ -3,8 +3,8 @@ use Rattle.std.proofs.Common.{refl}
 use Rattle.tdb_disk.specs.History.{seen}
 use Rattle.tdb_law.specs.Commands.Command.{OnMap}
 use Rattle.tdb_steps.specs.PlainCommands.{command_of}
-use Rattle.tdb_inside.specs.Walks.{with_cursor}
-use Rattle.tdb_inside.proofs.Fronts.{accepted_as}
+use Rattle.tdb_txn_turns.specs.InsideTxn.Walks.{with_cursor}
+use Rattle.tdb_txn_turns.proofs.InsideTxn.Fronts.{accepted_as}
 use Rattle.tdb_holder.proofs.Opened.{goes_by, granted_as, starved, weaker_with}
 use Rattle.tdb_holder.proofs.open_txn.OpenTxn.run.Goals as goal
 

@@ -2,7 +2,7 @@
 use Rattle.std.proofs.Common.{refl, arith}
 use Rattle.tdb_disk.specs.History.{seen}
 use Rattle.tdb_law.specs.Commands.Command.{Seqnum}
-use Rattle.tdb_inside.specs.Walks.{with_cursor}
+use Rattle.tdb_txn_turns.specs.InsideTxn.Walks.{with_cursor}
 use Rattle.tdb_holder.proofs.Opened.{goes_still, granted_as, weaker}
 use Rattle.tdb_holder.proofs.open_txn.OpenTxn.sequence.Goals as goal
 

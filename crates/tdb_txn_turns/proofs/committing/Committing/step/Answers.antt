@@ -1,0 +1,47 @@
+-- A turn of a Prepare, and one that ends a commit, as a turn of a Commit.
+use Rattle.std.proofs.Common.{Bool, false, ◌+◌, subst, sym}
+use Rattle.tdb_law.specs.Rows.{commit_locks}
+use Rattle.tdb_txn_turns.specs.Committings.{commit_row, commit_steps, commit_turn, CommitLeads, IsNumbered}
+use Rattle.tdb_txn_turns.specs.Finishes.{finish_steps, finish_turn}
+use Rattle.tdb_txn_turns.specs.Holding.{HoldsRow, RowTurned}
+use Rattle.tdb_txn_turns.specs.Prepares.{prepare_row, prepare_steps, start_held}
+use Rattle.tdb_txn_turns.specs.declared.committing.Committing.TheVariants.{Preparing}
+use Rattle.tdb_txn_turns.specs.declared.finishing.FinishTurn.TheVariants as To
+use Rattle.tdb_txn_turns.proofs.CommitTurns.{finishing_wants, opened_wants, prepare_leads}
+use Rattle.tdb_txn_turns.proofs.committing.Committing.step.Goals as goal
+
+pub returns-in_ok-turn-in-Preparing-clause-locks : goal.returns-in_ok-turn-in-Preparing-clause-locks
+returns-in_ok-turn-in-Preparing-clause-locks g c =
+    let i = c.in_ok-turn-in-Preparing in
+    let p = c.in-Preparing.preparing in
+    let ps = c.args.locks.now in
+    subst (λ s. (numbered : Bool) → IsNumbered s numbered → HoldsRow (commit_row s numbered) start_held c.args.owner (commit_steps s) ps
+    → RowTurned false (commit_row s numbered) start_held c.args.owner (commit_steps s) ps c.go_on.new.locks (commit_turn c.go_on.result)) (sym c.in-Preparing.is)
+    (λ numbered same H. c.go_on.ensures.locks (prepare_row p) start_held (prepare_steps p) ps (i.ensures.locks H) (opened_wants p i.turn i.ensures.leads))
+
+pub returns-in_ok-turn-in-Preparing-clause-leads : goal.returns-in_ok-turn-in-Preparing-clause-leads
+returns-in_ok-turn-in-Preparing-clause-leads g c =
+    let i = c.in_ok-turn-in-Preparing in
+    let p = c.in-Preparing.preparing in
+    subst (λ s. CommitLeads s c.go_on.result) (sym c.in-Preparing.is)
+    (subst (CommitLeads (Preparing p)) (sym c.go_on.ensures.result) (prepare_leads p i.turn i.ensures.leads))
+
+pub returns-in-Step-clause-locks : goal.returns-in-Step-clause-locks
+returns-in-Step-clause-locks g c =
+    let i = c.in_ok-next-in-Finishing in
+    let s = c.in-Finishing.finishing in
+    let ps = c.args.locks.now in
+    subst (λ s. (numbered : Bool) → IsNumbered s numbered → HoldsRow (commit_row s numbered) start_held c.args.owner (commit_steps s) ps
+    → RowTurned false (commit_row s numbered) start_held c.args.owner (commit_steps s) ps c.step-in-Finishing.new.locks (finish_turn (To.Step c.in-Step.next))) (sym c.in-Finishing.is)
+    (λ numbered same H. subst (λ t. RowTurned false (commit_locks numbered) start_held c.args.owner (5 + finish_steps s) ps c.step-in-Finishing.new.locks (finish_turn t)) c.in-Step.is
+    (i.ensures.locks (commit_locks numbered) start_held (5 + finish_steps s) H (finishing_wants numbered s)))
+
+pub returns-in-Done-clause-locks : goal.returns-in-Done-clause-locks
+returns-in-Done-clause-locks g c =
+    let i = c.in_ok-next-in-Finishing in
+    let s = c.in-Finishing.finishing in
+    let ps = c.args.locks.now in
+    subst (λ s. (numbered : Bool) → IsNumbered s numbered → HoldsRow (commit_row s numbered) start_held c.args.owner (commit_steps s) ps
+    → RowTurned false (commit_row s numbered) start_held c.args.owner (commit_steps s) ps c.step-in-Finishing.new.locks (finish_turn To.Done)) (sym c.in-Finishing.is)
+    (λ numbered same H. subst (λ t. RowTurned false (commit_locks numbered) start_held c.args.owner (5 + finish_steps s) ps c.step-in-Finishing.new.locks (finish_turn t)) c.in-Done.is
+    (i.ensures.locks (commit_locks numbered) start_held (5 + finish_steps s) H (finishing_wants numbered s)))

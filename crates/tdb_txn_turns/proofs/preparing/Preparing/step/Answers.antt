@@ -1,0 +1,90 @@
+-- What is known of a stage is what its turn begins with.
+use Rattle.std.proofs.Common.{List, ℕ, IsTrue, IfOk, sym, subst}
+use Rattle.tdb_disk.specs.Count.{RoseBy}
+use Rattle.tdb_txn.specs.Commit.{IsFilled, IsPrepared}
+use Rattle.tdb_txn.specs.CommitStates.{planned_plan, filled_plan, prepared_plan}
+use Rattle.tdb_txn.specs.Planned.{IsPlannedOn}
+use Rattle.tdb_txn_turns.specs.Prepares.{at_stage, KnowsStage, StageFits, PrepareMade}
+use Rattle.tdb_txn_turns.proofs.Carried.{carried_stops, carried_on, carried_filled, rests_stops, ready_rests}
+use Rattle.tdb_txn_turns.proofs.preparing.Preparing.step.Goals as goal
+
+pub returns-in_err-fill-in-Planned-clause-stops : goal.returns-in_err-fill-in-Planned-clause-stops
+returns-in_err-fill-in-Planned-clause-stops g c told r b K =
+    let h = g.D.Disk.history c.args.d.now in
+    carried_stops (IsPlannedOn (planned_plan c.in-Planned.state)) h (g.D.Disk.history c.fill.new.d) r b (subst (λ s. KnowsStage s h r b) c.in-Planned.is K) (c.fill.ensures.stops told)
+
+pub returns-in_err-open_gate-in-Filled-clause-stops : goal.returns-in_err-open_gate-in-Filled-clause-stops
+returns-in_err-open_gate-in-Filled-clause-stops g c told r b K =
+    let h = g.D.Disk.history c.args.d.now in
+    carried_stops (IsFilled (filled_plan c.in-Filled.state)) h (g.D.Disk.history c.open_gate.new.d) r b (subst (λ s. KnowsStage s h r b) c.in-Filled.is K) (c.open_gate.ensures.stops told)
+
+pub returns-in-Unchanged-clause-stops : goal.returns-in-Unchanged-clause-stops
+returns-in-Unchanged-clause-stops g c told r b K =
+    let h = g.D.Disk.history c.args.d.now in
+    rests_stops h r (subst (λ s. KnowsStage s h r b) c.in-Unchanged.is K)
+
+pub returns-in-Begun-clause-stops : goal.returns-in-Begun-clause-stops
+returns-in-Begun-clause-stops g c told r b K =
+    let h = g.D.Disk.history c.args.d.now in
+    rests_stops h r (ready_rests c.in-Begun.txn h r b (subst (λ s. KnowsStage s h r b) c.in-Begun.is K))
+
+pub returns-in-Begun-clause-made : goal.returns-in-Begun-clause-made
+returns-in-Begun-clause-made g c told r b =
+    let h = g.D.Disk.history c.args.d.now in
+    subst (λ s. KnowsStage s h r b → PrepareMade c.args.limit r b h h (at_stage c.args.self.numbered s) c.records_turn.result) (sym c.in-Begun.is)
+    (c.records_turn.ensures.made c.args.limit r b h)
+
+pub returns-in-Begun-clause-leaves : goal.returns-in-Begun-clause-leaves
+returns-in-Begun-clause-leaves g c =
+    let size = g.D.Disk.size c.args.d.now in
+    c.records_turn.ensures.leaves size c.args.limit (subst (λ s. StageFits s size c.args.limit) c.in-Begun.is c.requires.fits)
+
+pub returns-in-Records-clause-stops : goal.returns-in-Records-clause-stops
+returns-in-Records-clause-stops g c told r b K =
+    let h = g.D.Disk.history c.args.d.now in
+    rests_stops h r (ready_rests c.in-Records.txn h r b (subst (λ s. KnowsStage s h r b) c.in-Records.is K))
+
+pub returns-in-Records-clause-made : goal.returns-in-Records-clause-made
+returns-in-Records-clause-made g c told r b =
+    let h = g.D.Disk.history c.args.d.now in
+    subst (λ s. KnowsStage s h r b → PrepareMade c.args.limit r b h h (at_stage c.args.self.numbered s) c.opening_turn.result) (sym c.in-Records.is)
+    (c.opening_turn.ensures.made c.args.limit r b h)
+
+pub returns-in-Records-clause-leaves : goal.returns-in-Records-clause-leaves
+returns-in-Records-clause-leaves g c =
+    let size = g.D.Disk.size c.args.d.now in
+    c.opening_turn.ensures.leaves size c.args.limit (subst (λ s. StageFits s size c.args.limit) c.in-Records.is c.requires.fits)
+
+pub returns-in-Locked-clause-stops : goal.returns-in-Locked-clause-stops
+returns-in-Locked-clause-stops g c told r b K =
+    let h = g.D.Disk.history c.args.d.now in
+    c.plan_turn.ensures.stops told r b (subst (λ s. KnowsStage s h r b) c.in-Locked.is K)
+
+pub returns-in-Locked-clause-made : goal.returns-in-Locked-clause-made
+returns-in-Locked-clause-made g c =
+    let h = g.D.Disk.history c.args.d.now in
+    let new = g.D.Disk.history c.plan_turn.new.d in
+    subst (λ s. IfOk c.plan_turn.result (λ turn. IsTrue g.D.Disk.tells → (r b : List ℕ) → KnowsStage s h r b → PrepareMade c.args.limit r b h new (at_stage c.args.self.numbered s) turn)) (sym c.in-Locked.is)
+    c.plan_turn.ensures.made
+
+pub returns-in_ok-fill-in-Planned-clause-stops : goal.returns-in_ok-fill-in-Planned-clause-stops
+returns-in_ok-fill-in-Planned-clause-stops g c told r b K =
+    let h = g.D.Disk.history c.args.d.now in
+    carried_stops (IsPlannedOn (planned_plan c.in-Planned.state)) h (g.D.Disk.history c.fill.new.d) r b (subst (λ s. KnowsStage s h r b) c.in-Planned.is K) (c.fill.ensures.stops told)
+
+pub returns-in_ok-fill-in-Planned-clause-made : goal.returns-in_ok-fill-in-Planned-clause-made
+returns-in_ok-fill-in-Planned-clause-made g c told r b K =
+    let h = g.D.Disk.history c.args.d.now in
+    carried_filled (RoseBy 1 (g.D.Disk.syncs c.args.d.now) (g.D.Disk.syncs c.fill.new.d)) (planned_plan c.in-Planned.state) (filled_plan c.in_ok-fill-in-Planned.field-0) h (g.D.Disk.history c.fill.new.d) r b
+    (subst (λ s. KnowsStage s h r b) c.in-Planned.is K) (c.in_ok-fill-in-Planned.ensures.filled told)
+
+pub returns-in_ok-open_gate-in-Filled-clause-stops : goal.returns-in_ok-open_gate-in-Filled-clause-stops
+returns-in_ok-open_gate-in-Filled-clause-stops g c told r b K =
+    let h = g.D.Disk.history c.args.d.now in
+    carried_stops (IsFilled (filled_plan c.in-Filled.state)) h (g.D.Disk.history c.open_gate.new.d) r b (subst (λ s. KnowsStage s h r b) c.in-Filled.is K) (c.open_gate.ensures.stops told)
+
+pub returns-in_ok-open_gate-in-Filled-clause-made : goal.returns-in_ok-open_gate-in-Filled-clause-made
+returns-in_ok-open_gate-in-Filled-clause-made g c told r b K =
+    let h = g.D.Disk.history c.args.d.now in
+    carried_on (IsFilled (filled_plan c.in-Filled.state)) (IsPrepared (prepared_plan c.in_ok-open_gate-in-Filled.field-0)) h (g.D.Disk.history c.open_gate.new.d) r b
+    (subst (λ s. KnowsStage s h r b) c.in-Filled.is K) (c.in_ok-open_gate-in-Filled.ensures.prepared told)
