@@ -8,8 +8,8 @@ use Rattle.tdb_law.proofs.Tests.{never_true}
 use Rattle.tdb_law.proofs.Walking.{put_here}
 use Rattle.tdb_law.specs.OneAside.Sides.{Past, Side, whole}
 use Rattle.tdb_law.specs.OneAside.Starts.{new_start}
-use Rattle.tdb_holder.specs.Holders.{HolderState}
-use Rattle.tdb_holder.specs.Stages.{stage_task}
+use Rattle.tdb_txn_owner.specs.Holders.{HolderState}
+use Rattle.tdb_txn_owner.specs.Stages.{stage_task}
 use Rattle.tdb_commands.proofs.NameLemmas.{each_command}
 use Rattle.tdb_commands.specs.InLaw.{law_opener, law_command}
 use Rattle.tdb_commands.specs.declared.command.Command.{Command}

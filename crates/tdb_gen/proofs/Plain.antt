@@ -11,10 +11,10 @@ use Rattle.tdb_law.proofs.Walking.{put_here}
 use Rattle.tdb_law.specs.OneAside.Sides.{Past, Side, but_at}
 use Rattle.tdb_law.specs.OneAside.Starts.{new_start}
 use Rattle.tdb_commands.specs.declared.options.Options.{Options}
-use Rattle.tdb_holder.specs.Holders.{HolderState}
-use Rattle.tdb_holder.specs.Stages.{stage_task, Known, OwnIs}
-use Rattle.tdb_holder.specs.declared.stage.Stage.{Stage}
-use Rattle.tdb_holder.specs.declared.stage.Stage.TheVariants as At
+use Rattle.tdb_txn_owner.specs.Holders.{HolderState}
+use Rattle.tdb_txn_owner.specs.Stages.{stage_task, Known, OwnIs}
+use Rattle.tdb_txn_owner.specs.declared.stage.Stage.{Stage}
+use Rattle.tdb_txn_owner.specs.declared.stage.Stage.TheVariants as At
 use Rattle.tdb_openers.proofs.AllHands.{joined_none}
 use Rattle.tdb_openers.specs.Openers.{law_task, task_at, hands_of_task, hands_at}
 use Rattle.tdb_openers.specs.Worlds.{state_in, BytesStand}

@@ -6,7 +6,7 @@ use crate::small::{bytes, file};
 use crate::words::{Word, command};
 use std::alloc::{AllocError, Global};
 use std::test::Fail;
-use tdb_holder::{Holder, Wants};
+use tdb_txn_owner::{Holder, Wants};
 use tdb_locks::Kind;
 
 /// An opener after so many turns of the last of these commands, where changes raise the sequence number: its command that

@@ -1,4 +1,4 @@
-//! Tests of the opener that has a transaction, turn by turn, over the public calls of `tdb_holder`.
+//! Tests of the opener that has a transaction, turn by turn, over the public calls of `tdb_txn_owner`.
 #![tactic(auto)]
 
 #[cfg(test)]

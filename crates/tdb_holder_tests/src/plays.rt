@@ -1,7 +1,7 @@
 //! Commands of an opener over a small file, turn by turn.
 ghost use Rattle.std.specs.Prelude.{◌≡◌, IfOk, IfSome};
 ghost use Rattle.tdb_disk.specs.MemDisk.{memory_size};
-ghost use Rattle.tdb_holder.specs.Stages.{IsFit};
+ghost use Rattle.tdb_txn_owner.specs.Stages.{IsFit};
 
 use crate::rows::{DONE, FileState, Row, STEP};
 use crate::small::{HEADER, LIMIT, bytes, file};
@@ -10,7 +10,7 @@ use crate::words::Word;
 use std::alloc::{AllocError, Global};
 use std::test::Fail;
 use tdb_disk::MemDisk;
-use tdb_holder::{Holder, Wants};
+use tdb_txn_owner::{Holder, Wants};
 use tdb_locks::Kind;
 
 /// The most turns that a command takes.

@@ -1,7 +1,7 @@
 //! What is told of a turn, and of the file after it.
 
 use tdb_disk::MemDisk;
-use tdb_holder::Wants;
+use tdb_txn_owner::Wants;
 use tdb_locks::{Reply, Turn};
 use tdb_words::Bytes;
 

@@ -1,15 +1,15 @@
 //! Turns of an opener by itself.
 ghost use Rattle.std.specs.Prelude.{◌≡◌, ℕ, false, IfOk, IfSome};
 ghost use Rattle.tdb_disk.specs.MemDisk.{memory_size};
-ghost use Rattle.tdb_holder.specs.Holders.{is_idle};
-ghost use Rattle.tdb_holder.specs.Stages.{IsFit};
+ghost use Rattle.tdb_txn_owner.specs.Holders.{is_idle};
+ghost use Rattle.tdb_txn_owner.specs.Stages.{IsFit};
 
 use crate::rows::{IO, Row, state_of, told};
 use crate::small::{HEADER, LIMIT};
 use crate::words::{Word, command};
 use std::alloc::{AllocError, Global};
 use tdb_disk::MemDisk;
-use tdb_holder::{Holder, Moved, Options};
+use tdb_txn_owner::{Holder, Moved, Options};
 use tdb_space::Io;
 
 /// Takes a turn of the opener's command, where changes raise the sequence number or not: what is told of it, and the

@@ -24,10 +24,10 @@ use Rattle.tdb_txn.specs.Pages.{length_filled, byte_over}
 use Rattle.tdb_txn.specs.Txn.{txn_pages}
 use Rattle.tdb_law.specs.OneAside.Sides.{Past, Side}
 use Rattle.tdb_law.specs.OneAside.Starts.{new_start}
-use Rattle.tdb_holder.specs.Holders.{HolderState}
-use Rattle.tdb_holder.specs.Stages.{Known, KnowsAt, OwnIs, IsFit, stage_records, stage_task}
-use Rattle.tdb_holder.specs.declared.stage.Stage.{Stage}
-use Rattle.tdb_holder.specs.declared.stage.Stage.TheVariants as At
+use Rattle.tdb_txn_owner.specs.Holders.{HolderState}
+use Rattle.tdb_txn_owner.specs.Stages.{Known, KnowsAt, OwnIs, IsFit, stage_records, stage_task}
+use Rattle.tdb_txn_owner.specs.declared.stage.Stage.{Stage}
+use Rattle.tdb_txn_owner.specs.declared.stage.Stage.TheVariants as At
 use Rattle.tdb_commands.specs.declared.options.Options.{Options}
 use Rattle.tdb_openers.specs.Openers.{own_at}
 use Rattle.tdb_openers.specs.Worlds.{state_in}
@@ -36,7 +36,7 @@ use Rattle.tdb_whole.specs.Died.{IsReadAs}
 use Rattle.tdb_whole.specs.States.{IsSeen, IsAside, SideIs, IsStateOf, state_with, writes_all}
 use Rattle.tdb_whole.specs.States.IsStateOf.{of_whole, of_stale}
 use Rattle.tdb_whole.specs.Whole.{Whole, form_at, options_at, is_starting, HolderFits, AsideFits, WorldFits}
-use Rattle.tdb_holder.proofs.ReadAs.{restored_accepted, OpensIn}
+use Rattle.tdb_txn_owner.proofs.ReadAs.{restored_accepted, OpensIn}
 use Rattle.tdb_whole.proofs.Reopening.{aside_opens, state_reopens}
 use Rattle.tdb_tool.proofs.Moves.{sight}
 

@@ -21,8 +21,8 @@ use Rattle.tdb_law.specs.OneAside.Sides.{Past, Side, alone, whole}
 use Rattle.tdb_law.specs.OneAside.Starts.{with_starts, MayStart}
 use Rattle.tdb_law.proofs.OneAside.Happening.{joins_beside}
 use Rattle.tdb_law.proofs.OneAside.Starting.{starts_join, task_not}
-use Rattle.tdb_holder.specs.Holders.{HolderState}
-use Rattle.tdb_holder.specs.Stages.{IsSide, Known}
+use Rattle.tdb_txn_owner.specs.Holders.{HolderState}
+use Rattle.tdb_txn_owner.specs.Stages.{IsSide, Known}
 use Rattle.tdb_openers.specs.Aside.{LocksNoRecord}
 use Rattle.tdb_openers.specs.Laws.{IsJoined}
 use Rattle.tdb_openers.specs.Worlds.{World, fresh, state_in, BytesStand, IsNumber, Stands}

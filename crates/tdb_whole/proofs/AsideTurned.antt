@@ -19,11 +19,11 @@ use Rattle.tdb_law.specs.World.{State}
 use Rattle.tdb_steps.specs.Turns.{number_of}
 use Rattle.tdb_law.specs.OneAside.Own.{OwnTurned, ShowsSide, side_wants}
 use Rattle.tdb_law.specs.OneAside.Sides.{Past, Side, alone, beside}
-use Rattle.tdb_holder.specs.Lifts.{IsBack, OthersKeep}
-use Rattle.tdb_holder.specs.Stages.{Known}
-use Rattle.tdb_holder.specs.Turned.{StageTurned}
-use Rattle.tdb_holder.specs.declared.stage.Stage.{Stage}
-use Rattle.tdb_holder.proofs.Lifting.{beside_ends, beside_turns}
+use Rattle.tdb_txn_owner.specs.Lifts.{IsBack, OthersKeep}
+use Rattle.tdb_txn_owner.specs.Stages.{Known}
+use Rattle.tdb_txn_owner.specs.Turned.{StageTurned}
+use Rattle.tdb_txn_owner.specs.declared.stage.Stage.{Stage}
+use Rattle.tdb_txn_owner.proofs.Lifting.{beside_ends, beside_turns}
 use Rattle.tdb_openers.specs.Openers.{place_at}
 use Rattle.tdb_openers.specs.States.{state_of}
 use Rattle.tdb_openers.specs.declared.opener.Opener.{Opener}

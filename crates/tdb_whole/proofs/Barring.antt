@@ -21,7 +21,7 @@ use Rattle.tdb_law.specs.Refusals.{Refusal, refusal}
 use Rattle.tdb_law.specs.Rows.{changed_by, commit_locks, commits_in, gate_shut, is_changed, locks_by, locks, plans_in}
 use Rattle.tdb_law.proofs.Locks.{locked_grows}
 use Rattle.tdb_law.proofs.Tests.{and_both}
-use Rattle.tdb_holder.specs.Ends.{task_of}
+use Rattle.tdb_txn_owner.specs.Ends.{task_of}
 
 -- where changes don't count a commit doesn't lock the byte, and from its second step on it does where they do
 uncounted : (n : ℕ) → locked (commit_locks false) n 48 ≡ 0

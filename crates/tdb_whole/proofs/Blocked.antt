@@ -13,14 +13,14 @@ use Rattle.tdb_law.specs.OneAside.Own.{side_wants}
 use Rattle.tdb_law.specs.OneAside.Sides.{Past, Side, beside}
 use Rattle.tdb_law.specs.OneAside.Starts.{with_starts}
 use Rattle.tdb_law.proofs.OneAside.Starting.{starts_turn}
-use Rattle.tdb_holder.specs.Holders.{HolderState}
-use Rattle.tdb_holder.specs.Lifts.{OthersKeep}
-use Rattle.tdb_holder.specs.Stages.{stage_task, Known}
-use Rattle.tdb_holder.specs.Wanting.{stage_wants, wanted_by}
-use Rattle.tdb_holder.specs.declared.wanting.Wants.{Wants}
-use Rattle.tdb_holder.proofs.Lifting.{beside_turns}
-use Rattle.tdb_holder.proofs.Waiting.{block_is_own}
-use Rattle.tdb_holder.proofs.Wanted.{wanted_law}
+use Rattle.tdb_txn_owner.specs.Holders.{HolderState}
+use Rattle.tdb_txn_owner.specs.Lifts.{OthersKeep}
+use Rattle.tdb_txn_owner.specs.Stages.{stage_task, Known}
+use Rattle.tdb_txn_owner.specs.Wanting.{stage_wants, wanted_by}
+use Rattle.tdb_txn_owner.specs.declared.wanting.Wants.{Wants}
+use Rattle.tdb_txn_owner.proofs.Lifting.{beside_turns}
+use Rattle.tdb_txn_owner.proofs.Waiting.{block_is_own}
+use Rattle.tdb_txn_owner.proofs.Wanted.{wanted_law}
 use Rattle.tdb_openers.specs.Aside.{wants_all}
 use Rattle.tdb_openers.specs.Turning.{law_table}
 use Rattle.tdb_openers.specs.Worlds.{state_in}

@@ -11,12 +11,12 @@ use Rattle.tdb_commands.specs.InLaw.{law_turn}
 use Rattle.tdb_commands.specs.declared.options.Options.{Options}
 use Rattle.tdb_law.specs.OneAside.Sides.{Past, Side}
 use Rattle.tdb_space.specs.Form.{form_in}
-use Rattle.tdb_holder.specs.Ends.{IsBlocked}
-use Rattle.tdb_holder.specs.Holders.{is_idle, left_stage, HolderState, HolderTurned}
-use Rattle.tdb_holder.specs.Stages.{is_closing, stage_task, IsFitLeft, IsSide, Known, KnowsFile}
-use Rattle.tdb_holder.specs.Turned.{BeginsOn, MayTurn}
-use Rattle.tdb_holder.specs.declared.wanting.Wants.TheVariants as Wants
-use Rattle.tdb_holder.specs.Wanting.{stage_wants, RecordsGo}
+use Rattle.tdb_txn_owner.specs.Ends.{IsBlocked}
+use Rattle.tdb_txn_owner.specs.Holders.{is_idle, left_stage, HolderState, HolderTurned}
+use Rattle.tdb_txn_owner.specs.Stages.{is_closing, stage_task, IsFitLeft, IsSide, Known, KnowsFile}
+use Rattle.tdb_txn_owner.specs.Turned.{BeginsOn, MayTurn}
+use Rattle.tdb_txn_owner.specs.declared.wanting.Wants.TheVariants as Wants
+use Rattle.tdb_txn_owner.specs.Wanting.{stage_wants, RecordsGo}
 use Rattle.tdb_openers.specs.Worlds.{BytesStand, IsNumber, Stands, World}
 use Rattle.tdb_openers.specs.declared.opener.Opener.{Opener}
 use Rattle.tdb_openers.proofs.Aside.{one_number}

@@ -3,7 +3,7 @@ use Rattle.std.proofs.Common.{◌≡◌, ℕ, List, Option, Some, refl, sym, ◌
 use Rattle.tdb_locks.specs.declared.kind.Kind.{Kind}
 use Rattle.tdb_locks.specs.declared.piece.Piece.{Piece}
 use Rattle.tdb_commands.specs.InLaw.{law_opener}
-use Rattle.tdb_holder.specs.declared.wanting.Wants.{Wants}
+use Rattle.tdb_txn_owner.specs.declared.wanting.Wants.{Wants}
 use Rattle.tdb_openers.specs.Aside.{with_records, AreFree, HoldsRecords, IsBare}
 use Rattle.tdb_openers.specs.Worlds.{BytesStand, IsNumber, Stands, World}
 use Rattle.tdb_openers.specs.declared.opener.Opener.{Opener}

@@ -7,9 +7,9 @@ use Rattle.tdb_law.specs.World.{State, IsSound}
 use Rattle.tdb_commands.specs.InLaw.{law_opener}
 use Rattle.tdb_law.specs.OneAside.Sides.{beside, whole}
 use Rattle.tdb_law.specs.OneAside.Starts.{with_starts}
-use Rattle.tdb_holder.specs.Holders.{stage_gate, HolderState}
-use Rattle.tdb_holder.proofs.Gates.{gate_writes}
-use Rattle.tdb_holder.specs.Stages.{stage_task}
+use Rattle.tdb_txn_owner.specs.Holders.{stage_gate, HolderState}
+use Rattle.tdb_txn_owner.proofs.Gates.{gate_writes}
+use Rattle.tdb_txn_owner.specs.Stages.{stage_task}
 use Rattle.tdb_openers.specs.Died.{HasDied}
 use Rattle.tdb_openers.specs.Worlds.{World, state_in, BytesStand, Stands}
 use Rattle.tdb_whole.specs.States.{IsStateOf}

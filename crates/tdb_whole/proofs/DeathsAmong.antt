@@ -19,7 +19,7 @@ use Rattle.tdb_law.specs.OneAside.Sides.{Past, Side, alone, whole}
 use Rattle.tdb_law.specs.OneAside.Starts.{with_starts}
 use Rattle.tdb_law.proofs.OneAside.Happening.{dies_beside}
 use Rattle.tdb_law.proofs.OneAside.Starting.{starts_die}
-use Rattle.tdb_holder.specs.Holders.{HolderState}
+use Rattle.tdb_txn_owner.specs.Holders.{HolderState}
 use Rattle.tdb_openers.specs.Aside.{LocksNoRecord}
 use Rattle.tdb_openers.specs.Died.{HasDied}
 use Rattle.tdb_openers.specs.Worlds.{World, state_in, BytesStand, Stands}

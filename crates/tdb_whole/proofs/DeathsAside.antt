@@ -29,9 +29,9 @@ use Rattle.tdb_commands.specs.declared.options.Options.{Options}
 use Rattle.tdb_law.specs.OneAside.Sides.{Past, Side, alone, beside, StandsAside}
 use Rattle.tdb_law.specs.OneAside.Starts.{with_starts}
 use Rattle.tdb_law.proofs.OneAside.Starting.{starts_die}
-use Rattle.tdb_holder.specs.Holders.{stage_gate, HolderState}
-use Rattle.tdb_holder.specs.Stages.{stage_records, stage_task}
-use Rattle.tdb_holder.proofs.Gates.{gate_law, gate_rests, gate_undone, gate_writes, IsAtRest, IsUndone}
+use Rattle.tdb_txn_owner.specs.Holders.{stage_gate, HolderState}
+use Rattle.tdb_txn_owner.specs.Stages.{stage_records, stage_task}
+use Rattle.tdb_txn_owner.proofs.Gates.{gate_law, gate_rests, gate_undone, gate_writes, IsAtRest, IsUndone}
 use Rattle.tdb_openers.specs.Aside.{LocksNoRecord}
 use Rattle.tdb_openers.specs.Openers.{own_at, place_at}
 use Rattle.tdb_openers.specs.Worlds.{state_in, BytesStand, Stands}

@@ -7,10 +7,10 @@ use Rattle.tdb_locks.specs.declared.turn.Turn.{Turn as TurnIs}
 use Rattle.tdb_locks.specs.declared.turn.Turn.TheVariants as Turns
 use Rattle.tdb_law.proofs.Tests.{never_true}
 use Rattle.tdb_commands.specs.InLaw.{law_opener}
-use Rattle.tdb_holder.specs.Holders.{left_stage, HolderState}
-use Rattle.tdb_holder.specs.Stages.{is_closing, stage_records, IsFit, IsFitLeft}
-use Rattle.tdb_holder.specs.Wanting.{records_by, stage_wants, RecordsGo}
-use Rattle.tdb_holder.specs.declared.wanting.Wants.{Wants}
+use Rattle.tdb_txn_owner.specs.Holders.{left_stage, HolderState}
+use Rattle.tdb_txn_owner.specs.Stages.{is_closing, stage_records, IsFit, IsFitLeft}
+use Rattle.tdb_txn_owner.specs.Wanting.{records_by, stage_wants, RecordsGo}
+use Rattle.tdb_txn_owner.specs.declared.wanting.Wants.{Wants}
 use Rattle.tdb_openers.specs.Aside.{HoldsRecords}
 use Rattle.tdb_openers.specs.Worlds.{BytesStand, IsNumber, Stands, World}
 use Rattle.tdb_openers.specs.declared.opener.Opener.{Opener}

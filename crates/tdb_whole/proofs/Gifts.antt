@@ -32,11 +32,11 @@ use Rattle.tdb_law.proofs.OneAside.Happening.{given_beside}
 use Rattle.tdb_law.proofs.OneAside.Starting.{start_given, starts_given}
 use Rattle.tdb_words.specs.declared.header.Header.{Header}
 use Rattle.tdb_commands.specs.declared.options.Options.{Options}
-use Rattle.tdb_holder.specs.Ends.{task_of}
-use Rattle.tdb_holder.specs.Holders.{is_idle, with_command, HolderState}
-use Rattle.tdb_holder.specs.Stages.{stage_records, stage_task, IsFit, IsSide, KnowsFile, Known}
-use Rattle.tdb_holder.specs.declared.stage.Stage.{Stage}
-use Rattle.tdb_holder.specs.declared.stage.Stage.TheVariants as At
+use Rattle.tdb_txn_owner.specs.Ends.{task_of}
+use Rattle.tdb_txn_owner.specs.Holders.{is_idle, with_command, HolderState}
+use Rattle.tdb_txn_owner.specs.Stages.{stage_records, stage_task, IsFit, IsSide, KnowsFile, Known}
+use Rattle.tdb_txn_owner.specs.declared.stage.Stage.{Stage}
+use Rattle.tdb_txn_owner.specs.declared.stage.Stage.TheVariants as At
 use Rattle.tdb_openers.specs.Aside.{IsBare, LocksNoRecord}
 use Rattle.tdb_openers.specs.Given.{IsWellHeld}
 use Rattle.tdb_openers.specs.Laws.{IsPut}

@@ -31,15 +31,15 @@ use Rattle.tdb_commands.specs.declared.options.Options.{Options}
 use Rattle.tdb_law.specs.OneAside.Sides.{Past, Side, beside}
 use Rattle.tdb_law.specs.OneAside.Starts.{with_starts, MayStart}
 use Rattle.tdb_law.proofs.OneAside.Starting.{starts_turn}
-use Rattle.tdb_holder.specs.Ends.{task_of, IsBlocked}
-use Rattle.tdb_holder.specs.Holders.{HolderState}
-use Rattle.tdb_holder.specs.Stages.{stage_records, stage_task, Known, KnowsFile, IsSide, MarkIs}
-use Rattle.tdb_holder.specs.Turned.{BeginsOn, KeepsFile, MayTurn, StageTurned, brings, keeps}
-use Rattle.tdb_holder.specs.Wanting.{records_after, records_with, stage_wants}
-use Rattle.tdb_holder.specs.declared.stage.Stage.{Stage}
-use Rattle.tdb_holder.specs.declared.stage.Stage.TheVariants as At
-use Rattle.tdb_holder.specs.declared.wanting.Wants.{Wants}
-use Rattle.tdb_holder.proofs.Wanted.{wanted_law}
+use Rattle.tdb_txn_owner.specs.Ends.{task_of, IsBlocked}
+use Rattle.tdb_txn_owner.specs.Holders.{HolderState}
+use Rattle.tdb_txn_owner.specs.Stages.{stage_records, stage_task, Known, KnowsFile, IsSide, MarkIs}
+use Rattle.tdb_txn_owner.specs.Turned.{BeginsOn, KeepsFile, MayTurn, StageTurned, brings, keeps}
+use Rattle.tdb_txn_owner.specs.Wanting.{records_after, records_with, stage_wants}
+use Rattle.tdb_txn_owner.specs.declared.stage.Stage.{Stage}
+use Rattle.tdb_txn_owner.specs.declared.stage.Stage.TheVariants as At
+use Rattle.tdb_txn_owner.specs.declared.wanting.Wants.{Wants}
+use Rattle.tdb_txn_owner.proofs.Wanted.{wanted_law}
 use Rattle.tdb_openers.specs.Openers.{place_at, spot_at}
 use Rattle.tdb_openers.specs.Worlds.{state_in, BytesStand, IsNumber, Stands}
 use Rattle.tdb_openers.specs.declared.opener.Opener.{Opener}

@@ -14,11 +14,11 @@ use Rattle.tdb_commands.specs.declared.options.Options.{Options}
 use Rattle.tdb_law.specs.OneAside.Sides.{Past, Side}
 use Rattle.tdb_law.specs.OneAside.Starts.{new_start}
 use Rattle.tdb_txn_turns.specs.Starts.{start_steps}
-use Rattle.tdb_holder.specs.Ends.{task_of}
-use Rattle.tdb_holder.specs.Holders.{HolderState}
-use Rattle.tdb_holder.specs.Stages.{IsSide, Known}
-use Rattle.tdb_holder.specs.declared.stage.Stage.{Stage}
-use Rattle.tdb_holder.specs.declared.stage.Stage.TheVariants as At
+use Rattle.tdb_txn_owner.specs.Ends.{task_of}
+use Rattle.tdb_txn_owner.specs.Holders.{HolderState}
+use Rattle.tdb_txn_owner.specs.Stages.{IsSide, Known}
+use Rattle.tdb_txn_owner.specs.declared.stage.Stage.{Stage}
+use Rattle.tdb_txn_owner.specs.declared.stage.Stage.TheVariants as At
 use Rattle.tdb_openers.specs.Worlds.{state_in}
 use Rattle.tdb_whole.specs.Syncs.{OnlyLooks}
 use Rattle.tdb_whole.specs.States.{state_with, IsStateOf, SideIs}

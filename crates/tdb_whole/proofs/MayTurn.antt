@@ -13,10 +13,10 @@ use Rattle.tdb_law.specs.Rows.{commit_locks, lock}
 use Rattle.tdb_law.specs.OneAside.Own.{side_wants}
 use Rattle.tdb_law.specs.OneAside.Sides.{Past, Side, beside, but_at}
 use Rattle.tdb_txn_turns.specs.Holding.{want_of}
-use Rattle.tdb_holder.specs.Turned.{MayTurn}
-use Rattle.tdb_holder.specs.Wanting.{wanted_by}
-use Rattle.tdb_holder.specs.declared.wanting.Wants.{Wants}
-use Rattle.tdb_holder.proofs.Waiting.{commit_wants}
+use Rattle.tdb_txn_owner.specs.Turned.{MayTurn}
+use Rattle.tdb_txn_owner.specs.Wanting.{wanted_by}
+use Rattle.tdb_txn_owner.specs.declared.wanting.Wants.{Wants}
+use Rattle.tdb_txn_owner.proofs.Waiting.{commit_wants}
 use Rattle.tdb_commands.specs.declared.options.Options.{Options}
 use Rattle.tdb_openers.specs.Aside.{wants_all}
 use Rattle.tdb_openers.specs.States.{state_of, WorldStands}

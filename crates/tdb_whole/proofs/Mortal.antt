@@ -7,8 +7,8 @@ use Rattle.tdb_law.specs.World.{State}
 use Rattle.tdb_law.proofs.Walking.{put_here}
 use Rattle.tdb_commands.specs.InLaw.{law_opener}
 use Rattle.tdb_law.specs.OneAside.Sides.{whole}
-use Rattle.tdb_holder.specs.Holders.{HolderState}
-use Rattle.tdb_holder.specs.Stages.{stage_task}
+use Rattle.tdb_txn_owner.specs.Holders.{HolderState}
+use Rattle.tdb_txn_owner.specs.Stages.{stage_task}
 use Rattle.tdb_openers.specs.Died.{MayDieIn}
 use Rattle.tdb_openers.specs.Died.{CanDie as CanDieAmong}
 use Rattle.tdb_openers.specs.Worlds.{state_in}

@@ -26,15 +26,15 @@ use Rattle.tdb_txn_turns.specs.declared.starting.Starting.TheVariants as Starts
 use Rattle.tdb_txn_turns.proofs.Lawful.{commit_holds, finish_holds, start_holds}
 use Rattle.tdb_commands.specs.InLaw.{law_command}
 use Rattle.tdb_commands.specs.declared.options.Options.{Options}
-use Rattle.tdb_holder.specs.declared.stage.PreparedTxn.{PreparedTxn}
-use Rattle.tdb_holder.specs.declared.stage.PreparedTxn.TheVariants.{Opened, Nothing}
-use Rattle.tdb_holder.specs.declared.stage.Stage.{Stage}
-use Rattle.tdb_holder.specs.declared.stage.Stage.TheVariants as At
-use Rattle.tdb_holder.specs.Ends.{task_of}
-use Rattle.tdb_holder.specs.Stages.{plan_records, prepared_records, prepared_steps, stage_records, stage_task, Known, IsSide}
-use Rattle.tdb_holder.proofs.Keeping.{keeps_nothing}
-use Rattle.tdb_holder.proofs.Planned.{has_plan}
-use Rattle.tdb_holder.proofs.RecordsHeld.{holds_given}
+use Rattle.tdb_txn_owner.specs.declared.stage.PreparedTxn.{PreparedTxn}
+use Rattle.tdb_txn_owner.specs.declared.stage.PreparedTxn.TheVariants.{Opened, Nothing}
+use Rattle.tdb_txn_owner.specs.declared.stage.Stage.{Stage}
+use Rattle.tdb_txn_owner.specs.declared.stage.Stage.TheVariants as At
+use Rattle.tdb_txn_owner.specs.Ends.{task_of}
+use Rattle.tdb_txn_owner.specs.Stages.{plan_records, prepared_records, prepared_steps, stage_records, stage_task, Known, IsSide}
+use Rattle.tdb_txn_owner.proofs.Keeping.{keeps_nothing}
+use Rattle.tdb_txn_owner.proofs.Planned.{has_plan}
+use Rattle.tdb_txn_owner.proofs.RecordsHeld.{holds_given}
 
 -- so much is held of it, where all records are held so
 abbrev pub HoldsNumber : Option Kind → ℕ → Type 0

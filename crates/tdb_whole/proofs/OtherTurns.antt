@@ -23,10 +23,10 @@ use Rattle.tdb_law.proofs.OneAside.Beside.{alone_turns, beside_turns}
 use Rattle.tdb_law.proofs.OneAside.Starting.{starts_turn}
 use Rattle.tdb_commands.specs.InLaw.{law_opener, law_command}
 use Rattle.tdb_commands.specs.declared.options.Options.{Options}
-use Rattle.tdb_holder.specs.Holders.{HolderState}
-use Rattle.tdb_holder.specs.Stages.{commit_records, plan_records, prepared_records, stage_records, IsFit, IsSide, Known, KnowsFile}
-use Rattle.tdb_holder.specs.declared.stage.Stage.{Stage}
-use Rattle.tdb_holder.specs.declared.stage.Stage.TheVariants as At
+use Rattle.tdb_txn_owner.specs.Holders.{HolderState}
+use Rattle.tdb_txn_owner.specs.Stages.{commit_records, plan_records, prepared_records, stage_records, IsFit, IsSide, Known, KnowsFile}
+use Rattle.tdb_txn_owner.specs.declared.stage.Stage.{Stage}
+use Rattle.tdb_txn_owner.specs.declared.stage.Stage.TheVariants as At
 use Rattle.tdb_openers.specs.Calm.{WritesNoRecord}
 use Rattle.tdb_openers.specs.Openers.{command_in, own_of, IsRefused, JobStands}
 use Rattle.tdb_openers.specs.Openers.IsRefused.{refuses, has_ended}

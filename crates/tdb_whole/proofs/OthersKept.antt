@@ -12,9 +12,9 @@ use Rattle.tdb_law.specs.Walks.{Lost, Shift}
 use Rattle.tdb_steps.specs.Holdings.{table_of}
 use Rattle.tdb_law.specs.OneAside.Sides.{Side}
 use Rattle.tdb_law.proofs.OneAside.Committed.{gate_shifts}
-use Rattle.tdb_holder.specs.Lifts.{OthersKeep}
-use Rattle.tdb_holder.specs.Stages.{Known}
-use Rattle.tdb_holder.specs.Turned.{KeepsFile, keeps, brings}
+use Rattle.tdb_txn_owner.specs.Lifts.{OthersKeep}
+use Rattle.tdb_txn_owner.specs.Stages.{Known}
+use Rattle.tdb_txn_owner.specs.Turned.{KeepsFile, keeps, brings}
 use Rattle.tdb_openers.specs.States.{state_of}
 use Rattle.tdb_openers.specs.Openers.{own_at, place_at, spot_at, task_at}
 use Rattle.tdb_openers.specs.declared.opener.Opener.{Opener}

@@ -37,10 +37,10 @@ use Rattle.tdb_law.proofs.OneAside.Idle.{still_shift, waiting_is_turned}
 use Rattle.tdb_law.proofs.OneAside.Parted.{put_back}
 use Rattle.tdb_law.proofs.OneAside.Starting.{start_ends, starts_sound, task_is}
 use Rattle.tdb_commands.specs.InLaw.{law_opener}
-use Rattle.tdb_holder.specs.Holders.{HolderState}
-use Rattle.tdb_holder.specs.Stages.{Known, IsSide}
-use Rattle.tdb_holder.specs.declared.stage.Stage.TheVariants as At
-use Rattle.tdb_holder.proofs.Keeping.{keeps_nothing}
+use Rattle.tdb_txn_owner.specs.Holders.{HolderState}
+use Rattle.tdb_txn_owner.specs.Stages.{Known, IsSide}
+use Rattle.tdb_txn_owner.specs.declared.stage.Stage.TheVariants as At
+use Rattle.tdb_txn_owner.proofs.Keeping.{keeps_nothing}
 use Rattle.tdb_openers.specs.Openers.{all_of, law_task, no_walk, own_at, own_of, spot_at, spot_by, spots_of, task_at, OpenerStands}
 use Rattle.tdb_openers.specs.States.{view_at, view_under}
 use Rattle.tdb_openers.specs.Worlds.{World, state_in}

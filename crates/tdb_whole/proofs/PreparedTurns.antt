@@ -23,10 +23,10 @@ use Rattle.tdb_law.specs.World.{State}
 use Rattle.tdb_law.proofs.Walking.{put_else, put_here}
 use Rattle.tdb_txn_turns.proofs.Lawful.{finish_holds, planned_before}
 use Rattle.tdb_law.specs.OneAside.Sides.{Past, Side}
-use Rattle.tdb_holder.specs.Holders.{HolderState}
-use Rattle.tdb_holder.specs.Stages.{IsSide, Known}
-use Rattle.tdb_holder.specs.declared.stage.Stage.{Stage}
-use Rattle.tdb_holder.specs.declared.stage.Stage.TheVariants as At
+use Rattle.tdb_txn_owner.specs.Holders.{HolderState}
+use Rattle.tdb_txn_owner.specs.Stages.{IsSide, Known}
+use Rattle.tdb_txn_owner.specs.declared.stage.Stage.{Stage}
+use Rattle.tdb_txn_owner.specs.declared.stage.Stage.TheVariants as At
 use Rattle.tdb_commands.specs.InLaw.{law_opener}
 use Rattle.tdb_commands.specs.declared.options.Options.{Options}
 use Rattle.tdb_openers.specs.Worlds.{state_in}

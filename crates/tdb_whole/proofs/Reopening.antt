@@ -35,13 +35,13 @@ use Rattle.tdb_txn_turns.specs.declared.starting.Starting.{Starting}
 use Rattle.tdb_txn_turns.specs.declared.starting.Starting.TheVariants as Starts
 use Rattle.tdb_txn_turns.proofs.Carried.{ready_rests}
 use Rattle.tdb_law.specs.OneAside.Sides.{Past, Side}
-use Rattle.tdb_holder.specs.Holders.{HolderState}
-use Rattle.tdb_holder.specs.Reads.{IsReadAs as IsReadFrom}
-use Rattle.tdb_holder.specs.Stages.{start_records, stage_records, stage_task, Known, KnowsFile}
-use Rattle.tdb_holder.specs.declared.stage.PreparedTxn.TheVariants.{Opened, Nothing}
-use Rattle.tdb_holder.specs.declared.stage.Stage.{Stage}
-use Rattle.tdb_holder.specs.declared.stage.Stage.TheVariants as At
-use Rattle.tdb_holder.proofs.ReadAs.{carried_opens, commit_reads, finish_opens, finish_reads, open_in, opens_as, planned_seen, prepare_opens, prepare_reads, prepared_opens, prepared_reads, rest_opens, rest_reads, shut_commit_reads, shut_finish_reads, OpensIn}
+use Rattle.tdb_txn_owner.specs.Holders.{HolderState}
+use Rattle.tdb_txn_owner.specs.Reads.{IsReadAs as IsReadFrom}
+use Rattle.tdb_txn_owner.specs.Stages.{start_records, stage_records, stage_task, Known, KnowsFile}
+use Rattle.tdb_txn_owner.specs.declared.stage.PreparedTxn.TheVariants.{Opened, Nothing}
+use Rattle.tdb_txn_owner.specs.declared.stage.Stage.{Stage}
+use Rattle.tdb_txn_owner.specs.declared.stage.Stage.TheVariants as At
+use Rattle.tdb_txn_owner.proofs.ReadAs.{carried_opens, commit_reads, finish_opens, finish_reads, open_in, opens_as, planned_seen, prepare_opens, prepare_reads, prepared_opens, prepared_reads, rest_opens, rest_reads, shut_commit_reads, shut_finish_reads, OpensIn}
 use Rattle.tdb_whole.specs.Died.{IsReadAs, StatesAreRead}
 use Rattle.tdb_whole.specs.States.{state_with, writes_all, IsAside, SideIs}
 use Rattle.tdb_whole.specs.States.IsStateOf.{of_stale, of_whole}

@@ -28,10 +28,10 @@ use Rattle.tdb_commands.proofs.Counts.{none_counted}
 use Rattle.tdb_law.specs.OneAside.Sides.{Past, Side, alone, beside}
 use Rattle.tdb_law.specs.OneAside.Starts.{with_starts}
 use Rattle.tdb_law.proofs.OneAside.Starting.{starts_turn}
-use Rattle.tdb_holder.specs.Holders.{HolderState}
-use Rattle.tdb_holder.specs.Lifts.{IsBack}
-use Rattle.tdb_holder.specs.Stages.{is_closing, stage_records, stage_task, Known}
-use Rattle.tdb_holder.specs.Turned.{KeepsFile, StageTurned, brings, keeps}
+use Rattle.tdb_txn_owner.specs.Holders.{HolderState}
+use Rattle.tdb_txn_owner.specs.Lifts.{IsBack}
+use Rattle.tdb_txn_owner.specs.Stages.{is_closing, stage_records, stage_task, Known}
+use Rattle.tdb_txn_owner.specs.Turned.{KeepsFile, StageTurned, brings, keeps}
 use Rattle.tdb_openers.specs.Given.{holds_chains}
 use Rattle.tdb_openers.specs.Openers.{all_of, law_task, no_walk, own_at, own_of, place_at, spot_at, spot_by, task_at}
 use Rattle.tdb_openers.specs.Turning.{law_table}

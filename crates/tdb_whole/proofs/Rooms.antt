@@ -2,8 +2,8 @@
 use Rattle.std.proofs.Common.{◌≡◌, ℕ, Err, Ok, Some, sym, subst}
 use Rattle.std.specs.Prelude.{OnErr, Result}
 use Rattle.tdb_commands.specs.declared.command.Command.{Command}
-use Rattle.tdb_holder.specs.Holders.{stage_depth, HolderState}
-use Rattle.tdb_holder.specs.Stages.{MayBeGiven}
+use Rattle.tdb_txn_owner.specs.Holders.{stage_depth, HolderState}
+use Rattle.tdb_txn_owner.specs.Stages.{MayBeGiven}
 use Rattle.tdb_whole.specs.Steps.{HasRoom, IsAmong}
 use Rattle.tdb_whole.specs.Whole.{Whole}
 use Rattle.tdb_whole.proofs.Standings.{never_both, same_holder}

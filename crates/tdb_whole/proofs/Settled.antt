@@ -1,14 +1,14 @@
 -- An opener that has let go of all records, or has ended besides.
 use Rattle.std.proofs.Common.{◌≡◌, ℕ, List, Option, Some, None, sym, ◌∙◌, ap, subst, arith}
 use Rattle.std.specs.Prelude.{slice_get, Bool, true, false, is_some}
-use Rattle.tdb_holder.specs.Holders.{HolderState}
+use Rattle.tdb_txn_owner.specs.Holders.{HolderState}
 use Rattle.tdb_locks.specs.declared.kind.Kind.{Kind}
 use Rattle.tdb_commands.specs.InLaw.{law_opener}
 use Rattle.tdb_openers.specs.Aside.{with_records, HoldsRecords, IsBare}
 use Rattle.tdb_openers.specs.Died.{HasDied}
 use Rattle.tdb_openers.specs.Worlds.{World, IsNumber}
 use Rattle.tdb_openers.specs.declared.opener.Opener.{Opener}
-use Rattle.tdb_holder.specs.Wanting.{stage_wants}
+use Rattle.tdb_txn_owner.specs.Wanting.{stage_wants}
 use Rattle.tdb_whole.specs.Claims.{Claimed, ClaimStands, IsReleased, IsSettled}
 use Rattle.tdb_whole.specs.Steps.{with_aside}
 use Rattle.tdb_whole.specs.Whole.{Whole, WorldFits}

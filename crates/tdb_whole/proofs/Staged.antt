@@ -28,20 +28,20 @@ use Rattle.tdb_txn_turns.specs.declared.starting.Starting.{Starting}
 use Rattle.tdb_txn_turns.specs.declared.starting.Starting.TheVariants as Starts
 use Rattle.tdb_law.specs.OneAside.Sides.{Past, Side}
 use Rattle.tdb_txn_turns.specs.Starts.{start_steps}
-use Rattle.tdb_holder.specs.declared.open_txn.OpenTxn.{OpenTxn}
+use Rattle.tdb_txn_owner.specs.declared.open_txn.OpenTxn.{OpenTxn}
 use Rattle.tdb_commands.specs.InLaw.{law_command, law_turn}
 use Rattle.tdb_commands.specs.declared.command.Command.{Command}
 use Rattle.tdb_commands.specs.declared.command.Command.TheVariants as Given
 use Rattle.tdb_commands.specs.declared.options.Options.{Options}
-use Rattle.tdb_holder.specs.Ends.{task_of, IsBlocked}
-use Rattle.tdb_holder.specs.Stages.{is_close, is_closing, plan_records, stage_records, stage_task, Known, KnowsFile, IsSide}
-use Rattle.tdb_holder.specs.Turned.{BeginsOn, KnowsLeft, RestsLike}
-use Rattle.tdb_holder.specs.Wanting.{may_plan, open_wants, plan_wants, records_by, records_with, stage_wants}
-use Rattle.tdb_holder.specs.declared.stage.PreparedTxn.TheVariants.{Opened, Nothing}
-use Rattle.tdb_holder.specs.declared.stage.Stage.{Stage}
-use Rattle.tdb_holder.specs.declared.stage.Stage.TheVariants as At
-use Rattle.tdb_holder.specs.declared.wanting.Wants.{Wants}
-use Rattle.tdb_holder.proofs.Sided.{same_task}
+use Rattle.tdb_txn_owner.specs.Ends.{task_of, IsBlocked}
+use Rattle.tdb_txn_owner.specs.Stages.{is_close, is_closing, plan_records, stage_records, stage_task, Known, KnowsFile, IsSide}
+use Rattle.tdb_txn_owner.specs.Turned.{BeginsOn, KnowsLeft, RestsLike}
+use Rattle.tdb_txn_owner.specs.Wanting.{may_plan, open_wants, plan_wants, records_by, records_with, stage_wants}
+use Rattle.tdb_txn_owner.specs.declared.stage.PreparedTxn.TheVariants.{Opened, Nothing}
+use Rattle.tdb_txn_owner.specs.declared.stage.Stage.{Stage}
+use Rattle.tdb_txn_owner.specs.declared.stage.Stage.TheVariants as At
+use Rattle.tdb_txn_owner.specs.declared.wanting.Wants.{Wants}
+use Rattle.tdb_txn_owner.proofs.Sided.{same_task}
 use Rattle.tdb_whole.specs.States.{once, writes_all}
 use Rattle.tdb_whole.proofs.Claimed.{all_claimed}
 

@@ -16,10 +16,10 @@ use Rattle.tdb_law.specs.OneAside.Events.{StandsBy, IsElse}
 use Rattle.tdb_law.specs.OneAside.Sides.{Past, Side, alone, beside, whole, IsPlain, StandsAside}
 use Rattle.tdb_law.specs.OneAside.Starts.{MayStart, new_start, with_starts}
 use Rattle.tdb_law.proofs.OneAside.Starting.{task_is, task_not}
-use Rattle.tdb_holder.specs.Holders.{HolderState}
-use Rattle.tdb_holder.specs.Stages.{stage_records, stage_task}
-use Rattle.tdb_holder.specs.Wanting.{records_at}
-use Rattle.tdb_holder.proofs.RecordsHeld.{records_law}
+use Rattle.tdb_txn_owner.specs.Holders.{HolderState}
+use Rattle.tdb_txn_owner.specs.Stages.{stage_records, stage_task}
+use Rattle.tdb_txn_owner.specs.Wanting.{records_at}
+use Rattle.tdb_txn_owner.proofs.RecordsHeld.{records_law}
 use Rattle.tdb_openers.specs.Openers.{all_of, law_task, own_at, spot_at, spot_by, task_at}
 use Rattle.tdb_openers.specs.Worlds.{World, state_in, Stands, IsBusy, IsFree, IsNumber}
 use Rattle.tdb_openers.specs.declared.job.Task.{Task as JobTask}

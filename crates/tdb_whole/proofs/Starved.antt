@@ -14,9 +14,9 @@ use Rattle.tdb_law.specs.Outcomes.{moves, told, told_by}
 use Rattle.tdb_law.specs.Refusals.{Refusal, refusal}
 use Rattle.tdb_law.specs.Refusals.Refusal.{OnlyReads, IsPrepared, LocksStand, NothingLocked, NeverNests, NoneOpen, IsDoomed}
 use Rattle.tdb_law.specs.OneAside.Sides.{Past, Side}
-use Rattle.tdb_holder.specs.Stages.{Known}
-use Rattle.tdb_holder.specs.Turned.{StageTurned}
-use Rattle.tdb_holder.specs.declared.stage.Stage.{Stage}
+use Rattle.tdb_txn_owner.specs.Stages.{Known}
+use Rattle.tdb_txn_owner.specs.Turned.{StageTurned}
+use Rattle.tdb_txn_owner.specs.declared.stage.Stage.{Stage}
 use Rattle.tdb_commands.specs.declared.options.Options.{Options}
 use Rattle.tdb_whole.proofs.Staged.{IsEarly}
 

@@ -38,17 +38,17 @@ use Rattle.tdb_commands.specs.InLaw.{law_opener, law_turn}
 use Rattle.tdb_commands.specs.declared.options.Options.{Options}
 use Rattle.tdb_law.specs.OneAside.Sides.{Past, Side, beside}
 use Rattle.tdb_law.specs.OneAside.Starts.{new_start, with_starts}
-use Rattle.tdb_holder.specs.Ends.{task_of}
-use Rattle.tdb_holder.specs.Holders.{is_idle, left_stage, HolderState, HolderTurned, StageMayLeave}
-use Rattle.tdb_holder.specs.Stages.{stage_task, HasNumbers, HasOuter, IsSide, Known, KnowsFile}
-use Rattle.tdb_holder.specs.Turned.{brings, keeps, BeginsOn, KeepsFile, KnowsLeft, MayTurn, RestsLike, StageTurned}
-use Rattle.tdb_holder.specs.declared.stage.Stage.{Stage}
-use Rattle.tdb_holder.specs.declared.stage.Stage.TheVariants as At
-use Rattle.tdb_holder.proofs.GroupEffects.{changed_is}
-use Rattle.tdb_holder.proofs.HolderTurns.{busy_task, may_alone, own_table}
-use Rattle.tdb_holder.proofs.Planned.{plans_commits}
-use Rattle.tdb_holder.proofs.Sided.{same_task}
-use Rattle.tdb_holder.proofs.ReadAs.{opens_as, OpensIn}
+use Rattle.tdb_txn_owner.specs.Ends.{task_of}
+use Rattle.tdb_txn_owner.specs.Holders.{is_idle, left_stage, HolderState, HolderTurned, StageMayLeave}
+use Rattle.tdb_txn_owner.specs.Stages.{stage_task, HasNumbers, HasOuter, IsSide, Known, KnowsFile}
+use Rattle.tdb_txn_owner.specs.Turned.{brings, keeps, BeginsOn, KeepsFile, KnowsLeft, MayTurn, RestsLike, StageTurned}
+use Rattle.tdb_txn_owner.specs.declared.stage.Stage.{Stage}
+use Rattle.tdb_txn_owner.specs.declared.stage.Stage.TheVariants as At
+use Rattle.tdb_txn_owner.proofs.GroupEffects.{changed_is}
+use Rattle.tdb_txn_owner.proofs.HolderTurns.{busy_task, may_alone, own_table}
+use Rattle.tdb_txn_owner.proofs.Planned.{plans_commits}
+use Rattle.tdb_txn_owner.proofs.Sided.{same_task}
+use Rattle.tdb_txn_owner.proofs.ReadAs.{opens_as, OpensIn}
 use Rattle.tdb_openers.specs.Openers.{own_at}
 use Rattle.tdb_openers.specs.Worlds.{state_in, World}
 use Rattle.tdb_openers.specs.declared.opener.Opener.{Opener}

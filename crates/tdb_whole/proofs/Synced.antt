@@ -9,12 +9,12 @@ use Rattle.tdb_txn_turns.specs.declared.preparing.PrepareStage.{PrepareStage}
 use Rattle.tdb_txn_turns.specs.declared.preparing.PrepareStage.TheVariants as Plans
 use Rattle.tdb_txn_turns.specs.declared.starting.Starting.TheVariants as Starts
 use Rattle.tdb_commands.specs.InLaw.{law_opener}
-use Rattle.tdb_holder.specs.Holders.{HolderState}
-use Rattle.tdb_holder.specs.Syncs.{HolderSyncs, TurnSyncs}
-use Rattle.tdb_holder.specs.Wanting.{plan_wants, stage_wants}
-use Rattle.tdb_holder.specs.declared.stage.Stage.{Stage}
-use Rattle.tdb_holder.specs.declared.stage.Stage.TheVariants as At
-use Rattle.tdb_holder.specs.declared.wanting.Wants.{Wants}
+use Rattle.tdb_txn_owner.specs.Holders.{HolderState}
+use Rattle.tdb_txn_owner.specs.Syncs.{HolderSyncs, TurnSyncs}
+use Rattle.tdb_txn_owner.specs.Wanting.{plan_wants, stage_wants}
+use Rattle.tdb_txn_owner.specs.declared.stage.Stage.{Stage}
+use Rattle.tdb_txn_owner.specs.declared.stage.Stage.TheVariants as At
+use Rattle.tdb_txn_owner.specs.declared.wanting.Wants.{Wants}
 use Rattle.tdb_openers.specs.Worlds.{World}
 use Rattle.tdb_whole.specs.Claims.{IsBarred}
 use Rattle.tdb_whole.specs.Steps.{IsAmong}

@@ -19,15 +19,15 @@ use Rattle.tdb_commands.specs.declared.options.Options.{Options}
 use Rattle.tdb_law.specs.OneAside.Sides.{Past, Side, beside, whole}
 use Rattle.tdb_law.specs.OneAside.Starts.{with_starts}
 use Rattle.tdb_txn_turns.specs.declared.starting.Starting.TheVariants as Starts
-use Rattle.tdb_holder.specs.Ends.{IsBlocked}
-use Rattle.tdb_holder.specs.Holders.{is_idle, left_stage, HolderState, HolderTurned}
-use Rattle.tdb_holder.specs.Stages.{is_closing, stage_records, stage_task, Known, KnowsFile, IsSide}
-use Rattle.tdb_holder.specs.Turned.{BeginsOn, MayTurn}
-use Rattle.tdb_holder.specs.Wanting.{stage_wants, RecordsGo}
-use Rattle.tdb_holder.specs.declared.stage.Stage.{Stage}
-use Rattle.tdb_holder.specs.declared.stage.Stage.TheVariants as At
-use Rattle.tdb_holder.specs.declared.wanting.Wants.TheVariants as Wants
-use Rattle.tdb_holder.proofs.HolderTurns.{busy_task, may_alone, own_table}
+use Rattle.tdb_txn_owner.specs.Ends.{IsBlocked}
+use Rattle.tdb_txn_owner.specs.Holders.{is_idle, left_stage, HolderState, HolderTurned}
+use Rattle.tdb_txn_owner.specs.Stages.{is_closing, stage_records, stage_task, Known, KnowsFile, IsSide}
+use Rattle.tdb_txn_owner.specs.Turned.{BeginsOn, MayTurn}
+use Rattle.tdb_txn_owner.specs.Wanting.{stage_wants, RecordsGo}
+use Rattle.tdb_txn_owner.specs.declared.stage.Stage.{Stage}
+use Rattle.tdb_txn_owner.specs.declared.stage.Stage.TheVariants as At
+use Rattle.tdb_txn_owner.specs.declared.wanting.Wants.TheVariants as Wants
+use Rattle.tdb_txn_owner.proofs.HolderTurns.{busy_task, may_alone, own_table}
 use Rattle.tdb_openers.specs.Aside.{HoldsRecords}
 use Rattle.tdb_openers.specs.Worlds.{state_in, BytesStand, World}
 use Rattle.tdb_whole.specs.Claims.{Claimed, IsBarred, IsReleased, IsSettled}

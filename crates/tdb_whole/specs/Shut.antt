@@ -4,8 +4,8 @@ use Rattle.tdb_space.specs.Form.{Form}
 use Rattle.tdb_locks.specs.declared.kind.Kind.TheVariants.{Write}
 use Rattle.tdb_law.specs.OneAside.Sides.{Past, Side}
 use Rattle.tdb_commands.specs.declared.options.Options.{Options}
-use Rattle.tdb_holder.specs.Holders.{HolderState}
-use Rattle.tdb_holder.specs.Stages.{stage_records, Known, IsSide}
+use Rattle.tdb_txn_owner.specs.Holders.{HolderState}
+use Rattle.tdb_txn_owner.specs.Stages.{stage_records, Known, IsSide}
 use Rattle.tdb_whole.specs.Whole.{Whole}
 
 -- The one aside has this number and holds all records for writing, and the byte of the sequence number too or not.

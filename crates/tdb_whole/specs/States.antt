@@ -14,8 +14,8 @@ use Rattle.tdb_law.specs.OneAside.Starts.{with_starts}
 use Rattle.tdb_openers.specs.Aside.{LocksNoRecord}
 use Rattle.tdb_openers.specs.Worlds.{state_in, BytesStand, IsNumber}
 use Rattle.tdb_openers.specs.declared.opener.Opener.{Opener}
-use Rattle.tdb_holder.specs.Holders.{HolderState}
-use Rattle.tdb_holder.specs.Stages.{stage_records, Known, KnowsFile, IsSide}
+use Rattle.tdb_txn_owner.specs.Holders.{HolderState}
+use Rattle.tdb_txn_owner.specs.Stages.{stage_records, Known, KnowsFile, IsSide}
 use Rattle.tdb_whole.specs.Whole.{Whole, form_at, options_at, is_starting}
 
 -- an opener at a stage shuts all others out: it holds all records for writing

@@ -6,8 +6,8 @@ use Rattle.tdb_law.specs.Events.{Joins, Dies, Given, Undoes}
 use Rattle.tdb_law.specs.Openers.{Task}
 use Rattle.tdb_law.specs.Turned.{Turned}
 use Rattle.tdb_law.specs.World.{State}
-use Rattle.tdb_holder.specs.Holders.{stage_depth, HolderState}
-use Rattle.tdb_holder.specs.Stages.{stage_task, MayBeGiven}
+use Rattle.tdb_txn_owner.specs.Holders.{stage_depth, HolderState}
+use Rattle.tdb_txn_owner.specs.Stages.{stage_task, MayBeGiven}
 use Rattle.tdb_commands.specs.InLaw.{law_opener}
 use Rattle.tdb_commands.specs.declared.command.Command.{Command as Asked}
 use Rattle.tdb_openers.specs.Worlds.{IsFree, IsBusy}

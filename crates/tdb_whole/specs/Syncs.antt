@@ -11,10 +11,10 @@ use Rattle.tdb_txn_turns.specs.declared.committing.Committing.{Committing}
 use Rattle.tdb_txn_turns.specs.declared.committing.CommitTurn.TheVariants.{Step}
 use Rattle.tdb_txn_turns.specs.declared.starting.Starting.TheVariants.{Begun}
 use Rattle.tdb_commands.specs.InLaw.{law_opener}
-use Rattle.tdb_holder.specs.Holders.{HolderState}
-use Rattle.tdb_holder.specs.Syncs.{HolderSyncs}
-use Rattle.tdb_holder.specs.declared.stage.Stage.{Stage}
-use Rattle.tdb_holder.specs.declared.stage.Stage.TheVariants.{Starting}
+use Rattle.tdb_txn_owner.specs.Holders.{HolderState}
+use Rattle.tdb_txn_owner.specs.Syncs.{HolderSyncs}
+use Rattle.tdb_txn_owner.specs.declared.stage.Stage.{Stage}
+use Rattle.tdb_txn_owner.specs.declared.stage.Stage.TheVariants.{Starting}
 use Rattle.tdb_whole.specs.Steps.{IsAmong}
 use Rattle.tdb_whole.specs.Stops.{IsChanging}
 use Rattle.tdb_whole.specs.Whole.{is_starting, Whole}

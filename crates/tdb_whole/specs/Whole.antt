@@ -8,8 +8,8 @@ use Rattle.tdb_space.specs.Form.{Form, form_in}
 use Rattle.tdb_openers.specs.Aside.{IsBare}
 use Rattle.tdb_openers.specs.Worlds.{World, IsNumber, Stands}
 use Rattle.tdb_openers.specs.declared.opener.Opener.{Opener}
-use Rattle.tdb_holder.specs.Holders.{HolderState}
-use Rattle.tdb_holder.specs.Stages.{stage_records, IsFit}
+use Rattle.tdb_txn_owner.specs.Holders.{HolderState}
+use Rattle.tdb_txn_owner.specs.Stages.{stage_records, IsFit}
 
 -- The openers, in whose lock table the one aside holds all records as it does; for each opener whether it has a Start that has had no turn; the
 -- one aside, with its transaction or its Start; and the sequence number of the file while the one aside holds all records for writing.

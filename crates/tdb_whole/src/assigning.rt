@@ -9,9 +9,9 @@ ghost use Rattle.tdb_whole.specs.Whole.{is_starting, WorldFits};
 ghost use Rattle.tdb_whole.specs.States.{IsStateOf};
 ghost use Rattle.tdb_whole.specs.Steps.{GiftLeads, HasCommand, HasNoCommand, HasRoom, IsAmong};
 ghost use Rattle.tdb_law.specs.OneAside.Sides.{Past, Side};
-ghost use Rattle.tdb_holder.specs.Ends.{task_of};
-ghost use Rattle.tdb_holder.specs.Holders.{is_idle, stage_depth, with_command, HolderState};
-ghost use Rattle.tdb_holder.specs.Stages.{Known, IsFit, IsSide, KnowsFile, MayBeGiven};
+ghost use Rattle.tdb_txn_owner.specs.Ends.{task_of};
+ghost use Rattle.tdb_txn_owner.specs.Holders.{is_idle, stage_depth, with_command, HolderState};
+ghost use Rattle.tdb_txn_owner.specs.Stages.{Known, IsFit, IsSide, KnowsFile, MayBeGiven};
 ghost use Rattle.tdb_commands.specs.declared.options.Options.{Options};
 ghost use Rattle.tdb_space.specs.Form.{Form};
 ghost use Rattle.tdb_words.specs.declared.header.Header.{Header};
@@ -19,7 +19,7 @@ ghost use Rattle.tdb_openers.specs.declared.standings.OpenerStanding.TheVariants
 
 use crate::world::World;
 use std::alloc::AllocError;
-use tdb_holder::Holder;
+use tdb_txn_owner::Holder;
 use tdb_commands::Command;
 use tdb_openers::OpenerStanding;
 

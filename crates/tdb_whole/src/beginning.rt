@@ -3,7 +3,7 @@ ghost use Rattle.std.specs.Prelude.{◌≡◌, ◌≤◌, ℕ, List, slice_set, 
 ghost use Rattle.tdb_disk.specs.Count.{HasCause};
 ghost use Rattle.tdb_disk.specs.History.{History, seen};
 ghost use Rattle.tdb_disk.specs.Stop.{LeavesOnly};
-ghost use Rattle.tdb_holder.specs.Holders.{HolderState};
+ghost use Rattle.tdb_txn_owner.specs.Holders.{HolderState};
 ghost use Rattle.tdb_law.specs.World.{State};
 ghost use Rattle.tdb_commands.specs.InLaw.{law_opener, law_turn};
 ghost use Rattle.tdb_whole.specs.Whole.{form_at, is_starting, WorldFits};
@@ -11,12 +11,12 @@ ghost use Rattle.tdb_whole.specs.States.{IsStateOf};
 ghost use Rattle.tdb_whole.specs.Steps.{HasCommand, IsAmong, TurnLeads};
 ghost use Rattle.tdb_whole.specs.Stops.{IsSafe, TurnMayLeave};
 ghost use Rattle.tdb_txn_turns.specs.declared.starting.Starting.TheVariants as Starting;
-ghost use Rattle.tdb_holder.specs.declared.stage.Stage.TheVariants as Stage;
-ghost use Rattle.tdb_holder.specs.Syncs.{HolderSyncs};
+ghost use Rattle.tdb_txn_owner.specs.declared.stage.Stage.TheVariants as Stage;
+ghost use Rattle.tdb_txn_owner.specs.Syncs.{HolderSyncs};
 
 use crate::world::World;
 use tdb_disk::Disk;
-use tdb_holder::Holder;
+use tdb_txn_owner::Holder;
 use tdb_locks::{Reply, Turn};
 use tdb_space::Io;
 

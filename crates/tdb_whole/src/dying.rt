@@ -3,8 +3,8 @@ ghost use Rattle.std.specs.Prelude.{◌≡◌, ◌≤◌, ℕ, List, IsTrue, Som
 ghost use Rattle.tdb_disk.specs.History.{History};
 ghost use Rattle.tdb_law.specs.Lines.{MayDie};
 ghost use Rattle.tdb_law.specs.World.{State};
-ghost use Rattle.tdb_holder.specs.Holders.{HolderState};
-ghost use Rattle.tdb_holder.specs.Stages.{stage_task};
+ghost use Rattle.tdb_txn_owner.specs.Holders.{HolderState};
+ghost use Rattle.tdb_txn_owner.specs.Stages.{stage_task};
 ghost use Rattle.tdb_commands.specs.InLaw.{law_opener};
 ghost use Rattle.tdb_openers.specs.Died.{MayDieIn};
 ghost use Rattle.tdb_whole.specs.Died.{CanDie};

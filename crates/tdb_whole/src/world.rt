@@ -8,14 +8,14 @@ ghost use Rattle.tdb_law.specs.Images.{image_map};
 ghost use Rattle.tdb_law.specs.World.{State, HasFewChains};
 ghost use Rattle.tdb_commands.specs.InLaw.{law_opener, options_of};
 ghost use Rattle.tdb_steps.specs.Turns.{number_of};
-ghost use Rattle.tdb_holder.specs.Holders.{HolderState};
+ghost use Rattle.tdb_txn_owner.specs.Holders.{HolderState};
 ghost use Rattle.tdb_whole.specs.Whole.{is_starting, WorldFits};
 ghost use Rattle.tdb_whole.specs.States.{IsStateOf};
 ghost use Rattle.tdb_whole.specs.Steps.{JoinLeads};
 
 use std::alloc::Global;
 use std::marker::Model;
-use tdb_holder::Holder;
+use tdb_txn_owner::Holder;
 use tdb_commands::Options;
 use tdb_words::Header;
 use tdb_openers::{MOST_OPENERS, Openers};
@@ -54,7 +54,7 @@ pub struct World {
 
 impl Model for World {
     ghost use Rattle.std.specs.Coded.{codes};
-    ghost use Rattle.tdb_holder.specs.contracts.holder.Holder as e;
+    ghost use Rattle.tdb_txn_owner.specs.contracts.holder.Holder as e;
     ghost use Rattle.tdb_whole.specs.Whole.{Whole};
 
     ghost Value = { Whole };

@@ -1,7 +1,7 @@
 -- The opener that is left can take its next turn.
 use Rattle.std.specs.Prelude.{IfSome}
 use Rattle.tdb_disk.specs.MemDisk.{memory_size}
-use Rattle.tdb_holder.specs.Stages.{IsFit}
+use Rattle.tdb_txn_owner.specs.Stages.{IsFit}
 use Rattle.tdb_holder_tests.specs.declared.small.TheConstants.{HEADER, LIMIT}
 use Rattle.tdb_holder_tests.proofs.plays.play.Given as goal
 

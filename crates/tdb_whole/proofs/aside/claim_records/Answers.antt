@@ -1,6 +1,6 @@
 -- The lock of all records was taken, so no other opener's was in the way.
 use Rattle.std.proofs.Common.{sym, subst}
-use Rattle.tdb_holder.specs.declared.wanting.Wants.{Wants}
+use Rattle.tdb_txn_owner.specs.declared.wanting.Wants.{Wants}
 use Rattle.tdb_whole.specs.Claims.{Claimed}
 use Rattle.tdb_whole.proofs.aside.claim_records.Goals as goal
 

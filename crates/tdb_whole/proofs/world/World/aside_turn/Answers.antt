@@ -4,7 +4,7 @@ use Rattle.std.proofs.lemmas.Result.{IfOk-weaker, on_ok_weaker}
 use Rattle.tdb_disk.specs.Stop.{LeavesOnly}
 use Rattle.tdb_locks.specs.declared.turn.Turn.TheVariants as Turn
 use Rattle.tdb_commands.specs.InLaw.{law_opener, law_turn}
-use Rattle.tdb_holder.specs.Holders.{HolderState}
+use Rattle.tdb_txn_owner.specs.Holders.{HolderState}
 use Rattle.tdb_whole.specs.contracts.world.World.{the_view}
 use Rattle.tdb_whole.specs.Stops.{IsSafe, TurnMayLeave}
 use Rattle.tdb_whole.specs.Whole.{form_at, Whole}

@@ -7,9 +7,9 @@ use Rattle.tdb_commands.specs.InLaw.{law_command, law_opener}
 use Rattle.tdb_commands.specs.declared.options.Options.{Options}
 use Rattle.tdb_words.specs.declared.header.Header.{Header}
 use Rattle.tdb_law.specs.OneAside.Sides.{Past, Side}
-use Rattle.tdb_holder.specs.Ends.{task_of}
-use Rattle.tdb_holder.specs.Holders.{stage_depth, HolderState}
-use Rattle.tdb_holder.specs.Stages.{stage_task, IsFit, IsSide, KnowsFile, Known, MayBeGiven}
+use Rattle.tdb_txn_owner.specs.Ends.{task_of}
+use Rattle.tdb_txn_owner.specs.Holders.{stage_depth, HolderState}
+use Rattle.tdb_txn_owner.specs.Stages.{stage_task, IsFit, IsSide, KnowsFile, Known, MayBeGiven}
 use Rattle.tdb_openers.proofs.Aside.{either_way, on_both, on_one}
 use Rattle.tdb_whole.specs.States.{IsStateOf}
 use Rattle.tdb_whole.specs.Steps.{GiftLeads, HasCommand, HasRoom}

@@ -10,11 +10,11 @@ use Rattle.tdb_words.specs.declared.header.Header.{Header}
 use Rattle.tdb_locks.specs.declared.turn.Turn.{Turn as TurnIs}
 use Rattle.tdb_locks.specs.declared.turn.Turn.TheVariants as Turn
 use Rattle.tdb_commands.specs.declared.options.Options.{Options}
-use Rattle.tdb_holder.specs.Holders.{is_idle, left_stage, HolderState}
-use Rattle.tdb_holder.proofs.HolderTurns.{busy_task}
-use Rattle.tdb_holder.specs.Stages.{is_closing, IsFitLeft}
-use Rattle.tdb_holder.specs.Wanting.{stage_wants, StepGoesOn}
-use Rattle.tdb_holder.specs.declared.wanting.Wants.TheVariants as Wants
+use Rattle.tdb_txn_owner.specs.Holders.{is_idle, left_stage, HolderState}
+use Rattle.tdb_txn_owner.proofs.HolderTurns.{busy_task}
+use Rattle.tdb_txn_owner.specs.Stages.{is_closing, IsFitLeft}
+use Rattle.tdb_txn_owner.specs.Wanting.{stage_wants, StepGoesOn}
+use Rattle.tdb_txn_owner.specs.declared.wanting.Wants.TheVariants as Wants
 use Rattle.tdb_openers.specs.Worlds.{BytesStand, IsNumber, Stands, World}
 use Rattle.tdb_openers.specs.declared.opener.Opener.{Opener}
 use Rattle.tdb_whole.specs.Claims.{ClaimStands, IsSettled}

@@ -4,8 +4,8 @@ use Rattle.tdb_space.specs.Form.{form_in}
 use Rattle.tdb_law.specs.Events.{Dies}
 use Rattle.tdb_law.specs.Lines.{MayDie}
 use Rattle.tdb_commands.specs.InLaw.{law_opener}
-use Rattle.tdb_holder.specs.Holders.{HolderState}
-use Rattle.tdb_holder.specs.Stages.{stage_task}
+use Rattle.tdb_txn_owner.specs.Holders.{HolderState}
+use Rattle.tdb_txn_owner.specs.Stages.{stage_task}
 use Rattle.tdb_openers.specs.Died.{HasDied}
 use Rattle.tdb_openers.specs.Worlds.{state_in, BytesStand, Stands}
 use Rattle.tdb_openers.specs.Worlds.{World as Openers}

@@ -8,8 +8,8 @@ use Rattle.tdb_disk.specs.Stop.{LeavesOnly}
 use Rattle.tdb_law.specs.World.{State}
 use Rattle.tdb_locks.specs.declared.turn.Turn.TheVariants.{Step}
 use Rattle.tdb_txn_turns.specs.declared.starting.Starting.TheVariants as Starts
-use Rattle.tdb_holder.specs.Holders.{HolderState}
-use Rattle.tdb_holder.specs.declared.stage.Stage.TheVariants as At
+use Rattle.tdb_txn_owner.specs.Holders.{HolderState}
+use Rattle.tdb_txn_owner.specs.declared.stage.Stage.TheVariants as At
 use Rattle.tdb_commands.specs.InLaw.{law_opener, law_turn}
 use Rattle.tdb_whole.specs.States.{IsStateOf}
 use Rattle.tdb_whole.specs.Steps.{HasCommand, TurnLeads, with_aside}

@@ -6,9 +6,9 @@ use Rattle.tdb_disk.specs.Stop.{LeavesOnly}
 use Rattle.tdb_commands.specs.InLaw.{law_opener, law_turn}
 use Rattle.tdb_law.specs.Commands.Turn.{Blocked}
 use Rattle.tdb_locks.specs.declared.kind.Kind.{Kind}
-use Rattle.tdb_holder.specs.Holders.{HolderState, HolderTurned}
-use Rattle.tdb_holder.specs.Wanting.{stage_wants}
-use Rattle.tdb_holder.specs.declared.wanting.Wants.{Wants}
+use Rattle.tdb_txn_owner.specs.Holders.{HolderState, HolderTurned}
+use Rattle.tdb_txn_owner.specs.Wanting.{stage_wants}
+use Rattle.tdb_txn_owner.specs.declared.wanting.Wants.{Wants}
 use Rattle.tdb_openers.specs.Aside.{HoldsRecords}
 use Rattle.tdb_openers.specs.Worlds.{BytesStand, IsNumber, Stands}
 use Rattle.tdb_whole.specs.contracts.world.World.{the_view}

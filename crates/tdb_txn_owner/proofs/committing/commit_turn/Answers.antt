@@ -1,0 +1,32 @@
+-- The turn is one of the law's.
+use Rattle.std.proofs.Common.{sym, subst}
+use Rattle.tdb_law.specs.Commands.GroupCommand.{Commit}
+use Rattle.tdb_law.specs.Commands.Command.{OnGroup}
+use Rattle.tdb_txn_turns.specs.Committings.{commit_steps}
+use Rattle.tdb_commands.specs.InLaw.{law_turn}
+use Rattle.tdb_txn_owner.specs.declared.stage.Stage.TheVariants as Stage
+use Rattle.tdb_txn_owner.specs.Ends.{task_of}
+use Rattle.tdb_txn_owner.specs.Turned.{MayTurn, StageTurned}
+use Rattle.tdb_txn_owner.specs.Wents.{commit_went}
+use Rattle.tdb_txn_owner.proofs.Committed.{commit_turned}
+use Rattle.tdb_txn_owner.proofs.Sided.{same_task}
+use Rattle.tdb_txn_owner.specs.Wanting.{RecordsGo}
+use Rattle.tdb_txn_owner.proofs.Recorded.{commit_goes}
+use Rattle.tdb_txn_owner.proofs.committing.commit_turn.Goals as goal
+
+pub returns-clause-turned : goal.returns-clause-turned
+returns-clause-turned g c told f o table k past s t S K has M =
+    let a = c.args in
+    let h = g.D.Disk.history a.d.now in
+    let new = g.D.Disk.history c.step.new.d in
+    let i = c.in_ok-turn in
+    let stage = Stage.Committing a.commit in
+    let mine = same_task (task_of (OnGroup Commit) (commit_steps a.commit)) t has in
+    subst (λ went. StageTurned f o table a.owner c.step.new.locks stage went.stage h new k past s t (law_turn went.turn)) (sym c.commit_left.ensures)
+    (subst (λ u. StageTurned f o table a.owner c.step.new.locks stage (commit_went i.turn).stage h new k past s u (law_turn (commit_went i.turn).turn)) mine
+    (commit_turned f o table a.owner a.limit a.locks.now c.step.new.locks a.commit h new k past s S K (subst (MayTurn f table s) (sym mine) M) i.turn i.ensures.locks i.ensures.leads
+    (i.ensures.made told k.file k.image K.at.0)))
+
+pub returns-clause-records : goal.returns-clause-records
+returns-clause-records g c =
+    subst (λ went. RecordsGo (Stage.Committing c.args.commit) went.turn went.stage) (sym c.commit_left.ensures) (commit_goes c.args.commit c.in_ok-turn.turn c.in_ok-turn.ensures.leads)

@@ -1,0 +1,24 @@
+-- In its own lock table no turn of it is blocked.
+use Rattle.std.proofs.Common.{subst}
+use Rattle.tdb_space.specs.Form.{form_in}
+use Rattle.tdb_commands.specs.InLaw.{law_turn}
+use Rattle.tdb_txn_owner.specs.Ends.{IsBlocked}
+use Rattle.tdb_txn_owner.specs.Holders.{HolderState}
+use Rattle.tdb_txn_owner.proofs.HolderTurns.{alone_goes_on, busy_task, may_alone, own_table, TurnsAt}
+use Rattle.tdb_txn_owner.proofs.holder.Holder.turn.Goals as goal
+
+pub returns-clause-blocked : goal.returns-clause-blocked
+returns-clause-blocked g c told k past s S K begins blocked =
+    let v = c.args.self in
+    let f = form_in c.args.header.now in
+    let o = c.args.options.now in
+    let h = g.D.Disk.history c.args.d.now in
+    let new = g.D.Disk.history c.stage_turn.new.d in
+    let rs = c.stage_turn.new.locks in
+    let went = c.in_ok-went.went in
+    let busy = busy_task v.stage c.requires.busy in
+    let t = busy.0 in
+    let turns = subst (λ (w : HolderState). TurnsAt f o w.owner w.locks rs w.stage h new went) c.self.view_is (c.in_ok-went.ensures.turned told) in
+    alone_goes_on f o v.owner v.locks v.stage k past s t S busy.1 rs went.stage h new (law_turn went.turn)
+    (turns (own_table f o v.owner v.locks v.stage k past s t S busy.1) k past s t S K begins busy.1 (may_alone f o v.owner v.locks v.stage k past s t S busy.1))
+    (subst (λ u. IsBlocked (law_turn u)) c.after_turn.ensures.turn blocked)

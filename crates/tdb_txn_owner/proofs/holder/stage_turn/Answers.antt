@@ -1,0 +1,73 @@
+-- Each stage turns as its own function does.
+use Rattle.std.proofs.Common.{◌≡◌, ℕ, List, Some, sym, ◌∙◌, ap, subst}
+use Rattle.tdb_disk.specs.Count.{HasCause}
+use Rattle.tdb_disk.specs.History.{History}
+use Rattle.tdb_disk.specs.Stop.{LeavesOnly}
+use Rattle.tdb_space.specs.Form.{Form, form_in}
+use Rattle.tdb_txn.specs.Committing.{MayCommit}
+use Rattle.tdb_txn_owner.specs.declared.stage.Stage.TheVariants as Stage
+use Rattle.tdb_txn_owner.specs.Holders.{StageMayLeave}
+use Rattle.tdb_txn_owner.specs.Stages.{IsFit, KnowsFile}
+use Rattle.tdb_txn_owner.proofs.HolderTurns.{open_form, TurnsAt}
+use Rattle.tdb_txn_owner.proofs.Opened.{weaker}
+use Rattle.tdb_txn_owner.proofs.holder.stage_turn.Goals as goal
+
+pub returns-in-Open-clause-stops : goal.returns-in-Open-clause-stops
+returns-in-Open-clause-stops g c told f k =
+    let h = g.D.Disk.history c.args.d.now in
+    subst (λ stage. KnowsFile f stage h k → LeavesOnly h (g.D.Disk.history c.open_turn.new.d) (StageMayLeave stage h k)) (sym (c.in-Open.is ∙ ap (Stage.Open c.in-Open.txn) c.given-command.ensures))
+    (λ K.
+    let same = open_form f c.args.header.now c.args.options.now.limit (g.D.Disk.size c.args.d.now) c.in-Open.txn c.given-command.result h k
+    (subst (λ stage. IsFit stage c.args.header.now c.args.options.now.limit (g.D.Disk.size c.args.d.now)) (c.in-Open.is ∙ ap (Stage.Open c.in-Open.txn) c.given-command.ensures) c.requires.fits).0 K in
+    c.open_turn.ensures.stops told k (subst (λ g. KnowsFile g (Stage.Open c.in-Open.txn (Some c.given-command.result)) h k) same K))
+
+pub returns-in-Open-clause-cause : goal.returns-in-Open-clause-cause
+returns-in-Open-clause-cause g c told f k =
+    let h = g.D.Disk.history c.args.d.now in
+    subst (λ stage. KnowsFile f stage h k → HasCause (g.D.Disk.faults c.args.d.now) (g.D.Disk.faults c.open_turn.new.d) c.open_turn.result) (sym (c.in-Open.is ∙ ap (Stage.Open c.in-Open.txn) c.given-command.ensures))
+    (λ K. c.open_turn.ensures.cause told (subst (λ img. MayCommit c.in-Open.txn.own.txn img) (sym K.at.0.file) K.at.0.may))
+
+pub returns-in-Committing-clause-turned : goal.returns-in-Committing-clause-turned
+returns-in-Committing-clause-turned g c =
+    let a = c.args in
+    let f = form_in a.header.now in
+    let o = a.options.now in
+    weaker c.commit_turn.result _ _
+    (λ went turn told. subst (λ stage. TurnsAt f o a.owner a.locks.now c.commit_turn.new.locks stage (g.D.Disk.history a.d.now) (g.D.Disk.history c.commit_turn.new.d) went) (sym c.in-Committing.is)
+    (λ table k past s t S K begins has M. turn told f o table k past s t S K has M)) c.commit_turn.ensures.turned
+
+pub returns-in-Prepared-clause-turned : goal.returns-in-Prepared-clause-turned
+returns-in-Prepared-clause-turned g c =
+    let a = c.args in
+    let f = form_in a.header.now in
+    let o = a.options.now in
+    let is = c.in-Prepared.is ∙ ap (Stage.Prepared c.in-Prepared.left) c.given-command-in-Prepared.ensures in
+    weaker c.prepared_turn.result _ _
+    (λ went turn told. subst (λ stage. TurnsAt f o a.owner a.locks.now c.prepared_turn.new.locks stage (g.D.Disk.history a.d.now) (g.D.Disk.history c.prepared_turn.new.d) went) (sym is)
+    (λ table k past s t S K begins has M. turn told table k past s t S K has M)) c.prepared_turn.ensures.turned
+
+pub returns-in-Prepared-clause-stops : goal.returns-in-Prepared-clause-stops
+returns-in-Prepared-clause-stops g c told f k =
+    let h = g.D.Disk.history c.args.d.now in
+    let left = c.in-Prepared.left in
+    let command = Some c.given-command-in-Prepared.result in
+    subst (λ stage. KnowsFile f stage h k → LeavesOnly h (g.D.Disk.history c.prepared_turn.new.d) (StageMayLeave stage h k)) (sym (c.in-Prepared.is ∙ ap (Stage.Prepared left) c.given-command-in-Prepared.ensures))
+    (λ K. c.prepared_turn.ensures.stops told k.file k.image K.at.0)
+
+pub returns-in-Finishing-clause-turned : goal.returns-in-Finishing-clause-turned
+returns-in-Finishing-clause-turned g c =
+    let a = c.args in
+    let f = form_in a.header.now in
+    let o = a.options.now in
+    weaker c.finish_turn.result _ _
+    (λ went turn told. subst (λ stage. TurnsAt f o a.owner a.locks.now c.finish_turn.new.locks stage (g.D.Disk.history a.d.now) (g.D.Disk.history c.finish_turn.new.d) went) (sym c.in-Finishing.is)
+    (λ table k past s t S K begins has M. turn told f o table k past s t S K has M)) c.finish_turn.ensures.turned
+
+pub returns-in-Preparing-clause-turned : goal.returns-in-Preparing-clause-turned
+returns-in-Preparing-clause-turned g c =
+    let a = c.args in
+    let f = form_in a.header.now in
+    let o = a.options.now in
+    weaker c.prepare_turn.result _ _
+    (λ went turn told. subst (λ stage. TurnsAt f o a.owner a.locks.now c.prepare_turn.new.locks stage (g.D.Disk.history a.d.now) (g.D.Disk.history c.prepare_turn.new.d) went) (sym c.in-Preparing.is)
+    (λ table k past s t S K begins has M. turn told f o table k past s t S K has M)) c.prepare_turn.ensures.turned

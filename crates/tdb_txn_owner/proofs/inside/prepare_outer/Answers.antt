@@ -1,0 +1,56 @@
+-- A Prepare that is refused ends the transaction; the first turn of another one is that of the machine.
+use Rattle.std.proofs.Common.{None, Some, refl, sym, ◌∙◌, ap, subst}
+use Rattle.std.specs.Option.{option_map}
+use Rattle.tdb_law.specs.Commands.Command.{OnGroup}
+use Rattle.tdb_law.specs.Commands.GroupCommand.{Prepare}
+use Rattle.tdb_law.specs.Commands.Turn.{Ends}
+use Rattle.tdb_law.specs.Refusals.{refusal}
+use Rattle.tdb_txn_turns.specs.Laws.{prepares}
+use Rattle.tdb_commands.specs.InLaw.{law_reply, law_turn}
+use Rattle.tdb_commands.specs.declared.command.Command.TheVariants as Given
+use Rattle.tdb_txn_owner.specs.declared.stage.Stage.TheVariants as Stage
+use Rattle.tdb_txn_owner.specs.Ends.{task_of}
+use Rattle.tdb_txn_owner.specs.Turned.{MayTurn, StageTurned}
+use Rattle.tdb_txn_owner.proofs.OpenEnds.{prepare_goes, knows_first, open_stops, refuses, prepare_records_go}
+use Rattle.tdb_txn_owner.proofs.Opened.{told_none, told_why, weaker}
+use Rattle.tdb_txn_owner.proofs.Sided.{same_task}
+use Rattle.tdb_txn_owner.proofs.inside.prepare_outer.Goals as goal
+
+pub returns-in-Some-clause-turned : goal.returns-in-Some-clause-turned
+returns-in-Some-clause-turned g c told f o table k past s t S K has M =
+    let a = c.args in
+    let rs = c.end.new.locks in
+    let h = g.D.Disk.history a.d.now in
+    let stage = Stage.Open a.txn (Some Given.Prepare) in
+    let reply = c.in-Some.reply in
+    let mine = same_task (task_of (OnGroup Prepare) 0) t has in
+    let why = told_why f s.own (OnGroup Prepare) reply (refusal f (OnGroup Prepare) s.own) refl (ap (option_map law_reply) (sym c.in-Some.is) ∙ c.end_refusal.ensures.told f o k.file s.own Prepare prepares S.own) in
+    subst (λ went. StageTurned f o table a.owner rs stage went.stage h h k past s t (law_turn went.turn)) (sym c.over.ensures)
+    (subst (λ u. StageTurned f o table a.owner rs stage None h h k past s u (Ends (law_reply reply))) mine
+    (refuses f o table a.owner a.locks.now rs h a.txn Given.Prepare k past s c.end.ensures.gone c.end.ensures.others S K Prepare refl (subst (MayTurn f table s) (sym mine) M) c.requires.outer tt why.0 (law_reply reply) why.1 why.2))
+
+pub returns-in-Some-clause-stops : goal.returns-in-Some-clause-stops
+returns-in-Some-clause-stops g c told f k K = open_stops f (g.D.Disk.history c.args.d.now) c.args.txn Given.Prepare k K
+
+pub returns-clause-turned : goal.returns-clause-turned
+returns-clause-turned g c =
+    let a = c.args in
+    let h = g.D.Disk.history a.d.now in
+    let new = g.D.Disk.history c.prepare_first.new.d in
+    let rs = c.prepare_first.new.locks in
+    weaker c.prepare_first.result _ _
+    (λ went turned told f o table k past s t S K has M.
+    let granted = told_none f s.own (OnGroup Prepare) (refusal f (OnGroup Prepare) s.own) refl (ap (option_map law_reply) (sym c.in_default.is) ∙ c.end_refusal.ensures.told f o k.file s.own Prepare prepares S.own) in
+    prepare_goes f o a.owner a.locks.now rs h new a.txn went c.requires.outer table k past s t (turned told f o) granted S K has M) c.prepare_first.ensures.turned
+
+pub returns-clause-stops : goal.returns-clause-stops
+returns-clause-stops g c told f k K =
+    let a = c.args in
+    let h = g.D.Disk.history a.d.now in
+    c.prepare_first.ensures.stops told k.file k.image (knows_first f h a.txn Given.Prepare k K a.txn.own.changed)
+
+pub returns-clause-records : goal.returns-clause-records
+returns-clause-records g c =
+    let a = c.args in
+    weaker c.prepare_first.result _ _
+    (λ went go. prepare_records_go a.txn c.requires.outer (c.end_refusal.ensures.whole c.in_default.is) (c.end_refusal.ensures.unlocked c.in_default.is) went.turn went.stage go) c.prepare_first.ensures.records
