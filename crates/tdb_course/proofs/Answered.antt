@@ -13,8 +13,8 @@ use Rattle.tdb_openers.specs.Played.{Nothing}
 use Rattle.tdb_openers.specs.Played.Begun.{begun_not}
 use Rattle.tdb_openers.specs.declared.fault.RunFault.{RunFault}
 use Rattle.tdb_openers.specs.declared.fault.RunFault.TheVariants.{Io, Memory}
-use Rattle.tdb_whole.specs.Whole.{Whole, WorldFits}
-use Rattle.tdb_whole.specs.States.{IsStateOf}
+use Rattle.tdb_world.specs.Whole.{Whole, WorldFits}
+use Rattle.tdb_world.specs.States.{IsStateOf}
 use Rattle.tdb_course.specs.Led.{Lengths, moment, Led}
 use Rattle.tdb_course.specs.Told.{PlayLed, GivesLine, IsAnswered, Gifted}
 use Rattle.tdb_course.proofs.Leading.{led_whole, led_fault}

@@ -16,9 +16,9 @@ use Rattle.tdb_commands.specs.declared.line.Line.{Line}
 use Rattle.tdb_commands.specs.declared.line.Line.TheVariants.{Unfinished}
 use Rattle.tdb_commands.specs.InLaw.{law_lines}
 use Rattle.tdb_openers.proofs.Courses.{course_then}
-use Rattle.tdb_whole.specs.Whole.{Whole, WorldFits}
-use Rattle.tdb_whole.specs.States.{IsStateOf}
-use Rattle.tdb_whole.specs.Steps.{HasCommand}
+use Rattle.tdb_world.specs.Whole.{Whole, WorldFits}
+use Rattle.tdb_world.specs.States.{IsStateOf}
+use Rattle.tdb_world.specs.Steps.{HasCommand}
 use Rattle.tdb_course.specs.Unfinished.{AreUnfinished, TellsUnfinished}
 use Rattle.tdb_course.specs.Laws.{ReportIsLawful, EndsAlike}
 use Rattle.tdb_course.proofs.Standings.{joined_in, has_or_not, busy_never_idle, never_busy_idle}

@@ -15,7 +15,7 @@ use Rattle.tdb_openers.specs.declared.fault.RunFault.{RunFault}
 use Rattle.tdb_openers.specs.Played.{Nothing, Steps, TakesOne, GoesSome, Begun, ComesTo, PlaysLast}
 use Rattle.tdb_openers.specs.Played.Begun.{begun_not, begun_turns, begun_command}
 use Rattle.tdb_openers.proofs.Courses.{steps_only, steps_nothing, turn_gives, course_then, course_begun, course_last}
-use Rattle.tdb_whole.specs.Whole.{form_at}
+use Rattle.tdb_world.specs.Whole.{form_at}
 use Rattle.tdb_course.specs.Led.{Moment, Led}
 use Rattle.tdb_course.specs.Told.{PlayLed}
 use Rattle.tdb_course.specs.Turns.{TakesOrClears, GoesOrClears}

@@ -8,7 +8,7 @@ use Rattle.tdb_commands.specs.declared.line.Line.{Line}
 use Rattle.tdb_commands.specs.declared.play.Play.{Play}
 use Rattle.tdb_commands.specs.InLaw.{law_lines, law_play}
 use Rattle.tdb_openers.specs.declared.fault.RunFault.{RunFault}
-use Rattle.tdb_whole.specs.Whole.{form_at}
+use Rattle.tdb_world.specs.Whole.{form_at}
 use Rattle.tdb_course.specs.Hearing.{HeardBy, HeardLed, HeardNotices, KeepLogs, drops_log}
 use Rattle.tdb_course.specs.Led.{Moment, IsStateAt}
 use Rattle.tdb_course.specs.Told.{PlayLed}

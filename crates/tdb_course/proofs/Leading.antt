@@ -14,7 +14,7 @@ use Rattle.tdb_commands.specs.InLaw.{law_line, law_lines}
 use Rattle.tdb_openers.specs.Played.{growth}
 use Rattle.tdb_openers.specs.declared.fault.RunFault.{RunFault}
 use Rattle.tdb_openers.specs.declared.fault.RunFault.TheVariants.{Io, Memory}
-use Rattle.tdb_whole.specs.Whole.{Whole, WorldFits}
+use Rattle.tdb_world.specs.Whole.{Whole, WorldFits}
 use Rattle.tdb_course.specs.Led.{Lengths, Moment, moment, IsStateAt, Led}
 
 -- lengths that lines tell

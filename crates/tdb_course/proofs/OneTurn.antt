@@ -22,12 +22,12 @@ use Rattle.tdb_openers.specs.declared.fault.RunFault.{RunFault}
 use Rattle.tdb_openers.specs.declared.fault.RunFault.TheVariants.{Io, Memory}
 use Rattle.tdb_openers.specs.Played.{growth, Nothing, TakesOne, TakesLast, is_step}
 use Rattle.tdb_openers.specs.Worlds.{state_in}
-use Rattle.tdb_whole.specs.Whole.{Whole, WorldFits, form_at}
-use Rattle.tdb_whole.specs.States.{IsStateOf}
-use Rattle.tdb_whole.specs.States.IsStateOf.{of_whole, of_stale}
-use Rattle.tdb_whole.specs.Steps.{HasCommand, IsAmong, TurnLeads, UndoLeads}
-use Rattle.tdb_whole.specs.Steps.HasCommand.{by_aside, by_start, by_job}
-use Rattle.tdb_whole.specs.Steps.IsAmong.{among_all, among_others}
+use Rattle.tdb_world.specs.Whole.{Whole, WorldFits, form_at}
+use Rattle.tdb_world.specs.States.{IsStateOf}
+use Rattle.tdb_world.specs.States.IsStateOf.{of_whole, of_stale}
+use Rattle.tdb_world.specs.Steps.{HasCommand, IsAmong, TurnLeads, UndoLeads}
+use Rattle.tdb_world.specs.Steps.HasCommand.{by_aside, by_start, by_job}
+use Rattle.tdb_world.specs.Steps.IsAmong.{among_all, among_others}
 use Rattle.tdb_course.specs.Led.{Moment, moment, IsStateAt, Led}
 use Rattle.tdb_course.specs.Turns.{IsToldOf, Never, TakesOrClears}
 use Rattle.tdb_course.proofs.Leading.{growth_grows, led_join, led_fault}

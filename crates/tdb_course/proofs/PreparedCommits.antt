@@ -30,8 +30,8 @@ use Rattle.tdb_law.proofs.OneTurn.{turn_lawful}
 use Rattle.tdb_law.proofs.Plainly.{beginning_lawful}
 use Rattle.tdb_law.proofs.Sound.{own_kept}
 use Rattle.tdb_law.proofs.Undoing.{undo_lawful}
-use Rattle.tdb_whole.specs.Prepared.{prepared_turn, CommitsPrepared}
-use Rattle.tdb_whole.proofs.PreparedTurns.{commit_short, turned_so}
+use Rattle.tdb_world.specs.Prepared.{prepared_turn, CommitsPrepared}
+use Rattle.tdb_world.proofs.PreparedTurns.{commit_short, turned_so}
 use Rattle.tdb_course.specs.Prepared.{steps_and_done, turns_of, AreAlike, PreparedCommitsEnd}
 use Rattle.tdb_course.proofs.MayCommit.{commit_granted, turn_so, IfPrepared}
 

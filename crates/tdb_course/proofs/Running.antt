@@ -13,7 +13,7 @@ use Rattle.tdb_commands.specs.InLaw.{law_play, law_plays}
 use Rattle.tdb_openers.specs.declared.fault.RunFault.{RunFault}
 use Rattle.tdb_openers.specs.Played.{ComesTo}
 use Rattle.tdb_openers.proofs.Courses.{course_whole}
-use Rattle.tdb_whole.specs.Whole.{form_at}
+use Rattle.tdb_world.specs.Whole.{form_at}
 use Rattle.tdb_course.specs.Hearing.{Heard, HeardBy, HeardLed, RunsAsTold}
 use Rattle.tdb_course.specs.Led.{Moment, Led}
 use Rattle.tdb_course.specs.Told.{PlayLed}

@@ -17,14 +17,14 @@ use Rattle.tdb_openers.specs.Openers.{law_task, own_at, task_at}
 use Rattle.tdb_openers.specs.Worlds.{state_in, law_of_task, IsBusy, IsFree, IsNumber}
 use Rattle.tdb_openers.specs.declared.job.Task.{Task as JobTask}
 use Rattle.tdb_openers.specs.declared.opener.Opener.{Opener}
-use Rattle.tdb_whole.specs.States.{IsStateOf, SideIs}
-use Rattle.tdb_whole.specs.States.IsStateOf.{of_whole, of_stale}
-use Rattle.tdb_whole.specs.Steps.{HasCommand, HasNoCommand, IsAmong}
-use Rattle.tdb_whole.specs.Steps.HasCommand.{by_aside, by_start, by_job}
-use Rattle.tdb_whole.specs.Steps.HasNoCommand.{idle_aside, idle_among}
-use Rattle.tdb_whole.specs.Steps.IsAmong.{among_all, among_others}
-use Rattle.tdb_whole.specs.Whole.{Whole, AsideFits, WorldFits, is_starting}
-use Rattle.tdb_whole.proofs.Standings.{aside_here, aside_task, own_in, same_holder, start_in, task_in, there_named}
+use Rattle.tdb_world.specs.States.{IsStateOf, SideIs}
+use Rattle.tdb_world.specs.States.IsStateOf.{of_whole, of_stale}
+use Rattle.tdb_world.specs.Steps.{HasCommand, HasNoCommand, IsAmong}
+use Rattle.tdb_world.specs.Steps.HasCommand.{by_aside, by_start, by_job}
+use Rattle.tdb_world.specs.Steps.HasNoCommand.{idle_aside, idle_among}
+use Rattle.tdb_world.specs.Steps.IsAmong.{among_all, among_others}
+use Rattle.tdb_world.specs.Whole.{Whole, AsideFits, WorldFits, is_starting}
+use Rattle.tdb_world.proofs.Standings.{aside_here, aside_task, own_in, same_holder, start_in, task_in, there_named}
 use Rattle.tdb_course.specs.Turns.{IsToldOf}
 
 -- as many have joined as the world has openers

@@ -14,7 +14,7 @@ use Rattle.tdb_openers.specs.Played.{Begun}
 use Rattle.tdb_openers.specs.Played.Begun.{begun_not, begun_turn, begun_turns, begun_command}
 use Rattle.tdb_openers.specs.declared.fault.RunFault.{RunFault}
 use Rattle.tdb_openers.specs.declared.fault.RunFault.TheVariants.{Io, Memory}
-use Rattle.tdb_whole.specs.Whole.{Whole, form_at}
+use Rattle.tdb_world.specs.Whole.{Whole, form_at}
 use Rattle.tdb_course.specs.Led.{Moment, moment}
 use Rattle.tdb_course.specs.Stops.{StopsLed}
 use Rattle.tdb_course.specs.Told.{Gifted, IsAnswered, PlayLed}

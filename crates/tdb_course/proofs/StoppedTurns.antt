@@ -20,9 +20,9 @@ use Rattle.tdb_openers.specs.Played.{Nothing, TakesOne, TakesLast, UnlessIo}
 use Rattle.tdb_openers.specs.declared.fault.RunFault.{RunFault}
 use Rattle.tdb_openers.specs.declared.fault.RunFault.TheVariants.{Io, Memory}
 use Rattle.tdb_openers.proofs.Courses.{turn_gives}
-use Rattle.tdb_whole.specs.States.{IsStateOf}
-use Rattle.tdb_whole.specs.Stops.{IsChanging, IsSafe, OpensToState, TurnMayLeave}
-use Rattle.tdb_whole.specs.Whole.{form_at, Whole}
+use Rattle.tdb_world.specs.States.{IsStateOf}
+use Rattle.tdb_world.specs.Stops.{IsChanging, IsSafe, OpensToState, TurnMayLeave}
+use Rattle.tdb_world.specs.Whole.{form_at, Whole}
 use Rattle.tdb_course.specs.Led.{Moment, IsStateAt, Led}
 use Rattle.tdb_course.specs.Stops.{Leads, OpensOnTheWay, StopsLed}
 use Rattle.tdb_course.specs.Turns.{IsToldOf, Never}

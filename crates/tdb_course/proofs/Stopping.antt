@@ -15,10 +15,10 @@ use Rattle.tdb_openers.specs.Played.{UnlessIo}
 use Rattle.tdb_openers.specs.declared.fault.RunFault.{RunFault}
 use Rattle.tdb_openers.specs.declared.fault.RunFault.TheVariants.{Io, Memory}
 use Rattle.tdb_openers.proofs.Courses.{course_join}
-use Rattle.tdb_whole.specs.States.{IsStateOf}
-use Rattle.tdb_whole.specs.Stops.{IsSafe, OpensToState}
-use Rattle.tdb_whole.specs.Whole.{Whole, form_at}
-use Rattle.tdb_whole.proofs.Reopening.{state_reopens}
+use Rattle.tdb_world.specs.States.{IsStateOf}
+use Rattle.tdb_world.specs.Stops.{IsSafe, OpensToState}
+use Rattle.tdb_world.specs.Whole.{Whole, form_at}
+use Rattle.tdb_world.proofs.Reopening.{state_reopens}
 use Rattle.tdb_course.specs.Led.{Moment, IsStateAt}
 use Rattle.tdb_course.specs.Stops.{Leads, Passes, IsTransacted, OpensOnTheWay, StopsOn, StopsLed}
 use Rattle.tdb_course.proofs.Leading.{lines_join}

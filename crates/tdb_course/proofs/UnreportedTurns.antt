@@ -11,8 +11,8 @@ use Rattle.tdb_commands.specs.InLaw.{law_opener, law_command}
 use Rattle.tdb_commands.specs.declared.command.Command.{Command}
 use Rattle.tdb_commands.specs.declared.line.Line.{Line}
 use Rattle.tdb_commands.specs.declared.line.Line.TheVariants.{Took}
-use Rattle.tdb_whole.specs.Whole.{form_at, Whole, WorldFits}
-use Rattle.tdb_whole.specs.declared.undoing.Undone.{Undone}
+use Rattle.tdb_world.specs.Whole.{form_at, Whole, WorldFits}
+use Rattle.tdb_world.specs.declared.undoing.Undone.{Undone}
 use Rattle.tdb_openers.specs.Played.{growth, is_step, Nothing, TakesOne, TakesLast}
 use Rattle.tdb_openers.specs.declared.fault.RunFault.{RunFault}
 use Rattle.tdb_course.specs.Hearing.{Heard, HeardBy, HeardLed, HeardUpTo}

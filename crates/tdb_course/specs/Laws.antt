@@ -9,8 +9,8 @@ use Rattle.tdb_law.specs.Plays.{Play, Course}
 use Rattle.tdb_law.specs.World.{State}
 use Rattle.tdb_commands.specs.InLaw.{law_lines}
 use Rattle.tdb_commands.specs.declared.line.Line.{Line}
-use Rattle.tdb_whole.specs.Whole.{Whole, WorldFits}
-use Rattle.tdb_whole.specs.States.{IsStateOf}
+use Rattle.tdb_world.specs.Whole.{Whole, WorldFits}
+use Rattle.tdb_world.specs.States.{IsStateOf}
 use Rattle.tdb_course.specs.Unfinished.{IsEnd, EndsWith}
 
 -- The report of plays that lead on from a state just loaded, with the lines of all that isn't done behind it, is lawful from the replay

@@ -10,8 +10,8 @@ use Rattle.tdb_commands.specs.InLaw.{law_lines}
 use Rattle.tdb_openers.specs.Played.{UnlessIo, OnIo}
 use Rattle.tdb_openers.specs.declared.fault.RunFault.{RunFault}
 use Rattle.tdb_openers.specs.declared.fault.RunFault.TheVariants.{Io, Memory}
-use Rattle.tdb_whole.specs.Whole.{Whole, WorldFits}
-use Rattle.tdb_whole.specs.States.{IsStateOf}
+use Rattle.tdb_world.specs.Whole.{Whole, WorldFits}
+use Rattle.tdb_world.specs.States.{IsStateOf}
 
 -- A moment of a play: the world, the history and the length of its file, the count of faults of the disk, and the lines of the report.
 pub record Moment : Type 0 where

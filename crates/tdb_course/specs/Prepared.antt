@@ -10,7 +10,7 @@ use Rattle.tdb_law.specs.Lines.{Line}
 use Rattle.tdb_law.specs.Lines.Line.{Died, Took}
 use Rattle.tdb_law.specs.Openers.{Options, Txn}
 use Rattle.tdb_law.specs.World.{State}
-use Rattle.tdb_whole.specs.Prepared.{CommitsPrepared}
+use Rattle.tdb_world.specs.Prepared.{CommitsPrepared}
 use Rattle.tdb_course.specs.Stops.{Leads}
 
 -- the turns that lines tell of an opener, up to its death

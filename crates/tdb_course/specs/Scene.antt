@@ -3,8 +3,8 @@ use Rattle.std.specs.Prelude.{ℕ, List}
 use Rattle.tdb_disk.specs.History.{History}
 use Rattle.tdb_law.specs.World.{State}
 use Rattle.tdb_log.specs.Logs.{Logged}
-use Rattle.tdb_whole.specs.Whole.{Whole}
-use Rattle.tdb_whole.specs.States.{IsStateOf}
+use Rattle.tdb_world.specs.Whole.{Whole}
+use Rattle.tdb_world.specs.States.{IsStateOf}
 
 -- the world, the history and the length of its file, the count of faults of its disk, what is written on the output, and the logs
 pub record Scene : Type 0 where

@@ -9,8 +9,8 @@ use Rattle.tdb_commands.specs.declared.line.Line.{Line}
 use Rattle.tdb_commands.specs.InLaw.{law_lines}
 use Rattle.tdb_openers.specs.Played.{UnlessIo}
 use Rattle.tdb_openers.specs.declared.fault.RunFault.{RunFault}
-use Rattle.tdb_whole.specs.Stops.{IsChanging, IsSafe, TurnMayLeave}
-use Rattle.tdb_whole.specs.Whole.{form_at}
+use Rattle.tdb_world.specs.Stops.{IsChanging, IsSafe, TurnMayLeave}
+use Rattle.tdb_world.specs.Whole.{form_at}
 use Rattle.tdb_course.specs.Led.{Moment, IsStateAt}
 
 -- Some plays lead from one state to another with these lines.

@@ -8,9 +8,9 @@ use Rattle.tdb_commands.specs.declared.line.Line.{Line}
 use Rattle.tdb_commands.specs.InLaw.{law_line}
 use Rattle.tdb_openers.specs.Played.{Begun, PlaysLast}
 use Rattle.tdb_openers.specs.declared.fault.RunFault.{RunFault}
-use Rattle.tdb_whole.specs.Whole.{Whole, WorldFits, form_at}
-use Rattle.tdb_whole.specs.States.{IsStateOf}
-use Rattle.tdb_whole.specs.Steps.{GiftLeads, HasCommand}
+use Rattle.tdb_world.specs.Whole.{Whole, WorldFits, form_at}
+use Rattle.tdb_world.specs.States.{IsStateOf}
+use Rattle.tdb_world.specs.Steps.{GiftLeads, HasCommand}
 use Rattle.tdb_course.specs.Led.{Moment, moment, Led}
 
 -- What leads from one moment to another is a play: all that it gives; a part of it, where memory was wanting; and where the disk failed a part

@@ -3,8 +3,8 @@ use Rattle.std.specs.Prelude.{ℕ, zero, suc, ◌≡◌, ◌⊎◌, List, [], �
 use Rattle.tdb_law.specs.World.{State}
 use Rattle.tdb_commands.specs.declared.line.Line.{Line}
 use Rattle.tdb_commands.specs.declared.line.Line.TheVariants.{Unfinished}
-use Rattle.tdb_whole.specs.Whole.{Whole}
-use Rattle.tdb_whole.specs.Steps.{HasCommand}
+use Rattle.tdb_world.specs.Whole.{Whole}
+use Rattle.tdb_world.specs.Steps.{HasCommand}
 
 -- of so many openers of a world, counted from the place o on, each that has a command which isn't done gives a line, in order
 abbrev pub AreUnfinished : Whole → ℕ → ℕ → List Line → Type 0

@@ -8,7 +8,7 @@ use Rattle.tdb_commands.specs.InLaw.{law_opener}
 use Rattle.tdb_commands.specs.declared.command.Command.{Command}
 use Rattle.tdb_commands.specs.declared.line.Line.{Line}
 use Rattle.tdb_commands.specs.declared.line.Line.TheVariants.{Absent, Idle, Occupied, Took, Undone}
-use Rattle.tdb_whole.specs.declared.undoing.Undone.{Undone as UndoneGate}
+use Rattle.tdb_world.specs.declared.undoing.Undone.{Undone as UndoneGate}
 use Rattle.tdb_openers.specs.Played.{growth}
 use Rattle.tdb_openers.specs.declared.fault.RunFault.{RunFault}
 use Rattle.tdb_openers.specs.declared.standings.OpenerStanding.{OpenerStanding}

@@ -5,8 +5,8 @@ ghost use Rattle.tdb_law.specs.Plays.{Goes, most_turns};
 ghost use Rattle.tdb_law.specs.Plays.{Play as LawPlay};
 ghost use Rattle.tdb_commands.specs.InLaw.{law_opener};
 ghost use Rattle.tdb_openers.specs.Played.{GoesSome};
-ghost use Rattle.tdb_whole.specs.Whole.{form_at, WorldFits};
-ghost use Rattle.tdb_whole.specs.Steps.{HasCommand};
+ghost use Rattle.tdb_world.specs.Whole.{form_at, WorldFits};
+ghost use Rattle.tdb_world.specs.Steps.{HasCommand};
 ghost use Rattle.tdb_course.specs.Led.{moment, Led};
 ghost use Rattle.tdb_course.specs.Stops.{StopsLed};
 ghost use Rattle.tdb_course.specs.Turns.{GoesOrClears};
@@ -15,7 +15,7 @@ ghost use Rattle.tdb_course.specs.Told.{PlayLed};
 use crate::turning::told_turn;
 use tdb_disk::Disk;
 use tdb_commands::{Line, TurnReport};
-use tdb_whole::{OpenerStanding, World};
+use tdb_world::{OpenerStanding, World};
 use tdb_openers::{MOST_TURNS, RunFault, tell};
 
 /// Takes turns of an opener's command up to the first that isn't a step, and tells them.

@@ -2,11 +2,11 @@
 ghost use Rattle.std.specs.Prelude.{◌≤◌, ℕ, List};
 ghost use Rattle.tdb_law.specs.Plays.{Play as LawPlay};
 ghost use Rattle.tdb_commands.specs.InLaw.{law_opener};
-ghost use Rattle.tdb_whole.specs.Whole.{WorldFits};
+ghost use Rattle.tdb_world.specs.Whole.{WorldFits};
 ghost use Rattle.tdb_course.specs.Told.{PlayLedInAny};
 
 use tdb_commands::{Line, TurnReport};
-use tdb_whole::{OpenerStanding, World};
+use tdb_world::{OpenerStanding, World};
 use tdb_openers::{RunFault, put_line, tell};
 
 /// An opener dies, or the report says why it doesn't.

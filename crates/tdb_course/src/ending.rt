@@ -1,13 +1,13 @@
 //! What a report tells at its end.
 ghost use Rattle.std.specs.Prelude.{◌≡◌, ◌≤◌, ◌++◌, ℕ, List, IsTrue, OnOk, OnErr, false};
 ghost use Rattle.tdb_commands.specs.declared.line.Line.{Line};
-ghost use Rattle.tdb_whole.specs.Whole.{WorldFits};
-ghost use Rattle.tdb_whole.specs.Steps.{HasCommand};
+ghost use Rattle.tdb_world.specs.Whole.{WorldFits};
+ghost use Rattle.tdb_world.specs.Steps.{HasCommand};
 ghost use Rattle.tdb_course.specs.Unfinished.{IsEnd};
 
 use std::alloc::AllocError;
 use tdb_commands::{Line, TurnReport};
-use tdb_whole::{OpenerStanding, World};
+use tdb_world::{OpenerStanding, World};
 
 /// Whether the opener with this number has a command that isn't done.
 fn is_busy(world: &World, who: u32) -> bool

@@ -6,7 +6,7 @@ ghost use Rattle.tdb_law.specs.Plays.{Play as LawPlay};
 ghost use Rattle.tdb_commands.specs.InLaw.{law_opener, law_command, law_play, law_plays};
 ghost use Rattle.tdb_commands.specs.Short.{IsShortCommand};
 ghost use Rattle.tdb_openers.specs.Played.{Begun, ComesTo, PlaysLast};
-ghost use Rattle.tdb_whole.specs.Whole.{form_at, WorldFits};
+ghost use Rattle.tdb_world.specs.Whole.{form_at, WorldFits};
 ghost use Rattle.tdb_course.specs.Led.{moment, Led};
 ghost use Rattle.tdb_course.specs.Hearing.{HeardLed, RunsAsTold, drops_log};
 ghost use Rattle.tdb_course.specs.Stops.{StopsLed};
@@ -20,7 +20,7 @@ use crate::starting::{give_copy, play_give, play_join};
 use tdb_disk::Disk;
 use tdb_log::{LogRefusal, Logs};
 use tdb_commands::{Command, Line, Play, TurnReport};
-use tdb_whole::{OpenerStanding, World};
+use tdb_world::{OpenerStanding, World};
 use tdb_openers::{RunFault, tell};
 
 /// An opener is given a command and takes turns of it up to the first that isn't a step, or the report says why not.

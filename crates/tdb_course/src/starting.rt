@@ -3,13 +3,13 @@ ghost use Rattle.std.specs.Prelude.{◌≡◌, ◌≤◌, ◌∷◌, [], ℕ, Li
 ghost use Rattle.tdb_law.specs.Plays.{Play as LawPlay};
 ghost use Rattle.tdb_commands.specs.InLaw.{law_opener, law_command};
 ghost use Rattle.tdb_commands.specs.Short.{IsShortCommand};
-ghost use Rattle.tdb_whole.specs.Whole.{WorldFits};
-ghost use Rattle.tdb_whole.specs.Steps.{HasNoCommand};
+ghost use Rattle.tdb_world.specs.Whole.{WorldFits};
+ghost use Rattle.tdb_world.specs.Steps.{HasNoCommand};
 ghost use Rattle.tdb_course.specs.Led.{Lengths};
 ghost use Rattle.tdb_course.specs.Told.{Gifted, GivesLine, PlayLedInAny};
 
 use tdb_commands::{Command, Line, TurnReport};
-use tdb_whole::{JoinRefusal, OpenerStanding, World};
+use tdb_world::{JoinRefusal, OpenerStanding, World};
 use tdb_openers::{RunFault, put_line, tell};
 
 /// The line of a join: a new opener, or why there is none.

@@ -8,10 +8,10 @@ ghost use Rattle.tdb_law.specs.Plays.{Clears};
 ghost use Rattle.tdb_law.specs.World.{State};
 ghost use Rattle.tdb_commands.specs.InLaw.{law_opener, law_command};
 ghost use Rattle.tdb_openers.specs.Played.{Nothing, TakesLast, TakesOne};
-ghost use Rattle.tdb_whole.specs.Whole.{form_at, WorldFits};
-ghost use Rattle.tdb_whole.specs.States.{IsStateOf};
-ghost use Rattle.tdb_whole.specs.Steps.{HasCommand};
-ghost use Rattle.tdb_whole.specs.Stops.{IsChanging, IsSafe, OpensToState, TurnMayLeave};
+ghost use Rattle.tdb_world.specs.Whole.{form_at, WorldFits};
+ghost use Rattle.tdb_world.specs.States.{IsStateOf};
+ghost use Rattle.tdb_world.specs.Steps.{HasCommand};
+ghost use Rattle.tdb_world.specs.Stops.{IsChanging, IsSafe, OpensToState, TurnMayLeave};
 ghost use Rattle.tdb_course.specs.Led.{moment, Led};
 ghost use Rattle.tdb_course.specs.Stops.{StopsLed};
 ghost use Rattle.tdb_course.specs.Turns.{IsToldOf, Never, TakesOrClears};
@@ -19,7 +19,7 @@ ghost use Rattle.tdb_course.specs.Turns.{IsToldOf, Never, TakesOrClears};
 use tdb_disk::Disk;
 use tdb_commands::{Command, Line, TurnReport};
 use tdb_space::Io;
-use tdb_whole::{Undone, World};
+use tdb_world::{Undone, World};
 use tdb_openers::{RunFault, put_line, tell_growth, was_step};
 
 /// The length of the file.

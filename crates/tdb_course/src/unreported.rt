@@ -7,8 +7,8 @@ ghost use Rattle.tdb_commands.specs.declared.command.Command.{Command};
 ghost use Rattle.tdb_commands.specs.declared.line.Line.{Line};
 ghost use Rattle.tdb_commands.specs.Short.{IsShortCommand};
 ghost use Rattle.tdb_openers.specs.Played.{growth, is_step, Nothing, TakesLast, TakesOne};
-ghost use Rattle.tdb_whole.specs.Whole.{form_at, WorldFits};
-ghost use Rattle.tdb_whole.specs.Steps.{HasCommand};
+ghost use Rattle.tdb_world.specs.Whole.{form_at, WorldFits};
+ghost use Rattle.tdb_world.specs.Steps.{HasCommand};
 ghost use Rattle.tdb_course.specs.Hearing.{HeardBy};
 ghost use Rattle.tdb_course.specs.Led.{moment, Led};
 ghost use Rattle.tdb_course.specs.Told.{PlayLedInAny};
@@ -21,7 +21,7 @@ use tdb_disk::Disk;
 use tdb_locks::Turn;
 use tdb_log::{LogRefusal, Logs, Notice};
 use tdb_commands::Command;
-use tdb_whole::{OpenerStanding, Undone, World};
+use tdb_world::{OpenerStanding, Undone, World};
 use tdb_openers::RunFault;
 
 /// A turn, and the length of the file in bytes before it and after it.

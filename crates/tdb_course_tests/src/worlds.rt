@@ -12,7 +12,7 @@ use tdb_dump::WriteRefusal;
 use tdb_log::{LogRefusal, Logs};
 use tdb_commands::{Command, Options, Play, TurnReport};
 use tdb_script::{read_script, write_line};
-use tdb_whole::World;
+use tdb_world::World;
 
 /// How long a file may be in bytes.
 const LONGEST_FILE: u64 = 4_294_963_200;

@@ -14,7 +14,7 @@ use Rattle.tdb_commands.specs.declared.play.Play.{Play}
 use Rattle.tdb_openers.specs.Played.{ComesTo}
 use Rattle.tdb_openers.specs.declared.fault.RunFault.{RunFault}
 use Rattle.tdb_openers.specs.declared.fault.RunFault.TheVariants as Run
-use Rattle.tdb_whole.specs.Whole.{Whole, form_at}
+use Rattle.tdb_world.specs.Whole.{Whole, form_at}
 use Rattle.tdb_course.specs.Hearing.{HeardLed}
 use Rattle.tdb_course.specs.Led.{Moment, moment, Led}
 use Rattle.tdb_gen.specs.declared.counts.Counts.{Counts}

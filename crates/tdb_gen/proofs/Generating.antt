@@ -10,7 +10,7 @@ use Rattle.tdb_space.specs.Pairs.{order_of}
 use Rattle.tdb_law.specs.World.{State}
 use Rattle.tdb_commands.specs.InLaw.{law_lines, options_of}
 use Rattle.tdb_commands.specs.declared.options.Options.{Options}
-use Rattle.tdb_whole.specs.Whole.{form_at}
+use Rattle.tdb_world.specs.Whole.{form_at}
 use Rattle.tdb_gen.specs.declared.fault.GenFault.{GenFault}
 use Rattle.tdb_gen.specs.declared.fault.GenFault.TheVariants.{Io, Memory, Log}
 use Rattle.tdb_gen.specs.declared.summary.Summary.{Summary}

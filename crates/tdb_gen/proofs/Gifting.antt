@@ -14,9 +14,9 @@ use Rattle.tdb_commands.specs.declared.play.Play.TheVariants as Plays
 use Rattle.tdb_openers.proofs.Courses.{course_then}
 use Rattle.tdb_openers.specs.declared.standings.OpenerStanding.{OpenerStanding}
 use Rattle.tdb_openers.specs.declared.standings.OpenerStanding.TheVariants as Stands
-use Rattle.tdb_whole.specs.Steps.{JoinLeads}
-use Rattle.tdb_whole.specs.States.{IsStateOf}
-use Rattle.tdb_whole.specs.Whole.{Whole, form_at, WorldFits}
+use Rattle.tdb_world.specs.Steps.{JoinLeads}
+use Rattle.tdb_world.specs.States.{IsStateOf}
+use Rattle.tdb_world.specs.Whole.{Whole, form_at, WorldFits}
 use Rattle.tdb_course.specs.Hearing.{Heard}
 use Rattle.tdb_course.specs.Told.{PlayLedInAny}
 use Rattle.tdb_course.specs.Unreported.{gift_lines}

@@ -20,9 +20,9 @@ use Rattle.tdb_openers.specs.Openers.{law_task, task_at, hands_of_task, hands_at
 use Rattle.tdb_openers.specs.Worlds.{state_in, BytesStand}
 use Rattle.tdb_openers.specs.declared.job.Task.{Task as JobTask}
 use Rattle.tdb_openers.specs.declared.opener.Opener.{Opener}
-use Rattle.tdb_whole.specs.Whole.{Whole, form_at, is_starting}
-use Rattle.tdb_whole.specs.States.{state_with, IsAside, SideIs, IsStateOf}
-use Rattle.tdb_whole.specs.States.IsStateOf.{of_whole, of_stale}
+use Rattle.tdb_world.specs.Whole.{Whole, form_at, is_starting}
+use Rattle.tdb_world.specs.States.{state_with, IsAside, SideIs, IsStateOf}
+use Rattle.tdb_world.specs.States.IsStateOf.{of_whole, of_stale}
 use Rattle.tdb_gen.specs.Generated.{HasFile}
 use Rattle.tdb_gen.specs.Rounds.{IsOnKey, OnKeys, IsIdle}
 

@@ -12,7 +12,7 @@ use Rattle.tdb_commands.specs.InLaw.{law_play, law_plays, law_line, law_lines}
 use Rattle.tdb_commands.specs.declared.line.Line.{Line}
 use Rattle.tdb_commands.specs.declared.play.Play.{Play}
 use Rattle.tdb_openers.specs.Played.{ComesTo}
-use Rattle.tdb_whole.specs.Whole.{form_at, WorldFits}
+use Rattle.tdb_world.specs.Whole.{form_at, WorldFits}
 use Rattle.tdb_course.specs.Hearing.{Heard}
 use Rattle.tdb_course.proofs.HeardLines.{heard_joined, heard_then_refused}
 use Rattle.tdb_gen.specs.declared.fault.GenFault.{GenFault}

@@ -18,7 +18,7 @@ use Rattle.tdb_space.specs.Form.{Form}
 use Rattle.tdb_openers.specs.Played.{Begun, ComesTo, PlaysLast, growth}
 use Rattle.tdb_openers.specs.declared.fault.RunFault.{RunFault}
 use Rattle.tdb_openers.proofs.Courses.{course_then, course_last}
-use Rattle.tdb_whole.specs.Whole.{Whole, form_at}
+use Rattle.tdb_world.specs.Whole.{Whole, form_at}
 use Rattle.tdb_course.specs.Led.{moment}
 use Rattle.tdb_course.specs.Unreported.{AreUndoing, TurnTells, Unreported}
 use Rattle.tdb_gen.specs.declared.counts.Counts.{Counts}

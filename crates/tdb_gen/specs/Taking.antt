@@ -15,8 +15,8 @@ use Rattle.tdb_commands.specs.declared.play.Play.{Play}
 use Rattle.tdb_openers.specs.declared.fault.RunFault.{RunFault}
 use Rattle.tdb_openers.specs.declared.fault.RunFault.TheVariants as Run
 use Rattle.tdb_openers.specs.Played.{ComesTo}
-use Rattle.tdb_whole.specs.Whole.{Whole, form_at, WorldFits}
-use Rattle.tdb_whole.specs.States.{IsStateOf}
+use Rattle.tdb_world.specs.Whole.{Whole, form_at, WorldFits}
+use Rattle.tdb_world.specs.States.{IsStateOf}
 use Rattle.tdb_course.specs.Hearing.{Heard, HeardUpTo}
 use Rattle.tdb_gen.specs.declared.counts.Counts.{Counts}
 use Rattle.tdb_gen.specs.declared.fault.GenFault.{GenFault}

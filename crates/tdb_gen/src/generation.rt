@@ -8,8 +8,8 @@ ghost use Rattle.tdb_space.specs.Accepted.{AcceptWith};
 ghost use Rattle.tdb_space.specs.Pairs.{order_of};
 ghost use Rattle.tdb_law.specs.World.{State};
 ghost use Rattle.tdb_commands.specs.declared.options.Options.{Options};
-ghost use Rattle.tdb_whole.specs.Whole.{form_at, WorldFits};
-ghost use Rattle.tdb_whole.specs.States.{IsStateOf};
+ghost use Rattle.tdb_world.specs.Whole.{form_at, WorldFits};
+ghost use Rattle.tdb_world.specs.States.{IsStateOf};
 ghost use Rattle.tdb_gen.specs.Counts.{counts_of};
 ghost use Rattle.tdb_gen.specs.Generated.{IsFirst, GeneratedOver};
 ghost use Rattle.tdb_gen.specs.Numbers.{IsFrom};
@@ -27,7 +27,7 @@ use crate::summary::Summary;
 use std::alloc::Global;
 use tdb_disk::Disk;
 use tdb_log::Logs;
-use tdb_whole::World;
+use tdb_world::World;
 use tdb_words::Header;
 
 /// The commands that are made for the openers of a world, and what was counted of their turns.

@@ -2,7 +2,7 @@
 
 ghost use Rattle.std.specs.Prelude.{◌≡◌, ◌<◌, ◌≤◌, ◌∷◌, ◌+◌, ◌-◌, ◌^◌, [], ℕ, List, min, OnOk};
 ghost use Rattle.tdb_commands.specs.declared.play.Play.TheVariants.{Join};
-ghost use Rattle.tdb_whole.specs.Whole.{WorldFits};
+ghost use Rattle.tdb_world.specs.Whole.{WorldFits};
 ghost use Rattle.tdb_gen.specs.Numbers.{IsFrom};
 ghost use Rattle.tdb_gen.specs.Plays.{joins, gift, gifts};
 ghost use Rattle.tdb_gen.specs.Taking.{HaveJoined, TakenInAny};
@@ -11,7 +11,7 @@ use crate::fault::GenFault;
 use crate::generator::{Generator, OPENERS};
 use std::alloc::Global;
 use tdb_course::give_unreported;
-use tdb_whole::World;
+use tdb_world::World;
 
 /// The next opener joins. `Memory` where it is refused: while few have joined and nobody commits, only memory can be
 /// wanting.

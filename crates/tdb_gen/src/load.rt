@@ -16,7 +16,7 @@ use std::alloc::Global;
 use tdb_disk::Disk;
 use tdb_log::Logs;
 use tdb_commands::Options;
-use tdb_whole::World;
+use tdb_world::World;
 use tdb_words::Header;
 
 /// Lets three openers join and do so many generated commands on an accepted file, in groups of three, and tells what came

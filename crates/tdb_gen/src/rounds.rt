@@ -3,7 +3,7 @@
 ghost use Rattle.std.specs.Prelude.{◌≡◌, ◌≤◌, ◌∷◌, [], false, IfOk};
 ghost use Rattle.tdb_disk.specs.History.{seen};
 ghost use Rattle.tdb_commands.specs.declared.play.Play.TheVariants.{Turn as TurnOf};
-ghost use Rattle.tdb_whole.specs.Whole.{WorldFits};
+ghost use Rattle.tdb_world.specs.Whole.{WorldFits};
 ghost use Rattle.tdb_gen.specs.Plays.{round, rounds};
 ghost use Rattle.tdb_gen.specs.Taking.{end_only, place, Rests, Taken};
 
@@ -12,7 +12,7 @@ use crate::fault::GenFault;
 use tdb_course::turn_unreported;
 use tdb_disk::Disk;
 use tdb_log::Logs;
-use tdb_whole::World;
+use tdb_world::World;
 
 /// How many rounds of turns a group has.
 const ROUNDS: u32 = 24;

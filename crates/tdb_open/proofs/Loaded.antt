@@ -11,8 +11,8 @@ use Rattle.tdb_law.specs.Images.{image_map}
 use Rattle.tdb_law.specs.World.{State}
 use Rattle.tdb_commands.specs.declared.options.Options.{Options}
 use Rattle.tdb_commands.specs.InLaw.{options_of}
-use Rattle.tdb_whole.specs.States.{IsStateOf}
-use Rattle.tdb_whole.specs.Whole.{Whole, form_at}
+use Rattle.tdb_world.specs.States.{IsStateOf}
+use Rattle.tdb_world.specs.Whole.{Whole, form_at}
 use Rattle.tdb_open.specs.Creating.{IsNewFile, new_file_header}
 use Rattle.tdb_open.specs.Loading.{IsOver, IsJustLoaded}
 use Rattle.tdb_open.specs.Opening.{IsCheckedOn}

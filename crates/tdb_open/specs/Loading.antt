@@ -11,8 +11,8 @@ use Rattle.tdb_law.specs.World.{State}
 use Rattle.tdb_log.specs.Logs.{Logged}
 use Rattle.tdb_commands.specs.declared.options.Options.{Options}
 use Rattle.tdb_commands.specs.InLaw.{options_of}
-use Rattle.tdb_whole.specs.Whole.{Whole, form_at, options_at}
-use Rattle.tdb_whole.specs.States.{IsStateOf}
+use Rattle.tdb_world.specs.Whole.{Whole, form_at, options_at}
+use Rattle.tdb_world.specs.States.{IsStateOf}
 use Rattle.tdb_open.specs.declared.halt.Refusal.{Refusal}
 use Rattle.tdb_open.specs.declared.halt.Refusal.TheVariants.{TooLong}
 use Rattle.tdb_open.specs.declared.halt.Halt.{Halt}

@@ -6,7 +6,7 @@ ghost use Rattle.tdb_disk.specs.History.{seen};
 ghost use Rattle.tdb_space.specs.Accepted.{AcceptWith};
 ghost use Rattle.tdb_space.specs.Form.{form_of};
 ghost use Rattle.tdb_law.specs.World.{State};
-ghost use Rattle.tdb_whole.specs.Whole.{form_at, WorldFits};
+ghost use Rattle.tdb_world.specs.Whole.{form_at, WorldFits};
 ghost use Rattle.tdb_open.specs.declared.creating.CreateRefusal.TheVariants.{Device, TooLong};
 ghost use Rattle.tdb_open.specs.Creating.{new_length, new_file_header, IsMade, MadeInPart};
 ghost use Rattle.tdb_open.specs.Loading.{IsJustLoaded};
@@ -14,7 +14,7 @@ ghost use Rattle.tdb_open.specs.Loading.{IsJustLoaded};
 use std::alloc::Global;
 use tdb_disk::{Disk, DiskFault};
 use tdb_commands::Options;
-use tdb_whole::World;
+use tdb_world::World;
 use tdb_words::{HashKind, Header, Order, header_bytes};
 use thiserror::Error;
 

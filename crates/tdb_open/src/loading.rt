@@ -6,7 +6,7 @@ ghost use Rattle.tdb_disk.specs.History.{seen};
 ghost use Rattle.tdb_space.specs.Accepted.{AcceptWith};
 ghost use Rattle.tdb_space.specs.Form.{form_of};
 ghost use Rattle.tdb_law.specs.World.{State};
-ghost use Rattle.tdb_whole.specs.Whole.{form_at, WorldFits};
+ghost use Rattle.tdb_world.specs.Whole.{form_at, WorldFits};
 ghost use Rattle.tdb_open.specs.declared.halt.Halt.TheVariants.{Device};
 ghost use Rattle.tdb_open.specs.Opening.{IsCheckedOn, OpensSafely};
 ghost use Rattle.tdb_open.specs.Loading.{OpenedToTurn, OpeningHeardBy, TurnOpeningHeard, IsJustLoaded, opened_of};
@@ -17,7 +17,7 @@ use std::alloc::Global;
 use tdb_disk::Disk;
 use tdb_log::Logs;
 use tdb_commands::Options;
-use tdb_whole::World;
+use tdb_world::World;
 
 /// Opens the file on a disk, which isn't too long, to read it alone or not. The last log is told what the opening
 /// finds.

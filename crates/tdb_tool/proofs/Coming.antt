@@ -6,8 +6,8 @@ use Rattle.tdb_disk.specs.Count.{Rose}
 use Rattle.tdb_space.specs.Form.{Form, form_in}
 use Rattle.tdb_law.specs.World.{State}
 use Rattle.tdb_commands.specs.declared.line.Line.{Line}
-use Rattle.tdb_whole.specs.Stops.{IsSafe}
-use Rattle.tdb_whole.specs.Whole.{form_at}
+use Rattle.tdb_world.specs.Stops.{IsSafe}
+use Rattle.tdb_world.specs.Whole.{form_at}
 use Rattle.tdb_tool.specs.declared.fault.SessionFault.{SessionFault}
 use Rattle.tdb_tool.specs.declared.fault.SessionFault.TheVariants as F
 use Rattle.tdb_course.specs.Scene.{Scene, IsStateAt}

@@ -15,7 +15,7 @@ use Rattle.tdb_commands.specs.InLaw.{law_turn, law_line, law_lines, law_play}
 use Rattle.tdb_commands.specs.declared.line.Line.{Line}
 use Rattle.tdb_commands.specs.declared.play.Play.{Play}
 use Rattle.tdb_space.specs.Form.{Form}
-use Rattle.tdb_whole.specs.Whole.{form_at}
+use Rattle.tdb_world.specs.Whole.{form_at}
 use Rattle.tdb_tool.specs.declared.limits.TheConstants.{MOST_MOVES}
 use Rattle.tdb_tool.specs.declared.fault.SessionFault.{SessionFault}
 use Rattle.tdb_tool.specs.declared.fault.SessionFault.TheVariants as F

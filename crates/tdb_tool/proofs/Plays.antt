@@ -20,8 +20,8 @@ use Rattle.tdb_commands.specs.declared.play.Play.{Play}
 use Rattle.tdb_openers.specs.Played.{Begun, PlaysLast}
 use Rattle.tdb_openers.specs.declared.fault.RunFault.{RunFault}
 use Rattle.tdb_openers.specs.declared.fault.RunFault.TheVariants as Run
-use Rattle.tdb_whole.specs.Whole.{Whole, form_at}
-use Rattle.tdb_whole.specs.Stops.{IsSafe}
+use Rattle.tdb_world.specs.Whole.{Whole, form_at}
+use Rattle.tdb_world.specs.Stops.{IsSafe}
 use Rattle.tdb_course.specs.Hearing.{HeardBy, HeardLed}
 use Rattle.tdb_course.specs.Led.{moment, Led as PlayLed}
 use Rattle.tdb_course.specs.Stops.{IsTransacted, StopsLed}

@@ -32,12 +32,12 @@ use Rattle.tdb_commands.specs.declared.options.Options.{Options}
 use Rattle.tdb_openers.specs.Openers.{own_at}
 use Rattle.tdb_openers.specs.Worlds.{state_in}
 use Rattle.tdb_openers.specs.declared.opener.Opener.{Opener}
-use Rattle.tdb_whole.specs.Died.{IsReadAs}
-use Rattle.tdb_whole.specs.States.{IsSeen, IsAside, SideIs, IsStateOf, state_with, writes_all}
-use Rattle.tdb_whole.specs.States.IsStateOf.{of_whole, of_stale}
-use Rattle.tdb_whole.specs.Whole.{Whole, form_at, options_at, is_starting, HolderFits, AsideFits, WorldFits}
+use Rattle.tdb_world.specs.Died.{IsReadAs}
+use Rattle.tdb_world.specs.States.{IsSeen, IsAside, SideIs, IsStateOf, state_with, writes_all}
+use Rattle.tdb_world.specs.States.IsStateOf.{of_whole, of_stale}
+use Rattle.tdb_world.specs.Whole.{Whole, form_at, options_at, is_starting, HolderFits, AsideFits, WorldFits}
 use Rattle.tdb_txn_owner.proofs.ReadAs.{restored_accepted, OpensIn}
-use Rattle.tdb_whole.proofs.Reopening.{aside_opens, state_reopens}
+use Rattle.tdb_world.proofs.Reopening.{aside_opens, state_reopens}
 use Rattle.tdb_tool.proofs.Moves.{sight}
 
 -- a map is that of an accepted image of at most so many bytes

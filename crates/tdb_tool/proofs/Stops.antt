@@ -13,8 +13,8 @@ use Rattle.tdb_law.specs.Lines.{Line as LawLine}
 use Rattle.tdb_law.specs.World.{State}
 use Rattle.tdb_commands.specs.InLaw.{law_line, law_lines}
 use Rattle.tdb_commands.specs.declared.line.Line.{Line}
-use Rattle.tdb_whole.specs.Stops.{IsSafe}
-use Rattle.tdb_whole.specs.Whole.{form_at}
+use Rattle.tdb_world.specs.Stops.{IsSafe}
+use Rattle.tdb_world.specs.Whole.{form_at}
 use Rattle.tdb_course.specs.Stops.{Leads, IsTransacted, OpensOnTheWay}
 use Rattle.tdb_course.proofs.Stopping.{passes_front, passes_behind, safe_opens, opens_first}
 use Rattle.tdb_tool.specs.declared.fault.SessionFault.{SessionFault}

@@ -20,13 +20,13 @@ use Rattle.tdb_commands.specs.declared.play.Play.{Play}
 use Rattle.tdb_script.specs.Lines.{lines_of}
 use Rattle.tdb_openers.proofs.Finishing.{broken_lawful}
 use Rattle.tdb_openers.specs.Worlds.{World, state_in}
-use Rattle.tdb_whole.specs.Died.{IsReadAs}
-use Rattle.tdb_whole.proofs.Reopening.{state_reopens}
+use Rattle.tdb_world.specs.Died.{IsReadAs}
+use Rattle.tdb_world.proofs.Reopening.{state_reopens}
 use Rattle.tdb_course.proofs.Finishing.{report_lawful}
 use Rattle.tdb_course.specs.Stops.{IsTransacted}
 use Rattle.tdb_course.specs.Unfinished.{TellsUnfinished, EndsWith}
-use Rattle.tdb_whole.specs.Stops.{IsSafe}
-use Rattle.tdb_whole.specs.Whole.{form_at, options_at}
+use Rattle.tdb_world.specs.Stops.{IsSafe}
+use Rattle.tdb_world.specs.Whole.{form_at, options_at}
 use Rattle.tdb_tool.specs.declared.fault.SessionEnd.{SessionEnd}
 use Rattle.tdb_tool.specs.declared.fault.SessionFault.{SessionFault}
 use Rattle.tdb_tool.specs.declared.fault.SessionFault.TheVariants as F

@@ -14,8 +14,8 @@ use Rattle.tdb_commands.specs.InLaw.{law_play, law_lines}
 use Rattle.tdb_commands.specs.declared.line.Line.{Line}
 use Rattle.tdb_commands.specs.declared.play.Play.{Play}
 use Rattle.tdb_openers.specs.Played.{PlaysLast}
-use Rattle.tdb_whole.specs.Whole.{form_at, WorldFits}
-use Rattle.tdb_whole.specs.Stops.{IsSafe}
+use Rattle.tdb_world.specs.Whole.{form_at, WorldFits}
+use Rattle.tdb_world.specs.Stops.{IsSafe}
 use Rattle.tdb_course.specs.Hearing.{Heard, HeardUpTo}
 use Rattle.tdb_course.specs.Scene.{Scene, IsStateAt}
 use Rattle.tdb_course.specs.Stops.{IsTransacted, OpensOnTheWay}

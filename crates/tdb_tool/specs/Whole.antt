@@ -15,7 +15,7 @@ use Rattle.tdb_commands.specs.InLaw.{law_lines, options_of}
 use Rattle.tdb_commands.specs.declared.command.Command.{Command}
 use Rattle.tdb_commands.specs.declared.line.Line.{Line}
 use Rattle.tdb_commands.specs.declared.play.Play.{Play}
-use Rattle.tdb_whole.specs.Died.{IsReadAs}
+use Rattle.tdb_world.specs.Died.{IsReadAs}
 use Rattle.tdb_course.specs.Stops.{IsTransacted, OpensOnTheWay}
 use Rattle.tdb_course.specs.Unfinished.{EndsWith}
 use Rattle.tdb_commands.specs.declared.options.Options.{Options}

@@ -2,7 +2,7 @@
 
 ghost use Rattle.tdb_disk.specs.Count.{HasCauseOf};
 ghost use Rattle.tdb_disk.specs.History.{seen};
-ghost use Rattle.tdb_whole.specs.Whole.{WorldFits};
+ghost use Rattle.tdb_world.specs.Whole.{WorldFits};
 ghost use Rattle.tdb_tool.specs.declared.fault.SessionFault.TheVariants as FaultIs;
 ghost use Rattle.tdb_tool.specs.Lines.{lines_left};
 ghost use Rattle.tdb_course.specs.Scene.{scene};
@@ -15,7 +15,7 @@ use crate::taking::take_order;
 use std::alloc::Global;
 use tdb_disk::{Disk, Sink, Source};
 use tdb_log::Logs;
-use tdb_whole::World;
+use tdb_world::World;
 
 /// Does what the next line asks for. Answers how the session ends, where it does.
 fn serve_next<D: Disk, I: Source, K: Sink, L: Logs>(

@@ -5,7 +5,7 @@ ghost use Rattle.tdb_disk.specs.Count.{HasCauseOf, Rose};
 ghost use Rattle.tdb_disk.specs.History.{seen};
 ghost use Rattle.tdb_space.specs.Accepted.{AcceptWith};
 ghost use Rattle.tdb_law.specs.World.{State};
-ghost use Rattle.tdb_whole.specs.Whole.{form_at, options_at, WorldFits};
+ghost use Rattle.tdb_world.specs.Whole.{form_at, options_at, WorldFits};
 ghost use Rattle.tdb_open.specs.Loading.{IsJustLoaded};
 ghost use Rattle.tdb_tool.specs.declared.fault.SessionFault.TheVariants as FaultIs;
 ghost use Rattle.tdb_course.specs.Scene.{scene};
@@ -19,7 +19,7 @@ use std::alloc::Global;
 use tdb_disk::{Disk, Sink, Source};
 use tdb_log::Logs;
 use tdb_commands::{Command, Play};
-use tdb_whole::{OpenerStanding, World};
+use tdb_world::{OpenerStanding, World};
 
 /// An opener joins, and does what the lines of the input order.
 fn join_and_serve<D: Disk, I: Source, K: Sink, L: Logs>(

@@ -3,7 +3,7 @@
 ghost use Rattle.std.specs.Prelude.{◌≡◌, ◌≢◌, ◌∷◌, [], ℕ, Bool, List, IfErr};
 ghost use Rattle.tdb_disk.specs.Count.{HasCauseOf};
 ghost use Rattle.tdb_disk.specs.History.{seen};
-ghost use Rattle.tdb_whole.specs.Whole.{WorldFits};
+ghost use Rattle.tdb_world.specs.Whole.{WorldFits};
 ghost use Rattle.tdb_course.specs.Playable.{IsPlayable};
 ghost use Rattle.tdb_tool.specs.declared.fault.SessionFault.TheVariants as FaultIs;
 ghost use Rattle.tdb_tool.specs.Parts.{Silent, Listed, doing as doing_of, move as move_of, part_of, IsServedOrder};
@@ -19,7 +19,7 @@ use tdb_disk::{Disk, Sink};
 use tdb_dump::Listing;
 use tdb_log::Logs;
 use tdb_commands::{Command, Play, TurnReport};
-use tdb_whole::World;
+use tdb_world::World;
 
 /// The number of the opener that takes the commands.
 pub(crate) const OPENER: u32 = 1;

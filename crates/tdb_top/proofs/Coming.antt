@@ -22,8 +22,8 @@ use Rattle.tdb_script.specs.Text.{printed_line, report_text}
 use Rattle.tdb_openers.specs.Played.{ComesTo, UnlessIo, OnIo}
 use Rattle.tdb_openers.specs.declared.fault.RunFault.{RunFault}
 use Rattle.tdb_openers.specs.declared.fault.RunFault.TheVariants as Run
-use Rattle.tdb_whole.specs.Whole.{Whole, form_at, WorldFits}
-use Rattle.tdb_whole.specs.States.{IsStateOf}
+use Rattle.tdb_world.specs.Whole.{Whole, form_at, WorldFits}
+use Rattle.tdb_world.specs.States.{IsStateOf}
 use Rattle.tdb_course.specs.Led.{moment, Comes, Led}
 use Rattle.tdb_course.specs.Unfinished.{IsEnd}
 use Rattle.tdb_openers.proofs.Courses.{course_join}

@@ -13,7 +13,7 @@ use Rattle.tdb_commands.specs.declared.line.Line.{Line}
 use Rattle.tdb_commands.specs.declared.options.Options.{Options}
 use Rattle.tdb_commands.specs.declared.play.Play.{Play}
 use Rattle.tdb_script.specs.Text.{report_text}
-use Rattle.tdb_whole.specs.Died.{IsReadAs}
+use Rattle.tdb_world.specs.Died.{IsReadAs}
 use Rattle.tdb_course.specs.Laws.{ReportIsLawful}
 use Rattle.tdb_course.specs.Unfinished.{EndsWith}
 use Rattle.tdb_course.proofs.Coming.{whole_comes}

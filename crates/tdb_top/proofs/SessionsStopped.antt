@@ -24,7 +24,7 @@ use Rattle.tdb_tool.specs.declared.fault.SessionFault.TheVariants as F
 use Rattle.tdb_tool.specs.declared.order.Order.{Order}
 use Rattle.tdb_commands.specs.InLaw.{options_of}
 use Rattle.tdb_course.specs.Stops.{OpensOnTheWay}
-use Rattle.tdb_whole.specs.Died.{IsReadAs}
+use Rattle.tdb_world.specs.Died.{IsReadAs}
 use Rattle.tdb_top.specs.declared.ending.Ending.{Ending}
 use Rattle.tdb_top.specs.declared.ending.Ending.TheVariants.{DeviceFault}
 use Rattle.tdb_top.specs.declared.ending.Unprinted.{Unprinted}

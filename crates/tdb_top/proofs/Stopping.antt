@@ -21,11 +21,11 @@ use Rattle.tdb_script.specs.Text.{report_text}
 use Rattle.tdb_openers.specs.Played.{ComesTo, UnlessIo}
 use Rattle.tdb_openers.specs.declared.fault.RunFault.{RunFault}
 use Rattle.tdb_openers.specs.declared.fault.RunFault.TheVariants as Run
-use Rattle.tdb_whole.specs.Died.{IsReadAs}
-use Rattle.tdb_whole.specs.States.{IsStateOf}
-use Rattle.tdb_whole.specs.Stops.{IsSafe}
-use Rattle.tdb_whole.specs.Whole.{Whole, form_at}
-use Rattle.tdb_whole.proofs.Reopening.{state_reopens}
+use Rattle.tdb_world.specs.Died.{IsReadAs}
+use Rattle.tdb_world.specs.States.{IsStateOf}
+use Rattle.tdb_world.specs.Stops.{IsSafe}
+use Rattle.tdb_world.specs.Whole.{Whole, form_at}
+use Rattle.tdb_world.proofs.Reopening.{state_reopens}
 use Rattle.tdb_course.specs.Hearing.{RunsAsTold}
 use Rattle.tdb_course.specs.Led.{moment, Comes, Led}
 use Rattle.tdb_course.specs.Stops.{IsTransacted, Leads, OpensOnTheWay, Passes, StopsLed}

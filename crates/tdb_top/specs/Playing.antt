@@ -10,7 +10,7 @@ use Rattle.tdb_commands.specs.declared.line.Line.{Line}
 use Rattle.tdb_commands.specs.declared.play.Play.{Play}
 use Rattle.tdb_script.specs.Text.{report_text}
 use Rattle.tdb_openers.specs.Played.{ComesTo}
-use Rattle.tdb_whole.specs.Whole.{Whole, form_at, WorldFits}
+use Rattle.tdb_world.specs.Whole.{Whole, form_at, WorldFits}
 use Rattle.tdb_course.specs.Hearing.{Heard}
 use Rattle.tdb_course.specs.Scene.{Scene, IsStateAt}
 use Rattle.tdb_course.specs.Unfinished.{IsEnd}

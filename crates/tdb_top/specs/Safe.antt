@@ -10,7 +10,7 @@ use Rattle.tdb_law.specs.Lines.{Line as LawLine}
 use Rattle.tdb_law.specs.World.{State}
 use Rattle.tdb_open.specs.Loading.{IsOver}
 use Rattle.tdb_open.specs.Opening.{opened_bytes}
-use Rattle.tdb_whole.specs.Died.{IsReadAs}
+use Rattle.tdb_world.specs.Died.{IsReadAs}
 use Rattle.tdb_course.specs.Stops.{IsTransacted, OpensOnTheWay}
 
 -- Since a file had one history, each stop until it has another leaves a file that opens on the way that these lines

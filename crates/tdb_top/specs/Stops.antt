@@ -17,9 +17,9 @@ use Rattle.tdb_commands.specs.declared.play.Play.{Play}
 use Rattle.tdb_script.specs.Text.{report_text}
 use Rattle.tdb_open.specs.Loading.{IsOver, OpensToTurn}
 use Rattle.tdb_openers.specs.Played.{ComesTo}
-use Rattle.tdb_whole.specs.Stops.{IsSafe}
-use Rattle.tdb_whole.specs.States.{IsStateOf}
-use Rattle.tdb_whole.specs.Whole.{Whole, form_at}
+use Rattle.tdb_world.specs.Stops.{IsSafe}
+use Rattle.tdb_world.specs.States.{IsStateOf}
+use Rattle.tdb_world.specs.Whole.{Whole, form_at}
 use Rattle.tdb_course.specs.Stops.{IsTransacted, Leads, OpensOnTheWay}
 use Rattle.tdb_top.specs.declared.ending.Ending.{Ending}
 use Rattle.tdb_top.specs.Commands.Turns.{HasScript}

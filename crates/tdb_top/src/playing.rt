@@ -8,7 +8,7 @@ ghost use Rattle.tdb_space.specs.Accepted.{AcceptWith};
 ghost use Rattle.tdb_backup.specs.Dump.{WroteFront};
 ghost use Rattle.tdb_dump.specs.declared.writer.WriteRefusal.TheVariants.{Failed};
 ghost use Rattle.tdb_script.specs.Text.{report_text};
-ghost use Rattle.tdb_whole.specs.Whole.{form_at, options_at, WorldFits};
+ghost use Rattle.tdb_world.specs.Whole.{form_at, options_at, WorldFits};
 ghost use Rattle.tdb_course.specs.Playable.{ArePlayable};
 ghost use Rattle.tdb_course.specs.Scene.{scene};
 ghost use Rattle.tdb_top.specs.Playing.{UnlessBroken, OnBroken, IsUnbroken, PlayedOver, Ran, EndTold, end_of};
@@ -24,7 +24,7 @@ use tdb_log::{LogRefusal, Logs};
 use tdb_open::Fault;
 use tdb_commands::{Play, TurnReport};
 use tdb_script::write_line;
-use tdb_whole::World;
+use tdb_world::World;
 
 /// Writes the lines of a report, each in one call. Where the output fails, or memory is wanting, a front of their text
 /// was written.

@@ -4,7 +4,7 @@
 
 ghost use Rattle.std.specs.Prelude.{◌≡◌, List, ℕ, false, IfOk, OnOk};
 ghost use Rattle.tdb_disk.specs.History.{seen};
-ghost use Rattle.tdb_whole.specs.Whole.{WorldFits};
+ghost use Rattle.tdb_world.specs.Whole.{WorldFits};
 ghost use Rattle.tdb_course.specs.Playable.{IsPlayable};
 
 use anyhow::{Context, bail};
@@ -19,7 +19,7 @@ use tdb_log::Log;
 use tdb_open::{NewForm, Opened, create, make};
 use tdb_commands::{Command, Options, Play, TurnReport};
 use tdb_steps::Flag;
-use tdb_whole::World;
+use tdb_world::World;
 use tdb_words::{Bytes, HashKind, Order};
 
 /// The file.

@@ -13,7 +13,7 @@ use Rattle.tdb_commands.specs.declared.play.Play.{Play}
 use Rattle.tdb_script.specs.Script.{Script, BadAt}
 use Rattle.tdb_script.specs.Text.{report_text}
 use Rattle.tdb_openers.specs.Played.{ComesTo}
-use Rattle.tdb_whole.specs.Died.{IsReadAs}
+use Rattle.tdb_world.specs.Died.{IsReadAs}
 use Rattle.tdb_course.specs.Hearing.{Heard, HeardUpTo}
 use Rattle.tdb_check.specs.Report.{Counted}
 use Rattle.tdb_course.specs.Unfinished.{EndsWith}

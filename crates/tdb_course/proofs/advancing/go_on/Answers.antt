@@ -4,7 +4,7 @@ use Rattle.std.proofs.lemmas.Result.{err_from_is_err_and}
 use Rattle.tdb_commands.specs.InLaw.{law_opener}
 use Rattle.tdb_openers.specs.Played.{Nothing, Steps, TakesOne}
 use Rattle.tdb_openers.proofs.Courses.{steps_few}
-use Rattle.tdb_whole.specs.Whole.{form_at}
+use Rattle.tdb_world.specs.Whole.{form_at}
 use Rattle.tdb_course.specs.Led.{moment, Led}
 use Rattle.tdb_course.specs.Turns.{TakesOrClears}
 use Rattle.tdb_course.proofs.Leading.{led_none, led_whole, led_fault}

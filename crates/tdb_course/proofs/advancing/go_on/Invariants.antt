@@ -2,8 +2,8 @@
 use Rattle.std.proofs.Common.{Ok}
 use Rattle.tdb_commands.specs.InLaw.{law_opener}
 use Rattle.tdb_openers.specs.Played.{Steps, GoesSome}
-use Rattle.tdb_whole.specs.Steps.{HasCommand}
-use Rattle.tdb_whole.specs.Whole.{form_at}
+use Rattle.tdb_world.specs.Steps.{HasCommand}
+use Rattle.tdb_world.specs.Whole.{form_at}
 use Rattle.tdb_course.specs.Led.{moment, Led}
 use Rattle.tdb_course.specs.Stops.{StopsLed}
 use Rattle.tdb_course.specs.Turns.{GoesOrClears}

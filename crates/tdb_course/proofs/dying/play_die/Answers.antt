@@ -8,7 +8,7 @@ use Rattle.tdb_law.specs.World.{State}
 use Rattle.tdb_commands.specs.declared.line.Line.TheVariants as Lines
 use Rattle.tdb_commands.specs.InLaw.{law_opener}
 use Rattle.tdb_openers.specs.Played.Begun.{begun_not}
-use Rattle.tdb_whole.specs.States.{IsStateOf}
+use Rattle.tdb_world.specs.States.{IsStateOf}
 use Rattle.tdb_course.proofs.Answered.{answered, line_led, memory_led}
 use Rattle.tdb_course.proofs.Standings.{busy_live, free_live}
 use Rattle.tdb_course.proofs.dying.play_die.Goals as goal

@@ -4,7 +4,7 @@ use Rattle.std.proofs.lemmas.Result.{err_from_is_err_and}
 use Rattle.tdb_law.specs.Plays.{Course}
 use Rattle.tdb_log.specs.declared.log.LogRefusal.{LogRefusal}
 use Rattle.tdb_commands.specs.InLaw.{law_play, law_plays}
-use Rattle.tdb_whole.specs.Whole.{form_at}
+use Rattle.tdb_world.specs.Whole.{form_at}
 use Rattle.tdb_course.specs.Hearing.{HeardLed}
 use Rattle.tdb_course.specs.Led.{moment}
 use Rattle.tdb_course.specs.Told.{PlayLed}

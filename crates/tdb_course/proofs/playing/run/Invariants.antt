@@ -3,7 +3,7 @@ use Rattle.std.proofs.Common.{Ok, take}
 use Rattle.tdb_law.specs.Plays.{Course}
 use Rattle.tdb_commands.specs.InLaw.{law_plays}
 use Rattle.tdb_openers.specs.Played.{ComesTo}
-use Rattle.tdb_whole.specs.Whole.{form_at}
+use Rattle.tdb_world.specs.Whole.{form_at}
 use Rattle.tdb_course.specs.Hearing.{HeardLed}
 use Rattle.tdb_course.specs.Led.{moment, Led}
 use Rattle.tdb_course.specs.Stops.{StopsLed}

@@ -3,7 +3,7 @@ use Rattle.std.proofs.Common.{refl, sym, subst, arith}
 use Rattle.tdb_law.specs.Lines.{Line as LawLine}
 use Rattle.tdb_law.specs.Plays.Gives.{gives_answer, gives_opener}
 use Rattle.tdb_commands.specs.InLaw.{law_opener}
-use Rattle.tdb_whole.specs.States.{IsStateOf}
+use Rattle.tdb_world.specs.States.{IsStateOf}
 use Rattle.tdb_course.proofs.Standings.{joined_in}
 use Rattle.tdb_course.proofs.starting.join_line.Goals as goal
 

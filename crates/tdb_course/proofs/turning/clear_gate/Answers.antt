@@ -2,7 +2,7 @@
 use Rattle.std.proofs.Common.{refl, sym, ◌∙◌, subst}
 use Rattle.std.proofs.lemmas.Result.{err_from_is_err_and}
 use Rattle.tdb_law.specs.Plays.Clears.{clears_nothing}
-use Rattle.tdb_whole.specs.Steps.{HasCommand}
+use Rattle.tdb_world.specs.Steps.{HasCommand}
 use Rattle.tdb_course.specs.Led.{moment}
 use Rattle.tdb_course.proofs.Leading.{led_none}
 use Rattle.tdb_course.proofs.OneTurn.{cleared_busy, failed_led, stale_in, undone_led}

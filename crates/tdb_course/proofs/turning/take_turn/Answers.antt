@@ -7,9 +7,9 @@ use Rattle.tdb_locks.specs.declared.turn.Turn.{Turn}
 use Rattle.tdb_locks.specs.declared.turn.Turn.TheVariants as Turns
 use Rattle.tdb_commands.specs.InLaw.{law_opener, law_turn}
 use Rattle.tdb_openers.specs.Played.{growth, is_step}
-use Rattle.tdb_whole.specs.Steps.{TurnLeads}
-use Rattle.tdb_whole.specs.Stops.{IsSafe}
-use Rattle.tdb_whole.specs.Whole.{form_at, WorldFits}
+use Rattle.tdb_world.specs.Steps.{TurnLeads}
+use Rattle.tdb_world.specs.Stops.{IsSafe}
+use Rattle.tdb_world.specs.Whole.{form_at, WorldFits}
 use Rattle.tdb_course.proofs.OneTurn.{failed_led, took_io, took_led}
 use Rattle.tdb_course.proofs.StoppedTurns.{TurnStops}
 use Rattle.tdb_course.proofs.turning.take_turn.Goals as goal

@@ -7,8 +7,8 @@ use Rattle.tdb_commands.specs.InLaw.{law_command, law_opener, law_turn}
 use Rattle.tdb_commands.specs.declared.line.Line.TheVariants as Lines
 use Rattle.tdb_openers.specs.Played.{growth, is_step, TakesLast, TakesOne}
 use Rattle.tdb_openers.specs.declared.fault.RunFault.TheVariants.{Io}
-use Rattle.tdb_whole.specs.Steps.{TurnLeads}
-use Rattle.tdb_whole.specs.Whole.{form_at, WorldFits}
+use Rattle.tdb_world.specs.Steps.{TurnLeads}
+use Rattle.tdb_world.specs.Whole.{form_at, WorldFits}
 use Rattle.tdb_course.specs.Led.{moment, Led}
 use Rattle.tdb_course.specs.Turns.{IsToldOf, Never}
 use Rattle.tdb_course.specs.declared.unreported.MeasuredTurn.{MeasuredTurn}

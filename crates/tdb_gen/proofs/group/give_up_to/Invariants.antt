@@ -1,6 +1,6 @@
 -- The commands up to an index were given.
 use Rattle.std.proofs.Common.{◌≡◌, ◌-◌, ◌≤◌, ℕ, List, Ok}
-use Rattle.tdb_whole.specs.Whole.{WorldFits}
+use Rattle.tdb_world.specs.Whole.{WorldFits}
 use Rattle.tdb_gen.specs.Numbers.{IsFrom}
 use Rattle.tdb_gen.specs.Plays.{gifts}
 use Rattle.tdb_gen.specs.Taking.{TakenInAny}

@@ -2,7 +2,7 @@
 use Rattle.std.proofs.Common.{[], ◌∷◌, Result, Ok, Err, OnOk}
 use Rattle.std.proofs.lemmas.Result.{err_from_is_err_and}
 use Rattle.tdb_commands.specs.declared.play.Play.TheVariants.{Join}
-use Rattle.tdb_whole.specs.Whole.{Whole}
+use Rattle.tdb_world.specs.Whole.{Whole}
 use Rattle.tdb_gen.specs.declared.fault.GenFault.{GenFault}
 use Rattle.tdb_gen.specs.Taking.{HaveJoined, TakenInAny}
 use Rattle.tdb_gen.proofs.Gifting.{any_join, any_more, more_joined}

@@ -3,8 +3,8 @@ use Rattle.std.proofs.Common.{◌≡◌, true, sym, subst, rules}
 use Rattle.tdb_disk.specs.History.{seen}
 use Rattle.tdb_law.specs.World.{State, HasFewChains}
 use Rattle.tdb_space.specs.Form.{form_in}
-use Rattle.tdb_whole.specs.Whole.{form_at}
-use Rattle.tdb_whole.specs.States.{IsStateOf}
+use Rattle.tdb_world.specs.Whole.{form_at}
+use Rattle.tdb_world.specs.States.{IsStateOf}
 use Rattle.tdb_gen.specs.Generated.{IsFirst, GeneratedOver}
 use Rattle.tdb_gen.proofs.load.generate.Goals as goal
 use Rattle.tdb_gen.proofs.load.generate.Goals.{After-new-world}

@@ -4,10 +4,10 @@ use Rattle.tdb_disk.specs.Count.{Rose}
 use Rattle.tdb_disk.specs.History.{seen}
 use Rattle.tdb_space.specs.Form.{form_in}
 use Rattle.tdb_law.specs.World.{State}
-use Rattle.tdb_whole.specs.Died.{IsReadAs}
-use Rattle.tdb_whole.specs.States.{IsStateOf}
-use Rattle.tdb_whole.specs.Whole.{form_at, options_at, WorldFits}
-use Rattle.tdb_whole.proofs.Reopening.{state_reopens}
+use Rattle.tdb_world.specs.Died.{IsReadAs}
+use Rattle.tdb_world.specs.States.{IsStateOf}
+use Rattle.tdb_world.specs.Whole.{form_at, options_at, WorldFits}
+use Rattle.tdb_world.proofs.Reopening.{state_reopens}
 use Rattle.tdb_course.proofs.Finishing.{report_lawful, ends_alike}
 use Rattle.tdb_open.specs.Loading.{IsJustLoaded}
 use Rattle.tdb_course.specs.Scene.{Scene, scene}

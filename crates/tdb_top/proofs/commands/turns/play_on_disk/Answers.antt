@@ -5,7 +5,7 @@ use Rattle.tdb_disk.specs.History.{seen}
 use Rattle.tdb_space.specs.Accepted.{AcceptWith}
 use Rattle.tdb_space.specs.Form.{Form, form_of}
 use Rattle.tdb_commands.specs.declared.options.Options.{Options}
-use Rattle.tdb_whole.specs.Whole.{form_at, options_at}
+use Rattle.tdb_world.specs.Whole.{form_at, options_at}
 use Rattle.tdb_check.specs.Report.{Counted}
 use Rattle.tdb_top.specs.declared.ending.Ending.TheVariants.{Replied, DeviceFault, NoMemory, LogFault}
 use Rattle.tdb_top.specs.declared.ending.Reply.TheVariants.{Played}

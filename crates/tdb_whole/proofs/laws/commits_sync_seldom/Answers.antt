@@ -1,6 +1,0 @@
--- The law of how often a Commit syncs.
-use Rattle.tdb_whole.proofs.Seldom.{commits_seldom}
-use Rattle.tdb_whole.proofs.laws.commits_sync_seldom.Goals as goal
-
-pub returns : goal.returns
-returns c = record { law = commits_seldom }

@@ -1,0 +1,76 @@
+-- How many syncs the turn of an opener makes, by its place in the world.
+use Rattle.std.proofs.Common.{◌≡◌, ℕ, Bool, true, false, inl, Some, None, refl, sym, ◌∙◌, ap, subst, arith}
+use Rattle.tdb_disk.specs.Count.{RoseUpTo}
+use Rattle.tdb_locks.specs.declared.kind.Kind.{Kind}
+use Rattle.tdb_locks.specs.declared.turn.Turn.{Turn}
+use Rattle.tdb_txn_turns.specs.declared.committing.Committing.TheVariants as Commits
+use Rattle.tdb_txn_turns.specs.Prepares.{StageSyncs}
+use Rattle.tdb_txn_turns.specs.declared.preparing.PrepareStage.{PrepareStage}
+use Rattle.tdb_txn_turns.specs.declared.preparing.PrepareStage.TheVariants as Plans
+use Rattle.tdb_txn_turns.specs.declared.starting.Starting.TheVariants as Starts
+use Rattle.tdb_commands.specs.InLaw.{law_opener}
+use Rattle.tdb_txn_owner.specs.Holders.{HolderState}
+use Rattle.tdb_txn_owner.specs.Syncs.{HolderSyncs, TurnSyncs}
+use Rattle.tdb_txn_owner.specs.Wanting.{plan_wants, stage_wants}
+use Rattle.tdb_txn_owner.specs.declared.stage.Stage.{Stage}
+use Rattle.tdb_txn_owner.specs.declared.stage.Stage.TheVariants as At
+use Rattle.tdb_txn_owner.specs.declared.wanting.Wants.{Wants}
+use Rattle.tdb_openers.specs.Worlds.{World}
+use Rattle.tdb_world.specs.Claims.{IsBarred}
+use Rattle.tdb_world.specs.Steps.{IsAmong}
+use Rattle.tdb_world.specs.Steps.IsAmong.{among_all, among_others}
+use Rattle.tdb_world.specs.Syncs.{SyncsByStage}
+use Rattle.tdb_world.specs.Syncs.StandsAt.{at_aside, at_start}
+use Rattle.tdb_world.specs.Whole.{is_starting, Whole}
+
+-- only a lock of all records is barred
+pub barred_records : (w : World) (who owner byte : ℕ) (wants : Wants) → IsBarred w who wants owner byte → (kind : Kind) × (wants ≡ Wants.Records kind)
+barred_records w who owner byte Wants.Nothing B = absurd B
+barred_records w who owner byte Wants.Transaction B = absurd B
+barred_records w who owner byte (Wants.Records kind) B = (kind, refl)
+barred_records w who owner byte (Wants.Opening numbered) B = absurd B
+
+-- the stages whose turn wants it make no sync that must be
+still_start : (n : ℕ) → RoseUpTo 1 n n
+still_start n = record { no_more = omega arith; never_falls = omega arith }
+
+plan_still : (stage : PrepareStage) (numbered : Bool) (kind : Kind) (n : ℕ) → plan_wants numbered stage ≡ Wants.Records kind → StageSyncs stage n n
+plan_still Plans.Unchanged numbered kind n ws = refl
+plan_still (Plans.Begun txn) numbered kind n ws = refl
+plan_still (Plans.Records txn) numbered kind n ws = refl
+plan_still (Plans.Locked txn) numbered kind n ws = inl refl
+plan_still (Plans.Planned state) numbered kind n ws = absurd (cc ws)
+plan_still (Plans.Filled state) numbered kind n ws = absurd (cc ws)
+
+pub records_still : (stage : Stage) (kind : Kind) (n : ℕ) → stage_wants stage ≡ Wants.Records kind → TurnSyncs stage n n
+records_still (At.Starting s) kind n ws = still_start n
+records_still (At.Open txn command) kind n ws = refl
+records_still (At.Committing (Commits.Preparing p)) kind n ws = plan_still p.stage p.numbered kind n ws
+records_still (At.Committing (Commits.Finishing s)) kind n ws = absurd (cc ws)
+records_still (At.Preparing p) kind n ws = plan_still p.stage p.numbered kind n ws
+records_still (At.Prepared left command) kind n ws = absurd (cc ws)
+records_still (At.Finishing s) kind n ws = absurd (cc ws)
+
+-- who is among the others isn't the one aside
+pub not_aside : (w : Whole) (who : ℕ) (h : HolderState) → IsAmong w who → w.aside ≡ Some h → who ≡ h.owner → ⊥
+not_aside w who h (among_all none) is owner = let both : None ≡ Some h = sym none ∙ is in cc both
+not_aside w who h (among_others g other ne) is owner =
+    let same : g ≡ h = let both = sym other ∙ is in cc both in ne (owner ∙ ap (λ (x : HolderState). x.owner) (sym same))
+
+module _ (w : Whole) (who : ℕ) (turn : Turn) (before now : ℕ) where
+  -- the one aside
+  pub aside_syncs : (h : HolderState) → w.aside ≡ Some h → who ≡ h.owner → HolderSyncs h.stage turn before now → SyncsByStage w who turn before now
+  aside_syncs h is owner S stage (at_aside g other same at) =
+      let one : g ≡ h = let both = sym other ∙ is in cc both in
+      subst (λ z. HolderSyncs z turn before now) (sym (at ∙ ap (λ (x : HolderState). x.stage) one)) S
+  aside_syncs h is owner S stage (at_start begun among at) = absurd (not_aside w who h among is owner)
+
+  -- the first turn of a Start
+  pub start_syncs : IsAmong w who → HolderSyncs (At.Starting Starts.Begun) turn before now → SyncsByStage w who turn before now
+  start_syncs among S stage (at_aside g is owner at) = absurd (not_aside w who g among is owner)
+  start_syncs among S stage (at_start begun there at) = subst (λ z. HolderSyncs z turn before now) (sym at) S
+
+  -- of any other nothing is said by its stage
+  pub other_syncs : IsAmong w who → is_starting w.starts (law_opener who) ≡ false → SyncsByStage w who turn before now
+  other_syncs among none stage (at_aside g is owner at) = absurd (not_aside w who g among is owner)
+  other_syncs among none stage (at_start begun there at) = absurd (let both : false ≡ true = sym none ∙ begun in cc both)

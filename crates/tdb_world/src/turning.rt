@@ -1,0 +1,59 @@
+//! One turn of an opener.
+ghost use Rattle.std.specs.Prelude.{◌≡◌, ◌≤◌, ℕ, IsTrue, IfOk, OnOk, false};
+ghost use Rattle.tdb_disk.specs.Count.{HasCause};
+ghost use Rattle.tdb_disk.specs.History.{seen};
+ghost use Rattle.tdb_disk.specs.Stop.{LeavesOnly};
+ghost use Rattle.tdb_law.specs.World.{State};
+ghost use Rattle.tdb_commands.specs.InLaw.{law_opener, law_turn};
+ghost use Rattle.tdb_world.specs.Whole.{form_at, WorldFits};
+ghost use Rattle.tdb_world.specs.States.{IsStateOf};
+ghost use Rattle.tdb_world.specs.Steps.{HasCommand, TurnLeads};
+ghost use Rattle.tdb_world.specs.Stops.{IsChanging, IsSafe, TurnMayLeave};
+ghost use Rattle.tdb_world.specs.Prepared.{GoesAsPrepared};
+ghost use Rattle.tdb_world.specs.Syncs.{OnlyLooks, SyncsByStage};
+
+use crate::world::World;
+use tdb_disk::Disk;
+use tdb_locks::Turn;
+use tdb_space::Io;
+
+impl World {
+    /// Takes one turn of the opener's command. After `Io` no other turn may be taken in the world: the disk failed, or
+    /// a check found a fault in the file, which no turn leaves. A Commit of a prepared transaction is never blocked, and
+    /// is done after at most four turns of its opener.
+    ///
+    /// Cost: that of the command's turn, and a search in the lock table; nothing is passed over that doesn't belong to
+    /// it. A turn of a Start, a Commit or a Prepare, or one that ends a transaction, syncs the disk as often as its
+    /// stage says, which makes nine times at most for a Commit; one that only looks at the file never does.
+    pub fn turn<D: Disk>(&mut self, d: &mut D, who: u32) -> Result<Turn, Io>
+        requires named { 1 ≤ who }
+        requires busy { HasCommand self.old who }
+        requires fresh { self.old.stale ≡ false }
+        requires fits { WorldFits self.old (seen (D.history d.old)) (D.size d.old) }
+        ensures fits { OnOk result (WorldFits self.new (seen (D.history d.new)) (D.size d.new)) }
+        ensures fresh { OnOk result (self.new.stale ≡ false) }
+        ensures turned { IfOk result (λ turn. IsTrue D.tells → TurnLeads self.old self.new (D.history d.old) (D.history d.new) who (law_turn turn)) }
+        ensures prepared { IfOk result (λ turn. IsTrue D.tells → GoesAsPrepared self.old (D.history d.old) (law_opener who) (law_turn turn)) }
+        ensures stops { IsTrue D.tells → (state : State) → let f = form_at self.old in IsStateOf self.old (D.history d.old) state → IsSafe f (D.history d.old) → (IsChanging f state (law_opener who) → ⊥)
+            → LeavesOnly (D.history d.old) (D.history d.new) (TurnMayLeave f state (law_opener who)) }
+        ensures safe { OnOk result (IsTrue D.tells → (state : State) → let f = form_at self.old in IsStateOf self.old (D.history d.old) state → IsSafe f (D.history d.old) → (IsChanging f state (law_opener who) → ⊥)
+            → IsSafe f (D.history d.new)) }
+        ensures syncs { IfOk result (λ turn. SyncsByStage self.old who turn (D.syncs d.old) (D.syncs d.new)) }
+        ensures no_sync { (state : State) → IsStateOf self.old (D.history d.old) state → OnlyLooks (form_at self.old) state (law_opener who) → D.syncs d.new ≡ D.syncs d.old }
+        ensures busy { IfOk result (λ turn. turn ≡ Turn.Step → HasCommand self.new who) }
+        ensures header { OnOk result (self.new.openers.header ≡ self.old.openers.header) }
+        ensures options { OnOk result (self.new.openers.options ≡ self.old.openers.options) }
+        ensures cause { IsTrue D.tells → (state : State) → IsStateOf self.old (D.history d.old) state → HasCause (D.faults d.old) (D.faults d.new) result }
+        ensures done { OnOk result (D.faults d.new ≡ D.faults d.old) }
+        ensures rises { D.faults d.old ≤ D.faults d.new }
+        ensures longer { OnOk result (D.size d.old ≤ D.size d.new) }
+    {
+        if self.is_aside(who) {
+            return self.aside_turn(d, who);
+        }
+        if self.is_starting(who) {
+            return self.start_turn(d, who);
+        }
+        self.other_turn(d, who)
+    }
+}
