@@ -1,4 +1,4 @@
-//! Tests of plays in a world, over the public calls of `tdb_course`.
+//! Tests of plays in a world, over the public calls of `tdb_world`.
 #![tactic(auto)]
 
 #[cfg(test)]

@@ -4,7 +4,7 @@ use crate::files::{LAST_NUMBER, NEW, ONE};
 use crate::tables::{Failing, Row};
 use crate::worlds::OPTIONS;
 use small_file::RECORD;
-use tdb_course::RunFault;
+use tdb_world::RunFault;
 use tdb_disk::Call;
 use tdb_log::{LogRefusal, Notice};
 use tdb_commands::Options;

@@ -6,7 +6,7 @@ use crate::worlds::{take_script, text_of};
 use small_file::Word;
 use std::alloc::{AllocError, Global};
 use std::test::Fail;
-use tdb_course::RunFault;
+use tdb_world::RunFault;
 use tdb_disk::Call;
 use tdb_log::{Log, LogRefusal, MemLog, Notice};
 use tdb_commands::{Options, TurnReport};

@@ -1,18 +1,17 @@
 // Plays in a new world over a file, and the text of their report.
 
 ghost use Rattle.std.specs.Prelude.{◌≤◌, IsTrue};
-ghost use Rattle.tdb_course.specs.Playable.{ArePlayable, IsPlayable};
+ghost use Rattle.tdb_world.specs.Courses.Playable.{ArePlayable, IsPlayable};
 ghost use Rattle.tdb_commands.specs.Short.{IsShortCommand};
 
 use small_file::HEADER;
 use std::alloc::Global;
-use tdb_course::{RunFault, run};
+use tdb_world::{RunFault, World, run};
 use tdb_disk::{Disk, MemSink};
 use tdb_dump::WriteRefusal;
 use tdb_log::{LogRefusal, Logs};
 use tdb_commands::{Command, Options, Play, TurnReport};
 use tdb_script::{read_script, write_line};
-use tdb_world::World;
 
 /// How long a file may be in bytes.
 const LONGEST_FILE: u64 = 4_294_963_200;

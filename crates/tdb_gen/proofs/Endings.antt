@@ -15,8 +15,8 @@ use Rattle.tdb_openers.specs.Played.{ComesTo}
 use Rattle.tdb_openers.specs.declared.fault.RunFault.{RunFault}
 use Rattle.tdb_openers.specs.declared.fault.RunFault.TheVariants as Run
 use Rattle.tdb_world.specs.Whole.{Whole, form_at}
-use Rattle.tdb_course.specs.Hearing.{HeardLed}
-use Rattle.tdb_course.specs.Led.{Moment, moment, Led}
+use Rattle.tdb_world.specs.Courses.Hearing.{HeardLed}
+use Rattle.tdb_world.specs.Courses.Led.{Moment, moment, Led}
 use Rattle.tdb_gen.specs.declared.counts.Counts.{Counts}
 use Rattle.tdb_gen.specs.declared.fault.GenFault.{GenFault}
 use Rattle.tdb_gen.specs.declared.fault.GenFault.TheVariants.{Io, Memory, Log}

@@ -17,9 +17,9 @@ use Rattle.tdb_openers.specs.declared.standings.OpenerStanding.TheVariants as St
 use Rattle.tdb_world.specs.Steps.{JoinLeads}
 use Rattle.tdb_world.specs.States.{IsStateOf}
 use Rattle.tdb_world.specs.Whole.{Whole, form_at, WorldFits}
-use Rattle.tdb_course.specs.Hearing.{Heard}
-use Rattle.tdb_course.specs.Told.{PlayLedInAny}
-use Rattle.tdb_course.specs.Unreported.{gift_lines}
+use Rattle.tdb_world.specs.Courses.Hearing.{Heard}
+use Rattle.tdb_world.specs.Courses.Told.{PlayLedInAny}
+use Rattle.tdb_world.specs.Courses.Unreported.{gift_lines}
 use Rattle.tdb_gen.specs.declared.fault.GenFault.{GenFault}
 use Rattle.tdb_gen.specs.declared.fault.GenFault.TheVariants.{Memory}
 use Rattle.tdb_gen.specs.Counts.{counts_of}

@@ -13,14 +13,14 @@ use Rattle.tdb_commands.specs.declared.line.Line.{Line}
 use Rattle.tdb_commands.specs.declared.play.Play.{Play}
 use Rattle.tdb_openers.specs.Played.{ComesTo}
 use Rattle.tdb_world.specs.Whole.{form_at, WorldFits}
-use Rattle.tdb_course.specs.Hearing.{Heard}
-use Rattle.tdb_course.proofs.HeardLines.{heard_joined, heard_then_refused}
+use Rattle.tdb_world.specs.Courses.Hearing.{Heard}
+use Rattle.tdb_world.proofs.Courses.HeardLines.{heard_joined, heard_then_refused}
 use Rattle.tdb_gen.specs.declared.fault.GenFault.{GenFault}
 use Rattle.tdb_gen.specs.declared.fault.GenFault.TheVariants.{Io, Memory, Log}
 use Rattle.tdb_gen.specs.Counts.{counts_of}
 use Rattle.tdb_gen.specs.Taking.{UnlessIo, OnIo, HeardSo, Place, TookAll, TookSome, TakesTo, Taken}
 use Rattle.tdb_openers.proofs.Courses.{course_join}
-use Rattle.tdb_course.proofs.Coming.{whole_comes, comes_more, comes_after}
+use Rattle.tdb_world.proofs.Courses.Coming.{whole_comes, comes_more, comes_after}
 
 -- what came behind a course, or before others
 pub course_behind : (f : Form) (ps qs : List Play) (old mid new : State) (lines rest : List Line) → Course f old (law_plays ps) (law_lines lines) mid → Course f mid (law_plays qs) (law_lines rest) new

@@ -19,8 +19,8 @@ use Rattle.tdb_openers.specs.Played.{Begun, ComesTo, PlaysLast, growth}
 use Rattle.tdb_openers.specs.declared.fault.RunFault.{RunFault}
 use Rattle.tdb_openers.proofs.Courses.{course_then, course_last}
 use Rattle.tdb_world.specs.Whole.{Whole, form_at}
-use Rattle.tdb_course.specs.Led.{moment}
-use Rattle.tdb_course.specs.Unreported.{AreUndoing, TurnTells, Unreported}
+use Rattle.tdb_world.specs.Courses.Led.{moment}
+use Rattle.tdb_world.specs.Courses.Unreported.{AreUndoing, TurnTells, Unreported}
 use Rattle.tdb_gen.specs.declared.counts.Counts.{Counts}
 use Rattle.tdb_gen.specs.Counts.{counts_of, counts_with}
 use Rattle.tdb_gen.specs.Taking.{end_of, end_only, Place, place, IsStateAt, TookAll, Taken, AreIdle, Rests}

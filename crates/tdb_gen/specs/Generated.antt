@@ -13,7 +13,7 @@ use Rattle.tdb_commands.specs.InLaw.{law_plays, law_lines, options_of}
 use Rattle.tdb_commands.specs.declared.line.Line.{Line}
 use Rattle.tdb_commands.specs.declared.options.Options.{Options}
 use Rattle.tdb_openers.specs.Played.{ComesTo}
-use Rattle.tdb_course.specs.Hearing.{Heard}
+use Rattle.tdb_world.specs.Courses.Hearing.{Heard}
 use Rattle.tdb_gen.specs.declared.fault.GenFault.{GenFault}
 use Rattle.tdb_gen.specs.declared.fault.GenFault.TheVariants.{Io, Memory, Log}
 use Rattle.tdb_gen.specs.declared.summary.Summary.{Summary}

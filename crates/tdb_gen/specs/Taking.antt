@@ -17,7 +17,7 @@ use Rattle.tdb_openers.specs.declared.fault.RunFault.TheVariants as Run
 use Rattle.tdb_openers.specs.Played.{ComesTo}
 use Rattle.tdb_world.specs.Whole.{Whole, form_at, WorldFits}
 use Rattle.tdb_world.specs.States.{IsStateOf}
-use Rattle.tdb_course.specs.Hearing.{Heard, HeardUpTo}
+use Rattle.tdb_world.specs.Courses.Hearing.{Heard, HeardUpTo}
 use Rattle.tdb_gen.specs.declared.counts.Counts.{Counts}
 use Rattle.tdb_gen.specs.declared.fault.GenFault.{GenFault}
 use Rattle.tdb_gen.specs.declared.fault.GenFault.TheVariants.{Io, Memory, Log}

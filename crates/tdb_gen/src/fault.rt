@@ -1,7 +1,7 @@
 // Why no summary is given.
 
 use std::alloc::AllocError;
-use tdb_course::RunFault;
+use tdb_world::RunFault;
 use tdb_log::LogRefusal;
 use tdb_space::Io;
 use thiserror::Error;

@@ -10,8 +10,7 @@ ghost use Rattle.tdb_gen.specs.Taking.{HaveJoined, TakenInAny};
 use crate::fault::GenFault;
 use crate::generator::{Generator, OPENERS};
 use std::alloc::Global;
-use tdb_course::give_unreported;
-use tdb_world::World;
+use tdb_world::{World, give_unreported};
 
 /// The next opener joins. `Memory` where it is refused: while few have joined and nobody commits, only memory can be
 /// wanting.

@@ -10,7 +10,7 @@ use Rattle.tdb_world.specs.Stops.{IsSafe}
 use Rattle.tdb_world.specs.Whole.{form_at}
 use Rattle.tdb_tool.specs.declared.fault.SessionFault.{SessionFault}
 use Rattle.tdb_tool.specs.declared.fault.SessionFault.TheVariants as F
-use Rattle.tdb_course.specs.Scene.{Scene, IsStateAt}
+use Rattle.tdb_world.specs.Courses.Scene.{Scene, IsStateAt}
 use Rattle.tdb_tool.specs.Serving.{UnlessBroken, OnBroken, HeardSo, Deed, TellsAll, TellsFront, LeavesAll, LeavesFront, RunsTo, FitsAt, DoneBetween, Led}
 use Rattle.tdb_tool.proofs.Hearing.{heard_after}
 use Rattle.tdb_tool.proofs.Stops.{LeadsOn, stops_nowhere, stops_after}

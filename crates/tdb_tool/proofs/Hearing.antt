@@ -1,7 +1,7 @@
 -- What logs hear of the parts of a session.
 use Rattle.std.proofs.Common.{List, ◌++◌, Option, None, Some, Result, Ok, Err, inl, inr}
-use Rattle.tdb_course.specs.Hearing.{Heard, HeardBy}
-use Rattle.tdb_course.proofs.HeardLines.{heard_joined, heard_then_refused}
+use Rattle.tdb_world.specs.Courses.Hearing.{Heard, HeardBy}
+use Rattle.tdb_world.proofs.Courses.HeardLines.{heard_joined, heard_then_refused}
 use Rattle.tdb_log.specs.Logs.{Logged}
 use Rattle.tdb_log.specs.declared.log.LogRefusal.{LogRefusal}
 use Rattle.tdb_log.specs.declared.log.LogRefusal.TheVariants as Unheard

@@ -10,7 +10,7 @@ use Rattle.tdb_openers.specs.Played.{ComesTo, PlaysLast}
 use Rattle.tdb_openers.specs.Played.Begun.{begun_not}
 use Rattle.tdb_tool.specs.Parts.{Part, Silent, Told, Listed, play_of, text_of, Going, PartDone, PartBegun, AllDone, FirstBegun, AllCame}
 use Rattle.tdb_openers.proofs.Courses.{course_join}
-use Rattle.tdb_course.proofs.Coming.{whole_comes, comes_after}
+use Rattle.tdb_world.proofs.Courses.Coming.{whole_comes, comes_after}
 
 -- nothing is printed of no lines
 no_text : (part : Part) → text_of part [] ≡ []

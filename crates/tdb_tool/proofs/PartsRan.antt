@@ -4,7 +4,7 @@ use Rattle.std.specs.Prelude.{Bool}
 use Rattle.tdb_tool.specs.declared.fault.SessionFault.{SessionFault}
 use Rattle.tdb_tool.specs.declared.fault.SessionFault.TheVariants as F
 use Rattle.tdb_tool.specs.Parts.{Part, AllDone, AllCame}
-use Rattle.tdb_course.specs.Scene.{Scene}
+use Rattle.tdb_world.specs.Courses.Scene.{Scene}
 use Rattle.tdb_tool.specs.Serving.{FitsAt, Ran}
 use Rattle.tdb_tool.proofs.Coming.{led_nowhere, led_input, led_memory, led_on}
 use Rattle.tdb_tool.proofs.PartLemmas.{all_join, all_came, came_after, all_course}

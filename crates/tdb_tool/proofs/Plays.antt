@@ -22,15 +22,15 @@ use Rattle.tdb_openers.specs.declared.fault.RunFault.{RunFault}
 use Rattle.tdb_openers.specs.declared.fault.RunFault.TheVariants as Run
 use Rattle.tdb_world.specs.Whole.{Whole, form_at}
 use Rattle.tdb_world.specs.Stops.{IsSafe}
-use Rattle.tdb_course.specs.Hearing.{HeardBy, HeardLed}
-use Rattle.tdb_course.specs.Led.{moment, Led as PlayLed}
-use Rattle.tdb_course.specs.Stops.{IsTransacted, StopsLed}
+use Rattle.tdb_world.specs.Courses.Hearing.{HeardBy, HeardLed}
+use Rattle.tdb_world.specs.Courses.Led.{moment, Led as PlayLed}
+use Rattle.tdb_world.specs.Courses.Stops.{IsTransacted, StopsLed}
 use Rattle.tdb_tool.specs.declared.fault.SessionFault.{SessionFault}
 use Rattle.tdb_tool.specs.declared.fault.SessionFault.TheVariants as F
 use Rattle.tdb_tool.specs.declared.order.Order.{Order}
 use Rattle.tdb_tool.specs.Parts.{Silent, Told, doing, part_of, AllDone, AllCame}
 use Rattle.tdb_tool.specs.Replies.{lines_text, tell_pair}
-use Rattle.tdb_course.specs.Scene.{Scene, scene, IsStateAt}
+use Rattle.tdb_world.specs.Courses.Scene.{Scene, scene, IsStateAt}
 use Rattle.tdb_tool.specs.Serving.{of_run, of_write, of_log, fault_of, UnlessBroken, HeardSo, Deed, StopsBetween, DoneBetween, Led, Ran, PlayDone, PlayBegun, Played}
 use Rattle.tdb_tool.proofs.Coming.{IsToo, led_as}
 use Rattle.tdb_tool.proofs.Hearing.{heard_or_refused}

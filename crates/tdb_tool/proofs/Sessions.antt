@@ -11,7 +11,7 @@ use Rattle.tdb_tool.specs.declared.fault.SessionFault.TheVariants as F
 use Rattle.tdb_tool.specs.declared.reader.LineReader.{LineReader}
 use Rattle.tdb_tool.specs.Asking.{Says, with_said, LinesAsk, EndsBefore}
 use Rattle.tdb_tool.specs.Lines.{unread as unread_of, lines_left, IsFresh}
-use Rattle.tdb_course.specs.Scene.{Scene}
+use Rattle.tdb_world.specs.Courses.Scene.{Scene}
 use Rattle.tdb_tool.specs.Serving.{FitsAt, Ran, ServedNext, Served}
 use Rattle.tdb_tool.specs.declared.order.Order.{Order}
 use Rattle.tdb_tool.specs.Asked.{ReadLine}

@@ -15,10 +15,10 @@ use Rattle.tdb_commands.specs.InLaw.{law_line, law_lines}
 use Rattle.tdb_commands.specs.declared.line.Line.{Line}
 use Rattle.tdb_world.specs.Stops.{IsSafe}
 use Rattle.tdb_world.specs.Whole.{form_at}
-use Rattle.tdb_course.specs.Stops.{Leads, IsTransacted, OpensOnTheWay}
-use Rattle.tdb_course.proofs.Stopping.{passes_front, passes_behind, safe_opens, opens_first}
+use Rattle.tdb_world.specs.Courses.Stops.{Leads, IsTransacted, OpensOnTheWay}
+use Rattle.tdb_world.proofs.Courses.Stopping.{passes_front, passes_behind, safe_opens, opens_first}
 use Rattle.tdb_tool.specs.declared.fault.SessionFault.{SessionFault}
-use Rattle.tdb_course.specs.Scene.{Scene, IsStateAt}
+use Rattle.tdb_world.specs.Courses.Scene.{Scene, IsStateAt}
 use Rattle.tdb_tool.specs.Serving.{Deed, StopsBetween}
 
 -- what was done led on by plays

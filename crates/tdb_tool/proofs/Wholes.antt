@@ -22,9 +22,9 @@ use Rattle.tdb_openers.proofs.Finishing.{broken_lawful}
 use Rattle.tdb_openers.specs.Worlds.{World, state_in}
 use Rattle.tdb_world.specs.Died.{IsReadAs}
 use Rattle.tdb_world.proofs.Reopening.{state_reopens}
-use Rattle.tdb_course.proofs.Finishing.{report_lawful}
-use Rattle.tdb_course.specs.Stops.{IsTransacted}
-use Rattle.tdb_course.specs.Unfinished.{TellsUnfinished, EndsWith}
+use Rattle.tdb_world.proofs.Courses.Finishing.{report_lawful}
+use Rattle.tdb_world.specs.Courses.Stops.{IsTransacted}
+use Rattle.tdb_world.specs.Courses.Unfinished.{TellsUnfinished, EndsWith}
 use Rattle.tdb_world.specs.Stops.{IsSafe}
 use Rattle.tdb_world.specs.Whole.{form_at, options_at}
 use Rattle.tdb_tool.specs.declared.fault.SessionEnd.{SessionEnd}
@@ -33,7 +33,7 @@ use Rattle.tdb_tool.specs.declared.fault.SessionFault.TheVariants as F
 use Rattle.tdb_tool.specs.declared.order.Order.{Order}
 use Rattle.tdb_tool.specs.Asking.{Session, BeginsBy}
 use Rattle.tdb_tool.specs.Parts.{Silent, doing, parts_of, AllDone, AllCame}
-use Rattle.tdb_course.specs.Scene.{Scene, IsStateAt}
+use Rattle.tdb_world.specs.Courses.Scene.{Scene, IsStateAt}
 use Rattle.tdb_tool.specs.Serving.{fault_of, UnlessBroken, HeardSo, TellsAll, TellsFront, RunsTo, StopsBetween, DoneBetween, Ran, AsksFor, Served, ServedAll}
 use Rattle.tdb_tool.specs.Whole.{closing, session_parts, IsClosed, SessionLed, SessionDeed, beginning_over, StopsOpen, SessionOver, SessionCame, SessionRan}
 use Rattle.tdb_open.specs.Loading.{IsOver, IsJustLoaded}

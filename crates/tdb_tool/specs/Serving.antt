@@ -16,9 +16,9 @@ use Rattle.tdb_commands.specs.declared.play.Play.{Play}
 use Rattle.tdb_openers.specs.Played.{PlaysLast}
 use Rattle.tdb_world.specs.Whole.{form_at, WorldFits}
 use Rattle.tdb_world.specs.Stops.{IsSafe}
-use Rattle.tdb_course.specs.Hearing.{Heard, HeardUpTo}
-use Rattle.tdb_course.specs.Scene.{Scene, IsStateAt}
-use Rattle.tdb_course.specs.Stops.{IsTransacted, OpensOnTheWay}
+use Rattle.tdb_world.specs.Courses.Hearing.{Heard, HeardUpTo}
+use Rattle.tdb_world.specs.Courses.Scene.{Scene, IsStateAt}
+use Rattle.tdb_world.specs.Courses.Stops.{IsTransacted, OpensOnTheWay}
 use Rattle.tdb_log.specs.Logs.{Logged}
 use Rattle.tdb_log.specs.declared.log.LogRefusal.{LogRefusal}
 use Rattle.tdb_log.specs.declared.log.LogRefusal.TheVariants as Unheard

@@ -16,8 +16,8 @@ use Rattle.tdb_commands.specs.declared.command.Command.{Command}
 use Rattle.tdb_commands.specs.declared.line.Line.{Line}
 use Rattle.tdb_commands.specs.declared.play.Play.{Play}
 use Rattle.tdb_world.specs.Died.{IsReadAs}
-use Rattle.tdb_course.specs.Stops.{IsTransacted, OpensOnTheWay}
-use Rattle.tdb_course.specs.Unfinished.{EndsWith}
+use Rattle.tdb_world.specs.Courses.Stops.{IsTransacted, OpensOnTheWay}
+use Rattle.tdb_world.specs.Courses.Unfinished.{EndsWith}
 use Rattle.tdb_commands.specs.declared.options.Options.{Options}
 use Rattle.tdb_log.specs.Logs.{Logged}
 use Rattle.tdb_open.specs.Loading.{IsOver}
@@ -27,7 +27,7 @@ use Rattle.tdb_tool.specs.declared.fault.SessionFault.TheVariants as F
 use Rattle.tdb_tool.specs.declared.order.Order.{Order}
 use Rattle.tdb_tool.specs.Asking.{Session, BeginsBy}
 use Rattle.tdb_tool.specs.Parts.{Part, Silent, doing, parts_of, AllDone, AllCame}
-use Rattle.tdb_course.specs.Scene.{Scene, IsStateAt}
+use Rattle.tdb_world.specs.Courses.Scene.{Scene, IsStateAt}
 use Rattle.tdb_tool.specs.Serving.{Deed, fault_of, HeardSo, Led, AsksFor}
 
 -- the part by which a session ends, and all parts of one: the opener joins, its orders are done, and it closes

@@ -5,7 +5,7 @@ ghost use Rattle.tdb_disk.specs.History.{seen};
 ghost use Rattle.tdb_world.specs.Whole.{WorldFits};
 ghost use Rattle.tdb_tool.specs.declared.fault.SessionFault.TheVariants as FaultIs;
 ghost use Rattle.tdb_tool.specs.Lines.{lines_left};
-ghost use Rattle.tdb_course.specs.Scene.{scene};
+ghost use Rattle.tdb_world.specs.Courses.Scene.{scene};
 ghost use Rattle.tdb_tool.specs.Serving.{ServedNext, Served};
 
 use crate::asking::{Asked, next_asked};

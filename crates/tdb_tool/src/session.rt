@@ -8,7 +8,7 @@ ghost use Rattle.tdb_law.specs.World.{State};
 ghost use Rattle.tdb_world.specs.Whole.{form_at, options_at, WorldFits};
 ghost use Rattle.tdb_open.specs.Loading.{IsJustLoaded};
 ghost use Rattle.tdb_tool.specs.declared.fault.SessionFault.TheVariants as FaultIs;
-ghost use Rattle.tdb_course.specs.Scene.{scene};
+ghost use Rattle.tdb_world.specs.Courses.Scene.{scene};
 ghost use Rattle.tdb_tool.specs.Serving.{fault_of, UnlessBroken, OnBroken, ServedAll};
 ghost use Rattle.tdb_tool.specs.Whole.{SessionLed, SessionRan};
 

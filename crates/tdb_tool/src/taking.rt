@@ -4,10 +4,10 @@ ghost use Rattle.std.specs.Prelude.{◌≡◌, ◌≢◌, ◌∷◌, [], ℕ, Bo
 ghost use Rattle.tdb_disk.specs.Count.{HasCauseOf};
 ghost use Rattle.tdb_disk.specs.History.{seen};
 ghost use Rattle.tdb_world.specs.Whole.{WorldFits};
-ghost use Rattle.tdb_course.specs.Playable.{IsPlayable};
+ghost use Rattle.tdb_world.specs.Courses.Playable.{IsPlayable};
 ghost use Rattle.tdb_tool.specs.declared.fault.SessionFault.TheVariants as FaultIs;
 ghost use Rattle.tdb_tool.specs.Parts.{Silent, Listed, doing as doing_of, move as move_of, part_of, IsServedOrder};
-ghost use Rattle.tdb_course.specs.Scene.{scene};
+ghost use Rattle.tdb_world.specs.Courses.Scene.{scene};
 ghost use Rattle.tdb_tool.specs.Serving.{fault_of, Ran, Played};
 
 use crate::fault::SessionFault;
@@ -47,7 +47,7 @@ pub(crate) fn take_silently<D: Disk, L: Logs>(
     ensures fault { IfErr result (λ e. (e ≢ FaultIs.Input) × (e ≢ FaultIs.Output)) }
 {
     let mut report = TurnReport::new(alloc);
-    let heard = tdb_course::play(world, disk, &play, &mut report, logs)?;
+    let heard = tdb_world::play(world, disk, &play, &mut report, logs)?;
     heard?;
     Ok(())
 }
@@ -71,7 +71,7 @@ fn take_play<D: Disk, K: Sink, L: Logs>(
     ensures cause { HasCauseOf FaultIs.Output (K.faults output.old) (K.faults output.new) result }
 {
     let mut report = TurnReport::new(alloc);
-    let told = tdb_course::play(world, disk, &play, &mut report, logs)?;
+    let told = tdb_world::play(world, disk, &play, &mut report, logs)?;
     write_replies(alloc, &report, listing, output)?;
     told?;
     Ok(has_pair(&report))

@@ -24,19 +24,19 @@ use Rattle.tdb_openers.specs.declared.fault.RunFault.{RunFault}
 use Rattle.tdb_openers.specs.declared.fault.RunFault.TheVariants as Run
 use Rattle.tdb_world.specs.Whole.{Whole, form_at, WorldFits}
 use Rattle.tdb_world.specs.States.{IsStateOf}
-use Rattle.tdb_course.specs.Led.{moment, Comes, Led}
-use Rattle.tdb_course.specs.Unfinished.{IsEnd}
+use Rattle.tdb_world.specs.Courses.Led.{moment, Comes, Led}
+use Rattle.tdb_world.specs.Courses.Unfinished.{IsEnd}
 use Rattle.tdb_openers.proofs.Courses.{course_join}
-use Rattle.tdb_course.proofs.Coming.{whole_comes, comes_more, comes_after}
-use Rattle.tdb_course.specs.Hearing.{HeardLed, RunsAsTold}
+use Rattle.tdb_world.proofs.Courses.Coming.{whole_comes, comes_more, comes_after}
+use Rattle.tdb_world.specs.Courses.Hearing.{HeardLed, RunsAsTold}
 use Rattle.tdb_log.specs.Logs.{Logged}
 use Rattle.tdb_log.specs.declared.log.LogRefusal.{LogRefusal}
 use Rattle.tdb_log.specs.declared.log.LogRefusal.TheVariants as Unlogged
-use Rattle.tdb_course.proofs.HeardLines.{heard_joined}
+use Rattle.tdb_world.proofs.Courses.HeardLines.{heard_joined}
 use Rattle.tdb_tool.proofs.Telling.{front_all, front_after}
 use Rattle.tdb_top.specs.declared.ending.Unprinted.TheVariants as Rest
 use Rattle.tdb_open.specs.declared.halt.Fault.TheVariants as F
-use Rattle.tdb_course.specs.Scene.{Scene, scene, IsStateAt}
+use Rattle.tdb_world.specs.Courses.Scene.{Scene, scene, IsStateAt}
 use Rattle.tdb_top.specs.Playing.{PlaysEnd, UnlessBroken, OnBroken, TellsAll, TellsFront, RunsTo, broke_off, Ran, EndTold, end_of}
 use Rattle.tdb_tool.specs.Serving.{HeardSo}
 use Rattle.tdb_tool.proofs.Hearing.{heard_after}

@@ -25,7 +25,7 @@ use Rattle.tdb_log.specs.Logs.{Logged}
 use Rattle.tdb_log.specs.declared.log.LogRefusal.TheVariants as Unheard
 use Rattle.tdb_commands.specs.InLaw.{law_plays, law_lines, options_of}
 use Rattle.tdb_commands.specs.declared.options.Options.{Options}
-use Rattle.tdb_course.proofs.Coming.{whole_comes}
+use Rattle.tdb_world.proofs.Courses.Coming.{whole_comes}
 use Rattle.tdb_gen.proofs.Takings.{heard_whole}
 use Rattle.tdb_gen.specs.Generated.{Generated as IsLoad, GeneratedOver, HasFile}
 use Rattle.tdb_gen.specs.Summary.{summary_text}

@@ -5,9 +5,9 @@ use Rattle.tdb_commands.specs.declared.line.Line.{Line}
 use Rattle.tdb_log.specs.Logs.{Logged}
 use Rattle.tdb_log.specs.declared.log.LogRefusal.{LogRefusal}
 use Rattle.tdb_log.specs.declared.log.LogRefusal.TheVariants as Unlogged
-use Rattle.tdb_course.specs.Hearing.{Heard, HeardBy}
-use Rattle.tdb_course.specs.Unfinished.{TellsUnfinished}
-use Rattle.tdb_course.proofs.HeardLines.{heard_joined}
+use Rattle.tdb_world.specs.Courses.Hearing.{Heard, HeardBy}
+use Rattle.tdb_world.specs.Courses.Unfinished.{TellsUnfinished}
+use Rattle.tdb_world.proofs.Courses.HeardLines.{heard_joined}
 use Rattle.tdb_dump.specs.declared.writer.WriteRefusal.{WriteRefusal}
 use Rattle.tdb_dump.specs.declared.writer.WriteRefusal.TheVariants as Untold
 use Rattle.tdb_openers.specs.declared.fault.RunFault.{RunFault}

@@ -14,9 +14,9 @@ use Rattle.tdb_commands.specs.declared.options.Options.{Options}
 use Rattle.tdb_commands.specs.declared.play.Play.{Play}
 use Rattle.tdb_script.specs.Text.{report_text}
 use Rattle.tdb_world.specs.Died.{IsReadAs}
-use Rattle.tdb_course.specs.Laws.{ReportIsLawful}
-use Rattle.tdb_course.specs.Unfinished.{EndsWith}
-use Rattle.tdb_course.proofs.Coming.{whole_comes}
+use Rattle.tdb_world.specs.Courses.Laws.{ReportIsLawful}
+use Rattle.tdb_world.specs.Courses.Unfinished.{EndsWith}
+use Rattle.tdb_world.proofs.Courses.Coming.{whole_comes}
 use Rattle.tdb_tool.proofs.Telling.{front_after}
 use Rattle.tdb_open.specs.Loading.{IsOver}
 use Rattle.tdb_tool.specs.Whole.{beginning_over}

@@ -11,7 +11,7 @@ use Rattle.tdb_script.specs.Script.{IsCommand, IsOpenerPlay, IsPlay, Says, Lines
 use Rattle.tdb_script.proofs.EachRow.{of_row}
 use Rattle.tdb_script.proofs.PartLemmas.{NoLonger, lines_no_longer, words_no_longer}
 use Rattle.tdb_commands.specs.Short.{IsShortCommand}
-use Rattle.tdb_course.specs.Playable.{IsPlayable, ArePlayable}
+use Rattle.tdb_world.specs.Courses.Playable.{IsPlayable, ArePlayable}
 use Rattle.tdb_cmdline.proofs.ShortWords.{word_short}
 
 module _ (n : ℕ) (few : n < 2 ^ 32) where

@@ -5,7 +5,7 @@ use Rattle.std.proofs.lemmas.Bool.{false≢true}
 use Rattle.std.proofs.lemmas.List.{append-nil}
 use Rattle.tdb_disk.specs.History.{History, seen}
 use Rattle.tdb_space.specs.Form.{form_of}
-use Rattle.tdb_course.specs.Hearing.{Heard, HeardUpTo}
+use Rattle.tdb_world.specs.Courses.Hearing.{Heard, HeardUpTo}
 use Rattle.tdb_log.specs.Logs.{Logged}
 use Rattle.tdb_log.specs.declared.log.LogRefusal.TheVariants as Unheard
 use Rattle.tdb_commands.specs.declared.line.Line.{Line}

@@ -8,7 +8,7 @@ use Rattle.tdb_space.specs.Form.{form_of}
 use Rattle.tdb_space.specs.Undoing.{Reopens}
 use Rattle.tdb_law.specs.Beginning.{IsLoaded}
 use Rattle.tdb_law.specs.World.{State}
-use Rattle.tdb_course.specs.Hearing.{Heard}
+use Rattle.tdb_world.specs.Courses.Hearing.{Heard}
 use Rattle.tdb_log.specs.Logs.{Logged}
 use Rattle.tdb_commands.specs.declared.line.Line.{Line}
 use Rattle.tdb_script.specs.Lines.{lines_of}
@@ -23,7 +23,7 @@ use Rattle.tdb_tool.specs.declared.fault.SessionFault.{SessionFault}
 use Rattle.tdb_tool.specs.declared.fault.SessionFault.TheVariants as F
 use Rattle.tdb_tool.specs.declared.order.Order.{Order}
 use Rattle.tdb_commands.specs.InLaw.{options_of}
-use Rattle.tdb_course.specs.Stops.{OpensOnTheWay}
+use Rattle.tdb_world.specs.Courses.Stops.{OpensOnTheWay}
 use Rattle.tdb_world.specs.Died.{IsReadAs}
 use Rattle.tdb_top.specs.declared.ending.Ending.{Ending}
 use Rattle.tdb_top.specs.declared.ending.Ending.TheVariants.{DeviceFault}

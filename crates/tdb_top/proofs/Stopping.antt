@@ -26,19 +26,19 @@ use Rattle.tdb_world.specs.States.{IsStateOf}
 use Rattle.tdb_world.specs.Stops.{IsSafe}
 use Rattle.tdb_world.specs.Whole.{Whole, form_at}
 use Rattle.tdb_world.proofs.Reopening.{state_reopens}
-use Rattle.tdb_course.specs.Hearing.{RunsAsTold}
-use Rattle.tdb_course.specs.Led.{moment, Comes, Led}
-use Rattle.tdb_course.specs.Stops.{IsTransacted, Leads, OpensOnTheWay, Passes, StopsLed}
-use Rattle.tdb_course.specs.Unfinished.{AreUnfinished}
+use Rattle.tdb_world.specs.Courses.Hearing.{RunsAsTold}
+use Rattle.tdb_world.specs.Courses.Led.{moment, Comes, Led}
+use Rattle.tdb_world.specs.Courses.Stops.{IsTransacted, Leads, OpensOnTheWay, Passes, StopsLed}
+use Rattle.tdb_world.specs.Courses.Unfinished.{AreUnfinished}
 use Rattle.tdb_openers.proofs.Courses.{course_join}
-use Rattle.tdb_course.proofs.Coming.{whole_comes, comes_more, comes_after}
+use Rattle.tdb_world.proofs.Courses.Coming.{whole_comes, comes_more, comes_after}
 use Rattle.tdb_tool.proofs.Telling.{front_after}
 use Rattle.tdb_log.specs.Logs.{Logged}
 use Rattle.tdb_log.specs.declared.log.LogRefusal.{LogRefusal}
 use Rattle.tdb_open.specs.Opening.{log_fault}
 use Rattle.tdb_open.specs.declared.halt.Fault.TheVariants as F
 use Rattle.tdb_top.specs.declared.ending.Unprinted.TheVariants as Rest
-use Rattle.tdb_course.specs.Scene.{Scene, scene, IsStateAt}
+use Rattle.tdb_world.specs.Courses.Scene.{Scene, scene, IsStateAt}
 use Rattle.tdb_top.specs.Playing.{PlaysEnd, UnlessBroken, OnBroken, end_of}
 use Rattle.tdb_top.specs.Stops.{LeavesOnTheWay, StopsTold, StopsOver, OnlyUnfinished, WroteOf, WroteWhole}
 use Rattle.tdb_top.proofs.Coming.{front_either, text_more, unless_end, unless_map, unless_sound}

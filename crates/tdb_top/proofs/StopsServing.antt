@@ -7,7 +7,7 @@ use Rattle.tdb_space.specs.Form.{Form, form_of}
 use Rattle.tdb_space.specs.Undoing.{Reopens}
 use Rattle.tdb_law.specs.Lines.{Line as LawLine}
 use Rattle.tdb_law.specs.World.{State}
-use Rattle.tdb_course.specs.Hearing.{Heard}
+use Rattle.tdb_world.specs.Courses.Hearing.{Heard}
 use Rattle.tdb_log.specs.Logs.{Logged}
 use Rattle.tdb_commands.specs.declared.line.Line.{Line}
 use Rattle.tdb_commands.specs.declared.options.Options.{Options}
@@ -17,7 +17,7 @@ use Rattle.tdb_tool.specs.Whole.{StopsOpen, SessionOver, SessionCame, CameSo}
 use Rattle.tdb_tool.specs.declared.fault.SessionEnd.{SessionEnd}
 use Rattle.tdb_tool.specs.declared.fault.SessionFault.{SessionFault}
 use Rattle.tdb_tool.specs.declared.order.Order.{Order}
-use Rattle.tdb_course.specs.Stops.{OpensOnTheWay}
+use Rattle.tdb_world.specs.Courses.Stops.{OpensOnTheWay}
 use Rattle.tdb_top.specs.Commands.Session.{session_options, SessionOn}
 use Rattle.tdb_top.specs.Input.{Input}
 use Rattle.tdb_open.specs.Opening.{opened_bytes, CanOpen}

@@ -18,7 +18,7 @@ use Rattle.tdb_script.specs.declared.limits.TheConstants.{LONGEST_SCRIPT}
 use Rattle.tdb_script.proofs.PartLemmas.{stays_bad}
 use Rattle.tdb_script.specs.Text.{report_text}
 use Rattle.tdb_commands.specs.declared.options.Options.{Options}
-use Rattle.tdb_course.proofs.Coming.{whole_comes}
+use Rattle.tdb_world.proofs.Courses.Coming.{whole_comes}
 use Rattle.tdb_cmdline.specs.declared.ask.Task.TheVariants.{Turns}
 use Rattle.tdb_top.specs.declared.ending.Ending.{Ending}
 use Rattle.tdb_top.specs.declared.ending.Ending.TheVariants as E

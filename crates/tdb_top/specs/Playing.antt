@@ -11,9 +11,9 @@ use Rattle.tdb_commands.specs.declared.play.Play.{Play}
 use Rattle.tdb_script.specs.Text.{report_text}
 use Rattle.tdb_openers.specs.Played.{ComesTo}
 use Rattle.tdb_world.specs.Whole.{Whole, form_at, WorldFits}
-use Rattle.tdb_course.specs.Hearing.{Heard}
-use Rattle.tdb_course.specs.Scene.{Scene, IsStateAt}
-use Rattle.tdb_course.specs.Unfinished.{IsEnd}
+use Rattle.tdb_world.specs.Courses.Hearing.{Heard}
+use Rattle.tdb_world.specs.Courses.Scene.{Scene, IsStateAt}
+use Rattle.tdb_world.specs.Courses.Unfinished.{IsEnd}
 use Rattle.tdb_log.specs.Logs.{Logged}
 use Rattle.tdb_log.specs.declared.log.LogRefusal.{LogRefusal}
 use Rattle.tdb_tool.specs.declared.fault.SessionFault.{SessionFault}

@@ -37,7 +37,7 @@ use Rattle.tdb_gen.specs.declared.summary.Summary.{Summary}
 use Rattle.tdb_gen.specs.Summary.{summary_text}
 use Rattle.tdb_dump.specs.declared.listing.Listing.{Listing}
 use Rattle.tdb_commands.specs.declared.options.Options.{Options}
-use Rattle.tdb_course.specs.Hearing.{HeardUpTo}
+use Rattle.tdb_world.specs.Courses.Hearing.{HeardUpTo}
 use Rattle.tdb_log.specs.Logs.{Logged}
 use Rattle.tdb_log.specs.declared.log.LogRefusal.TheVariants as Unheard
 use Rattle.tdb_open.specs.declared.halt.Halt.{Halt}

@@ -11,7 +11,7 @@ use Rattle.tdb_law.specs.World.{State}
 use Rattle.tdb_open.specs.Loading.{IsOver}
 use Rattle.tdb_open.specs.Opening.{opened_bytes}
 use Rattle.tdb_world.specs.Died.{IsReadAs}
-use Rattle.tdb_course.specs.Stops.{IsTransacted, OpensOnTheWay}
+use Rattle.tdb_world.specs.Courses.Stops.{IsTransacted, OpensOnTheWay}
 
 -- Since a file had one history, each stop until it has another leaves a file that opens on the way that these lines
 -- tell from a state: where all of it was on the medium at first, its undo, if it has to be undone, changes no byte by

@@ -20,13 +20,13 @@ use Rattle.tdb_openers.specs.Played.{ComesTo}
 use Rattle.tdb_world.specs.Stops.{IsSafe}
 use Rattle.tdb_world.specs.States.{IsStateOf}
 use Rattle.tdb_world.specs.Whole.{Whole, form_at}
-use Rattle.tdb_course.specs.Stops.{IsTransacted, Leads, OpensOnTheWay}
+use Rattle.tdb_world.specs.Courses.Stops.{IsTransacted, Leads, OpensOnTheWay}
 use Rattle.tdb_top.specs.declared.ending.Ending.{Ending}
 use Rattle.tdb_top.specs.Commands.Turns.{HasScript}
 use Rattle.tdb_top.specs.Ending.{text_of}
 use Rattle.tdb_top.specs.Input.{Input}
 use Rattle.tdb_open.specs.Opening.{opened_bytes}
-use Rattle.tdb_course.specs.Scene.{Scene, IsStateAt}
+use Rattle.tdb_world.specs.Courses.Scene.{Scene, IsStateAt}
 use Rattle.tdb_top.specs.Playing.{PlaysEnd, UnlessBroken}
 use Rattle.tdb_top.specs.Run.{Run}
 use Rattle.tdb_top.specs.Safe.{StopsSince, IsLeftAs}

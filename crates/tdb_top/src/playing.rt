@@ -9,22 +9,21 @@ ghost use Rattle.tdb_backup.specs.Dump.{WroteFront};
 ghost use Rattle.tdb_dump.specs.declared.writer.WriteRefusal.TheVariants.{Failed};
 ghost use Rattle.tdb_script.specs.Text.{report_text};
 ghost use Rattle.tdb_world.specs.Whole.{form_at, options_at, WorldFits};
-ghost use Rattle.tdb_course.specs.Playable.{ArePlayable};
-ghost use Rattle.tdb_course.specs.Scene.{scene};
+ghost use Rattle.tdb_world.specs.Courses.Playable.{ArePlayable};
+ghost use Rattle.tdb_world.specs.Courses.Scene.{scene};
 ghost use Rattle.tdb_top.specs.Playing.{UnlessBroken, OnBroken, IsUnbroken, PlayedOver, Ran, EndTold, end_of};
 ghost use Rattle.tdb_open.specs.Loading.{IsJustLoaded};
 ghost use Rattle.tdb_top.specs.Stops.{StopsOfTurns, StopsOver, StopsTold};
 
 use crate::ending::Unprinted;
 use std::alloc::Global;
-use tdb_course::{RunFault, finish_report, run};
+use tdb_world::{RunFault, World, finish_report, run};
 use tdb_disk::{Disk, Sink};
 use tdb_dump::WriteRefusal;
 use tdb_log::{LogRefusal, Logs};
 use tdb_open::Fault;
 use tdb_commands::{Play, TurnReport};
 use tdb_script::write_line;
-use tdb_world::World;
 
 /// Writes the lines of a report, each in one call. Where the output fails, or memory is wanting, a front of their text
 /// was written.

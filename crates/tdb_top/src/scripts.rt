@@ -6,7 +6,7 @@ ghost use Rattle.tdb_script.specs.Script.{Script};
 ghost use Rattle.tdb_script.specs.declared.limits.TheConstants.{LONGEST_SCRIPT as LONGEST};
 ghost use Rattle.tdb_top.specs.Scripts.{IsUnscripted, of_script, unscripted};
 ghost use Rattle.tdb_top.specs.declared.scripts.ScriptFault.TheVariants as FaultIs;
-ghost use Rattle.tdb_course.specs.Playable.{ArePlayable};
+ghost use Rattle.tdb_world.specs.Courses.Playable.{ArePlayable};
 
 use crate::ending::Ending;
 use std::alloc::{AllocError, Global};

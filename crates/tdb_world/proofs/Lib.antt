@@ -35,3 +35,4 @@ pub mod DeathsAmong
 pub mod DeathsAside
 pub mod Deaths
 pub mod Mortal
+pub mod Courses

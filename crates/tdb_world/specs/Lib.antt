@@ -7,3 +7,4 @@ pub mod Died
 pub mod Stops
 pub mod Prepared
 pub mod Syncs
+pub mod Courses

@@ -4,6 +4,7 @@
 mod aside;
 mod assigning;
 mod beginning;
+mod course;
 mod dying;
 mod laws;
 mod others;
@@ -16,4 +17,8 @@ pub use crate::laws::{
 };
 pub use crate::undoing::Undone;
 pub use crate::world::{JoinRefusal, World};
-pub use tdb_openers::OpenerStanding;
+pub use tdb_openers::{OpenerStanding, RunFault};
+pub use crate::course::ending::finish_report;
+pub use crate::course::laws::{prepared_commits_end, report_is_lawful, steps_tell_changes};
+pub use crate::course::playing::{play, run};
+pub use crate::course::unreported::{give_unreported, turn_unreported};

@@ -5,13 +5,13 @@
 ghost use Rattle.std.specs.Prelude.{◌≡◌, List, ℕ, false, IfOk, OnOk};
 ghost use Rattle.tdb_disk.specs.History.{seen};
 ghost use Rattle.tdb_world.specs.Whole.{WorldFits};
-ghost use Rattle.tdb_course.specs.Playable.{IsPlayable};
+ghost use Rattle.tdb_world.specs.Courses.Playable.{IsPlayable};
 
 use anyhow::{Context, bail};
 use std::alloc::{AllocError, Global};
 use std::env;
 use std::time::Instant;
-use tdb_course::run;
+use tdb_world::{World, run};
 use tdb_disk::{Disk, Files, MemFiles, Take};
 use tdb_files::DirFiles;
 use tdb_gen::generate;
@@ -19,7 +19,6 @@ use tdb_log::Log;
 use tdb_open::{NewForm, Opened, create, make};
 use tdb_commands::{Command, Options, Play, TurnReport};
 use tdb_steps::Flag;
-use tdb_world::World;
 use tdb_words::{Bytes, HashKind, Order};
 
 /// The file.

@@ -11,7 +11,7 @@ use Rattle.tdb_law.specs.World.{State}
 use Rattle.tdb_log.specs.Logs.{Logged}
 use Rattle.tdb_commands.specs.InLaw.{law_lines, options_of}
 use Rattle.tdb_commands.specs.declared.options.Options.{Options}
-use Rattle.tdb_course.specs.Hearing.{Heard}
+use Rattle.tdb_world.specs.Courses.Hearing.{Heard}
 use Rattle.tdb_gen.specs.Generated.{Generated as IsLoad, CameSo}
 use Rattle.tdb_gen.specs.Summary.{summary_text}
 use Rattle.tdb_gen.specs.declared.fault.GenFault.{GenFault}

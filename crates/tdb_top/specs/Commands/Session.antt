@@ -17,7 +17,7 @@ use Rattle.tdb_tool.specs.declared.fault.SessionFault.TheVariants as F
 use Rattle.tdb_tool.specs.declared.order.Order.{Order}
 use Rattle.tdb_commands.specs.declared.line.Line.{Line}
 use Rattle.tdb_commands.specs.declared.options.Options.{Options}
-use Rattle.tdb_course.specs.Hearing.{Heard}
+use Rattle.tdb_world.specs.Courses.Hearing.{Heard}
 use Rattle.tdb_commands.specs.InLaw.{options_of}
 use Rattle.tdb_top.specs.declared.ending.Ending.{Ending}
 use Rattle.tdb_top.specs.declared.ending.Ending.TheVariants.{Replied, Refused, Missing, DeviceFault, InputFault, Malformed, NoMemory, LogFault}

@@ -14,9 +14,9 @@ use Rattle.tdb_script.specs.Script.{Script, BadAt}
 use Rattle.tdb_script.specs.Text.{report_text}
 use Rattle.tdb_openers.specs.Played.{ComesTo}
 use Rattle.tdb_world.specs.Died.{IsReadAs}
-use Rattle.tdb_course.specs.Hearing.{Heard, HeardUpTo}
+use Rattle.tdb_world.specs.Courses.Hearing.{Heard, HeardUpTo}
 use Rattle.tdb_check.specs.Report.{Counted}
-use Rattle.tdb_course.specs.Unfinished.{EndsWith}
+use Rattle.tdb_world.specs.Courses.Unfinished.{EndsWith}
 use Rattle.tdb_log.specs.Logs.{Logged}
 use Rattle.tdb_log.specs.declared.log.LogRefusal.TheVariants as Unlogged
 use Rattle.tdb_commands.specs.declared.options.Options.{Options}

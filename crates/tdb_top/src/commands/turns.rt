@@ -5,7 +5,7 @@ ghost use Rattle.tdb_disk.specs.Count.{HasCause, Rose};
 ghost use Rattle.tdb_disk.specs.History.{seen};
 ghost use Rattle.tdb_disk.specs.Names.{SameBut};
 ghost use Rattle.tdb_space.specs.Form.{form_of};
-ghost use Rattle.tdb_course.specs.Playable.{ArePlayable};
+ghost use Rattle.tdb_world.specs.Courses.Playable.{ArePlayable};
 ghost use Rattle.tdb_cmdline.specs.declared.ask.Task.TheVariants.{Turns};
 ghost use Rattle.tdb_top.specs.declared.ending.Ending.TheVariants.{Replied, Usage};
 ghost use Rattle.tdb_top.specs.declared.ending.Reply.TheVariants.{Played};

@@ -5,8 +5,8 @@ use Rattle.tdb_locks.specs.declared.turn.Turn.{Turn}
 use Rattle.tdb_log.specs.declared.log.LogRefusal.{LogRefusal}
 use Rattle.tdb_commands.specs.declared.play.Play.TheVariants as Plays
 use Rattle.tdb_openers.specs.declared.fault.RunFault.{RunFault}
-use Rattle.tdb_course.specs.Led.{moment}
-use Rattle.tdb_course.specs.Unreported.{Unreported}
+use Rattle.tdb_world.specs.Courses.Led.{moment}
+use Rattle.tdb_world.specs.Courses.Unreported.{Unreported}
 use Rattle.tdb_gen.specs.declared.counts.Counts.{Counts}
 use Rattle.tdb_gen.specs.Taking.{end_of, end_only, Place, place, Taken}
 use Rattle.tdb_gen.proofs.Turning.{CountsTurn, turn_taken, turn_rests}

@@ -1,7 +1,7 @@
 use Rattle.std.proofs.Common.{◌∙◌, refl, subst, Ok}
 use Rattle.std.proofs.lemmas.Result.{err_from_is_err_and}
 use Rattle.tdb_tool.specs.Lines.{lines_left}
-use Rattle.tdb_course.specs.Scene.{scene}
+use Rattle.tdb_world.specs.Courses.Scene.{scene}
 use Rattle.tdb_tool.specs.Serving.{ServedNext}
 use Rattle.tdb_tool.proofs.Sessions.{begun, goes_on, breaks_off, unread}
 use Rattle.tdb_tool.proofs.serving.serve.Goals as goal

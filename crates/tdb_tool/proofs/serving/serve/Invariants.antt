@@ -1,7 +1,7 @@
 -- The commands so far are those that the lines read so far ask for.
 use Rattle.std.proofs.Common.{◌≡◌, ◌-◌}
 use Rattle.tdb_tool.specs.Lines.{lines_left}
-use Rattle.tdb_course.specs.Scene.{scene}
+use Rattle.tdb_world.specs.Courses.Scene.{scene}
 use Rattle.tdb_tool.specs.declared.limits.TheConstants.{LONGEST_SESSION}
 use Rattle.tdb_tool.proofs.Sessions.{Serving}
 use Rattle.tdb_tool.proofs.serving.serve.Given as goal

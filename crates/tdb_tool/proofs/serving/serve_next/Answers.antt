@@ -2,7 +2,7 @@ use Rattle.std.proofs.Common.{subst}
 use Rattle.std.proofs.lemmas.Result.{err_from_is_err_and}
 use Rattle.tdb_tool.specs.Asked.{NextIs}
 use Rattle.tdb_tool.specs.Lines.{lines_left}
-use Rattle.tdb_course.specs.Scene.{scene}
+use Rattle.tdb_world.specs.Courses.Scene.{scene}
 use Rattle.tdb_tool.proofs.Fine.{said_fine}
 use Rattle.tdb_tool.proofs.Sessions.{not_read, skipped, taken, broken_off}
 use Rattle.tdb_tool.proofs.serving.serve_next.Goals as goal

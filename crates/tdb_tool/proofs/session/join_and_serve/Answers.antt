@@ -1,6 +1,6 @@
 use Rattle.std.proofs.Common.{[]}
 use Rattle.std.proofs.lemmas.Result.{err_from_is_err_and}
-use Rattle.tdb_course.specs.Scene.{scene}
+use Rattle.tdb_world.specs.Courses.Scene.{scene}
 use Rattle.tdb_tool.proofs.Wholes.{join_failed, join_only, join_served}
 use Rattle.tdb_tool.proofs.session.join_and_serve.Goals as goal
 

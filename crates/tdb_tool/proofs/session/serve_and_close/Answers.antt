@@ -1,6 +1,6 @@
 use Rattle.std.proofs.Common.{[]}
 use Rattle.std.proofs.lemmas.Result.{err_from_is_err_and}
-use Rattle.tdb_course.specs.Scene.{scene}
+use Rattle.tdb_world.specs.Courses.Scene.{scene}
 use Rattle.tdb_tool.proofs.Wholes.{session_broke, session_closed, session_not_closed, session_unclosed}
 use Rattle.tdb_tool.proofs.session.serve_and_close.Goals as goal
 

@@ -1,6 +1,6 @@
 use Rattle.std.proofs.Common.{◌∙◌, refl}
 use Rattle.std.proofs.lemmas.Result.{err_from_is_err_and}
-use Rattle.tdb_course.specs.Scene.{scene}
+use Rattle.tdb_world.specs.Courses.Scene.{scene}
 use Rattle.tdb_tool.proofs.Coming.{led_nowhere}
 use Rattle.tdb_tool.proofs.Lists.{Moved, no_moves, list_on, list_end, list_broke, list_full}
 use Rattle.tdb_tool.proofs.taking.take_list.Goals as goal

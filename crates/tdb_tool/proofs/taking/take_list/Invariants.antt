@@ -1,6 +1,6 @@
 -- Each of the moves so far gave a pair, which was printed.
 use Rattle.std.proofs.Common.{◌≡◌}
-use Rattle.tdb_course.specs.Scene.{scene}
+use Rattle.tdb_world.specs.Courses.Scene.{scene}
 use Rattle.tdb_tool.proofs.Lists.{SoFar}
 use Rattle.tdb_tool.proofs.taking.take_list.Given as goal
 

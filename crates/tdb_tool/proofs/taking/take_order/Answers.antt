@@ -1,7 +1,7 @@
 use Rattle.std.proofs.Common.{Ok, Err, None, sym, subst}
 use Rattle.std.proofs.lemmas.Result.{err_from_is_err_and}
 use Rattle.tdb_tool.specs.Parts.{part_of}
-use Rattle.tdb_course.specs.Scene.{scene}
+use Rattle.tdb_world.specs.Courses.Scene.{scene}
 use Rattle.tdb_tool.specs.Serving.{Ran}
 use Rattle.tdb_tool.proofs.PartsRan.{ran_none}
 use Rattle.tdb_tool.proofs.Plays.{play_ordered}

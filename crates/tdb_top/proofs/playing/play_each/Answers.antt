@@ -3,7 +3,7 @@ use Rattle.std.proofs.lemmas.List.{take_all}
 use Rattle.std.proofs.lemmas.Result.{err_from_is_err_and}
 use Rattle.tdb_space.specs.Form.{form_in}
 use Rattle.tdb_commands.specs.declared.play.Play.{Play}
-use Rattle.tdb_course.specs.Scene.{Scene, scene}
+use Rattle.tdb_world.specs.Courses.Scene.{Scene, scene}
 use Rattle.tdb_top.specs.Playing.{Ran, PlaysEnd}
 use Rattle.tdb_top.specs.Stops.{StopsTold}
 use Rattle.tdb_top.proofs.Stopping.{stops_none, stops_on, stops_more}

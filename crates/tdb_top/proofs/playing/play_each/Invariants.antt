@@ -1,6 +1,6 @@
 -- The plays so far were taken and told.
 use Rattle.std.proofs.Common.{◌≡◌, take, Ok}
-use Rattle.tdb_course.specs.Scene.{scene}
+use Rattle.tdb_world.specs.Courses.Scene.{scene}
 use Rattle.tdb_top.specs.Playing.{Ran}
 use Rattle.tdb_top.specs.Stops.{StopsTold}
 use Rattle.tdb_top.proofs.playing.play_each.Given as goal

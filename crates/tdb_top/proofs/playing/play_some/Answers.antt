@@ -1,5 +1,5 @@
 use Rattle.std.proofs.Common.{sym, subst}
-use Rattle.tdb_course.specs.Scene.{scene}
+use Rattle.tdb_world.specs.Courses.Scene.{scene}
 use Rattle.tdb_top.specs.Playing.{Ran}
 use Rattle.tdb_top.specs.Stops.{StopsTold}
 use Rattle.tdb_top.proofs.Coming.{ran_of}

@@ -7,7 +7,7 @@ use Rattle.tdb_space.specs.Accepted.{AcceptWith}
 use Rattle.tdb_space.specs.Form.{form_in}
 use Rattle.tdb_space.specs.Pairs.{order_of}
 use Rattle.tdb_world.specs.Whole.{form_at}
-use Rattle.tdb_course.proofs.Standings.{joined_in}
+use Rattle.tdb_world.proofs.Courses.Standings.{joined_in}
 use Rattle.tdb_gen.specs.declared.fault.GenFault.{GenFault}
 use Rattle.tdb_gen.specs.declared.fault.GenFault.TheVariants.{Io, Log}
 use Rattle.tdb_gen.specs.Generated.{GeneratedOver}

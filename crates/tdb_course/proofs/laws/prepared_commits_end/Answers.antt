@@ -1,6 +1,0 @@
--- The law is the lemma.
-use Rattle.tdb_course.proofs.PreparedCommits.{commits_end}
-use Rattle.tdb_course.proofs.laws.prepared_commits_end.Goals as goal
-
-pub returns : goal.returns
-returns c = record { law = commits_end }

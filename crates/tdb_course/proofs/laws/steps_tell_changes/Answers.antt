@@ -1,6 +1,0 @@
--- The law is the lemma.
-use Rattle.tdb_course.proofs.Changes.{steps_tell}
-use Rattle.tdb_course.proofs.laws.steps_tell_changes.Goals as goal
-
-pub returns : goal.returns
-returns c = record { law = steps_tell }

@@ -1,0 +1,22 @@
+-- Lemmas on plays in a world, the report of them, and what stops leave.
+pub mod Leading
+pub mod Stopping
+pub mod Standings
+pub mod Finishing
+pub mod Courses
+pub mod Coming
+pub mod Answered
+pub mod StoppedPlays
+pub mod OneTurn
+pub mod StoppedTurns
+pub mod Going
+pub mod Changes
+pub mod MayCommit
+pub mod PreparedCommits
+pub mod HeardLines
+pub mod Dropping
+pub mod ToldLines
+pub mod HeardPlays
+pub mod Running
+pub mod UnreportedTurns
+pub mod UnreportedGifts

@@ -1,0 +1,150 @@
+-- What a stop leaves while an opener takes a turn, where a gate may have been undone before it.
+use Rattle.std.proofs.Common.{◌≡◌, ℕ, ◌+◌, ◌++◌, Bool, IsTrue, List, Option, Result, Ok, Err, OnOk, sym, ◌∙◌, ap, subst, inl, inr}
+use Rattle.std.proofs.lemmas.Result.{on_ok_weaker}
+use Rattle.tdb_disk.specs.History.{History}
+use Rattle.tdb_disk.specs.Stop.{LeavesOnly}
+use Rattle.tdb_disk.proofs.Runs.{leaves_join, leaves_weaker}
+use Rattle.tdb_space.specs.Form.{Form, form_in}
+use Rattle.tdb_law.specs.Commands.{Command as LawCommand}
+use Rattle.tdb_law.specs.Lines.{Line as LawLine}
+use Rattle.tdb_law.specs.Openers.{Own, Task}
+use Rattle.tdb_law.specs.Plays.{Clears}
+use Rattle.tdb_law.specs.Plays.Clears.{clears_nothing, clears_gate}
+use Rattle.tdb_law.specs.Plays.Play.{TakeTurn}
+use Rattle.tdb_law.specs.Rows.{is_changed}
+use Rattle.tdb_law.specs.World.{State}
+use Rattle.tdb_commands.specs.declared.line.Line.{Line}
+use Rattle.tdb_commands.specs.InLaw.{law_lines}
+use Rattle.tdb_openers.specs.Calm.{IsMidway}
+use Rattle.tdb_openers.specs.Played.{Nothing, TakesOne, TakesLast, UnlessIo}
+use Rattle.tdb_openers.specs.declared.fault.RunFault.{RunFault}
+use Rattle.tdb_openers.specs.declared.fault.RunFault.TheVariants.{Io, Memory}
+use Rattle.tdb_openers.proofs.Courses.{turn_gives}
+use Rattle.tdb_world.specs.States.{IsStateOf}
+use Rattle.tdb_world.specs.Stops.{IsChanging, IsSafe, OpensToState, TurnMayLeave}
+use Rattle.tdb_world.specs.Whole.{form_at, Whole}
+use Rattle.tdb_world.specs.Courses.Led.{Moment, IsStateAt, Led}
+use Rattle.tdb_world.specs.Courses.Stops.{Leads, OpensOnTheWay, StopsLed}
+use Rattle.tdb_world.specs.Courses.Turns.{IsToldOf, Never}
+use Rattle.tdb_world.proofs.Courses.OneTurn.{turn_after}
+use Rattle.tdb_world.proofs.Courses.Stopping.{leads_one, opens_first, passes_here, same_added}
+
+-- What a stop may leave while a gate is undone, and that the file is safe afterwards.
+abbrev pub UndoStops : Bool → Whole → History → History → Type 0
+UndoStops tells w h g = IsTrue tells → (state : State) → IsStateOf w h state → IsSafe (form_at w) h → LeavesOnly h g (OpensToState (form_at w) state)
+
+abbrev pub UndoKeeps : Bool → Whole → History → History → Type 0
+UndoKeeps tells w h g = IsTrue tells → (state : State) → IsStateOf w h state → IsSafe (form_at w) h → IsSafe (form_at w) g
+
+-- the same of a turn of an opener that isn't in the middle of a change
+abbrev pub TurnStops : Bool → Form → Whole → ℕ → History → History → Type 0
+TurnStops tells f w o h g = IsTrue tells → (state : State) → IsStateOf w h state → IsSafe f h → (IsChanging f state o → ⊥) → LeavesOnly h g (TurnMayLeave f state o)
+
+abbrev pub TurnKeeps : Bool → Form → Whole → ℕ → History → History → Type 0
+TurnKeeps tells f w o h g = IsTrue tells → (state : State) → IsStateOf w h state → IsSafe f h → (IsChanging f state o → ⊥) → IsSafe f g
+
+-- Two states have the same file with its number, and of each opener the same command and the same own.
+record Alike (m s : State) : Type 0 where
+  file : s.file ≡ m.file
+  number : s.number ≡ m.number
+  task : s.task ≡ m.task
+  own : s.own ≡ m.own
+  image_number : s.image_number ≡ m.image_number
+
+-- so are the states before and after an undo
+alike_cleared : (f : Form) (s m : State) (lines : List LawLine) → Clears f s lines m → Alike m s
+alike_cleared f s m lines (clears_nothing ready none same) = record {
+  file = ap (λ (z : State). z.file) (sym same);
+  number = ap (λ (z : State). z.number) (sym same);
+  task = ap (λ (z : State). z.task) (sym same);
+  own = ap (λ (z : State). z.own) (sym same);
+  image_number = ap (λ (z : State). z.image_number) (sym same);
+}
+alike_cleared f s m lines (clears_gate bytes to e U) = record {
+  file = ap (λ (z : State). z.file) (sym U.rest);
+  number = ap (λ (z : State). z.number) (sym U.rest);
+  task = ap (λ (z : State). z.task) (sym U.rest);
+  own = ap (λ (z : State). z.own) (sym U.rest);
+  image_number = ap (λ (z : State). z.image_number) (sym U.rest);
+}
+
+-- So a stop of a turn may leave the same of both, and an opener is in the middle of a change in both.
+module _ (f : Form) (m s : State) (L : Alike m s) (o : ℕ) where
+  may_leave : (c : List ℕ) → TurnMayLeave f m o c → TurnMayLeave f s o c
+  may_leave c (inl O) = inl (record { image = O.image; reopens = O.reopens; file = L.file ∙ O.file; number = L.number ∙ O.number })
+  may_leave c (inr (S, T)) =
+      let own : s.own o ≡ m.own o = ap (λ (g : ℕ → Own). g o) L.own in
+      inr (
+        record {
+          task = S.task;
+          has = ap (λ (g : ℕ → Option Task). g o) L.task ∙ S.has;
+          commits = S.commits;
+          not_yet = ap (λ x. is_changed f S.task.command x S.task.steps) own ∙ S.not_yet;
+          shut = ap (λ x. is_changed f S.task.command x (S.task.steps + 1)) own ∙ S.shut;
+        },
+        record {
+          txn = T.txn;
+          has = ap (λ (x : Own). x.txn) own ∙ T.has;
+          image = T.image;
+          reopens = T.reopens;
+          map = T.map;
+          number = ap (λ (g : ℕ → ℕ). g o) L.image_number ∙ T.number;
+        },
+      )
+
+  changing : IsChanging f m o → IsChanging f s o
+  changing C = record {
+    task = C.task;
+    has = ap (λ (g : ℕ → Option Task). g o) L.task ∙ C.has;
+    midway = subst (λ x. IsMidway f x C.task) (sym (ap (λ (g : ℕ → Own). g o) L.own)) C.midway;
+  }
+
+-- where the undo failed
+pub undo_stops : (tells : Bool) (old new : Moment) (o : ℕ) (e : RunFault) → Led {V = ℕ} tells old new (Err e) (λ state _. Clears (form_at old.world) state) Never Nothing
+    → UndoStops tells old.world old.history new.history → StopsLed {V = Bool} tells old new (Err e)
+undo_stops tells old new o Memory A stops told state added is eq safe calm = absurd (A.told told state is).2
+undo_stops tells old new o Io A stops told state added is eq safe calm =
+    record { stops = opens_first (form_at old.world) old.history new.history state o (law_lines added) (stops told state is safe); left = tt }
+
+-- where it didn't, or there was none
+module _ (tells : Bool) (old mid new : Moment) (o : ℕ) (c : LawCommand) (mine : (state : State) → IsStateAt old state → IsToldOf state o c) (from : ℕ)
+    (A : Led tells old mid (Ok from) (λ state _. Clears (form_at old.world) state) Never Nothing) where
+  turn_left : (r : Result Bool RunFault)
+      → Led tells mid new r (λ state more lines z. IsToldOf state o c → TakesOne (form_at mid.world) state o more lines z) Never
+      (λ state lines z. IsToldOf state o c → TakesLast (form_at mid.world) state o lines z)
+      → OnOk r (IsSafe (form_at old.world) new.history) → IsTrue tells → (state : State) (added : List Line) → IsStateAt old state → new.lines ≡ old.lines ++ added
+      → UnlessIo r ((after : State) × IsStateAt new after × Leads (form_at old.world) state (law_lines added) after × IsSafe (form_at old.world) new.history)
+  turn_left (Ok more) B safe told state added is eq =
+      let f = form_at old.world in
+      let L = turn_after tells old mid new o c mine from A (Ok more) B in
+      let J = L.told told state is in (
+        J.0,
+        J.1,
+        subst (λ ls. Leads f state (law_lines ls) J.0) (same_added old.lines new.lines L.added added L.lines eq)
+            (leads_one f state J.0 (TakeTurn o) (law_lines L.added) (turn_gives f state o more (law_lines L.added) J.0 J.2)),
+        safe,
+      )
+  turn_left (Err Memory) B safe told state added is eq = let J = A.told told state is in absurd (B.told told J.0 J.1).2
+  turn_left (Err Io) B safe told state added is eq = tt
+
+  pub turn_stops : (r : Result Bool RunFault)
+      → Led tells mid new r (λ state more lines z. IsToldOf state o c → TakesOne (form_at mid.world) state o more lines z) Never
+      (λ state lines z. IsToldOf state o c → TakesLast (form_at mid.world) state o lines z)
+      → UndoStops tells old.world old.history mid.history → UndoKeeps tells old.world old.history mid.history
+      → TurnStops tells (form_at mid.world) mid.world o mid.history new.history → OnOk r (TurnKeeps tells (form_at mid.world) mid.world o mid.history new.history) → StopsLed tells old new r
+  turn_stops r B cleared safely turned safe told state added is eq was calm =
+      let f = form_at old.world in
+      let lines = law_lines added in
+      let J = A.told told state is in
+      let L = alike_cleared f state J.0 (law_lines A.added) J.2 in
+      let safe_mid = safely told state is was in
+      let never : IsChanging f J.0 o → ⊥ = λ C. calm state o (passes_here f state lines) (changing f J.0 state L o C) in
+      let still = subst (λ header. TurnStops tells (form_in header) mid.world o mid.history new.history) A.header turned in
+      let safer = subst (λ header. OnOk r (TurnKeeps tells (form_in header) mid.world o mid.history new.history)) A.header safe in
+      let kept = on_ok_weaker r (λ (S : TurnKeeps tells f mid.world o mid.history new.history). S told J.0 J.1 safe_mid never) safer in
+      record {
+        stops = leaves_join old.history mid.history new.history (OpensOnTheWay f state lines) (opens_first f old.history mid.history state o lines (cleared told state is was))
+            (leaves_weaker mid.history new.history (TurnMayLeave f J.0 o) (OpensOnTheWay f state lines) (λ c T. (state, o, passes_here f state lines, may_leave f J.0 state L o c T))
+            (still told J.0 J.1 safe_mid never));
+        left = turn_left r B kept told state added is eq;
+      }

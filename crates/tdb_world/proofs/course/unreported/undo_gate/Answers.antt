@@ -1,0 +1,33 @@
+-- An open gate is undone; where none stands open nothing happens.
+use Rattle.std.proofs.Common.{[], None, Some, Ok, refl, sym, ◌∙◌, subst}
+use Rattle.std.proofs.lemmas.Result.{err_from_is_err_and}
+use Rattle.tdb_law.specs.Plays.Clears.{clears_nothing}
+use Rattle.tdb_world.specs.Steps.{HasCommand}
+use Rattle.tdb_world.specs.Courses.Led.{moment}
+use Rattle.tdb_world.specs.Courses.Unreported.{undo_lines}
+use Rattle.tdb_world.proofs.Courses.Leading.{led_none}
+use Rattle.tdb_world.proofs.Courses.OneTurn.{cleared_busy, failed_led, stale_in, undone_led}
+use Rattle.tdb_world.proofs.course.unreported.undo_gate.Goals as goal
+
+pub returns-then-not-is_stale-clause-led : goal.returns-then-not-is_stale-clause-led
+returns-then-not-is_stale-clause-led g c =
+    let fresh = sym c.is_stale.ensures ∙ c.if-not-is_stale.true in
+    led_none g.D.Disk.tells (moment c.args.world.now (g.D.Disk.history c.args.d.now) (g.D.Disk.size c.args.d.now) (g.D.Disk.faults c.args.d.now) []) None _ _ _ c.requires.fits
+    (λ state is. clears_nothing (stale_in c.args.world.now (g.D.Disk.history c.args.d.now) state is ∙ fresh) refl refl)
+
+pub returns-in_err-undone-clause-led : goal.returns-in_err-undone-clause-led
+returns-in_err-undone-clause-led g c =
+    let q = err_from_is_err_and c.from_residual.result c.from_residual.ensures.1 in
+    rw (q.1, q.2)
+    (failed_led g.D.Disk.tells c.args.world.now c.undo_stale.new.self (g.D.Disk.history c.args.d.now) (g.D.Disk.history c.undo_stale.new.d) (g.D.Disk.size c.args.d.now) (g.D.Disk.size c.undo_stale.new.d)
+    (g.D.Disk.faults c.args.d.now) (g.D.Disk.faults c.undo_stale.new.d) [] [] _ _ _ c.undo_stale.ensures.cause.never_falls refl (λ told state is. c.in_err-undone.ensures.cause.failed) (λ state. (refl, refl)))
+
+pub returns-clause-led : goal.returns-clause-led
+returns-clause-led g c =
+    let undone = c.in_ok-undone.undone in
+    undone_led (Some undone) g.D.Disk.tells c.args.world.now c.undo_stale.new.self (g.D.Disk.history c.args.d.now) (g.D.Disk.history c.undo_stale.new.d) (g.D.Disk.size c.args.d.now) (g.D.Disk.size c.undo_stale.new.d)
+    (g.D.Disk.faults c.args.d.now) (g.D.Disk.faults c.undo_stale.new.d) undone.bytes undone.to [] (undo_lines (Ok (Some undone))) c.in_ok-undone.ensures.world
+    c.in_ok-undone.ensures.shorter c.in_ok-undone.ensures.length c.in_ok-undone.ensures.cause.done c.in_ok-undone.ensures.fits c.in_ok-undone.ensures.undoes refl
+
+pub returns-clause-busy : goal.returns-clause-busy
+returns-clause-busy g c who busy = subst (λ w. HasCommand w who) (sym c.in_ok-undone.ensures.world) (cleared_busy c.args.world.now who busy)

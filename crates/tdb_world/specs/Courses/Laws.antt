@@ -1,0 +1,24 @@
+-- The laws of the report of plays.
+use Rattle.std.specs.Prelude.{ℕ, List, ◌++◌}
+use Rattle.tdb_disk.specs.History.{History}
+use Rattle.tdb_space.specs.Form.{Form}
+use Rattle.tdb_law.specs.Beginning.{IsLoaded, beginning}
+use Rattle.tdb_law.specs.Lines.{Line as LawLine, IsLawful}
+use Rattle.tdb_law.specs.Openers.{Options as LawOptions}
+use Rattle.tdb_law.specs.Plays.{Play, Course}
+use Rattle.tdb_law.specs.World.{State}
+use Rattle.tdb_commands.specs.InLaw.{law_lines}
+use Rattle.tdb_commands.specs.declared.line.Line.{Line}
+use Rattle.tdb_world.specs.Whole.{Whole, WorldFits}
+use Rattle.tdb_world.specs.States.{IsStateOf}
+use Rattle.tdb_world.specs.Courses.Unfinished.{IsEnd, EndsWith}
+
+-- The report of plays that lead on from a state just loaded, with the lines of all that isn't done behind it, is lawful from the replay
+-- that begins with the map and the number of its file.
+abbrev pub ReportIsLawful : Type 0
+ReportIsLawful = (f : Form) (options : LawOptions) (old new : State) (plays : List Play) (lines : List LawLine) (more : List Line) → IsLoaded f old options
+    → Course f old plays lines new → EndsWith new more → IsLawful f (beginning options old.file old.number) (lines ++ law_lines more)
+
+-- what isn't done in a world isn't done in its states
+abbrev pub EndsAlike : Type 0
+EndsAlike = (w : Whole) (img : List ℕ) (size : ℕ) (h : History) (state : State) (lines : List Line) → WorldFits w img size → IsStateOf w h state → IsEnd w lines → EndsWith state lines
