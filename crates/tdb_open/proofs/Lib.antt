@@ -2,6 +2,5 @@ pub mod Errors
 pub mod Openings
 pub mod Notices
 pub mod ToTurn
-pub mod Loaded
 pub mod MakesFile
 pub mod NewFile

@@ -1,18 +1,10 @@
--- What openers with options open, what an opening for them answers and leaves, and a world over what a file is read as.
+-- What openers with options open, and what an opening for them answers and leaves.
 use Rattle.std.specs.Prelude.{◌≡◌, ◌⊎◌, ℕ, ◌<◌, ◌≤◌, Bool, true, false, List, length, Result, Ok, Err}
-use Rattle.tdb_words.specs.Word.{word}
-use Rattle.tdb_words.specs.Header.{sequence_at}
 use Rattle.tdb_disk.specs.History.{History, seen}
-use Rattle.tdb_space.specs.Form.{Form, form_of}
+use Rattle.tdb_space.specs.Form.{form_of}
 use Rattle.tdb_space.specs.Opening.{is_open}
-use Rattle.tdb_law.specs.Beginning.{IsLoaded}
-use Rattle.tdb_law.specs.Images.{image_map}
-use Rattle.tdb_law.specs.World.{State}
 use Rattle.tdb_log.specs.Logs.{Logged}
 use Rattle.tdb_commands.specs.declared.options.Options.{Options}
-use Rattle.tdb_commands.specs.InLaw.{options_of}
-use Rattle.tdb_world.specs.Whole.{Whole, form_at, options_at}
-use Rattle.tdb_world.specs.States.{IsStateOf}
 use Rattle.tdb_open.specs.declared.halt.Refusal.{Refusal}
 use Rattle.tdb_open.specs.declared.halt.Refusal.TheVariants.{TooLong}
 use Rattle.tdb_open.specs.declared.halt.Halt.{Halt}
@@ -70,14 +62,3 @@ TurnOpeningHeard options img logs later answer =
 abbrev pub opened_of : {W : Type 0} → Result (W × Opened) Halt → Result Opened Halt
 opened_of (Ok loaded) = Ok loaded.1
 opened_of (Err halt) = Err halt
-
--- the state is one of a world whose file has these bytes
-pub record IsOver (f : Form) (img : List ℕ) (w : State) : Type 0 where
-  pub file : w.file ≡ image_map f img
-  pub number : w.number ≡ word f.order img sequence_at
-
--- The state is one of a world that is just loaded over what its file holds.
-pub record IsJustLoaded (w : Whole) (h : History) (state : State) : Type 0 where
-  pub of_world : IsStateOf w h state
-  pub loaded : IsLoaded (form_at w) state (options_of (options_at w))
-  pub over : IsOver (form_at w) (seen h) state

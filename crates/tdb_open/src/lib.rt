@@ -1,5 +1,5 @@
-//! The opening of a file: an unfinished change is undone, and no file is used before the whole of it is checked. So a
-//! world is loaded over the file; or it is made with a new file.
+//! The opening of a file: an unfinished change is undone, and no file is used before the whole of it is checked. And the
+//! making of a new file.
 #![tactic(auto)]
 
 mod creating;
@@ -9,8 +9,8 @@ mod loading;
 mod opening;
 mod verdict;
 
-pub use crate::creating::{CreateRefusal, NewForm, create, make};
+pub use crate::creating::{NewForm, make};
 pub use crate::halt::{Fault, Halt, Refusal};
 pub use crate::limits::{LONGEST_FILE, limits_law};
-pub use crate::loading::load;
+pub use crate::loading::open_to_turn;
 pub use crate::opening::Opened;

@@ -36,7 +36,7 @@ use Rattle.tdb_tool.specs.Parts.{Silent, doing, parts_of, AllDone, AllCame}
 use Rattle.tdb_world.specs.Courses.Scene.{Scene, IsStateAt}
 use Rattle.tdb_tool.specs.Serving.{fault_of, UnlessBroken, HeardSo, TellsAll, TellsFront, RunsTo, StopsBetween, DoneBetween, Ran, AsksFor, Served, ServedAll}
 use Rattle.tdb_tool.specs.Whole.{closing, session_parts, IsClosed, SessionLed, SessionDeed, beginning_over, StopsOpen, SessionOver, SessionCame, SessionRan}
-use Rattle.tdb_open.specs.Loading.{IsOver, IsJustLoaded}
+use Rattle.tdb_world.specs.Loaded.{IsOver, IsJustLoaded}
 use Rattle.tdb_tool.proofs.Coming.{IsToo, all_is_front, unless_map, led_as}
 use Rattle.tdb_tool.proofs.PartLemmas.{all_came, came_more, all_course, came_comes}
 use Rattle.tdb_tool.proofs.PartsRan.{ran_on, ran_memory}

@@ -20,7 +20,7 @@ use Rattle.tdb_world.specs.Courses.Stops.{IsTransacted, OpensOnTheWay}
 use Rattle.tdb_world.specs.Courses.Unfinished.{EndsWith}
 use Rattle.tdb_commands.specs.declared.options.Options.{Options}
 use Rattle.tdb_log.specs.Logs.{Logged}
-use Rattle.tdb_open.specs.Loading.{IsOver}
+use Rattle.tdb_world.specs.Loaded.{IsOver}
 use Rattle.tdb_tool.specs.declared.fault.SessionEnd.{SessionEnd}
 use Rattle.tdb_tool.specs.declared.fault.SessionFault.{SessionFault}
 use Rattle.tdb_tool.specs.declared.fault.SessionFault.TheVariants as F

@@ -6,7 +6,7 @@ ghost use Rattle.tdb_disk.specs.History.{seen};
 ghost use Rattle.tdb_space.specs.Accepted.{AcceptWith};
 ghost use Rattle.tdb_law.specs.World.{State};
 ghost use Rattle.tdb_world.specs.Whole.{form_at, options_at, WorldFits};
-ghost use Rattle.tdb_open.specs.Loading.{IsJustLoaded};
+ghost use Rattle.tdb_world.specs.Loaded.{IsJustLoaded};
 ghost use Rattle.tdb_tool.specs.declared.fault.SessionFault.TheVariants as FaultIs;
 ghost use Rattle.tdb_world.specs.Courses.Scene.{scene};
 ghost use Rattle.tdb_tool.specs.Serving.{fault_of, UnlessBroken, OnBroken, ServedAll};

@@ -18,7 +18,7 @@ use Rattle.tdb_world.specs.Courses.Laws.{ReportIsLawful}
 use Rattle.tdb_world.specs.Courses.Unfinished.{EndsWith}
 use Rattle.tdb_world.proofs.Courses.Coming.{whole_comes}
 use Rattle.tdb_tool.proofs.Telling.{front_after}
-use Rattle.tdb_open.specs.Loading.{IsOver}
+use Rattle.tdb_world.specs.Loaded.{IsOver}
 use Rattle.tdb_tool.specs.Whole.{beginning_over}
 use Rattle.tdb_top.specs.Commands.Turns.{LeadsTo, CameOver, report_so_far, report_whole}
 use Rattle.tdb_top.specs.declared.ending.Unprinted.TheVariants as Rest

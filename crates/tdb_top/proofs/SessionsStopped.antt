@@ -16,7 +16,8 @@ use Rattle.tdb_tool.proofs.PartLemmas.{all_came, came_more}
 use Rattle.tdb_tool.proofs.Wholes.{begins, over_comes}
 use Rattle.tdb_tool.specs.Asking.{BeginsBy}
 use Rattle.tdb_tool.specs.Serving.{HeardSo}
-use Rattle.tdb_open.specs.Loading.{IsOver, OpensToTurn}
+use Rattle.tdb_open.specs.Loading.{OpensToTurn}
+use Rattle.tdb_world.specs.Loaded.{IsOver}
 use Rattle.tdb_tool.specs.Whole.{session_parts, StopsOpen, SessionCame, CameSo}
 use Rattle.tdb_tool.specs.declared.fault.SessionEnd.{SessionEnd}
 use Rattle.tdb_tool.specs.declared.fault.SessionFault.{SessionFault}

@@ -12,7 +12,8 @@ use Rattle.tdb_log.specs.Logs.{Logged}
 use Rattle.tdb_commands.specs.declared.line.Line.{Line}
 use Rattle.tdb_commands.specs.declared.options.Options.{Options}
 use Rattle.tdb_tool.proofs.Wholes.{over_weaker, came_weaker}
-use Rattle.tdb_open.specs.Loading.{IsOver, IsOpened}
+use Rattle.tdb_open.specs.Loading.{IsOpened}
+use Rattle.tdb_world.specs.Loaded.{IsOver}
 use Rattle.tdb_tool.specs.Whole.{StopsOpen, SessionOver, SessionCame, CameSo}
 use Rattle.tdb_tool.specs.declared.fault.SessionEnd.{SessionEnd}
 use Rattle.tdb_tool.specs.declared.fault.SessionFault.{SessionFault}

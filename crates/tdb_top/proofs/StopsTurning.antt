@@ -20,7 +20,8 @@ use Rattle.tdb_commands.specs.declared.play.Play.{Play}
 use Rattle.tdb_steps.specs.Turns.{number_of}
 use Rattle.tdb_open.specs.declared.halt.Halt.{Halt}
 use Rattle.tdb_open.specs.declared.halt.Halt.TheVariants as H
-use Rattle.tdb_open.specs.Loading.{IsOver, IsOpened, OpensToTurn, OpenedToTurn, TurnOpened, IsJustLoaded}
+use Rattle.tdb_open.specs.Loading.{IsOpened, OpensToTurn, OpenedToTurn, TurnOpened}
+use Rattle.tdb_world.specs.Loaded.{IsOver, IsJustLoaded}
 use Rattle.tdb_world.specs.Whole.{Whole, form_at, options_at}
 use Rattle.tdb_openers.proofs.Courses.{course_whole}
 use Rattle.tdb_world.specs.Courses.Stops.{OpensOnTheWay}

@@ -8,7 +8,7 @@ use Rattle.tdb_space.specs.Form.{Form, form_of}
 use Rattle.tdb_space.specs.Opening.{Mild}
 use Rattle.tdb_law.specs.Lines.{Line as LawLine}
 use Rattle.tdb_law.specs.World.{State}
-use Rattle.tdb_open.specs.Loading.{IsOver}
+use Rattle.tdb_world.specs.Loaded.{IsOver}
 use Rattle.tdb_open.specs.Opening.{opened_bytes}
 use Rattle.tdb_world.specs.Died.{IsReadAs}
 use Rattle.tdb_world.specs.Courses.Stops.{IsTransacted, OpensOnTheWay}

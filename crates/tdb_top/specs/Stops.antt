@@ -15,7 +15,8 @@ use Rattle.tdb_commands.specs.declared.line.Line.TheVariants.{Unfinished}
 use Rattle.tdb_commands.specs.declared.options.Options.{Options}
 use Rattle.tdb_commands.specs.declared.play.Play.{Play}
 use Rattle.tdb_script.specs.Text.{report_text}
-use Rattle.tdb_open.specs.Loading.{IsOver, OpensToTurn}
+use Rattle.tdb_open.specs.Loading.{OpensToTurn}
+use Rattle.tdb_world.specs.Loaded.{IsOver}
 use Rattle.tdb_openers.specs.Played.{ComesTo}
 use Rattle.tdb_world.specs.Stops.{IsSafe}
 use Rattle.tdb_world.specs.States.{IsStateOf}

@@ -12,7 +12,7 @@ ghost use Rattle.tdb_world.specs.Whole.{form_at, options_at, WorldFits};
 ghost use Rattle.tdb_world.specs.Courses.Playable.{ArePlayable};
 ghost use Rattle.tdb_world.specs.Courses.Scene.{scene};
 ghost use Rattle.tdb_top.specs.Playing.{UnlessBroken, OnBroken, IsUnbroken, PlayedOver, Ran, EndTold, end_of};
-ghost use Rattle.tdb_open.specs.Loading.{IsJustLoaded};
+ghost use Rattle.tdb_world.specs.Loaded.{IsJustLoaded};
 ghost use Rattle.tdb_top.specs.Stops.{StopsOfTurns, StopsOver, StopsTold};
 
 use crate::ending::Unprinted;

@@ -1,4 +1,5 @@
-//! The turns of the commands that begin and end a transaction, over a disk and a lock table.
+//! The turns of a transaction: of the commands that begin and end it, over a disk and a lock table, and of those of its
+//! opener within it.
 #![tactic(auto)]
 
 mod committing;

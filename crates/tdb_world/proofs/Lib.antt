@@ -36,3 +36,4 @@ pub mod DeathsAside
 pub mod Deaths
 pub mod Mortal
 pub mod Courses
+pub mod Loaded

@@ -8,3 +8,4 @@ pub mod Stops
 pub mod Prepared
 pub mod Syncs
 pub mod Courses
+pub mod Loaded

@@ -30,7 +30,8 @@ use Rattle.tdb_open.specs.declared.halt.Refusal.{Refusal}
 use Rattle.tdb_open.specs.declared.opening.Opened.{Opened}
 use Rattle.tdb_open.specs.Notices.{BelowHeard}
 use Rattle.tdb_tool.specs.Serving.{HeardOrRefused}
-use Rattle.tdb_open.specs.Loading.{OpensToTurn, IsRefusedToTurn, IsOpened, IsOver, OpenedToTurn}
+use Rattle.tdb_open.specs.Loading.{OpensToTurn, IsRefusedToTurn, IsOpened, OpenedToTurn}
+use Rattle.tdb_world.specs.Loaded.{IsOver}
 use Rattle.tdb_top.specs.Commands.Turns.{ReportHeard}
 use Rattle.tdb_top.specs.Ending.{of_halt, text_of, NothingHeard}
 use Rattle.tdb_top.specs.Input.{Input}

@@ -22,7 +22,8 @@ use Rattle.tdb_log.specs.declared.log.LogRefusal.TheVariants as Unlogged
 use Rattle.tdb_commands.specs.declared.options.Options.{Options}
 use Rattle.tdb_tool.specs.Serving.{HeardOrRefused}
 use Rattle.tdb_tool.specs.Whole.{beginning_over}
-use Rattle.tdb_open.specs.Loading.{OpensToTurn, IsRefusedToTurn, TurnOpened, IsOpened, TurnOpeningHeard, IsOver}
+use Rattle.tdb_open.specs.Loading.{OpensToTurn, IsRefusedToTurn, TurnOpened, IsOpened, TurnOpeningHeard}
+use Rattle.tdb_world.specs.Loaded.{IsOver}
 use Rattle.tdb_top.specs.declared.ending.Ending.{Ending}
 use Rattle.tdb_top.specs.declared.ending.Ending.TheVariants.{Replied, Refused, Missing, There, Usage, DeviceFault, InputFault, Malformed, NoMemory, LogFault}
 use Rattle.tdb_top.specs.declared.ending.Reply.TheVariants.{Played}

@@ -16,7 +16,7 @@ use crate::ending::{Ending, Reply, Unprinted};
 use std::alloc::Global;
 use tdb_disk::{Disk, Files, Sink, Source, Take};
 use tdb_log::Logs;
-use tdb_open::load;
+use tdb_world::load;
 use tdb_tool::{SessionEnd, SessionFault, run_session};
 use tdb_openers::Options;
 

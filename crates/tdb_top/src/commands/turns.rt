@@ -27,7 +27,8 @@ use crate::scripts::plays_on;
 use std::alloc::Global;
 use tdb_disk::{Disk, Files, Sink, Source, Take};
 use tdb_log::Logs;
-use tdb_open::{Fault, load};
+use tdb_open::Fault;
+use tdb_world::load;
 use tdb_commands::Play;
 use tdb_openers::Options;
 

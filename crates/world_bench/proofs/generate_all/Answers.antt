@@ -1,5 +1,5 @@
 use Rattle.tdb_disk.specs.History.{seen}
-use Rattle.tdb_open.proofs.Loaded.{checked_accepted}
+use Rattle.tdb_world.proofs.Loaded.{checked_accepted}
 use Rattle.world_bench.proofs.generate_all.Goals as goal
 
 -- the opened file is accepted

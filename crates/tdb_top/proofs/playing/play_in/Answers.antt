@@ -9,7 +9,7 @@ use Rattle.tdb_world.specs.States.{IsStateOf}
 use Rattle.tdb_world.specs.Whole.{form_at, options_at, WorldFits}
 use Rattle.tdb_world.proofs.Reopening.{state_reopens}
 use Rattle.tdb_world.proofs.Courses.Finishing.{report_lawful, ends_alike}
-use Rattle.tdb_open.specs.Loading.{IsJustLoaded}
+use Rattle.tdb_world.specs.Loaded.{IsJustLoaded}
 use Rattle.tdb_world.specs.Courses.Scene.{Scene, scene}
 use Rattle.tdb_top.specs.Playing.{PlaysEnd, UnlessBroken, OnBroken, RunsTo, PlayedOver}
 use Rattle.tdb_top.proofs.Coming.{unless_map, on_map}

@@ -3,8 +3,8 @@ use Rattle.tdb_disk.specs.History.{seen}
 use Rattle.tdb_space.specs.Accepted.{AcceptWith}
 use Rattle.tdb_space.specs.Form.{form_in}
 use Rattle.tdb_law.specs.World.{HasFewChains}
-use Rattle.tdb_open.proofs.Loaded.{just_loaded, new_accepted, new_form}
-use Rattle.tdb_open.proofs.creating.create.Goals as goal
+use Rattle.tdb_world.proofs.Loaded.{just_loaded, new_accepted, new_form}
+use Rattle.tdb_world.proofs.creating.create.Goals as goal
 
 -- the world stands over the new file, and has its form
 pub returns-clause-fits : goal.returns-clause-fits

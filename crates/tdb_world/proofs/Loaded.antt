@@ -14,7 +14,7 @@ use Rattle.tdb_commands.specs.InLaw.{options_of}
 use Rattle.tdb_world.specs.States.{IsStateOf}
 use Rattle.tdb_world.specs.Whole.{Whole, form_at}
 use Rattle.tdb_open.specs.Creating.{IsNewFile, new_file_header}
-use Rattle.tdb_open.specs.Loading.{IsOver, IsJustLoaded}
+use Rattle.tdb_world.specs.Loaded.{IsOver, IsJustLoaded}
 use Rattle.tdb_open.specs.Opening.{IsCheckedOn}
 use Rattle.tdb_open.specs.declared.creating.NewForm.{NewForm}
 use Rattle.tdb_open.specs.declared.opening.Opened.{Opened}
