@@ -6,7 +6,7 @@ use crate::small::{bytes, file};
 use crate::words::{Word, command};
 use std::alloc::{AllocError, Global};
 use std::test::Fail;
-use tdb_txn_owner::{Holder, Wants};
+use tdb_txn_owner::{TxnOwner, Wants};
 use tdb_locks::Kind;
 
 /// An opener after so many turns of the last of these commands, where changes raise the sequence number: its command that
@@ -166,7 +166,7 @@ static ASKED: [Asked; 15] = [
 ];
 
 /// Whether an opener tells this.
-fn tells(alloc: Global, holder: &Holder, asked: &Asked) -> Result<bool, AllocError> {
+fn tells(alloc: Global, holder: &TxnOwner, asked: &Asked) -> Result<bool, AllocError> {
     let is_told = match asked.command {
         Some(word) => !holder.is_idle() && holder.told(alloc)? == command(alloc, word)?,
         None => holder.is_idle(),
@@ -232,7 +232,7 @@ static STARVED: [Starved; 7] = [
 ];
 
 /// What the command of an opener is told where memory is wanting for what its next turn wants.
-fn starve(holder: Holder) -> Told {
+fn starve(holder: TxnOwner) -> Told {
     match holder.wants() {
         Wants::Nothing => {
             holder.end();

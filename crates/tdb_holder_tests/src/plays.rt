@@ -10,7 +10,7 @@ use crate::words::Word;
 use std::alloc::{AllocError, Global};
 use std::test::Fail;
 use tdb_disk::MemDisk;
-use tdb_txn_owner::{Holder, Wants};
+use tdb_txn_owner::{TxnOwner, Wants};
 use tdb_locks::Kind;
 
 /// The most turns that a command takes.
@@ -25,11 +25,11 @@ pub(crate) fn play(
     words: &[Word],
     most: u32,
     rows: &mut Vec<Row>,
-) -> Result<Option<Holder>, AllocError>
+) -> Result<Option<TxnOwner>, AllocError>
     requires { memory_size disk.old ≡ 4096 }
     ensures { IfOk result (λ left. IfSome left (λ next. IsFit next.stage HEADER LIMIT (memory_size disk.new))) }
 {
-    let begun = Some(Holder::start(alloc, 1));
+    let begun = Some(TxnOwner::start(alloc, 1));
     let turns = if words.is_empty() { most } else { MOST };
     let mut left = go(alloc, begun, disk, numbered, turns, rows)?;
     for (i, word) in words.iter().enumerate() {

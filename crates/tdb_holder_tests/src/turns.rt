@@ -9,17 +9,17 @@ use crate::small::{HEADER, LIMIT};
 use crate::words::{Word, command};
 use std::alloc::{AllocError, Global};
 use tdb_disk::MemDisk;
-use tdb_txn_owner::{Holder, Moved, Options};
+use tdb_txn_owner::{TxnOwner, Moved, Options};
 use tdb_space::Io;
 
 /// Takes a turn of the opener's command, where changes raise the sequence number or not: what is told of it, and the
 /// opener after it.
 fn take_turn(
     alloc: Global,
-    holder: Holder,
+    holder: TxnOwner,
     disk: &mut MemDisk,
     numbered: bool,
-) -> (Row, Option<Holder>)
+) -> (Row, Option<TxnOwner>)
     requires fits { IsFit holder.stage HEADER LIMIT (memory_size disk.old) }
     requires busy { is_idle holder.stage ≡ false }
     ensures { IfSome result.1 (λ next. IsFit next.stage HEADER LIMIT (memory_size disk.new)) }
@@ -40,7 +40,7 @@ fn take_turn(
 }
 
 /// Gives up the opener that is left: whether one was.
-pub(crate) fn end_left(left: Option<Holder>) -> bool {
+pub(crate) fn end_left(left: Option<TxnOwner>) -> bool {
     match left {
         Some(holder) => {
             holder.end();
@@ -53,12 +53,12 @@ pub(crate) fn end_left(left: Option<Holder>) -> bool {
 /// Takes so many turns of the opener's command, or fewer, up to the one with which it is done. A row for each.
 pub(crate) fn go(
     alloc: Global,
-    holder: Option<Holder>,
+    holder: Option<TxnOwner>,
     disk: &mut MemDisk,
     numbered: bool,
     turns: u32,
     rows: &mut Vec<Row>,
-) -> Result<Option<Holder>, AllocError>
+) -> Result<Option<TxnOwner>, AllocError>
     requires { IfSome holder (λ now. IsFit now.stage HEADER LIMIT (memory_size disk.old)) }
     ensures { IfOk result (λ left. IfSome left (λ next. IsFit next.stage HEADER LIMIT (memory_size disk.new))) }
 {
@@ -83,9 +83,9 @@ pub(crate) fn go(
 /// Gives the opener that is left a command. It is given up where memory is wanting, or where it may not get one.
 pub(crate) fn assigned(
     alloc: Global,
-    left: Option<Holder>,
+    left: Option<TxnOwner>,
     word: Word,
-) -> Result<Option<Holder>, AllocError>
+) -> Result<Option<TxnOwner>, AllocError>
     ensures { IfOk result (λ given. IfSome given (λ next. (size : ℕ) → IfSome left (λ now. IsFit now.stage HEADER LIMIT size) → IsFit next.stage HEADER LIMIT size)) }
 {
     let Some(mut holder) = left else {

@@ -27,7 +27,7 @@ ghost use Rattle.tdb_world.specs.Syncs.{SyncsByStage};
 use crate::world::World;
 use std::mem;
 use tdb_disk::Disk;
-use tdb_txn_owner::{Holder, Moved, Wants};
+use tdb_txn_owner::{TxnOwner, Moved, Wants};
 use tdb_locks::{Kind, LockRefusal, Turn};
 use tdb_space::{Direct, Io};
 use tdb_openers::{Openers, number_in};
@@ -87,7 +87,7 @@ impl World {
     }
 
     /// Takes one turn of an opener that is aside, or goes aside by it, and has a command.
-    pub(crate) fn step_aside<D: Disk>(&mut self, d: &mut D, holder: Holder) -> Result<Turn, Io>
+    pub(crate) fn step_aside<D: Disk>(&mut self, d: &mut D, holder: TxnOwner) -> Result<Turn, Io>
         requires none { self.old.aside ≡ None }
         requires busy { is_idle holder.stage ≡ false }
         requires fresh { self.old.stale ≡ false }
@@ -124,7 +124,7 @@ impl World {
     }
 
     /// Takes the turn, for which the lock of all records among the openers is taken.
-    fn claimed_turn<D: Disk>(&mut self, d: &mut D, holder: Holder) -> Result<Turn, Io>
+    fn claimed_turn<D: Disk>(&mut self, d: &mut D, holder: TxnOwner) -> Result<Turn, Io>
         requires none { self.old.aside ≡ None }
         requires busy { is_idle holder.stage ≡ false }
         requires fresh { self.old.stale ≡ false }
@@ -162,7 +162,7 @@ impl World {
     }
 
     /// Puts an opener aside, or nobody, where nobody is.
-    fn put_aside(&mut self, holder: Option<Holder>)
+    fn put_aside(&mut self, holder: Option<TxnOwner>)
         requires none { self.old.aside ≡ None }
         ensures { self.new ≡ record self.old { aside = holder } }
     {

@@ -19,12 +19,12 @@ ghost use Rattle.tdb_openers.specs.declared.standings.OpenerStanding.TheVariants
 
 use crate::world::World;
 use std::alloc::AllocError;
-use tdb_txn_owner::Holder;
+use tdb_txn_owner::TxnOwner;
 use tdb_commands::Command;
 use tdb_openers::OpenerStanding;
 
 /// Gives the one aside a command, where it may be given.
-fn give_holder(holder: &mut Holder, command: Command) -> Result<(), AllocError>
+fn give_holder(holder: &mut TxnOwner, command: Command) -> Result<(), AllocError>
     requires idle { is_idle holder.old.stage ≡ true }
     requires short { IsShortCommand command }
     ensures given { OnOk result (holder.new ≡ record holder.old { stage = with_command holder.old.stage command }) }
@@ -46,7 +46,7 @@ fn give_holder(holder: &mut Holder, command: Command) -> Result<(), AllocError>
 
 impl World {
     /// The opener with this number, where it is aside.
-    pub(crate) fn holder(&self, who: u32) -> Option<&Holder>
+    pub(crate) fn holder(&self, who: u32) -> Option<&TxnOwner>
         ensures some { IfSome result (λ h. (self.now.aside ≡ Some h.now) × (who ≡ h.now.owner)) }
         ensures none { IfNone result (IsAmong self.now who) }
     {

@@ -16,7 +16,7 @@ ghost use Rattle.tdb_txn_owner.specs.Syncs.{HolderSyncs};
 
 use crate::world::World;
 use tdb_disk::Disk;
-use tdb_txn_owner::Holder;
+use tdb_txn_owner::TxnOwner;
 use tdb_locks::{Reply, Turn};
 use tdb_space::Io;
 
@@ -85,7 +85,7 @@ impl World {
             return Ok(self.barred_start(who));
         }
         self.drop_start(who);
-        let holder = Holder::start(self.openers.alloc(), who);
+        let holder = TxnOwner::start(self.openers.alloc(), who);
         self.step_aside(d, holder)
     }
 }

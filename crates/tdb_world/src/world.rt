@@ -15,7 +15,7 @@ ghost use Rattle.tdb_world.specs.Steps.{JoinLeads};
 
 use std::alloc::Global;
 use std::marker::Model;
-use tdb_txn_owner::Holder;
+use tdb_txn_owner::TxnOwner;
 use tdb_commands::Options;
 use tdb_words::Header;
 use tdb_openers::{MOST_OPENERS, Openers};
@@ -43,7 +43,7 @@ pub struct World {
     pub(crate) starts: Vec<bool>,
 
     /// The opener that has a transaction, or a Start that has had a turn.
-    pub(crate) aside: Option<Holder>,
+    pub(crate) aside: Option<TxnOwner>,
 
     /// The sequence number of the file, while the one aside holds all records for writing.
     pub(crate) number: u32,
@@ -54,7 +54,7 @@ pub struct World {
 
 impl Model for World {
     ghost use Rattle.std.specs.Coded.{codes};
-    ghost use Rattle.tdb_txn_owner.specs.contracts.holder.Holder as e;
+    ghost use Rattle.tdb_txn_owner.specs.contracts.txn_owner.TxnOwner as e;
     ghost use Rattle.tdb_world.specs.Whole.{Whole};
 
     ghost Value = { Whole };

@@ -5,7 +5,7 @@ use Rattle.tdb_txn_owner.specs.Ends.{task_of}
 use Rattle.tdb_txn_owner.specs.Holders.{with_command, HolderState}
 use Rattle.tdb_txn_owner.specs.Stages.{IsSide}
 use Rattle.tdb_txn_owner.proofs.HolderTurns.{given_side}
-use Rattle.tdb_txn_owner.proofs.holder.Holder.assign.Goals as goal
+use Rattle.tdb_txn_owner.proofs.txn_owner.TxnOwner.assign.Goals as goal
 
 pub returns-clause-side : goal.returns-clause-side
 returns-clause-side c f o k past s S =

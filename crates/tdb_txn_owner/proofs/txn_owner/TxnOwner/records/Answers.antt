@@ -4,7 +4,7 @@ use Rattle.tdb_txn_owner.specs.Holders.{HolderState}
 use Rattle.tdb_txn_owner.specs.Wanting.{records_at}
 use Rattle.tdb_txn_owner.specs.Stages.{stage_records}
 use Rattle.tdb_txn_owner.proofs.RecordsHeld.{records_law}
-use Rattle.tdb_txn_owner.proofs.holder.Holder.records.Goals as goal
+use Rattle.tdb_txn_owner.proofs.txn_owner.TxnOwner.records.Goals as goal
 
 pub returns-clause-law : goal.returns-clause-law
 returns-clause-law c f o k past s S b beyond =

@@ -1,7 +1,7 @@
 -- The command ends for want of memory.
 use Rattle.std.proofs.Common.{[]}
 use Rattle.tdb_txn_owner.proofs.HolderTurns.{stage_starved}
-use Rattle.tdb_txn_owner.proofs.holder.Holder.starve.Goals as goal
+use Rattle.tdb_txn_owner.proofs.txn_owner.TxnOwner.starve.Goals as goal
 
 pub returns-clause-turned : goal.returns-clause-turned
 returns-clause-turned c f o table h k past s t S K has M =

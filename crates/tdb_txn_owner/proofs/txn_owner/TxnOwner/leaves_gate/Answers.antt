@@ -2,7 +2,7 @@
 use Rattle.std.proofs.Common.{sym, ◌∙◌, ap}
 use Rattle.tdb_txn_owner.specs.Holders.{stage_gate, HolderState}
 use Rattle.tdb_txn_owner.proofs.Gates.{gate_law}
-use Rattle.tdb_txn_owner.proofs.holder.Holder.leaves_gate.Goals as goal
+use Rattle.tdb_txn_owner.proofs.txn_owner.TxnOwner.leaves_gate.Goals as goal
 
 pub returns-clause-law : goal.returns-clause-law
 returns-clause-law c f o k past s S =

@@ -46,13 +46,13 @@ use tdb_words::Header;
 
 /// An opener in a Start, or with a transaction, and a lock table of its own. It can't be dropped, since it may have an
 /// open gate.
-pub struct Holder {
+pub struct TxnOwner {
     owner: u32,
     locks: Locks,
     stage: Stage,
 }
 
-impl Model for Holder {
+impl Model for TxnOwner {
     ghost use Rattle.std.specs.Coded.{codes};
     ghost use Rattle.tdb_txn_owner.specs.contracts.stage.Stage as e;
     ghost use Rattle.tdb_txn_owner.specs.Holders.{HolderState};
@@ -67,7 +67,7 @@ impl Model for Holder {
 /// What a turn led to, and the opener after it; none where it has no transaction any more.
 pub struct Moved {
     pub turn: Turn,
-    pub holder: Option<Holder>,
+    pub holder: Option<TxnOwner>,
 }
 
 impl Stage {
@@ -176,7 +176,7 @@ fn after_turn(went: Went, owner: u32, locks: Locks) -> Moved
         None => Moved { turn, holder: None },
         Some(stage) => Moved {
             turn,
-            holder: Some(Holder {
+            holder: Some(TxnOwner {
                 owner,
                 locks,
                 stage,
@@ -185,12 +185,12 @@ fn after_turn(went: Went, owner: u32, locks: Locks) -> Moved
     }
 }
 
-impl Holder {
+impl TxnOwner {
     /// An opener with this number in a Start that has had no turn. It takes no memory.
-    pub fn start(alloc: Global, owner: u32) -> Holder
+    pub fn start(alloc: Global, owner: u32) -> TxnOwner
         ensures { result ≡ record { owner = owner; locks = []; stage = Stage.Starting Starting.Begun } }
     {
-        Holder {
+        TxnOwner {
             owner,
             locks: Locks::new(alloc),
             stage: Stage::Starting(Starting::Begun),
@@ -294,7 +294,7 @@ impl Holder {
 
     /// Gives it up, with no call on the disk.
     pub fn end(self) {
-        let Holder {
+        let TxnOwner {
             owner: _,
             locks: _,
             stage,
@@ -370,7 +370,7 @@ impl Holder {
         ensures done { OnOk result (D.faults d.new ≡ D.faults d.old) }
         ensures rises { D.faults d.old ≤ D.faults d.new }
     {
-        let Holder {
+        let TxnOwner {
             owner,
             mut locks,
             stage,

@@ -10,7 +10,7 @@ use Rattle.tdb_txn_owner.specs.Holders.{StageMayLeave}
 use Rattle.tdb_txn_owner.specs.Stages.{IsFit, KnowsFile}
 use Rattle.tdb_txn_owner.proofs.HolderTurns.{open_form, TurnsAt}
 use Rattle.tdb_txn_owner.proofs.Opened.{weaker}
-use Rattle.tdb_txn_owner.proofs.holder.stage_turn.Goals as goal
+use Rattle.tdb_txn_owner.proofs.txn_owner.stage_turn.Goals as goal
 
 pub returns-in-Open-clause-stops : goal.returns-in-Open-clause-stops
 returns-in-Open-clause-stops g c told f k =

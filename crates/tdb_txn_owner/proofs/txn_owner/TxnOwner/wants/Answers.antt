@@ -3,7 +3,7 @@ use Rattle.std.proofs.Common.{sym, ◌∙◌, ap}
 use Rattle.tdb_txn_owner.specs.Holders.{HolderState}
 use Rattle.tdb_txn_owner.specs.Wanting.{stage_wants, wanted_by}
 use Rattle.tdb_txn_owner.proofs.Wanted.{wanted_law}
-use Rattle.tdb_txn_owner.proofs.holder.Holder.wants.Goals as goal
+use Rattle.tdb_txn_owner.proofs.txn_owner.TxnOwner.wants.Goals as goal
 
 pub returns-clause-law : goal.returns-clause-law
 returns-clause-law c f o k past s t S has b =

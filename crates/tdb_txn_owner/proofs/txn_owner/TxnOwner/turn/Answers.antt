@@ -5,7 +5,7 @@ use Rattle.tdb_commands.specs.InLaw.{law_turn}
 use Rattle.tdb_txn_owner.specs.Ends.{IsBlocked}
 use Rattle.tdb_txn_owner.specs.Holders.{HolderState}
 use Rattle.tdb_txn_owner.proofs.HolderTurns.{alone_goes_on, busy_task, may_alone, own_table, TurnsAt}
-use Rattle.tdb_txn_owner.proofs.holder.Holder.turn.Goals as goal
+use Rattle.tdb_txn_owner.proofs.txn_owner.TxnOwner.turn.Goals as goal
 
 pub returns-clause-blocked : goal.returns-clause-blocked
 returns-clause-blocked g c told k past s S K begins blocked =
