@@ -1,12 +1,10 @@
 -- A new record: how long it is, what its header says, and its bytes.
 use Rattle.std.specs.Prelude.{ℕ, ◌+◌, ◌-◌, ◌*◌, ◌/◌, List, ◌++◌, length, replicate}
-use Rattle.tdb_words.specs.declared.record.TheConstants.{USED, PADDING}
+use Rattle.tdb_words.specs.declared.record.TheConstants.{PADDING}
 use Rattle.tdb_words.specs.declared.record.Rec.{Rec}
 use Rattle.tdb_words.specs.declared.word.Order.{Order}
 use Rattle.tdb_words.specs.Word.{bytes_of_word}
 use Rattle.tdb_words.specs.Record.{bytes_of_rec}
-use Rattle.tdb_words.specs.Hash.{h_of}
-use Rattle.tdb_space.specs.Form.{Form}
 
 -- a number, rounded up to whole words
 abbrev pub whole_words : ℕ → ℕ
@@ -16,21 +14,6 @@ whole_words n = (n + 3) / 4 * 4
 -- the tailer, in whole words
 abbrev pub rec_len_for : ℕ → ℕ → ℕ
 rec_len_for key_len value_len = let sum = key_len + value_len in whole_words (sum + sum / 4 + 4)
-
--- the header of a used record of so many bytes behind it, filed by the hash of its key and leading to this offset
-abbrev pub used_rec : Form → ℕ → ℕ → List ℕ → List ℕ → Rec
-used_rec f first rec_len key value = record {
-  next = first;
-  rec_len = rec_len;
-  key_len = length key;
-  data_len = length value;
-  full_hash = h_of f.hash key;
-  magic = USED;
-}
-
--- the header of a new record: used, filed by the hash of its key, and leading to what was the first of the key's chain
-abbrev pub new_rec : Form → ℕ → List ℕ → List ℕ → Rec
-new_rec f first key value = used_rec f first (rec_len_for (length key) (length value)) key value
 
 -- the bytes of a record: its header, the key, the value, padding bytes, and the tailer, which is the length of all of it
 abbrev pub record_bytes : Order → Rec → List ℕ → List ℕ → List ℕ

@@ -20,7 +20,7 @@ pub use crate::laws::{
     recovery_steps_law, runs_law, scheme_law, sequence_law, undoing_law,
 };
 pub use crate::layout::{FREE_HEAD, chain_head, data_start};
-pub use crate::new_record::{fill_record, new_rec, rec_len_for, record_bytes};
+pub use crate::new_record::{fill_record, rec_len_for, record_bytes};
 pub use crate::plain::{KeyValue, chain_offsets, pairs_in_order, record_at};
 pub use crate::reads::{key_equals, read_rec, read_word, rec_in};
 pub use crate::space::Space;

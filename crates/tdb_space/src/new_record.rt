@@ -1,11 +1,10 @@
 // A new record: how long it is, what its header says, and its bytes.
 
 ghost use Rattle.std.specs.Prelude.{◌≡◌, ◌+◌, ◌^◌, ◌<◌, ◌≤◌, length, IfOk};
-ghost use Rattle.tdb_space.specs.Form.{form_in};
-ghost use Rattle.tdb_space.specs.NewRecord.{rec_len_for, new_rec, record_bytes};
+ghost use Rattle.tdb_space.specs.NewRecord.{rec_len_for, record_bytes};
 
 use std::alloc::{AllocError, Global};
-use tdb_words::{Header, Order, PADDING, Rec, USED, hash_of, rec_bytes, word_bytes};
+use tdb_words::{Order, PADDING, Rec, rec_bytes, word_bytes};
 
 /// The `rec_len` of a new record, in bytes, from the lengths of its key and of its value: room for both, a quarter as much again
 /// to grow, and the tailer, in whole words.
@@ -16,21 +15,6 @@ pub fn rec_len_for(key_len: u64, value_len: u64) -> u64
 {
     let sum = key_len + value_len;
     (sum + sum / 4 + 4).div_ceil(4) * 4
-}
-
-/// The header of a new record, whose chain begins at `first` so far.
-pub fn new_rec(header: &Header, first: u32, key: &[u8], value: &[u8]) -> Rec
-    requires { 24 + rec_len_for (length key.now) (length value.now) < 2 ^ 32 }
-    ensures { result ≡ new_rec (form_in header.now) first key.now value.now }
-{
-    Rec {
-        next: first,
-        rec_len: rec_len_for(key.len() as u64, value.len() as u64) as u32,
-        key_len: key.len() as u32,
-        data_len: value.len() as u32,
-        full_hash: hash_of(header.hash, key),
-        magic: USED,
-    }
 }
 
 /// Fills the room of a record: its header, the key, the value, padding, and the tailer.

@@ -1,19 +1,16 @@
--- A file that grows by a hand stays accepted, and holds the same pairs; with the record that is then put in front of its chain,
--- that is how a key is added at the end of a file.
-use Rattle.std.proofs.Common.{◌≡◌, ℕ, ◌+◌, ◌<◌, ◌≤◌, ◌⊎◌, List, ◌∷◌, length, cond, Some, None, ◌∙◌, ap, inl, inr, arith}
+-- A file that grows by a hand stays accepted, and holds the same pairs.
+use Rattle.std.proofs.Common.{◌≡◌, ℕ, ◌+◌, ◌<◌, ◌≤◌, ◌⊎◌, List, ◌∷◌, length, ◌∙◌, inl, inr, arith}
 use Rattle.std.specs.Prelude.{slice_index, ◌%◌}
-use Rattle.std.specs.Map.{update}
 use Rattle.std.proofs.lemmas.Bool.{cases_lt}
 use Rattle.tdb_words.specs.declared.record.TheConstants.{PADDING}
 use Rattle.tdb_space.specs.Form.{Form, data_start}
-use Rattle.tdb_space.specs.Pairs.{order_of, map_of, same_key}
+use Rattle.tdb_space.specs.Pairs.{order_of, map_of}
 use Rattle.tdb_space.specs.Extents.{HandPair, AllHandOk, times, hand_extents}
 use Rattle.tdb_space.specs.Accepted.{AcceptWith}
-use Rattle.tdb_space.specs.Exchange.{GrownBy, PutInFront}
+use Rattle.tdb_space.specs.Exchange.{GrownBy}
 use Rattle.tdb_space.proofs.Extents.Counts.{where_is}
 use Rattle.tdb_space.proofs.Extents.Counts.Lies.{lies, below, above}
 use Rattle.tdb_space.proofs.Accepted.Hands.{hands_kept, hands_within}
-use Rattle.tdb_space.proofs.Accepted.Links.{link_accepted, link_map}
 use Rattle.tdb_space.proofs.Accepted.Remains.{Remains, listed, listed_and, listed_within, remains_accepted, remains_order, remains_map}
 
 module _ (f : Form) (a b : List ℕ) (n : ℕ) (hands : List HandPair) (A : AcceptWith f a hands) (G : GrownBy f a b n) where
@@ -65,13 +62,3 @@ module _ (f : Form) (a b : List ℕ) (n : ℕ) (hands : List HandPair) (A : Acce
 
   pub grow_map : (q : List ℕ) → map_of f b q ≡ map_of f a q
   grow_map = remains_map f a b hands A remains ((length a, n) ∷ hands) sized in_place apart stray
-
--- a key that isn't there is added by growing the file by a hand and putting it, with the record in it, in front of its chain
-pub add_accepted : (f : Form) (a g b : List ℕ) (n : ℕ) (hands : List HandPair) (k v : List ℕ) → AcceptWith f a hands → GrownBy f a g n → PutInFront f g b (length a, n) k v → map_of f a k ≡ None → AcceptWith f b hands
-add_accepted f a g b n hands k v A G P free_key =
-    link_accepted f g b (length a, n) hands k v (grow_accepted f a g n hands A G) P (grow_map f a g n hands A G k ∙ free_key)
-
-pub add_map : (f : Form) (a g b : List ℕ) (n : ℕ) (hands : List HandPair) (k v : List ℕ) → AcceptWith f a hands → GrownBy f a g n → PutInFront f g b (length a, n) k v → map_of f a k ≡ None → (q : List ℕ) → map_of f b q ≡ update same_key (map_of f a) k (Some v) q
-add_map f a g b n hands k v A G P free_key q =
-    link_map f g b (length a, n) hands k v (grow_accepted f a g n hands A G) P (grow_map f a g n hands A G k ∙ free_key) q
-    ∙ ap (λ o. cond (same_key k q) (Some v) o) (grow_map f a g n hands A G q)
