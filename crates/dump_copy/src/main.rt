@@ -1,5 +1,5 @@
-//! Reads dump text from the standard input and writes its pairs again, as dump text. A text that stock `tdbdump` printed comes
-//! out as it went in.
+//! Reads dump text from the standard input and writes its pairs again, as dump text. A text that stock `tdbdump`
+//! printed comes out as it went in.
 #![tactic(auto)]
 
 use std::alloc::Global;

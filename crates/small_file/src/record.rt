@@ -14,8 +14,8 @@ pub const HEADER: Header = Header {
     sequence: 0,
 };
 
-/// The words behind the header that aren't 0: a free record at 696, and behind it, at 4064, that of the key `a`, which is
-/// filed in chain 7, with the value `1` at 4089.
+/// The words behind the header that aren't 0: a free record at 696, and behind it, at 4064, that of the key `a`, which
+/// is filed in chain 7, with the value `1` at 4089.
 pub const RECORD: [Word; 12] = [
     (168, 696),
     (200, 4064),

@@ -1,4 +1,5 @@
-//! Checks files that the stock library made, with the top call of the program, and prints each one's name and what is said of it.
+//! Checks files that the stock library made, with the top call of the program, and prints each one's name and what is
+//! said of it.
 #![tactic(auto)]
 
 use std::alloc::{AllocError, Global};

@@ -187,7 +187,8 @@ AllShown-cut old new first to image keeps long shorter sized before = λ other b
   | inr behind ↦ absurd (grind (arith, is, keeps.none other behind))
 ]
 
--- after a call that changed the length, where all blocks are dropped if it failed, those that are kept have their lengths
+-- after a call that changed the length, where all blocks are dropped if it failed, those that are kept have their
+-- lengths
 pub AllSized-settle : {V F : Type 0} (answer : Result V F) (forgot now : Blocks) (size to : ℕ)
     → OnErr answer ((number : ℕ) → block_at now number ≡ None) → OnOk answer (now ≡ forgot) → OnOk answer (size ≡ to)
     → AllSized forgot to → AllSized now size

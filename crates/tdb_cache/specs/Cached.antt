@@ -50,7 +50,8 @@ pub record Looked {D : Type 0} {g : Ghosts D} (old new : Cached D g) : Type 0 wh
   pub count : cached_count old ≤ cached_count new
   pub starved : cached_starved old ≤ cached_starved new
 
--- a read of so many bytes went past the blocks: nothing of them has changed, and the disk within was asked for no more than that
+-- a read of so many bytes went past the blocks: nothing of them has changed, and the disk within was asked for no more
+-- than that
 pub record WentPast {D : Type 0} {g : Ghosts D} (len : ℕ) (old new : Cached D g) : Type 0 where
   pub blocks : (number : ℕ) → cached_block new number ≡ cached_block old number
   pub count : cached_count new ≡ cached_count old

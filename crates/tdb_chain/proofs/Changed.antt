@@ -22,8 +22,8 @@ changed_by f a b j ys own before after low A E others = record {
   frees = exchanged_free f a b j ys before after low A E;
 }
 
--- Two changes of one chain. The hands between them may stand in another order, and what the second writes the first left to the
--- chain, or it is the caller's own.
+-- Two changes of one chain. The hands between them may stand in another order, and what the second writes the first
+-- left to the chain, or it is the caller's own.
 pub changed_then : (f : Form) (a b c : List ℕ) (j : ℕ) (ys zs : List ℕ) (own first before middle turned after : List HandPair) → ChainChanged f a b j ys first before middle → ChainChanged f b c j zs own turned after → ((i : ℕ) → times (hand_extents turned) i ≡ times (hand_extents middle) i) → ((i : ℕ) → times (extents f.order a (chain_of f a j)) i + times (hand_extents own) i ≡ 0 → (times (hand_extents first) i ≡ 0) × (times (extents f.order b (chain_of f b j)) i ≡ 0)) → ChainChanged f a c j zs own before after
 changed_then f a b c j ys zs own first before middle turned after C D same apart = record {
   accepted = D.accepted;

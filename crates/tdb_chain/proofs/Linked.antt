@@ -1,5 +1,5 @@
--- A record is written into a hand and put in front of its chain, and the map gains its key; or an old record of the key is taken
--- out before, and the map has the new value.
+-- A record is written into a hand and put in front of its chain, and the map gains its key; or an old record of the key
+-- is taken out before, and the map has the new value.
 use Rattle.std.proofs.Common.{◌≡◌, ℕ, ◌+◌, ◌<◌, ◌≤◌, ◌⊎◌, ◌^◌, List, [], ◌∷◌, length, cond, Option, Some, None, sym, ◌∙◌, ap, subst, inl, inr, arith}
 use Rattle.std.specs.Prelude.{slice_index}
 use Rattle.std.proofs.lemmas.Bool.{cases_lt}

@@ -1,4 +1,5 @@
--- Where a chain stays, a place in it is still one, and a look-up of a key that is filed there still finds what it found.
+-- Where a chain stays, a place in it is still one, and a look-up of a key that is filed there still finds what it
+-- found.
 use Rattle.std.proofs.Common.{◌≡◌, ℕ, ◌+◌, ◌≤◌, List, length, Option, Some, None, sym, ◌∙◌, ap, subst, arith}
 use Rattle.tdb_words.specs.declared.record.Rec.{Rec}
 use Rattle.tdb_words.specs.declared.record.TheConstants.{USED}

@@ -1,4 +1,5 @@
--- The word that leads to the record of a place leads past it: the record is a hand, and the map loses its key, if it was used.
+-- The word that leads to the record of a place leads past it: the record is a hand, and the map loses its key, if it
+-- was used.
 use Rattle.std.proofs.Common.{◌≡◌, ℕ, ◌+◌, ◌<◌, ◌≤◌, ◌⊎◌, ◌^◌, List, [], ◌∷◌, length, None, sym, ◌∙◌, ap, subst, inl, inr, arith}
 use Rattle.std.specs.Prelude.{slice_index}
 use Rattle.std.proofs.lemmas.Bool.{cases_lt}

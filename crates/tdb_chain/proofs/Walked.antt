@@ -25,7 +25,8 @@ pub front_shown : (window img now : List ℕ) (at held : ℕ) → held ≤ lengt
 front_shown window img now at held within same shows =
     shows ∙ ap (λ n. take n (drop at img)) (sym (length-take-le held window within)) ∙ ap (λ i. take (length (take held window)) (drop at i)) (sym same)
 
--- so many records of the key's chain were passed, none of which has the key, and the word at `before` leads to the next one
+-- so many records of the key's chain were passed, none of which has the key, and the word at `before` leads to the next
+-- one
 pub record Walked (f : Form) (img key : List ℕ) (passed before at : ℕ) : Type 0 where
   pub ahead : Ahead f img key passed at
   pub reached : Reached f img key before at

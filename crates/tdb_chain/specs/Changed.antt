@@ -15,10 +15,10 @@ use Rattle.tdb_space.specs.Stays.{ChangesOnly, FreeStays}
 use Rattle.tdb_chain.specs.declared.place.Place.{Place}
 use Rattle.tdb_chain.specs.Place.{IsPlace}
 
--- From image a, accepted with some hands out, to image b one chain gets the records at these offsets, and other hands are out; a
--- hand is a record that is in no list. The new image is accepted with these and as long as the old one. Only the head of the chain
--- changes, and bytes of the chain's old records and of the caller's own hands. Just the bytes that the chain and the hands held
--- they hold now, each as often as before. All other chains and the free list stay.
+-- From image a, accepted with some hands out, to image b one chain gets the records at these offsets, and other hands
+-- are out; a hand is a record that is in no list. The new image is accepted with these and as long as the old one. Only
+-- the head of the chain changes, and bytes of the chain's old records and of the caller's own hands. Just the bytes
+-- that the chain and the hands held they hold now, each as often as before. All other chains and the free list stay.
 pub record ChainChanged (f : Form) (a b : List ℕ) (chain : ℕ) (offs : List ℕ) (own before after : List HandPair) : Type 0 where
   pub accepted : AcceptWith f b after
   pub size : length b ≡ length a
@@ -30,7 +30,8 @@ pub record ChainChanged (f : Form) (a b : List ℕ) (chain : ℕ) (offs : List �
   pub only : ChangesOnly f a b (λ k. k ≡ chain)
   pub frees : FreeStays f a b
 
--- from image a to image b the map changes at one key alone, where it has this value then, or none; the key's own chain changed so
+-- from image a to image b the map changes at one key alone, where it has this value then, or none; the key's own chain
+-- changed so
 pub record KeySet (f : Form) (a b key : List ℕ) (value : Option (List ℕ)) (offs : List ℕ) (own before after : List HandPair) : Type 0 where
   pub changed : ChainChanged f a b (home f key) offs own before after
   pub map : (other : List ℕ) → map_of f b other ≡ update same_key (map_of f a) key value other
@@ -68,7 +69,8 @@ abbrev pub word_before : Option Place → List Extent
 word_before None = []
 word_before (Some p) = (p.before, 4) ∷ []
 
--- from image a to image b the record of a place, if there is one, was led past where it stands in its chain; else nothing changed
+-- from image a to image b the record of a place, if there is one, was led past where it stands in its chain; else
+-- nothing changed
 abbrev pub TookOut : Form → List ℕ → List ℕ → Option Place → Type 0
 TookOut f a b None = b ≡ a
 TookOut f a b (Some p) = IsPlace f a p → LedPast f a b p.before p.off

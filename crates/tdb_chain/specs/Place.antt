@@ -10,8 +10,8 @@ use Rattle.tdb_space.specs.Pairs.{map_of, home}
 use Rattle.tdb_space.specs.Standing.{ContentStands}
 use Rattle.tdb_chain.specs.declared.place.Place.{Place}
 
--- the record that has this header at this offset can stand in a file of this length, and a used one has room for its key, its
--- value and its tailer
+-- the record that has this header at this offset can stand in a file of this length, and a used one has room for its
+-- key, its value and its tailer
 pub record LiesWithin (r : Rec) (at len : ℕ) : Type 0 where
   pub content : ContentStands r.rec_len at len
   pub fits : r.magic ≡ USED → r.key_len + r.data_len + 4 ≤ r.rec_len
@@ -23,7 +23,8 @@ pub record StandsWithin (p : Place) (len : ℕ) : Type 0 where
   pub aligned : p.off % 4 ≡ 0
   pub lies : LiesWithin p.rec p.off len
 
--- A place of an image: its record stands in one of the chains, the word before it leads to it there, and its header is the image's
+-- A place of an image: its record stands in one of the chains, the word before it leads to it there, and its header is
+-- the image's
 pub record IsPlace (f : Form) (img : List ℕ) (p : Place) : Type 0 where
   pub chain : ℕ
   pub below : chain < f.chains

@@ -15,8 +15,8 @@ use std::alloc::Global;
 use tdb_space::Space;
 use tdb_words::Bytes;
 
-/// The value of the used record at a place, read at once into memory of its length. `Memory` where that is wanting, and `Io`
-/// where the disk failed.
+/// The value of the used record at a place, read at once into memory of its length. `Memory` where that is wanting, and
+/// `Io` where the disk failed.
 pub fn value<S: Space>(alloc: Global, s: &mut S, p: &Place) -> Result<Bytes, ValueRefusal>
     requires within { StandsWithin p.now (S.size s.old) }
     requires used { p.now.rec.magic ≡ USED }

@@ -38,10 +38,11 @@ pub fn mark_dead<S: Space>(s: &mut S, p: &Place) -> Result<(), Io>
     Ok(())
 }
 
-/// Gives the used record of a key another value, where it stands. The map has this value at the key then, and stays at all others.
+/// Gives the used record of a key another value, where it stands. The map has this value at the key then, and stays at
+/// all others.
 ///
-/// It writes the value behind the key, and then the word of its length; what else follows the key stays as it is. `Io` where the
-/// disk failed: then the value may be written in part, and its length may be the old or the new one.
+/// It writes the value behind the key, and then the word of its length; what else follows the key stays as it is. `Io`
+/// where the disk failed: then the value may be written in part, and its length may be the old or the new one.
 pub fn update_in_place<S: Space>(s: &mut S, p: &Place, value: &[u8]) -> Result<(), Io>
     requires within { StandsWithin p.now (S.size s.old) }
     requires short { length value.now < 2 ^ 32 }

@@ -23,7 +23,8 @@ use crate::removal::lead_past_old;
 use tdb_space::{Hand, Io, Space, chain_head, read_word};
 use tdb_words::{Rec, USED, chain_of, hash_of};
 
-/// Writes a used record with this key and this value, and lets the head of its chain, which led to what it leads to, lead to it.
+/// Writes a used record with this key and this value, and lets the head of its chain, which led to what it leads to,
+/// lead to it.
 fn put_in_front<S: Space>(
     s: &mut S,
     at: u32,
@@ -64,13 +65,14 @@ fn put_in_front<S: Space>(
     Ok(())
 }
 
-/// Puts a record with this key and this value in front of the key's chain, in place of the key's old record where there is one, and
-/// answers the old record as a hand. The map has this value at the key then, and stays at all others. What is left of the hand
-/// behind the value is padding. `over` is what `find` answers for the key.
+/// Puts a record with this key and this value in front of the key's chain, in place of the key's old record where there
+/// is one, and answers the old record as a hand. The map has this value at the key then, and stays at all others. What
+/// is left of the hand behind the value is padding. `over` is what `find` answers for the key.
 ///
-/// The old record is taken out first, by one word; nothing is written into it. The record is written at once where it has at most
-/// 4096 bytes, and at last the head of the chain. `Io` where the disk failed: then the hand and the old record's place are given up,
-/// and other bytes than those of the hand, the head and the word that led to the old record are as they were.
+/// The old record is taken out first, by one word; nothing is written into it. The record is written at once where it
+/// has at most 4096 bytes, and at last the head of the chain. `Io` where the disk failed: then the hand and the old
+/// record's place are given up, and other bytes than those of the hand, the head and the word that led to the old
+/// record are as they were.
 pub fn link<S: Space>(
     s: &mut S,
     h: Hand,

@@ -18,7 +18,8 @@ use tdb_words::{PADDING, Rec, rec_bytes, word_bytes};
 /// How many bytes of a record are put together and written at once.
 const AT_ONCE: usize = 4096;
 
-/// The most bytes that the last write of a long record has: fewer padding bytes than are written at once, and the tailer.
+/// The most bytes that the last write of a long record has: fewer padding bytes than are written at once, and the
+/// tailer.
 const LAST: usize = 4100;
 
 /// Writes some bytes.
@@ -141,8 +142,8 @@ fn write_end<S: Space>(s: &mut S, at: u64, padding: usize, rec_len: u32) -> Resu
     Ok(())
 }
 
-/// Writes the bytes of a record: one after the other its header, its key, its value, padding, and at last the padding that is left
-/// with its tailer.
+/// Writes the bytes of a record: one after the other its header, its key, its value, padding, and at last the padding
+/// that is left with its tailer.
 fn write_long<S: Space>(s: &mut S, at: u64, rec: &Rec, key: &[u8], value: &[u8]) -> Result<(), Io>
     requires fits { length key.now + length value.now + 4 ≤ rec.now.rec_len }
     requires short { 24 + rec.now.rec_len < 2 ^ 32 }
@@ -173,8 +174,8 @@ fn write_long<S: Space>(s: &mut S, at: u64, rec: &Rec, key: &[u8], value: &[u8])
     Ok(())
 }
 
-/// Writes the bytes of a record: its header, its key, its value, padding, and its tailer. A record of at most 4096 bytes is written
-/// at once.
+/// Writes the bytes of a record: its header, its key, its value, padding, and its tailer. A record of at most 4096
+/// bytes is written at once.
 pub(crate) fn write_record<S: Space>(
     s: &mut S,
     at: u64,

@@ -59,8 +59,8 @@ pub(crate) fn lead_past_old<S: Space>(s: &mut S, old: Option<Place>) -> Result<(
 
 /// Takes the used record of a place out of its chain, and answers it as a hand. The map loses its key, and no other.
 ///
-/// It writes the word that led to the record, and nothing into the record. `Io` where the disk failed: then the word leads to the
-/// record or past it.
+/// It writes the word that led to the record, and nothing into the record. `Io` where the disk failed: then the word
+/// leads to the record or past it.
 pub fn unlink<S: Space>(s: &mut S, p: Place) -> Result<Hand, Io>
     requires within { StandsWithin p (S.size s.old) }
     requires room { RoomForAll (S.spare s.old) 1 4 }
@@ -82,8 +82,8 @@ pub fn unlink<S: Space>(s: &mut S, p: Place) -> Result<Hand, Io>
 
 /// Takes the dead record of a place out of its chain, and answers it as a hand. The map stays as it is.
 ///
-/// It writes the word that led to the record, and nothing into the record. `Io` where the disk failed: then the word leads to the
-/// record or past it.
+/// It writes the word that led to the record, and nothing into the record. `Io` where the disk failed: then the word
+/// leads to the record or past it.
 pub fn purge<S: Space>(s: &mut S, p: Place) -> Result<Hand, Io>
     requires within { StandsWithin p (S.size s.old) }
     requires dead { p.rec.magic ≡ USED → ⊥ }

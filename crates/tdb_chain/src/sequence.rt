@@ -19,8 +19,8 @@ const SEQUENCE: u64 = 48;
 
 /// Raises the sequence number by one; behind the greatest number of 32 bits comes 0. Nothing else changes.
 ///
-/// It reads and writes one word, where the file reaches so far. `Io` where the disk failed: then the number is the old or the new
-/// one.
+/// It reads and writes one word, where the file reaches so far. `Io` where the disk failed: then the number is the old
+/// or the new one.
 pub fn raise_seq<S: Space>(s: &mut S) -> Result<(), Io>
     requires room { RoomForAll (S.spare s.old) 1 4 }
     ensures raised { OnOk result (IsTrue S.tells → 52 ≤ S.size s.old

@@ -20,8 +20,8 @@ use tdb_words::{Rec, USED, chain_of, hash_of};
 /// How many bytes are read of a record at once.
 const WINDOW: usize = 512;
 
-/// Whether a record can stand at an offset of a file of this length, where its header can, and has room for what it holds where it
-/// is used.
+/// Whether a record can stand at an offset of a file of this length, where its header can, and has room for what it
+/// holds where it is used.
 fn lies_within(rec: &Rec, at: u32, len: u64) -> bool
     ensures { MatchBool result (LiesWithin rec.now at len) (LiesWithin rec.now at len → ⊥) }
 {
@@ -36,8 +36,8 @@ struct Front {
     rec: Rec,
 }
 
-/// Reads the first bytes of the record at an offset: its header, and a key of so many bytes as far as it fits into the window and
-/// the file reaches.
+/// Reads the first bytes of the record at an offset: its header, and a key of so many bytes as far as it fits into the
+/// window and the file reaches.
 fn read_front<S: Space>(
     s: &mut S,
     len: u64,
@@ -63,8 +63,8 @@ fn read_front<S: Space>(
     Ok(Front { held, rec })
 }
 
-/// Whether the record at an offset, whose first bytes were read, is a used one with this hash and this key. The key is compared
-/// only where the header has its hash and its length, and read only where it isn't among those bytes.
+/// Whether the record at an offset, whose first bytes were read, is a used one with this hash and this key. The key is
+/// compared only where the header has its hash and its length, and read only where it isn't among those bytes.
 fn is_wanted<S: Space>(
     s: &mut S,
     rec: &Rec,
@@ -94,12 +94,13 @@ fn is_wanted<S: Space>(
 
 /// The one used record with this key, if there is one, and the word that leads to it.
 ///
-/// It reads the head of the key's chain, and each record up to that one in one read: the header, and the key as far as both are at
-/// most 512 bytes. A longer key is read in pieces, only where the record has its hash and its length. Where the file's bytes aren't
-/// those of an accepted file, these end the chain as a 0 does: a word that leads in front of the data, to no whole word, or to fewer
-/// than 24 bytes of the file, a record that isn't of whole words, has no room for its tailer or doesn't end within the file, and a
-/// used one without room for what it holds. A chain also ends after as many records as the file has words. So it answers a place
-/// that can be used in a file of this length, or none, or `Io` where the disk failed, whatever the bytes are.
+/// It reads the head of the key's chain, and each record up to that one in one read: the header, and the key as far as
+/// both are at most 512 bytes. A longer key is read in pieces, only where the record has its hash and its length. Where
+/// the file's bytes aren't those of an accepted file, these end the chain as a 0 does: a word that leads in front of
+/// the data, to no whole word, or to fewer than 24 bytes of the file, a record that isn't of whole words, has no room
+/// for its tailer or doesn't end within the file, and a used one without room for what it holds. A chain also ends
+/// after as many records as the file has words. So it answers a place that can be used in a file of this length, or
+/// none, or `Io` where the disk failed, whatever the bytes are.
 pub fn find<S: Space>(s: &mut S, key: &[u8]) -> Result<Option<Place>, Io>
     requires short { length key.now < 2 ^ 32 }
     requires chains { 0 < (S.form s.old).chains }

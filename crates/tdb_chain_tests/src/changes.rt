@@ -253,8 +253,8 @@ fn writes_just_the_words_of_a_change(rt: HostRuntime) -> Result<(), Fail> {
     Ok(())
 }
 
-// Where a write fails, what was written before it stands, and the rest is as it was: the value of an update, the record that was led
-// past, and the new record to which no head leads yet.
+// Where a write fails, what was written before it stands, and the rest is as it was: the value of an update, the record
+// that was led past, and the new record to which no head leads yet.
 #[test]
 fn leaves_what_was_written_before_a_fault(rt: HostRuntime) -> Result<(), Fail> {
     let alloc = rt.alloc();

@@ -118,8 +118,8 @@ fn finds_records_and_their_values(rt: HostRuntime) -> Result<(), Fail> {
     Ok(())
 }
 
-// A head that leads in front of the data, a next word that leads out or back, a record that is too long, and one that has no
-// room for its value.
+// A head that leads in front of the data, a next word that leads out or back, a record that is too long, and one that
+// has no room for its value.
 #[test]
 fn ends_a_chain_at_what_is_no_record(rt: HostRuntime) -> Result<(), Fail> {
     let alloc = rt.alloc();

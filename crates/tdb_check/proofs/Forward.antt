@@ -39,7 +39,8 @@ held_last img buf from held at kept back is shows =
           held_part img buf from held (held - kept) kept (omega (arith, is, some)) shows ∙ ap (λ n. take kept (drop n img)) there
     ]
 
--- the front of a window that keeps its last bytes, and those that are read behind them, show what stands from a later offset on
+-- the front of a window that keeps its last bytes, and those that are read behind them, show what stands from a later
+-- offset on
 pub forward_shows : (img old kept_bytes piece post new : List ℕ) (from held at kept to : ℕ) → from ≤ at → held ≤ length old → kept ≡ (from + held) - at → kept + length piece ≡ to
     → kept_bytes ≡ copy_within old (held - kept) held 0 → piece ≡ take (length piece) (drop (at + kept) img) → take held old ≡ take held (drop from img)
     → new ≡ take kept kept_bytes ++ (piece ++ post) → take to new ≡ take to (drop at img)

@@ -73,8 +73,8 @@ count_parts p start from to low high =
     ∙ sum_by-append (λ i. cond (p i) 1 0) (range_with_len start (from - start)) (range_with_len (start + (from - start)) (to - from))
     ∙ ap (λ k. count_by p (range_with_len start (from - start)) + count_by p (range_with_len k (to - from))) there
 
--- The bytes below an offset were looked at, and the first i extents gone through: what none holds there is counted, and is 0 or
--- padding, and these extents hold nothing further on.
+-- The bytes below an offset were looked at, and the first i extents gone through: what none holds there is counted, and
+-- is 0 or padding, and these extents hold nothing further on.
 pub record Scanned (xs : List Extent) (img : List ℕ) (start i from dead : ℕ) : Type 0 where
   pub clean : (j : ℕ) → start ≤ j → j < from → times (extents_seen xs) j ≡ 0 → is_content (slice_index img j) ≡ false
   pub ahead : (j : ℕ) → from ≤ j → j < length img → times (extents_seen (take i xs)) j ≡ 0

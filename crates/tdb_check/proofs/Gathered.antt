@@ -1,5 +1,5 @@
--- A file whose records stand one after the other, each in the runs of its list, where these are the lists of the file, and no key comes
--- twice: it is accepted, and its records are counted.
+-- A file whose records stand one after the other, each in the runs of its list, where these are the lists of the file,
+-- and no key comes twice: it is accepted, and its records are counted.
 use Rattle.std.proofs.Common.{◌≡◌, ℕ, zero, suc, ◌+◌, ◌-◌, ◌<◌, ◌≤◌, Bool, false, List, [], ◌∷◌, ◌++◌, length, cond, count_by, length-append, refl, sym, ◌∙◌, ap, subst, inl, inr, arith}
 use Rattle.std.specs.Prelude.{◌==◌, sum_by, slice_index_or}
 use Rattle.std.specs.List.{AllByRecursion, range_with_len}

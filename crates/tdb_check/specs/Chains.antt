@@ -8,9 +8,9 @@ use Rattle.tdb_space.specs.FirstFault.{Fault, chain_number, Sound, FirstInList}
 use Rattle.tdb_check.specs.declared.extent.Extent.{Extent}
 use Rattle.tdb_check.specs.Extent.{extents_seen}
 
--- Extents that were put down show which bytes are held. They are the extents that hold them, each as often as it stands in a
--- list; only of a part that two lists share it may be that not each was put down again. Then a byte, no further on than each that
--- is held more often, is held twice among those put down.
+-- Extents that were put down show which bytes are held. They are the extents that hold them, each as often as it stands
+-- in a list; only of a part that two lists share it may be that not each was put down again. Then a byte, no further on
+-- than each that is held more often, is held twice among those put down.
 pub record Shows (seen held : List Held) : Type 0 where
   pub no_more : (i : ℕ) → times seen i ≤ times held i
   pub twice : (i : ℕ) → times seen i ≢ times held i → (k : ℕ) × (k ≤ i) × (2 ≤ times seen k)
@@ -26,7 +26,8 @@ pub record ChainsFollowed (f : Form) (img : List ℕ) (old new : List Extent) (l
   pub shows : Shows (extents_seen new) (extents_seen old ++ chain_extents f img)
   pub used : live ≡ length (order_of f img)
 
--- the first n chains are sound, the extents of their records were put behind those before, and so many of the records are used
+-- the first n chains are sound, the extents of their records were put behind those before, and so many of the records
+-- are used
 pub record ChainsTo (f : Form) (img : List ℕ) (n : ℕ) (old new : List Extent) (live : ℕ) : Type 0 where
   pub sound : (j : ℕ) → j < n → Sound f (chain_number j) img (chain_head j)
   pub shows : Shows (extents_seen new) (extents_seen old ++ joined n (λ j. extents f.order img (chain_of f img j)))

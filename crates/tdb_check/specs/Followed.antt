@@ -15,8 +15,8 @@ abbrev pub FollowedTo : Form → ListKind → List ℕ → ℕ → List Extent �
 FollowedTo f kind img head old new =
     (xs : List ℕ) × (last : ℕ) × Passed f kind img [] head xs last × (word f.order img last ≡ 0) × (extents_seen new ≡ extents_seen old ++ extents f.order img xs)
 
--- Chain j is sound, and so many of its records are used. Where the extents that were there show which bytes some others hold, the
--- new ones show which bytes those and the chain's records hold.
+-- Chain j is sound, and so many of its records are used. Where the extents that were there show which bytes some others
+-- hold, the new ones show which bytes those and the chain's records hold.
 pub record ChainFollowed (f : Form) (j : ℕ) (img : List ℕ) (old new : List Extent) (live : ℕ) : Type 0 where
   pub sound : Sound f (chain_number j) img (chain_head j)
   pub shows : (held : List Held) → Shows (extents_seen old) held → Shows (extents_seen new) (held ++ extents f.order img (chain_of f img j))

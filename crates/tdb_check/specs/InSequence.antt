@@ -1,5 +1,5 @@
--- Files whose records stand one after the other from the heads to the end, and what is known of their lists while the records are met
--- in this order.
+-- Files whose records stand one after the other from the heads to the end, and what is known of their lists while the
+-- records are met in this order.
 use Rattle.std.specs.Prelude.{◌≡◌, ℕ, ◌+◌, ◌<◌, ◌≤◌, false, List, [], ◌∷◌, ◌++◌, length, take, drop, sum_by, slice_index_or}
 use Rattle.tdb_words.specs.declared.record.TheConstants.{USED, FREE}
 use Rattle.tdb_words.specs.Word.{word}
@@ -46,8 +46,8 @@ abbrev pub LeadsFrom : Form → Kind → List ℕ → ℕ → List ℕ → ℕ �
 LeadsFrom f kind img at [] to = at ≡ to
 LeadsFrom f kind img at (x ∷ xs) to = (at ≡ x) × Whole f img x × IsOf kind (magic_of f.order img x) × LeadsFrom f kind img (next_of f.order img x) xs to
 
--- Records of one list in runs: those of the run at hand follow one another from its start, and those of the runs before it follow one
--- another to the end of the list.
+-- Records of one list in runs: those of the run at hand follow one another from its start, and those of the runs before
+-- it follow one another to the end of the list.
 pub record Gathered (f : Form) (kind : Kind) (img xs : List ℕ) (r : Runs) : Type 0 where
   pub latest : List ℕ
   pub earlier : List ℕ
@@ -72,8 +72,8 @@ pub record GatheredWith (f : Form) (kind : Kind) (img xs : List ℕ) (at : ℕ) 
 abbrev pub AreListOf : Runs → ℕ → Type 0
 AreListOf r head = (r.start ≡ head) × (r.next ≡ r.before)
 
--- Each of these records was put into the runs of its list, and they are counted. That a record is in one list, once, is said by sums:
--- whatever each weighs, the lists weigh as much as the records.
+-- Each of these records was put into the runs of its list, and they are counted. That a record is in one list, once, is
+-- said by sums: whatever each weighs, the lists weigh as much as the records.
 pub record Met (f : Form) (img xs : List ℕ) (g : Gathering) : Type 0 where
   pub chain : ℕ → List ℕ
   pub free : List ℕ
@@ -102,14 +102,15 @@ reach_of w = w.from + w.held
 abbrev pub IsWindowOn : List ℕ → Window → Type 0
 IsWindowOn img w = take w.held w.bytes.items ≡ take w.held (drop w.from img)
 
--- the key of a used record is whole in the bytes that begin with it; this is its mark, and by its hash it is filed in this list
+-- the key of a used record is whole in the bytes that begin with it; this is its mark, and by its hash it is filed in
+-- this list
 pub record HasKeyIn (filing : Filing) (bytes : List ℕ) (member : Member) : Type 0 where
   pub within : 24 + member.found.header.key_len ≤ length bytes
   pub mark : member.found.mark ≡ h_jenkins (take member.found.header.key_len (drop 24 bytes))
   pub filed : is_misfiled_header (kind_of member.list) member.found.header (h_of filing.hash (take member.found.header.key_len (drop 24 bytes))) filing.chains ≡ false
 
--- by the bytes that begin with a record at an offset of a file of this length: its header is this one and isn't bad, it belongs to this
--- list, and where it is used its key is whole in the bytes, has this mark and is filed there
+-- by the bytes that begin with a record at an offset of a file of this length: its header is this one and isn't bad, it
+-- belongs to this list, and where it is used its key is whole in the bytes, has this mark and is filed there
 pub record IsMemberIn (filing : Filing) (bytes : List ℕ) (at len : ℕ) (member : Member) : Type 0 where
   pub header : member.found.header ≡ rec_at filing.order bytes 0
   pub among : IsAmong filing.chains member.list

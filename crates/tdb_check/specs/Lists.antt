@@ -21,8 +21,8 @@ listed_extents f img = chain_extents f img ++ extents f.order img (free_of f img
 abbrev pub AllChainsSound : Form → List ℕ → Type 0
 AllChainsSound f img = (j : ℕ) → j < f.chains → Sound f (chain_number j) img (chain_head j)
 
--- Each chain and the free list are sound, the extents of their records were put down, and their records are counted; the dead
--- ones where no two of the extents share a byte.
+-- Each chain and the free list are sound, the extents of their records were put down, and their records are counted;
+-- the dead ones where no two of the extents share a byte.
 pub record ListsFollowed (f : Form) (img : List ℕ) (l : Listed) : Type 0 where
   pub chains : AllChainsSound f img
   pub frees : Sound f free_list img free_head

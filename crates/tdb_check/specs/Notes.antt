@@ -36,15 +36,15 @@ pub record NotesOf (f : Form) (img xs : List ℕ) (notes : Notes) : Type 0 where
   pub keys : KeptIn f img xs notes.keys
   pub dead : DeadEnd f img xs notes.dead.items
 
--- after these records of a chain, the one that the word at a place leads to has no fault but maybe a twin; it has this header, and
--- is noted
+-- after these records of a chain, the one that the word at a place leads to has no fault but maybe a twin; it has this
+-- header, and is noted
 pub record RecordPassed (f : Form) (j : ℕ) (img xs : List ℕ) (place at : ℕ) (r : Rec) (notes : Notes) : Type 0 where
   pub sound : fault_but_twin f (chain_number j) img xs place at ≡ None
   pub header : r ≡ rec_at f.order img at
   pub noted : NotesOf f img (xs ++ at ∷ []) notes
 
--- Records of chain j were walked along up to this place, whose word leads to this offset, and noted. Their extents were put behind
--- those before, and so many of them are used.
+-- Records of chain j were walked along up to this place, whose word leads to this offset, and noted. Their extents were
+-- put behind those before, and so many of them are used.
 pub record Walking (f : Form) (j : ℕ) (img : List ℕ) (notes : Notes) (old new : List Extent) (live place at : ℕ) : Type 0 where
   pub xs : List ℕ
   pub walked : Walked f (chain_number j) img [] (chain_head j) xs place

@@ -26,8 +26,8 @@ abbrev pub shared_by_pairs : List Noted → ℕ
 shared_by_pairs [] = 0
 shared_by_pairs (e ∷ es) = sum_by (shared e) es + shared_by_pairs es
 
--- To find out whether two noted records have one key. Where few have one mark, each key is read 14 times at most; else once for
--- its digest, and both keys of each two that have one length and one first word of their digests.
+-- To find out whether two noted records have one key. Where few have one mark, each key is read 14 times at most; else
+-- once for its digest, and both keys of each two that have one length and one first word of their digests.
 abbrev pub twin_reads : Form → List ℕ → List Noted → ℕ
 twin_reads f img es = 15 * key_bytes es + 2 * shared_by_pairs (map (digested f img) es)
 
@@ -43,12 +43,13 @@ chains_reads rounds f img first count = sum_by (chain_reads rounds f img) (range
 abbrev pub lists_reads : ℕ → Form → List ℕ → ℕ
 lists_reads rounds f img = 4 * f.chains + chains_reads rounds f img 0 f.chains + (4 + sum_by (record_reads f img) (free_of f img))
 
--- of a look through a file in the order of its records: each byte behind the header once, and each used key 14 times, which is no more
--- than this
+-- of a look through a file in the order of its records: each byte behind the header once, and each used key 14 times,
+-- which is no more than this
 abbrev pub sequence_reads : List ℕ → ℕ
 sequence_reads img = 15 * length img
 
--- of a whole file: 168 bytes of the header, 28 for the undo area, all lists, and no more than its length for what no record holds
+-- of a whole file: 168 bytes of the header, 28 for the undo area, all lists, and no more than its length for what no
+-- record holds
 abbrev pub check_reads : ℕ → Form → List ℕ → ℕ
 check_reads rounds f img = 196 + sequence_reads img + lists_reads rounds f img + length img
 

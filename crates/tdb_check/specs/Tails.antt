@@ -31,8 +31,8 @@ pub record Dead (f : Form) (img : List ℕ) (at : ℕ) : Type 0 where
   pub chained : IsChained (magic_of f.order img at)
   pub unused : magic_of f.order img at ≢ USED
 
--- From an offset dead records follow one another to the end of a chain. This extent is that of the least of their offsets, and was
--- put down.
+-- From an offset dead records follow one another to the end of a chain. This extent is that of the least of their
+-- offsets, and was put down.
 pub record KnownTail (f : Form) (img : List ℕ) (seen : List Held) (at : ℕ) (least : Extent) : Type 0 where
   pub xs : List ℕ
   pub linked : Linked f IsChained img at xs

@@ -42,8 +42,8 @@ fn fault_in(at: u32, r: &Rec, len: u64) -> Option<(What, u64)>
     }
 }
 
-/// The undo area of a file of `len` bytes, if it has one, or what is wrong with it. An open gate is a fault here: whatever the
-/// area holds has to be undone first. It reads 28 bytes.
+/// The undo area of a file of `len` bytes, if it has one, or what is wrong with it. An open gate is a fault here:
+/// whatever the area holds has to be undone first. It reads 28 bytes.
 pub fn read_area<S: Space>(s: &mut S, len: u64) -> Result<Option<Extent>, CheckRefusal>
     requires length { len ≡ S.size s.old }
     requires heads { data_start (S.form s.old) ≤ len }

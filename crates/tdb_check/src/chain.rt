@@ -86,9 +86,9 @@ fn note_dead(dead: &mut Vec<Extent>, at: u32, r: &Rec) -> Result<(), AllocError>
     )
 }
 
-/// The header of the record that the word at a place leads to, in chain `j` after the records that are noted; it is noted too. Or
-/// what is first wrong there: the word leads out of the file or back into the chain, or the record is bad by itself. Whether an
-/// earlier one has its key isn't looked for.
+/// The header of the record that the word at a place leads to, in chain `j` after the records that are noted; it is
+/// noted too. Or what is first wrong there: the word leads out of the file or back into the chain, or the record is bad
+/// by itself. Whether an earlier one has its key isn't looked for.
 fn pass_record<S: Space>(
     s: &mut S,
     len: u64,
@@ -162,8 +162,8 @@ pub struct Walk {
     pub end: End,
 }
 
-/// Walks along chain `j` from the first word that its head holds, puts the extents of its records behind those that are there, and
-/// notes the records. Whether two of them have one key isn't looked for.
+/// Walks along chain `j` from the first word that its head holds, puts the extents of its records behind those that are
+/// there, and notes the records. Whether two of them have one key isn't looked for.
 fn walk_chain<S: Space>(
     s: &mut S,
     len: u64,
@@ -233,9 +233,9 @@ fn walk_chain<S: Space>(
     })
 }
 
-/// Follows chain `j` from the first word that its head holds to its end, and puts the extents of its records behind those that are
-/// there. Answers how many of the records are used, or what is first wrong with the chain. Where the rest of it is known, as the
-/// end of an earlier chain, only the least extent of the rest is put down, once more.
+/// Follows chain `j` from the first word that its head holds to its end, and puts the extents of its records behind
+/// those that are there. Answers how many of the records are used, or what is first wrong with the chain. Where the
+/// rest of it is known, as the end of an earlier chain, only the least extent of the rest is put down, once more.
 pub fn follow_chain<S: Space>(
     s: &mut S,
     len: u64,

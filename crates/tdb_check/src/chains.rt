@@ -22,8 +22,9 @@ use tdb_words::word_in;
 /// How many heads are read at once.
 const HEADS: u32 = 1024;
 
-/// Follows the chains whose heads are the words of a block, from number `first` on, puts the extents of their records behind those
-/// that are there, and answers how many of the records are used; or answers what is first wrong with one of the chains.
+/// Follows the chains whose heads are the words of a block, from number `first` on, puts the extents of their records
+/// behind those that are there, and answers how many of the records are used; or answers what is first wrong with one
+/// of the chains.
 fn follow_block<S: Space>(
     s: &mut S,
     len: u64,
@@ -68,12 +69,13 @@ fn follow_block<S: Space>(
     Ok(live)
 }
 
-/// Follows chains 0, 1, 2 and so on to their ends, puts the extents of their records behind those that are there, and answers how
-/// many of the records are used; or answers what is first wrong with a chain. Where a chain leads to dead records at the end of an
-/// earlier one, only the least of their extents is put down once more. The heads are read 4096 bytes at a time; a head of 0 costs
-/// nothing more. Of each record an extent of 8 bytes is kept, of the longest chain its offsets and 24 bytes a used record besides,
-/// and an extent for each dead record behind the last used one of its chain. For n records in all it takes n log n steps, whatever
-/// the chains share. Keys are read again only where two of a chain may have one hash and one length, and none is kept.
+/// Follows chains 0, 1, 2 and so on to their ends, puts the extents of their records behind those that are there, and
+/// answers how many of the records are used; or answers what is first wrong with a chain. Where a chain leads to dead
+/// records at the end of an earlier one, only the least of their extents is put down once more. The heads are read 4096
+/// bytes at a time; a head of 0 costs nothing more. Of each record an extent of 8 bytes is kept, of the longest chain
+/// its offsets and 24 bytes a used record besides, and an extent for each dead record behind the last used one of its
+/// chain. For n records in all it takes n log n steps, whatever the chains share. Keys are read again only where two of
+/// a chain may have one hash and one length, and none is kept.
 pub fn follow_chains<S: Space>(
     alloc: Global,
     s: &mut S,

@@ -21,8 +21,8 @@ use std::alloc::Global;
 use tdb_space::Space;
 use tdb_words::{What, word_at};
 
-/// Follows the free list to its end, and puts the extents of its records behind those that are there; or answers what is first
-/// wrong with it.
+/// Follows the free list to its end, and puts the extents of its records behind those that are there; or answers what
+/// is first wrong with it.
 pub fn follow_free_list<S: Space>(
     alloc: Global,
     s: &mut S,

@@ -40,7 +40,8 @@ impl From<DiskFault> for FrontRefusal {
     }
 }
 
-/// The offset at which the records begin in a file of so many chains, behind the head of the free list and those of the chains.
+/// The offset at which the records begin in a file of so many chains, behind the head of the free list and those of the
+/// chains.
 pub(crate) fn records_start(chains: u32) -> u64
     ensures { result ≡ 168 + 4 * (chains + 1) }
 {
@@ -54,8 +55,9 @@ pub(crate) fn is_short(len: u64, chains: u32) -> bool
     len % 4 != 0 || len < records_start(chains)
 }
 
-/// What the header of a file says, or what is wrong with its front: the first of too few bytes for a header, a fault of the
-/// header, and a length that is no multiple of 4 or ends before the records begin. It reads 168 bytes and writes nothing.
+/// What the header of a file says, or what is wrong with its front: the first of too few bytes for a header, a fault of
+/// the header, and a length that is no multiple of 4 or ends before the records begin. It reads 168 bytes and writes
+/// nothing.
 pub fn read_front<D: Disk>(d: &mut D) -> Result<Header, FrontRefusal>
     ensures sound { IfOk result (λ h. IsTrue D.tells → (front_fault (seen (D.history d.old)) ≡ None) × (h ≡ header_at (seen (D.history d.old)))) }
     ensures chains { IfOk result (λ h. 0 < h.hash_size) }

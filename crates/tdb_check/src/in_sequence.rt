@@ -37,8 +37,8 @@ fn place_in(at: u64, len: u64) -> Option<u32>
     u32::try_from(at).ok()
 }
 
-/// Goes through all records of a file of `len` bytes in the order in which they stand, puts each into its list, and notes its key.
-/// False where they leave a gap, or one is bad or has no place in its list.
+/// Goes through all records of a file of `len` bytes in the order in which they stand, puts each into its list, and
+/// notes its key. False where they leave a gap, or one is bad or has no place in its list.
 fn gather<S: Space>(
     alloc: Global,
     s: &mut S,
@@ -80,9 +80,9 @@ fn gather<S: Space>(
     Ok(true)
 }
 
-/// The report of a file of `len` bytes without an undo area, where its records stand one after the other, from the heads to the end,
-/// in such an order that each list is one of runs, and no two keys are the same. None of any other file, and of one where more than
-/// eight keys have one Jenkins hash.
+/// The report of a file of `len` bytes without an undo area, where its records stand one after the other, from the
+/// heads to the end, in such an order that each list is one of runs, and no two keys are the same. None of any other
+/// file, and of one where more than eight keys have one Jenkins hash.
 pub(crate) fn check_in_sequence<S: Space>(
     alloc: Global,
     s: &mut S,

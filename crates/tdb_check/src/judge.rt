@@ -15,9 +15,9 @@ use crate::stray::scan;
 use tdb_space::Space;
 use tdb_words::What;
 
-/// How many bytes lie in none of the extents of a file of `len` bytes, from where its records begin; or what is first wrong with
-/// the extents: the least byte that two of them share, or else the least byte outside them that is neither 0 nor padding. It
-/// puts them into the order of their offsets.
+/// How many bytes lie in none of the extents of a file of `len` bytes, from where its records begin; or what is first
+/// wrong with the extents: the least byte that two of them share, or else the least byte outside them that is neither 0
+/// nor padding. It puts them into the order of their offsets.
 pub(crate) fn judge_extents<S: Space>(
     s: &mut S,
     len: u64,

@@ -32,8 +32,8 @@ pub struct Noted {
     pub at: u32,
 }
 
-/// The used records of one chain in their order, 12 bytes each, and room for as many in the order of their marks. `clear` keeps
-/// the memory.
+/// The used records of one chain in their order, 12 bytes each, and room for as many in the order of their marks.
+/// `clear` keeps the memory.
 #[derive(Drop)]
 pub struct Keys {
     noted: Vec<Noted>,
@@ -75,10 +75,10 @@ impl Keys {
         Ok(())
     }
 
-    /// The offset of the first record whose key an earlier one has, if there is one. Keys are read only where two have one mark:
-    /// those of one length are compared where at most eight have it, else a digest of each key is made, and those with one digest
-    /// are compared. Where no two keys are the same this is done once, and else once more for each halving of the number of records.
-    /// It takes n log n steps for n records.
+    /// The offset of the first record whose key an earlier one has, if there is one. Keys are read only where two have
+    /// one mark: those of one length are compared where at most eight have it, else a digest of each key is made, and
+    /// those with one digest are compared. Where no two keys are the same this is done once, and else once more for
+    /// each halving of the number of records. It takes n log n steps for n records.
     pub fn first_twin<S: Space>(&mut self, s: &mut S, len: u64) -> Result<Option<u32>, CheckRefusal>
         requires length { len ≡ S.size s.old }
         ensures found { IfOk result (λ twin. IsTrue S.tells → length (S.image s.old) ≡ len → (xs : List ℕ) → KeptIn (S.form s.old) (S.image s.old) xs self.old → TwinFound (S.form s.old) (S.image s.old) xs twin) }
@@ -112,8 +112,8 @@ impl Keys {
         Ok(Some(self.noted[least].at))
     }
 
-    /// Whether no two of the records have the same key; false also where more than eight have one mark. Keys are read only where two
-    /// have one mark. It takes n log n steps for n records and no memory, and leaves no record.
+    /// Whether no two of the records have the same key; false also where more than eight have one mark. Keys are read
+    /// only where two have one mark. It takes n log n steps for n records and no memory, and leaves no record.
     pub fn differ<S: Space>(&mut self, s: &mut S, len: u64) -> Result<bool, CheckRefusal>
         requires length { len ≡ S.size s.old }
         ensures differ { IfOk result (λ differ. IsTrue differ → IsTrue S.tells → length (S.image s.old) ≡ len → (xs : List ℕ) → KeptIn (S.form s.old) (S.image s.old) xs self.old → KeysDiffer (S.form s.old) (S.image s.old) xs) }

@@ -30,8 +30,8 @@ struct Filing {
     chains: u32,
 }
 
-/// The list that a record with this header belongs to, for a used one by the hash in its header; none for one that is neither used nor
-/// free.
+/// The list that a record with this header belongs to, for a used one by the hash in its header; none for one that is
+/// neither used nor free.
 fn list_of(header: &Rec, chains: u32) -> Option<ListKind>
     requires { 0 < chains }
     ensures of { IfSome result (λ list. IsAmong chains list × IsOf (kind_of list) header.now.magic) }
@@ -44,8 +44,8 @@ fn list_of(header: &Rec, chains: u32) -> Option<ListKind>
     }
 }
 
-/// The record at an offset by the bytes that begin with it, in a file of `len` bytes; none where it belongs to no list, is bad or
-/// misfiled, or where its key isn't whole in these bytes. Its tailer isn't looked at.
+/// The record at an offset by the bytes that begin with it, in a file of `len` bytes; none where it belongs to no list,
+/// is bad or misfiled, or where its key isn't whole in these bytes. Its tailer isn't looked at.
 fn member_in(bytes: &[u8], at: u32, len: u64, filing: Filing) -> Option<Member>
     requires chains { 0 < filing.chains }
     requires header { 24 ≤ length bytes.now }
@@ -76,8 +76,9 @@ fn member_in(bytes: &[u8], at: u32, len: u64, filing: Filing) -> Option<Member>
     })
 }
 
-/// The record at an offset and the list that it belongs to; none where it belongs to no list, is bad or misfiled, where its tailer is
-/// wrong, or where the window has no room for its header and key. The window goes forward to the record, or to its tailer.
+/// The record at an offset and the list that it belongs to; none where it belongs to no list, is bad or misfiled, where
+/// its tailer is wrong, or where the window has no room for its header and key. The window goes forward to the record,
+/// or to its tailer.
 pub(crate) fn next_record<S: Space>(
     s: &mut S,
     len: u64,

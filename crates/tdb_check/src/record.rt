@@ -28,7 +28,8 @@ pub struct Found {
     /// Its header.
     pub header: Rec,
 
-    /// Jenkins' hash of the key, where the record is used, whatever the file's own hash is. Of another record it says nothing.
+    /// Jenkins' hash of the key, where the record is used, whatever the file's own hash is. Of another record it says
+    /// nothing.
     pub mark: u32,
 }
 
@@ -45,7 +46,8 @@ pub(crate) fn is_bad(kind: ListKind, r: &Rec, at: u32, len: u64) -> bool
         || (r.magic == USED && rec_len < held)
 }
 
-/// Fills the front of the window with the bytes from an offset on, as far as it and the file reach, and answers how many they are.
+/// Fills the front of the window with the bytes from an offset on, as far as it and the file reach, and answers how
+/// many they are.
 fn fill<S: Space>(s: &mut S, len: u64, at: u32, buf: &mut [u8; 128]) -> Result<usize, Io>
     requires length { len ≡ S.size s.old }
     requires within { at + 24 ≤ len }
@@ -141,8 +143,8 @@ fn is_misfiled(kind: ListKind, r: &Rec, own_hash: u32, chains: u32) -> bool
     }
 }
 
-/// The record at an offset where one can stand, or what is wrong with it by itself. One read serves where header, key and tailer
-/// stand within 128 bytes.
+/// The record at an offset where one can stand, or what is wrong with it by itself. One read serves where header, key
+/// and tailer stand within 128 bytes.
 pub fn read_record<S: Space>(
     s: &mut S,
     len: u64,

@@ -2,8 +2,8 @@
 
 ghost use Rattle.std.specs.Prelude.{◌≡◌, ℕ, List, [], IsTrue};
 
-/// The records of one list that were met in the order of the file, in runs. In a run each record leads to the one that is met next.
-/// The last of a run leads to the first of the run before it, and that of the first run to none.
+/// The records of one list that were met in the order of the file, in runs. In a run each record leads to the one that
+/// is met next. The last of a run leads to the first of the run before it, and that of the first run to none.
 #[derive(Clone, Copy, Debug)]
 pub(crate) struct Runs {
     /// Where the latest run begins; 0 where no record was met.
@@ -34,8 +34,8 @@ impl Runs {
         }
     }
 
-    /// Puts the record at an offset behind the last one, where that leads to it; or before all others, as a new run, where the run at
-    /// hand leads to the one before. False where neither is so: then the list isn't one of runs.
+    /// Puts the record at an offset behind the last one, where that leads to it; or before all others, as a new run,
+    /// where the run at hand leads to the one before. False where neither is so: then the list isn't one of runs.
     pub fn take(&mut self, at: u32, next: u32) -> bool
         ensures { IsTrue result → (f : Form) (kind : Kind) (img xs : List ℕ) → Gathered f kind img xs self.old → StandsIn f kind img at → next ≡ next_of f.order img at
             → GatheredWith f kind img xs at self.new }

@@ -17,8 +17,8 @@ use tdb_words::{Order, What, word_in};
 /// How many bytes of two keys are compared at once.
 const PIECE: usize = 4096;
 
-/// Whether two records have the same key. Where the keys have one length, they are read in pieces of 4096 bytes, up to the first
-/// that differs. A key that passes the end of the file makes its record bad.
+/// Whether two records have the same key. Where the keys have one length, they are read in pieces of 4096 bytes, up to
+/// the first that differs. A key that passes the end of the file makes its record bad.
 pub fn same_key<S: Space>(s: &mut S, len: u64, a: &Noted, b: &Noted) -> Result<bool, CheckRefusal>
     requires length { len ≡ S.size s.old }
     ensures same { IfOk result (λ same. IsTrue S.tells → (mark : List ℕ → ℕ) → IsNoted mark (S.form s.old) (S.image s.old) a.now → IsNoted mark (S.form s.old) (S.image s.old) b.now
@@ -75,8 +75,8 @@ fn same_bytes<S: Space>(s: &mut S, first: u64, second: u64, count: u64) -> Resul
     Ok(true)
 }
 
-/// The first word of the SHA-256 digest of a record's key, which is read in pieces of 4096 bytes. A key that passes the end of the
-/// file makes its record bad.
+/// The first word of the SHA-256 digest of a record's key, which is read in pieces of 4096 bytes. A key that passes the
+/// end of the file makes its record bad.
 pub fn key_digest<S: Space>(s: &mut S, len: u64, record: &Noted) -> Result<u32, CheckRefusal>
     requires length { len ≡ S.size s.old }
     ensures mark { IfOk result (λ mark. IsTrue S.tells → (other : List ℕ → ℕ) → IsNoted other (S.form s.old) (S.image s.old) record.now

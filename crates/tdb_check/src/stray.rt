@@ -27,7 +27,8 @@ fn first_content(bytes: &[u8]) -> Option<usize>
     bytes.iter().position(|byte| *byte != 0 && *byte != PADDING)
 }
 
-/// Whether each byte from one offset up to another is 0 or padding; the least that isn't is stray. A block serves for the reads.
+/// Whether each byte from one offset up to another is 0 or padding; the least that isn't is stray. A block serves for
+/// the reads.
 fn scan_gap<S: Space>(
     s: &mut S,
     from: u64,
@@ -57,9 +58,9 @@ fn scan_gap<S: Space>(
     Ok(())
 }
 
-/// Looks through the bytes from where the records begin up to the end of the file, of `len` bytes, that lie in none of these
-/// extents: how many they are, or the least of them that is neither 0 nor padding. The extents stand in the order of their
-/// offsets. Where they leave no gap, nothing is read, and a short gap costs one read.
+/// Looks through the bytes from where the records begin up to the end of the file, of `len` bytes, that lie in none of
+/// these extents: how many they are, or the least of them that is neither 0 nor padding. The extents stand in the order
+/// of their offsets. Where they leave no gap, nothing is read, and a short gap costs one read.
 pub fn scan<S: Space>(s: &mut S, len: u64, extents: &[Extent]) -> Result<u64, CheckRefusal>
     requires length { len ≡ S.size s.old }
     requires heads { data_start (S.form s.old) ≤ len }

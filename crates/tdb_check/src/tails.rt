@@ -7,8 +7,8 @@ use crate::extent::Extent;
 use std::alloc::{AllocError, Global};
 use std::collections::BTreeMap;
 
-/// The dead records behind the last used ones of chains: of each, by its offset, the extent of the least offset from there to the
-/// end of its chain. In a file without a fault no later chain leads to one of them.
+/// The dead records behind the last used ones of chains: of each, by its offset, the extent of the least offset from
+/// there to the end of its chain. In a file without a fault no later chain leads to one of them.
 #[derive(Drop)]
 pub struct Tails {
     least: BTreeMap<u32, Extent>,
@@ -35,8 +35,8 @@ impl Tails {
         self.least.get(&at).copied()
     }
 
-    /// Keeps the dead records that a chain ends in, as far as they were followed; `rest` is the least extent of those behind them,
-    /// where there are some. It takes `n log n` steps, and leaves no record in the list.
+    /// Keeps the dead records that a chain ends in, as far as they were followed; `rest` is the least extent of those
+    /// behind them, where there are some. It takes `n log n` steps, and leaves no record in the list.
     pub fn keep(&mut self, dead: &mut Vec<Extent>, rest: Option<Extent>) -> Result<(), AllocError>
         ensures tails { OnOk result ((f : Form) (img : List ℕ) (seen : List Held) → Closing f img seen self.old dead.old.items rest → TailsOf f img seen self.new) }
         ensures kept { OnOk result (AllKept self.new dead.old.items) }

@@ -9,8 +9,8 @@ use std::collections::BTreeSet;
 /// How many offsets stand in the vector, before the others go to the set.
 const NEAR: usize = 16;
 
-/// The offsets that were met in one list, among `n` of which one is looked up in log n steps. The first 16 stand in a vector
-/// that `clear` keeps, so short lists that are followed one after the other take memory once.
+/// The offsets that were met in one list, among `n` of which one is looked up in log n steps. The first 16 stand in a
+/// vector that `clear` keeps, so short lists that are followed one after the other take memory once.
 #[derive(Drop)]
 pub struct Trail {
     near: Vec<u32>,

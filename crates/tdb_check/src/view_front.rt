@@ -14,9 +14,9 @@ use crate::refusal::CheckRefusal;
 use tdb_space::Space;
 use tdb_words::{What, header_of};
 
-/// The length of the file in bytes, where its front has no fault; else the first of too few bytes for a header, a fault of the
-/// header, and a length that is no multiple of 4 or ends before the records of the view begin. A view without a chain has no header
-/// of a file. It reads 168 bytes.
+/// The length of the file in bytes, where its front has no fault; else the first of too few bytes for a header, a fault
+/// of the header, and a length that is no multiple of 4 or ends before the records of the view begin. A view without a
+/// chain has no header of a file. It reads 168 bytes.
 pub fn check_front<S: Space>(s: &mut S) -> Result<u64, CheckRefusal>
     ensures sound { IfOk result (λ len. IsTrue S.tells → IsFormOf (S.form s.old) (S.image s.old)
         → (front_fault (S.image s.old) ≡ None) × (S.form s.old ≡ form_of (S.image s.old))) }

@@ -24,11 +24,12 @@ use crate::view_front::check_front;
 use std::alloc::Global;
 use tdb_space::Space;
 
-/// How many bytes a file has at least for each chain, where it is read from its front: the list of chains takes 12 bytes for each.
+/// How many bytes a file has at least for each chain, where it is read from its front: the list of chains takes 12
+/// bytes for each.
 const BYTES_A_CHAIN: u64 = 64;
 
-/// The report of a file of `len` bytes with this undo area, where it has none, no more than one chain for each 64 bytes, and the order
-/// of its records tells it.
+/// The report of a file of `len` bytes with this undo area, where it has none, no more than one chain for each 64
+/// bytes, and the order of its records tells it.
 fn report_in_sequence<S: Space>(
     alloc: Global,
     s: &mut S,
@@ -51,28 +52,30 @@ fn report_in_sequence<S: Space>(
     check_in_sequence(alloc, s, len)
 }
 
-/// Checks a file: it answers what it counted where the file is accepted, and else the file's first fault and its place. The
-/// condition on told bytes is that the view has the form that the file's header states.
+/// Checks a file: it answers what it counted where the file is accepted, and else the file's first fault and its place.
+/// The condition on told bytes is that the view has the form that the file's header states.
 ///
-/// The faults come in this order: the front, the undo area, chain 0 and the next chains, the free list, the least byte that is
-/// held twice, and the least byte outside all records and the undo area that is neither 0 nor padding.
+/// The faults come in this order: the front, the undo area, chain 0 and the next chains, the free list, the least byte
+/// that is held twice, and the least byte outside all records and the undo area that is neither 0 nor padding.
 ///
-/// A file without an undo area is first read once from its front, in pieces of 128 KiB, as long as no record is dead, none leaves a
-/// gap, and each continues its list, or begins it anew in front of what was met of it. Where that holds to the end, as in a file to
-/// which pairs were only added, and no two keys are the same, all is known. Else the lists are walked along.
+/// A file without an undo area is first read once from its front, in pieces of 128 KiB, as long as no record is dead,
+/// none leaves a gap, and each continues its list, or begins it anew in front of what was met of it. Where that holds
+/// to the end, as in a file to which pairs were only added, and no two keys are the same, all is known. Else the lists
+/// are walked along.
 ///
-/// It takes time n log n in the number n of records. In a walk a record costs one read where its header, key and tailer stand within
-/// 128 bytes; bytes that belong to no record are read in blocks of 4096. Keys are read again only where two of a chain, or in the first
-/// pass two of the file, have one Jenkins hash, whatever the file's own hash is. The first pass keeps 12 bytes a chain and 12 a used
-/// record, and forgets them before a walk. That keeps 8 bytes a record, and somewhat more for each record of the list that it follows,
-/// whatever its keys are. It changes nothing.
+/// It takes time n log n in the number n of records. In a walk a record costs one read where its header, key and tailer
+/// stand within 128 bytes; bytes that belong to no record are read in blocks of 4096. Keys are read again only where
+/// two of a chain, or in the first pass two of the file, have one Jenkins hash, whatever the file's own hash is. The
+/// first pass keeps 12 bytes a chain and 12 a used record, and forgets them before a walk. That keeps 8 bytes a record,
+/// and somewhat more for each record of the list that it follows, whatever its keys are. It changes nothing.
 ///
-/// Of a file that it accepts it reads at most 15 times its length from the front; and in a walk 200 bytes, 4 a chain, 132 a record,
-/// each used key 16 times, the length of the file once, and both keys of each two of one chain that have one length and one first
-/// word of their digests. Where a key comes twice it may look through the keys of a chain 65 times to find the first that does.
+/// Of a file that it accepts it reads at most 15 times its length from the front; and in a walk 200 bytes, 4 a chain,
+/// 132 a record, each used key 16 times, the length of the file once, and both keys of each two of one chain that have
+/// one length and one first word of their digests. Where a key comes twice it may look through the keys of a chain 65
+/// times to find the first that does.
 ///
-/// It ends whatever the bytes are, also where they change while it reads; then the answer tells what stood at each place when
-/// that was read. `Io` says that the disk failed, and `Memory` that an allocation did.
+/// It ends whatever the bytes are, also where they change while it reads; then the answer tells what stood at each
+/// place when that was read. `Io` says that the disk failed, and `Memory` that an allocation did.
 pub fn check<S: Space>(alloc: Global, s: &mut S) -> Result<Report, CheckRefusal>
     ensures accepted { IfOk result (λ r. IsTrue S.tells → IsFormOf (S.form s.old) (S.image s.old) → Accept (S.image s.old) × Counted (S.image s.old) r) }
     ensures first_fault { IfErr result (λ e. IsTrue S.tells → IsFormOf (S.form s.old) (S.image s.old) → Names e (IsFirstFault (S.image s.old))) }

@@ -9,8 +9,8 @@ use std::alloc::{AllocError, Global};
 use tdb_space::{Io, Space};
 use tdb_words::{Order, word_in};
 
-/// A piece of a file, which goes forward through the file, so that each byte is read once at most. It has room for a record's header
-/// at least.
+/// A piece of a file, which goes forward through the file, so that each byte is read once at most. It has room for a
+/// record's header at least.
 #[derive(Drop)]
 pub(crate) struct Window {
     bytes: Vec<u8>,
@@ -96,8 +96,8 @@ impl Window {
         Ok(word_in(self.bytes_from(at), 0, s.order()))
     }
 
-    /// Makes the window begin at an offset that isn't before its first byte, and holds what follows, as far as it has room and up to the
-    /// end of the file. What is held already isn't read again.
+    /// Makes the window begin at an offset that isn't before its first byte, and holds what follows, as far as it has
+    /// room and up to the end of the file. What is held already isn't read again.
     pub fn move_to<S: Space>(&mut self, s: &mut S, len: u64, at: u64) -> Result<(), Io>
         requires length { len ≡ S.size s.old }
         requires within { at ≤ len }

@@ -195,8 +195,8 @@ pub(crate) fn reads_that_fail(
 }
 
 // Files, and how many reads a check of them makes. Of a new file: the front, the area's word, and the heads of the free
-// list and of the chain. Of the other: the front, the area's word and header, the chain's head and two records, the free
-// list's head and record, and two gaps.
+// list and of the chain. Of the other: the front, the area's word and header, the chain's head and two records, the
+// free list's head and record, and two gaps.
 static READ: [(&'static str, Checked, u32); 2] = [
     ("reads of a new file", NEW, 4),
     ("reads of a record of each kind", FULL, 10),

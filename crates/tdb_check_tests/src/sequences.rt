@@ -11,9 +11,9 @@ use tdb_space::Direct;
 use tdb_words::What::{BadRecord, Stray, Tailer, TwiceKey, WrongHash};
 use tdb_words::{DEAD, FREE, Header, Order, Rec, USED, header_bytes, rec_bytes, word_bytes};
 
-/// The heads of a file's chains, the records of 32 bytes behind them, and words that are changed then. What a check says,
-/// and how many reads it makes where it accepts the file: five where it reads the file once from its front, which are the
-/// header, the word of the undo area, all records, and the heads of the free list and of the chains.
+/// The heads of a file's chains, the records of 32 bytes behind them, and words that are changed then. What a check
+/// says, and how many reads it makes where it accepts the file: five where it reads the file once from its front, which
+/// are the header, the word of the undo area, all records, and the heads of the free list and of the chains.
 struct Sequence {
     heads: &'static [u32],
     links: &'static [Link],
@@ -240,8 +240,8 @@ fn push_free(bytes: &mut Vec<u8>, rec_len: u32) -> Result<(), AllocError> {
     Ok(())
 }
 
-/// A used record, a free one, and a used one that leads to the first; how long the free one is behind its header, and how
-/// many reads a check makes: two of the records where their front and the free one's tailer aren't within 128 KiB.
+/// A used record, a free one, and a used one that leads to the first; how long the free one is behind its header, and
+/// how many reads a check makes: two of the records where their front and the free one's tailer aren't within 128 KiB.
 static LONG_RECORDS: [(&'static str, u32, u32); 2] = [
     ("a free record of 100,000 bytes", 100_000, 5),
     ("a free record of 200,000 bytes", 200_000, 6),

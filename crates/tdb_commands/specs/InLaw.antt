@@ -1,5 +1,5 @@
--- The options, commands, plays and lines of the code in the words of the law of reports (`tdb_law`). Openers are counted
--- from 1 in the code, and from 0 in the law.
+-- The options, commands, plays and lines of the code in the words of the law of reports (`tdb_law`). Openers are
+-- counted from 1 in the code, and from 0 in the law.
 use Rattle.std.specs.Prelude.{ℕ, ◌-◌, List, map}
 use Rattle.tdb_law.specs.Commands.{Command as LawCommand, MapCommand, LockCommand, GroupCommand, WalkCommand, Reply as LawReply, Turn as LawTurn}
 use Rattle.tdb_law.specs.Openers.{Options as LawOptions}

@@ -84,8 +84,8 @@ fn take_plays<D: Disk, L: Logs>(
     answer
 }
 
-/// Takes the plays of a script in a new world over the file on a disk. `Memory` where it is no script of short plays, or
-/// the file is longer than it may be.
+/// Takes the plays of a script in a new world over the file on a disk. `Memory` where it is no script of short plays,
+/// or the file is longer than it may be.
 pub(crate) fn take_script<D: Disk, L: Logs>(
     alloc: Global,
     disk: &mut D,

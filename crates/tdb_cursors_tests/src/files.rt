@@ -13,8 +13,8 @@ fn put_words(image: &mut [u8], words: &[Word]) {
     }
 }
 
-/// A file of so many chains and of this length, with these words behind its header, of which the later ones overwrite the
-/// earlier ones.
+/// A file of so many chains and of this length, with these words behind its header, of which the later ones overwrite
+/// the earlier ones.
 pub(crate) fn file_of(
     alloc: Global,
     chains: u32,

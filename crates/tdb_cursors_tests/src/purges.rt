@@ -21,8 +21,8 @@ fn kinds_of(locks: &Locks) -> Kinds {
     )
 }
 
-// What the turns of a command tell by which opener 1 leaves its dead record; and where a call fails in it, what the opener
-// holds then.
+// What the turns of a command tell by which opener 1 leaves its dead record; and where a call fails in it, what the
+// opener holds then.
 type Turns = (&'static [Want], Option<Kinds>);
 
 const READ: Option<Kind> = Some(Kind::Read);
@@ -103,8 +103,8 @@ static ROWS: [Row; 6] = [
     (Act::Close, CLOSING, Call::Write, false),
 ];
 
-// The place of the first row of which the calls, each in turn, don't fail first where the dead record is read, where such
-// a call does that, then where it is purged, and then no more.
+// The place of the first row of which the calls, each in turn, don't fail first where the dead record is read, where
+// such a call does that, then where it is purged, and then no more.
 fn failing_row(alloc: Global) -> Result<Option<usize>, AllocError> {
     for (i, (act, turns, call, reads)) in ROWS.iter().enumerate() {
         let read = end_of(alloc, *act, *call, 0, READING)?;

@@ -186,8 +186,8 @@ static ROWS: [Row; 10] = [
         ],
         ..SMALL
     },
-    // Opener 1 goes on from the record that was deleted under its cursor: the new one stands in front of it, so its walk
-    // is at its end.
+    // Opener 1 goes on from the record that was deleted under its cursor: the new one stands in front of it, so its
+    // walk is at its end.
     Row {
         steps: &[
             FIRST,
@@ -264,9 +264,9 @@ static ROWS: [Row; 10] = [
         left: Some(&WIPED),
         ..SMALL
     },
-    // Three keys in the chains 7, 31 and 70 of 131. The first that was stored stands at 4064. Each command reads the heads
-    // from the next chain on at once; the header of a record that it comes to, its key and its value; and before a Next
-    // moves, the header of the record on which it stands, once in each turn.
+    // Three keys in the chains 7, 31 and 70 of 131. The first that was stored stands at 4064. Each command reads the
+    // heads from the next chain on at once; the header of a record that it comes to, its key and its value; and before
+    // a Next moves, the header of the record on which it stands, once in each turn.
     Row {
         len: 696,
         words: &[],

@@ -10,7 +10,8 @@ pub same_or_apart : (xs ys : List ℕ) → (xs ≡ ys) ⊎ (xs ≢ ys)
 same_or_apart xs ys =
     elim (cases_Bool (bytes_eq xs ys)) [ inl equal ↦ inl ((bytes_eq-Decides xs ys).0 equal) | inr other ↦ inr (λ same. false≢true (sym other ∙ (bytes_eq-Decides xs ys).1 same)) ]
 
--- four changes, at one name, another, the first and the other again, leave a function as it was where they leave it so at both
+-- four changes, at one name, another, the first and the other again, leave a function as it was where they leave it so
+-- at both
 pub same_after_four : {X : Type 0} (to from : List ℕ) (zero one two three four : List ℕ → X)
     → SameBut to zero one → SameBut from one two → SameBut to two three → SameBut from three four → from ≢ to
     → four from ≡ zero from → three to ≡ zero to → SameAll zero four

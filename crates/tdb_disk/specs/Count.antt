@@ -26,8 +26,8 @@ pub record HasCause {V F : Type 0} (before now : ℕ) (answer : Result V F) : Ty
   pub failed : OnErr answer (Rose before now)
   pub done : OnOk answer (now ≡ before)
 
--- The same of a call with several refusals, of which one says that the outside failed: the count of faults rose where that one is
--- the answer, and is as it was where any other is.
+-- The same of a call with several refusals, of which one says that the outside failed: the count of faults rose where
+-- that one is the answer, and is as it was where any other is.
 pub record HasCauseOf {V F : Type 0} (fault : F) (before now : ℕ) (answer : Result V F) : Type 0 where
   pub never_falls : before ≤ now
   pub failed : IfErr answer (λ e. e ≡ fault → Rose before now)

@@ -8,8 +8,8 @@ ghost use Rattle.tdb_disk.specs.Stop.{LeavesOnly, Quiet};
 
 use crate::disk::{Disk, DiskFault};
 
-/// Writes a name and a value into a file that publishes nothing, and then publishes both at once. A stop at any moment, whatever
-/// the answer, leaves a file that publishes nothing or both.
+/// Writes a name and a value into a file that publishes nothing, and then publishes both at once. A stop at any moment,
+/// whatever the answer, leaves a file that publishes nothing or both.
 pub fn publish<D: Disk>(d: &mut D, name: [u8; 4], value: [u8; 4]) -> Result<(), DiskFault>
     requires room { 12 ≤ D.size d.old }
     requires quiet { IsTrue D.tells → Quiet (D.history d.old) }

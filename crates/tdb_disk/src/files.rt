@@ -64,9 +64,9 @@ pub trait Files {
     ghost faults: { Self → ℕ };
 
     /// Takes a file out of the set, as a disk that has no faults yet, and makes the room that giving it back needs.
-    /// `Missing` is answered exactly where the file isn't there and `how` isn't `New`, `There` exactly where it is and `how` is `New`,
-    /// `Failed` only where the count of faults rose, `Memory` where there was no memory. A refusal leaves the files as they were,
-    /// and no answer but `Failed` raises the count.
+    /// `Missing` is answered exactly where the file isn't there and `how` isn't `New`, `There` exactly where it is and
+    /// `how` is `New`, `Failed` only where the count of faults rose, `Memory` where there was no memory. A refusal
+    /// leaves the files as they were, and no answer but `Failed` raises the count.
     fn take(&mut self, alloc: Global, name: &str, how: Take) -> Result<Self::D, TakeRefusal>
         requires { is_taken self.old name.now ≡ false }
         ensures missing { IsTrue Self.D.tells → IsErrOf result TakeRefusal.Missing ↔ ((held self.old name.now ≡ None) × (how ≢ Take.New)) }
@@ -85,8 +85,8 @@ pub trait Files {
         ensures refused_held { OnErr result (SameAll (held self.old) (held self.new)) }
         ensures cause { HasCauseOf TakeRefusal.Failed (faults self.old) (faults self.new) result };
 
-    /// Gives a disk back, which is then held at the name with all that was done to it. It can't fail and takes no memory.
-    /// The count of faults rises exactly where the disk has faults.
+    /// Gives a disk back, which is then held at the name with all that was done to it. It can't fail and takes no
+    /// memory. The count of faults rises exactly where the disk has faults.
     fn give(&mut self, name: &str, d: Self::D)
         requires { is_taken self.old name.now ≡ true }
         ensures free { is_taken self.new name.now ≡ false }
@@ -97,8 +97,8 @@ pub trait Files {
         ensures faulty { 0 < Self.D.faults d → Rose (faults self.old) (faults self.new) }
         ensures faults { faults self.old ≤ faults self.new };
 
-    /// Gives the file at `from` the name `to`, whose file is replaced where there is one. Where no file is at `from`, or after a
-    /// fault, all names stay as they were.
+    /// Gives the file at `from` the name `to`, whose file is replaced where there is one. Where no file is at `from`,
+    /// or after a fault, all names stay as they were.
     fn rename(&mut self, from: &str, to: &str) -> Result<(), FilesFault>
         requires differ { from.now ≢ to.now }
         requires from_free { is_taken self.old from.now ≡ false }

@@ -1,5 +1,5 @@
-//! The outside of the database, as traits: disks that may stop at any moment, sets of files, sources and sinks of bytes,
-//! and a form of each in memory.
+//! The outside of the database, as traits: disks that may stop at any moment, sets of files, sources and sinks of
+//! bytes, and a form of each in memory.
 #![tactic(auto)]
 
 mod disk;

@@ -14,7 +14,8 @@ use crate::script::{Call, Script, raise};
 use crate::tape::Tape;
 use std::alloc::{AllocError, Global};
 
-/// A disk in memory. A call of it fails exactly where its list names the call or it finds no memory. `len` and `read` take none.
+/// A disk in memory. A call of it fails exactly where its list names the call or it finds no memory. `len` and `read`
+/// take none.
 #[derive(Drop)]
 pub struct MemDisk {
     alloc: Global,

@@ -18,8 +18,8 @@ use crate::tape::Tape;
 use std::alloc::{AllocError, Global};
 use std::collections::HashMap;
 
-/// Files in memory, by name. A call of it fails exactly where its list names the call or it finds no memory, but `take` answers
-/// `Missing` and `There` whatever the list says, and `Memory` where it finds no memory.
+/// Files in memory, by name. A call of it fails exactly where its list names the call or it finds no memory, but `take`
+/// answers `Missing` and `There` whatever the list says, and `Memory` where it finds no memory.
 #[derive(Drop)]
 pub struct MemFiles {
     alloc: Global,
@@ -220,7 +220,8 @@ impl MemFiles {
         Ok(tape)
     }
 
-    /// The tape for the disk of a name: what is held there, or an empty one where no file is there. Its place is empty then.
+    /// The tape for the disk of a name: what is held there, or an empty one where no file is there. Its place is empty
+    /// then.
     fn tape_for(&mut self, alloc: Global, name: &str, is_there: bool) -> Result<Tape, AllocError>
         requires there { is_there ≡ true → IsSome (held_at self.old name.now) }
         requires missing { is_there ≡ false → held_at self.old name.now ≡ None }

@@ -8,7 +8,8 @@ use crate::script::{Call, Script, raise};
 use crate::sink::{Sink, SinkFault};
 use std::alloc::{AllocError, Global};
 
-/// A sink in memory. A write of it fails exactly where its list names it or it finds no memory, and then writes nothing.
+/// A sink in memory. A write of it fails exactly where its list names it or it finds no memory, and then writes
+/// nothing.
 #[derive(Drop)]
 pub struct MemSink {
     bytes: Vec<u8>,

@@ -7,7 +7,7 @@ pub enum Pick {
     Synced,
     /// The bytes as a read gives them.
     Read,
-    /// The bytes as a read gives them, but 0xA5 in each range that `write` covered since the last sync. A word that `write_word`
-    /// wrote afterwards, and a byte that was cut away and grown again, stand as a read gives them.
+    /// The bytes as a read gives them, but 0xA5 in each range that `write` covered since the last sync. A word that
+    /// `write_word` wrote afterwards, and a byte that was cut away and grown again, stand as a read gives them.
     Torn,
 }

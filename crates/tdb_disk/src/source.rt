@@ -20,8 +20,8 @@ pub trait Source {
     /// How many calls have failed.
     ghost faults: { Self → ℕ };
 
-    /// Reads some of the bytes that are left into the front of `buf`, and says how many. Zero, for a `buf` that isn't empty,
-    /// is the end.
+    /// Reads some of the bytes that are left into the front of `buf`, and says how many. Zero, for a `buf` that isn't
+    /// empty, is the end.
     fn read(&mut self, buf: &mut [u8]) -> Result<usize, SourceFault>
         ensures within { IfOk result (λ n. n ≤ length buf.old) }
         ensures bytes { IfOk result (λ n. IsTrue tells → left self.old ≡ take n buf.new ++ left self.new) }

@@ -16,8 +16,8 @@ pub enum Change {
     Sync,
 }
 
-/// The bytes at first, the changes since, and what follows from them: the bytes as a read gives them, those of the last sync, and
-/// those with 0xA5 where a write isn't synced.
+/// The bytes at first, the changes since, and what follows from them: the bytes as a read gives them, those of the last
+/// sync, and those with 0xA5 where a write isn't synced.
 #[derive(Drop)]
 pub struct Tape {
     pub start: Vec<u8>,

@@ -82,7 +82,8 @@ Expected s = Behind s.fixed (Next s.step s.field s.key s.value)
 abbrev pub IsAlive : State → Type 0
 IsAlive s = (text : List ℕ) × (pairs : List Pair) × Expected s text pairs
 
--- a byte leads from a state inside the text to one inside a record: what is expected behind it is what the first expects
+-- a byte leads from a state inside the text to one inside a record: what is expected behind it is what the first
+-- expects
 pub record Leads (s : State) (c : ℕ) (t : State) : Type 0 where
   pub on : (more : List ℕ) (pairs : List Pair) → Expected s (c ∷ more) pairs → Expected t more pairs
   pub back : (more : List ℕ) (pairs : List Pair) → Expected t more pairs → Expected s (c ∷ more) pairs

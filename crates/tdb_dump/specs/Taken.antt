@@ -53,7 +53,8 @@ EndsBadlyAt text pairs at = (place : ℕ) × (at ≡ shown place) × EndsBadly t
 abbrev pub StillGoes : Reader → Reader → Type 0
 StillGoes old new = (text : List ℕ) (pairs : List Pair) → Goes text pairs old → Goes text pairs new
 
--- the reader has taken a front of the text, given the pairs of all records that are whole in it, and taken nothing behind
+-- the reader has taken a front of the text, given the pairs of all records that are whole in it, and taken nothing
+-- behind
 abbrev pub GoesNoFurther : List ℕ → List Pair → Reader → Type 0
 GoesNoFurther text pairs r = (front : List ℕ) × (rest : List ℕ) × (text ≡ front ++ rest) × Goes front pairs r
 

@@ -17,8 +17,8 @@ pub(crate) struct Place {
     end: u32,
 }
 
-/// Keys. Most of them cost their bytes, a mark and a place: one is looked up by its mark, which is Jenkins' hash. Those whose mark an
-/// earlier key has stand in a tree by themselves: they are few, but where a stranger chose the keys.
+/// Keys. Most of them cost their bytes, a mark and a place: one is looked up by its mark, which is Jenkins' hash. Those
+/// whose mark an earlier key has stand in a tree by themselves: they are few, but where a stranger chose the keys.
 #[derive(Debug, Drop)]
 pub(crate) struct KeySet {
     alloc: Global,
@@ -50,8 +50,8 @@ impl KeySet {
         }
     }
 
-    /// Puts a key into the set. False where it was there. Where memory is wanting the set has the keys that it had. Takes time in the
-    /// logarithm of the number of keys, whatever keys a stranger chose.
+    /// Puts a key into the set. False where it was there. Where memory is wanting the set has the keys that it had.
+    /// Takes time in the logarithm of the number of keys, whatever keys a stranger chose.
     pub fn insert(&mut self, key: &[u8]) -> Result<bool, AllocError>
         ensures added { IfOk result (λ added. added ≡ not (has self.old key.now)) }
         ensures keys { OnOk result ((q : List ℕ) → has self.new q ≡ (has self.old q || bytes_eq q key.now)) }

@@ -19,8 +19,8 @@ pub record KeyChanged (f : Form) (a b key : List ℕ) (value : Option (List ℕ)
   pub accepted : AcceptWith f b []
   pub map : MapSet f a b key value
 
--- A failed call broke a change of a key off: image b is accepted but for records that stand in no list, and its map is that
--- of image a, or that with the change.
+-- A failed call broke a change of a key off: image b is accepted but for records that stand in no list, and its map is
+-- that of image a, or that with the change.
 pub record BrokenOff (f : Form) (a b key : List ℕ) (value : Option (List ℕ)) : Type 0 where
   pub out : List HandPair
   pub accepted : AcceptWith f b out

@@ -8,8 +8,8 @@ use Rattle.tdb_free.specs.declared.list_refusal.ListRefusal as Listing
 use Rattle.tdb_edit.specs.declared.refusal.StoreRefusal.{StoreRefusal}
 use Rattle.tdb_edit.specs.declared.refusal.StoreRefusal.TheVariants.{Full, Io, Memory}
 
--- an image has room for a record of so many bytes behind its header, within a limit: it can grow by the record, or a free record is
--- long enough
+-- an image has room for a record of so many bytes behind its header, within a limit: it can grow by the record, or a
+-- free record is long enough
 abbrev pub has_room : Form → List ℕ → ℕ → ℕ → Bool
 has_room f img rec_len limit = nat_le (length img + (24 + rec_len)) limit || is_some (first_fit (free_pairs f img (free_of f img)) rec_len)
 
@@ -28,8 +28,8 @@ FoundNoRoom f img rec_len limit (Full len need) = has_room f img rec_len limit �
 FoundNoRoom f img rec_len limit Io = Unit {0}
 FoundNoRoom f img rec_len limit Memory = ⊥
 
--- A refusal of a store for want of room is right: there is none for a record of so many bytes behind its header, and it tells the
--- length of the image and what the record needs with its header.
+-- A refusal of a store for want of room is right: there is none for a record of so many bytes behind its header, and it
+-- tells the length of the image and what the record needs with its header.
 abbrev pub FullRightly : Form → List ℕ → ℕ → ℕ → StoreRefusal → Type 0
 FullRightly f img rec_len limit (Full len need) = (has_room f img rec_len limit ≡ false) × (len ≡ length img) × (need ≡ 24 + rec_len)
 FullRightly f img rec_len limit Io = Unit {0}

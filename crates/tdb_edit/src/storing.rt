@@ -38,8 +38,8 @@ fn one_fits(records: &FreeRecs, rec_len: u64) -> bool
     false
 }
 
-/// Whether a file has room for a record of so many bytes behind its header. It looks through the free list only where the
-/// file may not grow by so much.
+/// Whether a file has room for a record of so many bytes behind its header. It looks through the free list only where
+/// the file may not grow by so much.
 fn has_room<S: Space>(
     alloc: Global,
     s: &mut S,
@@ -69,8 +69,8 @@ fn fits(place: &Place, value: &[u8]) -> bool
     room.saturating_add(4) <= u64::from(place.rec.rec_len)
 }
 
-/// Stores a key with its value in a new record, in place of the old one where there is one. `over` is what `find` answers
-/// for the key.
+/// Stores a key with its value in a new record, in place of the old one where there is one. `over` is what `find`
+/// answers for the key.
 fn put<S: Space>(
     s: &mut S,
     key: &[u8],
@@ -100,8 +100,8 @@ fn put<S: Space>(
     Ok(())
 }
 
-/// Stores a key with its value, in place of the value that the key has, if it has one: in its record, if the value has room
-/// there, and else in a new one.
+/// Stores a key with its value, in place of the value that the key has, if it has one: in its record, if the value has
+/// room there, and else in a new one.
 fn set<S: Space>(s: &mut S, key: &[u8], value: &[u8], limit: u64) -> Result<(), StoreRefusal>
     requires key { length key.now < 2 ^ 32 }
     requires value { length value.now < 2 ^ 32 }
@@ -127,21 +127,21 @@ fn set<S: Space>(s: &mut S, key: &[u8], value: &[u8], limit: u64) -> Result<(), 
     Ok(())
 }
 
-/// Stores a key with its value in a file that may be up to `limit` bytes long, in place of the value that the key has, if
-/// it has one. The record of the key is changed where it stands, if the value has room there; else a new one is made, and
-/// the old one goes to the free list.
+/// Stores a key with its value in a file that may be up to `limit` bytes long, in place of the value that the key has,
+/// if it has one. The record of the key is changed where it stands, if the value has room there; else a new one is
+/// made, and the old one goes to the free list.
 ///
-/// `Full` where no free record is long enough for a new record and the file may not grow by one, also where the value has
-/// room where it stands; then nothing was written, and so where memory is wanting. `Io` where the disk failed: then the
-/// value may be written in part, and records may stand in no list.
+/// `Full` where no free record is long enough for a new record and the file may not grow by one, also where the value
+/// has room where it stands; then nothing was written, and so where memory is wanting. `Io` where the disk failed: then
+/// the value may be written in part, and records may stand in no list.
 ///
 /// The file grows only where a new record is made and no free record is long enough: once, to the greater of its length
-/// with the record and its length with a quarter as much again, in whole pages of 4096 bytes, or by the record alone where
-/// that would pass the limit.
+/// with the record and its length with a quarter as much again, in whole pages of 4096 bytes, or by the record alone
+/// where that would pass the limit.
 ///
-/// Cost: a look-up of the key; and where a new record is made, one pass along the free list to take it, two more where the
-/// file grows, and one to give the old record back, if there is one. Near the limit there is one pass before all that, which
-/// takes 8 bytes of memory for each free record.
+/// Cost: a look-up of the key; and where a new record is made, one pass along the free list to take it, two more where
+/// the file grows, and one to give the old record back, if there is one. Near the limit there is one pass before all
+/// that, which takes 8 bytes of memory for each free record.
 pub fn store<S: Space>(
     alloc: Global,
     s: &mut S,

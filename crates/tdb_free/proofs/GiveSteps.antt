@@ -1,5 +1,5 @@
--- The steps of a give: the record behind the hand leaves the list, then the one before it, and what they make with the hand becomes
--- the first.
+-- The steps of a give: the record behind the hand leaves the list, then the one before it, and what they make with the
+-- hand becomes the first.
 use Rattle.std.proofs.Common.{ℕ, List, Option}
 use Rattle.tdb_space.specs.Form.{Form}
 use Rattle.tdb_space.specs.Extents.{HandPair}

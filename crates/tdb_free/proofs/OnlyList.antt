@@ -34,7 +34,8 @@ record_only f a b offs test p size L F only =
           only i (omega (arith, among p.off (24 + rec_len_of f.order a p.off) (p.off + 4) (20 + p.rec_len) i (omega arith) (omega (arith, F.rec_len)) out)));
     }
 
--- one change of the list after another, the second of a list that holds bytes of the first one and bytes behind the old end
+-- one change of the list after another, the second of a list that holds bytes of the first one and bytes behind the old
+-- end
 pub only_both : (f : Form) (a b c offs news : List ℕ) → OnlyListChanges f a b offs [] → OnlyListChanges f b c news []
     → ((i : ℕ) → i < length a → times (extents f.order a offs) i ≡ 0 → times (extents f.order b news) i ≡ 0) → OnlyListChanges f a c offs []
 only_both f a b c offs news first second within = record {

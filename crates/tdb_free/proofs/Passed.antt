@@ -32,8 +32,8 @@ count_later test p ps e = rw e refl
 pub without_tail : (x y : ℕ) (xs : List ℕ) → (x ≡ y → ⊥) → without y (x ∷ xs) ≡ x ∷ without y xs
 without_tail x y xs ne = rw (ne_eqb x y ne) refl
 
--- So many records of the list were passed, none of which passes the test, and the word at `before` leads on from `at`: what is
--- found in the rest is what is found in the list.
+-- So many records of the list were passed, none of which passes the test, and the word at `before` leads on from `at`:
+-- what is found in the rest is what is found in the list.
 pub record Passed (f : Form) (img offs : List ℕ) (test : HandPair → Bool) (turns before at : ℕ) : Type 0 where
   pub rest : List ℕ
   pub list : Free f img at rest

@@ -1,4 +1,5 @@
--- A stretch whose header and tailer are written, and to which the head of the free list then leads, is its first record.
+-- A stretch whose header and tailer are written, and to which the head of the free list then leads, is its first
+-- record.
 use Rattle.std.proofs.Common.{◌≡◌, ℕ, ◌+◌, ◌<◌, ◌≤◌, ◌⊎◌, List, length, add-zero, sym, ◌∙◌, ap, inl, inr, arith}
 use Rattle.std.specs.Prelude.{slice_index, ◌%◌}
 use Rattle.tdb_disk.specs.Image.{overlay}

@@ -76,9 +76,9 @@ only_link f a b offs before y L leads past i none =
     ] in
     past.others i (elim (where_is (before, 4) i) [ lies _ _ one ↦ absurd (omega (arith, one, outside)) | below under _ ↦ inl under | above over _ ↦ inr over ])
 
--- From image a to image b the first record that passes a test left the free list, which had the records at these offsets, and is a
--- hand; a word that leads to a record of the list is all that changed. Where none passes, nothing was found and the list is as it
--- was.
+-- From image a to image b the first record that passes a test left the free list, which had the records at these
+-- offsets, and is a hand; a word that leads to a record of the list is all that changed. Where none passes, nothing was
+-- found and the list is as it was.
 pub record TakenOut (f : Form) (a b offs : List ℕ) (test : HandPair → Bool) (found : Option Spot) : Type 0 where
   pub first : find test (free_pairs f a offs) ≡ found_pair found
   pub pairs : free_pairs f b (rest_of found offs) ≡ without_first test (free_pairs f a offs)

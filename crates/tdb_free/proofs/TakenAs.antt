@@ -1,4 +1,5 @@
--- What a take makes of the list of free records: the record that it takes from leaves the list, or stands in it as a shorter one.
+-- What a take makes of the list of free records: the record that it takes from leaves the list, or stands in it as a
+-- shorter one.
 use Rattle.std.proofs.Common.{◌≡◌, ℕ, ◌≤◌, Bool, true, false, List, [], ◌∷◌, ◌++◌, Option, Some, None, refl, sym, ◌∙◌, ap, subst, inl, inr, arith}
 use Rattle.std.specs.List.{find}
 use Rattle.std.proofs.lemmas.Bool.{cases_Bool, cases_eq, eq-eqb, false≢true}

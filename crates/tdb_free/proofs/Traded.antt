@@ -39,7 +39,8 @@ given_stays f a b h hands A G = trade_stays f a b (G.at ∷ G.stay) (h ∷ []) [
 from_stays : (f : Form) (a b : List ℕ) (rec_len : ℕ) (h : HandPair) (hands : List HandPair) → AcceptWith f a hands → TakenFrom f a b (free_of f a) rec_len h → ChainsStay f a b (h ∷ hands)
 from_stays f a b rec_len h hands A T = trade_stays f a b T.news [] (h ∷ []) hands A T.exchanged
 
--- a hand that was taken from what the file had grown by: it grew, the gain was given, and the hand was taken from the list then
+-- a hand that was taken from what the file had grown by: it grew, the gain was given, and the hand was taken from the
+-- list then
 module _ (f : Form) (a b : List ℕ) (hands : List HandPair) (rec_len limit : ℕ) (h : HandPair) (A : AcceptWith f a hands) (words : rec_len % 4 ≡ 0) (least : 4 ≤ rec_len) (T : TakenGrown f a b (free_of f a) rec_len limit h) where
   abbrev longer : List ℕ
   longer = padded a T.to

@@ -86,16 +86,16 @@ abbrev pub with_previous : HandPair → Option HandPair → HandPair
 with_previous h None = h
 with_previous h (Some p) = (p.0, p.1 + (24 + h.1))
 
--- The list after a give: the free record that starts where the hand ends leaves it, and so does the one that ends where the hand
--- starts. What they and the hand make together is its first record.
+-- The list after a give: the free record that starts where the hand ends leaves it, and so does the one that ends where
+-- the hand starts. What they and the hand make together is its first record.
 abbrev pub give_to : List HandPair → HandPair → List HandPair
 give_to pairs hand =
     let others = without_first (starts_at (end_of hand)) pairs in
     let joined = with_next hand (find (starts_at (end_of hand)) pairs) in
     with_previous joined (find (ends_at hand.0) others) ∷ without_first (ends_at hand.0) others
 
--- A hand can be given to a free list: the list's records hold each byte once, and none of the hand's; the hand is in place, and
--- the image is short enough for the words of a file to name each offset in it.
+-- A hand can be given to a free list: the list's records hold each byte once, and none of the hand's; the hand is in
+-- place, and the image is short enough for the words of a file to name each offset in it.
 pub record CanBeGiven (f : Form) (img offs : List ℕ) (hand : HandPair) : Type 0 where
   pub listed : ListedOnce f img offs
   pub in_place : HandOk f img hand
@@ -107,7 +107,8 @@ abbrev pub words_at : List ℕ → List Extent
 words_at [] = []
 words_at (x ∷ xs) = (x, 4) ∷ words_at xs
 
--- what is written where a record becomes the first of the list: the head of the list, and the record's header and tailer
+-- what is written where a record becomes the first of the list: the head of the list, and the record's header and
+-- tailer
 abbrev pub put_words : HandPair → List Extent
 put_words p = (free_head, 4) ∷ (p.0, 24) ∷ (p.0 + 20 + p.1, 4) ∷ []
 
@@ -123,10 +124,10 @@ pub record MadeFirst (f : Form) (a b : List ℕ) (hand : HandPair) : Type 0 wher
   pub empty : HoldsNothing f.order b hand.0
   pub others : OnlyIn (put_words hand) a b
 
--- From image a to image b a hand went into the free list, which had the records at these offsets: the list has a new first record
--- in front of those that stay, which holds nothing, and is the one that a give makes. Just the bytes of the old list and of the hand are in it, and
--- only the list's head, the words of the records that stay which lead to the next one, and the new record's header and tailer
--- are written.
+-- From image a to image b a hand went into the free list, which had the records at these offsets: the list has a new
+-- first record in front of those that stay, which holds nothing, and is the one that a give makes. Just the bytes of
+-- the old list and of the hand are in it, and only the list's head, the words of the records that stay which lead to
+-- the next one, and the new record's header and tailer are written.
 pub record Given (f : Form) (a b offs : List ℕ) (hand : HandPair) : Type 0 where
   pub at : ℕ
   pub stay : List ℕ
@@ -135,8 +136,8 @@ pub record Given (f : Form) (a b offs : List ℕ) (hand : HandPair) : Type 0 whe
   pub empty : HoldsNothing f.order b at
   pub others : OnlyIn (put_words (at, rec_len_of f.order b at) ++ words_at stay) a b
 
--- From image a, accepted with a hand and others, to image b the hand went into the free list: b is accepted with the others, its
--- chains hold the same pairs in the same order, and its free list is the one that a give makes.
+-- From image a, accepted with a hand and others, to image b the hand went into the free list: b is accepted with the
+-- others, its chains hold the same pairs in the same order, and its free list is the one that a give makes.
 pub record GivenBack (f : Form) (a b : List ℕ) (hand : HandPair) (others : List HandPair) : Type 0 where
   pub accepted : AcceptWith f b others
   pub same_pairs : order_of f b ≡ order_of f a

@@ -12,19 +12,20 @@ use Rattle.tdb_free.specs.declared.refusal.FreeRefusal.TheVariants.{Full, Io}
 abbrev pub whole_pages : ℕ → ℕ
 whole_pages n = (n + 4095) / 4096 * 4096
 
--- the length to which a file grows where no limit is near: the greater of the length with what is needed and the length with a
--- quarter as much again, in whole pages
+-- the length to which a file grows where no limit is near: the greater of the length with what is needed and the length
+-- with a quarter as much again, in whole pages
 abbrev pub usual_length : ℕ → ℕ → ℕ
 usual_length len need = whole_pages (max (len + need) (len + len / 4))
 
--- The length to which a file grows for so many bytes more, within a limit: the usual one, or just enough where that passes the
--- limit, or none where just enough passes it too
+-- The length to which a file grows for so many bytes more, within a limit: the usual one, or just enough where that
+-- passes the limit, or none where just enough passes it too
 abbrev pub grown_length : ℕ → ℕ → ℕ → Option ℕ
 grown_length len need limit =
     if nat_le (usual_length len need) limit then Some (usual_length len need) else if nat_le (len + need) limit then Some (len + need) else None
 
--- A record can be taken from an image whose free list has its records at these offsets, and the image can grow: no byte of the
--- list is held twice, the image is whole words, reaches behind the heads, and is short enough for the words of a file.
+-- A record can be taken from an image whose free list has its records at these offsets, and the image can grow: no byte
+-- of the list is held twice, the image is whole words, reaches behind the heads, and is short enough for the words of a
+-- file.
 pub record CanBeTaken (f : Form) (img offs : List ℕ) : Type 0 where
   pub listed : ListedOnce f img offs
   pub aligned : length img % 4 ≡ 0
@@ -35,8 +36,9 @@ pub record CanBeTaken (f : Form) (img offs : List ℕ) : Type 0 where
 abbrev pub grown_hand : ℕ → ℕ → HandPair
 grown_hand len to = (len, to - len - 24)
 
--- From image a to image b a hand was taken from what the file had grown by: no record of the old list was long enough, the image
--- was padded to the length that it grows to, what it gained was given to the list, and the hand was taken from the list then.
+-- From image a to image b a hand was taken from what the file had grown by: no record of the old list was long enough,
+-- the image was padded to the length that it grows to, what it gained was given to the list, and the hand was taken
+-- from the list then.
 pub record TakenGrown (f : Form) (a b offs : List ℕ) (rec_len limit : ℕ) (hand : HandPair) : Type 0 where
   pub none_before : first_fit (free_pairs f a offs) rec_len ≡ None
   pub to : ℕ
@@ -50,8 +52,8 @@ pub data TakenBy (f : Form) (a b offs : List ℕ) (rec_len limit : ℕ) (hand : 
   as_it_was : TakenFrom f a b offs rec_len hand → TakenBy f a b offs rec_len limit hand
   after_growth : TakenGrown f a b offs rec_len limit hand → TakenBy f a b offs rec_len limit hand
 
--- there is no room for a record: none of the list is long enough, so many bytes more would pass the limit, and the image is as it
--- was
+-- there is no room for a record: none of the list is long enough, so many bytes more would pass the limit, and the
+-- image is as it was
 pub record NoRoom (f : Form) (a b offs : List ℕ) (rec_len limit : ℕ) : Type 0 where
   pub none_fits : first_fit (free_pairs f a offs) rec_len ≡ None
   pub past : limit < length a + (24 + rec_len)

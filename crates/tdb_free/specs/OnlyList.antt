@@ -3,8 +3,8 @@ use Rattle.std.specs.Prelude.{◌≡◌, ℕ, ◌+◌, ◌<◌, ◌≤◌, List,
 use Rattle.tdb_space.specs.Form.{Form, free_head}
 use Rattle.tdb_space.specs.Extents.{HandPair, once, times, extents, hand_extents}
 
--- From image a to image b the file doesn't become shorter. Below its old length at most these bytes change: the head of the free
--- list, the records of the list, which stood at these offsets, and these hands. So the header stays as it was.
+-- From image a to image b the file doesn't become shorter. Below its old length at most these bytes change: the head of
+-- the free list, the records of the list, which stood at these offsets, and these hands. So the header stays as it was.
 pub record OnlyListChanges (f : Form) (a b offs : List ℕ) (hands : List HandPair) : Type 0 where
   pub longer : length a ≤ length b
   pub header : (i : ℕ) → i < free_head → slice_index b i ≡ slice_index a i

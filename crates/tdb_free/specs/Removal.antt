@@ -11,8 +11,8 @@ abbrev pub rest_of : Option Spot → List ℕ → List ℕ
 rest_of None offs = offs
 rest_of (Some p) offs = without p.off offs
 
--- From image a to image b the record that was found left its list: the word that led to it leads past it, and no other byte
--- changes. Where none was found, the image is as it was.
+-- From image a to image b the record that was found left its list: the word that led to it leads past it, and no other
+-- byte changes. Where none was found, the image is as it was.
 abbrev pub LeftOut : Form → List ℕ → List ℕ → Option Spot → Type 0
 LeftOut f a b None = b ≡ a
 LeftOut f a b (Some p) = p.next ≡ next_of f.order a p.off → LedPast f a b p.before p.off

@@ -10,8 +10,8 @@ use Rattle.tdb_space.specs.Standing.{Stands}
 use Rattle.tdb_free.specs.declared.search.Spot.{Spot}
 use Rattle.tdb_free.specs.declared.neighbours.Neighbours.{Neighbours}
 
--- A record of the free list with these records is the first that passes a test: the word before it leads to it, and what stands of
--- its header is the image's
+-- A record of the free list with these records is the first that passes a test: the word before it leads to it, and
+-- what stands of its header is the image's
 pub record IsFirst (f : Form) (img offs : List ℕ) (test : HandPair → Bool) (p : Spot) : Type 0 where
   pub leads : Leads free_head offs p.before p.off
   pub next : p.next ≡ next_of f.order img p.off
@@ -38,8 +38,8 @@ pub record SpotWithin (p : Spot) (f : Form) (len : ℕ) : Type 0 where
 abbrev pub spot_pair : Spot → HandPair
 spot_pair p = (p.off, p.rec_len)
 
--- A record as it stands in the list once another has left it: where the other led to it, the word that led to the other does, and
--- where it led to the other, it leads on to what came behind that.
+-- A record as it stands in the list once another has left it: where the other led to it, the word that led to the other
+-- does, and where it led to the other, it leads on to what came behind that.
 abbrev pub once_left : Spot → Spot → Spot
 once_left p other = record {
   off = p.off;

@@ -11,8 +11,8 @@ use Rattle.tdb_space.specs.Record.{next_of}
 abbrev pub free_record : ℕ → ℕ → Rec
 free_record next rec_len = record { next = next; rec_len = rec_len; key_len = 0; data_len = 0; full_hash = 0; magic = FREE }
 
--- From image a to image b the record at an offset becomes a free record of so many bytes: its header but for the next word is
--- written, and a tailer at its end, and no other byte
+-- From image a to image b the record at an offset becomes a free record of so many bytes: its header but for the next
+-- word is written, and a tailer at its end, and no other byte
 pub record Shortened (f : Form) (a b : List ℕ) (at rec_len : ℕ) : Type 0 where
   pub size : length b ≡ length a
   pub header : rec_at f.order b at ≡ free_record (next_of f.order a at) rec_len

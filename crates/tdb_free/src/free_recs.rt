@@ -5,8 +5,8 @@ ghost use Rattle.std.specs.Prelude.{◌≡◌, ◌<◌, ◌≤◌, ◌==◌, [],
 use std::alloc::{AllocError, Global};
 use std::marker::Model;
 
-/// The records of a free list in their order: of each its offset and its `rec_len`, both in bytes. A contract sees it as the list
-/// of these pairs.
+/// The records of a free list in their order: of each its offset and its `rec_len`, both in bytes. A contract sees it
+/// as the list of these pairs.
 #[derive(Debug, Drop)]
 pub struct FreeRecs {
     records: Vec<(u32, u32)>,

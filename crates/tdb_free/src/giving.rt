@@ -24,7 +24,8 @@ use crate::stretch::Stretch;
 use tdb_space::{FREE_HEAD, Hand, Io as SpaceIo, Space, data_start, read_word};
 use tdb_words::{FREE, Rec, rec_bytes, word_bytes};
 
-/// Makes a stretch the first record of the free list. It writes the stretch's header and tailer, and the head of the list.
+/// Makes a stretch the first record of the free list. It writes the stretch's header and tailer, and the head of the
+/// list.
 fn put_first<S: Space>(s: &mut S, free: &Stretch) -> Result<(), SpaceIo>
     requires behind { data_start (S.form s.old) ≤ free.now.off }
     requires within { end_of (pair free.now) ≤ S.size s.old }
@@ -56,8 +57,8 @@ fn put_first<S: Space>(s: &mut S, free: &Stretch) -> Result<(), SpaceIo>
     write_link(s, FREE_HEAD, free.off)
 }
 
-/// Gives a stretch of the file to the free list, with the free records before and behind it as one. `len` is the length of the
-/// file.
+/// Gives a stretch of the file to the free list, with the free records before and behind it as one. `len` is the length
+/// of the file.
 fn give_stretch<S: Space>(s: &mut S, len: u64, free: Stretch) -> Result<(), SpaceIo>
     requires length { len ≡ S.size s.old }
     requires small { len < 2 ^ 32 }
@@ -82,8 +83,8 @@ fn give_stretch<S: Space>(s: &mut S, len: u64, free: Stretch) -> Result<(), Spac
     put_first(s, &free.with_next(beside.next).with_previous(previous))
 }
 
-/// Gives a hand to the free list. The free record that starts where the hand ends and the one that ends where it starts become
-/// one record with it, which is the first of the list.
+/// Gives a hand to the free list. The free record that starts where the hand ends and the one that ends where it starts
+/// become one record with it, which is the first of the list.
 ///
 /// It looks beside the hand, and reads 12 bytes at most for it. Only where something there has the magic of a free
 /// record, it goes along the list up to that, or to the end where that isn't in the list, once for each side: it reads

@@ -69,13 +69,13 @@ fn grow_by<S: Space>(s: &mut S, len: u64, to: u64) -> Result<(), FreeRefusal>
     give(s, Hand::new(len as u32, (to - len - 24) as u32))
 }
 
-/// Takes a record with at least so many bytes behind its header: from the free list, or where none is long enough after the file
-/// has grown.
+/// Takes a record with at least so many bytes behind its header: from the free list, or where none is long enough after
+/// the file has grown.
 ///
-/// The file grows by the record and its header, or by a quarter where that is more, to a multiple of 4096 bytes; where that is
-/// more than `limit` bytes, by the record and its header alone. What it gains goes into the free list as one record, and the
-/// record is taken from there. It goes along the list once for each take, and at most once to give. `Full` where no free
-/// record is long enough and the file would be longer than `limit`; `Io` where the disk failed.
+/// The file grows by the record and its header, or by a quarter where that is more, to a multiple of 4096 bytes; where
+/// that is more than `limit` bytes, by the record and its header alone. What it gains goes into the free list as one
+/// record, and the record is taken from there. It goes along the list once for each take, and at most once to give.
+/// `Full` where no free record is long enough and the file would be longer than `limit`; `Io` where the disk failed.
 pub fn take<S: Space>(s: &mut S, rec_len: u64, limit: u64) -> Result<Hand, FreeRefusal>
     requires whole_words { rec_len % 4 ≡ 0 }
     requires least { 4 ≤ rec_len }

@@ -15,10 +15,12 @@ use crate::record::first_free;
 use std::alloc::Global;
 use tdb_space::{Space, read_listed};
 
-/// The free records of a file from the head of the free list on. `Memory` where that is wanting, and `Io` where the disk failed.
+/// The free records of a file from the head of the free list on. `Memory` where that is wanting, and `Io` where the
+/// disk failed.
 ///
-/// It reads the head of the list and 24 bytes of each record. Where the file's bytes aren't those of a free list, a word that
-/// leads to no place where a record can stand ends the list as a 0 does, and so do as many records as the file has words.
+/// It reads the head of the list and 24 bytes of each record. Where the file's bytes aren't those of a free list, a
+/// word that leads to no place where a record can stand ends the list as a 0 does, and so do as many records as the
+/// file has words.
 pub fn list<S: Space>(alloc: Global, s: &mut S) -> Result<FreeRecs, ListRefusal>
     ensures listed { IfOk result (λ records. IsTrue S.tells → (offs : List ℕ)
         → Free (S.form s.old) (S.image s.old) (word (S.form s.old).order (S.image s.old) free_head) offs

@@ -24,8 +24,8 @@ pub(crate) fn looks_free<S: Space>(s: &mut S, len: u64, at: u64) -> Result<bool,
     Ok(read_word(s, at + 20)? == FREE)
 }
 
-/// Where a record that ends at an offset starts, by the tailer there, if that is the length of a record. `len` is the length of
-/// the file. It reads 4 bytes at most.
+/// Where a record that ends at an offset starts, by the tailer there, if that is the length of a record. `len` is the
+/// length of the file. It reads 4 bytes at most.
 pub(crate) fn start_by_tailer<S: Space>(s: &mut S, len: u64, at: u32) -> Result<Option<u32>, Io>
     requires length { len ≡ S.size s.old }
     ensures start { IfOk result (λ start. IsTrue S.tells

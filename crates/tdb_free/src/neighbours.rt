@@ -40,7 +40,8 @@ impl Neighbours {
 
 /// The record of the free list at an offset, if there is one. `len` is the length of the file.
 ///
-/// It looks at what is there, and reads 4 bytes at most for it. Only where that looks free, it goes along the list up to it.
+/// It looks at what is there, and reads 4 bytes at most for it. Only where that looks free, it goes along the list up
+/// to it.
 #[tactic(auto, using(crate::proofs::Looked::none_starts))]
 fn find_start<S: Space>(s: &mut S, len: u64, off: u64) -> Result<Option<Spot>, Io>
     requires length { len ≡ S.size s.old }
@@ -66,8 +67,8 @@ fn find_start<S: Space>(s: &mut S, len: u64, off: u64) -> Result<Option<Spot>, I
 
 /// The record of the free list that ends at an offset, if there is one. `len` is the length of the file.
 ///
-/// It looks at what is there, and reads 8 bytes at most for it: the tailer, and the magic of a record that is so long. Only where
-/// that looks free, it goes along the list up to it.
+/// It looks at what is there, and reads 8 bytes at most for it: the tailer, and the magic of a record that is so long.
+/// Only where that looks free, it goes along the list up to it.
 #[tactic(auto, using(crate::proofs::Looked::none_ends, crate::proofs::Looked::none_long, crate::proofs::Looked::none_before, crate::proofs::Looked::ends_first, crate::proofs::Looked::starts_before))]
 fn find_end<S: Space>(s: &mut S, len: u64, at: u32) -> Result<Option<Spot>, Io>
     requires length { len ≡ S.size s.old }

@@ -12,8 +12,8 @@ use crate::link_word::write_link;
 use crate::search::Spot;
 use tdb_space::{Io, Space};
 
-/// Takes a record that was found out of the free list, if one was. One word is written: the one that led to the record leads past
-/// it.
+/// Takes a record that was found out of the free list, if one was. One word is written: the one that led to the record
+/// leads past it.
 pub(crate) fn take_out<S: Space>(s: &mut S, found: Option<Spot>) -> Result<(), Io>
     requires within { IfSome found (λ p. SpotWithin p (S.form s.old) (S.size s.old)) }
     requires room { RoomForAll (S.spare s.old) 1 4 }

@@ -57,12 +57,12 @@ impl Spot {
     }
 }
 
-/// The first record of the free list with at least so many bytes behind its header, if there is one. `len` is the length of the
-/// file.
+/// The first record of the free list with at least so many bytes behind its header, if there is one. `len` is the
+/// length of the file.
 ///
-/// It reads the head of the list, and 24 bytes of each record up to that one. Where the file's bytes aren't those of a free list,
-/// a word that leads to no place where a record can stand ends the list as a 0 does, and so do as many records as the file has
-/// words.
+/// It reads the head of the list, and 24 bytes of each record up to that one. Where the file's bytes aren't those of a
+/// free list, a word that leads to no place where a record can stand ends the list as a 0 does, and so do as many
+/// records as the file has words.
 pub(crate) fn find_fit<S: Space>(s: &mut S, len: u64, rec_len: u64) -> Result<Option<Spot>, Io>
     requires length { len ≡ S.size s.old }
     ensures found { IfOk result (λ found. IsTrue S.tells → (offs : List ℕ)
@@ -96,9 +96,9 @@ pub(crate) fn find_fit<S: Space>(s: &mut S, len: u64, rec_len: u64) -> Result<Op
 
 /// The record of the free list at an offset, if there is one. `len` is the length of the file.
 ///
-/// It reads the head of the list, 4 bytes of each record in front of that one, and 24 bytes of that one; where it isn't in the
-/// list, 4 bytes of each record. Where the file's bytes aren't those of a free list, a word that leads to no place where a header
-/// can stand ends the list as a 0 does, and so do as many records as the file has words.
+/// It reads the head of the list, 4 bytes of each record in front of that one, and 24 bytes of that one; where it isn't
+/// in the list, 4 bytes of each record. Where the file's bytes aren't those of a free list, a word that leads to no
+/// place where a header can stand ends the list as a 0 does, and so do as many records as the file has words.
 #[tactic(auto, using(crate::proofs::Passed::passed_start, crate::proofs::Passed::passed_end, crate::proofs::Passed::passed_more, crate::proofs::Passed::passed_all))]
 pub(crate) fn find_at<S: Space>(s: &mut S, len: u64, off: u64) -> Result<Option<Spot>, Io>
     requires length { len ≡ S.size s.old }

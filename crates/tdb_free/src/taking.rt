@@ -41,8 +41,8 @@ fn take_whole<S: Space>(s: &mut S, spot: &Spot) -> Result<Hand, Io>
     Ok(Hand::new(spot.off, spot.rec_len))
 }
 
-/// Makes a record shorter. It writes the header's words behind the first one, those of what it held as 0, and a tailer at the new
-/// end.
+/// Makes a record shorter. It writes the header's words behind the first one, those of what it held as 0, and a tailer
+/// at the new end.
 fn shorten<S: Space>(s: &mut S, spot: &Spot, rec_len: u32) -> Result<(), Io>
     requires stands { Stands (S.form s.old) (S.size s.old) spot.now.off spot.now.rec_len }
     requires whole_words { rec_len % 4 ≡ 0 }
@@ -125,13 +125,13 @@ fn take_from<S: Space>(s: &mut S, spot: &Spot, rec_len: u32) -> Result<Hand, Io>
     }
 }
 
-/// Takes a record with at least so many bytes behind its header from the free list, if it has one: the first that is long enough.
-/// Where 36 bytes or more of its extent would be left, these stay a free record in its place in the list, and its end is taken;
-/// else the whole of it is. Nothing is written into what is taken.
+/// Takes a record with at least so many bytes behind its header from the free list, if it has one: the first that is
+/// long enough. Where 36 bytes or more of its extent would be left, these stay a free record in its place in the list,
+/// and its end is taken; else the whole of it is. Nothing is written into what is taken.
 ///
-/// It reads the head of the list, and 24 bytes of each record up to the one that is taken from. It writes one word, or the header
-/// and the tailer of what stays. `Io` where the disk failed. Where a record ends past the offsets that words can say, nothing is
-/// taken from it or those behind it.
+/// It reads the head of the list, and 24 bytes of each record up to the one that is taken from. It writes one word, or
+/// the header and the tailer of what stays. `Io` where the disk failed. Where a record ends past the offsets that words
+/// can say, nothing is taken from it or those behind it.
 pub fn take_fit<S: Space>(s: &mut S, rec_len: u64) -> Result<Option<Hand>, Io>
     requires whole_words { rec_len % 4 ≡ 0 }
     requires least { 4 ≤ rec_len }

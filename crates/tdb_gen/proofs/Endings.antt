@@ -27,8 +27,8 @@ use Rattle.tdb_gen.specs.Taking.{end_of, end_only, HeardSo, Place, place, IsStat
 abbrev pub AreCounted : Counts → List Line → Counts → Type 0
 AreCounted before lines after = (told : List Line) → before ≡ counts_of told → after ≡ counts_of (told ++ lines)
 
--- What is said of the plays in other words: all of them, those in front where a log refused, a part of them where memory was wanting, and
--- what was done where the disk failed.
+-- What is said of the plays in other words: all of them, those in front where a log refused, a part of them where
+-- memory was wanting, and what was done where the disk failed.
 module _ {V : Type 0} (t : Bool) (w v : Whole) (h k : History) (size longer faults more : ℕ) (lines : List Line) (before after : Counts) (logs later : List Logged) (plays : List Play)
     (Does : State → Result V LogRefusal → List LawLine → State → Type 0) (Begins Fails : State → List LawLine → State → Type 0)
     (all : (state : State) (u : V) (ls : List LawLine) (z : State) → Does state (Ok u) ls z → Course (form_at w) state (law_plays plays) ls z)

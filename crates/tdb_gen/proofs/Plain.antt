@@ -1,4 +1,5 @@
--- The file of a world in which each unfinished command is on one key: nobody has a transaction, so its bytes are those of the state.
+-- The file of a world in which each unfinished command is on one key: nobody has a transaction, so its bytes are those
+-- of the state.
 use Rattle.std.proofs.Common.{◌≡◌, ℕ, Bool, true, false, List, [], length, slice_get, Option, None, Some, refl, sym, ◌∙◌, ap, subst}
 use Rattle.std.specs.Prelude.{if◌then◌else◌}
 use Rattle.tdb_disk.specs.History.{History, seen}

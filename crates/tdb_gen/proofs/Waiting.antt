@@ -18,7 +18,8 @@ use Rattle.tdb_law.specs.World.{State}
 use Rattle.tdb_law.proofs.Locks.{within_covers}
 use Rattle.tdb_gen.specs.Rounds.{IsOnKey, IsBare, OnKeys}
 
--- After so many steps a command's next turn wants the byte: its first turn that of a chain, its third that of the free list.
+-- After so many steps a command's next turn wants the byte: its first turn that of a chain, its third that of the free
+-- list.
 abbrev Wants : ℕ → ℕ → Type 0
 Wants n b = ((n ≡ 0) × (168 ≤ b)) ⊎ ((n ≡ 2) × (b ≡ 164))
 

@@ -21,7 +21,8 @@ use Rattle.tdb_gen.specs.Counts.{counts_of}
 use Rattle.tdb_gen.specs.Plays.{joins, groups, group_list, gen_plays}
 use Rattle.tdb_gen.specs.Taking.{HeardSo, Parts}
 
--- Three openers joined, and then each group of commands was taken to its end: nobody had an unfinished command behind it.
+-- Three openers joined, and then each group of commands was taken to its end: nobody had an unfinished command behind
+-- it.
 pub record AllDone (f : Form) (n seed : ℕ) (old : State) (lines : List Line) (new : State) : Type 0 where
   pub mid : State
   pub front : List Line
@@ -41,8 +42,8 @@ pub record IsFirst (f : Form) (options : Options) (a : List ℕ) (first : State)
   pub loaded : IsLoaded f first (options_of options)
   pub file : HasFile f a first
 
--- All plays of n commands from a seed on were taken over the image a, which is b after them, an accepted one; every command
--- is done; and the summary counts the lines of the plays, and the keys and bytes of b.
+-- All plays of n commands from a seed on were taken over the image a, which is b after them, an accepted one; every
+-- command is done; and the summary counts the lines of the plays, and the keys and bytes of b.
 pub record Generated (f : Form) (options : Options) (a : List ℕ) (n seed : ℕ) (b : List ℕ) (summary : Summary) : Type 0 where
   pub first : State
   pub begins : IsFirst f options a first
@@ -57,7 +58,8 @@ pub record Generated (f : Form) (options : Options) (a : List ℕ) (n seed : ℕ
   pub live : summary.live ≡ length (order_of f b)
   pub size : summary.length ≡ length b
 
--- They were taken over the image a as far as they came, to this state, where they broke off so; and logs heard of their lines.
+-- They were taken over the image a as far as they came, to this state, where they broke off so; and logs heard of their
+-- lines.
 pub record CameSo (f : Form) (options : Options) (a : List ℕ) (n seed : ℕ) (fault : GenFault) (last : State) (logs later : List Logged) : Type 0 where
   pub first : State
   pub begins : IsFirst f options a first
@@ -69,7 +71,8 @@ pub record CameSo (f : Form) (options : Options) (a : List ℕ) (n seed : ℕ) (
 abbrev pub CameOver : Form → Options → List ℕ → ℕ → ℕ → List ℕ → GenFault → List Logged → List Logged → Type 0
 CameOver f options a n seed b fault logs later = (last : State) × HasFile f b last × CameSo f options a n seed fault last logs later
 
--- By the answer, with what logs heard, of all lines where all was done. Where the disk failed nothing is said of what is left.
+-- By the answer, with what logs heard, of all lines where all was done. Where the disk failed nothing is said of what
+-- is left.
 abbrev pub GeneratedOver : Form → Options → List ℕ → ℕ → ℕ → List ℕ → List Logged → List Logged → Result Summary GenFault → Type 0
 GeneratedOver f options a n seed b logs later (Ok summary) = (g : Generated f options a n seed b summary) × Heard logs g.lines later
 GeneratedOver f options a n seed b logs later (Err Io) = (last : State) × CameSo f options a n seed Io last logs later

@@ -1,4 +1,5 @@
--- Rounds of turns of three openers whose commands are each on one key: in each round one goes on, and so all are done in the end.
+-- Rounds of turns of three openers whose commands are each on one key: in each round one goes on, and so all are done
+-- in the end.
 use Rattle.std.specs.Prelude.{ℕ, ◌+◌, ◌-◌, ◌≡◌, ◌≤◌, List, false, true, Option, None, Some}
 use Rattle.std.specs.FinMap.{empty}
 use Rattle.tdb_space.specs.Form.{Form}
@@ -58,8 +59,8 @@ left_of_three w = turns_left (w.task 0) + turns_left (w.task 1) + turns_left (w.
 abbrev pub OnlyThree : State → Type 0
 OnlyThree w = (o : ℕ) → 3 ≤ o → w.task o ≡ None
 
--- In each round one of their commands goes on, where one is unfinished: who holds the free list isn't blocked; who waits for it waits
--- for such a one; and who waits for a chain waits for one who has had a turn.
+-- In each round one of their commands goes on, where one is unfinished: who holds the free list isn't blocked; who
+-- waits for it waits for such a one; and who waits for a chain waits for one who has had a turn.
 abbrev pub RoundGoesOn : Type 0
 RoundGoesOn = (f : Form) (old new : State) (lines : List Line) → OnKeys f old → OnlyThree old → Course f old (law_plays round) lines new
     → OnKeys f new × OnlyThree new × (left_of_three new ≤ left_of_three old - 1)

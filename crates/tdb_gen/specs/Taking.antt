@@ -64,14 +64,15 @@ Parts f old (plays ∷ parts) lines new =
     (mid : State) × (front : List Line) × (rest : List Line) × (lines ≡ front ++ rest) × Course f old (law_plays plays) (law_lines front) mid × IsIdle mid
     × Parts f mid parts rest new
 
--- What logs heard of lines that broke off so: where a log failed, of those in front of the one whose notice it refused; else of all, or up to
--- one whose notice a log refused.
+-- What logs heard of lines that broke off so: where a log failed, of those in front of the one whose notice it refused;
+-- else of all, or up to one whose notice a log refused.
 abbrev pub HeardSo : GenFault → List Logged → List Line → List Logged → Type 0
 HeardSo Io old lines new = Heard old lines new ⊎ ((refusal : LogRefusal) × HeardUpTo refusal old lines new)
 HeardSo Memory old lines new = Heard old lines new ⊎ ((refusal : LogRefusal) × HeardUpTo refusal old lines new)
 HeardSo Log old lines new = HeardUpTo Unheard.Failed old lines new
 
--- A place between plays: the world, the history and the length of its file, the count of faults of the disk, what was counted, and the logs.
+-- A place between plays: the world, the history and the length of its file, the count of faults of the disk, what was
+-- counted, and the logs.
 pub record Place : Type 0 where
   pub world : Whole
   pub history : History
@@ -87,7 +88,8 @@ place world history size faults counts logs = record { world = world; history = 
 abbrev pub IsStateAt : Place → State → Type 0
 IsStateAt p state = IsStateOf p.world p.history state
 
--- All plays were taken from one state to another between two places: their lines were counted behind others, and the logs heard of them.
+-- All plays were taken from one state to another between two places: their lines were counted behind others, and the
+-- logs heard of them.
 pub record TookAll (f : Form) (old new : Place) (plays : List Play) (start last : State) : Type 0 where
   pub lines : List Line
   pub course : Course f start (law_plays plays) (law_lines lines) last
@@ -110,8 +112,8 @@ TakesTo f old new plays start (Err Io) = (last : State) × TookSome f old new pl
 TakesTo f old new plays start (Err Memory) = LeavesSome f old new plays Memory start
 TakesTo f old new plays start (Err Log) = LeavesSome f old new plays Log start
 
--- Plays led from one place to another, and ended so, over a disk that tells its bytes or doesn't. What they did is said from each state of
--- the world.
+-- Plays led from one place to another, and ended so, over a disk that tells its bytes or doesn't. What they did is said
+-- from each state of the world.
 pub record Taken (tells : Bool) (old new : Place) (plays : List Play) (answer : Result (Unit {0}) GenFault) : Type 0 where
   pub header : UnlessIo answer (new.world.openers.header ≡ old.world.openers.header)
   pub fits : UnlessIo answer (WorldFits new.world (seen new.history) new.size)
@@ -120,8 +122,8 @@ pub record Taken (tells : Bool) (old new : Place) (plays : List Play) (answer : 
   pub told : IsTrue tells → (start : State) → IsStateAt old start → TakesTo (form_at old.world) old new plays start answer
   pub rose : IsTrue tells → (start : State) → IsStateAt old start → OnIo answer (Rose old.faults new.faults)
 
--- So it is over each file, with each count and all logs, where plays make no call on the disk, nothing is counted of them, and no log hears of
--- them.
+-- So it is over each file, with each count and all logs, where plays make no call on the disk, nothing is counted of
+-- them, and no log hears of them.
 abbrev pub TakenInAny : Whole → Whole → List Play → Result (Unit {0}) GenFault → Type 0
 TakenInAny old new plays answer =
     (tells : Bool) (h : History) (size faults : ℕ) (counts : Counts) (logs : List Logged) → WorldFits old (seen h) size

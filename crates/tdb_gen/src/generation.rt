@@ -121,7 +121,8 @@ impl Generation {
         })
     }
 
-    /// Lets three openers join a world in which nobody has joined, takes all groups, and tells what came of so many commands.
+    /// Lets three openers join a world in which nobody has joined, takes all groups, and tells what came of so many
+    /// commands.
     pub(crate) fn make<D: Disk, L: Logs>(
         &mut self,
         world: &mut World,

@@ -19,8 +19,8 @@ use tdb_words::Header;
 
 /// How many keys the file has.
 ///
-/// `Io` where the disk failed, and where the file has a fault, which no command leaves: so over an accepted file the disk
-/// failed.
+/// `Io` where the disk failed, and where the file has a fault, which no command leaves: so over an accepted file the
+/// disk failed.
 fn live_keys<S: Space>(alloc: Global, space: &mut S) -> Result<u64, GenFault>
     ensures counted { IfOk result (λ live. IsTrue S.tells → AcceptWith (S.form space.old) (S.image space.old) [] → live ≡ length (order_of (S.form space.old) (S.image space.old))) }
     ensures looked { Looked S.Space space.old space.new }

@@ -19,13 +19,13 @@ use tdb_commands::Options;
 use tdb_world::World;
 use tdb_words::Header;
 
-/// Lets three openers join and do so many generated commands on an accepted file, in groups of three, and tells what came
-/// of them. The same numbers, on the same bytes, give the same bytes and the same summary. The last log is told each
-/// growth of the file.
+/// Lets three openers join and do so many generated commands on an accepted file, in groups of three, and tells what
+/// came of them. The same numbers, on the same bytes, give the same bytes and the same summary. The last log is told
+/// each growth of the file.
 ///
-/// `Io` where the disk failed, and where a check at the end finds a fault, which no command leaves; then nothing is said of
-/// the file. `Log` where a log failed to take a notice, and `Memory` where that was wanting; then the commands were done as
-/// far as they came.
+/// `Io` where the disk failed, and where a check at the end finds a fault, which no command leaves; then nothing is
+/// said of the file. `Log` where a log failed to take a notice, and `Memory` where that was wanting; then the commands
+/// were done as far as they came.
 ///
 /// Cost: that of the commands, of which each is copied once, and of one check of the file. It makes no plays and no
 /// lines, and holds one command of each opener with its copy.

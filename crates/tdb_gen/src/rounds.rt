@@ -16,8 +16,8 @@ use tdb_log::Logs;
 /// How many rounds of turns a group has.
 const ROUNDS: u32 = 24;
 
-/// An opener takes a turn of its command, where it has one. The turn is counted, and the last log is told what became of
-/// the file. Whether the opener had a command.
+/// An opener takes a turn of its command, where it has one. The turn is counted, and the last log is told what became
+/// of the file. Whether the opener had a command.
 fn take_turn<D: Disk, L: Logs>(
     world: &mut World,
     disk: &mut D,
@@ -58,8 +58,8 @@ fn take_round<D: Disk, L: Logs>(
     Ok(first || second || third)
 }
 
-/// Takes the rounds of a group, up to the first in which nobody has a command: those behind it would change nothing, and
-/// there would be nothing to count in them.
+/// Takes the rounds of a group, up to the first in which nobody has a command: those behind it would change nothing,
+/// and there would be nothing to count in them.
 pub(crate) fn take_rounds<D: Disk, L: Logs>(
     world: &mut World,
     disk: &mut D,

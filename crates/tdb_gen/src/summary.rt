@@ -32,8 +32,8 @@ fn push_number(text: &mut Bytes, word: &[u8], number: u64) -> Result<(), AllocEr
 }
 
 impl Summary {
-    /// The text of the summary: a line for each number, of a word, a space and the number in decimal. It takes memory for
-    /// the text, which is shorter than 400 bytes.
+    /// The text of the summary: a line for each number, of a word, a space and the number in decimal. It takes memory
+    /// for the text, which is shorter than 400 bytes.
     pub fn text(&self, alloc: Global) -> Result<Bytes, AllocError>
         ensures { IfOk result (λ text. text ≡ summary_text self.now) }
     {

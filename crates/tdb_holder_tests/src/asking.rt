@@ -9,8 +9,8 @@ use std::test::Fail;
 use tdb_txn_owner::{TxnOwner, Wants};
 use tdb_locks::Kind;
 
-/// An opener after so many turns of the last of these commands, where changes raise the sequence number: its command that
-/// isn't done, whether that is a Close, how it holds all records, and whether it holds the bytes of opening, of
+/// An opener after so many turns of the last of these commands, where changes raise the sequence number: its command
+/// that isn't done, whether that is a Close, how it holds all records, and whether it holds the bytes of opening, of
 /// transactions, of the sequence number, and of a record.
 struct Asked {
     words: &'static [Word],
@@ -72,8 +72,8 @@ static ASKED: [Asked; 15] = [
         records: Some(Kind::Read),
         holds: RECORDS,
     },
-    // A Commit and a Prepare take all records for writing with their first turn, and with their second the bytes of opening
-    // and of the sequence number. What they hold they keep up to the end of a Commit.
+    // A Commit and a Prepare take all records for writing with their first turn, and with their second the bytes of
+    // opening and of the sequence number. What they hold they keep up to the end of a Commit.
     Asked {
         words: &FETCH,
         turns: 0,

@@ -9,7 +9,8 @@ use std::alloc::{AllocError, Global};
 use std::test::Fail;
 use tdb_disk::Call;
 
-/// How many turns a Start, a Store and a Commit take, what the last of them is told, and the value then. No opener is left.
+/// How many turns a Start, a Store and a Commit take, what the last of them is told, and the value then. No opener is
+/// left.
 type End = (usize, Told, u8);
 
 /// How they end where the call of this kind with this number fails; None where an opener is left.
@@ -53,8 +54,8 @@ fn failing_sync(alloc: Global) -> Result<Option<usize>, AllocError> {
     Ok(None)
 }
 
-/// Whether there are calls of this kind in a Start, a Store and a Commit, at most 98, and each that fails ends them with
-/// `Io` and leaves no opener.
+/// Whether there are calls of this kind in a Start, a Store and a Commit, at most 98, and each that fails ends them
+/// with `Io` and leaves no opener.
 fn fails(alloc: Global, call: Call) -> Result<bool, AllocError> {
     for nth in 0..99 {
         let Some((turns, told, _)) = end_with_fault(alloc, call, nth)? else {

@@ -16,8 +16,8 @@ use tdb_locks::Kind;
 /// The most turns that a command takes.
 pub(crate) const MOST: u32 = 9;
 
-/// Takes the turns of a Start of opener 1, and then those of these commands, while it is left, but at most so many of the
-/// last one. A row for each turn.
+/// Takes the turns of a Start of opener 1, and then those of these commands, while it is left, but at most so many of
+/// the last one. A row for each turn.
 pub(crate) fn play(
     alloc: Global,
     disk: &mut MemDisk,
@@ -49,8 +49,8 @@ enum After {
     Committed(u8),
 }
 
-/// Commands after a Start, where changes raise the sequence number or not: from a turn on the rows of all turns, whether
-/// an opener is left, and how the file is then.
+/// Commands after a Start, where changes raise the sequence number or not: from a turn on the rows of all turns,
+/// whether an opener is left, and how the file is then.
 struct Case {
     numbered: bool,
     words: &'static [Word],
@@ -205,7 +205,8 @@ static CASES: [Case; 22] = [
         left: true,
         after: After::Same,
     },
-    // The nine turns of a commit, with which the transaction is over. The sequence number is higher where changes raise it.
+    // The nine turns of a commit, with which the transaction is over. The sequence number is higher where changes raise
+    // it.
     Case {
         numbered: false,
         words: &[Word::Store(b'2'), Word::Commit],
@@ -251,7 +252,8 @@ static CASES: [Case; 22] = [
         left: false,
         after: After::Same,
     },
-    // A Prepare opens the gate with its fifth turn. A command that doesn't end the transaction is refused, and it stays.
+    // A Prepare opens the gate with its fifth turn. A command that doesn't end the transaction is refused, and it
+    // stays.
     Case {
         numbered: false,
         words: &[Word::Store(b'2'), Word::Prepare, Word::Fetch],
@@ -319,8 +321,8 @@ static CASES: [Case; 22] = [
         left: false,
         after: After::Any,
     },
-    // The last command is one turn, with which the transaction is over, and the file is as it was: a Cancel and a Close, a
-    // Commit after a transaction within it was cancelled, and one without a change, prepared or not.
+    // The last command is one turn, with which the transaction is over, and the file is as it was: a Cancel and a
+    // Close, a Commit after a transaction within it was cancelled, and one without a change, prepared or not.
     Case {
         numbered: false,
         words: &[Word::Store(b'2'), Word::Cancel],
@@ -369,8 +371,9 @@ static CASES: [Case; 22] = [
         left: false,
         after: After::Same,
     },
-    // The cursor shows the record with the value of the transaction, and then the end. What a transaction within another
-    // one stored is there after its Commit, and after its Cancel too, which only keeps the outer one from being committed.
+    // The cursor shows the record with the value of the transaction, and then the end. What a transaction within
+    // another one stored is there after its Commit, and after its Cancel too, which only keeps the outer one from being
+    // committed.
     Case {
         numbered: false,
         words: &[Word::First],
@@ -436,8 +439,8 @@ static CASES: [Case; 22] = [
     },
 ];
 
-/// The bytes of the file that has the new value, where its undo area is, and this sequence number. Nothing else in front
-/// of the area has changed.
+/// The bytes of the file that has the new value, where its undo area is, and this sequence number. Nothing else in
+/// front of the area has changed.
 fn committed(number: u8) -> [u8; 4096] {
     let mut want = bytes();
     want[44..48].copy_from_slice(&[0, 16, 0, 0]);

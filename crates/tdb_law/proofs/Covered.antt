@@ -1,5 +1,5 @@
--- What a command reads it has locked at its look, and what it touches it has locked for writing; and what is held at a record's byte is
--- held at each chain's.
+-- What a command reads it has locked at its look, and what it touches it has locked for writing; and what is held at a
+-- record's byte is held at each chain's.
 use Rattle.std.proofs.Common.{◌≡◌, ℕ, ◌≤◌, max, List, [], ◌∷◌, Bool, true, false, cond, nat_lt, nat_le, ◌==◌, Option, Some, None, is_none, refl, sym, subst, inl, inr, ◌⊎◌, arith, zero-le, le_refl, le_trans}
 use Rattle.std.specs.Prelude.{◌&&◌, if◌then◌else◌}
 use Rattle.std.proofs.lemmas.Bool.{cases_lt, le-ltb, leb-true}

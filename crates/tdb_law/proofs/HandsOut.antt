@@ -1,4 +1,5 @@
--- The image behind a world is accepted with all hands after a turn: the opener's own hands come first, and then go back to their place.
+-- The image behind a world is accepted with all hands after a turn: the opener's own hands come first, and then go back
+-- to their place.
 use Rattle.std.proofs.Common.{◌≡◌, ℕ, zero, suc, ◌+◌, ◌<◌, ◌≤◌, List, [], ◌∷◌, ◌++◌, true, cond, ◌==◌, Some, None, refl, sym, ◌∙◌, ap, subst, inl, inr, arith, append-nil}
 use Rattle.std.specs.Prelude.{if◌then◌else◌}
 use Rattle.std.specs.FinMap.{find, get-from_entries}

@@ -1,4 +1,5 @@
--- What an opener keeps after a command it held before, or wanted in the last turn; only the record of a new pair comes besides.
+-- What an opener keeps after a command it held before, or wanted in the last turn; only the record of a new pair comes
+-- besides.
 use Rattle.std.proofs.Common.{◌≡◌, ℕ, ◌+◌, ◌-◌, ◌<◌, ◌≤◌, max, List, [], ◌∷◌, Bool, true, false, cond, nat_lt, nat_le, ◌==◌, Option, Some, None, is_none, unwrap_or, refl, sym, ◌∙◌, ap, subst, inl, inr, ◌⊎◌, arith, zero-le, le_refl}
 use Rattle.std.specs.Prelude.{◌&&◌}
 use Rattle.std.specs.FinMap.{get, insert, remove, empty, get-insert, get-remove, get-empty}

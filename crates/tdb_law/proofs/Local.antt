@@ -1,5 +1,5 @@
--- Every command is local: reply, map and opener afterwards depend on the keys of the file that it reads alone, and only keys that it
--- touches change.
+-- Every command is local: reply, map and opener afterwards depend on the keys of the file that it reads alone, and only
+-- keys that it touches change.
 use Rattle.std.proofs.Common.{◌≡◌, ℕ, List, Bool, true, false, cond, Option, Some, None, is_none, refl, ap}
 use Rattle.std.specs.Prelude.{◌&&◌}
 use Rattle.std.specs.FinMap.{get}
@@ -119,8 +119,8 @@ same_own_by f None (OnGroup Prepare) x steps r m n agree = refl
 same_own_by f None (OnGroup Cancel) x steps r m n agree = refl
 same_own_by f None (OnWalk c) x steps r m n agree = refl
 
--- of a command whose change the file has: it neither moves, nor counts, nor meets a held lock; and the opener afterwards doesn't
--- depend on the map
+-- of a command whose change the file has: it neither moves, nor counts, nor meets a held lock; and the opener
+-- afterwards doesn't depend on the map
 pub record Changing (f : Form) (q : Option Refusal) (c : Command) (x : Own) : Type 0 where
   pub moves : moves_by q c x ≡ false
   pub counts : counts_by q c ≡ false

@@ -90,7 +90,8 @@ chain_covered f turn k s = covers_within (lock_chain f turn k s) (chain_byte f k
 pub all_covered : (f : Form) → HasFewChains f → (turn : ℕ) (k : List ℕ) (s : ℕ) → covers (lock_all turn s) (chain_byte f k) ≡ true
 all_covered f chains turn k s = let place = chain_place f chains k in covers_within (lock_all turn s) (chain_byte f k) place.above (omega (arith, place.below, place.far))
 
--- A lock that reaches records covers all chains too, so where it is held at a record's byte it is held at every chain's.
+-- A lock that reaches records covers all chains too, so where it is held at a record's byte it is held at every
+-- chain's.
 abbrev pub IsWide : Form → List Lock → Type 0
 IsWide f [] = Unit {0}
 IsWide f (l ∷ ls) = ((l.end ≤ data_start f) ⊎ ((l.start ≤ 168) × (all_end ≤ l.end))) × IsWide f ls

@@ -1,4 +1,5 @@
--- The commands on a map are local: reply and change depend on the keys that they read alone, and only keys that they touch change.
+-- The commands on a map are local: reply and change depend on the keys that they read alone, and only keys that they
+-- touch change.
 use Rattle.std.proofs.Common.{◌≡◌, ℕ, List, Bool, true, false, cond, Option, Some, None, is_some, refl, sym, ◌∙◌, ap, inl, inr, unwrap_or, [], ◌++◌}
 use Rattle.std.specs.FinMap.{get, insert, remove, len, get-insert, get-remove, same_map, slice_cmp-IsAntisymmetric, nat_cmp-IsAntisymmetric, IsAntisymmetric}
 use Rattle.std.specs.Cmp.{IsTotalOrder, tied_itself}

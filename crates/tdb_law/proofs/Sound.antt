@@ -52,8 +52,8 @@ gone_held f Seqnum x a z n b e gone = cc
 gone_held f (OnGroup c) x a z n b e gone = cc
 gone_held f (OnWalk c) x a z n b e gone = rw gone refl
 
--- How the locks of the opener have grown at a byte by its turn: not at all; by what it has found free; or besides by a new pair's
--- record, whose chain it had or has found free.
+-- How the locks of the opener have grown at a byte by its turn: not at all; by what it has found free; or besides by a
+-- new pair's record, whose chain it had or has found free.
 data Grown (f : Form) (free : Type 0) (table want : ℕ → ℕ) (now byte : ℕ) : Type 0 where
   grown_not : now ≤ table byte → Grown f free table want now byte
   grown_free : free → now ≤ max (table byte) (want byte) → Grown f free table want now byte

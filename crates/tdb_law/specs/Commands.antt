@@ -29,8 +29,8 @@ pub data Command : Type 0 where
   OnGroup : GroupCommand → Command
   OnWalk : WalkCommand → Command
 
--- what a command replies. `Done` says that it did what it says. `Busy` has an opener and a lock byte; `Full` the length and what
--- was needed; `Memory` is want of memory.
+-- what a command replies. `Done` says that it did what it says. `Busy` has an opener and a lock byte; `Full` the length
+-- and what was needed; `Memory` is want of memory.
 pub data Reply : Type 0 where
   Done End KeyMissing KeyThere ReadOnly NoTransaction InTransaction Nesting Doomed NotLocked Memory Yes No : Reply
   Value : List ℕ → Reply
@@ -38,14 +38,15 @@ pub data Reply : Type 0 where
   Busy Full : ℕ → ℕ → Reply
   HeldLocks Number : ℕ → Reply
 
--- One turn of a command: a step, after which it goes on; blocked by an opener who holds a lock on a byte, after which it tries the
--- same again; or its end with a reply.
+-- One turn of a command: a step, after which it goes on; blocked by an opener who holds a lock on a byte, after which
+-- it tries the same again; or its end with a reply.
 pub data Turn : Type 0 where
   Step : Turn
   Blocked : ℕ → ℕ → Turn
   Ends : Reply → Turn
 
--- a reply after which a command has changed nothing, whatever it was: want of memory, want of space, or a lock that is held
+-- a reply after which a command has changed nothing, whatever it was: want of memory, want of space, or a lock that is
+-- held
 abbrev pub is_spare : Reply → Bool
 is_spare Memory = true
 is_spare (Full len need) = true

@@ -36,7 +36,8 @@ number_or (Some t) q p = if t.numbered then p else q
 abbrev pub number_seen : Own → ℕ → ℕ → ℕ
 number_seen x q p = number_or x.txn q p
 
--- The file's number after a command that is done, q before it and p in the opener's image; and the number of that image.
+-- The file's number after a command that is done, q before it and p in the opener's image; and the number of that
+-- image.
 abbrev pub number_by : Option Refusal → Command → Own → ℕ → ℕ → ℕ
 number_by None (OnMap c) x q p = if outside x && map_changes c then raised x.options.seqnum q else q
 number_by None (OnGroup Commit) x q p = if commits x.txn && is_numbered x.txn then p else q
@@ -56,8 +57,8 @@ abbrev pub image_number_after : Form → Command → Own → Turn → ℕ → �
 image_number_after f c x (Ends r) q p = if is_done r then image_number_by (refusal f c x) c x q p else p
 image_number_after f c x turn q p = p
 
--- After so many steps the file lacks the key by this unfinished command, which may still be undone or told: by a delete or a wipe, or
--- by a commit that has begun to write its image.
+-- After so many steps the file lacks the key by this unfinished command, which may still be undone or told: by a delete
+-- or a wipe, or by a commit that has begun to write its image.
 abbrev pub commit_writes : Option ℕ → ℕ → Bool
 commit_writes None n = nat_le 6 n
 commit_writes (Some steps) n = nat_le 1 n
@@ -74,8 +75,8 @@ takes_by _ c x n k = false
 unfoldable pub takes : Form → Command → Own → ℕ → List ℕ → Bool
 takes f c x n k = takes_by (refusal f c x) c x n k
 
--- A stop is harmless from an outer Start's end on, up to the first step of a change outside a transaction, or to the second step of a
--- command that leaves a dead record and is about to purge it.
+-- A stop is harmless from an outer Start's end on, up to the first step of a change outside a transaction, or to the
+-- second step of a command that leaves a dead record and is about to purge it.
 abbrev pub unsettles_by : Option Refusal → Command → Own → ℕ → Bool
 unsettles_by None (OnMap c) x n = outside x && map_changes c
 unsettles_by None (OnWalk w) x n = n == 1

@@ -12,8 +12,8 @@ use Rattle.tdb_law.specs.Outcomes.{moves, counts, told, map_after, own_after, ow
 use Rattle.tdb_law.specs.Ends.{starves}
 use Rattle.tdb_law.specs.Held.{decided, moves_at}
 
--- The first conflict of a want: another opener holds the byte so that both can't stand, and no conflict is at a lesser byte, nor at
--- this byte with a lesser opener.
+-- The first conflict of a want: another opener holds the byte so that both can't stand, and no conflict is at a lesser
+-- byte, nor at this byte with a lesser opener.
 pub record IsFirstConflict (table : ℕ → ℕ → ℕ) (who : ℕ) (want : ℕ → ℕ) (owner byte : ℕ) : Type 0 where
   pub other : owner ≢ who
   pub conflict : 2 < want byte + table owner byte
@@ -32,18 +32,14 @@ pub data Finds (f : Form) (table want : ℕ → ℕ) (m : Map) (r : Reply) : Typ
   finds_pair : (k v : List ℕ) → r ≡ Pair k v → get m k ≡ Some v → 1 ≤ max (table (chain_byte f k)) (want (chain_byte f k)) → Finds f table want m r
   finds_end : r ≡ End → Finds f table want m r
 
--- The kinds of effect of a turn on the file's map and on the opener, where `free` says that the want is free, `conflict` which
--- opener and byte stand in its way, `finds` what a move finds, and `number` is the number that the opener sees.
---   waits      blocked; nothing changes
---   goes_on    a step that changes nothing
---   changes    the step in which the file changes, to what the command makes of it, turns before the command is told
---   answers    an end with the reply on the file's map, and the file and the opener as the command leaves them
---   shows      an end of a move
---   starves    an end for want of memory; only the opener is touched
---   is_full    an end for want of space, of a command that would have been done
---   is_busy    an end of a command that doesn't wait, at a conflict
---   numbers    an end with the sequence number
---   finishes   an end with Done of a command whose change the file has
+-- The kinds of effect of a turn on the file's map and on the opener, where `free` says that the want is free,
+-- `conflict` which opener and byte stand in its way, `finds` what a move finds, and `number` is the number that the
+-- opener sees. waits      blocked; nothing changes goes_on    a step that changes nothing changes    the step in which
+-- the file changes, to what the command makes of it, turns before the command is told answers    an end with the reply
+-- on the file's map, and the file and the opener as the command leaves them shows      an end of a move starves    an
+-- end for want of memory; only the opener is touched is_full    an end for want of space, of a command that would have
+-- been done is_busy    an end of a command that doesn't wait, at a conflict numbers    an end with the sequence number
+-- finishes   an end with Done of a command whose change the file has
 pub data Effect (f : Form) (free : Type 0) (conflict : ℕ → ℕ → Type 0) (finds : Reply → Type 0) (number : ℕ) (c : Command) (n : ℕ) (x : Own) (file : Map) (turn : Turn) (y : Own) (next : Map) : Type 0 where
   effect_waits : (o b : ℕ) → turn ≡ Blocked o b → conflict o b → is_changed f c x n ≡ false → next ≡ file → y ≡ x → Effect f free conflict finds number c n x file turn y next
   effect_goes_on : turn ≡ Step → free → is_changed f c x (n + 1) ≡ is_changed f c x n → next ≡ file → y ≡ x → Effect f free conflict finds number c n x file turn y next
@@ -62,16 +58,17 @@ task_left c n Step = Some (record { command = c; steps = n + 1 })
 task_left c n (Blocked o b) = Some (record { command = c; steps = n })
 task_left c n (Ends r) = None
 
--- Where the cursor stands after the end of a command: on no record; where it stood, with the same last pair; or after a pair on a
--- record whose chain was locked or wanted for reading at least. Outside a transaction alone does it stand on a record.
+-- Where the cursor stands after the end of a command: on no record; where it stood, with the same last pair; or after a
+-- pair on a record whose chain was locked or wanted for reading at least. Outside a transaction alone does it stand on
+-- a record.
 pub data Stays (f : Form) (table want : ℕ → ℕ) (x y : Own) (a b : Spot) (r : Reply) : Type 0 where
   stands_nowhere : b.stands ≡ None → Stays f table want x y a b r
   stands_still : x.txn ≡ None → y.txn ≡ None → y.cursor ≡ x.cursor → b.stands ≡ a.stands → Stays f table want x y a b r
   stands_on : (k v : List ℕ) (place : ℕ) → r ≡ Pair k v → x.txn ≡ None → y ≡ record x { cursor = Some k } → b.stands ≡ Some place → data_start f ≤ place
       → 1 ≤ max (table (chain_byte f k)) (want (chain_byte f k)) → Stays f table want x y a b r
 
--- What only the world knows of the opener after a turn: after a step what was decided; after a block the same, or all of it let go
--- where the turn moves; after the end where the cursor stands.
+-- What only the world knows of the opener after a turn: after a step what was decided; after a block the same, or all
+-- of it let go where the turn moves; after the end where the cursor stands.
 abbrev pub SpotLeft : Form → (ℕ → ℕ) → (ℕ → ℕ) → Command → ℕ → Own → Own → Spot → View → Spot → Turn → Type 0
 SpotLeft f table want c n x y a v b Step = b ≡ decided a v n
 SpotLeft f table want c n x y a v b (Blocked o byte) = (b ≡ a) ⊎ ((moves_at f c x (decided a v n) n ≡ true) × (b.gone ≡ true) × (b.stands ≡ None))

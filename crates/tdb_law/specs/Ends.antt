@@ -22,8 +22,9 @@ map_last Wipe = 3
 map_last Check = 3
 map_last _ = 6
 
--- It may end after so many steps with this reply: a look and a refusal end after one; a store in place too, one that finds no space
--- after three, one that links after five, or six where it gives a record back; a delete that marks after one, else after five.
+-- It may end after so many steps with this reply: a look and a refusal end after one; a store in place too, one that
+-- finds no space after three, one that links after five, or six where it gives a record back; a delete that marks after
+-- one, else after five.
 abbrev pub store_ends : ℕ → Reply → Bool
 store_ends n Done = (n == 1) || (n == 5) || (n == 6)
 store_ends n (Full len need) = n == 3
@@ -41,8 +42,8 @@ map_ends Wipe n r = n == 3
 map_ends Check n r = n == 3
 map_ends _ n r = store_ends n r
 
--- A Commit has eight steps, and three where it was prepared with its gate opened. It finds after two that the file doesn't change,
--- or that there is no space. Where there is nothing to plan it ends at once.
+-- A Commit has eight steps, and three where it was prepared with its gate opened. It finds after two that the file
+-- doesn't change, or that there is no space. Where there is nothing to plan it ends at once.
 abbrev pub is_opened : Option ℕ → Bool
 is_opened None = false
 is_opened (Some steps) = nat_le 4 steps
@@ -98,9 +99,9 @@ ends_by _ c x n r = n == 0
 abbrev pub may_end : Form → Command → Own → ℕ → Reply → Bool
 may_end f c x n r = ends_by (refusal f c x) c x n r
 
--- The commands that may find no memory, each at its turns up to the last, and a Start, Commit or Prepare at its first three turns. A
--- refusal, an unlock, a Cancel, an inner Start, Commit or Prepare, a Commit of a prepared transaction, and an EndWalk, Next or Close
--- without a cursor never do.
+-- The commands that may find no memory, each at its turns up to the last, and a Start, Commit or Prepare at its first
+-- three turns. A refusal, an unlock, a Cancel, an inner Start, Commit or Prepare, a Commit of a prepared transaction,
+-- and an EndWalk, Next or Close without a cursor never do.
 abbrev pub lock_starves : LockCommand → Bool
 lock_starves (ChainUnlock k) = false
 lock_starves UnlockAll = false
@@ -134,8 +135,8 @@ abbrev pub waits : Command → Bool
 waits (OnLocks (ChainLockNb k)) = false
 waits _ = true
 
--- A turn that the row of a command allows after so many steps: a step below the last; a block of one that waits; an end by the table, or
--- for want of memory.
+-- A turn that the row of a command allows after so many steps: a step below the last; a block of one that waits; an end
+-- by the table, or for want of memory.
 abbrev pub IsRow : Form → Command → Own → ℕ → Turn → Type 0
 IsRow f c x n Step = n < last_step f c x
 IsRow f c x n (Blocked owner byte) = waits c ≡ true

@@ -36,7 +36,8 @@ pub record Joins (f : Form) (old : State) (who : ℕ) (new : State) : Type 0 whe
   pub joined : new.joined ≡ suc old.joined
   pub stale : new.stale ≡ old.stale
 
--- A live opener dies that may die: it is closed, and has nothing any more. The world is stale from then on where it left a gate open.
+-- A live opener dies that may die: it is closed, and has nothing any more. The world is stale from then on where it
+-- left a gate open.
 pub record Dies (f : Form) (old : State) (who : ℕ) (new : State) : Type 0 where
   pub live : (old.own who).live ≡ true
   pub may_die : MayDie (old.task who)
@@ -46,8 +47,8 @@ pub record Dies (f : Form) (old : State) (who : ℕ) (new : State) : Type 0 wher
   pub joined : new.joined ≡ old.joined
   pub stale : new.stale ≡ (old.stale || leaves_open f (old.own who) (old.task who))
 
--- A live opener without a command is given one. Nothing else changes, but what the file adds to its cursor: which chains a move
--- wants on its way depends on the command.
+-- A live opener without a command is given one. Nothing else changes, but what the file adds to its cursor: which
+-- chains a move wants on its way depends on the command.
 pub record Given (old : State) (who : ℕ) (c : Command) (new : State) : Type 0 where
   pub live : (old.own who).live ≡ true
   pub idle : old.task who ≡ None
@@ -55,7 +56,8 @@ pub record Given (old : State) (who : ℕ) (c : Command) (new : State) : Type 0 
   pub others : (o : ℕ) → o ≢ who → new.task o ≡ old.task o
   pub rest : record new { task = old.task; view = old.view } ≡ old
 
--- An open gate that a dead opener left is undone. The file's map, an open gate undone, is as it was; walks lose at most what isn't seen.
+-- An open gate that a dead opener left is undone. The file's map, an open gate undone, is as it was; walks lose at most
+-- what isn't seen.
 pub record Undoes (f : Form) (old new : State) : Type 0 where
   pub was : old.stale ≡ true
   pub now : new.stale ≡ false

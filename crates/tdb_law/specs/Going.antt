@@ -4,8 +4,8 @@ use Rattle.tdb_space.specs.Form.{Form}
 use Rattle.tdb_law.specs.Layout.{Cell, Chains, Place, behind, ahead_of, reached_of}
 use Rattle.tdb_law.specs.Layout.Place.{before_chain, on_record}
 
--- A cursor has gone on from a place to a later one and has come to this key, or to none: it has entered no fewer chains, no key has come
--- to be further on, and each that was is the one come to, or is further on still.
+-- A cursor has gone on from a place to a later one and has come to this key, or to none: it has entered no fewer
+-- chains, no key has come to be further on, and each that was is the one come to, or is further on still.
 pub record GoesOn (f : Form) (cs : Chains) (place later : Place) (key : Option (List ℕ)) : Type 0 where
   pub reached : reached_of place ≤ reached_of later
   pub fewer : (k : List ℕ) → ahead_of f cs later k ≡ true → ahead_of f cs place k ≡ true
@@ -15,8 +15,9 @@ pub record GoesOn (f : Form) (cs : Chains) (place later : Place) (key : Option (
 abbrev pub key_met : Cell → Option (List ℕ)
 key_met c = if c.live then Some c.key else None
 
--- To the next record of its chain; from before a chain to its first record; past the last record of a chain; past a chain without one.
--- (No record comes twice in a chain, so behind the one that is come to stand those that stood behind it.)
+-- To the next record of its chain; from before a chain to its first record; past the last record of a chain; past a
+-- chain without one. (No record comes twice in a chain, so behind the one that is come to stand those that stood behind
+-- it.)
 abbrev pub ToNext : Type 0
 ToNext = (f : Form) (cs : Chains) (i p : ℕ) (c : Cell) (rest : List Cell) → behind (cs i) p ≡ c ∷ rest → behind (cs i) c.place ≡ rest → GoesOn f cs (on_record i p) (on_record i c.place) (key_met c)
 

@@ -24,7 +24,8 @@ locked ls n b = strongest (λ l. nat_lt l.turn n) ls b
 abbrev pub locked_next : List Lock → ℕ → ℕ → ℕ
 locked_next ls n b = strongest (λ l. l.turn == n) ls b
 
--- Outside a transaction an opener holds the chains that it locked explicitly for writing, and all records as it locked them.
+-- Outside a transaction an opener holds the chains that it locked explicitly for writing, and all records as it locked
+-- them.
 abbrev pub all_held : Option AllLock → ℕ → ℕ
 all_held None b = 0
 all_held (Some a) b = locked (lock_all 0 a.strength ∷ []) 1 b

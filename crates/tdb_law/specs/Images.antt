@@ -20,15 +20,15 @@ image_map f img = from_entries (order_of f img)
 abbrev pub ImageMapAnswers : Type 0
 ImageMapAnswers = (f : Form) (img k : List ℕ) → get (image_map f img) k ≡ map_of f img k
 
--- The image behind a world, an open gate undone: it is accepted with the hands of all openers, an opener without a command has none,
--- and its map is the world's.
+-- The image behind a world, an open gate undone: it is accepted with the hands of all openers, an opener without a
+-- command has none, and its map is the world's.
 pub record HasImage (f : Form) (w : State) (img : List ℕ) (hands : ℕ → List HandPair) : Type 0 where
   pub accepted : AcceptWith f img (joined w.joined hands)
   pub idle : (o : ℕ) → w.task o ≡ None → hands o ≡ []
   pub map : (k : List ℕ) → get w.file k ≡ map_of f img k
 
--- What a turn does to the image and to the hands: whatever the others' hands are, the image stays accepted with them and with the
--- opener's own; a command that has ended leaves none; and the map is the world's.
+-- What a turn does to the image and to the hands: whatever the others' hands are, the image stays accepted with them
+-- and with the opener's own; a command that has ended leaves none; and the map is the world's.
 pub record ImageTurned (f : Form) (new : State) (who : ℕ) (a b : List ℕ) (before after : ℕ → List HandPair) : Type 0 where
   pub others : (o : ℕ) → o ≢ who → after o ≡ before o
   pub made : (rest : List HandPair) → AcceptWith f a (before who ++ rest) → AcceptWith f b (after who ++ rest)

@@ -46,9 +46,9 @@ DeathIsLawful = (f : Form) (old new : State) (who : ℕ) (s : Replay) → IsSoun
 abbrev pub UndoIsLawful : Type 0
 UndoIsLawful = (f : Form) (old new : State) (bytes to : ℕ) (s : Replay) → IsSound f old → Stands f old s → Undoes f old new → LawfulLine f new s (Undone bytes to)
 
--- What leaves the world and tells why: a join while another holds the opening lock, after the most have joined, or for want of memory;
--- a play of an opener that isn't there, has no command, or has one already; the logs that are
--- left; a command that is unfinished at the end; and how the file grew in a turn.
+-- What leaves the world and tells why: a join while another holds the opening lock, after the most have joined, or for
+-- want of memory; a play of an opener that isn't there, has no command, or has one already; the logs that are left; a
+-- command that is unfinished at the end; and how the file grew in a turn.
 abbrev pub IsTold : Form → State → Replay → Line → Type 0
 IsTold f w s (JoinBlocked owner) = (w.joined < most_openers) × (1 ≤ w.table owner 0)
 IsTold f w s JoinMany = most_openers ≤ w.joined
@@ -74,7 +74,8 @@ pub record LawfulRun (f : Form) (new : State) (s : Replay) (lines : List Line) :
   pub lawful : IsLawful f s lines
   pub stands : Stands f new (replay f s lines)
 
--- The report of every course of plays is lawful, from each replay that stands for the world before to one that stands for it after.
+-- The report of every course of plays is lawful, from each replay that stands for the world before to one that stands
+-- for it after.
 abbrev pub CourseIsLawful : Type 0
 CourseIsLawful = (f : Form) (old new : State) (plays : List Play) (lines : List Line) (s : Replay) → IsSound f old → Stands f old s → Course f old plays lines new → LawfulRun f new s lines
 

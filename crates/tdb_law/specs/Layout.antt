@@ -42,7 +42,8 @@ abbrev pub behind : List Cell → ℕ → List Cell
 behind [] p = []
 behind (c ∷ cs) p = if c.place == p then cs else behind cs p
 
--- The keys that are further on: those of later chains, and in the chain of the record on which the cursor stands those behind it.
+-- The keys that are further on: those of later chains, and in the chain of the record on which the cursor stands those
+-- behind it.
 abbrev pub ahead_of : Form → Chains → Place → List ℕ → Bool
 ahead_of f cs off_chains k = false
 ahead_of f cs (before_chain i) k = nat_le i (home f k) && live_in (cs (home f k)) k
@@ -62,8 +63,8 @@ reached_of (on_record i p) = i + 1
 abbrev pub mark_of : Form → Chains → Place → Mark
 mark_of f cs place = record { inside = inside_of place; reached = reached_of place; ahead = ahead_of f cs place }
 
--- A chain keeps, but for one key: every other key has its used record in it as before, also behind each record on which a cursor
--- stands; and no key has come behind such a record.
+-- A chain keeps, but for one key: every other key has its used record in it as before, also behind each record on which
+-- a cursor stands; and no key has come behind such a record.
 pub record Keeps (stands : ℕ → Bool) (key : List ℕ) (cs later : List Cell) : Type 0 where
   pub whole : (q : List ℕ) → is_key key q ≡ false → live_in later q ≡ live_in cs q
   pub behind_same : (p : ℕ) (q : List ℕ) → stands p ≡ true → is_key key q ≡ false → live_in (behind later p) q ≡ live_in (behind cs p) q
@@ -105,7 +106,8 @@ WalksShift = (f : Form) (stands : ℕ → Bool) (key : List ℕ) (lost : List �
     → ((q : List ℕ) → is_key key q ≡ true → ahead_of f cs place q ≡ true → (ahead_of f later place q ≡ true) ⊎ (lost q ≡ true))
     → Shift f (λ k. lost k ≡ true) (mark_of f cs place) (mark_of f later place)
 
--- Whatever becomes of the chains, a walk that stands on no record shifts, where each key that was there is there or is lost.
+-- Whatever becomes of the chains, a walk that stands on no record shifts, where each key that was there is there or is
+-- lost.
 abbrev pub IsOffRecords : Place → Type 0
 IsOffRecords (on_record i p) = ⊥
 IsOffRecords place = Unit {0}

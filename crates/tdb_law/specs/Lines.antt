@@ -11,10 +11,10 @@ use Rattle.tdb_law.specs.Outcomes.{map_after}
 use Rattle.tdb_law.specs.Counting.{brings}
 use Rattle.tdb_law.specs.Replay.{Replay, may_hold, put, less_due, next, Allows}
 
--- The lines of a report. An opener joined, or could not, since another holds the opening lock, since too many joined, or for want of
--- memory; an opener took a turn of a command; the file grew from a length to another; an opener wasn't there, had no command, or had
--- one already; so many logs are left; an opener's command is unfinished at the end; an opener died; and the gate that one left open
--- was undone, with how many bytes and to what length.
+-- The lines of a report. An opener joined, or could not, since another holds the opening lock, since too many joined,
+-- or for want of memory; an opener took a turn of a command; the file grew from a length to another; an opener wasn't
+-- there, had no command, or had one already; so many logs are left; an opener's command is unfinished at the end; an
+-- opener died; and the gate that one left open was undone, with how many bytes and to what length.
 pub data Line : Type 0 where
   Joined JoinBlocked Absent Idle Occupied LogsLeft Unfinished Died : ℕ → Line
   JoinMany JoinMemory : Line
@@ -25,7 +25,8 @@ pub data Line : Type 0 where
 abbrev pub most_openers : ℕ
 most_openers = 1000
 
--- An opener that dies leaves its gate open: its commit has opened it and not shut it, or its Prepare has and no Commit shut it.
+-- An opener that dies leaves its gate open: its commit has opened it and not shut it, or its Prepare has and no Commit
+-- shut it.
 abbrev pub commit_steps_by : Option Refusal → Command → ℕ → ℕ
 commit_steps_by None (OnGroup Commit) n = n
 commit_steps_by _ c n = 0
@@ -45,7 +46,8 @@ txn_leaves_open (Some t) n = commits_in t && is_gate_open t.prepared n
 abbrev pub leaves_open : Form → Own → Option Task → Bool
 leaves_open f x u = txn_leaves_open x.txn (commit_steps f x u)
 
--- The map and the number after an opener died: those of its image where its commit has shut its gate, and else as they were.
+-- The map and the number after an opener died: those of its image where its commit has shut its gate, and else as they
+-- were.
 abbrev pub died_map : Form → Own → Option Task → Map → Map
 died_map f x None m = m
 died_map f x (Some u) m = if is_changed f u.command x u.steps then map_after f u.command x m else m
@@ -94,8 +96,8 @@ next_line f s (Died who) = died_state f s who
 next_line f s (Undone bytes to) = record s { stale = false; grows = false }
 next_line f s line = record s { grows = false }
 
--- Which lines may come. Openers join one by one. A turn is taken in a world that isn't stale. A file grows in a turn. An opener isn't
--- there where it isn't live; it is idle where its last line was an end.
+-- Which lines may come. Openers join one by one. A turn is taken in a world that isn't stale. A file grows in a turn.
+-- An opener isn't there where it isn't live; it is idle where its last line was an end.
 abbrev pub AllowsLine : Form → Replay → Line → Type 0
 AllowsLine f s (Joined who) = (who ≡ s.joined) × (s.joined < most_openers)
 AllowsLine f s (JoinBlocked owner) = (s.joined < most_openers) × (1 ≤ may_hold f s owner 0)

@@ -11,7 +11,8 @@ abbrev pub fetched : Option (List ℕ) → Reply
 fetched None = KeyMissing
 fetched (Some v) = Value v
 
--- The reply on a map. Only a key that is there can be fetched, modified or deleted, and only one that isn't can be inserted.
+-- The reply on a map. Only a key that is there can be fetched, modified or deleted, and only one that isn't can be
+-- inserted.
 abbrev pub reply : MapCommand → Map → Reply
 reply (Fetch k) m = fetched (get m k)
 reply (Has k) m = if has m k then Yes else No

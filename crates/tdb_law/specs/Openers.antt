@@ -11,7 +11,8 @@ use Rattle.std.specs.FinMap.{FinMap, get, insert, remove, empty, values}
 abbrev pub bytes_cmp : List ℕ → List ℕ → Ordering
 bytes_cmp = slice_cmp nat_cmp
 
--- a map from keys to values, both bytes. It answers at each key, and has a number of keys. Maps that answer alike are equal
+-- a map from keys to values, both bytes. It answers at each key, and has a number of keys. Maps that answer alike are
+-- equal
 abbrev pub Map : Type 0
 Map = FinMap bytes_cmp (List ℕ)
 
@@ -33,8 +34,8 @@ pub record Options : Type 0 where
   pub read_only : Bool
   pub seqnum : Bool
 
--- A transaction: the map of its image, its depth, whether an inner one was cancelled, how many steps its Prepare had where it is
--- prepared, whether a changing command was done in it, and whether its changes raise the sequence number.
+-- A transaction: the map of its image, its depth, whether an inner one was cancelled, how many steps its Prepare had
+-- where it is prepared, whether a changing command was done in it, and whether its changes raise the sequence number.
 pub record Txn : Type 0 where
   pub image : Map
   pub depth : ℕ
@@ -48,8 +49,8 @@ pub record AllLock : Type 0 where
   pub strength : ℕ
   pub count : ℕ
 
--- What an opener has that a report shows: whether it is live, its transaction, its explicit locks, and of its cursor the key of the
--- last pair.
+-- What an opener has that a report shows: whether it is live, its transaction, its explicit locks, and of its cursor
+-- the key of the last pair.
 pub record Own : Type 0 where
   pub options : Options
   pub live : Bool
@@ -58,21 +59,21 @@ pub record Own : Type 0 where
   pub all : Option AllLock
   pub cursor : Option (List ℕ)
 
--- What only the world knows of an opener: the record on which its cursor stands outside a transaction, whether its command is going
--- to purge a dead one, and whether a move that was blocked has let go of everything.
+-- What only the world knows of an opener: the record on which its cursor stands outside a transaction, whether its
+-- command is going to purge a dead one, and whether a move that was blocked has let go of everything.
 pub record Spot : Type 0 where
   pub stands : Option ℕ
   pub purging : Bool
   pub gone : Bool
 
--- What the file adds to that at each moment: whether its cursor stands on a dead record that it has to purge when it leaves, and
--- which chain bytes its next move wants.
+-- What the file adds to that at each moment: whether its cursor stands on a dead record that it has to purge when it
+-- leaves, and which chain bytes its next move wants.
 pub record View : Type 0 where
   pub must : Bool
   pub way : ℕ → Bool
 
--- Where its walk has come in the map that it sees: whether it stands on a record, how many chains it has entered, and which keys
--- have their record further on.
+-- Where its walk has come in the map that it sees: whether it stands on a record, how many chains it has entered, and
+-- which keys have their record further on.
 pub record Mark : Type 0 where
   pub inside : Bool
   pub reached : ℕ

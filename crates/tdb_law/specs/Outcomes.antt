@@ -1,5 +1,5 @@
--- What a command comes to: its reply on a map, the map, the opener and the sequence number afterwards, and the keys that it reads and
--- touches. Each is a table by level, with a column for a command that is refused.
+-- What a command comes to: its reply on a map, the map, the opener and the sequence number afterwards, and the keys
+-- that it reads and touches. Each is a table by level, with a column for a command that is refused.
 use Rattle.std.specs.Prelude.{ℕ, ◌+◌, ◌-◌, List, Bool, true, false, ◌&&◌, ◌||◌, Option, Some, None, is_some, nat_lt, if◌then◌else◌}
 use Rattle.tdb_space.specs.Form.{Form}
 use Rattle.tdb_law.specs.Commands.{MapCommand, LockCommand, GroupCommand, WalkCommand, Command, Reply, Turn, is_done}
@@ -22,7 +22,8 @@ abbrev pub plans : Option Txn → Bool
 plans None = false
 plans (Some t) = plans_in t
 
--- A command whose reply is a move of the cursor: First, and Next where there is a cursor. The reply of Seqnum is a number.
+-- A command whose reply is a move of the cursor: First, and Next where there is a cursor. The reply of Seqnum is a
+-- number.
 abbrev pub walk_moves : WalkCommand → Own → Bool
 walk_moves First x = true
 walk_moves Next x = is_some x.cursor
@@ -84,8 +85,8 @@ touches_by _ c x k = false
 abbrev pub touches : Form → Command → Own → List ℕ → Bool
 touches f c x k = touches_by (refusal f c x) c x k
 
--- The opener after a command in its own transaction: the image has the change, and where the command was done there is something to
--- commit.
+-- The opener after a command in its own transaction: the image has the change, and where the command was done there is
+-- something to commit.
 abbrev pub changed_txn : MapCommand → Option Txn → Option Txn
 changed_txn c None = None
 changed_txn c (Some t) = Some (record t { image = after c t.image; changed = t.changed || (map_changes c && is_done (reply c t.image)) })
@@ -107,8 +108,8 @@ abbrev pub own_started : Option Txn → Own → Map → Own
 own_started None x m = record x { txn = Some (begun_txn x m) }
 own_started (Some t) x m = record x { txn = Some (record t { depth = t.depth + 1 }) }
 
--- a Commit or a Prepare that wasn't done: without a transaction all stays, an inner one leaves the depth one less, an outer one ends the
--- transaction
+-- a Commit or a Prepare that wasn't done: without a transaction all stays, an inner one leaves the depth one less, an
+-- outer one ends the transaction
 abbrev pub own_left : Option Txn → Own → Own
 own_left None x = x
 own_left (Some t) x = if nat_lt 1 t.depth then record x { txn = Some (record t { depth = t.depth - 1 }) } else ended x
@@ -158,8 +159,8 @@ own_by f None (OnWalk w) x steps r m = own_walked w x r
 abbrev pub own_after : Form → Command → Own → ℕ → Reply → Map → Own
 own_after f c x steps r m = own_by f (refusal f c x) c x steps r m
 
--- the opener after a command that found no memory, no space or a lock that is held: a Commit or Prepare cancels, a move ends the
--- cursor, and a Close has closed all the same
+-- the opener after a command that found no memory, no space or a lock that is held: a Commit or Prepare cancels, a move
+-- ends the cursor, and a Close has closed all the same
 abbrev pub own_spared : Command → Own → Own
 own_spared (OnGroup Commit) x = ended x
 own_spared (OnGroup Prepare) x = ended x

@@ -10,8 +10,8 @@ use Rattle.tdb_law.specs.Lines.{Line, MayDie, most_openers}
 use Rattle.tdb_law.specs.Lines.Line.{Joined, JoinBlocked, JoinMany, JoinMemory, Took, Grew, Absent, Idle, Occupied, LogsLeft, Died, Undone}
 use Rattle.tdb_law.specs.Events.{Joins, Dies, Given, Undoes}
 
--- What may be played: an opener joins; an opener is given a command, takes one turn, or takes turns up to the first that isn't a step;
--- it is given a command and does it so; a log is dropped; an opener dies.
+-- What may be played: an opener joins; an opener is given a command, takes one turn, or takes turns up to the first
+-- that isn't a step; it is given a command and does it so; a log is dropped; an opener dies.
 pub data Play : Type 0 where
   Join SetLog : Play
   Give Do : ℕ → Command → Play
@@ -54,9 +54,9 @@ Goes f (suc n) old who lines new =
 abbrev pub most_turns : ℕ
 most_turns = 9
 
--- A play that leaves the world and answers by one line: a join that fails; a play of an opener who isn't live; one that is given a
--- command and has one; one that is to go on and has none; one that is to die in the middle of another command; and a log that is
--- dropped.
+-- A play that leaves the world and answers by one line: a join that fails; a play of an opener who isn't live; one that
+-- is given a command and has one; one that is to go on and has none; one that is to die in the middle of another
+-- command; and a log that is dropped.
 abbrev pub IsAnswer : State → Play → Line → Type 0
 IsAnswer w Join (JoinBlocked owner) = (w.joined < most_openers) × (1 ≤ w.table owner 0)
 IsAnswer w Join JoinMany = most_openers ≤ w.joined

@@ -1,4 +1,5 @@
--- The refusals that depend on the opener's own state alone: for each command a table, of which the first that applies is the answer.
+-- The refusals that depend on the opener's own state alone: for each command a table, of which the first that applies
+-- is the answer.
 use Rattle.std.specs.Prelude.{ℕ, ◌+◌, ◌*◌, List, [], ◌∷◌, Bool, false, ◌&&◌, ◌||◌, not, Option, Some, None, is_some, nat_lt, ◌==◌, if◌then◌else◌}
 use Rattle.tdb_space.specs.Form.{Form}
 use Rattle.tdb_space.specs.Pairs.{home}
@@ -19,8 +20,8 @@ pub data Refusal : Type 0 where
 abbrev pub chain_byte : Form → List ℕ → ℕ
 chain_byte f k = 168 + 4 * home f k
 
--- what the table asks of an opener: it is prepared; it has a cursor; it holds chains explicitly; its lock of all records has this
--- strength; its transaction is nested, or doomed
+-- what the table asks of an opener: it is prepared; it has a cursor; it holds chains explicitly; its lock of all
+-- records has this strength; its transaction is nested, or doomed
 abbrev pub is_prepared : Option Txn → Bool
 is_prepared None = false
 is_prepared (Some t) = is_some t.prepared
@@ -81,8 +82,8 @@ lock_refusals f LockAll x = (is_prepared x.txn, IsPrepared) ∷ (outside x && no
 lock_refusals f LockAllRead x = (is_prepared x.txn, IsPrepared) ∷ (outside x && not (is_some x.all) && (has_chains x || has_cursor x), LocksStand) ∷ []
 lock_refusals f UnlockAll x = (is_prepared x.txn, IsPrepared) ∷ (not (is_some x.all), NothingLocked) ∷ ((all_count x.all == 1) && outside x && (has_chains x || has_cursor x), LocksStand) ∷ []
 
--- of Commit, and of a Prepare that isn't inner: there is no transaction, it is doomed, or locks that were taken in it are held at
--- its outer end
+-- of Commit, and of a Prepare that isn't inner: there is no transaction, it is doomed, or locks that were taken in it
+-- are held at its outer end
 abbrev pub commit_refusals : Own → Refusals
 commit_refusals x = (outside x, NoneOpen) ∷ (is_doomed x.txn, IsDoomed) ∷ (not (is_nested x.txn) && nat_lt 0 (explicit_locks x), LocksStand) ∷ []
 

@@ -15,9 +15,10 @@ use Rattle.tdb_law.specs.Counting.{takes, number_seen, number_after, image_numbe
 use Rattle.tdb_law.specs.Held.{explicit_held, txn_held, may_held, may_want}
 use Rattle.tdb_law.specs.Effects.{task_left}
 
--- The state of a replay: the committed map; each opener, how many have joined, and the command of each that has had a line; of each
--- walk the keys that were shown and those that it still owes; whether the file is stale, and whether it is settled; the sequence
--- number, and the number of each transaction's image; and whether the last line was a turn's, after which the file may have grown.
+-- The state of a replay: the committed map; each opener, how many have joined, and the command of each that has had a
+-- line; of each walk the keys that were shown and those that it still owes; whether the file is stale, and whether it
+-- is settled; the sequence number, and the number of each transaction's image; and whether the last line was a turn's,
+-- after which the file may have grown.
 pub record Replay : Type 0 where
   pub map : Map
   pub own : ℕ → Own
@@ -72,8 +73,8 @@ takes_begun f x (Some u) k = takes f u.command x u.steps k
 abbrev pub taken : Form → Replay → ℕ → List ℕ → Bool
 taken f s who k = any_below s.joined (λ o. not (o == who) && takes_begun f (s.own o) (s.begun o) k)
 
--- The first line of a First that moves begins a walk: it has shown nothing, and owes each key that its opener sees, but for those that
--- another's command has taken out.
+-- The first line of a First that moves begins a walk: it has shown nothing, and owes each key that its opener sees, but
+-- for those that another's command has taken out.
 abbrev pub starts : Form → Replay → ℕ → Command → Bool
 starts f s who c = is_none (s.begun who) && (is_first c && moves f c (s.own who))
 
@@ -83,8 +84,8 @@ shown_now f s who c k = if starts f s who c then false else s.shown who k
 abbrev pub due_now : Form → Replay → ℕ → Command → List ℕ → Bool
 due_now f s who c k = if starts f s who c then has (seen (s.own who) s.map) k && not (taken f s who k) else s.due who k
 
--- The map after a line: a command counts where it ends, unless the reply is want of memory or space, or a lock that is held. An outer
--- Commit that isn't refused sets the map to that of its image.
+-- The map after a line: a command counts where it ends, unless the reply is want of memory or space, or a lock that is
+-- held. An outer Commit that isn't refused sets the map to that of its image.
 abbrev pub is_outer : Option Txn → Bool
 is_outer None = false
 is_outer (Some t) = nat_le t.depth 1
@@ -153,8 +154,9 @@ less_due f touched t = record t { due = still_due f touched t }
 abbrev pub next : Form → Replay → ℕ → Command → Turn → Replay
 next f s who c turn = less_due f (touched c turn) (turned_state f s who c (s.own who) (steps_of (s.begun who)) turn)
 
--- What a report may say at the end of a command. A reply of a plain map; a pair that the opener sees and that its walk hasn't shown;
--- an end where all that is owed was shown; the number; or want of memory, want of space, or a lock that may be held.
+-- What a report may say at the end of a command. A reply of a plain map; a pair that the opener sees and that its walk
+-- hasn't shown; an end where all that is owed was shown; the number; or want of memory, want of space, or a lock that
+-- may be held.
 pub data Says (f : Form) (s : Replay) (who : ℕ) (c : Command) (r : Reply) : Type 0 where
   says_plain : moves f c (s.own who) ≡ false → counts f c (s.own who) ≡ false → r ≡ told f c (s.own who) s.map → Says f s who c r
   says_pair : (k v : List ℕ) → moves f c (s.own who) ≡ true → r ≡ Pair k v → get (seen (s.own who) s.map) k ≡ Some v → shown_now f s who c k ≡ false → Says f s who c r
@@ -173,8 +175,8 @@ AllowsTurn f s who c Step = Unit {0}
 AllowsTurn f s who c (Blocked o b) = IsInTheWay f s who c o b
 AllowsTurn f s who c (Ends r) = Says f s who c r × IsAlone s who c r
 
--- A report may go on with this turn: the opener is live, the command is the one that it has begun, the row allows the turn, and what
--- it tells is so.
+-- A report may go on with this turn: the opener is live, the command is the one that it has begun, the row allows the
+-- turn, and what it tells is so.
 pub record Allows (f : Form) (s : Replay) (who : ℕ) (c : Command) (turn : Turn) : Type 0 where
   pub live : (s.own who).live ≡ true
   pub begun : IsOf (s.begun who) c

@@ -54,7 +54,8 @@ stores turn = Took 0 (OnMap (Store a two)) turn
 abbrev pub fetches : Turn → Line
 fetches turn = Took 1 (OnMap (Fetch a)) turn
 
--- A store has locked its chain, and a fetch of the same key is blocked by it until the store is done; then it sees the new value.
+-- A store has locked its chain, and a fetch of the same key is blocked by it until the store is done; then it sees the
+-- new value.
 abbrev pub row_of_two : List Line
 row_of_two = two_join ++ stores Step ∷ fetches (Blocked 0 byte_a) ∷ stores (Ends Done) ∷ fetches Step ∷ fetches (Ends (Value two)) ∷ []
 

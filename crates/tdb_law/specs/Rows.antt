@@ -1,4 +1,5 @@
--- The rows of the commands: the locks that their turns take, when a change is made, and how many steps there are before an end.
+-- The rows of the commands: the locks that their turns take, when a change is made, and how many steps there are before
+-- an end.
 use Rattle.std.specs.Prelude.{ℕ, ◌+◌, ◌^◌, List, [], ◌∷◌, Bool, true, false, ◌&&◌, Option, Some, None, is_none, nat_le, if◌then◌else◌}
 use Rattle.tdb_space.specs.Form.{Form}
 use Rattle.tdb_law.specs.Commands.{MapCommand, LockCommand, GroupCommand, WalkCommand, Command}
@@ -11,8 +12,8 @@ use Rattle.tdb_law.specs.Openers.{Own, Txn, outside}
 use Rattle.tdb_law.specs.MapCommands.{map_fills}
 use Rattle.tdb_law.specs.Refusals.{Refusal, refusal, chain_byte}
 
--- A lock of a row: the number of steps before the turn that takes it, the bytes from its start up to its end, and its strength, 1
--- for reading or 2 for writing.
+-- A lock of a row: the number of steps before the turn that takes it, the bytes from its start up to its end, and its
+-- strength, 1 for reading or 2 for writing.
 pub record Lock : Type 0 where
   pub turn : ℕ
   pub start : ℕ
@@ -44,8 +45,8 @@ start_locks = lock 0 8 9 2 ∷ lock_all 1 1 ∷ []
 abbrev pub commit_locks : Bool → List Lock
 commit_locks numbered = lock_all 0 2 ∷ lock 1 0 1 2 ∷ (if numbered then lock 1 48 49 2 ∷ [] else [])
 
--- Outside a transaction: a look takes its chain for reading; a change takes its chain for writing and the free list; Wipe and Check
--- take all records and the free list.
+-- Outside a transaction: a look takes its chain for reading; a change takes its chain for writing and the free list;
+-- Wipe and Check take all records and the free list.
 abbrev pub map_locks : Form → MapCommand → List Lock
 map_locks f (Fetch k) = lock_chain f 0 k 1 ∷ []
 map_locks f (Has k) = lock_chain f 0 k 1 ∷ []
@@ -64,16 +65,16 @@ lock_locks f LockAll = lock_all 0 2 ∷ []
 lock_locks f LockAllRead = lock_all 0 1 ∷ []
 lock_locks f _ = []
 
--- a command that leaves a dead record which it has to purge takes its chain for writing and the free list; else Next takes its chain
--- for reading
+-- a command that leaves a dead record which it has to purge takes its chain for writing and the free list; else Next
+-- takes its chain for reading
 abbrev pub walk_locks : Form → WalkCommand → Option (List ℕ) → Bool → List Lock
 walk_locks f w None purging = []
 walk_locks f Next (Some k) false = lock_chain f 0 k 1 ∷ []
 walk_locks f w (Some k) false = []
 walk_locks f w (Some k) true = lock_chain f 0 k 2 ∷ lock_free 1 2 ∷ []
 
--- a Commit of this transaction changes the file: it is the outer one, something was changed, and its Prepare, if it had one, found
--- that too
+-- a Commit of this transaction changes the file: it is the outer one, something was changed, and its Prepare, if it had
+-- one, found that too
 abbrev pub was_planned : Option ℕ → Bool
 was_planned None = true
 was_planned (Some steps) = nat_le 1 steps
@@ -96,8 +97,8 @@ group_locks Commit txn = plan_locks txn
 group_locks Prepare txn = plan_locks txn
 group_locks _ txn = []
 
--- The locks of a command's row. A command that is refused takes none; nor does one inside the opener's own transaction, but for
--- Commit and Prepare.
+-- The locks of a command's row. A command that is refused takes none; nor does one inside the opener's own transaction,
+-- but for Commit and Prepare.
 abbrev pub locks_by : Form → Option Refusal → Command → Own → Bool → List Lock
 locks_by f (Some q) c x purging = []
 locks_by f None (OnMap c) x purging = if outside x then map_locks f c else []
@@ -123,8 +124,8 @@ look_by _ c x = 0
 abbrev pub look : Form → Command → Own → ℕ
 look f c x = look_by (refusal f c x) c x
 
--- After so many steps a command on the map has made its change, where it makes it in a turn of its own: a store has linked its
--- record, a delete has unlinked it, a wipe has wiped.
+-- After so many steps a command on the map has made its change, where it makes it in a turn of its own: a store has
+-- linked its record, a delete has unlinked it, a wipe has wiped.
 abbrev pub map_changed : MapCommand → ℕ → Bool
 map_changed c n = if map_fills c then nat_le 5 n else map_unlinked c n
   where
@@ -133,7 +134,8 @@ map_changed c n = if map_fills c then nat_le 5 n else map_unlinked c n
     map_unlinked Wipe n = nat_le 3 n
     map_unlinked _ n = false
 
--- after so many steps a commit has shut its gate, by the eighth turn, or by the third where it was prepared with its gate opened
+-- after so many steps a commit has shut its gate, by the eighth turn, or by the third where it was prepared with its
+-- gate opened
 abbrev pub gate_shut : Option ℕ → ℕ → Bool
 gate_shut None n = nat_le 8 n
 gate_shut (Some steps) n = nat_le 4 steps && nat_le 3 n

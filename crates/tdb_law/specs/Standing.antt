@@ -27,15 +27,15 @@ pub record IsTouchedBy (f : Form) (w : State) (k : List ℕ) : Type 0 where
   pub pending : IsPending f w owner command own
   pub touched : touches f command own k ≡ true
 
--- The committed map is the file's, but for the commands whose change the file has and which aren't told yet: each is done on the
--- committed map, and what it makes of that map at the keys that it touches is what the file has there.
+-- The committed map is the file's, but for the commands whose change the file has and which aren't told yet: each is
+-- done on the committed map, and what it makes of that map at the keys that it touches is what the file has there.
 pub record MapStands (f : Form) (w : State) (m : Map) : Type 0 where
   pub replies : (o : ℕ) (c : Command) (x : Own) → IsPending f w o c x → told f c x m ≡ Done
   pub pending : (o : ℕ) (c : Command) (x : Own) → IsPending f w o c x → (k : List ℕ) → touches f c x k ≡ true → get w.file k ≡ get (map_after f c x m) k
   pub each : (k : List ℕ) → (get w.file k ≡ get m k) ⊎ IsTouchedBy f w k
 
--- A key whose record a pending plain command has linked anew: in the chain of the record on which the walk stands, or by the walker's
--- own command.
+-- A key whose record a pending plain command has linked anew: in the chain of the record on which the walk stands, or
+-- by the walker's own command.
 pub record IsBehind (f : Form) (w : State) (o : ℕ) (k : List ℕ) : Type 0 where
   pub owner : ℕ
   pub command : Command
@@ -45,8 +45,8 @@ pub record IsBehind (f : Form) (w : State) (o : ℕ) (k : List ℕ) : Type 0 whe
   pub touched : touches f command own k ≡ true
   pub near : (owner ≡ o) ⊎ (((w.mark o).inside ≡ true) × (home f k + 1 ≡ (w.mark o).reached))
 
--- A walk is on its way: what it has shown is not further on and its chain is entered; and what it owes was shown, is further on, or
--- is linked anew.
+-- A walk is on its way: what it has shown is not further on and its chain is entered; and what it owes was shown, is
+-- further on, or is linked anew.
 pub record IsOnWay (f : Form) (w : State) (o : ℕ) (shown owed : List ℕ → Bool) : Type 0 where
   pub behind : (k : List ℕ) → shown k ≡ true → (w.mark o).ahead k ≡ false
   pub reached : (k : List ℕ) → shown k ≡ true → home f k < (w.mark o).reached
@@ -78,8 +78,9 @@ pub record IsUntouched (m : Map) (t : Txn) : Type 0 where
   pub image : t.changed ≡ false → t.image ≡ m
   pub prepared : t.prepared ≡ Some 0 → t.changed ≡ false
 
--- A replay stands for a world: openers, commands, staleness and settledness are the world's; the committed map is the file's but for
--- pending changes; the lists of each walk stand for it; and the number is the file's, but for a pending commit that brings one.
+-- A replay stands for a world: openers, commands, staleness and settledness are the world's; the committed map is the
+-- file's but for pending changes; the lists of each walk stand for it; and the number is the file's, but for a pending
+-- commit that brings one.
 pub record Stands (f : Form) (w : State) (s : Replay) : Type 0 where
   pub joined : s.joined ≡ w.joined
   pub same : (o : ℕ) → IsSame (s.begun o) (w.task o)

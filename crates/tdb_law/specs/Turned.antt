@@ -16,13 +16,15 @@ use Rattle.tdb_law.specs.Walks.{Shift, Lost, Walked}
 abbrev pub want : Form → State → ℕ → Task → ℕ → ℕ
 want f w who task b = wanted f task.command (w.own who) (decided (w.spot who) (w.view who) task.steps) (w.view who) task.steps b
 
--- The number of the file after a turn: that of the image from the step on that shuts the gate of a commit which brings it.
+-- The number of the file after a turn: that of the image from the step on that shuts the gate of a commit which brings
+-- it.
 abbrev pub number_next : Form → Command → ℕ → Own → Turn → ℕ → ℕ → ℕ
 number_next f c n x Step q p = if brings f c x && is_changed f c x (n + 1) then p else q
 number_next f c n x turn q p = number_after f c x turn q p
 
--- A turn of an opener with this task: the turn is one of the command's row, its effect is one of the ten kinds, the task, the locks,
--- the number and whether the world is settled are those after it, and of other openers all stays but their walks' marks.
+-- A turn of an opener with this task: the turn is one of the command's row, its effect is one of the ten kinds, the
+-- task, the locks, the number and whether the world is settled are those after it, and of other openers all stays but
+-- their walks' marks.
 pub record Turned (f : Form) (old : State) (who : ℕ) (task : Task) (turn : Turn) (new : State) : Type 0 where
   pub mine : old.task who ≡ Some task
   pub joined : new.joined ≡ old.joined

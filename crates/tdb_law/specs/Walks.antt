@@ -1,4 +1,5 @@
--- What a turn does to walks: one that the turn doesn't move keeps its place, and may lose keys by changes alone; a move goes on.
+-- What a turn does to walks: one that the turn doesn't move keeps its place, and may lose keys by changes alone; a move
+-- goes on.
 use Rattle.std.specs.Prelude.{ℕ, ◌+◌, ◌≡◌, ◌≢◌, ◌≤◌, ◌<◌, ◌⊎◌, List, Bool, true, false, ◌&&◌, not, Option, Some, None, is_some, if◌then◌else◌}
 use Rattle.tdb_space.specs.Form.{Form}
 use Rattle.tdb_space.specs.Pairs.{home}
@@ -18,17 +19,17 @@ abbrev pub IsPlain : Command → Type 0
 IsPlain (OnMap c) = Unit {0}
 IsPlain c = ⊥
 
--- A key has its record no longer further on than a walk has come. By the turn: its command is done and touched the key; or another's
--- command takes it out of the file; or it links the key's record anew, in front of its chain, while the walk stands on a record of
--- that chain (or the command is the walker's own).
+-- A key has its record no longer further on than a walk has come. By the turn: its command is done and touched the key;
+-- or another's command takes it out of the file; or it links the key's record anew, in front of its chain, while the
+-- walk stands on a record of that chain (or the command is the walker's own).
 pub data Lost (f : Form) (c : Command) (n : ℕ) (x : Own) (turn : Turn) (mine : Bool) (mark : Mark) (k : List ℕ) : Type 0 where
   lost_by_done : touched c turn k ≡ true → Lost f c n x turn mine mark k
   lost_by_taking : mine ≡ false → turn ≡ Step → takes f c x (n + 1) k ≡ true → Lost f c n x turn mine mark k
   lost_by_passing : turn ≡ Step → is_changed f c x (n + 1) ≡ true → touches f c x k ≡ true → IsPlain c
       → (mine ≡ true) ⊎ ((mark.inside ≡ true) × (home f k + 1 ≡ mark.reached)) → Lost f c n x turn mine mark k
 
--- A walk that isn't moved: it stands as it stood and has entered as many chains. What is further on now was so before, or is in a
--- chain that isn't entered yet; and what was further on is so still, or is lost.
+-- A walk that isn't moved: it stands as it stood and has entered as many chains. What is further on now was so before,
+-- or is in a chain that isn't entered yet; and what was further on is so still, or is lost.
 pub record Shift (f : Form) (lost : List ℕ → Type 0) (mark later : Mark) : Type 0 where
   pub inside : later.inside ≡ mark.inside
   pub reached : later.reached ≡ mark.reached
@@ -48,8 +49,8 @@ pub record TakenBy (f : Form) (old : State) (o : ℕ) (k : List ℕ) : Type 0 wh
 abbrev pub Taken : Form → State → ℕ → Bool → List ℕ → Type 0
 Taken f old who start k = (start ≡ true) × ((o : ℕ) × (o ≢ who) × TakenBy f old o k)
 
--- A move that doesn't begin a walk holds the chain in which it stands, and never goes back. Each key that was due is the one shown, or
--- is further on, or was taken out when the walk began.
+-- A move that doesn't begin a walk holds the chain in which it stands, and never goes back. Each key that was due is
+-- the one shown, or is further on, or was taken out when the walk began.
 pub record Moves (f : Form) (old new : State) (who : ℕ) (start : Bool) (key : Option (List ℕ)) : Type 0 where
   pub holds : start ≡ false → (old.mark who).inside ≡ true → (k : List ℕ) → home f k + 1 ≡ (old.mark who).reached → 1 ≤ old.table who (chain_byte f k)
   pub further : start ≡ false → (old.mark who).reached ≤ (new.mark who).reached
@@ -72,7 +73,8 @@ pub record Finishes (f : Form) (old : State) (who : ℕ) (start : Bool) : Type 0
 abbrev pub begins : Form → Command → Own → Spot → Bool
 begins f c x a = is_first c && (moves f c x && not a.gone)
 
--- What a turn does to the walk of the opener whose turn it is. A walk that isn't moved shifts; one that ends is of no more account.
+-- What a turn does to the walk of the opener whose turn it is. A walk that isn't moved shifts; one that ends is of no
+-- more account.
 pub data Walked (f : Form) (old new : State) (who : ℕ) (c : Command) (n : ℕ) (turn : Turn) : Type 0 where
   walk_steps : turn ≡ Step → Shift f (Lost f c n (old.own who) turn true (old.mark who)) (old.mark who) (new.mark who) → Walked f old new who c n turn
   walk_rests : (o b : ℕ) → turn ≡ Blocked o b → (new.spot who).gone ≡ (old.spot who).gone → Shift f (Lost f c n (old.own who) turn true (old.mark who)) (old.mark who) (new.mark who)

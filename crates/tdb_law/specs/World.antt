@@ -7,9 +7,10 @@ use Rattle.tdb_law.specs.Rows.{is_changed}
 use Rattle.tdb_law.specs.Outcomes.{touches}
 use Rattle.tdb_law.specs.Held.{holding}
 
--- All that is seen of a world. Openers are counted from 0 here, so the opener that a report calls 1 is 0. The file is the map of its
--- bytes with an open gate undone, and its number is the word at 48 of those. The table has what each opener holds at each byte. Of an
--- opener that hasn't joined all is as if it had nothing. A world is stale while a gate stands open that an opener left by dying.
+-- All that is seen of a world. Openers are counted from 0 here, so the opener that a report calls 1 is 0. The file is
+-- the map of its bytes with an open gate undone, and its number is the word at 48 of those. The table has what each
+-- opener holds at each byte. Of an opener that hasn't joined all is as if it had nothing. A world is stale while a gate
+-- stands open that an opener left by dying.
 pub record State : Type 0 where
   pub file : Map
   pub table : ℕ → ℕ → ℕ
@@ -42,9 +43,10 @@ pub record HasFewChains (f : Form) : Type 0 where
   pub some : 0 < f.chains
   pub few : f.chains < 2 ^ 32
 
--- What holds between any two calls: the file has chains; the table is what each opener holds; no two openers' locks conflict; a
--- cursor that stands on a record has a last pair and is outside a transaction; who has a command is there, and who is live has
--- joined; and in a stale world nobody has a change pending, since who died held all records for writing.
+-- What holds between any two calls: the file has chains; the table is what each opener holds; no two openers' locks
+-- conflict; a cursor that stands on a record has a last pair and is outside a transaction; who has a command is there,
+-- and who is live has joined; and in a stale world nobody has a change pending, since who died held all records for
+-- writing.
 pub record IsSound (f : Form) (w : State) : Type 0 where
   pub chains : HasFewChains f
   pub agrees : (o b : ℕ) → w.table o b ≡ holding f (w.own o) (w.spot o) (w.task o) b

@@ -32,7 +32,8 @@ count_of_all (Some all) = all.1
 abbrev pub total_of : HeldLocks → ℕ
 total_of held = sum (values_of held.chains) + count_of_all held.all
 
--- the chain is held once more, or as often as before where its count can't rise; the total rises with it, and all else stays
+-- the chain is held once more, or as often as before where its count can't rise; the total rises with it, and all else
+-- stays
 pub record Raises (old new : HeldLocks) (chain : ℕ) : Type 0 where
   pub raised : count_of new chain ≡ min (count_of old chain + 1) (2 ^ 32 - 1)
   pub total : total_of new + count_of old chain ≡ total_of old + count_of new chain

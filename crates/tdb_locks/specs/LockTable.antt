@@ -14,7 +14,8 @@ kinds_conflict Read Write = true
 kinds_conflict Write Read = true
 kinds_conflict Write Write = true
 
--- the byte past the last of the range that begins at `start`; a range to the end stops at 2 ^ 63, past every byte of a file
+-- the byte past the last of the range that begins at `start`; a range to the end stops at 2 ^ 63, past every byte of a
+-- file
 abbrev pub stop : ℕ → Len → ℕ
 stop start (Bytes count) = start + count
 stop start ToEnd = 2 ^ 63

@@ -6,7 +6,8 @@ use Rattle.tdb_locks.specs.declared.locks.LockRefusal.TheVariants.{Conflict, Mem
 use Rattle.tdb_locks.specs.declared.locks.LockRefusal.{LockRefusal}
 use Rattle.tdb_locks.specs.declared.piece.Piece.{Piece}
 
--- a conflict is named exactly where there is one, and then it is the first; for want of memory a lock is refused only where there is none
+-- a conflict is named exactly where there is one, and then it is the first; for want of memory a lock is refused only
+-- where there is none
 abbrev pub IsRefusal : List Piece → ℕ → ℕ → ℕ → Kind → LockRefusal → Type 0
 IsRefusal ps owner start end want (Conflict other byte kind) = IsFirstConflict ps owner start end want other byte kind
 IsRefusal ps owner start end want Memory = IsFree ps owner start end want

@@ -5,7 +5,8 @@ use Rattle.tdb_log.specs.declared.log.LogRefusal.{LogRefusal}
 use Rattle.tdb_log.specs.declared.log.LogRefusal.TheVariants.{Failed, Memory}
 use Rattle.tdb_log.specs.declared.notice.Notice.{Notice}
 
--- A log, as a contract sees it: whether it tells, the notices so far, which say something only where it does, and its count of faults.
+-- A log, as a contract sees it: whether it tells, the notices so far, which say something only where it does, and its
+-- count of faults.
 pub record Logged : Type 0 where
   pub tells : Bool
   pub notices : List Notice

@@ -35,7 +35,8 @@ pub trait Log: Drop {
         ensures tells { tells self.new ≡ tells self.old }
         ensures cause { HasCauseOf LogRefusal.Failed (faults self.old) (faults self.new) result };
 
-    /// The notice with this number, counted from 0; None from their count on, and where the log doesn't tell them. It takes no memory.
+    /// The notice with this number, counted from 0; None from their count on, and where the log doesn't tell them. It
+    /// takes no memory.
     fn told(&self, number: u64) -> Option<Notice>
         ensures told { IsTrue (tells self.now) → result ≡ slice_get (notices self.now) number }
         ensures untold { tells self.now ≡ false → result ≡ None };

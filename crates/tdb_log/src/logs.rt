@@ -6,8 +6,8 @@ ghost use Rattle.tdb_log.specs.Logs.{Logged, Took, Refused, LastBecame, but_last
 use crate::log::{Log, LogRefusal};
 use crate::notice::Notice;
 
-/// A list of logs. The last is told each notice; it may be dropped, and then the one before it is told what follows. With
-/// none left nobody is told.
+/// A list of logs. The last is told each notice; it may be dropped, and then the one before it is told what follows.
+/// With none left nobody is told.
 pub trait Logs {
     /// Each log, as a contract sees it.
     ghost logs: { Self → List Logged };

@@ -41,8 +41,8 @@ verdict (Err Log) = []
 abbrev pub UndoTells : List ℕ → List Notice → Type 0
 UndoTells img notices = ((notices ≡ N.Recovered (lengths (entries (form_of img) img)) ∷ []) × IsUndone img) ⊎ ((notices ≡ []) × (IsUndone img → ⊥))
 
--- What an opening of a file with these bytes tells: its undo, if one is made, and then what the check counted, or why it
--- is refused.
+-- What an opening of a file with these bytes tells: its undo, if one is made, and then what the check counted, or why
+-- it is refused.
 pub data OpeningTells (img : List ℕ) (notices : List Notice) : Type 0 where
   tells_checked : (undo : List Notice) (report : Report) → UndoTells img undo → CanOpen img → Counted (opened_bytes img) report → notices ≡ undo ++ checked report ∷ [] → OpeningTells img notices
   tells_refused : (undo : List Notice) (refusal : Refusal) → UndoTells img undo → IsRefused img refusal → notices ≡ undo ++ refusal_tells refusal → OpeningTells img notices

@@ -58,8 +58,8 @@ pub record HasOpenGate (img : List ℕ) : Type 0 where
   pub front : front_fault img ≡ None
   pub gate_open : is_open (form_of img) img ≡ true
 
--- A file with these bytes is refused so where it is to be read alone: it would have to be undone first, whatever else is
--- wrong with it; or it is refused as any other opening refuses it.
+-- A file with these bytes is refused so where it is to be read alone: it would have to be undone first, whatever else
+-- is wrong with it; or it is refused as any other opening refuses it.
 abbrev pub IsRefusedToRead : List ℕ → Refusal → Type 0
 IsRefusedToRead img (TooLong len) = IsRefused img (TooLong len)
 IsRefusedToRead img (Header fault) = IsRefused img (Header fault)
@@ -147,8 +147,9 @@ pub record UndoBroken (old now : History) : Type 0 where
 abbrev pub LookBroken : History → History → Type 0
 LookBroken old now = SameOrUndone old now ⊎ UndoBroken old now
 
--- What an opening did, whatever it answered: where all of a file was on the medium that can be opened, and whose undo changes no byte by which
--- its header is known, every stop leaves one that opens to the map and the sequence number that it is read as.
+-- What an opening did, whatever it answered: where all of a file was on the medium that can be opened, and whose undo
+-- changes no byte by which its header is known, every stop leaves one that opens to the map and the sequence number
+-- that it is read as.
 abbrev pub OpensSafely : History → History → Type 0
 OpensSafely old now = Quiet old → Opens (seen old) → Shut (form_of (seen old)) (seen old) ⊎ Mild (seen old) → LeavesOnly old now (Reopens (opened_bytes (seen old)))
 

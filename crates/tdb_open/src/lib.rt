@@ -1,5 +1,5 @@
-//! The opening of a file: an unfinished change is undone, and no file is used before the whole of it is checked. And the
-//! making of a new file.
+//! The opening of a file: an unfinished change is undone, and no file is used before the whole of it is checked. And
+//! the making of a new file.
 #![tactic(auto)]
 
 mod creating;

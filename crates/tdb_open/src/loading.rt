@@ -1,4 +1,5 @@
-// The file on a disk is opened as those want it who use it: to be changed or to be read alone, and not longer than they let it be.
+// The file on a disk is opened as those want it who use it: to be changed or to be read alone, and not longer than they
+// let it be.
 
 ghost use Rattle.std.specs.Prelude.{◌≡◌, ◌≤◌, length, IsTrue, IfOk};
 ghost use Rattle.tdb_disk.specs.Count.{HasCauseOf};

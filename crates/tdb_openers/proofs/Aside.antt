@@ -1,4 +1,5 @@
--- An opener without a command that takes all records, or lets go of them: it holds nothing else, and the world stands as before.
+-- An opener without a command that takes all records, or lets go of them: it holds nothing else, and the world stands
+-- as before.
 use Rattle.std.proofs.Common.{◌≡◌, ◌≢◌, ℕ, ◌+◌, ◌-◌, ◌<◌, ◌≤◌, max, List, slice_get, Bool, true, false, nat_lt, sum, Option, Some, None, is_some, slice_index_or, slice_set, Result, Ok, Err, OnOk, OnErr, IfErr, refl, sym, ◌∙◌, ap, subst, inl, inr, arith, le_refl}
 use Rattle.std.specs.Prelude.{IfSome, if◌then◌else◌}
 use Rattle.std.proofs.lemmas.Bool.{cases_Bool}

@@ -91,7 +91,8 @@ module _ {w : World} {who : ℕ} {x : Opener} {t : Task} {any : List ℕ} {size 
         view_there o = ap (λ entries. views entries o (slice_get v.openers o)) (same_entries w.openers v.openers l x (record x { task = None }) (found B) R.put refl)
             ∙ same_at w.openers v.openers l x (record x { task = None }) (found B) R.put (views (spots_of w.openers) o) (no_view_before (spots_of w.openers) o) o
 
--- Beside an opener that shuts it out, where nobody is in the way of the number, the end that tells it is a turn of the whole state.
+-- Beside an opener that shuts it out, where nobody is in the way of the number, the end that tells it is a turn of the
+-- whole state.
 pub asked_beside : {w v : World} {img : List ℕ} {past : Past} {s : Side} {holder who : ℕ} {x : Opener} {t : Task} {any : List ℕ} {size : ℕ} → IsBarred w img past s holder who x t any size → t.job ≡ Jobs.Seqnum
     → IsReplaced w who (record x { task = None }) v → let q = beside (state_in w img) past s in IsFree q.table (law_opener who) (want (form_in w.header) q (law_opener who) (law_of_task t))
     → IsTurnBeside w v img past s (law_opener who) (law_of_task t) (Ends (Number q.number))

@@ -1,4 +1,5 @@
--- A command that has had no step is at its beginning: it holds no record and knows nothing, and takes no record out of its chain.
+-- A command that has had no step is at its beginning: it holds no record and knows nothing, and takes no record out of
+-- its chain.
 use Rattle.std.proofs.Common.{◌≡◌, ℕ, List, [], Bool, Option, refl, sym, ap, subst, arith}
 use Rattle.tdb_space.specs.Form.{Form}
 use Rattle.tdb_law.specs.Openers.{Own}

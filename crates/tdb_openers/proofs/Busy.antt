@@ -1,5 +1,5 @@
--- What a command has locked by its stage: who knows anything of a chain has it locked for writing, and who holds a record has the free
--- list so.
+-- What a command has locked by its stage: who knows anything of a chain has it locked for writing, and who holds a
+-- record has the free list so.
 use Rattle.std.proofs.Common.{◌≡◌, ℕ, ◌<◌, ◌≤◌, List, [], ◌∷◌, true, Option, None, is_none, refl, ◌∙◌, ap, inl, inr, ◌⊎◌, arith, le_trans}
 use Rattle.std.specs.Prelude.{◌&&◌, if◌then◌else◌}
 use Rattle.tdb_space.specs.Form.{Form}

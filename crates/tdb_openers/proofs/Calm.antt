@@ -1,5 +1,5 @@
--- Who holds no record for writing is about to make no change: a command on the map that may change it is before its first turn, and a
--- cursor isn't going to purge. So is who isn't in the middle of a change.
+-- Who holds no record for writing is about to make no change: a command on the map that may change it is before its
+-- first turn, and a cursor isn't going to purge. So is who isn't in the middle of a change.
 use Rattle.std.proofs.Common.{◌≡◌, ℕ, List, [], slice_get, Bool, true, false, Some, None, is_none, refl, sym, ◌∙◌, ap, subst, inl, inr, ◌⊎◌, arith}
 use Rattle.std.specs.Prelude.{◌&&◌}
 use Rattle.std.proofs.lemmas.Bool.{cases_Bool, cases_eq}

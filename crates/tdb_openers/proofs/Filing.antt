@@ -79,9 +79,10 @@ map_left f free conflict finds number c n x file turn y next E =
 abbrev doing : Plain → ℕ → Bool → Stage → Option (List ℕ) → Doing
 doing command chain seqnum stage whole = record { command = command; chain = chain; seqnum = seqnum; stage = stage; whole = whole }
 
--- What a turn of the opener `who` makes of the file, from image a to image b, where the opener is y after it: the map stays for those who
--- read every chain, and chains stay for those who write them; the image is accepted with the records of commands, and the opener's command
--- knows it; records stay on which other cursors stand that don't purge them; no cursor stands on a record that is taken out.
+-- What a turn of the opener `who` makes of the file, from image a to image b, where the opener is y after it: the map
+-- stays for those who read every chain, and chains stay for those who write them; the image is accepted with the
+-- records of commands, and the opener's command knows it; records stay on which other cursors stand that don't purge
+-- them; no cursor stands on a record that is taken out.
 pub record KeepsFile (f : Form) (xs ys : List Opener) (ps : List Piece) (a b : List ℕ) (who : ℕ) (y : Opener) : Type 0 where
   pub map_stays : (o : ℕ) → o ≢ who → ((k : List ℕ) → 1 ≤ table_of ps (o + 1) (chain_byte f k)) → image_map f b ≡ image_map f a
   pub chain_stays : (o : ℕ) → o ≢ who → (k : List ℕ) → 2 ≤ table_of ps (o + 1) (chain_byte f k) → ChainStays f a b (home f k)

@@ -1,5 +1,6 @@
--- Nobody holds a byte below the free list's, as those of the opening lock, of the transaction lock and of the sequence number are: the
--- rows of commands that have had a step, and explicit locks, lie behind them. Nor does anybody write past the last lock byte.
+-- Nobody holds a byte below the free list's, as those of the opening lock, of the transaction lock and of the sequence
+-- number are: the rows of commands that have had a step, and explicit locks, lie behind them. Nor does anybody write
+-- past the last lock byte.
 use Rattle.std.proofs.Common.{◌≡◌, ℕ, ◌+◌, ◌-◌, ◌<◌, ◌≤◌, ◌⊎◌, List, [], ◌∷◌, slice_get, Bool, true, false, nat_lt, Option, Some, None, refl, sym, ◌∙◌, ap, subst, inl, inr, arith, lit<, lit≤}
 use Rattle.std.proofs.lemmas.Bool.{cases_eq, le-ltb}
 use Rattle.tdb_space.specs.Form.{Form, data_start}

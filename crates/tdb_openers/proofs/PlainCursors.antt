@@ -1,4 +1,5 @@
--- What a turn of a plain command leaves of the cursors beside it: a record is taken out of its chain only where none stands on it.
+-- What a turn of a plain command leaves of the cursors beside it: a record is taken out of its chain only where none
+-- stands on it.
 use Rattle.std.proofs.Common.{◌≡◌, ℕ, ◌+◌, ◌<◌, List, ◌∷◌, ◌++◌, Bool, true, false, Option, None, Some, refl, sym, ◌∙◌, ap, subst, inl, inr, arith}
 use Rattle.std.specs.Prelude.{◌&&◌, nat_eq, nat_lt, length, Contains}
 use Rattle.std.specs.List.{list_any}

@@ -1,4 +1,5 @@
--- The locks of a plain command: they are those of the law's row, nothing is held before them, and what the opener keeps beside them.
+-- The locks of a plain command: they are those of the law's row, nothing is held before them, and what the opener keeps
+-- beside them.
 use Rattle.std.proofs.Common.{◌≡◌, ℕ, ◌+◌, ◌*◌, ◌<◌, ◌≤◌, ◌⊎◌, max, List, [], ◌∷◌, Bool, true, false, Option, None, Some, is_some, refl, sym, ◌∙◌, ap, inl, inr, arith, nat_lt}
 use Rattle.std.specs.Prelude.{◌&&◌, ◌||◌, IfSome, if◌then◌else◌}
 use Rattle.std.proofs.lemmas.Bool.{false_from_ne_true}

@@ -1,4 +1,5 @@
--- A cursor that is going to purge its record has the record's chain locked for writing, and the record stays dead while that chain stays.
+-- A cursor that is going to purge its record has the record's chain locked for writing, and the record stays dead while
+-- that chain stays.
 use Rattle.std.proofs.Common.{◌≡◌, ℕ, ◌+◌, ◌*◌, ◌<◌, ◌≤◌, Bool, false, List, length, slice_get, true, Option, Some, None, refl, sym, ◌∙◌, ap, subst, inl, inr, arith}
 use Rattle.std.proofs.lemmas.Bool.{cases_eq}
 use Rattle.tdb_space.specs.Form.{Form}

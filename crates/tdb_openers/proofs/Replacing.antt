@@ -1,4 +1,5 @@
--- One opener of a world in the place of another: what holds at each place, and what stands of the bytes of the file, where they stay.
+-- One opener of a world in the place of another: what holds at each place, and what stands of the bytes of the file,
+-- where they stay.
 use Rattle.std.proofs.Common.{◌≡◌, ◌≢◌, ℕ, ◌≤◌, List, [], length, slice_get, Bool, true, Option, Some, None, refl, sym, ◌∙◌, ap, subst, inl, inr, ◌⊎◌, le_refl}
 use Rattle.std.proofs.lemmas.Bool.{cases_eq, false_from_ne_true, false≢true}
 use Rattle.tdb_space.specs.Form.{Form}

@@ -1,5 +1,5 @@
--- A cursor that rests: the byte of its record is not that of a chain, of the free list, or one between two words; and what the law says
--- of it.
+-- A cursor that rests: the byte of its record is not that of a chain, of the free list, or one between two words; and
+-- what the law says of it.
 use Rattle.std.proofs.Common.{◌≡◌, ◌≢◌, ℕ, ◌%◌, ◌<◌, ◌≤◌, List, Bool, true, false, ◌==◌, Option, Some, None, is_some, refl, sym, ◌∙◌, ap, subst, arith, zero-le, le_refl}
 use Rattle.std.specs.Prelude.{if◌then◌else◌}
 use Rattle.std.proofs.lemmas.Bool.Decides.{nat_tests}

@@ -1,4 +1,5 @@
--- While an opener that has nothing else holds all records, for reading or for writing, nobody else writes one, and no command holds one.
+-- While an opener that has nothing else holds all records, for reading or for writing, nobody else writes one, and no
+-- command holds one.
 use Rattle.std.proofs.Common.{◌≡◌, ◌≢◌, ℕ, ◌≤◌, ◌<◌, List, [], ◌∷◌, length, slice_get, true, Option, Some, None, is_none, refl, ◌∙◌, ap, subst, inl, inr, arith}
 use Rattle.std.proofs.lemmas.Bool.{cases_eq, cases_lt}
 use Rattle.tdb_space.specs.Form.{Form}

@@ -1,5 +1,5 @@
--- An opener that is shut out: it holds no record, its cursor stands on none, and its command has had no step, or is a move that has let go
--- of its locks.
+-- An opener that is shut out: it holds no record, its cursor stands on none, and its command has had no step, or is a
+-- move that has let go of its locks.
 use Rattle.std.proofs.Common.{◌≡◌, ◌≢◌, ℕ, ◌+◌, ◌*◌, ◌<◌, ◌≤◌, ◌^◌, List, false, Option, Some, None, is_some, nat_lt, refl, sym, ◌∙◌, ap, subst, inl, inr, arith}
 use Rattle.std.specs.Prelude.{◌&&◌, if◌then◌else◌}
 use Rattle.std.proofs.lemmas.Bool.{cases_lt, le-ltb}

@@ -59,14 +59,15 @@ use Rattle.tdb_openers.proofs.Occupied.{job_at, cursor_at, near_at}
 use Rattle.tdb_openers.proofs.ShutOut.{IsBarred, apart, its_own, its_spot, its_task, its_view, few, stands_on_none, map_new}
 use Rattle.tdb_openers.proofs.Wanting.{FirstAt, plain_first, check_first, chain_first, busy_first, all_first, all_read_first, move_first}
 
--- the whole state after such a turn of a job: as it was where the turn is blocked, and else without the command; after a Close its opener
--- has ended
+-- the whole state after such a turn of a job: as it was where the turn is blocked, and else without the command; after
+-- a Close its opener has ended
 abbrev pub state_after : Law.Turn → Job → State → ℕ → State
 state_after (Law.Turn.Ends r) (Jobs.Walk Walks.Close) v l = without_cursor Close v l
 state_after (Law.Turn.Ends r) job v l = without_task v l
 state_after turn job v l = v
 
--- An EndWalk or a Close of a cursor that stands on no record: the cursor has ended before, and the command has had no step.
+-- An EndWalk or a Close of a cursor that stands on no record: the cursor has ended before, and the command has had no
+-- step.
 pub record Ended (f : Form) (x : Own) (place : Standing) (stage : Stage) (n : ℕ) : Type 0 where
   pub rests : RestsAt f x.cursor place stage
   pub none : x.cursor ≡ None

@@ -1,5 +1,5 @@
--- What a turn of a command on an opener's cursor leaves of the bytes of a world's file, where they are told: nobody else comes to a record that
--- a delete or another cursor is going to take out of its chain.
+-- What a turn of a command on an opener's cursor leaves of the bytes of a world's file, where they are told: nobody
+-- else comes to a record that a delete or another cursor is going to take out of its chain.
 use Rattle.std.proofs.Common.{◌≡◌, ◌≢◌, ℕ, zero, suc, ◌+◌, ◌-◌, ◌*◌, ◌<◌, ◌≤◌, ◌⊎◌, ◌++◌, IsTrue, List, [], ◌∷◌, length, slice_get, slice_index_or, set, Bool, true, false, Option, Some, None, refl, sym, ◌∙◌, ap, subst, inl, inr, arith}
 use Rattle.std.specs.Prelude.{Contains, MatchBool, ◌^◌}
 use Rattle.std.proofs.lemmas.Bool.{cases_eq, cases_Bool, false_from_ne_true}
@@ -141,7 +141,8 @@ entry_else (x ∷ xs) (suc who) zero z there ne = (omega arith, ap entry (inject
 entry_else (x ∷ xs) zero (suc o) z there ne = let more = entry_among xs o z there in let low = more.0 in (omega (arith, low), more.1)
 entry_else (x ∷ xs) (suc who) (suc o) z there ne = let more = entry_else xs who o z there (λ e. ne (ap suc e)) in let low = more.0 in (omega (arith, low), more.1)
 
--- A cursor that is going to purge after a turn was so before it, or that was decided by the turn; it stands where it stood.
+-- A cursor that is going to purge after a turn was so before it, or that was decided by the turn; it stands where it
+-- stood.
 module _ (f : Form) (img : List ℕ) (ps : List Piece) (owner : ℕ) (own : HeldLocks) (stood_on : List ℕ) (read_only : Bool) where
   abbrev Purged : At → At → Type 0
   Purged at later = (later.place ≡ at.place) × ((is_purging at.stage ≡ true) ⊎ HasToPurge f img own stood_on read_only at.place at.stage)
@@ -204,7 +205,8 @@ alone_there f options xs ps a size who x F B o ne d dead there = by_other (slice
     by_other None at apart = absurd (cc at)
     by_other (Some z) at apart = let D = dead_at x.walk.cursor.place x.walk.cursor.stage d dead in apart D.0 d.off (ap spot_of D.1) (spot_there z.walk.cursor.place d.chain d.off at)
 
--- a command on the cursor holds no record of the free list, knows nothing of the image, and takes no record out that it has found
+-- a command on the cursor holds no record of the free list, knows nothing of the image, and takes no record out that it
+-- has found
 left_bare : (job : Job) (w : WalkCommand) (n : ℕ) (turn : LawTurn) → walk_in job ≡ Some w → hands_of_task (task_after job n turn) ≡ []
 left_bare job w n LawTurn.Step on = no_hands job w on
 left_bare job w n (LawTurn.Blocked o b) on = no_hands job w on

@@ -1,5 +1,5 @@
--- After a turn of a command on an opener's cursor, whatever the bytes of the file are: what the opener has and holds, and where its cursor
--- stands.
+-- After a turn of a command on an opener's cursor, whatever the bytes of the file are: what the opener has and holds,
+-- and where its cursor stands.
 use Rattle.std.proofs.Common.{◌≡◌, ◌≢◌, ℕ, ◌+◌, ◌-◌, ◌≤◌, IsTrue, List, Bool, cond, true, false, Option, Some, None, is_some, refl, sym, ◌∙◌, ap, subst, inl, inr, arith, zero-le, le_refl}
 use Rattle.std.specs.Prelude.{if◌then◌else◌}
 use Rattle.std.proofs.lemmas.Bool.{cases_eq, cases_Bool}
@@ -53,7 +53,8 @@ use Rattle.tdb_openers.proofs.Purgers.{walks_command}
 use Rattle.tdb_openers.proofs.Standing.{turn_keeps_world}
 use Rattle.tdb_openers.proofs.WalkReady.{walk_ready, walk_few, walk_may}
 
--- A turn in numbers of the lock table: an opener that is in the way has one from 1 on, and where it isn't known which it is, it counts as 1.
+-- A turn in numbers of the lock table: an opener that is in the way has one from 1 on, and where it isn't known which
+-- it is, it counts as 1.
 abbrev pub counted : Turn → Turn
 counted Step = Step
 counted (Blocked other byte) = Blocked (other - 1 + 1) byte
@@ -190,8 +191,8 @@ closed_next f Close n x m (LawReply.Full u v) out e = own_is f Close x out n (La
 closed_next f Close n x m (LawReply.HeldLocks u) out e = own_is f Close x out n (LawReply.HeldLocks u) m
 closed_next f Close n x m (LawReply.Number u) out e = own_is f Close x out n (LawReply.Number u) m
 
--- What the opener y has and holds after a turn, and where its cursor stands, in the words of the law of cursors, where the cursor's step led
--- to this place and lock table.
+-- What the opener y has and holds after a turn, and where its cursor stands, in the words of the law of cursors, where
+-- the cursor's step led to this place and lock table.
 pub record WalkFacts (f : Form) (options : Options) (mid qs : List Piece) (who size : ℕ) (x y : Opener) (w : WalkCommand) (n : ℕ) (m : Map) (later : At) (turn : LawTurn) : Type 0 where
   pub own : own_of options y ≡ own_next f w n (own_of options x) m turn
   pub spot : spot_by y.walk.cursor ≡ spot_next turn w later

@@ -41,7 +41,8 @@ spots_put [] i y = refl
 spots_put (x ∷ xs) zero y = refl
 spots_put (x ∷ xs) (suc i) y = ap (λ l. spot_number x.walk.cursor.place ∷ l) (spots_put xs i y)
 
--- what a turn of a command on the cursor of the opener d, which is y after it, makes of it, of the lock table and of the file
+-- what a turn of a command on the cursor of the opener d, which is y after it, makes of it, of the lock table and of
+-- the file
 abbrev pub Walks : Bool → Form → Bool → Opener → Opener → ℕ → List Piece → List Piece → List ℕ → WalkCommand → List ℕ → List ℕ → ℕ → Turn → Type 0
 Walks tells f read_only d y who ps qs spots w a b size turn = (t : Task) → d.task ≡ Some t → WalkTurned tells f a b size ps qs who (set spots (who - 1) 0) w read_only t d y turn
 

@@ -1,4 +1,5 @@
--- The first byte that a command wants at its next turn, where it has locked nothing yet and its cursor stands on no record.
+-- The first byte that a command wants at its next turn, where it has locked nothing yet and its cursor stands on no
+-- record.
 use Rattle.std.proofs.Common.{◌≡◌, ℕ, ◌+◌, ◌*◌, ◌<◌, ◌≤◌, ◌^◌, max, List, [], Bool, true, false, None, nat_lt, nat_le, is_none, refl, sym, ◌∙◌, ap, arith, le_refl}
 use Rattle.std.specs.Prelude.{◌&&◌, if◌then◌else◌}
 use Rattle.std.proofs.lemmas.Bool.{lt-leb, lt-ltb}

@@ -1,4 +1,5 @@
--- An opener at work in a world that stands: what it has locked, which records may be out beside it, and what its command relies on.
+-- An opener at work in a world that stands: what it has locked, which records may be out beside it, and what its
+-- command relies on.
 use Rattle.std.proofs.Common.{◌≡◌, ◌≢◌, ℕ, ◌+◌, ◌++◌, ◌∷◌, ◌≤◌, max, List, [], length, slice_get, true, Option, Some, None, is_none, refl, ◌∙◌, ap, subst, inl, inr, ◌⊎◌, arith}
 use Rattle.std.proofs.lemmas.Bool.{cases_eq, eq-eqb, ne_eqb}
 use Rattle.std.proofs.lemmas.Option.{slice_get_within}
@@ -83,7 +84,8 @@ module _ (f : Form) (options : Options) (xs : List Opener) (ps : List Piece) (a 
   frees o x s Jobs.Seqnum n K = inl refl
   frees o x s (Jobs.Walk walking) n K = inl refl
 
-  -- no record is out beside a wipe or a check that has the free list locked, where nobody else has it locked for writing
+  -- no record is out beside a wipe or a check that has the free list locked, where nobody else has it locked for
+  -- writing
   may : (o : ℕ) (x : Own) (s : Spot) (job : Job) (n : ℕ) → Works f ps size o x s job n → (others : List HandPair) → (1 ≤ table_of ps (o + 1) 164 → others ≡ []) → JobMayBeOut job others
   may o x s (Jobs.Refused command reply) n K others none = tt
   may o x s (Jobs.Plain d) n K others none =

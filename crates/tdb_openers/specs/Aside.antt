@@ -1,5 +1,5 @@
--- What a world with transactions asks of the openers beside the one that has a transaction: that one holds all records here, and has no
--- command.
+-- What a world with transactions asks of the openers beside the one that has a transaction: that one holds all records
+-- here, and has no command.
 use Rattle.std.specs.Prelude.{ℕ, ◌≡◌, ◌≢◌, ◌≤◌, ◌<◌, List, [], slice_get, true, false, None, Some, Option, if◌then◌else◌}
 use Rattle.tdb_space.specs.Form.{Form}
 use Rattle.tdb_space.specs.Accepted.{AcceptWith}
@@ -77,8 +77,8 @@ abbrev pub LockKeepsFile : Type 0
 LockKeepsFile = (f : Form) (options : Options) (xs : List Opener) (ps : List Piece) (a b : List ℕ) (size who count : ℕ) (x : Opener)
     → WorldStands f options xs ps a size → slice_get xs who ≡ Some x → IsBare x → x.held.all ≡ Some (Write, count) → AcceptWith f b [] → FileStands f xs b
 
--- No opener holds a byte below that of the free list: neither the opening lock nor the transaction lock, and not the byte of the sequence
--- number either, which is only asked for in one turn.
+-- No opener holds a byte below that of the free list: neither the opening lock nor the transaction lock, and not the
+-- byte of the sequence number either, which is only asked for in one turn.
 abbrev pub LowIsFree : Type 0
 LowIsFree = (f : Form) (options : Options) (xs : List Opener) (ps : List Piece) (a : List ℕ) (size : ℕ)
     → WorldStands f options xs ps a size → (o b : ℕ) → b < 164 → table_of ps o b ≡ 0

@@ -17,8 +17,8 @@ WritesNoRecord ps who = (b : ℕ) → 168 ≤ b → law_table ps who b ≤ 1
 abbrev pub IsCalm : {S : Type 0} → Ghosts S → S → S → List Piece → ℕ → Type 0
 IsCalm g old new ps who = WritesNoRecord ps who → Looked g old new
 
--- An opener with this task is in the middle of a change: it has had the first step of a Store, an Append, a Delete or a Wipe outside a
--- transaction, or the second of a command on its cursor, which then takes out a dead record.
+-- An opener with this task is in the middle of a change: it has had the first step of a Store, an Append, a Delete or a
+-- Wipe outside a transaction, or the second of a command on its cursor, which then takes out a dead record.
 pub record IsMidway (f : Form) (x : Own) (t : Task) : Type 0 where
   pub step : ℕ
   pub taken : step < t.steps

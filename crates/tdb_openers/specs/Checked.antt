@@ -31,8 +31,8 @@ free_lock = record { turn = 1; region = FreeRegion; kind = Read }
 abbrev pub check_locks : Rows
 check_locks = record { first = all_lock; second = Some free_lock }
 
--- A turn that takes a lock of a check: it is taken or was covered; or the turn is blocked by the first conflict, and nothing changes;
--- or memory is wanting, and all is let go.
+-- A turn that takes a lock of a check: it is taken or was covered; or the turn is blocked by the first conflict, and
+-- nothing changes; or memory is wanting, and all is let go.
 abbrev pub CheckLocks : HeldLocks → ℕ → List Piece → List Piece → LockRow → Turn → Type 0
 CheckLocks held owner old new r Step = IsTaken held owner old new r
 CheckLocks held owner old new r (Blocked other byte) = (new ≡ old) × ((kind : Kind) × IsFirstConflict old owner (start_of r.region) (end_of r.region) r.kind other byte kind)

@@ -62,8 +62,9 @@ pub record CursorsBeside (f : Form) (a : List ℕ) (stands : ℕ → Bool) (t : 
   pub spares : JobSpares stands t.job
   pub clears : JobClears stands t.job t.steps
 
--- What a turn of a task of an opener x leaves of these cursors, from image a to image b, where this task is left: each walk, wherever it
--- stands, and each record on which a cursor stands as one of its chain; and a delete still spares them.
+-- What a turn of a task of an opener x leaves of these cursors, from image a to image b, where this task is left: each
+-- walk, wherever it stands, and each record on which a cursor stands as one of its chain; and a delete still spares
+-- them.
 pub record LeavesCursors (f : Form) (x : Own) (t : Task) (left : Option Task) (turn : Turn) (a b : List ℕ) (stands : ℕ → Bool) : Type 0 where
   pub walks : (place : Place) → IsStood stands place → TurnsWalk f x (command_in t.job) t.steps turn a b place
   pub members : (chain off : ℕ) → chain < f.chains → stands off ≡ true → Member off (chain_of f a chain) → Member off (chain_of f b chain)

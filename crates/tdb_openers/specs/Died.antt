@@ -23,7 +23,8 @@ pub record HasDied (old : World) (who : ℕ) (new : World) : Type 0 where
   pub others : (o b : ℕ) → o ≢ who → held new.table o b ≡ held old.table o b
   pub rest : record new { openers = old.openers; table = old.table } ≡ old
 
--- The opener with this number is live, and may die: it has no command, or one that would end a transaction and is refused.
+-- The opener with this number is live, and may die: it has no command, or one that would end a transaction and is
+-- refused.
 pub record CanDie (w : World) (who : ℕ) (x : Opener) : Type 0 where
   pub number : IsNumber w who x
   pub live : x.live ≡ true

@@ -1,4 +1,5 @@
--- What a turn that ends a command makes of the lock table, of any file, which it leaves, and of the opener, in the words of the law.
+-- What a turn that ends a command makes of the lock table, of any file, which it leaves, and of the opener, in the
+-- words of the law.
 use Rattle.std.specs.Prelude.{ℕ, Bool, List, None}
 use Rattle.tdb_space.specs.Form.{Form}
 use Rattle.tdb_locks.specs.declared.piece.Piece.{Piece}
@@ -16,7 +17,8 @@ pub record EndTurned (f : Form) (x y : Own) (s : Spot) (v : View) (c : Command) 
   pub locks : TurnsLocks f x y s c 0 None who ps qs (Ends r)
   pub file : (img : List ℕ) → TurnsFile f x y s v c 0 who ps img img (Ends r)
 
--- Before the turn that asks for the sequence number, which no opener's own state refuses: the opener holds what it keeps.
+-- Before the turn that asks for the sequence number, which no opener's own state refuses: the opener holds what it
+-- keeps.
 pub record MayCount (f : Form) (options : Options) (live : Bool) (held : HeldLocks) (rest : AtRest) (who : ℕ) (ps : List Piece) : Type 0 where
   pub few : HasFewChains f
   pub counts : AreCounts held.chains

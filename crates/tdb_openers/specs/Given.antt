@@ -48,8 +48,8 @@ reads_records (Some (Write, count)) = false
 abbrev pub held_count : HeldLocks → Bool → ℕ
 held_count held walks = total_of held + (if walks then 1 else 0)
 
--- the reply to an unlock of all records that is refused: they aren't held, or a chain is held or a cursor stands that only their last
--- lock covers
+-- the reply to an unlock of all records that is refused: they aren't held, or a chain is held or a cursor stands that
+-- only their last lock covers
 abbrev pub unlock_told : HeldLocks → Bool → Option (Kind × ℕ) → Option Reply
 unlock_told held walks None = Some Reply.NotLocked
 unlock_told held walks (Some all) = if (all.1 == 1) && (holds_chains held || walks) then Some (Reply.HeldLocks (held_count held walks)) else None
@@ -57,8 +57,9 @@ unlock_told held walks (Some all) = if (all.1 == 1) && (holds_chains held || wal
 abbrev pub unlock_all_told : HeldLocks → Bool → Option Reply
 unlock_all_told held walks = unlock_told held walks held.all
 
--- What holds of an opener's explicit locks between two calls: chains have counts, a lock of all records was taken once at least, who
--- holds all records for reading holds no chain, and there are so few that a word of 64 bits counts them and a cursor.
+-- What holds of an opener's explicit locks between two calls: chains have counts, a lock of all records was taken once
+-- at least, who holds all records for reading holds no chain, and there are so few that a word of 64 bits counts them
+-- and a cursor.
 pub record IsWellHeld (held : HeldLocks) : Type 0 where
   pub counts : AreCounts held.chains
   pub taken : IfSome held.all (λ all. 0 < all.1)

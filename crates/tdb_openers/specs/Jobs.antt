@@ -12,7 +12,8 @@ use Rattle.tdb_openers.specs.Openers.{command_in, law_task, JobStands, TaskStand
 use Rattle.tdb_openers.specs.Cursors.{is_stood, CursorsBeside, LeavesCursors}
 use Rattle.tdb_openers.specs.Turning.{OpenerHolds, TurnsLocks, TurnsFile, TurnsImage}
 
--- A job of an opener x has had n steps, in a file of this length. The law counts the opener as `who`, and the lock table as `owner`.
+-- A job of an opener x has had n steps, in a file of this length. The law counts the opener as `who`, and the lock
+-- table as `owner`.
 pub record JobIsReady (f : Form) (x : Own) (s : Spot) (job : Job) (n who owner size : ℕ) (ps : List Piece) : Type 0 where
   pub number : owner ≡ who + 1
   pub stands : JobStands f x job n size
@@ -24,8 +25,8 @@ task_after job n Step = Some (record { steps = n + 1; job = job })
 task_after job n (Blocked owner byte) = Some (record { steps = n; job = job })
 task_after job n (Ends r) = None
 
--- A turn of a job that has had n steps, of an opener x who is y afterwards, with this spot, where this job is left, in a file of this
--- length. Who has a task is as live as before.
+-- A turn of a job that has had n steps, of an opener x who is y afterwards, with this spot, where this job is left, in
+-- a file of this length. Who has a task is as live as before.
 pub record JobTurned (f : Form) (x y : Own) (z : Spot) (job left : Job) (n who size : ℕ) (old new : List Piece) (turn : Turn) : Type 0 where
   pub locks : TurnsLocks f x y z (command_in job) n (law_task (task_after left n turn)) who old new turn
   pub stands : TaskStands f y (task_after left n turn) size

@@ -1,5 +1,5 @@
--- The laws that lift what an opener does to the world: from what holds between any two calls, to what holds after it, and to the law's
--- words for it (`tdb_law`).
+-- The laws that lift what an opener does to the world: from what holds between any two calls, to what holds after it,
+-- and to the law's words for it (`tdb_law`).
 use Rattle.std.specs.Prelude.{ℕ, IsTrue, Bool, ◌+◌, ◌≡◌, ◌≢◌, ◌<◌, ◌≤◌, ◌==◌, List, [], ◌∷◌, ◌++◌, Some, None, true, length, slice_get, set, if◌then◌else◌}
 use Rattle.std.specs.FinMap.{len}
 use Rattle.tdb_space.specs.Form.{Form}
@@ -73,8 +73,8 @@ TurnKeepsWorld = (f : Form) (options : Options) (xs ys : List Opener) (ps qs : L
     → TurnsLocks f (own_of options x) (own_of options y) (spot_by y.walk.cursor) (command_in t.job) t.steps (law_task y.task) who ps qs turn
     → MayStand f options longer y → size ≤ longer → longer ≤ options.limit → WorldStands f options ys qs b longer
 
--- After a turn of a command on no cursor that also did to the file what it may, and left cursors what it may, its bytes stand: others still
--- know their chains, since who changes a chain has it locked.
+-- After a turn of a command on no cursor that also did to the file what it may, and left cursors what it may, its bytes
+-- stand: others still know their chains, since who changes a chain has it locked.
 abbrev pub TurnKeepsFile : Type 0
 TurnKeepsFile = (f : Form) (options : Options) (xs ys : List Opener) (ps : List Piece) (a b : List ℕ) (size who : ℕ) (x y : Opener) (t : Task) (v : View) (turn : Turn)
     → WorldStands f options xs ps a size → FileStands f xs a → HasTask xs who x t → IsPut xs who y ys
@@ -94,8 +94,8 @@ TurnIsTurned = (f : Form) (options : Options) (xs ys : List Opener) (ps qs : Lis
     → walk_in t.job ≡ None → y.walk ≡ x.walk → ((o : ℕ) → TurnsWalk f (own_of options x) (command_in t.job) t.steps turn a b (place_at (slice_get xs o)))
     → Turned f (state_of f options xs ps a) who (record { command = command_in t.job; steps = t.steps }) turn (state_of f options ys qs b)
 
--- After a turn of a command on the opener's cursor the world stands too, whatever the bytes of the file are; and where a contract sees
--- these, they stand, and it is a turn of the law.
+-- After a turn of a command on the opener's cursor the world stands too, whatever the bytes of the file are; and where
+-- a contract sees these, they stand, and it is a turn of the law.
 abbrev pub WalkKeepsWorld : Type 0
 WalkKeepsWorld = (f : Form) (options : Options) (xs ys : List Opener) (ps qs : List Piece) (a b c : List ℕ) (size longer who : ℕ) (x y : Opener) (t : Task) (w : WalkCommand) (stood_on : List ℕ) (did : TurnIs) (tells : Bool)
     → WorldStands f options xs ps a size → HasTask xs who x t → walk_in t.job ≡ Some w → IsPut xs who y ys → WalkTurned tells f a b size ps qs (who + 1) stood_on w options.read_only t x y did
@@ -142,7 +142,8 @@ pub record IsGiven (x : Opener) (job : Job) (y : Opener) : Type 0 where
   pub same_held : y.held ≡ x.held
   pub same_walk : y.walk ≡ x.walk
 
--- A job that stands at its beginning leaves a world that stands and bytes that do, and is given in the words of the law.
+-- A job that stands at its beginning leaves a world that stands and bytes that do, and is given in the words of the
+-- law.
 abbrev pub GiftKeepsWorld : Type 0
 GiftKeepsWorld = (f : Form) (options : Options) (xs ys : List Opener) (ps : List Piece) (a : List ℕ) (size who : ℕ) (x y : Opener) (job : Job)
     → WorldStands f options xs ps a size → slice_get xs who ≡ Some x → IsPut xs who y ys → IsGiven x job y → JobStands f (own_of options x) job 0 size → WorldStands f options ys ps a size
@@ -155,7 +156,8 @@ abbrev pub GiftIsGiven : Type 0
 GiftIsGiven = (f : Form) (options : Options) (xs ys : List Opener) (ps : List Piece) (a : List ℕ) (who : ℕ) (x y : Opener) (job : Job)
     → slice_get xs who ≡ Some x → IsPut xs who y ys → IsGiven x job y → Given (state_of f options xs ps a) who (command_in job) (state_of f options ys ps a)
 
--- A world without openers, whose lock table is empty, stands; so do the bytes of an accepted image; and it is just loaded.
+-- A world without openers, whose lock table is empty, stands; so do the bytes of an accepted image; and it is just
+-- loaded.
 abbrev pub EmptyStands : Type 0
 EmptyStands = (f : Form) (options : Options) (a : List ℕ) (size : ℕ) → HasFewChains f → options.limit ≤ 4294963200 → size ≤ options.limit → WorldStands f options [] [] a size
 

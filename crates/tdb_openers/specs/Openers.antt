@@ -71,7 +71,8 @@ abbrev pub own_at : Options → Option Opener → Own
 own_at options None = nobody (options_of options)
 own_at options (Some x) = own_of options x
 
--- what only the world knows of the cursor of an opener, where it stands in the chains, and the records on which those of all openers stand
+-- what only the world knows of the cursor of an opener, where it stands in the chains, and the records on which those
+-- of all openers stand
 abbrev pub spot_by : At → Spot
 spot_by at = spot_in at (is_before at.place)
 
@@ -150,14 +151,14 @@ CheckAfter Records n = n ≡ 1
 CheckAfter FreeList n = n ≡ 2
 CheckAfter (Counted keys) n = n ≡ 3
 
--- the reply by which the opener's own state answers a command at once: it tells why that is refused, or that a Next without a cursor is
--- at the end
+-- the reply by which the opener's own state answers a command at once: it tells why that is refused, or that a Next
+-- without a cursor is at the end
 pub data IsRefused (f : Form) (x : Own) (c : Law.Command) (r : Law.Reply) : Type 0 where
   refuses : (why : Refusal) → refusal f c x ≡ Some why → r ≡ says x why → IsRefused f x c r
   has_ended : c ≡ Law.Command.OnWalk Law.WalkCommand.Next → x.txn ≡ None → x.cursor ≡ None → r ≡ Law.Reply.End → IsRefused f x c r
 
--- a command on the map stands after so many steps: it isn't refused, its machine is on the chain of its key and counts where the options
--- say so, and is where these steps have brought it
+-- a command on the map stands after so many steps: it isn't refused, its machine is on the chain of its key and counts
+-- where the options say so, and is where these steps have brought it
 pub record PlainStands (f : Form) (x : Own) (d : Doing) (n size : ℕ) : Type 0 where
   pub granted : refusal f (Law.Command.OnMap (command_of d.command)) x ≡ None
   pub chain : d.chain ≡ home f (key_of d.command)
@@ -170,9 +171,9 @@ abbrev pub MayAsk : Own → Law.WalkCommand → Type 0
 MayAsk x Law.WalkCommand.Next = is_some x.cursor ≡ true
 MayAsk x w = Unit {0}
 
--- a command of an opener stands after so many steps, in a file of this length, whatever its bytes are: it is refused and had no
--- step, or it isn't, and it is where these steps have brought it. A command on the cursor has two steps at most; where they have
--- brought the cursor is said of that.
+-- a command of an opener stands after so many steps, in a file of this length, whatever its bytes are: it is refused
+-- and had no step, or it isn't, and it is where these steps have brought it. A command on the cursor has two steps at
+-- most; where they have brought the cursor is said of that.
 abbrev pub JobStands : Form → Own → Job → ℕ → ℕ → Type 0
 JobStands f x (Refused command reply) n size = (n ≡ 0) × IsRefused f x (law_command command) (law_reply reply)
 JobStands f x (Plain doing) n size = PlainStands f x doing n size

@@ -23,14 +23,16 @@ Steps f zero old who lines new = (lines ≡ []) × (new ≡ old)
 Steps f (suc n) old who lines new =
     (mid : State) × (front : List LawLine) × (rest : List LawLine) × (lines ≡ front ++ rest) × Steps f n old who front mid × Advances f mid who Step rest new
 
--- So many turns of an opener were taken, all of them steps; and then nothing was done, or an open gate was undone for the next turn.
+-- So many turns of an opener were taken, all of them steps; and then nothing was done, or an open gate was undone for
+-- the next turn.
 abbrev pub StepsThenClears : Form → ℕ → State → ℕ → List LawLine → State → Type 0
 StepsThenClears f n old who lines new =
     (mid : State) × (front : List LawLine) × (rest : List LawLine) × (lines ≡ front ++ rest) × Steps f n old who front mid
     × (((rest ≡ []) × (new ≡ mid)) ⊎ Clears f mid rest new)
 
--- A play that was begun and isn't done: nothing was done of it; or an open gate was undone for its one turn; or turns were taken, all
--- of them steps, and then an open gate may have been undone; or a command was given, and then turns were taken so.
+-- A play that was begun and isn't done: nothing was done of it; or an open gate was undone for its one turn; or turns
+-- were taken, all of them steps, and then an open gate may have been undone; or a command was given, and then turns
+-- were taken so.
 pub data Begun (f : Form) (old : State) (play : Play) (lines : List LawLine) (new : State) : Type 0 where
   begun_not : lines ≡ [] → new ≡ old → Begun f old play lines new
   begun_turn : (who : ℕ) → play ≡ TakeTurn who → Clears f old lines new → Begun f old play lines new
@@ -101,8 +103,8 @@ GoesSome f old who lines new = (n : ℕ) × Steps f n old who lines new
 abbrev pub PlaysLast : Form → State → Play → List LawLine → State → Type 0
 PlaysLast f old play lines new = Begun f old play lines new ⊎ Gives f old play lines new
 
--- The lines of plays from a state just loaded that broke off are lawful from the replay that begins with the map and the number of its
--- file.
+-- The lines of plays from a state just loaded that broke off are lawful from the replay that begins with the map and
+-- the number of its file.
 abbrev pub BrokenIsLawful : Type 0
 BrokenIsLawful = (f : Form) (options : LawOptions) (old new : State) (plays : List Play) (lines : List LawLine) → IsLoaded f old options → ComesTo f old plays lines new
     → IsLawful f (beginning options old.file old.number) lines

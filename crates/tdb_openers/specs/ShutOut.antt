@@ -41,8 +41,8 @@ pub record HoldsAll (w : World) (holder : ℕ) : Type 0 where
   pub count : ℕ
   pub all : opener.held.all ≡ Some (Write, count)
 
--- A turn of one of the others leads from one world to another over the same bytes: it is a turn of the whole state, and who is aside
--- stands so afterwards.
+-- A turn of one of the others leads from one world to another over the same bytes: it is a turn of the whole state, and
+-- who is aside stands so afterwards.
 pub record IsTurnBeside (old new : World) (img : List ℕ) (past : Past) (s : Side) (who : ℕ) (t : LawTask) (turn : LawTurn) : Type 0 where
   pub turned : Turned (form_in old.header) (beside (state_in old img) past s) who t turn (beside (state_in new img) (past_after (form_in old.header) (state_in old img) who t turn past) s)
   pub aside : StandsAside (state_in new img) s
@@ -52,8 +52,9 @@ pub record IsReplaced (old : World) (who : ℕ) (y : Opener) (new : World) : Typ
   pub put : IsPut old.openers (law_opener who) y new.openers
   pub rest : record new { openers = old.openers } ≡ old
 
--- The turn of a command on explicit locks, where another opener of this number holds all records for writing: a lock is blocked at the
--- first byte that it wants, or is busy there. An unlock has no such turn, since its opener holds no record.
+-- The turn of a command on explicit locks, where another opener of this number holds all records for writing: a lock is
+-- blocked at the first byte that it wants, or is busy there. An unlock has no such turn, since its opener holds no
+-- record.
 abbrev pub LockingMeets : Form → LockingCommand → ℕ → Turn → Type 0
 LockingMeets f (Locks.Chain key) holder turn = turn ≡ Blocked holder (168 + 4 * home f key)
 LockingMeets f (Locks.ChainNb key) holder turn = turn ≡ Done (Reply.Busy holder (168 + 4 * home f key))

@@ -20,8 +20,8 @@ use Rattle.tdb_openers.specs.Openers.{own_at, law_task, task_at, spot_at, place_
 use Rattle.tdb_openers.specs.Turning.{no_view}
 use Rattle.tdb_openers.specs.Cursors.{is_stood, CursorKnows, OpenerSpares, StandApart, cursor_at}
 
--- What the file adds to the cursor of an opener, where cursors of others stand on these records. It is asked for while a command on the
--- cursor is under way: else nothing has to be purged, and no move is on its way.
+-- What the file adds to the cursor of an opener, where cursors of others stand on these records. It is asked for while
+-- a command on the cursor is under way: else nothing has to be purged, and no move is on its way.
 abbrev pub view_for : Form → Options → List ℕ → List ℕ → Opener → Command → View
 view_for f options img stood_on x (OnWalk w) = view_of f img x.held stood_on options.read_only (goal_of w) x.walk.cursor.place
 view_for f options img stood_on x c = no_view
@@ -34,8 +34,8 @@ abbrev pub view_at : Form → Options → List ℕ → List ℕ → Option Opene
 view_at f options img stood_on None = no_view
 view_at f options img stood_on (Some x) = view_under f options img stood_on x (law_task x.task)
 
--- The openers of a world with this lock table, whose file has these bytes, as those of a world with cursors (`tdb_walk`). The law counts
--- openers from 0; in the lock table they have numbers from 1.
+-- The openers of a world with this lock table, whose file has these bytes, as those of a world with cursors
+-- (`tdb_walk`). The law counts openers from 0; in the lock table they have numbers from 1.
 abbrev pub walkers_of : Form → Options → List Opener → List Piece → List ℕ → Walkers
 walkers_of f options openers table img = record {
   joined = length openers;
@@ -61,8 +61,9 @@ pub record WorldStands (f : Form) (options : Options) (openers : List Opener) (t
   pub limit : options.limit ≤ 4294963200
   pub short : size ≤ options.limit
 
--- What holds of the bytes of its file: they are accepted with the records that commands hold, each command knows its chain, each cursor its
--- record, and no cursor stands on one that a command, or another cursor, is going to take out of its chain.
+-- What holds of the bytes of its file: they are accepted with the records that commands hold, each command knows its
+-- chain, each cursor its record, and no cursor stands on one that a command, or another cursor, is going to take out of
+-- its chain.
 pub record FileStands (f : Form) (openers : List Opener) (img : List ℕ) : Type 0 where
   pub accepted : AcceptWith f img (joined (length openers) (λ o. hands_at (slice_get openers o)))
   pub known : (o : ℕ) → OpenerKnows f img (slice_get openers o)

@@ -43,9 +43,9 @@ pub record HasEnded (y : Footing) (owner : ℕ) (mid new : List Piece) : Type 0 
   pub gone : (b : ℕ) → held new owner b ≡ None
   pub others : (o b : ℕ) → o ≢ owner → held new o b ≡ held mid o b
 
--- One turn of a command on the cursor of an opener x, in a file of this length, from image a to image b: the cursor took a step, to a
--- place and a lock table, while other cursors stood on these records; and the opener, y after it, goes on so, or it has ended, with the
--- last turn of a Close.
+-- One turn of a command on the cursor of an opener x, in a file of this length, from image a to image b: the cursor
+-- took a step, to a place and a lock table, while other cursors stood on these records; and the opener, y after it,
+-- goes on so, or it has ended, with the last turn of a Close.
 pub record WalkStepped (tells : Bool) (f : Form) (a b : List ℕ) (size : ℕ) (old new : List Piece) (owner : ℕ) (stood_on : List ℕ) (w : WalkCommand) (read_only : Bool) (x y : Footing) (did : Turn) : Type 0 where
   pub later : At
   pub mid : List Piece

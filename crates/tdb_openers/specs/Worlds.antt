@@ -25,7 +25,8 @@ pub record World : Type 0 where
 abbrev pub state_in : World → List ℕ → State
 state_in w img = state_of (form_in w.header) w.options w.openers w.table img
 
--- what holds of it between any two calls, where its file has these bytes and this length: whatever the bytes are, and of them
+-- what holds of it between any two calls, where its file has these bytes and this length: whatever the bytes are, and
+-- of them
 abbrev pub Stands : World → List ℕ → ℕ → Type 0
 Stands w img size = WorldStands (form_in w.header) w.options w.openers w.table img size
 

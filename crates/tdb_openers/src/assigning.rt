@@ -34,8 +34,8 @@ fn next_job(walks: bool) -> Job
     }
 }
 
-/// The job of a command that its opener's own state doesn't refuse. `told` is the same command, and `walks` tells whether
-/// the opener has a cursor. It takes no memory.
+/// The job of a command that its opener's own state doesn't refuse. `told` is the same command, and `walks` tells
+/// whether the opener has a cursor. It takes no memory.
 fn job_of(command: Command, told: Command, header: &Header, seqnum: bool, walks: bool) -> Job
     requires same { told ≡ command }
     requires served { IsServed command }

@@ -82,8 +82,8 @@ fn take_row(
 
 /// The count of a check, which has both its locks: it is told, or memory is wanting.
 ///
-/// `Io` where the disk failed, and where the file has a fault, which no command leaves: so over an accepted file the disk
-/// failed.
+/// `Io` where the disk failed, and where the file has a fault, which no command leaves: so over an accepted file the
+/// disk failed.
 fn count<S: Space>(alloc: Global, s: &mut S) -> Result<Option<u64>, Io>
     ensures counted { IfOk result (λ live. IsTrue S.tells → AcceptWith (S.form s.old) (S.image s.old) [] → IfSome live (λ keys. keys ≡ length (order_of (S.form s.old) (S.image s.old)))) }
     ensures cause { IsTrue S.tells → AcceptWith (S.form s.old) (S.image s.old) [] → HasCause (S.faults s.old) (S.faults s.new) result }
@@ -99,13 +99,14 @@ fn count<S: Space>(alloc: Global, s: &mut S) -> Result<Option<u64>, Io>
     }
 }
 
-/// Takes one turn of a check. `owner` is the number of its opener in the lock table, and `held` are the locks that it has
-/// taken explicitly.
+/// Takes one turn of a check. `owner` is the number of its opener in the lock table, and `held` are the locks that it
+/// has taken explicitly.
 ///
-/// All records are locked for reading, and then the free list; then the keys are counted, and the reply is their number.
-/// A lock that the explicit ones cover is neither taken nor let go. Blocked by the first conflict: then nothing changes.
-/// With its reply the check lets go of what it took, for which it asks for no memory. `Memory` where that is wanting.
-/// `Io` where the disk failed, and where the file has a fault, which no command leaves: then it keeps its locks.
+/// All records are locked for reading, and then the free list; then the keys are counted, and the reply is their
+/// number. A lock that the explicit ones cover is neither taken nor let go. Blocked by the first conflict: then nothing
+/// changes. With its reply the check lets go of what it took, for which it asks for no memory. `Memory` where that is
+/// wanting. `Io` where the disk failed, and where the file has a fault, which no command leaves: then it keeps its
+/// locks.
 ///
 /// Cost: a pass over the lock table where a lock is taken; else a check of the whole file.
 pub(crate) fn check_turn<S: Space>(

@@ -10,8 +10,8 @@ ghost use Rattle.tdb_openers.specs.Worlds.{state_in, Stands, BytesStand, IsNumbe
 use crate::openers::Openers;
 
 impl Openers {
-    /// An opener that has no command, no cursor, and no explicit lock but one of all records ends, as by a Close inside a
-    /// transaction that it has elsewhere: it isn't live any more, and holds no lock. It takes no memory, and the file
+    /// An opener that has no command, no cursor, and no explicit lock but one of all records ends, as by a Close inside
+    /// a transaction that it has elsewhere: it isn't live any more, and holds no lock. It takes no memory, and the file
     /// stays.
     ///
     /// Cost: one pass over the lock table.

@@ -16,7 +16,8 @@ use crate::openers::Openers;
 use tdb_commands::Command;
 
 impl Job {
-    /// Whether the command would end a transaction: it is a Commit or a Prepare, which is refused, since nobody has one.
+    /// Whether the command would end a transaction: it is a Commit or a Prepare, which is refused, since nobody has
+    /// one.
     fn ends_transaction(&self) -> bool
         ensures { MatchBool result (EndsTransaction (command_in self.now)) (EndsTransaction (command_in self.now) → ⊥) }
     {

@@ -104,7 +104,8 @@ fn more(all: Option<(Kind, u32)>, kind: Kind) -> Option<(Kind, u32)>
     }
 }
 
-/// Holds all records once more, and locks them unless the explicit locks cover them. The kind is that of the first time.
+/// Holds all records once more, and locks them unless the explicit locks cover them. The kind is that of the first
+/// time.
 ///
 /// `Conflict` is the first one. `Memory` where that is wanting, or where this count or that of all explicit locks is at
 /// its greatest. After both all is as it was.

@@ -54,18 +54,18 @@ pub fn cursors_are_beside()
     ensures law { CursorsAreBeside }
 {}
 
-/// A world stands over any bytes of its file, which may be longer. Where no opener's command has locked a record, and no
-/// cursor stands on one, the bytes of any accepted image stand: so they do while an opener that has nothing else holds all
-/// records for writing. The law is over all worlds and images; the function does nothing.
+/// A world stands over any bytes of its file, which may be longer. Where no opener's command has locked a record, and
+/// no cursor stands on one, the bytes of any accepted image stand: so they do while an opener that has nothing else
+/// holds all records for writing. The law is over all worlds and images; the function does nothing.
 pub fn image_is_replaced()
     ensures world { ImageKeepsWorld }
     ensures file { ImageKeepsFile }
     ensures locked { LockKeepsFile }
 {}
 
-/// While an opener that has nothing else holds all records, for reading or for writing, no other opener holds a record's
-/// byte for writing, and no command holds a record that is in no list: the image is accepted as it is. The law is over all
-/// worlds; the function does nothing.
+/// While an opener that has nothing else holds all records, for reading or for writing, no other opener holds a
+/// record's byte for writing, and no command holds a record that is in no list: the image is accepted as it is. The law
+/// is over all worlds; the function does nothing.
 pub fn records_are_free()
     ensures write { OthersWriteNone }
     ensures accepted { RecordsAreFree }
@@ -90,14 +90,14 @@ pub fn turn_keeps_file()
     ensures law { TurnKeepsFile }
 {}
 
-/// After a turn of a command on its opener's cursor the world stands, whatever the bytes of the file are. The law is over
-/// all worlds and turns; the function does nothing.
+/// After a turn of a command on its opener's cursor the world stands, whatever the bytes of the file are. The law is
+/// over all worlds and turns; the function does nothing.
 pub fn walk_keeps_world()
     ensures law { WalkKeepsWorld }
 {}
 
-/// And where the bytes of the file are told, they stand: no cursor stands on a record that another is going to purge. The
-/// law is over all worlds and turns; the function does nothing.
+/// And where the bytes of the file are told, they stand: no cursor stands on a record that another is going to purge.
+/// The law is over all worlds and turns; the function does nothing.
 pub fn walk_keeps_file()
     ensures law { WalkKeepsFile }
 {}

@@ -50,8 +50,8 @@ fn told_at_once(taken: Result<(), LockRefusal>) -> Turn
 ///
 /// A lock that the opener's explicit locks cover is only counted, and so is an unlock of one that they still cover. A
 /// lock of all records keeps the kind of its first time. Where another opener's lock is in the way, `Chain`, `All` and
-/// `AllRead` are blocked by the first conflict, and `ChainNb` is told that it is busy. `Memory` where that is wanting, or
-/// where a count is at its greatest. Then nothing changes. An unlock takes no memory.
+/// `AllRead` are blocked by the first conflict, and `ChainNb` is told that it is busy. `Memory` where that is wanting,
+/// or where a count is at its greatest. Then nothing changes. An unlock takes no memory.
 ///
 /// Cost: a hash of the key, a look-up among the chains that are held, and a pass over the lock table.
 pub(crate) fn locking_turn(

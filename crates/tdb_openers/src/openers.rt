@@ -136,8 +136,8 @@ impl Openers {
         self.list.len() as u32
     }
 
-    /// The command of an opener as a report tells it. `AllocError` where there is no memory for the copies of its key and
-    /// its value. Cost: their length.
+    /// The command of an opener as a report tells it. `AllocError` where there is no memory for the copies of its key
+    /// and its value. Cost: their length.
     pub fn told(&self, who: u32) -> Result<Command, AllocError>
         requires { (x : Opener) × (t : Task) × IsBusy self.now who x t }
         ensures { IfOk result (λ command. (x : Opener) (t : Task) → IsBusy self.now who x t → law_command command ≡ command_in t.job) }
@@ -178,8 +178,8 @@ impl Openers {
         Ok(count + 1)
     }
 
-    /// Takes all from the opener with this number: it isn't live any more, and holds no lock, and its cursor stands on no
-    /// record. Cost: one pass over the lock table.
+    /// Takes all from the opener with this number: it isn't live any more, and holds no lock, and its cursor stands on
+    /// no record. Cost: one pass over the lock table.
     pub(crate) fn strip(&mut self, who: u32)
         requires { (x : Opener) × IsNumber self.old who x }
         ensures { HasDied self.old who self.new }
@@ -208,8 +208,8 @@ impl Openers {
         self.push_opener()
     }
 
-    /// Whether the command begins a transaction of the opener with this number: it is a Start, and the opener's own state
-    /// doesn't refuse it. It begins none where no opener has the number.
+    /// Whether the command begins a transaction of the opener with this number: it is a Start, and the opener's own
+    /// state doesn't refuse it. It begins none where no opener has the number.
     pub fn begins(&self, who: u32, command: &Command) -> bool
         requires stands { (img : List ℕ) × (size : ℕ) × Stands self.now img size }
         ensures opener { (x : Opener) → IsNumber self.now who x → let own = own_of self.now.options x in
@@ -246,8 +246,8 @@ impl Openers {
     }
 
     /// Gives a live opener that has no command this one, of which it then takes turns. `told` is the same command, of
-    /// which a report's lines are copies. A command on a transaction is one that the opener's own state refuses, since the
-    /// opener has none here. It takes no memory.
+    /// which a report's lines are copies. A command on a transaction is one that the opener's own state refuses, since
+    /// the opener has none here. It takes no memory.
     ///
     /// Cost: a hash of the key, and a look-up among the chains that the opener holds.
     pub fn assign(&mut self, who: u32, command: Command, told: Command)
@@ -267,13 +267,15 @@ impl Openers {
         self.give(who, command, told);
     }
 
-    /// Takes one turn of the opener's command, on the bytes of the file. After `Io` the command is given up, and no other turn may be taken
-    /// in the world: the disk failed, or a check found a fault in the file, which no turn leaves.
+    /// Takes one turn of the opener's command, on the bytes of the file. After `Io` the command is given up, and no
+    /// other turn may be taken in the world: the disk failed, or a check found a fault in the file, which no turn
+    /// leaves.
     ///
-    /// An opener that holds no record for writing before the turn only looks at the file, and so does one that isn't in the
-    /// middle of a change.
+    /// An opener that holds no record for writing before the turn only looks at the file, and so does one that isn't in
+    /// the middle of a change.
     ///
-    /// Cost: that of the command's turn, and a search in the lock table; nothing is passed over that doesn't belong to it.
+    /// Cost: that of the command's turn, and a search in the lock table; nothing is passed over that doesn't belong to
+    /// it.
     pub fn turn<S: Space>(&mut self, s: &mut S, who: u32) -> Result<Turn, Io>
         requires busy { (x : Opener) × (t : Task) × IsBusy self.old who x t }
         requires form { S.form s.old ≡ form_in self.old.header }
@@ -313,7 +315,8 @@ impl Openers {
         opener.turn(*alloc, s, locks, who, spots, options, header)
     }
 
-    /// Whether the opener with this number is live, and has no command, no cursor, and no explicit lock but one of all records.
+    /// Whether the opener with this number is live, and has no command, no cursor, and no explicit lock but one of all
+    /// records.
     pub fn is_bare(&self, who: u32) -> bool
         ensures { IsTrue result ↔ ((x : Opener) × IsNumber self.now who x × IsBare x) }
     {
@@ -341,8 +344,8 @@ impl Openers {
         opener.lock_records(locks, who, kind)
     }
 
-    /// Locks all records for an opener that has no command, no cursor, and no explicit lock but that of all records, whose
-    /// kind is this one then; it was taken once. So a second call raises or lowers it.
+    /// Locks all records for an opener that has no command, no cursor, and no explicit lock but that of all records,
+    /// whose kind is this one then; it was taken once. So a second call raises or lowers it.
     ///
     /// `Conflict` is the first one, and `Memory` says that it is wanting. After both nothing has changed.
     ///
@@ -362,8 +365,8 @@ impl Openers {
         self.claim_records(who, kind)
     }
 
-    /// Lets go of all records for an opener that has no command, no cursor, and no explicit lock but that of all records. It
-    /// takes no memory.
+    /// Lets go of all records for an opener that has no command, no cursor, and no explicit lock but that of all
+    /// records. It takes no memory.
     ///
     /// Cost: a search in the lock table.
     pub fn let_go_of_records(&mut self, who: u32)

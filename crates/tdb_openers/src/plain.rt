@@ -26,13 +26,16 @@ use tdb_space::{Io, Space};
 use tdb_steps::Machine;
 
 /// Takes one turn of a plain command, in a file that may grow to `limit` bytes, where cursors stand on the records at
-/// `stood_on`. `owner` is the number of its opener in the lock table, and `held` are the locks that it has taken explicitly.
+/// `stood_on`. `owner` is the number of its opener in the lock table, and `held` are the locks that it has taken
+/// explicitly.
 ///
-/// A turn takes a lock of the command's row, or looks or changes the file. `Blocked` where another opener's lock conflicts: nothing
-/// changes then. With its reply the command lets go of what it took, and a change that it made raises the sequence number where the
-/// options say so. `Io` where the disk failed: then it keeps its locks. After a reply or `Io` the machine is before its first turn.
+/// A turn takes a lock of the command's row, or looks or changes the file. `Blocked` where another opener's lock
+/// conflicts: nothing changes then. With its reply the command lets go of what it took, and a change that it made
+/// raises the sequence number where the options say so. `Io` where the disk failed: then it keeps its locks. After a
+/// reply or `Io` the machine is before its first turn.
 ///
-/// Cost: a pass over the lock table where a lock is taken; else the chain of the key, the free list, or the writes, once each.
+/// Cost: a pass over the lock table where a lock is taken; else the chain of the key, the free list, or the writes,
+/// once each.
 pub(crate) fn plain_turn<S: Space>(
     alloc: Global,
     s: &mut S,

@@ -117,8 +117,8 @@ fn unlock_refusal(held: &Held, key: &Bytes, header: &Header) -> Option<Reply>
     }
 }
 
-/// The reply to the unlock of all records, where they aren't held, or where a chain is held or a cursor stands that only
-/// the last lock of them covers.
+/// The reply to the unlock of all records, where they aren't held, or where a chain is held or a cursor stands that
+/// only the last lock of them covers.
 fn unlock_all_refusal(held: &Held, walks: bool) -> Option<Reply>
     requires few { walks ≡ true → total_of held.now < 2 ^ 64 - 1 }
     ensures { result ≡ unlock_all_told held.now walks }
@@ -173,7 +173,8 @@ fn refusal_by(
 
 impl Opener {
     /// The reply with which the opener's own state refuses a command on a file with this header, if it does: it is the
-    /// first of the command's table that applies. Nobody has a transaction. Cost: a look-up among the chains that are held.
+    /// first of the command's table that applies. Nobody has a transaction. Cost: a look-up among the chains that are
+    /// held.
     pub(crate) fn refusal(
         &self,
         options: &Options,

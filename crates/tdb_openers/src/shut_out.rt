@@ -150,10 +150,10 @@ impl Openers {
     /// records for writing: nobody else reads the file then, so no call is made on it. None where the command asks for
     /// the sequence number, which is the caller's to read: then nothing has changed.
     ///
-    /// A command that wants records is blocked by `holder` at the first byte that it wants: that of its chain, or 168, the
-    /// first of all chains, where it locks all records or moves a cursor. A chain lock that doesn't wait is told that it
-    /// is busy there. A refused command is told so, and an EndWalk or a Close is done at once, since no cursor stands on a
-    /// record. It takes no memory.
+    /// A command that wants records is blocked by `holder` at the first byte that it wants: that of its chain, or 168,
+    /// the first of all chains, where it locks all records or moves a cursor. A chain lock that doesn't wait is told
+    /// that it is busy there. A refused command is told so, and an EndWalk or a Close is done at once, since no cursor
+    /// stands on a record. It takes no memory.
     ///
     /// Cost: for a lock of a chain a hash of its key.
     pub fn turn_shut_out(&mut self, who: u32, holder: u32) -> Option<Turn>
@@ -179,8 +179,9 @@ impl Openers {
         Some(self.meet(who, holder))
     }
 
-    /// Ends the command of an opener that asks for the sequence number, which the caller has read. Beside an opener that
-    /// holds all records for writing, and doesn't stand in the way of the number, it is the turn that tells the number.
+    /// Ends the command of an opener that asks for the sequence number, which the caller has read. Beside an opener
+    /// that holds all records for writing, and doesn't stand in the way of the number, it is the turn that tells the
+    /// number.
     pub fn end_seqnum(&mut self, who: u32)
         requires asks { (x : Opener) × (t : Task) × IsBusy self.old who x t × (command_in t.job ≡ Seqnum) }
         requires stands { (img : List ℕ) × (size : ℕ) × Stands self.old img size }

@@ -33,8 +33,8 @@ use tdb_space::{Io, Space};
 use tdb_words::Header;
 
 impl Job {
-    /// Takes one turn of a job that is on no cursor, of an opener with this number in the lock table, which has taken the
-    /// locks `held` explicitly. Its cursor rests, and the cursors of all openers stand on the records at `spots`.
+    /// Takes one turn of a job that is on no cursor, of an opener with this number in the lock table, which has taken
+    /// the locks `held` explicitly. Its cursor rests, and the cursors of all openers stand on the records at `spots`.
     fn turn<S: Space>(
         &mut self,
         alloc: Global,
@@ -92,8 +92,8 @@ impl Job {
 }
 
 impl Task {
-    /// What is left of the task after a turn of its job: it has had a step more, or is the same, or it is at its end, as after a fault of
-    /// the disk.
+    /// What is left of the task after a turn of its job: it has had a step more, or is the same, or it is at its end,
+    /// as after a fault of the disk.
     pub(crate) fn after(mut self, turn: &Result<Turn, Io>) -> Option<Task>
         requires few { self.steps < 2 ^ 32 - 1 }
         ensures left { IfOk turn.now (λ turn. result ≡ task_after self.job self.steps (law_turn turn)) }

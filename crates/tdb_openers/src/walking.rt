@@ -20,8 +20,8 @@ use tdb_locks::{Held, Locks, Spots, Turn};
 use tdb_space::{Io, Space};
 
 impl Walking {
-    /// Takes one turn of the command, of an opener with these locks and this cursor. The opener's own entry in `spots` is
-    /// that of its number in the lock table, `owner`, less 1.
+    /// Takes one turn of the command, of an opener with these locks and this cursor. The opener's own entry in `spots`
+    /// is that of its number in the lock table, `owner`, less 1.
     fn turn<S: Space>(
         self,
         alloc: Global,
@@ -73,10 +73,10 @@ impl Opener {
         }
     }
 
-    /// Takes one turn of the opener's command, which asks this of its cursor. `owner` is its number in the lock table, and
-    /// its own entry in `spots` is the one at that number less 1; it is that of its cursor's new place then. After a step
-    /// the command has one more behind it, blocked it is as it was, and at its end the opener has none; so it has after
-    /// `Io`, where the command is given up.
+    /// Takes one turn of the opener's command, which asks this of its cursor. `owner` is its number in the lock table,
+    /// and its own entry in `spots` is the one at that number less 1; it is that of its cursor's new place then. After
+    /// a step the command has one more behind it, blocked it is as it was, and at its end the opener has none; so it
+    /// has after `Io`, where the command is given up.
     pub(crate) fn walk_turn<S: Space>(
         &mut self,
         alloc: Global,

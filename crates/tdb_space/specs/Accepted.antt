@@ -12,8 +12,8 @@ use Rattle.tdb_space.specs.Chain.{Linked, chain_of, free_of, HasChains}
 use Rattle.tdb_space.specs.Pairs.{pairs, same_key}
 use Rattle.tdb_space.specs.Extents.{HandPair, times, all_extents, AllHandOk}
 
--- An undo area is in place, where the image has one: it is aligned and stands behind the heads, its header and its content
--- lie within the image, and its gate word is that of an open or of a shut gate.
+-- An undo area is in place, where the image has one: it is aligned and stands behind the heads, its header and its
+-- content lie within the image, and its gate word is that of an open or of a shut gate.
 pub record AreaInPlace (f : Form) (img : List ℕ) (at : ℕ) : Type 0 where
   pub aligned : at % 4 ≡ 0
   pub above : data_start f ≤ at
@@ -44,16 +44,17 @@ AllFiled f img chain (x ∷ xs) = (magic_of f.order img x ≡ USED → Filed f i
 abbrev pub KeysDiffer : Form → List ℕ → List ℕ → Type 0
 KeysDiffer f img offs = IsDistinct same_key (keys_of (pairs f.order img offs))
 
--- each chain head has its chain, and each used record is filed there by its key's hash; so the map at a key is found in one chain
+-- each chain head has its chain, and each used record is filed there by its key's hash; so the map at a key is found in
+-- one chain
 pub record IsFiled (f : Form) (img : List ℕ) : Type 0 where
   pub some : 0 < f.chains
   pub chains : HasChains f img
   pub filed : (j : ℕ) → j < f.chains → AllFiled f img j (chain_of f img j)
 
--- The image is laid out in these chains, this free list, its undo area and these hands:
--- the header is one of ours; the length is a whole number of words and reaches the data; the undo area is in place and shut;
--- each chain head has its chain and the free list is one; each used record is filed by its key's hash; no key comes twice in a
--- chain; the hands are in place; no byte is held twice; and a byte that nothing holds is 0x00 or the padding byte.
+-- The image is laid out in these chains, this free list, its undo area and these hands: the header is one of ours; the
+-- length is a whole number of words and reaches the data; the undo area is in place and shut; each chain head has its
+-- chain and the free list is one; each used record is filed by its key's hash; no key comes twice in a chain; the hands
+-- are in place; no byte is held twice; and a byte that nothing holds is 0x00 or the padding byte.
 pub record LaidOut (f : Form) (img : List ℕ) (chain : ℕ → List ℕ) (free : List ℕ) (hands : List HandPair) : Type 0 where
   pub header : HeaderOk img
   pub form : form_of img ≡ f

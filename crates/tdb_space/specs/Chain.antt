@@ -6,8 +6,8 @@ use Rattle.tdb_words.specs.Word.{word}
 use Rattle.tdb_space.specs.Form.{Form, free_head, chain_head}
 use Rattle.tdb_space.specs.Record.{Whole, IsChained, IsFree, next_of, magic_of}
 
--- From this offset the records at these offsets follow one another, each by the next word of the one before it. Each stands
--- whole and has a magic of the kind, and the next word of the last is 0. The list is finite, so a loop has none.
+-- From this offset the records at these offsets follow one another, each by the next word of the one before it. Each
+-- stands whole and has a magic of the kind, and the next word of the last is 0. The list is finite, so a loop has none.
 abbrev pub Linked : Form → (ℕ → Type 0) → List ℕ → ℕ → List ℕ → Type 0
 Linked f Mark img at [] = at ≡ 0
 Linked f Mark img at (x ∷ xs) = (at ≡ x) × Whole f img x × Mark (magic_of f.order img x) × Linked f Mark img (next_of f.order img x) xs
@@ -29,8 +29,8 @@ abbrev pub offsets : Order → List ℕ → ℕ → ℕ → List ℕ
 offsets o img zero at = []
 offsets o img (suc n) at = if at == 0 then [] else at ∷ offsets o img n (word o img at)
 
--- The offsets of chain j. Records of one list are a word apart at least, so no list has more of them than the image has words:
--- where the chain's head has a Chain, it is this one.
+-- The offsets of chain j. Records of one list are a word apart at least, so no list has more of them than the image has
+-- words: where the chain's head has a Chain, it is this one.
 abbrev pub chain_of : Form → List ℕ → ℕ → List ℕ
 chain_of f img j = offsets f.order img (length img / 4) (word f.order img (chain_head j))
 
@@ -46,8 +46,8 @@ HasChains f img = (j : ℕ) → j < f.chains → Chain f img (word f.order img (
 abbrev pub Member : ℕ → List ℕ → Type 0
 Member x xs = IsTrue (list_any (nat_eq x) xs)
 
--- the word at this offset leads to y, in the list whose first word stands at the place p: it is the word at p, or the next word of
--- the record before y
+-- the word at this offset leads to y, in the list whose first word stands at the place p: it is the word at p, or the
+-- next word of the record before y
 abbrev pub Leads : ℕ → List ℕ → ℕ → ℕ → Type 0
 Leads p [] before y = ⊥
 Leads p (x ∷ xs) before y = ((p ≡ before) × (x ≡ y)) ⊎ Leads x xs before y

@@ -2,8 +2,8 @@
 use Rattle.std.specs.Prelude.{ℕ}
 use Rattle.tdb_disk.specs.History.{History}
 
--- the calls that changed a disk, its length in bytes, and how many syncs answered Ok; the calls say something of the disk only
--- where it tells
+-- the calls that changed a disk, its length in bytes, and how many syncs answered Ok; the calls say something of the
+-- disk only where it tells
 pub record DiskState : Type 0 where
   pub history : History
   pub size : ℕ

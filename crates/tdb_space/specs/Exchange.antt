@@ -18,9 +18,9 @@ use Rattle.tdb_space.specs.Accepted.{AllFiled, KeysDiffer}
 abbrev pub Agree : List ℕ → List ℕ → ℕ → ℕ → Type 0
 Agree a b from to = (i : ℕ) → from ≤ i → i < to → slice_index b i ≡ slice_index a i
 
--- From image a to image b one chain goes from these records to those, and the hands become others. Below the records only the
--- head of the chain changes, and elsewhere only bytes of the chain's old records and of the old hands. Just the bytes that these
--- held are held by the new ones, each as often as before.
+-- From image a to image b one chain goes from these records to those, and the hands become others. Below the records
+-- only the head of the chain changes, and elsewhere only bytes of the chain's old records and of the old hands. Just
+-- the bytes that these held are held by the new ones, each as often as before.
 pub record Exchanged (f : Form) (a b : List ℕ) (chain : ℕ) (olds news : List ℕ) (before after : List HandPair) : Type 0 where
   pub size : length b ≡ length a
   pub low : (i : ℕ) → i < data_start f → (i < chain_head chain) ⊎ (chain_head chain + 4 ≤ i) → slice_index b i ≡ slice_index a i
@@ -68,8 +68,8 @@ pub record Filled (f : Form) (img : List ℕ) (hand : HandPair) (key value : Lis
   pub has_value : data_at f.order img hand.0 ≡ value
   pub hashed : full_hash_of f.order img hand.0 ≡ h_of f.hash key
 
--- From image a to image b a hand becomes the first record of its key's chain: only its bytes and the chain's head change, it
--- leads to what was the first, and the head leads to it.
+-- From image a to image b a hand becomes the first record of its key's chain: only its bytes and the chain's head
+-- change, it leads to what was the first, and the head leads to it.
 pub record PutInFront (f : Form) (a b : List ℕ) (hand : HandPair) (key value : List ℕ) : Type 0 where
   pub size : length b ≡ length a
   pub low : (i : ℕ) → i < data_start f → (i < chain_head (home f key)) ⊎ (chain_head (home f key) + 4 ≤ i) → slice_index b i ≡ slice_index a i
@@ -89,21 +89,22 @@ pub record GrownBy (f : Form) (a b : List ℕ) (rec_len : ℕ) : Type 0 where
   pub size : length b ≡ length a + 24 + rec_len
   pub others : (i : ℕ) → i < length a → slice_index b i ≡ slice_index a i
 
--- From image a to image b just one word changes, that at an offset which led to the record y: it leads to what comes after y
+-- From image a to image b just one word changes, that at an offset which led to the record y: it leads to what comes
+-- after y
 pub record LedPast (f : Form) (a b : List ℕ) (before y : ℕ) : Type 0 where
   pub size : length b ≡ length a
   pub next : word f.order b before ≡ next_of f.order a y
   pub others : (i : ℕ) → (i < before) ⊎ (before + 4 ≤ i) → slice_index b i ≡ slice_index a i
 
--- From image a to image b only the record at an offset changes, within its old extent and not in its next word, and it still
--- stands whole
+-- From image a to image b only the record at an offset changes, within its old extent and not in its next word, and it
+-- still stands whole
 pub record Touched (f : Form) (a b : List ℕ) (at : ℕ) : Type 0 where
   pub size : length b ≡ length a
   pub others : (i : ℕ) → (i < at + 4) ⊎ (at + 24 + rec_len_of f.order a at ≤ i) → slice_index b i ≡ slice_index a i
   pub whole : Whole f b at
 
--- From image a to image b a hand becomes the first free record: only its bytes and the head of the free list change, it leads
--- to what was the first, and the head leads to it
+-- From image a to image b a hand becomes the first free record: only its bytes and the head of the free list change, it
+-- leads to what was the first, and the head leads to it
 pub record PutFree (f : Form) (a b : List ℕ) (hand : HandPair) : Type 0 where
   pub size : length b ≡ length a
   pub low : (i : ℕ) → i < data_start f → (i < free_head) ⊎ (free_head + 4 ≤ i) → slice_index b i ≡ slice_index a i

@@ -42,7 +42,8 @@ hand_extents (h ∷ hs) = (h.0, 24 + h.1) ∷ hand_extents hs
 abbrev pub area : Order → List ℕ → List Extent
 area o img = if word o img area_head == 0 then [] else extent_at o img (word o img area_head) ∷ []
 
--- the extents of all chains, of the free list, of the undo area and of the hands; a record that two lists hold comes twice
+-- the extents of all chains, of the free list, of the undo area and of the hands; a record that two lists hold comes
+-- twice
 abbrev pub all_extents : Form → List ℕ → (ℕ → List ℕ) → List ℕ → List HandPair → List Extent
 all_extents f img chain free hands =
     joined f.chains (λ j. extents f.order img (chain j)) ++ extents f.order img free ++ area f.order img ++ hand_extents hands

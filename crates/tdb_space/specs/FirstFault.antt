@@ -22,7 +22,8 @@ Fault = What × ℕ
 abbrev pub is_short : Form → List ℕ → Bool
 is_short f img = not (length img % 4 == 0) || nat_lt (length img) (data_start f)
 
--- the front: the length is too short for a header, the header has a fault, or the length is none of a file with this header
+-- the front: the length is too short for a header, the header has a fault, or the length is none of a file with this
+-- header
 abbrev pub front_fault : List ℕ → Option Fault
 front_fault img =
     if nat_lt (length img) header_length then Some (Short, length img)
@@ -30,7 +31,8 @@ front_fault img =
     else if is_short (form_of img) img then Some (Short, length img)
     else None
 
--- no record header can stand at an offset: it isn't a multiple of 4, lies before the data, or 24 bytes from it pass the end
+-- no record header can stand at an offset: it isn't a multiple of 4, lies before the data, or 24 bytes from it pass the
+-- end
 abbrev pub is_out : Form → List ℕ → ℕ → Bool
 is_out f img at = not (at % 4 == 0) || nat_lt at (data_start f) || nat_lt (length img) (at + 24)
 
@@ -38,7 +40,8 @@ is_out f img at = not (at % 4 == 0) || nat_lt at (data_start f) || nat_lt (lengt
 abbrev pub is_long : Form → List ℕ → ℕ → Bool
 is_long f img at = not (rec_len_of f.order img at % 4 == 0) || nat_lt (length img) (at + 24 + rec_len_of f.order img at)
 
--- an undo area at an offset: it can't stand there, its length doesn't fit, its gate is open, or its gate word is neither of the two
+-- an undo area at an offset: it can't stand there, its length doesn't fit, its gate is open, or its gate word is
+-- neither of the two
 abbrev pub area_fault_at : Form → List ℕ → ℕ → Option Fault
 area_fault_at f img at =
     if is_out f img at then Some (AreaBad, area_head)
@@ -70,8 +73,8 @@ abbrev pub has_magic : ListKind → ℕ → Bool
 has_magic (chain_number j) magic = magic == USED || magic == DEAD
 has_magic free_list magic = magic == FREE
 
--- a record is bad: its magic isn't its list's, its length is no whole number of words, below 4 or passes the end, or it is used
--- and what it holds doesn't fit
+-- a record is bad: its magic isn't its list's, its length is no whole number of words, below 4 or passes the end, or it
+-- is used and what it holds doesn't fit
 abbrev pub is_bad : Form → ListKind → List ℕ → ℕ → Bool
 is_bad f kind img at =
     not (has_magic kind (magic_of f.order img at)) || is_long f img at || nat_lt (rec_len_of f.order img at) 4
@@ -93,7 +96,8 @@ abbrev pub has_twin : Form → List ℕ → List ℕ → ℕ → Bool
 has_twin f img earlier at = (magic_of f.order img at == USED) && list_any (same_key (key_at f.order img at)) (map (λ p. p.0) (pairs f.order img earlier))
 
 -- What is wrong with the record that the word at a place leads to, after these records of the same list. The first that
--- holds: the word leads out, it leads back, the record is bad, its tailer is wrong, it is misfiled, an earlier one has its key.
+-- holds: the word leads out, it leads back, the record is bad, its tailer is wrong, it is misfiled, an earlier one has
+-- its key.
 abbrev pub record_fault : Form → ListKind → List ℕ → List ℕ → ℕ → ℕ → Option Fault
 record_fault f kind img earlier place at =
     if is_out f img at then Some (out_of kind, place)
@@ -104,8 +108,8 @@ record_fault f kind img earlier place at =
     else if has_twin f img earlier at then Some (TwiceKey, at)
     else None
 
--- After the earlier records of a list, from the word at a place on, these records follow one another and none has a fault.
--- The next word of the list stands at the last place.
+-- After the earlier records of a list, from the word at a place on, these records follow one another and none has a
+-- fault. The next word of the list stands at the last place.
 abbrev pub Passed : Form → ListKind → List ℕ → List ℕ → ℕ → List ℕ → ℕ → Type 0
 Passed f kind img earlier place [] last = last ≡ place
 Passed f kind img earlier place (x ∷ xs) last =
@@ -167,8 +171,8 @@ pub record HasNoFault (img : List ℕ) : Type 0 where
   pub apart : NoOverlap img
   pub clean : NoStray img
 
--- A fault is the first of an image: all that a check reads before it is sound. The order is the front, the undo area, chain 0 and
--- the next chains, the free list, bytes that are held twice, and stray bytes.
+-- A fault is the first of an image: all that a check reads before it is sound. The order is the front, the undo area,
+-- chain 0 and the next chains, the free list, bytes that are held twice, and stray bytes.
 pub data IsFirstFault (img : List ℕ) : Fault → Type 0 where
   at_front : (e : Fault) → front_fault img ≡ Some e → IsFirstFault img e
   at_area : (e : Fault) → front_fault img ≡ None → area_fault (form_of img) img ≡ Some e → IsFirstFault img e

@@ -31,7 +31,7 @@ chain_head j = 172 + 4 * j
 abbrev pub data_start : Form → ℕ
 data_start f = header_length + 4 * (f.chains + 1)
 
--- two images have the same bytes by which a header is known: those below 44, and those from 52 to 63. Between them stand the
--- offset of the undo area and the sequence number
+-- two images have the same bytes by which a header is known: those below 44, and those from 52 to 63. Between them
+-- stand the offset of the undo area and the sequence number
 abbrev pub SameHeader : List ℕ → List ℕ → Type 0
 SameHeader a b = (i : ℕ) → (i < area_head) ⊎ ((sequence_at + 4 ≤ i) × (i < known_length)) → slice_index b i ≡ slice_index a i

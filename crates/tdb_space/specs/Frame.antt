@@ -3,8 +3,8 @@ use Rattle.std.specs.Prelude.{◌≡◌, ℕ, false}
 use Rattle.tdb_disk.specs.History.{History}
 use Rattle.tdb_space.specs.declared.space.Space.{Ghosts}
 
--- a call that only looks: it leaves the length, the bytes, what the header states, the spare room, the disk under the view, and
--- the references that the view holds
+-- a call that only looks: it leaves the length, the bytes, what the header states, the spare room, the disk under the
+-- view, and the references that the view holds
 pub record Looked {S : Type 0} (g : Ghosts S) (old new : S) : Type 0 where
   pub size : g.size new ≡ g.size old
   pub image : g.image new ≡ g.image old

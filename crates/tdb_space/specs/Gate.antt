@@ -34,18 +34,20 @@ pub record InContent (f : Form) (a b : List ℕ) : Type 0 where
   pub rec_len : rec_len_of f.order b (area_at f a) ≡ rec_len_of f.order a (area_at f a)
   pub shut : magic_of f.order b (area_at f a) ≡ GATE_SHUT
 
--- what stands in an undo area whose gate is shut counts for nothing: the image stays accepted, with the same lists and the same map
+-- what stands in an undo area whose gate is shut counts for nothing: the image stays accepted, with the same lists and
+-- the same map
 abbrev pub ContentIsFree : Type 0
 ContentIsFree = (f : Form) (a b : List ℕ) → AcceptWith f a [] → InContent f a b → StaysAccepted f a b
 
--- The gate of an image may be opened: it can be undone then, what its entries give back is what stands there, the old length is a
--- whole number of words, and no record of a chain or of the free list reaches past it.
+-- The gate of an image may be opened: it can be undone then, what its entries give back is what stands there, the old
+-- length is a whole number of words, and no record of a chain or of the free list reaches past it.
 pub record IsReadyToOpen (f : Form) (a : List ℕ) : Type 0 where
   pub undoable : Undoable f (gate_opened f a)
   pub holds : (i : ℕ) (e : Entry) → last_covering (entries f (gate_opened f a)) i ≡ Some e → slice_index e.olds (i - e.off) ≡ slice_index a i
   pub words : old_size f a % 4 ≡ 0
   pub low : (i : ℕ) → 1 ≤ times (joined f.chains (λ k. extents f.order a (chain_of f a k))) i + times (extents f.order a (free_of f a)) i → i < old_size f a
 
--- an accepted image that is ready reopens with its gate open, to the map that it holds, and can be recovered again and again
+-- an accepted image that is ready reopens with its gate open, to the map that it holds, and can be recovered again and
+-- again
 abbrev pub OpenGateKeepsMap : Type 0
 OpenGateKeepsMap = (a : List ℕ) → Accept a → IsReadyToOpen (form_of a) a → Mild (gate_opened (form_of a) a) × Reopens a (gate_opened (form_of a) a)

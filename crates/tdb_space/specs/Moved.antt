@@ -7,9 +7,10 @@ use Rattle.tdb_space.specs.Extents.{times, extents, area}
 use Rattle.tdb_space.specs.Accepted.{AreaOk, Shut, AcceptWith}
 use Rattle.tdb_words.specs.Header.{area_head, sequence_at}
 
--- From image a to image b the length and the undo area may become others. Below the records only the words at 44 and 48 may change.
--- The records of all lists stay, byte for byte, and lie within b. The undo area of b is in place, shut, and holds no byte of theirs.
--- Each other byte of b was held by nothing in a and stays, or is 0. So b may be longer than a by zeros, or shorter.
+-- From image a to image b the length and the undo area may become others. Below the records only the words at 44 and 48
+-- may change. The records of all lists stay, byte for byte, and lie within b. The undo area of b is in place, shut, and
+-- holds no byte of theirs. Each other byte of b was held by nothing in a and stays, or is 0. So b may be longer than a
+-- by zeros, or shorter.
 pub record AreaMoved (f : Form) (a b : List ℕ) : Type 0 where
   pub sized : length b % 4 ≡ 0
   pub long : data_start f ≤ length b
@@ -21,7 +22,8 @@ pub record AreaMoved (f : Form) (a b : List ℕ) : Type 0 where
   pub apart : (i : ℕ) → 1 ≤ times (area f.order b) i → times (joined f.chains (λ k. extents f.order a (chain_of f a k))) i + times (extents f.order a (free_of f a)) i ≡ 0
   pub others : (i : ℕ) → data_start f ≤ i → i < length b → times (area f.order b) i ≡ 0 → ((times (area f.order a) i ≡ 0) × (slice_index b i ≡ slice_index a i)) ⊎ (slice_index b i ≡ 0)
 
--- what stays where the undo area or the length becomes another: the image is accepted, has the same lists, and holds the same pairs
+-- what stays where the undo area or the length becomes another: the image is accepted, has the same lists, and holds
+-- the same pairs
 pub record StaysAccepted (f : Form) (a b : List ℕ) : Type 0 where
   pub accepted : AcceptWith f b []
   pub same_chains : (k : ℕ) → k < f.chains → chain_of f b k ≡ chain_of f a k

@@ -1,4 +1,5 @@
--- A commit that needs another undo area: the file grows by zeros, the old area is emptied and given up, and a new one is set.
+-- A commit that needs another undo area: the file grows by zeros, the old area is emptied and given up, and a new one
+-- is set.
 use Rattle.std.specs.Prelude.{◌≡◌, ℕ, ◌+◌, ◌%◌, ◌<◌, ◌≤◌, ◌⊎◌, List, [], ◌∷◌, length, slice_index}
 use Rattle.tdb_words.specs.declared.record.TheConstants.{GATE_SHUT}
 use Rattle.tdb_words.specs.Word.{word}
@@ -20,9 +21,9 @@ pub record Longer (a c : List ℕ) : Type 0 where
   pub front : (i : ℕ) → i < length a → slice_index c i ≡ slice_index a i
   pub zeros : (i : ℕ) → length a ≤ i → i < length c → slice_index c i ≡ 0
 
--- From image a to image b the undo area is set at x, with room for n bytes and its gate shut. Only the word at 44 and bytes of that area
--- change; no record reaches into it; and what the undo area of a held outside it is 0. It may be the same area with another length, or
--- the first one.
+-- From image a to image b the undo area is set at x, with room for n bytes and its gate shut. Only the word at 44 and
+-- bytes of that area change; no record reaches into it; and what the undo area of a held outside it is 0. It may be the
+-- same area with another length, or the first one.
 pub record AreaSet (f : Form) (a b : List ℕ) (x n : ℕ) : Type 0 where
   pub size : length b ≡ length a
   pub there : word f.order b area_head ≡ x
@@ -43,8 +44,8 @@ pub record AreaDropped (f : Form) (a b : List ℕ) : Type 0 where
   pub beside : (i : ℕ) → (i < area_head) ⊎ (area_head + 4 ≤ i) → slice_index b i ≡ slice_index a i
   pub left : (i : ℕ) → 1 ≤ times (area f.order a) i → slice_index a i ≡ 0
 
--- From image a to image b the undo area at an offset, with room for n bytes, becomes a hand: the word at 44 is 0, the bytes of the area
--- may be any, and nothing else changes
+-- From image a to image b the undo area at an offset, with room for n bytes, becomes a hand: the word at 44 is 0, the
+-- bytes of the area may be any, and nothing else changes
 pub record GivenUp (f : Form) (a b : List ℕ) (at n : ℕ) : Type 0 where
   pub some : word f.order a area_head ≡ 0 → ⊥
   pub there : word f.order a area_head ≡ at
@@ -74,11 +75,13 @@ pub record HoldsHand (f : Form) (a b : List ℕ) (hand : HandPair) : Type 0 wher
 abbrev pub LongerStays : Type 0
 LongerStays = (f : Form) (a c : List ℕ) → AcceptWith f a [] → Longer a c → StaysAccepted f a c
 
--- what a stop of a growth of an accepted file leaves is the file with zeros behind it, where both lengths are whole words
+-- what a stop of a growth of an accepted file leaves is the file with zeros behind it, where both lengths are whole
+-- words
 abbrev pub GrownIsLonger : Type 0
 GrownIsLonger = (a c : List ℕ) (to : ℕ) → length a % 4 ≡ 0 → to % 4 ≡ 0 → Grown (length a) to a c → Longer a c
 
--- where the content is 0, an image whose undo area has another header stays accepted: so its words may be set to 0 in any order
+-- where the content is 0, an image whose undo area has another header stays accepted: so its words may be set to 0 in
+-- any order
 abbrev pub BareHeaderStays : Type 0
 BareHeaderStays = (f : Form) (a b : List ℕ) → AcceptWith f a [] → BareArea f a → HeaderOnly f a b → StaysAccepted f a b
 

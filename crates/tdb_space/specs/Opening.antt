@@ -1,5 +1,6 @@
--- Opening a file: what its undo area takes back, and the map that it then holds. The undo area is the recovery area of the public
--- TDB 1 format. While its gate is open, the file is read as it was before the changes whose old bytes the area keeps.
+-- Opening a file: what its undo area takes back, and the map that it then holds. The undo area is the recovery area of
+-- the public TDB 1 format. While its gate is open, the file is read as it was before the changes whose old bytes the
+-- area keeps.
 use Rattle.std.specs.Prelude.{◌≡◌, ℕ, zero, suc, ◌+◌, ◌-◌, ◌%◌, ◌≤◌, ◌⊎◌, ◌==◌, Bool, ◌&&◌, ◌||◌, not, nat_lt, nat_le, if◌then◌else◌, Option, Some, None, List, [], ◌∷◌, length, map, take, drop, slice_index}
 use Rattle.std.specs.List.{filter, last_or, range_with_len}
 use Rattle.tdb_words.specs.declared.record.TheConstants.{GATE_OPEN}
@@ -13,8 +14,8 @@ use Rattle.tdb_space.specs.Pairs.{map_of}
 use Rattle.tdb_space.specs.Accepted.{AreaInPlace, AreaOk, Shut, Accept}
 use Rattle.tdb_space.specs.FirstFault.{Fault, is_out, is_long}
 
--- An entry of the undo area: an offset word, a length word, and that many old bytes of the file from that offset on. The place is
--- where its offset word stands.
+-- An entry of the undo area: an offset word, a length word, and that many old bytes of the file from that offset on.
+-- The place is where its offset word stands.
 pub record Entry : Type 0 where
   pub place : ℕ
   pub off : ℕ
@@ -30,8 +31,8 @@ entry_at o img at = record {
   olds = take (word o img (at + 4)) (drop (at + 8) img);
 }
 
--- The entries that follow one another from a place on, and no more of them than a number. There is one more while more than 8
--- bytes are left up to the end.
+-- The entries that follow one another from a place on, and no more of them than a number. There is one more while more
+-- than 8 bytes are left up to the end.
 abbrev pub entries_from : Order → List ℕ → ℕ → ℕ → ℕ → List Entry
 entries_from o img zero at end = []
 entries_from o img (suc n) at end =
@@ -45,8 +46,8 @@ entries_end o img at = at + 24 + data_len_of o img at
 abbrev pub entries : Form → List ℕ → List Entry
 entries f img = entries_from f.order img (data_len_of f.order img (word f.order img area_head)) (word f.order img area_head + 24) (entries_end f.order img (word f.order img area_head))
 
--- The area's key_len is the length that the file had. It is no such length: it lies before the data, passes the end, or cuts the
--- undo area at this offset in two.
+-- The area's key_len is the length that the file had. It is no such length: it lies before the data, passes the end, or
+-- cuts the undo area at this offset in two.
 abbrev pub is_bad_cut : Form → List ℕ → ℕ → Bool
 is_bad_cut f img at =
     nat_lt (key_len_of f.order img at) (data_start f) || nat_lt (length img) (key_len_of f.order img at)
@@ -61,7 +62,8 @@ abbrev pub entry_fault : ℕ → ℕ → List Entry → Option Fault
 entry_fault end old_length [] = None
 entry_fault end old_length (e ∷ es) = if is_bad_entry end old_length e then Some (UndoBad, e.place) else entry_fault end old_length es
 
--- an undo area at an offset with these entries: its old length is none, its entries pass its content, or an entry is bad
+-- an undo area at an offset with these entries: its old length is none, its entries pass its content, or an entry is
+-- bad
 abbrev pub undo_fault_at : Form → List ℕ → ℕ → List Entry → Option Fault
 undo_fault_at f img at es =
     if is_bad_cut f img at then Some (UndoBad, at + 8)
@@ -95,9 +97,9 @@ given_back (Some e) i byte = slice_index e.olds (i - e.off)
 abbrev pub lies_in : ℕ → ℕ → ℕ → Bool
 lies_in from count i = nat_le from i && nat_lt i (from + count)
 
--- A byte of what an undo gives, where the undo area stands at this offset and has these entries. The gate is shut. The word at 44,
--- which says where the area is, is 0 where the area lies past the file's old length, and else stays. The area itself stays. Every
--- other byte is that of the last entry that covers it, or stays.
+-- A byte of what an undo gives, where the undo area stands at this offset and has these entries. The gate is shut. The
+-- word at 44, which says where the area is, is 0 where the area lies past the file's old length, and else stays. The
+-- area itself stays. Every other byte is that of the last entry that covers it, or stays.
 abbrev pub undone_byte : Order → List ℕ → ℕ → List Entry → ℕ → ℕ
 undone_byte o img at es i =
     if lies_in (at + 20) 4 i then 0
@@ -114,14 +116,14 @@ abbrev pub is_open : Form → List ℕ → Bool
 is_open f img =
     not (is_out f img (word f.order img area_head)) && not (is_long f img (word f.order img area_head)) && (magic_of f.order img (word f.order img area_head) == GATE_OPEN)
 
--- The image that a file is read as: with an open gate what the undo gives, and else the file as it is. It says something only
--- where the gate is shut, there is no undo area, or the image is Undoable. An entry may cover the header too, so what this gives
--- may have another form.
+-- The image that a file is read as: with an open gate what the undo gives, and else the file as it is. It says
+-- something only where the gate is shut, there is no undo area, or the image is Undoable. An entry may cover the header
+-- too, so what this gives may have another form.
 abbrev pub restored : Form → List ℕ → List ℕ
 restored f img = if is_open f img then undone f.order img (word f.order img area_head) (entries f img) else img
 
--- The image can be opened: its header is one of ours, the length is a whole number of words and reaches the data, the undo area is
--- in place, it has nothing to undo or can be undone, and what that gives is accepted.
+-- The image can be opened: its header is one of ours, the length is a whole number of words and reaches the data, the
+-- undo area is in place, it has nothing to undo or can be undone, and what that gives is accepted.
 pub record Opens (img : List ℕ) : Type 0 where
   pub header : HeaderOk img
   pub sized : length img % 4 ≡ 0

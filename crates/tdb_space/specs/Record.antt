@@ -5,8 +5,8 @@ use Rattle.tdb_words.specs.declared.word.Order.{Order}
 use Rattle.tdb_words.specs.Word.{word}
 use Rattle.tdb_space.specs.Form.{Form, data_start}
 
--- The header of a record is six words (`struct tdb_record` of the public TDB 1 format). The first leads to the next record of
--- its list, or is 0 at the end
+-- The header of a record is six words (`struct tdb_record` of the public TDB 1 format). The first leads to the next
+-- record of its list, or is 0 at the end
 abbrev pub next_of : Order → List ℕ → ℕ → ℕ
 next_of o img at = word o img at
 
@@ -30,8 +30,8 @@ full_hash_of o img at = word o img (at + 16)
 abbrev pub magic_of : Order → List ℕ → ℕ → ℕ
 magic_of o img at = word o img (at + 20)
 
--- A record stands whole at this offset, whatever its magic is: it is aligned, it stands behind the heads, it has room for
--- its tailer at least, it ends within the image, and its last word, the tailer, is the length of the whole of it.
+-- A record stands whole at this offset, whatever its magic is: it is aligned, it stands behind the heads, it has room
+-- for its tailer at least, it ends within the image, and its last word, the tailer, is the length of the whole of it.
 pub record Whole (f : Form) (img : List ℕ) (at : ℕ) : Type 0 where
   pub aligned : at % 4 ≡ 0
   pub above : data_start f ≤ at

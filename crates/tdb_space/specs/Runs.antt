@@ -4,8 +4,8 @@ use Rattle.tdb_space.specs.Form.{SameHeader}
 use Rattle.tdb_space.specs.Extents.{Extent, once, times}
 use Rattle.tdb_words.specs.Header.{area_head, known_length, sequence_at}
 
--- From image a, the file, to image b, that of the transaction, the byte at a place below the old length changes, outside the undo area
--- and the word at 44.
+-- From image a, the file, to image b, that of the transaction, the byte at a place below the old length changes,
+-- outside the undo area and the word at 44.
 pub record Changed (a b : List ℕ) (old : ℕ) (skip : Extent) (i : ℕ) : Type 0 where
   pub low : i < old
   pub beside : (i < area_head) ⊎ (area_head + 4 ≤ i)
@@ -46,13 +46,14 @@ abbrev pub NoRunNoChange : Type 0
 NoRunNoChange = (a b : List ℕ) (old : ℕ) (skip : Extent) (es : List Extent) → ChangedRuns a b old skip es
     → (es ≡ [] → (i : ℕ) → Changed a b old skip i → ⊥) × (((i : ℕ) → Changed a b old skip i → ⊥) → es ≡ [])
 
--- The runs are those of every file with the same bytes below the old length, outside the undo area and the word at 44. The undo area may
--- be another that holds the same bytes below that length.
+-- The runs are those of every file with the same bytes below the old length, outside the undo area and the word at 44.
+-- The undo area may be another that holds the same bytes below that length.
 abbrev pub RunsOfOther : Type 0
 RunsOfOther = (a b c : List ℕ) (old : ℕ) (skip other : Extent) (es : List Extent) → ((i : ℕ) → i < old → once other i ≡ once skip i)
     → ((i : ℕ) → i < old → (i < area_head) ⊎ (area_head + 4 ≤ i) → once skip i ≡ 0 → slice_index c i ≡ slice_index a i) → ChangedRuns a b old skip es → ChangedRuns c b old other es
 
--- where the runs lie: below the old length, at no byte by which the header is known and not in the word at 44, and outside the undo area
+-- where the runs lie: below the old length, at no byte by which the header is known and not in the word at 44, and
+-- outside the undo area
 pub record RunsLie (old : ℕ) (skip : Extent) (es : List Extent) : Type 0 where
   pub low : (i : ℕ) → 1 ≤ times es i → i < old
   pub front : (i : ℕ) → (i < sequence_at) ⊎ ((sequence_at + 4 ≤ i) × (i < known_length)) → times es i ≡ 0

@@ -1,4 +1,5 @@
--- The plan of a commit, as numbers: where its undo area stands, which bytes of the file it writes, and what a stop of these writes leaves.
+-- The plan of a commit, as numbers: where its undo area stands, which bytes of the file it writes, and what a stop of
+-- these writes leaves.
 use Rattle.std.specs.Prelude.{◌≡◌, ℕ, ◌+◌, ◌%◌, ◌<◌, ◌≤◌, ◌⊎◌, Option, None, List, length, slice_index}
 use Rattle.tdb_disk.specs.Image.{overlay}
 use Rattle.tdb_disk.specs.Stop.{Torn}
@@ -14,8 +15,8 @@ use Rattle.tdb_space.specs.Opening.{entries, Undoable, last_covering, OpensTo, M
 use Rattle.tdb_space.specs.Undoing.{UndoneAlike, Reopens}
 use Rattle.tdb_space.specs.Gate.{gate_opened, IsReadyToOpen}
 
--- The byte order of the words; where the undo area stands, and how long it is with its header; where its gate stands; the length that the
--- file had at first; and the extents below that length which are written, the runs.
+-- The byte order of the words; where the undo area stands, and how long it is with its header; where its gate stands;
+-- the length that the file had at first; and the extents below that length which are written, the runs.
 pub record Scheme : Type 0 where
   pub order : Order
   pub area : ℕ
@@ -42,8 +43,9 @@ IsClear p = (i : ℕ) → p.area ≤ i → i < p.area + p.area_length → times 
 abbrev pub MayWrite : Scheme → ℕ → ℕ → Type 0
 MayWrite p from to = (i : ℕ) → from ≤ i → i < to → ((1 ≤ times p.runs i) ⊎ (p.old_length ≤ i)) × ((i < p.area) ⊎ (p.area + p.area_length ≤ i))
 
--- The plan fits image a, whose gate is open: the undo area and the old length are those that the image states, each byte of a run is
--- covered by an entry, and no run holds a byte by which the header is known, nor one of the word at 44.
+-- The plan fits image a, whose gate is open: the undo area and the old length are those that the image states, each
+-- byte of a run is covered by an entry, and no run holds a byte by which the header is known, nor one of the word at
+-- 44.
 pub record IsPlanFor (f : Form) (p : Scheme) (a : List ℕ) : Type 0 where
   pub there : word f.order a area_head ≡ p.area
   pub area_length : 24 + rec_len_of f.order a p.area ≡ p.area_length
@@ -51,7 +53,8 @@ pub record IsPlanFor (f : Form) (p : Scheme) (a : List ℕ) : Type 0 where
   pub covered : (i : ℕ) → 1 ≤ times p.runs i → last_covering (entries f a) i ≡ None → ⊥
   pub front : (i : ℕ) → (i < sequence_at) ⊎ ((sequence_at + 4 ≤ i) × (i < known_length)) → times p.runs i ≡ 0
 
--- an image is within itself, what is written where the plan may write stays within, and so does what a stop leaves of it
+-- an image is within itself, what is written where the plan may write stays within, and so does what a stop leaves of
+-- it
 pub record StaysWithin (p : Scheme) (base : List ℕ) : Type 0 where
   pub itself : Within p base base
   pub further : (a c : List ℕ) → Within p base a → Within p a c → Within p base c
@@ -73,6 +76,7 @@ RunsAreUndone = (p : Scheme) (a c : List ℕ) (m : List ℕ → Option (List ℕ
 abbrev pub RunsReopen : Type 0
 RunsReopen = (r a c : List ℕ) (p : Scheme) → Reopens r a → Mild a → IsPlanFor (form_of a) p a → Within p a c → Reopens r c
 
--- From an accepted image that is ready the gate is opened: whatever is then written where the plan writes reopens to its map.
+-- From an accepted image that is ready the gate is opened: whatever is then written where the plan writes reopens to
+-- its map.
 abbrev pub OpenedReopens : Type 0
 OpenedReopens = (a c : List ℕ) (p : Scheme) → Accept a → IsReadyToOpen (form_of a) a → IsPlanFor (form_of a) p (gate_opened (form_of a) a) → Within p (gate_opened (form_of a) a) c → Reopens a c

@@ -1,5 +1,5 @@
--- The sequence number, the word at 48, counts for nothing: what two images that differ at most in it have in common. Each record
--- says it of an image a and an image b; the laws are over all of them.
+-- The sequence number, the word at 48, counts for nothing: what two images that differ at most in it have in common.
+-- Each record says it of an image a and an image b; the laws are over all of them.
 use Rattle.std.specs.Prelude.{◌≡◌, ◌↔◌, ◌⊎◌, ℕ, ◌+◌, ◌<◌, ◌≤◌, Option, List}
 use Rattle.tdb_words.specs.declared.word.Order.{Order}
 use Rattle.tdb_words.specs.Word.{word}
@@ -22,7 +22,8 @@ pub record SameFront (a b : List ℕ) : Type 0 where
   pub front : front_fault b ≡ front_fault a
   pub undo_area : (f : Form) → area_fault f b ≡ area_fault f a
 
--- the words beside the sequence number are the same, and the same records stand whole: their header, their key and their value
+-- the words beside the sequence number are the same, and the same records stand whole: their header, their key and
+-- their value
 pub record SameRecords (a b : List ℕ) : Type 0 where
   pub words : (o : Order) (at : ℕ) → (at + 4 ≤ sequence_at) ⊎ (sequence_at + 4 ≤ at) → word o b at ≡ word o a at
   pub whole : (f : Form) (at : ℕ) → Whole f a at ↔ Whole f b at
@@ -30,8 +31,8 @@ pub record SameRecords (a b : List ℕ) : Type 0 where
   pub key_there : (f : Form) (at : ℕ) → Whole f a at → key_at f.order b at ≡ key_at f.order a at
   pub value_there : (f : Form) (at : ℕ) → Whole f a at → data_at f.order b at ≡ data_at f.order a at
 
--- From an offset on the same records make a chain or a free list. Where the chains are there, both have the same ones, and so the
--- same pairs in the same order, and the same map. (A broken chain may lead into the word at 48.)
+-- From an offset on the same records make a chain or a free list. Where the chains are there, both have the same ones,
+-- and so the same pairs in the same order, and the same map. (A broken chain may lead into the word at 48.)
 pub record SameLists (a b : List ℕ) : Type 0 where
   pub chain : (f : Form) (at : ℕ) (offs : List ℕ) → Chain f a at offs ↔ Chain f b at offs
   pub free : (f : Form) (at : ℕ) (offs : List ℕ) → Free f a at offs ↔ Free f b at offs
@@ -42,16 +43,16 @@ pub record SameLists (a b : List ℕ) : Type 0 where
   pub order : (f : Form) → HasChains f a → order_of f b ≡ order_of f a
   pub map : (f : Form) → HasChains f a → (key : List ℕ) → map_of f b key ≡ map_of f a key
 
--- Both are accepted or neither is, with any hands, and both have the same first fault. An undo area in place is shut in both or in
--- neither. (The gate of one that isn't in place may be the word at 48.)
+-- Both are accepted or neither is, with any hands, and both have the same first fault. An undo area in place is shut in
+-- both or in neither. (The gate of one that isn't in place may be the word at 48.)
 pub record SameVerdict (a b : List ℕ) : Type 0 where
   pub area_ok : (f : Form) → AreaOk f a ↔ AreaOk f b
   pub shut : (f : Form) → AreaOk f a → Shut f a ↔ Shut f b
   pub accepted : (f : Form) (hands : List HandPair) → AcceptWith f a hands ↔ AcceptWith f b hands
   pub first_fault : (e : Fault) → IsFirstFault a e ↔ IsFirstFault b e
 
--- Both can be undone or neither, and both can be opened, to the same maps, or neither. What they are read as differs at most in the
--- sequence number too.
+-- Both can be undone or neither, and both can be opened, to the same maps, or neither. What they are read as differs at
+-- most in the sequence number too.
 pub record SameOpening (a b : List ℕ) : Type 0 where
   pub undoable : (f : Form) → Undoable f a ↔ Undoable f b
   pub mild : Mild a ↔ Mild b

@@ -30,7 +30,8 @@ spent (bounded writes bytes reach) n = bounded (writes - 1) (bytes - n) reach
 abbrev pub SpentUpTo : Spare → ℕ → Spare → Type 0
 SpentUpTo old n new = (new ≡ old) ⊎ (new ≡ spent old n)
 
--- room for so many writes of so many bytes in all, and for growths by a quarter of the length, these bytes and 4096 more
+-- room for so many writes of so many bytes in all, and for growths by a quarter of the length, these bytes and 4096
+-- more
 pub record IsReady (spare : Spare) (length writes bytes : ℕ) : Type 0 where
   pub each : RoomForAll spare writes bytes
   pub reach : RoomUpTo spare (length + length / 4 + bytes + 4096)

@@ -2,15 +2,15 @@
 use Rattle.std.specs.Prelude.{◌≡◌, ℕ, ◌+◌, ◌*◌, ◌%◌, ◌≤◌}
 use Rattle.tdb_space.specs.Form.{Form, data_start}
 
--- the header of a record can stand at an offset of a file of this length and of so many chains: it is aligned, behind the heads,
--- and ends within the length
+-- the header of a record can stand at an offset of a file of this length and of so many chains: it is aligned, behind
+-- the heads, and ends within the length
 pub record HeaderStands (chains len at : ℕ) : Type 0 where
   pub aligned : at % 4 ≡ 0
   pub above : 172 + 4 * chains ≤ at
   pub within : at + 24 ≤ len
 
--- so many bytes can follow the header of the record at an offset of a file of this length: they are whole words, the tailer
--- among them, and end within the length
+-- so many bytes can follow the header of the record at an offset of a file of this length: they are whole words, the
+-- tailer among them, and end within the length
 pub record ContentStands (rec_len at len : ℕ) : Type 0 where
   pub aligned : rec_len % 4 ≡ 0
   pub least : 4 ≤ rec_len

@@ -1,5 +1,5 @@
--- What a change of an image leaves to others: which chains it may have changed, and that all else by which somebody may know the
--- file stays.
+-- What a change of an image leaves to others: which chains it may have changed, and that all else by which somebody may
+-- know the file stays.
 use Rattle.std.specs.Prelude.{◌≡◌, ℕ, ◌+◌, ◌<◌, ◌≤◌, ◌⊎◌, List, length, slice_index}
 use Rattle.tdb_words.specs.Word.{word}
 use Rattle.tdb_words.specs.Header.{sequence_at}
@@ -25,8 +25,8 @@ pub record FreeStays (f : Form) (a b : List ℕ) : Type 0 where
   pub same_offsets : free_of f b ≡ free_of f a
   pub bytes : (i : ℕ) → 1 ≤ times (extents f.order a (free_of f a)) i → slice_index b i ≡ slice_index a i
 
--- From image a to image b the file doesn't become shorter. The header stays, but for the sequence number, the word at 48, and each
--- byte of the undo area stays.
+-- From image a to image b the file doesn't become shorter. The header stays, but for the sequence number, the word at
+-- 48, and each byte of the undo area stays.
 pub record FrontStays (f : Form) (a b : List ℕ) : Type 0 where
   pub longer : length a ≤ length b
   pub low : (i : ℕ) → i < free_head → (i < sequence_at) ⊎ (sequence_at + 4 ≤ i) → slice_index b i ≡ slice_index a i
@@ -37,8 +37,8 @@ pub record ChangesOnly (f : Form) (a b : List ℕ) (May : ℕ → Type 0) : Type
   pub front : FrontStays f a b
   pub chains : (k : ℕ) → k < f.chains → (May k → ⊥) → ChainStays f a b k
 
--- From image a to image b no chain changes, and the map stays; b is accepted with these hands out. So it is where a record goes
--- from the free list to a hand or back, where the file grows, and where the sequence number is raised.
+-- From image a to image b no chain changes, and the map stays; b is accepted with these hands out. So it is where a
+-- record goes from the free list to a hand or back, where the file grows, and where the sequence number is raised.
 pub record ChainsStay (f : Form) (a b : List ℕ) (hands : List HandPair) : Type 0 where
   pub accepted : AcceptWith f b hands
   pub map : (key : List ℕ) → map_of f b key ≡ map_of f a key

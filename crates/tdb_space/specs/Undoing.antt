@@ -22,8 +22,8 @@ area_end f img = area_at f img + 24 + rec_len_of f.order img (area_at f img)
 abbrev pub old_size : Form → List ℕ → ℕ
 old_size f img = key_len_of f.order img (area_at f img)
 
--- Image c has all of image a that its undo reads: the word at 44, the undo area, and below the old length each byte that no entry
--- covers. It is as long as the undo needs. Every other byte may be another, and the length too.
+-- Image c has all of image a that its undo reads: the word at 44, the undo area, and below the old length each byte
+-- that no entry covers. It is as long as the undo needs. Every other byte may be another, and the length too.
 pub record SameUndo (f : Form) (a c : List ℕ) : Type 0 where
   pub reach : old_size f a ≤ length c
   pub room : area_end f a ≤ length c
@@ -31,8 +31,8 @@ pub record SameUndo (f : Form) (a c : List ℕ) : Type 0 where
   pub area_bytes : Agree a c (area_at f a) (area_end f a)
   pub others : (i : ℕ) → i < old_size f a → last_covering (entries f a) i ≡ None → slice_index c i ≡ slice_index a i
 
--- The gate of image a is open, and image c is undone like it: it has what the undo of a reads, whole words, and the bytes by which
--- the header of a is known.
+-- The gate of image a is open, and image c is undone like it: it has what the undo of a reads, whole words, and the
+-- bytes by which the header of a is known.
 pub record UndoneAlike (f : Form) (a c : List ℕ) : Type 0 where
   pub sized : length c % 4 ≡ 0
   pub reach : old_size f a ≤ length c
@@ -41,8 +41,8 @@ pub record UndoneAlike (f : Form) (a c : List ℕ) : Type 0 where
   pub front : (i : ℕ) → (i < sequence_at) ⊎ ((sequence_at + 4 ≤ i) × (i < known_length)) → slice_index c i ≡ slice_index a i
   pub others : (i : ℕ) → i < old_size f a → last_covering (entries f a) i ≡ None → slice_index c i ≡ slice_index a i
 
--- Image b is image a with all that its entries give back, outside the undo area and the word at 44. The undo area and that word stay;
--- from the old length on the bytes outside the area may be any.
+-- Image b is image a with all that its entries give back, outside the undo area and the word at 44. The undo area and
+-- that word stay; from the old length on the bytes outside the area may be any.
 pub record Written (f : Form) (a b : List ℕ) : Type 0 where
   pub sized : length b ≡ length a
   pub inside : (i : ℕ) → i < old_size f a → (i < area_head) ⊎ (area_head + 4 ≤ i) → (i < area_at f a) ⊎ (area_end f a ≤ i)
@@ -50,8 +50,8 @@ pub record Written (f : Form) (a b : List ℕ) : Type 0 where
   pub there : Agree a b area_head (area_head + 4)
   pub area_bytes : Agree a b (area_at f a) (area_end f a)
 
--- Image r, which has no undo area, stands in front of image c, but for the word at 44. What follows is an undo area whose gate is
--- shut, where there is one, and zeros.
+-- Image r, which has no undo area, stands in front of image c, but for the word at 44. What follows is an undo area
+-- whose gate is shut, where there is one, and zeros.
 pub record TailOf (f : Form) (r c : List ℕ) : Type 0 where
   pub longer : length r ≤ length c
   pub sized : length c % 4 ≡ 0
@@ -61,8 +61,9 @@ pub record TailOf (f : Form) (r c : List ℕ) : Type 0 where
   pub behind : (word f.order c area_head ≡ 0) ⊎ (length r ≤ word f.order c area_head)
   pub zeros : (i : ℕ) → length r ≤ i → i < length c → times (area f.order c) i ≡ 0 → slice_index c i ≡ 0
 
--- Image c may be left while an image is restored to image r. It opens to the map of r, with the sequence number of r. It has nothing
--- to undo any more, or can be recovered anew, since it is Mild: so the same holds of what a stop of that recovery leaves.
+-- Image c may be left while an image is restored to image r. It opens to the map of r, with the sequence number of r.
+-- It has nothing to undo any more, or can be recovered anew, since it is Mild: so the same holds of what a stop of that
+-- recovery leaves.
 pub record Reopens (r c : List ℕ) : Type 0 where
   pub opens : OpensTo c (own_map r)
   pub again : Shut (form_of c) c ⊎ Mild c

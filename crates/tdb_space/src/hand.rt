@@ -6,7 +6,8 @@ use std::marker::Model;
 
 /// A record that was taken out of its list, or that the file has grown by, and that is in no list yet.
 ///
-/// It can't be dropped: whoever holds it puts it into a list, or ends it. A contract sees it as its offset and its `rec_len`.
+/// It can't be dropped: whoever holds it puts it into a list, or ends it. A contract sees it as its offset and its
+/// `rec_len`.
 #[derive(Debug)]
 pub struct Hand {
     off: u32,

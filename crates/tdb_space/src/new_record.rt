@@ -6,8 +6,8 @@ ghost use Rattle.tdb_space.specs.NewRecord.{rec_len_for, record_bytes};
 use std::alloc::{AllocError, Global};
 use tdb_words::{Order, PADDING, Rec, rec_bytes, word_bytes};
 
-/// The `rec_len` of a new record, in bytes, from the lengths of its key and of its value: room for both, a quarter as much again
-/// to grow, and the tailer, in whole words.
+/// The `rec_len` of a new record, in bytes, from the lengths of its key and of its value: room for both, a quarter as
+/// much again to grow, and the tailer, in whole words.
 pub fn rec_len_for(key_len: u64, value_len: u64) -> u64
     requires key { key_len < 2 ^ 62 }
     requires value { value_len < 2 ^ 62 }

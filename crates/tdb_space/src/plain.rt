@@ -74,8 +74,8 @@ fn chained_at(image: &[u8], header: &Header, at: u32) -> Option<Rec>
     }
 }
 
-/// The offsets of the chain from the word at `head`, if there is a chain. No more records are followed than a quarter of the
-/// image's length.
+/// The offsets of the chain from the word at `head`, if there is a chain. No more records are followed than a quarter
+/// of the image's length.
 pub fn chain_offsets(
     alloc: Global,
     image: &[u8],
@@ -171,8 +171,8 @@ fn push_pairs<'a>(
     Ok(true)
 }
 
-/// The pairs of all used records, chain 0 first and each chain from its head on, if each chain head has a chain and each used
-/// record has room for its key and value.
+/// The pairs of all used records, chain 0 first and each chain from its head on, if each chain head has a chain and
+/// each used record has room for its key and value.
 pub fn pairs_in_order<'a>(
     alloc: Global,
     image: &'a [u8],

@@ -69,8 +69,8 @@ fn piece_equals<S: Space>(
     Ok(*read == *piece)
 }
 
-/// Whether a key stands at an offset. It reads no more than the key's length, in pieces of 4096 bytes, and stops at the first
-/// piece that differs.
+/// Whether a key stands at an offset. It reads no more than the key's length, in pieces of 4096 bytes, and stops at the
+/// first piece that differs.
 pub fn key_equals<S: Space>(s: &mut S, off: u64, key: &[u8]) -> Result<bool, Io>
     requires within { off + length key.now ≤ S.size s.old }
     requires small { off + length key.now < 2 ^ 64 }

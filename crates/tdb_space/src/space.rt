@@ -14,8 +14,8 @@ use tdb_words::{HashKind, Order};
 
 /// A view of the bytes of one file with a known header. Offsets and lengths are in bytes.
 ///
-/// A call answers `Io` only where the disk under it failed, which raises the count of faults. A write and a growth take no
-/// memory; `ready` makes room for them first.
+/// A call answers `Io` only where the disk under it failed, which raises the count of faults. A write and a growth take
+/// no memory; `ready` makes room for them first.
 pub trait Space {
     /// Whether a contract sees the bytes. Over a real file it doesn't.
     ghost tells: { Bool };
@@ -129,8 +129,8 @@ pub trait Space {
         ensures disk { writes_through ≡ false → disk self.new ≡ disk self.old }
         ensures under { under self.new ≡ under self.old };
 
-    /// Makes room: afterwards so many writes of so many bytes in all take no memory, nor do growths by up to a quarter of
-    /// the length, these bytes and 4096 more. It changes no byte. Fails only for want of memory.
+    /// Makes room: afterwards so many writes of so many bytes in all take no memory, nor do growths by up to a quarter
+    /// of the length, these bytes and 4096 more. It changes no byte. Fails only for want of memory.
     fn ready(&mut self, writes: u32, bytes: u64) -> Result<(), AllocError>
         ensures room { OnOk result (IsReady (spare self.new) (size self.old) writes bytes) }
         ensures size { size self.new ≡ size self.old }

@@ -27,9 +27,10 @@ pub fn content_stands(rec_len: u32, at: u32, len: u64) -> bool
     rec_len % 4 == 0 && 4 <= rec_len && at as u64 + 24 + rec_len as u64 <= len
 }
 
-/// The header of the record of a list at an offset of a file of `len` bytes, or nothing where none can stand there: one step along
-/// a list. A list ends there as it does at a 0: the offset or the length isn't a whole number of words, the record stands in front
-/// of the data, has no room for its tailer, or passes the end of the file. It reads at most 24 bytes.
+/// The header of the record of a list at an offset of a file of `len` bytes, or nothing where none can stand there: one
+/// step along a list. A list ends there as it does at a 0: the offset or the length isn't a whole number of words, the
+/// record stands in front of the data, has no room for its tailer, or passes the end of the file. It reads at most 24
+/// bytes.
 pub fn read_listed<S: Space>(s: &mut S, len: u64, at: u32) -> Result<Option<Rec>, Io>
     requires length { len ≡ S.size s.old }
     ensures there { IfOk result (λ found. IsTrue S.tells → Whole (S.form s.old) (S.image s.old) at

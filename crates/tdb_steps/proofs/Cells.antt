@@ -82,7 +82,8 @@ module _ (f : Form) (a b : List ℕ) (q : List ℕ) where
   behind_fewer [] p fewer e = e
   behind_fewer (x ∷ xs) p fewer e = choice_fewer (x == p) (cells f b xs) (behind (cells f b xs) p) (cells f a xs) (behind (cells f a xs) p) q (live_fewer xs fewer.1) (behind_fewer xs p fewer.1) e
 
--- a chain of which each record is as before keeps all keys, and one of which each is so at every key but one keeps these
+-- a chain of which each record is as before keeps all keys, and one of which each is so at every key but one keeps
+-- these
 pub same_keeps : (f : Form) (a b : List ℕ) (stands : ℕ → Bool) (xs : List ℕ) → ((q : List ℕ) → SameAt f a b q xs) → KeepsAll stands (cells f a xs) (cells f b xs)
 same_keeps f a b stands xs same = record { whole = λ q. live_same f a b q xs (same q); behind_same = λ p q on. behind_same f a b q xs p (same q) }
 
@@ -129,7 +130,8 @@ module _ (stands : ℕ → Bool) (key : List ℕ) (cs mid later : List Cell) whe
     behind_fewer = λ p q on e. K.behind_fewer p q on (L.behind_fewer p q on e);
   }
 
--- A cell in front on which no cursor stands keeps what is behind those on which one does, where the keys of the whole are kept.
+-- A cell in front on which no cursor stands keeps what is behind those on which one does, where the keys of the whole
+-- are kept.
 pub front_keeps : (stands : ℕ → Bool) (key : List ℕ) (new : Cell) (cs later : List Cell) → stands new.place ≡ false → ((q : List ℕ) → is_key key q ≡ false → live_in (new ∷ later) q ≡ live_in cs q) → Keeps stands key cs later → Keeps stands key cs (new ∷ later)
 front_keeps stands key new cs later off whole K = record {
   whole = whole;

@@ -40,7 +40,8 @@ alike k q = elim (cases_Bool (same_key k q)) [
   | inr apart ↦ false_from_ne_true (is_key k q) (λ e. let s : q ≡ k = is_key-eq k q e in let t : same_key k q ≡ true = subst (λ x. same_key k x ≡ true) (sym s) (same_key-refl k) in cc) ∙ sym apart
 ]
 
--- a command of a world asks of its key what a plain command asks: the reply, and the map where it is granted and where it isn't
+-- a command of a world asks of its key what a plain command asks: the reply, and the map where it is granted and where
+-- it isn't
 pub record IsCommand (c : Law.MapCommand) (key : List ℕ) (asked : Asked) : Type 0 where
   pub replies : (m : Map) → reply c m ≡ reply_of (asked.reply (get m key))
   pub granted : (m : Map) → asked.reply (get m key) ≡ Reply.Ok → (q : List ℕ) → get (after c m) q ≡ cond (same_key key q) (asked.left (get m key)) (get m q)

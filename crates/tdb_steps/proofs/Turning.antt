@@ -349,7 +349,8 @@ module _ (f : Form) (a m b : List ℕ) (command : Plain) (chain : ℕ) (seqnum :
         (walks_stay f a m b (key_of command) stands (is_changed stage) (is_done r) others others T.accepted C.stay (home_below f (key_of command) T.accepted.some) (T.walks on stands stood tt));
   }
 
--- the same of a machine, whose stage and joined bytes were taken out for the turn and put back after it, and the number raised
+-- the same of a machine, whose stage and joined bytes were taken out for the turn and put back after it, and the number
+-- raised
 module _ (f : Form) (a m : List ℕ) (command : Plain) (chain : ℕ) (seqnum : Bool) (n : ℕ) (stage taken : Stage) (was out whole : Option (List ℕ)) (led : Next) (d e : Doing) (others : List HandPair) (before : d ≡ record { command = command; chain = chain; seqnum = seqnum; stage = stage; whole = was }) (stage_out : taken ≡ stage) (whole_out : out ≡ was) (order : InOrder command taken led) (made : CommandMakes f a m command out whole taken led) where
   -- what the turn from a stage makes of a machine, given what is so before it
   abbrev From : List ℕ → Doing → Doing → Law.Turn → Type 0

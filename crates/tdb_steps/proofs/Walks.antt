@@ -189,7 +189,8 @@ stays_walks f a b key old next hands news A S same stands stood spares = record 
     stay : ChainStays f a b (home f key)
     stay = S.only.chains (home f key) low (λ never. never)
 
--- from image a to image b at most bytes of the record of a place change, behind the length of its key and beside the key
+-- from image a to image b at most bytes of the record of a place change, behind the length of its key and beside the
+-- key
 pub record ChangesInPlace (a b : List ℕ) (p : Place) : Type 0 where
   pub outside : (i : ℕ) → (i < p.off + 12) ⊎ (p.off + 24 + p.rec.rec_len ≤ i) → slice_index b i ≡ slice_index a i
   pub key_left : (i : ℕ) → p.off + 24 ≤ i → i < p.off + 24 + p.rec.key_len → slice_index b i ≡ slice_index a i

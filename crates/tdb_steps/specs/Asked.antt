@@ -1,4 +1,5 @@
--- What a command asks for of a key: a reply, and the value that the key has afterwards, both by the value that it has before.
+-- What a command asks for of a key: a reply, and the value that the key has afterwards, both by the value that it has
+-- before.
 use Rattle.std.specs.Prelude.{ℕ, List, [], ◌++◌, Option, None, Some, unwrap_or}
 use Rattle.tdb_locks.specs.declared.turn.Reply.{Reply}
 use Rattle.tdb_steps.specs.declared.flag.Flag.{Flag}

@@ -1,4 +1,5 @@
--- What an opener holds at each lock byte while it has a command: what the command has locked of its row, and what it keeps besides.
+-- What an opener holds at each lock byte while it has a command: what the command has locked of its row, and what it
+-- keeps besides.
 use Rattle.std.specs.Prelude.{ℕ, ◌+◌, ◌≡◌, ◌≢◌, ◌≤◌, ◌<◌, max, List, true, false, Option, None, Some, IfSome}
 use Rattle.tdb_locks.specs.HeldLocks.{HeldLocks}
 use Rattle.tdb_locks.specs.LockTable.{held}
@@ -21,14 +22,14 @@ strength (Some kind) = strength_of kind
 abbrev pub table_of : List Piece → ℕ → ℕ → ℕ
 table_of ps owner b = strength (held ps owner b)
 
--- What an opener keeps beside its command, at the bytes of a lock of its row: where its explicit locks cover that, it keeps at least
--- as much there, and else nothing.
+-- What an opener keeps beside its command, at the bytes of a lock of its row: where its explicit locks cover that, it
+-- keeps at least as much there, and else nothing.
 pub record KeptBeside (locks : HeldLocks) (kept : ℕ → ℕ) (r : LockRow) : Type 0 where
   pub covered : is_covered locks r ≡ true → (b : ℕ) → start_of r.region ≤ b → b < end_of r.region → strength_of r.kind ≤ kept b
   pub bare : is_covered locks r ≡ false → (b : ℕ) → start_of r.region ≤ b → b < end_of r.region → kept b ≡ 0
 
--- Before a turn of a command that has had n steps: its opener holds what these steps have locked and what it keeps, and no other
--- opener's locks conflict with that.
+-- Before a turn of a command that has had n steps: its opener holds what these steps have locked and what it keeps, and
+-- no other opener's locks conflict with that.
 pub record HoldsBefore (locks : HeldLocks) (kept : ℕ → ℕ) (owner n : ℕ) (ps : List Piece) (rows : Rows) : Type 0 where
   pub holds : (b : ℕ) → table_of ps owner b ≡ max (locked (locks_in rows) n b) (kept b)
   pub apart : (o b : ℕ) → o ≢ owner → table_of ps owner b + table_of ps o b ≤ 2
@@ -47,8 +48,8 @@ GoesRightly ps owner want Step = IsFree (table_of ps) owner want
 GoesRightly ps owner want (Blocked o byte) = IsFirstConflict (table_of ps) owner want o byte
 GoesRightly ps owner want (Ends r) = IsFree (table_of ps) owner want
 
--- What a turn does to the lock table: the opener holds what the command has locked after it and what it keeps, and others hold what
--- they held.
+-- What a turn does to the lock table: the opener holds what the command has locked after it and what it keeps, and
+-- others hold what they held.
 pub record LocksTurned (ls : List Lock) (kept : ℕ → ℕ) (owner n : ℕ) (old new : List Piece) (turn : Turn) : Type 0 where
   pub holds : (b : ℕ) → table_of new owner b ≡ max (locked_after ls n turn b) (kept b)
   pub others : (o b : ℕ) → o ≢ owner → table_of new o b ≡ table_of old o b

@@ -1,4 +1,5 @@
--- The locks of a command's row: of which lock bytes they are, which of them the opener's explicit locks cover, and what is let go.
+-- The locks of a command's row: of which lock bytes they are, which of them the opener's explicit locks cover, and what
+-- is let go.
 use Rattle.std.specs.Prelude.{ℕ, ◌+◌, ◌*◌, ◌≡◌, List, [], ◌∷◌, Bool, true, false, ◌||◌, Option, None, Some, IfSome, nat_lt}
 use Rattle.tdb_locks.specs.HeldLocks.{HeldLocks, count_of}
 use Rattle.tdb_locks.specs.LockTable.{ChangesRange, held}
@@ -61,8 +62,8 @@ rows_of (Append key value) chain = writer_rows chain
 rows_of (Delete key) chain = writer_rows chain
 rows_of Wipe chain = wipe_rows
 
--- the lock that the turn from a stage takes: the first of its row before anything else, and the second after the look, or in a wipe
--- next
+-- the lock that the turn from a stage takes: the first of its row before anything else, and the second after the look,
+-- or in a wipe next
 abbrev pub row_at : Rows → Stage → Option LockRow
 row_at rows Begun = Some rows.first
 row_at rows (Looked found) = rows.second
@@ -85,8 +86,8 @@ covers_region locks AllRecords kind = covers_all locks.all kind
 abbrev pub is_covered : HeldLocks → LockRow → Bool
 is_covered locks r = covers_region locks r.region r.kind
 
--- Where a lock of a row isn't covered, its opener holds nothing at the byte before its region. So a region that is let go isn't part
--- of a longer one.
+-- Where a lock of a row isn't covered, its opener holds nothing at the byte before its region. So a region that is let
+-- go isn't part of a longer one.
 abbrev pub StandsAlone : HeldLocks → ℕ → List Piece → LockRow → Type 0
 StandsAlone locks owner ps r = is_covered locks r ≡ false → (b : ℕ) → b + 1 ≡ start_of r.region → held ps owner b ≡ None
 

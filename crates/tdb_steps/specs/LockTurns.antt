@@ -15,8 +15,8 @@ use Rattle.tdb_steps.specs.declared.stage.Next.{Next}
 use Rattle.tdb_steps.specs.LockRows.{start_of, end_of, is_covered, AreLetGo}
 use Rattle.tdb_steps.specs.Machines.{Doing, begun, CommandRightly}
 
--- A turn that takes a lock of a row: the lock is taken or was covered, and the stage is the next; or the turn is blocked by the first
--- conflict, and nothing changes; or memory is wanting, and all is let go.
+-- A turn that takes a lock of a row: the lock is taken or was covered, and the stage is the next; or the turn is
+-- blocked by the first conflict, and nothing changes; or memory is wanting, and all is let go.
 abbrev pub LockLed : HeldLocks → ℕ → List Piece → List Piece → Rows → LockRow → Doing → Doing → Turn → Type 0
 LockLed locks owner old new rows r d e Step =
     (e ≡ record d { stage = locked_stage d.command d.stage }) × (is_covered locks r ≡ true → new ≡ old)

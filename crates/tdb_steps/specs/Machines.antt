@@ -28,8 +28,8 @@ use Rattle.tdb_steps.specs.PlainCommands.{IsKeyed, key_of, asked_of, command_of,
 use Rattle.tdb_steps.specs.Order.{IsAfter}
 use Rattle.tdb_steps.specs.Walks.{StandInChains, SparesStood, WalksKept}
 
--- the command, the chain of its key, whether its change counts in the sequence number, the stage, and the bytes that an append has
--- joined
+-- the command, the chain of its key, whether its change counts in the sequence number, the stage, and the bytes that an
+-- append has joined
 pub record Doing : Type 0 where
   pub command : Plain
   pub chain : ℕ
@@ -54,7 +54,8 @@ IsShort Wipe = Unit {0}
 abbrev pub IsShortWhole : Option (List ℕ) → Type 0
 IsShortWhole whole = IfSome whole (λ bytes. length bytes < 2 ^ 33)
 
--- what a stage of a command, which may have joined bytes, needs of a view of this length and room, whatever its bytes are
+-- what a stage of a command, which may have joined bytes, needs of a view of this length and room, whatever its bytes
+-- are
 abbrev pub IsFit : Plain → Option (List ℕ) → Stage → ℕ → Spare → Type 0
 IsFit (Fetch key) whole stage size spare = OfLook stage
 IsFit (Has key) whole stage size spare = OfLook stage
@@ -89,9 +90,9 @@ CommandMakes f a b (Append key value) was now old next = AppendMakes f a b key v
 CommandMakes f a b Wipe was now old next = WipeMakes f a b old next
 CommandMakes f a b command was now old next = Makes f a b (key_of command) (asked_of command) old next
 
--- How a turn of a command goes on: a store or an append updates in place exactly where the value fits, and takes a record as the
--- free list gives it, or replies Full exactly where it has none that is long enough and the file can't grow up to the limit; a
--- record is marked as dead exactly where a cursor stands on it.
+-- How a turn of a command goes on: a store or an append updates in place exactly where the value fits, and takes a
+-- record as the free list gives it, or replies Full exactly where it has none that is long enough and the file can't
+-- grow up to the limit; a record is marked as dead exactly where a cursor stands on it.
 abbrev pub CommandRightly : Form → List ℕ → List ℕ → Plain → Option (List ℕ) → ℕ → List ℕ → Stage → Next → Type 0
 CommandRightly f a b (Store key value flag) whole limit stood_on stage next =
     StoresRightly f a b key (length value) (rec_len_for (length key) (length value)) limit stood_on stage next
@@ -114,7 +115,8 @@ number_after counting c turn q = q
 abbrev pub is_counted : Doing → Replies.Reply → Bool
 is_counted d reply = is_done reply && (may_change (command_of d.command) && d.seqnum)
 
--- From image a, accepted with some hands, to image b at most the sequence number changed: it is raised where it is counted.
+-- From image a, accepted with some hands, to image b at most the sequence number changed: it is raised where it is
+-- counted.
 pub record Counted (f : Form) (a b : List ℕ) (counts : Bool) (hands : List HandPair) : Type 0 where
   pub stay : ChainsStay f a b hands
   pub number : number_of f b ≡ raised counts (number_of f a)
@@ -140,7 +142,8 @@ pub data MapTurned (f : Form) (b : List ℕ) (c : MapCommand) (n : ℕ) (m : Map
   map_is_full : (len need : ℕ) → turn ≡ Ends (Full len need) → map_fills c ≡ true → 1 ≤ n → map_changed c n ≡ false → reply c m ≡ Done → IsMapOf f b m → MapTurned f b c n m turn
   map_finishes : turn ≡ Ends Done → map_changed c n ≡ true → IsMapOf f b m → MapTurned f b c n m turn
 
--- the turns that the row of a command allows after n steps: a step below the last, a block, an end by the table, or for want of memory
+-- the turns that the row of a command allows after n steps: a step below the last, a block, an end by the table, or for
+-- want of memory
 abbrev pub MapRow : MapCommand → ℕ → Turn → Type 0
 MapRow c n Step = n < map_last c
 MapRow c n (Blocked o byte) = Unit {0}
@@ -157,10 +160,11 @@ abbrev pub Spares : (ℕ → Bool) → Doing → Turn → Type 0
 Spares stands e Step = SparesStood stands (Next.Step e.stage)
 Spares stands e turn = Unit {0}
 
--- A turn of a machine led from image a to image b, where other hands are out that stay as they are. The new image is accepted with
--- them and the machine's own. At most the chain of its key changed, or any by a wipe, and that only after its first turn, which locks
--- it, or all. The turn is one of the command's row, the map and the reply are as the command says, and the sequence number is raised
--- where the command counts and is done. Walks through the chain of its key are kept, wherever cursors stand.
+-- A turn of a machine led from image a to image b, where other hands are out that stay as they are. The new image is
+-- accepted with them and the machine's own. At most the chain of its key changed, or any by a wipe, and that only after
+-- its first turn, which locks it, or all. The turn is one of the command's row, the map and the reply are as the
+-- command says, and the sequence number is raised where the command counts and is done. Walks through the chain of its
+-- key are kept, wherever cursors stand.
 pub record MachineTurned (f : Form) (a b : List ℕ) (d e : Doing) (n : ℕ) (turn : Turn) (others : List HandPair) : Type 0 where
   pub accepted : AcceptWith f b (hands_in e.stage ++ others)
   pub knows : DoingKnows f b e
@@ -169,8 +173,8 @@ pub record MachineTurned (f : Form) (a b : List ℕ) (d e : Doing) (n : ℕ) (tu
   pub number : number_of f b ≡ number_after d.seqnum (command_of d.command) turn (number_of f a)
   pub walks : IsKeyed d.command → (stands : ℕ → Bool) → StandInChains f a stands → Spares stands e turn → WalksKept f a b (key_of d.command) stands (is_changed d.stage) (is_changed_then d e turn)
 
--- what a turn leaves of the machine: after a step it has had one more, blocked it is as it was, and at its end it is before its first
--- turn
+-- what a turn leaves of the machine: after a step it has had one more, blocked it is as it was, and at its end it is
+-- before its first turn
 abbrev pub Leaves : Doing → Doing → ℕ → Turn → Type 0
 Leaves d e n Step = (e.command ≡ d.command) × (e.chain ≡ d.chain) × (e.seqnum ≡ d.seqnum) × IsAfter e.command e.stage (n + 1)
 Leaves d e n (Blocked o byte) = e ≡ d

@@ -86,7 +86,8 @@ InOrder (Append key value) stage next = StoreOrder stage next
 InOrder (Delete key) stage next = DeleteOrder stage next
 InOrder Wipe stage next = WipeOrder stage next
 
--- How many steps a command has had at each stage: one for each turn before, and an old record that was given back is a step more.
+-- How many steps a command has had at each stage: one for each turn before, and an old record that was given back is a
+-- step more.
 abbrev pub LookAfter : Stage → ℕ → Type 0
 LookAfter Begun n = n ≡ 0
 LookAfter Chained n = n ≡ 1

@@ -18,14 +18,15 @@ use Rattle.tdb_steps.specs.Order.{IsAfter}
 use Rattle.tdb_steps.specs.Walks.{StandInChains}
 use Rattle.tdb_steps.specs.Machines.{Doing, MachineTurned, Leaves, Spares}
 
--- A walk beside a command stands on no record but those on which cursors stand, and beside a wipe, which holds all records, on none.
+-- A walk beside a command stands on no record but those on which cursors stand, and beside a wipe, which holds all
+-- records, on none.
 abbrev pub StandsBeside : Plain → (ℕ → Bool) → Place → Type 0
 StandsBeside Wipe stands place = IsOffRecords place
 StandsBeside command stands place = IsStood stands place
 
--- Each turn of a machine outside a transaction, of an opener whose own state doesn't refuse its command, shifts every walk, the opener's
--- own and those of others: what is further on was so before, or is in a chain that isn't entered yet; and what was so is so still, or is
--- lost by what the turn does.
+-- Each turn of a machine outside a transaction, of an opener whose own state doesn't refuse its command, shifts every
+-- walk, the opener's own and those of others: what is further on was so before, or is in a chain that isn't entered
+-- yet; and what was so is so still, or is lost by what the turn does.
 abbrev pub TurnsShift : Type 0
 TurnsShift =
     (f : Form) (a b : List ℕ) (d e : Doing) (n : ℕ) (turn : Turn) (others : List HandPair) (x : Own) (stands : ℕ → Bool) (place : Place) (mine : Bool)

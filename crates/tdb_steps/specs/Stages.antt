@@ -47,8 +47,8 @@ abbrev pub KnowsAfter : Form → List ℕ → List ℕ → Asked → Next → Ty
 KnowsAfter f img key asked (Step stage) = Knows f img key asked stage
 KnowsAfter f img key asked (Done reply) = Unit {0}
 
--- From its look to its link an append has the bytes that it writes, which it has joined, or which are those to be appended: what the
--- key has in an image, and those to be appended behind it.
+-- From its look to its link an append has the bytes that it writes, which it has joined, or which are those to be
+-- appended: what the key has in an image, and those to be appended behind it.
 abbrev pub IsJoined : Form → List ℕ → List ℕ → List ℕ → Option (List ℕ) → Stage → Type 0
 IsJoined f img key more whole (Looked found) = unwrap_or whole more ≡ joined (map_of f img key) more
 IsJoined f img key more whole (Listed found) = unwrap_or whole more ≡ joined (map_of f img key) more
@@ -74,7 +74,8 @@ abbrev pub is_changed_after : Next → Bool
 is_changed_after (Step stage) = is_changed stage
 is_changed_after (Done reply) = is_done reply
 
--- A place that was found lies in a file of this length; of a command that goes on only where its key is there, there is one.
+-- A place that was found lies in a file of this length; of a command that goes on only where its key is there, there is
+-- one.
 abbrev pub LiesThere : Option Place → ℕ → Type 0
 LiesThere None size = ⊥
 LiesThere (Some place) size = StandsWithin place size
@@ -118,8 +119,8 @@ OfWipe (Wiping stage) spare = Unit {0}
 OfWipe Ending spare = RoomForAll spare 1 4
 OfWipe _ spare = ⊥
 
--- The hands of other commands that may be out at a stage: any. But where a wipe has locked all records and the free list, there is
--- none: the locks of whoever had one would conflict.
+-- The hands of other commands that may be out at a stage: any. But where a wipe has locked all records and the free
+-- list, there is none: the locks of whoever had one would conflict.
 abbrev pub MayBeOut : Stage → List HandPair → Type 0
 MayBeOut (Wiping FreeList) others = others ≡ []
 MayBeOut _ others = Unit {0}

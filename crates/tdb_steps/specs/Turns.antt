@@ -30,8 +30,8 @@ use Rattle.tdb_steps.specs.Stages.{hands_in, hands_after, MayBeOut, HoldsChain, 
 abbrev pub number_of : Form → List ℕ → ℕ
 number_of f img = word f.order img sequence_at
 
--- The map after a turn, by whether the change was made before it and is made after it: only the turn that makes the change changes
--- the map, and at the key alone, to the value that the command leaves there.
+-- The map after a turn, by whether the change was made before it and is made after it: only the turn that makes the
+-- change changes the map, and at the key alone, to the value that the command leaves there.
 abbrev pub MapBy : Bool → Bool → Form → List ℕ → List ℕ → List ℕ → Asked → Type 0
 MapBy false true f a b key asked = (other : List ℕ) → map_of f b other ≡ update same_key (map_of f a) key (asked.left (map_of f a key)) other
 MapBy _ _ f a b key asked = (other : List ℕ) → map_of f b other ≡ map_of f a other
@@ -41,17 +41,18 @@ pub data IsWant (reply : Reply) : Type 0 where
   memory : reply ≡ Reply.Memory → IsWant reply
   full : (len need : ℕ) → reply ≡ Reply.Full len need → IsWant reply
 
--- What the end of a command says: after the change, that it is done; before it, what the command asks for of the key's value in the
--- map, or that memory or space is wanting.
+-- What the end of a command says: after the change, that it is done; before it, what the command asks for of the key's
+-- value in the map, or that memory or space is wanting.
 abbrev pub Says : Stage → Asked → Option (List ℕ) → Next → Type 0
 Says _ asked v (Step stage) = Unit {0}
 Says (Changed hand) asked v (Done reply) = reply ≡ Reply.Ok
 Says Ending asked v (Done reply) = reply ≡ Reply.Ok
 Says _ asked v (Done reply) = IsWant reply ⊎ (reply ≡ asked.reply v)
 
--- A turn led from image a to image b, where other hands are out that stay as they are. The new image is accepted with the hands
--- that the command holds then, and it knows of the new image what its stage says. At most the chain of its key changed, and that
--- only while it is locked; a turn before that changes nothing. The sequence number stays, and walks keep their keys.
+-- A turn led from image a to image b, where other hands are out that stay as they are. The new image is accepted with
+-- the hands that the command holds then, and it knows of the new image what its stage says. At most the chain of its
+-- key changed, and that only while it is locked; a turn before that changes nothing. The sequence number stays, and
+-- walks keep their keys.
 pub record TurnMade (f : Form) (a b key : List ℕ) (asked : Asked) (old : Stage) (next : Next) (others : List HandPair) : Type 0 where
   pub accepted : AcceptWith f b (hands_after next ++ others)
   pub knows : KnowsAfter f b key asked next
@@ -66,8 +67,9 @@ abbrev pub Makes : Form → List ℕ → List ℕ → List ℕ → Asked → Sta
 Makes f a b key asked old next =
     (others : List HandPair) → AcceptWith f a (hands_in old ++ others) → Knows f a key asked old → TurnMade f a b key asked old next others
 
--- A turn that takes a record of so many bytes behind its header leads to a record as the free list gives it, or as it gives it after
--- the file has grown up to the limit. It ends with Full only where neither can be, and says how long the file is and what is needed.
+-- A turn that takes a record of so many bytes behind its header leads to a record as the free list gives it, or as it
+-- gives it after the file has grown up to the limit. It ends with Full only where neither can be, and says how long the
+-- file is and what is needed.
 abbrev pub TakesRightly : Form → List ℕ → List ℕ → ℕ → ℕ → Option Place → Next → Type 0
 TakesRightly f a b rec_len limit found (Step (Taken place hand)) =
     (place ≡ found) × ((hands : List HandPair) → AcceptWith f a hands → TakenBy f a b (free_of f a) rec_len limit hand)
@@ -76,7 +78,8 @@ TakesRightly f a b rec_len limit found (Done (Reply.Full len need)) =
     (len ≡ length a) × (need ≡ 24 + rec_len) × ((hands : List HandPair) → AcceptWith f a hands → NoRoom f a b (free_of f a) rec_len limit)
 TakesRightly f a b rec_len limit found (Done reply) = reply ≡ Reply.Memory
 
--- A turn that links a new record in place of the old one leads to the old record as a hand, or to the end where there was none.
+-- A turn that links a new record in place of the old one leads to the old record as a hand, or to the end where there
+-- was none.
 abbrev pub LinkedOver : Form → List ℕ → HandPair → Option Place → Next → Type 0
 LinkedOver f a hand None next = (others : List HandPair) → AcceptWith f a (hand ∷ others) → next ≡ Step Ending
 LinkedOver f a hand (Some place) next = (others : List HandPair) → AcceptWith f a (hand ∷ others) → next ≡ Step (Changed (hand_at place))
@@ -87,7 +90,8 @@ LinksRightly f a hand stood_on None next = (others : List HandPair) → AcceptWi
 LinksRightly f a hand stood_on (Some place) next = (key : List ℕ) (others : List HandPair) → AcceptWith f a (hand ∷ others) → HoldsKey f a key place
     → (Contains stood_on place.off × (next ≡ Step Ending)) ⊎ ((Contains stood_on place.off → ⊥) × (next ≡ Step (Changed (hand_at place))))
 
--- A store updates the record that it found where it stands exactly where the value fits, and else goes on with what it found.
+-- A store updates the record that it found where it stands exactly where the value fits, and else goes on with what it
+-- found.
 abbrev pub UpdatesRightly : ℕ → Option Place → Next → Type 0
 UpdatesRightly n None (Step stage) = stage ≡ Looked None
 UpdatesRightly n (Some place) (Step stage) = (stage ≡ Looked (Some place)) × (place.rec.rec_len < place.rec.key_len + n + 4)
@@ -111,8 +115,8 @@ Finds f a key Rightly = (others : List HandPair) → AcceptWith f a others → (
 abbrev pub GivesRightly : Form → List ℕ → List ℕ → HandPair → Next → Type 0
 GivesRightly f a b hand next = (next ≡ Step Ending) × ((others : List HandPair) → AcceptWith f a (hand ∷ others) → GivenBack f a b hand others)
 
--- The turns of a delete, in their order: after the lock of the chain the look, after that of the free list the unlinking, then the
--- give, and the end.
+-- The turns of a delete, in their order: after the lock of the chain the look, after that of the free list the
+-- unlinking, then the give, and the end.
 abbrev pub DeletesRightly : Form → List ℕ → List ℕ → List ℕ → List ℕ → Stage → Next → Type 0
 DeletesRightly f a b key stood_on Begun next = next ≡ Step Chained
 DeletesRightly f a b key stood_on Chained next = Finds f a key (λ place. MarksRightly stood_on place next)
@@ -124,8 +128,8 @@ DeletesRightly f a b key stood_on (Changed hand) next = GivesRightly f a b hand 
 DeletesRightly f a b key stood_on (Wiping stage) next = ⊥
 DeletesRightly f a b key stood_on Ending next = next ≡ Done Reply.Ok
 
--- The turns of a store, in their order: after the lock of the chain the look, after that of the free list the take and the link, then
--- the give where an old record was taken out, and the end.
+-- The turns of a store, in their order: after the lock of the chain the look, after that of the free list the take and
+-- the link, then the give where an old record was taken out, and the end.
 abbrev pub StoresRightly : Form → List ℕ → List ℕ → List ℕ → ℕ → ℕ → ℕ → List ℕ → Stage → Next → Type 0
 StoresRightly f a b key value_len rec_len limit stood_on Begun next = next ≡ Step Chained
 StoresRightly f a b key value_len rec_len limit stood_on Chained next = Finds f a key (λ place. UpdatesRightly value_len place next)
@@ -136,7 +140,8 @@ StoresRightly f a b key value_len rec_len limit stood_on (Changed hand) next = G
 StoresRightly f a b key value_len rec_len limit stood_on (Wiping stage) next = ⊥
 StoresRightly f a b key value_len rec_len limit stood_on Ending next = next ≡ Done Reply.Ok
 
--- The turns of an append that has joined these bytes, or none: those of a store of what the key has, and the rest behind it.
+-- The turns of an append that has joined these bytes, or none: those of a store of what the key has, and the rest
+-- behind it.
 abbrev pub AppendsRightly : Form → List ℕ → List ℕ → List ℕ → List ℕ → Option (List ℕ) → ℕ → List ℕ → Stage → Next → Type 0
 AppendsRightly f a b key more whole limit stood_on stage next = IsJoined f a key more whole stage
     → StoresRightly f a b key (length (joined (map_of f a key) more)) (rec_len_for (length key) (length (joined (map_of f a key) more))) limit stood_on stage next
@@ -146,8 +151,8 @@ abbrev pub LooksRightly : Stage → Next → Type 0
 LooksRightly Begun next = next ≡ Step Chained
 LooksRightly _ next = IsEnd next
 
--- A turn of an append makes of an image what the append asks for, and the append has the bytes that it writes then. What it has joined
--- is `was` before the turn, and `now` after it.
+-- A turn of an append makes of an image what the append asks for, and the append has the bytes that it writes then.
+-- What it has joined is `was` before the turn, and `now` after it.
 pub record AppendMade (f : Form) (a b key more : List ℕ) (now : Option (List ℕ)) (old : Stage) (next : Next) (others : List HandPair) : Type 0 where
   pub made : TurnMade f a b key (appends more) old next others
   pub has_joined : JoinedAfter f b key more now next
@@ -156,13 +161,14 @@ abbrev pub AppendMakes : Form → List ℕ → List ℕ → List ℕ → List �
 AppendMakes f a b key more was now old next =
     (others : List HandPair) → AcceptWith f a (hands_in old ++ others) → Knows f a key (appends more) old → IsJoined f a key more was old → AppendMade f a b key more now old next others
 
--- The map after a turn of a wipe: only the turn that makes the change changes it, and then each key has what a wipe leaves there.
+-- The map after a turn of a wipe: only the turn that makes the change changes it, and then each key has what a wipe
+-- leaves there.
 abbrev pub MapWiped : Bool → Bool → Form → List ℕ → List ℕ → Type 0
 MapWiped false true f a b = (key : List ℕ) → map_of f b key ≡ wipes.left (map_of f a key)
 MapWiped _ _ f a b = (key : List ℕ) → map_of f b key ≡ map_of f a key
 
--- A turn of a wipe led from image a to image b, where other hands are out that stay as they are. The new image is accepted with
--- them. Any chain may have changed, but only while all are locked. The sequence number stays.
+-- A turn of a wipe led from image a to image b, where other hands are out that stay as they are. The new image is
+-- accepted with them. Any chain may have changed, but only while all are locked. The sequence number stays.
 pub record WipeMade (f : Form) (a b : List ℕ) (old : Stage) (next : Next) (others : List HandPair) : Type 0 where
   pub accepted : AcceptWith f b (hands_after next ++ others)
   pub only : ChangesOnly f a b (λ k. HoldsChain old)
@@ -178,8 +184,8 @@ abbrev pub WipesRightly : Form → List ℕ → List ℕ → Stage → Next → 
 WipesRightly f a b (Wiping FreeList) (Step stage) = AcceptWith f a [] → Wiped f a b
 WipesRightly f a b stage next = b ≡ a
 
--- What a command knows between two of its turns it still knows after any change that leaves the chain of its key: so it does after the
--- turns of other openers, since it has that chain locked.
+-- What a command knows between two of its turns it still knows after any change that leaves the chain of its key: so it
+-- does after the turns of other openers, since it has that chain locked.
 abbrev pub KnowledgeStays : Type 0
 KnowledgeStays =
     (f : Form) (a b key : List ℕ) (asked : Asked) (stage : Stage) (hands news : List HandPair) → AcceptWith f a hands → AcceptWith f b news → length a ≤ length b

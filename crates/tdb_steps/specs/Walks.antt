@@ -29,8 +29,8 @@ abbrev pub KeepsBy : Bool → Bool → (ℕ → Bool) → List ℕ → List Cell
 KeepsBy false true stands key cs later = Keeps stands key cs later
 KeepsBy _ _ stands key cs later = KeepsAll stands cs later
 
--- From image a to image b the chain of a key has each record still on which a cursor stands, and it keeps its keys so, by whether the
--- change was made before and is made after.
+-- From image a to image b the chain of a key has each record still on which a cursor stands, and it keeps its keys so,
+-- by whether the change was made before and is made after.
 pub record WalksKept (f : Form) (a b key : List ℕ) (stands : ℕ → Bool) (before after : Bool) : Type 0 where
   pub members : (p : ℕ) → stands p ≡ true → Member p (chain_of f a (home f key)) → Member p (chain_of f b (home f key))
   pub keeps : KeepsBy before after stands key (chains_in f a (home f key)) (chains_in f b (home f key))

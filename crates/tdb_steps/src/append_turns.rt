@@ -63,13 +63,13 @@ fn store_joined<S: Space>(
     }
 }
 
-/// A turn of an append, in a file that may grow to `limit` bytes. `whole` has the bytes that its look has joined: it is set by the
-/// second turn, and has to be the same in those after it. The reply is `Ok`, `Full` where no free record is long enough and the file
-/// can't grow, or `Memory` where that is wanting before the first write.
+/// A turn of an append, in a file that may grow to `limit` bytes. `whole` has the bytes that its look has joined: it is
+/// set by the second turn, and has to be the same in those after it. The reply is `Ok`, `Full` where no free record is
+/// long enough and the file can't grow, or `Memory` where that is wanting before the first write.
 ///
-/// The second turn is that of `look_to_append`; all others are those of a store of the joined bytes, or of those to be appended where
-/// the key wasn't there, with the flag `Replace`. `Io` where the disk failed: then the command is given up, with the record that it
-/// held.
+/// The second turn is that of `look_to_append`; all others are those of a store of the joined bytes, or of those to be
+/// appended where the key wasn't there, with the flag `Replace`. `Io` where the disk failed: then the command is given
+/// up, with the record that it held.
 pub fn append_turn<S: Space>(
     alloc: Global,
     stage: Stage,

@@ -51,11 +51,11 @@ fn joined_value<S: Space>(
     }
 }
 
-/// Looks up the key of an append, and puts the bytes that it has in front of those to be appended. Where all of them fit into the
-/// record that is there, they are written at once, and the command ends.
+/// Looks up the key of an append, and puts the bytes that it has in front of those to be appended. Where all of them
+/// fit into the record that is there, they are written at once, and the command ends.
 ///
-/// Where the command goes on, its other turns are those of a store with the flag `Replace`, of the joined bytes, or of those to be
-/// appended where no bytes were joined. The reply is `Memory` where that is wanting.
+/// Where the command goes on, its other turns are those of a store with the flag `Replace`, of the joined bytes, or of
+/// those to be appended where no bytes were joined. The reply is `Memory` where that is wanting.
 pub fn look_to_append<S: Space>(
     alloc: Global,
     s: &mut S,

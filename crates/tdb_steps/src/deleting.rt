@@ -17,10 +17,10 @@ use tdb_space::{Io, Space};
 
 /// A turn of a delete. The reply is `Ok`, `KeyMissing`, or `Memory` where that is wanting before the first write.
 ///
-/// The first turn stands for the lock of the key's chain, the third for that of the free list, and the last lets go of both: these
-/// make no call on the file. The second looks the key up, and marks its record as dead where a cursor stands on it: that ends the
-/// command. The fourth takes the record out of its chain, and the fifth gives it to the free list. `Io` where the disk failed: then
-/// the command is given up, with the record that it held.
+/// The first turn stands for the lock of the key's chain, the third for that of the free list, and the last lets go of
+/// both: these make no call on the file. The second looks the key up, and marks its record as dead where a cursor
+/// stands on it: that ends the command. The fourth takes the record out of its chain, and the fifth gives it to the
+/// free list. `Io` where the disk failed: then the command is given up, with the record that it held.
 pub fn delete_turn<S: Space>(
     stage: Stage,
     s: &mut S,

@@ -77,8 +77,8 @@ fn link_beside<S: Space>(
     link_over(s, key, value, None, hand)
 }
 
-/// Links the new record. Where no cursor stands on the old one, that is taken out, and has to be given back; else it is marked as
-/// dead.
+/// Links the new record. Where no cursor stands on the old one, that is taken out, and has to be given back; else it is
+/// marked as dead.
 pub(crate) fn link_new<S: Space>(
     s: &mut S,
     key: &[u8],

@@ -49,7 +49,8 @@ pub fn take_lock(
     locks.try_lock(owner, row.region.start(), row.region.len(), row.kind)
 }
 
-/// Lets go of a lock of a row, whether it was taken or not, unless the opener's explicit locks cover it. It takes no memory.
+/// Lets go of a lock of a row, whether it was taken or not, unless the opener's explicit locks cover it. It takes no
+/// memory.
 pub fn let_go_of(locks: &mut Locks, owner: u32, held: &Held, row: LockRow)
     requires alone { StandsAlone held.now owner locks.old row }
     ensures { IsLetGo held.now owner locks.old locks.new row }

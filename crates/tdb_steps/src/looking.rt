@@ -67,8 +67,8 @@ fn mark_found<S: Space>(s: &mut S, place: Place) -> Result<Next, Io>
     Ok(Next::Done(Reply::Ok))
 }
 
-/// Looks up the key of a store. The reply is `KeyThere` or `KeyMissing` where its flag refuses the key. Where the value fits into the
-/// record that is there, it is written at once.
+/// Looks up the key of a store. The reply is `KeyThere` or `KeyMissing` where its flag refuses the key. Where the value
+/// fits into the record that is there, it is written at once.
 pub(crate) fn look_to_store<S: Space>(
     s: &mut S,
     key: &[u8],
@@ -100,8 +100,8 @@ pub(crate) fn look_to_store<S: Space>(
     update_found(s, place, value)
 }
 
-/// Looks up the key of a delete. The reply is `KeyMissing` where it isn't there. Where a cursor stands on its record, that is marked
-/// as dead at once.
+/// Looks up the key of a delete. The reply is `KeyMissing` where it isn't there. Where a cursor stands on its record,
+/// that is marked as dead at once.
 pub(crate) fn look_to_delete<S: Space>(s: &mut S, key: &[u8], stood_on: &Spots) -> Result<Next, Io>
     requires key { length key.now < 2 ^ 32 }
     requires chains { 0 < (S.form s.old).chains }

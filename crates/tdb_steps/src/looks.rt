@@ -13,7 +13,8 @@ use crate::stage::{Next, Stage};
 use std::alloc::Global;
 use tdb_space::{Io, Space};
 
-/// A turn of a fetch: the first stands for the lock of the key's chain, and makes no call on the file; the second looks, and ends.
+/// A turn of a fetch: the first stands for the lock of the key's chain, and makes no call on the file; the second
+/// looks, and ends.
 pub fn fetch_turn<S: Space>(alloc: Global, stage: Stage, s: &mut S, key: &[u8]) -> Result<Next, Io>
     requires key { length key.now < 2 ^ 32 }
     requires chains { 0 < (S.form s.old).chains }

@@ -52,8 +52,8 @@ impl Model for Machine {
 }
 
 impl Machine {
-    /// The machine of a command on a file with this header, before its first turn. Where `seqnum` is set, a change that the command
-    /// makes raises the sequence number. It takes no memory.
+    /// The machine of a command on a file with this header, before its first turn. Where `seqnum` is set, a change that
+    /// the command makes raises the sequence number. It takes no memory.
     pub fn new(command: Plain, h: &Header, seqnum: bool) -> Machine
         requires short { IsShort command }
         requires chains { 0 < h.now.hash_size }
@@ -104,10 +104,12 @@ impl Machine {
         }
     }
 
-    /// A turn that takes a lock of the row. A lock that the explicit ones cover isn't taken, and its turn is a step all the same.
+    /// A turn that takes a lock of the row. A lock that the explicit ones cover isn't taken, and its turn is a step all
+    /// the same.
     ///
-    /// `Blocked` by the first conflict: then nothing changes, and the next turn tries the same again. `Memory` where that is wanting:
-    /// then all locks of the command are let go, for which no memory is asked, and the machine is before its first turn.
+    /// `Blocked` by the first conflict: then nothing changes, and the next turn tries the same again. `Memory` where
+    /// that is wanting: then all locks of the command are let go, for which no memory is asked, and the machine is
+    /// before its first turn.
     pub fn lock_turn(
         &mut self,
         locks: &mut Locks,
@@ -145,13 +147,15 @@ impl Machine {
         }
     }
 
-    /// A turn that takes no lock, in a file that may grow to `limit` bytes, where cursors stand on the records at `stood_on`.
+    /// A turn that takes no lock, in a file that may grow to `limit` bytes, where cursors stand on the records at
+    /// `stood_on`.
     ///
-    /// It is a step, or the reply: then the locks are still held, and the machine is before its first turn. `Full` is the reply of a
-    /// store and of an append exactly where no free record is long enough and the file can't grow so far, and it says how long the
-    /// file is and how many bytes were needed. With `Ok` the sequence number is raised where the machine counts: the room for that was
-    /// made before the first write. `Io` where the disk failed: then the command has given up the record that it held, and where only
-    /// the number was left to raise, the change is made.
+    /// It is a step, or the reply: then the locks are still held, and the machine is before its first turn. `Full` is
+    /// the reply of a store and of an append exactly where no free record is long enough and the file can't grow so
+    /// far, and it says how long the file is and how many bytes were needed. With `Ok` the sequence number is raised
+    /// where the machine counts: the room for that was made before the first write. `Io` where the disk failed: then
+    /// the command has given up the record that it held, and where only the number was left to raise, the change is
+    /// made.
     pub fn act_turn<S: Space>(
         &mut self,
         alloc: Global,
@@ -195,7 +199,8 @@ impl Machine {
         }
     }
 
-    /// Lets go of the locks of the command, taken or not, but for those that the explicit ones cover. It takes no memory.
+    /// Lets go of the locks of the command, taken or not, but for those that the explicit ones cover. It takes no
+    /// memory.
     pub fn let_go(&self, locks: &mut Locks, owner: u32, held: &Held)
         requires alone { AllStandAlone held.now owner locks.old (rows_of self.now.command self.now.chain) }
         ensures { AreLetGo held.now owner locks.old locks.new (rows_of self.now.command self.now.chain) }
@@ -203,21 +208,24 @@ impl Machine {
         let_go(locks, owner, held, &self.rows());
     }
 
-    /// Takes one turn of the command, in a file that may grow to `limit` bytes. `owner` is the number of its opener in the lock table,
-    /// `held` are the locks that it has taken explicitly, and cursors stand on the records at `stood_on`.
+    /// Takes one turn of the command, in a file that may grow to `limit` bytes. `owner` is the number of its opener in
+    /// the lock table, `held` are the locks that it has taken explicitly, and cursors stand on the records at
+    /// `stood_on`.
     ///
-    /// A turn takes a lock of the command's row, or looks or changes the file. `Blocked` where another opener's lock conflicts: nothing
-    /// changes then, and the next turn tries the same again. A lock that the explicit ones cover is neither taken nor let go, and its
-    /// turn is a step all the same. With its reply the command lets go of what it took, for which it asks for no memory. The reply is
-    /// `Memory` where that is wanting, before any change, and `Full` exactly where no free record is long enough for the value and the
-    /// file can't grow up to the limit. With the reply `Ok` the sequence number is raised, where the machine counts its change; no lock
-    /// is taken for that. `Io` where the disk failed: then the command has given up the record that it held, and it keeps its locks.
-    /// After a reply or `Io` the machine is before its first turn.
+    /// A turn takes a lock of the command's row, or looks or changes the file. `Blocked` where another opener's lock
+    /// conflicts: nothing changes then, and the next turn tries the same again. A lock that the explicit ones cover is
+    /// neither taken nor let go, and its turn is a step all the same. With its reply the command lets go of what it
+    /// took, for which it asks for no memory. The reply is `Memory` where that is wanting, before any change, and
+    /// `Full` exactly where no free record is long enough for the value and the file can't grow up to the limit. With
+    /// the reply `Ok` the sequence number is raised, where the machine counts its change; no lock is taken for that.
+    /// `Io` where the disk failed: then the command has given up the record that it held, and it keeps its locks. After
+    /// a reply or `Io` the machine is before its first turn.
     ///
-    /// A wipe is on no key: once all records are locked it may change any chain. Where it has both its locks, no hand of another command
-    /// may be out.
+    /// A wipe is on no key: once all records are locked it may change any chain. Where it has both its locks, no hand
+    /// of another command may be out.
     ///
-    /// Cost: a pass over the lock table where a lock is taken; else the chain of the key, the free list, or the writes, once each.
+    /// Cost: a pass over the lock table where a lock is taken; else the chain of the key, the free list, or the writes,
+    /// once each.
     pub fn step<S: Space>(
         &mut self,
         alloc: Global,

@@ -62,8 +62,9 @@ pub struct Rows {
 }
 
 impl Rows {
-    /// The locks of a command whose key is filed in this chain: a look takes the chain for reading; a change takes it for writing, and
-    /// then the free list. A wipe, which is on no key, takes all records for writing, and then the free list.
+    /// The locks of a command whose key is filed in this chain: a look takes the chain for reading; a change takes it
+    /// for writing, and then the free list. A wipe, which is on no key, takes all records for writing, and then the
+    /// free list.
     pub fn of(command: &Plain, chain: u32) -> Rows
         ensures rows { result ≡ rows_of command.now chain }
         ensures locks { (f : Form) → home f (key_of command.now) ≡ chain → locks_in result ≡ map_locks f (command_of command.now) }

@@ -18,14 +18,16 @@ use crate::taking::take_new;
 use tdb_locks::{Reply, Spots};
 use tdb_space::{Io, Space};
 
-/// A turn of a store, in a file that may grow to `limit` bytes. The reply is `Ok`, `KeyThere` or `KeyMissing` as the flag says, `Full`
-/// where no free record is long enough and the file can't grow, or `Memory` where that is wanting before the first write.
+/// A turn of a store, in a file that may grow to `limit` bytes. The reply is `Ok`, `KeyThere` or `KeyMissing` as the
+/// flag says, `Full` where no free record is long enough and the file can't grow, or `Memory` where that is wanting
+/// before the first write.
 ///
-/// The first turn stands for the lock of the key's chain, the third for that of the free list, and the last lets go of both: these
-/// make no call on the file. The second looks the key up; where the value fits into the record that is there, it is written at once,
-/// and the command ends. The fourth takes a record from the free list. The fifth links it with the new value, and takes the old
-/// record out, or marks it as dead where a cursor stands on it. The sixth, where an old record was taken out, gives that back. `Io`
-/// where the disk failed: then the command is given up, with the record that it held.
+/// The first turn stands for the lock of the key's chain, the third for that of the free list, and the last lets go of
+/// both: these make no call on the file. The second looks the key up; where the value fits into the record that is
+/// there, it is written at once, and the command ends. The fourth takes a record from the free list. The fifth links it
+/// with the new value, and takes the old record out, or marks it as dead where a cursor stands on it. The sixth, where
+/// an old record was taken out, gives that back. `Io` where the disk failed: then the command is given up, with the
+/// record that it held.
 pub fn store_turn<S: Space>(
     stage: Stage,
     s: &mut S,

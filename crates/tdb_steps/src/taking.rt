@@ -19,8 +19,8 @@ use tdb_space::{Io, Space, rec_len_for};
 
 /// Takes a record for a key and a value of these lengths from the free list, where the file may grow up to a limit.
 ///
-/// Before, it makes room for all that the command still has to write; the reply is `Memory` where that is wanting, and then
-/// nothing is written. The reply is `Full` where no free record is long enough and the file can't grow.
+/// Before, it makes room for all that the command still has to write; the reply is `Memory` where that is wanting, and
+/// then nothing is written. The reply is `Full` where no free record is long enough and the file can't grow.
 pub(crate) fn take_new<S: Space>(
     s: &mut S,
     key_len: usize,

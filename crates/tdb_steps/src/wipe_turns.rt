@@ -18,9 +18,9 @@ use tdb_space::{Io, Space};
 
 /// A turn of a wipe. The reply is `Ok`, or `Memory` where that is wanting before the first write.
 ///
-/// The first turn stands for the lock of all records, the second for that of the free list, and the last lets go of both: these make
-/// no call on the file. The third makes room for all writes of the wipe and one of the sequence number, and wipes the file, if no other hand is out. `Io` where the
-/// disk failed: then the command is given up.
+/// The first turn stands for the lock of all records, the second for that of the free list, and the last lets go of
+/// both: these make no call on the file. The third makes room for all writes of the wipe and one of the sequence
+/// number, and wipes the file, if no other hand is out. `Io` where the disk failed: then the command is given up.
 pub fn wipe_turn<S: Space>(stage: Stage, s: &mut S) -> Result<Next, Io>
     requires stage { OfWipe stage (S.spare s.old) }
     ensures made { IfOk result (λ next. IsTrue S.tells → S.size s.old < 2 ^ 32 → WipeMakes (S.form s.old) (S.image s.old) (S.image s.new) stage next) }
@@ -50,7 +50,8 @@ pub fn wipe_turn<S: Space>(stage: Stage, s: &mut S) -> Result<Next, Io>
     }
 }
 
-/// Makes room for all writes of a wipe, and wipes the file. The reply is `Memory` where that is wanting, and then nothing is written.
+/// Makes room for all writes of a wipe, and wipes the file. The reply is `Memory` where that is wanting, and then
+/// nothing is written.
 fn wipe_all<S: Space>(s: &mut S) -> Result<Next, Io>
     ensures made { IfOk result (λ next. IsTrue S.tells → S.size s.old < 2 ^ 32 → WipeMakes (S.form s.old) (S.image s.old) (S.image s.new) (Stage.Wiping WipeStage.FreeList) next) }
     ensures rightly { IfOk result (λ next. IsTrue S.tells → S.size s.old < 2 ^ 32 → WipesRightly (S.form s.old) (S.image s.old) (S.image s.new) (Stage.Wiping WipeStage.FreeList) next) }

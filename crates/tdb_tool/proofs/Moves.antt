@@ -209,8 +209,8 @@ module _ (f : Form) (who : ℕ) where
     arrives old new n k v moving (walk_halts o b is m g i M) = absurd (cc)
     arrives old new n k v moving (walk_fails is m) = absurd (cc)
 
-    -- A move that wasn't refused came to a key of the opener's sight; a Next to one that the walk hadn't passed, and what it had passed it
-    -- has passed still.
+    -- A move that wasn't refused came to a key of the opener's sight; a Next to one that the walk hadn't passed, and
+    -- what it had passed it has passed still.
     pub record Comes (old new : State) : Type 0 where
       pub moving : moves f (OnWalk w) (old.own who) ≡ true
       pub key : List ℕ

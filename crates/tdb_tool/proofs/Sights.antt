@@ -72,7 +72,8 @@ prepared_refuses : (f : Form) (x : Own) (t : Txn) (n : ℕ) → x.txn ≡ Some t
 prepared_refuses f x t n has is moving =
     false≢true (sym (ap (λ q. moves_by q (OnWalk First) x) (first_refused f x (ap is_prepared has ∙ ap is_some is))) ∙ moving)
 
--- The opener aside has no command, and a First wouldn't be refused: it is inside its transaction, which is no longer than its file may get.
+-- The opener aside has no command, and a First wouldn't be refused: it is inside its transaction, which is no longer
+-- than its file may get.
 own_within : (f : Form) (o : Options) (k : Known) (stage : Stage) (x : Own) (h : History) (header : Header) (size : ℕ) (m : Map) → form_in header ≡ f → OwnIs f o k stage x → KnowsAt f stage h k
     → IsFit stage header o.limit size → stage_task stage ≡ None → moves f (OnWalk First) x ≡ true → IsWithin f (image_or x.txn m) o.limit
 own_within f o k (At.Starting s) x h header size m form own at fit idle moving = absurd (cc)

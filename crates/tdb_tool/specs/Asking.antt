@@ -37,8 +37,8 @@ LinesAsk at [] orders = orders ≡ []
 LinesAsk at (line ∷ lines) orders =
     (said : Option Order) × (rest : List Order) × Says at line said × (said ≢ Some Order.Quit) × LinesAsk (at + length line + 1) lines rest × (orders ≡ with_said said rest)
 
--- A session ends before these lines, of which the first begins at this place: there is none, or it says `quit`; or it is
--- bad.
+-- A session ends before these lines, of which the first begins at this place: there is none, or it says `quit`; or it
+-- is bad.
 abbrev pub EndsBefore : ℕ → List (List ℕ) → SessionEnd → Type 0
 EndsBefore at [] Ended = Unit {0}
 EndsBefore at [] (Malformed place) = ⊥

@@ -23,7 +23,8 @@ pub record IsFresh (r : LineReader) : Type 0 where
   pub place : r.at ≡ 0
   pub more : r.over ≡ false
 
--- The bytes at hand were moved to the end of a line: those up to the first newline, which is used up, or all where there is none.
+-- The bytes at hand were moved to the end of a line: those up to the first newline, which is used up, or all where
+-- there is none.
 abbrev pub MovedOn : LineReader → LineReader → List ℕ → List ℕ → Bool → Type 0
 MovedOn old new before after true = (front : List ℕ) × IsBare front × (unread old ≡ front ++ 10 ∷ unread new) × (after ≡ before ++ front)
 MovedOn old new before after false = IsBare (unread old) × (after ≡ before ++ unread old) × (new.start ≡ new.end)

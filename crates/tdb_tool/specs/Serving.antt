@@ -68,8 +68,8 @@ OnBroken (Some F.Device) p = p
 OnBroken (Some F.Log) p = Unit {0}
 OnBroken (Some F.Memory) p = Unit {0}
 
--- What may be done from a state on: the lines that it gives, the text that is printed of them, and the state to which it
--- leads.
+-- What may be done from a state on: the lines that it gives, the text that is printed of them, and the state to which
+-- it leads.
 abbrev pub Deed : Type 1
 Deed = Form → State → List Line → List ℕ → State → Type 0
 
@@ -87,8 +87,8 @@ LeavesAll deed f old IsLeft told before now = (new : State) × IsLeft new × Tel
 abbrev pub LeavesFront : Deed → Form → State → (State → Type 0) → Bool → List ℕ → List ℕ → Type 0
 LeavesFront deed f old IsLeft told before now = (new : State) × IsLeft new × TellsFront deed f old new told before now
 
--- What was done from a state on, by why it broke off: the whole, or a part. Where the disk failed nothing is said of what is
--- left; where the input did, the whole was done and told; and where a log did, what was done was told.
+-- What was done from a state on, by why it broke off: the whole, or a part. Where the disk failed nothing is said of
+-- what is left; where the input did, the whole was done and told; and where a log did, what was done was told.
 abbrev pub RunsTo : Deed → Deed → Form → State → (State → Type 0) → Bool → List ℕ → List ℕ → Option SessionFault → Type 0
 RunsTo whole part f old IsLeft told before now None = LeavesAll whole f old IsLeft told before now
 RunsTo whole part f old IsLeft told before now (Some F.Input) = LeavesAll whole f old IsLeft told before now
@@ -101,8 +101,8 @@ RunsTo whole part f old IsLeft told before now (Some F.Memory) = LeavesFront par
 abbrev pub FitsAt : Scene → Type 0
 FitsAt s = WorldFits s.world (seen s.history) s.size
 
--- Each stop between two moments leaves a file that opens on the way that these lines, which were told in between, tell from a state; and
--- unless the disk failed the file is safe at the second.
+-- Each stop between two moments leaves a file that opens on the way that these lines, which were told in between, tell
+-- from a state; and unless the disk failed the file is safe at the second.
 pub record StopsBetween (old new : Scene) (answer : Option SessionFault) (f : Form) (state : State) (lines : List Line) : Type 0 where
   pub stops : LeavesOnly old.history new.history (OpensOnTheWay f state (law_lines lines))
   pub safe : UnlessBroken answer (IsSafe f new.history)
@@ -111,8 +111,8 @@ pub record StopsBetween (old new : Scene) (answer : Option SessionFault) (f : Fo
 abbrev pub HeardOrRefused : List Logged → List Line → List Logged → Type 0
 HeardOrRefused logs lines later = Heard logs lines later ⊎ ((refusal : LogRefusal) × HeardUpTo refusal logs lines later)
 
--- What logs heard of lines, by why it broke off: of all. Where a log failed, of those in front of the one whose notice it refused; and where
--- something else broke off, a log may have refused too.
+-- What logs heard of lines, by why it broke off: of all. Where a log failed, of those in front of the one whose notice
+-- it refused; and where something else broke off, a log may have refused too.
 abbrev pub HeardSo : Option SessionFault → List Logged → List Line → List Logged → Type 0
 HeardSo None old lines new = Heard old lines new
 HeardSo (Some F.Input) old lines new = Heard old lines new
@@ -121,16 +121,16 @@ HeardSo (Some F.Device) old lines new = HeardOrRefused old lines new
 HeardSo (Some F.Log) old lines new = HeardUpTo Unheard.Failed old lines new
 HeardSo (Some F.Memory) old lines new = HeardOrRefused old lines new
 
--- Something was done between two moments, and logs heard of its lines; and where the file was safe at the first, and the lines are
--- transacted, so it is of stops.
+-- Something was done between two moments, and logs heard of its lines; and where the file was safe at the first, and
+-- the lines are transacted, so it is of stops.
 abbrev pub DoneBetween : Scene → Scene → Option SessionFault → Deed → Deed
 DoneBetween old new answer deed f state lines text after =
     deed f state lines text after × (IsSafe f old.history → IsTransacted f state (law_lines lines) → StopsBetween old new answer f state lines)
     × HeardSo answer old.logs lines new.logs
 
--- What was done led from one moment to another, and ended so, over a disk and an output that tell or don't: from each state
--- that the world may have had to one that it has afterwards, with what stops meanwhile leave and what logs heard. Unless the
--- disk failed the world fits the file, and the count of faults is as it was.
+-- What was done led from one moment to another, and ended so, over a disk and an output that tell or don't: from each
+-- state that the world may have had to one that it has afterwards, with what stops meanwhile leave and what logs heard.
+-- Unless the disk failed the world fits the file, and the count of faults is as it was.
 pub record Led (disk_tells output_tells : Bool) (whole part : Deed) (old new : Scene) (answer : Option SessionFault) : Type 0 where
   pub header : UnlessBroken answer (new.world.openers.header ≡ old.world.openers.header)
   pub options : UnlessBroken answer (new.world.openers.options ≡ old.world.openers.options)
@@ -145,8 +145,8 @@ pub record Led (disk_tells output_tells : Bool) (whole part : Deed) (old new : S
 abbrev pub Ran : (disk_tells output_tells : Bool) (old new : Scene) → List Part → Option SessionFault → Type 0
 Ran d o old new parts answer = Led d o (AllDone parts) (AllCame parts) old new answer
 
--- A play was taken, and its text printed, where pairs are listed so or aren't; the answer tells whether it gave a pair. Or
--- it was begun.
+-- A play was taken, and its text printed, where pairs are listed so or aren't; the answer tells whether it gave a pair.
+-- Or it was begun.
 abbrev pub PlayDone : Play → Option Listing → Result Bool SessionFault → Deed
 PlayDone play listing answer f old lines text new = Gives f old (law_play play) (law_lines lines) new × (text ≡ lines_text listing lines) × IfOk answer (λ pair. pair ≡ tell_pair lines)
 

@@ -56,16 +56,17 @@ SessionLed d i o old new text answer =
 abbrev pub beginning_over : Form → Options → List ℕ → Replay
 beginning_over f options img = beginning (options_of options) (image_map f img) (word f.order img sequence_at)
 
--- What stops leave while a session leads from one history of a file to another, by its lines from this state on. Where all of the file was on
--- the medium at first, and in no state that the lines pass an opener is in the middle of a change outside a transaction, each stop leaves a
--- file that opens to the map and the sequence number of a state that they pass, or of the transaction whose Commit was just shutting its gate.
+-- What stops leave while a session leads from one history of a file to another, by its lines from this state on. Where
+-- all of the file was on the medium at first, and in no state that the lines pass an opener is in the middle of a
+-- change outside a transaction, each stop leaves a file that opens to the map and the sequence number of a state that
+-- they pass, or of the transaction whose Commit was just shutting its gate.
 abbrev pub StopsOpen : Form → History → History → State → List LawLine → Type 0
 StopsOpen f h k start lines = Quiet h → IsTransacted f start lines → LeavesOnly h k (OpensOnTheWay f start lines)
 
--- All parts of a session were done over the image a, which is b after them, from a world just loaded, and their text was
--- printed; an open gate undone, b has the map of the state to which they led, in which the opener isn't live. The whole report,
--- with the lines of what isn't done behind it, is lawful from the map of a on. Stops meanwhile leave what is said of the lines
--- from that world on, and logs heard of them what is said.
+-- All parts of a session were done over the image a, which is b after them, from a world just loaded, and their text
+-- was printed; an open gate undone, b has the map of the state to which they led, in which the opener isn't live. The
+-- whole report, with the lines of what isn't done behind it, is lawful from the map of a on. Stops meanwhile leave what
+-- is said of the lines from that world on, and logs heard of them what is said.
 pub record SessionOver (f : Form) (options : Options) (a : List ℕ) (orders : List Order) (b : List ℕ) (told : Bool) (before now : List ℕ) (Stops : State → List LawLine → Type 0)
     (Hears : List Line → Type 0) : Type 0 where
   pub old : State
@@ -84,8 +85,8 @@ pub record SessionOver (f : Form) (options : Options) (a : List ℕ) (orders : L
   pub stops : Stops old (law_lines lines)
   pub heard : Hears lines
 
--- The parts of a session came to a state, and a front of their text was printed. The lines so far are lawful. Stops meanwhile
--- leave what is said of these lines, and logs heard of them what is said.
+-- The parts of a session came to a state, and a front of their text was printed. The lines so far are lawful. Stops
+-- meanwhile leave what is said of these lines, and logs heard of them what is said.
 pub record SessionCame (f : Form) (options : Options) (a : List ℕ) (orders : List Order) (new : State) (told : Bool) (before now : List ℕ) (Stops : State → List LawLine → Type 0)
     (Hears : List Line → Type 0) : Type 0 where
   pub old : State
@@ -99,14 +100,15 @@ pub record SessionCame (f : Form) (options : Options) (a : List ℕ) (orders : L
   pub stops : Stops old (law_lines lines)
   pub heard : Hears lines
 
--- The text begins by asking for orders, and a session of them came so far; an open gate undone, the image b has the map of
--- the state to which it came.
+-- The text begins by asking for orders, and a session of them came so far; an open gate undone, the image b has the map
+-- of the state to which it came.
 abbrev pub CameSo : Form → Options → List ℕ → List ℕ → Bool → List ℕ → Bool → List ℕ → List ℕ → (State → List LawLine → Type 0) → (List Line → Type 0) → Type 0
 CameSo f options a b heard text told before now Stops Hears =
     (orders : List Order) × (IsTrue heard → BeginsBy text orders) × (new : State) × SessionCame f options a orders new told before now Stops Hears × IsReadAs f b new
 
--- A session over a file, from the moment of one history to that of another, by how it ended, with what stops meanwhile leave, and what logs
--- heard that were as the first and became as the second. Where the disk failed nothing is said of what is read of the file afterwards.
+-- A session over a file, from the moment of one history to that of another, by how it ended, with what stops meanwhile
+-- leave, and what logs heard that were as the first and became as the second. Where the disk failed nothing is said of
+-- what is read of the file afterwards.
 abbrev pub SessionRan : Form → Options → History → History → Bool → List ℕ → Bool → List ℕ → List ℕ → List Logged → List Logged → Result SessionEnd SessionFault → Type 0
 SessionRan f options h k heard text told before now logs later (Ok end) =
     (orders : List Order) × (IsTrue heard → Session text orders end)

@@ -88,9 +88,9 @@ fn write_line<K: Sink>(
     }
 }
 
-/// Writes what is printed of the replies that a report tells: the text of each and a newline; but where pairs are listed
-/// what a list writes of a pair, and nothing of the end. Each is written in one call. Where the output fails, or memory is
-/// wanting, a front of all that was written.
+/// Writes what is printed of the replies that a report tells: the text of each and a newline; but where pairs are
+/// listed what a list writes of a pair, and nothing of the end. Each is written in one call. Where the output fails, or
+/// memory is wanting, a front of all that was written.
 pub(crate) fn write_replies<K: Sink>(
     alloc: Global,
     report: &TurnReport,

@@ -88,8 +88,8 @@ fn list_move(moves: u32) -> Play
     })
 }
 
-/// Lists all pairs: takes First, and then Next up to a move that gives no pair, and prints each pair before the next move.
-/// Where the bytes of the file change by themselves a walk might never end: the list is cut off then.
+/// Lists all pairs: takes First, and then Next up to a move that gives no pair, and prints each pair before the next
+/// move. Where the bytes of the file change by themselves a walk might never end: the list is cut off then.
 fn take_list<D: Disk, K: Sink, L: Logs>(
     alloc: Global,
     world: &mut World,

@@ -830,7 +830,8 @@ module _ (before after status : ℕ) where
   turns_run options input output logs later old now (There name) out counted whole left = absurd left
   turns_run options input output logs later old now Usage out counted whole left = absurd left
 
-  -- which is as it was, or undone, where the status says neither that they were done, nor of a fault, nor of want of memory
+  -- which is as it was, or undone, where the status says neither that they were done, nor of a fault, nor of want of
+  -- memory
   turns_same : (options : Options) (old now : History) (t : Ending) → Exits status t → KeepsAll status → (status ≡ 5 → ⊥) → TurnsLeft options old t now → SameOrUndone old now
   turns_same options old now (Replied reply) out keeps five left = absurd (played_kept (played_exits reply left.0 out) keeps)
   turns_same options old now (Refused r) out keeps five left = opened_same options old now left

@@ -102,8 +102,8 @@ const AT_BIG_HEADS: Image = Image {
     ..NEW_BIG
 };
 
-/// A dead record of `a` behind the heads, and behind that, in the same chain, one of `a` with the value `3`, whose magic
-/// is missing.
+/// A dead record of `a` behind the heads, and behind that, in the same chain, one of `a` with the value `3`, whose
+/// magic is missing.
 const DEAD_RECORD: [Word; 15] = [
     (200, 696),
     (696, 728),
@@ -223,7 +223,8 @@ static CHECKS: [Checked; 21] = [
     (ONE, &[], 4084, 3, "corrupt ChainOut 200\n"),
     (ONE, &[(36, 0)], 4096, 3, "header NoBuckets\n"),
     (ONE, &[(200, 0)], 4096, 3, "corrupt Stray 4068\n"),
-    // Of two faults the first in order is told, and of two extents that share bytes the place where the later one begins.
+    // Of two faults the first in order is told, and of two extents that share bytes the place where the later one
+    // begins.
     (
         ONE,
         &[(200, 4066), (4060, 1)],

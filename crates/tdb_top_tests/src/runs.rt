@@ -24,7 +24,8 @@ pub(crate) enum Failing {
     Output(u64),
 }
 
-/// A command line: its words with blanks between them, its input, what fails in its run, its status, and what it prints.
+/// A command line: its words with blanks between them, its input, what fails in its run, its status, and what it
+/// prints.
 pub(crate) type Line<'a> = (&'a str, &'a str, Failing, u8, &'a str);
 
 /// Runs words with blanks between them.

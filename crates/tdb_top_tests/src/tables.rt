@@ -24,7 +24,8 @@ pub(crate) enum Left {
     Checks(&'static str),
 }
 
-/// Lines of which so many at a time run in turn, over files that are made anew for them, and what each such part leaves.
+/// Lines of which so many at a time run in turn, over files that are made anew for them, and what each such part
+/// leaves.
 pub(crate) struct Table {
     pub(crate) files: &'static [File],
     pub(crate) in_turn: usize,

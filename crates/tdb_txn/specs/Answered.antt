@@ -22,20 +22,21 @@ use Rattle.tdb_txn.specs.declared.refusal.TxnRefusal.{TxnRefusal}
 use Rattle.tdb_txn.specs.declared.refusal.TxnRefusal.TheVariants.{Full, Io, Memory}
 use Rattle.tdb_txn.specs.declared.txn.Txn.{Txn}
 
--- the transaction changes nothing in image r of the file: no byte outside its undo area and the word at 44, and not its length
+-- the transaction changes nothing in image r of the file: no byte outside its undo area and the word at 44, and not its
+-- length
 pub record ChangesNothing (txn : Txn) (r : List ℕ) : Type 0 where
   pub bytes : (e : Extent) → IsAreaExtent (form_of r).order r e → (i : ℕ) → Changed r (txn_image txn r) (txn_start txn) e i → ⊥
   pub size : txn_size txn ≡ txn_start txn
 
--- The undo area of image r in an extent is replaced: it is given up from the transaction's image to b, and image x is r with zeros there.
--- These are the runs from x to b.
+-- The undo area of image r in an extent is replaced: it is given up from the transaction's image to b, and image x is r
+-- with zeros there. These are the runs from x to b.
 pub record AreaReplaced (txn : Txn) (r : List ℕ) (e : Extent) (x b : List ℕ) (runs : List Extent) : Type 0 where
   pub given_up : AreaGivenUp (form_of r) (txn_image txn r) b e
   pub blanked : Blanked e r x
   pub changed : ChangedRuns x b (txn_start txn) (0, 0) runs
 
--- A new undo area is wanted, to bring image b into the file, with these runs from image x on: either r has none, and b is the
--- transaction's image; or the one that it has is too short for the content of all that changes, and is replaced.
+-- A new undo area is wanted, to bring image b into the file, with these runs from image x on: either r has none, and b
+-- is the transaction's image; or the one that it has is too short for the content of all that changes, and is replaced.
 pub data WantsArea (txn : Txn) (r x b : List ℕ) (runs : List Extent) : Type 0 where
   first : word (form_of r).order r area_head ≡ 0 → x ≡ r → b ≡ txn_image txn r → ChangedRuns r (txn_image txn r) (txn_start txn) (0, 0) runs → WantsArea txn r x b runs
   other : (e : Extent) (too_much : List Extent) → HasAreaIn (form_of r).order r e → ChangedRuns r (txn_image txn r) (txn_start txn) e too_much
@@ -69,8 +70,8 @@ PlaceRefused size limit runs (Full len need) = (len ≡ size) × (content_length
 PlaceRefused size limit runs Io = Unit {0}
 PlaceRefused size limit runs Memory = ⊥
 
--- The answer is right: there is nothing to commit just where nothing changes; a plan that is ready was made for that file; and a refusal
--- for want of room comes just where a new undo area is wanted and has no room.
+-- The answer is right: there is nothing to commit just where nothing changes; a plan that is ready was made for that
+-- file; and a refusal for want of room comes just where a new undo area is wanted and has no room.
 abbrev pub AnsweredRightly : Txn → ℕ → List ℕ → History → Result ToCommit TxnRefusal → Type 0
 AnsweredRightly txn limit r h (Ok Nothing) = ChangesNothing txn r
 AnsweredRightly txn limit r h (Ok (Ready planned)) = (ChangesNothing txn r → ⊥) × PlannedFor txn limit r h (planned_plan planned)
@@ -78,7 +79,8 @@ AnsweredRightly txn limit r h (Err (Full len need)) = (ChangesNothing txn r → 
 AnsweredRightly txn limit r h (Err Io) = Unit {0}
 AnsweredRightly txn limit r h (Err Memory) = Unit {0}
 
--- a file has these history and length where nothing was done for a commit, and the plan's length where its plan is ready
+-- a file has these history and length where nothing was done for a commit, and the plan's length where its plan is
+-- ready
 abbrev pub LeftFor : History → ℕ → History → ℕ → Result ToCommit TxnRefusal → Type 0
 LeftFor old size new now (Ok Nothing) = (new ≡ old) × (now ≡ size)
 LeftFor old size new now (Ok (Ready planned)) = now ≡ plan_length (planned_plan planned)

@@ -28,8 +28,8 @@ scheme_of plan = record {
 abbrev pub opened : Plan → List ℕ → List ℕ
 opened plan a = with_gate GATE_OPEN (scheme_of plan) a
 
--- The plan brings image b into the file: image a is the file with the old bytes in its undo area and the gate shut; both are accepted; and
--- where something is to be written, the pages over the file give the bytes of b.
+-- The plan brings image b into the file: image a is the file with the old bytes in its undo area and the gate shut;
+-- both are accepted; and where something is to be written, the pages over the file give the bytes of b.
 pub record Brings (plan : Plan) (a b : List ℕ) : Type 0 where
   pub before : Accept a
   pub after : Accept b

@@ -6,8 +6,8 @@ use Rattle.tdb_txn.specs.EndBelow.{EndBelow}
 use Rattle.tdb_txn.specs.declared.found.Found.{Found}
 use Rattle.tdb_words.specs.Header.{area_head}
 
--- Every byte below place n was looked at, and C says which count. These runs are done; and one may still go on, from one place up to
--- another, where there is none yet if the two are one place.
+-- Every byte below place n was looked at, and C says which count. These runs are done; and one may still go on, from
+-- one place up to another, where there is none yet if the two are one place.
 pub record Scanned (C : ℕ → Type 0) (done : List Extent) (from to n : ℕ) : Type 0 where
   pub order : InOrder 0 done
   pub ends : from ≤ to
@@ -23,7 +23,8 @@ pub record Scanned (C : ℕ → Type 0) (done : List Extent) (from to n : ℕ) :
 abbrev pub FoundSoFar : List ℕ → List ℕ → ℕ → Extent → Found → Type 0
 FoundSoFar a b old skip found = Scanned (Changed a b old skip) found.list found.from found.to found.next
 
--- the runs that are done end where the one that may go on does, or before; and that ends where the bytes that were looked at end, or before
+-- the runs that are done end where the one that may go on does, or before; and that ends where the bytes that were
+-- looked at end, or before
 pub record InPlace (found : Found) : Type 0 where
   pub done : EndBelow found.to found.list
   pub ends : found.from ≤ found.to

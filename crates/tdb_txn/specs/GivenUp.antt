@@ -16,13 +16,15 @@ pub record AreaZeroed (f : Form) (a c : List ℕ) (e : Extent) : Type 0 where
   pub inside : (i : ℕ) → 1 ≤ once e i → slice_index c i ≡ 0
   pub beside : (i : ℕ) → (i < area_head) ⊎ (area_head + 4 ≤ i) → once e i ≡ 0 → slice_index c i ≡ slice_index a i
 
--- from image c to image b an extent goes to the free list, where it has 28 bytes or more; a shorter one can be no record, and nothing changes
+-- from image c to image b an extent goes to the free list, where it has 28 bytes or more; a shorter one can be no
+-- record, and nothing changes
 pub data ExtentGiven (f : Form) (c b : List ℕ) (e : Extent) : Type 0 where
   given : 28 ≤ e.1 → Given f c b (free_of f c) (e.0, e.1 - 24) → ExtentGiven f c b e
   too_short : e.1 < 28 → b ≡ c → ExtentGiven f c b e
 
--- From image a of a transaction to image b its undo area in an extent is given up: that is dropped, and goes to the free list. Image b is
--- accepted with no undo area, has the header of a, and its chains hold the same pairs in the same order.
+-- From image a of a transaction to image b its undo area in an extent is given up: that is dropped, and goes to the
+-- free list. Image b is accepted with no undo area, has the header of a, and its chains hold the same pairs in the same
+-- order.
 pub record AreaGivenUp (f : Form) (a b : List ℕ) (e : Extent) : Type 0 where
   pub between : List ℕ
   pub zeroed : AreaZeroed f a between e

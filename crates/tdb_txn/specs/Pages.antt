@@ -22,7 +22,8 @@ abbrev pub byte_in : Option (List ℕ) → ℕ → ℕ → ℕ
 byte_in None place other = other
 byte_in (Some page) place other = slice_index page place
 
--- the byte at an offset: that of its page, or where there is none that of the file, which is 0 from the file's length on
+-- the byte at an offset: that of its page, or where there is none that of the file, which is 0 from the file's length
+-- on
 abbrev pub byte_over : List Page → List ℕ → ℕ → ℕ
 byte_over pages base i = byte_in (page_at pages (i / page_size)) (i % page_size) (slice_index base i)
 

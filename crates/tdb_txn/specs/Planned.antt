@@ -18,9 +18,9 @@ use Rattle.tdb_txn.specs.Pages.{byte_over}
 use Rattle.tdb_txn.specs.Stock.{page_list}
 use Rattle.tdb_txn.specs.declared.planned.Plan.{Plan}
 
--- The undo area is ready for its content: image a is the file with the gate shut, image b that of the transaction. The plan's numbers
--- are those of the area, which has room for the content; its runs are the changed bytes; from the old length on the file has zeros
--- outside the area; and b has the header of a.
+-- The undo area is ready for its content: image a is the file with the gate shut, image b that of the transaction. The
+-- plan's numbers are those of the area, which has room for the content; its runs are the changed bytes; from the old
+-- length on the file has zeros outside the area; and b has the header of a.
 pub record AwaitsContent (p : Scheme) (a b : List ℕ) : Type 0 where
   pub some : word (form_of a).order a area_head ≡ 0 → ⊥
   pub there : word (form_of a).order a area_head ≡ p.area
@@ -40,8 +40,9 @@ pub data RestsButGrown (r : List ℕ) (h : History) : Type 0 where
   rests : Quiet h → RestsButGrown r h
   grown : (old : History) (to : ℕ) → Quiet old → seen old ≡ r → to % 4 ≡ 0 → h ≡ called old (grew to) → RestsButGrown r h
 
--- The plan is to bring image b into the file, which was image r before the plan. Both are accepted. The file is still accepted with all
--- that r holds; its undo area is ready; and where something is to be written, the pages over the file give the bytes of b.
+-- The plan is to bring image b into the file, which was image r before the plan. Both are accepted. The file is still
+-- accepted with all that r holds; its undo area is ready; and where something is to be written, the pages over the file
+-- give the bytes of b.
 pub record IsPlannedOn (plan : Plan) (h : History) (r b : List ℕ) : Type 0 where
   pub before : Accept r
   pub after : Accept b

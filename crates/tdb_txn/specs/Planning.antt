@@ -12,13 +12,14 @@ use Rattle.tdb_txn.specs.Pages.{byte_over}
 use Rattle.tdb_txn.specs.Stock.{page_list}
 use Rattle.tdb_txn.specs.declared.planned.Plan.{Plan}
 
--- Image b of a transaction has of image r of the file what a transaction leaves: the bytes by which the header is known, the word at 44,
--- and the undo area.
+-- Image b of a transaction has of image r of the file what a transaction leaves: the bytes by which the header is
+-- known, the word at 44, and the undo area.
 pub record KeepsFront (r b : List ℕ) : Type 0 where
   pub front : (i : ℕ) → (i < sequence_at) ⊎ ((sequence_at + 4 ≤ i) × (i < known_length)) → slice_index b i ≡ slice_index r i
   pub undo_area : (i : ℕ) → 1 ≤ times (area (form_of r).order r) i → slice_index b i ≡ slice_index r i
 
--- The plan leads from image r of the file to image b of a transaction: both are accepted, with the plan's header and lengths.
+-- The plan leads from image r of the file to image b of a transaction: both are accepted, with the plan's header and
+-- lengths.
 pub record IsPlanFrom (plan : Plan) (r b : List ℕ) : Type 0 where
   pub before : Accept r
   pub after : Accept b
@@ -27,8 +28,8 @@ pub record IsPlanFrom (plan : Plan) (r b : List ℕ) : Type 0 where
   pub old : plan.old_length ≡ length r
   pub new : plan.new_length ≡ length b
 
--- The plan keeps the undo area of image r, which has room for the content: its runs are the bytes that change outside of it, and the pages
--- over r give b.
+-- The plan keeps the undo area of image r, which has room for the content: its runs are the bytes that change outside
+-- of it, and the pages over r give b.
 pub record KeepsArea (plan : Plan) (r b : List ℕ) : Type 0 where
   pub leads : IsPlanFrom plan r b
   pub keeps : KeepsFront r b
@@ -39,8 +40,9 @@ pub record KeepsArea (plan : Plan) (r b : List ℕ) : Type 0 where
   pub runs : ChangedRuns r b plan.old_length (plan.area, plan.area_length) plan.runs
   pub bytes : (i : ℕ) → i < length b → slice_index b i ≡ byte_over (page_list plan.pages) r i
 
--- The plan has a new undo area behind image b, which has none. Image x is r with nothing but zeros in the old one, where r has one. The runs
--- are the bytes that change from x to b, their content fits into the new area, and the pages over x give b.
+-- The plan has a new undo area behind image b, which has none. Image x is r with nothing but zeros in the old one,
+-- where r has one. The runs are the bytes that change from x to b, their content fits into the new area, and the pages
+-- over x give b.
 pub record PlacesArea (plan : Plan) (r x b : List ℕ) : Type 0 where
   pub leads : IsPlanFrom plan r b
   pub none : word (form_of r).order b area_head ≡ 0

@@ -44,7 +44,8 @@ txn_depth txn = txn.depth
 abbrev pub txn_doomed : Txn → Bool
 txn_doomed txn = txn.doomed
 
--- what no call of the view of it changes: how many transactions are open within it, and whether one was cancelled, as numbers
+-- what no call of the view of it changes: how many transactions are open within it, and whether one was cancelled, as
+-- numbers
 abbrev pub txn_level : Txn → List ℕ
 txn_level txn = txn.depth ∷ (if txn.doomed then 1 else 0) ∷ []
 

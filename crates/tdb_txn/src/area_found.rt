@@ -29,8 +29,8 @@ fn read_word<D: Disk>(d: &mut D, off: u64, order: Order) -> Result<u32, DiskFaul
     Ok(word_at(&bytes, order))
 }
 
-/// The extent of the undo area of an accepted file of `len` bytes: its offset, and its length with its header. Both are 0 where the
-/// file has none. It reads 8 bytes at most.
+/// The extent of the undo area of an accepted file of `len` bytes: its offset, and its length with its header. Both are
+/// 0 where the file has none. It reads 8 bytes at most.
 pub(crate) fn find_area<D: Disk>(d: &mut D, order: Order, len: u64) -> Result<(u32, u32), DiskFault>
     requires heads { 48 ≤ len }
     requires sized { D.size d.old ≡ len }

@@ -13,8 +13,8 @@ use crate::states::Planned;
 use tdb_disk::Disk;
 use tdb_space::Io;
 
-/// Makes the file as long as the transaction has it; its undo area stays. A stop leaves a file that opens to the map before the
-/// commit.
+/// Makes the file as long as the transaction has it; its undo area stays. A stop leaves a file that opens to the map
+/// before the commit.
 pub(crate) fn keep_area<D: Disk>(d: &mut D, plan: Plan) -> Result<Planned, Io>
     requires sized { D.size d.old ≡ plan.old_length }
     requires file { plan.file_length ≡ plan.new_length }

@@ -15,8 +15,8 @@ use tdb_disk::Disk;
 use tdb_space::Io;
 use tdb_undo::ensure;
 
-/// Places the new undo area of a plan behind the file, and makes the old one zero, where there is one. A stop leaves a file that
-/// opens to the map before the commit. It takes three syncs, and two more where there was an area.
+/// Places the new undo area of a plan behind the file, and makes the old one zero, where there is one. A stop leaves a
+/// file that opens to the map before the commit. It takes three syncs, and two more where there was an area.
 pub(crate) fn place_area<D: Disk>(d: &mut D, plan: Plan) -> Result<Planned, Io>
     requires sized { D.size d.old ≡ plan.old_length }
     requires behind { plan.area ≡ plan.new_length }

@@ -11,8 +11,8 @@ const MOST_CONTENT: u64 = 1 << 40;
 /// How many bytes the header of an undo area has.
 pub(crate) const AREA_HEADER: u32 = 24;
 
-/// How many bytes the content has for these runs: for each two words and its bytes, and at the end one word. It is at most the
-/// greatest number of 64 bits.
+/// How many bytes the content has for these runs: for each two words and its bytes, and at the end one word. It is at
+/// most the greatest number of 64 bits.
 pub(crate) fn content_len(runs: &Runs) -> u64
     ensures { result ≡ min (content_length runs.now) (2 ^ 64 - 1) }
 {
@@ -26,8 +26,8 @@ pub(crate) fn content_len(runs: &Runs) -> u64
     len
 }
 
-/// How many bytes a new undo area gets, with its header, for a content of so many bytes: a quarter more than that, in whole
-/// blocks of 4096 bytes.
+/// How many bytes a new undo area gets, with its header, for a content of so many bytes: a quarter more than that, in
+/// whole blocks of 4096 bytes.
 pub(crate) fn area_len(content: u64) -> u64
     requires { content < 2 ^ 62 }
     ensures length { result ≡ new_area_length content }

@@ -15,8 +15,8 @@ use tdb_undo::Runs;
 impl Txn {
     ghost use Rattle.tdb_txn.specs.Txn.{txn_pages, txn_start, txn_size, txn_image};
 
-    /// The runs of the bytes that it changed below the length that the file had at Start, outside an extent. Fails where the disk
-    /// fails or memory is wanting.
+    /// The runs of the bytes that it changed below the length that the file had at Start, outside an extent. Fails
+    /// where the disk fails or memory is wanting.
     pub(crate) fn changes<D: Disk>(&self, d: &mut D, skip: (u32, u32)) -> Result<Runs, TxnRefusal>
         requires sized { D.size d.old ≡ txn_start self.now }
         requires short { txn_start self.now < 2 ^ 32 }

@@ -22,8 +22,8 @@ const AREA_WORD: u32 = 44;
 
 const AREA_WORD_END: u32 = 48;
 
-/// Which bytes of a file are compared, and with what: those below `old_length`, outside the extent `skip`. Those in the extent
-/// `hole` count as zero in the file. An extent is an offset and a length; all are in bytes.
+/// Which bytes of a file are compared, and with what: those below `old_length`, outside the extent `skip`. Those in the
+/// extent `hole` count as zero in the file. An extent is an offset and a length; all are in bytes.
 #[derive(Clone, Copy)]
 pub(crate) struct Comparison {
     pub(crate) old_length: u32,
@@ -133,9 +133,9 @@ fn scan_page<D: Disk>(
     Ok(())
 }
 
-/// The runs of the bytes that change from the file to what the pages make of it: the greatest ones, with at most 8 bytes that stay
-/// between two that change in one run. It reads the file where there are pages, and only there: at most 4096 bytes for each. Fails
-/// where the disk fails or memory is wanting.
+/// The runs of the bytes that change from the file to what the pages make of it: the greatest ones, with at most 8
+/// bytes that stay between two that change in one run. It reads the file where there are pages, and only there: at most
+/// 4096 bytes for each. Fails where the disk fails or memory is wanting.
 pub(crate) fn find_runs<D: Disk>(
     alloc: Global,
     d: &mut D,

@@ -9,8 +9,8 @@ use tdb_undo::Runs;
 /// How many bytes may stay as they are between two that change, for both to lie in one run.
 const GAP: u32 = 8;
 
-/// The runs that were found so far: those that are done, and one that may still go on, from `from` up to `to`, which are equal
-/// where there is none yet. All bytes below `next` were looked at. Offsets are in bytes.
+/// The runs that were found so far: those that are done, and one that may still go on, from `from` up to `to`, which
+/// are equal where there is none yet. All bytes below `next` were looked at. Offsets are in bytes.
 #[derive(Drop)]
 pub(crate) struct Found {
     pub list: Runs,

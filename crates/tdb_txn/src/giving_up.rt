@@ -25,8 +25,8 @@ use tdb_space::{Hand, Io, Space};
 /// How many bytes the shortest record has.
 const LEAST_RECORD: u32 = 28;
 
-/// Drops an undo area, of which all bytes are zero: no word leads to it any more, and it goes to the free list, where it is long
-/// enough for a record.
+/// Drops an undo area, of which all bytes are zero: no word leads to it any more, and it goes to the free list, where
+/// it is long enough for a record.
 fn drop_area<S: Space>(s: &mut S, area: (u32, u32)) -> Result<(), Io>
     requires heads { 48 ≤ S.size s.old }
     requires place { CanHold (S.size s.old) area }
@@ -134,8 +134,8 @@ impl Txn {
         Ok(())
     }
 
-    /// Gives up the undo area that the file has in an extent: its bytes become zero, and where they are enough for a record, that
-    /// goes to the free list. All pages of the extent are there then. Nothing is written to the file.
+    /// Gives up the undo area that the file has in an extent: its bytes become zero, and where they are enough for a
+    /// record, that goes to the free list. All pages of the extent are there then. Nothing is written to the file.
     pub(crate) fn give_up<D: Disk>(&mut self, d: &mut D, area: (u32, u32)) -> Result<(), TxnRefusal>
         requires sized { D.size d.old ≡ txn_start self.old }
         requires heads { 48 ≤ txn_start self.old }

@@ -23,8 +23,8 @@ impl Txn {
     ghost use Rattle.tdb_txn.specs.Committing.{MayKeep, MayPlace};
     ghost use Rattle.tdb_txn.specs.Txn.{txn_start, txn_size, txn_image};
 
-    /// Plans its commit into the undo area that the file has in an extent, with room for the content of these runs, and makes the
-    /// file as long as the transaction has it. A stop leaves a file that opens to the map before the commit.
+    /// Plans its commit into the undo area that the file has in an extent, with room for the content of these runs, and
+    /// makes the file as long as the transaction has it. A stop leaves a file that opens to the map before the commit.
     pub(crate) fn keep<D: Disk>(
         self,
         d: &mut D,
@@ -59,9 +59,9 @@ impl Txn {
         Ok(keep_area(d, plan)?)
     }
 
-    /// Plans its commit into a new undo area of `length` bytes, with its header, behind what the transaction has of the file,
-    /// places that area, and makes the old one zero, where there is one. A stop leaves a file that opens to the map before the
-    /// commit. It takes three syncs, and two more where the file has an undo area.
+    /// Plans its commit into a new undo area of `length` bytes, with its header, behind what the transaction has of the
+    /// file, places that area, and makes the old one zero, where there is one. A stop leaves a file that opens to the
+    /// map before the commit. It takes three syncs, and two more where the file has an undo area.
     pub(crate) fn place<D: Disk>(self, d: &mut D, length: u32, runs: Runs) -> Result<Planned, Io>
         requires sized { D.size d.old ≡ txn_start self }
         requires heads { 48 ≤ txn_start self }

@@ -35,8 +35,8 @@ impl Txn {
     ghost use Rattle.tdb_txn.specs.Committing.{MayCommit, MayPlace, HasAreaIn};
     ghost use Rattle.tdb_txn.specs.Txn.{txn_start, txn_size, txn_image, txn_depth, txn_doomed};
 
-    /// Plans its commit into a new undo area behind what the transaction has of the file, and places that area. The file may get
-    /// `limit` bytes. `Full` comes before any call that changes the file, and no memory is taken.
+    /// Plans its commit into a new undo area behind what the transaction has of the file, and places that area. The
+    /// file may get `limit` bytes. `Full` comes before any call that changes the file, and no memory is taken.
     fn place_new<D: Disk>(self, d: &mut D, limit: u64, runs: Runs) -> Result<Planned, TxnRefusal>
         requires sized { D.size d.old ≡ txn_start self }
         requires heads { 48 ≤ txn_start self }
@@ -69,8 +69,8 @@ impl Txn {
         Ok(self.place(d, need as u32, runs)?)
     }
 
-    /// Plans its commit into a new undo area in place of the one that the file has in an extent, which is given up. `Full` and
-    /// `Memory` come before any call that changes the file.
+    /// Plans its commit into a new undo area in place of the one that the file has in an extent, which is given up.
+    /// `Full` and `Memory` come before any call that changes the file.
     fn replace<D: Disk>(
         mut self,
         d: &mut D,
@@ -108,14 +108,16 @@ impl Txn {
         self.place_new(d, limit, runs)
     }
 
-    /// Plans its commit: compares it with the file, and sees to the undo area, which is kept where it has room for what the commit
-    /// writes over, and else is a new one behind the transaction's end, in place of the old one. The file may get `limit` bytes.
+    /// Plans its commit: compares it with the file, and sees to the undo area, which is kept where it has room for what
+    /// the commit writes over, and else is a new one behind the transaction's end, in place of the old one. The file
+    /// may get `limit` bytes.
     ///
-    /// `Nothing` comes just where no byte changes, outside the undo area and the word that leads to it, and the length doesn't;
-    /// `Full` just where a new undo area is wanted and with it the file would pass the limit. With these and with `Memory` nothing is
-    /// changed. A stop leaves a file that opens to the map before the commit. It takes no sync where the area is kept, three where a
-    /// first one is placed, five where the file has another one. It reads the file where the transaction has pages, and takes time
-    /// linear in these and in the length of an undo area that is replaced.
+    /// `Nothing` comes just where no byte changes, outside the undo area and the word that leads to it, and the length
+    /// doesn't; `Full` just where a new undo area is wanted and with it the file would pass the limit. With these and
+    /// with `Memory` nothing is changed. A stop leaves a file that opens to the map before the commit. It takes no sync
+    /// where the area is kept, three where a first one is placed, five where the file has another one. It reads the
+    /// file where the transaction has pages, and takes time linear in these and in the length of an undo area that is
+    /// replaced.
     pub fn plan<D: Disk>(self, d: &mut D, limit: u64) -> Result<ToCommit, TxnRefusal>
         requires depth { txn_depth self ≡ 0 }
         requires whole { txn_doomed self ≡ false }

@@ -94,7 +94,8 @@ impl Prepared {
         Ok(Applied { plan })
     }
 
-    /// Shuts the gate with nothing written, and syncs: the commit is given up. A stop leaves a file that opens to the map before it.
+    /// Shuts the gate with nothing written, and syncs: the commit is given up. A stop leaves a file that opens to the
+    /// map before it.
     pub fn undo<D: Disk>(self, d: &mut D) -> Result<(), Io>
         requires { D.size d.old ≡ plan_length (prepared_plan self) }
         ensures stops { IsTrue D.tells → (a b : List ℕ) → IsPrepared (prepared_plan self) (D.history d.old) a b → LeavesOnly (D.history d.old) (D.history d.new) (Reopens a) }
@@ -145,7 +146,8 @@ impl Settled {
     ghost use Rattle.tdb_txn.specs.Commit.{IsSettled, IsFinished};
     ghost use Rattle.tdb_txn.specs.CommitStates.{settled_plan, plan_length};
 
-    /// Shuts the gate, and syncs: the commit is done. A stop leaves a file that opens to the map before the commit or to that after it.
+    /// Shuts the gate, and syncs: the commit is done. A stop leaves a file that opens to the map before the commit or
+    /// to that after it.
     pub fn finish<D: Disk>(self, d: &mut D) -> Result<(), Io>
         requires { D.size d.old ≡ plan_length (settled_plan self) }
         ensures stops { IsTrue D.tells → (a b : List ℕ) → IsSettled (settled_plan self) (D.history d.old) a b → LeavesOnly (D.history d.old) (D.history d.new) (λ c. Reopens a c ⊎ Reopens b c) }

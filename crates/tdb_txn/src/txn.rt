@@ -125,7 +125,8 @@ impl Txn {
         self.depth -= 1;
     }
 
-    /// Cancels the innermost transaction within it. What that wrote stays, and so the whole can't be committed any more.
+    /// Cancels the innermost transaction within it. What that wrote stays, and so the whole can't be committed any
+    /// more.
     pub fn inner_cancel(&mut self)
         requires { 0 < txn_depth self.old }
         ensures depth { txn_depth self.new + 1 ≡ txn_depth self.old }
@@ -136,8 +137,8 @@ impl Txn {
         self.doomed = true;
     }
 
-    /// Makes room for so many writes of so many bytes in all, and for growths by up to a quarter of the length, these bytes
-    /// and 4096 more. Fails only for want of memory.
+    /// Makes room for so many writes of so many bytes in all, and for growths by up to a quarter of the length, these
+    /// bytes and 4096 more. Fails only for want of memory.
     pub(crate) fn ready(&mut self, writes: u32, bytes: u64) -> Result<(), AllocError>
         ensures room { OnOk result (IsReady (txn_spare self.new) (txn_size self.old) writes bytes) }
         ensures pages { txn_pages self.new ≡ txn_pages self.old }

@@ -1,4 +1,5 @@
--- What a turn of a command on the transaction, or inside one, makes of the numbers, and of whether the world is settled.
+-- What a turn of a command on the transaction, or inside one, makes of the numbers, and of whether the world is
+-- settled.
 use Rattle.std.proofs.Common.{◌≡◌, ℕ, ◌+◌, Bool, true, false, Option, Some, None, refl, ap, ◌∙◌}
 use Rattle.std.specs.Prelude.{◌&&◌, if◌then◌else◌}
 use Rattle.std.proofs.Math.Bool.{and-false}

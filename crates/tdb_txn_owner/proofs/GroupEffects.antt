@@ -1,4 +1,5 @@
--- What the turns of a Start, a Prepare and a Commit do to the file's map, its number and the opener, in the words of the law.
+-- What the turns of a Start, a Prepare and a Commit do to the file's map, its number and the opener, in the words of
+-- the law.
 use Rattle.std.proofs.Common.{◌≡◌, ℕ, ◌+◌, ◌≤◌, Bool, true, false, nat_lt, ◌==◌, Option, Some, None, refl, sym, ap, ◌∙◌, inl, inr, ◌⊎◌, arith}
 use Rattle.std.specs.Prelude.{◌&&◌, if◌then◌else◌}
 use Rattle.std.proofs.lemmas.Bool.{cases_Bool, eq-eqb, ne_eqb, cases_eq}

@@ -1,4 +1,5 @@
--- The turns by which a transaction that is open ends, or begins to be committed or prepared, as turns of the opener aside.
+-- The turns by which a transaction that is open ends, or begins to be committed or prepared, as turns of the opener
+-- aside.
 use Rattle.std.proofs.Common.{◌≡◌, ◌≢◌, ℕ, ◌+◌, List, Bool, true, false, None, Some, refl, sym, ◌∙◌, ap, subst, arith}
 use Rattle.std.specs.Prelude.{◌<◌, ◌&&◌, if◌then◌else◌, nat_lt, not, Option, IfSome}
 use Rattle.std.proofs.lemmas.Bool.Decides.{nat_tests}
@@ -233,7 +234,8 @@ stay_records t Names.EndWalk inside = refl
 stay_records t Names.Check inside = refl
 stay_records t Names.Seqnum inside = refl
 
--- what is known of the file before the first turn of an outer Commit or Prepare, of a transaction in which something was changed, or nothing
+-- what is known of the file before the first turn of an outer Commit or Prepare, of a transaction in which something
+-- was changed, or nothing
 pub knows_first : (f : Form) (h : History) (old : OpenTxn) (command : Given) (k : Known) → KnowsFile f (At.Open old (Some command)) h k → (b : Bool) → KnowsStage (if b then Begun old.own.txn else Unchanged) h k.file k.image
 knows_first f h old command k K true = K.at.0
 knows_first f h old command k K false = ready_rests old.own.txn h k.file k.image K.at.0

@@ -113,8 +113,8 @@ module _ (f : Form) (r c : List ℕ) (O : OpensIn f r c) where
       subst (λ i. Reopens i c) undone
       (record { opens = record { opens = O.reopens.opens.opens; holds = λ key. refl }; again = O.reopens.again; sequence = refl })
 
--- The states of a commit: the file has the form of what is written, and opens to the map of what was there. With the gate open so does
--- whatever is written within the plan.
+-- The states of a commit: the file has the form of what is written, and opens to the map of what was there. With the
+-- gate open so does whatever is written within the plan.
 pub open_in : (plan : Plan) (x y c : List ℕ) → Brings plan x y → Within (scheme_of plan) (opened plan x) c → OpensIn (form_of y) x c
 open_in plan x y c brings W = record {
   form = within_form (scheme_of plan) x y c brings.before brings.after brings.planned W ∙ sym (form_kept x y brings.planned.header);

@@ -1,4 +1,5 @@
--- Inside a transaction no command is told that it is busy, so that the reply in the law's words is the same by both tables.
+-- Inside a transaction no command is told that it is busy, so that the reply in the law's words is the same by both
+-- tables.
 use Rattle.std.proofs.Common.{◌≡◌, ℕ, List, Bool, true, false, Option, Some, None, refl, ◌∙◌, ap, arith}
 use Rattle.std.specs.Prelude.{if◌then◌else◌}
 use Rattle.std.specs.FinMap.{get, empty}

@@ -1,5 +1,5 @@
--- The turns that begin and end a transaction are turns of the opener aside, by what the machines of `tdb_txn_turns` promise of one turn; and
--- so is each turn of a command inside a transaction, by what `tdb_txn_turns` says of it.
+-- The turns that begin and end a transaction are turns of the opener aside, by what the machines of `tdb_txn_turns`
+-- promise of one turn; and so is each turn of a command inside a transaction, by what `tdb_txn_turns` says of it.
 use Rattle.std.specs.Prelude.{ℕ, ◌≡◌, ◌≢◌, ◌≤◌, ◌<◌, ◌&&◌, ◌==◌, List, [], Bool, true, false, Some, None, is_some, if◌then◌else◌}
 use Rattle.tdb_space.specs.Form.{Form}
 use Rattle.tdb_locks.specs.declared.piece.Piece.{Piece}
@@ -46,16 +46,16 @@ abbrev pub IsBlocked : Turn → Type 0
 IsBlocked (Blocked owner byte) = Unit {0}
 IsBlocked turn = ⊥
 
--- Before a turn the side has x and this task. No dead record waits for its cursor, and no other opener's locks conflict with what the turn
--- wants.
+-- Before a turn the side has x and this task. No dead record waits for its cursor, and no other opener's locks conflict
+-- with what the turn wants.
 pub record TurnBegins (f : Form) (table : ℕ → ℕ → ℕ) (s : Side) (x : Own) (t : Task) : Type 0 where
   pub own : s.own ≡ x
   pub task : s.task ≡ Some t
   pub keeps : s.view.must ≡ false
   pub free : IsFree table s.here (side_wants f s t)
 
--- After this turn of the task the same opener has y, and what is left of the task. Whether the world is settled, and the number of its
--- image are these; of all others' images the number stays.
+-- After this turn of the task the same opener has y, and what is left of the task. Whether the world is settled, and
+-- the number of its image are these; of all others' images the number stays.
 pub record TurnLeaves (old new : Past) (s z : Side) (t : Task) (turn : Turn) (y : Own) (is_settled : Bool) (image_number : ℕ) : Type 0 where
   pub here : z.here ≡ s.here
   pub own : z.own ≡ y
@@ -79,7 +79,8 @@ pub record IsOuter (f : Form) (x : Own) (t : Txn) (g : GroupCommand) : Type 0 wh
   pub outer : t.depth ≡ 1
   pub granted : refusal f (OnGroup g) x ≡ None
 
--- A Start, where the file has map m and number q: its end leaves a transaction on that map, with that number, and a settled world.
+-- A Start, where the file has map m and number q: its end leaves a transaction on that map, with that number, and a
+-- settled world.
 abbrev pub started : Turn → Own → Map → Own
 started (Ends Done) x m = record x { txn = Some (begun_txn x m) }
 started turn x m = x
@@ -92,8 +93,8 @@ abbrev pub start_number : Turn → ℕ → ℕ → ℕ
 start_number (Ends Done) q p = q
 start_number turn q p = p
 
--- Each turn of a Start that isn't blocked, of an opener that has no transaction and keeps no lock. It has no cursor, so of the mark of its
--- walk nothing is asked after the end.
+-- Each turn of a Start that isn't blocked, of an opener that has no transaction and keeps no lock. It has no cursor, so
+-- of the mark of its walk nothing is asked after the end.
 abbrev pub StartIsOwn : Type 0
 StartIsOwn = (f g : Form) (table : ℕ → ℕ → ℕ) (m : Map) (q len owner : ℕ) (old new : Past) (s z : Side) (x : Own) (start : Starting) (turn : StartTurn) (ps rs : List Piece)
     → let t = task_of (OnGroup Start) (start_steps start) in let u = start_turn turn in
@@ -112,8 +113,9 @@ pub record IsInFile (t : Txn) (p : ℕ) (m : Map) (q : ℕ) : Type 0 where
   pub map : t.image ≡ m
   pub number : t.numbered ≡ true → q ≡ p
 
--- What such a turn does to the file, which has map m and number q before it, and mm and qq after it: where it shuts the gate it brings the
--- image, and its number where changes count. A commit with a change is done where the image is in the file.
+-- What such a turn does to the file, which has map m and number q before it, and mm and qq after it: where it shuts the
+-- gate it brings the image, and its number where changes count. A commit with a change is done where the image is in
+-- the file.
 pub record CommitsFile (last n : ℕ) (turn : Turn) (t : Txn) (p : ℕ) (m mm : Map) (q qq : ℕ) : Type 0 where
   pub map : mm ≡ (if shuts last n turn then t.image else m)
   pub number : qq ≡ (if shuts last n turn && t.numbered then p else q)
@@ -124,8 +126,8 @@ abbrev pub committed : Turn → Own → Own
 committed (Ends r) x = ended x
 committed turn x = x
 
--- Each turn of an outer Commit that isn't blocked, of a transaction that isn't prepared; its eighth turn shuts the gate. It leaves no cursor
--- at its end.
+-- Each turn of an outer Commit that isn't blocked, of a transaction that isn't prepared; its eighth turn shuts the
+-- gate. It leaves no cursor at its end.
 abbrev pub CommitIsOwn : Type 0
 CommitIsOwn = (f : Form) (table : ℕ → ℕ → ℕ) (m mm : Map) (q qq owner : ℕ) (old new : Past) (s z : Side) (x : Own) (txn : Txn) (c : Committing) (turn : CommitTurn) (ps rs : List Piece)
     → let t = task_of (OnGroup Commit) (commit_steps c) in let u = commit_turn turn in
@@ -135,7 +137,8 @@ CommitIsOwn = (f : Form) (table : ℕ → ℕ → ℕ) (m mm : Map) (q qq owner 
     → TurnBegins f table s x t → TurnLeaves old new s z t u (committed u x) old.settled (old.numbers s.here) → (u ≡ Step → z.mark ≡ s.mark)
     → OwnTurned f table m mm q qq old new s z t u
 
--- A Prepare that is done leaves a prepared transaction, with the steps that it had; one without room or memory ends the transaction.
+-- A Prepare that is done leaves a prepared transaction, with the steps that it had; one without room or memory ends the
+-- transaction.
 abbrev pub prepared : Turn → Own → Txn → ℕ → Own
 prepared (Ends Done) x txn n = record x { txn = Some (record txn { prepared = Some n }) }
 prepared (Ends r) x txn n = ended x
@@ -194,7 +197,8 @@ pub record GoesOnHolding (f : Form) (table : ℕ → ℕ → ℕ) (s z : Side) :
   pub holds : (b : ℕ) → s.table b ≡ holding f s.own nowhere s.task b
   pub goes_on : (b : ℕ) → z.table b ≡ s.table b
 
--- A command inside a transaction, done in one turn, that does to the walk of the opener's own cursor what the law wants.
+-- A command inside a transaction, done in one turn, that does to the walk of the opener's own cursor what the law
+-- wants.
 abbrev pub InsideIsOwn : Type 0
 InsideIsOwn = (f : Form) (table : ℕ → ℕ → ℕ) (m : Map) (n q : ℕ) (old new : Past) (s z : Side) (x y : Own) (txn : Txn) (c : Command) (r : Reply)
     → let t = task_of c 0 in

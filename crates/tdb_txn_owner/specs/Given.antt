@@ -23,8 +23,8 @@ IsMapped (Given.Delete key) = Unit {0}
 IsMapped Given.Wipe = Unit {0}
 IsMapped _ = ⊥
 
--- A command that may leave the transaction open, where so many are open within it, but a Commit and a Prepare. The count of those within
--- it has room for a Start, and a Cancel ends one of them.
+-- A command that may leave the transaction open, where so many are open within it, but a Commit and a Prepare. The
+-- count of those within it has room for a Start, and a Cancel ends one of them.
 abbrev pub IsPlainInside : Command → ℕ → Type 0
 IsPlainInside Given.Start depth = depth < 2 ^ 32 - 1
 IsPlainInside Given.Cancel depth = 0 < depth

@@ -67,8 +67,8 @@ stage_gate (At.Prepared left command) = prepared_gate left
 stage_gate (At.Finishing s) = finish_gate s
 stage_gate _ = false
 
--- What a stop in the next turn may leave: a Start leaves what there is, and each other stage what opens to the map of the file before, but
--- for a Commit from the turn on that shuts the gate.
+-- What a stop in the next turn may leave: a Start leaves what there is, and each other stage what opens to the map of
+-- the file before, but for a Commit from the turn on that shuts the gate.
 abbrev pub StageMayLeave : Stage → History → Known → List ℕ → Type 0
 StageMayLeave (At.Starting s) h k c = Leaves h c
 StageMayLeave (At.Open txn command) h k c = Reopens k.file c

@@ -9,15 +9,16 @@ use Rattle.tdb_law.specs.Walks.{Lost, Shift}
 use Rattle.tdb_law.specs.OneAside.Sides.{Past, Side, alone, beside}
 use Rattle.tdb_law.specs.OneAside.Own.{OwnTurned, ShowsSide}
 
--- In this state the opener is as this side says, with its command too, and all else that is seen of the opener aside is so.
+-- In this state the opener is as this side says, with its command too, and all else that is seen of the opener aside is
+-- so.
 pub record Shows (w : State) (past : Past) (s : Side) : Type 0 where
   pub side : ShowsSide w s w.file
   pub task : w.task s.here ≡ s.task
   pub settled : w.settled ≡ past.settled
   pub numbers : (o : ℕ) → w.image_number o ≡ past.numbers o
 
--- From one state to the next every other opener keeps what it has, but for the marks of the walks, which shift by this turn; and no gate
--- stands open that somebody left by dying.
+-- From one state to the next every other opener keeps what it has, but for the marks of the walks, which shift by this
+-- turn; and no gate stands open that somebody left by dying.
 pub record OthersKeep (f : Form) (old new : State) (s : Side) (t : Task) (turn : Turn) : Type 0 where
   pub joined : new.joined ≡ old.joined
   pub task : (o : ℕ) → o ≢ s.here → new.task o ≡ old.task o

@@ -22,8 +22,9 @@ pub record HasOpen (o : Options) (t : OpenTxn) (base : List ℕ) (x : Own) : Typ
   pub counted : IsCounted t.held x
   pub cursor : x.cursor ≡ t.walk.shown
 
--- The turn of a command that leaves the transaction open: the opener is another one afterwards, and the turn is one of the law's, also by
--- what it does to the walk of the cursor, which rests again. The file stays, and the numbers are those of the file and of the images.
+-- The turn of a command that leaves the transaction open: the opener is another one afterwards, and the turn is one of
+-- the law's, also by what it does to the walk of the cursor, which rests again. The file stays, and the numbers are
+-- those of the file and of the images.
 pub record GoesOn (o : Options) (old new : OpenTxn) (base : List ℕ) (x : Own) (c : LawCommand) (r : Reply) : Type 0 where
   pub own : Own
   pub has : HasOpen o new base own

@@ -1,5 +1,5 @@
--- As what the file is read while a transaction is committed into it: as it was before, until the turn that shuts the gate, and from then on as
--- the transaction's image.
+-- As what the file is read while a transaction is committed into it: as it was before, until the turn that shuts the
+-- gate, and from then on as the transaction's image.
 use Rattle.std.specs.Prelude.{◌≡◌, ℕ, ◌<◌, ◌≤◌, List}
 use Rattle.tdb_disk.specs.History.{History, seen}
 use Rattle.tdb_space.specs.Form.{Form, form_of}
@@ -17,7 +17,8 @@ use Rattle.tdb_txn_turns.specs.declared.committing.Committing.{Committing}
 use Rattle.tdb_txn_turns.specs.declared.finishing.Finishing.{Finishing}
 use Rattle.tdb_txn_turns.specs.declared.preparing.PrepareStage.{PrepareStage}
 
--- the map and the sequence number of a file, by its history: where its gate is open, those that it has once it is undone
+-- the map and the sequence number of a file, by its history: where its gate is open, those that it has once it is
+-- undone
 abbrev pub file_map : Form → History → Map
 file_map f h = image_map f (restored f (seen h))
 
@@ -33,7 +34,8 @@ pub record IsReadAs (f : Form) (h : History) (img : List ℕ) : Type 0 where
 abbrev pub PrepareReads : Type 0
 PrepareReads = (f : Form) (s : PrepareStage) (h : History) (r b : List ℕ) → form_of r ≡ f → KnowsStage s h r b → IsReadAs f h r
 
--- So it is in a Commit until its eighth step, which shuts the gate; and from then on it is read as image b of the transaction.
+-- So it is in a Commit until its eighth step, which shuts the gate; and from then on it is read as image b of the
+-- transaction.
 abbrev pub CommitReads : Type 0
 CommitReads = (f : Form) (c : Committing) (h : History) (r b : List ℕ) → form_of r ≡ f → commit_steps c < 8 → KnowsCommit c h r b → IsReadAs f h r
 

@@ -1,4 +1,5 @@
--- What the state of an opener with a transaction refuses, by its options, its transaction, its explicit locks and its cursor.
+-- What the state of an opener with a transaction refuses, by its options, its transaction, its explicit locks and its
+-- cursor.
 use Rattle.std.specs.Prelude.{◌≡◌, ℕ, ◌+◌, Bool, true, false, ◌&&◌, not, nat_lt, ◌==◌, Option, None, Some, is_none, is_some, if◌then◌else◌}
 use Rattle.tdb_space.specs.Form.{Form}
 use Rattle.tdb_space.specs.Pairs.{home}

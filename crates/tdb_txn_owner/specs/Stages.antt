@@ -79,7 +79,8 @@ abbrev pub was_changed : PreparedTxn → Bool
 was_changed (Opened state) = true
 was_changed (Nothing changed) = changed
 
--- How it holds all records: the second step of a Start reads them, and the first of a Commit or a Prepare that has a change writes them.
+-- How it holds all records: the second step of a Start reads them, and the first of a Commit or a Prepare that has a
+-- change writes them.
 abbrev pub start_records : Starting → Option Kind
 start_records Starts.Begun = None
 start_records Starts.Claimed = None
@@ -177,8 +178,8 @@ pub record KnowsFile (f : Form) (stage : Stage) (h : History) (k : Known) : Type
   pub forms : HasForms f stage k
   pub reads : stage_records stage ≢ Some Write → seen h ≡ k.file
 
--- The numbers of the world are those of the images: that of the opener's image, where it has a transaction; where changes don't count there
--- the number stays that of the file.
+-- The numbers of the world are those of the images: that of the opener's image, where it has a transaction; where
+-- changes don't count there the number stays that of the file.
 pub record HasNumbers (f : Form) (k : Known) (number : ℕ) (x : Own) : Type 0 where
   pub image : (t : Txn) → x.txn ≡ Some t → number ≡ number_of f k.image
   pub still : (t : Txn) → x.txn ≡ Some t → t.numbered ≡ false → number_of f k.image ≡ number_of f k.file
@@ -188,7 +189,8 @@ abbrev pub MarkIs : Form → Known → Stage → Side → Type 0
 MarkIs f k (At.Open txn command) s = s.mark ≡ mark_in f k.image txn.walk
 MarkIs f k stage s = Unit {0}
 
--- The opener with this number, whose locks these are, at this stage: it is the side of a state. It is alone in its lock table.
+-- The opener with this number, whose locks these are, at this stage: it is the side of a state. It is alone in its lock
+-- table.
 pub record IsSide (f : Form) (o : Options) (owner : ℕ) (ps : List Piece) (stage : Stage) (k : Known) (past : Past) (s : Side) : Type 0 where
   pub here : owner ≡ s.here + 1
   pub alone : IsAlone owner ps

@@ -19,15 +19,16 @@ abbrev pub EndSyncs : PreparedTxn → ℕ → ℕ → Type 0
 EndSyncs (Opened state) before now = RoseUpTo 1 before now
 EndSyncs (Nothing changed) before now = now ≡ before
 
--- The turn of a command that is given then: a Cancel, a Close and another Prepare end it so; the first turn of a Commit makes no sync, nor
--- does a refusal.
+-- The turn of a command that is given then: a Cancel, a Close and another Prepare end it so; the first turn of a Commit
+-- makes no sync, nor does a refusal.
 abbrev pub PreparedSyncs : PreparedTxn → Option Command → ℕ → ℕ → Type 0
 PreparedSyncs left (Some Given.Cancel) before now = EndSyncs left before now
 PreparedSyncs left (Some Given.Close) before now = EndSyncs left before now
 PreparedSyncs left (Some Given.Prepare) before now = EndSyncs left before now
 PreparedSyncs left command before now = now ≡ before
 
--- A Start syncs once at most. Inside its transaction the opener's commands make none, nor does the first turn of a Commit or a Prepare.
+-- A Start syncs once at most. Inside its transaction the opener's commands make none, nor does the first turn of a
+-- Commit or a Prepare.
 abbrev pub TurnSyncs : Stage → ℕ → ℕ → Type 0
 TurnSyncs (At.Starting s) before now = RoseUpTo 1 before now
 TurnSyncs (At.Open txn command) before now = now ≡ before

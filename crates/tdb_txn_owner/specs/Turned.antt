@@ -32,7 +32,8 @@ pub record MayTurn (f : Form) (table : ℕ → ℕ → ℕ) (s : Side) (t : Task
   pub in_table : (b : ℕ) → table s.here b ≡ s.table b
   pub free : IsFree table s.here (side_wants f s t)
 
--- The last turn of a Start is taken on an accepted file of this form, on which no other opener is in the middle of a change.
+-- The last turn of a Start is taken on an accepted file of this form, on which no other opener is in the middle of a
+-- change.
 abbrev pub BeginsOn : Form → Stage → List ℕ → Type 0
 BeginsOn f (At.Starting Reading) file = AcceptWith f file []
 BeginsOn f stage file = Unit {0}
@@ -44,7 +45,8 @@ pub record RestsLike (f : Form) (h : History) (r : List ℕ) : Type 0 where
   pub map : image_map f (seen h) ≡ image_map f r
   pub number : number_of f (seen h) ≡ number_of f r
 
--- The opener has no transaction any more. It has no explicit lock and no cursor, and holds nothing; it is live, unless it has ended.
+-- The opener has no transaction any more. It has no explicit lock and no cursor, and holds nothing; it is live, unless
+-- it has ended.
 pub record IsBackAs (o : Options) (stays : Bool) (owner : ℕ) (ps : List Piece) (s : Side) : Type 0 where
   pub here : owner ≡ s.here + 1
   pub alone : IsAlone owner ps
@@ -66,8 +68,8 @@ KnowsLeft f (At.Starting s) None old new k = new ≡ old
 KnowsLeft f before None old new k = RestsLike f new k.file × (stage_records before ≢ Some Write → new ≡ old)
 KnowsLeft f before (Some stage) old new k = KnowsFile f stage new k
 
--- The image that the file is read as stays by a turn; or the turn shuts the gate of a Commit, and the transaction's image, which is accepted,
--- takes its place.
+-- The image that the file is read as stays by a turn; or the turn shuts the gate of a Commit, and the transaction's
+-- image, which is accepted, takes its place.
 pub data KeepsFile (f : Form) (s : Side) (t : Task) (turn : Turn) (old new : Known) : Type 0 where
   keeps : new.file ≡ old.file → KeepsFile f s t turn old new
   brings : (txn : Txn) → t.command ≡ OnGroup Commit → turn ≡ Step → s.own.txn ≡ Some txn → txn.image ≡ image_map f old.image → is_changed f t.command s.own (t.steps + 1) ≡ true
@@ -78,8 +80,8 @@ abbrev pub IsStill : Form → Side → Task → Option Stage → Type 0
 IsStill f s t None = moves f t.command s.own ≡ false
 IsStill f s t (Some stage) = Unit {0}
 
--- A turn from side s, at a stage with what is known of the file, to another side and stage, in a file that had one history and has the other:
--- it is a turn of the law by itself.
+-- A turn from side s, at a stage with what is known of the file, to another side and stage, in a file that had one
+-- history and has the other: it is a turn of the law by itself.
 pub record StageTurned (f : Form) (o : Options) (table : ℕ → ℕ → ℕ) (owner : ℕ) (rs : List Piece) (before : Stage) (after : Option Stage) (old new : History) (k : Known) (past : Past) (s : Side) (t : Task) (turn : Turn) : Type 0 where
   pub known : Known
   pub later : Past

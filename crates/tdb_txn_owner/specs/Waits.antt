@@ -1,4 +1,5 @@
--- When a turn of the opener aside is blocked: by the locks of the others, and never by its own lock table, in which it is alone.
+-- When a turn of the opener aside is blocked: by the locks of the others, and never by its own lock table, in which it
+-- is alone.
 use Rattle.std.specs.Prelude.{ℕ, ◌≡◌, ◌≢◌, Bool, true, false, List, [], Some}
 use Rattle.tdb_space.specs.Form.{Form}
 use Rattle.tdb_locks.specs.declared.piece.Piece.{Piece}
@@ -19,8 +20,8 @@ use Rattle.tdb_law.specs.OneAside.Own.{OwnTurned, side_wants}
 use Rattle.tdb_law.specs.OneAside.Sides.{Past, Side}
 use Rattle.tdb_txn_owner.specs.Ends.{IsBlocked}
 
--- A turn that the first conflict with others' locks stands in the way of is blocked by it: all stays as it is. The file doesn't have the
--- command's change yet.
+-- A turn that the first conflict with others' locks stands in the way of is blocked by it: all stays as it is. The file
+-- doesn't have the command's change yet.
 abbrev pub BlockIsOwn : Type 0
 BlockIsOwn = (f : Form) (table : ℕ → ℕ → ℕ) (m : Map) (q : ℕ) (past : Past) (s : Side) (t : Task) (o byte : ℕ)
     → s.task ≡ Some t → s.view.must ≡ false → waits t.command ≡ true → is_changed f t.command s.own t.steps ≡ false → ((b : ℕ) → s.table b ≡ holding f s.own nowhere s.task b)

@@ -50,7 +50,8 @@ abbrev pub commit_wants : Committing → Wants
 commit_wants (Preparing p) = plan_wants p.numbered p.stage
 commit_wants (Finishing s) = Wants.Nothing
 
--- The first turn of a Commit or a Prepare takes all records where the transaction is the outer one, and was changed, and it isn't refused.
+-- The first turn of a Commit or a Prepare takes all records where the transaction is the outer one, and was changed,
+-- and it isn't refused.
 abbrev pub plans_open : OpenTxn → Bool
 plans_open t = not (txn_doomed t.own.txn) && (not (nat_lt 0 (txn_depth t.own.txn)) && (not (nat_lt 0 (total_of t.held)) && t.own.changed))
 

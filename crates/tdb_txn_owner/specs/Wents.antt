@@ -63,8 +63,8 @@ abbrev pub finish_went : FinishTurn → Went
 finish_went (Finishes.Step next) = goes_on Turn.Step (At.Finishing next)
 finish_went Finishes.Done = is_over Reply.Ok
 
--- A Start: with its end the transaction is there, whose changes raise the sequence number or not, in which nothing is counted, and with no
--- cursor.
+-- A Start: with its end the transaction is there, whose changes raise the sequence number or not, in which nothing is
+-- counted, and with no cursor.
 abbrev pub StartWent : Bool → Starting → StartTurn → Went → Type 0
 StartWent numbered s (Starts.Step next) went = went ≡ goes_on Turn.Step (At.Starting next)
 StartWent numbered s (Starts.Blocked owner byte) went = went ≡ goes_on (Turn.Blocked owner byte) (At.Starting s)
@@ -72,7 +72,8 @@ StartWent numbered s Starts.Memory went = went ≡ is_over Reply.Memory
 StartWent numbered s (Starts.Done txn) went =
     (t : OpenTxn) × (t.own ≡ record { txn = txn; changed = false; numbered = numbered }) × (t.held ≡ nothing_held) × (t.walk.cursor ≡ rested Nowhere) × (t.walk.shown ≡ None) × (went ≡ goes_on (Turn.Done Reply.Ok) (At.Open t None))
 
--- A turn from this stage is one of the opener aside, whatever its state and what is known of the file, which had one history and has the other.
+-- A turn from this stage is one of the opener aside, whatever its state and what is known of the file, which had one
+-- history and has the other.
 abbrev pub TurnsFrom : Form → Options → ℕ → List Piece → List Piece → Stage → Went → History → History → Type 0
 TurnsFrom f o owner ps rs stage went h new =
     (table : ℕ → ℕ → ℕ) (k : Known) (past : Past) (s : Side) (t : Task) → IsSide f o owner ps stage k past s → KnowsFile f stage h k → stage_task stage ≡ Some t → MayTurn f table s t

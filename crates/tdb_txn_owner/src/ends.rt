@@ -23,9 +23,9 @@ pub fn ends_are_own()
     ensures close { CloseIsOwn }
 {}
 
-/// So is the one turn of each other command inside a transaction, by what `tdb_txn_turns` says of it, where it does to the
-/// walk of the opener's own cursor what the law wants; one that is no move does so where the walk shifts. The laws are
-/// over all openers and commands; the function does nothing.
+/// So is the one turn of each other command inside a transaction, by what `tdb_txn_turns` says of it, where it does to
+/// the walk of the opener's own cursor what the law wants; one that is no move does so where the walk shifts. The laws
+/// are over all openers and commands; the function does nothing.
 pub fn inside_is_own()
     ensures turned { InsideIsOwn }
     ensures walks { WalkShifts }

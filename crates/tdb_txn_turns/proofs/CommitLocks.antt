@@ -21,7 +21,8 @@ may_write turn start end owner ps b some = elim (cases_Bool (covers (lock turn s
   | inr never ↦ absurd (let e : want_of (lock turn start end 2) b ≡ 0 = rw never refl in omega (arith, some, e))
 ]
 
--- the first turn wants all records, the second the opening lock, and the sequence number's too where that counts; the others nothing
+-- the first turn wants all records, the second the opening lock, and the sequence number's too where that counts; the
+-- others nothing
 pub first_wants : (numbered : Bool) (b : ℕ) → locked_next (commit_locks numbered) 0 b ≡ want_of (lock_all 0 2) b
 first_wants true b = omega arith
 first_wants false b = omega arith

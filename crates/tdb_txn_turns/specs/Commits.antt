@@ -8,8 +8,8 @@ use Rattle.tdb_space.specs.Form.{form_of, SameHeader}
 use Rattle.tdb_space.specs.Pairs.{order_of}
 use Rattle.tdb_space.specs.Undoing.{Reopens}
 
--- Image x stands for image b of the transaction: it is accepted, and has the header of b, its sequence number, and its pairs in their
--- order. It is b, or b without an undo area that was too short for the commit.
+-- Image x stands for image b of the transaction: it is accepted, and has the header of b, its sequence number, and its
+-- pairs in their order. It is b, or b without an undo area that was too short for the commit.
 pub record StandsFor (b x : List ℕ) : Type 0 where
   pub accepted : Accept x
   pub header : SameHeader b x
@@ -22,8 +22,9 @@ pub record OpensAs (b c : List ℕ) : Type 0 where
   pub stands : StandsFor b image
   pub opens : Reopens image c
 
--- A commit from image r of the file to image b of the transaction has come to a state, which speaks of an image of the file and of one that is written:
--- what opens to the map of the first opens to that of r, and the second stands for b. Image b is accepted, and has the header of r.
+-- A commit from image r of the file to image b of the transaction has come to a state, which speaks of an image of the
+-- file and of one that is written: what opens to the map of the first opens to that of r, and the second stands for b.
+-- Image b is accepted, and has the header of r.
 pub record Carries (State : History → List ℕ → List ℕ → Type 0) (h : History) (r b : List ℕ) : Type 0 where
   pub before : List ℕ
   pub after : List ℕ

@@ -28,7 +28,8 @@ commit_turn (Full len need) = Turn.Ends (Reply.Full len need)
 commit_turn Memory = Turn.Ends Reply.Memory
 commit_turn Done = Turn.Ends Reply.Done
 
--- what a turn of a Prepare makes of a Commit: where that is done the gate is open, and where it finds nothing the Commit is done
+-- what a turn of a Prepare makes of a Commit: where that is done the gate is open, and where it finds nothing the
+-- Commit is done
 abbrev pub commit_after : PrepareTurn → CommitTurn
 commit_after (To.Step next) = Step (Preparing next)
 commit_after (To.Blocked owner byte again) = Blocked owner byte (Preparing again)
@@ -67,7 +68,8 @@ abbrev pub CommitMayLeave : Committing → List ℕ → List ℕ → List ℕ �
 CommitMayLeave (Preparing p) r b c = Reopens r c
 CommitMayLeave (Finishing s) r b c = MayLeave s r b c
 
--- it has come to its end: nothing was changed in its transaction, or the plan found nothing to commit, or the gate is shut
+-- it has come to its end: nothing was changed in its transaction, or the plan found nothing to commit, or the gate is
+-- shut
 pub data CanEnd (c : Committing) : Type 0 where
   unchanged : (numbered : Bool) → c ≡ Preparing (record { numbered = numbered; stage = Unchanged }) → CanEnd c
   planned : commit_steps c ≡ 2 → CanEnd c
@@ -91,8 +93,8 @@ abbrev pub CommitFull : Committing → ℕ → List ℕ → History → ℕ → 
 CommitFull (Preparing p) limit r h len need = FullRightly p.stage limit r h len need
 CommitFull (Finishing s) limit r h len need = ⊥
 
--- What a turn does to the file. It is done with no call, where the file opens to the map of image b already: that is r where nothing was to
--- be committed.
+-- What a turn does to the file. It is done with no call, where the file opens to the map of image b already: that is r
+-- where nothing was to be committed.
 abbrev pub CommitMade : ℕ → List ℕ → List ℕ → History → History → Committing → CommitTurn → Type 0
 CommitMade limit r b old new c (Step next) = KnowsCommit next new r b
 CommitMade limit r b old new c (Blocked owner byte again) = new ≡ old

@@ -34,7 +34,8 @@ FinishFits (Applied state) size = size ≡ plan_length (applied_plan state)
 FinishFits (Settled state) size = size ≡ plan_length (settled_plan state)
 FinishFits Shut size = Unit {0}
 
--- The commit is done but for its end: a stop leaves the file as it is, and it is accepted, in the form of the transaction's image b, and opens to the map of that.
+-- The commit is done but for its end: a stop leaves the file as it is, and it is accepted, in the form of the
+-- transaction's image b, and opens to the map of that.
 pub record IsShut (h : History) (b : List ℕ) : Type 0 where
   pub quiet : Quiet h
   pub accepted : AcceptWith (form_of b) (seen h) []
@@ -47,8 +48,8 @@ KnowsFinish (Applied state) h r b = Carries (IsApplied (applied_plan state)) h r
 KnowsFinish (Settled state) h r b = Carries (IsSettled (settled_plan state)) h r b
 KnowsFinish Shut h r b = IsShut h b
 
--- What a stop in the turn from a stage may leave: what opens to the map before; in the turn that shuts the gate also what opens to that of
--- the transaction; and from then on that alone.
+-- What a stop in the turn from a stage may leave: what opens to the map before; in the turn that shuts the gate also
+-- what opens to that of the transaction; and from then on that alone.
 abbrev pub MayLeave : Finishing → List ℕ → List ℕ → List ℕ → Type 0
 MayLeave (Open state) r b c = Reopens r c
 MayLeave (Applied state) r b c = Reopens r c

@@ -1,4 +1,5 @@
--- What an opener holds of the lock bytes through the turns of a command that begins or ends its transaction, as strengths.
+-- What an opener holds of the lock bytes through the turns of a command that begins or ends its transaction, as
+-- strengths.
 use Rattle.std.specs.Prelude.{ℕ, ◌+◌, ◌≡◌, ◌≢◌, ◌<◌, ◌≤◌, max, List, Bool, ◌&&◌, ◌==◌, if◌then◌else◌}
 use Rattle.tdb_locks.specs.declared.piece.Piece.{Piece}
 use Rattle.tdb_law.specs.Commands.{Turn, is_done}
@@ -22,14 +23,15 @@ OthersHold owner old new = (o b : ℕ) → o ≢ owner → table_of new o b ≡ 
 abbrev pub MayRaise : (ℕ → ℕ) → ℕ → List Piece → Type 0
 MayRaise want owner ps = (b : ℕ) → 0 < want b → table_of ps owner b ≤ want b
 
--- An attempt to take what is wanted: nothing conflicts, and the opener holds it beside what it held; or the first conflict is in the
--- way, and it holds what it held; or there is no memory, and it holds nothing.
+-- An attempt to take what is wanted: nothing conflicts, and the opener holds it beside what it held; or the first
+-- conflict is in the way, and it holds what it held; or there is no memory, and it holds nothing.
 abbrev pub AttemptMade : (ℕ → ℕ) → ℕ → List Piece → List Piece → Attempt → Type 0
 AttemptMade want owner old new Attempt.Taken = IsFree (table_of old) owner want × ((b : ℕ) → table_of new owner b ≡ max (want b) (table_of old owner b))
 AttemptMade want owner old new (Attempt.Blocked o byte) = IsFirstConflict (table_of old) owner want o byte × ((b : ℕ) → table_of new owner b ≡ table_of old owner b)
 AttemptMade want owner old new Attempt.Starved = (b : ℕ) → table_of new owner b ≡ 0
 
--- The attempt to take the lock byte of the sequence number beside the opening lock: where it is blocked, that is let go.
+-- The attempt to take the lock byte of the sequence number beside the opening lock: where it is blocked, that is let
+-- go.
 abbrev pub NumberMade : ℕ → List Piece → List Piece → Attempt → Type 0
 NumberMade owner old new (Attempt.Blocked o byte) =
     IsFirstConflict (table_of old) owner (want_of (lock 1 48 49 2)) o byte × ((b : ℕ) → table_of new owner b ≡ (if b == 0 then 0 else table_of old owner b))
@@ -45,14 +47,15 @@ attempt_turn Attempt.Starved = Ends Memory
 abbrev pub HoldsRow : List Lock → (ℕ → ℕ) → ℕ → ℕ → List Piece → Type 0
 HoldsRow row kept owner n ps = (b : ℕ) → table_of ps owner b ≡ max (locked row n b) (kept b)
 
--- What it holds after a turn of a command that has had n steps: blocked what it held, after a step what that locked too. At the end it
--- holds nothing, but where the command is done and its transaction stays.
+-- What it holds after a turn of a command that has had n steps: blocked what it held, after a step what that locked
+-- too. At the end it holds nothing, but where the command is done and its transaction stays.
 abbrev pub held_after : Bool → List Lock → (ℕ → ℕ) → ℕ → Turn → ℕ → ℕ
 held_after stays row kept n Step b = max (locked row (n + 1) b) (kept b)
 held_after stays row kept n (Blocked o byte) b = max (locked row n b) (kept b)
 held_after stays row kept n (Ends r) b = if stays && is_done r then max (locked row n b) (kept b) else 0
 
--- a turn is blocked by the first conflict of what it wants, and isn't where nothing conflicts; memory may be wanting at any time
+-- a turn is blocked by the first conflict of what it wants, and isn't where nothing conflicts; memory may be wanting at
+-- any time
 abbrev pub GoesRightly : List Piece → ℕ → (ℕ → ℕ) → Turn → Type 0
 GoesRightly ps owner want Step = IsFree (table_of ps) owner want
 GoesRightly ps owner want (Blocked o byte) = IsFirstConflict (table_of ps) owner want o byte

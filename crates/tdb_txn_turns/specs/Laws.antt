@@ -1,4 +1,5 @@
--- The turns of this crate are those of a world's rows: what a world says that the opener holds, and which turns it allows.
+-- The turns of this crate are those of a world's rows: what a world says that the opener holds, and which turns it
+-- allows.
 use Rattle.std.specs.Prelude.{ℕ, ◌≡◌, ◌≤◌, max, true, false, None, Some}
 use Rattle.tdb_space.specs.Form.{Form}
 use Rattle.tdb_law.specs.Commands.{GroupCommand}
@@ -26,8 +27,8 @@ use Rattle.tdb_txn_turns.specs.declared.preparing.PrepareTurn.{PrepareTurn}
 use Rattle.tdb_txn_turns.specs.declared.starting.Starting.{Starting}
 use Rattle.tdb_txn_turns.specs.declared.starting.StartTurn.{StartTurn}
 
--- An opener without a transaction holds, with a Start that isn't refused, what its row has locked beside what it keeps, and its next turn
--- wants what the row wants. The transaction that has begun keeps the locks of the row.
+-- An opener without a transaction holds, with a Start that isn't refused, what its row has locked beside what it keeps,
+-- and its next turn wants what the row wants. The transaction that has begun keeps the locks of the row.
 abbrev pub StartHolds : Type 0
 StartHolds =
     (f : Form) (x : Own) (a : Spot) (v : View) (n b : ℕ) → refusal f (OnGroup Start) x ≡ None → x.txn ≡ None
@@ -41,8 +42,8 @@ pub data Ends : GroupCommand → Type 0 where
   commits : Ends Commit
   prepares : Ends Prepare
 
--- With a Commit or a Prepare of a transaction that has the change to plan, it holds what the row has locked beside the locks of its Start.
--- The transaction that is prepared keeps both.
+-- With a Commit or a Prepare of a transaction that has the change to plan, it holds what the row has locked beside the
+-- locks of its Start. The transaction that is prepared keeps both.
 abbrev pub CommitHolds : Type 0
 CommitHolds =
     (f : Form) (x : Own) (t : Txn) (a : Spot) (v : View) (g : GroupCommand) (n b : ℕ) → Ends g → refusal f (OnGroup g) x ≡ None → x.txn ≡ Some t → plans_in t ≡ true

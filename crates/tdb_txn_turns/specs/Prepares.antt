@@ -25,7 +25,8 @@ use Rattle.tdb_txn_turns.specs.declared.preparing.PrepareTurn.TheVariants as To
 abbrev pub at_stage : Bool → PrepareStage → Preparing
 at_stage numbered stage = record { numbered = numbered; stage = stage }
 
--- one that has had no turn, by whether a command of its transaction changed anything, and whether its changes raise the sequence number
+-- one that has had no turn, by whether a command of its transaction changed anything, and whether its changes raise the
+-- sequence number
 abbrev pub begun_with : Txn → Bool → Bool → Preparing
 begun_with txn changed numbered = at_stage numbered (if changed then Begun txn else Unchanged)
 
@@ -102,8 +103,8 @@ abbrev pub IsPlanning : PrepareStage → Type 0
 IsPlanning Unchanged = ⊥
 IsPlanning _ = Unit {0}
 
--- The turns in their order. The first ends where nothing was changed; the third ends where nothing is to be committed, where there is
--- no room, and where the plan finds no memory; the fifth ends.
+-- The turns in their order. The first ends where nothing was changed; the third ends where nothing is to be committed,
+-- where there is no room, and where the plan finds no memory; the fifth ends.
 abbrev pub PrepareLeads : Preparing → PrepareTurn → Type 0
 PrepareLeads p (To.Step next) = IsPlanning p.stage × IsPlanning next.stage × (prepare_steps next ≡ prepare_steps p + 1) × (next.numbered ≡ p.numbered)
 PrepareLeads p (To.Blocked owner byte again) = IsPlanning p.stage × (prepare_steps p < 2) × (again ≡ p)
@@ -117,8 +118,9 @@ abbrev pub FullRightly : PrepareStage → ℕ → List ℕ → History → ℕ �
 FullRightly (Locked txn) limit r h len need = AnsweredRightly txn limit r h (Err (TxnRefusal.Full len need))
 FullRightly _ limit r h len need = ⊥
 
--- What a turn does to the file, of which image r was seen before the Prepare, where image b is that of the transaction. A turn that is
--- blocked or starved, has no room or finds nothing makes no call that changes the file. It finds nothing after the plan where image b is r.
+-- What a turn does to the file, of which image r was seen before the Prepare, where image b is that of the transaction.
+-- A turn that is blocked or starved, has no room or finds nothing makes no call that changes the file. It finds nothing
+-- after the plan where image b is r.
 abbrev pub PrepareMade : ℕ → List ℕ → List ℕ → History → History → Preparing → PrepareTurn → Type 0
 PrepareMade limit r b old new p (To.Step next) = KnowsStage next.stage new r b
 PrepareMade limit r b old new p (To.Blocked owner byte again) = new ≡ old
@@ -137,8 +139,9 @@ PrepareLeaves limit before now _ = now ≡ before
 abbrev pub KeepsWithin : ℕ → ℕ → ℕ → Type 0
 KeepsWithin limit before now = (before ≤ now) × (before ≤ limit → now ≤ limit)
 
--- How many syncs a turn makes: the plan none where the undo area is kept or nothing is to be committed, three where a first one is placed,
--- and five where another one is replaced; each of the next two turns one. Of a plan that is refused nothing is said.
+-- How many syncs a turn makes: the plan none where the undo area is kept or nothing is to be committed, three where a
+-- first one is placed, and five where another one is replaced; each of the next two turns one. Of a plan that is
+-- refused nothing is said.
 abbrev pub StageSyncs : PrepareStage → ℕ → ℕ → Type 0
 StageSyncs (Locked txn) before now = (now ≡ before) ⊎ RoseBy 3 before now ⊎ RoseBy 5 before now
 StageSyncs (Planned state) before now = RoseUpTo 1 before now

@@ -33,14 +33,16 @@ pub record IsNewTxn (f : Form) (len : ℕ) (txn : Txn) : Type 0 where
   pub depth : txn_depth txn ≡ 0
   pub doomed : txn_doomed txn ≡ false
 
--- The turns in their order: the first two lock, and step, are blocked, or end for want of memory; the third ends with the transaction.
+-- The turns in their order: the first two lock, and step, are blocked, or end for want of memory; the third ends with
+-- the transaction.
 abbrev pub StartLeads : Form → ℕ → Starting → StartTurn → Type 0
 StartLeads f len s (Step next) = start_steps next ≡ start_steps s + 1
 StartLeads f len s (Blocked owner byte) = start_steps s < 2
 StartLeads f len s Memory = start_steps s < 2
 StartLeads f len s (Done txn) = (start_steps s ≡ 2) × IsNewTxn f len txn
 
--- a file with a transaction that has just begun: a stop leaves what a read gives, which is what it gave before, and what the transaction shows
+-- a file with a transaction that has just begun: a stop leaves what a read gives, which is what it gave before, and
+-- what the transaction shows
 pub record BegunOn (old new : History) (txn : Txn) : Type 0 where
   pub quiet : Quiet new
   pub same : seen new ≡ seen old

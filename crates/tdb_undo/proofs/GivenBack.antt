@@ -34,8 +34,8 @@ covered_later e es i h = go (covers i e) refl
     go true is = covered_first e es i is
     go false is = rw is h
 
--- How far entries were written back to an image: those from this place on are still to come. What they give back of the bytes that
--- may be written to is what all of them give back of the first image.
+-- How far entries were written back to an image: those from this place on are still to come. What they give back of the
+-- bytes that may be written to is what all of them give back of the first image.
 pub record Giving (o : Order) (a : Area) (first : List ℕ) (start place : ℕ) (now : List ℕ) : Type 0 where
   pub no_fault : entry_fault (entries_stop a) a.header.key_len (rest o first place (entries_stop a)) ≡ None
   pub among : (i : ℕ) → is_some (last_covering (rest o first place (entries_stop a)) i) ≡ true → is_some (last_covering (rest o first start (entries_stop a)) i) ≡ true

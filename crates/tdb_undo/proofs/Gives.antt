@@ -27,7 +27,8 @@ in_first a off len = lies_in (first_from off) (first_to a off len - first_from o
 abbrev pub in_second : Area → ℕ → ℕ → ℕ → Bool
 in_second a off len = lies_in (second_from a off) (off + len - second_from a off)
 
--- a byte that is written to: the entry covers it, it isn't among the first 64, and it lies in front of the area or behind it
+-- a byte that is written to: the entry covers it, it isn't among the first 64, and it lies in front of the area or
+-- behind it
 pub given_parts : (a : Area) (off len i : ℕ) → is_given a off len i ≡ true → (off ≤ i) × (i < off + len) × (64 ≤ i) × ((i < a.at) ⊎ (stop a ≤ i))
 given_parts a off len i h =
     let p = and_parts (lies_in off len i) _ h in

@@ -1,4 +1,5 @@
--- The steps of an undo where the undo area stands below the old length: what a stop leaves of each, and the file at the end.
+-- The steps of an undo where the undo area stands below the old length: what a stop leaves of each, and the file at the
+-- end.
 use Rattle.std.proofs.Common.{◌≡◌, ℕ, ◌+◌, ◌<◌, ◌%◌, List, length, take, slice_index, sym, ◌∙◌, ap, subst, inl, inr, arith}
 use Rattle.std.proofs.lemmas.List.{get_or-take, length-take}
 use Rattle.tdb_disk.specs.History.{History, called, seen, synced, cut, wrote_word, Tried}

@@ -33,7 +33,8 @@ stretch_same z p q n left right same =
     (λ k low. (let under : k < n = omega (arith, low, one) in
     get_or-take n (drop p z) k 0 under ∙ get_or-drop p z k 0 ∙ same k under ∙ sym (get_or-drop q z k 0) ∙ sym (get_or-take n (drop q z) k 0 under)))
 
--- How far entries were put into the undo area of an image: those for the runs from this one on are still to come, from this place on
+-- How far entries were put into the undo area of an image: those for the runs from this one on are still to come, from
+-- this place on
 pub record Putting (o : Order) (a : Area) (es rest : List Extent) (first : List ℕ) (place : ℕ) (now : List ℕ) : Type 0 where
   pub size : length now ≡ length first
   pub others : (j : ℕ) → (j < a.at + 24) ⊎ (place ≤ j) → slice_index now j ≡ slice_index first j

@@ -47,8 +47,8 @@ one_then e es i byte = go (covers i e) refl
     go true is = rw is (last_from (Some e) (filter (covers i) es) i byte)
     go false is = rw is refl
 
--- How far a test of entries has come: those before this place have no fault. `total` counts their bytes, and `front` has what they
--- give back of the first 64 bytes
+-- How far a test of entries has come: those before this place have no fault. `total` counts their bytes, and `front`
+-- has what they give back of the first 64 bytes
 pub record Tested (o : Order) (img : List ℕ) (start end old place total : ℕ) (first front : List ℕ) : Type 0 where
   pub no_fault : entry_fault end old (rest o img start end) ≡ entry_fault end old (rest o img place end)
   pub count : total + lengths (rest o img place end) ≡ lengths (rest o img start end)

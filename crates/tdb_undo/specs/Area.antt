@@ -23,8 +23,8 @@ header_fault_at r at len =
     else if not (r.magic == GATE_OPEN) && not (r.magic == GATE_SHUT) then Some (AreaBad, at + 20)
     else None
 
--- What is wrong with the place and the header of an undo area at an offset, by the first of these: it can't stand there, its length
--- doesn't fit, its gate word is neither that of an open nor that of a shut gate
+-- What is wrong with the place and the header of an undo area at an offset, by the first of these: it can't stand
+-- there, its length doesn't fit, its gate word is neither that of an open nor that of a shut gate
 abbrev pub place_fault_at : Form → List ℕ → ℕ → Option Fault
 place_fault_at f img at =
     if is_out f img at then Some (AreaBad, area_head)
@@ -36,8 +36,8 @@ place_fault_at f img at =
 abbrev pub place_fault : Form → List ℕ → Option Fault
 place_fault f img = if word f.order img area_head == 0 then None else place_fault_at f img (word f.order img area_head)
 
--- What is wrong with the old length and the length of the content in the header of an undo area at an offset, where the records of a
--- file of this length begin at this offset
+-- What is wrong with the old length and the length of the content in the header of an undo area at an offset, where the
+-- records of a file of this length begin at this offset
 abbrev pub content_fault_at : Rec → ℕ → ℕ → ℕ → Option Fault
 content_fault_at r at start len =
     if nat_lt r.key_len start || nat_lt len r.key_len || nat_lt at r.key_len && nat_lt r.key_len (at + 24 + r.rec_len) then Some (UndoBad, at + 8)

@@ -7,7 +7,8 @@ use Rattle.tdb_space.specs.Opening.{lies_in}
 use Rattle.tdb_space.specs.Planned.{content_length, HasContent}
 use Rattle.tdb_undo.specs.declared.area.Area.{Area}
 
--- an entry for a run stands at a place of the new image, with the bytes that the old one has in the run; nothing else changed
+-- an entry for a run stands at a place of the new image, with the bytes that the old one has in the run; nothing else
+-- changed
 pub record EntryPut (o : Order) (place : ℕ) (run : Extent) (old new : List ℕ) : Type 0 where
   pub size : length new ≡ length old
   pub others : (i : ℕ) → lies_in place (8 + run.1) i ≡ false → slice_index new i ≡ slice_index old i
@@ -15,8 +16,8 @@ pub record EntryPut (o : Order) (place : ℕ) (run : Extent) (old new : List ℕ
   pub len : word o new (place + 4) ≡ run.1
   pub bytes : (k : ℕ) → k < run.1 → slice_index new (place + 8 + k) ≡ slice_index old (run.0 + k)
 
--- An entry that ends at a place leaves room in the undo area for the last word; its run lies within a file of so many bytes, and beside
--- the area
+-- An entry that ends at a place leaves room in the undo area for the last word; its run lies within a file of so many
+-- bytes, and beside the area
 pub record HasRoom (a : Area) (len next : ℕ) (run : Extent) : Type 0 where
   pub fits : next + 4 ≤ a.at + 24 + a.header.rec_len
   pub within : run.0 + run.1 ≤ len
@@ -38,13 +39,13 @@ HasEntries o img at [] end = at ≡ end
 HasEntries o img at (e ∷ es) end =
     (word o img at ≡ e.0) × (word o img (at + 4) ≡ e.1) × (take e.1 (drop (at + 8) img) ≡ take e.1 (drop e.0 img)) × HasEntries o img (at + 8 + e.1) es end
 
--- a byte beside what is still to be written into the undo area from a place on: it lies in front of the area or behind it, or in its
--- content in front of that place
+-- a byte beside what is still to be written into the undo area from a place on: it lies in front of the area or behind
+-- it, or in its content in front of that place
 abbrev pub BesideRest : Area → ℕ → ℕ → Type 0
 BesideRest a place j = (j < a.at) ⊎ (((a.at + 24 ≤ j) × (j < place)) ⊎ (a.at + 24 + a.header.rec_len ≤ j))
 
--- Entries for these runs were put into the content of the undo area, and end at a place; nothing else changed. They stand in every image
--- that has the same bytes beside what is still to be written.
+-- Entries for these runs were put into the content of the undo area, and end at a place; nothing else changed. They
+-- stand in every image that has the same bytes beside what is still to be written.
 pub record PutUpTo (o : Order) (a : Area) (es : List Extent) (old new : List ℕ) (end : ℕ) : Type 0 where
   pub size : length new ≡ length old
   pub others : (i : ℕ) → (i < a.at + 24) ⊎ (end ≤ i) → slice_index new i ≡ slice_index old i
@@ -60,8 +61,8 @@ AllPut o a es old new (Some end) = PutUpTo o a es old new end
 abbrev pub is_content : Area → ℕ → Bool
 is_content a i = lies_in (a.at + 8) 8 i || lies_in (a.at + 24) a.header.rec_len i
 
--- The undo area was filled: its content is that for these runs, and its header says how long the file was and how long the content is.
--- Nothing else changed.
+-- The undo area was filled: its content is that for these runs, and its header says how long the file was and how long
+-- the content is. Nothing else changed.
 pub record IsFilled (o : Order) (a : Area) (old_len : ℕ) (es : List Extent) (old new : List ℕ) : Type 0 where
   pub size : length new ≡ length old
   pub others : (i : ℕ) → is_content a i ≡ false → slice_index new i ≡ slice_index old i

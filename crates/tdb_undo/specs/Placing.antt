@@ -8,8 +8,8 @@ use Rattle.tdb_space.specs.Record.{rec_len_of}
 use Rattle.tdb_space.specs.Extents.{times, area}
 use Rattle.tdb_space.specs.Moved.{StaysAccepted}
 
--- Where the word at 44 of image c leads, while a new undo area is placed behind image b at an offset: where it led, and the new area has
--- no length yet; or to the new area, which ends within the image
+-- Where the word at 44 of image c leads, while a new undo area is placed behind image b at an offset: where it led, and
+-- the new area has no length yet; or to the new area, which ends within the image
 pub data LeadsTo (o : Order) (b : List ℕ) (at : ℕ) (c : List ℕ) : Type 0 where
   old_area : word o c area_head ≡ word o b area_head → ((i : ℕ) → at + 4 ≤ i → i < at + 8 → slice_index c i ≡ 0) → LeadsTo o b at c
   new_area : word o c area_head ≡ at → rec_len_of o c at % 4 ≡ 0 → at + 24 + rec_len_of o c at ≤ length c → LeadsTo o b at c
@@ -28,7 +28,8 @@ pub record IsSet (o : Order) (c : List ℕ) (at n : ℕ) : Type 0 where
   pub rec_len : rec_len_of o c at ≡ n
   pub size : length c ≡ at + 24 + n
 
--- Image b is accepted image a without what its undo area held: all of that area is 0, and the word at 44 still leads to it
+-- Image b is accepted image a without what its undo area held: all of that area is 0, and the word at 44 still leads to
+-- it
 pub record IsCleared (f : Form) (a b : List ℕ) : Type 0 where
   pub stays : StaysAccepted f a b
   pub size : length b ≡ length a
@@ -36,8 +37,8 @@ pub record IsCleared (f : Form) (a b : List ℕ) : Type 0 where
   pub others : (i : ℕ) → times (area f.order a) i ≡ 0 → slice_index b i ≡ slice_index a i
   pub zeros : (i : ℕ) → 1 ≤ times (area f.order a) i → slice_index b i ≡ 0
 
--- Image b is accepted image a with another undo area, at an offset behind its end, with room for so many bytes and nothing but zeros in
--- it. What the old one held is 0, and nothing else changes.
+-- Image b is accepted image a with another undo area, at an offset behind its end, with room for so many bytes and
+-- nothing but zeros in it. What the old one held is 0, and nothing else changes.
 pub record IsPlaced (f : Form) (a b : List ℕ) (at n : ℕ) : Type 0 where
   pub stays : StaysAccepted f a b
   pub set : IsSet f.order b at n

@@ -18,8 +18,8 @@ pub record ReadFrom (f : Form) (img : List ℕ) (a : Area) (before after : List 
   pub front : (i : ℕ) → i < known_length → slice_index before i ≡ slice_index img i
   pub given : (i : ℕ) → i < known_length → slice_index after i ≡ given_back (last_covering (entries f img) i) i (slice_index before i)
 
--- What a stop of the recovery of image a leaves: an image that is undone like a, the restored image, or that one in front and behind it
--- zeros, or an undo area whose gate is shut
+-- What a stop of the recovery of image a leaves: an image that is undone like a, the restored image, or that one in
+-- front and behind it zeros, or an undo area whose gate is shut
 pub data Undoing (f : Form) (a c : List ℕ) : Type 0 where
   alike : UndoneAlike f a c → Undoing f a c
   exact : c ≡ restored f a → Undoing f a c
@@ -33,8 +33,8 @@ is_past a len i = nat_le a.header.key_len i && (nat_lt i len && not (lies_in a.a
 abbrev pub ZeroAt : ℕ → ℕ → List ℕ → Type 0
 ZeroAt at count img = (i : ℕ) → at ≤ i → i < at + count → slice_index img i ≡ 0
 
--- From one image to another only the words of the header at an offset change, but not its last one, the gate; its rec_len stays or
--- is 0
+-- From one image to another only the words of the header at an offset change, but not its last one, the gate; its
+-- rec_len stays or is 0
 pub record HeaderTouched (o : Order) (at : ℕ) (old new : List ℕ) : Type 0 where
   pub size : length new ≡ length old
   pub others : (i : ℕ) → (i < at) ⊎ (at + 20 ≤ i) → slice_index new i ≡ slice_index old i
@@ -48,7 +48,7 @@ AllAlike f a h = (image : List ℕ) → Leaves h image → UndoneAlike f a image
 abbrev pub ShutBehind : Form → List ℕ → Area → List ℕ → Type 0
 ShutBehind f a area c = Behind f (restored f a) area.at (area.at + 24 + area.header.rec_len) × TailAt f (restored f a) area.at (area.at + 24 + area.header.rec_len) c
 
--- how many syncs the recovery of an image makes: none where there is nothing to undo, three where the undo area stands below the old
--- length, and else six
+-- how many syncs the recovery of an image makes: none where there is nothing to undo, three where the undo area stands
+-- below the old length, and else six
 abbrev pub recovery_syncs : Form → List ℕ → ℕ
 recovery_syncs f img = if is_open f img then (if nat_lt (area_at f img) (old_size f img) then 3 else 6) else 0

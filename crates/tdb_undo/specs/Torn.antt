@@ -8,8 +8,8 @@ pub record TornAt (places : ℕ → Bool) (old new : List ℕ) : Type 0 where
   pub size : length new ≡ length old
   pub others : (i : ℕ) → places i ≡ false → slice_index new i ≡ slice_index old i
 
--- what a stop may leave once bytes at some places were written since a history: those of an image that it might have left before,
--- and at these places any
+-- what a stop may leave once bytes at some places were written since a history: those of an image that it might have
+-- left before, and at these places any
 abbrev pub TornIn : (ℕ → Bool) → History → List ℕ → Type 0
 TornIn places h image = (from : List ℕ) × Leaves h from × TornAt places from image
 

@@ -31,8 +31,8 @@ pub(crate) struct Area {
     /// The offset at which it stands.
     pub at: u32,
 
-    /// Its header. `rec_len` is how many bytes it has for its content, `key_len` the length that the file had, `data_len` the
-    /// length of its content, and `magic` its gate word.
+    /// Its header. `rec_len` is how many bytes it has for its content, `key_len` the length that the file had,
+    /// `data_len` the length of its content, and `magic` its gate word.
     pub header: Rec,
 }
 
@@ -84,7 +84,8 @@ impl Area {
 }
 
 impl Area {
-    /// Whether an entry that ends at `next` passes the end of the content, or what it covers passes the file's old length.
+    /// Whether an entry that ends at `next` passes the end of the content, or what it covers passes the file's old
+    /// length.
     pub(crate) fn is_bad_entry(&self, next: u64, off: u32, len: u32) -> bool
         ensures { result ≡ (nat_lt (entries_stop self.now) next || nat_lt self.now.header.key_len (off + len)) }
     {
@@ -93,7 +94,8 @@ impl Area {
     }
 }
 
-/// The undo area of a file with this header, if it has one, or what is wrong with its place and its header. It reads 28 bytes.
+/// The undo area of a file with this header, if it has one, or what is wrong with its place and its header. It reads 28
+/// bytes.
 pub(crate) fn read_area<D: Disk>(d: &mut D, h: &Header) -> Result<Option<Area>, UndoRefusal>
     requires heads { 48 ≤ D.size d.old }
     ensures found { IfOk result (λ a. IsTrue D.tells → (place_fault (form_in h.now) (seen (D.history d.old)) ≡ None) × AreaSeen h.now.order (seen (D.history d.old)) a) }

@@ -58,8 +58,8 @@ fn put_entry<D: Disk>(
     copy_bytes(d, off as u64, place + ENTRY_LEN, len as u64, block)
 }
 
-/// Whether an entry that ends at `next` leaves room in the area for the last word, and its run lies within a file of `len` bytes, beside
-/// the area.
+/// Whether an entry that ends at `next` leaves room in the area for the last word, and its run lies within a file of
+/// `len` bytes, beside the area.
 fn has_room(area: &Area, len: u64, next: u64, run: (u32, u32)) -> bool
     requires { next < 2 ^ 63 }
     ensures { MatchBool result (HasRoom area.now len next run) (HasRoom area.now len next run → ⊥) }
@@ -69,8 +69,8 @@ fn has_room(area: &Area, len: u64, next: u64, run: (u32, u32)) -> bool
     next + 4 <= area.end() && to <= len && (to <= area.at as u64 || area.end() <= from)
 }
 
-/// Writes an entry for each run, one after the other, and answers where they end. None where an entry hasn't room: then those before
-/// it were written.
+/// Writes an entry for each run, one after the other, and answers where they end. None where an entry hasn't room: then
+/// those before it were written.
 fn put_runs<D: Disk>(
     d: &mut D,
     order: Order,
@@ -107,8 +107,8 @@ fn put_runs<D: Disk>(
     Ok(Some(place))
 }
 
-/// Fills the content of the undo area, and the words of its header that say how long the file was and how long the content is; all of it
-/// ends with one sync.
+/// Fills the content of the undo area, and the words of its header that say how long the file was and how long the
+/// content is; all of it ends with one sync.
 fn fill_area<D: Disk>(
     d: &mut D,
     order: Order,
@@ -143,12 +143,12 @@ fn fill_area<D: Disk>(
 }
 
 /// Fills the undo area of an accepted file, whose gate is shut: the content gets an entry for each run, in their order,
-/// with the bytes that the file has there, and the header says that the file was `old_len` bytes long. All of it ends with
-/// one sync. It takes time linear in the content, and no memory.
+/// with the bytes that the file has there, and the header says that the file was `old_len` bytes long. All of it ends
+/// with one sync. It takes time linear in the content, and no memory.
 ///
-/// The disk is quiet, or its file has grown since then to a multiple of 4, with no further sync and no other change. A stop
-/// then leaves a file that opens to the same map, also where the call fails. The runs lie beside the area, and their content
-/// fits into it; where one doesn't, or there is no area, what stands behind it isn't written.
+/// The disk is quiet, or its file has grown since then to a multiple of 4, with no further sync and no other change. A
+/// stop then leaves a file that opens to the same map, also where the call fails. The runs lie beside the area, and
+/// their content fits into it; where one doesn't, or there is no area, what stands behind it isn't written.
 pub fn put_content<D: Disk>(d: &mut D, h: &Header, old_len: u32, runs: &Runs) -> Result<(), Io>
     requires heads { 48 ≤ D.size d.old }
     requires short { D.size d.old < 2 ^ 32 }

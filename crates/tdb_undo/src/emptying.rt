@@ -72,7 +72,8 @@ pub(crate) fn empty_area<D: Disk>(d: &mut D, h: &Header, area: &Area) -> Result<
     Ok(())
 }
 
-/// Drops an emptied undo area that stands behind the restored file: the word that leads to it, and then what stands behind that file.
+/// Drops an emptied undo area that stands behind the restored file: the word that leads to it, and then what stands
+/// behind that file.
 pub(crate) fn drop_area<D: Disk>(d: &mut D, h: &Header, area: &Area) -> Result<(), Io>
     requires head { 48 ≤ D.size d.old }
     requires old_length { area.now.header.key_len ≤ D.size d.old }

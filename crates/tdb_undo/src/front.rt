@@ -21,7 +21,8 @@ fn becomes_another(i: usize, before: &[u8; FRONT_LEN], after: &[u8; FRONT_LEN]) 
     (i < recovery_start || i >= recovery_start + 4) && before[i] != after[i]
 }
 
-/// Writes those of the first bytes of a file that become others, each by itself. The offset of the undo area stays as it is.
+/// Writes those of the first bytes of a file that become others, each by itself. The offset of the undo area stays as
+/// it is.
 pub(crate) fn write_front<D: Disk>(
     d: &mut D,
     before: &[u8; FRONT_LEN],

@@ -16,8 +16,8 @@ use tdb_disk::Disk;
 use tdb_space::{Io, header_stands};
 use tdb_words::{GATE_OPEN, GATE_SHUT, Header, word_at, word_bytes};
 
-/// Writes the gate word of the undo area by itself, and syncs. Where the word at 44 leads to no place where an area can stand, nothing
-/// is written.
+/// Writes the gate word of the undo area by itself, and syncs. Where the word at 44 leads to no place where an area can
+/// stand, nothing is written.
 fn set_gate<D: Disk>(d: &mut D, h: &Header, gate: u32) -> Result<(), Io>
     requires heads { 48 ≤ D.size d.old }
     ensures stops { IsTrue D.tells → let a = seen (D.history d.old) in Quiet (D.history d.old) → HasGate (form_in h.now) a
@@ -41,9 +41,9 @@ fn set_gate<D: Disk>(d: &mut D, h: &Header, gate: u32) -> Result<(), Io>
     Ok(())
 }
 
-/// Opens the gate of the undo area, which is shut and whose content was filled: from here on the file is read as it was before the
-/// changes to come. It reads four bytes, writes one word and syncs once. A stop leaves the gate shut or open, and the file opens to
-/// the same map either way. Where the file has no undo area, nothing is written.
+/// Opens the gate of the undo area, which is shut and whose content was filled: from here on the file is read as it was
+/// before the changes to come. It reads four bytes, writes one word and syncs once. A stop leaves the gate shut or
+/// open, and the file opens to the same map either way. Where the file has no undo area, nothing is written.
 pub fn open_gate<D: Disk>(d: &mut D, h: &Header) -> Result<(), Io>
     requires heads { 48 ≤ D.size d.old }
     ensures stops { IsTrue D.tells → let a = seen (D.history d.old) in Quiet (D.history d.old) → Accept a → form_of a ≡ form_in h.now → IsReadyToOpen (form_in h.now) a
@@ -58,8 +58,8 @@ pub fn open_gate<D: Disk>(d: &mut D, h: &Header) -> Result<(), Io>
     Ok(())
 }
 
-/// Shuts the gate of the undo area, which is open: from here on the file is read as it is. It reads four bytes, writes one word and
-/// syncs once. A stop leaves the file as it was or with its gate shut, and no other one.
+/// Shuts the gate of the undo area, which is open: from here on the file is read as it is. It reads four bytes, writes
+/// one word and syncs once. A stop leaves the file as it was or with its gate shut, and no other one.
 pub fn shut_gate<D: Disk>(d: &mut D, h: &Header) -> Result<(), Io>
     requires heads { 48 ≤ D.size d.old }
     ensures stops { IsTrue D.tells → let a = seen (D.history d.old) in Quiet (D.history d.old) → Undoable (form_in h.now) a

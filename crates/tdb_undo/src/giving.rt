@@ -18,7 +18,8 @@ use crate::writing::write_entries;
 use tdb_disk::Disk;
 use tdb_words::Header;
 
-/// Writes back all that the undo area keeps, which was tested. `before` has the first bytes of the file, and `after` what they become.
+/// Writes back all that the undo area keeps, which was tested. `before` has the first bytes of the file, and `after`
+/// what they become.
 pub(crate) fn give_all<D: Disk>(
     d: &mut D,
     h: &Header,

@@ -16,8 +16,8 @@ use tdb_disk::Disk;
 use tdb_space::Io;
 use tdb_words::{Header, Order, word_bytes};
 
-/// Makes the file longer by an undo area at `at` with room for `capacity` bytes, and leads to it: each of the three steps ends with
-/// one sync.
+/// Makes the file longer by an undo area at `at` with room for `capacity` bytes, and leads to it: each of the three
+/// steps ends with one sync.
 fn place_area<D: Disk>(d: &mut D, order: Order, at: u32, capacity: u32) -> Result<(), Io>
     requires heads { 48 ≤ D.size d.old }
     requires aligned { at % 4 ≡ 0 }
@@ -42,8 +42,8 @@ fn place_area<D: Disk>(d: &mut D, order: Order, at: u32, capacity: u32) -> Resul
     Ok(())
 }
 
-/// Makes the content of the undo area zero, and then its header, where the file has one; each of the two steps ends with one sync.
-/// Where the area has a fault, nothing is written.
+/// Makes the content of the undo area zero, and then its header, where the file has one; each of the two steps ends
+/// with one sync. Where the area has a fault, nothing is written.
 fn clear_area<D: Disk>(d: &mut D, h: &Header) -> Result<(), Io>
     requires heads { 48 ≤ D.size d.old }
     ensures stops { IsTrue D.tells → let a = seen (D.history d.old) in Quiet (D.history d.old) → Accept a → form_of a ≡ form_in h.now
@@ -66,11 +66,12 @@ fn clear_area<D: Disk>(d: &mut D, h: &Header) -> Result<(), Io>
     }
 }
 
-/// Replaces the undo area of an accepted file: makes the old one zero, where there is one, and places a new one at `at`, at the end of
-/// the file or behind it, with room for `capacity` bytes. The file ends with the new area then. Offsets and lengths are in bytes.
+/// Replaces the undo area of an accepted file: makes the old one zero, where there is one, and places a new one at
+/// `at`, at the end of the file or behind it, with room for `capacity` bytes. The file ends with the new area then.
+/// Offsets and lengths are in bytes.
 ///
-/// A stop leaves a file that opens to the same map, also where the call fails. It takes three syncs, and two more where there was an
-/// area, and time linear in the content of the old one.
+/// A stop leaves a file that opens to the same map, also where the call fails. It takes three syncs, and two more where
+/// there was an area, and time linear in the content of the old one.
 pub fn ensure<D: Disk>(d: &mut D, h: &Header, capacity: u32, at: u64) -> Result<(), Io>
     requires heads { 48 ≤ D.size d.old }
     requires aligned { at % 4 ≡ 0 }

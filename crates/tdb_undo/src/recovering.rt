@@ -23,9 +23,9 @@ use crate::undoing::{undo_behind, undo_below};
 use tdb_disk::Disk;
 use tdb_words::{GATE_OPEN, Header};
 
-/// Whether the gate of a file's undo area is open, so that the file has to be recovered before it is read. `UndoBad` with `AreaBad`
-/// where the area can't stand where the header says, its length doesn't fit, or its gate word is neither open nor shut. It reads 28
-/// bytes.
+/// Whether the gate of a file's undo area is open, so that the file has to be recovered before it is read. `UndoBad`
+/// with `AreaBad` where the area can't stand where the header says, its length doesn't fit, or its gate word is neither
+/// open nor shut. It reads 28 bytes.
 pub fn needs_recovery<D: Disk>(d: &mut D, h: &Header) -> Result<bool, UndoRefusal>
     requires heads { 48 ≤ D.size d.old }
     ensures gate { IfOk result (λ is_it. IsTrue D.tells → let a = seen (D.history d.old) in (place_fault (form_in h.now) a ≡ None) × (is_it ≡ is_open (form_in h.now) a)) }
@@ -41,8 +41,8 @@ pub fn needs_recovery<D: Disk>(d: &mut D, h: &Header) -> Result<bool, UndoRefusa
     }
 }
 
-/// Writes back what was tested, and takes the further steps of the undo, each with a sync at its end: three where the undo area
-/// stands below the old length, and else six.
+/// Writes back what was tested, and takes the further steps of the undo, each with a sync at its end: three where the
+/// undo area stands below the old length, and else six.
 fn write_back<D: Disk>(
     d: &mut D,
     h: &Header,
@@ -105,14 +105,14 @@ fn undo<D: Disk>(d: &mut D, h: &Header, area: &Area) -> Result<u64, UndoRefusal>
     Ok(total)
 }
 
-/// Recovers a file: where the gate of its undo area is open, the file is made again what it was before the changes whose old bytes
-/// the area keeps, and the gate is shut. The answer is how many old bytes the entries keep in all, and 0 where there is nothing to
-/// undo.
+/// Recovers a file: where the gate of its undo area is open, the file is made again what it was before the changes
+/// whose old bytes the area keeps, and the gate is shut. The answer is how many old bytes the entries keep in all, and
+/// 0 where there is nothing to undo.
 ///
 /// `UndoBad` tells the first fault that the opening of the undo area meets; nothing is written then, nor where the gate
 /// isn't open, whatever the answer is. All is tested before anything is written. It takes time linear in what the area
-/// keeps, reads that twice, and takes no memory. After an undo three syncs were made where the area stands below the file's
-/// old length, and else six.
+/// keeps, reads that twice, and takes no memory. After an undo three syncs were made where the area stands below the
+/// file's old length, and else six.
 pub fn recover<D: Disk>(d: &mut D, h: &Header) -> Result<u64, UndoRefusal>
     requires heads { 48 ≤ D.size d.old }
     requires short { D.size d.old < 2 ^ 63 }

@@ -8,9 +8,10 @@ use thiserror::Error;
 /// Why the undo area of a file isn't looked at or undone.
 #[derive(Clone, Copy, Debug, PartialEq, Eq, Error)]
 pub enum UndoRefusal {
-    /// The undo area has a fault, and this is the first one in the order in which it is opened. `what` is `AreaBad` where it can't
-    /// stand where the header says, its length doesn't fit or its gate word is neither open nor shut, and `UndoBad` where its gate
-    /// is open and what it keeps can't be undone. `at` is the place of the fault, an offset in bytes.
+    /// The undo area has a fault, and this is the first one in the order in which it is opened. `what` is `AreaBad`
+    /// where it can't stand where the header says, its length doesn't fit or its gate word is neither open nor shut,
+    /// and `UndoBad` where its gate is open and what it keeps can't be undone. `at` is the place of the fault, an
+    /// offset in bytes.
     #[error("corrupt {what} {at}")]
     UndoBad { what: What, at: u64 },
 

@@ -5,7 +5,8 @@ ghost use Rattle.std.specs.Prelude.{◌≡◌, ◌<◌, ◌≤◌, [], ◌∷◌
 use std::alloc::{AllocError, Global};
 use std::marker::Model;
 
-/// Runs of bytes of a file, in order: of each its offset and its length, both in bytes. A contract sees them as the list of these pairs.
+/// Runs of bytes of a file, in order: of each its offset and its length, both in bytes. A contract sees them as the
+/// list of these pairs.
 #[derive(Debug, Drop)]
 pub struct Runs {
     extents: Vec<(u32, u32)>,

@@ -42,9 +42,9 @@ fn take_front<D: Disk>(
     Ok(())
 }
 
-/// Tests each entry of the undo area: it lies within the content, and what it covers within the old length of the file. It answers
-/// how many old bytes they keep in all, and puts into `front`, which has the first bytes of the file, what the entries keep of these.
-/// Nothing is written.
+/// Tests each entry of the undo area: it lies within the content, and what it covers within the old length of the file.
+/// It answers how many old bytes they keep in all, and puts into `front`, which has the first bytes of the file, what
+/// the entries keep of these. Nothing is written.
 pub(crate) fn test_entries<D: Disk>(
     d: &mut D,
     order: Order,

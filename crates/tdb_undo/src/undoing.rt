@@ -35,7 +35,8 @@ fn blank_past<D: Disk>(d: &mut D, area: &Area, len: u64) -> Result<(), Io>
     Ok(())
 }
 
-/// Ends the undo where the undo area stands below the old length, and all was written: syncs, cuts the file, and shuts the gate.
+/// Ends the undo where the undo area stands below the old length, and all was written: syncs, cuts the file, and shuts
+/// the gate.
 pub(crate) fn undo_below<D: Disk>(d: &mut D, h: &Header, area: &Area) -> Result<(), Io>
     requires aligned { area.now.at % 4 ≡ 0 }
     requires below { area.now.at + 24 + area.now.header.rec_len ≤ area.now.header.key_len }
@@ -56,8 +57,8 @@ pub(crate) fn undo_below<D: Disk>(d: &mut D, h: &Header, area: &Area) -> Result<
     Ok(())
 }
 
-/// Shuts the gate where the undo area stands at the old length or behind it, and all was written: what stands there outside the area
-/// becomes zero before.
+/// Shuts the gate where the undo area stands at the old length or behind it, and all was written: what stands there
+/// outside the area becomes zero before.
 fn shut_behind<D: Disk>(d: &mut D, h: &Header, area: &Area, len: u64) -> Result<(), Io>
     requires length { len ≡ D.size d.old }
     requires aligned { area.now.at % 4 ≡ 0 }
@@ -79,8 +80,8 @@ fn shut_behind<D: Disk>(d: &mut D, h: &Header, area: &Area, len: u64) -> Result<
     Ok(())
 }
 
-/// Ends the undo where the undo area stands at the old length or behind it, and all was written: shuts the gate, empties the area,
-/// and drops it.
+/// Ends the undo where the undo area stands at the old length or behind it, and all was written: shuts the gate,
+/// empties the area, and drops it.
 pub(crate) fn undo_behind<D: Disk>(d: &mut D, h: &Header, area: &Area, len: u64) -> Result<(), Io>
     requires length { len ≡ D.size d.old }
     requires head { 48 ≤ len }

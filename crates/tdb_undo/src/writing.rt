@@ -18,8 +18,8 @@ use tdb_disk::Disk;
 use tdb_space::Io;
 use tdb_words::{Order, What};
 
-/// Writes back what an entry keeps of the bytes from one offset up to another. Its old bytes, the first of them for `off`, stand
-/// at `source`.
+/// Writes back what an entry keeps of the bytes from one offset up to another. Its old bytes, the first of them for
+/// `off`, stand at `source`.
 fn give_piece<D: Disk>(
     d: &mut D,
     source: u64,
@@ -45,8 +45,8 @@ fn give_piece<D: Disk>(
     copy_bytes(d, source + (from - off), from, to - from, block)
 }
 
-/// Writes back what an entry keeps: its old bytes stand at `source`, within the undo area. Left out are the first bytes of the file
-/// and the undo area itself.
+/// Writes back what an entry keeps: its old bytes stand at `source`, within the undo area. Left out are the first bytes
+/// of the file and the undo area itself.
 fn give_entry<D: Disk>(
     d: &mut D,
     area: &Area,
@@ -75,9 +75,9 @@ fn give_entry<D: Disk>(
     Ok(())
 }
 
-/// Writes back what the entries of the undo area keep, one after the other, but for the first bytes of the file and the undo area
-/// itself. The entries were tested. One that has a fault all the same, since the bytes of the file have become others, is refused,
-/// and so are those behind it.
+/// Writes back what the entries of the undo area keep, one after the other, but for the first bytes of the file and the
+/// undo area itself. The entries were tested. One that has a fault all the same, since the bytes of the file have
+/// become others, is refused, and so are those behind it.
 pub(crate) fn write_entries<D: Disk>(
     d: &mut D,
     order: Order,

@@ -1,4 +1,5 @@
--- A cursor comes to no record of a chain that another opener has locked for writing, as who is going to purge a record has.
+-- A cursor comes to no record of a chain that another opener has locked for writing, as who is going to purge a record
+-- has.
 use Rattle.std.proofs.Common.{◌≡◌, ◌≢◌, ℕ, ◌+◌, ◌*◌, ◌≤◌, max, List, Bool, false, Option, None, Some, refl, sym, ◌∙◌, ap, subst, inl, inr, ◌⊎◌, arith, unwrap_or}
 use Rattle.std.specs.Prelude.{if◌then◌else◌}
 use Rattle.tdb_space.specs.Form.{Form}

@@ -45,8 +45,8 @@ writes_of f own x w chain off Freeing over n S = ((λ e. S.3), (λ e. S.3))
 pub shown_low : (f : Form) (x : Own) (chain off : ℕ) → HasFewChains f → IsShown f x.cursor chain off → chain < f.chains
 shown_low f x chain off few S = subst (λ j. j < f.chains) S.filed (home_below f S.key few.some)
 
--- A lock that a turn takes on the way to a purge or a move: what is held of its stage then is that lock and what was held before; and the
--- explicit locks cover it, or nothing is held at its byte.
+-- A lock that a turn takes on the way to a purge or a move: what is held of its stage then is that lock and what was
+-- held before; and the explicit locks cover it, or nothing is held at its byte.
 pub record LockFits (f : Form) (own : HeldLocks) (x : Own) (chain off : ℕ) (stage : Stage) (lock : StepLock) : Type 0 where
   pub more : (z : ℕ) → stage_held chain (stage_of lock) z ≡ max (one (byte_of lock) (strength (Some (kind_of lock))) z) (stage_held chain stage z)
   pub enough : covers own lock ≡ true → strength (Some (kind_of lock)) ≤ explicit_held f x (byte_of lock)

@@ -15,8 +15,8 @@ use Rattle.tdb_walk.specs.Cursors.{At, IsPlaced, StepTaken, StepMade, spot_of}
 use Rattle.tdb_walk.specs.Way.{SameOthers, lock_byte}
 use Rattle.tdb_walk.specs.InLaw.{CursorBefore, IsTurn, StandsAfter, goal_of, is_dropped, is_purging, spot_in, strengths}
 
--- A cursor that comes to a record on which it didn't stand comes to one of a chain that no other opener has locked for writing. So nobody
--- comes to the record of a command that is going to take it out of its chain.
+-- A cursor that comes to a record on which it didn't stand comes to one of a chain that no other opener has locked for
+-- writing. So nobody comes to the record of a command that is going to take it out of its chain.
 abbrev pub CursorComesApart : Type 0
 CursorComesApart =
     (f : Form) (own : HeldLocks) (x : Own) (w : WalkCommand) (at later : At) (gone : Bool) (n who : ℕ) (ps qs : List Piece) (a b : List ℕ) (hands : List HandPair) (stood_on : List ℕ) (read_only : Bool) (v : View) (did : Turn) (turn : LawTurn) (tells : Bool)

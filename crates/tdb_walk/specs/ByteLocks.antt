@@ -27,8 +27,9 @@ is_reading (Some (Write, count)) = false
 abbrev pub only_reads : HeldLocks → Bool
 only_reads own = is_reading own.all
 
--- An opener holds no byte that is 3 past a multiple of 4, but by its lock of all records, which begins at 168. The bytes of the free
--- list, of chains and of records are multiples of 4, so none of them that it holds is part of a longer piece.
+-- An opener holds no byte that is 3 past a multiple of 4, but by its lock of all records, which begins at 168. The
+-- bytes of the free list, of chains and of records are multiples of 4, so none of them that it holds is part of a
+-- longer piece.
 abbrev pub HoldsWords : HeldLocks → ℕ → List Piece → Type 0
 HoldsWords own owner ps = (b : ℕ) → b % 4 ≡ 3 → reads_all own && nat_le 168 b ≡ false → held ps owner b ≡ None
 

@@ -37,8 +37,8 @@ abbrev pub IsFirstWord : Order → List ℕ → ℕ → ℕ → Option Head → 
 IsFirstWord o words count chain None = (j : ℕ) → j < count → word o words (4 * j) ≡ 0
 IsFirstWord o words count chain (Some found) = (i : ℕ) × (i < count) × WordAt o words chain i found
 
--- How many bytes of heads a search from a chain on reads at most: where none has a record, each head once; else those up
--- to the one that is found, and one block from there on.
+-- How many bytes of heads a search from a chain on reads at most: where none has a record, each head once; else those
+-- up to the one that is found, and one block from there on.
 abbrev pub heads_read : ℕ → ℕ → Option Head → ℕ
 heads_read chains from None = 4 * (chains - from)
 heads_read chains from (Some found) = 4 * (found.chain - from) + 4096

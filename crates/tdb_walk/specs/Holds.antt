@@ -15,11 +15,12 @@ use Rattle.tdb_walk.specs.Cursors.{At, IsPlaced, StepTaken}
 use Rattle.tdb_walk.specs.InLaw.{CursorReady, IsTurn, goal_of, held_next, is_close, own_next, spot_next, strengths}
 use Rattle.tdb_walk.specs.Again.{StandsAgain, cursor_after}
 
--- After a turn of an opener x, whatever the bytes of the file are: the row of its command allows the turn; what the opener holds is what
--- the law says, and others' locks don't conflict with that; the cursor stands so that its next turn is one of the law again, or rests;
--- the key of the last pair is that of the cursor's turns, and all else of the opener stays; and a record on which the cursor stands lies
--- behind the heads of all chains, at a whole word, and its opener has a last pair. Where a Close ends all is dropped, and so is the
--- cursor. The map m of the file decides nothing.
+-- After a turn of an opener x, whatever the bytes of the file are: the row of its command allows the turn; what the
+-- opener holds is what the law says, and others' locks don't conflict with that; the cursor stands so that its next
+-- turn is one of the law again, or rests; the key of the last pair is that of the cursor's turns, and all else of the
+-- opener stays; and a record on which the cursor stands lies behind the heads of all chains, at a whole word, and its
+-- opener has a last pair. Where a Close ends all is dropped, and so is the cursor. The map m of the file decides
+-- nothing.
 pub record CursorHeld (f : Form) (own : HeldLocks) (x : Own) (w : WalkCommand) (later : At) (n who : ℕ) (qs : List Piece) (m : Map) (did : Turn) (turn : LawTurn) : Type 0 where
   pub row : IsRow f (OnWalk w) x n turn
   pub holds : (b : ℕ) → held_next turn w (strengths qs who b) ≡ holding f (own_next f w n x m turn) (spot_next turn w later) (task_left (OnWalk w) n turn) b

@@ -110,8 +110,8 @@ pub record IsView (f : Form) (img : List ℕ) (own : HeldLocks) (stood_on : List
   pub way : (j : ℕ) → IsOnWay f img (from_of goal place) j → v.way (lock_byte j) ≡ true
   pub ways : (b : ℕ) → v.way b ≡ true → (j : ℕ) × (b ≡ lock_byte j) × IsOnWay f img (from_of goal place) j
 
--- The view of an opener with a cursor, as two tests: whether it has to purge its record, and whether a byte is that of a
--- chain which its move reads.
+-- The view of an opener with a cursor, as two tests: whether it has to purge its record, and whether a byte is that of
+-- a chain which its move reads.
 abbrev pub must_purge : Form → List ℕ → HeldLocks → List ℕ → Bool → Standing → Bool
 must_purge f img own stood_on read_only (On chain off) = not (magic_of f.order img off == USED) && (not (list_any (nat_eq off) stood_on) && (not read_only && not (only_reads own)))
 must_purge f img own stood_on read_only place = false
@@ -148,9 +148,9 @@ spot_in at gone = record { stands = spot_of at.place; purging = is_purging at.st
 abbrev pub strengths : List Piece → ℕ → ℕ → ℕ
 strengths ps o b = strength (held ps (o + 1) b)
 
--- Before a turn of a cursor, whose opener is x and has had n steps of a command, whatever the bytes of the file are: the
--- cursor stands as after these steps, what its opener holds is what the law says, and others' locks don't conflict with
--- that.
+-- Before a turn of a cursor, whose opener is x and has had n steps of a command, whatever the bytes of the file are:
+-- the cursor stands as after these steps, what its opener holds is what the law says, and others' locks don't conflict
+-- with that.
 pub record CursorReady (f : Form) (own : HeldLocks) (x : Own) (w : WalkCommand) (at : At) (gone : Bool) (n who : ℕ) (ps : List Piece) : Type 0 where
   pub few : HasFewChains f
   pub outside : x.txn ≡ None

@@ -25,12 +25,13 @@ IsUnentered off_chains n = ⊥
 IsUnentered (before_chain i) n = i ≤ n
 IsUnentered (on_record i p) n = i + 1 ≤ n
 
--- A cursor that stands before a chain then, where no chain before it has a live record left, has gone on and lost no key.
+-- A cursor that stands before a chain then, where no chain before it has a live record left, has gone on and lost no
+-- key.
 abbrev pub BlocksRightly : Type 0
 BlocksRightly = (f : Form) (cs : Chains) (place : Place) (n : ℕ) → IsUnentered place n → NoneLive cs place n → GoesOn f cs place (before_chain n) None
 
--- A walk has come from a place to a later one at a key: it has gone on to that key, which was further on and is so no longer, and whose
--- chain it has entered.
+-- A walk has come from a place to a later one at a key: it has gone on to that key, which was further on and is so no
+-- longer, and whose chain it has entered.
 pub record ComesTo (f : Form) (cs : Chains) (place later : Place) (key : List ℕ) : Type 0 where
   pub goes : GoesOn f cs place later (Some key)
   pub was : ahead_of f cs place key ≡ true

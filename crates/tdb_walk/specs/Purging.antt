@@ -37,8 +37,8 @@ FindsPlace f img chain off None = ⊥
 FindsPlace f img chain off (Some p) = IsPlaceIn f img chain off p
 
 -- From image a to image b the dead record of a chain at an offset went to the free list, as a give of it makes that: it
--- is in no chain, the map and the sequence number stay, no other chain changes, and b is accepted with the same hands. A walk that
--- doesn't stand on it has the same keys further on.
+-- is in no chain, the map and the sequence number stay, no other chain changes, and b is accepted with the same hands.
+-- A walk that doesn't stand on it has the same keys further on.
 pub record IsPurged (f : Form) (a b : List ℕ) (chain off : ℕ) (hands : List HandPair) : Type 0 where
   pub accepted : AcceptWith f b hands
   pub map : (key : List ℕ) → map_of f b key ≡ map_of f a key
@@ -58,7 +58,8 @@ abbrev pub IsPrepared : Form → List ℕ → Option DeadRecord → Option Place
 IsPrepared f img None found = found ≡ None
 IsPrepared f img (Some d) found = (d.chain < f.chains) × FindsPlace f img d.chain d.off found
 
--- a place can be purged: it stands within the file, is that of a record which isn't used, and there is room for the writes
+-- a place can be purged: it stands within the file, is that of a record which isn't used, and there is room for the
+-- writes
 pub record CanPurge (size : ℕ) (spare : Spare) (p : Place) : Type 0 where
   pub within : StandsWithin p size
   pub dead : p.rec.magic ≡ USED → ⊥
@@ -69,8 +70,8 @@ abbrev pub PurgesOf : Form → List ℕ → List ℕ → Option DeadRecord → L
 PurgesOf f a b None hands = b ≡ a
 PurgesOf f a b (Some d) hands = IsPurged f a b d.chain d.off hands
 
--- a call that looks and makes room for writes: it leaves the length, the bytes, what the header states, the disk under the view, and
--- the references that the view holds
+-- a call that looks and makes room for writes: it leaves the length, the bytes, what the header states, the disk under
+-- the view, and the references that the view holds
 pub record Readied {S : Type 0} (g : Ghosts S) (old new : S) : Type 0 where
   pub size : g.size new ≡ g.size old
   pub image : g.image new ≡ g.image old

@@ -1,4 +1,5 @@
--- A world whose openers have cursors, in the words of the law (`tdb_law`), and that a turn of one of them is a turn of the world.
+-- A world whose openers have cursors, in the words of the law (`tdb_law`), and that a turn of one of them is a turn of
+-- the world.
 use Rattle.std.specs.Prelude.{ℕ, IsTrue, ◌+◌, ◌≡◌, ◌≢◌, Bool, false, List, Option, Some}
 use Rattle.tdb_words.specs.Header.{sequence_at}
 use Rattle.tdb_words.specs.Word.{word}
@@ -22,8 +23,9 @@ use Rattle.tdb_walk.specs.Way.{SameOthers}
 use Rattle.tdb_walk.specs.Cursors.{At, IsPlaced, StepTaken, StepMade, dead_of}
 use Rattle.tdb_walk.specs.InLaw.{CursorBefore, IsTurn, goal_of, held_next, is_dropped, own_next, spot_in, spot_next, strengths}
 
--- The openers of a world without transactions: how many have joined, the unfinished command of each, what it has, what only the world
--- and what only the file knows of its cursor, where that stands, and what each opener holds at each lock byte.
+-- The openers of a world without transactions: how many have joined, the unfinished command of each, what it has, what
+-- only the world and what only the file knows of its cursor, where that stands, and what each opener holds at each lock
+-- byte.
 pub record Walkers : Type 0 where
   pub joined : ℕ
   pub task : ℕ → Option Task
@@ -50,8 +52,9 @@ state_of f ws img = record {
   image_number = λ o. 0;
 }
 
--- The opener `who` takes a turn of a cursor's command in such a world: it and its locks are as before the turn, and are as after it
--- then. Of all others everything stays, and none of their cursors stands on a record that the turn may purge.
+-- The opener `who` takes a turn of a cursor's command in such a world: it and its locks are as before the turn, and are
+-- as after it then. Of all others everything stays, and none of their cursors stands on a record that the turn may
+-- purge.
 pub record TakesTurn (f : Form) (w : WalkCommand) (at later : At) (gone : Bool) (n who : ℕ) (ps qs : List Piece) (a : List ℕ) (turn : LawTurn) (old new : Walkers) : Type 0 where
   pub joined : new.joined ≡ old.joined
   pub task : old.task who ≡ Some (record { command = OnWalk w; steps = n })

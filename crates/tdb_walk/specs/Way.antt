@@ -24,8 +24,8 @@ lock_byte j = 168 + 4 * j
 abbrev pub reads_chain : HeldLocks → ℕ → Bool
 reads_chain own j = nat_lt 0 (count_of own j) || is_some own.all
 
--- a chain can be read: by the opener's explicit locks, or since it holds the chain's byte for its command, or since no other holds
--- that byte for writing
+-- a chain can be read: by the opener's explicit locks, or since it holds the chain's byte for its command, or since no
+-- other holds that byte for writing
 abbrev pub CanRead : List Piece → ℕ → HeldLocks → ℕ → Type 0
 CanRead ps owner own j = (reads_chain own j ≡ true) ⊎ (held ps owner (lock_byte j) ≢ None) ⊎ IsFree ps owner (lock_byte j) (lock_byte j + 1) Read
 

@@ -371,13 +371,13 @@ impl Cursor {
     /// A turn is `Blocked` where another opener holds what it wants: the lock of a record, of its chain or of the free
     /// list, and then nothing changes; or the lock of a chain on its way, and then the dead record is purged, and the
     /// cursor stands before that chain and holds nothing. `Memory` where that is wanting, and nothing was written: then
-    /// First and Next have ended the cursor, which holds nothing, and a leave leaves it on its record, of which it holds
-    /// the byte alone. `Io` where the disk failed: then the cursor stands where it stood, and
-    /// in a turn that purges the record may be in its chain, in no list, or in the free list, and the opener may hold
-    /// the byte of the next live record.
+    /// First and Next have ended the cursor, which holds nothing, and a leave leaves it on its record, of which it
+    /// holds the byte alone. `Io` where the disk failed: then the cursor stands where it stood, and in a turn that
+    /// purges the record may be in its chain, in no list, or in the free list, and the opener may hold the byte of the
+    /// next live record.
     ///
-    /// The cost is that of `move_on`, of reading one pair with a pass over its key, and of a purge that of `purge_dead`;
-    /// where it stands on a record 24 bytes more.
+    /// The cost is that of `move_on`, of reading one pair with a pass over its key, and of a purge that of
+    /// `purge_dead`; where it stands on a record 24 bytes more.
     pub fn step<S: Space>(
         &mut self,
         alloc: Global,

@@ -14,8 +14,8 @@ pub fn moves_are_walks()
 
 /// A turn of a cursor is one of the law of reports: `turn` says so of its row, of the locks before it and after it as
 /// strengths, of what it wants and which conflict blocks it, and of its effect; `walk` of its own walk. By `others` it
-/// leaves the walks of all other cursors; `view` gives what the file adds to its opener. By `world` all this is a turn of
-/// a world whose openers have cursors. The law is over all turns; the function does nothing.
+/// leaves the walks of all other cursors; `view` gives what the file adds to its opener. By `world` all this is a turn
+/// of a world whose openers have cursors. The law is over all turns; the function does nothing.
 pub fn cursors_are_lawful()
     ensures turn { CursorIsLawful }
     ensures walk { WalkIsLawful }

@@ -24,8 +24,8 @@ pub enum Goal {
 }
 
 impl Goal {
-    /// Where a cursor that stands at a place stands after a command for which memory was wanting: First and Next end it,
-    /// and a leave leaves it there.
+    /// Where a cursor that stands at a place stands after a command for which memory was wanting: First and Next end
+    /// it, and a leave leaves it there.
     pub(crate) fn spared(self, place: Standing) -> Standing
         ensures { result ≡ spared_of self place }
     {

@@ -20,8 +20,9 @@ use tdb_space::{Io, Space};
 use crate::Goal;
 
 impl Walk {
-    /// Takes one turn of what the cursor is asked for, as `step` does. The opener's own entry in `spots` is the one at its
-    /// number in the lock table less 1: other cursors stand on the other entries, and it is the cursor's new record then.
+    /// Takes one turn of what the cursor is asked for, as `step` does. The opener's own entry in `spots` is the one at
+    /// its number in the lock table less 1: other cursors stand on the other entries, and it is the cursor's new record
+    /// then.
     fn step_among<S: Space>(
         &mut self,
         alloc: Global,
@@ -54,8 +55,8 @@ impl Walk {
         turn
     }
 
-    /// Takes one turn of a First, a Next or an EndWalk, as `step_among` does. A Next without a cursor is told the end at
-    /// once, and changes nothing.
+    /// Takes one turn of a First, a Next or an EndWalk, as `step_among` does. A Next without a cursor is told the end
+    /// at once, and changes nothing.
     pub fn turn<S: Space>(
         &mut self,
         alloc: Global,
@@ -91,8 +92,9 @@ impl Walk {
     }
 }
 
-/// Takes one turn of the end of an opener, whose cursor leaves its record first. With the last one the opener lets go of
-/// all that it holds, and isn't live any more; so it is where memory was wanting for a purge or for one of its locks.
+/// Takes one turn of the end of an opener, whose cursor leaves its record first. With the last one the opener lets go
+/// of all that it holds, and isn't live any more; so it is where memory was wanting for a purge or for one of its
+/// locks.
 pub fn close_turn<S: Space>(
     alloc: Global,
     s: &mut S,

@@ -1,4 +1,5 @@
--- Images whose headers say the same. The words at 44 and 48, where the undo area stands and the sequence number, may differ.
+-- Images whose headers say the same. The words at 44 and 48, where the undo area stands and the sequence number, may
+-- differ.
 use Rattle.std.proofs.Common.{◌≡◌, ℕ, ◌+◌, ◌*◌, ◌<◌, ◌≤◌, List, take, Some, None, ap, ◌∙◌, arith}
 use Rattle.std.specs.Prelude.{slice_index, ◌==◌, ◌&&◌, ◌||◌, not, is_none, unwrap_or, if◌then◌else◌}
 use Rattle.std.specs.Cmp.Lexicographic.{pointwise}

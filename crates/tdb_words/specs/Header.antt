@@ -19,8 +19,8 @@ header_length = 168
 abbrev pub known_length : ℕ
 known_length = 64
 
--- The offsets of the words of a header, behind its text: the version, the number of chains, the locks word, where the undo area
--- stands, the sequence number, the two words of the hash, and the size of the mutexes
+-- The offsets of the words of a header, behind its text: the version, the number of chains, the locks word, where the
+-- undo area stands, the sequence number, the two words of the hash, and the size of the mutexes
 abbrev pub version_at : ℕ
 version_at = 32
 

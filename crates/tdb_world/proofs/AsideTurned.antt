@@ -1,4 +1,5 @@
--- A turn of the opener aside is a turn of the whole state, by what it leaves of its stage, of the file and of the openers.
+-- A turn of the opener aside is a turn of the whole state, by what it leaves of its stage, of the file and of the
+-- openers.
 use Rattle.std.proofs.Common.{◌≡◌, ◌≢◌, ◌⊎◌, ℕ, List, Bool, false, Some, None, is_some, refl, sym, ◌∙◌, ap, subst}
 use Rattle.std.specs.Prelude.{slice_get}
 use Rattle.tdb_disk.specs.History.{History}

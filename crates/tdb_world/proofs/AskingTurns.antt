@@ -1,5 +1,5 @@
--- Who asks for the sequence number beside one aside that holds all records for writing: it is blocked at the byte of the number, or that
--- is free.
+-- Who asks for the sequence number beside one aside that holds all records for writing: it is blocked at the byte of
+-- the number, or that is free.
 use Rattle.std.proofs.Common.{◌≡◌, ◌≢◌, ◌⊎◌, ℕ, ◌+◌, ◌<◌, ◌≤◌, List, false, nat_le, nat_lt, None, refl, sym, ◌∙◌, ap, subst, inl, inr, arith}
 use Rattle.std.specs.Prelude.{◌&&◌, if◌then◌else◌}
 use Rattle.std.proofs.lemmas.Bool.{cases_eq}

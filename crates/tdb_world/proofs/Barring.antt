@@ -1,5 +1,5 @@
--- When the one aside stands in the way of the sequence number: it holds the lock byte from the step on that takes it, through a commit or a
--- prepare of a transaction whose changes count.
+-- When the one aside stands in the way of the sequence number: it holds the lock byte from the step on that takes it,
+-- through a commit or a prepare of a transaction whose changes count.
 use Rattle.std.proofs.Common.{◌≡◌, ℕ, ◌+◌, ◌≤◌, max, [], Bool, true, false, nat_le, nat_lt, ◌-◌, Option, Some, None, refl, sym, ◌∙◌, ap, subst, arith, le_refl}
 use Rattle.std.specs.Prelude.{if◌then◌else◌}
 use Rattle.std.proofs.Math.Bool.{and-false}

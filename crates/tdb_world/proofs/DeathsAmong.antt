@@ -34,7 +34,8 @@ use Rattle.tdb_world.proofs.Gifts.{apart_holder}
 use Rattle.tdb_world.proofs.OthersKept.{OneChanges}
 use Rattle.tdb_world.proofs.Standings.{may_start, may_start_whole, side_else, stands_by}
 
--- A world stays sound when an opener dies, which has nothing then. Where a gate is left open nobody has a change pending.
+-- A world stays sound when an opener dies, which has nothing then. Where a gate is left open nobody has a change
+-- pending.
 pub died_sound : (f : Form) (old new : State) (who : ℕ) → IsSound f old → Dies f old who new
     → (new.stale ≡ true → (o : ℕ) (d : Command) (y : Own) (k : List ℕ) → o ≢ who → IsPending f old o d y → touches f d y k ≡ true → ⊥) → IsSound f new
 died_sound f old new who S D none =

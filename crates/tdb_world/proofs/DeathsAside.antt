@@ -60,7 +60,8 @@ free_of_locks w h any size W HF e i =
 same_closed : (x y : Own) → x.options ≡ y.options → closed x ≡ closed y
 same_closed x y e = λ i. record { options = e i; live = false; txn = None; counts = empty; all = None; cursor = None }
 
--- What the death of the one aside leaves of the file: image i, which is read as image a was, and is a where others could read it.
+-- What the death of the one aside leaves of the file: image i, which is read as image a was, and is a where others
+-- could read it.
 record IsLeftAs (f : Form) (writes : Bool) (a i : List ℕ) : Type 0 where
   map : image_map f i ≡ image_map f a
   number : number_of f i ≡ number_of f a

@@ -88,7 +88,8 @@ module _ (w : Whole) (a : List ℕ) (size : ℕ) (F : WorldFits w a size) (was :
     stale = λ e. absurd (cc e);
   }
 
-  -- The file is what the undo gives, which is accepted; no command and no cursor holds a record, so the openers' bytes stand.
+  -- The file is what the undo gives, which is accepted; no command and no cursor holds a record, so the openers' bytes
+  -- stand.
   pub undone_leads : (h later : History) → (form_of (seen h) ≡ form_at w → Opens (seen h) → seen later ≡ restored (form_at w) (seen h)) → UndoLeads w undone_world h later
   undone_leads h later undo state (of_whole S) = absurd (never_true (sym S.fresh ∙ was))
   undone_leads h later undo state (of_stale S) =

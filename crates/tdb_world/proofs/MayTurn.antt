@@ -1,4 +1,5 @@
--- Before a turn of the one aside nobody else stands in its way: by what it wants, and by the lock of all records that was taken for it.
+-- Before a turn of the one aside nobody else stands in its way: by what it wants, and by the lock of all records that
+-- was taken for it.
 use Rattle.std.proofs.Common.{◌≡◌, ◌≢◌, ℕ, ◌+◌, ◌<◌, ◌≤◌, List, Bool, true, false, nat_le, nat_lt, refl, ap, inl, inr, arith}
 use Rattle.std.specs.Prelude.{if◌then◌else◌}
 use Rattle.std.proofs.Math.Bool.{and-false}

@@ -1,4 +1,5 @@
--- What the one aside holds of the byte of the sequence number: nothing, or it writes it while it holds all records for writing.
+-- What the one aside holds of the byte of the sequence number: nothing, or it writes it while it holds all records for
+-- writing.
 use Rattle.std.proofs.Common.{◌≡◌, ◌⊎◌, ℕ, ◌+◌, max, List, Bool, true, false, Option, Some, None, refl, sym, ◌∙◌, ap, subst, inl, inr, arith}
 use Rattle.tdb_space.specs.Form.{Form}
 use Rattle.tdb_locks.specs.declared.kind.Kind.{Kind}

@@ -1,4 +1,5 @@
--- What a turn of an opener that isn't aside leaves of a world: it stands, and from each of its states the turn leads to one of it.
+-- What a turn of an opener that isn't aside leaves of a world: it stands, and from each of its states the turn leads to
+-- one of it.
 use Rattle.std.proofs.Common.{◌≡◌, ◌≢◌, ℕ, ◌≤◌, List, [], length, slice_get, Bool, true, false, Option, Some, None, is_some, refl, sym, ◌∙◌, ap, subst, inl, inr, arith}
 use Rattle.tdb_disk.specs.History.{History, seen}
 use Rattle.tdb_words.specs.declared.header.Header.{Header}
@@ -116,8 +117,8 @@ module _ (w : Whole) (v : World) (l : ℕ) (K : OnlyOne w.openers v l) where
     stale = λ e. absurd (never_true (sym fresh ∙ e));
   }
 
--- The world stands by such a turn: nobody shuts the others out, and the file has got longer at most where no record was held; or the
--- length is the same.
+-- The world stands by such a turn: nobody shuts the others out, and the file has got longer at most where no record was
+-- held; or the length is the same.
 module _ (w : Whole) (v : World) (who : ℕ) (named : 1 ≤ who) (among : IsAmong w who) (begun : is_starting w.starts (law_opener who) ≡ false) (K : OnlyOne w.openers v (law_opener who)) where
   aside_kept : (size longer : ℕ) → ((h : HolderState) → w.aside ≡ Some h → HolderFits w h size → IsFit h.stage w.openers.header w.openers.options.limit size → IsFit h.stage w.openers.header w.openers.options.limit longer)
       → (a : Option HolderState) → w.aside ≡ a → AsideFits w a size → AsideFits (with_openers w v) a longer
@@ -162,7 +163,8 @@ job_apart f x (Jobs.Locking locking) n size K = ungrouped_apart (refusal f (comm
 job_apart f x Jobs.Seqnum n size K = ungrouped_apart (refusal f (command_in Jobs.Seqnum) x) (command_in Jobs.Seqnum) tt
 job_apart f x (Jobs.Walk walking) n size K = ungrouped_apart (refusal f (command_in (Jobs.Walk walking)) x) (command_in (Jobs.Walk walking)) tt
 
--- A side is the same where only whether the world is settled is another, and before it holds any record where the file has other bytes.
+-- A side is the same where only whether the world is settled is another, and before it holds any record where the file
+-- has other bytes.
 side_past : {f : Form} {o : Options} {owner : ℕ} {ps : List Piece} {stage : Stage} {k : Known} {past : Past} {s : Side} (z : Bool) → IsSide f o owner ps stage k past s → IsSide f o owner ps stage k (record past { settled = z }) s
 side_past z S = record { here = S.here; alone = S.alone; table = S.table; holds = S.holds; task = S.task; keeps = S.keeps; live = S.live; options = S.options; own = S.own; numbers = S.numbers; mark = S.mark }
 

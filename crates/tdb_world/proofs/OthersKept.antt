@@ -27,7 +27,8 @@ pub record OneChanges (xs ys : List Opener) (ps qs : List Piece) (who : ℕ) : T
   pub others : (o : ℕ) → o ≢ who → slice_get ys o ≡ slice_get xs o
   pub table : (o byte : ℕ) → o ≢ who → table_of qs (o + 1) byte ≡ table_of ps (o + 1) byte
 
--- the walks of others, by what a turn leaves of the file: none is moved, or they stand on no record where another image comes
+-- the walks of others, by what a turn leaves of the file: none is moved, or they stand on no record where another image
+-- comes
 module _ (f : Form) (s : Side) (t : Task) (turn : Turn) (xs : List Opener) (old new : Known) (o : ℕ) where
   abbrev mark : Mark
   mark = mark_of f (chains_in f old.file) (place_at (slice_get xs o))

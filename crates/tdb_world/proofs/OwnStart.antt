@@ -288,7 +288,8 @@ module _ (w : Whole) (o : ℕ) (img : List ℕ) (size : ℕ) (F : WorldFits w im
     goes_aside (of_whole W) = went W.image W.past W.side (subst (λ a. SideIs w a h W.image W.past W.side) nobody W.is_side) W.sound W.is
     goes_aside (of_stale W) = absurd (never_true (sym fresh ∙ W.stale))
 
--- Beside one aside: its first turn is blocked where that one holds the lock of transactions, and ends for want of memory else.
+-- Beside one aside: its first turn is blocked where that one holds the lock of transactions, and ends for want of
+-- memory else.
 module _ (w : Whole) (o : ℕ) (any : List ℕ) (size : ℕ) (F : WorldFits w any size) (begun : is_starting w.starts o ≡ true) (fresh : w.stale ≡ false) (hd : HolderState) (there : w.aside ≡ Some hd) (h : History) where
   abbrev g : Form
   g = form_at w

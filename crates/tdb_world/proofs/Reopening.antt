@@ -1,4 +1,5 @@
--- As what the file is read beside the one aside: it opens to the map of the side's image, an open gate undone; and so does what a stop leaves.
+-- As what the file is read beside the one aside: it opens to the map of the side's image, an open gate undone; and so
+-- does what a stop leaves.
 use Rattle.std.proofs.Common.{◌≡◌, ℕ, ◌%◌, ◌≤◌, List, [], length, true, false, Option, None, Some, is_some, refl, sym, ◌∙◌, ap, subst, inl, inr, arith}
 use Rattle.std.proofs.lemmas.Bool.{cases_lt}
 use Rattle.tdb_disk.specs.History.{History, seen}

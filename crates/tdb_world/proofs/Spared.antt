@@ -25,7 +25,8 @@ use Rattle.tdb_world.proofs.Standings.{own_in, task_in}
 pub still_stops : (f : Form) (h later : History) → later ≡ h → IsSafe f h → LeavesOnly h later (Reopens (restored f (seen h)))
 still_stops f h later same safe = subst (λ z. LeavesOnly h z (Reopens (restored f (seen h)))) (sym same) (leaves_start h (Reopens (restored f (seen h))) safe)
 
--- Where a state of the world doesn't say that an opener among the others is in the middle of a change, by the opener's task it isn't.
+-- Where a state of the world doesn't say that an opener among the others is in the middle of a change, by the opener's
+-- task it isn't.
 pub not_midway : (w : Whole) (who : ℕ) (x : Opener) (t : Task) (h : History) (state : State) → 1 ≤ who → IsBusy w.openers who x t → IsAmong w who
     → is_starting w.starts (law_opener who) ≡ false → IsStateOf w h state → (IsChanging (form_at w) state (law_opener who) → ⊥) → IsMidway (form_at w) (own_of (options_at w) x) (law_of_task t) → ⊥
 not_midway w who x t h state named B among begun S never midway =

@@ -185,7 +185,8 @@ knows_stage f (At.Preparing p) after old new k K = K
 knows_stage f (At.Prepared left command) after old new k K = K
 knows_stage f (At.Finishing c) after old new k K = K
 
--- where the opener is back, the file has the map and the number that it had; nothing was done where others could read it
+-- where the opener is back, the file has the map and the number that it had; nothing was done where others could read
+-- it
 pub record ReadsLike (f : Form) (stage : Stage) (old new : History) (k : Known) : Type 0 where
   pub map : image_map f (seen new) ≡ image_map f k.file
   pub number : number_of f (seen new) ≡ number_of f k.file

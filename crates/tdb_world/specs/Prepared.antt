@@ -27,8 +27,8 @@ prepared_turn txn steps = if nat_lt steps (commit_last (Some txn)) then Step els
 abbrev pub GoesAsPrepared : Whole → History → ℕ → Turn → Type 0
 GoesAsPrepared w h o turn = (state : State) (txn : Txn) (steps : ℕ) → IsStateOf w h state → CommitsPrepared state o txn steps → turn ≡ prepared_turn txn steps
 
--- In each state that a world may have, each turn of such an opener by the law is this one: it isn't blocked, and no reply but Done ends the
--- Commit.
+-- In each state that a world may have, each turn of such an opener by the law is this one: it isn't blocked, and no
+-- reply but Done ends the Commit.
 abbrev pub PreparedCommitGoesOn : Type 0
 PreparedCommitGoesOn =
     (w : Whole) (h : History) (state after : State) (o : ℕ) (task : Task) (turn : Turn) (txn : Txn) (steps : ℕ)

@@ -33,8 +33,8 @@ pub record IsSeen (w : Whole) (h : History) (img : List ℕ) : Type 0 where
   pub image : img ≡ seen h
   pub bytes : BytesStand w.openers img
 
--- The one aside is this side of the state, by what is known of the file, which has the map and the number of the image. Among the openers it
--- holds all records as its stage says.
+-- The one aside is this side of the state, by what is known of the file, which has the map and the number of the image.
+-- Among the openers it holds all records as its stage says.
 pub record IsAside (w : Whole) (holder : HolderState) (h : History) (img : List ℕ) (past : Past) (s : Side) : Type 0 where
   pub known : Known
   pub image : img ≡ known.file
@@ -64,7 +64,8 @@ pub record IsWholeState (w : Whole) (h : History) (state : State) : Type 0 where
   pub sound : IsSound (form_at w) (whole (state_in w.openers image) past side)
   pub is : state ≡ state_with w image past side
 
--- A state of a stale world: nobody is aside, no command and no cursor holds a record, and the image is that of the file once its gate is undone.
+-- A state of a stale world: nobody is aside, no command and no cursor holds a record, and the image is that of the file
+-- once its gate is undone.
 pub record IsStaleState (w : Whole) (h : History) (state : State) : Type 0 where
   pub stale : w.stale ≡ true
   pub nobody : w.aside ≡ None

@@ -16,8 +16,8 @@ use Rattle.tdb_openers.specs.Calm.{IsMidway}
 use Rattle.tdb_world.specs.Whole.{Whole, form_at}
 use Rattle.tdb_world.specs.States.{IsStateOf}
 
--- A stop now leaves only files that open to the map and the sequence number that the file has, an open gate undone; and so does each stop
--- of their undo.
+-- A stop now leaves only files that open to the map and the sequence number that the file has, an open gate undone; and
+-- so does each stop of their undo.
 abbrev pub IsSafe : Form → History → Type 0
 IsSafe f h = (c : List ℕ) → Leaves h c → Reopens (restored f (seen h)) c
 
@@ -45,8 +45,8 @@ pub record IsShutting (f : Form) (state : State) (o : ℕ) : Type 0 where
   pub not_yet : is_changed f task.command (state.own o) task.steps ≡ false
   pub shut : is_changed f task.command (state.own o) (task.steps + 1) ≡ true
 
--- What a stop in the next turn of an opener may leave: a file with the map that it has; or, in the turn that shuts the gate of a Commit,
--- with that of the transaction.
+-- What a stop in the next turn of an opener may leave: a file with the map that it has; or, in the turn that shuts the
+-- gate of a Commit, with that of the transaction.
 abbrev pub TurnMayLeave : Form → State → ℕ → List ℕ → Type 0
 TurnMayLeave f state o c = OpensToState f state c ⊎ (IsShutting f state o × OpensToTxn f state o c)
 

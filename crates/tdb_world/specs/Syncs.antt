@@ -19,7 +19,8 @@ use Rattle.tdb_world.specs.Steps.{IsAmong}
 use Rattle.tdb_world.specs.Stops.{IsChanging}
 use Rattle.tdb_world.specs.Whole.{is_starting, Whole}
 
--- The opener with this number, from 1 on, is at a stage of its transaction: it is aside, or has a Start that has had no turn.
+-- The opener with this number, from 1 on, is at a stage of its transaction: it is aside, or has a Start that has had no
+-- turn.
 pub data StandsAt (w : Whole) (who : ℕ) (stage : Stage) : Type 0 where
   at_aside : (h : HolderState) → w.aside ≡ Some h → who ≡ h.owner → stage ≡ h.stage → StandsAt w who stage
   at_start : is_starting w.starts (law_opener who) ≡ true → IsAmong w who → stage ≡ Starting Begun → StandsAt w who stage
@@ -28,19 +29,20 @@ pub data StandsAt (w : Whole) (who : ℕ) (stage : Stage) : Type 0 where
 abbrev pub SyncsByStage : Whole → ℕ → Turn → ℕ → ℕ → Type 0
 SyncsByStage w who turn before now = (stage : Stage) → StandsAt w who stage → HolderSyncs stage turn before now
 
--- The next turn of an opener only looks at the file: it has no transaction and no Start of one, and isn't in the middle of a change outside a
--- transaction.
+-- The next turn of an opener only looks at the file: it has no transaction and no Start of one, and isn't in the middle
+-- of a change outside a transaction.
 pub record OnlyLooks (f : Form) (state : State) (o : ℕ) : Type 0 where
   pub outside : (state.own o).txn ≡ None
   pub no_start : (task : Task) → state.task o ≡ Some task → task.command ≢ OnGroup Start
   pub calm : IsChanging f state o → ⊥
 
--- how many syncs a Commit makes at most from the turn after so many steps on: its plan five, and each of four turns behind it one
+-- how many syncs a Commit makes at most from the turn after so many steps on: its plan five, and each of four turns
+-- behind it one
 abbrev pub syncs_from : ℕ → ℕ
 syncs_from n = if nat_le n 2 then 9 else if n == 3 then 4 else if n == 4 then 3 else if nat_le n 6 then 2 else if n == 7 then 1 else 0
 
--- A Commit goes on from a stage by so many steps, and the turn behind them ends it. The disk had the one count of syncs before and has the
--- other afterwards, where nobody else syncs between.
+-- A Commit goes on from a stage by so many steps, and the turn behind them ends it. The disk had the one count of syncs
+-- before and has the other afterwards, where nobody else syncs between.
 abbrev pub CommitsBy : ℕ → Committing → ℕ → ℕ → Type 0
 CommitsBy zero c before now = CanEnd c × StepSyncs c before now
 CommitsBy (suc n) c before now = (next : Committing) × (mid : ℕ) × CommitLeads c (Step next) × StepSyncs c before mid × CommitsBy n next mid now

@@ -1,4 +1,5 @@
--- What contracts see of a world: its openers, which of them have a Start that has had no turn, and the one that has a transaction.
+-- What contracts see of a world: its openers, which of them have a Start that has had no turn, and the one that has a
+-- transaction.
 use Rattle.std.specs.Prelude.{ℕ, ◌≡◌, ◌≤◌, List, Bool, true, false, Option, None, Some, slice_get, length}
 use Rattle.tdb_locks.specs.declared.kind.Kind.{Kind}
 use Rattle.tdb_locks.specs.declared.kind.Kind.TheVariants.{Read, Write}
@@ -11,8 +12,9 @@ use Rattle.tdb_openers.specs.declared.opener.Opener.{Opener}
 use Rattle.tdb_txn_owner.specs.Holders.{HolderState}
 use Rattle.tdb_txn_owner.specs.Stages.{stage_records, IsFit}
 
--- The openers, in whose lock table the one aside holds all records as it does; for each opener whether it has a Start that has had no turn; the
--- one aside, with its transaction or its Start; and the sequence number of the file while the one aside holds all records for writing.
+-- The openers, in whose lock table the one aside holds all records as it does; for each opener whether it has a Start
+-- that has had no turn; the one aside, with its transaction or its Start; and the sequence number of the file while the
+-- one aside holds all records for writing.
 pub record Whole : Type 0 where
   pub openers : World
   pub starts : List Bool
@@ -34,8 +36,9 @@ is_yes (Some b) = b
 abbrev pub is_starting : List Bool → ℕ → Bool
 is_starting starts o = is_yes (slice_get starts o)
 
--- Among the openers the one aside has no command, no cursor and no lock but that of all records, which it holds for writing where its stage
--- does, and for reading or writing where its stage does for reading. Its stage fits the file's length.
+-- Among the openers the one aside has no command, no cursor and no lock but that of all records, which it holds for
+-- writing where its stage does, and for reading or writing where its stage does for reading. Its stage fits the file's
+-- length.
 pub record HolderFits (w : Whole) (h : HolderState) (size : ℕ) : Type 0 where
   pub opener : Opener
   pub number : IsNumber w.openers h.owner opener
@@ -57,7 +60,8 @@ pub record StartFits (w : Whole) (o : ℕ) : Type 0 where
   pub none : opener.held.all ≡ None
   pub writes : w.openers.options.read_only ≡ false
 
--- In a stale world nobody is aside, and since no command holds a record the openers stand over a file of any length up to the limit.
+-- In a stale world nobody is aside, and since no command holds a record the openers stand over a file of any length up
+-- to the limit.
 pub record StaleFits (w : Whole) : Type 0 where
   pub nobody : w.aside ≡ None
   pub lengths : (img : List ℕ) (size : ℕ) → size ≤ w.openers.options.limit → Stands w.openers img size

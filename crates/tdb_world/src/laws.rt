@@ -11,8 +11,8 @@ pub fn states_are_read()
     ensures law { StatesAreRead }
 {}
 
-/// While an opener has a transaction every stop leaves a file that opens to the map and the number that it has. The law is
-/// over all worlds and histories; the function does nothing.
+/// While an opener has a transaction every stop leaves a file that opens to the map and the number that it has. The law
+/// is over all worlds and histories; the function does nothing.
 pub fn transactions_are_safe()
     ensures law { TransactionsAreSafe }
 {}

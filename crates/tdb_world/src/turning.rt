@@ -19,8 +19,8 @@ use tdb_space::Io;
 
 impl World {
     /// Takes one turn of the opener's command. After `Io` no other turn may be taken in the world: the disk failed, or
-    /// a check found a fault in the file, which no turn leaves. A Commit of a prepared transaction is never blocked, and
-    /// is done after at most four turns of its opener.
+    /// a check found a fault in the file, which no turn leaves. A Commit of a prepared transaction is never blocked,
+    /// and is done after at most four turns of its opener.
     ///
     /// Cost: that of the command's turn, and a search in the lock table; nothing is passed over that doesn't belong to
     /// it. A turn of a Start, a Commit or a Prepare, or one that ends a transaction, syncs the disk as often as its

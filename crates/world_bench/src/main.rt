@@ -139,8 +139,8 @@ impl Work {
     }
 }
 
-/// Does some work over a new file, which is removed again, and prints what came of it, and how long it took where that is
-/// asked for.
+/// Does some work over a new file, which is removed again, and prints what came of it, and how long it took where that
+/// is asked for.
 fn measure<F: Files>(rt: HostRuntime, files: &mut F, work: Work, timed: bool) -> anyhow::Result<()>
     requires { (name : List ℕ) → F.is_taken files.old name ≡ false }
     ensures { OnOk result ((name : List ℕ) → F.is_taken files.new name ≡ false) }

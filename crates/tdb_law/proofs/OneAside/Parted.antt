@@ -1,5 +1,5 @@
--- Turns of an opener that is shut out, in parts: what the file adds to cursors is no matter then, and what changes of the opener changes
--- beside the one that is aside.
+-- Turns of an opener that is shut out, in parts: what the file adds to cursors is no matter then, and what changes of
+-- the opener changes beside the one that is aside.
 use Rattle.std.proofs.Common.{◌≡◌, ◌≢◌, ℕ, Bool, true, cond, ◌==◌, None, sym, ◌∙◌, ap, subst, inl, inr}
 use Rattle.std.specs.Prelude.{if◌then◌else◌}
 use Rattle.std.proofs.lemmas.Bool.{cases_eq}

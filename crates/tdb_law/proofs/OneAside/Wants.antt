@@ -1,4 +1,5 @@
--- What commands that are on no transaction want: no byte below that of the sequence number, and each at most for writing.
+-- What commands that are on no transaction want: no byte below that of the sequence number, and each at most for
+-- writing.
 use Rattle.std.proofs.Common.{◌≡◌, ℕ, ◌<◌, ◌≤◌, List, [], ◌∷◌, Bool, true, false, nat_lt, ◌==◌, Option, Some, None, is_none, refl, zero-le, ◌∙◌, ap, arith}
 use Rattle.std.specs.Prelude.{◌&&◌, if◌then◌else◌}
 use Rattle.std.proofs.lemmas.Bool.{lt-leb}

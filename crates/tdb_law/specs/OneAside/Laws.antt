@@ -25,8 +25,8 @@ use Rattle.tdb_law.specs.OneAside.Shutting.{HasRecords, IsShutOut}
 use Rattle.tdb_law.specs.OneAside.Starts.{with_starts, MayStart}
 use Rattle.tdb_law.specs.OneAside.Turns.{IsApart, IsUngrouped, IsClear, past_after, EndsAtOnce, without_task, LeavesNothing, IsLeave, without_cursor}
 
--- In a sound world that isn't stale, a command that waits, of which the file doesn't have the change, and that meets a conflict has
--- taken a turn by being blocked, and nothing has changed.
+-- In a sound world that isn't stale, a command that waits, of which the file doesn't have the change, and that meets a
+-- conflict has taken a turn by being blocked, and nothing has changed.
 abbrev pub WaitingIsTurned : Type 0
 WaitingIsTurned = (f : Form) (w : State) (who : ℕ) (t : Task) (owner byte : ℕ) → IsSound f w → w.stale ≡ false → w.task who ≡ Some t → waits t.command ≡ true
     → is_changed f t.command (w.own who) t.steps ≡ false → IsFirstConflict w.table who (want f w who t) owner byte → Turned f w who t (Blocked owner byte) w
@@ -36,25 +36,27 @@ abbrev pub EndIsTurned : Type 0
 EndIsTurned = (f : Form) (w : State) (who : ℕ) (t : Task) (r : Reply) → IsSound f w → w.stale ≡ false → w.task who ≡ Some t → t.steps ≡ 0 → (w.spot who).gone ≡ false
     → EndsAtOnce f w who t r → Turned f w who t (Ends r) (without_task w who)
 
--- So has an EndWalk or a Close that is done at its first turn, where the cursor stands on no record: the cursor has ended, and by a Close
--- the opener, which holds nothing any more.
+-- So has an EndWalk or a Close that is done at its first turn, where the cursor stands on no record: the cursor has
+-- ended, and by a Close the opener, which holds nothing any more.
 abbrev pub LeavingIsTurned : Type 0
 LeavingIsTurned = (f : Form) (w : State) (who : ℕ) (t : Task) (c : WalkCommand) → IsSound f w → w.stale ≡ false → w.task who ≡ Some t → t.steps ≡ 0 → t.command ≡ OnWalk c → IsLeave c → LeavesNothing w who
     → Turned f w who t (Ends Done) (without_cursor c w who)
 
--- A turn of an opener that isn't aside, of a command that begins and ends no transaction, is a turn of the whole world where nobody is aside.
+-- A turn of an opener that isn't aside, of a command that begins and ends no transaction, is a turn of the whole world
+-- where nobody is aside.
 abbrev pub AloneTurns : Type 0
 AloneTurns = (f : Form) (p later : State) (past : Past) (who : ℕ) (t : Task) (turn : Turn) → IsPlain p → IsApart (refusal f t.command (p.own who)) t.command → Turned f p who t turn later
     → IsPlain later × Turned f (alone p past) who t turn (alone later (past_after f p who t turn past))
 
--- So it is where an opener is aside that is no matter to the command. Of the bytes below the records it may hold any, since such a
--- command wants none of them but that of the sequence number.
+-- So it is where an opener is aside that is no matter to the command. Of the bytes below the records it may hold any,
+-- since such a command wants none of them but that of the sequence number.
 abbrev pub BesideTurns : Type 0
 BesideTurns = (f : Form) (p later : State) (past : Past) (s : Side) (who : ℕ) (t : Task) (turn : Turn) → IsSound f (beside p past s) → IsPlain p → StandsAside p s → IsClear f p s who t → who ≢ s.here
     → IsApart (refusal f t.command (p.own who)) t.command → Turned f p who t turn later
     → IsPlain later × StandsAside later s × Turned f (beside p past s) who t turn (beside later (past_after f p who t turn past) s)
 
--- An opener that joins the plain world joins the whole world, where nobody at all holds the opening lock, whoever is aside.
+-- An opener that joins the plain world joins the whole world, where nobody at all holds the opening lock, whoever is
+-- aside.
 abbrev pub JoinsBeside : Type 0
 JoinsBeside = (f : Form) (p later : State) (past : Past) (side : Option Side) (who : ℕ) → StandsBy p side → ((o : ℕ) → (whole p past side).table o 0 ≡ 0) → Joins f p who later
     → StandsBy later side × Joins f (whole p past side) who (whole later past side)
@@ -68,13 +70,14 @@ abbrev pub DiesBeside : Type 0
 DiesBeside = (f : Form) (p later : State) (past : Past) (side : Option Side) (who : ℕ) → StandsBy p side → IsElse side who → Dies f p who later
     → StandsBy later side × Dies f (whole p past side) who (whole later past side)
 
--- Where a commit puts another image into the file, a walk that stands on no record shifts: each key further on that the new image has is
--- further on still.
+-- Where a commit puts another image into the file, a walk that stands on no record shifts: each key further on that the
+-- new image has is further on still.
 abbrev pub CommitShifts : Type 0
 CommitShifts = (f : Form) (a b : List ℕ) (hands : List HandPair) (place : Place) → AcceptWith f b hands → IsOffRecords place
     → Shift f (λ k. has (image_map f b) k ≡ false) (mark_of f (chains_in f a) place) (mark_of f (chains_in f b) place)
 
--- So it does by the step after which the file has the change of a Commit, whose image has that map: others' walks lose no key but by it.
+-- So it does by the step after which the file has the change of a Commit, whose image has that map: others' walks lose
+-- no key but by it.
 abbrev pub GateShifts : Type 0
 GateShifts = (f : Form) (x : Own) (txn : Txn) (n : ℕ) (a b : List ℕ) (hands : List HandPair) (place : Place) → x.txn ≡ Some txn → txn.image ≡ image_map f b → is_changed f (OnGroup Commit) x (n + 1) ≡ true
     → AcceptWith f b hands → IsOffRecords place
@@ -98,8 +101,8 @@ ShutOutMeets = (f : Form) (p : State) (past : Past) (s : Side) (who : ℕ) (t : 
     → 168 ≤ byte → byte < 2 ^ 63 → 1 ≤ want f (beside p past s) who t byte → ((b : ℕ) → b < byte → want f (beside p past s) who t b ≡ 0)
     → IsFirstConflict (beside p past s).table who (want f (beside p past s) who t) s.here byte
 
--- Where openers that are live and have no command are given a Start, the state is as sound as it was before a step of it, also beside an
--- opener that is aside.
+-- Where openers that are live and have no command are given a Start, the state is as sound as it was before a step of
+-- it, also beside an opener that is aside.
 abbrev pub StartsAreSound : Type 0
 StartsAreSound = (f : Form) (p : State) (starts : ℕ → Bool) → MayStart starts p → IsSound f p → IsSound f (with_starts starts p)
 

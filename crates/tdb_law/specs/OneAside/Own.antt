@@ -24,9 +24,9 @@ pub record ShowsSide (w : State) (s : Side) (m : Map) : Type 0 where
   pub table : (b : ℕ) → w.table s.here b ≡ s.table b
   pub file : w.file ≡ m
 
--- A turn of the opener aside with this task, from side s to side z, where all openers hold what the table says. The file has map m before
--- and mm after it, and number q before and qq after it. The turn is one of the command's row, its effect is one of the law's kinds, and
--- what is left, the locks, the walk and the numbers are those after it.
+-- A turn of the opener aside with this task, from side s to side z, where all openers hold what the table says. The
+-- file has map m before and mm after it, and number q before and qq after it. The turn is one of the command's row, its
+-- effect is one of the law's kinds, and what is left, the locks, the walk and the numbers are those after it.
 pub record OwnTurned (f : Form) (table : ℕ → ℕ → ℕ) (m mm : Map) (q qq : ℕ) (old new : Past) (s z : Side) (t : Task) (turn : Turn) : Type 0 where
   pub mine : s.task ≡ Some t
   pub here : z.here ≡ s.here

@@ -20,8 +20,9 @@ pub data HasRecords (f : Form) (s : Side) : Type 0 where
 abbrev pub IsToCome : ℕ → Lock → Type 0
 IsToCome n l = (b : ℕ) → 168 ≤ b → b < 2 ^ 63 → covers l b ≡ true → 1 ≤ l.strength → n ≤ l.turn
 
--- An opener that is shut out holds no record, and its cursor stands on none that a lock byte can be for. Of its command each lock of
--- records is still to come, unless a block has let go of them; and a command on the map that isn't refused has had no step.
+-- An opener that is shut out holds no record, and its cursor stands on none that a lock byte can be for. Of its command
+-- each lock of records is still to come, unless a block has let go of them; and a command on the map that isn't refused
+-- has had no step.
 pub record IsShutOut (f : Form) (p : State) (who : ℕ) : Type 0 where
   pub holds : (b : ℕ) → 168 ≤ b → b < 2 ^ 63 → p.table who b ≡ 0
   pub stands : (place : ℕ) → (p.spot who).stands ≡ Some place → 2 ^ 63 ≤ place

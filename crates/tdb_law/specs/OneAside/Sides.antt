@@ -8,9 +8,9 @@ pub record Past : Type 0 where
   pub settled : Bool
   pub numbers : ℕ → ℕ
 
--- The opener aside: it has a transaction, or a Start, of which it has had a step. What it holds at each lock byte, its command, what it
--- has, what the file adds to its cursor, and where its walk has come. Its cursor stands on no record. It shuts the others out while it
--- holds all records for writing.
+-- The opener aside: it has a transaction, or a Start, of which it has had a step. What it holds at each lock byte, its
+-- command, what it has, what the file adds to its cursor, and where its walk has come. Its cursor stands on no record.
+-- It shuts the others out while it holds all records for writing.
 pub record Side : Type 0 where
   pub here : ℕ
   pub table : ℕ → ℕ
@@ -24,7 +24,8 @@ pub record Side : Type 0 where
 abbrev pub but_at : {A : Type 0} → ℕ → A → (ℕ → A) → ℕ → A
 but_at here x g o = if o == here then x else g o
 
--- what the file adds to a cursor while the others are shut out: nothing has to be purged, and every chain is on the way of a move
+-- what the file adds to a cursor while the others are shut out: nothing has to be purged, and every chain is on the way
+-- of a move
 abbrev pub everywhere : View
 everywhere = record { must = false; way = λ b. true }
 
@@ -53,8 +54,9 @@ pub record IsPlain (p : State) : Type 0 where
   pub outside : (o : ℕ) → (p.own o).txn ≡ None
   pub ready : p.stale ≡ false
 
--- An opener is aside of a plain state in which it holds all records as it does, has no command, and has no cursor on a record. It has
--- joined, is live, and holds no byte between the opening lock and the records that others may want, but those of a transaction.
+-- An opener is aside of a plain state in which it holds all records as it does, has no command, and has no cursor on a
+-- record. It has joined, is live, and holds no byte between the opening lock and the records that others may want, but
+-- those of a transaction.
 pub record StandsAside (p : State) (s : Side) : Type 0 where
   pub joined : s.here < p.joined
   pub idle : p.task s.here ≡ None

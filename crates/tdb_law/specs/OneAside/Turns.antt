@@ -1,4 +1,5 @@
--- What turns leave of a world in parts, the ends by which a command changes nothing, and those by which it leaves a cursor on no record.
+-- What turns leave of a world in parts, the ends by which a command changes nothing, and those by which it leaves a
+-- cursor on no record.
 use Rattle.std.specs.Prelude.{ℕ, List, ◌≡◌, ◌⊎◌, false, Option, Some, None}
 use Rattle.tdb_space.specs.Form.{Form}
 use Rattle.tdb_law.specs.Commands.{WalkCommand, Command, Reply, Turn}
@@ -29,8 +30,9 @@ IsApart (Some why) c = Unit {0}
 abbrev pub past_after : Form → State → ℕ → Task → Turn → Past → Past
 past_after f p who t turn past = record past { settled = settled_after f t.command (p.own who) t.steps turn past.settled }
 
--- The opener aside is no matter to the next turn of a command: it doesn't shut the others out, or the command neither moves a cursor nor
--- has a dead record to purge; and it doesn't hold the byte of the sequence number, or the command doesn't want that.
+-- The opener aside is no matter to the next turn of a command: it doesn't shut the others out, or the command neither
+-- moves a cursor nor has a dead record to purge; and it doesn't hold the byte of the sequence number, or the command
+-- doesn't want that.
 pub record IsClear (f : Form) (p : State) (s : Side) (who : ℕ) (t : Task) : Type 0 where
   pub sight : (s.shuts ≡ false) ⊎ ((moves f t.command (p.own who) ≡ false) × ((p.view who).must ≡ false))
   pub number : (s.table 48 ≡ 0) ⊎ (want f p who t 48 ≡ 0)
@@ -39,9 +41,9 @@ pub record IsClear (f : Form) (p : State) (s : Side) (who : ℕ) (t : Task) : Ty
 abbrev pub without_task : State → ℕ → State
 without_task w who = record w { task = but_at who None w.task }
 
--- A command ends at its first turn with a reply, and changes nothing. It is refused, where it is no Commit or Prepare of a transaction,
--- which would end that; its lock is held by another, and it doesn't wait; it tells the file's sequence number outside a transaction; or
--- it is a Next of an opener without a cursor.
+-- A command ends at its first turn with a reply, and changes nothing. It is refused, where it is no Commit or Prepare
+-- of a transaction, which would end that; its lock is held by another, and it doesn't wait; it tells the file's
+-- sequence number outside a transaction; or it is a Next of an opener without a cursor.
 pub data EndsAtOnce (f : Form) (w : State) (who : ℕ) (t : Task) (r : Reply) : Type 0 where
   ends_refused : (why : Refusal) → refusal f t.command (w.own who) ≡ Some why → own_refused t.command (w.own who) ≡ w.own who → r ≡ says (w.own who) why → EndsAtOnce f w who t r
   ends_busy : (k : List ℕ) (owner byte : ℕ) → t.command ≡ OnLocks (ChainLockNb k) → refusal f t.command (w.own who) ≡ None → IsFirstConflict w.table who (want f w who t) owner byte → r ≡ Busy owner byte
@@ -49,8 +51,8 @@ pub data EndsAtOnce (f : Form) (w : State) (who : ℕ) (t : Task) (r : Reply) : 
   ends_numbered : t.command ≡ Seqnum → refusal f t.command (w.own who) ≡ None → (w.own who).txn ≡ None → IsFree w.table who (want f w who t) → r ≡ Number w.number → EndsAtOnce f w who t r
   ends_past : t.command ≡ OnWalk Next → refusal f t.command (w.own who) ≡ None → (w.own who).txn ≡ None → (w.own who).cursor ≡ None → r ≡ End → EndsAtOnce f w who t r
 
--- Nothing is left to do when an opener's cursor ends: it is outside a transaction, its cursor stands on no record, none has to be purged,
--- and no block has let go of its locks.
+-- Nothing is left to do when an opener's cursor ends: it is outside a transaction, its cursor stands on no record, none
+-- has to be purged, and no block has let go of its locks.
 pub record LeavesNothing (w : State) (who : ℕ) : Type 0 where
   pub outside : (w.own who).txn ≡ None
   pub stands : (w.spot who).stands ≡ None

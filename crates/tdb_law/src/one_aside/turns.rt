@@ -15,8 +15,8 @@ pub fn end_is_turned()
     ensures law { EndIsTurned }
 {}
 
-/// An EndWalk or a Close that is done at its first turn, where the cursor stands on no record, has taken a turn of the law:
-/// the cursor has ended, and by a Close the opener. The law is over all worlds; the function does nothing.
+/// An EndWalk or a Close that is done at its first turn, where the cursor stands on no record, has taken a turn of the
+/// law: the cursor has ended, and by a Close the opener. The law is over all worlds; the function does nothing.
 pub fn leaving_is_turned()
     ensures law { LeavingIsTurned }
 {}

@@ -1,4 +1,5 @@
--- The free list's records and the hands are exchanged for others: the image stays accepted, and its pairs are as before.
+-- The free list's records and the hands are exchanged for others: the image stays accepted, and its pairs are as
+-- before.
 use Rattle.std.proofs.Common.{◌≡◌, ℕ, ◌+◌, ◌<◌, ◌≤◌, ◌⊎◌, List, length, sym, ◌∙◌, ap, subst, inl, inr, arith}
 use Rattle.std.specs.Prelude.{slice_index, ◌%◌}
 use Rattle.std.specs.Map.{lookup}

@@ -25,7 +25,8 @@ hands_rest : (f : Form) (a : List ℕ) (hs gs : List HandPair) → AllHandOk f a
 hands_rest f a [] gs held = held
 hands_rest f a (h ∷ hs) gs held = hands_rest f a hs gs held.1
 
--- a trade of the free list with hands, where other hands are out: the image is accepted with the new ones and the others
+-- a trade of the free list with hands, where other hands are out: the image is accepted with the new ones and the
+-- others
 pub traded : (f : Form) (a b ys : List ℕ) (before after more : List HandPair) → AcceptWith f a (before ++ more) → FreeExchanged f a b (free_of f a) ys before after → FreeExchanged f a b (free_of f a) ys (before ++ more) (after ++ more)
 traded f a b ys before after more A E = free_more f a b (free_of f a) ys before after more E (hands_rest f a before more A.held)
 

@@ -1,4 +1,5 @@
--- An image in which what the lists and the undo area hold stays: it is laid out in the same lists, whatever happens elsewhere.
+-- An image in which what the lists and the undo area hold stays: it is laid out in the same lists, whatever happens
+-- elsewhere.
 use Rattle.std.proofs.Common.{◌≡◌, ℕ, zero, suc, ◌+◌, ◌<◌, ◌≤◌, ◌⊎◌, List, [], length, sym, ◌∙◌, ap, subst, inl, inr, arith}
 use Rattle.std.specs.Prelude.{slice_index, ◌%◌}
 use Rattle.std.specs.Map.{lookup}
@@ -49,8 +50,8 @@ listed_within f a hands i A some =
           ]
     ]
 
--- from image a to image b what stands below the records stays, but for the sequence number, and so does what the lists and the undo
--- area hold
+-- from image a to image b what stands below the records stays, but for the sequence number, and so does what the lists
+-- and the undo area hold
 pub record Remains (f : Form) (a b : List ℕ) : Type 0 where
   pub longer : length a ≤ length b
   pub low : (i : ℕ) → i < data_start f → (i < 48) ⊎ (52 ≤ i) → slice_index b i ≡ slice_index a i

@@ -1,4 +1,5 @@
--- A record is taken out of its chain and becomes a hand: the image stays accepted, and its map loses the record's key if it was used.
+-- A record is taken out of its chain and becomes a hand: the image stays accepted, and its map loses the record's key
+-- if it was used.
 use Rattle.std.proofs.Common.{◌≡◌, ℕ, ◌+◌, ◌<◌, ◌≤◌, List, [], ◌∷◌, ◌++◌, length, None, false, true, refl, sym, ◌∙◌, ap, subst, inl, inr, arith}
 use Rattle.std.specs.Prelude.{Bool, ◌%◌}
 use Rattle.std.specs.Map.{lookup, update, remove_entry, keys_of}

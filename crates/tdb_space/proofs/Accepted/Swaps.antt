@@ -1,4 +1,5 @@
--- One chain's records and the hands are exchanged for others: the image stays accepted, and the map changes as the chain does.
+-- One chain's records and the hands are exchanged for others: the image stays accepted, and the map changes as the
+-- chain does.
 use Rattle.std.proofs.Common.{◌≡◌, ℕ, ◌+◌, ◌<◌, ◌≤◌, ◌⊎◌, List, length, cond, Option, eqb, false, refl, sym, ◌∙◌, ap, subst, inl, inr, arith}
 use Rattle.std.specs.Prelude.{slice_index, ◌%◌, if◌then◌else◌}
 use Rattle.std.specs.Map.{lookup, update}

@@ -33,7 +33,8 @@ ahead_start f img k h =
       count = omega (arith, linked_short f IsChained img (word f.order img (chain_head (home f k))) (chain_of f img (home f k)) (h.chains (home f k) low));
     }
 
--- what is ahead where the offset isn't 0: a record of the chain, filed if it is used; and fewer records were passed than the image has words
+-- what is ahead where the offset isn't 0: a record of the chain, filed if it is used; and fewer records were passed
+-- than the image has words
 pub record Next (f : Form) (img k : List ℕ) (passed at : ℕ) : Type 0 where
   pub link : IsLink f img at
   pub filed : magic_of f.order img at ≡ USED → Filed f img (home f k) at

@@ -1,5 +1,5 @@
--- Trades between the free list and hands: one record is taken out, one is put in front, one is cut where it stands. They need no
--- accepted image: just a list of free records whose bytes, and those of the hands, are held once.
+-- Trades between the free list and hands: one record is taken out, one is put in front, one is cut where it stands.
+-- They need no accepted image: just a list of free records whose bytes, and those of the hands, are held once.
 use Rattle.std.proofs.Common.{◌≡◌, ℕ, ◌+◌, ◌≤◌, List, [], ◌∷◌, ◌++◌, refl, sym, ◌∙◌, ap, subst, inl, inr, arith}
 use Rattle.std.proofs.lemmas.Bool.{cases_lt}
 use Rattle.tdb_words.specs.Word.{word}

@@ -31,7 +31,8 @@ led_past f M a b p (x ∷ xs) before y longer list apart (inr there) bodies next
     let rest = led_past f M a b x xs before y longer list.3 (linked_apart f M a (word f.order a p) x xs list) there bodies.1 next (λ z m. others z (member_other z p (x ∷ xs) m)) in
     rw (ne_eqb x y other) (first, whole_kept f a b x longer list.1 bodies.0, subst M (sym (words_kept f a b x bodies.0).magic) list.2, rest)
 
--- what is left where one word of a list was changed, whose records' bytes are held once, and whose first word stands below them
+-- what is left where one word of a list was changed, whose records' bytes are held once, and whose first word stands
+-- below them
 module _ (f : Form) (M : ℕ → Type 0) (a b : List ℕ) (p : ℕ) (xs : List ℕ) (before y : ℕ) (list : Linked f M a (word f.order a p) xs) (low : p + 4 ≤ data_start f) (held : (i : ℕ) → times (extents f.order a xs) i ≤ 1) (led : Leads p xs before y) (L : LedPast f a b before y) where
   longer : length a ≤ length b
   longer = omega (arith, L.size)

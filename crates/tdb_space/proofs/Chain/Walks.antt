@@ -1,5 +1,5 @@
--- Walks along next words: from an offset there is one list of records, no offset comes twice in it, and it is no longer than a
--- quarter of the image; so the computed offsets are that list, where there is one.
+-- Walks along next words: from an offset there is one list of records, no offset comes twice in it, and it is no longer
+-- than a quarter of the image; so the computed offsets are that list, where there is one.
 use Rattle.std.proofs.Common.{◌≡◌, ℕ, zero, suc, ◌+◌, ◌*◌, ◌<◌, ◌≤◌, ◌⊎◌, List, [], ◌∷◌, length, get_or, map, eqb, false, refl, sym, ◌∙◌, ap, subst, inl, inr, arith}
 use Rattle.std.specs.Prelude.{◌/◌}
 use Rattle.std.proofs.lemmas.List.Folds.{list_any_at}

@@ -1,5 +1,5 @@
--- What a change of bytes leaves: a record whose bytes stay is the same record, and a list of such records is the same list. The
--- word at a record's offset, which leads to the next, is told apart from the rest of it.
+-- What a change of bytes leaves: a record whose bytes stay is the same record, and a list of such records is the same
+-- list. The word at a record's offset, which leads to the next, is told apart from the rest of it.
 use Rattle.std.proofs.Common.{◌≡◌, ℕ, ◌+◌, ◌<◌, ◌≤◌, List, [], ◌∷◌, ◌++◌, length, take, drop, refl, sym, ◌∙◌, ap, subst, inl, inr, arith}
 use Rattle.std.specs.Prelude.{slice_index, ◌%◌}
 use Rattle.std.specs.List.{IsDistinct}

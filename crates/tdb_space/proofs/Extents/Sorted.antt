@@ -1,5 +1,5 @@
--- Extents in the order of their offsets: where each ends before the next begins no byte is held twice, and where one reaches into
--- the next, a byte is.
+-- Extents in the order of their offsets: where each ends before the next begins no byte is held twice, and where one
+-- reaches into the next, a byte is.
 use Rattle.std.proofs.Common.{◌≡◌, ℕ, ◌+◌, ◌<◌, ◌≤◌, List, [], ◌∷◌, ◌++◌, sum_by, refl, sym, ◌∙◌, ap, arith}
 use Rattle.std.specs.List.Sorted.{IsPermutation}
 use Rattle.std.proofs.lemmas.List.Sums.{sum_by-cons}

@@ -49,7 +49,8 @@ list_sound f kind img head a (xs, p, passed, some, fault) (ys, q, passed2, ends)
     let m = meet f kind img [] head xs ys p q passed passed2 (inr (a, fault)) (inl ends) in
     some (ap (word f.order img) m.1 ∙ ends)
 
--- a fault of one stage, or the stage is sound and the fault is one of a later stage: where each is the only one, both are
+-- a fault of one stage, or the stage is sound and the fault is one of a later stage: where each is the only one, both
+-- are
 pick : (A B : Fault → Type 0) (S : Type 0) (a b : Fault) → (A a → A b → a ≡ b) → ((e : Fault) → A e → S → ⊥) → (B a → B b → a ≡ b) → A a ⊎ (S × B a) → A b ⊎ (S × B b) → a ≡ b
 pick A B S a b here never later (inl p) (inl q) = here p q
 pick A B S a b here never later (inl p) (inr q) = absurd (never a p q.0)

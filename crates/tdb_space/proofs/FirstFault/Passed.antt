@@ -91,7 +91,8 @@ passed_keys f kind img earlier place (x ∷ xs) last p differ =
     let c = clear_from f kind img earlier place x p.2 in
     subst (KeysDiffer f img) (append_assoc earlier (x ∷ []) xs) (passed_keys f kind img (earlier ++ x ∷ []) x xs last p.3 (twin_none f img earlier x c.alone differ))
 
--- what a record has to be in its list besides standing whole: a used one is filed in its chain, and a free list has no used one
+-- what a record has to be in its list besides standing whole: a used one is filed in its chain, and a free list has no
+-- used one
 abbrev pub Belongs : Form → ListKind → List ℕ → ℕ → Type 0
 Belongs f (chain_number j) img x = magic_of f.order img x ≡ USED → Filed f img j x
 Belongs f free_list img x = Unit {0}

@@ -1,4 +1,5 @@
--- A header is known by the bytes below 44 and from 52 to 63: where they stay it has the same form, and no fault as before.
+-- A header is known by the bytes below 44 and from 52 to 63: where they stay it has the same form, and no fault as
+-- before.
 use Rattle.std.proofs.Common.{◌≡◌, ℕ, ◌+◌, ◌<◌, ◌≤◌, ◌⊎◌, List, length, take, refl, sym, ◌∙◌, ap, inl, inr, arith}
 use Rattle.std.specs.Prelude.{slice_index}
 use Rattle.std.proofs.lemmas.List.{same_lists, get_or_default, length-take-le, get_or-take}

@@ -34,7 +34,8 @@ lies_not from count i (inr after) = rw (le-ltb i (from + count) after) (never (n
     never true = refl
     never false = refl
 
--- an undo area that stands behind the heads: the bytes of the word at 44, of the area's gate, and of the rest of the area
+-- an undo area that stands behind the heads: the bytes of the word at 44, of the area's gate, and of the rest of the
+-- area
 module _ (o : Order) (img : List ℕ) (x : ℕ) (es : List Entry) (behind : 172 ≤ x) where
   word_cleared : (i : ℕ) → 44 ≤ i → i < 48 → key_len_of o img x ≤ x → undone_byte o img x es i ≡ 0
   word_cleared i from to past = rw (lies_not (x + 20) 4 i (inl (omega arith))) (rw (lies 44 4 i from to) (rw (le-leb (key_len_of o img x) x past) refl))

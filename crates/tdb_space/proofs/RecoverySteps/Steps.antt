@@ -1,4 +1,5 @@
--- The steps of a recovery, as images: each leaves one that is undone alike, or the restored one with a tail, or the restored one.
+-- The steps of a recovery, as images: each leaves one that is undone alike, or the restored one with a tail, or the
+-- restored one.
 use Rattle.std.proofs.Common.{◌≡◌, ℕ, ◌+◌, ◌<◌, ◌≤◌, ◌⊎◌, Bool, false, List, length, refl, sym, ◌∙◌, ap, subst, inl, inr, arith}
 use Rattle.std.specs.Prelude.{slice_index, ◌%◌, nat_le, if◌then◌else◌}
 use Rattle.std.proofs.lemmas.Bool.{cases_lt, le-leb, lt-leb}

@@ -1,5 +1,5 @@
--- Two images that differ at most in the sequence number, the word at 48: their headers, their fronts and their undo areas have the
--- same faults.
+-- Two images that differ at most in the sequence number, the word at 48: their headers, their fronts and their undo
+-- areas have the same faults.
 use Rattle.std.proofs.Common.{◌≡◌, ℕ, ◌+◌, ◌<◌, ◌≤◌, ◌||◌, false, not, List, take, min, Some, None, refl, sym, ◌∙◌, ap, subst, inl, inr, arith}
 use Rattle.std.specs.Prelude.{◌%◌, ◌==◌, nat_lt, is_some, if◌then◌else◌}
 use Rattle.std.proofs.lemmas.Bool.{cases_Bool}

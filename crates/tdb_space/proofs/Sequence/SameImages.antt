@@ -1,5 +1,5 @@
--- The sequence number, the word at 48: two images that differ at most there have the same records, lists, pairs and map, and are
--- accepted alike.
+-- The sequence number, the word at 48: two images that differ at most there have the same records, lists, pairs and
+-- map, and are accepted alike.
 use Rattle.std.proofs.Common.{◌≡◌, ℕ, ◌+◌, ◌<◌, ◌≤◌, ◌⊎◌, List, length, ◌∙◌, ap, inl, inr, arith}
 use Rattle.std.specs.Prelude.{slice_index, ◌%◌}
 use Rattle.tdb_words.specs.declared.record.TheConstants.{PADDING}

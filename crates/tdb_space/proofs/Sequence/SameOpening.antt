@@ -1,5 +1,5 @@
--- Two images that differ at most in the sequence number, the word at 48: they can be undone and opened alike, and are read as images
--- that differ at most there too.
+-- Two images that differ at most in the sequence number, the word at 48: they can be undone and opened alike, and are
+-- read as images that differ at most there too.
 use Rattle.std.proofs.Common.{◌≡◌, ℕ, zero, suc, ◌+◌, ◌<◌, ◌≤◌, ◌⊎◌, ◌&&◌, ◌||◌, Bool, true, false, not, List, [], ◌∷◌, length, take, Option, Some, refl, sym, ◌∙◌, ap, subst, inl, inr, arith}
 use Rattle.std.specs.Prelude.{◌%◌, ◌==◌, nat_lt, nat_le, slice_index, if◌then◌else◌}
 use Rattle.std.proofs.lemmas.Bool.{cases_Bool, cases_lt, and_parts, not-true}

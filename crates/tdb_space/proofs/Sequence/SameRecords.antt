@@ -1,4 +1,5 @@
--- Two images that differ at most in the sequence number, the word at 48: they have the same words beside it, and the same records.
+-- Two images that differ at most in the sequence number, the word at 48: they have the same words beside it, and the
+-- same records.
 use Rattle.std.proofs.Common.{◌≡◌, ℕ, ◌+◌, ◌≤◌, ◌⊎◌, List, [], ◌∷◌, ◌++◌, take, drop, refl, sym, ◌∙◌, ap, inl, inr, arith, length-drop, get_or-drop}
 use Rattle.std.specs.Prelude.{◌==◌, if◌then◌else◌}
 use Rattle.std.proofs.lemmas.Grind.{same_number_lists}

@@ -1,4 +1,5 @@
--- Two images that differ at most in the sequence number, the word at 48: they are accepted alike, and have the same first fault.
+-- Two images that differ at most in the sequence number, the word at 48: they are accepted alike, and have the same
+-- first fault.
 use Rattle.std.proofs.Common.{◌≡◌, ℕ, ◌+◌, ◌<◌, ◌≤◌, ◌&&◌, ◌||◌, not, List, [], ◌∷◌, ◌++◌, map, Some, None, refl, sym, ◌∙◌, ap, subst, inl, inr, arith}
 use Rattle.std.specs.Prelude.{◌%◌, ◌==◌, nat_eq, nat_lt, slice_index, if◌then◌else◌}
 use Rattle.std.specs.List.{list_any}

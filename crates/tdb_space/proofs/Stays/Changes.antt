@@ -101,7 +101,8 @@ free_stays f a b hands A longer head still = record {
   bytes = still;
 }
 
--- a byte of an accepted image that one holds is held by no other: of the chains, the free list, the undo area and the hands
+-- a byte of an accepted image that one holds is held by no other: of the chains, the free list, the undo area and the
+-- hands
 module _ (f : Form) (a : List ℕ) (hands : List HandPair) (A : AcceptWith f a hands) where
   of_chain : ℕ → ℕ → ℕ
   of_chain k i = times (extents f.order a (chain_of f a k)) i

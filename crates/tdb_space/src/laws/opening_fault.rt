@@ -2,9 +2,9 @@
 
 ghost use Rattle.tdb_space.specs.OpeningFault.{OpensOrFault, OneOpeningFault, NeverBoth, SameWhereShut, HeaderFaultIs};
 
-/// A file opens, or opening it meets one first fault, and never both; where there is nothing to undo that is the first fault of a check.
-/// One of the kind Header is of the file's own header, or of the one that an undo gives. The law is over all lists of bytes; the
-/// function does nothing.
+/// A file opens, or opening it meets one first fault, and never both; where there is nothing to undo that is the first
+/// fault of a check. One of the kind Header is of the file's own header, or of the one that an undo gives. The law is
+/// over all lists of bytes; the function does nothing.
 pub fn opening_fault_law()
     ensures some { OpensOrFault }
     ensures one { OneOpeningFault }

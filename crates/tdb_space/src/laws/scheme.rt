@@ -2,8 +2,8 @@
 
 ghost use Rattle.tdb_space.specs.Scheme.{WithinIsKept, RunsAreAlike, RunsAreUndone, RunsReopen, OpenedReopens};
 
-/// What is written where the plan of a commit writes is undone like the image before, in whatever way a stop tears it; so the file
-/// reopens to the map that it held. The law is over all lists of bytes; the function does nothing.
+/// What is written where the plan of a commit writes is undone like the image before, in whatever way a stop tears it;
+/// so the file reopens to the map that it held. The law is over all lists of bytes; the function does nothing.
 pub fn scheme_law()
     ensures within { WithinIsKept }
     ensures alike { RunsAreAlike }

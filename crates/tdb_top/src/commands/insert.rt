@@ -34,8 +34,8 @@ fn has_key<D: Disk>(disk: &mut D, header: &Header, key: &[u8]) -> Result<bool, I
     Ok(find(&mut space, key)?.is_some())
 }
 
-/// Stores a value for a key in an opened file, which may have so many bytes, unless the key is there, and brings that to
-/// the medium.
+/// Stores a value for a key in an opened file, which may have so many bytes, unless the key is there, and brings that
+/// to the medium.
 pub(crate) fn insert<D: Disk>(
     alloc: Global,
     disk: &mut D,

@@ -132,7 +132,8 @@ module _ (f : Form) (later : At) where
   never_waits a End spared at other byte (left is there) moved = cc is
   never_waits a End spared at other byte (cannot dead is there) moved = cc is
 
-  -- After the reply the cursor rests, whatever the bytes of the file are. It had shown this key last, and stood at rest.
+  -- After the reply the cursor rests, whatever the bytes of the file are. It had shown this key last, and stood at
+  -- rest.
   module _ (reply : Reply) (key : Option (List ℕ)) where
     abbrev Rests : Type 0
     Rests = RestsAt f (shown_there later.place reply key) later.place later.stage
@@ -240,7 +241,8 @@ module _ (f : Form) (later : At) where
   never_leave_waits (Before chain) stage due other byte led = leave_waits other byte led
   never_leave_waits Past stage due other byte led = leave_waits other byte led
 
--- What a cursor comes to with the reply, in an accepted image a that is b then. It stood at this place, and had shown this key.
+-- What a cursor comes to with the reply, in an accepted image a that is b then. It stood at this place, and had shown
+-- this key.
 module _ (f : Form) (a b : List ℕ) (place : Standing) (stage : Stage) (later : At) (reply : Reply) (key : Option (List ℕ)) (few : 0 < f.chains) (A : AcceptWith f a []) (K : Knows f a place stage) (R : RestsAt f key place Rested)
     (M : StepMade f a b [] (at_ place stage) later (Turns.Done reply)) where
   abbrev m : Map

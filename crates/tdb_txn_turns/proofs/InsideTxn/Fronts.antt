@@ -1,4 +1,5 @@
--- A transaction that might be committed may be committed after a command that leaves the front of its image and the undo area.
+-- A transaction that might be committed may be committed after a command that leaves the front of its image and the
+-- undo area.
 use Rattle.std.proofs.Common.{◌≡◌, ℕ, ◌+◌, ◌<◌, ◌≤◌, List, [], ◌∷◌, refl, sym, ◌∙◌, ap, subst, inl, inr, arith}
 use Rattle.std.specs.Prelude.{◌⊎◌, slice_index}
 use Rattle.std.proofs.lemmas.Bool.{cases_eq, eq-eqb, ne_eqb}

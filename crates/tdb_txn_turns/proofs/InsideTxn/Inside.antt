@@ -59,7 +59,8 @@ nothing_held f x b = let none : get (empty {X = ℕ} {R = nat_cmp}) b ≡ None =
     go true = omega arith
     go false = omega arith
 
--- What a command with this refusal, or with none, comes to in the law's tables where it is done at once, by an opener who is y afterwards.
+-- What a command with this refusal, or with none, comes to in the law's tables where it is done at once, by an opener
+-- who is y afterwards.
 pub record Comes (f : Form) (x y : Own) (c : Command) (o : Option Refusal) (r : Reply) : Type 0 where
   pub ends : ends_by o c x 0 r ≡ true
   pub unlocked : (purging : Bool) → ◌≡◌ {A = List Lock} (locks_by f o c x purging) []

@@ -43,8 +43,8 @@ use Rattle.tdb_txn_turns.specs.InsideTxn.Spared.{StageSpares, TurnSpares, WalkKe
 abbrev mark_on : Form → List ℕ → ℕ → ℕ → Mark
 mark_on f img chain off = mark_of f (chains_in f img) (on_record chain off)
 
--- After so many steps the record is one of its chain still, and each key that was further on is so still, unless the change is made and
--- touches it.
+-- After so many steps the record is one of its chain still, and each key that was further on is so still, unless the
+-- change is made and touches it.
 pub record WalkSoFar (f : Form) (a b : List ℕ) (chain off : ℕ) (c : MapCommand) (n : ℕ) : Type 0 where
   pub member : Member off (chain_of f b chain)
   pub shift : Shift f (λ k. (map_changed c n && map_touches c k) ≡ true) (mark_on f a chain off) (mark_on f b chain off)

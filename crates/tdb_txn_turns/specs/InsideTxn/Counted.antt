@@ -23,8 +23,8 @@ abbrev pub all_lock : Option (Kind × ℕ) → Option AllLock
 all_lock None = None
 all_lock (Some a) = Some (record { strength = strength_of a.0; count = a.1 })
 
--- The counts are those of the opener: by the lock byte of each chain, which has none where its count is 0, at no other byte, and of all
--- records.
+-- The counts are those of the opener: by the lock byte of each chain, which has none where its count is 0, at no other
+-- byte, and of all records.
 pub record IsCounted (held : HeldLocks) (x : Own) : Type 0 where
   pub chains : (chain : ℕ) → count_at x (168 + 4 * chain) ≡ count_of held chain
   pub some : (b n : ℕ) → get x.counts b ≡ Some n → 0 < n
@@ -48,8 +48,8 @@ one_less a = if nat_le a.1 1 then None else Some (a.0, a.1 - 1)
 abbrev pub own_counted : Form → LockCommand → Own → Reply → Own
 own_counted f k x r = if is_done r then own_locked f k x else x
 
--- Such a command of an opener x, after which these are its counts: its turn is one of the law's, and the counts are those of the opener
--- afterwards.
+-- Such a command of an opener x, after which these are its counts: its turn is one of the law's, and the counts are
+-- those of the opener afterwards.
 pub record CountsInside (f : Form) (x : Own) (k : LockCommand) (held : HeldLocks) (r : Reply) : Type 0 where
   pub turned : (n p : ℕ) → TurnsInside f x (own_counted f k x r) (OnLocks k) n p p r
   pub counts : IsCounted held (own_counted f k x r)

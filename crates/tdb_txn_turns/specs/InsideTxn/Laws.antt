@@ -18,7 +18,8 @@ use Rattle.tdb_txn_turns.specs.InsideTxn.Walks.{WalkedInside}
 abbrev pub PreparesInside : Type 0
 PreparesInside = (f : Form) (x : Own) (t : Txn) (n p : ℕ) → x.txn ≡ Some t → t.prepared ≡ None → 1 < t.depth → TurnsInside f x x (OnGroup Prepare) n p p Done
 
--- A command that the opener's own state refuses does nothing; but a Commit and a Prepare that are refused end their transaction.
+-- A command that the opener's own state refuses does nothing; but a Commit and a Prepare that are refused end their
+-- transaction.
 abbrev pub IsEnd : Command → Type 0
 IsEnd (OnGroup Commit) = Unit {0}
 IsEnd (OnGroup Prepare) = Unit {0}
@@ -27,8 +28,8 @@ IsEnd c = ⊥
 abbrev pub RefusesInside : Type 0
 RefusesInside = (f : Form) (x : Own) (t : Txn) (c : Command) (why : Refusal) (n p : ℕ) → x.txn ≡ Some t → (IsEnd c → ⊥) → refusal f c x ≡ Some why → TurnsInside f x x c n p p (says x why)
 
--- What a command in one turn does to the walk of its opener's cursor is what the law asks of that turn, in all states that show it: the
--- opener reads the bytes of all chains and records, and no move of it is blocked.
+-- What a command in one turn does to the walk of its opener's cursor is what the law asks of that turn, in all states
+-- that show it: the opener reads the bytes of all chains and records, and no move of it is blocked.
 abbrev pub WalksAreLawful : Type 0
 WalksAreLawful =
     (f : Form) (old new : State) (who : ℕ) (c : Command) (r : Reply) → HasFewChains f → ReadsAll old.table who → (old.spot who).gone ≡ false

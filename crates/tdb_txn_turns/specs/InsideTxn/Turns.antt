@@ -18,13 +18,11 @@ use Rattle.tdb_law.specs.Turned.{number_next}
 abbrev pub ReadsAll : (ℕ → ℕ → ℕ) → ℕ → Type 0
 ReadsAll table who = (b : ℕ) → 168 ≤ b → b < all_end → 1 ≤ table who b
 
--- The turn of a command with this reply, of an opener x who is y afterwards. The number of the file is n, and that of its transaction's
--- image is p before the turn and q after it.
---   row      the turn is one that the row of the command allows
---   effect   its effect is one of the law's kinds; the file stays, whatever its map is
---   wants    it wants no lock
---   holds    the opener holds what it held
---   number   the file's number stays, and that of the image is as the law counts it
+-- The turn of a command with this reply, of an opener x who is y afterwards. The number of the file is n, and that of
+-- its transaction's image is p before the turn and q after it. row      the turn is one that the row of the command
+-- allows effect   its effect is one of the law's kinds; the file stays, whatever its map is wants    it wants no lock
+-- holds    the opener holds what it held number   the file's number stays, and that of the image is as the law counts
+-- it
 pub record TurnsInside (f : Form) (x y : Own) (c : Command) (n p q : ℕ) (r : Reply) : Type 0 where
   pub row : IsRow f c x 0 (Ends r)
   pub effect : (table : ℕ → ℕ → ℕ) (who : ℕ) (want : ℕ → ℕ) (file : Map) → IsFree table who want → ReadsAll table who
@@ -34,8 +32,9 @@ pub record TurnsInside (f : Form) (x y : Own) (c : Command) (n p q : ℕ) (r : R
   pub number : number_next f c 0 x (Ends r) n p ≡ n
   pub image_number : q ≡ image_number_after f c x (Ends r) n p
 
--- The turn of a command with this reply, of an opener x who is y afterwards and has no transaction, no explicit lock and no cursor then.
--- The file stays, whatever its map is; the command wants no lock, and its opener holds nothing afterwards.
+-- The turn of a command with this reply, of an opener x who is y afterwards and has no transaction, no explicit lock
+-- and no cursor then. The file stays, whatever its map is; the command wants no lock, and its opener holds nothing
+-- afterwards.
 pub record LeavesInside (f : Form) (x y : Own) (c : Command) (n p : ℕ) (r : Reply) : Type 0 where
   pub row : IsRow f c x 0 (Ends r)
   pub effect : (table : ℕ → ℕ → ℕ) (who : ℕ) (want : ℕ → ℕ) (file : Map) → IsFree table who want

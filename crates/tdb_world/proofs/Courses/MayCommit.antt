@@ -1,4 +1,5 @@
--- An opener whose transaction is prepared may commit it: it is the outer one, isn't doomed, and no lock was taken in it.
+-- An opener whose transaction is prepared may commit it: it is the outer one, isn't doomed, and no lock was taken in
+-- it.
 use Rattle.std.proofs.Common.{◌≡◌, ℕ, [], ◌∷◌, Bool, true, false, not, nat_lt, Option, Some, None, is_some, refl, sym, ◌∙◌, ap, subst}
 use Rattle.std.specs.Prelude.{◌&&◌, if◌then◌else◌}
 use Rattle.std.proofs.lemmas.Bool.{false≢true}

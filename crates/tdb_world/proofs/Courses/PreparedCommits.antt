@@ -1,4 +1,5 @@
--- A report from a world just loaded on tells of the Commit of a prepared transaction its steps, and then that it is done.
+-- A report from a world just loaded on tells of the Commit of a prepared transaction its steps, and then that it is
+-- done.
 use Rattle.std.proofs.Common.{◌≡◌, ◌≢◌, ℕ, zero, suc, ◌+◌, List, [], ◌∷◌, ◌++◌, Option, Some, None, refl, sym, ◌∙◌, ap, subst, inl, inr, arith, append_assoc, append-nil}
 use Rattle.std.proofs.lemmas.Bool.{cases_eq, eq-eqb, false≢true, le-ltb, lt-ltb, ne_eqb}
 use Rattle.tdb_space.specs.Form.{Form}

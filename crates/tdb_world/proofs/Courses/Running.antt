@@ -1,4 +1,5 @@
--- Plays in a row of which logs are told: what they lead to, and what logs heard, where they go on, where a log refuses and where one breaks off.
+-- Plays in a row of which logs are told: what they lead to, and what logs heard, where they go on, where a log refuses
+-- and where one breaks off.
 use Rattle.std.proofs.Common.{◌≡◌, ℕ, take, drop, length, get_or, ◌+◌, ◌<◌, Bool, List, [], ◌++◌, Result, Ok, Err, inl, inr, refl, sym, ◌∙◌, ap, subst, append-nil}
 use Rattle.std.proofs.lemmas.List.{take-append-drop, map-append}
 use Rattle.tdb_space.specs.Form.{Form}

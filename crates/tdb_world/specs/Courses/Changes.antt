@@ -21,6 +21,7 @@ abbrev pub AreStepless : List Line → Type 0
 AreStepless [] = Unit {0}
 AreStepless (line ∷ lines) = IsStepless line × AreStepless lines
 
--- a report of such lines, from a world just loaded on, passes no state in which an opener is in the middle of a change outside a transaction
+-- a report of such lines, from a world just loaded on, passes no state in which an opener is in the middle of a change
+-- outside a transaction
 abbrev pub StepsTellChanges : Type 0
 StepsTellChanges = (f : Form) (options : Options) (old : State) (lines : List Line) → IsLoaded f old options → AreStepless lines → IsTransacted f old lines

@@ -15,14 +15,16 @@ use Rattle.tdb_commands.specs.declared.line.Line.{Line}
 use Rattle.tdb_commands.specs.declared.line.Line.TheVariants.{Grew, Died, Undone, LogsLeft}
 use Rattle.tdb_openers.specs.declared.fault.RunFault.{RunFault}
 
--- the notice that tells what a line does, if logs are told of it: that the file grew, an opener died, or a gate was undone
+-- the notice that tells what a line does, if logs are told of it: that the file grew, an opener died, or a gate was
+-- undone
 abbrev pub notice_of : Line → Option Notice
 notice_of (Grew from to) = Some (Note.Grew from to)
 notice_of (Died who) = Some (Note.Died who)
 notice_of (Undone bytes to) = Some (Note.Recovered bytes)
 notice_of line = None
 
--- Logs heard of lines, one after the other: where so many logs are left the last was dropped, and of each other line the last was told.
+-- Logs heard of lines, one after the other: where so many logs are left the last was dropped, and of each other line
+-- the last was told.
 abbrev pub Heard : List Logged → List Line → List Logged → Type 0
 Heard old [] new = new ≡ old
 Heard old (LogsLeft count ∷ lines) new = (count ≡ length old - 1) × Heard (but_last old) lines new
@@ -55,7 +57,8 @@ abbrev pub KeepLogs : List LawLine → Type 0
 KeepLogs [] = Unit {0}
 KeepLogs (line ∷ lines) = KeepsLogs line × KeepLogs lines
 
--- what logs heard of lines that drop no log, where only their notices were told: of all of them, or up to the refused one, by the answer
+-- what logs heard of lines that drop no log, where only their notices were told: of all of them, or up to the refused
+-- one, by the answer
 abbrev pub HeardNotices : List Line → List Logged → List Logged → Result (Unit {0}) LogRefusal → Type 0
 HeardNotices lines old new told = KeepLogs (law_lines lines) → HeardBy old lines new (Ok told)
 

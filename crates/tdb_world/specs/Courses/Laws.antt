@@ -13,8 +13,8 @@ use Rattle.tdb_world.specs.Whole.{Whole, WorldFits}
 use Rattle.tdb_world.specs.States.{IsStateOf}
 use Rattle.tdb_world.specs.Courses.Unfinished.{IsEnd, EndsWith}
 
--- The report of plays that lead on from a state just loaded, with the lines of all that isn't done behind it, is lawful from the replay
--- that begins with the map and the number of its file.
+-- The report of plays that lead on from a state just loaded, with the lines of all that isn't done behind it, is lawful
+-- from the replay that begins with the map and the number of its file.
 abbrev pub ReportIsLawful : Type 0
 ReportIsLawful = (f : Form) (options : LawOptions) (old new : State) (plays : List Play) (lines : List LawLine) (more : List Line) → IsLoaded f old options
     → Course f old plays lines new → EndsWith new more → IsLawful f (beginning options old.file old.number) (lines ++ law_lines more)

@@ -13,7 +13,8 @@ use Rattle.tdb_openers.specs.declared.fault.RunFault.TheVariants.{Io, Memory}
 use Rattle.tdb_world.specs.Whole.{Whole, WorldFits}
 use Rattle.tdb_world.specs.States.{IsStateOf}
 
--- A moment of a play: the world, the history and the length of its file, the count of faults of the disk, and the lines of the report.
+-- A moment of a play: the world, the history and the length of its file, the count of faults of the disk, and the lines
+-- of the report.
 pub record Moment : Type 0 where
   pub world : Whole
   pub history : History
@@ -28,24 +29,25 @@ moment world history size faults lines = record { world = world; history = histo
 abbrev pub IsStateAt : Moment → State → Type 0
 IsStateAt m state = IsStateOf m.world m.history state
 
--- The lengths of the file that lines tell lead from one length to another: each growth begins where the line before it ended, and so does
--- what follows an undo, which makes the file no longer.
+-- The lengths of the file that lines tell lead from one length to another: each growth begins where the line before it
+-- ended, and so does what follows an undo, which makes the file no longer.
 abbrev pub Lengths : ℕ → List Line → ℕ → Type 0
 Lengths from [] to = to ≡ from
 Lengths from (Grew one two ∷ lines) to = (one ≡ from) × (one < two) × Lengths two lines to
 Lengths from (Undone bytes one ∷ lines) to = (one ≤ from) × Lengths one lines to
 Lengths from (line ∷ lines) to = Lengths from lines to
 
--- What lines tell from a state on, by the answer: all that was to be done, up to a state of the world afterwards; a part of it, where memory
--- was wanting; and where the disk failed what was done up to then, in some state, of which nothing is left to be said.
+-- What lines tell from a state on, by the answer: all that was to be done, up to a state of the world afterwards; a
+-- part of it, where memory was wanting; and where the disk failed what was done up to then, in some state, of which
+-- nothing is left to be said.
 abbrev pub Comes : {V : Type 0} → Result V RunFault → (State → Type 0) → (V → List LawLine → State → Type 0) → (List LawLine → State → Type 0) → (List LawLine → State → Type 0) → List LawLine → Type 0
 Comes (Ok v) IsLeft Whole Part Last lines = (after : State) × IsLeft after × Whole v lines after
 Comes (Err Memory) IsLeft Whole Part Last lines = (after : State) × IsLeft after × Part lines after
 Comes (Err Io) IsLeft Whole Part Last lines = (left : State) × Last lines left
 
--- What leads from one moment to another, with this answer, over a disk that tells its bytes or doesn't: lines were added, which tell from
--- each state of the world what was done, and each growth of the file. Unless the disk failed the world stands, and its count of faults is
--- as it was.
+-- What leads from one moment to another, with this answer, over a disk that tells its bytes or doesn't: lines were
+-- added, which tell from each state of the world what was done, and each growth of the file. Unless the disk failed the
+-- world stands, and its count of faults is as it was.
 pub record Led {V : Type 0} (tells : Bool) (old new : Moment) (answer : Result V RunFault) (Whole : State → V → List LawLine → State → Type 0)
     (Part : State → List LawLine → State → Type 0) (Last : State → List LawLine → State → Type 0) : Type 0 where
   pub header : UnlessIo answer (new.world.openers.header ≡ old.world.openers.header)

@@ -5,7 +5,8 @@ use Rattle.tdb_commands.specs.declared.play.Play.{Play}
 use Rattle.tdb_commands.specs.declared.play.Play.TheVariants as Plays
 use Rattle.tdb_commands.specs.Short.{IsShortCommand}
 
--- an opener is named by a number from 1 on, and the key and the value of its command are short enough for the words of a file
+-- an opener is named by a number from 1 on, and the key and the value of its command are short enough for the words of
+-- a file
 abbrev pub IsPlayable : Play → Type 0
 IsPlayable Plays.Join = Unit {0}
 IsPlayable Plays.SetLog = Unit {0}

@@ -31,9 +31,9 @@ AreAlike [] ys = Unit {0}
 AreAlike (x ∷ xs) [] = Unit {0}
 AreAlike (x ∷ xs) (y ∷ ys) = (x ≡ y) × AreAlike xs ys
 
--- Where the report of a world just loaded has come to a state in which an opener has a Commit of its prepared transaction, with so many
--- steps left, these are three at most, and the lines behind tell of this opener these steps, and then that the Commit is done; whatever
--- they tell of others between.
+-- Where the report of a world just loaded has come to a state in which an opener has a Commit of its prepared
+-- transaction, with so many steps left, these are three at most, and the lines behind tell of this opener these steps,
+-- and then that the Commit is done; whatever they tell of others between.
 abbrev pub PreparedCommitsEnd : Type 0
 PreparedCommitsEnd =
     (f : Form) (options : Options) (old mid new : State) (front rest : List Line) (o : ℕ) (txn : Txn) (steps left : ℕ)

@@ -6,7 +6,8 @@ use Rattle.tdb_log.specs.Logs.{Logged}
 use Rattle.tdb_world.specs.Whole.{Whole}
 use Rattle.tdb_world.specs.States.{IsStateOf}
 
--- the world, the history and the length of its file, the count of faults of its disk, what is written on the output, and the logs
+-- the world, the history and the length of its file, the count of faults of its disk, what is written on the output,
+-- and the logs
 pub record Scene : Type 0 where
   pub world : Whole
   pub history : History

@@ -28,17 +28,19 @@ pub record Passes (f : Form) (old : State) (lines : List LawLine) (s : State) : 
 abbrev pub IsTransacted : Form → State → List LawLine → Type 0
 IsTransacted f old lines = (s : State) (o : ℕ) → Passes f old lines s → IsChanging f s o → ⊥
 
--- An image opens to the map and the number of a state that it passes, or of the transaction whose Commit shuts its gate in the turn from there.
+-- An image opens to the map and the number of a state that it passes, or of the transaction whose Commit shuts its gate
+-- in the turn from there.
 abbrev pub OpensOnTheWay : Form → State → List LawLine → List ℕ → Type 0
 OpensOnTheWay f old lines c = (s : State) × (o : ℕ) × Passes f old lines s × TurnMayLeave f s o c
 
--- Each stop since one moment leaves a file that opens so; and unless the disk failed the lines lead to a state of the other moment, from
--- which on that goes on.
+-- Each stop since one moment leaves a file that opens so; and unless the disk failed the lines lead to a state of the
+-- other moment, from which on that goes on.
 pub record StopsOn {V : Type 0} (old new : Moment) (answer : Result V RunFault) (state : State) (lines : List LawLine) : Type 0 where
   pub stops : LeavesOnly old.history new.history (OpensOnTheWay (form_at old.world) state lines)
   pub left : UnlessIo answer ((after : State) × IsStateAt new after × Leads (form_at old.world) state lines after × IsSafe (form_at old.world) new.history)
 
--- So it is between two moments, where a stop at the first leaves only what opens to the file's map, and what was added is transacted.
+-- So it is between two moments, where a stop at the first leaves only what opens to the file's map, and what was added
+-- is transacted.
 abbrev pub StopsLed : {V : Type 0} → Bool → Moment → Moment → Result V RunFault → Type 0
 StopsLed tells old new answer =
     IsTrue tells → (state : State) (added : List Line) → IsStateAt old state → new.lines ≡ old.lines ++ added → IsSafe (form_at old.world) old.history

@@ -13,8 +13,8 @@ use Rattle.tdb_world.specs.States.{IsStateOf}
 use Rattle.tdb_world.specs.Steps.{GiftLeads, HasCommand}
 use Rattle.tdb_world.specs.Courses.Led.{Moment, moment, Led}
 
--- What leads from one moment to another is a play: all that it gives; a part of it, where memory was wanting; and where the disk failed a part
--- of it, or all.
+-- What leads from one moment to another is a play: all that it gives; a part of it, where memory was wanting; and where
+-- the disk failed a part of it, or all.
 abbrev pub PlayLed : {V : Type 0} → Bool → Moment → Moment → Result V RunFault → Play → Type 0
 PlayLed tells old new answer play =
     Led tells old new answer (λ state _. Gives (form_at old.world) state play) (λ state. Begun (form_at old.world) state play) (λ state. PlaysLast (form_at old.world) state play)

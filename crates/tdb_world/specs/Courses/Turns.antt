@@ -20,7 +20,7 @@ IsToldOf w who c = (t : Task) → w.task who ≡ Some t → c ≡ t.command
 abbrev pub TakesOrClears : Form → State → ℕ → List LawLine → State → Type 0
 TakesOrClears f old who lines new = TakesLast f old who lines new ⊎ Clears f old lines new
 
--- turns up to the first that isn't a step, where the disk failed: some were taken, all of them steps, and then an open gate may have been
--- undone; or all were taken
+-- turns up to the first that isn't a step, where the disk failed: some were taken, all of them steps, and then an open
+-- gate may have been undone; or all were taken
 abbrev pub GoesOrClears : Form → State → ℕ → List LawLine → State → Type 0
 GoesOrClears f old who lines new = ((n : ℕ) × StepsThenClears f n old who lines new) ⊎ Goes f most_turns old who lines new

@@ -6,7 +6,8 @@ use Rattle.tdb_commands.specs.declared.line.Line.TheVariants.{Unfinished}
 use Rattle.tdb_world.specs.Whole.{Whole}
 use Rattle.tdb_world.specs.Steps.{HasCommand}
 
--- of so many openers of a world, counted from the place o on, each that has a command which isn't done gives a line, in order
+-- of so many openers of a world, counted from the place o on, each that has a command which isn't done gives a line, in
+-- order
 abbrev pub AreUnfinished : Whole → ℕ → ℕ → List Line → Type 0
 AreUnfinished w o zero lines = lines ≡ []
 AreUnfinished w o (suc n) lines =

@@ -26,7 +26,8 @@ with_lines m lines = record m { lines = lines }
 abbrev pub AreUndoing : List Line → Type 0
 AreUndoing lines = (lines ≡ []) ⊎ ((bytes : ℕ) × (to : ℕ) × (lines ≡ Undone bytes to ∷ []))
 
--- the lines of a turn: that the opener has nothing to do; or an undo in front of the turn, the turn, and the growth of the file in it
+-- the lines of a turn: that the opener has nothing to do; or an undo in front of the turn, the turn, and the growth of
+-- the file in it
 abbrev pub TurnTells : ℕ → Option Turn → List Line → Type 0
 TurnTells who None lines = (lines ≡ Idle who ∷ []) ⊎ (lines ≡ Absent who ∷ [])
 TurnTells who (Some turn) lines =

@@ -11,8 +11,8 @@ pub fn report_is_lawful()
     ensures ends { EndsAlike }
 {}
 
-/// A report without a step of a change or of a command on a cursor changes nothing outside a transaction. The law is over
-/// all worlds and reports; the function does nothing.
+/// A report without a step of a change or of a command on a cursor changes nothing outside a transaction. The law is
+/// over all worlds and reports; the function does nothing.
 pub fn steps_tell_changes()
     ensures law { StepsTellChanges }
 {}

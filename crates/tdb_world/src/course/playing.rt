@@ -110,8 +110,8 @@ pub fn play<D: Disk, L: Logs>(
     Ok(told)
 }
 
-/// Takes plays in their order, adds what they give to the report, and tells the logs, up to the first play that finds no
-/// memory, at which the disk fails, or of which a log refuses a notice; `play` says more.
+/// Takes plays in their order, adds what they give to the report, and tells the logs, up to the first play that finds
+/// no memory, at which the disk fails, or of which a log refuses a notice; `play` says more.
 ///
 /// Cost: that of its turns, of which a play has nine at most, and of the copies of the commands, one for each turn.
 pub fn run<D: Disk, L: Logs>(

@@ -141,8 +141,8 @@ pub fn turn_unreported<D: Disk, L: Logs>(
     }
 }
 
-/// Gives this command to an opener, where it is live and has none, and nothing is put into a report. Of a gift no log is
-/// told. How the opener stood: it has the command where it was idle, and else nothing has changed.
+/// Gives this command to an opener, where it is live and has none, and nothing is put into a report. Of a gift no log
+/// is told. How the opener stood: it has the command where it was idle, and else nothing has changed.
 ///
 /// `Memory` where there is none for a copy of the command, or where a transaction would begin within too many others:
 /// then nothing has changed. `Io` never comes.

@@ -1,4 +1,5 @@
--- An opener that isn't aside is among the others. What a turn leads to says how a prepared Commit goes on. What stops leave of the others' turns alone has the premise that none is in the middle of a change.
+-- An opener that isn't aside is among the others. What a turn leads to says how a prepared Commit goes on. What stops
+-- leave of the others' turns alone has the premise that none is in the middle of a change.
 use Rattle.std.proofs.lemmas.Result.{IfOk-weaker}
 use Rattle.tdb_commands.specs.InLaw.{law_turn}
 use Rattle.tdb_openers.proofs.Aside.{on_one}
