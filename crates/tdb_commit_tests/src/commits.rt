@@ -6,10 +6,10 @@ ghost use Rattle.tdb_txn_turns.specs.Committings.{CommitFits};
 use crate::changes::{LIMIT, changed, file, start_locks};
 use crate::kinds::kinds;
 use std::alloc::Global;
-use tdb_txn_turns::{CommitTurn, Committing};
 use tdb_disk::MemDisk;
 use tdb_locks::{Kind, Len, Locks};
 use tdb_space::Io;
+use tdb_txn_turns::{CommitTurn, Committing};
 
 /// What a turn led to: a word, with who is in the way and of which byte; then what opener 1 holds, how many syncs were
 /// made, and how long the file is.

@@ -8,11 +8,11 @@ ghost use Rattle.tdb_txn_turns.specs.Prepares.{MayPlan, StageFits};
 use crate::changes::{LIMIT, changed, file, start_locks};
 use crate::kinds::kinds;
 use std::alloc::Global;
-use tdb_txn_turns::{FinishTurn, Finishing, PrepareTurn, Preparing, undo_prepared};
 use tdb_disk::MemDisk;
 use tdb_locks::Locks;
 use tdb_space::Io;
 use tdb_txn::{Prepared, Txn};
+use tdb_txn_turns::{FinishTurn, Finishing, PrepareTurn, Preparing, undo_prepared};
 
 /// Gives up what a turn led to.
 fn give_up(turn: PrepareTurn) {

@@ -3,9 +3,9 @@
 use crate::kinds::kinds;
 use small_file::HEADER;
 use std::alloc::{AllocError, Global};
-use tdb_txn_turns::{StartTurn, Starting};
 use tdb_disk::{FuseDisk, MemDisk};
 use tdb_locks::{Kind, Len, LockRefusal, Locks};
+use tdb_txn_turns::{StartTurn, Starting};
 use tdb_words::{HashKind, Order, header_bytes};
 
 /// A file of 696 bytes without a record.

@@ -4,10 +4,10 @@ use crate::files::{LAST_NUMBER, NEW, ONE};
 use crate::tables::{Failing, Row};
 use crate::worlds::OPTIONS;
 use small_file::RECORD;
-use tdb_world::RunFault;
+use tdb_commands::Options;
 use tdb_disk::Call;
 use tdb_log::{LogRefusal, Notice};
-use tdb_commands::Options;
+use tdb_world::RunFault;
 
 /// How a file is opened in which changes raise the sequence number.
 const COUNTED: Options = Options {

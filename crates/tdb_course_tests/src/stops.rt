@@ -4,10 +4,10 @@ use crate::files::{ONE, disk_of};
 use crate::worlds::{OPTIONS, take_script, text_of};
 use std::alloc::{AllocError, Global};
 use std::test::Fail;
+use tdb_commands::TurnReport;
 use tdb_disk::{Disk, FuseDisk, MemDisk, MemSink, Pick};
 use tdb_log::Log;
 use tdb_open::Opened;
-use tdb_commands::TurnReport;
 
 const COMMIT: &[u8] = b"open\ndo 1 start\ndo 1 store a 9\ndo 1 commit\n";
 

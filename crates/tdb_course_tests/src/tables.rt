@@ -6,10 +6,10 @@ use crate::worlds::{take_script, text_of};
 use small_file::Word;
 use std::alloc::{AllocError, Global};
 use std::test::Fail;
-use tdb_world::RunFault;
+use tdb_commands::{Options, TurnReport};
 use tdb_disk::Call;
 use tdb_log::{Log, LogRefusal, MemLog, Notice};
-use tdb_commands::{Options, TurnReport};
+use tdb_world::RunFault;
 
 /// What fails in a row: nothing, the nth call of a kind of the disk, or the first notice of each log.
 #[derive(Clone, Copy, Debug, PartialEq, Eq)]

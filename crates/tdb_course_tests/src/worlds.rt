@@ -6,12 +6,12 @@ ghost use Rattle.tdb_commands.specs.Short.{IsShortCommand};
 
 use small_file::HEADER;
 use std::alloc::Global;
-use tdb_world::{RunFault, World, run};
+use tdb_commands::{Command, Options, Play, TurnReport};
 use tdb_disk::{Disk, MemSink};
 use tdb_dump::WriteRefusal;
 use tdb_log::{LogRefusal, Logs};
-use tdb_commands::{Command, Options, Play, TurnReport};
 use tdb_script::{read_script, write_line};
+use tdb_world::{RunFault, World, run};
 
 /// How long a file may be in bytes.
 const LONGEST_FILE: u64 = 4_294_963_200;

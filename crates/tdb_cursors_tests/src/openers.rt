@@ -11,11 +11,11 @@ ghost use Rattle.tdb_cursors_tests.specs.Words.{IsWordOf};
 
 use small_file::HEADER;
 use std::alloc::{AllocError, Global};
-use tdb_walk::{Goal, Walk, close_turn};
 use tdb_disk::MemDisk;
 use tdb_locks::{Held, Locks, Piece, Reply, Spots, Turn};
 use tdb_space::{Direct, Io};
 use tdb_steps::{Flag, Machine, Plain, Region};
+use tdb_walk::{Goal, Walk, close_turn};
 use tdb_words::{Bytes, Header};
 
 // How long a file may be.

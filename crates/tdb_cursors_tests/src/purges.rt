@@ -6,9 +6,9 @@ use crate::rows::{FETCH_NEW, STORE_ANEW, steps_hold};
 use small_file::{HEADER, RECORD};
 use std::alloc::{AllocError, Global};
 use std::test::Fail;
-use tdb_walk::{Goal, Walk};
 use tdb_disk::{Call, MemDisk};
 use tdb_locks::{Kind, Locks};
+use tdb_walk::{Goal, Walk};
 
 // What opener 1 holds of chain 7, of the free list and of the record at 4064.
 type Kinds = (Option<Kind>, Option<Kind>, Option<Kind>);

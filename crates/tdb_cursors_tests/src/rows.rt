@@ -5,8 +5,8 @@ use crate::openers::{Act, Openers, Want};
 use small_file::{HEADER, RECORD, Word};
 use std::alloc::{AllocError, Global};
 use std::test::Fail;
-use tdb_walk::{Goal, Walk};
 use tdb_disk::{Call, MemDisk};
+use tdb_walk::{Goal, Walk};
 use tdb_words::{DEAD, FREE, Header, USED};
 
 #[derive(Clone, Copy)]

@@ -1,9 +1,9 @@
 // Why no summary is given.
 
 use std::alloc::AllocError;
-use tdb_world::RunFault;
 use tdb_log::LogRefusal;
 use tdb_space::Io;
+use tdb_world::RunFault;
 use thiserror::Error;
 
 /// Why there is no summary.

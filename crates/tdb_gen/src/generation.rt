@@ -27,8 +27,8 @@ use crate::summary::Summary;
 use std::alloc::Global;
 use tdb_disk::Disk;
 use tdb_log::Logs;
-use tdb_world::World;
 use tdb_words::Header;
+use tdb_world::World;
 
 /// The commands that are made for the openers of a world, and what was counted of their turns.
 #[derive(Debug, Drop)]

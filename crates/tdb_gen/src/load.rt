@@ -13,11 +13,11 @@ use crate::fault::GenFault;
 use crate::generation::Generation;
 use crate::summary::Summary;
 use std::alloc::Global;
+use tdb_commands::Options;
 use tdb_disk::Disk;
 use tdb_log::Logs;
-use tdb_commands::Options;
-use tdb_world::World;
 use tdb_words::Header;
+use tdb_world::World;
 
 /// Lets three openers join and do so many generated commands on an accepted file, in groups of three, and tells what
 /// came of them. The same numbers, on the same bytes, give the same bytes and the same summary. The last log is told

@@ -9,9 +9,9 @@ ghost use Rattle.tdb_gen.specs.Taking.{end_only, place, Rests, Taken};
 
 use crate::counts::Counts;
 use crate::fault::GenFault;
-use tdb_world::{World, turn_unreported};
 use tdb_disk::Disk;
 use tdb_log::Logs;
+use tdb_world::{World, turn_unreported};
 
 /// How many rounds of turns a group has.
 const ROUNDS: u32 = 24;

@@ -3,11 +3,11 @@
 use std::alloc::{AllocError, Global};
 use std::test::Fail;
 use tdb_check::check;
+use tdb_commands::Options;
 use tdb_disk::{Disk, MemDisk};
 use tdb_gen::{Summary, generate};
 use tdb_log::Log;
 use tdb_open::Opened;
-use tdb_commands::Options;
 use tdb_space::Direct;
 use tdb_words::{HashKind, Header, Order, header_bytes};
 

@@ -6,8 +6,8 @@ use crate::small::{bytes, file};
 use crate::words::{Word, command};
 use std::alloc::{AllocError, Global};
 use std::test::Fail;
-use tdb_txn_owner::{TxnOwner, Wants};
 use tdb_locks::Kind;
+use tdb_txn_owner::{TxnOwner, Wants};
 
 /// An opener after so many turns of the last of these commands, where changes raise the sequence number: its command
 /// that isn't done, whether that is a Close, how it holds all records, and whether it holds the bytes of opening, of

@@ -10,8 +10,8 @@ use crate::words::Word;
 use std::alloc::{AllocError, Global};
 use std::test::Fail;
 use tdb_disk::MemDisk;
-use tdb_txn_owner::{TxnOwner, Wants};
 use tdb_locks::Kind;
+use tdb_txn_owner::{TxnOwner, Wants};
 
 /// The most turns that a command takes.
 pub(crate) const MOST: u32 = 9;

@@ -1,8 +1,8 @@
 //! What is told of a turn, and of the file after it.
 
 use tdb_disk::MemDisk;
-use tdb_txn_owner::Wants;
 use tdb_locks::{Reply, Turn};
+use tdb_txn_owner::Wants;
 use tdb_words::Bytes;
 
 /// What a turn led to: a word for it, and two numbers: of a value its first byte and its length, of a pair the first

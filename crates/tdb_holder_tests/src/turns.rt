@@ -9,8 +9,8 @@ use crate::small::{HEADER, LIMIT};
 use crate::words::{Word, command};
 use std::alloc::{AllocError, Global};
 use tdb_disk::MemDisk;
-use tdb_txn_owner::{TxnOwner, Moved, Options};
 use tdb_space::Io;
+use tdb_txn_owner::{Moved, Options, TxnOwner};
 
 /// Takes a turn of the opener's command, where changes raise the sequence number or not: what is told of it, and the
 /// opener after it.

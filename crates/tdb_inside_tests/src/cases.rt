@@ -4,11 +4,11 @@ use crate::commands::{LIMIT, OK, Told, Word, begin, bytes};
 use crate::steps::{Step, are_told};
 use std::alloc::Global;
 use std::test::Fail;
-use tdb_walk::{Goal, Walk};
 use tdb_disk::{Call, MemDisk};
-use tdb_txn_turns::OwnTxn;
 use tdb_locks::{Held, Kind, Len, LockRefusal, Locks};
 use tdb_steps::Flag;
+use tdb_txn_turns::OwnTxn;
+use tdb_walk::{Goal, Walk};
 
 /// The steps of a transaction on a file that may grow up to a limit, in which changes raise the sequence number if it
 /// is numbered. Whether anything was changed, and whether it is doomed, once they are taken. It ends by a Close, or by

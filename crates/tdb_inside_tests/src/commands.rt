@@ -7,11 +7,11 @@ ghost use Rattle.tdb_inside_tests.specs.Ready.{IsReady};
 use small_file::{HEADER, RECORD};
 use std::alloc::{AllocError, Global};
 use tdb_disk::MemDisk;
-use tdb_txn_turns::OwnTxn;
 use tdb_locks::Reply;
 use tdb_space::Io;
 use tdb_steps::{Flag, Plain};
 use tdb_txn::Txn;
+use tdb_txn_turns::OwnTxn;
 use tdb_words::{Bytes, HashKind, Order, header_bytes, word_bytes};
 
 /// The header of the file.

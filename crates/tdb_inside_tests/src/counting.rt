@@ -2,8 +2,8 @@
 
 use crate::commands::{OK, told};
 use std::alloc::Global;
-use tdb_txn_turns::{count_all, count_chain, uncount_all, uncount_chain};
 use tdb_locks::{Held, Kind};
+use tdb_txn_turns::{count_all, count_chain, uncount_all, uncount_chain};
 
 /// The first locks that aren't let go as often as they were taken, and no more often.
 pub(crate) fn failing_count(alloc: Global) -> Option<&'static str> {

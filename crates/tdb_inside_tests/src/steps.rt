@@ -6,12 +6,12 @@ ghost use Rattle.tdb_inside_tests.specs.Ready.{IsReady};
 use crate::commands::{LIMIT, OK, Told, Word, command, told};
 use small_file::HEADER;
 use std::alloc::{AllocError, Global};
-use tdb_walk::{Goal, Walk};
 use tdb_disk::MemDisk;
-use tdb_txn_turns::OwnTxn;
 use tdb_locks::Spots;
 use tdb_space::read_word;
 use tdb_txn::OverlayOn;
+use tdb_txn_turns::OwnTxn;
+use tdb_walk::{Goal, Walk};
 
 /// A step of an opener.
 #[derive(Clone, Copy)]

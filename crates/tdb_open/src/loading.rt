@@ -11,9 +11,9 @@ ghost use Rattle.tdb_open.specs.Loading.{OpenedToTurn, OpeningHeardBy, TurnOpeni
 use crate::halt::{Halt, Refusal};
 use crate::opening::Opened;
 use std::alloc::Global;
+use tdb_commands::Options;
 use tdb_disk::Disk;
 use tdb_log::Logs;
-use tdb_commands::Options;
 
 /// Opens the file on a disk, which isn't too long, to read it alone or not. The last log is told what the opening
 /// finds.

@@ -14,8 +14,8 @@ ghost use Rattle.tdb_openers.specs.Openers.{own_of, command_in, JobStands};
 use crate::job::{Checking, Job, Locking, Walking};
 use crate::opener::Opener;
 use crate::told::PlainJob;
-use tdb_locks::Reply;
 use tdb_commands::{Command, Options};
+use tdb_locks::Reply;
 use tdb_steps::Plain;
 use tdb_words::Header;
 

@@ -8,8 +8,8 @@ ghost use Rattle.tdb_openers.specs.Openers.{command_in, locking_command, walk_co
 
 use crate::told::PlainJob;
 use std::alloc::{AllocError, Global};
-use tdb_locks::Reply;
 use tdb_commands::Command;
+use tdb_locks::Reply;
 use tdb_walk::Goal;
 use tdb_words::Bytes;
 

@@ -5,8 +5,8 @@ ghost use Rattle.tdb_openers.specs.Worlds.{fresh};
 
 use crate::job::Task;
 use std::alloc::Global;
-use tdb_walk::Walk;
 use tdb_locks::Held;
+use tdb_walk::Walk;
 
 /// An opener of the file.
 #[derive(Debug, Drop)]

@@ -13,8 +13,8 @@ ghost use Rattle.tdb_openers.specs.Given.{held_count, holds_chains, reads_record
 
 use crate::locking::chain_in;
 use crate::opener::Opener;
-use tdb_locks::{Held, Kind, Reply};
 use tdb_commands::{Command, Options};
+use tdb_locks::{Held, Kind, Reply};
 use tdb_words::{Bytes, Header};
 
 /// Whether a chain is held explicitly.

@@ -27,8 +27,8 @@ use crate::numbering::seqnum_turn;
 use crate::opener::Opener;
 use std::alloc::Global;
 use std::mem;
-use tdb_locks::{Held, Locks, Reply, Spots, Turn};
 use tdb_commands::Options;
+use tdb_locks::{Held, Locks, Reply, Spots, Turn};
 use tdb_space::{Io, Space};
 use tdb_words::Header;
 

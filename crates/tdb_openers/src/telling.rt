@@ -5,8 +5,8 @@ ghost use Rattle.tdb_commands.specs.declared.line.Line.{Line};
 ghost use Rattle.tdb_openers.specs.Played.{growth, is_step};
 
 use crate::fault::RunFault;
-use tdb_locks::Turn;
 use tdb_commands::{Line, TurnReport};
+use tdb_locks::Turn;
 
 /// Puts a line behind the others, for which there is room.
 pub fn put_line(report: &mut TurnReport, line: Line)

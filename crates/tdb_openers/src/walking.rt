@@ -15,9 +15,9 @@ ghost use Rattle.tdb_openers.specs.Walked.{WalkStepped, WalkTurned};
 use crate::job::{Job, Task, Walking};
 use crate::opener::Opener;
 use std::alloc::Global;
-use tdb_walk::{Walk, close_turn};
 use tdb_locks::{Held, Locks, Spots, Turn};
 use tdb_space::{Io, Space};
+use tdb_walk::{Walk, close_turn};
 
 impl Walking {
     /// Takes one turn of the command, of an opener with these locks and this cursor. The opener's own entry in `spots`

@@ -1,8 +1,8 @@
 // Lists of plays and of lines, and copies of commands.
 use std::alloc::{AllocError, Global};
 use std::test::Fail;
-use tdb_locks::Turn;
 use tdb_commands::{Command, Line, Play, Plays, TurnReport};
+use tdb_locks::Turn;
 use tdb_steps::Flag;
 use tdb_words::Bytes;
 

@@ -11,8 +11,8 @@ use crate::cut::first_word;
 use crate::rows::{bare_command, key_command, value_command};
 use crate::unread::Unread;
 use std::alloc::Global;
-use tdb_dump::{WordRefusal, word_bytes_of};
 use tdb_commands::Command;
+use tdb_dump::{WordRefusal, word_bytes_of};
 use tdb_words::Bytes;
 
 /// The bytes that a word stands for.

@@ -6,9 +6,9 @@ ghost use Rattle.tdb_script.specs.Text.{spaced, line_text, printed_line};
 
 use crate::reply::{push_counted, push_number, push_numbers, push_turn};
 use std::alloc::{AllocError, Global};
+use tdb_commands::Line;
 use tdb_disk::Sink;
 use tdb_dump::WriteRefusal;
-use tdb_commands::Line;
 use tdb_words::Bytes;
 
 /// Puts an opener's number and a word at the end, with a space between.

@@ -1,10 +1,10 @@
 // Scripts and their bad places, and the lines of worked reports.
 use std::alloc::{AllocError, Global};
 use std::test::Fail;
+use tdb_commands::{Command, Line, Play, Plays};
 use tdb_disk::{Call, MemSink};
 use tdb_dump::WriteRefusal;
 use tdb_locks::{Reply, Turn};
-use tdb_commands::{Command, Line, Play, Plays};
 use tdb_script::{ScriptRefusal, read_script, text_of_reply, write_line};
 use tdb_steps::Flag;
 use tdb_words::Bytes;

@@ -8,8 +8,8 @@ ghost use Rattle.tdb_tool.specs.Orders.{storehex, ReadsAs, BytesRead};
 use crate::hex::hex_bytes_of;
 use crate::rows::{bare_order, key_order, value_order};
 use std::alloc::{AllocError, Global};
-use tdb_dump::{Listing, WordRefusal, word_bytes_of};
 use tdb_commands::Command;
+use tdb_dump::{Listing, WordRefusal, word_bytes_of};
 use tdb_script::first_word;
 use tdb_words::Bytes;
 

@@ -9,10 +9,10 @@ ghost use Rattle.tdb_script.specs.Text.{reply_text};
 ghost use Rattle.tdb_tool.specs.Replies.{printed_reply, told_as, line_text, lines_text, tells_pair, tell_pair};
 
 use std::alloc::{AllocError, Global};
+use tdb_commands::{Line, TurnReport};
 use tdb_disk::Sink;
 use tdb_dump::{Listing, WriteRefusal};
 use tdb_locks::{Reply, Turn};
-use tdb_commands::{Line, TurnReport};
 use tdb_script::text_of_reply;
 use tdb_words::Bytes;
 

@@ -5,8 +5,8 @@ ghost use Rattle.tdb_script.specs.Rows.{row_of};
 ghost use Rattle.tdb_tool.specs.Rows.{bare_orders, key_orders, value_orders};
 
 use crate::order::Order;
-use tdb_dump::Listing;
 use tdb_commands::Command;
+use tdb_dump::Listing;
 use tdb_script::text_of;
 use tdb_steps::Flag;
 use tdb_words::Bytes;

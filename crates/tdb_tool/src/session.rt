@@ -16,9 +16,9 @@ use crate::fault::{SessionEnd, SessionFault};
 use crate::serving::serve;
 use crate::taking::{OPENER, doing, take_silently};
 use std::alloc::Global;
+use tdb_commands::{Command, Play};
 use tdb_disk::{Disk, Sink, Source};
 use tdb_log::Logs;
-use tdb_commands::{Command, Play};
 use tdb_world::{OpenerStanding, World};
 
 /// An opener joins, and does what the lines of the input order.

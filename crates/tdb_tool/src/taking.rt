@@ -15,10 +15,10 @@ use crate::limits::MOST_MOVES;
 use crate::order::Order;
 use crate::replies::{has_pair, write_replies};
 use std::alloc::Global;
+use tdb_commands::{Command, Play, TurnReport};
 use tdb_disk::{Disk, Sink};
 use tdb_dump::Listing;
 use tdb_log::Logs;
-use tdb_commands::{Command, Play, TurnReport};
 use tdb_world::World;
 
 /// The number of the opener that takes the commands.

@@ -4,10 +4,10 @@ use std::alloc::{AllocError, Global};
 use std::test::Fail;
 use tdb_disk::{Call, Disk, MemDisk, MemSink, MemSource, Sink, Source};
 use tdb_log::{Log, Logs, MemLog};
-use tdb_world::load;
+use tdb_openers::Options;
 use tdb_tool::{SessionEnd, SessionFault, run_session};
 use tdb_words::{HashKind, Order, header_bytes};
-use tdb_openers::Options;
+use tdb_world::load;
 
 const OPTIONS: Options = Options {
     limit: 4294963200,

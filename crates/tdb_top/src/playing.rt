@@ -17,13 +17,13 @@ ghost use Rattle.tdb_top.specs.Stops.{StopsOfTurns, StopsOver, StopsTold};
 
 use crate::ending::Unprinted;
 use std::alloc::Global;
-use tdb_world::{RunFault, World, finish_report, run};
+use tdb_commands::{Play, TurnReport};
 use tdb_disk::{Disk, Sink};
 use tdb_dump::WriteRefusal;
 use tdb_log::{LogRefusal, Logs};
 use tdb_open::Fault;
-use tdb_commands::{Play, TurnReport};
 use tdb_script::write_line;
+use tdb_world::{RunFault, World, finish_report, run};
 
 /// Writes the lines of a report, each in one call. Where the output fails, or memory is wanting, a front of their text
 /// was written.

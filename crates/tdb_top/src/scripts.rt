@@ -10,8 +10,8 @@ ghost use Rattle.tdb_world.specs.Courses.Playable.{ArePlayable};
 
 use crate::ending::Ending;
 use std::alloc::{AllocError, Global};
-use tdb_disk::{Source, SourceFault};
 use tdb_commands::Plays;
+use tdb_disk::{Source, SourceFault};
 use tdb_script::{LONGEST_SCRIPT, ScriptRefusal, read_script};
 use tdb_words::Bytes;
 use thiserror::Error;

@@ -18,10 +18,10 @@ ghost use Rattle.tdb_txn_owner.specs.Wanting.{RecordsGo, StepGoesOn};
 ghost use Rattle.tdb_txn_owner.specs.Syncs.{HolderSyncs};
 
 use crate::stage::{Stage, Went};
-use tdb_txn_turns::{CommitTurn, Committing};
 use tdb_disk::Disk;
 use tdb_locks::{Locks, Reply, Turn};
 use tdb_space::Io;
+use tdb_txn_turns::{CommitTurn, Committing};
 
 /// What a turn of a Commit leaves of its opener.
 fn commit_left(turn: CommitTurn) -> Went

@@ -5,8 +5,8 @@ ghost use Rattle.tdb_txn_owner.specs.Holders as Spec;
 ghost use Rattle.tdb_txn_owner.specs.Stages.{given_task, stage_task};
 
 use crate::stage::{PreparedTxn, Stage};
-use tdb_txn_turns::{Committing, Finishing};
 use tdb_commands::Command;
+use tdb_txn_turns::{Committing, Finishing};
 
 /// Whether an opener with this command may die: it has none, or one that would end a transaction.
 fn may_die(command: &Option<Command>) -> bool

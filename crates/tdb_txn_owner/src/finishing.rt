@@ -17,10 +17,10 @@ ghost use Rattle.tdb_txn_owner.specs.Wanting.{RecordsGo, StepGoesOn};
 ghost use Rattle.tdb_txn_owner.specs.Syncs.{HolderSyncs};
 
 use crate::stage::{Stage, Went};
-use tdb_txn_turns::{FinishTurn, Finishing};
 use tdb_disk::Disk;
 use tdb_locks::{Locks, Reply, Turn};
 use tdb_space::Io;
+use tdb_txn_turns::{FinishTurn, Finishing};
 
 /// What a turn of a Commit whose gate was open leaves of its opener.
 fn finish_left(turn: FinishTurn) -> Went

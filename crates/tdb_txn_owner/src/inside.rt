@@ -25,12 +25,12 @@ use crate::open_txn::OpenTxn;
 use crate::preparing::prepare_turn;
 use crate::stage::{Stage, Went};
 use std::alloc::Global;
-use tdb_txn_turns::{Committing, OwnTxn, Preparing};
+use tdb_commands::{Command, Options};
 use tdb_disk::Disk;
 use tdb_locks::{Locks, Reply, Turn};
-use tdb_commands::{Command, Options};
 use tdb_space::Io;
 use tdb_txn::Txn;
+use tdb_txn_turns::{Committing, OwnTxn, Preparing};
 use tdb_words::Header;
 
 /// How many bytes in front of a file no commit writes: of its header, up to the sequence number.

@@ -19,9 +19,9 @@ mod waits;
 mod wanting;
 
 pub use crate::ends::{ends_are_own, inside_is_own, machines_are_own};
-pub use crate::txn_owner::{TxnOwner, Moved};
 pub use crate::lifts::side_turns;
 pub use crate::reads::files_are_read;
+pub use crate::txn_owner::{Moved, TxnOwner};
 pub use crate::waits::blocks_are_own;
 pub use crate::wanting::Wants;
 pub use tdb_commands::Options;

@@ -31,13 +31,13 @@ ghost use Rattle.tdb_commands.specs.Short.{IsShortCommand};
 
 use crate::refusing::{Level, chain_in};
 use std::alloc::{AllocError, Global};
-use tdb_walk::{Goal, Walk};
-use tdb_disk::Disk;
-use tdb_txn_turns::{OwnTxn, count_all, count_chain, uncount_all, uncount_chain};
-use tdb_locks::{Held, Kind, Reply, Spots};
 use tdb_commands::{Command, Options};
+use tdb_disk::Disk;
+use tdb_locks::{Held, Kind, Reply, Spots};
 use tdb_space::Io;
 use tdb_steps::Plain;
+use tdb_txn_turns::{OwnTxn, count_all, count_chain, uncount_all, uncount_chain};
+use tdb_walk::{Goal, Walk};
 use tdb_words::Header;
 
 /// How many locks can be counted: their number has room for a cursor.

@@ -27,11 +27,11 @@ use crate::finishing::finish_turn;
 use crate::refusing::Level;
 use crate::stage::{PreparedTxn, Stage, Went};
 use std::alloc::Global;
-use tdb_txn_turns::{Finishing, undo_prepared};
+use tdb_commands::{Command, Options};
 use tdb_disk::Disk;
 use tdb_locks::{Held, Locks, Reply, Turn};
-use tdb_commands::{Command, Options};
 use tdb_space::Io;
+use tdb_txn_turns::{Finishing, undo_prepared};
 use tdb_words::Header;
 
 /// A prepared transaction as a refusal sees it. It has no explicit locks, and what it doesn't take is told the same

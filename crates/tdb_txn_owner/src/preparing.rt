@@ -18,10 +18,10 @@ ghost use Rattle.tdb_txn_owner.specs.Wanting.{RecordsGo, StepGoesOn};
 ghost use Rattle.tdb_txn_owner.specs.Syncs.{HolderSyncs};
 
 use crate::stage::{PreparedTxn, Stage, Went};
-use tdb_txn_turns::{PrepareStage, PrepareTurn, Preparing};
 use tdb_disk::Disk;
 use tdb_locks::{Locks, Reply, Turn};
 use tdb_space::Io;
+use tdb_txn_turns::{PrepareStage, PrepareTurn, Preparing};
 
 /// Whether a command of its transaction changed anything.
 fn has_change(stage: &PrepareStage) -> bool

@@ -10,8 +10,8 @@ ghost use Rattle.tdb_commands.specs.InLaw.{law_command, law_reply};
 ghost use Rattle.tdb_txn_owner.specs.Refusing.{commit_told, counted_with, inside_told, is_writer, passes_prepared, StandsAt};
 ghost use Rattle.tdb_commands.specs.Short.{IsShortCommand};
 
-use tdb_locks::{Held, Reply};
 use tdb_commands::{Command, Options};
+use tdb_locks::{Held, Reply};
 use tdb_words::{Bytes, Header, chain_of, hash_of};
 
 /// What of an opener's transaction, and of its cursor, decides which of its commands are refused.

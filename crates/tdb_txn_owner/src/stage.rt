@@ -3,10 +3,10 @@ ghost use Rattle.std.specs.Prelude.{◌≡◌};
 ghost use Rattle.tdb_txn_owner.specs.Wents.{goes_on, is_over};
 
 use crate::open_txn::OpenTxn;
-use tdb_txn_turns::{Committing, Finishing, Preparing, Starting};
-use tdb_locks::{Reply, Turn};
 use tdb_commands::Command;
+use tdb_locks::{Reply, Turn};
 use tdb_txn::Prepared;
+use tdb_txn_turns::{Committing, Finishing, Preparing, Starting};
 
 /// What a Prepare has left of a transaction. It can't be dropped.
 pub enum PreparedTxn {

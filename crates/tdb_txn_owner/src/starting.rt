@@ -16,11 +16,11 @@ ghost use Rattle.tdb_txn_owner.specs.Syncs.{HolderSyncs};
 use crate::open_txn::OpenTxn;
 use crate::stage::{Stage, Went};
 use std::alloc::Global;
-use tdb_txn_turns::{OwnTxn, StartTurn, Starting};
+use tdb_commands::Options;
 use tdb_disk::Disk;
 use tdb_locks::{Locks, Reply, Turn};
-use tdb_commands::Options;
 use tdb_space::Io;
+use tdb_txn_turns::{OwnTxn, StartTurn, Starting};
 use tdb_words::Header;
 
 /// What a turn of a Start leaves of its opener, where changes raise the sequence number or not.

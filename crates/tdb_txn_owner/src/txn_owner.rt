@@ -37,11 +37,11 @@ use crate::starting::start_turn;
 use crate::wanting::Wants;
 use std::alloc::{AllocError, Global};
 use std::marker::Model;
-use tdb_txn_turns::Starting;
+use tdb_commands::{Command, Options};
 use tdb_disk::Disk;
 use tdb_locks::{Kind, Locks, Reply, Turn};
-use tdb_commands::{Command, Options};
 use tdb_space::Io;
+use tdb_txn_turns::Starting;
 use tdb_words::Header;
 
 /// An opener in a Start, or with a transaction, and a lock table of its own. It can't be dropped, since it may have an

@@ -5,9 +5,9 @@ ghost use Rattle.tdb_txn_owner.specs.Wanting as Spec;
 
 use crate::open_txn::OpenTxn;
 use crate::stage::{PreparedTxn, Stage};
-use tdb_txn_turns::{Committing, PrepareStage, Preparing, Starting};
-use tdb_locks::Kind;
 use tdb_commands::Command;
+use tdb_locks::Kind;
+use tdb_txn_turns::{Committing, PrepareStage, Preparing, Starting};
 
 /// What the next turn wants of the lock bytes that its opener doesn't hold yet.
 #[derive(Clone, Copy, Debug, PartialEq, Eq)]

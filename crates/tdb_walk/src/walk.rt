@@ -13,10 +13,10 @@ ghost use Rattle.tdb_walk.specs.declared.standing.Standing.TheVariants.{Past};
 ghost use Rattle.tdb_locks.specs.declared.turn.Reply.{Reply as ReplyIs};
 ghost use Rattle.tdb_walk.specs.Spots.{spot_number};
 
+use crate::{Cursor, Goal};
 use std::alloc::Global;
 use tdb_locks::{Held, Locks, Reply, Spots, Turn};
 use tdb_space::{Io, Space};
-use crate::{Cursor, Goal};
 use tdb_words::Bytes;
 
 /// The cursor of an opener, which is past the last chain where the opener has none.

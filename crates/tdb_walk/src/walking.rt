@@ -13,11 +13,11 @@ ghost use Rattle.tdb_locks.specs.declared.turn.Reply.TheVariants.{End};
 ghost use Rattle.tdb_locks.specs.declared.turn.Turn.TheVariants.{Done};
 ghost use Rattle.tdb_walk.specs.Spots.{spot_number, is_last, IsLeft, LacksCursor, Stepped};
 
+use crate::Goal;
 use crate::walk::Walk;
 use std::alloc::Global;
 use tdb_locks::{Held, Locks, Reply, Spots, Turn};
 use tdb_space::{Io, Space};
-use crate::Goal;
 
 impl Walk {
     /// Takes one turn of what the cursor is asked for, as `step` does. The opener's own entry in `spots` is the one at

@@ -27,10 +27,10 @@ ghost use Rattle.tdb_world.specs.Syncs.{SyncsByStage};
 use crate::world::World;
 use std::mem;
 use tdb_disk::Disk;
-use tdb_txn_owner::{TxnOwner, Moved, Wants};
 use tdb_locks::{Kind, LockRefusal, Turn};
-use tdb_space::{Direct, Io};
 use tdb_openers::{Openers, number_in};
+use tdb_space::{Direct, Io};
+use tdb_txn_owner::{Moved, TxnOwner, Wants};
 
 /// What a lock of all records among the openers has come to.
 #[derive(Clone, Copy, Debug, PartialEq, Eq)]

@@ -19,9 +19,9 @@ ghost use Rattle.tdb_openers.specs.declared.standings.OpenerStanding.TheVariants
 
 use crate::world::World;
 use std::alloc::AllocError;
-use tdb_txn_owner::TxnOwner;
 use tdb_commands::Command;
 use tdb_openers::OpenerStanding;
+use tdb_txn_owner::TxnOwner;
 
 /// Gives the one aside a command, where it may be given.
 fn give_holder(holder: &mut TxnOwner, command: Command) -> Result<(), AllocError>

@@ -16,9 +16,9 @@ ghost use Rattle.tdb_txn_owner.specs.Syncs.{HolderSyncs};
 
 use crate::world::World;
 use tdb_disk::Disk;
-use tdb_txn_owner::TxnOwner;
 use tdb_locks::{Reply, Turn};
 use tdb_space::Io;
+use tdb_txn_owner::TxnOwner;
 
 /// The lock byte of transactions.
 const TXN_BYTE: u64 = 8;

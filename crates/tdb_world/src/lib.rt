@@ -15,15 +15,15 @@ mod turning;
 mod undoing;
 mod world;
 
-pub use crate::laws::{
-    commits_sync_seldom, prepared_commits_go_on, states_are_read, transactions_are_safe,
-};
-pub use crate::undoing::Undone;
-pub use crate::world::{JoinRefusal, World};
-pub use tdb_openers::{OpenerStanding, RunFault};
 pub use crate::course::ending::finish_report;
 pub use crate::course::laws::{prepared_commits_end, report_is_lawful, steps_tell_changes};
 pub use crate::course::playing::{play, run};
 pub use crate::course::unreported::{give_unreported, turn_unreported};
 pub use crate::creating::{CreateRefusal, create};
+pub use crate::laws::{
+    commits_sync_seldom, prepared_commits_go_on, states_are_read, transactions_are_safe,
+};
 pub use crate::loading::load;
+pub use crate::undoing::Undone;
+pub use crate::world::{JoinRefusal, World};
+pub use tdb_openers::{OpenerStanding, RunFault};

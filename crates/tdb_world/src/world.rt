@@ -15,10 +15,10 @@ ghost use Rattle.tdb_world.specs.Steps.{JoinLeads};
 
 use std::alloc::Global;
 use std::marker::Model;
-use tdb_txn_owner::TxnOwner;
 use tdb_commands::Options;
-use tdb_words::Header;
 use tdb_openers::{MOST_OPENERS, Openers};
+use tdb_txn_owner::TxnOwner;
+use tdb_words::Header;
 use thiserror::Error;
 
 /// Why no opener joined.

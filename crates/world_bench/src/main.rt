@@ -11,15 +11,15 @@ use anyhow::{Context, bail};
 use std::alloc::{AllocError, Global};
 use std::env;
 use std::time::Instant;
-use tdb_world::{World, create, run};
+use tdb_commands::{Command, Options, Play, TurnReport};
 use tdb_disk::{Disk, Files, MemFiles, Take};
 use tdb_files::DirFiles;
 use tdb_gen::generate;
 use tdb_log::Log;
 use tdb_open::{NewForm, Opened, make};
-use tdb_commands::{Command, Options, Play, TurnReport};
 use tdb_steps::Flag;
 use tdb_words::{Bytes, HashKind, Order};
+use tdb_world::{World, create, run};
 
 /// The file.
 const NAME: &str = "world_bench.tdb";

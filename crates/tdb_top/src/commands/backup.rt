@@ -21,8 +21,8 @@ ghost use Rattle.tdb_open.specs.Opening.{opened_bytes, IsCheckedOn};
 
 use crate::ending::{Ending, Reply};
 use std::alloc::Global;
-use tdb_cmdline::Text;
 use tdb_backup::{CopyRefusal, copy_pairs};
+use tdb_cmdline::Text;
 use tdb_disk::{Disk, Files, Take};
 use tdb_log::Logs;
 use tdb_open::{LONGEST_FILE, NewForm, Opened, make};

@@ -14,11 +14,11 @@ ghost use Rattle.tdb_top.specs.Reads.{GenCause};
 use crate::commands::restore::{HEADER, NEW_FORM};
 use crate::ending::{Ending, Reply};
 use std::alloc::Global;
+use tdb_commands::Options;
 use tdb_disk::{Disk, Files, Take};
 use tdb_gen::{GenFault, generate};
 use tdb_log::Logs;
 use tdb_open::{LONGEST_FILE, make};
-use tdb_commands::Options;
 use tdb_words::Bytes;
 
 /// How the openers of the commands open their file.

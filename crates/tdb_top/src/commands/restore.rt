@@ -20,8 +20,8 @@ ghost use Rattle.tdb_top.specs.Reads.{AskCause};
 
 use crate::ending::{Ending, Reply};
 use std::alloc::Global;
-use tdb_cmdline::DEFAULT_SIZE;
 use tdb_backup::{RestoreRefusal, restore_pairs};
+use tdb_cmdline::DEFAULT_SIZE;
 use tdb_disk::{Disk, Files, Source, Take};
 use tdb_open::{NewForm, make};
 use tdb_space::Direct;

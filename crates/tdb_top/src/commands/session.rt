@@ -16,9 +16,9 @@ use crate::ending::{Ending, Reply, Unprinted};
 use std::alloc::Global;
 use tdb_disk::{Disk, Files, Sink, Source, Take};
 use tdb_log::Logs;
-use tdb_world::load;
-use tdb_tool::{SessionEnd, SessionFault, run_session};
 use tdb_openers::Options;
+use tdb_tool::{SessionEnd, SessionFault, run_session};
+use tdb_world::load;
 
 /// How a file is opened for a session that may make it so long.
 fn options_within(limit: u64) -> Options

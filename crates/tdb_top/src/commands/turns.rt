@@ -25,12 +25,12 @@ use crate::ending::{Ending, Reply, Unprinted};
 use crate::playing::play_all;
 use crate::scripts::plays_on;
 use std::alloc::Global;
+use tdb_commands::Play;
 use tdb_disk::{Disk, Files, Sink, Source, Take};
 use tdb_log::Logs;
 use tdb_open::Fault;
-use tdb_world::load;
-use tdb_commands::Play;
 use tdb_openers::Options;
+use tdb_world::load;
 
 /// Opens the file on a disk, takes plays over it, and tells them.
 fn play_on_disk<D: Disk, K: Sink, L: Logs>(

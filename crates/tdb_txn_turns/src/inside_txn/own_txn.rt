@@ -17,9 +17,9 @@ ghost use Rattle.tdb_txn_turns.specs.InsideTxn.OwnTxns.{own_inside};
 ghost use Rattle.tdb_txn_turns.specs.InsideTxn.Turns.{ClosesInside, EndsInside};
 
 use std::alloc::Global;
-use tdb_walk::Walk;
 use tdb_locks::{Held, Locks};
 use tdb_txn::Txn;
+use tdb_walk::Walk;
 
 /// The transaction of an opener: its pages, and what is known of it besides.
 #[derive(Drop)]

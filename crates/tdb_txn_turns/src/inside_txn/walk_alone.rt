@@ -12,9 +12,9 @@ ghost use Rattle.tdb_txn_turns.specs.InsideTxn.Walks.{all_written, shown_by, Cur
 
 use crate::inside_txn::alone::OWNER;
 use std::alloc::Global;
-use tdb_walk::{Goal, Walk};
 use tdb_locks::{Held, Kind, Locks, Reply, Spots, Turn};
 use tdb_space::{Io, Space};
+use tdb_walk::{Goal, Walk};
 
 /// Takes one turn of what a cursor is asked for where nobody else holds a lock, and no other cursor counts. It is as if
 /// the cursor's opener held all records for writing: so no chain and no record is locked, and a dead record is purged.

@@ -18,11 +18,11 @@ ghost use Rattle.tdb_txn_turns.specs.InsideTxn.Walks.{command_for, shown_by, wit
 use crate::inside_txn::own_txn::OwnTxn;
 use crate::inside_txn::walk_alone::take_walk;
 use std::alloc::Global;
-use tdb_walk::{Goal, Walk};
 use tdb_disk::Disk;
 use tdb_locks::Reply;
 use tdb_space::Io;
 use tdb_txn::{OverlayOn, Txn};
+use tdb_walk::{Goal, Walk};
 
 /// Takes all turns of a cursor in the pages of a transaction.
 fn walk_in_pages<D: Disk>(

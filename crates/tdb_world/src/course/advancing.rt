@@ -13,9 +13,9 @@ ghost use Rattle.tdb_world.specs.Courses.Turns.{GoesOrClears};
 ghost use Rattle.tdb_world.specs.Courses.Told.{PlayLed};
 
 use crate::course::turning::told_turn;
-use tdb_disk::Disk;
-use tdb_commands::{Line, TurnReport};
 use crate::{OpenerStanding, World};
+use tdb_commands::{Line, TurnReport};
+use tdb_disk::Disk;
 use tdb_openers::{MOST_TURNS, RunFault, tell};
 
 /// Takes turns of an opener's command up to the first that isn't a step, and tells them.

@@ -5,8 +5,8 @@ ghost use Rattle.tdb_commands.specs.InLaw.{law_opener};
 ghost use Rattle.tdb_world.specs.Whole.{WorldFits};
 ghost use Rattle.tdb_world.specs.Courses.Told.{PlayLedInAny};
 
-use tdb_commands::{Line, TurnReport};
 use crate::{OpenerStanding, World};
+use tdb_commands::{Line, TurnReport};
 use tdb_openers::{RunFault, put_line, tell};
 
 /// An opener dies, or the report says why it doesn't.

@@ -5,9 +5,9 @@ ghost use Rattle.tdb_world.specs.Whole.{WorldFits};
 ghost use Rattle.tdb_world.specs.Steps.{HasCommand};
 ghost use Rattle.tdb_world.specs.Courses.Unfinished.{IsEnd};
 
+use crate::{OpenerStanding, World};
 use std::alloc::AllocError;
 use tdb_commands::{Line, TurnReport};
-use crate::{OpenerStanding, World};
 
 /// Whether the opener with this number has a command that isn't done.
 fn is_busy(world: &World, who: u32) -> bool

@@ -5,8 +5,8 @@ ghost use Rattle.tdb_commands.specs.declared.line.Line.TheVariants.{LogsLeft};
 ghost use Rattle.tdb_openers.specs.declared.fault.RunFault.TheVariants as Faults;
 ghost use Rattle.tdb_world.specs.Courses.Hearing.{notice_of, HeardNotices};
 
-use tdb_log::{LogRefusal, Logs, Notice};
 use tdb_commands::{Line, TurnReport};
+use tdb_log::{LogRefusal, Logs, Notice};
 use tdb_openers::{RunFault, put_line};
 
 /// The notice that tells what a line does, if logs are told of it.

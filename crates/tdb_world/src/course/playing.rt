@@ -17,10 +17,10 @@ use crate::course::advancing::{go_on, play_go, play_turn};
 use crate::course::dying::play_die;
 use crate::course::hearing::{drop_log, tell_logs};
 use crate::course::starting::{give_copy, play_give, play_join};
+use crate::{OpenerStanding, World};
+use tdb_commands::{Command, Line, Play, TurnReport};
 use tdb_disk::Disk;
 use tdb_log::{LogRefusal, Logs};
-use tdb_commands::{Command, Line, Play, TurnReport};
-use crate::{OpenerStanding, World};
 use tdb_openers::{RunFault, tell};
 
 /// An opener is given a command and takes turns of it up to the first that isn't a step, or the report says why not.

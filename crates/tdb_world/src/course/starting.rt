@@ -8,8 +8,8 @@ ghost use Rattle.tdb_world.specs.Steps.{HasNoCommand};
 ghost use Rattle.tdb_world.specs.Courses.Led.{Lengths};
 ghost use Rattle.tdb_world.specs.Courses.Told.{Gifted, GivesLine, PlayLedInAny};
 
-use tdb_commands::{Command, Line, TurnReport};
 use crate::{JoinRefusal, OpenerStanding, World};
+use tdb_commands::{Command, Line, TurnReport};
 use tdb_openers::{RunFault, put_line, tell};
 
 /// The line of a join: a new opener, or why there is none.

@@ -16,11 +16,11 @@ ghost use Rattle.tdb_world.specs.Courses.Led.{moment, Led};
 ghost use Rattle.tdb_world.specs.Courses.Stops.{StopsLed};
 ghost use Rattle.tdb_world.specs.Courses.Turns.{IsToldOf, Never, TakesOrClears};
 
-use tdb_disk::Disk;
-use tdb_commands::{Command, Line, TurnReport};
-use tdb_space::Io;
 use crate::{Undone, World};
+use tdb_commands::{Command, Line, TurnReport};
+use tdb_disk::Disk;
 use tdb_openers::{RunFault, put_line, tell_growth, was_step};
+use tdb_space::Io;
 
 /// The length of the file.
 pub(crate) fn length_of<D: Disk>(d: &mut D) -> Result<u64, Io>

@@ -17,11 +17,11 @@ ghost use Rattle.tdb_world.specs.Courses.Unreported.{gift_lines, turn_lines, und
 
 use crate::course::starting::give;
 use crate::course::turning::length_of;
+use crate::{OpenerStanding, Undone, World};
+use tdb_commands::Command;
 use tdb_disk::Disk;
 use tdb_locks::Turn;
 use tdb_log::{LogRefusal, Logs, Notice};
-use tdb_commands::Command;
-use crate::{OpenerStanding, Undone, World};
 use tdb_openers::RunFault;
 
 /// A turn, and the length of the file in bytes before it and after it.
