@@ -11,7 +11,7 @@ use Rattle.tdb_commands.specs.declared.line.Line.{Line}
 use Rattle.tdb_commands.specs.declared.line.Line.TheVariants as Lines
 use Rattle.tdb_commands.specs.declared.play.Play.{Play}
 use Rattle.tdb_commands.specs.declared.play.Play.TheVariants as Plays
-use Rattle.tdb_openers.proofs.Courses.{course_then}
+use Rattle.tdb_openers.proofs.Joining.Courses.{course_then}
 use Rattle.tdb_openers.specs.declared.standings.OpenerStanding.{OpenerStanding}
 use Rattle.tdb_openers.specs.declared.standings.OpenerStanding.TheVariants as Stands
 use Rattle.tdb_world.specs.Steps.{JoinLeads}

@@ -16,7 +16,7 @@ use Rattle.tdb_txn_owner.specs.Holders.{HolderState}
 use Rattle.tdb_txn_owner.specs.Stages.{stage_task, Known, OwnIs}
 use Rattle.tdb_txn_owner.specs.declared.stage.Stage.{Stage}
 use Rattle.tdb_txn_owner.specs.declared.stage.Stage.TheVariants as At
-use Rattle.tdb_openers.proofs.AllHands.{joined_none}
+use Rattle.tdb_openers.proofs.Joining.AllHands.{joined_none}
 use Rattle.tdb_openers.specs.Openers.{law_task, task_at, hands_of_task, hands_at}
 use Rattle.tdb_openers.specs.Worlds.{state_in, BytesStand}
 use Rattle.tdb_openers.specs.declared.job.Task.{Task as JobTask}

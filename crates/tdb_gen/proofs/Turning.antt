@@ -17,7 +17,7 @@ use Rattle.tdb_commands.specs.declared.play.Play.TheVariants as Plays
 use Rattle.tdb_space.specs.Form.{Form}
 use Rattle.tdb_openers.specs.Played.{Begun, ComesTo, PlaysLast, growth}
 use Rattle.tdb_openers.specs.declared.fault.RunFault.{RunFault}
-use Rattle.tdb_openers.proofs.Courses.{course_then, course_last}
+use Rattle.tdb_openers.proofs.Joining.Courses.{course_then, course_last}
 use Rattle.tdb_world.specs.Whole.{Whole, form_at}
 use Rattle.tdb_world.specs.Courses.Led.{moment}
 use Rattle.tdb_world.specs.Courses.Unreported.{AreUndoing, TurnTells, Unreported}

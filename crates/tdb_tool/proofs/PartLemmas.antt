@@ -9,7 +9,7 @@ use Rattle.tdb_commands.specs.declared.line.Line.{Line}
 use Rattle.tdb_openers.specs.Played.{ComesTo, PlaysLast}
 use Rattle.tdb_openers.specs.Played.Begun.{begun_not}
 use Rattle.tdb_tool.specs.Parts.{Part, Silent, Told, Listed, play_of, text_of, Going, PartDone, PartBegun, AllDone, FirstBegun, AllCame}
-use Rattle.tdb_openers.proofs.Courses.{course_join}
+use Rattle.tdb_openers.proofs.Joining.Courses.{course_join}
 use Rattle.tdb_world.proofs.Courses.Coming.{whole_comes, comes_after}
 
 -- nothing is printed of no lines

@@ -18,7 +18,7 @@ use Rattle.tdb_commands.specs.declared.line.Line.TheVariants.{Unfinished}
 use Rattle.tdb_commands.specs.declared.options.Options.{Options}
 use Rattle.tdb_commands.specs.declared.play.Play.{Play}
 use Rattle.tdb_script.specs.Lines.{lines_of}
-use Rattle.tdb_openers.proofs.Finishing.{broken_lawful}
+use Rattle.tdb_openers.proofs.Joining.Finishing.{broken_lawful}
 use Rattle.tdb_openers.specs.Worlds.{World, state_in}
 use Rattle.tdb_world.specs.Died.{IsReadAs}
 use Rattle.tdb_world.proofs.Reopening.{state_reopens}

@@ -26,7 +26,7 @@ use Rattle.tdb_world.specs.Whole.{Whole, form_at, WorldFits}
 use Rattle.tdb_world.specs.States.{IsStateOf}
 use Rattle.tdb_world.specs.Courses.Led.{moment, Comes, Led}
 use Rattle.tdb_world.specs.Courses.Unfinished.{IsEnd}
-use Rattle.tdb_openers.proofs.Courses.{course_join}
+use Rattle.tdb_openers.proofs.Joining.Courses.{course_join}
 use Rattle.tdb_world.proofs.Courses.Coming.{whole_comes, comes_more, comes_after}
 use Rattle.tdb_world.specs.Courses.Hearing.{HeardLed, RunsAsTold}
 use Rattle.tdb_log.specs.Logs.{Logged}

@@ -30,7 +30,7 @@ use Rattle.tdb_world.specs.Courses.Hearing.{RunsAsTold}
 use Rattle.tdb_world.specs.Courses.Led.{moment, Comes, Led}
 use Rattle.tdb_world.specs.Courses.Stops.{IsTransacted, Leads, OpensOnTheWay, Passes, StopsLed}
 use Rattle.tdb_world.specs.Courses.Unfinished.{AreUnfinished}
-use Rattle.tdb_openers.proofs.Courses.{course_join}
+use Rattle.tdb_openers.proofs.Joining.Courses.{course_join}
 use Rattle.tdb_world.proofs.Courses.Coming.{whole_comes, comes_more, comes_after}
 use Rattle.tdb_tool.proofs.Telling.{front_after}
 use Rattle.tdb_log.specs.Logs.{Logged}

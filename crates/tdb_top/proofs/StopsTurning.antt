@@ -23,7 +23,7 @@ use Rattle.tdb_open.specs.declared.halt.Halt.TheVariants as H
 use Rattle.tdb_open.specs.Loading.{IsOpened, OpensToTurn, OpenedToTurn, TurnOpened}
 use Rattle.tdb_world.specs.Loaded.{IsOver, IsJustLoaded}
 use Rattle.tdb_world.specs.Whole.{Whole, form_at, options_at}
-use Rattle.tdb_openers.proofs.Courses.{course_whole}
+use Rattle.tdb_openers.proofs.Joining.Courses.{course_whole}
 use Rattle.tdb_world.specs.Courses.Stops.{OpensOnTheWay}
 use Rattle.tdb_top.specs.declared.ending.Ending.{Ending}
 use Rattle.tdb_top.specs.declared.ending.Unprinted.{Unprinted}

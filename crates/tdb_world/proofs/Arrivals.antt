@@ -27,9 +27,9 @@ use Rattle.tdb_openers.specs.Aside.{LocksNoRecord}
 use Rattle.tdb_openers.specs.Laws.{IsJoined}
 use Rattle.tdb_openers.specs.Worlds.{World, fresh, state_in, BytesStand, IsNumber, Stands}
 use Rattle.tdb_openers.specs.declared.opener.Opener.{Opener}
-use Rattle.tdb_openers.proofs.Opening.{low_is_free}
-use Rattle.tdb_openers.proofs.Aside.{one_number}
-use Rattle.tdb_openers.proofs.Arriving.{join_keeps_world, join_keeps_file, join_joins}
+use Rattle.tdb_openers.proofs.Joining.Opening.{low_is_free}
+use Rattle.tdb_openers.proofs.ExplicitLocks.Aside.{one_number}
+use Rattle.tdb_openers.proofs.Joining.Arriving.{join_keeps_world, join_keeps_file, join_joins}
 use Rattle.tdb_world.specs.States.{IsSeen, IsStaleState, IsStateOf, IsWholeState, SideIs}
 use Rattle.tdb_world.specs.States.IsStateOf.{of_whole, of_stale}
 use Rattle.tdb_world.specs.Steps.{JoinLeads}

@@ -24,8 +24,8 @@ use Rattle.tdb_openers.specs.ShutOut.{IsTurnBeside}
 use Rattle.tdb_openers.specs.Worlds.{World, state_in, law_of_task}
 use Rattle.tdb_openers.specs.declared.job.Task.{Task}
 use Rattle.tdb_openers.specs.declared.opener.Opener.{Opener}
-use Rattle.tdb_openers.proofs.Opening.{low_is_free}
-use Rattle.tdb_openers.proofs.ShutOut.{IsBarred, apart, its_own, its_task}
+use Rattle.tdb_openers.proofs.Joining.Opening.{low_is_free}
+use Rattle.tdb_openers.proofs.Barred.ShutOut.{IsBarred, apart, its_own, its_task}
 
 -- what a command that asks for the number wants of each byte, before its first turn
 abbrev asks : ℕ → ℕ

@@ -24,7 +24,7 @@ use Rattle.tdb_txn_owner.proofs.Wanted.{wanted_law}
 use Rattle.tdb_openers.specs.Aside.{wants_all}
 use Rattle.tdb_openers.specs.Turning.{law_table}
 use Rattle.tdb_openers.specs.Worlds.{state_in}
-use Rattle.tdb_openers.proofs.StillWalks.{still_shift}
+use Rattle.tdb_openers.proofs.Walks.StillWalks.{still_shift}
 use Rattle.tdb_world.specs.Claims.{IsBarred}
 use Rattle.tdb_world.specs.Whole.{form_at, is_starting, options_at, HolderFits, Whole, WorldFits}
 use Rattle.tdb_world.proofs.Leading.{begun, here, starts_may, IsAt}

@@ -19,8 +19,8 @@ use Rattle.tdb_txn_owner.specs.declared.wanting.Wants.TheVariants as Wants
 use Rattle.tdb_txn_owner.specs.Wanting.{stage_wants, RecordsGo}
 use Rattle.tdb_openers.specs.Worlds.{BytesStand, IsNumber, Stands, World}
 use Rattle.tdb_openers.specs.declared.opener.Opener.{Opener}
-use Rattle.tdb_openers.proofs.Aside.{one_number}
-use Rattle.tdb_openers.proofs.Images.{image_keeps_world}
+use Rattle.tdb_openers.proofs.ExplicitLocks.Aside.{one_number}
+use Rattle.tdb_openers.proofs.Files.Images.{image_keeps_world}
 use Rattle.tdb_world.specs.Claims.{Claimed, ClaimStands, IsSettled}
 use Rattle.tdb_world.specs.Steps.{with_aside, TurnLeads}
 use Rattle.tdb_world.specs.Whole.{Whole, WorldFits}

@@ -7,7 +7,7 @@ use Rattle.tdb_txn_owner.specs.declared.wanting.Wants.{Wants}
 use Rattle.tdb_openers.specs.Aside.{with_records, AreFree, HoldsRecords, IsBare}
 use Rattle.tdb_openers.specs.Worlds.{BytesStand, IsNumber, Stands, World}
 use Rattle.tdb_openers.specs.declared.opener.Opener.{Opener}
-use Rattle.tdb_openers.proofs.Aside.{bytes_with, stands_with, taken_apart}
+use Rattle.tdb_openers.proofs.ExplicitLocks.Aside.{bytes_with, stands_with, taken_apart}
 use Rattle.tdb_world.specs.Claims.{Claimed}
 use Rattle.tdb_world.proofs.MayTurn.{LeavesFree}
 use Rattle.tdb_world.proofs.OthersKept.{OneChanges}

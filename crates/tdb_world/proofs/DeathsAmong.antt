@@ -24,7 +24,7 @@ use Rattle.tdb_openers.specs.Aside.{LocksNoRecord}
 use Rattle.tdb_openers.specs.Died.{HasDied}
 use Rattle.tdb_openers.specs.Worlds.{World, state_in, BytesStand, Stands}
 use Rattle.tdb_openers.specs.declared.opener.Opener.{Opener}
-use Rattle.tdb_openers.proofs.Putting.{by_number}
+use Rattle.tdb_openers.proofs.Joining.Putting.{by_number}
 use Rattle.tdb_world.specs.States.{IsSeen, IsStaleState, IsStateOf, IsWholeState, SideIs}
 use Rattle.tdb_world.specs.States.IsStateOf.{of_whole, of_stale}
 use Rattle.tdb_world.specs.Steps.{IsAmong}

@@ -36,10 +36,10 @@ use Rattle.tdb_openers.specs.Aside.{LocksNoRecord}
 use Rattle.tdb_openers.specs.Openers.{own_at, place_at}
 use Rattle.tdb_openers.specs.Worlds.{state_in, BytesStand, Stands}
 use Rattle.tdb_openers.specs.declared.opener.Opener.{Opener}
-use Rattle.tdb_openers.proofs.Closed.{found}
-use Rattle.tdb_openers.proofs.Images.{lock_keeps_file, locks_none}
-use Rattle.tdb_openers.proofs.StillWalks.{still_shift}
-use Rattle.tdb_openers.proofs.Stood.{injected}
+use Rattle.tdb_openers.proofs.Joining.Closed.{found}
+use Rattle.tdb_openers.proofs.Files.Images.{lock_keeps_file, locks_none}
+use Rattle.tdb_openers.proofs.Walks.StillWalks.{still_shift}
+use Rattle.tdb_openers.proofs.Joining.Stood.{injected}
 use Rattle.tdb_world.specs.States.{writes_all, IsAside, IsStaleState, IsStateOf, IsWholeState, SideIs}
 use Rattle.tdb_world.specs.States.IsStateOf.{of_whole, of_stale}
 use Rattle.tdb_world.specs.Whole.{Whole, AsideFits, HolderFits, WorldFits, form_at, is_starting, options_at}

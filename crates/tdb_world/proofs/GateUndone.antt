@@ -19,8 +19,8 @@ use Rattle.tdb_law.proofs.Tests.{never_true}
 use Rattle.tdb_law.specs.OneAside.Sides.{alone}
 use Rattle.tdb_law.specs.OneAside.Starts.{with_starts}
 use Rattle.tdb_openers.specs.Worlds.{state_in}
-use Rattle.tdb_openers.proofs.Images.{image_keeps_file}
-use Rattle.tdb_openers.proofs.StillWalks.{still_shift}
+use Rattle.tdb_openers.proofs.Files.Images.{image_keeps_file}
+use Rattle.tdb_openers.proofs.Walks.StillWalks.{still_shift}
 use Rattle.tdb_world.specs.States.{SideIs}
 use Rattle.tdb_world.specs.States.IsStateOf.{of_whole, of_stale}
 use Rattle.tdb_world.specs.Steps.{UndoLeads}

@@ -44,7 +44,7 @@ use Rattle.tdb_openers.specs.Openers.{all_of, law_task, own_at, own_of, task_at,
 use Rattle.tdb_openers.specs.Worlds.{World, state_in, BytesStand, IsAssigned, IsFree, IsNumber, Stands}
 use Rattle.tdb_openers.specs.declared.opener.Opener.{Opener}
 use Rattle.tdb_commands.proofs.Counts.{sum_counted}
-use Rattle.tdb_openers.proofs.Putting.{by_number}
+use Rattle.tdb_openers.proofs.Joining.Putting.{by_number}
 use Rattle.tdb_world.specs.States.{IsAside, IsSeen, IsStaleState, IsStateOf, IsWholeState, SideIs, once, writes_all}
 use Rattle.tdb_world.specs.States.IsStateOf.{of_whole, of_stale}
 use Rattle.tdb_world.specs.Steps.{GiftLeads, HasCommand, IsAmong}

@@ -43,10 +43,10 @@ use Rattle.tdb_txn_owner.proofs.Wanted.{wanted_law}
 use Rattle.tdb_openers.specs.Openers.{place_at, spot_at}
 use Rattle.tdb_openers.specs.Worlds.{state_in, BytesStand, IsNumber, Stands}
 use Rattle.tdb_openers.specs.declared.opener.Opener.{Opener}
-use Rattle.tdb_openers.proofs.Aside.{one_number}
-use Rattle.tdb_openers.proofs.Images.{locks_none}
-use Rattle.tdb_openers.proofs.Putting.{by_number}
-use Rattle.tdb_openers.proofs.Sharing.{records_are_free}
+use Rattle.tdb_openers.proofs.ExplicitLocks.Aside.{one_number}
+use Rattle.tdb_openers.proofs.Files.Images.{locks_none}
+use Rattle.tdb_openers.proofs.Joining.Putting.{by_number}
+use Rattle.tdb_openers.proofs.ExplicitLocks.Sharing.{records_are_free}
 use Rattle.tdb_world.specs.States.{once, writes_all, IsAside, IsSeen, IsStateOf}
 use Rattle.tdb_world.specs.States.IsStateOf.{of_whole}
 use Rattle.tdb_world.specs.Whole.{form_at, is_starting, options_at, HolderFits, Whole, WorldFits}

@@ -25,8 +25,8 @@ use Rattle.tdb_openers.specs.declared.job.Job.{Job}
 use Rattle.tdb_openers.specs.declared.job.Job.TheVariants as Jobs
 use Rattle.tdb_openers.specs.declared.job.Task.{Task}
 use Rattle.tdb_openers.specs.declared.opener.Opener.{Opener}
-use Rattle.tdb_openers.proofs.Begun.{begun_stage}
-use Rattle.tdb_openers.proofs.Busy.{held_is}
+use Rattle.tdb_openers.proofs.Joining.Begun.{begun_stage}
+use Rattle.tdb_openers.proofs.PlainTurns.Busy.{held_is}
 
 -- at its beginning a command on the map stands in a file of any length
 begun_fit : (command : Plain) (whole : Option (List ℕ)) (size other : ℕ) → IsFit command whole Begun size without_bound → IsFit command whole Begun other without_bound

@@ -23,8 +23,8 @@ use Rattle.tdb_openers.specs.Aside.{wants_all}
 use Rattle.tdb_openers.specs.States.{state_of, WorldStands}
 use Rattle.tdb_openers.specs.Turning.{law_table}
 use Rattle.tdb_openers.specs.declared.opener.Opener.{Opener}
-use Rattle.tdb_openers.proofs.Aside.{left_apart}
-use Rattle.tdb_openers.proofs.Opening.{low_is_free}
+use Rattle.tdb_openers.proofs.ExplicitLocks.Aside.{left_apart}
+use Rattle.tdb_openers.proofs.Joining.Opening.{low_is_free}
 
 -- a function with another value at one opener, there and elsewhere
 pub at_here : {A : Type 0} (here : ℕ) (x : A) (g : ℕ → A) → but_at here x g here ≡ x

@@ -37,8 +37,8 @@ use Rattle.tdb_openers.specs.declared.job.Job.{Job}
 use Rattle.tdb_openers.specs.declared.job.Job.TheVariants as Jobs
 use Rattle.tdb_openers.specs.declared.job.Task.{Task}
 use Rattle.tdb_openers.specs.declared.opener.Opener.{Opener}
-use Rattle.tdb_openers.proofs.Occupied.{job_at, own_here}
-use Rattle.tdb_openers.proofs.Sharing.{others_write_none}
+use Rattle.tdb_openers.proofs.Joining.Occupied.{job_at, own_here}
+use Rattle.tdb_openers.proofs.ExplicitLocks.Sharing.{others_write_none}
 use Rattle.tdb_world.specs.Shut.{IsOpen, IsShutBy}
 use Rattle.tdb_world.specs.States.{once, writes_all, state_with, IsAside, IsSeen, IsStateOf, IsWholeState, SideIs}
 use Rattle.tdb_world.specs.States.IsStateOf.{of_whole, of_stale}

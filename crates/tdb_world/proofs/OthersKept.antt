@@ -19,7 +19,7 @@ use Rattle.tdb_openers.specs.States.{state_of}
 use Rattle.tdb_openers.specs.Openers.{own_at, place_at, spot_at, task_at}
 use Rattle.tdb_openers.specs.declared.opener.Opener.{Opener}
 use Rattle.tdb_commands.specs.declared.options.Options.{Options}
-use Rattle.tdb_openers.proofs.StillWalks.{still_shift}
+use Rattle.tdb_openers.proofs.Walks.StillWalks.{still_shift}
 
 -- From some openers to others only one changes, and each other one holds what it held.
 pub record OneChanges (xs ys : List Opener) (ps qs : List Piece) (who : ℕ) : Type 0 where

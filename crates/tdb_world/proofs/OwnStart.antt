@@ -45,10 +45,10 @@ use Rattle.tdb_openers.specs.Openers.{all_of, law_task, no_walk, own_at, own_of,
 use Rattle.tdb_openers.specs.States.{view_at, view_under}
 use Rattle.tdb_openers.specs.Worlds.{World, state_in}
 use Rattle.tdb_openers.specs.declared.opener.Opener.{Opener}
-use Rattle.tdb_openers.proofs.Aside.{held_before}
-use Rattle.tdb_openers.proofs.Closed.{bare_walk}
+use Rattle.tdb_openers.proofs.ExplicitLocks.Aside.{held_before}
+use Rattle.tdb_openers.proofs.Joining.Closed.{bare_walk}
 use Rattle.tdb_commands.proofs.Counts.{none_counted, sum_counted}
-use Rattle.tdb_openers.proofs.Opening.{low_is_free}
+use Rattle.tdb_openers.proofs.Joining.Opening.{low_is_free}
 use Rattle.tdb_world.specs.States.{state_with, IsAside, IsSeen, IsStateOf, SideIs}
 use Rattle.tdb_world.specs.States.IsStateOf.{of_whole, of_stale}
 use Rattle.tdb_world.specs.Steps.{with_aside}

@@ -9,8 +9,8 @@ use Rattle.tdb_openers.specs.Aside.{with_records, HoldsRecords, IsBare}
 use Rattle.tdb_openers.specs.Died.{died, HasDied}
 use Rattle.tdb_openers.specs.Worlds.{BytesStand, IsNumber, Stands, World}
 use Rattle.tdb_openers.specs.declared.opener.Opener.{Opener}
-use Rattle.tdb_openers.proofs.Closed.{bare_walk}
-use Rattle.tdb_openers.proofs.Putting.{by_number}
+use Rattle.tdb_openers.proofs.Joining.Closed.{bare_walk}
+use Rattle.tdb_openers.proofs.Joining.Putting.{by_number}
 use Rattle.tdb_world.specs.Claims.{IsReleased}
 use Rattle.tdb_world.proofs.Claimed.{as_list, with_list}
 use Rattle.tdb_world.proofs.OthersKept.{OneChanges}

@@ -37,8 +37,8 @@ use Rattle.tdb_openers.specs.Openers.{all_of, law_task, no_walk, own_at, own_of,
 use Rattle.tdb_openers.specs.Turning.{law_table}
 use Rattle.tdb_openers.specs.Worlds.{state_in, BytesStand, World}
 use Rattle.tdb_openers.specs.declared.opener.Opener.{Opener}
-use Rattle.tdb_openers.proofs.Images.{lock_keeps_file}
-use Rattle.tdb_openers.proofs.StillWalks.{still_shift}
+use Rattle.tdb_openers.proofs.Files.Images.{lock_keeps_file}
+use Rattle.tdb_openers.proofs.Walks.StillWalks.{still_shift}
 use Rattle.tdb_world.specs.States.{writes_all, IsStateOf}
 use Rattle.tdb_world.specs.States.IsStateOf.{of_whole}
 use Rattle.tdb_world.specs.Whole.{form_at, is_starting, options_at, HolderFits, Whole, WorldFits}

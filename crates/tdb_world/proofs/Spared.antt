@@ -14,7 +14,7 @@ use Rattle.tdb_openers.specs.Openers.{own_of}
 use Rattle.tdb_openers.specs.Worlds.{law_of_task, IsBusy}
 use Rattle.tdb_openers.specs.declared.job.Task.{Task}
 use Rattle.tdb_openers.specs.declared.opener.Opener.{Opener}
-use Rattle.tdb_openers.proofs.Occupied.{own_here, task_here}
+use Rattle.tdb_openers.proofs.Joining.Occupied.{own_here, task_here}
 use Rattle.tdb_world.specs.States.{IsStateOf}
 use Rattle.tdb_world.specs.Steps.{IsAmong}
 use Rattle.tdb_world.specs.Stops.{IsChanging, IsSafe}

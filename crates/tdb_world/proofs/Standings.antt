@@ -24,12 +24,12 @@ use Rattle.tdb_openers.specs.Openers.{all_of, law_task, own_at, spot_at, spot_by
 use Rattle.tdb_openers.specs.Worlds.{World, state_in, Stands, IsBusy, IsFree, IsNumber}
 use Rattle.tdb_openers.specs.declared.job.Task.{Task as JobTask}
 use Rattle.tdb_openers.specs.declared.opener.Opener.{Opener}
-use Rattle.tdb_openers.proofs.Aside.{held_before}
-use Rattle.tdb_openers.proofs.Beside.{all_here, all_below}
-use Rattle.tdb_openers.proofs.Closed.{bare_walk}
-use Rattle.tdb_openers.proofs.Images.{image_keeps_world}
-use Rattle.tdb_openers.proofs.Putting.{by_number}
-use Rattle.tdb_openers.proofs.Stood.{injected}
+use Rattle.tdb_openers.proofs.ExplicitLocks.Aside.{held_before}
+use Rattle.tdb_openers.proofs.ExplicitLocks.Beside.{all_here, all_below}
+use Rattle.tdb_openers.proofs.Joining.Closed.{bare_walk}
+use Rattle.tdb_openers.proofs.Files.Images.{image_keeps_world}
+use Rattle.tdb_openers.proofs.Joining.Putting.{by_number}
+use Rattle.tdb_openers.proofs.Joining.Stood.{injected}
 use Rattle.tdb_world.specs.States.{IsAside, IsStateOf, SideIs, once}
 use Rattle.tdb_world.specs.States.IsStateOf.{of_whole, of_stale}
 use Rattle.tdb_world.specs.Steps.{HasCommand, HasNoCommand, IsAmong}

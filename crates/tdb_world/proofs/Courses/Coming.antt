@@ -6,7 +6,7 @@ use Rattle.tdb_law.specs.Lines.{Line}
 use Rattle.tdb_law.specs.Plays.{Play, Course}
 use Rattle.tdb_law.specs.World.{State}
 use Rattle.tdb_openers.specs.Played.{ComesTo, FirstBegun, begun_not}
-use Rattle.tdb_openers.proofs.Courses.{course_join}
+use Rattle.tdb_openers.proofs.Joining.Courses.{course_join}
 
 -- one that is whole is as far as it came, and one that broke off may have been that of more plays
 pub whole_comes : (f : Form) (plays : List Play) (old new : State) (lines : List Line) → Course f old plays lines new → ComesTo f old plays lines new

@@ -14,7 +14,7 @@ use Rattle.tdb_law.specs.Plays.Clears.{clears_nothing, clears_gate}
 use Rattle.tdb_law.specs.Plays.Gives.{gives_turns, gives_all}
 use Rattle.tdb_openers.specs.Played.{Steps, TakesOne, TakesLast, PlaysLast}
 use Rattle.tdb_openers.specs.Played.Begun.{begun_turn, begun_turns, begun_command}
-use Rattle.tdb_openers.proofs.Courses.{steps_step, steps_last, steps_only, turn_last as one_turn_last}
+use Rattle.tdb_openers.proofs.Joining.Courses.{steps_step, steps_last, steps_only, turn_last as one_turn_last}
 use Rattle.tdb_world.specs.Courses.Turns.{IsToldOf, TakesOrClears, GoesOrClears}
 
 -- The command of an opener stays when a gate is undone, and the world isn't stale then.

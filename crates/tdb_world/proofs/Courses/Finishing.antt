@@ -15,7 +15,7 @@ use Rattle.tdb_law.proofs.Plainly.{beginning_lawful}
 use Rattle.tdb_commands.specs.declared.line.Line.{Line}
 use Rattle.tdb_commands.specs.declared.line.Line.TheVariants.{Unfinished}
 use Rattle.tdb_commands.specs.InLaw.{law_lines}
-use Rattle.tdb_openers.proofs.Courses.{course_then}
+use Rattle.tdb_openers.proofs.Joining.Courses.{course_then}
 use Rattle.tdb_world.specs.Whole.{Whole, WorldFits}
 use Rattle.tdb_world.specs.States.{IsStateOf}
 use Rattle.tdb_world.specs.Steps.{HasCommand}

@@ -14,7 +14,7 @@ use Rattle.tdb_commands.specs.InLaw.{law_opener, law_play, law_plays}
 use Rattle.tdb_openers.specs.declared.fault.RunFault.{RunFault}
 use Rattle.tdb_openers.specs.Played.{Nothing, Steps, TakesOne, GoesSome, Begun, ComesTo, PlaysLast}
 use Rattle.tdb_openers.specs.Played.Begun.{begun_not, begun_turns, begun_command}
-use Rattle.tdb_openers.proofs.Courses.{steps_only, steps_nothing, turn_gives, course_then, course_begun, course_last}
+use Rattle.tdb_openers.proofs.Joining.Courses.{steps_only, steps_nothing, turn_gives, course_then, course_begun, course_last}
 use Rattle.tdb_world.specs.Whole.{form_at}
 use Rattle.tdb_world.specs.Courses.Led.{Moment, Led}
 use Rattle.tdb_world.specs.Courses.Told.{PlayLed}

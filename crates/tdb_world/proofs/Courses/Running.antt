@@ -13,7 +13,7 @@ use Rattle.tdb_commands.specs.declared.play.Play.{Play as CodePlay}
 use Rattle.tdb_commands.specs.InLaw.{law_play, law_plays}
 use Rattle.tdb_openers.specs.declared.fault.RunFault.{RunFault}
 use Rattle.tdb_openers.specs.Played.{ComesTo}
-use Rattle.tdb_openers.proofs.Courses.{course_whole}
+use Rattle.tdb_openers.proofs.Joining.Courses.{course_whole}
 use Rattle.tdb_world.specs.Whole.{form_at}
 use Rattle.tdb_world.specs.Courses.Hearing.{Heard, HeardBy, HeardLed, RunsAsTold}
 use Rattle.tdb_world.specs.Courses.Led.{Moment, Led}

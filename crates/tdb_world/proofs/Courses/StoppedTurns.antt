@@ -19,7 +19,7 @@ use Rattle.tdb_openers.specs.Calm.{IsMidway}
 use Rattle.tdb_openers.specs.Played.{Nothing, TakesOne, TakesLast, UnlessIo}
 use Rattle.tdb_openers.specs.declared.fault.RunFault.{RunFault}
 use Rattle.tdb_openers.specs.declared.fault.RunFault.TheVariants.{Io, Memory}
-use Rattle.tdb_openers.proofs.Courses.{turn_gives}
+use Rattle.tdb_openers.proofs.Joining.Courses.{turn_gives}
 use Rattle.tdb_world.specs.States.{IsStateOf}
 use Rattle.tdb_world.specs.Stops.{IsChanging, IsSafe, OpensToState, TurnMayLeave}
 use Rattle.tdb_world.specs.Whole.{form_at, Whole}

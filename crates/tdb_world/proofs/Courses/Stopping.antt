@@ -14,7 +14,7 @@ use Rattle.tdb_commands.specs.InLaw.{law_line, law_lines}
 use Rattle.tdb_openers.specs.Played.{UnlessIo}
 use Rattle.tdb_openers.specs.declared.fault.RunFault.{RunFault}
 use Rattle.tdb_openers.specs.declared.fault.RunFault.TheVariants.{Io, Memory}
-use Rattle.tdb_openers.proofs.Courses.{course_join}
+use Rattle.tdb_openers.proofs.Joining.Courses.{course_join}
 use Rattle.tdb_world.specs.States.{IsStateOf}
 use Rattle.tdb_world.specs.Stops.{IsSafe, OpensToState}
 use Rattle.tdb_world.specs.Whole.{Whole, form_at}

@@ -1,5 +1,5 @@
 -- Over an accepted file a check finds no fault.
-use Rattle.tdb_openers.proofs.Faultless.{no_fault}
+use Rattle.tdb_openers.proofs.Checks.Faultless.{no_fault}
 use Rattle.tdb_gen.proofs.keys.live_keys.Goals as goal
 
 pub returns-in-Err-Corrupt-clause-cause : goal.returns-in-Err-Corrupt-clause-cause

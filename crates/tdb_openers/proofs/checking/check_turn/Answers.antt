@@ -2,7 +2,7 @@
 use Rattle.std.proofs.Common.{subst, arith}
 use Rattle.tdb_openers.specs.Openers.{CheckAfter}
 use Rattle.tdb_openers.specs.Checked.{CheckLocks, HasKeys}
-use Rattle.tdb_openers.proofs.CheckTurns.{all_table, free_table, lock_map, number_map}
+use Rattle.tdb_openers.proofs.Checks.CheckTurns.{all_table, free_table, lock_map, number_map}
 use Rattle.tdb_openers.proofs.checking.check_turn.Goals as goal
 
 pub returns-in-Begun-clause-locks : goal.returns-in-Begun-clause-locks

@@ -1,6 +1,6 @@
 -- A refusal is told, and all stays.
 use Rattle.tdb_commands.specs.InLaw.{law_reply}
-use Rattle.tdb_openers.proofs.Endings.{refused_ends}
+use Rattle.tdb_openers.proofs.Joining.Endings.{refused_ends}
 use Rattle.tdb_openers.proofs.ending.refused_turn.Goals as goal
 
 pub returns-clause-turned : goal.returns-clause-turned

@@ -1,5 +1,5 @@
 -- The law is the lemma.
-use Rattle.tdb_openers.proofs.Stood.{cursors_are_beside}
+use Rattle.tdb_openers.proofs.Joining.Stood.{cursors_are_beside}
 use Rattle.tdb_openers.proofs.laws.cursors_are_beside.Goals as goal
 
 pub returns : goal.returns

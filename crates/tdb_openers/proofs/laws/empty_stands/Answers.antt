@@ -1,5 +1,5 @@
 -- The laws are the lemmas.
-use Rattle.tdb_openers.proofs.Arriving.{empty_stands, empty_file_stands, empty_is_loaded}
+use Rattle.tdb_openers.proofs.Joining.Arriving.{empty_stands, empty_file_stands, empty_is_loaded}
 use Rattle.tdb_openers.proofs.laws.empty_stands.Goals as goal
 
 pub returns : goal.returns

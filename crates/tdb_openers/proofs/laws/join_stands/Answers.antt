@@ -1,5 +1,5 @@
 -- The laws are the lemmas.
-use Rattle.tdb_openers.proofs.Arriving.{join_keeps_world, join_keeps_file, join_joins}
+use Rattle.tdb_openers.proofs.Joining.Arriving.{join_keeps_world, join_keeps_file, join_joins}
 use Rattle.tdb_openers.proofs.laws.join_stands.Goals as goal
 
 pub returns : goal.returns

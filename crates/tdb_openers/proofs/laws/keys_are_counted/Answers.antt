@@ -1,5 +1,5 @@
 -- The law is the lemma.
-use Rattle.tdb_openers.proofs.Keys.{keys_are_counted}
+use Rattle.tdb_openers.proofs.Checks.Keys.{keys_are_counted}
 use Rattle.tdb_openers.proofs.laws.keys_are_counted.Goals as goal
 
 pub returns : goal.returns

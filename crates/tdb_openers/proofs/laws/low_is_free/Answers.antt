@@ -1,5 +1,5 @@
 -- The law is the lemma.
-use Rattle.tdb_openers.proofs.Opening.{low_is_free}
+use Rattle.tdb_openers.proofs.Joining.Opening.{low_is_free}
 use Rattle.tdb_openers.proofs.laws.low_is_free.Goals as goal
 
 pub returns : goal.returns

@@ -1,5 +1,5 @@
 -- The law is the lemma.
-use Rattle.tdb_openers.proofs.Standing.{opener_is_ready}
+use Rattle.tdb_openers.proofs.PlainTurns.Standing.{opener_is_ready}
 use Rattle.tdb_openers.proofs.laws.opener_is_ready.Goals as goal
 
 pub returns : goal.returns

@@ -1,5 +1,5 @@
 -- The law is the lemma.
-use Rattle.tdb_openers.proofs.Lifting.{turn_is_turned}
+use Rattle.tdb_openers.proofs.PlainTurns.Lifting.{turn_is_turned}
 use Rattle.tdb_openers.proofs.laws.turn_is_turned.Goals as goal
 
 pub returns : goal.returns

@@ -10,10 +10,10 @@ use Rattle.tdb_steps.specs.LockRows.{IsLetGo}
 use Rattle.tdb_steps.specs.Holdings.{strength}
 use Rattle.tdb_openers.specs.Openers.{locking_command}
 use Rattle.tdb_openers.specs.Locked.{MayLock, LockingTurned, chain_row, all_row}
-use Rattle.tdb_openers.proofs.Beside.{below_bare}
-use Rattle.tdb_openers.proofs.Granted.{chain_granted, chain_nb_granted, all_read_granted, unchain_granted, between_bare, all_none, none_held_there}
-use Rattle.tdb_openers.proofs.Lockings.{holds_kept}
-use Rattle.tdb_openers.proofs.LockEnds.{chain_ends_at, chain_nb_ends_at, all_ends_at, all_read_ends_at, unchain_ends, unlock_all_ends, holds_after, holds_all_read}
+use Rattle.tdb_openers.proofs.ExplicitLocks.Beside.{below_bare}
+use Rattle.tdb_openers.proofs.ExplicitLocks.Granted.{chain_granted, chain_nb_granted, all_read_granted, unchain_granted, between_bare, all_none, none_held_there}
+use Rattle.tdb_openers.proofs.ExplicitLocks.Lockings.{holds_kept}
+use Rattle.tdb_openers.proofs.ExplicitLocks.LockEnds.{chain_ends_at, chain_nb_ends_at, all_ends_at, all_read_ends_at, unchain_ends, unlock_all_ends, holds_after, holds_all_read}
 use Rattle.tdb_openers.proofs.locking.locking_turn.Goals as goal
 
 pub returns-in-Chain-clause-turned : goal.returns-in-Chain-clause-turned

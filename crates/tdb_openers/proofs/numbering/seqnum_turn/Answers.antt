@@ -9,7 +9,7 @@ use Rattle.tdb_law.specs.Commands.Turn.{Ends}
 use Rattle.tdb_steps.specs.Holdings.{strength, table_of}
 use Rattle.tdb_openers.specs.Openers.{own_with}
 use Rattle.tdb_openers.specs.Turning.{TurnsFile, resting}
-use Rattle.tdb_openers.proofs.Numbered.{ends_locks, read_same, number_file, waits_file, starves_file}
+use Rattle.tdb_openers.proofs.Checks.Numbered.{ends_locks, read_same, number_file, waits_file, starves_file}
 use Rattle.tdb_openers.proofs.numbering.seqnum_turn.Goals as goal
 
 pub returns-in-Err-Conflict-clause-file : goal.returns-in-Err-Conflict-clause-file

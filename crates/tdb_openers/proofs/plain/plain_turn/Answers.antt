@@ -7,12 +7,12 @@ use Rattle.tdb_steps.specs.Machines.{Doing, begun, Leaves}
 use Rattle.tdb_space.specs.declared.io.Io.{Io}
 use Rattle.tdb_locks.specs.declared.turn.Turn.{Turn}
 use Rattle.tdb_locks.specs.declared.turn.Turn.TheVariants as Turns
-use Rattle.tdb_openers.proofs.PlainReady.{ready_alone, ready_holds, ready_turned, ready_file}
+use Rattle.tdb_openers.proofs.PlainTurns.PlainReady.{ready_alone, ready_holds, ready_turned, ready_file}
 use Rattle.tdb_openers.specs.Openers.{own_with}
 use Rattle.tdb_openers.specs.Turning.{resting}
-use Rattle.tdb_openers.proofs.Calm.{plain_calm, plain_spared}
-use Rattle.tdb_openers.proofs.PlainJob.{left_image}
-use Rattle.tdb_openers.proofs.PlainCursors.{plain_cursors}
+use Rattle.tdb_openers.proofs.PlainTurns.Calm.{plain_calm, plain_spared}
+use Rattle.tdb_openers.proofs.PlainTurns.PlainJob.{left_image}
+use Rattle.tdb_openers.proofs.PlainTurns.PlainCursors.{plain_cursors}
 use Rattle.tdb_openers.proofs.plain.plain_turn.Goals as goal
 
 -- what holds of an answer by four facts, by three, and by two

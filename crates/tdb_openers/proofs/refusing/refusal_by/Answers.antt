@@ -10,7 +10,7 @@ use Rattle.tdb_commands.specs.InLaw.{law_command, law_reply}
 use Rattle.tdb_commands.specs.declared.command.Command.{Command}
 use Rattle.tdb_commands.specs.declared.options.Options.{Options}
 use Rattle.tdb_openers.specs.Openers.{AtRest, own_with}
-use Rattle.tdb_openers.proofs.Asking.{change_told, held_told, told_in, told_law}
+use Rattle.tdb_openers.proofs.ExplicitLocks.Asking.{change_told, held_told, told_in, told_law}
 use Rattle.tdb_openers.proofs.refusing.refusal_by.Goals as goal
 
 -- what is told of an opener with or without a cursor is the law's reply, wherever its cursor rests

@@ -5,21 +5,21 @@ use Rattle.tdb_commands.specs.InLaw.{law_command, law_reply, law_turn}
 use Rattle.tdb_openers.specs.Openers.{own_with, command_in, IsRefused}
 use Rattle.std.proofs.lemmas.Result.{IfOk-weaker}
 use Rattle.tdb_locks.specs.LockTable.{held}
-use Rattle.tdb_openers.proofs.CheckReady.{number_alone}
+use Rattle.tdb_openers.proofs.Checks.CheckReady.{number_alone}
 use Rattle.tdb_openers.specs.Turning.{TurnsFile, ImageBefore, OpenerHolds, resting}
 use Rattle.tdb_openers.specs.Calm.{IsMidway}
 use Rattle.tdb_openers.specs.Jobs.{JobIsReady, JobTurned, JobFiled}
 use Rattle.tdb_space.specs.Form.{form_in}
 use Rattle.tdb_law.specs.World.{HasFewChains}
 use Rattle.tdb_openers.specs.Cursors.{is_stood}
-use Rattle.tdb_openers.proofs.JobFiles.{same_filed, same_leaves}
-use Rattle.tdb_openers.proofs.LockingJob.{locking_turned, number_turned}
+use Rattle.tdb_openers.proofs.PlainTurns.JobFiles.{same_filed, same_leaves}
+use Rattle.tdb_openers.proofs.ExplicitLocks.LockingJob.{locking_turned, number_turned}
 use Rattle.tdb_law.specs.Commands as Law
 use Rattle.tdb_law.specs.Openers.{View}
 use Rattle.tdb_law.specs.Held.{kept}
 use Rattle.tdb_law.specs.Images.{image_map}
 use Rattle.tdb_law.proofs.HandsOut.{image_answers}
-use Rattle.tdb_openers.proofs.CheckJob.{of_three, of_four, has_keys, check_ready_alone, check_ready_holds, check_turned, check_file, check_image, accepted_before}
+use Rattle.tdb_openers.proofs.Checks.CheckJob.{of_three, of_four, has_keys, check_ready_alone, check_ready_holds, check_turned, check_file, check_image, accepted_before}
 use Rattle.tdb_openers.proofs.job.Job.turn.Goals as goal
 
 -- what doesn't depend on a view

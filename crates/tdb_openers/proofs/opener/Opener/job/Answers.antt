@@ -9,7 +9,7 @@ use Rattle.tdb_law.specs.Refusals.{Refusal, refusal, says}
 use Rattle.tdb_commands.specs.InLaw.{law_command, law_reply}
 use Rattle.tdb_openers.specs.Openers.{own_of, IsRefused}
 use Rattle.tdb_openers.specs.Openers.IsRefused.{refuses}
-use Rattle.tdb_openers.proofs.Beginning.{untold, served_granted}
+use Rattle.tdb_openers.proofs.Joining.Beginning.{untold, served_granted}
 use Rattle.tdb_openers.proofs.opener.Opener.job.Goals as goal
 
 told_why : (f : Form) (x : Own) (c : Command) (reply : Reply) (q : Option Refusal) → refusal f c x ≡ q → Some (law_reply reply) ≡ option_map (says x) q → IsRefused f x c (law_reply reply)

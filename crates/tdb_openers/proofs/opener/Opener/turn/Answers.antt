@@ -7,8 +7,8 @@ use Rattle.tdb_openers.specs.Openers.{rest_of, own_of, command_in, walk_of, step
 use Rattle.tdb_openers.specs.Worlds.{law_of_task}
 use Rattle.tdb_commands.specs.InLaw.{law_turn}
 use Rattle.tdb_steps.proofs.Made.{of_both}
-use Rattle.tdb_openers.proofs.TaskReady.{task_few, task_ready, after_beside}
-use Rattle.tdb_openers.proofs.Rests.{walk_still, walk_rests}
+use Rattle.tdb_openers.proofs.PlainTurns.TaskReady.{task_few, task_ready, after_beside}
+use Rattle.tdb_openers.proofs.Walks.Rests.{walk_still, walk_rests}
 use Rattle.tdb_openers.proofs.opener.Opener.turn.Goals as goal
 
 pub after-requires : goal.after-requires

@@ -4,7 +4,7 @@ use Rattle.tdb_openers.specs.declared.opener.Opener.{Opener}
 use Rattle.tdb_openers.specs.declared.job.Task.{Task}
 use Rattle.tdb_openers.specs.ShutOut.{opener_after}
 use Rattle.tdb_space.specs.Form.{form_in}
-use Rattle.tdb_openers.proofs.Meeting.{ends_job, without_job, same_job}
+use Rattle.tdb_openers.proofs.Barred.Meeting.{ends_job, without_job, same_job}
 use Rattle.tdb_openers.proofs.opener.Opener.turn_shut_out.Goals.{in-Blocked, in-Step}
 use Rattle.tdb_openers.proofs.opener.Opener.turn_shut_out.Goals as goal
 

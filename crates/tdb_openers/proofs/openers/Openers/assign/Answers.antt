@@ -1,7 +1,7 @@
 -- It is given as the law says, and the world stands as before.
 use Rattle.std.proofs.Common.{ap}
 use Rattle.tdb_openers.specs.Worlds.{World}
-use Rattle.tdb_openers.proofs.Coming.{held_free, same_header, stands_given, bytes_given, is_given}
+use Rattle.tdb_openers.proofs.Joining.Coming.{held_free, same_header, stands_given, bytes_given, is_given}
 use Rattle.tdb_openers.proofs.openers.Openers.assign.Goals as goal
 
 pub give-requires-clause-held : goal.give-requires-clause-held

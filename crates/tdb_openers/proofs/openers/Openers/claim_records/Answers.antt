@@ -2,8 +2,8 @@
 use Rattle.std.proofs.Common.{◌-◌, sym, subst, ◌∙◌}
 use Rattle.tdb_openers.specs.Aside.{AreFree, AreBarred}
 use Rattle.tdb_openers.specs.Worlds.{IsNumber, Stands}
-use Rattle.tdb_openers.proofs.Aside.{are_free, are_barred, claims, if_refused, on_both, on_one}
-use Rattle.tdb_openers.proofs.Putting.{spots_still}
+use Rattle.tdb_openers.proofs.ExplicitLocks.Aside.{are_free, are_barred, claims, if_refused, on_both, on_one}
+use Rattle.tdb_openers.proofs.Joining.Putting.{spots_still}
 use Rattle.tdb_openers.proofs.openers.Openers.claim_records.Goals as goal
 
 pub invariant_of-self : goal.invariant_of-self

@@ -1,5 +1,5 @@
 -- It ends as one that dies, and the state is as before without it.
-use Rattle.tdb_openers.proofs.Closed.{bare_can_die, state_closed}
+use Rattle.tdb_openers.proofs.Joining.Closed.{bare_can_die, state_closed}
 use Rattle.tdb_openers.proofs.openers.Openers.close.Goals as goal
 
 pub die-requires : goal.die-requires

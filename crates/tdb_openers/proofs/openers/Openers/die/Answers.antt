@@ -1,5 +1,5 @@
 -- It dies as the law says, and the world stands as before.
-use Rattle.tdb_openers.proofs.Deaths.{stands_died, bytes_died, dies_died}
+use Rattle.tdb_openers.proofs.Joining.Deaths.{stands_died, bytes_died, dies_died}
 use Rattle.tdb_openers.proofs.openers.Openers.die.Goals as goal
 
 pub returns-clause-dies : goal.returns-clause-dies

@@ -2,8 +2,8 @@
 use Rattle.std.proofs.Common.{◌-◌, None, refl, sym, ap, ◌∙◌}
 use Rattle.tdb_openers.specs.declared.opener.Opener.{Opener}
 use Rattle.tdb_openers.specs.Worlds.{World}
-use Rattle.tdb_openers.proofs.Putting.{spots_still}
-use Rattle.tdb_openers.proofs.Putting.{is_numbered, replaced}
+use Rattle.tdb_openers.proofs.Joining.Putting.{spots_still}
+use Rattle.tdb_openers.proofs.Joining.Putting.{is_numbered, replaced}
 use Rattle.tdb_openers.proofs.openers.Openers.drop_task.Goals as goal
 
 pub invariant_of-self : goal.invariant_of-self

@@ -3,9 +3,9 @@ use Rattle.std.proofs.Common.{◌≡◌, ◌∙◌, ap}
 use Rattle.tdb_law.specs.Commands.Command.{Seqnum}
 use Rattle.tdb_openers.specs.Openers.{command_in}
 use Rattle.tdb_openers.specs.Worlds.{World}
-use Rattle.tdb_openers.proofs.AskedNumber.{asks_there, asked_world, asked_bytes, asked_state, asked_beside}
-use Rattle.tdb_openers.proofs.Occupied.{one_task}
-use Rattle.tdb_openers.proofs.ShutOut.{IsBarred}
+use Rattle.tdb_openers.proofs.Checks.AskedNumber.{asks_there, asked_world, asked_bytes, asked_state, asked_beside}
+use Rattle.tdb_openers.proofs.Joining.Occupied.{one_task}
+use Rattle.tdb_openers.proofs.Barred.ShutOut.{IsBarred}
 use Rattle.tdb_openers.proofs.openers.Openers.end_seqnum.Goals as goal
 
 pub returns-clause-ended : goal.returns-clause-ended

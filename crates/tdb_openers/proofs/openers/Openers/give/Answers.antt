@@ -4,7 +4,7 @@ use Rattle.tdb_space.specs.Form.{form_in}
 use Rattle.tdb_openers.specs.Given.{IsBeginning, IsWellHeld}
 use Rattle.tdb_openers.specs.Openers.{own_of}
 use Rattle.tdb_openers.specs.Worlds.{World}
-use Rattle.tdb_openers.proofs.Putting.{numbered, assigned, seen_so, spots_still}
+use Rattle.tdb_openers.proofs.Joining.Putting.{numbered, assigned, seen_so, spots_still}
 use Rattle.tdb_openers.proofs.openers.Openers.give.Goals as goal
 
 pub job-job-requires-clause-well : goal.job-job-requires-clause-well

@@ -1,6 +1,6 @@
 -- It joins as the law says, and the world stands as before.
-use Rattle.tdb_openers.proofs.Stepping.{ok_both}
-use Rattle.tdb_openers.proofs.Coming.{ok_from, if_all, stands_joined, bytes_joined, joins_joined}
+use Rattle.tdb_openers.proofs.PlainTurns.Stepping.{ok_both}
+use Rattle.tdb_openers.proofs.Joining.Coming.{ok_from, if_all, stands_joined, bytes_joined, joins_joined}
 use Rattle.tdb_openers.proofs.openers.Openers.join.Goals as goal
 
 pub returns-clause-stands : goal.returns-clause-stands

@@ -3,8 +3,8 @@ use Rattle.std.proofs.Common.{◌-◌, None, sym, ap, subst, ◌∙◌}
 use Rattle.tdb_walk.specs.declared.walk.Walk.{Walk}
 use Rattle.tdb_openers.specs.declared.opener.Opener.{Opener}
 use Rattle.tdb_openers.specs.Worlds.{IsNumber, Stands}
-use Rattle.tdb_openers.proofs.Aside.{alone_there, releases, stands_with, bytes_with, left_apart}
-use Rattle.tdb_openers.proofs.Putting.{spots_still}
+use Rattle.tdb_openers.proofs.ExplicitLocks.Aside.{alone_there, releases, stands_with, bytes_with, left_apart}
+use Rattle.tdb_openers.proofs.Joining.Putting.{spots_still}
 use Rattle.tdb_openers.proofs.openers.Openers.let_go_of_records.Goals as goal
 
 pub let_go_of_records-requires : goal.let_go_of_records-requires

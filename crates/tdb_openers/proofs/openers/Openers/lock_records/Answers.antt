@@ -1,7 +1,7 @@
 -- It claims all records, and the world stands as before.
 use Rattle.std.proofs.Common.{Some, refl, sym, subst}
 use Rattle.tdb_openers.specs.Worlds.{Stands, BytesStand}
-use Rattle.tdb_openers.proofs.Aside.{either_way, stands_with, bytes_with, taken_apart}
+use Rattle.tdb_openers.proofs.ExplicitLocks.Aside.{either_way, stands_with, bytes_with, taken_apart}
 use Rattle.tdb_openers.proofs.openers.Openers.lock_records.Goals as goal
 
 pub returns-clause-stands : goal.returns-clause-stands

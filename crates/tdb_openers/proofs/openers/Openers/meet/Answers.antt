@@ -5,9 +5,9 @@ use Rattle.tdb_openers.specs.declared.job.Task.{Task}
 use Rattle.tdb_space.specs.Form.{form_in}
 use Rattle.tdb_openers.specs.ShutOut.{JobMeets, opener_after}
 use Rattle.tdb_openers.specs.Worlds.{World}
-use Rattle.tdb_openers.proofs.Meeting.{kept_walk}
-use Rattle.tdb_openers.proofs.Putting.{spots_still}
-use Rattle.tdb_openers.proofs.Putting.{is_numbered, replaced, busy_there}
+use Rattle.tdb_openers.proofs.Barred.Meeting.{kept_walk}
+use Rattle.tdb_openers.proofs.Joining.Putting.{spots_still}
+use Rattle.tdb_openers.proofs.Joining.Putting.{is_numbered, replaced, busy_there}
 use Rattle.tdb_openers.proofs.openers.Openers.meet.Goals as goal
 
 pub turn_shut_out-requires-clause-busy : goal.turn_shut_out-requires-clause-busy

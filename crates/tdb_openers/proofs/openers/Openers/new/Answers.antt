@@ -2,7 +2,7 @@
 use Rattle.std.proofs.Common.{[], sym, subst}
 use Rattle.tdb_space.specs.Form.{form_in}
 use Rattle.tdb_openers.specs.States.{WorldStands}
-use Rattle.tdb_openers.proofs.Arriving.{empty_stands}
+use Rattle.tdb_openers.proofs.Joining.Arriving.{empty_stands}
 use Rattle.tdb_openers.proofs.openers.Openers.new.Goals as goal
 
 pub returns-clause-stands : goal.returns-clause-stands

@@ -1,7 +1,7 @@
 -- Who stands at the place of a number has it.
 use Rattle.std.proofs.Common.{◌≡◌, ◌<◌, ◌-◌, length, slice_index_or, subst, arith}
 use Rattle.tdb_openers.specs.Worlds.{World, IsNumber}
-use Rattle.tdb_openers.proofs.Putting.{has_number}
+use Rattle.tdb_openers.proofs.Joining.Putting.{has_number}
 use Rattle.tdb_openers.proofs.openers.Openers.opener.Goals as goal
 
 pub returns-clause-number : goal.returns-clause-number

@@ -5,9 +5,9 @@ use Rattle.tdb_openers.specs.declared.opener.Opener.{Opener}
 use Rattle.tdb_openers.specs.Openers.{spots_of}
 use Rattle.tdb_openers.specs.Died.{HasDied}
 use Rattle.tdb_openers.specs.Worlds.{World, IsNumber}
-use Rattle.tdb_openers.proofs.Deaths.{has_died}
-use Rattle.tdb_openers.proofs.Putting.{has_spot}
-use Rattle.tdb_openers.proofs.WalkStepping.{spots_put}
+use Rattle.tdb_openers.proofs.Joining.Deaths.{has_died}
+use Rattle.tdb_openers.proofs.Joining.Putting.{has_spot}
+use Rattle.tdb_openers.proofs.Walks.WalkStepping.{spots_put}
 use Rattle.tdb_openers.proofs.openers.Openers.strip.Goals as goal
 
 pub set-requires : goal.set-requires

@@ -12,12 +12,12 @@ use Rattle.tdb_openers.specs.Turning.{resting, OpenerHolds, ImageBefore}
 use Rattle.tdb_openers.specs.Calm.{WritesNoRecord, IsMidway}
 use Rattle.tdb_openers.specs.Openers.{rest_of, own_of, command_in}
 use Rattle.tdb_walk.specs.Spots.{spot_number}
-use Rattle.tdb_openers.proofs.Putting.{numbered, others_put, spots_still}
-use Rattle.tdb_openers.proofs.Stepping.{Locked, Filed, ok_so, ok_both, stands_before, holds_before, task_busy, busy_after, image_before, world_after, file_after, turned_after}
+use Rattle.tdb_openers.proofs.Joining.Putting.{numbered, others_put, spots_still}
+use Rattle.tdb_openers.proofs.PlainTurns.Stepping.{Locked, Filed, ok_so, ok_both, stands_before, holds_before, task_busy, busy_after, image_before, world_after, file_after, turned_after}
 use Rattle.std.specs.Option.{option_map}
 use Rattle.tdb_openers.specs.Openers.{walk_command}
-use Rattle.tdb_openers.proofs.WalkStepping.{calm_before, spared_before}
-use Rattle.tdb_openers.proofs.WalkStepping.{Walks, ok_of, spots_put, walk_busy, words_before, asked_before, walk_busy_after, walk_world_after, walk_file_after, walk_turned_after}
+use Rattle.tdb_openers.proofs.Walks.WalkStepping.{calm_before, spared_before}
+use Rattle.tdb_openers.proofs.Walks.WalkStepping.{Walks, ok_of, spots_put, walk_busy, words_before, asked_before, walk_busy_after, walk_world_after, walk_file_after, walk_turned_after}
 use Rattle.tdb_openers.proofs.openers.Openers.turn.Goals as goal
 
 pub turn-requires-clause-busy : goal.turn-requires-clause-busy

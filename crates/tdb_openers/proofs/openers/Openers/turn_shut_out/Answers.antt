@@ -9,10 +9,10 @@ use Rattle.tdb_openers.specs.declared.job.Walking.TheVariants as Walks
 use Rattle.tdb_openers.specs.Openers.{command_in}
 use Rattle.tdb_openers.specs.ShutOut.{JobMeets}
 use Rattle.tdb_openers.specs.Worlds.{World}
-use Rattle.tdb_openers.proofs.AskedNumber.{asks_new}
-use Rattle.tdb_openers.proofs.OwnSide.{own_barred}
-use Rattle.tdb_openers.proofs.ShutOut.{IsBarred, may_meet, short_lock}
-use Rattle.tdb_openers.proofs.ShutWorlds.{meets_beside, meets_world, meets_bytes}
+use Rattle.tdb_openers.proofs.Checks.AskedNumber.{asks_new}
+use Rattle.tdb_openers.proofs.ExplicitLocks.OwnSide.{own_barred}
+use Rattle.tdb_openers.proofs.Barred.ShutOut.{IsBarred, may_meet, short_lock}
+use Rattle.tdb_openers.proofs.Barred.ShutWorlds.{meets_beside, meets_world, meets_bytes}
 use Rattle.tdb_openers.proofs.openers.Openers.turn_shut_out.Goals as goal
 
 -- no job has a step then

@@ -9,7 +9,7 @@ use Rattle.tdb_openers.specs.Openers.{own_with, command_in}
 use Rattle.tdb_openers.specs.Turning.{ImageBefore, resting}
 use Rattle.tdb_openers.specs.Calm.{IsMidway}
 use Rattle.tdb_openers.specs.Jobs.{JobIsReady, JobTurned, JobFiled}
-use Rattle.tdb_openers.proofs.CheckJob.{of_three}
+use Rattle.tdb_openers.proofs.Checks.CheckJob.{of_three}
 use Rattle.tdb_openers.proofs.told.PlainJob.turn.Goals as goal
 
 pub plain_turn-requires-clause-ready : goal.plain_turn-requires-clause-ready

@@ -3,7 +3,7 @@ use Rattle.std.proofs.Common.{◌≡◌, Ok, Err, true, false, refl, subst, arit
 use Rattle.std.proofs.lemmas.Result.{err_from_is_err_and}
 use Rattle.tdb_commands.specs.InLaw.{law_opener}
 use Rattle.tdb_openers.specs.Played.{Nothing, Steps, TakesOne}
-use Rattle.tdb_openers.proofs.Courses.{steps_few}
+use Rattle.tdb_openers.proofs.Joining.Courses.{steps_few}
 use Rattle.tdb_world.specs.Whole.{form_at}
 use Rattle.tdb_world.specs.Courses.Led.{moment, Led}
 use Rattle.tdb_world.specs.Courses.Turns.{TakesOrClears}

@@ -10,7 +10,7 @@ use Rattle.tdb_law.specs.OneAside.Sides.{Past, Side}
 use Rattle.tdb_txn_owner.specs.Ends.{task_of}
 use Rattle.tdb_txn_owner.specs.Holders.{stage_depth, HolderState}
 use Rattle.tdb_txn_owner.specs.Stages.{stage_task, IsFit, IsSide, KnowsFile, Known, MayBeGiven}
-use Rattle.tdb_openers.proofs.Aside.{either_way, on_both, on_one}
+use Rattle.tdb_openers.proofs.ExplicitLocks.Aside.{either_way, on_both, on_one}
 use Rattle.tdb_world.specs.States.{IsStateOf}
 use Rattle.tdb_world.specs.Steps.{GiftLeads, HasCommand, HasRoom}
 use Rattle.tdb_world.specs.Whole.{Whole, WorldFits}

@@ -7,7 +7,7 @@ use Rattle.tdb_locks.specs.declared.turn.Turn.TheVariants.{Step}
 use Rattle.tdb_law.specs.World.{State}
 use Rattle.tdb_commands.specs.InLaw.{law_opener, law_turn}
 use Rattle.tdb_openers.specs.Worlds.{Stands}
-use Rattle.tdb_openers.proofs.Aside.{on_one}
+use Rattle.tdb_openers.proofs.ExplicitLocks.Aside.{on_one}
 use Rattle.tdb_world.specs.States.{IsStateOf}
 use Rattle.tdb_world.specs.Steps.{HasCommand, TurnLeads}
 use Rattle.tdb_world.specs.Steps.HasCommand.{by_job}

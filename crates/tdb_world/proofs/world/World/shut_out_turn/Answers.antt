@@ -12,7 +12,7 @@ use Rattle.tdb_openers.specs.ShutOut.{ShutsOut, IsTurnBeside}
 use Rattle.tdb_openers.specs.Worlds.{World, law_of_task, state_in, IsBusy, Stands}
 use Rattle.tdb_openers.specs.declared.job.Task.{Task}
 use Rattle.tdb_openers.specs.declared.opener.Opener.{Opener}
-use Rattle.tdb_openers.proofs.ShutOut.{IsBarred}
+use Rattle.tdb_openers.proofs.Barred.ShutOut.{IsBarred}
 use Rattle.tdb_world.specs.Whole.{Whole}
 use Rattle.tdb_world.proofs.AskingTurns.{number_barred, number_free}
 use Rattle.tdb_world.proofs.world.World.shut_out_turn.Goals as goal

@@ -5,7 +5,7 @@ use Rattle.tdb_law.specs.Openers.{Task}
 use Rattle.tdb_commands.specs.InLaw.{law_opener}
 use Rattle.tdb_openers.specs.Openers.{law_task, task_at}
 use Rattle.tdb_openers.specs.Worlds.{IsBusy}
-use Rattle.tdb_openers.proofs.Stood.{injected}
+use Rattle.tdb_openers.proofs.Joining.Stood.{injected}
 use Rattle.tdb_world.specs.Whole.{Whole}
 use Rattle.tdb_world.proofs.Standings.{aside_task, busy_among, task_in, there_named}
 use Rattle.tdb_world.proofs.world.World.told.Goals as goal

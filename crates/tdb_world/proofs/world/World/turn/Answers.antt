@@ -2,7 +2,7 @@
 -- leave of the others' turns alone has the premise that none is in the middle of a change.
 use Rattle.std.proofs.lemmas.Result.{IfOk-weaker}
 use Rattle.tdb_commands.specs.InLaw.{law_turn}
-use Rattle.tdb_openers.proofs.Aside.{on_one}
+use Rattle.tdb_openers.proofs.ExplicitLocks.Aside.{on_one}
 use Rattle.tdb_world.proofs.PreparedTurns.{prepared_leads}
 use Rattle.tdb_world.proofs.Looking.{looks_among, looks_unstarted}
 use Rattle.tdb_world.proofs.Synced.{other_syncs, start_syncs}

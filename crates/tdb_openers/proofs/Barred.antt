@@ -1,0 +1,5 @@
+-- Turns of openers that are shut out.
+pub mod Meeting
+pub mod ShutOut
+pub mod ShutTurns
+pub mod ShutWorlds

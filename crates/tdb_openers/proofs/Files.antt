@@ -1,0 +1,3 @@
+-- What turns leave of the bytes of the file.
+pub mod Filing
+pub mod Images

@@ -1,0 +1,20 @@
+-- Who is among the openers, who comes, is given a command, ends or dies.
+pub mod Single
+pub mod AllHands
+pub mod Begun
+pub mod Working
+pub mod Giving
+pub mod Opening
+pub mod Arriving
+pub mod Putting
+pub mod Endings
+pub mod Recounted
+pub mod Coming
+pub mod Courses
+pub mod Finishing
+pub mod Stood
+pub mod Replacing
+pub mod Deaths
+pub mod Occupied
+pub mod Closed
+pub mod Beginning
