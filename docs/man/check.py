@@ -38,7 +38,7 @@ MACROS = set(
 )
 PUNCTUATION = set(", . ; : ( ) [ ] | ? !".split())
 
-# The definitions whose words are printed, what stands before such a word in a page, and what each is of.
+# The definitions whose words are printed, and what stands before such a word in a page.
 PRINTED = [
     ("fault_text", "header "),
     ("what_text", "corrupt "),
@@ -221,7 +221,8 @@ def check_texts(tally, crates):
         texts = codes_in(definition_of(name, specs))
         tally.check(texts, f"no definition {name} in the specifications")
         for text in texts:
-            tally.check(has_words(everywhere, before + text), f"'{before}{text}' of {name} isn't in tdb.1 or tdb-refusals.7")
+            found = has_words(everywhere, before + text)
+            tally.check(found, f"'{before}{text}' of {name} isn't in tdb.1 or tdb-refusals.7")
     for name, page in GIVEN:
         words = codes_in(definition_of(name, specs))
         tally.check(words, f"no definition {name} in the specifications")
